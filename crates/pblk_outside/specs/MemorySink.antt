@@ -1,0 +1,19 @@
+-- What clients see of a sink in memory.
+use Rattle.std.specs.Prelude.{ℕ, List}
+use Rattle.pblk_outside.specs.declared.memory_sink.MemorySink.{MemorySink}
+
+-- the bytes taken so far
+abbrev pub taken_of : MemorySink → List ℕ
+taken_of sink = sink.bytes.items
+
+-- the numbers of the calls that are to fail
+abbrev pub failing_of : MemorySink → List ℕ
+failing_of sink = sink.plan.failing.items
+
+-- how many calls were made
+abbrev pub calls_of : MemorySink → ℕ
+calls_of sink = sink.plan.calls
+
+-- how many faults there were
+abbrev pub faults_of : MemorySink → ℕ
+faults_of sink = sink.plan.faults.count
