@@ -1,0 +1,21 @@
+-- The definitions, lowest first.
+pub mod Bytes
+pub mod Shape
+pub mod LineOrder
+pub mod Accepted
+pub mod Chunk
+pub mod ChunkStep
+pub mod Geometry
+pub mod Descriptor
+pub mod Image
+pub mod ImageFile
+pub mod Marks
+pub mod StartRecord
+pub mod EndRecord
+pub mod Records
+pub mod Contents
+pub mod Sealed
+pub mod History
+pub mod Script
+pub mod Text
+pub mod Transcript

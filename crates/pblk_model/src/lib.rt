@@ -1,0 +1,14 @@
+//! The definitions that every contract of this repository cites, and the plain types that go with them.
+//!
+//! The definitions stand in `specs/`, a module for each; `docs/MODEL.md` says each of them in words.
+#![tactic(auto)]
+
+mod chunk;
+mod run;
+mod script;
+mod shape;
+
+pub use chunk::{ChunkErr, ChunkState, DescriptorErr, Got, Mark};
+pub use run::{Front, Place};
+pub use script::{Command, Commands, PostName, Script};
+pub use shape::{Address, GeometryErr, Shape};
