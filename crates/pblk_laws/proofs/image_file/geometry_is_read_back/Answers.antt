@@ -1,0 +1,5 @@
+use Rattle.pblk_laws.proofs.ImageBytes.{geometry_back}
+use Rattle.pblk_laws.proofs.image_file.geometry_is_read_back.Goals as goal
+
+pub returns : goal.returns
+returns c = λ g fits accepted. geometry_back g fits accepted
