@@ -1,0 +1,70 @@
+-- What an accepted geometry's numbers keep, and what bytes are read as.
+use Rattle.std.proofs.Common.{◌≡◌, ◌≢◌, ℕ, ◌+◌, ◌^◌, ◌≤◌, Bool, true, false, cond, Option, Some, None, Ok, Err, List, [], ◌∷◌, length, refl, sym}
+use Rattle.std.proofs.lemmas.Bool.{and_parts, leb-true, ne_eqb}
+use Rattle.std.specs.Prelude.{nat_le}
+use Rattle.pblk_model.specs.declared.shape.GeometryErr.{GeometryErr}
+use Rattle.pblk_model.specs.declared.shape.GeometryErr.TheVariants.{Length}
+use Rattle.pblk_model.specs.Geometry.{Geometry, geometry_in, length_holds, field_checks, profile_checks, first_failing, refusal_from, profile_refusal, geometry_refusal, read_geometry}
+
+-- ---- a geometry that isn't refused
+
+abbrev AllPass : List (ℕ × Bool) → Type 0
+AllPass [] = Unit {0}
+AllPass (check ∷ checks) = (check.1 ≡ true) × AllPass checks
+
+first_passes : (b : Bool) (rest : Option ℕ) (n : ℕ) → cond b rest (Some n) ≡ None → (b ≡ true) × (rest ≡ None)
+first_passes true rest n e = (refl, e)
+first_passes false rest n e = absurd cc
+
+all_pass : (checks : List (ℕ × Bool)) → first_failing checks ≡ None → AllPass checks
+all_pass [] e = tt
+all_pass (check ∷ checks) e =
+    let first = first_passes check.1 (first_failing checks) check.0 e in
+    (first.0, all_pass checks first.1)
+
+none_profile : (rule : Option ℕ) → profile_refusal rule ≡ None → rule ≡ None
+none_profile None e = refl
+none_profile (Some rule) e = absurd cc
+
+none_refused : (field rule : Option ℕ) → refusal_from field rule ≡ None → (field ≡ None) × (rule ≡ None)
+none_refused None rule e = (refl, none_profile rule e)
+none_refused (Some offset) rule e = absurd cc
+
+-- the lengths of an address's fields
+pub record HasLengths (g : Geometry) : Type 0 where
+  pub group : g.groups ≤ 2 ^ g.group_bits
+  pub pu : g.pus ≤ 2 ^ g.pu_bits
+  pub chunk : g.chunks ≤ 2 ^ g.chunk_bits
+  pub block : g.clba ≤ 2 ^ g.block_bits
+  pub sum : g.group_bits + g.pu_bits + g.chunk_bits + g.block_bits ≤ 64
+
+held : (bits count : ℕ) → length_holds bits count ≡ true → count ≤ 2 ^ bits
+held bits count e = leb-true count (2 ^ bits) (and_parts (nat_le bits 32) (nat_le count (2 ^ bits)) e).1
+
+pub accepted_lengths : (g : Geometry) → geometry_refusal g ≡ None → HasLengths g
+accepted_lengths g e =
+    let parts = none_refused (first_failing (field_checks g)) (first_failing (profile_checks g)) e in
+    let fields = all_pass (field_checks g) parts.0 in
+    let rules = all_pass (profile_checks g) parts.1 in
+    record {
+      group = held g.group_bits g.groups fields.1.0;
+      pu = held g.pu_bits g.pus fields.1.1.0;
+      chunk = held g.chunk_bits g.chunks fields.1.1.1.0;
+      block = held g.block_bits g.clba fields.1.1.1.1.0;
+      sum = leb-true _ 64 rules.1.1.1.1.1.1.1.0;
+    }
+
+-- ---- what bytes are read as
+
+pub read_short : (bytes : List ℕ) → length bytes ≢ 4096 → Err Length ≡ read_geometry bytes
+read_short bytes short = rw (ne_eqb (length bytes) 4096 short) refl
+
+pub read_accepted : (bytes : List ℕ) (g : Geometry) → length bytes ≡ 4096 → g ≡ geometry_in bytes → None ≡ geometry_refusal g → Ok g ≡ read_geometry bytes
+read_accepted bytes g size is accepted =
+    let none : geometry_refusal (geometry_in bytes) ≡ None = rw is at (sym accepted) in
+    rw (size, is, none) refl
+
+pub read_refused : (bytes : List ℕ) (g : Geometry) (refusal : GeometryErr) → length bytes ≡ 4096 → g ≡ geometry_in bytes → Some refusal ≡ geometry_refusal g → Err refusal ≡ read_geometry bytes
+read_refused bytes g refusal size is refused =
+    let some : geometry_refusal (geometry_in bytes) ≡ Some refusal = rw is at (sym refused) in
+    rw (size, some) refl

@@ -1,0 +1,112 @@
+//! Which geometries are accepted.
+
+ghost use Rattle.std.specs.Prelude.{◌≡◌, ◌<◌, ◌==◌, ◌||◌, nat_le, IfNone};
+ghost use Rattle.pblk_model.specs.Geometry.{geometry_refusal, field_checks, profile_checks, first_failing, length_holds};
+ghost use Rattle.ocssd_geometry.specs.Numbers.{numbers_of};
+
+use crate::geometry::Geometry;
+use pblk_model::GeometryErr;
+
+impl Geometry {
+    /// Why this geometry isn't accepted, or None where it is.
+    ///
+    /// `Field` with a field's first byte, for the first in this order: 0 where MJR isn't 2; 8, 9, 10 and 11
+    /// where the length of the group, the parallel unit, the chunk or the block is above 32, or 2 to the
+    /// length is below the count; 64, 66, 68, 72, 128 and 132 where NUM_GRP, NUM_PU, NUM_CHK, CLBA, WS_MIN
+    /// or WS_OPT is 0.
+    ///
+    /// Else `Profile` with the first rule that doesn't hold: 1, at most 64 parallel units in all groups; 2,
+    /// 8 to 1024 chunks in a unit; 3, WS_OPT is a multiple of WS_MIN and at most 64; 4, CLBA is a multiple
+    /// of WS_OPT; 5, MW_CUNITS is a multiple of WS_OPT and below CLBA; 6, MAXOC is 0 or at least twice the
+    /// number of units; 7, MAXOCPU is 0 or at least 2; 8, the lengths sum to at most 64 (Open-Channel SSD
+    /// Specification 2.0, Geometry; the numbers of the rules are this project's).
+    pub fn refusal(&self) -> Option<GeometryErr>
+        ensures { result ≡ geometry_refusal (numbers_of self.now) }
+    {
+        match self.refused_field() {
+            Some(offset) => Some(GeometryErr::Field(offset)),
+            None => match self.broken_rule() {
+                Some(rule) => Some(GeometryErr::Profile(rule)),
+                None => None,
+            },
+        }
+    }
+
+    // The first byte of the first field that isn't accepted.
+    fn refused_field(&self) -> Option<u32>
+        ensures first { result ≡ first_failing (field_checks (numbers_of self.now)) }
+        ensures ws_min { IfNone result (0 < self.now.ws_min) }
+        ensures ws_opt { IfNone result (0 < self.now.ws_opt) }
+    {
+        let [group, pu, chunk, block] = self.lengths;
+        if self.mjr != 2 {
+            Some(0)
+        } else if !length_holds(group, u32::from(self.groups)) {
+            Some(8)
+        } else if !length_holds(pu, u32::from(self.pus)) {
+            Some(9)
+        } else if !length_holds(chunk, self.chunks) {
+            Some(10)
+        } else if !length_holds(block, self.clba) {
+            Some(11)
+        } else if self.groups == 0 {
+            Some(64)
+        } else if self.pus == 0 {
+            Some(66)
+        } else if self.chunks == 0 {
+            Some(68)
+        } else if self.clba == 0 {
+            Some(72)
+        } else if self.ws_min == 0 {
+            Some(128)
+        } else if self.ws_opt == 0 {
+            Some(132)
+        } else {
+            None
+        }
+    }
+
+    // The first rule that doesn't hold.
+    fn broken_rule(&self) -> Option<u32>
+        requires ws_min { 0 < self.now.ws_min }
+        requires ws_opt { 0 < self.now.ws_opt }
+        ensures { result ≡ first_failing (profile_checks (numbers_of self.now)) }
+    {
+        let units = u64::from(self.groups) * u64::from(self.pus);
+        let [group, pu, chunk, block] = self.lengths;
+        let bits = u32::from(group) + u32::from(pu) + u32::from(chunk) + u32::from(block);
+        if units > 64 {
+            Some(1)
+        } else if self.chunks < 8 || self.chunks > 1024 {
+            Some(2)
+        } else if self.ws_opt % self.ws_min != 0 || self.ws_opt > 64 {
+            Some(3)
+        } else if self.clba % self.ws_opt != 0 {
+            Some(4)
+        } else if self.mw_cunits % self.ws_opt != 0 || self.mw_cunits >= self.clba {
+            Some(5)
+        } else if !bound_holds(self.maxoc, 2 * units) {
+            Some(6)
+        } else if !bound_holds(self.maxocpu, 2) {
+            Some(7)
+        } else if bits > 64 {
+            Some(8)
+        } else {
+            None
+        }
+    }
+}
+
+// 2 to the length of an address's field is at least the field's count, and the length at most 32.
+fn length_holds(bits: u8, count: u32) -> bool
+    ensures { result ≡ length_holds bits count }
+{
+    bits <= 32 && u64::from(count) <= 1u64 << bits
+}
+
+// A bound on open chunks is 0, for none, or at least this.
+fn bound_holds(bound: u32, least: u64) -> bool
+    ensures { result ≡ (bound == 0) || nat_le least bound }
+{
+    bound == 0 || u64::from(bound) >= least
+}
