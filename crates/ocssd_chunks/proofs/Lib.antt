@@ -1,0 +1,4 @@
+pub mod BlockList
+pub mod Descriptors
+pub mod Resets
+pub mod Writes

@@ -1,0 +1,5 @@
+pub mod Answers
+pub mod Blocks
+pub mod Descriptor
+pub mod DriveChunk
+pub mod Sound
