@@ -1,0 +1,4 @@
+pub mod Ready
+pub mod Line
+pub mod Words
+pub mod Reading

@@ -1,0 +1,75 @@
+//! Numbers and zeros among bytes.
+
+ghost use Rattle.std.specs.Prelude.{◌≡◌, ◌<◌, ◌++◌, drop, slice_index, OnOk};
+ghost use Rattle.std.specs.Int.{w32, w64};
+ghost use Rattle.std.specs.Str.{bytes_eq};
+ghost use Rattle.pblk_model.specs.Bytes.{number_at, padded_to, zeros};
+
+use std::alloc::{AllocError, Global};
+
+fn byte_at(bytes: &[u8], at: usize) -> u8
+    ensures { result ≡ slice_index bytes.now at }
+{
+    bytes.get(at).copied().unwrap_or(0)
+}
+
+/// The number of four bytes at an offset. Past the end bytes count as 0.
+pub fn u32_at(bytes: &[u8], at: usize) -> u32
+    requires { at < 1000 }
+    ensures { result ≡ number_at w32 at bytes.now }
+{
+    u32::from_le_bytes([
+        byte_at(bytes, at),
+        byte_at(bytes, at + 1),
+        byte_at(bytes, at + 2),
+        byte_at(bytes, at + 3),
+    ])
+}
+
+/// The number of eight bytes at an offset. Past the end bytes count as 0.
+pub fn u64_at(bytes: &[u8], at: usize) -> u64
+    requires { at < 1000 }
+    ensures { result ≡ number_at w64 at bytes.now }
+{
+    u64::from_le_bytes([
+        byte_at(bytes, at),
+        byte_at(bytes, at + 1),
+        byte_at(bytes, at + 2),
+        byte_at(bytes, at + 3),
+        byte_at(bytes, at + 4),
+        byte_at(bytes, at + 5),
+        byte_at(bytes, at + 6),
+        byte_at(bytes, at + 7),
+    ])
+}
+
+/// The bytes after the first `n`.
+pub fn after(bytes: &[u8], n: usize) -> &[u8]
+    ensures { result.now ≡ drop n bytes.now }
+{
+    if n <= bytes.len() { &bytes[n..] } else { &[] }
+}
+
+/// Adds zeros.
+#[tactic(auto, unfolding(pblk_model::specs::Bytes::zeros))]
+pub fn put_zeros(alloc: Global, out: &mut Vec<u8>, n: usize) -> Result<(), AllocError>
+    ensures { OnOk result (out.new.items ≡ out.old.items ++ zeros n) }
+{
+    let zeros = vec![in alloc; 0; n]?;
+    out.extend_from_slice(&zeros)
+}
+
+/// Adds zeros up to a length.
+pub fn pad(alloc: Global, out: &mut Vec<u8>, n: usize) -> Result<(), AllocError>
+    ensures { OnOk result (out.new.items ≡ padded_to n out.old.items) }
+{
+    let missing = n.saturating_sub(out.len());
+    put_zeros(alloc, out, missing)
+}
+
+/// Whether two runs of bytes are the same.
+pub fn same(a: &[u8], b: &[u8]) -> bool
+    ensures { result ≡ bytes_eq a.now b.now }
+{
+    a == b
+}
