@@ -1,0 +1,17 @@
+pub mod BytesMore
+pub mod HeldLine
+pub mod ImageJoined
+pub mod LineBlocks
+pub mod Saying
+pub mod ServeRun
+pub mod ServeSectors
+pub mod ServeSteps
+pub mod SmallDrive
+pub mod StripeColumns
+pub mod NumberSpelling
+pub mod ScriptCommands
+pub mod ScriptLines
+pub mod ScriptWords
+pub mod StoredRows
+pub mod RunFiles
+pub mod Statuses

@@ -1,0 +1,12 @@
+pub mod Words
+pub mod Taken
+pub mod Small
+pub mod Run
+pub mod Line
+pub mod Drive
+pub mod Status
+pub mod Serving
+pub mod Refusal
+pub mod ImageParts
+pub mod LineParts
+pub mod ScriptReading
