@@ -20,3 +20,4 @@ pub mod Widths
 pub mod RunBounds
 pub mod TextCuts
 pub mod TextLines
+pub mod UnitLog

@@ -11,6 +11,7 @@ mod lengths;
 mod line_order;
 mod start_record;
 mod transcript;
+mod unit_log;
 
 pub use accepted::a_shape_is_accepted;
 pub use blank::{blank_has_no_block, blank_has_no_record, blank_holds_zeros, blank_is_fit};
@@ -34,3 +35,4 @@ pub use start_record::{
     unwritten_is_none, written_is_found,
 };
 pub use transcript::{one_contents_after, one_history};
+pub use unit_log::{a_log_grows, events_follow_the_table, stops_are_events};

@@ -7,6 +7,7 @@ pub mod Chunk
 pub mod ChunkStep
 pub mod Geometry
 pub mod Descriptor
+pub mod UnitLog
 pub mod Image
 pub mod ImageFile
 pub mod Marks
