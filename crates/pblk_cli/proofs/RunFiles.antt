@@ -31,6 +31,7 @@ made old new image script image_bytes script_bytes bytes text image_is script_is
   spelling = run.run.bytes_are;
   read = run.run.read;
   relation = run.run.relation;
+  complete = run.run.complete;
 }
 
 pub leaves : (told : Bool) (old mid new : List ℕ → Option (List ℕ)) (image script image_bytes script_bytes bytes text : List ℕ) → SameFiles old mid → SameOthers image mid new

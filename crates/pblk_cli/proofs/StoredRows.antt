@@ -16,14 +16,17 @@ use Rattle.pblk_model.specs.ImageFile.{Drive, StoredChunk, IsImage, image_of, im
 use Rattle.pblk_laws.specs.GeometryFields.{FitsFields}
 use Rattle.pblk_cli.proofs.SmallDrive.{small_accepted}
 use Rattle.pblk_cli.specs.declared.serve.Row.{Row}
-use Rattle.pblk_cli.specs.Small.{small, small_drive, small_geometry, blank_sectors}
+use Rattle.pblk_cli.specs.Small.{small, small_drive, small_geometry, blank_drive, blank_sectors}
 use Rattle.pblk_cli.specs.Line.{first_line, writes_of}
 use Rattle.pblk_cli.specs.Drive.{IsLineOf, unit_of, chunks_of, drive_of}
 use Rattle.pblk_model.specs.declared.script.Command.{Command}
 use Rattle.pblk_model.specs.Text.{text_of}
 use Rattle.pblk_model.specs.Transcript.{IsRun}
+use Rattle.pblk_cli.specs.declared.serve.Answer.{Answer}
+use Rattle.pblk_cli.specs.declared.serve.Answer.TheVariants as answers
 use Rattle.pblk_cli.specs.declared.serve.Run.{Run}
-use Rattle.pblk_cli.specs.Run.{transcript_of}
+use Rattle.pblk_cli.specs.Complete.{IsWorkDone, IsComplete}
+use Rattle.pblk_cli.specs.Run.{transcript_of, outcome_of}
 use Rattle.pblk_cli.specs.Refusal.{HoldsRows, KeepsRows, IsRunOfScript}
 
 pub empty_rows : (rows : List Row) → length rows == 0 ≡ true → rows ≡ []
@@ -116,19 +119,37 @@ keeps_rows rows left right l r bytes h left_is right_is stored law =
       contents_are = h.contents_are;
     }
 
+-- what holds of all that a map gives
+all_map : {A B : Type 0} (P : B → Type 0) (f : A → B) (xs : List A) → ((x : A) → P (f x)) → AllByRecursion P (map f xs)
+all_map P f [] h = tt
+all_map P f (x ∷ xs) h = (h x, all_map P f xs h)
+
+-- no answer is a fault or want of room
+work_done : (a : Answer) → IsWorkDone (outcome_of a)
+work_done answers.Placed = tt
+work_done (answers.Words front tags) = tt
+
+is_complete : (run : Run) → IsComplete (transcript_of run)
+is_complete run = record {
+  opened = refl;
+  each = all_map (AllByRecursion IsWorkDone) (λ thread. map outcome_of thread.items) run.threads.items
+      (λ thread. all_map IsWorkDone outcome_of thread.items work_done);
+  closed = refl;
+}
+
 -- a run of a script, from what it answered and what is stored
 pub run_of_script : (commands : List (List Command)) (run : Run) (rows : List Row) (bytes text : List ℕ) → rows ≡ run.rows.items
     → IsRun small.sector commands (blank_sectors small) (transcript_of run) (after (blank_sectors small) (writes_of small run.rows.items)) → KeepsRows rows bytes → text ≡ text_of (transcript_of run)
     → contents (blank small) ≡ replicate small.capacity (zeros small.sector) → IsRunOfScript commands bytes text
-run_of_script commands run rows bytes text same h kept text_is law = record {
-  drive = kept.drive;
-  shape = kept.shape;
-  bytes_are = kept.bytes_are;
-  read = kept.read;
-  relation = (
-    transcript_of run,
+run_of_script commands run rows bytes text same h kept text_is law =
+    let ran : IsRun 512 commands (contents (image_of blank_drive)) (transcript_of run) (contents (image_of kept.drive)) =
     subst (λ (before : List (List ℕ)). IsRun 512 commands before (transcript_of run) (contents (image_of kept.drive))) (sym law)
-        (subst (λ (now : List (List ℕ)). IsRun 512 commands (blank_sectors small) (transcript_of run) now) (sym (kept.contents_are ∙ ap (λ (rs : List Row). after (blank_sectors small) (writes_of small rs)) same)) h),
-    text_is,
-  );
-}
+    (subst (λ (now : List (List ℕ)). IsRun 512 commands (blank_sectors small) (transcript_of run) now) (sym (kept.contents_are ∙ ap (λ (rs : List Row). after (blank_sectors small) (writes_of small rs)) same)) h) in
+    record {
+      drive = kept.drive;
+      shape = kept.shape;
+      bytes_are = kept.bytes_are;
+      read = kept.read;
+      relation = (transcript_of run, ran, text_is);
+      complete = (transcript_of run, ran, text_is, is_complete run);
+    }

@@ -4,6 +4,7 @@ pub mod Small
 pub mod Run
 pub mod Line
 pub mod Drive
+pub mod Complete
 pub mod Status
 pub mod Serving
 pub mod Refusal

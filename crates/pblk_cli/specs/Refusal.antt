@@ -12,6 +12,7 @@ use Rattle.pblk_cli.specs.declared.refusal.Which.{Which}
 use Rattle.pblk_cli.specs.declared.refusal.Which.TheVariants as which
 use Rattle.pblk_cli.specs.declared.refusal.Refusal.{Refusal}
 use Rattle.pblk_cli.specs.declared.refusal.Refusal.TheVariants as refusals
+use Rattle.pblk_cli.specs.Complete.{CompleteRun}
 use Rattle.pblk_cli.specs.Taken.{IsTaken}
 use Rattle.ocssd_chunks.specs.DriveChunk.{DriveChunk}
 use Rattle.pblk_model.specs.Chunk.{IsChunk}
@@ -81,6 +82,7 @@ pub record IsRunOfScript (commands : List (List Command)) (bytes text : List ℕ
   pub bytes_are : bytes ≡ image_bytes drive
   pub read : IsImage bytes drive
   pub relation : TranscriptRelation 512 commands (contents (image_of blank_drive)) text (contents (image_of drive))
+  pub complete : CompleteRun 512 commands (contents (image_of blank_drive)) text (contents (image_of drive))
 
 -- what was read was accepted, and run
 pub record IsRunOfInputs (image script bytes text : List ℕ) : Type 0 where

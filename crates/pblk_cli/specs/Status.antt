@@ -7,6 +7,7 @@ use Rattle.pblk_model.specs.Transcript.{TranscriptRelation}
 use Rattle.pblk_outside.specs.Faults.{HasRisen}
 use Rattle.pblk_outside.specs.Files.{SameFiles, SameOthers}
 use Rattle.pblk_outside.specs.Sink.{TakesPrefix}
+use Rattle.pblk_cli.specs.Complete.{CompleteRun}
 use Rattle.pblk_cli.specs.Words.{IsRunOf}
 use Rattle.pblk_cli.specs.Taken.{IsTaken}
 use Rattle.pblk_cli.specs.Small.{small, blank_drive, blank_file}
@@ -45,7 +46,8 @@ pub record IsAcceptedInput (old : List ℕ → Option (List ℕ)) (image script 
 
 -- The run was made with this text: the stored bytes are the image of a drive, in its one spelling, such that the
 -- transcript relation holds between the script, the contents of the image before, the text, and the contents of the
--- image after.
+-- image after. The run is complete: the text has no line of a fault of the drive and none of want of room, so that every
+-- write of the script stands in the history, and all of it is kept.
 pub record IsMade (old new : List ℕ → Option (List ℕ)) (image script text : List ℕ) : Type 0 where
   pub input : IsAcceptedInput old image script
   pub drive : Drive
@@ -55,6 +57,7 @@ pub record IsMade (old new : List ℕ → Option (List ℕ)) (image script text 
   pub spelling : bytes ≡ image_bytes drive
   pub read : IsImage bytes drive
   pub relation : TranscriptRelation 512 input.commands (contents (image_of blank_drive)) text (contents (image_of drive))
+  pub complete : CompleteRun 512 input.commands (contents (image_of blank_drive)) text (contents (image_of drive))
 
 -- the status is this one, or 7 for want of memory, or 4 after a fault of the files
 abbrev pub MayAnswer : ℕ → ℕ → ℕ → ℕ → Type 0
