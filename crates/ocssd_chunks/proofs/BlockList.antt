@@ -6,7 +6,7 @@ use Rattle.std.specs.List.{AllByRecursion}
 use Rattle.pblk_model.specs.declared.shape.Shape.{Shape}
 use Rattle.pblk_model.specs.declared.chunk.Mark.{Mark}
 use Rattle.pblk_model.specs.Chunk.{IsBlock}
-use Rattle.ocssd_chunks.specs.Blocks.{blocks_of, IsMark}
+use Rattle.pblk_model.specs.Blocks.{blocks_of, IsMark}
 
 pub length-blocks_of : (size : ℕ) (bytes : List ℕ) (marks : List Mark) → length (blocks_of size bytes marks) ≡ length marks
 length-blocks_of size bytes [] = refl

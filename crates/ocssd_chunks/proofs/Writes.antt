@@ -12,7 +12,7 @@ use Rattle.pblk_model.specs.declared.chunk.ChunkState.TheVariants as states
 use Rattle.pblk_model.specs.declared.chunk.ChunkErr.{ChunkErr}
 use Rattle.pblk_model.specs.Chunk.{Chunk, Block, PointerFits, IsChunk, IsBlock, pointer}
 use Rattle.pblk_model.specs.ChunkStep.{Write, refusal, write_refusal_in, place_refusal}
-use Rattle.ocssd_chunks.specs.Blocks.{blocks_of}
+use Rattle.pblk_model.specs.Blocks.{blocks_of}
 use Rattle.ocssd_chunks.proofs.BlockList.{length-blocks_of, all_append}
 
 -- the chunk of this state, with the blocks of these bytes and marks

@@ -1,5 +1,4 @@
 pub mod Answers
-pub mod Blocks
 pub mod Descriptor
 pub mod DriveChunk
 pub mod Sound

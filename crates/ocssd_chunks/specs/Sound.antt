@@ -2,7 +2,7 @@
 use Rattle.std.specs.Prelude.{◌*◌, ◌^◌, ◌<◌, ◌≤◌, ◌≡◌, length, vec_capacity}
 use Rattle.pblk_model.specs.Accepted.{IsAccepted}
 use Rattle.pblk_model.specs.Chunk.{IsChunk}
-use Rattle.ocssd_chunks.specs.Blocks.{blocks_of}
+use Rattle.pblk_model.specs.Blocks.{blocks_of}
 use Rattle.ocssd_chunks.specs.DriveChunk.{DriveChunk}
 use Rattle.ocssd_chunks.specs.declared.chunk.Chunk.TheInside.{Inside}
 

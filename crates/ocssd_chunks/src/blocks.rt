@@ -2,7 +2,7 @@
 
 ghost use Rattle.std.specs.Prelude.{◌≡◌, ◌+◌, ◌*◌, ◌<◌, ◌≤◌, [], ◌∷◌, ◌++◌, length, take, Some, slice_get, vec_len, vec_capacity};
 ghost use Rattle.std.specs.List.{AllByRecursion};
-ghost use Rattle.ocssd_chunks.specs.Blocks.{blocks_of, IsMark};
+ghost use Rattle.pblk_model.specs.Blocks.{blocks_of, IsMark};
 
 use pblk_model::Mark;
 

@@ -7,7 +7,7 @@ ghost use Rattle.pblk_model.specs.Accepted.{IsAccepted};
 ghost use Rattle.pblk_model.specs.Chunk.{IsChunk, PointerFits, pointer, free_chunk, offline_chunk};
 ghost use Rattle.pblk_model.specs.ChunkStep.{ChunkStep, ChunkFails, ChunkStops, Write, Read, Reset, refusal, appended, closed_after, after_reset};
 ghost use Rattle.ocssd_chunks.specs.Answers.{write_answer, read_answer, reset_answer};
-ghost use Rattle.ocssd_chunks.specs.Blocks.{blocks_of};
+ghost use Rattle.pblk_model.specs.Blocks.{blocks_of};
 
 use crate::blocks::{append_bytes, append_marks, block_at, first_blocks};
 use crate::rules::{

@@ -1,7 +1,7 @@
 -- The blocks of the first line, in line order.
 use Rattle.std.specs.Prelude.{ℕ, ◌-◌, ◌%◌, List, [], ◌++◌, map, length, replicate}
 use Rattle.std.specs.List.{enumerate_from}
-use Rattle.ocssd_chunks.specs.Blocks.{blocks_of}
+use Rattle.pblk_model.specs.Blocks.{blocks_of}
 use Rattle.pblk_cli.specs.declared.serve.Row.{Row}
 use Rattle.pblk_model.specs.declared.shape.Shape.{Shape}
 use Rattle.pblk_model.specs.Chunk.{Block}

@@ -1,7 +1,7 @@
 //! The blocks of the first line: its start record, the sectors of the history, and what fills up the last stripe.
 
 ghost use Rattle.std.specs.Prelude.{◌≡◌, ◌*◌, ◌%◌, ◌≤◌, ◌++◌, length, replicate, IfOk, OnOk};
-ghost use Rattle.ocssd_chunks.specs.Blocks.{blocks_of};
+ghost use Rattle.pblk_model.specs.Blocks.{blocks_of};
 ghost use Rattle.pblk_model.specs.Bytes.{zeros};
 ghost use Rattle.pblk_model.specs.Marks.{meta_mark, pad_mark};
 ghost use Rattle.pblk_cli.specs.Small.{small};

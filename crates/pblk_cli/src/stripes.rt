@@ -1,7 +1,7 @@
 //! Programs the blocks of a line, stripe by stripe in line order.
 
 ghost use Rattle.std.specs.Prelude.{◌≡◌, ◌≢◌, ◌+◌, ◌*◌, ◌%◌, ◌<◌, ◌≤◌, ◌++◌, length};
-ghost use Rattle.ocssd_chunks.specs.Blocks.{blocks_of};
+ghost use Rattle.pblk_model.specs.Blocks.{blocks_of};
 ghost use Rattle.pblk_model.specs.Chunk.{IsChunk, free_chunk, pointer};
 ghost use Rattle.pblk_cli.specs.Small.{small};
 ghost use Rattle.pblk_cli.specs.Drive.{IsLineOf};

@@ -4,6 +4,7 @@ pub mod Shape
 pub mod LineOrder
 pub mod Accepted
 pub mod Chunk
+pub mod Blocks
 pub mod ChunkStep
 pub mod Geometry
 pub mod Descriptor

@@ -7,8 +7,12 @@ mod chunk;
 mod run;
 mod script;
 mod shape;
+mod shows;
+mod unit_log;
 
 pub use chunk::{ChunkErr, ChunkState, DescriptorErr, Got, Mark};
 pub use run::{Front, Place};
 pub use script::{Command, Commands, PostName, Script};
 pub use shape::{Address, GeometryErr, Shape};
+pub use shows::Shows;
+pub use unit_log::UnitEvent;

@@ -1,6 +1,6 @@
 use Rattle.std.proofs.Common.{◌≡◌, ◌≤◌, ◌++◌, take, vec_capacity}
 use Rattle.std.specs.List.{AllByRecursion}
-use Rattle.ocssd_chunks.specs.Blocks.{IsMark}
+use Rattle.pblk_model.specs.Blocks.{IsMark}
 use Rattle.ocssd_chunks.proofs.blocks.append_marks.Given as goal
 
 abbrev pub invariant-loop-mark : goal.invariant-loop-mark

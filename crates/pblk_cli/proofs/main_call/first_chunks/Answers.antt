@@ -1,5 +1,5 @@
 use Rattle.std.proofs.Common.{◌≡◌, ◌∙◌, sym}
-use Rattle.ocssd_chunks.specs.Blocks.{blocks_of}
+use Rattle.pblk_model.specs.Blocks.{blocks_of}
 use Rattle.pblk_cli.specs.Small.{small}
 use Rattle.pblk_cli.specs.Line.{first_line}
 use Rattle.pblk_cli.specs.Refusal.{HoldsRows}

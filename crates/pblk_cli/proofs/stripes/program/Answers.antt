@@ -1,5 +1,5 @@
 use Rattle.std.proofs.Common.{◌∙◌}
-use Rattle.ocssd_chunks.specs.Blocks.{blocks_of}
+use Rattle.pblk_model.specs.Blocks.{blocks_of}
 use Rattle.pblk_cli.proofs.LineBlocks.{length-blocks_of}
 use Rattle.pblk_cli.proofs.StripeColumns.{not_refused, still_taking}
 use Rattle.pblk_cli.proofs.stripes.program.Goals as goal

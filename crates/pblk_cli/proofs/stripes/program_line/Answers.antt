@@ -1,5 +1,5 @@
 use Rattle.std.proofs.Common.{◌+◌, ◌-◌, ◌*◌, ◌≤◌, ◌++◌, length, refl, ap, ◌∙◌, arith}
-use Rattle.ocssd_chunks.specs.Blocks.{blocks_of}
+use Rattle.pblk_model.specs.Blocks.{blocks_of}
 use Rattle.pblk_cli.proofs.LineBlocks.{length-blocks_of}
 use Rattle.pblk_cli.proofs.StripeColumns.{stripe_is, left_more, right_more, line_of_columns}
 use Rattle.pblk_cli.proofs.stripes.program_line.Goals as goal

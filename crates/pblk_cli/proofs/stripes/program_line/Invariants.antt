@@ -1,4 +1,4 @@
-use Rattle.ocssd_chunks.specs.Blocks.{blocks_of}
+use Rattle.pblk_model.specs.Blocks.{blocks_of}
 use Rattle.pblk_cli.specs.LineParts.{IsProgrammed}
 use Rattle.pblk_cli.proofs.stripes.program_line.Given as goal
 

@@ -1,6 +1,6 @@
 use Rattle.std.proofs.Common.{length, refl, ap, ◌∙◌, arith, length-append}
 use Rattle.std.proofs.Math.Nat.{mul-le-mul_right}
-use Rattle.ocssd_chunks.specs.Blocks.{blocks_of}
+use Rattle.pblk_model.specs.Blocks.{blocks_of}
 use Rattle.ocssd_chunks.proofs.BlockList.{length-blocks_of, blocks_of-append, all_bytes, all_blocks}
 use Rattle.ocssd_chunks.proofs.Writes.{room, chunk_of, IsChunk-joined}
 use Rattle.ocssd_chunks.proofs.chunk.Chunk.append.Goals as goal

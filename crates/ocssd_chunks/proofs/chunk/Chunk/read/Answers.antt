@@ -1,5 +1,5 @@
 use Rattle.std.proofs.Common.{◌≡◌, length, refl, sym, arith}
-use Rattle.ocssd_chunks.specs.Blocks.{blocks_of}
+use Rattle.pblk_model.specs.Blocks.{blocks_of}
 use Rattle.ocssd_chunks.proofs.BlockList.{length-blocks_of}
 use Rattle.ocssd_chunks.proofs.chunk.Chunk.read.Goals as goal
 

@@ -1,6 +1,6 @@
 use Rattle.std.proofs.Common.{◌≡◌, length, refl, sym, arith}
 use Rattle.std.proofs.lemmas.Result.{err_from_is_err_and}
-use Rattle.ocssd_chunks.specs.Blocks.{blocks_of}
+use Rattle.pblk_model.specs.Blocks.{blocks_of}
 use Rattle.ocssd_chunks.proofs.BlockList.{length-blocks_of}
 use Rattle.ocssd_chunks.proofs.Writes.{refusal-blocks_of, taken, placed}
 use Rattle.ocssd_chunks.proofs.chunk.Chunk.write.Goals as goal

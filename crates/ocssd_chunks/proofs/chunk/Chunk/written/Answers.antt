@@ -1,6 +1,6 @@
 use Rattle.std.proofs.Common.{◌≤◌, length, refl, sym, arith}
 use Rattle.std.proofs.lemmas.Option.{slice_get_past}
-use Rattle.ocssd_chunks.specs.Blocks.{blocks_of}
+use Rattle.pblk_model.specs.Blocks.{blocks_of}
 use Rattle.ocssd_chunks.proofs.BlockList.{length-blocks_of}
 use Rattle.ocssd_chunks.proofs.chunk.Chunk.written.Goals as goal
 
