@@ -1,0 +1,81 @@
+-- Drives whose units are armed or disarmed.
+use Rattle.std.proofs.Common.{◌≡◌, ℕ, zero, suc, Bool, true, false, ltb, replicate, ◌+◌, Vec, Global, List, [], ◌∷◌, length, map, refl, sym, ap, ◌∙◌, subst, arith, Option, Some, None, slice_get}
+use Rattle.std.specs.List.{AllByRecursion, enumerate_from}
+use Rattle.std.specs.Vec.{with_items}
+use Rattle.std.specs.Option.{option_map}
+use Rattle.std.proofs.lemmas.List.{with_items_is}
+use Rattle.std.proofs.lemmas.Option.{none-some}
+use Rattle.atomic_table.specs.Seated.{TableId}
+use Rattle.pblk_model.specs.declared.shape.Shape.{Shape}
+use Rattle.unit_port.specs.declared.armed.FaultPlan.{FaultPlan}
+use Rattle.unit_port.specs.declared.armed.Fuse.{Fuse}
+use Rattle.ocssd_drive.specs.Units.{WornUnit, disarmed, new_unit}
+use Rattle.ocssd_drive.specs.Drive.{AreArmedTogether, DriveView, IsArmedWith, IsWhole, armed_unit, armed_units, fitting_fuse, shape_of, with_units}
+use Rattle.ocssd_drive.proofs.Arming.{get_enumerated}
+use Rattle.ocssd_drive.proofs.Lists.{some_same}
+
+-- units of a shape
+abbrev pub HaveShape : Shape → List WornUnit → Type 0
+HaveShape s units = AllByRecursion (λ (u : WornUnit). u.unit.shape ≡ s) units
+
+pub shapes_disarmed : (s : Shape) (units : List WornUnit) → HaveShape s units → HaveShape s (map disarmed units)
+shapes_disarmed s [] h = tt
+shapes_disarmed s (u ∷ units) h = (h.0, shapes_disarmed s units h.1)
+
+shapes_enumerated : (plans : List FaultPlan) (fuse : Option Fuse) (word : Option TableId) (s : Shape) (n : ℕ) (units : List WornUnit) → HaveShape s units → HaveShape s (map (armed_unit plans fuse word) (enumerate_from n units))
+shapes_enumerated plans fuse word s n [] h = tt
+shapes_enumerated plans fuse word s n (u ∷ units) h = (h.0, shapes_enumerated plans fuse word s (n + 1) units h.1)
+
+pub shapes_armed : (plans : List FaultPlan) (fuse : Option Fuse) (word : Option TableId) (s : Shape) (units : List WornUnit) → HaveShape s units → HaveShape s (armed_units plans fuse word units)
+shapes_armed plans fuse word s units h = shapes_enumerated plans fuse word s 0 units h
+
+length-enumerated : (plans : List FaultPlan) (fuse : Option Fuse) (word : Option TableId) (n : ℕ) (units : List WornUnit) → length (map (armed_unit plans fuse word) (enumerate_from n units)) ≡ length units
+length-enumerated plans fuse word n [] = refl
+length-enumerated plans fuse word n (u ∷ units) = ap suc (length-enumerated plans fuse word (n + 1) units)
+
+pub length-armed : (plans : List FaultPlan) (fuse : Option Fuse) (word : Option TableId) (units : List WornUnit) → length (armed_units plans fuse word units) ≡ length units
+length-armed plans fuse word units = length-enumerated plans fuse word 0 units
+
+pub length-disarmed : (units : List WornUnit) → length (map disarmed units) ≡ length units
+length-disarmed [] = refl
+length-disarmed (u ∷ units) = ap suc (length-disarmed units)
+
+-- units written over as many
+pub written_over : (v : Vec WornUnit Global) (new : List WornUnit) → length new ≡ length v.items → (with_items v new).items ≡ new
+written_over v new same = with_items_is v new (same ∙ sym v.ok.0)
+
+-- a drive is still whole with as many other units of its shape
+pub whole_with : (d : DriveView) (new : List WornUnit) → IsWhole d → length new ≡ length d.units → HaveShape (shape_of d) new → IsWhole (with_units new d)
+whole_with d new h same shapes = record {
+  geometry_is = h.geometry_is;
+  accepted = h.accepted;
+  count = same ∙ h.count;
+  shapes = shapes;
+}
+
+armed_with : (plans : List FaultPlan) (fuse : Option Fuse) (word : Option TableId) (i : ℕ) (o : Option WornUnit) (u : WornUnit) → option_map (λ (x : WornUnit). armed_unit plans fuse word (i, x)) o ≡ Some u → IsArmedWith plans fuse word i u.unit.armed
+armed_with plans fuse word i None u e = absurd (none-some u e)
+armed_with plans fuse word i (Some x) u e = subst (λ (v : WornUnit). IsArmedWith plans fuse word i v.unit.armed) (some_same (armed_unit plans fuse word (i, x)) u e) (record { number = refl; with_plans = refl; with_fuse = refl; with_word = refl })
+
+pub armed_together : (plans : List FaultPlan) (fuse : Option Fuse) (word : Option TableId) (units : List WornUnit) → fuse ≡ fitting_fuse (length units) fuse → AreArmedTogether (armed_units plans fuse word units)
+armed_together plans fuse word units fits = record {
+  plans = plans;
+  fuse = fuse;
+  word = word;
+  fits = fits ∙ ap (λ n. fitting_fuse n fuse) (sym (length-armed plans fuse word units));
+  each = λ i u there. armed_with plans fuse word i (slice_get units i) u (sym (get_enumerated (armed_unit plans fuse word) 0 units i i (omega arith)) ∙ there);
+}
+
+twice : (n : ℕ) (f : Fuse) (b : Bool) → ltb f.unit n ≡ b → fitting_fuse n (Some f) ≡ fitting_fuse n (fitting_fuse n (Some f))
+twice n f true e = rw (e, e) refl
+twice n f false e = rw e refl
+
+-- a fuse that was made to fit fits
+pub fits_again : (n : ℕ) (given fuse : Option Fuse) → fuse ≡ fitting_fuse n given → fuse ≡ fitting_fuse n fuse
+fits_again n None fuse is = rw is refl
+fits_again n (Some f) fuse is = is ∙ twice n f (ltb f.unit n) refl ∙ ap (fitting_fuse n) (sym is)
+
+-- new units have the shape that they are made for
+pub shapes_new : (s : Shape) (n : ℕ) → HaveShape s (replicate n (new_unit s))
+shapes_new s zero = tt
+shapes_new s (suc n) = (refl, shapes_new s n)

@@ -1,0 +1,146 @@
+-- Each step that a seat makes keeps the stop word's rule.
+use Rattle.std.proofs.Common.{◌≡◌, ◌≢◌, ◌||◌, ◌==◌, ℕ, zero, suc, Bool, true, false, if◌then◌else◌, List, [], ◌∷◌, ◌++◌, set, slice_index, slice_set, refl, sym, subst, ◌∙◌, ⊎_elim}
+use mathlib.Core.Option.{none, some, some-injective, some-ne-none}
+use lib.ListN.{get_elem?}
+use Rattle.atomic_table.specs.Table.{Me, step, opening, Allows, Splits, Joins, keeps}
+use Rattle.atomic_table.proofs.Lists.{at_set, at_snoc, set_else}
+use Rattle.ocssd_drive.specs.declared.stop_word.StopView.{StopView}
+use Rattle.ocssd_drive.specs.StopWord.{FitsWord, IsStopWord, Looks, Blows, keeper, other_unit, looked, blown, joined}
+
+-- what every seat knows fits the word
+abbrev AllFit : ℕ → Bool → List StopView → Type 0
+AllFit owner is_set views = (seat : ℕ) (v : StopView) → get_elem? views seat ≡ some v → FitsWord owner is_set seat v
+
+other_fits : (owner : ℕ) (is_set : Bool) (seat : ℕ) → FitsWord owner is_set seat other_unit
+other_fits owner is_set seat = record { only = λ e. cc; fell = λ e. cc; found = λ e. cc }
+
+-- one seat knows something else, which fits
+set_fits : (owner : ℕ) (is_set : Bool) (id : ℕ) (new : StopView) (views : List StopView) → AllFit owner is_set views → FitsWord owner is_set id new → AllFit owner is_set (set views id new)
+set_fits owner is_set id new views fit new_fit seat v e = ⊎_elim
+    (λ (t : (seat ≡ id) × (new ≡ v)). subst (λ (k : ℕ). FitsWord owner is_set k v) (sym t.0) (subst (λ (w : StopView). FitsWord owner is_set id w) t.1 new_fit))
+    (λ (t : (seat ≢ id) × (get_elem? views seat ≡ some v)). fit seat v t.1)
+    (at_set views id seat new v e)
+
+-- a new seat, whose view fits wherever it sits
+more_fits : (owner : ℕ) (is_set : Bool) (new : StopView) (views : List StopView) → AllFit owner is_set views → ((seat : ℕ) → FitsWord owner is_set seat new) → AllFit owner is_set (views ++ new ∷ [])
+more_fits owner is_set new views fit new_fit seat v e = ⊎_elim
+    (λ (was : get_elem? views seat ≡ some v). fit seat v was)
+    (λ (same : new ≡ v). subst (λ (w : StopView). FitsWord owner is_set seat w) same (new_fit seat))
+    (at_snoc views new v seat e)
+
+-- the number 1 stands for a word that is set
+number_tells : (words : List ℕ) (is_set : Bool) → words ≡ (if is_set then 1 else 0) ∷ [] → (slice_index words 0 == 1) ≡ is_set
+number_tells words true e = subst (λ (l : List ℕ). (slice_index l 0 == 1) ≡ true) (sym e) refl
+number_tells words false e = subst (λ (l : List ℕ). (slice_index l 0 == 1) ≡ false) (sym e) refl
+
+load_stays : (words : List ℕ) (n : ℕ) → words ≡ n ∷ [] → slice_set words 0 (slice_index words 0) ≡ n ∷ []
+load_stays words n e = subst (λ (l : List ℕ). slice_set l 0 (slice_index l 0) ≡ n ∷ []) (sym e) refl
+
+store_sets : (words : List ℕ) (n m : ℕ) → words ≡ n ∷ [] → slice_set words 0 m ≡ m ∷ []
+store_sets words n m e = subst (λ (l : List ℕ). slice_set l 0 m ≡ m ∷ []) (sym e) refl
+
+either_set : (a b s : Bool) → (a ≡ true → s ≡ true) → (b ≡ true → s ≡ true) → (a || b) ≡ true → s ≡ true
+either_set true b s left right e = left refl
+either_set false b s left right e = right e
+
+looked_fits : (owner : ℕ) (is_set found : Bool) (id : ℕ) (v : StopView) → found ≡ is_set → FitsWord owner is_set id v → FitsWord owner is_set id (looked v found)
+looked_fits owner is_set found id v e fit = record {
+  only = fit.only;
+  fell = fit.fell;
+  found = either_set v.found found is_set fit.found (λ t. sym e ∙ t);
+}
+
+joined_fits : (owner : ℕ) (is_set : Bool) (id other : ℕ) (v w : StopView) → FitsWord owner is_set id v → FitsWord owner is_set other w → FitsWord owner is_set id (joined v w)
+joined_fits owner is_set id other v w fit other_fit = record {
+  only = fit.only;
+  fell = fit.fell;
+  found = either_set v.found w.found is_set fit.found other_fit.found;
+}
+
+-- once the word is set, what a seat knew still fits where it isn't the owner's
+set_later : (owner : ℕ) (is_set : Bool) (seat : ℕ) (v : StopView) → seat ≢ owner → FitsWord owner is_set seat v → FitsWord owner true seat v
+set_later owner is_set seat v ne fit = record {
+  only = fit.only;
+  fell = λ e. absurd (ne (fit.only e));
+  found = λ e. refl;
+}
+
+blown_fits : (owner : ℕ) (is_set : Bool) (id : ℕ) (v : StopView) → FitsWord owner is_set id v → FitsWord owner true id (blown v)
+blown_fits owner is_set id v fit = record { only = fit.only; fell = λ e. refl; found = λ e. refl }
+
+-- the seat of the fuse's unit, which is the owner's, sets the word
+all_blown : (owner : ℕ) (is_set : Bool) (id : ℕ) (v : StopView) (views : List StopView) → v.fuse ≡ true → get_elem? views id ≡ some v → AllFit owner is_set views → AllFit owner true (set views id (blown v))
+all_blown owner is_set id v views fuse here fit seat u e = ⊎_elim
+    (λ (t : (seat ≡ id) × (blown v ≡ u)). subst (λ (k : ℕ). FitsWord owner true k u) (sym t.0)
+    (subst (λ (w : StopView). FitsWord owner true id w) t.1 (blown_fits owner is_set id v (fit id v here))))
+    (λ (t : (seat ≢ id) × (get_elem? views seat ≡ some u)).
+    set_later owner is_set seat u (λ (same : seat ≡ owner). t.0 (same ∙ sym ((fit id v here).only fuse))) (fit seat u t.1))
+    (at_set views id seat (blown v) u e)
+
+keeper_fits : FitsWord 0 false 0 keeper
+keeper_fits = record { only = λ e. refl; fell = λ e. refl; found = λ e. cc }
+
+opening_fits : AllFit 0 false (keeper ∷ [])
+opening_fits zero v e = subst (λ (w : StopView). FitsWord 0 false 0 w) (some-injective keeper v e) keeper_fits
+opening_fits (suc seat) v e = absurd (some-ne-none v (sym e))
+
+pub opening_holds : IsStopWord (opening (0 ∷ []) [] keeper)
+opening_holds = record {
+  owner = 0;
+  set = false;
+  word = refl;
+  views = opening_fits;
+}
+
+pub load_allowed : (slots id : ℕ) (me : Me (Unit {0}) StopView) → Allows IsStopWord slots id me 0 (λ n. n) (Looks (step slots 0 0 0 none) me)
+load_allowed slots id me s holds count here range =
+    let number : ℕ = slice_index s.words 0 in
+    let tells : (number == 1) ≡ holds.set = number_tells s.words holds.set holds.word in
+    let fits : FitsWord holds.owner holds.set id me.0 = holds.views id me.0 here in (
+      looked me.0 (number == 1),
+      keeps,
+      tt,
+      record {
+        owner = holds.owner;
+        set = holds.set;
+        word = load_stays s.words (if holds.set then 1 else 0) holds.word;
+        views = set_fits holds.owner holds.set id (looked me.0 (number == 1)) s.views holds.views (looked_fits holds.owner holds.set (number == 1) id me.0 tells fits);
+      },
+      (refl, (λ e. tells ∙ fits.found e), (λ e. tells ∙ sym (fits.fell e))),
+    )
+
+pub store_allowed : (slots id : ℕ) (me : Me (Unit {0}) StopView) → me.0.fuse ≡ true → Allows IsStopWord slots id me 0 (λ _. 1) (λ _. Blows (step slots 0 1 0 none) me 1)
+store_allowed slots id me fuse s holds count here range = (
+  blown me.0,
+  keeps,
+  tt,
+  record {
+    owner = holds.owner;
+    set = true;
+    word = store_sets s.words (if holds.set then 1 else 0) 1 holds.word;
+    views = all_blown holds.owner holds.set id me.0 s.views fuse here holds.views;
+  },
+  refl,
+)
+
+pub split_allowed : (id : ℕ) (v : StopView) → Splits IsStopWord id v v other_unit
+split_allowed id v s holds here = record {
+  owner = holds.owner;
+  set = holds.set;
+  word = holds.word;
+  views = more_fits holds.owner holds.set other_unit (set s.views id v)
+      (set_fits holds.owner holds.set id v s.views holds.views (holds.views id v here)) (other_fits holds.owner holds.set);
+}
+
+pub join_allowed : (id other : ℕ) (v w : StopView) → Joins IsStopWord id v other w (joined v w) other_unit
+join_allowed id other v w s holds here ne there =
+    let was : get_elem? s.views other ≡ some w = sym (set_else s.views id other (joined v w) ne) ∙ there in
+    record {
+      owner = holds.owner;
+      set = holds.set;
+      word = holds.word;
+      views = set_fits holds.owner holds.set other other_unit (set s.views id (joined v w))
+          (set_fits holds.owner holds.set id (joined v w) s.views holds.views
+          (joined_fits holds.owner holds.set id other v w (holds.views id v here) (holds.views other w was)))
+          (other_fits holds.owner holds.set other);
+    }

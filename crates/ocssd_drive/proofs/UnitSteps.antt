@@ -1,0 +1,125 @@
+-- A unit's command: the fault that its journal finds, the chunk that it meets, and the event that is noted.
+use Rattle.std.proofs.Common.{◌≡◌, inl, inr, ℕ, true, List, [], ◌∷◌, ◌++◌, slice_get, slice_set, Some, None, refl, ◌∙◌}
+use Rattle.std.proofs.lemmas.List.{length-set, map-set}
+use Rattle.std.specs.Option.{IsSome}
+use Rattle.std.specs.Vec.{with_item}
+use Rattle.pblk_model.specs.declared.shape.Shape.{Shape}
+use Rattle.pblk_model.specs.Chunk.{Chunk}
+use Rattle.pblk_model.specs.ChunkStep.{ChunkCommand, Read, refusal}
+use Rattle.pblk_model.specs.UnitLog.{UnitEvent, UnitOutcome, Answered, Failed, Stopped, after_event, after_outcome}
+use Rattle.ocssd_chunks.specs.DriveChunk.{DriveChunk}
+use Rattle.unit_port.specs.declared.armed.CommandKind.{CommandKind}
+use Rattle.unit_port.specs.declared.armed.CommandKind.TheVariants as kinds
+use Rattle.unit_port.specs.Armed.{events_since, has_stopped}
+use Rattle.unit_port.specs.Unit.{ModelUnit, IsFitUnit, Takes, Steps}
+use Rattle.ocssd_drive.specs.declared.fault.Fault.{Fault}
+use Rattle.ocssd_drive.specs.declared.fault.Fault.TheVariants as faults
+use Rattle.ocssd_drive.specs.declared.memory_unit.MemoryUnit.TheInside.{Inside}
+use Rattle.ocssd_drive.specs.Faults.{IsOutcomeBy, IsPlanned, fault_of, kind_of}
+use Rattle.ocssd_drive.specs.Journal.{JournalView}
+use Rattle.ocssd_drive.specs.Units.{IsChunkIn, TakesUnder, MeetsFault}
+use Rattle.ocssd_drive.specs.UnitFields.{IsSound, worn_unit}
+use Rattle.ocssd_drive.proofs.UnitChunks.{IsFound, chunks_of, all_set, chunk_there, set_again, fit}
+
+-- what a journal finds befalls the next command of a kind
+pub record Finds (old : JournalView) (kind : CommandKind) (fault : Fault) (new : JournalView) : Type 0 where
+  pub log : new.log ≡ old.log
+  pub armed : new.armed ≡ old.armed
+  pub is : fault ≡ fault_of old.armed (events_since old.armed old.log) new.found kind
+  pub word : new.found ≡ true → IsSome old.armed.fuse
+  pub stays : has_stopped old.armed old.log ≡ true → new.found ≡ true
+
+pub finds : (old : JournalView) (kind : CommandKind) (fault : Fault) (new : JournalView) → (new.log ≡ old.log) × (new.armed ≡ old.armed) → fault ≡ fault_of new.armed (events_since new.armed new.log) new.found kind → (new.found ≡ true → IsSome new.armed.fuse)
+    → (has_stopped old.armed old.log ≡ true → new.found ≡ true) → Finds old kind fault new
+finds old kind fault new same is word stays = record {
+  log = same.0;
+  armed = same.1;
+  is = rw (same.0, same.1) at is;
+  word = rw same.1 at word;
+  stays = stays;
+}
+
+takes_any : (s : Shape) (c : Chunk) (command : ChunkCommand) (fault : Fault) → refusal s c command ≡ None → TakesUnder s c command fault
+takes_any s c command faults.Nothing r = r
+takes_any s c command (faults.Fails cut) r = r
+takes_any s c command (faults.Stops cut) r = r
+takes_any s c command faults.Stopped r = tt
+
+-- the chunk that was found takes the command, unless the unit was stopped before
+pub takes_under : (u : Inside) (chunk : ℕ) (command : ChunkCommand) (fault : Fault) (j : JournalView) (found : DriveChunk) (takes : Takes (worn_unit u).unit chunk command) → IsFound u chunk takes.found found → Finds u.journal (kind_of command) fault j
+    → TakesUnder u.shape found.chunk command fault
+takes_under u chunk command fault j found takes f befalls =
+    elim takes.taken [
+      | inl r ↦ rw f.same (takes_any u.shape takes.found command fault r)
+      | inr stopped ↦ rw (befalls.is, befalls.stays stopped) tt
+    ]
+
+-- a command that is stopped as the unit was stopped before lands nothing
+stays_stopped : (s : Shape) (command : ChunkCommand) (fault : Fault) (outcome : UnitOutcome) → fault ≡ faults.Stopped → IsOutcomeBy s command fault outcome → outcome ≡ Stopped 0
+stays_stopped s command fault outcome is by = rw is at by
+
+-- a chunk of a drive of this shape met it
+pub met_in : (s t : Shape) (command : ChunkCommand) (fault : Fault) (outcome : UnitOutcome) (found left : DriveChunk) → t ≡ s → MeetsFault t found command fault outcome left → MeetsFault s found command fault outcome left
+met_in s t command fault outcome found left same met = rw (← same) met
+
+-- the event that is noted of a command
+abbrev event_of : ℕ → ChunkCommand → UnitOutcome → UnitEvent
+event_of chunk command outcome = record { chunk = chunk; command = command; outcome = outcome }
+
+-- the unit with other chunks and another journal
+abbrev pub after : Inside → List DriveChunk → JournalView → ModelUnit
+after u chunks j = record { shape = u.shape; media = chunks_of chunks; log = j.log; armed = j.armed }
+
+pub planned : (u : Inside) (chunk : ℕ) (command : ChunkCommand) (fault : Fault) (outcome : UnitOutcome) (j next : JournalView) (chunks : List DriveChunk) → Finds u.journal (kind_of command) fault j → IsOutcomeBy u.shape command fault outcome
+    → next.log ≡ j.log ++ event_of chunk command outcome ∷ [] → IsPlanned (worn_unit u).unit chunk command (after u chunks next)
+planned u chunk command fault outcome j next chunks befalls by noted = record {
+  found = j.found;
+  has_word = befalls.word;
+  outcome = outcome;
+  log = rw befalls.log at noted;
+  by = rw befalls.is at by;
+}
+
+left_media : (s : Shape) (chunks : List DriveChunk) (chunk : ℕ) (command : ChunkCommand) (outcome : UnitOutcome) (found left : DriveChunk) → slice_get chunks chunk ≡ Some found → left.chunk ≡ after_outcome s found.chunk command outcome
+    → chunks_of (slice_set chunks chunk left) ≡ after_event s (chunks_of chunks) (event_of chunk command outcome)
+left_media s chunks chunk command outcome found left there is = rw (chunk_there chunks chunk found there, map-set, is) refl
+
+after_read : (s : Shape) (c : Chunk) (block : ℕ) (outcome : UnitOutcome) → after_outcome s c (Read block) outcome ≡ c
+after_read s c block (Answered answer) = refl
+after_read s c block (Failed k) = refl
+after_read s c block (Stopped k) = refl
+
+pub steps : (u : Inside) (chunk : ℕ) (command : ChunkCommand) (fault : Fault) (outcome : UnitOutcome) (j next : JournalView) (c : Chunk) (found left : DriveChunk) → Finds u.journal (kind_of command) fault j → IsFound u chunk c found → MeetsFault u.shape found command fault outcome left
+    → next.log ≡ j.log ++ event_of chunk command outcome ∷ [] → next.armed ≡ j.armed → Steps (worn_unit u).unit chunk command outcome (after u (slice_set u.chunks.items chunk left) next)
+steps u chunk command fault outcome j next c found left befalls f met noted armed = record {
+  event = record {
+    found = found.chunk;
+    there = chunk_there u.chunks.items chunk found f.there;
+    outcome = met.told;
+  };
+  log = rw befalls.log at noted;
+  media = left_media u.shape u.chunks.items chunk command outcome found left f.there met.after;
+  stopped = λ stopped. stays_stopped u.shape command fault outcome (rw (befalls.stays stopped) at befalls.is) met.by;
+  shape = refl;
+  armed = armed ∙ befalls.armed;
+}
+
+-- a fetch leaves the chunks as they were
+pub steps_reading : (u : Inside) (chunk block : ℕ) (fault : Fault) (outcome : UnitOutcome) (j next : JournalView) (c : Chunk) (found : DriveChunk) → Finds u.journal kinds.Fetch fault j → IsFound u chunk c found → MeetsFault u.shape found (Read block) fault outcome found
+    → next.log ≡ j.log ++ event_of chunk (Read block) outcome ∷ [] → next.armed ≡ j.armed → Steps (worn_unit u).unit chunk (Read block) outcome (after u u.chunks.items next)
+steps_reading u chunk block fault outcome j next c found befalls f met noted armed =
+    rw (set_again u.chunks.items chunk found f.there) at (steps u chunk (Read block) fault outcome j next c found found befalls f met noted armed)
+
+pub sound_after : (u : Inside) (chunk : ℕ) (left : DriveChunk) (next : JournalView) → IsSound u → IsChunkIn u.shape left → IsSound (record { shape = u.shape; chunks = with_item u.chunks chunk left; wear = u.wear; journal = next })
+sound_after u chunk left next sound one = record {
+  accepted = sound.accepted;
+  count = length-set u.chunks.items chunk left ∙ sound.count;
+  chunks = all_set (IsChunkIn u.shape) u.chunks.items chunk left sound.chunks one;
+  worn = sound.worn;
+}
+
+pub fit_with : (u : Inside) (next : JournalView) → IsSound u → IsFitUnit (after u u.chunks.items next)
+fit_with u next sound = record { count = (fit u sound).count; chunks = (fit u sound).chunks }
+
+pub fit_after : (u : Inside) (chunk : ℕ) (left : DriveChunk) (next : JournalView) → IsSound u → IsChunkIn u.shape left → IsFitUnit (after u (slice_set u.chunks.items chunk left) next)
+fit_after u chunk left next sound one = fit _ (sound_after u chunk left next sound one)

@@ -1,0 +1,55 @@
+use Rattle.pblk_model.specs.ChunkStep.{Read}
+use Rattle.unit_port.specs.declared.armed.CommandKind.TheVariants as kinds
+use Rattle.unit_port.specs.Unit.{Takes}
+use Rattle.ocssd_drive.specs.Shown.{fetch_outcome}
+use Rattle.ocssd_drive.specs.Units.{MeetsFault}
+use Rattle.ocssd_drive.specs.UnitFields.{worn_unit}
+use Rattle.ocssd_drive.proofs.UnitChunks.{IsFound, found_of}
+use Rattle.ocssd_drive.proofs.UnitSteps.{Finds, finds, met_in, takes_under, planned, steps_reading, fit_with}
+use Rattle.ocssd_drive.proofs.memory_unit.MemoryUnitUnit.fetch.Goals as goal
+use Rattle.ocssd_drive.proofs.memory_unit.MemoryUnitUnit.fetch.Goals.{After-index-found, After-note}
+
+takes : (c : After-index-found) → Takes (worn_unit c.self.inside).unit c.args.chunk (Read c.args.block)
+takes c = rw (← c.self.view_is) at c.requires.taken
+
+-- the chunk that was found is the unit's
+found : (c : After-index-found) → IsFound c.self.inside c.args.chunk (takes c).found c.index-found.result.now
+found c = found_of c.self.inside c.args.chunk (takes c).found _ c.self.invariant (takes c).there c.index-found.ensures
+
+befalls : (c : After-index-found) → Finds c.self.inside.journal kinds.Fetch c.fault-fault.result c.fault-fault.new.self
+befalls c = finds _ _ _ _ c.fault-fault.ensures.same c.fault-fault.ensures.fault c.fault-fault.ensures.found c.fault-fault.ensures.stays
+
+pub read_chunk-got-requires-clause-chunk : goal.read_chunk-got-requires-clause-chunk
+read_chunk-got-requires-clause-chunk c =
+    let f = found (goal.at.read_chunk-got-requires-clause-chunk c).After-index-found in
+    rw f.fits.shape f.fits.fits
+
+pub read_chunk-got-requires-clause-whole : goal.read_chunk-got-requires-clause-whole
+read_chunk-got-requires-clause-whole c =
+    let f = found (goal.at.read_chunk-got-requires-clause-whole c).After-index-found in
+    rw f.fits.shape (rw (← c.self.view_is) at c.requires.whole)
+
+pub read_chunk-got-requires-clause-taken : goal.read_chunk-got-requires-clause-taken
+read_chunk-got-requires-clause-taken c =
+    let h = (goal.at.read_chunk-got-requires-clause-taken c).After-index-found in
+    rw (found h).fits.shape (takes_under c.self.inside c.args.chunk (Read c.args.block) _ c.fault-fault.new.self _ (takes h) (found h) (befalls h))
+
+met : (c : After-note) → MeetsFault c.self.inside.shape c.index-found.result.now (Read c.args.block) c.fault-fault.result (fetch_outcome c.read_chunk-got.new.out c.read_chunk-got.result) c.index-found.result.now
+met c = met_in _ _ _ _ _ _ _ (found (goal.at.returns-clause-planned c).After-index-found).fits.shape c.read_chunk-got.ensures.met
+
+pub returns-clause-planned : goal.returns-clause-planned
+returns-clause-planned c =
+    let h = (goal.at.returns-clause-planned c).After-index-found in
+    rw (← c.self.view_is) (planned c.self.inside c.args.chunk (Read c.args.block) _ (fetch_outcome c.read_chunk-got.new.out c.read_chunk-got.result) c.fault-fault.new.self c.note.new.self _ (befalls h) (met c).by c.note.ensures.log)
+
+pub returns-clause-event : goal.returns-clause-event
+returns-clause-event c =
+    let h = (goal.at.returns-clause-event c).After-index-found in
+    rw (← c.self.view_is) (
+      fetch_outcome c.read_chunk-got.new.out c.read_chunk-got.result,
+      c.read_chunk-got.ensures.tells,
+      steps_reading c.self.inside c.args.chunk c.args.block _ _ c.fault-fault.new.self c.note.new.self _ _ (befalls h) (found h) (met c) c.note.ensures.log c.note.ensures.armed,
+    )
+
+pub returns-clause-fits : goal.returns-clause-fits
+returns-clause-fits c = fit_with c.self.inside c.note.new.self c.self.invariant

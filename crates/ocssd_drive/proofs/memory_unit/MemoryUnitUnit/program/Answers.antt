@@ -1,0 +1,48 @@
+use Rattle.pblk_model.specs.Blocks.{blocks_of}
+use Rattle.pblk_model.specs.ChunkStep.{ChunkCommand, Write}
+use Rattle.unit_port.specs.declared.armed.CommandKind.TheVariants as kinds
+use Rattle.unit_port.specs.Unit.{Takes}
+use Rattle.ocssd_drive.specs.Shown.{outcome_of}
+use Rattle.ocssd_drive.specs.UnitFields.{worn_unit}
+use Rattle.ocssd_drive.proofs.UnitChunks.{IsFound, found_of}
+use Rattle.ocssd_drive.proofs.UnitSteps.{Finds, finds, takes_under, planned, steps, fit_after}
+use Rattle.ocssd_drive.proofs.memory_unit.MemoryUnitUnit.program.Goals as goal
+use Rattle.ocssd_drive.proofs.memory_unit.MemoryUnitUnit.program.Goals.{After-index_mut-found}
+
+abbrev command : After-index_mut-found → ChunkCommand
+command c = Write c.args.at (blocks_of c.self.inside.shape.sector c.args.bytes.now c.args.marks.now)
+
+takes : (c : After-index_mut-found) → Takes (worn_unit c.self.inside).unit c.args.chunk (command c)
+takes c = rw (← c.self.view_is) at c.requires.taken
+
+-- the chunk that was found is the unit's
+found : (c : After-index_mut-found) → IsFound c.self.inside c.args.chunk (takes c).found c.index_mut-found.result.now
+found c = found_of c.self.inside c.args.chunk (takes c).found _ c.self.invariant (takes c).there c.index_mut-found.ensures.value
+
+befalls : (c : After-index_mut-found) → Finds c.self.inside.journal kinds.Program c.fault-fault.result c.fault-fault.new.self
+befalls c = finds _ _ _ _ c.fault-fault.ensures.same c.fault-fault.ensures.fault c.fault-fault.ensures.found c.fault-fault.ensures.stays
+
+pub write_chunk-landed-requires-clause-chunk : goal.write_chunk-landed-requires-clause-chunk
+write_chunk-landed-requires-clause-chunk c = (found (goal.at.write_chunk-landed-requires-clause-chunk c).After-index_mut-found).fits
+
+pub write_chunk-landed-requires-clause-taken : goal.write_chunk-landed-requires-clause-taken
+write_chunk-landed-requires-clause-taken c =
+    let h = (goal.at.write_chunk-landed-requires-clause-taken c).After-index_mut-found in
+    takes_under c.self.inside c.args.chunk (command h) _ c.fault-fault.new.self _ (takes h) (found h) (befalls h)
+
+pub returns-clause-planned : goal.returns-clause-planned
+returns-clause-planned c =
+    let h = (goal.at.returns-clause-planned c).After-index_mut-found in
+    rw (← c.self.view_is) (planned c.self.inside c.args.chunk (command h) _ (outcome_of c.write_chunk-landed.result) c.fault-fault.new.self c.note.new.self _ (befalls h) c.write_chunk-landed.ensures.by c.note.ensures.log)
+
+pub returns-clause-event : goal.returns-clause-event
+returns-clause-event c =
+    let h = (goal.at.returns-clause-event c).After-index_mut-found in
+    rw (← c.self.view_is) (
+      outcome_of c.write_chunk-landed.result,
+      c.result_of.ensures,
+      steps c.self.inside c.args.chunk (command h) _ _ c.fault-fault.new.self c.note.new.self _ _ _ (befalls h) (found h) c.write_chunk-landed.ensures c.note.ensures.log c.note.ensures.armed,
+    )
+
+pub returns-clause-fits : goal.returns-clause-fits
+returns-clause-fits c = fit_after c.self.inside c.args.chunk c.write_chunk-landed.new.chunk c.note.new.self c.self.invariant c.write_chunk-landed.ensures.fits

@@ -1,0 +1,134 @@
+-- A drive, and what its units are armed with together.
+use Rattle.std.specs.Prelude.{ℕ, true, ◌≡◌, ◌≤◌, List, map, length, replicate, slice_get, Option, Some, None, if◌then◌else◌, nat_lt}
+use Rattle.std.specs.List.{AllByRecursion, enumerate_from}
+use Rattle.std.specs.Option.{option_map}
+use Rattle.atomic_table.specs.Seated.{TableId}
+use Rattle.pblk_model.specs.declared.shape.Shape.{Shape}
+use Rattle.pblk_model.specs.Accepted.{IsAccepted}
+use Rattle.pblk_model.specs.Shape.{units}
+use Rattle.unit_port.specs.declared.armed.FaultPlan.{FaultPlan}
+use Rattle.unit_port.specs.declared.armed.Fuse.{Fuse}
+use Rattle.unit_port.specs.Armed.{Armed, events_since}
+use Rattle.ocssd_geometry.specs.declared.geometry.Geometry.{Geometry}
+use Rattle.ocssd_geometry.specs.Numbers.{IsGeometry}
+use Rattle.unit_port.specs.declared.armed.CommandKind.TheVariants as kinds
+use Rattle.ocssd_drive.specs.Faults.{changes_of}
+use Rattle.ocssd_drive.specs.Tally.{IsTally}
+use Rattle.ocssd_drive.specs.StopWord.{SeatView, keeper, other_unit}
+use Rattle.ocssd_drive.specs.Journal.{FitsArming, word_of}
+use Rattle.ocssd_drive.specs.declared.journal.Arming.{Arming}
+use Rattle.ocssd_drive.specs.Units.{WornUnit, with_arms, new_unit}
+
+abbrev pub drive_shape : Geometry → ℕ → ℕ → ℕ → Shape
+drive_shape g sector capacity ring = record {
+  groups = g.groups;
+  pus = g.pus;
+  chunks = g.chunks;
+  clba = g.clba;
+  ws_min = g.ws_min;
+  ws_opt = g.ws_opt;
+  mw_cunits = g.mw_cunits;
+  sector = sector;
+  capacity = capacity;
+  ring = ring;
+}
+
+-- the numbers of a drive and of the target on it, and the units
+pub record DriveView : Type 0 where
+  pub geometry : Geometry
+  pub sector : ℕ
+  pub capacity : ℕ
+  pub ring : ℕ
+  pub units : List WornUnit
+
+abbrev pub shape_of : DriveView → Shape
+shape_of d = drive_shape d.geometry d.sector d.capacity d.ring
+
+-- the drive with these units in place of its own
+abbrev pub with_units : List WornUnit → DriveView → DriveView
+with_units units d = record { geometry = d.geometry; sector = d.sector; capacity = d.capacity; ring = d.ring; units = units }
+
+-- the drive with new units alone
+abbrev pub new_drive : Geometry → ℕ → ℕ → ℕ → DriveView
+new_drive g sector capacity ring = let s = drive_shape g sector capacity ring in record {
+  geometry = g;
+  sector = sector;
+  capacity = capacity;
+  ring = ring;
+  units = replicate (units s) (new_unit s);
+}
+
+-- what every drive is: its geometry and its shape are accepted, and its units fit the shape
+pub record IsWhole (d : DriveView) : Type 0 where
+  pub geometry_is : IsGeometry d.geometry
+  pub accepted : IsAccepted (shape_of d)
+  pub count : length d.units ≡ units (shape_of d)
+  pub shapes : AllByRecursion (λ (u : WornUnit). u.unit.shape ≡ shape_of d) d.units
+
+-- a fuse for a unit that the drive doesn't have counts as none
+abbrev pub fitting_fuse : ℕ → Option Fuse → Option Fuse
+fitting_fuse count None = None
+fitting_fuse count (Some f) = if nat_lt f.unit count then Some f else None
+
+-- a unit by its number, armed with these plans, this fuse and this word
+abbrev pub armed_unit : List FaultPlan → Option Fuse → Option TableId → ℕ × WornUnit → WornUnit
+armed_unit plans fuse word x = with_arms (record { unit = x.0; plans = plans; fuse = fuse; word = word; since = length x.1.unit.log }) x.1
+
+abbrev pub armed_units : List FaultPlan → Option Fuse → Option TableId → List WornUnit → List WornUnit
+armed_units plans fuse word units = map (armed_unit plans fuse word) (enumerate_from 0 units)
+
+-- the tallies of a unit by these plans
+pub record HasTallies (plans : List FaultPlan) (unit : ℕ) (a : Arming) : Type 0 where
+  pub programs : IsTally plans unit kinds.Program 0 a.programs
+  pub fetches : IsTally plans unit kinds.Fetch 0 a.fetches
+  pub resets : IsTally plans unit kinds.Reset 0 a.resets
+
+-- the seat of the fuse's unit, where there is a fuse
+abbrev pub IsKeeper : Option Fuse → Option SeatView → Type 0
+IsKeeper None None = Unit {0}
+IsKeeper None (Some s) = ⊥
+IsKeeper (Some f) None = ⊥
+IsKeeper (Some f) (Some s) = s.view ≡ keeper
+
+-- the seat of another unit at that word
+abbrev pub other_seat_of : Option SeatView → Option SeatView
+other_seat_of seat = option_map (λ (s : SeatView). record { word = s.word; view = other_unit }) seat
+
+-- what a unit with this number is to be armed with, by these plans, this fuse and this word
+pub record IsArmingOf (plans : List FaultPlan) (fuse : Option Fuse) (word : Option TableId) (unit : ℕ) (a : Arming) : Type 0 where
+  pub tallies : HasTallies plans unit a
+  pub stop : FitsArming unit fuse a.stop
+  pub seat : word_of a.stop ≡ word
+
+abbrev pub AreArmings : List FaultPlan → Option Fuse → Option TableId → List Arming → Type 0
+AreArmings plans fuse word armings = (i : ℕ) (a : Arming) → slice_get armings i ≡ Some a → IsArmingOf plans fuse word i a
+
+-- this is the unit's number, and it was armed with these plans, this fuse and this word
+pub record IsArmedWith (plans : List FaultPlan) (fuse : Option Fuse) (word : Option TableId) (unit : ℕ) (a : Armed) : Type 0 where
+  pub number : a.unit ≡ unit
+  pub with_plans : a.plans ≡ plans
+  pub with_fuse : a.fuse ≡ fuse
+  pub with_word : a.word ≡ word
+
+-- the units are those that were armed together, in their order
+pub record AreArmedTogether (units : List WornUnit) : Type 0 where
+  pub plans : List FaultPlan
+  pub fuse : Option Fuse
+  pub word : Option TableId
+  pub fits : fuse ≡ fitting_fuse (length units) fuse
+  pub each : (i : ℕ) (u : WornUnit) → slice_get units i ≡ Some u → IsArmedWith plans fuse word i u.unit.armed
+
+-- the fuse's unit had as many programs and resets since it was armed as the fuse names
+pub record FuseFell (units : List WornUnit) (a : Armed) : Type 0 where
+  pub fuse : Fuse
+  pub is : a.fuse ≡ Some fuse
+  pub unit : WornUnit
+  pub there : slice_get units fuse.unit ≡ Some unit
+  pub fell : fuse.nth ≤ changes_of (events_since unit.unit.armed unit.unit.log)
+
+-- the same seat, which knows no less
+pub record KnowsMore (old new : SeatView) : Type 0 where
+  pub word : new.word ≡ old.word
+  pub fuse : new.view.fuse ≡ old.view.fuse
+  pub fell : new.view.fell ≡ old.view.fell
+  pub found : old.view.found ≡ true → new.view.found ≡ true

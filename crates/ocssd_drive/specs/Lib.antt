@@ -1,0 +1,11 @@
+pub mod Faults
+pub mod Tally
+pub mod StopWord
+pub mod Journal
+pub mod Arming
+pub mod Shown
+pub mod Units
+pub mod UnitFields
+pub mod Fields
+pub mod Drive
+pub mod DriveFields

@@ -1,0 +1,67 @@
+-- Units in memory.
+use Rattle.std.specs.Prelude.{ℕ, ◌%◌, ◌<◌, ◌≤◌, ◌≡◌, List, [], length, replicate, None}
+use Rattle.pblk_model.specs.declared.shape.Shape.{Shape}
+use Rattle.pblk_model.specs.Chunk.{Chunk, IsChunk, free_chunk}
+use Rattle.pblk_model.specs.ChunkStep.{ChunkCommand, refusal}
+use Rattle.pblk_model.specs.UnitLog.{UnitOutcome, IsOutcome, after_outcome}
+use Rattle.ocssd_chunks.specs.DriveChunk.{DriveChunk}
+use Rattle.unit_port.specs.Armed.{Armed, unarmed}
+use Rattle.unit_port.specs.Unit.{ModelUnit}
+use Rattle.ocssd_drive.specs.declared.fault.Fault.{Fault}
+use Rattle.ocssd_drive.specs.declared.fault.Fault.TheVariants as faults
+use Rattle.ocssd_drive.specs.Faults.{IsOutcomeBy}
+
+-- a unit, and the wear index of each of its chunks
+pub record WornUnit : Type 0 where
+  pub unit : ModelUnit
+  pub wear : List ℕ
+
+-- Free chunks that aren't worn, an empty log, and not armed
+abbrev pub new_unit : Shape → WornUnit
+new_unit s = record {
+  unit = record { shape = s; media = replicate s.chunks free_chunk; log = []; armed = unarmed 0 };
+  wear = replicate s.chunks 0;
+}
+
+-- the unit with other arms
+abbrev pub with_arms : Armed → WornUnit → WornUnit
+with_arms a u = record {
+  unit = record { shape = u.unit.shape; media = u.unit.media; log = u.unit.log; armed = a };
+  wear = u.wear;
+}
+
+-- without plans and fuse
+abbrev pub disarmed : WornUnit → WornUnit
+disarmed u = with_arms (unarmed (length u.unit.log)) u
+
+abbrev pub IsArmedSo : Armed → WornUnit → WornUnit → Type 0
+IsArmedSo a old new = new ≡ with_arms a old
+
+abbrev pub IsDisarmed : WornUnit → WornUnit → Type 0
+IsDisarmed old new = new ≡ disarmed old
+
+-- a chunk of a drive of this shape
+pub record IsChunkIn (s : Shape) (c : DriveChunk) : Type 0 where
+  pub shape : c.shape ≡ s
+  pub fits : IsChunk s c.chunk
+
+-- a write of n blocks that a chunk may take
+pub record IsWrite (s : Shape) (n : ℕ) : Type 0 where
+  pub some : 0 < n
+  pub multiple : n % s.ws_min ≡ 0
+  pub within : n ≤ s.clba
+
+-- the chunk takes the command that meets this fault, unless the drive was stopped before
+abbrev pub TakesUnder : Shape → Chunk → ChunkCommand → Fault → Type 0
+TakesUnder s c command faults.Nothing = refusal s c command ≡ None
+TakesUnder s c command (faults.Fails cut) = refusal s c command ≡ None
+TakesUnder s c command (faults.Stops cut) = refusal s c command ≡ None
+TakesUnder s c command faults.Stopped = Unit {0}
+
+-- What a command that met this fault made of its chunk: the outcome is by the fault, it is one over the chunk that was
+-- found, and the chunk is left as it says.
+pub record MeetsFault (s : Shape) (found : DriveChunk) (command : ChunkCommand) (fault : Fault) (outcome : UnitOutcome) (left : DriveChunk) : Type 0 where
+  pub by : IsOutcomeBy s command fault outcome
+  pub told : IsOutcome s found.chunk command outcome
+  pub after : left.chunk ≡ after_outcome s found.chunk command outcome
+  pub fits : IsChunkIn s left
