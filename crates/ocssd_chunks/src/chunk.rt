@@ -153,6 +153,9 @@ impl Chunk {
 
     /// What a write leaves that fails: only its first `multiples` times WS_MIN blocks are appended, and
     /// the chunk is Closed (Open-Channel SSD Specification 2.0, Chunk states).
+    ///
+    /// `bytes` has a sector for each of `marks`; the chunk doesn't refuse the write, as `write_refusal`
+    /// tells; and the blocks that are appended are fewer than all.
     pub fn fail_write(&mut self, at: u32, bytes: &[u8], marks: &[Mark], multiples: u32)
         requires whole { length bytes.now ≡ length marks.now * self.old.shape.sector }
         requires taken { let blocks = blocks_of self.old.shape.sector bytes.now marks.now
@@ -173,6 +176,9 @@ impl Chunk {
     /// What a write leaves where the drive stops within it: its first `multiples` times WS_MIN blocks are
     /// appended, and the chunk is Closed where all CLBA blocks are written, and Open where not. With 0 the
     /// chunk is as before (Open-Channel SSD Specification 2.0, Chunk states).
+    ///
+    /// `bytes` has a sector for each of `marks`; the chunk doesn't refuse the write, as `write_refusal`
+    /// tells; and the blocks that are appended are at most all.
     pub fn cut_write(&mut self, at: u32, bytes: &[u8], marks: &[Mark], multiples: u32)
         requires whole { length bytes.now ≡ length marks.now * self.old.shape.sector }
         requires taken { let blocks = blocks_of self.old.shape.sector bytes.now marks.now
@@ -197,7 +203,7 @@ impl Chunk {
     }
 
     /// What a reset leaves that fails: the chunk is Offline, without blocks (Open-Channel SSD
-    /// Specification 2.0, Chunk states).
+    /// Specification 2.0, Chunk states). The chunk is Open or Closed, as `reset_refusal` tells.
     pub fn fail_reset(&mut self)
         requires { refusal self.old.shape self.old.chunk Reset ≡ None }
         ensures chunk { self.new.chunk ≡ offline_chunk }
@@ -209,7 +215,8 @@ impl Chunk {
     }
 
     /// What a reset leaves where the drive stops within it: what the whole reset leaves where it was
-    /// `done`, and else the chunk as before (Open-Channel SSD Specification 2.0, Chunk states).
+    /// `done`, and else the chunk as before (Open-Channel SSD Specification 2.0, Chunk states). The chunk is
+    /// Open or Closed, as `reset_refusal` tells.
     pub fn cut_reset(&mut self, done: bool)
         requires { refusal self.old.shape self.old.chunk Reset ≡ None }
         ensures done { OnTrue done (self.new.chunk ≡ after_reset self.old.shape self.old.chunk) }
@@ -226,6 +233,9 @@ impl Chunk {
 
     /// Gives a Free chunk a state, and the blocks of these bytes and marks (Open-Channel SSD Specification
     /// 2.0, Chunk states and write pointer).
+    ///
+    /// `bytes` has a sector for each of `marks`, of which there are a multiple of WS_MIN: none for Free and
+    /// Offline, from 1 to below CLBA for Open, up to CLBA for Closed.
     pub fn restore(&mut self, state: ChunkState, bytes: &[u8], marks: &[Mark])
         requires free { self.old.chunk.state ≡ ChunkState.Free }
         requires whole { length bytes.now ≡ length marks.now * self.old.shape.sector }

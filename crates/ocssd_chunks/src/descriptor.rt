@@ -25,7 +25,7 @@ pub struct Descriptor {
 }
 
 impl Descriptor {
-    /// Writes the one spelling, where bytes 3 to 7 are 0. The write pointer must be one that
+    /// Writes the one spelling to 32 bytes, where bytes 3 to 7 are 0. The write pointer must be one that
     /// `read_descriptor` doesn't refuse (Open-Channel SSD Specification 2.0, Chunk descriptor).
     pub fn write(&self, out: &mut [u8])
         requires size { length out.old ≡ 32 }

@@ -12,7 +12,8 @@ impl Geometry {
     /// The number of a block's address: its group, parallel unit, chunk and block from the most significant
     /// end, each in its length in bits (Open-Channel SSD Specification 2.0, Logical block address).
     ///
-    /// It is below 2 to the sum of the lengths, and no other address in range has it.
+    /// Each field of the address is below its count. The number is below 2 to the sum of the lengths, and
+    /// no other address in range has it.
     pub fn pack(&self, a: Address) -> u64
         requires accepted { IsGeometry self.now }
         requires address { IsAddress (numbers_of self.now) a }

@@ -90,8 +90,8 @@ impl Geometry {
         }
     }
 
-    /// Writes the one spelling of an accepted geometry: its numbers at their places, and 0 between them.
-    /// `read` gives the geometry back.
+    /// Writes the one spelling of an accepted geometry to 4096 bytes: its numbers at their places, and 0
+    /// between them. `read` gives the geometry back.
     pub fn write(&self, out: &mut [u8])
         requires accepted { IsGeometry self.now }
         requires size { length out.old ≡ 4096 }
