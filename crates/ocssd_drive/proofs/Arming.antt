@@ -8,10 +8,11 @@ use native.Mathlib.Decide.{dec_le}
 use Rattle.atomic_table.specs.Seated.{TableId}
 use Rattle.unit_port.specs.declared.armed.FaultPlan.{FaultPlan}
 use Rattle.unit_port.specs.declared.armed.Fuse.{Fuse}
-use Rattle.ocssd_drive.specs.Units.{WornUnit}
+use Rattle.ocssd_drive.specs.StopWord.{SeatView}
+use Rattle.ocssd_drive.specs.Units.{WornUnit, with_arms}
 use Rattle.ocssd_drive.specs.declared.journal.Arming.{Arming}
 use Rattle.ocssd_drive.specs.Journal.{word_of}
-use Rattle.ocssd_drive.specs.Drive.{AreArmings, armed_unit, armed_units}
+use Rattle.ocssd_drive.specs.Drive.{AreArmings, armed_unit, armed_units, seat_for}
 use Rattle.ocssd_drive.proofs.Lists.{same_lists}
 use Rattle.ocssd_drive.proofs.Changing.{IsChanging, changed_if, as_it_was, one_changed, all_changed, later}
 
@@ -80,7 +81,7 @@ installed_within plans fuse all left fewer old units a at h left_is at_is count 
     omega (arith, length-append left h.behind, length-append fewer (a ∷ []), ap length h.all_is, ap length left_is)
 
 pub one_installed : (plans : List FaultPlan) (fuse : Option Fuse) (all left fewer : List Arming) (old units : List WornUnit) (a : Arming) (at : ℕ) (d new : WornUnit) → IsInstalling plans fuse all left old units → left ≡ fewer ++ a ∷ [] → at ≡ length fewer
-    → at < length units → ((word : Option TableId) → word_of a.stop ≡ word → new ≡ arm_at plans fuse word at (slice_index_or units at d)) → IsInstalling plans fuse all fewer old (slice_set units at new)
+    → at < length units → ((word : Option TableId) → word_of a.stop ≡ word → a.stop ≡ seat_for fuse word at → new ≡ arm_at plans fuse word at (slice_index_or units at d)) → IsInstalling plans fuse all fewer old (slice_set units at new)
 one_installed plans fuse all left fewer old units a at d new h left_is at_is within is = record {
   behind = a ∷ h.behind;
   all_is = h.all_is ∙ ap (λ (xs : List Arming). xs ++ h.behind) left_is ∙ append_assoc fewer (a ∷ []) h.behind;
@@ -88,9 +89,16 @@ one_installed plans fuse all left fewer old units a at d new h left_is at_is wit
       let more : length left ≡ at + 1 = omega (arith, length-append fewer (a ∷ []), ap length left_is) in
       subst (λ (k : ℕ). IsArming plans fuse word old k (slice_set units at new)) at_is
       (one_armed plans fuse word old units at d new (subst (λ (k : ℕ). IsArming plans fuse word old k units) more (h.armed word each)) within
-      (is word (each at a (last_left plans fuse all left fewer old units a at h left_is at_is)).seat));
+      (is word (each at a (last_left plans fuse all left fewer old units a at h left_is at_is)).word_is (each at a (last_left plans fuse all left fewer old units a at h left_is at_is)).seat));
 }
 
 pub all_installed : (plans : List FaultPlan) (fuse : Option Fuse) (all left : List Arming) (old units : List WornUnit) → IsInstalling plans fuse all left old units → length left ≡ 0
     → (word : Option TableId) → AreArmings plans fuse word all → units ≡ armed_units plans fuse word old
 all_installed plans fuse all left old units h none word each = all_armed plans fuse word old units (subst (λ (k : ℕ). IsArming plans fuse word old k units) none (h.armed word each))
+
+-- the unit with this seat is armed as the arming says
+pub armed_as : (plans : List FaultPlan) (fuse : Option Fuse) (word : Option TableId) (at : ℕ) (seat : Option SeatView) (x new : WornUnit) → word_of seat ≡ word → seat ≡ seat_for fuse word at
+    → new ≡ with_arms (record { unit = at; plans = plans; fuse = fuse; word = word_of seat; since = length x.unit.log }) seat x → new ≡ arm_at plans fuse word at x
+armed_as plans fuse word at seat x new word_is seat_is is =
+    subst (λ (w : Option TableId). new ≡ with_arms (record { unit = at; plans = plans; fuse = fuse; word = w; since = length x.unit.log }) (seat_for fuse word at) x) word_is
+    (subst (λ (s : Option SeatView). new ≡ with_arms (record { unit = at; plans = plans; fuse = fuse; word = word_of seat; since = length x.unit.log }) s x) seat_is is)

@@ -5,7 +5,7 @@ use Rattle.unit_port.specs.declared.armed.CommandKind.{CommandKind}
 use Rattle.unit_port.specs.declared.armed.Fuse.{Fuse}
 use Rattle.ocssd_drive.specs.declared.fault.Fault.TheVariants as faults
 use Rattle.ocssd_drive.specs.Faults.{first_fault, fuse_cut, is_change, is_failing, is_stopping, plan_fault}
-use Rattle.ocssd_drive.specs.Journal.{has_fuse_at}
+use Rattle.ocssd_drive.specs.Faults.{has_fuse_at}
 
 -- the stop word was set before
 pub was_stopped : (found : Bool) (cut plan : Option ℕ) → faults.Stopped ≡ (if found then faults.Stopped else first_fault cut (plan_fault plan)) → found ≡ true

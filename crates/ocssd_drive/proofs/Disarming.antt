@@ -2,7 +2,8 @@
 use Rattle.std.proofs.Common.{◌≡◌, ◌≢◌, ℕ, Bool, true, false, ◌+◌, ◌<◌, List, length, map, sym, ap, ◌∙◌, subst, arith, Some, slice_get, slice_set, slice_index_or}
 use Rattle.std.proofs.lemmas.Option.{slice_get-map, slice_get_within}
 use native.Mathlib.Decide.{ℕ_discrete}
-use Rattle.ocssd_drive.specs.Journal.{IsCalm, fuse_is_at}
+use Rattle.ocssd_drive.specs.Journal.{IsCalm}
+use Rattle.ocssd_drive.specs.Faults.{fuse_is_at}
 use Rattle.ocssd_drive.specs.Units.{WornUnit, disarmed}
 use Rattle.ocssd_drive.proofs.Lists.{same_lists, some_same}
 use Rattle.ocssd_drive.proofs.Changing.{IsChanging, none_changed, one_changed, same_changed, all_changed, still_old, read_at}

@@ -3,28 +3,36 @@ use Rattle.std.proofs.Common.{◌≡◌, ℕ, zero, suc, Bool, true, false, ltb,
 use Rattle.std.specs.List.{AllByRecursion, enumerate_from}
 use Rattle.std.specs.Vec.{with_items}
 use Rattle.std.specs.Option.{option_map}
-use Rattle.std.proofs.lemmas.List.{with_items_is}
+use Rattle.std.proofs.Math.Nat.{zero-mod}
+use Rattle.std.proofs.lemmas.List.{length-replicate, with_items_is}
 use Rattle.std.proofs.lemmas.Option.{none-some}
 use Rattle.atomic_table.specs.Seated.{TableId}
 use Rattle.pblk_model.specs.declared.shape.Shape.{Shape}
+use Rattle.pblk_model.specs.Chunk.{IsChunk, free_chunk}
+use Rattle.unit_port.specs.Armed.{Armed}
+use Rattle.ocssd_drive.specs.StopWord.{SeatView}
 use Rattle.unit_port.specs.declared.armed.FaultPlan.{FaultPlan}
 use Rattle.unit_port.specs.declared.armed.Fuse.{Fuse}
-use Rattle.ocssd_drive.specs.Units.{WornUnit, disarmed, new_unit}
-use Rattle.ocssd_drive.specs.Drive.{AreArmedTogether, DriveView, IsArmedWith, IsWhole, armed_unit, armed_units, fitting_fuse, shape_of, with_units}
+use Rattle.ocssd_drive.specs.Units.{WornUnit, disarmed, new_unit, with_arms}
+use Rattle.ocssd_drive.specs.Drive.{AreArmedTogether, DriveView, HasWord, IsUnitOf, IsArmedWith, IsWhole, armed_unit, armed_units, fitting_fuse, shape_of, with_units}
 use Rattle.ocssd_drive.proofs.Arming.{get_enumerated}
 use Rattle.ocssd_drive.proofs.Lists.{some_same}
 
--- units of a shape
+-- units of a drive of this shape
 abbrev pub HaveShape : Shape → List WornUnit → Type 0
-HaveShape s units = AllByRecursion (λ (u : WornUnit). u.unit.shape ≡ s) units
+HaveShape s units = AllByRecursion (IsUnitOf s) units
+
+-- with other arms a unit is still one of its drive
+still_of : (s : Shape) (a : Armed) (seat : Option SeatView) (u : WornUnit) → IsUnitOf s u → IsUnitOf s (with_arms a seat u)
+still_of s a seat u h = record { shape = h.shape; fits = record { count = h.fits.count; chunks = h.fits.chunks } }
 
 pub shapes_disarmed : (s : Shape) (units : List WornUnit) → HaveShape s units → HaveShape s (map disarmed units)
 shapes_disarmed s [] h = tt
-shapes_disarmed s (u ∷ units) h = (h.0, shapes_disarmed s units h.1)
+shapes_disarmed s (u ∷ units) h = (still_of s _ _ u h.0, shapes_disarmed s units h.1)
 
 shapes_enumerated : (plans : List FaultPlan) (fuse : Option Fuse) (word : Option TableId) (s : Shape) (n : ℕ) (units : List WornUnit) → HaveShape s units → HaveShape s (map (armed_unit plans fuse word) (enumerate_from n units))
 shapes_enumerated plans fuse word s n [] h = tt
-shapes_enumerated plans fuse word s n (u ∷ units) h = (h.0, shapes_enumerated plans fuse word s (n + 1) units h.1)
+shapes_enumerated plans fuse word s n (u ∷ units) h = (still_of s _ _ u h.0, shapes_enumerated plans fuse word s (n + 1) units h.1)
 
 pub shapes_armed : (plans : List FaultPlan) (fuse : Option Fuse) (word : Option TableId) (s : Shape) (units : List WornUnit) → HaveShape s units → HaveShape s (armed_units plans fuse word units)
 shapes_armed plans fuse word s units h = shapes_enumerated plans fuse word s 0 units h
@@ -50,15 +58,16 @@ whole_with d new h same shapes = record {
   geometry_is = h.geometry_is;
   accepted = h.accepted;
   count = same ∙ h.count;
-  shapes = shapes;
+  fit = shapes;
 }
 
 armed_with : (plans : List FaultPlan) (fuse : Option Fuse) (word : Option TableId) (i : ℕ) (o : Option WornUnit) (u : WornUnit) → option_map (λ (x : WornUnit). armed_unit plans fuse word (i, x)) o ≡ Some u → IsArmedWith plans fuse word i u.unit.armed
 armed_with plans fuse word i None u e = absurd (none-some u e)
 armed_with plans fuse word i (Some x) u e = subst (λ (v : WornUnit). IsArmedWith plans fuse word i v.unit.armed) (some_same (armed_unit plans fuse word (i, x)) u e) (record { number = refl; with_plans = refl; with_fuse = refl; with_word = refl })
 
-pub armed_together : (plans : List FaultPlan) (fuse : Option Fuse) (word : Option TableId) (units : List WornUnit) → fuse ≡ fitting_fuse (length units) fuse → AreArmedTogether (armed_units plans fuse word units)
-armed_together plans fuse word units fits = record {
+pub armed_together : (plans : List FaultPlan) (fuse : Option Fuse) (word : Option TableId) (units : List WornUnit) → HasWord fuse word → fuse ≡ fitting_fuse (length units) fuse → AreArmedTogether (armed_units plans fuse word units)
+armed_together plans fuse word units has_word fits = record {
+  has_word = has_word;
   plans = plans;
   fuse = fuse;
   word = word;
@@ -75,7 +84,17 @@ pub fits_again : (n : ℕ) (given fuse : Option Fuse) → fuse ≡ fitting_fuse 
 fits_again n None fuse is = rw is refl
 fits_again n (Some f) fuse is = is ∙ twice n f (ltb f.unit n) refl ∙ ap (fitting_fuse n) (sym is)
 
--- new units have the shape that they are made for
+free_fits : (s : Shape) → IsChunk s free_chunk
+free_fits s = record { place = refl; multiple = zero-mod s.ws_min; blocks = tt }
+
+free_all : (s : Shape) (n : ℕ) → AllByRecursion (IsChunk s) (replicate n free_chunk)
+free_all s zero = tt
+free_all s (suc n) = (free_fits s, free_all s n)
+
+new_of : (s : Shape) → IsUnitOf s (new_unit s)
+new_of s = record { shape = refl; fits = record { count = length-replicate s.chunks free_chunk; chunks = free_all s s.chunks } }
+
+-- new units are of the shape that they are made for
 pub shapes_new : (s : Shape) (n : ℕ) → HaveShape s (replicate n (new_unit s))
 shapes_new s zero = tt
-shapes_new s (suc n) = (refl, shapes_new s n)
+shapes_new s (suc n) = (new_of s, shapes_new s n)

@@ -8,7 +8,8 @@ use Rattle.unit_port.specs.declared.armed.Fuse.{Fuse}
 use Rattle.unit_port.specs.Armed.{Armed, has_stopped}
 use Rattle.unit_port.specs.Unit.{IsStopped}
 use Rattle.ocssd_drive.specs.StopWord.{SeatView}
-use Rattle.ocssd_drive.specs.Journal.{IsCalm, SeatSays, SeatTells, fuse_is_at}
+use Rattle.ocssd_drive.specs.Journal.{IsCalm, SeatSays, SeatTells}
+use Rattle.ocssd_drive.specs.Faults.{fuse_is_at}
 use Rattle.ocssd_drive.specs.Units.{WornUnit, disarmed}
 use Rattle.ocssd_drive.specs.Drive.{AreArmedTogether, FuseFell, KnowsMore, fitting_fuse}
 use Rattle.ocssd_drive.proofs.Lists.{some_same}
@@ -202,6 +203,7 @@ stopped_by_fuse old at i first units keeper set h past found fell j u there stop
       is = fused.fuses j u there;
       unit = fused.unit;
       there = ap (slice_get old) fused.here ∙ fused.there;
+      counted = (fused.says.fell (sym h.knows.fell ∙ keeper_fell)).2;
       fell = (fused.says.fell (sym h.knows.fell ∙ keeper_fell)).1;
     }
 

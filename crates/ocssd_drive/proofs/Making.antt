@@ -8,7 +8,7 @@ use Rattle.unit_port.specs.declared.armed.FaultPlan.{FaultPlan}
 use Rattle.unit_port.specs.declared.armed.Fuse.{Fuse}
 use Rattle.ocssd_drive.specs.StopWord.{SeatView, keeper}
 use Rattle.ocssd_drive.specs.Journal.{FitsArming, word_of}
-use Rattle.ocssd_drive.specs.Drive.{AreArmings, HasTallies, IsArmingOf, IsKeeper, fitting_fuse, other_seat_of}
+use Rattle.ocssd_drive.specs.Drive.{AreArmings, HasTallies, HasWord, IsArmingOf, IsKeeper, fitting_fuse, other_seat_of, seat_for}
 use Rattle.ocssd_drive.specs.declared.journal.Arming.{Arming}
 use Rattle.ocssd_drive.proofs.Lists.{some_same, get_set_same, get_set_other}
 
@@ -47,6 +47,13 @@ other_fits i f s apart = (sym (ne_eqb f.unit i (λ e. apart (sym e))), refl, ref
 keeper_fits : (f : Fuse) (s : SeatView) → s.view ≡ keeper → FitsArming f.unit (Some f) (Some s)
 keeper_fits f s is = rw is (sym (eq-eqb f.unit f.unit refl), refl, refl)
 
+-- and it is the one that the arming gives
+other_seat_is : (i : ℕ) (f : Fuse) (s : SeatView) → i ≢ f.unit → other_seat_of (Some s) ≡ seat_for (Some f) (Some s.word) i
+other_seat_is i f s apart = rw (ne_eqb f.unit i (λ e. apart (sym e))) refl
+
+keeper_seat : (f : Fuse) (s : SeatView) → s.view ≡ keeper → Some s ≡ seat_for (Some f) (Some s.word) f.unit
+keeper_seat f s is = rw (eq-eqb f.unit f.unit refl, ← is) refl
+
 -- what each is armed with, once the fuse's unit has the seat that made the word
 abbrev pub with_seat : Option SeatView → Arming → Arming
 with_seat seat a = record { programs = a.programs; fetches = a.fetches; resets = a.resets; stop = seat }
@@ -60,7 +67,8 @@ placed_at plans f s n armings x h is here i (yes same) a there =
     subst (λ (b : Arming). IsArmingOf plans (Some f) (Some s.word) i b) a_is (rw same record {
       tallies = record { programs = tallies.programs; fetches = tallies.fetches; resets = tallies.resets };
       stop = keeper_fits f s is;
-      seat = refl;
+      word_is = refl;
+      seat = keeper_seat f s is;
     })
 placed_at plans f s n armings x h is here i (no apart) a there =
     let old : slice_get armings i ≡ Some a = sym (get_set_other armings f.unit i (with_seat (Some s) x) apart) ∙ there in
@@ -68,35 +76,38 @@ placed_at plans f s n armings x h is here i (no apart) a there =
     record {
       tallies = made.0;
       stop = subst (λ (seat : Option SeatView). FitsArming i (Some f) seat) (sym made.1) (other_fits i f s apart);
-      seat = ap word_of made.1;
+      word_is = ap word_of made.1;
+      seat = made.1 ∙ other_seat_is i f s apart;
     }
 
 pub keeper_placed : (plans : List FaultPlan) (fuse : Option Fuse) (f : Fuse) (seat : Option SeatView) (n : ℕ) (armings : List Arming) (x : Arming) → AreOthers plans seat n armings → IsKeeper fuse seat → fuse ≡ Some f → f.unit < n → x ≡ slice_index_or armings f.unit x
-    → (word : Option TableId) × AreArmings plans fuse word (slice_set armings f.unit (with_seat seat x))
+    → (word : Option TableId) × HasWord fuse word × AreArmings plans fuse word (slice_set armings f.unit (with_seat seat x))
 keeper_placed plans None f seat n armings x h is some within read = absurd (none-some f some)
 keeper_placed plans (Some g) f None n armings x h is some within read = absurd is
 keeper_placed plans (Some g) f (Some s) n armings x h is some within read =
     let here : slice_get armings f.unit ≡ Some x = slice_get-get_or armings f.unit x (omega (arith, h.count)) ∙ ap Some (sym read) in (
       Some s.word,
+      refl,
       subst (λ (k : Fuse). AreArmings plans (Some k) (Some s.word) (slice_set armings f.unit (with_seat (Some s) x))) (sym (some_same g f some))
           (λ i a. placed_at plans f s n armings x h is here i (ℕ_discrete i f.unit) a),
     )
 
 pub without_keeper : (plans : List FaultPlan) (fuse : Option Fuse) (seat : Option SeatView) (n : ℕ) (armings : List Arming) → AreOthers plans seat n armings → IsKeeper fuse seat → fuse ≡ None
-    → (word : Option TableId) × AreArmings plans fuse word armings
+    → (word : Option TableId) × HasWord fuse word × AreArmings plans fuse word armings
 without_keeper plans (Some f) seat n armings h is none = absurd (none-some f (sym none))
 without_keeper plans None (Some s) n armings h is none = absurd is
 without_keeper plans None None n armings h is none = (
   None,
+  refl,
   λ i a there.
       let made = h.each i a there in
-      record { tallies = made.0; stop = subst (λ (seat : Option SeatView). FitsArming i None seat) (sym made.1) tt; seat = ap word_of made.1 },
+      record { tallies = made.0; stop = subst (λ (seat : Option SeatView). FitsArming i None seat) (sym made.1) tt; word_is = ap word_of made.1; seat = made.1 },
 )
+
+below_if : (n : ℕ) (fuse : Option Fuse) (f : Fuse) → fuse ≡ fitting_fuse n fuse → fuse ≡ Some f → Dec (f.unit < n) → f.unit < n
+below_if n fuse f fits some (yes below) = below
+below_if n fuse f fits some (no past) = absurd (let e : fitting_fuse n fuse ≡ None = rw (some, le-ltb f.unit n (omega (arith, past))) refl in none-some f (sym (fits ∙ e) ∙ some))
 
 -- a fuse that fits falls at a unit of the drive
 pub fits_below : (n : ℕ) (fuse : Option Fuse) (f : Fuse) → fuse ≡ fitting_fuse n fuse → fuse ≡ Some f → f.unit < n
-fits_below n fuse f fits some = below (dec_lt f.unit n)
-  where
-    below : Dec (f.unit < n) → f.unit < n
-    below (yes b) = b
-    below (no past) = absurd (let e : fitting_fuse n fuse ≡ None = rw (some, le-ltb f.unit n (omega (arith, past))) refl in none-some f (sym (fits ∙ e) ∙ some))
+fits_below n fuse f fits some = below_if n fuse f fits some (dec_lt f.unit n)

@@ -1,5 +1,5 @@
 -- What a unit's seat at the stop word says of a log with one more event.
-use Rattle.std.proofs.Common.{◌≡◌, ◌≤◌, if◌then◌else◌, ◌||◌, ℕ, Bool, true, false, List, [], ◌∷◌, ◌++◌, refl, sym, ◌∙◌, arith, length, inl, inr, Option, None, Some}
+use Rattle.std.proofs.Common.{◌≡◌, ◌<◌, ◌≤◌, if◌then◌else◌, ◌||◌, ℕ, Bool, true, false, List, [], ◌∷◌, ◌++◌, refl, sym, ◌∙◌, arith, length, inl, inr, Option, None, Some}
 use Rattle.pblk_model.specs.UnitLog.{UnitEvent}
 use Rattle.unit_port.specs.declared.armed.CommandKind.{CommandKind}
 use Rattle.unit_port.specs.declared.armed.Fuse.{Fuse}
@@ -9,7 +9,7 @@ use Rattle.ocssd_drive.specs.declared.fault.Fault.TheVariants as faults
 use Rattle.ocssd_drive.specs.Faults.{changes_of, fault_of, first_fault, fuse_cut, is_failing, is_stopping, kind_of, plan_fault}
 use Rattle.ocssd_drive.specs.StopWord.{SeatView}
 use Rattle.ocssd_drive.specs.Journal.{IsCalm, SeatSays, SeatTells, SeatTellsBy}
-use Rattle.ocssd_drive.specs.Arming.{finds, seat_after, view_after}
+use Rattle.ocssd_drive.specs.Arming.{IsLoaded, finds, seat_after, view_after}
 use Rattle.ocssd_drive.proofs.Befalls.{was_stopped, falls_now, never_fails, never_stops}
 use Rattle.ocssd_drive.proofs.Counted.{changes_of-more, changes_of-grows}
 use Rattle.ocssd_drive.proofs.Events.{events_since-add, has_failed-add, has_stopped-add}
@@ -18,16 +18,24 @@ or_left : (x y : Bool) → (x || y) ≡ true → y ≡ false → x ≡ true
 or_left true y either none = refl
 or_left false y either none = cc
 
+or_true : (x : Bool) → (x || true) ≡ true
+or_true true = refl
+or_true false = refl
+
+unfound : (found : Bool) → (found ≡ true → false ≡ true) → (found || false) ≡ false
+unfound true h = sym (h refl)
+unfound false h = refl
+
 module _ (a : Armed) (log : List UnitEvent) (event : UnitEvent) (since : a.since ≤ length log) where
   stopped_before : is_stop event.outcome ≡ false → has_stopped a (log ++ event ∷ []) ≡ true → has_stopped a log ≡ true
   stopped_before not_now stopped = or_left _ _ (sym (has_stopped-add a log event since) ∙ stopped) not_now
 
   -- the fuse fell before
-  fell_before : (f : Fuse) (s : SeatView) → SeatSays a log f s → s.view.fell ≡ true → (s.view.fuse ≡ true) × (f.nth ≤ changes_of (events_since a (log ++ event ∷ [])))
+  fell_before : (f : Fuse) (s : SeatView) → SeatSays a log f s → s.view.fell ≡ true → (s.view.fuse ≡ true) × (f.nth ≤ changes_of (events_since a (log ++ event ∷ []))) × (0 < f.nth) × (has_stopped a (log ++ event ∷ []) ≡ true)
   fell_before f s old fell =
       let grows = changes_of-grows (events_since a log) event in
       let before = old.fell fell in
-      (before.0, rw (events_since-add a log event since) (omega arith))
+      (before.0, rw (events_since-add a log event since) (omega arith), before.2, rw (has_stopped-add a log event since, before.3) refl)
 
   -- a command that isn't stopped
   says_still : (f : Fuse) (s : SeatView) → is_stop event.outcome ≡ false → SeatSays a log f s → SeatSays a (log ++ event ∷ []) f s
@@ -52,7 +60,7 @@ module _ (a : Armed) (log : List UnitEvent) (event : UnitEvent) (since : a.since
         word = old.word;
         fuse = old.fuse;
         stopped = λ stopped. inr (own, refl);
-        fell = λ fell. (own, rw (events_since-add a log event since) (omega (arith, falls.nth)));
+        fell = λ fell. (own, rw (events_since-add a log event since) (omega (arith, falls.nth)), omega (arith, falls.nth), rw (has_stopped-add a log event since, stops) (or_true _));
       }
   says_more f s kind plan faults.Stopped of stops is old = record {
     word = old.word;
@@ -94,3 +102,12 @@ module _ (a : Armed) (log : List UnitEvent) (event : UnitEvent) (since : a.since
     fails = still_unfailed kind (finds seat) fault fails is old.fails;
     stops = still_unstopped kind seat fault stops is tells old.stops;
   }
+
+-- a load gives what the seat says afterwards
+pub loaded_finds : (old new : Option SeatView) (result : Bool) → IsLoaded old new result → finds new ≡ result
+loaded_finds None new result h = rw (h.0, h.1) refl
+loaded_finds (Some s) new true h = rw h.0 (or_true s.view.found)
+loaded_finds (Some s) new false h = rw h.0 (unfound s.view.found h.1)
+
+pub loaded_again : (old new : Option SeatView) (result : Bool) → IsLoaded old new result → IsLoaded old new (finds new)
+loaded_again old new result h = rw (loaded_finds old new result h) h

@@ -2,8 +2,8 @@
 use Rattle.std.proofs.Common.{◌≡◌, ◌≢◌, ◌||◌, ◌==◌, ℕ, zero, suc, Bool, true, false, if◌then◌else◌, List, [], ◌∷◌, ◌++◌, set, slice_index, slice_set, refl, sym, subst, ◌∙◌, ⊎_elim}
 use mathlib.Core.Option.{none, some, some-injective, some-ne-none}
 use lib.ListN.{get_elem?}
-use Rattle.atomic_table.specs.Table.{Me, step, opening, Allows, Splits, Joins, keeps}
-use Rattle.atomic_table.proofs.Lists.{at_set, at_snoc, set_else}
+use Rattle.atomic_table.specs.Table.{State, Me, step, opening, Allows, Splits, Joins, keeps}
+use Rattle.atomic_table.proofs.Lists.{at_set, at_snoc, at_longer, set_else}
 use Rattle.ocssd_drive.specs.declared.stop_word.StopView.{StopView}
 use Rattle.ocssd_drive.specs.StopWord.{FitsWord, IsStopWord, Looks, Blows, keeper, other_unit, looked, blown, joined}
 
@@ -84,11 +84,32 @@ opening_fits : AllFit 0 false (keeper ∷ [])
 opening_fits zero v e = subst (λ (w : StopView). FitsWord 0 false 0 w) (some-injective keeper v e) keeper_fits
 opening_fits (suc seat) v e = absurd (some-ne-none v (sym e))
 
+-- the owner's seat is there, and is the fuse's unit's
+abbrev HasKeeper : ℕ → List StopView → Type 0
+HasKeeper owner views = (k : StopView) × (get_elem? views owner ≡ some k) × (k.fuse ≡ true)
+
+-- one seat knows something else, and still is the fuse's unit where it was
+set_keeper : (views : List StopView) (id owner : ℕ) (old new k : StopView) → get_elem? views id ≡ some old → (old.fuse ≡ true → new.fuse ≡ true)
+    → get_elem? views owner ≡ some k → k.fuse ≡ true → HasKeeper owner (set views id new)
+set_keeper [] id owner old new k here stays there fuse = absurd (some-ne-none k (sym there))
+set_keeper (x ∷ xs) zero zero old new k here stays there fuse =
+    let same : k ≡ old = sym (some-injective x k there) ∙ some-injective x old here in
+    (new, refl, stays (subst (λ (w : StopView). w.fuse ≡ true) same fuse))
+set_keeper (x ∷ xs) zero (suc owner) old new k here stays there fuse = (k, there, fuse)
+set_keeper (x ∷ xs) (suc id) zero old new k here stays there fuse = (k, there, fuse)
+set_keeper (x ∷ xs) (suc id) (suc owner) old new k here stays there fuse = set_keeper xs id owner old new k here stays there fuse
+
+one_knows : (s : State (Unit {0}) StopView) (id : ℕ) (old new : StopView) (holds : IsStopWord s) → get_elem? s.views id ≡ some old → (old.fuse ≡ true → new.fuse ≡ true) → HasKeeper holds.owner (set s.views id new)
+one_knows s id old new holds here stays = set_keeper s.views id holds.owner old new holds.keeper_view here stays holds.keeper_there holds.is_fuse
+
 pub opening_holds : IsStopWord (opening (0 ∷ []) [] keeper)
 opening_holds = record {
   owner = 0;
   set = false;
   word = refl;
+  keeper_view = keeper;
+  keeper_there = refl;
+  is_fuse = refl;
   views = opening_fits;
 }
 
@@ -96,7 +117,8 @@ pub load_allowed : (slots id : ℕ) (me : Me (Unit {0}) StopView) → Allows IsS
 load_allowed slots id me s holds count here range =
     let number : ℕ = slice_index s.words 0 in
     let tells : (number == 1) ≡ holds.set = number_tells s.words holds.set holds.word in
-    let fits : FitsWord holds.owner holds.set id me.0 = holds.views id me.0 here in (
+    let fits : FitsWord holds.owner holds.set id me.0 = holds.views id me.0 here in
+    let kept : HasKeeper holds.owner (set s.views id (looked me.0 (number == 1))) = one_knows s id me.0 (looked me.0 (number == 1)) holds here (λ e. e) in (
       looked me.0 (number == 1),
       keeps,
       tt,
@@ -104,41 +126,60 @@ load_allowed slots id me s holds count here range =
         owner = holds.owner;
         set = holds.set;
         word = load_stays s.words (if holds.set then 1 else 0) holds.word;
+        keeper_view = kept.0;
+        keeper_there = kept.1;
+        is_fuse = kept.2;
         views = set_fits holds.owner holds.set id (looked me.0 (number == 1)) s.views holds.views (looked_fits holds.owner holds.set (number == 1) id me.0 tells fits);
       },
       (refl, (λ e. tells ∙ fits.found e), (λ e. tells ∙ sym (fits.fell e))),
     )
 
 pub store_allowed : (slots id : ℕ) (me : Me (Unit {0}) StopView) → me.0.fuse ≡ true → Allows IsStopWord slots id me 0 (λ _. 1) (λ _. Blows (step slots 0 1 0 none) me 1)
-store_allowed slots id me fuse s holds count here range = (
-  blown me.0,
-  keeps,
-  tt,
-  record {
-    owner = holds.owner;
-    set = true;
-    word = store_sets s.words (if holds.set then 1 else 0) 1 holds.word;
-    views = all_blown holds.owner holds.set id me.0 s.views fuse here holds.views;
-  },
-  refl,
-)
+store_allowed slots id me fuse s holds count here range =
+    let kept : HasKeeper holds.owner (set s.views id (blown me.0)) = one_knows s id me.0 (blown me.0) holds here (λ e. e) in (
+      blown me.0,
+      keeps,
+      tt,
+      record {
+        owner = holds.owner;
+        set = true;
+        word = store_sets s.words (if holds.set then 1 else 0) 1 holds.word;
+        keeper_view = kept.0;
+        keeper_there = kept.1;
+        is_fuse = kept.2;
+        views = all_blown holds.owner holds.set id me.0 s.views fuse here holds.views;
+      },
+      refl,
+    )
 
 pub split_allowed : (id : ℕ) (v : StopView) → Splits IsStopWord id v v other_unit
-split_allowed id v s holds here = record {
-  owner = holds.owner;
-  set = holds.set;
-  word = holds.word;
-  views = more_fits holds.owner holds.set other_unit (set s.views id v)
-      (set_fits holds.owner holds.set id v s.views holds.views (holds.views id v here)) (other_fits holds.owner holds.set);
-}
-
-pub join_allowed : (id other : ℕ) (v w : StopView) → Joins IsStopWord id v other w (joined v w) other_unit
-join_allowed id other v w s holds here ne there =
-    let was : get_elem? s.views other ≡ some w = sym (set_else s.views id other (joined v w) ne) ∙ there in
+split_allowed id v s holds here =
+    let kept : HasKeeper holds.owner (set s.views id v) = one_knows s id v v holds here (λ e. e) in
     record {
       owner = holds.owner;
       set = holds.set;
       word = holds.word;
+      keeper_view = kept.0;
+      keeper_there = at_longer (set s.views id v) (other_unit ∷ []) holds.owner kept.0 kept.1;
+      is_fuse = kept.2;
+      views = more_fits holds.owner holds.set other_unit (set s.views id v)
+          (set_fits holds.owner holds.set id v s.views holds.views (holds.views id v here)) (other_fits holds.owner holds.set);
+    }
+
+-- the spent seat isn't the fuse's unit's
+pub join_allowed : (id other : ℕ) (v w : StopView) → w.fuse ≡ false → Joins IsStopWord id v other w (joined v w) other_unit
+join_allowed id other v w not_fuse s holds here ne there =
+    let was : get_elem? s.views other ≡ some w = sym (set_else s.views id other (joined v w) ne) ∙ there in
+    let kept : HasKeeper holds.owner (set s.views id (joined v w)) = one_knows s id v (joined v w) holds here (λ e. e) in
+    let still : HasKeeper holds.owner (set (set s.views id (joined v w)) other other_unit) =
+    set_keeper (set s.views id (joined v w)) other holds.owner w other_unit kept.0 there (λ e. sym not_fuse ∙ e) kept.1 kept.2 in
+    record {
+      owner = holds.owner;
+      set = holds.set;
+      word = holds.word;
+      keeper_view = still.0;
+      keeper_there = still.1;
+      is_fuse = still.2;
       views = set_fits holds.owner holds.set other other_unit (set s.views id (joined v w))
           (set_fits holds.owner holds.set id (joined v w) s.views holds.views
           (joined_fits holds.owner holds.set id other v w (holds.views id v here) (holds.views other w was)))

@@ -15,7 +15,9 @@ use Rattle.unit_port.specs.Unit.{ModelUnit, IsFitUnit, Takes, Steps}
 use Rattle.ocssd_drive.specs.declared.fault.Fault.{Fault}
 use Rattle.ocssd_drive.specs.declared.fault.Fault.TheVariants as faults
 use Rattle.ocssd_drive.specs.declared.memory_unit.MemoryUnit.TheInside.{Inside}
-use Rattle.ocssd_drive.specs.Faults.{IsOutcomeBy, IsPlanned, fault_of, kind_of}
+use Rattle.ocssd_drive.specs.Faults.{fuse_is_at, IsOutcomeBy, fault_of, kind_of}
+use Rattle.ocssd_drive.specs.Arming.{IsLoaded, finds as found_by, seat_after}
+use Rattle.ocssd_drive.specs.Planned.{IsPlanned}
 use Rattle.ocssd_drive.specs.Journal.{JournalView}
 use Rattle.ocssd_drive.specs.Units.{IsChunkIn, TakesUnder, MeetsFault}
 use Rattle.ocssd_drive.specs.UnitFields.{IsSound, worn_unit}
@@ -25,13 +27,18 @@ use Rattle.ocssd_drive.proofs.UnitChunks.{IsFound, chunks_of, all_set, chunk_the
 pub record Finds (old : JournalView) (kind : CommandKind) (fault : Fault) (new : JournalView) : Type 0 where
   pub log : new.log ≡ old.log
   pub armed : new.armed ≡ old.armed
-  pub is : fault ≡ fault_of old.armed (events_since old.armed old.log) new.found kind
-  pub word : new.found ≡ true → IsSome old.armed.fuse
-  pub stays : has_stopped old.armed old.log ≡ true → new.found ≡ true
+  pub loaded : IsLoaded old.seat new.seat (found_by new.seat)
+  pub is : fault ≡ fault_of old.armed (events_since old.armed old.log) (found_by new.seat) kind
+  pub word : found_by new.seat ≡ true → IsSome old.armed.fuse
+  pub stays : has_stopped old.armed old.log ≡ true → found_by new.seat ≡ true
+  pub own : fuse_is_at old.armed ≡ true → found_by new.seat ≡ true → has_stopped old.armed old.log ≡ true
 
-pub finds : (old : JournalView) (kind : CommandKind) (fault : Fault) (new : JournalView) → (new.log ≡ old.log) × (new.armed ≡ old.armed) → fault ≡ fault_of new.armed (events_since new.armed new.log) new.found kind → (new.found ≡ true → IsSome new.armed.fuse)
-    → (has_stopped old.armed old.log ≡ true → new.found ≡ true) → Finds old kind fault new
-finds old kind fault new same is word stays = record {
+pub finds : (old : JournalView) (kind : CommandKind) (fault : Fault) (new : JournalView) → (new.log ≡ old.log) × (new.armed ≡ old.armed) → IsLoaded old.seat new.seat (found_by new.seat)
+    → fault ≡ fault_of new.armed (events_since new.armed new.log) (found_by new.seat) kind → (found_by new.seat ≡ true → IsSome new.armed.fuse)
+    → (has_stopped old.armed old.log ≡ true → found_by new.seat ≡ true) → (fuse_is_at old.armed ≡ true → found_by new.seat ≡ true → has_stopped old.armed old.log ≡ true) → Finds old kind fault new
+finds old kind fault new same loaded is word stays own = record {
+  own = own;
+  loaded = loaded;
   log = same.0;
   armed = same.1;
   is = rw (same.0, same.1) at is;
@@ -71,10 +78,13 @@ abbrev pub after : Inside → List DriveChunk → JournalView → ModelUnit
 after u chunks j = record { shape = u.shape; media = chunks_of chunks; log = j.log; armed = j.armed }
 
 pub planned : (u : Inside) (chunk : ℕ) (command : ChunkCommand) (fault : Fault) (outcome : UnitOutcome) (j next : JournalView) (chunks : List DriveChunk) → Finds u.journal (kind_of command) fault j → IsOutcomeBy u.shape command fault outcome
-    → next.log ≡ j.log ++ event_of chunk command outcome ∷ [] → IsPlanned (worn_unit u).unit chunk command (after u chunks next)
-planned u chunk command fault outcome j next chunks befalls by noted = record {
-  found = j.found;
+    → next.log ≡ j.log ++ event_of chunk command outcome ∷ [] → next.seat ≡ seat_after fault j.seat → IsPlanned (worn_unit u) chunk command (record { unit = after u chunks next; wear = u.wear.items; seat = next.seat })
+planned u chunk command fault outcome j next chunks befalls by noted seated = record {
+  looked = j.seat;
+  loaded = befalls.loaded;
+  seat = rw befalls.is at seated;
   has_word = befalls.word;
+  own = befalls.own;
   outcome = outcome;
   log = rw befalls.log at noted;
   by = rw befalls.is at by;

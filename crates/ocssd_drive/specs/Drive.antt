@@ -1,13 +1,14 @@
 -- A drive, and what its units are armed with together.
-use Rattle.std.specs.Prelude.{ℕ, true, ◌≡◌, ◌≤◌, List, map, length, replicate, slice_get, Option, Some, None, if◌then◌else◌, nat_lt}
+use Rattle.std.specs.Prelude.{ℕ, true, ◌≡◌, ◌==◌, ◌<◌, ◌≤◌, List, map, length, replicate, slice_get, Option, Some, None, if◌then◌else◌, nat_lt}
 use Rattle.std.specs.List.{AllByRecursion, enumerate_from}
-use Rattle.std.specs.Option.{option_map}
+use Rattle.std.specs.Option.{is_some, option_map}
 use Rattle.atomic_table.specs.Seated.{TableId}
 use Rattle.pblk_model.specs.declared.shape.Shape.{Shape}
 use Rattle.pblk_model.specs.Accepted.{IsAccepted}
 use Rattle.pblk_model.specs.Shape.{units}
 use Rattle.unit_port.specs.declared.armed.FaultPlan.{FaultPlan}
 use Rattle.unit_port.specs.declared.armed.Fuse.{Fuse}
+use Rattle.unit_port.specs.Unit.{IsFitUnit}
 use Rattle.unit_port.specs.Armed.{Armed, events_since}
 use Rattle.ocssd_geometry.specs.declared.geometry.Geometry.{Geometry}
 use Rattle.ocssd_geometry.specs.Numbers.{IsGeometry}
@@ -58,21 +59,31 @@ new_drive g sector capacity ring = let s = drive_shape g sector capacity ring in
   units = replicate (units s) (new_unit s);
 }
 
+-- a unit of a drive of this shape
+pub record IsUnitOf (s : Shape) (u : WornUnit) : Type 0 where
+  pub shape : u.unit.shape ≡ s
+  pub fits : IsFitUnit u.unit
+
 -- what every drive is: its geometry and its shape are accepted, and its units fit the shape
 pub record IsWhole (d : DriveView) : Type 0 where
   pub geometry_is : IsGeometry d.geometry
   pub accepted : IsAccepted (shape_of d)
   pub count : length d.units ≡ units (shape_of d)
-  pub shapes : AllByRecursion (λ (u : WornUnit). u.unit.shape ≡ shape_of d) d.units
+  pub fit : AllByRecursion (IsUnitOf (shape_of d)) d.units
 
 -- a fuse for a unit that the drive doesn't have counts as none
 abbrev pub fitting_fuse : ℕ → Option Fuse → Option Fuse
 fitting_fuse count None = None
 fitting_fuse count (Some f) = if nat_lt f.unit count then Some f else None
 
+-- the seat of the unit with this number, by this fuse at this word
+abbrev pub seat_for : Option Fuse → Option TableId → ℕ → Option SeatView
+seat_for None word unit = None
+seat_for (Some f) word unit = option_map (λ (w : TableId). record { word = w; view = if f.unit == unit then keeper else other_unit }) word
+
 -- a unit by its number, armed with these plans, this fuse and this word
 abbrev pub armed_unit : List FaultPlan → Option Fuse → Option TableId → ℕ × WornUnit → WornUnit
-armed_unit plans fuse word x = with_arms (record { unit = x.0; plans = plans; fuse = fuse; word = word; since = length x.1.unit.log }) x.1
+armed_unit plans fuse word x = with_arms (record { unit = x.0; plans = plans; fuse = fuse; word = word; since = length x.1.unit.log }) (seat_for fuse word x.0) x.1
 
 abbrev pub armed_units : List FaultPlan → Option Fuse → Option TableId → List WornUnit → List WornUnit
 armed_units plans fuse word units = map (armed_unit plans fuse word) (enumerate_from 0 units)
@@ -94,11 +105,16 @@ IsKeeper (Some f) (Some s) = s.view ≡ keeper
 abbrev pub other_seat_of : Option SeatView → Option SeatView
 other_seat_of seat = option_map (λ (s : SeatView). record { word = s.word; view = other_unit }) seat
 
+-- there is a stop word exactly where there is a fuse
+abbrev pub HasWord : Option Fuse → Option TableId → Type 0
+HasWord fuse word = is_some word ≡ is_some fuse
+
 -- what a unit with this number is to be armed with, by these plans, this fuse and this word
 pub record IsArmingOf (plans : List FaultPlan) (fuse : Option Fuse) (word : Option TableId) (unit : ℕ) (a : Arming) : Type 0 where
   pub tallies : HasTallies plans unit a
   pub stop : FitsArming unit fuse a.stop
-  pub seat : word_of a.stop ≡ word
+  pub word_is : word_of a.stop ≡ word
+  pub seat : a.stop ≡ seat_for fuse word unit
 
 abbrev pub AreArmings : List FaultPlan → Option Fuse → Option TableId → List Arming → Type 0
 AreArmings plans fuse word armings = (i : ℕ) (a : Arming) → slice_get armings i ≡ Some a → IsArmingOf plans fuse word i a
@@ -115,6 +131,7 @@ pub record AreArmedTogether (units : List WornUnit) : Type 0 where
   pub plans : List FaultPlan
   pub fuse : Option Fuse
   pub word : Option TableId
+  pub has_word : HasWord fuse word
   pub fits : fuse ≡ fitting_fuse (length units) fuse
   pub each : (i : ℕ) (u : WornUnit) → slice_get units i ≡ Some u → IsArmedWith plans fuse word i u.unit.armed
 
@@ -124,6 +141,7 @@ pub record FuseFell (units : List WornUnit) (a : Armed) : Type 0 where
   pub is : a.fuse ≡ Some fuse
   pub unit : WornUnit
   pub there : slice_get units fuse.unit ≡ Some unit
+  pub counted : 0 < fuse.nth
   pub fell : fuse.nth ≤ changes_of (events_since unit.unit.armed unit.unit.log)
 
 -- the same seat, which knows no less

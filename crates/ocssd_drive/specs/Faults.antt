@@ -1,7 +1,6 @@
 -- What plans, fuse and stop word make of a unit's next command.
-use Rattle.std.specs.Prelude.{ℕ, ◌+◌, ◌-◌, ◌/◌, ◌≡◌, ◌==◌, ◌&&◌, ◌++◌, Bool, true, false, min, if◌then◌else◌, List, [], ◌∷◌, length, Option, Some, None}
+use Rattle.std.specs.Prelude.{ℕ, ◌+◌, ◌-◌, ◌/◌, ◌≡◌, ◌==◌, ◌&&◌, Bool, true, false, min, if◌then◌else◌, List, [], ◌∷◌, length, Option, Some, None}
 use Rattle.std.specs.List.{filter}
-use Rattle.std.specs.Option.{IsSome}
 use Rattle.pblk_model.specs.declared.shape.Shape.{Shape}
 use Rattle.pblk_model.specs.Chunk.{Block}
 use Rattle.pblk_model.specs.ChunkStep.{ChunkCommand, Write, Read, Reset, ChunkAnswer}
@@ -10,8 +9,7 @@ use Rattle.unit_port.specs.declared.armed.CommandKind.{CommandKind}
 use Rattle.unit_port.specs.declared.armed.CommandKind.TheVariants as kinds
 use Rattle.unit_port.specs.declared.armed.FaultPlan.{FaultPlan}
 use Rattle.unit_port.specs.declared.armed.Fuse.{Fuse}
-use Rattle.unit_port.specs.Armed.{Armed, events_since}
-use Rattle.unit_port.specs.Unit.{ModelUnit}
+use Rattle.unit_port.specs.Armed.{Armed}
 use Rattle.ocssd_drive.specs.declared.fault.Fault.{Fault}
 use Rattle.ocssd_drive.specs.declared.fault.Fault.TheVariants as faults
 
@@ -57,6 +55,17 @@ planned (p ∷ plans) unit kind nth = if falls_on unit kind nth p then Some p.cu
 abbrev pub fuse_cut : Option Fuse → ℕ → CommandKind → ℕ → Option ℕ
 fuse_cut None unit kind changes = None
 fuse_cut (Some f) unit kind changes = if (f.unit == unit) && is_change kind && (f.nth == changes + 1) then Some f.cut else None
+
+-- this fuse falls at commands of this unit
+abbrev pub has_fuse_at : ℕ → Fuse → Bool
+has_fuse_at unit f = f.unit == unit
+
+abbrev pub fuse_is_at_unit : ℕ → Option Fuse → Bool
+fuse_is_at_unit unit None = false
+fuse_is_at_unit unit (Some f) = has_fuse_at unit f
+
+abbrev pub fuse_is_at : Armed → Bool
+fuse_is_at a = fuse_is_at_unit a.unit a.fuse
 
 abbrev pub plan_fault : Option ℕ → Fault
 plan_fault None = faults.Nothing
@@ -104,12 +113,3 @@ is_stopping faults.Nothing = false
 is_stopping (faults.Fails cut) = false
 is_stopping (faults.Stops cut) = true
 is_stopping faults.Stopped = true
-
--- A command added an event whose outcome is by plans, fuse and stop word. `found` says whether the command found the stop
--- word set: only a unit that was armed with a fuse has one.
-pub record IsPlanned (old : ModelUnit) (chunk : ℕ) (command : ChunkCommand) (new : ModelUnit) : Type 0 where
-  pub found : Bool
-  pub has_word : found ≡ true → IsSome old.armed.fuse
-  pub outcome : UnitOutcome
-  pub log : new.log ≡ old.log ++ record { chunk = chunk; command = command; outcome = outcome } ∷ []
-  pub by : IsOutcomeBy old.shape command (fault_of old.armed (events_since old.armed old.log) found (kind_of command)) outcome

@@ -1,7 +1,7 @@
 -- What the fields of a journal stand for, and what they keep.
 use Rattle.std.specs.Prelude.{◌-◌, ◌^◌, ◌≤◌, ◌≡◌, List, [], ◌∷◌, length, min}
 use Rattle.unit_port.specs.Armed.{Armed, events_since, unarmed}
-use Rattle.ocssd_drive.specs.Arming.{AreTallies, finds, own_fuse}
+use Rattle.ocssd_drive.specs.Arming.{AreTallies, own_fuse}
 use Rattle.ocssd_drive.specs.Journal.{JournalView, IsCalm, SeatTells}
 use Rattle.ocssd_drive.specs.declared.journal.Journal.TheInside.{Inside}
 
@@ -12,7 +12,7 @@ last_arms (a ∷ []) = a
 last_arms (a ∷ b ∷ arms) = last_arms (b ∷ arms)
 
 abbrev pub journal_view : Inside → JournalView
-journal_view j = record { log = j.log; armed = last_arms j.arms; found = finds j.armed.stop }
+journal_view j = record { log = j.log; armed = last_arms j.arms; seat = j.armed.stop }
 
 pub record IsKept (j : Inside) : Type 0 where
   pub events : j.events ≡ min (length j.log) (2 ^ 64 - 1)

@@ -1,18 +1,18 @@
 -- A unit's log with what it is armed with.
-use Rattle.std.specs.Prelude.{ℕ, ◌≤◌, ◌≡◌, ◌⊎◌, ◌==◌, Bool, true, false, List, [], Option, Some, None}
+use Rattle.std.specs.Prelude.{ℕ, ◌<◌, ◌≤◌, ◌≡◌, ◌⊎◌, true, false, List, [], Option, Some, None}
 use Rattle.std.specs.Option.{option_map}
 use Rattle.atomic_table.specs.Seated.{TableId}
 use Rattle.pblk_model.specs.UnitLog.{UnitEvent}
 use Rattle.unit_port.specs.declared.armed.Fuse.{Fuse}
 use Rattle.unit_port.specs.Armed.{Armed, events_since, has_failed, has_stopped}
-use Rattle.ocssd_drive.specs.Faults.{changes_of}
+use Rattle.ocssd_drive.specs.Faults.{changes_of, has_fuse_at}
 use Rattle.ocssd_drive.specs.StopWord.{SeatView}
 
--- the log, what the unit is armed with, and whether it found the stop word set
+-- the log, what the unit is armed with, and its seat at the stop word, where there is one
 pub record JournalView : Type 0 where
   pub log : List UnitEvent
   pub armed : Armed
-  pub found : Bool
+  pub seat : Option SeatView
 
 -- the word of a seat, where there is one
 abbrev pub word_of : Option SeatView → Option TableId
@@ -22,17 +22,6 @@ word_of seat = option_map (λ (s : SeatView). s.word) seat
 pub record IsCalm (a : Armed) (log : List UnitEvent) : Type 0 where
   pub fails : a.plans ≡ [] → has_failed a log ≡ false
   pub stops : a.fuse ≡ None → has_stopped a log ≡ false
-
--- this fuse falls at commands of this unit
-abbrev pub has_fuse_at : ℕ → Fuse → Bool
-has_fuse_at unit f = f.unit == unit
-
-abbrev pub fuse_is_at_unit : ℕ → Option Fuse → Bool
-fuse_is_at_unit unit None = false
-fuse_is_at_unit unit (Some f) = has_fuse_at unit f
-
-abbrev pub fuse_is_at : Armed → Bool
-fuse_is_at a = fuse_is_at_unit a.unit a.fuse
 
 -- a seat for a unit that is armed with a fuse, and none for one that isn't
 abbrev pub FitsArming : ℕ → Option Fuse → Option SeatView → Type 0
@@ -48,7 +37,7 @@ pub record SeatSays (a : Armed) (log : List UnitEvent) (f : Fuse) (s : SeatView)
   pub word : a.word ≡ Some s.word
   pub fuse : s.view.fuse ≡ has_fuse_at a.unit f
   pub stopped : has_stopped a log ≡ true → (s.view.found ≡ true) ⊎ ((s.view.fuse ≡ true) × (s.view.fell ≡ true))
-  pub fell : s.view.fell ≡ true → (s.view.fuse ≡ true) × (f.nth ≤ changes_of (events_since a log))
+  pub fell : s.view.fell ≡ true → (s.view.fuse ≡ true) × (f.nth ≤ changes_of (events_since a log)) × (0 < f.nth) × (has_stopped a log ≡ true)
 
 abbrev pub SeatTellsBy : Armed → List UnitEvent → Option Fuse → Option SeatView → Type 0
 SeatTellsBy a log None None = a.word ≡ None

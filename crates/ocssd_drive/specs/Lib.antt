@@ -5,6 +5,7 @@ pub mod Journal
 pub mod Arming
 pub mod Shown
 pub mod Units
+pub mod Planned
 pub mod UnitFields
 pub mod Fields
 pub mod Drive

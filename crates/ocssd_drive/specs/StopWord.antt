@@ -37,10 +37,14 @@ pub record FitsWord (owner : ℕ) (set : Bool) (seat : ℕ) (v : StopView) : Typ
   pub fell : v.fuse ≡ true → v.fell ≡ set
   pub found : v.found ≡ true → set ≡ true
 
+-- The word is 1 exactly where the owner's view, which is the fuse's unit's and is there, says that the fuse fell.
 pub record IsStopWord (s : State (Unit {0}) StopView) : Type 0 where
   pub owner : ℕ
   pub set : Bool
   pub word : s.words ≡ (if set then 1 else 0) ∷ []
+  pub keeper_view : StopView
+  pub keeper_there : get_elem? s.views owner ≡ some keeper_view
+  pub is_fuse : keeper_view.fuse ≡ true
   pub views : (seat : ℕ) (v : StopView) → get_elem? s.views seat ≡ some v → FitsWord owner set seat v
 
 -- what a load tells

@@ -10,6 +10,7 @@ abbrev pub worn_unit : Inside → WornUnit
 worn_unit u = record {
   unit = record { shape = u.shape; media = map (λ (c : DriveChunk). c.chunk) u.chunks.items; log = u.journal.log; armed = u.journal.armed };
   wear = u.wear.items;
+  seat = u.journal.seat;
 }
 
 pub record IsSound (u : Inside) : Type 0 where

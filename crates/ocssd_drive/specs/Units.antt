@@ -1,5 +1,5 @@
 -- Units in memory.
-use Rattle.std.specs.Prelude.{ℕ, ◌%◌, ◌<◌, ◌≤◌, ◌≡◌, List, [], length, replicate, None}
+use Rattle.std.specs.Prelude.{ℕ, ◌%◌, ◌<◌, ◌≤◌, ◌≡◌, List, [], length, replicate, Option, None, None}
 use Rattle.pblk_model.specs.declared.shape.Shape.{Shape}
 use Rattle.pblk_model.specs.Chunk.{Chunk, IsChunk, free_chunk}
 use Rattle.pblk_model.specs.ChunkStep.{ChunkCommand, refusal}
@@ -9,36 +9,34 @@ use Rattle.unit_port.specs.Armed.{Armed, unarmed}
 use Rattle.unit_port.specs.Unit.{ModelUnit}
 use Rattle.ocssd_drive.specs.declared.fault.Fault.{Fault}
 use Rattle.ocssd_drive.specs.declared.fault.Fault.TheVariants as faults
+use Rattle.ocssd_drive.specs.StopWord.{SeatView}
 use Rattle.ocssd_drive.specs.Faults.{IsOutcomeBy}
 
--- a unit, and the wear index of each of its chunks
+-- a unit, the wear index of each of its chunks, and its seat at the stop word, where its drive was armed with a fuse
 pub record WornUnit : Type 0 where
   pub unit : ModelUnit
   pub wear : List ℕ
+  pub seat : Option SeatView
 
 -- Free chunks that aren't worn, an empty log, and not armed
 abbrev pub new_unit : Shape → WornUnit
 new_unit s = record {
   unit = record { shape = s; media = replicate s.chunks free_chunk; log = []; armed = unarmed 0 };
   wear = replicate s.chunks 0;
+  seat = None;
 }
 
 -- the unit with other arms
-abbrev pub with_arms : Armed → WornUnit → WornUnit
-with_arms a u = record {
+abbrev pub with_arms : Armed → Option SeatView → WornUnit → WornUnit
+with_arms a seat u = record {
   unit = record { shape = u.unit.shape; media = u.unit.media; log = u.unit.log; armed = a };
   wear = u.wear;
+  seat = seat;
 }
 
 -- without plans and fuse
 abbrev pub disarmed : WornUnit → WornUnit
-disarmed u = with_arms (unarmed (length u.unit.log)) u
-
-abbrev pub IsArmedSo : Armed → WornUnit → WornUnit → Type 0
-IsArmedSo a old new = new ≡ with_arms a old
-
-abbrev pub IsDisarmed : WornUnit → WornUnit → Type 0
-IsDisarmed old new = new ≡ disarmed old
+disarmed u = with_arms (unarmed (length u.unit.log)) None u
 
 -- a chunk of a drive of this shape
 pub record IsChunkIn (s : Shape) (c : DriveChunk) : Type 0 where

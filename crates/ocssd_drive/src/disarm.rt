@@ -3,7 +3,8 @@ ghost use Rattle.std.specs.Prelude.{ℕ, ◌≡◌, ◌<◌, length, map, slice_
 ghost use Rattle.std.specs.Option.{IsSome};
 ghost use Rattle.unit_port.specs.Unit.{IsStopped};
 ghost use Rattle.ocssd_drive.specs.Drive.{AreArmedTogether, FuseFell, KnowsMore};
-ghost use Rattle.ocssd_drive.specs.Journal.{IsCalm, SeatTells, fuse_is_at};
+ghost use Rattle.ocssd_drive.specs.Journal.{IsCalm, SeatTells};
+ghost use Rattle.ocssd_drive.specs.Faults.{fuse_is_at};
 ghost use Rattle.ocssd_drive.specs.Units.{WornUnit, disarmed};
 
 use crate::memory_unit::MemoryUnit;

@@ -5,7 +5,7 @@ ghost use Rattle.pblk_model.specs.Shape.{units};
 ghost use Rattle.ocssd_geometry.specs.Numbers.{IsGeometry};
 ghost use Rattle.atomic_table.specs.Seated.{TableId};
 ghost use Rattle.unit_port.specs.Unit.{IsStopped};
-ghost use Rattle.ocssd_drive.specs.Drive.{AreArmedTogether, FuseFell, IsWhole, armed_units, drive_shape, fitting_fuse, new_drive, shape_of, with_units};
+ghost use Rattle.ocssd_drive.specs.Drive.{AreArmedTogether, FuseFell, IsWhole, armed_units, drive_shape, fitting_fuse, new_drive, shape_of, with_units, HasWord};
 ghost use Rattle.ocssd_drive.specs.Journal.{IsCalm};
 ghost use Rattle.ocssd_drive.specs.Units.{WornUnit, disarmed, new_unit};
 
@@ -80,7 +80,8 @@ impl Drive {
         shape_with(&self.geometry, self.sector, self.capacity, self.ring)
     }
 
-    /// Arms the units with plans and a fuse, in place of what they were armed with.
+    /// Arms the units with plans and a fuse, in place of what they were armed with. With a fuse they share a
+    /// stop word, which each command of each unit loads first.
     ///
     /// Where two plans fall on one command, the first in `plans` counts; where a plan and the fuse fall on
     /// one command, the fuse counts. A plan or a fuse for a unit that the drive doesn't have counts as none.
@@ -92,6 +93,7 @@ impl Drive {
         fuse: Option<Fuse>,
     ) -> Result<(), AllocError>
         ensures armed { OnOk result ((word : Option TableId)
+            × HasWord (fitting_fuse (length self.old.units) fuse) word
             × (self.new ≡ with_units (armed_units plans.now (fitting_fuse (length self.old.units) fuse) word self.old.units) self.old)) }
         ensures together { OnOk result (AreArmedTogether self.new.units) }
         ensures refused { OnErr result (self.new ≡ self.old) }

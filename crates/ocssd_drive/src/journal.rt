@@ -1,12 +1,13 @@
 //! A unit's log, what the unit is armed with, and what that makes of its next command.
-ghost use Rattle.std.specs.Prelude.{◌≡◌, ◌-◌, ◌^◌, ◌+◌, ◌∷◌, ◌++◌, [], true, false, length, min, List, IfOk};
+ghost use Rattle.std.specs.Prelude.{◌≡◌, ◌-◌, ◌^◌, ◌+◌, ◌∷◌, ◌++◌, [], true, false, length, min, List, None, IfOk};
 ghost use Rattle.std.specs.Option.{IsSome};
 ghost use Rattle.pblk_model.specs.UnitLog.{UnitEvent};
 ghost use Rattle.unit_port.specs.Armed.{Armed, events_since, has_stopped, is_fail, is_stop, unarmed};
 ghost use Rattle.ocssd_drive.specs.Faults.{changes_of, count_of, fault_of, fuse_cut, is_change, is_failing, is_stopping, kind_of, planned};
 ghost use Rattle.ocssd_drive.specs.Tally.{IsTally};
-ghost use Rattle.ocssd_drive.specs.Journal.{FitsArming, IsCalm, word_of, SeatTells, fuse_is_at};
-ghost use Rattle.ocssd_drive.specs.Arming.{AreTallies, IsLoaded, MayFall, own_fuse, seat_after};
+ghost use Rattle.ocssd_drive.specs.Journal.{FitsArming, IsCalm, word_of, SeatTells};
+ghost use Rattle.ocssd_drive.specs.Faults.{fuse_is_at};
+ghost use Rattle.ocssd_drive.specs.Arming.{AreTallies, IsLoaded, MayFall, finds, own_fuse, seat_after};
 ghost use Rattle.unit_port.specs.declared.armed.CommandKind.TheVariants as kinds;
 
 use crate::fault::Fault;
@@ -38,7 +39,7 @@ pub(crate) struct Journal {
     fuse: Option<Fuse>,
 }
 
-// Contracts see the log, what the unit was armed with, and whether it found the stop word set.
+// Contracts see the log, what the unit was armed with, and its seat at the stop word.
 impl Model for Journal {
     ghost use Rattle.ocssd_drive.specs.Journal.{JournalView};
 
@@ -54,7 +55,7 @@ impl Model for Journal {
 impl Journal {
     /// An empty log of a unit that isn't armed.
     pub(crate) fn new(alloc: Global) -> Result<Journal, AllocError>
-        ensures { IfOk result (λ j. j ≡ record { log = []; armed = unarmed 0; found = false }) }
+        ensures { IfOk result (λ j. j ≡ record { log = []; armed = unarmed 0; seat = None }) }
     {
         let log = Log::new(alloc)?;
         let arms = Log::new(alloc)?;
@@ -76,9 +77,11 @@ impl Journal {
     /// one.
     pub(crate) fn fault(&mut self, kind: CommandKind) -> Fault
         ensures same { (self.new.log ≡ self.old.log) × (self.new.armed ≡ self.old.armed) }
-        ensures fault { result ≡ fault_of self.new.armed (events_since self.new.armed self.new.log) self.new.found kind }
-        ensures found { self.new.found ≡ true → IsSome self.new.armed.fuse }
-        ensures stays { has_stopped self.old.armed self.old.log ≡ true → self.new.found ≡ true }
+        ensures loaded { IsLoaded self.old.seat self.new.seat (finds self.new.seat) }
+        ensures fault { result ≡ fault_of self.new.armed (events_since self.new.armed self.new.log) (finds self.new.seat) kind }
+        ensures found { finds self.new.seat ≡ true → IsSome self.new.armed.fuse }
+        ensures stays { has_stopped self.old.armed self.old.log ≡ true → finds self.new.seat ≡ true }
+        ensures own { fuse_is_at self.old.armed ≡ true → finds self.new.seat ≡ true → has_stopped self.old.armed self.old.log ≡ true }
     {
         if finds_stop(&mut self.armed.stop) {
             return Fault::Stopped;
@@ -94,12 +97,13 @@ impl Journal {
         shown: &S,
     )
         requires kind { kind_of (S.shown shown.now).command ≡ kind }
-        requires fault { fault ≡ fault_of self.old.armed (events_since self.old.armed self.old.log) self.old.found kind }
-        requires found { self.old.found ≡ true → IsSome self.old.armed.fuse }
+        requires fault { fault ≡ fault_of self.old.armed (events_since self.old.armed self.old.log) (finds self.old.seat) kind }
         requires fails { is_fail (S.shown shown.now).outcome ≡ is_failing fault }
         requires stops { is_stop (S.shown shown.now).outcome ≡ is_stopping fault }
         ensures log { self.new.log ≡ self.old.log ++ S.shown shown.now ∷ [] }
         ensures armed { self.new.armed ≡ self.old.armed }
+        ensures seat { self.new.seat ≡ seat_after fault self.old.seat }
+        ensures calm { IsCalm self.new.armed self.new.log }
     {
         blow_at(&mut self.armed.stop, fault);
         self.armed.count(kind);
@@ -122,6 +126,7 @@ impl Journal {
         requires stop { FitsArming unit fuse arming.stop }
         ensures log { self.new.log ≡ self.old.log }
         ensures armed { self.new.armed ≡ record { unit = unit; plans = plans.now; fuse = fuse; word = word_of arming.stop; since = length self.old.log } }
+        ensures seat { self.new.seat ≡ arming.stop }
     {
         self.arms.add(&Arms {
             unit,
@@ -145,6 +150,7 @@ impl Journal {
     pub(crate) fn disarm(&mut self) -> Option<StopSeat>
         ensures log { self.new.log ≡ self.old.log }
         ensures armed { self.new.armed ≡ unarmed (length self.old.log) }
+        ensures none { self.new.seat ≡ None }
         ensures calm { IsCalm self.old.armed self.old.log }
         ensures seat { SeatTells self.old.armed self.old.log result }
     {

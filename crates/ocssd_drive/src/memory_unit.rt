@@ -6,10 +6,11 @@ ghost use Rattle.pblk_model.specs.Chunk.{IsChunk, PointerFits, free_chunk, point
 ghost use Rattle.pblk_model.specs.ChunkStep.{Write, Read, Reset};
 ghost use Rattle.pblk_model.specs.UnitLog.{UnitOutcome};
 ghost use Rattle.unit_port.specs.Unit.{IsChunkOf, IsFitUnit, Steps, Takes, TellsBlock, TellsDone};
-ghost use Rattle.ocssd_drive.specs.Faults.{IsPlanned};
-ghost use Rattle.ocssd_drive.specs.Units.{WornUnit, new_unit, IsArmedSo, IsDisarmed, IsChunkIn, IsWrite, TakesUnder, MeetsFault};
+ghost use Rattle.ocssd_drive.specs.Planned.{IsPlanned};
+ghost use Rattle.ocssd_drive.specs.Units.{WornUnit, new_unit, with_arms, disarmed, IsChunkIn, IsWrite, TakesUnder, MeetsFault};
 ghost use Rattle.ocssd_drive.specs.Shown.{outcome_of, fetch_outcome};
-ghost use Rattle.ocssd_drive.specs.Journal.{FitsArming, IsCalm, SeatTells, fuse_is_at, word_of};
+ghost use Rattle.ocssd_drive.specs.Journal.{FitsArming, IsCalm, SeatTells, word_of};
+ghost use Rattle.ocssd_drive.specs.Faults.{fuse_is_at};
 ghost use Rattle.ocssd_drive.specs.Tally.{IsTally};
 ghost use Rattle.unit_port.specs.declared.armed.CommandKind.TheVariants as kinds;
 
@@ -35,7 +36,7 @@ pub struct MemoryUnit {
     journal: Journal,
 }
 
-// Contracts see the unit, and the wear index of each chunk.
+// Contracts see the unit, the wear index of each chunk, and the unit's seat at the stop word.
 impl Model for MemoryUnit {
     ghost use Rattle.ocssd_drive.specs.Units.{WornUnit};
 
@@ -51,6 +52,9 @@ impl Model for MemoryUnit {
 impl MemoryUnit {
     /// A unit of a drive of this shape: its chunks are Free and their wear indices 0, its log is empty, and
     /// it isn't armed.
+    ///
+    /// Takes memory for all blocks of all chunks, their marks and the logs' words, and fails only where there
+    /// isn't as much.
     pub fn new(alloc: Global, shape: &Shape) -> Result<MemoryUnit, AllocError>
         requires { IsAccepted shape.now }
         ensures { IfOk result (λ u. u ≡ new_unit shape.now) }
@@ -70,7 +74,7 @@ impl MemoryUnit {
         })
     }
 
-    /// A chunk of the unit.
+    /// A chunk of the unit; there are as many as the shape says, numbered from 0.
     pub fn chunk(&self, chunk: u32) -> &Chunk
         requires { chunk < length self.now.unit.media }
         ensures chunk { IsChunkOf self.now.unit chunk result.now.chunk }
@@ -91,6 +95,9 @@ impl MemoryUnit {
 
     /// Gives a Free chunk of the unit this wear index, this state, and the blocks of these bytes and marks.
     /// It isn't logged.
+    ///
+    /// `bytes` has a sector for each of `marks`, of which there are a multiple of WS_MIN: none for Free and
+    /// Offline, from 1 to below CLBA for Open, up to CLBA for Closed.
     pub fn restore(&mut self, chunk: u32, wear: u8, state: ChunkState, bytes: &[u8], marks: &[Mark])
         requires free { IsChunkOf self.old.unit chunk free_chunk }
         requires whole { length bytes.now ≡ length marks.now * self.old.unit.shape.sector }
@@ -99,7 +106,7 @@ impl MemoryUnit {
         ensures chunk { let blocks = blocks_of self.old.unit.shape.sector bytes.now marks.now
             in self.new.unit.media ≡ slice_set self.old.unit.media chunk (record { state = state; blocks = blocks }) }
         ensures wear { self.new.wear ≡ slice_set self.old.wear chunk wear }
-        ensures same { (self.new.unit.shape ≡ self.old.unit.shape) × (self.new.unit.log ≡ self.old.unit.log) × (self.new.unit.armed ≡ self.old.unit.armed) }
+        ensures same { (self.new.unit.shape ≡ self.old.unit.shape) × (self.new.unit.log ≡ self.old.unit.log) × (self.new.unit.armed ≡ self.old.unit.armed) × (self.new.seat ≡ self.old.seat) }
     {
         self.wear[chunk as usize] = wear;
         let found = &mut self.chunks[chunk as usize];
@@ -112,7 +119,7 @@ impl MemoryUnit {
         requires fetches { IsTally plans.now unit kinds.Fetch 0 arming.fetches }
         requires resets { IsTally plans.now unit kinds.Reset 0 arming.resets }
         requires stop { FitsArming unit fuse arming.stop }
-        ensures { IsArmedSo (record { unit = unit; plans = plans.now; fuse = fuse; word = word_of arming.stop; since = length self.old.unit.log }) self.old self.new }
+        ensures { self.new ≡ with_arms (record { unit = unit; plans = plans.now; fuse = fuse; word = word_of arming.stop; since = length self.old.unit.log }) arming.stop self.old }
     {
         self.journal.arm(arming, unit, plans, fuse);
     }
@@ -126,7 +133,7 @@ impl MemoryUnit {
 
     /// Takes plans and fuse away, and gives the seat at the stop word.
     pub(crate) fn disarm(&mut self) -> Option<StopSeat>
-        ensures unit { IsDisarmed self.old self.new }
+        ensures unit { self.new ≡ disarmed self.old }
         ensures calm { IsCalm self.old.unit.armed self.old.unit.log }
         ensures seat { SeatTells self.old.unit.armed self.old.unit.log result }
     {
@@ -142,8 +149,9 @@ impl Unit for MemoryUnit {
         requires taken { let blocks = blocks_of self.old.unit.shape.sector bytes.now marks.now
             in Takes self.old.unit chunk (Write at blocks) }
         ensures planned { let blocks = blocks_of self.old.unit.shape.sector bytes.now marks.now
-            in IsPlanned self.old.unit chunk (Write at blocks) self.new.unit }
+            in IsPlanned self.old chunk (Write at blocks) self.new }
         ensures wear { self.new.wear ≡ self.old.wear }
+        ensures calm { IsCalm self.new.unit.armed self.new.unit.log }
 
         // What each `Unit` ensures.
         ensures event { let blocks = blocks_of self.old.unit.shape.sector bytes.now marks.now
@@ -168,9 +176,10 @@ impl Unit for MemoryUnit {
     fn fetch(&mut self, chunk: u32, block: u32, out: &mut [u8]) -> Result<Got, UnitErr>
         requires whole { length out.old ≡ self.old.unit.shape.sector }
         requires taken { Takes self.old.unit chunk (Read block) }
-        ensures planned { IsPlanned self.old.unit chunk (Read block) self.new.unit }
+        ensures planned { IsPlanned self.old chunk (Read block) self.new }
         ensures media { self.new.unit.media ≡ self.old.unit.media }
         ensures wear { self.new.wear ≡ self.old.wear }
+        ensures calm { IsCalm self.new.unit.armed self.new.unit.log }
 
         // What each `Unit` ensures.
         ensures event { (outcome : UnitOutcome) × TellsBlock out.old out.new result outcome × Steps self.old.unit chunk (Read block) outcome self.new.unit }
@@ -191,8 +200,9 @@ impl Unit for MemoryUnit {
 
     fn reset(&mut self, chunk: u32) -> Result<(), UnitErr>
         requires { Takes self.old.unit chunk Reset }
-        ensures planned { IsPlanned self.old.unit chunk Reset self.new.unit }
+        ensures planned { IsPlanned self.old chunk Reset self.new }
         ensures wear { self.new.wear ≡ self.old.wear }
+        ensures calm { IsCalm self.new.unit.armed self.new.unit.log }
 
         // What each `Unit` ensures.
         ensures event { (outcome : UnitOutcome) × TellsDone result outcome × Steps self.old.unit chunk Reset outcome self.new.unit }

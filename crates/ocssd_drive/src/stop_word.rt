@@ -9,7 +9,8 @@ use std::marker::Model;
 use std::sync::Arc;
 
 /// What a unit knows of the stop word: whether it is the fuse's unit, whether the fuse fell there,
-/// whether it found the word set, and how many loads it made. No value of it is made.
+/// whether it found the word set, and how many loads it made. The loads count every load of the unit,
+/// and of each unit whose seat it took in. No value of it is made.
 pub(crate) struct StopView {
     pub(crate) fuse: bool,
     pub(crate) fell: bool,
@@ -38,8 +39,8 @@ impl Model for StopSeat {
     ghost invariant = { λ s. (s.seat.table_id ≡ (arc_value s.table).shared.table_id) × ((arc_value s.table).shared.table_id.words ≡ 1) × (s.seat.me.1 ≡ []) };
 }
 
-// The word is 1 exactly where the fuse's unit says that it fell there, and who found it set did so while
-// it is 1.
+// The word is 1 exactly where the fuse's unit, which has a seat, says that it fell there, and who found it
+// set did so while it is 1.
 struct StopRule;
 
 impl TableRule<(), StopView, ()> for StopRule {

@@ -11,7 +11,7 @@ pub enum CommandKind {
 }
 
 /// A plan that a command fails: the `nth` command of this kind of this unit, counted from 1 since the
-/// drive was armed.
+/// drive was armed. Units are numbered from 0. A plan with nth 0 falls on no command.
 ///
 /// A program that fails still lands its first `cut` multiples of WS_MIN, or all but one where `cut` is
 /// larger. Of a fetch and of a reset `cut` says nothing.
@@ -24,7 +24,9 @@ pub struct FaultPlan {
 }
 
 /// Where a whole drive stops: at the `nth` program or reset of this unit, counted in common from 1 since
-/// the drive was armed.
+/// the drive was armed. Units are numbered from 0. A fuse with nth 0 falls at no command.
+///
+/// From then on each command of each unit of the drive answers Stopped and changes nothing but its log.
 ///
 /// A program still lands its first `cut` multiples of WS_MIN, or all of them where `cut` is larger. A
 /// reset is done where `cut` isn't 0.

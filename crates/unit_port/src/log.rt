@@ -1,5 +1,5 @@
 //! Lists that grow without memory.
-ghost use Rattle.std.specs.Prelude.{◌≡◌, [], ◌∷◌, ◌++◌, IfOk};
+ghost use Rattle.std.specs.Prelude.{◌≡◌, [], ◌∷◌, ◌++◌, length, IfOk};
 
 use atomic_table::{Play, Seat, Table, TableRule};
 use pblk_model::Shows;
@@ -9,31 +9,35 @@ use std::marker::{Brand, Model, PhantomData};
 
 /// A list that contracts see and that takes no memory as it grows: one word, whose only view is the list.
 ///
-/// A row is added by one atomic step on the word. Nothing of it can be read back by code.
+/// The word holds the list's length modulo 2^64. A row is added by one atomic step, which stores the new
+/// length. Nothing of it can be read back by code.
 #[derive(Drop)]
 pub struct Log<E> {
-    table: Table<(), LinkedList<E>, (), Free, Global>,
+    table: Table<(), LinkedList<E>, (), LogRule, Global>,
     seat: Seat<(), LinkedList<E>>,
+    // the length modulo 2^64
+    len: u64,
 }
 
 // Contracts see the list, oldest row first.
 impl<E> Model for Log<E> {
-    ghost use Rattle.std.specs.Prelude.{List, ◌≡◌};
+    ghost use Rattle.std.specs.Prelude.{List, length, ◌≡◌, ◌%◌, ◌^◌};
 
     ghost Value = { List E };
 
     ghost view = { λ l. l.seat.me.0 };
 
-    ghost invariant = { λ l. (l.seat.table_id ≡ l.table.shared.table_id) × (l.table.shared.table_id.words ≡ 1) };
+    ghost invariant = { λ l. (l.seat.table_id ≡ l.table.shared.table_id) × (l.table.shared.table_id.words ≡ 1) × (l.len ≡ length l.seat.me.0 % 2 ^ 64) };
 }
 
-// The view may be any list.
-struct Free;
+// The view is the list, and the word its length modulo 2^64.
+struct LogRule;
 
-impl<E> TableRule<(), LinkedList<E>, ()> for Free {
+impl<E> TableRule<(), LinkedList<E>, ()> for LogRule {
     ghost use Rattle.std.specs.Prelude.{[]};
+    ghost use Rattle.unit_port.specs.Log.{IsLogWord};
 
-    ghost holds = { λ _ _. Unit {0} };
+    ghost holds = { λ _ s. IsLogWord s };
 
     ghost first = { λ _. [] };
 }
@@ -59,12 +63,16 @@ impl<E, R: Rows<E>> Play<(), LinkedList<E>> for Adds<R> {
 }
 
 impl<E> Log<E> {
-    /// The empty list.
+    /// The empty list. Takes memory for one word, and fails only where there is none.
     pub fn new(alloc: Global) -> Result<Log<E>, AllocError>
         ensures { IfOk result (λ log. log ≡ []) }
     {
         let (table, seat) = Table::of_words(alloc, &[0], &())?;
-        Ok(Log { table, seat })
+        Ok(Log {
+            table,
+            seat,
+            len: 0,
+        })
     }
 
     /// Adds the row that the value shows, at the end. It is one step, and takes no memory.
@@ -74,11 +82,14 @@ impl<E> Log<E> {
         self.append::<S, Brand>(shown);
     }
 
-    // The call picks the rows, which is why it is handed the value that shows them.
+    // The call picks the row, which is why it is handed the value that shows it.
     fn append<S, R: Rows<E>>(&mut self, _shown: &S)
+        requires { length R.rows ≡ 1 }
         ensures { self.new ≡ self.old ++ R.rows }
     {
+        let len = self.len.wrapping_add(1);
         let table = &self.table;
-        table.shared.store::<Adds<R>>(&mut self.seat, 0, 0);
+        table.shared.store::<Adds<R>>(&mut self.seat, 0, len);
+        self.len = len;
     }
 }

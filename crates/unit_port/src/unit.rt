@@ -34,8 +34,10 @@ pub trait Unit {
     /// Appends blocks to a chunk, from the block `at` on. `bytes` has the sectors one after another, and
     /// `marks` their marks.
     ///
-    /// The chunk is one of the unit's, and doesn't refuse the write, unless the unit is stopped. A program
-    /// that fails or is stopped may have landed some multiples of WS_MIN; the log's event says how many.
+    /// The chunk is one of the unit's, and doesn't refuse the write, unless the unit is stopped: it is Free
+    /// or Open, `at` is its write pointer, and the blocks are a positive multiple of WS_MIN that fits below
+    /// CLBA. A program that fails or is stopped may have landed some multiples of WS_MIN; the log's event
+    /// says how many.
     fn program(&mut self, chunk: u32, at: u32, bytes: &[u8], marks: &[Mark]) -> Result<(), UnitErr>
         requires whole { length bytes.now ≡ length marks.now * (model self.old).shape.sector }
         requires taken { let blocks = blocks_of (model self.old).shape.sector bytes.now marks.now
@@ -63,7 +65,7 @@ pub trait Unit {
         ensures event { (outcome : UnitOutcome) × TellsDone result outcome × Steps (model self.old) chunk Reset outcome (model self.new) }
         ensures fits { IsFitUnit (model self.old) → IsFitUnit (model self.new) };
 
-    /// The state of a chunk of the unit, and its write pointer. It isn't logged.
+    /// The state of a chunk of the unit, and its write pointer, from 0 to CLBA. It isn't logged.
     fn state(&self, chunk: u32) -> (ChunkState, u32)
         requires { chunk < length (model self.now).media }
         ensures { (found : _) × IsChunkOf (model self.now) chunk found × (result.0 ≡ found.state) × (result.1 ≡ pointer found) };

@@ -1,5 +1,5 @@
 use Rattle.std.proofs.Common.{ℕ, ◌≡◌, ◌<◌, slice_get, false, Some}
-use Rattle.ocssd_drive.specs.Journal.{fuse_is_at}
+use Rattle.ocssd_drive.specs.Faults.{fuse_is_at}
 use Rattle.ocssd_drive.specs.Units.{WornUnit}
 use Rattle.ocssd_drive.proofs.disarm.fuse_unit.Given as goal
 

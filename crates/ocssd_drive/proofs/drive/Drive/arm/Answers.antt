@@ -1,3 +1,4 @@
+use Rattle.std.specs.Option.{is_some}
 use Rattle.std.proofs.Common.{◌≡◌, ◌∙◌, ap, length}
 use Rattle.ocssd_drive.specs.Drive.{DriveView, armed_units, fitting_fuse, with_units}
 use Rattle.ocssd_drive.specs.DriveFields.{drive_view}
@@ -10,9 +11,9 @@ invariant_of-self c =
     let plans = c.args.plans.now in
     let fuse = c.fitting-fuse.result in
     let word = c.in_ok-armings.ensures.each.0 in
-    let new_is = c.install.ensures word c.in_ok-armings.ensures.each.1 ∙ ap (armed_units plans fuse word) c.deref_mut.ensures.value in
+    let new_is = c.install.ensures word c.in_ok-armings.ensures.each.2 ∙ ap (armed_units plans fuse word) c.deref_mut.ensures.value in
     let same = ap length new_is ∙ length-armed plans fuse word d.units in
-    rw (written_over c.self.inside.units c.install.new.units same, new_is) (whole_with d (armed_units plans fuse word d.units) c.self.invariant (length-armed plans fuse word d.units) (shapes_armed plans fuse word _ d.units c.self.invariant.shapes))
+    rw (written_over c.self.inside.units c.install.new.units same, new_is) (whole_with d (armed_units plans fuse word d.units) c.self.invariant (length-armed plans fuse word d.units) (shapes_armed plans fuse word _ d.units c.self.invariant.fit))
 
 pub returns-clause-armed : goal.returns-clause-armed
 returns-clause-armed c =
@@ -20,10 +21,10 @@ returns-clause-armed c =
     let plans = c.args.plans.now in
     let fuse = c.fitting-fuse.result in
     let word = c.in_ok-armings.ensures.each.0 in
-    let new_is = c.install.ensures word c.in_ok-armings.ensures.each.1 ∙ ap (armed_units plans fuse word) c.deref_mut.ensures.value in
+    let new_is = c.install.ensures word c.in_ok-armings.ensures.each.2 ∙ ap (armed_units plans fuse word) c.deref_mut.ensures.value in
     let same = ap length new_is ∙ length-armed plans fuse word d.units in
     let fuse_is : fuse ≡ fitting_fuse (length d.units) c.args.fuse = c.fitting-fuse.ensures ∙ ap (λ n. fitting_fuse n c.args.fuse) (c.len.ensures ∙ c.self.inside.units.ok.0) in
-    (word, rw (written_over c.self.inside.units c.install.new.units same, new_is, fuse_is) (ap (λ (x : DriveView). with_units (armed_units plans (fitting_fuse (length x.units) c.args.fuse) word x.units) x) c.self.view_is))
+    (word, c.in_ok-armings.ensures.each.1 ∙ ap is_some (fuse_is ∙ ap (λ (x : DriveView). fitting_fuse (length x.units) c.args.fuse) c.self.view_is), rw (written_over c.self.inside.units c.install.new.units same, new_is, fuse_is) (ap (λ (x : DriveView). with_units (armed_units plans (fitting_fuse (length x.units) c.args.fuse) word x.units) x) c.self.view_is))
 
 pub returns-clause-together : goal.returns-clause-together
 returns-clause-together c =
@@ -31,7 +32,7 @@ returns-clause-together c =
     let plans = c.args.plans.now in
     let fuse = c.fitting-fuse.result in
     let word = c.in_ok-armings.ensures.each.0 in
-    let new_is = c.install.ensures word c.in_ok-armings.ensures.each.1 ∙ ap (armed_units plans fuse word) c.deref_mut.ensures.value in
+    let new_is = c.install.ensures word c.in_ok-armings.ensures.each.2 ∙ ap (armed_units plans fuse word) c.deref_mut.ensures.value in
     let same = ap length new_is ∙ length-armed plans fuse word d.units in
     let fuse_is : fuse ≡ fitting_fuse (length d.units) c.args.fuse = c.fitting-fuse.ensures ∙ ap (λ n. fitting_fuse n c.args.fuse) (c.len.ensures ∙ c.self.inside.units.ok.0) in
-    rw (written_over c.self.inside.units c.install.new.units same, new_is) (armed_together plans fuse word d.units (fits_again (length d.units) c.args.fuse fuse fuse_is))
+    rw (written_over c.self.inside.units c.install.new.units same, new_is) (armed_together plans fuse word d.units c.in_ok-armings.ensures.each.1 (fits_again (length d.units) c.args.fuse fuse fuse_is))

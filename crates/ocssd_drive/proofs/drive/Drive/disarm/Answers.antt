@@ -12,7 +12,7 @@ invariant_of-self c =
     let d : DriveView = drive_view c.self.inside in
     let new_is = c.disarm_units.ensures.units ∙ ap (map disarmed) c.deref_mut.ensures.value in
     let same = ap length new_is ∙ length-disarmed d.units in
-    rw (written_over c.self.inside.units c.disarm_units.new.units same, new_is) (whole_with d (map disarmed d.units) c.self.invariant (length-disarmed d.units) (shapes_disarmed _ d.units c.self.invariant.shapes))
+    rw (written_over c.self.inside.units c.disarm_units.new.units same, new_is) (whole_with d (map disarmed d.units) c.self.invariant (length-disarmed d.units) (shapes_disarmed _ d.units c.self.invariant.fit))
 
 pub returns-clause-units : goal.returns-clause-units
 returns-clause-units c =

@@ -1,5 +1,6 @@
 use Rattle.std.proofs.Common.{◌≡◌, sym, subst, ◌∙◌}
 use Rattle.unit_port.specs.Armed.{events_since}
+use Rattle.ocssd_drive.specs.Arming.{finds}
 use Rattle.ocssd_drive.specs.Faults.{fault_of}
 use Rattle.ocssd_drive.specs.Journal.{JournalView}
 use Rattle.ocssd_drive.proofs.Kept.{kept_noted}
@@ -7,7 +8,7 @@ use Rattle.ocssd_drive.proofs.journal.Journal.note.Goals as goal
 
 pub invariant_of-self : goal.invariant_of-self
 invariant_of-self g c =
-    let fault = subst (λ (j : JournalView). c.args.fault ≡ fault_of j.armed (events_since j.armed j.log) j.found c.args.kind) (sym c.self.view_is) c.requires.fault in
+    let fault = subst (λ (j : JournalView). c.args.fault ≡ fault_of j.armed (events_since j.armed j.log) (finds j.seat) c.args.kind) (sym c.self.view_is) c.requires.fault in
     kept_noted c.self.inside (g.S.Shows.shown c.args.shown.now) c.args.kind c.args.fault _ _ c.count.new.self c.self.invariant
     c.requires.kind fault c.requires.fails c.requires.stops c.add.ensures c.saturating_add-self-inside.ensures
     (c.count.ensures.stop ∙ c.blow_at.ensures) (c.count.ensures.tallies _ _ _ c.requires.kind c.self.invariant.tallies)

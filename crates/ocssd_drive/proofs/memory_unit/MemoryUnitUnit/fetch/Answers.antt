@@ -17,7 +17,7 @@ found : (c : After-index-found) → IsFound c.self.inside c.args.chunk (takes c)
 found c = found_of c.self.inside c.args.chunk (takes c).found _ c.self.invariant (takes c).there c.index-found.ensures
 
 befalls : (c : After-index-found) → Finds c.self.inside.journal kinds.Fetch c.fault-fault.result c.fault-fault.new.self
-befalls c = finds _ _ _ _ c.fault-fault.ensures.same c.fault-fault.ensures.fault c.fault-fault.ensures.found c.fault-fault.ensures.stays
+befalls c = finds _ _ _ _ c.fault-fault.ensures.same c.fault-fault.ensures.loaded c.fault-fault.ensures.fault c.fault-fault.ensures.found c.fault-fault.ensures.stays c.fault-fault.ensures.own
 
 pub read_chunk-got-requires-clause-chunk : goal.read_chunk-got-requires-clause-chunk
 read_chunk-got-requires-clause-chunk c =
@@ -40,7 +40,7 @@ met c = met_in _ _ _ _ _ _ _ (found (goal.at.returns-clause-planned c).After-ind
 pub returns-clause-planned : goal.returns-clause-planned
 returns-clause-planned c =
     let h = (goal.at.returns-clause-planned c).After-index-found in
-    rw (← c.self.view_is) (planned c.self.inside c.args.chunk (Read c.args.block) _ (fetch_outcome c.read_chunk-got.new.out c.read_chunk-got.result) c.fault-fault.new.self c.note.new.self _ (befalls h) (met c).by c.note.ensures.log)
+    rw (← c.self.view_is) (planned c.self.inside c.args.chunk (Read c.args.block) _ (fetch_outcome c.read_chunk-got.new.out c.read_chunk-got.result) c.fault-fault.new.self c.note.new.self _ (befalls h) (met c).by c.note.ensures.log c.note.ensures.seat)
 
 pub returns-clause-event : goal.returns-clause-event
 returns-clause-event c =

@@ -20,7 +20,7 @@ found : (c : After-index_mut-found) → IsFound c.self.inside c.args.chunk (take
 found c = found_of c.self.inside c.args.chunk (takes c).found _ c.self.invariant (takes c).there c.index_mut-found.ensures.value
 
 befalls : (c : After-index_mut-found) → Finds c.self.inside.journal kinds.Program c.fault-fault.result c.fault-fault.new.self
-befalls c = finds _ _ _ _ c.fault-fault.ensures.same c.fault-fault.ensures.fault c.fault-fault.ensures.found c.fault-fault.ensures.stays
+befalls c = finds _ _ _ _ c.fault-fault.ensures.same c.fault-fault.ensures.loaded c.fault-fault.ensures.fault c.fault-fault.ensures.found c.fault-fault.ensures.stays c.fault-fault.ensures.own
 
 pub write_chunk-landed-requires-clause-chunk : goal.write_chunk-landed-requires-clause-chunk
 write_chunk-landed-requires-clause-chunk c = (found (goal.at.write_chunk-landed-requires-clause-chunk c).After-index_mut-found).fits
@@ -33,7 +33,7 @@ write_chunk-landed-requires-clause-taken c =
 pub returns-clause-planned : goal.returns-clause-planned
 returns-clause-planned c =
     let h = (goal.at.returns-clause-planned c).After-index_mut-found in
-    rw (← c.self.view_is) (planned c.self.inside c.args.chunk (command h) _ (outcome_of c.write_chunk-landed.result) c.fault-fault.new.self c.note.new.self _ (befalls h) c.write_chunk-landed.ensures.by c.note.ensures.log)
+    rw (← c.self.view_is) (planned c.self.inside c.args.chunk (command h) _ (outcome_of c.write_chunk-landed.result) c.fault-fault.new.self c.note.new.self _ (befalls h) c.write_chunk-landed.ensures.by c.note.ensures.log c.note.ensures.seat)
 
 pub returns-clause-event : goal.returns-clause-event
 returns-clause-event c =

@@ -17,7 +17,7 @@ found : (c : After-index_mut-found) → IsFound c.self.inside c.args.chunk (take
 found c = found_of c.self.inside c.args.chunk (takes c).found _ c.self.invariant (takes c).there c.index_mut-found.ensures.value
 
 befalls : (c : After-index_mut-found) → Finds c.self.inside.journal kinds.Reset c.fault-fault.result c.fault-fault.new.self
-befalls c = finds _ _ _ _ c.fault-fault.ensures.same c.fault-fault.ensures.fault c.fault-fault.ensures.found c.fault-fault.ensures.stays
+befalls c = finds _ _ _ _ c.fault-fault.ensures.same c.fault-fault.ensures.loaded c.fault-fault.ensures.fault c.fault-fault.ensures.found c.fault-fault.ensures.stays c.fault-fault.ensures.own
 
 pub reset_chunk-landed-requires-clause-chunk : goal.reset_chunk-landed-requires-clause-chunk
 reset_chunk-landed-requires-clause-chunk c = rw (found c).fits.shape (found c).fits.fits
@@ -34,7 +34,7 @@ invariant_of-self c = sound_after c.self.inside c.args.chunk c.reset_chunk-lande
 pub returns-clause-planned : goal.returns-clause-planned
 returns-clause-planned c =
     let h = (goal.at.returns-clause-planned c).After-index_mut-found in
-    rw (← c.self.view_is) (planned c.self.inside c.args.chunk Reset _ (outcome_of c.reset_chunk-landed.result) c.fault-fault.new.self c.note.new.self _ (befalls h) (met c).by c.note.ensures.log)
+    rw (← c.self.view_is) (planned c.self.inside c.args.chunk Reset _ (outcome_of c.reset_chunk-landed.result) c.fault-fault.new.self c.note.new.self _ (befalls h) (met c).by c.note.ensures.log c.note.ensures.seat)
 
 pub returns-clause-event : goal.returns-clause-event
 returns-clause-event c =

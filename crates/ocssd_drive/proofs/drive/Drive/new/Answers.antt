@@ -1,0 +1,11 @@
+use Rattle.std.proofs.lemmas.List.{length-replicate}
+use Rattle.ocssd_drive.proofs.Drives.{shapes_new}
+use Rattle.ocssd_drive.proofs.drive.Drive.new.Goals as goal
+
+pub invariant_of-result : goal.invariant_of-result
+invariant_of-result c = rw (c.in_ok-units.ensures, c.shape_with-shape.ensures) record {
+  geometry_is = c.requires.geometry;
+  accepted = c.requires.shape;
+  count = length-replicate _ _;
+  fit = shapes_new _ _;
+}
