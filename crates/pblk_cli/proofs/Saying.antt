@@ -10,7 +10,7 @@ use Rattle.pblk_cli.specs.declared.refusal.Which.TheVariants as names
 use Rattle.pblk_cli.specs.declared.refusal.Refusal.{Refusal}
 use Rattle.pblk_cli.specs.declared.refusal.Refusal.TheVariants as refusals
 use Rattle.pblk_cli.specs.Refusal.{Refuses, ComesAfterImage, name_of, status_of, line_of}
-use Rattle.pblk_cli.specs.Status.{Says, SaysLine, SaysFile, SaysCause, SaysRefusal}
+use Rattle.pblk_cli.specs.Status.{Says, SaysLine, SaysFile, SaysCause, SaysRefusal, IsToldOf}
 use Rattle.pblk_cli.specs.Words.{IsRunOf}
 
 -- a sink that fails in the first piece
@@ -124,6 +124,15 @@ says_cause (refusals.Missing w) told held left faults_before faults_now image sc
     of_missing w told held faults_before faults_now image script old new before now r.1 after line
 says_cause refusals.Memory told held left faults_before faults_now image script old new before now e r after line = absurd (omega (arith, e))
 
+-- where there was no memory
+pub no_memory : (refusal : Refusal) (told : Bool) (held left : List ℕ → Option (List ℕ)) (before now : ℕ) (image script : List ℕ)
+    → status_of refusal ≡ 7 → Refuses refusal told held left before now image script → ComesAfterImage refusal told held image → (now ≡ before) × IsToldOf told held image
+no_memory refusals.Script told held left before now image script e r after = absurd (omega (arith, e))
+no_memory refusals.Image told held left before now image script e r after = absurd (omega (arith, e))
+no_memory (refusals.Failed w) told held left before now image script e r after = absurd (omega (arith, e))
+no_memory (refusals.Missing w) told held left before now image script e r after = absurd (omega (arith, e))
+no_memory refusals.Memory told held left before now image script e r after = (r.1, after)
+
 -- The words name one image and one script.
 
 abbrev second : List (List ℕ) → List ℕ
@@ -144,3 +153,9 @@ cause_of_run words a b image script told held faults_before faults_now old new b
     let image_is : a ≡ image = ap second same in
     let script_is : b ≡ script = ap third same in
     subst (λ x. SaysCause told held faults_before faults_now x script old new before now) image_is (subst (λ x. SaysCause told held faults_before faults_now a x old new before now) script_is h)
+
+pub memory_of_run : (words : List (List ℕ)) (a b image script : List ℕ) (told : Bool) (held : List ℕ → Option (List ℕ)) (before now : ℕ)
+    → IsRunOf words a b → IsRunOf words image script → (now ≡ before) × IsToldOf told held a → (now ≡ before) × IsToldOf told held image
+memory_of_run words a b image script told held before now first other h =
+    let same : codes "run" ∷ a ∷ b ∷ [] ≡ codes "run" ∷ image ∷ script ∷ [] = sym first.words_are ∙ other.words_are in
+    (h.0, subst (λ x. IsToldOf told held x) (ap second same) h.1)

@@ -47,7 +47,7 @@ Refuses refusals.Script told old new before now image script = SameFiles old new
 Refuses refusals.Image told old new before now image script = SameFiles old new × (IsTrue told → ImageRefused old image script)
 Refuses (refusals.Failed w) told old new before now image script = LeavesFiles told old new image script × HasRisen before now
 Refuses (refusals.Missing w) told old new before now image script = SameFiles old new × ((IsTrue told × (old (name_of w image script) ≡ None)) ⊎ HasRisen before now)
-Refuses refusals.Memory told old new before now image script = SameFiles old new
+Refuses refusals.Memory told old new before now image script = SameFiles old new × (now ≡ before)
 
 -- a refusal that names the script comes where the image is there
 abbrev pub ComesAfterImage : Refusal → Bool → (List ℕ → Option (List ℕ)) → List ℕ → Type 0
@@ -57,7 +57,7 @@ ComesAfterImage (refusals.Failed which.Image) told file image = Unit {0}
 ComesAfterImage (refusals.Failed which.Script) told file image = IsToldOf told file image
 ComesAfterImage (refusals.Missing which.Image) told file image = Unit {0}
 ComesAfterImage (refusals.Missing which.Script) told file image = IsToldOf told file image
-ComesAfterImage refusals.Memory told file image = Unit {0}
+ComesAfterImage refusals.Memory told file image = IsToldOf told file image
 
 -- the two chunks are the first line's of a small drive that holds what these lines of the history leave of zeros
 pub record HoldsRows (rows : List Row) (left right : DriveChunk) : Type 0 where

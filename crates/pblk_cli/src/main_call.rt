@@ -9,7 +9,7 @@ ghost use Rattle.pblk_cli.specs.Words.{IsRunOf};
 ghost use Rattle.pblk_cli.specs.Small.{small, blank_file};
 ghost use Rattle.pblk_cli.specs.Taken.{IsTakenScript};
 ghost use Rattle.pblk_cli.specs.Refusal.{Refuses, RefusesInputs, ComesAfterImage, IsRunOfInputs, IsRunOfScript, KeepsRows, HoldsRows};
-ghost use Rattle.pblk_cli.specs.Status.{JudgesWords, IsStatus, ImageRefused, ScriptRefused, IsMade, FilesFailed, LeavesFiles, SaysCause, SaysRefusal, SaysWords, IsAcceptedInput, MayAnswer};
+ghost use Rattle.pblk_cli.specs.Status.{JudgesWords, IsStatus, ImageRefused, ScriptRefused, IsMade, FilesFailed, LeavesFiles, SaysCause, SaysRefusal, SaysWords, IsAcceptedInput, IsToldOf, MayAnswer};
 
 use crate::held::first_line_holds_history;
 use crate::image::{store, unit_with};
@@ -67,6 +67,9 @@ pub fn pblk_main<F: Files, O: Sink>(
         → ImageRefused (F.file files.old) image script }
     ensures files_failed { (image script : List ℕ) → IsRunOf (map string_bytes words.now) image script → result ≡ 4
         → FilesFailed (F.tells files.old) (F.file files.old) (F.faults files.old) (F.faults files.new) image script }
+
+    ensures memory { (image script : List ℕ) → IsRunOf (map string_bytes words.now) image script → result ≡ 7
+        → (F.faults files.new ≡ F.faults files.old) × IsToldOf (F.tells files.old) (F.file files.old) image }
 
     // With input that is accepted it was made, unless there was a fault or no memory; other input is refused so.
     ensures takes { (image script : List ℕ) → IsRunOf (map string_bytes words.now) image script → IsTrue (F.tells files.old) → IsAcceptedInput (F.file files.old) image script

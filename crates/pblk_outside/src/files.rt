@@ -33,13 +33,17 @@ pub trait Files {
     /// Appends the bytes of the file to `into`.
     ///
     /// `Missing` comes where there is no file of that name or the count of faults has risen, `Failed`
-    /// only where it has risen, and `Memory` for want of memory. After an error `into` is as it was.
+    /// only where it has risen, and `Memory` for want of memory, where the file is there and the count stays.
+    /// After an error `into` is as it was.
     fn read(&mut self, name: &str, into: &mut Vec<u8>) -> Result<(), FileErr>
         ensures appends { OnOk result (AppendsFile (tells self.old) (file self.old name.now) into.old.items into.new.items) }
         ensures kept { OnErr result (into.new.items ≡ into.old.items) }
         ensures failed { IsErrOf result FileErr.Failed → HasRisen (faults self.old) (faults self.new) }
         ensures missing { IsErrOf result FileErr.Missing →
             (IsTrue (tells self.old) × (file self.old name.now ≡ None)) ⊎ HasRisen (faults self.old) (faults self.new) }
+        ensures memory { IsErrOf result FileErr.Memory →
+            IsTrue (tells self.old) → (bytes : List ℕ) × (file self.old name.now ≡ Some bytes) }
+        ensures memory_calm { IsErrOf result FileErr.Memory → faults self.new ≡ faults self.old }
 
         ensures same_files { SameFiles (file self.old) (file self.new) }
         ensures same_tells { tells self.new ≡ tells self.old }

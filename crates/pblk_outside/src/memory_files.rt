@@ -65,6 +65,7 @@ impl MemoryFiles {
 }
 
 impl Files for MemoryFiles {
+    ghost use Rattle.std.specs.Prelude.{List, ℕ};
     ghost use Rattle.pblk_outside.specs.MemoryFiles.{file_of, failing_of, calls_of, faults_of};
 
     ghost tells = { λ _. true };
@@ -83,6 +84,8 @@ impl Files for MemoryFiles {
         ensures kept { OnErr result (into.new.items ≡ into.old.items) }
         ensures failed { IsErrOf result FileErr.Failed → HasRisen (faults_of self.old) (faults_of self.new) }
         ensures missing { IsErrOf result FileErr.Missing → file_of self.old name.now ≡ None }
+        ensures memory { IsErrOf result FileErr.Memory → (bytes : List ℕ) × (file_of self.old name.now ≡ Some bytes) }
+        ensures memory_calm { IsErrOf result FileErr.Memory → faults_of self.new ≡ faults_of self.old }
         ensures same_files { SameFiles (file_of self.old) (file_of self.new) }
         ensures calm { OnOk result (faults_of self.new ≡ faults_of self.old) }
         ensures never_falls { faults_of self.old ≤ faults_of self.new }

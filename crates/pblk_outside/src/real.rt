@@ -8,7 +8,7 @@ use std::{fs, io, rt};
 
 /// The system's files, under their paths. They tell nothing of what they hold.
 ///
-/// Each error raises their count of faults.
+/// Each error but want of memory raises their count of faults.
 #[derive(Drop)]
 pub struct RealFiles<R> {
     runtime: R,
@@ -53,12 +53,13 @@ impl<R: rt::Files> Files for RealFiles<R> {
             return Ok(());
         };
         into.truncate(had);
-        self.faults.rise();
-        Err(match error.kind() {
-            ErrorKind::OutOfMemory => FileErr::Memory,
+        let error = match error.kind() {
+            ErrorKind::OutOfMemory => return Err(FileErr::Memory),
             ErrorKind::NotFound => FileErr::Missing,
             _ => FileErr::Failed,
-        })
+        };
+        self.faults.rise();
+        Err(error)
     }
 
     fn write(&mut self, name: &str, bytes: &[u8]) -> Result<(), FileErr> {

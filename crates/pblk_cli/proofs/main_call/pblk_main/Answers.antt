@@ -1,5 +1,5 @@
 use Rattle.std.proofs.Common.{◌++◌, ap, sym, ◌∙◌, string_bytes}
-use Rattle.pblk_cli.proofs.Saying.{says_cause, cause_of_run}
+use Rattle.pblk_cli.proofs.Saying.{says_cause, cause_of_run, no_memory, memory_of_run}
 use Rattle.pblk_cli.proofs.Statuses.{made_as, not_both, prefix_as}
 use Rattle.pblk_cli.proofs.main_call.pblk_main.Goals as goal
 
@@ -28,3 +28,7 @@ returns-in-Ok-clause-refuses_script g c = λ image script run told refused.
 pub returns-clause-says_cause : goal.returns-clause-says_cause
 returns-clause-says_cause g c = λ image script run four told. cause_of_run _ _ _ image script _ _ _ _ _ _ _ _ c.in-Some.ensures.found run
     (says_cause c.in-Err.refusal (g.F.Files.tells c.args.files.now) (g.F.Files.file c.args.files.now) (g.F.Files.file c.run.new.files) _ _ _ _ _ _ _ _ (sym c.status.ensures ∙ four) c.in-Err.ensures.refused c.in-Err.ensures.order (c.tell.ensures.line told))
+
+pub returns-clause-memory : goal.returns-clause-memory
+returns-clause-memory g c = λ image script run seven. memory_of_run _ _ _ image script (g.F.Files.tells c.args.files.now) (g.F.Files.file c.args.files.now) _ _ c.in-Some.ensures.found run
+    (no_memory c.in-Err.refusal (g.F.Files.tells c.args.files.now) (g.F.Files.file c.args.files.now) (g.F.Files.file c.run.new.files) _ _ _ _ (sym c.status.ensures ∙ seven) c.in-Err.ensures.refused c.in-Err.ensures.order)
