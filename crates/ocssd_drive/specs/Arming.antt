@@ -7,10 +7,9 @@ use Rattle.unit_port.specs.Armed.{Armed}
 use Rattle.ocssd_drive.specs.declared.fault.Fault.{Fault}
 use Rattle.ocssd_drive.specs.declared.fault.Fault.TheVariants as faults
 use Rattle.ocssd_drive.specs.declared.stop_word.StopView.{StopView}
-use Rattle.ocssd_drive.specs.Faults.{count_of}
+use Rattle.ocssd_drive.specs.Faults.{count_of, has_fuse_at}
 use Rattle.ocssd_drive.specs.Tally.{IsTally, TallyView}
 use Rattle.ocssd_drive.specs.StopWord.{SeatView, looked, blown}
-use Rattle.ocssd_drive.specs.Faults.{has_fuse_at}
 
 -- the fuse, where it falls at commands of this unit
 abbrev pub own_fuse : ℕ → Option Fuse → Option Fuse

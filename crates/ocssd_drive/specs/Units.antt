@@ -1,5 +1,5 @@
 -- Units in memory.
-use Rattle.std.specs.Prelude.{ℕ, ◌%◌, ◌<◌, ◌≤◌, ◌≡◌, List, [], length, replicate, Option, None, None}
+use Rattle.std.specs.Prelude.{ℕ, ◌%◌, ◌<◌, ◌≤◌, ◌≡◌, List, [], length, replicate, Option, None}
 use Rattle.pblk_model.specs.declared.shape.Shape.{Shape}
 use Rattle.pblk_model.specs.Chunk.{Chunk, IsChunk, free_chunk}
 use Rattle.pblk_model.specs.ChunkStep.{ChunkCommand, refusal}

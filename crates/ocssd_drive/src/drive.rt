@@ -5,7 +5,7 @@ ghost use Rattle.pblk_model.specs.Shape.{units};
 ghost use Rattle.ocssd_geometry.specs.Numbers.{IsGeometry};
 ghost use Rattle.atomic_table.specs.Seated.{TableId};
 ghost use Rattle.unit_port.specs.Unit.{IsStopped};
-ghost use Rattle.ocssd_drive.specs.Drive.{AreArmedTogether, FuseFell, IsWhole, armed_units, drive_shape, fitting_fuse, new_drive, shape_of, with_units, HasWord};
+ghost use Rattle.ocssd_drive.specs.Drive.{AreArmedTogether, FuseFell, HasWord, IsWhole, armed_units, drive_shape, fitting_fuse, new_drive, shape_of, with_units};
 ghost use Rattle.ocssd_drive.specs.Journal.{IsCalm};
 ghost use Rattle.ocssd_drive.specs.Units.{WornUnit, disarmed, new_unit};
 
