@@ -18,21 +18,21 @@ use Rattle.pblk_laws.proofs.LeastLengths.{start_len_positive}
 use Rattle.pblk_laws.proofs.Runs.{start_none}
 use Rattle.pblk_laws.proofs.ChunkStep.{free_is_chunk}
 
-IsEmpty : Chunk → Type 0
+unfoldable pub IsEmpty : Chunk → Type 0
 IsEmpty c = c.blocks ≡ []
 
-no_block : (o : Option Chunk) (k : ℕ) → IfSome o IsEmpty → option_and_then (λ c. slice_get c.blocks k) o ≡ None
+pub no_block : (o : Option Chunk) (k : ℕ) → IfSome o IsEmpty → option_and_then (λ c. slice_get c.blocks k) o ≡ None
 unfolding IsEmpty
 no_block None k h = refl
 no_block (Some c) k h = ap (λ blocks. slice_get blocks k) h
 
-empty_line : (i : Image) (line : ℕ) → AllByRecursion (AllByRecursion IsEmpty) i.units → AllByRecursion IsEmpty (line_chunks i line)
+pub empty_line : (i : Image) (line : ℕ) → AllByRecursion (AllByRecursion IsEmpty) i.units → AllByRecursion IsEmpty (line_chunks i line)
 empty_line i line h = all_filter IsEmpty (λ c. is_online_in c.state) _ (all_filter_map IsEmpty (AllByRecursion IsEmpty) (λ unit. slice_get unit line) i.units (λ unit each. all_get IsEmpty unit line each) h)
 
 empty_block : (i : Image) (line a : ℕ) → AllByRecursion (AllByRecursion IsEmpty) i.units → block_at i line a ≡ None
 empty_block i line a h = no_block (slice_get (line_chunks i line) (column_of i.shape (width i line) a)) (block_of i.shape (width i line) a) (all_get IsEmpty (line_chunks i line) (column_of i.shape (width i line) a) (empty_line i line h))
 
-blank_empty : (s : Shape) → AllByRecursion (AllByRecursion IsEmpty) (blank s).units
+pub blank_empty : (s : Shape) → AllByRecursion (AllByRecursion IsEmpty) (blank s).units
 unfolding IsEmpty
 blank_empty s = all_replicate (AllByRecursion IsEmpty) (units s) (replicate s.chunks free_chunk) (all_replicate IsEmpty s.chunks free_chunk refl)
 

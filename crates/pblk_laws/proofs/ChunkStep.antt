@@ -11,8 +11,7 @@ use Rattle.pblk_model.specs.declared.chunk.ChunkState.TheVariants as states
 use Rattle.pblk_model.specs.declared.chunk.ChunkErr.{ChunkErr}
 use Rattle.pblk_model.specs.declared.chunk.ChunkErr.TheVariants as errors
 use Rattle.pblk_model.specs.Chunk.{Chunk, Block, IsBlock, IsChunk, PointerFits, pointer, free_chunk, offline_chunk}
-use Rattle.pblk_model.specs.ChunkStep.{ChunkCommand, Write, Read, Reset, ChunkAnswer, Done, Gave, Empty, Refused, ChunkStep, ChunkFails, ChunkStops, place_refusal, write_refusal_in, appended, StopsWithin, refusal, closed_after, reset_in, after_reset}
-use Rattle.pblk_laws.specs.Commands.{WritesBlocks}
+use Rattle.pblk_model.specs.ChunkStep.{ChunkCommand, Write, Read, Reset, WritesBlocks, ChunkAnswer, Done, Gave, Empty, Refused, ChunkStep, ChunkFails, ChunkStops, place_refusal, write_refusal_in, appended, StopsWithin, refusal, closed_after, reset_in, after_reset}
 use Rattle.pblk_laws.proofs.Lists.{all_append, all_take}
 
 -- Refusals.

@@ -1,17 +1,14 @@
 -- What an image holds whose line 0 is filled from its front.
-use Rattle.std.proofs.Common.{◌≡◌, ℕ, ◌+◌, ◌-◌, ◌*◌, ◌^◌, ◌<◌, ◌≤◌, ◌==◌, cond, Option, Some, None, List, [], ◌++◌, length, replicate, refl, sym, ap, ◌∙◌, subst, arith}
-use Rattle.std.specs.List.{AllByRecursion, slice_get, filter, filter_map, flat_map, fold, range_with_len}
-use Rattle.std.specs.Option.{option_and_then, option_map, option_map_or, IfSome}
+use Rattle.std.proofs.Common.{◌≡◌, ℕ, ◌+◌, ◌-◌, ◌*◌, ◌<◌, ◌≤◌, cond, Option, Some, None, List, [], ◌++◌, length, replicate, refl, sym, ap, ◌∙◌, subst, arith}
+use Rattle.std.specs.List.{slice_get, filter, filter_map, flat_map, fold, range_with_len}
+use Rattle.std.specs.Option.{option_and_then, option_map, option_map_or}
 use Rattle.std.proofs.lemmas.List.{append-nil, length-replicate, get_or-replicate}
 use Rattle.std.proofs.lemmas.List.Elements.{filter_map-append}
 use Rattle.std.proofs.lemmas.List.FromFn.{fill_by_all}
-use Rattle.std.proofs.lemmas.Bool.{lt-ltb, le-ltb, ne_eqb}
-use Rattle.pblk_model.specs.declared.shape.Shape.{Shape}
-use Rattle.pblk_model.specs.declared.chunk.Mark.{Mark}
 use Rattle.pblk_model.specs.Bytes.{zeros}
 use Rattle.pblk_model.specs.Chunk.{Block}
 use Rattle.pblk_model.specs.LineOrder.{start_len, end_len}
-use Rattle.pblk_model.specs.Marks.{void_lba, sector_mark, pad_mark, meta_mark}
+use Rattle.pblk_model.specs.Marks.{sector_mark, meta_mark}
 use Rattle.pblk_model.specs.Image.{Image, width, block_at}
 use Rattle.pblk_model.specs.StartRecord.{StartRecord, start_of, have_meta}
 use Rattle.pblk_model.specs.EndRecord.{end_of, read_end}
@@ -20,7 +17,8 @@ use Rattle.pblk_model.specs.Contents.{later_start, head, is_borne, least_missing
 use Rattle.pblk_model.specs.History.{SectorWrite, after}
 use Rattle.pblk_laws.specs.StartBlocks.{AreStart}
 use Rattle.pblk_laws.specs.FilledLine.{IsFilledLine}
-use Rattle.pblk_laws.proofs.Lists.{all_get}
+use Rattle.pblk_laws.proofs.Lists.{all_at}
+use Rattle.pblk_laws.proofs.MarkNames.{named_sector, named_meta, named_pad}
 use Rattle.pblk_laws.proofs.Runs.{run_none}
 use Rattle.pblk_laws.proofs.Starts.{numbers, found_is}
 use Rattle.pblk_laws.proofs.FilledLists.{range_split, filter_map_range_none, filter_map_first, flat_map_first, record_of, records_of, records_length, records_by_place, missing_after, each_borne, each_counts, winner_is_last, after_length}
@@ -33,22 +31,6 @@ end_none i line start a low high none =
     let there : block_at i line (first + (a - first)) ≡ None = subst (λ x. block_at i line x ≡ None) (omega arith) none in
     ap (option_and_then (λ blocks. cond (have_meta start.seq blocks) (read_end i.shape line (width i line) start.seq (flat_map (λ (b : Block). b.sector) blocks)) None))
     (run_none i line first (end_len i.shape (width i line)) (a - first) (omega arith) there)
-
--- What a mark names.
-
-named_sector : (s : Shape) (m : Mark) → m.lba < s.capacity → named s m ≡ Some (Some m.lba)
-named_sector s m h = ap (λ b. cond b (Some (Some m.lba)) (cond (m.lba == void_lba) (Some None) None)) (lt-ltb m.lba s.capacity h)
-
-named_none : (s : Shape) (m : Mark) → s.capacity ≤ m.lba → (m.lba ≡ void_lba → ⊥) → named s m ≡ None
-named_none s m h ne =
-    ap (λ b. cond b (Some (Some m.lba)) (cond (m.lba == void_lba) (Some None) None)) (le-ltb m.lba s.capacity h)
-    ∙ ap (λ b. cond b (Some None) None) (ne_eqb m.lba void_lba ne)
-
-named_meta : (s : Shape) (seq : ℕ) → s.capacity < 2 ^ 40 → named s (meta_mark seq) ≡ None
-named_meta s seq h = named_none s (meta_mark seq) (omega arith) (λ e. omega arith)
-
-named_pad : (s : Shape) → s.capacity < 2 ^ 40 → named s pad_mark ≡ None
-named_pad s h = named_none s pad_mark (omega arith) (λ e. omega arith)
 
 -- The record of a written block in a line without an end record.
 
@@ -69,13 +51,10 @@ no_record i line start a not_full none = borne_by i line start a (block_at i lin
 
 -- The image.
 
-within : {X : Type 0} (P : X → Type 0) (xs : List X) (k : ℕ) (x : X) → AllByRecursion P xs → slice_get xs k ≡ Some x → P x
-within P xs k x h e = subst (λ o. IfSome o P) e (all_get P xs k h)
-
 module _ (i : Image) (start : StartRecord) (writes : List SectorWrite) (filled : IsFilledLine i start writes) where
   sector_record : (k : ℕ) (w : SectorWrite) → slice_get writes k ≡ Some w → record_at i 0 start (start_len i.shape + k) ≡ Some (record_of start.seq (start_len i.shape) k w)
   sector_record k w e =
-      let lba : w.lba < i.shape.capacity = within (λ (v : SectorWrite). v.lba < i.shape.capacity) writes k w filled.lbas e in
+      let lba : w.lba < i.shape.capacity = all_at (λ (v : SectorWrite). v.lba < i.shape.capacity) writes k w filled.lbas e in
       own_mark i 0 start (start_len i.shape + k) (record { sector = w.sector; mark = sector_mark w.lba k }) filled.not_full (filled.data_blocks k w e)
       ∙ ap (option_map (λ lba. record { line = 0; seq = start.seq; at = start_len i.shape + k; position = k; lba = lba; sector = w.sector })) (named_sector i.shape (sector_mark w.lba k) lba)
 
@@ -89,7 +68,7 @@ module _ (i : Image) (start : StartRecord) (writes : List SectorWrite) (filled :
       let are : AreStart i 0 start blocks = found.2 in
       no_record i 0 start a filled.not_full (λ b written.
       let there : slice_get blocks a ≡ Some b = sym (are.written a (omega arith)) ∙ written in
-      let mark : b.mark ≡ meta_mark start.seq = within (λ (x : Block). x.mark ≡ meta_mark start.seq) blocks a b are.marks there in
+      let mark : b.mark ≡ meta_mark start.seq = all_at (λ (x : Block). x.mark ≡ meta_mark start.seq) blocks a b are.marks there in
       ap (named i.shape) mark ∙ named_meta i.shape start.seq filled.capacity)
 
   pad_record : (a : ℕ) → start_len i.shape + length writes ≤ a → a < width i 0 * i.shape.clba → record_at i 0 start a ≡ None

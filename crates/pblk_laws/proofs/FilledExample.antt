@@ -1,5 +1,5 @@
 -- An image with one sector in its line 0.
-use Rattle.std.proofs.Common.{◌≡◌, ℕ, ◌+◌, ◌*◌, ◌/◌, ◌%◌, ◌<◌, ◌≤◌, zero, suc, true, Option, Some, None, List, [], ◌∷◌, ◌++◌, length, take, drop, replicate, refl, sym, ap, ◌∙◌, subst, arith, lit<, lit≤}
+use Rattle.std.proofs.Common.{◌≡◌, ℕ, ◌+◌, ◌*◌, ◌/◌, ◌%◌, ◌<◌, ◌≤◌, zero, suc, true, Some, None, List, [], ◌∷◌, ◌++◌, length, take, drop, replicate, refl, sym, ap, ◌∙◌, subst, arith, lit<, lit≤}
 use Rattle.std.specs.List.{AllByRecursion, slice_get}
 use Rattle.std.specs.Option.{option_and_then, IfSome}
 use Rattle.std.proofs.lemmas.List.{length-take, length-drop, length-replicate, take-append-drop, drop-drop}
@@ -16,6 +16,7 @@ use Rattle.pblk_model.specs.History.{SectorWrite}
 use Rattle.pblk_laws.specs.FilledLine.{IsFilledLine}
 use Rattle.pblk_laws.proofs.Lists.{all_take, all_replicate, all_get, all_filter, all_filter_map}
 use Rattle.pblk_laws.proofs.Shapes.{small, small_accepted}
+use Rattle.pblk_laws.proofs.BlankImages.{IsEmpty, no_block}
 use Rattle.pblk_laws.proofs.ChunkStep.{free_is_chunk}
 use Rattle.pblk_laws.proofs.Runs.{start_none}
 use Rattle.pblk_laws.proofs.Starts.{fields_fit, read_back, marked, found, start_bytes_length, start_bytes_are}
@@ -23,13 +24,13 @@ use Rattle.pblk_laws.proofs.Filled.{end_none}
 
 -- The start record and the sectors that spell it.
 
-abbrev first : StartRecord
+abbrev pub first : StartRecord
 first = record { line = 0; width = 4; seq = 1; first_seq = 1; front = 0; capacity = 1000; rows = [] }
 
-spelling : List ℕ
+pub spelling : List ℕ
 spelling = start_bytes small first
 
-part : ℕ → List ℕ
+pub part : ℕ → List ℕ
 part k = take 512 (drop k spelling)
 
 first_fits : start_fits small 0 4 first ≡ true
@@ -73,31 +74,31 @@ parts_are =
 
 -- The image: a stripe with the start record in the first unit, one with the sector in the second.
 
-abbrev meta_block : ℕ → Block
+abbrev pub meta_block : ℕ → Block
 meta_block k = record { sector = part k; mark = meta_mark 1 }
 
-abbrev meta_blocks : List Block
+abbrev pub meta_blocks : List Block
 meta_blocks = meta_block 0 ∷ meta_block 512 ∷ meta_block 1024 ∷ meta_block 1536 ∷ []
 
-some_sector : List ℕ
+pub some_sector : List ℕ
 some_sector = replicate 512 7
 
-abbrev write : SectorWrite
+abbrev pub write : SectorWrite
 write = record { lba = 5; sector = some_sector }
 
-pad_sector : List ℕ
+pub pad_sector : List ℕ
 pad_sector = zeros 512
 
-abbrev pad : Block
+abbrev pub pad : Block
 pad = record { sector = pad_sector; mark = pad_mark }
 
-abbrev data_blocks : List Block
+abbrev pub data_blocks : List Block
 data_blocks = record { sector = some_sector; mark = sector_mark 5 0 } ∷ pad ∷ pad ∷ pad ∷ []
 
-abbrev written_unit : List Block → List Chunk
+abbrev pub written_unit : List Block → List Chunk
 written_unit blocks = record { state = Open; blocks = blocks } ∷ replicate 15 free_chunk
 
-abbrev image : Image
+abbrev pub image : Image
 image = record { shape = small; units = written_unit meta_blocks ∷ written_unit data_blocks ∷ replicate 16 free_chunk ∷ replicate 16 free_chunk ∷ [] }
 
 front_written : (k : ℕ) → k < start_len small → block_at image 0 k ≡ slice_get meta_blocks k
@@ -116,22 +117,14 @@ starts = found image 0 first meta_blocks refl front_written read_first (marked 1
 
 -- No other line is written.
 
-IsEmpty : Chunk → Type 0
-IsEmpty c = c.blocks ≡ []
-
 free_empty : (n k : ℕ) → IfSome (slice_get (replicate n free_chunk) k) IsEmpty
 unfolding IsEmpty
 free_empty n k = all_get IsEmpty (replicate n free_chunk) k (all_replicate IsEmpty n free_chunk refl)
 
-others_empty : (k : ℕ) → AllByRecursion IsEmpty (line_chunks image (suc k))
+pub others_empty : (k : ℕ) → AllByRecursion IsEmpty (line_chunks image (suc k))
 others_empty k = all_filter IsEmpty (λ c. is_online_in c.state) _
     (all_filter_map IsEmpty (λ unit. IfSome (slice_get unit (suc k)) IsEmpty) (λ (unit : List Chunk). slice_get unit (suc k)) image.units (λ unit h. h)
     (free_empty 15 k, (free_empty 15 k, (free_empty 16 (suc k), (free_empty 16 (suc k), tt)))))
-
-no_block : (o : Option Chunk) (k : ℕ) → IfSome o IsEmpty → option_and_then (λ c. slice_get c.blocks k) o ≡ None
-unfolding IsEmpty
-no_block None k h = refl
-no_block (Some c) k h = ap (λ blocks. slice_get blocks k) h
 
 others : (line : ℕ) → 0 < line → line < 16 → start_of image line ≡ None
 others zero some h = absurd (omega arith)
@@ -160,7 +153,7 @@ pads_in (suc (suc (suc (suc column)))) block a b past c e is = absurd (none-some
 pads : (a : ℕ) (b : Block) → start_len small + 1 ≤ a → a < width image 0 * 64 → block_at image 0 a ≡ Some b → b.mark ≡ pad_mark
 pads a b past h is = pads_in ((a / 4) % 4) (a / 4 / 4 * 4 + a % 4) a b (omega arith) refl refl is
 
-is_filled : IsFilledLine image first (write ∷ [])
+pub is_filled : IsFilledLine image first (write ∷ [])
 is_filled = record {
   some_line = lit< tt;
   start_is = starts;
@@ -200,7 +193,7 @@ meta_chunk = record {
 data_chunk : IsChunk small (record { state = Open; blocks = data_blocks })
 data_chunk = record { place = (lit< tt, lit< tt); multiple = refl; blocks = (data_is, (pad_is, (pad_is, (pad_is, tt)))) }
 
-image_fit : IsFit image
+pub image_fit : IsFit image
 image_fit = record {
   units = refl;
   chunks = (refl, (refl, (refl, (refl, tt))));

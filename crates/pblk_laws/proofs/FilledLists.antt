@@ -99,7 +99,7 @@ newer_is : (k : ℕ) (o : Option Record) (r : Record) → IsBefore k o → r.pos
 unfolding IsBefore
 newer_is k None r h e = refl
 newer_is k (Some best) r h e =
-    let later : is_newer best r ≡ true = or_left (ltb best.position r.position) ((best.position == r.position) && (ltb best.seq r.seq || ((best.seq == r.seq) && ltb best.at r.at))) (lt-ltb best.position r.position (omega arith)) in
+    let later : is_newer best r ≡ true = or_left (ltb best.position r.position) ((best.position == r.position) && (ltb best.seq r.seq || ((best.seq == r.seq) && (ltb best.at r.at || ((best.at == r.at) && ltb r.line best.line))))) (lt-ltb best.position r.position (omega arith)) in
     ap (λ b. cond b (Some r) (Some best)) later
 
 last_write : (seq first lba : ℕ) (z d : List ℕ) (k : ℕ) (ws : List SectorWrite) (best : Option Record) (sectors : List (List ℕ)) → IsBefore k best → lba < length sectors

@@ -1,16 +1,16 @@
 -- Bytes are an image of one drive.
-use Rattle.std.proofs.Common.{◌≡◌, ℕ, ◌+◌, ◌*◌, ◌^◌, ◌<◌, inl, inr, Some, Result, Ok, List, [], ◌++◌, length, drop, refl, sym, ap, ◌∙◌, arith, append_assoc}
-use Rattle.std.specs.Int.{w32, w64}
+use Rattle.std.proofs.Common.{◌≡◌, ℕ, ◌+◌, ◌*◌, ◌^◌, ◌<◌, Some, Result, Ok, List, [], ◌++◌, length, refl, sym, ap, ◌∙◌, append_assoc}
+use Rattle.std.specs.Int.{w64}
 use Rattle.std.specs.List.{slice_get, slice_range, flat_map}
-use Rattle.std.proofs.lemmas.Nat.{from_le_bytes-to_le_bytes_4, from_le_bytes-to_le_bytes_8}
+use Rattle.std.proofs.lemmas.Nat.{from_le_bytes-to_le_bytes_8}
 use Rattle.pblk_model.specs.declared.shape.Shape.{Shape}
 use Rattle.pblk_model.specs.declared.chunk.ChunkState.{ChunkState}
-use Rattle.pblk_model.specs.Accepted.{IsAccepted}
+use Rattle.pblk_model.specs.Image.{IsFit}
 use Rattle.pblk_model.specs.Bytes.{le64, number_at}
 use Rattle.pblk_model.specs.Chunk.{Block, IsBlock, IsChunk, pointer}
 use Rattle.pblk_model.specs.Descriptor.{Descriptor, read_descriptor}
 use Rattle.pblk_model.specs.Geometry.{Geometry}
-use Rattle.pblk_model.specs.ImageFile.{StoredChunk, Drive, IsImage, shape_of, header_bytes, descriptor_of, block_bytes, blocks_bytes}
+use Rattle.pblk_model.specs.ImageFile.{StoredChunk, Drive, IsImage, image_of, shape_of, descriptor_of, block_bytes, blocks_bytes}
 use Rattle.pblk_laws.proofs.ImageBytesPieces.{all_at, cut, Paired, paired_from, cut_flat}
 use Rattle.pblk_laws.proofs.ImageBytesRead.{HasUnits, units_of, chunk_is}
 
@@ -86,20 +86,17 @@ record AreLike (d e : Drive) : Type 0 where
   capacity : d.capacity ≡ e.capacity
   ring : d.ring ≡ e.ring
 
-sector_fits : (s : Shape) → IsAccepted s → s.sector < 2 ^ 32
-sector_fits s accepted = elim accepted.target.sector [ inl e ↦ omega arith | inr e ↦ omega arith ]
-
 same_ok : {A E : Type 0} (x y : A) → ◌≡◌ {A = Result A E} (Ok x) (Ok y) → x ≡ y
 same_ok x y e = cc
 
 alike_drives : (bytes : List ℕ) (d e : Drive) → IsImage bytes d → IsImage bytes e → AreLike d e
 alike_drives bytes d e p q =
-    let header : header_bytes d ≡ header_bytes e = sym p.header ∙ q.header in
+    let shape : shape_of d ≡ shape_of e = p.of.settings ∙ sym q.of.settings in
     record {
-      geometry = same_ok d.geometry e.geometry (sym p.geometry ∙ q.geometry);
-      sector = sym (from_le_bytes-to_le_bytes_4 d.sector (sector_fits (shape_of d) p.settings)) ∙ (ap (number_at w32 12) header ∙ from_le_bytes-to_le_bytes_4 e.sector (sector_fits (shape_of e) q.settings));
-      capacity = sym (from_le_bytes-to_le_bytes_8 d.capacity (omega (arith, p.settings.target.capacity_number))) ∙ (ap (number_at w64 16) header ∙ from_le_bytes-to_le_bytes_8 e.capacity (omega (arith, q.settings.target.capacity_number)));
-      ring = sym (from_le_bytes-to_le_bytes_8 d.ring (omega (arith, p.settings.target.ring_high))) ∙ (ap (number_at w64 24) header ∙ from_le_bytes-to_le_bytes_8 e.ring (omega (arith, q.settings.target.ring_high)));
+      geometry = p.of.geometry ∙ sym q.of.geometry;
+      sector = ap (λ (s : Shape). s.sector) shape;
+      capacity = ap (λ (s : Shape). s.capacity) shape;
+      ring = ap (λ (s : Shape). s.ring) shape;
     }
 
 blocks_paired : (d e : Drive) (a b : StoredChunk) → d.sector ≡ e.sector → IsChunk (shape_of d) a.chunk → IsChunk (shape_of e) b.chunk → pointer a.chunk ≡ pointer b.chunk
@@ -121,14 +118,14 @@ descriptors_same : (bytes : List ℕ) (d e : Drive) (unit chunk : ℕ) (us vs : 
     → descriptor_of d.geometry unit chunk a ≡ descriptor_of e.geometry unit chunk b
 descriptors_same bytes d e unit chunk us vs a b p q same i j k l =
     same_ok (descriptor_of d.geometry unit chunk a) (descriptor_of e.geometry unit chunk b)
-    (sym (p.descriptors unit chunk us a i j)
+    (sym (p.of.descriptors unit chunk us a i j)
     ∙ (ap (λ (g : Geometry). read_descriptor (slice_range bytes (4128 + 32 * (unit * g.chunks + chunk)) (4128 + 32 * (unit * g.chunks + chunk) + 32))) same
-    ∙ q.descriptors unit chunk vs b k l))
+    ∙ q.of.descriptors unit chunk vs b k l))
 
-units_paired : (bytes : List ℕ) (d e : Drive) → IsImage bytes d → IsImage bytes e → AreLike d e → Paired (Paired (AreAlike e.sector)) d.units e.units
-units_paired bytes d e p q like =
-    let left : HasUnits d = units_of d p.fit in
-    let right : HasUnits e = units_of e q.fit in
+units_paired : (bytes : List ℕ) (d e : Drive) → IsImage bytes d → IsImage bytes e → IsFit (image_of d) → IsFit (image_of e) → AreLike d e → Paired (Paired (AreAlike e.sector)) d.units e.units
+units_paired bytes d e p q here there like =
+    let left : HasUnits d = units_of d here in
+    let right : HasUnits e = units_of e there in
     paired_from (Paired (AreAlike e.sector)) d.units e.units (left.count ∙ (ap (λ (g : Geometry). g.groups * g.pus) like.geometry ∙ sym right.count)) (λ unit us vs i k.
     let count : length us ≡ d.geometry.chunks = all_at (λ (us : List StoredChunk). length us ≡ d.geometry.chunks) d.units unit us left.chunks i in
     let other : length vs ≡ e.geometry.chunks = all_at (λ (vs : List StoredChunk). length vs ≡ e.geometry.chunks) e.units unit vs right.chunks k in
@@ -140,13 +137,6 @@ units_paired bytes d e p q like =
       blocks = blocks_paired d e a b like.sector (chunk_is d unit chunk us a left i j) (chunk_is e unit chunk vs b right k l) (ap (λ (x : Descriptor). x.wp) same);
     }))
 
-blocks_same : (bytes : List ℕ) (d e : Drive) → IsImage bytes d → IsImage bytes e → AreLike d e → blocks_bytes d ≡ blocks_bytes e
-blocks_same bytes d e p q like =
-    let count : length d.units ≡ length e.units = (units_of d p.fit).count ∙ (ap (λ (g : Geometry). g.groups * g.pus) like.geometry ∙ sym (units_of e q.fit).count) in
-    let start : 4128 + 32 * (length d.units * d.geometry.chunks) ≡ 4128 + 32 * (length e.units * e.geometry.chunks) =
-    ap (λ n. 4128 + 32 * (n * d.geometry.chunks)) count ∙ ap (λ (g : Geometry). 4128 + 32 * (length e.units * g.chunks)) like.geometry in
-    sym p.blocks ∙ (ap (λ n. drop n bytes) start ∙ q.blocks)
-
 same_drive : (d e : Drive) → AreLike d e → d.units ≡ e.units → d ≡ e
 same_drive d e like units =
     let made : Geometry → ℕ → ℕ → ℕ → List (List StoredChunk) → Drive = λ g s c r us. record { geometry = g; sector = s; capacity = c; ring = r; units = us } in
@@ -156,7 +146,7 @@ same_drive d e like units =
     ∙ (ap (λ r. made e.geometry e.sector e.capacity r d.units) like.ring
     ∙ ap (λ us. made e.geometry e.sector e.capacity e.ring us) units)))
 
-pub one_drive : (bytes : List ℕ) (d e : Drive) → IsImage bytes d → IsImage bytes e → d ≡ e
-one_drive bytes d e p q =
+pub one_drive : (bytes : List ℕ) (d e : Drive) → IsImage bytes d → IsImage bytes e → IsFit (image_of d) → IsFit (image_of e) → d ≡ e
+one_drive bytes d e p q here there =
     let like : AreLike d e = alike_drives bytes d e p q in
-    same_drive d e like (units_same e.sector d e (units_paired bytes d e p q like) (blocks_same bytes d e p q like))
+    same_drive d e like (units_same e.sector d e (units_paired bytes d e p q here there like) (sym p.of.blocks ∙ q.of.blocks))

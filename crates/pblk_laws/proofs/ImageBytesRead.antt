@@ -1,6 +1,6 @@
 -- The spelling of a drive is an image of it.
-use Rattle.std.proofs.Common.{◌≡◌, ℕ, ◌+◌, ◌*◌, ◌/◌, ◌%◌, ◌^◌, ◌<◌, ◌≤◌, Bool, true, false, cond, not, eqb, ltb, leb, Option, Some, None, Ok, List, [], ◌∷◌, ◌++◌, map, length, take, drop, refl, sym, ap, ◌∙◌, subst, arith, lit<, append_assoc, length-append}
-use Rattle.std.proofs.lemmas.List.{take_at, drop_at, length-map}
+use Rattle.std.proofs.Common.{◌≡◌, ℕ, ◌+◌, ◌*◌, ◌/◌, ◌%◌, ◌^◌, ◌<◌, ◌≤◌, Bool, true, false, cond, not, eqb, ltb, leb, Option, Some, None, Ok, List, [], ◌∷◌, ◌++◌, map, length, refl, sym, ap, ◌∙◌, subst, arith, lit<, append_assoc, length-append}
+use Rattle.std.proofs.lemmas.List.{length-map}
 use Rattle.std.proofs.lemmas.Bool.{and_parts, and_from, leb-true, eq-eqb, ne_eqb, not_from_false, lt-ltb, le-leb}
 use Rattle.std.proofs.lemmas.Option.{none-some, slice_get_within}
 use Rattle.std.proofs.lemmas.List.FromFn.{length-enumerate_from}
@@ -12,11 +12,12 @@ use Rattle.pblk_model.specs.declared.chunk.ChunkState.TheVariants.{Free, Open, C
 use Rattle.pblk_model.specs.Accepted.{IsAccepted}
 use Rattle.pblk_model.specs.Chunk.{PointerFits, IsChunk, pointer}
 use Rattle.pblk_model.specs.Descriptor.{pointer_holds, read_descriptor}
-use Rattle.pblk_model.specs.Geometry.{Geometry, geometry_bytes, geometry_refusal, read_geometry, first_failing, field_checks, profile_checks, refusal_from, length_holds, packed}
+use Rattle.pblk_model.specs.Checks.{first_failing}
+use Rattle.pblk_model.specs.Geometry.{Geometry, geometry_bytes, geometry_refusal, field_checks, profile_checks, refusal_from, length_holds, packed}
 use Rattle.pblk_model.specs.Image.{IsFit}
-use Rattle.pblk_model.specs.ImageFile.{StoredChunk, Drive, IsImage, shape_of, image_of, image_bytes, header_bytes, first_address, descriptor_of, descriptor_bytes, unit_descriptors, descriptors_bytes, blocks_bytes}
+use Rattle.pblk_model.specs.ImageFile.{StoredChunk, Drive, shape_of, image_of, image_bytes, header_bytes, first_address, descriptor_of, descriptor_bytes, unit_descriptors, descriptors_bytes, blocks_bytes}
 use Rattle.pblk_laws.specs.GeometryFields.{FitsFields}
-use Rattle.pblk_laws.proofs.ImageBytes.{geometry_back, geometry_length, descriptor_back, descriptor_length}
+use Rattle.pblk_laws.proofs.ImageBytes.{geometry_length, descriptor_back, descriptor_length}
 use Rattle.pblk_laws.proofs.ImageBytesPieces.{Piece, all_of, all_weaker, all_unmap, all_at, all_enumerate, enumerate_get, piece_in_piece, slice_of, slice_of_piece, piece_of_flat, flat_length}
 
 -- What a geometry that isn't refused has.
@@ -25,13 +26,13 @@ kept_none : (b : Bool) (o : Option ℕ) (n : ℕ) → cond b o (Some n) ≡ None
 kept_none true o n h = (refl, h)
 kept_none false o n h = absurd (none-some n (sym h))
 
-none_fails : (checks : List (ℕ × Bool)) → first_failing checks ≡ None → AllByRecursion (λ check. check.1 ≡ true) checks
+pub none_fails : (checks : List (ℕ × Bool)) → first_failing checks ≡ None → AllByRecursion (λ check. check.1 ≡ true) checks
 none_fails [] h = tt
 none_fails (check ∷ checks) h =
     let both = kept_none check.1 (first_failing checks) check.0 h in
     (both.0, none_fails checks both.1)
 
-no_refusal : (field rule : Option ℕ) → refusal_from field rule ≡ None → (field ≡ None) × (rule ≡ None)
+pub no_refusal : (field rule : Option ℕ) → refusal_from field rule ≡ None → (field ≡ None) × (rule ≡ None)
 no_refusal None None h = (refl, refl)
 no_refusal None (Some n) h = cc
 no_refusal (Some n) rule h = cc
@@ -40,13 +41,13 @@ holds : (bits count : ℕ) → length_holds bits count ≡ true → count ≤ 2 
 holds bits count h = leb-true count (2 ^ bits) (and_parts (leb bits 32) (leb count (2 ^ bits)) h).1
 
 -- the lengths of an address's fields
-record HasLengths (g : Geometry) : Type 0 where
+pub record HasLengths (g : Geometry) : Type 0 where
   groups : g.groups ≤ 2 ^ g.group_bits
   pus : g.pus ≤ 2 ^ g.pu_bits
   chunks : g.chunks ≤ 2 ^ g.chunk_bits
   sum : g.group_bits + g.pu_bits + g.chunk_bits + g.block_bits ≤ 64
 
-lengths_of : (g : Geometry) → geometry_refusal g ≡ None → HasLengths g
+pub lengths_of : (g : Geometry) → geometry_refusal g ≡ None → HasLengths g
 lengths_of g h =
     let both = no_refusal (first_failing (field_checks g)) (first_failing (profile_checks g)) h in
     let fields = none_fails (field_checks g) both.0 in
@@ -65,7 +66,7 @@ shifted a b j k h i =
     let below : a * 2 ^ k + b < 2 ^ k * 2 ^ j = mul-add-lt a (2 ^ k) b (2 ^ j) h i in
     omega (arith, pow-add 2 j k)
 
-packs_below : (g : Geometry) (unit chunk : ℕ) → HasLengths g → unit < g.groups * g.pus → 0 < g.pus → chunk < g.chunks → packed g (first_address g unit chunk) < 2 ^ 64
+pub packs_below : (g : Geometry) (unit chunk : ℕ) → HasLengths g → unit < g.groups * g.pus → 0 < g.pus → chunk < g.chunks → packed g (first_address g unit chunk) < 2 ^ 64
 packs_below g unit chunk h inside some low =
     let group : unit / g.pus < g.groups = div_below unit g.pus g.groups some inside in
     let pu : unit % g.pus < g.pus = mod_below unit g.pus some in
@@ -80,13 +81,13 @@ packs_below g unit chunk h inside some low =
 
 -- Write pointers.
 
-pointer_from : (s : ChunkState) (cnlb wp : ℕ) → PointerFits s cnlb wp → pointer_holds s cnlb wp ≡ true
+pub pointer_from : (s : ChunkState) (cnlb wp : ℕ) → PointerFits s cnlb wp → pointer_holds s cnlb wp ≡ true
 pointer_from Free cnlb wp h = eq-eqb wp 0 h
 pointer_from Open cnlb wp h = and_from (not (eqb wp 0)) (ltb wp cnlb) (not_from_false (eqb wp 0) (ne_eqb wp 0 (λ e. omega (arith, h.0)))) (lt-ltb wp cnlb h.1)
 pointer_from Closed cnlb wp h = le-leb wp cnlb h
 pointer_from Offline cnlb wp h = eq-eqb wp 0 h
 
-pointer_within : (s : ChunkState) (cnlb wp : ℕ) → PointerFits s cnlb wp → wp ≤ cnlb
+pub pointer_within : (s : ChunkState) (cnlb wp : ℕ) → PointerFits s cnlb wp → wp ≤ cnlb
 pointer_within Free cnlb wp h = omega arith
 pointer_within Open cnlb wp h = omega (arith, h.1)
 pointer_within Closed cnlb wp h = h
@@ -128,7 +129,7 @@ unit_lengths d h =
     all_enumerate (λ unit. length (unit_descriptors d.geometry unit) ≡ 32 * d.geometry.chunks) (λ kept. length kept ≡ d.geometry.chunks) 0 d.units
     (λ i kept e. unit_length d.geometry (i, kept) e) h.chunks
 
-descriptors_length : (d : Drive) → HasUnits d → length (descriptors_bytes d) ≡ 32 * (length d.units * d.geometry.chunks)
+pub descriptors_length : (d : Drive) → HasUnits d → length (descriptors_bytes d) ≡ 32 * (length d.units * d.geometry.chunks)
 descriptors_length d h =
     let all : length (descriptors_bytes d) ≡ 32 * d.geometry.chunks * length (enumerate_from 0 d.units) =
     flat_length (unit_descriptors d.geometry) (32 * d.geometry.chunks) (enumerate_from 0 d.units) (unit_lengths d h) in
@@ -136,7 +137,7 @@ descriptors_length d h =
     let product : 32 * d.geometry.chunks * length d.units ≡ 32 * (length d.units * d.geometry.chunks) = omega arith in
     all ∙ (ap (λ n. 32 * d.geometry.chunks * n) count ∙ product)
 
-descriptor_stands : (d : Drive) (unit chunk : ℕ) (kept : List StoredChunk) (k : StoredChunk) → HasUnits d → slice_get d.units unit ≡ Some kept → slice_get kept chunk ≡ Some k
+pub descriptor_stands : (d : Drive) (unit chunk : ℕ) (kept : List StoredChunk) (k : StoredChunk) → HasUnits d → slice_get d.units unit ≡ Some kept → slice_get kept chunk ≡ Some k
     → Piece (descriptors_bytes d) (descriptor_bytes d.geometry unit chunk k) (32 * d.geometry.chunks * unit + 32 * chunk)
 descriptor_stands d unit chunk kept k h p q =
     let g = d.geometry in
@@ -156,22 +157,16 @@ descriptor_stands d unit chunk kept k h p q =
 parts : (h g d b : List ℕ) → h ++ g ++ d ++ b ≡ h ++ (g ++ d ++ b)
 parts h g d b = simp append_assoc
 
-first_part : (h g d b : List ℕ) (n : ℕ) → length h ≡ n → take n (h ++ g ++ d ++ b) ≡ h
-first_part h g d b n e = ap (take n) (parts h g d b) ∙ take_at h (g ++ d ++ b) n e
-
-second_part : (h g d b : List ℕ) (n m : ℕ) → length h ≡ n → n + length g ≡ m → slice_range (h ++ g ++ d ++ b) n m ≡ g
+pub second_part : (h g d b : List ℕ) (n m : ℕ) → length h ≡ n → n + length g ≡ m → slice_range (h ++ g ++ d ++ b) n m ≡ g
 second_part h g d b n m e k = ap (λ w. slice_range w n m) (append_assoc (h ++ g) d b) ∙ slice_of h g (d ++ b) n m e k
 
-third_part : (h g d b : List ℕ) (n : ℕ) → length h + length g ≡ n → Piece (h ++ g ++ d ++ b) d n
+pub third_part : (h g d b : List ℕ) (n : ℕ) → length h + length g ≡ n → Piece (h ++ g ++ d ++ b) d n
 third_part h g d b n e = record { before = h ++ g; after = b; is = refl; count = length-append h g ∙ e }
 
-fourth_part : (h g d b : List ℕ) (n : ℕ) → length h + length g + length d ≡ n → drop n (h ++ g ++ d ++ b) ≡ b
-fourth_part h g d b n e = drop_at (h ++ g ++ d) b n (omega (arith, length-append (h ++ g) d, length-append h g))
-
-header_length : (d : Drive) → length (header_bytes d) ≡ 32
+pub header_length : (d : Drive) → length (header_bytes 1 d) ≡ 32
 header_length d = refl
 
-descriptor_read : (d : Drive) (unit chunk : ℕ) (kept : List StoredChunk) (k : StoredChunk) → FitsFields d.geometry → geometry_refusal d.geometry ≡ None → IsAccepted (shape_of d) → HasUnits d
+pub descriptor_read : (d : Drive) (unit chunk : ℕ) (kept : List StoredChunk) (k : StoredChunk) → FitsFields d.geometry → geometry_refusal d.geometry ≡ None → IsAccepted (shape_of d) → HasUnits d
     → AllByRecursion (AllByRecursion (λ k. k.wear < 256)) d.units → slice_get d.units unit ≡ Some kept → slice_get kept chunk ≡ Some k
     → read_descriptor (slice_range (image_bytes d) (4128 + 32 * (unit * d.geometry.chunks + chunk)) (4128 + 32 * (unit * d.geometry.chunks + chunk) + 32)) ≡ Ok (descriptor_of d.geometry unit chunk k)
 descriptor_read d unit chunk kept k fields taken accepted h wears p q =
@@ -185,26 +180,10 @@ descriptor_read d unit chunk kept k fields taken accepted h wears p q =
     let blocks : g.clba < 2 ^ 32 = fields.clba in
     let stands : Piece (image_bytes d) (descriptor_bytes g unit chunk k) (4128 + (32 * g.chunks * unit + 32 * chunk)) =
     piece_in_piece (image_bytes d) (descriptors_bytes d) (descriptor_bytes g unit chunk k) 4128 (32 * g.chunks * unit + 32 * chunk)
-    (third_part (header_bytes d) (geometry_bytes g) (descriptors_bytes d) (blocks_bytes d) 4128 (omega (arith, header_length d, geometry_length g)))
+    (third_part (header_bytes 1 d) (geometry_bytes g) (descriptors_bytes d) (blocks_bytes d) 4128 (omega (arith, header_length d, geometry_length g)))
     (descriptor_stands d unit chunk kept k h p q) in
     let slba : packed g (first_address g unit chunk) < 2 ^ 64 = packs_below g unit chunk (lengths_of g taken) (omega (arith, h.count)) accepted.drive.pus (omega arith) in
     let place : 4128 + (32 * g.chunks * unit + 32 * chunk) ≡ 4128 + 32 * (unit * g.chunks + chunk) = omega arith in
     let at : ℕ = 4128 + 32 * (unit * g.chunks + chunk) in
     ap read_descriptor (slice_of_piece (image_bytes d) (descriptor_bytes g unit chunk k) (4128 + (32 * g.chunks * unit + 32 * chunk)) at (at + 32) stands place (ap (λ n. at + n) (descriptor_length (descriptor_of g unit chunk k))))
     ∙ descriptor_back (descriptor_of g unit chunk k) wear slba (omega arith) (omega arith) (pointer_from k.chunk.state g.clba (pointer k.chunk) is.place)
-
-pub spelled_is_image : (d : Drive) → FitsFields d.geometry → geometry_refusal d.geometry ≡ None → IsAccepted (shape_of d) → IsFit (image_of d)
-    → AllByRecursion (AllByRecursion (λ k. k.wear < 256)) d.units → IsImage (image_bytes d) d
-spelled_is_image d fields taken accepted fit wears =
-    let g = d.geometry in
-    let h = units_of d fit in
-    let header : length (header_bytes d) ≡ 32 = header_length d in
-    let geometry : length (geometry_bytes g) ≡ 4096 = geometry_length g in
-    record {
-      header = first_part (header_bytes d) (geometry_bytes g) (descriptors_bytes d) (blocks_bytes d) 32 header;
-      geometry = ap read_geometry (second_part (header_bytes d) (geometry_bytes g) (descriptors_bytes d) (blocks_bytes d) 32 4128 header (ap (λ n. 32 + n) geometry)) ∙ geometry_back g fields taken;
-      settings = accepted;
-      fit = fit;
-      descriptors = λ unit chunk kept k p q. descriptor_read d unit chunk kept k fields taken accepted h wears p q;
-      blocks = fourth_part (header_bytes d) (geometry_bytes g) (descriptors_bytes d) (blocks_bytes d) (4128 + 32 * (length d.units * g.chunks)) (omega (arith, header, geometry, descriptors_length d h));
-    }

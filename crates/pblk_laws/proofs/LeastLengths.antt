@@ -4,6 +4,7 @@ use Rattle.std.specs.Int.{div_ceil}
 use Rattle.std.proofs.lemmas.Grind.{div_ceil_times}
 use Rattle.std.proofs.Math.Nat.{lt_of_mul-lt-mul_right, mul-le-mul_left, mul-le-mul_right, mul-pos, pos_of_ne-zero}
 use Rattle.pblk_model.specs.declared.shape.Shape.{Shape}
+use Rattle.pblk_model.specs.Shape.{units}
 use Rattle.pblk_model.specs.Accepted.{IsAccepted}
 use Rattle.pblk_model.specs.LineOrder.{IsLeastMultiple, HoldsStart, HoldsEnd, start_len, end_len}
 
@@ -58,3 +59,17 @@ end_len_least s g stripes sectors =
       holds = marks_fit (g * s.clba - start_len s) (end_len s g) s.sector sectors (mul-pos stripes positive) (omega arith);
       least = λ k more h. mul-le-mul_left s.ws_opt (ceil_least bytes stripe k some (omega arith));
     }
+
+few_blocks : (u k b s : ℕ) → 8 ≤ k → 512 ≤ s → u * k * b * s ≤ 268435456 → u * b ≤ 65536
+few_blocks u k b s chunks sector size =
+    let h1 : u * 8 ≤ u * k = mul-le-mul_left u chunks in
+    let h2 : u * 8 * b ≤ u * k * b = mul-le-mul_right b h1 in
+    let h3 : u * k * b * 512 ≤ u * k * b * s = mul-le-mul_left (u * k * b) sector in
+    omega arith
+
+-- a line has few blocks
+pub line_short : (s : Shape) (g : ℕ) → IsAccepted s → g ≤ units s → g * s.clba ≤ 65536
+line_short s g accepted few =
+    let whole = few_blocks (units s) s.chunks s.clba s.sector accepted.drive.lines_low (sector_at_least s accepted) accepted.target.size in
+    let part : g * s.clba ≤ units s * s.clba = mul-le-mul_right s.clba few in
+    omega arith

@@ -148,7 +148,10 @@ module _ (size capacity : ℕ) (script : List (List Command)) (before after : Li
   thread_short : (i : ℕ) → length (filter (λ w. w.thread == i) run.order) ≤ 200000
   thread_short i = rw (run.each i) (omega (arith, commands_length i (unwrap_or (slice_get script i) []) (unwrap_or (slice_get t.outcomes i) []), thread_length script i, fits.commands))
 
-  pub kept_fits : t.kept < 10 ^ 64
-  kept_fits =
+  pub history_short : length t.history < 10 ^ 64
+  history_short =
       let writes = length_by_thread 200000 16 run.order (threads_fit run.order order_fits) thread_short in
-      omega (arith, writes, rows_length run.order order_fits, ap length run.history, run.kept_within)
+      omega (arith, writes, rows_length run.order order_fits, ap length run.history)
+
+  pub kept_fits : t.kept < 10 ^ 64
+  kept_fits = omega (arith, history_short, run.kept_within)

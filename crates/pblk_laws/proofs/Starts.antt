@@ -190,7 +190,7 @@ found i line r blocks counted each read marks =
 same_mark : (m : Mark) (lba position : ℕ) → m.lba ≡ lba → m.position ≡ position → ◌≡◌ {A = Mark} m (record { lba = lba; position = position })
 same_mark m lba position p q = rw (sym p, sym q) refl
 
-marks_of : (seq : ℕ) (blocks : List Block) → have_meta seq blocks ≡ true → AllByRecursion (λ b. b.mark ≡ meta_mark seq) blocks
+pub marks_of : (seq : ℕ) (blocks : List Block) → have_meta seq blocks ≡ true → AllByRecursion (λ b. b.mark ≡ meta_mark seq) blocks
 marks_of seq [] h = tt
 marks_of seq (b ∷ bs) h =
     let parts = and_parts (eqb b.mark.lba meta_lba && eqb b.mark.position seq) (have_meta seq bs) h in
@@ -235,7 +235,7 @@ pub spelled_length : (r : StartRecord) → length (spelled r) ≡ 64 + 24 * leng
 unfolding zeros
 spelled_length r = let rows : length (flat_map row_bytes r.rows) ≡ 24 * length r.rows = rows_length r.rows in omega arith
 
-padded_length : (n : ℕ) (bytes : List ℕ) → length bytes ≤ n → length (padded_to n bytes) ≡ n
+pub padded_length : (n : ℕ) (bytes : List ℕ) → length bytes ≤ n → length (padded_to n bytes) ≡ n
 unfolding zeros
 padded_length n bytes h = simp (length-append, length-replicate) (omega arith)
 
@@ -247,10 +247,10 @@ start_bytes_length s line g r accepted fits =
     padded_length (start_len s * s.sector) (spelled r) (omega (arith, spelled_length r))
 
 -- each number of a list is a byte
-record AreBytes (xs : List ℕ) : Type 0 where
-  each : AllByRecursion (λ x. x < 256) xs
+pub record AreBytes (xs : List ℕ) : Type 0 where
+  pub each : AllByRecursion (λ x. x < 256) xs
 
-byte_is : (i n : ℕ) → byte_at i n < 256
+pub byte_is : (i n : ℕ) → byte_at i n < 256
 byte_is zero n = mod-lt n (omega arith)
 byte_is (suc i) n = mod-lt (n / 256 ^ suc i) (omega arith)
 
@@ -258,20 +258,20 @@ low_bytes : (i k n : ℕ) → AllByRecursion (λ x. x < 256) (bytes_low_first i 
 low_bytes i zero n = tt
 low_bytes i (suc k) n = (byte_is i n, low_bytes (suc i) k n)
 
-two : (n : ℕ) → AreBytes (le16 n)
+pub two : (n : ℕ) → AreBytes (le16 n)
 two n = record { each = low_bytes 0 2 n }
 
-four : (n : ℕ) → AreBytes (le32 n)
+pub four : (n : ℕ) → AreBytes (le32 n)
 four n = record { each = low_bytes 0 4 n }
 
-eight : (n : ℕ) → AreBytes (le64 n)
+pub eight : (n : ℕ) → AreBytes (le64 n)
 eight n = record { each = low_bytes 0 8 n }
 
-some_zeros : (n : ℕ) → AreBytes (zeros n)
+pub some_zeros : (n : ℕ) → AreBytes (zeros n)
 unfolding zeros
 some_zeros n = record { each = all_replicate (λ x. x < 256) n 0 (omega arith) }
 
-◌then◌ : {xs ys : List ℕ} → AreBytes xs → AreBytes ys → AreBytes (xs ++ ys)
+pub ◌then◌ : {xs ys : List ℕ} → AreBytes xs → AreBytes ys → AreBytes (xs ++ ys)
 ◌then◌ {xs} {ys} h k = record { each = all_append (λ x. x < 256) xs ys h.each k.each }
 
 infixl 5 ◌then◌

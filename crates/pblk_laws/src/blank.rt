@@ -29,5 +29,6 @@ pub fn blank_has_no_record()
 
 /// A blank image's user sectors are zeros.
 pub fn blank_holds_zeros()
-    ensures { (s : Shape) → IsAccepted s → contents (blank s) ≡ replicate s.capacity (zeros s.sector) }
+    ensures { (s : Shape) → IsAccepted s
+        → contents (blank s) ≡ replicate s.capacity (zeros s.sector) }
 {}

@@ -1,14 +1,22 @@
-//! Laws over the definitions of `pblk_model`: each is the contract of a function without parameters that does nothing.
+//! Laws over the definitions of `pblk_model`: each is the contract of a function without
+//! parameters that does nothing.
 #![tactic(auto)]
 
 mod accepted;
 mod blank;
 mod chunk_step;
+mod contents;
+mod descriptor;
+mod end_record;
 mod filled_line;
+mod history;
 mod image;
 mod image_file;
 mod lengths;
 mod line_order;
+mod marks;
+mod script;
+mod sealed;
 mod start_record;
 mod transcript;
 mod unit_log;
@@ -19,20 +27,36 @@ pub use chunk_step::{
     failure_appends, failure_keeps_chunk, read_changes_nothing, refused_changes_nothing,
     step_appends, step_is_determined, step_keeps_chunk, stop_appends, stop_keeps_chunk,
 };
-pub use filled_line::{
-    a_line_is_filled, end_is_least, filled_contents, head_is_greatest, line_order_is,
-    no_end_record, winner_is_newest,
+pub use contents::{a_block_bears_one_record, end_is_least, head_is_greatest, winner_is_newest};
+pub use descriptor::pointer_rules_agree;
+pub use end_record::{
+    end_read_is_spelled, end_spelled_is_read, end_spelling_fills_its_blocks, found_end_is_written,
+    written_end_is_found,
 };
+pub use filled_line::{a_line_is_filled, filled_contents, line_order_is, no_end_record};
+pub use history::users_are_the_first;
 pub use image::width_is_within_units;
 pub use image_file::{
     a_drive_is_spelled, descriptor_is_read_back, geometry_is_read_back, image_is_of_one_drive,
     spelled_image_is_read,
 };
-pub use lengths::{end_len_is_least, start_len_is_least};
-pub use line_order::{address_is_of, one_to_one};
+pub use lengths::{a_line_is_short, end_len_is_least, start_len_is_least};
+pub use line_order::{address_is_of, block_at_is, line_units_are, one_to_one};
+pub use marks::{marks_bear_records, marks_name_sectors};
+pub use script::{
+    a_line_is_spelled, a_read_script_is_spelled, a_spelled_line_is_read, a_spelled_script_is_read,
+    a_stuck_script_has_no_times, bytes_are_one_script, three_posts_are_a_script,
+    two_awaits_are_stuck,
+};
+pub use sealed::{
+    a_filled_line_is_sealed, blank_is_sealed, filled_line_is_sealed, start_records_begin_once,
+};
 pub use start_record::{
     found_is_written, read_is_spelled, spelled_is_read, spelling_fills_its_blocks,
     unwritten_is_none, written_is_found,
 };
-pub use transcript::{one_contents_after, one_history};
-pub use unit_log::{a_log_grows, events_follow_the_table, stops_are_events};
+pub use transcript::{one_contents_after, one_history, one_transcript};
+pub use unit_log::{
+    a_log_grows, a_log_keeps_chunks, cuts_are_logs, events_follow_the_table, failures_are_events,
+    stops_are_events,
+};

@@ -6,17 +6,32 @@ ghost use Rattle.pblk_model.specs.Script.{ScriptFits};
 ghost use Rattle.pblk_model.specs.Text.{Transcript, text_of};
 ghost use Rattle.pblk_model.specs.Transcript.{IsRun, TranscriptRelation};
 
-/// Two runs of one script whose texts are equal have equal histories, and as many lines of them are kept. Their
-/// contents before may differ.
+/// Two runs of one script whose texts are equal have equal histories, and as many lines of them
+/// are kept. Their contents before may differ.
 pub fn one_history()
-    ensures { (size capacity : ℕ) (script : List (List Command)) (before other : List (List ℕ)) (t u : Transcript) (x y : List (List ℕ))
-        → ScriptFits capacity script → IsRun size script before t x → IsRun size script other u y → text_of t ≡ text_of u
+    ensures { (size capacity : ℕ) (script : List (List Command))
+        (before other : List (List ℕ)) (t u : Transcript) (x y : List (List ℕ))
+        → ScriptFits capacity script → IsRun size script before t x → IsRun size script other u y
+        → text_of t ≡ text_of u
         → (t.history ≡ u.history) × (t.kept ≡ u.kept) }
 {}
 
-/// For a given script, contents before and text, at most one contents after meets the transcript relation.
+/// Two runs of one script whose texts are equal are one transcript: the same history, outcomes
+/// with their words and fronts, opening, closing and number of kept lines. Their contents before
+/// may differ.
+pub fn one_transcript()
+    ensures { (size capacity : ℕ) (script : List (List Command))
+        (before other : List (List ℕ)) (t u : Transcript) (x y : List (List ℕ))
+        → ScriptFits capacity script → IsRun size script before t x → IsRun size script other u y
+        → text_of t ≡ text_of u
+        → t ≡ u }
+{}
+
+/// For a given script, contents before and text, at most one contents after meets the transcript
+/// relation.
 pub fn one_contents_after()
-    ensures { (size capacity : ℕ) (script : List (List Command)) (before : List (List ℕ)) (text : List ℕ) (x y : List (List ℕ))
-        → ScriptFits capacity script → TranscriptRelation size script before text x → TranscriptRelation size script before text y
-        → x ≡ y }
+    ensures { (size capacity : ℕ) (script : List (List Command)) (before : List (List ℕ))
+        (text : List ℕ) (x y : List (List ℕ)) → ScriptFits capacity script
+        → TranscriptRelation size script before text x
+        → TranscriptRelation size script before text y → x ≡ y }
 {}

@@ -1,12 +1,13 @@
 -- What a chunk answers to a command, and what it is afterwards; and what it may be where the command fails, or is
 -- stopped because the drive stops (Open-Channel SSD Specification 2.0, Chunk states, Vector commands).
-use Rattle.std.specs.Prelude.{ℕ, ◌+◌, ◌*◌, ◌%◌, ◌<◌, ◌≤◌, ◌≡◌, ◌⊎◌, ◌==◌, ◌||◌, not, if◌then◌else◌, nat_lt, List, ◌++◌, length, take, slice_get, Option, Some, None}
+use Rattle.std.specs.Prelude.{ℕ, ◌+◌, ◌*◌, ◌%◌, ◌<◌, ◌≤◌, ◌≡◌, ◌⊎◌, ◌==◌, ◌||◌, not, if◌then◌else◌, nat_lt, ⊤, List, ◌++◌, length, take, slice_get, Option, Some, None}
+use Rattle.std.specs.List.{AllByRecursion}
 use Rattle.pblk_model.specs.declared.shape.Shape.{Shape}
 use Rattle.pblk_model.specs.declared.chunk.ChunkState.{ChunkState}
 use Rattle.pblk_model.specs.declared.chunk.ChunkState.TheVariants as states
 use Rattle.pblk_model.specs.declared.chunk.ChunkErr.{ChunkErr}
 use Rattle.pblk_model.specs.declared.chunk.ChunkErr.TheVariants as errors
-use Rattle.pblk_model.specs.Chunk.{Chunk, Block, pointer, free_chunk, offline_chunk, IsReadable}
+use Rattle.pblk_model.specs.Chunk.{Chunk, Block, IsBlock, pointer, free_chunk, offline_chunk, IsReadable}
 
 pub data ChunkCommand : Type 0 where
   -- blocks, from a block on
@@ -19,6 +20,12 @@ pub data ChunkAnswer : Type 0 where
   Gave : Block → ChunkAnswer
   Empty : ChunkAnswer
   Refused : ChunkErr → ChunkAnswer
+
+-- what a command writes are blocks of a drive of this shape
+abbrev pub WritesBlocks : Shape → ChunkCommand → Type 0
+WritesBlocks s (Write at blocks) = AllByRecursion (IsBlock s) blocks
+WritesBlocks s (Read b) = ⊤
+WritesBlocks s Reset = ⊤
 
 -- Refusals, in the order in which they are judged.
 

@@ -1,11 +1,14 @@
 -- The geometry: 4096 bytes with numbers at fixed places (Open-Channel SSD Specification 2.0, Geometry; the places are
 -- this project's profile), and how addresses are packed by it.
-use Rattle.std.specs.Prelude.{ℕ, ◌+◌, ◌*◌, ◌%◌, ◌^◌, ◌<◌, ◌≡◌, ◌==◌, ◌&&◌, ◌||◌, not, if◌then◌else◌, nat_lt, nat_le, Bool, List, [], ◌∷◌, ◌++◌, length, Option, Some, None, Result, Ok, Err}
+use Rattle.std.specs.Prelude.{ℕ, ◌+◌, ◌*◌, ◌^◌, ◌<◌, ◌≡◌, ◌==◌, ◌&&◌, ◌||◌, if◌then◌else◌, nat_le, Bool, List, [], ◌∷◌, ◌++◌, length, Option, Some, None, Result, Ok, Err}
 use Rattle.std.specs.Int.{w8, w16, w32}
 use Rattle.pblk_model.specs.declared.shape.Address.{Address}
 use Rattle.pblk_model.specs.declared.shape.GeometryErr.{GeometryErr}
 use Rattle.pblk_model.specs.declared.shape.GeometryErr.TheVariants.{Length, Field, Profile}
+use Rattle.pblk_model.specs.declared.shape.Shape.{Shape}
 use Rattle.pblk_model.specs.Bytes.{le16, le32, zeros, number_at}
+use Rattle.pblk_model.specs.Checks.{first_failing}
+use Rattle.pblk_model.specs.Accepted.{count_checks, drive_checks}
 
 pub record Geometry : Type 0 where
   pub mjr : ℕ
@@ -61,6 +64,25 @@ geometry_bytes g = (g.mjr ∷ g.mnr ∷ zeros 6)
 abbrev pub length_holds : ℕ → ℕ → Bool
 length_holds bits count = nat_le bits 32 && nat_le count (2 ^ bits)
 
+-- its numbers as those of a drive's shape, with the settings of a target on it
+abbrev pub shape_with : Geometry → ℕ → ℕ → ℕ → Shape
+shape_with g sector capacity ring = record {
+  groups = g.groups;
+  pus = g.pus;
+  chunks = g.chunks;
+  clba = g.clba;
+  ws_min = g.ws_min;
+  ws_opt = g.ws_opt;
+  mw_cunits = g.mw_cunits;
+  sector = sector;
+  capacity = capacity;
+  ring = ring;
+}
+
+-- without settings, at which the checks of a drive don't look
+abbrev pub drive_numbers : Geometry → Shape
+drive_numbers g = shape_with g 0 0 0
+
 -- by each field's first byte, whether its number is accepted
 abbrev pub field_checks : Geometry → List (ℕ × Bool)
 field_checks g = (0, g.mjr == 2)
@@ -68,30 +90,14 @@ field_checks g = (0, g.mjr == 2)
     ∷ (9, length_holds g.pu_bits g.pus)
     ∷ (10, length_holds g.chunk_bits g.chunks)
     ∷ (11, length_holds g.block_bits g.clba)
-    ∷ (64, not (g.groups == 0))
-    ∷ (66, not (g.pus == 0))
-    ∷ (68, not (g.chunks == 0))
-    ∷ (72, not (g.clba == 0))
-    ∷ (128, not (g.ws_min == 0))
-    ∷ (132, not (g.ws_opt == 0))
-    ∷ []
+    ∷ count_checks (drive_numbers g)
 
 -- by its number, whether a rule of the drives that the target takes holds
 abbrev pub profile_checks : Geometry → List (ℕ × Bool)
-profile_checks g = (1, nat_le (g.groups * g.pus) 64)
-    ∷ (2, nat_le 8 g.chunks && nat_le g.chunks 1024)
-    ∷ (3, (g.ws_opt % g.ws_min == 0) && nat_le g.ws_opt 64)
-    ∷ (4, g.clba % g.ws_opt == 0)
-    ∷ (5, (g.mw_cunits % g.ws_opt == 0) && nat_lt g.mw_cunits g.clba)
-    ∷ (6, (g.maxoc == 0) || nat_le (2 * (g.groups * g.pus)) g.maxoc)
+profile_checks g = drive_checks (drive_numbers g) ++ (6, (g.maxoc == 0) || nat_le (2 * (g.groups * g.pus)) g.maxoc)
     ∷ (7, (g.maxocpu == 0) || nat_le 2 g.maxocpu)
     ∷ (8, nat_le (g.group_bits + g.pu_bits + g.chunk_bits + g.block_bits) 64)
     ∷ []
-
--- the number of the first check that fails
-abbrev pub first_failing : List (ℕ × Bool) → Option ℕ
-first_failing [] = None
-first_failing (check ∷ checks) = if check.1 then first_failing checks else Some check.0
 
 -- why numbers are no geometry: the first field that isn't accepted, and then the first rule that doesn't hold
 abbrev pub profile_refusal : Option ℕ → Option GeometryErr

@@ -1,6 +1,8 @@
 -- The definitions, lowest first.
 pub mod Bytes
+pub mod Checks
 pub mod Shape
+pub mod Frames
 pub mod LineOrder
 pub mod Accepted
 pub mod Chunk
@@ -17,7 +19,11 @@ pub mod EndRecord
 pub mod Records
 pub mod Contents
 pub mod Sealed
+pub mod Found
 pub mod History
 pub mod Script
+pub mod ScriptText
+pub mod CommandLine
 pub mod Text
 pub mod Transcript
+pub mod CommandText

@@ -1,6 +1,6 @@
--- Which bytes are a script, and which.
-use Rattle.std.specs.Prelude.{ℕ, ◌+◌, ◌^◌, ◌<◌, ◌≤◌, ◌≡◌, ◌⊎◌, ◌==◌, not, Bool, true, List, [], ◌∷◌, ◌++◌, map, length, slice_get, Option, Some, codes}
-use Rattle.std.specs.List.{AllByRecursion, filter, flat_map, slice_split, sum_by}
+-- The scripts: the lines of one, each as it is spelled, and the scripts that a target takes.
+use Rattle.std.specs.Prelude.{ℕ, ◌+◌, ◌^◌, ◌<◌, ◌≤◌, ◌≡◌, ◌⊎◌, ⊤, List, ◌∷◌, ◌++◌, map, length, slice_get, Option, Some, codes}
+use Rattle.std.specs.List.{AllByRecursion, sum_by}
 use Rattle.std.specs.Option.{option_and_then}
 use Rattle.std.specs.Fmt.{decimal}
 use Rattle.pblk_model.specs.declared.script.Command.{Command}
@@ -15,23 +15,12 @@ command_line Flush = codes "f"
 command_line (Post name) = codes "post " ++ name
 command_line (Await name) = codes "await " ++ name
 
+abbrev pub thread_line : List ℕ
+thread_line = codes "thread"
+
 -- a thread: a line of its own, and its commands
 abbrev pub thread_lines : List Command → List (List ℕ)
-thread_lines commands = codes "thread" ∷ map command_line commands
-
--- Empty lines and those that begin with `#` are skipped.
-abbrev pub is_skipped : List ℕ → Bool
-is_skipped [] = true
-is_skipped (byte ∷ bytes) = byte == 35
-
--- lines with the offsets at which they begin, the first at `at`; each but the last is ended by a newline
-abbrev pub with_offsets : ℕ → List (List ℕ) → List (ℕ × List ℕ)
-with_offsets at [] = []
-with_offsets at (line ∷ lines) = (at, line) ∷ with_offsets (at + length line + 1) lines
-
--- the lines that aren't skipped
-abbrev pub spoken : List ℕ → List (ℕ × List ℕ)
-spoken bytes = filter (λ line. not (is_skipped line.1)) (with_offsets 0 (slice_split (λ byte. byte == 10) bytes))
+thread_lines commands = thread_line ∷ map command_line commands
 
 -- What the numbers and names of a command may be.
 
@@ -53,20 +42,13 @@ pub record IsRange (capacity lba count : ℕ) : Type 0 where
 abbrev pub CommandFits : ℕ → Command → Type 0
 CommandFits capacity (Write lba count tag) = IsRange capacity lba count × (tag < 2 ^ 64)
 CommandFits capacity (Read lba count) = IsRange capacity lba count
-CommandFits capacity Flush = Unit {0}
+CommandFits capacity Flush = ⊤
 CommandFits capacity (Post name) = IsName name
 CommandFits capacity (Await name) = IsName name
 
 -- the c-th command of the i-th thread
 abbrev pub command_at : List (List Command) → ℕ → ℕ → Option Command
 command_at script i c = option_and_then (λ thread. slice_get thread c) (slice_get script i)
-
--- There is a time for each command, later than those before it in its thread, such that each name is posted before it
--- is awaited. So no thread waits for ever.
-abbrev pub NeverStuck : List (List Command) → Type 0
-NeverStuck script = (time : ℕ → ℕ → ℕ)
-    × ((i c : ℕ) → time i c < time i (c + 1))
-    × ((i c j d : ℕ) (name : List ℕ) → command_at script i c ≡ Some (Post name) → command_at script j d ≡ Some (Await name) → time i c < time j d)
 
 -- the scripts that a target of this capacity takes
 pub record ScriptFits (capacity : ℕ) (script : List (List Command)) : Type 0 where
@@ -76,11 +58,10 @@ pub record ScriptFits (capacity : ℕ) (script : List (List Command)) : Type 0 w
   -- no name is posted twice, and each that is awaited is posted
   pub once : (i c j d : ℕ) (name : List ℕ) → command_at script i c ≡ Some (Post name) → command_at script j d ≡ Some (Post name) → (i ≡ j) × (c ≡ d)
   pub posted : (j d : ℕ) (name : List ℕ) → command_at script j d ≡ Some (Await name) → (i : ℕ) × (c : ℕ) × (command_at script i c ≡ Some (Post name))
-  pub flows : NeverStuck script
 
--- The bytes are this script: their lines, but for the skipped ones, are those of its threads in order, and each of them
--- begins within the first four mebibytes.
-pub record IsScript (capacity : ℕ) (bytes : List ℕ) (script : List (List Command)) : Type 0 where
-  pub lines : map (λ line. line.1) (spoken bytes) ≡ flat_map thread_lines script
-  pub within : AllByRecursion (λ line. line.0 < 4194304) (spoken bytes)
-  pub fits : ScriptFits capacity script
+-- There is a time for each command, later than those before it in its thread, such that each name is posted before it
+-- is awaited. So no thread waits for ever.
+abbrev pub NeverStuck : List (List Command) → Type 0
+NeverStuck script = (time : ℕ → ℕ → ℕ)
+    × ((i c : ℕ) → time i c < time i (c + 1))
+    × ((i c j d : ℕ) (name : List ℕ) → command_at script i c ≡ Some (Post name) → command_at script j d ≡ Some (Await name) → time i c < time j d)

@@ -1,5 +1,5 @@
 -- What a run's text says of its script, of the contents before and of the contents after.
-use Rattle.std.specs.Prelude.{ℕ, ◌+◌, ◌^◌, ◌<◌, ◌≤◌, ◌≡◌, ◌≢◌, ◌==◌, List, [], ◌∷◌, ◌++◌, map, length, take, slice_range, slice_get, Option, Some, None}
+use Rattle.std.specs.Prelude.{ℕ, ◌+◌, ◌^◌, ◌<◌, ◌≤◌, ◌≡◌, ◌≢◌, ◌==◌, ⊤, List, [], ◌∷◌, ◌++◌, map, length, take, slice_range, slice_get, Option, Some, None}
 use Rattle.std.specs.List.{AllByRecursion, filter, filter_map, flat_map, zip, sum_by, count_by, range_with_len}
 use Rattle.std.specs.Option.{unwrap_or}
 use Rattle.pblk_model.specs.declared.script.Command.{Command}
@@ -76,48 +76,62 @@ abbrev pub events : Transcript → List (ℕ × ℕ)
 events t = opening_event t.opening ++ flat_map (flat_map outcome_event) t.outcomes ++ closing_event t.closing
 
 abbrev pub IsDistinct : List (ℕ × ℕ) → Type 0
-IsDistinct [] = Unit {0}
+IsDistinct [] = ⊤
 IsDistinct (e ∷ es) = AllByRecursion (λ other. other ≢ e) es × IsDistinct es
 
 -- more was wanted than there was
 abbrev pub IsWorn : ℕ → ℕ → Type 0
 IsWorn wanted have = (have < wanted) × (wanted < 2 ^ 64)
 
--- What may become of a command of thread i, which has written `own` sectors and has seen the first `heard` lines of the
--- history, and afterwards the first `now`. `seen` says what each thread has seen before each of its commands; the contents
--- before the run are `sectors`.
-abbrev pub Allowed : ℕ → List (List ℕ) → List (List Command) → Transcript → (ℕ → ℕ → ℕ) → ℕ → ℕ → ℕ → ℕ → Command → Outcome → Type 0
--- a write that was placed: what is seen holds it
-Allowed size sectors scr t seen i own heard now (script.Write lba count tag) Silent = own + count ≤ lines_of t i now
-Allowed size sectors scr t seen i own heard now (script.Write lba count tag) (Drive unit event) = Unit {0}
-Allowed size sectors scr t seen i own heard now (script.Write lba count tag) (Worn wanted have) = IsWorn wanted have
+-- A command in its place in a run: sectors have this size, the contents before the run are `sectors`, and `seen` says how
+-- many first lines of the history each thread has seen before each of its commands.
+pub record Moment : Type 0 where
+  pub size : ℕ
+  pub sectors : List (List ℕ)
+  pub script : List (List Command)
+  pub transcript : Transcript
+  pub seen : ℕ → ℕ → ℕ
+  pub thread : ℕ
+  pub command : ℕ
+
+-- how many sectors its thread has written before it
+abbrev pub own : Moment → ℕ
+own m = written_before m.script m.transcript m.thread m.command
+
+-- how many first lines of the history its thread has seen before it, and after it
+abbrev pub heard : Moment → ℕ
+heard m = m.seen m.thread m.command
+
+abbrev pub now : Moment → ℕ
+now m = m.seen m.thread (m.command + 1)
+
+-- how many of those are its thread's
+abbrev pub own_lines : Moment → ℕ → ℕ
+own_lines m front = lines_of m.transcript m.thread front
+
+-- the contents after the first lines of the history
+abbrev pub contents_at : Moment → ℕ → List (List ℕ)
+contents_at m front = after m.sectors (sector_writes m.size (take front m.transcript.history))
+
+-- What may become of a command.
+abbrev pub Allowed : Moment → Command → Outcome → Type 0
+-- A write that was placed: its lines stand past all that was seen before it, which has of its own thread's lines just those
+-- of its earlier writes; and what is seen after it has them too.
+Allowed m (script.Write lba count tag) Silent = (own_lines m (heard m) ≡ own m) × (own m + count ≤ own_lines m (now m))
+Allowed m (script.Write lba count tag) (Drive unit event) = ⊤
+Allowed m (script.Write lba count tag) (Worn wanted have) = IsWorn wanted have
 -- a read: its front holds all that was seen, and its words are those of the contents there
-Allowed size sectors scr t seen i own heard now (script.Read lba count) (Words front words) = (heard ≤ front) × (front ≤ now)
-    × (words ≡ words_at (after sectors (sector_writes size (take front t.history))) lba count)
-Allowed size sectors scr t seen i own heard now (script.Read lba count) (Drive unit event) = Unit {0}
+Allowed m (script.Read lba count) (Words front words) = (heard m ≤ front) × (front ≤ now m) × (words ≡ words_at (contents_at m front) lba count)
+Allowed m (script.Read lba count) (Drive unit event) = ⊤
 -- a flush: its front holds all that was seen, and is kept
-Allowed size sectors scr t seen i own heard now script.Flush (Flushed front) = (heard ≤ front) × (front ≤ now) × (front ≤ t.kept)
-Allowed size sectors scr t seen i own heard now script.Flush (Drive unit event) = Unit {0}
-Allowed size sectors scr t seen i own heard now script.Flush (Worn wanted have) = IsWorn wanted have
-Allowed size sectors scr t seen i own heard now (script.Post name) Silent = Unit {0}
+Allowed m script.Flush (Flushed front) = (heard m ≤ front) × (front ≤ now m) × (front ≤ m.transcript.kept)
+Allowed m script.Flush (Drive unit event) = ⊤
+Allowed m script.Flush (Worn wanted have) = IsWorn wanted have
+Allowed m (script.Post name) Silent = ⊤
 -- what is heard is what the thread that posts had seen at its post
-Allowed size sectors scr t seen i own heard now (script.Await name) Silent = (j d : ℕ) → command_at scr j d ≡ Some (script.Post name) → seen j d ≤ now
+Allowed m (script.Await name) Silent = (j d : ℕ) → command_at m.script j d ≡ Some (script.Post name) → m.seen j d ≤ now m
 -- nothing else becomes of a command
-Allowed size sectors scr t seen i own heard now (script.Write lba count tag) (Words front words) = ⊥
-Allowed size sectors scr t seen i own heard now (script.Write lba count tag) (Flushed front) = ⊥
-Allowed size sectors scr t seen i own heard now (script.Read lba count) Silent = ⊥
-Allowed size sectors scr t seen i own heard now (script.Read lba count) (Flushed front) = ⊥
-Allowed size sectors scr t seen i own heard now (script.Read lba count) (Worn wanted have) = ⊥
-Allowed size sectors scr t seen i own heard now script.Flush Silent = ⊥
-Allowed size sectors scr t seen i own heard now script.Flush (Words front words) = ⊥
-Allowed size sectors scr t seen i own heard now (script.Post name) (Words front words) = ⊥
-Allowed size sectors scr t seen i own heard now (script.Post name) (Flushed front) = ⊥
-Allowed size sectors scr t seen i own heard now (script.Post name) (Drive unit event) = ⊥
-Allowed size sectors scr t seen i own heard now (script.Post name) (Worn wanted have) = ⊥
-Allowed size sectors scr t seen i own heard now (script.Await name) (Words front words) = ⊥
-Allowed size sectors scr t seen i own heard now (script.Await name) (Flushed front) = ⊥
-Allowed size sectors scr t seen i own heard now (script.Await name) (Drive unit event) = ⊥
-Allowed size sectors scr t seen i own heard now (script.Await name) (Worn wanted have) = ⊥
+Allowed m command outcome = ⊥
 
 -- which commands were run: all, or none where opening answered an event, and then there is nothing to close
 abbrev pub Ran : List (List Command) → Transcript → Option (ℕ × ℕ) → Type 0
@@ -127,7 +141,7 @@ Ran script t (Some e) = (t.outcomes ≡ []) × (t.closing ≡ Closed)
 -- what closing answered: all is kept where it answered nothing
 abbrev pub ClosedAs : Transcript → Closing → Type 0
 ClosedAs t Closed = t.kept ≡ length t.history
-ClosedAs t (ClosedByDrive unit event) = Unit {0}
+ClosedAs t (ClosedByDrive unit event) = ⊤
 ClosedAs t (ClosedWorn wanted have) = IsWorn wanted have
 
 -- A transcript of a run of a script from the contents before, which leaves the contents after. Sectors have this size.
@@ -142,7 +156,7 @@ pub record IsRun (size : ℕ) (script : List (List Command)) (sectors_before : L
   pub rising : (i c : ℕ) → seen i c ≤ seen i (c + 1)
   pub within : (i c : ℕ) → seen i c ≤ length t.history
   pub allowed : (i c : ℕ) (x : Command × Outcome) → slice_get (answered script t i) c ≡ Some x
-      → Allowed size sectors_before script t seen i (written_before script t i c) (seen i c) (seen i (c + 1)) x.0 x.1
+      → Allowed (record { size = size; sectors = sectors_before; script = script; transcript = t; seen = seen; thread = i; command = c }) x.0 x.1
   -- Events are named by numbers of units and of their events, and none is named twice.
   pub numbers : AllByRecursion (λ e. (e.0 < 2 ^ 32) × (e.1 < 2 ^ 64)) (events t)
   pub distinct : IsDistinct (events t)

@@ -5,7 +5,7 @@ use Rattle.std.specs.List.{fold}
 use Rattle.std.specs.Option.{option_map_or}
 use Rattle.pblk_model.specs.declared.shape.Shape.{Shape}
 use Rattle.pblk_model.specs.Chunk.{Chunk, Block, offline_chunk}
-use Rattle.pblk_model.specs.ChunkStep.{ChunkCommand, Write, Read, Reset, ChunkAnswer, Done, Gave, Empty, Refused, ChunkStep, ChunkStops, refusal, appended, after_reset, closed_after}
+use Rattle.pblk_model.specs.ChunkStep.{ChunkCommand, Write, Read, Reset, WritesBlocks, ChunkAnswer, Done, Gave, Empty, Refused, ChunkStep, ChunkStops, refusal, appended, after_reset, closed_after}
 
 -- What became of a command. A write that failed or was stopped has landed so many multiples of WS_MIN before; a reset
 -- that was stopped was done where the number isn't 0. A read lands nothing.
@@ -79,6 +79,8 @@ IsOutcome s c Reset (Stopped (suc k)) = refusal s c Reset ≡ None
 pub record IsEvent (s : Shape) (chunks : List Chunk) (e : UnitEvent) : Type 0 where
   pub found : Chunk
   pub there : slice_get chunks e.chunk ≡ Some found
+  -- what it writes are blocks of a drive of this shape
+  pub blocks : WritesBlocks s e.command
   pub outcome : IsOutcome s found e.command e.outcome
 
 -- A log over the chunks before it: its first event is one over them, and the rest is a log over what that leaves.

@@ -3,7 +3,11 @@
 //! The definitions stand in `specs/`, a module for each; `docs/MODEL.md` says each of them in words.
 #![tactic(auto)]
 
+mod checks;
 mod chunk;
+mod found;
+mod image;
+mod lengths;
 mod run;
 mod script;
 mod shape;
@@ -11,8 +15,10 @@ mod shows;
 mod unit_log;
 
 pub use chunk::{ChunkErr, ChunkState, DescriptorErr, Got, Mark};
+pub use found::{Found, Items, LineRow, Winner};
+pub use image::ImageErr;
 pub use run::{Front, Place};
-pub use script::{Command, Commands, PostName, Script};
-pub use shape::{Address, GeometryErr, Shape};
+pub use script::{Command, Commands, PostName, Script, ScriptErr};
+pub use shape::{Address, GeometryErr, Shape, ShapeErr};
 pub use shows::Shows;
 pub use unit_log::UnitEvent;

@@ -4,6 +4,7 @@ ghost use Rattle.std.specs.Prelude.{◌≡◌, ◌++◌, [], ◌∷◌, OnOk, On
 
 use std::alloc::{AllocError, Global};
 use std::marker::Model;
+use thiserror::Error;
 
 /// The name of a post. In a script that is accepted it has 1 to 16 lower-case ASCII letters or digits. Contracts see its
 /// bytes.
@@ -130,4 +131,29 @@ impl Script {
     {
         self.threads.as_slice()
     }
+}
+
+/// Why bytes are no script, with the number of a line, from 1. A line number that has reached 2^32 - 1 stands still there.
+///
+/// The first line decides that is refused by itself, in the order `Form`, `Limit`, `Range`; then `NeverPosted`, then `Stuck`.
+#[derive(Clone, Copy, Debug, PartialEq, Eq, Error)]
+pub enum ScriptErr {
+    /// The line has no known form, or is a command before the first thread, or posts a name a second time.
+    #[error("line {0} has no known form")]
+    Form(u32),
+    /// The line is one too many, begins too late, or names too many sectors or none.
+    #[error("line {0} is past a limit")]
+    Limit(u32),
+    /// The line's sectors aren't all below the capacity.
+    #[error("line {0} names a sector past the capacity")]
+    Range(u32),
+    /// The line awaits a name that nobody posts. It is the least such line.
+    #[error("line {0} awaits a name that nobody posts")]
+    NeverPosted(u32),
+    /// A thread waits at the line for ever. It is the least such line.
+    #[error("a thread waits at line {0} for ever")]
+    Stuck(u32),
+    /// There was no memory.
+    #[error("out of memory")]
+    Memory,
 }

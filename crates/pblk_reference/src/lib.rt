@@ -1,4 +1,5 @@
-//! The plain program beside the definitions of `pblk_model`: each function answers what its definition says, step by step.
+//! The plain program beside the definitions of `pblk_model`: each function answers what its
+//! definition says, step by step.
 //!
 //! It is made for comparison and for hand-made images, and not for speed.
 #![tactic(auto)]
@@ -17,6 +18,3 @@ pub use order::{block_at, data_len, end_len, start_len, width};
 pub use record::{Record, records};
 pub use recovery::{contents, counted, end, head};
 pub use start::{Row, StartRecord, start_bytes, start_of};
-
-#[cfg(test)]
-mod tests;

@@ -1,6 +1,6 @@
 //! What an image holds.
 
-ghost use Rattle.std.specs.Prelude.{◌≡◌, ◌+◌, ◌<◌, ◌≤◌, ◌^◌, ◌==◌, ◌&&◌, nat_lt, map, length, Some, IfOk, IfSome};
+ghost use Rattle.std.specs.Prelude.{◌≡◌, ◌+◌, ◌<◌, ◌≤◌, ◌^◌, ◌==◌, ◌&&◌, ◌||◌, nat_lt, map, length, Some, IfOk, IfSome};
 ghost use Rattle.std.specs.List.{filter, list_any};
 ghost use Rattle.std.specs.Option.{option_copied};
 ghost use Rattle.pblk_model.specs.Contents.{later_start, head, is_borne, least_missing, end_after, end, counts, counted_after, counted, is_newer, newer, is_of, winner, contents};
@@ -144,11 +144,20 @@ pub fn counted(alloc: Global, image: &Image) -> Result<Vec<Record>, AllocError>
     Ok(kept)
 }
 
+// Of two records of one position and sequence number that of the later line address is newer, and
+// at one address that of the lesser line.
+fn is_later_place(a: &Record, b: &Record) -> bool
+    ensures { result ≡ (nat_lt a.now.at b.now.at
+        || ((a.now.at == b.now.at) && nat_lt b.now.line a.now.line)) }
+{
+    a.at < b.at || (a.at == b.at && b.line < a.line)
+}
+
 fn is_newer(a: &Record, b: &Record) -> bool
     ensures { result ≡ is_newer a.now b.now }
 {
     a.position < b.position
-        || (a.position == b.position && (a.seq < b.seq || (a.seq == b.seq && a.at < b.at)))
+        || (a.position == b.position && (a.seq < b.seq || (a.seq == b.seq && is_later_place(a, b))))
 }
 
 fn is_of(lba: u64, other: Option<u64>) -> bool

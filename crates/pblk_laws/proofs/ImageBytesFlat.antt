@@ -1,0 +1,101 @@
+-- Lists of lists of one length as one list.
+use Rattle.std.proofs.Common.{◌≡◌, ℕ, ◌+◌, ◌*◌, ◌/◌, ◌%◌, zero, suc, ◌<◌, Some, List, [], ◌∷◌, ◌++◌, length, length-append, get_or, refl, sym, ap, ◌∙◌, subst, arith}
+use Rattle.std.specs.List.{AllByRecursion, flat_map, range_with_len, slice_get, sum_by}
+use Rattle.std.proofs.lemmas.Grind.{flat_map-append}
+use Rattle.std.proofs.lemmas.List.Sums.{sum_by-cons}
+use Rattle.std.proofs.lemmas.Nat.{div-add-mod', div_below, mod_below}
+use Rattle.std.proofs.lemmas.Option.{none-some, same_Some, slice_get-get_or}
+use Rattle.std.proofs.Math.Nat.{mul-add}
+use Rattle.pblk_laws.proofs.ImageBytesPieces.{all_at}
+
+abbrev pub flat : {X : Type 0} → List (List X) → List X
+flat xss = flat_map (λ xs. xs) xss
+
+pub flat_of_flat : {X Y : Type 0} (f : X → List Y) (xss : List (List X)) → flat_map (flat_map f) xss ≡ flat_map f (flat xss)
+flat_of_flat f [] = refl
+flat_of_flat f (xs ∷ xss) = ap (λ ys. flat_map f xs ++ ys) (flat_of_flat f xss) ∙ sym (flat_map-append f xs (flat xss))
+
+pub length_of_flat : {X : Type 0} (n : ℕ) (xss : List (List X)) → AllByRecursion (λ xs. length xs ≡ n) xss → length (flat xss) ≡ length xss * n
+length_of_flat n [] all = omega arith
+length_of_flat n (xs ∷ xss) all =
+    let first : length xs ≡ n = all.0 in
+    let rest : length (flat xss) ≡ length xss * n = length_of_flat n xss all.1 in
+    omega (arith, length-append xs (flat xss))
+
+all_more : {X : Type 0} (P : X → Type 0) (xs ys : List X) → AllByRecursion P xs → AllByRecursion P ys → AllByRecursion P (xs ++ ys)
+all_more P [] ys h k = k
+all_more P (x ∷ xs) ys h k = (h.0, all_more P xs ys h.1 k)
+
+pub all_flat : {X : Type 0} (P : X → Type 0) (xss : List (List X)) → AllByRecursion (AllByRecursion P) xss → AllByRecursion P (flat xss)
+all_flat P [] h = tt
+all_flat P (xs ∷ xss) h = all_more P xs (flat xss) h.0 (all_flat P xss h.1)
+
+get_left : {X : Type 0} (xs ys : List X) (i : ℕ) (x : X) → slice_get xs i ≡ Some x → slice_get (xs ++ ys) i ≡ Some x
+get_left [] ys i x is = absurd (none-some x is)
+get_left (y ∷ xs) ys zero x is = is
+get_left (y ∷ xs) ys (suc i) x is = get_left xs ys i x is
+
+get_right : {X : Type 0} (xs ys : List X) (i : ℕ) → slice_get (xs ++ ys) (length xs + i) ≡ slice_get ys i
+get_right [] ys i = ap (slice_get ys) (omega arith)
+get_right (x ∷ xs) ys i =
+    let next : length (x ∷ xs) + i ≡ suc (length xs + i) = omega arith in
+    ap (slice_get (x ∷ xs ++ ys)) next ∙ get_right xs ys i
+
+flat_get : {X : Type 0} (n : ℕ) (xss : List (List X)) (u j : ℕ) (xs : List X) (x : X) → AllByRecursion (λ xs. length xs ≡ n) xss → slice_get xss u ≡ Some xs → slice_get xs j ≡ Some x
+    → slice_get (flat xss) (u * n + j) ≡ Some x
+flat_get n [] u j xs x all list is = absurd (none-some xs list)
+flat_get n (ys ∷ xss) zero j xs x all list is =
+    let same : ys ≡ xs = same_Some ys xs list in
+    let place : zero * n + j ≡ j = omega arith in
+    ap (slice_get (ys ++ flat xss)) place ∙ get_left ys (flat xss) j x (ap (λ zs. slice_get zs j) same ∙ is)
+flat_get n (ys ∷ xss) (suc u) j xs x all list is =
+    let first : length ys ≡ n = all.0 in
+    let place : suc u * n + j ≡ length ys + (u * n + j) = omega arith in
+    ap (slice_get (ys ++ flat xss)) place ∙ (get_right ys (flat xss) (u * n + j) ∙ flat_get n xss u j xs x all.1 list is)
+
+-- the n-th of all is in a list of them
+pub record IsFlatAt {X : Type 0} (c : ℕ) (xss : List (List X)) (n : ℕ) (x : X) : Type 0 where
+  pub list : List X
+  pub there : slice_get xss (n / c) ≡ Some list
+  pub is : slice_get list (n % c) ≡ Some x
+
+pub flat_at : {X : Type 0} (c : ℕ) (xss : List (List X)) (n : ℕ) (x : X) → AllByRecursion (λ xs. length xs ≡ c) xss → 0 < c → n < length xss * c → slice_get (flat xss) n ≡ Some x
+    → IsFlatAt c xss n x
+flat_at c xss n x all some inside is =
+    let low : n / c < length xss = div_below n c (length xss) some inside in
+    let list = get_or xss (n / c) [] in
+    let there : slice_get xss (n / c) ≡ Some list = slice_get-get_or xss (n / c) [] low in
+    let count : length list ≡ c = all_at (λ xs. length xs ≡ c) xss (n / c) list all there in
+    let within : n % c < length list = subst (λ m. n % c < m) (sym count) (mod_below n c some) in
+    let found : slice_get list (n % c) ≡ Some (get_or list (n % c) x) = slice_get-get_or list (n % c) x within in
+    let place : n / c * c + n % c ≡ n = div-add-mod' n c in
+    let same : get_or list (n % c) x ≡ x = same_Some _ x (sym (flat_get c xss (n / c) (n % c) list (get_or list (n % c) x) all there found) ∙ (ap (slice_get (flat xss)) place ∙ is)) in
+    record { list = list; there = there; is = found ∙ ap (λ y. Some y) same }
+
+-- Sums.
+
+sum_from : {X : Type 0} (g : X → ℕ) (f : ℕ → ℕ) (a : ℕ) (xs : List X) → ((n : ℕ) (x : X) → slice_get xs n ≡ Some x → f (a + n) ≡ g x) → sum_by f (range_with_len a (length xs)) ≡ sum_by g xs
+sum_from g f a [] each = refl
+sum_from g f a (x ∷ xs) each =
+    let here : a + 0 ≡ a = omega arith in
+    let first : f a ≡ g x = ap f (sym here) ∙ each 0 x refl in
+    let rest : sum_by f (range_with_len (a + 1) (length xs)) ≡ sum_by g xs =
+    sum_from g f (a + 1) xs (λ n y is. let next : a + 1 + n ≡ a + suc n = omega arith in ap f next ∙ each (suc n) y is) in
+    let left : sum_by f (range_with_len a (length (x ∷ xs))) ≡ f a + sum_by f (range_with_len (a + 1) (length xs)) = sum_by-cons f a (range_with_len (a + 1) (length xs)) in
+    let right : sum_by g (x ∷ xs) ≡ g x + sum_by g xs = sum_by-cons g x xs in
+    omega arith
+
+pub sum_of_range : {X : Type 0} (g : X → ℕ) (f : ℕ → ℕ) (xs : List X) → ((n : ℕ) (x : X) → slice_get xs n ≡ Some x → f n ≡ g x) → sum_by f (range_with_len 0 (length xs)) ≡ sum_by g xs
+sum_of_range g f xs each = sum_from g f 0 xs (λ n x is. let same : 0 + n ≡ n = omega arith in ap f same ∙ each n x is)
+
+pub length_of_sum : {X : Type 0} (f : X → List ℕ) (m : ℕ) (g : X → ℕ) (xs : List X) → AllByRecursion (λ x. length (f x) ≡ m * g x) xs → length (flat_map f xs) ≡ m * sum_by g xs
+length_of_sum f m g [] all =
+    let none : sum_by g [] ≡ 0 = refl in
+    let nothing : m * sum_by g [] ≡ m * 0 = ap (λ n. m * n) none in
+    omega arith
+length_of_sum f m g (x ∷ xs) all =
+    let first : length (f x) ≡ m * g x = all.0 in
+    let rest : length (flat_map f xs) ≡ m * sum_by g xs = length_of_sum f m g xs all.1 in
+    let sum : m * sum_by g (x ∷ xs) ≡ m * (g x + sum_by g xs) = ap (λ n. m * n) (sum_by-cons g x xs) in
+    let both : m * (g x + sum_by g xs) ≡ m * g x + m * sum_by g xs = mul-add m (g x) (sum_by g xs) in
+    omega (arith, length-append (f x) (flat_map f xs))

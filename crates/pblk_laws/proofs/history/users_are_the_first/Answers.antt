@@ -1,0 +1,5 @@
+use Rattle.pblk_laws.proofs.Users.{first_users, few_users}
+use Rattle.pblk_laws.proofs.history.users_are_the_first.Goals as goal
+
+pub returns : goal.returns
+returns c = record { first = first_users; few = few_users }

@@ -1,0 +1,130 @@
+-- The words of the command line: which words are which command.
+use Rattle.std.specs.Prelude.{ℕ, ◌≡◌, ◌≢◌, ◌<◌, ◌⊎◌, ◌^◌, ⊤, if◌then◌else◌, List, [], ◌∷◌, ◌++◌, Option, Some, None, codes}
+use Rattle.std.specs.List.{AllByRecursion}
+use Rattle.std.specs.Str.{bytes_eq}
+use Rattle.std.specs.Fmt.{decimal}
+
+-- neither empty nor begun with `-`: a file's name, or the value of an option
+abbrev pub IsPlainWord : List ℕ → Type 0
+IsPlainWord [] = ⊥
+IsPlainWord (byte ∷ bytes) = byte ≢ 45
+
+-- What stands after the first word: a file's name, or an option's name with its value.
+pub data Item : Type 0 where
+  Name : List ℕ → Item
+  Named : List ℕ → List ℕ → Item
+
+-- an option of this name and value, before these words: `--name value` or `--name=value`
+abbrev pub IsOptionBefore : List ℕ → List ℕ → List (List ℕ) → List (List ℕ) → Type 0
+IsOptionBefore name value rest words = (words ≡ (codes "--" ++ name) ∷ value ∷ rest) ⊎ (words ≡ (codes "--" ++ name ++ codes "=" ++ value) ∷ rest)
+
+-- the words are these items, in their order
+abbrev pub AreItems : List Item → List (List ℕ) → Type 0
+AreItems [] words = words ≡ []
+AreItems (Name name ∷ items) words = (rest : List (List ℕ)) × IsPlainWord name × (words ≡ name ∷ rest) × AreItems items rest
+AreItems (Named name value ∷ items) words = (rest : List (List ℕ)) × IsPlainWord value × IsOptionBefore name value rest words × AreItems items rest
+
+-- the file names among them, in their order
+abbrev pub names_in : List Item → List (List ℕ)
+names_in [] = []
+names_in (Name name ∷ items) = name ∷ names_in items
+names_in (Named name value ∷ items) = names_in items
+
+-- the names of options among them
+abbrev pub options_in : List Item → List (List ℕ)
+options_in [] = []
+options_in (Name name ∷ items) = options_in items
+options_in (Named name value ∷ items) = name ∷ options_in items
+
+-- the value of an option, if it is named
+abbrev pub value_in : List ℕ → List Item → Option (List ℕ)
+value_in option [] = None
+value_in option (Name name ∷ items) = value_in option items
+value_in option (Named name value ∷ items) = if bytes_eq name option then Some value else value_in option items
+
+-- no name stands twice
+abbrev pub AreDistinct : List (List ℕ) → Type 0
+AreDistinct [] = ⊤
+AreDistinct (name ∷ names) = AllByRecursion (λ other. other ≢ name) names × AreDistinct names
+
+-- an option whose value is a number, what it is where it isn't named, and what it is below
+pub record NumberOption : Type 0 where
+  pub name : List ℕ
+  pub default : ℕ
+  pub below : ℕ
+
+-- the number of an option, as a word spells it
+abbrev pub IsNumber : NumberOption → ℕ → Option (List ℕ) → Type 0
+IsNumber o n None = n ≡ o.default
+IsNumber o n (Some word) = (word ≡ decimal n) × (n < o.below)
+
+-- the numbers of these options, one for each, by the items
+abbrev pub AreNumbers : List NumberOption → List ℕ → List Item → Type 0
+AreNumbers [] [] items = ⊤
+AreNumbers (o ∷ os) (n ∷ ns) items = IsNumber o n (value_in o.name items) × AreNumbers os ns items
+AreNumbers [] (n ∷ ns) items = ⊥
+AreNumbers (o ∷ os) [] items = ⊥
+
+-- one of these options has that name
+abbrev pub IsOneOf : List NumberOption → List ℕ → Type 0
+IsOneOf [] name = ⊥
+IsOneOf (o ∷ os) name = (name ≡ o.name) ⊎ IsOneOf os name
+
+-- the numbers of a drive to be made, without options those of the small drive
+pub record CreateNumbers : Type 0 where
+  pub groups : ℕ
+  -- in a group
+  pub units : ℕ
+  pub chunks : ℕ
+  pub blocks : ℕ
+  pub ws_min : ℕ
+  pub ws_opt : ℕ
+  pub mw : ℕ
+  pub sector : ℕ
+  pub capacity : ℕ
+  pub ring : ℕ
+
+abbrev pub create_options : List NumberOption
+create_options = record { name = codes "groups"; default = 1; below = 2 ^ 16 }
+    ∷ record { name = codes "units"; default = 2; below = 2 ^ 16 }
+    ∷ record { name = codes "chunks"; default = 8; below = 2 ^ 32 }
+    ∷ record { name = codes "blocks"; default = 24; below = 2 ^ 32 }
+    ∷ record { name = codes "ws-min"; default = 2; below = 2 ^ 32 }
+    ∷ record { name = codes "ws-opt"; default = 4; below = 2 ^ 32 }
+    ∷ record { name = codes "mw"; default = 8; below = 2 ^ 32 }
+    ∷ record { name = codes "sector"; default = 512; below = 2 ^ 32 }
+    ∷ record { name = codes "capacity"; default = 64; below = 2 ^ 64 }
+    ∷ record { name = codes "ring"; default = 64; below = 2 ^ 32 }
+    ∷ []
+
+abbrev pub numbers_of : CreateNumbers → List ℕ
+numbers_of n = n.groups ∷ n.units ∷ n.chunks ∷ n.blocks ∷ n.ws_min ∷ n.ws_opt ∷ n.mw ∷ n.sector ∷ n.capacity ∷ n.ring ∷ []
+
+-- A command, with its file names and numbers.
+pub data CommandLine : Type 0 where
+  -- make a blank image of these numbers
+  Create : List ℕ → CreateNumbers → CommandLine
+  -- print the numbers of an image
+  Geometry : List ℕ → CommandLine
+  -- run on an image a script
+  Run : List ℕ → List ℕ → CommandLine
+
+-- what stands after the first word of a command
+abbrev pub AreItemsOf : List Item → CommandLine → Type 0
+AreItemsOf items (Create image numbers) = (names_in items ≡ image ∷ []) × AllByRecursion (IsOneOf create_options) (options_in items)
+    × AreDistinct (options_in items) × AreNumbers create_options (numbers_of numbers) items
+AreItemsOf items (Geometry image) = (names_in items ≡ image ∷ []) × (options_in items ≡ [])
+AreItemsOf items (Run image script) = (names_in items ≡ image ∷ script ∷ []) × (options_in items ≡ [])
+
+abbrev pub first_word : CommandLine → List ℕ
+first_word (Create image numbers) = codes "create"
+first_word (Geometry image) = codes "geometry"
+first_word (Run image script) = codes "run"
+
+-- the words are this command
+pub record IsCommandLine (words : List (List ℕ)) (c : CommandLine) : Type 0 where
+  pub items : List Item
+  pub rest : List (List ℕ)
+  pub words_are : words ≡ first_word c ∷ rest
+  pub spelled : AreItems items rest
+  pub of : AreItemsOf items c
