@@ -2,3 +2,4 @@ pub mod BlockList
 pub mod Descriptors
 pub mod Resets
 pub mod Writes
+mod Spelling

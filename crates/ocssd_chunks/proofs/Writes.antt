@@ -1,7 +1,6 @@
 -- When a write is refused, and what stands after blocks are appended.
-use Rattle.std.proofs.Common.{◌≡◌, ℕ, ◌+◌, ◌*◌, ◌%◌, ◌<◌, ◌≤◌, Bool, true, false, ltb, if◌then◌else◌, ◌≢◌, zero, suc, List, [], ◌++◌, length, refl, sym, ap, ◌∙◌, arith, length-append, Option, None}
+use Rattle.std.proofs.Common.{◌≡◌, ℕ, ◌+◌, ◌*◌, ◌%◌, ◌<◌, ◌≤◌, Bool, true, false, ltb, if◌then◌else◌, ◌≢◌, zero, suc, List, ◌++◌, length, refl, sym, ap, ◌∙◌, arith, length-append, Option, None}
 use Rattle.std.proofs.Math.Nat.{mod-add-mod}
-use Rattle.std.proofs.lemmas.List.{nil_from_length}
 use Rattle.std.proofs.lemmas.Bool.{ltb-true}
 use Rattle.std.proofs.lemmas.Bool.Decides.{nat_tests}
 use Rattle.std.specs.List.{AllByRecursion}
@@ -43,7 +42,7 @@ placed wp clba some within =
 mod-add : (a b m : ℕ) → a % m ≡ 0 → b % m ≡ 0 → (a + b) % m ≡ 0
 mod-add a b m first second = sym (mod-add-mod a m b) ∙ rw first (ap (λ (n : ℕ). n % m) (omega arith) ∙ second)
 
-pointer_within : (state : ChunkState) (clba wp : ℕ) → PointerFits state clba wp → wp ≤ clba
+pub pointer_within : (state : ChunkState) (clba wp : ℕ) → PointerFits state clba wp → wp ≤ clba
 pointer_within states.Free clba wp fits = omega arith
 pointer_within states.Open clba wp fits = omega arith
 pointer_within states.Closed clba wp fits = fits
@@ -73,10 +72,6 @@ room s state bytes marks n fits =
     let written = length-blocks_of s.sector bytes marks in
     let within = pointer_within state s.clba _ fits in
     omega arith
-
--- a Free chunk has no blocks
-pub free_is_empty : (state : ChunkState) (clba : ℕ) (blocks : List Block) → state ≡ states.Free → PointerFits state clba (length blocks) → blocks ≡ []
-free_is_empty state clba blocks free fits = nil_from_length blocks (rw free at fits)
 
 pub some_multiples : (k m : ℕ) → k * m ≢ 0 → 0 < k
 some_multiples zero m some = absurd (some (omega arith))

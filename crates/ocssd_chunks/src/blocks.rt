@@ -1,10 +1,13 @@
 //! Blocks as bytes and marks that stand in two lists.
 
-ghost use Rattle.std.specs.Prelude.{◌≡◌, ◌+◌, ◌*◌, ◌<◌, ◌≤◌, [], ◌∷◌, ◌++◌, length, take, Some, slice_get, vec_len, vec_capacity};
+ghost use Rattle.std.specs.Prelude.{◌≡◌, ◌+◌, ◌*◌, ◌<◌, ◌≤◌, ◌↔◌, ◌++◌, length, take, drop, IsTrue, Some, slice_get, vec_len, vec_capacity};
 ghost use Rattle.std.specs.List.{AllByRecursion};
+ghost use Rattle.pblk_model.specs.Chunk.{IsBlock};
 ghost use Rattle.pblk_model.specs.Blocks.{blocks_of, IsMark};
+ghost use Rattle.pblk_model.specs.Bytes.{le64};
+ghost use Rattle.ocssd_chunks.specs.Spelled.{AddsSpelled};
 
-use pblk_model::Mark;
+use pblk_model::{Mark, Shape};
 
 /// Adds bytes at the end of a list that has room for them.
 pub(crate) fn append_bytes(list: &mut Vec<u8>, bytes: &[u8])
@@ -20,22 +23,85 @@ pub(crate) fn append_marks(list: &mut Vec<Mark>, marks: &[Mark])
     requires { vec_len list.old + length marks.now ≤ vec_capacity list.old }
     ensures items { list.new.items ≡ list.old.items ++ marks.now }
     ensures room { vec_capacity list.old ≤ vec_capacity list.new }
-    ensures in_range { AllByRecursion IsMark marks.now }
 {
-    for mark in marks {
-        append_mark(list, *mark);
+    list.extend_from_slice(marks).unwrap();
+}
+
+/// Whether bytes are as many sectors of a drive of this shape as there are marks.
+pub fn has_sectors(shape: &Shape, bytes: &[u8], marks: &[Mark]) -> bool
+    ensures { IsTrue result ↔ (length bytes.now ≡ length marks.now * shape.now.sector) }
+{
+    match marks.len().checked_mul(shape.sector as usize) {
+        Some(size) => bytes.len() == size,
+        None => false,
     }
 }
 
-// Adds one mark at the end of a list that has room for it.
-fn append_mark(list: &mut Vec<Mark>, mark: Mark)
-    requires { vec_len list.old < vec_capacity list.old }
-    ensures items { list.new.items ≡ list.old.items ++ mark ∷ [] }
-    ensures room { vec_capacity list.old ≤ vec_capacity list.new }
-    ensures in_range { IsMark mark }
+/// Adds `count` blocks, each spelled as its sector of `size` bytes and its mark's two numbers, at the ends of lists that have
+/// room for them.
+pub(crate) fn append_spelled(
+    bytes: &mut Vec<u8>,
+    marks: &mut Vec<Mark>,
+    size: usize,
+    count: usize,
+    spelled: &[u8],
+)
+    requires whole { length spelled.now ≡ count * (size + 16) }
+    requires room_for_bytes { vec_len bytes.old + count * size ≤ vec_capacity bytes.old }
+    requires room_for_marks { vec_len marks.old + count ≤ vec_capacity marks.old }
+    ensures added { AddsSpelled size count spelled.now bytes.old.items bytes.new.items marks.old.items marks.new.items }
+    ensures kept_bytes { vec_capacity bytes.old ≤ vec_capacity bytes.new }
+    ensures kept_marks { vec_capacity marks.old ≤ vec_capacity marks.new }
 {
-    list.push(mark).unwrap();
+    let mut rest = spelled;
+    for _block in 0..count {
+        let (block, others) = rest.split_at(size + 16);
+        append_bytes(bytes, &block[..size]);
+        append_marks(marks, &[mark_at(block, size)]);
+        rest = others;
+    }
 }
+
+// The mark whose two numbers stand from an offset on.
+fn mark_at(bytes: &[u8], offset: usize) -> Mark
+    requires { offset + 16 ≤ length bytes.now }
+    ensures lba { le64 result.lba ≡ take 8 (drop offset bytes.now) }
+    ensures position { le64 result.position ≡ take 8 (drop (offset + 8) bytes.now) }
+{
+    Mark {
+        lba: number_at(bytes, offset),
+        position: number_at(bytes, offset + 8),
+    }
+}
+
+// The number that stands in eight bytes from an offset on.
+fn number_at(bytes: &[u8], offset: usize) -> u64
+    requires { offset + 8 ≤ length bytes.now }
+    ensures { le64 result ≡ take 8 (drop offset bytes.now) }
+{
+    let mut number = [0; 8];
+    number.copy_from_slice(&bytes[offset..offset + 8]);
+    u64::from_le_bytes(number)
+}
+
+/// Tells contracts that these bytes and marks are blocks of a drive of this shape. It changes nothing.
+///
+/// `bytes` has a sector for each of `marks`. That each byte is below 256 and each number of a mark below
+/// 2^64 is known of their types alone.
+pub fn are_blocks(shape: &Shape, bytes: &[u8], marks: &[Mark])
+    requires { length bytes.now ≡ length marks.now * shape.now.sector }
+    ensures { let blocks = blocks_of shape.now.sector bytes.now marks.now
+        in AllByRecursion (IsBlock shape.now) blocks }
+{
+    for mark in marks {
+        is_mark(*mark);
+    }
+}
+
+// The numbers of a mark have 64 bits.
+fn is_mark(_mark: Mark)
+    ensures { IsMark _mark }
+{}
 
 /// A block among those of these bytes and marks.
 pub(crate) fn block_at<'a>(

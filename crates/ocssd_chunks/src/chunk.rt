@@ -6,10 +6,13 @@ ghost use Rattle.std.specs.Option.{option_map};
 ghost use Rattle.pblk_model.specs.Accepted.{IsAccepted};
 ghost use Rattle.pblk_model.specs.Chunk.{IsChunk, PointerFits, pointer, free_chunk, offline_chunk};
 ghost use Rattle.pblk_model.specs.ChunkStep.{ChunkStep, ChunkFails, ChunkStops, Write, Read, Reset, refusal, appended, closed_after, after_reset};
+ghost use Rattle.ocssd_chunks.specs.Spelled.{AreSpelled};
 ghost use Rattle.ocssd_chunks.specs.Answers.{write_answer, read_answer, reset_answer};
 ghost use Rattle.pblk_model.specs.Blocks.{blocks_of};
 
-use crate::blocks::{append_bytes, append_marks, block_at, first_blocks};
+use crate::blocks::{
+    append_bytes, append_marks, append_spelled, are_blocks, block_at, first_blocks,
+};
 use crate::rules::{
     check_read, check_reset, check_write, is_readable, state_after_reset, state_at,
 };
@@ -60,6 +63,15 @@ impl Chunk {
             bytes,
             marks,
         })
+    }
+
+    /// The numbers of the chunk's drive.
+    pub fn shape(&self) -> Shape
+        ensures shape { result ≡ self.now.shape }
+        ensures accepted { IsAccepted result }
+        ensures fits { IsChunk result self.now.chunk }
+    {
+        self.shape
     }
 
     /// Appends blocks from the block `at` on. `bytes` has the sectors one after another, and `marks`
@@ -122,6 +134,13 @@ impl Chunk {
         let (sector, mark) = block_at(&self.bytes, &self.marks, size, block as usize);
         out.copy_from_slice(sector);
         Ok(Got::Sector(mark))
+    }
+
+    /// The refusal that `read` answers here, if any.
+    pub fn read_refusal(&self, block: u32) -> Option<ChunkErr>
+        ensures { result ≡ refusal self.now.shape self.now.chunk (Read block) }
+    {
+        check_read(&self.shape, self.state, block).err()
     }
 
     /// Takes all blocks away, and leaves the chunk Free, or Offline where it was closed before its end.
@@ -231,13 +250,13 @@ impl Chunk {
         }
     }
 
-    /// Gives a Free chunk a state, and the blocks of these bytes and marks (Open-Channel SSD Specification
-    /// 2.0, Chunk states and write pointer).
+    /// Gives the chunk a state, and the blocks of these bytes and marks, in place of those that it had
+    /// (Open-Channel SSD Specification 2.0, Chunk states and write pointer). A new chunk gets the state and
+    /// the blocks that were kept of one by it.
     ///
     /// `bytes` has a sector for each of `marks`, of which there are a multiple of WS_MIN: none for Free and
     /// Offline, from 1 to below CLBA for Open, up to CLBA for Closed.
     pub fn restore(&mut self, state: ChunkState, bytes: &[u8], marks: &[Mark])
-        requires free { self.old.chunk.state ≡ ChunkState.Free }
         requires whole { length bytes.now ≡ length marks.now * self.old.shape.sector }
         requires place { PointerFits state self.old.shape.clba (length marks.now) }
         requires multiple { length marks.now % self.old.shape.ws_min ≡ 0 }
@@ -246,8 +265,36 @@ impl Chunk {
         ensures shape { self.new.shape ≡ self.old.shape }
         ensures fits { IsChunk self.new.shape self.new.chunk }
     {
-        prove!(self.marks.is_empty());
+        self.leave_empty(ChunkState::Free);
         self.append(bytes, marks, state);
+    }
+
+    /// Gives a chunk a state, and `count` blocks in place of what it had, from bytes in which each block is its sector and
+    /// then its mark, two numbers of eight little-endian bytes (Open-Channel SSD Specification 2.0, Chunk states and write
+    /// pointer; the spelling is this project's). Each sector is copied once.
+    ///
+    /// The count is a multiple of WS_MIN: none for Free and Offline, from 1 to below CLBA for Open, up to CLBA for Closed.
+    pub fn restore_spelled(&mut self, state: ChunkState, count: u32, bytes: &[u8])
+        requires whole { length bytes.now ≡ count * (self.old.shape.sector + 16) }
+        requires place { PointerFits state self.old.shape.clba count }
+        requires multiple { count % self.old.shape.ws_min ≡ 0 }
+        ensures blocks { AreSpelled count bytes.now self.new.chunk.blocks }
+        ensures state { self.new.chunk.state ≡ state }
+        ensures shape { self.new.shape ≡ self.old.shape }
+        ensures fits { IsChunk self.new.shape self.new.chunk }
+    {
+        let size = self.shape.sector as usize;
+        self.bytes.clear();
+        self.marks.clear();
+        append_spelled(
+            &mut self.bytes,
+            &mut self.marks,
+            size,
+            count as usize,
+            bytes,
+        );
+        are_blocks(&self.shape, &self.bytes, &self.marks);
+        self.state = state;
     }
 
     // Appends the blocks of these bytes and marks, and leaves this state.
@@ -261,6 +308,7 @@ impl Chunk {
         ensures shape { self.new.shape ≡ self.old.shape }
         ensures fits { IsChunk self.new.shape self.new.chunk }
     {
+        are_blocks(&self.shape, bytes, marks);
         append_bytes(&mut self.bytes, bytes);
         append_marks(&mut self.marks, marks);
         self.state = state;

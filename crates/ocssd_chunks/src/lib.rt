@@ -9,9 +9,7 @@ mod chunk;
 mod descriptor;
 mod rules;
 
+pub use blocks::{are_blocks, has_sectors};
 pub use chunk::Chunk;
 pub use descriptor::{Descriptor, read_descriptor};
-pub use pblk_model::{ChunkErr, DescriptorErr};
-
-#[cfg(test)]
-mod tests;
+pub use pblk_model::{ChunkErr, ChunkState, DescriptorErr, Got, Mark, Shape};

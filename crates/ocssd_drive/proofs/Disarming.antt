@@ -1,12 +1,11 @@
 -- Units that are disarmed one after another.
-use Rattle.std.proofs.Common.{◌≡◌, ◌≢◌, ℕ, Bool, true, false, ◌+◌, ◌<◌, List, length, map, sym, ap, ◌∙◌, subst, arith, Some, slice_get, slice_set, slice_index_or}
+use Rattle.std.proofs.Common.{◌≡◌, ◌≢◌, ℕ, Bool, true, false, ◌<◌, List, length, map, sym, ap, ◌∙◌, subst, Some, slice_get, slice_set, slice_index_or}
 use Rattle.std.proofs.lemmas.Option.{slice_get-map, slice_get_within}
 use native.Mathlib.Decide.{ℕ_discrete}
 use Rattle.ocssd_drive.specs.Journal.{IsCalm}
-use Rattle.ocssd_drive.specs.Faults.{fuse_is_at}
 use Rattle.ocssd_drive.specs.Units.{WornUnit, disarmed}
 use Rattle.ocssd_drive.proofs.Lists.{same_lists, some_same}
-use Rattle.ocssd_drive.proofs.Changing.{IsChanging, none_changed, one_changed, same_changed, all_changed, still_old, read_at}
+use Rattle.ocssd_drive.proofs.Changing.{IsChanging, none_changed, one_changed, same_changed, all_changed, still_old}
 
 abbrev pub disarm_at : ℕ → WornUnit → WornUnit
 disarm_at i u = disarmed u
@@ -52,13 +51,3 @@ all_done old units done h all = same_lists units (map disarmed old) (λ j. all_c
 
 pub all_calm : (old units : List WornUnit) (done : ℕ → Bool) → IsDisarming old done units → ((k : ℕ) → k < length old → done k ≡ true) → (i : ℕ) (u : WornUnit) → slice_get old i ≡ Some u → IsCalm u.unit.armed u.unit.log
 all_calm old units done h all i u there = h.calm i u (all i (slice_get_within old i u there)) there
-
-no_fuse_at : (units : List WornUnit) (i : ℕ) (x : WornUnit) → ((j : ℕ) (u : WornUnit) → j < i → slice_get units j ≡ Some u → fuse_is_at u.unit.armed ≡ false) → slice_get units i ≡ Some x → fuse_is_at x.unit.armed ≡ false
-    → (j : ℕ) → Dec (j ≡ i) → (u : WornUnit) → j < i + 1 → slice_get units j ≡ Some u → fuse_is_at u.unit.armed ≡ false
-no_fuse_at units i x before here none j (yes same) u within there = subst (λ (v : WornUnit). fuse_is_at v.unit.armed ≡ false) (some_same x u (sym here ∙ ap (slice_get units) (sym same) ∙ there)) none
-no_fuse_at units i x before here none j (no apart) u within there = before j u (omega (arith, apart)) there
-
--- no unit up to the next has the fuse
-pub no_fuse_yet : (units : List WornUnit) (i : ℕ) (x : WornUnit) → ((j : ℕ) (u : WornUnit) → j < i → slice_get units j ≡ Some u → fuse_is_at u.unit.armed ≡ false) → i < length units → x ≡ slice_index_or units i x
-    → fuse_is_at x.unit.armed ≡ false → (j : ℕ) (u : WornUnit) → j < i + 1 → slice_get units j ≡ Some u → fuse_is_at u.unit.armed ≡ false
-no_fuse_yet units i x before within is none j u = no_fuse_at units i x before (read_at units i x within is) none j (ℕ_discrete j i) u

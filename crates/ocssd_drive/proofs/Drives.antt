@@ -13,10 +13,11 @@ use Rattle.unit_port.specs.Armed.{Armed}
 use Rattle.ocssd_drive.specs.StopWord.{SeatView}
 use Rattle.unit_port.specs.declared.armed.FaultPlan.{FaultPlan}
 use Rattle.unit_port.specs.declared.armed.Fuse.{Fuse}
-use Rattle.ocssd_drive.specs.Units.{WornUnit, disarmed, new_unit, with_arms}
-use Rattle.ocssd_drive.specs.Drive.{AreArmedTogether, DriveView, HasWord, IsUnitOf, IsArmedWith, IsWhole, armed_unit, armed_units, fitting_fuse, shape_of, with_units}
+use Rattle.ocssd_drive.specs.Units.{WornUnit, IsUnitOf, disarmed, new_unit, with_arms}
+use Rattle.ocssd_drive.specs.Drive.{AreArmedTogether, DriveView, HasWord, IsArmedWith, IsWhole, armed_unit, armed_units, fitting_fuse, shape_of, with_units}
 use Rattle.ocssd_drive.proofs.Arming.{get_enumerated}
 use Rattle.ocssd_drive.proofs.Lists.{some_same}
+use Rattle.ocssd_drive.proofs.UnitChunks.{zeros_all}
 
 -- units of a drive of this shape
 abbrev pub HaveShape : Shape → List WornUnit → Type 0
@@ -24,7 +25,7 @@ HaveShape s units = AllByRecursion (IsUnitOf s) units
 
 -- with other arms a unit is still one of its drive
 still_of : (s : Shape) (a : Armed) (seat : Option SeatView) (u : WornUnit) → IsUnitOf s u → IsUnitOf s (with_arms a seat u)
-still_of s a seat u h = record { shape = h.shape; fits = record { count = h.fits.count; chunks = h.fits.chunks } }
+still_of s a seat u h = record { shape = h.shape; fits = record { count = h.fits.count; chunks = h.fits.chunks }; worn = h.worn; worn_fits = h.worn_fits }
 
 pub shapes_disarmed : (s : Shape) (units : List WornUnit) → HaveShape s units → HaveShape s (map disarmed units)
 shapes_disarmed s [] h = tt
@@ -92,7 +93,12 @@ free_all s zero = tt
 free_all s (suc n) = (free_fits s, free_all s n)
 
 new_of : (s : Shape) → IsUnitOf s (new_unit s)
-new_of s = record { shape = refl; fits = record { count = length-replicate s.chunks free_chunk; chunks = free_all s s.chunks } }
+new_of s = record {
+  shape = refl;
+  fits = record { count = length-replicate s.chunks free_chunk; chunks = free_all s s.chunks };
+  worn = length-replicate s.chunks 0;
+  worn_fits = zeros_all s.chunks;
+}
 
 -- new units are of the shape that they are made for
 pub shapes_new : (s : Shape) (n : ℕ) → HaveShape s (replicate n (new_unit s))

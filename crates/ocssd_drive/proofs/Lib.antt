@@ -18,3 +18,4 @@ mod TallySteps
 mod UnitChunks
 mod UnitSteps
 mod UnitWrites
+pub mod Restoring

@@ -1,5 +1,5 @@
 -- A unit's chunks: all are chunks of its drive, and one of them is replaced.
-use Rattle.std.proofs.Common.{◌≡◌, ℕ, zero, suc, ◌<◌, List, [], ◌∷◌, length, map, get_or, slice_get, slice_set, Some, refl, sym, ap, ◌∙◌}
+use Rattle.std.proofs.Common.{◌≡◌, ℕ, zero, suc, ◌<◌, lit<, replicate, List, [], ◌∷◌, length, map, get_or, slice_get, slice_set, Some, refl, sym, ap, ◌∙◌}
 use Rattle.std.proofs.lemmas.List.{length-map}
 use Rattle.std.proofs.lemmas.Option.{slice_get-map, slice_get_read, slice_get_within, same_Some}
 use Rattle.std.specs.List.{AllByRecursion}
@@ -7,7 +7,7 @@ use Rattle.pblk_model.specs.declared.shape.Shape.{Shape}
 use Rattle.pblk_model.specs.Chunk.{Chunk, IsChunk}
 use Rattle.ocssd_chunks.specs.DriveChunk.{DriveChunk}
 use Rattle.unit_port.specs.Unit.{IsChunkOf, IsFitUnit}
-use Rattle.ocssd_drive.specs.Units.{IsChunkIn}
+use Rattle.ocssd_drive.specs.Units.{IsChunkIn, IsUnitOf}
 use Rattle.ocssd_drive.specs.UnitFields.{IsSound, worn_unit}
 use Rattle.ocssd_drive.specs.declared.memory_unit.MemoryUnit.TheInside.{Inside}
 
@@ -61,8 +61,35 @@ found_of u chunk c found sound there read =
       fits = all_get (IsChunkIn u.shape) u.chunks.items chunk found sound.chunks place;
     }
 
+-- this stands at a place of the unit's chunks
+pub record IsAt (u : Inside) (chunk : ℕ) (found : DriveChunk) : Type 0 where
+  pub there : slice_get u.chunks.items chunk ≡ Some found
+  pub fits : IsChunkIn u.shape found
+
+pub at_place : (u : Inside) (chunk : ℕ) (found : DriveChunk) → IsSound u → chunk < length (worn_unit u).unit.media → found ≡ get_or u.chunks.items chunk found → IsAt u chunk found
+at_place u chunk found sound within read =
+    let inside : chunk < length u.chunks.items = rw (length-map u.chunks.items (λ (c : DriveChunk). c.chunk)) at within in
+    let place = slice_get_read u.chunks.items (length u.chunks.items) chunk found refl inside read in
+    record {
+      there = place;
+      fits = all_get (IsChunkIn u.shape) u.chunks.items chunk found sound.chunks place;
+    }
+
+-- the unit is one of its drive
+pub unit_of : (u : Inside) → IsSound u → IsUnitOf u.shape (worn_unit u)
+unit_of u sound = record {
+  shape = refl;
+  fits = record { count = length-map _ _ ∙ sound.count; chunks = all_chunks u.shape u.chunks.items sound.chunks };
+  worn = sound.worn;
+  worn_fits = sound.worn_fits;
+}
+
 pub fit : (u : Inside) → IsSound u → IsFitUnit (worn_unit u).unit
 fit u sound = record {
   count = length-map _ _ ∙ sound.count;
   chunks = all_chunks u.shape u.chunks.items sound.chunks;
 }
+
+pub zeros_all : (n : ℕ) → AllByRecursion (λ w. w < 256) (replicate n 0)
+zeros_all zero = tt
+zeros_all (suc n) = (lit< tt, zeros_all n)

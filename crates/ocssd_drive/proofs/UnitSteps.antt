@@ -5,7 +5,7 @@ use Rattle.std.specs.Option.{IsSome}
 use Rattle.std.specs.Vec.{with_item}
 use Rattle.pblk_model.specs.declared.shape.Shape.{Shape}
 use Rattle.pblk_model.specs.Chunk.{Chunk}
-use Rattle.pblk_model.specs.ChunkStep.{ChunkCommand, Read, refusal}
+use Rattle.pblk_model.specs.ChunkStep.{ChunkCommand, Read, WritesBlocks, refusal}
 use Rattle.pblk_model.specs.UnitLog.{UnitEvent, UnitOutcome, Answered, Failed, Stopped, after_event, after_outcome}
 use Rattle.ocssd_chunks.specs.DriveChunk.{DriveChunk}
 use Rattle.unit_port.specs.declared.armed.CommandKind.{CommandKind}
@@ -100,11 +100,13 @@ after_read s c block (Failed k) = refl
 after_read s c block (Stopped k) = refl
 
 pub steps : (u : Inside) (chunk : ℕ) (command : ChunkCommand) (fault : Fault) (outcome : UnitOutcome) (j next : JournalView) (c : Chunk) (found left : DriveChunk) → Finds u.journal (kind_of command) fault j → IsFound u chunk c found → MeetsFault u.shape found command fault outcome left
-    → next.log ≡ j.log ++ event_of chunk command outcome ∷ [] → next.armed ≡ j.armed → Steps (worn_unit u).unit chunk command outcome (after u (slice_set u.chunks.items chunk left) next)
-steps u chunk command fault outcome j next c found left befalls f met noted armed = record {
+    → next.log ≡ j.log ++ event_of chunk command outcome ∷ [] → next.armed ≡ j.armed → WritesBlocks u.shape command
+    → Steps (worn_unit u).unit chunk command outcome (after u (slice_set u.chunks.items chunk left) next)
+steps u chunk command fault outcome j next c found left befalls f met noted armed blocks = record {
   event = record {
     found = found.chunk;
     there = chunk_there u.chunks.items chunk found f.there;
+    blocks = blocks;
     outcome = met.told;
   };
   log = rw befalls.log at noted;
@@ -118,7 +120,7 @@ steps u chunk command fault outcome j next c found left befalls f met noted arme
 pub steps_reading : (u : Inside) (chunk block : ℕ) (fault : Fault) (outcome : UnitOutcome) (j next : JournalView) (c : Chunk) (found : DriveChunk) → Finds u.journal kinds.Fetch fault j → IsFound u chunk c found → MeetsFault u.shape found (Read block) fault outcome found
     → next.log ≡ j.log ++ event_of chunk (Read block) outcome ∷ [] → next.armed ≡ j.armed → Steps (worn_unit u).unit chunk (Read block) outcome (after u u.chunks.items next)
 steps_reading u chunk block fault outcome j next c found befalls f met noted armed =
-    rw (set_again u.chunks.items chunk found f.there) at (steps u chunk (Read block) fault outcome j next c found found befalls f met noted armed)
+    rw (set_again u.chunks.items chunk found f.there) at (steps u chunk (Read block) fault outcome j next c found found befalls f met noted armed tt)
 
 pub sound_after : (u : Inside) (chunk : ℕ) (left : DriveChunk) (next : JournalView) → IsSound u → IsChunkIn u.shape left → IsSound (record { shape = u.shape; chunks = with_item u.chunks chunk left; wear = u.wear; journal = next })
 sound_after u chunk left next sound one = record {
@@ -126,6 +128,7 @@ sound_after u chunk left next sound one = record {
   count = length-set u.chunks.items chunk left ∙ sound.count;
   chunks = all_set (IsChunkIn u.shape) u.chunks.items chunk left sound.chunks one;
   worn = sound.worn;
+  worn_fits = sound.worn_fits;
 }
 
 pub fit_with : (u : Inside) (next : JournalView) → IsSound u → IsFitUnit (after u u.chunks.items next)

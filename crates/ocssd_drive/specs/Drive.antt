@@ -1,38 +1,26 @@
 -- A drive, and what its units are armed with together.
-use Rattle.std.specs.Prelude.{ℕ, true, ◌≡◌, ◌==◌, ◌<◌, ◌≤◌, List, map, length, replicate, slice_get, Option, Some, None, if◌then◌else◌, nat_lt}
+use Rattle.std.specs.Prelude.{ℕ, true, ◌≡◌, ◌==◌, ◌<◌, ◌≤◌, List, map, length, replicate, slice_get, slice_set, Option, Some, None, if◌then◌else◌, nat_lt}
 use Rattle.std.specs.List.{AllByRecursion, enumerate_from}
-use Rattle.std.specs.Option.{is_some, option_map}
+use Rattle.std.specs.Option.{is_some, option_map, option_map_or}
 use Rattle.atomic_table.specs.Seated.{TableId}
 use Rattle.pblk_model.specs.declared.shape.Shape.{Shape}
 use Rattle.pblk_model.specs.Accepted.{IsAccepted}
 use Rattle.pblk_model.specs.Shape.{units}
+use Rattle.pblk_model.specs.Geometry.{shape_with}
+use Rattle.pblk_model.specs.ImageFile as ImageFile
+use Rattle.pblk_model.specs.ImageFile.{StoredChunk}
 use Rattle.unit_port.specs.declared.armed.FaultPlan.{FaultPlan}
 use Rattle.unit_port.specs.declared.armed.Fuse.{Fuse}
-use Rattle.unit_port.specs.Unit.{IsFitUnit}
 use Rattle.unit_port.specs.Armed.{Armed, events_since}
 use Rattle.ocssd_geometry.specs.declared.geometry.Geometry.{Geometry}
-use Rattle.ocssd_geometry.specs.Numbers.{IsGeometry}
+use Rattle.ocssd_geometry.specs.Numbers.{IsGeometry, numbers_of}
 use Rattle.unit_port.specs.declared.armed.CommandKind.TheVariants as kinds
 use Rattle.ocssd_drive.specs.Faults.{changes_of}
 use Rattle.ocssd_drive.specs.Tally.{IsTally}
 use Rattle.ocssd_drive.specs.StopWord.{SeatView, keeper, other_unit}
 use Rattle.ocssd_drive.specs.Journal.{FitsArming, word_of}
 use Rattle.ocssd_drive.specs.declared.journal.Arming.{Arming}
-use Rattle.ocssd_drive.specs.Units.{WornUnit, with_arms, new_unit}
-
-abbrev pub drive_shape : Geometry → ℕ → ℕ → ℕ → Shape
-drive_shape g sector capacity ring = record {
-  groups = g.groups;
-  pus = g.pus;
-  chunks = g.chunks;
-  clba = g.clba;
-  ws_min = g.ws_min;
-  ws_opt = g.ws_opt;
-  mw_cunits = g.mw_cunits;
-  sector = sector;
-  capacity = capacity;
-  ring = ring;
-}
+use Rattle.ocssd_drive.specs.Units.{WornUnit, IsUnitOf, with_arms, with_stored, stored_chunks, new_unit}
 
 -- the numbers of a drive and of the target on it, and the units
 pub record DriveView : Type 0 where
@@ -42,8 +30,19 @@ pub record DriveView : Type 0 where
   pub ring : ℕ
   pub units : List WornUnit
 
+-- its numbers, and those of the target on it
 abbrev pub shape_of : DriveView → Shape
-shape_of d = drive_shape d.geometry d.sector d.capacity d.ring
+shape_of d = shape_with (numbers_of d.geometry) d.sector d.capacity d.ring
+
+-- the drive as it is kept in a file: its numbers, and each unit's chunks with their wear indices
+abbrev pub stored : DriveView → ImageFile.Drive
+stored d = record {
+  geometry = numbers_of d.geometry;
+  sector = d.sector;
+  capacity = d.capacity;
+  ring = d.ring;
+  units = map stored_chunks d.units;
+}
 
 -- the drive with these units in place of its own
 abbrev pub with_units : List WornUnit → DriveView → DriveView
@@ -51,7 +50,7 @@ with_units units d = record { geometry = d.geometry; sector = d.sector; capacity
 
 -- the drive with new units alone
 abbrev pub new_drive : Geometry → ℕ → ℕ → ℕ → DriveView
-new_drive g sector capacity ring = let s = drive_shape g sector capacity ring in record {
+new_drive g sector capacity ring = let s = shape_with (numbers_of g) sector capacity ring in record {
   geometry = g;
   sector = sector;
   capacity = capacity;
@@ -59,10 +58,23 @@ new_drive g sector capacity ring = let s = drive_shape g sector capacity ring in
   units = replicate (units s) (new_unit s);
 }
 
--- a unit of a drive of this shape
-pub record IsUnitOf (s : Shape) (u : WornUnit) : Type 0 where
-  pub shape : u.unit.shape ≡ s
-  pub fits : IsFitUnit u.unit
+-- the list with one element changed, if it is there
+abbrev pub changed_at : {X : Type 0} → (X → X) → ℕ → List X → List X
+changed_at change i xs = option_map_or (λ x. slice_set xs i (change x)) (slice_get xs i) xs
+
+-- the drive with this chunk and wear index at a place of a unit
+abbrev pub with_restored : ℕ → ℕ → StoredChunk → DriveView → DriveView
+with_restored unit chunk k d = with_units (changed_at (with_stored chunk k) unit d.units) d
+
+-- the drive in a file with this chunk and wear index at a place of a unit
+abbrev pub with_chunk_at : ℕ → ℕ → StoredChunk → ImageFile.Drive → ImageFile.Drive
+with_chunk_at unit chunk k d = record {
+  geometry = d.geometry;
+  sector = d.sector;
+  capacity = d.capacity;
+  ring = d.ring;
+  units = changed_at (λ chunks. slice_set chunks chunk k) unit d.units;
+}
 
 -- what every drive is: its geometry and its shape are accepted, and its units fit the shape
 pub record IsWhole (d : DriveView) : Type 0 where

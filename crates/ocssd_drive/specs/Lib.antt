@@ -10,3 +10,4 @@ pub mod UnitFields
 pub mod Fields
 pub mod Drive
 pub mod DriveFields
+pub mod Spelled

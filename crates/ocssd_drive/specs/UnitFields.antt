@@ -1,5 +1,5 @@
 -- What the fields of a unit in memory stand for, and what they keep.
-use Rattle.std.specs.Prelude.{◌≡◌, map, length}
+use Rattle.std.specs.Prelude.{◌<◌, ◌≡◌, map, length}
 use Rattle.std.specs.List.{AllByRecursion}
 use Rattle.pblk_model.specs.Accepted.{IsAccepted}
 use Rattle.ocssd_chunks.specs.DriveChunk.{DriveChunk}
@@ -18,3 +18,4 @@ pub record IsSound (u : Inside) : Type 0 where
   pub count : length u.chunks.items ≡ u.shape.chunks
   pub chunks : AllByRecursion (IsChunkIn u.shape) u.chunks.items
   pub worn : length u.wear.items ≡ u.shape.chunks
+  pub worn_fits : AllByRecursion (λ w. w < 256) u.wear.items

@@ -1,12 +1,15 @@
 -- Units in memory.
-use Rattle.std.specs.Prelude.{ℕ, ◌%◌, ◌<◌, ◌≤◌, ◌≡◌, List, [], length, replicate, Option, None}
+use Rattle.std.specs.Prelude.{ℕ, ◌%◌, ◌<◌, ◌≤◌, ◌≡◌, List, [], map, length, replicate, slice_set, Option, None}
+use Rattle.std.specs.List.{AllByRecursion, zip}
 use Rattle.pblk_model.specs.declared.shape.Shape.{Shape}
-use Rattle.pblk_model.specs.Chunk.{Chunk, IsChunk, free_chunk}
+use Rattle.pblk_model.specs.Chunk.{Block, Chunk, IsChunk, free_chunk}
+use Rattle.pblk_model.specs.declared.chunk.ChunkState.{ChunkState}
 use Rattle.pblk_model.specs.ChunkStep.{ChunkCommand, refusal}
 use Rattle.pblk_model.specs.UnitLog.{UnitOutcome, IsOutcome, after_outcome}
+use Rattle.pblk_model.specs.ImageFile.{StoredChunk}
 use Rattle.ocssd_chunks.specs.DriveChunk.{DriveChunk}
 use Rattle.unit_port.specs.Armed.{Armed, unarmed}
-use Rattle.unit_port.specs.Unit.{ModelUnit}
+use Rattle.unit_port.specs.Unit.{ModelUnit, IsFitUnit}
 use Rattle.ocssd_drive.specs.declared.fault.Fault.{Fault}
 use Rattle.ocssd_drive.specs.declared.fault.Fault.TheVariants as faults
 use Rattle.ocssd_drive.specs.StopWord.{SeatView}
@@ -33,6 +36,29 @@ with_arms a seat u = record {
   wear = u.wear;
   seat = seat;
 }
+
+-- a chunk in this state with these blocks, and its wear index
+abbrev pub worn_chunk : ChunkState → List Block → ℕ → StoredChunk
+worn_chunk state blocks wear = record { chunk = record { state = state; blocks = blocks }; wear = wear }
+
+-- the unit with this chunk and wear index at a place
+abbrev pub with_stored : ℕ → StoredChunk → WornUnit → WornUnit
+with_stored at k u = record {
+  unit = record { shape = u.unit.shape; media = slice_set u.unit.media at k.chunk; log = u.unit.log; armed = u.unit.armed };
+  wear = slice_set u.wear at k.wear;
+  seat = u.seat;
+}
+
+-- its chunks with their wear indices
+abbrev pub stored_chunks : WornUnit → List StoredChunk
+stored_chunks u = map (λ (p : Chunk × ℕ). record { chunk = p.0; wear = p.1 }) (zip u.unit.media u.wear)
+
+-- a unit of a drive of this shape, with a wear index of a byte for each chunk
+pub record IsUnitOf (s : Shape) (u : WornUnit) : Type 0 where
+  pub shape : u.unit.shape ≡ s
+  pub fits : IsFitUnit u.unit
+  pub worn : length u.wear ≡ s.chunks
+  pub worn_fits : AllByRecursion (λ w. w < 256) u.wear
 
 -- without plans and fuse
 abbrev pub disarmed : WornUnit → WornUnit

@@ -28,13 +28,7 @@ fn fuse_unit(units: &[MemoryUnit]) -> Option<usize>
     ensures some { IfSome result (λ at. (u : WornUnit) × (slice_get units.now at ≡ Some u) × (fuse_is_at u.unit.armed ≡ true)) }
     ensures none { IfNone result ((i : ℕ) (u : WornUnit) → slice_get units.now i ≡ Some u → fuse_is_at u.unit.armed ≡ false) }
 {
-    for at in 0..units.len() {
-        let unit = &units[at];
-        if unit.has_fuse() {
-            return Some(at);
-        }
-    }
-    None
+    units.iter().position(MemoryUnit::has_fuse)
 }
 
 // Disarms units without a fuse.
@@ -42,8 +36,7 @@ fn disarm_plain(units: &mut [MemoryUnit])
     ensures units { units.new ≡ map disarmed units.old }
     ensures calm { (i : ℕ) (u : WornUnit) → slice_get units.old i ≡ Some u → IsCalm u.unit.armed u.unit.log }
 {
-    for i in 0..units.len() {
-        let unit = &mut units[i];
+    for unit in units {
         unit.disarm();
     }
 }

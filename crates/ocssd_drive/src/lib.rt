@@ -13,7 +13,7 @@ mod tally;
 
 pub use drive::Drive;
 pub use memory_unit::MemoryUnit;
-pub use unit_port::{CommandKind, FaultPlan, Fuse};
-
-#[cfg(test)]
-mod tests;
+pub use ocssd_chunks::{Chunk, ChunkErr, ChunkState, Got, Mark, Shape};
+pub use ocssd_geometry::{Address, Geometry, GeometryErr};
+pub use pblk_model::ShapeErr;
+pub use unit_port::{CommandKind, FaultPlan, Fuse, Unit, UnitErr};

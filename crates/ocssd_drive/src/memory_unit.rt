@@ -1,26 +1,28 @@
 //! A parallel unit in memory.
-ghost use Rattle.std.specs.Prelude.{◌≡◌, ◌*◌, ◌%◌, ◌/◌, ◌-◌, ◌^◌, ◌<◌, ◌+◌, ◌≤◌, length, min, replicate, slice_get, slice_set, IfOk, Some};
+ghost use Rattle.std.specs.Prelude.{◌≡◌, ◌*◌, ◌%◌, ◌/◌, ◌-◌, ◌^◌, ◌<◌, ◌+◌, ◌≤◌, ◌↔◌, IsTrue, IsNone, IfSome, length, min, replicate, slice_get, slice_set, IfOk, Some, None};
 ghost use Rattle.pblk_model.specs.Accepted.{IsAccepted};
 ghost use Rattle.pblk_model.specs.Blocks.{blocks_of};
 ghost use Rattle.pblk_model.specs.Chunk.{IsChunk, PointerFits, free_chunk, pointer};
 ghost use Rattle.pblk_model.specs.ChunkStep.{Write, Read, Reset};
 ghost use Rattle.pblk_model.specs.UnitLog.{UnitOutcome};
-ghost use Rattle.unit_port.specs.Unit.{IsChunkOf, IsFitUnit, Steps, Takes, TellsBlock, TellsDone};
+ghost use Rattle.unit_port.specs.Unit.{IsChunkOf, IsFitUnit, IsReady, Steps, Takes, TellsBlock, TellsDone};
 ghost use Rattle.ocssd_drive.specs.Planned.{IsPlanned};
-ghost use Rattle.ocssd_drive.specs.Units.{WornUnit, new_unit, with_arms, disarmed, IsChunkIn, IsWrite, TakesUnder, MeetsFault};
+ghost use Rattle.ocssd_drive.specs.Units.{WornUnit, new_unit, with_arms, with_stored, worn_chunk, disarmed, IsChunkIn, IsUnitOf, IsWrite, TakesUnder, MeetsFault};
 ghost use Rattle.ocssd_drive.specs.Shown.{outcome_of, fetch_outcome};
 ghost use Rattle.ocssd_drive.specs.Journal.{FitsArming, IsCalm, SeatTells, word_of};
 ghost use Rattle.ocssd_drive.specs.Faults.{fuse_is_at};
 ghost use Rattle.ocssd_drive.specs.Tally.{IsTally};
 ghost use Rattle.unit_port.specs.declared.armed.CommandKind.TheVariants as kinds;
+ghost use Rattle.ocssd_drive.specs.Spelled.{RestoresUnit};
 
 use crate::fault::Fault;
 use crate::journal::{Arming, Journal};
 use crate::shown::{Fetched, Landed, Programmed, WasReset};
 use crate::stop_word::StopSeat;
-use ocssd_chunks::Chunk;
+use ocssd_chunks::{Chunk, are_blocks, has_sectors};
 use pblk_model::{ChunkState, Got, Mark, Shape};
 use std::alloc::{AllocError, Global};
+use std::fmt::{self, Debug, Formatter};
 use std::marker::Model;
 use unit_port::{CommandKind, FaultPlan, Fuse, Unit, UnitErr};
 
@@ -49,6 +51,16 @@ impl Model for MemoryUnit {
     ghost invariant = { IsSound };
 }
 
+// Its numbers, and how much it has done.
+impl Debug for MemoryUnit {
+    fn fmt<W: fmt::Write>(&self, f: &mut Formatter<W>) -> fmt::Result {
+        f.debug_struct("MemoryUnit")
+            .field("shape", &self.shape)
+            .field("events", &self.journal.events())
+            .finish_non_exhaustive()
+    }
+}
+
 impl MemoryUnit {
     /// A unit of a drive of this shape: its chunks are Free and their wear indices 0, its log is empty, and
     /// it isn't armed.
@@ -57,7 +69,8 @@ impl MemoryUnit {
     /// isn't as much.
     pub fn new(alloc: Global, shape: &Shape) -> Result<MemoryUnit, AllocError>
         requires { IsAccepted shape.now }
-        ensures { IfOk result (λ u. u ≡ new_unit shape.now) }
+        ensures new { IfOk result (λ u. u ≡ new_unit shape.now) }
+        ensures fits { IfOk result (IsUnitOf shape.now) }
     {
         let mut chunks = Vec::with_capacity(alloc, shape.chunks as usize)?;
         let mut wear = Vec::with_capacity(alloc, shape.chunks as usize)?;
@@ -72,6 +85,16 @@ impl MemoryUnit {
             wear,
             journal,
         })
+    }
+
+    /// The numbers of the unit's drive, which say how many chunks the unit has.
+    pub fn shape(&self) -> Shape
+        ensures shape { result ≡ self.now.unit.shape }
+        ensures chunks { result.chunks ≡ length self.now.unit.media }
+        ensures accepted { IsAccepted result }
+        ensures fits { IsUnitOf result self.now }
+    {
+        self.shape
     }
 
     /// A chunk of the unit; there are as many as the shape says, numbered from 0.
@@ -93,24 +116,108 @@ impl MemoryUnit {
         self.wear[chunk as usize]
     }
 
-    /// Gives a Free chunk of the unit this wear index, this state, and the blocks of these bytes and marks.
-    /// It isn't logged.
+    /// Whether the unit may be given this program: it has the chunk, `bytes` has a sector for each of `marks`,
+    /// and the chunk doesn't refuse the write.
+    pub fn takes_program(&self, chunk: u32, at: u32, bytes: &[u8], marks: &[Mark]) -> bool
+        ensures exact { let blocks = blocks_of self.now.unit.shape.sector bytes.now marks.now
+            in IsTrue result ↔ ((length bytes.now ≡ length marks.now * self.now.unit.shape.sector)
+            × IsReady self.now.unit chunk (Write at blocks)) }
+
+        // What `program` asks for.
+        ensures whole { IsTrue result
+            → length bytes.now ≡ length marks.now * self.now.unit.shape.sector }
+        ensures taken { let blocks = blocks_of self.now.unit.shape.sector bytes.now marks.now
+            in IsTrue result → Takes self.now.unit chunk (Write at blocks) }
+    {
+        match self.find(chunk) {
+            Some(found) => {
+                has_sectors(&self.shape, bytes, marks)
+                    && found.write_refusal(at, bytes, marks).is_none()
+            }
+            None => false,
+        }
+    }
+
+    /// Whether the unit may be given this fetch: it has the chunk, `out` has the length of a sector, and the
+    /// chunk, which isn't Offline, has the block.
+    pub fn takes_fetch(&self, chunk: u32, block: u32, out: &[u8]) -> bool
+        ensures exact { IsTrue result ↔ ((length out.now ≡ self.now.unit.shape.sector)
+            × IsReady self.now.unit chunk (Read block)) }
+
+        // What `fetch` asks for.
+        ensures whole { IsTrue result → length out.now ≡ self.now.unit.shape.sector }
+        ensures taken { IsTrue result → Takes self.now.unit chunk (Read block) }
+    {
+        match self.find(chunk) {
+            Some(found) => {
+                out.len() == self.shape.sector as usize && found.read_refusal(block).is_none()
+            }
+            None => false,
+        }
+    }
+
+    /// Whether the unit may be given this reset: it has the chunk, which is neither Free nor Offline.
+    pub fn takes_reset(&self, chunk: u32) -> bool
+        ensures exact { IsTrue result ↔ IsReady self.now.unit chunk Reset }
+
+        // What `reset` asks for.
+        ensures taken { IsTrue result → Takes self.now.unit chunk Reset }
+    {
+        match self.find(chunk) {
+            Some(found) => found.reset_refusal().is_none(),
+            None => false,
+        }
+    }
+
+    // The chunk of this number, if there is one.
+    fn find(&self, chunk: u32) -> Option<&Chunk>
+        ensures found { IfSome result (λ c. IsChunkOf self.now.unit chunk c.now.chunk
+            × (c.now.shape ≡ self.now.unit.shape)) }
+        ensures none { IsNone result → slice_get self.now.unit.media chunk ≡ None }
+    {
+        self.chunks.get(chunk as usize)
+    }
+
+    /// Gives a chunk of the unit this wear index, this state, and the blocks of these bytes and marks, in
+    /// place of what it had. It isn't logged.
     ///
     /// `bytes` has a sector for each of `marks`, of which there are a multiple of WS_MIN: none for Free and
     /// Offline, from 1 to below CLBA for Open, up to CLBA for Closed.
     pub fn restore(&mut self, chunk: u32, wear: u8, state: ChunkState, bytes: &[u8], marks: &[Mark])
-        requires free { IsChunkOf self.old.unit chunk free_chunk }
+        requires chunk { chunk < length self.old.unit.media }
         requires whole { length bytes.now ≡ length marks.now * self.old.unit.shape.sector }
         requires place { PointerFits state self.old.unit.shape.clba (length marks.now) }
         requires multiple { length marks.now % self.old.unit.shape.ws_min ≡ 0 }
-        ensures chunk { let blocks = blocks_of self.old.unit.shape.sector bytes.now marks.now
-            in self.new.unit.media ≡ slice_set self.old.unit.media chunk (record { state = state; blocks = blocks }) }
-        ensures wear { self.new.wear ≡ slice_set self.old.wear chunk wear }
-        ensures same { (self.new.unit.shape ≡ self.old.unit.shape) × (self.new.unit.log ≡ self.old.unit.log) × (self.new.unit.armed ≡ self.old.unit.armed) × (self.new.seat ≡ self.old.seat) }
+        ensures restored { let blocks = blocks_of self.old.unit.shape.sector bytes.now marks.now
+            in self.new ≡ with_stored chunk (worn_chunk state blocks wear) self.old }
+        ensures fits { IsUnitOf self.new.unit.shape self.new }
     {
         self.wear[chunk as usize] = wear;
         let found = &mut self.chunks[chunk as usize];
         found.restore(state, bytes, marks);
+    }
+
+    /// As `restore`, from `count` blocks of which each is spelled as its sector and then its mark, two numbers of eight
+    /// little-endian bytes. Each sector is copied once.
+    pub fn restore_spelled(
+        &mut self,
+        chunk: u32,
+        wear: u8,
+        state: ChunkState,
+        count: u32,
+        bytes: &[u8],
+    )
+        requires chunk { chunk < length self.old.unit.media }
+        requires whole { length bytes.now ≡ count * (self.old.unit.shape.sector + 16) }
+        requires place { PointerFits state self.old.unit.shape.clba count }
+        requires multiple { count % self.old.unit.shape.ws_min ≡ 0 }
+        ensures restored { RestoresUnit chunk wear state count bytes.now self.old self.new }
+        ensures fits { IsUnitOf self.new.unit.shape self.new }
+    {
+        let place = chunk as usize;
+        self.wear[place] = wear;
+        let found = &mut self.chunks[place];
+        found.restore_spelled(state, count, bytes);
     }
 
     /// Arms the unit, which has this number in its drive, with what was made of these plans and this fuse.
@@ -158,6 +265,7 @@ impl Unit for MemoryUnit {
             in (outcome : UnitOutcome) × TellsDone result outcome × Steps self.old.unit chunk (Write at blocks) outcome self.new.unit }
         ensures fits { IsFitUnit self.new.unit }
     {
+        are_blocks(&self.shape, bytes, marks);
         let fault = self.journal.fault(CommandKind::Program);
         let found = &mut self.chunks[chunk as usize];
         let landed = write_chunk(found, fault, &self.shape, at, bytes, marks);

@@ -1,10 +1,12 @@
 -- What an accepted geometry's numbers keep, and what bytes are read as.
-use Rattle.std.proofs.Common.{◌≡◌, ◌≢◌, ℕ, ◌+◌, ◌^◌, ◌≤◌, Bool, true, false, cond, Option, Some, None, Ok, Err, List, [], ◌∷◌, length, refl, sym}
+use Rattle.std.proofs.Common.{◌≡◌, ◌≢◌, ℕ, ◌+◌, ◌^◌, ◌≤◌, Bool, true, false, cond, Option, Some, None, Ok, Err, List, [], ◌∷◌, length, refl, sym, arith}
 use Rattle.std.proofs.lemmas.Bool.{and_parts, leb-true, ne_eqb}
-use Rattle.std.specs.Prelude.{nat_le}
+use Rattle.std.specs.Prelude.{◌<◌, ◌==◌, not, nat_le}
+use Rattle.std.proofs.lemmas.Bool.Decides.{nat_tests}
 use Rattle.pblk_model.specs.declared.shape.GeometryErr.{GeometryErr}
 use Rattle.pblk_model.specs.declared.shape.GeometryErr.TheVariants.{Length}
-use Rattle.pblk_model.specs.Geometry.{Geometry, geometry_in, length_holds, field_checks, profile_checks, first_failing, refusal_from, profile_refusal, geometry_refusal, read_geometry}
+use Rattle.pblk_model.specs.Checks.{first_failing}
+use Rattle.pblk_model.specs.Geometry.{Geometry, geometry_in, length_holds, field_checks, profile_checks, refusal_from, profile_refusal, geometry_refusal, read_geometry}
 
 -- ---- a geometry that isn't refused
 
@@ -52,6 +54,31 @@ accepted_lengths g e =
       chunk = held g.chunk_bits g.chunks fields.1.1.1.0;
       block = held g.block_bits g.clba fields.1.1.1.1.0;
       sum = leb-true _ 64 rules.1.1.1.1.1.1.1.0;
+    }
+
+-- each count is above 0
+pub record HasCounts (g : Geometry) : Type 0 where
+  pub groups : 0 < g.groups
+  pub pus : 0 < g.pus
+  pub chunks : 0 < g.chunks
+  pub clba : 0 < g.clba
+  pub ws_min : 0 < g.ws_min
+  pub ws_opt : 0 < g.ws_opt
+
+some_of : (n : ℕ) → not (n == 0) ≡ true → 0 < n
+some_of n e = grind (arith, nat_tests)
+
+pub accepted_counts : (g : Geometry) → geometry_refusal g ≡ None → HasCounts g
+accepted_counts g e =
+    let parts = none_refused (first_failing (field_checks g)) (first_failing (profile_checks g)) e in
+    let fields = (all_pass (field_checks g) parts.0).1.1.1.1.1 in
+    record {
+      groups = some_of g.groups fields.0;
+      pus = some_of g.pus fields.1.0;
+      chunks = some_of g.chunks fields.1.1.0;
+      clba = some_of g.clba fields.1.1.1.0;
+      ws_min = some_of g.ws_min fields.1.1.1.1.0;
+      ws_opt = some_of g.ws_opt fields.1.1.1.1.1.0;
     }
 
 -- ---- what bytes are read as

@@ -27,3 +27,25 @@ numbers_of g = record {
 -- each field and each rule is accepted
 abbrev pub IsGeometry : Geometry → Type 0
 IsGeometry g = model.geometry_refusal (numbers_of g) ≡ None
+
+-- the numbers of a small drive
+abbrev pub small_numbers : model.Geometry
+small_numbers = record {
+  mjr = 2;
+  mnr = 0;
+  group_bits = 0;
+  pu_bits = 1;
+  chunk_bits = 3;
+  block_bits = 5;
+  mccap = 0;
+  wit = 0;
+  groups = 1;
+  pus = 2;
+  chunks = 8;
+  clba = 24;
+  ws_min = 2;
+  ws_opt = 4;
+  mw_cunits = 8;
+  maxoc = 0;
+  maxocpu = 0;
+}

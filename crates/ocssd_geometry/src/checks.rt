@@ -1,7 +1,8 @@
 //! Which geometries are accepted.
 
 ghost use Rattle.std.specs.Prelude.{◌≡◌, ◌<◌, ◌==◌, ◌||◌, nat_le, IfNone};
-ghost use Rattle.pblk_model.specs.Geometry.{geometry_refusal, field_checks, profile_checks, first_failing, length_holds};
+ghost use Rattle.pblk_model.specs.Checks.{first_failing};
+ghost use Rattle.pblk_model.specs.Geometry.{geometry_refusal, field_checks, profile_checks, length_holds};
 ghost use Rattle.ocssd_geometry.specs.Numbers.{numbers_of};
 
 use crate::geometry::Geometry;

@@ -1,7 +1,7 @@
 //! A geometry, and its one spelling in bytes.
 
 use crate::bytes::{clear, put, put_u16, put_u32, u8_at, u16_at, u32_at};
-use pblk_model::GeometryErr;
+use pblk_model::{GeometryErr, Shape};
 
 /// The numbers of a drive (Open-Channel SSD Specification 2.0, Geometry). Any numbers may stand in it; it
 /// is accepted where `refusal` finds none.
@@ -38,10 +38,12 @@ pub struct Geometry {
 }
 
 impl Geometry {
-    ghost use Rattle.std.specs.Prelude.{◌≡◌, length, IfOk, Ok};
+    ghost use Rattle.std.specs.Prelude.{◌≡◌, ◌<◌, length, IfOk, Ok};
     ghost use Rattle.std.specs.Result.{result_map_both};
-    ghost use Rattle.pblk_model.specs.Geometry.{geometry_in, geometry_bytes, read_geometry};
-    ghost use Rattle.ocssd_geometry.specs.Numbers.{numbers_of, IsGeometry};
+    ghost use Rattle.pblk_model.specs.Geometry.{geometry_in, geometry_bytes, read_geometry, shape_with};
+    ghost use Rattle.pblk_model.specs.Accepted.{IsAccepted};
+    ghost use Rattle.pblk_model.specs.Shape.{small};
+    ghost use Rattle.ocssd_geometry.specs.Numbers.{numbers_of, small_numbers, IsGeometry};
 
     /// The geometry that bytes are.
     ///
@@ -51,6 +53,14 @@ impl Geometry {
     pub fn read(bytes: &[u8]) -> Result<Geometry, GeometryErr>
         ensures read { result_map_both numbers_of (λ e. e) result ≡ read_geometry bytes.now }
         ensures accepted { IfOk result IsGeometry }
+
+        // What is accepted has blocks, so the last of each count has an address.
+        ensures groups { IfOk result (λ g. 0 < g.groups) }
+        ensures pus { IfOk result (λ g. 0 < g.pus) }
+        ensures chunks { IfOk result (λ g. 0 < g.chunks) }
+        ensures clba { IfOk result (λ g. 0 < g.clba) }
+        ensures ws_min { IfOk result (λ g. 0 < g.ws_min) }
+        ensures ws_opt { IfOk result (λ g. 0 < g.ws_opt) }
     {
         if bytes.len() != 4096 {
             return Err(GeometryErr::Length);
@@ -112,5 +122,53 @@ impl Geometry {
         put_u32(out, 136, self.mw_cunits);
         put_u32(out, 140, self.maxoc);
         put_u32(out, 144, self.maxocpu);
+    }
+
+    /// The geometry of a small drive: one group of two parallel units, each of 8 chunks of 24 blocks, with
+    /// WS_MIN 2, WS_OPT 4 and MW_CUNITS 8, and addresses of 0, 1, 3 and 5 bits (Open-Channel SSD
+    /// Specification 2.0, Geometry). With sectors of 512 bytes and a target of 64 sectors and 64 entries of
+    /// its write buffer it is the model's small shape.
+    pub fn small() -> Geometry
+        ensures numbers { numbers_of result ≡ small_numbers }
+        ensures accepted { IsGeometry result }
+        ensures shape { shape_with (numbers_of result) 512 64 64 ≡ small }
+        ensures drive { IsAccepted (shape_with (numbers_of result) 512 64 64) }
+    {
+        let shape = Shape::small();
+        Geometry {
+            mjr: 2,
+            mnr: 0,
+            lengths: [0, 1, 3, 5],
+            mccap: 0,
+            wit: 0,
+            groups: shape.groups,
+            pus: shape.pus,
+            chunks: shape.chunks,
+            clba: shape.clba,
+            ws_min: shape.ws_min,
+            ws_opt: shape.ws_opt,
+            mw_cunits: shape.mw_cunits,
+            maxoc: 0,
+            maxocpu: 0,
+        }
+    }
+
+    /// The numbers of a drive of this geometry and of the target on it: `sector` is a block's size in bytes,
+    /// `capacity` the number of user sectors, `ring` the number of entries of the write buffer.
+    pub fn shape(&self, sector: u32, capacity: u64, ring: u32) -> Shape
+        ensures { result ≡ shape_with (numbers_of self.now) sector capacity ring }
+    {
+        Shape {
+            groups: self.groups,
+            pus: self.pus,
+            chunks: self.chunks,
+            clba: self.clba,
+            ws_min: self.ws_min,
+            ws_opt: self.ws_opt,
+            mw_cunits: self.mw_cunits,
+            sector,
+            capacity,
+            ring,
+        }
     }
 }

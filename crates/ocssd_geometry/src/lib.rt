@@ -10,7 +10,4 @@ mod checks;
 mod geometry;
 
 pub use geometry::Geometry;
-pub use pblk_model::{Address, GeometryErr};
-
-#[cfg(test)]
-mod tests;
+pub use pblk_model::{Address, GeometryErr, Shape};

@@ -38,6 +38,12 @@ pub record Takes (u : ModelUnit) (chunk : ℕ) (command : ChunkCommand) : Type 0
   pub there : IsChunkOf u chunk found
   pub taken : (refusal u.shape found command ≡ None) ⊎ IsStopped u
 
+-- It has the chunk, which doesn't refuse the command.
+pub record IsReady (u : ModelUnit) (chunk : ℕ) (command : ChunkCommand) : Type 0 where
+  pub found : Chunk
+  pub there : IsChunkOf u chunk found
+  pub ready : refusal u.shape found command ≡ None
+
 -- A command with this outcome took it from old to new: its log got the event, which was one over its chunks, and its
 -- chunks are what the event leaves of them. Where it was stopped before, this one was stopped too, and landed nothing.
 pub record Steps (old : ModelUnit) (chunk : ℕ) (command : ChunkCommand) (outcome : UnitOutcome) (new : ModelUnit) : Type 0 where

@@ -14,7 +14,8 @@ pub enum CommandKind {
 /// drive was armed. Units are numbered from 0. A plan with nth 0 falls on no command.
 ///
 /// A program that fails still lands its first `cut` multiples of WS_MIN, or all but one where `cut` is
-/// larger. Of a fetch and of a reset `cut` says nothing.
+/// larger, and closes the chunk. A fetch that fails leaves all as it was, and a reset that fails takes the
+/// chunk offline; for both `cut` means nothing.
 #[derive(Clone, Copy, Debug, PartialEq, Eq)]
 pub struct FaultPlan {
     pub unit: u32,
@@ -28,8 +29,9 @@ pub struct FaultPlan {
 ///
 /// From then on each command of each unit of the drive answers Stopped and changes nothing but its log.
 ///
-/// A program still lands its first `cut` multiples of WS_MIN, or all of them where `cut` is larger. A
-/// reset is done where `cut` isn't 0.
+/// The command at which it falls answers Stopped too. A program still lands its first `cut` multiples of
+/// WS_MIN, or all of them where `cut` is larger, and leaves the chunk Closed at its end and Open before. A
+/// reset is done where `cut` isn't 0. Fetches are not counted, so the fuse falls at none.
 #[derive(Clone, Copy, Debug, PartialEq, Eq)]
 pub struct Fuse {
     pub unit: u32,

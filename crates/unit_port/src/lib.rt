@@ -7,7 +7,5 @@ mod unit;
 
 pub use armed::{Armed, CommandKind, FaultPlan, Fuse};
 pub use log::Log;
+pub use pblk_model::{ChunkState, Got, Mark, Shows, UnitEvent};
 pub use unit::{Unit, UnitErr};
-
-#[cfg(test)]
-mod tests;

@@ -9,18 +9,18 @@ pub loop-i-init : goal.loop-i-init
 loop-i-init c = fused_first c.args.units.now c.args.at c.in-Some.keeper c.index-units-at.result c.disarm.new.self c.requires.together c.requires.there c.index-units-at.is c.disarm.ensures.unit c.disarm.ensures.calm (subst (SeatTells _ _) c.in-Some.is c.disarm.ensures.seat)
 
 pub join_unit-requires-clause-word : goal.join_unit-requires-clause-word
-join_unit-requires-clause-word c = word_there c.args.units.now c.args.at c.loop-i.i c.in-Some.keeper c.loop-i.units c.loop-i.keeper c.index-units-i.result c.loop-i.invariant (omega arith) c.if-i-at.true
+join_unit-requires-clause-word c = word_there c.args.units.now c.args.at c.loop-i.i c.in-Some.keeper c.loop-i.units c.loop-i.keeper c.index-units-i.result c.loop-i.invariant (omega arith) (omega arith)
 
 pub join_unit-requires-clause-fused : goal.join_unit-requires-clause-fused
-join_unit-requires-clause-fused c = fused_there c.args.units.now c.args.at c.loop-i.i c.in-Some.keeper c.loop-i.units c.loop-i.keeper c.index-units-i.result c.loop-i.invariant (omega arith) c.if-i-at.true
+join_unit-requires-clause-fused c = fused_there c.args.units.now c.args.at c.loop-i.i c.in-Some.keeper c.loop-i.units c.loop-i.keeper c.index-units-i.result c.loop-i.invariant (omega arith) (omega arith)
 
 pub join_unit-requires-clause-other : goal.join_unit-requires-clause-other
-join_unit-requires-clause-other c = other_there c.args.units.now c.args.at c.loop-i.i c.in-Some.keeper c.loop-i.units c.loop-i.keeper c.index-units-i.result c.loop-i.invariant (omega arith) c.if-i-at.true
+join_unit-requires-clause-other c = other_there c.args.units.now c.args.at c.loop-i.i c.in-Some.keeper c.loop-i.units c.loop-i.keeper c.index-units-i.result c.loop-i.invariant (omega arith) (omega arith)
 
 pub loop-i-preserved : goal.loop-i-preserved
 loop-i-preserved c = elim c.if-i-at.branch [
-  | then-i-at w ↦ rw (w.units-is, w.keeper-is) (join_more c.args.units.now c.args.at c.loop-i.i c.in-Some.keeper c.loop-i.units c.loop-i.keeper w.join_unit.new.keeper w.index-units-i.result w.join_unit.new.unit c.loop-i.invariant (omega arith) w.if-i-at.true w.join_unit.ensures.unit w.join_unit.ensures.calm w.join_unit.ensures.keeper w.join_unit.ensures.stopped)
-  | else-i-at w ↦ rw (w.units-is, w.keeper-is) (skip_first c.args.units.now c.args.at c.loop-i.i c.in-Some.keeper c.loop-i.units c.loop-i.keeper w.if-i-at.false c.loop-i.invariant)
+  | then-i-at w ↦ rw (w.units-is, w.keeper-is) (join_more c.args.units.now c.args.at c.loop-i.i c.in-Some.keeper c.loop-i.units c.loop-i.keeper w.join_unit.new.keeper w.index-units-i.result w.join_unit.new.unit c.loop-i.invariant (omega arith) (omega arith) w.join_unit.ensures.unit w.join_unit.ensures.calm w.join_unit.ensures.keeper w.join_unit.ensures.stopped)
+  | else-i-at w ↦ rw (w.units-is, w.keeper-is) (skip_first c.args.units.now c.args.at c.loop-i.i c.in-Some.keeper c.loop-i.units c.loop-i.keeper (omega arith) c.loop-i.invariant)
 ]
 
 pub returns-clause-units : goal.returns-clause-units

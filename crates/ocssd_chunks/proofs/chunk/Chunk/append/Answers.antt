@@ -1,7 +1,7 @@
 use Rattle.std.proofs.Common.{length, refl, ap, ◌∙◌, arith, length-append}
 use Rattle.std.proofs.Math.Nat.{mul-le-mul_right}
 use Rattle.pblk_model.specs.Blocks.{blocks_of}
-use Rattle.ocssd_chunks.proofs.BlockList.{length-blocks_of, blocks_of-append, all_bytes, all_blocks}
+use Rattle.ocssd_chunks.proofs.BlockList.{length-blocks_of, blocks_of-append}
 use Rattle.ocssd_chunks.proofs.Writes.{room, chunk_of, IsChunk-joined}
 use Rattle.ocssd_chunks.proofs.chunk.Chunk.append.Goals as goal
 
@@ -33,15 +33,13 @@ returns-clause-fits c =
     let q = c.self.inside in
     let more = blocks_of q.shape.sector c.args.bytes.now c.args.marks.now in
     let count = length-blocks_of q.shape.sector c.args.bytes.now c.args.marks.now in
-    let whole = rw (← c.self.view_is) at c.requires.whole in
     let place = rw (← c.self.view_is) at c.requires.place in
     let multiple = rw (← c.self.view_is) at c.requires.multiple in
-    let all = all_blocks q.shape c.args.bytes.now c.args.marks.now whole (all_bytes c.args.bytes.now (λ k. omega (arith, c.type_inv.bytes k))) c.append_marks.ensures.in_range in
     rw (
       c.append_bytes.ensures.items,
       c.append_marks.ensures.items,
       blocks_of-append q.shape.sector q.bytes.items c.args.bytes.now q.marks.items c.args.marks.now c.self.invariant.whole,
-    ) (IsChunk-joined q.shape (chunk_of q.shape q.state q.bytes.items q.marks.items) c.args.state more c.self.invariant.fits (rw count place) (rw count multiple) all)
+    ) (IsChunk-joined q.shape (chunk_of q.shape q.state q.bytes.items q.marks.items) c.args.state more c.self.invariant.fits (rw count place) (rw count multiple) c.are_blocks.ensures)
 
 pub invariant_of-self : goal.invariant_of-self
 invariant_of-self c =

@@ -36,3 +36,6 @@ returns-clause-together c =
     let same = ap length new_is ∙ length-armed plans fuse word d.units in
     let fuse_is : fuse ≡ fitting_fuse (length d.units) c.args.fuse = c.fitting-fuse.ensures ∙ ap (λ n. fitting_fuse n c.args.fuse) (c.len.ensures ∙ c.self.inside.units.ok.0) in
     rw (written_over c.self.inside.units c.install.new.units same, new_is) (armed_together plans fuse word d.units c.in_ok-armings.ensures.each.1 (fits_again (length d.units) c.args.fuse fuse fuse_is))
+
+pub returns-clause-whole : goal.returns-clause-whole
+returns-clause-whole c = invariant_of-self c

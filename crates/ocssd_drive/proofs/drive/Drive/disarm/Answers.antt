@@ -28,3 +28,6 @@ returns-clause-stopped c = subst (λ (x : DriveView). (i : ℕ) (u : WornUnit) �
 pub returns-clause-calm : goal.returns-clause-calm
 returns-clause-calm c = subst (λ (x : DriveView). (i : ℕ) (u : WornUnit) → slice_get x.units i ≡ Some u → IsCalm u.unit.armed u.unit.log) c.self.view_is
     (subst (λ (units : _). (i : ℕ) (u : WornUnit) → slice_get units i ≡ Some u → IsCalm u.unit.armed u.unit.log) c.deref_mut.ensures.value c.disarm_units.ensures.calm)
+
+pub returns-clause-whole : goal.returns-clause-whole
+returns-clause-whole c = invariant_of-self c

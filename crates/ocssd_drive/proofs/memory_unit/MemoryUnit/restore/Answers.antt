@@ -1,16 +1,13 @@
-use Rattle.std.proofs.Common.{refl, ap}
-use Rattle.std.proofs.lemmas.List.{map-set}
-use Rattle.pblk_model.specs.Chunk.{Chunk, free_chunk}
-use Rattle.ocssd_drive.proofs.UnitChunks.{IsFound, found_of}
+use Rattle.std.proofs.Common.{◌<◌, refl, ◌∙◌, arith}
+use Rattle.std.proofs.lemmas.List.{length-set, map-set}
+use Rattle.ocssd_drive.specs.Units.{IsChunkIn}
+use Rattle.ocssd_drive.proofs.UnitChunks.{IsAt, all_set, at_place, unit_of}
 use Rattle.ocssd_drive.proofs.memory_unit.MemoryUnit.restore.Goals as goal
 use Rattle.ocssd_drive.proofs.memory_unit.MemoryUnit.restore.Goals.{After-index_mut-found}
 
--- the chunk that was found is the unit's, and Free
-found : (c : After-index_mut-found) → IsFound c.self.inside c.args.chunk free_chunk c.index_mut-found.result.now
-found c = found_of c.self.inside c.args.chunk free_chunk _ c.self.invariant (rw (← c.self.view_is) at c.requires.free) c.index_mut-found.ensures.value
-
-pub restore-requires-clause-free : goal.restore-requires-clause-free
-restore-requires-clause-free c = ap (λ (a : Chunk). a.state) (found c).same
+-- the chunk that was found is the unit's
+found : (c : After-index_mut-found) → IsAt c.self.inside c.args.chunk c.index_mut-found.result.now
+found c = at_place c.self.inside c.args.chunk _ c.self.invariant (rw (← c.self.view_is) at c.requires.chunk) c.index_mut-found.ensures.value
 
 pub restore-requires-clause-whole : goal.restore-requires-clause-whole
 restore-requires-clause-whole c = rw ((found c).fits.shape) (rw (← c.self.view_is) at c.requires.whole)
@@ -21,7 +18,26 @@ restore-requires-clause-place c = rw ((found c).fits.shape) (rw (← c.self.view
 pub restore-requires-clause-multiple : goal.restore-requires-clause-multiple
 restore-requires-clause-multiple c = rw ((found c).fits.shape) (rw (← c.self.view_is) at c.requires.multiple)
 
-pub returns-clause-chunk : goal.returns-clause-chunk
-returns-clause-chunk c =
-    let f = found (goal.at.returns-clause-chunk c).After-index_mut-found in
+pub invariant_of-self : goal.invariant_of-self
+invariant_of-self c =
+    let u = c.self.inside in
+    let f = found (goal.at.invariant_of-self c).After-index_mut-found in
+    let left : IsChunkIn u.shape c.restore.new.self = record {
+      shape = c.restore.ensures.shape ∙ f.fits.shape;
+      fits = rw (c.restore.ensures.shape, f.fits.shape) at c.restore.ensures.fits;
+    } in
+    record {
+      accepted = c.self.invariant.accepted;
+      count = length-set u.chunks.items c.args.chunk c.restore.new.self ∙ c.self.invariant.count;
+      chunks = all_set (IsChunkIn u.shape) u.chunks.items c.args.chunk c.restore.new.self c.self.invariant.chunks left;
+      worn = length-set u.wear.items c.args.chunk _ ∙ c.self.invariant.worn;
+      worn_fits = all_set (λ w. w < 256) u.wear.items c.args.chunk _ c.self.invariant.worn_fits (omega arith);
+    }
+
+pub returns-clause-restored : goal.returns-clause-restored
+returns-clause-restored c =
+    let f = found (goal.at.returns-clause-restored c).After-index_mut-found in
     rw (map-set, c.restore.ensures.chunk, f.fits.shape, ← c.self.view_is) refl
+
+pub returns-clause-fits : goal.returns-clause-fits
+returns-clause-fits c = unit_of _ (invariant_of-self c)

@@ -41,7 +41,7 @@ returns-clause-event c =
     rw (← c.self.view_is) (
       outcome_of c.write_chunk-landed.result,
       c.result_of.ensures,
-      steps c.self.inside c.args.chunk (command h) _ _ c.fault-fault.new.self c.note.new.self _ _ _ (befalls h) (found h) c.write_chunk-landed.ensures c.note.ensures.log c.note.ensures.armed,
+      steps c.self.inside c.args.chunk (command h) _ _ c.fault-fault.new.self c.note.new.self _ _ _ (befalls h) (found h) c.write_chunk-landed.ensures c.note.ensures.log c.note.ensures.armed c.are_blocks.ensures,
     )
 
 pub returns-clause-fits : goal.returns-clause-fits

@@ -42,7 +42,7 @@ returns-clause-event c =
     rw (← c.self.view_is) (
       outcome_of c.reset_chunk-landed.result,
       c.result_of.ensures,
-      steps c.self.inside c.args.chunk Reset _ _ c.fault-fault.new.self c.note.new.self _ _ _ (befalls h) (found h) (met c) c.note.ensures.log c.note.ensures.armed,
+      steps c.self.inside c.args.chunk Reset _ _ c.fault-fault.new.self c.note.new.self _ _ _ (befalls h) (found h) (met c) c.note.ensures.log c.note.ensures.armed tt,
     )
 
 pub returns-clause-fits : goal.returns-clause-fits

@@ -1,0 +1,288 @@
+//! The commands of a chunk of a small drive.
+
+use ocssd_chunks::{
+    Chunk, ChunkErr, ChunkState, Descriptor, DescriptorErr, Got, Mark, Shape, has_sectors,
+    read_descriptor,
+};
+use std::process::Abort;
+use std::test::Fail;
+
+// What is asked of a chunk. A write has the blocks from a number to before another, at their places; those
+// that fail or are cut off begin at block 0, and have a number of blocks and of multiples that land.
+#[derive(Drop)]
+enum Asked {
+    Write(usize, usize),
+    Read(u32),
+    Written(u32),
+    Reset,
+    State,
+    FailWrite(usize, u32),
+    CutWrite(usize, u32),
+    FailReset,
+    CutReset(bool),
+    Restore(usize),
+}
+
+// What it told. A block is known by its number, which is in its mark and fills its sector.
+#[derive(PartialEq, Eq, Drop)]
+enum Told {
+    Done,
+    Refused(ChunkErr),
+    Block(u8),
+    Empty,
+    Is(ChunkState, u32),
+    // The question can't be asked.
+    Unasked,
+}
+
+// Blocks for a chunk, and two more.
+#[derive(Drop)]
+struct Blocks {
+    bytes: [u8; 13312],
+    marks: [Mark; 26],
+}
+
+fn make_blocks() -> Blocks {
+    let mut bytes = [0u8; 13312];
+    for (at, byte) in bytes.iter_mut().enumerate() {
+        *byte = (at / 512 % 256) as u8;
+    }
+    let mut marks = [mark_of(0); 26];
+    for (at, mark) in marks.iter_mut().enumerate() {
+        *mark = mark_of((at % 256) as u8);
+    }
+    Blocks { bytes, marks }
+}
+
+fn mark_of(block: u8) -> Mark {
+    Mark {
+        lba: u64::from(block),
+        position: 100 + u64::from(block),
+    }
+}
+
+impl Blocks {
+    // The sectors and marks from a number to before another.
+    fn part(&self, start: usize, end: usize) -> Option<(&[u8], &[Mark])> {
+        if start <= end && end <= 26 {
+            Some((&self.bytes[start * 512..end * 512], &self.marks[start..end]))
+        } else {
+            None
+        }
+    }
+}
+
+fn ask(chunk: &mut Chunk, blocks: &Blocks, asked: &Asked) -> Told {
+    match asked {
+        Asked::Write(start, end) => write(chunk, blocks, *start, *end),
+        Asked::Read(block) => read(chunk, *block),
+        Asked::Written(block) => match chunk.written(*block) {
+            Some((sector, mark)) => block_of(sector, mark),
+            None => Told::Empty,
+        },
+        Asked::Reset => answered(chunk.reset()),
+        Asked::State => {
+            let (state, pointer) = chunk.state();
+            Told::Is(state, pointer)
+        }
+        Asked::FailWrite(count, multiples) => part_write(chunk, blocks, *count, *multiples, true),
+        Asked::CutWrite(count, multiples) => part_write(chunk, blocks, *count, *multiples, false),
+        Asked::FailReset => part_reset(chunk, None),
+        Asked::CutReset(done) => part_reset(chunk, Some(*done)),
+        Asked::Restore(count) => restore(chunk, blocks, *count),
+    }
+}
+
+fn answered(answer: Result<(), ChunkErr>) -> Told {
+    match answer {
+        Ok(()) => Told::Done,
+        Err(refusal) => Told::Refused(refusal),
+    }
+}
+
+// The number of a block, if its sector and its mark have the same.
+fn block_of(sector: &[u8], mark: Mark) -> Told {
+    match sector.first() {
+        Some(number) if mark == mark_of(*number) && sector.iter().all(|byte| *byte == *number) => {
+            Told::Block(*number)
+        }
+        _ => Told::Unasked,
+    }
+}
+
+fn write(chunk: &mut Chunk, blocks: &Blocks, start: usize, end: usize) -> Told {
+    match blocks.part(start, end) {
+        Some((bytes, marks)) if has_sectors(&chunk.shape(), bytes, marks) => {
+            answered(chunk.write((start % 256) as u32, bytes, marks))
+        }
+        _ => Told::Unasked,
+    }
+}
+
+fn read(chunk: &Chunk, block: u32) -> Told {
+    let mut out = [99u8; 512];
+    if chunk.shape().sector != 512 {
+        return Told::Unasked;
+    }
+    match chunk.read(block, &mut out) {
+        Ok(Got::Sector(mark)) => block_of(&out, mark),
+        Ok(Got::Empty) => Told::Empty,
+        Err(refusal) => Told::Refused(refusal),
+    }
+}
+
+// A write of the first blocks that fails or is cut off.
+fn part_write(
+    chunk: &mut Chunk,
+    blocks: &Blocks,
+    count: usize,
+    multiples: u32,
+    fails: bool,
+) -> Told {
+    let shape = chunk.shape();
+    let landed = u64::from(multiples) * u64::from(shape.ws_min);
+    match blocks.part(0, count) {
+        Some((bytes, marks))
+            if has_sectors(&shape, bytes, marks)
+                && chunk.write_refusal(0, bytes, marks).is_none()
+                && landed < marks.len() as u64 => {
+            if fails {
+                chunk.fail_write(0, bytes, marks, multiples);
+            } else {
+                chunk.cut_write(0, bytes, marks, multiples);
+            }
+            Told::Done
+        }
+        _ => Told::Unasked,
+    }
+}
+
+// A reset that fails, or is cut off, done or not.
+fn part_reset(chunk: &mut Chunk, cut: Option<bool>) -> Told {
+    match (chunk.reset_refusal(), cut) {
+        (Some(refusal), _) => return Told::Refused(refusal),
+        (None, None) => chunk.fail_reset(),
+        (None, Some(done)) => chunk.cut_reset(done),
+    }
+    Told::Done
+}
+
+// Restores a chunk that was closed with the first blocks.
+fn restore(chunk: &mut Chunk, blocks: &Blocks, count: usize) -> Told {
+    let shape = chunk.shape();
+    match blocks.part(0, count) {
+        Some((bytes, marks))
+            if has_sectors(&shape, bytes, marks)
+                && marks.len() <= shape.clba as usize
+                && marks.len() % shape.ws_min as usize == 0 => {
+            chunk.restore(ChunkState::Closed, bytes, marks);
+            Told::Done
+        }
+        _ => Told::Unasked,
+    }
+}
+
+// Asks row by row, of a new chunk.
+fn walk(rt: &impl Abort, mut chunk: Chunk, rows: &[(Asked, Told)]) {
+    let blocks = make_blocks();
+    for (row, (asked, told)) in rows.iter().enumerate() {
+        assert!(rt; ask(&mut chunk, &blocks, asked) == *told, "row {row}");
+    }
+}
+
+const FREE: Told = Told::Is(ChunkState::Free, 0);
+
+const OFFLINE: Told = Told::Is(ChunkState::Offline, 0);
+
+#[test]
+fn chunk_calls(rt: HostRuntime) -> Result<(), Fail> {
+    let rows = [
+        (Asked::Write(0, 0), Told::Refused(ChunkErr::NotMultiple)),
+        (Asked::Write(0, 3), Told::Refused(ChunkErr::NotMultiple)),
+        (Asked::Write(2, 6), Told::Refused(ChunkErr::NotAtPointer)),
+        (Asked::Write(0, 4), Told::Done),
+        (Asked::Read(0), Told::Empty),
+        (Asked::Write(4, 12), Told::Done),
+        (Asked::Read(3), Told::Block(3)),
+        (Asked::Read(4), Told::Empty),
+        (Asked::Write(12, 26), Told::Refused(ChunkErr::PastEnd)),
+        (Asked::State, Told::Is(ChunkState::Open, 12)),
+        (Asked::Written(11), Told::Block(11)),
+        (Asked::Reset, Told::Done),
+        (Asked::State, FREE),
+        (Asked::Written(0), Told::Empty),
+        (Asked::Reset, Told::Refused(ChunkErr::NotResettable)),
+        (Asked::Write(0, 24), Told::Done),
+        (Asked::State, Told::Is(ChunkState::Closed, 24)),
+        (Asked::Read(23), Told::Block(23)),
+        (Asked::Read(24), Told::Refused(ChunkErr::PastEnd)),
+        (Asked::Written(23), Told::Block(23)),
+        (Asked::Write(24, 26), Told::Refused(ChunkErr::Closed)),
+        (Asked::Reset, Told::Done),
+        (Asked::State, FREE),
+    ];
+    walk(&rt, Chunk::new(rt.alloc(), &Shape::small())?, &rows);
+    Ok(())
+}
+
+#[test]
+fn faults_and_cuts_leave_what_they_should(rt: HostRuntime) -> Result<(), Fail> {
+    // A failed write costs the chunk, and so does a failed reset. What is cut off is done or not.
+    let rows = [
+        (Asked::CutWrite(4, 0), Told::Done),
+        (Asked::State, FREE),
+        (Asked::CutWrite(4, 1), Told::Done),
+        (Asked::State, Told::Is(ChunkState::Open, 2)),
+        (Asked::CutReset(false), Told::Done),
+        (Asked::State, Told::Is(ChunkState::Open, 2)),
+        (Asked::CutReset(true), Told::Done),
+        (Asked::State, FREE),
+        (Asked::FailWrite(4, 1), Told::Done),
+        (Asked::State, Told::Is(ChunkState::Closed, 2)),
+        (Asked::Reset, Told::Done),
+        (Asked::State, OFFLINE),
+        (Asked::Reset, Told::Refused(ChunkErr::NotResettable)),
+        (Asked::Restore(8), Told::Done),
+        (Asked::State, Told::Is(ChunkState::Closed, 8)),
+        (Asked::Read(7), Told::Block(7)),
+        (Asked::FailReset, Told::Done),
+        (Asked::State, OFFLINE),
+        (Asked::Write(0, 2), Told::Refused(ChunkErr::Offline)),
+        (Asked::Read(0), Told::Refused(ChunkErr::Offline)),
+    ];
+    walk(&rt, Chunk::new(rt.alloc(), &Shape::small())?, &rows);
+    Ok(())
+}
+
+// The descriptor of a chunk of the small drive without blocks, whose block 0 has the address 0.
+const BLANK: [u8; 32] = [
+    1, 1, 0, 0, 0, 0, 0, 0, 0, 0, 0, 0, 0, 0, 0, 0, 24, 0, 0, 0, 0, 0, 0, 0, 0, 0, 0, 0, 0, 0, 0, 0,
+];
+
+#[test]
+fn descriptors_are_refused_in_order(rt: HostRuntime) {
+    let blank = Descriptor {
+        state: ChunkState::Free,
+        wear: 0,
+        slba: 0,
+        cnlb: 24,
+        wp: 0,
+    };
+    let mut out = [99u8; 32];
+    blank.write(&mut out);
+    assert!(rt; out == BLANK);
+    assert!(rt; read_descriptor(&BLANK) == Ok(blank));
+    let rows = [
+        ((3, 2, 2), DescriptorErr::State),
+        ((1, 2, 2), DescriptorErr::Kind),
+        ((1, 1, 2), DescriptorErr::Pointer),
+    ];
+    for ((state, kind, pointer), refusal) in rows {
+        let mut bytes = BLANK;
+        bytes[0] = state;
+        bytes[1] = kind;
+        bytes[24] = pointer;
+        assert!(rt; read_descriptor(&bytes) == Err(refusal));
+        assert!(rt; read_descriptor(&bytes[..31]) == Err(DescriptorErr::Length));
+    }
+}

@@ -1,0 +1,33 @@
+use Rattle.std.proofs.Common.{◌∙◌, ap}
+use Rattle.ocssd_drive.specs.Drive.{DriveView, stored}
+use Rattle.ocssd_drive.specs.DriveFields.{drive_view}
+use Rattle.ocssd_drive.proofs.Restoring.{IsUnitAt, unit_at, restored_by, stored-restored}
+use Rattle.ocssd_drive.proofs.drive.Drive.restore.Goals as goal
+use Rattle.ocssd_drive.proofs.drive.Drive.restore.Goals.{After-index_mut-found}
+
+-- the unit that was found is the drive's
+found : (c : After-index_mut-found) → IsUnitAt (drive_view c.self.inside) c.args.unit c.index_mut-found.result.now
+found c = unit_at (drive_view c.self.inside) c.args.unit _ c.self.invariant (rw (← c.self.view_is) at c.requires.unit) c.index_mut-found.ensures.value
+
+pub restore-requires-clause-chunk : goal.restore-requires-clause-chunk
+restore-requires-clause-chunk c = rw ((found c).fits.fits.count, (found c).fits.shape) (rw (← c.self.view_is) at c.requires.chunk)
+
+pub restore-requires-clause-whole : goal.restore-requires-clause-whole
+restore-requires-clause-whole c = rw ((found c).fits.shape) (rw (← c.self.view_is) at c.requires.whole)
+
+pub restore-requires-clause-place : goal.restore-requires-clause-place
+restore-requires-clause-place c = rw ((found c).fits.shape) (rw (← c.self.view_is) at c.requires.place)
+
+pub restore-requires-clause-multiple : goal.restore-requires-clause-multiple
+restore-requires-clause-multiple c = rw ((found c).fits.shape) (rw (← c.self.view_is) at c.requires.multiple)
+
+pub returns-clause-restored : goal.returns-clause-restored
+returns-clause-restored c =
+    let at = found (goal.at.returns-clause-restored c).After-index_mut-found in
+    rw (← c.self.view_is) (restored_by (drive_view c.self.inside) c.args.unit c.args.chunk c.args.state c.args.bytes.now c.args.marks.now c.args.wear _ _ at c.restore.ensures.restored)
+
+pub returns-clause-stored : goal.returns-clause-stored
+returns-clause-stored c =
+    let at = found (goal.at.returns-clause-stored c).After-index_mut-found in
+    let d : DriveView = drive_view c.self.inside in
+    rw (← c.self.view_is) (ap stored (restored_by d c.args.unit c.args.chunk c.args.state c.args.bytes.now c.args.marks.now c.args.wear _ _ at c.restore.ensures.restored) ∙ stored-restored d c.args.unit c.args.chunk _ _ at.there)

@@ -1,0 +1,35 @@
+use Rattle.std.proofs.Common.{◌∙◌, ap}
+use Rattle.ocssd_drive.specs.Drive.{DriveView, stored}
+use Rattle.ocssd_drive.specs.DriveFields.{drive_view}
+use Rattle.ocssd_drive.proofs.Restoring.{IsUnitAt, unit_at, restored_is, stored-restored}
+use Rattle.ocssd_drive.proofs.drive.Drive.restore_spelled.Goals as goal
+use Rattle.ocssd_drive.proofs.drive.Drive.restore_spelled.Goals.{After-index_mut-found}
+
+-- the unit that was found is the drive's
+found : (c : After-index_mut-found) → IsUnitAt (drive_view c.self.inside) c.args.unit c.index_mut-found.result.now
+found c = unit_at (drive_view c.self.inside) c.args.unit _ c.self.invariant (rw (← c.self.view_is) at c.requires.unit) c.index_mut-found.ensures.value
+
+pub restore_spelled-requires-clause-chunk : goal.restore_spelled-requires-clause-chunk
+restore_spelled-requires-clause-chunk c = rw ((found c).fits.fits.count, (found c).fits.shape) (rw (← c.self.view_is) at c.requires.chunk)
+
+pub restore_spelled-requires-clause-whole : goal.restore_spelled-requires-clause-whole
+restore_spelled-requires-clause-whole c = rw ((found c).fits.shape) (rw (← c.self.view_is) at c.requires.whole)
+
+pub restore_spelled-requires-clause-place : goal.restore_spelled-requires-clause-place
+restore_spelled-requires-clause-place c = rw ((found c).fits.shape) (rw (← c.self.view_is) at c.requires.place)
+
+pub restore_spelled-requires-clause-multiple : goal.restore_spelled-requires-clause-multiple
+restore_spelled-requires-clause-multiple c = rw ((found c).fits.shape) (rw (← c.self.view_is) at c.requires.multiple)
+
+pub returns-clause-restored : goal.returns-clause-restored
+returns-clause-restored c =
+    let at = found (goal.at.returns-clause-restored c).After-index_mut-found in
+    let d : DriveView = drive_view c.self.inside in
+    let r = c.restore_spelled.ensures.restored in
+    rw (← c.self.view_is) (record {
+      blocks = r.blocks;
+      spelling = r.spelling;
+      count_is = r.count_is;
+      is = restored_is d c.args.unit c.args.chunk _ _ _ at.there r.is;
+      kept = ap stored (restored_is d c.args.unit c.args.chunk _ _ _ at.there r.is) ∙ stored-restored d c.args.unit c.args.chunk _ _ at.there;
+    })
