@@ -1,7 +1,8 @@
 -- What clients see of files in memory.
-use Rattle.std.specs.Prelude.{ℕ, List, Option}
+use Rattle.std.specs.Prelude.{ℕ, List, Option, true}
 use Rattle.std.specs.Option.{option_map}
 use Rattle.std.specs.BTreeMap.{get_by_text}
+use Rattle.pblk_outside.specs.Files.{FileFault, FilesView}
 use Rattle.pblk_outside.specs.declared.memory_files.MemoryFiles.{MemoryFiles}
 
 -- what the file of this name holds, if there is one
@@ -16,6 +17,10 @@ failing_of store = store.plan.failing.items
 abbrev pub calls_of : MemoryFiles → ℕ
 calls_of store = store.plan.calls
 
--- how many faults there were
-abbrev pub faults_of : MemoryFiles → ℕ
-faults_of store = store.plan.faults.count
+-- the faults so far, oldest first
+abbrev pub faults_of : MemoryFiles → List FileFault
+faults_of store = store.faults
+
+-- they tell what they hold
+abbrev pub files_view : MemoryFiles → FilesView
+files_view store = record { told = true; file = file_of store; faults = faults_of store }

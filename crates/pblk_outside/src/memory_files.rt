@@ -1,13 +1,15 @@
 //! Files in memory.
-ghost use Rattle.std.specs.Prelude.{◌≡◌, ◌+◌, ◌-◌, ◌^◌, ◌<◌, ◌≤◌, ◌↔◌, min, true, Some, None, Contains, OnOk, OnErr, IfOk, IfErr, IsErrOf};
+ghost use Rattle.std.specs.Prelude.{◌≡◌, ◌+◌, ◌-◌, ◌^◌, ◌↔◌, ℕ, [], min, List, Some, None, Contains, OnOk, OnErr, IfOk, IfErr, IsErrOf};
 ghost use Rattle.std.specs.Option.{option_copied};
-ghost use Rattle.pblk_outside.specs.Faults.{HasRisen};
-ghost use Rattle.pblk_outside.specs.Files.{AppendsFile, SameFiles, SameOthers};
+ghost use Rattle.pblk_outside.specs.Files.{AddsFault, AppendsFile, IsCalm, SameFiles, SameOthers};
+ghost use Rattle.pblk_outside.specs.declared.file_fault.FileCall.TheVariants.{Read, Write};
 
+use crate::file_fault::Faulted;
 use crate::plan::Plan;
-use crate::{FileErr, Files};
+use crate::{FileCall, FileErr, FileFault, Files};
 use std::alloc::{AllocError, Global};
 use std::collections::BTreeMap;
+use unit_port::Log;
 
 /// Files in memory, which tell what they hold and fail at chosen calls.
 ///
@@ -18,27 +20,29 @@ pub struct MemoryFiles {
     alloc: Global,
     contents: BTreeMap<String, Vec<u8>>,
     plan: Plan,
+    faults: Log<FileFault>,
 }
 
 impl MemoryFiles {
-    ghost use Rattle.std.specs.Prelude.{List, ℕ};
     ghost use Rattle.pblk_outside.specs.MemoryFiles.{file_of, failing_of, calls_of, faults_of};
 
-    /// No files. The calls with these numbers are to fail.
+    /// No files. The calls with these numbers are to fail. Fails only for want of memory.
     pub fn new(alloc: Global, failing: &[u64]) -> Result<Self, AllocError>
         ensures empty { IfOk result (λ store. (name : List ℕ) → file_of store name ≡ None) }
         ensures failing { IfOk result (λ store. failing_of store ≡ failing.now) }
         ensures no_calls { IfOk result (λ store. calls_of store ≡ 0) }
-        ensures no_faults { IfOk result (λ store. faults_of store ≡ 0) }
+        ensures no_faults { IfOk result (λ store. faults_of store ≡ []) }
     {
         Ok(MemoryFiles {
             alloc,
             contents: BTreeMap::new(alloc),
             plan: Plan::new(alloc, failing)?,
+            faults: Log::new(alloc)?,
         })
     }
 
-    /// Makes a file hold these bytes, and counts as no call.
+    /// Makes a file hold these bytes, and counts as no call. Fails only for want of memory, and
+    /// then changes nothing.
     pub fn put(&mut self, name: &str, bytes: &[u8]) -> Result<(), AllocError>
         ensures stored { OnOk result (file_of self.new name.now ≡ Some bytes.now) }
         ensures same_others { SameOthers name.now (file_of self.old) (file_of self.new) }
@@ -65,33 +69,41 @@ impl MemoryFiles {
 }
 
 impl Files for MemoryFiles {
-    ghost use Rattle.std.specs.Prelude.{List, ℕ};
-    ghost use Rattle.pblk_outside.specs.MemoryFiles.{file_of, failing_of, calls_of, faults_of};
+    ghost use Rattle.pblk_outside.specs.MemoryFiles.{files_view, file_of, failing_of, calls_of};
 
-    ghost tells = { λ _. true };
-
-    ghost file = { file_of };
-
-    ghost faults = { faults_of };
+    ghost view = { files_view };
 
     fn read(&mut self, name: &str, into: &mut Vec<u8>) -> Result<(), FileErr>
-        ensures planned { IsErrOf result FileErr.Failed ↔ Contains (failing_of self.old) (calls_of self.new) }
+        ensures planned { IsErrOf result FileErr.Failed
+            ↔ Contains (failing_of self.old) (calls_of self.new) }
         ensures counted { calls_of self.new ≡ min (calls_of self.old + 1) (2 ^ 64 - 1) }
         ensures same_plan { failing_of self.new ≡ failing_of self.old }
 
-        // What each `Files` ensures.
-        ensures appends { OnOk result (AppendsFile true (file_of self.old name.now) into.old.items into.new.items) }
+        // What each `Files` ensures, where all is told.
+        ensures appends { OnOk result
+            (AppendsFile name.now (files_view self.old) into.old.items into.new.items) }
         ensures kept { OnErr result (into.new.items ≡ into.old.items) }
-        ensures failed { IsErrOf result FileErr.Failed → HasRisen (faults_of self.old) (faults_of self.new) }
-        ensures missing { IsErrOf result FileErr.Missing → file_of self.old name.now ≡ None }
-        ensures memory { IsErrOf result FileErr.Memory → (bytes : List ℕ) × (file_of self.old name.now ≡ Some bytes) }
-        ensures memory_calm { IsErrOf result FileErr.Memory → faults_of self.new ≡ faults_of self.old }
+        ensures calm { OnOk result (IsCalm (files_view self.old) (files_view self.new)) }
+
+        ensures failed { IsErrOf result FileErr.Failed →
+            AddsFault name.now Read (files_view self.old) (files_view self.new) }
+        ensures missing { IsErrOf result FileErr.Missing →
+            file_of self.old name.now ≡ None }
+        ensures missing_calm { IsErrOf result FileErr.Missing →
+            IsCalm (files_view self.old) (files_view self.new) }
+        ensures memory { IsErrOf result FileErr.Memory →
+            (bytes : List ℕ) × (file_of self.old name.now ≡ Some bytes) }
+        ensures memory_calm { IsErrOf result FileErr.Memory →
+            IsCalm (files_view self.old) (files_view self.new) }
+
         ensures same_files { SameFiles (file_of self.old) (file_of self.new) }
-        ensures calm { OnOk result (faults_of self.new ≡ faults_of self.old) }
-        ensures never_falls { faults_of self.old ≤ faults_of self.new }
-        ensures bounded { faults_of self.new < 2 ^ 64 }
+        ensures same_told { (files_view self.new).told ≡ (files_view self.old).told }
     {
         if self.plan.next_call_fails() {
+            self.faults.add(&Faulted {
+                name,
+                call: FileCall::Read,
+            });
             return Err(FileErr::Failed);
         }
         match self.contents.get(name) {
@@ -104,29 +116,30 @@ impl Files for MemoryFiles {
     }
 
     fn write(&mut self, name: &str, bytes: &[u8]) -> Result<(), FileErr>
-        ensures planned { Contains (failing_of self.old) (calls_of self.new) → IsErrOf result FileErr.Failed }
+        ensures planned { Contains (failing_of self.old) (calls_of self.new) →
+            IsErrOf result FileErr.Failed }
         ensures counted { calls_of self.new ≡ min (calls_of self.old + 1) (2 ^ 64 - 1) }
         ensures same_plan { failing_of self.new ≡ failing_of self.old }
         ensures changes_nothing { OnErr result (SameFiles (file_of self.old) (file_of self.new)) }
 
-        // What each `Files` ensures.
+        // What each `Files` ensures, where all is told.
         ensures stored { OnOk result (file_of self.new name.now ≡ Some bytes.now) }
+        ensures calm { OnOk result (IsCalm (files_view self.old) (files_view self.new)) }
+
         ensures only_failed { IfErr result (λ e. e ≡ FileErr.Failed) }
-        ensures failed { OnErr result (HasRisen (faults_of self.old) (faults_of self.new)) }
+        ensures failed { OnErr result
+            (AddsFault name.now Write (files_view self.old) (files_view self.new)) }
+
         ensures same_others { SameOthers name.now (file_of self.old) (file_of self.new) }
-        ensures calm { OnOk result (faults_of self.new ≡ faults_of self.old) }
-        ensures never_falls { faults_of self.old ≤ faults_of self.new }
-        ensures bounded { faults_of self.new < 2 ^ 64 }
+        ensures same_told { (files_view self.new).told ≡ (files_view self.old).told }
     {
-        if self.plan.next_call_fails() {
-            return Err(FileErr::Failed);
+        if !self.plan.next_call_fails() && self.put(name, bytes).is_ok() {
+            return Ok(());
         }
-        match self.put(name, bytes) {
-            Ok(()) => Ok(()),
-            Err(_) => {
-                self.plan.count_fault();
-                Err(FileErr::Failed)
-            }
-        }
+        self.faults.add(&Faulted {
+            name,
+            call: FileCall::Write,
+        });
+        Err(FileErr::Failed)
     }
 }

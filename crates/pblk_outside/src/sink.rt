@@ -1,7 +1,7 @@
 //! A sink for output.
-ghost use Rattle.std.specs.Prelude.{◌≡◌, ℕ, ◌^◌, ◌<◌, ◌≤◌, Bool, IsTrue, List, ◌++◌, OnOk, OnErr};
+ghost use Rattle.std.specs.Prelude.{◌≡◌, ◌^◌, ◌<◌, ◌≤◌, IsTrue, ◌++◌, OnOk, OnErr};
 ghost use Rattle.pblk_outside.specs.Faults.{HasRisen};
-ghost use Rattle.pblk_outside.specs.Sink.{TakesPrefix};
+ghost use Rattle.pblk_outside.specs.Sink.{SinkView, TakesPrefix};
 
 use thiserror::Error;
 
@@ -14,28 +14,25 @@ pub enum SinkErr {
 }
 
 /// Takes output, piece by piece.
+///
+/// Contracts see whether it tells what it has taken, the bytes taken so far, and how often it has
+/// failed: a 64-bit count that never falls.
 pub trait Sink {
-    /// Whether this sink tells what it has taken.
-    ghost tells: { Self → Bool };
-
-    /// The bytes taken so far. It counts only where told.
-    ghost taken: { Self → List ℕ };
-
-    /// How often this sink has failed: a 64-bit count that never falls.
-    ghost faults: { Self → ℕ };
+    ghost view: { Self → SinkView };
 
     /// Takes the whole piece.
     ///
-    /// The only error is `Failed`: the count of faults has risen, and a prefix of the piece was taken,
-    /// which may be empty or the whole of it.
+    /// The only error is `Failed`: the count of faults has risen, and a prefix of the piece was
+    /// taken, which may be empty or the whole of it.
     fn write(&mut self, bytes: &[u8]) -> Result<(), SinkErr>
-        ensures took { OnOk result (IsTrue (tells self.old) → taken self.new ≡ taken self.old ++ bytes.now) }
-        ensures took_prefix { OnErr result (IsTrue (tells self.old) →
-            TakesPrefix bytes.now (taken self.old) (taken self.new)) }
-        ensures failed { OnErr result (HasRisen (faults self.old) (faults self.new)) }
+        ensures took { OnOk result (IsTrue (view self.old).told →
+            (view self.new).taken ≡ (view self.old).taken ++ bytes.now) }
+        ensures took_prefix { OnErr result (IsTrue (view self.old).told →
+            TakesPrefix bytes.now (view self.old).taken (view self.new).taken) }
+        ensures failed { OnErr result (HasRisen (view self.old).faults (view self.new).faults) }
 
-        ensures same_tells { tells self.new ≡ tells self.old }
-        ensures calm { OnOk result (faults self.new ≡ faults self.old) }
-        ensures never_falls { faults self.old ≤ faults self.new }
-        ensures bounded { faults self.new < 2 ^ 64 };
+        ensures same_told { (view self.new).told ≡ (view self.old).told }
+        ensures calm { OnOk result ((view self.new).faults ≡ (view self.old).faults) }
+        ensures never_falls { (view self.old).faults ≤ (view self.new).faults }
+        ensures bounded { (view self.new).faults < 2 ^ 64 };
 }
