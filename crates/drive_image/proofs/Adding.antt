@@ -1,0 +1,125 @@
+-- Bytes that are added to a list piece by piece.
+use Rattle.std.proofs.Common.{◌≡◌, ℕ, ◌+◌, ◌≤◌, zero, suc, Some, List, [], ◌∷◌, ◌++◌, length, length-append, take, slice_get, refl, sym, ap, ◌∙◌, arith, append_assoc, append-nil}
+use Rattle.std.specs.Prelude.{Vec, vec_capacity}
+use Rattle.std.specs.List.{enumerate_from, flat_map, sum_by}
+use Rattle.std.proofs.lemmas.List.Sums.{sum_by-cons}
+use Rattle.std.proofs.lemmas.Option.{none-some, same_Some}
+use Rattle.drive_image.specs.Storing.{HasRoom, WasAdded}
+
+pub room_here : {Z : Type 0} (old : Vec ℕ Z) (xs ys : List ℕ) → HasRoom old (xs ++ ys) → HasRoom old xs
+room_here old xs ys room = omega (arith, length-append xs ys)
+
+pub room_then : {Z : Type 0} (old new : Vec ℕ Z) (xs ys : List ℕ) → HasRoom old (xs ++ ys) → WasAdded old new xs → HasRoom new ys
+room_then old new xs ys room added =
+    let size : length new.items ≡ length old.items + length xs = ap length added.items ∙ length-append old.items xs in
+    omega (arith, length-append xs ys, added.capacity)
+
+pub added_both : {Z : Type 0} (old mid new : Vec ℕ Z) (xs ys : List ℕ) → WasAdded old mid xs → WasAdded mid new ys → WasAdded old new (xs ++ ys)
+added_both old mid new xs ys first second = record {
+  items = second.items ∙ (ap (λ zs. zs ++ ys) first.items ∙ append_assoc old.items xs ys);
+  capacity = omega (arith, first.capacity, second.capacity);
+}
+
+-- The pieces of the first elements.
+
+pub flat_take : {X : Type 0} (f : X → List ℕ) (xs : List X) (i : ℕ) (x : X) → slice_get xs i ≡ Some x → flat_map f (take (suc i) xs) ≡ flat_map f (take i xs) ++ f x
+flat_take f [] i x is = absurd (none-some x is)
+flat_take f (y ∷ xs) zero x is = append-nil (f y) ∙ ap f (same_Some y x is)
+flat_take f (y ∷ xs) (suc i) x is = ap (λ ys. f y ++ ys) (flat_take f xs i x is) ∙ sym (append_assoc (f y) (flat_map f (take i xs)) (f x))
+
+room_take : {X : Type 0} (f : X → List ℕ) (xs : List X) (i : ℕ) (x : X) → slice_get xs i ≡ Some x → length (flat_map f (take i xs)) + length (f x) ≤ length (flat_map f xs)
+room_take f [] i x is = absurd (none-some x is)
+room_take f (y ∷ xs) zero x is =
+    let same : length (f y) ≡ length (f x) = ap (λ z. length (f z)) (same_Some y x is) in
+    let all : length (flat_map f (y ∷ xs)) ≡ length (f y) + length (flat_map f xs) = length-append (f y) (flat_map f xs) in
+    let none : length (flat_map f (take zero (y ∷ xs))) ≡ 0 = refl in
+    omega arith
+room_take f (y ∷ xs) (suc i) x is =
+    let rest : length (flat_map f (take i xs)) + length (f x) ≤ length (flat_map f xs) = room_take f xs i x is in
+    let all : length (flat_map f (y ∷ xs)) ≡ length (f y) + length (flat_map f xs) = length-append (f y) (flat_map f xs) in
+    let part : length (flat_map f (take (suc i) (y ∷ xs))) ≡ length (f y) + length (flat_map f (take i xs)) = length-append (f y) (flat_map f (take i xs)) in
+    omega arith
+
+take_all : {X : Type 0} (xs : List X) → take (length xs) xs ≡ xs
+take_all [] = refl
+take_all (x ∷ xs) = ap (λ ys. x ∷ ys) (take_all xs)
+
+-- those of the first i elements were added
+pub record FirstAdded {X Z : Type 0} (f : X → List ℕ) (xs : List X) (i : ℕ) (old new : Vec ℕ Z) : Type 0 where
+  pub items : new.items ≡ old.items ++ flat_map f (take i xs)
+  pub capacity : vec_capacity old ≤ vec_capacity new
+
+pub none_added : {X Z : Type 0} (f : X → List ℕ) (xs : List X) (old : Vec ℕ Z) → FirstAdded f xs 0 old old
+none_added f xs old = record { items = sym (append-nil old.items); capacity = omega arith }
+
+pub one_added : {X Z : Type 0} (f : X → List ℕ) (xs : List X) (i : ℕ) (x : X) (old now new : Vec ℕ Z) → FirstAdded f xs i old now → slice_get xs i ≡ Some x → WasAdded now new (f x)
+    → FirstAdded f xs (i + 1) old new
+one_added f xs i x old now new before is added =
+    let next : suc i ≡ i + 1 = omega arith in
+    record {
+      items = added.items ∙ (ap (λ ys. ys ++ f x) before.items ∙ (append_assoc old.items (flat_map f (take i xs)) (f x)
+          ∙ (ap (λ ys. old.items ++ ys) (sym (flat_take f xs i x is)) ∙ ap (λ n. old.items ++ flat_map f (take n xs)) next)));
+      capacity = omega (arith, before.capacity, added.capacity);
+    }
+
+pub room_left : {X Z : Type 0} (f : X → List ℕ) (xs : List X) (i : ℕ) (x : X) (old now : Vec ℕ Z) → HasRoom old (flat_map f xs) → FirstAdded f xs i old now → slice_get xs i ≡ Some x
+    → HasRoom now (f x)
+room_left f xs i x old now room before is =
+    let size : length now.items ≡ length old.items + length (flat_map f (take i xs)) = ap length before.items ∙ length-append old.items (flat_map f (take i xs)) in
+    let part : length (flat_map f (take i xs)) + length (f x) ≤ length (flat_map f xs) = room_take f xs i x is in
+    omega (arith, before.capacity)
+
+pub all_added : {X Z : Type 0} (f : X → List ℕ) (xs : List X) (n : ℕ) (old new : Vec ℕ Z) → FirstAdded f xs n old new → length xs ≡ n → WasAdded old new (flat_map f xs)
+all_added f xs n old new added count = record {
+  items = added.items ∙ ap (λ ys. old.items ++ flat_map f ys) (ap (λ m. take m xs) (sym count) ∙ take_all xs);
+  capacity = added.capacity;
+}
+
+pub enumerate_get : {X : Type 0} (n : ℕ) (xs : List X) (k : ℕ) (x : X) → slice_get xs k ≡ Some x → slice_get (enumerate_from n xs) k ≡ Some (n + k, x)
+enumerate_get n [] k x e = absurd (none-some x e)
+enumerate_get n (y ∷ ys) zero x e =
+    let place : n ≡ n + 0 = omega arith in
+    ap (λ z. Some (n, z)) (same_Some y x e) ∙ ap (λ i. Some (i, x)) place
+enumerate_get n (y ∷ ys) (suc k) x e =
+    let place : n + 1 + k ≡ n + suc k = omega arith in
+    enumerate_get (n + 1) ys k x e ∙ ap (λ i. Some (i, x)) place
+
+pub enumerated : {X : Type 0} (xs : List X) (k : ℕ) (x : X) → slice_get xs k ≡ Some x → slice_get (enumerate_from 0 xs) k ≡ Some (k, x)
+enumerated xs k x is =
+    let place : 0 + k ≡ k = omega arith in
+    enumerate_get 0 xs k x is ∙ ap (λ i. Some (i, x)) place
+
+-- Sums of the first elements.
+
+sum_take_at : {X : Type 0} (g : X → ℕ) (xs : List X) (i : ℕ) (x : X) → slice_get xs i ≡ Some x → sum_by g (take (suc i) xs) ≡ sum_by g (take i xs) + g x
+sum_take_at g [] i x is = absurd (none-some x is)
+sum_take_at g (y ∷ xs) zero x is =
+    let same : g y ≡ g x = ap g (same_Some y x is) in
+    let one : sum_by g (y ∷ []) ≡ g y + sum_by g [] = sum_by-cons g y [] in
+    let none : sum_by g [] ≡ 0 = refl in
+    let start : sum_by g (take zero (y ∷ xs)) ≡ 0 = refl in
+    let first : sum_by g (take (suc zero) (y ∷ xs)) ≡ sum_by g (y ∷ []) = refl in
+    omega arith
+sum_take_at g (y ∷ xs) (suc i) x is =
+    let rest : sum_by g (take (suc i) xs) ≡ sum_by g (take i xs) + g x = sum_take_at g xs i x is in
+    let all : sum_by g (take (suc (suc i)) (y ∷ xs)) ≡ g y + sum_by g (take (suc i) xs) = sum_by-cons g y (take (suc i) xs) in
+    let part : sum_by g (take (suc i) (y ∷ xs)) ≡ g y + sum_by g (take i xs) = sum_by-cons g y (take i xs) in
+    omega arith
+
+pub sum_take : {X : Type 0} (g : X → ℕ) (xs : List X) (i : ℕ) (x : X) → slice_get xs i ≡ Some x → sum_by g (take (i + 1) xs) ≡ sum_by g (take i xs) + g x
+sum_take g xs i x is =
+    let next : i + 1 ≡ suc i = omega arith in
+    ap (λ n. sum_by g (take n xs)) next ∙ sum_take_at g xs i x is
+
+pub sum_all : {X : Type 0} (g : X → ℕ) (xs : List X) (n : ℕ) → length xs ≡ n → sum_by g (take n xs) ≡ sum_by g xs
+sum_all g xs n count = ap (sum_by g) (ap (λ m. take m xs) (sym count) ∙ take_all xs)
+
+-- Five pieces one after another.
+
+pub added_as : {Z : Type 0} (old new : Vec ℕ Z) (xs ys : List ℕ) → new.items ≡ old.items ++ ys → ys ≡ xs → vec_capacity old ≤ vec_capacity new → WasAdded old new xs
+added_as old new xs ys items same room = record { items = items ∙ ap (λ zs. old.items ++ zs) same; capacity = room }
+
+pub five_added : {Z : Type 0} (v0 v1 v2 v3 v4 v5 : Vec ℕ Z) (a b c d e : List ℕ) → WasAdded v0 v1 a → WasAdded v1 v2 b → WasAdded v2 v3 c → WasAdded v3 v4 d → WasAdded v4 v5 e
+    → WasAdded v0 v5 (a ++ b ++ c ++ d ++ e)
+five_added v0 v1 v2 v3 v4 v5 a b c d e p q r s t =
+    added_both v0 v4 v5 (a ++ b ++ c ++ d) e (added_both v0 v3 v4 (a ++ b ++ c) d (added_both v0 v2 v3 (a ++ b) c (added_both v0 v1 v2 a b p q) r) s) t

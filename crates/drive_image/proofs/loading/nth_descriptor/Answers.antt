@@ -1,0 +1,40 @@
+use Rattle.std.proofs.Common.{◌≡◌, ◌/◌, ◌%◌, ℕ, Result, Ok, Err, List, sym, ap, ◌∙◌, subst}
+use Rattle.pblk_model.specs.declared.chunk.DescriptorErr.{DescriptorErr}
+use Rattle.pblk_model.specs.Chunk.{PointerFits}
+use Rattle.pblk_model.specs.Descriptor.{Descriptor, read_descriptor}
+use Rattle.pblk_model.specs.ImageFile.{descriptor_at, geometry_at}
+use Rattle.drive_image.specs.Filling.{IsRow}
+use Rattle.drive_image.proofs.Accepting.{taken_of, row_is, row_within}
+use Rattle.drive_image.proofs.ChunkRules.{IsDescriptorOf, fields_in}
+use Rattle.drive_image.proofs.loading.nth_descriptor.Goals as goal
+
+same_ok : (x y : Descriptor) → ◌≡◌ {A = Result Descriptor DescriptorErr} (Ok x) (Ok y) → x ≡ y
+same_ok x y e = cc
+
+err_is_not_ok : (e : DescriptorErr) (x : Descriptor) → ◌≡◌ {A = Result Descriptor DescriptorErr} (Err e) (Ok x) → ⊥
+err_is_not_ok e x is = cc
+
+row_of : (b : List ℕ) (n : ℕ) (d : Descriptor) → Ok d ≡ read_descriptor (descriptor_at b n)
+    → IsDescriptorOf (geometry_at b) (n / (geometry_at b).chunks) (n % (geometry_at b).chunks) (descriptor_at b n) → IsRow b n d
+row_of b n d is row =
+    let g = geometry_at b in
+    let same : d ≡ fields_in g (n / g.chunks) (n % g.chunks) (descriptor_at b n) row.state = same_ok _ _ (is ∙ row.read) in
+    record {
+      read = sym is;
+      slba = ap (λ (x : Descriptor). x.slba) same;
+      cnlb = ap (λ (x : Descriptor). x.cnlb) same;
+      wp = ap (λ (x : Descriptor). x.wp) same;
+      place = subst (λ (x : Descriptor). PointerFits x.state g.clba x.wp) (sym same) row.place;
+      multiple = subst (λ (x : Descriptor). x.wp % g.ws_min ≡ 0) (sym same) row.multiple;
+    }
+
+pub slice_bounds-row-end : goal.slice_bounds-row-end
+slice_bounds-row-end c = row_within c.args.bytes.now c.args.n (taken_of c.args.bytes.now c.requires.accepted) c.requires.index
+
+pub unreachable-requires : goal.unreachable-requires
+unreachable-requires c =
+    let row = row_is c.args.bytes.now c.args.n (taken_of c.args.bytes.now c.requires.accepted) c.requires.index in
+    err_is_not_ok _ _ (c.in_default.ensures ∙ row.read)
+
+pub returns : goal.returns
+returns c = row_of c.args.bytes.now c.args.n _ c.in-Ok.ensures (row_is c.args.bytes.now c.args.n (taken_of c.args.bytes.now c.requires.accepted) c.requires.index)

@@ -1,0 +1,4 @@
+pub mod Filling
+pub mod Parts
+pub mod Quiet
+pub mod Storing

@@ -1,0 +1,4 @@
+pub mod LineBits
+pub mod Orders
+pub mod Sets
+pub mod Sizes
