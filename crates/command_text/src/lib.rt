@@ -1,0 +1,15 @@
+//! What commands print beside transcripts: the lines of refusals, and the texts of `create` and `geometry`.
+//!
+//! The lines of refusals take no memory: they are written in pieces, up to the first one that isn't taken.
+#![tactic(auto)]
+
+mod file_line;
+mod line;
+mod number_line;
+mod numbers;
+mod refusal;
+
+pub use file_line::{tell_failed, tell_missing};
+pub use line::tell;
+pub use numbers::{created_text, geometry_text};
+pub use refusal::{tell_image, tell_memory, tell_script, tell_words};

@@ -1,0 +1,76 @@
+-- Commands whose words are names alone.
+use Rattle.std.proofs.Common.{String, Global, suc, string_bytes, ◌≡◌, ℕ, ◌<◌, ◌≤◌, List, [], ◌∷◌, length, get_or, map, codes, refl, sym, ap, ◌∙◌, subst, arith}
+use Rattle.std.specs.List.{AllByRecursion}
+use Rattle.pblk_model.specs.CommandLine as model
+use Rattle.pblk_model.specs.CommandLine.{Name, IsPlainWord, IsCommandLine, first_word}
+use Rattle.command_words.specs.Words.{AreWordsOf}
+use Rattle.command_words.proofs.Items.{plain_items}
+
+pub one_name : (words : List (List ℕ)) (image : List ℕ) → AreWordsOf words (model.Geometry image) → (words ≡ image ∷ []) × IsPlainWord image
+one_name words image h =
+    let plain = plain_items h.items words h.spelled h.of.1 in
+    let are : words ≡ image ∷ [] = plain.0 ∙ h.of.0 in
+    (are, (subst (λ ws. AllByRecursion IsPlainWord ws) are plain.1).0)
+
+pub is_one_name : (words : List (List ℕ)) (image : List ℕ) → words ≡ image ∷ [] → IsPlainWord image → AreWordsOf words (model.Geometry image)
+is_one_name words image e plain = record { items = Name image ∷ []; spelled = ([], plain, e, refl); of = (refl, refl) }
+
+pub two_names : (words : List (List ℕ)) (image script : List ℕ) → AreWordsOf words (model.Run image script) → (words ≡ image ∷ script ∷ []) × IsPlainWord image × IsPlainWord script
+two_names words image script h =
+    let plain = plain_items h.items words h.spelled h.of.1 in
+    let are : words ≡ image ∷ script ∷ [] = plain.0 ∙ h.of.0 in
+    let all = subst (λ ws. AllByRecursion IsPlainWord ws) are plain.1 in
+    (are, all.0, all.1.0)
+
+pub are_two_names : (words : List (List ℕ)) (image script : List ℕ) → words ≡ image ∷ script ∷ [] → IsPlainWord image → IsPlainWord script → AreWordsOf words (model.Run image script)
+are_two_names words image script e one other = record { items = Name image ∷ Name script ∷ []; spelled = (script ∷ [], one, e, ([], other, refl, refl)); of = (refl, refl) }
+
+pub one_word : (words : List (String Global)) (w : String Global) (word : List ℕ) → 1 ≤ length words → length words < 2 → w ≡ get_or words 0 w → word ≡ string_bytes w → map string_bytes words ≡ word ∷ []
+one_word [] w word low high is e = absurd (omega (arith, low))
+one_word (x ∷ []) w word low high is e = cc
+one_word (x ∷ (y ∷ words)) w word low high is e = absurd (omega (arith, high))
+
+pub two_words : (words : List (String Global)) (w v : String Global) (word other : List ℕ) → 2 ≤ length words → length words < 3 → w ≡ get_or words 0 w → v ≡ get_or words 1 v → word ≡ string_bytes w → other ≡ string_bytes v → map string_bytes words ≡ word ∷ other ∷ []
+two_words [] w v word other low high iw iv e f = absurd (omega (arith, low))
+two_words (x ∷ []) w v word other low high iw iv e f = absurd (omega (arith, low))
+two_words (x ∷ (y ∷ [])) w v word other low high iw iv e f = cc
+two_words (x ∷ (y ∷ (z ∷ words))) w v word other low high iw iv e f = absurd (omega (arith, high))
+
+pub count_of_words : (words : List (String Global)) (ws : List (List ℕ)) → map string_bytes words ≡ ws → length words ≡ length ws
+count_of_words [] ws e = ap length e
+count_of_words (w ∷ words) [] e = absurd (cc e)
+count_of_words (w ∷ words) (x ∷ ws) e =
+    let same : map string_bytes words ≡ ws = cc e in
+    ap suc (count_of_words words ws same)
+
+-- The words of a command line.
+
+-- its first word, and the others
+pub words_of : (words rest : List (List ℕ)) (first : List ℕ) (c : model.CommandLine) → words ≡ first ∷ rest → IsCommandLine words c → (first ≡ first_word c) × AreWordsOf rest c
+words_of words rest first c e h =
+    let joined : first ∷ rest ≡ first_word c ∷ h.rest = sym e ∙ h.words_are in
+    let same : h.rest ≡ rest = sym (cc joined) in
+    (cc joined, record { items = h.items; spelled = subst (λ ws. model.AreItems h.items ws) same h.spelled; of = h.of })
+
+pub command_of : (words rest : List (List ℕ)) (c : model.CommandLine) → words ≡ first_word c ∷ rest → AreWordsOf rest c → IsCommandLine words c
+command_of words rest c e h = record { items = h.items; rest = rest; words_are = e; spelled = h.spelled; of = h.of }
+
+-- A command is known by its first word.
+
+pub as_create : (words rest : List (List ℕ)) (first : List ℕ) (P : model.CommandLine → Type 0) → words ≡ first ∷ rest → first ≡ codes "create"
+    → ((image : List ℕ) (numbers : model.CreateNumbers) → AreWordsOf rest (model.Create image numbers) → P (model.Create image numbers)) → (c : model.CommandLine) → IsCommandLine words c → P c
+as_create words rest first P e is k (model.Create image numbers) h = k image numbers (words_of words rest first _ e h).1
+as_create words rest first P e is k (model.Geometry image) h = absurd (cc (is, (words_of words rest first _ e h).0))
+as_create words rest first P e is k (model.Run image script) h = absurd (cc (is, (words_of words rest first _ e h).0))
+
+pub as_geometry : (words rest : List (List ℕ)) (first : List ℕ) (P : model.CommandLine → Type 0) → words ≡ first ∷ rest → first ≡ codes "geometry"
+    → ((image : List ℕ) → AreWordsOf rest (model.Geometry image) → P (model.Geometry image)) → (c : model.CommandLine) → IsCommandLine words c → P c
+as_geometry words rest first P e is k (model.Create image numbers) h = absurd (cc (is, (words_of words rest first _ e h).0))
+as_geometry words rest first P e is k (model.Geometry image) h = k image (words_of words rest first _ e h).1
+as_geometry words rest first P e is k (model.Run image script) h = absurd (cc (is, (words_of words rest first _ e h).0))
+
+pub as_run : (words rest : List (List ℕ)) (first : List ℕ) (P : model.CommandLine → Type 0) → words ≡ first ∷ rest → first ≡ codes "run"
+    → ((image script : List ℕ) → AreWordsOf rest (model.Run image script) → P (model.Run image script)) → (c : model.CommandLine) → IsCommandLine words c → P c
+as_run words rest first P e is k (model.Create image numbers) h = absurd (cc (is, (words_of words rest first _ e h).0))
+as_run words rest first P e is k (model.Geometry image) h = absurd (cc (is, (words_of words rest first _ e h).0))
+as_run words rest first P e is k (model.Run image script) h = k image script (words_of words rest first _ e h).1

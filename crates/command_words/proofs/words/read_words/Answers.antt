@@ -1,0 +1,55 @@
+use Rattle.std.proofs.Common.{◌≡◌, Some, map, string_bytes, ◌∙◌, ap}
+use Rattle.pblk_model.specs.CommandLine as model
+use Rattle.pblk_model.specs.CommandLine.{IsCommandLine}
+use Rattle.command_words.specs.Words.{numbers_seen}
+use Rattle.command_words.proofs.ItemWords.{first_word_of}
+use Rattle.command_words.proofs.Names.{as_create, as_geometry, as_run}
+use Rattle.command_words.proofs.words.read_words.Goals as goal
+
+pub returns-in_err-image-in-create-clause-none : goal.returns-in_err-image-in-create-clause-none
+returns-in_err-image-in-create-clause-none c =
+    let first = first_word_of c.args.words.now c.first-item.result c.as_str.result.now c.in-len1-up.len_at_least c.first-item.is c.as_str.ensures.value in
+    rw c.from_residual.ensures (as_create (map string_bytes c.args.words.now) _ c.as_str.result.now (λ x. ⊥) first c.in-create.is (λ image numbers h. c.in_err-image-in-create.ensures.only image numbers h))
+
+pub returns-in_err-image-in-create-clause-only : goal.returns-in_err-image-in-create-clause-only
+returns-in_err-image-in-create-clause-only c = λ line h.
+    let first = first_word_of c.args.words.now c.first-item.result c.as_str.result.now c.in-len1-up.len_at_least c.first-item.is c.as_str.ensures.value in
+    absurd (as_create (map string_bytes c.args.words.now) _ c.as_str.result.now (λ x. ⊥) first c.in-create.is (λ image numbers h. c.in_err-image-in-create.ensures.only image numbers h) line h)
+
+pub returns-in_err-image-in-geometry-clause-none : goal.returns-in_err-image-in-geometry-clause-none
+returns-in_err-image-in-geometry-clause-none c =
+    let first = first_word_of c.args.words.now c.first-item.result c.as_str.result.now c.in-len1-up.len_at_least c.first-item.is c.as_str.ensures.value in
+    rw c.from_residual-in_err-image-in-geometry.ensures (as_geometry (map string_bytes c.args.words.now) _ c.as_str.result.now (λ x. ⊥) first c.in-geometry.is (λ image h. c.in_err-image-in-geometry.ensures.only image h))
+
+pub returns-in_err-image-in-geometry-clause-only : goal.returns-in_err-image-in-geometry-clause-only
+returns-in_err-image-in-geometry-clause-only c = λ line h.
+    let first = first_word_of c.args.words.now c.first-item.result c.as_str.result.now c.in-len1-up.len_at_least c.first-item.is c.as_str.ensures.value in
+    absurd (as_geometry (map string_bytes c.args.words.now) _ c.as_str.result.now (λ x. ⊥) first c.in-geometry.is (λ image h. c.in_err-image-in-geometry.ensures.only image h) line h)
+
+pub returns-in_err-image-in-run-clause-none : goal.returns-in_err-image-in-run-clause-none
+returns-in_err-image-in-run-clause-none c =
+    let first = first_word_of c.args.words.now c.first-item.result c.as_str.result.now c.in-len1-up.len_at_least c.first-item.is c.as_str.ensures.value in
+    rw c.from_residual-in_err-image-in-run.ensures (as_run (map string_bytes c.args.words.now) _ c.as_str.result.now (λ x. ⊥) first c.in-run.is (λ image script h. c.in_err-image-in-run.ensures.only image script h))
+
+pub returns-in_err-image-in-run-clause-only : goal.returns-in_err-image-in-run-clause-only
+returns-in_err-image-in-run-clause-only c = λ line h.
+    let first = first_word_of c.args.words.now c.first-item.result c.as_str.result.now c.in-len1-up.len_at_least c.first-item.is c.as_str.ensures.value in
+    absurd (as_run (map string_bytes c.args.words.now) _ c.as_str.result.now (λ x. ⊥) first c.in-run.is (λ image script h. c.in_err-image-in-run.ensures.only image script h) line h)
+
+pub returns-in_ok-image-in-create-clause-only : goal.returns-in_ok-image-in-create-clause-only
+returns-in_ok-image-in-create-clause-only c =
+    let first = first_word_of c.args.words.now c.first-item.result c.as_str.result.now c.in-len1-up.len_at_least c.first-item.is c.as_str.ensures.value in
+    as_create (map string_bytes c.args.words.now) _ c.as_str.result.now (λ line. Some (model.Create c.in_ok-image-in-create.image.now (numbers_seen c.in_ok-image-in-create.numbers)) ≡ Some line) first c.in-create.is
+    (λ image numbers h. let same = c.in_ok-image-in-create.ensures.only image numbers h in ap (λ x. Some (model.Create x (numbers_seen c.in_ok-image-in-create.numbers))) same.0 ∙ ap (λ x. Some (model.Create image x)) same.1)
+
+pub returns-in_ok-image-in-geometry-clause-only : goal.returns-in_ok-image-in-geometry-clause-only
+returns-in_ok-image-in-geometry-clause-only c =
+    let first = first_word_of c.args.words.now c.first-item.result c.as_str.result.now c.in-len1-up.len_at_least c.first-item.is c.as_str.ensures.value in
+    as_geometry (map string_bytes c.args.words.now) _ c.as_str.result.now (λ line. Some (model.Geometry c.in_ok-image-in-geometry.image.now) ≡ Some line) first c.in-geometry.is
+    (λ image h. ap (λ x. Some (model.Geometry x)) (c.in_ok-image-in-geometry.ensures.only image h))
+
+pub returns-in_ok-image-in-run-clause-only : goal.returns-in_ok-image-in-run-clause-only
+returns-in_ok-image-in-run-clause-only c =
+    let first = first_word_of c.args.words.now c.first-item.result c.as_str.result.now c.in-len1-up.len_at_least c.first-item.is c.as_str.ensures.value in
+    as_run (map string_bytes c.args.words.now) _ c.as_str.result.now (λ line. Some (model.Run c.in_ok-image-in-run.image.now c.in_ok-image-in-run.script.now) ≡ Some line) first c.in-run.is
+    (λ image script h. let same = c.in_ok-image-in-run.ensures.only image script h in ap (λ x. Some (model.Run x c.in_ok-image-in-run.script.now)) same.0 ∙ ap (λ x. Some (model.Run image x)) same.1)

@@ -1,0 +1,108 @@
+-- What is seen of the words that are read, and what has been read of them.
+use Rattle.std.specs.Prelude.{ℕ, ◌≡◌, ◌≢◌, ◌<◌, ◌==◌, ◌||◌, ⊤, Bool, false, List, [], ◌∷◌, Option, Some, None}
+use Rattle.std.specs.List.{AllByRecursion}
+use Rattle.std.specs.Borrow.{Bor}
+use Rattle.std.specs.Fmt.{decimal}
+use Rattle.pblk_model.specs.CommandLine as model
+use Rattle.pblk_model.specs.CommandLine.{NumberOption, IsPlainWord, IsOptionBefore, IsOneOf, AreItems, AreItemsOf, AreDistinct, names_in, options_in, value_in, create_options}
+use Rattle.command_words.specs.declared.command.CommandLine.{CommandLine}
+use Rattle.command_words.specs.declared.command.CommandLine.TheVariants as lines
+use Rattle.command_words.specs.declared.command.CreateNumbers.{CreateNumbers}
+use Rattle.command_words.specs.declared.item.Item.{Item}
+use Rattle.command_words.specs.declared.item.Item.TheVariants as items
+use Rattle.command_words.specs.declared.options.CreateOption.{CreateOption}
+use Rattle.command_words.specs.declared.options.CreateOption.TheVariants as options
+use Rattle.command_words.specs.declared.create.CreateWords.{CreateWords}
+
+-- the numbers, as the model has them
+abbrev pub numbers_seen : CreateNumbers → model.CreateNumbers
+numbers_seen n = record {
+  groups = n.groups;
+  units = n.units;
+  chunks = n.chunks;
+  blocks = n.blocks;
+  ws_min = n.ws_min;
+  ws_opt = n.ws_opt;
+  mw = n.mw;
+  sector = n.sector;
+  capacity = n.capacity;
+  ring = n.ring;
+}
+
+-- a command that was read, as the model has it
+abbrev pub seen : CommandLine → model.CommandLine
+seen (lines.Create image numbers) = model.Create image.now (numbers_seen numbers)
+seen (lines.Geometry image) = model.Geometry image.now
+seen (lines.Run image script) = model.Run image.now script.now
+
+-- these words after the first one are this command's
+pub record AreWordsOf (words : List (List ℕ)) (c : model.CommandLine) : Type 0 where
+  pub items : List model.Item
+  pub spelled : AreItems items words
+  pub of : AreItemsOf items c
+
+-- Numbers.
+
+-- a word that begins with `+`, or with a 0 that more follows
+abbrev pub is_padded : List ℕ → Bool
+is_padded [] = false
+is_padded (byte ∷ []) = byte == 43
+is_padded (byte ∷ (next ∷ bytes)) = byte == 43 || byte == 48
+
+-- Items.
+
+-- an item that was read, as the model has it
+abbrev pub item_of : Item → model.Item
+item_of (items.Name name) = model.Name name.now
+item_of (items.Named name value) = model.Named name.now value.now
+
+-- the words are the item and, after it, the rest
+abbrev pub IsItemBefore : model.Item → List (List ℕ) → List (List ℕ) → Type 0
+IsItemBefore (model.Name name) rest words = IsPlainWord name × (words ≡ name ∷ rest)
+IsItemBefore (model.Named name value) rest words = IsPlainWord value × IsOptionBefore name value rest words
+
+-- the item's option, if it is one, has no `=` in its name
+abbrev pub HasPlainName : model.Item → Type 0
+HasPlainName (model.Name name) = ⊤
+HasPlainName (model.Named name value) = AllByRecursion (λ byte. byte ≢ 61) name
+
+-- The options of `create`.
+
+-- an option's place in the list of them
+abbrev pub place_of : CreateOption → ℕ
+place_of options.Groups = 0
+place_of options.Units = 1
+place_of options.Chunks = 2
+place_of options.Blocks = 3
+place_of options.WsMin = 4
+place_of options.WsOpt = 5
+place_of options.Mw = 6
+place_of options.Sector = 7
+place_of options.Capacity = 8
+place_of options.Ring = 9
+
+-- What has been read of the words of `create`.
+
+abbrev pub names_of : Option (Bor (List ℕ)) → List (List ℕ)
+names_of None = []
+names_of (Some name) = name.now ∷ []
+
+-- the number of an option that was read so far, by the word that it has
+abbrev pub IsValue : NumberOption → Option ℕ → Option (List ℕ) → Type 0
+IsValue o None None = ⊤
+IsValue o None (Some word) = ⊥
+IsValue o (Some n) None = ⊥
+IsValue o (Some n) (Some word) = (word ≡ decimal n) × (n < o.below)
+
+abbrev pub AreValues : List NumberOption → List (Option ℕ) → List model.Item → Type 0
+AreValues [] [] items = ⊤
+AreValues (o ∷ os) (v ∷ vs) items = IsValue o v (value_in o.name items) × AreValues os vs items
+AreValues [] (v ∷ vs) items = ⊥
+AreValues (o ∷ os) [] items = ⊥
+
+-- these items were read so far, and so may be the first ones of `create`
+pub record HasRead (items : List model.Item) (w : CreateWords) : Type 0 where
+  pub names : names_in items ≡ names_of w.image
+  pub known : AllByRecursion (IsOneOf create_options) (options_in items)
+  pub distinct : AreDistinct (options_in items)
+  pub values : AreValues create_options w.values items

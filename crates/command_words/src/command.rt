@@ -1,0 +1,45 @@
+//! What the words of a command line say.
+
+/// The numbers of a drive to be made, each as the option of its name gives it.
+#[derive(Clone, Copy, Debug, PartialEq, Eq)]
+pub struct CreateNumbers {
+    /// Groups of the drive.
+    pub groups: u16,
+    /// Parallel units of a group.
+    pub units: u16,
+    /// Chunks of a parallel unit.
+    pub chunks: u32,
+    /// Logical blocks of a chunk.
+    pub blocks: u32,
+    /// The minimum write size, in blocks.
+    pub ws_min: u32,
+    /// The optimal write size, in blocks.
+    pub ws_opt: u32,
+    /// The blocks that the device holds back before they can be read.
+    pub mw: u32,
+    /// A block's size in bytes.
+    pub sector: u32,
+    /// Sectors that the user has.
+    pub capacity: u64,
+    /// Entries of the write buffer.
+    pub ring: u32,
+}
+
+/// A command with its file names and numbers. The names are neither empty nor begin with `-`.
+#[derive(Clone, Copy, Debug, PartialEq, Eq)]
+pub enum CommandLine<'a> {
+    /// Makes a blank image of these numbers.
+    Create {
+        image: &'a str,
+        numbers: CreateNumbers,
+    },
+    /// Prints the numbers of an image.
+    Geometry {
+        image: &'a str,
+    },
+    /// Runs a script on an image.
+    Run {
+        image: &'a str,
+        script: &'a str,
+    },
+}

@@ -1,0 +1,14 @@
+//! The words of the command line: which words are which command.
+//!
+//! It takes no memory: what is read borrows the words.
+#![tactic(auto)]
+
+mod command;
+mod create;
+mod item;
+mod number;
+mod options;
+mod words;
+
+pub use command::{CommandLine, CreateNumbers};
+pub use words::read_words;

@@ -1,0 +1,23 @@
+//! Numbers as words spell them.
+
+ghost use Rattle.std.specs.Prelude.{◌≡◌, ◌≢◌, ℕ, ◌<◌, ◌^◌, IfSome, IfNone};
+ghost use Rattle.std.specs.Fmt.{decimal};
+ghost use Rattle.command_words.specs.Words.{is_padded};
+
+/// The number that a word spells: `0`, or digits without a leading 0, below 2^64.
+pub(crate) fn read_number(word: &str) -> Option<u64>
+    ensures found { IfSome result (λ n. word.now ≡ decimal n) }
+    ensures none { IfNone result ((n : ℕ) → n < 2 ^ 64 → word.now ≢ decimal n) }
+{
+    if is_padded(word.as_bytes()) {
+        return None;
+    }
+    word.parse::<u64>().ok()
+}
+
+// Whether a word begins with `+`, or with a 0 that more follows: Rust's own reading of numbers takes both.
+fn is_padded(word: &[u8]) -> bool
+    ensures { result ≡ is_padded word.now }
+{
+    matches!(word, [b'+', ..] | [b'0', _, ..])
+}

@@ -1,0 +1,80 @@
+//! The words of a command line.
+
+ghost use Rattle.std.specs.Prelude.{◌≡◌, List, ℕ, Some, map, IfSome, IfNone, IsSomeAnd, string_bytes};
+ghost use Rattle.std.specs.Option.{option_map};
+ghost use Rattle.pblk_model.specs.CommandLine as model;
+ghost use Rattle.pblk_model.specs.CommandLine.{IsCommandLine};
+ghost use Rattle.command_words.specs.Words.{AreWordsOf, seen};
+
+use crate::command::CommandLine;
+use crate::create::read_create;
+use crate::item::is_plain;
+
+/// Reads the words of a command line: `create IMAGE`, `geometry IMAGE` or `run IMAGE SCRIPT`.
+///
+/// Options of `create` stand anywhere after its first word, as `--name value` or `--name=value`, each at most
+/// once: `--groups` and `--units` (in a group) are below 2^16; `--chunks`, `--blocks`, `--ws-min`, `--ws-opt`,
+/// `--mw`, `--sector` and `--ring` below 2^32; `--capacity` below 2^64. Numbers are `0` or digits without a
+/// leading 0. The other commands have no options.
+///
+/// None where the words are no command: the first one is none of these, a word is missing or too many, a word
+/// is empty, a word begins with `-` and isn't one of the command's options, an option is named twice, or its
+/// value isn't such a number.
+pub fn read_words(words: &[String]) -> Option<CommandLine<'_>>
+    ensures found { IfSome result (λ c. IsCommandLine (map string_bytes words.now) (seen c)) }
+    ensures none { IfNone result
+        ((c : model.CommandLine) → ¬ IsCommandLine (map string_bytes words.now) c) }
+    ensures only { (c : model.CommandLine) → IsCommandLine (map string_bytes words.now) c
+        → option_map seen result ≡ Some c }
+{
+    let [first, rest @ ..] = words else {
+        return None;
+    };
+    match first.as_str() {
+        "create" => {
+            let (image, numbers) = read_create(rest)?;
+            Some(CommandLine::Create { image, numbers })
+        }
+        "geometry" => {
+            let image = read_name(rest)?;
+            Some(CommandLine::Geometry { image })
+        }
+        "run" => {
+            let (image, script) = read_names(rest)?;
+            Some(CommandLine::Run { image, script })
+        }
+        _ => None,
+    }
+}
+
+// The words after `geometry`.
+fn read_name(words: &[String]) -> Option<&str>
+    ensures found { IfSome result (λ r. AreWordsOf (map string_bytes words.now) (model.Geometry r.now)) }
+    ensures only { (image : List ℕ) → AreWordsOf (map string_bytes words.now) (model.Geometry image)
+        → IsSomeAnd result (λ r. r.now ≡ image) }
+{
+    let [image] = words else {
+        return None;
+    };
+    let image = image.as_str();
+    if is_plain(image) { Some(image) } else { None }
+}
+
+// The words after `run`.
+fn read_names(words: &[String]) -> Option<(&str, &str)>
+    ensures found { IfSome result
+        (λ r. AreWordsOf (map string_bytes words.now) (model.Run r.0.now r.1.now)) }
+    ensures only { (image script : List ℕ)
+        → AreWordsOf (map string_bytes words.now) (model.Run image script)
+        → IsSomeAnd result (λ r. (r.0.now ≡ image) × (r.1.now ≡ script)) }
+{
+    let [image, script] = words else {
+        return None;
+    };
+    let (image, script) = (image.as_str(), script.as_str());
+    if is_plain(image) && is_plain(script) {
+        Some((image, script))
+    } else {
+        None
+    }
+}

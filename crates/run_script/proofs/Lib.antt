@@ -1,0 +1,9 @@
+pub mod NumberSpelling
+pub mod WordsCut
+pub mod HeardMore
+pub mod RunOn
+pub mod RunOnLoops
+pub mod NameSpelling
+pub mod LinesLeft
+pub mod PlacedLine
+pub mod Answers

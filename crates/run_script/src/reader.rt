@@ -1,0 +1,254 @@
+//! Scripts, line by line.
+
+ghost use Rattle.std.specs.Prelude.{◌≡◌, ◌++◌, ◌∷◌, [], ◌<◌, ◌+◌, length, List, ℕ, Bool, Some, None, Ok, Err, IfOk, IfNone, OnOk, IfErr, ◌≤◌, min, ◌^◌, ◌-◌, IsTrue};
+ghost use Rattle.std.specs.Option.{option_map, option_map_or};
+ghost use Rattle.pblk_model.specs.ScriptText.{Heard, saids, form_holds, limit_holds, range_holds, said_in, script_of, posts_refusal};
+ghost use Rattle.run_script.specs.Heard.{IsRead, threads_kept, refusal_of, HasRoom, Hears, placed_at, Places};
+ghost use Rattle.run_script.specs.Reading.{Gives};
+ghost use Rattle.run_script.specs.Said.{said_of};
+
+use crate::names::Names;
+use crate::said::{Said, said_in};
+use crate::thread::{Thread, script_of};
+use crate::turns::{stuck_at, unposted};
+use pblk_model::{Command, Script, ScriptErr};
+use std::alloc::{AllocError, Global};
+
+/// How many threads a script may have.
+const MOST_THREADS: usize = 16;
+
+/// How many commands a script may have.
+const MOST_COMMANDS: u32 = 200_000;
+
+/// How many sectors a command may have.
+const MOST_SECTORS: u64 = 16;
+
+/// What was read of a script, for a target of a capacity.
+#[derive(Drop)]
+pub(crate) struct Reader {
+    capacity: u64,
+    // the threads that ended, and the one that commands go to
+    ended: Vec<Thread>,
+    current: Option<Thread>,
+    commands: u32,
+    // the names that were posted
+    names: Names,
+}
+
+impl Reader {
+    pub(crate) fn new(alloc: Global, capacity: u64) -> Reader
+        ensures capacity { result.capacity ≡ capacity }
+        ensures nothing { IsRead result [] }
+    {
+        Reader {
+            capacity,
+            ended: Vec::new(alloc),
+            current: None,
+            commands: 0,
+            names: Names::new(alloc),
+        }
+    }
+
+    /// Reads a line that isn't skipped: the line `number`, which is `early` where it begins before
+    /// the limit of a script's length.
+    ///
+    /// Refused, in this order: `Form` where the line has no known form, or is a command before the
+    /// first thread, or posts a name a second time; `Limit` where it isn't early, or is a thread
+    /// or a command too many, or names too many sectors or none; `Range` where its sectors aren't
+    /// all below the capacity. `Memory` where there was none.
+    pub(crate) fn read_line(
+        &mut self,
+        alloc: Global,
+        number: u32,
+        early: bool,
+        line: &[u8],
+    ) -> Result<(), ScriptErr>
+        ensures capacity { self.new.capacity ≡ self.old.capacity }
+        ensures placed { (before : Heard) → IsRead self.old before
+            → Places result self.new before
+            (placed_at self.old.capacity (saids before) number early (said_in line.now)) }
+    {
+        let Ok(said) = said_in(alloc, line) else {
+            return Err(ScriptErr::Memory);
+        };
+        let Some(said) = said else {
+            return Err(ScriptErr::Form(number));
+        };
+        if let Some(refusal) = self.refusal(number, early, &said) {
+            return Err(refusal);
+        }
+        if self.hear(alloc, number, said).is_err() {
+            return Err(ScriptErr::Memory);
+        }
+        Ok(())
+    }
+
+    // Why a line is refused.
+    fn refusal(&self, number: u32, early: bool, said: &Said) -> Option<ScriptErr>
+        ensures refused { (before : Heard) → IsRead self.now before
+            → result ≡ refusal_of self.now.capacity (saids before) number early (said_of said.now) }
+        ensures room { IfNone result (HasRoom self.now said.now) }
+    {
+        if !self.form_holds(said) {
+            return Some(ScriptErr::Form(number));
+        }
+        if !(early && self.limit_holds(said)) {
+            return Some(ScriptErr::Limit(number));
+        }
+        if !range_holds(self.capacity, said) {
+            return Some(ScriptErr::Range(number));
+        }
+        None
+    }
+
+    // Whether a line stands where it may: a command in a thread, and a post of a name that wasn't
+    // posted yet.
+    fn form_holds(&self, said: &Said) -> bool
+        ensures { (before : Heard) → IsRead self.now before
+            → result ≡ form_holds (saids before) (said_of said.now) }
+    {
+        match said {
+            Said::Thread => true,
+            Said::Post(name) => self.current.is_some() && !self.names.contains(name.as_str()),
+            Said::Write { .. } | Said::Read { .. } | Said::Flush | Said::Await(_) => {
+                self.current.is_some()
+            }
+        }
+    }
+
+    // Whether a line is within the limits on threads, commands and sectors.
+    fn limit_holds(&self, said: &Said) -> bool
+        ensures limit { (before : Heard) → IsRead self.now before
+            → result ≡ limit_holds (saids before) (said_of said.now) }
+        ensures room { IsTrue result → HasRoom self.now said.now }
+    {
+        match said {
+            Said::Thread => self.threads() < MOST_THREADS,
+            Said::Write { count, .. } | Said::Read { count, .. } => {
+                self.commands < MOST_COMMANDS && 1 <= *count && *count <= MOST_SECTORS
+            }
+            Said::Flush | Said::Post(_) | Said::Await(_) => self.commands < MOST_COMMANDS,
+        }
+    }
+
+    // How many threads began.
+    fn threads(&self) -> usize
+        ensures { result ≡ min (length (threads_kept self.now)) (2 ^ 64 - 1) }
+    {
+        match self.current {
+            Some(_) => self.ended.len().saturating_add(1),
+            None => self.ended.len(),
+        }
+    }
+
+    // Keeps what a line says.
+    fn hear(&mut self, alloc: Global, number: u32, said: Said) -> Result<(), AllocError>
+        requires { HasRoom self.old said }
+        ensures capacity { self.new.capacity ≡ self.old.capacity }
+        ensures heard { OnOk result (Hears self.old self.new number (said_of said)) }
+    {
+        match said {
+            Said::Thread => self.begin(alloc),
+            Said::Write { lba, count, tag } => {
+                let count = count as u32;
+                self.add(number, Command::Write { lba, count, tag })
+            }
+            Said::Read { lba, count } => {
+                let count = count as u32;
+                self.add(number, Command::Read { lba, count })
+            }
+            Said::Flush => self.add(number, Command::Flush),
+            Said::Post(name) => {
+                self.names.insert(alloc, name.as_str())?;
+                self.add(number, Command::Post(name))
+            }
+            Said::Await(name) => self.add(number, Command::Await(name)),
+        }
+    }
+
+    // Ends the thread that is open, and opens the next.
+    fn begin(&mut self, alloc: Global) -> Result<(), AllocError>
+        ensures capacity { self.new.capacity ≡ self.old.capacity }
+        ensures ended { OnOk result (self.new.ended.items ≡ threads_kept self.old) }
+        ensures current { OnOk result (self.new.current ≡ Some []) }
+        ensures commands { OnOk result (self.new.commands ≡ self.old.commands) }
+        ensures names { OnOk result (self.new.names ≡ self.old.names) }
+    {
+        if let Some(thread) = self.current.replace(Thread::new(alloc)) {
+            self.ended.push(thread)?;
+        }
+        Ok(())
+    }
+
+    // Adds a command to the thread that is open.
+    fn add(&mut self, number: u32, command: Command) -> Result<(), AllocError>
+        requires { self.old.commands < 200000 }
+        ensures capacity { self.new.capacity ≡ self.old.capacity }
+        ensures ended { OnOk result (self.new.ended.items ≡ self.old.ended.items) }
+        ensures current { OnOk result (self.new.current
+            ≡ option_map (λ thread. thread ++ (number, command) ∷ []) self.old.current) }
+        ensures commands { OnOk result (self.new.commands ≡ self.old.commands + 1) }
+        ensures names { OnOk result (self.new.names ≡ self.old.names) }
+    {
+        if let Some(thread) = &mut self.current {
+            thread.push(number, command)?;
+        }
+        self.commands += 1;
+        Ok(())
+    }
+
+    /// The script whose lines were read. Refused: `NeverPosted` where a line awaits a name that
+    /// nobody posts; `Stuck` where a thread waits for ever; `Memory` where there was none.
+    pub(crate) fn finish(self, alloc: Global) -> Result<Script, ScriptErr>
+        ensures { (heard : Heard) → IsRead self heard
+            → Gives result (option_map_or Err (posts_refusal heard) (Ok (script_of heard))) }
+    {
+        let (threads, names) = match self.into_threads() {
+            Ok(parts) => parts,
+            Err(_) => return Err(ScriptErr::Memory),
+        };
+        if let Some(line) = unposted(&names, threads.as_slice()) {
+            return Err(ScriptErr::NeverPosted(line));
+        }
+        let Ok(stuck) = stuck_at(alloc, threads.as_slice()) else {
+            return Err(ScriptErr::Memory);
+        };
+        if let Some(line) = stuck {
+            return Err(ScriptErr::Stuck(line));
+        }
+        match script_of(alloc, threads) {
+            Ok(script) => Ok(script),
+            Err(_) => Err(ScriptErr::Memory),
+        }
+    }
+
+    // The threads and the names that were posted.
+    fn into_threads(self) -> Result<(Vec<Thread>, Names), AllocError>
+        ensures threads { IfOk result (λ parts. parts.0.items ≡ threads_kept self) }
+        ensures names { IfOk result (λ parts. parts.1 ≡ self.names) }
+    {
+        let Reader {
+            ended,
+            current,
+            names,
+            ..
+        } = self;
+        let mut threads = ended;
+        if let Some(thread) = current {
+            threads.push(thread)?;
+        }
+        Ok((threads, names))
+    }
+}
+
+// Whether the sectors of a line are those of a target of this capacity.
+fn range_holds(capacity: u64, said: &Said) -> bool
+    ensures { result ≡ range_holds capacity (said_of said.now) }
+{
+    match said {
+        Said::Write { lba, count, .. } | Said::Read { lba, count } => {
+            *count <= capacity && *lba <= capacity - *count
+        }
+        Said::Thread | Said::Flush | Said::Post(_) | Said::Await(_) => true,
+    }
+}

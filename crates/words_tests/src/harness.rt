@@ -1,0 +1,26 @@
+//! Words that are read, and what they say.
+
+use command_words::{CommandLine, CreateNumbers, read_words};
+use std::alloc::{AllocError, Global};
+
+/// What the words of a line say, which are parted by `|`: the command, its file names and its numbers in their
+/// order, each in brackets; or `refused`.
+pub fn told(alloc: Global, line: &str) -> Result<String, AllocError> {
+    let mut words = Vec::new(alloc);
+    for word in line.split('|') {
+        words.push(String::from_str(alloc, word)?)?;
+    }
+    match read_words(&words) {
+        Some(CommandLine::Create { image, numbers }) => created(alloc, image, numbers),
+        Some(CommandLine::Geometry { image }) => format!(in alloc; "geometry [{image}]"),
+        Some(CommandLine::Run { image, script }) => format!(in alloc; "run [{image}] [{script}]"),
+        None => format!(in alloc; "refused"),
+    }
+}
+
+fn created(alloc: Global, image: &str, n: CreateNumbers) -> Result<String, AllocError> {
+    let mut text = format!(in alloc; "create [{image}] {} {} {}", n.groups, n.units, n.chunks)?;
+    write!(text, " {} {} {} {}", n.blocks, n.ws_min, n.ws_opt, n.mw)?;
+    write!(text, " {} {} {}", n.sector, n.capacity, n.ring)?;
+    Ok(text)
+}
