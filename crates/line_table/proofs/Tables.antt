@@ -1,0 +1,184 @@
+-- Rows that change, and what the rows come to.
+use Rattle.std.proofs.Common.{◌≡◌, ◌≢◌, ℕ, ◌+◌, ◌-◌, ◌*◌, ◌<◌, ◌≤◌, ◌^◌, zero, suc, true, false, cond, eqb, not, Option, Some, None, List, [], ◌∷◌, length, refl, sym, ap, subst, ◌∙◌, arith, sum_by, length-set}
+use Rattle.std.proofs.lemmas.Bool.{eqb-true, eqb-false}
+use Rattle.std.proofs.lemmas.Bool.Decides.{nat_tests}
+use Rattle.std.proofs.lemmas.Option.{same_Some, slice_get_within, get_or_from_slice_get}
+use Rattle.std.proofs.lemmas.List.Sums.{sum_by-set, sum_by-cons}
+use Rattle.std.specs.Prelude.{IfSome, IfNone, nat_lt}
+use Rattle.std.specs.List.{slice_get, slice_set, slice_index_or, position, prefix_len}
+use Rattle.std.specs.Option.{option_map_or}
+use Rattle.pblk_model.specs.declared.shape.Shape.{Shape}
+use Rattle.pblk_model.specs.Shape.{units}
+use Rattle.pblk_model.specs.LineOrder.{data_len}
+use Rattle.line_table.specs.declared.row.LineState.{LineState}
+use Rattle.line_table.specs.declared.row.LineState.TheVariants.{Free, Open, Full, Failed, Freed, Dead}
+use Rattle.line_table.specs.declared.row.Row.{Row}
+use Rattle.line_table.specs.Rows.{Table, IsFreeLine, Changes, latest, lost, kept, turned, is_free, is_free_state, is_free_at, free_len}
+use Rattle.line_table.specs.LineSets.{has}
+use Rattle.line_table.specs.Inside.{Keeps}
+use Rattle.line_table.proofs.Places.{get_set_same, get_set_other}
+
+-- a sum with one term changed
+pub sum_changed : (f : Row → ℕ) (rows : List Row) (i : ℕ) (old new : Row) → slice_get rows i ≡ Some old → sum_by f (slice_set rows i new) + f old ≡ sum_by f rows + f new
+sum_changed f rows i old new h =
+    let old-is : f (slice_index_or rows i old) ≡ f old = ap f (get_or_from_slice_get rows i old old h) in
+    omega (arith, sum_by-set f rows i new old (slice_get_within rows i old h))
+
+-- terms below a bound
+pub sum_below : (f : Row → ℕ) (rows : List Row) (b : ℕ) → ((n : ℕ) (row : Row) → slice_get rows n ≡ Some row → f row < b) → sum_by f rows ≤ length rows * b
+sum_below f [] b h = omega arith
+sum_below f (row ∷ rows) b h =
+    let first : f row < b = h 0 row refl in
+    let rest : sum_by f rows ≤ length rows * b = sum_below f rows b (λ n r there. h (suc n) r there) in
+    omega (arith, sum_by-cons f row rows)
+
+-- a term is at most the sum
+pub term_within : (f : Row → ℕ) (rows : List Row) (i : ℕ) (row : Row) → slice_get rows i ≡ Some row → f row ≤ sum_by f rows
+term_within f (r ∷ rows) zero row h =
+    let same : f r ≡ f row = ap f (same_Some r row h) in
+    omega (arith, sum_by-cons f r rows)
+term_within f (r ∷ rows) (suc i) row h = omega (arith, sum_by-cons f r rows, term_within f rows i row h)
+term_within f [] i row h = absurd cc
+
+-- ---- what a table keeps
+
+same_len : (s : Shape) (old new : Row) → new.state ≡ old.state → new.width ≡ old.width → free_len s new ≡ free_len s old
+unfolding free_len
+same_len s old new state width = ap (λ st. cond (is_free_state st) (data_len s new.width) 0) state ∙ ap (λ w. cond (is_free_state old.state) (data_len s w) 0) width
+
+-- by whether a place is that of the changed row
+by_place : (rows : List Row) (i n : ℕ) (new row : Row) (P : Row → Type 0) → i < length rows → slice_get (slice_set rows i new) n ≡ Some row → P new → (slice_get rows n ≡ Some row → P row) → P row
+by_place rows i n new row P inside h here there =
+    elim (eqb n i) as (λ b. eqb n i ≡ b → P row) [
+      | true ↦ λ e. subst P (same_Some new row (sym (get_set_same rows i n new (eqb-true n i e) inside) ∙ h)) here
+      | false ↦ λ e. there (sym (get_set_other rows i n new (eqb-false n i e)) ∙ h)
+    ] refl
+
+free_changed : (rows : List Row) (i n : ℕ) (new : Row) (before after : List ℕ) → i < length rows → has after i ≡ is_free new → ((m : ℕ) → m ≢ i → has after m ≡ has before m) → ((m : ℕ) → has before m ≡ is_free_at rows m)
+    → has after n ≡ is_free_at (slice_set rows i new) n
+free_changed rows i n new before after inside here others free =
+    elim (eqb n i) as (λ b. eqb n i ≡ b → has after n ≡ is_free_at (slice_set rows i new) n) [
+      | true ↦ λ e.
+          let same : n ≡ i = eqb-true n i e in
+          ap (has after) same ∙ here ∙ sym (ap (λ o. option_map_or is_free o false) (get_set_same rows i n new same inside))
+      | false ↦ λ e.
+          let apart : n ≢ i = eqb-false n i e in
+          others n apart ∙ free n ∙ sym (ap (λ o. option_map_or is_free o false) (get_set_other rows i n new apart))
+    ] refl
+
+-- with a row changed
+pub keeps_changed : (s : Shape) (before after : List ℕ) (addresses new_addresses : ℕ) (rows : List Row) (i : ℕ) (old new : Row) → Keeps s before addresses rows → slice_get rows i ≡ Some old
+    → new.width ≤ units s → free_len s new < 2 ^ 32 → has after i ≡ is_free new → ((m : ℕ) → m ≢ i → has after m ≡ has before m) → new_addresses + free_len s old ≡ addresses + free_len s new
+    → Keeps s after new_addresses (slice_set rows i new)
+keeps_changed s before after addresses new_addresses rows i old new keeps h width short here others sum =
+    let inside : i < length rows = slice_get_within rows i old h in
+    record {
+      few = omega (arith, length-set rows i new, keeps.few);
+      widths = λ n row there. by_place rows i n new row (λ r. r.width ≤ units s) inside there width (keeps.widths n row);
+      short = λ n row there. by_place rows i n new row (λ r. free_len s r < 2 ^ 32) inside there short (keeps.short n row);
+      free = λ n. free_changed rows i n new before after inside here others keeps.free;
+      addresses = omega (arith, sum_changed (free_len s) rows i old new h, keeps.addresses);
+    }
+
+-- with a row changed that keeps its state and width
+pub keeps_same : (s : Shape) (words : List ℕ) (addresses : ℕ) (rows : List Row) (i : ℕ) (old new : Row) → Keeps s words addresses rows → slice_get rows i ≡ Some old → new.state ≡ old.state → new.width ≡ old.width
+    → Keeps s words addresses (slice_set rows i new)
+keeps_same s words addresses rows i old new keeps h state width =
+    let len : free_len s new ≡ free_len s old = same_len s old new state width in
+    let width-was : old.width ≤ units s = keeps.widths i old h in
+    let len-was : free_len s old < 2 ^ 32 = keeps.short i old h in
+    keeps_changed s words words addresses addresses rows i old new keeps h (omega arith) (omega arith)
+    (keeps.free i ∙ ap (λ o. option_map_or is_free o false) h ∙ sym (ap is_free_state state)) (λ m other. refl) (omega arith)
+
+-- ---- the least Free line
+
+first_at : (rows : List Row) (n : ℕ) → is_free_at rows n ≡ true → ((m : ℕ) → m < n → is_free_at rows m ≡ false) → (prefix_len (λ r. not (is_free r)) rows ≡ n) × (n < length rows)
+first_at [] n h before = absurd cc
+first_at (r ∷ rows) zero h before = (ap (λ b. cond (not b) (1 + prefix_len (λ r. not (is_free r)) rows) 0) h, omega arith)
+first_at (r ∷ rows) (suc n) h before =
+    let rest : (prefix_len (λ r. not (is_free r)) rows ≡ n) × (n < length rows) = first_at rows n h (λ m below. before (suc m) (omega arith)) in
+    let here : is_free r ≡ false = before 0 (omega arith) in
+    (ap (λ b. cond (not b) (1 + prefix_len (λ r. not (is_free r)) rows) 0) here ∙ omega (arith, rest.0), omega (arith, rest.1))
+
+none_at : (rows : List Row) → ((m : ℕ) → is_free_at rows m ≡ false) → prefix_len (λ r. not (is_free r)) rows ≡ length rows
+none_at [] h = refl
+none_at (r ∷ rows) h =
+    let rest : prefix_len (λ r. not (is_free r)) rows ≡ length rows = none_at rows (λ m. h (suc m)) in
+    ap (λ b. cond (not b) (1 + prefix_len (λ r. not (is_free r)) rows) 0) (h 0) ∙ omega arith
+
+free_state : (state : LineState) → is_free_state state ≡ true → state ≡ Free
+free_state Free e = refl
+free_state Open e = absurd cc
+free_state Full e = absurd cc
+free_state Failed e = absurd cc
+free_state Freed e = absurd cc
+free_state Dead e = absurd cc
+
+-- the row of a line that is Free
+free_row : (rows : List Row) (n : ℕ) → is_free_at rows n ≡ true → (row : Row) × (slice_get rows n ≡ Some row) × (row.state ≡ Free)
+free_row [] n e = absurd cc
+free_row (r ∷ rows) zero e = (r, refl, free_state r.state e)
+free_row (r ∷ rows) (suc n) e = free_row rows n e
+
+pub least_is_free : (t : Table) (rows : List Row) (words : List ℕ) (r : Option ℕ) → rows ≡ t.rows → ((n : ℕ) → has words n ≡ is_free_at rows n) → IfSome r (λ n. has words n ≡ true) → IfSome r (IsFreeLine t)
+least_is_free t rows words None same free found = tt
+least_is_free t rows words (Some n) same free found = free_row t.rows n (ap (λ (xs : List Row). is_free_at xs n) (sym same) ∙ sym (free n) ∙ found)
+
+pub least_is_position : (rows : List Row) (words : List ℕ) (r : Option ℕ) → ((n : ℕ) → has words n ≡ is_free_at rows n)
+    → IfSome r (λ n. has words n ≡ true) → IfSome r (λ n. (m : ℕ) → m < n → has words m ≡ false) → IfNone r ((m : ℕ) → has words m ≡ false) → r ≡ position is_free rows
+least_is_position rows words (Some n) free found least none =
+    let first : (prefix_len (λ r. not (is_free r)) rows ≡ n) × (n < length rows) = first_at rows n (sym (free n) ∙ found) (λ m below. sym (free m) ∙ least m below) in
+    let inside : nat_lt n (length rows) ≡ true = grind (arith, nat_tests, first.1) in
+    sym (ap (λ k. cond (nat_lt k (length rows)) (Some k) None) first.0 ∙ ap (λ b. cond b (Some n) None) inside)
+least_is_position rows words None free found least none =
+    let all : prefix_len (λ r. not (is_free r)) rows ≡ length rows = none_at rows (λ m. sym (free m) ∙ none m) in
+    let past : nat_lt (length rows) (length rows) ≡ false = grind (arith, nat_tests) in
+    sym (ap (λ k. cond (nat_lt k (length rows)) (Some k) None) all ∙ ap (λ b. cond b (Some (length rows)) None) past)
+
+-- ---- one change
+
+pub changes_row : (t : Table) (s : Shape) (rows : List Row) (i : ℕ) (old new : Row) (change : Row → Row) → ◌≡◌ {A = Table} (record { shape = s; rows = rows }) t → slice_get rows i ≡ Some old → new ≡ change old
+    → Changes t (record { shape = s; rows = slice_set rows i new }) i change
+changes_row t s rows i old new change same here new-is = record {
+  shape = ap (λ (u : Table). u.shape) same;
+  lines = length-set rows i new ∙ ap (λ (u : Table). length u.rows) same;
+  rows = λ row h.
+      let rows-same : rows ≡ t.rows = ap (λ (u : Table). u.rows) same in
+      let row-is : old ≡ row = same_Some old row (sym here ∙ ap (λ (xs : List Row). slice_get xs i) rows-same ∙ h) in
+      ap (λ (xs : List Row). slice_set xs i new) rows-same ∙ ap (slice_set t.rows i) (new-is ∙ ap change row-is);
+}
+
+-- the data addresses of a line, if it is Free
+pub len_of_free : (s : Shape) (row : Row) → is_free row ≡ true → free_len s row ≡ data_len s row.width
+unfolding free_len
+len_of_free s row e = ap (λ b. cond b (data_len s row.width) 0) e
+
+pub len_of_other : (s : Shape) (row : Row) → is_free row ≡ false → free_len s row ≡ 0
+unfolding free_len
+len_of_other s row e = ap (λ b. cond b (data_len s row.width) 0) e
+
+abbrev pub loss_to : Row → ℕ → Row
+loss_to row n = record row { live = row.live - 1; taker = Some n }
+
+pub lost_is : (row : Row) (by n : ℕ) → n ≡ latest row.taker by → loss_to row n ≡ lost by row
+lost_is row by n e = ap (loss_to row) e
+
+abbrev pub turn_to : LineState → ℕ → Row → Option ℕ → Row
+turn_to to width row taker = record { state = to; width = width; live = row.live; taker = taker }
+
+pub turned_is : (to : LineState) (width : ℕ) (row : Row) (taker : Option ℕ) → taker ≡ kept to row.taker → turn_to to width row taker ≡ turned to width row
+turned_is to width row taker e = ap (turn_to to width row) e
+
+-- one more row is short
+pub short_more : (s : Shape) (rows : List Row) (k : ℕ) (d : Row) → free_len s (slice_index_or rows k d) < 2 ^ 32 → ((n : ℕ) (row : Row) → n < k → slice_get rows n ≡ Some row → free_len s row < 2 ^ 32)
+    → (n : ℕ) (row : Row) → n < k + 1 → slice_get rows n ≡ Some row → free_len s row < 2 ^ 32
+short_more s rows k d here before n row below h =
+    elim (eqb n k) as (λ b. eqb n k ≡ b → free_len s row < 2 ^ 32) [
+      | true ↦ λ e.
+          let at : slice_get rows k ≡ Some row = ap (slice_get rows) (sym (eqb-true n k e)) ∙ h in
+          let row-is : free_len s (slice_index_or rows k d) ≡ free_len s row = ap (free_len s) (get_or_from_slice_get rows k row d at) in
+          omega arith
+      | false ↦ λ e.
+          let apart : n ≢ k = eqb-false n k e in
+          before n row (omega arith) h
+    ] refl

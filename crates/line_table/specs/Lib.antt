@@ -1,0 +1,5 @@
+pub mod Rows
+pub mod Opening
+pub mod Counting
+pub mod LineSets
+pub mod Inside

@@ -1,0 +1,5 @@
+pub mod Owned
+pub mod Places
+pub mod Stack
+pub mod Inside
+pub mod Entry

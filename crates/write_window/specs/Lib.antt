@@ -1,0 +1,3 @@
+pub mod Entries
+pub mod Window
+pub mod Inside
