@@ -1,18 +1,20 @@
 //! The program `pblk`: runs its words over the system's files and standard output, and ends with the status.
 #![tactic(auto)]
 
-use pblk_cli::pblk_main;
-use pblk_outside::{RealFiles, RealOut};
+use pblk_cli::pblk_program;
+use pblk_outside::{RealFiles, RealOut, Sink, real_words};
 use std::process::ExitCode;
-use std::{env, io};
 
-fn main(rt: HostRuntime) -> io::Result<ExitCode> {
+/// The status for want of memory.
+const MEMORY: u8 = 7;
+
+fn main(rt: HostRuntime) -> ExitCode {
     let alloc = rt.alloc();
-    let mut words = Vec::new(alloc);
-    for word in env::args(&rt)?.skip(1) {
-        words.push(word)?;
-    }
-    let mut files = RealFiles::new(rt.clone()?);
-    let mut out = RealOut::new(rt.clone()?);
-    Ok(ExitCode::from(pblk_main(alloc, &words, &mut files, &mut out)))
+    let mut out = RealOut::new(rt);
+    let Ok(mut files) = RealFiles::new(alloc, rt) else {
+        // The status tells it where the line can't be written.
+        let _ = out.write(b"memory\n");
+        return ExitCode::from(MEMORY);
+    };
+    pblk_program(alloc, real_words(alloc, &rt), &mut files, &mut out)
 }

@@ -1,5 +1,5 @@
 -- What a script of one thread of writes and reads leaves is a run of it.
-use Rattle.std.proofs.Common.{◌≡◌, ℕ, zero, suc, ◌+◌, ◌^◌, ◌<◌, ◌≤◌, ◌==◌, List, [], ◌∷◌, ◌++◌, map, take, drop, length, replicate, slice_get, slice_range, Some, None, refl, sym, ap, subst, ◌∙◌, arith, append_assoc, length-append, add-zero, zero-add, add-one, if◌then◌else◌, lit≤}
+use Rattle.std.proofs.Common.{◌≡◌, ℕ, zero, suc, ◌+◌, ◌^◌, ◌<◌, ◌≤◌, ◌==◌, ◌⊎◌, inl, inr, List, [], ◌∷◌, ◌++◌, map, take, drop, length, replicate, slice_get, slice_range, Some, None, refl, sym, ap, subst, ◌∙◌, arith, append_assoc, length-append, add-zero, zero-add, add-one, if◌then◌else◌, lit≤}
 use Rattle.std.specs.List.{AllByRecursion, filter, filter_map, flat_map, zip, sum_by, count_by}
 use Rattle.std.proofs.lemmas.List.{length-map, map-append, append-nil, take-append-drop, take_at, take-map, take_all}
 use Rattle.std.proofs.lemmas.List.Concat.{flat_map-append}
@@ -9,16 +9,16 @@ use Rattle.std.proofs.Math.Dec.{eqb-zero-suc}
 use Rattle.pblk_model.specs.declared.script.Command.{Command}
 use Rattle.pblk_model.specs.declared.script.Command.TheVariants.{Write, Read, Flush, Post, Await}
 use Rattle.pblk_model.specs.declared.shape.Shape.{Shape}
+use Rattle.pblk_model.specs.Accepted.{IsAccepted}
 use Rattle.pblk_model.specs.Bytes.{zeros}
 use Rattle.pblk_model.specs.History.{after, tag_sector}
-use Rattle.pblk_model.specs.Script.{CommandFits}
+use Rattle.pblk_model.specs.Script.{CommandFits, ScriptFits}
 use Rattle.pblk_model.specs.Text.{HistoryLine, Outcome, Tag, Closed, Transcript}
-use Rattle.pblk_model.specs.Transcript.{PlacedWrite, rows_of, sector_writes, placed_write, answered, placed_by, written_before, lines_of, words_at, outcome_event, Allowed, IsRun}
-use Rattle.pblk_cli.specs.declared.serve.Row.{Row as HistoryRow}
-use Rattle.pblk_cli.specs.Run.{row_of}
-use Rattle.pblk_cli.specs.Line.{writes_of}
-use Rattle.pblk_cli.specs.Small.{small, blank_sectors}
-use Rattle.pblk_cli.specs.Taken.{IsPlain, sectors_written, IsTakenScript}
+use Rattle.pblk_model.specs.Transcript.{PlacedWrite, rows_of, sector_writes, placed_write, answered, placed_by, lines_of, words_at, outcome_event, Moment, own, heard, now, own_lines, contents_at, Allowed, IsRun}
+use Rattle.first_line.specs.declared.row.Row.{Row as HistoryRow}
+use Rattle.first_line.specs.Line.{writes_of}
+use Rattle.pblk_cli.specs.Run.{row_of, blank_sectors}
+use Rattle.pblk_cli.specs.Taken.{IsPlain, sectors_written, IsTaken}
 use Rattle.pblk_cli.specs.Serving.{write_rows, command_rows, thread_rows, script_rows, tag_after, tags_after, outcome_to, thread_outcomes, script_outcomes}
 use Rattle.pblk_cli.proofs.ServeSectors.{IsSize, blank_are, after_tags, AreTags, AreTags-after, AreTags-blank, words_read}
 
@@ -95,9 +95,9 @@ seen_rows c cs =
     let n = seen_by cs c in
     take-map row_of n (thread_rows cs) ∙ ap (map row_of) (ap (take n) (rows_split c cs) ∙ take_at (thread_rows (take c cs)) (thread_rows (drop c cs)) n refl)
 
-own_lines : (rows : List HistoryRow) → count_by (λ row. row.thread == 0) (map row_of rows) ≡ length rows
-own_lines [] = refl
-own_lines (row ∷ rows) = omega (arith, sum_by-cons (λ (r : HistoryLine). if r.thread == 0 then 1 else 0) (row_of row) (map row_of rows), own_lines rows)
+own_lines_are : (rows : List HistoryRow) → count_by (λ row. row.thread == 0) (map row_of rows) ≡ length rows
+own_lines_are [] = refl
+own_lines_are (row ∷ rows) = omega (arith, sum_by-cons (λ (r : HistoryLine). if r.thread == 0 then 1 else 0) (row_of row) (map row_of rows), own_lines_are rows)
 
 -- The command at a place, and what it was answered.
 record IsAt (tags : List ℕ) (front : ℕ) (cs : List Command) (c : ℕ) (x : Command × Outcome) : Type 0 where
@@ -190,15 +190,16 @@ length-thread_outcomes tags front [] = refl
 length-thread_outcomes tags front (c ∷ cs) = ap suc (length-thread_outcomes (tags_after tags (command_rows c)) (front + length (command_rows c)) cs)
 
 -- What may become of a command became of it.
-allowed_by : (size : ℕ) (sectors : List (List ℕ)) (script : List (List Command)) (t : Transcript) (seen : ℕ → ℕ → ℕ) (i own before now : ℕ) (tags : List ℕ) (front : ℕ) (command : Command) (outcome : Outcome)
-    → IsPlain command → outcome ≡ outcome_to tags front command → own + length (command_rows command) ≤ lines_of t i now → before ≤ front → front ≤ now
-    → ((lba count : ℕ) → map Tag (slice_range tags lba (lba + count)) ≡ words_at (after sectors (sector_writes size (take front t.history))) lba count)
-    → Allowed size sectors script t seen i own before now command outcome
-allowed_by size sectors script t seen i own before now tags front (Write lba count tag) outcome plain e lines low high words = rw e (omega (arith, lines, length-write_rows lba count tag))
-allowed_by size sectors script t seen i own before now tags front (Read lba count) outcome plain e lines low high words = rw e (low, high, words lba count)
-allowed_by size sectors script t seen i own before now tags front Flush outcome plain e lines low high words = absurd plain
-allowed_by size sectors script t seen i own before now tags front (Post name) outcome plain e lines low high words = absurd plain
-allowed_by size sectors script t seen i own before now tags front (Await name) outcome plain e lines low high words = absurd plain
+allowed_by : (m : Moment) (tags : List ℕ) (front : ℕ) (command : Command) (outcome : Outcome)
+    → IsPlain command → outcome ≡ outcome_to tags front command → own_lines m (heard m) ≡ own m → own m + length (command_rows command) ≤ own_lines m (now m)
+    → heard m ≤ front → front ≤ now m
+    → ((lba count : ℕ) → map Tag (slice_range tags lba (lba + count)) ≡ words_at (contents_at m front) lba count)
+    → Allowed m command outcome
+allowed_by m tags front (Write lba count tag) outcome plain e earlier lines low high words = rw e (earlier, omega (arith, lines, length-write_rows lba count tag))
+allowed_by m tags front (Read lba count) outcome plain e earlier lines low high words = rw e (low, high, words lba count)
+allowed_by m tags front Flush outcome plain e earlier lines low high words = absurd plain
+allowed_by m tags front (Post name) outcome plain e earlier lines low high words = absurd plain
+allowed_by m tags front (Await name) outcome plain e earlier lines low high words = absurd plain
 
 -- a run with this history and these outcomes, of which all is kept
 abbrev pub transcript_for : List HistoryRow → List (List Outcome) → Transcript
@@ -221,24 +222,28 @@ module _ (size capacity : ℕ) (s : IsSize size) (cs : List Command) (plain : Al
   contents_are : (c : ℕ) → after before (sector_writes size (take (seen_by cs c) t.history)) ≡ map (tag_sector size) (tags_after blank (thread_rows (take c cs)))
   contents_are c = rw (blank_are size capacity s, seen_rows c cs) (after_tags size blank (thread_rows (take c cs)))
 
-  allowed_first : (c : ℕ) (x : Command × Outcome) → slice_get (zip cs (thread_outcomes blank 0 cs)) c ≡ Some x
-      → Allowed size before (cs ∷ []) t (λ i c. seen_by cs c) 0 (written_before (cs ∷ []) t 0 c) (seen_by cs c) (seen_by cs (c + 1)) x.0 x.1
+  abbrev moment : ℕ → ℕ → Moment
+  moment i c = record { size = size; sectors = before; script = cs ∷ []; transcript = t; seen = λ i c. seen_by cs c; thread = i; command = c }
+
+  lines_are : (c : ℕ) → lines_of t 0 (seen_by cs c) ≡ seen_by cs c
+  lines_are c = ap (count_by (λ (row : HistoryLine). row.thread == 0)) (seen_rows c cs) ∙ own_lines_are (thread_rows (take c cs))
+
+  allowed_first : (c : ℕ) (x : Command × Outcome) → slice_get (zip cs (thread_outcomes blank 0 cs)) c ≡ Some x → Allowed (moment 0 c) x.0 x.1
   allowed_first c x e =
       let place = is_at blank 0 cs c x e in
-      let own = own_written blank 0 cs c in
-      let lines : lines_of t 0 (seen_by cs (suc c)) ≡ seen_by cs (suc c) = ap (count_by (λ (row : HistoryLine). row.thread == 0)) (seen_rows (suc c) cs) ∙ own_lines (thread_rows (take (suc c) cs)) in
+      let written = own_written blank 0 cs c in
+      let lines = lines_are (suc c) in
       let longer = ap length place.more ∙ length-append (thread_rows (take c cs)) (command_rows x.0) in
-      rw add-one (allowed_by size before (cs ∷ []) t (λ i c. seen_by cs c) 0 (written_before (cs ∷ []) t 0 c) (seen_by cs c) (seen_by cs (suc c))
-      (tags_after blank (thread_rows (take c cs))) (seen_by cs c) x.0 x.1
+      allowed_by (moment 0 c) (tags_after blank (thread_rows (take c cs))) (seen_by cs c) x.0 x.1
       (holds_at IsPlain cs (thread_outcomes blank 0 cs) c x plain e)
       (rw zero-add at place.answered)
-      (omega (arith, own, lines, longer))
+      (lines_are c ∙ sym written)
+      (rw add-one (omega (arith, written, lines, longer)))
       (omega arith)
-      (seen_rising c cs)
-      (λ lba count. rw (contents_are c) (words_read size (tags_after blank (thread_rows (take c cs))) lba count s (tags_fit c))))
+      (rw add-one (seen_rising c cs))
+      (λ lba count. rw (contents_are c) (words_read size (tags_after blank (thread_rows (take c cs))) lba count s (tags_fit c)))
 
-  allowed_each : (i c : ℕ) (x : Command × Outcome) → slice_get (answered (cs ∷ []) t i) c ≡ Some x
-      → Allowed size before (cs ∷ []) t (λ i c. seen_by cs c) i (written_before (cs ∷ []) t i c) (seen_by cs c) (seen_by cs (c + 1)) x.0 x.1
+  allowed_each : (i c : ℕ) (x : Command × Outcome) → slice_get (answered (cs ∷ []) t i) c ≡ Some x → Allowed (moment i c) x.0 x.1
   allowed_each zero c x e = allowed_first c x e
   allowed_each (suc i) c x e = absurd (cc)
 
@@ -281,22 +286,28 @@ empty_run size before = record {
   kept = refl;
 }
 
-writes_are : (shape : Shape) (rows : List HistoryRow) → writes_of shape rows ≡ sector_writes shape.sector (map row_of rows)
+pub writes_are : (shape : Shape) (rows : List HistoryRow) → writes_of shape.sector rows ≡ sector_writes shape.sector (map row_of rows)
 writes_are shape [] = refl
 writes_are shape (row ∷ rows) = ap (λ writes. record { lba = row.lba; sector = tag_sector shape.sector row.tag } ∷ writes) (writes_are shape rows)
 
-pub script_run : (script : List (List Command)) (rows : List HistoryRow) (outcomes : List (List Outcome)) → IsTakenScript 64 script → rows ≡ script_rows script → outcomes ≡ script_outcomes (replicate 64 0) 0 script
-    → IsRun 512 script (blank_sectors small) (transcript_for rows outcomes) (after (blank_sectors small) (writes_of small rows))
-script_run [] rows outcomes taken a b = rw (a, b) (empty_run 512 (blank_sectors small))
-script_run (cs ∷ []) rows outcomes taken a b =
-    let size : IsSize 512 = record { some = lit≤ tt; whole = refl } in
-    rw (a, b, append-nil (thread_rows cs), writes_are small (thread_rows cs)) (thread_run 512 64 size cs taken.plain.0 taken.fits.each.0)
-script_run (cs ∷ (ds ∷ script)) rows outcomes taken a b = absurd (omega (arith, taken.one))
+-- the sizes of sectors
+size_is : (size : ℕ) → (size ≡ 512) ⊎ (size ≡ 4096) → IsSize size
+size_is size (inl e) = rw e (record { some = lit≤ tt; whole = refl })
+size_is size (inr e) = rw e (record { some = lit≤ tt; whole = refl })
+
+pub script_run : (shape : Shape) (script : List (List Command)) (rows : List HistoryRow) (outcomes : List (List Outcome)) → IsAccepted shape → IsTaken shape script → ScriptFits shape.capacity script
+    → rows ≡ script_rows script → outcomes ≡ script_outcomes (replicate shape.capacity 0) 0 script
+    → IsRun shape.sector script (blank_sectors shape) (transcript_for rows outcomes) (after (blank_sectors shape) (writes_of shape.sector rows))
+script_run shape [] rows outcomes accepted taken fits a b = rw (a, b) (empty_run shape.sector (blank_sectors shape))
+script_run shape (cs ∷ []) rows outcomes accepted taken fits a b =
+    let size = size_is shape.sector accepted.target.sector in
+    rw (a, b, append-nil (thread_rows cs), writes_are shape (thread_rows cs)) (thread_run shape.sector shape.capacity size cs taken.plain.0 fits.each.0)
+script_run shape (cs ∷ (ds ∷ script)) rows outcomes accepted taken fits a b = absurd (omega (arith, taken.one))
 
 -- What a script leaves after no lines.
 pub rows_are : (rows start : List HistoryRow) (script threads : List (List Command)) → rows ≡ start ++ script_rows threads → start ≡ [] → threads ≡ script → rows ≡ script_rows script
 rows_are rows start script threads e a b = rw (← b) (rw a at e)
 
-pub outcomes_are : (outcomes : List (List Outcome)) (tags : List ℕ) (start : List HistoryRow) (script threads : List (List Command)) → outcomes ≡ script_outcomes tags (length start) threads → tags ≡ replicate 64 0 → start ≡ [] → threads ≡ script
-    → outcomes ≡ script_outcomes (replicate 64 0) 0 script
-outcomes_are outcomes tags start script threads e a b d = rw (← d) (rw (a, b) at e)
+pub outcomes_are : (outcomes : List (List Outcome)) (tags : List ℕ) (n : ℕ) (start : List HistoryRow) (script threads : List (List Command)) → outcomes ≡ script_outcomes tags (length start) threads → tags ≡ replicate n 0 → start ≡ [] → threads ≡ script
+    → outcomes ≡ script_outcomes (replicate n 0) 0 script
+outcomes_are outcomes tags n start script threads e a b d = rw (← d) (rw (a, b) at e)

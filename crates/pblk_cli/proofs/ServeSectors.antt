@@ -10,7 +10,7 @@ use Rattle.pblk_model.specs.Bytes.{le64, zeros, number_at}
 use Rattle.pblk_model.specs.History.{after, tag_sector}
 use Rattle.pblk_model.specs.Text.{Tag, word_of}
 use Rattle.pblk_model.specs.Transcript.{sector_writes, words_at}
-use Rattle.pblk_cli.specs.declared.serve.Row.{Row}
+use Rattle.first_line.specs.declared.row.Row.{Row}
 use Rattle.pblk_cli.specs.Run.{row_of}
 use Rattle.pblk_cli.specs.Serving.{tags_after}
 

@@ -1,7 +1,7 @@
 -- A step of each loop that runs a script.
 use Rattle.std.proofs.Common.{◌≡◌, ℕ, suc, ◌+◌, ◌-◌, ◌<◌, List, [], ◌∷◌, ◌++◌, length, refl, sym, ◌∙◌, append_assoc, arith}
 use Rattle.std.proofs.lemmas.List.Sums.{fold-append}
-use Rattle.pblk_cli.specs.declared.serve.Row.{Row}
+use Rattle.first_line.specs.declared.row.Row.{Row}
 use Rattle.pblk_model.specs.declared.script.Command.{Command}
 use Rattle.pblk_model.specs.Text.{Outcome}
 use Rattle.pblk_cli.specs.Serving.{write_rows, command_rows, thread_rows, tag_after, tags_after, outcome_to, thread_outcomes, script_outcomes}

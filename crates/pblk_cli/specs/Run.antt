@@ -1,9 +1,11 @@
 -- What a run in memory stands for: a transcript.
-use Rattle.std.specs.Prelude.{map, length, None}
-use Rattle.pblk_cli.specs.declared.serve.Row.{Row as HistoryRow}
+use Rattle.std.specs.Prelude.{ℕ, List, map, length, replicate, None}
+use Rattle.first_line.specs.declared.row.Row.{Row as HistoryRow}
 use Rattle.pblk_cli.specs.declared.serve.Answer.{Answer}
 use Rattle.pblk_cli.specs.declared.serve.Answer.TheVariants as answers
 use Rattle.pblk_cli.specs.declared.serve.Run.{Run}
+use Rattle.pblk_model.specs.declared.shape.Shape.{Shape}
+use Rattle.pblk_model.specs.Bytes.{zeros}
 use Rattle.pblk_model.specs.Text.{HistoryLine, Outcome, Silent, Words, Tag, Closed, Transcript}
 
 -- a line of the history, which the one thread wrote
@@ -22,3 +24,7 @@ transcript_of run = record {
   closing = Closed;
   kept = length run.rows.items;
 }
+
+-- the user sectors of a target on which nothing is written
+abbrev pub blank_sectors : Shape → List (List ℕ)
+blank_sectors s = replicate s.capacity (zeros s.sector)

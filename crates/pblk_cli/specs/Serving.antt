@@ -1,7 +1,7 @@
 -- What a script of writes and reads alone leaves, thread after thread, as functions of lists.
 use Rattle.std.specs.Prelude.{ℕ, ◌+◌, List, [], ◌∷◌, map, length, slice_set, slice_range}
 use Rattle.std.specs.List.{fold, flat_map, range_with_len}
-use Rattle.pblk_cli.specs.declared.serve.Row.{Row}
+use Rattle.first_line.specs.declared.row.Row.{Row}
 use Rattle.pblk_model.specs.declared.script.Command.{Command}
 use Rattle.pblk_model.specs.declared.script.Command.TheVariants.{Write, Read, Flush, Post, Await}
 use Rattle.pblk_model.specs.Text.{Outcome, Silent, Words, Tag}

@@ -1,24 +1,16 @@
-//! The program behind the command `pblk`: it reads its words and files, runs a script on the drive of an image, stores
-//! the image and prints the transcript.
+//! The program behind the command `pblk`: it reads its words, makes images (`create`), tells their numbers (`geometry`), and
+//! runs scripts on them (`run`).
 //!
-//! So far it takes the words `run IMAGE SCRIPT`, the blank image of the small drive, and scripts of one thread that
-//! writes at most 36 sectors and reads.
+//! So far `run` takes images whose chunks are all Free, and scripts of one thread that writes and reads.
 #![tactic(auto)]
 
-mod bytes;
-mod held;
-mod image;
-mod line;
+mod create;
+mod geometry;
 mod main_call;
-mod number;
 mod refusal;
-mod script;
+mod run;
 mod serve;
-mod small;
-mod stripes;
-#[cfg(test)]
-mod tests;
+mod taken;
 mod transcript;
-mod words;
 
-pub use main_call::pblk_main;
+pub use main_call::{pblk_main, pblk_program};

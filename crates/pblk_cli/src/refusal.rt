@@ -1,129 +1,90 @@
-//! Why a run is refused.
+//! Why a command is refused, and what a call tells at its end.
 
-ghost use Rattle.std.specs.Prelude.{◌≡◌, ◌++◌, [], ◌∷◌, IsTrue};
+ghost use Rattle.std.specs.Prelude.{◌≡◌, ◌≤◌};
 ghost use Rattle.pblk_cli.specs.declared.refusal.Refusal.TheVariants.{Memory};
-ghost use Rattle.pblk_cli.specs.Refusal.{name_of, status_of, line_of};
-ghost use Rattle.pblk_cli.specs.Status.{Says, SaysLine, SaysRefusal};
+ghost use Rattle.pblk_cli.specs.Endings.{reason_of};
+ghost use Rattle.pblk_cli.specs.Telling.{Finishes, Gives, Refuses, Tells, status_of};
 
-use crate::words::RunWords;
-use pblk_outside::{FileErr, Sink, SinkErr};
+use command_text::{tell, tell_failed, tell_image, tell_memory, tell_missing, tell_script};
+use pblk_model::{ImageErr, ScriptErr};
+use pblk_outside::{Sink, SinkErr};
 use std::alloc::{AllocError, AllocFailed};
 
-/// A file of a run.
-#[derive(Clone, Copy, Debug, PartialEq, Eq)]
-pub(crate) enum Which {
-    Image,
-    Script,
-}
-
-/// Why a run is refused.
-#[derive(Clone, Copy, Debug, PartialEq, Eq)]
-pub(crate) enum Refusal {
-    /// The script is none that is taken.
-    Script,
-    /// The image isn't the blank one.
-    Image,
-    /// A file could not be read or written.
-    Failed(Which),
-    /// A file isn't there.
-    Missing(Which),
+/// Why a command is refused.
+#[derive(Clone, Copy, Debug)]
+pub(crate) enum Refusal<'a> {
+    /// The image, or what it is to be made of, is refused.
+    Image(ImageErr),
+    /// The image isn't one that `run` takes so far.
+    ImageUnbuilt,
+    /// The script is refused.
+    Script(ScriptErr),
+    /// The script isn't one that `run` takes so far.
+    ScriptUnbuilt,
+    /// The file of this name could not be read or written.
+    Failed(&'a str),
+    /// The file of this name isn't there.
+    Missing(&'a str),
     /// There was no memory.
     Memory,
 }
 
-impl From<AllocError> for Refusal {
+impl From<AllocError> for Refusal<'_> {
     ghost from_gives = { λ _ refusal. refusal ≡ Memory };
 
-    fn from(_e: AllocError) -> Refusal {
+    fn from(_e: AllocError) -> Self {
         Refusal::Memory
     }
 }
 
-impl<T: Drop> From<AllocFailed<T>> for Refusal {
+impl<T: Drop> From<AllocFailed<T>> for Refusal<'_> {
     ghost from_gives = { λ _ refusal. refusal ≡ Memory };
 
-    fn from(_e: AllocFailed<T>) -> Refusal {
+    fn from(_e: AllocFailed<T>) -> Self {
         Refusal::Memory
     }
 }
 
-impl Refusal {
-    /// The refusal of a file that could not be read.
-    pub(crate) fn of_file(error: FileErr, which: Which) -> Refusal
-        ensures failed { error ≡ FileErr.Failed → result ≡ Refusal.Failed which }
-        ensures missing { error ≡ FileErr.Missing → result ≡ Refusal.Missing which }
-        ensures memory { error ≡ FileErr.Memory → result ≡ Refusal.Memory }
-    {
-        match error {
-            FileErr::Failed => Refusal::Failed(which),
-            FileErr::Missing => Refusal::Missing(which),
-            FileErr::Memory => Refusal::Memory,
-        }
-    }
-
-    /// The status that the program ends with.
-    pub(crate) fn status(self) -> u8
-        ensures { result ≡ status_of self }
+impl Refusal<'_> {
+    // The status that the program ends with.
+    fn status(self) -> u8
+        ensures { result ≡ status_of (reason_of self.entry) }
     {
         match self {
-            Refusal::Script => 2,
-            Refusal::Image => 3,
+            Refusal::Script(_) | Refusal::ScriptUnbuilt => 2,
+            Refusal::Image(_) | Refusal::ImageUnbuilt => 3,
             Refusal::Failed(_) | Refusal::Missing(_) => 4,
             Refusal::Memory => 7,
         }
     }
 
-    /// Writes the line of this refusal. Whether that succeeds changes nothing.
-    pub(crate) fn tell<O: Sink>(self, names: RunWords<'_>, out: &mut O)
-        ensures refusal { IsTrue (O.tells out.old) → SaysRefusal (status_of self) names.entry.image.now names.entry.script.now (O.taken out.old) (O.taken out.new) (O.faults out.old) (O.faults out.new) }
-        ensures line { IsTrue (O.tells out.old) → SaysLine (line_of self names.entry.image.now names.entry.script.now) (O.taken out.old) (O.taken out.new) (O.faults out.old) (O.faults out.new) }
+    /// Writes the line of this refusal, and answers its status. Whether the line could be written changes nothing.
+    pub(crate) fn refuse<O: Sink>(self, out: &mut O) -> u8
+        ensures tells { Tells (Refuses (reason_of self.entry)) result (O.view out.old) (O.view out.new) }
+        ensures told { (O.view out.new).told ≡ (O.view out.old).told }
+        ensures never_falls { (O.view out.old).faults ≤ (O.view out.new).faults }
     {
         match self {
-            Refusal::Script => tell_line(out, b"script Unbuilt\n"),
-            Refusal::Image => tell_line(out, b"image Unbuilt\n"),
-            Refusal::Failed(which) => tell_file(out, b"files Failed ", name(names, which)),
-            Refusal::Missing(which) => tell_file(out, b"files Missing ", name(names, which)),
-            Refusal::Memory => tell_line(out, b"memory\n"),
+            Refusal::Image(e) => tell_image(out, &e),
+            Refusal::ImageUnbuilt => tell(out, &[b"image Unbuilt\n"]),
+            Refusal::Script(e) => tell_script(out, &e),
+            Refusal::ScriptUnbuilt => tell(out, &[b"script Unbuilt\n"]),
+            Refusal::Failed(name) => tell_failed(out, name),
+            Refusal::Missing(name) => tell_missing(out, name),
+            Refusal::Memory => tell_memory(out),
         }
+        self.status()
     }
 }
 
-// The name of a file of the run.
-fn name<'a>(names: RunWords<'a>, which: Which) -> &'a str
-    ensures { result.now ≡ name_of which names.entry.image.now names.entry.script.now }
+/// Writes the text of a command that did its work: the status is 0, or 8 where the output failed.
+pub(crate) fn finish<O: Sink>(text: &str, out: &mut O) -> u8
+    ensures tells { Tells (Gives text.now) result (O.view out.old) (O.view out.new) }
+    ensures told { (O.view out.new).told ≡ (O.view out.old).told }
+    ensures never_falls { (O.view out.old).faults ≤ (O.view out.new).faults }
 {
-    match which {
-        Which::Image => names.image,
-        Which::Script => names.script,
-    }
-}
-
-/// Writes a line. Whether that succeeds changes nothing.
-pub(crate) fn tell_line<O: Sink>(out: &mut O, line: &[u8])
-    ensures { IsTrue (O.tells out.old) → Says line.now (O.taken out.old) (O.taken out.new) (O.faults out.old) (O.faults out.new) }
-{
-    match out.write(line) {
-        Ok(()) => {}
-        Err(SinkErr::Failed) => {}
-    }
-}
-
-// Writes the line on a file, up to the first piece that isn't taken.
-fn tell_file<O: Sink>(out: &mut O, kind: &[u8], name: &str)
-    ensures { IsTrue (O.tells out.old) → Says (kind.now ++ (name.now ++ 10 ∷ [])) (O.taken out.old) (O.taken out.new) (O.faults out.old) (O.faults out.new) }
-{
-    match out.write(kind) {
-        Ok(()) => tell_name(out, name),
-        Err(SinkErr::Failed) => {}
-    }
-}
-
-// Writes a name, and the end of its line.
-fn tell_name<O: Sink>(out: &mut O, name: &str)
-    ensures { IsTrue (O.tells out.old) → Says (name.now ++ 10 ∷ []) (O.taken out.old) (O.taken out.new) (O.faults out.old) (O.faults out.new) }
-{
-    match out.write(name.as_bytes()) {
-        Ok(()) => tell_line(out, b"\n"),
-        Err(SinkErr::Failed) => {}
+    match out.write(text.as_bytes()) {
+        Ok(()) => 0,
+        Err(SinkErr::Failed) => 8,
     }
 }

@@ -2,25 +2,21 @@
 
 ghost use Rattle.std.specs.Prelude.{◌≡◌, ◌<◌, ◌≤◌, ◌^◌, ◌+◌, ◌++◌, length, map, replicate, slice_range, IfOk, OnOk};
 ghost use Rattle.std.specs.List.{AllByRecursion};
+ghost use Rattle.pblk_model.specs.Accepted.{IsAccepted};
 ghost use Rattle.pblk_model.specs.History.{after};
-ghost use Rattle.pblk_model.specs.Script.{CommandFits};
+ghost use Rattle.pblk_model.specs.LineOrder.{data_len};
+ghost use Rattle.pblk_model.specs.Script.{CommandFits, ScriptFits};
+ghost use Rattle.pblk_model.specs.Shape.{units};
 ghost use Rattle.pblk_model.specs.Text.{Tag, Words};
 ghost use Rattle.pblk_model.specs.Transcript.{IsRun};
-ghost use Rattle.pblk_cli.specs.Small.{small, blank_sectors};
-ghost use Rattle.pblk_cli.specs.Taken.{IsTakenScript, IsPlain};
-ghost use Rattle.pblk_cli.specs.Run.{transcript_of, outcome_of};
-ghost use Rattle.pblk_cli.specs.Line.{writes_of};
+ghost use Rattle.pblk_cli.specs.Taken.{IsTaken, IsPlain};
+ghost use Rattle.pblk_cli.specs.Run.{transcript_of, outcome_of, blank_sectors};
+ghost use Rattle.first_line.specs.Line.{writes_of};
 ghost use Rattle.pblk_cli.specs.Serving.{write_rows, command_rows, thread_rows, script_rows, tags_after, outcome_to, thread_outcomes, script_outcomes};
 
+use first_line::Row;
 use pblk_model::{Command, Commands, Script, Shape};
 use std::alloc::{AllocError, Global};
-
-/// A line of the history: a sector, and the tag that it was written with.
-#[derive(Clone, Copy, Debug, PartialEq, Eq)]
-pub(crate) struct Row {
-    pub(crate) lba: u64,
-    pub(crate) tag: u64,
-}
 
 /// What a command was answered.
 #[derive(Debug, Drop)]
@@ -40,12 +36,13 @@ pub(crate) struct Run {
 
 /// Runs the threads of a script, one after another, on a target whose sectors are zeros.
 pub(crate) fn serve(alloc: Global, script: &Script, shape: &Shape) -> Result<Run, AllocError>
-    requires small { shape.now ≡ small }
-    requires taken { IsTakenScript shape.now.capacity script.now }
-    ensures run { IfOk result (λ run. IsRun small.sector script.now (blank_sectors small) (transcript_of run) (after (blank_sectors small) (writes_of small run.rows.items))) }
-    ensures few { IfOk result (λ run. length run.rows.items ≤ 36) }
-    ensures within { IfOk result (λ run. AllByRecursion (λ row. row.lba < small.capacity) run.rows.items) }
-    ensures tags { IfOk result (λ run. AllByRecursion (λ row. row.tag < 2 ^ 64) run.rows.items) }
+    requires accepted { IsAccepted shape.now }
+    requires taken { IsTaken shape.now script.now }
+    requires fits { ScriptFits shape.now.capacity script.now }
+    ensures run { IfOk result (λ run. let before = blank_sectors shape.now in
+        IsRun shape.now.sector script.now before (transcript_of run) (after before (writes_of shape.now.sector run.rows.items))) }
+    ensures few { IfOk result (λ run. length run.rows.items + shape.now.ws_opt ≤ data_len shape.now (units shape.now)) }
+    ensures within { IfOk result (λ run. AllByRecursion (λ row. row.lba < shape.now.capacity) run.rows.items) }
 {
     let mut latest = zero_tags(alloc, shape.capacity)?;
     let mut rows = Vec::new(alloc);

@@ -5,7 +5,8 @@ ghost use Rattle.std.specs.List.{enumerate_from, flat_map};
 ghost use Rattle.pblk_model.specs.Text.{text_of, history_line, outcome_line, thread_text, word_text, Tag, Words};
 ghost use Rattle.pblk_cli.specs.Run.{transcript_of, row_of, outcome_of};
 
-use crate::serve::{Answer, Row, Run};
+use crate::serve::{Answer, Run};
+use first_line::Row;
 use std::alloc::{AllocError, Global};
 
 /// The text of a run's transcript.

@@ -1,0 +1,4 @@
+pub mod Line
+pub mod Columns
+pub mod Stored
+pub mod Striped

@@ -1,7 +1,0 @@
-use Rattle.std.proofs.Common.{◌≡◌, ◌++◌, take}
-use Rattle.std.specs.List.{flat_map}
-use Rattle.pblk_model.specs.ImageFile.{block_bytes}
-use Rattle.pblk_cli.proofs.image.put_blocks.Given as goal
-
-abbrev pub invariant-loop-block : goal.invariant-loop-block
-invariant-loop-block l = l.out.items ≡ l.initial.out.items ++ flat_map block_bytes (take l.block l.chunk.chunk.blocks)

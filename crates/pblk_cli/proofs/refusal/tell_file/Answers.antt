@@ -1,8 +1,0 @@
-use Rattle.std.proofs.Common.{subst, sym}
-use Rattle.std.specs.Prelude.{IsTrue}
-use Rattle.pblk_cli.proofs.Saying.{says_then}
-use Rattle.pblk_cli.proofs.refusal.tell_file.Goals as goal
-
-pub returns-in-Ok : goal.returns-in-Ok
-returns-in-Ok g c = λ told. says_then c.args.kind.now _ _ (g.O.Sink.taken c.write.new.self) _ _ _ _ (c.in-Ok.ensures.took told) c.in-Ok.ensures.calm
-    (c.tell_name.ensures (subst (λ b. IsTrue b) (sym c.in-Ok.ensures.same_tells) told))

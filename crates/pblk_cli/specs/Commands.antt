@@ -1,0 +1,130 @@
+-- What each command comes to, by the files before and after: a text, or a refusal with its cause. No other ending is left.
+use Rattle.std.specs.Prelude.{ℕ, ◌≡◌, ◌⊎◌, List, map, length, Some, None, Err}
+use Rattle.pblk_outside.specs.Files.{FilesView}
+use Rattle.pblk_model.specs.declared.script.Command.{Command}
+use Rattle.pblk_model.specs.CommandLine.{CommandLine, Create, Geometry, Run, CreateNumbers, IsCommandLine}
+use Rattle.pblk_model.specs.CommandText.{created_refusal, created_drive, created_text, geometry_text, words_line}
+use Rattle.pblk_model.specs.Contents.{contents, end}
+use Rattle.pblk_model.specs.ImageFile.{Drive, IsImage, image_bytes, image_of, image_refusal, shape_of}
+use Rattle.pblk_model.specs.ScriptText.{IsScript, read_script}
+use Rattle.pblk_model.specs.Sealed.{IsSealed}
+use Rattle.pblk_model.specs.Transcript.{TranscriptRelation, sector_writes}
+use Rattle.first_line.specs.Stored.{AreFree, HoldsHistory}
+use Rattle.pblk_cli.specs.Complete.{IsComplete}
+use Rattle.pblk_cli.specs.Taken.{IsTaken}
+use Rattle.command_text.specs.Says.{Says}
+use Rattle.pblk_cli.specs.Telling.{Call, Image, ImageUnbuilt, Script, ScriptUnbuilt, Failed, Missing, Memory, Ending, Gives, Refuses, Tells, Holds, IsThere, AreUntouched, Stores, FailsReading, IsMissing, FailsWriting}
+
+-- Creating.
+
+abbrev pub CreateComesTo : List ℕ → CreateNumbers → Ending → FilesView → FilesView → Type 0
+-- the image was made and stored
+CreateComesTo image n (Gives text) old new = (created_refusal n ≡ None) × Stores image (image_bytes (created_drive n)) old new
+    × (text ≡ created_text (length (image_bytes (created_drive n))))
+CreateComesTo image n (Refuses (Image e)) old new = (created_refusal n ≡ Some e) × AreUntouched old new
+CreateComesTo image n (Refuses (Failed name)) old new = (name ≡ image) × (created_refusal n ≡ None) × FailsWriting image old new
+CreateComesTo image n (Refuses Memory) old new = AreUntouched old new
+CreateComesTo image n ending old new = ⊥
+
+-- Geometries.
+
+-- the file of an image was read, and it is an image of this drive
+pub record IsDriveOf (image : List ℕ) (files : FilesView) (d : Drive) : Type 0 where
+  pub bytes : List ℕ
+  pub read : Holds image bytes files
+  pub is : IsImage bytes d
+
+abbrev pub GeometryComesTo : List ℕ → Ending → FilesView → FilesView → Type 0
+GeometryComesTo image (Gives text) old new = (d : Drive) × IsDriveOf image old d × AreUntouched old new × (text ≡ geometry_text d)
+GeometryComesTo image (Refuses (Image e)) old new = (bytes : List ℕ) × Holds image bytes old × (image_refusal bytes ≡ Some e) × AreUntouched old new
+GeometryComesTo image (Refuses (Failed name)) old new = (name ≡ image) × FailsReading image old new
+GeometryComesTo image (Refuses (Missing name)) old new = (name ≡ image) × IsMissing image old new
+GeometryComesTo image (Refuses Memory) old new = IsThere image old × AreUntouched old new
+GeometryComesTo image ending old new = ⊥
+
+-- Runs.
+
+-- what a run stands on: the drive of the image, and the script on it
+pub record RunInput (image script : List ℕ) (files : FilesView) : Type 0 where
+  pub drive : Drive
+  pub drive_is : IsDriveOf image files drive
+  pub all_free : AreFree drive
+  pub script_bytes : List ℕ
+  pub script_read : Holds script script_bytes files
+  pub commands : List (List Command)
+  pub commands_are : IsScript drive.capacity script_bytes commands
+  pub taken : IsTaken (shape_of drive) commands
+
+-- the geometry, the settings and the wear indices of one drive are those of another
+pub record SameNumbers (old new : Drive) : Type 0 where
+  pub geometry : new.geometry ≡ old.geometry
+  pub sector : new.sector ≡ old.sector
+  pub capacity : new.capacity ≡ old.capacity
+  pub ring : new.ring ≡ old.ring
+  pub wear : map (map (λ k. k.wear)) new.units ≡ map (map (λ k. k.wear)) old.units
+
+-- A run of these commands from one drive to another, with this text.
+pub record IsRunBetween (found : Drive) (commands : List (List Command)) (text : List ℕ) (left : Drive) : Type 0 where
+  -- the transcript relation between the script, the contents before, the text and the contents after
+  pub relation : TranscriptRelation found.sector commands (contents (image_of found)) text (contents (image_of left))
+  -- no line tells of a fault of the drive or of want of room: every write stands in the history, and all of it is kept
+  pub complete : IsComplete relation.0
+  -- the geometry, the settings and the wear indices are as they were
+  pub numbers : SameNumbers found left
+  -- without a line of the history nothing is written; else it is in line 0, and no other chunk is written
+  pub line : HoldsHistory found left (sector_writes found.sector relation.0.history)
+  pub sealed : IsSealed (image_of left)
+  pub end_is : end (image_of left) ≡ relation.0.kept
+  -- its one spelling is an image of it
+  pub spelled : IsImage (image_bytes left) left
+
+-- a run was made, and the drive that it left is stored under the image's name, in its one spelling
+pub record RunMade (image script text : List ℕ) (old new : FilesView) : Type 0 where
+  pub input : RunInput image script old
+  pub left : Drive
+  pub run : IsRunBetween input.drive input.commands text left
+  pub stored : Stores image (image_bytes left) old new
+
+abbrev pub RunComesTo : List ℕ → List ℕ → Ending → FilesView → FilesView → Type 0
+RunComesTo image script (Gives text) old new = RunMade image script text old new
+-- both files were read, and the image is refused, or isn't one that is taken so far
+RunComesTo image script (Refuses (Image e)) old new = (bytes : List ℕ) × Holds image bytes old × IsThere script old × (image_refusal bytes ≡ Some e) × AreUntouched old new
+RunComesTo image script (Refuses ImageUnbuilt) old new = (d : Drive) × IsDriveOf image old d × IsThere script old × (¬ AreFree d) × AreUntouched old new
+-- the image is taken, and the script is refused, or isn't one that is taken so far
+RunComesTo image script (Refuses (Script e)) old new = (d : Drive) × IsDriveOf image old d × AreFree d
+    × (bytes : List ℕ) × Holds script bytes old × (read_script d.capacity bytes ≡ Err e) × AreUntouched old new
+RunComesTo image script (Refuses ScriptUnbuilt) old new = (d : Drive) × IsDriveOf image old d × AreFree d
+    × (bytes : List ℕ) × Holds script bytes old × (commands : List (List Command)) × IsScript d.capacity bytes commands × (¬ IsTaken (shape_of d) commands) × AreUntouched old new
+-- the image, or, where it is there, the script could not be read; or all was made, and the image could not be written
+RunComesTo image script (Refuses (Failed name)) old new = ((name ≡ image) × FailsReading image old new)
+    ⊎ ((name ≡ script) × IsThere image old × FailsReading script old new)
+    ⊎ ((name ≡ image) × RunInput image script old × FailsWriting image old new)
+RunComesTo image script (Refuses (Missing name)) old new = ((name ≡ image) × IsMissing image old new)
+    ⊎ ((name ≡ script) × IsThere image old × IsMissing script old new)
+RunComesTo image script (Refuses Memory) old new = IsThere image old × AreUntouched old new
+
+-- The program.
+
+abbrev pub ComesTo : CommandLine → Ending → FilesView → FilesView → Type 0
+ComesTo (Create image numbers) ending old new = CreateComesTo image numbers ending old new
+ComesTo (Geometry image) ending old new = GeometryComesTo image ending old new
+ComesTo (Run image script) ending old new = RunComesTo image script ending old new
+
+-- words that are this command: what it comes to is told
+pub record IsAnswered (words : List (List ℕ)) (c : Call) : Type 0 where
+  pub command : CommandLine
+  pub is : IsCommandLine words command
+  pub ending : Ending
+  pub comes : ComesTo command ending c.files c.files_after
+  pub told : Tells ending c.status c.out c.out_after
+
+-- words that are no command: status 1 and a line, and no file is touched
+pub record IsNoCommand (words : List (List ℕ)) (c : Call) : Type 0 where
+  pub none : (command : CommandLine) → ¬ IsCommandLine words command
+  pub status : c.status ≡ 1
+  pub says : Says words_line c.out c.out_after
+  pub untouched : AreUntouched c.files c.files_after
+
+-- How a call with these words ends.
+abbrev pub CallEnds : List (List ℕ) → Call → Type 0
+CallEnds words c = IsAnswered words c ⊎ IsNoCommand words c

@@ -1,0 +1,18 @@
+-- What the program's own functions answer, as what a command comes to.
+use Rattle.std.specs.Prelude.{Result, Ok, Err, String, string_bytes}
+use Rattle.pblk_cli.specs.declared.refusal.Refusal.{Refusal}
+use Rattle.pblk_cli.specs.declared.refusal.Refusal.TheVariants as refusals
+use Rattle.pblk_cli.specs.Telling.{Reason, Image, ImageUnbuilt, Script, ScriptUnbuilt, Failed, Missing, Memory, Ending, Gives, Refuses}
+
+abbrev pub reason_of : Refusal → Reason
+reason_of (refusals.Image e) = Image e
+reason_of refusals.ImageUnbuilt = ImageUnbuilt
+reason_of (refusals.Script e) = Script e
+reason_of refusals.ScriptUnbuilt = ScriptUnbuilt
+reason_of (refusals.Failed name) = Failed name.now
+reason_of (refusals.Missing name) = Missing name.now
+reason_of refusals.Memory = Memory
+
+abbrev pub ending_of : {Z : Type 0} → Result (String Z) Refusal → Ending
+ending_of (Ok text) = Gives (string_bytes text)
+ending_of (Err refusal) = Refuses (reason_of refusal)

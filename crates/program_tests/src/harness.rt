@@ -1,0 +1,176 @@
+//! Calls of the program: what is there before one, and what is there after it.
+
+use crate::drives::{Edit, Numbers, Row, SMALL, edit, image};
+use pblk_cli::pblk_main;
+use pblk_outside::{MemoryFiles, MemorySink};
+use std::alloc::{AllocError, Global};
+
+/// What a file holds.
+#[derive(Clone, Copy)]
+pub(crate) enum Content<'a> {
+    /// There is no such file.
+    Absent,
+    Text(&'a str),
+    Bytes(&'a [u8]),
+    /// The image of a drive with a history, and bytes put into it at their places.
+    Image(&'a Numbers, &'a [Row], &'a [Edit]),
+    /// The blank image of the small drive with bytes put into it, then cut or filled with zeros to
+    /// a length.
+    Cut(&'a [Edit], usize),
+}
+
+/// The blank image of the small drive.
+pub(crate) const BLANK: Content<'static> = Content::Image(&SMALL, &[], &[]);
+
+/// A call: its words, parted by `|`; the files `image` and `script`; and which calls of the files
+/// and of the output are to fail, counted from 1.
+#[derive(Clone, Copy)]
+pub(crate) struct Asked<'a> {
+    pub(crate) words: &'a str,
+    pub(crate) image: Content<'a>,
+    pub(crate) script: Content<'a>,
+    pub(crate) failing_files: &'a [u64],
+    pub(crate) failing_output: &'a [u64],
+}
+
+impl<'a> Asked<'a> {
+    /// A call where nothing fails.
+    pub(crate) fn calm(words: &'a str, image: Content<'a>, script: Content<'a>) -> Self {
+        Asked {
+            words,
+            image,
+            script,
+            failing_files: &[],
+            failing_output: &[],
+        }
+    }
+
+    /// The same call, where these calls of the files and of the output fail.
+    pub(crate) fn failing(self, files: &'a [u64], output: &'a [u64]) -> Self {
+        Asked {
+            failing_files: files,
+            failing_output: output,
+            ..self
+        }
+    }
+}
+
+/// How a call ended: its status, and what was written, and what the file `image` holds.
+#[derive(Clone, Copy)]
+pub(crate) struct Told<'a> {
+    pub(crate) status: u8,
+    pub(crate) text: &'a str,
+    pub(crate) image: Content<'a>,
+}
+
+/// What of a call's end was otherwise than told.
+#[derive(Clone, Copy, Debug, PartialEq, Eq)]
+pub(crate) enum Wrong {
+    Nothing,
+    Status(u8),
+    Text,
+    Image,
+    /// The script, or the file `other`.
+    OtherFiles,
+}
+
+/// Makes a call, and compares its end with what is told. The script and the file `other` are to be
+/// as they were.
+pub(crate) fn compare(
+    alloc: Global,
+    asked: &Asked<'_>,
+    told: &Told<'_>,
+) -> Result<Wrong, AllocError> {
+    let mut files = MemoryFiles::new(alloc, asked.failing_files)?;
+    put(alloc, &mut files, "image", &asked.image)?;
+    put(alloc, &mut files, "script", &asked.script)?;
+    files.put("other", b"other")?;
+    let mut out = MemorySink::new(alloc, asked.failing_output)?;
+    let words = words_of(alloc, asked.words)?;
+    let status = pblk_main(alloc, &words, &mut files, &mut out);
+    if status != told.status {
+        return Ok(Wrong::Status(status));
+    }
+    if out.taken() != told.text.as_bytes() {
+        return Ok(Wrong::Text);
+    }
+    if !holds(alloc, &files, "image", &told.image)? {
+        return Ok(Wrong::Image);
+    }
+    let script = holds(alloc, &files, "script", &asked.script)?;
+    if !script || files.get("other") != Some(b"other".as_slice()) {
+        return Ok(Wrong::OtherFiles);
+    }
+    Ok(Wrong::Nothing)
+}
+
+/// Makes a call where nothing fails, which is to end with this status and line, and to change no
+/// file.
+pub(crate) fn refuses(
+    alloc: Global,
+    words: &str,
+    image: Content<'_>,
+    script: Content<'_>,
+    end: (u8, &str),
+) -> Result<Wrong, AllocError> {
+    let (status, text) = end;
+    let told = Told {
+        status,
+        text,
+        image,
+    };
+    compare(alloc, &Asked::calm(words, image, script), &told)
+}
+
+/// The words of a line, which are parted by `|`.
+pub(crate) fn words_of(alloc: Global, line: &str) -> Result<Vec<String>, AllocError> {
+    let mut words = Vec::new(alloc);
+    for word in line.split('|') {
+        words.push(String::from_str(alloc, word)?)?;
+    }
+    Ok(words)
+}
+
+// The bytes of a file that is there.
+fn bytes_of(alloc: Global, content: &Content<'_>) -> Result<Option<Vec<u8>>, AllocError> {
+    match content {
+        Content::Absent => Ok(None),
+        Content::Text(text) => Ok(Some(Vec::from_slice(alloc, text.as_bytes())?)),
+        Content::Bytes(bytes) => Ok(Some(Vec::from_slice(alloc, bytes)?)),
+        Content::Image(numbers, history, edits) => {
+            let mut bytes = image(alloc, numbers, history)?;
+            edit(&mut bytes, edits);
+            Ok(Some(bytes))
+        }
+        Content::Cut(edits, length) => {
+            let mut bytes = image(alloc, &SMALL, &[])?;
+            edit(&mut bytes, edits);
+            bytes.resize(*length, 0)?;
+            Ok(Some(bytes))
+        }
+    }
+}
+
+fn put(
+    alloc: Global,
+    files: &mut MemoryFiles,
+    name: &str,
+    content: &Content<'_>,
+) -> Result<(), AllocError> {
+    match bytes_of(alloc, content)? {
+        Some(bytes) => files.put(name, &bytes),
+        None => Ok(()),
+    }
+}
+
+fn holds(
+    alloc: Global,
+    files: &MemoryFiles,
+    name: &str,
+    content: &Content<'_>,
+) -> Result<bool, AllocError> {
+    match bytes_of(alloc, content)? {
+        Some(bytes) => Ok(files.get(name) == Some(bytes.as_slice())),
+        None => Ok(files.get(name).is_none()),
+    }
+}

@@ -1,0 +1,21 @@
+//! Tests of the whole program on its public calls, over files and an output in memory.
+#![tactic(auto)]
+
+#[cfg(test)]
+mod create;
+#[cfg(test)]
+mod drives;
+#[cfg(test)]
+mod failing;
+#[cfg(test)]
+mod geometry;
+#[cfg(test)]
+mod harness;
+#[cfg(test)]
+mod images;
+#[cfg(test)]
+mod run;
+#[cfg(test)]
+mod scripts;
+#[cfg(test)]
+mod words;

@@ -1,0 +1,166 @@
+//! `run`: transcripts, and the images that are stored.
+
+use crate::drives::{Edit, GROUPS, LARGE_SECTORS, Numbers, ONE_UNIT, Row, SMALL};
+use crate::harness::{Asked, Content, Told, Wrong, compare};
+use std::test::Fail;
+
+// A drive, a script on its blank image, the transcript, and the history in the image afterwards.
+type Run = (&'static Numbers, &'static str, &'static str, &'static [Row]);
+
+const SHORT: [Run; 12] = [
+    (&SMALL, "", "kept 0\n", &[]),
+    (&SMALL, "# nothing\n\nthread", "kept 0\n", &[]),
+    (&SMALL, "thread\nr 9 2\n", "r 0 0 0 0 0\nkept 0\n", &[]),
+    (
+        &SMALL,
+        "thread\nw 5 1 17\nr 5 1\n",
+        "h 0 0 5 17\nr 0 1 1 17\nkept 1\n",
+        &[(5, 17)],
+    ),
+    (
+        &SMALL,
+        "thread\nw 3 1 7\nw 3 1 8\nr 3 1\n",
+        "h 0 0 3 7\nh 1 0 3 8\nr 0 2 2 8\nkept 2\n",
+        &[(3, 7), (3, 8)],
+    ),
+    // Reads between writes, at their fronts; the last sector; the greatest tag; a tag of 0.
+    (
+        &SMALL,
+        "thread\nr 62 2\nw 62 2 18446744073709551615\nr 61 3\nw 63 1 0\nr 63 1\n",
+        "h 0 0 62 18446744073709551615\nh 1 0 63 18446744073709551615\nh 2 0 63 0\nr 0 0 0 0 0\nr 0 2 2 0 18446744073709551615 18446744073709551615\nr 0 4 3 0\nkept 3\n",
+        &[(62, u64::MAX), (63, u64::MAX), (63, 0)],
+    ),
+    // Five sectors: a stripe in each unit, and a third whose last three blocks are Pad.
+    (
+        &SMALL,
+        "thread\nw 10 5 258\n",
+        "h 0 0 10 258\nh 1 0 11 258\nh 2 0 12 258\nh 3 0 13 258\nh 4 0 14 258\nkept 5\n",
+        &[(10, 258), (11, 258), (12, 258), (13, 258), (14, 258)],
+    ),
+    // Four sectors: no Pad.
+    (
+        &SMALL,
+        "thread\nw 0 4 1",
+        "h 0 0 0 1\nh 1 0 1 1\nh 2 0 2 1\nh 3 0 3 1\nkept 4\n",
+        &[(0, 1), (1, 1), (2, 1), (3, 1)],
+    ),
+    (
+        &LARGE_SECTORS,
+        "thread\nw 89 1 4294967296\nr 88 2\nw 0 1 3\n",
+        "h 0 0 89 4294967296\nh 1 0 0 3\nr 0 1 1 0 4294967296\nkept 2\n",
+        &[(89, 4_294_967_296), (0, 3)],
+    ),
+    (
+        &GROUPS,
+        "thread\nw 295 2 1\nw 0 3 2\nw 296 1 3\nr 295 2\n",
+        "h 0 0 295 1\nh 1 0 296 1\nh 2 0 0 2\nh 3 0 1 2\nh 4 0 2 2\nh 5 0 296 3\nr 0 3 6 1 3\nkept 6\n",
+        &[(295, 1), (296, 1), (0, 2), (1, 2), (2, 2), (296, 3)],
+    ),
+    (
+        &ONE_UNIT,
+        "thread\nw 0 1 4\nr 0 1\nw 0 1 5\n",
+        "h 0 0 0 4\nh 1 0 0 5\nr 0 1 1 4\nkept 2\n",
+        &[(0, 4), (0, 5)],
+    ),
+    (
+        &ONE_UNIT,
+        "thread\nw 0 1 1\nw 0 1 2\nw 0 1 3\nw 0 1 4\nw 0 1 5\nw 0 1 6\nw 0 1 7\n",
+        "h 0 0 0 1\nh 1 0 0 2\nh 2 0 0 3\nh 3 0 0 4\nh 4 0 0 5\nh 5 0 0 6\nh 6 0 0 7\nkept 7\n",
+        &[(0, 1), (0, 2), (0, 3), (0, 4), (0, 5), (0, 6), (0, 7)],
+    ),
+];
+
+#[test]
+fn scripts_are_run(rt: HostRuntime) -> Result<(), Fail> {
+    for (row, (numbers, script, text, history)) in SHORT.iter().enumerate() {
+        let image = Content::Image(numbers, &[], &[]);
+        let asked = Asked::calm("run|image|script", image, Content::Text(script));
+        let told = Told {
+            status: 0,
+            text,
+            image: Content::Image(numbers, history, &[]),
+        };
+        assert_eq!(rt;
+            compare(rt.alloc(), &asked, &told)?,
+            Wrong::Nothing,
+            "row {row}"
+        );
+    }
+    Ok(())
+}
+
+#[test]
+fn a_line_is_filled_but_for_a_stripe(rt: HostRuntime) -> Result<(), Fail> {
+    let alloc = rt.alloc();
+    let script = "thread\nw 0 16 1\nw 8 16 2\nw 20 4 3\nr 20 5\n";
+    let mut text = String::new(alloc);
+    let mut history: Vec<Row> = Vec::new(alloc);
+    for (first, end, tag) in [(0u64, 16u64, 1u64), (8, 24, 2), (20, 24, 3)] {
+        for lba in first..end {
+            let number = history.len();
+            writeln!(text, "h {number} 0 {lba} {tag}")?;
+            history.push((lba, tag))?;
+        }
+    }
+    text.push_str("r 0 3 36 3 3 3 3 0\nkept 36\n")?;
+    let blank = Content::Image(&SMALL, &[], &[]);
+    let told = Told {
+        status: 0,
+        text: &text,
+        image: Content::Image(&SMALL, &history, &[]),
+    };
+    let asked = Asked::calm("run|image|script", blank, Content::Text(script));
+    assert_eq!(rt; compare(alloc, &asked, &told)?, Wrong::Nothing);
+    Ok(())
+}
+
+// MNR, MCCAP, WIT, MAXOC and MAXOCPU, and the wear indices of two chunks.
+const KEPT: [Edit; 8] = [
+    (33, 7),
+    (48, 1),
+    (51, 255),
+    (64, 3),
+    (172, 4),
+    (176, 2),
+    (4130, 9),
+    (4610, 255),
+];
+
+// The same, and bytes of the geometry and of two descriptors that say nothing.
+const BEFORE: [Edit; 13] = [
+    (33, 7),
+    (48, 1),
+    (51, 255),
+    (64, 3),
+    (172, 4),
+    (176, 2),
+    (4130, 9),
+    (4610, 255),
+    (34, 5),
+    (4127, 5),
+    (4131, 5),
+    (4135, 5),
+    (4611, 5),
+];
+
+#[test]
+fn numbers_are_kept_and_the_rest_is_zeros(rt: HostRuntime) -> Result<(), Fail> {
+    let before = Content::Image(&SMALL, &[], &BEFORE);
+    for (script, text, history) in [
+        ("thread\nr 0 1\n", "r 0 0 0 0\nkept 0\n", [].as_slice()),
+        ("thread\nw 0 1 6\n", "h 0 0 0 6\nkept 1\n", &[(0, 6)]),
+    ] {
+        let told = Told {
+            status: 0,
+            text,
+            image: Content::Image(&SMALL, history, &KEPT),
+        };
+        let asked = Asked::calm("run|image|script", before, Content::Text(script));
+        assert_eq!(rt;
+            compare(rt.alloc(), &asked, &told)?,
+            Wrong::Nothing,
+            "{script}"
+        );
+    }
+    Ok(())
+}

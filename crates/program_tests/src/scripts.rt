@@ -1,0 +1,74 @@
+//! Scripts that `run` refuses, on the blank small drive.
+
+use crate::harness::{BLANK, Content, Wrong, refuses};
+use std::test::Fail;
+
+// Scripts, and why they are refused.
+const REFUSED: [(&str, &str); 28] = [
+    ("x", "script Form 1\n"),
+    ("w 5 1 17\n", "script Form 1\n"),
+    ("\n#\n\nthread\nw 5 1\n", "script Form 5\n"),
+    ("thread\nw  5 1 17\n", "script Form 2\n"),
+    ("thread\nw 05 1 17\n", "script Form 2\n"),
+    ("thread\nr 5 1 \n", "script Form 2\n"),
+    ("thread\r\n", "script Form 1\n"),
+    ("thread\nw 5 1 18446744073709551616\n", "script Form 2\n"),
+    ("thread\npost A\n", "script Form 2\n"),
+    ("thread\npost a\nthread\npost a\n", "script Form 4\n"),
+    ("thread\nw 5 0 17\n", "script Limit 2\n"),
+    ("thread\nr 64 17\n", "script Limit 2\n"),
+    (
+        "thread\nthread\nthread\nthread\nthread\nthread\nthread\nthread\nthread\nthread\nthread\nthread\nthread\nthread\nthread\nthread\nthread\n",
+        "script Limit 17\n",
+    ),
+    ("thread\nw 60 5 1\n", "script Range 2\n"),
+    ("thread\nr 64 1\n", "script Range 2\n"),
+    ("thread\nr 18446744073709551615 16\n", "script Range 2\n"),
+    ("thread\nr 63 1\nr 63 2\nx\n", "script Range 3\n"),
+    ("thread\nawait x\n", "script NeverPosted 2\n"),
+    (
+        "thread\nawait a\npost a\nawait b\n",
+        "script NeverPosted 4\n",
+    ),
+    ("thread\nawait a\npost a\n", "script Stuck 2\n"),
+    (
+        "thread\nawait a\npost b\nthread\nawait b\npost a\n",
+        "script Stuck 2\n",
+    ),
+    (
+        "thread\nf\nthread\npost c\nawait a\npost b\nthread\nawait c\nawait b\npost a\n",
+        "script Stuck 5\n",
+    ),
+    // Scripts that are none that is taken so far.
+    ("thread\nthread\n", "script Unbuilt\n"),
+    ("thread\nw 5 1 17\nr 5 1\nf\n", "script Unbuilt\n"),
+    ("thread\npost a\n", "script Unbuilt\n"),
+    ("thread\npost a\nawait a\n", "script Unbuilt\n"),
+    // 37 sectors, and 16 of 36 in a second thread.
+    (
+        "thread\nw 0 16 1\nw 0 16 1\nw 0 4 1\nw 0 1 1\n",
+        "script Unbuilt\n",
+    ),
+    (
+        "thread\nw 0 16 1\nw 0 4 1\nthread\nw 0 16 1\n",
+        "script Unbuilt\n",
+    ),
+];
+
+#[test]
+fn scripts_are_refused(rt: HostRuntime) -> Result<(), Fail> {
+    for (script, line) in REFUSED {
+        let held = Content::Text(script);
+        let wrong = refuses(rt.alloc(), "run|image|script", BLANK, held, (2, line))?;
+        assert_eq!(rt; wrong, Wrong::Nothing, "{script:?}");
+    }
+    Ok(())
+}
+
+#[test]
+fn an_image_is_no_script(rt: HostRuntime) -> Result<(), Fail> {
+    let end = (2, "script Form 1\n");
+    let wrong = refuses(rt.alloc(), "run|image|image", BLANK, Content::Absent, end)?;
+    assert_eq!(rt; wrong, Wrong::Nothing);
+    Ok(())
+}
