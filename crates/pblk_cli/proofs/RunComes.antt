@@ -16,8 +16,9 @@ use Rattle.pblk_cli.proofs.Reading.{is_there}
 pub refused_comes : (image script found commands : List ℕ) (old new : FilesView) → ReadsFile image found old new → ReadsFile script commands old new
     → (q : Refusal) → RefusesInput found commands (reason_of q) → RunComesTo image script (Refuses (reason_of q)) old new
 refused_comes image script found commands old new a b (refusals.Image e) h = (found, a.0, is_there script commands old b.0, h, a.1)
-refused_comes image script found commands old new a b refusals.ImageUnbuilt (d, is, free) = (d, record { bytes = found; read = a.0; is = is }, is_there script commands old b.0, free, a.1)
-refused_comes image script found commands old new a b (refusals.Script e) (d, is, free, h) = (d, record { bytes = found; read = a.0; is = is }, free, commands, b.0, h, a.1)
+refused_comes image script found commands old new a b refusals.ImageUnbuilt (d, is, free, said, are) =
+    (d, record { bytes = found; read = a.0; is = is }, free, commands, b.0, said, are, a.1)
+refused_comes image script found commands old new a b (refusals.Script e) (d, is, h) = (d, record { bytes = found; read = a.0; is = is }, commands, b.0, h, a.1)
 refused_comes image script found commands old new a b refusals.ScriptUnbuilt (d, is, free, said, are, taken) = (d, record { bytes = found; read = a.0; is = is }, free, commands, b.0, said, are, taken, a.1)
 refused_comes image script found commands old new a b (refusals.Failed name) h = absurd h
 refused_comes image script found commands old new a b (refusals.Missing name) h = absurd h

@@ -11,7 +11,7 @@ use Rattle.pblk_model.specs.ScriptText.{read_script}
 use Rattle.run_script.specs.Reading.{Refuses}
 use Rattle.ocssd_drive.specs.Units.{WornUnit}
 use Rattle.drive_image.specs.Quiet.{IsQuietUnit}
-use Rattle.first_line.specs.Stored.{AreFree, IsUnarmed}
+use Rattle.first_line.specs.Stored.{IsUnarmed}
 use Rattle.pblk_cli.specs.declared.refusal.Refusal.{Refusal}
 use Rattle.pblk_cli.specs.declared.refusal.Refusal.TheVariants as refusals
 use Rattle.pblk_cli.specs.Endings.{reason_of}
@@ -47,11 +47,11 @@ pub record IsScriptRefusalOf (e : ScriptErr) (q : Refusal) : Type 0 where
   pub memory : e ≡ script_errors.Memory → q ≡ refusals.Memory
   pub script : (e ≡ script_errors.Memory → ⊥) → q ≡ refusals.Script e
 
-pub refuses_script : (image script : List ℕ) (d : Drive) → IsImage image d → AreFree d → (e : ScriptErr) → Refuses e (read_script d.capacity script)
+pub refuses_script : (image script : List ℕ) (d : Drive) → IsImage image d → (e : ScriptErr) → Refuses e (read_script d.capacity script)
     → (q : Refusal) → IsScriptRefusalOf e q → RefusesInput image script (reason_of q)
-refuses_script image script d is free script_errors.Memory h q of = rw (of.memory refl) tt
-refuses_script image script d is free (script_errors.Form n) h q of = rw (of.script (λ no. cc)) (d, is, free, h)
-refuses_script image script d is free (script_errors.Limit n) h q of = rw (of.script (λ no. cc)) (d, is, free, h)
-refuses_script image script d is free (script_errors.Range n) h q of = rw (of.script (λ no. cc)) (d, is, free, h)
-refuses_script image script d is free (script_errors.NeverPosted n) h q of = rw (of.script (λ no. cc)) (d, is, free, h)
-refuses_script image script d is free (script_errors.Stuck n) h q of = rw (of.script (λ no. cc)) (d, is, free, h)
+refuses_script image script d is script_errors.Memory h q of = rw (of.memory refl) tt
+refuses_script image script d is (script_errors.Form n) h q of = rw (of.script (λ no. cc)) (d, is, h)
+refuses_script image script d is (script_errors.Limit n) h q of = rw (of.script (λ no. cc)) (d, is, h)
+refuses_script image script d is (script_errors.Range n) h q of = rw (of.script (λ no. cc)) (d, is, h)
+refuses_script image script d is (script_errors.NeverPosted n) h q of = rw (of.script (λ no. cc)) (d, is, h)
+refuses_script image script d is (script_errors.Stuck n) h q of = rw (of.script (λ no. cc)) (d, is, h)

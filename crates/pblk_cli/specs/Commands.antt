@@ -87,12 +87,14 @@ pub record RunMade (image script text : List ℕ) (old new : FilesView) : Type 0
 
 abbrev pub RunComesTo : List ℕ → List ℕ → Ending → FilesView → FilesView → Type 0
 RunComesTo image script (Gives text) old new = RunMade image script text old new
--- both files were read, and the image is refused, or isn't one that is taken so far
+-- both files were read, and the image is refused
 RunComesTo image script (Refuses (Image e)) old new = (bytes : List ℕ) × Holds image bytes old × IsThere script old × (image_refusal bytes ≡ Some e) × AreUntouched old new
-RunComesTo image script (Refuses ImageUnbuilt) old new = (d : Drive) × IsDriveOf image old d × IsThere script old × (¬ AreFree d) × AreUntouched old new
--- the image is taken, and the script is refused, or isn't one that is taken so far
-RunComesTo image script (Refuses (Script e)) old new = (d : Drive) × IsDriveOf image old d × AreFree d
+-- the image is accepted, and the script is refused
+RunComesTo image script (Refuses (Script e)) old new = (d : Drive) × IsDriveOf image old d
     × (bytes : List ℕ) × Holds script bytes old × (read_script d.capacity bytes ≡ Err e) × AreUntouched old new
+-- both are accepted, and the image isn't one that is taken so far; or it is, and the script isn't
+RunComesTo image script (Refuses ImageUnbuilt) old new = (d : Drive) × IsDriveOf image old d × (¬ AreFree d)
+    × (bytes : List ℕ) × Holds script bytes old × (commands : List (List Command)) × IsScript d.capacity bytes commands × AreUntouched old new
 RunComesTo image script (Refuses ScriptUnbuilt) old new = (d : Drive) × IsDriveOf image old d × AreFree d
     × (bytes : List ℕ) × Holds script bytes old × (commands : List (List Command)) × IsScript d.capacity bytes commands × (¬ IsTaken (shape_of d) commands) × AreUntouched old new
 -- the image, or, where it is there, the script could not be read; or all was made, and the image could not be written

@@ -35,8 +35,8 @@ pub record IsRunOfInput (image script bytes text : List ℕ) : Type 0 where
 -- what was read was refused
 abbrev pub RefusesInput : List ℕ → List ℕ → Reason → Type 0
 RefusesInput image script (Image e) = image_refusal image ≡ Some e
-RefusesInput image script ImageUnbuilt = (d : Drive) × IsImage image d × (¬ AreFree d)
-RefusesInput image script (Script e) = (d : Drive) × IsImage image d × AreFree d × (read_script d.capacity script ≡ Err e)
+RefusesInput image script ImageUnbuilt = (d : Drive) × IsImage image d × (¬ AreFree d) × (commands : List (List Command)) × IsScript d.capacity script commands
+RefusesInput image script (Script e) = (d : Drive) × IsImage image d × (read_script d.capacity script ≡ Err e)
 RefusesInput image script ScriptUnbuilt = (d : Drive) × IsImage image d × AreFree d × (commands : List (List Command)) × IsScript d.capacity script commands × (¬ IsTaken (shape_of d) commands)
 RefusesInput image script Memory = ⊤
 RefusesInput image script reason = ⊥

@@ -86,13 +86,13 @@ fn run_input<'a>(
     };
     // The file's bytes are let go before those to be stored are made.
     drop(image);
-    if !is_free(&drive) {
-        return Err(Refusal::ImageUnbuilt);
-    }
     let script = match read_script(alloc, script, drive.capacity) {
         Ok(script) => script,
         Err(e) => return Err(script_refusal_of(e)),
     };
+    if !is_free(&drive) {
+        return Err(Refusal::ImageUnbuilt);
+    }
     if !is_taken(&script, &drive.shape()) {
         return Err(Refusal::ScriptUnbuilt);
     }

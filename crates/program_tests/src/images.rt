@@ -102,13 +102,20 @@ const NOT_FREE: [Content<'static>; 4] = [
     Content::Cut(&[(4256, 4), (4280, 2)], 5696),
 ];
 
+// Scripts beside them: only a refused one is told of before the image.
+const SCRIPTS_BESIDE: [(&str, (u8, &str)); 4] = [
+    ("thread\nr 0 1\n", (3, "image Unbuilt\n")),
+    ("", (3, "image Unbuilt\n")),
+    ("thread\nf\n", (3, "image Unbuilt\n")),
+    ("thread\nx\n", (2, "script Form 2\n")),
+];
+
 #[test]
 fn images_with_written_chunks_are_not_taken_yet(rt: HostRuntime) -> Result<(), Fail> {
     for (row, image) in NOT_FREE.iter().enumerate() {
-        for script in ["thread\nr 0 1\n", "", "thread\nx\n", "thread\nf\n"] {
-            let end = (3, "image Unbuilt\n");
+        for (script, end) in SCRIPTS_BESIDE.iter() {
             let script = Content::Text(script);
-            let wrong = refuses(rt.alloc(), "run|image|script", *image, script, end)?;
+            let wrong = refuses(rt.alloc(), "run|image|script", *image, script, *end)?;
             assert_eq!(rt; wrong, Wrong::Nothing, "row {row}");
         }
     }

@@ -10,10 +10,10 @@ pub returns-in-Err-clause-refused : goal.returns-in-Err-clause-refused
 returns-in-Err-clause-refused c = refuses_input c.args.image.items c.args.script.now c.load.result c.in-Err.e c.in-Err.is (rw (sym c.deref.ensures.value) c.load.ensures.refused) (rw (sym c.deref.ensures.value) c.load.ensures.taken) c.refusal_of.result (record { memory = c.refusal_of.ensures.memory; image = c.refusal_of.ensures.image })
 
 pub returns-then-not-is_free-clause-refused : goal.returns-then-not-is_free-clause-refused
-returns-then-not-is_free-clause-refused c = (stored c.in-Ok.drive, rw (sym c.deref.ensures.value) c.in-Ok.ensures.image, λ free. absurd (cc (c.is_free.ensures.1 free, c.if-not-is_free.true)))
+returns-then-not-is_free-clause-refused c = (stored c.in-Ok.drive, rw (sym c.deref.ensures.value) c.in-Ok.ensures.image, λ free. absurd (cc (c.is_free.ensures.1 free, c.if-not-is_free.true)), c.in-Ok-read_script.script, subst (λ n. IsScript n c.args.script.now c.in-Ok-read_script.script) (ap (λ d. d.capacity) c.drive.view_is) c.in-Ok-read_script.ensures.script)
 
 pub returns-in-Err-read_script-clause-refused : goal.returns-in-Err-read_script-clause-refused
-returns-in-Err-read_script-clause-refused c = refuses_script c.args.image.items c.args.script.now (stored c.in-Ok.drive) (rw (sym c.deref.ensures.value) c.in-Ok.ensures.image) (c.is_free.ensures.0 c.if-not-is_free.false) c.in-Err-read_script.e (subst (λ n. Refuses c.in-Err-read_script.e (read_script n c.args.script.now)) (ap (λ d. d.capacity) c.drive.view_is) c.in-Err-read_script.ensures.read) c.script_refusal_of.result (record { memory = c.script_refusal_of.ensures.memory; script = c.script_refusal_of.ensures.script })
+returns-in-Err-read_script-clause-refused c = refuses_script c.args.image.items c.args.script.now (stored c.in-Ok.drive) (rw (sym c.deref.ensures.value) c.in-Ok.ensures.image) c.in-Err-read_script.e (subst (λ n. Refuses c.in-Err-read_script.e (read_script n c.args.script.now)) (ap (λ d. d.capacity) c.drive.view_is) c.in-Err-read_script.ensures.read) c.script_refusal_of.result (record { memory = c.script_refusal_of.ensures.memory; script = c.script_refusal_of.ensures.script })
 
 pub returns-then-not-is_taken-clause-refused : goal.returns-then-not-is_taken-clause-refused
 returns-then-not-is_taken-clause-refused c = (stored c.in-Ok.drive, rw (sym c.deref.ensures.value) c.in-Ok.ensures.image, c.is_free.ensures.0 c.if-not-is_free.false, c.in-Ok-read_script.script, (subst (λ n. IsScript n c.args.script.now c.in-Ok-read_script.script) (ap (λ d. d.capacity) c.drive.view_is) c.in-Ok-read_script.ensures.script), λ taken. absurd (cc (c.is_taken.ensures.1 (subst (λ s. IsTaken s c.in-Ok-read_script.script) (sym c.shape.ensures.shape) taken), c.if-not-is_taken.true)))
