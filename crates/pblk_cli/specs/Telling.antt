@@ -2,7 +2,7 @@
 use Rattle.std.specs.Prelude.{ℕ, ◌≡◌, ◌⊎◌, ◌++◌, IsTrue, List, Some, codes}
 use Rattle.pblk_outside.specs.declared.file_fault.FileCall.TheVariants as calls
 use Rattle.pblk_outside.specs.Faults.{HasRisen}
-use Rattle.pblk_outside.specs.Files.{FilesView, AddsFault, HasNoFile, IsCalm, SameFiles, SameOthers}
+use Rattle.pblk_outside.specs.Files.{FilesView, AddsFault, IsCalm, SameFiles, SameOthers, TellsMissing}
 use Rattle.pblk_outside.specs.Sink.{SinkView, TakesPrefix}
 use Rattle.pblk_model.specs.declared.image.ImageErr.{ImageErr}
 use Rattle.pblk_model.specs.declared.script.ScriptErr.{ScriptErr}
@@ -87,9 +87,9 @@ Stores name bytes old new = Holds name bytes new × SameOthers name old.file new
 abbrev pub FailsReading : List ℕ → FilesView → FilesView → Type 0
 FailsReading name old new = SameFiles old.file new.file × AddsFault name calls.Read old new
 
--- a file is missing as far as is told, or could not be read
+-- a file is missing as far as is told; where nothing is told it could not be read, and that is the one fault
 abbrev pub IsMissing : List ℕ → FilesView → FilesView → Type 0
-IsMissing name old new = SameFiles old.file new.file × ((HasNoFile name old × IsCalm old new) ⊎ AddsFault name calls.Read old new)
+IsMissing name old new = SameFiles old.file new.file × TellsMissing name old new
 
 -- a file could not be written, and that is the one fault: it alone may have changed
 abbrev pub FailsWriting : List ℕ → FilesView → FilesView → Type 0

@@ -1,6 +1,6 @@
 //! Whole files, read and written by name.
-ghost use Rattle.std.specs.Prelude.{◌≡◌, ℕ, ◌⊎◌, IsTrue, List, Some, None, OnOk, OnErr, IfErr, IsErrOf};
-ghost use Rattle.pblk_outside.specs.Files.{FilesView, AddsFault, AppendsFile, HasNoFile, IsCalm, SameFiles, SameOthers};
+ghost use Rattle.std.specs.Prelude.{◌≡◌, ℕ, IsTrue, List, Some, None, OnOk, OnErr, IfErr, IsErrOf};
+ghost use Rattle.pblk_outside.specs.Files.{FilesView, AddsFault, AppendsFile, IsCalm, SameFiles, SameOthers, TellsMissing};
 ghost use Rattle.pblk_outside.specs.declared.file_fault.FileCall.TheVariants.{Read, Write};
 
 use thiserror::Error;
@@ -29,8 +29,8 @@ pub trait Files {
 
     /// Appends the bytes of the file to `into`.
     ///
-    /// `Failed` comes with a fault. `Missing` comes without one where it is told that there is no
-    /// file of that name, or with one. `Memory` comes for want of memory, where the file is there as
+    /// `Failed` comes with a fault. `Missing` comes without one where the files tell that there is
+    /// none of that name, and with one where they don't tell what they hold. `Memory` comes for want of memory, where the file is there as
     /// far as is told, without a fault. After an error `into` is as it was.
     fn read(&mut self, name: &str, into: &mut Vec<u8>) -> Result<(), FileErr>
         ensures appends { OnOk result
@@ -41,8 +41,7 @@ pub trait Files {
         ensures failed { IsErrOf result FileErr.Failed →
             AddsFault name.now Read (view self.old) (view self.new) }
         ensures missing { IsErrOf result FileErr.Missing →
-            (HasNoFile name.now (view self.old) × IsCalm (view self.old) (view self.new))
-            ⊎ AddsFault name.now Read (view self.old) (view self.new) }
+            TellsMissing name.now (view self.old) (view self.new) }
         ensures memory { IsErrOf result FileErr.Memory → IsTrue (view self.old).told →
             (bytes : List ℕ) × ((view self.old).file name.now ≡ Some bytes) }
         ensures memory_calm { IsErrOf result FileErr.Memory →
