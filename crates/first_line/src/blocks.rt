@@ -14,10 +14,10 @@ ghost use Rattle.pblk_meta.specs.Records.{start_numbers};
 ghost use Rattle.first_line.specs.Line.{first_line, first_start, pads_after, row_marks, row_sectors, writes_of};
 
 use crate::row::Row;
-use pblk_laws::{a_line_is_short, spelling_fills_its_blocks, start_len_is_least};
+use pblk_laws::spelling_fills_its_blocks;
 use pblk_layout::Layout;
 use pblk_meta::{Rows, StartRecord};
-use pblk_model::{Mark, Shape};
+use pblk_model::{Mark, Shape, a_line_is_short, start_len_is_least};
 use std::alloc::{AllocError, Global};
 
 /// The lba of a Pad mark.

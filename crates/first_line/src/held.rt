@@ -14,10 +14,11 @@ ghost use Rattle.first_line.specs.Stored.{AreFree, HoldsHistory};
 ghost use Rattle.first_line.specs.Striped.{HasStored};
 
 use pblk_laws::{
-    blank_has_no_record, blank_holds_zeros, blank_is_sealed, end_len_is_least, filled_contents,
-    filled_line_is_sealed, no_end_record, spelling_fills_its_blocks, start_len_is_least,
-    unwritten_is_none, written_is_found,
+    blank_has_no_record, blank_holds_zeros, blank_is_sealed, filled_contents,
+    filled_line_is_sealed, no_end_record, spelling_fills_its_blocks, unwritten_is_none,
+    written_is_found,
 };
+use pblk_model::{end_len_is_least, start_len_is_least};
 
 /// A drive whose chunks are all Free holds zeros and no history, ends at 0 and is sealed.
 pub(crate) fn a_free_drive_holds_nothing()

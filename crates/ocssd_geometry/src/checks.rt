@@ -1,12 +1,13 @@
 //! Which geometries are accepted.
 
-ghost use Rattle.std.specs.Prelude.{◌≡◌, ◌<◌, ◌==◌, ◌||◌, nat_le, IfNone};
+ghost use Rattle.std.specs.Prelude.{◌≡◌, ◌==◌, ◌||◌, nat_le, IfNone};
+ghost use Rattle.pblk_model.specs.Accepted.{HasCounts};
 ghost use Rattle.pblk_model.specs.Checks.{first_failing};
-ghost use Rattle.pblk_model.specs.Geometry.{geometry_refusal, field_checks, profile_checks, length_holds};
+ghost use Rattle.pblk_model.specs.Geometry.{geometry_refusal, drive_numbers, field_checks, profile_checks, bound_checks, length_holds};
 ghost use Rattle.ocssd_geometry.specs.Numbers.{numbers_of};
 
 use crate::geometry::Geometry;
-use pblk_model::GeometryErr;
+use pblk_model::{GeometryErr, Shape};
 
 impl Geometry {
     /// Why this geometry isn't accepted, or None where it is.
@@ -36,8 +37,7 @@ impl Geometry {
     // The first byte of the first field that isn't accepted.
     fn refused_field(&self) -> Option<u32>
         ensures first { result ≡ first_failing (field_checks (numbers_of self.now)) }
-        ensures ws_min { IfNone result (0 < self.now.ws_min) }
-        ensures ws_opt { IfNone result (0 < self.now.ws_opt) }
+        ensures counts { IfNone result (HasCounts (drive_numbers (numbers_of self.now))) }
     {
         let [group, pu, chunk, block] = self.lengths;
         if self.mjr != 2 {
@@ -50,43 +50,48 @@ impl Geometry {
             Some(10)
         } else if !length_holds(block, self.clba) {
             Some(11)
-        } else if self.groups == 0 {
-            Some(64)
-        } else if self.pus == 0 {
-            Some(66)
-        } else if self.chunks == 0 {
-            Some(68)
-        } else if self.clba == 0 {
-            Some(72)
-        } else if self.ws_min == 0 {
-            Some(128)
-        } else if self.ws_opt == 0 {
-            Some(132)
         } else {
-            None
+            self.drive_shape().zero_field()
+        }
+    }
+
+    // Its numbers as those of a drive's shape, without settings.
+    fn drive_shape(&self) -> Shape
+        ensures { result ≡ drive_numbers (numbers_of self.now) }
+    {
+        Shape {
+            groups: self.groups,
+            pus: self.pus,
+            chunks: self.chunks,
+            clba: self.clba,
+            ws_min: self.ws_min,
+            ws_opt: self.ws_opt,
+            mw_cunits: self.mw_cunits,
+            sector: 0,
+            capacity: 0,
+            ring: 0,
         }
     }
 
     // The first rule that doesn't hold.
     fn broken_rule(&self) -> Option<u32>
-        requires ws_min { 0 < self.now.ws_min }
-        requires ws_opt { 0 < self.now.ws_opt }
+        requires { HasCounts (drive_numbers (numbers_of self.now)) }
         ensures { result ≡ first_failing (profile_checks (numbers_of self.now)) }
+    {
+        match self.drive_shape().broken_rule() {
+            Some(rule) => Some(rule),
+            None => self.broken_bound(),
+        }
+    }
+
+    // The first rule of the bounds and lengths that doesn't hold.
+    fn broken_bound(&self) -> Option<u32>
+        ensures { result ≡ first_failing (bound_checks (numbers_of self.now)) }
     {
         let units = u64::from(self.groups) * u64::from(self.pus);
         let [group, pu, chunk, block] = self.lengths;
         let bits = u32::from(group) + u32::from(pu) + u32::from(chunk) + u32::from(block);
-        if units > 64 {
-            Some(1)
-        } else if self.chunks < 8 || self.chunks > 1024 {
-            Some(2)
-        } else if self.ws_opt % self.ws_min != 0 || self.ws_opt > 64 {
-            Some(3)
-        } else if self.clba % self.ws_opt != 0 {
-            Some(4)
-        } else if self.mw_cunits % self.ws_opt != 0 || self.mw_cunits >= self.clba {
-            Some(5)
-        } else if !bound_holds(self.maxoc, 2 * units) {
+        if !bound_holds(self.maxoc, 2 * units) {
             Some(6)
         } else if !bound_holds(self.maxocpu, 2) {
             Some(7)

@@ -14,7 +14,7 @@ use Rattle.pblk_model.specs.StartRecord.{start_of}
 use Rattle.pblk_model.specs.Records.{Record, records_after, line_records, records}
 use Rattle.pblk_model.specs.Contents.{later_start, head, end_after, end, counted_after, counted, winner, sector_of, contents}
 use Rattle.pblk_laws.proofs.Lists.{all_replicate, all_get, all_filter_map, all_filter, filter_map_none, flat_map_nil, map_same}
-use Rattle.pblk_laws.proofs.LeastLengths.{start_len_positive}
+use Rattle.pblk_model.proofs.LeastLengths.{start_len_positive}
 use Rattle.pblk_laws.proofs.Runs.{start_none}
 use Rattle.pblk_laws.proofs.ChunkStep.{free_is_chunk}
 

@@ -18,7 +18,7 @@ use Rattle.pblk_model.specs.StartRecord.{StartRecord, magic, written_run, have_m
 use Rattle.pblk_model.specs.EndRecord.{EndRecord, pair_bytes, end_bytes, pairs_in, end_in, read_end, end_of}
 use Rattle.pblk_laws.specs.EndBlocks.{FitsBytes, IsEndRecord, IsEndOf, AreEnd}
 use Rattle.pblk_laws.proofs.Lists.{all_append}
-use Rattle.pblk_laws.proofs.LeastLengths.{end_len_least, sector_at_least}
+use Rattle.pblk_model.proofs.LeastLengths.{end_len_least, sector_at_least}
 use Rattle.pblk_laws.proofs.Runs.{run_some, run_is}
 use Rattle.pblk_laws.proofs.Starts.{marked, marks_of, padded_length, AreBytes, byte_is, two, four, eight, some_zeros, ◌then◌}
 

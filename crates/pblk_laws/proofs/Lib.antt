@@ -6,7 +6,6 @@ pub mod Fields
 pub mod Filled
 pub mod FilledExample
 pub mod FilledLists
-pub mod FilledOrder
 pub mod Heads
 pub mod ImageBytes
 pub mod ImageBytesExample
@@ -15,8 +14,6 @@ pub mod ImageBytesOne
 pub mod ImageBytesPieces
 pub mod ImageBytesRead
 pub mod ImageBytesTaken
-pub mod LeastLengths
-pub mod LineOrder
 pub mod LineUnits
 pub mod Lists
 pub mod RecordPlaces

@@ -15,7 +15,7 @@ use Rattle.pblk_model.specs.LineOrder.{line_order, column_of, block_of}
 use Rattle.pblk_model.specs.Image.{Image, IsFit, is_online_in, line_chunks, line_units, width, block_at}
 use Rattle.pblk_laws.specs.LineBlocks.{chunk_in, written_at}
 use Rattle.pblk_laws.proofs.Lists.{all_get, all_filter, all_filter_map}
-use Rattle.pblk_laws.proofs.FilledOrder.{order_block, order_length}
+use Rattle.pblk_model.proofs.OrderedBlocks.{order_block, order_length}
 
 abbrev is_on : ℕ → ℕ × List Chunk → Bool
 is_on line unit = option_map_or (λ (c : Chunk). is_online_in c.state) (slice_get unit.1 line) false

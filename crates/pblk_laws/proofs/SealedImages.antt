@@ -20,7 +20,7 @@ use Rattle.pblk_model.specs.History.{SectorWrite}
 use Rattle.pblk_laws.specs.StartBlocks.{AreStart}
 use Rattle.pblk_laws.specs.FilledLine.{IsFilledLine}
 use Rattle.pblk_laws.proofs.Lists.{all_at, all_by_get, all_get, all_filter, all_filter_map}
-use Rattle.pblk_laws.proofs.LineOrder.{address_below, chunk_back, block_back}
+use Rattle.pblk_model.proofs.LineOrder.{address_below, chunk_back, block_back}
 use Rattle.pblk_laws.proofs.Widths.{width_within}
 use Rattle.pblk_laws.proofs.Starts.{found_is}
 use Rattle.pblk_laws.proofs.StartHeads.{spelled_begins_once}

@@ -21,7 +21,7 @@ use Rattle.pblk_model.specs.Image.{Image, width, block_at}
 use Rattle.pblk_model.specs.StartRecord.{Row, StartRecord, magic, row_bytes, start_bytes, rows_fit, start_fits, rows_in, start_in, read_start, written_run, have_meta, marked_start, start_of}
 use Rattle.pblk_laws.specs.StartBlocks.{AreStart}
 use Rattle.pblk_laws.proofs.Lists.{all_append, all_replicate}
-use Rattle.pblk_laws.proofs.LeastLengths.{start_len_least, sector_at_least}
+use Rattle.pblk_model.proofs.LeastLengths.{start_len_least, sector_at_least}
 use Rattle.pblk_laws.proofs.Runs.{run_some, run_is}
 
 -- The numbers fit their fields.

@@ -1,10 +1,9 @@
 //! What an image holds whose line 0 is filled from its front.
 
-ghost use Rattle.std.specs.Prelude.{◌≡◌, ◌+◌, ◌-◌, ◌*◌, ◌%◌, ◌<◌, ◌≤◌, ◌↔◌, ℕ, List, [], ◌∷◌, Some, None, length, slice_get, replicate};
+ghost use Rattle.std.specs.Prelude.{◌≡◌, ◌+◌, ◌-◌, ◌*◌, ◌<◌, ◌≤◌, ℕ, List, [], ◌∷◌, None, length, replicate};
 ghost use Rattle.pblk_model.specs.Bytes.{zeros};
-ghost use Rattle.pblk_model.specs.declared.shape.Shape.{Shape};
 ghost use Rattle.pblk_model.specs.Accepted.{IsAccepted};
-ghost use Rattle.pblk_model.specs.LineOrder.{line_order, column_of, block_of, end_len};
+ghost use Rattle.pblk_model.specs.LineOrder.{end_len};
 ghost use Rattle.pblk_model.specs.Image.{Image, IsFit, width, block_at};
 ghost use Rattle.pblk_model.specs.StartRecord.{StartRecord, start_of};
 ghost use Rattle.pblk_model.specs.EndRecord.{end_of};
@@ -36,16 +35,4 @@ pub fn no_end_record()
         → a < (width i line * i.shape.clba - end_len i.shape (width i line))
         + end_len i.shape (width i line)
         → block_at i line a ≡ None → end_of i line start ≡ None }
-{}
-
-/// The line order of units has at a line address the unit whose column it is with the block that it
-/// is of, and has as many addresses as the units' chunks have blocks.
-pub fn line_order_is()
-    ensures block { (s : Shape) (line_units : List ℕ) (a unit : ℕ) → 0 < s.ws_opt
-        → s.clba % s.ws_opt ≡ 0
-        → ((slice_get (line_order s line_units) a ≡ Some (unit, block_of s (length line_units) a))
-        ↔ ((slice_get line_units (column_of s (length line_units) a) ≡ Some unit)
-        × (a < length line_units * s.clba))) }
-    ensures length { (s : Shape) (line_units : List ℕ) → 0 < s.ws_opt → s.clba % s.ws_opt ≡ 0
-        → length (line_order s line_units) ≡ length line_units * s.clba }
 {}

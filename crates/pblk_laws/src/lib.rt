@@ -12,7 +12,6 @@ mod filled_line;
 mod history;
 mod image;
 mod image_file;
-mod lengths;
 mod line_order;
 mod marks;
 mod script;
@@ -33,15 +32,14 @@ pub use end_record::{
     end_read_is_spelled, end_spelled_is_read, end_spelling_fills_its_blocks, found_end_is_written,
     written_end_is_found,
 };
-pub use filled_line::{a_line_is_filled, filled_contents, line_order_is, no_end_record};
+pub use filled_line::{a_line_is_filled, filled_contents, no_end_record};
 pub use history::users_are_the_first;
 pub use image::width_is_within_units;
 pub use image_file::{
     a_drive_is_spelled, descriptor_is_read_back, geometry_is_read_back, image_is_of_one_drive,
     spelled_image_is_read,
 };
-pub use lengths::{a_line_is_short, end_len_is_least, start_len_is_least};
-pub use line_order::{address_is_of, block_at_is, line_units_are, one_to_one};
+pub use line_order::{block_at_is, line_units_are};
 pub use marks::{marks_bear_records, marks_name_sectors};
 pub use script::{
     a_line_is_spelled, a_read_script_is_spelled, a_spelled_line_is_read, a_spelled_script_is_read,

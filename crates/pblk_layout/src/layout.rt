@@ -7,7 +7,7 @@ ghost use Rattle.pblk_model.specs.Shape.{units};
 ghost use Rattle.pblk_model.specs.LineOrder.{line_order, start_len, end_len, data_len, HoldsStart, HoldsEnd};
 ghost use Rattle.pblk_layout.specs.Live.{units_in};
 
-use crate::{lengths, live, places};
+use crate::{live, places};
 use pblk_model::Shape;
 use std::marker::Model;
 
@@ -68,7 +68,7 @@ impl Layout {
         ensures holds { HoldsStart self.now result }
         ensures short { result < 2 ^ 31 }
     {
-        lengths::start_len(&self.shape)
+        self.shape.start_len()
     }
 
     /// How many blocks at the end of a line of this width are its end record: the least whole stripes that
@@ -83,7 +83,7 @@ impl Layout {
         ensures holds { HoldsEnd self.now width result }
         ensures short { result < 2 ^ 31 }
     {
-        lengths::end_len(&self.shape, width)
+        self.shape.end_len(width)
     }
 
     /// How many blocks between the two records of a line of this width are data, or 0 where they aren't a
@@ -96,7 +96,7 @@ impl Layout {
         ensures len { result ≡ data_len self.now width }
         ensures short { result ≤ width * self.now.clba }
     {
-        lengths::data_len(&self.shape, width)
+        self.shape.data_len(width)
     }
 
     /// The width of a line: how many units are in `live`. Bit `u` of `live` is that of unit `u`.

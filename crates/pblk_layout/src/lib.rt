@@ -3,7 +3,6 @@
 
 mod image_units;
 mod layout;
-mod lengths;
 mod live;
 mod places;
 

@@ -8,8 +8,7 @@ ghost use Rattle.pblk_model.specs.LineOrder.{line_order};
 ghost use Rattle.pblk_layout.specs.Live.{units_in};
 
 use crate::live::{is_in, nth, rank, width};
-use pblk_laws::{a_line_is_short, address_is_of, line_order_is, one_to_one};
-use pblk_model::Shape;
+use pblk_model::{Shape, a_line_is_short, address_is_of, line_order_is, one_to_one};
 
 /// The block at a line address.
 pub(crate) fn place(shape: &Shape, live: u64, at: u32) -> (u32, u32)

@@ -17,11 +17,9 @@ use crate::bytes::{
     MAGIC, VERSION, after, are_same, are_zeros, put_u16, put_u32, put_u64, put_zeros,
 };
 use crate::pairs::{Pairs, put_pairs, read_pairs};
-use pblk_laws::{
-    a_line_is_short, end_len_is_least, end_read_is_spelled, end_spelled_is_read,
-    end_spelling_fills_its_blocks,
-};
+use pblk_laws::{end_read_is_spelled, end_spelled_is_read, end_spelling_fills_its_blocks};
 use pblk_layout::Layout;
+use pblk_model::{a_line_is_short, end_len_is_least};
 use std::alloc::{AllocError, Global};
 
 /// The kind of an end record.

@@ -15,9 +15,9 @@ ghost use Rattle.pblk_meta.specs.Records.{row_numbers, start_numbers};
 use crate::bytes::{after, are_zeros, put_zeros};
 use crate::rows::{Row, Rows};
 use crate::start_header::StartHeader;
-use pblk_laws::{read_is_spelled, spelled_is_read, spelling_fills_its_blocks, start_len_is_least};
+use pblk_laws::{read_is_spelled, spelled_is_read, spelling_fills_its_blocks};
 use pblk_layout::Layout;
-use pblk_model::Shape;
+use pblk_model::{Shape, start_len_is_least};
 use std::alloc::{AllocError, Global};
 
 /// The start record of a line: which line it is, how wide, its sequence number, and what the mount that

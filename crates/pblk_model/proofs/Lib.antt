@@ -1,2 +1,5 @@
 mod Powers
-mod Sizes
+pub mod Sizes
+pub mod LineOrder
+pub mod OrderedBlocks
+pub mod LeastLengths

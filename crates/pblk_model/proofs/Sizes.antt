@@ -14,7 +14,7 @@ few_blocks u k b s chunks sector size =
     let h3 : u * k * b * 512 ≤ u * k * b * s = mul-le-mul_left (u * k * b) sector in
     omega arith
 
-sector_is_long : (s : ℕ) → (s ≡ 512) ⊎ (s ≡ 4096) → 512 ≤ s
+pub sector_is_long : (s : ℕ) → (s ≡ 512) ⊎ (s ≡ 4096) → 512 ≤ s
 sector_is_long s (inl e) = omega arith
 sector_is_long s (inr e) = omega arith
 

@@ -92,12 +92,16 @@ field_checks g = (0, g.mjr == 2)
     ∷ (11, length_holds g.block_bits g.clba)
     ∷ count_checks (drive_numbers g)
 
--- by its number, whether a rule of the drives that the target takes holds
-abbrev pub profile_checks : Geometry → List (ℕ × Bool)
-profile_checks g = drive_checks (drive_numbers g) ++ (6, (g.maxoc == 0) || nat_le (2 * (g.groups * g.pus)) g.maxoc)
+-- by its number, whether a rule of the bounds on open chunks and of the lengths holds
+abbrev pub bound_checks : Geometry → List (ℕ × Bool)
+bound_checks g = (6, (g.maxoc == 0) || nat_le (2 * (g.groups * g.pus)) g.maxoc)
     ∷ (7, (g.maxocpu == 0) || nat_le 2 g.maxocpu)
     ∷ (8, nat_le (g.group_bits + g.pu_bits + g.chunk_bits + g.block_bits) 64)
     ∷ []
+
+-- by its number, whether a rule of the drives that the target takes holds
+abbrev pub profile_checks : Geometry → List (ℕ × Bool)
+profile_checks g = drive_checks (drive_numbers g) ++ bound_checks g
 
 -- why numbers are no geometry: the first field that isn't accepted, and then the first rule that doesn't hold
 abbrev pub profile_refusal : Option ℕ → Option GeometryErr

@@ -38,8 +38,8 @@ impl Shape {
         }
     }
 
-    // The field of the first number that is 0 and must not be.
-    fn zero_field(&self) -> Option<u32>
+    /// The place in a geometry of the field of the first number that is 0 and must not be. `refusal` names the fields.
+    pub fn zero_field(&self) -> Option<u32>
         ensures first { result ≡ first_failing (count_checks self.now) }
         ensures counts { IsNone result ↔ HasCounts self.now }
     {
@@ -60,8 +60,8 @@ impl Shape {
         }
     }
 
-    // The first rule of a drive that doesn't hold.
-    fn broken_rule(&self) -> Option<u32>
+    /// The first rule of a drive that doesn't hold, where no count is 0. `refusal` names the rules.
+    pub fn broken_rule(&self) -> Option<u32>
         requires { HasCounts self.now }
         ensures first { result ≡ first_failing (drive_checks self.now) }
         ensures drive { IsNone result ↔ IsDriveShape self.now }

@@ -1,10 +1,11 @@
 //! The numbers of a drive and of its target, and addresses on it.
 
-ghost use Rattle.std.specs.Prelude.{◌≡◌, ◌*◌, ◌≤◌};
+ghost use Rattle.std.specs.Prelude.{◌≡◌, ◌*◌, ◌<◌, ◌≤◌, ◌^◌};
 ghost use Rattle.pblk_model.specs.Accepted.{IsAccepted};
-ghost use Rattle.pblk_model.specs.LineOrder.{start_len, end_len, data_len};
+ghost use Rattle.pblk_model.specs.LineOrder.{start_len, end_len, data_len, HoldsStart, HoldsEnd};
 ghost use Rattle.pblk_model.specs.Shape.{units, small};
 
+use crate::least_lengths::{end_len_is_least, start_len_is_least};
 use crate::lengths;
 use thiserror::Error;
 
@@ -61,8 +62,11 @@ impl Shape {
     /// The shape is accepted.
     pub fn start_len(&self) -> u32
         requires { IsAccepted self.now }
-        ensures { result ≡ start_len self.now }
+        ensures len { result ≡ start_len self.now }
+        ensures holds { HoldsStart self.now result }
+        ensures short { result < 2 ^ 31 }
     {
+        start_len_is_least();
         lengths::start_blocks(self) as u32
     }
 
@@ -71,8 +75,11 @@ impl Shape {
     pub fn end_len(&self, width: u32) -> u32
         requires accepted { IsAccepted self.now }
         requires width { width ≤ units self.now }
-        ensures { result ≡ end_len self.now width }
+        ensures len { result ≡ end_len self.now width }
+        ensures holds { HoldsEnd self.now width result }
+        ensures short { result < 2 ^ 31 }
     {
+        end_len_is_least();
         lengths::end_blocks(self, width) as u32
     }
 
@@ -82,7 +89,8 @@ impl Shape {
     pub fn data_len(&self, width: u32) -> u32
         requires accepted { IsAccepted self.now }
         requires width { width ≤ units self.now }
-        ensures { result ≡ data_len self.now width }
+        ensures len { result ≡ data_len self.now width }
+        ensures short { result ≤ width * self.now.clba }
     {
         lengths::data_blocks(self, width) as u32
     }

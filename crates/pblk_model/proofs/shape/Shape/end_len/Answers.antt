@@ -6,3 +6,8 @@ pub overflow_cast-result : goal.overflow_cast-result
 overflow_cast-result c =
     let short = end_is_short c.args.self.now c.args.width c.requires.accepted c.requires.width in
     omega (arith, short, c.end_blocks.ensures)
+
+pub returns-clause-short : goal.returns-clause-short
+returns-clause-short c =
+    let short = end_is_short c.args.self.now c.args.width c.requires.accepted c.requires.width in
+    omega (arith, short, c.end_blocks.ensures)

@@ -1,5 +1,5 @@
-use Rattle.pblk_laws.proofs.LineOrder.{address_below, chunk_back, block_back}
-use Rattle.pblk_laws.proofs.line_order.address_is_of.Goals as goal
+use Rattle.pblk_model.proofs.LineOrder.{address_below, chunk_back, block_back}
+use Rattle.pblk_model.proofs.line_order.address_is_of.Goals as goal
 
 pub returns : goal.returns
 returns c = λ s g k b ws whole chunk inside. (

@@ -8,7 +8,7 @@ use Rattle.std.proofs.Math.Nat.{mod-lt}
 use Rattle.std.proofs.lemmas.Nat.{div-add-mod', div_below, mul-add-lt}
 use Rattle.pblk_model.specs.declared.shape.Shape.{Shape}
 use Rattle.pblk_model.specs.LineOrder.{line_order, column_of, block_of}
-use Rattle.pblk_laws.proofs.LineOrder.{stripe_below, chunk_below}
+use Rattle.pblk_model.proofs.LineOrder.{stripe_below, chunk_below}
 
 pub get_front : {X : Type 0} (xs ys : List X) (k : ℕ) → k < length xs → slice_get (xs ++ ys) k ≡ slice_get xs k
 get_front [] ys k h = absurd (omega arith)

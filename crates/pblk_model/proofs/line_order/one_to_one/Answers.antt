@@ -1,5 +1,5 @@
-use Rattle.pblk_laws.proofs.LineOrder.{chunk_below, block_below, address_back}
-use Rattle.pblk_laws.proofs.line_order.one_to_one.Goals as goal
+use Rattle.pblk_model.proofs.LineOrder.{chunk_below, block_below, address_back}
+use Rattle.pblk_model.proofs.line_order.one_to_one.Goals as goal
 
 pub returns : goal.returns
 returns c = λ s g a ws whole wide inside. (

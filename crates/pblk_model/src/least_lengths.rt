@@ -1,4 +1,4 @@
-//! How many blocks a line's two records take.
+//! Laws on how many blocks a line's two records take.
 
 ghost use Rattle.std.specs.Prelude.{◌*◌, ◌≤◌, ℕ};
 ghost use Rattle.pblk_model.specs.declared.shape.Shape.{Shape};

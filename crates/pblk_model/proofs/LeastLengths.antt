@@ -1,11 +1,11 @@
 -- The least whole stripes that hold a record.
-use Rattle.std.proofs.Common.{ℕ, ◌+◌, ◌-◌, ◌*◌, ◌<◌, ◌≤◌, inl, inr, refl, subst, arith}
+use Rattle.std.proofs.Common.{ℕ, ◌+◌, ◌-◌, ◌*◌, ◌<◌, ◌≤◌, refl, subst, arith}
 use Rattle.std.specs.Int.{div_ceil}
 use Rattle.std.proofs.lemmas.Grind.{div_ceil_times}
 use Rattle.std.proofs.Math.Nat.{lt_of_mul-lt-mul_right, mul-le-mul_left, mul-le-mul_right, mul-pos, pos_of_ne-zero}
 use Rattle.pblk_model.specs.declared.shape.Shape.{Shape}
-use Rattle.pblk_model.specs.Shape.{units}
 use Rattle.pblk_model.specs.Accepted.{IsAccepted}
+use Rattle.pblk_model.proofs.Sizes.{sector_is_long}
 use Rattle.pblk_model.specs.LineOrder.{IsLeastMultiple, HoldsStart, HoldsEnd, start_len, end_len}
 
 pub ceil_holds : (x d : ℕ) → 0 < d → x ≤ div_ceil x d * d
@@ -22,7 +22,7 @@ pub ceil_positive : (x d : ℕ) → 0 < d → 0 < x → 0 < div_ceil x d
 ceil_positive x d h some = pos_of_ne-zero (λ e. let none : x ≤ 0 * d = subst (λ (c : ℕ). x ≤ c * d) e (ceil_holds x d h) in omega arith)
 
 pub sector_at_least : (s : Shape) → IsAccepted s → 512 ≤ s.sector
-sector_at_least s accepted = elim accepted.target.sector [ inl e ↦ omega arith | inr e ↦ omega arith ]
+sector_at_least s accepted = sector_is_long s.sector accepted.target.sector
 
 pub start_len_least : (s : Shape) → 0 < s.ws_opt → 0 < s.sector → IsLeastMultiple s.ws_opt (HoldsStart s) (start_len s)
 start_len_least s stripes sectors =
@@ -59,17 +59,3 @@ end_len_least s g stripes sectors =
       holds = marks_fit (g * s.clba - start_len s) (end_len s g) s.sector sectors (mul-pos stripes positive) (omega arith);
       least = λ k more h. mul-le-mul_left s.ws_opt (ceil_least bytes stripe k some (omega arith));
     }
-
-few_blocks : (u k b s : ℕ) → 8 ≤ k → 512 ≤ s → u * k * b * s ≤ 268435456 → u * b ≤ 65536
-few_blocks u k b s chunks sector size =
-    let h1 : u * 8 ≤ u * k = mul-le-mul_left u chunks in
-    let h2 : u * 8 * b ≤ u * k * b = mul-le-mul_right b h1 in
-    let h3 : u * k * b * 512 ≤ u * k * b * s = mul-le-mul_left (u * k * b) sector in
-    omega arith
-
--- a line has few blocks
-pub line_short : (s : Shape) (g : ℕ) → IsAccepted s → g ≤ units s → g * s.clba ≤ 65536
-line_short s g accepted few =
-    let whole = few_blocks (units s) s.chunks s.clba s.sector accepted.drive.lines_low (sector_at_least s accepted) accepted.target.size in
-    let part : g * s.clba ≤ units s * s.clba = mul-le-mul_right s.clba few in
-    omega arith
