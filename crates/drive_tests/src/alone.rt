@@ -1,8 +1,6 @@
-//! A drive without a target: from the page of its geometry to a unit that was stopped.
+//! A drive from the page of its geometry alone, without an image.
 
-use ocssd_drive::{
-    Address, ChunkState, Drive, Fuse, Geometry, GeometryErr, Mark, MemoryUnit, Unit, UnitErr,
-};
+use ocssd_drive::{Address, Drive, Geometry, GeometryErr};
 use std::alloc::Global;
 use std::test::Fail;
 
@@ -15,49 +13,13 @@ fn drive_of(alloc: Global, page: &[u8]) -> Result<Drive, Fail> {
     }
 }
 
-// Programs sectors at the front of the unit's chunk 0, if it takes them.
-fn program_first(
-    unit: &mut MemoryUnit,
-    sectors: &[u8],
-    marks: &[Mark],
-) -> Option<Result<(), UnitErr>> {
-    if unit.takes_program(0, 0, sectors, marks) {
-        Some(unit.program(0, 0, sectors, marks))
-    } else {
-        None
-    }
-}
-
 #[test]
-fn a_drive_stops_by_its_fuse(rt: HostRuntime) -> Result<(), Fail> {
+fn a_page_makes_a_drive(rt: HostRuntime) -> Result<(), Fail> {
     let mut page = [0u8; 4096];
     Geometry::small().write(&mut page);
-    let mut drive = drive_of(rt.alloc(), &page)?;
-    let fuse = Fuse {
-        unit: 1,
-        nth: 1,
-        cut: 1,
-    };
-    drive.arm(rt.alloc(), &[], Some(fuse))?;
-    let Drive { mut units, .. } = drive;
-    assert!(rt; units.len() == 2);
-    let unit = &mut units[1];
-    let mark = Mark {
-        lba: 3,
-        position: 9,
-    };
-    let stopped = program_first(unit, &[7; 2048], &[mark; 4]);
-    assert!(rt; stopped == Some(Err(UnitErr::Stopped)));
-    assert!(rt; state_of(unit, 0) == Some((ChunkState::Open, 2)));
+    let drive = drive_of(rt.alloc(), &page)?;
+    assert!(rt; drive.units.len() == 2);
     Ok(())
-}
-
-fn state_of(unit: &MemoryUnit, chunk: u32) -> Option<(ChunkState, u32)> {
-    if chunk < unit.shape().chunks {
-        Some(unit.state(chunk))
-    } else {
-        None
-    }
 }
 
 // The number of the last block of the geometry that a page is.

@@ -5,6 +5,8 @@
 #[cfg(test)]
 mod failing;
 #[cfg(test)]
+mod folder;
+#[cfg(test)]
 mod harness;
 #[cfg(test)]
 mod memory;

@@ -1,53 +1,34 @@
 //! The system's files and its standard output. Each test has a folder of its own.
 
 use crate::failing::Failing;
+use crate::folder::{Found, Put, Row, count_of, first_missing, first_wrong, make, remove};
 use crate::harness::{Asked, Told, ask, takes};
 use pblk_outside::{RealFiles, RealOut};
 use std::cell::Cell;
 use std::fs;
-use std::fs::{Metadata, Permissions};
-use std::os::unix::fs::{PermissionsExt, symlink};
 use std::test::Fail;
 
-// The names in a folder, counted.
-fn count_of(rt: HostRuntime, folder: &str) -> Result<usize, Fail> {
-    let mut count = 0usize;
-    for entry in fs::read_dir(&rt, folder)? {
-        entry?;
-        count = count.saturating_add(1);
-    }
-    Ok(count)
+// What is put into a folder, the calls there, and what is found after them.
+struct Case<'a> {
+    folder: &'a str,
+    put: &'a [Put<'a>],
+    rows: &'a [Row<'a>],
+    found: &'a [Found<'a>],
 }
 
-// A call, what it is to tell, and what is to be in the buffer after it, which has one byte before.
-type Row<'a> = (Asked<'a>, Told, &'a [u8]);
-
-// Makes the calls in order, and gives the number of the first row that went otherwise.
-fn first_wrong(rt: HostRuntime, rows: &[Row<'_>]) -> Result<Option<usize>, Fail> {
-    let alloc = rt.alloc();
-    let mut files = RealFiles::new(alloc, rt)?;
-    for (number, (asked, told, left)) in rows.iter().enumerate() {
-        let mut into = vec![in alloc; b'>']?;
-        if ask(&mut files, *asked, &mut into) != *told || into.as_slice() != *left {
-            return Ok(Some(number));
-        }
-    }
-    Ok(None)
+// The numbers of the first call that went otherwise, and of the first thing that wasn't found.
+fn wrong_in(rt: HostRuntime, case: &Case<'_>) -> Result<(Option<usize>, Option<usize>), Fail> {
+    make(rt, case.folder, case.put)?;
+    let row = first_wrong(rt, case.rows)?;
+    let thing = first_missing(rt, case.found)?;
+    remove(rt, case.folder)?;
+    Ok((row, thing))
 }
 
-fn mode_of(rt: HostRuntime, path: &str) -> Result<u32, Fail> {
-    Ok(fs::symlink_metadata(&rt, path)?.permissions().mode() & 0o777)
-}
-
-fn is_link(rt: HostRuntime, path: &str) -> Result<bool, Fail> {
-    Ok(fs::symlink_metadata(&rt, path)?.is_symlink())
-}
-
-#[test]
-fn a_file_is_replaced_whole(rt: HostRuntime) -> Result<(), Fail> {
-    fs::create_dir(&rt, "whole")?;
-    fs::write(&rt, "whole/.pblk-0", "another's")?;
-    let rows: [Row<'_>; 8] = [
+const WHOLE: Case<'static> = Case {
+    folder: "whole",
+    put: &[Put::File("whole/.pblk-0", "another's")],
+    rows: &[
         (Asked::Read("whole/image"), Told::Missing, b">"),
         (
             Asked::Write("whole/image", b"longer than what follows"),
@@ -64,125 +45,145 @@ fn a_file_is_replaced_whole(rt: HostRuntime) -> Result<(), Fail> {
         (Asked::Write("whole/image", b""), Told::Done, b">"),
         (Asked::Read("whole/image"), Told::Done, b">"),
         (Asked::Read("whole/.pblk-0"), Told::Done, b">another's"),
-    ];
-    assert_eq!(rt; first_wrong(rt, &rows)?, None);
-    assert_eq!(rt; count_of(rt, "whole")?, 2);
-    fs::remove_dir_all(&rt, "whole")?;
+    ],
+    found: &[Found::Names("whole", 2)],
+};
+
+#[test]
+fn a_file_is_replaced_whole(rt: HostRuntime) -> Result<(), Fail> {
+    assert_eq!(rt; wrong_in(rt, &WHOLE)?, (None, None));
     Ok(())
 }
 
-#[test]
-fn links_are_followed_and_stay(rt: HostRuntime) -> Result<(), Fail> {
-    fs::create_dir(&rt, "links")?;
-    fs::create_dir(&rt, "links/inner")?;
-    fs::write(&rt, "links/inner/image", "old")?;
-    symlink(&rt, "image", "links/inner/second")?;
-    symlink(&rt, "inner/second", "links/first")?;
-    symlink(&rt, "inner/new", "links/to_new")?;
-    symlink(&rt, "loop", "links/loop")?;
-    let rows: [Row<'_>; 6] = [
+const LINKS: Case<'static> = Case {
+    folder: "links",
+    put: &[
+        Put::Folder("links/inner"),
+        Put::File("links/inner/image", "old"),
+        Put::Link("links/inner/second", "image"),
+        Put::Link("links/first", "inner/second"),
+        Put::Link("links/to_new", "inner/new"),
+        Put::Link("links/loop", "loop"),
+    ],
+    rows: &[
         (Asked::Write("links/first", b"replaced"), Told::Done, b">"),
         (Asked::Read("links/inner/image"), Told::Done, b">replaced"),
         (Asked::Read("links/to_new"), Told::Missing, b">"),
         (Asked::Write("links/to_new", b"made"), Told::Done, b">"),
         (Asked::Read("links/inner/new"), Told::Done, b">made"),
         (Asked::Write("links/loop", b"no"), Told::Failed, b">"),
-    ];
-    assert_eq!(rt; first_wrong(rt, &rows)?, None);
-    for link in [
-        "links/first",
-        "links/inner/second",
-        "links/to_new",
-        "links/loop",
-    ] {
-        assert!(rt; is_link(rt, link)?, "{link}");
-    }
-    assert_eq!(rt; count_of(rt, "links")?, 4);
-    assert_eq!(rt; count_of(rt, "links/inner")?, 3);
-    fs::remove_dir_all(&rt, "links")?;
+    ],
+    found: &[
+        Found::Link("links/first"),
+        Found::Link("links/inner/second"),
+        Found::Link("links/to_new"),
+        Found::Link("links/loop"),
+        Found::Names("links", 4),
+        Found::Names("links/inner", 3),
+    ],
+};
+
+#[test]
+fn links_are_followed_and_stay(rt: HostRuntime) -> Result<(), Fail> {
+    assert_eq!(rt; wrong_in(rt, &LINKS)?, (None, None));
     Ok(())
 }
+
+const MODES: Case<'static> = Case {
+    folder: "modes",
+    put: &[
+        Put::File("modes/a", "old"),
+        Put::Mode("modes/a", 0o600),
+        Put::File("modes/b", "old"),
+        Put::Mode("modes/b", 0o664),
+        Put::File("modes/c", "old"),
+        Put::Mode("modes/c", 0o755),
+    ],
+    rows: &[
+        (Asked::Write("modes/a", b"new"), Told::Done, b">"),
+        (Asked::Write("modes/b", b"new"), Told::Done, b">"),
+        (Asked::Write("modes/c", b"new"), Told::Done, b">"),
+    ],
+    found: &[
+        Found::Mode("modes/a", 0o600),
+        Found::Mode("modes/b", 0o664),
+        Found::Mode("modes/c", 0o755),
+    ],
+};
 
 #[test]
 fn permissions_are_kept(rt: HostRuntime) -> Result<(), Fail> {
-    fs::create_dir(&rt, "modes")?;
-    for (path, mode) in [("modes/a", 0o600), ("modes/b", 0o664), ("modes/c", 0o755)] {
-        fs::write(&rt, path, "old")?;
-        fs::set_permissions(&rt, path, Permissions::from_mode(mode))?;
-        let rows: [Row<'_>; 1] = [(Asked::Write(path, b"new"), Told::Done, b">")];
-        assert_eq!(rt; first_wrong(rt, &rows)?, None, "{path}");
-        assert_eq!(rt; mode_of(rt, path)?, mode, "{path}");
-    }
-    fs::remove_dir_all(&rt, "modes")?;
+    assert_eq!(rt; wrong_in(rt, &MODES)?, (None, None));
     Ok(())
 }
 
-#[test]
-fn what_is_no_file_is_not_replaced(rt: HostRuntime) -> Result<(), Fail> {
-    fs::create_dir(&rt, "others")?;
-    fs::create_dir(&rt, "others/folder")?;
-    fs::write(&rt, "others/file", "kept")?;
-    symlink(&rt, "folder", "others/to_folder")?;
-    for name in [
-        "",
-        "others",
-        "others/folder",
-        "others/folder/",
-        "others/folder/.",
-        "others/to_folder",
-        "others/new/",
-        "others/absent/new",
-        "others/file/new",
-        "others/nul\0",
-        "/dev/null",
-        "/dev/full",
-    ] {
-        let rows: [Row<'_>; 1] = [(Asked::Write(name, b"no"), Told::Failed, b">")];
-        assert_eq!(rt; first_wrong(rt, &rows)?, None, "{name}");
-    }
-    let rows: [Row<'_>; 4] = [
+const OTHERS: Case<'static> = Case {
+    folder: "others",
+    put: &[
+        Put::Folder("others/folder"),
+        Put::File("others/file", "kept"),
+        Put::Link("others/to_folder", "folder"),
+    ],
+    rows: &[
+        (Asked::Write("", b"no"), Told::Failed, b">"),
+        (Asked::Write("others", b"no"), Told::Failed, b">"),
+        (Asked::Write("others/folder", b"no"), Told::Failed, b">"),
+        (Asked::Write("others/folder/", b"no"), Told::Failed, b">"),
+        (Asked::Write("others/folder/.", b"no"), Told::Failed, b">"),
+        (Asked::Write("others/to_folder", b"no"), Told::Failed, b">"),
+        (Asked::Write("others/new/", b"no"), Told::Failed, b">"),
+        (Asked::Write("others/absent/new", b"no"), Told::Failed, b">"),
+        (Asked::Write("others/file/new", b"no"), Told::Failed, b">"),
+        (Asked::Write("others/nul\0", b"no"), Told::Failed, b">"),
+        (Asked::Write("/dev/null", b"no"), Told::Failed, b">"),
+        (Asked::Write("/dev/full", b"no"), Told::Failed, b">"),
         (Asked::Read("others/folder"), Told::Failed, b">"),
         (Asked::Read("others/file/new"), Told::Failed, b">"),
         (Asked::Read("others/absent/new"), Told::Missing, b">"),
         (Asked::Read("others/file"), Told::Done, b">kept"),
-    ];
-    assert_eq!(rt; first_wrong(rt, &rows)?, None);
-    assert_eq!(rt; count_of(rt, "others")?, 3);
-    assert_eq!(rt; count_of(rt, "others/folder")?, 0);
-    fs::remove_dir_all(&rt, "others")?;
+    ],
+    found: &[Found::Names("others", 3), Found::Names("others/folder", 0)],
+};
+
+#[test]
+fn what_is_no_file_is_not_replaced(rt: HostRuntime) -> Result<(), Fail> {
+    assert_eq!(rt; wrong_in(rt, &OTHERS)?, (None, None));
     Ok(())
+}
+
+// What a write tells of which the nth call fails, and whether the file is then whole: the new one after Done, and else the
+// old one, with nothing beside it.
+fn write_failing(rt: HostRuntime, nth: u32) -> Result<(Told, bool), Fail> {
+    fs::write(&rt, "failing/image", "old")?;
+    let left = Cell::new(nth);
+    let runtime = Failing {
+        real: rt,
+        left: &left,
+    };
+    let mut files = RealFiles::new(rt.alloc(), runtime)?;
+    let mut into = Vec::new(rt.alloc());
+    let told = ask(&mut files, Asked::Write("failing/image", b"new"), &mut into);
+    let wanted: &[u8] = if told == Told::Done { b"new" } else { b"old" };
+    let bytes = fs::read(&rt, "failing/image")?;
+    let is_whole = bytes.as_slice() == wanted && count_of(rt, "failing")? == 1;
+    Ok((told, is_whole))
 }
 
 #[test]
 fn a_write_that_fails_at_any_call_leaves_the_old_file(rt: HostRuntime) -> Result<(), Fail> {
-    let alloc = rt.alloc();
-    fs::create_dir(&rt, "failing")?;
+    make(rt, "failing", &[])?;
     let mut failed = 0usize;
     for nth in 1u32..30 {
-        fs::write(&rt, "failing/image", "old")?;
-        let left = Cell::new(nth);
-        let runtime = Failing {
-            real: rt,
-            left: &left,
-        };
-        let mut files = RealFiles::new(alloc, runtime)?;
-        let mut into = Vec::new(alloc);
-        let told = ask(&mut files, Asked::Write("failing/image", b"new"), &mut into);
-        let bytes = fs::read(&rt, "failing/image")?;
-        if told == Told::Done {
-            assert_eq!(rt; bytes.as_slice(), b"new".as_slice(), "{nth}");
-        } else {
+        let (told, is_whole) = write_failing(rt, nth)?;
+        assert!(rt; is_whole, "{nth}");
+        if told == Told::Failed {
             failed = failed.saturating_add(1);
-            assert_eq!(rt; told, Told::Failed, "{nth}");
-            assert_eq!(rt; bytes.as_slice(), b"old".as_slice(), "{nth}");
         }
-        assert_eq!(rt; count_of(rt, "failing")?, 1, "{nth}");
     }
     // Two looks at what is there, two openings, two writes, and the new file's owner, permissions,
     // storing and place.
     assert_eq!(rt; failed, 10);
-    fs::remove_dir_all(&rt, "failing")?;
-    Ok(())
+    remove(rt, "failing")
 }
 
 #[test]
