@@ -1,0 +1,14 @@
+pub mod Rising
+pub mod Numbered
+pub mod Tallies
+pub mod Chunks
+pub mod Counted
+pub mod Slotted
+pub mod Opening
+pub mod Rows
+pub mod Places
+pub mod Among
+pub mod Agreeing
+pub mod Steps
+pub mod Placers
+pub mod Named

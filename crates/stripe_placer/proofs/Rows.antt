@@ -1,0 +1,141 @@
+-- The rows of the units.
+use Rattle.std.proofs.Common.{◌≡◌, ℕ, zero, suc, ◌+◌, ◌<◌, ◌≤◌, Bool, true, false, cond, not, ◌&&◌, Option, Some, None, List, [], ◌∷◌, ◌++◌, length, drop, refl, sym, ap, ◌∙◌, arith}
+use Rattle.std.specs.Prelude.{map, replicate}
+use Rattle.std.specs.List.{slice_get, slice_set, slice_index_or, find, filter_map, cons_option}
+use Rattle.std.specs.Option.{option_map, option_map_or}
+use Rattle.pblk_layout.specs.Live.{is_in}
+use Rattle.stripe_placer.specs.Placing.{Program, UnitRow, stopped_in, is_under_way, is_ready}
+use Rattle.stripe_placer.specs.Placing.UnitRow.{Idle, UnderWay, Stopped}
+use Rattle.stripe_placer.specs.Inside.{unit_row, OwnUnits, first_given}
+use Rattle.stripe_placer.specs.declared.unit_state.UnitState.{UnitState}
+
+pub given_none : {X Y : Type 0} (test : Y → Bool) (give : X → Option Y) (x : X) (xs : List X) → give x ≡ None → first_given test give (x ∷ xs) ≡ first_given test give xs
+given_none test give x xs e = ap (λ o. find test (cons_option o (filter_map give xs))) e
+
+pub given_failing : {X Y : Type 0} (test : Y → Bool) (give : X → Option Y) (x : X) (y : Y) (xs : List X) → give x ≡ Some y → test y ≡ false → first_given test give (x ∷ xs) ≡ first_given test give xs
+given_failing test give x y xs e no_pass = ap (λ o. find test (cons_option o (filter_map give xs))) e ∙ ap (λ b. cond b (Some y) (find test (filter_map give xs))) no_pass
+
+pub given_first : {X Y : Type 0} (test : Y → Bool) (give : X → Option Y) (x : X) (y : Y) (xs : List X) → give x ≡ Some y → test y ≡ true → first_given test give (x ∷ xs) ≡ Some y
+given_first test give x y xs e passes = ap (λ o. find test (cons_option o (filter_map give xs))) e ∙ ap (λ b. cond b (Some y) (find test (filter_map give xs))) passes
+
+alone_fails : {Y : Type 0} (test : Y → Bool) (o : Option Y) (rest : List Y) → find test (cons_option o []) ≡ None → find test (cons_option o rest) ≡ find test rest
+alone_fails test None rest e = refl
+alone_fails test (Some y) rest e = elim (test y) as (λ b. cond b (Some y) None ≡ None → cond b (Some y) (find test rest) ≡ find test rest) [
+  | true ↦ λ h. absurd cc
+  | false ↦ λ h. refl
+] e
+
+alone_passes : {Y : Type 0} (test : Y → Bool) (o : Option Y) (rest : List Y) (z : Y) → find test (cons_option o []) ≡ Some z → find test (cons_option o rest) ≡ Some z
+alone_passes test None rest z e = absurd cc
+alone_passes test (Some y) rest z e = elim (test y) as (λ b. cond b (Some y) None ≡ Some z → cond b (Some y) (find test rest) ≡ Some z) [
+  | true ↦ λ h. h
+  | false ↦ λ h. absurd cc
+] e
+
+-- by what one alone gives
+pub one_fails : {X Y : Type 0} (test : Y → Bool) (give : X → Option Y) (x : X) (xs : List X) → first_given test give (x ∷ []) ≡ None → first_given test give (x ∷ xs) ≡ first_given test give xs
+one_fails test give x xs e = alone_fails test (give x) (filter_map give xs) e
+
+pub one_passes : {X Y : Type 0} (test : Y → Bool) (give : X → Option Y) (x : X) (xs : List X) (z : Y) → first_given test give (x ∷ []) ≡ Some z → first_given test give (x ∷ xs) ≡ Some z
+one_passes test give x xs z e = alone_passes test (give x) (filter_map give xs) z e
+
+-- the first of two lists
+pub find_first : {X : Type 0} (test : X → Bool) (xs ys : List X) (x : X) → find test xs ≡ Some x → find test (xs ++ ys) ≡ Some x
+find_first test [] ys x e = absurd cc
+find_first test (z ∷ zs) ys x e = elim (test z) as (λ b. cond b (Some z) (find test zs) ≡ Some x → cond b (Some z) (find test (zs ++ ys)) ≡ Some x) [
+  | true ↦ λ h. h
+  | false ↦ λ h. find_first test zs ys x h
+] e
+
+pub find_second : {X : Type 0} (test : X → Bool) (xs ys : List X) → find test xs ≡ None → find test (xs ++ ys) ≡ find test ys
+find_second test [] ys e = refl
+find_second test (z ∷ zs) ys e = elim (test z) as (λ b. cond b (Some z) (find test zs) ≡ None → cond b (Some z) (find test (zs ++ ys)) ≡ find test ys) [
+  | true ↦ λ h. absurd cc
+  | false ↦ λ h. find_second test zs ys h
+] e
+
+pub drop_at : {X : Type 0} (xs : List X) (i : ℕ) (x : X) → slice_get xs i ≡ Some x → drop i xs ≡ x ∷ drop (i + 1) xs
+drop_at [] i x e = absurd cc
+drop_at (y ∷ ys) zero x e = let same : y ≡ x = cc in ap (λ z. z ∷ ys) same
+drop_at (y ∷ ys) (suc i) x e =
+    let more : suc (i + 1) ≡ suc i + 1 = omega arith in
+    drop_at ys i x e ∙ ap (λ k. x ∷ drop k (y ∷ ys)) more
+
+pub drop_all : {X : Type 0} (xs : List X) (i : ℕ) → length xs ≤ i → drop i xs ≡ []
+drop_all [] zero h = refl
+drop_all [] (suc i) h = refl
+drop_all (x ∷ xs) zero h = absurd (omega arith)
+drop_all (x ∷ xs) (suc i) h = drop_all xs i (omega arith)
+
+pub get_map : {X Y : Type 0} (f : X → Y) (xs : List X) (i : ℕ) → slice_get (map f xs) i ≡ option_map f (slice_get xs i)
+get_map f [] i = refl
+get_map f (x ∷ xs) zero = refl
+get_map f (x ∷ xs) (suc i) = get_map f xs i
+
+pub set_map : {X Y : Type 0} (f : X → Y) (xs : List X) (i : ℕ) (x : X) → map f (slice_set xs i x) ≡ slice_set (map f xs) i (f x)
+set_map f [] i x = refl
+set_map f (y ∷ ys) zero x = refl
+set_map f (y ∷ ys) (suc i) x = ap (λ zs. f y ∷ zs) (set_map f ys i x)
+
+pub length_map : {X Y : Type 0} (f : X → Y) (xs : List X) → length (map f xs) ≡ length xs
+length_map f [] = refl
+length_map f (x ∷ xs) = omega (arith, length_map f xs)
+
+pub map_last : {X Y : Type 0} (f : X → Y) (xs : List X) (x : X) → map f (xs ++ x ∷ []) ≡ map f xs ++ f x ∷ []
+map_last f [] x = refl
+map_last f (y ∷ ys) x = ap (λ zs. f y ∷ zs) (map_last f ys x)
+
+pub one_more : {X : Type 0} (n : ℕ) (x : X) → replicate n x ++ x ∷ [] ≡ replicate (n + 1) x
+one_more zero x = refl
+one_more (suc n) x =
+    let more : suc (n + 1) ≡ suc n + 1 = omega arith in
+    ap (λ zs. x ∷ zs) (one_more n x) ∙ ap (λ k. replicate k x) more
+
+-- ---- stopped programs
+
+and_true_last : (b : Bool) → (b && not false) ≡ b
+and_true_last true = refl
+and_true_last false = refl
+
+failing : (b : Bool) (of : Program) → cond b (Some of) None ≡ None → b ≡ false
+failing true of e = absurd cc
+failing false of e = refl
+
+passing : (b : Bool) (of o : Program) → cond b (Some of) None ≡ Some o → b ≡ true
+passing true of o e = refl
+passing false of o e = absurd cc
+
+passed : (b : Bool) (of o : Program) → cond b (Some of) None ≡ Some o → ◌≡◌ {A = Option Program} (Some of) (Some o)
+passed true of o e = e
+passed false of o e = absurd cc
+
+ready_is : (rows : List UnitRow) (busy unit : ℕ) (of : Program) → slice_get rows unit ≡ Some (Stopped of) → is_ready rows busy unit ≡ not (is_in busy unit)
+ready_is rows busy unit of e = ap (λ o. not (is_in busy unit) && not (option_map_or is_under_way o false)) e ∙ and_true_last (not (is_in busy unit))
+
+pub stopped_skip : (test ready : Program → Bool) (r : UnitRow) (rest : List UnitRow) → ((of : Program) → r ≡ Stopped of → ready of ≡ test of) → first_given test stopped_in (r ∷ []) ≡ None → first_given ready stopped_in (r ∷ rest) ≡ first_given ready stopped_in rest
+stopped_skip test ready Idle rest same none = refl
+stopped_skip test ready (UnderWay of) rest same none = refl
+stopped_skip test ready (Stopped of) rest same none = given_failing ready stopped_in (Stopped of) of rest refl (same of refl ∙ failing (test of) of none)
+
+pub stopped_hit : (test ready : Program → Bool) (r : UnitRow) (rest : List UnitRow) (o : Program) → ((of : Program) → r ≡ Stopped of → ready of ≡ test of) → first_given test stopped_in (r ∷ []) ≡ Some o → first_given ready stopped_in (r ∷ rest) ≡ Some o
+stopped_hit test ready Idle rest o same some = absurd cc
+stopped_hit test ready (UnderWay of) rest o same some = absurd cc
+stopped_hit test ready (Stopped of) rest o same some = given_first ready stopped_in (Stopped of) of rest refl (same of refl ∙ passing (test of) of o some) ∙ passed (test of) of o some
+
+-- the readiness of a stopped program's unit is that it isn't busy
+pub stopped_ready : (states : List UnitState) (busy i : ℕ) (of : Program) → OwnUnits states → slice_get (map unit_row states) i ≡ Some (Stopped of) → is_ready (map unit_row states) busy of.unit ≡ not (is_in busy of.unit)
+stopped_ready states busy i of own e = ready_is (map unit_row states) busy of.unit of (ap (slice_get (map unit_row states)) (own i of e) ∙ e)
+
+pub row_at : (states : List UnitState) (i : ℕ) (d : UnitState) → i < length states → slice_get (map unit_row states) i ≡ Some (unit_row (slice_index_or states i d))
+row_at [] i d h = absurd (omega arith)
+row_at (x ∷ xs) zero d h = refl
+row_at (x ∷ xs) (suc i) d h = row_at xs i d (omega arith)
+
+pub get_is : {X : Type 0} (xs : List X) (i : ℕ) (x : X) → i < length xs → x ≡ slice_index_or xs i x → slice_get xs i ≡ Some x
+get_is [] i x h e = absurd (omega arith)
+get_is (y ∷ ys) zero x h e = ap (λ z. Some z) (sym e)
+get_is (y ∷ ys) (suc i) x h e = get_is ys i x (omega arith) e
+
+pub length_replicate : {X : Type 0} (n : ℕ) (x : X) → length (replicate n x) ≡ n
+length_replicate zero x = refl
+length_replicate (suc n) x = omega (arith, length_replicate n x)

@@ -1,0 +1,45 @@
+use Rattle.std.proofs.Common.{◌≡◌, ◌/◌, ap, arith}
+use Rattle.std.specs.Prelude.{map}
+use Rattle.std.specs.List.{filter}
+use Rattle.pblk_model.specs.declared.shape.Shape.{Shape}
+use Rattle.stripe_placer.specs.OpenLines.{in_line, has_left}
+use Rattle.stripe_placer.specs.OpenLines.Stripe.{Landed}
+use Rattle.stripe_placer.specs.Placing.{Program, program}
+use Rattle.stripe_placer.proofs.Placers.{its_line, its_waits, unit_inside, answered_slots, answered_view, AfterAnswer, after_answer, landed_other}
+use Rattle.stripe_placer.proofs.placer.Placer.landed.Goals as goal
+
+pub land_in-requires : goal.land_in-requires
+land_in-requires c =
+    let of : Program = program c.args.of.now in
+    record {
+      few = c.self.invariant.few;
+      apart = c.self.invariant.agree.apart;
+      there = (its_line c.self.inside c.args.self.now of c.self.invariant c.self.view_is c.requires).line;
+      waits = its_waits c.self.inside c.args.self.now of c.shape.result.now.ws_opt c.self.invariant c.self.view_is c.requires (ap (λ (s : Shape). s.ws_opt) c.shape.ensures.shape);
+    }
+
+pub index_mut-requires : goal.index_mut-requires
+index_mut-requires c = omega (arith, unit_inside c.self.inside c.args.self.now (program c.args.of.now) c.self.view_is c.requires, c.self.inside.units.ok.0)
+
+pub invariant_of-self : goal.invariant_of-self
+invariant_of-self c =
+    let p = c.self.inside in
+    let of : Program = program c.args.of.now in
+    let lines : c.land_in.new.slots.items ≡ filter has_left (map (in_line of.line (of.at / p.layout.ws_opt) Landed) p.slots.items) =
+    answered_slots p of Landed c.shape.result.now.ws_opt c.land_in.new.slots.items (ap (λ (s : Shape). s.ws_opt) c.shape.ensures.shape) c.land_in.ensures.items in
+    let after : AfterAnswer p of c.land_in.new.slots.items = after_answer p c.args.self.now of Landed c.land_in.new.slots.items c.self.invariant c.self.view_is c.requires landed_other lines in
+    record {
+      accepted = c.self.invariant.accepted;
+      ring = c.self.invariant.ring;
+      rows = after.rows;
+      few = after.few;
+      room = omega (arith, c.self.invariant.room, c.land_in.ensures.capacity);
+      agree = after.agree;
+    }
+
+pub returns : goal.returns
+returns c =
+    let p = c.self.inside in
+    let of : Program = program c.args.of.now in
+    answered_view p c.args.self.now of Landed c.land_in.new.slots.items c.self.view_is
+    (answered_slots p of Landed c.shape.result.now.ws_opt c.land_in.new.slots.items (ap (λ (s : Shape). s.ws_opt) c.shape.ensures.shape) c.land_in.ensures.items)

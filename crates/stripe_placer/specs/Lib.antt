@@ -1,0 +1,6 @@
+pub mod Entries
+pub mod OpenLines
+pub mod Placing
+pub mod Queues
+pub mod Slots
+pub mod Inside
