@@ -1,0 +1,166 @@
+//! The placer of a blank drive, and one line that loses its first stripe and so takes pads alone.
+ghost use Rattle.std.specs.Prelude.{◌≡◌, ◌≢◌, ◌<◌, ◌^◌, length, IfSome, IfOk, []};
+ghost use Rattle.pblk_model.specs.Shape.{units};
+ghost use Rattle.pblk_model.specs.LineOrder.{data_len};
+ghost use Rattle.pblk_layout.specs.Live.{units_in};
+ghost use Rattle.stripe_placer.specs.Placing.{program, IsUnderWay, IsNext};
+
+use crate::draw::DRAWS;
+use crate::drive::Drive;
+use crate::sheet::Sheet;
+use anyhow::{Context, Result, ensure};
+use pblk_layout::Layout;
+use std::alloc::{AllocError, Global};
+use std::rt::Clock;
+use stripe_placer::{Placement, Placer};
+
+#[derive(Drop)]
+pub(crate) struct Stripes {
+    placer: Placer,
+    units: u32,
+    ghost rows: { length placer.units ≡ units },
+}
+
+/// Which answer a stripe gets.
+#[derive(Clone, Copy, Debug)]
+enum Answer {
+    Landed,
+    Lost,
+    Stopped,
+}
+
+// All units of a drive, where a line of all of them has data.
+fn all_units(layout: &Layout) -> Option<u64>
+    ensures units { IfSome result (λ live. live < 2 ^ units layout.now) }
+    ensures data { IfSome result (λ live. data_len layout.now (length (units_in live)) ≢ 0) }
+{
+    let count = layout.shape().units();
+    if count >= 64 {
+        return None;
+    }
+    let live = (1u64 << count).wrapping_sub(1);
+    if live < 1 << count && layout.data_len(layout.width(live)) != 0 {
+        Some(live)
+    } else {
+        None
+    }
+}
+
+impl Stripes {
+    // No line is open.
+    fn new(alloc: Global, drive: &Drive) -> Result<Stripes, AllocError>
+        ensures none { IfOk result (λ s. s.placer.lines ≡ []) }
+        ensures shape { IfOk result (λ s. s.placer.shape ≡ drive.now.layout) }
+    {
+        let layout = drive.layout;
+        let units = layout.shape().units();
+        let placer = Placer::new(alloc, &layout)?;
+        Ok(Stripes { placer, units })
+    }
+
+    // Line 0 is opened, of these units.
+    fn begin(&mut self, live: u64) -> u64
+        requires line { 0 < self.old.placer.shape.chunks }
+        requires none { self.old.placer.lines ≡ [] }
+        requires units { live < 2 ^ units self.old.placer.shape }
+        requires data { data_len self.old.placer.shape (length (units_in live)) ≢ 0 }
+    {
+        self.placer.begin(0, live);
+        1
+    }
+
+    // How many of the looks find a stripe.
+    fn look(&self) -> u64 {
+        let mut sum = 0u64;
+        for turn in 0..DRAWS {
+            let found = self.placer.next_stripe(turn & 1);
+            sum = sum.wrapping_add(u64::from(found.is_some()));
+        }
+        sum
+    }
+
+    fn pad_to(&mut self) -> u64 {
+        for position in 0..DRAWS {
+            self.placer.pad_to(position);
+        }
+        DRAWS
+    }
+
+    fn place(&mut self, of: &Placement)
+        requires unit { of.now.unit < self.old.units }
+        requires next { IsNext self.old.placer (program of.now) }
+        ensures under_way { IsUnderWay self.new.placer (program of.now) }
+    {
+        self.placer.placed(of);
+    }
+
+    fn answer(&mut self, of: &Placement, answer: Answer)
+        requires { IsUnderWay self.old.placer (program of.now) }
+    {
+        match answer {
+            Answer::Landed => self.placer.landed(of),
+            Answer::Lost => self.placer.lost(of),
+            Answer::Stopped => self.placer.stopped(of),
+        }
+    }
+
+    // Places the next stripe, which gets this answer.
+    fn step(&mut self, answer: Answer) -> u64 {
+        match self.placer.next_stripe(0) {
+            None => 0,
+            Some(of) => {
+                if of.unit >= self.units {
+                    return 0;
+                }
+                self.place(&of);
+                self.answer(&of, answer);
+                1
+            }
+        }
+    }
+
+    // So many stripes get an answer each.
+    fn steps(&mut self, turns: u64, answer: Answer) -> u64 {
+        let mut sum = 0u64;
+        for _ in 0..turns {
+            sum = sum.wrapping_add(self.step(answer));
+        }
+        sum
+    }
+
+    // Measures the calls on a line that was begun.
+    fn round<C: Clock>(&mut self, clock: &C, sheet: &mut Sheet) -> Result<()> {
+        sheet.start(clock)?;
+        let sum = self.look();
+        sheet.stop(clock, "placer.next_stripe", DRAWS, sum)?;
+        sheet.start(clock)?;
+        let sum = self.pad_to();
+        sheet.stop(clock, "placer.pad_to", DRAWS, sum)?;
+        sheet.start(clock)?;
+        let sum = self.steps(DRAWS, Answer::Stopped);
+        sheet.stop(clock, "placer.placed and placer.stopped", DRAWS, sum)?;
+        sheet.start(clock)?;
+        let sum = self.step(Answer::Lost);
+        sheet.stop(clock, "placer.placed and placer.lost", 1, sum)?;
+        sheet.start(clock)?;
+        let sum = self.steps(6, Answer::Landed);
+        sheet.stop(clock, "placer.placed and placer.landed", 6, sum)
+    }
+}
+
+/// Measures each call.
+pub(crate) fn measure<C: Clock>(
+    alloc: Global,
+    clock: &C,
+    sheet: &mut Sheet,
+    drive: &Drive,
+) -> Result<()> {
+    let layout = drive.layout;
+    ensure!(layout.shape().chunks != 0, "a drive has a line");
+    let live = all_units(&layout).context("a line has data")?;
+    let mut stripes = Stripes::new(alloc, drive)?;
+    sheet.start(clock)?;
+    let sum = stripes.begin(live);
+    sheet.stop(clock, "placer.begin", 1, sum)?;
+    stripes.round(clock, sheet)
+}
