@@ -1,0 +1,5 @@
+pub mod Growing
+pub mod SyncedFront
+pub mod Appending
+pub mod Answered
+pub mod LandedPrograms

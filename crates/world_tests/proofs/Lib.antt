@@ -1,0 +1,16 @@
+pub mod Knowing
+pub mod Blocks
+pub mod SimpleWorld
+pub mod FailedWorld
+pub mod CollectedWorld
+pub mod WrongEngine
+pub mod WrongStripes
+pub mod WrongUnits
+pub mod Resting
+pub mod Overwriting
+pub mod OverwrittenWorld
+pub mod WrongFrees
+pub mod OtherWorlds
+pub mod OlderWorld
+pub mod FillingWorld
+pub mod FilledWorld
