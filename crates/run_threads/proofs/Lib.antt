@@ -1,0 +1,6 @@
+mod Names
+mod Tags
+mod Running
+mod InOrder
+mod Laws
+mod Whole

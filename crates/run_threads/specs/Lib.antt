@@ -1,0 +1,5 @@
+pub mod Board
+pub mod Words
+pub mod Run
+pub mod Rooms
+pub mod Desk

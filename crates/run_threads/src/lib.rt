@@ -1,0 +1,13 @@
+//! Runs the threads of a script through ports, and records what each command was answered.
+#![tactic(auto)]
+
+mod board;
+mod command;
+mod records;
+mod runner;
+mod sectors;
+mod thread;
+
+pub use block_port::{Front, Place, Port};
+pub use records::{Answer, Answers, Records, ThreadRows, Trouble, Word, Words};
+pub use runner::run;
