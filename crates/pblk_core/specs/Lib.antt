@@ -1,0 +1,7 @@
+pub mod OpenedLines
+pub mod PlacerOf
+pub mod SlotOf
+pub mod WindowOf
+pub mod RowsOf
+pub mod Stepping
+pub mod Positions
