@@ -1,1 +1,2 @@
 pub mod Unwritten
+mod Waiting

@@ -14,6 +14,7 @@ mod sectors;
 mod sheet;
 mod stripes;
 mod table;
+mod waits;
 
 use anyhow::{Context, Result, ensure};
 use buffer::Buffer;
@@ -119,6 +120,7 @@ fn main(rt: HostRuntime) -> Result<()> {
     measure_buffer(alloc, &rt, &mut sheet, drive.shape(), asked.rounds)?;
     for _ in 0..asked.rounds {
         stripes::measure(alloc, &rt, &mut sheet, &drive)?;
+        waits::measure(alloc, &rt, &mut sheet, &drive)?;
     }
     measure_nothing(&rt, &mut sheet, asked.rounds)?;
     sheet.print(&rt, asked.has_times)

@@ -104,28 +104,37 @@ impl Stripes {
         }
     }
 
-    // Places the next stripe, which gets this answer.
-    fn step(&mut self, answer: Answer) -> u64 {
-        match self.placer.next_stripe(0) {
-            None => 0,
-            Some(of) => {
-                if of.unit >= self.units {
-                    return 0;
-                }
-                self.place(&of);
-                self.answer(&of, answer);
-                1
-            }
-        }
+    // Places the next stripe, which gets this answer. Each of the two calls is measured by itself, under its name.
+    fn step<C: Clock>(
+        &mut self,
+        clock: &C,
+        sheet: &mut Sheet,
+        answer: Answer,
+        names: (&'static str, &'static str),
+    ) -> Result<()> {
+        let of = self.placer.next_stripe(0).context("a stripe is next")?;
+        ensure!(of.unit < self.units, "its unit is one of the drive");
+        sheet.start(clock)?;
+        self.place(&of);
+        sheet.stop(clock, names.0, 1, 1)?;
+        sheet.start(clock)?;
+        self.answer(&of, answer);
+        sheet.stop(clock, names.1, 1, 1)
     }
 
     // So many stripes get an answer each.
-    fn steps(&mut self, turns: u64, answer: Answer) -> u64 {
-        let mut sum = 0u64;
+    fn steps<C: Clock>(
+        &mut self,
+        clock: &C,
+        sheet: &mut Sheet,
+        turns: u32,
+        answer: Answer,
+        names: (&'static str, &'static str),
+    ) -> Result<()> {
         for _ in 0..turns {
-            sum = sum.wrapping_add(self.step(answer));
+            self.step(clock, sheet, answer, names)?;
         }
-        sum
+        Ok(())
     }
 
     // Measures the calls on a line that was begun.
@@ -136,15 +145,12 @@ impl Stripes {
         sheet.start(clock)?;
         let sum = self.pad_to();
         sheet.stop(clock, "placer.pad_to", DRAWS, sum)?;
-        sheet.start(clock)?;
-        let sum = self.steps(DRAWS, Answer::Stopped);
-        sheet.stop(clock, "placer.placed and placer.stopped", DRAWS, sum)?;
-        sheet.start(clock)?;
-        let sum = self.step(Answer::Lost);
-        sheet.stop(clock, "placer.placed and placer.lost", 1, sum)?;
-        sheet.start(clock)?;
-        let sum = self.steps(6, Answer::Landed);
-        sheet.stop(clock, "placer.placed and placer.landed", 6, sum)
+        let stopped = ("placer.placed again", "placer.stopped");
+        self.steps(clock, sheet, 6, Answer::Stopped, stopped)?;
+        let lost = ("placer.placed again", "placer.lost");
+        self.steps(clock, sheet, 1, Answer::Lost, lost)?;
+        let landed = ("placer.placed", "placer.landed");
+        self.steps(clock, sheet, 6, Answer::Landed, landed)
     }
 }
 
