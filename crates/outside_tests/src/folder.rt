@@ -1,14 +1,12 @@
-//! A folder of the system's files: what is put there, asked, and found.
+//! A folder of the system's files: what is put there, and found.
 
-use crate::harness::{Asked, Told, ask};
-use pblk_outside::RealFiles;
 use std::fs;
 use std::fs::{Metadata, Permissions};
 use std::os::unix::fs::{PermissionsExt, symlink};
 use std::test::Fail;
 
 /// Something that is put into a folder.
-#[derive(Clone, Copy, Debug)]
+#[derive(Clone, Copy)]
 pub enum Put<'a> {
     Folder(&'a str),
     File(&'a str, &'a str),
@@ -18,16 +16,13 @@ pub enum Put<'a> {
 }
 
 /// Something that is found there.
-#[derive(Clone, Copy, Debug)]
+#[derive(Clone, Copy)]
 pub enum Found<'a> {
     /// A folder with so many names.
     Names(&'a str, usize),
     Link(&'a str),
     Mode(&'a str, u32),
 }
-
-/// A call, what it is to tell, and what is to be in the buffer after it, which has one byte before.
-pub type Row<'a> = (Asked<'a>, Told, &'a [u8]);
 
 /// Makes a folder, and puts these things there.
 pub fn make(rt: HostRuntime, folder: &str, things: &[Put<'_>]) -> Result<(), Fail> {
@@ -46,19 +41,6 @@ fn put_thing(rt: HostRuntime, thing: Put<'_>) -> Result<(), Fail> {
         Put::Mode(path, mode) => fs::set_permissions(&rt, path, Permissions::from_mode(mode))?,
     }
     Ok(())
-}
-
-/// Makes the calls in order, and gives the number of the first row that went otherwise.
-pub fn first_wrong(rt: HostRuntime, rows: &[Row<'_>]) -> Result<Option<usize>, Fail> {
-    let alloc = rt.alloc();
-    let mut files = RealFiles::new(alloc, rt)?;
-    for (number, (asked, told, left)) in rows.iter().enumerate() {
-        let mut into = vec![in alloc; b'>']?;
-        if ask(&mut files, *asked, &mut into) != *told || into.as_slice() != *left {
-            return Ok(Some(number));
-        }
-    }
-    Ok(None)
 }
 
 /// The number of the first of these things that isn't found.

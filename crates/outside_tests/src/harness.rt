@@ -1,16 +1,17 @@
 //! What is asked of files and sinks, and what they tell.
 
 use pblk_outside::{FileErr, Files, Sink};
+use std::alloc::{AllocError, Global};
 
 /// A call of files.
-#[derive(Clone, Copy, Debug)]
+#[derive(Clone, Copy)]
 pub enum Asked<'a> {
     Read(&'a str),
     Write(&'a str, &'a [u8]),
 }
 
 /// What a call told.
-#[derive(Clone, Copy, Debug, PartialEq, Eq)]
+#[derive(Clone, Copy, PartialEq, Eq)]
 pub enum Told {
     Done,
     Failed,
@@ -30,6 +31,24 @@ pub fn ask<F: Files>(files: &mut F, asked: Asked<'_>, into: &mut Vec<u8>) -> Tol
         Err(FileErr::Missing) => Told::Missing,
         Err(FileErr::Memory) => Told::Memory,
     }
+}
+
+/// A call, what it is to tell, and what is to be in the buffer after it, which has one byte before.
+pub type Row<'a> = (Asked<'a>, Told, &'a [u8]);
+
+/// Makes the calls in order, and gives the number of the first row that went otherwise.
+pub fn first_wrong<F: Files>(
+    alloc: Global,
+    files: &mut F,
+    rows: &[Row<'_>],
+) -> Result<Option<usize>, AllocError> {
+    for (number, (asked, told, left)) in rows.iter().enumerate() {
+        let mut into = vec![in alloc; b'>']?;
+        if ask(files, *asked, &mut into) != *told || into.as_slice() != *left {
+            return Ok(Some(number));
+        }
+    }
+    Ok(None)
 }
 
 /// Gives a sink a piece, and tells whether it took the whole of it.

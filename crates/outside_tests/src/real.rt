@@ -1,9 +1,10 @@
 //! The system's files and its standard output. Each test has a folder of its own.
 
 use crate::failing::Failing;
-use crate::folder::{Found, Put, Row, count_of, first_missing, first_wrong, make, remove};
-use crate::harness::{Asked, Told, ask, takes};
+use crate::folder::{Found, Put, count_of, first_missing, make, remove};
+use crate::harness::{Asked, Row, Told, ask, first_wrong, takes};
 use pblk_outside::{RealFiles, RealOut};
+use std::alloc::AllocError;
 use std::cell::Cell;
 use std::fs;
 use std::test::Fail;
@@ -16,10 +17,15 @@ struct Case<'a> {
     found: &'a [Found<'a>],
 }
 
+fn first_wrong_call(rt: HostRuntime, rows: &[Row<'_>]) -> Result<Option<usize>, AllocError> {
+    let mut files = RealFiles::new(rt.alloc(), rt)?;
+    first_wrong(rt.alloc(), &mut files, rows)
+}
+
 // The numbers of the first call that went otherwise, and of the first thing that wasn't found.
 fn wrong_in(rt: HostRuntime, case: &Case<'_>) -> Result<(Option<usize>, Option<usize>), Fail> {
     make(rt, case.folder, case.put)?;
-    let row = first_wrong(rt, case.rows)?;
+    let row = first_wrong_call(rt, case.rows)?;
     let thing = first_missing(rt, case.found)?;
     remove(rt, case.folder)?;
     Ok((row, thing))
@@ -151,10 +157,8 @@ fn what_is_no_file_is_not_replaced(rt: HostRuntime) -> Result<(), Fail> {
     Ok(())
 }
 
-// What a write tells of which the nth call fails, and whether the file is then whole: the new one after Done, and else the
-// old one, with nothing beside it.
-fn write_failing(rt: HostRuntime, nth: u32) -> Result<(Told, bool), Fail> {
-    fs::write(&rt, "failing/image", "old")?;
+// What a write tells of which the nth call fails.
+fn told_failing(rt: HostRuntime, nth: u32) -> Result<Told, AllocError> {
     let left = Cell::new(nth);
     let runtime = Failing {
         real: rt,
@@ -162,11 +166,15 @@ fn write_failing(rt: HostRuntime, nth: u32) -> Result<(Told, bool), Fail> {
     };
     let mut files = RealFiles::new(rt.alloc(), runtime)?;
     let mut into = Vec::new(rt.alloc());
-    let told = ask(&mut files, Asked::Write("failing/image", b"new"), &mut into);
+    let asked = Asked::Write("failing/image", b"new");
+    Ok(ask(&mut files, asked, &mut into))
+}
+
+// Whether the file is whole: the new one after Done, and else the old one, with nothing beside it.
+fn is_whole(rt: HostRuntime, told: Told) -> Result<bool, Fail> {
     let wanted: &[u8] = if told == Told::Done { b"new" } else { b"old" };
     let bytes = fs::read(&rt, "failing/image")?;
-    let is_whole = bytes.as_slice() == wanted && count_of(rt, "failing")? == 1;
-    Ok((told, is_whole))
+    Ok(bytes.as_slice() == wanted && count_of(rt, "failing")? == 1)
 }
 
 #[test]
@@ -174,8 +182,9 @@ fn a_write_that_fails_at_any_call_leaves_the_old_file(rt: HostRuntime) -> Result
     make(rt, "failing", &[])?;
     let mut failed = 0usize;
     for nth in 1u32..30 {
-        let (told, is_whole) = write_failing(rt, nth)?;
-        assert!(rt; is_whole, "{nth}");
+        fs::write(&rt, "failing/image", "old")?;
+        let told = told_failing(rt, nth)?;
+        assert!(rt; is_whole(rt, told)?, "{nth}");
         if told == Told::Failed {
             failed = failed.saturating_add(1);
         }
