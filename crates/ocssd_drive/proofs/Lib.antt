@@ -19,3 +19,4 @@ mod UnitChunks
 mod UnitSteps
 mod UnitWrites
 pub mod Restoring
+pub mod Unarmed

@@ -1,10 +1,11 @@
 //! A parallel unit in memory.
-ghost use Rattle.std.specs.Prelude.{◌≡◌, ◌*◌, ◌%◌, ◌/◌, ◌-◌, ◌^◌, ◌<◌, ◌+◌, ◌≤◌, ◌↔◌, IsTrue, IsNone, IfSome, length, min, replicate, slice_get, slice_set, IfOk, Some, None};
+ghost use Rattle.std.specs.Prelude.{◌≡◌, ◌*◌, ◌%◌, ◌/◌, ◌-◌, ◌^◌, ◌<◌, ◌+◌, ◌≤◌, ◌↔◌, IsTrue, IsNone, IfSome, length, min, replicate, slice_get, slice_set, IfOk, IsOk, Some, None};
 ghost use Rattle.pblk_model.specs.Accepted.{IsAccepted};
 ghost use Rattle.pblk_model.specs.Blocks.{blocks_of};
 ghost use Rattle.pblk_model.specs.Chunk.{IsChunk, PointerFits, free_chunk, pointer};
 ghost use Rattle.pblk_model.specs.ChunkStep.{Write, Read, Reset};
 ghost use Rattle.pblk_model.specs.UnitLog.{UnitOutcome};
+ghost use Rattle.unit_port.specs.Armed.{IsUnarmed};
 ghost use Rattle.unit_port.specs.Unit.{IsChunkOf, IsFitUnit, IsReady, Steps, Takes, TellsBlock, TellsDone};
 ghost use Rattle.ocssd_drive.specs.Planned.{IsPlanned};
 ghost use Rattle.ocssd_drive.specs.Units.{WornUnit, new_unit, with_arms, with_stored, worn_chunk, disarmed, IsChunkIn, IsUnitOf, IsWrite, TakesUnder, MeetsFault};
@@ -264,6 +265,7 @@ impl Unit for MemoryUnit {
         ensures event { let blocks = blocks_of self.old.unit.shape.sector bytes.now marks.now
             in (outcome : UnitOutcome) × TellsDone result outcome × Steps self.old.unit chunk (Write at blocks) outcome self.new.unit }
         ensures fits { IsFitUnit self.new.unit }
+        ensures quiet { IsUnarmed self.old.unit.armed → IsOk result }
     {
         are_blocks(&self.shape, bytes, marks);
         let fault = self.journal.fault(CommandKind::Program);
@@ -292,6 +294,7 @@ impl Unit for MemoryUnit {
         // What each `Unit` ensures.
         ensures event { (outcome : UnitOutcome) × TellsBlock out.old out.new result outcome × Steps self.old.unit chunk (Read block) outcome self.new.unit }
         ensures fits { IsFitUnit self.new.unit }
+        ensures quiet { IsUnarmed self.old.unit.armed → IsOk result }
     {
         let fault = self.journal.fault(CommandKind::Fetch);
         let found = &self.chunks[chunk as usize];
@@ -315,6 +318,7 @@ impl Unit for MemoryUnit {
         // What each `Unit` ensures.
         ensures event { (outcome : UnitOutcome) × TellsDone result outcome × Steps self.old.unit chunk Reset outcome self.new.unit }
         ensures fits { IsFitUnit self.new.unit }
+        ensures quiet { IsUnarmed self.old.unit.armed → IsOk result }
     {
         let fault = self.journal.fault(CommandKind::Reset);
         let found = &mut self.chunks[chunk as usize];

@@ -1,5 +1,5 @@
 -- What a unit is armed with, and when it was.
-use Rattle.std.specs.Prelude.{ℕ, Bool, true, false, List, [], drop, Option, None}
+use Rattle.std.specs.Prelude.{ℕ, Bool, true, false, List, [], drop, Option, None, ◌≡◌}
 use Rattle.std.specs.List.{list_any}
 use Rattle.atomic_table.specs.Seated.{TableId}
 use Rattle.pblk_model.specs.UnitLog.{UnitEvent, UnitOutcome, Answered, Failed, Stopped}
@@ -18,6 +18,10 @@ pub record Armed : Type 0 where
 -- with neither plans nor a fuse, when the log had this length
 abbrev pub unarmed : ℕ → Armed
 unarmed since = record { unit = 0; plans = []; fuse = None; word = None; since = since }
+
+-- neither a plan nor a fuse
+abbrev pub IsUnarmed : Armed → Type 0
+IsUnarmed a = (a.plans ≡ []) × (a.fuse ≡ None)
 
 -- the events since
 abbrev pub events_since : Armed → List UnitEvent → List UnitEvent

@@ -1,9 +1,10 @@
 //! A parallel unit of a drive, as the layers above command it.
-ghost use Rattle.std.specs.Prelude.{◌≡◌, ◌*◌, ◌-◌, ◌^◌, ◌<◌, length, min, true};
+ghost use Rattle.std.specs.Prelude.{◌≡◌, ◌*◌, ◌-◌, ◌^◌, ◌<◌, length, min, true, IsOk};
 ghost use Rattle.pblk_model.specs.Blocks.{blocks_of};
 ghost use Rattle.pblk_model.specs.Chunk.{pointer};
 ghost use Rattle.pblk_model.specs.ChunkStep.{Write, Read, Reset};
 ghost use Rattle.pblk_model.specs.UnitLog.{UnitOutcome};
+ghost use Rattle.unit_port.specs.Armed.{IsUnarmed};
 ghost use Rattle.unit_port.specs.Unit.{ModelUnit, Takes, Steps, IsChunkOf, IsFitUnit, TellsDone, TellsBlock};
 
 use pblk_model::{ChunkState, Got, Mark};
@@ -26,7 +27,8 @@ pub enum UnitErr {
 /// Each program, fetch and reset adds one event to the unit's log, and leaves the chunks as that event
 /// says. A unit is stopped from its first `Stopped` answer until it is disarmed or armed anew. A stopped
 /// unit answers `Stopped` to every command, and changes nothing but its log. After `Failed` or `Stopped`
-/// the log's last event says what the command had landed.
+/// the log's last event says what the command had landed. A unit that is armed with no plan and no fuse
+/// fails no command and stops at none.
 pub trait Unit {
     /// The shape of the unit's drive, its chunks, its log, and what it was armed with.
     ghost model: { Self → ModelUnit };
@@ -44,7 +46,8 @@ pub trait Unit {
             in Takes (model self.old) chunk (Write at blocks) }
         ensures event { let blocks = blocks_of (model self.old).shape.sector bytes.now marks.now
             in (outcome : UnitOutcome) × TellsDone result outcome × Steps (model self.old) chunk (Write at blocks) outcome (model self.new) }
-        ensures fits { IsFitUnit (model self.old) → IsFitUnit (model self.new) };
+        ensures fits { IsFitUnit (model self.old) → IsFitUnit (model self.new) }
+        ensures quiet { IsUnarmed (model self.old).armed → IsOk result };
 
     /// Copies the sector of a block to `out`, which has the length of a sector, and gives its mark, or
     /// `Empty` exactly where the block isn't readable. Where no sector is given `out` is as before.
@@ -54,7 +57,8 @@ pub trait Unit {
         requires whole { length out.old ≡ (model self.old).shape.sector }
         requires taken { Takes (model self.old) chunk (Read block) }
         ensures event { (outcome : UnitOutcome) × TellsBlock out.old out.new result outcome × Steps (model self.old) chunk (Read block) outcome (model self.new) }
-        ensures fits { IsFitUnit (model self.old) → IsFitUnit (model self.new) };
+        ensures fits { IsFitUnit (model self.old) → IsFitUnit (model self.new) }
+        ensures quiet { IsUnarmed (model self.old).armed → IsOk result };
 
     /// Takes all blocks of a chunk away, and leaves it Free, or Offline where it was closed before its end.
     ///
@@ -63,7 +67,8 @@ pub trait Unit {
     fn reset(&mut self, chunk: u32) -> Result<(), UnitErr>
         requires { Takes (model self.old) chunk Reset }
         ensures event { (outcome : UnitOutcome) × TellsDone result outcome × Steps (model self.old) chunk Reset outcome (model self.new) }
-        ensures fits { IsFitUnit (model self.old) → IsFitUnit (model self.new) };
+        ensures fits { IsFitUnit (model self.old) → IsFitUnit (model self.new) }
+        ensures quiet { IsUnarmed (model self.old).armed → IsOk result };
 
     /// The state of a chunk of the unit, and its write pointer, from 0 to CLBA. It isn't logged.
     fn state(&self, chunk: u32) -> (ChunkState, u32)

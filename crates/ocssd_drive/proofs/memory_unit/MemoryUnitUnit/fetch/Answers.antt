@@ -1,5 +1,7 @@
 use Rattle.pblk_model.specs.ChunkStep.{Read}
 use Rattle.unit_port.specs.declared.armed.CommandKind.TheVariants as kinds
+use Rattle.unit_port.specs.Armed.{IsUnarmed}
+use Rattle.ocssd_drive.proofs.Unarmed.{befalls_nothing, got_by}
 use Rattle.unit_port.specs.Unit.{Takes}
 use Rattle.ocssd_drive.specs.Shown.{fetch_outcome}
 use Rattle.ocssd_drive.specs.Units.{MeetsFault}
@@ -53,3 +55,9 @@ returns-clause-event c =
 
 pub returns-clause-fits : goal.returns-clause-fits
 returns-clause-fits c = fit_with c.self.inside c.note.new.self c.self.invariant
+
+pub returns-clause-quiet : goal.returns-clause-quiet
+returns-clause-quiet c = λ unarmed.
+    let h = (goal.at.returns-clause-quiet c).After-index-found in
+    let un : IsUnarmed c.self.inside.journal.armed = rw (← c.self.view_is) at unarmed in
+    got_by c.self.inside.shape (Read c.args.block) c.fault-fault.result c.read_chunk-got.new.out c.read_chunk-got.result (befalls_nothing c.self.inside.journal kinds.Fetch c.fault-fault.result c.fault-fault.new.self (befalls h) un) (met c).by

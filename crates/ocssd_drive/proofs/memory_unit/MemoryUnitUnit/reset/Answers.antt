@@ -1,5 +1,7 @@
 use Rattle.pblk_model.specs.ChunkStep.{Reset}
 use Rattle.unit_port.specs.declared.armed.CommandKind.TheVariants as kinds
+use Rattle.unit_port.specs.Armed.{IsUnarmed}
+use Rattle.ocssd_drive.proofs.Unarmed.{befalls_nothing, done_by}
 use Rattle.unit_port.specs.Unit.{Takes}
 use Rattle.ocssd_drive.specs.Shown.{outcome_of}
 use Rattle.ocssd_drive.specs.Units.{MeetsFault}
@@ -47,3 +49,9 @@ returns-clause-event c =
 
 pub returns-clause-fits : goal.returns-clause-fits
 returns-clause-fits c = fit_after c.self.inside c.args.chunk c.reset_chunk-landed.new.chunk c.note.new.self c.self.invariant (met c).fits
+
+pub returns-clause-quiet : goal.returns-clause-quiet
+returns-clause-quiet c = λ unarmed.
+    let h = (goal.at.returns-clause-quiet c).After-index_mut-found in
+    let un : IsUnarmed c.self.inside.journal.armed = rw (← c.self.view_is) at unarmed in
+    done_by c.self.inside.shape (Reset) c.fault-fault.result (outcome_of c.reset_chunk-landed.result) c.result_of.result (befalls_nothing c.self.inside.journal kinds.Reset c.fault-fault.result c.fault-fault.new.self (befalls h) un) (met c).by c.result_of.ensures
