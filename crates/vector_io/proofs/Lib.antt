@@ -1,0 +1,11 @@
+pub mod Refusals
+pub mod Bits
+pub mod Units
+pub mod UnderWay
+pub mod Chunks
+pub mod ResetSteps
+pub mod RunLengths
+pub mod WriteSteps
+pub mod Sizes
+pub mod ReadSteps
+pub mod UnitLogs
