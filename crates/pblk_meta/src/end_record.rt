@@ -1,6 +1,7 @@
 //! End records.
 
 ghost use Rattle.std.specs.Prelude.{◌≡◌, ◌+◌, ◌*◌, ◌<◌, ◌≤◌, ◌^◌, length, take, Some, IfOk, IfSome};
+ghost use Rattle.std.specs.List.{AllByRecursion};
 ghost use Rattle.std.specs.Option.{option_map};
 ghost use Rattle.std.specs.Str.{bytes_eq};
 ghost use Rattle.pblk_model.specs.declared.shape.Shape.{Shape};
@@ -8,7 +9,7 @@ ghost use Rattle.pblk_model.specs.Accepted.{IsAccepted};
 ghost use Rattle.pblk_model.specs.Shape.{units};
 ghost use Rattle.pblk_model.specs.LineOrder.{end_len, data_len};
 ghost use Rattle.pblk_model.specs.EndRecord.{EndRecord as End, end_bytes, read_end};
-ghost use Rattle.pblk_laws.specs.EndBlocks.{IsEndRecord};
+ghost use Rattle.pblk_laws.specs.EndBlocks.{FitsBytes, IsEndRecord};
 ghost use Rattle.pblk_meta.specs.declared.end_record.EndRecord.{EndRecord};
 ghost use Rattle.pblk_meta.specs.Headers.{end_header, end_read};
 ghost use Rattle.pblk_meta.specs.Records.{end_numbers};
@@ -19,7 +20,7 @@ use crate::bytes::{
 use crate::pairs::{Pairs, put_pairs, read_pairs};
 use pblk_laws::{end_read_is_spelled, end_spelled_is_read, end_spelling_fills_its_blocks};
 use pblk_layout::Layout;
-use pblk_model::{a_line_is_short, end_len_is_least};
+use pblk_model::{Mark, a_line_is_short, end_len_is_least};
 use std::alloc::{AllocError, Global};
 
 /// The kind of an end record.
@@ -89,11 +90,25 @@ impl EndRecord {
             → read_end s self.now.line self.now.width self.now.seq out.new ≡ Some (end_numbers self.now) }
     {
         end_spelled_is_read();
-        let pairs = self.pairs.as_slice();
-        write_header(out, self.line, self.width, self.seq, pairs.len() as u32);
-        let end = put_pairs(out, 32, pairs);
-        put_zeros(out, end, out.len());
+        write_end(out, self.line, self.width, self.seq, self.pairs.as_slice());
     }
+}
+
+/// Writes the spelling of the end record of these numbers and marks to `out`, and zeros behind it, as
+/// `EndRecord::write` does for a record.
+///
+/// `out` has room for it: 32 bytes and 16 for each mark.
+pub fn write_end(out: &mut [u8], line: u32, width: u32, seq: u64, marks: &[Mark])
+    requires room { 32 + 16 * length marks.now ≤ length out.old }
+    requires few { length marks.now < 2 ^ 32 }
+    ensures spelling { (s : Shape) → length out.old ≡ end_len s width * s.sector
+        → out.new ≡ end_bytes s (record { line = line; width = width; seq = seq; pairs = marks.now }) }
+    ensures fit { AllByRecursion FitsBytes marks.now }
+    ensures len { length out.new ≡ length out.old }
+{
+    write_header(out, line, width, seq, marks.len() as u32);
+    let end = put_pairs(out, 32, marks);
+    put_zeros(out, end, out.len());
 }
 
 /// An end record with a mark for each data block of its line has room in as many bytes as its blocks have,

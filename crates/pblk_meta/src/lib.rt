@@ -8,7 +8,7 @@ mod rows;
 mod start_header;
 mod start_record;
 
-pub use end_record::{EndRecord, an_end_record_has_room};
+pub use end_record::{EndRecord, an_end_record_has_room, write_end};
 pub use pairs::Pairs;
 pub use rows::{Row, Rows};
 pub use start_record::{StartRecord, a_start_record_has_room};
