@@ -1,0 +1,62 @@
+-- Each event that is allowed keeps what is known of marks and of placed positions.
+use Rattle.std.proofs.Common.{◌≡◌, inl, inr, ℕ, ◌+◌, ◌<◌, ◌≤◌, true, Some, None, Option, List, [], ◌∷◌, ◌++◌, length, sym, subst, ap, ◌∙◌, arith, append-nil, length-append}
+use Rattle.std.specs.List.{AllByRecursion}
+use Rattle.std.specs.Option.{option_to_list}
+use Rattle.pblk_model.specs.declared.chunk.Mark.{Mark}
+use Rattle.pblk_model.specs.Image.{Image}
+use Rattle.pblk_model.specs.Marks.{meta_lba}
+use Rattle.pblk_world.specs.Events.{EngineEvent, Source, Entry, Take, Place, Decides, Logged}
+use Rattle.pblk_world.specs.World.{Logs}
+use Rattle.pblk_world.specs.EngineLog.{Begun, begun, Taken, taken_by, takes, Placed, placed_by, placements, holds_position}
+use Rattle.pblk_world.specs.Fronts.{first_position, taken}
+use Rattle.pblk_world.specs.Taking.{IsMarked}
+use Rattle.pblk_world.specs.Legal.{IsDecision}
+use Rattle.pblk_world.proofs.Appending.{takes_more, placements_more}
+use Rattle.core_laws.specs.Positions.{AreNumbered, AreMarked, AreTaken}
+use Rattle.core_laws.proofs.Placing.{weaker}
+use Rattle.core_laws.proofs.Numbering.{first_stays}
+use Rattle.core_laws.proofs.PlacedPositions.{all_joined, placed_taken}
+
+mark_position : (i : Image) (logs : Logs) (entry : Entry) (mark : Mark) (source : Option Source) → IsMarked i logs entry mark source → mark.position ≡ entry.position
+mark_position i logs entry mark None is = ap (λ (m : Mark). m.position) is
+mark_position i logs entry mark (Some source) (inl is) = ap (λ (m : Mark). m.position) is.names_sector
+mark_position i logs entry mark (Some source) (inr is) = ap (λ (m : Mark). m.position) is.names_none
+
+pub marked_after : (i : Image) (known : Logs) (log : List Logged) (beginning : Begun) (e : EngineEvent) (knows : List ℕ) → IsDecision i known beginning e
+    → AreMarked log → AreMarked (log ++ record { event = Decides e; knows = knows } ∷ [])
+marked_after i known log beginning (Take entry mark) knows may is =
+    let l : Logged = record { event = Decides (Take entry mark); knows = knows } in
+    subst (AllByRecursion (λ (t : Taken). t.mark.position ≡ t.entry.position)) (sym (takes_more log l))
+    (all_joined (λ (t : Taken). t.mark.position ≡ t.entry.position) (takes log) (record { entry = entry; mark = mark } ∷ []) is (mark_position i known entry mark entry.source may.marked, tt))
+marked_after i known log beginning e knows may is =
+    let l : Logged = record { event = Decides e; knows = knows } in
+    subst (AllByRecursion (λ (t : Taken). t.mark.position ≡ t.entry.position)) (sym (takes_more log l ∙ append-nil (takes log))) is
+
+taken_grows : (log : List Logged) (l : Logged) (b : Begun) → begun log ≡ Some b → taken log ≤ taken (log ++ l ∷ [])
+taken_grows log l b begins =
+    let first : first_position (log ++ l ∷ []) ≡ first_position log = first_stays log l b begins in
+    let count : length (takes (log ++ l ∷ [])) ≡ length (takes log) + length (option_to_list (taken_by l.event)) = ap (λ (ts : List Taken). length ts) (takes_more log l) ∙ length-append (takes log) (option_to_list (taken_by l.event)) in
+    omega arith
+
+placed_now : (i : Image) (known : Logs) (log : List Logged) (beginning : Begun) (e : EngineEvent) (n : ℕ) → i.shape.capacity ≤ meta_lba → known 0 ≡ log → IsDecision i known beginning e → AreNumbered log → AreMarked log
+    → taken log ≤ n → AllByRecursion (λ (p : Placed). (q : ℕ) → holds_position i.shape q p ≡ true → q < n) (option_to_list (placed_by log (length log) (Decides e)))
+placed_now i known log beginning (Place stripe) n small own may numbered marked within = (
+  λ q holds.
+      let below : q < taken (known 0) = placed_taken i known stripe small (subst AreNumbered (sym own) numbered) (subst AreMarked (sym own) marked) may q holds in
+      let same : taken (known 0) ≡ taken log = ap taken own in
+      omega arith,
+  tt,
+)
+placed_now i known log beginning e n small own may numbered marked within = tt
+
+pub taken_after : (i : Image) (known : Logs) (log : List Logged) (beginning : Begun) (e : EngineEvent) (knows : List ℕ) → i.shape.capacity ≤ meta_lba → begun log ≡ Some beginning → known 0 ≡ log → IsDecision i known beginning e
+    → AreNumbered log → AreMarked log → AreTaken i.shape log → AreTaken i.shape (log ++ record { event = Decides e; knows = knows } ∷ [])
+taken_after i known log beginning e knows small begins own may numbered marked is =
+    let l : Logged = record { event = Decides e; knows = knows } in
+    let n : ℕ = taken (log ++ l ∷ []) in
+    let grows : taken log ≤ taken (log ++ l ∷ []) = taken_grows log l beginning begins in
+    subst (AllByRecursion (λ (p : Placed). (q : ℕ) → holds_position i.shape q p ≡ true → q < taken (log ++ l ∷ []))) (sym (placements_more log l))
+    (all_joined (λ (p : Placed). (q : ℕ) → holds_position i.shape q p ≡ true → q < taken (log ++ l ∷ [])) (placements log) (option_to_list (placed_by log (length log) (Decides e)))
+    (weaker (λ (p : Placed). (q : ℕ) → holds_position i.shape q p ≡ true → q < taken log) (λ (p : Placed). (q : ℕ) → holds_position i.shape q p ≡ true → q < taken (log ++ l ∷ []))
+    (λ p below q holds. let inside : q < taken log = below q holds in omega arith) (placements log) is)
+    (placed_now i known log beginning e (taken (log ++ l ∷ [])) small own may numbered marked grows))

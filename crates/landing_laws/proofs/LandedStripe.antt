@@ -1,0 +1,119 @@
+-- A stripe has landed: which positions have.
+use Rattle.std.proofs.Common.{◌≡◌, ◌⊎◌, inl, inr, ℕ, ◌&&◌, ◌||◌, zero, suc, Bool, true, false, Some, None, List, [], ◌∷◌, ◌++◌, length, refl, sym, ap, ◌∙◌, arith, append-nil}
+use Rattle.std.specs.Prelude.{slice_get, if◌then◌else◌}
+use Rattle.std.specs.List.{AllByRecursion, list_any}
+use Rattle.std.specs.Option.{option_to_list}
+use Rattle.std.proofs.lemmas.Option.{same_Some, none-some, slice_get_past}
+use Rattle.pblk_model.specs.declared.shape.Shape.{Shape}
+use Rattle.pblk_world.specs.Events.{Landed, Decides, Logged}
+use Rattle.pblk_world.specs.EngineLog.{Placed, placements, DidLand, answers, answer_of, is_land, is_loss, has_landed, was_lost, holds_position}
+use Rattle.pblk_world.specs.Fronts.{has_landed_at}
+use Rattle.pblk_world.proofs.Appending.{answers_more, placements_more}
+use Rattle.stripe_placer.proofs.Among.{IsAmong, later}
+use Rattle.core_laws.specs.PlacerOf.{unanswered_on}
+use Rattle.core_laws.proofs.Rows.{other_number, same_number}
+use Rattle.core_laws.proofs.Placing.{weaker}
+use Rattle.core_laws.proofs.Answered.{IsAnswer, IsFirst, its_answer, others_answer}
+use Rattle.landing_laws.proofs.Turns.{first_unanswered}
+
+abbrev pub with_landing : List Logged → ℕ → ℕ → List ℕ → List Logged
+with_landing log unit event knows = log ++ record { event = Decides (Landed unit event); knows = knows } ∷ []
+
+-- a stripe has landed, and what became of the others is as it was
+pub record IsOneMore (log new : List Logged) (p : Placed) : Type 0 where
+  pub stripes : placements new ≡ placements log
+  pub among : IsAmong (placements log) p
+  pub before : answer_of log p ≡ None
+  pub now : has_landed new p ≡ true
+  pub not_lost : was_lost new p ≡ false
+  pub others : AllByRecursion (λ r. (r ≡ p) ⊎ (answer_of new r ≡ answer_of log r)) (placements log)
+
+pub is_answer : (log : List Logged) (unit event : ℕ) (knows : List ℕ) → IsAnswer log (with_landing log unit event knows) unit (DidLand event)
+is_answer log unit event knows =
+    let l : Logged = record { event = Decides (Landed unit event); knows = knows } in
+    record {
+      placements = placements_more log l ∙ append-nil (placements log);
+      here = answers_more log l unit ∙ ap (λ b. answers log unit ++ option_to_list (if b then Some (DidLand event) else None)) (same_number unit);
+      elsewhere = λ v other. answers_more log l v ∙ ap (λ b. answers log v ++ option_to_list (if b then Some (DidLand event) else None)) (other_number unit v (λ e. other (sym e))) ∙ append-nil (answers log v);
+    }
+
+pub each_among : {X : Type 0} (xs : List X) → AllByRecursion (IsAmong xs) xs
+each_among [] = tt
+each_among (x ∷ xs) = ((0, refl), weaker (IsAmong xs) (IsAmong (x ∷ xs)) (λ y at. later x xs y at) xs (each_among xs))
+
+pub one_more : (log : List Logged) (unit event : ℕ) (knows : List ℕ) (p : Placed) → unanswered_on log unit ≡ Some p → IsOneMore log (with_landing log unit event knows) p
+one_more log unit event knows p waits =
+    let new : List Logged = with_landing log unit event knows in
+    let is : IsAnswer log (with_landing log unit event knows) unit (DidLand event) = is_answer log unit event knows in
+    let first : IsFirst log unit p = first_unanswered log unit p waits in
+    let answer : answer_of (with_landing log unit event knows) p ≡ Some (DidLand event) = its_answer log new unit (DidLand event) p is first in
+    record {
+      stripes = is.placements;
+      among = first.among;
+      before = ap (λ n. slice_get (answers log p.stripe.unit) n) (first.turn_is ∙ ap (λ u. length (answers log u)) (sym first.of_unit)) ∙ slice_get_past (answers log p.stripe.unit) (length (answers log p.stripe.unit)) (omega arith);
+      now = ap is_land answer;
+      not_lost = ap is_loss answer;
+      others = weaker (IsAmong (placements log)) (λ (r : Placed). (r ≡ p) ⊎ (answer_of new r ≡ answer_of log r)) (λ r among. others_answer log new unit (DidLand event) p r is first among) (placements log) (each_among (placements log));
+    }
+
+-- ---- a test that one more element passes
+
+or_no : (b : Bool) → (b || false) ≡ b
+or_no true = refl
+or_no false = refl
+
+or_yes : (b : Bool) → (b || true) ≡ true
+or_yes true = refl
+or_yes false = refl
+
+-- of a list in which it stands
+any_with : {X : Type 0} (f : X → Bool) (xs : List X) (k : ℕ) (p : X) → slice_get xs k ≡ Some p → (list_any f xs || f p) ≡ list_any f xs
+any_with f [] k p e = absurd (none-some p e)
+any_with f (x ∷ xs) zero p e = ap (λ (y : _). (f x || list_any f xs) || f y) (sym (same_Some x p e)) ∙ go (f x) (list_any f xs)
+  where
+    go : (a b : Bool) → ((a || b) || a) ≡ (a || b)
+    go true b = refl
+    go false b = or_no b
+any_with f (x ∷ xs) (suc k) p e = go (f x) (any_with f xs k p e)
+  where
+    go : (a : Bool) → (list_any f xs || f p) ≡ list_any f xs → ((a || list_any f xs) || f p) ≡ (a || list_any f xs)
+    go true rest = refl
+    go false rest = rest
+
+any_but : {X : Type 0} (f g : X → Bool) (p : X) (xs : List X) → g p ≡ false → AllByRecursion (λ x. (x ≡ p) ⊎ (f x ≡ g x)) xs → (list_any f xs || f p) ≡ (list_any g xs || f p)
+any_but f g p [] none all = refl
+any_but {X} f g p (x ∷ xs) none all = go all.0 (any_but f g p xs none all.1)
+  where
+    by : (b c d : Bool) → (c || b) ≡ (d || b) → ((b || c) || b) ≡ ((false || d) || b)
+    by true c d rest = sym (or_yes d)
+    by false c d rest = rest
+
+    keep : (b c d e : Bool) → (c || b) ≡ (d || b) → ((e || c) || b) ≡ ((e || d) || b)
+    keep b c d true rest = refl
+    keep b c d false rest = rest
+
+    go : (x ≡ p) ⊎ (f x ≡ g x) → (list_any f xs || f p) ≡ (list_any g xs || f p) → ((f x || list_any f xs) || f p) ≡ ((g x || list_any g xs) || f p)
+    go (inl same) rest = ap (λ a. (a || list_any f xs) || f p) (ap f same) ∙ by (f p) (list_any f xs) (list_any g xs) rest ∙ ap (λ b. (b || list_any g xs) || f p) (sym (ap g same ∙ none))
+    go (inr kept) rest = keep (f p) (list_any f xs) (list_any g xs) (f x) rest ∙ ap (λ b. (b || list_any g xs) || f p) kept
+
+pub any_more : {X : Type 0} (f g : X → Bool) (p : X) (xs : List X) → IsAmong xs p → g p ≡ false → AllByRecursion (λ x. (x ≡ p) ⊎ (f x ≡ g x)) xs → list_any f xs ≡ (list_any g xs || f p)
+any_more f g p xs among none all = sym (any_with f xs among.0 p among.1) ∙ any_but f g p xs none all
+
+-- ---- which positions have landed
+
+landed_or : (log new : List Logged) (p : Placed) (also : Placed → Bool) (r : Placed) → (r ≡ p) ⊎ (answer_of new r ≡ answer_of log r) → (r ≡ p) ⊎ ((has_landed new r && also r) ≡ (has_landed log r && also r))
+landed_or log new p also r (inl same) = inl same
+landed_or log new p also r (inr kept) = inr (ap (λ a. is_land a && also r) kept)
+
+pub landed_at_by : (s : Shape) (log new : List Logged) (p : Placed) (q : ℕ) → IsOneMore log new p → has_landed_at s new q ≡ (has_landed_at s log q || holds_position s q p)
+landed_at_by s log new p q is =
+    ap (λ ps. list_any (λ r. has_landed new r && holds_position s q r) ps) is.stripes
+    ∙ any_more (λ r. has_landed new r && holds_position s q r) (λ r. has_landed log r && holds_position s q r) p (placements log) is.among
+    (ap (λ a. is_land a && holds_position s q p) is.before)
+    (weaker (λ (r : Placed). (r ≡ p) ⊎ (answer_of new r ≡ answer_of log r)) (λ (r : Placed). (r ≡ p) ⊎ ((has_landed new r && holds_position s q r) ≡ (has_landed log r && holds_position s q r)))
+    (λ r other. landed_or log new p (holds_position s q) r other) (placements log) is.others)
+    ∙ ap (λ b. has_landed_at s log q || (b && holds_position s q p)) is.now
+
+pub landed_at_now : (s : Shape) (log : List Logged) (unit event : ℕ) (knows : List ℕ) (p : Placed) (q : ℕ) → unanswered_on log unit ≡ Some p
+    → has_landed_at s (with_landing log unit event knows) q ≡ (has_landed_at s log q || holds_position s q p)
+landed_at_now s log unit event knows p q waits = landed_at_by s log (with_landing log unit event knows) p q (one_more log unit event knows p waits)

@@ -1,0 +1,4 @@
+pub mod ChunkBlocks
+pub mod Advanced
+pub mod ReadSlots
+pub mod KeptUnits

@@ -1,0 +1,193 @@
+-- What a stripe that has landed changes in the table.
+use Rattle.std.proofs.Common.{◌≡◌, ◌≢◌, ℕ, ◌/◌, ◌&&◌, zero, suc, not, nat_eq, Bool, true, false, cond, Some, None, Option, List, [], ◌∷◌, ◌++◌, length, refl, sym, ap, ap₂, ◌∙◌, append-nil}
+use Rattle.std.specs.Prelude.{if◌then◌else◌, map, slice_get, slice_set}
+use Rattle.std.specs.List.{filter, filter_map, cons_option, find, list_all, enumerate_from}
+use Rattle.std.specs.Option.{option_map, option_map_or, option_and_then, option_to_list}
+use Rattle.std.proofs.lemmas.Bool.{eqb-true}
+use Rattle.std.proofs.lemmas.List.Elements.{filter_map-append}
+use Rattle.std.proofs.lemmas.List.Sums.{fold-append}
+use Rattle.std.proofs.lemmas.Option.{same_Some, none-some}
+use Rattle.pblk_model.specs.declared.shape.Shape.{Shape}
+use Rattle.pblk_model.specs.Chunk.{Chunk}
+use Rattle.pblk_model.specs.UnitLog.{UnitEvent, after_outcome, after_event, after_log}
+use Rattle.pblk_model.specs.Image.{Image, is_online_in}
+use Rattle.pblk_model.specs.Records.{Record}
+use Rattle.pblk_model.specs.Contents.{counted, winner}
+use Rattle.pblk_world.specs.Events.{EngineEvent, Landed, Decides, Logged}
+use Rattle.pblk_world.specs.World.{Logs, unit_event_at}
+use Rattle.pblk_world.specs.EngineLog.{LineLife, AsFound, Opened, Freed, life_of, is_life, is_as_found, Opening, Placed, placements, DidLand, was_lost, has_failed, holds_position, Taken, taken_by, takes, begun_by}
+use Rattle.pblk_world.specs.Lines.{found_image, told_by, told_events, known_image, chunks_of, is_empty_state}
+use Rattle.pblk_world.specs.Starts.{have_landed}
+use Rattle.pblk_world.specs.Placing.{line_end}
+use Rattle.pblk_world.specs.Victims.{is_in_force, line_of_position, line_of_winner, line_of}
+use Rattle.pblk_world.proofs.Appending.{takes_more}
+use Rattle.line_table.specs.declared.row.LineState.TheVariants as states
+use Rattle.core_laws.specs.Stepping.{after}
+use Rattle.core_laws.specs.PlacerOf.{unanswered_on}
+use Rattle.core_laws.specs.RowsOf.{state_in, width_in, taker_in, row_of_line, rows_of}
+use Rattle.core_laws.proofs.Numbers.{opens_at, life_at}
+use Rattle.core_laws.proofs.Rows.{other_number}
+use Rattle.line_laws.specs.Changes.{with_row, full_if}
+use Rattle.line_laws.specs.OpenAddresses.{keeps_addresses}
+use Rattle.line_laws.specs.Plain.{NoneFreed, NoneFailed}
+use Rattle.line_laws.proofs.Kept.{with_event, KeepsStripes, stripes_kept, also_stripes, lives_kept}
+use Rattle.line_laws.proofs.KeptRows.{found_kept, KeepsChunks, KeepsLines, live_kept, taker_kept, row_parts, same_row, row_kept}
+use Rattle.line_laws.proofs.OpenAddresses.{failed_kept}
+use Rattle.line_laws.proofs.FirstAnswers.{first_unanswered, its_landing, have_landed_beside, have_landed_stays}
+use Rattle.line_laws.proofs.Tables.{row_changes_any}
+
+-- ---- entries stay where they are
+
+find_same : {X : Type 0} (f g : X → Bool) → ((x : X) → f x ≡ g x) → (xs : List X) → find f xs ≡ find g xs
+find_same f g same [] = refl
+find_same f g same (x ∷ xs) = ap₂ (λ b o. cond b (Some x) o) (same x) (find_same f g same xs)
+
+force_kept : (log new : List Logged) → ((line : ℕ) → life_of new line ≡ life_of log line) → (life : LineLife) (line : ℕ) → is_in_force new life line ≡ is_in_force log life line
+force_kept log new lives AsFound line = refl
+force_kept log new lives (Opened o) line = ap (is_life o.number) (lives line)
+force_kept log new lives (Freed past knows) line = refl
+
+position_kept : (s : Shape) (log new : List Logged) → KeepsStripes log new → ((line : ℕ) → life_of new line ≡ life_of log line) → (position : ℕ) → line_of_position s new position ≡ line_of_position s log position
+position_kept s log new kept lives position =
+    ap (λ ps. option_map (λ (p : Placed). p.stripe.line) (find (λ (p : Placed). holds_position s position p && not (was_lost new p) && is_in_force new p.life p.stripe.line) ps)) kept.placements
+    ∙ ap (option_map (λ (p : Placed). p.stripe.line))
+    (find_same (λ (p : Placed). holds_position s position p && not (was_lost new p) && is_in_force new p.life p.stripe.line) (λ (p : Placed). holds_position s position p && not (was_lost log p) && is_in_force log p.life p.stripe.line)
+    (λ p. ap₂ (λ a b. holds_position s position p && not a && b) (kept.losses p) (force_kept log new lives p.life p.stripe.line)) (placements log))
+
+pub winner_kept : (i : Image) (logs new : Logs) → found_image i new ≡ found_image i logs → ((line : ℕ) → life_of (new 0) line ≡ life_of (logs 0) line) → (lba : ℕ) → line_of_winner i new lba ≡ line_of_winner i logs lba
+winner_kept i logs new found lives lba =
+    ap (λ (f : Image). option_and_then (λ (r : Record). if is_as_found (life_of (new 0) r.line) then Some r.line else None) (winner (counted f) lba)) found
+    ∙ go (winner (counted (found_image i logs)) lba)
+  where
+    go : (o : Option Record) → option_and_then (λ (r : Record). if is_as_found (life_of (new 0) r.line) then Some r.line else None) o ≡ option_and_then (λ (r : Record). if is_as_found (life_of (logs 0) r.line) then Some r.line else None) o
+    go None = refl
+    go (Some r) = ap (λ (l : LineLife). if is_as_found l then Some r.line else None) (lives r.line)
+
+pub line_of_kept : (i : Image) (logs : Logs) (e : EngineEvent) (knows : List ℕ) → keeps_addresses e ≡ true → begun_by knows (Decides e) ≡ None → (lba : ℕ) (t : Option Taken)
+    → line_of i (after logs e knows) lba t ≡ line_of i logs lba t
+line_of_kept i logs e knows keeps none lba None = winner_kept i logs (after logs e knows) (found_kept i logs e knows none) (λ line. lives_kept (logs 0) e knows line keeps) lba
+line_of_kept i logs e knows keeps none lba (Some t) =
+    position_kept i.shape (logs 0) (after logs e knows 0) (stripes_kept (logs 0) e knows (also_stripes e keeps)) (λ line. lives_kept (logs 0) e knows line keeps) t.entry.position
+
+none_taken : (log : List Logged) (e : EngineEvent) (knows : List ℕ) → taken_by (Decides e) ≡ None → takes (with_event log e knows) ≡ takes log
+none_taken log e knows none = takes_more log (record { event = Decides e; knows = knows }) ∙ ap (λ o. takes log ++ option_to_list o) none ∙ append-nil (takes log)
+
+pub lines_kept : (i : Image) (logs : Logs) (e : EngineEvent) (knows : List ℕ) → keeps_addresses e ≡ true → begun_by knows (Decides e) ≡ None → taken_by (Decides e) ≡ None → KeepsLines i logs (after logs e knows)
+lines_kept i logs e knows keeps none untaken = record {
+  takes = none_taken (logs 0) e knows untaken;
+  line_of = λ lba t. line_of_kept i logs e knows keeps none lba t;
+}
+
+-- ---- the chunks of the other lines
+
+get_else : {X : Type 0} (xs : List X) (k m : ℕ) (x : X) → m ≢ k → slice_get (slice_set xs k x) m ≡ slice_get xs m
+get_else [] k m x other = refl
+get_else (y ∷ xs) zero zero x other = absurd (other refl)
+get_else (y ∷ xs) zero (suc m) x other = refl
+get_else (y ∷ xs) (suc k) zero x other = refl
+get_else (y ∷ xs) (suc k) (suc m) x other = get_else xs k m x (λ e. other (ap suc e))
+
+event_beside : (s : Shape) (chunks : List Chunk) (e : UnitEvent) (m : ℕ) → m ≢ e.chunk → slice_get (after_event s chunks e) m ≡ slice_get chunks m
+event_beside s chunks e m other = go (slice_get chunks e.chunk)
+  where
+    go : (o : Option Chunk) → slice_get (option_map_or (λ (c : Chunk). slice_set chunks e.chunk (after_outcome s c e.command e.outcome)) o chunks) m ≡ slice_get chunks m
+    go None = refl
+    go (Some c) = get_else chunks e.chunk m (after_outcome s c e.command e.outcome) other
+
+log_beside : (s : Shape) (chunks : List Chunk) (log : List UnitEvent) (o : Option UnitEvent) (m : ℕ) → ((e : UnitEvent) → o ≡ Some e → m ≢ e.chunk)
+    → slice_get (after_log s chunks (log ++ option_to_list o)) m ≡ slice_get (after_log s chunks log) m
+log_beside s chunks log None m other = ap (λ xs. slice_get (after_log s chunks xs) m) (append-nil log)
+log_beside s chunks log (Some e) m other =
+    ap (λ cs. slice_get cs m) (fold-append (after_event s) chunks log (e ∷ [])) ∙ event_beside s (after_log s chunks log) e m (other e refl)
+
+to_list : {X : Type 0} (o : Option X) → cons_option o [] ≡ option_to_list o
+to_list None = refl
+to_list (Some x) = refl
+
+told_more : (logs : Logs) (e : EngineEvent) (knows : List ℕ) (unit : ℕ) → told_events (after logs e knows) unit ≡ told_events logs unit ++ option_to_list (told_by logs unit (Decides e))
+told_more logs e knows unit =
+    filter_map-append (λ (l : Logged). told_by logs unit l.event) (logs 0) (record { event = Decides e; knows = knows } ∷ [])
+    ∙ ap (λ xs. filter_map (λ (l : Logged). told_by logs unit l.event) (logs 0) ++ xs) (to_list (told_by logs unit (Decides e)))
+
+made_same : {X : Type 0} (f g : X → List Chunk) (m : ℕ) → ((x : X) → slice_get (f x) m ≡ slice_get (g x) m) → (xs : List X) → filter_map (λ unit. slice_get unit m) (map f xs) ≡ filter_map (λ unit. slice_get unit m) (map g xs)
+made_same f g m same [] = refl
+made_same f g m same (x ∷ xs) = ap₂ (λ o ys. cons_option o ys) (same x) (made_same f g m same xs)
+
+pub chunks_beside : (i : Image) (logs : Logs) (e : EngineEvent) (knows : List ℕ) (m : ℕ) → begun_by knows (Decides e) ≡ None → ((unit : ℕ) (u : UnitEvent) → told_by logs unit (Decides e) ≡ Some u → m ≢ u.chunk)
+    → chunks_of (known_image i (after logs e knows)) m ≡ chunks_of (known_image i logs) m
+chunks_beside i logs e knows m none beside =
+    let new : Logs = after logs e knows in
+    ap (λ (j : Image). filter_map (λ unit. slice_get unit m) (map (λ unit. after_log i.shape unit.1 (told_events new unit.0)) (enumerate_from 0 j.units))) (found_kept i logs e knows none)
+    ∙ made_same (λ unit. after_log i.shape unit.1 (told_events new unit.0)) (λ unit. after_log i.shape unit.1 (told_events logs unit.0)) m
+    (λ unit. ap (λ xs. slice_get (after_log i.shape unit.1 xs) m) (told_more logs e knows unit.0)
+    ∙ log_beside i.shape unit.1 (told_events logs unit.0) (told_by logs unit.0 (Decides e)) m (beside unit.0)) (enumerate_from 0 (found_image i logs).units)
+
+pub keeps_chunks : (i : Image) (logs : Logs) (e : EngineEvent) (knows : List ℕ) (m : ℕ) → begun_by knows (Decides e) ≡ None → ((unit : ℕ) (u : UnitEvent) → told_by logs unit (Decides e) ≡ Some u → m ≢ u.chunk)
+    → KeepsChunks i logs (after logs e knows) m
+keeps_chunks i logs e knows m none beside =
+    let same : chunks_of (known_image i (after logs e knows)) m ≡ chunks_of (known_image i logs) m = chunks_beside i logs e knows m none beside in
+    record {
+      found = found_kept i logs e knows none;
+      empty = ap (list_all (λ (c : Chunk). is_empty_state c.state)) same;
+      wide = ap (λ cs. length (filter (λ (c : Chunk). is_online_in c.state) cs)) same;
+    }
+
+-- ---- the rows
+
+-- the row of another line
+row_beside : (i : Image) (logs : Logs) (unit event : ℕ) (knows : List ℕ) (p : Placed) (o : Opening) (m : ℕ) → NoneFreed (logs 0) → unanswered_on (logs 0) unit ≡ Some p → p.life ≡ Opened o
+    → life_of (logs 0) p.stripe.line ≡ Opened o → ((e : UnitEvent) → unit_event_at logs unit event ≡ Some e → e.chunk ≡ p.stripe.line) → m ≢ p.stripe.line
+    → row_of_line i (after logs (Landed unit event) knows) m ≡ row_of_line i logs m
+row_beside i logs unit event knows p o m freed first its opened chunk other =
+    let new : Logs = after logs (Landed unit event) knows in
+    let kept : KeepsStripes (logs 0) (new 0) = stripes_kept (logs 0) (Landed unit event) knows refl in
+    row_kept i logs new m (lives_kept (logs 0) (Landed unit event) knows m refl) (freed m)
+    (keeps_chunks i logs (Landed unit event) knows m refl (λ v u told. beside v u told (nat_eq unit v) refl))
+    (lines_kept i logs (Landed unit event) knows refl refl refl)
+    (λ q is. ap₂ (λ a b. if a then states.Failed else if b then states.Full else states.Open) (failed_kept (logs 0) (new 0) kept q)
+    (have_landed_beside (logs 0) (new 0) unit (DidLand event) p q (line_end i.shape q / i.shape.ws_opt) (its_landing (logs 0) unit event knows) (first_unanswered (logs 0) unit p first)
+    (ap (is_life q.number) its ∙ other_number o.number q.number (λ same.
+    other (same_Some m p.stripe.line (sym (life_at (logs 0) m q is).0 ∙ ap (opens_at (logs 0)) (sym same) ∙ (life_at (logs 0) p.stripe.line o opened).0))))))
+  where
+    beside : (v : ℕ) (u : UnitEvent) → told_by logs v (Decides (Landed unit event)) ≡ Some u → (b : Bool) → nat_eq unit v ≡ b → m ≢ u.chunk
+    beside v u told true e = λ same. other (same ∙ chunk u (ap (λ w. unit_event_at logs w event) (eqb-true unit v e) ∙ ap (λ b. if b then unit_event_at logs v event else None) (sym e) ∙ told))
+    beside v u told false e = absurd (none-some u (ap (λ b. if b then unit_event_at logs v event else None) (sym e) ∙ told))
+
+-- by whether the line has landed whole now, and whether it had before
+state_now : (failed then_ now : Bool) → failed ≡ false → (then_ ≡ true → now ≡ true) → (wide sectors : ℕ) (taker : Option ℕ)
+    → row_parts (if failed then states.Failed else if now then states.Full else states.Open) wide sectors taker
+    ≡ full_if now (row_parts (if failed then states.Failed else if then_ then states.Full else states.Open) wide sectors taker)
+state_now true then_ now fine stays wide sectors taker = absurd cc
+state_now false true true fine stays wide sectors taker = refl
+state_now false true false fine stays wide sectors taker = absurd (cc (stays refl))
+state_now false false true fine stays wide sectors taker = refl
+state_now false false false fine stays wide sectors taker = refl
+
+row_landed : (i : Image) (logs : Logs) (unit event : ℕ) (knows : List ℕ) (line : ℕ) (o : Opening) → NoneFailed (logs 0) → life_of (logs 0) line ≡ Opened o
+    → row_of_line i (after logs (Landed unit event) knows) line ≡ full_if (have_landed (after logs (Landed unit event) knows 0) o (line_end i.shape o / i.shape.ws_opt)) (row_of_line i logs line)
+row_landed i logs unit event knows line o fine opened =
+    let new : Logs = after logs (Landed unit event) knows in
+    let kept : KeepsStripes (logs 0) (new 0) = stripes_kept (logs 0) (Landed unit event) knows refl in
+    let lines : KeepsLines i logs new = lines_kept i logs (Landed unit event) knows refl refl refl in
+    let n : ℕ = line_end i.shape o / i.shape.ws_opt in
+    let life : life_of (new 0) line ≡ Opened o = lives_kept (logs 0) (Landed unit event) knows line refl ∙ opened in
+    same_row (state_in i new line (life_of (new 0) line)) (if has_failed (logs 0) o then states.Failed else if have_landed (new 0) o n then states.Full else states.Open)
+    (width_in i new line (life_of (new 0) line)) o.start.width (row_of_line i new line).live (row_of_line i logs line).live (taker_in i new line (life_of (new 0) line)) (row_of_line i logs line).taker
+    (ap (state_in i new line) life ∙ ap (λ b. if b then states.Failed else if have_landed (new 0) o n then states.Full else states.Open) (failed_kept (logs 0) (new 0) kept o))
+    (ap (width_in i new line) life)
+    (live_kept i logs new line lines)
+    (ap (taker_in i new line) life ∙ taker_kept i logs new line lines ∙ sym (ap (taker_in i logs line) opened))
+    ∙ state_now (has_failed (logs 0) o) (have_landed (logs 0) o n) (have_landed (new 0) o n) (fine o) (have_landed_stays (logs 0) unit event knows o n)
+    o.start.width (row_of_line i logs line).live (row_of_line i logs line).taker
+    ∙ ap (full_if (have_landed (new 0) o n))
+    (sym (same_row (row_of_line i logs line).state (state_in i logs line (Opened o)) (row_of_line i logs line).width o.start.width (row_of_line i logs line).live (row_of_line i logs line).live
+    (row_of_line i logs line).taker (row_of_line i logs line).taker (ap (state_in i logs line) opened) (ap (width_in i logs line) opened) refl refl))
+
+pub rows_landed : (i : Image) (logs : Logs) (unit event : ℕ) (knows : List ℕ) (p : Placed) (o : Opening) → NoneFreed (logs 0) → NoneFailed (logs 0) → unanswered_on (logs 0) unit ≡ Some p → p.life ≡ Opened o
+    → life_of (logs 0) p.stripe.line ≡ Opened o → ((e : UnitEvent) → unit_event_at logs unit event ≡ Some e → e.chunk ≡ p.stripe.line)
+    → rows_of i (after logs (Landed unit event) knows)
+    ≡ with_row p.stripe.line (full_if (have_landed (after logs (Landed unit event) knows 0) o (line_end i.shape o / i.shape.ws_opt))) (rows_of i logs)
+rows_landed i logs unit event knows p o freed fine first its opened chunk =
+    row_changes_any i logs (after logs (Landed unit event) knows) p.stripe.line (full_if (have_landed (after logs (Landed unit event) knows 0) o (line_end i.shape o / i.shape.ws_opt)))
+    (row_landed i logs unit event knows p.stripe.line o fine opened)
+    (λ m other. row_beside i logs unit event knows p o m freed first its opened chunk other)

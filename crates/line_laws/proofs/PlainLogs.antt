@@ -1,0 +1,54 @@
+-- A mount in which nothing fails and nothing is freed.
+use Rattle.std.proofs.Common.{◌≡◌, ℕ, ◌+◌, ◌==◌, ◌||◌, zero, suc, Bool, true, false, Some, None, List, [], ◌∷◌, refl, ap₂}
+use Rattle.std.specs.Prelude.{if◌then◌else◌, slice_get}
+use Rattle.std.specs.List.{AllByRecursion, fold, filter_map, cons_option, list_any, enumerate_from}
+use Rattle.pblk_world.specs.Events.{Open, Free, Landed, Lost, Event, Decides, Logged}
+use Rattle.pblk_world.specs.EngineLog.{LineLife, AsFound, Opened, turned, turned_by, Answer, DidLand, answer_by, answers, turn, is_loss, was_lost, stripes_of}
+use Rattle.pblk_world.specs.Victims.{is_freed}
+use Rattle.core_laws.specs.PlainWorlds.{is_plain_event, ArePlain}
+use Rattle.line_laws.specs.Plain.{NoneFreed, NoneLost, NoneFailed}
+
+turned_plain : (line n : ℕ) (life : LineLife) (knows : List ℕ) (e : Event) → is_plain_event e ≡ true → is_freed life ≡ false → is_freed (turned_by line life n knows e) ≡ false
+turned_plain line n life knows (Decides (Open other start)) plain is = elim (other == line) as (λ b. is_freed (if b then Opened (record { number = n; line = line; start = start; knows = knows }) else life) ≡ false) [
+  | true ↦ refl
+  | false ↦ is
+]
+turned_plain line n life knows (Decides (Free other)) plain is = absurd cc
+turned_plain line n life knows e plain is = is
+
+lives_plain : (line n : ℕ) (log : List Logged) (life : LineLife) → ArePlain log → is_freed life ≡ false → is_freed (fold (turned line) life (enumerate_from n log)) ≡ false
+lives_plain line n [] life plain is = is
+lives_plain line n (l ∷ log) life plain is = lives_plain line (n + 1) log (turned_by line life n l.knows l.event) plain.1 (turned_plain line n life l.knows l.event plain.0 is)
+
+pub none_freed : (log : List Logged) → ArePlain log → NoneFreed log
+none_freed log plain line = lives_plain line 0 log AsFound plain refl
+
+abbrev AreLandings : List Answer → Type 0
+AreLandings xs = AllByRecursion (λ a. is_loss (Some a) ≡ false) xs
+
+landing : (unit : ℕ) (e : Event) (rest : List Answer) → is_plain_event e ≡ true → AreLandings rest → AreLandings (cons_option (answer_by unit e) rest)
+landing unit (Decides (Landed other event)) rest plain all = elim (other == unit) as (λ b. AreLandings (cons_option (if b then Some (DidLand event) else None) rest)) [
+  | true ↦ (refl, all)
+  | false ↦ all
+]
+landing unit (Decides (Lost other event)) rest plain all = absurd cc
+landing unit e rest plain all = all
+
+landings : (unit : ℕ) (log : List Logged) → ArePlain log → AreLandings (filter_map (λ l. answer_by unit l.event) log)
+landings unit [] plain = tt
+landings unit (l ∷ log) plain = landing unit l.event (filter_map (λ m. answer_by unit m.event) log) plain.0 (landings unit log plain.1)
+
+loss_at : (xs : List Answer) (k : ℕ) → AreLandings xs → is_loss (slice_get xs k) ≡ false
+loss_at [] k all = refl
+loss_at (x ∷ xs) zero all = all.0
+loss_at (x ∷ xs) (suc k) all = loss_at xs k all.1
+
+pub none_lost : (log : List Logged) → ArePlain log → NoneLost log
+none_lost log plain p = loss_at (answers log p.stripe.unit) (turn log p) (landings p.stripe.unit log plain)
+
+none_any : {X : Type 0} (f : X → Bool) → ((x : X) → f x ≡ false) → (xs : List X) → list_any f xs ≡ false
+none_any f none [] = refl
+none_any f none (x ∷ xs) = ap₂ (λ a b. a || b) (none x) (none_any f none xs)
+
+pub none_failed : (log : List Logged) → ArePlain log → NoneFailed log
+none_failed log plain o = none_any (was_lost log) (none_lost log plain) (stripes_of log o)

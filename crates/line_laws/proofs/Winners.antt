@@ -1,0 +1,82 @@
+-- Records that count are in lines with a start record.
+use Rattle.std.proofs.Common.{◌≡◌, ℕ, Bool, true, false, Some, None, Option, List, [], ◌∷◌, refl, sym, subst, ap, ◌∙◌, if◌then◌else◌}
+use Rattle.std.specs.List.{AllByRecursion, fold, filter, filter_map, flat_map, cons_option, range_with_len}
+use Rattle.std.specs.Option.{option_map, option_and_then, is_some}
+use Rattle.std.proofs.lemmas.Option.{same_Some, none-some}
+use Rattle.pblk_model.specs.declared.chunk.Mark.{Mark}
+use Rattle.pblk_model.specs.Chunk.{Block}
+use Rattle.pblk_model.specs.Image.{Image, block_at}
+use Rattle.pblk_model.specs.StartRecord.{StartRecord, start_of}
+use Rattle.pblk_model.specs.EndRecord.{end_of}
+use Rattle.pblk_model.specs.Records.{Record, named, mark_at, bears, record_at, records_after, line_records, records}
+use Rattle.pblk_model.specs.Contents.{head, end_after, counts, counted_after, counted, newer, is_newer, is_of, winner}
+use Rattle.core_laws.proofs.Lists.{all_filter}
+use Rattle.core_laws.proofs.PlacedPositions.{all_joined}
+
+-- the record's line has a start record
+abbrev pub HasStart : Image → Record → Type 0
+HasStart i r = is_some (start_of i r.line) ≡ true
+
+mapped_line : (i : Image) (line seq a : ℕ) (block : Block) (m : Mark) (o : Option (Option ℕ)) (r : Record)
+    → option_map (λ lba. record { line = line; seq = seq; at = a; position = m.position; lba = lba; sector = block.sector }) o ≡ Some r → r.line ≡ line
+mapped_line i line seq a block m None r e = absurd (none-some r e)
+mapped_line i line seq a block m (Some lba) r e = ap (λ (x : Record). x.line) (sym (same_Some (record { line = line; seq = seq; at = a; position = m.position; lba = lba; sector = block.sector }) r e))
+
+marked_line : (i : Image) (line seq a : ℕ) (block : Block) (o : Option Mark) (r : Record) → option_and_then (bears i.shape line seq a block) o ≡ Some r → r.line ≡ line
+marked_line i line seq a block None r e = absurd (none-some r e)
+marked_line i line seq a block (Some m) r e = mapped_line i line seq a block m (named i.shape m) r e
+
+pub block_line : (i : Image) (line a : ℕ) (start : StartRecord) (o : Option Block) (r : Record)
+    → option_and_then (λ block. option_and_then (bears i.shape line start.seq a block) (mark_at i.shape (end_of i line start) a block)) o ≡ Some r → r.line ≡ line
+block_line i line a start None r e = absurd (none-some r e)
+block_line i line a start (Some block) r e = marked_line i line start.seq a block (mark_at i.shape (end_of i line start) a block) r e
+
+pub all_made : {X Y : Type 0} (h : X → Option Y) (P : Y → Type 0) → ((x : X) (y : Y) → h x ≡ Some y → P y) → (xs : List X) → AllByRecursion P (filter_map h xs)
+all_made h P says [] = tt
+all_made {X} {Y} h P says (x ∷ xs) = go (h x) refl (all_made h P says xs)
+  where
+    go : (o : Option Y) → h x ≡ o → AllByRecursion P (filter_map h xs) → AllByRecursion P (cons_option o (filter_map h xs))
+    go None e rest = rest
+    go (Some y) e rest = (says x y e, rest)
+
+line_starts : (i : Image) (line : ℕ) (o : Option StartRecord) → start_of i line ≡ o → AllByRecursion (HasStart i) (records_after i line o)
+line_starts i line None e = tt
+line_starts i line (Some start) e = all_made (record_at i line start) (HasStart i)
+    (λ a r h. ap (λ n. is_some (start_of i n)) (block_line i line a start (block_at i line a) r h) ∙ ap is_some e)
+    (range_with_len 0 _)
+
+all_lines : (i : Image) (lines : List ℕ) → AllByRecursion (HasStart i) (flat_map (line_records i) lines)
+all_lines i [] = tt
+all_lines i (line ∷ lines) = all_joined (HasStart i) (line_records i line) (flat_map (line_records i) lines) (line_starts i line (start_of i line) refl) (all_lines i lines)
+
+counted_starts : (i : Image) (o : Option StartRecord) → AllByRecursion (HasStart i) (counted_after (records i) o)
+counted_starts i None = tt
+counted_starts i (Some h) = all_filter (HasStart i) (counts h (end_after (records i) (Some h))) (records i) (all_lines i (range_with_len 0 i.shape.chunks))
+
+IsSuch : (Record → Type 0) → Option Record → Type 0
+IsSuch P o = (r : Record) → o ≡ Some r → P r
+
+newer_is : (P : Record → Type 0) (best : Option Record) (r : Record) → P r → IsSuch P best → IsSuch P (newer best r)
+unfolding IsSuch
+newer_is P None r is all = λ x e. subst P (same_Some r x e) is
+newer_is P (Some best) r is all = go (is_newer best r)
+  where
+    go : (b : Bool) → (x : Record) → (if b then Some r else Some best) ≡ Some x → P x
+    go true = λ x e. subst P (same_Some r x e) is
+    go false = λ x e. all x e
+
+newest_is : (P : Record → Type 0) (rs : List Record) (best : Option Record) → AllByRecursion P rs → IsSuch P best → IsSuch P (fold newer best rs)
+newest_is P [] best all is = is
+newest_is P (r ∷ rs) best all is = newest_is P rs (newer best r) all.1 (newer_is P best r all.0 is)
+
+pub winner_starts : (i : Image) (lba : ℕ) (r : Record) → winner (counted i) lba ≡ Some r → is_some (start_of i r.line) ≡ true
+unfolding IsSuch
+winner_starts i lba r e =
+    newest_is (HasStart i) (filter (λ (x : Record). is_of lba x.lba) (counted i)) None (all_filter (HasStart i) (λ (x : Record). is_of lba x.lba) (counted i) (counted_starts i (head i)))
+    (λ x h. absurd (none-some x h)) r e
+
+-- what holds of all records that count holds of the winner
+pub winner_is : (i : Image) (P : Record → Type 0) (lba : ℕ) (r : Record) → AllByRecursion P (counted i) → winner (counted i) lba ≡ Some r → P r
+unfolding IsSuch
+winner_is i P lba r all e =
+    newest_is P (filter (λ (x : Record). is_of lba x.lba) (counted i)) None (all_filter P (λ (x : Record). is_of lba x.lba) (counted i) all) (λ x h. absurd (none-some x h)) r e

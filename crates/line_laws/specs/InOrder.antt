@@ -1,0 +1,56 @@
+-- What holds of the logs of each plain world.
+use Rattle.std.specs.Prelude.{ℕ, ◌*◌, ◌<◌, ◌≤◌, ◌≡◌, List, length, Some}
+use Rattle.std.specs.List.{AllByRecursion}
+use Rattle.pblk_model.specs.declared.shape.Shape.{Shape}
+use Rattle.pblk_model.specs.LineOrder.{data_len}
+use Rattle.pblk_model.specs.UnitLog.{UnitEvent}
+use Rattle.pblk_model.specs.Marks.{meta_lba}
+use Rattle.pblk_model.specs.Image.{Image}
+use Rattle.pblk_world.specs.Events.{Logged}
+use Rattle.pblk_world.specs.World.{Logs, unit_event_at}
+use Rattle.pblk_world.specs.EngineLog.{Opening, Opened, life_of, Placed, placements, placed_on, stripes_of, answers}
+use Rattle.pblk_world.specs.Placing.{line_end}
+use Rattle.stripe_placer.specs.Placing.{Program}
+use Rattle.core_laws.specs.PlacerOf.{unanswered_on}
+use Rattle.core_laws.specs.Positions.{AreNumbered, AreMarked, AreTaken}
+use Rattle.line_laws.specs.Plain.{NoneFreed, NoneLost, NoneFailed}
+use Rattle.line_laws.specs.PlacedEntries.{AreOfSectors}
+
+-- a stripe that was placed is in a line of the drive, which is opened as it was then
+pub record IsInPlace (i : Image) (log : List Logged) (p : Placed) : Type 0 where
+  pub in_range : p.stripe.line < i.shape.chunks
+  pub chunk : p.stripe.chunk ≡ p.stripe.line
+  pub opening : Opening
+  pub life : p.life ≡ Opened opening
+  pub stands : life_of log p.stripe.line ≡ Opened opening
+
+pub record IsInOrder (i : Image) (logs : Logs) : Type 0 where
+  pub small : i.shape.capacity ≤ meta_lba
+  pub numbered : AreNumbered (logs 0)
+  pub marked : AreMarked (logs 0)
+  pub sectors : AreOfSectors i.shape (logs 0)
+  pub taken : AreTaken i.shape (logs 0)
+  pub placed : AllByRecursion (IsInPlace i (logs 0)) (placements (logs 0))
+  pub answered : (unit : ℕ) → length (answers (logs 0) unit) ≤ length (placed_on (logs 0) unit)
+  pub freed : NoneFreed (logs 0)
+  pub lost : NoneLost (logs 0)
+  pub failed : NoneFailed (logs 0)
+
+-- the stripes of an opened line are no more than the line has
+pub record HasRoom (s : Shape) (log : List Logged) (o : Opening) : Type 0 where
+  pub some : 0 < data_len s o.start.width
+  pub within : length (stripes_of log o) * s.ws_opt ≤ line_end s o
+
+-- the stripe that an event of a unit was a program of, as its answer is noted
+pub record IsLanding (i : Image) (logs : Logs) (unit event : ℕ) : Type 0 where
+  pub stripe : Placed
+  pub is_first : unanswered_on (logs 0) unit ≡ Some stripe
+  pub place : IsInPlace i (logs 0) stripe
+  pub chunk : (e : UnitEvent) → unit_event_at logs unit event ≡ Some e → e.chunk ≡ stripe.stripe.line
+
+-- the stripe of a program that is under way
+pub record IsStripeUnderWay (i : Image) (logs : Logs) (of : Program) : Type 0 where
+  pub stripe : Placed
+  pub is_first : unanswered_on (logs 0) of.unit ≡ Some stripe
+  pub place : IsInPlace i (logs 0) stripe
+  pub line : stripe.stripe.line ≡ of.line

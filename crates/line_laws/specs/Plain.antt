@@ -1,0 +1,17 @@
+-- What a mount in which nothing fails and nothing is freed never comes to.
+use Rattle.std.specs.Prelude.{ℕ, ◌≡◌, false, List}
+use Rattle.pblk_world.specs.Events.{Logged}
+use Rattle.pblk_world.specs.EngineLog.{Opening, Placed, life_of, was_lost, has_failed}
+use Rattle.pblk_world.specs.Victims.{is_freed}
+
+-- no line was freed
+abbrev pub NoneFreed : List Logged → Type 0
+NoneFreed log = (line : ℕ) → is_freed (life_of log line) ≡ false
+
+-- no stripe was lost
+abbrev pub NoneLost : List Logged → Type 0
+NoneLost log = (p : Placed) → was_lost log p ≡ false
+
+-- no line that was opened is Failed
+abbrev pub NoneFailed : List Logged → Type 0
+NoneFailed log = (o : Opening) → has_failed log o ≡ false

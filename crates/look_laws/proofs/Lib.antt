@@ -1,0 +1,4 @@
+pub mod HeldSectors
+pub mod LatestSectors
+pub mod ReadBlocks
+pub mod SlotBlocks

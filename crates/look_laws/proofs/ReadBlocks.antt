@@ -1,0 +1,124 @@
+-- The stripe and the block that a slot on the drive tells of.
+use Rattle.std.proofs.Common.{◌≡◌, ℕ, ◌+◌, ◌&&◌, ◌||◌, zero, suc, Bool, true, false, cond, Some, None, Option, List, [], ◌∷◌, refl, sym, subst, ap, ◌∙◌, arith}
+use Rattle.std.specs.Prelude.{slice_get}
+use Rattle.std.specs.List.{find, list_any, enumerate_from}
+use Rattle.std.specs.Option.{option_map, option_map_or, unwrap_or}
+use Rattle.std.proofs.lemmas.Option.{same_Some, none-some}
+use Rattle.pblk_model.specs.Chunk.{Block}
+use Rattle.pblk_model.specs.Records.{Record}
+use Rattle.pblk_model.specs.Contents.{counted, winner}
+use Rattle.pblk_model.specs.Image.{Image}
+use Rattle.pblk_world.specs.World.{World, Logs, log_of}
+use Rattle.pblk_world.specs.EngineLog.{Taken, Placed, placements, has_landed, bears_position}
+use Rattle.pblk_world.specs.Fronts.{last_take}
+use Rattle.pblk_world.specs.Lines.{found_image}
+use Rattle.pblk_world.specs.Space.{is_readable_in, gives_back}
+use Rattle.l2p_map.specs.declared.slot.Slot.TheVariants.{Cached, Media}
+use Rattle.stripe_placer.proofs.Among.{IsAmong}
+use Rattle.core_laws.specs.PlainWorlds.{IsBlankWorld}
+use Rattle.core_laws.specs.SlotOf.{address_in, readable_block, media_of, slot_of_winner, slot_by, slot_of}
+use Rattle.core_laws.proofs.Turns.{found_is}
+use Rattle.line_laws.proofs.Blank.{found_blank, no_counted}
+
+-- ---- lists
+
+numbered_get : {X : Type 0} (n : ℕ) (xs : List X) (k : ℕ) (b : ℕ × X) → slice_get (enumerate_from n xs) k ≡ Some b → (b.0 ≡ n + k) × (slice_get xs k ≡ Some b.1)
+numbered_get n [] k b e = absurd (none-some b e)
+numbered_get {X} n (x ∷ xs) zero b e =
+    let same : (n, x) ≡ b = same_Some (n, x) b e in
+    let here : n ≡ b.0 = ap (λ (c : ℕ × X). c.0) same in
+    (omega arith, ap (λ (c : ℕ × X). Some c.1) same)
+numbered_get n (x ∷ xs) (suc k) b e =
+    let rest = numbered_get (n + 1) xs k b e in
+    let at : b.0 ≡ n + 1 + k = rest.0 in
+    (omega arith, rest.1)
+
+any_found : {X : Type 0} (f : X → Bool) (xs : List X) → list_any f xs ≡ true → (x : X) × (find f xs ≡ Some x)
+any_found f [] e = absurd cc
+any_found {X} f (x ∷ xs) e = go (f x) e (any_found f xs)
+  where
+    go : (b : Bool) → (b || list_any f xs) ≡ true → (list_any f xs ≡ true → (y : X) × (find f xs ≡ Some y)) → (y : X) × (cond b (Some x) (find f xs) ≡ Some y)
+    go true e rest = (x, refl)
+    go false e rest = rest e
+
+both_true : (a b : Bool) → (a && b) ≡ true → (a ≡ true) × (b ≡ true)
+both_true true b e = (refl, e)
+both_true false b e = absurd cc
+
+-- ---- the block that is read
+
+pub record IsReadIn (i : Image) (logs : Logs) (q : ℕ) (p : Placed) : Type 0 where
+  pub among : IsAmong (placements (logs 0)) p
+  pub landed : has_landed (logs 0) p ≡ true
+  pub number : ℕ
+  pub block : Block
+  pub there : slice_get p.stripe.blocks number ≡ Some block
+  pub bears : bears_position i.shape q block ≡ true
+  pub readable : is_readable_in i.shape (logs 0) p.stripe.unit (p.stripe.at + number) p.life ≡ true
+  pub first : readable_block i logs q p ≡ Some (p.stripe.at + number)
+
+pub read_in : (i : Image) (logs : Logs) (q : ℕ) (p : Placed) → find (gives_back i.shape (logs 0) q) (placements (logs 0)) ≡ Some p → IsReadIn i logs q p
+read_in i logs q p e =
+    let test : ℕ × Block → Bool = λ b. bears_position i.shape q b.1 && is_readable_in i.shape (logs 0) p.stripe.unit b.0 p.life in
+    let is = found_is (gives_back i.shape (logs 0) q) (placements (logs 0)) p e in
+    let facts = both_true (has_landed (logs 0) p) (list_any test (enumerate_from p.stripe.at p.stripe.blocks)) is.0 in
+    let found = any_found test (enumerate_from p.stripe.at p.stripe.blocks) facts.1 in
+    let at = found_is test (enumerate_from p.stripe.at p.stripe.blocks) found.0 found.1 in
+    let numbered = numbered_get p.stripe.at p.stripe.blocks at.1.0 found.0 at.1.1 in
+    let passes = both_true (bears_position i.shape q found.0.1) (is_readable_in i.shape (logs 0) p.stripe.unit found.0.0 p.life) at.0 in
+    record {
+      among = is.1;
+      landed = facts.0;
+      number = at.1.0;
+      block = found.0.1;
+      there = numbered.1;
+      bears = passes.0;
+      readable = subst (λ n. is_readable_in i.shape (logs 0) p.stripe.unit n p.life ≡ true) numbered.0 passes.1;
+      first = ap (option_map (λ (b : ℕ × Block). b.0)) found.1 ∙ ap (λ n. Some n) numbered.0;
+    }
+
+-- ---- the slot
+
+pub record IsOnDrive (i : Image) (logs : Logs) (lba line at q : ℕ) : Type 0 where
+  pub entry : Taken
+  pub last : last_take (logs 0) lba ≡ Some entry
+  pub of_position : entry.entry.position ≡ q
+  pub stripe : Placed
+  pub read : IsReadIn i logs entry.entry.position stripe
+  pub of_line : stripe.stripe.line ≡ line
+  pub address : address_in i logs stripe.life stripe (stripe.stripe.at + read.number) ≡ at
+
+same_line : (l m a b p q : ℕ) → Media l a p ≡ Media m b q → l ≡ m
+same_line l m a b p q e = cc
+
+same_address : (l m a b p q : ℕ) → Media l a p ≡ Media m b q → a ≡ b
+same_address l m a b p q e = cc
+
+same_position : (l m a b p q : ℕ) → Media l a p ≡ Media m b q → p ≡ q
+same_position l m a b p q e = cc
+
+winner_none : (i : Image) (w : World) (lba : ℕ) → IsBlankWorld i w → winner (counted (found_image i (log_of w))) lba ≡ None
+winner_none i w lba blank = ap (λ (rs : List Record). winner rs lba) (ap counted (found_blank i w blank.plain.legal blank.free) ∙ no_counted i blank.plain.accepted blank.free)
+
+pub on_drive : (i : Image) (w : World) (lba line at q : ℕ) → IsBlankWorld i w → slot_of i (log_of w) lba ≡ Media line at q → IsOnDrive i (log_of w) lba line at q
+on_drive i w lba line at q blank slot = go (last_take (log_of w 0) lba) refl slot
+  where
+    by : (t : Taken) → last_take (log_of w 0) lba ≡ Some t → (p : Option Placed) → find (gives_back i.shape (log_of w 0) t.entry.position) (placements (log_of w 0)) ≡ p
+        → option_map_or (media_of i (log_of w) t.entry.position) p (Cached t.entry.position) ≡ Media line at q → IsOnDrive i (log_of w) lba line at q
+    by t last None none e = absurd cc
+    by t last (Some p) some e =
+        let read : IsReadIn i (log_of w) t.entry.position p = read_in i (log_of w) t.entry.position p some in
+        let found : ℕ = unwrap_or (readable_block i (log_of w) t.entry.position p) 0 in
+        record {
+          entry = t;
+          last = last;
+          of_position = same_position p.stripe.line line (address_in i (log_of w) p.life p found) at t.entry.position q e;
+          stripe = p;
+          read = read;
+          of_line = same_line p.stripe.line line (address_in i (log_of w) p.life p found) at t.entry.position q e;
+          address = ap (λ n. address_in i (log_of w) p.life p (unwrap_or n 0)) (sym read.first) ∙ same_address p.stripe.line line (address_in i (log_of w) p.life p found) at t.entry.position q e;
+        }
+
+    go : (t : Option Taken) → last_take (log_of w 0) lba ≡ t → slot_by i (log_of w) lba t ≡ Media line at q → IsOnDrive i (log_of w) lba line at q
+    go None f e = let not_there : slot_of_winner None ≡ Media line at q = ap slot_of_winner (sym (winner_none i w lba blank)) ∙ e in absurd cc
+    go (Some t) f e = by t f (find (gives_back i.shape (log_of w 0) t.entry.position) (placements (log_of w 0))) refl e

@@ -1,0 +1,339 @@
+-- Where the placer of a plain world offers nothing, no stripe is to be placed.
+use Rattle.std.proofs.Common.{◌≡◌, ◌⊎◌, inl, inr, ℕ, ◌+◌, ◌-◌, ◌/◌, ◌%◌, ◌<◌, ◌≤◌, ◌==◌, ◌&&◌, ◌||◌, zero, suc, not, nat_lt, Bool, true, false, cond, Some, None, Option, List, [], ◌∷◌, ◌++◌, map, length, take, drop, refl, sym, subst, ap, ap₂, ◌∙◌, arith, if◌then◌else◌, mod-lt}
+use Rattle.std.specs.Prelude.{slice_get, nat_le, nat_eq, ⊤}
+use Rattle.std.specs.List.{AllByRecursion, Contains, filter, filter_map, cons_option, find, list_all, list_any, enumerate_from, range_with_len, slice_index_or}
+use Rattle.std.specs.Option.{option_map_or, is_some}
+use Rattle.std.proofs.lemmas.Bool.{eqb-true}
+use Rattle.std.proofs.lemmas.Bool.Decides.{nat_tests}
+use Rattle.std.proofs.lemmas.Nat.Bits.{bit_at-zero}
+use Rattle.std.proofs.lemmas.Option.{same_Some, none-some, slice_get_within, slice_get-get_or, get_or_from_slice_get}
+use Rattle.pblk_model.specs.declared.shape.Shape.{Shape}
+use Rattle.pblk_model.specs.Shape.{units}
+use Rattle.pblk_model.specs.LineOrder.{start_len}
+use Rattle.pblk_model.specs.Image.{Image}
+use Rattle.pblk_world.specs.Events.{Stripe, Logged}
+use Rattle.pblk_world.specs.World.{World, log_of}
+use Rattle.pblk_layout.specs.Live.{is_live}
+use Rattle.core_laws.proofs.Rows.{same_number}
+use Rattle.pblk_world.specs.Lines.{known_image}
+use Rattle.pblk_world.specs.EngineLog.{is_opened, Taken, Opening, Opened, life_of, Placed, placed_by, placements, placed_on, answers, is_answered, turn, stripes_of, has_landed, has_failed}
+use Rattle.pblk_world.specs.Fronts as fronts
+use Rattle.pblk_world.specs.Placing.{end_address, line_end, IsStart, IsData, IsEnd, IsPad}
+use Rattle.pblk_world.specs.AtRest.{IsUrgent, IsDue}
+use Rattle.stripe_placer.specs.declared.placement.StripeKind.{StripeKind}
+use Rattle.stripe_placer.specs.declared.placement.StripeKind.TheVariants as kinds
+use Rattle.stripe_placer.specs.Entries.{Entries, waiting, has_stripe}
+use Rattle.stripe_placer.specs.OpenLines.{OpenLine, unit_of, numbers, is_to_place, has_left, next_of, kind_of, is_unanswered, start_has_landed}
+use Rattle.stripe_placer.specs.Placing.{Program, UnitRow, is_under_way, is_ready, allows, next_positions, program_of, allowed_at, next_in, next_stripe}
+use Rattle.stripe_placer.specs.Placing.UnitRow.{Idle}
+use Rattle.stripe_placer.proofs.Among.{IsAmong, later, in_map, in_filter, from_filter}
+use Rattle.core_laws.specs.OpenedLines.{open_line, standing, open_lines}
+use Rattle.core_laws.specs.PlacerOf.{positions_of, entries_of, row_of, placing_of}
+use Rattle.core_laws.proofs.Engine.{placed_number}
+use Rattle.core_laws.proofs.Lists.{all_at, all_filter, filter_none}
+use Rattle.core_laws.proofs.Placing.{is_below, not_below, weaker}
+use Rattle.core_laws.proofs.Turns.{filtered_is}
+use Rattle.core_laws.proofs.WaitingEntries.{waiting_alike}
+use Rattle.pblk_world.proofs.Answered.{answers_fit}
+use Rattle.placing_laws.proofs.Followed.{IsFollowed}
+use Rattle.placing_laws.proofs.Answers.{not_failed}
+use Rattle.placing_laws.proofs.Lengths.{is_before, is_after}
+use Rattle.placing_laws.proofs.Opened.{opened_lines, IsOpenedLine, life_stands}
+use Rattle.placing_laws.proofs.InOrder.{stripe_count, wide}
+use Rattle.placing_laws.proofs.Forms.{IsLineOf, line_of, formed}
+use Rattle.placing_laws.proofs.NextStripes.{next_is, unfailed, start_landed, data_landed, all_parts}
+use Rattle.placing_laws.proofs.Idle.{all_answered, is_idle, no_stopped, idle_row, row_there}
+use Rattle.placing_laws.proofs.Online.{known_length}
+use Rattle.placing_laws.proofs.KeptLines.{all_online}
+use Rattle.placing_laws.proofs.Offered.{live_inside, unit_within}
+use Rattle.placing_laws.proofs.Placeable.{kind_in, kind_by, IsPart, HasParts, parts_of, both, yes_yes, within_is, positions_length}
+
+-- ---- the stripes of a unit stand in order
+
+abbrev Rises : List Placed → Type 0
+Rises [] = ⊤
+Rises (p ∷ ps) = AllByRecursion (λ (q : Placed). p.number < q.number) ps × Rises ps
+
+numbers_from : (log : List Logged) (m n : ℕ) (xs : List Logged) → m < n → AllByRecursion (λ (q : Placed). m < q.number) (filter_map (λ (e : ℕ × Logged). placed_by log e.0 e.1.event) (enumerate_from n xs))
+numbers_from log m n [] below = tt
+numbers_from log m n (x ∷ xs) below = go (placed_by log n x.event) refl (numbers_from log m (n + 1) xs (omega arith))
+  where
+    go : (o : Option Placed) → placed_by log n x.event ≡ o → AllByRecursion (λ (q : Placed). m < q.number) (filter_map (λ (e : ℕ × Logged). placed_by log e.0 e.1.event) (enumerate_from (n + 1) xs))
+        → AllByRecursion (λ (q : Placed). m < q.number) (cons_option o (filter_map (λ (e : ℕ × Logged). placed_by log e.0 e.1.event) (enumerate_from (n + 1) xs)))
+    go None e rest = rest
+    go (Some p) e rest = let number : p.number ≡ n = placed_number log n x.event p e in (omega arith, rest)
+
+rise_from : (log : List Logged) (n : ℕ) (xs : List Logged) → Rises (filter_map (λ (e : ℕ × Logged). placed_by log e.0 e.1.event) (enumerate_from n xs))
+rise_from log n [] = tt
+rise_from log n (x ∷ xs) = go (placed_by log n x.event) refl (rise_from log (n + 1) xs)
+  where
+    go : (o : Option Placed) → placed_by log n x.event ≡ o → Rises (filter_map (λ (e : ℕ × Logged). placed_by log e.0 e.1.event) (enumerate_from (n + 1) xs))
+        → Rises (cons_option o (filter_map (λ (e : ℕ × Logged). placed_by log e.0 e.1.event) (enumerate_from (n + 1) xs)))
+    go None e rest = rest
+    go (Some p) e rest = let number : p.number ≡ n = placed_number log n x.event p e in let below : p.number < n + 1 = omega arith in (numbers_from log p.number (n + 1) xs below, rest)
+
+rise_filtered : (test : Placed → Bool) (ps : List Placed) → Rises ps → Rises (filter test ps)
+rise_filtered test [] rise = tt
+rise_filtered test (p ∷ ps) rise = go (test p) (rise_filtered test ps rise.1)
+  where
+    go : (b : Bool) → Rises (filter test ps) → Rises (cond b (p ∷ filter test ps) (filter test ps))
+    go true rest = (all_filter (λ (q : Placed). p.number < q.number) test ps rise.0, rest)
+    go false rest = rest
+
+count_before : (ps : List Placed) (m : ℕ) (q : Placed) → Rises ps → slice_get ps m ≡ Some q → length (filter (λ (r : Placed). nat_lt r.number q.number) ps) ≡ m
+count_before [] m q rise e = absurd (none-some q e)
+count_before (p ∷ ps) zero q rise e =
+    let same : p.number ≡ q.number = ap (λ (x : Placed). x.number) (same_Some p q e) in
+    let within : q.number ≤ p.number = omega arith in
+    ap (λ b. length (cond b (p ∷ filter (λ (r : Placed). nat_lt r.number q.number) ps) (filter (λ (r : Placed). nat_lt r.number q.number) ps))) (not_below q.number p.number within)
+    ∙ ap length (filter_none (λ (r : Placed). nat_lt r.number q.number) ps
+    (weaker (λ (r : Placed). p.number < r.number) (λ (r : Placed). nat_lt r.number q.number ≡ false) (λ r above. not_below q.number r.number (omega arith)) ps rise.0))
+count_before (p ∷ ps) (suc m) q rise e =
+    ap (λ b. length (cond b (p ∷ filter (λ (r : Placed). nat_lt r.number q.number) ps) (filter (λ (r : Placed). nat_lt r.number q.number) ps))) (is_below p.number q.number (all_at (λ (r : Placed). p.number < r.number) ps m q e rise.0))
+    ∙ ap suc (count_before ps m q rise.1 e)
+
+-- ---- units of which each stripe is answered
+
+has_got : {X : Type 0} (xs : List X) (k : ℕ) → is_some (slice_get xs k) ≡ true → k < length xs
+has_got [] k e = absurd cc
+has_got (x ∷ xs) zero e = omega arith
+has_got (x ∷ xs) (suc k) e = let rest : k < length xs = has_got xs k e in omega arith
+
+is_contained : {X : Type 0} (xs : List X) (x : X) → IsAmong xs x → Contains xs x
+is_contained xs x at = (at.0, slice_get_within xs at.0 x at.1, get_or_from_slice_get xs at.0 x x at.1)
+
+none_past : {X : Type 0} (xs : List X) (k : ℕ) → slice_get xs k ≡ None → length xs ≤ k
+none_past [] k h = omega arith
+none_past (x ∷ xs) zero h = absurd cc
+none_past (x ∷ xs) (suc k) h = let rest : length xs ≤ k = none_past xs k h in omega arith
+
+pub AreAnswered : List Logged → Type 0
+AreAnswered log = (p : Placed) → Contains (placements log) p → is_answered log p ≡ true
+
+same_unit : (log : List Logged) (unit : ℕ) (p : Placed) (m : ℕ) → slice_get (placed_on log unit) m ≡ Some p → p.stripe.unit ≡ unit
+same_unit log unit p m e = eqb-true p.stripe.unit unit (filtered_is (λ (q : Placed). q.stripe.unit == unit) (placements log) m p e)
+
+-- a stripe of a unit that is answered
+pub its_turn : (log : List Logged) (unit : ℕ) (p : Placed) (m : ℕ) → slice_get (placed_on log unit) m ≡ Some p → is_answered log p ≡ true → (turn log p ≡ m) × (turn log p < length (answers log unit))
+its_turn log unit p m e answered =
+    let its : p.stripe.unit ≡ unit = same_unit log unit p m e in
+    let below : turn log p < length (answers log p.stripe.unit) = has_got (answers log p.stripe.unit) (turn log p) answered in
+    let same_count : length (answers log p.stripe.unit) ≡ length (answers log unit) = ap (λ u. length (answers log u)) its in
+    let there : slice_get (placed_on log p.stripe.unit) m ≡ Some p = ap (λ u. slice_get (placed_on log u) m) its ∙ e in (
+      count_before (placed_on log p.stripe.unit) m p (rise_filtered (λ (q : Placed). q.stripe.unit == p.stripe.unit) (placements log) (rise_from log 0 log)) there,
+      omega arith,
+    )
+
+pub idle_unit : (i : Image) (us : ℕ → List ℕ) (w : World) (unit : ℕ) → IsFollowed i us w → AreAnswered (log_of w 0) → length (answers (log_of w 0) unit) ≡ length (placed_on (log_of w 0) unit)
+unfolding AreAnswered
+idle_unit i us w unit is all = go (slice_get (placed_on (log_of w 0) unit) (length (answers (log_of w 0) unit))) refl
+  where
+    go : (o : Option Placed) → slice_get (placed_on (log_of w 0) unit) (length (answers (log_of w 0) unit)) ≡ o → length (answers (log_of w 0) unit) ≡ length (placed_on (log_of w 0) unit)
+    go None e =
+        let most : length (answers (log_of w 0) unit) ≤ length (placed_on (log_of w 0) unit) = answers_fit i w unit is.plain.legal in
+        let least : length (placed_on (log_of w 0) unit) ≤ length (answers (log_of w 0) unit) = none_past (placed_on (log_of w 0) unit) (length (answers (log_of w 0) unit)) e in
+        omega arith
+    go (Some p) e =
+        let log : List Logged = log_of w 0 in
+        let m : ℕ = length (answers log unit) in
+        let among : IsAmong (placements log) p = from_filter (λ (q : Placed). q.stripe.unit == unit) (placements log) p (m, e) in
+        let turns : (turn log p ≡ m) × (turn log p < m) = its_turn log unit p m e (all p (is_contained (placements log) p among)) in
+        let same : turn log p ≡ m = turns.0 in
+        let below : turn log p < m = turns.1 in
+        absurd (omega arith)
+
+-- ---- what a stripe that is due comes to
+
+part_is : (k c d : ℕ) (kind : StripeKind) → IsPart k c d kind → kind_in k c d ≡ kind
+unfolding IsPart kind_in
+part_is k c d kinds.Start part = ap (λ b. if b then kinds.Start else if nat_lt k (c + d) then kinds.Data else kinds.End) (is_below k c part)
+part_is k c d kinds.Data part = ap₂ (λ a b. if a then kinds.Start else if b then kinds.Data else kinds.End) (not_below c k part.0) (is_below k (c + d) part.1)
+part_is k c d kinds.Pad part = absurd part
+part_is k c d kinds.End part = ap₂ (λ a b. if a then kinds.Start else if b then kinds.Data else kinds.End) (not_below c k (omega arith)) (not_below (c + d) k part)
+
+-- the next stripe of the line, of this kind, is allowed
+record IsAllowedNext (i : Image) (us : ℕ → List ℕ) (w : World) (pad : ℕ) (o : Opening) (kind : StripeKind) : Type 0 where
+  inside : length (stripes_of (log_of w 0) o) < stripe_count i us o.line
+  part : IsPart (length (stripes_of (log_of w 0) o)) (start_len i.shape / i.shape.ws_opt) (open_line i (log_of w) o).data_count kind
+  allowed : allows i.shape (entries_of i.shape (log_of w 0) pad) (open_line i (log_of w) o) kind ≡ true
+
+is_within : (m n : ℕ) → nat_le m n ≡ true → m ≤ n
+is_within m n e = grind (arith, nat_tests)
+
+pub or_first : (a b : Bool) → a ≡ true → (a || b) ≡ true
+or_first true b e = refl
+or_first false b e = absurd cc
+
+or_second : (a b : Bool) → b ≡ true → (a || b) ≡ true
+or_second true b e = refl
+or_second false b e = e
+
+any_at : (ts : List Taken) (k : ℕ) (t : Taken) (pad : ℕ) → slice_get ts k ≡ Some t → t.entry.position < pad → list_any (λ q. nat_lt q pad) (positions_of ts) ≡ true
+any_at [] k t pad e h = absurd (none-some t e)
+any_at (u ∷ us) zero t pad e h = or_first (nat_lt u.entry.position pad) (list_any (λ q. nat_lt q pad) (positions_of us)) (ap (λ (v : Taken). nat_lt v.entry.position pad) (same_Some u t e) ∙ is_below t.entry.position pad h)
+any_at (u ∷ us) (suc k) t pad e h = or_second (nat_lt u.entry.position pad) (list_any (λ q. nat_lt q pad) (positions_of us)) (any_at us k t pad e h)
+
+urgent : (s : Shape) (log : List Logged) (target pad : ℕ) → target ≤ pad → IsUrgent s log target → has_stripe s.ws_opt (entries_of s log pad) ≡ true
+urgent s log target pad within (inl fills) =
+    let count : length (waiting (entries_of s log pad)) ≡ length (fronts.waiting s log) = ap (λ (qs : List ℕ). length qs) (waiting_alike s log pad) ∙ positions_length (fronts.waiting s log) in
+    or_first (nat_le s.ws_opt (length (waiting (entries_of s log pad)))) (list_any (λ q. nat_lt q pad) (waiting (entries_of s log pad))) (within_is s.ws_opt (length (waiting (entries_of s log pad))) (omega arith))
+urgent s log target pad within (inr below) =
+    let t : Taken = below.0 in
+    let at : IsAmong (fronts.waiting s log) t = (below.1.0, slice_get-get_or (fronts.waiting s log) below.1.0 t below.1.1 ∙ ap (λ y. Some y) below.1.2) in
+    let under : t.entry.position < target = below.2 in
+    or_second (nat_le s.ws_opt (length (waiting (entries_of s log pad)))) (list_any (λ q. nat_lt q pad) (waiting (entries_of s log pad)))
+    (ap (list_any (λ q. nat_lt q pad)) (waiting_alike s log pad) ∙ any_at (fronts.waiting s log) at.0 t pad at.1 (omega arith))
+
+due_next : (i : Image) (us : ℕ → List ℕ) (w : World) (pad target : ℕ) (o : Opening) (stripe : Stripe) → IsFollowed i us w → IsLineOf i us w o → HasParts i us w o → target ≤ pad
+    → IsStart i (log_of w) o stripe ⊎ (IsEnd i (log_of w) o stripe ⊎ (IsPad i (log_of w) o stripe ⊎ (IsData i (log_of w) o stripe × IsUrgent i.shape (log_of w 0) target)))
+    → (kind : StripeKind) × IsAllowedNext i us w pad o kind
+unfolding IsPart
+due_next i us w pad target o stripe is line parts within (inl start) =
+    let k : ℕ = length (stripes_of (log_of w 0) o) in
+    let before : k < start_len i.shape / i.shape.ws_opt = is_before i.shape.ws_opt k (start_len i.shape / i.shape.ws_opt) (start_len i.shape) is.plain.accepted.drive.ws_opt parts.start_is start.within in
+    let fits = parts.fits in
+    (kinds.Start, record { inside = omega arith; part = before; allowed = refl })
+due_next i us w pad target o stripe is line parts within (inr (inl ends)) =
+    let s : Shape = i.shape in
+    let log : List Logged = log_of w 0 in
+    let l : OpenLine = open_line i (log_of w) o in
+    let ps : List Placed = stripes_of log o in
+    let k : ℕ = length ps in
+    let c : ℕ = start_len s / s.ws_opt in
+    let d : ℕ = l.data_count in
+    let some : 0 < s.ws_opt = is.plain.accepted.drive.ws_opt in
+    let beyond : c + d ≤ k = is_after s.ws_opt k (c + d) (end_address s o) some parts.ends_is ends.from in
+    let landed : list_all (has_landed log) (take (c + d) ps) ≡ true =
+    (both (nat_le (c + d) k) (list_all (has_landed log) (take (c + d) ps)) (ap (λ m. nat_le m k && list_all (has_landed log) (take m ps)) (sym parts.count_is) ∙ ends.data_landed)).1 in
+    let rest : list_all (has_landed log) (take d (drop c ps)) ≡ true = (both (list_all (has_landed log) (take c ps)) (list_all (has_landed log) (take d (drop c ps))) (sym (all_parts (has_landed log) c d ps) ∙ landed)).1 in (
+      kinds.End,
+      record {
+        inside = is_before s.ws_opt k (stripe_count i us o.line) (line_end s o) some parts.line_is ends.within;
+        part = beyond;
+        allowed = data_landed l log ps (stripe_count i us o.line - k) (formed i us w o line) beyond ∙ rest;
+      },
+    )
+due_next i us w pad target o stripe is line parts within (inr (inr (inl pads))) =
+    let fails : has_failed (log_of w 0) o ≡ true = pads.failed in
+    let never : has_failed (log_of w 0) o ≡ false = not_failed (log_of w 0) o is.plain.engine in
+    absurd cc
+due_next i us w pad target o stripe is line parts within (inr (inr (inr its))) =
+    let s : Shape = i.shape in
+    let log : List Logged = log_of w 0 in
+    let l : OpenLine = open_line i (log_of w) o in
+    let ps : List Placed = stripes_of log o in
+    let k : ℕ = length ps in
+    let c : ℕ = start_len s / s.ws_opt in
+    let d : ℕ = l.data_count in
+    let some : 0 < s.ws_opt = is.plain.accepted.drive.ws_opt in
+    let before : k < c + d = is_before s.ws_opt k (c + d) (end_address s o) some parts.ends_is its.0.within in
+    let started = both (nat_le c k) (list_all (has_landed log) (take c ps)) its.0.start_landed in
+    let above : c ≤ k = is_within c k started.0 in
+    let fits = parts.fits in (
+      kinds.Data,
+      record {
+        inside = omega arith;
+        part = (above, before);
+        allowed = yes_yes (start_has_landed l) (has_stripe s.ws_opt (entries_of s log pad)) (start_landed l log ps (stripe_count i us o.line - k) (formed i us w o line) above ∙ started.1) (urgent s log target pad within its.1);
+      },
+    )
+
+-- ---- it would be offered
+
+pub found_any : (test : ℕ → Bool) (xs : List ℕ) (j : ℕ) → find test xs ≡ Some j → list_any test xs ≡ true
+found_any test [] j e = absurd (none-some j e)
+found_any test (x ∷ xs) j e = go (test x) e (λ f. found_any test xs j f)
+  where
+    go : (b : Bool) → cond b (Some x) (find test xs) ≡ Some j → (find test xs ≡ Some j → list_any test xs ≡ true) → (b || list_any test xs) ≡ true
+    go true f rest = refl
+    go false f rest = rest f
+
+none_at : {X : Type 0} (test : X → Bool) (xs : List X) (k : ℕ) (x : X) → find test xs ≡ None → slice_get xs k ≡ Some x → test x ≡ false
+none_at test [] k x e at = absurd (none-some x at)
+none_at {X} test (y ∷ ys) k x e at = go (test y) refl e k at (λ f m b. none_at test ys m x f b)
+  where
+    go : (b : Bool) → test y ≡ b → cond b (Some y) (find test ys) ≡ None → (k : ℕ) → slice_get (y ∷ ys) k ≡ Some x → (find test ys ≡ None → (m : ℕ) → slice_get ys m ≡ Some x → test x ≡ false) → test x ≡ false
+    go true is f k at rest = absurd cc
+    go false is f zero at rest = ap test (sym (same_Some y x at)) ∙ is
+    go false is f (suc k) at rest = rest f k at
+
+given_later : {X Y : Type 0} (give : X → Option Y) (x : X) (xs : List X) (y : Y) → IsAmong (filter_map give xs) y → IsAmong (filter_map give (x ∷ xs)) y
+given_later give x xs y at = elim (give x) as (λ o. IsAmong (cons_option o (filter_map give xs)) y) [ None ↦ at | Some z ↦ later z (filter_map give xs) y at ]
+
+given_at : {X Y : Type 0} (give : X → Option Y) (xs : List X) (x : X) (y : Y) (i : ℕ) → slice_get xs i ≡ Some x → give x ≡ Some y → IsAmong (filter_map give xs) y
+given_at give [] x y i at is = absurd (none-some x at)
+given_at give (z ∷ zs) x y zero at is = (0, ap (λ o. slice_get (cons_option o (filter_map give zs)) 0) (ap give (same_Some z x at) ∙ is))
+given_at give (z ∷ zs) x y (suc i) at is = given_later give z zs y (given_at give zs x y i at is)
+
+offered_next : (i : Image) (us : ℕ → List ℕ) (w : World) (pad : ℕ) (o : Opening) (kind : StripeKind) → IsFollowed i us w → life_of (log_of w 0) o.line ≡ Opened o → IsLineOf i us w o → IsAllowedNext i us w pad o kind
+    → IsAmong (filter_map (next_in i.shape (entries_of i.shape (log_of w 0) pad)) (open_lines i (log_of w)))
+    (program_of i.shape (open_line i (log_of w) o) (length (stripes_of (log_of w 0) o)) kind (next_positions i.shape (entries_of i.shape (log_of w 0) pad) kind))
+offered_next i us w pad o kind is life line next =
+    let s : Shape = i.shape in
+    let log : List Logged = log_of w 0 in
+    let e : Entries = entries_of s log pad in
+    let l : OpenLine = open_line i (log_of w) o in
+    let k : ℕ = length (stripes_of log o) in
+    let inside : k < stripe_count i us o.line = next.inside in
+    let number : next_of l ≡ Some k = next_is l log (stripes_of log o) (stripe_count i us o.line - k) is.plain.engine (formed i us w o line) (omega arith) in
+    let kind_is : kind_of l k ≡ kind =
+    kind_by l k (unfailed l log (stripes_of log o) (stripe_count i us o.line - k) is.plain.engine (formed i us w o line)) ∙ part_is k (start_len s / s.ws_opt) l.data_count kind next.part in
+    let given : next_in s e l ≡ Some (program_of s l k kind (next_positions s e kind)) =
+    ap (allowed_at s e l) number
+    ∙ ap (λ (t : StripeKind). if allows s e l t then Some (program_of s l k t (next_positions s e t)) else None) kind_is
+    ∙ ap (λ b. if b then Some (program_of s l k kind (next_positions s e kind)) else None) next.allowed in
+    let left : has_left l ≡ true = or_first (list_any (is_to_place l) (numbers l)) (list_any is_unanswered l.stripes) (found_any (is_to_place l) (numbers l) k number) in
+    let at : IsAmong (open_lines i (log_of w)) l = in_filter has_left (map (open_line i (log_of w)) (standing log)) l (in_map (open_line i (log_of w)) (standing log) o (life_stands i us w is o.line o life)) left in
+    given_at (next_in s e) (open_lines i (log_of w)) l (program_of s l k kind (next_positions s e kind)) at.0 at.1 given
+
+ready_unit : (i : Image) (us : ℕ → List ℕ) (w : World) (unit : ℕ) → IsFollowed i us w → AreAnswered (log_of w 0) → unit < units i.shape → is_ready (map (row_of i (log_of w) []) (range_with_len 0 (units i.shape))) 0 unit ≡ true
+ready_unit i us w unit is all inside =
+    let idle : slice_get (map (row_of i (log_of w) []) (range_with_len 0 (units i.shape))) unit ≡ Some Idle =
+    row_there i (log_of w) unit inside ∙ ap (λ (r : UnitRow). Some r) (idle_row i (log_of w) unit (idle_unit i us w unit is all)) in
+    ap₂ (λ b (r : Option UnitRow). not (nat_eq b 1) && not (option_map_or is_under_way r false)) (bit_at-zero unit) idle
+
+its_unit : (i : Image) (us : ℕ → List ℕ) (w : World) (o : Opening) → IsFollowed i us w → life_of (log_of w 0) o.line ≡ Opened o → IsLineOf i us w o → unit_of (open_line i (log_of w) o) (length (stripes_of (log_of w 0) o)) < units i.shape
+its_unit i us w o is life line =
+    let l : OpenLine = open_line i (log_of w) o in
+    let k : ℕ = length (stripes_of (log_of w 0) o) in
+    let inside : k % wide us o.line < wide us o.line = mod-lt k {m = wide us o.line} line.striped.wide in
+    let same : unit_of l k ≡ slice_index_or (us o.line) (k % wide us o.line) 0 = ap₂ (λ (us : List ℕ) g. slice_index_or us (k % g) 0) line.units line.wide_is in
+    subst (λ u. u < units i.shape) (sym same)
+    (unit_within i us w o.line (k % wide us o.line) (slice_index_or (us o.line) (k % wide us o.line) 0) is (ap is_opened life) (slice_get-get_or (us o.line) (k % wide us o.line) 0 inside))
+
+pub none_due : (i : Image) (us : ℕ → List ℕ) (w : World) (pad target : ℕ) (stripe : Stripe) → IsFollowed i us w → next_stripe (placing_of i (log_of w) pad []) 0 ≡ None → ((p : Placed) → Contains (placements (log_of w 0)) p → is_answered (log_of w 0) p ≡ true)
+    → target ≤ pad → ¬ IsDue i (log_of w) target stripe
+unfolding AreAnswered
+none_due i us w pad target stripe is none all within due =
+    let log : List Logged = log_of w 0 in
+    let o : Opening = due.opening in
+    let well : IsOpenedLine i us stripe.line o = opened_lines i us w is stripe.line o due.is_open in
+    let life : life_of log o.line ≡ Opened o = ap (life_of log) well.its_line ∙ due.is_open in
+    let line : IsLineOf i us w o = line_of i us w o is life in
+    let next = due_next i us w pad target o stripe is line (parts_of i us w o line) within due.kind in
+    let rows : List UnitRow = map (row_of i (log_of w) []) (range_with_len 0 (units i.shape)) in
+    let given : List Program = filter_map (next_in i.shape (entries_of i.shape log pad)) (open_lines i (log_of w)) in
+    let of : Program = program_of i.shape (open_line i (log_of w) o) (length (stripes_of log o)) next.0 (next_positions i.shape (entries_of i.shape log pad) next.0) in
+    let among : IsAmong given of = offered_next i us w pad o next.0 is life line next.1 in
+    let nothing : find (λ (x : Program). is_ready rows 0 x.unit) given ≡ None =
+    ap (λ (ps : List Program). find (λ (x : Program). is_ready rows 0 x.unit) (ps ++ given)) (sym (no_stopped i us w 0 (units i.shape) is)) ∙ none in
+    let no_ : is_ready rows 0 of.unit ≡ false = none_at (λ (x : Program). is_ready rows 0 x.unit) given among.0 of nothing among.1 in
+    let yes_ : is_ready rows 0 of.unit ≡ true = ready_unit i us w of.unit is all (its_unit i us w o is life line) in
+    absurd cc
+
+-- ---- where each unit is idle
+
+pub idle_answered : (i : Image) (us : ℕ → List ℕ) (w : World) (pad : ℕ) (p : Placed) → IsFollowed i us w → ((unit : ℕ) → unit < units i.shape → slice_get (placing_of i (log_of w) pad []).units unit ≡ Some Idle)
+    → Contains (placements (log_of w 0)) p → is_answered (log_of w 0) p ≡ true
+idle_answered i us w pad p is idle there =
+    let log : List Logged = log_of w 0 in
+    let unit : ℕ = p.stripe.unit in
+    let among : IsAmong (placements log) p = (there.0, slice_get-get_or (placements log) there.0 p there.1 ∙ ap (λ (q : Placed). Some q) there.2) in
+    let live : is_live (known_image i (log_of w)) p.stripe.line p.stripe.unit ≡ true =
+    all_at (λ (q : Placed). is_live (known_image i (log_of w)) q.stripe.line q.stripe.unit ≡ true) (placements log) among.0 p among.1 (all_online i w is.plain) in
+    let few : length (known_image i (log_of w)).units ≡ length i.units = known_length i (log_of w) in
+    let count = is.plain.fit.units in
+    let low : p.stripe.unit < length (known_image i (log_of w)).units = live_inside (known_image i (log_of w)) p.stripe.line p.stripe.unit live in
+    let inside : p.stripe.unit < units i.shape = omega arith in
+    let row : row_of i (log_of w) [] p.stripe.unit ≡ Idle = same_Some (row_of i (log_of w) [] p.stripe.unit) Idle (sym (row_there i (log_of w) p.stripe.unit inside) ∙ idle p.stripe.unit inside) in
+    all_answered log p.stripe.unit p (is_idle i us w p.stripe.unit is (ap is_under_way row)) (in_filter (λ (q : Placed). q.stripe.unit == p.stripe.unit) (placements log) p among (same_number p.stripe.unit)) refl

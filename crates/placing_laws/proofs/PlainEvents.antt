@@ -1,0 +1,184 @@
+-- Plain worlds, step by step: a line that was opened stays so, and each stripe stands in one.
+use Rattle.std.proofs.Common.{◌≡◌, ℕ, ◌+◌, ◌<◌, ◌≤◌, ◌==◌, zero, suc, nat_lt, Bool, true, false, Some, List, [], ◌∷◌, ◌++◌, length, take, drop, refl, sym, subst, ap, ◌∙◌, arith, if◌then◌else◌, append-nil, append_assoc, le_refl, take_all, length-append}
+use Rattle.std.specs.List.{AllByRecursion}
+use Rattle.std.proofs.lemmas.List.{take-append-le}
+use Rattle.std.proofs.lemmas.Option.{none-some}
+use Rattle.pblk_model.specs.Image.{Image}
+use Rattle.pblk_world.specs.Events.{Begin, Does, Open, Place, Free, Event, Decides, Logged, Step}
+use Rattle.pblk_world.specs.World.{World, Logs, log_of, prefixes}
+use Rattle.pblk_world.specs.EngineLog.{Begun, begun, LineLife, Opened, is_opened, turned_by, life_of, Placed, placements}
+use Rattle.pblk_world.specs.Legal.{IsLegal, IsLegalStep, IsAllowed, IsKnowledge}
+use Rattle.pblk_world.proofs.Appending.{life_more, placements_more}
+use Rattle.core_laws.specs.PlainWorlds.{is_plain_event, ArePlain, IsPlainWorld}
+use Rattle.core_laws.proofs.Placing.{new_placed, placements_now}
+use Rattle.placing_laws.proofs.Worlds.{all_and_last, all_take, all_but_last, plain_before, are_plain}
+
+-- ---- one more event of an author
+
+pub record IsNextPlain (i : Image) (w : World) (author : ℕ) (l : Logged) : Type 0 where
+  pub world : IsPlainWorld i w
+  pub allowed : IsAllowed i author l.event (prefixes l (log_of w))
+  pub own : prefixes l (log_of w) author ≡ log_of w author
+  pub plain : is_plain_event l.event ≡ true
+  pub knowledge : IsKnowledge i (log_of w) author l
+
+last_plain : (log : List Logged) (l : Logged) (b : Bool) → b ≡ true → ArePlain (if b then log ++ l ∷ [] else log) → is_plain_event l.event ≡ true
+last_plain log l true e all = (all_but_last (λ (m : Logged). is_plain_event m.event ≡ true) log l all).1
+last_plain log l false e all = absurd cc
+
+same : (m n : ℕ) → (m == n) ≡ true → m ≡ n
+same m n e = grind arith
+
+pub next_plain : (i : Image) (s : Step) (w : World) (author : ℕ) → IsPlainWorld i (s ∷ w) → (s.author == author) ≡ true → IsNextPlain i w author s.logged
+unfolding IsLegal
+next_plain i s w author is e =
+    let its : s.author ≡ author = same s.author author e in
+    let step : IsLegalStep i (log_of w) s = is.legal.0 in
+    let knowledge : IsKnowledge i (log_of w) author s.logged = subst (λ a. IsKnowledge i (log_of w) a s.logged) its step.knowledge in
+    record {
+      world = plain_before i s w is;
+      allowed = subst (λ a. IsAllowed i a s.logged.event (prefixes s.logged (log_of w))) its step.allowed;
+      own = ap (λ n. take n (log_of w author)) knowledge.own ∙ take_all (length (log_of w author)) (log_of w author) (le_refl (length (log_of w author)));
+      plain = last_plain (log_of w author) s.logged (s.author == author) e (are_plain i (s ∷ w) author is);
+      knowledge = knowledge;
+    }
+
+by_author : (i : Image) (s : Step) (w : World) (author : ℕ) (P : List Logged → Type 0) → IsPlainWorld i (s ∷ w)
+    → ((w : World) (l : Logged) → IsNextPlain i w author l → P (log_of w author) → P (log_of w author ++ l ∷ []))
+    → P (log_of w author) → (b : Bool) → (s.author == author) ≡ b → P (if b then log_of w author ++ s.logged ∷ [] else log_of w author)
+by_author i s w author P is step before true e = step w s.logged (next_plain i s w author is e) before
+by_author i s w author P is step before false e = before
+
+pub by_plain : (i : Image) (author : ℕ) (P : List Logged → Type 0) → P []
+    → ((w : World) (l : Logged) → IsNextPlain i w author l → P (log_of w author) → P (log_of w author ++ l ∷ []))
+    → (w : World) → IsPlainWorld i w → P (log_of w author)
+by_plain i author P none step [] is = none
+by_plain i author P none step (s ∷ w) is =
+    by_author i s w author P is step (by_plain i author P none step w (plain_before i s w is)) (s.author == author) refl
+
+-- ---- a line that was opened stays so
+
+opened_by_one : (line k : ℕ) (life : LineLife) (knows : List ℕ) (e : Event) → is_plain_event e ≡ true → is_opened life ≡ true → is_opened (turned_by line life k knows e) ≡ true
+opened_by_one line k life knows (Decides (Open other start)) plain is = elim (other == line) as (λ b. is_opened (if b then Opened (record { number = k; line = line; start = start; knows = knows }) else life) ≡ true) [
+  | true ↦ refl
+  | false ↦ is
+]
+opened_by_one line k life knows (Decides (Free other)) plain is = absurd cc
+opened_by_one line k life knows e plain is = is
+
+pub opened_one_more : (log : List Logged) (l : Logged) (line : ℕ) → is_plain_event l.event ≡ true → is_opened (life_of log line) ≡ true → is_opened (life_of (log ++ l ∷ []) line) ≡ true
+opened_one_more log l line plain is = ap is_opened (life_more log l line) ∙ opened_by_one line (length log) (life_of log line) l.knows l.event plain is
+
+opened_many : (log more : List Logged) (line : ℕ) → ArePlain more → is_opened (life_of log line) ≡ true → is_opened (life_of (log ++ more) line) ≡ true
+opened_many log [] line plain is = ap (λ (xs : List Logged). is_opened (life_of xs line)) (append-nil log) ∙ is
+opened_many log (l ∷ more) line plain is =
+    ap (λ (xs : List Logged). is_opened (life_of xs line)) (sym (append_assoc log (l ∷ []) more)) ∙ opened_many (log ++ l ∷ []) more line plain.1 (opened_one_more log l line plain.0 is)
+
+pub take_and_drop : {X : Type 0} (n : ℕ) (xs : List X) → take n xs ++ drop n xs ≡ xs
+take_and_drop zero xs = refl
+take_and_drop (suc n) [] = refl
+take_and_drop (suc n) (x ∷ xs) = ap (λ ys. x ∷ ys) (take_and_drop n xs)
+
+pub take_take : {X : Type 0} (m n : ℕ) (xs : List X) → m ≤ n → take m (take n xs) ≡ take m xs
+take_take zero n xs h = refl
+take_take (suc m) zero xs h = absurd (omega arith)
+take_take (suc m) (suc n) [] h = refl
+take_take (suc m) (suc n) (x ∷ xs) h = ap (λ ys. x ∷ ys) (take_take m n xs (omega arith))
+
+all_drop : {X : Type 0} (P : X → Type 0) (n : ℕ) (xs : List X) → AllByRecursion P xs → AllByRecursion P (drop n xs)
+all_drop P zero xs all = all
+all_drop P (suc n) [] all = tt
+all_drop P (suc n) (x ∷ xs) all = all_drop P n xs all.1
+
+pub opened_later : (m n : ℕ) (log : List Logged) (line : ℕ) → m ≤ n → ArePlain log → is_opened (life_of (take m log) line) ≡ true → is_opened (life_of (take n log) line) ≡ true
+opened_later m n log line h plain is =
+    let whole : take m log ++ drop m (take n log) ≡ take n log = ap (λ xs. xs ++ drop m (take n log)) (sym (take_take m n log h)) ∙ take_and_drop m (take n log) in
+    ap (λ (xs : List Logged). is_opened (life_of xs line)) (sym whole)
+    ∙ opened_many (take m log) (drop m (take n log)) line (all_drop (λ (l : Logged). is_plain_event l.event ≡ true) m (take n log) (all_take (λ (l : Logged). is_plain_event l.event ≡ true) n log plain)) is
+
+pub opened_whole : (n : ℕ) (log : List Logged) (line : ℕ) → ArePlain log → is_opened (life_of (take n log) line) ≡ true → is_opened (life_of log line) ≡ true
+opened_whole n log line plain is =
+    ap (λ (xs : List Logged). is_opened (life_of xs line)) (sym (take_and_drop n log)) ∙ opened_many (take n log) (drop n log) line (all_drop (λ (l : Logged). is_plain_event l.event ≡ true) n log plain) is
+
+-- ---- each stripe stands in a line that was opened
+
+pub record IsInOpened (log : List Logged) (p : Placed) : Type 0 where
+  pub opened : is_opened (life_of log p.stripe.chunk) ≡ true
+  pub chunk : p.stripe.chunk ≡ p.stripe.line
+
+in_opened_later : (log : List Logged) (l : Logged) (ps : List Placed) → is_plain_event l.event ≡ true → AllByRecursion (IsInOpened log) ps → AllByRecursion (IsInOpened (log ++ l ∷ [])) ps
+in_opened_later log l [] plain all = tt
+in_opened_later log l (p ∷ ps) plain all = (record { opened = opened_one_more log l p.stripe.chunk plain all.0.opened; chunk = all.0.chunk }, in_opened_later log l ps plain all.1)
+
+in_opened_step : (i : Image) (w : World) (knows : List ℕ) (x : Event) → IsNextPlain i w 0 (record { event = x; knows = knows }) → AllByRecursion (IsInOpened (log_of w 0)) (placements (log_of w 0))
+    → AllByRecursion (IsInOpened (log_of w 0 ++ record { event = x; knows = knows } ∷ [])) (placements (log_of w 0 ++ record { event = x; knows = knows } ∷ []))
+in_opened_step i w knows (Decides (Place stripe)) next all =
+    let log : List Logged = log_of w 0 in
+    let l : Logged = record { event = Decides (Place stripe); knows = knows } in
+    let may = next.allowed.2 in
+    let life : life_of log stripe.line ≡ Opened may.opening = ap (λ (log : List Logged). life_of log stripe.line) (sym next.own) ∙ may.is_open in
+    let here : is_opened (life_of log stripe.chunk) ≡ true = ap (λ n. is_opened (life_of log n)) may.chunk ∙ ap is_opened life in
+    subst (AllByRecursion (IsInOpened (log ++ l ∷ []))) (sym (placements_now log stripe knows may.opening life))
+    (all_and_last (IsInOpened (log ++ l ∷ [])) (placements log) (new_placed log stripe may.opening) (in_opened_later log l (placements log) next.plain all)
+    (record { opened = opened_one_more log l stripe.chunk next.plain here; chunk = may.chunk }))
+in_opened_step i w knows x next all =
+    let log : List Logged = log_of w 0 in
+    let l : Logged = record { event = x; knows = knows } in
+    let rest : AllByRecursion (IsInOpened (log ++ l ∷ [])) (placements log) = in_opened_later log l (placements log) next.plain all in
+    subst (AllByRecursion (IsInOpened (log ++ l ∷ []))) (sym (placements_more log l ∙ append-nil (placements log))) rest
+
+-- of each length of the log
+PlacedInOpened : List Logged → Type 0
+PlacedInOpened log = (n : ℕ) → AllByRecursion (IsInOpened (take n log)) (placements (take n log))
+
+each_length : (i : Image) (w : World) (l : Logged) → IsNextPlain i w 0 l → PlacedInOpened (log_of w 0) → PlacedInOpened (log_of w 0 ++ l ∷ [])
+unfolding PlacedInOpened
+each_length i w l next before n = go (nat_lt (length (log_of w 0)) n) refl
+  where
+    first : take (length (log_of w 0)) (log_of w 0) ≡ log_of w 0
+    first = take_all (length (log_of w 0)) (log_of w 0) (le_refl (length (log_of w 0)))
+
+    go : (b : Bool) → nat_lt (length (log_of w 0)) n ≡ b → AllByRecursion (IsInOpened (take n (log_of w 0 ++ l ∷ []))) (placements (take n (log_of w 0 ++ l ∷ [])))
+    go true e =
+        let above : length (log_of w 0) < n = grind arith in
+        let count : length (log_of w 0 ++ l ∷ []) ≡ length (log_of w 0) + 1 = length-append (log_of w 0) (l ∷ []) in
+        let whole : take n (log_of w 0 ++ l ∷ []) ≡ log_of w 0 ++ l ∷ [] = take_all n (log_of w 0 ++ l ∷ []) (omega arith) in
+        let now : AllByRecursion (IsInOpened (log_of w 0)) (placements (log_of w 0)) = subst (λ (xs : List Logged). AllByRecursion (IsInOpened xs) (placements xs)) first (before (length (log_of w 0))) in
+        subst (λ (xs : List Logged). AllByRecursion (IsInOpened xs) (placements xs)) (sym whole) (in_opened_step i w l.knows l.event next now)
+    go false e =
+        let within : n ≤ length (log_of w 0) = grind arith in
+        subst (λ (xs : List Logged). AllByRecursion (IsInOpened xs) (placements xs)) (sym (take-append-le n (log_of w 0) (l ∷ []) within)) (before n)
+
+none_placed : PlacedInOpened []
+unfolding PlacedInOpened
+none_placed zero = tt
+none_placed (suc n) = tt
+
+pub placed_in_opened : (i : Image) (w : World) → IsPlainWorld i w → (n : ℕ) → AllByRecursion (IsInOpened (take n (log_of w 0))) (placements (take n (log_of w 0)))
+unfolding PlacedInOpened
+placed_in_opened i w is = by_plain i 0 PlacedInOpened none_placed (each_length i) w is
+
+-- ---- the first event begins the mount
+
+HasBegun : List Logged → Type 0
+HasBegun log = 0 < length log → (b : Begun) × (begun log ≡ Some b)
+
+begun_stays : (log : List Logged) (l : Logged) (b : Begun) → begun log ≡ Some b → begun (log ++ l ∷ []) ≡ Some b
+begun_stays [] l b e = absurd (none-some b e)
+begun_stays (m ∷ log) l b e = e
+
+begun_step : (i : Image) (log : List Logged) (ls : Logs) (knows : List ℕ) (x : Event) → ls 0 ≡ log → IsAllowed i 0 x ls → (b : Begun) × (begun (log ++ record { event = x; knows = knows } ∷ []) ≡ Some b)
+begun_step i log ls knows (Decides (Begin b)) own may =
+    let none : log ≡ [] = sym own ∙ may.is_first in
+    (record { beginning = b; knows = knows }, ap (λ (xs : List Logged). begun (xs ++ record { event = Decides (Begin b); knows = knows } ∷ [])) none)
+begun_step i log ls knows (Does e maker) own may = absurd may
+begun_step i log ls knows (Decides e) own may = (may.0, begun_stays log (record { event = Decides e; knows = knows }) may.0 (ap begun (sym own) ∙ may.1))
+
+pub has_begun_plain : (i : Image) (w : World) → IsPlainWorld i w → 0 < length (log_of w 0) → (b : Begun) × (begun (log_of w 0) ≡ Some b)
+unfolding HasBegun
+has_begun_plain i w is = by_plain i 0 HasBegun (λ h. absurd (omega arith)) (λ v l next before h. begun_step i (log_of v 0) (prefixes l (log_of v)) l.knows l.event next.own next.allowed) w is
+
+pub begun_first : (n : ℕ) (log : List Logged) → 0 < n → begun (take n log) ≡ begun log
+begun_first zero log h = absurd (omega arith)
+begun_first (suc n) [] h = refl
+begun_first (suc n) (l ∷ log) h = refl

@@ -1,0 +1,43 @@
+-- Plain worlds before their last steps.
+use Rattle.std.proofs.Common.{◌≡◌, ℕ, ◌==◌, zero, suc, Bool, true, false, List, [], ◌∷◌, ◌++◌, take, if◌then◌else◌}
+use Rattle.std.specs.List.{AllByRecursion}
+use Rattle.pblk_model.specs.Image.{Image}
+use Rattle.pblk_world.specs.Events.{Logged, Step}
+use Rattle.pblk_world.specs.World.{World, log_of}
+use Rattle.pblk_world.specs.Legal.{IsLegal}
+use Rattle.core_laws.specs.PlainWorlds.{is_plain_event, ArePlain, IsPlainWorld}
+
+-- ---- lists with one more at their end
+
+pub all_but_last : {X : Type 0} (P : X → Type 0) (xs : List X) (x : X) → AllByRecursion P (xs ++ x ∷ []) → AllByRecursion P xs × P x
+all_but_last P [] x all = (tt, all.0)
+all_but_last P (y ∷ ys) x all = let rest = all_but_last P ys x all.1 in ((all.0, rest.0), rest.1)
+
+pub all_and_last : {X : Type 0} (P : X → Type 0) (xs : List X) (x : X) → AllByRecursion P xs → P x → AllByRecursion P (xs ++ x ∷ [])
+all_and_last P [] x all here = (here, tt)
+all_and_last P (y ∷ ys) x all here = (all.0, all_and_last P ys x all.1 here)
+
+pub all_take : {X : Type 0} (P : X → Type 0) (n : ℕ) (xs : List X) → AllByRecursion P xs → AllByRecursion P (take n xs)
+all_take P zero xs all = tt
+all_take P (suc n) [] all = tt
+all_take P (suc n) (x ∷ xs) all = (all.0, all_take P n xs all.1)
+
+-- ---- what a plain world was before its last step
+
+plain_by : (log : List Logged) (l : Logged) (b : Bool) → ArePlain (if b then log ++ l ∷ [] else log) → ArePlain log
+plain_by log l true all = (all_but_last (λ (m : Logged). is_plain_event m.event ≡ true) log l all).0
+plain_by log l false all = all
+
+pub plain_before : (i : Image) (s : Step) (w : World) → IsPlainWorld i (s ∷ w) → IsPlainWorld i w
+unfolding IsLegal
+plain_before i s w is = record {
+  accepted = is.accepted;
+  fit = is.fit;
+  legal = is.legal.1;
+  engine = plain_by (log_of w 0) s.logged (s.author == 0) is.engine;
+  units = λ unit. plain_by (log_of w (suc unit)) s.logged (s.author == suc unit) (is.units unit);
+}
+
+pub are_plain : (i : Image) (w : World) (author : ℕ) → IsPlainWorld i w → ArePlain (log_of w author)
+are_plain i w zero is = is.engine
+are_plain i w (suc unit) is = is.units unit

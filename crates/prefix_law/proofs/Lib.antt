@@ -1,0 +1,13 @@
+pub mod Assembly
+pub mod Histories
+pub mod Fronts
+pub mod Starting
+pub mod Filling
+pub mod Taking
+pub mod Media
+pub mod Ends
+pub mod Among
+pub mod Records
+pub mod Prefix
+pub mod EndHeads
+pub mod Sealed

@@ -1,0 +1,5 @@
+use Rattle.prefix_law.proofs.Prefix.{without_beginning}
+use Rattle.prefix_law.proofs.laws.no_mount_changes_nothing.Goals as goal
+
+pub returns : goal.returns
+returns c = without_beginning

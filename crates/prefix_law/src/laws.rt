@@ -1,0 +1,84 @@
+//! Laws on what recovery finds: each is the contract of a function that does nothing.
+
+ghost use Rattle.std.specs.Prelude.{◌≡◌, ◌≤◌, ◌<◌, ◌+◌, ℕ, true, List, length, take};
+ghost use Rattle.std.specs.Prelude.{slice_get, Some, None};
+ghost use Rattle.std.specs.List.{Contains};
+ghost use Rattle.pblk_model.specs.StartRecord.{StartRecord, start_of};
+ghost use Rattle.pblk_model.specs.Records.{Record, records};
+ghost use Rattle.pblk_model.specs.Contents.{end, sector_of, contents};
+ghost use Rattle.pblk_model.specs.History.{after, users};
+ghost use Rattle.pblk_model.specs.Image.{Image};
+ghost use Rattle.pblk_model.specs.Sealed.{IsSealed};
+ghost use Rattle.pblk_world.specs.World.{World, log_of, media};
+ghost use Rattle.pblk_world.specs.EngineLog.{begun, Opening, Opened, life_of, Placed, stripes_of};
+ghost use Rattle.pblk_world.specs.EngineLog.{Taken, takes};
+ghost use Rattle.pblk_world.specs.Starts.{start_stripes};
+ghost use Rattle.pblk_world.specs.Fronts.{taken, synced, has_landed_at, history, user_positions};
+ghost use Rattle.core_laws.specs.PlainWorlds.{IsBlankWorld};
+ghost use Rattle.media_laws.specs.Standing.{is_programmed};
+ghost use Rattle.prefix_law.specs.Assembled.{Entries, IsEntryOf, IsLastOf, IsAssembled};
+
+/// In an image in which all entries below a front stand, the end is at the front or above it, and
+/// within the entries. Each sector holds its last entry below the end; one without any holds what
+/// is under the entries.
+pub fn an_image_is_assembled()
+    ensures above { (i : Image) (h : StartRecord) (es : Entries) (front : ℕ) (base : ℕ → List ℕ)
+        → IsAssembled i h es front base → front ≤ end i }
+    ensures within { (i : Image) (h : StartRecord) (es : Entries) (front : ℕ) (base : ℕ → List ℕ)
+        → IsAssembled i h es front base → end i ≤ es.first + length es.given }
+    ensures last { (i : Image) (h : StartRecord) (es : Entries) (front : ℕ) (base : ℕ → List ℕ)
+        → IsAssembled i h es front base → (lba p : ℕ) (last : IsLastOf es lba (end i) p)
+        → sector_of i lba ≡ last.entry.given.sector }
+    ensures under { (i : Image) (h : StartRecord) (es : Entries) (front : ℕ) (base : ℕ → List ℕ)
+        → IsAssembled i h es front base → (lba : ℕ)
+        → ((p : ℕ) → ¬ (IsEntryOf es lba p × (p < end i))) → sector_of i lba ≡ base lba }
+{}
+
+/// A line's start record stands whole once its stripes were programmed, and no other stands.
+pub fn a_start_record_stands()
+    ensures written { (i : Image) (w : World) (line : ℕ) (o : Opening) → IsBlankWorld i w
+        → life_of (log_of w 0) line ≡ Opened o
+        → ((j : ℕ) → j < start_stripes i.shape → (p : Placed)
+        × (slice_get (stripes_of (log_of w 0) o) j ≡ Some p)
+        × (is_programmed (log_of w) p ≡ true))
+        → start_of (media i (log_of w)) line ≡ Some o.start }
+    ensures only { (i : Image) (w : World) (line : ℕ) (start : StartRecord) → IsBlankWorld i w
+        → line < i.shape.chunks → start_of (media i (log_of w)) line ≡ Some start
+        → (o : Opening) × (life_of (log_of w 0) line ≡ Opened o) × (o.start ≡ start) }
+{}
+
+/// Each record of the media is of the entry that was taken at its position, and each position that
+/// has landed is borne by one.
+pub fn records_are_of_entries()
+    ensures entry { (i : Image) (w : World) (r : Record) → IsBlankWorld i w
+        → Contains (records (media i (log_of w))) r
+        → (t : Taken) × (slice_get (takes (log_of w 0)) r.position ≡ Some t)
+        × (r.lba ≡ Some t.entry.lba) × (r.sector ≡ t.entry.sector) }
+    ensures landed { (i : Image) (w : World) (position : ℕ) → IsBlankWorld i w
+        → has_landed_at i.shape (log_of w 0) position ≡ true
+        → (r : Record) × Contains (records (media i (log_of w))) r × (r.position ≡ position) }
+{}
+
+/// In a world in which nothing failed, on a drive that was blank, the contents of the media are
+/// those after the lines of the history below the end. The end is at the front synced or above it,
+/// and at most the front taken.
+pub fn contents_are_after_a_prefix()
+    ensures contents { (i : Image) (w : World) → IsBlankWorld i w → contents (media i (log_of w))
+        ≡ after (contents i) (take (users (user_positions (log_of w 0)) (end (media i (log_of w))))
+        (history (log_of w 0))) }
+    ensures above { (i : Image) (w : World) → IsBlankWorld i w
+        → synced i.shape (log_of w 0) ≤ end (media i (log_of w)) }
+    ensures within { (i : Image) (w : World) → IsBlankWorld i w
+        → end (media i (log_of w)) ≤ taken (log_of w 0) }
+{}
+
+/// A mount that didn't begin leaves the contents as they were.
+pub fn no_mount_changes_nothing()
+    ensures { (i : Image) (w : World) → IsBlankWorld i w → begun (log_of w 0) ≡ None
+        → contents (media i (log_of w)) ≡ contents i }
+{}
+
+/// The media are sealed.
+pub fn the_media_are_sealed()
+    ensures { (i : Image) (w : World) → IsBlankWorld i w → IsSealed (media i (log_of w)) }
+{}

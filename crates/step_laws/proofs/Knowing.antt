@@ -1,0 +1,91 @@
+-- What an author who knows all logs knows, and the next step of such an author.
+use Rattle.std.proofs.Common.{◌≡◌, ℕ, ◌+◌, ◌<◌, ◌≤◌, ◌⊎◌, ◌==◌, zero, suc, Bool, true, false, Some, List, [], ◌∷◌, ◌++◌, length, take, get_or, refl, sym, subst, ap, ◌∙◌, arith, if◌then◌else◌, inl, inr}
+use Rattle.std.specs.Prelude.{slice_get, slice_index}
+use Rattle.std.specs.List.{Contains}
+use Rattle.std.proofs.lemmas.Bool.{cases_order}
+use Rattle.std.proofs.lemmas.List.{get_or_past}
+use Rattle.std.proofs.lemmas.List.FromFn.{length-map-range_with_len, get_or-map-range_with_len}
+use Rattle.std.proofs.Math.Seq.{take-length}
+use Rattle.pblk_model.specs.Shape.{units}
+use Rattle.pblk_model.specs.Image.{Image}
+use Rattle.pblk_world.specs.Events.{Event, Logged, Step}
+use Rattle.pblk_world.specs.World.{World, Logs, log_of, known, cut_logs}
+use Rattle.pblk_world.specs.Legal.{IsAllowed, IsKnowledge, IsLegalStep, IsLegal}
+use Rattle.core_laws.specs.PlainWorlds.{is_plain_event, ArePlain, IsBlankWorld}
+use Rattle.core_laws.proofs.Lists.{fun_same}
+use Rattle.media_laws.proofs.Steps.{log_elsewhere, with_last}
+use Rattle.placed_laws.specs.StripePrograms.{HasHappened}
+use Rattle.placed_laws.proofs.Happened.{happened}
+use Rattle.step_laws.specs.Whole.{knows_all}
+
+-- there are no authors beyond the last unit
+pub none_beyond : (i : Image) (w : World) → IsLegal i w → (author : ℕ) → units i.shape < author → log_of w author ≡ []
+unfolding IsLegal
+none_beyond i [] legal author far = refl
+none_beyond i (s ∷ w) legal author far =
+    let within : s.author ≤ units i.shape = legal.0.author in
+    log_elsewhere s w author (λ e. absurd (omega arith)) ∙ none_beyond i w legal.1 author far
+
+pub known_whole : (i : Image) (w : World) → IsLegal i w → (author : ℕ) → slice_index (knows_all i.shape w) author ≡ length (log_of w author)
+known_whole i w legal author = go (cases_order author (units i.shape + 1))
+  where
+    past : units i.shape + 1 ≤ author → slice_index (knows_all i.shape w) author ≡ length (log_of w author)
+    past far =
+        let long : length (knows_all i.shape w) ≡ units i.shape + 1 = length-map-range_with_len (λ (a : ℕ). length (log_of w a)) 0 (units i.shape + 1) in
+        get_or_past (knows_all i.shape w) author 0 (omega arith) ∙ sym (ap (λ (xs : List Logged). length xs) (none_beyond i w legal author (omega arith)))
+
+    go : (author ≡ units i.shape + 1) ⊎ ((author < units i.shape + 1) ⊎ (units i.shape + 1 < author)) → slice_index (knows_all i.shape w) author ≡ length (log_of w author)
+    go (inl e) = past (omega arith)
+    go (inr (inl below)) = get_or-map-range_with_len (λ (a : ℕ). length (log_of w a)) 0 (units i.shape + 1) author author 0 below (omega arith)
+    go (inr (inr above)) = past (omega arith)
+
+pub whole_prefixes : (i : Image) (w : World) → IsLegal i w → cut_logs (knows_all i.shape w) (log_of w) ≡ log_of w
+whole_prefixes i w legal = fun_same (cut_logs (knows_all i.shape w) (log_of w)) (log_of w) (λ author.
+    ap (λ n. take n (log_of w author)) (known_whole i w legal author) ∙ take-length (log_of w author))
+
+got : {X : Type 0} (xs : List X) (k : ℕ) (x : X) → k < length xs → get_or xs k x ≡ x → slice_get xs k ≡ Some x
+got [] k x inside e = absurd (omega arith)
+got (y ∷ xs) zero x inside e = ap (λ z. Some z) e
+got (y ∷ xs) (suc k) x inside e = got xs k x (omega arith) e
+
+pub known_before : (i : Image) (w : World) → IsLegal i w → (author : ℕ) (earlier : Logged) → Contains (log_of w author) earlier → (other : ℕ) → known earlier other ≤ length (log_of w other)
+known_before i w legal author earlier has other =
+    let is : HasHappened i (log_of w) author has.0 earlier = happened i w author legal has.0 earlier (got (log_of w author) has.0 earlier has.1 has.2) in
+    is.within other
+
+pub knowledge : (i : Image) (w : World) (author : ℕ) (e : Event) → IsLegal i w → IsKnowledge i (log_of w) author (record { event = e; knows = knows_all i.shape w })
+knowledge i w author e legal = record {
+  authors = length-map-range_with_len (λ (a : ℕ). length (log_of w a)) 0 (units i.shape + 1);
+  own = known_whole i w legal author;
+  within = λ other. let same : slice_index (knows_all i.shape w) other ≡ length (log_of w other) = known_whole i w legal other in omega arith;
+  rising = λ earlier other has.
+      let same : slice_index (knows_all i.shape w) other ≡ length (log_of w other) = known_whole i w legal other in
+      let low : known earlier other ≤ length (log_of w other) = known_before i w legal author earlier has other in
+      omega arith;
+}
+
+-- what may be done by the whole logs may be done next
+pub next_step : (i : Image) (w : World) (author : ℕ) (e : Event) → IsLegal i w → author ≤ units i.shape → IsAllowed i author e (log_of w)
+    → IsLegalStep i (log_of w) (record { author = author; logged = record { event = e; knows = knows_all i.shape w } })
+next_step i w author e legal range may = record {
+  author = range;
+  knowledge = knowledge i w author e legal;
+  allowed = subst (λ (logs : Logs). IsAllowed i author e logs) (sym (whole_prefixes i w legal)) may;
+}
+
+still_plain : (s : Step) (log : List Logged) (b : Bool) → is_plain_event s.logged.event ≡ true → ArePlain log → ArePlain (if b then log ++ s.logged ∷ [] else log)
+still_plain s log true plain all = with_last (λ (l : Logged). is_plain_event l.event ≡ true) log s.logged all plain
+still_plain s log false plain all = all
+
+pub still_blank : (i : Image) (s : Step) (w : World) → IsBlankWorld i w → IsLegalStep i (log_of w) s → is_plain_event s.logged.event ≡ true → IsBlankWorld i (s ∷ w)
+unfolding IsLegal
+still_blank i s w blank step plain = record {
+  plain = record {
+    accepted = blank.plain.accepted;
+    fit = blank.plain.fit;
+    legal = (step, blank.plain.legal);
+    engine = still_plain s (log_of w 0) (s.author == 0) plain blank.plain.engine;
+    units = λ unit. still_plain s (log_of w (suc unit)) (s.author == suc unit) plain (blank.plain.units unit);
+  };
+  free = blank.free;
+}

@@ -1,0 +1,11 @@
+pub mod Knowing
+pub mod EngineSteps
+pub mod UnitSteps
+pub mod StripeBlocks
+pub mod Programs
+pub mod Levels
+pub mod OtherUnits
+pub mod UnitStays
+pub mod Beginning
+pub mod Fetches
+pub mod Given
