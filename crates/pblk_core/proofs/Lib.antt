@@ -1,23 +1,43 @@
-mod Lists
-mod Engine
-mod Steady
-mod Taking
-mod Rows
-mod Stopping
-mod Opening
-mod Numbers
-mod Stripes
-mod Placing
-mod Removing
-mod PlacedEntries
-mod PlacedLines
-mod TakenSlots
-mod Turns
-mod Answered
-mod Landing
-mod TakenWindow
-mod WaitingEntries
-mod Numbering
-mod PlacedPositions
-mod KeptPositions
-mod PoppedWindow
+pub mod Filled
+pub mod Runs
+pub mod FillingRows
+pub mod SteadyLines
+pub mod HoldRows
+pub mod BlankLines
+pub mod StandsFacts
+pub mod LiveLine
+pub mod HeldPositions
+pub mod TakenHolds
+pub mod StandsTaken
+pub mod SmallCalls
+pub mod SmallPositions
+pub mod SmallGrant
+pub mod PlacedStripe
+pub mod PlacedEntries
+pub mod WaitingEntries
+pub mod PlacedMarks
+pub mod StandsPlaced
+pub mod PlacingConditions
+pub mod WorkOf
+pub mod OpeningBits
+pub mod OpeningFacts
+pub mod OpeningNumbers
+pub mod StandsOpened
+pub mod OpeningBlank
+pub mod StandsBegun
+pub mod ReadBlocks
+pub mod ReadRuns
+pub mod LandedWay
+pub mod LandedLogs
+pub mod LandedLines
+pub mod LandedOpen
+pub mod StandsLanded
+pub mod KeptFrames
+pub mod LandedCore
+pub mod LandedEntries
+pub mod LandedMap
+pub mod LandedReads
+pub mod LandedTables
+pub mod LandedNow
+pub mod LandedChunk
+pub mod LandedKinds

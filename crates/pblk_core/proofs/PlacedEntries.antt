@@ -1,172 +1,209 @@
--- The entries that wait once a stripe is placed.
-use Rattle.std.proofs.Common.{◌≡◌, ℕ, ◌+◌, ◌-◌, ◌<◌, ◌≤◌, ◌==◌, ◌&&◌, ◌||◌, suc, not, nat_lt, Bool, true, false, cond, Some, None, List, [], ◌∷◌, ◌++◌, length, take, drop, refl, sym, ap, ◌∙◌, arith, append-nil, le_of_lt, length-append}
-use Rattle.std.specs.Prelude.{is_some, if◌then◌else◌}
-use Rattle.std.specs.List.{filter, filter_map, list_any, range_with_len, drop-map, cons_option}
+-- The rows beside the entries and the table of lines, once the entries of a stripe are placed.
+use Rattle.std.proofs.Common.{◌≡◌, ◌≢◌, ℕ, ◌<◌, ◌%◌, ◌==◌, ◌&&◌, ◌||◌, nat_lt, Bool, true, false, Some, None, Option, List, [], ◌∷◌, length, take, refl, sym, subst, ap, ap₂, ◌∙◌, length-set}
+use Rattle.std.specs.Prelude.{map, slice_get, slice_set}
+use Rattle.std.specs.List.{AllByRecursion, Contains, list_any}
+use Rattle.std.specs.Option.{option_map, option_map_or}
+use Rattle.std.proofs.lemmas.Bool.{eqb-true}
+use Rattle.std.proofs.lemmas.Option.{same_Some, slice_get_within}
 use Rattle.pblk_model.specs.declared.shape.Shape.{Shape}
-use Rattle.pblk_model.specs.Chunk.{Block}
 use Rattle.pblk_model.specs.Image.{Image}
-use Rattle.pblk_model.specs.Records.{named}
 use Rattle.pblk_world.specs.Events.{Stripe, Place, Decides, Logged}
-use Rattle.pblk_world.specs.World.{Logs}
-use Rattle.pblk_world.specs.EngineLog.{Taken, takes, Opened, Opening, Placed, placements, life_of, was_lost, is_loss, bears_position, holds_position}
-use Rattle.pblk_world.specs.Fronts.{first_position, times_placed, times_lost, was_placed, waits}
+use Rattle.pblk_world.specs.World.{World, log_of}
+use Rattle.pblk_world.specs.EngineLog.{Taken, takes, bears_position}
+use Rattle.line_table.specs.Rows.{Table}
+use Rattle.line_table.proofs.Places.{get_set_same, get_set_other}
+use Rattle.line_laws.specs.Changes.{with_row}
+use Rattle.line_laws.specs.PlacedEntries.{next_take, placed_row, place_entry, place_entries}
+use Rattle.core_laws.specs.PlacerOf.{positions_of, positions_in_stripe}
+use Rattle.pblk_world.specs.Fronts.{waiting}
 use Rattle.pblk_world.specs.Victims.{position_in}
-use Rattle.pblk_world.proofs.Appending.{takes_more}
-use Rattle.stripe_placer.specs.declared.placement.StripeKind.{StripeKind}
-use Rattle.stripe_placer.specs.declared.placement.StripeKind.TheVariants as kinds
-use Rattle.stripe_placer.specs.Entries.{Entries, waiting, without_first}
-use Rattle.stripe_placer.specs.OpenLines.{OpenLine, kind_of}
-use Rattle.stripe_placer.specs.Placing.{Program, next_positions}
-use Rattle.stripe_placer.proofs.Named.{IsProgramIn, its_program}
-use Rattle.pblk_core.specs.Stepping.{after}
-use Rattle.pblk_core.specs.OpenedLines.{open_line}
-use Rattle.pblk_core.specs.PlacerOf.{IsStripeOf, positions_of, positions_in_stripe, lost_entries, fresh_entries, entries_of}
-use Rattle.pblk_core.proofs.Lists.{filter_same, filter_agree}
-use Rattle.pblk_core.proofs.Engine.{placements_before}
-use Rattle.pblk_core.proofs.Taking.{filter_last, same_entries}
-use Rattle.pblk_core.proofs.Rows.{other_number}
-use Rattle.pblk_core.proofs.Placing.{IsPlacing, is_below, new_placed, with_place, placements_now, answer_now, new_unanswered}
-use Rattle.pblk_core.proofs.Removing.{is_within, and_no, and_yes, removed_both, apart_numbered, apart_split, filter_twice, take_taken}
+use Rattle.pblk_model.specs.Chunk.{Block}
+use Rattle.pblk_model.specs.Records.{named}
+use Rattle.std.specs.Prelude.{is_some, if◌then◌else◌}
+use Rattle.std.specs.List.{filter_map, cons_option}
+use Rattle.std.proofs.lemmas.Option.{slice_get-get_or}
+use Rattle.core_laws.specs.PlainWorlds.{IsBlankWorld}
+use Rattle.core_laws.specs.WindowOf.{is_given_back}
+use Rattle.core_laws.proofs.Lists.{all_at}
+use Rattle.core_laws.proofs.Placing.{with_place}
+use Rattle.placed_laws.proofs.Ordered.{ordered}
+use Rattle.placed_laws.proofs.EntryHolds.{later_same, line_of_others, line_of_stripe}
+use Rattle.pblk_core.specs.Stands.{Stands}
+use Rattle.pblk_core.specs.declared.target_core.Core.{Core}
+use Rattle.pblk_core.proofs.StandsFacts.{ring_some}
+use Rattle.pblk_core.proofs.WaitingEntries.{get_taken, all_by_index, IsWaiting, waiting_at, row_of_entry}
+use Rattle.core_laws.proofs.Rows.{same_number}
+use Rattle.landing_laws.proofs.Untouched.{find_same}
+use Rattle.placed_laws.specs.EntryHolds.{later_take, placed_line}
+use Rattle.pblk_core.specs.Entries.{with_line, row_placed, placed_rows, placed_by, place_hold, placed_lines}
+use Rattle.pblk_core.specs.Holds.{hold_of, row_at}
+use Rattle.pblk_core.specs.declared.hold.Hold.{Hold}
 
--- ---- a stripe holds the positions in it
+-- ---- rows
 
-holds_is : (s : Shape) (position : ℕ) (bs : List Block) → list_any (bears_position s position) bs ≡ list_any (λ q. q == position) (filter_map (position_in s) bs)
-holds_is s position [] = refl
-holds_is s position (b ∷ bs) = go (is_some (named s b.mark)) (holds_is s position bs)
+one_length : (line : ℕ) (rows : List Hold) (q : ℕ) → length (row_placed line rows q) ≡ length rows
+one_length line rows q = go (row_at rows q)
+  where
+    go : (o : Option Hold) → length (option_map_or (λ h. slice_set rows (q % length rows) (with_line line h)) o rows) ≡ length rows
+    go None = refl
+    go (Some h) = length-set rows (q % length rows) (with_line line h)
+
+pub rows_length : (line : ℕ) (qs : List ℕ) (rows : List Hold) → length (placed_rows line rows qs) ≡ length rows
+rows_length line [] rows = refl
+rows_length line (q ∷ qs) rows = rows_length line qs (row_placed line rows q) ∙ one_length line rows q
+
+-- the row of a position is changed where it is one of these, of which no other has its place
+abbrev pub AreApart : ℕ → ℕ → List ℕ → Type 0
+AreApart n p qs = AllByRecursion (λ q. q ≢ p → q % n ≢ p % n) qs
+
+abbrev pub row_if : Bool → ℕ → Hold → Hold
+row_if true line h = with_line line h
+row_if false line h = h
+
+row_else : (line n p q : ℕ) (rows : List Hold) (h : Hold) → length rows ≡ n → q % n ≢ p % n → slice_get rows (p % n) ≡ Some h → slice_get (row_placed line rows q) (p % n) ≡ Some h
+row_else line n p q rows h count apart there = go (row_at rows q) ∙ there
+  where
+    go : (o : Option Hold) → slice_get (option_map_or (λ h. slice_set rows (q % length rows) (with_line line h)) o rows) (p % n) ≡ slice_get rows (p % n)
+    go None = refl
+    go (Some h) = get_set_other rows (q % length rows) (p % n) (with_line line h) (λ e. apart (ap (λ m. q % m) (sym count) ∙ sym e))
+
+row_here : (line n p q : ℕ) (rows : List Hold) (h : Hold) → 0 < n → length rows ≡ n → q ≡ p → slice_get rows (p % n) ≡ Some h → slice_get (row_placed line rows q) (p % n) ≡ Some (with_line line h)
+row_here line n p q rows h some count same there =
+    let at : row_at rows q ≡ Some h = ap₂ (λ a b. slice_get rows (a % b)) same count ∙ there in
+    let inside : p % n < length rows = slice_get_within rows (p % n) h there in
+    ap (λ o. slice_get (option_map_or (λ h. slice_set rows (q % length rows) (with_line line h)) o rows) (p % n)) at
+    ∙ get_set_same rows (q % length rows) (p % n) (with_line line h) (ap₂ (λ a b. a % b) (sym same) (sym count)) (subst (λ k. k < length rows) (ap₂ (λ a b. a % b) (sym same) (sym count)) inside)
+
+pub row_after : (line n p : ℕ) (qs : List ℕ) (rows : List Hold) (h : Hold) → 0 < n → length rows ≡ n → AreApart n p qs → slice_get rows (p % n) ≡ Some h
+    → slice_get (placed_rows line rows qs) (p % n) ≡ Some (row_if (list_any (λ q. q == p) qs) line h)
+row_after line n p [] rows h some count apart there = there
+row_after line n p (q ∷ qs) rows h some count apart there =
+    go (q == p) refl (λ g at. row_after line n p qs (row_placed line rows q) g some (one_length line rows q ∙ count) apart.1 at)
+  where
+    twice : (b : Bool) → row_if b line (with_line line h) ≡ with_line line h
+    twice true = refl
+    twice false = refl
+
+    go : (b : Bool) → (q == p) ≡ b → ((g : Hold) → slice_get (row_placed line rows q) (p % n) ≡ Some g → slice_get (placed_rows line (row_placed line rows q) qs) (p % n) ≡ Some (row_if (list_any (λ q. q == p) qs) line g))
+        → slice_get (placed_rows line (row_placed line rows q) qs) (p % n) ≡ Some (row_if (b || list_any (λ q. q == p) qs) line h)
+    go true e rest = rest (with_line line h) (row_here line n p q rows h some count (eqb-true q p e) there) ∙ ap Some (twice (list_any (λ q. q == p) qs))
+    go false e rest = rest h (row_else line n p q rows h count (apart.0 (λ f. true_false (sym (ap (λ m. m == p) f ∙ same_number p) ∙ e))) there)
+      where
+        true_false : true ≡ false → ⊥
+        true_false e = absurd cc
+
+-- ---- the table
+
+later_is_next : (log : List Logged) (t : Taken) → later_take log t ≡ next_take log t
+later_is_next log t =
+    find_same (λ (u : Taken). nat_lt t.entry.position u.entry.position && (u.mark.lba == t.mark.lba)) (λ (u : Taken). (u.mark.lba == t.mark.lba) && nat_lt t.entry.position u.entry.position)
+    (λ u. swapped (nat_lt t.entry.position u.entry.position) (u.mark.lba == t.mark.lba)) (takes log)
+  where
+    swapped : (a b : Bool) → (a && b) ≡ (b && a)
+    swapped true true = refl
+    swapped true false = refl
+    swapped false true = refl
+    swapped false false = refl
+
+one_entry : (line : ℕ) (table : Table) (o : Option Taken) → with_row line (placed_by (option_map (λ (u : Taken). u.entry.position) o)) table ≡ with_row line (placed_row o) table
+one_entry line table None = refl
+one_entry line table (Some u) = refl
+
+hold_placed : (s : Shape) (log : List Logged) (line : ℕ) (rows : List Hold) (table : Table) (t : Taken) → row_at rows t.entry.position ≡ Some (hold_of s log t)
+    → place_hold line table (row_at rows t.entry.position) ≡ place_entry log line table t
+hold_placed s log line rows table t row =
+    ap (place_hold line table) row ∙ one_entry line table (later_take log t) ∙ ap (λ o. with_row line (placed_row o) table) (later_is_next log t)
+
+pub lines_placed_are : (s : Shape) (log : List Logged) (line : ℕ) (rows : List Hold) (table : Table) (ts : List Taken) → AllByRecursion (λ (t : Taken). row_at rows t.entry.position ≡ Some (hold_of s log t)) ts
+    → placed_lines rows line table (positions_of ts) ≡ place_entries log line table ts
+lines_placed_are s log line rows table [] all = refl
+lines_placed_are s log line rows table (t ∷ ts) all =
+    ap (λ (u : Table). placed_lines rows line u (positions_of ts)) (hold_placed s log line rows table t all.0)
+    ∙ lines_placed_are s log line rows (place_entry log line table t) ts all.1
+
+-- ---- the rows by the log
+
+bears_is : (s : Shape) (position : ℕ) (bs : List Block) → list_any (bears_position s position) bs ≡ list_any (λ q. q == position) (filter_map (position_in s) bs)
+bears_is s position [] = refl
+bears_is s position (b ∷ bs) = go (is_some (named s b.mark)) (bears_is s position bs)
   where
     go : (c : Bool) → list_any (bears_position s position) bs ≡ list_any (λ q. q == position) (filter_map (position_in s) bs)
         → ((c && (b.mark.position == position)) || list_any (bears_position s position) bs) ≡ list_any (λ q. q == position) (cons_option (if c then Some b.mark.position else None) (filter_map (position_in s) bs))
     go true rest = ap (λ r. (b.mark.position == position) || r) rest
     go false rest = rest
 
--- ---- how often an entry was placed and lost
-
-abbrev more_by : Bool → ℕ
-more_by true = 1
-more_by false = 0
-
-length_more : {X : Type 0} (xs : List X) (x : X) (b : Bool) → length (xs ++ cond b (x ∷ []) []) ≡ length xs + more_by b
-length_more xs x true = length-append xs (x ∷ [])
-length_more xs x false = length-append xs []
-
-placed_times : (s : Shape) (log : List Logged) (stripe : Stripe) (knows : List ℕ) (o : Opening) (t : Taken) → life_of log stripe.line ≡ Opened o
-    → times_placed s (with_place log stripe knows) t ≡ times_placed s log t + more_by (is_within (positions_in_stripe s stripe) t)
-placed_times s log stripe knows o t opened =
-    ap (λ ps. length (filter (holds_position s t.entry.position) ps)) (placements_now log stripe knows o opened)
-    ∙ ap length (filter_last (holds_position s t.entry.position) (placements log) (new_placed log stripe o) (is_within (positions_in_stripe s stripe) t) (holds_is s t.entry.position stripe.blocks))
-    ∙ length_more (filter (holds_position s t.entry.position) (placements log)) (new_placed log stripe o) (is_within (positions_in_stripe s stripe) t)
-
-lost_times : (s : Shape) (log : List Logged) (stripe : Stripe) (knows : List ℕ) (o : Opening) (t : Taken) → IsPlacing log stripe o
-    → times_lost s (with_place log stripe knows) t ≡ times_lost s log t
-lost_times s log stripe knows o t is =
-    let new : List Logged = with_place log stripe knows in
-    let test : Placed → Bool = λ p. was_lost new p && holds_position s t.entry.position p in
-    ap (λ ps. length (filter (λ p. was_lost new p && holds_position s t.entry.position p) ps)) (placements_now log stripe knows o is.opened)
-    ∙ ap length (filter_last (λ p. was_lost new p && holds_position s t.entry.position p) (placements log) (new_placed log stripe o) false
-    (ap (λ a. is_loss a && holds_position s t.entry.position (new_placed log stripe o)) (new_unanswered log stripe knows o is))
-    ∙ append-nil (filter (λ p. was_lost new p && holds_position s t.entry.position p) (placements log))
-    ∙ filter_agree (λ (p : Placed). p.number < length log) (λ p. was_lost new p && holds_position s t.entry.position p) (λ p. was_lost log p && holds_position s t.entry.position p)
-    (λ p before. ap (λ a. is_loss a && holds_position s t.entry.position p) (answer_now log stripe knows o p is.opened (le_of_lt before))) (placements log) (placements_before log))
-
-fewer : {X : Type 0} (f g : X → Bool) (xs : List X) → length (filter (λ x. f x && g x) xs) ≤ length (filter g xs)
-fewer f g [] = omega arith
-fewer {X} f g (x ∷ xs) = go (f x) (g x) (fewer f g xs)
+unplaced_among : (s : Shape) (log : List Logged) (p : ℕ) (ts : List Taken) → AllByRecursion (λ (t : Taken). placed_line s log t.entry.position ≡ None) ts → list_any (λ q. q == p) (positions_of ts) ≡ true → placed_line s log p ≡ None
+unplaced_among s log p [] all e = absurd cc
+unplaced_among s log p (t ∷ ts) all e = go (t.entry.position == p) refl e (unplaced_among s log p ts all.1)
   where
-    go : (a b : Bool) → length (filter (λ x. f x && g x) xs) ≤ length (filter g xs)
-        → length (cond (a && b) (x ∷ filter (λ x. f x && g x) xs) (filter (λ x. f x && g x) xs)) ≤ length (cond b (x ∷ filter g xs) (filter g xs))
-    go true true rest = omega arith
-    go true false rest = rest
-    go false true rest = omega arith
-    go false false rest = rest
+    go : (b : Bool) → (t.entry.position == p) ≡ b → (b || list_any (λ q. q == p) (positions_of ts)) ≡ true → (list_any (λ q. q == p) (positions_of ts) ≡ true → placed_line s log p ≡ None) → placed_line s log p ≡ None
+    go true f g rest = ap (placed_line s log) (sym (eqb-true t.entry.position p f)) ∙ all.0
+    go false f g rest = rest g
 
--- ---- who waits
+-- two entries whose rows stand at one place are one
+one_row : (i : Image) (w : World) (c : Core) (t u : Taken) (j k : ℕ) → IsBlankWorld i w → slice_get (takes (log_of w 0)) j ≡ Some t → slice_get (takes (log_of w 0)) k ≡ Some u
+    → row_at c.holds.rows.items t.entry.position ≡ Some (hold_of i.shape (log_of w 0) t) → row_at c.holds.rows.items u.entry.position ≡ Some (hold_of i.shape (log_of w 0) u)
+    → t.entry.position % length c.holds.rows.items ≡ u.entry.position % length c.holds.rows.items → t.entry.position ≡ u.entry.position
+one_row i w c t u j k blank at bt a b same =
+    let marked = (ordered i w blank.plain).marked in
+    let hold : hold_of i.shape (log_of w 0) t ≡ hold_of i.shape (log_of w 0) u =
+    same_Some (hold_of i.shape (log_of w 0) t) (hold_of i.shape (log_of w 0) u) (sym a ∙ ap (slice_get c.holds.rows.items) same ∙ b) in
+    sym (all_at (λ (t : Taken). t.mark.position ≡ t.entry.position) (takes (log_of w 0)) j t at marked)
+    ∙ ap (λ (h : Hold). h.mark.position) hold
+    ∙ all_at (λ (t : Taken). t.mark.position ≡ t.entry.position) (takes (log_of w 0)) k u bt marked
 
-not_equal : (m n : ℕ) → n < m → (m == n) ≡ false
-not_equal m n h = other_number m n (λ e. absurd (omega arith))
+all_mapped : {X : Type 0} (f : X → ℕ) (P : ℕ → Type 0) (xs : List X) → AllByRecursion (λ x. P (f x)) xs → AllByRecursion P (map f xs)
+all_mapped f P [] all = tt
+all_mapped f P (x ∷ xs) all = (all.0, all_mapped f P xs all.1)
 
-lost_by : (p l n : ℕ) (b : Bool) → n ≡ p + more_by b → l ≤ p → ((n == l) && nat_lt 0 n) ≡ (((p == l) && nat_lt 0 p) && not b)
-lost_by p l n true is few =
-    let above : l < n = omega (arith, is) in
-    ap (λ c. c && nat_lt 0 n) (not_equal n l above) ∙ sym (and_no ((p == l) && nat_lt 0 p))
-lost_by p l n false is few =
-    let same : n ≡ p = omega (arith, is) in
-    ap (λ k. (k == l) && nat_lt 0 k) same ∙ sym (and_yes ((p == l) && nat_lt 0 p))
+-- the row of each entry that isn't given back, once the first that wait are placed
+pub row_placed_is : (i : Image) (w : World) (c : Core) (stripe : Stripe) (knows : List ℕ) (n : ℕ) (t : Taken) → IsBlankWorld i w → Stands i (log_of w) c
+    → positions_in_stripe i.shape stripe ≡ positions_of (take n (waiting i.shape (log_of w 0))) → Contains (takes (log_of w 0)) t → is_given_back i.shape (log_of w 0) t.entry.position ≡ false
+    → slice_get (placed_rows stripe.line c.holds.rows.items (positions_of (take n (waiting i.shape (log_of w 0))))) (t.entry.position % i.shape.ring) ≡ Some (hold_of i.shape (with_place (log_of w 0) stripe knows) t)
+row_placed_is i w c stripe knows n t blank st positions among kept =
+    row_after stripe.line i.shape.ring t.entry.position (positions_of ts) c.holds.rows.items (hold_of s log t) (ring_some s blank.plain.accepted) st.holds.room apart row
+    ∙ ap Some (go (list_any (λ q. q == t.entry.position) (positions_of ts)) refl)
+  where
+    s : Shape
+    s = i.shape
 
-fresh_by : (p n : ℕ) (b : Bool) → n ≡ p + more_by b → not (nat_lt 0 n) ≡ (not (nat_lt 0 p) && not b)
-fresh_by p n true is =
-    let some : 0 < n = omega (arith, is) in
-    ap not (is_below 0 n some) ∙ sym (and_no (not (nat_lt 0 p)))
-fresh_by p n false is =
-    let same : n ≡ p = omega (arith, is) in
-    ap (λ k. not (nat_lt 0 k)) same ∙ sym (and_yes (not (nat_lt 0 p)))
+    log : List Logged
+    log = log_of w 0
 
-lost_now : (s : Shape) (log : List Logged) (stripe : Stripe) (knows : List ℕ) (o : Opening) → IsPlacing log stripe o → (t : Taken)
-    → (waits s (with_place log stripe knows) t && was_placed s (with_place log stripe knows) t) ≡ ((waits s log t && was_placed s log t) && not (is_within (positions_in_stripe s stripe) t))
-lost_now s log stripe knows o is t =
-    ap (λ k. (times_placed s (with_place log stripe knows) t == k) && was_placed s (with_place log stripe knows) t) (lost_times s log stripe knows o t is)
-    ∙ lost_by (times_placed s log t) (times_lost s log t) (times_placed s (with_place log stripe knows) t) (is_within (positions_in_stripe s stripe) t) (placed_times s log stripe knows o t is.opened)
-    (fewer (was_lost log) (holds_position s t.entry.position) (placements log))
+    ts : List Taken
+    ts = take n (waiting i.shape (log_of w 0))
 
-fresh_now : (s : Shape) (log : List Logged) (stripe : Stripe) (knows : List ℕ) (o : Opening) → IsPlacing log stripe o → (t : Taken)
-    → not (was_placed s (with_place log stripe knows) t) ≡ (not (was_placed s log t) && not (is_within (positions_in_stripe s stripe) t))
-fresh_now s log stripe knows o is t = fresh_by (times_placed s log t) (times_placed s (with_place log stripe knows) t) (is_within (positions_in_stripe s stripe) t) (placed_times s log stripe knows o t is.opened)
+    there : slice_get (takes (log_of w 0)) among.0 ≡ Some t
+    there = slice_get-get_or (takes (log_of w 0)) among.0 t among.1 ∙ ap Some among.2
 
--- ---- the entries of the next stripe
+    row : slice_get c.holds.rows.items (t.entry.position % i.shape.ring) ≡ Some (hold_of i.shape (log_of w 0) t)
+    row = st.holds.each t among kept
 
-pub next_are_first : (s : Shape) (e : Entries) (kind : StripeKind) → next_positions s e kind ≡ take (length (next_positions s e kind)) (waiting e)
-next_are_first s e kinds.Start = refl
-next_are_first s e kinds.Data = take_taken s.ws_opt (waiting e)
-next_are_first s e kinds.Pad = refl
-next_are_first s e kinds.End = refl
+    wait : (k : ℕ) (u : Taken) → slice_get (take n (waiting i.shape (log_of w 0))) k ≡ Some u → IsWaiting i w c u k
+    wait k u e = waiting_at i w c k u blank st (get_taken n (waiting i.shape (log_of w 0)) k u e)
 
-placed_position : Shape → List Logged → ℕ → Bool
-placed_position s log position = nat_lt 0 (length (filter (holds_position s position) (placements log)))
+    apart : AreApart i.shape.ring t.entry.position (positions_of (take n (waiting i.shape (log_of w 0))))
+    apart = all_mapped (λ (u : Taken). u.entry.position) (λ q. q ≢ t.entry.position → q % i.shape.ring ≢ t.entry.position % i.shape.ring) (take n (waiting i.shape (log_of w 0)))
+        (all_by_index (λ (u : Taken). u.entry.position ≢ t.entry.position → u.entry.position % i.shape.ring ≢ t.entry.position % i.shape.ring) (take n (waiting i.shape (log_of w 0)))
+        (λ k u e other same.
+        let is : IsWaiting i w c u k = wait k u e in
+        other (one_row i w c u t is.number among.0 blank is.there there is.row (row_of_entry i w c t among.0 st there kept)
+        (ap (λ m. u.entry.position % m) st.holds.room ∙ same ∙ sym (ap (λ m. t.entry.position % m) st.holds.room)))))
 
-yes_not_no : (a b : Bool) → (a && b) ≡ true → b ≡ true
-yes_not_no true b e = e
-yes_not_no false b e = absurd cc
+    bears : list_any (bears_position i.shape t.entry.position) stripe.blocks ≡ list_any (λ q. q == t.entry.position) (positions_of (take n (waiting i.shape (log_of w 0))))
+    bears = bears_is i.shape t.entry.position stripe.blocks ∙ ap (list_any (λ q. q == t.entry.position)) positions
 
-not_true : (b : Bool) → not b ≡ true → b ≡ false
-not_true true e = absurd cc
-not_true false e = refl
+    taker_same : option_map (λ (u : Taken). u.entry.position) (later_take (with_place (log_of w 0) stripe knows) t) ≡ option_map (λ (u : Taken). u.entry.position) (later_take (log_of w 0) t)
+    taker_same = ap (option_map (λ (u : Taken). u.entry.position)) (later_same (log_of w 0) (record { event = Decides (Place stripe); knows = knows }) t refl)
 
-length_positions : (ts : List Taken) → length (positions_of ts) ≡ length ts
-length_positions [] = refl
-length_positions (t ∷ ts) = ap suc (length_positions ts)
+    with_line_of : (a : Option ℕ) → a ≡ placed_line i.shape (with_place (log_of w 0) stripe knows) t.entry.position → ◌≡◌ {A = Hold} (record { mark = t.mark; line = a; taker = option_map (λ (u : Taken). u.entry.position) (later_take (log_of w 0) t) }) (hold_of i.shape (with_place (log_of w 0) stripe knows) t)
+    with_line_of a e = λ j. record { mark = t.mark; line = e j; taker = sym taker_same j }
 
-pub entries_placed : (i : Image) (logs : Logs) (knows : List ℕ) (pad : ℕ) (o : Opening) (stripe : Stripe) (of : Program) → IsStripeOf i logs pad o stripe of
-    → positions_of (takes (logs 0)) ≡ range_with_len (first_position (logs 0)) (length (takes (logs 0)))
-    → entries_of i.shape (after logs (Place stripe) knows 0) pad ≡ without_first of.count (entries_of i.shape (logs 0) pad)
-entries_placed i logs knows pad o stripe of is numbered =
-    let s : Shape = i.shape in
-    let log : List Logged = logs 0 in
-    let new : List Logged = with_place log stripe knows in
-    let e : Entries = entries_of s log pad in
-    let l : OpenLine = open_line i logs o in
-    let its : (j : ℕ) × IsProgramIn s e l of j = its_program s e l of is.next in
-    let j : ℕ = its.0 in
-    let qs : List ℕ = positions_in_stripe s stripe in
-    let lost : List Taken = lost_entries s log in
-    let fresh : List Taken = fresh_entries s log in
-    let placing : IsPlacing log stripe o = record { opened = is.opened; idle = is.idle } in
-    let next : next_positions s e (kind_of l j) ≡ of.positions = ap (λ (x : Program). x.positions) its.1.is in
-    let count : length (next_positions s e (kind_of l j)) ≡ of.count = ap (λ (x : Program). x.count) its.1.is in
-    let first : qs ≡ take of.count (positions_of lost ++ positions_of fresh) =
-    is.positions ∙ sym next ∙ next_are_first s e (kind_of l j) ∙ ap (λ n. take n (waiting e)) count in
-    let apart = apart_split (λ t. waits s log t && was_placed s log t) (λ t. not (was_placed s log t)) (λ q. nat_lt 0 (length (filter (holds_position s q) (placements log))))
-    (λ t f. yes_not_no (waits s log t) (was_placed s log t) f) (λ t f. not_true (was_placed s log t) f) (takes log) (apart_numbered (first_position log) (length (takes log)) (takes log) numbered) in
-    let removed = removed_both of.count lost fresh apart in
-    let same : takes new ≡ takes log = takes_more log (record { event = Decides (Place stripe); knows = knows }) ∙ append-nil (takes log) in
-    let less : lost_entries s new ≡ drop of.count lost =
-    filter_same (λ t. waits s new t && was_placed s new t) (λ t. (waits s log t && was_placed s log t) && not (is_within qs t)) (lost_now s log stripe knows o placing) (takes new)
-    ∙ ap (filter (λ t. (waits s log t && was_placed s log t) && not (is_within qs t))) same
-    ∙ filter_twice (λ t. waits s log t && was_placed s log t) (is_within qs) (takes log)
-    ∙ ap (λ zs. filter (λ t. not (is_within zs t)) lost) first ∙ removed.0 in
-    let rest : fresh_entries s new ≡ drop (of.count - length lost) fresh =
-    filter_same (λ t. not (was_placed s new t)) (λ t. not (was_placed s log t) && not (is_within qs t)) (fresh_now s log stripe knows o placing) (takes new)
-    ∙ ap (filter (λ t. not (was_placed s log t) && not (is_within qs t))) same
-    ∙ filter_twice (λ t. not (was_placed s log t)) (is_within qs) (takes log)
-    ∙ ap (λ zs. filter (λ t. not (is_within zs t)) fresh) first ∙ removed.1 in
-    same_entries (positions_of (lost_entries s new)) (drop of.count (positions_of lost)) (positions_of (fresh_entries s new)) (drop (of.count - length (positions_of lost)) (positions_of fresh)) pad
-    (ap positions_of less ∙ sym (drop-map (λ (t : Taken). t.entry.position) of.count lost))
-    (ap positions_of rest ∙ sym (drop-map (λ (t : Taken). t.entry.position) (of.count - length lost) fresh) ∙ ap (λ n. drop (of.count - n) (positions_of fresh)) (sym (length_positions lost)))
+    go : (b : Bool) → list_any (λ q. q == t.entry.position) (positions_of (take n (waiting i.shape (log_of w 0)))) ≡ b
+        → row_if b stripe.line (hold_of i.shape (log_of w 0) t) ≡ hold_of i.shape (with_place (log_of w 0) stripe knows) t
+    go true e = with_line_of (Some stripe.line)
+        (sym (line_of_stripe i.shape (log_of w 0) stripe knows t.entry.position
+        (unplaced_among i.shape (log_of w 0) t.entry.position (take n (waiting i.shape (log_of w 0)))
+        (all_by_index (λ (u : Taken). placed_line i.shape (log_of w 0) u.entry.position ≡ None) (take n (waiting i.shape (log_of w 0))) (λ k u f. IsWaiting.unplaced (wait k u f))) e)
+        (bears ∙ e)))
+    go false e = with_line_of (placed_line i.shape (log_of w 0) t.entry.position) (sym (line_of_others i.shape (log_of w 0) stripe knows t.entry.position (bears ∙ e)))

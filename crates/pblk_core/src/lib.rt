@@ -1,13 +1,18 @@
-//! The steps of a target over its tables, by the logs of its mount.
-//!
-//! What each table holds by the logs stands in `specs/`.
+//! The core of a target: the steps that one session, or an engine's lock, makes over its tables.
 #![tactic(auto)]
 
-mod laws;
+mod filling;
+mod hold;
+mod open_lines;
+mod reading;
+mod records;
+mod stripe;
+mod target_core;
+mod work;
 
-pub use laws::{
-    a_placed_stripe_is_under_way, a_placer_has_what_waits, a_stopped_program_is_offered_again,
-    a_stripe_has_landed, a_stripe_was_lost, a_taken_entry_is_held, a_taken_entry_waits,
-    a_taken_sector_is_cached, a_window_gives_its_first_back, an_offered_program_is_under_way_again,
-    an_opened_line_is_behind_the_others, placed_positions_were_taken, positions_are_in_order,
+pub use records::{LineRecords, records_are_an_openings};
+pub use stripe::Stripe;
+pub use target_core::{
+    Core, Look, a_mount_may_begin_on_a_blank_drive, a_world_of_no_events_is_blank,
 };
+pub use work::{Why, Work};

@@ -1,0 +1,207 @@
+-- What a core keeps of a program that is under way.
+use Rattle.std.proofs.Common.{◌≡◌, ℕ, ◌+◌, ◌*◌, ◌/◌, ◌^◌, ◌<◌, ◌≤◌, ◌==◌, zero, suc, true, false, Some, Option, List, [], length, refl, sym, subst, ap, ◌∙◌, arith, inl}
+use Rattle.std.specs.Prelude.{slice_get, slice_set}
+use Rattle.std.specs.List.{fold, range_with_len}
+use Rattle.std.specs.Option.{option_map, option_map_or, option_and_then}
+use Rattle.std.proofs.Math.Seq.{take-length}
+use Rattle.std.proofs.Math.Nat.{two-pow-succ}
+use Rattle.std.proofs.lemmas.List.{length-map}
+use Rattle.std.proofs.lemmas.List.FromFn.{length-range_with_len}
+use Rattle.std.proofs.lemmas.Option.{same_Some}
+use Rattle.pblk_model.specs.Shape.{units}
+use Rattle.pblk_model.specs.Image.{Image}
+use Rattle.pblk_layout.specs.Live.{units_in}
+use Rattle.pblk_world.specs.World.{World, log_of}
+use Rattle.pblk_world.specs.EngineLog.{Placed, stripes_of, stripes_on, holds_position}
+use Rattle.pblk_world.specs.Fronts.{taken}
+use Rattle.pblk_world.specs.Space.{freed}
+use Rattle.pblk_world.specs.Lines.{known_image}
+use Rattle.pblk_world.specs.Victims.{engine_prefix}
+use Rattle.line_table.specs.declared.row.Row.{Row}
+use Rattle.line_table.specs.declared.row.LineState.TheVariants.{Open, Full}
+use Rattle.line_table.specs.Rows.{Table, IsRow, IsChange, Changes, turned}
+use Rattle.stripe_placer.specs.declared.placement.Placement.{Placement}
+use Rattle.stripe_placer.specs.Placing.{Program, UnitRow, program, under_way_in}
+use Rattle.stripe_placer.specs.Placing.UnitRow.{UnderWay}
+use Rattle.stripe_placer.proofs.Among.{IsAmong, in_filter}
+use Rattle.write_window.specs.Window as view
+use Rattle.core_laws.specs.OpenedLines.{bits_of, opened_units}
+use Rattle.core_laws.specs.PlacerOf.{IsAwaited, placing_of, positions_in_stripe}
+use Rattle.core_laws.specs.PlainWorlds.{IsBlankWorld}
+use Rattle.core_laws.specs.RowsOf.{row_of_line, rows_of, width_in}
+use Rattle.core_laws.proofs.Rows.{row_at, same_number}
+use Rattle.landing_laws.specs.ChunkBlocks.{IsInRow}
+use Rattle.landing_laws.proofs.HeldInWorlds.{own_in_window}
+use Rattle.landing_laws.proofs.NewBlocks.{any_member}
+use Rattle.line_laws.specs.Changes.{with_row, full_if}
+use Rattle.line_laws.proofs.Quiet.{set_same}
+use Rattle.line_laws.proofs.Tables.{changed_is}
+use Rattle.line_laws.proofs.LineRoom.{has_room, state_open}
+use Rattle.line_laws.proofs.Orders.{in_order}
+use Rattle.media_laws.proofs.Found.{ArePrefixes, known_whole, whole_line_units, within_some}
+use Rattle.placed_laws.proofs.Placed.{stripe_holds}
+use Rattle.pblk_core.specs.Slots.{IsSlot}
+use Rattle.pblk_core.specs.Stands.{Stands, unlanded}
+use Rattle.pblk_core.specs.declared.open_lines.OpenLine.{OpenLine}
+use Rattle.pblk_core.specs.declared.target_core.Core.{Core}
+use Rattle.pblk_core.proofs.LandedLines.{HasSlot, has_slot, found_slot, fewer_landed}
+use Rattle.pblk_core.proofs.LandedLogs.{rows_of_chunks}
+use Rattle.pblk_core.proofs.LandedWay.{IsOnWay, of_row, on_way, awaited, line_of_way}
+use Rattle.pblk_core.proofs.StandsFacts.{window_taken_is}
+
+-- ---- the row that the placer tells
+
+pub told_row : (rows : List UnitRow) (unit u : ℕ) (r : Option Placement) (of : Placement) (is : Program) → r ≡ Some of → u ≡ unit → option_map program r ≡ option_and_then under_way_in (slice_get rows u)
+    → slice_get rows unit ≡ Some (UnderWay is) → slice_get rows unit ≡ Some (UnderWay (program of))
+told_row rows unit u r of is found at told there =
+    there ∙ ap (λ (x : Program). Some (UnderWay x))
+    (same_Some is (program of) (sym (ap (option_map program) (sym found) ∙ told ∙ ap (λ n. option_and_then under_way_in (slice_get rows n)) at ∙ ap (option_and_then under_way_in) there)))
+
+pub record IsOfCore (i : Image) (w : World) (c : Core) (unit : ℕ) (of : Program) : Type 0 where
+  pub is : IsOnWay i w unit of
+  pub waits : IsAwaited i (log_of w) c.placer.entries.pad [] of
+  pub has : HasSlot i (log_of w) c.open is.row.opening
+
+pub of_core : (i : Image) (w : World) (c : Core) (unit : ℕ) (of : Program) → IsBlankWorld i w → Stands i (log_of w) c → slice_get c.placer.units unit ≡ Some (UnderWay of) → IsOfCore i w c unit of
+of_core i w c unit of blank st there =
+    let row : slice_get (placing_of i (log_of w) c.placer.entries.pad []).units unit ≡ Some (UnderWay of) = ap (λ p. slice_get p.units unit) (sym st.placing) ∙ there in
+    let is : IsOnWay i w unit of = on_way i w unit of blank (of_row i (log_of w) c.placer.entries.pad unit of row) in
+    record { is = is; waits = awaited i w c.placer.entries.pad unit of blank is row; has = has_slot i w c unit of blank is st }
+
+-- ---- its entries
+
+pub count_is : (i : Image) (w : World) (unit : ℕ) (of : Program) → IsOnWay i w unit of → length of.positions ≡ of.count
+count_is i w unit of is = ap (λ (x : Program). length x.positions) (sym is.row.is) ∙ ap (λ (x : Program). x.count) is.row.is
+
+pub positions_are : (i : Image) (w : World) (unit : ℕ) (of : Program) → (is : IsOnWay i w unit of) → of.positions ≡ positions_in_stripe i.shape is.row.stripe.stripe
+positions_are i w unit of is = sym (ap (λ (x : Program). x.positions) is.row.is)
+
+pub holds_it : (i : Image) (w : World) (unit : ℕ) (of : Program) (k q : ℕ) → (is : IsOnWay i w unit of) → slice_get of.positions k ≡ Some q → holds_position i.shape q is.row.stripe ≡ true
+holds_it i w unit of k q is at =
+    stripe_holds i.shape q is.row.stripe
+    ∙ any_member (λ m. m == q) (positions_in_stripe i.shape is.row.stripe.stripe) k q (ap (λ qs. slice_get qs k) (sym (positions_are i w unit of is)) ∙ at) (same_number q)
+
+pub in_window : (i : Image) (w : World) (c : Core) (q : ℕ) → Stands i (log_of w) c → freed i.shape (log_of w 0) ≤ q → q < taken (log_of w 0) → view.IsHeld c.window q
+in_window i w c q st low high =
+    let from : c.window.freed ≤ freed i.shape (log_of w 0) = st.to_freed in
+    (omega arith, subst (λ n. q < n) (sym (window_taken_is i w c st)) high)
+
+pub entry_held : (i : Image) (w : World) (c : Core) (unit : ℕ) (of : Program) (k q : ℕ) → IsBlankWorld i w → Stands i (log_of w) c → IsOnWay i w unit of → slice_get of.positions k ≡ Some q → view.IsHeld c.window q
+entry_held i w c unit of k q blank st is at =
+    let own = own_in_window i w unit is.row.stripe q blank.plain is.row.waits (holds_it i w unit of k q is at) in
+    in_window i w c q st own.1 own.2
+
+-- ---- its place in the chunk
+
+pub in_row : (i : Image) (w : World) (unit : ℕ) (of : Program) → IsBlankWorld i w → (is : IsOnWay i w unit of) → (n : ℕ) × (slice_get (stripes_on (log_of w 0) is.row.opening unit) n ≡ Some is.row.stripe) × IsInRow i.shape n is.row.stripe
+in_row i w unit of blank is =
+    let among : IsAmong (stripes_on (log_of w 0) is.row.opening unit) is.row.stripe =
+    in_filter (λ (p : Placed). p.stripe.unit == unit) (stripes_of (log_of w 0) is.row.opening) is.row.stripe (is.number, is.there) (ap (λ u. u == unit) is.its_unit ∙ same_number unit) in
+    (among.0, among.1, rows_of_chunks i w is.row.opening unit blank among.0 is.row.stripe among.1)
+
+pub block_is : (i : Image) (w : World) (unit : ℕ) (of : Program) → (is : IsOnWay i w unit of) → of.block ≡ is.row.stripe.stripe.at
+block_is i w unit of is = sym (ap (λ (x : Program). x.block) is.row.is)
+
+pub block_within : (i : Image) (w : World) (unit : ℕ) (of : Program) → IsBlankWorld i w → IsOnWay i w unit of → of.block + i.shape.ws_opt ≤ i.shape.clba
+block_within i w unit of blank is = subst (λ n. n + i.shape.ws_opt ≤ i.shape.clba) (sym (block_is i w unit of is)) (in_row i w unit of blank is).2.within
+
+-- ---- the units of its line
+
+prefix_of : (w : World) (n : ℕ) → ArePrefixes w (engine_prefix n (log_of w))
+prefix_of w n zero = (n, refl)
+prefix_of w n (suc unit) = (length (log_of w (suc unit)), sym (take-length (log_of w (suc unit))))
+
+pub opened_all : (i : Image) (w : World) (unit : ℕ) (of : Program) → IsBlankWorld i w → (is : IsOnWay i w unit of) → opened_units i (log_of w) is.row.opening ≡ range_with_len 0 (units i.shape)
+opened_all i w unit of blank is =
+    whole_line_units i (known_image i (engine_prefix is.row.opening.number (log_of w))) is.row.opening.line
+    (known_whole i w (engine_prefix is.row.opening.number (log_of w)) blank (prefix_of w is.row.opening.number)) is.line_is.well.in_range
+
+bits_below : (acc a n : ℕ) → fold (λ m unit. m + 2 ^ unit) acc (range_with_len a n) + 2 ^ a ≡ acc + 2 ^ (a + n)
+bits_below acc a zero = let same : a ≡ a + 0 = omega arith in ap (λ m. acc + 2 ^ m) same
+bits_below acc a (suc n) =
+    let rest : fold (λ m unit. m + 2 ^ unit) (acc + 2 ^ a) (range_with_len (a + 1) n) + 2 ^ (a + 1) ≡ acc + 2 ^ a + 2 ^ (a + 1 + n) = bits_below (acc + 2 ^ a) (a + 1) n in
+    let more : a + 1 ≡ suc a = omega arith in
+    let twice : 2 ^ (a + 1) ≡ 2 ^ a + 2 ^ a = ap (λ m. 2 ^ m) more ∙ two-pow-succ a in
+    let next : a + 1 + n ≡ a + suc n = omega arith in
+    let sum : fold (λ m unit. m + 2 ^ unit) (acc + 2 ^ a) (range_with_len (a + 1) n) + 2 ^ a ≡ acc + 2 ^ (a + 1 + n) = omega arith in
+    sum ∙ ap (λ m. acc + 2 ^ m) next
+
+pub live_few : (i : Image) (w : World) (c : Core) (unit : ℕ) (of : Program) → IsBlankWorld i w → (is : IsOnWay i w unit of) → (has : HasSlot i (log_of w) c.open is.row.opening) → has.slot.live < 2 ^ units i.shape
+live_few i w c unit of blank is has =
+    let sum : bits_of (range_with_len 0 (units i.shape)) + 2 ^ 0 ≡ 0 + 2 ^ (0 + units i.shape) = bits_below 0 0 (units i.shape) in
+    let live : has.slot.live ≡ bits_of (range_with_len 0 (units i.shape)) = has.is.live ∙ ap bits_of (opened_all i w unit of blank is) in
+    let plain : 0 + units i.shape ≡ units i.shape = omega arith in
+    let same : 2 ^ (0 + units i.shape) ≡ 2 ^ units i.shape = ap (λ n. 2 ^ n) plain in
+    let one : 2 ^ 0 ≡ 1 = refl in
+    omega arith
+
+pub left_some : (i : Image) (w : World) (c : Core) (unit : ℕ) (of : Program) → (is : IsOnWay i w unit of) → (has : HasSlot i (log_of w) c.open is.row.opening) → 0 < has.slot.stripes_left
+left_some i w c unit of is has =
+    let few = fewer_landed i w unit of is in
+    let left : has.slot.stripes_left ≡ unlanded i.shape (log_of w 0) is.row.opening = has.is.left in
+    let total = ap (λ g. g * (i.shape.clba / i.shape.ws_opt)) is.line_is.well.width in
+    omega arith
+
+-- ---- its row
+
+pub line_within : (i : Image) (w : World) (c : Core) (unit : ℕ) (of : Program) → Stands i (log_of w) c → (is : IsOnWay i w unit of) → is.row.opening.line < length c.lines.rows
+line_within i w c unit of st is =
+    let inside : is.row.opening.line < i.shape.chunks = is.line_is.well.in_range in
+    let count : length (rows_of i (log_of w)).rows ≡ i.shape.chunks = length-map (range_with_len 0 i.shape.chunks) (row_of_line i (log_of w)) ∙ length-range_with_len 0 i.shape.chunks in
+    subst (λ t. is.row.opening.line < length t.rows) (sym st.table) (omega arith)
+
+pub may_fill : (i : Image) (w : World) (c : Core) (unit : ℕ) (of : Program) (row : Row) (addresses : ℕ) → IsBlankWorld i w → Stands i (log_of w) c → (is : IsOnWay i w unit of) → IsRow c.lines is.row.opening.line row → IsChange row.state Full addresses
+may_fill i w c unit of row addresses blank st is there =
+    let ln : ℕ = is.row.opening.line in
+    let at = row_at (row_of_line i (log_of w)) i.shape.chunks 0 is.row.opening.line row (ap (λ t. slice_get t.rows is.row.opening.line) (sym st.table) ∙ there) in
+    let plain : 0 + is.row.opening.line ≡ is.row.stripe.stripe.line = (let z : 0 + is.row.opening.line ≡ is.row.opening.line = omega arith in z) ∙ is.its_line in
+    let state : Open ≡ row.state =
+    sym (state_open i (log_of w) unit is.row.stripe is.row.opening is.line_is.striped.some (in_order i w blank.plain).failed is.row.waits is.row.life is.stands (has_room i w is.row.stripe.stripe.line is.row.opening blank.plain is.stands))
+    ∙ ap (λ n. (row_of_line i (log_of w) n).state) (sym plain) ∙ ap (λ (r : Row). r.state) at.1 in
+    subst (λ s. IsChange s Full addresses) state (inl refl)
+
+-- the slot that is found is its line's
+pub record IsGot (i : Image) (w : World) (c : Core) (unit : ℕ) (of : Program) (result : ℕ) (found : OpenLine) (its : IsOfCore i w c unit of) : Type 0 where
+  pub index : result ≡ its.has.k
+  pub slot : found ≡ its.has.slot
+
+pub got : (i : Image) (w : World) (c : Core) (unit : ℕ) (of : Program) (result : ℕ) (slot : OpenLine) → Stands i (log_of w) c → (its : IsOfCore i w c unit of)
+    → result < 2 → ((x : OpenLine) → IsSlot c.open result x → x.records.line ≡ of.line) → ((x : OpenLine) → IsSlot c.open 0 x → x.records.line ≡ of.line → result ≡ 0) → IsSlot c.open result slot → IsGot i w c unit of result slot its
+got i w c unit of result slot st its inside line first at =
+    let index : result ≡ its.has.k = found_slot i w c its.is.row.opening of.line result (line_of_way i w unit of its.is) st its.has inside line first in
+    record {
+      index = index;
+      slot = same_Some slot its.has.slot (sym at ∙ ap (slice_get c.open.slots.items) index ∙ its.has.there);
+    }
+
+-- ---- the table by the two ways
+
+full_rows : (rows : List Row) (line width : ℕ) (row : Row) → slice_get rows line ≡ Some row → width ≡ row.width
+    → option_map_or (λ (r : Row). slice_set rows line (turned Full width r)) (slice_get rows line) rows ≡ option_map_or (λ (r : Row). slice_set rows line (turned Full r.width r)) (slice_get rows line) rows
+full_rows rows line width row there same =
+    ap (λ o. option_map_or (λ (r : Row). slice_set rows line (turned Full width r)) o rows) there
+    ∙ ap (λ n. slice_set rows line (turned Full n row)) same
+    ∙ sym (ap (λ o. option_map_or (λ (r : Row). slice_set rows line (turned Full r.width r)) o rows) there)
+
+pub lines_full : (old new : Table) (line width : ℕ) (row : Row) → slice_get old.rows line ≡ Some row → width ≡ row.width → Changes old new line (turned Full width) → new ≡ with_row line (full_if true) old
+lines_full old new line width row there same changes = changed_is old new line (turned Full width) row there changes ∙ ap (λ rows. record { shape = old.shape; rows = rows }) (full_rows old.rows line width row there same)
+
+pub lines_kept : (old : Table) (line : ℕ) (row : Row) → slice_get old.rows line ≡ Some row → old ≡ with_row line (full_if false) old
+lines_kept old line row there =
+    ap (λ rows. record { shape = old.shape; rows = rows })
+    (sym (ap (λ o. option_map_or (λ (r : Row). slice_set old.rows line r) o old.rows) there ∙ set_same old.rows line row there))
+
+-- its row, and the width there
+pub its_row : (i : Image) (w : World) (c : Core) (unit : ℕ) (of : Program) (live : ℕ) → Stands i (log_of w) c → (its : IsOfCore i w c unit of) → live ≡ its.has.slot.live
+    → (row : Row) × (slice_get c.lines.rows of.line ≡ Some row) × (length (units_in live) ≡ row.width)
+its_row i w c unit of live st its same =
+    let is : IsOnWay i w unit of = its.is in
+    let some = within_some c.lines.rows of.line (subst (λ n. n < length c.lines.rows) (line_of_way i w unit of its.is) (line_within i w c unit of st its.is)) in
+    let at = row_at (row_of_line i (log_of w)) i.shape.chunks 0 of.line some.0 (ap (λ t. slice_get t.rows of.line) (sym st.table) ∙ some.1) in
+    let line : 0 + of.line ≡ its.is.row.stripe.stripe.line = (let z : 0 + of.line ≡ of.line = omega arith in z) ∙ sym (line_of_way i w unit of its.is) ∙ its.is.its_line in (
+      some.0,
+      some.1,
+      ap (λ n. length (units_in n)) (same ∙ its.has.is.live) ∙ its.is.line_is.wide_is ∙ sym its.is.line_is.well.width
+          ∙ ap (width_in i (log_of w) its.is.row.stripe.stripe.line) (sym its.is.stands)
+          ∙ ap (λ n. (row_of_line i (log_of w) n).width) (sym line) ∙ ap (λ (r : Row). r.width) at.1,
+    )

@@ -1,0 +1,222 @@
+-- A program under way in a core's placer, by the logs: its stripe, and which one of its line it is.
+use Rattle.std.proofs.Common.{◌≡◌, ℕ, ◌+◌, ◌-◌, ◌*◌, ◌/◌, ◌%◌, ◌<◌, ◌≤◌, ◌==◌, ◌&&◌, ◌||◌, Bool, true, false, Some, None, Option, List, [], ◌∷◌, ◌++◌, zero, suc, length, replicate, refl, sym, subst, ap, ap₂, ◌∙◌, arith, zero-add}
+use Rattle.std.specs.Prelude.{slice_get, map}
+use Rattle.std.specs.List.{list_any, range_with_len, slice_index_or}
+use Rattle.std.specs.Option.{option_map, option_map_or, unwrap_or}
+use Rattle.std.proofs.lemmas.Bool.{eqb-true}
+use Rattle.std.proofs.lemmas.List.{length-map}
+use Rattle.std.proofs.lemmas.List.FromFn.{length-range_with_len}
+use Rattle.std.proofs.lemmas.Option.{same_Some, slice_get-map, slice_get_within, get_or_from_slice_get}
+use Rattle.std.proofs.Math.Nat.{mul-div_cancel}
+use Rattle.pblk_model.specs.declared.shape.Shape.{Shape}
+use Rattle.pblk_model.specs.Shape.{units}
+use Rattle.pblk_model.specs.Image.{Image}
+use Rattle.pblk_layout.specs.Live.{units_in}
+use Rattle.pblk_world.specs.Events.{Stripe, Logged}
+use Rattle.pblk_world.specs.World.{World, Logs, log_of}
+use Rattle.pblk_world.specs.EngineLog.{AsFound, Opened, Freed, Opening, LineLife, is_life, life_of, Placed, placements, placed_on, stripes_of, answers}
+use Rattle.pblk_world.specs.Victims.{engine_prefix}
+use Rattle.stripe_placer.specs.Inside.{IsUnanswered}
+use Rattle.stripe_placer.specs.OpenLines.{OpenLine, opened, width, unit_of, numbers, has_left, is_to_place, is_unanswered}
+use Rattle.stripe_placer.specs.OpenLines.Stripe.{Unplaced, Unanswered}
+use Rattle.stripe_placer.specs.Placing.{Program}
+use Rattle.stripe_placer.specs.Placing.UnitRow.{Idle, UnderWay}
+use Rattle.stripe_placer.proofs.Among.{IsAmong, from_map, in_map, in_filter}
+use Rattle.core_laws.specs.OpenedLines.{as_opened, by_answer, is_stripe_at, outcome, open_line, open_lines, standing}
+use Rattle.core_laws.specs.PlacerOf.{IsAwaited, number_of, placing_of, program_of_placed, row_in, row_of, unanswered_on, waits_again}
+use Rattle.core_laws.specs.PlainWorlds.{IsBlankWorld}
+use Rattle.core_laws.proofs.Lists.{all_at}
+use Rattle.core_laws.proofs.Rows.{row_at, same_number, under_way_is}
+use Rattle.core_laws.proofs.Stripes.{at_its_place, find_only, not_at}
+use Rattle.landing_laws.proofs.LandedStripe.{one_more}
+use Rattle.landing_laws.proofs.NewBlocks.{any_member}
+use Rattle.landing_laws.proofs.Turns.{first_unanswered}
+use Rattle.line_laws.specs.InOrder.{IsInPlace}
+use Rattle.line_laws.proofs.Orders.{in_order}
+use Rattle.placed_laws.specs.LeftOpenings.{left_openings}
+use Rattle.placed_laws.proofs.LeftLines.{lines_of_left, left_apart}
+use Rattle.placed_laws.proofs.OneStripe.{one_stripe}
+use Rattle.placing_laws.proofs.Forms.{IsLineOf, line_of, formed, answered_as}
+use Rattle.placing_laws.proofs.InOrder.{stripe_count, IsAtPlace}
+use Rattle.placing_laws.proofs.Opened.{life_stands, opened_lines}
+use Rattle.placing_laws.proofs.Followed.{IsFollowed, follow}
+use Rattle.pblk_core.proofs.BlankLines.{now_units, same_live}
+
+-- ---- the stripe of a row
+
+pub record IsOfRow (i : Image) (logs : Logs) (unit : ℕ) (of : Program) : Type 0 where
+  pub inside : unit < units i.shape
+  pub stripe : Placed
+  pub opening : Opening
+  pub waits : unanswered_on (logs 0) unit ≡ Some stripe
+  pub life : stripe.life ≡ Opened opening
+  pub is : program_of_placed i logs opening stripe ≡ of
+
+of_stripe : (i : Image) (logs : Logs) (stopped : Bool) (x : Option Placed) (of : Program) → option_map_or (λ (p : Placed). row_in i logs stopped p.life p) x Idle ≡ UnderWay of
+    → (p : Placed) × (o : Opening) × (x ≡ Some p) × (p.life ≡ Opened o) × (program_of_placed i logs o p ≡ of)
+of_stripe i logs stopped None of e = absurd cc
+of_stripe i logs stopped (Some p) of e = go p.life refl e
+  where
+    go : (life : LineLife) → p.life ≡ life → row_in i logs stopped life p ≡ UnderWay of → (q : Placed) × (o : Opening) × (Some p ≡ Some q) × (q.life ≡ Opened o) × (program_of_placed i logs o q ≡ of)
+    go AsFound is e = absurd cc
+    go (Opened o) is e = (p, o, refl, is, under_way_is stopped (program_of_placed i logs o p) of e)
+    go (Freed past knows) is e = absurd cc
+
+pub of_row : (i : Image) (logs : Logs) (pad unit : ℕ) (of : Program) → slice_get (placing_of i logs pad []).units unit ≡ Some (UnderWay of) → IsOfRow i logs unit of
+of_row i logs pad unit of there =
+    let row : (unit < units i.shape) × (row_of i logs [] (0 + unit) ≡ UnderWay of) = row_at (row_of i logs []) (units i.shape) 0 unit (UnderWay of) there in
+    let plain : 0 + unit ≡ unit = zero-add unit in
+    let its = of_stripe i logs (waits_again (logs 0) [] unit) (unanswered_on (logs 0) unit) of (ap (row_of i logs []) (sym plain) ∙ row.1) in
+    record { inside = row.0; stripe = its.0; opening = its.1; waits = its.2; life = its.3; is = its.4 }
+
+-- ---- its number in its line
+
+seen_at : Shape → ℕ → ℕ → ℕ → ℕ → Bool
+seen_at s live unit block j = (slice_index_or (units_in live) (j % length (units_in live)) 0 == unit) && (j / length (units_in live) * s.ws_opt == block)
+
+-- the number by a line of the same units
+pub number_at : (s : Shape) (l m : OpenLine) (stripe : Stripe) (j : ℕ) → l.live ≡ m.live → 0 < s.ws_opt → 0 < width m → j < length l.stripes → is_stripe_at s m stripe.unit stripe.at j ≡ true → number_of s l stripe ≡ j
+unfolding seen_at
+number_at s l m stripe j same some wide inside there =
+    let from : 0 + j ≡ j = zero-add j in
+    let wide_too : 0 < width l = subst (λ live. 0 < length (units_in live)) (sym same) wide in
+    let here : is_stripe_at s l stripe.unit stripe.at j ≡ true = ap (λ live. seen_at s live stripe.unit stripe.at j) same ∙ there in
+    ap (λ (x : Option ℕ). unwrap_or x 0)
+    (find_only (is_stripe_at s l stripe.unit stripe.at) (length l.stripes) 0 j inside (ap (is_stripe_at s l stripe.unit stripe.at) from ∙ here)
+    (λ k other. not_at s l stripe.unit stripe.at k j some wide_too here (λ e. other (e ∙ sym from))))
+    ∙ from
+
+pub record IsOnWay (i : Image) (w : World) (unit : ℕ) (of : Program) : Type 0 where
+  pub row : IsOfRow i (log_of w) unit of
+  pub its_unit : row.stripe.stripe.unit ≡ unit
+  pub stands : life_of (log_of w 0) row.stripe.stripe.line ≡ Opened row.opening
+  pub its_line : row.opening.line ≡ row.stripe.stripe.line
+  pub line_is : IsLineOf i (now_units i w) w row.opening
+  pub number : ℕ
+  pub there : slice_get (stripes_of (log_of w 0) row.opening) number ≡ Some row.stripe
+  pub inside : number < length (as_opened i (log_of w) row.opening).stripes
+  pub here : is_stripe_at i.shape (as_opened i (log_of w) row.opening) row.stripe.stripe.unit row.stripe.stripe.at number ≡ true
+  pub number_is : of.at ≡ number * i.shape.ws_opt
+
+pub at_number : (i : Image) (w : World) (o : Opening) (k unit at : ℕ) → IsLineOf i (now_units i w) w o → IsAtPlace i (now_units i w) o.line k unit at → is_stripe_at i.shape (as_opened i (log_of w) o) unit at k ≡ true
+at_number i w o k unit at is place =
+    at_its_place i.shape (as_opened i (log_of w) o) unit at k
+    (ap₂ (λ (us : List ℕ) g. slice_index_or us (k % g) 0) is.units is.wide_is ∙ get_or_from_slice_get (now_units i w o.line) (k % length (now_units i w o.line)) unit 0 place.its_unit)
+    (ap (λ g. k / g * i.shape.ws_opt) is.wide_is ∙ sym place.its_block)
+
+long : (i : Image) (w : World) (o : Opening) (n : ℕ) → IsBlankWorld i w → o.line < i.shape.chunks → length (open_line i (engine_prefix n (log_of w)) o).stripes ≡ length (as_opened i (log_of w) o).stripes
+long i w o n blank inside =
+    length-map (range_with_len 0 (length (as_opened i (engine_prefix n (log_of w)) o).stripes)) (outcome i.shape (engine_prefix n (log_of w) 0) o (as_opened i (engine_prefix n (log_of w)) o))
+    ∙ length-range_with_len 0 (length (as_opened i (engine_prefix n (log_of w)) o).stripes)
+    ∙ ap (λ live. length (opened i.shape o.line live).stripes) (same_live i w o n blank inside)
+
+pub on_way : (i : Image) (w : World) (unit : ℕ) (of : Program) → IsBlankWorld i w → IsOfRow i (log_of w) unit of → IsOnWay i w unit of
+on_way i w unit of blank row =
+    let log : List Logged = log_of w 0 in
+    let o : Opening = row.opening in
+    let p : Placed = row.stripe in
+    let steady : IsFollowed i (now_units i w) w = follow i w blank.plain in
+    let first = first_unanswered (log_of w 0) unit p row.waits in
+    let place : IsInPlace i (log_of w 0) p = all_at (IsInPlace i (log_of w 0)) (placements (log_of w 0)) first.among.0 p first.among.1 (in_order i w blank.plain).placed in
+    let opened_is : Opened place.opening ≡ Opened row.opening = sym place.life ∙ row.life in
+    let stands : life_of (log_of w 0) row.stripe.stripe.line ≡ Opened row.opening = place.stands ∙ opened_is in
+    let its_line : row.opening.line ≡ row.stripe.stripe.line = (opened_lines i (now_units i w) w steady row.stripe.stripe.line row.opening stands).its_line in
+    let line_is : IsLineOf i (now_units i w) w row.opening = line_of i (now_units i w) w row.opening steady (ap (life_of (log_of w 0)) its_line ∙ stands) in
+    let among : IsAmong (stripes_of (log_of w 0) row.opening) row.stripe = in_filter (λ (q : Placed). is_life row.opening.number q.life) (placements (log_of w 0)) row.stripe first.among (ap (is_life row.opening.number) row.life ∙ same_number row.opening.number) in
+    let here : is_stripe_at i.shape (as_opened i (log_of w) row.opening) row.stripe.stripe.unit row.stripe.stripe.at among.0 ≡ true =
+    at_number i w row.opening among.0 row.stripe.stripe.unit row.stripe.stripe.at line_is (line_is.order.places among.0 row.stripe among.1) in
+    let short : among.0 < length (stripes_of (log_of w 0) row.opening) = slice_get_within (stripes_of (log_of w 0) row.opening) among.0 row.stripe among.1 in
+    let all : length (stripes_of (log_of w 0) row.opening) ≤ stripe_count i (now_units i w) row.opening.line = line_is.order.inside in
+    let count : length (as_opened i (log_of w) row.opening).stripes ≡ stripe_count i (now_units i w) row.opening.line = line_is.count in
+    let inside : among.0 < length (as_opened i (log_of w) row.opening).stripes = omega arith in
+    let g = line_is.wide_is in
+    let wide : 0 < width (as_opened i (log_of w) row.opening) = (let h = line_is.striped.wide in omega arith) in
+    record {
+      row = row;
+      its_unit = first.of_unit;
+      stands = stands;
+      its_line = its_line;
+      line_is = line_is;
+      number = among.0;
+      there = among.1;
+      inside = inside;
+      here = here;
+      number_is = sym (ap (λ (x : Program). x.at) row.is) ∙ ap (λ n. n * i.shape.ws_opt)
+          (number_at i.shape (open_line i (engine_prefix row.stripe.number (log_of w)) row.opening) (as_opened i (log_of w) row.opening) row.stripe.stripe among.0
+          (same_live i w row.opening row.stripe.number blank line_is.well.in_range) line_is.striped.some wide
+          (subst (λ n. among.0 < n) (sym (long i w row.opening row.stripe.number blank line_is.well.in_range)) inside) here);
+    }
+
+-- ---- the program is awaited
+
+get_first : {X : Type 0} (xs ys : List X) (k : ℕ) → k < length xs → slice_get (xs ++ ys) k ≡ slice_get xs k
+get_first [] ys k h = absurd (omega arith)
+get_first (x ∷ xs) ys zero h = refl
+get_first (x ∷ xs) ys (suc k) h = get_first xs ys k (omega arith)
+
+or_second : (a b : Bool) → b ≡ true → (a || b) ≡ true
+or_second true b e = refl
+or_second false b e = e
+
+and_first : (a b : Bool) → (a && b) ≡ true → a ≡ true
+and_first true b e = refl
+and_first false b e = absurd cc
+
+pub waits_there : (i : Image) (w : World) (unit : ℕ) (of : Program) → (is : IsOnWay i w unit of) → slice_get (open_line i (log_of w) is.row.opening).stripes is.number ≡ Some Unanswered
+unfolding answered_as
+waits_there i w unit of is =
+    let short : is.number < length (stripes_of (log_of w 0) is.row.opening) = slice_get_within (stripes_of (log_of w 0) is.row.opening) is.number is.row.stripe is.there in
+    let count : length (map (answered_as (log_of w 0)) (stripes_of (log_of w 0) is.row.opening)) ≡ length (stripes_of (log_of w 0) is.row.opening) = length-map (stripes_of (log_of w 0) is.row.opening) (answered_as (log_of w 0)) in
+    ap (λ xs. slice_get xs is.number) (formed i (now_units i w) w is.row.opening is.line_is)
+    ∙ get_first (map (answered_as (log_of w 0)) (stripes_of (log_of w 0) is.row.opening)) (replicate (stripe_count i (now_units i w) is.row.opening.line - length (stripes_of (log_of w 0) is.row.opening)) Unplaced) is.number (omega arith)
+    ∙ slice_get-map (answered_as (log_of w 0)) (stripes_of (log_of w 0) is.row.opening) is.number
+    ∙ ap (option_map (answered_as (log_of w 0))) is.there
+    ∙ ap (λ a. Some (by_answer a)) (one_more (log_of w 0) unit 0 [] is.row.stripe is.row.waits).before
+
+pub left_there : (i : Image) (w : World) (unit : ℕ) (of : Program) → IsBlankWorld i w → (is : IsOnWay i w unit of) → IsAmong (left_openings i (log_of w)) is.row.opening
+left_there i w unit of blank is =
+    let l : OpenLine = open_line i (log_of w) is.row.opening in
+    in_filter (λ (o : Opening). has_left (open_line i (log_of w) o)) (standing (log_of w 0)) is.row.opening
+    (life_stands i (now_units i w) w (follow i w blank.plain) is.row.opening.line is.row.opening (ap (life_of (log_of w 0)) is.its_line ∙ is.stands))
+    (or_second (list_any (is_to_place l) (numbers l)) (list_any is_unanswered l.stripes) (any_member is_unanswered l.stripes is.number Unanswered (waits_there i w unit of is) refl))
+
+pub unit_is : (i : Image) (w : World) (unit : ℕ) (of : Program) → IsOnWay i w unit of → of.unit ≡ unit
+unit_is i w unit of is = sym (ap (λ (x : Program). x.unit) is.row.is) ∙ is.its_unit
+
+pub line_of_way : (i : Image) (w : World) (unit : ℕ) (of : Program) → (is : IsOnWay i w unit of) → is.row.opening.line ≡ of.line
+line_of_way i w unit of is = ap (λ (x : Program). x.line) is.row.is
+
+pub stripe_number : (i : Image) (w : World) (unit : ℕ) (of : Program) → (is : IsOnWay i w unit of) → of.at / i.shape.ws_opt ≡ is.number
+stripe_number i w unit of is = ap (λ n. n / i.shape.ws_opt) is.number_is ∙ mul-div_cancel is.number is.line_is.striped.some
+
+-- no other open line is of its line
+only_line : (i : Image) (w : World) (unit : ℕ) (of : Program) → IsBlankWorld i w → (is : IsOnWay i w unit of) → (l : OpenLine) → IsAmong (open_lines i (log_of w)) l → l.line ≡ of.line → open_line i (log_of w) is.row.opening ≡ l
+only_line i w unit of blank is l among same =
+    let from : (o : Opening) × IsAmong (left_openings i (log_of w)) o × (open_line i (log_of w) o ≡ l) = from_map (open_line i (log_of w)) (left_openings i (log_of w)) l (subst (λ ls. IsAmong ls l) (lines_of_left i (log_of w)) among) in
+    let own : IsAmong (left_openings i (log_of w)) is.row.opening = left_there i w unit of blank is in
+    let line : is.row.opening.line ≡ from.0.line = line_of_way i w unit of is ∙ sym same ∙ ap (λ (x : OpenLine). x.line) (sym from.2) in
+    let at : own.0 ≡ from.1.0 = left_apart i (log_of w) own.0 from.1.0 is.row.opening from.0 own.1 from.1.1 line in
+    ap (open_line i (log_of w)) (same_Some is.row.opening from.0 (sym own.1 ∙ ap (slice_get (left_openings i (log_of w))) at ∙ from.1.1)) ∙ from.2
+
+pub awaited : (i : Image) (w : World) (pad unit : ℕ) (of : Program) → IsBlankWorld i w → IsOnWay i w unit of → slice_get (placing_of i (log_of w) pad []).units unit ≡ Some (UnderWay of) → IsAwaited i (log_of w) pad [] of
+awaited i w pad unit of blank is row =
+    let u : of.unit ≡ unit = unit_is i w unit of is in
+    let j : of.at / i.shape.ws_opt ≡ is.number = stripe_number i w unit of is in
+    let own : IsAmong (left_openings i (log_of w)) is.row.opening = left_there i w unit of blank is in
+    let among : IsAmong (open_lines i (log_of w)) (open_line i (log_of w) is.row.opening) = subst (λ ls. IsAmong ls (open_line i (log_of w) is.row.opening)) (sym (lines_of_left i (log_of w))) (in_map (open_line i (log_of w)) (left_openings i (log_of w)) is.row.opening own) in
+    let few : length (placed_on (log_of w 0) unit) ≤ length (answers (log_of w 0) unit) + 1 = one_stripe i w unit blank.plain.legal in
+    let some : length (answers (log_of w 0) unit) < length (placed_on (log_of w 0) unit) = slice_get_within (placed_on (log_of w 0) unit) (length (answers (log_of w 0) unit)) is.row.stripe is.row.waits in
+    let one : length (placed_on (log_of w 0) unit) ≡ length (answers (log_of w 0) unit) + 1 = omega arith in
+    let here : unit_of (open_line i (log_of w) is.row.opening) is.number ≡ unit =
+    eqb-true (unit_of (as_opened i (log_of w) is.row.opening) is.number) is.row.stripe.stripe.unit (and_first (unit_of (as_opened i (log_of w) is.row.opening) is.number == is.row.stripe.stripe.unit) (is.number / width (as_opened i (log_of w) is.row.opening) * i.shape.ws_opt == is.row.stripe.stripe.at) is.here) ∙ is.its_unit in
+    record {
+      under_way = ap (slice_get (placing_of i (log_of w) pad []).units) u ∙ row;
+      stripe = record {
+        unit_is = refl;
+        line = (open_line i (log_of w) is.row.opening, among, line_of_way i w unit of is);
+        stripe = λ l at same.
+            subst (λ (m : OpenLine). IsUnanswered m (of.at / i.shape.ws_opt) × (unit_of m (of.at / i.shape.ws_opt) ≡ of.unit)) (only_line i w unit of blank is l at same)
+            (ap (slice_get (open_line i (log_of w) is.row.opening).stripes) j ∙ waits_there i w unit of is, ap (unit_of (open_line i (log_of w) is.row.opening)) j ∙ here ∙ sym u);
+      };
+      one = subst (λ v. length (placed_on (log_of w 0) v) ≡ length (answers (log_of w 0) v) + 1) (sym u) one;
+    }

@@ -1,0 +1,259 @@
+-- What a core that opens a line keeps, and what is known of the line.
+use Rattle.std.proofs.Common.{◌≡◌, ℕ, ◌+◌, ◌*◌, ◌/◌, ◌^◌, ◌<◌, ◌≤◌, ◌==◌, ◌&&◌, zero, suc, nat_lt, Bool, true, false, Some, None, Option, List, [], ◌∷◌, length, refl, sym, subst, ap, ◌∙◌, arith, zero-add, le_refl, mul-suc}
+use Rattle.std.specs.Prelude.{map, position, slice_get}
+use Rattle.std.specs.List.{AllByRecursion, range_with_len, slice_index_or}
+use Rattle.std.specs.Option.{is_some, unwrap_or}
+use Rattle.std.proofs.Math.Nat.{add-mul}
+use Rattle.std.proofs.lemmas.Bool.{eqb-true}
+use Rattle.std.proofs.lemmas.List.Sums.{sum_by-append}
+use Rattle.std.proofs.lemmas.List.FromFn.{length-range_with_len}
+use Rattle.std.proofs.lemmas.Option.{get_or_from_slice_get, slice_get-get_or, same_Some}
+use Rattle.pblk_model.specs.declared.shape.Shape.{Shape}
+use Rattle.pblk_model.specs.Accepted.{IsAccepted}
+use Rattle.pblk_model.specs.Shape.{units}
+use Rattle.pblk_model.proofs.Sizes.{line_is_short}
+use Rattle.pblk_model.specs.LineOrder.{data_len}
+use Rattle.pblk_model.specs.Image.{Image, width, line_units}
+use Rattle.pblk_world.specs.World.{World, Logs, log_of}
+use Rattle.pblk_world.specs.EngineLog.{Begun, begun, Opening, Opened, is_opened, life_of}
+use Rattle.pblk_world.specs.Lines.{known_image}
+use Rattle.pblk_world.specs.Opening.{MayOpen}
+use Rattle.pblk_layout.specs.Live.{units_in}
+use Rattle.line_table.specs.Rows.{is_free}
+use Rattle.write_window.specs.Window as view
+use Rattle.stripe_placer.specs.OpenLines.{OpenLine as PlacedLine, opened}
+use Rattle.stripe_placer.specs.OpenLines.Stripe.{Unplaced}
+use Rattle.core_laws.specs.OpenedLines.{bits_of, live_now, open_line, open_lines}
+use Rattle.core_laws.specs.PlainWorlds.{IsBlankWorld}
+use Rattle.core_laws.proofs.Lists.{all_at}
+use Rattle.core_laws.proofs.Opening.{length_replicated}
+use Rattle.placed_laws.proofs.LeftLines.{lines_of_left, left_opened}
+use Rattle.line_laws.specs.LeastFree.{IsLeastFree}
+use Rattle.line_laws.proofs.NextLine.{least_free}
+use Rattle.line_laws.proofs.OpenedRows.{free_closed}
+use Rattle.line_laws.proofs.Ranges.{row_there}
+use Rattle.placing_laws.proofs.FullLines.{one_is_open}
+use Rattle.placing_laws.proofs.Lengths.{IsStriped, striped}
+use Rattle.placing_laws.proofs.Units.{bits_back}
+use Rattle.media_laws.proofs.Found.{IsWhole, known_whole, whole_prefixes, whole_width, whole_line_units}
+use Rattle.media_laws.proofs.Places.{wide}
+use Rattle.pblk_core.specs.declared.target_core.Core.{Core}
+use Rattle.pblk_core.specs.declared.work.Work.TheVariants.{Open}
+use Rattle.pblk_core.specs.Stands.{Stands, left_openings}
+use Rattle.pblk_core.specs.Named.{choice, named, next_line, next_units, next_start}
+use Rattle.pblk_core.proofs.WorkOf.{open_count, synced_at}
+
+-- ---- what its next work tells
+
+both : (a b : Bool) → (a && b) ≡ true → (a ≡ true) × (b ≡ true)
+both true true e = (refl, refl)
+both true false e = absurd cc
+both false b e = absurd cc
+
+opens : (a b c d e : Bool) → choice a b c d e ≡ Open → (b ≡ true) × (c ≡ true) × (d ≡ true)
+opens true b c d e h = absurd cc
+opens false true true true e h = (refl, refl, refl)
+opens false true true false e h = absurd cc
+opens false true false d e h = absurd cc
+opens false false c d e h = absurd cc
+
+below_is : (a b : ℕ) → nat_lt a b ≡ true → a < b
+below_is a b e = grind arith
+
+zero_is : (n : ℕ) → (n == 0) ≡ true → n ≡ 0
+zero_is n e = eqb-true n 0 e
+
+-- what a core is that names the opening of a line
+pub record MayOpenNext (c : Core) : Type 0 where
+  pub left : c.left ≡ 0
+  pub few : c.open.count < 2
+  pub seq : c.start.seq < 2 ^ 61
+  pub front : (view.synced c.window).position < 2 ^ 61
+  pub line : position is_free c.lines.rows ≡ Some (next_line c)
+
+some_is : (o : Option ℕ) → is_some o ≡ true → o ≡ Some (unwrap_or o 0)
+some_is None e = absurd cc
+some_is (Some n) e = refl
+
+pub open_is_named : (c : Core) → named c ≡ Open → MayOpenNext c
+open_is_named c h =
+    let parts = opens _ _ _ _ _ h in
+    let asks = both _ _ parts.0 in
+    let numbers = both _ _ parts.2 in
+    let fit = both _ _ numbers.1 in
+    record {
+      left = zero_is c.left asks.1;
+      few = below_is c.open.count 2 numbers.0;
+      seq = below_is c.start.seq (2 ^ 61) fit.0;
+      front = below_is (view.synced c.window).position (2 ^ 61) fit.1;
+      line = some_is (position is_free c.lines.rows) parts.1;
+    }
+
+-- ---- the bits of all units
+
+bits_from : (a n : ℕ) → bits_of (range_with_len a n) + 2 ^ a ≡ 2 ^ (a + n)
+bits_from a zero = let same : a + 0 ≡ a = omega arith in zero-add (2 ^ a) ∙ ap (λ k. 2 ^ k) (sym same)
+bits_from a (suc n) =
+    let rest : bits_of (range_with_len (a + 1) n) + 2 ^ (a + 1) ≡ 2 ^ (a + 1 + n) = bits_from (a + 1) n in
+    let next : 2 ^ (a + 1) ≡ 2 ^ suc a = let same : a + 1 ≡ suc a = omega arith in ap (λ k. 2 ^ k) same in
+    let double : 2 ^ suc a ≡ 2 ^ a + 2 ^ a = omega arith in
+    let first : bits_of (range_with_len a (suc n)) ≡ bits_of (a ∷ []) + bits_of (range_with_len (a + 1) n) = sum_by-append (λ unit. 2 ^ unit) (a ∷ []) (range_with_len (a + 1) n) in
+    let one : bits_of (a ∷ []) ≡ 2 ^ a = zero-add (2 ^ a) in
+    let end : 2 ^ (a + 1 + n) ≡ 2 ^ (a + suc n) = let same : a + 1 + n ≡ a + suc n = omega arith in ap (λ k. 2 ^ k) same in
+    omega arith
+
+bits_below : (n : ℕ) → bits_of (range_with_len 0 n) < 2 ^ n
+bits_below n =
+    let all : bits_of (range_with_len 0 n) + 2 ^ 0 ≡ 2 ^ (0 + n) = bits_from 0 n in
+    let end : 2 ^ (0 + n) ≡ 2 ^ n = let same : 0 + n ≡ n = omega arith in ap (λ k. 2 ^ k) same in
+    omega arith
+
+-- ---- lengths of a line of all units
+
+pub has_data : (s : Shape) → IsAccepted s → 0 < data_len s (units s)
+has_data s accepted =
+    let room : (16 + s.ws_opt) * s.ws_opt ≤ 2 * data_len s (units s) = accepted.target.room in
+    let some : 0 < s.ws_opt = accepted.drive.ws_opt in
+    let parts : (16 + s.ws_opt) * s.ws_opt ≡ 16 * s.ws_opt + s.ws_opt * s.ws_opt = add-mul 16 s.ws_opt s.ws_opt in
+    omega arith
+
+some_factor : (n w m : ℕ) → n * w ≡ m → 0 < m → 0 < n
+some_factor zero w m e some = absurd (omega arith)
+some_factor (suc n) w m e some = omega arith
+
+pub has_stripes : (s : Shape) → IsAccepted s → 0 < units s * (s.clba / s.ws_opt)
+has_stripes s accepted =
+    let is : IsStriped s (units s) = striped s (units s) accepted.drive.ws_opt accepted.drive.whole_stripes (has_data s accepted) (wide s accepted) in
+    let rows : 0 < data_len s (units s) / s.ws_opt = some_factor (data_len s (units s) / s.ws_opt) s.ws_opt (data_len s (units s)) is.data_is (has_data s accepted) in
+    let fits = is.fits in omega arith
+
+pub stripes_few : (s : Shape) → IsAccepted s → units s * (s.clba / s.ws_opt) < 2 ^ 32
+stripes_few s accepted =
+    let is : IsStriped s (units s) = striped s (units s) accepted.drive.ws_opt accepted.drive.whole_stripes (has_data s accepted) (wide s accepted) in
+    let short : units s * s.clba ≤ 65536 = line_is_short s (units s) accepted (le_refl (units s)) in
+    let whole : units s * (s.clba / s.ws_opt) * s.ws_opt ≡ units s * s.clba = is.line_is in
+    below_product (units s * (s.clba / s.ws_opt)) s.ws_opt (units s * s.clba) whole accepted.drive.ws_opt short
+  where
+    below_product : (n w m : ℕ) → n * w ≡ m → 0 < w → m ≤ 65536 → n < 2 ^ 32
+    below_product n zero m e some low = absurd (omega arith)
+    below_product n (suc w) m e some low =
+        let parts : n * suc w ≡ n * w + n = mul-suc n w in
+        omega arith
+
+-- ---- the line that is opened next
+
+pub record IsNextLine (i : Image) (w : World) (c : Core) : Type 0 where
+  pub least : IsLeastFree i (log_of w) (next_line c)
+  pub closed : is_opened (life_of (log_of w 0) (next_line c)) ≡ false
+  -- its units are all
+  pub live : slice_get c.live.items (next_line c) ≡ Some (live_now i (log_of w) (next_line c))
+  pub units_are : next_units c ≡ live_now i (log_of w) (next_line c)
+  pub small : next_units c < 2 ^ units i.shape
+  pub wide : length (units_in (next_units c)) ≡ units i.shape
+  pub known : width (known_image i (log_of w)) (next_line c) ≡ units i.shape
+  pub stripes : 0 < length (opened i.shape (next_line c) (live_now i (log_of w) (next_line c))).stripes
+
+pub next_line_is : (i : Image) (w : World) (c : Core) → IsBlankWorld i w → Stands i (log_of w) c → MayOpenNext c → IsNextLine i w c
+next_line_is i w c blank st may = record {
+  least = least;
+  closed = free_closed i (log_of w) line least.is_free;
+  live = there;
+  units_are = is;
+  small = subst (λ m. m < 2 ^ units i.shape) (sym (is ∙ bits)) (bits_below (units i.shape));
+  wide = ap (λ m. length (units_in m)) is ∙ count;
+  known = whole_width i known line whole least.in_range;
+  stripes = subst (λ k. 0 < k) (sym (length_replicated (length (units_in (live_now i (log_of w) line)) * (i.shape.clba / i.shape.ws_opt)) Unplaced))
+      (subst (λ g. 0 < g * (i.shape.clba / i.shape.ws_opt)) (sym count) (has_stripes i.shape blank.plain.accepted));
+}
+  where
+    line : ℕ
+    line = next_line c
+
+    known : Image
+    known = known_image i (log_of w)
+
+    least : IsLeastFree i (log_of w) (next_line c)
+    least = least_free i (log_of w) (next_line c) (ap (λ t. position is_free t.rows) (sym st.table) ∙ may.line)
+
+    whole : IsWhole i (known_image i (log_of w))
+    whole = known_whole i w (log_of w) blank (whole_prefixes w)
+
+    all : line_units (known_image i (log_of w)) (next_line c) ≡ range_with_len 0 (units i.shape)
+    all = whole_line_units i (known_image i (log_of w)) (next_line c) whole least.in_range
+
+    bits : live_now i (log_of w) (next_line c) ≡ bits_of (range_with_len 0 (units i.shape))
+    bits = ap bits_of all
+
+    few : length (known_image i (log_of w)).units ≤ 64
+    few = subst (λ n. n ≤ 64) (sym whole.count) blank.plain.accepted.drive.few_units
+
+    count : length (units_in (live_now i (log_of w) (next_line c))) ≡ units i.shape
+    count = ap (λ (us : List ℕ). length us) (bits_back (known_image i (log_of w)) (next_line c) few ∙ all) ∙ length-range_with_len 0 (units i.shape)
+
+    there : slice_get c.live.items (next_line c) ≡ Some (live_now i (log_of w) (next_line c))
+    there =
+        let first : 0 + next_line c ≡ next_line c = omega arith in
+        ap (λ us. slice_get us (next_line c)) st.units ∙ row_there (live_now i (log_of w)) i.shape.chunks 0 (next_line c) least.in_range ∙ ap (λ m. Some (live_now i (log_of w) m)) first
+
+    is : next_units c ≡ live_now i (log_of w) (next_line c)
+    is = get_or_from_slice_get c.live.items (next_line c) (live_now i (log_of w) (next_line c)) 0 there
+
+-- what is found of it
+pub chosen : (i : Image) (w : World) (c : Core) (line live d : ℕ) → IsBlankWorld i w → Stands i (log_of w) c → MayOpenNext c → position is_free c.lines.rows ≡ Some line → live ≡ slice_index_or c.live.items line d
+    → (next_line c ≡ line) × (live ≡ next_units c)
+chosen i w c line live d blank st may found is =
+    let next : IsNextLine i w c = next_line_is i w c blank st may in
+    let at : next_line c ≡ line = same_Some (next_line c) line (sym may.line ∙ found) in
+    (at, is ∙ ap (λ n. slice_index_or c.live.items n d) (sym at) ∙ get_or_from_slice_get c.live.items (next_line c) (live_now i (log_of w) (next_line c)) d next.live ∙ sym next.units_are)
+
+-- it is none of the open ones
+all_mapped : {X Y : Type 0} (P : Y → Type 0) (f : X → Y) (xs : List X) → AllByRecursion (λ x. P (f x)) xs → AllByRecursion P (map f xs)
+all_mapped P f [] all = tt
+all_mapped P f (x ∷ xs) all = (all.0, all_mapped P f xs all.1)
+
+pub weaker : {X : Type 0} (P Q : X → Type 0) → ((x : X) → P x → Q x) → (xs : List X) → AllByRecursion P xs → AllByRecursion Q xs
+weaker P Q f [] all = tt
+weaker P Q f (x ∷ xs) all = (f x all.0, weaker P Q f xs all.1)
+
+abbrev Holds : Bool → Type 0
+Holds true = Unit {0}
+Holds false = ⊥
+
+pub none_open : (i : Image) (logs : Logs) (line k : ℕ) (d : PlacedLine) → is_opened (life_of (logs 0) line) ≡ false → k < length (open_lines i logs) → (slice_index_or (open_lines i logs) k d).line ≡ line → ⊥
+none_open i logs line k d closed inside same =
+    let all : AllByRecursion (λ (l : PlacedLine). is_opened (life_of (logs 0) l.line) ≡ true) (open_lines i logs) =
+    subst (AllByRecursion (λ (l : PlacedLine). is_opened (life_of (logs 0) l.line) ≡ true)) (sym (lines_of_left i logs))
+    (all_mapped (λ (l : PlacedLine). is_opened (life_of (logs 0) l.line) ≡ true) (open_line i logs) (left_openings i logs)
+    (weaker (λ (o : Opening). life_of (logs 0) o.line ≡ Opened o) (λ o. is_opened (life_of (logs 0) o.line) ≡ true) (λ o h. ap is_opened h) (left_openings i logs) (left_opened i logs))) in
+    let is : is_opened (life_of (logs 0) (slice_index_or (open_lines i logs) k d).line) ≡ true =
+    all_at (λ (l : PlacedLine). is_opened (life_of (logs 0) l.line) ≡ true) (open_lines i logs) k (slice_index_or (open_lines i logs) k d) (slice_get-get_or (open_lines i logs) k d inside) all in
+    let clash : true ≡ false = sym is ∙ ap (λ n. is_opened (life_of (logs 0) n)) same ∙ closed in
+    subst Holds clash tt
+
+-- it may be opened
+pub next_may_open : (i : Image) (w : World) (c : Core) (b : Begun) → IsBlankWorld i w → Stands i (log_of w) c → MayOpenNext c → begun (log_of w 0) ≡ Some b
+    → MayOpen i (log_of w) b (next_line c) (next_start c)
+next_may_open i w c b blank st may has = record {
+  in_range = is.least.in_range;
+  is_free = is.least.is_free;
+  is_first = is.least.is_first;
+  one_other = λ m n inside within. one_is_open i w m n blank.plain few;
+  own_line = refl;
+  own_width = is.wide ∙ sym is.known;
+  own_capacity = st.own_capacity;
+  seq = st.next_seq ∙ ap (λ (x : Begun). x.beginning.seq + _) same;
+  first_seq = st.first_seq ∙ ap (λ (x : Begun). x.beginning.seq) same;
+  front = synced_at i w c blank st;
+  rows = st.older;
+  seq_number = may.seq;
+  front_number = may.front;
+}
+  where
+    is : IsNextLine i w c
+    is = next_line_is i w c blank st may
+
+    same : st.beginning ≡ b
+    same = same_Some st.beginning b (sym st.has_begun ∙ has)
+
+    few : length (open_lines i (log_of w)) ≤ 1
+    few = let count : c.open.count ≡ length (open_lines i (log_of w)) = open_count i w c st in let two : c.open.count < 2 = may.few in omega arith

@@ -1,0 +1,227 @@
+-- The program that the placer of a standing core offers, and the stripe for it.
+use Rattle.std.proofs.Common.{◌≡◌, ◌⊎◌, inl, inr, ℕ, ◌+◌, ◌-◌, ◌*◌, ◌/◌, ◌<◌, ◌≤◌, ◌&&◌, zero, suc, Bool, true, false, Some, List, [], ◌∷◌, ◌||◌, cond, length, take, refl, sym, subst, ap, ◌∙◌, arith}
+use Rattle.std.specs.Prelude.{nat_le, slice_get}
+use Rattle.std.specs.List.{find, list_all, list_any}
+use Rattle.std.proofs.Math.Nat.{mul-le-mul_right}
+use Rattle.std.proofs.lemmas.Option.{slice_get_within}
+use Rattle.pblk_model.specs.declared.shape.Shape.{Shape}
+use Rattle.pblk_model.specs.Shape.{units}
+use Rattle.pblk_model.specs.LineOrder.{start_len}
+use Rattle.pblk_model.specs.Image.{Image, line_units}
+use Rattle.pblk_world.specs.Lines.{known_image}
+use Rattle.pblk_world.specs.Events.{Stripe, Logged}
+use Rattle.pblk_world.specs.World.{World, Logs, log_of}
+use Rattle.pblk_world.specs.EngineLog.{Opening, Opened, life_of, stripes_of, has_failed, has_landed}
+use Rattle.pblk_world.specs.Placing.{next_address, end_address, line_end, IsStart, IsData, IsEnd, IsPad, MayPlace}
+use Rattle.stripe_placer.specs.declared.placement.StripeKind.{StripeKind}
+use Rattle.stripe_placer.specs.declared.placement.StripeKind.TheVariants as kinds
+use Rattle.pblk_world.specs.Starts.{has_landed_start}
+use Rattle.stripe_placer.specs.Entries.{Entries}
+use Rattle.stripe_placer.specs.OpenLines.{OpenLine, numbers, is_to_place, is_unanswered, has_left}
+use Rattle.stripe_placer.proofs.Among.{IsAmong, in_filter}
+use Rattle.stripe_placer.proofs.Named.{IsProgramIn, its_program}
+use Rattle.media_laws.proofs.Found.{within_some}
+use Rattle.placed_laws.proofs.LeftLines.{left_apart}
+use Rattle.stripe_placer.specs.Placing.{Program, next_in, next_stripe}
+use Rattle.core_laws.specs.OpenedLines.{open_line, standing}
+use Rattle.core_laws.specs.PlacerOf.{entries_of, placing_of, IsStripeOf}
+use Rattle.core_laws.specs.PlainWorlds.{IsBlankWorld}
+use Rattle.placing_laws.specs.StripeFor.{IsStripeFor, IsProgramFor, positions_for}
+use Rattle.placing_laws.proofs.Opened.{life_stands}
+use Rattle.placing_laws.proofs.Followed.{IsFollowed, follow}
+use Rattle.placing_laws.proofs.Lengths.{ends_before, begins_after}
+use Rattle.placing_laws.proofs.Answers.{not_failed}
+use Rattle.placing_laws.proofs.InOrder.{stripe_count}
+use Rattle.placing_laws.proofs.Forms.{formed}
+use Rattle.placing_laws.proofs.NextStripes.{unfailed}
+use Rattle.placing_laws.proofs.Offered.{IsOffered, what_is_offered}
+use Rattle.placing_laws.proofs.Placeable.{HasParts, parts_of, kind_in, kind_by, IsPart, part_of, next_may_be_placed, next_is_its, offered_is_for}
+use Rattle.pblk_core.specs.Stands.{Stands, left_openings, IsOpenLine}
+use Rattle.pblk_core.specs.Slots.{IsSlot}
+use Rattle.pblk_core.specs.declared.target_core.Core.{Core}
+use Rattle.pblk_core.specs.declared.open_lines.OpenLine.{OpenLine as KeptLine}
+use Rattle.pblk_core.specs.declared.open_lines.OpenLines.{OpenLines}
+
+-- where a stripe of a kind begins in its line
+abbrev pub IsInPart : Shape → Opening → ℕ → StripeKind → Type 0
+IsInPart s o at kinds.Start = at + s.ws_opt ≤ start_len s
+IsInPart s o at kinds.Data = (start_len s ≤ at) × (at + s.ws_opt ≤ end_address s o)
+IsInPart s o at kinds.Pad = ⊥
+IsInPart s o at kinds.End = end_address s o ≤ at
+
+-- a program that is offered, of the line of an opening
+pub record IsOfferedNow (i : Image) (w : World) (pad : ℕ) (o : Opening) (of : Program) : Type 0 where
+  pub opened : life_of (log_of w 0) of.line ≡ Opened o
+  pub own : of.line ≡ o.line
+  pub next : next_in i.shape (entries_of i.shape (log_of w 0) pad) (open_line i (log_of w) o) ≡ Some of
+  pub line : of.line < i.shape.chunks
+  pub unit : of.unit < units i.shape
+  pub at : of.at ≡ next_address i.shape (log_of w 0) o
+  pub whole : of.at + i.shape.ws_opt ≤ line_end i.shape o
+  pub part : IsInPart i.shape o of.at of.kind
+  pub positions : of.positions ≡ positions_for i.shape (log_of w 0) of.kind
+  pub count : of.count ≡ length of.positions
+  pub start_is : start_len i.shape / i.shape.ws_opt * i.shape.ws_opt ≡ start_len i.shape
+  pub stands : IsAmong (standing (log_of w 0)) o
+  pub has : has_left (open_line i (log_of w) o) ≡ true
+  pub may : (stripe : Stripe) → IsStripeFor i (log_of w) o of stripe → MayPlace i (log_of w) stripe
+  pub its : (stripe : Stripe) → IsStripeFor i (log_of w) o of stripe → IsStripeOf i (log_of w) pad o stripe of
+
+in_part : (s : Shape) (o : Opening) (k c d : ℕ) (kind : StripeKind) → c * s.ws_opt ≡ start_len s → (c + d) * s.ws_opt ≡ end_address s o → IsPart k c d kind → IsInPart s o (k * s.ws_opt) kind
+unfolding IsPart
+in_part s o k c d kinds.Start a b part = ends_before s.ws_opt k c (start_len s) a part
+in_part s o k c d kinds.Data a b part = (begins_after s.ws_opt k c (start_len s) a part.0, ends_before s.ws_opt k (c + d) (end_address s o) b part.1)
+in_part s o k c d kinds.Pad a b part = part
+in_part s o k c d kinds.End a b part = begins_after s.ws_opt k (c + d) (end_address s o) b part
+
+opened_same : (p o : Opening) → Opened p ≡ Opened o → p ≡ o
+opened_same p o e = cc
+
+found_some : {X : Type 0} (test : X → Bool) (xs : List X) (x : X) → find test xs ≡ Some x → list_any test xs ≡ true
+found_some test [] x e = absurd cc
+found_some {X} test (y ∷ ys) x e = go (test y) e (found_some test ys x)
+  where
+    go : (b : Bool) → cond b (Some y) (find test ys) ≡ Some x → (find test ys ≡ Some x → list_any test ys ≡ true) → (b || list_any test ys) ≡ true
+    go true f rest = refl
+    go false f rest = rest f
+
+-- a line with a next stripe has one left
+has_one : {s : Shape} {e : Entries} {of : Program} (l : OpenLine) → (j : ℕ) × IsProgramIn s e l of j → has_left l ≡ true
+has_one l its = ap (λ b. b || list_any is_unanswered l.stripes) (found_some (is_to_place l) (numbers l) its.0 its.1.next)
+
+pub offered_now : (i : Image) (w : World) (pad busy : ℕ) (of : Program) → IsBlankWorld i w → next_stripe (placing_of i (log_of w) pad []) busy ≡ Some of → (o : Opening) × IsOfferedNow i w pad o of
+offered_now i w pad busy of blank next =
+    let us : ℕ → List ℕ = line_units (known_image i (log_of w)) in
+    let is : IsFollowed i (line_units (known_image i (log_of w))) w = follow i w blank.plain in
+    let its = what_is_offered i us w pad busy of is next in
+    let o : Opening = its.0 in
+    let off : IsOffered i us w pad of o = its.1 in
+    let log : List Logged = log_of w 0 in
+    let l : OpenLine = open_line i (log_of w) o in
+    let k : ℕ = length (stripes_of log o) in
+    let c : ℕ = start_len i.shape / i.shape.ws_opt in
+    let parts : HasParts i us w o = parts_of i us w o off.line_is in
+    let kind : kind_in k c l.data_count ≡ of.kind = sym (kind_by l k (unfailed l log (stripes_of log o) (stripe_count i us o.line - k) is.plain.engine (formed i us w o off.line_is))) ∙ off.kind in
+    let life : life_of log of.line ≡ Opened o = ap (life_of log) off.its_line ∙ off.life in
+    let for = offered_is_for i us w pad busy of is next in
+    let same : for.0 ≡ o = opened_same for.0 o (sym for.1.opened ∙ life) in
+    let made = (its_program i.shape (entries_of i.shape log pad) l of off.next).1.is in
+    let program : IsProgramFor i (log_of w) o of = subst (λ p. IsProgramFor i (log_of w) p of) same for.1 in (
+      o,
+      record {
+        opened = life;
+        own = off.its_line;
+        next = off.next;
+        line = program.line;
+        unit = program.unit;
+        at = off.at;
+        whole = program.at;
+        part = subst (λ a. IsInPart i.shape o a of.kind) (sym off.at) (in_part i.shape o k c l.data_count of.kind parts.start_is parts.ends_is (subst (IsPart k c l.data_count) kind (part_of k c l.data_count)));
+        positions = program.positions;
+        may = λ stripe its. next_may_be_placed i us w pad busy of o stripe is next its;
+        its = λ stripe its. next_is_its i us w pad busy of o stripe is next its;
+        count = sym (ap (λ (x : Program). x.count) made) ∙ ap (λ (x : Program). length x.positions) made;
+        start_is = parts.start_is;
+        stands = life_stands i us w is o.line o off.life;
+        has = has_one (open_line i (log_of w) o) (its_program i.shape (entries_of i.shape log pad) l of off.next);
+      },
+    )
+
+-- ---- the stripe is of its kind
+
+abbrev pub IsOfKind : Image → Logs → Opening → Stripe → StripeKind → Type 0
+IsOfKind i logs o stripe kinds.Start = IsStart i logs o stripe
+IsOfKind i logs o stripe kinds.Data = IsData i logs o stripe
+IsOfKind i logs o stripe kinds.Pad = ⊥
+IsOfKind i logs o stripe kinds.End = IsEnd i logs o stripe
+
+started : (k c : ℕ) (b : Bool) → (nat_le c k && b) ≡ true → c ≤ k
+started k c b e = go (nat_le c k) refl e
+  where
+    go : (a : Bool) → nat_le c k ≡ a → (a && b) ≡ true → c ≤ k
+    go true f g = grind arith
+    go false f g = absurd cc
+
+-- a stripe of data stands behind the start record
+data_after : (s : Shape) (log : List Logged) (o : Opening) → start_len s / s.ws_opt * s.ws_opt ≡ start_len s → has_landed_start s log o ≡ true → start_len s ≤ next_address s log o
+data_after s log o whole landed =
+    let within : start_len s / s.ws_opt ≤ length (stripes_of log o) = started (length (stripes_of log o)) (start_len s / s.ws_opt) (list_all (has_landed log) (take (start_len s / s.ws_opt) (stripes_of log o))) landed in
+    let product : start_len s / s.ws_opt * s.ws_opt ≤ length (stripes_of log o) * s.ws_opt = mul-le-mul_right s.ws_opt within in
+    omega arith
+
+abbrev Kinds : Image → Logs → Opening → Stripe → Type 0
+Kinds i logs o stripe = IsStart i logs o stripe ⊎ (IsData i logs o stripe ⊎ (IsEnd i logs o stripe ⊎ IsPad i logs o stripe))
+
+one_kind : (i : Image) (logs : Logs) (o : Opening) (stripe : Stripe) (kind : StripeKind) → 0 < i.shape.ws_opt → start_len i.shape / i.shape.ws_opt * i.shape.ws_opt ≡ start_len i.shape → has_failed (logs 0) o ≡ false
+    → IsInPart i.shape o (next_address i.shape (logs 0) o) kind → Kinds i logs o stripe → IsOfKind i logs o stripe kind
+one_kind i logs o stripe kinds.Start some whole fine part (inl is) = is
+one_kind i logs o stripe kinds.Start some whole fine part (inr (inl is)) = let after = data_after i.shape (logs 0) o whole is.start_landed in absurd (omega arith)
+one_kind i logs o stripe kinds.Start some whole fine part (inr (inr (inl is))) = let from = is.from in absurd (omega arith)
+one_kind i logs o stripe kinds.Start some whole fine part (inr (inr (inr is))) = let failed : has_failed (logs 0) o ≡ true = is.failed in absurd cc
+one_kind i logs o stripe kinds.Data some whole fine part (inl is) = let a = part.0 in let b = is.within in absurd (omega arith)
+one_kind i logs o stripe kinds.Data some whole fine part (inr (inl is)) = is
+one_kind i logs o stripe kinds.Data some whole fine part (inr (inr (inl is))) = let a = part.1 in let b = is.from in absurd (omega arith)
+one_kind i logs o stripe kinds.Data some whole fine part (inr (inr (inr is))) = let failed : has_failed (logs 0) o ≡ true = is.failed in absurd cc
+one_kind i logs o stripe kinds.Pad some whole fine part is = absurd part
+one_kind i logs o stripe kinds.End some whole fine part (inl is) = let a : next_address i.shape (logs 0) o < start_len i.shape = is.within in absurd (omega arith)
+one_kind i logs o stripe kinds.End some whole fine part (inr (inl is)) = let b : next_address i.shape (logs 0) o < end_address i.shape o = is.within in absurd (omega arith)
+one_kind i logs o stripe kinds.End some whole fine part (inr (inr (inl is))) = is
+one_kind i logs o stripe kinds.End some whole fine part (inr (inr (inr is))) = let failed : has_failed (logs 0) o ≡ true = is.failed in absurd cc
+
+pub of_kind : (i : Image) (w : World) (pad : ℕ) (o : Opening) (of : Program) (stripe : Stripe) → IsBlankWorld i w → IsOfferedNow i w pad o of → IsStripeFor i (log_of w) o of stripe → IsOfKind i (log_of w) o stripe of.kind
+of_kind i w pad o of stripe blank now for =
+    let may : MayPlace i (log_of w) stripe = now.may stripe for in
+    let same : may.opening ≡ o = opened_same may.opening o (sym may.is_open ∙ ap (life_of (log_of w 0)) for.line ∙ now.opened) in
+    one_kind i (log_of w) o stripe of.kind blank.plain.accepted.drive.ws_opt now.start_is (not_failed (log_of w 0) o blank.plain.engine)
+    (subst (λ a. IsInPart i.shape o a of.kind) now.at now.part) (subst (λ p. Kinds i (log_of w) p stripe) same may.kind)
+
+-- ---- the open line
+
+pub record HasSlot (i : Image) (logs : Logs) (kept : OpenLines) (o : Opening) : Type 0 where
+  pub k : ℕ
+  pub slot : KeptLine
+  pub inside : k < 2
+  pub there : IsSlot kept k slot
+  pub opening : slice_get (left_openings i logs) k ≡ Some o
+  pub is : IsOpenLine i logs o slot
+
+pub has_slot : (i : Image) (w : World) (c : Core) (pad : ℕ) (o : Opening) (of : Program) → IsOfferedNow i w pad o of → Stands i (log_of w) c → HasSlot i (log_of w) c.open o
+has_slot i w c pad o of now st =
+    let among : IsAmong (left_openings i (log_of w)) o = in_filter (λ (p : Opening). has_left (open_line i (log_of w) p)) (standing (log_of w 0)) o now.stands now.has in
+    let within : among.0 < length (left_openings i (log_of w)) = slice_get_within (left_openings i (log_of w)) among.0 o among.1 in
+    let count : c.open.count ≡ length (left_openings i (log_of w)) = st.open_lines.count in
+    let few : c.open.count ≤ 2 = st.open_lines.few in
+    let two : length c.open.slots.items ≡ 2 = st.open_lines.two in
+    let slot = within_some c.open.slots.items among.0 (omega arith) in
+    record {
+      k = among.0;
+      slot = slot.0;
+      inside = omega arith;
+      there = slot.1;
+      opening = among.1;
+      is = st.open_lines.each among.0 o slot.0 among.1 slot.1;
+    }
+
+-- the place that is found is that of the line
+pub found_slot : (i : Image) (w : World) (c : Core) (pad : ℕ) (o : Opening) (of : Program) (result : ℕ) → IsOfferedNow i w pad o of → Stands i (log_of w) c → (has : HasSlot i (log_of w) c.open o)
+    → result < 2 → ((slot : KeptLine) → IsSlot c.open result slot → slot.records.line ≡ of.line)
+    → ((slot : KeptLine) → IsSlot c.open 0 slot → slot.records.line ≡ of.line → result ≡ 0) → result ≡ has.k
+found_slot i w c pad o of result now st has inside line first = go has.k refl
+  where
+    two : length c.open.slots.items ≡ 2
+    two = st.open_lines.two
+
+    go : (k : ℕ) → has.k ≡ k → result ≡ k
+    go zero e = first has.slot (ap (λ n. slice_get c.open.slots.items n) (sym e) ∙ has.there) (has.is.records.line ∙ sym now.own)
+    go (suc k) e = by result refl
+      where
+        by : (r : ℕ) → result ≡ r → r ≡ suc k
+        by zero f =
+            let within : has.k < length (left_openings i (log_of w)) = slice_get_within (left_openings i (log_of w)) has.k o has.opening in
+            let other = within_some (left_openings i (log_of w)) 0 (omega arith) in
+            let slot = within_some c.open.slots.items 0 (omega arith) in
+            let is : IsOpenLine i (log_of w) other.0 slot.0 = st.open_lines.each 0 other.0 slot.0 other.1 slot.1 in
+            let same : other.0.line ≡ o.line = sym is.records.line ∙ line slot.0 (ap (λ n. slice_get c.open.slots.items n) f ∙ slot.1) ∙ now.own in
+            let at : 0 ≡ has.k = left_apart i (log_of w) 0 has.k other.0 o other.1 has.opening same in
+            absurd (omega arith)
+        by (suc r) f = let kept = has.inside in omega arith

@@ -1,0 +1,239 @@
+-- A core whose program has landed stands for the log with that.
+use Rattle.std.proofs.Common.{◌≡◌, ℕ, ◌+◌, ◌-◌, ◌*◌, ◌/◌, ◌<◌, ◌≤◌, ◌==◌, ◌||◌, if◌then◌else◌, Bool, true, false, Some, Option, List, [], ◌∷◌, length, refl, sym, subst, ap, ap₂, ◌∙◌, arith, le_trans}
+use Rattle.std.specs.List.{Contains}
+use Rattle.std.specs.Option.{option_map}
+use Rattle.std.specs.FinMap as fin
+use Rattle.std.proofs.Math.Nat.{mul-div_cancel}
+use Rattle.pblk_model.specs.Image.{Image}
+use Rattle.pblk_meta.specs.Records.{start_numbers}
+use Rattle.pblk_world.specs.Answering.{MayLand}
+use Rattle.pblk_world.specs.Events.{Landed, Decides, Logged}
+use Rattle.pblk_world.specs.World.{World, Logs, log_of}
+use Rattle.pblk_world.specs.EngineLog.{Taken, is_life, Placed}
+use Rattle.pblk_world.specs.Fronts.{first_position}
+use Rattle.pblk_world.specs.Placing.{line_end}
+use Rattle.pblk_world.specs.Space.{freed}
+use Rattle.pblk_world.specs.Starts.{have_landed}
+use Rattle.write_window.specs.Window.{WindowView, has_landed_at, turned}
+use Rattle.write_window.specs.declared.held.Progress.TheVariants as progress
+use Rattle.stripe_placer.specs.Placing.{Program, landed}
+use Rattle.core_laws.specs.Stepping.{after}
+use Rattle.core_laws.specs.OpenedLines.{live_now}
+use Rattle.core_laws.specs.PlacerOf.{IsAwaited, placing_of}
+use Rattle.core_laws.specs.PlainWorlds.{IsBlankWorld}
+use Rattle.core_laws.specs.RowsOf.{rows_of}
+use Rattle.core_laws.specs.SlotOf.{slot_of}
+use Rattle.core_laws.specs.WindowOf.{is_given_back, sectors_in, window_from}
+use Rattle.core_laws.proofs.Landing.{placing_landed}
+use Rattle.core_laws.proofs.Rows.{same_number, other_number}
+use Rattle.landing_laws.specs.ChunkBlocks.{can_be_read}
+use Rattle.landing_laws.proofs.LandedWindow.{given_back_landed}
+use Rattle.landing_laws.proofs.Slots.{first_kept}
+use Rattle.line_laws.specs.Changes.{with_row, full_if}
+use Rattle.line_laws.specs.InOrder.{HasRoom}
+use Rattle.line_laws.specs.LandedStripes.{landed_count}
+use Rattle.line_laws.proofs.KeptRows.{begun_kept}
+use Rattle.line_laws.proofs.LandedCounts.{landed_whole, one_landed}
+use Rattle.line_laws.proofs.LandedRows.{rows_landed}
+use Rattle.line_laws.proofs.LineRoom.{has_room}
+use Rattle.line_laws.proofs.OpenAddresses.{addresses_kept}
+use Rattle.line_laws.proofs.Orders.{in_order}
+use Rattle.line_laws.proofs.PlacedFront.{front_kept}
+use Rattle.placed_laws.proofs.EntryHolds.{later_same, line_same}
+use Rattle.placing_laws.proofs.InOrder.{stripe_count}
+use Rattle.pblk_core.specs.Landing.{all_landed, one_landed as entry_landed}
+use Rattle.pblk_core.specs.Readable.{ReadBlock, all_moved, all_readable, reads_of}
+use Rattle.pblk_core.specs.Stands.{Stands, AreHolds, AreOpenLines, under_way, unlanded}
+use Rattle.pblk_core.specs.declared.target_core.Core.{Core}
+use Rattle.pblk_core.specs.declared.hold.Hold.{Hold}
+use Rattle.pblk_core.specs.declared.hold.Holds.{Holds}
+use Rattle.pblk_core.specs.declared.open_lines.OpenLine.{OpenLine}
+use Rattle.pblk_core.specs.declared.open_lines.OpenLines.{OpenLines}
+use Rattle.pblk_core.proofs.LandedLines.{HasSlot, fewer_landed}
+use Rattle.pblk_core.proofs.LandedLogs.{takes_landed, openings_landed, users_landed, stripes_landed, live_landed, rows_of_chunks, freed_landed, chunk_landed, one_less_under_way}
+use Rattle.pblk_core.proofs.LandedOpen.{IsLandedIn, IsRemoved, lines_stay, line_leaves}
+use Rattle.pblk_core.proofs.LandedWay.{IsOnWay, line_of_way, unit_is}
+use Rattle.pblk_core.proofs.StandsFacts.{older_none}
+use Rattle.pblk_core.proofs.BlankLines.{now_units, same_in_range}
+
+-- ---- the window keeps its front and its size
+
+landed_keeps : (w : WindowView) (qs : List ℕ) → ((all_landed w qs).freed ≡ w.freed) × ((all_landed w qs).size ≡ w.size)
+landed_keeps w [] = (refl, refl)
+landed_keeps w (q ∷ qs) =
+    let rest = landed_keeps (entry_landed w q) qs in
+    let one = go (has_landed_at w q) in
+    (rest.0 ∙ one.0, rest.1 ∙ one.1)
+  where
+    go : (b : Bool) → ((if b then w else turned w q progress.Landed).freed ≡ w.freed) × ((if b then w else turned w q progress.Landed).size ≡ w.size)
+    go true = (refl, refl)
+    go false = (refl, refl)
+
+reads_keep : (w : WindowView) (bs : List ReadBlock) → ((all_readable w bs).freed ≡ w.freed) × ((all_readable w bs).size ≡ w.size)
+reads_keep w [] = (refl, refl)
+reads_keep w (b ∷ bs) = reads_keep (turned w b.mark.position progress.Readable) bs
+
+-- ---- how many stripes the line has
+
+total_is : (i : Image) (w : World) (unit : ℕ) (of : Program) → (is : IsOnWay i w unit of) → is.row.opening.start.width * (i.shape.clba / i.shape.ws_opt) ≡ stripe_count i (now_units i w) is.row.opening.line
+total_is i w unit of is = ap (λ g. g * (i.shape.clba / i.shape.ws_opt)) is.line_is.well.width
+
+end_is : (i : Image) (w : World) (unit : ℕ) (of : Program) → (is : IsOnWay i w unit of) → line_end i.shape is.row.opening / i.shape.ws_opt ≡ stripe_count i (now_units i w) is.row.opening.line
+end_is i w unit of is =
+    ap (λ g. g * i.shape.clba / i.shape.ws_opt) is.line_is.well.width
+    ∙ ap (λ n. n / i.shape.ws_opt) (sym is.line_is.striped.line_is)
+    ∙ mul-div_cancel (stripe_count i (now_units i w) is.row.opening.line) is.line_is.striped.some
+
+-- ---- the table
+
+pub whole_now : (i : Image) (w : World) (unit event : ℕ) (knows : List ℕ) (of : Program) → IsBlankWorld i w → (is : IsOnWay i w unit of)
+    → have_landed (after (log_of w) (Landed unit event) knows 0) is.row.opening (line_end i.shape is.row.opening / i.shape.ws_opt) ≡ (landed_count (log_of w 0) is.row.opening + 1 == stripe_count i (now_units i w) is.row.opening.line)
+whole_now i w unit event knows of blank is =
+    let room : HasRoom i.shape (log_of w 0) is.row.opening = has_room i w is.row.stripe.stripe.line is.row.opening blank.plain is.stands in
+    landed_whole i.shape (after (log_of w) (Landed unit event) knows 0) is.row.opening is.line_is.striped.some
+    (record { some = room.some; within = subst (λ (ps : List Placed). length ps * i.shape.ws_opt ≤ line_end i.shape is.row.opening) (sym (stripes_landed (log_of w) unit event knows is.row.opening)) room.within })
+    ∙ ap₂ (λ m n. m == n) (one_landed (log_of w 0) unit event knows is.row.stripe is.row.opening is.row.waits (ap (is_life is.row.opening.number) is.row.life ∙ same_number is.row.opening.number)) (end_is i w unit of is)
+
+pub table_now : (i : Image) (w : World) (unit event : ℕ) (knows : List ℕ) (of : Program) (full : Bool) → IsBlankWorld i w → (is : IsOnWay i w unit of) → MayLand (log_of w) unit event
+    → (landed_count (log_of w 0) is.row.opening + 1 == stripe_count i (now_units i w) is.row.opening.line) ≡ full → rows_of i (after (log_of w) (Landed unit event) knows) ≡ with_row of.line (full_if full) (rows_of i (log_of w))
+table_now i w unit event knows of full blank is may e =
+    let order = in_order i w blank.plain in
+    rows_landed i (log_of w) unit event knows is.row.stripe is.row.opening order.freed order.failed is.row.waits is.row.life is.stands (chunk_landed i w unit event is.row.stripe blank may is.row.waits)
+    ∙ ap₂ (λ ln b. with_row ln (full_if b) (rows_of i (log_of w))) (sym is.its_line ∙ line_of_way i w unit of is) (whole_now i w unit event knows of blank is ∙ e)
+
+-- ---- the rows beside the entries
+
+given_before : (a b : Bool) → (a || b) ≡ false → a ≡ false
+given_before true b e = e
+given_before false b e = refl
+
+abbrev told_hold : Taken → Option ℕ → Option Taken → Option Hold
+told_hold t ln u = Some (record { mark = t.mark; line = ln; taker = option_map (λ (v : Taken). v.entry.position) u })
+
+holds_now : (i : Image) (w : World) (unit event : ℕ) (knows : List ℕ) (of : Program) (kept : Holds) → IsBlankWorld i w → (is : IsOnWay i w unit of) → AreHolds i.shape (log_of w 0) kept → AreHolds i.shape (after (log_of w) (Landed unit event) knows 0) kept
+holds_now i w unit event knows of kept blank is are = record {
+  room = are.room;
+  each = λ t there given.
+      let l : Logged = record { event = Decides (Landed unit event); knows = knows } in
+      let before : is_given_back i.shape (log_of w 0) t.entry.position ≡ false =
+      given_before (is_given_back i.shape (log_of w 0) t.entry.position) (can_be_read i.shape (after (log_of w) (Landed unit event) knows 0) is.row.opening unit t.entry.position)
+      (sym (given_back_landed i w unit event knows is.row.stripe is.row.opening t.entry.position blank.plain is.row.waits is.row.life (rows_of_chunks i w is.row.opening unit blank)) ∙ given) in
+      are.each t (subst (λ (ts : List Taken). Contains ts t) (takes_landed (log_of w) unit event knows) there) before
+      ∙ ap₂ (λ ln (u : Option Taken). told_hold t ln u)
+      (sym (line_same i.shape (log_of w 0) l t.entry.position refl)) (sym (later_same (log_of w 0) l t refl));
+}
+
+-- ---- the core
+
+-- what a core's fields are once a program has landed: of its line's slot, and of the blocks that can be read from one to before another
+pub record IsLandedInto (old new : Core) (of : Program) (k : ℕ) (slot : OpenLine) (mid : OpenLines) (full : Bool) (from to : ℕ) : Type 0 where
+  pub layout : new.layout ≡ old.layout
+  pub map : new.map ≡ all_moved old.layout.capacity slot.records.line old.map (reads_of slot of.unit from to)
+  pub capacity : fin.len new.map ≡ fin.len old.map
+  pub lines : new.lines ≡ with_row of.line (full_if full) old.lines
+  pub window : new.window ≡ all_readable (all_landed old.window of.positions) (reads_of slot of.unit from to)
+  pub placer : new.placer ≡ landed old.placer of
+  pub holds : new.holds ≡ old.holds
+  pub in_slot : IsLandedIn old.open mid k slot
+  pub stay : full ≡ false → new.open ≡ mid
+  pub gone : full ≡ true → IsRemoved mid new.open k
+  pub left : slot.stripes_left - 1 ≡ 0 → full ≡ true
+  pub none_left : full ≡ true → slot.stripes_left - 1 ≡ 0
+  pub live : new.live ≡ old.live
+  pub start : new.start ≡ old.start
+  pub first : new.first ≡ old.first
+  pub placed : new.placed ≡ old.placed
+  pub addresses : new.left ≡ old.left
+  pub under_way : new.under_way ≡ old.under_way - 1
+  pub users : new.users ≡ old.users
+
+-- what the two calls make of the window and the map
+pub record AreReadNow (i : Image) (w : World) (unit event : ℕ) (knows : List ℕ) (old new : Core) : Type 0 where
+  pub window : sectors_in new.window ≡ window_from i.shape (after (log_of w) (Landed unit event) knows 0) new.window.freed
+  pub slots : (lba : ℕ) → lba < i.shape.capacity → fin.get new.map lba ≡ Some (slot_of i (after (log_of w) (Landed unit event) knows) lba)
+
+full_by : (i : Image) (w : World) (unit : ℕ) (of : Program) (left : ℕ) (full : Bool) → (is : IsOnWay i w unit of) → left ≡ unlanded i.shape (log_of w 0) is.row.opening → (left - 1 ≡ 0 → full ≡ true) → (full ≡ true → left - 1 ≡ 0)
+    → (landed_count (log_of w 0) is.row.opening + 1 == stripe_count i (now_units i w) is.row.opening.line) ≡ full
+full_by i w unit of left true is e last none =
+    let total = total_is i w unit of is in
+    let few : landed_count (log_of w 0) is.row.opening + 1 ≤ stripe_count i (now_units i w) is.row.opening.line = fewer_landed i w unit of is in
+    let zero_left : left - 1 ≡ 0 = none refl in
+    let same : landed_count (log_of w 0) is.row.opening + 1 ≡ stripe_count i (now_units i w) is.row.opening.line = omega arith in
+    ap (λ n. n == stripe_count i (now_units i w) is.row.opening.line) same ∙ same_number (stripe_count i (now_units i w) is.row.opening.line)
+full_by i w unit of left false is e last none =
+    let total = total_is i w unit of is in
+    other_number (landed_count (log_of w 0) is.row.opening + 1) (stripe_count i (now_units i w) is.row.opening.line)
+    (λ same. no_both (last (let n : left - 1 ≡ 0 = omega arith in n)))
+  where
+    no_both : false ≡ true → ⊥
+    no_both f = cc
+
+number_less : (m n : ℕ) → m ≤ n → (m == n) ≡ false → m < n
+number_less m n h e = grind arith
+
+number_same : (m n : ℕ) → (m == n) ≡ true → m ≡ n
+number_same m n e = grind arith
+
+pub landed_stands : (i : Image) (w : World) (unit event : ℕ) (knows : List ℕ) (old new : Core) (of : Program) (mid : OpenLines) (full : Bool) (from to : ℕ) → IsBlankWorld i w → (st : Stands i (log_of w) old)
+    → (is : IsOnWay i w unit of) → IsAwaited i (log_of w) old.placer.entries.pad [] of → MayLand (log_of w) unit event → (has : HasSlot i (log_of w) old.open is.row.opening)
+    → IsLandedInto old new of has.k has.slot mid full from to → AreReadNow i w unit event knows old new → Stands i (after (log_of w) (Landed unit event) knows) new
+landed_stands i w unit event knows old new of mid full from to blank st is waits may has into reads = record {
+  layout = into.layout ∙ st.layout;
+  beginning = st.beginning;
+  has_begun = begun_kept (log_of w 0) (Landed unit event) knows refl ∙ st.has_begun;
+  capacity = into.capacity ∙ st.capacity;
+  slots = reads.slots;
+  table = into.lines ∙ ap (with_row of.line (full_if full)) st.table ∙ sym (table_now i w unit event knows of full blank is may full_is);
+  units = ap (λ l. l.items) into.live ∙ st.units ∙ same_in_range (live_now i (log_of w)) (live_now i new_logs) 0 i.shape.chunks (λ line inside. sym (live_landed i w unit event knows line blank (omega arith)));
+  size = ap (λ v. v.size) into.window ∙ (reads_keep (all_landed old.window of.positions) (reads_of has.slot of.unit from to)).1 ∙ (landed_keeps old.window of.positions).1 ∙ st.size;
+  window = reads.window;
+  from_first = subst (λ n. first_position (new_logs 0) ≤ n) (sym same_freed) (subst (λ p. p ≤ old.window.freed) (sym first_is) st.from_first);
+  to_freed = subst (λ n. n ≤ freed i.shape (new_logs 0)) (sym same_freed) (le_trans st.to_freed (freed_landed i w st.beginning unit event knows blank may));
+  holds = subst (AreHolds i.shape (new_logs 0)) (sym into.holds) (holds_now i w unit event knows of old.holds blank is st.holds);
+  placing = placing_is;
+  open_lines = open_is full refl;
+  next_seq = ap (λ r. r.seq) into.start ∙ st.next_seq ∙ ap (λ os. st.beginning.beginning.seq + length os) (sym (openings_landed (log_of w) unit event knows));
+  first_seq = ap (λ r. r.first_seq) into.start ∙ st.first_seq;
+  own_capacity = ap (λ r. r.capacity) into.start ∙ st.own_capacity;
+  older = ap (λ r. (start_numbers r).rows) into.start ∙ st.older ∙ older_none i w (Landed unit event) knows blank refl;
+  first = into.first ∙ st.first ∙ sym first_is;
+  placed = ap₂ (λ a b. a + b) into.first into.placed ∙ st.placed ∙ sym (front_kept i.shape (log_of w 0) (Landed unit event) knows refl);
+  left = into.addresses ∙ st.left ∙ sym (addresses_kept i (log_of w) (Landed unit event) knows refl);
+  in_flight = flight;
+  users = into.users ∙ st.users ∙ ap length (sym (users_landed (log_of w) unit event knows));
+}
+  where
+    new_logs : Logs
+    new_logs = after (log_of w) (Landed unit event) knows
+
+    first_is : first_position (new_logs 0) ≡ first_position (log_of w 0)
+    first_is = first_kept (log_of w 0) (Landed unit event) knows refl
+
+    same_freed : new.window.freed ≡ old.window.freed
+    same_freed = ap (λ v. v.freed) into.window ∙ (reads_keep (all_landed old.window of.positions) (reads_of has.slot of.unit from to)).0 ∙ (landed_keeps old.window of.positions).0
+
+    full_is : (landed_count (log_of w 0) is.row.opening + 1 == stripe_count i (now_units i w) is.row.opening.line) ≡ full
+    full_is = full_by i w unit of has.slot.stripes_left full is has.is.left into.left into.none_left
+
+    few : landed_count (log_of w 0) is.row.opening + 1 ≤ stripe_count i (now_units i w) is.row.opening.line
+    few = fewer_landed i w unit of is
+
+    open_is : (b : Bool) → full ≡ b → AreOpenLines i (after (log_of w) (Landed unit event) knows) new.open
+    open_is true e = line_leaves i w unit event knows old.placer.entries.pad of old.open mid new.open blank is waits st.open_lines has into.in_slot (into.gone e)
+        (number_same (landed_count (log_of w 0) is.row.opening + 1) (stripe_count i (now_units i w) is.row.opening.line) (full_is ∙ e))
+    open_is false e = subst (AreOpenLines i (after (log_of w) (Landed unit event) knows)) (sym (into.stay e))
+        (lines_stay i w unit event knows old.placer.entries.pad of old.open mid blank is waits st.open_lines has into.in_slot
+        (number_less (landed_count (log_of w 0) is.row.opening + 1) (stripe_count i (now_units i w) is.row.opening.line) few (full_is ∙ e)))
+
+    flight : new.under_way ≡ under_way i.shape (new_logs 0)
+    flight =
+        let less : under_way i.shape (log_of w 0) ≡ under_way i.shape (new_logs 0) + 1 = one_less_under_way i w unit event knows is.row.stripe blank is.row.inside is.row.waits in
+        let was : old.under_way ≡ under_way i.shape (log_of w 0) = st.in_flight in
+        into.under_way ∙ (let n : old.under_way - 1 ≡ under_way i.shape (new_logs 0) = omega arith in n)
+
+    placing_is : new.placer ≡ placing_of i new_logs new.placer.entries.pad []
+    placing_is =
+        into.placer ∙ ap (λ p. landed p of) st.placing
+        ∙ sym (ap (λ u. placing_of i (after (log_of w) (Landed u event) knows) old.placer.entries.pad []) (sym (unit_is i w unit of is))
+        ∙ placing_landed i (log_of w) event knows old.placer.entries.pad [] of is.line_is.striped.some waits)
+        ∙ ap (λ n. placing_of i new_logs n []) (sym (ap (λ p. p.entries.pad) into.placer))

@@ -1,0 +1,305 @@
+-- A core that took an entry stands for the log with it.
+use Rattle.std.proofs.Common.{◌≡◌, ◌≢◌, ◌⊎◌, eqb, ℕ, ◌+◌, ◌<◌, ◌≤◌, ◌==◌, ◌^◌, if◌then◌else◌, true, false, cond, Some, None, Option, List, [], ◌∷◌, ◌++◌, length, refl, sym, subst, ap, ap₂, ◌∙◌, arith, inl, inr, length-append, append-nil, le_trans, zero-add}
+use Rattle.std.specs.Prelude.{map}
+use Rattle.std.specs.List.{filter, range_with_len}
+use Rattle.std.specs.Ordering.{nat_cmp, eq_by_cmp}
+use Rattle.std.specs.FinMap.{FinMap, get-insert}
+use Rattle.std.specs.FinMap as fin
+use Rattle.std.specs.Cmp.{nat_cmp_total, unsigned_tied}
+use Rattle.pblk_model.specs.declared.shape.Shape.{Shape}
+use Rattle.pblk_model.specs.declared.chunk.Mark.{Mark}
+use Rattle.pblk_model.specs.Image.{Image, line_units}
+use Rattle.pblk_model.specs.Chunk.{IsBlock}
+use Rattle.pblk_world.specs.Taking.{IsMarked, MayTake}
+use Rattle.pblk_world.specs.Events.{Entry, Take, Decides, Logged}
+use Rattle.pblk_world.specs.World.{Logs}
+use Rattle.pblk_world.specs.EngineLog.{Begun, begun, Taken, takes, openings}
+use Rattle.pblk_world.specs.Fronts.{first_position, taken, user_takes}
+use Rattle.pblk_world.specs.Space.{freed}
+use Rattle.pblk_world.proofs.Appending.{takes_more, openings_more, life_more}
+use Rattle.l2p_map.specs.declared.slot.Slot.{Slot}
+use Rattle.l2p_map.specs.declared.slot.Slot.TheVariants.{Cached}
+use Rattle.core_laws.specs.Stepping.{after}
+use Rattle.core_laws.specs.OpenedLines.{bits_of, live_now, standing}
+use Rattle.core_laws.specs.Positions.{IsUnplaced}
+use Rattle.core_laws.specs.SlotOf.{slot_of}
+use Rattle.core_laws.specs.WindowOf.{is_given_back, sectors_in, window_from, HeldSectors, waiting_sector}
+use Rattle.core_laws.proofs.Taking.{alike, with_take}
+use Rattle.core_laws.proofs.TakenSlots.{slot_taken, gives_back_same, any_same}
+use Rattle.core_laws.proofs.TakenWindow.{window_taken}
+use Rattle.core_laws.proofs.Steady.{AreAlike, standing_same}
+use Rattle.core_laws.proofs.Numbering.{first_stays}
+use Rattle.line_laws.proofs.KeptRows.{begun_kept, known_kept}
+use Rattle.landing_laws.proofs.Least.{least_rises}
+use Rattle.pblk_core.specs.Stands.{Stands, AreOpenLines}
+use Rattle.pblk_core.proofs.SteadyLines.{open_lines_same, under_way_same}
+use Rattle.pblk_world.specs.Starts.{older_rows}
+use Rattle.line_laws.proofs.OpenAddresses.{addresses_kept}
+use Rattle.pblk_core.proofs.StandsFacts.{freed_taken_within, window_taken_is, next_is_unplaced, older_none}
+use Rattle.std.proofs.lemmas.List.{map-append}
+use Rattle.pblk_meta.specs.Records.{start_numbers}
+use Rattle.core_laws.specs.PlacerOf.{placing_of}
+use Rattle.core_laws.proofs.Taking.{filter_last, placing_taken}
+use Rattle.line_laws.proofs.PlacedFront.{front_taken}
+use Rattle.pblk_world.specs.Fronts.{is_users}
+use Rattle.core_laws.specs.WindowOf.{without_frame, class_of, source_of}
+use Rattle.sector_pool.specs.declared.entry.Class.TheVariants.{User}
+use Rattle.sector_pool.specs.declared.entry.Source.{Source as EntrySource}
+use Rattle.std.specs.Option.{option_map}
+use Rattle.pblk_core.proofs.TakenHolds.{holds_taken}
+use Rattle.pblk_core.proofs.LiveLine.{line_is}
+use Rattle.pblk_core.proofs.StandsFacts.{counted_none}
+use Rattle.pblk_world.specs.Fronts.{last_take}
+use Rattle.pblk_world.specs.Victims.{line_of}
+use Rattle.core_laws.specs.RowsOf.{rows_of}
+use Rattle.line_laws.proofs.TakenRows.{rows_taken}
+use Rattle.line_laws.proofs.LiveCounts.{live_some}
+use Rattle.core_laws.proofs.Rows.{row_at}
+use Rattle.std.proofs.lemmas.List.FromFn.{length-map-range_with_len}
+use Rattle.line_laws.proofs.Orders.{in_order as plain_in_order}
+use Rattle.line_laws.proofs.LinesInRange.{line_in_range}
+use Rattle.line_table.specs.declared.row.Row.{Row}
+use Rattle.line_table.specs.Rows.{Table, IsRow}
+use Rattle.core_laws.specs.RowsOf.{row_of_line}
+use Rattle.pblk_world.specs.Victims.{live}
+use Rattle.std.specs.Prelude.{slice_get}
+use Rattle.line_laws.proofs.PlainLogs.{none_freed}
+use Rattle.landing_laws.proofs.Entries.{accepted_small, in_order}
+use Rattle.std.proofs.lemmas.Option.{same_Some}
+use Rattle.pblk_core.specs.Taken.{entry_of, mark_of}
+use Rattle.pblk_core.specs.Holds.{line_of_slot, rows_with_taker}
+use Rattle.line_laws.specs.Changes.{lose_in}
+use Rattle.pblk_core.specs.declared.target_core.Core.{Core}
+use Rattle.sector_pool.specs.declared.entry.Entry.{Entry as FramedEntry}
+use Rattle.write_window.specs.declared.held.Progress.TheVariants.{Waiting}
+use Rattle.write_window.specs.Window as view
+use Rattle.stripe_placer.specs.Placing.{waits}
+use Rattle.core_laws.specs.PlainWorlds.{IsBlankWorld}
+use Rattle.core_laws.proofs.Lists.{map_same}
+use Rattle.pblk_model.specs.Contents.{least_missing}
+use Rattle.pblk_world.specs.EngineLog.{placements}
+use Rattle.pblk_world.specs.Space.{gives_back}
+use Rattle.pblk_world.specs.World.{World, log_of}
+use Rattle.std.specs.List.{list_any}
+use Rattle.std.specs.Prelude.{slice_set, ◌%◌}
+use Rattle.std.proofs.lemmas.Bool.Decides.{nat_tests, eqb_tells}
+
+-- ---- the map
+
+same_key : (q a : ℕ) → q ≡ a → eq_by_cmp nat_cmp q a ≡ true
+same_key q a e = unsigned_tied q a ∙ grind (arith, nat_tests)
+
+other_key : (q a : ℕ) → q ≢ a → eq_by_cmp nat_cmp q a ≡ false
+other_key q a e = unsigned_tied q a ∙ grind (arith, nat_tests)
+
+set_at : (f g : ℕ → Slot) (m : FinMap nat_cmp Slot) (lba x q : ℕ) (capacity : ℕ) → ((n : ℕ) → g n ≡ (if lba == n then Cached q else f n))
+    → ((n : ℕ) → n < capacity → fin.get m n ≡ Some (f n)) → x < capacity → fin.get (fin.insert m lba (Cached q)) x ≡ Some (g x)
+set_at f g m lba x q capacity changed old within = get-insert nat_cmp_total m lba (Cached q) x ∙ go (eqb_tells lba x)
+  where
+    go : ((eqb lba x ≡ true) × (lba ≡ x)) ⊎ ((eqb lba x ≡ false) × (lba ≢ x)) → cond (eq_by_cmp nat_cmp x lba) (Some (Cached q)) (fin.get m x) ≡ Some (g x)
+    go (inl h) = ap (λ b. cond b (Some (Cached q)) (fin.get m x)) (same_key x lba (sym h.1)) ∙ ap Some (sym (changed x ∙ ap (λ b. if b then Cached q else f x) h.0))
+    go (inr h) = ap (λ b. cond b (Some (Cached q)) (fin.get m x)) (other_key x lba (λ e. h.1 (sym e))) ∙ old x within ∙ ap Some (sym (changed x ∙ ap (λ b. if b then Cached q else f x) h.0))
+
+pub slots_taken : (i : Image) (logs : Logs) (entry : Entry) (mark : Mark) (knows : List ℕ) (m : FinMap nat_cmp Slot) (x : ℕ) → IsUnplaced i.shape (logs 0) entry.position → mark.lba ≡ entry.lba
+    → ((lba : ℕ) → lba < i.shape.capacity → fin.get m lba ≡ Some (slot_of i logs lba)) → x < i.shape.capacity
+    → fin.get (fin.insert m entry.lba (Cached entry.position)) x ≡ Some (slot_of i (after logs (Take entry mark) knows) x)
+slots_taken i logs entry mark knows m x none names old within =
+    set_at (slot_of i logs) (slot_of i (after logs (Take entry mark) knows)) m entry.lba x entry.position i.shape.capacity
+    (λ n. slot_taken i logs entry mark knows n none ∙ ap (λ l. if l == n then Cached entry.position else slot_of i logs n) names) old within
+
+-- ---- lines
+
+pub units_taken : (i : Image) (logs : Logs) (entry : Entry) (mark : Mark) (knows : List ℕ) (line : ℕ) → live_now i (after logs (Take entry mark) knows) line ≡ live_now i logs line
+units_taken i logs entry mark knows line = ap (λ (j : Image). bits_of (line_units j line)) (known_kept i logs (Take entry mark) knows refl (λ unit. refl))
+
+pub openings_taken : (log : List Logged) (entry : Entry) (mark : Mark) (knows : List ℕ) → openings (with_take log entry mark knows) ≡ openings log
+openings_taken log entry mark knows = openings_more log (record { event = Decides (Take entry mark); knows = knows }) ∙ append-nil (openings log)
+
+pub standing_taken : (log : List Logged) (entry : Entry) (mark : Mark) (knows : List ℕ) → standing (with_take log entry mark knows) ≡ standing log
+standing_taken log entry mark knows = standing_same log (with_take log entry mark knows) (openings_taken log entry mark knows) (λ line. life_more log (record { event = Decides (Take entry mark); knows = knows }) line)
+
+-- ---- fronts
+
+given_same : (s : Shape) (log : List Logged) (entry : Entry) (mark : Mark) (knows : List ℕ) (q : ℕ) → is_given_back s (with_take log entry mark knows) q ≡ is_given_back s log q
+given_same s log entry mark knows q =
+    any_same (gives_back s new q) (gives_back s log q) (gives_back_same s log new (alike log entry mark knows) q) (placements new)
+    ∙ ap (list_any (gives_back s log q)) (AreAlike.placements (alike log entry mark knows))
+  where
+    new : List Logged
+    new = with_take log entry mark knows
+
+pub freed_taken : (s : Shape) (log : List Logged) (entry : Entry) (mark : Mark) (knows : List ℕ) (b : Begun) → begun log ≡ Some b → freed s log ≤ freed s (with_take log entry mark knows)
+freed_taken s log entry mark knows b has =
+    let new : List Logged = with_take log entry mark knows in
+    let first : first_position new ≡ first_position log = first_stays log (record { event = Decides (Take entry mark); knows = knows }) b has in
+    let more : length (takes log) ≤ length (takes new) = subst (λ ts. length (takes log) ≤ length ts) (sym (takes_more log (record { event = Decides (Take entry mark); knows = knows }))) (omega (arith, length-append (takes log) (record { entry = entry; mark = mark } ∷ []))) in
+    subst (λ p. freed s log ≤ least_missing (is_given_back s new) (length (takes new)) p) (sym first)
+    (least_rises (is_given_back s log) (is_given_back s new) (length (takes log)) (length (takes new)) (first_position log) (λ q e. given_same s log entry mark knows q ∙ e) more)
+
+-- ---- the core
+
+-- what a core's fields are once it took an entry
+pub record IsTakenInto (old new : Core) (e : FramedEntry) : Type 0 where
+  pub slot : Slot
+  pub found : fin.get old.map e.lba ≡ Some slot
+  pub layout : new.layout ≡ old.layout
+  pub map : new.map ≡ fin.insert old.map e.lba (Cached e.position)
+  pub capacity : fin.len new.map ≡ fin.len old.map
+  pub lines : new.lines ≡ lose_in (line_of_slot old.holds.rows.items slot) e.position old.lines
+  pub window : new.window ≡ record old.window { entries = old.window.entries ++ record { entry = e; progress = Waiting } ∷ [] }
+  pub placer : new.placer ≡ waits old.placer e.position false
+  pub holds : new.holds.rows.items ≡ slice_set (rows_with_taker slot e.position old.holds.rows.items)
+      (e.position % length (rows_with_taker slot e.position old.holds.rows.items)) (record { mark = mark_of e; line = None; taker = None })
+  pub open_lines : new.open ≡ old.open
+  pub live : new.live ≡ old.live
+  pub start : new.start ≡ old.start
+  pub first : new.first ≡ old.first
+  pub placed : new.placed ≡ old.placed
+  pub left : new.left ≡ old.left
+  pub under_way : new.under_way ≡ old.under_way
+  pub users : new.users ≡ old.users + 1
+
+users_more : (log : List Logged) (entry : Entry) (mark : Mark) (knows : List ℕ) → entry.source ≡ None → length (user_takes (with_take log entry mark knows)) ≡ length (user_takes log) + 1
+users_more log entry mark knows user =
+    ap (λ ts. length (filter (λ (t : Taken). is_users t.entry.source) ts)) (takes_more log (record { event = Decides (Take entry mark); knows = knows }))
+    ∙ ap length (filter_last (λ (t : Taken). is_users t.entry.source) (takes log) (record { entry = entry; mark = mark }) true (ap is_users user))
+    ∙ length-append (user_takes log) (record { entry = entry; mark = mark } ∷ [])
+
+-- an entry that a user wrote waits in the window
+waiting_is : (e : FramedEntry) → e.source ≡ None → e.class ≡ User → without_frame (record { entry = e; progress = Waiting }) ≡ waiting_sector (entry_of e)
+waiting_is e none user = λ k. record {
+  position = e.position;
+  class = go k;
+  lba = e.lba;
+  source = from e.source k;
+  sector = e.frame.bytes;
+  progress = Waiting;
+}
+  where
+    go : e.class ≡ class_of (entry_of e).source
+    go = user ∙ sym (ap (λ o. class_of (option_map (λ (at : EntrySource). record { line = at.line; at = at.at; position = at.position }) o)) none)
+
+    from : (o : Option EntrySource) → o ≡ source_of (option_map (λ (at : EntrySource). record { line = at.line; at = at.at; position = at.position }) o)
+    from None = refl
+    from (Some at) = refl
+
+-- the line of a slot is one of the drive, and has a live sector
+slot_line : (i : Image) (w : World) (c : Core) (lba : ℕ) (slot : Slot) (line : ℕ) → IsBlankWorld i w → Stands i (log_of w) c → fin.get c.map lba ≡ Some slot → lba < i.shape.capacity
+    → line_of_slot c.holds.rows.items slot ≡ Some line → line_of i (log_of w) lba (last_take (log_of w 0) lba) ≡ Some line
+slot_line i w c lba slot line blank st found inside is =
+    let now : slot ≡ slot_of i (log_of w) lba = same_Some slot (slot_of i (log_of w) lba) (sym found ∙ st.slots lba inside) in
+    sym (line_is i w c.holds lba blank (counted_none i w blank) st.holds) ∙ sym (ap (line_of_slot c.holds.rows.items) now) ∙ is
+
+pub live_there : (i : Image) (w : World) (c : Core) (lba : ℕ) (slot : Slot) (line : ℕ) (row : Row) → IsBlankWorld i w → Stands i (log_of w) c → fin.get c.map lba ≡ Some slot → lba < i.shape.capacity
+    → line_of_slot c.holds.rows.items slot ≡ Some line → IsRow c.lines line row → 0 < row.live
+live_there i w c lba slot line row blank st found inside is there =
+    let some : 0 < live i (log_of w) line = live_some i (log_of w) line lba inside (slot_line i w c lba slot line blank st found inside is) in
+    let at : slice_get (map (row_of_line i (log_of w)) (range_with_len 0 i.shape.chunks)) line ≡ Some row = sym (ap (λ (t : Table). slice_get t.rows line) st.table) ∙ there in
+    subst (λ (r : Row). 0 < r.live) ((row_at (row_of_line i (log_of w)) i.shape.chunks 0 line row at).1) (subst (λ n. 0 < live i (log_of w) n) (sym (zero-add line)) some)
+
+pub live_inside : (i : Image) (w : World) (c : Core) (lba : ℕ) (slot : Slot) (line : ℕ) → IsBlankWorld i w → Stands i (log_of w) c → fin.get c.map lba ≡ Some slot → lba < i.shape.capacity
+    → line_of_slot c.holds.rows.items slot ≡ Some line → line < length c.lines.rows
+live_inside i w c lba slot line blank st found inside is =
+    let low : line < i.shape.chunks = line_in_range i (log_of w) lba (last_take (log_of w 0) lba) line (plain_in_order i w blank.plain).placed (slot_line i w c lba slot line blank st found inside is) in
+    subst (λ n. line < n) (sym (ap (λ (t : Table). length t.rows) st.table ∙ length-map-range_with_len (row_of_line i (log_of w)) 0 i.shape.chunks)) low
+
+pub taken_stands : (i : Image) (w : World) (knows : List ℕ) (old new : Core) (e : FramedEntry) → IsBlankWorld i w → Stands i (log_of w) old → IsTakenInto old new e
+    → e.position ≡ view.taken old.window → length old.window.entries < old.window.size → e.class ≡ User → e.source ≡ None → e.lba < i.shape.capacity
+    → Stands i (after (log_of w) (Take (entry_of e) (mark_of e)) knows) new
+taken_stands i w knows old new e blank st is position room class user inside = record {
+  layout = is.layout ∙ st.layout;
+  beginning = st.beginning;
+  has_begun = begun_kept (log_of w 0) (Take (entry_of e) (mark_of e)) knows refl ∙ st.has_begun;
+  capacity = is.capacity ∙ st.capacity;
+  slots = λ x within. ap (λ m. fin.get m x) is.map ∙ slots_taken i (log_of w) (entry_of e) (mark_of e) knows old.map x unplaced refl st.slots within;
+  table = is.lines ∙ ap₂ (λ o t. lose_in o e.position t) line_now st.table ∙ sym table_now;
+  units = ap (λ l. l.items) is.live ∙ st.units ∙ map_same (live_now i (log_of w)) (live_now i new_logs) (λ line. sym (units_taken i (log_of w) (entry_of e) (mark_of e) knows line)) (range_with_len 0 i.shape.chunks);
+  size = ap (λ v. v.size) is.window ∙ st.size;
+  window = window_is;
+  from_first = subst (λ v. first_position (new_logs 0) ≤ v.freed) (sym is.window) (subst (λ p. p ≤ old.window.freed) (sym first_is) st.from_first);
+  to_freed = subst (λ v. v.freed ≤ freed i.shape (new_logs 0)) (sym is.window) (le_trans st.to_freed (freed_taken i.shape (log_of w 0) (entry_of e) (mark_of e) knows st.beginning st.has_begun));
+  holds = holds_taken i (log_of w) knows (entry_of e) (mark_of e) old.holds new.holds old.window.freed (in_order i w (accepted_small i.shape blank.plain.accepted) blank.plain.legal).numbered
+      unplaced st.holds refl taken_is st.to_freed within holds_are;
+  placing = placing_is;
+  open_lines = subst (AreOpenLines i new_logs) (sym is.open_lines) (open_lines_same i (log_of w) (Take (entry_of e) (mark_of e)) knows old.open (alike (log_of w 0) (entry_of e) (mark_of e) knows) (standing_taken (log_of w 0) (entry_of e) (mark_of e) knows) st.open_lines);
+  next_seq = ap (λ r. r.seq) is.start ∙ st.next_seq ∙ ap (λ os. st.beginning.beginning.seq + length os) (sym (openings_taken (log_of w 0) (entry_of e) (mark_of e) knows));
+  first_seq = ap (λ r. r.first_seq) is.start ∙ st.first_seq;
+  own_capacity = ap (λ r. r.capacity) is.start ∙ st.own_capacity;
+  older = ap (λ r. (start_numbers r).rows) is.start ∙ st.older ∙ older_is;
+  first = is.first ∙ st.first ∙ sym first_is;
+  placed = ap₂ (λ a b. a + b) is.first is.placed ∙ st.placed ∙ sym (front_taken i.shape (log_of w 0) (entry_of e) (mark_of e) knows unplaced);
+  left = is.left ∙ st.left ∙ sym (addresses_kept i (log_of w) (Take (entry_of e) (mark_of e)) knows refl);
+  in_flight = is.under_way ∙ st.in_flight ∙ under_way_same i.shape (log_of w 0) (new_logs 0) (alike (log_of w 0) (entry_of e) (mark_of e) knows);
+  users = is.users ∙ ap (λ n. n + 1) st.users ∙ sym (users_more (log_of w 0) (entry_of e) (mark_of e) knows (ap (option_map (λ (at : EntrySource). record { line = at.line; at = at.at; position = at.position })) user));
+}
+  where
+    new_logs : Logs
+    new_logs = after (log_of w) (Take (entry_of e) (mark_of e)) knows
+
+    slot_now : is.slot ≡ slot_of i (log_of w) e.lba
+    slot_now = same_Some is.slot (slot_of i (log_of w) e.lba) (sym is.found ∙ st.slots e.lba inside)
+
+    line_now : line_of_slot old.holds.rows.items is.slot ≡ line_of i (log_of w) e.lba (last_take (log_of w 0) e.lba)
+    line_now = ap (line_of_slot old.holds.rows.items) slot_now ∙ line_is i w old.holds e.lba blank (counted_none i w blank) st.holds
+
+    older_is : older_rows i (log_of w) ≡ older_rows i new_logs
+    older_is = older_none i w (Take (entry_of e) (mark_of e)) knows blank refl
+
+    taken_is : e.position ≡ taken (log_of w 0)
+    taken_is = position ∙ window_taken_is i w old st
+
+    unplaced : IsUnplaced i.shape (log_of w 0) e.position
+    unplaced = subst (IsUnplaced i.shape (log_of w 0)) (sym taken_is) (next_is_unplaced i w blank)
+
+    within : taken (log_of w 0) < old.window.freed + i.shape.ring
+    within =
+        let end : old.window.freed + length old.window.entries ≡ taken (log_of w 0) = window_taken_is i w old st in
+        let size : old.window.size ≡ i.shape.ring = st.size in
+        omega arith
+
+    holds_are : new.holds.rows.items ≡ slice_set (rows_with_taker (slot_of i (log_of w) e.lba) e.position old.holds.rows.items)
+        (e.position % length (rows_with_taker (slot_of i (log_of w) e.lba) e.position old.holds.rows.items)) (record { mark = mark_of e; line = None; taker = None })
+    holds_are = is.holds ∙ ap (λ s. slice_set (rows_with_taker s e.position old.holds.rows.items) (e.position % length (rows_with_taker s e.position old.holds.rows.items)) (record { mark = mark_of e; line = None; taker = None })) slot_now
+
+    first_is : first_position (new_logs 0) ≡ first_position (log_of w 0)
+    first_is = first_stays (log_of w 0) (record { event = Decides (Take (entry_of e) (mark_of e)); knows = knows }) st.beginning st.has_begun
+
+    map_window : map without_frame (old.window.entries ++ record { entry = e; progress = Waiting } ∷ []) ≡ map without_frame old.window.entries ++ without_frame (record { entry = e; progress = Waiting }) ∷ []
+        → ◌≡◌ {A = HeldSectors} (record { freed = old.window.freed; users = old.window.users; entries = map without_frame (old.window.entries ++ record { entry = e; progress = Waiting } ∷ []) })
+        (record { freed = old.window.freed; users = old.window.users; entries = map without_frame old.window.entries ++ without_frame (record { entry = e; progress = Waiting }) ∷ [] })
+    map_window h = λ k. record { freed = old.window.freed; users = old.window.users; entries = h k }
+
+    with_last : without_frame (record { entry = e; progress = Waiting }) ≡ waiting_sector (entry_of e)
+        → ◌≡◌ {A = HeldSectors} (record { freed = old.window.freed; users = old.window.users; entries = map without_frame old.window.entries ++ without_frame (record { entry = e; progress = Waiting }) ∷ [] })
+        (record { freed = old.window.freed; users = old.window.users; entries = map without_frame old.window.entries ++ waiting_sector (entry_of e) ∷ [] })
+    with_last h = λ k. record { freed = old.window.freed; users = old.window.users; entries = map without_frame old.window.entries ++ h k ∷ [] }
+
+    window_is : sectors_in new.window ≡ window_from i.shape (new_logs 0) new.window.freed
+    window_is =
+        ap sectors_in is.window
+        ∙ map_window (map-append without_frame old.window.entries (record { entry = e; progress = Waiting } ∷ []))
+        ∙ with_last (waiting_is e user class)
+        ∙ ap (λ (v : HeldSectors). record v { entries = v.entries ++ waiting_sector (entry_of e) ∷ [] }) st.window
+        ∙ sym (window_taken i.shape (log_of w 0) (entry_of e) (mark_of e) knows old.window.freed unplaced taken_is (freed_taken_within i w old st))
+        ∙ ap (window_from i.shape (new_logs 0)) (sym (ap (λ v. v.freed) is.window))
+
+    table_now : rows_of i new_logs ≡ lose_in (line_of i (log_of w) e.lba (last_take (log_of w 0) e.lba)) e.position (rows_of i (log_of w))
+    table_now = rows_taken i (log_of w) (entry_of e) (mark_of e) knows (none_freed (log_of w 0) blank.plain.engine) (in_order i w (accepted_small i.shape blank.plain.accepted) blank.plain.legal).numbered unplaced taken_is inside
+
+    placing_is : new.placer ≡ placing_of i new_logs new.placer.entries.pad []
+    placing_is =
+        is.placer ∙ ap (λ p. waits p e.position false) st.placing
+        ∙ sym (placing_taken i (log_of w) (entry_of e) (mark_of e) knows old.placer.entries.pad [] unplaced)
+        ∙ ap (λ n. placing_of i new_logs n []) (sym (ap (λ p. p.entries.pad) is.placer))
+
+-- ---- and the log may take it
+
+pub may_take : (i : Image) (w : World) (c : Core) (e : FramedEntry) → Stands i (log_of w) c → e.position ≡ view.taken c.window → e.position < 2 ^ 62 → e.source ≡ None → e.lba < i.shape.capacity
+    → IsBlock i.shape (record { sector = e.frame.bytes; mark = mark_of e }) → MayTake i (log_of w) (entry_of e) (mark_of e)
+may_take i w c e st position number user inside block = record {
+  position = position ∙ window_taken_is i w c st;
+  position_number = number;
+  lba = inside;
+  marked = subst (IsMarked i (log_of w) (entry_of e) (mark_of e)) (sym (ap (option_map (λ (at : EntrySource). record { line = at.line; at = at.at; position = at.position })) user)) refl;
+  block = block;
+}

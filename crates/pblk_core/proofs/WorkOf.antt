@@ -1,0 +1,92 @@
+-- What a core names as its next work is what the logs name.
+use Rattle.std.proofs.Common.{◌≡◌, ℕ, ◌+◌, ◌-◌, ◌<◌, ◌≤◌, ◌==◌, ◌^◌, ◌&&◌, nat_lt, Bool, true, false, List, length, refl, sym, ap, ap₂, ◌∙◌, arith, le_trans, length-append}
+use Rattle.std.specs.Prelude.{position}
+use Rattle.std.specs.Option.{is_some, option_map_or}
+use Rattle.std.proofs.lemmas.List.{length-map}
+use Rattle.std.proofs.lemmas.List.FromFn.{length-range_with_len}
+use Rattle.pblk_model.specs.Image.{Image}
+use Rattle.pblk_model.specs.declared.run.Front.{Front}
+use Rattle.pblk_world.specs.World.{World, log_of}
+use Rattle.pblk_world.specs.EngineLog.{Begun, Taken, openings}
+use Rattle.pblk_world.specs.Fronts.{taken, synced, waiting}
+use Rattle.pblk_world.specs.Space.{placed_front}
+use Rattle.line_table.specs.Rows.{is_free}
+use Rattle.stripe_placer.specs.Placing.{next_stripe}
+use Rattle.write_window.specs.Window as view
+use Rattle.core_laws.specs.OpenedLines.{open_line, open_lines}
+use Rattle.core_laws.specs.PlainWorlds.{IsBlankWorld}
+use Rattle.core_laws.specs.PlacerOf.{lost_entries, fresh_entries}
+use Rattle.core_laws.specs.WindowOf.{users_below}
+use Rattle.placed_laws.proofs.LeftLines.{lines_of_left}
+use Rattle.placed_laws.proofs.Ordered.{ordered, front_within, fresh_in_order, lost_are_none}
+use Rattle.landing_laws.proofs.Entries.{accepted_small, in_order}
+use Rattle.landing_laws.proofs.Growing.{freed_within}
+use Rattle.landing_laws.proofs.SyncedWindow.{front_synced}
+use Rattle.pblk_core.specs.declared.target_core.Core.{Core}
+use Rattle.pblk_core.specs.Stands.{Stands, left_openings}
+use Rattle.pblk_core.specs.Named.{choice, named, pad_of, work_of, first_seq_of}
+use Rattle.pblk_core.proofs.StandsFacts.{window_taken_is}
+
+-- all that was placed was taken
+pub placed_within : (i : Image) (w : World) (c : Core) → IsBlankWorld i w → Stands i (log_of w) c → c.first + c.placed ≤ view.taken c.window
+placed_within i w c blank st =
+    let front : c.first + c.placed ≡ placed_front i.shape (log_of w 0) = st.placed in
+    let end : view.taken c.window ≡ taken (log_of w 0) = window_taken_is i w c st in
+    let within : placed_front i.shape (log_of w 0) ≤ taken (log_of w 0) = front_within i.shape (log_of w 0) (ordered i w blank.plain) in
+    omega arith
+
+-- the window's front synced is the log's
+pub synced_is : (i : Image) (w : World) (c : Core) → IsBlankWorld i w → Stands i (log_of w) c
+    → view.synced c.window ≡ record { users = users_below (log_of w 0) (synced i.shape (log_of w 0)); position = synced i.shape (log_of w 0) }
+synced_is i w c blank st = front_synced i.shape (log_of w 0) c.window.freed c.window (in_order i w (accepted_small i.shape blank.plain.accepted) blank.plain.legal).numbered
+    st.from_first (le_trans st.to_freed (freed_within i.shape (log_of w 0))) st.window
+
+pub synced_at : (i : Image) (w : World) (c : Core) → IsBlankWorld i w → Stands i (log_of w) c → (view.synced c.window).position ≡ synced i.shape (log_of w 0)
+synced_at i w c blank st = ap (λ (f : Front). f.position) (synced_is i w c blank st)
+
+-- how many entries wait
+waiting_count : (i : Image) (w : World) → IsBlankWorld i w → length (waiting i.shape (log_of w 0)) ≡ taken (log_of w 0) - placed_front i.shape (log_of w 0)
+waiting_count i w blank =
+    let both : length (waiting i.shape (log_of w 0)) ≡ length (lost_entries i.shape (log_of w 0)) + length (fresh_entries i.shape (log_of w 0)) =
+    length-append (lost_entries i.shape (log_of w 0)) (fresh_entries i.shape (log_of w 0)) in
+    let none : length (lost_entries i.shape (log_of w 0)) ≡ 0 = ap (λ (ts : List Taken). length ts) (lost_are_none i.shape (log_of w 0) (ordered i w blank.plain)) in
+    let fresh : length (fresh_entries i.shape (log_of w 0)) ≡ taken (log_of w 0) - placed_front i.shape (log_of w 0) =
+    sym (length-map (fresh_entries i.shape (log_of w 0)) (λ (t : Taken). t.entry.position)) ∙ ap (λ (qs : List ℕ). length qs) (fresh_in_order i.shape (log_of w 0) (ordered i w blank.plain))
+    ∙ length-range_with_len (placed_front i.shape (log_of w 0)) (taken (log_of w 0) - placed_front i.shape (log_of w 0)) in
+    omega arith
+
+later : (a b : ℕ) → nat_lt a b ≡ nat_lt 0 (b - a)
+later a b = go (nat_lt a b) refl (nat_lt 0 (b - a)) refl
+  where
+    go : (x : Bool) → nat_lt a b ≡ x → (y : Bool) → nat_lt 0 (b - a) ≡ y → nat_lt a b ≡ nat_lt 0 (b - a)
+    go true e true f = e ∙ sym f
+    go false e false f = e ∙ sym f
+    go true e false f =
+        let low : a < b = grind arith in
+        let none : b - a ≤ 0 = grind arith in
+        absurd (omega arith)
+    go false e true f =
+        let low : b ≤ a = grind arith in
+        let some : 0 < b - a = grind arith in
+        absurd (omega arith)
+
+-- how many lines have a stripe left
+pub open_count : (i : Image) (w : World) (c : Core) → Stands i (log_of w) c → c.open.count ≡ length (open_lines i (log_of w))
+open_count i w c st = st.open_lines.count ∙ sym (length-map (left_openings i (log_of w)) (open_line i (log_of w))) ∙ ap length (sym (lines_of_left i (log_of w)))
+
+same_choice : (a b : Bool) (m n : Bool) (p q : Bool) (s t : Bool) (x y : Bool) → a ≡ b → m ≡ n → p ≡ q → s ≡ t → x ≡ y → choice a m p s x ≡ choice b n q t y
+same_choice a b m n p q s t x y e f g h k = λ j. choice (e j) (f j) (g j) (h j) (k j)
+
+pub work_is : (i : Image) (w : World) (c : Core) → IsBlankWorld i w → Stands i (log_of w) c → named c ≡ work_of i (log_of w) (pad_of c)
+work_is i w c blank st = same_choice _ _ _ _ _ _ _ _ _ _
+    (ap (λ p. is_some (next_stripe p 0)) st.placing)
+    (ap₂ (λ a n. a && (n == 0)) waits st.left)
+    (ap (λ t. is_some (position is_free t.rows)) st.table)
+    (ap₂ (λ a b. nat_lt a 2 && b) (open_count i w c st) (ap₂ (λ m n. nat_lt m (2 ^ 61) && nat_lt n (2 ^ 61)) seq (synced_at i w c blank st)))
+    (ap (nat_lt 0) st.in_flight)
+  where
+    waits : nat_lt (c.first + c.placed) (view.taken c.window) ≡ nat_lt 0 (length (waiting i.shape (log_of w 0)))
+    waits = ap₂ nat_lt st.placed (window_taken_is i w c st) ∙ later (placed_front i.shape (log_of w 0)) (taken (log_of w 0)) ∙ ap (nat_lt 0) (sym (waiting_count i w blank))
+
+    seq : c.start.seq ≡ first_seq_of (log_of w) + length (openings (log_of w 0))
+    seq = st.next_seq ∙ ap (λ n. n + length (openings (log_of w 0))) (sym (ap (λ o. option_map_or (λ (b : Begun). b.beginning.seq) o 0) st.has_begun))

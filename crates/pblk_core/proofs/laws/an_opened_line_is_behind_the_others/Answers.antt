@@ -1,5 +1,0 @@
-use Rattle.pblk_core.proofs.Opening.{placing_opened}
-use Rattle.pblk_core.proofs.laws.an_opened_line_is_behind_the_others.Goals as goal
-
-pub returns : goal.returns
-returns c = placing_opened

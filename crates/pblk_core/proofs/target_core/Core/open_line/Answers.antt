@@ -1,0 +1,165 @@
+use Rattle.std.proofs.Common.{◌≡◌, ℕ, ◌+◌, ◌*◌, ◌/◌, ◌<◌, ◌≤◌, ◌^◌, arith, rules, length, refl, sym, subst, ap, ap₂, ◌∙◌, IsTrue}
+use Rattle.std.specs.Prelude.{slice_set}
+use Rattle.std.specs.List.{slice_index_or}
+use Rattle.pblk_model.specs.declared.shape.Shape.{Shape}
+use Rattle.pblk_model.specs.Shape.{units}
+use Rattle.pblk_model.specs.LineOrder.{data_len}
+use Rattle.pblk_model.specs.StartRecord.{start_fits}
+use Rattle.pblk_meta.specs.Records.{start_numbers}
+use Rattle.pblk_world.specs.World.{log_of}
+use Rattle.pblk_layout.specs.Live.{units_in}
+use Rattle.line_table.specs.declared.row.LineState.TheVariants as states
+use Rattle.line_table.specs.Rows.{Changes, turned}
+use Rattle.stripe_placer.specs.Placing.{begun as line_begun}
+use Rattle.core_laws.specs.OpenedLines.{open_lines}
+use Rattle.pblk_core.specs.Slots.{opened_slot}
+use Rattle.pblk_core.specs.Named.{next_line, next_start}
+use Rattle.pblk_core.proofs.OpeningFacts.{open_is_named, next_line_is, next_may_open, chosen, none_open, stripes_few, has_data}
+use Rattle.pblk_core.proofs.OpeningNumbers.{next_fits}
+use Rattle.pblk_core.proofs.StandsOpened.{opened_stands}
+use Rattle.pblk_core.proofs.WorkOf.{open_count}
+use Rattle.pblk_core.proofs.target_core.Core.open_line.Goals as goal
+
+pub width-width-requires : goal.width-width-requires
+width-width-requires c =
+    let st = c.requires.standing in
+    let may = open_is_named c.args.self.now c.requires.named in
+    let is = next_line_is st.image st.world c.args.self.now st.legal st.stands may in
+    let it = chosen st.image st.world c.args.self.now c.in-Some.line c.index-live.result.now c.index-live.result.now st.legal st.stands may (sym c.least_free.ensures.least ∙ c.in-Some.is) c.index-live.ensures in
+    subst (λ (s : Shape). c.index-live.result.now < 2 ^ units s) (sym st.stands.layout) (subst (λ m. m < 2 ^ units st.image.shape) (sym it.1) is.small)
+
+pub overflow_mul-stripes : goal.overflow_mul-stripes
+overflow_mul-stripes c =
+    let st = c.requires.standing in
+    let may = open_is_named c.args.self.now c.requires.named in
+    let is = next_line_is st.image st.world c.args.self.now st.legal st.stands may in
+    let it = chosen st.image st.world c.args.self.now c.in-Some.line c.index-live.result.now c.index-live.result.now st.legal st.stands may (sym c.least_free.ensures.least ∙ c.in-Some.is) c.index-live.ensures in
+    let value : c.width-width.result * (c.shape-shape.result.now.clba / c.shape-shape.result.now.ws_opt) ≡ units st.image.shape * (st.image.shape.clba / st.image.shape.ws_opt) =
+    ap₂ (λ g (s : Shape). g * (s.clba / s.ws_opt)) (c.width-width.ensures.width ∙ ap (λ m. length (units_in m)) it.1 ∙ is.wide) (c.shape-shape.ensures.shape ∙ st.stands.layout) in
+    let low : c.width-width.result * (c.shape-shape.result.now.clba / c.shape-shape.result.now.ws_opt) < 2 ^ 32 =
+    subst (λ n. n < 2 ^ 32) (sym value) (stripes_few st.image.shape st.legal.plain.accepted) in
+    search rules
+
+pub begin-requires-clause-room : goal.begin-requires-clause-room
+begin-requires-clause-room c =
+    let may = open_is_named c.args.self.now c.requires.named in
+    let few : c.args.self.now.open.count < 2 = may.few in
+    let two : length c.args.self.now.open.slots.items ≡ 2 = c.requires.standing.stands.open_lines.two in
+    omega arith
+
+pub begin-requires-clause-width : goal.begin-requires-clause-width
+begin-requires-clause-width c = λ line there.
+    let st = c.requires.standing in
+    subst (λ (s : Shape). c.width-width.result ≤ units s) (st.stands.layout ∙ sym (st.stands.open_lines.shapes c.args.self.now.open.count line there)) c.width-width.ensures.few
+
+pub begin-requires-clause-fits : goal.begin-requires-clause-fits
+begin-requires-clause-fits c = λ line there.
+    let st = c.requires.standing in
+    let may = open_is_named c.args.self.now c.requires.named in
+    let low : c.synced.result.position < 2 ^ 61 = subst (λ f. f.position < 2 ^ 61) (sym c.synced.ensures.synced) may.front in
+    subst (λ (s : Shape). IsTrue (start_fits s c.in-Some.line c.width-width.result (start_numbers (record {
+      line = c.in-Some.line;
+      width = c.width-width.result;
+      seq = c.args.self.now.start.seq;
+      first_seq = c.args.self.now.start.first_seq;
+      front = c.synced.result.position;
+      capacity = c.args.self.now.start.capacity;
+      rows = c.args.self.now.start.rows;
+    })))) (sym (st.stands.open_lines.shapes c.args.self.now.open.count line there))
+    (next_fits st.image st.world c.args.self.now c.in-Some.line c.width-width.result c.synced.result.position st.legal st.stands may.seq low)
+
+pub begin-requires-2-clause-line : goal.begin-requires-2-clause-line
+begin-requires-2-clause-line c =
+    let st = c.requires.standing in
+    let may = open_is_named c.args.self.now c.requires.named in
+    let is = next_line_is st.image st.world c.args.self.now st.legal st.stands may in
+    let it = chosen st.image st.world c.args.self.now c.in-Some.line c.index-live.result.now c.index-live.result.now st.legal st.stands may (sym c.least_free.ensures.least ∙ c.in-Some.is) c.index-live.ensures in
+    subst (λ n. n < c.args.self.now.placer.shape.chunks) it.0 (subst (λ p. next_line c.args.self.now < p.shape.chunks) (sym st.stands.placing) is.least.in_range)
+
+pub begin-requires-2-clause-another : goal.begin-requires-2-clause-another
+begin-requires-2-clause-another c = λ k d within same.
+    let st = c.requires.standing in
+    let may = open_is_named c.args.self.now c.requires.named in
+    let is = next_line_is st.image st.world c.args.self.now st.legal st.stands may in
+    let it = chosen st.image st.world c.args.self.now c.in-Some.line c.index-live.result.now c.index-live.result.now st.legal st.stands may (sym c.least_free.ensures.least ∙ c.in-Some.is) c.index-live.ensures in
+    none_open st.image (log_of st.world) (next_line c.args.self.now) k d is.closed
+    (subst (λ p. k < length p.lines) st.stands.placing within)
+    (sym (ap (λ p. (slice_index_or p.lines k d).line) st.stands.placing) ∙ same ∙ sym it.0)
+
+pub begin-requires-2-clause-units : goal.begin-requires-2-clause-units
+begin-requires-2-clause-units c =
+    let st = c.requires.standing in
+    let may = open_is_named c.args.self.now c.requires.named in
+    let is = next_line_is st.image st.world c.args.self.now st.legal st.stands may in
+    let it = chosen st.image st.world c.args.self.now c.in-Some.line c.index-live.result.now c.index-live.result.now st.legal st.stands may (sym c.least_free.ensures.least ∙ c.in-Some.is) c.index-live.ensures in
+    subst (λ p. c.index-live.result.now < 2 ^ units p.shape) (sym st.stands.placing) (subst (λ m. m < 2 ^ units st.image.shape) (sym it.1) is.small)
+
+pub begin-requires-2-clause-data : goal.begin-requires-2-clause-data
+begin-requires-2-clause-data c = λ none.
+    let st = c.requires.standing in
+    let may = open_is_named c.args.self.now c.requires.named in
+    let is = next_line_is st.image st.world c.args.self.now st.legal st.stands may in
+    let it = chosen st.image st.world c.args.self.now c.in-Some.line c.index-live.result.now c.index-live.result.now st.legal st.stands may (sym c.least_free.ensures.least ∙ c.in-Some.is) c.index-live.ensures in
+    let same : data_len c.args.self.now.placer.shape (length (units_in c.index-live.result.now)) ≡ data_len st.image.shape (units st.image.shape) =
+    ap₂ data_len (ap (λ p. p.shape) st.stands.placing) (ap (λ m. length (units_in m)) it.1 ∙ is.wide) in
+    let some : 0 < data_len st.image.shape (units st.image.shape) = has_data st.image.shape st.legal.plain.accepted in
+    no_data (data_len st.image.shape (units st.image.shape)) (sym same ∙ none) some
+  where
+    no_data : (n : ℕ) → n ≡ 0 → 0 < n → ⊥
+    no_data n e some = absurd (omega arith)
+
+pub begin-requires-2-clause-few : goal.begin-requires-2-clause-few
+begin-requires-2-clause-few c =
+    let st = c.requires.standing in
+    let may = open_is_named c.args.self.now c.requires.named in
+    let few : c.args.self.now.open.count < 2 = may.few in
+    let count : c.args.self.now.open.count ≡ length (open_lines st.image (log_of st.world)) = open_count st.image st.world c.args.self.now st.stands in
+    let low : length (open_lines st.image (log_of st.world)) ≤ 1 = omega arith in
+    subst (λ p. length p.lines ≤ 1) (sym st.stands.placing) low
+
+pub overflow_add-self-2 : goal.overflow_add-self-2
+overflow_add-self-2 c =
+    let may = open_is_named c.args.self.now c.requires.named in
+    let none : c.args.self.now.left ≡ 0 = may.left in
+    search rules
+
+pub returns-clause-legal : goal.returns-clause-legal
+returns-clause-legal c = λ i w begun blank st has. next_may_open i w c.args.self.now begun blank st (open_is_named c.args.self.now c.requires.named) has
+
+pub returns-clause-stands : goal.returns-clause-stands
+returns-clause-stands c = λ i w knows blank st.
+    let may = open_is_named c.args.self.now c.requires.named in
+    let it = chosen i w c.args.self.now c.in-Some.line c.index-live.result.now c.index-live.result.now blank st may (sym c.least_free.ensures.least ∙ c.in-Some.is) c.index-live.ensures in
+    let width : c.width-width.result ≡ (next_start c.args.self.now).width = c.width-width.ensures.width ∙ ap (λ m. length (units_in m)) it.1 in
+    let front : c.synced.result.position ≡ (next_start c.args.self.now).front = ap (λ f. f.position) c.synced.ensures.synced in
+    let stripes : c.width-width.result * (c.shape-shape.result.now.clba / c.shape-shape.result.now.ws_opt) ≡ (next_start c.args.self.now).width * (c.args.self.now.layout.clba / c.args.self.now.layout.ws_opt) =
+    ap₂ (λ g (s : Shape). g * (s.clba / s.ws_opt)) width c.shape-shape.ensures.shape in
+    opened_stands i w knows c.args.self.now _ blank st may (record {
+      layout = refl;
+      map = refl;
+      lines = subst (λ n. Changes c.args.self.now.lines c.turn.new.self n (turned states.Open (next_start c.args.self.now).width)) (sym it.0)
+          (subst (λ g. Changes c.args.self.now.lines c.turn.new.self c.in-Some.line (turned states.Open g)) width c.turn.ensures);
+      window = refl;
+      placer = c.begin-2.ensures ∙ ap₂ (line_begun c.args.self.now.placer) (sym it.0) it.1;
+      holds = refl;
+      open_count = c.begin.ensures.count;
+      open_slots = λ slot there. c.begin.ensures.slots slot there ∙ (λ j. slice_set c.args.self.now.open.slots.items c.args.self.now.open.count (opened_slot slot (record {
+        line = sym it.0 j;
+        width = width j;
+        seq = c.args.self.now.start.seq;
+        first_seq = c.args.self.now.start.first_seq;
+        front = front j;
+        capacity = c.args.self.now.start.capacity;
+        rows = (start_numbers c.args.self.now.start).rows;
+      }) (it.1 j) (stripes j)));
+      live = refl;
+      seq = refl;
+      first_seq = refl;
+      own_capacity = refl;
+      older = refl;
+      first = refl;
+      placed = refl;
+      left = ap (λ n. c.args.self.now.left + n) (c.from.ensures ∙ c.data_len.ensures.len ∙ ap (data_len c.args.self.now.layout) width);
+      under_way = refl;
+      users = refl;
+    })

@@ -1,0 +1,51 @@
+-- The entries of a stripe that is placed: their blocks, and what they change in the table of lines.
+use Rattle.std.specs.Prelude.{ℕ, ◌%◌, List, [], map, take, length, slice_set, Option, Some, None}
+use Rattle.std.specs.List.{fold}
+use Rattle.std.specs.Option.{option_map_or, unwrap_or}
+use Rattle.pblk_model.specs.Chunk.{Block}
+use Rattle.pblk_model.specs.Marks.{pad_mark}
+use Rattle.line_table.specs.declared.row.Row.{Row}
+use Rattle.line_table.specs.Rows.{Table, lost}
+use Rattle.line_laws.specs.Changes.{with_row}
+use Rattle.line_laws.specs.PlacedEntries.{gained}
+use Rattle.stripe_placer.specs.declared.placement.Placement.{Placement}
+use Rattle.write_window.specs.Window.{WindowView, sector_at}
+use Rattle.pblk_core.specs.Holds.{row_at}
+use Rattle.pblk_core.specs.declared.hold.Hold.{Hold}
+
+-- the positions of a placement's entries
+abbrev pub positions_placed : Placement → List ℕ
+positions_placed of = take of.count of.positions
+
+-- the block of an entry: its sector in the window, with the mark that is kept of it
+abbrev pub entry_block : WindowView → List Hold → ℕ → Block
+entry_block w rows position = record {
+  sector = unwrap_or (sector_at w position) [];
+  mark = option_map_or (λ (h : Hold). h.mark) (row_at rows position) pad_mark;
+}
+
+abbrev pub entry_blocks : WindowView → List Hold → List ℕ → List Block
+entry_blocks w rows positions = map (entry_block w rows) positions
+
+-- An entry brings its line a live sector, which a later entry of the sector takes at once.
+abbrev pub placed_by : Option ℕ → Row → Row
+placed_by None row = gained row
+placed_by (Some by) row = lost by (gained row)
+
+abbrev pub place_hold : ℕ → Table → Option Hold → Table
+place_hold line t None = t
+place_hold line t (Some h) = with_row line (placed_by h.taker) t
+
+abbrev pub placed_lines : List Hold → ℕ → Table → List ℕ → Table
+placed_lines rows line t positions = fold (λ u position. place_hold line u (row_at rows position)) t positions
+
+-- the rows tell the line of each
+abbrev pub with_line : ℕ → Hold → Hold
+with_line line h = record { mark = h.mark; line = Some line; taker = h.taker }
+
+abbrev pub row_placed : ℕ → List Hold → ℕ → List Hold
+row_placed line rows position =
+    option_map_or (λ h. slice_set rows (position % length rows) (with_line line h)) (row_at rows position) rows
+
+abbrev pub placed_rows : ℕ → List Hold → List ℕ → List Hold
+placed_rows line rows positions = fold (row_placed line) rows positions

@@ -1,0 +1,84 @@
+-- What a core names as its next work, by its tables and by the logs.
+use Rattle.std.specs.Prelude.{ℕ, ◌+◌, ◌^◌, ◌==◌, ◌&&◌, not, if◌then◌else◌, nat_lt, Bool, length, position, []}
+use Rattle.std.specs.Option.{is_some, unwrap_or, option_map_or}
+use Rattle.std.specs.List.{slice_index_or}
+use Rattle.pblk_model.specs.Image.{Image}
+use Rattle.pblk_model.specs.StartRecord.{StartRecord}
+use Rattle.pblk_meta.specs.Records.{start_numbers}
+use Rattle.pblk_world.specs.World.{Logs}
+use Rattle.pblk_world.specs.EngineLog.{Begun, begun, openings}
+use Rattle.pblk_world.specs.Fronts.{synced, waiting}
+use Rattle.pblk_world.specs.Space.{open_addresses}
+use Rattle.pblk_layout.specs.Live.{units_in}
+use Rattle.line_table.specs.Rows.{is_free}
+use Rattle.stripe_placer.specs.Placing.{next_stripe}
+use Rattle.write_window.specs.Window as view
+use Rattle.core_laws.specs.OpenedLines.{open_lines}
+use Rattle.core_laws.specs.PlacerOf.{placing_of}
+use Rattle.core_laws.specs.RowsOf.{rows_of}
+use Rattle.pblk_core.specs.Stands.{under_way}
+use Rattle.pblk_core.specs.declared.work.Work.{Work}
+use Rattle.pblk_core.specs.declared.work.Work.TheVariants.{Program, Open, Nothing}
+use Rattle.pblk_core.specs.declared.work.Why.{Why}
+use Rattle.pblk_core.specs.declared.work.Why.TheVariants.{Busy, NoLine, Rest}
+use Rattle.pblk_core.specs.declared.target_core.Core.{Core}
+
+-- Why nothing can be done: something is in flight; or an entry waits for an address, and no line is Free.
+abbrev pub why : Bool → Bool → Why
+why in_flight lacks_line = if in_flight then Busy else if lacks_line then NoLine else Rest
+
+-- A program; or, where an entry waits for an address, the opening of a line, if one is Free and may be opened.
+abbrev pub choice : Bool → Bool → Bool → Bool → Bool → Work
+choice has_stripe asks_line has_free may_open in_flight =
+    if has_stripe then Program
+    else if asks_line && (has_free && may_open) then Open
+    else Nothing (why in_flight (asks_line && not has_free))
+
+-- By the core's tables.
+
+-- an entry waits, and no open line has an address left
+abbrev pub asks_line : Core → Bool
+asks_line c = nat_lt (c.first + c.placed) (view.taken c.window) && (c.left == 0)
+
+abbrev pub has_free : Core → Bool
+has_free c = is_some (position is_free c.lines.rows)
+
+-- at most one line has a stripe left, and the numbers of a start record aren't at their end
+abbrev pub may_open : Core → Bool
+may_open c = nat_lt c.open.count 2 && (nat_lt c.start.seq (2 ^ 61) && nat_lt (view.synced c.window).position (2 ^ 61))
+
+abbrev pub named : Core → Work
+named c = choice (is_some (next_stripe c.placer 0)) (asks_line c) (has_free c) (may_open c) (nat_lt 0 c.under_way)
+
+abbrev pub pad_of : Core → ℕ
+pad_of c = c.placer.entries.pad
+
+-- By the logs, for a pad target.
+abbrev pub first_seq_of : Logs → ℕ
+first_seq_of logs = option_map_or (λ (b : Begun). b.beginning.seq) (begun (logs 0)) 0
+
+abbrev pub work_of : Image → Logs → ℕ → Work
+work_of i logs pad = choice
+    (is_some (next_stripe (placing_of i logs pad []) 0))
+    (nat_lt 0 (length (waiting i.shape (logs 0))) && (open_addresses i logs == 0))
+    (is_some (position is_free (rows_of i logs).rows))
+    (nat_lt (length (open_lines i logs)) 2 && (nat_lt (first_seq_of logs + length (openings (logs 0))) (2 ^ 61) && nat_lt (synced i.shape (logs 0)) (2 ^ 61)))
+    (nat_lt 0 (under_way i.shape (logs 0)))
+
+-- The line that is opened next, its units, and its start record.
+abbrev pub next_line : Core → ℕ
+next_line c = unwrap_or (position is_free c.lines.rows) 0
+
+abbrev pub next_units : Core → ℕ
+next_units c = slice_index_or c.live.items (next_line c) 0
+
+abbrev pub next_start : Core → StartRecord
+next_start c = record {
+  line = next_line c;
+  width = length (units_in (next_units c));
+  seq = c.start.seq;
+  first_seq = c.start.first_seq;
+  front = (view.synced c.window).position;
+  capacity = c.start.capacity;
+  rows = (start_numbers c.start).rows;
+}

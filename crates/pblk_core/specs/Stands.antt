@@ -1,0 +1,97 @@
+-- A core stands for the logs of a mount: each of its tables holds what the logs say.
+use Rattle.std.specs.Prelude.{ℕ, false, ◌+◌, ◌-◌, ◌*◌, ◌/◌, ◌%◌, ◌<◌, ◌≤◌, ◌≡◌, List, [], map, length, slice_get, Some}
+use Rattle.std.specs.List.{Contains, filter, range_with_len}
+use Rattle.std.specs.Option.{is_some}
+use Rattle.std.specs.FinMap as map
+use Rattle.pblk_model.specs.declared.shape.Shape.{Shape}
+use Rattle.pblk_model.specs.Shape.{units}
+use Rattle.pblk_model.specs.Image.{Image}
+use Rattle.pblk_meta.specs.Records.{start_numbers}
+use Rattle.pblk_world.specs.Events.{Logged}
+use Rattle.pblk_world.specs.World.{World, Logs, log_of}
+use Rattle.pblk_world.specs.EngineLog.{Begun, begun, Opening, Taken, takes, openings, stripes_of, has_landed}
+use Rattle.pblk_world.specs.Fronts.{first_position, user_takes}
+use Rattle.pblk_world.specs.Space.{freed, placed_front, open_addresses}
+use Rattle.pblk_world.specs.Starts.{older_rows}
+use Rattle.stripe_placer.specs.OpenLines.{has_left}
+use Rattle.core_laws.specs.OpenedLines.{opened_units, bits_of, live_now, open_line, standing}
+use Rattle.core_laws.specs.PlacerOf.{placing_of, unanswered_on}
+use Rattle.core_laws.specs.RowsOf.{rows_of}
+use Rattle.core_laws.specs.SlotOf.{slot_of}
+use Rattle.core_laws.specs.WindowOf.{is_given_back, sectors_in, window_from}
+use Rattle.core_laws.specs.PlainWorlds.{IsBlankWorld}
+use Rattle.pblk_core.specs.Holds.{hold_of}
+use Rattle.pblk_core.specs.LineRecords.{AreOf}
+use Rattle.pblk_core.specs.declared.hold.Holds.{Holds}
+use Rattle.pblk_core.specs.declared.open_lines.OpenLine.{OpenLine}
+use Rattle.pblk_core.specs.declared.open_lines.OpenLines.{OpenLines}
+use Rattle.pblk_core.specs.declared.target_core.Core.{Core}
+
+-- Holds: a row for each entry of which no block can be read yet.
+pub record AreHolds (s : Shape) (log : List Logged) (holds : Holds) : Type 0 where
+  pub room : length holds.rows.items ≡ s.ring
+  pub each : (t : Taken) → Contains (takes log) t → is_given_back s log t.entry.position ≡ false
+      → slice_get holds.rows.items (t.entry.position % s.ring) ≡ Some (hold_of s log t)
+
+-- Open lines: the openings of those that have a stripe left, in their order.
+abbrev pub left_openings : Image → Logs → List Opening
+left_openings i logs = filter (λ o. has_left (open_line i logs o)) (standing (logs 0))
+
+-- how many stripes of an opening haven't landed
+abbrev pub unlanded : Shape → List Logged → Opening → ℕ
+unlanded s log o = o.start.width * (s.clba / s.ws_opt) - length (filter (has_landed log) (stripes_of log o))
+
+pub record IsOpenLine (i : Image) (logs : Logs) (o : Opening) (kept : OpenLine) : Type 0 where
+  pub records : AreOf i.shape (logs 0) o kept.records
+  pub live : kept.live ≡ bits_of (opened_units i logs o)
+  pub left : kept.stripes_left ≡ unlanded i.shape (logs 0) o
+
+pub record AreOpenLines (i : Image) (logs : Logs) (kept : OpenLines) : Type 0 where
+  pub two : length kept.slots.items ≡ 2
+  pub shapes : (k : ℕ) (line : OpenLine) → slice_get kept.slots.items k ≡ Some line → line.records.shape ≡ i.shape
+  pub count : kept.count ≡ length (left_openings i logs)
+  pub few : kept.count ≤ 2
+  pub each : (k : ℕ) (o : Opening) (line : OpenLine) → slice_get (left_openings i logs) k ≡ Some o
+      → slice_get kept.slots.items k ≡ Some line → IsOpenLine i logs o line
+
+-- how many units have a stripe that is neither landed nor lost
+abbrev pub under_way : Shape → List Logged → ℕ
+under_way s log = length (filter (λ unit. is_some (unanswered_on log unit)) (range_with_len 0 (units s)))
+
+pub record Stands (i : Image) (logs : Logs) (c : Core) : Type 0 where
+  pub layout : c.layout ≡ i.shape
+  pub beginning : Begun
+  pub has_begun : begun (logs 0) ≡ Some beginning
+  -- the map
+  pub capacity : map.len c.map ≡ i.shape.capacity
+  pub slots : (lba : ℕ) → lba < i.shape.capacity → map.get c.map lba ≡ Some (slot_of i logs lba)
+  -- the lines
+  pub table : c.lines ≡ rows_of i logs
+  pub units : c.live.items ≡ map (live_now i logs) (range_with_len 0 i.shape.chunks)
+  -- the window
+  pub size : c.window.size ≡ i.shape.ring
+  pub window : sectors_in c.window ≡ window_from i.shape (logs 0) c.window.freed
+  pub from_first : first_position (logs 0) ≤ c.window.freed
+  pub to_freed : c.window.freed ≤ freed i.shape (logs 0)
+  pub holds : AreHolds i.shape (logs 0) c.holds
+  -- the placer, and the records of the open lines
+  pub placing : c.placer ≡ placing_of i logs c.placer.entries.pad []
+  pub open_lines : AreOpenLines i logs c.open
+  -- what the next start record says
+  pub next_seq : c.start.seq ≡ beginning.beginning.seq + length (openings (logs 0))
+  pub first_seq : c.start.first_seq ≡ beginning.beginning.seq
+  pub own_capacity : c.start.capacity ≡ i.shape.capacity
+  pub older : (start_numbers c.start).rows ≡ older_rows i logs
+  -- counters
+  pub first : c.first ≡ first_position (logs 0)
+  pub placed : c.first + c.placed ≡ placed_front i.shape (logs 0)
+  pub left : c.left ≡ open_addresses i logs
+  pub in_flight : c.under_way ≡ under_way i.shape (logs 0)
+  pub users : c.users ≡ length (user_takes (logs 0))
+
+-- It stands for the logs of some legal world, on a drive on which nothing was written.
+pub record IsStanding (c : Core) : Type 0 where
+  pub image : Image
+  pub world : World
+  pub legal : IsBlankWorld image world
+  pub stands : Stands image (log_of world) c

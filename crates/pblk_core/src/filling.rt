@@ -1,0 +1,99 @@
+//! The entries of a stripe that is placed.
+
+ghost use Rattle.std.specs.Prelude.{ℕ, ◌≡◌, ◌+◌, ◌*◌, ◌<◌, ◌≤◌, ◌^◌, [], ◌∷◌, List, length, Some, slice_get};
+ghost use Rattle.line_table.specs.declared.row.Row.{Row};
+ghost use Rattle.line_table.specs.Rows.{IsRow};
+ghost use Rattle.write_window.specs.Window.{IsHeld, sector_at};
+ghost use Rattle.pblk_core.specs.Filling.{followed_by};
+ghost use Rattle.pblk_core.specs.Entries.{positions_placed, entry_blocks, place_hold, placed_lines, placed_rows};
+
+use crate::hold::{Hold, Holds};
+use crate::stripe::Stripe;
+use line_table::Lines;
+use stripe_placer::Placement;
+use write_window::Window;
+
+/// Adds the entries of a placement to an empty stripe, in their order, each with the mark that is kept of it.
+///
+/// The window holds them, each of the size of a sector, and the stripe has room for them.
+pub(crate) fn fill(window: &Window, holds: &Holds, of: &Placement, into: &mut Stripe)
+    requires rows { 0 < length holds.now.rows.items }
+    requires whole { length (positions_placed of.now) ≡ of.now.count }
+    requires held { (k q : ℕ) → slice_get (positions_placed of.now) k ≡ Some q → IsHeld window.now q }
+    requires size { (q : ℕ) (sector : List ℕ) → sector_at window.now q ≡ Some sector
+        → length sector ≡ into.old.shape.sector }
+    requires empty { into.old.stripe.blocks ≡ [] }
+    requires room { of.now.count ≤ into.old.shape.ws_opt }
+    ensures { into.new ≡ followed_by into.old
+        (entry_blocks window.now holds.now.rows.items (positions_placed of.now)) }
+{
+    for index in 0..of.count {
+        add_entry(window, holds, of.positions[index as usize], into);
+    }
+}
+
+// Adds an entry to a stripe.
+fn add_entry(window: &Window, holds: &Holds, position: u64, into: &mut Stripe)
+    requires rows { 0 < length holds.now.rows.items }
+    requires held { IsHeld window.now position }
+    requires size { (sector : List ℕ) → sector_at window.now position ≡ Some sector
+        → length sector ≡ into.old.shape.sector }
+    requires room { length into.old.stripe.blocks < into.old.shape.ws_opt }
+    ensures { into.new ≡ followed_by into.old
+        (entry_blocks window.now holds.now.rows.items (position ∷ [])) }
+{
+    let hold = holds.get(position);
+    match window.get(position) {
+        Some(sector) => into.append(hold.mark, sector),
+        None => unreachable!(),
+    }
+}
+
+/// The entries of a placement are in its line: each is a live sector there, which a later entry of the sector
+/// takes at once. The line has room for their number.
+pub(crate) fn settle_lines(lines: &mut Lines, holds: &Holds, of: &Placement)
+    requires rows { 0 < length holds.now.rows.items }
+    requires whole { length (positions_placed of.now) ≡ of.now.count }
+    requires inside { of.now.line < length lines.old.rows }
+    requires room { (row : Row) → IsRow lines.old of.now.line row → row.live + of.now.count < 2 ^ 32 }
+    ensures { lines.new
+        ≡ placed_lines holds.now.rows.items of.now.line lines.old (positions_placed of.now) }
+{
+    for index in 0..of.count {
+        let hold = holds.get(of.positions[index as usize]);
+        settle_line(lines, of.line, &hold);
+    }
+}
+
+// An entry is in a line.
+fn settle_line(lines: &mut Lines, line: u32, hold: &Hold)
+    requires inside { line < length lines.old.rows }
+    requires room { (row : Row) → IsRow lines.old line row → row.live + 1 < 2 ^ 32 }
+    ensures { lines.new ≡ place_hold line lines.old (Some hold.now) }
+{
+    lines.gain(line);
+    if let Some(taker) = hold.taker {
+        lines.lose(line, taker);
+    }
+}
+
+/// The rows of the entries of a placement tell its line.
+pub(crate) fn settle_holds(holds: &mut Holds, of: &Placement)
+    requires rows { 0 < length holds.old.rows.items }
+    requires whole { length (positions_placed of.now) ≡ of.now.count }
+    ensures { holds.new.rows.items
+        ≡ placed_rows of.now.line holds.old.rows.items (positions_placed of.now) }
+{
+    for index in 0..of.count {
+        let position = of.positions[index as usize];
+        let hold = holds.get(position);
+        holds.set(
+            position,
+            Hold {
+                mark: hold.mark,
+                line: Some(of.line),
+                taker: hold.taker,
+            },
+        );
+    }
+}

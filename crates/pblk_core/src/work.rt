@@ -1,0 +1,24 @@
+//! What a core names as its next work.
+
+/// What a target does next.
+#[derive(Clone, Copy, Debug, PartialEq, Eq)]
+pub enum Work {
+    /// A stripe is placed and programmed.
+    Program,
+    /// A line is opened.
+    Open,
+    /// Nothing can be done now.
+    Nothing(Why),
+}
+
+/// Why nothing can be done now.
+#[derive(Clone, Copy, Debug, PartialEq, Eq)]
+pub enum Why {
+    /// Something is in flight.
+    Busy,
+    /// Something waits to be placed, no open line has an address left and no line is Free. Nothing is in
+    /// flight.
+    NoLine,
+    /// Nothing is to be made, and nothing is in flight.
+    Rest,
+}
