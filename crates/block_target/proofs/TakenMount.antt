@@ -1,0 +1,254 @@
+-- A mount that took an entry.
+use Rattle.std.proofs.Common.{◌≡◌, ◌⊎◌, ℕ, ◌+◌, ◌*◌, ◌^◌, ◌<◌, ◌≤◌, ◌&&◌, ◌||◌, suc, Bool, true, false, None, Some, List, [], ◌∷◌, ◌++◌, length, refl, sym, subst, ap, ap₂, ◌∙◌, arith, inl, inr, length-append}
+use Rattle.std.specs.Prelude.{slice_get, slice_index}
+use Rattle.std.specs.List.{AllByRecursion, list_any}
+use Rattle.std.proofs.lemmas.Bool.{cases_order}
+use Rattle.std.proofs.lemmas.List.Sums.{fold-append}
+use Rattle.pblk_model.specs.declared.shape.Shape.{Shape}
+use Rattle.pblk_model.specs.declared.chunk.Mark.{Mark}
+use Rattle.pblk_model.specs.Frames.{Region, PoolView, count_left, count_out}
+use Rattle.pblk_model.specs.Image.{Image, blank}
+use Rattle.pblk_model.specs.Marks.{sector_mark}
+use Rattle.pblk_model.specs.Chunk.{IsBlock}
+use Rattle.pblk_model.specs.Shape.{units}
+use Rattle.pblk_world.specs.Events.{Entry, EngineEvent, Take, Logged, Decides as Did}
+use Rattle.pblk_world.specs.World.{World, Logs, log_of, media}
+use Rattle.pblk_world.specs.EngineLog.{Begun, begun, Placed, takes, placements, has_landed, holds_position}
+use Rattle.pblk_world.specs.Fronts.{first_position, taken, has_landed_at, is_users}
+use Rattle.pblk_world.specs.Space.{freed, gives_back}
+use Rattle.pblk_world.specs.Taking.{MayTake}
+use Rattle.core_laws.specs.PlainWorlds.{IsBlankWorld, is_plain_decision}
+use Rattle.core_laws.specs.PlacerOf.{unanswered_on}
+use Rattle.core_laws.specs.Positions.{IsUnplaced}
+use Rattle.core_laws.specs.Stepping.{after}
+use Rattle.core_laws.specs.WindowOf.{is_given_back}
+use Rattle.core_laws.proofs.Numbering.{first_stays}
+use Rattle.core_laws.proofs.Steady.{AreAlike, unanswered_in}
+use Rattle.core_laws.proofs.TakenSlots.{gives_back_same, any_same}
+use Rattle.core_laws.proofs.Taking.{alike, with_take}
+use Rattle.landing_laws.proofs.FreedFront.{freed_here}
+use Rattle.landing_laws.proofs.Growing.{given_landed}
+use Rattle.landing_laws.proofs.Least.{IsLeast, least}
+use Rattle.step_laws.specs.Whole.{knows_all, engine_step, IsLevel}
+use Rattle.step_laws.proofs.EngineSteps.{engine_next, engine_logs, media_still}
+use Rattle.step_laws.proofs.Levels.{level_by}
+use Rattle.sector_pool.specs.declared.entry.Entry.{Entry as FramedEntry}
+use Rattle.sector_pool.specs.declared.entry.Source.{Source as EntrySource}
+use Rattle.std.specs.Option.{option_map}
+use Rattle.write_window.specs.declared.held.Held.{Held}
+use Rattle.write_window.specs.declared.held.Progress.TheVariants.{Waiting}
+use Rattle.write_window.specs.Window as window
+use Rattle.pblk_core.specs.declared.target_core.Core.{Core}
+use Rattle.pblk_core.specs.Filling.{Filling}
+use Rattle.pblk_core.specs.Named.{pad_of}
+use Rattle.pblk_core.specs.Stands.{Stands}
+use Rattle.pblk_core.specs.Taken.{entry_of, mark_of}
+use Rattle.pblk_core.proofs.StandsFacts.{next_is_unplaced, window_taken_is}
+use Rattle.pblk_core.proofs.StandsTaken.{freed_taken}
+use Rattle.block_target.specs.Deeds.{Deed, Decides, step_of, world_of}
+use Rattle.block_target.specs.Mount.{MountView, IsMount, IsUnitIn, world_in, logs_in, engine_log, taken_in, with_entry}
+
+-- ---- one thing more is done
+
+pub world_more : (s : Shape) (deeds : List Deed) (d : Deed) → world_of s (deeds ++ d ∷ []) ≡ step_of s (world_of s deeds) d ∷ world_of s deeds
+world_more s deeds d = fold-append (λ w d. step_of s w d ∷ w) [] deeds (d ∷ [])
+
+pub logs_decided : (s : Shape) (deeds : List Deed) (e : EngineEvent) → log_of (world_of s (deeds ++ Decides e ∷ [])) ≡ after (log_of (world_of s deeds)) e (knows_all s (world_of s deeds))
+logs_decided s deeds e = ap log_of (world_more s deeds (Decides e)) ∙ engine_logs s e (world_of s deeds)
+
+-- ---- the front freed stays
+
+no_landed : (s : Shape) (log : List Logged) (q : ℕ) (ps : List Placed) → AllByRecursion (λ p. holds_position s q p ≡ false) ps → list_any (λ p. has_landed log p && holds_position s q p) ps ≡ false
+no_landed s log q [] none = refl
+no_landed s log q (p ∷ ps) none = ap₂ (λ a b. a || b) (not_and (has_landed log p) (holds_position s q p) none.0) (no_landed s log q ps none.1)
+  where
+    not_and : (a b : Bool) → b ≡ false → (a && b) ≡ false
+    not_and true b e = e
+    not_and false b e = refl
+
+not_both : {X : Type 0} (b : Bool) → b ≡ true → b ≡ false → X
+not_both b e f = absurd cc
+
+given_none : (s : Shape) (log : List Logged) (q : ℕ) → IsUnplaced s log q → is_given_back s log q ≡ false
+given_none s log q none = go (is_given_back s log q) refl
+  where
+    go : (b : Bool) → is_given_back s log q ≡ b → b ≡ false
+    go true e = not_both (has_landed_at s log q) (given_landed s log q e) (no_landed s log q (placements log) none)
+    go false e = refl
+
+given_at_freed : (s : Shape) (log : List Logged) → IsUnplaced s log (taken log) → is_given_back s log (freed s log) ≡ false
+given_at_freed s log none = go (cases_order (freed s log) (taken log)) (least (is_given_back s log) (length (takes log)) (first_position log))
+  where
+    go : (freed s log ≡ taken log) ⊎ ((freed s log < taken log) ⊎ (taken log < freed s log)) → IsLeast (is_given_back s log) (length (takes log)) (first_position log) (freed s log)
+        → is_given_back s log (freed s log) ≡ false
+    go (inl same) is = ap (is_given_back s log) same ∙ given_none s log (taken log) none
+    go (inr (inl less)) is = is.missing less
+    go (inr (inr more)) is =
+        let within : freed s log ≤ first_position log + length (takes log) = is.within in
+        let beyond : first_position log + length (takes log) < freed s log = more in
+        absurd (omega arith)
+
+given_same : (s : Shape) (log : List Logged) (entry : Entry) (mark : Mark) (knows : List ℕ) (q : ℕ) → is_given_back s (with_take log entry mark knows) q ≡ is_given_back s log q
+given_same s log entry mark knows q =
+    any_same (gives_back s new q) (gives_back s log q) (gives_back_same s log new (alike log entry mark knows) q) (placements new)
+    ∙ ap (list_any (gives_back s log q)) (AreAlike.placements (alike log entry mark knows))
+  where
+    new : List Logged
+    new = with_take log entry mark knows
+
+pub freed_same : (s : Shape) (log : List Logged) (entry : Entry) (mark : Mark) (knows : List ℕ) (b : Begun) → begun log ≡ Some b → IsUnplaced s log (taken log)
+    → freed s (with_take log entry mark knows) ≡ freed s log
+freed_same s log entry mark knows b has none =
+    let from : first_position log ≤ freed s log = IsLeast.from (least (is_given_back s log) (length (takes log)) (first_position log)) in
+    let first : first_position (with_take log entry mark knows) ≡ first_position log = first_stays log (record { event = Did (Take entry mark); knows = knows }) b has in
+    freed_here s (with_take log entry mark knows) (freed s log) (subst (λ p. p ≤ freed s log) (sym first) from) (freed_taken s log entry mark knows b has)
+    (given_same s log entry mark knows (freed s log) ∙ given_at_freed s log none)
+
+-- ---- room
+
+pub room_left : (v : MountView) (c : Core) (p : PoolView) (f : Filling) → IsMount v c p f → taken_in v < v.granted → length c.window.entries < c.window.size
+room_left v c p f m room =
+    let end : c.window.freed + length c.window.entries ≡ taken_in v = window_taken_is (blank v.shape) (world_in v) c m.stands in
+    let size : c.window.size ≡ v.shape.ring = m.stands.size in
+    let granted : v.granted + units v.shape * v.shape.ws_opt ≤ c.window.freed + v.shape.ring = m.granted in
+    omega arith
+
+pub frame_left : (v : MountView) (c : Core) (p : PoolView) (f : Filling) → IsMount v c p f → taken_in v < v.granted → count_left p.left + count_out p.left ≡ p.region.count → 0 < count_left p.left
+frame_left v c p f m room sum =
+    let held : length c.window.entries < c.window.size = room_left v c p f m room in
+    let size : c.window.size ≡ v.shape.ring = m.stands.size in
+    let out : count_out p.left ≡ length c.window.entries = m.out in
+    let count : p.region.count ≡ v.shape.ring = m.count in
+    omega arith
+
+-- ---- the mount
+
+with_last : {X : Type 0} (P : X → Type 0) (xs : List X) (x : X) → AllByRecursion P xs → P x → AllByRecursion P (xs ++ x ∷ [])
+with_last P [] x h last = (last, tt)
+with_last P (y ∷ xs) x h last = (h.0, with_last P xs x h.1 last)
+
+pub all_bytes : (bytes : List ℕ) → ((k : ℕ) → slice_index bytes k < 256) → AllByRecursion (λ x. x < 256) bytes
+all_bytes [] fit = tt
+all_bytes (x ∷ bytes) fit = (fit 0, all_bytes bytes (λ k. fit (suc k)))
+
+pub sector_is_block : (v : MountView) (c : Core) (p : PoolView) (f : Filling) (e : FramedEntry) → IsMount v c p f → e.lba < v.shape.capacity → e.position < 2 ^ 62
+    → (sector : List ℕ) → e.frame.bytes ≡ sector → length sector ≡ v.shape.sector → ((k : ℕ) → slice_index sector k < 256) → IsBlock v.shape (record { sector = e.frame.bytes; mark = mark_of e })
+sector_is_block v c p f e m inside position sector is size fit = record {
+  size = ap (λ (xs : List ℕ). length xs) is ∙ size;
+  bytes = subst (λ (xs : List ℕ). AllByRecursion (λ x. x < 256) xs) (sym is) (all_bytes sector fit);
+  lba = let low : v.shape.capacity < 2 ^ 40 = m.sound.legal.plain.accepted.target.capacity_number in omega arith;
+  position = omega arith;
+}
+
+pub low_position : (v : MountView) (c : Core) (p : PoolView) (f : Filling) (position : ℕ) → IsMount v c p f → taken_in v < v.granted → position ≡ window.taken c.window → position < 2 ^ 62
+low_position v c p f position m room is =
+    let same : window.taken c.window ≡ taken_in v = window_taken_is (blank v.shape) (world_in v) c m.stands in
+    let last : v.granted < 2 ^ 61 = m.last in
+    omega arith
+
+-- what is so of a core and a pool once the core took an entry, in a frame of the pool
+pub record IsTakenBy (v : MountView) (old new : Core) (p q : PoolView) (e : FramedEntry) : Type 0 where
+  pub stands : (i : Image) (w : World) (knows : List ℕ) → IsBlankWorld i w → Stands i (log_of w) old → Stands i (after (log_of w) (Take (entry_of e) (mark_of e)) knows) new
+  pub legal : MayTake (blank v.shape) (logs_in v) (entry_of e) (mark_of e)
+  pub user : e.source ≡ None
+  pub pushed : new.window ≡ record old.window { entries = old.window.entries ++ record { entry = e; progress = Waiting } ∷ [] }
+  pub region : q.region ≡ p.region
+  pub out : count_out q.left ≡ count_out p.left + 1
+  pub own : e.frame.region ≡ p.region
+
+-- what was done, with the taking of the entry
+abbrev pub taken_deeds : MountView → FramedEntry → List Deed
+taken_deeds v e = v.deeds ++ Decides (Take (entry_of e) (mark_of e)) ∷ []
+
+pub mount_taken : (v : MountView) (old new : Core) (p q : PoolView) (f : Filling) (e : FramedEntry) → IsMount v old p f → IsTakenBy v old new p q e
+    → IsMount (record { shape = v.shape; deeds = taken_deeds v e; units = v.units; granted = v.granted; pad = pad_of new }) new q f
+mount_taken v old new p q f e m is = record {
+  sound = record {
+    legal = subst (IsBlankWorld i) (sym more) (engine_next i w b event blank_before begins is.legal plain);
+    count = m.sound.count;
+    each = λ number u has. let was : IsUnitIn v number u = m.sound.each number u has in record {
+      shape = was.shape;
+      media = ap (λ (j : Image). slice_get j.units number) (ap (λ (w : World). media i (log_of w)) more ∙ media_still i v.shape event w) ∙ was.media;
+      unarmed = was.unarmed;
+      fit = was.fit;
+    };
+  };
+  stands = subst (λ (logs : Logs). Stands i logs new) (sym logs) (is.stands i w knows blank_before m.stands);
+  pad = refl;
+  level = subst IsLevel (sym more) (level_by v.shape event w (λ unit. refl) m.level);
+  idle = λ unit. ap (λ (log : List Logged). unanswered_on log unit) log_is ∙ still_idle unit ∙ m.idle unit;
+  drained = freed_stays ∙ m.drained ∙ sym (ap (freed v.shape) log_is ∙ freed_same v.shape (engine_log v) (entry_of e) (mark_of e) knows b begins (next_is_unplaced i w blank_before));
+  own = subst (λ (r : Region). window.AreOf r new.window.entries) (sym is.region)
+      (subst (λ (hs : List Held). window.AreOf p.region hs) (sym entries_are) (with_last (λ (h : Held). h.entry.frame.region ≡ p.region) old.window.entries (record { entry = e; progress = Waiting }) m.own is.own));
+  out = is.out ∙ ap (λ n. n + 1) m.out ∙ sym (ap (λ (hs : List Held). length hs) entries_are ∙ length-append old.window.entries (record { entry = e; progress = Waiting } ∷ []));
+  count = ap (λ (r : Region). r.count) is.region ∙ m.count;
+  size = ap (λ (r : Region). r.size) is.region ∙ m.size;
+  stripe = m.stripe;
+  granted = subst (λ n. v.granted + units v.shape * v.shape.ws_opt ≤ n + v.shape.ring) (sym freed_stays) m.granted;
+  last = m.last;
+}
+  where
+    i : Image
+    i = blank v.shape
+
+    w : World
+    w = world_in v
+
+    event : EngineEvent
+    event = Take (entry_of e) (mark_of e)
+
+    knows : List ℕ
+    knows = knows_all v.shape w
+
+    b : Begun
+    b = m.stands.beginning
+
+    begins : begun (engine_log v) ≡ Some b
+    begins = m.stands.has_begun
+
+    blank_before : IsBlankWorld i w
+    blank_before = m.sound.legal
+
+    plain : is_plain_decision event ≡ true
+    plain = ap is_users (ap (option_map (λ (at : EntrySource). record { line = at.line; at = at.at; position = at.position })) is.user)
+
+    more : world_of v.shape (taken_deeds v e) ≡ engine_step v.shape event w ∷ w
+    more = world_more v.shape v.deeds (Decides event)
+
+    logs : log_of (world_of v.shape (taken_deeds v e)) ≡ after (log_of w) event knows
+    logs = logs_decided v.shape v.deeds event
+
+    log_is : log_of (world_of v.shape (taken_deeds v e)) 0 ≡ with_take (engine_log v) (entry_of e) (mark_of e) knows
+    log_is = ap (λ (ls : Logs). ls 0) logs
+
+    still_idle : (unit : ℕ) → unanswered_on (with_take (engine_log v) (entry_of e) (mark_of e) knows) unit ≡ unanswered_on (engine_log v) unit
+    still_idle unit =
+        let same : AreAlike (engine_log v) (with_take (engine_log v) (entry_of e) (mark_of e) knows) = alike (engine_log v) (entry_of e) (mark_of e) knows in
+        ap₂ (λ ps ns. unanswered_in ps ns unit) same.placements same.answers
+
+    freed_stays : new.window.freed ≡ old.window.freed
+    freed_stays = ap (λ x. x.freed) is.pushed
+
+    entries_are : new.window.entries ≡ old.window.entries ++ record { entry = e; progress = Waiting } ∷ []
+    entries_are = ap (λ x. x.entries) is.pushed
+
+pub mount_with : (v : MountView) (old new : Core) (p q : PoolView) (f : Filling) (e : FramedEntry) (deeds : List Deed) → IsMount v old p f → IsTakenBy v old new p q e → deeds ≡ taken_deeds v e
+    → IsMount (record { shape = v.shape; deeds = deeds; units = v.units; granted = v.granted; pad = pad_of new }) new q f
+mount_with v old new p q f e deeds m is more =
+    subst (λ (ds : List Deed). IsMount (record { shape = v.shape; deeds = ds; units = v.units; granted = v.granted; pad = pad_of new }) new q f) (sym more) (mount_taken v old new p q f e m is)
+
+-- ---- and its view
+
+pub view_taken : (v : MountView) (position lba pad : ℕ) (bytes sector : List ℕ) (deeds : List Deed)
+    → deeds ≡ v.deeds ++ Decides (Take (record { position = position; lba = lba; source = None; sector = bytes }) (sector_mark lba position)) ∷ []
+    → position ≡ taken_in v → bytes ≡ sector → pad ≡ v.pad
+    → ◌≡◌ {A = MountView} (record { shape = v.shape; deeds = deeds; units = v.units; granted = v.granted; pad = pad }) (with_entry v lba sector)
+view_taken v position lba pad bytes sector deeds more p b d =
+    (λ k. record { shape = v.shape; deeds = more k; units = v.units; granted = v.granted; pad = pad })
+    ∙ (λ k. record {
+      shape = v.shape;
+      deeds = v.deeds ++ Decides (Take (record { position = p k; lba = lba; source = None; sector = b k }) (sector_mark lba (p k))) ∷ [];
+      units = v.units;
+      granted = v.granted;
+      pad = d k;
+    })

@@ -1,0 +1,112 @@
+-- Sectors that are taken one after another, as the loop takes them.
+use Rattle.std.proofs.Common.{◌≡◌, ℕ, suc, ◌+◌, ◌-◌, ◌*◌, ◌<◌, ◌≤◌, List, [], ◌∷◌, ◌++◌, length, take, drop, slice_range, refl, sym, ap, ap₂, ◌∙◌, arith, length-append}
+use Rattle.std.proofs.Math.Nat.{mul-le-mul_right}
+use Rattle.std.proofs.lemmas.List.{drop-drop, length-take-le, length-drop}
+use Rattle.pblk_model.specs.Marks.{sector_mark}
+use Rattle.pblk_world.specs.Events.{EngineEvent, Take, Logged, Decides as Did}
+use Rattle.pblk_world.specs.EngineLog.{Taken, takes}
+use Rattle.pblk_world.specs.Fronts.{taken}
+use Rattle.pblk_world.proofs.Appending.{takes_more}
+use Rattle.landing_laws.proofs.Slots.{first_kept}
+use Rattle.core_laws.proofs.Taking.{with_take}
+use Rattle.step_laws.specs.Whole.{knows_all}
+use Rattle.block_port.specs.Own.{sectors_of}
+use Rattle.block_target.specs.Mount.{MountView, world_in, engine_log, taken_in, next_entry, with_entry, with_entries}
+use Rattle.block_target.proofs.TakenMount.{logs_decided}
+
+-- ---- the log after one
+
+pub log_taken : (v : MountView) (lba : ℕ) (sector : List ℕ) → engine_log (with_entry v lba sector) ≡ with_take (engine_log v) (next_entry v lba sector) (sector_mark lba (taken_in v)) (knows_all v.shape (world_in v))
+log_taken v lba sector = ap (λ ls. ls 0) (logs_decided v.shape v.deeds (Take (next_entry v lba sector) (sector_mark lba (taken_in v))))
+
+pub taken_more : (v : MountView) (lba : ℕ) (sector : List ℕ) → taken_in (with_entry v lba sector) ≡ taken_in v + 1
+taken_more v lba sector =
+    let log : List Logged = engine_log v in
+    let event : EngineEvent = Take (next_entry v lba sector) (sector_mark lba (taken_in v)) in
+    let knows : List ℕ = knows_all v.shape (world_in v) in
+    let more : takes (log ++ record { event = Did event; knows = knows } ∷ []) ≡ takes log ++ record { entry = next_entry v lba sector; mark = sector_mark lba (taken_in v) } ∷ [] = takes_more log (record { event = Did event; knows = knows }) in
+    let long : length (takes (log ++ record { event = Did event; knows = knows } ∷ [])) ≡ length (takes log) + 1 = ap (λ (ts : List Taken). length ts) more ∙ length-append (takes log) (record { entry = next_entry v lba sector; mark = sector_mark lba (taken_in v) } ∷ []) in
+    ap taken (log_taken v lba sector) ∙ ap₂ (λ a b. a + b) (first_kept log event knows refl) long ∙ omega arith
+
+-- ---- the loop
+
+-- all sectors are taken once those from the index on are
+pub record IsTaking (old now : MountView) (lba size count index : ℕ) (bytes : List ℕ) : Type 0 where
+  pub rest : with_entries now (lba + index) (sectors_of size (count - index) (drop (index * size) bytes)) ≡ with_entries old lba (sectors_of size count bytes)
+  pub shape : now.shape ≡ old.shape
+  pub room : taken_in now + (count - index) ≤ now.granted
+
+pub taking_begins : (v : MountView) (lba size count : ℕ) (bytes : List ℕ) → taken_in v + count ≤ v.granted → IsTaking v v lba size count 0 bytes
+taking_begins v lba size count bytes room = record {
+  rest = ap₂ (λ a n. with_entries v a (sectors_of size n (drop (0 * size) bytes))) add sub ∙ ap (λ n. with_entries v lba (sectors_of size count (drop n bytes))) none;
+  shape = refl;
+  room = omega arith;
+}
+  where
+    add : lba + 0 ≡ lba
+    add = omega arith
+
+    sub : count - 0 ≡ count
+    sub = omega arith
+
+    none : 0 * size ≡ 0
+    none = omega arith
+
+cut_one : (size n : ℕ) (bytes : List ℕ) → sectors_of size (suc n) bytes ≡ take size bytes ∷ sectors_of size n (drop size bytes)
+unfolding sectors_of
+cut_one size n bytes = refl
+
+cut_none : (size : ℕ) (bytes : List ℕ) → sectors_of size 0 bytes ≡ []
+unfolding sectors_of
+cut_none size bytes = refl
+
+pub slice_is : (at size : ℕ) (bytes : List ℕ) → slice_range bytes at (at + size) ≡ take size (drop at bytes)
+slice_is at size bytes = let e : at + size - at ≡ size = omega arith in ap (λ n. take n (drop at bytes)) e
+
+next_at : (index size : ℕ) → (index + 1) * size ≡ index * size + size
+next_at index size = grind arith
+
+pub slice_inside : (index count size : ℕ) → index < count → index * size + size ≤ count * size
+slice_inside index count size less =
+    let e : (index + 1) * size ≡ index * size + size = next_at index size in
+    let le : (index + 1) * size ≤ count * size = mul-le-mul_right size (let h : index + 1 ≤ count = omega arith in h) in
+    omega arith
+
+pub slice_long : (index count size : ℕ) (bytes : List ℕ) → index < count → length bytes ≡ count * size → length (slice_range bytes (index * size) (index * size + size)) ≡ size
+slice_long index count size bytes less long =
+    let inside : index * size + size ≤ count * size = slice_inside index count size less in
+    ap (λ (xs : List ℕ). length xs) (slice_is (index * size) size bytes) ∙ length-take-le size (drop (index * size) bytes) (let e : length (drop (index * size) bytes) ≡ length bytes - index * size = length-drop (index * size) bytes in omega arith)
+
+pub taking_more : (old now new : MountView) (lba size count index : ℕ) (bytes : List ℕ) → IsTaking old now lba size count index bytes → index < count
+    → new ≡ with_entry now (lba + index) (slice_range bytes (index * size) (index * size + size)) → IsTaking old new lba size count (index + 1) bytes
+taking_more old now new lba size count index bytes is less done = record {
+  rest = ap₂ (λ (v : MountView) a. with_entries v a (sectors_of size k (drop ((index + 1) * size) bytes))) done next
+      ∙ ap₂ (λ s (ss : List (List ℕ)). with_entries (with_entry now (lba + index) s) (lba + index + 1) ss) (slice_is (index * size) size bytes) (ap (λ (xs : List ℕ). sectors_of size k xs) dropped)
+      ∙ ap (λ (ss : List (List ℕ)). with_entries now (lba + index) ss) (sym (ap (λ n. sectors_of size n (drop (index * size) bytes)) one ∙ cut_one size k (drop (index * size) bytes)))
+      ∙ is.rest;
+  shape = ap (λ (v : MountView). v.shape) done ∙ is.shape;
+  room =
+      let more : taken_in new ≡ taken_in now + 1 = ap taken_in done ∙ taken_more now (lba + index) (slice_range bytes (index * size) (index * size + size)) in
+      let same : new.granted ≡ now.granted = ap (λ (v : MountView). v.granted) done in
+      let room : taken_in now + (count - index) ≤ now.granted = is.room in
+      omega arith;
+}
+  where
+    k : ℕ
+    k = count - (index + 1)
+
+    one : count - index ≡ suc k
+    one = omega arith
+
+    next : lba + (index + 1) ≡ lba + index + 1
+    next = omega arith
+
+    dropped : drop ((index + 1) * size) bytes ≡ drop size (drop (index * size) bytes)
+    dropped = ap (λ n. drop n bytes) (next_at index size) ∙ sym (drop-drop size (index * size) bytes)
+
+pub taking_ends : (old now : MountView) (lba size count : ℕ) (bytes : List ℕ) (index : ℕ) → IsTaking old now lba size count index bytes → index ≡ count → now ≡ with_entries old lba (sectors_of size count bytes)
+taking_ends old now lba size count bytes index is end =
+    sym (ap (λ (ss : List (List ℕ)). with_entries now (lba + index) ss) (ap (λ n. sectors_of size n (drop (index * size) bytes)) none ∙ cut_none size (drop (index * size) bytes))) ∙ is.rest
+  where
+    none : count - index ≡ 0
+    none = omega arith

@@ -1,0 +1,77 @@
+-- A core that stands for a world stands for it with a step more of a unit.
+use Rattle.std.proofs.Common.{◌≡◌, ℕ, ◌+◌, ◌≤◌, Some, [], ◌∷◌, length, sym, subst, ap, ◌∙◌}
+use Rattle.std.specs.Prelude.{slice_get}
+use Rattle.std.specs.List.{range_with_len}
+use Rattle.pblk_model.specs.Image.{Image}
+use Rattle.pblk_model.specs.UnitLog.{UnitEvent}
+use Rattle.pblk_world.specs.Events.{Maker}
+use Rattle.pblk_world.specs.World.{World, Logs, log_of}
+use Rattle.pblk_world.specs.EngineLog.{begun, Opening, openings}
+use Rattle.pblk_world.specs.Fronts.{first_position, user_takes}
+use Rattle.pblk_world.specs.Space.{freed, placed_front}
+use Rattle.core_laws.specs.OpenedLines.{live_now, open_line}
+use Rattle.core_laws.specs.PlainWorlds.{IsPlainWorld, IsBlankWorld}
+use Rattle.core_laws.proofs.Lists.{map_same}
+use Rattle.step_laws.specs.Whole.{unit_step}
+use Rattle.step_laws.proofs.UnitSteps.{engine_log}
+use Rattle.step_laws.proofs.UnitStays.{rows_stay, older_stay, live_stays, line_stays, left_stay, slot_stays, window_stays, placing_stays, addresses_stay}
+use Rattle.pblk_core.specs.Stands.{Stands, AreHolds, AreOpenLines, IsOpenLine, left_openings, under_way, unlanded}
+use Rattle.pblk_core.specs.LineRecords.{AreOf}
+use Rattle.pblk_core.specs.declared.open_lines.OpenLine.{OpenLine}
+use Rattle.pblk_core.specs.declared.open_lines.OpenLines.{OpenLines}
+use Rattle.pblk_core.specs.declared.target_core.Core.{Core}
+
+module _ (i : Image) (w : World) (unit : ℕ) (e : UnitEvent) (maker : Maker) where
+  abbrev after_ : Logs
+  after_ = log_of (unit_step i.shape unit e maker w ∷ w)
+
+  engine : after_ 0 ≡ log_of w 0
+  engine = engine_log i.shape unit e maker w
+
+  line_stays_back : (o : Opening) → IsPlainWorld i w → open_line i (log_of w) o ≡ open_line i after_ o
+  line_stays_back o plain = sym (line_stays i w unit e maker o plain)
+
+  open_beside : (o : Opening) (kept : OpenLine) → IsPlainWorld i w → IsOpenLine i (log_of w) o kept → IsOpenLine i after_ o kept
+  open_beside o kept plain is = record {
+    records = subst (λ log. AreOf i.shape log o kept.records) (sym engine) is.records;
+    live = is.live ∙ (λ k. (line_stays_back o plain k).live);
+    left = is.left ∙ ap (λ log. unlanded i.shape log o) (sym engine);
+  }
+
+  lines_beside : (kept : OpenLines) → IsPlainWorld i w → AreOpenLines i (log_of w) kept → AreOpenLines i after_ kept
+  lines_beside kept plain are =
+      let left : left_openings i after_ ≡ left_openings i (log_of w) = left_stay i w unit e maker plain in
+      record {
+        two = are.two;
+        shapes = are.shapes;
+        count = are.count ∙ ap length (sym left);
+        few = are.few;
+        each = λ k o line there held. open_beside o line plain (are.each k o line (ap (λ os. slice_get os k) (sym left) ∙ there) held);
+      }
+
+  pub stands_beside : (c : Core) → IsBlankWorld i w → Stands i (log_of w) c → Stands i after_ c
+  stands_beside c blank st = record {
+    layout = st.layout;
+    beginning = st.beginning;
+    has_begun = ap begun engine ∙ st.has_begun;
+    capacity = st.capacity;
+    slots = λ lba within. st.slots lba within ∙ ap Some (sym (slot_stays i w unit e maker lba blank.plain));
+    table = st.table ∙ sym (rows_stay i w unit e maker blank.plain);
+    units = st.units ∙ map_same (live_now i (log_of w)) (live_now i after_) (λ line. sym (live_stays i w unit e maker line blank.plain)) (range_with_len 0 i.shape.chunks);
+    size = st.size;
+    window = st.window ∙ sym (window_stays i w unit e maker c.window.freed);
+    from_first = subst (λ log. first_position log ≤ c.window.freed) (sym engine) st.from_first;
+    to_freed = subst (λ log. c.window.freed ≤ freed i.shape log) (sym engine) st.to_freed;
+    holds = subst (λ log. AreHolds i.shape log c.holds) (sym engine) st.holds;
+    placing = st.placing ∙ sym (placing_stays i w unit e maker c.placer.entries.pad [] blank.plain);
+    open_lines = lines_beside c.open blank.plain st.open_lines;
+    next_seq = st.next_seq ∙ ap (λ log. st.beginning.beginning.seq + length (openings log)) (sym engine);
+    first_seq = st.first_seq;
+    own_capacity = st.own_capacity;
+    older = st.older ∙ sym (older_stay i w unit e maker blank.plain);
+    first = st.first ∙ ap first_position (sym engine);
+    placed = st.placed ∙ ap (placed_front i.shape) (sym engine);
+    left = st.left ∙ sym (addresses_stay i w unit e maker);
+    in_flight = st.in_flight ∙ ap (under_way i.shape) (sym engine);
+    users = st.users ∙ ap (λ log. length (user_takes log)) (sym engine);
+  }

@@ -1,0 +1,182 @@
+-- What a port is once its sectors are taken.
+use Rattle.std.proofs.Common.{◌≡◌, ◌⊎◌, inl, inr, ℕ, ◌+◌, ◌*◌, ◌/◌, ◌^◌, ◌<◌, ◌≤◌, true, List, [], ◌∷◌, ◌++◌, length, refl, sym, subst, ap, ap₂, ◌∙◌, arith, append-nil, append_assoc, le_trans}
+use Rattle.std.specs.Prelude.{map}
+use Rattle.std.specs.List.{filter, flat_map}
+use Rattle.std.proofs.lemmas.List.{map-append}
+use Rattle.std.proofs.lemmas.Grind.{flat_map-append}
+use Rattle.std.proofs.lemmas.Nat.{div-mul-add}
+use Rattle.pblk_model.specs.declared.run.Place.{Place}
+use Rattle.pblk_model.specs.declared.shape.Shape.{Shape}
+use Rattle.pblk_model.specs.Contents.{contents}
+use Rattle.pblk_model.specs.Image.{blank}
+use Rattle.pblk_model.specs.Marks.{sector_mark}
+use Rattle.pblk_world.specs.Events.{Take, Logged, Decides as Did}
+use Rattle.pblk_world.specs.EngineLog.{Taken, takes}
+use Rattle.pblk_world.specs.Fronts.{first_position, synced, is_users, user_takes}
+use Rattle.pblk_world.proofs.Appending.{takes_more}
+use Rattle.core_laws.proofs.Taking.{filter_last}
+use Rattle.landing_laws.proofs.Growing.{synced_grown}
+use Rattle.pblk_core.proofs.SmallPositions.{first_zero, taken_bounded}
+use Rattle.step_laws.specs.Whole.{knows_all}
+use Rattle.block_port.specs.Own.{PlacedSector, OwnWrite, placed_from, lines_of}
+use Rattle.block_port.specs.Port.{AreSectors, Learns, IsSameTarget, Rise}
+use Rattle.block_target.specs.Mount.{MountView, IsSound, IsSameMount, world_in, engine_log, taken_in, synced_in, next_entry, with_entry, with_entries}
+use Rattle.block_target.specs.Serial.{SerialView, IsSerial, lines_in, device}
+use Rattle.block_target.proofs.TakenSectors.{log_taken, taken_more}
+
+-- ---- work that takes nothing
+
+abbrev pub line_of_take : Taken → PlacedSector
+line_of_take t = record { position = t.entry.position; write = record { lba = t.entry.lba; sector = t.entry.sector } }
+
+pub lines_kept : (old new : MountView) → IsSameMount old new → lines_in new ≡ lines_in old
+lines_kept old new same = ap (λ (ts : List Taken). map line_of_take (filter (λ (t : Taken). is_users t.entry.source) ts)) same.takes
+
+first_none : (v : MountView) → IsSound v → first_position (engine_log v) ≡ 0
+first_none v sound = first_zero (blank v.shape) (world_in v) sound.legal.plain.accepted sound.legal.plain.legal sound.legal.free
+
+pub taken_kept : (old new : MountView) → IsSound old → IsSound new → IsSameMount old new → taken_in new ≡ taken_in old
+taken_kept old new was is same = ap₂ (λ a (ts : List Taken). a + length ts) (first_none new is ∙ sym (first_none old was)) same.takes
+
+pub taken_low : (v : MountView) → IsSound v → taken_in v ≤ 2 ^ 62
+taken_low v sound = taken_bounded (blank v.shape) (world_in v) sound.legal
+
+pub target_kept : (old new : SerialView) → IsSameMount old.mount new.mount → IsSameTarget (device old) (device new)
+target_kept old new same = record {
+  start = ap (λ (s : Shape). contents (blank s)) same.shape;
+  capacity = ap (λ (s : Shape). s.capacity) same.shape;
+  sector = ap (λ (s : Shape). s.sector) same.shape;
+}
+
+pub learns_none : (old new : SerialView) → IsSound old.mount → IsSound new.mount → IsSameMount old.mount new.mount → Learns (device old) (device new)
+learns_none old new was is same = record {
+  more = [];
+  known = lines_kept old.mount new.mount same ∙ sym (append-nil (lines_in old.mount));
+  rise = let e : taken_in new.mount ≡ taken_in old.mount = taken_kept old.mount new.mount was is same in omega arith;
+  flushed = same.synced;
+}
+
+-- ---- sectors that are taken
+
+one_line : (v : MountView) (lba : ℕ) (sector : List ℕ) → lines_in (with_entry v lba sector) ≡ lines_in v ++ record { position = taken_in v; write = record { lba = lba; sector = sector } } ∷ []
+one_line v lba sector =
+    let t : Taken = record { entry = next_entry v lba sector; mark = sector_mark lba (taken_in v) } in
+    let l : Logged = record { event = Did (Take (next_entry v lba sector) (sector_mark lba (taken_in v))); knows = knows_all v.shape (world_in v) } in
+    let more : takes (engine_log v ++ l ∷ []) ≡ takes (engine_log v) ++ t ∷ [] = takes_more (engine_log v) l in
+    ap (λ (log : List Logged). map line_of_take (user_takes log)) (log_taken v lba sector)
+    ∙ ap (λ (ts : List Taken). map line_of_take (filter (λ (t : Taken). is_users t.entry.source) ts)) more
+    ∙ ap (λ (ts : List Taken). map line_of_take ts) (filter_last (λ (t : Taken). is_users t.entry.source) (takes (engine_log v)) t true refl)
+    ∙ map-append line_of_take (user_takes (engine_log v)) (t ∷ [])
+
+pub lines_all : (v : MountView) (lba : ℕ) (sectors : List (List ℕ)) → lines_in (with_entries v lba sectors) ≡ lines_in v ++ placed_from (taken_in v) lba sectors
+lines_all v lba [] = sym (append-nil (lines_in v))
+lines_all v lba (sector ∷ sectors) =
+    lines_all (with_entry v lba sector) (lba + 1) sectors
+    ∙ ap₂ (λ (ls : List PlacedSector) n. ls ++ placed_from n (lba + 1) sectors) (one_line v lba sector) (taken_more v lba sector)
+    ∙ append_assoc (lines_in v) (record { position = taken_in v; write = record { lba = lba; sector = sector } } ∷ []) (placed_from (taken_in v + 1) (lba + 1) sectors)
+
+pub taken_all : (v : MountView) (lba : ℕ) (sectors : List (List ℕ)) → taken_in (with_entries v lba sectors) ≡ taken_in v + length sectors
+taken_all v lba [] = omega arith
+taken_all v lba (sector ∷ sectors) =
+    let rest : taken_in (with_entries (with_entry v lba sector) (lba + 1) sectors) ≡ taken_in (with_entry v lba sector) + length sectors = taken_all (with_entry v lba sector) (lba + 1) sectors in
+    let one : taken_in (with_entry v lba sector) ≡ taken_in v + 1 = taken_more v lba sector in
+    omega arith
+
+pub synced_all : (v : MountView) (lba : ℕ) (sectors : List (List ℕ)) → synced_in v ≤ synced_in (with_entries v lba sectors)
+synced_all v lba [] = omega arith
+synced_all v lba (sector ∷ sectors) =
+    let l : Logged = record { event = Did (Take (next_entry v lba sector) (sector_mark lba (taken_in v))); knows = knows_all v.shape (world_in v) } in
+    let one : synced_in v ≤ synced_in (with_entry v lba sector) = subst (λ (log : List Logged). synced_in v ≤ synced v.shape log) (sym (log_taken v lba sector)) (synced_grown v.shape (engine_log v) l) in
+    let rest : synced_in (with_entry v lba sector) ≤ synced_in (with_entries (with_entry v lba sector) (lba + 1) sectors) = synced_all (with_entry v lba sector) (lba + 1) sectors in
+    omega arith
+
+pub shape_all : (v : MountView) (lba : ℕ) (sectors : List (List ℕ)) → (with_entries v lba sectors).shape ≡ v.shape
+shape_all v lba [] = refl
+shape_all v lba (sector ∷ sectors) = shape_all (with_entry v lba sector) (lba + 1) sectors
+
+pub rise_placed : (p lba : ℕ) (sectors : List (List ℕ)) → Rise p (p + length sectors) (placed_from p lba sectors)
+rise_placed p lba [] = omega arith
+rise_placed p lba (s ∷ sectors) =
+    let e : p + 1 + length sectors ≡ p + length (s ∷ sectors) = omega arith in
+    (omega arith, subst (λ n. Rise (p + 1) n (placed_from (p + 1) (lba + 1) sectors)) e (rise_placed (p + 1) (lba + 1) sectors))
+
+-- ---- a write
+
+-- the mount after a claim, and after the sectors are taken
+pub record IsWrite (old new : SerialView) (mid : MountView) (lba : ℕ) (sectors : List (List ℕ)) : Type 0 where
+  pub was : IsSound old.mount
+  pub between : IsSound mid
+  pub same : IsSameMount old.mount mid
+  pub mount : new.mount ≡ with_entries mid lba sectors
+
+pub learns_write : (old new : SerialView) (mid : MountView) (lba : ℕ) (sectors : List (List ℕ)) → IsWrite old new mid lba sectors → Learns (device old) (device new)
+learns_write old new mid lba sectors is = record {
+  more = placed_from (taken_in old.mount) lba sectors;
+  known = ap lines_in is.mount ∙ lines_all mid lba sectors ∙ ap₂ (λ (ls : List PlacedSector) n. ls ++ placed_from n lba sectors) (lines_kept old.mount mid is.same) stays;
+  rise = subst (λ n. Rise (taken_in old.mount) n (placed_from (taken_in old.mount) lba sectors)) (sym ends) (rise_placed (taken_in old.mount) lba sectors);
+  flushed =
+      let a : synced_in old.mount ≤ synced_in mid = is.same.synced in
+      let b : synced_in mid ≤ synced_in (with_entries mid lba sectors) = synced_all mid lba sectors in
+      subst (λ (v : MountView). synced_in old.mount ≤ synced_in v) (sym is.mount) (le_trans a b);
+}
+  where
+    stays : taken_in mid ≡ taken_in old.mount
+    stays = taken_kept old.mount mid is.was is.between is.same
+
+    ends : taken_in new.mount ≡ taken_in old.mount + length sectors
+    ends = ap taken_in is.mount ∙ taken_all mid lba sectors ∙ ap (λ n. n + length sectors) stays
+
+pub target_write : (old new : SerialView) (mid : MountView) (lba : ℕ) (sectors : List (List ℕ)) → IsWrite old new mid lba sectors → IsSameTarget (device old) (device new)
+target_write old new mid lba sectors is = record {
+  start = ap (λ (s : Shape). contents (blank s)) shape;
+  capacity = ap (λ (s : Shape). s.capacity) shape;
+  sector = ap (λ (s : Shape). s.sector) shape;
+}
+  where
+    shape : new.mount.shape ≡ old.mount.shape
+    shape = ap (λ (v : MountView). v.shape) is.mount ∙ shape_all mid lba sectors ∙ is.same.shape
+
+pub alone_write : (old new : SerialView) (mid : MountView) (lba : ℕ) (sectors : List (List ℕ)) (place : Place) → IsWrite old new mid lba sectors → IsSerial old → place.first ≡ taken_in old.mount
+    → new.own ≡ old.own ++ record { place = place; lba = lba; sectors = sectors } ∷ [] → lines_in new.mount ≡ flat_map lines_of new.own
+alone_write old new mid lba sectors place is serial first own =
+    ap lines_in is.mount ∙ lines_all mid lba sectors
+    ∙ ap₂ (λ (ls : List PlacedSector) n. ls ++ placed_from n lba sectors) (lines_kept old.mount mid is.same ∙ serial.alone) (taken_kept old.mount mid is.was is.between is.same ∙ sym first)
+    ∙ sym (ap (λ (ws : List OwnWrite). flat_map lines_of ws) own ∙ flat_map-append lines_of old.own (w ∷ []) ∙ ap (λ (ls : List PlacedSector). flat_map lines_of old.own ++ ls) (append-nil (lines_of w)))
+  where
+    w : OwnWrite
+    w = record { place = place; lba = lba; sectors = sectors }
+
+-- ---- numbers
+
+pub count_is : (n size len : ℕ) → 0 < size → len ≡ n * size → len / size ≡ n
+count_is n size len some is =
+    let e : n * size ≡ n * size + 0 = omega arith in
+    ap (λ k. k / size) (is ∙ e) ∙ div-mul-add n size 0 some
+
+pub sector_some : (v : MountView) → IsSound v → 0 < v.shape.sector
+sector_some v sound = go sound.legal.plain.accepted.target.sector
+  where
+    go : (v.shape.sector ≡ 512) ⊎ (v.shape.sector ≡ 4096) → 0 < v.shape.sector
+    go (inl e) = omega arith
+    go (inr e) = omega arith
+
+-- a write's end is far below the last position
+pub end_low : (v : MountView) (s : Shape) (first count len : ℕ) → IsSound v → first ≡ taken_in v → s ≡ v.shape → count ≡ len / s.sector → AreSectors v.shape.sector len → first + count < 2 ^ 63
+end_low v s first count len sound from same is sectors =
+    let n : len / v.shape.sector ≡ sectors.count = count_is sectors.count v.shape.sector len (sector_some v sound) sectors.whole in
+    let here : count ≡ sectors.count = is ∙ ap (λ (s : Shape). len / s.sector) same ∙ n in
+    let low : taken_in v ≤ 2 ^ 62 = taken_low v sound in
+    let few : sectors.count ≤ 16 = sectors.few in
+    omega arith
+
+pub granted_room : (old mid : MountView) (first count n : ℕ) → IsSound old → IsSound mid → IsSameMount old mid → first ≡ taken_in old → count ≡ n → first + count ≤ mid.granted → taken_in mid + n ≤ mid.granted
+granted_room old mid first count n was is same from long granted =
+    let stays : taken_in mid ≡ taken_in old = taken_kept old mid was is same in
+    omega arith
+
+-- the same of equal views
+pub learns_at : (a b c d : SerialView) → a ≡ b → d ≡ c → Learns (device a) (device c) → Learns (device b) (device d)
+learns_at a b c d p q h = subst (λ (o : SerialView). Learns (device o) (device d)) p (subst (λ (n : SerialView). Learns (device a) (device n)) (sym q) h)
+
+pub target_at : (a b c : SerialView) → a ≡ b → IsSameTarget (device a) (device c) → IsSameTarget (device b) (device c)
+target_at a b c p h = subst (λ (o : SerialView). IsSameTarget (device o) (device c)) p h

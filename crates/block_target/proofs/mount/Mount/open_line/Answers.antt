@@ -1,0 +1,67 @@
+use Rattle.std.proofs.Common.{◌≡◌, ◌≤◌, ◌++◌, [], ◌∷◌, max, Some, List, ℕ, map, sym, subst, ap, ◌∙◌, arith}
+use Rattle.pblk_model.specs.Image.{blank}
+use Rattle.pblk_world.specs.Events.{Open}
+use Rattle.pblk_world.specs.World.{log_of}
+use Rattle.pblk_world.specs.EngineLog.{Begun, begun}
+use Rattle.pblk_world.specs.Opening.{MayOpen}
+use Rattle.pblk_world.specs.Space.{room}
+use Rattle.core_laws.specs.Stepping.{after}
+use Rattle.pblk_core.specs.Named.{next_start, pad_of}
+use Rattle.pblk_core.specs.Stands.{Stands}
+use Rattle.pblk_core.proofs.WorkOf.{work_is}
+use Rattle.block_target.specs.Deeds.{Deed, Decides, world_of}
+use Rattle.block_target.specs.Mount.{MountView, IsMount, IsSameMount, work_in, world_in, logs_in, engine_log}
+use Rattle.block_target.proofs.PumpedSteps.{moved}
+use Rattle.block_target.proofs.PumpedOpen.{open_stands, open_sound, open_drained, mount_opened, same_opened}
+use Rattle.block_target.proofs.mount.Mount.open_line.Goals as goal
+
+pub open_line-requires-clause-standing : goal.open_line-requires-clause-standing
+open_line-requires-clause-standing g c = record { image = blank c.self.inside.shape; world = world_of c.self.inside.shape c.self.inside.deeds; legal = c.self.invariant.sound.legal; stands = c.self.invariant.stands }
+
+pub open_line-requires-clause-named : goal.open_line-requires-clause-named
+open_line-requires-clause-named g c =
+    work_is (blank c.self.inside.shape) (world_of c.self.inside.shape c.self.inside.deeds) c.self.inside.core c.self.invariant.sound.legal c.self.invariant.stands
+    ∙ ap work_in c.self.view_is ∙ c.requires
+
+pub grant-requires : goal.grant-requires
+grant-requires g c =
+    let m = c.self.invariant in
+    let start = next_start c.self.inside.core in
+    let v : MountView = record { shape = c.self.inside.shape; deeds = c.self.inside.deeds; units = map g.U.Unit.model c.self.inside.units.items; granted = c.self.inside.granted; pad = pad_of c.self.inside.core } in
+    record {
+      image = blank v.shape;
+      world = world_of v.shape (v.deeds ++ Decides (Open start.line start) ∷ []);
+      legal = (open_sound v c.self.inside.core c.open_line.new.self start.line start v.granted v.pad c.self.inside.pool c.self.inside.stripe m
+          (λ b has. c.open_line.ensures.legal (blank v.shape) (world_in v) b m.sound.legal m.stands has)).legal;
+      stands = open_stands v c.self.inside.core c.open_line.new.self start.line start (λ knows. c.open_line.ensures.stands (blank v.shape) (world_in v) knows m.sound.legal m.stands);
+    }
+
+pub invariant_of-self : goal.invariant_of-self
+invariant_of-self g c =
+    let m = c.self.invariant in
+    let start = next_start c.self.inside.core in
+    let v : MountView = record { shape = c.self.inside.shape; deeds = c.self.inside.deeds; units = map g.U.Unit.model c.self.inside.units.items; granted = c.self.inside.granted; pad = pad_of c.self.inside.core } in
+    let may : (b : Begun) → begun (engine_log v) ≡ Some b → MayOpen (blank v.shape) (logs_in v) b start.line start = λ b has. c.open_line.ensures.legal (blank v.shape) (world_in v) b m.sound.legal m.stands has in
+    let stands : (knows : List ℕ) → Stands (blank v.shape) (after (logs_in v) (Open start.line start) knows) c.open_line.new.self = λ knows. c.open_line.ensures.stands (blank v.shape) (world_in v) knows m.sound.legal m.stands in
+    let same : c.open_line.new.self.window ≡ c.self.inside.core.window = c.open_line.ensures.window in
+    let sound = open_sound v c.self.inside.core c.open_line.new.self start.line start v.granted v.pad c.self.inside.pool c.self.inside.stripe m may in
+    let granted : c.max-self-inside.result ≡ max v.granted (room (blank v.shape) (log_of (world_of v.shape (v.deeds ++ Decides (Open start.line start) ∷ [])))) =
+    c.max-self-inside.ensures ∙ ap (max v.granted) (c.grant.ensures (blank v.shape) (world_of v.shape (v.deeds ++ Decides (Open start.line start) ∷ [])) sound.legal
+    (open_stands v c.self.inside.core c.open_line.new.self start.line start stands)
+    (open_drained v c.self.inside.core c.open_line.new.self start.line start c.self.inside.pool c.self.inside.stripe m same)) in
+    subst (λ (deeds : List Deed). IsMount (moved v deeds c.max-self-inside.result (pad_of c.open_line.new.self)) c.open_line.new.self c.self.inside.pool c.self.inside.stripe) (sym c.add.ensures)
+    (mount_opened v c.self.inside.core c.open_line.new.self start.line start c.self.inside.pool c.self.inside.stripe c.max-self-inside.result m may stands same granted)
+
+pub returns : goal.returns
+returns g c =
+    let m = c.self.invariant in
+    let start = next_start c.self.inside.core in
+    let v : MountView = record { shape = c.self.inside.shape; deeds = c.self.inside.deeds; units = map g.U.Unit.model c.self.inside.units.items; granted = c.self.inside.granted; pad = pad_of c.self.inside.core } in
+    let may : (b : Begun) → begun (engine_log v) ≡ Some b → MayOpen (blank v.shape) (logs_in v) b start.line start = λ b has. c.open_line.ensures.legal (blank v.shape) (world_in v) b m.sound.legal m.stands has in
+    let pad : pad_of c.open_line.new.self ≡ pad_of c.self.inside.core = c.open_line.ensures.pad in
+    let is : c.max-self-inside.result ≡ max v.granted c.grant.result = c.max-self-inside.ensures in
+    let more : v.granted ≤ c.max-self-inside.result = omega arith in
+    let least : v.pad ≤ pad_of c.open_line.new.self = omega arith in
+    subst (λ (old : MountView). IsSameMount old (moved v c.add.new.self c.max-self-inside.result (pad_of c.open_line.new.self))) c.self.view_is
+    (subst (λ (deeds : List Deed). IsSameMount v (moved v deeds c.max-self-inside.result (pad_of c.open_line.new.self))) (sym c.add.ensures)
+    (same_opened v c.self.inside.core c.open_line.new.self start.line start c.self.inside.pool c.self.inside.stripe c.max-self-inside.result (pad_of c.open_line.new.self) m may more least))

@@ -1,0 +1,22 @@
+use Rattle.std.proofs.Common.{ap, sym, subst, ◌∙◌}
+use Rattle.block_target.specs.Mount.{IsSameMount}
+use Rattle.block_target.specs.Serial.{Settles}
+use Rattle.block_target.proofs.DeviceFronts.{all_synced, taken_same}
+use Rattle.block_target.proofs.serial.Serial.close.Goals.{in-Ok, in-Err}
+use Rattle.block_target.proofs.serial.Serial.close.Goals as goal
+
+pub returns : goal.returns
+returns g c =
+    let mount = ap (λ s. s.mount) c.self.view_is in
+    let wanted = ap (λ f. f.position) c.front-wanted.ensures in (
+      c.sync.new.self,
+      subst (λ v. IsSameMount v c.sync.new.self) mount c.sync.ensures.same,
+      c.is_sound-2.ensures,
+      c.end.ensures,
+      elim c.match-sync.branch [
+        | in-Ok w ↦ subst (λ r. Settles r c.sync.new.self) (sym w.settled-is)
+            (all_synced c.self.inside.mount c.sync.new.self w.in-Ok.field-0 c.front-wanted.result.position c.is_sound.ensures c.is_sound-2.ensures c.sync.ensures.same wanted w.in-Ok.ensures.synced.0 w.in-Ok.ensures.synced.1)
+        | in-Err w ↦ subst (λ r. Settles r c.sync.new.self) (sym w.settled-is)
+            (wanted ∙ sym (taken_same c.self.inside.mount c.sync.new.self c.is_sound.ensures c.is_sound-2.ensures c.sync.ensures.same), w.in-Err.ensures.stuck.0, w.in-Err.ensures.stuck.2)
+      ],
+    )

@@ -1,0 +1,59 @@
+use Rattle.std.proofs.Common.{[], ◌∷◌, ◌++◌, ◌≡◌, ◌+◌, ◌/◌, ◌<◌, ◌^◌, refl, sym, subst, ap, arith, length}
+use Rattle.pblk_model.specs.declared.run.Front.{Front}
+use Rattle.pblk_model.specs.declared.run.Place.{Place}
+use Rattle.block_port.specs.Own.{sectors_of}
+use Rattle.block_port.specs.Port.{AreSectors}
+use Rattle.block_target.specs.Mount.{taken_in}
+use Rattle.block_target.specs.Serial.{SerialView}
+use Rattle.block_target.proofs.Written.{learns_none, learns_write, target_write, alone_write, end_low, granted_room, learns_at, target_at}
+use Rattle.block_target.proofs.serial.SerialPort.write.Goals as goal
+
+pub overflow_add-wanted : goal.overflow_add-wanted
+overflow_add-wanted g c =
+    let sectors : AreSectors c.self.inside.mount.shape.sector (length c.args.bytes.now) = subst (λ (s : SerialView). AreSectors s.mount.shape.sector (length c.args.bytes.now)) (sym c.self.view_is) c.requires.sectors in
+    let low : c.front-first.result.position + c.from.result < 2 ^ 63 =
+    end_low c.self.inside.mount c.shape.result.now c.front-first.result.position c.from.result (length c.args.bytes.now) c.is_sound.ensures (ap (λ (f : Front). f.position) c.front-first.ensures) c.shape.ensures c.from.ensures sectors in
+    omega arith
+
+pub take_all-requires-clause-room : goal.take_all-requires-clause-room
+take_all-requires-clause-room g c =
+    granted_room c.self.inside.mount c.claim-claimed.new.self c.front-first.result.position c.from.result (length c.args.bytes.now / c.shape.result.now.sector)
+    c.is_sound.ensures c.is_sound-2.ensures c.claim-claimed.ensures.same (ap (λ (f : Front). f.position) c.front-first.ensures) c.from.ensures (c.in_default.ensures.granted refl)
+
+pub returns-in-Err-clause-learns : goal.returns-in-Err-clause-learns
+returns-in-Err-clause-learns g c =
+    let was : SerialView = record { mount = c.self.inside.mount; seen = c.self.inside.seen; own = c.self.inside.own; worns = c.self.inside.worns } in
+    let now : SerialView = record {
+      mount = c.claim-claimed.new.self;
+      seen = c.self.inside.seen;
+      own = c.self.inside.own;
+      worns = c.self.inside.worns ++ record { count = length c.args.bytes.now / c.shape.result.now.sector; wanted = c.front-first.result.position + c.from.result; have = c.in-Err.have } ∷ [];
+    } in
+    learns_at was c.args.self.now now c.add_worn.new.self c.self.view_is c.add_worn.ensures (learns_none was now c.is_sound.ensures c.is_sound-2.ensures c.claim-claimed.ensures.same)
+
+pub invariant_of-self-2 : goal.invariant_of-self-2
+invariant_of-self-2 g c =
+    let was : SerialView = record { mount = c.self.inside.mount; seen = c.self.inside.seen; own = c.self.inside.own; worns = c.self.inside.worns } in
+    let new : SerialView = record { mount = c.take_all.new.mount; seen = c.front-first.result.position + c.from.result; own = c.add.new.self; worns = c.self.inside.worns } in
+    let sectors : AreSectors c.self.inside.mount.shape.sector (length c.args.bytes.now) = subst (λ (s : SerialView). AreSectors s.mount.shape.sector (length c.args.bytes.now)) (sym c.self.view_is) c.requires.sectors in
+    let first : c.front-first.result.position ≡ taken_in c.self.inside.mount = ap (λ (f : Front). f.position) c.front-first.ensures in
+    let place : Place = record { first = c.front-first.result.position; count = length c.args.bytes.now / c.shape.result.now.sector } in
+    record {
+      alone = alone_write was new c.claim-claimed.new.self c.args.lba (sectors_of c.shape.result.now.sector (length c.args.bytes.now / c.shape.result.now.sector) c.args.bytes.now) place
+          (record { was = c.is_sound.ensures; between = c.is_sound-2.ensures; same = c.claim-claimed.ensures.same; mount = c.take_all.ensures }) c.self.invariant first c.add.ensures;
+      small = end_low c.self.inside.mount c.shape.result.now c.front-first.result.position c.from.result (length c.args.bytes.now) c.is_sound.ensures first c.shape.ensures c.from.ensures sectors;
+    }
+
+pub returns-clause-learns : goal.returns-clause-learns
+returns-clause-learns g c =
+    let was : SerialView = record { mount = c.self.inside.mount; seen = c.self.inside.seen; own = c.self.inside.own; worns = c.self.inside.worns } in
+    let new : SerialView = record { mount = c.take_all.new.mount; seen = c.front-first.result.position + c.from.result; own = c.add.new.self; worns = c.self.inside.worns } in
+    learns_at was c.args.self.now new new c.self.view_is refl (learns_write was new c.claim-claimed.new.self c.args.lba (sectors_of c.shape.result.now.sector (length c.args.bytes.now / c.shape.result.now.sector) c.args.bytes.now)
+    (record { was = c.is_sound.ensures; between = c.is_sound-2.ensures; same = c.claim-claimed.ensures.same; mount = c.take_all.ensures }))
+
+pub returns-clause-target : goal.returns-clause-target
+returns-clause-target g c =
+    let was : SerialView = record { mount = c.self.inside.mount; seen = c.self.inside.seen; own = c.self.inside.own; worns = c.self.inside.worns } in
+    let new : SerialView = record { mount = c.take_all.new.mount; seen = c.front-first.result.position + c.from.result; own = c.add.new.self; worns = c.self.inside.worns } in
+    target_at was c.args.self.now new c.self.view_is (target_write was new c.claim-claimed.new.self c.args.lba (sectors_of c.shape.result.now.sector (length c.args.bytes.now / c.shape.result.now.sector) c.args.bytes.now)
+    (record { was = c.is_sound.ensures; between = c.is_sound-2.ensures; same = c.claim-claimed.ensures.same; mount = c.take_all.ensures }))

@@ -1,0 +1,4 @@
+pub mod Begun
+pub mod Deeds
+pub mod Mount
+pub mod Serial

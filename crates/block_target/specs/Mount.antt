@@ -1,0 +1,167 @@
+-- A mount for one session: what contracts see of it.
+use Rattle.std.specs.Prelude.{ℕ, ◌+◌, ◌*◌, ◌^◌, ◌<◌, ◌≤◌, ◌≡◌, List, [], ◌∷◌, ◌++◌, length, replicate, slice_get, Some, None}
+use Rattle.pblk_model.specs.declared.shape.Shape.{Shape}
+use Rattle.pblk_model.specs.declared.run.Front.{Front}
+use Rattle.pblk_model.specs.Shape.{units}
+use Rattle.pblk_model.specs.Chunk.{free_chunk}
+use Rattle.pblk_model.specs.Contents.{contents}
+use Rattle.pblk_model.specs.Frames.{PoolView, count_out}
+use Rattle.pblk_model.specs.History.{after as after_history}
+use Rattle.pblk_model.specs.Image.{blank}
+use Rattle.pblk_model.specs.Marks.{sector_mark}
+use Rattle.unit_port.specs.Armed.{IsUnarmed}
+use Rattle.unit_port.specs.Unit.{ModelUnit, IsFitUnit}
+use Rattle.pblk_world.specs.Events.{Logged, Entry, Take}
+use Rattle.pblk_world.specs.World.{World, Logs, log_of, media}
+use Rattle.pblk_world.specs.EngineLog.{takes}
+use Rattle.pblk_world.specs.Fronts.{taken, synced, user_takes, history}
+use Rattle.pblk_world.specs.Space.{freed}
+use Rattle.core_laws.specs.PlacerOf.{unanswered_on}
+use Rattle.core_laws.specs.PlainWorlds.{IsBlankWorld}
+use Rattle.core_laws.specs.WindowOf.{users_below}
+use Rattle.step_laws.specs.Whole.{IsLevel}
+use Rattle.write_window.specs.Window as window
+use Rattle.pblk_core.specs.Filling.{Filling}
+use Rattle.pblk_core.specs.Named.{pad_of, work_of}
+use Rattle.pblk_core.specs.Stands.{Stands}
+use Rattle.pblk_core.specs.declared.target_core.Core.{Core}
+use Rattle.pblk_core.specs.declared.work.Work.TheVariants as works
+use Rattle.pblk_core.specs.declared.work.Work.{Work}
+use Rattle.pblk_core.specs.declared.work.Why.{Why}
+use Rattle.look_laws.specs.SlotBlocks.{IsBlockOfSlot}
+use Rattle.block_target.specs.Deeds.{Deed, Decides, world_of}
+
+pub record MountView : Type 0 where
+  -- the shape of the drive, on which nothing was written at the beginning
+  pub shape : Shape
+  -- what was done since, oldest first
+  pub deeds : List Deed
+  -- the drive's units
+  pub units : List ModelUnit
+  -- users may claim positions below this one
+  pub granted : ℕ
+  -- the pad target
+  pub pad : ℕ
+
+abbrev pub world_in : MountView → World
+world_in v = world_of v.shape v.deeds
+
+abbrev pub logs_in : MountView → Logs
+logs_in v = log_of (world_in v)
+
+abbrev pub engine_log : MountView → List Logged
+engine_log v = logs_in v 0
+
+-- the fronts
+abbrev pub taken_in : MountView → ℕ
+taken_in v = taken (engine_log v)
+
+abbrev pub synced_in : MountView → ℕ
+synced_in v = synced v.shape (engine_log v)
+
+abbrev pub front_taken : MountView → Front
+front_taken v = record { users = length (user_takes (engine_log v)); position = taken_in v }
+
+abbrev pub front_synced : MountView → Front
+front_synced v = record { users = users_below (engine_log v) (synced_in v); position = synced_in v }
+
+-- what each sector holds after all that was taken
+abbrev pub latest : MountView → List (List ℕ)
+latest v = after_history (contents (blank v.shape)) (history (engine_log v))
+
+-- A unit is as the world leaves it, and is armed with nothing.
+pub record IsUnitIn (v : MountView) (number : ℕ) (u : ModelUnit) : Type 0 where
+  pub shape : u.shape ≡ v.shape
+  pub media : slice_get (media (blank v.shape) (logs_in v)).units number ≡ Some u.media
+  pub unarmed : IsUnarmed u.armed
+  pub fit : IsFitUnit u
+
+-- What was done is a legal world, and the units are as it leaves them.
+pub record IsSound (v : MountView) : Type 0 where
+  pub legal : IsBlankWorld (blank v.shape) (world_in v)
+  pub count : length v.units ≡ units v.shape
+  pub each : (number : ℕ) (u : ModelUnit) → slice_get v.units number ≡ Some u → IsUnitIn v number u
+
+-- Besides, the core stands for it, each stripe has landed, and the window holds just what isn't given back; the pool's
+-- frames are left or in the window.
+pub record IsMount (v : MountView) (c : Core) (p : PoolView) (filling : Filling) : Type 0 where
+  pub sound : IsSound v
+  pub stands : Stands (blank v.shape) (logs_in v) c
+  pub pad : v.pad ≡ pad_of c
+  pub level : IsLevel (world_in v)
+  pub idle : (unit : ℕ) → unanswered_on (engine_log v) unit ≡ None
+  pub drained : c.window.freed ≡ freed v.shape (engine_log v)
+  pub own : window.AreOf p.region c.window.entries
+  pub out : count_out p.left ≡ length c.window.entries
+  pub count : p.region.count ≡ v.shape.ring
+  pub size : p.region.size ≡ v.shape.sector
+  pub stripe : filling.shape ≡ v.shape
+  -- no grant passes the ring's end, less what is kept for collection, nor the last position
+  pub granted : v.granted + units v.shape * v.shape.ws_opt ≤ c.window.freed + v.shape.ring
+  pub last : v.granted < 2 ^ 61
+
+-- Units of a drive of this shape, as many as it has, on which nothing was written, and which are armed with nothing.
+pub record IsNewUnit (s : Shape) (u : ModelUnit) : Type 0 where
+  pub shape : u.shape ≡ s
+  pub media : u.media ≡ replicate s.chunks free_chunk
+  pub unarmed : IsUnarmed u.armed
+
+pub record AreNewUnits (s : Shape) (us : List ModelUnit) : Type 0 where
+  pub count : length us ≡ units s
+  pub each : (number : ℕ) (u : ModelUnit) → slice_get us number ≡ Some u → IsNewUnit s u
+
+-- What calls leave.
+
+-- Nothing more was taken; what was done stays done, what is on the drive is there, and no grant is taken back.
+pub record IsSameMount (old new : MountView) : Type 0 where
+  pub shape : new.shape ≡ old.shape
+  pub more : List Deed
+  pub deeds : new.deeds ≡ old.deeds ++ more
+  pub takes : takes (engine_log new) ≡ takes (engine_log old)
+  pub synced : synced_in old ≤ synced_in new
+  pub granted : old.granted ≤ new.granted
+  pub pad : old.pad ≤ new.pad
+
+-- the entry of a user's sector that is taken next
+abbrev pub next_entry : MountView → ℕ → List ℕ → Entry
+next_entry v lba sector = record { position = taken_in v; lba = lba; source = None; sector = sector }
+
+abbrev pub with_entry : MountView → ℕ → List ℕ → MountView
+with_entry v lba sector = record {
+  shape = v.shape;
+  deeds = v.deeds ++ Decides (Take (next_entry v lba sector) (sector_mark lba (taken_in v))) ∷ [];
+  units = v.units;
+  granted = v.granted;
+  pad = v.pad;
+}
+
+-- the same with this pad target
+abbrev pub with_pad : MountView → ℕ → MountView
+with_pad v pad = record { shape = v.shape; deeds = v.deeds; units = v.units; granted = v.granted; pad = pad }
+
+-- after entries of these sectors, one after another
+abbrev pub with_entries : MountView → ℕ → List (List ℕ) → MountView
+with_entries v lba [] = v
+with_entries v lba (sector ∷ sectors) = with_entries (with_entry v lba sector) (lba + 1) sectors
+
+-- what comes next, and nothing can be done
+abbrev pub work_in : MountView → Work
+work_in v = work_of (blank v.shape) (logs_in v) v.pad
+
+abbrev pub HasNoWork : MountView → Type 0
+HasNoWork v = (reason : Why) × (work_in v ≡ works.Nothing reason)
+
+-- a front that isn't reached, for want of work
+pub record IsStuckAt (v : MountView) (wanted have : ℕ) : Type 0 where
+  pub idle : HasNoWork v
+  pub short : have < wanted
+
+-- a block that a sector's slot names, with what stands there
+pub record IsFetchable (v : MountView) (unit chunk number : ℕ) (sector : List ℕ) : Type 0 where
+  pub lba : ℕ
+  pub at : ℕ
+  pub position : ℕ
+  pub slot : IsBlockOfSlot (blank v.shape) (logs_in v) lba chunk at position
+  pub of_unit : slot.unit ≡ unit
+  pub of_number : slot.number ≡ number
+  pub has : slot.block.sector ≡ sector

@@ -1,0 +1,116 @@
+//! What a target for one session does, as rows of a list that contracts see.
+ghost use Rattle.std.specs.Prelude.{Some};
+ghost use Rattle.pblk_model.specs.ChunkStep.{Gave};
+ghost use Rattle.pblk_world.specs.Events.{Begin, Take, Open, Place};
+ghost use Rattle.step_laws.specs.Whole.{program_of, fetch_of, first_beginning};
+ghost use Rattle.pblk_core.specs.Named.{next_start};
+ghost use Rattle.pblk_core.specs.Taken.{entry_of, mark_of};
+ghost use Rattle.block_target.specs.Deeds.{Decides, Does, Lands};
+
+use pblk_core::{Core, Stripe};
+use pblk_model::{Mark, Shows};
+use sector_pool::Entry;
+use std::marker::Model;
+
+/// One thing that is done. Such rows exist in contracts alone, so no value of this type is ever made.
+pub(crate) struct Deed {
+    unmade: Unmade,
+}
+
+// No value of it can be made.
+enum Unmade {}
+
+impl Model for Deed {
+    ghost use Rattle.block_target.specs.Deeds.{Deed};
+
+    ghost Value = { Deed };
+
+    ghost view = { λ d. elim d.unmade as (λ _. Deed) [ ] };
+}
+
+/// The mount begins.
+#[derive(Drop)]
+pub(crate) struct Begins;
+
+impl Shows for Begins {
+    type Event = Deed;
+
+    ghost shown = { λ _. Decides (Begin first_beginning) };
+}
+
+/// An entry is taken.
+#[derive(Drop)]
+pub(crate) struct Takes<'a> {
+    pub(crate) entry: &'a Entry,
+}
+
+impl Shows for Takes<'_> {
+    type Event = Deed;
+
+    ghost shown = { λ t. Decides (Take (entry_of t.entry.now) (mark_of t.entry.now)) };
+}
+
+/// The line is opened that the core names.
+#[derive(Drop)]
+pub(crate) struct Opens<'a> {
+    pub(crate) core: &'a Core,
+}
+
+impl Shows for Opens<'_> {
+    type Event = Deed;
+
+    ghost shown = { λ o. Decides (Open (next_start o.core.now).line (next_start o.core.now)) };
+}
+
+/// A stripe is placed.
+#[derive(Drop)]
+pub(crate) struct Places<'a> {
+    pub(crate) stripe: &'a Stripe,
+}
+
+impl Shows for Places<'_> {
+    type Event = Deed;
+
+    ghost shown = { λ p. Decides (Place p.stripe.now.stripe) };
+}
+
+/// Its unit programs it.
+#[derive(Drop)]
+pub(crate) struct Programs<'a> {
+    pub(crate) stripe: &'a Stripe,
+}
+
+impl Shows for Programs<'_> {
+    type Event = Deed;
+
+    ghost shown = { λ p. Does p.stripe.now.stripe.unit (program_of p.stripe.now.stripe) };
+}
+
+/// The program of a unit is noted as landed.
+#[derive(Drop)]
+pub(crate) struct Landing {
+    pub(crate) unit: u32,
+}
+
+impl Shows for Landing {
+    type Event = Deed;
+
+    ghost shown = { λ l. Lands l.unit };
+}
+
+/// A unit gives a block.
+#[derive(Drop)]
+pub(crate) struct Fetches<'a> {
+    pub(crate) unit: u32,
+    pub(crate) chunk: u32,
+    pub(crate) block: u32,
+    pub(crate) out: &'a [u8],
+    pub(crate) mark: Mark,
+}
+
+impl Shows for Fetches<'_> {
+    type Event = Deed;
+
+    ghost shown = { λ f. Does f.unit
+        (fetch_of f.chunk f.block (Gave (record { sector = f.out.now; mark = f.mark }))) };
+}

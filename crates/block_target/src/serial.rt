@@ -1,0 +1,270 @@
+//! A target for one session.
+ghost use Rattle.std.specs.Prelude.{◌≡◌, ◌<◌, ◌≤◌, [], ◌∷◌, ◌++◌, map, length, max, slice_range, ◌↔◌, IsTrue, IfOk, IfErr, ◌+◌, ◌*◌, ◌^◌};
+ghost use Rattle.pblk_model.specs.Accepted.{IsAccepted};
+ghost use Rattle.pblk_world.specs.Events.{Begin};
+ghost use Rattle.block_port.specs.Own.{sectors_of};
+ghost use Rattle.block_port.specs.Port.{IsPastEnd};
+ghost use Rattle.block_target.specs.Deeds.{Decides};
+ghost use Rattle.step_laws.specs.Whole.{first_beginning};
+ghost use Rattle.block_target.specs.Mount.{MountView, AreNewUnits, IsSameMount, IsSound, taken_in, latest, with_entries};
+ghost use Rattle.block_target.specs.Serial.{SerialView, Settles, device};
+
+use crate::mount::Mount;
+use crate::opening::{OpenErr, Refused, SettleErr};
+use block_port::{
+    FlushErr, Front, Note, OwnWrite, Place, Port, ReadErr, WornAnswer, WriteErr, Written,
+};
+use pblk_model::Shape;
+use std::alloc::{AllocError, Global};
+use std::marker::Model;
+use std::sync::Wait;
+use unit_port::{Log, Unit};
+
+/// A target for one session over real units: it does all work in its own calls (Bjørling, González, Bonnet, FAST
+/// 2017, write buffering).
+///
+/// Contracts see what was done, in order, as the steps of a legal world, with what the session has seen and
+/// was answered.
+pub struct Serial<U: Unit> {
+    mount: Mount<U>,
+    seen: u64,
+    own: Log<OwnWrite>,
+    worns: Log<WornAnswer>,
+}
+
+impl<U: Unit> Model for Serial<U> {
+    ghost use Rattle.block_target.specs.Serial.{SerialView, IsSerial};
+
+    ghost Value = { SerialView };
+
+    ghost view = { λ s. record { mount = s.mount; seen = s.seen; own = s.own; worns = s.worns } };
+
+    ghost invariant = { λ s. IsSerial (record { mount = s.mount; seen = s.seen; own = s.own; worns = s.worns }) };
+}
+
+// The lists of a port that has answered nothing.
+#[derive(Drop)]
+struct Lists {
+    own: Log<OwnWrite>,
+    worns: Log<WornAnswer>,
+}
+
+fn make_lists(alloc: Global) -> Result<Lists, AllocError>
+    ensures { IfOk result (λ l. (l.own ≡ []) × (l.worns ≡ [])) }
+{
+    Ok(Lists {
+        own: Log::new(alloc)?,
+        worns: Log::new(alloc)?,
+    })
+}
+
+impl<U: Unit> Serial<U> {
+    /// Opens a target over units of a drive on which nothing was written, and which are armed with nothing. They
+    /// are as many as the shape has.
+    ///
+    /// Refused with `Memory` alone; the units are handed back.
+    pub fn open(alloc: Global, units: Vec<U>, shape: &Shape) -> Result<Serial<U>, Refused<U>>
+        requires accepted { IsAccepted shape.now }
+        requires new { AreNewUnits shape.now (map U.model units.items) }
+        ensures begun { IfOk result (λ s. s.mount.deeds ≡ Decides (Begin first_beginning) ∷ []) }
+        ensures shape { IfOk result (λ s. s.mount.shape ≡ shape.now) }
+        ensures units { IfOk result (λ s. s.mount.units ≡ map U.model units.items) }
+        ensures new_port { IfOk result (λ s. (s.seen ≡ 0) × (s.own ≡ []) × (s.worns ≡ [])) }
+        ensures refused { IfErr result (λ r. r.units ≡ units) }
+    {
+        let (own, worns) = match make_lists(alloc) {
+            Ok(Lists { own, worns }) => (own, worns),
+            Err(_) => {
+                return Err(Refused {
+                    units,
+                    cause: OpenErr::Memory,
+                });
+            }
+        };
+        match Mount::new(alloc, units, shape) {
+            Err(units) => Err(Refused {
+                units,
+                cause: OpenErr::Memory,
+            }),
+            Ok(mount) => Ok(Serial {
+                mount,
+                seen: 0,
+                own,
+                worns,
+            }),
+        }
+    }
+
+    /// Brings all that was taken to the drive, and hands the units back.
+    ///
+    /// `Worn` comes where not all of it is there and nothing is left to do: `wanted` is the front taken, and `have`
+    /// the front synced. `Drive` doesn't come, since no command fails or is stopped.
+    pub fn close<R: Wait>(mut self, rt: &R) -> (Vec<U>, Result<(), SettleErr>)
+        ensures { (v : MountView) × IsSameMount self.mount v × IsSound v
+            × (map U.model result.0.items ≡ v.units) × Settles result.1 v }
+    {
+        self.mount.is_sound();
+        let wanted = self.mount.front().position;
+        let settled = match self.mount.sync(rt, wanted) {
+            Ok(_) => Ok(()),
+            Err(have) => Err(SettleErr::Worn { wanted, have }),
+        };
+        self.mount.is_sound();
+        let Serial {
+            mount,
+            seen: _,
+            own: _,
+            worns: _,
+        } = self;
+        (mount.end(), settled)
+    }
+
+    // Waits until all that the session has seen is taken.
+    fn catch_up<R: Wait>(&self, rt: &R)
+        ensures { self.now.seen ≤ taken_in self.now.mount }
+    {
+        for _ in rt.forever() {
+            if self.seen <= self.mount.front().position {
+                return;
+            }
+        }
+        unreachable!()
+    }
+
+    // Whether the sectors from `lba` on that so many bytes are aren't all below the capacity.
+    fn is_past_end(&self, lba: u64, len: usize) -> bool
+        ensures { IsTrue result ↔ IsPastEnd (device self.now) lba len }
+    {
+        self.mount.is_sound();
+        let shape = self.mount.shape();
+        match lba.checked_add((len / shape.sector as usize) as u64) {
+            None => true,
+            Some(end) => end > shape.capacity,
+        }
+    }
+
+    fn add_worn(&mut self, count: u32, wanted: u64, have: u64)
+        ensures { self.new ≡ record {
+          mount = self.old.mount;
+          seen = self.old.seen;
+          own = self.old.own;
+          worns = self.old.worns ++ record { count = count; wanted = wanted; have = have } ∷ [];
+        } }
+    {
+        self.worns.add(&WornAnswer {
+            count,
+            wanted,
+            have,
+        });
+    }
+}
+
+// Takes sectors from `lba` on, one after another.
+fn take_all<U: Unit>(mount: &mut Mount<U>, lba: u64, bytes: &[u8], count: u32, size: usize)
+    requires size { size ≡ mount.old.shape.sector }
+    requires bytes { length bytes.now ≡ count * size }
+    requires inside { lba + count ≤ mount.old.shape.capacity }
+    requires small { lba + count < 2 ^ 64 }
+    requires room { taken_in mount.old + count ≤ mount.old.granted }
+    ensures { mount.new ≡ with_entries mount.old lba (sectors_of size count bytes.now) }
+{
+    for index in 0..count {
+        let at = index as usize * size;
+        mount.take(lba + u64::from(index), &bytes[at..at + size]);
+    }
+}
+
+// Reads sectors from `lba` on, one after another.
+fn read_all<U: Unit>(mount: &mut Mount<U>, lba: u64, out: &mut [u8], count: u32, size: usize)
+    requires size { size ≡ mount.old.shape.sector }
+    requires whole { length out.old ≡ count * size }
+    requires inside { lba + count ≤ mount.old.shape.capacity }
+    requires end { lba + count < 2 ^ 64 }
+    ensures same { IsSameMount mount.old mount.new }
+    ensures latest { sectors_of size count out.new ≡ slice_range (latest mount.old) lba (lba + count) }
+{
+    for index in 0..count {
+        let at = index as usize * size;
+        mount.read(lba + u64::from(index), &mut out[at..at + size]);
+    }
+}
+
+impl<U: Unit> Port for Serial<U> {
+    ghost model = { device };
+
+    fn write<R: Wait>(&mut self, rt: &R, lba: u64, bytes: &[u8]) -> Result<Place, WriteErr> {
+        if self.is_past_end(lba, bytes.len()) {
+            return Err(WriteErr::Range);
+        }
+        self.catch_up(rt);
+        self.mount.is_sound();
+        let size = self.mount.shape().sector as usize;
+        let count = (bytes.len() / size) as u32;
+        let first = self.mount.front().position;
+        let wanted = first + u64::from(count);
+        let claimed = self.mount.claim(rt, wanted);
+        self.mount.is_sound();
+        if let Err(have) = claimed {
+            self.add_worn(count, wanted, have);
+            return Err(WriteErr::Worn { wanted, have });
+        }
+        take_all(&mut self.mount, lba, bytes, count, size);
+        let place = Place { first, count };
+        self.own.add(&Written {
+            place,
+            lba,
+            size: size as u32,
+            bytes,
+        });
+        self.seen = wanted;
+        Ok(place)
+    }
+
+    fn read<R: Wait>(&mut self, rt: &R, lba: u64, out: &mut [u8]) -> Result<Front, ReadErr> {
+        self.mount.is_sound();
+        if self.is_past_end(lba, out.len()) {
+            return Err(ReadErr::Range);
+        }
+        self.catch_up(rt);
+        let size = self.mount.shape().sector as usize;
+        let count = (out.len() / size) as u32;
+        let front = self.mount.front();
+        read_all(&mut self.mount, lba, out, count, size);
+        self.mount.is_sound();
+        self.seen = front.position;
+        Ok(front)
+    }
+
+    fn flush<R: Wait>(&mut self, rt: &R) -> Result<Front, FlushErr> {
+        self.mount.is_sound();
+        self.catch_up(rt);
+        let wanted = self.mount.front().position;
+        let synced = self.mount.sync(rt, wanted);
+        self.mount.is_sound();
+        match synced {
+            Ok(front) => {
+                self.seen = front.position;
+                Ok(front)
+            }
+            Err(have) => {
+                self.add_worn(0, wanted, have);
+                Err(FlushErr::Worn { wanted, have })
+            }
+        }
+    }
+
+    fn tell(&self) -> Note {
+        Note {
+            position: self.seen,
+        }
+    }
+
+    fn hear(&mut self, note: Note) {
+        self.seen = self.seen.max(note.position);
+    }
+
+    fn sector(&self) -> u32 {
+        self.mount.is_sound();
+        self.mount.shape().sector
+    }
+}
