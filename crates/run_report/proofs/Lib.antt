@@ -1,0 +1,7 @@
+pub mod Loops
+pub mod Sorting
+pub mod Accepted
+pub mod Steps
+pub mod Known
+pub mod OnePort
+pub mod Recorded

@@ -1,0 +1,49 @@
+-- The writes of a run that were answered a place, and the history that they are.
+use Rattle.std.specs.Prelude.{ℕ, ◌+◌, List, [], ◌∷◌, ◌++◌, if◌then◌else◌, nat_lt}
+use Rattle.std.specs.List.{range_with_len}
+use Rattle.pblk_model.specs.declared.script.Command.{Command}
+use Rattle.pblk_model.specs.declared.script.Command.TheVariants.{Write}
+use Rattle.pblk_model.specs.Text.{HistoryLine}
+use Rattle.pblk_model.specs.Transcript.{PlacedWrite, rows_of}
+use Rattle.run_threads.specs.declared.records.Answer.{Answer}
+use Rattle.run_threads.specs.declared.records.Answer.TheVariants.{Placed}
+use Rattle.run_report.specs.declared.rows.Row.{Row}
+
+-- a command of a thread, if it is a write that was answered a place
+abbrev pub row_of : ℕ → Command → Answer → List Row
+row_of thread (Write lba count tag) (Placed place) =
+    record { first = place.first; thread = thread; lba = lba; count = count; tag = tag } ∷ []
+row_of thread command answer = []
+
+-- a thread's, by command
+abbrev pub thread_rows : ℕ → List Command → List Answer → List Row
+thread_rows thread (command ∷ commands) (answer ∷ answers) =
+    row_of thread command answer ++ thread_rows thread commands answers
+thread_rows thread commands answers = []
+
+-- those of all threads, by thread, from this number on
+abbrev pub rows_from : ℕ → List (List Command) → List (List Answer) → List Row
+rows_from thread (commands ∷ script) (answers ∷ threads) =
+    thread_rows thread commands answers ++ rows_from (thread + 1) script threads
+rows_from thread script threads = []
+
+-- Rows in the order of their positions: each is inserted before the first that stands at its position or past
+-- it.
+abbrev pub insert : Row → List Row → List Row
+insert row [] = row ∷ []
+insert row (other ∷ rows) =
+    if nat_lt other.first row.first then other ∷ insert row rows else row ∷ (other ∷ rows)
+
+abbrev pub in_order : List Row → List Row
+in_order [] = []
+in_order (row ∷ rows) = insert row (in_order rows)
+
+-- a row's lines of the history, and their positions
+abbrev pub write_of : Row → PlacedWrite
+write_of row = record { thread = row.thread; lba = row.lba; count = row.count; tag = row.tag }
+
+abbrev pub lines_of : Row → List HistoryLine
+lines_of row = rows_of (write_of row)
+
+abbrev pub positions_of : Row → List ℕ
+positions_of row = range_with_len row.first row.count

@@ -1,0 +1,58 @@
+//! The transcript of a run is in the relation of its script, the contents before and those after.
+
+ghost use Rattle.std.specs.Prelude.{ℕ, ◌^◌, ◌<◌, ◌≤◌, ◌≡◌, List, [], ◌∷◌, Some, None, length, take};
+ghost use Rattle.std.specs.List.{AllByRecursion};
+ghost use Rattle.block_port.specs.Port.{ModelPort};
+ghost use Rattle.pblk_model.specs.declared.script.Command.{Command};
+ghost use Rattle.pblk_model.specs.History.{after};
+ghost use Rattle.pblk_model.specs.Script.{ScriptFits};
+ghost use Rattle.pblk_model.specs.Transcript.{IsRun, sector_writes};
+ghost use Rattle.run_report.specs.OnePort.{IsRunOfOnePort, IsTrouble};
+ghost use Rattle.run_report.specs.Recorded.{IsRecorded};
+ghost use Rattle.run_report.specs.Report.{transcript_of};
+ghost use Rattle.run_threads.specs.declared.records.Records.{Records};
+ghost use Rattle.run_threads.specs.declared.records.Trouble.TheVariants.{Drive};
+ghost use Rattle.run_threads.specs.Run.{EachThread, IsEvent, Runs};
+
+/// What the threads of a script were answered through ports answers the script, so there is a
+/// transcript of it. Each port has as many sectors as the script may name.
+pub fn a_run_is_recorded()
+    ensures { (told : List ℕ → ℕ) (capacity : ℕ) (script : List (List Command))
+        (records : Records) (olds news : List ModelPort)
+        → capacity < 2 ^ 64 → ScriptFits capacity script
+        → AllByRecursion (λ port. capacity ≤ length port.start) olds
+        → records.opening ≡ None
+        → EachThread (λ commands answers before after. Runs told before commands answers after)
+        script records.threads olds news
+        → IsRecorded script records }
+{}
+
+/// Where a script of one thread is run through one port, the transcript of its records is one of a
+/// run of the script from the port's contents at the beginning, and leaves them after the lines of
+/// its history that are kept.
+pub fn a_run_through_one_port()
+    ensures { (commands : List Command) (records : Records) (old new : ModelPort) (end : ℕ)
+        → IsRunOfOnePort commands records old new end
+        → let script = commands ∷ [] in
+        let t = transcript_of script records end in
+        let kept = sector_writes old.sector (take t.kept t.history) in
+        IsRun old.sector script old.start t (after old.start kept) }
+{}
+
+/// Where a script of no thread is run, the transcript of its records is one of a run that changes
+/// nothing, whatever closing answered.
+pub fn a_run_of_no_thread()
+    ensures { (size : ℕ) (records : Records) (contents : List (List ℕ)) (end : ℕ)
+        → records.threads ≡ [] → records.opening ≡ None → IsTrouble records.closing
+        → IsRun size [] contents (transcript_of [] records end) contents }
+{}
+
+/// Where opening answered an event, and so no command was run, the transcript of the records is one
+/// of a run that changes nothing.
+pub fn a_run_that_was_not_opened()
+    ensures { (size : ℕ) (script : List (List Command)) (records : Records)
+        (contents : List (List ℕ)) (end unit event : ℕ)
+        → records.threads ≡ [] → records.opening ≡ Some (Drive unit event)
+        → records.closing ≡ None → IsEvent unit event
+        → IsRun size script contents (transcript_of script records end) contents }
+{}
