@@ -102,6 +102,12 @@ stopped_in Idle = None
 stopped_in (UnderWay of) = None
 stopped_in (Stopped of) = Some of
 
+-- the program of a unit that is under way
+abbrev pub under_way_in : UnitRow → Option Program
+under_way_in Idle = None
+under_way_in (UnderWay of) = Some of
+under_way_in (Stopped of) = None
+
 -- What can be placed, in this order: what was stopped, by unit; then the next stripe in line order of each line, the line
 -- that was opened first before the other.
 abbrev pub offers : Placing → List Program

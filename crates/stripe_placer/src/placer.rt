@@ -2,9 +2,9 @@
 
 ghost use Rattle.std.specs.Prelude.{ℕ, ◌≡◌, ◌≢◌, ◌↔◌, ◌<◌, ◌≤◌, ◌^◌, false, map, length};
 ghost use Rattle.std.specs.Prelude.{[], ◌∷◌, ◌++◌, Some, None, IfSome, IsNone, IfOk};
-ghost use Rattle.std.specs.Prelude.{vec_len, vec_capacity};
+ghost use Rattle.std.specs.Prelude.{vec_len, vec_capacity, slice_get};
 ghost use Rattle.std.specs.List.{All, Contains, HoldsAt, filter};
-ghost use Rattle.std.specs.Option.{option_map};
+ghost use Rattle.std.specs.Option.{option_map, option_and_then};
 ghost use Rattle.pblk_model.specs.Shape.{units};
 ghost use Rattle.pblk_model.specs.LineOrder.{data_len};
 ghost use Rattle.pblk_layout.specs.Live.{units_in};
@@ -12,7 +12,7 @@ ghost use Rattle.stripe_placer.specs.Entries.{Rises};
 ghost use Rattle.stripe_placer.specs.OpenLines.{OpenLine, next_of, in_one_chunk, in_line, has_left};
 ghost use Rattle.stripe_placer.specs.OpenLines.Stripe.{Unanswered, Landed, Lost};
 ghost use Rattle.stripe_placer.specs.Placing.{nothing_placed, held, waits, padded_to, begun};
-ghost use Rattle.stripe_placer.specs.Placing.{program, next_stripe, IsNext, IsUnderWay};
+ghost use Rattle.stripe_placer.specs.Placing.{program, next_stripe, under_way_in, IsNext, IsUnderWay};
 ghost use Rattle.stripe_placer.specs.Placing.{placed, landed, lost, stopped};
 ghost use Rattle.stripe_placer.specs.Inside.{IsAmongLines, IsUnanswered, AreApart};
 
@@ -209,6 +209,22 @@ impl Placer {
             Some(of) => Some(of),
             None => next_new(&self.layout, &self.queue, &self.units, &self.slots, busy),
         }
+    }
+
+    /// The program that is under way on a unit of the drive, if there is one.
+    pub fn under_way(&self, unit: u32) -> Option<Placement>
+        requires { unit < units self.now.shape }
+        ensures { option_map program result
+            ≡ option_and_then under_way_in (slice_get self.now.units unit) }
+    {
+        self.units[unit as usize].under_way()
+    }
+
+    /// The pad target.
+    pub fn pad_target(&self) -> u64
+        ensures { result ≡ self.now.entries.pad }
+    {
+        self.queue.pad_target()
     }
 
     /// The program of a stripe is under way. `next_stripe` names it.

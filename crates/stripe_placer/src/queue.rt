@@ -150,6 +150,13 @@ impl Queue {
         let _ = &self.pad;
     }
 
+    /// The pad target.
+    pub(crate) fn pad_target(&self) -> u64
+        ensures { result ≡ self.now.entries.pad }
+    {
+        self.pad
+    }
+
     /// Raises the pad target, which never falls.
     pub(crate) fn pad_to(&mut self, position: u64)
         ensures entries { self.new.entries ≡ with_pad self.old.entries position }

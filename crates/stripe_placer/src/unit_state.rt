@@ -4,7 +4,7 @@ ghost use Rattle.std.specs.Prelude.{◌≡◌, ◌<◌, ◌≤◌, not, [], ◌�
 ghost use Rattle.std.specs.List.{filter_map, find};
 ghost use Rattle.std.specs.Option.{option_map};
 ghost use Rattle.pblk_layout.specs.Live.{is_in};
-ghost use Rattle.stripe_placer.specs.Placing.{Program, program, stopped_in};
+ghost use Rattle.stripe_placer.specs.Placing.{Program, program, stopped_in, under_way_in};
 ghost use Rattle.stripe_placer.specs.Placing.{is_under_way, is_stopped, is_ready};
 ghost use Rattle.stripe_placer.specs.Placing.UnitRow.{Idle, Stopped};
 ghost use Rattle.stripe_placer.specs.Inside.{unit_row, OwnUnits};
@@ -28,6 +28,17 @@ impl UnitState {
         ensures { result ≡ is_under_way (unit_row self.now) }
     {
         matches!(self, UnitState::UnderWay(_))
+    }
+
+    /// The program that is under way, if there is one.
+    pub(crate) fn under_way(&self) -> Option<Placement>
+        ensures { option_map program result ≡ under_way_in (unit_row self.now) }
+    {
+        match self {
+            UnitState::Idle => None,
+            UnitState::UnderWay(of) => Some(*of),
+            UnitState::Stopped(_) => None,
+        }
     }
 
     pub(crate) fn is_stopped(&self) -> bool
