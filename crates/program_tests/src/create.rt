@@ -1,11 +1,14 @@
 //! `create`: images that are made, and numbers of which there is none.
 
 use crate::drives::{GROUPS, LARGE_SECTORS, Numbers, ONE_UNIT, SMALL};
-use crate::harness::{Asked, Content, Told, Wrong, compare, refuses};
+use crate::harness::{Asked, Content, FirstWrong, Told, Wrong, compare, refuses};
+use std::alloc::{AllocError, Global};
 use std::test::Fail;
 
 // Words, the drive whose blank image they make, and the line.
-const MADE: [(&str, Numbers, &str); 11] = [
+type Made<'a> = (&'a str, Numbers, &'a str);
+
+const MADE: [Made<'static>; 11] = [
     ("create|image", SMALL, "created 4640\n"),
     (
         "create|image|--groups|1|--units|2|--chunks|8|--blocks|24|--ws-min|2|--ws-opt|4|--mw|8|--sector|512|--capacity|64|--ring|64",
@@ -85,23 +88,37 @@ const MADE: [(&str, Numbers, &str); 11] = [
     ),
 ];
 
-#[test]
-fn blank_images_are_made(rt: HostRuntime) -> Result<(), Fail> {
-    for (words, numbers, text) in MADE {
-        let told = Told {
-            status: 0,
-            text,
-            image: Content::Image(&numbers, &[], &[]),
-        };
-        for before in [Content::Absent, Content::Text("old"), told.image] {
-            let asked = Asked::calm(words, before, Content::Absent);
-            assert_eq!(rt;
-                compare(rt.alloc(), &asked, &told)?,
-                Wrong::Nothing,
-                "{words}"
-            );
+// The image is made where there is none, and over a file that is no image or is this one.
+fn wrong_made(alloc: Global, row: &Made<'_>) -> Result<Wrong, AllocError> {
+    let (words, numbers, text) = row;
+    let told = Told {
+        status: 0,
+        text,
+        image: Content::Image(numbers, &[], &[]),
+    };
+    for before in [Content::Absent, Content::Text("old"), told.image] {
+        let asked = Asked::calm(words, &before, &Content::Absent);
+        let wrong = compare(alloc, &asked, &told)?;
+        if wrong != Wrong::Nothing {
+            return Ok(wrong);
         }
     }
+    Ok(Wrong::Nothing)
+}
+
+fn first_wrong_made(alloc: Global, rows: &[Made<'_>]) -> Result<FirstWrong, AllocError> {
+    for (number, row) in rows.iter().enumerate() {
+        let wrong = wrong_made(alloc, row)?;
+        if wrong != Wrong::Nothing {
+            return Ok(Some((number, wrong)));
+        }
+    }
+    Ok(None)
+}
+
+#[test]
+fn blank_images_are_made(rt: HostRuntime) -> Result<(), Fail> {
+    assert_eq!(rt; first_wrong_made(rt.alloc(), &MADE)?, None);
     Ok(())
 }
 
@@ -190,14 +207,28 @@ const REFUSED: [(&str, &str); 41] = [
     ("create|image|--ring|32|--capacity|91", "image Settings 4\n"),
 ];
 
-#[test]
-fn refused_numbers_make_nothing(rt: HostRuntime) -> Result<(), Fail> {
+// Nothing is made where there is no file, and over a file.
+fn wrong_refusal(alloc: Global, words: &str, line: &str) -> Result<Wrong, AllocError> {
     let none = Content::Absent;
-    for (words, line) in REFUSED {
-        for image in [none, Content::Text("kept")] {
-            let wrong = refuses(rt.alloc(), words, image, none, (3, line))?;
-            assert_eq!(rt; wrong, Wrong::Nothing, "{words}");
+    let wrong = refuses(alloc, words, none, none, (3, line))?;
+    if wrong != Wrong::Nothing {
+        return Ok(wrong);
+    }
+    refuses(alloc, words, Content::Text("kept"), none, (3, line))
+}
+
+fn first_wrong_refusal(alloc: Global, rows: &[(&str, &str)]) -> Result<FirstWrong, AllocError> {
+    for (number, (words, line)) in rows.iter().enumerate() {
+        let wrong = wrong_refusal(alloc, words, line)?;
+        if wrong != Wrong::Nothing {
+            return Ok(Some((number, wrong)));
         }
     }
+    Ok(None)
+}
+
+#[test]
+fn refused_numbers_make_nothing(rt: HostRuntime) -> Result<(), Fail> {
+    assert_eq!(rt; first_wrong_refusal(rt.alloc(), &REFUSED)?, None);
     Ok(())
 }

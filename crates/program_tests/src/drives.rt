@@ -142,28 +142,56 @@ fn line_stripes(numbers: &Numbers, history: &[Row]) -> u64 {
     blocks.saturating_add(ws_opt.saturating_sub(1)) / ws_opt
 }
 
+// Numbers, each with how many bytes it takes, at most 8, the least first.
+fn add_numbers(bytes: &mut Vec<u8>, numbers: &[(u64, usize)]) -> Result<(), AllocError> {
+    for (number, length) in numbers {
+        add_number(bytes, *number, *length)?;
+    }
+    Ok(())
+}
+
+fn add_number(bytes: &mut Vec<u8>, number: u64, length: usize) -> Result<(), AllocError> {
+    for (place, byte) in number.to_le_bytes().iter().enumerate() {
+        if place < length {
+            bytes.push(*byte)?;
+        }
+    }
+    Ok(())
+}
+
 // The header of the file, and the geometry.
 fn add_header(bytes: &mut Vec<u8>, numbers: &Numbers) -> Result<(), AllocError> {
     bytes.extend_from_slice(b"PBLKOCSD")?;
-    bytes.extend_from_slice(&1u32.to_le_bytes())?;
-    bytes.extend_from_slice(&numbers.sector.to_le_bytes())?;
-    bytes.extend_from_slice(&numbers.capacity.to_le_bytes())?;
-    bytes.extend_from_slice(&numbers.ring.to_le_bytes())?;
-    // Version 2.0.
-    bytes.extend_from_slice(&[2])?;
-    bytes.resize(32 + 8, 0)?;
+    let header = [
+        (1, 4),
+        (numbers.sector.into(), 4),
+        (numbers.capacity, 8),
+        (numbers.ring, 8),
+        // Version 2.0.
+        (2, 8),
+    ];
+    add_numbers(bytes, &header)?;
     bytes.extend_from_slice(&numbers.lengths)?;
     bytes.resize(32 + 64, 0)?;
-    bytes.extend_from_slice(&numbers.groups.to_le_bytes())?;
-    bytes.extend_from_slice(&numbers.pus.to_le_bytes())?;
-    bytes.extend_from_slice(&numbers.chunks.to_le_bytes())?;
-    bytes.extend_from_slice(&numbers.blocks.to_le_bytes())?;
+    add_counts(bytes, numbers)?;
+    bytes.resize(32 + 4096, 0)
+}
+
+fn add_counts(bytes: &mut Vec<u8>, numbers: &Numbers) -> Result<(), AllocError> {
+    let counts = [
+        (numbers.groups.into(), 2),
+        (numbers.pus.into(), 2),
+        (numbers.chunks.into(), 4),
+        (numbers.blocks.into(), 4),
+    ];
+    add_numbers(bytes, &counts)?;
     bytes.resize(32 + 128, 0)?;
-    bytes.extend_from_slice(&numbers.ws_min.to_le_bytes())?;
-    bytes.extend_from_slice(&numbers.ws_opt.to_le_bytes())?;
-    bytes.extend_from_slice(&numbers.mw.to_le_bytes())?;
-    bytes.resize(32 + 4096, 0)?;
-    Ok(())
+    let sizes = [
+        (numbers.ws_min.into(), 4),
+        (numbers.ws_opt.into(), 4),
+        (numbers.mw.into(), 4),
+    ];
+    add_numbers(bytes, &sizes)
 }
 
 // The descriptor of a chunk at a group, a unit of it and a chunk, with so many blocks written: it
@@ -185,11 +213,11 @@ fn add_descriptor(
     for (bits, field) in [(pu_bits, pu), (chunk_bits, chunk), (block_bits, 0)] {
         address = address.wrapping_shl(u32::from(bits)) | field;
     }
-    bytes.extend_from_slice(&[state, 1, 0, 0, 0, 0, 0, 0])?;
-    bytes.extend_from_slice(&address.to_le_bytes())?;
-    bytes.extend_from_slice(&u64::from(numbers.blocks).to_le_bytes())?;
-    bytes.extend_from_slice(&written.to_le_bytes())?;
-    Ok(())
+    let blocks = numbers.blocks.into();
+    add_numbers(
+        bytes,
+        &[(state, 1), (1, 7), (address, 8), (blocks, 8), (written, 8)],
+    )
 }
 
 // The written blocks of a unit, stripe by stripe.
@@ -241,14 +269,17 @@ fn add_block(
 // The header of the first line's start record, of the first mount of a blank drive.
 fn add_start_record(bytes: &mut Vec<u8>, numbers: &Numbers) -> Result<(), AllocError> {
     bytes.extend_from_slice(b"klbp")?;
-    bytes.extend_from_slice(&[1, 0, 1, 0])?;
-    bytes.extend_from_slice(&0u32.to_le_bytes())?;
-    bytes.extend_from_slice(&units(numbers).to_le_bytes())?;
-    bytes.extend_from_slice(&1u64.to_le_bytes())?;
-    bytes.extend_from_slice(&1u64.to_le_bytes())?;
-    bytes.extend_from_slice(&0u64.to_le_bytes())?;
-    bytes.extend_from_slice(&numbers.capacity.to_le_bytes())?;
-    Ok(())
+    let fields = [
+        (1, 2),
+        (1, 2),
+        (0, 4),
+        (units(numbers).into(), 4),
+        (1, 8),
+        (1, 8),
+        (0, 8),
+        (numbers.capacity, 8),
+    ];
+    add_numbers(bytes, &fields)
 }
 
 // The sector of a tag.
@@ -261,6 +292,5 @@ fn add_sector(bytes: &mut Vec<u8>, numbers: &Numbers, tag: u64) -> Result<(), Al
 
 fn add_mark(bytes: &mut Vec<u8>, lba: u64, position: u64) -> Result<(), AllocError> {
     bytes.extend_from_slice(&lba.to_le_bytes())?;
-    bytes.extend_from_slice(&position.to_le_bytes())?;
-    Ok(())
+    bytes.extend_from_slice(&position.to_le_bytes())
 }

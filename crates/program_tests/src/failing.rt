@@ -1,215 +1,255 @@
 //! Files that can't be read or written, and an output that fails.
 
 use crate::drives::SMALL;
-use crate::harness::{Asked, BLANK, Content, Told, Wrong, compare};
+use crate::harness::{Asked, BLANK, Content, FirstWrong, Told, Wrong, compare};
+use std::alloc::{AllocError, Global};
 use std::test::Fail;
 
 const SCRIPT: Content<'static> = Content::Text("thread\nw 5 1 17\n");
 
 const WRITTEN: Content<'static> = Content::Image(&SMALL, &[(5, 17)], &[]);
 
+// What the file `image` holds.
+#[derive(Clone, Copy)]
+enum Held {
+    Absent,
+    Blank,
+    Written,
+    // A text.
+    No,
+}
+
+fn content_of(held: Held) -> Content<'static> {
+    match held {
+        Held::Absent => Content::Absent,
+        Held::Blank => BLANK,
+        Held::Written => WRITTEN,
+        Held::No => Content::Text("no"),
+    }
+}
+
 // The words; the file `image` before; the number of the call of the files that fails, and of that of
-// the output; the status; what was written; and the file `image` afterwards.
-type Row = (
-    &'static str,
-    Content<'static>,
-    [u64; 1],
-    [u64; 1],
-    u8,
-    &'static str,
-    Content<'static>,
-);
+// the output, from 1, or 0 for none; the status; what was written; and the file `image` afterwards.
+type Row<'a> = (&'a str, Held, u64, u64, u8, &'a str, Held);
 
-// Calls are numbered from 1, so that none fails of this number.
-const NONE: [u64; 1] = [0];
-
-const ROWS: [Row; 21] = [
+const ROWS: [Row<'static>; 21] = [
     // The image is read, then the script, then the image is written.
     (
         "geometry|image",
-        BLANK,
-        [1],
-        NONE,
+        Held::Blank,
+        1,
+        0,
         4,
         "files Failed image\n",
-        BLANK,
+        Held::Blank,
     ),
     (
         "geometry|image",
-        Content::Absent,
-        [1],
-        NONE,
+        Held::Absent,
+        1,
+        0,
         4,
         "files Failed image\n",
-        Content::Absent,
+        Held::Absent,
     ),
     (
         "run|image|script",
-        BLANK,
-        [1],
-        NONE,
+        Held::Blank,
+        1,
+        0,
         4,
         "files Failed image\n",
-        BLANK,
+        Held::Blank,
     ),
     (
         "run|image|script",
-        BLANK,
-        [2],
-        NONE,
+        Held::Blank,
+        2,
+        0,
         4,
         "files Failed script\n",
-        BLANK,
+        Held::Blank,
     ),
     (
         "run|image|script",
-        Content::Text("no"),
-        [2],
-        NONE,
+        Held::No,
+        2,
+        0,
         4,
         "files Failed script\n",
-        Content::Text("no"),
+        Held::No,
     ),
     (
         "run|image|script",
-        BLANK,
-        [3],
-        NONE,
+        Held::Blank,
+        3,
+        0,
         4,
         "files Failed image\n",
-        BLANK,
+        Held::Blank,
     ),
     (
         "run|image|script",
-        BLANK,
-        [4],
-        NONE,
+        Held::Blank,
+        4,
+        0,
         0,
         "h 0 0 5 17\nkept 1\n",
-        WRITTEN,
+        Held::Written,
     ),
     (
         "run|image|script",
-        Content::Text("no"),
-        [3],
-        NONE,
+        Held::No,
+        3,
+        0,
         3,
         "image Short 2\n",
-        Content::Text("no"),
+        Held::No,
     ),
     (
         "create|image",
-        Content::Absent,
-        [1],
-        NONE,
+        Held::Absent,
+        1,
+        0,
         4,
         "files Failed image\n",
-        Content::Absent,
+        Held::Absent,
     ),
     (
         "create|image",
-        WRITTEN,
-        [1],
-        NONE,
+        Held::Written,
+        1,
+        0,
         4,
         "files Failed image\n",
-        WRITTEN,
+        Held::Written,
     ),
     (
         "create|image",
-        WRITTEN,
-        [2],
-        NONE,
+        Held::Written,
+        2,
+        0,
         0,
         "created 4640\n",
-        BLANK,
+        Held::Blank,
     ),
     (
         "create|image|--ring|65",
-        WRITTEN,
-        [1],
-        NONE,
+        Held::Written,
+        1,
+        0,
         3,
         "image Settings 5\n",
-        WRITTEN,
+        Held::Written,
     ),
     (
         "create|image|image",
-        WRITTEN,
-        [1],
-        NONE,
+        Held::Written,
+        1,
+        0,
         1,
         "words\n",
-        WRITTEN,
+        Held::Written,
     ),
     // The output takes half of its text: the command did its work all the same.
+    ("create|image", Held::Absent, 0, 1, 8, "create", Held::Blank),
     (
         "create|image",
-        Content::Absent,
-        NONE,
-        [1],
+        Held::Written,
+        0,
+        1,
         8,
         "create",
-        BLANK,
+        Held::Blank,
     ),
-    ("create|image", WRITTEN, NONE, [1], 8, "create", BLANK),
     (
         "run|image|script",
-        BLANK,
-        NONE,
-        [1],
+        Held::Blank,
+        0,
+        1,
         8,
         "h 0 0 5 1",
-        WRITTEN,
+        Held::Written,
     ),
     // Of a refusal's line a part is written, and the status stays.
-    ("create|image|image", BLANK, NONE, [1], 1, "wor", BLANK),
-    ("run|image|absent", BLANK, NONE, [1], 4, "files M", BLANK),
+    (
+        "create|image|image",
+        Held::Blank,
+        0,
+        1,
+        1,
+        "wor",
+        Held::Blank,
+    ),
     (
         "run|image|absent",
-        BLANK,
-        NONE,
-        [2],
+        Held::Blank,
+        0,
+        1,
+        4,
+        "files M",
+        Held::Blank,
+    ),
+    (
+        "run|image|absent",
+        Held::Blank,
+        0,
+        2,
         4,
         "files Missing abs",
-        BLANK,
+        Held::Blank,
     ),
     // Both fail: the file first.
     (
         "run|image|script",
-        BLANK,
-        [3],
-        [9],
+        Held::Blank,
+        3,
+        9,
         4,
         "files Failed image\n",
-        BLANK,
+        Held::Blank,
     ),
     (
         "geometry|image",
-        BLANK,
-        [1],
-        [2],
+        Held::Blank,
+        1,
+        2,
         4,
         "files Failed im",
-        BLANK,
+        Held::Blank,
     ),
 ];
 
+fn wrong_in(alloc: Global, row: &Row<'_>) -> Result<Wrong, AllocError> {
+    let (words, before, files, output, status, text, after) = row;
+    let image = content_of(*before);
+    let asked = Asked {
+        words,
+        image: &image,
+        script: &SCRIPT,
+        failing_files: &[*files],
+        failing_output: &[*output],
+    };
+    let told = Told {
+        status: *status,
+        text,
+        image: content_of(*after),
+    };
+    compare(alloc, &asked, &told)
+}
+
+fn first_wrong(alloc: Global, rows: &[Row<'_>]) -> Result<FirstWrong, AllocError> {
+    for (number, row) in rows.iter().enumerate() {
+        let wrong = wrong_in(alloc, row)?;
+        if wrong != Wrong::Nothing {
+            return Ok(Some((number, wrong)));
+        }
+    }
+    Ok(None)
+}
+
 #[test]
 fn faults_are_answered(rt: HostRuntime) -> Result<(), Fail> {
-    for (row, (words, image, files, output, status, text, after)) in ROWS.iter().enumerate() {
-        let asked = Asked::calm(words, *image, SCRIPT).failing(files, output);
-        let image = *after;
-        let told = Told {
-            status: *status,
-            text,
-            image,
-        };
-        assert_eq!(rt;
-            compare(rt.alloc(), &asked, &told)?,
-            Wrong::Nothing,
-            "row {row}"
-        );
-    }
+    assert_eq!(rt; first_wrong(rt.alloc(), &ROWS)?, None);
     Ok(())
 }

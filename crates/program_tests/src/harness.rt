@@ -27,30 +27,21 @@ pub(crate) const BLANK: Content<'static> = Content::Image(&SMALL, &[], &[]);
 #[derive(Clone, Copy)]
 pub(crate) struct Asked<'a> {
     pub(crate) words: &'a str,
-    pub(crate) image: Content<'a>,
-    pub(crate) script: Content<'a>,
+    pub(crate) image: &'a Content<'a>,
+    pub(crate) script: &'a Content<'a>,
     pub(crate) failing_files: &'a [u64],
     pub(crate) failing_output: &'a [u64],
 }
 
 impl<'a> Asked<'a> {
     /// A call where nothing fails.
-    pub(crate) fn calm(words: &'a str, image: Content<'a>, script: Content<'a>) -> Self {
+    pub(crate) fn calm(words: &'a str, image: &'a Content<'a>, script: &'a Content<'a>) -> Self {
         Asked {
             words,
             image,
             script,
             failing_files: &[],
             failing_output: &[],
-        }
-    }
-
-    /// The same call, where these calls of the files and of the output fail.
-    pub(crate) fn failing(self, files: &'a [u64], output: &'a [u64]) -> Self {
-        Asked {
-            failing_files: files,
-            failing_output: output,
-            ..self
         }
     }
 }
@@ -74,6 +65,9 @@ pub(crate) enum Wrong {
     OtherFiles,
 }
 
+/// The number of the first row of a table that went otherwise, and what of it.
+pub(crate) type FirstWrong = Option<(usize, Wrong)>;
+
 /// Makes a call, and compares its end with what is told. The script and the file `other` are to be
 /// as they were.
 pub(crate) fn compare(
@@ -81,23 +75,49 @@ pub(crate) fn compare(
     asked: &Asked<'_>,
     told: &Told<'_>,
 ) -> Result<Wrong, AllocError> {
-    let mut files = MemoryFiles::new(alloc, asked.failing_files)?;
-    put(alloc, &mut files, "image", &asked.image)?;
-    put(alloc, &mut files, "script", &asked.script)?;
-    files.put("other", b"other")?;
+    let mut files = files_of(alloc, asked)?;
     let mut out = MemorySink::new(alloc, asked.failing_output)?;
     let words = words_of(alloc, asked.words)?;
-    let status = pblk_main(alloc, &words, &mut files, &mut out);
+    let status = call(alloc, &words, &mut files, &mut out);
     if status != told.status {
         return Ok(Wrong::Status(status));
     }
     if out.taken() != told.text.as_bytes() {
         return Ok(Wrong::Text);
     }
-    if !holds(alloc, &files, "image", &told.image)? {
+    wrong_files(alloc, &files, asked, told)
+}
+
+// The files before a call.
+fn files_of(alloc: Global, asked: &Asked<'_>) -> Result<MemoryFiles, AllocError> {
+    let mut files = MemoryFiles::new(alloc, asked.failing_files)?;
+    put(alloc, &mut files, "image", asked.image)?;
+    put(alloc, &mut files, "script", asked.script)?;
+    files.put("other", b"other")?;
+    Ok(files)
+}
+
+/// Calls the program, which gives its status.
+pub(crate) fn call(
+    alloc: Global,
+    words: &[String],
+    files: &mut MemoryFiles,
+    out: &mut MemorySink,
+) -> u8 {
+    pblk_main(alloc, words, files, out)
+}
+
+// What of the files after a call is otherwise than told.
+fn wrong_files(
+    alloc: Global,
+    files: &MemoryFiles,
+    asked: &Asked<'_>,
+    told: &Told<'_>,
+) -> Result<Wrong, AllocError> {
+    if !holds(alloc, files, "image", &told.image)? {
         return Ok(Wrong::Image);
     }
-    let script = holds(alloc, &files, "script", &asked.script)?;
+    let script = holds(alloc, files, "script", asked.script)?;
     if !script || files.get("other") != Some(b"other".as_slice()) {
         return Ok(Wrong::OtherFiles);
     }
@@ -119,7 +139,7 @@ pub(crate) fn refuses(
         text,
         image,
     };
-    compare(alloc, &Asked::calm(words, image, script), &told)
+    compare(alloc, &Asked::calm(words, &image, &script), &told)
 }
 
 /// The words of a line, which are parted by `|`.

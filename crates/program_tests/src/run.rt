@@ -1,13 +1,14 @@
 //! `run`: transcripts, and the images that are stored.
 
 use crate::drives::{Edit, GROUPS, LARGE_SECTORS, Numbers, ONE_UNIT, Row, SMALL};
-use crate::harness::{Asked, Content, Told, Wrong, compare};
+use crate::harness::{Asked, Content, FirstWrong, Told, Wrong, compare};
+use std::alloc::{AllocError, Global};
 use std::test::Fail;
 
 // A drive, a script on its blank image, the transcript, and the history in the image afterwards.
-type Run = (&'static Numbers, &'static str, &'static str, &'static [Row]);
+type Run<'a> = (&'a Numbers, &'a str, &'a str, &'a [Row]);
 
-const SHORT: [Run; 12] = [
+const SHORT: [Run<'static>; 12] = [
     (&SMALL, "", "kept 0\n", &[]),
     (&SMALL, "# nothing\n\nthread", "kept 0\n", &[]),
     (&SMALL, "thread\nr 9 2\n", "r 0 0 0 0 0\nkept 0\n", &[]),
@@ -70,21 +71,54 @@ const SHORT: [Run; 12] = [
     ),
 ];
 
+// Runs a script on an image, which is to tell this and to leave this image.
+fn wrong_run(
+    alloc: Global,
+    before: Content<'_>,
+    script: &str,
+    text: &str,
+    image: Content<'_>,
+) -> Result<Wrong, AllocError> {
+    let held = Content::Text(script);
+    let asked = Asked::calm("run|image|script", &before, &held);
+    let told = Told {
+        status: 0,
+        text,
+        image,
+    };
+    compare(alloc, &asked, &told)
+}
+
+fn first_wrong(alloc: Global, rows: &[Run<'_>]) -> Result<FirstWrong, AllocError> {
+    for (number, (numbers, script, text, history)) in rows.iter().enumerate() {
+        let before = Content::Image(numbers, &[], &[]);
+        let after = Content::Image(numbers, history, &[]);
+        let wrong = wrong_run(alloc, before, script, text, after)?;
+        if wrong != Wrong::Nothing {
+            return Ok(Some((number, wrong)));
+        }
+    }
+    Ok(None)
+}
+
 #[test]
 fn scripts_are_run(rt: HostRuntime) -> Result<(), Fail> {
-    for (row, (numbers, script, text, history)) in SHORT.iter().enumerate() {
-        let image = Content::Image(numbers, &[], &[]);
-        let asked = Asked::calm("run|image|script", image, Content::Text(script));
-        let told = Told {
-            status: 0,
-            text,
-            image: Content::Image(numbers, history, &[]),
-        };
-        assert_eq!(rt;
-            compare(rt.alloc(), &asked, &told)?,
-            Wrong::Nothing,
-            "row {row}"
-        );
+    assert_eq!(rt; first_wrong(rt.alloc(), &SHORT)?, None);
+    Ok(())
+}
+
+// Adds the lines of a write, from a sector to before another.
+fn add_rows(
+    text: &mut String,
+    history: &mut Vec<Row>,
+    sectors: (u64, u64),
+    tag: u64,
+) -> Result<(), Fail> {
+    let (first, end) = sectors;
+    for lba in first..end {
+        let number = history.len();
+        writeln!(text, "h {number} 0 {lba} {tag}")?;
+        history.push((lba, tag))?;
     }
     Ok(())
 }
@@ -95,22 +129,16 @@ fn a_line_is_filled_but_for_a_stripe(rt: HostRuntime) -> Result<(), Fail> {
     let script = "thread\nw 0 16 1\nw 8 16 2\nw 20 4 3\nr 20 5\n";
     let mut text = String::new(alloc);
     let mut history: Vec<Row> = Vec::new(alloc);
-    for (first, end, tag) in [(0u64, 16u64, 1u64), (8, 24, 2), (20, 24, 3)] {
-        for lba in first..end {
-            let number = history.len();
-            writeln!(text, "h {number} 0 {lba} {tag}")?;
-            history.push((lba, tag))?;
-        }
-    }
+    add_rows(&mut text, &mut history, (0, 16), 1)?;
+    add_rows(&mut text, &mut history, (8, 24), 2)?;
+    add_rows(&mut text, &mut history, (20, 24), 3)?;
     text.push_str("r 0 3 36 3 3 3 3 0\nkept 36\n")?;
     let blank = Content::Image(&SMALL, &[], &[]);
-    let told = Told {
-        status: 0,
-        text: &text,
-        image: Content::Image(&SMALL, &history, &[]),
-    };
-    let asked = Asked::calm("run|image|script", blank, Content::Text(script));
-    assert_eq!(rt; compare(alloc, &asked, &told)?, Wrong::Nothing);
+    let after = Content::Image(&SMALL, &history, &[]);
+    assert_eq!(rt;
+        wrong_run(alloc, blank, script, &text, after)?,
+        Wrong::Nothing
+    );
     Ok(())
 }
 
@@ -145,22 +173,23 @@ const BEFORE: [Edit; 13] = [
 
 #[test]
 fn numbers_are_kept_and_the_rest_is_zeros(rt: HostRuntime) -> Result<(), Fail> {
+    let alloc = rt.alloc();
     let before = Content::Image(&SMALL, &[], &BEFORE);
-    for (script, text, history) in [
-        ("thread\nr 0 1\n", "r 0 0 0 0\nkept 0\n", [].as_slice()),
-        ("thread\nw 0 1 6\n", "h 0 0 0 6\nkept 1\n", &[(0, 6)]),
-    ] {
-        let told = Told {
-            status: 0,
-            text,
-            image: Content::Image(&SMALL, history, &KEPT),
-        };
-        let asked = Asked::calm("run|image|script", before, Content::Text(script));
-        assert_eq!(rt;
-            compare(rt.alloc(), &asked, &told)?,
-            Wrong::Nothing,
-            "{script}"
-        );
-    }
+    let read = wrong_run(
+        alloc,
+        before,
+        "thread\nr 0 1\n",
+        "r 0 0 0 0\nkept 0\n",
+        Content::Image(&SMALL, &[], &KEPT),
+    )?;
+    assert_eq!(rt; read, Wrong::Nothing);
+    let written = wrong_run(
+        alloc,
+        before,
+        "thread\nw 0 1 6\n",
+        "h 0 0 0 6\nkept 1\n",
+        Content::Image(&SMALL, &[(0, 6)], &KEPT),
+    )?;
+    assert_eq!(rt; written, Wrong::Nothing);
     Ok(())
 }

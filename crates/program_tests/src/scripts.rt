@@ -1,6 +1,7 @@
 //! Scripts that `run` refuses, on the blank small drive.
 
-use crate::harness::{BLANK, Content, Wrong, refuses};
+use crate::harness::{BLANK, Content, FirstWrong, Wrong, refuses};
+use std::alloc::{AllocError, Global};
 use std::test::Fail;
 
 // Scripts, and why they are refused.
@@ -55,13 +56,20 @@ const REFUSED: [(&str, &str); 28] = [
     ),
 ];
 
+fn first_wrong(alloc: Global, rows: &[(&str, &str)]) -> Result<FirstWrong, AllocError> {
+    for (number, (script, line)) in rows.iter().enumerate() {
+        let held = Content::Text(script);
+        let wrong = refuses(alloc, "run|image|script", BLANK, held, (2, line))?;
+        if wrong != Wrong::Nothing {
+            return Ok(Some((number, wrong)));
+        }
+    }
+    Ok(None)
+}
+
 #[test]
 fn scripts_are_refused(rt: HostRuntime) -> Result<(), Fail> {
-    for (script, line) in REFUSED {
-        let held = Content::Text(script);
-        let wrong = refuses(rt.alloc(), "run|image|script", BLANK, held, (2, line))?;
-        assert_eq!(rt; wrong, Wrong::Nothing, "{script:?}");
-    }
+    assert_eq!(rt; first_wrong(rt.alloc(), &REFUSED)?, None);
     Ok(())
 }
 

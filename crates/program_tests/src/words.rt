@@ -1,8 +1,9 @@
 //! Words that are no command, and words that can't be had.
 
-use crate::harness::{BLANK, Content, Wrong, refuses, words_of};
-use pblk_cli::{pblk_main, pblk_program};
+use crate::harness::{BLANK, Content, FirstWrong, Wrong, call, refuses, words_of};
+use pblk_cli::pblk_program;
 use pblk_outside::{MemoryFiles, MemorySink, WordsErr};
+use std::alloc::{AllocError, Global};
 use std::process::ExitCode;
 use std::test::Fail;
 
@@ -43,15 +44,29 @@ const REFUSED: [&str; 34] = [
     "create|image|--mw|-8",
 ];
 
-#[test]
-fn words_that_are_no_command_touch_no_file(rt: HostRuntime) -> Result<(), Fail> {
+// The words touch no file, whether there is an image or not.
+fn wrong_words(alloc: Global, words: &str) -> Result<Wrong, AllocError> {
     let script = Content::Text("thread\nr 0 1\n");
-    for words in REFUSED {
-        for image in [BLANK, Content::Absent] {
-            let wrong = refuses(rt.alloc(), words, image, script, (1, "words\n"))?;
-            assert_eq!(rt; wrong, Wrong::Nothing, "{words}");
+    let wrong = refuses(alloc, words, BLANK, script, (1, "words\n"))?;
+    if wrong != Wrong::Nothing {
+        return Ok(wrong);
+    }
+    refuses(alloc, words, Content::Absent, script, (1, "words\n"))
+}
+
+fn first_wrong(alloc: Global, rows: &[&str]) -> Result<FirstWrong, AllocError> {
+    for (number, words) in rows.iter().enumerate() {
+        let wrong = wrong_words(alloc, words)?;
+        if wrong != Wrong::Nothing {
+            return Ok(Some((number, wrong)));
         }
     }
+    Ok(None)
+}
+
+#[test]
+fn words_that_are_no_command_touch_no_file(rt: HostRuntime) -> Result<(), Fail> {
+    assert_eq!(rt; first_wrong(rt.alloc(), &REFUSED)?, None);
     Ok(())
 }
 
@@ -59,32 +74,36 @@ fn words_that_are_no_command_touch_no_file(rt: HostRuntime) -> Result<(), Fail> 
 fn no_words_are_no_command(rt: HostRuntime) -> Result<(), Fail> {
     let mut files = MemoryFiles::new(rt.alloc(), &[])?;
     let mut out = MemorySink::new(rt.alloc(), &[])?;
-    let status = pblk_main(rt.alloc(), &[], &mut files, &mut out);
+    let status = call(rt.alloc(), &[], &mut files, &mut out);
     assert_eq!(rt; status, 1);
     assert_eq!(rt; out.taken(), b"words\n".as_slice());
     Ok(())
 }
 
+// Whether the program, given words or none, ends with this status and text.
+fn ends(
+    alloc: Global,
+    given: Result<&str, WordsErr>,
+    status: u8,
+    text: &str,
+) -> Result<bool, AllocError> {
+    let mut files = MemoryFiles::new(alloc, &[])?;
+    let mut out = MemorySink::new(alloc, &[])?;
+    let words = match given {
+        Ok(line) => Ok(words_of(alloc, line)?),
+        Err(e) => Err(e),
+    };
+    let code = pblk_program(alloc, words, &mut files, &mut out);
+    Ok(code == ExitCode::from(status) && out.taken() == text.as_bytes())
+}
+
 #[test]
 fn the_program_ends_with_the_status(rt: HostRuntime) -> Result<(), Fail> {
     let alloc = rt.alloc();
-    let rows = [
-        (Err(WordsErr::NotText), 1, "words\n"),
-        (Err(WordsErr::Memory), 7, "memory\n"),
-        (Ok("geometry"), 1, "words\n"),
-        (Ok("geometry|image"), 4, "files Missing image\n"),
-        (Ok("create|image"), 0, "created 4640\n"),
-    ];
-    for (given, status, text) in rows {
-        let mut files = MemoryFiles::new(alloc, &[])?;
-        let mut out = MemorySink::new(alloc, &[])?;
-        let words = match given {
-            Ok(line) => Ok(words_of(alloc, line)?),
-            Err(e) => Err(e),
-        };
-        let code = pblk_program(alloc, words, &mut files, &mut out);
-        assert!(rt; code == ExitCode::from(status), "{text}");
-        assert_eq!(rt; out.taken(), text.as_bytes());
-    }
+    assert!(rt; ends(alloc, Err(WordsErr::NotText), 1, "words\n")?);
+    assert!(rt; ends(alloc, Err(WordsErr::Memory), 7, "memory\n")?);
+    assert!(rt; ends(alloc, Ok("geometry"), 1, "words\n")?);
+    assert!(rt; ends(alloc, Ok("geometry|image"), 4, "files Missing image\n")?);
+    assert!(rt; ends(alloc, Ok("create|image"), 0, "created 4640\n")?);
     Ok(())
 }
