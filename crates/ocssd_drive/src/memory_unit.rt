@@ -252,19 +252,21 @@ impl MemoryUnit {
 impl Unit for MemoryUnit {
     ghost model = { λ u. u.unit };
 
+    ghost wear = { λ u. u.wear };
+
     fn program(&mut self, chunk: u32, at: u32, bytes: &[u8], marks: &[Mark]) -> Result<(), UnitErr>
         requires whole { length bytes.now ≡ length marks.now * self.old.unit.shape.sector }
         requires taken { let blocks = blocks_of self.old.unit.shape.sector bytes.now marks.now
             in Takes self.old.unit chunk (Write at blocks) }
         ensures planned { let blocks = blocks_of self.old.unit.shape.sector bytes.now marks.now
             in IsPlanned self.old chunk (Write at blocks) self.new }
-        ensures wear { self.new.wear ≡ self.old.wear }
         ensures calm { IsCalm self.new.unit.armed self.new.unit.log }
 
         // What each `Unit` ensures.
         ensures event { let blocks = blocks_of self.old.unit.shape.sector bytes.now marks.now
             in (outcome : UnitOutcome) × TellsDone result outcome × Steps self.old.unit chunk (Write at blocks) outcome self.new.unit }
         ensures fits { IsFitUnit self.new.unit }
+        ensures wear { self.new.wear ≡ self.old.wear }
         ensures quiet { IsUnarmed self.old.unit.armed → IsOk result }
     {
         are_blocks(&self.shape, bytes, marks);
@@ -288,12 +290,12 @@ impl Unit for MemoryUnit {
         requires taken { Takes self.old.unit chunk (Read block) }
         ensures planned { IsPlanned self.old chunk (Read block) self.new }
         ensures media { self.new.unit.media ≡ self.old.unit.media }
-        ensures wear { self.new.wear ≡ self.old.wear }
         ensures calm { IsCalm self.new.unit.armed self.new.unit.log }
 
         // What each `Unit` ensures.
         ensures event { (outcome : UnitOutcome) × TellsBlock out.old out.new result outcome × Steps self.old.unit chunk (Read block) outcome self.new.unit }
         ensures fits { IsFitUnit self.new.unit }
+        ensures wear { self.new.wear ≡ self.old.wear }
         ensures quiet { IsUnarmed self.old.unit.armed → IsOk result }
     {
         let fault = self.journal.fault(CommandKind::Fetch);
@@ -312,12 +314,12 @@ impl Unit for MemoryUnit {
     fn reset(&mut self, chunk: u32) -> Result<(), UnitErr>
         requires { Takes self.old.unit chunk Reset }
         ensures planned { IsPlanned self.old chunk Reset self.new }
-        ensures wear { self.new.wear ≡ self.old.wear }
         ensures calm { IsCalm self.new.unit.armed self.new.unit.log }
 
         // What each `Unit` ensures.
         ensures event { (outcome : UnitOutcome) × TellsDone result outcome × Steps self.old.unit chunk Reset outcome self.new.unit }
         ensures fits { IsFitUnit self.new.unit }
+        ensures wear { self.new.wear ≡ self.old.wear }
         ensures quiet { IsUnarmed self.old.unit.armed → IsOk result }
     {
         let fault = self.journal.fault(CommandKind::Reset);

@@ -1,5 +1,5 @@
 //! A parallel unit of a drive, as the layers above command it.
-ghost use Rattle.std.specs.Prelude.{◌≡◌, ◌*◌, ◌-◌, ◌^◌, ◌<◌, length, min, true, IsOk};
+ghost use Rattle.std.specs.Prelude.{ℕ, List, ◌≡◌, ◌*◌, ◌-◌, ◌^◌, ◌<◌, length, min, true, IsOk};
 ghost use Rattle.pblk_model.specs.Blocks.{blocks_of};
 ghost use Rattle.pblk_model.specs.Chunk.{pointer};
 ghost use Rattle.pblk_model.specs.ChunkStep.{Write, Read, Reset};
@@ -33,6 +33,10 @@ pub trait Unit {
     /// The shape of the unit's drive, its chunks, its log, and what it was armed with.
     ghost model: { Self → ModelUnit };
 
+    /// The wear level index of each chunk (Open-Channel SSD Specification 2.0, Chunk information). It is as the
+    /// unit was given it: no command changes it.
+    ghost wear: { Self → List ℕ };
+
     /// Appends blocks to a chunk, from the block `at` on. `bytes` has the sectors one after another, and
     /// `marks` their marks.
     ///
@@ -47,6 +51,7 @@ pub trait Unit {
         ensures event { let blocks = blocks_of (model self.old).shape.sector bytes.now marks.now
             in (outcome : UnitOutcome) × TellsDone result outcome × Steps (model self.old) chunk (Write at blocks) outcome (model self.new) }
         ensures fits { IsFitUnit (model self.old) → IsFitUnit (model self.new) }
+        ensures wear { wear self.new ≡ wear self.old }
         ensures quiet { IsUnarmed (model self.old).armed → IsOk result };
 
     /// Copies the sector of a block to `out`, which has the length of a sector, and gives its mark, or
@@ -58,6 +63,7 @@ pub trait Unit {
         requires taken { Takes (model self.old) chunk (Read block) }
         ensures event { (outcome : UnitOutcome) × TellsBlock out.old out.new result outcome × Steps (model self.old) chunk (Read block) outcome (model self.new) }
         ensures fits { IsFitUnit (model self.old) → IsFitUnit (model self.new) }
+        ensures wear { wear self.new ≡ wear self.old }
         ensures quiet { IsUnarmed (model self.old).armed → IsOk result };
 
     /// Takes all blocks of a chunk away, and leaves it Free, or Offline where it was closed before its end.
@@ -68,6 +74,7 @@ pub trait Unit {
         requires { Takes (model self.old) chunk Reset }
         ensures event { (outcome : UnitOutcome) × TellsDone result outcome × Steps (model self.old) chunk Reset outcome (model self.new) }
         ensures fits { IsFitUnit (model self.old) → IsFitUnit (model self.new) }
+        ensures wear { wear self.new ≡ wear self.old }
         ensures quiet { IsUnarmed (model self.old).armed → IsOk result };
 
     /// The state of a chunk of the unit, and its write pointer, from 0 to CLBA. It isn't logged.
