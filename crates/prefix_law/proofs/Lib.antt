@@ -11,3 +11,4 @@ pub mod Records
 pub mod Prefix
 pub mod EndHeads
 pub mod Sealed
+pub mod Resting

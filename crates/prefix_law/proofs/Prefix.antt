@@ -52,7 +52,7 @@ was_zeros i w blank = zeros_held i (λ line. free_start i line blank.plain.accep
 abbrev lines_of : World → List SectorWrite
 lines_of w = map line_of (takes (log_of w 0))
 
-abbrev entries_of : World → Entries
+abbrev pub entries_of : World → Entries
 entries_of w = record { first = 0; given = map given_of (lines_of w) }
 
 entries_count : (w : World) → length (entries_of w).given ≡ length (takes (log_of w 0))
@@ -68,7 +68,7 @@ borne_by i w h p blank first below =
     let seq : 1 ≤ b.0.seq = b.1.seq in
     (b.0, b.1.there, record { mount = omega arith; position = b.1.position })
 
-assembled : (i : Image) (w : World) (h : StartRecord) (line : ℕ) → IsBlankWorld i w → head (media i (log_of w)) ≡ Some h → IsHead (media i (log_of w)) line h
+pub assembled : (i : Image) (w : World) (h : StartRecord) (line : ℕ) → IsBlankWorld i w → head (media i (log_of w)) ≡ Some h → IsHead (media i (log_of w)) line h
     → IsAssembled (media i (log_of w)) h (entries_of w) (synced i.shape (log_of w 0)) (λ lba. zeros i.shape.sector)
 assembled i w h line blank is there =
     let begun : IsBegun i w line h = start_is i w line h blank there.here there.whole in
@@ -113,7 +113,7 @@ none_held i none =
     let counted_none : counted i ≡ [] = ap (counted_after (records i)) none in
     map_same (sector_of i) (zeros i.shape.sector) 0 i.shape.capacity (λ lba. ap (λ (rs : List Record). option_map_or (λ (r : Record). r.sector) (winner rs lba) (zeros i.shape.sector)) counted_none)
 
-no_end : (i : Image) → head i ≡ None → end i ≡ 0
+pub no_end : (i : Image) → head i ≡ None → end i ≡ 0
 no_end i none = ap (end_after (records i)) none
 
 -- ---- the law

@@ -38,15 +38,15 @@ use Rattle.prefix_law.proofs.Ends.{IsData, data_block, end_begins, end_whole, pa
 
 -- ---- one record
 
-then_is : {X Y : Type 0} (f : X → Option Y) (o : Option X) (y : Y) → option_and_then f o ≡ Some y → (x : X) × (o ≡ Some x) × (f x ≡ Some y)
+pub then_is : {X Y : Type 0} (f : X → Option Y) (o : Option X) (y : Y) → option_and_then f o ≡ Some y → (x : X) × (o ≡ Some x) × (f x ≡ Some y)
 then_is f None y e = absurd (none-some y e)
 then_is f (Some x) y e = (x, refl, e)
 
-map_is : {X Y : Type 0} (f : X → Y) (o : Option X) (y : Y) → option_map f o ≡ Some y → (x : X) × (o ≡ Some x) × (f x ≡ y)
+pub map_is : {X Y : Type 0} (f : X → Y) (o : Option X) (y : Y) → option_map f o ≡ Some y → (x : X) × (o ≡ Some x) × (f x ≡ y)
 map_is f None y e = absurd (none-some y e)
 map_is f (Some x) y e = (x, refl, same_Some (f x) y e)
 
-abbrev record_with : ℕ → ℕ → ℕ → Block → Mark → Option ℕ → Record
+abbrev pub record_with : ℕ → ℕ → ℕ → Block → Mark → Option ℕ → Record
 record_with line seq a b m lba = record { line = line; seq = seq; at = a; position = m.position; lba = lba; sector = b.sector }
 
 -- the number of a range is its place
@@ -96,7 +96,7 @@ lt_false : (m n : ℕ) → nat_lt m n ≡ false → n ≤ m
 lt_false m n h = grind arith
 
 -- a data address's mark, by the end record or by itself
-own_mark : (i : Image) (w : World) (line a : ℕ) (o : Opening) (b : Block) (m : Mark) (e : Option EndRecord) → IsBlankWorld i w → life_of (log_of w 0) line ≡ Opened o → block_at (media i (log_of w)) line a ≡ Some b
+pub own_mark : (i : Image) (w : World) (line a : ℕ) (o : Opening) (b : Block) (m : Mark) (e : Option EndRecord) → IsBlankWorld i w → life_of (log_of w 0) line ≡ Opened o → block_at (media i (log_of w)) line a ≡ Some b
     → end_of (media i (log_of w)) line o.start ≡ e → mark_at i.shape e a b ≡ Some m → m ≡ b.mark
 own_mark i w line a o b m None blank life written ended is = sym (same_Some b.mark m is)
 own_mark i w line a o b m (Some e) blank life written ended is = by (nat_lt a (start_len i.shape)) refl is

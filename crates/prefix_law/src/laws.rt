@@ -10,7 +10,7 @@ ghost use Rattle.pblk_model.specs.History.{after, users};
 ghost use Rattle.pblk_model.specs.Image.{Image};
 ghost use Rattle.pblk_model.specs.Sealed.{IsSealed};
 ghost use Rattle.pblk_world.specs.World.{World, log_of, media};
-ghost use Rattle.pblk_world.specs.EngineLog.{begun, Opening, Opened, life_of, Placed, stripes_of};
+ghost use Rattle.pblk_world.specs.EngineLog.{begun, Opening, Opened, life_of, Placed, stripes_of, placements, is_answered};
 ghost use Rattle.pblk_world.specs.EngineLog.{Taken, takes};
 ghost use Rattle.pblk_world.specs.Starts.{start_stripes};
 ghost use Rattle.pblk_world.specs.Fronts.{taken, synced, has_landed_at, history, user_positions};
@@ -70,6 +70,13 @@ pub fn contents_are_after_a_prefix()
         → synced i.shape (log_of w 0) ≤ end (media i (log_of w)) }
     ensures within { (i : Image) (w : World) → IsBlankWorld i w
         → end (media i (log_of w)) ≤ taken (log_of w 0) }
+{}
+
+/// Where each placed stripe is answered, the end is the front synced.
+pub fn the_end_is_the_front_synced()
+    ensures { (i : Image) (w : World) → IsBlankWorld i w
+        → ((p : Placed) → Contains (placements (log_of w 0)) p → is_answered (log_of w 0) p ≡ true)
+        → end (media i (log_of w)) ≡ synced i.shape (log_of w 0) }
 {}
 
 /// A mount that didn't begin leaves the contents as they were.
