@@ -1,5 +1,6 @@
 -- What a port has answered and come to know, and what its calls leave of it.
-use Rattle.std.specs.Prelude.{ℕ, ◌+◌, ◌*◌, ◌/◌, ◌<◌, ◌≤◌, ◌≡◌, ◌⊎◌, ⊤, List, [], ◌∷◌, ◌++◌, map, length, take, slice_range, Result, Ok, Err}
+use Rattle.std.specs.Prelude.{ℕ, ◌+◌, ◌*◌, ◌/◌, ◌<◌, ◌≤◌, ◌≡◌, ◌⊎◌, ⊤, List, [], ◌∷◌, ◌++◌, map, length, take, slice_range, Option, Result, Ok, Err}
+use Rattle.pblk_model.specs.declared.shape.Shape.{Shape}
 use Rattle.pblk_model.specs.declared.run.Front.{Front}
 use Rattle.pblk_model.specs.declared.run.Place.{Place}
 use Rattle.pblk_model.specs.History.{after, users}
@@ -12,6 +13,12 @@ use Rattle.block_port.specs.declared.port.FlushErr.TheVariants as flush
 use Rattle.block_port.specs.declared.rows.DriveAnswer.{DriveAnswer}
 use Rattle.block_port.specs.declared.rows.WornAnswer.{WornAnswer}
 use Rattle.block_port.specs.Own.{PlacedSector, OwnWrite, sectors_of}
+
+-- What no call changes of the drive under a target: its numbers and those of the target on it, and the wear level index of
+-- each chunk, by unit.
+pub record Footing : Type 0 where
+  pub shape : Shape
+  pub wear : List (List ℕ)
 
 -- A port to a block device, at one moment.
 pub record ModelPort : Type 0 where
@@ -32,6 +39,8 @@ pub record ModelPort : Type 0 where
   -- how many sectors there are, and how many bytes each has
   pub capacity : ℕ
   pub sector : ℕ
+  -- the drive that the target stands on, where there is one
+  pub footing : Option Footing
 
 abbrev pub IsSectorSize : ℕ → Type 0
 IsSectorSize size = (size ≡ 512) ⊎ (size ≡ 4096)
@@ -79,6 +88,7 @@ pub record IsSameTarget (old new : ModelPort) : Type 0 where
   pub start : new.start ≡ old.start
   pub capacity : new.capacity ≡ old.capacity
   pub sector : new.sector ≡ old.sector
+  pub footing : new.footing ≡ old.footing
 
 -- What is known only grows, by lines at positions from the old `taken` on; and `flushed` never falls.
 pub record Learns (old new : ModelPort) : Type 0 where

@@ -66,7 +66,7 @@ pub struct Note {
 /// `read` and `flush` may wait for others.
 pub trait Port {
     /// The contents at the beginning, what is known of the history, what was seen, written and
-    /// flushed, the Drive and Worn answers, the capacity and the sector size.
+    /// flushed, the Drive and Worn answers, the capacity, the sector size and the drive below.
     ghost model: { Self → ModelPort };
 
     /// Writes 1 to 16 sectors from `lba` on, and gives their place in the order of all writes,

@@ -1,5 +1,5 @@
 -- What the fields of a port in memory stand for, and what they keep.
-use Rattle.std.specs.Prelude.{◌≡◌, ◌+◌, ◌*◌, ◌<◌, ◌≤◌, ◌^◌, List, [], ◌∷◌, ◌++◌, map, length, replicate}
+use Rattle.std.specs.Prelude.{◌≡◌, ◌+◌, ◌*◌, ◌<◌, ◌≤◌, ◌^◌, List, [], ◌∷◌, ◌++◌, map, length, replicate, None}
 use Rattle.std.specs.List.{flat_map}
 use Rattle.pblk_model.specs.Bytes.{zeros}
 use Rattle.pblk_model.specs.History.{after}
@@ -23,6 +23,7 @@ model p = record {
   worns = p.worns;
   capacity = p.capacity;
   sector = p.sector;
+  footing = None;
 }
 
 pub record IsPlain (p : inside.Inside) : Type 0 where

@@ -1,5 +1,5 @@
 //! The port.
-ghost use Rattle.std.specs.Prelude.{◌≡◌, ◌↔◌, ◌+◌, ◌*◌, ◌<◌, ◌≤◌, ◌^◌, [], ◌∷◌, ◌++◌, length, max, replicate, IfOk, IsTrue};
+ghost use Rattle.std.specs.Prelude.{◌≡◌, ◌↔◌, ◌+◌, ◌*◌, ◌<◌, ◌≤◌, ◌^◌, [], ◌∷◌, ◌++◌, length, max, replicate, None, IfOk, IsTrue};
 ghost use Rattle.pblk_model.specs.Bytes.{zeros};
 ghost use Rattle.block_port.specs.Own.{sectors_of};
 ghost use Rattle.plain_port.specs.Plain.{with_write};
@@ -87,6 +87,7 @@ impl PlainPort {
           worns = [];
           capacity = capacity;
           sector = sector;
+          footing = None;
         }) }
     {
         Ok(PlainPort {

@@ -42,7 +42,7 @@ learns_more old mid new h k = record {
 }
 
 target_more : (old mid new : ModelPort) → IsSameTarget old mid → IsSameTarget mid new → IsSameTarget old new
-target_more old mid new h k = record { start = k.start ∙ h.start; capacity = k.capacity ∙ h.capacity; sector = k.sector ∙ h.sector }
+target_more old mid new h k = record { start = k.start ∙ h.start; capacity = k.capacity ∙ h.capacity; sector = k.sector ∙ h.sector; footing = k.footing ∙ h.footing }
 
 -- A whole thread.
 
@@ -53,7 +53,7 @@ run_learns told (c ∷ cs) [] old new h = absurd h
 run_learns told (c ∷ cs) (a ∷ rows) old new h = learns_more old h.0 new h.1.learns (run_learns told cs rows h.0 new h.2)
 
 pub run_target : (told : List ℕ → ℕ) (cs : List Command) (rows : List Answer) (old new : ModelPort) → Runs told old cs rows new → IsSameTarget old new
-run_target told [] [] old new h = rw h (record { start = refl; capacity = refl; sector = refl })
+run_target told [] [] old new h = rw h (record { start = refl; capacity = refl; sector = refl; footing = refl })
 run_target told [] (a ∷ rows) old new h = absurd h
 run_target told (c ∷ cs) [] old new h = absurd h
 run_target told (c ∷ cs) (a ∷ rows) old new h = target_more old h.0 new h.1.target (run_target told cs rows h.0 new h.2)
