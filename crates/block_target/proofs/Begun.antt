@@ -134,12 +134,12 @@ media_begins s number within =
 
 -- ---- the mount
 
-abbrev pub first_view : Shape → List Deed → List ModelUnit → ℕ → ℕ → MountView
-first_view s deeds us granted pad = record { shape = s; deeds = deeds; units = us; granted = granted; pad = pad }
+abbrev pub first_view : Shape → List Deed → List ModelUnit → List (List ℕ) → ℕ → ℕ → MountView
+first_view s deeds us wear granted pad = record { shape = s; deeds = deeds; units = us; wear = wear; granted = granted; pad = pad }
 
-unit_begins : (s : Shape) (us : List ModelUnit) (granted pad number : ℕ) (u : ModelUnit) → AreNewUnits s us → slice_get us number ≡ Some u
-    → IsUnitIn (first_view s (Decides (Begin first_beginning) ∷ []) us granted pad) number u
-unit_begins s us granted pad number u new there =
+unit_begins : (s : Shape) (us : List ModelUnit) (wear : List (List ℕ)) (granted pad number : ℕ) (u : ModelUnit) → AreNewUnits s us → slice_get us number ≡ Some u
+    → IsUnitIn (first_view s (Decides (Begin first_beginning) ∷ []) us wear granted pad) number u
+unit_begins s us wear granted pad number u new there =
     let is : IsNewUnit s u = new.each number u there in
     let within : number < length us = slice_get_within us number u there in
     let count : length us ≡ units s = new.count in record {
@@ -149,14 +149,14 @@ unit_begins s us granted pad number u new there =
       fit = unit_fits s u is;
     }
 
-begun_mount : (s : Shape) (us : List ModelUnit) (granted : ℕ) (c : Core) (p : PoolView) (filling : Filling) → IsAccepted s → AreNewUnits s us → HasBegun s c
+begun_mount : (s : Shape) (us : List ModelUnit) (wear : List (List ℕ)) (granted : ℕ) (c : Core) (p : PoolView) (filling : Filling) → IsAccepted s → AreNewUnits s us → HasBegun s c
     → granted ≡ room (blank s) (log_of (first_world s)) → count_out p.left ≡ 0 → p.region.count ≡ s.ring → p.region.size ≡ s.sector → filling.shape ≡ s
-    → IsMount (first_view s (Decides (Begin first_beginning) ∷ []) us granted (pad_of c)) c p filling
-begun_mount s us granted c p filling accepted new begun grants out count size stripe = record {
+    → IsMount (first_view s (Decides (Begin first_beginning) ∷ []) us wear granted (pad_of c)) c p filling
+begun_mount s us wear granted c p filling accepted new begun grants out count size stripe = record {
   sound = record {
     legal = world_begins s accepted;
     count = new.count;
-    each = λ number u there. unit_begins s us granted (pad_of c) number u new there;
+    each = λ number u there. unit_begins s us wear granted (pad_of c) number u new there;
   };
   stands = core_stands s c accepted begun;
   pad = refl;
@@ -174,9 +174,9 @@ begun_mount s us granted c p filling accepted new begun grants out count size st
   last = below_last granted (ring_limit s (log_of (first_world s) 0)) (space_limit (blank s) (log_of (first_world s))) (first_position (log_of (first_world s) 0)) grants refl;
 }
 
-pub mount_begins : (s : Shape) (us : List ModelUnit) (granted : ℕ) (parts : Parts) → IsAccepted s → AreNewUnits s us → AreBegun s parts
+pub mount_begins : (s : Shape) (us : List ModelUnit) (wear : List (List ℕ)) (granted : ℕ) (parts : Parts) → IsAccepted s → AreNewUnits s us → AreBegun s parts
     → granted ≡ room (blank s) (log_of (first_world s))
-    → IsMount (first_view s parts.deeds us granted (pad_of parts.core)) parts.core parts.pool parts.stripe
-mount_begins s us granted parts accepted new is grants =
-    subst (λ (deeds : List Deed). IsMount (first_view s deeds us granted (pad_of parts.core)) parts.core parts.pool parts.stripe) (sym is.deeds)
-    (begun_mount s us granted parts.core parts.pool parts.stripe accepted new is.core grants is.out is.count is.size is.stripe)
+    → IsMount (first_view s parts.deeds us wear granted (pad_of parts.core)) parts.core parts.pool parts.stripe
+mount_begins s us wear granted parts accepted new is grants =
+    subst (λ (deeds : List Deed). IsMount (first_view s deeds us wear granted (pad_of parts.core)) parts.core parts.pool parts.stripe) (sym is.deeds)
+    (begun_mount s us wear granted parts.core parts.pool parts.stripe accepted new is.core grants is.out is.count is.size is.stripe)

@@ -4,6 +4,7 @@ use Rattle.std.specs.Prelude.{map, slice_get}
 use Rattle.std.proofs.lemmas.Option.{slice_get_cases}
 use Rattle.std.specs.List.{filter, flat_map}
 use Rattle.pblk_model.specs.declared.run.Front.{Front}
+use Rattle.pblk_model.specs.declared.shape.Shape.{Shape}
 use Rattle.pblk_model.specs.Contents.{contents}
 use Rattle.pblk_model.specs.History.{users}
 use Rattle.pblk_model.specs.Image.{blank}
@@ -86,6 +87,7 @@ same_target old new same = record {
   start = ap (λ shape. contents (blank shape)) same.shape;
   capacity = ap (λ shape. shape.capacity) same.shape;
   sector = ap (λ shape. shape.sector) same.shape;
+  footing = ap₂ (λ (s : Shape) (ws : List (List ℕ)). Some (record { shape = s; wear = ws })) same.shape same.wear;
 }
 
 -- the session's own writes are the history still, where what it has seen is small

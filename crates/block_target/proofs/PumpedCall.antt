@@ -70,13 +70,13 @@ module _ (v : MountView) (c : Core) (p : PoolView) (f : Filling) (m : IsMount v 
       (placed_stands v.shape v.deeds stripe m.stands.beginning m.sound.legal m.stands.has_begun may m.level m.idle mid st)) note)
 
   -- the units are as the world leaves them
-  pub end_sound : {X : Type 0} (model : X → ModelUnit) (xs : List X) (i : ℕ) (old new : X) (chunk at : ℕ) (blocks : List Block) (granted pad : ℕ) → v.units ≡ map model xs → i ≡ stripe.unit
+  pub end_sound : {X : Type 0} (model : X → ModelUnit) (xs : List X) (i : ℕ) (old new : X) (chunk at : ℕ) (blocks : List Block) (wear : List (List ℕ)) (granted pad : ℕ) → v.units ≡ map model xs → i ≡ stripe.unit
       → slice_get v.units stripe.unit ≡ Some (model old) → chunk ≡ stripe.chunk → at ≡ stripe.at → blocks ≡ stripe.blocks
       → (outcome : UnitOutcome) → outcome ≡ Answered Done → Steps (model old) chunk (Write at blocks) outcome (model new) → IsFitUnit (model new)
-      → IsSound (programmed v c p f m stripe may (map model (slice_set xs i new)) granted pad)
-  end_sound model xs i old new chunk at blocks granted pad are same there a b d outcome done steps fit =
+      → IsSound (programmed v c p f m stripe may (map model (slice_set xs i new)) wear granted pad)
+  end_sound model xs i old new chunk at blocks wear granted pad are same there a b d outcome done steps fit =
       let was : IsUnitIn v stripe.unit (model old) = m.sound.each stripe.unit (model old) there in
-      landed_sound v stripe (model old) (model new) (map model (slice_set xs i new)) granted pad m.sound end_legal was
+      landed_sound v stripe (model old) (model new) (map model (slice_set xs i new)) wear granted pad m.sound end_legal was
       (steps.media ∙ (λ j. after_event (was.shape j) (model old).media (record { chunk = a j; command = Write (b j) (d j); outcome = done j })))
       steps.shape steps.armed fit
       (as_many model xs i new ∙ ap (λ (us : List ModelUnit). length us) (sym are))

@@ -104,14 +104,14 @@ module _ (v : MountView) (c : Core) (p : PoolView) (f : Filling) (m : IsMount v 
   abbrev now_world : World
   now_world = world_of v.shape (landed_deeds v.shape v.deeds stripe)
 
-  abbrev pub programmed : List ModelUnit → ℕ → ℕ → MountView
-  programmed us granted pad = record { shape = v.shape; deeds = landed_deeds v.shape v.deeds stripe; units = us; granted = granted; pad = pad }
+  abbrev pub programmed : List ModelUnit → List (List ℕ) → ℕ → ℕ → MountView
+  programmed us wear granted pad = record { shape = v.shape; deeds = landed_deeds v.shape v.deeds stripe; units = us; wear = wear; granted = granted; pad = pad }
 
-  pub mount_programmed : (new : Core) (pool : PoolView) (filling : Filling) (us : List ModelUnit) (granted : ℕ) → IsSound (programmed us granted (pad_of new)) → Stands (blank v.shape) (log_of now_world) new
+  pub mount_programmed : (new : Core) (pool : PoolView) (filling : Filling) (us : List ModelUnit) (wear : List (List ℕ)) (granted : ℕ) → IsSound (programmed us wear granted (pad_of new)) → Stands (blank v.shape) (log_of now_world) new
       → new.window.freed ≡ freed v.shape (log_of now_world 0) → window.AreOf pool.region new.window.entries → count_out pool.left ≡ length new.window.entries
       → pool.region ≡ p.region → filling.shape ≡ v.shape → granted ≡ max v.granted (room (blank v.shape) (log_of now_world))
-      → IsMount (programmed us granted (pad_of new)) new pool filling
-  mount_programmed new pool filling us granted sound stands drained own out region shape is =
+      → IsMount (programmed us wear granted (pad_of new)) new pool filling
+  mount_programmed new pool filling us wear granted sound stands drained own out region shape is =
       let grows : freed v.shape (engine_log v) ≤ freed v.shape (log_of now_world 0) = freed_grows v.shape v.deeds stripe m.stands.beginning m.sound.legal m.stands.has_begun may m.level m.idle in
       let was : c.window.freed ≡ freed v.shape (engine_log v) = m.drained in
       let old : v.granted + units v.shape * v.shape.ws_opt ≤ c.window.freed + v.shape.ring = m.granted in
@@ -137,9 +137,10 @@ module _ (v : MountView) (c : Core) (p : PoolView) (f : Filling) (m : IsMount v 
       further : (a x y r g h : ℕ) → a ≤ x + r → x ≡ g → y ≡ h → g ≤ h → a ≤ y + r
       further a x y r g h low e f grows = omega arith
 
-  pub same_programmed : (us : List ModelUnit) (granted pad : ℕ) → v.granted ≤ granted → v.pad ≤ pad → IsSameMount v (programmed us granted pad)
-  same_programmed us granted pad more_granted more_pad = record {
+  pub same_programmed : (us : List ModelUnit) (wear : List (List ℕ)) (granted pad : ℕ) → wear ≡ v.wear → v.granted ≤ granted → v.pad ≤ pad → IsSameMount v (programmed us wear granted pad)
+  same_programmed us wear granted pad same_wear more_granted more_pad = record {
     shape = refl;
+    wear = same_wear;
     more = Decides (Place stripe) ∷ [] ++ Does stripe.unit (program_of stripe) ∷ [] ++ Lands stripe.unit ∷ [];
     deeds =
         append_assoc (v.deeds ++ Decides (Place stripe) ∷ []) (Does stripe.unit (program_of stripe) ∷ []) (Lands stripe.unit ∷ [])

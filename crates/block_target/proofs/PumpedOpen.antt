@@ -37,6 +37,7 @@ use Rattle.block_target.proofs.PumpedSteps.{world_next, logs_next, moved, sound_
 pub same_self : (v : MountView) → IsSameMount v v
 same_self v = record {
   shape = refl;
+  wear = refl;
   more = [];
   deeds = sym (append-nil v.deeds);
   takes = refl;
@@ -121,6 +122,7 @@ module _ (v : MountView) (c new : Core) (line : ℕ) (start : StartRecord) where
       → v.granted ≤ granted → v.pad ≤ pad → IsSameMount v (moved v deeds_ granted pad)
   same_opened p f granted pad m may more_granted more_pad = record {
     shape = refl;
+    wear = refl;
     more = Decides (Open line start) ∷ [];
     deeds = refl;
     takes = ap takes log_is ∙ takes_same (engine_log v) line start (knows_all v.shape (world_in v));

@@ -32,7 +32,7 @@ logs_next s deeds e = ap log_of (world_next s deeds (Decides e)) ∙ engine_logs
 
 -- a mount whose deeds and units are these
 abbrev pub moved : MountView → List Deed → ℕ → ℕ → MountView
-moved v deeds granted pad = record { shape = v.shape; deeds = deeds; units = v.units; granted = granted; pad = pad }
+moved v deeds granted pad = record { shape = v.shape; deeds = deeds; units = v.units; wear = v.wear; granted = granted; pad = pad }
 
 pub sound_next : (v : MountView) (e : EngineEvent) (b : Begun) (granted pad : ℕ) → IsSound v → begun (engine_log v) ≡ Some b → IsDecision (blank v.shape) (logs_in v) b e → is_plain_decision e ≡ true
     → IsSound (moved v (v.deeds ++ Decides e ∷ []) granted pad)

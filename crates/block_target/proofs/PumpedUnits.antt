@@ -66,17 +66,17 @@ module _ (v : MountView) (stripe : Stripe) where
     ready = ap (λ (s : Shape). refusal s taken.0 (Write stripe.at stripe.blocks)) is.shape ∙ taken.2;
   }
 
-  pub landed_sound : (old new : ModelUnit) (us : List ModelUnit) (granted pad : ℕ) → IsSound v → IsBlankWorld (blank v.shape) (world_of v.shape (landed_deeds v.shape v.deeds stripe))
+  pub landed_sound : (old new : ModelUnit) (us : List ModelUnit) (wear : List (List ℕ)) (granted pad : ℕ) → IsSound v → IsBlankWorld (blank v.shape) (world_of v.shape (landed_deeds v.shape v.deeds stripe))
       → IsUnitIn v stripe.unit old → new.media ≡ after_event v.shape old.media (program_of stripe) → new.shape ≡ old.shape → new.armed ≡ old.armed → IsFitUnit new
       → length us ≡ length v.units → ((n : ℕ) (u : ModelUnit) → slice_get us n ≡ Some u → ((n ≡ stripe.unit) × (new ≡ u)) ⊎ ((n ≢ stripe.unit) × (slice_get v.units n ≡ Some u)))
-      → IsSound (record { shape = v.shape; deeds = landed_deeds v.shape v.deeds stripe; units = us; granted = granted; pad = pad })
-  landed_sound old new us granted pad sound legal was chunks shape armed fit many at = record {
+      → IsSound (record { shape = v.shape; deeds = landed_deeds v.shape v.deeds stripe; units = us; wear = wear; granted = granted; pad = pad })
+  landed_sound old new us wear granted pad sound legal was chunks shape armed fit many at = record {
     legal = legal;
     count = many ∙ sound.count;
     each = λ n u there. go n u (at n u there);
   }
     where
-      own : IsUnitIn (record { shape = v.shape; deeds = landed_deeds v.shape v.deeds stripe; units = us; granted = granted; pad = pad }) stripe.unit new
+      own : IsUnitIn (record { shape = v.shape; deeds = landed_deeds v.shape v.deeds stripe; units = us; wear = wear; granted = granted; pad = pad }) stripe.unit new
       own = record {
         shape = shape ∙ was.shape;
         media = ap (λ (m : Image). slice_get m.units stripe.unit) landed_media
@@ -88,10 +88,10 @@ module _ (v : MountView) (stripe : Stripe) where
       }
 
       go : (n : ℕ) (u : ModelUnit) → ((n ≡ stripe.unit) × (new ≡ u)) ⊎ ((n ≢ stripe.unit) × (slice_get v.units n ≡ Some u))
-          → IsUnitIn (record { shape = v.shape; deeds = landed_deeds v.shape v.deeds stripe; units = us; granted = granted; pad = pad }) n u
+          → IsUnitIn (record { shape = v.shape; deeds = landed_deeds v.shape v.deeds stripe; units = us; wear = wear; granted = granted; pad = pad }) n u
       go n u (inl h) =
-          subst (λ k. IsUnitIn (record { shape = v.shape; deeds = landed_deeds v.shape v.deeds stripe; units = us; granted = granted; pad = pad }) k u) (sym h.0)
-          (subst (IsUnitIn (record { shape = v.shape; deeds = landed_deeds v.shape v.deeds stripe; units = us; granted = granted; pad = pad }) stripe.unit) h.1 own)
+          subst (λ k. IsUnitIn (record { shape = v.shape; deeds = landed_deeds v.shape v.deeds stripe; units = us; wear = wear; granted = granted; pad = pad }) k u) (sym h.0)
+          (subst (IsUnitIn (record { shape = v.shape; deeds = landed_deeds v.shape v.deeds stripe; units = us; wear = wear; granted = granted; pad = pad }) stripe.unit) h.1 own)
       go n u (inr h) =
           let it : IsUnitIn v n u = sound.each n u h.1 in
           record {

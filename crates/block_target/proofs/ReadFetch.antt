@@ -113,6 +113,7 @@ fetched v unit chunk number b new = record {
   shape = v.shape;
   deeds = v.deeds ++ Does unit (fetch_of chunk number (Gave b)) ∷ [];
   units = slice_set v.units unit new;
+  wear = v.wear;
   granted = v.granted;
   pad = v.pad;
 }
@@ -196,6 +197,7 @@ module _ (v : MountView) (unit chunk number : ℕ) (u new : ModelUnit) (b : Bloc
   fetched_same =
       let front : synced_in left ≡ synced_in v = ap (synced v.shape) log_now in record {
         shape = refl;
+        wear = refl;
         more = Does unit e ∷ [];
         deeds = refl;
         takes = ap takes log_now;
@@ -257,10 +259,11 @@ gave_step u new chunk number before out result field mark outcome is has tells s
     subst (λ (o : UnitOutcome). Steps u chunk (Read number) o new) (subst (λ (r : Result Got UnitErr). TellsBlock before out r outcome) (is ∙ ap (λ (x : Got). Ok x) has) tells) step
 
 -- the mount's view, by its parts
-pub is_fetched : (v : MountView) (unit chunk number : ℕ) (b : Block) (new : ModelUnit) (deeds : List Deed) (us : List ModelUnit) → deeds ≡ v.deeds ++ Does unit (fetch_of chunk number (Gave b)) ∷ [] → us ≡ slice_set v.units unit new
-    → ◌≡◌ {A = MountView} (fetched v unit chunk number b new) (record { shape = v.shape; deeds = deeds; units = us; granted = v.granted; pad = v.pad })
-is_fetched v unit chunk number b new deeds us e f =
-    ap₂ (λ (ds : List Deed) (xs : List ModelUnit). record { shape = v.shape; deeds = ds; units = xs; granted = v.granted; pad = v.pad }) (sym e) (sym f)
+pub is_fetched : (v : MountView) (unit chunk number : ℕ) (b : Block) (new : ModelUnit) (deeds : List Deed) (us : List ModelUnit) (wear : List (List ℕ)) → deeds ≡ v.deeds ++ Does unit (fetch_of chunk number (Gave b)) ∷ [] → us ≡ slice_set v.units unit new → wear ≡ v.wear
+    → ◌≡◌ {A = MountView} (fetched v unit chunk number b new) (record { shape = v.shape; deeds = deeds; units = us; wear = wear; granted = v.granted; pad = v.pad })
+is_fetched v unit chunk number b new deeds us wear e f same =
+    ap₂ (λ (ds : List Deed) (xs : List ModelUnit). record { shape = v.shape; deeds = ds; units = xs; wear = v.wear; granted = v.granted; pad = v.pad }) (sym e) (sym f)
+    ∙ ap (λ (ws : List (List ℕ)). record { shape = v.shape; deeds = deeds; units = us; wear = ws; granted = v.granted; pad = v.pad }) (sym same)
 
 pub same_from : (old v mid new : MountView) → v ≡ old → mid ≡ new → IsSameMount v mid → IsSameMount old new
 same_from old v mid new e f same = subst (λ (x : MountView). IsSameMount x new) e (subst (λ (x : MountView). IsSameMount v x) f same)

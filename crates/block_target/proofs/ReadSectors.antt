@@ -97,11 +97,12 @@ range_next xs at n x there =
 -- ---- mounts of which nothing more was taken
 
 pub still : (v : MountView) → IsSameMount v v
-still v = record { shape = refl; more = []; deeds = sym (append-nil v.deeds); takes = refl; synced = le_refl _; granted = le_refl v.granted; pad = le_refl v.pad }
+still v = record { shape = refl; wear = refl; more = []; deeds = sym (append-nil v.deeds); takes = refl; synced = le_refl _; granted = le_refl v.granted; pad = le_refl v.pad }
 
 pub and_then : (a b c : MountView) → IsSameMount a b → IsSameMount b c → IsSameMount a c
 and_then a b c x y = record {
   shape = y.shape ∙ x.shape;
+  wear = y.wear ∙ x.wear;
   more = x.more ++ y.more;
   deeds = y.deeds ∙ ap (λ ds. ds ++ y.more) x.deeds ∙ append_assoc a.deeds x.more y.more;
   takes = y.takes ∙ x.takes;

@@ -10,6 +10,7 @@ use Rattle.block_target.specs.Mount.{MountView, IsSameMount, IsStuckAt, HasNoWor
 pub same_then : (a b c : MountView) → IsSameMount a b → IsSameMount b c → IsSameMount a c
 same_then a b c x y = record {
   shape = y.shape ∙ x.shape;
+  wear = y.wear ∙ x.wear;
   more = x.more ++ y.more;
   deeds = y.deeds ∙ ap (λ ds. ds ++ y.more) x.deeds ∙ append_assoc a.deeds x.more y.more;
   takes = y.takes ∙ x.takes;
@@ -19,12 +20,13 @@ same_then a b c x y = record {
 }
 
 -- as much was done, and the grant and the pad target haven't fallen
-pub same_deeds : (old new : MountView) → new.shape ≡ old.shape → new.deeds ≡ old.deeds → old.granted ≤ new.granted → old.pad ≤ new.pad → IsSameMount old new
-same_deeds old new shape deeds granted pad =
+pub same_deeds : (old new : MountView) → new.shape ≡ old.shape → new.wear ≡ old.wear → new.deeds ≡ old.deeds → old.granted ≤ new.granted → old.pad ≤ new.pad → IsSameMount old new
+same_deeds old new shape wear deeds granted pad =
     let logs : engine_log new ≡ engine_log old = ap₂ (λ (s : Shape) (ds : List Deed). log_of (world_of s ds) 0) shape deeds in
     let fronts : synced_in new ≡ synced_in old = ap₂ synced shape logs in
     record {
       shape = shape;
+      wear = wear;
       more = [];
       deeds = deeds ∙ sym (append-nil old.deeds);
       takes = ap takes logs;
@@ -34,10 +36,10 @@ same_deeds old new shape deeds granted pad =
     }
 
 pub same_mount : (v : MountView) → IsSameMount v v
-same_mount v = same_deeds v v refl refl (omega arith) (omega arith)
+same_mount v = same_deeds v v refl refl refl (omega arith) (omega arith)
 
 pub same_padded : (v : MountView) (pad : ℕ) → v.pad ≤ pad → IsSameMount v (with_pad v pad)
-same_padded v pad h = same_deeds v (with_pad v pad) refl refl (omega arith) h
+same_padded v pad h = same_deeds v (with_pad v pad) refl refl refl (omega arith) h
 
 -- ---- a pad target is asked for
 

@@ -161,7 +161,7 @@ abbrev pub taken_deeds : MountView → FramedEntry → List Deed
 taken_deeds v e = v.deeds ++ Decides (Take (entry_of e) (mark_of e)) ∷ []
 
 pub mount_taken : (v : MountView) (old new : Core) (p q : PoolView) (f : Filling) (e : FramedEntry) → IsMount v old p f → IsTakenBy v old new p q e
-    → IsMount (record { shape = v.shape; deeds = taken_deeds v e; units = v.units; granted = v.granted; pad = pad_of new }) new q f
+    → IsMount (record { shape = v.shape; deeds = taken_deeds v e; units = v.units; wear = v.wear; granted = v.granted; pad = pad_of new }) new q f
 mount_taken v old new p q f e m is = record {
   sound = record {
     legal = subst (IsBlankWorld i) (sym more) (engine_next i w b event blank_before begins is.legal plain);
@@ -233,22 +233,23 @@ mount_taken v old new p q f e m is = record {
     entries_are = ap (λ x. x.entries) is.pushed
 
 pub mount_with : (v : MountView) (old new : Core) (p q : PoolView) (f : Filling) (e : FramedEntry) (deeds : List Deed) → IsMount v old p f → IsTakenBy v old new p q e → deeds ≡ taken_deeds v e
-    → IsMount (record { shape = v.shape; deeds = deeds; units = v.units; granted = v.granted; pad = pad_of new }) new q f
+    → IsMount (record { shape = v.shape; deeds = deeds; units = v.units; wear = v.wear; granted = v.granted; pad = pad_of new }) new q f
 mount_with v old new p q f e deeds m is more =
-    subst (λ (ds : List Deed). IsMount (record { shape = v.shape; deeds = ds; units = v.units; granted = v.granted; pad = pad_of new }) new q f) (sym more) (mount_taken v old new p q f e m is)
+    subst (λ (ds : List Deed). IsMount (record { shape = v.shape; deeds = ds; units = v.units; wear = v.wear; granted = v.granted; pad = pad_of new }) new q f) (sym more) (mount_taken v old new p q f e m is)
 
 -- ---- and its view
 
 pub view_taken : (v : MountView) (position lba pad : ℕ) (bytes sector : List ℕ) (deeds : List Deed)
     → deeds ≡ v.deeds ++ Decides (Take (record { position = position; lba = lba; source = None; sector = bytes }) (sector_mark lba position)) ∷ []
     → position ≡ taken_in v → bytes ≡ sector → pad ≡ v.pad
-    → ◌≡◌ {A = MountView} (record { shape = v.shape; deeds = deeds; units = v.units; granted = v.granted; pad = pad }) (with_entry v lba sector)
+    → ◌≡◌ {A = MountView} (record { shape = v.shape; deeds = deeds; units = v.units; wear = v.wear; granted = v.granted; pad = pad }) (with_entry v lba sector)
 view_taken v position lba pad bytes sector deeds more p b d =
-    (λ k. record { shape = v.shape; deeds = more k; units = v.units; granted = v.granted; pad = pad })
+    (λ k. record { shape = v.shape; deeds = more k; units = v.units; wear = v.wear; granted = v.granted; pad = pad })
     ∙ (λ k. record {
       shape = v.shape;
       deeds = v.deeds ++ Decides (Take (record { position = p k; lba = lba; source = None; sector = b k }) (sector_mark lba (p k))) ∷ [];
       units = v.units;
+      wear = v.wear;
       granted = v.granted;
       pad = d k;
     })

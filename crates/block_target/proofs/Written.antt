@@ -1,5 +1,5 @@
 -- What a port is once its sectors are taken.
-use Rattle.std.proofs.Common.{◌≡◌, ◌⊎◌, inl, inr, ℕ, ◌+◌, ◌*◌, ◌/◌, ◌^◌, ◌<◌, ◌≤◌, true, List, [], ◌∷◌, ◌++◌, length, refl, sym, subst, ap, ap₂, ◌∙◌, arith, append-nil, append_assoc, le_trans}
+use Rattle.std.proofs.Common.{◌≡◌, ◌⊎◌, inl, inr, Some, ℕ, ◌+◌, ◌*◌, ◌/◌, ◌^◌, ◌<◌, ◌≤◌, true, List, [], ◌∷◌, ◌++◌, length, refl, sym, subst, ap, ap₂, ◌∙◌, arith, append-nil, append_assoc, le_trans}
 use Rattle.std.specs.Prelude.{map}
 use Rattle.std.specs.List.{filter, flat_map}
 use Rattle.std.proofs.lemmas.List.{map-append}
@@ -46,6 +46,7 @@ target_kept old new same = record {
   start = ap (λ (s : Shape). contents (blank s)) same.shape;
   capacity = ap (λ (s : Shape). s.capacity) same.shape;
   sector = ap (λ (s : Shape). s.sector) same.shape;
+  footing = ap₂ (λ (s : Shape) (ws : List (List ℕ)). Some (record { shape = s; wear = ws })) same.shape same.wear;
 }
 
 pub learns_none : (old new : SerialView) → IsSound old.mount → IsSound new.mount → IsSameMount old.mount new.mount → Learns (device old) (device new)
@@ -94,6 +95,10 @@ pub shape_all : (v : MountView) (lba : ℕ) (sectors : List (List ℕ)) → (wit
 shape_all v lba [] = refl
 shape_all v lba (sector ∷ sectors) = shape_all (with_entry v lba sector) (lba + 1) sectors
 
+wear_all : (v : MountView) (lba : ℕ) (sectors : List (List ℕ)) → (with_entries v lba sectors).wear ≡ v.wear
+wear_all v lba [] = refl
+wear_all v lba (sector ∷ sectors) = wear_all (with_entry v lba sector) (lba + 1) sectors
+
 pub rise_placed : (p lba : ℕ) (sectors : List (List ℕ)) → Rise p (p + length sectors) (placed_from p lba sectors)
 rise_placed p lba [] = omega arith
 rise_placed p lba (s ∷ sectors) =
@@ -131,10 +136,14 @@ target_write old new mid lba sectors is = record {
   start = ap (λ (s : Shape). contents (blank s)) shape;
   capacity = ap (λ (s : Shape). s.capacity) shape;
   sector = ap (λ (s : Shape). s.sector) shape;
+  footing = ap₂ (λ (s : Shape) (ws : List (List ℕ)). Some (record { shape = s; wear = ws })) shape wear;
 }
   where
     shape : new.mount.shape ≡ old.mount.shape
     shape = ap (λ (v : MountView). v.shape) is.mount ∙ shape_all mid lba sectors ∙ is.same.shape
+
+    wear : new.mount.wear ≡ old.mount.wear
+    wear = ap (λ (v : MountView). v.wear) is.mount ∙ wear_all mid lba sectors ∙ is.same.wear
 
 pub alone_write : (old new : SerialView) (mid : MountView) (lba : ℕ) (sectors : List (List ℕ)) (place : Place) → IsWrite old new mid lba sectors → IsSerial old → place.first ≡ taken_in old.mount
     → new.own ≡ old.own ++ record { place = place; lba = lba; sectors = sectors } ∷ [] → lines_in new.mount ≡ flat_map lines_of new.own

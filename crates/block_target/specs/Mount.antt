@@ -38,6 +38,8 @@ pub record MountView : Type 0 where
   pub deeds : List Deed
   -- the drive's units
   pub units : List ModelUnit
+  -- the wear level index of each chunk, by unit
+  pub wear : List (List ℕ)
   -- users may claim positions below this one
   pub granted : ℕ
   -- the pad target
@@ -112,9 +114,11 @@ pub record AreNewUnits (s : Shape) (us : List ModelUnit) : Type 0 where
 
 -- What calls leave.
 
--- Nothing more was taken; what was done stays done, what is on the drive is there, and no grant is taken back.
+-- Nothing more was taken; what was done stays done, what is on the drive is there, no chunk's wear level index is changed,
+-- and no grant is taken back.
 pub record IsSameMount (old new : MountView) : Type 0 where
   pub shape : new.shape ≡ old.shape
+  pub wear : new.wear ≡ old.wear
   pub more : List Deed
   pub deeds : new.deeds ≡ old.deeds ++ more
   pub takes : takes (engine_log new) ≡ takes (engine_log old)
@@ -131,13 +135,14 @@ with_entry v lba sector = record {
   shape = v.shape;
   deeds = v.deeds ++ Decides (Take (next_entry v lba sector) (sector_mark lba (taken_in v))) ∷ [];
   units = v.units;
+  wear = v.wear;
   granted = v.granted;
   pad = v.pad;
 }
 
 -- the same with this pad target
 abbrev pub with_pad : MountView → ℕ → MountView
-with_pad v pad = record { shape = v.shape; deeds = v.deeds; units = v.units; granted = v.granted; pad = pad }
+with_pad v pad = record { shape = v.shape; deeds = v.deeds; units = v.units; wear = v.wear; granted = v.granted; pad = pad }
 
 -- after entries of these sectors, one after another
 abbrev pub with_entries : MountView → ℕ → List (List ℕ) → MountView

@@ -1,5 +1,5 @@
 -- A port for one session: what contracts see of it, and the device that it is.
-use Rattle.std.specs.Prelude.{ℕ, ◌^◌, ◌<◌, ◌≡◌, List, [], map, Result, Ok, Err}
+use Rattle.std.specs.Prelude.{ℕ, ◌^◌, ◌<◌, ◌≡◌, List, [], map, Some, Result, Ok, Err}
 use Rattle.std.specs.List.{flat_map}
 use Rattle.pblk_model.specs.Contents.{contents}
 use Rattle.pblk_model.specs.Image.{blank}
@@ -36,6 +36,7 @@ device s = record {
   worns = s.worns;
   capacity = s.mount.shape.capacity;
   sector = s.mount.shape.sector;
+  footing = Some (record { shape = s.mount.shape; wear = s.mount.wear });
 }
 
 -- the history is made of the session's own writes

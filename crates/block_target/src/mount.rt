@@ -45,9 +45,9 @@ impl<U: Unit> Model for Mount<U> {
 
     ghost Value = { MountView };
 
-    ghost view = { λ m. record { shape = m.shape; deeds = m.deeds; units = map U.model m.units.items; granted = m.granted; pad = pad_of m.core } };
+    ghost view = { λ m. record { shape = m.shape; deeds = m.deeds; units = map U.model m.units.items; wear = map U.wear m.units.items; granted = m.granted; pad = pad_of m.core } };
 
-    ghost invariant = { λ m. IsMount (record { shape = m.shape; deeds = m.deeds; units = map U.model m.units.items; granted = m.granted; pad = pad_of m.core }) m.core m.pool m.stripe };
+    ghost invariant = { λ m. IsMount (record { shape = m.shape; deeds = m.deeds; units = map U.model m.units.items; wear = map U.wear m.units.items; granted = m.granted; pad = pad_of m.core }) m.core m.pool m.stripe };
 }
 
 // What recovery finds on a drive whose chunks are all Free.
@@ -142,6 +142,7 @@ impl<U: Unit> Mount<U> {
         ensures begun { IfOk result (λ m. m.deeds ≡ Decides (Begin first_beginning) ∷ []) }
         ensures shape { IfOk result (λ m. m.shape ≡ shape.now) }
         ensures units { IfOk result (λ m. m.units ≡ map U.model units.items) }
+        ensures wear { IfOk result (λ m. m.wear ≡ map U.wear units.items) }
         ensures refused { IfErr result (λ us. us ≡ units) }
     {
         match make_parts(alloc, shape) {
@@ -349,7 +350,8 @@ impl<U: Unit> Mount<U> {
 
     /// Ends the mount, and hands the units back.
     pub(crate) fn end(self) -> Vec<U>
-        ensures { map U.model result.items ≡ self.units }
+        ensures units { map U.model result.items ≡ self.units }
+        ensures wear { map U.wear result.items ≡ self.wear }
     {
         let Mount {
             shape: _,

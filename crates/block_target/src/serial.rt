@@ -69,6 +69,7 @@ impl<U: Unit> Serial<U> {
         ensures begun { IfOk result (λ s. s.mount.deeds ≡ Decides (Begin first_beginning) ∷ []) }
         ensures shape { IfOk result (λ s. s.mount.shape ≡ shape.now) }
         ensures units { IfOk result (λ s. s.mount.units ≡ map U.model units.items) }
+        ensures wear { IfOk result (λ s. s.mount.wear ≡ map U.wear units.items) }
         ensures new_port { IfOk result (λ s. (s.seen ≡ 0) × (s.own ≡ []) × (s.worns ≡ [])) }
         ensures refused { IfErr result (λ r. r.units ≡ units) }
     {
@@ -101,7 +102,7 @@ impl<U: Unit> Serial<U> {
     /// the front synced. `Drive` doesn't come, since no command fails or is stopped.
     pub fn close<R: Wait>(mut self, rt: &R) -> (Vec<U>, Result<(), SettleErr>)
         ensures { (v : MountView) × IsSameMount self.mount v × IsSound v
-            × (map U.model result.0.items ≡ v.units) × Settles result.1 v }
+            × (map U.model result.0.items ≡ v.units) × (map U.wear result.0.items ≡ v.wear) × Settles result.1 v }
     {
         self.mount.is_sound();
         let wanted = self.mount.front().position;

@@ -4,6 +4,7 @@ use Rattle.pblk_model.specs.Chunk.{Block}
 use Rattle.pblk_core.specs.Named.{pad_of}
 use Rattle.block_target.specs.Mount.{MountView, IsMount, IsFetchable}
 use Rattle.block_target.proofs.ReadFetch.{is_in, may_take, fetched_mount, fetched_same, gave, gives, gave_step, is_fetched, same_from, unit_read, unit_inside}
+use Rattle.block_target.proofs.KeptWear.{wear_kept}
 use Rattle.block_target.proofs.mount.Mount.fetch.Goals as goal
 
 pub fetch-requires-clause-whole : goal.fetch-requires-clause-whole
@@ -29,7 +30,7 @@ invariant_of-self g c =
     let here = unit_read g.U.Unit.model c.self.inside.units.items c.args.unit c.index_mut-from.result.now inside c.index_mut-from.ensures.value in
     let b : Block = record { sector = c.fetch.new.out; mark = c.in-Ok-Sector.mark } in
     let step = gave_step (g.U.Unit.model c.index_mut-from.result.now) (g.U.Unit.model c.fetch.new.self) c.args.chunk c.args.block c.args.out.now c.fetch.new.out c.fetch.result c.in-Ok-Sector.field-0 c.in-Ok-Sector.mark c.fetch.ensures.event.0 c.in-Ok-Sector.is c.in-Ok-Sector.field-0-is c.fetch.ensures.event.1 c.fetch.ensures.event.2 in
-    let view = is_fetched _ c.args.unit c.args.chunk c.args.block b (g.U.Unit.model c.fetch.new.self) c.add.new.self _ c.add.ensures (map-set g.U.Unit.model c.self.inside.units.items c.args.unit c.fetch.new.self) in
+    let view = is_fetched _ c.args.unit c.args.chunk c.args.block b (g.U.Unit.model c.fetch.new.self) c.add.new.self _ _ c.add.ensures (map-set g.U.Unit.model c.self.inside.units.items c.args.unit c.fetch.new.self) (wear_kept g.U.Unit.wear c.self.inside.units.items c.args.unit c.index_mut-from.result.now c.fetch.new.self inside c.index_mut-from.ensures.value c.fetch.ensures.wear) in
     subst (λ (v : MountView). IsMount v c.self.inside.core c.self.inside.pool c.self.inside.stripe) view
     (fetched_mount _ c.args.unit c.args.chunk c.args.block _ _ b c.self.invariant.sound here step c.fetch.ensures.fits c.self.inside.core c.self.inside.pool c.self.inside.stripe c.self.invariant)
 
@@ -62,12 +63,12 @@ returns-clause-same g c =
     let here = unit_read g.U.Unit.model c.self.inside.units.items c.args.unit c.index_mut-from.result.now inside c.index_mut-from.ensures.value in
     let b : Block = record { sector = c.fetch.new.out; mark = c.in-Ok-Sector.mark } in
     let step = gave_step (g.U.Unit.model c.index_mut-from.result.now) (g.U.Unit.model c.fetch.new.self) c.args.chunk c.args.block c.args.out.now c.fetch.new.out c.fetch.result c.in-Ok-Sector.field-0 c.in-Ok-Sector.mark c.fetch.ensures.event.0 c.in-Ok-Sector.is c.in-Ok-Sector.field-0-is c.fetch.ensures.event.1 c.fetch.ensures.event.2 in
-    let view = is_fetched _ c.args.unit c.args.chunk c.args.block b (g.U.Unit.model c.fetch.new.self) c.add.new.self _ c.add.ensures (map-set g.U.Unit.model c.self.inside.units.items c.args.unit c.fetch.new.self) in
+    let view = is_fetched _ c.args.unit c.args.chunk c.args.block b (g.U.Unit.model c.fetch.new.self) c.add.new.self _ _ c.add.ensures (map-set g.U.Unit.model c.self.inside.units.items c.args.unit c.fetch.new.self) (wear_kept g.U.Unit.wear c.self.inside.units.items c.args.unit c.index_mut-from.result.now c.fetch.new.self inside c.index_mut-from.ensures.value c.fetch.ensures.wear) in
     same_from _ _ _ _ c.self.view_is view (fetched_same _ c.args.unit c.args.chunk c.args.block _ _ b c.self.invariant.sound here step c.fetch.ensures.fits)
 
 pub returns-clause-sector : goal.returns-clause-sector
 returns-clause-sector g c = λ sector is.
-    let v : MountView = record { shape = c.self.inside.shape; deeds = c.self.inside.deeds; units = map g.U.Unit.model c.self.inside.units.items; granted = c.self.inside.granted; pad = pad_of c.self.inside.core } in
+    let v : MountView = record { shape = c.self.inside.shape; deeds = c.self.inside.deeds; units = map g.U.Unit.model c.self.inside.units.items; wear = map g.U.Unit.wear c.self.inside.units.items; granted = c.self.inside.granted; pad = pad_of c.self.inside.core } in
     let there : (sector : List ℕ) × IsFetchable _ c.args.unit c.args.chunk c.args.block sector = subst (λ (v : MountView). (sector : List ℕ) × IsFetchable v c.args.unit c.args.chunk c.args.block sector) (sym c.self.view_is) c.requires.there in
     let inside = unit_inside g.U.Unit.model _ c.self.inside.units.items c.args.unit c.args.chunk c.args.block there.0 c.self.invariant.sound refl there.1 in
     let here = unit_read g.U.Unit.model c.self.inside.units.items c.args.unit c.index_mut-from.result.now inside c.index_mut-from.ensures.value in

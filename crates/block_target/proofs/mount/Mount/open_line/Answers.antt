@@ -27,7 +27,7 @@ pub grant-requires : goal.grant-requires
 grant-requires g c =
     let m = c.self.invariant in
     let start = next_start c.self.inside.core in
-    let v : MountView = record { shape = c.self.inside.shape; deeds = c.self.inside.deeds; units = map g.U.Unit.model c.self.inside.units.items; granted = c.self.inside.granted; pad = pad_of c.self.inside.core } in
+    let v : MountView = record { shape = c.self.inside.shape; deeds = c.self.inside.deeds; units = map g.U.Unit.model c.self.inside.units.items; wear = map g.U.Unit.wear c.self.inside.units.items; granted = c.self.inside.granted; pad = pad_of c.self.inside.core } in
     record {
       image = blank v.shape;
       world = world_of v.shape (v.deeds ++ Decides (Open start.line start) ∷ []);
@@ -40,7 +40,7 @@ pub invariant_of-self : goal.invariant_of-self
 invariant_of-self g c =
     let m = c.self.invariant in
     let start = next_start c.self.inside.core in
-    let v : MountView = record { shape = c.self.inside.shape; deeds = c.self.inside.deeds; units = map g.U.Unit.model c.self.inside.units.items; granted = c.self.inside.granted; pad = pad_of c.self.inside.core } in
+    let v : MountView = record { shape = c.self.inside.shape; deeds = c.self.inside.deeds; units = map g.U.Unit.model c.self.inside.units.items; wear = map g.U.Unit.wear c.self.inside.units.items; granted = c.self.inside.granted; pad = pad_of c.self.inside.core } in
     let may : (b : Begun) → begun (engine_log v) ≡ Some b → MayOpen (blank v.shape) (logs_in v) b start.line start = λ b has. c.open_line.ensures.legal (blank v.shape) (world_in v) b m.sound.legal m.stands has in
     let stands : (knows : List ℕ) → Stands (blank v.shape) (after (logs_in v) (Open start.line start) knows) c.open_line.new.self = λ knows. c.open_line.ensures.stands (blank v.shape) (world_in v) knows m.sound.legal m.stands in
     let same : c.open_line.new.self.window ≡ c.self.inside.core.window = c.open_line.ensures.window in
@@ -56,7 +56,7 @@ pub returns : goal.returns
 returns g c =
     let m = c.self.invariant in
     let start = next_start c.self.inside.core in
-    let v : MountView = record { shape = c.self.inside.shape; deeds = c.self.inside.deeds; units = map g.U.Unit.model c.self.inside.units.items; granted = c.self.inside.granted; pad = pad_of c.self.inside.core } in
+    let v : MountView = record { shape = c.self.inside.shape; deeds = c.self.inside.deeds; units = map g.U.Unit.model c.self.inside.units.items; wear = map g.U.Unit.wear c.self.inside.units.items; granted = c.self.inside.granted; pad = pad_of c.self.inside.core } in
     let may : (b : Begun) → begun (engine_log v) ≡ Some b → MayOpen (blank v.shape) (logs_in v) b start.line start = λ b has. c.open_line.ensures.legal (blank v.shape) (world_in v) b m.sound.legal m.stands has in
     let pad : pad_of c.open_line.new.self ≡ pad_of c.self.inside.core = c.open_line.ensures.pad in
     let is : c.max-self-inside.result ≡ max v.granted c.grant.result = c.max-self-inside.ensures in

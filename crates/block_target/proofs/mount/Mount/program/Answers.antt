@@ -21,6 +21,7 @@ use Rattle.block_target.specs.Mount.{MountView, IsMount, IsSameMount, IsUnitIn, 
 use Rattle.block_target.proofs.PumpedProgram.{landed_deeds}
 use Rattle.block_target.proofs.PumpedMount.{mount_programmed, same_programmed}
 use Rattle.block_target.proofs.PumpedCall.{unit_there, unit_within, takes_program, placed_standing, end_legal, end_stands, end_sound}
+use Rattle.block_target.proofs.KeptWear.{wear_kept, at_same, unit_inside_all}
 use Rattle.block_target.proofs.mount.Mount.program.Goals as goal
 
 pub place-requires-clause-named : goal.place-requires-clause-named
@@ -31,7 +32,7 @@ place-requires-clause-named g c =
 pub index_mut-to-requires : goal.index_mut-to-requires
 index_mut-to-requires g c =
     let m = c.self.invariant in
-    let v : MountView = record { shape = c.self.inside.shape; deeds = c.self.inside.deeds; units = map g.U.Unit.model c.self.inside.units.items; granted = c.self.inside.granted; pad = pad_of c.self.inside.core } in
+    let v : MountView = record { shape = c.self.inside.shape; deeds = c.self.inside.deeds; units = map g.U.Unit.model c.self.inside.units.items; wear = map g.U.Unit.wear c.self.inside.units.items; granted = c.self.inside.granted; pad = pad_of c.self.inside.core } in
     let may : MayPlace (blank v.shape) (logs_in v) c.place.new.into.stripe = c.place.ensures.legal (blank v.shape) (world_in v) m.sound.legal m.stands in
     let low : c.place.new.into.stripe.unit < length (map g.U.Unit.model c.self.inside.units.items) = unit_within v c.self.inside.core c.self.inside.pool c.self.inside.stripe m c.place.new.into.stripe may in
     let many : length (map g.U.Unit.model c.self.inside.units.items) ≡ length c.self.inside.units.items = length-map c.self.inside.units.items g.U.Unit.model in
@@ -43,7 +44,7 @@ index_mut-to-requires g c =
 pub program-requires-clause-whole : goal.program-requires-clause-whole
 program-requires-clause-whole g c =
     let m = c.self.invariant in
-    let v : MountView = record { shape = c.self.inside.shape; deeds = c.self.inside.deeds; units = map g.U.Unit.model c.self.inside.units.items; granted = c.self.inside.granted; pad = pad_of c.self.inside.core } in
+    let v : MountView = record { shape = c.self.inside.shape; deeds = c.self.inside.deeds; units = map g.U.Unit.model c.self.inside.units.items; wear = map g.U.Unit.wear c.self.inside.units.items; granted = c.self.inside.granted; pad = pad_of c.self.inside.core } in
     let may : MayPlace (blank v.shape) (logs_in v) c.place.new.into.stripe = c.place.ensures.legal (blank v.shape) (world_in v) m.sound.legal m.stands in
     let there : slice_get v.units c.place.new.into.stripe.unit ≡ Some (g.U.Unit.model c.index_mut-to.result.now) =
     unit_there g.U.Unit.model c.self.inside.units.items c.unit-unit.result c.place.new.into.stripe.unit c.index_mut-to.result.now c.unit-unit.ensures (unit_within v c.self.inside.core c.self.inside.pool c.self.inside.stripe m c.place.new.into.stripe may) c.index_mut-to.ensures.value in
@@ -54,7 +55,7 @@ program-requires-clause-whole g c =
 pub program-requires-clause-taken : goal.program-requires-clause-taken
 program-requires-clause-taken g c =
     let m = c.self.invariant in
-    let v : MountView = record { shape = c.self.inside.shape; deeds = c.self.inside.deeds; units = map g.U.Unit.model c.self.inside.units.items; granted = c.self.inside.granted; pad = pad_of c.self.inside.core } in
+    let v : MountView = record { shape = c.self.inside.shape; deeds = c.self.inside.deeds; units = map g.U.Unit.model c.self.inside.units.items; wear = map g.U.Unit.wear c.self.inside.units.items; granted = c.self.inside.granted; pad = pad_of c.self.inside.core } in
     let may : MayPlace (blank v.shape) (logs_in v) c.place.new.into.stripe = c.place.ensures.legal (blank v.shape) (world_in v) m.sound.legal m.stands in
     let there : slice_get v.units c.place.new.into.stripe.unit ≡ Some (g.U.Unit.model c.index_mut-to.result.now) =
     unit_there g.U.Unit.model c.self.inside.units.items c.unit-unit.result c.place.new.into.stripe.unit c.index_mut-to.result.now c.unit-unit.ensures (unit_within v c.self.inside.core c.self.inside.pool c.self.inside.stripe m c.place.new.into.stripe may) c.index_mut-to.ensures.value in
@@ -68,7 +69,7 @@ program-requires-clause-taken g c =
 pub unreachable-requires : goal.unreachable-requires
 unreachable-requires g c =
     let m = c.self.invariant in
-    let v : MountView = record { shape = c.self.inside.shape; deeds = c.self.inside.deeds; units = map g.U.Unit.model c.self.inside.units.items; granted = c.self.inside.granted; pad = pad_of c.self.inside.core } in
+    let v : MountView = record { shape = c.self.inside.shape; deeds = c.self.inside.deeds; units = map g.U.Unit.model c.self.inside.units.items; wear = map g.U.Unit.wear c.self.inside.units.items; granted = c.self.inside.granted; pad = pad_of c.self.inside.core } in
     let may : MayPlace (blank v.shape) (logs_in v) c.place.new.into.stripe = c.place.ensures.legal (blank v.shape) (world_in v) m.sound.legal m.stands in
     let there : slice_get v.units c.place.new.into.stripe.unit ≡ Some (g.U.Unit.model c.index_mut-to.result.now) =
     unit_there g.U.Unit.model c.self.inside.units.items c.unit-unit.result c.place.new.into.stripe.unit c.index_mut-to.result.now c.unit-unit.ensures (unit_within v c.self.inside.core c.self.inside.pool c.self.inside.stripe m c.place.new.into.stripe may) c.index_mut-to.ensures.value in
@@ -79,7 +80,7 @@ unreachable-requires g c =
 pub landed-requires-clause-standing : goal.landed-requires-clause-standing
 landed-requires-clause-standing g c =
     let m = c.self.invariant in
-    let v : MountView = record { shape = c.self.inside.shape; deeds = c.self.inside.deeds; units = map g.U.Unit.model c.self.inside.units.items; granted = c.self.inside.granted; pad = pad_of c.self.inside.core } in
+    let v : MountView = record { shape = c.self.inside.shape; deeds = c.self.inside.deeds; units = map g.U.Unit.model c.self.inside.units.items; wear = map g.U.Unit.wear c.self.inside.units.items; granted = c.self.inside.granted; pad = pad_of c.self.inside.core } in
     let may : MayPlace (blank v.shape) (logs_in v) c.place.new.into.stripe = c.place.ensures.legal (blank v.shape) (world_in v) m.sound.legal m.stands in
     let placed : (knows : List ℕ) → Stands (blank v.shape) (after (logs_in v) (Place c.place.new.into.stripe) knows) c.place.new.self = λ knows. c.place.ensures.stands (blank v.shape) (world_in v) knows m.sound.legal m.stands in
     placed_standing v c.self.inside.core c.self.inside.pool c.self.inside.stripe m c.place.new.into.stripe may c.place.new.self placed
@@ -94,7 +95,7 @@ free_frames-requires g c =
 pub grant-requires : goal.grant-requires
 grant-requires g c =
     let m = c.self.invariant in
-    let v : MountView = record { shape = c.self.inside.shape; deeds = c.self.inside.deeds; units = map g.U.Unit.model c.self.inside.units.items; granted = c.self.inside.granted; pad = pad_of c.self.inside.core } in
+    let v : MountView = record { shape = c.self.inside.shape; deeds = c.self.inside.deeds; units = map g.U.Unit.model c.self.inside.units.items; wear = map g.U.Unit.wear c.self.inside.units.items; granted = c.self.inside.granted; pad = pad_of c.self.inside.core } in
     let may : MayPlace (blank v.shape) (logs_in v) c.place.new.into.stripe = c.place.ensures.legal (blank v.shape) (world_in v) m.sound.legal m.stands in
     let placed : (knows : List ℕ) → Stands (blank v.shape) (after (logs_in v) (Place c.place.new.into.stripe) knows) c.place.new.self = λ knows. c.place.ensures.stands (blank v.shape) (world_in v) knows m.sound.legal m.stands in
     let legal = end_legal v c.self.inside.core c.self.inside.pool c.self.inside.stripe m c.place.new.into.stripe may in
@@ -106,7 +107,7 @@ grant-requires g c =
 pub invariant_of-self : goal.invariant_of-self
 invariant_of-self g c =
     let m = c.self.invariant in
-    let v : MountView = record { shape = c.self.inside.shape; deeds = c.self.inside.deeds; units = map g.U.Unit.model c.self.inside.units.items; granted = c.self.inside.granted; pad = pad_of c.self.inside.core } in
+    let v : MountView = record { shape = c.self.inside.shape; deeds = c.self.inside.deeds; units = map g.U.Unit.model c.self.inside.units.items; wear = map g.U.Unit.wear c.self.inside.units.items; granted = c.self.inside.granted; pad = pad_of c.self.inside.core } in
     let may : MayPlace (blank v.shape) (logs_in v) c.place.new.into.stripe = c.place.ensures.legal (blank v.shape) (world_in v) m.sound.legal m.stands in
     let there : slice_get v.units c.place.new.into.stripe.unit ≡ Some (g.U.Unit.model c.index_mut-to.result.now) =
     unit_there g.U.Unit.model c.self.inside.units.items c.unit-unit.result c.place.new.into.stripe.unit c.index_mut-to.result.now c.unit-unit.ensures (unit_within v c.self.inside.core c.self.inside.pool c.self.inside.stripe m c.place.new.into.stripe may) c.index_mut-to.ensures.value in
@@ -125,7 +126,7 @@ invariant_of-self g c =
     let many : length c.landed.new.self.window.entries ≡ length c.place.new.self.window.entries = c.landed.ensures.count in
     let event = c.in-Ok.ensures.event in
     let sound = end_sound v c.self.inside.core c.self.inside.pool c.self.inside.stripe m c.place.new.into.stripe may g.U.Unit.model c.self.inside.units.items c.unit-unit.result c.index_mut-to.result.now c.program.new.self c.chunk.result c.at.result
-    (blocks_of (g.U.Unit.model c.index_mut-to.result.now).shape.sector c.parts.result.0.now c.parts.result.1.now) c.max-self-inside.result (pad_of c.free_frames.new.core)
+    (blocks_of (g.U.Unit.model c.index_mut-to.result.now).shape.sector c.parts.result.0.now c.parts.result.1.now) (map g.U.Unit.wear (slice_set c.self.inside.units.items c.unit-unit.result c.program.new.self)) c.max-self-inside.result (pad_of c.free_frames.new.core)
     refl c.unit-unit.ensures there c.chunk.ensures.chunk c.at.ensures blocks event.0 event.1 event.2 (c.program.ensures.fits was.fit) in
     let drained : c.free_frames.new.core.window.freed ≡ freed v.shape (log_of (world_of v.shape (landed_deeds v.shape v.deeds c.place.new.into.stripe)) 0) =
     c.free_frames.ensures.drained (blank v.shape) (world_of v.shape (landed_deeds v.shape v.deeds c.place.new.into.stripe)) legal stood in
@@ -135,15 +136,15 @@ invariant_of-self g c =
     let kept_out : length c.place.new.self.window.entries ≡ length c.self.inside.core.window.entries = ap (λ (w : view.WindowView). length w.entries) window in
     let moved_out : count_out c.self.inside.pool.left + length c.free_frames.new.core.window.entries ≡ count_out c.free_frames.new.pool.left + length c.landed.new.self.window.entries = c.free_frames.ensures.out in
     let out : count_out c.free_frames.new.pool.left ≡ length c.free_frames.new.core.window.entries = omega arith in
-    subst (λ (ds : List Deed). IsMount (record { shape = v.shape; deeds = ds; units = map g.U.Unit.model (slice_set c.self.inside.units.items c.unit-unit.result c.program.new.self); granted = c.max-self-inside.result; pad = pad_of c.free_frames.new.core })
+    subst (λ (ds : List Deed). IsMount (record { shape = v.shape; deeds = ds; units = map g.U.Unit.model (slice_set c.self.inside.units.items c.unit-unit.result c.program.new.self); wear = map g.U.Unit.wear (slice_set c.self.inside.units.items c.unit-unit.result c.program.new.self); granted = c.max-self-inside.result; pad = pad_of c.free_frames.new.core })
     c.free_frames.new.core c.free_frames.new.pool c.place.new.into) (sym deeds)
-    (mount_programmed v c.self.inside.core c.self.inside.pool c.self.inside.stripe m c.place.new.into.stripe may c.free_frames.new.core c.free_frames.new.pool c.place.new.into (map g.U.Unit.model (slice_set c.self.inside.units.items c.unit-unit.result c.program.new.self)) c.max-self-inside.result
+    (mount_programmed v c.self.inside.core c.self.inside.pool c.self.inside.stripe m c.place.new.into.stripe may c.free_frames.new.core c.free_frames.new.pool c.place.new.into (map g.U.Unit.model (slice_set c.self.inside.units.items c.unit-unit.result c.program.new.self)) (map g.U.Unit.wear (slice_set c.self.inside.units.items c.unit-unit.result c.program.new.self)) c.max-self-inside.result
     sound stands drained c.free_frames.ensures.own out c.free_frames.ensures.region shapes granted)
 
 pub returns : goal.returns
 returns g c =
     let m = c.self.invariant in
-    let v : MountView = record { shape = c.self.inside.shape; deeds = c.self.inside.deeds; units = map g.U.Unit.model c.self.inside.units.items; granted = c.self.inside.granted; pad = pad_of c.self.inside.core } in
+    let v : MountView = record { shape = c.self.inside.shape; deeds = c.self.inside.deeds; units = map g.U.Unit.model c.self.inside.units.items; wear = map g.U.Unit.wear c.self.inside.units.items; granted = c.self.inside.granted; pad = pad_of c.self.inside.core } in
     let may : MayPlace (blank v.shape) (logs_in v) c.place.new.into.stripe = c.place.ensures.legal (blank v.shape) (world_in v) m.sound.legal m.stands in
     let deeds : c.add-3.new.self ≡ landed_deeds v.shape v.deeds c.place.new.into.stripe =
     c.add-3.ensures ∙ ap₂ (λ (ds : List Deed) n. ds ++ Lands n ∷ []) (c.add-2.ensures ∙ ap (λ (ds : List Deed). ds ++ Does c.place.new.into.stripe.unit (program_of c.place.new.into.stripe) ∷ []) c.add.ensures) c.unit-unit.ensures in
@@ -152,6 +153,7 @@ returns g c =
     let is : c.max-self-inside.result ≡ max v.granted c.grant.result = c.max-self-inside.ensures in
     let more : v.granted ≤ c.max-self-inside.result = omega arith in
     let least : v.pad ≤ pad_of c.free_frames.new.core = omega arith in
-    subst (λ (old : MountView). IsSameMount old (record { shape = v.shape; deeds = c.add-3.new.self; units = map g.U.Unit.model (slice_set c.self.inside.units.items c.unit-unit.result c.program.new.self); granted = c.max-self-inside.result; pad = pad_of c.free_frames.new.core })) c.self.view_is
-    (subst (λ (ds : List Deed). IsSameMount v (record { shape = v.shape; deeds = ds; units = map g.U.Unit.model (slice_set c.self.inside.units.items c.unit-unit.result c.program.new.self); granted = c.max-self-inside.result; pad = pad_of c.free_frames.new.core })) (sym deeds)
-    (same_programmed v c.self.inside.core c.self.inside.pool c.self.inside.stripe m c.place.new.into.stripe may (map g.U.Unit.model (slice_set c.self.inside.units.items c.unit-unit.result c.program.new.self)) c.max-self-inside.result (pad_of c.free_frames.new.core) more least))
+    subst (λ (old : MountView). IsSameMount old (record { shape = v.shape; deeds = c.add-3.new.self; units = map g.U.Unit.model (slice_set c.self.inside.units.items c.unit-unit.result c.program.new.self); wear = map g.U.Unit.wear (slice_set c.self.inside.units.items c.unit-unit.result c.program.new.self); granted = c.max-self-inside.result; pad = pad_of c.free_frames.new.core })) c.self.view_is
+    (subst (λ (ds : List Deed). IsSameMount v (record { shape = v.shape; deeds = ds; units = map g.U.Unit.model (slice_set c.self.inside.units.items c.unit-unit.result c.program.new.self); wear = map g.U.Unit.wear (slice_set c.self.inside.units.items c.unit-unit.result c.program.new.self); granted = c.max-self-inside.result; pad = pad_of c.free_frames.new.core })) (sym deeds)
+    (same_programmed v c.self.inside.core c.self.inside.pool c.self.inside.stripe m c.place.new.into.stripe may (map g.U.Unit.model (slice_set c.self.inside.units.items c.unit-unit.result c.program.new.self)) (map g.U.Unit.wear (slice_set c.self.inside.units.items c.unit-unit.result c.program.new.self)) c.max-self-inside.result (pad_of c.free_frames.new.core)
+    (wear_kept g.U.Unit.wear c.self.inside.units.items c.unit-unit.result c.index_mut-to.result.now c.program.new.self (at_same c.unit-unit.ensures (unit_inside_all g.U.Unit.model c.self.inside.units.items c.place.new.into.stripe.unit (unit_within v c.self.inside.core c.self.inside.pool c.self.inside.stripe m c.place.new.into.stripe may))) c.index_mut-to.ensures.value c.program.ensures.wear) more least))

@@ -13,7 +13,7 @@ use Rattle.block_target.proofs.mount.Mount.read.Goals as goal
 
 pub copy_from_slice-requires : goal.copy_from_slice-requires
 copy_from_slice-requires g c =
-    let v : MountView = record { shape = c.self.inside.shape; deeds = c.self.inside.deeds; units = map g.U.Unit.model c.self.inside.units.items; granted = c.self.inside.granted; pad = pad_of c.self.inside.core } in
+    let v : MountView = record { shape = c.self.inside.shape; deeds = c.self.inside.deeds; units = map g.U.Unit.model c.self.inside.units.items; wear = map g.U.Unit.wear c.self.inside.units.items; granted = c.self.inside.granted; pad = pad_of c.self.inside.core } in
     let core = c.self.inside.core in
     let legal = c.self.invariant.sound.legal in
     let st = c.self.invariant.stands in
@@ -24,7 +24,7 @@ copy_from_slice-requires g c =
 
 pub unreachable-requires : goal.unreachable-requires
 unreachable-requires g c =
-    let v : MountView = record { shape = c.self.inside.shape; deeds = c.self.inside.deeds; units = map g.U.Unit.model c.self.inside.units.items; granted = c.self.inside.granted; pad = pad_of c.self.inside.core } in
+    let v : MountView = record { shape = c.self.inside.shape; deeds = c.self.inside.deeds; units = map g.U.Unit.model c.self.inside.units.items; wear = map g.U.Unit.wear c.self.inside.units.items; granted = c.self.inside.granted; pad = pad_of c.self.inside.core } in
     let core = c.self.inside.core in
     let legal = c.self.invariant.sound.legal in
     let st = c.self.invariant.stands in
@@ -34,7 +34,7 @@ unreachable-requires g c =
 
 pub address-unit-requires-clause-line : goal.address-unit-requires-clause-line
 address-unit-requires-clause-line g c =
-    let v : MountView = record { shape = c.self.inside.shape; deeds = c.self.inside.deeds; units = map g.U.Unit.model c.self.inside.units.items; granted = c.self.inside.granted; pad = pad_of c.self.inside.core } in
+    let v : MountView = record { shape = c.self.inside.shape; deeds = c.self.inside.deeds; units = map g.U.Unit.model c.self.inside.units.items; wear = map g.U.Unit.wear c.self.inside.units.items; granted = c.self.inside.granted; pad = pad_of c.self.inside.core } in
     let core = c.self.inside.core in
     let legal = c.self.invariant.sound.legal in
     let st = c.self.invariant.stands in
@@ -45,7 +45,7 @@ address-unit-requires-clause-line g c =
 
 pub address-unit-requires-clause-live : goal.address-unit-requires-clause-live
 address-unit-requires-clause-live g c =
-    let v : MountView = record { shape = c.self.inside.shape; deeds = c.self.inside.deeds; units = map g.U.Unit.model c.self.inside.units.items; granted = c.self.inside.granted; pad = pad_of c.self.inside.core } in
+    let v : MountView = record { shape = c.self.inside.shape; deeds = c.self.inside.deeds; units = map g.U.Unit.model c.self.inside.units.items; wear = map g.U.Unit.wear c.self.inside.units.items; granted = c.self.inside.granted; pad = pad_of c.self.inside.core } in
     let core = c.self.inside.core in
     let legal = c.self.invariant.sound.legal in
     let st = c.self.invariant.stands in
@@ -56,7 +56,7 @@ address-unit-requires-clause-live g c =
 
 pub address-unit-requires-clause-inside : goal.address-unit-requires-clause-inside
 address-unit-requires-clause-inside g c =
-    let v : MountView = record { shape = c.self.inside.shape; deeds = c.self.inside.deeds; units = map g.U.Unit.model c.self.inside.units.items; granted = c.self.inside.granted; pad = pad_of c.self.inside.core } in
+    let v : MountView = record { shape = c.self.inside.shape; deeds = c.self.inside.deeds; units = map g.U.Unit.model c.self.inside.units.items; wear = map g.U.Unit.wear c.self.inside.units.items; granted = c.self.inside.granted; pad = pad_of c.self.inside.core } in
     let core = c.self.inside.core in
     let legal = c.self.invariant.sound.legal in
     let st = c.self.invariant.stands in
@@ -67,7 +67,7 @@ address-unit-requires-clause-inside g c =
 
 pub fetch-requires-clause-there : goal.fetch-requires-clause-there
 fetch-requires-clause-there g c =
-    let v : MountView = record { shape = c.self.inside.shape; deeds = c.self.inside.deeds; units = map g.U.Unit.model c.self.inside.units.items; granted = c.self.inside.granted; pad = pad_of c.self.inside.core } in
+    let v : MountView = record { shape = c.self.inside.shape; deeds = c.self.inside.deeds; units = map g.U.Unit.model c.self.inside.units.items; wear = map g.U.Unit.wear c.self.inside.units.items; granted = c.self.inside.granted; pad = pad_of c.self.inside.core } in
     let core = c.self.inside.core in
     let legal = c.self.invariant.sound.legal in
     let st = c.self.invariant.stands in
@@ -80,7 +80,7 @@ fetch-requires-clause-there g c =
 
 pub returns-in-Unwritten-clause-latest : goal.returns-in-Unwritten-clause-latest
 returns-in-Unwritten-clause-latest g c =
-    let v : MountView = record { shape = c.self.inside.shape; deeds = c.self.inside.deeds; units = map g.U.Unit.model c.self.inside.units.items; granted = c.self.inside.granted; pad = pad_of c.self.inside.core } in
+    let v : MountView = record { shape = c.self.inside.shape; deeds = c.self.inside.deeds; units = map g.U.Unit.model c.self.inside.units.items; wear = map g.U.Unit.wear c.self.inside.units.items; granted = c.self.inside.granted; pad = pad_of c.self.inside.core } in
     let core = c.self.inside.core in
     let legal = c.self.invariant.sound.legal in
     let st = c.self.invariant.stands in
@@ -92,7 +92,7 @@ returns-in-Unwritten-clause-latest g c =
 
 pub returns-in-Some-clause-latest : goal.returns-in-Some-clause-latest
 returns-in-Some-clause-latest g c =
-    let v : MountView = record { shape = c.self.inside.shape; deeds = c.self.inside.deeds; units = map g.U.Unit.model c.self.inside.units.items; granted = c.self.inside.granted; pad = pad_of c.self.inside.core } in
+    let v : MountView = record { shape = c.self.inside.shape; deeds = c.self.inside.deeds; units = map g.U.Unit.model c.self.inside.units.items; wear = map g.U.Unit.wear c.self.inside.units.items; granted = c.self.inside.granted; pad = pad_of c.self.inside.core } in
     let core = c.self.inside.core in
     let legal = c.self.invariant.sound.legal in
     let st = c.self.invariant.stands in
@@ -104,7 +104,7 @@ returns-in-Some-clause-latest g c =
 
 pub returns-in-Media-clause-latest : goal.returns-in-Media-clause-latest
 returns-in-Media-clause-latest g c =
-    let v : MountView = record { shape = c.self.inside.shape; deeds = c.self.inside.deeds; units = map g.U.Unit.model c.self.inside.units.items; granted = c.self.inside.granted; pad = pad_of c.self.inside.core } in
+    let v : MountView = record { shape = c.self.inside.shape; deeds = c.self.inside.deeds; units = map g.U.Unit.model c.self.inside.units.items; wear = map g.U.Unit.wear c.self.inside.units.items; granted = c.self.inside.granted; pad = pad_of c.self.inside.core } in
     let core = c.self.inside.core in
     let legal = c.self.invariant.sound.legal in
     let st = c.self.invariant.stands in

@@ -28,7 +28,7 @@ take-requires-2-clause-room g c =
 
 pub invariant_of-self : goal.invariant_of-self
 invariant_of-self g c =
-    let v : MountView = record { shape = c.self.inside.shape; deeds = c.self.inside.deeds; units = map g.U.Unit.model c.self.inside.units.items; granted = c.self.inside.granted; pad = pad_of c.self.inside.core } in
+    let v : MountView = record { shape = c.self.inside.shape; deeds = c.self.inside.deeds; units = map g.U.Unit.model c.self.inside.units.items; wear = map g.U.Unit.wear c.self.inside.units.items; granted = c.self.inside.granted; pad = pad_of c.self.inside.core } in
     let e : FramedEntry = record { position = c.front.result.position; class = User; lba = c.args.lba; source = None; frame = c.fill.new.self } in
     let room : taken_in v < v.granted = subst (λ (v : MountView). taken_in v < v.granted) (sym c.self.view_is) c.requires.room in
     let inside : c.args.lba < v.shape.capacity = subst (λ (v : MountView). c.args.lba < v.shape.capacity) (sym c.self.view_is) c.requires.lba in
@@ -47,7 +47,7 @@ invariant_of-self g c =
 
 pub returns : goal.returns
 returns g c =
-    let v : MountView = record { shape = c.self.inside.shape; deeds = c.self.inside.deeds; units = map g.U.Unit.model c.self.inside.units.items; granted = c.self.inside.granted; pad = pad_of c.self.inside.core } in
+    let v : MountView = record { shape = c.self.inside.shape; deeds = c.self.inside.deeds; units = map g.U.Unit.model c.self.inside.units.items; wear = map g.U.Unit.wear c.self.inside.units.items; granted = c.self.inside.granted; pad = pad_of c.self.inside.core } in
     view_taken v c.front.result.position c.args.lba (pad_of c.take-2.new.self) c.fill.new.self.bytes c.args.sector.now c.add.new.self c.add.ensures
     (c.front.ensures.position ∙ window_taken_is (blank v.shape) (world_in v) c.self.inside.core c.self.invariant.stands) c.fill.ensures.bytes c.take-2.ensures.pad
     ∙ ap (λ (v : MountView). with_entry v c.args.lba c.args.sector.now) c.self.view_is

@@ -12,7 +12,8 @@ returns g c =
       c.sync.new.self,
       subst (λ v. IsSameMount v c.sync.new.self) mount c.sync.ensures.same,
       c.is_sound-2.ensures,
-      c.end.ensures,
+      c.end.ensures.units,
+      c.end.ensures.wear,
       elim c.match-sync.branch [
         | in-Ok w ↦ subst (λ r. Settles r c.sync.new.self) (sym w.settled-is)
             (all_synced c.self.inside.mount c.sync.new.self w.in-Ok.field-0 c.front-wanted.result.position c.is_sound.ensures c.is_sound-2.ensures c.sync.ensures.same wanted w.in-Ok.ensures.synced.0 w.in-Ok.ensures.synced.1)
