@@ -1,0 +1,9 @@
+//! Tests of the target for one session over units in memory.
+#![tactic(auto)]
+
+#[cfg(test)]
+mod answers;
+#[cfg(test)]
+mod harness;
+#[cfg(test)]
+mod shapes;
