@@ -126,8 +126,8 @@ const LEFT: [(&Shape, &str, &[Blocks]); 5] = [
         &SMALL,
         "thread\nw 5 1 17\nr 5 1\nf\n",
         &[
-            (0, 0, " meta1 meta1 meta1 meta1"),
-            (1, 0, " 5@0 pad pad pad"),
+            (0, 0, "meta 1, meta 1, meta 1, meta 1, "),
+            (1, 0, "5 of 17 at 0, pad, pad, pad, "),
         ],
     ),
     // Pad blocks fill the stripes of two flushes, and the close pads what is left.
@@ -135,8 +135,8 @@ const LEFT: [(&Shape, &str, &[Blocks]); 5] = [
         &SMALL,
         "thread\nw 10 6 3\nf\nw 20 3 4\nf\nw 1 5 5\n",
         &[
-            (0, 0, " meta1 meta1 meta1 meta1 14@4 15@5 pad pad 1@9 2@10 3@11 4@12"),
-            (1, 0, " 10@0 11@1 12@2 13@3 20@6 21@7 22@8 pad 5@13 pad pad pad"),
+            (0, 0, "meta 1, meta 1, meta 1, meta 1, 14 of 3 at 4, 15 of 3 at 5, pad, pad, 1 of 5 at 9, 2 of 5 at 10, 3 of 5 at 11, 4 of 5 at 12, "),
+            (1, 0, "10 of 3 at 0, 11 of 3 at 1, 12 of 3 at 2, 13 of 3 at 3, 20 of 4 at 6, 21 of 4 at 7, 22 of 4 at 8, pad, 5 of 5 at 13, pad, pad, pad, "),
             (0, 1, ""),
         ],
     ),
@@ -144,16 +144,16 @@ const LEFT: [(&Shape, &str, &[Blocks]); 5] = [
         &ONE_SECTOR,
         "thread\nw 0 1 1\nw 0 1 2\nw 0 1 3\nf\nw 0 1 4\nw 0 1 5\nr 0 1\n",
         &[
-            (0, 0, " meta1 meta1 meta1 meta1 0@3 0@4 pad pad"),
-            (1, 0, " 0@0 0@1 0@2 pad"),
+            (0, 0, "meta 1, meta 1, meta 1, meta 1, 0 of 4 at 3, 0 of 5 at 4, pad, pad, "),
+            (1, 0, "0 of 1 at 0, 0 of 2 at 1, 0 of 3 at 2, pad, "),
         ],
     ),
     (
         &EQUAL_WRITES,
         "thread\nw 0 5 9\nf\nr 0 5\n",
         &[
-            (0, 0, " meta1 meta1 meta1 meta1 4@4 pad pad pad"),
-            (1, 0, " 0@0 1@1 2@2 3@3"),
+            (0, 0, "meta 1, meta 1, meta 1, meta 1, 4 of 9 at 4, pad, pad, pad, "),
+            (1, 0, "0 of 9 at 0, 1 of 9 at 1, 2 of 9 at 2, 3 of 9 at 3, "),
         ],
     ),
     // The end record of the first line, and the start record of the second.
@@ -161,10 +161,10 @@ const LEFT: [(&Shape, &str, &[Blocks]); 5] = [
         &SMALL,
         "thread\nw 0 16 1\nw 16 16 2\nw 32 10 3\n",
         &[
-            (0, 0, " meta1 meta1 meta1 meta1 4@4 5@5 6@6 7@7 12@12 13@13 14@14 15@15 20@20 21@21 22@22 23@23 28@28 29@29 30@30 31@31 36@36 37@37 38@38 39@39"),
-            (1, 0, " 0@0 1@1 2@2 3@3 8@8 9@9 10@10 11@11 16@16 17@17 18@18 19@19 24@24 25@25 26@26 27@27 32@32 33@33 34@34 35@35 meta1 meta1 meta1 meta1"),
-            (0, 1, " meta2 meta2 meta2 meta2"),
-            (1, 1, " 40@40 41@41 pad pad"),
+            (0, 0, "meta 1, meta 1, meta 1, meta 1, 4 of 1 at 4, 5 of 1 at 5, 6 of 1 at 6, 7 of 1 at 7, 12 of 1 at 12, 13 of 1 at 13, 14 of 1 at 14, 15 of 1 at 15, 20 of 2 at 20, 21 of 2 at 21, 22 of 2 at 22, 23 of 2 at 23, 28 of 2 at 28, 29 of 2 at 29, 30 of 2 at 30, 31 of 2 at 31, 36 of 3 at 36, 37 of 3 at 37, 38 of 3 at 38, 39 of 3 at 39, "),
+            (1, 0, "0 of 1 at 0, 1 of 1 at 1, 2 of 1 at 2, 3 of 1 at 3, 8 of 1 at 8, 9 of 1 at 9, 10 of 1 at 10, 11 of 1 at 11, 16 of 2 at 16, 17 of 2 at 17, 18 of 2 at 18, 19 of 2 at 19, 24 of 2 at 24, 25 of 2 at 25, 26 of 2 at 26, 27 of 2 at 27, 32 of 3 at 32, 33 of 3 at 33, 34 of 3 at 34, 35 of 3 at 35, meta 1, meta 1, meta 1, meta 1, "),
+            (0, 1, "meta 2, meta 2, meta 2, meta 2, "),
+            (1, 1, "40 of 3 at 40, 41 of 3 at 41, pad, pad, "),
         ],
     ),
 ];

@@ -186,8 +186,8 @@ fn put_state(text: &mut String, found: (ChunkState, u32)) -> Result<(), AllocErr
     }
 }
 
-/// The blocks of a chunk of a unit: of a sector its lba and position, of a record its sequence
-/// number. A block of Pad has zeros.
+/// The blocks of a chunk of a unit, one after another: of a sector its lba, the last byte of its tag
+/// and its position, of a record its sequence number. A block of Pad has zeros.
 pub(crate) fn blocks(
     alloc: Global,
     units: &[MemoryUnit],
@@ -214,11 +214,14 @@ const META: u64 = u64::MAX - 2;
 
 fn put_block(text: &mut String, sector: &[u8], mark: Mark) -> Result<(), AllocError> {
     let Mark { lba, position } = mark;
-    if lba == META {
-        return write!(text, " meta{position}");
+    match sector.first() {
+        Some(_) if lba == META => write!(text, "meta {position}, "),
+        Some(0) if lba == PAD && position == 0 && is_zeros(sector) => text.push_str("pad, "),
+        Some(tag) => write!(text, "{lba} of {tag} at {position}, "),
+        None => text.push_str("none, "),
     }
-    if lba == PAD && position == 0 && sector.iter().all(|byte| *byte == 0) {
-        return write!(text, " pad");
-    }
-    write!(text, " {lba}@{position}")
+}
+
+fn is_zeros(sector: &[u8]) -> bool {
+    sector.iter().all(|byte| *byte == 0)
 }

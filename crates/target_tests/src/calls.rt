@@ -1,0 +1,122 @@
+//! Single calls of the port of a target.
+
+use crate::harness::open;
+use crate::shapes::EIGHT_UNITS;
+use block_target::{FlushErr, Note, Port, ReadErr, WriteErr};
+use std::sync::Wait;
+use std::test::Fail;
+
+// What is asked of a port with sectors of 512 bytes.
+#[derive(Clone, Copy, Debug)]
+enum Asked {
+    // Writes two sectors of this byte.
+    Write(u64, u8),
+    // Reads two sectors.
+    Read(u64),
+    Flush,
+    Tell,
+    // Hears this position, which is below 2^32.
+    Hear(u32),
+    Sector,
+}
+
+// What it told.
+#[derive(Clone, Copy, Debug, PartialEq, Eq)]
+enum Told {
+    // The first position, and how many there are.
+    Placed(u64, u32),
+    // The last byte of each sector, and the front's users and position.
+    Bytes([u8; 2], u64, u64),
+    Synced(u64, u64),
+    Seen(u64),
+    Size(u32),
+    Done,
+    Range,
+    Drive(u32, u64),
+    Worn(u64, u64),
+}
+
+fn ask<R: Wait, P: Port>(rt: &R, port: &mut P, asked: Asked) -> Told {
+    match asked {
+        Asked::Write(lba, byte) => write(rt, port, lba, byte),
+        Asked::Read(lba) => read(rt, port, lba),
+        Asked::Flush => match port.flush(rt) {
+            Ok(front) => Told::Synced(front.users, front.position),
+            Err(FlushErr::Drive { unit, event }) => Told::Drive(unit, event),
+            Err(FlushErr::Worn { wanted, have }) => Told::Worn(wanted, have),
+        },
+        Asked::Tell => Told::Seen(port.tell().position),
+        Asked::Hear(position) => {
+            port.hear(Note {
+                position: u64::from(position),
+            });
+            Told::Done
+        }
+        Asked::Sector => Told::Size(port.sector()),
+    }
+}
+
+fn write<R: Wait, P: Port>(rt: &R, port: &mut P, lba: u64, byte: u8) -> Told {
+    let size = port.sector();
+    if size != 512 {
+        return Told::Size(size);
+    }
+    match port.write(rt, lba, &[byte; 1024]) {
+        Ok(place) => Told::Placed(place.first, place.count),
+        Err(WriteErr::Range) => Told::Range,
+        Err(WriteErr::Drive { unit, event }) => Told::Drive(unit, event),
+        Err(WriteErr::Worn { wanted, have }) => Told::Worn(wanted, have),
+    }
+}
+
+fn read<R: Wait, P: Port>(rt: &R, port: &mut P, lba: u64) -> Told {
+    let size = port.sector();
+    if size != 512 {
+        return Told::Size(size);
+    }
+    let mut bytes = [99; 1024];
+    match port.read(rt, lba, &mut bytes) {
+        Ok(front) => Told::Bytes([bytes[511], bytes[1023]], front.users, front.position),
+        Err(ReadErr::Range) => Told::Range,
+        Err(ReadErr::Drive { unit, event }) => Told::Drive(unit, event),
+    }
+}
+
+#[test]
+fn a_target_is_asked(rt: HostRuntime) -> Result<(), Fail> {
+    let rows = [
+        (Asked::Sector, Told::Size(512)),
+        (Asked::Tell, Told::Seen(0)),
+        (Asked::Hear(0), Told::Done),
+        // The target has 405 sectors.
+        (Asked::Write(404, 1), Told::Range),
+        (Asked::Write(u64::MAX, 1), Told::Range),
+        (Asked::Read(404), Told::Range),
+        (Asked::Read(u64::MAX - 1), Told::Range),
+        (Asked::Read(403), Told::Bytes([0, 0], 0, 0)),
+        (Asked::Write(403, 7), Told::Placed(0, 2)),
+        (Asked::Write(404, 8), Told::Range),
+        (Asked::Tell, Told::Seen(2)),
+        (Asked::Read(402), Told::Bytes([0, 7], 2, 2)),
+        (Asked::Flush, Told::Synced(2, 2)),
+        (Asked::Write(402, 9), Told::Placed(2, 2)),
+        (Asked::Hear(3), Told::Done),
+        (Asked::Tell, Told::Seen(4)),
+        (Asked::Read(403), Told::Bytes([9, 7], 4, 4)),
+        (Asked::Flush, Told::Synced(4, 4)),
+        (Asked::Read(404), Told::Range),
+    ];
+    let mut port = open(rt.alloc(), &EIGHT_UNITS)?;
+    let mut wrong = None;
+    for (row, (asked, told)) in rows.iter().enumerate() {
+        let found = ask(&rt, &mut port, *asked);
+        if wrong.is_none() && found != *told {
+            wrong = Some((row, found));
+        }
+    }
+    let (units, settled) = port.close(&rt);
+    assert_eq!(rt; wrong, None);
+    assert!(rt; settled.is_ok());
+    assert!(rt; units.len() == 8);
+    Ok(())
+}
