@@ -1,17 +1,16 @@
 //! What scripts are answered, and what they leave on the drive.
 
 use crate::harness::{blocks, run_on};
-use crate::shapes::{EIGHT_UNITS, EQUAL_WRITES, LARGE_SECTORS, ONE_SECTOR, ONE_UNIT, SMALL, WIDE_STRIPES};
+use crate::shapes::{
+    EIGHT_UNITS, EQUAL_WRITES, LARGE_SECTORS, LATE_READS, MOST_UNITS, ONE_SECTOR, ONE_UNIT, SMALL,
+    WIDE_STRIPES,
+};
 use pblk_model::Shape;
 use std::test::Fail;
 
 // Drives, scripts, and what is told of them.
-const ANSWERED: [(&Shape, &str, &str); 18] = [
-    (
-        &SMALL,
-        "thread\n",
-        "closed\nevents 0\nevents 0\n",
-    ),
+const ANSWERED: [(&Shape, &str, &str); 20] = [
+    (&SMALL, "thread\n", "closed\nevents 0\nevents 0\n"),
     // A sector, which the write buffer answers before and after its stripe is programmed.
     (
         &SMALL,
@@ -101,6 +100,18 @@ const ANSWERED: [(&Shape, &str, &str); 18] = [
         "thread\nw 0 16 1\nw 16 16 1\nf\nr 0 16\nw 32 16 2\nw 48 16 2\nw 32 16 3\nw 48 16 3\nw 32 16 4\nf\nr 0 16\nr 32 16\n",
         "placed 0 16\nplaced 16 16\nsynced 32 32\nwords 32 32 1 1 1 1 1 1 1 1 1 1 1 1 1 1 1 1\nplaced 32 16\nplaced 48 16\nplaced 64 16\nplaced 80 16\nplaced 96 16\nsynced 112 112\nwords 112 112 1 1 1 1 1 1 1 1 1 1 1 1 1 1 1 1\nwords 112 112 4 4 4 4 4 4 4 4 4 4 4 4 4 4 4 4\nclosed\nevents 2 open 128\nevents 18 open 128\n",
     ),
+    // What is cached of an Open chunk is read from the write buffer.
+    (
+        &LATE_READS,
+        "thread\nw 0 16 1\nw 16 16 1\nw 32 8 1\nf\nr 0 16\nw 0 16 2\nw 16 16 2\nw 32 16 2\nw 0 4 3\nf\nr 0 16\nr 32 8\n",
+        "placed 0 16\nplaced 16 16\nplaced 32 8\nsynced 40 40\nwords 40 40 1 1 1 1 1 1 1 1 1 1 1 1 1 1 1 1\nplaced 40 16\nplaced 56 16\nplaced 72 16\nplaced 88 4\nsynced 92 92\nwords 92 92 3 3 3 3 2 2 2 2 2 2 2 2 2 2 2 2\nwords 92 92 2 2 2 2 2 2 2 2\nclosed\nevents 34 closed 24 closed 24 open 8\nevents 22 closed 24 closed 24 open 8\n",
+    ),
+    // Each unit has its stripe of a line.
+    (
+        &MOST_UNITS,
+        "thread\nw 533 16 1\nw 517 16 2\nw 501 16 3\nw 485 16 4\nw 469 16 5\nw 453 16 6\nw 437 16 7\nw 421 16 8\nw 405 16 9\nw 389 16 10\nw 373 16 11\nw 357 16 12\nw 341 16 13\nw 325 16 14\nw 309 16 15\nw 293 16 16\nf\nr 533 16\nr 293 16\n",
+        "placed 0 16\nplaced 16 16\nplaced 32 16\nplaced 48 16\nplaced 64 16\nplaced 80 16\nplaced 96 16\nplaced 112 16\nplaced 128 16\nplaced 144 16\nplaced 160 16\nplaced 176 16\nplaced 192 16\nplaced 208 16\nplaced 224 16\nplaced 240 16\nsynced 256 256\nwords 256 256 1 1 1 1 1 1 1 1 1 1 1 1 1 1 1 1\nwords 256 256 16 16 16 16 16 16 16 16 16 16 16 16 16 16 16 16\nclosed\nevents 2 closed 4 closed 4\nevents 10 closed 4 closed 4\nevents 10 closed 4 closed 4\nevents 10 closed 4 closed 4\nevents 5 closed 4\nevents 1 closed 4\nevents 1 closed 4\nevents 1 closed 4\nevents 1 closed 4\nevents 1 closed 4\nevents 1 closed 4\nevents 1 closed 4\nevents 1 closed 4\nevents 1 closed 4\nevents 1 closed 4\nevents 1 closed 4\nevents 1 closed 4\nevents 1 closed 4\nevents 1 closed 4\nevents 1 closed 4\nevents 1 closed 4\nevents 1 closed 4\nevents 1 closed 4\nevents 1 closed 4\nevents 1 closed 4\nevents 1 closed 4\nevents 1 closed 4\nevents 1 closed 4\nevents 1 closed 4\nevents 1 closed 4\nevents 1 closed 4\nevents 1 closed 4\nevents 1 closed 4\nevents 1 closed 4\nevents 1 closed 4\nevents 1 closed 4\nevents 1 closed 4\nevents 1 closed 4\nevents 1 closed 4\nevents 1 closed 4\nevents 1 closed 4\nevents 1 closed 4\nevents 1 closed 4\nevents 1 closed 4\nevents 1 closed 4\nevents 1 closed 4\nevents 1 closed 4\nevents 1 closed 4\nevents 1 closed 4\nevents 1 closed 4\nevents 1 closed 4\nevents 1 closed 4\nevents 1 closed 4\nevents 1 closed 4\nevents 1 closed 4\nevents 1 closed 4\nevents 1 closed 4\nevents 1 closed 4\nevents 1 closed 4\nevents 1 closed 4\nevents 1 closed 4\nevents 5 closed 4\nevents 1 closed 4\nevents 1 closed 4\n",
+    ),
     (
         &LARGE_SECTORS,
         "thread\nw 88 2 4294967296\nr 87 3\nf\nr 87 3\nw 89 1 5\nr 89 1\n",
@@ -135,8 +146,16 @@ const LEFT: [(&Shape, &str, &[Blocks]); 5] = [
         &SMALL,
         "thread\nw 10 6 3\nf\nw 20 3 4\nf\nw 1 5 5\n",
         &[
-            (0, 0, "meta 1, meta 1, meta 1, meta 1, 14 of 3 at 4, 15 of 3 at 5, pad, pad, 1 of 5 at 9, 2 of 5 at 10, 3 of 5 at 11, 4 of 5 at 12, "),
-            (1, 0, "10 of 3 at 0, 11 of 3 at 1, 12 of 3 at 2, 13 of 3 at 3, 20 of 4 at 6, 21 of 4 at 7, 22 of 4 at 8, pad, 5 of 5 at 13, pad, pad, pad, "),
+            (
+                0,
+                0,
+                "meta 1, meta 1, meta 1, meta 1, 14 of 3 at 4, 15 of 3 at 5, pad, pad, 1 of 5 at 9, 2 of 5 at 10, 3 of 5 at 11, 4 of 5 at 12, ",
+            ),
+            (
+                1,
+                0,
+                "10 of 3 at 0, 11 of 3 at 1, 12 of 3 at 2, 13 of 3 at 3, 20 of 4 at 6, 21 of 4 at 7, 22 of 4 at 8, pad, 5 of 5 at 13, pad, pad, pad, ",
+            ),
             (0, 1, ""),
         ],
     ),
@@ -144,7 +163,11 @@ const LEFT: [(&Shape, &str, &[Blocks]); 5] = [
         &ONE_SECTOR,
         "thread\nw 0 1 1\nw 0 1 2\nw 0 1 3\nf\nw 0 1 4\nw 0 1 5\nr 0 1\n",
         &[
-            (0, 0, "meta 1, meta 1, meta 1, meta 1, 0 of 4 at 3, 0 of 5 at 4, pad, pad, "),
+            (
+                0,
+                0,
+                "meta 1, meta 1, meta 1, meta 1, 0 of 4 at 3, 0 of 5 at 4, pad, pad, ",
+            ),
             (1, 0, "0 of 1 at 0, 0 of 2 at 1, 0 of 3 at 2, pad, "),
         ],
     ),
@@ -152,7 +175,11 @@ const LEFT: [(&Shape, &str, &[Blocks]); 5] = [
         &EQUAL_WRITES,
         "thread\nw 0 5 9\nf\nr 0 5\n",
         &[
-            (0, 0, "meta 1, meta 1, meta 1, meta 1, 4 of 9 at 4, pad, pad, pad, "),
+            (
+                0,
+                0,
+                "meta 1, meta 1, meta 1, meta 1, 4 of 9 at 4, pad, pad, pad, ",
+            ),
             (1, 0, "0 of 9 at 0, 1 of 9 at 1, 2 of 9 at 2, 3 of 9 at 3, "),
         ],
     ),
@@ -161,8 +188,16 @@ const LEFT: [(&Shape, &str, &[Blocks]); 5] = [
         &SMALL,
         "thread\nw 0 16 1\nw 16 16 2\nw 32 10 3\n",
         &[
-            (0, 0, "meta 1, meta 1, meta 1, meta 1, 4 of 1 at 4, 5 of 1 at 5, 6 of 1 at 6, 7 of 1 at 7, 12 of 1 at 12, 13 of 1 at 13, 14 of 1 at 14, 15 of 1 at 15, 20 of 2 at 20, 21 of 2 at 21, 22 of 2 at 22, 23 of 2 at 23, 28 of 2 at 28, 29 of 2 at 29, 30 of 2 at 30, 31 of 2 at 31, 36 of 3 at 36, 37 of 3 at 37, 38 of 3 at 38, 39 of 3 at 39, "),
-            (1, 0, "0 of 1 at 0, 1 of 1 at 1, 2 of 1 at 2, 3 of 1 at 3, 8 of 1 at 8, 9 of 1 at 9, 10 of 1 at 10, 11 of 1 at 11, 16 of 2 at 16, 17 of 2 at 17, 18 of 2 at 18, 19 of 2 at 19, 24 of 2 at 24, 25 of 2 at 25, 26 of 2 at 26, 27 of 2 at 27, 32 of 3 at 32, 33 of 3 at 33, 34 of 3 at 34, 35 of 3 at 35, meta 1, meta 1, meta 1, meta 1, "),
+            (
+                0,
+                0,
+                "meta 1, meta 1, meta 1, meta 1, 4 of 1 at 4, 5 of 1 at 5, 6 of 1 at 6, 7 of 1 at 7, 12 of 1 at 12, 13 of 1 at 13, 14 of 1 at 14, 15 of 1 at 15, 20 of 2 at 20, 21 of 2 at 21, 22 of 2 at 22, 23 of 2 at 23, 28 of 2 at 28, 29 of 2 at 29, 30 of 2 at 30, 31 of 2 at 31, 36 of 3 at 36, 37 of 3 at 37, 38 of 3 at 38, 39 of 3 at 39, ",
+            ),
+            (
+                1,
+                0,
+                "0 of 1 at 0, 1 of 1 at 1, 2 of 1 at 2, 3 of 1 at 3, 8 of 1 at 8, 9 of 1 at 9, 10 of 1 at 10, 11 of 1 at 11, 16 of 2 at 16, 17 of 2 at 17, 18 of 2 at 18, 19 of 2 at 19, 24 of 2 at 24, 25 of 2 at 25, 26 of 2 at 26, 27 of 2 at 27, 32 of 3 at 32, 33 of 3 at 33, 34 of 3 at 34, 35 of 3 at 35, meta 1, meta 1, meta 1, meta 1, ",
+            ),
             (0, 1, "meta 2, meta 2, meta 2, meta 2, "),
             (1, 1, "40 of 3 at 40, 41 of 3 at 41, pad, pad, "),
         ],

@@ -40,10 +40,7 @@ pub(crate) const ONE_SECTOR: Shape = Shape {
 };
 
 /// The small drive with chunks that are written by fours and no less.
-pub(crate) const EQUAL_WRITES: Shape = Shape {
-    ws_min: 4,
-    ..SMALL
-};
+pub(crate) const EQUAL_WRITES: Shape = Shape { ws_min: 4, ..SMALL };
 
 /// Chunks that are written by ones, and at best by 64. Of the 2816 blocks of a line 64 are start record
 /// and 128 end record.
@@ -53,6 +50,25 @@ pub(crate) const WIDE_STRIPES: Shape = Shape {
     ws_opt: 64,
     mw_cunits: 64,
     ring: 1024,
+    ..SMALL
+};
+
+/// The small drive with a cache in which a chunk fits but for a stripe, and a write buffer for it.
+pub(crate) const LATE_READS: Shape = Shape {
+    mw_cunits: 20,
+    ring: 128,
+    ..SMALL
+};
+
+/// As many units as there may be, with chunks of a stripe. Of the 256 blocks of a line 4 are start record
+/// and 8 end record.
+pub(crate) const MOST_UNITS: Shape = Shape {
+    groups: 8,
+    pus: 8,
+    clba: 4,
+    mw_cunits: 0,
+    capacity: 549,
+    ring: 2048,
     ..SMALL
 };
 
