@@ -106,7 +106,10 @@ fn a_target_is_asked(rt: HostRuntime) -> Result<(), Fail> {
         (Asked::Flush, Told::Synced(4, 4)),
         (Asked::Read(404), Told::Range),
     ];
-    let mut port = open(rt.alloc(), &EIGHT_UNITS)?;
+    let mut port = match EIGHT_UNITS.refusal() {
+        Some(refusal) => return Err(refusal.into()),
+        None => open(rt.alloc(), &EIGHT_UNITS)?,
+    };
     let mut wrong = None;
     for (row, (asked, told)) in rows.iter().enumerate() {
         let found = ask(&rt, &mut port, *asked);
