@@ -26,4 +26,5 @@ mount_asked v c d p filling m stands same = record {
   stripe = m.stripe;
   granted = subst (λ w. v.granted + units v.shape * v.shape.ws_opt ≤ w.freed + v.shape.ring) (sym same) m.granted;
   last = m.last;
+  room = m.room;
 }

@@ -60,6 +60,9 @@ below_ring granted free ring less space last is low = omega arith
 below_last : (granted ring space first : ℕ) → granted ≡ min (min ring space) (max (2 ^ 61 - 2) first) → first ≡ 0 → granted < 2 ^ 61
 below_last granted ring space first is none = omega arith
 
+no_less : (granted free : ℕ) → granted ≡ free → free ≤ granted
+no_less granted free is = omega arith
+
 no_more : (a b : ℕ) → a ≤ b → b ≡ 0 → a ≡ b
 no_more a b low is = omega arith
 
@@ -172,6 +175,7 @@ begun_mount s us wear granted c p filling accepted new begun grants out count si
       (grants ∙ ap (λ n. min (min (n + s.ring - units s * s.ws_opt) (space_limit (blank s) (log_of (first_world s)))) (position_limit (log_of (first_world s) 0))) (sym (first_freed s c accepted begun)))
       (kept s accepted);
   last = below_last granted (ring_limit s (log_of (first_world s) 0)) (space_limit (blank s) (log_of (first_world s))) (first_position (log_of (first_world s) 0)) grants refl;
+  room = no_less granted (room (blank s) (log_of (first_world s))) grants;
 }
 
 pub mount_begins : (s : Shape) (us : List ModelUnit) (wear : List (List ℕ)) (granted : ℕ) (parts : Parts) → IsAccepted s → AreNewUnits s us → AreBegun s parts

@@ -13,10 +13,13 @@ use Rattle.pblk_world.specs.Fronts.{first_position, is_users, user_takes, user_p
 use Rattle.pblk_world.proofs.SyncedFront.{synced_within}
 use Rattle.prefix_law.proofs.Starting.{from_zero}
 use Rattle.prefix_law.proofs.Taking.{IsUsers, all_users, users_all, count_users}
+use Rattle.block_port.specs.declared.rows.WornAnswer.{WornAnswer}
 use Rattle.block_port.specs.Own.{PlacedSector, lines_of}
 use Rattle.block_port.specs.Port.{IsSameTarget, Learns, IsFront, IsSeen, positions}
-use Rattle.block_target.specs.Mount.{MountView, IsSound, IsSameMount, engine_log, world_in, taken_in, synced_in, front_taken, front_synced}
+use Rattle.block_target.specs.Mount.{MountView, IsSound, IsSameMount, engine_log, logs_in, world_in, taken_in, synced_in, front_taken, front_synced}
+use Rattle.block_target.specs.NothingLeft.{AreRefusals}
 use Rattle.block_target.specs.Serial.{SerialView, IsSerial, lines_in, device}
+use Rattle.block_target.proofs.Refusals.{refusals_grown}
 
 -- ---- the lines
 
@@ -91,10 +94,12 @@ same_target old new same = record {
 }
 
 -- the session's own writes are the history still, where what it has seen is small
-pub same_serial : (old new : SerialView) → IsSerial old → IsSameMount old.mount new.mount → new.own ≡ old.own → new.seen < 2 ^ 63 → IsSerial new
-same_serial old new is same own small = record {
+pub same_serial : (old new : SerialView) → IsSound old.mount → IsSerial old → IsSameMount old.mount new.mount → new.own ≡ old.own → new.worns ≡ old.worns → new.seen < 2 ^ 63 → IsSerial new
+same_serial old new sound is same own worns small = record {
   alone = lines_same old.mount new.mount same ∙ is.alone ∙ ap (flat_map lines_of) (sym own);
   small = small;
+  worns = subst (λ (ws : List WornAnswer). AreRefusals (blank new.mount.shape) (logs_in new.mount) ws) (sym worns)
+      (refusals_grown old.mount new.mount same.more old.worns sound same.shape same.deeds is.worns);
 }
 
 -- ---- what a call answers
@@ -133,6 +138,12 @@ pub all_synced : (old new : MountView) (f : Front) (wanted : ℕ) → IsSound ol
 all_synced old new f wanted a b same all is enough =
     let at : f.position ≡ synced_in new = ap (λ x. x.position) is in
     let below : synced_in new ≤ taken_in new = synced_within new.shape (engine_log new) in
+    let still : taken_in new ≡ taken_in old = taken_same old new a b same in
+    omega arith
+
+-- all that a flush wants is taken
+pub all_taken : (old new : MountView) (wanted : ℕ) → IsSound old → IsSound new → IsSameMount old new → wanted ≡ taken_in old → wanted ≤ taken_in new
+all_taken old new wanted a b same all =
     let still : taken_in new ≡ taken_in old = taken_same old new a b same in
     omega arith
 

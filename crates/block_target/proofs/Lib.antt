@@ -1,7 +1,9 @@
 pub mod AskedMounts
 pub mod Begun
 pub mod DeviceFronts
+pub mod EngineLengths
 pub mod KeptWear
+pub mod NothingLeft
 pub mod PumpedCall
 pub mod PumpedFrames
 pub mod PumpedMount
@@ -12,8 +14,11 @@ pub mod PumpedUnits
 pub mod ReadFetch
 pub mod ReadLook
 pub mod ReadSectors
+pub mod Refusals
 pub mod SameMounts
+pub mod Spent
 pub mod TakenMount
+pub mod TakenRoom
 pub mod TakenSectors
 pub mod UnitStands
 pub mod Written

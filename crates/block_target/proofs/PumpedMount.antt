@@ -28,7 +28,7 @@ use Rattle.step_laws.proofs.UnitSteps.{engine_log as engine_beside, may_land}
 use Rattle.pblk_core.proofs.LandedLogs.{freed_landed, rows_of_chunks}
 use Rattle.block_target.specs.Deeds.{Deed, Decides, Does, Lands, world_of}
 use Rattle.block_target.specs.Mount.{MountView, IsMount, IsSound, IsSameMount, engine_log, world_in}
-use Rattle.block_target.proofs.PumpedSteps.{world_next, logs_next, synced_next, grant_kept}
+use Rattle.block_target.proofs.PumpedSteps.{world_next, logs_next, synced_next, all_granted, grant_kept}
 use Rattle.block_target.proofs.PumpedProgram.{placed_world, landed_deeds, landed_is, done_is, placed_legal, waits, placed_level, placed, landed_legal, landed_level, landed_idle, done_legal as done_legal_of}
 
 module _ (s : Shape) (deeds : List Deed) (stripe : Stripe) (b : Begun) (legal : IsBlankWorld (blank s) (world_of s deeds)) (has : begun (log_of (world_of s deeds) 0) ≡ Some b)
@@ -132,6 +132,7 @@ module _ (v : MountView) (c : Core) (p : PoolView) (f : Filling) (m : IsMount v 
         stripe = shape;
         granted = subst (λ n. n + units v.shape * v.shape.ws_opt ≤ new.window.freed + v.shape.ring) (sym is) kept.0;
         last = subst (λ n. n < 2 ^ 61) (sym is) kept.1;
+        room = all_granted granted v.granted (room (blank v.shape) (log_of now_world)) is;
       }
     where
       further : (a x y r g h : ℕ) → a ≤ x + r → x ≡ g → y ≡ h → g ≤ h → a ≤ y + r

@@ -31,7 +31,7 @@ use Rattle.pblk_core.specs.Stands.{Stands}
 use Rattle.pblk_core.specs.declared.target_core.Core.{Core}
 use Rattle.block_target.specs.Deeds.{Deed, Decides, world_of}
 use Rattle.block_target.specs.Mount.{MountView, IsMount, IsSound, IsSameMount, world_in, logs_in, engine_log}
-use Rattle.block_target.proofs.PumpedSteps.{world_next, logs_next, moved, sound_next, synced_next, grant_kept}
+use Rattle.block_target.proofs.PumpedSteps.{world_next, logs_next, moved, sound_next, synced_next, all_granted, grant_kept}
 
 -- nothing was done
 pub same_self : (v : MountView) → IsSameMount v v
@@ -116,6 +116,7 @@ module _ (v : MountView) (c new : Core) (line : ℕ) (start : StartRecord) where
         stripe = m.stripe;
         granted = subst (λ n. n + units v.shape * v.shape.ws_opt ≤ new.window.freed + v.shape.ring) (sym is) kept.0;
         last = subst (λ n. n < 2 ^ 61) (sym is) kept.1;
+        room = all_granted granted v.granted (room (blank v.shape) (log_of world_)) is;
       }
 
   pub same_opened : (p : PoolView) (f : Filling) (granted pad : ℕ) → IsMount v c p f → ((b : Begun) → begun (engine_log v) ≡ Some b → MayOpen (blank v.shape) (logs_in v) b line start)

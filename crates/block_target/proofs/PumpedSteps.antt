@@ -77,6 +77,10 @@ fits a g k f r h e low = omega arith
 below_both : (a g n : ℕ) → a < n → g < n → max a g < n
 below_both a g n h e = omega arith
 
+-- a grant by these logs leaves no more room
+pub all_granted : (granted before free : ℕ) → granted ≡ max before free → free ≤ granted
+all_granted granted before free is = omega arith
+
 -- what a grant by these logs keeps
 pub grant_kept : (i : Image) (w : World) (granted front : ℕ) → IsBlankWorld i w → front ≡ freed i.shape (log_of w 0)
     → granted + units i.shape * i.shape.ws_opt ≤ front + i.shape.ring → granted < 2 ^ 61

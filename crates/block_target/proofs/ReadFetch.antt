@@ -28,13 +28,14 @@ use Rattle.pblk_world.specs.Events.{Logged}
 use Rattle.pblk_world.specs.World.{World, log_of, media}
 use Rattle.pblk_world.specs.EngineLog.{takes}
 use Rattle.pblk_world.specs.Fronts.{synced}
-use Rattle.pblk_world.specs.Space.{freed}
+use Rattle.pblk_world.specs.Space.{freed, room}
 use Rattle.pblk_laws.specs.LineBlocks.{chunk_in}
 use Rattle.core_laws.specs.PlainWorlds.{IsBlankWorld}
 use Rattle.core_laws.specs.PlacerOf.{unanswered_on}
 use Rattle.core_laws.proofs.Placing.{is_below}
 use Rattle.step_laws.specs.Whole.{unit_step, fetch_of, next_maker, IsLevel}
 use Rattle.step_laws.proofs.UnitSteps.{engine_log as engine_log_stays, media_now, media_elsewhere}
+use Rattle.step_laws.proofs.UnitStays.{room_stays}
 use Rattle.step_laws.proofs.Fetches.{fetch_next}
 use Rattle.step_laws.proofs.Levels.{level_unit}
 use Rattle.pblk_core.specs.Filling.{Filling}
@@ -221,6 +222,10 @@ module _ (v : MountView) (unit chunk number : ℕ) (u new : ModelUnit) (b : Bloc
     stripe = is.stripe;
     granted = is.granted;
     last = is.last;
+    room =
+        let same : room (blank v.shape) (logs_in left) ≡ room (blank v.shape) (logs_in v) = ap (λ (x : World). room (blank v.shape) (log_of x)) now ∙ room_stays (blank v.shape) w unit e (next_maker w) sound.legal.plain in
+        let low : room (blank v.shape) (logs_in v) ≤ v.granted = is.room in
+        omega (arith, same, low);
   }
 
   -- what was given is what stands there

@@ -5,7 +5,7 @@ use Rattle.pblk_world.specs.EngineLog.{takes}
 use Rattle.pblk_world.specs.Fronts.{synced}
 use Rattle.pblk_world.specs.World.{log_of}
 use Rattle.block_target.specs.Deeds.{Deed, world_of}
-use Rattle.block_target.specs.Mount.{MountView, IsSameMount, IsStuckAt, HasNoWork, engine_log, synced_in, with_pad}
+use Rattle.block_target.specs.Mount.{MountView, IsSameMount, IsStuckAt, IsSpent, engine_log, synced_in, with_pad}
 
 pub same_then : (a b c : MountView) → IsSameMount a b → IsSameMount b c → IsSameMount a c
 same_then a b c x y = record {
@@ -50,9 +50,9 @@ same_asked a v p to same is =
 pub same_worked : (a v p new : MountView) (to : ℕ) → IsSameMount a v → p ≡ with_pad v (max v.pad to) → IsSameMount p new → IsSameMount a new
 same_worked a v p new to same is more = same_then a p new (same_asked a v p to same is) more
 
-pub stuck_asked : (v p new : MountView) (to have : ℕ) → p ≡ with_pad v (max v.pad to) → have ≡ synced_in v → have < to → (new ≡ p) × HasNoWork p
+pub stuck_asked : (v p new : MountView) (to have : ℕ) → p ≡ with_pad v (max v.pad to) → have ≡ synced_in v → have < to → (new ≡ p) × IsSpent p
     → (have ≡ synced_in new) × (to ≤ new.pad) × IsStuckAt new to have
 stuck_asked v p new to have is at short rest =
     let same : new ≡ with_pad v (max v.pad to) = rest.0 ∙ is in
     subst (λ n. (have ≡ synced_in n) × (to ≤ n.pad) × IsStuckAt n to have) (sym rest.0)
-    (subst (λ n. HasNoWork n → (have ≡ synced_in n) × (to ≤ n.pad) × IsStuckAt n to have) (sym is) (λ idle. (at, omega arith, record { idle = idle; short = short })) rest.1)
+    (subst (λ n. IsSpent n → (have ≡ synced_in n) × (to ≤ n.pad) × IsStuckAt n to have) (sym is) (λ spent. (at, omega arith, record { spent = spent; short = short })) rest.1)

@@ -1,34 +1,25 @@
 -- A mount that took an entry.
-use Rattle.std.proofs.Common.{◌≡◌, ◌⊎◌, ℕ, ◌+◌, ◌*◌, ◌^◌, ◌<◌, ◌≤◌, ◌&&◌, ◌||◌, suc, Bool, true, false, None, Some, List, [], ◌∷◌, ◌++◌, length, refl, sym, subst, ap, ap₂, ◌∙◌, arith, inl, inr, length-append}
+use Rattle.std.proofs.Common.{◌≡◌, ℕ, ◌+◌, ◌*◌, ◌^◌, ◌<◌, ◌≤◌, suc, true, None, Some, List, [], ◌∷◌, ◌++◌, length, refl, sym, subst, ap, ap₂, ◌∙◌, arith, length-append}
 use Rattle.std.specs.Prelude.{slice_get, slice_index}
-use Rattle.std.specs.List.{AllByRecursion, list_any}
-use Rattle.std.proofs.lemmas.Bool.{cases_order}
+use Rattle.std.specs.List.{AllByRecursion}
 use Rattle.std.proofs.lemmas.List.Sums.{fold-append}
 use Rattle.pblk_model.specs.declared.shape.Shape.{Shape}
-use Rattle.pblk_model.specs.declared.chunk.Mark.{Mark}
 use Rattle.pblk_model.specs.Frames.{Region, PoolView, count_left, count_out}
 use Rattle.pblk_model.specs.Image.{Image, blank}
 use Rattle.pblk_model.specs.Marks.{sector_mark}
 use Rattle.pblk_model.specs.Chunk.{IsBlock}
 use Rattle.pblk_model.specs.Shape.{units}
-use Rattle.pblk_world.specs.Events.{Entry, EngineEvent, Take, Logged, Decides as Did}
+use Rattle.pblk_world.specs.Events.{EngineEvent, Take, Logged}
 use Rattle.pblk_world.specs.World.{World, Logs, log_of, media}
-use Rattle.pblk_world.specs.EngineLog.{Begun, begun, Placed, takes, placements, has_landed, holds_position}
-use Rattle.pblk_world.specs.Fronts.{first_position, taken, has_landed_at, is_users}
-use Rattle.pblk_world.specs.Space.{freed, gives_back}
+use Rattle.pblk_world.specs.EngineLog.{Begun, begun}
+use Rattle.pblk_world.specs.Fronts.{is_users}
+use Rattle.pblk_world.specs.Space.{freed, room}
 use Rattle.pblk_world.specs.Taking.{MayTake}
 use Rattle.core_laws.specs.PlainWorlds.{IsBlankWorld, is_plain_decision}
 use Rattle.core_laws.specs.PlacerOf.{unanswered_on}
-use Rattle.core_laws.specs.Positions.{IsUnplaced}
 use Rattle.core_laws.specs.Stepping.{after}
-use Rattle.core_laws.specs.WindowOf.{is_given_back}
-use Rattle.core_laws.proofs.Numbering.{first_stays}
 use Rattle.core_laws.proofs.Steady.{AreAlike, unanswered_in}
-use Rattle.core_laws.proofs.TakenSlots.{gives_back_same, any_same}
 use Rattle.core_laws.proofs.Taking.{alike, with_take}
-use Rattle.landing_laws.proofs.FreedFront.{freed_here}
-use Rattle.landing_laws.proofs.Growing.{given_landed}
-use Rattle.landing_laws.proofs.Least.{IsLeast, least}
 use Rattle.step_laws.specs.Whole.{knows_all, engine_step, IsLevel}
 use Rattle.step_laws.proofs.EngineSteps.{engine_next, engine_logs, media_still}
 use Rattle.step_laws.proofs.Levels.{level_by}
@@ -44,9 +35,9 @@ use Rattle.pblk_core.specs.Named.{pad_of}
 use Rattle.pblk_core.specs.Stands.{Stands}
 use Rattle.pblk_core.specs.Taken.{entry_of, mark_of}
 use Rattle.pblk_core.proofs.StandsFacts.{next_is_unplaced, window_taken_is}
-use Rattle.pblk_core.proofs.StandsTaken.{freed_taken}
 use Rattle.block_target.specs.Deeds.{Deed, Decides, step_of, world_of}
 use Rattle.block_target.specs.Mount.{MountView, IsMount, IsUnitIn, world_in, logs_in, engine_log, taken_in, with_entry}
+use Rattle.block_target.proofs.TakenRoom.{freed_same, room_taken}
 
 -- ---- one thing more is done
 
@@ -55,54 +46,6 @@ world_more s deeds d = fold-append (λ w d. step_of s w d ∷ w) [] deeds (d ∷
 
 pub logs_decided : (s : Shape) (deeds : List Deed) (e : EngineEvent) → log_of (world_of s (deeds ++ Decides e ∷ [])) ≡ after (log_of (world_of s deeds)) e (knows_all s (world_of s deeds))
 logs_decided s deeds e = ap log_of (world_more s deeds (Decides e)) ∙ engine_logs s e (world_of s deeds)
-
--- ---- the front freed stays
-
-no_landed : (s : Shape) (log : List Logged) (q : ℕ) (ps : List Placed) → AllByRecursion (λ p. holds_position s q p ≡ false) ps → list_any (λ p. has_landed log p && holds_position s q p) ps ≡ false
-no_landed s log q [] none = refl
-no_landed s log q (p ∷ ps) none = ap₂ (λ a b. a || b) (not_and (has_landed log p) (holds_position s q p) none.0) (no_landed s log q ps none.1)
-  where
-    not_and : (a b : Bool) → b ≡ false → (a && b) ≡ false
-    not_and true b e = e
-    not_and false b e = refl
-
-not_both : {X : Type 0} (b : Bool) → b ≡ true → b ≡ false → X
-not_both b e f = absurd cc
-
-given_none : (s : Shape) (log : List Logged) (q : ℕ) → IsUnplaced s log q → is_given_back s log q ≡ false
-given_none s log q none = go (is_given_back s log q) refl
-  where
-    go : (b : Bool) → is_given_back s log q ≡ b → b ≡ false
-    go true e = not_both (has_landed_at s log q) (given_landed s log q e) (no_landed s log q (placements log) none)
-    go false e = refl
-
-given_at_freed : (s : Shape) (log : List Logged) → IsUnplaced s log (taken log) → is_given_back s log (freed s log) ≡ false
-given_at_freed s log none = go (cases_order (freed s log) (taken log)) (least (is_given_back s log) (length (takes log)) (first_position log))
-  where
-    go : (freed s log ≡ taken log) ⊎ ((freed s log < taken log) ⊎ (taken log < freed s log)) → IsLeast (is_given_back s log) (length (takes log)) (first_position log) (freed s log)
-        → is_given_back s log (freed s log) ≡ false
-    go (inl same) is = ap (is_given_back s log) same ∙ given_none s log (taken log) none
-    go (inr (inl less)) is = is.missing less
-    go (inr (inr more)) is =
-        let within : freed s log ≤ first_position log + length (takes log) = is.within in
-        let beyond : first_position log + length (takes log) < freed s log = more in
-        absurd (omega arith)
-
-given_same : (s : Shape) (log : List Logged) (entry : Entry) (mark : Mark) (knows : List ℕ) (q : ℕ) → is_given_back s (with_take log entry mark knows) q ≡ is_given_back s log q
-given_same s log entry mark knows q =
-    any_same (gives_back s new q) (gives_back s log q) (gives_back_same s log new (alike log entry mark knows) q) (placements new)
-    ∙ ap (list_any (gives_back s log q)) (AreAlike.placements (alike log entry mark knows))
-  where
-    new : List Logged
-    new = with_take log entry mark knows
-
-pub freed_same : (s : Shape) (log : List Logged) (entry : Entry) (mark : Mark) (knows : List ℕ) (b : Begun) → begun log ≡ Some b → IsUnplaced s log (taken log)
-    → freed s (with_take log entry mark knows) ≡ freed s log
-freed_same s log entry mark knows b has none =
-    let from : first_position log ≤ freed s log = IsLeast.from (least (is_given_back s log) (length (takes log)) (first_position log)) in
-    let first : first_position (with_take log entry mark knows) ≡ first_position log = first_stays log (record { event = Did (Take entry mark); knows = knows }) b has in
-    freed_here s (with_take log entry mark knows) (freed s log) (subst (λ p. p ≤ freed s log) (sym first) from) (freed_taken s log entry mark knows b has)
-    (given_same s log entry mark knows (freed s log) ∙ given_at_freed s log none)
 
 -- ---- room
 
@@ -186,6 +129,7 @@ mount_taken v old new p q f e m is = record {
   stripe = m.stripe;
   granted = subst (λ n. v.granted + units v.shape * v.shape.ws_opt ≤ n + v.shape.ring) (sym freed_stays) m.granted;
   last = m.last;
+  room = room_stays;
 }
   where
     i : Image
@@ -228,6 +172,13 @@ mount_taken v old new p q f e m is = record {
 
     freed_stays : new.window.freed ≡ old.window.freed
     freed_stays = ap (λ x. x.freed) is.pushed
+
+    room_stays : room i (log_of (world_of v.shape (taken_deeds v e))) ≤ v.granted
+    room_stays =
+        let same : room i (log_of (world_of v.shape (taken_deeds v e))) ≡ room i (log_of w) =
+        ap (room i) logs ∙ room_taken i (log_of w) (entry_of e) (mark_of e) knows b begins is.legal.position (next_is_unplaced i w blank_before) in
+        let low : room i (log_of w) ≤ v.granted = m.room in
+        omega (arith, same, low)
 
     entries_are : new.window.entries ≡ old.window.entries ++ record { entry = e; progress = Waiting } ∷ []
     entries_are = ap (λ x. x.entries) is.pushed

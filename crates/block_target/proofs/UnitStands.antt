@@ -1,20 +1,24 @@
 -- A core that stands for a world stands for it with a step more of a unit.
-use Rattle.std.proofs.Common.{◌≡◌, ℕ, ◌+◌, ◌≤◌, Some, [], ◌∷◌, length, sym, subst, ap, ◌∙◌}
-use Rattle.std.specs.Prelude.{slice_get}
+use Rattle.std.proofs.Common.{◌≡◌, ℕ, ◌+◌, ◌≤◌, ◌^◌, ◌==◌, ◌&&◌, nat_lt, Some, [], ◌∷◌, length, sym, subst, ap, ◌∙◌}
+use Rattle.std.specs.Prelude.{slice_get, position}
 use Rattle.std.specs.List.{range_with_len}
+use Rattle.std.specs.Option.{is_some, option_map_or}
 use Rattle.pblk_model.specs.Image.{Image}
 use Rattle.pblk_model.specs.UnitLog.{UnitEvent}
 use Rattle.pblk_world.specs.Events.{Maker}
 use Rattle.pblk_world.specs.World.{World, Logs, log_of}
-use Rattle.pblk_world.specs.EngineLog.{begun, Opening, openings}
-use Rattle.pblk_world.specs.Fronts.{first_position, user_takes}
+use Rattle.pblk_world.specs.EngineLog.{Begun, begun, Opening, openings}
+use Rattle.pblk_world.specs.Fronts.{first_position, synced, waiting, user_takes}
 use Rattle.pblk_world.specs.Space.{freed, placed_front}
+use Rattle.line_table.specs.Rows.{is_free}
+use Rattle.stripe_placer.specs.Placing.{next_stripe}
 use Rattle.core_laws.specs.OpenedLines.{live_now, open_line}
 use Rattle.core_laws.specs.PlainWorlds.{IsPlainWorld, IsBlankWorld}
 use Rattle.core_laws.proofs.Lists.{map_same}
 use Rattle.step_laws.specs.Whole.{unit_step}
 use Rattle.step_laws.proofs.UnitSteps.{engine_log}
-use Rattle.step_laws.proofs.UnitStays.{rows_stay, older_stay, live_stays, line_stays, left_stay, slot_stays, window_stays, placing_stays, addresses_stay}
+use Rattle.step_laws.proofs.UnitStays.{rows_stay, lines_stay, older_stay, live_stays, line_stays, left_stay, slot_stays, window_stays, placing_stays, addresses_stay}
+use Rattle.pblk_core.specs.Named.{choice, work_of}
 use Rattle.pblk_core.specs.Stands.{Stands, AreHolds, AreOpenLines, IsOpenLine, left_openings, under_way, unlanded}
 use Rattle.pblk_core.specs.LineRecords.{AreOf}
 use Rattle.pblk_core.specs.declared.open_lines.OpenLine.{OpenLine}
@@ -75,3 +79,13 @@ module _ (i : Image) (w : World) (unit : ℕ) (e : UnitEvent) (maker : Maker) wh
     in_flight = st.in_flight ∙ ap (under_way i.shape) (sym engine);
     users = st.users ∙ ap (λ log. length (user_takes log)) (sym engine);
   }
+
+  -- what is to be done next is the same
+  pub work_beside : (pad : ℕ) → IsBlankWorld i w → work_of i after_ pad ≡ work_of i (log_of w) pad
+  work_beside pad blank = λ j. choice
+      (is_some (next_stripe (placing_stays i w unit e maker pad [] blank.plain j) 0))
+      (nat_lt 0 (length (waiting i.shape (engine j))) && (addresses_stay i w unit e maker j == 0))
+      (is_some (position is_free (rows_stay i w unit e maker blank.plain j).rows))
+      (nat_lt (length (lines_stay i w unit e maker blank.plain j)) 2
+      && (nat_lt (option_map_or (λ (b : Begun). b.beginning.seq) (begun (engine j)) 0 + length (openings (engine j))) (2 ^ 61) && nat_lt (synced i.shape (engine j)) (2 ^ 61)))
+      (nat_lt 0 (under_way i.shape (engine j)))

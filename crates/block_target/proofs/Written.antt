@@ -18,10 +18,14 @@ use Rattle.core_laws.proofs.Taking.{filter_last}
 use Rattle.landing_laws.proofs.Growing.{synced_grown}
 use Rattle.pblk_core.proofs.SmallPositions.{first_zero, taken_bounded}
 use Rattle.step_laws.specs.Whole.{knows_all}
+use Rattle.block_port.specs.declared.rows.WornAnswer.{WornAnswer}
 use Rattle.block_port.specs.Own.{PlacedSector, OwnWrite, placed_from, lines_of}
 use Rattle.block_port.specs.Port.{AreSectors, Learns, IsSameTarget, Rise}
-use Rattle.block_target.specs.Mount.{MountView, IsSound, IsSameMount, world_in, engine_log, taken_in, synced_in, next_entry, with_entry, with_entries}
+use Rattle.block_target.specs.Deeds.{Deed}
+use Rattle.block_target.specs.Mount.{MountView, IsSound, IsSameMount, IsStuckAt, logs_in, world_in, engine_log, taken_in, synced_in, next_entry, with_entry, with_entries}
+use Rattle.block_target.specs.NothingLeft.{IsWriteRefusal, AreRefusals}
 use Rattle.block_target.specs.Serial.{SerialView, IsSerial, lines_in, device}
+use Rattle.block_target.proofs.Refusals.{refusals_grown, entries_more, write_refused}
 use Rattle.block_target.proofs.TakenSectors.{log_taken, taken_more}
 
 -- ---- work that takes nothing
@@ -155,6 +159,16 @@ alone_write old new mid lba sectors place is serial first own =
     w : OwnWrite
     w = record { place = place; lba = lba; sectors = sectors }
 
+pub worns_write : (old new : SerialView) (mid : MountView) (lba : ℕ) (sectors : List (List ℕ)) → IsWrite old new mid lba sectors → IsSerial old → new.worns ≡ old.worns
+    → AreRefusals (blank new.mount.shape) (logs_in new.mount) new.worns
+worns_write old new mid lba sectors is serial worns =
+    let rest : (more : List Deed) × ((with_entries mid lba sectors).deeds ≡ mid.deeds ++ more) = entries_more mid lba sectors in
+    subst (λ (ws : List WornAnswer). AreRefusals (blank new.mount.shape) (logs_in new.mount) ws) (sym worns)
+    (refusals_grown old.mount new.mount (is.same.more ++ rest.0) old.worns is.was
+    (ap (λ (v : MountView). v.shape) is.mount ∙ shape_all mid lba sectors ∙ is.same.shape)
+    (ap (λ (v : MountView). v.deeds) is.mount ∙ rest.1 ∙ ap (λ (ds : List Deed). ds ++ rest.0) is.same.deeds ∙ append_assoc old.mount.deeds is.same.more rest.0)
+    serial.worns)
+
 -- ---- numbers
 
 pub count_is : (n size len : ℕ) → 0 < size → len ≡ n * size → len / size ≡ n
@@ -182,6 +196,22 @@ pub granted_room : (old mid : MountView) (first count n : ℕ) → IsSound old �
 granted_room old mid first count n was is same from long granted =
     let stays : taken_in mid ≡ taken_in old = taken_kept old mid was is same in
     omega arith
+
+-- ---- a write that is refused
+
+pub some_sectors : (v : MountView) (s : Shape) (len : ℕ) → IsSound v → s ≡ v.shape → AreSectors v.shape.sector len → 1 ≤ len / s.sector
+some_sectors v s len sound same sectors =
+    let n : len / v.shape.sector ≡ sectors.count = count_is sectors.count v.shape.sector len (sector_some v sound) sectors.whole in
+    let here : len / s.sector ≡ len / v.shape.sector = ap (λ (s : Shape). len / s.sector) same in
+    let some : 1 ≤ sectors.count = sectors.some in
+    omega arith
+
+pub write_cause : (old mid : MountView) (first count n have : ℕ) → IsSound old → IsSound mid → IsSameMount old mid → first ≡ taken_in old → count ≡ n → have ≡ mid.granted → IsStuckAt mid (first + count) have
+    → IsWriteRefusal (blank mid.shape) (logs_in mid) (length (engine_log mid)) n (first + count) have
+write_cause old mid first count n have was is same from long at stuck =
+    let stays : taken_in mid ≡ taken_in old = taken_kept old mid was is same in
+    let own : first + count ≡ taken_in mid + n = omega arith in
+    write_refused mid n (first + count) have stuck at own
 
 -- the same of equal views
 pub learns_at : (a b c d : SerialView) → a ≡ b → d ≡ c → Learns (device a) (device c) → Learns (device b) (device d)

@@ -1,4 +1,5 @@
 pub mod Begun
 pub mod Deeds
+pub mod NothingLeft
 pub mod Mount
 pub mod Serial

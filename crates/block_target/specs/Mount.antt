@@ -15,7 +15,8 @@ use Rattle.pblk_world.specs.Events.{Logged, Entry, Take}
 use Rattle.pblk_world.specs.World.{World, Logs, log_of, media}
 use Rattle.pblk_world.specs.EngineLog.{takes}
 use Rattle.pblk_world.specs.Fronts.{taken, synced, user_takes, history}
-use Rattle.pblk_world.specs.Space.{freed}
+use Rattle.pblk_world.specs.Space.{freed, room}
+use Rattle.pblk_world.specs.AtRest.{logs_at}
 use Rattle.core_laws.specs.PlacerOf.{unanswered_on}
 use Rattle.core_laws.specs.PlainWorlds.{IsBlankWorld}
 use Rattle.core_laws.specs.WindowOf.{users_below}
@@ -25,11 +26,10 @@ use Rattle.pblk_core.specs.Filling.{Filling}
 use Rattle.pblk_core.specs.Named.{pad_of, work_of}
 use Rattle.pblk_core.specs.Stands.{Stands}
 use Rattle.pblk_core.specs.declared.target_core.Core.{Core}
-use Rattle.pblk_core.specs.declared.work.Work.TheVariants as works
 use Rattle.pblk_core.specs.declared.work.Work.{Work}
-use Rattle.pblk_core.specs.declared.work.Why.{Why}
 use Rattle.look_laws.specs.SlotBlocks.{IsBlockOfSlot}
 use Rattle.block_target.specs.Deeds.{Deed, Decides, world_of}
+use Rattle.block_target.specs.NothingLeft.{HasNothingLeftAt}
 
 pub record MountView : Type 0 where
   -- the shape of the drive, on which nothing was written at the beginning
@@ -101,6 +101,8 @@ pub record IsMount (v : MountView) (c : Core) (p : PoolView) (filling : Filling)
   -- no grant passes the ring's end, less what is kept for collection, nor the last position
   pub granted : v.granted + units v.shape * v.shape.ws_opt ≤ c.window.freed + v.shape.ring
   pub last : v.granted < 2 ^ 61
+  -- and there is no room that isn't granted
+  pub room : room (blank v.shape) (logs_in v) ≤ v.granted
 
 -- Units of a drive of this shape, as many as it has, on which nothing was written, and which are armed with nothing.
 pub record IsNewUnit (s : Shape) (u : ModelUnit) : Type 0 where
@@ -149,16 +151,19 @@ abbrev pub with_entries : MountView → ℕ → List (List ℕ) → MountView
 with_entries v lba [] = v
 with_entries v lba (sector ∷ sectors) = with_entries (with_entry v lba sector) (lba + 1) sectors
 
--- what comes next, and nothing can be done
+-- what comes next
 abbrev pub work_in : MountView → Work
 work_in v = work_of (blank v.shape) (logs_in v) v.pad
 
-abbrev pub HasNoWork : MountView → Type 0
-HasNoWork v = (reason : Why) × (work_in v ≡ works.Nothing reason)
+-- There is nothing left to do, whatever the pad target up to the mount's own is, and no room that isn't granted.
+pub record IsSpent (v : MountView) : Type 0 where
+  pub nothing_left : (asked : ℕ) → asked ≤ v.pad
+      → HasNothingLeftAt (blank v.shape) (logs_in v) asked (length (engine_log v))
+  pub no_room : room (blank v.shape) (logs_at (length (engine_log v)) (logs_in v)) ≤ v.granted
 
--- a front that isn't reached, for want of work
+-- a front that isn't reached, with nothing left to do
 pub record IsStuckAt (v : MountView) (wanted have : ℕ) : Type 0 where
-  pub idle : HasNoWork v
+  pub spent : IsSpent v
   pub short : have < wanted
 
 -- a block that a sector's slot names, with what stands there

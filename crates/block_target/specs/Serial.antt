@@ -1,13 +1,20 @@
 -- A port for one session: what contracts see of it, and the device that it is.
-use Rattle.std.specs.Prelude.{ℕ, ◌^◌, ◌<◌, ◌≡◌, List, [], map, Some, Result, Ok, Err}
+use Rattle.std.specs.Prelude.{ℕ, ◌^◌, ◌<◌, ◌≡◌, ⊤, List, [], map, length, Some, Result, Ok, Err}
 use Rattle.std.specs.List.{flat_map}
+use Rattle.pblk_model.specs.declared.run.Front.{Front}
+use Rattle.pblk_model.specs.declared.run.Place.{Place}
 use Rattle.pblk_model.specs.Contents.{contents}
 use Rattle.pblk_model.specs.Image.{blank}
 use Rattle.pblk_world.specs.Fronts.{user_takes}
 use Rattle.block_port.specs.Own.{PlacedSector, OwnWrite, lines_of}
 use Rattle.block_port.specs.Port.{ModelPort}
+use Rattle.block_port.specs.declared.port.WriteErr.{WriteErr}
+use Rattle.block_port.specs.declared.port.WriteErr.TheVariants as write
+use Rattle.block_port.specs.declared.port.FlushErr.{FlushErr}
+use Rattle.block_port.specs.declared.port.FlushErr.TheVariants as flush
 use Rattle.block_port.specs.declared.rows.WornAnswer.{WornAnswer}
-use Rattle.block_target.specs.Mount.{MountView, engine_log, taken_in, synced_in, IsStuckAt}
+use Rattle.block_target.specs.Mount.{MountView, logs_in, engine_log, taken_in, synced_in}
+use Rattle.block_target.specs.NothingLeft.{IsFlushRefusal, IsWriteRefusal, AreRefusals}
 use Rattle.block_target.specs.declared.opening.SettleErr.{SettleErr}
 use Rattle.block_target.specs.declared.opening.SettleErr.TheVariants as settle
 
@@ -39,13 +46,30 @@ device s = record {
   footing = Some (record { shape = s.mount.shape; wear = s.mount.wear });
 }
 
--- the history is made of the session's own writes
+-- The history is made of the session's own writes, and each Worn had its cause.
 pub record IsSerial (s : SerialView) : Type 0 where
   pub alone : lines_in s.mount ≡ flat_map lines_of s.own
   pub small : s.seen < 2 ^ 63
+  pub worns : AreRefusals (blank s.mount.shape) (logs_in s.mount) s.worns
 
--- All that was taken is on the drive; or not all, where there is nothing more to do.
+-- Why a write of so many sectors answers Worn, and why a flush does: at the end of the engine's log, as the call leaves it,
+-- there is nothing left to do. `Drive` doesn't come, since no command fails or is stopped.
+abbrev pub WriteCause : MountView → ℕ → Result Place WriteErr → Type 0
+WriteCause v count (Ok place) = ⊤
+WriteCause v count (Err write.Range) = ⊤
+WriteCause v count (Err (write.Drive unit event)) = ⊥
+WriteCause v count (Err (write.Worn wanted have)) =
+    IsWriteRefusal (blank v.shape) (logs_in v) (length (engine_log v)) count wanted have
+
+abbrev pub FlushCause : MountView → Result Front FlushErr → Type 0
+FlushCause v (Ok front) = ⊤
+FlushCause v (Err (flush.Drive unit event)) = ⊥
+FlushCause v (Err (flush.Worn wanted have)) =
+    IsFlushRefusal (blank v.shape) (logs_in v) (length (engine_log v)) wanted have
+
+-- All that was taken is on the drive; or not all, where there is nothing left to do.
 abbrev pub Settles : Result Unit SettleErr → MountView → Type 0
 Settles (Ok x) v = synced_in v ≡ taken_in v
-Settles (Err (settle.Worn wanted have)) v = (wanted ≡ taken_in v) × (have ≡ synced_in v) × IsStuckAt v wanted have
+Settles (Err (settle.Worn wanted have)) v = (wanted ≡ taken_in v) × (have ≡ synced_in v)
+    × IsFlushRefusal (blank v.shape) (logs_in v) (length (engine_log v)) wanted have
 Settles (Err (settle.Drive unit event)) v = ⊥

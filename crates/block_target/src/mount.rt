@@ -13,7 +13,7 @@ ghost use Rattle.pblk_core.specs.Named.{pad_of};
 ghost use Rattle.pblk_core.specs.Stands.{Stands};
 ghost use Rattle.block_target.specs.Deeds.{Decides};
 ghost use Rattle.step_laws.specs.Whole.{first_beginning};
-ghost use Rattle.block_target.specs.Mount.{MountView, IsMount, IsSound, IsSameMount, AreNewUnits, IsStuckAt, HasNoWork, IsFetchable, with_entry, work_in, with_pad, taken_in, synced_in, front_taken, front_synced, latest};
+ghost use Rattle.block_target.specs.Mount.{MountView, IsMount, IsSound, IsSameMount, AreNewUnits, IsStuckAt, IsSpent, IsFetchable, with_entry, work_in, with_pad, taken_in, synced_in, front_taken, front_synced, latest};
 ghost use Rattle.pblk_core.specs.BlankDrives.{IsBlankFound};
 ghost use Rattle.pblk_core.specs.declared.work.Work.TheVariants as works;
 
@@ -192,7 +192,7 @@ impl<U: Unit> Mount<U> {
     /// Looks what comes next, and does it; false where there is nothing to do.
     fn pump(&mut self) -> bool
         ensures same { IsSameMount self.old self.new }
-        ensures rest { result ≡ false → (self.new ≡ self.old) × HasNoWork self.old }
+        ensures rest { result ≡ false → (self.new ≡ self.old) × IsSpent self.old }
     {
         match self.core.next_work() {
             Work::Program => self.program(),

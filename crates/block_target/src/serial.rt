@@ -1,13 +1,16 @@
 //! A target for one session.
-ghost use Rattle.std.specs.Prelude.{◌≡◌, ◌<◌, ◌≤◌, [], ◌∷◌, ◌++◌, map, length, max, slice_range, ◌↔◌, IsTrue, IfOk, IfErr, ◌+◌, ◌*◌, ◌^◌};
+ghost use Rattle.std.specs.Prelude.{ℕ, OnErr, IsErrOf, ◌≡◌, ◌<◌, ◌≤◌, [], ◌∷◌, ◌++◌, map, length, max, slice_range, ◌↔◌, IsTrue, IfOk, IfErr, ◌+◌, ◌*◌, ◌^◌};
 ghost use Rattle.pblk_model.specs.Accepted.{IsAccepted};
 ghost use Rattle.pblk_world.specs.Events.{Begin};
 ghost use Rattle.block_port.specs.Own.{sectors_of};
-ghost use Rattle.block_port.specs.Port.{IsPastEnd};
+ghost use Rattle.block_port.specs.Port.{AreSectors, IsPastEnd, IsSameTarget, Learns, IsWritten, IsSeen, AreShort, count_in};
+ghost use Rattle.block_port.specs.Port.{write_faults, write_worns, flush_faults, flush_worns};
+ghost use Rattle.pblk_model.specs.Image.{blank};
+ghost use Rattle.block_target.specs.NothingLeft.{IsRefusal, AreRefusals};
 ghost use Rattle.block_target.specs.Deeds.{Decides};
 ghost use Rattle.step_laws.specs.Whole.{first_beginning};
-ghost use Rattle.block_target.specs.Mount.{MountView, AreNewUnits, IsSameMount, IsSound, taken_in, latest, with_entries};
-ghost use Rattle.block_target.specs.Serial.{SerialView, Settles, device};
+ghost use Rattle.block_target.specs.Mount.{MountView, AreNewUnits, IsSameMount, IsSound, logs_in, taken_in, latest, with_entries};
+ghost use Rattle.block_target.specs.Serial.{SerialView, Settles, WriteCause, FlushCause, device};
 
 use crate::mount::Mount;
 use crate::opening::{OpenErr, Refused, SettleErr};
@@ -99,10 +102,12 @@ impl<U: Unit> Serial<U> {
     /// Brings all that was taken to the drive, and hands the units back.
     ///
     /// `Worn` comes where not all of it is there and nothing is left to do: `wanted` is the front taken, and `have`
-    /// the front synced. `Drive` doesn't come, since no command fails or is stopped.
+    /// the front synced. `Drive` doesn't come, since no command fails or is stopped. Each call that answered `Worn`
+    /// had its cause, at some length of the engine's log.
     pub fn close<R: Wait>(mut self, rt: &R) -> (Vec<U>, Result<(), SettleErr>)
         ensures { (v : MountView) × IsSameMount self.mount v × IsSound v
-            × (map U.model result.0.items ≡ v.units) × (map U.wear result.0.items ≡ v.wear) × Settles result.1 v }
+            × (map U.model result.0.items ≡ v.units) × (map U.wear result.0.items ≡ v.wear) × Settles result.1 v
+            × AreRefusals (blank v.shape) (logs_in v) self.worns }
     {
         self.mount.is_sound();
         let wanted = self.mount.front().position;
@@ -144,7 +149,9 @@ impl<U: Unit> Serial<U> {
         }
     }
 
+    // Notes a call that is refused for want of room.
     fn add_worn(&mut self, count: u32, wanted: u64, have: u64)
+        requires { (n : ℕ) × IsRefusal (blank self.old.mount.shape) (logs_in self.old.mount) n count wanted have }
         ensures { self.new ≡ record {
           mount = self.old.mount;
           seen = self.old.seen;
@@ -193,7 +200,25 @@ fn read_all<U: Unit>(mount: &mut Mount<U>, lba: u64, out: &mut [u8], count: u32,
 impl<U: Unit> Port for Serial<U> {
     ghost model = { device };
 
-    fn write<R: Wait>(&mut self, rt: &R, lba: u64, bytes: &[u8]) -> Result<Place, WriteErr> {
+    fn write<R: Wait>(&mut self, rt: &R, lba: u64, bytes: &[u8]) -> Result<Place, WriteErr>
+        requires sectors { AreSectors (device self.old).sector (length bytes.now) }
+        ensures cause { let count = count_in (device self.old) (length bytes.now) in
+            WriteCause self.new.mount count result }
+
+        // What each `Port` ensures.
+        ensures range { IsErrOf result WriteErr.Range ↔ IsPastEnd (device self.old) lba (length bytes.now) }
+        ensures untouched { IsErrOf result WriteErr.Range → device self.new ≡ device self.old }
+        ensures written { IfOk result (λ place. IsWritten lba bytes.now place (device self.old) (device self.new)) }
+        ensures refused_own { OnErr result ((device self.new).own ≡ (device self.old).own) }
+        ensures refused_seen { OnErr result ((device self.new).seen ≡ (device self.old).seen) }
+        ensures faults { (device self.new).faults ≡ (device self.old).faults ++ write_faults result }
+        ensures worns { let count = count_in (device self.old) (length bytes.now) in
+            (device self.new).worns ≡ (device self.old).worns ++ write_worns count result }
+        ensures short { let count = count_in (device self.old) (length bytes.now) in
+            AreShort (write_worns count result) }
+        ensures learns { Learns (device self.old) (device self.new) }
+        ensures target { IsSameTarget (device self.old) (device self.new) }
+    {
         if self.is_past_end(lba, bytes.len()) {
             return Err(WriteErr::Range);
         }
@@ -236,7 +261,20 @@ impl<U: Unit> Port for Serial<U> {
         Ok(front)
     }
 
-    fn flush<R: Wait>(&mut self, rt: &R) -> Result<Front, FlushErr> {
+    fn flush<R: Wait>(&mut self, rt: &R) -> Result<Front, FlushErr>
+        ensures cause { FlushCause self.new.mount result }
+
+        // What each `Port` ensures.
+        ensures front { IfOk result (λ front. IsSeen front (device self.old) (device self.new)) }
+        ensures flushed { IfOk result (λ front. front.position ≤ (device self.new).flushed) }
+        ensures refused_seen { OnErr result ((device self.new).seen ≡ (device self.old).seen) }
+        ensures own { (device self.new).own ≡ (device self.old).own }
+        ensures faults { (device self.new).faults ≡ (device self.old).faults ++ flush_faults result }
+        ensures worns { (device self.new).worns ≡ (device self.old).worns ++ flush_worns result }
+        ensures short { AreShort (flush_worns result) }
+        ensures learns { Learns (device self.old) (device self.new) }
+        ensures target { IsSameTarget (device self.old) (device self.new) }
+    {
         self.mount.is_sound();
         self.catch_up(rt);
         let wanted = self.mount.front().position;

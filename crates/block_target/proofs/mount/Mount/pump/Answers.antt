@@ -1,8 +1,9 @@
-use Rattle.std.proofs.Common.{sym, ap, ◌∙◌, refl}
+use Rattle.std.proofs.Common.{sym, subst, ap, ◌∙◌, refl}
 use Rattle.pblk_model.specs.Image.{blank}
 use Rattle.block_target.specs.Deeds.{world_of}
-use Rattle.block_target.specs.Mount.{work_in}
+use Rattle.block_target.specs.Mount.{IsSpent, work_in}
 use Rattle.block_target.proofs.PumpedOpen.{same_self}
+use Rattle.block_target.proofs.Spent.{spent}
 use Rattle.block_target.proofs.mount.Mount.pump.Goals as goal
 
 pub program-requires : goal.program-requires
@@ -21,9 +22,7 @@ returns-in-Nothing-clause-same g c = same_self c.args.self.now
 pub returns-in-Nothing-clause-rest : goal.returns-in-Nothing-clause-rest
 returns-in-Nothing-clause-rest g c = λ none. (
   refl,
-  (
-    c.in-Nothing.field-0,
-    ap work_in (sym c.self.view_is)
-        ∙ sym (c.next_work.ensures.work (blank c.self.inside.shape) (world_of c.self.inside.shape c.self.inside.deeds) c.self.invariant.sound.legal c.self.invariant.stands) ∙ c.in-Nothing.is,
-  ),
+  subst IsSpent c.self.view_is
+      (spent _ c.self.inside.core c.self.inside.pool c.self.inside.stripe c.in-Nothing.field-0 c.self.invariant
+      (sym (c.next_work.ensures.work (blank c.self.inside.shape) (world_of c.self.inside.shape c.self.inside.deeds) c.self.invariant.sound.legal c.self.invariant.stands) ∙ c.in-Nothing.is)),
 )

@@ -1,7 +1,11 @@
-use Rattle.std.proofs.Common.{ap, sym, subst, ◌∙◌}
-use Rattle.block_target.specs.Mount.{IsSameMount}
+use Rattle.std.proofs.Common.{List, ap, sym, subst, ◌∙◌}
+use Rattle.pblk_model.specs.Image.{blank}
+use Rattle.block_port.specs.declared.rows.WornAnswer.{WornAnswer}
+use Rattle.block_target.specs.NothingLeft.{AreRefusals}
+use Rattle.block_target.specs.Mount.{IsSameMount, logs_in}
 use Rattle.block_target.specs.Serial.{Settles}
-use Rattle.block_target.proofs.DeviceFronts.{all_synced, taken_same}
+use Rattle.block_target.proofs.DeviceFronts.{all_synced, all_taken, taken_same}
+use Rattle.block_target.proofs.Refusals.{refusals_grown, flush_refused}
 use Rattle.block_target.proofs.serial.Serial.close.Goals.{in-Ok, in-Err}
 use Rattle.block_target.proofs.serial.Serial.close.Goals as goal
 
@@ -17,7 +21,13 @@ returns g c =
       elim c.match-sync.branch [
         | in-Ok w ↦ subst (λ r. Settles r c.sync.new.self) (sym w.settled-is)
             (all_synced c.self.inside.mount c.sync.new.self w.in-Ok.field-0 c.front-wanted.result.position c.is_sound.ensures c.is_sound-2.ensures c.sync.ensures.same wanted w.in-Ok.ensures.synced.0 w.in-Ok.ensures.synced.1)
-        | in-Err w ↦ subst (λ r. Settles r c.sync.new.self) (sym w.settled-is)
-            (wanted ∙ sym (taken_same c.self.inside.mount c.sync.new.self c.is_sound.ensures c.is_sound-2.ensures c.sync.ensures.same), w.in-Err.ensures.stuck.0, w.in-Err.ensures.stuck.2)
+        | in-Err w ↦ subst (λ r. Settles r c.sync.new.self) (sym w.settled-is) (
+          wanted ∙ sym (taken_same c.self.inside.mount c.sync.new.self c.is_sound.ensures c.is_sound-2.ensures c.sync.ensures.same),
+          w.in-Err.ensures.stuck.0,
+          flush_refused c.sync.new.self c.front-wanted.result.position w.in-Err.have w.in-Err.ensures.stuck.2 w.in-Err.ensures.stuck.0 w.in-Err.ensures.stuck.1
+              (all_taken c.self.inside.mount c.sync.new.self c.front-wanted.result.position c.is_sound.ensures c.is_sound-2.ensures c.sync.ensures.same wanted),
+        )
       ],
+      subst (λ (ws : List WornAnswer). AreRefusals (blank c.sync.new.self.shape) (logs_in c.sync.new.self) ws) (ap (λ s. s.worns) c.self.view_is)
+          (refusals_grown c.self.inside.mount c.sync.new.self c.sync.ensures.same.more c.self.inside.worns c.is_sound.ensures c.sync.ensures.same.shape c.sync.ensures.same.deeds c.self.invariant.worns),
     )

@@ -1,11 +1,31 @@
-use Rattle.std.proofs.Common.{refl, ap, sym, subst}
+use Rattle.std.proofs.Common.{length, refl, ap, sym, subst}
 use Rattle.block_port.specs.Port.{Learns}
-use Rattle.block_target.specs.Serial.{device}
-use Rattle.block_target.proofs.DeviceFronts.{same_serial, synced_small, flush_front, learns_from}
+use Rattle.pblk_model.specs.Image.{blank}
+use Rattle.block_target.specs.NothingLeft.{IsFlushRefusal}
+use Rattle.block_target.specs.Mount.{logs_in, engine_log}
+use Rattle.block_target.specs.Serial.{SerialView, device}
+use Rattle.block_target.proofs.DeviceFronts.{same_serial, all_taken, synced_small, flush_front, learns_from}
+use Rattle.block_target.proofs.Refusals.{flush_refused}
 use Rattle.block_target.proofs.serial.SerialPort.flush.Goals as goal
 
 pub invariant_of-self : goal.invariant_of-self
-invariant_of-self g c = same_serial _ _ c.self.invariant c.sync-synced.ensures.same refl (synced_small c.sync-synced.new.self c.in-Ok.front c.is_sound-2.ensures c.in-Ok.ensures.synced.0)
+invariant_of-self g c = same_serial _ _ c.is_sound.ensures c.self.invariant c.sync-synced.ensures.same refl refl (synced_small c.sync-synced.new.self c.in-Ok.front c.is_sound-2.ensures c.in-Ok.ensures.synced.0)
+
+pub invariant_of-self-in-Err : goal.invariant_of-self-in-Err
+invariant_of-self-in-Err g c = same_serial _ _ c.is_sound.ensures c.self.invariant c.sync-synced.ensures.same refl refl c.self.invariant.small
+
+pub add_worn-requires : goal.add_worn-requires
+add_worn-requires g c =
+    let all = all_taken c.self.inside.mount c.sync-synced.new.self c.front-wanted.result.position c.is_sound.ensures c.is_sound-2.ensures c.sync-synced.ensures.same (ap (λ f. f.position) c.front-wanted.ensures) in (
+      length (engine_log c.sync-synced.new.self),
+      flush_refused c.sync-synced.new.self c.front-wanted.result.position c.in-Err.have c.in-Err.ensures.stuck.2 c.in-Err.ensures.stuck.0 c.in-Err.ensures.stuck.1 all,
+    )
+
+pub returns-in-Err-clause-cause : goal.returns-in-Err-clause-cause
+returns-in-Err-clause-cause g c =
+    let all = all_taken c.self.inside.mount c.sync-synced.new.self c.front-wanted.result.position c.is_sound.ensures c.is_sound-2.ensures c.sync-synced.ensures.same (ap (λ f. f.position) c.front-wanted.ensures) in
+    subst (λ (s : SerialView). IsFlushRefusal (blank s.mount.shape) (logs_in s.mount) (length (engine_log s.mount)) c.front-wanted.result.position c.in-Err.have) (sym c.add_worn.ensures)
+    (flush_refused c.sync-synced.new.self c.front-wanted.result.position c.in-Err.have c.in-Err.ensures.stuck.2 c.in-Err.ensures.stuck.0 c.in-Err.ensures.stuck.1 all)
 
 pub returns-in-Ok-clause-front : goal.returns-in-Ok-clause-front
 returns-in-Ok-clause-front g c =

@@ -4,7 +4,7 @@ use Rattle.block_target.proofs.ReadSectors.{read_words}
 use Rattle.block_target.proofs.serial.SerialPort.read.Goals as goal
 
 pub invariant_of-self : goal.invariant_of-self
-invariant_of-self g c = same_serial _ _ c.self.invariant c.read_all.ensures.same refl (taken_front_small c.self.inside.mount c.front-front.result c.is_sound.ensures c.front-front.ensures)
+invariant_of-self g c = same_serial _ _ c.is_sound.ensures c.self.invariant c.read_all.ensures.same refl refl (taken_front_small c.self.inside.mount c.front-front.result c.is_sound.ensures c.front-front.ensures)
 
 pub returns-clause-front : goal.returns-clause-front
 returns-clause-front g c =

@@ -1,11 +1,16 @@
-use Rattle.std.proofs.Common.{[], ◌∷◌, ◌++◌, ◌≡◌, ◌+◌, ◌/◌, ◌<◌, ◌^◌, refl, sym, subst, ap, arith, length}
+use Rattle.std.proofs.Common.{[], ◌∷◌, ◌++◌, ◌≡◌, ◌+◌, ◌/◌, ◌<◌, ◌^◌, ◌∙◌, refl, sym, subst, ap, arith, length}
 use Rattle.pblk_model.specs.declared.run.Front.{Front}
 use Rattle.pblk_model.specs.declared.run.Place.{Place}
+use Rattle.pblk_model.specs.declared.shape.Shape.{Shape}
+use Rattle.pblk_model.specs.Image.{blank}
 use Rattle.block_port.specs.Own.{sectors_of}
 use Rattle.block_port.specs.Port.{AreSectors}
-use Rattle.block_target.specs.Mount.{taken_in}
+use Rattle.block_target.specs.NothingLeft.{IsWriteRefusal}
+use Rattle.block_target.specs.Mount.{logs_in, engine_log, taken_in}
 use Rattle.block_target.specs.Serial.{SerialView}
-use Rattle.block_target.proofs.Written.{learns_none, learns_write, target_write, alone_write, end_low, granted_room, learns_at, target_at}
+use Rattle.block_target.proofs.DeviceFronts.{same_serial}
+use Rattle.block_target.proofs.Refusals.{refusal_of_write}
+use Rattle.block_target.proofs.Written.{some_sectors, write_cause, worns_write, learns_none, learns_write, target_write, alone_write, end_low, granted_room, learns_at, target_at}
 use Rattle.block_target.proofs.serial.SerialPort.write.Goals as goal
 
 pub overflow_add-wanted : goal.overflow_add-wanted
@@ -19,6 +24,30 @@ pub take_all-requires-clause-room : goal.take_all-requires-clause-room
 take_all-requires-clause-room g c =
     granted_room c.self.inside.mount c.claim-claimed.new.self c.front-first.result.position c.from.result (length c.args.bytes.now / c.shape.result.now.sector)
     c.is_sound.ensures c.is_sound-2.ensures c.claim-claimed.ensures.same (ap (λ (f : Front). f.position) c.front-first.ensures) c.from.ensures (c.in_default.ensures.granted refl)
+
+pub invariant_of-self : goal.invariant_of-self
+invariant_of-self g c = same_serial _ _ c.is_sound.ensures c.self.invariant c.claim-claimed.ensures.same refl refl c.self.invariant.small
+
+pub add_worn-requires : goal.add_worn-requires
+add_worn-requires g c =
+    let sectors : AreSectors c.self.inside.mount.shape.sector (length c.args.bytes.now) = subst (λ (s : SerialView). AreSectors s.mount.shape.sector (length c.args.bytes.now)) (sym c.self.view_is) c.requires.sectors in
+    let first : c.front-first.result.position ≡ taken_in c.self.inside.mount = ap (λ (f : Front). f.position) c.front-first.ensures in (
+      length (engine_log c.claim-claimed.new.self),
+      refusal_of_write (blank c.claim-claimed.new.self.shape) (logs_in c.claim-claimed.new.self) (length (engine_log c.claim-claimed.new.self)) (length c.args.bytes.now / c.shape.result.now.sector)
+          (c.front-first.result.position + c.from.result) c.in-Err.have (some_sectors c.self.inside.mount c.shape.result.now (length c.args.bytes.now) c.is_sound.ensures c.shape.ensures sectors)
+          (write_cause c.self.inside.mount c.claim-claimed.new.self c.front-first.result.position c.from.result (length c.args.bytes.now / c.shape.result.now.sector) c.in-Err.have
+          c.is_sound.ensures c.is_sound-2.ensures c.claim-claimed.ensures.same first c.from.ensures c.in-Err.ensures.stuck.0 c.in-Err.ensures.stuck.1),
+    )
+
+pub returns-in-Err-clause-cause : goal.returns-in-Err-clause-cause
+returns-in-Err-clause-cause g c =
+    let first : c.front-first.result.position ≡ taken_in c.self.inside.mount = ap (λ (f : Front). f.position) c.front-first.ensures in
+    let count : c.from.result ≡ length c.args.bytes.now / c.args.self.now.mount.shape.sector =
+    c.from.ensures ∙ ap (λ (s : Shape). length c.args.bytes.now / s.sector) (c.shape.ensures ∙ ap (λ (s : SerialView). s.mount.shape) c.self.view_is) in
+    subst (λ (s : SerialView). IsWriteRefusal (blank s.mount.shape) (logs_in s.mount) (length (engine_log s.mount)) (length c.args.bytes.now / c.args.self.now.mount.shape.sector) (c.front-first.result.position + c.from.result) c.in-Err.have)
+    (sym c.add_worn.ensures)
+    (write_cause c.self.inside.mount c.claim-claimed.new.self c.front-first.result.position c.from.result (length c.args.bytes.now / c.args.self.now.mount.shape.sector) c.in-Err.have
+    c.is_sound.ensures c.is_sound-2.ensures c.claim-claimed.ensures.same first count c.in-Err.ensures.stuck.0 c.in-Err.ensures.stuck.1)
 
 pub returns-in-Err-clause-learns : goal.returns-in-Err-clause-learns
 returns-in-Err-clause-learns g c =
@@ -42,6 +71,8 @@ invariant_of-self-2 g c =
       alone = alone_write was new c.claim-claimed.new.self c.args.lba (sectors_of c.shape.result.now.sector (length c.args.bytes.now / c.shape.result.now.sector) c.args.bytes.now) place
           (record { was = c.is_sound.ensures; between = c.is_sound-2.ensures; same = c.claim-claimed.ensures.same; mount = c.take_all.ensures }) c.self.invariant first c.add.ensures;
       small = end_low c.self.inside.mount c.shape.result.now c.front-first.result.position c.from.result (length c.args.bytes.now) c.is_sound.ensures first c.shape.ensures c.from.ensures sectors;
+      worns = worns_write was new c.claim-claimed.new.self c.args.lba (sectors_of c.shape.result.now.sector (length c.args.bytes.now / c.shape.result.now.sector) c.args.bytes.now)
+          (record { was = c.is_sound.ensures; between = c.is_sound-2.ensures; same = c.claim-claimed.ensures.same; mount = c.take_all.ensures }) c.self.invariant refl;
     }
 
 pub returns-clause-learns : goal.returns-clause-learns

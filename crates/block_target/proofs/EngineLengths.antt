@@ -1,0 +1,179 @@
+-- The logs at a length of the engine's: they stay as the world grows, and at the whole length they are those of the world
+-- as the engine's last event left it.
+use Rattle.std.proofs.Common.{◌≡◌, ℕ, ◌+◌, ◌-◌, ◌<◌, ◌≤◌, zero, suc, Some, None, Option, List, [], ◌∷◌, ◌++◌, length, take, refl, sym, ap, ap₂, ◌∙◌, arith, length-append, append_assoc}
+use Rattle.std.specs.Prelude.{slice_get}
+use Rattle.std.specs.List.{fold}
+use Rattle.std.proofs.Math.Seq.{take-length}
+use Rattle.std.proofs.lemmas.List.{take-append-le}
+use Rattle.pblk_model.specs.Image.{Image}
+use Rattle.pblk_model.specs.UnitLog.{UnitEvent}
+use Rattle.pblk_world.specs.Events.{EngineEvent, Landed, Maker, Logged}
+use Rattle.pblk_world.specs.World.{World, log_of, known}
+use Rattle.pblk_world.specs.Legal.{IsLegal}
+use Rattle.pblk_world.specs.AtRest.{knows_last, logs_at}
+use Rattle.pblk_world.specs.Space.{room}
+use Rattle.pblk_world.proofs.Growing.{grows}
+use Rattle.core_laws.specs.PlainWorlds.{IsBlankWorld}
+use Rattle.core_laws.proofs.Lists.{fun_same}
+use Rattle.media_laws.proofs.Steps.{log_here, log_elsewhere, blank_tail}
+use Rattle.placed_laws.specs.StripePrograms.{HasHappened}
+use Rattle.placed_laws.proofs.Happened.{happened}
+use Rattle.step_laws.specs.Whole.{engine_step, unit_step, next_maker}
+use Rattle.step_laws.proofs.Knowing.{known_whole}
+use Rattle.step_laws.proofs.UnitSteps.{engine_log}
+use Rattle.step_laws.proofs.UnitStays.{room_stays}
+use Rattle.pblk_core.specs.Named.{work_of}
+use Rattle.block_target.specs.Deeds.{Deed, Decides, Does, Lands, step_of, world_of, last_event}
+use Rattle.block_target.proofs.UnitStands.{work_beside}
+
+-- ---- lists
+
+got_front : {X : Type 0} (xs ys : List X) (k : ℕ) → k < length xs → slice_get (xs ++ ys) k ≡ slice_get xs k
+got_front [] ys k h = absurd (omega arith)
+got_front (x ∷ xs) ys zero h = refl
+got_front (x ∷ xs) ys (suc k) h = got_front xs ys k (omega arith)
+
+got_last : {X : Type 0} (xs : List X) (x : X) → slice_get (xs ++ x ∷ []) (length xs) ≡ Some x
+got_last [] x = refl
+got_last (y ∷ xs) x = got_last xs x
+
+-- ---- what the last event of a prefix knew is there
+
+last_within : (i : Image) (w : World) (n author : ℕ) → IsLegal i w → knows_last (slice_get (log_of w 0) n) author ≤ length (log_of w author)
+last_within i w n author legal = go (slice_get (log_of w 0) n) refl
+  where
+    go : (o : Option Logged) → slice_get (log_of w 0) n ≡ o → knows_last o author ≤ length (log_of w author)
+    go None e = omega arith
+    go (Some l) e = let is : HasHappened i (log_of w) 0 n l = happened i w 0 legal n l e in is.within author
+
+-- ---- a longer world
+
+pub same_lengths : (i : Image) (later w : World) (n : ℕ) → IsLegal i w → 0 < n → n ≤ length (log_of w 0) → logs_at n (log_of (later ++ w)) ≡ logs_at n (log_of w)
+same_lengths i later w n legal some within = fun_same (logs_at n (log_of (later ++ w))) (logs_at n (log_of w)) each
+  where
+    engine : (more : List Logged) × (log_of (later ++ w) 0 ≡ log_of w 0 ++ more)
+    engine = grows later w 0
+
+    last : slice_get (log_of (later ++ w) 0) (n - 1) ≡ slice_get (log_of w 0) (n - 1)
+    last = ap (λ (log : List Logged). slice_get log (n - 1)) engine.1 ∙ got_front (log_of w 0) engine.0 (n - 1) (omega arith)
+
+    each : (author : ℕ) → logs_at n (log_of (later ++ w)) author ≡ logs_at n (log_of w) author
+    each zero = ap (take n) engine.1 ∙ take-append-le n (log_of w 0) engine.0 within
+    each (suc unit) =
+        let more : (more : List Logged) × (log_of (later ++ w) (suc unit) ≡ log_of w (suc unit) ++ more) = grows later w (suc unit) in
+        ap₂ (λ (o : Option Logged) (log : List Logged). take (knows_last o (suc unit)) log) last more.1
+        ∙ take-append-le (knows_last (slice_get (log_of w 0) (n - 1)) (suc unit)) (log_of w (suc unit)) more.0 (last_within i w (n - 1) (suc unit) legal)
+
+pub no_shorter : (later w : World) (author : ℕ) → length (log_of w author) ≤ length (log_of (later ++ w) author)
+no_shorter later w author =
+    let more : (more : List Logged) × (log_of (later ++ w) author ≡ log_of w author ++ more) = grows later w author in
+    let long : length (log_of (later ++ w) author) ≡ length (log_of w author) + length more.0 = ap (λ (log : List Logged). length log) more.1 ∙ length-append (log_of w author) more.0 in
+    omega arith
+
+-- the world of what was done, as it was before the last things
+abbrev pub with_deeds : Image → World → List Deed → World
+with_deeds i w deeds = fold (λ (w : World) (d : Deed). step_of i.shape w d ∷ w) w deeds
+
+pub deeds_later : (i : Image) (w : World) (deeds : List Deed) → (later : World) × (with_deeds i w deeds ≡ later ++ w)
+deeds_later i w [] = ([], refl)
+deeds_later i w (d ∷ deeds) =
+    let rest : (later : World) × (with_deeds i (step_of i.shape w d ∷ w) deeds ≡ later ++ (step_of i.shape w d ∷ w)) = deeds_later i (step_of i.shape w d ∷ w) deeds in
+    (rest.0 ++ step_of i.shape w d ∷ [], rest.1 ∙ sym (append_assoc rest.0 (step_of i.shape w d ∷ []) w))
+
+pub blank_before : (i : Image) (w : World) (deeds : List Deed) → IsBlankWorld i (with_deeds i w deeds) → IsBlankWorld i w
+blank_before i w [] blank = blank
+blank_before i w (d ∷ deeds) blank = blank_tail i (step_of i.shape w d) w (blank_before i (step_of i.shape w d ∷ w) deeds blank)
+
+-- ---- as the engine's last event left the world
+
+-- The world as it was then: after it units alone made steps, which changed nothing of what is to be done.
+pub record IsLeft (i : Image) (w : World) : Type 0 where
+  pub left : World
+  pub legal : IsBlankWorld i left
+  pub own : log_of left 0 ≡ log_of w 0
+  pub logs : logs_at (length (log_of w 0)) (log_of w) ≡ log_of left
+  pub work : (pad : ℕ) → work_of i (log_of left) pad ≡ work_of i (log_of w) pad
+  pub room : room i (log_of left) ≡ room i (log_of w)
+
+none_left : (i : Image) → IsBlankWorld i [] → IsLeft i []
+none_left i blank = record {
+  left = [];
+  legal = blank;
+  own = refl;
+  logs = fun_same (logs_at 0 (log_of [])) (log_of []) each;
+  work = λ pad. refl;
+  room = refl;
+}
+  where
+    each : (author : ℕ) → logs_at 0 (log_of []) author ≡ log_of [] author
+    each zero = refl
+    each (suc unit) = refl
+
+engine_left : (i : Image) (w : World) (e : EngineEvent) → IsBlankWorld i (engine_step i.shape e w ∷ w) → IsLeft i (engine_step i.shape e w ∷ w)
+engine_left i w e blank = record {
+  left = next;
+  legal = blank;
+  own = refl;
+  logs = fun_same (logs_at (length (log_of next 0)) (log_of next)) (log_of next) each;
+  work = λ pad. refl;
+  room = refl;
+}
+  where
+    next : World
+    next = engine_step i.shape e w ∷ w
+
+    before : IsBlankWorld i w
+    before = blank_tail i (engine_step i.shape e w) w blank
+
+    log_now : log_of next 0 ≡ log_of w 0 ++ (engine_step i.shape e w).logged ∷ []
+    log_now = log_here (engine_step i.shape e w) w 0 refl
+
+    last : slice_get (log_of next 0) (length (log_of next 0) - 1) ≡ Some (engine_step i.shape e w).logged
+    last =
+        let long : length (log_of next 0) ≡ length (log_of w 0) + 1 = ap (λ (log : List Logged). length log) log_now ∙ length-append (log_of w 0) ((engine_step i.shape e w).logged ∷ []) in
+        let at : length (log_of next 0) - 1 ≡ length (log_of w 0) = omega arith in
+        ap₂ (λ (log : List Logged) k. slice_get log k) log_now at ∙ got_last (log_of w 0) (engine_step i.shape e w).logged
+
+    each : (author : ℕ) → logs_at (length (log_of next 0)) (log_of next) author ≡ log_of next author
+    each zero = take-length (log_of next 0)
+    each (suc unit) =
+        let still : log_of next (suc unit) ≡ log_of w (suc unit) = log_elsewhere (engine_step i.shape e w) w (suc unit) (λ same. let no : 0 ≡ suc unit = same in absurd (omega arith)) in
+        let all : known (engine_step i.shape e w).logged (suc unit) ≡ length (log_of w (suc unit)) = known_whole i w before.plain.legal (suc unit) in
+        ap (λ (o : Option Logged). take (knows_last o (suc unit)) (log_of next (suc unit))) last
+        ∙ ap₂ (λ k (log : List Logged). take k log) all still
+        ∙ take-length (log_of w (suc unit)) ∙ sym still
+
+unit_left : (i : Image) (w : World) (unit : ℕ) (e : UnitEvent) (maker : Maker) → IsBlankWorld i w → IsLeft i w → IsLeft i (unit_step i.shape unit e maker w ∷ w)
+unit_left i w unit e maker blank was = record {
+  left = was.left;
+  legal = was.legal;
+  own = was.own ∙ sym engine;
+  logs = ap (λ n. logs_at n (log_of next)) (ap (λ (log : List Logged). length log) engine) ∙ fun_same (logs_at (length (log_of w 0)) (log_of next)) (logs_at (length (log_of w 0)) (log_of w)) each ∙ was.logs;
+  work = λ pad. was.work pad ∙ sym (work_beside i w unit e maker pad blank);
+  room = was.room ∙ sym (room_stays i w unit e maker blank.plain);
+}
+  where
+    next : World
+    next = unit_step i.shape unit e maker w ∷ w
+
+    engine : log_of next 0 ≡ log_of w 0
+    engine = engine_log i.shape unit e maker w
+
+    each : (author : ℕ) → logs_at (length (log_of w 0)) (log_of next) author ≡ logs_at (length (log_of w 0)) (log_of w) author
+    each zero = ap (take (length (log_of w 0))) engine
+    each (suc u) =
+        let more : (more : List Logged) × (log_of next (suc u) ≡ log_of w (suc u) ++ more) = grows (unit_step i.shape unit e maker w ∷ []) w (suc u) in
+        ap₂ (λ (own log : List Logged). take (knows_last (slice_get own (length (log_of w 0) - 1)) (suc u)) log) engine more.1
+        ∙ take-append-le (knows_last (slice_get (log_of w 0) (length (log_of w 0) - 1)) (suc u)) (log_of w (suc u)) more.0 (last_within i w (length (log_of w 0) - 1) (suc u) blank.plain.legal)
+
+one_left : (i : Image) (w : World) (d : Deed) → IsBlankWorld i (step_of i.shape w d ∷ w) → IsLeft i w → IsLeft i (step_of i.shape w d ∷ w)
+one_left i w (Decides e) blank was = engine_left i w e blank
+one_left i w (Does unit e) blank was = unit_left i w unit e (next_maker w) (blank_tail i (unit_step i.shape unit e (next_maker w) w) w blank) was
+one_left i w (Lands unit) blank was = engine_left i w (Landed unit (last_event w unit)) blank
+
+all_left : (i : Image) (w : World) (deeds : List Deed) → IsBlankWorld i (with_deeds i w deeds) → IsLeft i w → IsLeft i (with_deeds i w deeds)
+all_left i w [] blank was = was
+all_left i w (d ∷ deeds) blank was = all_left i (step_of i.shape w d ∷ w) deeds blank (one_left i w d (blank_before i (step_of i.shape w d ∷ w) deeds blank) was)
+
+pub deeds_left : (i : Image) (deeds : List Deed) → IsBlankWorld i (world_of i.shape deeds) → IsLeft i (world_of i.shape deeds)
+deeds_left i deeds blank = all_left i [] deeds blank (none_left i (blank_before i [] deeds blank))

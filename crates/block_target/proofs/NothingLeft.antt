@@ -1,0 +1,138 @@
+-- Where the logs name no work, and no stripe is under way, there is nothing left to do.
+use Rattle.std.proofs.Common.{◌≡◌, ◌⊎◌, inl, inr, ℕ, ◌+◌, ◌<◌, ◌≤◌, ◌^◌, ◌==◌, ◌&&◌, nat_lt, Bool, true, false, Some, None, Option, [], length, refl, sym, ap, ap₂, ◌∙◌, arith}
+use Rattle.std.specs.Prelude.{slice_get, position}
+use Rattle.std.specs.List.{Contains}
+use Rattle.std.specs.Option.{is_some, option_map_or}
+use Rattle.std.proofs.lemmas.Bool.{cases_order}
+use Rattle.std.proofs.lemmas.List.{length-map}
+use Rattle.pblk_model.specs.Image.{Image, line_units}
+use Rattle.pblk_model.specs.Shape.{units}
+use Rattle.pblk_model.specs.StartRecord.{StartRecord}
+use Rattle.pblk_world.specs.Events.{Stripe}
+use Rattle.pblk_world.specs.World.{World, log_of}
+use Rattle.pblk_world.specs.EngineLog.{Begun, begun, Opening, openings, Opened, life_of, Placed, placements, is_answered}
+use Rattle.pblk_world.specs.Fronts.{synced, waiting}
+use Rattle.pblk_world.specs.Lines.{known_image, is_free_line, has_stripe_left}
+use Rattle.pblk_world.specs.Opening.{MayOpen}
+use Rattle.pblk_world.specs.Space.{open_addresses}
+use Rattle.pblk_world.specs.AtRest.{IsDue}
+use Rattle.line_table.specs.Rows.{is_free}
+use Rattle.stripe_placer.specs.OpenLines.{has_left}
+use Rattle.stripe_placer.specs.Placing.{next_stripe}
+use Rattle.stripe_placer.specs.Placing.UnitRow.{Idle}
+use Rattle.core_laws.specs.OpenedLines.{open_line, open_lines, standing}
+use Rattle.core_laws.specs.PlacerOf.{placing_of, row_in, unanswered_on, waits_again}
+use Rattle.core_laws.specs.PlainWorlds.{IsBlankWorld}
+use Rattle.core_laws.specs.RowsOf.{rows_of}
+use Rattle.core_laws.proofs.Lists.{all_at}
+use Rattle.core_laws.proofs.Placing.{is_below}
+use Rattle.core_laws.proofs.Turns.{filtered_is}
+use Rattle.line_laws.proofs.NextLine.{none_free}
+use Rattle.media_laws.proofs.Standing.{opened_range}
+use Rattle.placed_laws.specs.LeftOpenings.{left_openings}
+use Rattle.placed_laws.proofs.KnownChunks.{got_within}
+use Rattle.placed_laws.proofs.LeftLines.{lines_of_left, left_opened, left_apart}
+use Rattle.placed_laws.proofs.TwoLines.{chunks_left}
+use Rattle.placing_laws.proofs.Due.{none_due, idle_answered}
+use Rattle.placing_laws.proofs.Followed.{follow}
+use Rattle.placing_laws.proofs.Idle.{row_there}
+use Rattle.pblk_core.specs.Named.{choice, work_of, first_seq_of}
+use Rattle.pblk_core.specs.declared.work.Work.TheVariants as works
+use Rattle.pblk_core.specs.declared.work.Why.{Why}
+use Rattle.block_target.specs.NothingLeft.{HasNothingLeft}
+
+-- ---- what is chosen
+
+not_chosen : (has_stripe asks_line has_free may_open in_flight : Bool) (reason : Why) → choice has_stripe asks_line has_free may_open in_flight ≡ works.Nothing reason
+    → (has_stripe ≡ false) × (asks_line ≡ true → (has_free ≡ false) ⊎ (may_open ≡ false))
+not_chosen true a h m f reason e = absurd cc
+not_chosen false false h m f reason e = (refl, λ asks. absurd cc)
+not_chosen false true false m f reason e = (refl, λ asks. inl refl)
+not_chosen false true true false f reason e = (refl, λ asks. inr refl)
+not_chosen false true true true f reason e = absurd cc
+
+none_there : {X : Type 0} (o : Option X) → is_some o ≡ false → o ≡ None
+none_there None e = refl
+none_there (Some x) e = absurd cc
+
+true_false : (b : Bool) → b ≡ true → b ≡ false → ⊥
+true_false b e f = absurd cc
+
+module _ (i : Image) (w : World) (pad : ℕ) (reason : Why) (legal : IsBlankWorld i w) (idle : (unit : ℕ) → unanswered_on (log_of w 0) unit ≡ None) (none : work_of i (log_of w) pad ≡ works.Nothing reason) where
+  chosen : (is_some (next_stripe (placing_of i (log_of w) pad []) 0) ≡ false)
+      × ((nat_lt 0 (length (waiting i.shape (log_of w 0))) && (open_addresses i (log_of w) == 0)) ≡ true → (is_some (position is_free (rows_of i (log_of w)).rows) ≡ false)
+      ⊎ ((nat_lt (length (open_lines i (log_of w))) 2 && (nat_lt (first_seq_of (log_of w) + length (openings (log_of w 0))) (2 ^ 61) && nat_lt (synced i.shape (log_of w 0)) (2 ^ 61))) ≡ false))
+  chosen = not_chosen _ _ _ _ _ reason none
+
+  row_idle : (unit : ℕ) → unit < units i.shape → slice_get (placing_of i (log_of w) pad []).units unit ≡ Some Idle
+  row_idle unit inside =
+      row_there i (log_of w) unit inside
+      ∙ ap (λ (o : Option Placed). Some (option_map_or (λ (p : Placed). row_in i (log_of w) (waits_again (log_of w 0) [] unit) p.life p) o Idle)) (idle unit)
+
+  answered : (p : Placed) → Contains (placements (log_of w 0)) p → is_answered (log_of w 0) p ≡ true
+  answered p there = idle_answered i (line_units (known_image i (log_of w))) w pad p (follow i w legal.plain) row_idle there
+
+  none_due_now : (asked : ℕ) (stripe : Stripe) → asked ≤ pad → ¬ IsDue i (log_of w) asked stripe
+  none_due_now asked stripe within =
+      none_due i (line_units (known_image i (log_of w))) w pad asked stripe (follow i w legal.plain) (none_there (next_stripe (placing_of i (log_of w) pad []) 0) chosen.0) answered within
+
+  -- where a line may be opened, at most one has a stripe left
+  one_line : (b : Begun) (line : ℕ) (start : StartRecord) → MayOpen i (log_of w) b line start → length (open_lines i (log_of w)) < 2
+  one_line b line start may = go (cases_order (length (left_openings i (log_of w))) 1)
+    where
+      count : length (open_lines i (log_of w)) ≡ length (left_openings i (log_of w))
+      count = ap length (lines_of_left i (log_of w)) ∙ length-map (left_openings i (log_of w)) (open_line i (log_of w))
+
+      opened_at : (k : ℕ) (o : Opening) → slice_get (left_openings i (log_of w)) k ≡ Some o → life_of (log_of w 0) o.line ≡ Opened o
+      opened_at k o e = all_at (λ (o : Opening). life_of (log_of w 0) o.line ≡ Opened o) (left_openings i (log_of w)) k o e (left_opened i (log_of w))
+
+      left_at : (k : ℕ) (o : Opening) → slice_get (left_openings i (log_of w)) k ≡ Some o → has_left (open_line i (log_of w) o) ≡ true
+      left_at k o e = filtered_is (λ o. has_left (open_line i (log_of w) o)) (standing (log_of w 0)) k o e
+
+      has_at : (k : ℕ) (o : Opening) → slice_get (left_openings i (log_of w)) k ≡ Some o → has_stripe_left i (log_of w) o.line ≡ true
+      has_at k o e = chunks_left i w o.line o legal.plain (opened_at k o e) (left_at k o e)
+
+      two : (a c : Opening) → slice_get (left_openings i (log_of w)) 0 ≡ Some a → slice_get (left_openings i (log_of w)) 1 ≡ Some c → ⊥
+      two a c e f =
+          let one : a.line ≡ c.line = may.one_other a.line c.line (opened_range i w a.line a legal (opened_at 0 a e)) (opened_range i w c.line c legal (opened_at 1 c f)) (has_at 0 a e) (has_at 1 c f) in
+          let same : 0 ≡ 1 = left_apart i (log_of w) 0 1 a c e f one in
+          absurd (omega (arith, same))
+
+      go : (length (left_openings i (log_of w)) ≡ 1) ⊎ ((length (left_openings i (log_of w)) < 1) ⊎ (1 < length (left_openings i (log_of w)))) → length (open_lines i (log_of w)) < 2
+      go (inl same) = omega (arith, count, same)
+      go (inr (inl few)) = omega (arith, count, few)
+      go (inr (inr many)) =
+          let a : (o : Opening) × (slice_get (left_openings i (log_of w)) 0 ≡ Some o) = got_within (left_openings i (log_of w)) 0 (omega (arith, many)) in
+          let c : (o : Opening) × (slice_get (left_openings i (log_of w)) 1 ≡ Some o) = got_within (left_openings i (log_of w)) 1 many in
+          absurd (two a.0 c.0 a.1 c.1)
+
+  none_opened : (b : Begun) (line : ℕ) (start : StartRecord) → begun (log_of w 0) ≡ Some b → 0 < length (waiting i.shape (log_of w 0)) → open_addresses i (log_of w) ≡ 0 → ¬ MayOpen i (log_of w) b line start
+  none_opened b line start has waits full may = go (chosen.1 asks)
+    where
+      asks : (nat_lt 0 (length (waiting i.shape (log_of w 0))) && (open_addresses i (log_of w) == 0)) ≡ true
+      asks = ap₂ (λ x n. x && (n == 0)) (is_below 0 (length (waiting i.shape (log_of w 0))) waits) full
+
+      seq : first_seq_of (log_of w) + length (openings (log_of w 0)) ≡ start.seq
+      seq = ap (λ (o : Option Begun). option_map_or (λ (x : Begun). x.beginning.seq) o 0 + length (openings (log_of w 0))) has ∙ sym may.seq
+
+      low : first_seq_of (log_of w) + length (openings (log_of w 0)) < 2 ^ 61
+      low = let number : start.seq < 2 ^ 61 = may.seq_number in omega (arith, seq, number)
+
+      front : synced i.shape (log_of w 0) < 2 ^ 61
+      front = let number : start.front < 2 ^ 61 = may.front_number in let is : start.front ≡ synced i.shape (log_of w 0) = may.front in omega (arith, is, number)
+
+      opens : (nat_lt (length (open_lines i (log_of w))) 2 && (nat_lt (first_seq_of (log_of w) + length (openings (log_of w 0))) (2 ^ 61) && nat_lt (synced i.shape (log_of w 0)) (2 ^ 61))) ≡ true
+      opens = ap₂ (λ x y. x && y) (is_below (length (open_lines i (log_of w))) 2 (one_line b line start may))
+          (ap₂ (λ x y. x && y) (is_below (first_seq_of (log_of w) + length (openings (log_of w 0))) (2 ^ 61) low) (is_below (synced i.shape (log_of w 0)) (2 ^ 61) front))
+
+      go : (is_some (position is_free (rows_of i (log_of w)).rows) ≡ false)
+          ⊎ ((nat_lt (length (open_lines i (log_of w))) 2 && (nat_lt (first_seq_of (log_of w) + length (openings (log_of w 0))) (2 ^ 61) && nat_lt (synced i.shape (log_of w 0)) (2 ^ 61))) ≡ false) → ⊥
+      go (inl no_free) = true_false (is_free_line i (log_of w) line) may.is_free (none_free i (log_of w) line (none_there (position is_free (rows_of i (log_of w)).rows) no_free) may.in_range)
+      go (inr not_open) = true_false _ opens not_open
+
+  pub nothing_left : (asked : ℕ) → asked ≤ pad → HasNothingLeft i (log_of w) asked
+  nothing_left asked within = record {
+    stripes = answered;
+    no_program = λ stripe. none_due_now asked stripe within;
+    no_opening = none_opened;
+  }

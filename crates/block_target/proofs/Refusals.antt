@@ -1,0 +1,106 @@
+-- What is refused where there is nothing left to do, and that it stays so as the world grows.
+use Rattle.std.proofs.Common.{◌≡◌, ℕ, ◌+◌, ◌≤◌, zero, suc, List, [], ◌∷◌, ◌++◌, length, sym, subst, ap, ◌∙◌, arith, le_trans, append-nil, append_assoc}
+use Rattle.std.proofs.lemmas.List.Sums.{fold-append}
+use Rattle.std.proofs.Math.Seq.{take-length}
+use Rattle.pblk_model.specs.declared.shape.Shape.{Shape}
+use Rattle.pblk_model.specs.Image.{Image, blank}
+use Rattle.pblk_model.specs.Marks.{sector_mark}
+use Rattle.pblk_world.specs.Events.{Take, Logged}
+use Rattle.pblk_world.specs.World.{World, Logs, log_of}
+use Rattle.pblk_world.specs.Fronts.{taken, synced}
+use Rattle.pblk_world.specs.Legal.{IsLegal}
+use Rattle.pblk_world.specs.Space.{room}
+use Rattle.pblk_world.specs.AtRest.{logs_at}
+use Rattle.block_port.specs.declared.rows.WornAnswer.{WornAnswer}
+use Rattle.block_target.specs.Deeds.{Deed, Decides, step_of, world_of}
+use Rattle.block_target.specs.NothingLeft.{HasNothingLeft, HasNothingLeftAt, IsFlushRefusal, IsWriteRefusal, IsRefusal, AreRefusals}
+use Rattle.block_target.specs.Mount.{MountView, IsSound, IsStuckAt, logs_in, engine_log, taken_in, synced_in, next_entry, with_entry, with_entries}
+use Rattle.block_target.proofs.EngineLengths.{same_lengths, no_shorter, with_deeds, deeds_later}
+
+-- ---- one refusal
+
+module _ (i : Image) (later w : World) (n : ℕ) (legal : IsLegal i w) where
+  same : (asked : ℕ) → HasNothingLeftAt i (log_of w) asked n → logs_at n (log_of (later ++ w)) ≡ logs_at n (log_of w)
+  same asked at = same_lengths i later w n legal at.has_begun at.within
+
+  nothing_left_later : (asked : ℕ) → HasNothingLeftAt i (log_of w) asked n → HasNothingLeftAt i (log_of (later ++ w)) asked n
+  nothing_left_later asked at = record {
+    has_begun = at.has_begun;
+    within = le_trans at.within (no_shorter later w 0);
+    nothing_left = subst (λ (logs : Logs). HasNothingLeft i logs asked) (sym (same asked at)) at.nothing_left;
+  }
+
+  flush_later : (wanted have : ℕ) → IsFlushRefusal i (log_of w) n wanted have → IsFlushRefusal i (log_of (later ++ w)) n wanted have
+  flush_later wanted have is = record {
+    nothing_left = nothing_left_later wanted is.nothing_left;
+    above = is.above;
+    is_synced = is.is_synced ∙ ap (λ (logs : Logs). synced i.shape (logs 0)) (sym (same wanted is.nothing_left));
+    all_taken = subst (λ (logs : Logs). wanted ≤ taken (logs 0)) (sym (same wanted is.nothing_left)) is.all_taken;
+  }
+
+  write_later : (count wanted have : ℕ) → IsWriteRefusal i (log_of w) n count wanted have → IsWriteRefusal i (log_of (later ++ w)) n count wanted have
+  write_later count wanted have is = record {
+    nothing_left = nothing_left_later 0 is.nothing_left;
+    above = is.above;
+    room = subst (λ (logs : Logs). room i logs ≤ have) (sym (same 0 is.nothing_left)) is.room;
+    own_count = is.own_count ∙ ap (λ (logs : Logs). taken (logs 0) + count) (sym (same 0 is.nothing_left));
+  }
+
+  refusal_later : (count wanted have : ℕ) → IsRefusal i (log_of w) n count wanted have → IsRefusal i (log_of (later ++ w)) n count wanted have
+  refusal_later zero wanted have is = flush_later wanted have is
+  refusal_later (suc others) wanted have is = write_later (suc others) wanted have is
+
+-- ---- all of them
+
+refusals_later : (i : Image) (later w : World) (worns : List WornAnswer) → IsLegal i w → AreRefusals i (log_of w) worns → AreRefusals i (log_of (later ++ w)) worns
+refusals_later i later w [] legal are = tt
+refusals_later i later w (a ∷ worns) legal are = ((are.0.0, refusal_later i later w are.0.0 legal a.count a.wanted a.have are.0.1), refusals_later i later w worns legal are.1)
+
+refusals_with : (s : Shape) (deeds more : List Deed) (worns : List WornAnswer) → IsLegal (blank s) (world_of s deeds) → AreRefusals (blank s) (log_of (world_of s deeds)) worns
+    → AreRefusals (blank s) (log_of (world_of s (deeds ++ more))) worns
+refusals_with s deeds more worns legal are =
+    let later : (later : World) × (with_deeds (blank s) (world_of s deeds) more ≡ later ++ world_of s deeds) = deeds_later (blank s) (world_of s deeds) more in
+    subst (λ (w : World). AreRefusals (blank s) (log_of w) worns)
+    (sym (fold-append (λ (w : World) (d : Deed). step_of s w d ∷ w) [] deeds more ∙ later.1))
+    (refusals_later (blank s) later.0 (world_of s deeds) worns legal are)
+
+-- by what was done since
+pub refusals_grown : (old new : MountView) (more : List Deed) (worns : List WornAnswer) → IsSound old → new.shape ≡ old.shape → new.deeds ≡ old.deeds ++ more
+    → AreRefusals (blank old.shape) (logs_in old) worns → AreRefusals (blank new.shape) (logs_in new) worns
+refusals_grown old new more worns sound shape deeds are =
+    subst (λ (s : Shape). AreRefusals (blank s) (log_of (world_of s new.deeds)) worns) (sym shape)
+    (subst (λ (ds : List Deed). AreRefusals (blank old.shape) (log_of (world_of old.shape ds)) worns) (sym deeds)
+    (refusals_with old.shape old.deeds more worns sound.legal.plain.legal are))
+
+-- once sectors are taken
+pub entries_more : (v : MountView) (lba : ℕ) (sectors : List (List ℕ)) → (more : List Deed) × ((with_entries v lba sectors).deeds ≡ v.deeds ++ more)
+entries_more v lba [] = ([], sym (append-nil v.deeds))
+entries_more v lba (sector ∷ sectors) =
+    let one : List Deed = Decides (Take (next_entry v lba sector) (sector_mark lba (taken_in v))) ∷ [] in
+    let rest : (more : List Deed) × ((with_entries (with_entry v lba sector) (lba + 1) sectors).deeds ≡ (v.deeds ++ one) ++ more) = entries_more (with_entry v lba sector) (lba + 1) sectors in
+    (one ++ rest.0, rest.1 ∙ append_assoc v.deeds one rest.0)
+
+-- ---- what is refused
+
+pub flush_refused : (v : MountView) (wanted have : ℕ) → IsStuckAt v wanted have → have ≡ synced_in v → wanted ≤ v.pad → wanted ≤ taken_in v
+    → IsFlushRefusal (blank v.shape) (logs_in v) (length (engine_log v)) wanted have
+flush_refused v wanted have stuck at padded low = record {
+  nothing_left = stuck.spent.nothing_left wanted padded;
+  above = stuck.short;
+  is_synced = at ∙ ap (synced v.shape) (sym (take-length (engine_log v)));
+  all_taken = subst (λ (log : List Logged). wanted ≤ taken log) (sym (take-length (engine_log v))) low;
+}
+
+pub write_refused : (v : MountView) (count wanted have : ℕ) → IsStuckAt v wanted have → have ≡ v.granted → wanted ≡ taken_in v + count
+    → IsWriteRefusal (blank v.shape) (logs_in v) (length (engine_log v)) count wanted have
+write_refused v count wanted have stuck at own = record {
+  nothing_left = stuck.spent.nothing_left 0 (omega arith);
+  above = stuck.short;
+  room = subst (λ n. room (blank v.shape) (logs_at (length (engine_log v)) (logs_in v)) ≤ n) (sym at) stuck.spent.no_room;
+  own_count = own ∙ ap (λ (log : List Logged). taken log + count) (sym (take-length (engine_log v)));
+}
+
+-- a write is of one sector at least
+pub refusal_of_write : (i : Image) (logs : Logs) (n count wanted have : ℕ) → 1 ≤ count → IsWriteRefusal i logs n count wanted have → IsRefusal i logs n count wanted have
+refusal_of_write i logs n zero wanted have some is = absurd (omega arith)
+refusal_of_write i logs n (suc others) wanted have some is = is

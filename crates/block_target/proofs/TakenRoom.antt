@@ -1,0 +1,113 @@
+-- An entry that is taken leaves the front freed, and as much room as there was.
+use Rattle.std.proofs.Common.{◌≡◌, ◌⊎◌, inl, inr, ℕ, ◌+◌, ◌-◌, ◌*◌, ◌/◌, ◌^◌, ◌<◌, ◌≤◌, ◌&&◌, ◌||◌, not, nat_lt, min, max, Bool, true, false, length, arith, Some, List, [], ◌∷◌, refl, sym, subst, ap, ap₂, ◌∙◌, if◌then◌else◌}
+use Rattle.std.specs.List.{AllByRecursion, list_any, range_with_len}
+use Rattle.std.specs.Option.{is_some}
+use Rattle.std.proofs.lemmas.Bool.{cases_order}
+use Rattle.pblk_model.specs.declared.shape.Shape.{Shape}
+use Rattle.pblk_model.specs.declared.chunk.Mark.{Mark}
+use Rattle.pblk_model.specs.Image.{Image}
+use Rattle.pblk_model.specs.Shape.{units}
+use Rattle.pblk_model.specs.StartRecord.{start_of}
+use Rattle.pblk_world.specs.Events.{Entry, Take, Logged, Decides as Did}
+use Rattle.pblk_world.specs.World.{Logs}
+use Rattle.pblk_world.specs.EngineLog.{Begun, begun, LineLife, AsFound, Opened, Freed, life_of, Placed, takes, placements, has_landed, holds_position}
+use Rattle.pblk_world.specs.Fronts.{first_position, taken, has_landed_at}
+use Rattle.pblk_world.specs.Lines.{known_image, are_empty, line_data, has_number, is_free_line}
+use Rattle.pblk_world.specs.Space.{full_data, open_addresses, free_addresses, placed_front, freed, gives_back, room}
+use Rattle.core_laws.specs.Positions.{IsUnplaced}
+use Rattle.core_laws.specs.Stepping.{after}
+use Rattle.core_laws.specs.WindowOf.{is_given_back}
+use Rattle.core_laws.proofs.Numbering.{first_stays}
+use Rattle.core_laws.proofs.Steady.{AreAlike}
+use Rattle.core_laws.proofs.TakenSlots.{gives_back_same, any_same}
+use Rattle.core_laws.proofs.Taking.{alike, with_take}
+use Rattle.landing_laws.proofs.FreedFront.{freed_here}
+use Rattle.landing_laws.proofs.Growing.{given_landed}
+use Rattle.landing_laws.proofs.Least.{IsLeast, least}
+use Rattle.line_laws.proofs.Kept.{lives_kept}
+use Rattle.line_laws.proofs.KeptRows.{found_kept, known_kept}
+use Rattle.line_laws.proofs.OpenAddresses.{addresses_kept}
+use Rattle.line_laws.proofs.PlacedFront.{front_taken}
+use Rattle.line_laws.proofs.Ranges.{sum_same}
+use Rattle.pblk_core.proofs.StandsTaken.{freed_taken}
+
+-- ---- the front freed stays
+
+no_landed : (s : Shape) (log : List Logged) (q : ℕ) (ps : List Placed) → AllByRecursion (λ p. holds_position s q p ≡ false) ps → list_any (λ p. has_landed log p && holds_position s q p) ps ≡ false
+no_landed s log q [] none = refl
+no_landed s log q (p ∷ ps) none = ap₂ (λ a b. a || b) (not_and (has_landed log p) (holds_position s q p) none.0) (no_landed s log q ps none.1)
+  where
+    not_and : (a b : Bool) → b ≡ false → (a && b) ≡ false
+    not_and true b e = e
+    not_and false b e = refl
+
+not_both : {X : Type 0} (b : Bool) → b ≡ true → b ≡ false → X
+not_both b e f = absurd cc
+
+given_none : (s : Shape) (log : List Logged) (q : ℕ) → IsUnplaced s log q → is_given_back s log q ≡ false
+given_none s log q none = go (is_given_back s log q) refl
+  where
+    go : (b : Bool) → is_given_back s log q ≡ b → b ≡ false
+    go true e = not_both (has_landed_at s log q) (given_landed s log q e) (no_landed s log q (placements log) none)
+    go false e = refl
+
+given_at_freed : (s : Shape) (log : List Logged) → IsUnplaced s log (taken log) → is_given_back s log (freed s log) ≡ false
+given_at_freed s log none = go (cases_order (freed s log) (taken log)) (least (is_given_back s log) (length (takes log)) (first_position log))
+  where
+    go : (freed s log ≡ taken log) ⊎ ((freed s log < taken log) ⊎ (taken log < freed s log)) → IsLeast (is_given_back s log) (length (takes log)) (first_position log) (freed s log)
+        → is_given_back s log (freed s log) ≡ false
+    go (inl same) is = ap (is_given_back s log) same ∙ given_none s log (taken log) none
+    go (inr (inl less)) is = is.missing less
+    go (inr (inr more)) is =
+        let within : freed s log ≤ first_position log + length (takes log) = is.within in
+        let beyond : first_position log + length (takes log) < freed s log = more in
+        absurd (omega arith)
+
+given_same : (s : Shape) (log : List Logged) (entry : Entry) (mark : Mark) (knows : List ℕ) (q : ℕ) → is_given_back s (with_take log entry mark knows) q ≡ is_given_back s log q
+given_same s log entry mark knows q =
+    any_same (gives_back s new q) (gives_back s log q) (gives_back_same s log new (alike log entry mark knows) q) (placements new)
+    ∙ ap (list_any (gives_back s log q)) (AreAlike.placements (alike log entry mark knows))
+  where
+    new : List Logged
+    new = with_take log entry mark knows
+
+pub freed_same : (s : Shape) (log : List Logged) (entry : Entry) (mark : Mark) (knows : List ℕ) (b : Begun) → begun log ≡ Some b → IsUnplaced s log (taken log)
+    → freed s (with_take log entry mark knows) ≡ freed s log
+freed_same s log entry mark knows b has none =
+    let from : first_position log ≤ freed s log = IsLeast.from (least (is_given_back s log) (length (takes log)) (first_position log)) in
+    let first : first_position (with_take log entry mark knows) ≡ first_position log = first_stays log (record { event = Did (Take entry mark); knows = knows }) b has in
+    freed_here s (with_take log entry mark knows) (freed s log) (subst (λ p. p ≤ freed s log) (sym first) from) (freed_taken s log entry mark knows b has)
+    (given_same s log entry mark knows (freed s log) ∙ given_at_freed s log none)
+
+-- ---- the room stays
+
+module _ (i : Image) (logs : Logs) (entry : Entry) (mark : Mark) (knows : List ℕ) where
+  abbrev next : Logs
+  next = after logs (Take entry mark) knows
+
+  image : known_image i next ≡ known_image i logs
+  image = known_kept i logs (Take entry mark) knows refl (λ unit. refl)
+
+  number_same : (life : LineLife) (line : ℕ) → has_number i next life line ≡ has_number i logs life line
+  number_same AsFound line = ap (λ (f : Image). is_some (start_of f line)) (found_kept i logs (Take entry mark) knows refl)
+  number_same (Opened o) line = refl
+  number_same (Freed past known) line = refl
+
+  free_same : (line : ℕ) → is_free_line i next line ≡ is_free_line i logs line
+  free_same line =
+      ap₂ (λ life (j : Image). not (has_number i next life line) && are_empty j line && nat_lt 0 (line_data j line)) (lives_kept (logs 0) (Take entry mark) knows line refl) image
+      ∙ ap (λ b. not b && are_empty (known_image i logs) line && nat_lt 0 (line_data (known_image i logs) line)) (number_same (life_of (logs 0) line) line)
+
+  free_addresses_same : free_addresses i next ≡ free_addresses i logs
+  free_addresses_same =
+      sum_same (λ line. if is_free_line i next line then line_data (known_image i next) line else 0) (λ line. if is_free_line i logs line then line_data (known_image i logs) line else 0)
+      (λ line. ap₂ (λ b (j : Image). if b then line_data j line else 0) (free_same line) image) (range_with_len 0 i.shape.chunks)
+
+  -- the entry's is the next position, which no stripe has yet
+  pub room_taken : (b : Begun) → begun (logs 0) ≡ Some b → entry.position ≡ taken (logs 0) → IsUnplaced i.shape (logs 0) (taken (logs 0)) → room i next ≡ room i logs
+  room_taken b has at none =
+      let first : first_position (next 0) ≡ first_position (logs 0) = first_stays (logs 0) _ b has in
+      let front : freed i.shape (next 0) ≡ freed i.shape (logs 0) = freed_same i.shape (logs 0) entry mark knows b has none in
+      let placed : placed_front i.shape (next 0) ≡ placed_front i.shape (logs 0) = front_taken i.shape (logs 0) entry mark knows (subst (IsUnplaced i.shape (logs 0)) (sym at) none) in
+      let opened : open_addresses i next ≡ open_addresses i logs = addresses_kept i logs (Take entry mark) knows refl in
+      λ j. min (min (front j + i.shape.ring - units i.shape * i.shape.ws_opt) (placed j + (opened j + free_addresses_same j - 2 * full_data i.shape) / i.shape.ws_opt)) (max (2 ^ 61 - 2) (first j))

@@ -1,0 +1,54 @@
+-- When a target has nothing left that it could do, and which refusals for want of room are said there. It is a target
+-- that neither collects nor frees: it copies no sector and resets no chunk, however few lines are Free, so no such work
+-- is asked for here.
+use Rattle.std.specs.Prelude.{ℕ, zero, suc, ◌+◌, ◌<◌, ◌≤◌, ◌≡◌, true, List, take, length, Some}
+use Rattle.std.specs.List.{Contains, AllByRecursion}
+use Rattle.pblk_model.specs.Image.{Image}
+use Rattle.pblk_model.specs.StartRecord.{StartRecord}
+use Rattle.pblk_world.specs.Events.{Stripe}
+use Rattle.pblk_world.specs.World.{Logs}
+use Rattle.pblk_world.specs.EngineLog.{Begun, begun, Placed, placements, is_answered}
+use Rattle.pblk_world.specs.Fronts.{taken, synced, waiting}
+use Rattle.pblk_world.specs.Opening.{MayOpen}
+use Rattle.pblk_world.specs.Space.{open_addresses, room}
+use Rattle.pblk_world.specs.AtRest.{logs_at, IsDue}
+use Rattle.block_port.specs.declared.rows.WornAnswer.{WornAnswer}
+
+-- There is nothing left to do with this pad target.
+pub record HasNothingLeft (i : Image) (logs : Logs) (asked : ℕ) : Type 0 where
+  -- each placed stripe has landed or was lost
+  pub stripes : (p : Placed) → Contains (placements (logs 0)) p → is_answered (logs 0) p ≡ true
+  -- no stripe of an opened line is to be placed
+  pub no_program : (stripe : Stripe) → ¬ IsDue i logs asked stripe
+  -- an entry waits and no open line has an address left, but none may be opened
+  pub no_opening : (beginning : Begun) (line : ℕ) (start : StartRecord) → begun (logs 0) ≡ Some beginning
+      → 0 < length (waiting i.shape (logs 0)) → open_addresses i logs ≡ 0 → ¬ MayOpen i logs beginning line start
+
+-- The same at a length of the engine's log, once the mount has begun.
+pub record HasNothingLeftAt (i : Image) (logs : Logs) (asked n : ℕ) : Type 0 where
+  pub has_begun : 0 < n
+  pub within : n ≤ length (logs 0)
+  pub nothing_left : HasNothingLeft i (logs_at n logs) asked
+
+-- A refusal of a flush, or of the close, there: all that it wants is taken, and can't land.
+pub record IsFlushRefusal (i : Image) (logs : Logs) (n wanted have : ℕ) : Type 0 where
+  pub nothing_left : HasNothingLeftAt i logs wanted n
+  pub above : have < wanted
+  pub is_synced : have ≡ synced i.shape (take n (logs 0))
+  pub all_taken : wanted ≤ taken (take n (logs 0))
+
+-- A refusal of a write of so many sectors there: there is no room for them.
+pub record IsWriteRefusal (i : Image) (logs : Logs) (n count wanted have : ℕ) : Type 0 where
+  pub nothing_left : HasNothingLeftAt i logs 0 n
+  pub above : have < wanted
+  pub room : room i (logs_at n logs) ≤ have
+  pub own_count : wanted ≡ taken (take n (logs 0)) + count
+
+-- by the count of sectors, which is 0 for a flush
+abbrev pub IsRefusal : Image → Logs → ℕ → ℕ → ℕ → ℕ → Type 0
+IsRefusal i logs n zero wanted have = IsFlushRefusal i logs n wanted have
+IsRefusal i logs n (suc others) wanted have = IsWriteRefusal i logs n (suc others) wanted have
+
+-- each of these answers is one, at some length
+abbrev pub AreRefusals : Image → Logs → List WornAnswer → Type 0
+AreRefusals i logs worns = AllByRecursion (λ a. (n : ℕ) × IsRefusal i logs n a.count a.wanted a.have) worns
