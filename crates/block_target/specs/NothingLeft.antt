@@ -1,6 +1,6 @@
--- When a target has nothing left that it could do, and which refusals for want of room are said there. It is a target
--- that neither collects nor frees: it copies no sector and resets no chunk, however few lines are Free, so no such work
--- is asked for here.
+-- When a target that neither collects nor frees has nothing left that it could do, and which refusals for want of room
+-- are said there. Such a target copies no sector and frees no line, however few lines are Free. So nothing is said here of
+-- a copy that is due or of a line that may be freed.
 use Rattle.std.specs.Prelude.{ℕ, zero, suc, ◌+◌, ◌<◌, ◌≤◌, ◌≡◌, true, List, take, length, Some}
 use Rattle.std.specs.List.{Contains, AllByRecursion}
 use Rattle.pblk_model.specs.Image.{Image}
