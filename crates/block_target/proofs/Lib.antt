@@ -1,5 +1,6 @@
 pub mod AskedMounts
 pub mod Begun
+pub mod ClosedEnd
 pub mod DeviceFronts
 pub mod EngineLengths
 pub mod KeptWear

@@ -4,16 +4,17 @@ ghost use Rattle.pblk_model.specs.Accepted.{IsAccepted};
 ghost use Rattle.pblk_model.specs.Frames.{count_out};
 ghost use Rattle.pblk_world.specs.Events.{Begin};
 ghost use Rattle.block_target.specs.Begun.{AreBegun};
-ghost use Rattle.pblk_model.specs.Image.{Image};
+ghost use Rattle.pblk_model.specs.Contents.{end};
+ghost use Rattle.pblk_model.specs.Image.{Image, blank};
 ghost use Rattle.pblk_world.specs.Space.{freed};
-ghost use Rattle.pblk_world.specs.World.{World, log_of};
+ghost use Rattle.pblk_world.specs.World.{World, log_of, media};
 ghost use Rattle.core_laws.specs.PlainWorlds.{IsBlankWorld};
 ghost use Rattle.write_window.specs.Window as view;
 ghost use Rattle.pblk_core.specs.Named.{pad_of};
 ghost use Rattle.pblk_core.specs.Stands.{Stands};
 ghost use Rattle.block_target.specs.Deeds.{Decides};
 ghost use Rattle.step_laws.specs.Whole.{first_beginning};
-ghost use Rattle.block_target.specs.Mount.{MountView, IsMount, IsSound, IsSameMount, AreNewUnits, IsStuckAt, IsSpent, IsFetchable, with_entry, work_in, with_pad, taken_in, synced_in, front_taken, front_synced, latest};
+ghost use Rattle.block_target.specs.Mount.{MountView, IsMount, IsSound, IsSameMount, AreNewUnits, IsStuckAt, IsSpent, IsFetchable, logs_in, with_entry, work_in, with_pad, taken_in, synced_in, front_taken, front_synced, latest};
 ghost use Rattle.pblk_core.specs.BlankDrives.{IsBlankFound};
 ghost use Rattle.pblk_core.specs.declared.work.Work.TheVariants as works;
 
@@ -171,6 +172,13 @@ impl<U: Unit> Mount<U> {
     /// What was done is a legal world, and the units are as it leaves them.
     pub(crate) fn is_sound(&self)
         ensures { IsSound self.now }
+    {
+        let _ = &self.shape;
+    }
+
+    /// What is found on the drive ends at the front synced, since each stripe has landed.
+    pub(crate) fn ends_synced(&self)
+        ensures { end (media (blank self.now.shape) (logs_in self.now)) ≡ synced_in self.now }
     {
         let _ = &self.shape;
     }

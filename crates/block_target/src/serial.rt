@@ -1,16 +1,19 @@
 //! A target for one session.
 ghost use Rattle.std.specs.Prelude.{ℕ, OnErr, IsErrOf, ◌≡◌, ◌<◌, ◌≤◌, [], ◌∷◌, ◌++◌, map, length, max, slice_range, ◌↔◌, IsTrue, IfOk, IfErr, ◌+◌, ◌*◌, ◌^◌};
+ghost use Rattle.std.specs.List.{flat_map};
 ghost use Rattle.pblk_model.specs.Accepted.{IsAccepted};
+ghost use Rattle.pblk_model.specs.Contents.{end};
 ghost use Rattle.pblk_world.specs.Events.{Begin};
-ghost use Rattle.block_port.specs.Own.{sectors_of};
+ghost use Rattle.pblk_world.specs.World.{media};
+ghost use Rattle.block_port.specs.Own.{lines_of, sectors_of};
 ghost use Rattle.block_port.specs.Port.{AreSectors, IsPastEnd, IsSameTarget, Learns, IsWritten, IsSeen, AreShort, count_in};
 ghost use Rattle.block_port.specs.Port.{write_faults, write_worns, flush_faults, flush_worns};
 ghost use Rattle.pblk_model.specs.Image.{blank};
 ghost use Rattle.block_target.specs.NothingLeft.{IsRefusal, AreRefusals};
 ghost use Rattle.block_target.specs.Deeds.{Decides};
 ghost use Rattle.step_laws.specs.Whole.{first_beginning};
-ghost use Rattle.block_target.specs.Mount.{MountView, AreNewUnits, IsSameMount, IsSound, logs_in, taken_in, latest, with_entries};
-ghost use Rattle.block_target.specs.Serial.{SerialView, Settles, WriteCause, FlushCause, device};
+ghost use Rattle.block_target.specs.Mount.{MountView, AreNewUnits, IsSameMount, IsSound, front_taken, latest, logs_in, synced_in, taken_in, with_entries};
+ghost use Rattle.block_target.specs.Serial.{SerialView, Settles, WriteCause, FlushCause, device, lines_in};
 
 use crate::mount::Mount;
 use crate::opening::{OpenErr, Refused, SettleErr};
@@ -99,15 +102,25 @@ impl<U: Unit> Serial<U> {
         }
     }
 
-    /// Brings all that was taken to the drive, and hands the units back.
+    /// The front of all that was taken.
+    pub fn front(&self) -> Front
+        ensures { result ≡ front_taken self.now.mount }
+    {
+        self.mount.front()
+    }
+
+    /// Brings all that was taken to the drive, and hands the units back. What is then found on the drive ends at
+    /// the front synced. All that was taken are the session's own writes.
     ///
     /// `Worn` comes where not all of it is there and nothing is left to do: `wanted` is the front taken, and `have`
     /// the front synced. `Drive` doesn't come, since no command fails or is stopped. Each call that answered `Worn`
     /// had its cause, at some length of the engine's log.
     pub fn close<R: Wait>(mut self, rt: &R) -> (Vec<U>, Result<(), SettleErr>)
-        ensures { (v : MountView) × IsSameMount self.mount v × IsSound v
+        ensures closed { (v : MountView) × IsSameMount self.mount v × IsSound v
             × (map U.model result.0.items ≡ v.units) × (map U.wear result.0.items ≡ v.wear) × Settles result.1 v
-            × AreRefusals (blank v.shape) (logs_in v) self.worns }
+            × AreRefusals (blank v.shape) (logs_in v) self.worns × (taken_in v ≡ taken_in self.mount)
+            × (end (media (blank v.shape) (logs_in v)) ≡ synced_in v) }
+        ensures alone { lines_in self.mount ≡ flat_map lines_of self.own }
     {
         self.mount.is_sound();
         let wanted = self.mount.front().position;
@@ -116,6 +129,7 @@ impl<U: Unit> Serial<U> {
             Err(have) => Err(SettleErr::Worn { wanted, have }),
         };
         self.mount.is_sound();
+        self.mount.ends_synced();
         let Serial {
             mount,
             seen: _,

@@ -16,5 +16,5 @@ fn main(rt: HostRuntime) -> ExitCode {
         let _ = out.write(b"memory\n");
         return ExitCode::from(MEMORY);
     };
-    pblk_program(alloc, real_words(alloc, &rt), &mut files, &mut out)
+    pblk_program(&rt, alloc, real_words(alloc, &rt), &mut files, &mut out)
 }

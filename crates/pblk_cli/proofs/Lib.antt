@@ -1,9 +1,13 @@
-pub mod ServeRun
-pub mod ServeSectors
-pub mod ServeSteps
 pub mod Bits
 pub mod Refusing
 pub mod Reading
-pub mod RunTo
 pub mod RunInput
 pub mod RunComes
+pub mod StoredUnits
+pub mod FreeChunks
+pub mod FreeDrives
+pub mod Sessions
+pub mod Histories
+pub mod Servings
+pub mod LeftDrives
+pub mod WornLines

@@ -1,9 +1,10 @@
 -- What telling of a file that was read comes to.
-use Rattle.std.proofs.Common.{◌≡◌, List, ℕ, Result, Ok, Err, String, string_bytes}
+use Rattle.std.proofs.Common.{◌≡◌, List, ℕ, Result, Ok, Err}
 use Rattle.std.specs.Result.{IfErr, IfOk}
 use Rattle.pblk_outside.specs.Files.{FilesView}
 use Rattle.pblk_model.specs.CommandText.{geometry_text}
 use Rattle.pblk_model.specs.ImageFile.{Drive, IsImage}
+use Rattle.pblk_cli.specs.declared.output.Output.{Output}
 use Rattle.pblk_cli.specs.declared.refusal.Refusal.{Refusal}
 use Rattle.pblk_cli.specs.declared.refusal.Refusal.TheVariants as refusals
 use Rattle.pblk_cli.specs.Telling.{Holds, IsThere}
@@ -15,10 +16,10 @@ use Rattle.pblk_cli.specs.Reading.{ReadsFile, RefusesBytes}
 pub is_there : (name bytes : List ℕ) (files : FilesView) → Holds name bytes files → IsThere name files
 is_there name bytes files h = λ told. (bytes, h told)
 
-pub geometry_comes : {Z : Type 0} (image bytes : List ℕ) (old new : FilesView) → ReadsFile image bytes old new → (r : Result (String Z) Refusal)
-    → IfOk r (λ text. (d : Drive) × IsImage bytes d × (string_bytes text ≡ geometry_text d)) → IfErr r (λ q. RefusesBytes bytes (reason_of q))
+pub geometry_comes : (image bytes : List ℕ) (old new : FilesView) → ReadsFile image bytes old new → (r : Result Output Refusal)
+    → IfOk r (λ output. (output.status ≡ 0) × (d : Drive) × IsImage bytes d × (output.text.items ≡ geometry_text d)) → IfErr r (λ q. RefusesBytes bytes (reason_of q))
     → GeometryComesTo image (ending_of r) old new
-geometry_comes image bytes old new read (Ok text) (d, is, said) refused = (d, record { bytes = bytes; read = read.0; is = is }, read.1, said)
+geometry_comes image bytes old new read (Ok output) (done, d, is, said) refused = (done, d, record { bytes = bytes; read = read.0; is = is }, read.1, said)
 geometry_comes image bytes old new read (Err (refusals.Image e)) text refused = (bytes, read.0, refused, read.1)
 geometry_comes image bytes old new read (Err refusals.ImageUnbuilt) text refused = refused
 geometry_comes image bytes old new read (Err (refusals.Script e)) text refused = refused

@@ -24,9 +24,9 @@ refused_comes image script found commands old new a b (refusals.Failed name) h =
 refused_comes image script found commands old new a b (refusals.Missing name) h = absurd h
 refused_comes image script found commands old new a b refusals.Memory h = (is_there image found old a.0, a.1)
 
-abbrev pub input_of : (image script found commands bytes text : List ℕ) (old new : FilesView) → ReadsFile image found old new → ReadsFile script commands old new
-    → IsRunOfInput found commands bytes text → RunInput image script old
-input_of image script found commands bytes text old new a b h = record {
+abbrev pub input_of : (image script found commands : List ℕ) (status : ℕ) (text bytes : List ℕ) (old new : FilesView) → ReadsFile image found old new → ReadsFile script commands old new
+    → IsRunOfInput found commands status text bytes → RunInput image script old
+input_of image script found commands status text bytes old new a b h = record {
   drive = h.drive;
   drive_is = record { bytes = found; read = a.0; is = h.drive_is };
   all_free = h.all_free;
@@ -34,21 +34,22 @@ input_of image script found commands bytes text old new a b h = record {
   script_read = b.0;
   commands = h.commands;
   commands_are = h.commands_are;
-  taken = h.taken;
+  one = h.one;
 }
 
 -- the others are as before both the reads and the write
 others : (image : List ℕ) (old mid new : FilesView) → ((name : List ℕ) → mid.file name ≡ old.file name) → SameOthers image mid.file new.file → SameOthers image old.file new.file
 others image old mid new same h = λ other ne. h other ne ∙ same other
 
-pub made : (image script found commands bytes text : List ℕ) (old mid new : FilesView) → ReadsFile image found old mid → ReadsFile script commands old mid
-    → IsRunOfInput found commands bytes text
+pub made : (image script found commands : List ℕ) (status : ℕ) (text bytes : List ℕ) (old mid new : FilesView) → ReadsFile image found old mid → ReadsFile script commands old mid
+    → IsRunOfInput found commands status text bytes
     → (IsTrue mid.told → new.file image ≡ Some bytes) → IsCalm mid new → SameOthers image mid.file new.file → new.told ≡ mid.told
-    → RunMade image script text old new
-made image script found commands bytes text old mid new a b h stored calm same told = record {
-  input = input_of image script found commands bytes text old mid a b h;
+    → RunMade image script status text old new
+made image script found commands status text bytes old mid new a b h stored calm same told = record {
+  input = input_of image script found commands status text bytes old mid a b h;
   left = h.run.left;
   run = h.run.run;
+  status_is = h.run.status_is;
   stored = (λ new_tells. stored (sym told ∙ new_tells) ∙ ap Some h.run.bytes_are, others image old mid new a.1.0 same, calm ∙ a.1.1);
 }
 

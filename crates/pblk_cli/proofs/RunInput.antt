@@ -1,6 +1,5 @@
 -- What was read for a run.
-use Rattle.std.proofs.Common.{◌≡◌, ℕ, List, [], ◌∷◌, Some, None, Result, Err, refl, ap}
-use Rattle.std.specs.List.{AllByRecursion}
+use Rattle.std.proofs.Common.{◌≡◌, ℕ, List, Some, None, Result, Err, refl}
 use Rattle.std.specs.Result.{IsOkUnless}
 use Rattle.pblk_model.specs.declared.image.ImageErr.{ImageErr}
 use Rattle.pblk_model.specs.declared.image.ImageErr.TheVariants as errors
@@ -9,23 +8,12 @@ use Rattle.pblk_model.specs.declared.script.ScriptErr.TheVariants as script_erro
 use Rattle.pblk_model.specs.ImageFile.{Drive, IsImage, image_refusal}
 use Rattle.pblk_model.specs.ScriptText.{read_script}
 use Rattle.run_script.specs.Reading.{Refuses}
-use Rattle.ocssd_drive.specs.Units.{WornUnit}
-use Rattle.drive_image.specs.Quiet.{IsQuietUnit}
-use Rattle.first_line.specs.Stored.{IsUnarmed}
 use Rattle.pblk_cli.specs.declared.refusal.Refusal.{Refusal}
 use Rattle.pblk_cli.specs.declared.refusal.Refusal.TheVariants as refusals
 use Rattle.pblk_cli.specs.Endings.{reason_of}
 use Rattle.pblk_cli.specs.Reading.{RefusesBytes}
 use Rattle.pblk_cli.specs.Running.{RefusesInput}
 use Rattle.pblk_cli.proofs.Refusing.{IsRefusalOf, refuses}
-
--- units that were given no command aren't armed
-is_unarmed : (u : WornUnit) → IsQuietUnit u → IsUnarmed u
-is_unarmed u h = record { plans = ap (λ a. a.plans) h.armed; fuse = ap (λ a. a.fuse) h.armed }
-
-pub all_unarmed : (us : List WornUnit) → AllByRecursion IsQuietUnit us → AllByRecursion IsUnarmed us
-all_unarmed [] h = tt
-all_unarmed (u ∷ us) h = (is_unarmed u h.0, all_unarmed us h.1)
 
 -- refused bytes of an image are a refused input
 of_bytes : (image script : List ℕ) (q : Refusal) → RefusesBytes image (reason_of q) → RefusesInput image script (reason_of q)

@@ -1,25 +1,29 @@
 -- What each command comes to, by the files before and after: a text, or a refusal with its cause. No other ending is left.
-use Rattle.std.specs.Prelude.{ℕ, ◌≡◌, ◌⊎◌, List, map, length, Some, None, Err}
+use Rattle.std.specs.Prelude.{ℕ, ◌≤◌, ◌≡◌, ◌⊎◌, List, [], map, length, Some, None, Err}
 use Rattle.pblk_outside.specs.Files.{FilesView}
 use Rattle.pblk_model.specs.declared.script.Command.{Command}
 use Rattle.pblk_model.specs.CommandLine.{CommandLine, Create, Geometry, Run, CreateNumbers, IsCommandLine}
 use Rattle.pblk_model.specs.CommandText.{created_refusal, created_drive, created_text, geometry_text, words_line}
 use Rattle.pblk_model.specs.Contents.{contents, end}
-use Rattle.pblk_model.specs.ImageFile.{Drive, IsImage, image_bytes, image_of, image_refusal, shape_of}
+use Rattle.pblk_model.specs.History.{SectorWrite}
+use Rattle.pblk_model.specs.ImageFile.{Drive, IsImage, image_bytes, image_of, image_refusal}
 use Rattle.pblk_model.specs.ScriptText.{IsScript, read_script}
 use Rattle.pblk_model.specs.Sealed.{IsSealed}
-use Rattle.pblk_model.specs.Transcript.{TranscriptRelation, sector_writes}
-use Rattle.first_line.specs.Stored.{AreFree, HoldsHistory}
-use Rattle.pblk_cli.specs.Complete.{IsComplete}
-use Rattle.pblk_cli.specs.Taken.{IsTaken}
+use Rattle.pblk_model.specs.Text.{Closed}
+use Rattle.pblk_model.specs.Transcript.{TranscriptRelation, events, sector_writes}
+use Rattle.pblk_world.specs.World.{World, log_of, media}
+use Rattle.pblk_world.specs.Fronts.{history}
+use Rattle.core_laws.specs.PlainWorlds.{IsBlankWorld}
 use Rattle.command_text.specs.Says.{Says}
+use Rattle.pblk_cli.specs.Free.{AreFree}
+use Rattle.pblk_cli.specs.Status.{status_of_run}
 use Rattle.pblk_cli.specs.Telling.{Call, Image, ImageUnbuilt, Script, ScriptUnbuilt, Failed, Missing, Memory, Ending, Gives, Refuses, Tells, Holds, IsThere, AreUntouched, Stores, FailsReading, IsMissing, FailsWriting}
 
 -- Creating.
 
 abbrev pub CreateComesTo : List ℕ → CreateNumbers → Ending → FilesView → FilesView → Type 0
 -- the image was made and stored
-CreateComesTo image n (Gives text) old new = (created_refusal n ≡ None) × Stores image (image_bytes (created_drive n)) old new
+CreateComesTo image n (Gives status text) old new = (status ≡ 0) × (created_refusal n ≡ None) × Stores image (image_bytes (created_drive n)) old new
     × (text ≡ created_text (length (image_bytes (created_drive n))))
 CreateComesTo image n (Refuses (Image e)) old new = (created_refusal n ≡ Some e) × AreUntouched old new
 CreateComesTo image n (Refuses (Failed name)) old new = (name ≡ image) × (created_refusal n ≡ None) × FailsWriting image old new
@@ -35,7 +39,7 @@ pub record IsDriveOf (image : List ℕ) (files : FilesView) (d : Drive) : Type 0
   pub is : IsImage bytes d
 
 abbrev pub GeometryComesTo : List ℕ → Ending → FilesView → FilesView → Type 0
-GeometryComesTo image (Gives text) old new = (d : Drive) × IsDriveOf image old d × AreUntouched old new × (text ≡ geometry_text d)
+GeometryComesTo image (Gives status text) old new = (status ≡ 0) × (d : Drive) × IsDriveOf image old d × AreUntouched old new × (text ≡ geometry_text d)
 GeometryComesTo image (Refuses (Image e)) old new = (bytes : List ℕ) × Holds image bytes old × (image_refusal bytes ≡ Some e) × AreUntouched old new
 GeometryComesTo image (Refuses (Failed name)) old new = (name ≡ image) × FailsReading image old new
 GeometryComesTo image (Refuses (Missing name)) old new = (name ≡ image) × IsMissing image old new
@@ -53,7 +57,7 @@ pub record RunInput (image script : List ℕ) (files : FilesView) : Type 0 where
   pub script_read : Holds script script_bytes files
   pub commands : List (List Command)
   pub commands_are : IsScript drive.capacity script_bytes commands
-  pub taken : IsTaken (shape_of drive) commands
+  pub one : length commands ≤ 1
 
 -- the geometry, the settings and the wear indices of one drive are those of another
 pub record SameNumbers (old new : Drive) : Type 0 where
@@ -63,40 +67,51 @@ pub record SameNumbers (old new : Drive) : Type 0 where
   pub ring : new.ring ≡ old.ring
   pub wear : map (map (λ k. k.wear)) new.units ≡ map (map (λ k. k.wear)) old.units
 
+-- What was done on a drive: a legal world over the image found, whose media are the image left, and whose history is this
+-- one.
+pub record IsWorldBetween (found left : Drive) (writes : List SectorWrite) : Type 0 where
+  pub world : World
+  pub legal : IsBlankWorld (image_of found) world
+  pub media_are : image_of left ≡ media (image_of found) (log_of world)
+  pub history_is : history (log_of world 0) ≡ writes
+
 -- A run of these commands from one drive to another, with this text.
 pub record IsRunBetween (found : Drive) (commands : List (List Command)) (text : List ℕ) (left : Drive) : Type 0 where
   -- the transcript relation between the script, the contents before, the text and the contents after
   pub relation : TranscriptRelation found.sector commands (contents (image_of found)) text (contents (image_of left))
-  -- no line tells of a fault of the drive or of want of room: every write stands in the history, and all of it is kept
-  pub complete : IsComplete relation.0
+  -- no line names an event of a unit
+  pub faultless : events relation.0 ≡ []
+  -- where closing answers nothing all of the history is kept
+  pub complete : relation.0.closing ≡ Closed → relation.0.kept ≡ length relation.0.history
   -- the geometry, the settings and the wear indices are as they were
   pub numbers : SameNumbers found left
-  -- without a line of the history nothing is written; else it is in line 0, and no other chunk is written
-  pub line : HoldsHistory found left (sector_writes found.sector relation.0.history)
+  -- the printed history is that of a world which leaves this drive
+  pub world : IsWorldBetween found left (sector_writes found.sector relation.0.history)
   pub sealed : IsSealed (image_of left)
   pub end_is : end (image_of left) ≡ relation.0.kept
   -- its one spelling is an image of it
   pub spelled : IsImage (image_bytes left) left
 
--- a run was made, and the drive that it left is stored under the image's name, in its one spelling
-pub record RunMade (image script text : List ℕ) (old new : FilesView) : Type 0 where
+-- a run was made, with this status, and the drive that it left is stored under the image's name, in its one spelling
+pub record RunMade (image script : List ℕ) (status : ℕ) (text : List ℕ) (old new : FilesView) : Type 0 where
   pub input : RunInput image script old
   pub left : Drive
   pub run : IsRunBetween input.drive input.commands text left
+  pub status_is : status ≡ status_of_run run.relation.0
   pub stored : Stores image (image_bytes left) old new
 
 abbrev pub RunComesTo : List ℕ → List ℕ → Ending → FilesView → FilesView → Type 0
-RunComesTo image script (Gives text) old new = RunMade image script text old new
+RunComesTo image script (Gives status text) old new = RunMade image script status text old new
 -- both files were read, and the image is refused
 RunComesTo image script (Refuses (Image e)) old new = (bytes : List ℕ) × Holds image bytes old × IsThere script old × (image_refusal bytes ≡ Some e) × AreUntouched old new
 -- the image is accepted, and the script is refused
 RunComesTo image script (Refuses (Script e)) old new = (d : Drive) × IsDriveOf image old d
     × (bytes : List ℕ) × Holds script bytes old × (read_script d.capacity bytes ≡ Err e) × AreUntouched old new
--- both are accepted, and the image isn't one that is taken so far; or it is, and the script isn't
+-- both are accepted, and a chunk of the image isn't Free; or all are, and the script has a second thread
 RunComesTo image script (Refuses ImageUnbuilt) old new = (d : Drive) × IsDriveOf image old d × (¬ AreFree d)
     × (bytes : List ℕ) × Holds script bytes old × (commands : List (List Command)) × IsScript d.capacity bytes commands × AreUntouched old new
 RunComesTo image script (Refuses ScriptUnbuilt) old new = (d : Drive) × IsDriveOf image old d × AreFree d
-    × (bytes : List ℕ) × Holds script bytes old × (commands : List (List Command)) × IsScript d.capacity bytes commands × (¬ IsTaken (shape_of d) commands) × AreUntouched old new
+    × (bytes : List ℕ) × Holds script bytes old × (commands : List (List Command)) × IsScript d.capacity bytes commands × (2 ≤ length commands) × AreUntouched old new
 -- the image, or, where it is there, the script could not be read; or all was made, and the image could not be written
 RunComesTo image script (Refuses (Failed name)) old new = ((name ≡ image) × FailsReading image old new)
     ⊎ ((name ≡ script) × IsThere image old × FailsReading script old new)

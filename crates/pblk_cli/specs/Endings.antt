@@ -1,5 +1,6 @@
 -- What the program's own functions answer, as what a command comes to.
-use Rattle.std.specs.Prelude.{Result, Ok, Err, String, string_bytes}
+use Rattle.std.specs.Prelude.{Result, Ok, Err}
+use Rattle.pblk_cli.specs.declared.output.Output.{Output}
 use Rattle.pblk_cli.specs.declared.refusal.Refusal.{Refusal}
 use Rattle.pblk_cli.specs.declared.refusal.Refusal.TheVariants as refusals
 use Rattle.pblk_cli.specs.Telling.{Reason, Image, ImageUnbuilt, Script, ScriptUnbuilt, Failed, Missing, Memory, Ending, Gives, Refuses}
@@ -13,6 +14,6 @@ reason_of (refusals.Failed name) = Failed name.now
 reason_of (refusals.Missing name) = Missing name.now
 reason_of refusals.Memory = Memory
 
-abbrev pub ending_of : {Z : Type 0} → Result (String Z) Refusal → Ending
-ending_of (Ok text) = Gives (string_bytes text)
+abbrev pub ending_of : Result Output Refusal → Ending
+ending_of (Ok output) = Gives output.status output.text.items
 ending_of (Err refusal) = Refuses (reason_of refusal)

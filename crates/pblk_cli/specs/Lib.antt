@@ -1,7 +1,6 @@
-pub mod Complete
-pub mod Run
+pub mod Free
+pub mod Status
 pub mod Serving
-pub mod Taken
 pub mod Telling
 pub mod Commands
 pub mod Endings

@@ -1,12 +1,12 @@
 -- What running the bytes of an image and of a script comes to.
-use Rattle.std.specs.Prelude.{ℕ, ◌≡◌, ◌⊎◌, ⊤, List, Some, Err}
+use Rattle.std.specs.Prelude.{ℕ, ◌≤◌, ◌≡◌, ◌⊎◌, ⊤, List, length, Some, Err}
 use Rattle.pblk_outside.specs.Files.{FilesView}
 use Rattle.pblk_model.specs.declared.script.Command.{Command}
-use Rattle.pblk_model.specs.ImageFile.{Drive, IsImage, image_bytes, image_refusal, shape_of}
+use Rattle.pblk_model.specs.ImageFile.{Drive, IsImage, image_bytes, image_refusal}
 use Rattle.pblk_model.specs.ScriptText.{IsScript, read_script}
-use Rattle.first_line.specs.Stored.{AreFree}
 use Rattle.pblk_cli.specs.Commands.{IsRunBetween}
-use Rattle.pblk_cli.specs.Taken.{IsTaken}
+use Rattle.pblk_cli.specs.Free.{AreFree}
+use Rattle.pblk_cli.specs.Status.{status_of_run}
 use Rattle.pblk_cli.specs.Telling.{Reason, Image, ImageUnbuilt, Script, ScriptUnbuilt, Failed, Missing, Memory, IsThere, AreUntouched, FailsReading, IsMissing}
 
 -- one of both files could not be read, or there was no memory for their bytes
@@ -16,27 +16,28 @@ CannotReadBoth image script (Missing name) old new = ((name ≡ image) × IsMiss
 CannotReadBoth image script Memory old new = IsThere image old × AreUntouched old new
 CannotReadBoth image script reason old new = ⊥
 
--- the bytes are those of a drive that a run of the commands leaves
-pub record IsRunTo (found : Drive) (commands : List (List Command)) (text bytes : List ℕ) : Type 0 where
+-- the bytes are those of a drive that a run of the commands leaves, with this status and this text
+pub record IsRunTo (found : Drive) (commands : List (List Command)) (status : ℕ) (text bytes : List ℕ) : Type 0 where
   pub left : Drive
   pub run : IsRunBetween found commands text left
+  pub status_is : status ≡ status_of_run run.relation.0
   pub bytes_are : bytes ≡ image_bytes left
 
 -- what was read was accepted, and run
-pub record IsRunOfInput (image script bytes text : List ℕ) : Type 0 where
+pub record IsRunOfInput (image script : List ℕ) (status : ℕ) (text bytes : List ℕ) : Type 0 where
   pub drive : Drive
   pub drive_is : IsImage image drive
   pub all_free : AreFree drive
   pub commands : List (List Command)
   pub commands_are : IsScript drive.capacity script commands
-  pub taken : IsTaken (shape_of drive) commands
-  pub run : IsRunTo drive commands text bytes
+  pub one : length commands ≤ 1
+  pub run : IsRunTo drive commands status text bytes
 
 -- what was read was refused
 abbrev pub RefusesInput : List ℕ → List ℕ → Reason → Type 0
 RefusesInput image script (Image e) = image_refusal image ≡ Some e
 RefusesInput image script ImageUnbuilt = (d : Drive) × IsImage image d × (¬ AreFree d) × (commands : List (List Command)) × IsScript d.capacity script commands
 RefusesInput image script (Script e) = (d : Drive) × IsImage image d × (read_script d.capacity script ≡ Err e)
-RefusesInput image script ScriptUnbuilt = (d : Drive) × IsImage image d × AreFree d × (commands : List (List Command)) × IsScript d.capacity script commands × (¬ IsTaken (shape_of d) commands)
+RefusesInput image script ScriptUnbuilt = (d : Drive) × IsImage image d × AreFree d × (commands : List (List Command)) × IsScript d.capacity script commands × (2 ≤ length commands)
 RefusesInput image script Memory = ⊤
 RefusesInput image script reason = ⊥

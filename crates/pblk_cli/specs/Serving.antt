@@ -1,47 +1,92 @@
--- What a script of writes and reads alone leaves, thread after thread, as functions of lists.
-use Rattle.std.specs.Prelude.{ℕ, ◌+◌, List, [], ◌∷◌, map, length, slice_set, slice_range}
-use Rattle.std.specs.List.{fold, flat_map, range_with_len}
-use Rattle.first_line.specs.declared.row.Row.{Row}
+-- What running a script on a target over the units of a drive comes to.
+use Rattle.std.specs.Prelude.{ℕ, ◌≡◌, List, [], ◌∷◌, map, take, None}
+use Rattle.std.specs.List.{flat_map}
+use Rattle.pblk_model.specs.declared.shape.Shape.{Shape}
 use Rattle.pblk_model.specs.declared.script.Command.{Command}
-use Rattle.pblk_model.specs.declared.script.Command.TheVariants.{Write, Read, Flush, Post, Await}
-use Rattle.pblk_model.specs.Text.{Outcome, Silent, Words, Tag}
+use Rattle.pblk_model.specs.Contents.{contents, end}
+use Rattle.pblk_model.specs.History.{after}
+use Rattle.pblk_model.specs.Image.{Image, blank}
+use Rattle.pblk_model.specs.Transcript.{IsRun, closing_event, events, sector_writes}
+use Rattle.pblk_world.specs.World.{media}
+use Rattle.pblk_world.specs.Fronts.{history}
+use Rattle.ocssd_drive.specs.Drive.{DriveView, IsWhole, shape_of, with_units}
+use Rattle.ocssd_drive.specs.Units.{WornUnit}
+use Rattle.block_port.specs.Own.{lines_of}
+use Rattle.block_port.specs.Port.{IsSameTarget, ModelPort}
+use Rattle.block_target.specs.Mount.{MountView, IsSameMount, IsSound, engine_log, logs_in, taken_in}
+use Rattle.block_target.specs.Serial.{SerialView, device, lines_in}
+use Rattle.run_threads.specs.declared.records.Answer.{Answer}
+use Rattle.run_threads.specs.declared.records.Records.{Records}
+use Rattle.run_threads.specs.Run.{Runs}
+use Rattle.run_report.specs.OnePort.{IsTrouble}
+use Rattle.run_report.specs.Recorded.{IsRecorded}
+use Rattle.run_report.specs.Report.{closing_of, transcript_of}
+use Rattle.pblk_cli.specs.declared.serve.Served.{Served}
+use Rattle.pblk_cli.specs.declared.run.Ran.{Ran}
 
--- the lines of a write
-abbrev pub write_rows : ℕ → ℕ → ℕ → List Row
-write_rows lba count tag = map (λ sector. record { lba = sector; tag = tag }) (range_with_len lba count)
+-- what the target over a drive stands on when nothing was done
+abbrev pub media_in : MountView → Image
+media_in v = media (blank v.shape) (logs_in v)
 
-abbrev pub command_rows : Command → List Row
-command_rows (Write lba count tag) = write_rows lba count tag
-command_rows (Read lba count) = []
-command_rows Flush = []
-command_rows (Post name) = []
-command_rows (Await name) = []
+-- a target on which nothing was done, over these units
+pub record IsOpened (s : Shape) (units : List WornUnit) (target : SerialView) : Type 0 where
+  pub shape : target.mount.shape ≡ s
+  pub wear : target.mount.wear ≡ map (λ u. u.wear) units
+  pub unwritten : target.own ≡ []
 
-abbrev pub thread_rows : List Command → List Row
-thread_rows commands = flat_map command_rows commands
+-- The thread of a script was run through a port; where the script has none the port is as it was.
+abbrev pub HasRun : List (List Command) → List (List Answer) → ModelPort → ModelPort → Type 0
+HasRun [] threads old new = (threads ≡ []) × (new ≡ old)
+HasRun (commands ∷ script) threads old new = (answers : List Answer) × (threads ≡ answers ∷ [])
+    × (told : List ℕ → ℕ) × Runs told old commands answers new
 
-abbrev pub script_rows : List (List Command) → List Row
-script_rows script = flat_map thread_rows script
+pub record IsSession (script : List (List Command)) (old : SerialView) (records : Records) (new : SerialView) : Type 0 where
+  pub run : HasRun script records.threads (device old) (device new)
+  pub opened : records.opening ≡ None
+  pub target : IsSameTarget (device old) (device new)
 
--- the tag of each sector after these lines
-abbrev pub tag_after : List ℕ → Row → List ℕ
-tag_after tags row = slice_set tags row.lba row.tag
+-- A target was closed after a run: what was done on its drive is the world of a mount, in which nothing more was taken.
+pub record IsClosed (target : SerialView) (records : Records) (served : Served) : Type 0 where
+  pub mount : MountView
+  pub same : IsSameMount target.mount mount
+  pub sound : IsSound mount
+  pub units : map (λ u. u.unit) served.units.items ≡ mount.units
+  pub wear : map (λ u. u.wear) served.units.items ≡ mount.wear
+  -- the port knew of its own writes alone
+  pub alone : lines_in target.mount ≡ flat_map lines_of target.own
+  -- all that is told as synced is on the drive, and, where the close met no trouble, all that was taken
+  pub end_is : end (media_in mount) ≡ served.end
+  pub all : served.records.closing ≡ None → served.end ≡ taken_in mount
+  pub trouble : IsTrouble served.records.closing
+  pub quiet : closing_event (closing_of served.records.closing) ≡ []
+  pub threads : served.records.threads ≡ records.threads
+  pub opening : served.records.opening ≡ records.opening
 
-abbrev pub tags_after : List ℕ → List Row → List ℕ
-tags_after tags rows = fold tag_after tags rows
+-- A script was run on a drive of this shape on which nothing was written: what was done is the world of a mount, and the
+-- records have the transcript of a run whose history is the world's.
+pub record IsServing (s : Shape) (script : List (List Command)) (records : Records) (front : ℕ) (mount : MountView) : Type 0 where
+  pub shape : mount.shape ≡ s
+  pub sound : IsSound mount
+  pub recorded : IsRecorded script records
+  pub run : let t = transcript_of script records front in let start = contents (blank s) in
+      IsRun s.sector script start t (after start (sector_writes s.sector (take t.kept t.history)))
+  pub faultless : events (transcript_of script records front) ≡ []
+  pub history_is : history (engine_log mount) ≡ sector_writes s.sector (transcript_of script records front).history
+  pub kept : (transcript_of script records front).kept ≡ front
+  pub end_is : end (media_in mount) ≡ front
 
--- what a command is answered where these are the tags, after so many lines
-abbrev pub outcome_to : List ℕ → ℕ → Command → Outcome
-outcome_to tags front (Write lba count tag) = Silent
-outcome_to tags front (Read lba count) = Words front (map Tag (slice_range tags lba (lba + count)))
-outcome_to tags front Flush = Silent
-outcome_to tags front (Post name) = Silent
-outcome_to tags front (Await name) = Silent
+pub record IsServed (s : Shape) (script : List (List Command)) (units : List WornUnit) (served : Served) : Type 0 where
+  pub mount : MountView
+  pub serving : IsServing s script served.records served.end mount
+  pub units_are : map (λ u. u.unit) served.units.items ≡ mount.units
+  pub wear : map (λ u. u.wear) served.units.items ≡ map (λ u. u.wear) units
 
-abbrev pub thread_outcomes : List ℕ → ℕ → List Command → List Outcome
-thread_outcomes tags front [] = []
-thread_outcomes tags front (command ∷ commands) = outcome_to tags front command ∷ thread_outcomes (tags_after tags (command_rows command)) (front + length (command_rows command)) commands
-
-abbrev pub script_outcomes : List ℕ → ℕ → List (List Command) → List (List Outcome)
-script_outcomes tags front [] = []
-script_outcomes tags front (thread ∷ script) = thread_outcomes tags front thread ∷ script_outcomes (tags_after tags (thread_rows thread)) (front + length (thread_rows thread)) script
+-- the same on the units of a drive
+pub record IsRan (found : DriveView) (script : List (List Command)) (ran : Ran) : Type 0 where
+  pub mount : MountView
+  pub serving : IsServing (shape_of found) script ran.records ran.end mount
+  pub units_are : map (λ u. u.unit) ran.drive.units ≡ mount.units
+  pub wear : map (λ u. u.wear) ran.drive.units ≡ map (λ u. u.wear) found.units
+  pub numbers : ran.drive ≡ with_units ran.drive.units found
+  pub was : IsWhole found
+  pub whole : IsWhole ran.drive

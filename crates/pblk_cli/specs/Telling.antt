@@ -25,7 +25,7 @@ pub data Reason : Type 0 where
   -- an image that `run` doesn't take so far
   ImageUnbuilt : Reason
   Script : ScriptErr → Reason
-  -- a script that `run` doesn't take so far
+  -- a script that `run` doesn't take so far: it has a second thread
   ScriptUnbuilt : Reason
   -- a file, by its name, could not be read or written
   Failed : List ℕ → Reason
@@ -33,9 +33,9 @@ pub data Reason : Type 0 where
   Missing : List ℕ → Reason
   Memory : Reason
 
--- What a command comes to: a text, or a refusal.
+-- What a command comes to: a status and a text, or a refusal.
 pub data Ending : Type 0 where
-  Gives : List ℕ → Ending
+  Gives : ℕ → List ℕ → Ending
   Refuses : Reason → Ending
 
 abbrev pub status_of : Reason → ℕ
@@ -56,14 +56,14 @@ line_of (Failed name) = failed_line name
 line_of (Missing name) = missing_line name
 line_of Memory = memory_line
 
--- with status 0 the text was written whole, and with 8 a part of it, and the output failed
-abbrev pub Finishes : List ℕ → ℕ → SinkView → SinkView → Type 0
-Finishes text status old new = ((status ≡ 0) × (new.faults ≡ old.faults) × (IsTrue old.told → new.taken ≡ old.taken ++ text))
+-- with the command's own status the text was written whole, and with 8 a part of it, and the output failed
+abbrev pub Finishes : ℕ → List ℕ → ℕ → SinkView → SinkView → Type 0
+Finishes own text status old new = ((status ≡ own) × (new.faults ≡ old.faults) × (IsTrue old.told → new.taken ≡ old.taken ++ text))
     ⊎ ((status ≡ 8) × HasRisen old.faults new.faults × (IsTrue old.told → TakesPrefix text old.taken new.taken))
 
--- What a call tells of an ending: a text, or the status and the line of a refusal, whose writing changes nothing.
+-- What a call tells of an ending: its text, or the status and the line of a refusal, whose writing changes nothing.
 abbrev pub Tells : Ending → ℕ → SinkView → SinkView → Type 0
-Tells (Gives text) status old new = Finishes text status old new
+Tells (Gives own text) status old new = Finishes own text status old new
 Tells (Refuses reason) status old new = (status ≡ status_of reason) × Says (line_of reason) old new
 
 -- Files.

@@ -9,6 +9,7 @@ ghost use Rattle.pblk_cli.specs.Commands.{CreateComesTo};
 ghost use Rattle.pblk_cli.specs.Endings.{ending_of};
 ghost use Rattle.pblk_cli.specs.Creating.{MakesNothing};
 
+use crate::output::Output;
 use crate::refusal::Refusal;
 use command_text::created_text;
 use command_words::CreateNumbers;
@@ -24,7 +25,7 @@ pub(crate) fn create<'a, F: Files>(
     image: &'a str,
     numbers: &CreateNumbers,
     files: &mut F,
-) -> Result<String, Refusal<'a>>
+) -> Result<Output, Refusal<'a>>
     ensures comes { CreateComesTo image.now (numbers_seen numbers.now) (ending_of result) (F.view files.old) (F.view files.new) }
     ensures told { (F.view files.new).told ≡ (F.view files.old).told }
 {
@@ -37,7 +38,7 @@ pub(crate) fn create<'a, F: Files>(
         return Err(Refusal::Memory);
     };
     match files.write(image, &made) {
-        Ok(()) => Ok(text),
+        Ok(()) => Ok(Output::done(text)),
         Err(_) => Err(Refusal::Failed(image)),
     }
 }

@@ -1,12 +1,13 @@
 //! `geometry`: the numbers of an image.
 
-ghost use Rattle.std.specs.Prelude.{◌≡◌, IfOk, IfErr, string_bytes};
+ghost use Rattle.std.specs.Prelude.{◌≡◌, IfOk, IfErr};
 ghost use Rattle.pblk_model.specs.CommandText.{geometry_text};
 ghost use Rattle.pblk_model.specs.ImageFile.{Drive, IsImage};
 ghost use Rattle.pblk_cli.specs.Commands.{GeometryComesTo};
 ghost use Rattle.pblk_cli.specs.Endings.{ending_of, reason_of};
 ghost use Rattle.pblk_cli.specs.Reading.{CannotRead, ReadsFile, RefusesBytes};
 
+use crate::output::Output;
 use crate::refusal::Refusal;
 use command_text::geometry_text;
 use drive_image::load;
@@ -19,7 +20,7 @@ pub(crate) fn geometry<'a, F: Files>(
     alloc: Global,
     image: &'a str,
     files: &mut F,
-) -> Result<String, Refusal<'a>>
+) -> Result<Output, Refusal<'a>>
     ensures comes { GeometryComesTo image.now (ending_of result) (F.view files.old) (F.view files.new) }
     ensures told { (F.view files.new).told ≡ (F.view files.old).told }
 {
@@ -49,12 +50,16 @@ pub(crate) fn read_file<'a, F: Files>(
 }
 
 // The text on an image of these bytes.
-fn tell_geometry<'a>(alloc: Global, bytes: &[u8]) -> Result<String, Refusal<'a>>
-    ensures text { IfOk result (λ text. (d : Drive) × IsImage bytes.now d × (string_bytes text ≡ geometry_text d)) }
+fn tell_geometry<'a>(alloc: Global, bytes: &[u8]) -> Result<Output, Refusal<'a>>
+    ensures text { IfOk result (λ output. (output.status ≡ 0)
+        × (d : Drive) × IsImage bytes.now d × (output.text.items ≡ geometry_text d)) }
     ensures refused { IfErr result (λ refusal. RefusesBytes bytes.now (reason_of refusal)) }
 {
     match load(alloc, bytes) {
-        Ok(drive) => Ok(geometry_text(alloc, &drive)?),
+        Ok(drive) => {
+            let text = geometry_text(alloc, &drive)?;
+            Ok(Output::done(text))
+        }
         Err(e) => Err(refusal_of(e)),
     }
 }

@@ -9,6 +9,7 @@ ghost use Rattle.pblk_cli.specs.Program.{ProgramEnds};
 
 use crate::create::create;
 use crate::geometry::geometry;
+use crate::output::Output;
 use crate::refusal::{Refusal, finish};
 use crate::run::run;
 use command_text::{tell_memory, tell_words};
@@ -16,22 +17,25 @@ use command_words::{CommandLine, read_words};
 use pblk_outside::{Files, Sink, WordsErr};
 use std::alloc::Global;
 use std::process::ExitCode;
+use std::sync::Wait;
 
 /// Runs the command that the words are, and answers its status.
 ///
 /// | Status | Comes |
 /// |---|---|
-/// | 0 | the command did its work, and its text was written |
+/// | 0 | the command did all its work, and its text was written |
 /// | 1 | the words are no command |
 /// | 2 | the script is refused |
 /// | 3 | the image is refused, or what `create` is to make |
 /// | 4 | a file could not be read or written, or isn't there |
+/// | 6 | a script was run, and there was no room for all that it writes; the text was written |
 /// | 7 | there was no memory |
 /// | 8 | the command did its work, and its text could not be written whole |
 ///
-/// With each status but 0 and 8 one line says why. The words are judged first; then files are read, the image before the
-/// script; then the image is judged, then the script; the file is written before the text.
-pub fn pblk_main<F: Files, O: Sink>(
+/// With each status but 0, 6 and 8 one line says why. The words are judged first; then files are read, the image before the
+/// script; then the image is judged, then the script; the file is written before the text. A run may wait.
+pub fn pblk_main<R: Wait, F: Files, O: Sink>(
+    rt: &R,
     alloc: Global,
     words: &[String],
     files: &mut F,
@@ -52,31 +56,33 @@ pub fn pblk_main<F: Files, O: Sink>(
         tell_words(out);
         return 1;
     };
-    match do_command(alloc, command, files) {
-        Ok(text) => finish(&text, out),
+    match do_command(rt, alloc, command, files) {
+        Ok(output) => finish(&output, out),
         Err(refusal) => refusal.refuse(out),
     }
 }
 
 // What a command comes to.
-fn do_command<'a, F: Files>(
+fn do_command<'a, R: Wait, F: Files>(
+    rt: &R,
     alloc: Global,
     command: CommandLine<'a>,
     files: &mut F,
-) -> Result<String, Refusal<'a>>
+) -> Result<Output, Refusal<'a>>
     ensures comes { ComesTo (seen command.entry) (ending_of result) (F.view files.old) (F.view files.new) }
     ensures told { (F.view files.new).told ≡ (F.view files.old).told }
 {
     match command {
         CommandLine::Create { image, numbers } => create(alloc, image, &numbers, files),
         CommandLine::Geometry { image } => geometry(alloc, image, files),
-        CommandLine::Run { image, script } => run(alloc, image, script, files),
+        CommandLine::Run { image, script } => run(rt, alloc, image, script, files),
     }
 }
 
 /// Runs the command that the words are, as `pblk_main` does, and gives its status as the program's exit code. Words that
 /// could not be had are answered here: 1 where one is no text, and 7 for want of memory, each with its line.
-pub fn pblk_program<F: Files, O: Sink>(
+pub fn pblk_program<R: Wait, F: Files, O: Sink>(
+    rt: &R,
     alloc: Global,
     words: Result<Vec<String>, WordsErr>,
     files: &mut F,
@@ -91,7 +97,7 @@ pub fn pblk_program<F: Files, O: Sink>(
     }) }
 {
     match words {
-        Ok(words) => ExitCode::from(pblk_main(alloc, &words, files, out)),
+        Ok(words) => ExitCode::from(pblk_main(rt, alloc, &words, files, out)),
         Err(WordsErr::NotText) => {
             tell_words(out);
             ExitCode::from(1)

@@ -5,6 +5,7 @@ ghost use Rattle.pblk_cli.specs.declared.refusal.Refusal.TheVariants.{Memory};
 ghost use Rattle.pblk_cli.specs.Endings.{reason_of};
 ghost use Rattle.pblk_cli.specs.Telling.{Finishes, Gives, Refuses, Tells, status_of};
 
+use crate::output::Output;
 use command_text::{tell, tell_failed, tell_image, tell_memory, tell_missing, tell_script};
 use pblk_model::{ImageErr, ScriptErr};
 use pblk_outside::{Sink, SinkErr};
@@ -15,11 +16,11 @@ use std::alloc::{AllocError, AllocFailed};
 pub(crate) enum Refusal<'a> {
     /// The image, or what it is to be made of, is refused.
     Image(ImageErr),
-    /// The image isn't one that `run` takes so far.
+    /// The image isn't one that `run` takes so far: a chunk isn't Free.
     ImageUnbuilt,
     /// The script is refused.
     Script(ScriptErr),
-    /// The script isn't one that `run` takes so far.
+    /// The script isn't one that `run` takes so far: it has a second thread.
     ScriptUnbuilt,
     /// The file of this name could not be read or written.
     Failed(&'a str),
@@ -77,14 +78,14 @@ impl Refusal<'_> {
     }
 }
 
-/// Writes the text of a command that did its work: the status is 0, or 8 where the output failed.
-pub(crate) fn finish<O: Sink>(text: &str, out: &mut O) -> u8
-    ensures tells { Tells (Gives text.now) result (O.view out.old) (O.view out.new) }
+/// Writes the text of a command that did its work: the status is the command's own, or 8 where the output failed.
+pub(crate) fn finish<O: Sink>(output: &Output, out: &mut O) -> u8
+    ensures tells { Tells (Gives output.now.status output.now.text.items) result (O.view out.old) (O.view out.new) }
     ensures told { (O.view out.new).told ≡ (O.view out.old).told }
     ensures never_falls { (O.view out.old).faults ≤ (O.view out.new).faults }
 {
-    match out.write(text.as_bytes()) {
-        Ok(()) => 0,
+    match out.write(&output.text) {
+        Ok(()) => output.status,
         Err(SinkErr::Failed) => 8,
     }
 }

@@ -1,37 +1,44 @@
 //! `run`: a script on the drive of an image.
 
-ghost use Rattle.std.specs.Prelude.{◌≡◌, IfOk, IfErr, string_bytes};
-ghost use Rattle.std.specs.List.{AllByRecursion};
-ghost use Rattle.pblk_model.specs.Script.{ScriptFits};
-ghost use Rattle.ocssd_drive.specs.Drive.{shape_of, stored};
-ghost use Rattle.first_line.specs.Stored.{AreFree, IsUnarmed};
+ghost use Rattle.std.specs.Prelude.{◌≡◌, ◌≤◌, IfOk, IfErr, length};
+ghost use Rattle.pblk_model.specs.Script.{NeverStuck, ScriptFits};
+ghost use Rattle.drive_image.specs.Quiet.{IsQuiet};
+ghost use Rattle.ocssd_drive.specs.Drive.{stored};
 ghost use Rattle.pblk_cli.specs.Commands.{RunComesTo};
 ghost use Rattle.pblk_cli.specs.Endings.{ending_of, reason_of};
+ghost use Rattle.pblk_cli.specs.Free.{AreFree};
 ghost use Rattle.pblk_cli.specs.Reading.{ReadsFile};
 ghost use Rattle.pblk_cli.specs.Running.{CannotReadBoth, RefusesInput, IsRunOfInput, IsRunTo};
-ghost use Rattle.pblk_cli.specs.Taken.{IsTaken};
+ghost use Rattle.pblk_cli.specs.Serving.{IsRan};
 
+use crate::free::is_free;
 use crate::geometry::{read_file, refusal_of};
+use crate::output::Output;
 use crate::refusal::Refusal;
 use crate::serve::serve;
-use crate::taken::is_taken;
-use crate::transcript::transcript;
+use crate::status::has_worn;
 use drive_image::{load, store};
-use first_line::{is_free, store_history};
 use ocssd_drive::Drive;
 use pblk_model::{Script, ScriptErr};
 use pblk_outside::Files;
+use run_report::transcript;
 use run_script::read_script;
+use run_threads::Records;
 use std::alloc::{AllocError, Global};
+use std::sync::Wait;
+
+/// The status of a run that had no room for all that was to be written.
+const WORN: u8 = 6;
 
 /// Reads an image and a script, runs the script on the image's drive, stores the drive under the image's name, and gives the
 /// transcript.
-pub(crate) fn run<'a, F: Files>(
+pub(crate) fn run<'a, R: Wait, F: Files>(
+    rt: &R,
     alloc: Global,
     image: &'a str,
     script: &'a str,
     files: &mut F,
-) -> Result<String, Refusal<'a>>
+) -> Result<Output, Refusal<'a>>
     ensures comes { RunComesTo image.now script.now (ending_of result) (F.view files.old) (F.view files.new) }
     ensures told { (F.view files.new).told ≡ (F.view files.old).told }
 {
@@ -39,12 +46,12 @@ pub(crate) fn run<'a, F: Files>(
         Ok(read) => read,
         Err(refusal) => return Err(refusal),
     };
-    let (stored, text) = match run_input(alloc, image_bytes, &script_bytes) {
+    let (stored, output) = match run_input(rt, alloc, image_bytes, &script_bytes) {
         Ok(made) => made,
         Err(refusal) => return Err(refusal),
     };
     match files.write(image, &stored) {
-        Ok(()) => Ok(text),
+        Ok(()) => Ok(output),
         Err(_) => Err(Refusal::Failed(image)),
     }
 }
@@ -71,13 +78,14 @@ fn read_both<'a, F: Files>(
     }
 }
 
-// Runs what was read: the bytes of the image afterwards, and the transcript's text.
-fn run_input<'a>(
+// Runs what was read: the bytes of the image afterwards, and the status and the transcript's text.
+fn run_input<'a, R: Wait>(
+    rt: &R,
     alloc: Global,
     image: Vec<u8>,
     script: &[u8],
-) -> Result<(Vec<u8>, String), Refusal<'a>>
-    ensures run { IfOk result (λ made. IsRunOfInput image.items script.now made.0.items (string_bytes made.1)) }
+) -> Result<(Vec<u8>, Output), Refusal<'a>>
+    ensures run { IfOk result (λ made. IsRunOfInput image.items script.now made.1.status made.1.text.items made.0.items) }
     ensures refused { IfErr result (λ refusal. RefusesInput image.items script.now (reason_of refusal)) }
 {
     let drive = match load(alloc, &image) {
@@ -93,10 +101,11 @@ fn run_input<'a>(
     if !is_free(&drive) {
         return Err(Refusal::ImageUnbuilt);
     }
-    if !is_taken(&script, &drive.shape()) {
+    let threads = script.as_slice().len();
+    if threads > 1 {
         return Err(Refusal::ScriptUnbuilt);
     }
-    match run_taken(alloc, drive, &script) {
+    match run_and_store(rt, alloc, drive, &script) {
         Ok(made) => Ok(made),
         Err(_) => Err(Refusal::Memory),
     }
@@ -113,22 +122,63 @@ fn script_refusal_of<'a>(e: ScriptErr) -> Refusal<'a>
     }
 }
 
-// Runs a script that is taken on a drive whose chunks are all Free.
-fn run_taken(
+// Runs a script of one thread at most on a drive whose chunks are all Free, and makes what is stored and what is told.
+fn run_and_store<R: Wait>(
+    rt: &R,
     alloc: Global,
-    mut drive: Drive,
+    drive: Drive,
     script: &Script,
-) -> Result<(Vec<u8>, String), AllocError>
+) -> Result<(Vec<u8>, Output), AllocError>
     requires free { AreFree (stored drive) }
-    requires unarmed { AllByRecursion IsUnarmed drive.units }
-    requires taken { IsTaken (shape_of drive) script.now }
+    requires quiet { IsQuiet drive }
+    requires one { length script.now ≤ 1 }
     requires fits { ScriptFits drive.capacity script.now }
-    ensures { IfOk result (λ made. IsRunTo (stored drive) script.now (string_bytes made.1) made.0.items) }
+    requires flows { NeverStuck script.now }
+    ensures { IfOk result (λ made. IsRunTo (stored drive) script.now made.1.status made.1.text.items made.0.items) }
 {
-    let run = serve(alloc, script, &drive.shape())?;
-    let text = transcript(alloc, &run)?;
-    store_history(alloc, &mut drive, &run.rows)?;
+    let ran = run_on(rt, alloc, drive, script)?;
+    let text = transcript(alloc, script, &ran.records, ran.end)?;
+    let status = if has_worn(&ran.records) { WORN } else { 0 };
     let mut bytes = Vec::new(alloc);
-    store(&drive, &mut bytes)?;
-    Ok((bytes, text))
+    store(&ran.drive, &mut bytes)?;
+    Ok((bytes, Output { status, text }))
+}
+
+/// A drive after a run, what the script was answered, and the end of what is on the drive, as a position.
+#[derive(Debug, Drop)]
+pub(crate) struct Ran {
+    pub(crate) drive: Drive,
+    pub(crate) records: Records,
+    pub(crate) end: u64,
+}
+
+// Runs a script of one thread at most on the units of a drive whose chunks are all Free.
+fn run_on<R: Wait>(rt: &R, alloc: Global, drive: Drive, script: &Script) -> Result<Ran, AllocError>
+    requires free { AreFree (stored drive) }
+    requires quiet { IsQuiet drive }
+    requires one { length script.now ≤ 1 }
+    requires fits { ScriptFits drive.capacity script.now }
+    requires flows { NeverStuck script.now }
+    ensures { IfOk result (IsRan drive script.now) }
+{
+    let shape = drive.shape();
+    let Drive {
+        geometry,
+        sector,
+        capacity,
+        ring,
+        units,
+    } = drive;
+    let served = serve(rt, alloc, units, &shape, script)?;
+    Ok(Ran {
+        drive: Drive {
+            geometry,
+            sector,
+            capacity,
+            ring,
+            units: served.units,
+        },
+        records: served.records,
+        end: served.end,
+    })
 }

@@ -1,162 +1,159 @@
-//! Runs a script. The history is a plain list, and a read answers from it at a front of its length.
+//! Runs a script on a target over the units of a drive.
 
-ghost use Rattle.std.specs.Prelude.{◌≡◌, ◌<◌, ◌≤◌, ◌^◌, ◌+◌, ◌++◌, length, map, replicate, slice_range, IfOk, OnOk};
-ghost use Rattle.std.specs.List.{AllByRecursion};
+ghost use Rattle.std.specs.Prelude.{◌≡◌, ◌≤◌, ◌<◌, ◌^◌, ◌∷◌, [], length, map, IfOk};
 ghost use Rattle.pblk_model.specs.Accepted.{IsAccepted};
-ghost use Rattle.pblk_model.specs.History.{after};
-ghost use Rattle.pblk_model.specs.LineOrder.{data_len};
-ghost use Rattle.pblk_model.specs.Script.{CommandFits, ScriptFits};
-ghost use Rattle.pblk_model.specs.Shape.{units};
-ghost use Rattle.pblk_model.specs.Text.{Tag, Words};
-ghost use Rattle.pblk_model.specs.Transcript.{IsRun};
-ghost use Rattle.pblk_cli.specs.Taken.{IsTaken, IsPlain};
-ghost use Rattle.pblk_cli.specs.Run.{transcript_of, outcome_of, blank_sectors};
-ghost use Rattle.first_line.specs.Line.{writes_of};
-ghost use Rattle.pblk_cli.specs.Serving.{write_rows, command_rows, thread_rows, script_rows, tags_after, outcome_to, thread_outcomes, script_outcomes};
+ghost use Rattle.pblk_model.specs.Script.{NeverStuck, ScriptFits};
+ghost use Rattle.block_target.specs.Mount.{AreNewUnits};
+ghost use Rattle.block_target.specs.Serial.{SerialView};
+ghost use Rattle.pblk_cli.specs.Serving.{IsOpened, IsSession, IsClosed, IsServed};
 
-use first_line::Row;
-use pblk_model::{Command, Commands, Script, Shape};
+use block_target::{Refused, Serial, SettleErr};
+use ocssd_drive::MemoryUnit;
+use pblk_model::{Script, Shape};
+use run_threads::{Records, ThreadRows, Trouble, run};
 use std::alloc::{AllocError, Global};
+use std::sync::Wait;
 
-/// What a command was answered.
+/// What a run leaves: the units, what the script was answered, and the position below which all entries are on
+/// the drive, and no other.
 #[derive(Debug, Drop)]
-pub(crate) enum Answer {
-    /// A write stands in the history.
-    Placed,
-    /// A read: its front, and the tags of its sectors there.
-    Words { front: u64, tags: Vec<u64> },
+pub(crate) struct Served {
+    pub(crate) units: Vec<MemoryUnit>,
+    pub(crate) records: Records,
+    pub(crate) end: u64,
 }
 
-/// A run: the history, and what each command of each thread was answered.
-#[derive(Debug, Drop)]
-pub(crate) struct Run {
-    pub(crate) rows: Vec<Row>,
-    pub(crate) threads: Vec<Vec<Answer>>,
-}
-
-/// Runs the threads of a script, one after another, on a target whose sectors are zeros.
-pub(crate) fn serve(alloc: Global, script: &Script, shape: &Shape) -> Result<Run, AllocError>
+/// Runs a script of one thread at most on a target over new units, and closes it.
+pub(crate) fn serve<R: Wait>(
+    rt: &R,
+    alloc: Global,
+    units: Vec<MemoryUnit>,
+    shape: &Shape,
+    script: &Script,
+) -> Result<Served, AllocError>
     requires accepted { IsAccepted shape.now }
-    requires taken { IsTaken shape.now script.now }
+    requires new { AreNewUnits shape.now (map (λ u. u.unit) units.items) }
+    requires one { length script.now ≤ 1 }
     requires fits { ScriptFits shape.now.capacity script.now }
-    ensures run { IfOk result (λ run. let before = blank_sectors shape.now in
-        IsRun shape.now.sector script.now before (transcript_of run) (after before (writes_of shape.now.sector run.rows.items))) }
-    ensures few { IfOk result (λ run. length run.rows.items + shape.now.ws_opt ≤ data_len shape.now (units shape.now)) }
-    ensures within { IfOk result (λ run. AllByRecursion (λ row. row.lba < shape.now.capacity) run.rows.items) }
+    requires flows { NeverStuck script.now }
+    ensures { IfOk result (IsServed shape.now script.now units.items) }
 {
-    let mut latest = zero_tags(alloc, shape.capacity)?;
-    let mut rows = Vec::new(alloc);
-    let threads = serve_threads(alloc, script.as_slice(), latest.as_mut_slice(), &mut rows)?;
-    Ok(Run { rows, threads })
+    let target = open(alloc, units, shape)?;
+    let (target, records) = run_session(rt, alloc, target, script)?;
+    Ok(close(rt, target, records))
 }
 
-// Runs threads, one after another; `latest` has the tag of each sector after the history so far.
-fn serve_threads(
+// A target over new units.
+fn open(
     alloc: Global,
-    script: &[Commands],
-    latest: &mut [u64],
-    rows: &mut Vec<Row>,
-) -> Result<Vec<Vec<Answer>>, AllocError>
-    requires plain { AllByRecursion (AllByRecursion IsPlain) script.now }
-    requires fit { AllByRecursion (AllByRecursion (CommandFits (length latest.old))) script.now }
-    ensures answers { IfOk result (λ threads. map (λ thread. map outcome_of thread.items) threads.items ≡ script_outcomes latest.old (length rows.old.items) script.now) }
-    ensures rows { OnOk result (rows.new.items ≡ rows.old.items ++ script_rows script.now) }
+    units: Vec<MemoryUnit>,
+    shape: &Shape,
+) -> Result<Serial<MemoryUnit>, AllocError>
+    requires accepted { IsAccepted shape.now }
+    requires new { AreNewUnits shape.now (map (λ u. u.unit) units.items) }
+    ensures { IfOk result (IsOpened shape.now units.items) }
 {
-    let mut threads = Vec::new(alloc);
-    for commands in script {
-        threads.push(serve_thread(alloc, commands.as_slice(), latest, rows)?)?;
+    match Serial::open(alloc, units, shape) {
+        Ok(target) => Ok(target),
+        Err(Refused { units: _, cause: _ }) => Err(AllocError),
     }
-    Ok(threads)
 }
 
-// The tag of each sector: a sector of zeros is that of tag 0.
-fn zero_tags(alloc: Global, capacity: u64) -> Result<Vec<u64>, AllocError>
-    ensures { IfOk result (λ tags. tags.items ≡ replicate capacity 0) }
-{
-    let mut tags = Vec::new(alloc);
-    for _sector in 0..capacity {
-        tags.push(0)?;
-    }
-    Ok(tags)
-}
-
-// Runs the commands of a thread.
-fn serve_thread(
+// Runs the thread of a script, if it has one. Without memory the target is closed.
+fn run_session<R: Wait>(
+    rt: &R,
     alloc: Global,
-    commands: &[Command],
-    latest: &mut [u64],
-    rows: &mut Vec<Row>,
-) -> Result<Vec<Answer>, AllocError>
-    requires plain { AllByRecursion IsPlain commands.now }
-    requires fit { AllByRecursion (CommandFits (length latest.old)) commands.now }
-    ensures answers { IfOk result (λ answers. map outcome_of answers.items ≡ thread_outcomes latest.old (length rows.old.items) commands.now) }
-    ensures rows { OnOk result (rows.new.items ≡ rows.old.items ++ thread_rows commands.now) }
-    ensures latest { OnOk result (latest.new ≡ tags_after latest.old (thread_rows commands.now)) }
+    target: Serial<MemoryUnit>,
+    script: &Script,
+) -> Result<(Serial<MemoryUnit>, Records), AllocError>
+    requires one { length script.now ≤ 1 }
+    requires fits { ScriptFits target.mount.shape.capacity script.now }
+    requires flows { NeverStuck script.now }
+    ensures { IfOk result (λ ran. IsSession script.now target ran.1 ran.0) }
 {
-    let mut answers = Vec::new(alloc);
-    for command in commands {
-        answers.push(serve_command(alloc, command, latest, rows)?)?;
+    if script.as_slice().is_empty() {
+        return Ok((target, no_records(alloc)));
     }
-    Ok(answers)
-}
-
-// Runs a command.
-fn serve_command(
-    alloc: Global,
-    command: &Command,
-    latest: &mut [u64],
-    rows: &mut Vec<Row>,
-) -> Result<Answer, AllocError>
-    requires plain { IsPlain command.now }
-    requires fit { CommandFits (length latest.old) command.now }
-    ensures answer { IfOk result (λ answer. outcome_of answer ≡ outcome_to latest.old (length rows.old.items) command.now) }
-    ensures rows { OnOk result (rows.new.items ≡ rows.old.items ++ command_rows command.now) }
-    ensures latest { OnOk result (latest.new ≡ tags_after latest.old (command_rows command.now)) }
-{
-    match command {
-        Command::Write { lba, count, tag } => {
-            write(*lba, *count, *tag, latest, rows)?;
-            Ok(Answer::Placed)
+    let ports = one_port(rt, alloc, target)?;
+    match run(rt, alloc, script, ports) {
+        Ok((records, ports)) => Ok((only_port(ports), records)),
+        Err((e, ports)) => {
+            let _ = only_port(ports).close(rt);
+            Err(e)
         }
-        Command::Read { lba, count } => read(alloc, *lba, *count, latest, rows),
-        Command::Flush | Command::Post(_) | Command::Await(_) => unreachable!(),
     }
 }
 
-// Adds the lines of a write to the history.
-fn write(
-    lba: u64,
-    count: u32,
-    tag: u64,
-    latest: &mut [u64],
-    rows: &mut Vec<Row>,
-) -> Result<(), AllocError>
-    requires { lba + count ≤ length latest.old }
-    ensures rows { OnOk result (rows.new.items ≡ rows.old.items ++ write_rows lba count tag) }
-    ensures latest { OnOk result (latest.new ≡ tags_after latest.old (write_rows lba count tag)) }
+// The records of a script without threads.
+fn no_records(alloc: Global) -> Records
+    ensures { (result.threads ≡ []) × (result.opening ≡ None) }
 {
-    for sector in lba..lba + u64::from(count) {
-        latest[sector as usize] = tag;
-        rows.push(Row { lba: sector, tag })?;
+    Records {
+        threads: ThreadRows::new(Vec::new(alloc)),
+        opening: None,
+        closing: None,
     }
-    Ok(())
 }
 
-// Answers a read at the end of the history.
-fn read(
+// The ports of a script of one thread. Without memory the target is closed.
+fn one_port<R: Wait>(
+    rt: &R,
     alloc: Global,
-    lba: u64,
-    count: u32,
-    latest: &[u64],
-    rows: &[Row],
-) -> Result<Answer, AllocError>
-    requires { lba + count ≤ length latest.now }
-    ensures { IfOk result (λ answer. outcome_of answer ≡ Words (length rows.now) (map Tag (slice_range latest.now lba (lba + count)))) }
+    target: Serial<MemoryUnit>,
+) -> Result<Vec<Serial<MemoryUnit>>, AllocError>
+    ensures { IfOk result (λ ports. ports.items ≡ target ∷ []) }
 {
-    let first = lba as usize;
-    let tags = Vec::from_slice(alloc, &latest[first..first + count as usize])?;
-    Ok(Answer::Words {
-        front: rows.len() as u64,
-        tags,
-    })
+    match Vec::from_array(alloc, [target]) {
+        Ok(ports) => Ok(ports),
+        Err(e) => {
+            let [target] = e.value;
+            let _ = target.close(rt);
+            Err(AllocError)
+        }
+    }
+}
+
+// The port of a script of one thread.
+fn only_port(mut ports: Vec<Serial<MemoryUnit>>) -> Serial<MemoryUnit>
+    requires { length ports.items ≡ 1 }
+    ensures { ports.items ≡ result ∷ [] }
+{
+    let port = ports.pop().unwrap();
+    ports.destroy_empty();
+    port
+}
+
+// Closes a target after a run, and records what that met.
+fn close<R: Wait>(rt: &R, target: Serial<MemoryUnit>, records: Records) -> Served
+    ensures { IsClosed target records result }
+{
+    let taken = target.front().position;
+    let (units, settled) = target.close(rt);
+    let (closing, end) = match settled {
+        Ok(()) => (None, taken),
+        Err(SettleErr::Worn { wanted, have }) => (Some(worn(wanted, have)), have),
+        Err(SettleErr::Drive { .. }) => unreachable!(),
+    };
+    let Records {
+        threads,
+        opening,
+        ..
+    } = records;
+    Served {
+        units,
+        records: Records {
+            threads,
+            opening,
+            closing,
+        },
+        end,
+    }
+}
+
+// The trouble of a close that had no room.
+fn worn(wanted: u64, have: u64) -> Trouble
+    ensures is { result ≡ Trouble.Worn wanted have }
+    ensures number { wanted < 2 ^ 64 }
+{
+    Trouble::Worn { wanted, have }
 }

@@ -3,6 +3,7 @@
 use crate::drives::{GROUPS, LARGE_SECTORS, Numbers, ONE_UNIT, SMALL};
 use crate::harness::{Asked, Content, FirstWrong, Told, Wrong, compare, refuses};
 use std::alloc::{AllocError, Global};
+use std::sync::Wait;
 use std::test::Fail;
 
 // Words, the drive whose blank image they make, and the line.
@@ -89,7 +90,7 @@ const MADE: [Made<'static>; 11] = [
 ];
 
 // The image is made where there is none, and over a file that is no image or is this one.
-fn wrong_made(alloc: Global, row: &Made<'_>) -> Result<Wrong, AllocError> {
+fn wrong_made<R: Wait>(rt: &R, alloc: Global, row: &Made<'_>) -> Result<Wrong, AllocError> {
     let (words, numbers, text) = row;
     let told = Told {
         status: 0,
@@ -98,7 +99,7 @@ fn wrong_made(alloc: Global, row: &Made<'_>) -> Result<Wrong, AllocError> {
     };
     for before in [Content::Absent, Content::Text("old"), told.image] {
         let asked = Asked::calm(words, &before, &Content::Absent);
-        let wrong = compare(alloc, &asked, &told)?;
+        let wrong = compare(rt, alloc, &asked, &told)?;
         if wrong != Wrong::Nothing {
             return Ok(wrong);
         }
@@ -106,9 +107,13 @@ fn wrong_made(alloc: Global, row: &Made<'_>) -> Result<Wrong, AllocError> {
     Ok(Wrong::Nothing)
 }
 
-fn first_wrong_made(alloc: Global, rows: &[Made<'_>]) -> Result<FirstWrong, AllocError> {
+fn first_wrong_made<R: Wait>(
+    rt: &R,
+    alloc: Global,
+    rows: &[Made<'_>],
+) -> Result<FirstWrong, AllocError> {
     for (number, row) in rows.iter().enumerate() {
-        let wrong = wrong_made(alloc, row)?;
+        let wrong = wrong_made(rt, alloc, row)?;
         if wrong != Wrong::Nothing {
             return Ok(Some((number, wrong)));
         }
@@ -118,7 +123,7 @@ fn first_wrong_made(alloc: Global, rows: &[Made<'_>]) -> Result<FirstWrong, Allo
 
 #[test]
 fn blank_images_are_made(rt: HostRuntime) -> Result<(), Fail> {
-    assert_eq!(rt; first_wrong_made(rt.alloc(), &MADE)?, None);
+    assert_eq!(rt; first_wrong_made(&rt, rt.alloc(), &MADE)?, None);
     Ok(())
 }
 
@@ -208,18 +213,27 @@ const REFUSED: [(&str, &str); 41] = [
 ];
 
 // Nothing is made where there is no file, and over a file.
-fn wrong_refusal(alloc: Global, words: &str, line: &str) -> Result<Wrong, AllocError> {
+fn wrong_refusal<R: Wait>(
+    rt: &R,
+    alloc: Global,
+    words: &str,
+    line: &str,
+) -> Result<Wrong, AllocError> {
     let none = Content::Absent;
-    let wrong = refuses(alloc, words, none, none, (3, line))?;
+    let wrong = refuses(rt, alloc, words, none, none, (3, line))?;
     if wrong != Wrong::Nothing {
         return Ok(wrong);
     }
-    refuses(alloc, words, Content::Text("kept"), none, (3, line))
+    refuses(rt, alloc, words, Content::Text("kept"), none, (3, line))
 }
 
-fn first_wrong_refusal(alloc: Global, rows: &[(&str, &str)]) -> Result<FirstWrong, AllocError> {
+fn first_wrong_refusal<R: Wait>(
+    rt: &R,
+    alloc: Global,
+    rows: &[(&str, &str)],
+) -> Result<FirstWrong, AllocError> {
     for (number, (words, line)) in rows.iter().enumerate() {
-        let wrong = wrong_refusal(alloc, words, line)?;
+        let wrong = wrong_refusal(rt, alloc, words, line)?;
         if wrong != Wrong::Nothing {
             return Ok(Some((number, wrong)));
         }
@@ -229,6 +243,6 @@ fn first_wrong_refusal(alloc: Global, rows: &[(&str, &str)]) -> Result<FirstWron
 
 #[test]
 fn refused_numbers_make_nothing(rt: HostRuntime) -> Result<(), Fail> {
-    assert_eq!(rt; first_wrong_refusal(rt.alloc(), &REFUSED)?, None);
+    assert_eq!(rt; first_wrong_refusal(&rt, rt.alloc(), &REFUSED)?, None);
     Ok(())
 }

@@ -3,6 +3,7 @@
 use crate::drives::SMALL;
 use crate::harness::{Asked, BLANK, Content, FirstWrong, Told, Wrong, compare};
 use std::alloc::{AllocError, Global};
+use std::sync::Wait;
 use std::test::Fail;
 
 const SCRIPT: Content<'static> = Content::Text("thread\nw 5 1 17\n");
@@ -220,7 +221,7 @@ const ROWS: [Row<'static>; 21] = [
     ),
 ];
 
-fn wrong_in(alloc: Global, row: &Row<'_>) -> Result<Wrong, AllocError> {
+fn wrong_in<R: Wait>(rt: &R, alloc: Global, row: &Row<'_>) -> Result<Wrong, AllocError> {
     let (words, before, files, output, status, text, after) = row;
     let image = content_of(*before);
     let asked = Asked {
@@ -235,12 +236,12 @@ fn wrong_in(alloc: Global, row: &Row<'_>) -> Result<Wrong, AllocError> {
         text,
         image: content_of(*after),
     };
-    compare(alloc, &asked, &told)
+    compare(rt, alloc, &asked, &told)
 }
 
-fn first_wrong(alloc: Global, rows: &[Row<'_>]) -> Result<FirstWrong, AllocError> {
+fn first_wrong<R: Wait>(rt: &R, alloc: Global, rows: &[Row<'_>]) -> Result<FirstWrong, AllocError> {
     for (number, row) in rows.iter().enumerate() {
-        let wrong = wrong_in(alloc, row)?;
+        let wrong = wrong_in(rt, alloc, row)?;
         if wrong != Wrong::Nothing {
             return Ok(Some((number, wrong)));
         }
@@ -250,6 +251,6 @@ fn first_wrong(alloc: Global, rows: &[Row<'_>]) -> Result<FirstWrong, AllocError
 
 #[test]
 fn faults_are_answered(rt: HostRuntime) -> Result<(), Fail> {
-    assert_eq!(rt; first_wrong(rt.alloc(), &ROWS)?, None);
+    assert_eq!(rt; first_wrong(&rt, rt.alloc(), &ROWS)?, None);
     Ok(())
 }

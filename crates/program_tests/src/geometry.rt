@@ -3,6 +3,7 @@
 use crate::drives::{Edit, GROUPS, LARGE_SECTORS, ONE_UNIT, SMALL};
 use crate::harness::{Asked, BLANK, Content, FirstWrong, Told, Wrong, compare};
 use std::alloc::{AllocError, Global};
+use std::sync::Wait;
 use std::test::Fail;
 
 // Chunk 3 of unit 0 and chunk 7 of unit 1 are Offline; chunks 1 and 2 of unit 0 were closed by
@@ -58,19 +59,28 @@ const PRINTED: [(Content<'static>, &str); 7] = [
     ),
 ];
 
-fn wrong_print(alloc: Global, image: Content<'_>, text: &str) -> Result<Wrong, AllocError> {
+fn wrong_print<R: Wait>(
+    rt: &R,
+    alloc: Global,
+    image: Content<'_>,
+    text: &str,
+) -> Result<Wrong, AllocError> {
     let asked = Asked::calm("geometry|image", &image, &Content::Absent);
     let told = Told {
         status: 0,
         text,
         image,
     };
-    compare(alloc, &asked, &told)
+    compare(rt, alloc, &asked, &told)
 }
 
-fn first_wrong(alloc: Global, rows: &[(Content<'_>, &str)]) -> Result<FirstWrong, AllocError> {
+fn first_wrong<R: Wait>(
+    rt: &R,
+    alloc: Global,
+    rows: &[(Content<'_>, &str)],
+) -> Result<FirstWrong, AllocError> {
     for (number, (image, text)) in rows.iter().enumerate() {
-        let wrong = wrong_print(alloc, *image, text)?;
+        let wrong = wrong_print(rt, alloc, *image, text)?;
         if wrong != Wrong::Nothing {
             return Ok(Some((number, wrong)));
         }
@@ -80,6 +90,6 @@ fn first_wrong(alloc: Global, rows: &[(Content<'_>, &str)]) -> Result<FirstWrong
 
 #[test]
 fn the_numbers_of_images_are_printed(rt: HostRuntime) -> Result<(), Fail> {
-    assert_eq!(rt; first_wrong(rt.alloc(), &PRINTED)?, None);
+    assert_eq!(rt; first_wrong(&rt, rt.alloc(), &PRINTED)?, None);
     Ok(())
 }

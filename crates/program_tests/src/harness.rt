@@ -4,10 +4,13 @@ use crate::drives::{Edit, Numbers, Row, SMALL, edit, image};
 use pblk_cli::pblk_main;
 use pblk_outside::{MemoryFiles, MemorySink};
 use std::alloc::{AllocError, Global};
+use std::sync::Wait;
 
 /// What a file holds.
 #[derive(Clone, Copy)]
 pub(crate) enum Content<'a> {
+    /// Nothing is told of it.
+    Untold,
     /// There is no such file.
     Absent,
     Text(&'a str),
@@ -70,7 +73,8 @@ pub(crate) type FirstWrong = Option<(usize, Wrong)>;
 
 /// Makes a call, and compares its end with what is told. The script and the file `other` are to be
 /// as they were.
-pub(crate) fn compare(
+pub(crate) fn compare<R: Wait>(
+    rt: &R,
     alloc: Global,
     asked: &Asked<'_>,
     told: &Told<'_>,
@@ -78,7 +82,7 @@ pub(crate) fn compare(
     let mut files = files_of(alloc, asked)?;
     let mut out = MemorySink::new(alloc, asked.failing_output)?;
     let words = words_of(alloc, asked.words)?;
-    let status = call(alloc, &words, &mut files, &mut out);
+    let status = call(rt, alloc, &words, &mut files, &mut out);
     if status != told.status {
         return Ok(Wrong::Status(status));
     }
@@ -98,13 +102,14 @@ fn files_of(alloc: Global, asked: &Asked<'_>) -> Result<MemoryFiles, AllocError>
 }
 
 /// Calls the program, which gives its status.
-pub(crate) fn call(
+pub(crate) fn call<R: Wait>(
+    rt: &R,
     alloc: Global,
     words: &[String],
     files: &mut MemoryFiles,
     out: &mut MemorySink,
 ) -> u8 {
-    pblk_main(alloc, words, files, out)
+    pblk_main(rt, alloc, words, files, out)
 }
 
 // What of the files after a call is otherwise than told.
@@ -126,7 +131,8 @@ fn wrong_files(
 
 /// Makes a call where nothing fails, which is to end with this status and line, and to change no
 /// file.
-pub(crate) fn refuses(
+pub(crate) fn refuses<R: Wait>(
+    rt: &R,
     alloc: Global,
     words: &str,
     image: Content<'_>,
@@ -139,7 +145,7 @@ pub(crate) fn refuses(
         text,
         image,
     };
-    compare(alloc, &Asked::calm(words, &image, &script), &told)
+    compare(rt, alloc, &Asked::calm(words, &image, &script), &told)
 }
 
 /// The words of a line, which are parted by `|`.
@@ -154,7 +160,7 @@ pub(crate) fn words_of(alloc: Global, line: &str) -> Result<Vec<String>, AllocEr
 // The bytes of a file that is there.
 fn bytes_of(alloc: Global, content: &Content<'_>) -> Result<Option<Vec<u8>>, AllocError> {
     match content {
-        Content::Absent => Ok(None),
+        Content::Untold | Content::Absent => Ok(None),
         Content::Text(text) => Ok(Some(Vec::from_slice(alloc, text.as_bytes())?)),
         Content::Bytes(bytes) => Ok(Some(Vec::from_slice(alloc, bytes)?)),
         Content::Image(numbers, history, edits) => {
@@ -189,6 +195,9 @@ fn holds(
     name: &str,
     content: &Content<'_>,
 ) -> Result<bool, AllocError> {
+    if matches!(content, Content::Untold) {
+        return Ok(true);
+    }
     match bytes_of(alloc, content)? {
         Some(bytes) => Ok(files.get(name) == Some(bytes.as_slice())),
         None => Ok(files.get(name).is_none()),

@@ -3,6 +3,7 @@
 use crate::drives::{Edit, SMALL};
 use crate::harness::{BLANK, Content, FirstWrong, Wrong, refuses};
 use std::alloc::{AllocError, Global};
+use std::sync::Wait;
 use std::test::Fail;
 
 // A place that no image has.
@@ -58,18 +59,27 @@ const CUT: [Cut<'static>; 35] = [
 ];
 
 // Beside the image stands a script that is refused.
-fn wrong_image(alloc: Global, image: Content<'_>, line: &str) -> Result<Wrong, AllocError> {
+fn wrong_image<R: Wait>(
+    rt: &R,
+    alloc: Global,
+    image: Content<'_>,
+    line: &str,
+) -> Result<Wrong, AllocError> {
     let script = Content::Text("thread\nx\n");
-    let wrong = refuses(alloc, "geometry|image", image, script, (3, line))?;
+    let wrong = refuses(rt, alloc, "geometry|image", image, script, (3, line))?;
     if wrong != Wrong::Nothing {
         return Ok(wrong);
     }
-    refuses(alloc, "run|image|script", image, script, (3, line))
+    refuses(rt, alloc, "run|image|script", image, script, (3, line))
 }
 
-fn first_wrong_cut(alloc: Global, rows: &[Cut<'_>]) -> Result<FirstWrong, AllocError> {
+fn first_wrong_cut<R: Wait>(
+    rt: &R,
+    alloc: Global,
+    rows: &[Cut<'_>],
+) -> Result<FirstWrong, AllocError> {
     for (number, (edits, length, line)) in rows.iter().enumerate() {
-        let wrong = wrong_image(alloc, Content::Cut(edits, *length), line)?;
+        let wrong = wrong_image(rt, alloc, Content::Cut(edits, *length), line)?;
         if wrong != Wrong::Nothing {
             return Ok(Some((number, wrong)));
         }
@@ -79,7 +89,7 @@ fn first_wrong_cut(alloc: Global, rows: &[Cut<'_>]) -> Result<FirstWrong, AllocE
 
 #[test]
 fn images_are_refused(rt: HostRuntime) -> Result<(), Fail> {
-    assert_eq!(rt; first_wrong_cut(rt.alloc(), &CUT)?, None);
+    assert_eq!(rt; first_wrong_cut(&rt, rt.alloc(), &CUT)?, None);
     Ok(())
 }
 
@@ -88,12 +98,12 @@ fn images_are_refused(rt: HostRuntime) -> Result<(), Fail> {
 fn a_script_and_a_wrong_pointer_are_refused(rt: HostRuntime) -> Result<(), Fail> {
     let script = Content::Text("thread\nw 5 1 17\n");
     assert_eq!(rt;
-        wrong_image(rt.alloc(), script, "image Short 16\n")?,
+        wrong_image(&rt, rt.alloc(), script, "image Short 16\n")?,
         Wrong::Nothing
     );
     let written = Content::Image(&SMALL, &[(0, 1)], &[(4152, 3)]);
     assert_eq!(rt;
-        wrong_image(rt.alloc(), written, "image Chunk 0 0 5\n")?,
+        wrong_image(&rt, rt.alloc(), written, "image Chunk 0 0 5\n")?,
         Wrong::Nothing
     );
     Ok(())
@@ -118,14 +128,15 @@ const SCRIPTS_BESIDE: [Beside<'static>; 4] = [
     ("thread\nx\n", (2, "script Form 2\n")),
 ];
 
-fn first_wrong_beside(
+fn first_wrong_beside<R: Wait>(
+    rt: &R,
     alloc: Global,
     image: Content<'_>,
     scripts: &[Beside<'_>],
 ) -> Result<FirstWrong, AllocError> {
     for (number, (script, end)) in scripts.iter().enumerate() {
         let script = Content::Text(script);
-        let wrong = refuses(alloc, "run|image|script", image, script, *end)?;
+        let wrong = refuses(rt, alloc, "run|image|script", image, script, *end)?;
         if wrong != Wrong::Nothing {
             return Ok(Some((number, wrong)));
         }
@@ -137,7 +148,7 @@ fn first_wrong_beside(
 fn images_with_written_chunks_are_not_taken_yet(rt: HostRuntime) -> Result<(), Fail> {
     for image in &NOT_FREE {
         assert_eq!(rt;
-            first_wrong_beside(rt.alloc(), *image, &SCRIPTS_BESIDE)?,
+            first_wrong_beside(&rt, rt.alloc(), *image, &SCRIPTS_BESIDE)?,
             None
         );
     }
@@ -199,9 +210,13 @@ const MISSING: [Missing<'static>; 8] = [
     ),
 ];
 
-fn first_wrong_missing(alloc: Global, rows: &[Missing<'_>]) -> Result<FirstWrong, AllocError> {
+fn first_wrong_missing<R: Wait>(
+    rt: &R,
+    alloc: Global,
+    rows: &[Missing<'_>],
+) -> Result<FirstWrong, AllocError> {
     for (number, (words, image, script, line)) in rows.iter().enumerate() {
-        let wrong = refuses(alloc, words, *image, *script, (4, line))?;
+        let wrong = refuses(rt, alloc, words, *image, *script, (4, line))?;
         if wrong != Wrong::Nothing {
             return Ok(Some((number, wrong)));
         }
@@ -211,6 +226,6 @@ fn first_wrong_missing(alloc: Global, rows: &[Missing<'_>]) -> Result<FirstWrong
 
 #[test]
 fn missing_files_are_named(rt: HostRuntime) -> Result<(), Fail> {
-    assert_eq!(rt; first_wrong_missing(rt.alloc(), &MISSING)?, None);
+    assert_eq!(rt; first_wrong_missing(&rt, rt.alloc(), &MISSING)?, None);
     Ok(())
 }

@@ -1,14 +1,15 @@
 //! `run`: transcripts, and the images that are stored.
 
 use crate::drives::{Edit, GROUPS, LARGE_SECTORS, Numbers, ONE_UNIT, Row, SMALL};
-use crate::harness::{Asked, Content, FirstWrong, Told, Wrong, compare};
+use crate::harness::{Asked, BLANK, Content, FirstWrong, Told, Wrong, compare};
 use std::alloc::{AllocError, Global};
+use std::sync::Wait;
 use std::test::Fail;
 
 // A drive, a script on its blank image, the transcript, and the history in the image afterwards.
 type Run<'a> = (&'a Numbers, &'a str, &'a str, &'a [Row]);
 
-const SHORT: [Run<'static>; 12] = [
+const SHORT: [Run<'static>; 17] = [
     (&SMALL, "", "kept 0\n", &[]),
     (&SMALL, "# nothing\n\nthread", "kept 0\n", &[]),
     (&SMALL, "thread\nr 9 2\n", "r 0 0 0 0 0\nkept 0\n", &[]),
@@ -69,10 +70,38 @@ const SHORT: [Run<'static>; 12] = [
         "h 0 0 0 1\nh 1 0 0 2\nh 2 0 0 3\nh 3 0 0 4\nh 4 0 0 5\nh 5 0 0 6\nh 6 0 0 7\nkept 7\n",
         &[(0, 1), (0, 2), (0, 3), (0, 4), (0, 5), (0, 6), (0, 7)],
     ),
+    // A flush of nothing, and flushes of the last stripe, which they fill with Pad as the close would.
+    (
+        &SMALL,
+        "thread\nf\nr 0 1\nf\n",
+        "f 0 0 0\nr 0 1 0 0\nf 0 2 0\nkept 0\n",
+        &[],
+    ),
+    (
+        &SMALL,
+        "thread\nw 5 1 17\nr 5 1\nf\n",
+        "h 0 0 5 17\nr 0 1 1 17\nf 0 2 1\nkept 1\n",
+        &[(5, 17)],
+    ),
+    (
+        &GROUPS,
+        "thread\nw 295 2 1\nw 0 3 2\nf\nf\nr 0 1\n",
+        "h 0 0 295 1\nh 1 0 296 1\nh 2 0 0 2\nh 3 0 1 2\nh 4 0 2 2\nf 0 2 5\nf 0 3 5\nr 0 4 5 2\nkept 5\n",
+        &[(295, 1), (296, 1), (0, 2), (1, 2), (2, 2)],
+    ),
+    // What is posted is heard.
+    (
+        &SMALL,
+        "thread\npost a\nw 0 2 3\npost b\nawait a\nawait b\nr 0 3\nf\nawait b\n",
+        "h 0 0 0 3\nh 1 0 1 3\nr 0 5 2 3 3 0\nf 0 6 2\nkept 2\n",
+        &[(0, 3), (1, 3)],
+    ),
+    (&ONE_UNIT, "thread\npost a\nawait a\n", "kept 0\n", &[]),
 ];
 
 // Runs a script on an image, which is to tell this and to leave this image.
-fn wrong_run(
+fn wrong_run<R: Wait>(
+    rt: &R,
     alloc: Global,
     before: Content<'_>,
     script: &str,
@@ -86,14 +115,14 @@ fn wrong_run(
         text,
         image,
     };
-    compare(alloc, &asked, &told)
+    compare(rt, alloc, &asked, &told)
 }
 
-fn first_wrong(alloc: Global, rows: &[Run<'_>]) -> Result<FirstWrong, AllocError> {
+fn first_wrong<R: Wait>(rt: &R, alloc: Global, rows: &[Run<'_>]) -> Result<FirstWrong, AllocError> {
     for (number, (numbers, script, text, history)) in rows.iter().enumerate() {
         let before = Content::Image(numbers, &[], &[]);
         let after = Content::Image(numbers, history, &[]);
-        let wrong = wrong_run(alloc, before, script, text, after)?;
+        let wrong = wrong_run(rt, alloc, before, script, text, after)?;
         if wrong != Wrong::Nothing {
             return Ok(Some((number, wrong)));
         }
@@ -103,7 +132,7 @@ fn first_wrong(alloc: Global, rows: &[Run<'_>]) -> Result<FirstWrong, AllocError
 
 #[test]
 fn scripts_are_run(rt: HostRuntime) -> Result<(), Fail> {
-    assert_eq!(rt; first_wrong(rt.alloc(), &SHORT)?, None);
+    assert_eq!(rt; first_wrong(&rt, rt.alloc(), &SHORT)?, None);
     Ok(())
 }
 
@@ -136,7 +165,7 @@ fn a_line_is_filled_but_for_a_stripe(rt: HostRuntime) -> Result<(), Fail> {
     let blank = Content::Image(&SMALL, &[], &[]);
     let after = Content::Image(&SMALL, &history, &[]);
     assert_eq!(rt;
-        wrong_run(alloc, blank, script, &text, after)?,
+        wrong_run(&rt, alloc, blank, script, &text, after)?,
         Wrong::Nothing
     );
     Ok(())
@@ -176,6 +205,7 @@ fn numbers_are_kept_and_the_rest_is_zeros(rt: HostRuntime) -> Result<(), Fail> {
     let alloc = rt.alloc();
     let before = Content::Image(&SMALL, &[], &BEFORE);
     let read = wrong_run(
+        &rt,
         alloc,
         before,
         "thread\nr 0 1\n",
@@ -184,6 +214,7 @@ fn numbers_are_kept_and_the_rest_is_zeros(rt: HostRuntime) -> Result<(), Fail> {
     )?;
     assert_eq!(rt; read, Wrong::Nothing);
     let written = wrong_run(
+        &rt,
         alloc,
         before,
         "thread\nw 0 1 6\n",
@@ -191,5 +222,82 @@ fn numbers_are_kept_and_the_rest_is_zeros(rt: HostRuntime) -> Result<(), Fail> {
         Content::Image(&SMALL, &[(0, 6)], &KEPT),
     )?;
     assert_eq!(rt; written, Wrong::Nothing);
+    Ok(())
+}
+
+// Rounds over the sectors of the small drive, from round 1 on, a flush of them all, and a read.
+fn rounds_script(alloc: Global, rounds: u64) -> Result<String, AllocError> {
+    let mut script = String::from_str(alloc, "thread\n")?;
+    for round in 0..rounds {
+        let tag = round + 1;
+        writeln!(
+            script,
+            "w 0 16 {tag}\nw 16 16 {tag}\nw 32 16 {tag}\nw 48 16 {tag}"
+        )?;
+    }
+    script.push_str("f\nr 0 16\n")?;
+    Ok(script)
+}
+
+// The history of three of them.
+fn three_rounds(alloc: Global) -> Result<String, AllocError> {
+    let mut text = String::new(alloc);
+    for number in 0..192u64 {
+        let lba = number % 64;
+        let tag = number / 64 + 1;
+        writeln!(text, "h {number} 0 {lba} {tag}")?;
+    }
+    Ok(text)
+}
+
+// How many rounds, the status, and the lines after the history of three.
+const ROUNDS: [(u64, u8, &str); 2] = [
+    (
+        3,
+        0,
+        "f 0 12 192\nr 0 13 192 3 3 3 3 3 3 3 3 3 3 3 3 3 3 3 3\nkept 192\n",
+    ),
+    // There is no room for the fourth.
+    (
+        4,
+        6,
+        "worn 0 12 208 204\nworn 0 13 208 204\nworn 0 14 208 204\nworn 0 15 208 204\nf 0 16 192\nr 0 17 192 3 3 3 3 3 3 3 3 3 3 3 3 3 3 3 3\nkept 192\n",
+    ),
+];
+
+fn wrong_rounds<R: Wait>(
+    rt: &R,
+    alloc: Global,
+    row: &(u64, u8, &str),
+    failing_output: &[u64],
+) -> Result<Wrong, AllocError> {
+    let (rounds, status, end) = row;
+    let script = rounds_script(alloc, *rounds)?;
+    let mut text = three_rounds(alloc)?;
+    text.push_str(end)?;
+    let asked = Asked {
+        words: "run|image|script",
+        image: &BLANK,
+        script: &Content::Text(&script),
+        failing_files: &[],
+        failing_output,
+    };
+    let told = Told {
+        status: *status,
+        text: &text,
+        image: Content::Untold,
+    };
+    compare(rt, alloc, &asked, &told)
+}
+
+#[test]
+fn a_script_may_want_more_room(rt: HostRuntime) -> Result<(), Fail> {
+    let alloc = rt.alloc();
+    for row in &ROUNDS {
+        assert_eq!(rt; wrong_rounds(&rt, alloc, row, &[])?, Wrong::Nothing);
+    }
+    // Where the output fails, a part of the text is written.
+    let failed = (4, 8, "");
+    assert_eq!(rt; wrong_rounds(&rt, alloc, &failed, &[1])?, Wrong::Text);
     Ok(())
 }

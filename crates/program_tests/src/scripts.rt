@@ -2,10 +2,11 @@
 
 use crate::harness::{BLANK, Content, FirstWrong, Wrong, refuses};
 use std::alloc::{AllocError, Global};
+use std::sync::Wait;
 use std::test::Fail;
 
 // Scripts, and why they are refused.
-const REFUSED: [(&str, &str); 28] = [
+const REFUSED: [(&str, &str); 25] = [
     ("x", "script Form 1\n"),
     ("w 5 1 17\n", "script Form 1\n"),
     ("\n#\n\nthread\nw 5 1\n", "script Form 5\n"),
@@ -40,26 +41,23 @@ const REFUSED: [(&str, &str); 28] = [
         "thread\nf\nthread\npost c\nawait a\npost b\nthread\nawait c\nawait b\npost a\n",
         "script Stuck 5\n",
     ),
-    // Scripts that are none that is taken so far.
+    // Scripts that are none that is taken so far: they have a second thread.
     ("thread\nthread\n", "script Unbuilt\n"),
-    ("thread\nw 5 1 17\nr 5 1\nf\n", "script Unbuilt\n"),
-    ("thread\npost a\n", "script Unbuilt\n"),
-    ("thread\npost a\nawait a\n", "script Unbuilt\n"),
-    // 37 sectors, and 16 of 36 in a second thread.
+    ("thread\nw 5 1 17\nf\nthread\nr 5 1\n", "script Unbuilt\n"),
     (
-        "thread\nw 0 16 1\nw 0 16 1\nw 0 4 1\nw 0 1 1\n",
-        "script Unbuilt\n",
-    ),
-    (
-        "thread\nw 0 16 1\nw 0 4 1\nthread\nw 0 16 1\n",
+        "thread\npost a\nthread\nawait a\nthread\n",
         "script Unbuilt\n",
     ),
 ];
 
-fn first_wrong(alloc: Global, rows: &[(&str, &str)]) -> Result<FirstWrong, AllocError> {
+fn first_wrong<R: Wait>(
+    rt: &R,
+    alloc: Global,
+    rows: &[(&str, &str)],
+) -> Result<FirstWrong, AllocError> {
     for (number, (script, line)) in rows.iter().enumerate() {
         let held = Content::Text(script);
-        let wrong = refuses(alloc, "run|image|script", BLANK, held, (2, line))?;
+        let wrong = refuses(rt, alloc, "run|image|script", BLANK, held, (2, line))?;
         if wrong != Wrong::Nothing {
             return Ok(Some((number, wrong)));
         }
@@ -69,14 +67,21 @@ fn first_wrong(alloc: Global, rows: &[(&str, &str)]) -> Result<FirstWrong, Alloc
 
 #[test]
 fn scripts_are_refused(rt: HostRuntime) -> Result<(), Fail> {
-    assert_eq!(rt; first_wrong(rt.alloc(), &REFUSED)?, None);
+    assert_eq!(rt; first_wrong(&rt, rt.alloc(), &REFUSED)?, None);
     Ok(())
 }
 
 #[test]
 fn an_image_is_no_script(rt: HostRuntime) -> Result<(), Fail> {
     let end = (2, "script Form 1\n");
-    let wrong = refuses(rt.alloc(), "run|image|image", BLANK, Content::Absent, end)?;
+    let wrong = refuses(
+        &rt,
+        rt.alloc(),
+        "run|image|image",
+        BLANK,
+        Content::Absent,
+        end,
+    )?;
     assert_eq!(rt; wrong, Wrong::Nothing);
     Ok(())
 }

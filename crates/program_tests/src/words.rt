@@ -5,6 +5,7 @@ use pblk_cli::pblk_program;
 use pblk_outside::{MemoryFiles, MemorySink, WordsErr};
 use std::alloc::{AllocError, Global};
 use std::process::ExitCode;
+use std::sync::Wait;
 use std::test::Fail;
 
 const REFUSED: [&str; 34] = [
@@ -45,18 +46,18 @@ const REFUSED: [&str; 34] = [
 ];
 
 // The words touch no file, whether there is an image or not.
-fn wrong_words(alloc: Global, words: &str) -> Result<Wrong, AllocError> {
+fn wrong_words<R: Wait>(rt: &R, alloc: Global, words: &str) -> Result<Wrong, AllocError> {
     let script = Content::Text("thread\nr 0 1\n");
-    let wrong = refuses(alloc, words, BLANK, script, (1, "words\n"))?;
+    let wrong = refuses(rt, alloc, words, BLANK, script, (1, "words\n"))?;
     if wrong != Wrong::Nothing {
         return Ok(wrong);
     }
-    refuses(alloc, words, Content::Absent, script, (1, "words\n"))
+    refuses(rt, alloc, words, Content::Absent, script, (1, "words\n"))
 }
 
-fn first_wrong(alloc: Global, rows: &[&str]) -> Result<FirstWrong, AllocError> {
+fn first_wrong<R: Wait>(rt: &R, alloc: Global, rows: &[&str]) -> Result<FirstWrong, AllocError> {
     for (number, words) in rows.iter().enumerate() {
-        let wrong = wrong_words(alloc, words)?;
+        let wrong = wrong_words(rt, alloc, words)?;
         if wrong != Wrong::Nothing {
             return Ok(Some((number, wrong)));
         }
@@ -66,7 +67,7 @@ fn first_wrong(alloc: Global, rows: &[&str]) -> Result<FirstWrong, AllocError> {
 
 #[test]
 fn words_that_are_no_command_touch_no_file(rt: HostRuntime) -> Result<(), Fail> {
-    assert_eq!(rt; first_wrong(rt.alloc(), &REFUSED)?, None);
+    assert_eq!(rt; first_wrong(&rt, rt.alloc(), &REFUSED)?, None);
     Ok(())
 }
 
@@ -74,14 +75,15 @@ fn words_that_are_no_command_touch_no_file(rt: HostRuntime) -> Result<(), Fail> 
 fn no_words_are_no_command(rt: HostRuntime) -> Result<(), Fail> {
     let mut files = MemoryFiles::new(rt.alloc(), &[])?;
     let mut out = MemorySink::new(rt.alloc(), &[])?;
-    let status = call(rt.alloc(), &[], &mut files, &mut out);
+    let status = call(&rt, rt.alloc(), &[], &mut files, &mut out);
     assert_eq!(rt; status, 1);
     assert_eq!(rt; out.taken(), b"words\n".as_slice());
     Ok(())
 }
 
 // Whether the program, given words or none, ends with this status and text.
-fn ends(
+fn ends<R: Wait>(
+    rt: &R,
     alloc: Global,
     given: Result<&str, WordsErr>,
     status: u8,
@@ -93,17 +95,17 @@ fn ends(
         Ok(line) => Ok(words_of(alloc, line)?),
         Err(e) => Err(e),
     };
-    let code = pblk_program(alloc, words, &mut files, &mut out);
+    let code = pblk_program(rt, alloc, words, &mut files, &mut out);
     Ok(code == ExitCode::from(status) && out.taken() == text.as_bytes())
 }
 
 #[test]
 fn the_program_ends_with_the_status(rt: HostRuntime) -> Result<(), Fail> {
     let alloc = rt.alloc();
-    assert!(rt; ends(alloc, Err(WordsErr::NotText), 1, "words\n")?);
-    assert!(rt; ends(alloc, Err(WordsErr::Memory), 7, "memory\n")?);
-    assert!(rt; ends(alloc, Ok("geometry"), 1, "words\n")?);
-    assert!(rt; ends(alloc, Ok("geometry|image"), 4, "files Missing image\n")?);
-    assert!(rt; ends(alloc, Ok("create|image"), 0, "created 4640\n")?);
+    assert!(rt; ends(&rt, alloc, Err(WordsErr::NotText), 1, "words\n")?);
+    assert!(rt; ends(&rt, alloc, Err(WordsErr::Memory), 7, "memory\n")?);
+    assert!(rt; ends(&rt, alloc, Ok("geometry"), 1, "words\n")?);
+    assert!(rt; ends(&rt, alloc, Ok("geometry|image"), 4, "files Missing image\n")?);
+    assert!(rt; ends(&rt, alloc, Ok("create|image"), 0, "created 4640\n")?);
     Ok(())
 }

@@ -261,7 +261,7 @@ module _ (told : List ℕ → ℕ) (cs : List Command) (given : List Answer) (ol
   abbrev thread_events : List (ℕ × ℕ)
   thread_events = map event_of (faults_in given)
 
-  events_are : events t ≡ thread_events ++ closing_event (closing_of closing)
+  pub events_are : events t ≡ thread_events ++ closing_event (closing_of closing)
   events_are = ap (λ xs. xs ++ closing_event (closing_of closing)) (append-nil (flat_map outcome_event (map outcome_of given)) ∙ answer_events given)
 
   pub thread_run : IsTrouble closing → (closing ≡ None → AllByRecursion (λ line. line.position < end) last.known) → IsDistinct (thread_events ++ closing_event (closing_of closing))
@@ -287,17 +287,41 @@ module _ (told : List ℕ → ℕ) (cs : List Command) (given : List Answer) (ol
 abbrev IsRunLeaving : ℕ → List (List Command) → List (List ℕ) → Transcript → Type 0
 IsRunLeaving size script start told_as = IsRun size script start told_as (after start (sector_writes size (take told_as.kept told_as.history)))
 
+told_is : (commands : List Command) (records : Records) (old new : ModelPort) (end : ℕ) (h : IsRunOfOnePort commands records old new end)
+    → transcript_of (commands ∷ []) records end ≡ told_by (thread_rows 0 commands h.answers) h.answers records.closing end
+told_is commands records old new end h =
+    let thread = thread_rows 0 commands h.answers in
+    let ordered : in_order (thread ++ []) ≡ thread = ap in_order (append-nil thread) ∙ in_order_already old.seen thread (run_climbs h.told commands h.answers old new h.ran) in
+    rw (h.threads, h.opened) (ap (λ rows. told_by rows h.answers records.closing end) ordered)
+
+faults_are : (commands : List Command) (records : Records) (old new : ModelPort) (end : ℕ) (h : IsRunOfOnePort commands records old new end) → new.faults ≡ faults_in h.answers
+faults_are commands records old new end h = run_faults h.told commands h.answers old new h.ran ∙ ap (λ xs. xs ++ faults_in h.answers) h.faultless
+
 pub one_port : (commands : List Command) (records : Records) (old new : ModelPort) (end : ℕ) → IsRunOfOnePort commands records old new end
     → IsRunLeaving old.sector (commands ∷ []) old.start (transcript_of (commands ∷ []) records end)
 one_port commands records old new end h =
-    let thread = thread_rows 0 commands h.answers in
-    let ordered : in_order (thread ++ []) ≡ thread = ap in_order (append-nil thread) ∙ in_order_already old.seen thread (run_climbs h.told commands h.answers old new h.ran) in
-    let told_is : transcript_of (commands ∷ []) records end ≡ told_by thread h.answers records.closing end =
-    rw (h.threads, h.opened) (ap (λ rows. told_by rows h.answers records.closing end) ordered) in
-    let faults : new.faults ≡ faults_in h.answers = run_faults h.told commands h.answers old new h.ran ∙ ap (λ xs. xs ++ faults_in h.answers) h.faultless in
-    let distinct = subst (λ (xs : List DriveAnswer). IsDistinct (map event_of xs ++ closing_event (closing_of records.closing))) faults h.distinct in
-    subst (IsRunLeaving old.sector (commands ∷ []) old.start) (sym told_is)
+    let distinct = subst (λ (xs : List DriveAnswer). IsDistinct (map event_of xs ++ closing_event (closing_of records.closing))) (faults_are commands records old new end h) h.distinct in
+    subst (IsRunLeaving old.sector (commands ∷ []) old.start) (sym (told_is commands records old new end h))
     (thread_run h.told commands h.answers old new h.ran records.closing end h.unwritten h.last h.learned h.alone h.flushed h.trouble h.kept distinct)
+
+pub one_history : (commands : List Command) (records : Records) (old new : ModelPort) (end : ℕ) (h : IsRunOfOnePort commands records old new end)
+    → sector_writes old.sector (transcript_of (commands ∷ []) records end).history ≡ map (λ x. x.write) h.last.known
+one_history commands records old new end h =
+    ap (λ (t : Transcript). sector_writes old.sector t.history) (told_is commands records old new end h)
+    ∙ sym (known_writes h.told commands h.answers old new h.ran h.unwritten h.last.known h.alone)
+
+pub one_kept : (commands : List Command) (records : Records) (old new : ModelPort) (end : ℕ) (h : IsRunOfOnePort commands records old new end)
+    → (transcript_of (commands ∷ []) records end).kept ≡ users (positions h.last.known) end
+one_kept commands records old new end h =
+    ap (λ (t : Transcript). t.kept) (told_is commands records old new end h)
+    ∙ ap (λ ps. users ps end) (sym (known_positions h.told commands h.answers old new h.ran h.unwritten h.last.known h.alone))
+
+pub one_events : (commands : List Command) (records : Records) (old new : ModelPort) (end : ℕ) → IsRunOfOnePort commands records old new end
+    → events (transcript_of (commands ∷ []) records end) ≡ map event_of new.faults ++ closing_event (closing_of records.closing)
+one_events commands records old new end h =
+    ap events (told_is commands records old new end h)
+    ∙ events_are h.told commands h.answers old new h.ran records.closing end h.unwritten h.last h.learned h.alone h.flushed
+    ∙ ap (λ (xs : List DriveAnswer). map event_of xs ++ closing_event (closing_of records.closing)) (sym (faults_are commands records old new end h))
 
 -- no thread
 abbrev empty : Option (ℕ × ℕ) → Closing → Transcript

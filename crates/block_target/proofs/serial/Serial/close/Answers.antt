@@ -1,16 +1,18 @@
-use Rattle.std.proofs.Common.{List, ap, sym, subst, ◌∙◌}
+use Rattle.std.proofs.Common.{◌≡◌, List, ap, sym, subst, ◌∙◌}
+use Rattle.std.specs.List.{flat_map}
 use Rattle.pblk_model.specs.Image.{blank}
+use Rattle.block_port.specs.Own.{lines_of}
 use Rattle.block_port.specs.declared.rows.WornAnswer.{WornAnswer}
 use Rattle.block_target.specs.NothingLeft.{AreRefusals}
-use Rattle.block_target.specs.Mount.{IsSameMount, logs_in}
-use Rattle.block_target.specs.Serial.{Settles}
+use Rattle.block_target.specs.Mount.{IsSameMount, logs_in, taken_in}
+use Rattle.block_target.specs.Serial.{SerialView, Settles, lines_in}
 use Rattle.block_target.proofs.DeviceFronts.{all_synced, all_taken, taken_same}
 use Rattle.block_target.proofs.Refusals.{refusals_grown, flush_refused}
 use Rattle.block_target.proofs.serial.Serial.close.Goals.{in-Ok, in-Err}
 use Rattle.block_target.proofs.serial.Serial.close.Goals as goal
 
-pub returns : goal.returns
-returns g c =
+pub returns-clause-closed : goal.returns-clause-closed
+returns-clause-closed g c =
     let mount = ap (λ s. s.mount) c.self.view_is in
     let wanted = ap (λ f. f.position) c.front-wanted.ensures in (
       c.sync.new.self,
@@ -30,4 +32,9 @@ returns g c =
       ],
       subst (λ (ws : List WornAnswer). AreRefusals (blank c.sync.new.self.shape) (logs_in c.sync.new.self) ws) (ap (λ s. s.worns) c.self.view_is)
           (refusals_grown c.self.inside.mount c.sync.new.self c.sync.ensures.same.more c.self.inside.worns c.is_sound.ensures c.sync.ensures.same.shape c.sync.ensures.same.deeds c.self.invariant.worns),
+      taken_same c.self.inside.mount c.sync.new.self c.is_sound.ensures c.is_sound-2.ensures c.sync.ensures.same ∙ ap taken_in mount,
+      c.ends_synced.ensures,
     )
+
+pub returns-clause-alone : goal.returns-clause-alone
+returns-clause-alone g c = subst (λ (s : SerialView). lines_in s.mount ≡ flat_map lines_of s.own) c.self.view_is c.self.invariant.alone

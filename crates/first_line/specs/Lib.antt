@@ -1,4 +1,0 @@
-pub mod Line
-pub mod Columns
-pub mod Stored
-pub mod Striped
