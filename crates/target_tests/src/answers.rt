@@ -1,6 +1,6 @@
 //! What scripts are answered, and what they leave on the drive.
 
-use crate::harness::{blocks, run_on};
+use crate::harness::told;
 use crate::shapes::{
     EIGHT_UNITS, EQUAL_WRITES, LARGE_SECTORS, LATE_READS, MOST_UNITS, ONE_SECTOR, ONE_UNIT, SMALL,
     WIDE_STRIPES,
@@ -8,112 +8,137 @@ use crate::shapes::{
 use pblk_model::Shape;
 use std::test::Fail;
 
-// Drives, scripts, and what is told of them.
-const ANSWERED: [(&Shape, &str, &str); 20] = [
-    (&SMALL, "thread\n", "closed\nevents 0\nevents 0\n"),
+// Drives, whether the marks of their blocks are told, scripts, and what is told of them.
+static ANSWERED: [(&Shape, bool, &str, &str); 20] = [
     // A sector, which the write buffer answers before and after its stripe is programmed.
     (
         &SMALL,
+        true,
         "thread\nw 5 1 17\nr 5 1\nf\n",
-        "placed 0 1\nwords 1 1 17\nsynced 1 1\nclosed\nevents 1 open 4\nevents 1 open 4\n",
+        "placed 0 1\nwords 1 1 17\nsynced 1 1\nclosed\nevents 1 open 4, meta 1, meta 1, meta 1, meta 1\nevents 1 open 4, 5 of 17 at 0, pad, pad, pad\n",
     ),
     (
         &SMALL,
+        false,
         "thread\nw 5 1 17\nf\nr 5 1\n",
         "placed 0 1\nsynced 1 1\nwords 1 1 17\nclosed\nevents 1 open 4\nevents 1 open 4\n",
     ),
     // A flush of nothing opens no line, and one of what is on the drive programs nothing.
     (
         &SMALL,
+        false,
         "thread\nf\nr 0 1\nf\n",
         "synced 0 0\nwords 0 0 0\nsynced 0 0\nclosed\nevents 0\nevents 0\n",
     ),
-    // Flushes in the middle of a stripe.
+    // Flushes in the middle of a stripe, and a close.
     (
         &SMALL,
-        "thread\nw 10 6 3\nf\nw 20 3 4\nf\nf\nr 9 8\n",
-        "placed 0 6\nsynced 6 6\nplaced 6 3\nsynced 9 9\nsynced 9 9\nwords 9 9 0 3 3 3 3 3 3 0\nclosed\nevents 2 open 8\nevents 2 open 8\n",
+        true,
+        "thread\nw 10 6 3\nf\nw 20 3 4\nf\nf\nw 1 5 5\nr 9 8\n",
+        "placed 0 6\nsynced 6 6\nplaced 6 3\nsynced 9 9\nsynced 9 9\nplaced 9 5\nwords 14 14 0 3 3 3 3 3 3 0\nclosed\nevents 3 open 12, meta 1, meta 1, meta 1, meta 1, 14 of 3 at 4, 15 of 3 at 5, pad, pad, 1 of 5 at 9, 2 of 5 at 10, 3 of 5 at 11, 4 of 5 at 12\nevents 3 open 12, 10 of 3 at 0, 11 of 3 at 1, 12 of 3 at 2, 13 of 3 at 3, 20 of 4 at 6, 21 of 4 at 7, 22 of 4 at 8, pad, 5 of 5 at 13, pad, pad, pad\n",
+    ),
+    // The end record of the first line, and the start record of the second.
+    (
+        &SMALL,
+        true,
+        "thread\nw 0 16 1\nw 16 16 2\nw 32 10 3\n",
+        "placed 0 16\nplaced 16 16\nplaced 32 10\nclosed\nevents 7 closed 24, meta 1, meta 1, meta 1, meta 1, 4 of 1 at 4, 5 of 1 at 5, 6 of 1 at 6, 7 of 1 at 7, 12 of 1 at 12, 13 of 1 at 13, 14 of 1 at 14, 15 of 1 at 15, 20 of 2 at 20, 21 of 2 at 21, 22 of 2 at 22, 23 of 2 at 23, 28 of 2 at 28, 29 of 2 at 29, 30 of 2 at 30, 31 of 2 at 31, 36 of 3 at 36, 37 of 3 at 37, 38 of 3 at 38, 39 of 3 at 39 open 4, meta 2, meta 2, meta 2, meta 2\nevents 7 closed 24, 0 of 1 at 0, 1 of 1 at 1, 2 of 1 at 2, 3 of 1 at 3, 8 of 1 at 8, 9 of 1 at 9, 10 of 1 at 10, 11 of 1 at 11, 16 of 2 at 16, 17 of 2 at 17, 18 of 2 at 18, 19 of 2 at 19, 24 of 2 at 24, 25 of 2 at 25, 26 of 2 at 26, 27 of 2 at 27, 32 of 3 at 32, 33 of 3 at 33, 34 of 3 at 34, 35 of 3 at 35, meta 1, meta 1, meta 1, meta 1 open 4, 40 of 3 at 40, 41 of 3 at 41, pad, pad\n",
     ),
     // A port hears what was told under a name.
     (
         &SMALL,
+        false,
         "thread\npost a\nw 0 2 3\npost b\nawait a\nawait b\nr 0 3\nf\nawait b\nw 1 1 4\npost c\nawait c\nr 0 2\n",
         "done\nplaced 0 2\ndone\ndone\ndone\nwords 2 2 3 3 0\nsynced 2 2\ndone\nplaced 2 1\ndone\ndone\nwords 3 3 3 4\nclosed\nevents 2 open 8\nevents 1 open 4\n",
     ),
     // Blocks that can be read are fetched.
     (
         &SMALL,
+        false,
         "thread\nw 0 16 1\nw 16 16 2\nf\nr 0 16\nr 16 16\n",
         "placed 0 16\nplaced 16 16\nsynced 32 32\nwords 32 32 1 1 1 1 1 1 1 1 1 1 1 1 1 1 1 1\nwords 32 32 2 2 2 2 2 2 2 2 2 2 2 2 2 2 2 2\nclosed\nevents 13 open 20\nevents 12 open 16\n",
     ),
     // The chunk of the first unit is written to its end before that of the second.
     (
         &SMALL,
+        false,
         "thread\nw 0 16 1\nw 16 16 1\nw 32 8 1\nf\nr 24 16\nw 0 1 2\nf\nr 24 16\n",
         "placed 0 16\nplaced 16 16\nplaced 32 8\nsynced 40 40\nwords 40 40 1 1 1 1 1 1 1 1 1 1 1 1 1 1 1 1\nplaced 40 1\nsynced 41 41\nwords 41 41 1 1 1 1 1 1 1 1 1 1 1 1 1 1 1 1\nclosed\nevents 23 closed 24 open 4\nevents 15 closed 24 open 4\n",
     ),
     // Three rounds over all sectors, and four.
     (
         &SMALL,
+        false,
         "thread\nw 0 16 1\nw 16 16 1\nw 32 16 1\nw 48 16 1\nw 0 16 2\nw 16 16 2\nw 32 16 2\nw 48 16 2\nw 0 16 3\nw 16 16 3\nw 32 16 3\nw 48 16 3\nf\nr 0 16\n",
         "placed 0 16\nplaced 16 16\nplaced 32 16\nplaced 48 16\nplaced 64 16\nplaced 80 16\nplaced 96 16\nplaced 112 16\nplaced 128 16\nplaced 144 16\nplaced 160 16\nplaced 176 16\nsynced 192 192\nwords 192 192 3 3 3 3 3 3 3 3 3 3 3 3 3 3 3 3\nclosed\nevents 37 closed 24 closed 24 closed 24 closed 24 open 20\nevents 36 closed 24 closed 24 closed 24 closed 24 open 16\n",
     ),
     (
         &SMALL,
+        false,
         "thread\nw 0 16 1\nw 16 16 1\nw 32 16 1\nw 48 16 1\nw 0 16 2\nw 16 16 2\nw 32 16 2\nw 48 16 2\nw 0 16 3\nw 16 16 3\nw 32 16 3\nw 48 16 3\nw 0 16 4\nw 16 16 4\nw 32 16 4\nw 48 16 4\nf\nr 0 16\n",
         "placed 0 16\nplaced 16 16\nplaced 32 16\nplaced 48 16\nplaced 64 16\nplaced 80 16\nplaced 96 16\nplaced 112 16\nplaced 128 16\nplaced 144 16\nplaced 160 16\nplaced 176 16\nworn 208 204\nworn 208 204\nworn 208 204\nworn 208 204\nsynced 192 192\nwords 192 192 3 3 3 3 3 3 3 3 3 3 3 3 3 3 3 3\nclosed\nevents 37 closed 24 closed 24 closed 24 closed 24 open 20\nevents 36 closed 24 closed 24 closed 24 closed 24 open 16\n",
     ),
     // Writes up to the last position that is ever granted.
     (
         &SMALL,
+        false,
         "thread\nw 0 16 1\nw 16 16 1\nw 32 16 1\nw 48 16 1\nw 0 16 2\nw 16 16 2\nw 32 16 2\nw 48 16 2\nw 0 16 3\nw 16 16 3\nw 32 16 3\nw 48 16 3\nw 0 16 4\nw 0 12 4\nw 0 1 5\nw 0 16 5\nw 0 8 5\nw 0 1 6\nw 1 16 7\nw 1 5 7\nw 1 4 8\nw 1 3 8\nw 1 3 9\nw 1 3 9\nw 1 3 9\nw 1 1 10\nr 0 5\nf\nw 2 2 11\nw 2 1 12\nf\nw 2 1 13\nw 2 1 14\nf\nw 2 1 15\nf\nr 0 6\n",
         "placed 0 16\nplaced 16 16\nplaced 32 16\nplaced 48 16\nplaced 64 16\nplaced 80 16\nplaced 96 16\nplaced 112 16\nplaced 128 16\nplaced 144 16\nplaced 160 16\nplaced 176 16\nworn 208 204\nplaced 192 12\nplaced 204 1\nworn 221 213\nplaced 205 8\nplaced 213 1\nworn 230 219\nplaced 214 5\nworn 223 222\nplaced 219 3\nplaced 222 3\nplaced 225 3\nplaced 228 3\nworn 232 231\nwords 231 231 6 9 9 9 7\nsynced 231 231\nplaced 231 2\nworn 234 233\nsynced 233 233\nplaced 233 1\nworn 235 234\nsynced 234 234\nworn 235 234\nsynced 234 234\nwords 234 234 6 9 13 11 7 7\nclosed\nevents 39 closed 24 closed 24 closed 24 closed 24 closed 24 closed 24\nevents 39 closed 24 closed 24 closed 24 closed 24 closed 24 closed 24\n",
     ),
     (
         &EIGHT_UNITS,
+        false,
         "thread\nw 3 1 7\nw 3 1 8\nr 3 1\nw 389 16 5\nw 401 4 6\nr 389 16\nf\nr 389 16\n",
         "placed 0 1\nplaced 1 1\nwords 2 2 8\nplaced 2 16\nplaced 18 4\nwords 22 22 5 5 5 5 5 5 5 5 5 5 5 5 6 6 6 6\nsynced 22 22\nwords 22 22 5 5 5 5 5 5 5 5 5 5 5 5 6 6 6 6\nclosed\nevents 1 open 4\nevents 1 open 4\nevents 1 open 4\nevents 1 open 4\nevents 1 open 4\nevents 1 open 4\nevents 1 open 4\nevents 0\n",
     ),
     // A line is filled, and the next one opened.
     (
         &EIGHT_UNITS,
+        false,
         "thread\nw 0 16 1\nw 16 16 2\nw 32 16 3\nw 48 16 4\nw 64 16 5\nw 80 16 6\nw 96 16 7\nw 112 16 8\nw 128 16 9\nw 144 16 10\nw 160 16 11\nw 176 16 12\nw 192 16 13\nf\nr 0 2\nr 175 16\n",
         "placed 0 16\nplaced 16 16\nplaced 32 16\nplaced 48 16\nplaced 64 16\nplaced 80 16\nplaced 96 16\nplaced 112 16\nplaced 128 16\nplaced 144 16\nplaced 160 16\nplaced 176 16\nplaced 192 16\nsynced 208 208\nwords 208 208 1 1\nwords 208 208 11 12 12 12 12 12 12 12 12 12 12 12 12 12 12 12\nclosed\nevents 7 closed 24 open 4\nevents 9 closed 24 open 4\nevents 7 closed 24 open 4\nevents 7 closed 24 open 4\nevents 8 closed 24 open 4\nevents 11 closed 24 open 4\nevents 7 closed 24 open 4\nevents 7 closed 24 open 4\n",
     ),
     (
         &ONE_UNIT,
+        false,
         "thread\nw 86 4 1\nw 0 16 2\nw 85 2 3\nr 85 5\nf\nr 0 16\n",
         "placed 0 4\nplaced 4 16\nplaced 20 2\nwords 22 22 3 3 1 1 1\nsynced 22 22\nwords 22 22 2 2 2 2 2 2 2 2 2 2 2 2 2 2 2 2\nclosed\nevents 19 open 28\n",
     ),
     (
         &ONE_SECTOR,
+        true,
         "thread\nw 0 1 1\nw 0 1 2\nw 0 1 3\nf\nw 0 1 4\nw 0 1 5\nr 0 1\n",
-        "placed 0 1\nplaced 1 1\nplaced 2 1\nsynced 3 3\nplaced 3 1\nplaced 4 1\nwords 5 5 5\nclosed\nevents 2 open 8\nevents 1 open 4\n",
+        "placed 0 1\nplaced 1 1\nplaced 2 1\nsynced 3 3\nplaced 3 1\nplaced 4 1\nwords 5 5 5\nclosed\nevents 2 open 8, meta 1, meta 1, meta 1, meta 1, 0 of 4 at 3, 0 of 5 at 4, pad, pad\nevents 1 open 4, 0 of 1 at 0, 0 of 2 at 1, 0 of 3 at 2, pad\n",
     ),
     (
         &EQUAL_WRITES,
+        true,
         "thread\nw 0 5 9\nf\nr 0 5\n",
-        "placed 0 5\nsynced 5 5\nwords 5 5 9 9 9 9 9\nclosed\nevents 2 open 8\nevents 1 open 4\n",
+        "placed 0 5\nsynced 5 5\nwords 5 5 9 9 9 9 9\nclosed\nevents 2 open 8, meta 1, meta 1, meta 1, meta 1, 4 of 9 at 4, pad, pad, pad\nevents 1 open 4, 0 of 9 at 0, 1 of 9 at 1, 2 of 9 at 2, 3 of 9 at 3\n",
     ),
     (
         &WIDE_STRIPES,
+        false,
         "thread\nw 0 16 1\nw 16 16 1\nf\nr 0 16\nw 32 16 2\nw 48 16 2\nw 32 16 3\nw 48 16 3\nw 32 16 4\nf\nr 0 16\nr 32 16\n",
         "placed 0 16\nplaced 16 16\nsynced 32 32\nwords 32 32 1 1 1 1 1 1 1 1 1 1 1 1 1 1 1 1\nplaced 32 16\nplaced 48 16\nplaced 64 16\nplaced 80 16\nplaced 96 16\nsynced 112 112\nwords 112 112 1 1 1 1 1 1 1 1 1 1 1 1 1 1 1 1\nwords 112 112 4 4 4 4 4 4 4 4 4 4 4 4 4 4 4 4\nclosed\nevents 2 open 128\nevents 18 open 128\n",
     ),
     // What is cached of an Open chunk is read from the write buffer.
     (
         &LATE_READS,
+        false,
         "thread\nw 0 16 1\nw 16 16 1\nw 32 8 1\nf\nr 0 16\nw 0 16 2\nw 16 16 2\nw 32 16 2\nw 0 4 3\nf\nr 0 16\nr 32 8\n",
         "placed 0 16\nplaced 16 16\nplaced 32 8\nsynced 40 40\nwords 40 40 1 1 1 1 1 1 1 1 1 1 1 1 1 1 1 1\nplaced 40 16\nplaced 56 16\nplaced 72 16\nplaced 88 4\nsynced 92 92\nwords 92 92 3 3 3 3 2 2 2 2 2 2 2 2 2 2 2 2\nwords 92 92 2 2 2 2 2 2 2 2\nclosed\nevents 34 closed 24 closed 24 open 8\nevents 22 closed 24 closed 24 open 8\n",
     ),
     // Each unit has its stripe of a line.
     (
         &MOST_UNITS,
+        false,
         "thread\nw 533 16 1\nw 517 16 2\nw 501 16 3\nw 485 16 4\nw 469 16 5\nw 453 16 6\nw 437 16 7\nw 421 16 8\nw 405 16 9\nw 389 16 10\nw 373 16 11\nw 357 16 12\nw 341 16 13\nw 325 16 14\nw 309 16 15\nw 293 16 16\nf\nr 533 16\nr 293 16\n",
         "placed 0 16\nplaced 16 16\nplaced 32 16\nplaced 48 16\nplaced 64 16\nplaced 80 16\nplaced 96 16\nplaced 112 16\nplaced 128 16\nplaced 144 16\nplaced 160 16\nplaced 176 16\nplaced 192 16\nplaced 208 16\nplaced 224 16\nplaced 240 16\nsynced 256 256\nwords 256 256 1 1 1 1 1 1 1 1 1 1 1 1 1 1 1 1\nwords 256 256 16 16 16 16 16 16 16 16 16 16 16 16 16 16 16 16\nclosed\nevents 2 closed 4 closed 4\nevents 10 closed 4 closed 4\nevents 10 closed 4 closed 4\nevents 10 closed 4 closed 4\nevents 5 closed 4\nevents 1 closed 4\nevents 1 closed 4\nevents 1 closed 4\nevents 1 closed 4\nevents 1 closed 4\nevents 1 closed 4\nevents 1 closed 4\nevents 1 closed 4\nevents 1 closed 4\nevents 1 closed 4\nevents 1 closed 4\nevents 1 closed 4\nevents 1 closed 4\nevents 1 closed 4\nevents 1 closed 4\nevents 1 closed 4\nevents 1 closed 4\nevents 1 closed 4\nevents 1 closed 4\nevents 1 closed 4\nevents 1 closed 4\nevents 1 closed 4\nevents 1 closed 4\nevents 1 closed 4\nevents 1 closed 4\nevents 1 closed 4\nevents 1 closed 4\nevents 1 closed 4\nevents 1 closed 4\nevents 1 closed 4\nevents 1 closed 4\nevents 1 closed 4\nevents 1 closed 4\nevents 1 closed 4\nevents 1 closed 4\nevents 1 closed 4\nevents 1 closed 4\nevents 1 closed 4\nevents 1 closed 4\nevents 1 closed 4\nevents 1 closed 4\nevents 1 closed 4\nevents 1 closed 4\nevents 1 closed 4\nevents 1 closed 4\nevents 1 closed 4\nevents 1 closed 4\nevents 1 closed 4\nevents 1 closed 4\nevents 1 closed 4\nevents 1 closed 4\nevents 1 closed 4\nevents 1 closed 4\nevents 1 closed 4\nevents 1 closed 4\nevents 1 closed 4\nevents 5 closed 4\nevents 1 closed 4\nevents 1 closed 4\n",
     ),
     (
         &LARGE_SECTORS,
+        false,
         "thread\nw 88 2 4294967296\nr 87 3\nf\nr 87 3\nw 89 1 5\nr 89 1\n",
         "placed 0 2\nwords 2 2 0 4294967296 4294967296\nsynced 2 2\nwords 2 2 0 4294967296 4294967296\nplaced 2 1\nwords 3 3 5\nclosed\nevents 2 open 8\nevents 3 open 4\n",
     ),
@@ -121,98 +146,9 @@ const ANSWERED: [(&Shape, &str, &str); 20] = [
 
 #[test]
 fn scripts_are_answered(rt: HostRuntime) -> Result<(), Fail> {
-    for (shape, script, says) in ANSWERED {
-        let ran = run_on(&rt, rt.alloc(), shape, script)?;
-        assert_eq!(rt; ran.text.as_str(), says, "{shape:?} {script}");
-    }
-    Ok(())
-}
-
-// A unit, a chunk of it, and the chunk's blocks.
-type Blocks = (usize, u32, &'static str);
-
-// Drives, scripts, and what stands in chunks afterwards.
-const LEFT: [(&Shape, &str, &[Blocks]); 5] = [
-    (
-        &SMALL,
-        "thread\nw 5 1 17\nr 5 1\nf\n",
-        &[
-            (0, 0, "meta 1, meta 1, meta 1, meta 1, "),
-            (1, 0, "5 of 17 at 0, pad, pad, pad, "),
-        ],
-    ),
-    // Pad blocks fill the stripes of two flushes, and the close pads what is left.
-    (
-        &SMALL,
-        "thread\nw 10 6 3\nf\nw 20 3 4\nf\nw 1 5 5\n",
-        &[
-            (
-                0,
-                0,
-                "meta 1, meta 1, meta 1, meta 1, 14 of 3 at 4, 15 of 3 at 5, pad, pad, 1 of 5 at 9, 2 of 5 at 10, 3 of 5 at 11, 4 of 5 at 12, ",
-            ),
-            (
-                1,
-                0,
-                "10 of 3 at 0, 11 of 3 at 1, 12 of 3 at 2, 13 of 3 at 3, 20 of 4 at 6, 21 of 4 at 7, 22 of 4 at 8, pad, 5 of 5 at 13, pad, pad, pad, ",
-            ),
-            (0, 1, ""),
-        ],
-    ),
-    (
-        &ONE_SECTOR,
-        "thread\nw 0 1 1\nw 0 1 2\nw 0 1 3\nf\nw 0 1 4\nw 0 1 5\nr 0 1\n",
-        &[
-            (
-                0,
-                0,
-                "meta 1, meta 1, meta 1, meta 1, 0 of 4 at 3, 0 of 5 at 4, pad, pad, ",
-            ),
-            (1, 0, "0 of 1 at 0, 0 of 2 at 1, 0 of 3 at 2, pad, "),
-        ],
-    ),
-    (
-        &EQUAL_WRITES,
-        "thread\nw 0 5 9\nf\nr 0 5\n",
-        &[
-            (
-                0,
-                0,
-                "meta 1, meta 1, meta 1, meta 1, 4 of 9 at 4, pad, pad, pad, ",
-            ),
-            (1, 0, "0 of 9 at 0, 1 of 9 at 1, 2 of 9 at 2, 3 of 9 at 3, "),
-        ],
-    ),
-    // The end record of the first line, and the start record of the second.
-    (
-        &SMALL,
-        "thread\nw 0 16 1\nw 16 16 2\nw 32 10 3\n",
-        &[
-            (
-                0,
-                0,
-                "meta 1, meta 1, meta 1, meta 1, 4 of 1 at 4, 5 of 1 at 5, 6 of 1 at 6, 7 of 1 at 7, 12 of 1 at 12, 13 of 1 at 13, 14 of 1 at 14, 15 of 1 at 15, 20 of 2 at 20, 21 of 2 at 21, 22 of 2 at 22, 23 of 2 at 23, 28 of 2 at 28, 29 of 2 at 29, 30 of 2 at 30, 31 of 2 at 31, 36 of 3 at 36, 37 of 3 at 37, 38 of 3 at 38, 39 of 3 at 39, ",
-            ),
-            (
-                1,
-                0,
-                "0 of 1 at 0, 1 of 1 at 1, 2 of 1 at 2, 3 of 1 at 3, 8 of 1 at 8, 9 of 1 at 9, 10 of 1 at 10, 11 of 1 at 11, 16 of 2 at 16, 17 of 2 at 17, 18 of 2 at 18, 19 of 2 at 19, 24 of 2 at 24, 25 of 2 at 25, 26 of 2 at 26, 27 of 2 at 27, 32 of 3 at 32, 33 of 3 at 33, 34 of 3 at 34, 35 of 3 at 35, meta 1, meta 1, meta 1, meta 1, ",
-            ),
-            (0, 1, "meta 2, meta 2, meta 2, meta 2, "),
-            (1, 1, "40 of 3 at 40, 41 of 3 at 41, pad, pad, "),
-        ],
-    ),
-];
-
-#[test]
-fn blocks_are_marked(rt: HostRuntime) -> Result<(), Fail> {
-    let alloc = rt.alloc();
-    for (shape, script, chunks) in LEFT {
-        let ran = run_on(&rt, alloc, shape, script)?;
-        for (unit, chunk, text) in chunks {
-            let found = blocks(alloc, &ran.units, *unit, *chunk)?;
-            assert_eq!(rt; found.as_str(), *text, "{script} {unit} {chunk}");
-        }
+    for (shape, marks, script, says) in &ANSWERED {
+        let text = told(&rt, rt.alloc(), shape, *marks, script)?;
+        assert_eq!(rt; text.as_str(), *says, "{shape:?} {script}");
     }
     Ok(())
 }

@@ -7,7 +7,7 @@ use std::sync::Wait;
 use std::test::Fail;
 
 // What is asked of a port with sectors of 512 bytes.
-#[derive(Clone, Copy, Debug)]
+#[derive(Clone, Copy)]
 enum Asked {
     // Writes two sectors of this byte.
     Write(u64, u8),
@@ -21,7 +21,7 @@ enum Asked {
 }
 
 // What it told.
-#[derive(Clone, Copy, Debug, PartialEq, Eq)]
+#[derive(Clone, Copy, PartialEq, Eq)]
 enum Told {
     // The first position, and how many there are.
     Placed(u64, u32),
@@ -112,14 +112,12 @@ fn a_target_is_asked(rt: HostRuntime) -> Result<(), Fail> {
     };
     let mut wrong = None;
     for (row, (asked, told)) in rows.iter().enumerate() {
-        let found = ask(&rt, &mut port, *asked);
-        if wrong.is_none() && found != *told {
-            wrong = Some((row, found));
+        if ask(&rt, &mut port, *asked) != *told {
+            wrong = Some(row);
         }
     }
     let (units, settled) = port.close(&rt);
     assert_eq!(rt; wrong, None);
-    assert!(rt; settled.is_ok());
-    assert!(rt; units.len() == 8);
+    assert!(rt; settled.is_ok() && units.len() == 8);
     Ok(())
 }

@@ -7,6 +7,7 @@ ghost use Rattle.block_target.specs.Mount.{AreNewUnits};
 ghost use Rattle.block_target.specs.Serial.{SerialView};
 
 use block_target::{Refused, Serial, SettleErr};
+use ocssd_chunks::Chunk;
 use ocssd_drive::MemoryUnit;
 use pblk_model::{ChunkState, Mark, Shape};
 use run_script::read_script;
@@ -15,49 +16,36 @@ use std::alloc::{AllocError, Global};
 use std::sync::Wait;
 use unit_port::Unit;
 
-/// What a script was told, and the units that were handed back.
-#[derive(Drop)]
-pub(crate) struct Ran {
-    pub(crate) text: String,
-    pub(crate) units: Vec<MemoryUnit>,
-}
-
-/// Runs a script of one thread on a target over new units, and closes it. The text has a line for
-/// each answer, one for the close, and one for each unit: how many events it had, and the state and
-/// write pointer of each of its chunks that has blocks.
-pub(crate) fn run_on<R: Wait>(
+/// What is told of a script of one thread that is run on a target over new units, and of its close:
+/// a line for each answer, one for the close, and one for each unit: how many events it had, and the
+/// state and write pointer of each of its chunks that has blocks, with their marks where they are
+/// asked for.
+pub(crate) fn told<R: Wait>(
     rt: &R,
     alloc: Global,
     shape: &Shape,
+    marks: bool,
     script: &str,
-) -> Result<Ran, AllocError> {
+) -> Result<String, AllocError> {
     let script = match read_script(alloc, script.as_bytes(), shape.capacity) {
         Ok(script) => script,
-        Err(_) => return nothing(alloc, "no script"),
+        Err(_) => return String::from_str(alloc, "no script"),
     };
     if script.as_slice().len() != 1 {
-        return nothing(alloc, "no script of one thread");
+        return String::from_str(alloc, "no script of one thread");
     }
     let ports = match shape.refusal() {
-        Some(_) => return nothing(alloc, "no shape"),
+        Some(_) => return String::from_str(alloc, "no shape"),
         None => one_port(rt, alloc, shape)?,
     };
     let (answers, ports) = match run(rt, alloc, &script, ports) {
         Err((e, ports)) => (Err(e), ports),
         Ok((records, ports)) => (lines(alloc, &records), ports),
     };
-    let ran = closed(rt, alloc, ports);
+    let end = closed(rt, alloc, ports, marks);
     let mut text = answers?;
-    let Ran { text: end, units } = ran?;
-    text.push_str(&end)?;
-    Ok(Ran { text, units })
-}
-
-fn nothing(alloc: Global, why: &str) -> Result<Ran, AllocError> {
-    Ok(Ran {
-        text: String::from_str(alloc, why)?,
-        units: Vec::new(alloc),
-    })
+    text.push_str(&end?)?;
+    Ok(text)
 }
 
 // The port of a target over new units.
@@ -142,24 +130,24 @@ fn closed<R: Wait>(
     rt: &R,
     alloc: Global,
     mut ports: Vec<Serial<MemoryUnit>>,
-) -> Result<Ran, AllocError> {
+    marks: bool,
+) -> Result<String, AllocError> {
     let mut text = String::new(alloc);
-    let mut units = Vec::new(alloc);
     let mut written = Ok(());
     while let Some(port) = ports.pop() {
-        let (back, settled) = port.close(rt);
-        written = put_end(&mut text, &back, settled);
-        units = back;
+        let (units, settled) = port.close(rt);
+        written = put_end(&mut text, &units, settled, marks);
     }
     ports.destroy_empty();
     written?;
-    Ok(Ran { text, units })
+    Ok(text)
 }
 
 fn put_end(
     text: &mut String,
     units: &[MemoryUnit],
     settled: Result<(), SettleErr>,
+    marks: bool,
 ) -> Result<(), AllocError> {
     match settled {
         Ok(()) => writeln!(text, "closed")?,
@@ -169,56 +157,44 @@ fn put_end(
     for unit in units {
         write!(text, "events {}", unit.events())?;
         for chunk in 0..unit.shape().chunks {
-            put_state(text, unit.state(chunk))?;
+            put_chunk(text, unit.chunk(chunk), marks)?;
         }
         text.push('\n')?;
     }
     Ok(())
 }
 
-fn put_state(text: &mut String, found: (ChunkState, u32)) -> Result<(), AllocError> {
-    let (state, pointer) = found;
+fn put_chunk(text: &mut String, chunk: &Chunk, marks: bool) -> Result<(), AllocError> {
+    let (state, pointer) = chunk.state();
     match state {
-        ChunkState::Free => Ok(()),
-        ChunkState::Open => write!(text, " open {pointer}"),
-        ChunkState::Closed => write!(text, " closed {pointer}"),
-        ChunkState::Offline => write!(text, " offline"),
+        ChunkState::Free => (),
+        ChunkState::Open => write!(text, " open {pointer}")?,
+        ChunkState::Closed => write!(text, " closed {pointer}")?,
+        ChunkState::Offline => write!(text, " offline")?,
     }
-}
-
-/// The blocks of a chunk of a unit, one after another: of a sector its lba, the last byte of its tag
-/// and its position, of a record its sequence number. A block of Pad has zeros.
-pub(crate) fn blocks(
-    alloc: Global,
-    units: &[MemoryUnit],
-    unit: usize,
-    chunk: u32,
-) -> Result<String, AllocError> {
-    let mut text = String::new(alloc);
-    if let Some(found) = units.get(unit) {
-        if chunk < found.shape().chunks {
-            let found = found.chunk(chunk);
-            for block in 0..found.state().1 {
-                if let Some((sector, mark)) = found.written(block) {
-                    put_block(&mut text, sector, mark)?;
-                }
+    if marks {
+        for block in 0..pointer {
+            if let Some((sector, mark)) = chunk.written(block) {
+                put_block(text, sector, mark)?;
             }
         }
     }
-    Ok(text)
+    Ok(())
 }
 
 const PAD: u64 = u64::MAX;
 
 const META: u64 = u64::MAX - 2;
 
+// Of a sector its lba, the first byte of its tag and its position, of a record its sequence number.
+// A block of Pad has zeros.
 fn put_block(text: &mut String, sector: &[u8], mark: Mark) -> Result<(), AllocError> {
     let Mark { lba, position } = mark;
     match sector.first() {
-        Some(_) if lba == META => write!(text, "meta {position}, "),
-        Some(0) if lba == PAD && position == 0 && is_zeros(sector) => text.push_str("pad, "),
-        Some(tag) => write!(text, "{lba} of {tag} at {position}, "),
-        None => text.push_str("none, "),
+        Some(_) if lba == META => write!(text, ", meta {position}"),
+        Some(0) if lba == PAD && position == 0 && is_zeros(sector) => text.push_str(", pad"),
+        Some(tag) => write!(text, ", {lba} of {tag} at {position}"),
+        None => text.push_str(", none"),
     }
 }
 
