@@ -82,36 +82,37 @@ fn read<R: Wait, P: Port>(rt: &R, port: &mut P, lba: u64) -> Told {
     }
 }
 
+// What a target of 405 sectors is asked, and what it tells.
+static ROWS: [(Asked, Told); 19] = [
+    (Asked::Sector, Told::Size(512)),
+    (Asked::Tell, Told::Seen(0)),
+    (Asked::Hear(0), Told::Done),
+    (Asked::Write(404, 1), Told::Range),
+    (Asked::Write(u64::MAX, 1), Told::Range),
+    (Asked::Read(404), Told::Range),
+    (Asked::Read(u64::MAX - 1), Told::Range),
+    (Asked::Read(403), Told::Bytes([0, 0], 0, 0)),
+    (Asked::Write(403, 7), Told::Placed(0, 2)),
+    (Asked::Write(404, 8), Told::Range),
+    (Asked::Tell, Told::Seen(2)),
+    (Asked::Read(402), Told::Bytes([0, 7], 2, 2)),
+    (Asked::Flush, Told::Synced(2, 2)),
+    (Asked::Write(402, 9), Told::Placed(2, 2)),
+    (Asked::Hear(3), Told::Done),
+    (Asked::Tell, Told::Seen(4)),
+    (Asked::Read(403), Told::Bytes([9, 7], 4, 4)),
+    (Asked::Flush, Told::Synced(4, 4)),
+    (Asked::Read(404), Told::Range),
+];
+
 #[test]
 fn a_target_is_asked(rt: HostRuntime) -> Result<(), Fail> {
-    let rows = [
-        (Asked::Sector, Told::Size(512)),
-        (Asked::Tell, Told::Seen(0)),
-        (Asked::Hear(0), Told::Done),
-        // The target has 405 sectors.
-        (Asked::Write(404, 1), Told::Range),
-        (Asked::Write(u64::MAX, 1), Told::Range),
-        (Asked::Read(404), Told::Range),
-        (Asked::Read(u64::MAX - 1), Told::Range),
-        (Asked::Read(403), Told::Bytes([0, 0], 0, 0)),
-        (Asked::Write(403, 7), Told::Placed(0, 2)),
-        (Asked::Write(404, 8), Told::Range),
-        (Asked::Tell, Told::Seen(2)),
-        (Asked::Read(402), Told::Bytes([0, 7], 2, 2)),
-        (Asked::Flush, Told::Synced(2, 2)),
-        (Asked::Write(402, 9), Told::Placed(2, 2)),
-        (Asked::Hear(3), Told::Done),
-        (Asked::Tell, Told::Seen(4)),
-        (Asked::Read(403), Told::Bytes([9, 7], 4, 4)),
-        (Asked::Flush, Told::Synced(4, 4)),
-        (Asked::Read(404), Told::Range),
-    ];
     let mut port = match EIGHT_UNITS.refusal() {
         Some(refusal) => return Err(refusal.into()),
         None => open(rt.alloc(), &EIGHT_UNITS)?,
     };
     let mut wrong = None;
-    for (row, (asked, told)) in rows.iter().enumerate() {
+    for (row, (asked, told)) in ROWS.iter().enumerate() {
         if ask(&rt, &mut port, *asked) != *told {
             wrong = Some(row);
         }
