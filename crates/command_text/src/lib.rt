@@ -11,5 +11,5 @@ mod refusal;
 
 pub use file_line::{tell_failed, tell_missing};
 pub use line::tell;
-pub use numbers::{created_text, geometry_text};
+pub use numbers::{chunks_in, created_text, geometry_text};
 pub use refusal::{tell_image, tell_memory, tell_script, tell_words};

@@ -52,8 +52,8 @@ fn put_line(out: &mut String, word: &str, number: u64) -> Result<(), AllocError>
     Ok(())
 }
 
-// How many chunks of the drive are in a state.
-fn chunks_in(drive: &Drive, state: ChunkState) -> u64
+/// How many chunks of the drive are in a state (Open-Channel SSD Specification 2.0, Chunk states).
+pub fn chunks_in(drive: &Drive, state: ChunkState) -> u64
     ensures { result ≡ chunks_in state (stored drive.now) }
 {
     let units = drive.shape().units();

@@ -5,3 +5,7 @@ pub mod Steps
 pub mod Known
 pub mod OnePort
 pub mod Recorded
+pub mod Objects
+pub mod Blanks
+pub mod ListedLines
+pub mod OneListing

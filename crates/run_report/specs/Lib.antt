@@ -3,3 +3,6 @@ pub mod Recorded
 pub mod Report
 pub mod RowFits
 pub mod OnePort
+pub mod Listing
+pub mod Numbers
+pub mod Objects

@@ -1,13 +1,17 @@
-//! The transcript of a run, as text.
+//! What is printed of a run and of an image: the transcript of a run, the listing of an image's contents, and a report.
 #![tactic(auto)]
 
 mod history;
 mod laws;
+mod listings;
+mod numbers;
 mod outcomes;
-mod report;
 mod rows;
+mod transcripts;
 
 pub use laws::{
     a_run_is_recorded, a_run_of_no_thread, a_run_that_was_not_opened, a_run_through_one_port,
 };
-pub use report::transcript;
+pub use listings::{listing, one_listing};
+pub use numbers::report;
+pub use transcripts::transcript;

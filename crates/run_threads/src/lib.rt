@@ -11,3 +11,4 @@ mod thread;
 pub use block_port::{Front, Place, Port};
 pub use records::{Answer, Answers, Records, ThreadRows, Trouble, Word, Words};
 pub use runner::run;
+pub use sectors::word;

@@ -37,8 +37,8 @@ fn repeat_in(bytes: &mut [u8], piece: &[u8], pieces: usize)
     }
 }
 
-/// The word of a sector.
-pub(crate) fn word(sector: &[u8]) -> Word
+/// The word of a sector, which has 512 bytes or 4096.
+pub fn word(sector: &[u8]) -> Word
     requires { IsSectorSize (length sector.now) }
     ensures { text_word result ≡ word_of sector.now }
 {

@@ -1,6 +1,6 @@
 use Rattle.std.proofs.Common.{◌∙◌}
 use Rattle.run_report.proofs.Accepted.{are_as_many, are_rows}
-use Rattle.run_report.proofs.report.transcript.Goals as goal
+use Rattle.run_report.proofs.transcripts.transcript.Goals as goal
 
 pub rows-requires : goal.rows-requires
 rows-requires c = rw (c.as_slice.ensures, c.as_slice-threads.ensures) (are_as_many c.args.records.now.opening c.args.script.now c.args.records.now.threads c.requires.answered)

@@ -1,0 +1,4 @@
+pub mod PadImages
+pub mod PadSteps
+pub mod PadLoops
+pub mod SectorLists

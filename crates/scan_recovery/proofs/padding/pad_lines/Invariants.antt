@@ -1,0 +1,13 @@
+use Rattle.std.proofs.Common.{map, Ok}
+use Rattle.vector_io.specs.Commands.{AreKept}
+use Rattle.scan_recovery.specs.Units.{image_of}
+use Rattle.scan_recovery.specs.Pads.{NoneOpenBefore}
+use Rattle.scan_recovery.proofs.PadLoops.{HasRun}
+use Rattle.scan_recovery.proofs.padding.pad_lines.Given as goal
+
+abbrev pub invariant-loop-line : goal.invariant-loop-line
+invariant-loop-line g l = record {
+  ran : HasRun l.shape (map g.U.Unit.model l.fn.units) (map g.U.Unit.model l.units) (Ok tt);
+  before : NoneOpenBefore (image_of l.shape (map g.U.Unit.model l.units)) l.line 0;
+  kept : AreKept (map g.U.Unit.model l.fn.units) (map g.U.Unit.model l.units);
+}

@@ -1,0 +1,28 @@
+-- When contents are those of an image.
+use Rattle.std.specs.Prelude.{ℕ, ◌≡◌, Bool, List, length}
+use Rattle.std.specs.List.{filter, list_any, range_with_len}
+use Rattle.std.specs.Option.{is_some, option_map}
+use Rattle.pblk_model.specs.Image.{Image}
+use Rattle.pblk_model.specs.StartRecord.{StartRecord}
+use Rattle.pblk_model.specs.Records.{Record}
+use Rattle.pblk_model.specs.Contents as model
+use Rattle.scan_recovery.specs.declared.sectors.Contents.{Contents}
+use Rattle.scan_recovery.specs.declared.sectors.Head.{Head}
+
+-- the line and the sequence number of a start record
+abbrev pub head_of : StartRecord → Head
+head_of start = record { line = start.line; seq = start.seq }
+
+-- whether one of the records is of the sector
+abbrev pub has_record : List Record → ℕ → Bool
+has_record records lba = list_any (λ r. model.is_of lba r.lba) records
+
+-- these contents are those of the image
+pub record IsContentsOf (i : Image) (c : Contents) : Type 0 where
+  pub sectors : c.sectors ≡ model.contents i
+  pub end : c.end ≡ model.end i
+  -- the counted records that have a sector
+  pub counted : c.counted ≡ length (filter (λ r. is_some r.lba) (model.counted i))
+  -- the sectors that have a counted record
+  pub live : c.live ≡ length (filter (has_record (model.counted i)) (range_with_len 0 i.shape.capacity))
+  pub head : c.head ≡ option_map head_of (model.head i)

@@ -1,0 +1,4 @@
+pub mod Units
+pub mod Pads
+pub mod Sectors
+pub mod Holding

@@ -1,0 +1,33 @@
+//! Commands of one unit out of several.
+
+ghost use Rattle.std.specs.Prelude.{◌≡◌, ◌*◌, length, map};
+ghost use Rattle.pblk_model.specs.Blocks.{blocks_of};
+ghost use Rattle.pblk_model.specs.ChunkStep.{Write};
+ghost use Rattle.unit_port.specs.Unit.{TellsDone};
+ghost use Rattle.vector_io.specs.Commands.{AreKept, EventAt, IsTaken};
+ghost use Rattle.vector_io.specs.Did.{AreOfSize, Did, command_at};
+
+use pblk_model::Mark;
+use unit_port::{Unit, UnitErr};
+
+/// Programs blocks from a block of a chunk of a unit on. `size` is the length of a sector.
+pub(crate) fn program_at<U: Unit>(
+    units: &mut [U],
+    unit: usize,
+    chunk: u32,
+    at: u32,
+    size: usize,
+    bytes: &[u8],
+    marks: &[Mark],
+) -> Result<(), UnitErr>
+    requires sector { AreOfSize size (map U.model units.old) }
+    requires whole { length bytes.now ≡ length marks.now * size }
+    requires taken { let blocks = blocks_of size bytes.now marks.now
+        in IsTaken (map U.model units.old) (command_at unit chunk (Write at blocks)) }
+    ensures did { let command = command_at unit chunk (Write at (blocks_of size bytes.now marks.now))
+        in (e : EventAt) × Did (map U.model units.old) command e (map U.model units.new) × TellsDone result e.event.outcome }
+    ensures kept { AreKept (map U.model units.old) (map U.model units.new) }
+{
+    let found = &mut units[unit];
+    found.program(chunk, at, bytes, marks)
+}
