@@ -1,8 +1,6 @@
 //! Scripts that are run on a target over new units, and what is told of them.
-ghost use Rattle.std.specs.Prelude.{◌≡◌, [], ◌∷◌, map, replicate, IfOk};
+ghost use Rattle.std.specs.Prelude.{◌≡◌, [], ◌∷◌, map, IfOk};
 ghost use Rattle.pblk_model.specs.Accepted.{IsAccepted};
-ghost use Rattle.pblk_model.specs.Shape.{units};
-ghost use Rattle.ocssd_drive.specs.Units.{new_unit};
 ghost use Rattle.block_target.specs.Mount.{AreNewUnits};
 ghost use Rattle.block_target.specs.Serial.{SerialView};
 
