@@ -2,3 +2,14 @@ pub mod PadImages
 pub mod PadSteps
 pub mod PadLoops
 pub mod SectorLists
+pub mod Tables
+pub mod Tallies
+pub mod Totals
+pub mod Lines
+pub mod Surveys
+pub mod Founds
+pub mod Results
+pub mod LineStates
+pub mod FetchSteps
+pub mod FetchLines
+pub mod ScanSteps

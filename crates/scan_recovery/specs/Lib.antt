@@ -2,3 +2,9 @@ pub mod Units
 pub mod Pads
 pub mod Sectors
 pub mod Holding
+pub mod Traces
+pub mod Tally
+pub mod Reading
+pub mod Survey
+pub mod Find
+pub mod Fetches

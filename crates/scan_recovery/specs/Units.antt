@@ -1,6 +1,7 @@
 -- The units of a drive, and the image that their chunks are.
 use Rattle.std.specs.Prelude.{ℕ, ◌-◌, ◌^◌, ◌≡◌, ◌≢◌, List, [], ◌∷◌, ◌++◌, length, map, min, slice_get, Some}
 use Rattle.pblk_model.specs.declared.shape.Shape.{Shape}
+use Rattle.pblk_model.specs.declared.chunk.ChunkState.{ChunkState}
 use Rattle.pblk_model.specs.declared.chunk.ChunkState.TheVariants.{Open}
 use Rattle.pblk_model.specs.Shape.{units}
 use Rattle.pblk_model.specs.Chunk.{Chunk}
@@ -26,6 +27,10 @@ image_of s us = record { shape = s; units = map (λ u. u.media) us }
 -- no chunk is Open
 abbrev pub NoneOpen : Image → Type 0
 NoneOpen i = (line unit : ℕ) (c : Chunk) → chunk_in i line unit ≡ Some c → c.state ≢ Open
+
+-- a unit's chunk of a line has this state
+abbrev pub IsStateOf : Image → ℕ → ℕ → ChunkState → Type 0
+IsStateOf i line unit state = (c : Chunk) × (chunk_in i line unit ≡ Some c) × (state ≡ c.state)
 
 -- This is the last event of a unit, and this its number in the unit's log, from 1. From 2^64 - 1 on the number stands still.
 pub record IsLastEvent (us : List ModelUnit) (unit number : ℕ) (e : UnitEvent) : Type 0 where

@@ -1,13 +1,23 @@
 //! Recovery by scanning: what a drive holds when a mount begins (Bjørling, González, Bonnet, FAST 2017, recovery).
 //!
-//! `pad` closes the chunks that a mount left Open.
+//! `pad` closes the chunks that a mount left Open, and `scan` tells what a drive without Open chunks holds.
 #![tactic(auto)]
 
+mod counting;
+mod ending;
 mod error;
+mod fetching;
+mod finding;
+mod line_records;
 mod padding;
+mod reading;
+mod scanning;
 mod sectors;
+mod survey;
+mod trace;
 mod unit_calls;
 
 pub use error::ScanErr;
 pub use padding::pad;
+pub use scanning::scan;
 pub use sectors::{Contents, Head, Sectors};

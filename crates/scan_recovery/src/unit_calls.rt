@@ -2,12 +2,12 @@
 
 ghost use Rattle.std.specs.Prelude.{◌≡◌, ◌*◌, length, map};
 ghost use Rattle.pblk_model.specs.Blocks.{blocks_of};
-ghost use Rattle.pblk_model.specs.ChunkStep.{Write};
-ghost use Rattle.unit_port.specs.Unit.{TellsDone};
+ghost use Rattle.pblk_model.specs.ChunkStep.{Read, Write};
+ghost use Rattle.unit_port.specs.Unit.{TellsBlock, TellsDone};
 ghost use Rattle.vector_io.specs.Commands.{AreKept, EventAt, IsTaken};
 ghost use Rattle.vector_io.specs.Did.{AreOfSize, Did, command_at};
 
-use pblk_model::Mark;
+use pblk_model::{Got, Mark};
 use unit_port::{Unit, UnitErr};
 
 /// Programs blocks from a block of a chunk of a unit on. `size` is the length of a sector.
@@ -30,4 +30,22 @@ pub(crate) fn program_at<U: Unit>(
 {
     let found = &mut units[unit];
     found.program(chunk, at, bytes, marks)
+}
+
+/// Fetches a block of a chunk of a unit.
+pub(crate) fn fetch_at<U: Unit>(
+    units: &mut [U],
+    unit: usize,
+    chunk: u32,
+    block: u32,
+    out: &mut [u8],
+) -> Result<Got, UnitErr>
+    requires sector { AreOfSize (length out.old) (map U.model units.old) }
+    requires taken { IsTaken (map U.model units.old) (command_at unit chunk (Read block)) }
+    ensures did { (e : EventAt) × Did (map U.model units.old) (command_at unit chunk (Read block)) e (map U.model units.new)
+        × TellsBlock out.old out.new result e.event.outcome }
+    ensures kept { AreKept (map U.model units.old) (map U.model units.new) }
+{
+    let found = &mut units[unit];
+    found.fetch(chunk, block, out)
 }

@@ -1,0 +1,13 @@
+use Rattle.std.proofs.Common.{map, None}
+use Rattle.vector_io.specs.Commands.{AreKept}
+use Rattle.scan_recovery.specs.Survey.{IsSurvey}
+use Rattle.scan_recovery.specs.Units.{image_of}
+use Rattle.scan_recovery.proofs.FetchSteps.{Fetched}
+use Rattle.scan_recovery.proofs.scanning.survey_lines.Given as goal
+
+abbrev pub invariant-loop-line : goal.invariant-loop-line
+invariant-loop-line g l = record {
+  ran : Fetched l.shape (map g.U.Unit.model l.fn.units) (map g.U.Unit.model l.units) None;
+  survey : IsSurvey (image_of l.shape (map g.U.Unit.model l.fn.units)) l.line l.survey;
+  kept : AreKept (map g.U.Unit.model l.fn.units) (map g.U.Unit.model l.units);
+}

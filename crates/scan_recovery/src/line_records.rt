@@ -1,0 +1,209 @@
+//! What the blocks of a line bear, once they were read.
+
+ghost use Rattle.std.specs.Prelude.{◌≡◌, ◌<◌, ◌≤◌, ◌^◌, ◌++◌, ◌&&◌, ◌==◌, length, false, IfOk, OnOk, IfSome};
+ghost use Rattle.std.specs.Option.{option_map, option_map_or};
+ghost use Rattle.pblk_model.specs.Accepted.{IsAccepted};
+ghost use Rattle.pblk_model.specs.Shape.{units};
+ghost use Rattle.pblk_model.specs.Marks.{meta_lba};
+ghost use Rattle.pblk_model.specs.Records.{mark_at, named};
+ghost use Rattle.pblk_meta.specs.Records.{end_numbers, start_numbers};
+ghost use Rattle.scan_recovery.specs.Reading.{have_mark, sectors_of, start_among, end_among, record_in, traces_from};
+ghost use Rattle.scan_recovery.specs.Tally.{HasStartFits};
+ghost use Rattle.scan_recovery.specs.Traces.{bare, bares, without_sector};
+
+use crate::trace::Trace;
+use pblk_layout::Layout;
+use pblk_meta::{EndRecord, StartRecord};
+use pblk_model::{Mark, Shape};
+use std::alloc::{AllocError, Global};
+use std::marker::Model;
+
+/// The address in the mark of a record's blocks.
+const META: u64 = u64::MAX - 2;
+
+/// The address in the mark of a position that was given up.
+const VOID: u64 = u64::MAX - 1;
+
+/// A written block: a sector with its mark. Contracts see the model's `Block`.
+#[derive(Debug, Drop)]
+pub(crate) struct Block {
+    pub sector: Vec<u8>,
+    pub mark: Mark,
+}
+
+impl Model for Block {
+    ghost use Rattle.pblk_model.specs.Chunk.{Block as Written};
+
+    ghost Value = { Written };
+
+    ghost view = { λ a. record { sector = a.sector.items; mark = a.mark } };
+}
+
+// The sectors of blocks one after another, where all of them are written.
+fn sectors_of(alloc: Global, run: &[Option<Block>]) -> Result<Option<Vec<u8>>, AllocError>
+    ensures { IfOk result (λ o. option_map (λ v. v.items) o ≡ sectors_of run.now) }
+{
+    let mut bytes = Vec::new(alloc);
+    for block in run {
+        match block {
+            None => return Ok(None),
+            Some(block) => bytes.extend_from_slice(&block.sector)?,
+        }
+    }
+    Ok(Some(bytes))
+}
+
+// Whether a block is written and has the mark of a record of this sequence number.
+fn has_mark(seq: u64, block: &Option<Block>) -> bool
+    ensures { result ≡ option_map_or (λ b. (b.mark.lba == meta_lba) && (b.mark.position == seq)) block.now false }
+{
+    match block {
+        None => false,
+        Some(block) => block.mark.lba == META && block.mark.position == seq,
+    }
+}
+
+// Whether all blocks do.
+fn have_mark(seq: u64, run: &[Option<Block>]) -> bool
+    ensures { result ≡ have_mark seq run.now }
+{
+    for block in run {
+        if !has_mark(seq, block) {
+            return false;
+        }
+    }
+    true
+}
+
+/// The start record of a line of this width with these blocks, where it is whole.
+pub(crate) fn start_in(
+    alloc: Global,
+    layout: &Layout,
+    line: u32,
+    width: u32,
+    blocks: &[Option<Block>],
+) -> Result<Option<StartRecord>, AllocError>
+    requires line { line < layout.now.chunks }
+    requires width { width ≤ units layout.now }
+    ensures start { IfOk result (λ o. option_map start_numbers o ≡ start_among layout.now line width blocks.now) }
+    ensures fits { IfOk result (λ o. IfSome o HasStartFits) }
+{
+    let len = layout.start_len() as usize;
+    if blocks.len() < len {
+        return Ok(None);
+    }
+    let run = &blocks[..len];
+    let Some(bytes) = sectors_of(alloc, run)? else {
+        return Ok(None);
+    };
+    let Some(start) = StartRecord::read(alloc, &bytes, layout, line, width)? else {
+        return Ok(None);
+    };
+    if !have_mark(start.seq, run) {
+        return Ok(None);
+    }
+    Ok(Some(start))
+}
+
+/// The end record of a line of this width and sequence number with these blocks, where it is whole.
+pub(crate) fn end_in(
+    alloc: Global,
+    layout: &Layout,
+    line: u32,
+    width: u32,
+    seq: u64,
+    blocks: &[Option<Block>],
+) -> Result<Option<EndRecord>, AllocError>
+    requires width { width ≤ units layout.now }
+    ensures end { IfOk result (λ o. option_map end_numbers o ≡ end_among layout.now line width seq blocks.now) }
+{
+    let len = layout.end_len(width) as usize;
+    if blocks.len() < len {
+        return Ok(None);
+    }
+    let run = &blocks[blocks.len() - len..];
+    if !have_mark(seq, run) {
+        return Ok(None);
+    }
+    let Some(bytes) = sectors_of(alloc, run)? else {
+        return Ok(None);
+    };
+    EndRecord::read(alloc, &bytes, layout, line, width, seq)
+}
+
+// The mark that a block counts with: its pair in the end record where that is whole, else its own.
+fn mark_at(shape: &Shape, end: &Option<EndRecord>, at: u32, block: &Block) -> Option<Mark>
+    requires { IsAccepted shape.now }
+    ensures { result ≡ mark_at shape.now (option_map end_numbers end.now) at block.now }
+{
+    match end {
+        None => Some(block.mark),
+        Some(end) => {
+            let start = shape.start_len();
+            if at < start {
+                None
+            } else {
+                end.pairs.as_slice().get((at - start) as usize).copied()
+            }
+        }
+    }
+}
+
+// The sector that a mark names: none for a position that was given up, and nothing for all else.
+fn named(shape: &Shape, mark: Mark) -> Option<Option<u64>>
+    ensures { result ≡ named shape.now mark }
+{
+    if mark.lba < shape.capacity {
+        Some(Some(mark.lba))
+    } else if mark.lba == VOID {
+        Some(None)
+    } else {
+        None
+    }
+}
+
+// What a block at a line address bears.
+fn trace_at(
+    shape: &Shape,
+    line: u32,
+    seq: u64,
+    end: &Option<EndRecord>,
+    at: u32,
+    block: &Option<Block>,
+) -> Option<Trace>
+    requires { IsAccepted shape.now }
+    ensures { option_map bare result ≡ option_map without_sector (record_in shape.now line seq (option_map end_numbers end.now) at block.now) }
+{
+    let block = block.as_ref()?;
+    let mark = mark_at(shape, end, at, block)?;
+    let lba = named(shape, mark)?;
+    Some(Trace {
+        line,
+        seq,
+        at,
+        position: mark.position,
+        lba,
+    })
+}
+
+/// Adds what the blocks of a line with this sequence number and this end record bear, in line order.
+pub(crate) fn trace_all(
+    traces: &mut Vec<Trace>,
+    shape: &Shape,
+    line: u32,
+    seq: u64,
+    end: &Option<EndRecord>,
+    blocks: &[Option<Block>],
+) -> Result<(), AllocError>
+    requires accepted { IsAccepted shape.now }
+    requires few { length blocks.now ≤ 65536 }
+    ensures traces { OnOk result (bares traces.new.items
+        ≡ bares traces.old.items ++ traces_from shape.now line seq (option_map end_numbers end.now) 0 blocks.now) }
+{
+    for (at, block) in blocks.iter().enumerate() {
+        if let Some(trace) = trace_at(shape, line, seq, end, at as u32, block) {
+            traces.push(trace)?;
+        }
+    }
+    Ok(())
+}

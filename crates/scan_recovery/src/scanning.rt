@@ -1,0 +1,96 @@
+//! Recovery by scanning (Bjørling, González, Bonnet, FAST 2017, recovery).
+
+ghost use Rattle.std.specs.Prelude.{List, ◌≡◌, ◌+◌, ◌<◌, length, map, IfOk, OnOk};
+ghost use Rattle.pblk_model.specs.Accepted.{IsAccepted};
+ghost use Rattle.vector_io.specs.Commands.{AreKept, EventAt};
+ghost use Rattle.scan_recovery.specs.Fetches.{HasFetched, error_of};
+ghost use Rattle.scan_recovery.specs.Find.{IsFoundOf, taken_states};
+ghost use Rattle.scan_recovery.specs.Survey.{IsSurvey};
+ghost use Rattle.scan_recovery.specs.Units.{AreFit, NoneOpen, image_of};
+
+use crate::error::ScanErr;
+use crate::fetching::fetch_line;
+use crate::finding::found_of;
+use crate::reading::{chunk_states, is_used, online_units};
+use crate::survey::Survey;
+use pblk_layout::Layout;
+use pblk_model::{Found, Shape};
+use std::alloc::Global;
+use unit_port::Unit;
+
+/// What recovery by scanning finds on a drive without Open chunks.
+///
+/// Each written block is fetched; the chunks stay as they were. The shape is accepted, the units are those of a drive of
+/// it, and no chunk is Open, as after `pad`.
+///
+/// Refused: `Drive` where a fetch failed or was stopped, which ends the scan; it names that event. `Memory` where there
+/// isn't enough.
+pub fn scan<U: Unit>(alloc: Global, units: &mut [U], shape: &Shape) -> Result<Found, ScanErr>
+    requires accepted { IsAccepted shape.now }
+    requires fit { AreFit shape.now (map U.model units.old) }
+    requires closed { NoneOpen (image_of shape.now (map U.model units.old)) }
+    ensures found { IfOk result (IsFoundOf (image_of shape.now (map U.model units.old))) }
+    ensures fetched { (events : List EventAt) × HasFetched shape.now (map U.model units.old) (map U.model units.new) events (error_of result) }
+    ensures kept { AreKept (map U.model units.old) (map U.model units.new) }
+{
+    let mut survey = Survey::new(alloc);
+    survey_lines(alloc, units, shape, &mut survey)?;
+    let Ok(chunks) = chunk_states(alloc, units, shape) else {
+        return Err(ScanErr::Memory);
+    };
+    match found_of(alloc, shape, &survey, chunks) {
+        Ok(found) => Ok(found),
+        Err(_) => Err(ScanErr::Memory),
+    }
+}
+
+// Reads all lines, one after another.
+fn survey_lines<U: Unit>(
+    alloc: Global,
+    units: &mut [U],
+    shape: &Shape,
+    survey: &mut Survey,
+) -> Result<(), ScanErr>
+    requires accepted { IsAccepted shape.now }
+    requires fit { AreFit shape.now (map U.model units.old) }
+    requires closed { NoneOpen (image_of shape.now (map U.model units.old)) }
+    requires survey { IsSurvey (image_of shape.now (map U.model units.old)) 0 survey.old }
+    ensures survey { OnOk result (IsSurvey (image_of shape.now (map U.model units.old)) shape.now.chunks survey.new) }
+    ensures fetched { (events : List EventAt) × HasFetched shape.now (map U.model units.old) (map U.model units.new) events (error_of result) }
+    ensures kept { AreKept (map U.model units.old) (map U.model units.new) }
+{
+    for line in 0..shape.chunks {
+        survey_line(alloc, units, shape, survey, line)?;
+    }
+    Ok(())
+}
+
+// Reads a line.
+fn survey_line<U: Unit>(
+    alloc: Global,
+    units: &mut [U],
+    shape: &Shape,
+    survey: &mut Survey,
+    line: u32,
+) -> Result<(), ScanErr>
+    requires accepted { IsAccepted shape.now }
+    requires fit { AreFit shape.now (map U.model units.old) }
+    requires closed { NoneOpen (image_of shape.now (map U.model units.old)) }
+    requires line { line < shape.now.chunks }
+    requires survey { IsSurvey (image_of shape.now (map U.model units.old)) line survey.old }
+    ensures survey { OnOk result (IsSurvey (image_of shape.now (map U.model units.old)) (line + 1) survey.new) }
+    ensures fetched { (events : List EventAt) × HasFetched shape.now (map U.model units.old) (map U.model units.new) events (error_of result) }
+    ensures kept { AreKept (map U.model units.old) (map U.model units.new) }
+{
+    let layout = Layout::new(shape);
+    let used = is_used(units, shape, line);
+    let Ok(online) = online_units(alloc, units, shape, line) else {
+        return Err(ScanErr::Memory);
+    };
+    let width = online.len() as u32;
+    let blocks = fetch_line(alloc, units, shape, line, &online)?;
+    match survey.add(alloc, &layout, line, width, used, &blocks) {
+        Ok(()) => Ok(()),
+        Err(_) => Err(ScanErr::Memory),
+    }
+}
