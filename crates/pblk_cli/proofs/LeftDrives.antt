@@ -30,6 +30,7 @@ use Rattle.prefix_law.proofs.Taking.{count_users}
 use Rattle.ocssd_drive.specs.Drive.{DriveView, IsWhole, shape_of, stored, with_units}
 use Rattle.ocssd_drive.specs.Units.{IsUnitOf, WornUnit}
 use Rattle.block_target.specs.Mount.{IsSound, IsUnitIn, MountView, engine_log, logs_in, taken_in, world_in}
+use Rattle.block_target.specs.NothingLeft.{AreRefusals}
 use Rattle.run_report.specs.Report.{transcript_of}
 use Rattle.pblk_cli.specs.declared.run.Ran.{Ran}
 use Rattle.pblk_cli.specs.declared.serve.Served.{Served}
@@ -37,6 +38,7 @@ use Rattle.pblk_cli.specs.Free.{AreFree}
 use Rattle.pblk_cli.specs.Running.{IsRunTo}
 use Rattle.pblk_cli.specs.Serving.{IsRan, IsServed, IsServing, media_in}
 use Rattle.pblk_cli.specs.Status.{status_of_run}
+use Rattle.pblk_cli.specs.Worn.{worns_of}
 use Rattle.pblk_cli.proofs.FreeDrives.{is_blank}
 use Rattle.pblk_cli.proofs.StoredUnits.{image_units, same_numbers}
 
@@ -181,6 +183,7 @@ run_to found script ran text bytes status free is said status_is bytes_are spell
           legal = subst (λ (x : Image). IsBlankWorld x (world_in is.mount)) (sym before) legal;
           media_are = left ∙ ap (λ (x : Image). media x (logs_in is.mount)) (sym before);
           history_is = serving.history_is;
+          worn = subst (λ (x : Image). AreRefusals x (logs_in is.mount) (worns_of script (transcript_of script ran.records ran.end))) (sym before) serving.worn;
         };
         sealed = subst IsSealed (sym left) (sealed i (world_in is.mount) legal);
         end_is = ap end left ∙ ends ∙ sym kept;

@@ -8,6 +8,7 @@ pub mod FreeChunks
 pub mod FreeDrives
 pub mod Sessions
 pub mod Histories
+pub mod WornCauses
 pub mod Servings
 pub mod LeftDrives
 pub mod WornLines

@@ -16,7 +16,8 @@ use Rattle.pblk_model.specs.Transcript.{IsDistinct, closing_event}
 use Rattle.ocssd_drive.specs.Units.{WornUnit}
 use Rattle.block_port.specs.Own.{PlacedSector, lines_of}
 use Rattle.block_port.specs.Port.{Footing, IsSameTarget, ModelPort, positions}
-use Rattle.block_target.specs.Mount.{IsSameMount, IsSound, MountView, synced_in, taken_in}
+use Rattle.block_target.specs.Mount.{IsSameMount, IsSound, MountView, engine_log, logs_in, synced_in, taken_in}
+use Rattle.block_target.specs.NothingLeft.{AreRefusals, IsFlushRefusal}
 use Rattle.block_target.specs.Serial.{SerialView, device, lines_in}
 use Rattle.block_target.proofs.DeviceFronts.{lines_same}
 use Rattle.run_threads.specs.declared.records.Records.{Records}
@@ -30,7 +31,9 @@ use Rattle.run_report.proofs.OnePort.{no_port, one_events, one_history, one_kept
 use Rattle.run_report.proofs.Recorded.{recorded}
 use Rattle.pblk_cli.specs.declared.serve.Served.{Served}
 use Rattle.pblk_cli.specs.Serving.{HasRun, IsClosed, IsOpened, IsServed, IsServing, IsSession, media_in}
+use Rattle.pblk_cli.specs.Worn.{worns_of}
 use Rattle.pblk_cli.proofs.Histories.{end_above, end_within, history_lines, lines_below, lines_taken}
+use Rattle.pblk_cli.proofs.WornCauses.{one_worns}
 
 start_count : (s : Shape) → length (contents (blank s)) ≡ s.capacity
 start_count s = length-map-range_with_len (sector_of (blank s)) 0 s.capacity
@@ -49,7 +52,7 @@ no_events : (es : List (ℕ × ℕ)) → es ≡ [] → IsDistinct es
 no_events es none = rw none tt
 
 -- A target that was opened on a blank drive, before and after a session, and closed.
-module _ (first last : SerialView) (records : Records) (served : Served) (unwritten : first.own ≡ []) (accepted : IsAccepted first.mount.shape)
+module _ (first last : SerialView) (records : Records) (served : Served) (unwritten : first.own ≡ []) (calm : first.worns ≡ []) (accepted : IsAccepted first.mount.shape)
     (opened : records.opening ≡ None) (target : IsSameTarget (device first) (device last)) (closed : IsClosed last records served) where
   abbrev front : ℕ
   front = served.end
@@ -106,6 +109,8 @@ module _ (first last : SerialView) (records : Records) (served : Served) (unwrit
       run = one_port commands served.records (device first) (device last) served.end one;
       faultless = one_events commands served.records (device first) (device last) served.end one ∙ closed.quiet;
       history_is = history_lines closed.mount ∙ ap (map (λ (x : PlacedSector). x.write)) lines_are ∙ sym (one_history commands served.records (device first) (device last) served.end one);
+      worn = subst (λ (x : Shape). AreRefusals (blank x) (logs_in closed.mount) (worns_of (commands ∷ []) (transcript_of (commands ∷ []) served.records served.end))) mount_shape
+          (one_worns (blank closed.mount.shape) (logs_in closed.mount) told commands answers (device first) (device last) served.records served.end ran calm (closed.threads ∙ threads) closed.refusals closed.worn);
       kept = one_kept commands served.records (device first) (device last) served.end one ∙ count_below;
       end_is = closed.end_is;
     }
@@ -134,6 +139,7 @@ module _ (first last : SerialView) (records : Records) (served : Served) (unwrit
       run = no_port first.mount.shape.sector served.records (contents (blank first.mount.shape)) served.end (closed.threads ∙ threads) opening_is closed.trouble;
       faultless = rw (closed.threads ∙ threads, opening_is) closed.quiet;
       history_is = history_lines closed.mount ∙ ap (map (λ (x : PlacedSector). x.write)) none_left;
+      worn = subst (λ (x : Shape). AreRefusals (blank x) (logs_in closed.mount) (worns_of [] (transcript_of [] served.records served.end))) mount_shape closed.worn;
       kept = sym no_end;
       end_is = closed.end_is;
     }
@@ -151,7 +157,7 @@ served_of s script units first last records served accepted one fits opened sess
     record {
       mount = closed.mount;
       serving = subst (λ (x : Shape). IsServing x script served.records served.end closed.mount) opened.shape
-          (serving_of first last records served opened.unwritten (subst IsAccepted shape accepted) session.opened session.target closed script one
+          (serving_of first last records served opened.unwritten opened.calm (subst IsAccepted shape accepted) session.opened session.target closed script one
           (subst (λ (x : Shape). ScriptFits x.capacity script) shape fits) session.run);
       units_are = closed.units;
       wear = closed.wear ∙ closed.same.wear ∙ same_wear first last session.target ∙ opened.wear;
@@ -166,10 +172,10 @@ abbrev pub Closes : SerialView → List WornUnit → MountView → Type 0
 Closes target units v = IsSameMount target.mount v × IsSound v × (map (λ (u : WornUnit). u.unit) units ≡ v.units) × (map (λ (u : WornUnit). u.wear) units ≡ v.wear)
 
 pub closed_well : {Z : Type 0} (target : SerialView) (records : Records) (units : Vec WornUnit Z) (taken : ℕ) (v : MountView) → Closes target units.items v
-    → lines_in target.mount ≡ flat_map lines_of target.own → synced_in v ≡ taken_in v → taken_in v ≡ taken_in target.mount → end (media_in v) ≡ synced_in v → taken ≡ taken_in target.mount
+    → lines_in target.mount ≡ flat_map lines_of target.own → synced_in v ≡ taken_in v → taken_in v ≡ taken_in target.mount → end (media_in v) ≡ synced_in v → taken ≡ taken_in target.mount → AreRefusals (blank v.shape) (logs_in v) target.worns
     → (served : Served) → served.units.items ≡ units.items → served.records ≡ record { threads = records.threads; opening = records.opening; closing = None } → served.end ≡ taken
     → IsClosed target records served
-closed_well target records units taken v is alone settled same ends front served units_are records_are end_are = record {
+closed_well target records units taken v is alone settled same ends front refusals served units_are records_are end_are = record {
   mount = v;
   same = is.0;
   sound = is.1;
@@ -178,6 +184,8 @@ closed_well target records units taken v is alone settled same ends front served
   alone = alone;
   end_is = ends ∙ settled ∙ same ∙ sym front ∙ sym end_are;
   all = λ none. end_are ∙ front ∙ sym same;
+  refusals = refusals;
+  worn = rw records_are tt;
   trouble = rw records_are tt;
   quiet = rw records_are refl;
   threads = ap (λ (r : Records). r.threads) records_are;
@@ -189,9 +197,10 @@ some_is x e = cc
 
 pub closed_worn : {Z : Type 0} (target : SerialView) (records : Records) (units : Vec WornUnit Z) (wanted have : ℕ) (v : MountView) → Closes target units.items v
     → lines_in target.mount ≡ flat_map lines_of target.own → have < wanted → wanted < 2 ^ 64 → have ≡ synced_in v → end (media_in v) ≡ synced_in v
+    → AreRefusals (blank v.shape) (logs_in v) target.worns → IsFlushRefusal (blank v.shape) (logs_in v) (length (engine_log v)) wanted have
     → (served : Served) → served.units.items ≡ units.items → served.records ≡ record { threads = records.threads; opening = records.opening; closing = Some (Worn wanted have) } → served.end ≡ have
     → IsClosed target records served
-closed_worn target records units wanted have v is alone less number synced ends served units_are records_are end_are = record {
+closed_worn target records units wanted have v is alone less number synced ends refusals cause served units_are records_are end_are = record {
   mount = v;
   same = is.0;
   sound = is.1;
@@ -200,6 +209,8 @@ closed_worn target records units wanted have v is alone less number synced ends 
   alone = alone;
   end_is = ends ∙ sym synced ∙ sym end_are;
   all = λ none. absurd (some_is (Worn wanted have) (sym (ap (λ (r : Records). r.closing) records_are) ∙ none));
+  refusals = refusals;
+  worn = rw records_are ((length (engine_log v), cause), tt);
   trouble = rw records_are (less, number);
   quiet = rw records_are refl;
   threads = ap (λ (r : Records). r.threads) records_are;

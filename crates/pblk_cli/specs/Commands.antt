@@ -14,9 +14,12 @@ use Rattle.pblk_model.specs.Transcript.{TranscriptRelation, events, sector_write
 use Rattle.pblk_world.specs.World.{World, log_of, media}
 use Rattle.pblk_world.specs.Fronts.{history}
 use Rattle.core_laws.specs.PlainWorlds.{IsBlankWorld}
+use Rattle.block_port.specs.declared.rows.WornAnswer.{WornAnswer}
+use Rattle.block_target.specs.NothingLeft.{AreRefusals}
 use Rattle.command_text.specs.Says.{Says}
 use Rattle.pblk_cli.specs.Free.{AreFree}
 use Rattle.pblk_cli.specs.Status.{status_of_run}
+use Rattle.pblk_cli.specs.Worn.{worns_of}
 use Rattle.pblk_cli.specs.Telling.{Call, Image, ImageUnbuilt, Script, ScriptUnbuilt, Failed, Missing, Memory, Ending, Gives, Refuses, Tells, Holds, IsThere, AreUntouched, Stores, FailsReading, IsMissing, FailsWriting}
 
 -- Creating.
@@ -68,12 +71,13 @@ pub record SameNumbers (old new : Drive) : Type 0 where
   pub wear : map (map (λ k. k.wear)) new.units ≡ map (map (λ k. k.wear)) old.units
 
 -- What was done on a drive: a legal world over the image found, whose media are the image left, and whose history is this
--- one.
-pub record IsWorldBetween (found left : Drive) (writes : List SectorWrite) : Type 0 where
+-- one. Each of these answers for want of room was given at a length of its engine's log at which nothing was left to do.
+pub record IsWorldBetween (found left : Drive) (writes : List SectorWrite) (worns : List WornAnswer) : Type 0 where
   pub world : World
   pub legal : IsBlankWorld (image_of found) world
   pub media_are : image_of left ≡ media (image_of found) (log_of world)
   pub history_is : history (log_of world 0) ≡ writes
+  pub worn : AreRefusals (image_of found) (log_of world) worns
 
 -- A run of these commands from one drive to another, with this text.
 pub record IsRunBetween (found : Drive) (commands : List (List Command)) (text : List ℕ) (left : Drive) : Type 0 where
@@ -85,8 +89,8 @@ pub record IsRunBetween (found : Drive) (commands : List (List Command)) (text :
   pub complete : relation.0.closing ≡ Closed → relation.0.kept ≡ length relation.0.history
   -- the geometry, the settings and the wear indices are as they were
   pub numbers : SameNumbers found left
-  -- the printed history is that of a world which leaves this drive
-  pub world : IsWorldBetween found left (sector_writes found.sector relation.0.history)
+  -- the printed history is that of a world which leaves this drive, and each `worn` line has its cause there
+  pub world : IsWorldBetween found left (sector_writes found.sector relation.0.history) (worns_of commands relation.0)
   pub sealed : IsSealed (image_of left)
   pub end_is : end (image_of left) ≡ relation.0.kept
   -- its one spelling is an image of it

@@ -1,5 +1,6 @@
 pub mod Free
 pub mod Status
+pub mod Worn
 pub mod Serving
 pub mod Telling
 pub mod Commands

@@ -14,6 +14,7 @@ use Rattle.ocssd_drive.specs.Units.{WornUnit}
 use Rattle.block_port.specs.Own.{lines_of}
 use Rattle.block_port.specs.Port.{IsSameTarget, ModelPort}
 use Rattle.block_target.specs.Mount.{MountView, IsSameMount, IsSound, engine_log, logs_in, taken_in}
+use Rattle.block_target.specs.NothingLeft.{AreRefusals}
 use Rattle.block_target.specs.Serial.{SerialView, device, lines_in}
 use Rattle.run_threads.specs.declared.records.Answer.{Answer}
 use Rattle.run_threads.specs.declared.records.Records.{Records}
@@ -22,6 +23,7 @@ use Rattle.run_report.specs.OnePort.{IsTrouble}
 use Rattle.run_report.specs.Recorded.{IsRecorded}
 use Rattle.run_report.specs.Report.{closing_of, transcript_of}
 use Rattle.pblk_cli.specs.declared.serve.Served.{Served}
+use Rattle.pblk_cli.specs.Worn.{closing_worn, worns_of}
 use Rattle.pblk_cli.specs.declared.run.Ran.{Ran}
 
 -- what the target over a drive stands on when nothing was done
@@ -33,6 +35,7 @@ pub record IsOpened (s : Shape) (units : List WornUnit) (target : SerialView) : 
   pub shape : target.mount.shape ≡ s
   pub wear : target.mount.wear ≡ map (λ u. u.wear) units
   pub unwritten : target.own ≡ []
+  pub calm : target.worns ≡ []
 
 -- The thread of a script was run through a port; where the script has none the port is as it was.
 abbrev pub HasRun : List (List Command) → List (List Answer) → ModelPort → ModelPort → Type 0
@@ -57,6 +60,9 @@ pub record IsClosed (target : SerialView) (records : Records) (served : Served) 
   -- all that is told as synced is on the drive, and, where the close met no trouble, all that was taken
   pub end_is : end (media_in mount) ≡ served.end
   pub all : served.records.closing ≡ None → served.end ≡ taken_in mount
+  -- each answer for want of room had its cause
+  pub refusals : AreRefusals (blank mount.shape) (logs_in mount) target.worns
+  pub worn : AreRefusals (blank mount.shape) (logs_in mount) (closing_worn (closing_of served.records.closing))
   pub trouble : IsTrouble served.records.closing
   pub quiet : closing_event (closing_of served.records.closing) ≡ []
   pub threads : served.records.threads ≡ records.threads
@@ -72,6 +78,7 @@ pub record IsServing (s : Shape) (script : List (List Command)) (records : Recor
       IsRun s.sector script start t (after start (sector_writes s.sector (take t.kept t.history)))
   pub faultless : events (transcript_of script records front) ≡ []
   pub history_is : history (engine_log mount) ≡ sector_writes s.sector (transcript_of script records front).history
+  pub worn : AreRefusals (blank s) (logs_in mount) (worns_of script (transcript_of script records front))
   pub kept : (transcript_of script records front).kept ≡ front
   pub end_is : end (media_in mount) ≡ front
 

@@ -275,16 +275,30 @@ fn wrong_rounds<R: Wait>(
     let script = rounds_script(alloc, *rounds)?;
     let mut text = three_rounds(alloc)?;
     text.push_str(end)?;
+    wrong_text(rt, alloc, &script, *status, &text, failing_output)
+}
+
+// Runs a script on the blank image of the small drive, which is to tell this; nothing is said of
+// what is left.
+fn wrong_text<R: Wait>(
+    rt: &R,
+    alloc: Global,
+    script: &str,
+    status: u8,
+    text: &str,
+    failing_output: &[u64],
+) -> Result<Wrong, AllocError> {
+    let held = Content::Text(script);
     let asked = Asked {
         words: "run|image|script",
         image: &BLANK,
-        script: &Content::Text(&script),
+        script: &held,
         failing_files: &[],
         failing_output,
     };
     let told = Told {
-        status: *status,
-        text: &text,
+        status,
+        text,
         image: Content::Untold,
     };
     compare(rt, alloc, &asked, &told)
