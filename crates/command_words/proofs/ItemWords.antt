@@ -2,7 +2,7 @@
 use Rattle.std.proofs.Common.{String, Global, string_bytes, ◌≡◌, ◌≢◌, ℕ, suc, ◌<◌, ◌≤◌, ◌-◌, Option, Some, None, List, [], ◌∷◌, ◌++◌, length, get_or, take, drop, map, codes, refl, sym, ap, ◌∙◌, subst, inl, inr, arith, append_assoc}
 use Rattle.std.specs.Prelude.{IfSome, IsSome, IsSomeAnd}
 use Rattle.std.specs.List.{AllByRecursion}
-use Rattle.pblk_model.specs.CommandLine.{Item, Name, Named, IsPlainWord}
+use Rattle.command_words.specs.Grammar.{Item, Name, Named, IsPlainWord}
 use Rattle.command_words.specs.Words.{IsItemBefore, HasPlainName}
 use Rattle.command_words.proofs.Items.{all_at}
 

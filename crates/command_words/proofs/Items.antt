@@ -3,7 +3,7 @@ use Rattle.std.proofs.Common.{◌≡◌, ◌≢◌, ℕ, Bool, true, false, cond
 use Rattle.std.specs.List.{AllByRecursion}
 use Rattle.std.proofs.lemmas.Bool.{true≢false, cases_Bool}
 use Rattle.std.proofs.lemmas.Slice.Eq.{bytes_eq-Decides}
-use Rattle.pblk_model.specs.CommandLine.{Item, Name, Named, IsPlainWord, AreItems, names_in, options_in, value_in, AreDistinct}
+use Rattle.command_words.specs.Grammar.{Item, Name, Named, IsPlainWord, AreItems, names_in, options_in, value_in, AreDistinct}
 use Rattle.command_words.specs.Words.{IsItemBefore}
 
 -- Tests of names.

@@ -1,8 +1,9 @@
 -- Commands whose words are names alone.
 use Rattle.std.proofs.Common.{String, Global, suc, string_bytes, ◌≡◌, ℕ, ◌<◌, ◌≤◌, List, [], ◌∷◌, length, get_or, map, codes, refl, sym, ap, ◌∙◌, subst, arith}
 use Rattle.std.specs.List.{AllByRecursion}
-use Rattle.pblk_model.specs.CommandLine as model
-use Rattle.pblk_model.specs.CommandLine.{Name, IsPlainWord, IsCommandLine, first_word}
+use Rattle.pblk_model.specs.CommandText as text
+use Rattle.command_words.specs.Grammar as model
+use Rattle.command_words.specs.Grammar.{Name, IsPlainWord, IsCommandLine, first_word}
 use Rattle.command_words.specs.Words.{AreWordsOf}
 use Rattle.command_words.proofs.Items.{plain_items}
 
@@ -58,7 +59,7 @@ command_of words rest c e h = record { items = h.items; rest = rest; words_are =
 -- A command is known by its first word.
 
 pub as_create : (words rest : List (List ℕ)) (first : List ℕ) (P : model.CommandLine → Type 0) → words ≡ first ∷ rest → first ≡ codes "create"
-    → ((image : List ℕ) (numbers : model.CreateNumbers) → AreWordsOf rest (model.Create image numbers) → P (model.Create image numbers)) → (c : model.CommandLine) → IsCommandLine words c → P c
+    → ((image : List ℕ) (numbers : text.CreateNumbers) → AreWordsOf rest (model.Create image numbers) → P (model.Create image numbers)) → (c : model.CommandLine) → IsCommandLine words c → P c
 as_create words rest first P e is k (model.Create image numbers) h = k image numbers (words_of words rest first _ e h).1
 as_create words rest first P e is k (model.Geometry image) h = absurd (cc (is, (words_of words rest first _ e h).0))
 as_create words rest first P e is k (model.Run image script) h = absurd (cc (is, (words_of words rest first _ e h).0))

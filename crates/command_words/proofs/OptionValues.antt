@@ -4,7 +4,7 @@ use Rattle.std.specs.Fmt.{decimal}
 use Rattle.std.specs.List.{AllByRecursion, slice_get, list_all}
 use Rattle.std.specs.Option.{is_some}
 use Rattle.std.proofs.lemmas.Fmt.{decimal_injective}
-use Rattle.pblk_model.specs.CommandLine.{Item, Name, Named, NumberOption, IsNumber, AreNumbers, IsOneOf, value_in, AreDistinct, create_options}
+use Rattle.command_words.specs.Grammar.{Item, Name, Named, NumberOption, IsNumber, AreNumbers, IsOneOf, value_in, AreDistinct, create_options}
 use Rattle.command_words.specs.Words.{IsValue, AreValues}
 use Rattle.command_words.proofs.Items.{same_value, new_value, is_other, other_name}
 use Rattle.std.proofs.lemmas.Bool.{cases_Bool, eqb-false}

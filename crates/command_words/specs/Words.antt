@@ -3,8 +3,9 @@ use Rattle.std.specs.Prelude.{ℕ, ◌≡◌, ◌≢◌, ◌<◌, ◌==◌, ◌|
 use Rattle.std.specs.List.{AllByRecursion}
 use Rattle.std.specs.Borrow.{Bor}
 use Rattle.std.specs.Fmt.{decimal}
-use Rattle.pblk_model.specs.CommandLine as model
-use Rattle.pblk_model.specs.CommandLine.{NumberOption, IsPlainWord, IsOptionBefore, IsOneOf, AreItems, AreItemsOf, AreDistinct, names_in, options_in, value_in, create_options}
+use Rattle.pblk_model.specs.CommandText as text
+use Rattle.command_words.specs.Grammar as model
+use Rattle.command_words.specs.Grammar.{NumberOption, IsPlainWord, IsOptionBefore, IsOneOf, AreItems, AreItemsOf, AreDistinct, names_in, options_in, value_in, create_options}
 use Rattle.command_words.specs.declared.command.CommandLine.{CommandLine}
 use Rattle.command_words.specs.declared.command.CommandLine.TheVariants as lines
 use Rattle.command_words.specs.declared.command.CreateNumbers.{CreateNumbers}
@@ -15,7 +16,7 @@ use Rattle.command_words.specs.declared.options.CreateOption.TheVariants as opti
 use Rattle.command_words.specs.declared.create.CreateWords.{CreateWords}
 
 -- the numbers, as the model has them
-abbrev pub numbers_seen : CreateNumbers → model.CreateNumbers
+abbrev pub numbers_seen : CreateNumbers → text.CreateNumbers
 numbers_seen n = record {
   groups = n.groups;
   units = n.units;

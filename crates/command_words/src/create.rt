@@ -1,8 +1,9 @@
 //! The words of `create`.
 
 ghost use Rattle.std.specs.Prelude.{ℕ, ◌≡◌, ◌++◌, ◌∷◌, [], List, map, IfSome, IfNone, IsSomeAnd, string_bytes};
-ghost use Rattle.pblk_model.specs.CommandLine as model;
-ghost use Rattle.pblk_model.specs.CommandLine.{AreItemsOf, AreNumbers, create_options, numbers_of};
+ghost use Rattle.pblk_model.specs.CommandText as text;
+ghost use Rattle.command_words.specs.Grammar as model;
+ghost use Rattle.command_words.specs.Grammar.{AreItemsOf, AreNumbers, create_options, numbers_of};
 ghost use Rattle.command_words.specs.Words.{AreWordsOf, HasRead, item_of, numbers_seen};
 
 use crate::command::CreateNumbers;
@@ -21,7 +22,7 @@ pub(crate) struct CreateWords<'a> {
 pub(crate) fn read_create(words: &[String]) -> Option<(&str, CreateNumbers)>
     ensures found { IfSome result
         (λ r. AreWordsOf (map string_bytes words.now) (model.Create r.0.now (numbers_seen r.1))) }
-    ensures only { (image : List ℕ) (numbers : model.CreateNumbers)
+    ensures only { (image : List ℕ) (numbers : text.CreateNumbers)
         → AreWordsOf (map string_bytes words.now) (model.Create image numbers)
         → IsSomeAnd result (λ r. (r.0.now ≡ image) × (numbers_seen r.1 ≡ numbers)) }
 {
@@ -60,7 +61,7 @@ impl<'a> CreateWords<'a> {
         ensures taken { IfSome result (λ next. (items : List model.Item)
             → HasRead items self.entry → HasRead (items ++ item_of item.entry ∷ []) next) }
         ensures refused { IfNone result ((items more : List model.Item) (image : List ℕ)
-            (numbers : model.CreateNumbers) → HasRead items self.entry
+            (numbers : text.CreateNumbers) → HasRead items self.entry
             → ¬ AreItemsOf (items ++ item_of item.entry ∷ more) (model.Create image numbers)) }
     {
         match item {
@@ -74,7 +75,7 @@ impl<'a> CreateWords<'a> {
         ensures taken { IfSome result (λ next. (items : List model.Item)
             → HasRead items self.entry → HasRead (items ++ model.Name name.now ∷ []) next) }
         ensures refused { IfNone result ((items more : List model.Item) (image : List ℕ)
-            (numbers : model.CreateNumbers) → HasRead items self.entry
+            (numbers : text.CreateNumbers) → HasRead items self.entry
             → ¬ AreItemsOf (items ++ model.Name name.now ∷ more) (model.Create image numbers)) }
     {
         match self.image {
@@ -91,7 +92,7 @@ impl<'a> CreateWords<'a> {
         ensures taken { IfSome result (λ next. (items : List model.Item)
             → HasRead items self.entry → HasRead (items ++ model.Named name.now value.now ∷ []) next) }
         ensures refused { IfNone result ((items more : List model.Item) (image : List ℕ)
-            (numbers : model.CreateNumbers) → HasRead items self.entry
+            (numbers : text.CreateNumbers) → HasRead items self.entry
             → ¬ AreItemsOf (items ++ model.Named name.now value.now ∷ more) (model.Create image numbers)) }
     {
         let option = CreateOption::by_name(name)?;

@@ -1,7 +1,7 @@
 //! What stands after the first word of a command: names of files, and options with their values.
 
 ghost use Rattle.std.specs.Prelude.{ℕ, ◌≡◌, ◌<◌, ◌≤◌, ◌↔◌, ◌∷◌, ◌++◌, IsTrue, IsSome, List, length, map, codes, IfSome, IsSomeAnd, string_bytes};
-ghost use Rattle.pblk_model.specs.CommandLine as model;
+ghost use Rattle.command_words.specs.Grammar as model;
 ghost use Rattle.command_words.specs.Words.{IsItemBefore, HasPlainName, item_of};
 
 /// The name of a file, or an option's name and its value.

@@ -1,7 +1,7 @@
 //! The options of `create`.
 
 ghost use Rattle.std.specs.Prelude.{◌≡◌, ◌+◌, ◌<◌, IfSome, IfNone, Some, map, slice_get};
-ghost use Rattle.pblk_model.specs.CommandLine.{create_options, IsOneOf};
+ghost use Rattle.command_words.specs.Grammar.{create_options, IsOneOf};
 ghost use Rattle.command_words.specs.Words.{place_of};
 
 /// An option of `create`, whose value is a number.

@@ -2,8 +2,8 @@
 
 ghost use Rattle.std.specs.Prelude.{◌≡◌, List, ℕ, Some, map, IfSome, IfNone, IsSomeAnd, string_bytes};
 ghost use Rattle.std.specs.Option.{option_map};
-ghost use Rattle.pblk_model.specs.CommandLine as model;
-ghost use Rattle.pblk_model.specs.CommandLine.{IsCommandLine};
+ghost use Rattle.command_words.specs.Grammar as model;
+ghost use Rattle.command_words.specs.Grammar.{IsCommandLine};
 ghost use Rattle.command_words.specs.Words.{AreWordsOf, seen};
 
 use crate::command::CommandLine;

@@ -9,7 +9,7 @@ use Rattle.pblk_cli.specs.declared.refusal.Refusal.{Refusal}
 use Rattle.pblk_cli.specs.declared.refusal.Refusal.TheVariants as refusals
 use Rattle.pblk_cli.specs.Endings.{reason_of}
 use Rattle.pblk_cli.specs.Reading.{RefusesBytes}
-use Rattle.pblk_model.specs.CommandLine.{CreateNumbers}
+use Rattle.pblk_model.specs.CommandText.{CreateNumbers}
 use Rattle.pblk_model.specs.CommandText.{created_refusal}
 use Rattle.pblk_cli.specs.Creating.{MakesNothing}
 

@@ -2,8 +2,8 @@
 use Rattle.std.specs.Prelude.{ℕ, ◌≤◌, ◌≡◌, ◌⊎◌, List, [], map, length, Some, None, Err}
 use Rattle.pblk_outside.specs.Files.{FilesView}
 use Rattle.pblk_model.specs.declared.script.Command.{Command}
-use Rattle.pblk_model.specs.CommandLine.{CommandLine, Create, Geometry, Run, CreateNumbers, IsCommandLine}
-use Rattle.pblk_model.specs.CommandText.{created_refusal, created_drive, created_text, geometry_text, words_line}
+use Rattle.command_words.specs.Grammar.{CommandLine, Create, Geometry, Run, IsCommandLine}
+use Rattle.pblk_model.specs.CommandText.{CreateNumbers, created_refusal, created_drive, created_text, geometry_text, words_line}
 use Rattle.pblk_model.specs.Contents.{contents, end}
 use Rattle.pblk_model.specs.History.{SectorWrite}
 use Rattle.pblk_model.specs.ImageFile.{Drive, IsImage, image_bytes, image_of, image_refusal}

@@ -2,7 +2,7 @@
 use Rattle.std.specs.Prelude.{◌≡◌, ⊤, Some}
 use Rattle.pblk_model.specs.declared.image.ImageErr.{ImageErr}
 use Rattle.pblk_model.specs.declared.image.ImageErr.TheVariants as errors
-use Rattle.pblk_model.specs.CommandLine.{CreateNumbers}
+use Rattle.pblk_model.specs.CommandText.{CreateNumbers}
 use Rattle.pblk_model.specs.CommandText.{created_refusal}
 
 -- by the numbers, but for want of memory

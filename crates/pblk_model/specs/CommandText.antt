@@ -15,10 +15,23 @@ use Rattle.pblk_model.specs.Descriptor.{state_code}
 use Rattle.pblk_model.specs.Geometry.{Geometry, geometry_refusal, shape_with}
 use Rattle.pblk_model.specs.Accepted.{settings_checks}
 use Rattle.pblk_model.specs.ImageFile.{Drive, blank_drive}
-use Rattle.pblk_model.specs.CommandLine.{CreateNumbers}
 use Rattle.pblk_model.specs.Text.{spaced, newline}
 
 -- Creating.
+
+-- the numbers of a drive to be made
+pub record CreateNumbers : Type 0 where
+  pub groups : ℕ
+  -- in a group
+  pub units : ℕ
+  pub chunks : ℕ
+  pub blocks : ℕ
+  pub ws_min : ℕ
+  pub ws_opt : ℕ
+  pub mw : ℕ
+  pub sector : ℕ
+  pub capacity : ℕ
+  pub ring : ℕ
 
 -- the least number of bits in which a count's numbers can be written: as many as there are powers of two below the count
 abbrev pub least_bits : ℕ → ℕ

@@ -23,7 +23,6 @@ pub mod Found
 pub mod History
 pub mod Script
 pub mod ScriptText
-pub mod CommandLine
 pub mod Text
 pub mod Transcript
 pub mod CommandText

@@ -1,7 +1,7 @@
 use Rattle.std.proofs.Common.{◌≡◌, [], ◌∷◌, map, string_bytes, sym, subst, refl, arith}
 use Rattle.std.proofs.lemmas.Bool.{true≢false}
 use borrow.Author.Tests.{ltb-true, ltb-false}
-use Rattle.pblk_model.specs.CommandLine.{IsPlainWord}
+use Rattle.command_words.specs.Grammar.{IsPlainWord}
 use Rattle.command_words.proofs.Names.{one_name, is_one_name, one_word, count_of_words}
 use Rattle.command_words.proofs.words.read_name.Goals as goal
 use Rattle.command_words.proofs.words.read_name.Goals.{in_default-via-then-words-lt1, in_default-via-else-words-lt1+else-words-lt2}

@@ -1,7 +1,7 @@
 use Rattle.std.proofs.Common.{◌≡◌, [], ◌∷◌, map, string_bytes, sym, subst, refl, arith}
 use Rattle.std.proofs.lemmas.Bool.{true≢false}
 use borrow.Author.Tests.{ltb-true, ltb-false}
-use Rattle.pblk_model.specs.CommandLine.{IsPlainWord}
+use Rattle.command_words.specs.Grammar.{IsPlainWord}
 use Rattle.command_words.proofs.Names.{two_names, are_two_names, two_words, count_of_words}
 use Rattle.command_words.proofs.words.read_names.Goals as goal
 use Rattle.command_words.proofs.words.read_names.Goals.{in_default-via-then-words-lt2, in_default-via-else-words-lt2+else-words-lt3, else-is_plain-via-then-is_plain+else-is_plain-2, else-is_plain-via-else-is_plain}

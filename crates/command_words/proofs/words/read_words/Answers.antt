@@ -1,6 +1,6 @@
 use Rattle.std.proofs.Common.{◌≡◌, Some, map, string_bytes, ◌∙◌, ap}
-use Rattle.pblk_model.specs.CommandLine as model
-use Rattle.pblk_model.specs.CommandLine.{IsCommandLine}
+use Rattle.command_words.specs.Grammar as model
+use Rattle.command_words.specs.Grammar.{IsCommandLine}
 use Rattle.command_words.specs.Words.{numbers_seen}
 use Rattle.command_words.proofs.ItemWords.{first_word_of}
 use Rattle.command_words.proofs.Names.{as_create, as_geometry, as_run}

@@ -1,6 +1,6 @@
 use Rattle.std.proofs.Common.{◌<◌, ◌+◌, ◌^◌, ◌∙◌, sym, refl, None, get_or, arith}
 use Rattle.std.proofs.lemmas.Fmt.{decimal_injective}
-use Rattle.pblk_model.specs.CommandLine.{create_options}
+use Rattle.command_words.specs.Grammar.{create_options}
 use Rattle.command_words.proofs.OptionValues.{some_value, no_value, small_options, below_all}
 use Rattle.command_words.proofs.Reading.{read_option, other_option, second_option, other_number}
 use Rattle.command_words.proofs.create.CreateWords.with_option.Goals as goal

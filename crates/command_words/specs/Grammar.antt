@@ -3,6 +3,7 @@ use Rattle.std.specs.Prelude.{ℕ, ◌≡◌, ◌≢◌, ◌<◌, ◌⊎◌, ◌
 use Rattle.std.specs.List.{AllByRecursion}
 use Rattle.std.specs.Str.{bytes_eq}
 use Rattle.std.specs.Fmt.{decimal}
+use Rattle.pblk_model.specs.CommandText.{CreateNumbers}
 
 -- neither empty nor begun with `-`: a file's name, or the value of an option
 abbrev pub IsPlainWord : List ℕ → Type 0
@@ -71,19 +72,6 @@ IsOneOf [] name = ⊥
 IsOneOf (o ∷ os) name = (name ≡ o.name) ⊎ IsOneOf os name
 
 -- the numbers of a drive to be made, without options those of the small drive
-pub record CreateNumbers : Type 0 where
-  pub groups : ℕ
-  -- in a group
-  pub units : ℕ
-  pub chunks : ℕ
-  pub blocks : ℕ
-  pub ws_min : ℕ
-  pub ws_opt : ℕ
-  pub mw : ℕ
-  pub sector : ℕ
-  pub capacity : ℕ
-  pub ring : ℕ
-
 abbrev pub create_options : List NumberOption
 create_options = record { name = codes "groups"; default = 1; below = 2 ^ 16 }
     ∷ record { name = codes "units"; default = 2; below = 2 ^ 16 }
