@@ -1,5 +1,5 @@
 -- A mount for one session: what contracts see of it.
-use Rattle.std.specs.Prelude.{ℕ, ◌+◌, ◌*◌, ◌^◌, ◌<◌, ◌≤◌, ◌≡◌, List, [], ◌∷◌, ◌++◌, length, replicate, slice_get, Some, None}
+use Rattle.std.specs.Prelude.{ℕ, ◌+◌, ◌*◌, ◌^◌, ◌<◌, ◌≤◌, ◌≡◌, List, [], ◌∷◌, ◌++◌, length, replicate, slice_get, Some, None, ◌⊎◌, false}
 use Rattle.pblk_model.specs.declared.shape.Shape.{Shape}
 use Rattle.pblk_model.specs.declared.run.Front.{Front}
 use Rattle.pblk_model.specs.Shape.{units}
@@ -15,7 +15,7 @@ use Rattle.pblk_world.specs.Events.{Logged, Entry, Take}
 use Rattle.pblk_world.specs.World.{World, Logs, log_of, media}
 use Rattle.pblk_world.specs.EngineLog.{takes}
 use Rattle.pblk_world.specs.Fronts.{taken, synced, user_takes, history}
-use Rattle.pblk_world.specs.Space.{freed, room}
+use Rattle.pblk_world.specs.Space.{freed, is_due, room}
 use Rattle.pblk_world.specs.AtRest.{logs_at}
 use Rattle.core_laws.specs.PlacerOf.{unanswered_on}
 use Rattle.core_laws.specs.PlainWorlds.{IsBlankWorld}
@@ -160,6 +160,11 @@ pub record IsSpent (v : MountView) : Type 0 where
   pub nothing_left : (asked : ℕ) → asked ≤ v.pad
       → HasNothingLeftAt (blank v.shape) (logs_in v) asked (length (engine_log v))
   pub no_room : room (blank v.shape) (logs_at (length (engine_log v)) (logs_in v)) ≤ v.granted
+
+-- Collection isn't due, or there is nothing left to do.
+abbrev pub IsResting : MountView → Type 0
+IsResting v = (is_due (blank v.shape) (logs_in v) ≡ false)
+    ⊎ HasNothingLeftAt (blank v.shape) (logs_in v) 0 (length (engine_log v))
 
 -- a front that isn't reached, with nothing left to do
 pub record IsStuckAt (v : MountView) (wanted have : ℕ) : Type 0 where

@@ -14,7 +14,7 @@ ghost use Rattle.pblk_core.specs.Named.{pad_of};
 ghost use Rattle.pblk_core.specs.Stands.{Stands};
 ghost use Rattle.block_target.specs.Deeds.{Decides};
 ghost use Rattle.step_laws.specs.Whole.{first_beginning};
-ghost use Rattle.block_target.specs.Mount.{MountView, IsMount, IsSound, IsSameMount, AreNewUnits, IsStuckAt, IsSpent, IsFetchable, logs_in, with_entry, work_in, with_pad, taken_in, synced_in, front_taken, front_synced, latest};
+ghost use Rattle.block_target.specs.Mount.{MountView, IsMount, IsSound, IsSameMount, AreNewUnits, IsStuckAt, IsSpent, IsResting, IsFetchable, logs_in, with_entry, work_in, with_pad, taken_in, synced_in, front_taken, front_synced, latest};
 ghost use Rattle.pblk_core.specs.BlankDrives.{IsBlankFound};
 ghost use Rattle.pblk_core.specs.declared.work.Work.TheVariants as works;
 
@@ -313,6 +313,38 @@ impl<U: Unit> Mount<U> {
             }
         }
         unreachable!()
+    }
+
+    /// Works until collection isn't due, or nothing is left to do.
+    fn rest<R: Wait>(&mut self, rt: &R)
+        ensures same { IsSameMount self.old self.new }
+        ensures resting { IsResting self.new }
+    {
+        for _ in rt.forever() {
+            if !self.core.is_due() {
+                return;
+            }
+            if !self.pump() {
+                return;
+            }
+        }
+        unreachable!()
+    }
+
+    /// Works until all below a position is on the drive, and then until collection isn't due, or nothing is left to
+    /// do. Else not all of it is there and there is nothing more to do, and all below what is answered is there.
+    pub(crate) fn settle<R: Wait>(&mut self, rt: &R, wanted: u64) -> Result<(), u64>
+        ensures same { IsSameMount self.old self.new }
+        ensures synced { IsOk result → wanted ≤ synced_in self.new }
+        ensures resting { IsOk result → IsResting self.new }
+        ensures stuck { IfErr result (λ have. (have ≡ synced_in self.new) × (wanted ≤ self.new.pad) × IsStuckAt self.new wanted have) }
+    {
+        match self.sync(rt, wanted) {
+            Ok(_) => (),
+            Err(have) => return Err(have),
+        }
+        self.rest(rt);
+        Ok(())
     }
 
     /// Copies the latest content of a sector.

@@ -109,8 +109,9 @@ impl<U: Unit> Serial<U> {
         self.mount.front()
     }
 
-    /// Brings all that was taken to the drive, and hands the units back. What is then found on the drive ends at
-    /// the front synced. All that was taken are the session's own writes.
+    /// Brings all that was taken to the drive, and then, while the Free lines are few, does what is left to do. Hands
+    /// the units back. What is then found on the drive ends at the front synced. All that was taken are the session's
+    /// own writes.
     ///
     /// `Worn` comes where not all of it is there and nothing is left to do: `wanted` is the front taken, and `have`
     /// the front synced. `Drive` doesn't come, since no command fails or is stopped. Each call that answered `Worn`
@@ -124,8 +125,8 @@ impl<U: Unit> Serial<U> {
     {
         self.mount.is_sound();
         let wanted = self.mount.front().position;
-        let settled = match self.mount.sync(rt, wanted) {
-            Ok(_) => Ok(()),
+        let settled = match self.mount.settle(rt, wanted) {
+            Ok(()) => Ok(()),
             Err(have) => Err(SettleErr::Worn { wanted, have }),
         };
         self.mount.is_sound();

@@ -34,7 +34,7 @@ ring_kept s accepted =
     let less : units s * s.ws_opt ≤ units s * (s.mw_cunits + 4 * s.ws_opt) = mul-le-mul_left (units s) (omega arith) in
     omega arith
 
-free_is : (i : Image) (w : World) (c : Core) → Stands i (log_of w) c → free_addresses c.lines ≡ space.free_addresses i (log_of w)
+pub free_is : (i : Image) (w : World) (c : Core) → Stands i (log_of w) c → free_addresses c.lines ≡ space.free_addresses i (log_of w)
 free_is i w c st = ap free_addresses st.table ∙ addresses_free i (log_of w)
 
 pub small : (i : Image) (w : World) (c : Core) → IsBlankWorld i w → Stands i (log_of w) c → IsSmall c

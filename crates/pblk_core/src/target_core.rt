@@ -20,7 +20,7 @@ ghost use Rattle.pblk_world.specs.Opening.{MayBegin, MayOpen};
 ghost use Rattle.pblk_world.specs.Placing.{MayPlace};
 ghost use Rattle.pblk_world.specs.Taking.{MayTake};
 ghost use Rattle.pblk_world.specs.Fronts.{taken, synced, user_takes};
-ghost use Rattle.pblk_world.specs.Space.{freed, room};
+ghost use Rattle.pblk_world.specs.Space.{freed, is_due, room};
 ghost use Rattle.sector_pool.specs.declared.entry.Class.TheVariants.{User};
 ghost use Rattle.stripe_placer.specs.Placing.{Program, under_way_in};
 ghost use Rattle.write_window.specs.Window as view;
@@ -490,6 +490,16 @@ impl Core {
             + self.placed
             + addresses.saturating_sub(kept) / u64::from(shape.ws_opt);
         ring.min(space).min(LAST_POSITION.max(self.first))
+    }
+
+    /// Whether collection is due: the Free lines together have at most as many data addresses as three full lines.
+    pub fn is_due(&self) -> bool
+        ensures { (i : Image) (w : World) → IsBlankWorld i w → Stands i (log_of w) self.now
+            → result ≡ is_due i (log_of w) }
+    {
+        let units = self.layout.shape().units();
+        let full = u64::from(self.layout.data_len(units));
+        self.lines.free_addresses() <= 3 * full
     }
 
     /// Gives the window's frames back. They are of this pool.

@@ -9,7 +9,7 @@ use pblk_model::Shape;
 use std::test::Fail;
 
 // Drives, whether the marks of their blocks are told, scripts, and what is told of them.
-static ANSWERED: [(&Shape, bool, &str, &str); 20] = [
+static ANSWERED: [(&Shape, bool, &str, &str); 22] = [
     // A sector, which the write buffer answers before and after its stripe is programmed.
     (
         &SMALL,
@@ -77,6 +77,20 @@ static ANSWERED: [(&Shape, bool, &str, &str); 20] = [
         false,
         "thread\nw 0 16 1\nw 16 16 1\nw 32 16 1\nw 48 16 1\nw 0 16 2\nw 16 16 2\nw 32 16 2\nw 48 16 2\nw 0 16 3\nw 16 16 3\nw 32 16 3\nw 48 16 3\nw 0 16 4\nw 16 16 4\nw 32 16 4\nw 48 16 4\nf\nr 0 16\n",
         "placed 0 16\nplaced 16 16\nplaced 32 16\nplaced 48 16\nplaced 64 16\nplaced 80 16\nplaced 96 16\nplaced 112 16\nplaced 128 16\nplaced 144 16\nplaced 160 16\nplaced 176 16\nworn 208 204\nworn 208 204\nworn 208 204\nworn 208 204\nsynced 192 192\nwords 192 192 3 3 3 3 3 3 3 3 3 3 3 3 3 3 3 3\nclosed\nevents 37 closed 24 closed 24 closed 24 closed 24 open 20\nevents 36 closed 24 closed 24 closed 24 closed 24 open 16\n",
+    ),
+    // A line is full to its last address: a close leaves its end record where there are Free lines enough, and
+    // programs it where collection is due.
+    (
+        &SMALL,
+        false,
+        "thread\nw 0 16 1\nw 16 16 1\nw 32 8 1\n",
+        "placed 0 16\nplaced 16 16\nplaced 32 8\nclosed\nevents 6 closed 24\nevents 5 open 20\n",
+    ),
+    (
+        &SMALL,
+        false,
+        "thread\nw 0 16 1\nw 16 16 1\nw 32 16 1\nw 48 16 1\nw 0 16 2\nw 16 16 2\nw 32 16 2\nw 48 16 2\nw 0 16 3\nw 16 16 3\nw 32 16 3\nw 48 16 3\nw 0 8 4\n",
+        "placed 0 16\nplaced 16 16\nplaced 32 16\nplaced 48 16\nplaced 64 16\nplaced 80 16\nplaced 96 16\nplaced 112 16\nplaced 128 16\nplaced 144 16\nplaced 160 16\nplaced 176 16\nplaced 192 8\nclosed\nevents 30 closed 24 closed 24 closed 24 closed 24 closed 24\nevents 30 closed 24 closed 24 closed 24 closed 24 closed 24\n",
     ),
     // Writes up to the last position that is ever granted.
     (

@@ -1,10 +1,10 @@
-use Rattle.std.proofs.Common.{◌≡◌, List, ap, sym, subst, ◌∙◌}
+use Rattle.std.proofs.Common.{◌≡◌, List, refl, ap, sym, subst, ◌∙◌}
 use Rattle.std.specs.List.{flat_map}
 use Rattle.pblk_model.specs.Image.{blank}
 use Rattle.block_port.specs.Own.{lines_of}
 use Rattle.block_port.specs.declared.rows.WornAnswer.{WornAnswer}
 use Rattle.block_target.specs.NothingLeft.{AreRefusals}
-use Rattle.block_target.specs.Mount.{IsSameMount, logs_in, taken_in}
+use Rattle.block_target.specs.Mount.{IsSameMount, front_synced, logs_in, taken_in}
 use Rattle.block_target.specs.Serial.{SerialView, Settles, lines_in}
 use Rattle.block_target.proofs.DeviceFronts.{all_synced, all_taken, taken_same}
 use Rattle.block_target.proofs.Refusals.{refusals_grown, flush_refused}
@@ -15,24 +15,26 @@ pub returns-clause-closed : goal.returns-clause-closed
 returns-clause-closed g c =
     let mount = ap (λ s. s.mount) c.self.view_is in
     let wanted = ap (λ f. f.position) c.front-wanted.ensures in (
-      c.sync.new.self,
-      subst (λ v. IsSameMount v c.sync.new.self) mount c.sync.ensures.same,
+      c.settle.new.self,
+      subst (λ v. IsSameMount v c.settle.new.self) mount c.settle.ensures.same,
       c.is_sound-2.ensures,
       c.end.ensures.units,
       c.end.ensures.wear,
-      elim c.match-sync.branch [
-        | in-Ok w ↦ subst (λ r. Settles r c.sync.new.self) (sym w.settled-is)
-            (all_synced c.self.inside.mount c.sync.new.self w.in-Ok.field-0 c.front-wanted.result.position c.is_sound.ensures c.is_sound-2.ensures c.sync.ensures.same wanted w.in-Ok.ensures.synced.0 w.in-Ok.ensures.synced.1)
-        | in-Err w ↦ subst (λ r. Settles r c.sync.new.self) (sym w.settled-is) (
-          wanted ∙ sym (taken_same c.self.inside.mount c.sync.new.self c.is_sound.ensures c.is_sound-2.ensures c.sync.ensures.same),
+      elim c.match-settle.branch [
+        | in-Ok w ↦ subst (λ r. Settles r c.settle.new.self) (sym w.settled-is) (
+          all_synced c.self.inside.mount c.settle.new.self (front_synced c.settle.new.self) c.front-wanted.result.position c.is_sound.ensures c.is_sound-2.ensures c.settle.ensures.same wanted refl (w.in-Ok.ensures.synced refl),
+          w.in-Ok.ensures.resting refl,
+        )
+        | in-Err w ↦ subst (λ r. Settles r c.settle.new.self) (sym w.settled-is) (
+          wanted ∙ sym (taken_same c.self.inside.mount c.settle.new.self c.is_sound.ensures c.is_sound-2.ensures c.settle.ensures.same),
           w.in-Err.ensures.stuck.0,
-          flush_refused c.sync.new.self c.front-wanted.result.position w.in-Err.have w.in-Err.ensures.stuck.2 w.in-Err.ensures.stuck.0 w.in-Err.ensures.stuck.1
-              (all_taken c.self.inside.mount c.sync.new.self c.front-wanted.result.position c.is_sound.ensures c.is_sound-2.ensures c.sync.ensures.same wanted),
+          flush_refused c.settle.new.self c.front-wanted.result.position w.in-Err.have w.in-Err.ensures.stuck.2 w.in-Err.ensures.stuck.0 w.in-Err.ensures.stuck.1
+              (all_taken c.self.inside.mount c.settle.new.self c.front-wanted.result.position c.is_sound.ensures c.is_sound-2.ensures c.settle.ensures.same wanted),
         )
       ],
-      subst (λ (ws : List WornAnswer). AreRefusals (blank c.sync.new.self.shape) (logs_in c.sync.new.self) ws) (ap (λ s. s.worns) c.self.view_is)
-          (refusals_grown c.self.inside.mount c.sync.new.self c.sync.ensures.same.more c.self.inside.worns c.is_sound.ensures c.sync.ensures.same.shape c.sync.ensures.same.deeds c.self.invariant.worns),
-      taken_same c.self.inside.mount c.sync.new.self c.is_sound.ensures c.is_sound-2.ensures c.sync.ensures.same ∙ ap taken_in mount,
+      subst (λ (ws : List WornAnswer). AreRefusals (blank c.settle.new.self.shape) (logs_in c.settle.new.self) ws) (ap (λ s. s.worns) c.self.view_is)
+          (refusals_grown c.self.inside.mount c.settle.new.self c.settle.ensures.same.more c.self.inside.worns c.is_sound.ensures c.settle.ensures.same.shape c.settle.ensures.same.deeds c.self.invariant.worns),
+      taken_same c.self.inside.mount c.settle.new.self c.is_sound.ensures c.is_sound-2.ensures c.settle.ensures.same ∙ ap taken_in mount,
       c.ends_synced.ensures,
     )
 
