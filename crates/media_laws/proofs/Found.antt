@@ -11,19 +11,20 @@ use Rattle.pblk_model.specs.declared.shape.Shape.{Shape}
 use Rattle.pblk_model.specs.declared.chunk.ChunkState.TheVariants as states
 use Rattle.pblk_model.specs.Chunk.{Chunk, Block, free_chunk}
 use Rattle.pblk_model.specs.ChunkStep.{ChunkCommand, Write, Read, Reset, Done, Gave, Empty, Refused, appended}
-use Rattle.pblk_model.specs.UnitLog.{UnitOutcome, Answered, Failed, Stopped, UnitEvent, after_outcome, after_log}
+use Rattle.pblk_model.specs.UnitLog.{UnitOutcome, Answered, Failed, Stopped, UnitEvent, after_outcome}
 use Rattle.pblk_model.specs.Shape.{units}
 use Rattle.pblk_model.specs.Image.{Image, is_online_in, line_units, width}
 use Rattle.pblk_world.specs.Events.{Landed, Lost, ResetDone, Event, Decides, Does, Beginning, Logged, Step}
-use Rattle.pblk_world.specs.World.{World, Logs, log_of, known, prefixes, cut_logs, knows_engine, media, unit_events, unit_event_of, unit_event_at}
+use Rattle.pblk_world.specs.World.{World, Logs, log_of, known, prefixes, cut_logs, knows_engine, media, unit_event_of, unit_event_at}
 use Rattle.pblk_world.specs.EngineLog.{Begun, begun}
 use Rattle.pblk_world.specs.Lines.{found_by, found_image, known_image, told_by, told_events}
 use Rattle.core_laws.specs.PlainWorlds.{IsBlankWorld}
 use Rattle.core_laws.specs.Stepping.{after}
 use Rattle.pblk_laws.proofs.Lists.{all_take, all_at, all_filter_map}
-use Rattle.pblk_laws.proofs.UnitChunks.{log_count}
 use Rattle.pblk_laws.proofs.LineUnits.{line_units_count}
+pub use Rattle.media_laws.proofs.Growing.{within_some}
 use Rattle.media_laws.proofs.Steps.{log_here, log_elsewhere, blank_tail, IsSomeones, someones, known_within}
+pub use Rattle.media_laws.proofs.UnitCounts.{HasChunks, media_chunks, media_units, found_chunks, found_shape, found_units, known_chunks, known_units}
 use Rattle.media_laws.proofs.Images.{media_all, known_all, AreFree}
 use Rattle.media_laws.proofs.Quiet.{IsQuiet, IsFirst, IsLater, decided, IsGood, IsGoodEvent, IsGoodOne, AreGood, AreWithin, quiet, begun_stays, all_reads, still_free, first_begins}
 
@@ -213,48 +214,7 @@ pub media_online : (i : Image) (w : World) (logs : Logs) → IsBlankWorld i w �
 media_online i w logs blank prefix = media_all IsOnline IsKind i logs (λ e c h on. kind_online i.shape c e.command e.outcome h on)
     (λ unit. all_kinds (logs (suc unit)) (good_prefix i w logs unit blank prefix)) (free_online i.units blank.free)
 
--- ---- each unit has as many chunks as before
-
-abbrev pub HasChunks : ℕ → List (List Chunk) → Type 0
-HasChunks n us = AllByRecursion (λ u. length u ≡ n) us
-
-mapped_all : {X Y : Type 0} (P : X → Type 0) (Q : Y → Type 0) (f : ℕ × X → Y) (n : ℕ) (xs : List X) → ((k : ℕ) (x : X) → P x → Q (f (k, x))) → AllByRecursion P xs → AllByRecursion Q (map f (enumerate_from n xs))
-mapped_all P Q f n [] says all = tt
-mapped_all P Q f n (x ∷ xs) says all = (says n x all.0, mapped_all P Q f (n + 1) xs says all.1)
-
-mapped_count : {X Y : Type 0} (f : ℕ × X → Y) (n : ℕ) (xs : List X) → length (map f (enumerate_from n xs)) ≡ length xs
-mapped_count f n [] = refl
-mapped_count f n (x ∷ xs) = ap suc (mapped_count f (n + 1) xs)
-
-pub media_chunks : (i : Image) (logs : Logs) → HasChunks i.shape.chunks i.units → HasChunks i.shape.chunks (media i logs).units
-media_chunks i logs all = mapped_all (λ cs. length cs ≡ i.shape.chunks) (λ cs. length cs ≡ i.shape.chunks) (λ (u : ℕ × List Chunk). after_log i.shape u.1 (unit_events logs u.0)) 0 i.units
-    (λ k cs count. log_count i.shape cs (unit_events logs k) ∙ count) all
-
-pub media_units : (i : Image) (logs : Logs) → length (media i logs).units ≡ length i.units
-media_units i logs = mapped_count (λ (u : ℕ × List Chunk). after_log i.shape u.1 (unit_events logs u.0)) 0 i.units
-
-pub found_chunks : (i : Image) (logs : Logs) → HasChunks i.shape.chunks i.units → HasChunks i.shape.chunks (found_image i logs).units
-found_chunks i logs all = elim (begun (logs 0)) as (λ o. HasChunks i.shape.chunks (found_by i logs o).units) [ None ↦ all | Some b ↦ media_chunks i (cut_logs b.knows logs) all ]
-
-pub found_shape : (i : Image) (logs : Logs) → i.shape ≡ (found_image i logs).shape
-found_shape i logs = elim (begun (logs 0)) as (λ o. i.shape ≡ (found_by i logs o).shape) [ None ↦ refl | Some b ↦ refl ]
-
-pub found_units : (i : Image) (logs : Logs) → length (found_image i logs).units ≡ length i.units
-found_units i logs = elim (begun (logs 0)) as (λ o. length (found_by i logs o).units ≡ length i.units) [ None ↦ refl | Some b ↦ media_units i (cut_logs b.knows logs) ]
-
-pub known_chunks : (i : Image) (logs : Logs) → HasChunks i.shape.chunks i.units → HasChunks i.shape.chunks (known_image i logs).units
-known_chunks i logs all = mapped_all (λ cs. length cs ≡ i.shape.chunks) (λ cs. length cs ≡ i.shape.chunks) (λ (u : ℕ × List Chunk). after_log i.shape u.1 (told_events logs u.0)) 0 (found_image i logs).units
-    (λ k cs count. log_count i.shape cs (told_events logs k) ∙ count) (found_chunks i logs all)
-
-pub known_units : (i : Image) (logs : Logs) → length (known_image i logs).units ≡ length i.units
-known_units i logs = mapped_count (λ (u : ℕ × List Chunk). after_log i.shape u.1 (told_events logs u.0)) 0 (found_image i logs).units ∙ found_units i logs
-
 -- ---- so each line has all units
-
-pub within_some : {X : Type 0} (xs : List X) (k : ℕ) → k < length xs → (x : X) × (slice_get xs k ≡ Some x)
-within_some [] k h = absurd (omega arith)
-within_some (x ∷ xs) zero h = (x, refl)
-within_some (x ∷ xs) (suc k) h = within_some xs k (omega arith)
 
 is_on : ℕ → ℕ × List Chunk → Bool
 is_on line unit = option_map_or (λ (c : Chunk). is_online_in c.state) (slice_get unit.1 line) false

@@ -1,32 +1,17 @@
--- What a line that was opened is for the rest of the mount: its life stays, and its stripes are those of that life.
-use Rattle.std.proofs.Common.{◌≡◌, ◌≢◌, ℕ, ◌<◌, ◌⊎◌, ◌==◌, ◌&&◌, ◌||◌, not, suc, nat_eq, Bool, true, false, Some, None, Option, List, [], ◌∷◌, ◌++◌, length, take, refl, sym, subst, ap, ◌∙◌, arith, if◌then◌else◌, inl, inr}
-use Rattle.std.specs.List.{AllByRecursion, list_any}
-use Rattle.std.specs.Option.{option_to_list, IfSome}
-use Rattle.std.proofs.lemmas.Bool.{eqb-true, eqb-false}
-use Rattle.std.proofs.lemmas.Option.{same_Some, none-some}
-use Rattle.std.proofs.Math.Seq.{take-length}
+-- What a line that was opened on a drive that was blank is: it has all units.
+use Rattle.std.proofs.Common.{◌≡◌, ℕ, ◌<◌, List, ◌∙◌}
+use Rattle.std.specs.List.{AllByRecursion}
 use Rattle.pblk_model.specs.Shape.{units}
-use Rattle.pblk_model.specs.StartRecord.{StartRecord}
 use Rattle.pblk_model.specs.Image.{Image}
-use Rattle.pblk_world.specs.Events.{EngineEvent, Beginning, Begin, Open, Place, Landed, Lost, Free, Event, Decides, Stripe, Logged, Step}
-use Rattle.pblk_world.specs.World.{World, Logs, log_of, prefixes}
-use Rattle.pblk_world.specs.EngineLog.{Begun, Opening, LineLife, AsFound, Opened, Freed, life_of, turned_by, is_opened, is_life, Placed, placed_by, placements, stripes_of, Answer, DidLand, WasLost, answer_by, answers, answer_of, was_lost, is_loss, has_failed}
-use Rattle.pblk_world.specs.Lines.{is_free_line, has_number, known_image, are_empty}
-use Rattle.pblk_world.specs.Opening.{MayOpen}
-use Rattle.pblk_world.specs.Placing.{MayPlace}
-use Rattle.pblk_world.specs.Legal.{IsDecision}
-use Rattle.pblk_world.proofs.Appending.{life_more, placements_more}
-use Rattle.core_laws.specs.PlainWorlds.{is_plain_decision, is_plain_event, ArePlain, IsBlankWorld}
-use Rattle.core_laws.proofs.Lists.{filter_agree}
-use Rattle.core_laws.proofs.Numbers.{life_at, of_its_line}
-use Rattle.core_laws.proofs.Rows.{same_number, other_number}
-use Rattle.pblk_laws.proofs.Lists.{all_append, all_filter_map, all_get}
-use Rattle.media_laws.specs.Standing.{stripes_in}
-use Rattle.media_laws.proofs.Steps.{log_here, log_elsewhere, blank_tail, IsSomeones, someones}
-use Rattle.media_laws.proofs.Quiet.{IsFirst, IsLater, decided}
-use Rattle.media_laws.proofs.Found.{ArePrefixes, named_prefixes, known_whole, whole_width}
-
--- ---- what an opening says
+use Rattle.pblk_world.specs.Events.{Logged}
+use Rattle.pblk_world.specs.World.{World, log_of}
+use Rattle.pblk_world.specs.EngineLog.{Opening, Opened, life_of, placements}
+use Rattle.pblk_world.specs.Lines.{known_image}
+use Rattle.core_laws.specs.PlainWorlds.{IsBlankWorld}
+pub use Rattle.media_laws.proofs.LineLives.{IsLiving, and_left, and_right, free_unopened, life_stays, opened_by_event, opening_is, placed_is, event_log, same_logged, stripes_same, IsLand, answers_land, not_lost, none_failed}
+use Rattle.media_laws.proofs.LineLives.{IsOpenedAs, living, all_living}
+use Rattle.media_laws.proofs.Found.{known_whole, whole_prefixes, whole_width}
+use Rattle.media_laws.proofs.OpenedUnits.{opened_as_wide}
 
 pub record IsOpening (i : Image) (line : ℕ) (o : Opening) : Type 0 where
   pub in_range : line < i.shape.chunks
@@ -35,199 +20,20 @@ pub record IsOpening (i : Image) (line : ℕ) (o : Opening) : Type 0 where
   pub width : o.start.width ≡ units i.shape
   pub capacity : o.start.capacity ≡ i.shape.capacity
 
--- a stripe has the life that its line has
-abbrev pub IsLiving : List Logged → Placed → Type 0
-IsLiving log p = (life_of log p.stripe.line ≡ p.life) × (is_opened p.life ≡ true)
-
 pub record IsLived (i : Image) (log : List Logged) : Type 0 where
   pub opened : (line : ℕ) (o : Opening) → life_of log line ≡ Opened o → IsOpening i line o
   pub lives : AllByRecursion (IsLiving log) (placements log)
 
--- ---- a line's life after an event
-
-pub and_left : (a b : Bool) → (a && b) ≡ true → a ≡ true
-and_left true b e = refl
-and_left false b e = absurd (cc)
-
-pub and_right : (a b : Bool) → (a && b) ≡ true → b ≡ true
-and_right true b e = e
-and_right false b e = absurd (cc)
-
-not_numbered : (i : Image) (logs : Logs) (life : LineLife) (line : ℕ) → not (has_number i logs life line) ≡ true → is_opened life ≡ false
-not_numbered i logs AsFound line e = refl
-not_numbered i logs (Opened o) line e = absurd (cc)
-not_numbered i logs (Freed was knows) line e = refl
-
-pub free_unopened : (i : Image) (logs : Logs) (line : ℕ) → is_free_line i logs line ≡ true → is_opened (life_of (logs 0) line) ≡ false
-free_unopened i logs line e = not_numbered i logs (life_of (logs 0) line) line
-    (and_left (not (has_number i logs (life_of (logs 0) line) line)) (are_empty (known_image i logs) line) (and_left _ _ e))
-
-pub life_stays : (line : ℕ) (life : LineLife) (n : ℕ) (knows : List ℕ) (e : EngineEvent) → is_plain_decision e ≡ true
-    → ((other : ℕ) (start : StartRecord) → e ≡ Open other start → other ≢ line) → turned_by line life n knows (Decides e) ≡ life
-life_stays line life n knows (Open other start) plain apart =
-    ap (λ b. if b then Opened (record { number = n; line = line; start = start; knows = knows }) else life) (other_number other line (apart other start refl))
-life_stays line life n knows (Free other) plain apart = absurd (cc)
-life_stays line life n knows e plain apart = refl
-
-pub opened_by_event : (line : ℕ) (life : LineLife) (n : ℕ) (knows : List ℕ) (e : EngineEvent) (o : Opening) → is_plain_decision e ≡ true → turned_by line life n knows (Decides e) ≡ Opened o
-    → (life ≡ Opened o) ⊎ ((start : StartRecord) × (e ≡ Open line start) × (o ≡ record { number = n; line = line; start = start; knows = knows }))
-opened_by_event line life n knows (Open other start) o plain is = by (nat_eq other line) refl is
-  where
-    by : (b : Bool) → nat_eq other line ≡ b → (if b then Opened (record { number = n; line = line; start = start; knows = knows }) else life) ≡ Opened o
-        → (life ≡ Opened o) ⊎ ((s : StartRecord) × (Open other start ≡ Open line s) × (o ≡ record { number = n; line = line; start = s; knows = knows }))
-    by true e is = inr (start, ap (λ m. Open m start) (eqb-true other line e), (let made : Opening = record { number = n; line = line; start = start; knows = knows } in let same : Opened made ≡ Opened o = is in cc))
-    by false e is = inl is
-opened_by_event line life n knows (Free other) o plain is = absurd (cc)
-opened_by_event line life n knows e o plain is = inl is
-
--- ---- a step of the engine
-
-weaker : {X : Type 0} (P Q : X → Type 0) → ((x : X) → P x → Q x) → (xs : List X) → AllByRecursion P xs → AllByRecursion Q xs
-weaker P Q says [] all = tt
-weaker P Q says (x ∷ xs) all = (says x all.0, weaker P Q says xs all.1)
-
--- the line that is opened wasn't opened before
-pub opening_is : (i : Image) (logs : Logs) (b : Begun) (e : EngineEvent) (line : ℕ) (start : StartRecord) → IsDecision i logs b e → e ≡ Open line start → MayOpen i logs b line start
-opening_is i logs b e line start may is = subst (IsDecision i logs b) is may
-
-all_option : {X : Type 0} (P : X → Type 0) (o : Option X) → ((x : X) → o ≡ Some x → P x) → AllByRecursion P (option_to_list o)
-all_option P None h = tt
-all_option P (Some x) h = (h x refl, tt)
-
-pub placed_is : (log : List Logged) (n : ℕ) (e : EngineEvent) (p : Placed) → placed_by log n (Decides e) ≡ Some p → (stripe : Stripe) × (e ≡ Place stripe) × (p ≡ record { number = n; stripe = stripe; life = life_of (take n log) stripe.line })
-placed_is log n (Place stripe) p is = (stripe, refl, sym (same_Some _ p is))
-placed_is log n e p is = absurd (none-some p is)
-
-lived_later : (i : Image) (w : World) (log : List Logged) (logs : Logs) (b : Begun) (e : EngineEvent) (knows : List ℕ) → IsBlankWorld i w → ArePrefixes w logs → logs 0 ≡ log → is_plain_decision e ≡ true → IsDecision i logs b e → IsLived i log
-    → IsLived i (log ++ record { event = Decides e; knows = knows } ∷ [])
-lived_later i w log logs b e knows blank prefix own plain may h = record {
-  opened = λ line o is. opened_now line o (sym (life_more log new line) ∙ is);
-  lives = subst (AllByRecursion (IsLiving (log ++ new ∷ []))) (sym (placements_more log new))
-      (all_append (IsLiving (log ++ new ∷ [])) (placements log) (option_to_list (placed_by log (length log) (Decides e)))
-      (weaker (IsLiving log) (IsLiving (log ++ new ∷ [])) old_lives (placements log) h.lives)
-      (all_option (IsLiving (log ++ new ∷ [])) (placed_by log (length log) (Decides e)) new_lives));
-}
-  where
-    new : Logged
-    new = record { event = Decides e; knows = knows }
-
-    opened_now : (line : ℕ) (o : Opening) → turned_by line (life_of log line) (length log) knows (Decides e) ≡ Opened o → IsOpening i line o
-    opened_now line o is = go (opened_by_event line (life_of log line) (length log) knows e o plain is)
-      where
-        go : (life_of log line ≡ Opened o) ⊎ ((start : StartRecord) × (e ≡ Open line start) × (o ≡ record { number = length log; line = line; start = start; knows = knows })) → IsOpening i line o
-        go (inl before) = h.opened line o before
-        go (inr now) =
-            let open_now : MayOpen i logs b line now.0 = opening_is i logs b e line now.0 may now.1 in
-            subst (IsOpening i line) (sym now.2) (record {
-              in_range = open_now.in_range;
-              its_line = refl;
-              start_line = open_now.own_line;
-              width = open_now.own_width ∙ whole_width i (known_image i logs) line (known_whole i w logs blank prefix) open_now.in_range;
-              capacity = open_now.own_capacity;
-            })
-
-    stays : (line : ℕ) → is_opened (life_of log line) ≡ true → life_of (log ++ new ∷ []) line ≡ life_of log line
-    stays line is = life_more log new line ∙ life_stays line (life_of log line) (length log) knows e plain
-        (λ other start it same. unopened (subst (λ m. is_opened (life_of log m) ≡ true) (sym same) is) (subst (λ (xs : List Logged). is_opened (life_of xs other) ≡ false) own (free_unopened i logs other (opening_is i logs b e other start may it).is_free)))
-      where
-        unopened : {x : Bool} → x ≡ true → x ≡ false → ⊥
-        unopened p q = cc
-
-    old_lives : (p : Placed) → IsLiving log p → IsLiving (log ++ new ∷ []) p
-    old_lives p is = (stays p.stripe.line (ap is_opened is.0 ∙ is.1) ∙ is.0, is.1)
-
-    new_lives : (p : Placed) → placed_by log (length log) (Decides e) ≡ Some p → IsLiving (log ++ new ∷ []) p
-    new_lives p is =
-        let at = placed_is log (length log) e p is in
-        let place : MayPlace i logs at.0 = subst (IsDecision i logs b) at.1 may in
-        let life : life_of log at.0.line ≡ Opened place.opening = ap (λ (xs : List Logged). life_of xs at.0.line) (sym own) ∙ place.is_open in
-        let same : life_of (take (length log) log) at.0.line ≡ life_of log at.0.line = ap (λ (xs : List Logged). life_of xs at.0.line) (take-length log) in
-        subst (IsLiving (log ++ new ∷ [])) (sym at.2) (stays at.0.line (ap is_opened life) ∙ sym same, ap is_opened (same ∙ life))
-
-lived_first : (i : Image) (b : Beginning) (knows : List ℕ) → IsLived i (record { event = Decides (Begin b); knows = knows } ∷ [])
-lived_first i b knows = record {
-  opened = λ line o is. absurd (as_found o is);
-  lives = tt;
-}
-  where
-    as_found : (o : Opening) → AsFound ≡ Opened o → ⊥
-    as_found o is = cc
-
-pub event_log : Logged → EngineEvent → Logged
-event_log l e = record { event = Decides e; knows = l.knows }
-
-pub same_logged : (l : Logged) (e : Event) → l.event ≡ e → l ≡ record { event = e; knows = l.knows }
-same_logged l e is = let f : Event → Logged = λ x. record { event = x; knows = l.knows } in ap f is
-
-lived_by : (i : Image) (s : Step) (w : World) → IsBlankWorld i (s ∷ w) → IsLived i (log_of w 0) → IsSomeones i s w → IsLived i (log_of (s ∷ w) 0)
-lived_by i s w blank h (inr (unit, e)) =
-    subst (IsLived i) (sym (log_elsewhere s w 0 (λ a. let no : suc unit ≡ 0 = sym e.author ∙ a in absurd (omega arith)))) h
-lived_by i s w blank h (inl e) =
-    subst (IsLived i) (sym (log_here s w 0 e.author))
-    (subst (λ (l : Logged). IsLived i (log_of w 0 ++ l ∷ [])) (sym (same_logged s.logged (Decides e.event) e.is_event)) (go (decided i (prefixes s.logged (log_of w)) e.event e.allowed)))
-  where
-    go : IsFirst i (prefixes s.logged (log_of w)) e.event ⊎ IsLater i (prefixes s.logged (log_of w)) e.event → IsLived i (log_of w 0 ++ record { event = Decides e.event; knows = s.logged.knows } ∷ [])
-    go (inl f) =
-        let empty : log_of w 0 ≡ [] = sym e.own ∙ f.2.is_first in
-        subst (λ (log : List Logged). IsLived i (log ++ record { event = Decides e.event; knows = s.logged.knows } ∷ [])) (sym empty)
-        (subst (λ ev. IsLived i (record { event = Decides ev; knows = s.logged.knows } ∷ [])) (sym f.1) (lived_first i f.0 s.logged.knows))
-    go (inr l) = lived_later i w (log_of w 0) (prefixes s.logged (log_of w)) l.0 e.event s.logged.knows (blank_tail i s w blank) (named_prefixes s.logged w) e.own e.plain l.2 h
+opening_as : (i : Image) (w : World) (line : ℕ) (o : Opening) → IsBlankWorld i w → life_of (log_of w 0) line ≡ Opened o → IsOpening i line o
+opening_as i w line o blank life =
+    let is : IsOpenedAs i line o = (living i w blank.plain).opened line o life in
+    record {
+      in_range = is.in_range;
+      its_line = is.its_line;
+      start_line = is.start_line;
+      width = opened_as_wide i w line o blank.plain life ∙ whole_width i (known_image i (log_of w)) line (known_whole i w (log_of w) blank (whole_prefixes w)) is.in_range;
+      capacity = is.capacity;
+    }
 
 pub lived : (i : Image) (w : World) → IsBlankWorld i w → IsLived i (log_of w 0)
-lived i [] blank = record { opened = λ line o is. absurd (as_found o is); lives = tt }
-  where
-    as_found : (o : Opening) → AsFound ≡ Opened o → ⊥
-    as_found o is = cc
-lived i (s ∷ w) blank = lived_by i s w blank (lived i w (blank_tail i s w blank)) (someones i s w blank)
-
--- ---- the stripes of an opening are those of its line
-
-by_life : (log : List Logged) (line other : ℕ) (o : Opening) (life : LineLife) → life_of log line ≡ Opened o → life_of log other ≡ life → is_opened life ≡ true → is_life o.number life ≡ (other == line)
-by_life log line other o AsFound its is opened = absurd (cc)
-by_life log line other o (Freed was knows) its is opened = absurd (cc)
-by_life log line other o (Opened p) its is opened = go (nat_eq other line) refl
-  where
-    go : (b : Bool) → nat_eq other line ≡ b → (p.number == o.number) ≡ b
-    go true e =
-        let same : Opened p ≡ Opened o = sym is ∙ ap (life_of log) (eqb-true other line e) ∙ its in
-        let one : p ≡ o = cc in ap (λ (x : Opening). x.number == o.number) one ∙ same_number o.number
-    go false e =
-        let at = life_at log line o its in
-        of_its_line log other p o is (at.0 ∙ ap (λ n. Some n) (sym at.1)) (λ same. eqb-false other line e (sym same ∙ at.1))
-
-pub stripes_same : (log : List Logged) (line : ℕ) (o : Opening) → AllByRecursion (IsLiving log) (placements log) → life_of log line ≡ Opened o → stripes_of log o ≡ stripes_in log line
-stripes_same log line o lives is = filter_agree (IsLiving log) (λ (p : Placed). is_life o.number p.life) (λ (p : Placed). p.stripe.line == line)
-    (λ p living. by_life log line p.stripe.line o p.life is living.0 living.1) (placements log) lives
-
--- ---- nothing is lost
-
-abbrev pub IsLand : Answer → Type 0
-IsLand (DidLand event) = Unit {0}
-IsLand (WasLost event) = ⊥
-
-answer_lands : (unit : ℕ) (e : Event) → is_plain_event e ≡ true → IfSome (answer_by unit e) IsLand
-answer_lands unit (Decides (Landed other event)) plain = by (other == unit)
-  where
-    by : (b : Bool) → IfSome (if b then Some (DidLand event) else None) IsLand
-    by true = tt
-    by false = tt
-answer_lands unit (Decides (Lost other event)) plain = absurd (cc)
-answer_lands unit e plain = tt
-
-pub answers_land : (log : List Logged) (unit : ℕ) → ArePlain log → AllByRecursion IsLand (answers log unit)
-answers_land log unit plain = all_filter_map IsLand (λ (l : Logged). is_plain_event l.event ≡ true) (λ (l : Logged). answer_by unit l.event) log (λ l is. answer_lands unit l.event is) plain
-
-lands_not_lost : (o : Option Answer) → IfSome o IsLand → is_loss o ≡ false
-lands_not_lost None h = refl
-lands_not_lost (Some (DidLand event)) h = refl
-lands_not_lost (Some (WasLost event)) h = absurd h
-
-pub not_lost : (log : List Logged) (p : Placed) → ArePlain log → was_lost log p ≡ false
-not_lost log p plain = lands_not_lost (answer_of log p) (all_get IsLand (answers log p.stripe.unit) _ (answers_land log p.stripe.unit plain))
-
-none_any : {X : Type 0} (test : X → Bool) → ((x : X) → test x ≡ false) → (xs : List X) → list_any test xs ≡ false
-none_any test none [] = refl
-none_any test none (x ∷ xs) = ap (λ b. b || list_any test xs) (none x) ∙ none_any test none xs
-
-pub none_failed : (log : List Logged) (o : Opening) → ArePlain log → has_failed log o ≡ false
-none_failed log o plain = none_any (was_lost log) (λ p. not_lost log p plain) (stripes_of log o)
+lived i w blank = record { opened = λ line o life. opening_as i w line o blank life; lives = all_living i w blank.plain }

@@ -1,5 +1,5 @@
 -- What the engine knows by the prefixes that its next event names is what it knows by the whole logs.
-use Rattle.std.proofs.Common.{◌≡◌, ℕ, ◌<◌, ◌≤◌, ◌⊎◌, zero, suc, nat_eq, Bool, true, false, Some, None, Option, List, [], ◌∷◌, take, refl, sym, subst, ap, ap₂, ◌∙◌, arith, if◌then◌else◌, inl, inr}
+use Rattle.std.proofs.Common.{◌≡◌, ℕ, ◌<◌, ◌≤◌, ◌⊎◌, suc, nat_eq, Bool, true, false, Some, None, Option, List, [], ◌∷◌, take, refl, sym, subst, ap, ap₂, ◌∙◌, arith, if◌then◌else◌, inl, inr}
 use Rattle.std.specs.Prelude.{⊤, slice_get, slice_index, map}
 use Rattle.std.specs.List.{AllByRecursion, Contains, filter_map, cons_option, enumerate_from}
 use Rattle.std.specs.Option.{option_and_then}
@@ -13,69 +13,63 @@ use Rattle.pblk_world.specs.World.{World, Logs, log_of, known, prefixes, cut_log
 use Rattle.pblk_world.specs.EngineLog.{Begun, begun, begun_by}
 use Rattle.pblk_world.specs.Lines.{found_by, found_image, known_image, told_by, told_events}
 use Rattle.pblk_world.specs.Legal.{IsLegal, IsLegalStep, IsDecision}
-use Rattle.core_laws.specs.PlainWorlds.{is_plain_decision, IsBlankWorld}
+use Rattle.core_laws.specs.PlainWorlds.{is_plain_decision, IsPlainWorld}
 use Rattle.core_laws.proofs.Lists.{fun_same}
 use Rattle.pblk_laws.proofs.Lists.{all_by_get}
-use Rattle.media_laws.proofs.Steps.{log_here, log_elsewhere, with_last, blank_tail, IsSomeones, someones}
+use Rattle.media_laws.proofs.Steps.{log_here, log_elsewhere, with_last, plain_tail, IsSomeones, whose}
 use Rattle.media_laws.proofs.Images.{is_in}
-use Rattle.media_laws.proofs.Quiet.{IsFirst, IsLater, decided}
-use Rattle.media_laws.proofs.Programs.{get_whole, take_again}
-use Rattle.media_laws.proofs.Told.{told, told_are, no_reset}
+use Rattle.media_laws.proofs.Decisions.{IsFirst, IsLater, decided}
+use Rattle.media_laws.proofs.Growing.{get_whole, take_again, get_taken}
+use Rattle.media_laws.proofs.ToldEvents.{told, told_are}
 
 -- ---- each answer is within what its event names
 
 abbrev NamesWithin : List ℕ → Event → Type 0
 NamesWithin knows (Decides (Landed unit n)) = n < slice_index knows (suc unit)
 NamesWithin knows (Decides (Lost unit n)) = ⊥
-NamesWithin knows (Decides (ResetDone unit n)) = ⊥
+NamesWithin knows (Decides (ResetDone unit n)) = n < slice_index knows (suc unit)
 NamesWithin knows e = ⊤
 
 abbrev AreWithin : List Logged → Type 0
 AreWithin log = AllByRecursion (λ l. NamesWithin l.knows l.event) log
 
-names_later : (i : Image) (w : World) (s : Step) (b : Begun) (e : EngineEvent) → IsBlankWorld i w → is_plain_decision e ≡ true → IsDecision i (prefixes s.logged (log_of w)) b e → NamesWithin s.logged.knows (Decides e)
-names_later i w s b (Landed unit n) blank plain may = (get_whole (known s.logged (suc unit)) (log_of w (suc unit)) n may.new.logged may.new.is_known).1
-names_later i w s b (Lost unit n) blank plain may = absurd (cc)
-names_later i w s b (ResetDone unit n) blank plain may = no_reset i w s unit n blank may
-names_later i w s b (Begin x) blank plain may = tt
-names_later i w s b (Take entry mark) blank plain may = tt
-names_later i w s b (Open line start) blank plain may = tt
-names_later i w s b (Place stripe) blank plain may = tt
-names_later i w s b (Again unit n) blank plain may = tt
-names_later i w s b (Free line) blank plain may = tt
+names_later : (i : Image) (w : World) (s : Step) (b : Begun) (e : EngineEvent) → IsPlainWorld i w → is_plain_decision e ≡ true → IsDecision i (prefixes s.logged (log_of w)) b e → NamesWithin s.logged.knows (Decides e)
+names_later i w s b (Landed unit n) world plain may = (get_whole (known s.logged (suc unit)) (log_of w (suc unit)) n may.new.logged may.new.is_known).1
+names_later i w s b (Lost unit n) world plain may = absurd (cc)
+names_later i w s b (ResetDone unit n) world plain may = (get_whole (known s.logged (suc unit)) (log_of w (suc unit)) n may.new.logged may.new.is_known).1
+names_later i w s b (Begin x) world plain may = tt
+names_later i w s b (Take entry mark) world plain may = tt
+names_later i w s b (Open line start) world plain may = tt
+names_later i w s b (Place stripe) world plain may = tt
+names_later i w s b (Again unit n) world plain may = tt
+names_later i w s b (Free line) world plain may = tt
 
-names_by : (i : Image) (s : Step) (w : World) → IsBlankWorld i (s ∷ w) → AreWithin (log_of w 0) → IsSomeones i s w → AreWithin (log_of (s ∷ w) 0)
-names_by i s w blank h (inr (unit, e)) = subst AreWithin (sym (log_elsewhere s w 0 (λ a. let no : suc unit ≡ 0 = sym e.author ∙ a in absurd (omega arith)))) h
-names_by i s w blank h (inl e) =
+names_by : (i : Image) (s : Step) (w : World) → IsPlainWorld i (s ∷ w) → AreWithin (log_of w 0) → IsSomeones i s w → AreWithin (log_of (s ∷ w) 0)
+names_by i s w plain h (inr (unit, e)) = subst AreWithin (sym (log_elsewhere s w 0 (λ a. let no : suc unit ≡ 0 = sym e.author ∙ a in absurd (omega arith)))) h
+names_by i s w plain h (inl e) =
     subst AreWithin (sym (log_here s w 0 e.author)) (with_last (λ l. NamesWithin l.knows l.event) (log_of w 0) s.logged h (subst (NamesWithin s.logged.knows) (sym e.is_event) (go (decided i (prefixes s.logged (log_of w)) e.event e.allowed))))
   where
     go : IsFirst i (prefixes s.logged (log_of w)) e.event ⊎ IsLater i (prefixes s.logged (log_of w)) e.event → NamesWithin s.logged.knows (Decides e.event)
     go (inl f) = subst (λ ev. NamesWithin s.logged.knows (Decides ev)) (sym f.1) tt
-    go (inr l) = names_later i w s l.0 e.event (blank_tail i s w blank) e.plain l.2
+    go (inr l) = names_later i w s l.0 e.event (plain_tail i s w plain) e.plain l.2
 
-names : (i : Image) (w : World) → IsBlankWorld i w → AreWithin (log_of w 0)
-names i [] blank = tt
-names i (s ∷ w) blank = names_by i s w blank (names i w (blank_tail i s w blank)) (someones i s w blank)
+names : (i : Image) (w : World) → IsPlainWorld i w → AreWithin (log_of w 0)
+names i [] plain = tt
+names i (s ∷ w) plain = names_by i s w plain (names i w (plain_tail i s w plain)) (whose i s w plain)
 
 -- ---- what is told by a prefix that has all of them
 
-get_taken : {X : Type 0} (n : ℕ) (xs : List X) (k : ℕ) → k < n → slice_get (take n xs) k ≡ slice_get xs k
-get_taken zero xs k h = absurd (omega arith)
-get_taken (suc n) [] k h = refl
-get_taken (suc n) (x ∷ xs) zero h = refl
-get_taken (suc n) (x ∷ xs) (suc k) h = get_taken n xs k (omega arith)
+told_if : (own : List Logged) (m unit other n : ℕ) (knows : List ℕ) → n < slice_index knows (suc other) → slice_index knows (suc unit) ≤ m → (b : Bool) → nat_eq other unit ≡ b
+    → (if b then option_and_then (λ (l : Logged). unit_event_of l.event) (slice_get (take m own) n) else None) ≡ (if b then option_and_then (λ (l : Logged). unit_event_of l.event) (slice_get own n) else None)
+told_if own m unit other n knows within few true e =
+    let here : n < slice_index knows (suc unit) = subst (λ u. n < slice_index knows (suc u)) (eqb-true other unit e) within in
+    ap (λ o. option_and_then (λ (l : Logged). unit_event_of l.event) o) (get_taken m own n (omega arith))
+told_if own m unit other n knows within few false e = refl
 
 told_one : (own : List Logged) (m unit : ℕ) (knows : List ℕ) (e : Event) → NamesWithin knows e → slice_index knows (suc unit) ≤ m → told_by (λ a. take m own) unit e ≡ told_by (λ a. own) unit e
-told_one own m unit knows (Decides (Landed other n)) within few = by (nat_eq other unit) refl
-  where
-    by : (b : Bool) → nat_eq other unit ≡ b
-        → (if b then option_and_then (λ (l : Logged). unit_event_of l.event) (slice_get (take m own) n) else None) ≡ (if b then option_and_then (λ (l : Logged). unit_event_of l.event) (slice_get own n) else None)
-    by true e =
-        let here : n < slice_index knows (suc unit) = subst (λ u. n < slice_index knows (suc u)) (eqb-true other unit e) within in
-        ap (λ o. option_and_then (λ (l : Logged). unit_event_of l.event) o) (get_taken m own n (omega arith))
-    by false e = refl
+told_one own m unit knows (Decides (Landed other n)) within few = told_if own m unit other n knows within few (nat_eq other unit) refl
 told_one own m unit knows (Decides (Lost other n)) within few = absurd within
-told_one own m unit knows (Decides (ResetDone other n)) within few = absurd within
+told_one own m unit knows (Decides (ResetDone other n)) within few = told_if own m unit other n knows within few (nat_eq other unit) refl
 told_one own m unit knows e within few = refl
 
 told_all : (own : List Logged) (m unit : ℕ) (log : List Logged) → AreWithin log → AllByRecursion (λ l. known l (suc unit) ≤ m) log → told log (take m own) unit ≡ told log own unit
@@ -109,7 +103,7 @@ begun_first (l ∷ log) b e = (l, refl, by l.event e)
 
 -- ---- the law
 
-module _ (i : Image) (s : Step) (w : World) (blank : IsBlankWorld i (s ∷ w)) (author : s.author ≡ 0) where
+module _ (i : Image) (s : Step) (w : World) (plain : IsPlainWorld i (s ∷ w)) (author : s.author ≡ 0) where
   abbrev logs : Logs
   logs = prefixes s.logged (log_of w)
 
@@ -117,11 +111,11 @@ module _ (i : Image) (s : Step) (w : World) (blank : IsBlankWorld i (s ∷ w)) (
   rising : (k other : ℕ) (l : Logged) → slice_get (log_of w 0) k ≡ Some l → known l other ≤ known s.logged other
   unfolding IsLegal
   rising k other l there =
-      let step : IsLegalStep i (log_of w) s = blank.plain.legal.0 in
+      let step : IsLegalStep i (log_of w) s = plain.legal.0 in
       step.knowledge.rising l other (subst (λ a. Contains (log_of w a) l) (sym author) (is_in (log_of w 0) k l there))
 
   own : logs 0 ≡ log_of w 0
-  own = go (someones i s w blank)
+  own = go (whose i s w plain)
     where
       go : IsSomeones i s w → logs 0 ≡ log_of w 0
       go (inl e) = e.own
@@ -131,11 +125,11 @@ module _ (i : Image) (s : Step) (w : World) (blank : IsBlankWorld i (s ∷ w)) (
   told_same unit =
       told_are logs unit
       ∙ ap (λ (log : List Logged). told log (logs (suc unit)) unit) own
-      ∙ told_all (log_of w (suc unit)) (known s.logged (suc unit)) unit (log_of w 0) (names i w (blank_tail i s w blank))
+      ∙ told_all (log_of w (suc unit)) (known s.logged (suc unit)) unit (log_of w 0) (names i w (plain_tail i s w plain))
       (all_by_get (λ l. known l (suc unit) ≤ known s.logged (suc unit)) (log_of w 0) (λ k l there. rising k (suc unit) l there))
       ∙ sym (told_are (log_of w) unit)
 
-  found_same : found_image i logs ≡ found_image i (log_of w)
+  pub found_same : found_image i logs ≡ found_image i (log_of w)
   found_same = ap (found_by i logs) (ap begun own) ∙ go (begun (log_of w 0)) refl
     where
       go : (o : Option Begun) → begun (log_of w 0) ≡ o → found_by i logs o ≡ found_by i (log_of w) o

@@ -1,5 +1,5 @@
 -- The stripes of a unit stand in the order in which they were placed, each at its turn.
-use Rattle.std.proofs.Common.{◌≡◌, ℕ, ◌+◌, ◌<◌, ◌≤◌, ◌==◌, zero, suc, nat_lt, Bool, true, false, cond, Some, None, Option, List, [], ◌∷◌, length, take, refl, ap, ◌∙◌, arith}
+use Rattle.std.proofs.Common.{◌≡◌, ℕ, ◌+◌, ◌<◌, ◌≤◌, ◌==◌, zero, suc, nat_lt, Bool, true, false, cond, Some, None, Option, List, [], ◌∷◌, length, take, refl, sym, ap, ◌∙◌, arith}
 use Rattle.std.specs.Prelude.{slice_get, ⊤}
 use Rattle.std.specs.List.{AllByRecursion, filter, filter_map, cons_option, enumerate_from}
 use Rattle.std.proofs.lemmas.Option.{same_Some, none-some}
@@ -9,6 +9,7 @@ use Rattle.core_laws.proofs.Lists.{all_at, all_filter, filter_none}
 use Rattle.core_laws.proofs.Engine.{placed_number}
 use Rattle.core_laws.proofs.Placing.{is_below, not_below, weaker}
 use Rattle.core_laws.proofs.Turns.{filtered_is}
+use Rattle.media_laws.specs.Standing.{stripes_in}
 
 abbrev Rises : List Placed → Type 0
 Rises [] = ⊤
@@ -85,3 +86,27 @@ firsts_from number a (suc n) m (x ∷ xs) is at =
 
 pub firsts_are : (log : List Logged) (unit n : ℕ) → filter (λ (p : Placed). nat_lt (turn log p) n) (placed_on log unit) ≡ take n (placed_on log unit)
 firsts_are log unit n = firsts_from (turn log) 0 n n (placed_on log unit) (omega arith) (λ k p e. turn_at log unit k p e ∙ (let same : k ≡ 0 + k = omega arith in same))
+
+-- ---- the stripes of a line on a unit
+
+pub filters_swap : {X : Type 0} (f g : X → Bool) (xs : List X) → filter f (filter g xs) ≡ filter g (filter f xs)
+filters_swap f g [] = refl
+filters_swap {X} f g (x ∷ xs) = by (f x) (g x) refl refl (filters_swap f g xs)
+  where
+    by : (a b : Bool) → f x ≡ a → g x ≡ b → filter f (filter g xs) ≡ filter g (filter f xs)
+        → filter f (cond b (x ∷ filter g xs) (filter g xs)) ≡ filter g (cond a (x ∷ filter f xs) (filter f xs))
+    by true true p q rest = ap (λ c. cond c (x ∷ filter f (filter g xs)) (filter f (filter g xs))) p ∙ ap (λ ys. x ∷ ys) rest ∙ ap (λ c. cond c (x ∷ filter g (filter f xs)) (filter g (filter f xs))) (sym q)
+    by true false p q rest = rest ∙ ap (λ c. cond c (x ∷ filter g (filter f xs)) (filter g (filter f xs))) (sym q)
+    by false true p q rest = ap (λ c. cond c (x ∷ filter f (filter g xs)) (filter f (filter g xs))) p ∙ rest
+    by false false p q rest = rest
+
+-- the first n stripes of a unit, of those in a line
+pub stripes_first : (log : List Logged) (unit line n : ℕ) → filter (λ (p : Placed). p.stripe.line == line) (take n (placed_on log unit))
+    ≡ filter (λ (p : Placed). nat_lt (turn log p) n) (filter (λ (p : Placed). p.stripe.unit == unit) (stripes_in log line))
+stripes_first log unit line n =
+    ap (filter (λ (p : Placed). p.stripe.line == line)) (sym (firsts_are log unit n))
+    ∙ filters_swap (λ (p : Placed). p.stripe.line == line) (λ (p : Placed). nat_lt (turn log p) n) (placed_on log unit)
+    ∙ ap (filter (λ (p : Placed). nat_lt (turn log p) n)) (filters_swap (λ (p : Placed). p.stripe.line == line) (λ (p : Placed). p.stripe.unit == unit) (placements log))
+
+abbrev pub stripes_at : List Logged → ℕ → ℕ → List Placed
+stripes_at log line unit = filter (λ p. p.stripe.unit == unit) (stripes_in log line)

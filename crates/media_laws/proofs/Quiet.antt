@@ -1,7 +1,7 @@
 -- On a drive that was blank, where nothing fails, units only read before the mount begins, and nothing is reset.
 use Rattle.std.proofs.Common.{◌≡◌, ℕ, ◌+◌, ◌<◌, ◌≤◌, ◌⊎◌, ◌==◌, zero, suc, Bool, true, false, Some, None, Option, List, [], ◌∷◌, ◌++◌, length, take, refl, sym, subst, ap, ◌∙◌, arith, if◌then◌else◌, inl, inr, length-append}
 use Rattle.std.specs.Prelude.{⊤, slice_get}
-use Rattle.std.specs.List.{AllByRecursion, Contains, fold, enumerate_from, filter_map}
+use Rattle.std.specs.List.{AllByRecursion, Contains, filter_map}
 use Rattle.std.specs.Option.{option_map, option_map_or, IfSome}
 use Rattle.std.proofs.lemmas.Option.{same_Some, none-some}
 use Rattle.pblk_model.specs.declared.shape.Shape.{Shape}
@@ -10,30 +10,19 @@ use Rattle.pblk_model.specs.Chunk.{Chunk, Block, free_chunk}
 use Rattle.pblk_model.specs.ChunkStep.{ChunkCommand, Write, Read, Reset, Done, Gave, Empty, Refused}
 use Rattle.pblk_model.specs.UnitLog.{UnitOutcome, Answered, Failed, Stopped, UnitEvent, IsOutcome, after_outcome, after_log}
 use Rattle.pblk_model.specs.Image.{Image}
-use Rattle.pblk_world.specs.Events.{EngineEvent, Begin, Open, Free, Event, Decides, Does, Beginning, Logged, Step}
+use Rattle.pblk_world.specs.Events.{Begin, Event, Decides, Does, Beginning, Logged, Step}
 use Rattle.pblk_world.specs.World.{World, Logs, log_of, known, prefixes, knows_engine, media, unit_events, unit_event_of}
-use Rattle.pblk_world.specs.EngineLog.{Begun, begun, LineLife, AsFound, Opened, Freed, life_of, turned, turned_by}
+use Rattle.pblk_world.specs.EngineLog.{Begun, begun, LineLife, AsFound, Opened, Freed, life_of}
 use Rattle.pblk_world.specs.Lines.{is_given_up, is_given_up_by, strays_of, stray_lines}
 use Rattle.pblk_world.specs.Victims.{is_freed}
-use Rattle.pblk_world.specs.Opening.{MayBegin}
 use Rattle.pblk_world.specs.Commanding.{MayDo, IsCommand}
-use Rattle.pblk_world.specs.Legal.{IsLegal, IsLegalStep, IsDecision, MayDecide}
-use Rattle.core_laws.specs.PlainWorlds.{is_plain_outcome, is_plain_event, ArePlain, IsBlankWorld}
+use Rattle.pblk_world.specs.Legal.{IsLegal, IsLegalStep}
+use Rattle.core_laws.specs.PlainWorlds.{is_plain_outcome, is_plain_event, IsBlankWorld}
 use Rattle.pblk_laws.proofs.Lists.{all_take, all_at, all_filter_map, all_by_get}
 use Rattle.media_laws.proofs.Steps.{log_here, log_elsewhere, with_last, blank_tail, IsEngines, IsUnits, IsSomeones, someones, known_within}
+pub use Rattle.media_laws.proofs.Decisions.{IsFirst, IsLater, decided, begun_stays, begun_before, never_freed, first_begins}
+use Rattle.media_laws.proofs.Decisions.{no_strays_before}
 use Rattle.media_laws.proofs.Images.{is_in, media_at, media_all, keep_log, AreFree, no_strays}
-
--- ---- decisions
-
-abbrev pub IsLater : Image → Logs → EngineEvent → Type 0
-IsLater i logs e = (beginning : Begun) × (begun (logs 0) ≡ Some beginning) × IsDecision i logs beginning e
-
-abbrev pub IsFirst : Image → Logs → EngineEvent → Type 0
-IsFirst i logs e = (b : Beginning) × (e ≡ Begin b) × MayBegin i logs b
-
-pub decided : (i : Image) (logs : Logs) (e : EngineEvent) → MayDecide i logs e → IsFirst i logs e ⊎ IsLater i logs e
-decided i logs (Begin b) h = inl (b, refl, h)
-decided i logs e h = inr h
 
 -- ---- events of units
 
@@ -97,37 +86,9 @@ all_reads log good within = all_filter_map IsRead (λ l. IfSome (unit_event_of l
 pub still_free : (i : Image) (logs : Logs) → AreFree i → ((unit : ℕ) → AllByRecursion IsRead (unit_events logs unit)) → AreFree (media i logs)
 still_free i logs free reads = media_all (λ c. c ≡ free_chunk) IsRead i logs (λ e c h same. read_keeps i.shape c e.command e.outcome h same) reads free
 
--- ---- the beginning
+-- ---- strays
 
-pub begun_stays : (log : List Logged) (l : Logged) (b : Begun) → begun log ≡ Some b → begun (log ++ l ∷ []) ≡ begun log
-begun_stays [] l b e = absurd (none-some b e)
-begun_stays (m ∷ log) l b e = refl
-
-no_strays_before : (n : ℕ) (log : List Logged) → strays_of log ≡ [] → strays_of (take n log) ≡ []
-no_strays_before zero log e = refl
-no_strays_before (suc n) [] e = e
-no_strays_before (suc n) (l ∷ log) e = e
-
-pub begun_before : (n : ℕ) (log : List Logged) → begun (take n log) ≡ None → (begun log ≡ None → log ≡ []) → n ≤ length log → n ≤ 0
-begun_before zero log e says within = omega arith
-begun_before (suc n) [] e says within = absurd (omega arith)
-begun_before (suc n) (l ∷ log) e says within = let none : l ∷ log ≡ [] = says e in absurd (cc)
-
--- ---- nothing is freed
-
-turned_unfreed : (line : ℕ) (life : LineLife) (k : ℕ) (knows : List ℕ) (e : Event) → is_plain_event e ≡ true → is_freed life ≡ false → is_freed (turned_by line life k knows e) ≡ false
-turned_unfreed line life k knows (Decides (Open other start)) plain h = elim (other == line) as (λ b. is_freed (if b then Opened (record { number = k; line = line; start = start; knows = knows }) else life) ≡ false) [ true ↦ refl | false ↦ h ]
-turned_unfreed line life k knows (Decides (Free other)) plain h = absurd (cc)
-turned_unfreed line life k knows e plain h = h
-
-lives_unfreed : (line k : ℕ) (log : List Logged) (life : LineLife) → ArePlain log → is_freed life ≡ false → is_freed (fold (turned line) life (enumerate_from k log)) ≡ false
-lives_unfreed line k [] life plain h = h
-lives_unfreed line k (l ∷ log) life plain h = lives_unfreed line (k + 1) log (turned_by line life k l.knows l.event) plain.1 (turned_unfreed line life k l.knows l.event plain.0 h)
-
-pub never_freed : (log : List Logged) (line : ℕ) → ArePlain log → is_freed (life_of log line) ≡ false
-never_freed log line plain = lives_unfreed line 0 log AsFound plain refl
-
-kept_by : (strays : List ℕ) (line : ℕ) (life : LineLife) → strays ≡ [] → is_freed life ≡ false → is_given_up_by strays line life ≡ false
+pub kept_by : (strays : List ℕ) (line : ℕ) (life : LineLife) → strays ≡ [] → is_freed life ≡ false → is_given_up_by strays line life ≡ false
 kept_by strays line AsFound none h = ap (λ xs. is_given_up_by xs line AsFound) none
 kept_by strays line (Opened o) none h = refl
 kept_by strays line (Freed was knows) none h = absurd (cc)
@@ -148,12 +109,6 @@ more_within m n more (l ∷ log) h = (let here : knows_engine l ≤ m = h.0 in o
 
 engine_begins : (log : List Logged) (l : Logged) (beginning : Begun) → begun log ≡ Some beginning → begun (log ++ l ∷ []) ≡ None → log ++ l ∷ [] ≡ []
 engine_begins log l beginning is none = absurd (none-some beginning (sym none ∙ begun_stays log l beginning is ∙ is))
-
-pub first_begins : (l : Logged) (b : Beginning) → l.event ≡ Decides (Begin b) → begun (l ∷ []) ≡ Some (record { beginning = b; knows = l.knows })
-first_begins l b e = ap (λ ev. begun_event l.knows ev) e
-  where
-    begun_event : List ℕ → Event → Option Begun
-    begun_event knows ev = begun (record { event = ev; knows = knows } ∷ [])
 
 quiet_first : (i : Image) (s : Step) (w : World) (b : Beginning) → AreFree i → IsQuiet i w → (log_of w 0 ≡ []) → s.logged.event ≡ Decides (Begin b) → b.strays ≡ stray_lines (media i (prefixes s.logged (log_of w)))
     → (begun (log_of w 0 ++ s.logged ∷ []) ≡ None → log_of w 0 ++ s.logged ∷ [] ≡ []) × (strays_of (log_of w 0 ++ s.logged ∷ []) ≡ [])

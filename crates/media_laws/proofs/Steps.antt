@@ -1,4 +1,4 @@
--- A step of a world in which nothing fails on a drive that was blank: whose it is, and what it may be.
+-- A step of a world in which nothing fails: whose it is, and what it may be.
 use Rattle.std.proofs.Common.{◌≡◌, ◌≢◌, ℕ, ◌<◌, ◌≤◌, ◌⊎◌, ◌==◌, zero, suc, Bool, true, false, List, [], ◌∷◌, ◌++◌, length, take, refl, subst, ap, ◌∙◌, arith, if◌then◌else◌, inl, inr}
 use Rattle.std.specs.List.{AllByRecursion}
 use Rattle.std.proofs.Math.Seq.{take-length}
@@ -9,7 +9,7 @@ use Rattle.pblk_world.specs.Events.{EngineEvent, Event, Decides, Does, Maker, Lo
 use Rattle.pblk_world.specs.World.{World, log_of, known, prefixes}
 use Rattle.pblk_world.specs.Legal.{IsLegal, IsLegalStep, IsAllowed, MayDecide}
 use Rattle.pblk_world.specs.Commanding.{MayDo}
-use Rattle.core_laws.specs.PlainWorlds.{is_plain_decision, is_plain_outcome, is_plain_event, ArePlain, IsBlankWorld}
+use Rattle.core_laws.specs.PlainWorlds.{is_plain_decision, is_plain_outcome, is_plain_event, ArePlain, IsPlainWorld, IsBlankWorld}
 use Rattle.core_laws.proofs.Rows.{same_number, other_number}
 
 -- ---- an author's log after a step
@@ -38,18 +38,18 @@ tail_plain : (s : Step) (log : List Logged) (b : Bool) → ArePlain (if b then l
 tail_plain s log true h = first_of (λ (l : Logged). is_plain_event l.event ≡ true) log s.logged h
 tail_plain s log false h = h
 
-pub blank_tail : (i : Image) (s : Step) (w : World) → IsBlankWorld i (s ∷ w) → IsBlankWorld i w
+pub plain_tail : (i : Image) (s : Step) (w : World) → IsPlainWorld i (s ∷ w) → IsPlainWorld i w
 unfolding IsLegal
-blank_tail i s w h = record {
-  plain = record {
-    accepted = h.plain.accepted;
-    fit = h.plain.fit;
-    legal = h.plain.legal.1;
-    engine = tail_plain s (log_of w 0) (s.author == 0) h.plain.engine;
-    units = λ unit. tail_plain s (log_of w (suc unit)) (s.author == suc unit) (h.plain.units unit);
-  };
-  free = h.free;
+plain_tail i s w h = record {
+  accepted = h.accepted;
+  fit = h.fit;
+  legal = h.legal.1;
+  engine = tail_plain s (log_of w 0) (s.author == 0) h.engine;
+  units = λ unit. tail_plain s (log_of w (suc unit)) (s.author == suc unit) (h.units unit);
 }
+
+pub blank_tail : (i : Image) (s : Step) (w : World) → IsBlankWorld i (s ∷ w) → IsBlankWorld i w
+blank_tail i s w h = record { plain = plain_tail i s w h.plain; free = h.free }
 
 -- ---- whose a step is
 
@@ -90,17 +90,23 @@ by_event i s w (suc unit) (Decides e) author is plain range own allowed = absurd
 by_event i s w (suc unit) (Does e maker) author is plain range own allowed =
     inr (unit, record { author = author; event = e; maker = maker; is_event = is; plain = plain; own = own; allowed = allowed; in_range = omega arith })
 
-plain_by : (i : Image) (s : Step) (w : World) → IsBlankWorld i (s ∷ w) → (author : ℕ) → s.author ≡ author → ArePlain (log_of (s ∷ w) author)
-plain_by i s w h zero e = h.plain.engine
-plain_by i s w h (suc unit) e = h.plain.units unit
+plain_by : (i : Image) (s : Step) (w : World) → IsPlainWorld i (s ∷ w) → (author : ℕ) → s.author ≡ author → ArePlain (log_of (s ∷ w) author)
+plain_by i s w h zero e = h.engine
+plain_by i s w h (suc unit) e = h.units unit
 
-pub someones : (i : Image) (s : Step) (w : World) → IsBlankWorld i (s ∷ w) → IsSomeones i s w
+pub whose : (i : Image) (s : Step) (w : World) → IsPlainWorld i (s ∷ w) → IsSomeones i s w
 unfolding IsLegal
-someones i s w h =
-    let step : IsLegalStep i (log_of w) s = h.plain.legal.0 in
+whose i s w h =
+    let step : IsLegalStep i (log_of w) s = h.legal.0 in
     by_event i s w s.author s.logged.event refl refl (last_plain s w s.author refl (plain_by i s w h s.author refl)) step.author (whole_own i s w step) step.allowed
 
+pub someones : (i : Image) (s : Step) (w : World) → IsBlankWorld i (s ∷ w) → IsSomeones i s w
+someones i s w h = whose i s w h.plain
+
 -- what an event names is within the logs
-pub known_within : (i : Image) (s : Step) (w : World) → IsBlankWorld i (s ∷ w) → (other : ℕ) → known s.logged other ≤ length (log_of w other)
+pub named_within : (i : Image) (s : Step) (w : World) → IsPlainWorld i (s ∷ w) → (other : ℕ) → known s.logged other ≤ length (log_of w other)
 unfolding IsLegal
-known_within i s w h other = let step : IsLegalStep i (log_of w) s = h.plain.legal.0 in step.knowledge.within other
+named_within i s w h other = let step : IsLegalStep i (log_of w) s = h.legal.0 in step.knowledge.within other
+
+pub known_within : (i : Image) (s : Step) (w : World) → IsBlankWorld i (s ∷ w) → (other : ℕ) → known s.logged other ≤ length (log_of w other)
+known_within i s w h other = named_within i s w h.plain other

@@ -7,6 +7,6 @@ mod laws;
 
 pub use laws::{
     a_block_stands_at_its_address, a_chunk_has_its_stripes, a_landed_block_is_readable,
-    a_line_is_over_once_it_landed, other_chunks_are_free, stripes_follow_one_another,
-    the_engine_knows_its_image, the_next_program_is_taken,
+    a_line_is_over_once_it_landed, an_opened_line_has_its_units, other_chunks_stay,
+    stripes_follow_one_another, the_engine_knows_its_image, the_next_program_is_taken,
 };
