@@ -1,0 +1,7 @@
+pub mod Lists
+pub mod Begun
+pub mod Lines
+pub mod Sectors
+pub mod Units
+pub mod Older
+pub mod NothingYet

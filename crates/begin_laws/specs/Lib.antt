@@ -1,0 +1,3 @@
+pub mod JustBegun
+pub mod OnlineUnits
+pub mod OpeningTables

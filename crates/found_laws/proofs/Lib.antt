@@ -1,0 +1,11 @@
+pub mod Lists
+pub mod States
+pub mod Places
+pub mod Counting
+pub mod Rows
+pub mod Winners
+pub mod Fits
+pub mod Beginning
+pub mod Media
+pub mod Began
+pub mod OlderRows
