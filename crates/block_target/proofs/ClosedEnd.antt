@@ -16,7 +16,7 @@ use Rattle.media_laws.proofs.Found.{within_some}
 use Rattle.media_laws.proofs.Order.{turn_at}
 use Rattle.prefix_law.proofs.Among.{among_contained}
 use Rattle.prefix_law.proofs.Media.{none_left}
-use Rattle.prefix_law.proofs.Resting.{end_is_synced}
+use Rattle.prefix_law.proofs.Blank.{end_is_synced}
 use Rattle.pblk_core.specs.Filling.{Filling}
 use Rattle.pblk_core.specs.declared.target_core.Core.{Core}
 use Rattle.block_target.specs.Mount.{MountView, IsMount, engine_log, logs_in, synced_in, world_in}

@@ -11,8 +11,8 @@ use Rattle.pblk_model.specs.Image.{blank}
 use Rattle.pblk_world.specs.EngineLog.{Taken, takes}
 use Rattle.pblk_world.specs.Fronts.{first_position, is_users, user_takes, user_positions}
 use Rattle.pblk_world.proofs.SyncedFront.{synced_within}
-use Rattle.prefix_law.proofs.Starting.{from_zero}
-use Rattle.prefix_law.proofs.Taking.{IsUsers, all_users, users_all, count_users}
+use Rattle.prefix_law.proofs.Taking.{IsUsers}
+use Rattle.prefix_law.proofs.Blank.{from_zero, all_users, users_all, count_users}
 use Rattle.block_port.specs.declared.rows.WornAnswer.{WornAnswer}
 use Rattle.block_port.specs.Own.{PlacedSector, lines_of}
 use Rattle.block_port.specs.Port.{IsSameTarget, Learns, IsFront, IsSeen, positions}

@@ -17,7 +17,7 @@ use Rattle.core_laws.specs.PlainWorlds.{IsBlankWorld, ArePlain, is_plain_decisio
 use Rattle.core_laws.specs.Stepping.{after}
 use Rattle.core_laws.proofs.Numbering.{first_stays}
 use Rattle.prefix_law.proofs.Fronts.{synced_rises}
-use Rattle.prefix_law.proofs.Starting.{from_zero}
+use Rattle.prefix_law.proofs.Blank.{from_zero}
 use Rattle.step_laws.specs.Whole.{knows_all}
 use Rattle.step_laws.proofs.EngineSteps.{engine_next, engine_logs, media_still}
 use Rattle.block_target.specs.Deeds.{Deed, Decides, step_of, world_of}

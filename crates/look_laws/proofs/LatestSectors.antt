@@ -21,7 +21,8 @@ use Rattle.write_window.specs.Window.{WindowView, sector_at}
 use Rattle.core_laws.specs.WindowOf.{sectors_in, window_from}
 use Rattle.landing_laws.proofs.Cached.{IsCachedEntry, cached, last_is_among}
 use Rattle.landing_laws.proofs.Entries.{in_order, accepted_small}
-use Rattle.prefix_law.proofs.Taking.{IsUsers, all_users}
+use Rattle.prefix_law.proofs.Taking.{IsUsers}
+use Rattle.prefix_law.proofs.Blank.{all_users}
 use Rattle.look_laws.proofs.HeldSectors.{cached_held}
 use Rattle.landing_laws.proofs.Latest.{latest_sector, first_sector}
 use Rattle.look_laws.specs.SlotBlocks.{IsBlockOfSlot}

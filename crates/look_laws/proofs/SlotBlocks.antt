@@ -48,9 +48,10 @@ use Rattle.media_laws.proofs.Written.{programmed, standing_chunk, block_in_chunk
 use Rattle.media_laws.proofs.Readable.{stripes_on_are}
 use Rattle.media_laws.proofs.Standing.{landed_programmed, can_be_read}
 use Rattle.prefix_law.proofs.Fronts.{both_true}
-use Rattle.prefix_law.proofs.Taking.{IsUsers, all_users}
-use Rattle.prefix_law.proofs.Media.{IsWritten, line_opened}
-use Rattle.prefix_law.proofs.Ends.{IsData, data_block}
+use Rattle.prefix_law.proofs.Taking.{IsUsers}
+use Rattle.prefix_law.proofs.Media.{IsWritten}
+use Rattle.prefix_law.proofs.Ends.{IsData}
+use Rattle.prefix_law.proofs.Blank.{all_users, line_opened, data_block}
 use Rattle.look_laws.specs.SlotBlocks.{IsBlockOfSlot}
 use Rattle.look_laws.proofs.LatestSectors.{last_taken}
 use Rattle.look_laws.proofs.ReadBlocks.{IsReadIn, IsOnDrive, on_drive}

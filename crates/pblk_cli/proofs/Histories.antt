@@ -7,9 +7,7 @@ use Rattle.pblk_model.specs.History.{SectorWrite, users}
 use Rattle.pblk_model.specs.Image.{blank}
 use Rattle.pblk_world.specs.EngineLog.{Taken, takes}
 use Rattle.pblk_world.specs.Fronts.{first_position, history, user_takes}
-use Rattle.prefix_law.proofs.Prefix.{prefix}
-use Rattle.prefix_law.proofs.Starting.{from_zero}
-use Rattle.prefix_law.proofs.Taking.{all_users, count_users, users_all}
+use Rattle.prefix_law.proofs.Blank.{from_zero, all_users, users_all, count_users, prefix}
 use Rattle.block_port.specs.Own.{PlacedSector}
 use Rattle.block_port.specs.Port.{positions}
 use Rattle.block_target.specs.Mount.{MountView, IsSound, engine_log, synced_in, taken_in, world_in}

@@ -23,10 +23,7 @@ use Rattle.pblk_world.specs.Fronts.{first_position, history, user_positions}
 use Rattle.core_laws.specs.PlainWorlds.{IsBlankWorld}
 use Rattle.unit_port.specs.Unit.{IsFitUnit, ModelUnit}
 use Rattle.prefix_law.proofs.Histories.{by_elements}
-use Rattle.prefix_law.proofs.Prefix.{prefix}
-use Rattle.prefix_law.proofs.Sealed.{sealed}
-use Rattle.prefix_law.proofs.Starting.{from_zero}
-use Rattle.prefix_law.proofs.Taking.{count_users}
+use Rattle.prefix_law.proofs.Blank.{from_zero, count_users, prefix, sealed}
 use Rattle.ocssd_drive.specs.Drive.{DriveView, IsWhole, shape_of, stored, with_units}
 use Rattle.ocssd_drive.specs.Units.{IsUnitOf, WornUnit}
 use Rattle.block_target.specs.Mount.{IsSound, IsUnitIn, MountView, engine_log, logs_in, taken_in, world_in}

@@ -23,9 +23,10 @@ use Rattle.media_laws.specs.Standing.{stripes_in}
 use Rattle.media_laws.proofs.Lives.{lived, stripes_same}
 use Rattle.pblk_laws.proofs.Lists.{all_take}
 use Rattle.pblk_laws.proofs.MarkNames.{pad_none, meta_none}
-use Rattle.prefix_law.proofs.Filling.{IsFilled, IsOfTaken, filled}
+use Rattle.prefix_law.proofs.Filling.{IsFilled, IsOfTaken}
 use Rattle.prefix_law.proofs.Media.{cut_marks}
-use Rattle.prefix_law.proofs.Taking.{IsUsers, all_users}
+use Rattle.prefix_law.proofs.Taking.{IsUsers}
+use Rattle.prefix_law.proofs.Blank.{all_users, filled}
 use Rattle.pblk_core.specs.Stands.{IsOpenLine}
 use Rattle.pblk_core.specs.declared.open_lines.OpenLine.{OpenLine}
 use Rattle.pblk_core.proofs.LandedReads.{IsChunkRead}

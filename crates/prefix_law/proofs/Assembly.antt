@@ -42,7 +42,7 @@ filtered_into {X} f (x ∷ xs) r there is = by (f x) refl (contains_cases x r xs
 lt_true : (m n : ℕ) → nat_lt m n ≡ true → m < n
 lt_true m n h = grind arith
 
-true_lt : (m n : ℕ) → m < n → nat_lt m n ≡ true
+pub true_lt : (m n : ℕ) → m < n → nat_lt m n ≡ true
 true_lt m n h = by (nat_lt m n) refl
   where
     by : (b : Bool) → nat_lt m n ≡ b → b ≡ true
@@ -52,7 +52,7 @@ true_lt m n h = by (nat_lt m n) refl
 le_true : (m n : ℕ) → nat_le m n ≡ true → m ≤ n
 le_true m n h = grind arith
 
-true_le : (m n : ℕ) → m ≤ n → nat_le m n ≡ true
+pub true_le : (m n : ℕ) → m ≤ n → nat_le m n ≡ true
 true_le m n h = by (nat_le m n) refl
   where
     by : (b : Bool) → nat_le m n ≡ b → b ≡ true
@@ -76,20 +76,20 @@ or_second true b e = refl
 or_second false b e = e
 
 -- of the head's mount and below the end, or by a row
-abbrev CountsBy : StartRecord → ℕ → Record → Type 0
+abbrev pub CountsBy : StartRecord → ℕ → Record → Type 0
 CountsBy h p r = ((h.first_seq ≤ r.seq) × (r.position < p)) ⊎ (by_row h r ≡ true)
 
-counts_by : (h : StartRecord) (p : ℕ) (r : Record) → counts h p r ≡ true → CountsBy h p r
+pub counts_by : (h : StartRecord) (p : ℕ) (r : Record) → counts h p r ≡ true → CountsBy h p r
 counts_by h p r is = elim (either (nat_le h.first_seq r.seq && nat_lt r.position p) (by_row h r) is) [
   | inl a ↦ let parts = both (nat_le h.first_seq r.seq) (nat_lt r.position p) a in inl (le_true h.first_seq r.seq parts.0, lt_true r.position p parts.1)
   | inr b ↦ inr b
 ]
 
-counts_young : (h : StartRecord) (p : ℕ) (r : Record) → h.first_seq ≤ r.seq → r.position < p → counts h p r ≡ true
+pub counts_young : (h : StartRecord) (p : ℕ) (r : Record) → h.first_seq ≤ r.seq → r.position < p → counts h p r ≡ true
 counts_young h p r mount below = or_first (nat_le h.first_seq r.seq && nat_lt r.position p) (by_row h r)
     (ap₂ (λ a b. a && b) (true_le h.first_seq r.seq mount) (true_lt r.position p below))
 
-counts_row : (h : StartRecord) (p : ℕ) (r : Record) → by_row h r ≡ true → counts h p r ≡ true
+pub counts_row : (h : StartRecord) (p : ℕ) (r : Record) → by_row h r ≡ true → counts h p r ≡ true
 counts_row h p r row = or_second (nat_le h.first_seq r.seq && nat_lt r.position p) (by_row h r) row
 
 module _ (i : Image) (h : StartRecord) (es : Entries) (front : ℕ) (under : ℕ → List ℕ) (is : IsAssembled i h es front under) where

@@ -26,18 +26,16 @@ use Rattle.pblk_world.specs.Placing.{MayPlace, IsStart, IsData, IsEnd, IsPad, ne
 use Rattle.pblk_world.specs.Legal.{IsDecision}
 use Rattle.pblk_world.proofs.Appending.{life_more, takes_more}
 use Rattle.pblk_world.proofs.Growing.{at_end}
-use Rattle.core_laws.specs.PlainWorlds.{is_plain_decision, ArePlain, IsBlankWorld}
+use Rattle.core_laws.specs.PlainWorlds.{is_plain_decision, ArePlain, IsPlainWorld}
 use Rattle.stripe_placer.proofs.Among.{IsAmong, from_filter}
 use Rattle.pblk_laws.proofs.Lists.{all_append, all_replicate, all_by_get}
 use Rattle.media_laws.specs.Standing.{stripes_in}
-use Rattle.media_laws.proofs.Steps.{log_here, log_elsewhere, blank_tail, IsSomeones, someones}
-use Rattle.media_laws.proofs.Quiet.{IsFirst, IsLater, decided}
-use Rattle.media_laws.proofs.Found.{within_some}
-use Rattle.media_laws.proofs.Lives.{lived, stripes_same, none_failed, placed_is, same_logged, opened_by_event, opening_is, free_unopened, and_left, and_right}
-use Rattle.media_laws.proofs.Places.{placed, stripes_more}
-use Rattle.media_laws.proofs.Programs.{get_more, get_whole}
-use Rattle.media_laws.proofs.Columns.{blocks_count}
-use Rattle.media_laws.proofs.Standing.{none_in}
+use Rattle.media_laws.proofs.Steps.{log_here, log_elsewhere, plain_tail, IsSomeones, whose}
+use Rattle.media_laws.proofs.Decisions.{IsFirst, IsLater, decided}
+use Rattle.media_laws.proofs.Growing.{within_some, get_more, get_whole}
+use Rattle.media_laws.proofs.LineLives.{all_living, stripes_same, none_failed, placed_is, same_logged, opened_by_event, opening_is, free_unopened, and_left, and_right}
+use Rattle.media_laws.proofs.LinePlaces.{placed_in, stripe_opened, stripes_more}
+use Rattle.media_laws.proofs.LineColumns.{blocks_count}
 use Rattle.prefix_law.proofs.Fronts.{landed_stays}
 
 -- ---- the blocks of an end record, by the stripes of its line
@@ -170,9 +168,20 @@ start_whole s some =
 some_same : (a b : Opening) → Opened a ≡ Opened b → a ≡ b
 some_same a b e = cc
 
+-- a line that isn't opened has no stripe
+pub none_in : (i : Image) (w : World) (line : ℕ) → IsPlainWorld i w → is_opened (life_of (log_of w 0) line) ≡ false → stripes_in (log_of w 0) line ≡ []
+none_in i w line world none = by (stripes_in (log_of w 0) line) refl
+  where
+    true_false : true ≡ false → ⊥
+    true_false q = cc
+
+    by : (ps : List Placed) → stripes_in (log_of w 0) line ≡ ps → ps ≡ []
+    by [] e = refl
+    by (p ∷ ps) e = absurd (true_false (sym (stripe_opened i w line 0 p world (ap (λ qs. slice_get qs 0) e)) ∙ none))
+
 -- ---- one more event
 
-module _ (i : Image) (w : World) (logs : Logs) (b : Begun) (e : EngineEvent) (knows : List ℕ) (blank : IsBlankWorld i w) (own : logs 0 ≡ log_of w 0) (plain : is_plain_decision e ≡ true)
+module _ (i : Image) (w : World) (logs : Logs) (b : Begun) (e : EngineEvent) (knows : List ℕ) (world : IsPlainWorld i w) (own : logs 0 ≡ log_of w 0) (plain : is_plain_decision e ≡ true)
     (plains : ArePlain (log_of w 0 ++ record { event = Decides e; knows = knows } ∷ [])) (may : IsDecision i logs b e) (h : AreFilled i.shape (log_of w 0)) where
   abbrev log : List Logged
   log = log_of w 0
@@ -187,11 +196,11 @@ module _ (i : Image) (w : World) (logs : Logs) (b : Begun) (e : EngineEvent) (kn
   landed_later line k (q, there, landed) = (
     q,
     ap (λ ps. slice_get ps k) (stripes_more log new line) ∙ get_more (stripes_in log line) (added line) k q there,
-    landed_stays log new q plains blank.plain.engine (from_filter (λ (p : Placed). p.stripe.line == line) (placements log) q (k, there)) landed,
+    landed_stays log new q plains world.engine (from_filter (λ (p : Placed). p.stripe.line == line) (placements log) q (k, there)) landed,
   )
 
   line_blocks : (line : ℕ) → length (flat_map (λ (p : Placed). p.stripe.blocks) (stripes_in log line)) ≡ length (stripes_in log line) * i.shape.ws_opt
-  line_blocks line = blocks_count i.shape.ws_opt (stripes_in log line) (all_by_get (λ (p : Placed). length p.stripe.blocks ≡ i.shape.ws_opt) (stripes_in log line) (λ j p there. (placed i w blank line j p there).count))
+  line_blocks line = blocks_count i.shape.ws_opt (stripes_in log line) (all_by_get (λ (p : Placed). length p.stripe.blocks ≡ i.shape.ws_opt) (stripes_in log line) (λ j p there. (placed_in i w world line j p there).count))
 
   end_same : (line j : ℕ) (o : Opening) → j ≤ length (stripes_in log line) → end_address i.shape o ≤ j * i.shape.ws_opt → end_with i.shape o (stripes_in (log ++ new ∷ []) line) ≡ end_with i.shape o (stripes_in log line)
   end_same line j o inside past =
@@ -222,7 +231,7 @@ module _ (i : Image) (w : World) (logs : Logs) (b : Begun) (e : EngineEvent) (kn
       same_o = some_same place.opening o (sym place.is_open ∙ ap (λ (xs : List Logged). life_of xs stripe.line) own ∙ ap (life_of log) mine ∙ life)
 
       count : length (stripes_of (logs 0) place.opening) ≡ length (stripes_in log line)
-      count = ap₂ (λ (xs : List Logged) (x : Opening). length (stripes_of xs x)) own same_o ∙ ap length (stripes_same log line o (lived i w blank).lives life)
+      count = ap₂ (λ (xs : List Logged) (x : Opening). length (stripes_of xs x)) own same_o ∙ ap length (stripes_same log line o (all_living i w world) life)
 
       next : next_address i.shape (logs 0) place.opening ≡ length (stripes_in log line) * i.shape.ws_opt
       next = ap (λ n. n * i.shape.ws_opt) count
@@ -231,13 +240,13 @@ module _ (i : Image) (w : World) (logs : Logs) (b : Begun) (e : EngineEvent) (kn
       ends = ap (end_address i.shape) same_o
 
       stripes : 0 < i.shape.ws_opt
-      stripes = blank.plain.accepted.drive.ws_opt
+      stripes = world.accepted.drive.ws_opt
 
       whole : start_len i.shape ≡ start_stripes i.shape * i.shape.ws_opt
       whole = start_whole i.shape stripes
 
       landed : (n : ℕ) → have_landed (logs 0) place.opening n ≡ true → start_stripes i.shape ≤ n → HasStart i.shape (log ++ new ∷ []) line (length (stripes_in log line))
-      landed n have enough past k below = landed_later line k (each_landed log line o n k (stripes_same log line o (lived i w blank).lives life)
+      landed n have enough past k below = landed_later line k (each_landed log line o n k (stripes_same log line o (all_living i w world) life)
           (subst₂ (λ (xs : List Logged) (x : Opening). have_landed xs x n ≡ true) own same_o have) (omega arith))
 
       go : IsStart i logs place.opening stripe ⊎ (IsData i logs place.opening stripe ⊎ (IsEnd i logs place.opening stripe ⊎ IsPad i logs place.opening stripe)) → Now line (length (stripes_in log line)) o p
@@ -274,11 +283,11 @@ module _ (i : Image) (w : World) (logs : Logs) (b : Begun) (e : EngineEvent) (kn
               middle = λ _ low. absurd (omega (arith, past));
               last = λ _. ap (λ (x : Stripe). x.blocks) is ∙ last.blocks
                   ∙ ap₂ (λ (xs : List Logged) (x : Opening). stripe_at i.shape (end_blocks i.shape xs x) (end_address i.shape x) (next_address i.shape xs x)) own same_o
-                  ∙ ap₂ (λ (ps : List Placed) n. stripe_at i.shape (end_with i.shape o ps) (end_address i.shape o) (n * i.shape.ws_opt)) (stripes_same log line o (lived i w blank).lives life) (ap length (stripes_same log line o (lived i w blank).lives life))
+                  ∙ ap₂ (λ (ps : List Placed) n. stripe_at i.shape (end_with i.shape o ps) (end_address i.shape o) (n * i.shape.ws_opt)) (stripes_same log line o (all_living i w world) life) (ap length (stripes_same log line o (all_living i w world) life))
                   ∙ ap (λ bs. stripe_at i.shape bs (end_address i.shape o) (length (stripes_in log line) * i.shape.ws_opt)) (sym (end_same line (length (stripes_in log line)) o (omega arith) past));
             },
             landed (end_address i.shape place.opening / i.shape.ws_opt) last.data_landed more,
-            λ _ k below. landed_later line k (each_landed log line o (end_address i.shape place.opening / i.shape.ws_opt) k (stripes_same log line o (lived i w blank).lives life)
+            λ _ k below. landed_later line k (each_landed log line o (end_address i.shape place.opening / i.shape.ws_opt) k (stripes_same log line o (all_living i w world) life)
                 (subst₂ (λ (xs : List Logged) (x : Opening). have_landed xs x (end_address i.shape place.opening / i.shape.ws_opt) ≡ true) own same_o last.data_landed)
                 (subst (λ n. k < n / i.shape.ws_opt) (sym ends) below)),
           )
@@ -291,7 +300,7 @@ module _ (i : Image) (w : World) (logs : Logs) (b : Begun) (e : EngineEvent) (kn
               let less : k < n / i.shape.ws_opt + 1 = lt_of_mul-lt-mul_right i.shape.ws_opt below in
               omega arith
       go (inr (inr (inr pad))) =
-          let none : has_failed (logs 0) place.opening ≡ false = subst (λ (xs : List Logged). has_failed xs place.opening ≡ false) (sym own) (none_failed log place.opening blank.plain.engine) in
+          let none : has_failed (logs 0) place.opening ≡ false = subst (λ (xs : List Logged). has_failed xs place.opening ≡ false) (sym own) (none_failed log place.opening world.engine) in
           let some : has_failed (logs 0) place.opening ≡ true = pad.failed in
           absurd (cc)
 
@@ -299,7 +308,7 @@ module _ (i : Image) (w : World) (logs : Logs) (b : Begun) (e : EngineEvent) (kn
   opened_now : (line j : ℕ) (o : Opening) (p : Placed) (start : StartRecord) → e ≡ Open line start → slice_get (stripes_in (log ++ new ∷ []) line) j ≡ Some p → Now line j o p
   opened_now line j o p start is there =
       let unopened : is_opened (life_of log line) ≡ false = subst (λ (xs : List Logged). is_opened (life_of xs line) ≡ false) own (free_unopened i logs line (opening_is i logs b e line start may is).is_free) in
-      let none : stripes_in (log ++ new ∷ []) line ≡ [] = stripes_more log new line ∙ ap (λ ps. ps ++ added line) (none_in i w line blank unopened)
+      let none : stripes_in (log ++ new ∷ []) line ≡ [] = stripes_more log new line ∙ ap (λ ps. ps ++ added line) (none_in i w line world unopened)
       ∙ ap (λ (ev : EngineEvent). filter (λ (p : Placed). p.stripe.line == line) (option_to_list (placed_by log (length log) (Decides ev)))) is in
       absurd (none-some p (ap (λ ps. slice_get ps j) (sym none) ∙ there))
 
@@ -329,10 +338,10 @@ module _ (i : Image) (w : World) (logs : Logs) (b : Begun) (e : EngineEvent) (kn
 
 -- ---- the induction
 
-filled_by : (i : Image) (s : Step) (w : World) → IsBlankWorld i (s ∷ w) → AreFilled i.shape (log_of w 0) → IsSomeones i s w → AreFilled i.shape (log_of (s ∷ w) 0)
-filled_by i s w blank h (inr (unit, e)) =
+filled_by : (i : Image) (s : Step) (w : World) → IsPlainWorld i (s ∷ w) → AreFilled i.shape (log_of w 0) → IsSomeones i s w → AreFilled i.shape (log_of (s ∷ w) 0)
+filled_by i s w world h (inr (unit, e)) =
     subst (AreFilled i.shape) (sym (log_elsewhere s w 0 (λ a. let no : suc unit ≡ 0 = sym e.author ∙ a in absurd (omega arith)))) h
-filled_by i s w blank h (inl e) =
+filled_by i s w world h (inl e) =
     subst (AreFilled i.shape) (sym (log_here s w 0 e.author))
     (subst (λ (l : Logged). AreFilled i.shape (log_of w 0 ++ l ∷ [])) (sym (same_logged s.logged (Decides e.event) e.is_event)) (go (decided i (prefixes s.logged (log_of w)) e.event e.allowed)))
   where
@@ -341,9 +350,9 @@ filled_by i s w blank h (inl e) =
         let empty : log_of w 0 ≡ [] = sym e.own ∙ f.2.is_first in
         subst (λ (log : List Logged). AreFilled i.shape (log ++ record { event = Decides e.event; knows = s.logged.knows } ∷ [])) (sym empty)
         (subst (λ ev. AreFilled i.shape (record { event = Decides ev; knows = s.logged.knows } ∷ [])) (sym f.1) (λ line j o p life there. absurd (none-some p there)))
-    go (inr l) = filled_later i w (prefixes s.logged (log_of w)) l.0 e.event s.logged.knows (blank_tail i s w blank) e.own e.plain
-        (subst (λ (l : Logged). ArePlain (log_of w 0 ++ l ∷ [])) (same_logged s.logged (Decides e.event) e.is_event) (subst ArePlain (log_here s w 0 e.author) blank.plain.engine)) l.2 h
+    go (inr l) = filled_later i w (prefixes s.logged (log_of w)) l.0 e.event s.logged.knows (plain_tail i s w world) e.own e.plain
+        (subst (λ (l : Logged). ArePlain (log_of w 0 ++ l ∷ [])) (same_logged s.logged (Decides e.event) e.is_event) (subst ArePlain (log_here s w 0 e.author) world.engine)) l.2 h
 
-pub filled : (i : Image) (w : World) → IsBlankWorld i w → AreFilled i.shape (log_of w 0)
-filled i [] blank = λ line j o p life there. absurd (none-some p there)
-filled i (s ∷ w) blank = filled_by i s w blank (filled i w (blank_tail i s w blank)) (someones i s w blank)
+pub filled : (i : Image) (w : World) → IsPlainWorld i w → AreFilled i.shape (log_of w 0)
+filled i [] world = λ line j o p life there. absurd (none-some p there)
+filled i (s ∷ w) world = filled_by i s w world (filled i w (plain_tail i s w world)) (whose i s w world)

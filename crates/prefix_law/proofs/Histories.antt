@@ -15,6 +15,7 @@ use Rattle.media_laws.proofs.Found.{within_some}
 use Rattle.media_laws.proofs.Places.{range_get}
 use Rattle.media_laws.proofs.Programs.{get_whole}
 use Rattle.prefix_law.specs.Assembled.{Given, Entries, IsEntryOf, IsLastOf, IsAssembled}
+use Rattle.prefix_law.specs.Continued.{given_of}
 use Rattle.prefix_law.proofs.Assembly.{last_stands, under_stands}
 
 -- ---- the last line of a sector
@@ -101,10 +102,6 @@ pub contents_count : (i : Image) → length (contents i) ≡ i.shape.capacity
 contents_count i = length-map-range_with_len (sector_of i) 0 i.shape.capacity
 
 -- ---- the contents after a history
-
--- the entry of a user's line
-abbrev pub given_of : SectorWrite → Given
-given_of w = record { lba = Some w.lba; sector = w.sector }
 
 get_mapped : (ws : List SectorWrite) (k : ℕ) (g : Given) → slice_get (map given_of ws) k ≡ Some g → (w : SectorWrite) × (slice_get ws k ≡ Some w) × (given_of w ≡ g)
 get_mapped [] k g e = absurd (none-some g e)

@@ -1,32 +1,46 @@
 -- The contents of the media are those after a prefix of the history.
-use Rattle.std.proofs.Common.{◌≡◌, ℕ, ◌+◌, ◌-◌, ◌<◌, ◌≤◌, ◌⊎◌, zero, suc, false, Some, None, Option, List, [], ◌∷◌, length, take, replicate, refl, sym, ap, ap₂, ◌∙◌, arith, inl, inr}
+use Rattle.std.proofs.Common.{◌≡◌, ℕ, ◌-◌, ◌<◌, ◌≤◌, ◌⊎◌, zero, suc, Bool, false, Some, None, Option, List, [], ◌∷◌, length, take, refl, sym, subst, ap, ap₂, ◌∙◌, arith, inl, inr}
 use Rattle.std.specs.Prelude.{slice_get, map}
-use Rattle.std.specs.List.{Contains}
-use Rattle.std.specs.Option.{option_map_or}
-use Rattle.std.proofs.lemmas.Bool.{cases_order}
+use Rattle.std.specs.List.{AllByRecursion}
+use Rattle.std.specs.Option.{option_and_then, option_map_or}
+use Rattle.std.proofs.Math.Seq.{take-length}
+use Rattle.std.proofs.lemmas.Bool.{cases_lt}
 use Rattle.std.proofs.lemmas.Option.{same_Some, none-some}
-use Rattle.pblk_model.specs.Bytes.{zeros}
-use Rattle.pblk_model.specs.StartRecord.{Row, StartRecord}
-use Rattle.pblk_model.specs.Records.{Record, records}
-use Rattle.pblk_model.specs.Contents.{head, end, end_after, Bears, IsHead, counted, counted_after, winner, sector_of, contents}
+use Rattle.pblk_model.specs.declared.shape.Shape.{Shape}
+use Rattle.pblk_model.specs.Accepted.{IsAccepted}
+use Rattle.pblk_model.specs.Shape.{units}
+use Rattle.pblk_model.specs.Chunk.{Chunk, IsChunk}
+use Rattle.pblk_model.specs.StartRecord.{start_of}
+use Rattle.pblk_model.specs.Records.{line_records, records_after}
+use Rattle.pblk_model.specs.Contents.{end, contents}
 use Rattle.pblk_model.specs.History.{SectorWrite, after, users}
-use Rattle.pblk_model.specs.Image.{Image}
+use Rattle.pblk_model.specs.Image.{Image, IsFit}
+use Rattle.pblk_model.specs.Sealed.{IsSealed}
 use Rattle.pblk_world.specs.World.{World, log_of, media}
-use Rattle.pblk_world.specs.EngineLog.{Opening, begun, takes}
+use Rattle.pblk_world.specs.EngineLog.{Begun, begun, life_of, is_opened, takes}
 use Rattle.pblk_world.specs.Fronts.{first_position, taken, synced, history, user_positions}
+use Rattle.pblk_world.specs.Lines.{found_image}
 use Rattle.pblk_world.proofs.SyncedFront.{synced_is, synced_within}
-use Rattle.core_laws.specs.PlainWorlds.{IsBlankWorld}
-use Rattle.pblk_laws.proofs.Lists.{map_same}
-use Rattle.pblk_laws.proofs.Heads.{head_is_head, no_head_no_start}
-use Rattle.pblk_laws.proofs.BlankImages.{zeros_held}
-use Rattle.media_laws.proofs.Quiet.{quiet}
-use Rattle.prefix_law.specs.Assembled.{Entries, by_row, IsAssembled}
-use Rattle.prefix_law.proofs.Assembly.{end_above, end_within}
-use Rattle.prefix_law.proofs.Histories.{given_of, contents_after, contents_count}
-use Rattle.prefix_law.proofs.Starting.{IsStarted, started, from_zero, free_start}
+use Rattle.core_laws.specs.PlainWorlds.{IsPlainWorld}
+use Rattle.pblk_laws.specs.LineBlocks.{chunk_in}
+use Rattle.pblk_laws.proofs.Lists.{all_by_get}
+use Rattle.media_laws.proofs.UnitCounts.{media_units, found_chunks, found_shape, found_units}
+use Rattle.media_laws.proofs.FoundChunks.{found_is_chunk}
+use Rattle.media_laws.proofs.LineLives.{living}
+use Rattle.media_laws.proofs.OpenedUnits.{opened_in_range}
+use Rattle.opening_laws.specs.Same.{IsSameLine, HoldsTheSame}
+use Rattle.opening_laws.specs.Losing.{IsLostLine}
+use Rattle.opening_laws.specs.Early.{ArePrefixes}
+use Rattle.opening_laws.proofs.LostImages.{line_kept, line_lost}
+use Rattle.opening_laws.proofs.FoundImages.{found_first, found_sealed, found_holds, early_before, early_holds}
+use Rattle.prefix_law.specs.Continued.{given_of, entries_from, IsNextStart, IsContinued}
+use Rattle.prefix_law.proofs.Continuing.{front_above, end_among, contents_are}
+use Rattle.prefix_law.proofs.Fronts.{synced_from}
+use Rattle.prefix_law.proofs.Starting.{started}
 use Rattle.prefix_law.proofs.Taking.{line_of, history_is, count_users}
-use Rattle.prefix_law.proofs.Media.{IsBegun, start_is}
+use Rattle.prefix_law.proofs.Media.{opening_of, start_is}
 use Rattle.prefix_law.proofs.Records.{IsOfEntry, of_entry, landed_borne}
+use Rattle.prefix_law.proofs.Unopened.{kept_or_lost, in_range}
 
 length_mapped : {X Y : Type 0} (f : X → Y) (xs : List X) → length (map f xs) ≡ length xs
 length_mapped f [] = refl
@@ -37,131 +51,118 @@ get_mapped f [] k x e = absurd (none-some x e)
 get_mapped f (y ∷ xs) zero x e = ap (λ z. Some z) (ap f (same_Some y x e))
 get_mapped f (y ∷ xs) (suc k) x e = get_mapped f xs k x e
 
-get_replicated : {X : Type 0} (n k : ℕ) (x : X) → k < n → slice_get (replicate n x) k ≡ Some x
-get_replicated zero k x h = absurd (omega arith)
-get_replicated (suc n) zero x h = refl
-get_replicated (suc n) (suc k) x h = get_replicated n k x (omega arith)
+pub whole : (w : World) → ArePrefixes w (log_of w)
+whole w author = (length (log_of w author), sym (take-length (log_of w author)))
 
--- ---- the image that was
+-- ---- the image that was found
 
-was_zeros : (i : Image) (w : World) → IsBlankWorld i w → contents i ≡ replicate i.shape.capacity (zeros i.shape.sector)
-was_zeros i w blank = zeros_held i (λ line. free_start i line blank.plain.accepted blank.free)
+pub found_accepted : (i : Image) (w : World) → IsPlainWorld i w → IsAccepted (found_image i (log_of w)).shape
+found_accepted i w world = subst IsAccepted (found_shape i (log_of w)) world.accepted
 
--- ---- the media with a head
+unit_chunks : (i : Image) (w : World) (b : Begun) (unit : ℕ) (chunks : List Chunk) → IsPlainWorld i w → begun (log_of w 0) ≡ Some b → slice_get (found_image i (log_of w)).units unit ≡ Some chunks → AllByRecursion (IsChunk i.shape) chunks
+unit_chunks i w b unit chunks world begins there = all_by_get (IsChunk i.shape) chunks
+    (λ line c at. found_is_chunk i w unit line b c world begins (ap (option_and_then (λ (cs : List Chunk). slice_get cs line)) there ∙ at))
 
-abbrev lines_of : World → List SectorWrite
+pub found_fit : (i : Image) (w : World) (b : Begun) → IsPlainWorld i w → begun (log_of w 0) ≡ Some b → IsFit (found_image i (log_of w))
+found_fit i w b world begins = record {
+  units = found_units i (log_of w) ∙ world.fit.units ∙ ap units (found_shape i (log_of w));
+  chunks = subst (λ (s : Shape). AllByRecursion (λ (unit : List Chunk). length unit ≡ s.chunks) (found_image i (log_of w)).units) (found_shape i (log_of w)) (found_chunks i (log_of w) world.fit.chunks);
+  each = subst (λ (s : Shape). AllByRecursion (AllByRecursion (IsChunk s)) (found_image i (log_of w)).units) (found_shape i (log_of w))
+      (all_by_get (AllByRecursion (IsChunk i.shape)) (found_image i (log_of w)).units (λ unit chunks there. unit_chunks i w b unit chunks world begins there));
+}
+
+pub found_whole : (i : Image) (w : World) → IsPlainWorld i w → IsSealed i → IsSealed (found_image i (log_of w))
+found_whole i w world sealed = found_sealed i w (log_of w) world.accepted world.fit sealed world.legal (whole w)
+
+-- ---- a line that wasn't opened
+
+pub record IsOld (i : Image) (w : World) (line : ℕ) : Type 0 where
+  pub start : start_of (media i (log_of w)) line ≡ start_of (found_image i (log_of w)) line
+  pub bears : line_records (media i (log_of w)) line ≡ line_records (found_image i (log_of w)) line
+
+pub same_count : (i : Image) (w : World) → length (media i (log_of w)).units ≡ length (found_image i (log_of w)).units
+same_count i w = media_units i (log_of w) ∙ sym (found_units i (log_of w))
+
+kept_old : (i : Image) (w : World) (line : ℕ) → ((unit : ℕ) → chunk_in (media i (log_of w)) line unit ≡ chunk_in (found_image i (log_of w)) line unit) → IsOld i w line
+kept_old i w line kept =
+    let same : IsSameLine (found_image i (log_of w)) (media i (log_of w)) line = line_kept (found_image i (log_of w)) (media i (log_of w)) line (found_shape i (log_of w)) (same_count i w) kept in
+    record { start = same.start; bears = same.records }
+
+-- past the last line there is no chunk to be lost
+pub past_kept : (i : Image) (w : World) (line : ℕ) → IsPlainWorld i w → (line < (found_image i (log_of w)).shape.chunks → ⊥) → IsLostLine (found_image i (log_of w)) (media i (log_of w)) line
+    → (unit : ℕ) → chunk_in (media i (log_of w)) line unit ≡ chunk_in (found_image i (log_of w)) line unit
+past_kept i w line world past lost unit = elim (lost.chunks unit) [
+  | inl same ↦ same
+  | inr at ↦
+      let inside = in_range (found_image i (log_of w)) i.shape.chunks line unit at.old (found_chunks i (log_of w) world.fit.chunks) at.was in
+      absurd (past (subst (λ (s : Shape). line < s.chunks) (found_shape i (log_of w)) inside.1))
+]
+
+pub in_or_past : (n m : ℕ) → (n < m) ⊎ ((n < m) → ⊥)
+in_or_past n m = elim (cases_lt n m) [ inl less ↦ inl less | inr past ↦ inr (λ less. omega arith) ]
+
+lost_old : (i : Image) (w : World) (line : ℕ) (b : Begun) → IsPlainWorld i w → IsSealed i → begun (log_of w 0) ≡ Some b → IsLostLine (found_image i (log_of w)) (media i (log_of w)) line → IsOld i w line
+lost_old i w line b world sealed begins lost = elim (in_or_past line (found_image i (log_of w)).shape.chunks) [
+  | inr past ↦ kept_old i w line (past_kept i w line world past lost)
+  | inl inside ↦
+      let none : start_of (media i (log_of w)) line ≡ None =
+      line_lost (found_image i (log_of w)) (media i (log_of w)) line (found_accepted i w world) (found_fit i w b world begins) (found_whole i w world sealed) (found_shape i (log_of w)) (same_count i w) inside lost in
+      record {
+        start = none ∙ sym lost.no_start;
+        bears = ap (records_after (media i (log_of w)) line) none ∙ sym (ap (records_after (found_image i (log_of w)) line) lost.no_start);
+      }
+]
+
+old_line : (i : Image) (w : World) (line : ℕ) (b : Begun) → IsPlainWorld i w → IsSealed i → begun (log_of w 0) ≡ Some b → is_opened (life_of (log_of w 0) line) ≡ false → IsOld i w line
+old_line i w line b world sealed begins unopened = elim (kept_or_lost i w line b world begins unopened) [
+  | inl kept ↦ kept_old i w line kept
+  | inr lost ↦ lost_old i w line b world sealed begins lost
+]
+
+-- ---- the media after the mount began
+
+abbrev pub lines_of : World → List SectorWrite
 lines_of w = map line_of (takes (log_of w 0))
 
-abbrev pub entries_of : World → Entries
-entries_of w = record { first = 0; given = map given_of (lines_of w) }
+abbrev pub opened_in : World → ℕ → Bool
+opened_in w line = is_opened (life_of (log_of w 0) line)
 
-entries_count : (w : World) → length (entries_of w).given ≡ length (takes (log_of w 0))
-entries_count w = length_mapped given_of (lines_of w) ∙ length_mapped line_of (takes (log_of w 0))
+pub given_count : (w : World) → length (map given_of (lines_of w)) ≡ length (takes (log_of w 0))
+given_count w = length_mapped given_of (lines_of w) ∙ length_mapped line_of (takes (log_of w 0))
 
-no_rows : (h : StartRecord) (rows : List Row) (r : Record) → h.rows ≡ [] → by_row h r ≡ false
-no_rows h rows r none = ap (λ (rs : List Row). by_row (record h { rows = rs }) r) none
+first_is : (i : Image) (w : World) (b : Begun) → IsPlainWorld i w → begun (log_of w 0) ≡ Some b → first_position (log_of w 0) ≡ end (found_image i (log_of w))
+first_is i w b world begins = ap (λ (o : Option Begun). option_map_or (λ (x : Begun). x.beginning.first) o 0) begins ∙ found_first i w b world.legal begins
 
-borne_by : (i : Image) (w : World) (h : StartRecord) (p : ℕ) → IsBlankWorld i w → h.first_seq ≡ 1 → p < synced i.shape (log_of w 0) → (r : Record) × Contains (records (media i (log_of w))) r × Bears h p r
-borne_by i w h p blank first below =
-    let zero_first : first_position (log_of w 0) ≡ 0 = from_zero i w blank in
-    let b = landed_borne i w p blank (synced_is i.shape (log_of w 0) p (omega arith) below) in
-    let seq : 1 ≤ b.0.seq = b.1.seq in
-    (b.0, b.1.there, record { mount = omega arith; position = b.1.position })
-
-pub assembled : (i : Image) (w : World) (h : StartRecord) (line : ℕ) → IsBlankWorld i w → head (media i (log_of w)) ≡ Some h → IsHead (media i (log_of w)) line h
-    → IsAssembled (media i (log_of w)) h (entries_of w) (synced i.shape (log_of w 0)) (λ lba. zeros i.shape.sector)
-assembled i w h line blank is there =
-    let begun : IsBegun i w line h = start_is i w line h blank there.here there.whole in
-    let o : Opening = begun.opening in
-    let start : IsStarted i.shape (log_of w 0) begun.opening = started i w blank line begun.opening begun.life in
-    let first : h.first_seq ≡ 1 = ap (λ (x : StartRecord). x.first_seq) (sym begun.record_is) ∙ start.first_seq in
-    let rows : h.rows ≡ [] = ap (λ (x : StartRecord). x.rows) (sym begun.record_is) ∙ start.rows in
-    let front : h.front ≡ begun.opening.start.front = ap (λ (x : StartRecord). x.front) (sym begun.record_is) in
-    let low : begun.opening.start.front ≤ synced i.shape (log_of w 0) = start.front in
-    let within : synced i.shape (log_of w 0) ≤ taken (log_of w 0) = synced_within i.shape (log_of w 0) in
-    let zero_first : first_position (log_of w 0) ≡ 0 = from_zero i w blank in
-    let count : length (entries_of w).given ≡ length (takes (log_of w 0)) = entries_count w in
-    record {
-      head = is;
-      from = omega arith;
-      within = omega arith;
-      young = λ r inside mount.
-          let e : IsOfEntry i w r = of_entry i w r blank inside in
-          let same : r.position - 0 ≡ r.position = omega arith in (
-            given_of (line_of e.entry),
-            record {
-              from = omega arith;
-              there = ap (slice_get (map given_of (lines_of w))) same ∙ get_mapped given_of (lines_of w) r.position (line_of e.entry) (get_mapped line_of (takes (log_of w 0)) r.position e.entry e.there);
-            },
-            e.lba,
-            e.sector,
-          );
-      rows = λ r inside mount. no_rows h h.rows r rows;
-      old = λ r inside older row. (let e : IsOfEntry i w r = of_entry i w r blank inside in let seq : 1 ≤ r.seq = e.seq in let less : r.seq < h.first_seq = older in absurd (omega arith));
-      borne = λ p from below. borne_by i w h p blank first below;
-      kept = λ lba p last. borne_by i w h p blank first last.under;
-      under = λ lba none. inr (
-        λ r old. (let e : IsOfEntry i w r = of_entry i w r blank old.there in let seq : 1 ≤ r.seq = e.seq in let less : r.seq < h.first_seq = old.old in omega arith),
-        refl,
+pub continued : (i : Image) (w : World) (b : Begun) → IsPlainWorld i w → IsSealed i → begun (log_of w 0) ≡ Some b
+    → IsContinued (found_image i (log_of w)) (media i (log_of w)) (opened_in w) (entries_from (first_position (log_of w 0)) (lines_of w)) (synced i.shape (log_of w 0))
+continued i w b world sealed begins = record {
+  shape = found_shape i (log_of w);
+  first = first_is i w b world begins;
+  from = synced_from i.shape (log_of w 0);
+  within = (let most = synced_within i.shape (log_of w 0) in let count = given_count w in omega arith);
+  starts = λ line other. (old_line i w line b world sealed begins other).start;
+  bears = λ line other. (old_line i w line b world sealed begins other).bears;
+  in_range = λ line mine. subst (λ (s : Shape). line < s.chunks) (found_shape i (log_of w)) (opened_in_range i w line world mine);
+  numberless = λ line mine. (let o = opening_of (log_of w 0) line mine in (started i w world line o.0 o.1).numberless);
+  numbered = λ line r mine stands. (let o = opening_of (log_of w 0) line mine in
+      subst (IsNextStart (found_image i (log_of w)) (synced i.shape (log_of w 0))) (start_is i w line o.0 r world o.1 stands) (started i w world line o.0 o.1).next);
+  entries = λ r there mine.
+      let e : IsOfEntry w r = of_entry i w r world there mine in (
+        given_of (line_of e.entry),
+        record {
+          from = e.from;
+          there = get_mapped given_of (lines_of w) (r.position - first_position (log_of w 0)) (line_of e.entry) (get_mapped line_of (takes (log_of w 0)) (r.position - first_position (log_of w 0)) e.entry e.there);
+        },
+        e.lba,
+        e.sector,
       );
-    }
-
--- ---- and without one
-
-none_held : (i : Image) → head i ≡ None → contents i ≡ replicate i.shape.capacity (zeros i.shape.sector)
-none_held i none =
-    let counted_none : counted i ≡ [] = ap (counted_after (records i)) none in
-    map_same (sector_of i) (zeros i.shape.sector) 0 i.shape.capacity (λ lba. ap (λ (rs : List Record). option_map_or (λ (r : Record). r.sector) (winner rs lba) (zeros i.shape.sector)) counted_none)
-
-pub no_end : (i : Image) → head i ≡ None → end i ≡ 0
-no_end i none = ap (end_after (records i)) none
+  landed = λ p from below.
+      let borne = landed_borne i w p world (synced_is i.shape (log_of w 0) p from below) in
+      (borne.0, borne.1.there, borne.1.opened, borne.1.position);
+}
 
 -- ---- the law
 
--- the contents are those after the first lines, and the end is between the fronts
-pub record IsPrefix (i : Image) (w : World) : Type 0 where
-  pub contents_are : contents (media i (log_of w)) ≡ after (contents i) (take (users (user_positions (log_of w 0)) (end (media i (log_of w)))) (history (log_of w 0)))
-  pub above : synced i.shape (log_of w 0) ≤ end (media i (log_of w))
-  pub within : end (media i (log_of w)) ≤ taken (log_of w 0)
-
-pub prefix : (i : Image) (w : World) → IsBlankWorld i w → IsPrefix i w
-prefix i w blank = go (head (media i (log_of w))) refl
-  where
-    zero_first : first_position (log_of w 0) ≡ 0
-    zero_first = from_zero i w blank
-
-    go : (o : Option StartRecord) → head (media i (log_of w)) ≡ o → IsPrefix i w
-    go None none =
-        let at_zero : end (media i (log_of w)) ≡ 0 = no_end (media i (log_of w)) none in
-        let counted_none : users (user_positions (log_of w 0)) (end (media i (log_of w))) ≡ 0 = ap (users (user_positions (log_of w 0))) at_zero ∙ count_users i w 0 blank (omega arith) in
-        record {
-          contents_are = none_held (media i (log_of w)) none ∙ sym (was_zeros i w blank) ∙ ap (λ n. after (contents i) (take n (history (log_of w 0)))) (sym counted_none);
-          above = none_synced (cases_order (synced i.shape (log_of w 0)) 0) at_zero;
-          within = omega arith;
-        }
-      where
-        none_synced : (synced i.shape (log_of w 0) ≡ 0) ⊎ ((synced i.shape (log_of w 0) < 0) ⊎ (0 < synced i.shape (log_of w 0))) → end (media i (log_of w)) ≡ 0 → synced i.shape (log_of w 0) ≤ end (media i (log_of w))
-        none_synced (inl e) at_zero = omega arith
-        none_synced (inr (inl less)) at_zero = absurd (omega arith)
-        none_synced (inr (inr some)) at_zero =
-            let b = landed_borne i w 0 blank (synced_is i.shape (log_of w 0) 0 (omega (arith, zero_first)) some) in
-            absurd (none-some b.1.start (sym (no_head_no_start (media i (log_of w)) b.1.line none b.1.in_range) ∙ b.1.whole))
-    go (Some h) is =
-        let there = head_is_head (media i (log_of w)) h is in
-        let made = assembled i w h there.0 blank is there.1 in
-        let count : length (entries_of w).given ≡ length (takes (log_of w 0)) = entries_count w in
-        let high : end (media i (log_of w)) ≤ 0 + length (entries_of w).given = end_within (media i (log_of w)) h (entries_of w) (synced i.shape (log_of w 0)) (λ lba. zeros i.shape.sector) made in
-        let number : users (user_positions (log_of w 0)) (end (media i (log_of w))) ≡ end (media i (log_of w)) = count_users i w (end (media i (log_of w))) blank (omega arith) in
-        let same : end (media i (log_of w)) - 0 ≡ end (media i (log_of w)) = omega arith in
-        record {
-          contents_are = contents_after (media i (log_of w)) h 0 (synced i.shape (log_of w 0)) (lines_of w) (contents i) (λ lba. zeros i.shape.sector) made (contents_count i)
-              (λ lba inside. ap (λ xs. slice_get xs lba) (was_zeros i w blank) ∙ get_replicated i.shape.capacity lba (zeros i.shape.sector) inside)
-              ∙ ap₂ (λ n ws. after (contents i) (take n ws)) (same ∙ sym number) (sym (history_is i w blank));
-          above = end_above (media i (log_of w)) h (entries_of w) (synced i.shape (log_of w 0)) (λ lba. zeros i.shape.sector) made;
-          within = omega (arith, zero_first);
-        }
-
--- a mount that didn't begin changes nothing
 take_nothing : {X : Type 0} (n : ℕ) → take {A = X} n [] ≡ []
 take_nothing zero = refl
 take_nothing (suc n) = refl
@@ -169,8 +170,47 @@ take_nothing (suc n) = refl
 take_none : {X : Type 0} (n : ℕ) (xs : List X) → xs ≡ [] → take n xs ≡ []
 take_none n xs none = ap (take n) none ∙ take_nothing n
 
-pub without_beginning : (i : Image) (w : World) → IsBlankWorld i w → begun (log_of w 0) ≡ None → contents (media i (log_of w)) ≡ contents i
-without_beginning i w blank none =
-    let empty : log_of w 0 ≡ [] = (quiet i w blank).begins none in
-    let nothing : history (log_of w 0) ≡ [] = ap history empty in
-    (prefix i w blank).contents_are ∙ ap (after (contents i)) (take_none (users (user_positions (log_of w 0)) (end (media i (log_of w)))) (history (log_of w 0)) nothing)
+-- once the mount has begun the end is between the fronts
+pub end_above : (i : Image) (w : World) (b : Begun) → IsPlainWorld i w → IsSealed i → begun (log_of w 0) ≡ Some b → synced i.shape (log_of w 0) ≤ end (media i (log_of w))
+end_above i w b world sealed begins =
+    front_above (found_image i (log_of w)) (media i (log_of w)) (opened_in w) (entries_from (first_position (log_of w 0)) (lines_of w)) (synced i.shape (log_of w 0)) (continued i w b world sealed begins)
+
+pub end_within : (i : Image) (w : World) (b : Begun) → IsPlainWorld i w → IsSealed i → begun (log_of w 0) ≡ Some b → end (media i (log_of w)) ≤ taken (log_of w 0)
+end_within i w b world sealed begins =
+    let most = end_among (found_image i (log_of w)) (media i (log_of w)) (opened_in w) (entries_from (first_position (log_of w 0)) (lines_of w)) (synced i.shape (log_of w 0)) (continued i w b world sealed begins) in
+    let count = given_count w in
+    omega arith
+
+begun_contents : (i : Image) (w : World) (b : Begun) → IsPlainWorld i w → IsSealed i → begun (log_of w 0) ≡ Some b
+    → contents (media i (log_of w)) ≡ after (contents i) (take (users (user_positions (log_of w 0)) (end (media i (log_of w)))) (history (log_of w 0)))
+begun_contents i w b world sealed begins =
+    let held : HoldsTheSame i (found_image i (log_of w)) = found_holds i w (log_of w) world.accepted world.fit sealed world.legal (whole w) in
+    let low : first_position (log_of w 0) ≤ end (media i (log_of w)) = (let a = synced_from i.shape (log_of w 0) in let c = end_above i w b world sealed begins in omega arith) in
+    let number : users (user_positions (log_of w 0)) (end (media i (log_of w))) ≡ end (media i (log_of w)) - first_position (log_of w 0) = count_users i w (end (media i (log_of w))) world low (end_within i w b world sealed begins) in
+    contents_are (found_image i (log_of w)) (media i (log_of w)) (opened_in w) (first_position (log_of w 0)) (synced i.shape (log_of w 0)) (lines_of w) (continued i w b world sealed begins)
+    ∙ ap (λ base. after base (take (end (media i (log_of w)) - first_position (log_of w 0)) (lines_of w))) held.contents
+    ∙ ap₂ (λ n ws. after (contents i) (take n ws)) (sym number) (sym (history_is i w world))
+
+-- a mount that didn't begin changes nothing
+pub without_beginning : (i : Image) (w : World) → IsPlainWorld i w → IsSealed i → begun (log_of w 0) ≡ None → HoldsTheSame i (media i (log_of w))
+without_beginning i w world sealed none = early_holds i w (log_of w) world.accepted world.fit sealed world.legal (whole w) (early_before i w world.legal none)
+
+pub prefix_contents : (i : Image) (w : World) → IsPlainWorld i w → IsSealed i
+    → contents (media i (log_of w)) ≡ after (contents i) (take (users (user_positions (log_of w 0)) (end (media i (log_of w)))) (history (log_of w 0)))
+prefix_contents i w world sealed = go (begun (log_of w 0)) refl
+  where
+    go : (o : Option Begun) → begun (log_of w 0) ≡ o → contents (media i (log_of w)) ≡ after (contents i) (take (users (user_positions (log_of w 0)) (end (media i (log_of w)))) (history (log_of w 0)))
+    go (Some b) e = begun_contents i w b world sealed e
+    go None e =
+        let empty : log_of w 0 ≡ [] = (living i w world).begins e in
+        (without_beginning i w world sealed e).contents ∙ ap (after (contents i)) (sym (take_none (users (user_positions (log_of w 0)) (end (media i (log_of w)))) (history (log_of w 0)) (ap history empty)))
+
+pub prefix_above : (i : Image) (w : World) → IsPlainWorld i w → IsSealed i → synced i.shape (log_of w 0) ≤ end (media i (log_of w))
+prefix_above i w world sealed = go (begun (log_of w 0)) refl
+  where
+    go : (o : Option Begun) → begun (log_of w 0) ≡ o → synced i.shape (log_of w 0) ≤ end (media i (log_of w))
+    go (Some b) e = end_above i w b world sealed e
+    go None e =
+        let empty : taken (log_of w 0) ≡ 0 = ap taken ((living i w world).begins e) in
+        let most = synced_within i.shape (log_of w 0) in
+        omega arith

@@ -1,180 +1,188 @@
--- With which start records lines are opened on a drive that was blank.
-use Rattle.std.proofs.Common.{◌≡◌, ℕ, ◌+◌, ◌-◌, ◌^◌, ◌<◌, ◌≤◌, ◌⊎◌, ◌==◌, ◌&&◌, nat_lt, nat_le, suc, Bool, true, false, Some, None, Option, List, [], ◌∷◌, ◌++◌, length, refl, sym, subst, ap, ap₂, ◌∙◌, arith, inl, inr, if◌then◌else◌}
-use Rattle.std.specs.Prelude.{slice_get}
-use Rattle.std.specs.List.{AllByRecursion, range_with_len}
-use Rattle.std.specs.Option.{option_map_or}
-use Rattle.std.proofs.lemmas.Option.{same_Some, none-some}
+-- With which start records lines are opened, by the image that the mount found.
+use Rattle.std.proofs.Common.{◌≡◌, ℕ, ◌+◌, ◌-◌, ◌^◌, ◌<◌, ◌≤◌, ◌⊎◌, ◌==◌, ◌&&◌, not, nat_lt, nat_le, zero, suc, Bool, true, false, Some, None, Option, List, [], ◌∷◌, ◌++◌, length, refl, sym, subst, ap, ap₂, ◌∙◌, arith, inl, inr, if◌then◌else◌}
+use Rattle.std.specs.List.{filter_map, cons_option, range_with_len}
+use Rattle.std.specs.Option.{option_map_or, is_some}
+use Rattle.std.proofs.Math.Path.{fun_ext}
+use Rattle.std.proofs.lemmas.Option.{none-some}
 use Rattle.pblk_model.specs.declared.shape.Shape.{Shape}
-use Rattle.pblk_model.specs.Accepted.{IsAccepted}
-use Rattle.pblk_model.specs.Shape.{units}
-use Rattle.pblk_model.specs.Chunk.{Chunk, free_chunk}
-use Rattle.pblk_model.specs.LineOrder.{column_of, block_of}
-use Rattle.pblk_model.specs.Image.{Image, line_chunks, width, block_at}
-use Rattle.pblk_model.specs.StartRecord.{StartRecord, start_of, start_fits, rows_fit}
-use Rattle.pblk_model.proofs.LeastLengths.{start_len_positive}
-use Rattle.pblk_world.specs.Events.{EngineEvent, Open, Decides, Logged, Step}
-use Rattle.pblk_world.specs.World.{World, Logs, log_of, prefixes, media}
-use Rattle.pblk_world.specs.EngineLog.{Begun, begun, Opening, AsFound, Opened, life_of, openings, is_as_found}
+use Rattle.pblk_model.specs.Image.{Image, width}
+use Rattle.pblk_model.specs.StartRecord.{Row, StartRecord, start_of, start_fits, rows_fit}
+use Rattle.pblk_model.specs.Contents.{head, end}
+use Rattle.pblk_world.specs.Events.{Begin, Open, Decides, Logged, Step}
+use Rattle.pblk_world.specs.World.{World, Logs, log_of, prefixes}
+use Rattle.pblk_world.specs.EngineLog.{Begun, begun, Opening, LineLife, AsFound, Opened, Freed, life_of, turned_by, is_as_found, is_opened, openings}
 use Rattle.pblk_world.specs.Fronts.{synced, first_position}
-use Rattle.pblk_world.specs.Lines.{found_image, next_seq}
-use Rattle.pblk_world.specs.Starts.{older_row, found_row}
+use Rattle.pblk_world.specs.Lines.{found_image, known_image, next_seq, has_number, are_empty}
+use Rattle.pblk_world.specs.Starts.{bound_by, older_row, older_rows, found_row}
+use Rattle.pblk_world.specs.Victims.{is_freed}
 use Rattle.pblk_world.specs.Opening.{MayOpen}
-use Rattle.pblk_world.specs.Legal.{IsDecision}
 use Rattle.pblk_world.proofs.Appending.{life_more}
-use Rattle.core_laws.specs.PlainWorlds.{is_plain_decision, ArePlain, IsBlankWorld}
+use Rattle.core_laws.specs.PlainWorlds.{ArePlain, IsPlainWorld}
 use Rattle.core_laws.proofs.Numbering.{first_stays}
-use Rattle.core_laws.proofs.Rows.{same_number}
-use Rattle.pblk_laws.proofs.Lists.{all_get, filter_map_none}
-use Rattle.pblk_laws.proofs.Runs.{start_none}
-use Rattle.pblk_laws.proofs.BlankImages.{IsEmpty, empty_line, no_block, no_head, no_end}
-use Rattle.media_laws.proofs.Steps.{log_here, log_elsewhere, blank_tail, IsSomeones, someones}
-use Rattle.media_laws.proofs.Images.{AreFree}
-use Rattle.media_laws.proofs.Quiet.{IsFirst, IsLater, decided, begun_stays, first_begins}
-use Rattle.media_laws.proofs.Found.{ArePrefixes, named_prefixes, media_free, found_free, found_shape}
-use Rattle.media_laws.proofs.Lives.{IsOpening, opened_by_event, same_logged, opening_is}
-use Rattle.prefix_law.proofs.Fronts.{synced_rises}
+use Rattle.core_laws.proofs.Rows.{same_number, other_number}
+use Rattle.pblk_laws.proofs.Starts.{numbers, found_is}
+use Rattle.media_laws.proofs.Steps.{log_here, log_elsewhere, plain_tail, IsEngines, IsSomeones, whose}
+use Rattle.media_laws.proofs.Decisions.{IsFirst, IsLater, decided, begun_stays, never_freed}
+use Rattle.media_laws.proofs.Beginnings.{found_stays}
+use Rattle.media_laws.proofs.LineLives.{IsOpenedAs, living, opened_by_event, opening_is, and_left}
+use Rattle.media_laws.proofs.OpenedChunks.{has_begun}
+use Rattle.media_laws.proofs.Named.{found_same}
+use Rattle.media_laws.proofs.UnitCounts.{found_shape}
+use Rattle.opening_laws.proofs.FoundImages.{found_first, found_seq}
+use Rattle.prefix_law.specs.Continued.{row_of, rows_of, IsNextStart}
+use Rattle.prefix_law.proofs.Fronts.{synced_rises, synced_from}
+use Rattle.prefix_law.proofs.OldRows.{old_seq, bound_low}
 
--- ---- where all chunks are Free there is no start record
-
-weaker : {X : Type 0} (P Q : X → Type 0) → ((x : X) → P x → Q x) → (xs : List X) → AllByRecursion P xs → AllByRecursion Q xs
-weaker P Q says [] all = tt
-weaker P Q says (x ∷ xs) all = (says x all.0, weaker P Q says xs all.1)
-
-pub free_block : (i : Image) (line a : ℕ) → AreFree i → block_at i line a ≡ None
-unfolding IsEmpty
-free_block i line a free =
-    let empty : AllByRecursion (AllByRecursion IsEmpty) i.units = weaker (AllByRecursion (λ c. c ≡ free_chunk)) (AllByRecursion IsEmpty)
-    (λ cs each. weaker (λ c. c ≡ free_chunk) IsEmpty (λ c e. ap (λ (d : Chunk). d.blocks) e) cs each) i.units free in
-    no_block (slice_get (line_chunks i line) (column_of i.shape (width i line) a)) (block_of i.shape (width i line) a) (all_get IsEmpty (line_chunks i line) (column_of i.shape (width i line) a) (empty_line i line empty))
-
-pub free_start : (i : Image) (line : ℕ) → IsAccepted i.shape → AreFree i → start_of i line ≡ None
-free_start i line accepted free = start_none i line 0 (start_len_positive i.shape accepted) (free_block i line 0 free)
-
--- ---- the beginning
-
-pub record IsFresh (b : Begun) : Type 0 where
-  pub first : b.beginning.first ≡ 0
-  pub seq : b.beginning.seq ≡ 1
-
-fresh_by : (i : Image) (s : Step) (w : World) → IsBlankWorld i (s ∷ w) → ((b : Begun) → begun (log_of w 0) ≡ Some b → IsFresh b) → IsSomeones i s w → (b : Begun) → begun (log_of (s ∷ w) 0) ≡ Some b → IsFresh b
-fresh_by i s w blank h (inr (unit, e)) b is = h b (ap begun (sym (log_elsewhere s w 0 (λ a. let no : suc unit ≡ 0 = sym e.author ∙ a in absurd (omega arith)))) ∙ is)
-fresh_by i s w blank h (inl e) b is = go (decided i (prefixes s.logged (log_of w)) e.event e.allowed)
-  where
-    here : log_of (s ∷ w) 0 ≡ log_of w 0 ++ s.logged ∷ []
-    here = log_here s w 0 e.author
-
-    go : IsFirst i (prefixes s.logged (log_of w)) e.event ⊎ IsLater i (prefixes s.logged (log_of w)) e.event → IsFresh b
-    go (inl f) =
-        let empty : log_of w 0 ≡ [] = sym e.own ∙ f.2.is_first in
-        let now : begun (log_of (s ∷ w) 0) ≡ Some (record { beginning = f.0; knows = s.logged.knows }) = ap begun here ∙ ap (λ (log : List Logged). begun (log ++ s.logged ∷ [])) empty ∙ first_begins s.logged f.0 (e.is_event ∙ ap Decides f.1) in
-        let none : (line : ℕ) → start_of (media i (prefixes s.logged (log_of w))) line ≡ None =
-        λ line. free_start (media i (prefixes s.logged (log_of w))) line blank.plain.accepted (media_free i s w blank empty) in
-        subst IsFresh (same_Some _ b (sym now ∙ is)) (record {
-          first = f.2.first ∙ no_end (media i (prefixes s.logged (log_of w))) none;
-          seq = f.2.seq ∙ ap next_seq (no_head (media i (prefixes s.logged (log_of w))) none);
-        })
-    go (inr l) =
-        let begins : begun (log_of w 0) ≡ Some l.0 = ap begun (sym e.own) ∙ l.1 in
-        h b (sym (begun_stays (log_of w 0) s.logged l.0 begins) ∙ ap begun (sym here) ∙ is)
-
-pub fresh : (i : Image) (w : World) → IsBlankWorld i w → (b : Begun) → begun (log_of w 0) ≡ Some b → IsFresh b
-fresh i [] blank b is = absurd (none-some b is)
-fresh i (s ∷ w) blank b is = fresh_by i s w blank (fresh i w (blank_tail i s w blank)) (someones i s w blank) b is
-
-pub from_zero : (i : Image) (w : World) → IsBlankWorld i w → first_position (log_of w 0) ≡ 0
-from_zero i w blank = go (begun (log_of w 0)) refl
-  where
-    go : (o : Option Begun) → begun (log_of w 0) ≡ o → option_map_or (λ (b : Begun). b.beginning.first) (begun (log_of w 0)) 0 ≡ 0
-    go None e = ap (λ (o : Option Begun). option_map_or (λ (b : Begun). b.beginning.first) o 0) e
-    go (Some b) e = ap (λ (o : Option Begun). option_map_or (λ (b : Begun). b.beginning.first) o 0) e ∙ (fresh i w blank b e).first
+true_false : true ≡ false → ⊥
+true_false q = cc
 
 -- ---- what an opening's start record says
 
-pub record IsStarted (s : Shape) (log : List Logged) (o : Opening) : Type 0 where
-  pub first_seq : o.start.first_seq ≡ 1
-  pub seq : 1 ≤ o.start.seq
+pub record IsStarted (i : Image) (w : World) (line : ℕ) (o : Opening) : Type 0 where
+  pub next : IsNextStart (found_image i (log_of w)) (synced i.shape (log_of w 0)) o.start
   pub seq_number : o.start.seq < 2 ^ 61
   pub front_number : o.start.front < 2 ^ 61
-  pub rows : o.start.rows ≡ []
-  pub front : o.start.front ≤ synced s log
+  -- the line had none when it was found
+  pub numberless : start_of (found_image i (log_of w)) line ≡ None
 
-abbrev AreStarted : Image → List Logged → Type 0
-AreStarted i log = (line : ℕ) (o : Opening) → life_of log line ≡ Opened o → IsStarted i.shape log o
+abbrev AreStarted : Image → World → Type 0
+AreStarted i w = (line : ℕ) (o : Opening) → life_of (log_of w 0) line ≡ Opened o → IsStarted i w line o
 
-no_row : (i : Image) (logs : Logs) (line : ℕ) → start_of (found_image i logs) line ≡ None → older_row i logs line ≡ None
-no_row i logs line none = ap (λ o. if is_as_found (life_of (logs 0) line) then found_row i logs line o else None) none ∙ by (is_as_found (life_of (logs 0) line))
+-- ---- after one more step
+
+still_begun : (s : Step) (w : World) (b : Begun) → begun (log_of w 0) ≡ Some b → begun (log_of (s ∷ w) 0) ≡ Some b
+still_begun s w b is = by (s.author == 0)
   where
-    by : (b : Bool) → (if b then found_row i logs line None else None) ≡ None
-    by true = refl
-    by false = refl
+    by : (t : Bool) → begun (if t then log_of w 0 ++ s.logged ∷ [] else log_of w 0) ≡ Some b
+    by true = begun_stays (log_of w 0) s.logged b is ∙ is
+    by false = is
 
-started_later : (i : Image) (w : World) (log : List Logged) (logs : Logs) (b : Begun) (e : EngineEvent) (knows : List ℕ) → IsBlankWorld i w → ArePrefixes w logs → logs 0 ≡ log → IsFresh b → begun log ≡ Some b
-    → is_plain_decision e ≡ true → ArePlain (log ++ record { event = Decides e; knows = knows } ∷ []) → IsDecision i logs b e → AreStarted i log → AreStarted i (log ++ record { event = Decides e; knows = knows } ∷ [])
-started_later i w log logs b e knows blank prefix own is begins plain plains may h line o life = go (opened_by_event line (life_of log line) (length log) knows e o plain (sym (life_more log new line) ∙ life))
+rises : (i : Image) (s : Step) (w : World) (b : Begun) → IsPlainWorld i (s ∷ w) → begun (log_of w 0) ≡ Some b → synced i.shape (log_of w 0) ≤ synced i.shape (log_of (s ∷ w) 0)
+rises i s w b plain is = by (s.author == 0) plain.engine
   where
-    new : Logged
-    new = record { event = Decides e; knows = knows }
+    by : (t : Bool) → ArePlain (if t then log_of w 0 ++ s.logged ∷ [] else log_of w 0) → synced i.shape (log_of w 0) ≤ synced i.shape (if t then log_of w 0 ++ s.logged ∷ [] else log_of w 0)
+    by true plains = synced_rises i.shape (log_of w 0) s.logged plains (first_stays (log_of w 0) s.logged b is)
+    by false plains = omega arith
 
-    rises : synced i.shape log ≤ synced i.shape (log ++ record { event = Decides e; knows = knows } ∷ [])
-    rises = synced_rises i.shape log (record { event = Decides e; knows = knows }) plains (first_stays log (record { event = Decides e; knows = knows }) b begins)
+later_start : (found : Image) (front more : ℕ) (r : StartRecord) → front ≤ more → IsNextStart found front r → IsNextStart found more r
+later_start found front more r up n = record { first_seq = n.first_seq; seq = n.seq; from = n.from; within = (let low = n.within in omega arith); rows = n.rows }
 
-    go : (life_of log line ≡ Opened o) ⊎ ((start : StartRecord) × (e ≡ Open line start) × (o ≡ record { number = length log; line = line; start = start; knows = knows })) → IsStarted i.shape (log ++ record { event = Decides e; knows = knows } ∷ []) o
-    go (inl before) =
-        let old : IsStarted i.shape log o = h line o before in
-        record {
-          first_seq = old.first_seq;
-          seq = old.seq;
-          seq_number = old.seq_number;
-          front_number = old.front_number;
-          rows = old.rows;
-          front = (let low : o.start.front ≤ synced i.shape log = old.front in omega (arith, rises));
-        }
-    go (inr now) =
-        let open_now : MayOpen i logs b line now.0 = opening_is i logs b e line now.0 may now.1 in
-        let first : b.beginning.seq ≡ 1 = is.seq in
-        let front : now.0.front ≡ synced i.shape log = open_now.front ∙ ap (λ (xs : List Logged). synced i.shape xs) own in
-        let number : now.0.seq ≡ b.beginning.seq + length (openings (logs 0)) = open_now.seq in
-        subst (λ (x : Opening). IsStarted i.shape (log ++ record { event = Decides e; knows = knows } ∷ []) x) (sym now.2) (record {
-          first_seq = open_now.first_seq ∙ first;
-          seq = omega arith;
-          seq_number = open_now.seq_number;
-          front_number = open_now.front_number;
-          rows = open_now.rows ∙ filter_map_none (older_row i logs) (range_with_len 0 i.shape.chunks)
-              (λ line. no_row i logs line (free_start (found_image i logs) line (subst IsAccepted (found_shape i logs) blank.plain.accepted) (found_free i w logs blank prefix)));
-          front = omega (arith, rises);
-        })
+started_stays : (i : Image) (s : Step) (w : World) (b : Begun) (line : ℕ) (o : Opening) → IsPlainWorld i (s ∷ w) → begun (log_of w 0) ≡ Some b → IsStarted i w line o → IsStarted i (s ∷ w) line o
+started_stays i s w b line o plain is h =
+    let same : found_image i (log_of (s ∷ w)) ≡ found_image i (log_of w) = found_stays i s w b (plain_tail i s w plain) is (still_begun s w b is) in
+    record {
+      next = subst (λ (found : Image). IsNextStart found (synced i.shape (log_of (s ∷ w) 0)) o.start) (sym same)
+          (later_start (found_image i (log_of w)) (synced i.shape (log_of w 0)) (synced i.shape (log_of (s ∷ w) 0)) o.start (rises i s w b plain is) h.next);
+      seq_number = h.seq_number;
+      front_number = h.front_number;
+      numberless = ap (λ (found : Image). start_of found line) same ∙ h.numberless;
+    }
 
-started_by : (i : Image) (s : Step) (w : World) → IsBlankWorld i (s ∷ w) → AreStarted i (log_of w 0) → IsSomeones i s w → AreStarted i (log_of (s ∷ w) 0)
-started_by i s w blank h (inr (unit, e)) =
-    subst (AreStarted i) (sym (log_elsewhere s w 0 (λ a. let no : suc unit ≡ 0 = sym e.author ∙ a in absurd (omega arith)))) h
-started_by i s w blank h (inl e) =
-    subst (AreStarted i) (sym (log_here s w 0 e.author))
-    (subst (λ (l : Logged). AreStarted i (log_of w 0 ++ l ∷ [])) (sym (same_logged s.logged (Decides e.event) e.is_event)) (go (decided i (prefixes s.logged (log_of w)) e.event e.allowed)))
+-- a mount that opened a line has begun
+begun_with : (i : Image) (w : World) (line : ℕ) (o : Opening) → IsPlainWorld i w → life_of (log_of w 0) line ≡ Opened o → (b : Begun) × (begun (log_of w 0) ≡ Some b)
+begun_with i w line o plain life = has_begun i w line plain (ap is_opened life)
+
+-- ---- the rows of older lines
+
+same_row : (i : Image) (logs : Logs) (line : ℕ) → first_position (logs 0) ≡ end (found_image i logs) → (is_as_found (life_of (logs 0) line) ≡ false → start_of (found_image i logs) line ≡ None)
+    → older_row i logs line ≡ row_of (found_image i logs) line (start_of (found_image i logs) line)
+same_row i logs line first none = by (is_as_found (life_of (logs 0) line)) refl (start_of (found_image i logs) line) refl
   where
-    tail : IsBlankWorld i w
-    tail = blank_tail i s w blank
+    by : (c : Bool) → is_as_found (life_of (logs 0) line) ≡ c → (o : Option StartRecord) → start_of (found_image i logs) line ≡ o
+        → (if c then found_row i logs line o else None) ≡ row_of (found_image i logs) line o
+    by true e None f = refl
+    by true e (Some start) f = ap (λ p. Some (record { line = line; seq = start.seq; bound = bound_by (head (found_image i logs)) p line start.seq })) first
+    by false e None f = refl
+    by false e (Some start) f = absurd (none-some start (sym (none e) ∙ f))
 
-    plains : ArePlain (log_of w 0 ++ record { event = Decides e.event; knows = s.logged.knows } ∷ [])
-    plains = subst (λ (l : Logged). ArePlain (log_of w 0 ++ l ∷ [])) (same_logged s.logged (Decides e.event) e.is_event) (subst ArePlain (log_here s w 0 e.author) blank.plain.engine)
+same_rows : (i : Image) (logs : Logs) → first_position (logs 0) ≡ end (found_image i logs) → ((line : ℕ) → is_as_found (life_of (logs 0) line) ≡ false → start_of (found_image i logs) line ≡ None)
+    → older_rows i logs ≡ rows_of (found_image i logs)
+same_rows i logs first none =
+    ap (λ f. filter_map f (range_with_len 0 i.shape.chunks)) (fun_ext (λ line. same_row i logs line first (none line)))
+    ∙ ap (λ (s : Shape). filter_map (λ line. row_of (found_image i logs) line (start_of (found_image i logs) line)) (range_with_len 0 s.chunks)) (found_shape i logs)
 
-    go : IsFirst i (prefixes s.logged (log_of w)) e.event ⊎ IsLater i (prefixes s.logged (log_of w)) e.event → AreStarted i (log_of w 0 ++ record { event = Decides e.event; knows = s.logged.knows } ∷ [])
-    go (inl f) =
-        let empty : log_of w 0 ≡ [] = sym e.own ∙ f.2.is_first in
-        subst (λ (log : List Logged). AreStarted i (log ++ record { event = Decides e.event; knows = s.logged.knows } ∷ [])) (sym empty)
-        (subst (λ ev. AreStarted i (record { event = Decides ev; knows = s.logged.knows } ∷ [])) (sym f.1) (λ line o is. absurd (as_found o is)))
+-- a line that isn't as it was found had no start record
+not_found : (i : Image) (w : World) (line : ℕ) → IsPlainWorld i w → AreStarted i w → is_as_found (life_of (log_of w 0) line) ≡ false → start_of (found_image i (log_of w)) line ≡ None
+not_found i w line plain h is = by (life_of (log_of w 0) line) refl
+  where
+    by : (life : LineLife) → life_of (log_of w 0) line ≡ life → start_of (found_image i (log_of w)) line ≡ None
+    by AsFound e = absurd (true_false (sym (ap is_as_found e) ∙ is))
+    by (Opened o) e = (h line o e).numberless
+    by (Freed was knows) e = absurd (true_false (sym (ap is_freed e) ∙ never_freed (log_of w 0) line plain.engine))
+
+-- ---- a line that is opened
+
+none_of : (o : Option StartRecord) → not (is_some o) ≡ true → o ≡ None
+none_of None e = refl
+none_of (Some r) e = absurd (cc)
+
+free_numberless : (i : Image) (logs : Logs) (line : ℕ) → is_freed (life_of (logs 0) line) ≡ false → not (has_number i logs (life_of (logs 0) line) line) ≡ true → start_of (found_image i logs) line ≡ None
+free_numberless i logs line unfreed is = by (life_of (logs 0) line) unfreed is
+  where
+    by : (life : LineLife) → is_freed life ≡ false → not (has_number i logs life line) ≡ true → start_of (found_image i logs) line ≡ None
+    by AsFound unfreed e = none_of (start_of (found_image i logs) line) e
+    by (Opened o) unfreed e = absurd (cc)
+    by (Freed was knows) unfreed e = absurd (cc)
+
+first_is : (log : List Logged) (b : Begun) → begun log ≡ Some b → first_position log ≡ b.beginning.first
+first_is log b is = ap (λ (o : Option Begun). option_map_or (λ (x : Begun). x.beginning.first) o 0) is
+
+started_now : (i : Image) (s : Step) (w : World) (line : ℕ) (start : StartRecord) (b : Begun) → IsPlainWorld i (s ∷ w) → AreStarted i w → (e : IsEngines i s w) → begun (log_of w 0) ≡ Some b
+    → MayOpen i (prefixes s.logged (log_of w)) b line start → IsStarted i w line (record { number = length (log_of w 0); line = line; start = start; knows = s.logged.knows })
+started_now i s w line start b plain h e is may =
+    let before : IsPlainWorld i w = plain_tail i s w plain in
+    let logs : Logs = prefixes s.logged (log_of w) in
+    let found : Image = found_image i (log_of w) in
+    let same : found_image i (prefixes s.logged (log_of w)) ≡ found_image i (log_of w) = found_same i s w plain e.author in
+    let at_end : first_position (log_of w 0) ≡ end (found_image i (log_of w)) = first_is (log_of w 0) b is ∙ found_first i w b before.legal is in
+    let seq : b.beginning.seq ≡ next_seq (head (found_image i (log_of w))) = found_seq i w b before.legal is in
+    let front : start.front ≡ synced i.shape (log_of w 0) = may.front ∙ ap (synced i.shape) e.own in
+    let low : first_position (log_of w 0) ≤ synced i.shape (log_of w 0) = synced_from i.shape (log_of w 0) in
+    let number : start.seq ≡ b.beginning.seq + length (openings (prefixes s.logged (log_of w) 0)) = may.seq in
+    let none : (l : ℕ) → is_as_found (life_of (prefixes s.logged (log_of w) 0) l) ≡ false → start_of (found_image i (prefixes s.logged (log_of w))) l ≡ None = λ l not_as_found.
+    ap (λ (j : Image). start_of j l) same ∙ not_found i w l before h (ap (λ (log : List Logged). is_as_found (life_of log l)) (sym e.own) ∙ not_as_found) in
+    let rows : start.rows ≡ rows_of (found_image i (log_of w)) =
+    may.rows ∙ same_rows i (prefixes s.logged (log_of w)) (ap first_position e.own ∙ at_end ∙ ap end (sym same)) none ∙ ap rows_of same in
+    let unfreed : is_freed (life_of (prefixes s.logged (log_of w) 0) line) ≡ false = ap (λ (log : List Logged). is_freed (life_of log line)) e.own ∙ never_freed (log_of w 0) line before.engine in
+    record {
+      next = record { first_seq = may.first_seq ∙ seq; seq = omega arith; from = omega arith; within = omega arith; rows = rows };
+      seq_number = may.seq_number;
+      front_number = may.front_number;
+      numberless = ap (λ (j : Image). start_of j line) (sym same) ∙ free_numberless i (prefixes s.logged (log_of w)) line unfreed
+          (and_left (not (has_number i logs (life_of (logs 0) line) line)) (are_empty (known_image i logs) line) (and_left _ _ may.is_free));
+    }
+
+-- ---- the induction
+
+started_by : (i : Image) (s : Step) (w : World) → IsPlainWorld i (s ∷ w) → AreStarted i w → IsSomeones i s w → AreStarted i (s ∷ w)
+started_by i s w plain h (inr (unit, e)) line o life =
+    let same : log_of (s ∷ w) 0 ≡ log_of w 0 = log_elsewhere s w 0 (λ a. let no : suc unit ≡ 0 = sym e.author ∙ a in absurd (omega arith)) in
+    let before : life_of (log_of w 0) line ≡ Opened o = ap (λ (log : List Logged). life_of log line) (sym same) ∙ life in
+    let b = begun_with i w line o (plain_tail i s w plain) before in
+    started_stays i s w b.0 line o plain b.1 (h line o before)
+started_by i s w plain h (inl e) line o life = by (decided i (prefixes s.logged (log_of w)) e.event e.allowed) (opened_by_event line (life_of (log_of w 0) line) (length (log_of w 0)) s.logged.knows e.event o e.plain turned)
+  where
+    turned : turned_by line (life_of (log_of w 0) line) (length (log_of w 0)) s.logged.knows (Decides e.event) ≡ Opened o
+    turned = ap (turned_by line (life_of (log_of w 0) line) (length (log_of w 0)) s.logged.knows) (sym e.is_event) ∙ sym (life_more (log_of w 0) s.logged line) ∙ ap (λ (log : List Logged). life_of log line) (sym (log_here s w 0 e.author)) ∙ life
+
+    by : IsFirst i (prefixes s.logged (log_of w)) e.event ⊎ IsLater i (prefixes s.logged (log_of w)) e.event
+        → (life_of (log_of w 0) line ≡ Opened o) ⊎ ((start : StartRecord) × (e.event ≡ Open line start) × (o ≡ record { number = length (log_of w 0); line = line; start = start; knows = s.logged.knows })) → IsStarted i (s ∷ w) line o
+    by d (inl before) = let b = begun_with i w line o (plain_tail i s w plain) before in started_stays i s w b.0 line o plain b.1 (h line o before)
+    by (inl f) (inr now) = absurd (apart (sym f.1 ∙ now.1))
       where
-        as_found : (o : Opening) → AsFound ≡ Opened o → ⊥
-        as_found o is = cc
-    go (inr l) =
+        apart : (Begin f.0 ≡ Open line now.0) → ⊥
+        apart q = absurd (cc)
+    by (inr l) (inr now) =
         let begins : begun (log_of w 0) ≡ Some l.0 = ap begun (sym e.own) ∙ l.1 in
-        started_later i w (log_of w 0) (prefixes s.logged (log_of w)) l.0 e.event s.logged.knows tail (named_prefixes s.logged w) e.own (fresh i w tail l.0 begins) begins e.plain plains l.2 h
+        let may : MayOpen i (prefixes s.logged (log_of w)) l.0 line now.0 = opening_is i (prefixes s.logged (log_of w)) l.0 e.event line now.0 l.2 now.1 in
+        subst (IsStarted i (s ∷ w) line) (sym now.2) (started_stays i s w l.0 line (record { number = length (log_of w 0); line = line; start = now.0; knows = s.logged.knows }) plain begins (started_now i s w line now.0 l.0 plain h e begins may))
 
-pub started : (i : Image) (w : World) → IsBlankWorld i w → AreStarted i (log_of w 0)
-started i [] blank = λ line o is. absurd (as_found o is)
+pub started : (i : Image) (w : World) → IsPlainWorld i w → AreStarted i w
+started i [] plain = λ line o is. absurd (as_found o is)
   where
     as_found : (o : Opening) → AsFound ≡ Opened o → ⊥
     as_found o is = cc
-started i (s ∷ w) blank = started_by i s w blank (started i w (blank_tail i s w blank)) (someones i s w blank)
+started i (s ∷ w) plain = started_by i s w plain (started i w (plain_tail i s w plain)) (whose i s w plain)
 
 -- ---- such a record fits its line
 
@@ -198,18 +206,102 @@ equal m n e = ap (λ k. k == n) e ∙ same_number n
 and_both : (a b : Bool) → a ≡ true → b ≡ true → (a && b) ≡ true
 and_both a b p q = ap₂ (λ x y. x && y) p q
 
-pub start_fits_line : (i : Image) (log : List Logged) (line : ℕ) (o : Opening) → IsOpening i line o → IsStarted i.shape log o → start_fits i.shape line (units i.shape) o.start ≡ true
-start_fits_line i log line o is started =
+-- the rows of a found image fit a start record of the next mount
+module _ (s : Shape) (found : Image) (front : ℕ) (r : StartRecord) (n : IsNextStart found front r) (shape : s ≡ found.shape) (none : start_of found r.line ≡ None) where
+  row_fits : (line least : ℕ) (start : StartRecord) (rows : List Row) → start_of found line ≡ Some start → least ≤ line → line < s.chunks → rows_fit s r (line + 1) rows ≡ true
+      → rows_fit s r least (record { line = line; seq = start.seq; bound = bound_by (head found) (end found) line start.seq } ∷ rows) ≡ true
+  row_fits line least start rows whole low inside rest =
+      let is = numbers found.shape line (width found line) start (found_is found line start whole).0 in
+      let first : 1 ≤ start.first_seq = is.some_first in
+      let seq : start.first_seq ≤ start.seq = is.first_seq in
+      let older : start.seq < next_seq (head found) = old_seq found line start (subst (λ (x : Shape). line < x.chunks) shape inside) whole in
+      let mount : r.first_seq ≡ next_seq (head found) = n.first_seq in
+      let bound : bound_by (head found) (end found) line start.seq ≤ end found = bound_low found line start.seq in
+      let from : end found ≤ r.front = n.from in
+      let p1 = and_both (nat_le least line) (nat_lt line s.chunks) (true_le least line low) (true_lt line s.chunks inside) in
+      let p2 = and_both _ (not (line == r.line)) p1 (ap not (other_number line r.line (λ same. none-some start (sym none ∙ ap (start_of found) (sym same) ∙ whole)))) in
+      let p3 = and_both _ (nat_le 1 start.seq) p2 (true_le 1 start.seq (omega arith)) in
+      let p4 = and_both _ (nat_lt start.seq r.first_seq) p3 (true_lt start.seq r.first_seq (omega arith)) in
+      let p5 = and_both _ (nat_le (bound_by (head found) (end found) line start.seq) r.front) p4 (true_le _ r.front (omega arith)) in
+      and_both _ (rows_fit s r (line + 1) rows) p5 rest
+
+  rows_fit_from : (k a least : ℕ) → least ≤ a → a + k ≤ s.chunks → rows_fit s r least (filter_map (λ line. row_of found line (start_of found line)) (range_with_len a k)) ≡ true
+  rows_fit_from zero a least low within = refl
+  rows_fit_from (suc k) a least low within =
+      by (start_of found a) refl (rows_fit_from k (a + 1) least (omega arith) (omega arith)) (rows_fit_from k (a + 1) (a + 1) (omega arith) (omega arith)) where
+        by : (o : Option StartRecord) → start_of found a ≡ o → rows_fit s r least (filter_map (λ line. row_of found line (start_of found line)) (range_with_len (a + 1) k)) ≡ true
+            → rows_fit s r (a + 1) (filter_map (λ line. row_of found line (start_of found line)) (range_with_len (a + 1) k)) ≡ true
+            → rows_fit s r least (cons_option (row_of found a o) (filter_map (λ line. row_of found line (start_of found line)) (range_with_len (a + 1) k))) ≡ true
+        by None e rest tail = rest
+        by (Some start) e rest tail = row_fits a least start _ e low (omega arith) tail
+
+  few_all : (k a : ℕ) → length (filter_map (λ line. row_of found line (start_of found line)) (range_with_len a k)) ≤ k
+  few_all zero a = omega arith
+  few_all (suc k) a = by (row_of found a (start_of found a)) (few_all k (a + 1)) where
+    by : (o : Option Row) → length (filter_map (λ line. row_of found line (start_of found line)) (range_with_len (a + 1) k)) ≤ k → length (cons_option o (filter_map (λ line. row_of found line (start_of found line)) (range_with_len (a + 1) k))) ≤ suc k
+    by None h = omega arith
+    by (Some row) h = omega arith
+
+  -- the record's own line has none
+  few_but_own : (k a : ℕ) → a ≤ r.line → r.line < a + k → length (filter_map (λ line. row_of found line (start_of found line)) (range_with_len a k)) + 1 ≤ k
+  few_but_own zero a low high = absurd (omega arith)
+  few_but_own (suc k) a low high = at (own_or_later a r.line low) (λ later. few_but_own k (a + 1) later (omega arith)) where
+    own_or_later : (m l : ℕ) → m ≤ l → (m ≡ l) ⊎ (m + 1 ≤ l)
+    own_or_later m l h = cases (nat_lt m l) refl where
+      cases : (c : Bool) → nat_lt m l ≡ c → (m ≡ l) ⊎ (m + 1 ≤ l)
+      cases true e = let less : m < l = grind arith in inr (omega arith)
+      cases false e = let past : l ≤ m = grind arith in inl (omega arith)
+
+    first_row : (o : Option Row) (rest : List Row) → length (cons_option o rest) ≤ length rest + 1
+    first_row None rest = omega arith
+    first_row (Some row) rest = omega arith
+
+    at : (a ≡ r.line) ⊎ (a + 1 ≤ r.line) → (a + 1 ≤ r.line → length (filter_map (λ line. row_of found line (start_of found line)) (range_with_len (a + 1) k)) + 1 ≤ k)
+        → length (cons_option (row_of found a (start_of found a)) (filter_map (λ line. row_of found line (start_of found line)) (range_with_len (a + 1) k))) + 1 ≤ suc k
+    at (inl same) few_later =
+        let gone : start_of found a ≡ None = ap (start_of found) same ∙ none in
+        let left : length (cons_option (row_of found a (start_of found a)) (filter_map (λ line. row_of found line (start_of found line)) (range_with_len (a + 1) k))) ≡ length (filter_map (λ line. row_of found line (start_of found line)) (range_with_len (a + 1) k)) =
+        ap (λ o. length (cons_option (row_of found a o) (filter_map (λ line. row_of found line (start_of found line)) (range_with_len (a + 1) k)))) gone in
+        let few = few_all k (a + 1) in
+        omega arith
+    at (inr later) few_later =
+        let rest = few_later later in
+        let one = first_row (row_of found a (start_of found a)) (filter_map (λ line. row_of found line (start_of found line)) (range_with_len (a + 1) k)) in
+        omega arith
+
+  pub rows_fit_all : rows_fit s r 0 r.rows ≡ true
+  rows_fit_all = ap (rows_fit s r 0) n.rows ∙ ap (λ (x : Shape). rows_fit s r 0 (filter_map (λ line. row_of found line (start_of found line)) (range_with_len 0 x.chunks))) (sym shape) ∙ rows_fit_from s.chunks 0 0 (omega arith) (omega arith)
+
+  pub rows_few : r.line < s.chunks → length r.rows ≤ s.chunks - 1
+  rows_few inside =
+      let few = few_but_own s.chunks 0 (omega arith) (omega arith) in
+      let same : length r.rows ≡ length (filter_map (λ line. row_of found line (start_of found line)) (range_with_len 0 s.chunks)) = ap length n.rows ∙ ap (λ (x : Shape). length (filter_map (λ line. row_of found line (start_of found line)) (range_with_len 0 x.chunks))) (sym shape) in
+      omega arith
+
+next_positive : (o : Option StartRecord) → 1 ≤ next_seq o
+next_positive None = omega arith
+next_positive (Some h) = omega arith
+
+pub start_fits_line : (i : Image) (w : World) (line : ℕ) (o : Opening) → IsPlainWorld i w → life_of (log_of w 0) line ≡ Opened o → start_fits i.shape line o.start.width o.start ≡ true
+start_fits_line i w line o plain life =
     let r : StartRecord = o.start in
     let s : Shape = i.shape in
-    let first : o.start.first_seq ≡ 1 = started.first_seq in
-    let seq : 1 ≤ o.start.seq = started.seq in
-    let none : length o.start.rows ≡ 0 = ap length started.rows in
-    let p1 = and_both (r.line == line) (r.width == units s) (equal r.line line is.start_line) (equal r.width (units s) is.width) in
+    let found : Image = found_image i (log_of w) in
+    let is : IsOpenedAs i line o = (living i w plain).opened line o life in
+    let h : IsStarted i w line o = started i w plain line o life in
+    let none : start_of (found_image i (log_of w)) r.line ≡ None = ap (start_of (found_image i (log_of w))) is.start_line ∙ h.numberless in
+    let front : ℕ = synced i.shape (log_of w 0) in
+    let first : 1 ≤ next_seq (head (found_image i (log_of w))) = next_positive (head (found_image i (log_of w))) in
+    let mount : r.first_seq ≡ next_seq (head (found_image i (log_of w))) = h.next.first_seq in
+    let seq : next_seq (head (found_image i (log_of w))) ≤ r.seq = h.next.seq in
+    let its : r.line ≡ line = is.start_line in
+    let inside : line < i.shape.chunks = is.in_range in
+    let few : length r.rows ≤ s.chunks - 1 = rows_few i.shape (found_image i (log_of w)) (synced i.shape (log_of w 0)) o.start h.next (found_shape i (log_of w)) none (omega arith) in
+    let p1 = and_both (r.line == line) (r.width == r.width) (equal r.line line its) (same_number r.width) in
     let p2 = and_both _ (r.capacity == s.capacity) p1 (equal r.capacity s.capacity is.capacity) in
     let p3 = and_both _ (nat_le 1 r.first_seq) p2 (true_le 1 r.first_seq (omega arith)) in
     let p4 = and_both _ (nat_le r.first_seq r.seq) p3 (true_le r.first_seq r.seq (omega arith)) in
-    let p5 = and_both _ (nat_lt r.seq (2 ^ 61)) p4 (true_lt r.seq (2 ^ 61) started.seq_number) in
-    let p6 = and_both _ (nat_lt r.front (2 ^ 61)) p5 (true_lt r.front (2 ^ 61) started.front_number) in
-    let p7 = and_both _ (nat_le (length r.rows) (s.chunks - 1)) p6 (true_le (length r.rows) (s.chunks - 1) (omega arith)) in
-    and_both _ (rows_fit s r 0 r.rows) p7 (ap (rows_fit s r 0) started.rows)
+    let p5 = and_both _ (nat_lt r.seq (2 ^ 61)) p4 (true_lt r.seq (2 ^ 61) h.seq_number) in
+    let p6 = and_both _ (nat_lt r.front (2 ^ 61)) p5 (true_lt r.front (2 ^ 61) h.front_number) in
+    let p7 = and_both _ (nat_le (length r.rows) (s.chunks - 1)) p6 (true_le (length r.rows) (s.chunks - 1) few) in
+    and_both _ (rows_fit s r 0 r.rows) p7 (rows_fit_all i.shape (found_image i (log_of w)) (synced i.shape (log_of w 0)) o.start h.next (found_shape i (log_of w)) none)

@@ -1,5 +1,5 @@
 -- What was taken in a mount without copies: users' entries, in the order of their positions.
-use Rattle.std.proofs.Common.{◌≡◌, ℕ, ◌+◌, ◌^◌, ◌<◌, ◌≤◌, ◌⊎◌, nat_lt, suc, Bool, true, cond, Some, None, Option, List, [], ◌∷◌, ◌++◌, length, refl, sym, subst, ap, ◌∙◌, arith, inl, inr, append-nil}
+use Rattle.std.proofs.Common.{◌≡◌, ℕ, ◌+◌, ◌-◌, ◌^◌, ◌<◌, ◌≤◌, ◌⊎◌, nat_lt, suc, Bool, true, cond, Some, None, Option, List, [], ◌∷◌, ◌++◌, length, refl, sym, subst, ap, ◌∙◌, arith, inl, inr, append-nil}
 use Rattle.std.specs.Prelude.{slice_get, map}
 use Rattle.std.specs.List.{filter}
 use Rattle.std.proofs.lemmas.Bool.{cases_order}
@@ -12,18 +12,18 @@ use Rattle.pblk_model.specs.History.{SectorWrite, users}
 use Rattle.pblk_model.specs.Image.{Image}
 use Rattle.pblk_world.specs.Events.{EngineEvent, Entry, Source, Take, Decides, Logged, Step}
 use Rattle.pblk_world.specs.World.{World, Logs, log_of, prefixes}
-use Rattle.pblk_world.specs.EngineLog.{Begun, Taken, takes}
+use Rattle.pblk_world.specs.EngineLog.{Begun, begun, Taken, takes}
 use Rattle.pblk_world.specs.Fronts.{first_position, taken, is_users, user_takes, history, user_positions}
 use Rattle.pblk_world.specs.Taking.{IsMarked}
 use Rattle.pblk_world.specs.Legal.{IsDecision}
 use Rattle.pblk_world.proofs.Appending.{takes_more}
 use Rattle.pblk_world.proofs.Growing.{at_end}
-use Rattle.core_laws.specs.PlainWorlds.{is_plain_decision, IsBlankWorld}
+use Rattle.core_laws.specs.PlainWorlds.{is_plain_decision, IsPlainWorld}
+use Rattle.core_laws.proofs.Numbering.{first_stays}
 use Rattle.core_laws.proofs.Placing.{is_below, not_below}
-use Rattle.media_laws.proofs.Steps.{log_here, log_elsewhere, blank_tail, IsSomeones, someones}
-use Rattle.media_laws.proofs.Quiet.{IsFirst, IsLater, decided}
-use Rattle.media_laws.proofs.Lives.{same_logged}
-use Rattle.prefix_law.proofs.Starting.{from_zero}
+use Rattle.media_laws.proofs.Steps.{log_here, log_elsewhere, plain_tail, IsSomeones, whose}
+use Rattle.media_laws.proofs.Decisions.{IsFirst, IsLater, decided}
+use Rattle.media_laws.proofs.LineLives.{same_logged}
 
 -- a user's entry with its mark, at this position
 pub record IsUsers (s : Shape) (k : ℕ) (t : Taken) : Type 0 where
@@ -35,39 +35,43 @@ pub record IsUsers (s : Shape) (k : ℕ) (t : Taken) : Type 0 where
   pub block : IsBlock s (record { sector = t.entry.sector; mark = t.mark })
 
 abbrev pub AreUsers : Shape → List Logged → Type 0
-AreUsers s log = (k : ℕ) (t : Taken) → slice_get (takes log) k ≡ Some t → IsUsers s k t
+AreUsers s log = (k : ℕ) (t : Taken) → slice_get (takes log) k ≡ Some t → IsUsers s (first_position log + k) t
 
 users_mark : (i : Image) (logs : Logs) (entry : Entry) (mark : Mark) (source : Option Source) → is_users source ≡ true → IsMarked i logs entry mark source → mark ≡ sector_mark entry.lba entry.position
 users_mark i logs entry mark None plain is = is
 users_mark i logs entry mark (Some source) plain is = absurd (cc)
 
-users_later : (i : Image) (w : World) (logs : Logs) (b : Begun) (e : EngineEvent) (knows : List ℕ) → IsBlankWorld i w → logs 0 ≡ log_of w 0 → is_plain_decision e ≡ true → IsDecision i logs b e
+users_later : (i : Image) (w : World) (logs : Logs) (b : Begun) (e : EngineEvent) (knows : List ℕ) → begun (log_of w 0) ≡ Some b → logs 0 ≡ log_of w 0 → is_plain_decision e ≡ true → IsDecision i logs b e
     → AreUsers i.shape (log_of w 0) → AreUsers i.shape (log_of w 0 ++ record { event = Decides e; knows = knows } ∷ [])
-users_later i w logs b (Take entry mark) knows blank own plain may h k t there =
-    let l : Logged = record { event = Decides (Take entry mark); knows = knows } in
-    go (at_end (takes (log_of w 0)) (record { entry = entry; mark = mark }) t k (ap (λ ts. slice_get ts k) (sym (takes_more (log_of w 0) l)) ∙ there))
+users_later i w logs b (Take entry mark) knows begins own plain may h k t there =
+    go (at_end (takes (log_of w 0)) (record { entry = entry; mark = mark }) t k (ap (λ ts. slice_get ts k) (sym (takes_more (log_of w 0) (record { event = Decides (Take entry mark); knows = knows }))) ∙ there))
   where
-    go : (slice_get (takes (log_of w 0)) k ≡ Some t) ⊎ ((k ≡ length (takes (log_of w 0))) × (record { entry = entry; mark = mark } ≡ t)) → IsUsers i.shape k t
-    go (inl old) = h k t old
+    first : first_position (log_of w 0) + k ≡ first_position (log_of w 0 ++ record { event = Decides (Take entry mark); knows = knows } ∷ []) + k
+    first = ap (λ n. n + k) (sym (first_stays (log_of w 0) (record { event = Decides (Take entry mark); knows = knows }) b begins))
+
+    go : (slice_get (takes (log_of w 0)) k ≡ Some t) ⊎ ((k ≡ length (takes (log_of w 0))) × (record { entry = entry; mark = mark } ≡ t))
+        → IsUsers i.shape (first_position (log_of w 0 ++ record { event = Decides (Take entry mark); knows = knows } ∷ []) + k) t
+    go (inl old) = subst (λ n. IsUsers i.shape n t) first (h k t old)
     go (inr last) =
-        let zero_first : first_position (log_of w 0) ≡ 0 = from_zero i w blank in
         let at : entry.position ≡ first_position (log_of w 0) + length (takes (log_of w 0)) = may.position ∙ ap taken own in
-        subst (IsUsers i.shape k) last.1 (record {
-          position = omega (arith, at, last.0);
+        let number : k ≡ length (takes (log_of w 0)) = last.0 in
+        subst (λ n. IsUsers i.shape n t) first (subst (IsUsers i.shape (first_position (log_of w 0) + k)) last.1 (record {
+          position = omega arith;
           number = may.position_number;
           lba = may.lba;
           mark = users_mark i logs entry mark entry.source plain may.marked;
           users = plain;
           block = may.block;
-        })
-users_later i w logs b e knows blank own plain may h k t there =
+        }))
+users_later i w logs b e knows begins own plain may h k t there =
     let l : Logged = record { event = Decides e; knows = knows } in
-    h k t (ap (λ ts. slice_get ts k) (sym (takes_more (log_of w 0) l ∙ append-nil (takes (log_of w 0)))) ∙ there)
+    subst (λ n. IsUsers i.shape n t) (ap (λ n. n + k) (sym (first_stays (log_of w 0) l b begins)))
+    (h k t (ap (λ ts. slice_get ts k) (sym (takes_more (log_of w 0) l ∙ append-nil (takes (log_of w 0)))) ∙ there))
 
-users_by : (i : Image) (s : Step) (w : World) → IsBlankWorld i (s ∷ w) → AreUsers i.shape (log_of w 0) → IsSomeones i s w → AreUsers i.shape (log_of (s ∷ w) 0)
-users_by i s w blank h (inr (unit, e)) =
+users_by : (i : Image) (s : Step) (w : World) → IsPlainWorld i (s ∷ w) → AreUsers i.shape (log_of w 0) → IsSomeones i s w → AreUsers i.shape (log_of (s ∷ w) 0)
+users_by i s w world h (inr (unit, e)) =
     subst (AreUsers i.shape) (sym (log_elsewhere s w 0 (λ a. let no : suc unit ≡ 0 = sym e.author ∙ a in absurd (omega arith)))) h
-users_by i s w blank h (inl e) =
+users_by i s w world h (inl e) =
     subst (AreUsers i.shape) (sym (log_here s w 0 e.author))
     (subst (λ (l : Logged). AreUsers i.shape (log_of w 0 ++ l ∷ [])) (sym (same_logged s.logged (Decides e.event) e.is_event)) (go (decided i (prefixes s.logged (log_of w)) e.event e.allowed)))
   where
@@ -76,11 +80,11 @@ users_by i s w blank h (inl e) =
         let empty : log_of w 0 ≡ [] = sym e.own ∙ f.2.is_first in
         subst (λ (log : List Logged). AreUsers i.shape (log ++ record { event = Decides e.event; knows = s.logged.knows } ∷ [])) (sym empty)
         (subst (λ ev. AreUsers i.shape (record { event = Decides ev; knows = s.logged.knows } ∷ [])) (sym f.1) (λ k t there. absurd (none-some t there)))
-    go (inr l) = users_later i w (prefixes s.logged (log_of w)) l.0 e.event s.logged.knows (blank_tail i s w blank) e.own e.plain l.2 h
+    go (inr l) = users_later i w (prefixes s.logged (log_of w)) l.0 e.event s.logged.knows (ap begun (sym e.own) ∙ l.1) e.own e.plain l.2 h
 
-pub all_users : (i : Image) (w : World) → IsBlankWorld i w → AreUsers i.shape (log_of w 0)
-all_users i [] blank = λ k t there. absurd (none-some t there)
-all_users i (s ∷ w) blank = users_by i s w blank (all_users i w (blank_tail i s w blank)) (someones i s w blank)
+pub all_users : (i : Image) (w : World) → IsPlainWorld i w → AreUsers i.shape (log_of w 0)
+all_users i [] world = λ k t there. absurd (none-some t there)
+all_users i (s ∷ w) world = users_by i s w world (all_users i w (plain_tail i s w world)) (whose i s w world)
 
 -- ---- the history
 
@@ -91,11 +95,11 @@ all_pass : {X : Type 0} (test : X → Bool) (xs : List X) → ((k : ℕ) (x : X)
 all_pass test [] all = refl
 all_pass test (x ∷ xs) all = ap (λ b. cond b (x ∷ filter test xs) (filter test xs)) (all 0 x refl) ∙ ap (λ ys. x ∷ ys) (all_pass test xs (λ k y there. all (suc k) y there))
 
-pub users_all : (i : Image) (w : World) → IsBlankWorld i w → user_takes (log_of w 0) ≡ takes (log_of w 0)
-users_all i w blank = all_pass (λ t. is_users t.entry.source) (takes (log_of w 0)) (λ k t there. (all_users i w blank k t there).users)
+pub users_all : (i : Image) (w : World) → IsPlainWorld i w → user_takes (log_of w 0) ≡ takes (log_of w 0)
+users_all i w world = all_pass (λ t. is_users t.entry.source) (takes (log_of w 0)) (λ k t there. (all_users i w world k t there).users)
 
-pub history_is : (i : Image) (w : World) → IsBlankWorld i w → history (log_of w 0) ≡ map line_of (takes (log_of w 0))
-history_is i w blank = ap (map line_of) (users_all i w blank)
+pub history_is : (i : Image) (w : World) → IsPlainWorld i w → history (log_of w 0) ≡ map line_of (takes (log_of w 0))
+history_is i w world = ap (map line_of) (users_all i w world)
 
 -- how many positions are below one
 
@@ -129,7 +133,8 @@ count_from a n (t ∷ ts) within from at = go (cases_order a n) (at 0 t refl) (�
         omega arith
     go (inr (inr high)) here rest = past (omega arith) here
 
-pub count_users : (i : Image) (w : World) (n : ℕ) → IsBlankWorld i w → n ≤ length (takes (log_of w 0)) → users (user_positions (log_of w 0)) n ≡ n
-count_users i w n blank within =
-    let counted : 0 + users (map (λ t. t.entry.position) (takes (log_of w 0))) n ≡ n = count_from 0 n (takes (log_of w 0)) (omega arith) (omega arith) (λ k t there. (all_users i w blank k t there).position ∙ (let same : k ≡ 0 + k = omega arith in same)) in
-    ap (λ ts. users (map (λ t. t.entry.position) ts) n) (users_all i w blank) ∙ (let same : users (map (λ t. t.entry.position) (takes (log_of w 0))) n ≡ n = omega arith in same)
+pub count_users : (i : Image) (w : World) (n : ℕ) → IsPlainWorld i w → first_position (log_of w 0) ≤ n → n ≤ taken (log_of w 0) → users (user_positions (log_of w 0)) n ≡ n - first_position (log_of w 0)
+count_users i w n world from within =
+    let counted : first_position (log_of w 0) + users (map (λ t. t.entry.position) (takes (log_of w 0))) n ≡ n =
+    count_from (first_position (log_of w 0)) n (takes (log_of w 0)) within from (λ k t there. (all_users i w world k t there).position) in
+    ap (λ ts. users (map (λ t. t.entry.position) ts) n) (users_all i w world) ∙ (let same : users (map (λ t. t.entry.position) (takes (log_of w 0))) n ≡ n - first_position (log_of w 0) = omega arith in same)

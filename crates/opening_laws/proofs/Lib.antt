@@ -1,0 +1,6 @@
+pub mod Lines
+pub mod PaddedImages
+pub mod PaddedChunks
+pub mod EarlyLogs
+pub mod FoundImages
+pub mod LostImages

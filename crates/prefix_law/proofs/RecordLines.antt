@@ -1,0 +1,93 @@
+-- Where the records of an image are.
+use Rattle.std.proofs.Common.{◌≡◌, ℕ, ◌*◌, ◌<◌, Some, None, Option, length, refl, sym, subst, ap, ◌∙◌, arith, zero-add}
+use Rattle.std.specs.Prelude.{slice_get}
+use Rattle.std.specs.List.{Contains, range_with_len}
+use Rattle.std.specs.Option.{option_map, option_and_then}
+use Rattle.std.proofs.lemmas.Option.{same_Some, none-some, slice_get_within}
+use Rattle.std.proofs.lemmas.List.FromFn.{length-range_with_len}
+use Rattle.pblk_model.specs.declared.chunk.Mark.{Mark}
+use Rattle.pblk_model.specs.Chunk.{Block}
+use Rattle.pblk_model.specs.Image.{Image, width, block_at}
+use Rattle.pblk_model.specs.EndRecord.{end_of}
+use Rattle.pblk_model.specs.StartRecord.{StartRecord, start_of}
+use Rattle.pblk_model.specs.Records.{Record, named, mark_at, bears, record_at, records_after, line_records, records}
+use Rattle.stripe_placer.proofs.Among.{IsAmong}
+use Rattle.media_laws.proofs.Places.{range_get}
+use Rattle.prefix_law.proofs.Among.{among_contained, contained_among, flat_into, flat_from, made_into, made_from}
+
+-- ---- one record
+
+pub then_is : {X Y : Type 0} (f : X → Option Y) (o : Option X) (y : Y) → option_and_then f o ≡ Some y → (x : X) × (o ≡ Some x) × (f x ≡ Some y)
+then_is f None y e = absurd (none-some y e)
+then_is f (Some x) y e = (x, refl, e)
+
+pub map_is : {X Y : Type 0} (f : X → Y) (o : Option X) (y : Y) → option_map f o ≡ Some y → (x : X) × (o ≡ Some x) × (f x ≡ y)
+map_is f None y e = absurd (none-some y e)
+map_is f (Some x) y e = (x, refl, same_Some (f x) y e)
+
+abbrev pub record_with : ℕ → ℕ → ℕ → Block → Mark → Option ℕ → Record
+record_with line seq a b m lba = record { line = line; seq = seq; at = a; position = m.position; lba = lba; sector = b.sector }
+
+-- the number of a range is its place
+pub range_is : (n k x : ℕ) → slice_get (range_with_len 0 n) k ≡ Some x → (x ≡ k) × (k < n)
+range_is n k x e =
+    let inside : k < length (range_with_len 0 n) = slice_get_within (range_with_len 0 n) k x e in
+    let count : length (range_with_len 0 n) ≡ n = length-range_with_len 0 n in
+    let below : k < n = omega arith in
+    (same_Some x k (sym e ∙ range_get 0 n k below ∙ ap (λ m. Some m) (zero-add k)), below)
+
+-- where a record is
+pub record IsAt (i : Image) (r : Record) : Type 0 where
+  pub in_range : r.line < i.shape.chunks
+  pub start : StartRecord
+  pub whole : start_of i r.line ≡ Some start
+  pub seq : r.seq ≡ start.seq
+  pub address : ℕ
+  pub bears : record_at i r.line start address ≡ Some r
+  pub there : IsAmong (line_records i r.line) r
+
+placed : (i : Image) (r : Record) (line a : ℕ) (start : StartRecord) → record_at i line start a ≡ Some r → (r.line ≡ line) × (r.seq ≡ start.seq)
+placed i r line a start is =
+    let block = then_is (λ b. option_and_then (bears i.shape line start.seq a b) (mark_at i.shape (end_of i line start) a b)) (block_at i line a) r is in
+    let mark = then_is (bears i.shape line start.seq a block.0) (mark_at i.shape (end_of i line start) a block.0) r block.2 in
+    let name = map_is (record_with line start.seq a block.0 mark.0) (named i.shape mark.0) r mark.2 in
+    (ap (λ (x : Record). x.line) (sym name.2), ap (λ (x : Record). x.seq) (sym name.2))
+
+pub record_is_at : (i : Image) (r : Record) → Contains (records i) r → IsAt i r
+record_is_at i r there =
+    let line = flat_from (line_records i) (range_with_len 0 i.shape.chunks) r (among_contained (records i) r there) in
+    let which = range_is i.shape.chunks line.0 line.1 line.2 in
+    let number : line.1 ≡ line.0 = which.0 in
+    let below : line.0 < i.shape.chunks = which.1 in
+    by line.1 (omega arith) (start_of i line.1) refl line.3 line.3
+  where
+    by : (line : ℕ) → line < i.shape.chunks → (o : Option StartRecord) → start_of i line ≡ o → IsAmong (records_after i line o) r → IsAmong (line_records i line) r → IsAt i r
+    by line range None e at mine = absurd (none-some r at.1)
+    by line range (Some start) e at mine =
+        let made = made_from (record_at i line start) (range_with_len 0 (width i line * i.shape.clba)) r at in
+        let is = placed i r line made.1 start made.3 in
+        let same : r.line ≡ line = is.0 in
+        record {
+          in_range = omega arith;
+          start = start;
+          whole = ap (start_of i) is.0 ∙ e;
+          seq = is.1;
+          address = made.1;
+          bears = ap (λ l. record_at i l start made.1) is.0 ∙ made.3;
+          there = subst (λ l. IsAmong (line_records i l) r) (sym is.0) mine;
+        }
+
+pub at_is_record : (i : Image) (line a : ℕ) (start : StartRecord) (r : Record) → line < i.shape.chunks → a < width i line * i.shape.clba → start_of i line ≡ Some start → record_at i line start a ≡ Some r → Contains (records i) r
+at_is_record i line a start r range inside whole bears =
+    contained_among (records i) r (flat_into (line_records i) (range_with_len 0 i.shape.chunks) line line r (range_get 0 i.shape.chunks line range ∙ ap (λ m. Some m) (zero-add line))
+    (at (start_of i line) whole))
+  where
+    at : (o : Option StartRecord) → o ≡ Some start → IsAmong (records_after i line o) r
+    at None e = absurd (none-some start e)
+    at (Some x) e = made_into (record_at i line x) (range_with_len 0 (width i line * i.shape.clba)) a a r (range_get 0 (width i line * i.shape.clba) a inside ∙ ap (λ m. Some m) (zero-add a))
+        (ap (λ y. record_at i line y a) (same_Some x start e) ∙ bears)
+
+-- a record of a line's
+pub of_line : (i : Image) (line : ℕ) (r : Record) → line < i.shape.chunks → IsAmong (line_records i line) r → Contains (records i) r
+of_line i line r range at =
+    contained_among (records i) r (flat_into (line_records i) (range_with_len 0 i.shape.chunks) line line r (range_get 0 i.shape.chunks line range ∙ ap (λ m. Some m) (zero-add line)) at)
