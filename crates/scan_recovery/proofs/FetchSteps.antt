@@ -26,11 +26,12 @@ use Rattle.vector_io.specs.Commands.{UnitCommand, EventAt, IsNext, IsTaken, AreN
 use Rattle.vector_io.specs.Did.{Did, command_at}
 use Rattle.vector_io.specs.Status.{is_lost}
 use Rattle.vector_io.proofs.Units.{get_set_same, set_again, after_one_is}
+use Rattle.found_laws.specs.Finding.{NoneOpen}
 use Rattle.scan_recovery.specs.declared.error.ScanErr.{ScanErr}
 use Rattle.scan_recovery.specs.declared.error.ScanErr.TheVariants as errors
-use Rattle.scan_recovery.specs.Units.{image_of, AreFit, NoneOpen}
+use Rattle.scan_recovery.specs.Units.{image_of, AreFit}
 use Rattle.scan_recovery.specs.Fetches.{IsFetch, IsGood, FetchEnds, HasFetched, IsReadableAt}
-use Rattle.scan_recovery.proofs.PadImages.{img}
+use Rattle.opening_laws.proofs.Lines.{img}
 use Rattle.scan_recovery.proofs.PadSteps.{unit_at, chunk_of}
 
 -- An event that is a fetch.

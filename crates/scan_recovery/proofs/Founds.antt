@@ -13,11 +13,11 @@ use Rattle.pblk_model.specs.Records.{Record}
 use Rattle.pblk_model.specs.Contents.{is_borne, least_missing, end_after, counts, counted_after, is_newer, newer, newest, is_of, winner}
 use Rattle.pblk_laws.proofs.FilledLists.{range_split}
 use Rattle.pblk_world.specs.Lines.{are_empty, is_stray}
+use Rattle.found_laws.specs.Finding.{top_of, winner_with}
 use Rattle.scan_recovery.specs.declared.survey.SeenLine.{SeenLine}
 use Rattle.scan_recovery.specs.declared.trace.Trace.{Trace}
-use Rattle.scan_recovery.specs.Find.{winner_with}
 use Rattle.scan_recovery.specs.Survey.{seen_line}
-use Rattle.scan_recovery.specs.Traces.{IsTable, bare, top_of, without_sector}
+use Rattle.scan_recovery.specs.Traces.{IsTable, bare, without_sector}
 use Rattle.scan_recovery.proofs.Tallies.{row_there}
 
 abbrev pub thin : List Record → List Record

@@ -1,4 +1,3 @@
-pub mod PadImages
 pub mod PadSteps
 pub mod PadLoops
 pub mod SectorLists
@@ -13,3 +12,5 @@ pub mod LineStates
 pub mod FetchSteps
 pub mod FetchLines
 pub mod ScanSteps
+pub mod Held
+pub mod MediaLines

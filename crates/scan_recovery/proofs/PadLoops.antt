@@ -1,5 +1,5 @@
 -- The programs of Pad blocks one after another: what they leave of a drive.
-use Rattle.std.proofs.Common.{◌≡◌, ◌≢◌, ℕ, ◌+◌, ◌-◌, ◌*◌, ◌/◌, ◌^◌, ◌<◌, ◌≤◌, suc, min, inl, inr, true, false, Option, Some, None, List, [], ◌∷◌, ◌++◌, map, length, Result, Ok, Err, refl, sym, ap, ◌∙◌, subst, arith, append_assoc}
+use Rattle.std.proofs.Common.{◌≡◌, ◌≢◌, ℕ, ◌+◌, ◌-◌, ◌*◌, ◌/◌, ◌^◌, ◌<◌, ◌≤◌, ◌⊎◌, suc, min, inl, inr, true, false, Option, Some, None, List, [], ◌∷◌, ◌++◌, map, length, Result, Ok, Err, refl, sym, ap, ◌∙◌, subst, arith, append_assoc}
 use Rattle.std.specs.List.{AllByRecursion, slice_get, slice_set}
 use Rattle.std.specs.Option.{option_map_or, option_and_then}
 use Rattle.std.proofs.lemmas.List.{length-map, length-set}
@@ -23,14 +23,17 @@ use Rattle.unit_port.specs.Armed.{is_stop}
 use Rattle.unit_port.specs.declared.unit.UnitErr.{UnitErr}
 use Rattle.unit_port.specs.declared.unit.UnitErr.TheVariants as unit_errors
 use Rattle.unit_port.specs.Unit.{ModelUnit, IsFitUnit, TellsDone}
+use Rattle.opening_laws.specs.Same.{HoldsTheSame}
+use Rattle.opening_laws.specs.Padding.{IsPaddedAt, ArePadded}
+use Rattle.opening_laws.proofs.PaddedImages.{padded_sealed, padded_holds}
 use Rattle.vector_io.specs.Commands.{UnitCommand, EventAt, command_of, IsNext, AreKept, with_event, after_one, after_all}
 use Rattle.vector_io.specs.Did.{Did, command_at}
 use Rattle.vector_io.proofs.Units.{get_set_same, get_set_other, after_one_is}
+use Rattle.found_laws.specs.Finding.{NoneOpen}
 use Rattle.scan_recovery.specs.declared.error.ScanErr.{ScanErr}
 use Rattle.scan_recovery.specs.declared.error.ScanErr.TheVariants as errors
-use Rattle.scan_recovery.specs.Units.{image_of, AreFit, IsUnitOf, NoneOpen}
+use Rattle.scan_recovery.specs.Units.{image_of, AreFit, IsUnitOf}
 use Rattle.scan_recovery.specs.Pads.{pads_from, room_in, room_at, ArePads, Ends, HasPadded, IsNextPad, IsNotOpen, IsOpenAt, IsQuiet, NoneOpenBefore}
-use Rattle.scan_recovery.proofs.PadImages.{IsPadStep, sealed_still, contents_same, end_same}
 use Rattle.scan_recovery.proofs.PadSteps.{Leaves, leaves, chunk_of, next_above, event_was, event_is, event_others}
 
 -- Units of a drive.
@@ -90,15 +93,22 @@ event_leaves s us e accepted fit pad h =
     subst (λ (command : ChunkCommand). IsOutcome s c command e.event.outcome) pad.command (subst (λ (x : Shape). IsOutcome x c e.event.command e.event.outcome) of.shape h.event.outcome) in
     subst (λ (command : ChunkCommand). Leaves s c (after_outcome s c command e.event.outcome) e.event.outcome) (sym pad.command) (leaves s c at n e.event.outcome chunk is_open some outcome)
 
-event_step : (s : Shape) (us : List ModelUnit) (e : EventAt) → IsAccepted s → AreFit s us → IsNextPad s us (command_of e) → (h : IsNext us e)
-    → IsPadStep s (map (λ u. u.media) us) (map (λ u. u.media) (after_one us e)) e.event.chunk e.unit h.event.found (after_outcome s h.event.found e.event.command e.event.outcome)
-event_step s us e accepted fit pad h = record {
+event_pads : (s : Shape) (us : List ModelUnit) (e : EventAt) → IsAccepted s → AreFit s us → IsNextPad s us (command_of e) → IsNext us e → ArePadded (image_of s us) (image_of s (after_one us e))
+event_pads s us e accepted fit pad h = record {
+  shape = refl;
   count = length-map (after_one us e) (λ (u : ModelUnit). u.media) ∙ (fit_after s us e accepted fit h).count ∙ sym fit.count ∙ sym (length-map us (λ (u : ModelUnit). u.media));
-  was = event_was s us e h;
-  is = event_is s us e h (fit.each e.unit h.unit h.there).shape;
-  others = event_others s us e h;
-  padded = (event_leaves s us e accepted fit pad h).padded;
-}
+  chunks = λ l u. at_place l u (ℕ_discrete l e.event.chunk) (ℕ_discrete u e.unit);
+} where
+  at_place : (l u : ℕ) → Dec (l ≡ e.event.chunk) → Dec (u ≡ e.unit) → (chunk_in (image_of s (after_one us e)) l u ≡ chunk_in (image_of s us) l u) ⊎ IsPaddedAt (image_of s us) (image_of s (after_one us e)) l u
+  at_place l u (yes a) (yes b) = inr (record {
+    old = h.event.found;
+    new = after_outcome s h.event.found e.event.command e.event.outcome;
+    was = ap (λ n. chunk_in (image_of s us) n u) a ∙ ap (chunk_in (image_of s us) e.event.chunk) b ∙ event_was s us e h;
+    is = ap (λ n. chunk_in (image_of s (after_one us e)) n u) a ∙ ap (chunk_in (image_of s (after_one us e)) e.event.chunk) b ∙ event_is s us e h (fit.each e.unit h.unit h.there).shape;
+    padded = (event_leaves s us e accepted fit pad h).padded;
+  })
+  at_place l u (yes a) (no n) = inl (event_others s us e h l u (λ x y. n y))
+  at_place l u (no n) other = inl (event_others s us e h l u (λ x y. n x))
 
 -- What all of them leave.
 
@@ -112,19 +122,10 @@ all_hold s us [] accepted fit pads whole = record { sealed = whole; contents_are
 all_hold s us (e ∷ events) accepted fit pads whole =
     let h : IsNext us e = pads.1 in
     let fit' = fit_after s us e accepted fit h in
-    let c : Chunk = h.event.found in
-    let d : Chunk = after_outcome s c e.event.command e.event.outcome in
-    let step = event_step s us e accepted fit pads.0 h in
-    let us_media : List (List Chunk) = map (λ u. u.media) us in
-    let vs_media : List (List Chunk) = map (λ u. u.media) (after_one us e) in
-    let fits = fit_image s us fit in
-    let fits' = fit_image s (after_one us e) fit' in
-    let rest = all_hold s (after_one us e) events accepted fit' pads.2 (sealed_still s us_media vs_media e.event.chunk e.unit c d accepted fits fits' step whole) in
-    record {
-      sealed = rest.sealed;
-      contents_are = rest.contents_are ∙ contents_same s us_media vs_media e.event.chunk e.unit c d accepted fits fits' step whole;
-      end_is = rest.end_is ∙ end_same s us_media vs_media e.event.chunk e.unit c d accepted fits fits' step whole;
-    }
+    let now : ArePadded (image_of s us) (image_of s (after_one us e)) = event_pads s us e accepted fit pads.0 h in
+    let same : HoldsTheSame (image_of s us) (image_of s (after_one us e)) = padded_holds (image_of s us) (image_of s (after_one us e)) accepted whole now in
+    let rest = all_hold s (after_one us e) events accepted fit' pads.2 (padded_sealed (image_of s us) (image_of s (after_one us e)) accepted whole now) in
+    record { sealed = rest.sealed; contents_are = rest.contents_are ∙ same.contents; end_is = rest.end_is ∙ same.end }
 
 -- One after another.
 

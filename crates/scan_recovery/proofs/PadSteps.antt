@@ -1,5 +1,5 @@
 -- One program of Pad blocks: what it asks, and what it leaves.
-use Rattle.std.proofs.Common.{◌≡◌, ℕ, ◌+◌, ◌-◌, ◌*◌, ◌/◌, ◌%◌, ◌<◌, ◌≤◌, zero, suc, inl, inr, Bool, true, false, cond, Option, Some, None, List, [], ◌∷◌, ◌++◌, length, take, drop, replicate, refl, sym, ap, ◌∙◌, subst, arith, length-append, append-nil}
+use Rattle.std.proofs.Common.{◌≡◌, ℕ, ◌+◌, ◌-◌, ◌*◌, ◌/◌, ◌%◌, ◌<◌, ◌≤◌, zero, suc, inl, inr, Bool, true, false, cond, Option, Some, None, List, [], ◌∷◌, ◌++◌, length, take, drop, replicate, refl, sym, ap, ◌∙◌, subst, arith, length-append}
 use Rattle.std.specs.List.{slice_get, slice_set}
 use Rattle.std.specs.Option.{option_and_then, option_map, option_map_or}
 use Rattle.std.proofs.lemmas.Option.{none-some, slice_get-map, slice_get_within}
@@ -15,22 +15,22 @@ use Rattle.pblk_model.specs.Accepted.{IsAccepted}
 use Rattle.pblk_model.specs.Bytes.{zeros}
 use Rattle.pblk_model.specs.Blocks.{blocks_of}
 use Rattle.pblk_model.specs.Chunk.{Chunk, Block, IsChunk, PointerFits, pointer}
-use Rattle.pblk_model.specs.ChunkStep.{Write, Done, Gave, Empty, Refused, refusal, place_refusal, write_refusal_in, appended, closed_after}
+use Rattle.pblk_model.specs.ChunkStep.{Write, Done, Gave, Empty, Refused, refusal, place_refusal, write_refusal_in}
 use Rattle.pblk_model.specs.Marks.{pad_mark, pad_block}
 use Rattle.pblk_model.specs.UnitLog.{UnitOutcome, UnitEvent, Answered, Failed, Stopped, IsOutcome, after_outcome, after_event}
-use Rattle.pblk_model.specs.Image.{is_online_in}
 use Rattle.pblk_laws.specs.LineBlocks.{chunk_in}
 use Rattle.unit_port.specs.Armed.{is_stop}
 use Rattle.unit_port.specs.Unit.{ModelUnit}
 use Rattle.pblk_model.specs.Shape.{units}
 use Rattle.pblk_model.proofs.Sizes.{line_is_short}
-use Rattle.pblk_laws.proofs.Lists.{all_at}
+use Rattle.pblk_laws.proofs.Lists.{all_at, all_replicate}
+use Rattle.opening_laws.specs.Padding.{IsPadded}
+use Rattle.opening_laws.proofs.PaddedChunks.{program_pads}
 use Rattle.vector_io.specs.Commands.{EventAt, IsNext, IsTaken, with_event, after_one}
 use Rattle.vector_io.specs.Did.{command_at}
 use Rattle.vector_io.proofs.Units.{get_set_same, get_set_other, after_one_is}
 use Rattle.scan_recovery.specs.Units.{image_of, AreFit}
 use Rattle.scan_recovery.specs.Pads.{pads_from, room_in, AreBlank, IsOpenAt}
-use Rattle.scan_recovery.proofs.PadImages.{IsPadOf}
 
 -- The next multiple of WS_OPT.
 
@@ -127,18 +127,9 @@ room_left s c = room_in s c.state (pointer c)
 abbrev room_or : Bool → ℕ → ℕ
 room_or b n = cond b n 0
 
-state_online : (b : Bool) → is_online_in (cond b states.Open states.Closed) ≡ true
-state_online true = refl
-state_online false = refl
-
 state_room : (s : Shape) (b : Bool) (n : ℕ) → room_in s (cond b states.Open states.Closed) n ≤ s.clba - n
 state_room s true n = omega arith
 state_room s false n = omega arith
-
--- what a program of blocks that are alike leaves of an Open chunk
-pub record Leaves (s : Shape) (c d : Chunk) (o : UnitOutcome) : Type 0 where
-  pub padded : IsPadOf s c d
-  pub smaller : is_stop o ≡ false → room_left s d < room_left s c
 
 room_open : (s : Shape) (c : Chunk) → c.state ≡ states.Open → room_left s c ≡ s.clba - pointer c
 room_open s c is = ap (λ st. room_in s st (pointer c)) is
@@ -150,40 +141,28 @@ less_room s c b n m chunk is m-is some =
     let there = state_room s b m in
     omega arith
 
-appended_leaves : (s : Shape) (c : Chunk) (n : ℕ) (o : UnitOutcome) → IsChunk s c → c.state ≡ states.Open → (is_stop o ≡ false → 0 < n) → Leaves s c (appended s c (replicate n (pad_block s))) o
-appended_leaves s c n o chunk is some = record {
-  padded = record { was_open = is; some = (open_fits s c chunk is).0; more = n; blocks = refl; online = state_online _ };
-  smaller = λ quiet. less_room s c _ n (length (c.blocks ++ replicate n (pad_block s))) chunk is (length-append c.blocks (replicate n (pad_block s)) ∙ ap (λ k. length c.blocks + k) (length-replicate n (pad_block s))) (some quiet);
-}
+-- less is left, unless it was stopped
+smaller : (s : Shape) (c : Chunk) (at n : ℕ) (o : UnitOutcome) → IsChunk s c → c.state ≡ states.Open → 0 < n → IsOutcome s c (Write at (replicate n (pad_block s))) o → is_stop o ≡ false
+    → room_left s (after_outcome s c (Write at (replicate n (pad_block s))) o) < room_left s c
+smaller s c at n (Answered Done) chunk is some h quiet =
+    less_room s c _ n (length (c.blocks ++ replicate n (pad_block s))) chunk is (length-append c.blocks (replicate n (pad_block s)) ∙ ap (λ k. length c.blocks + k) (length-replicate n (pad_block s))) some
+smaller s c at n (Answered (Gave block)) chunk is some h quiet = absurd h.1
+smaller s c at n (Answered Empty) chunk is some h quiet = absurd h.1
+smaller s c at n (Answered (Refused e)) chunk is some h quiet = absurd h.0
+smaller s c at n (Failed k) chunk is some h quiet = let fits = open_fits s c chunk is in let here = room_open s c is in omega arith
+smaller s c at n (Stopped k) chunk is some h quiet = absurd cc
 
-cut_pads : (s : Shape) (k n : ℕ) → take k (replicate n (pad_block s)) ≡ replicate (length (take k (replicate n (pad_block s)))) (pad_block s)
-cut_pads s zero n = refl
-cut_pads s (suc k) zero = refl
-cut_pads s (suc k) (suc n) = ap (λ bs. pad_block s ∷ bs) (cut_pads s k n)
-
-closed_leaves : (s : Shape) (c : Chunk) (n k : ℕ) (o : UnitOutcome) → IsChunk s c → c.state ≡ states.Open → Leaves s c (closed_after s c (replicate n (pad_block s)) k) o
-closed_leaves s c n k o chunk is = record {
-  padded = record { was_open = is; some = (open_fits s c chunk is).0; more = length (take (k * s.ws_min) (replicate n (pad_block s))); blocks = ap (λ bs. c.blocks ++ bs) (cut_pads s (k * s.ws_min) n); online = refl };
-  smaller = λ quiet. (let fits = open_fits s c chunk is in let here = room_open s c is in omega arith);
-}
-
-same_leaves : (s : Shape) (c : Chunk) (o : UnitOutcome) → IsChunk s c → c.state ≡ states.Open → is_stop o ≡ true → Leaves s c c o
-same_leaves s c o chunk is stop = record {
-  padded = record { was_open = is; some = (open_fits s c chunk is).0; more = 0; blocks = sym (append-nil c.blocks); online = ap is_online_in is };
-  smaller = λ quiet. absurd cc;
-}
+-- what a program of Pad blocks leaves of an Open chunk
+pub record Leaves (s : Shape) (c d : Chunk) (o : UnitOutcome) : Type 0 where
+  pub padded : IsPadded s c d
+  pub smaller : is_stop o ≡ false → room_left s d < room_left s c
 
 pub leaves : (s : Shape) (c : Chunk) (at n : ℕ) (o : UnitOutcome) → IsChunk s c → c.state ≡ states.Open → 0 < n → IsOutcome s c (Write at (replicate n (pad_block s))) o
     → Leaves s c (after_outcome s c (Write at (replicate n (pad_block s))) o) o
-leaves s c at n (Answered Done) chunk is some h = appended_leaves s c n (Answered Done) chunk is (λ _. some)
-leaves s c at n (Answered (Gave block)) chunk is some h = absurd h.1
-leaves s c at n (Answered Empty) chunk is some h = absurd h.1
-leaves s c at n (Answered (Refused e)) chunk is some h = absurd h.0
-leaves s c at n (Failed k) chunk is some h = closed_leaves s c n k (Failed k) chunk is
-leaves s c at n (Stopped zero) chunk is some h = same_leaves s c (Stopped zero) chunk is refl
-leaves s c at n (Stopped (suc k)) chunk is some h =
-    subst (λ bs. Leaves s c (appended s c bs) (Stopped (suc k))) (sym (cut_pads s (suc k * s.ws_min) n))
-    (appended_leaves s c (length (take (suc k * s.ws_min) (replicate n (pad_block s)))) (Stopped (suc k)) chunk is (λ quiet. absurd cc))
+leaves s c at n o chunk is some h = record {
+  padded = program_pads s c at (replicate n (pad_block s)) o is (open_fits s c chunk is).0 (all_replicate (λ b. b ≡ pad_block s) n (pad_block s) refl);
+  smaller = smaller s c at n o chunk is some h;
+}
 
 -- Where a unit's event shows.
 

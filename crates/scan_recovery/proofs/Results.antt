@@ -17,15 +17,16 @@ use Rattle.pblk_meta.specs.declared.start_record.StartRecord.{StartRecord as Sta
 use Rattle.pblk_meta.specs.declared.rows.Row.{Row as MetaRow}
 use Rattle.pblk_meta.specs.Records.{row_numbers, start_numbers}
 use Rattle.pblk_world.specs.Lines.{is_stray, stray_lines}
+use Rattle.found_laws.specs.Finding.{IsFoundOf, bound_with, line_row, taken_states, top_of, winner_of, winner_with}
 use Rattle.scan_recovery.specs.declared.survey.SeenLine.{SeenLine}
 use Rattle.scan_recovery.specs.declared.survey.Survey.{Survey}
 use Rattle.pblk_model.specs.declared.chunk.ChunkState.{ChunkState}
 use Rattle.scan_recovery.specs.declared.trace.Trace.{Trace}
 use Rattle.scan_recovery.specs.declared.counting.Tally.{Tally}
-use Rattle.scan_recovery.specs.Find.{IsFoundOf, bound_from, bound_with, line_row, row_from, taken_states, winner_with, winner_of}
+use Rattle.scan_recovery.specs.Find.{bound_from, row_from}
 use Rattle.scan_recovery.specs.Survey.{IsSurvey, head_to, seen_line}
 use Rattle.scan_recovery.specs.Tally.{HasStartFits, IsTally}
-use Rattle.scan_recovery.specs.Traces.{IsTable, bare, bares, row_of, top_of, without_sector}
+use Rattle.scan_recovery.specs.Traces.{IsTable, bare, bares, row_of, without_sector}
 use Rattle.scan_recovery.proofs.Tables.{table_same, table_list}
 use Rattle.scan_recovery.proofs.Tallies.{and_right, row_facts}
 use Rattle.scan_recovery.proofs.Founds.{thin, there, end_thin, counted_thin, winner_thin, top_thin}
@@ -104,7 +105,7 @@ module _ (i : Image) (s : Shape) (v : Survey) (shape : i.shape ≡ s) (S : IsSur
   pub found_end : (n : ℕ) → n ≡ end_after (bares v.traces.items) (option_map start_numbers v.head) → n ≡ end i
   found_end n is = is ∙ ap (λ x. end_after x (option_map start_numbers v.head)) traces_are ∙ ap (end_after (thin (records i))) head_is ∙ end_thin (records i) (head i)
 
-  counted_are : counted_after (bares v.traces.items) (option_map start_numbers v.head) ≡ thin (counted i)
+  pub counted_are : counted_after (bares v.traces.items) (option_map start_numbers v.head) ≡ thin (counted i)
   counted_are = ap (λ x. counted_after x (option_map start_numbers v.head)) traces_are ∙ ap (counted_after (thin (records i))) head_is ∙ counted_thin (records i) (head i)
 
   pub found_winners : (t : Tally) (lines : ℕ) (ws : List Winner) → IsTally s.capacity lines (counted_after (bares v.traces.items) (option_map start_numbers v.head)) t

@@ -14,9 +14,9 @@ use Rattle.pblk_model.specs.Records.{Record, named, mark_at, bears, record_at, r
 use Rattle.pblk_model.proofs.Sizes.{line_is_short}
 use Rattle.pblk_laws.proofs.Lists.{all_append, all_at}
 use Rattle.pblk_laws.proofs.Widths.{width_within}
+use Rattle.found_laws.specs.Finding.{taken_state}
 use Rattle.scan_recovery.specs.declared.trace.Trace.{Trace}
 use Rattle.scan_recovery.specs.declared.survey.Survey.{Survey}
-use Rattle.scan_recovery.specs.Find.{taken_state}
 use Rattle.scan_recovery.specs.Survey.{IsSurvey}
 use Rattle.scan_recovery.specs.Traces.{bare, bares, without_sector}
 use Rattle.scan_recovery.specs.Units.{IsStateOf}
@@ -54,11 +54,11 @@ units_done us unit now past now-is = now-is ∙ ap (flat_map states_of) (take_al
 
 -- Records.
 
-if_map : {X Y : Type 0} (P : Y → Type 0) (f : X → Y) (o : Option X) → ((x : X) → P (f x)) → IfSome (option_map f o) P
+pub if_map : {X Y : Type 0} (P : Y → Type 0) (f : X → Y) (o : Option X) → ((x : X) → P (f x)) → IfSome (option_map f o) P
 if_map P f None h = tt
 if_map P f (Some x) h = h x
 
-if_then : {X Y : Type 0} (P : Y → Type 0) (f : X → Option Y) (o : Option X) → ((x : X) → IfSome (f x) P) → IfSome (option_and_then f o) P
+pub if_then : {X Y : Type 0} (P : Y → Type 0) (f : X → Option Y) (o : Option X) → ((x : X) → IfSome (f x) P) → IfSome (option_and_then f o) P
 if_then P f None h = tt
 if_then P f (Some x) h = h x
 
@@ -72,7 +72,7 @@ kept_one : {Y : Type 0} (P : Y → Type 0) (o : Option Y) (ys : List Y) → IfSo
 kept_one P None ys h k = k
 kept_one P (Some y) ys h k = (h, k)
 
-kept_all : {X Y : Type 0} (P : Y → Type 0) (f : X → Option Y) (xs : List X) → ((x : X) → IfSome (f x) P) → AllByRecursion P (filter_map f xs)
+pub kept_all : {X Y : Type 0} (P : Y → Type 0) (f : X → Option Y) (xs : List X) → ((x : X) → IfSome (f x) P) → AllByRecursion P (filter_map f xs)
 kept_all P f [] h = tt
 kept_all P f (x ∷ xs) h = kept_one P (f x) (filter_map f xs) (h x) (kept_all P f xs h)
 

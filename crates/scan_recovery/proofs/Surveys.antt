@@ -44,11 +44,11 @@ map_both : {X Y : Type 0} (f : X → Y) (xs ys : List X) → map f (xs ++ ys) �
 map_both f [] ys = refl
 map_both f (x ∷ xs) ys = ap (λ zs. f x ∷ zs) (map_both f xs ys)
 
-front_of : {X : Type 0} (xs ys : List X) (n : ℕ) → length xs ≡ n → take n (xs ++ ys) ≡ xs
+pub front_of : {X : Type 0} (xs ys : List X) (n : ℕ) → length xs ≡ n → take n (xs ++ ys) ≡ xs
 front_of [] ys n e = ap (λ k. take k ys) (sym e)
 front_of (x ∷ xs) ys n e = ap (λ k. take k (x ∷ (xs ++ ys))) (sym e) ∙ ap (λ zs. x ∷ zs) (front_of xs ys (length xs) refl)
 
-rest_of : {X : Type 0} (xs ys : List X) (n : ℕ) → length xs ≡ n → drop n (xs ++ ys) ≡ ys
+pub rest_of : {X : Type 0} (xs ys : List X) (n : ℕ) → length xs ≡ n → drop n (xs ++ ys) ≡ ys
 rest_of [] ys n e = ap (λ k. drop k ys) (sym e)
 rest_of (x ∷ xs) ys n e = ap (λ k. drop k (x ∷ (xs ++ ys))) (sym e) ∙ rest_of xs ys (length xs) refl
 
@@ -73,7 +73,7 @@ made_rest f n m h =
     ∙ rest_of (map f (range_with_len 0 n)) (map f (range_with_len (0 + n) (m - n))) n (made_length f 0 n)
     ∙ ap (λ a. map f (range_with_len a (m - n))) (zero-add n)
 
-past_line : (i : Image) (line a : ℕ) → IsAccepted i.shape → IsFit i → width i line * i.shape.clba ≤ a → block_at i line a ≡ None
+pub past_line : (i : Image) (line a : ℕ) → IsAccepted i.shape → IsFit i → width i line * i.shape.clba ≤ a → block_at i line a ≡ None
 past_line i line a accepted fit past =
     no_block_past i line a fit accepted.drive.ws_opt accepted.drive.whole_stripes
     (slice_get_past (line_order i.shape (line_units i line)) a (omega (arith, order_length i.shape (line_units i line) accepted.drive.ws_opt accepted.drive.whole_stripes, ap (λ n. n * i.shape.clba) (line_units_count i line))))
@@ -137,10 +137,10 @@ traces_of_line i line start is = traces_range i line start 0 (width i line * i.s
 
 -- One line more.
 
-range_one : (a n : ℕ) → range_with_len a (n + 1) ≡ range_with_len a n ++ (a + n) ∷ []
+pub range_one : (a n : ℕ) → range_with_len a (n + 1) ≡ range_with_len a n ++ (a + n) ∷ []
 range_one a n = range_split a n 1
 
-flat_one : {X : Type 0} (f : ℕ → List X) (xs : List ℕ) (y : ℕ) → flat_map f (xs ++ y ∷ []) ≡ flat_map f xs ++ f y
+pub flat_one : {X : Type 0} (f : ℕ → List X) (xs : List ℕ) (y : ℕ) → flat_map f (xs ++ y ∷ []) ≡ flat_map f xs ++ f y
 flat_one f [] y = append-nil (f y)
 flat_one f (x ∷ xs) y = ap (λ zs. f x ++ zs) (flat_one f xs y) ∙ sym (append_assoc (f x) (flat_map f xs) (f y))
 

@@ -11,10 +11,11 @@ use Rattle.pblk_model.specs.declared.shape.Shape.{Shape}
 use Rattle.pblk_model.specs.StartRecord.{Row, StartRecord, rows_fit, start_fits}
 use Rattle.pblk_model.specs.Records.{Record}
 use Rattle.pblk_model.specs.Contents.{counts, newer, newest, is_of, winner}
+use Rattle.found_laws.specs.Finding.{top_of}
 use Rattle.scan_recovery.specs.declared.trace.Trace.{Trace}
 use Rattle.scan_recovery.specs.declared.counting.Tally.{Tally}
 use Rattle.scan_recovery.specs.Tally.{IsTally}
-use Rattle.scan_recovery.specs.Traces.{IsTable, bare, bares, is_below_row, row_of, top_of}
+use Rattle.scan_recovery.specs.Traces.{IsTable, bare, bares, is_below_row, row_of}
 use Rattle.pblk_laws.proofs.Lists.{all_at}
 use Rattle.scan_recovery.proofs.Tables.{table_set, table_same, table_new, map_take_one}
 

@@ -17,12 +17,28 @@ head_of start = record { line = start.line; seq = start.seq }
 abbrev pub has_record : List Record → ℕ → Bool
 has_record records lba = list_any (λ r. model.is_of lba r.lba) records
 
+-- how many counted records have a sector
+abbrev pub counted_count : Image → ℕ
+counted_count i = length (filter (λ r. is_some r.lba) (model.counted i))
+
+-- how many sectors have a counted record
+abbrev pub live_count : Image → ℕ
+live_count i = length (filter (has_record (model.counted i)) (range_with_len 0 i.shape.capacity))
+
+-- what the image holds
+abbrev pub contents_in : Image → Contents
+contents_in i = record {
+  sectors = model.contents i;
+  end = model.end i;
+  counted = counted_count i;
+  live = live_count i;
+  head = option_map head_of (model.head i);
+}
+
 -- these contents are those of the image
 pub record IsContentsOf (i : Image) (c : Contents) : Type 0 where
   pub sectors : c.sectors ≡ model.contents i
   pub end : c.end ≡ model.end i
-  -- the counted records that have a sector
-  pub counted : c.counted ≡ length (filter (λ r. is_some r.lba) (model.counted i))
-  -- the sectors that have a counted record
-  pub live : c.live ≡ length (filter (has_record (model.counted i)) (range_with_len 0 i.shape.capacity))
+  pub counted : c.counted ≡ counted_count i
+  pub live : c.live ≡ live_count i
   pub head : c.head ≡ option_map head_of (model.head i)

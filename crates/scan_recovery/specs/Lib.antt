@@ -8,3 +8,5 @@ pub mod Reading
 pub mod Survey
 pub mod Find
 pub mod Fetches
+pub mod Media
+pub mod Held

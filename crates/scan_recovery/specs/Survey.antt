@@ -1,24 +1,20 @@
 -- What is found of the lines of an image, one after another.
-use Rattle.std.specs.Prelude.{ℕ, ◌≡◌, not, nat_lt, Bool, true, false, List, map, Option, Some, None}
+use Rattle.std.specs.Prelude.{ℕ, ◌≡◌, not, nat_lt, Bool, true, List, map, Option, Some, None}
 use Rattle.std.specs.List.{filter_map, flat_map, fold, range_with_len}
-use Rattle.std.specs.Option.{option_map, option_map_or, is_some, IfSome}
+use Rattle.std.specs.Option.{option_map, IfSome}
 use Rattle.pblk_model.specs.Chunk.{Block}
 use Rattle.pblk_model.specs.Image.{Image, width}
 use Rattle.pblk_model.specs.StartRecord.{StartRecord, start_of}
-use Rattle.pblk_model.specs.EndRecord.{end_of}
 use Rattle.pblk_model.specs.Records.{line_records}
 use Rattle.pblk_model.specs.Contents.{later_start}
 use Rattle.pblk_meta.specs.Records.{start_numbers}
 use Rattle.pblk_world.specs.Lines.{are_empty}
+use Rattle.found_laws.specs.Finding.{is_full}
 use Rattle.scan_recovery.specs.declared.survey.SeenLine.{SeenLine}
 use Rattle.scan_recovery.specs.declared.survey.Survey.{Survey}
 use Rattle.scan_recovery.specs.Reading.{line_blocks}
 use Rattle.scan_recovery.specs.Tally.{HasStartFits}
 use Rattle.scan_recovery.specs.Traces.{IsTable, bares, without_sector}
-
--- whether a line's end record is whole
-abbrev pub is_full : Image → ℕ → Bool
-is_full i line = option_map_or (λ start. is_some (end_of i line start)) (start_of i line) false
 
 -- a line's sequence number, whether its end record is whole, and whether a chunk of it is neither Free nor Offline
 unfoldable pub seen_line : Image → ℕ → SeenLine

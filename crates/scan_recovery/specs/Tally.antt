@@ -1,19 +1,25 @@
 -- The newest counted records, and the tops of lines.
-use Rattle.std.specs.Prelude.{ℕ, ◌≡◌, true, List, map}
-use Rattle.std.specs.Option.{option_map}
+use Rattle.std.specs.Prelude.{ℕ, ◌≡◌, true, List, length, map}
+use Rattle.std.specs.List.{filter}
+use Rattle.std.specs.Option.{is_some, option_map}
 use Rattle.pblk_model.specs.declared.shape.Shape.{Shape}
 use Rattle.pblk_model.specs.StartRecord.{start_fits}
 use Rattle.pblk_model.specs.Records.{Record}
 use Rattle.pblk_model.specs.Contents.{winner}
 use Rattle.pblk_meta.specs.declared.start_record.StartRecord.{StartRecord}
 use Rattle.pblk_meta.specs.Records.{start_numbers}
+use Rattle.found_laws.specs.Finding.{top_of}
 use Rattle.scan_recovery.specs.declared.counting.Tally.{Tally}
-use Rattle.scan_recovery.specs.Traces.{IsTable, bare, top_of}
+use Rattle.scan_recovery.specs.Traces.{IsTable, bare}
 
 -- the winner of each sector, and the top of each line, of these records
 pub record IsTally (sectors lines : ℕ) (rs : List Record) (t : Tally) : Type 0 where
   pub winners : IsTable sectors (winner rs) (map (option_map bare) t.winners.items)
   pub tops : IsTable lines (top_of rs) t.tops.items
+
+-- how many of the records have a sector
+abbrev pub named_count : List Record → ℕ
+named_count rs = length (filter (λ r. is_some r.lba) rs)
 
 -- its numbers are those of some line
 pub record HasStartFits (h : StartRecord) : Type 0 where

@@ -1,6 +1,6 @@
 -- Records without their sectors, and tables of them by number.
-use Rattle.std.specs.Prelude.{ℕ, ◌+◌, ◌<◌, ◌≡◌, ◌==◌, ◌&&◌, nat_lt, Bool, false, List, [], map, max, length, slice_get, Option, Some, None}
-use Rattle.std.specs.List.{filter, find, fold}
+use Rattle.std.specs.Prelude.{ℕ, ◌+◌, ◌<◌, ◌≡◌, ◌==◌, ◌&&◌, nat_lt, Bool, false, List, [], map, length, slice_get, Option, Some, None}
+use Rattle.std.specs.List.{find}
 use Rattle.std.specs.Option.{option_and_then}
 use Rattle.pblk_model.specs.StartRecord.{Row, StartRecord}
 use Rattle.pblk_model.specs.Records.{Record}
@@ -39,7 +39,3 @@ row_of o line = option_and_then (λ h. find (λ row. row.line == line) h.rows) o
 abbrev pub is_below_row : Option Row → Record → Bool
 is_below_row None r = false
 is_below_row (Some row) r = (row.seq == r.seq) && nat_lt r.position row.bound
-
--- one past the greatest position of a line's records, and 0 where it has none
-abbrev pub top_of : List Record → ℕ → ℕ
-top_of rs line = fold (λ top r. max top (r.position + 1)) 0 (filter (λ r. r.line == line) rs)

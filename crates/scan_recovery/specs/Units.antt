@@ -1,8 +1,7 @@
 -- The units of a drive, and the image that their chunks are.
-use Rattle.std.specs.Prelude.{ℕ, ◌-◌, ◌^◌, ◌≡◌, ◌≢◌, List, [], ◌∷◌, ◌++◌, length, map, min, slice_get, Some}
+use Rattle.std.specs.Prelude.{ℕ, ◌-◌, ◌^◌, ◌≡◌, List, [], ◌∷◌, ◌++◌, length, map, min, slice_get, Some}
 use Rattle.pblk_model.specs.declared.shape.Shape.{Shape}
 use Rattle.pblk_model.specs.declared.chunk.ChunkState.{ChunkState}
-use Rattle.pblk_model.specs.declared.chunk.ChunkState.TheVariants.{Open}
 use Rattle.pblk_model.specs.Shape.{units}
 use Rattle.pblk_model.specs.Chunk.{Chunk}
 use Rattle.pblk_model.specs.UnitLog.{UnitEvent}
@@ -23,10 +22,6 @@ pub record AreFit (s : Shape) (us : List ModelUnit) : Type 0 where
 -- the image that their chunks are
 abbrev pub image_of : Shape → List ModelUnit → Image
 image_of s us = record { shape = s; units = map (λ u. u.media) us }
-
--- no chunk is Open
-abbrev pub NoneOpen : Image → Type 0
-NoneOpen i = (line unit : ℕ) (c : Chunk) → chunk_in i line unit ≡ Some c → c.state ≢ Open
 
 -- a unit's chunk of a line has this state
 abbrev pub IsStateOf : Image → ℕ → ℕ → ChunkState → Type 0

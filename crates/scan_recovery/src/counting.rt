@@ -1,6 +1,6 @@
 //! Which records count, and the newest of them.
 
-ghost use Rattle.std.specs.Prelude.{◌≡◌, ◌==◌, ◌+◌, ◌<◌, ◌^◌, ◌++◌, [], ◌∷◌, ◌&&◌, nat_le, nat_lt, ℕ, List, map, length, true, Some, IfOk, IfSome};
+ghost use Rattle.std.specs.Prelude.{◌≡◌, ◌==◌, ◌+◌, ◌<◌, ◌≤◌, ◌^◌, ◌++◌, [], ◌∷◌, ◌&&◌, nat_le, nat_lt, ℕ, List, map, length, true, Some, IfOk, IfSome};
 ghost use Rattle.std.specs.Bool.{OnTrue};
 ghost use Rattle.std.specs.List.{AllByRecursion, filter, find};
 ghost use Rattle.std.specs.Option.{option_map};
@@ -10,7 +10,7 @@ ghost use Rattle.pblk_model.specs.Records.{Record};
 ghost use Rattle.pblk_model.specs.Contents.{counts, counted_after, end_after, newer};
 ghost use Rattle.pblk_meta.specs.Records.{row_numbers, start_numbers};
 ghost use Rattle.scan_recovery.specs.Traces.{IsTable, bare, bares, is_below_row, row_of};
-ghost use Rattle.scan_recovery.specs.Tally.{HasStartFits, IsTally};
+ghost use Rattle.scan_recovery.specs.Tally.{HasStartFits, IsTally, named_count};
 
 use crate::trace::{Trace, is_newer};
 use pblk_meta::{Row, StartRecord};
@@ -133,6 +133,48 @@ fn count_all(
             tally.note(t);
         }
     }
+}
+
+/// How many of the records that count have a sector. `rows` has the head's row of each line.
+pub(crate) fn named_in(
+    traces: &[Trace],
+    head: &Option<StartRecord>,
+    end: u64,
+    rows: &[Option<Row>],
+) -> u64
+    requires head { IfSome head.now HasStartFits }
+    requires end { end ≡ end_after (bares traces.now) (option_map start_numbers head.now) }
+    requires rows { IsTable (length rows.now) (row_of (option_map start_numbers head.now)) (map (option_map row_numbers) rows.now) }
+    requires lines { AllByRecursion (λ t. t.line < length rows.now) traces.now }
+    ensures { result ≡ named_count (counted_after (bares traces.now) (option_map start_numbers head.now)) }
+{
+    match head {
+        None => 0,
+        Some(head) => named_by(traces, head, end, rows),
+    }
+}
+
+fn named_by(traces: &[Trace], head: &StartRecord, end: u64, rows: &[Option<Row>]) -> u64
+    requires head { HasStartFits head.now }
+    requires rows { IsTable (length rows.now) (row_of (Some (start_numbers head.now))) (map (option_map row_numbers) rows.now) }
+    requires lines { AllByRecursion (λ t. t.line < length rows.now) traces.now }
+    ensures { result ≡ named_count (filter (counts (start_numbers head.now) end) (bares traces.now)) }
+{
+    let mut named = 0;
+    for t in traces {
+        if counts(head, end, &rows[t.line as usize], t) {
+            named += named_one(t);
+        }
+    }
+    named
+}
+
+// 1 for a record that has a sector, and 0 for another.
+fn named_one(t: &Trace) -> u64
+    ensures one { result ≡ named_count (bare t.now ∷ []) }
+    ensures few { result ≤ 1 }
+{
+    u64::from(t.lba.is_some())
 }
 
 impl Tally {

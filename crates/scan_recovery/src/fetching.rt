@@ -5,16 +5,67 @@ ghost use Rattle.pblk_model.specs.Accepted.{IsAccepted};
 ghost use Rattle.pblk_model.specs.Image.{line_units};
 ghost use Rattle.pblk_laws.specs.LineBlocks.{written_at};
 ghost use Rattle.vector_io.specs.Commands.{AreKept, EventAt};
+ghost use Rattle.found_laws.specs.Finding.{NoneOpen};
 ghost use Rattle.scan_recovery.specs.Fetches.{HasFetched, IsReadableAt, error_of};
 ghost use Rattle.scan_recovery.specs.Reading.{line_blocks};
-ghost use Rattle.scan_recovery.specs.Units.{AreFit, NoneOpen, image_of};
+ghost use Rattle.scan_recovery.specs.Units.{AreFit, image_of};
 
 use crate::error::ScanErr;
 use crate::line_records::Block;
 use crate::unit_calls::fetch_at;
 use pblk_model::{Got, Mark, Shape};
-use std::alloc::Global;
+use std::alloc::{AllocError, Global};
+use std::marker::Model;
 use unit_port::Unit;
+
+/// A block that was fetched: its sector and its mark. Contracts see the model's `Block`.
+#[derive(Debug, Drop)]
+pub(crate) struct Fetched {
+    sector: Vec<u8>,
+    mark: Mark,
+}
+
+impl Model for Fetched {
+    ghost use Rattle.pblk_model.specs.Chunk.{Block as Written};
+
+    ghost Value = { Written };
+
+    ghost view = { λ a. record { sector = a.sector.items; mark = a.mark } };
+}
+
+impl Fetched {
+    fn as_block(&self) -> Block<'_>
+        ensures { result ≡ self.now }
+    {
+        Block {
+            sector: self.sector.as_slice(),
+            mark: self.mark,
+        }
+    }
+}
+
+/// Blocks that were fetched, to be read where they lie.
+pub(crate) fn as_blocks(
+    alloc: Global,
+    fetched: &[Option<Fetched>],
+) -> Result<Vec<Option<Block<'_>>>, AllocError>
+    ensures { IfOk result (λ v. v.items ≡ fetched.now) }
+{
+    let mut blocks = Vec::with_capacity(alloc, fetched.len())?;
+    for found in fetched {
+        blocks.push(block_in(found))?;
+    }
+    Ok(blocks)
+}
+
+fn block_in(found: &Option<Fetched>) -> Option<Block<'_>>
+    ensures { result ≡ found.now }
+{
+    match found {
+        None => None,
+        Some(found) => Some(found.as_block()),
+    }
+}
 
 /// Fetches the written blocks of a line, by line address. `online` are the units whose chunk of it isn't Offline.
 pub(crate) fn fetch_line<U: Unit>(
@@ -23,7 +74,7 @@ pub(crate) fn fetch_line<U: Unit>(
     shape: &Shape,
     line: u32,
     online: &[u32],
-) -> Result<Vec<Option<Block>>, ScanErr>
+) -> Result<Vec<Option<Fetched>>, ScanErr>
     requires accepted { IsAccepted shape.now }
     requires fit { AreFit shape.now (map U.model units.old) }
     requires closed { NoneOpen (image_of shape.now (map U.model units.old)) }
@@ -56,7 +107,7 @@ fn fetch_block<U: Unit>(
     line: u32,
     unit: u32,
     block: u32,
-) -> Result<Option<Block>, ScanErr>
+) -> Result<Option<Fetched>, ScanErr>
     requires fit { AreFit shape.now (map U.model units.old) }
     requires closed { NoneOpen (image_of shape.now (map U.model units.old)) }
     requires unit { unit < length units.old }
@@ -72,7 +123,7 @@ fn fetch_block<U: Unit>(
         return Err(ScanErr::Memory);
     };
     match fetch_into(units, shape, line, unit, block, &mut sector) {
-        Ok(mark) => Ok(Some(Block { sector, mark })),
+        Ok(mark) => Ok(Some(Fetched { sector, mark })),
         Err(e) => Err(e),
     }
 }

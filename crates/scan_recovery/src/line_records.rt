@@ -24,37 +24,37 @@ const META: u64 = u64::MAX - 2;
 /// The address in the mark of a position that was given up.
 const VOID: u64 = u64::MAX - 1;
 
-/// A written block: a sector with its mark. Contracts see the model's `Block`.
+/// A written block, wherever it lies: a sector with its mark. Contracts see the model's `Block`.
 #[derive(Debug, Drop)]
-pub(crate) struct Block {
-    pub sector: Vec<u8>,
+pub(crate) struct Block<'a> {
+    pub sector: &'a [u8],
     pub mark: Mark,
 }
 
-impl Model for Block {
+impl<'a> Model for Block<'a> {
     ghost use Rattle.pblk_model.specs.Chunk.{Block as Written};
 
     ghost Value = { Written };
 
-    ghost view = { λ a. record { sector = a.sector.items; mark = a.mark } };
+    ghost view = { λ a. record { sector = a.sector.now; mark = a.mark } };
 }
 
 // The sectors of blocks one after another, where all of them are written.
-fn sectors_of(alloc: Global, run: &[Option<Block>]) -> Result<Option<Vec<u8>>, AllocError>
+fn sectors_of(alloc: Global, run: &[Option<Block<'_>>]) -> Result<Option<Vec<u8>>, AllocError>
     ensures { IfOk result (λ o. option_map (λ v. v.items) o ≡ sectors_of run.now) }
 {
     let mut bytes = Vec::new(alloc);
     for block in run {
         match block {
             None => return Ok(None),
-            Some(block) => bytes.extend_from_slice(&block.sector)?,
+            Some(block) => bytes.extend_from_slice(block.sector)?,
         }
     }
     Ok(Some(bytes))
 }
 
 // Whether a block is written and has the mark of a record of this sequence number.
-fn has_mark(seq: u64, block: &Option<Block>) -> bool
+fn has_mark(seq: u64, block: &Option<Block<'_>>) -> bool
     ensures { result ≡ option_map_or (λ b. (b.mark.lba == meta_lba) && (b.mark.position == seq)) block.now false }
 {
     match block {
@@ -64,7 +64,7 @@ fn has_mark(seq: u64, block: &Option<Block>) -> bool
 }
 
 // Whether all blocks do.
-fn have_mark(seq: u64, run: &[Option<Block>]) -> bool
+fn have_mark(seq: u64, run: &[Option<Block<'_>>]) -> bool
     ensures { result ≡ have_mark seq run.now }
 {
     for block in run {
@@ -81,7 +81,7 @@ pub(crate) fn start_in(
     layout: &Layout,
     line: u32,
     width: u32,
-    blocks: &[Option<Block>],
+    blocks: &[Option<Block<'_>>],
 ) -> Result<Option<StartRecord>, AllocError>
     requires line { line < layout.now.chunks }
     requires width { width ≤ units layout.now }
@@ -112,7 +112,7 @@ pub(crate) fn end_in(
     line: u32,
     width: u32,
     seq: u64,
-    blocks: &[Option<Block>],
+    blocks: &[Option<Block<'_>>],
 ) -> Result<Option<EndRecord>, AllocError>
     requires width { width ≤ units layout.now }
     ensures end { IfOk result (λ o. option_map end_numbers o ≡ end_among layout.now line width seq blocks.now) }
@@ -132,7 +132,7 @@ pub(crate) fn end_in(
 }
 
 // The mark that a block counts with: its pair in the end record where that is whole, else its own.
-fn mark_at(shape: &Shape, end: &Option<EndRecord>, at: u32, block: &Block) -> Option<Mark>
+fn mark_at(shape: &Shape, end: &Option<EndRecord>, at: u32, block: &Block<'_>) -> Option<Mark>
     requires { IsAccepted shape.now }
     ensures { result ≡ mark_at shape.now (option_map end_numbers end.now) at block.now }
 {
@@ -169,7 +169,7 @@ fn trace_at(
     seq: u64,
     end: &Option<EndRecord>,
     at: u32,
-    block: &Option<Block>,
+    block: &Option<Block<'_>>,
 ) -> Option<Trace>
     requires { IsAccepted shape.now }
     ensures { option_map bare result ≡ option_map without_sector (record_in shape.now line seq (option_map end_numbers end.now) at block.now) }
@@ -193,7 +193,7 @@ pub(crate) fn trace_all(
     line: u32,
     seq: u64,
     end: &Option<EndRecord>,
-    blocks: &[Option<Block>],
+    blocks: &[Option<Block<'_>>],
 ) -> Result<(), AllocError>
     requires accepted { IsAccepted shape.now }
     requires few { length blocks.now ≤ 65536 }

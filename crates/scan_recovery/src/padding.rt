@@ -5,7 +5,8 @@ ghost use Rattle.pblk_model.specs.Accepted.{IsAccepted};
 ghost use Rattle.pblk_model.specs.Contents.{contents, end};
 ghost use Rattle.pblk_model.specs.Sealed.{IsSealed};
 ghost use Rattle.vector_io.specs.Commands.{AreKept, EventAt};
-ghost use Rattle.scan_recovery.specs.Units.{AreFit, NoneOpen, image_of};
+ghost use Rattle.found_laws.specs.Finding.{NoneOpen};
+ghost use Rattle.scan_recovery.specs.Units.{AreFit, image_of};
 ghost use Rattle.scan_recovery.specs.Pads.{AreBlank, HasPadded, IsNotOpen, IsOpenAt, NoneOpenBefore, room_at};
 
 use crate::error::ScanErr;

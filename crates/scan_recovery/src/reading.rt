@@ -4,7 +4,7 @@ ghost use Rattle.std.specs.Prelude.{List, Some, ◌≡◌, ◌++◌, ◌<◌, no
 ghost use Rattle.pblk_model.specs.Chunk.{Chunk};
 ghost use Rattle.pblk_model.specs.Image.{is_online_in, line_units};
 ghost use Rattle.pblk_world.specs.Lines.{are_empty, is_empty_state};
-ghost use Rattle.scan_recovery.specs.Find.{taken_state, taken_states};
+ghost use Rattle.found_laws.specs.Finding.{taken_state, taken_states};
 ghost use Rattle.scan_recovery.specs.Units.{AreFit, IsStateOf, image_of};
 
 use pblk_model::{ChunkState, Shape};

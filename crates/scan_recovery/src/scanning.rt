@@ -3,13 +3,13 @@
 ghost use Rattle.std.specs.Prelude.{List, ◌≡◌, ◌+◌, ◌<◌, length, map, IfOk, OnOk};
 ghost use Rattle.pblk_model.specs.Accepted.{IsAccepted};
 ghost use Rattle.vector_io.specs.Commands.{AreKept, EventAt};
+ghost use Rattle.found_laws.specs.Finding.{IsFoundOf, NoneOpen, taken_states};
 ghost use Rattle.scan_recovery.specs.Fetches.{HasFetched, error_of};
-ghost use Rattle.scan_recovery.specs.Find.{IsFoundOf, taken_states};
 ghost use Rattle.scan_recovery.specs.Survey.{IsSurvey};
-ghost use Rattle.scan_recovery.specs.Units.{AreFit, NoneOpen, image_of};
+ghost use Rattle.scan_recovery.specs.Units.{AreFit, image_of};
 
 use crate::error::ScanErr;
-use crate::fetching::fetch_line;
+use crate::fetching::{as_blocks, fetch_line};
 use crate::finding::found_of;
 use crate::reading::{chunk_states, is_used, online_units};
 use crate::survey::Survey;
@@ -88,7 +88,10 @@ fn survey_line<U: Unit>(
         return Err(ScanErr::Memory);
     };
     let width = online.len() as u32;
-    let blocks = fetch_line(alloc, units, shape, line, &online)?;
+    let fetched = fetch_line(alloc, units, shape, line, &online)?;
+    let Ok(blocks) = as_blocks(alloc, &fetched) else {
+        return Err(ScanErr::Memory);
+    };
     match survey.add(alloc, &layout, line, width, used, &blocks) {
         Ok(()) => Ok(()),
         Err(_) => Err(ScanErr::Memory),

@@ -62,7 +62,7 @@ impl Survey {
         line: u32,
         width: u32,
         used: bool,
-        blocks: &[Option<Block>],
+        blocks: &[Option<Block<'_>>],
     ) -> Result<(), AllocError>
         requires accepted { IsAccepted layout.now }
         requires line { line < layout.now.chunks }

@@ -3,7 +3,8 @@ use Rattle.std.proofs.lemmas.List.{length-map}
 use Rattle.std.proofs.lemmas.Result.{err_from_is_err_and}
 use Rattle.vector_io.proofs.Units.{kept_more}
 use Rattle.pblk_laws.specs.LineBlocks.{written_at}
-use Rattle.scan_recovery.specs.Units.{image_of, NoneOpen}
+use Rattle.found_laws.specs.Finding.{NoneOpen}
+use Rattle.scan_recovery.specs.Units.{image_of}
 use Rattle.scan_recovery.proofs.FetchLines.{line_short, unit_within, column_within, block_here, blocks_more, blocks_all}
 use Rattle.scan_recovery.proofs.FetchSteps.{fetched_joined, no_memory}
 use Rattle.scan_recovery.proofs.PadLoops.{fit_kept}

@@ -22,7 +22,7 @@ add-requires-clause-few g c =
     let i = image_of c.args.shape.now us in
     let short = line_short c.args.shape.now us c.args.line c.in-Ok.online.items c.requires.accepted c.requires.fit c.in-Ok.ensures in
     let count : length c.in-Ok.online.items ≡ width i c.args.line = ap length c.in-Ok.ensures ∙ line_units_count i c.args.line in
-    let long : length c.deref-2.result.now ≡ width i c.args.line * c.args.shape.now.clba = ap length (c.deref-2.ensures.value ∙ c.in_ok-blocks.ensures.blocks) ∙ blocks_length i c.args.line in
+    let long : length c.deref-3.result.now ≡ width i c.args.line * c.args.shape.now.clba = ap length (c.deref-3.ensures.value ∙ c.in-Ok-as_blocks.ensures ∙ c.deref-2.ensures.value ∙ c.in_ok-fetched.ensures.blocks) ∙ blocks_length i c.args.line in
     let all : width i c.args.line * c.args.shape.now.clba ≤ 65536 = subst (λ n. n * c.args.shape.now.clba ≤ 65536) count short.1 in
     omega arith
 
@@ -33,7 +33,7 @@ returns-in-Ok-add-clause-survey g c =
     let count : length c.in-Ok.online.items ≡ width i c.args.line = ap length c.in-Ok.ensures ∙ line_units_count i c.args.line in
     let wide : c.len-width.result ≡ width i c.args.line = omega (arith, c.len-width.ensures, c.in-Ok.online.ok.0, count) in
     c.in-Ok-add.ensures i (sym c.new-layout.ensures) (fit_image c.args.shape.now us c.requires.fit) (record {
-      blocks_are = c.deref-2.ensures.value ∙ c.in_ok-blocks.ensures.blocks;
+      blocks_are = c.deref-3.ensures.value ∙ c.in-Ok-as_blocks.ensures ∙ c.deref-2.ensures.value ∙ c.in_ok-fetched.ensures.blocks;
       width_is = wide;
       used_is = c.is_used-used.ensures;
     }) c.requires.survey

@@ -1,8 +1,8 @@
 use Rattle.std.proofs.Common.{map, Some, None, sym, subst, ◌+◌}
 use Rattle.std.proofs.lemmas.Result.{err_from_is_err_and}
 use Rattle.vector_io.proofs.Units.{kept_more}
+use Rattle.found_laws.specs.Finding.{NoneOpen}
 use Rattle.scan_recovery.specs.Survey.{IsSurvey}
-use Rattle.scan_recovery.specs.Units.{NoneOpen}
 use Rattle.scan_recovery.proofs.FetchSteps.{fetched_joined}
 use Rattle.scan_recovery.proofs.PadLoops.{fit_kept}
 use Rattle.scan_recovery.proofs.scanning.survey_lines.Goals as goal
