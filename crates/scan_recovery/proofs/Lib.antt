@@ -14,3 +14,4 @@ pub mod FetchLines
 pub mod ScanSteps
 pub mod Held
 pub mod MediaLines
+pub mod Wears

@@ -83,6 +83,7 @@ pub(crate) fn fetch_line<U: Unit>(
     ensures blocks { IfOk result (λ v. v.items ≡ line_blocks (image_of shape.now (map U.model units.old)) line) }
     ensures fetched { (events : List EventAt) × HasFetched shape.now (map U.model units.old) (map U.model units.new) events (error_of result) }
     ensures kept { AreKept (map U.model units.old) (map U.model units.new) }
+    ensures wear { map U.wear units.new ≡ map U.wear units.old }
 {
     let width = online.len() as u32;
     let mut blocks = Vec::new(alloc);
@@ -115,6 +116,7 @@ fn fetch_block<U: Unit>(
     ensures block { IfOk result (λ o. o ≡ written_at (image_of shape.now (map U.model units.old)) line (unit, block)) }
     ensures fetched { (events : List EventAt) × HasFetched shape.now (map U.model units.old) (map U.model units.new) events (error_of result) }
     ensures kept { AreKept (map U.model units.old) (map U.model units.new) }
+    ensures wear { map U.wear units.new ≡ map U.wear units.old }
 {
     if !is_written(units, shape, line, unit, block) {
         return Ok(None);
@@ -160,6 +162,7 @@ fn fetch_into<U: Unit>(
         ≡ Some (record { sector = out.new; mark = mark })) }
     ensures fetched { (events : List EventAt) × HasFetched shape.now (map U.model units.old) (map U.model units.new) events (error_of result) }
     ensures kept { AreKept (map U.model units.old) (map U.model units.new) }
+    ensures wear { map U.wear units.new ≡ map U.wear units.old }
 {
     // the shape says which blocks there are
     let _ = shape;

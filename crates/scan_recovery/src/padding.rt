@@ -43,6 +43,7 @@ pub fn pad<U: Unit>(alloc: Global, units: &mut [U], shape: &Shape) -> Result<(),
         → end (image_of shape.now (map U.model units.new)) ≡ end (image_of shape.now (map U.model units.old)) }
     ensures fit { AreFit shape.now (map U.model units.new) }
     ensures kept { AreKept (map U.model units.old) (map U.model units.new) }
+    ensures wear { map U.wear units.new ≡ map U.wear units.old }
 {
     match blank_stripe(alloc, shape) {
         Ok((bytes, marks)) => pad_lines(units, shape, &bytes, &marks),
@@ -72,6 +73,7 @@ fn pad_lines<U: Unit>(
     ensures padded { (events : List EventAt) × HasPadded shape.now (map U.model units.old) (map U.model units.new) events result }
     ensures closed { OnOk result (NoneOpenBefore (image_of shape.now (map U.model units.new)) shape.now.chunks 0) }
     ensures kept { AreKept (map U.model units.old) (map U.model units.new) }
+    ensures wear { map U.wear units.new ≡ map U.wear units.old }
 {
     for line in 0..shape.chunks {
         pad_line(units, shape, bytes, marks, line)?;
@@ -95,6 +97,7 @@ fn pad_line<U: Unit>(
     ensures padded { (events : List EventAt) × HasPadded shape.now (map U.model units.old) (map U.model units.new) events result }
     ensures closed { OnOk result (NoneOpenBefore (image_of shape.now (map U.model units.new)) (line + 1) 0) }
     ensures kept { AreKept (map U.model units.old) (map U.model units.new) }
+    ensures wear { map U.wear units.new ≡ map U.wear units.old }
 {
     for unit in 0..shape.units() {
         pad_chunk(units, shape, bytes, marks, line, unit)?;
@@ -120,6 +123,7 @@ fn pad_chunk<U: Unit>(
     ensures padded { (events : List EventAt) × HasPadded shape.now (map U.model units.old) (map U.model units.new) events result }
     ensures closed { OnOk result (NoneOpenBefore (image_of shape.now (map U.model units.new)) line (unit + 1)) }
     ensures kept { AreKept (map U.model units.old) (map U.model units.new) }
+    ensures wear { map U.wear units.new ≡ map U.wear units.old }
 {
     while let Some(at) = open_at(units, shape, line, unit) {
         pad_stripe(units, shape, bytes, marks, line, unit, at)?;
@@ -165,6 +169,7 @@ fn pad_stripe<U: Unit>(
         < room_at shape.now (image_of shape.now (map U.model units.old)) line unit) }
     ensures before { NoneOpenBefore (image_of shape.now (map U.model units.new)) line unit }
     ensures kept { AreKept (map U.model units.old) (map U.model units.new) }
+    ensures wear { map U.wear units.new ≡ map U.wear units.old }
 {
     let end = (at / shape.ws_opt + 1) * shape.ws_opt;
     let count = (end - at) as usize;

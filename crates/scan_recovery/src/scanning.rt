@@ -32,6 +32,7 @@ pub fn scan<U: Unit>(alloc: Global, units: &mut [U], shape: &Shape) -> Result<Fo
     ensures found { IfOk result (IsFoundOf (image_of shape.now (map U.model units.old))) }
     ensures fetched { (events : List EventAt) × HasFetched shape.now (map U.model units.old) (map U.model units.new) events (error_of result) }
     ensures kept { AreKept (map U.model units.old) (map U.model units.new) }
+    ensures wear { map U.wear units.new ≡ map U.wear units.old }
 {
     let mut survey = Survey::new(alloc);
     survey_lines(alloc, units, shape, &mut survey)?;
@@ -58,6 +59,7 @@ fn survey_lines<U: Unit>(
     ensures survey { OnOk result (IsSurvey (image_of shape.now (map U.model units.old)) shape.now.chunks survey.new) }
     ensures fetched { (events : List EventAt) × HasFetched shape.now (map U.model units.old) (map U.model units.new) events (error_of result) }
     ensures kept { AreKept (map U.model units.old) (map U.model units.new) }
+    ensures wear { map U.wear units.new ≡ map U.wear units.old }
 {
     for line in 0..shape.chunks {
         survey_line(alloc, units, shape, survey, line)?;
@@ -81,6 +83,7 @@ fn survey_line<U: Unit>(
     ensures survey { OnOk result (IsSurvey (image_of shape.now (map U.model units.old)) (line + 1) survey.new) }
     ensures fetched { (events : List EventAt) × HasFetched shape.now (map U.model units.old) (map U.model units.new) events (error_of result) }
     ensures kept { AreKept (map U.model units.old) (map U.model units.new) }
+    ensures wear { map U.wear units.new ≡ map U.wear units.old }
 {
     let layout = Layout::new(shape);
     let used = is_used(units, shape, line);

@@ -27,6 +27,7 @@ pub(crate) fn program_at<U: Unit>(
     ensures did { let command = command_at unit chunk (Write at (blocks_of size bytes.now marks.now))
         in (e : EventAt) × Did (map U.model units.old) command e (map U.model units.new) × TellsDone result e.event.outcome }
     ensures kept { AreKept (map U.model units.old) (map U.model units.new) }
+    ensures wear { map U.wear units.new ≡ map U.wear units.old }
 {
     let found = &mut units[unit];
     found.program(chunk, at, bytes, marks)
@@ -45,6 +46,7 @@ pub(crate) fn fetch_at<U: Unit>(
     ensures did { (e : EventAt) × Did (map U.model units.old) (command_at unit chunk (Read block)) e (map U.model units.new)
         × TellsBlock out.old out.new result e.event.outcome }
     ensures kept { AreKept (map U.model units.old) (map U.model units.new) }
+    ensures wear { map U.wear units.new ≡ map U.wear units.old }
 {
     let found = &mut units[unit];
     found.fetch(chunk, block, out)

@@ -1,5 +1,6 @@
 -- A command of one unit out of several: what it leaves of them.
 use Rattle.std.proofs.Common.{ℕ, zero, suc, ◌<◌, ◌≡◌, ◌≢◌, inl, inr, ⊎_elim, Bool, true, false, ◌||◌, List, [], ◌∷◌, ◌++◌, length, map, drop, slice_get, slice_set, slice_index_or, Option, Some, Result, Ok, Err, is_err, refl, sym, ap, ◌∙◌, subst, arith}
+use Rattle.std.specs.Prelude.{IsOk}
 use Rattle.std.specs.List.{list_any}
 use Rattle.std.specs.Option.{option_map, option_map_or}
 use Rattle.std.proofs.lemmas.List.{length-map, length-set, map-set}
@@ -8,13 +9,15 @@ use Rattle.std.proofs.lemmas.Bool.{false≢true}
 use Rattle.std.proofs.lemmas.List.Folds.{list_any-append}
 use native.Mathlib.Decide.{ℕ_discrete}
 use Rattle.pblk_model.specs.declared.shape.Shape.{Shape}
+use Rattle.pblk_model.specs.declared.chunk.Got.{Got}
+use Rattle.pblk_model.specs.declared.chunk.Got.TheVariants as got
 use Rattle.pblk_model.specs.declared.chunk.Mark.{Mark}
 use Rattle.pblk_model.specs.Blocks.{blocks_of}
 use Rattle.pblk_model.specs.Chunk.{Chunk}
 use Rattle.pblk_model.specs.ChunkStep.{ChunkCommand, Write, Read}
 use Rattle.pblk_model.specs.UnitLog.{UnitEvent, UnitOutcome, Answered, Failed, Stopped, IsEvent, after_event, after_outcome}
-use Rattle.unit_port.specs.Armed.{Armed, is_stop}
-use Rattle.unit_port.specs.Unit.{ModelUnit, Takes, Steps, IsFitUnit, IsStopped, TellsDone}
+use Rattle.unit_port.specs.Armed.{Armed, IsUnarmed, is_fail, is_stop}
+use Rattle.unit_port.specs.Unit.{ModelUnit, Takes, Steps, IsFitUnit, IsStopped, TellsDone, TellsBlock}
 use Rattle.unit_port.specs.declared.unit.UnitErr.{UnitErr}
 use Rattle.unit_port.specs.declared.unit.UnitErr.TheVariants as errors
 use Rattle.vector_io.specs.Status.{is_lost, is_empty}
@@ -53,12 +56,13 @@ module _ {U : Type 0} (model : U → ModelUnit) where
 
   pub did_step : (units : List U) (k : ℕ) (d y : U) (chunk : ℕ) (command : ChunkCommand) (outcome : UnitOutcome) → IsTaken (map model units) (record { unit = k; chunk = chunk; command = command })
       → Steps (model (slice_index_or units k d)) chunk command outcome (model y)
+      → (IsUnarmed (model (slice_index_or units k d)).armed → (is_fail outcome ≡ false) × (is_stop outcome ≡ false))
       → Did (map model units) (record { unit = k; chunk = chunk; command = command }) (at_unit k chunk command outcome) (map model (slice_set units k y))
-  did_step units k d y chunk command outcome taken h =
+  did_step units k d y chunk command outcome taken h quiet =
       let within : k < length units = taken_within units (record { unit = k; chunk = chunk; command = command }) taken in
       record {
         command = refl;
-        next = record { unit = model (slice_index_or units k d); there = model_there units k d within; event = h.event; stopped = h.stopped };
+        next = record { unit = model (slice_index_or units k d); there = model_there units k d within; event = h.event; stopped = h.stopped; quiet = quiet };
         units = map-set model units k y
             ∙ ap (λ (v : ModelUnit). slice_set (map model units) k v) (stepped (model (slice_index_or units k d)) (model y) chunk command outcome h)
             ∙ ap (λ (o : Option ModelUnit). option_map_or (λ u. slice_set (map model units) k (with_event u (record { chunk = chunk; command = command; outcome = outcome }))) o (map model units)) (sym (model_there units k d within));
@@ -173,6 +177,16 @@ pub told_lost : (r : Result (Unit {0}) UnitErr) (o : UnitOutcome) → TellsDone 
 told_lost (Ok done) o h = ap is_lost (sym h)
 told_lost (Err errors.Failed) o h = ap is_lost (sym h.1)
 told_lost (Err errors.Stopped) o h = ap is_lost (sym h.1)
+
+-- where it answered, it neither failed nor was stopped
+pub told_quiet : (r : Result (Unit {0}) UnitErr) (o : UnitOutcome) → TellsDone r o → IsOk r → (is_fail o ≡ false) × (is_stop o ≡ false)
+told_quiet (Ok done) o h ok = (ap is_fail h, ap is_stop h)
+told_quiet (Err e) o h ok = cc
+
+pub block_quiet : (before after : List ℕ) (r : Result Got UnitErr) (o : UnitOutcome) → TellsBlock before after r o → IsOk r → (is_fail o ≡ false) × (is_stop o ≡ false)
+block_quiet before after (Ok (got.Sector mark)) o h ok = (ap is_fail h, ap is_stop h)
+block_quiet before after (Ok got.Empty) o h ok = (ap is_fail h.0, ap is_stop h.0)
+block_quiet before after (Err e) o h ok = cc
 
 pub told_not_empty : (r : Result (Unit {0}) UnitErr) (o : UnitOutcome) → TellsDone r o → is_empty o ≡ false
 told_not_empty (Ok done) o h = ap is_empty h

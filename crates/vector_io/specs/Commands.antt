@@ -1,10 +1,11 @@
 -- Commands on units, one after another, and what they leave.
-use Rattle.std.specs.Prelude.{ℕ, ◌*◌, ◌≡◌, ◌==◌, if◌then◌else◌, ⊤, List, [], ◌∷◌, ◌++◌, length, map, slice_get, slice_set, Some}
+use Rattle.std.specs.Prelude.{ℕ, ◌*◌, ◌≡◌, ◌==◌, if◌then◌else◌, ⊤, false, List, [], ◌∷◌, ◌++◌, length, map, slice_get, slice_set, Some}
 use Rattle.std.specs.List.{fold}
 use Rattle.std.specs.Option.{option_map_or}
 use Rattle.pblk_model.specs.ChunkStep.{ChunkCommand}
 use Rattle.pblk_model.specs.Geometry.{Geometry}
 use Rattle.pblk_model.specs.UnitLog.{UnitEvent, Stopped, IsEvent, IsUnitLog, after_event, after_log}
+use Rattle.unit_port.specs.Armed.{IsUnarmed, is_fail, is_stop}
 use Rattle.unit_port.specs.Unit.{ModelUnit, IsStopped, IsFitUnit, Takes}
 
 -- a command on a chunk of the unit with this number
@@ -40,12 +41,14 @@ after_one units e =
 abbrev pub after_all : List ModelUnit → List EventAt → List ModelUnit
 after_all units events = fold after_one units events
 
--- an event that may come next: it is one over its unit's chunks, and of a stopped unit a stop that did nothing
+-- an event that may come next: it is one over its unit's chunks, of a stopped unit a stop that did nothing, and of a unit
+-- that is armed with nothing neither a failure nor a stop
 pub record IsNext (units : List ModelUnit) (e : EventAt) : Type 0 where
   pub unit : ModelUnit
   pub there : slice_get units e.unit ≡ Some unit
   pub event : IsEvent unit.shape unit.media e.event
   pub stopped : IsStopped unit → e.event.outcome ≡ Stopped 0
+  pub quiet : IsUnarmed unit.armed → (is_fail e.event.outcome ≡ false) × (is_stop e.event.outcome ≡ false)
 
 -- each is the next one after those before it
 abbrev pub AreNext : List ModelUnit → List EventAt → Type 0

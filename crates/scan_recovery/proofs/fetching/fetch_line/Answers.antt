@@ -46,6 +46,7 @@ loop-at-preserved g c =
       ran = fetched_joined s (map g.U.Unit.model c.args.units.now) (map g.U.Unit.model c.loop-at.units) (map g.U.Unit.model c.fetch_block.new.units) None c.loop-at.invariant.ran c.in_ok-found.ensures.fetched;
       blocks = blocks_more i c.args.line c.loop-at.at c.loop-at.blocks.items c.push.new.self.items c.in_ok-found.found c.in-Ok.ensures.items here c.loop-at.invariant.blocks;
       kept = kept_more (map g.U.Unit.model c.args.units.now) (map g.U.Unit.model c.loop-at.units) (map g.U.Unit.model c.fetch_block.new.units) c.loop-at.invariant.kept c.fetch_block.ensures.kept;
+      wear = c.fetch_block.ensures.wear ∙ c.loop-at.invariant.wear;
     }
 
 pub returns-in-Err-clause-fetched : goal.returns-in-Err-clause-fetched

@@ -11,4 +11,5 @@ invariant-loop-at g l = record {
   ran : Fetched l.shape (map g.U.Unit.model l.fn.units) (map g.U.Unit.model l.units) None;
   blocks : l.blocks.items ≡ map (block_at (image_of l.shape (map g.U.Unit.model l.fn.units)) l.line) (range_with_len 0 l.at);
   kept : AreKept (map g.U.Unit.model l.fn.units) (map g.U.Unit.model l.units);
+  wear : map g.U.Unit.wear l.units ≡ map g.U.Unit.wear l.fn.units;
 }

@@ -1,4 +1,4 @@
-use Rattle.std.proofs.Common.{map, Ok, Err, refl}
+use Rattle.std.proofs.Common.{map, Ok, Err, refl, ◌∙◌}
 use Rattle.std.proofs.lemmas.Result.{err_from_is_err_and}
 use Rattle.vector_io.proofs.Units.{kept_more}
 use Rattle.scan_recovery.proofs.PadLoops.{fit_kept, run_joined, next_unit}
@@ -16,6 +16,7 @@ loop-at-preserved g c = record {
   ran = run_joined c.args.shape.now (map g.U.Unit.model c.args.units.now) (map g.U.Unit.model c.loop-at.units) (map g.U.Unit.model c.pad_stripe.new.units) (Ok tt) c.loop-at.invariant.ran c.in_ok-pad_stripe.ensures.padded;
   before = c.pad_stripe.ensures.before;
   kept = kept_more (map g.U.Unit.model c.args.units.now) (map g.U.Unit.model c.loop-at.units) (map g.U.Unit.model c.pad_stripe.new.units) c.loop-at.invariant.kept c.pad_stripe.ensures.kept;
+  wear = c.pad_stripe.ensures.wear ∙ c.loop-at.invariant.wear;
 }
 
 pub returns-in_err-pad_stripe-clause-padded : goal.returns-in_err-pad_stripe-clause-padded

@@ -1,4 +1,4 @@
-use Rattle.std.proofs.Common.{◌≤◌, map, length, Ok, Err, arith}
+use Rattle.std.proofs.Common.{◌≤◌, map, length, Ok, Err, arith, ◌∙◌}
 use Rattle.std.proofs.lemmas.List.{length-map}
 use Rattle.std.proofs.lemmas.Result.{err_from_is_err_and}
 use Rattle.unit_port.specs.Unit.{ModelUnit}
@@ -23,6 +23,7 @@ loop-unit-preserved g c = record {
   ran = run_joined c.args.shape.now (map g.U.Unit.model c.args.units.now) (map g.U.Unit.model c.loop-unit.units) (map g.U.Unit.model c.pad_chunk.new.units) (Ok tt) c.loop-unit.invariant.ran c.in_ok-pad_chunk.ensures.padded;
   before = c.in_ok-pad_chunk.ensures.closed;
   kept = kept_more (map g.U.Unit.model c.args.units.now) (map g.U.Unit.model c.loop-unit.units) (map g.U.Unit.model c.pad_chunk.new.units) c.loop-unit.invariant.kept c.pad_chunk.ensures.kept;
+  wear = c.pad_chunk.ensures.wear ∙ c.loop-unit.invariant.wear;
 }
 
 pub returns-clause-closed : goal.returns-clause-closed

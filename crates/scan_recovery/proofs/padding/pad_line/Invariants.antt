@@ -1,4 +1,4 @@
-use Rattle.std.proofs.Common.{map, Ok}
+use Rattle.std.proofs.Common.{◌≡◌, map, Ok}
 use Rattle.vector_io.specs.Commands.{AreKept}
 use Rattle.scan_recovery.specs.Units.{image_of}
 use Rattle.scan_recovery.specs.Pads.{NoneOpenBefore}
@@ -10,4 +10,5 @@ invariant-loop-unit g l = record {
   ran : HasRun l.shape (map g.U.Unit.model l.fn.units) (map g.U.Unit.model l.units) (Ok tt);
   before : NoneOpenBefore (image_of l.shape (map g.U.Unit.model l.units)) l.line l.unit;
   kept : AreKept (map g.U.Unit.model l.fn.units) (map g.U.Unit.model l.units);
+  wear : map g.U.Unit.wear l.units ≡ map g.U.Unit.wear l.fn.units;
 }

@@ -1,4 +1,4 @@
-use Rattle.std.proofs.Common.{◌≡◌, map, Ok, Err, subst, arith}
+use Rattle.std.proofs.Common.{◌≡◌, map, Ok, Err, subst, arith, ◌∙◌}
 use Rattle.std.proofs.lemmas.Result.{err_from_is_err_and}
 use Rattle.vector_io.proofs.Units.{kept_more}
 use Rattle.scan_recovery.proofs.PadLoops.{fit_kept, run_joined}
@@ -22,6 +22,7 @@ loop-line-preserved g c = record {
   ran = run_joined c.args.shape.now (map g.U.Unit.model c.args.units.now) (map g.U.Unit.model c.loop-line.units) (map g.U.Unit.model c.pad_line.new.units) (Ok tt) c.loop-line.invariant.ran c.in_ok-pad_line.ensures.padded;
   before = c.in_ok-pad_line.ensures.closed;
   kept = kept_more (map g.U.Unit.model c.args.units.now) (map g.U.Unit.model c.loop-line.units) (map g.U.Unit.model c.pad_line.new.units) c.loop-line.invariant.kept c.pad_line.ensures.kept;
+  wear = c.pad_line.ensures.wear ∙ c.loop-line.invariant.wear;
 }
 
 pub returns-clause-closed : goal.returns-clause-closed

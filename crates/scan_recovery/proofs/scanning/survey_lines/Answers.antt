@@ -1,4 +1,4 @@
-use Rattle.std.proofs.Common.{map, Some, None, sym, subst, ◌+◌}
+use Rattle.std.proofs.Common.{map, Some, None, sym, subst, ◌+◌, ◌∙◌}
 use Rattle.std.proofs.lemmas.Result.{err_from_is_err_and}
 use Rattle.vector_io.proofs.Units.{kept_more}
 use Rattle.found_laws.specs.Finding.{NoneOpen}
@@ -29,4 +29,5 @@ loop-line-preserved g c = record {
   ran = fetched_joined c.args.shape.now (map g.U.Unit.model c.args.units.now) (map g.U.Unit.model c.loop-line.units) (map g.U.Unit.model c.survey_line.new.units) None c.loop-line.invariant.ran c.in_ok-survey_line.ensures.fetched;
   survey = subst (λ i. IsSurvey i (c.loop-line.line + 1) c.survey_line.new.survey) c.loop-line.invariant.ran.1.image c.in_ok-survey_line.ensures.survey;
   kept = kept_more (map g.U.Unit.model c.args.units.now) (map g.U.Unit.model c.loop-line.units) (map g.U.Unit.model c.survey_line.new.units) c.loop-line.invariant.kept c.survey_line.ensures.kept;
+  wear = c.survey_line.ensures.wear ∙ c.loop-line.invariant.wear;
 }

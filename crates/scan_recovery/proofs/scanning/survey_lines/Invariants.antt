@@ -1,4 +1,4 @@
-use Rattle.std.proofs.Common.{map, None}
+use Rattle.std.proofs.Common.{◌≡◌, map, None}
 use Rattle.vector_io.specs.Commands.{AreKept}
 use Rattle.scan_recovery.specs.Survey.{IsSurvey}
 use Rattle.scan_recovery.specs.Units.{image_of}
@@ -10,4 +10,5 @@ invariant-loop-line g l = record {
   ran : Fetched l.shape (map g.U.Unit.model l.fn.units) (map g.U.Unit.model l.units) None;
   survey : IsSurvey (image_of l.shape (map g.U.Unit.model l.fn.units)) l.line l.survey;
   kept : AreKept (map g.U.Unit.model l.fn.units) (map g.U.Unit.model l.units);
+  wear : map g.U.Unit.wear l.units ≡ map g.U.Unit.wear l.fn.units;
 }
