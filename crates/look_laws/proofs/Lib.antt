@@ -1,4 +1,12 @@
+pub mod Borne
+pub mod LineAddresses
+pub mod LiveUnits
 pub mod HeldSectors
-pub mod LatestSectors
 pub mod ReadBlocks
+pub mod FoundLines
+pub mod FoundRecords
+pub mod EntryBlocks
+pub mod WinnerBlocks
 pub mod SlotBlocks
+pub mod LatestSectors
+pub mod BlankLooks

@@ -6,19 +6,14 @@ use Rattle.std.specs.Option.{option_map, option_map_or, unwrap_or}
 use Rattle.std.proofs.lemmas.Option.{same_Some, none-some}
 use Rattle.pblk_model.specs.Chunk.{Block}
 use Rattle.pblk_model.specs.Records.{Record}
-use Rattle.pblk_model.specs.Contents.{counted, winner}
 use Rattle.pblk_model.specs.Image.{Image}
-use Rattle.pblk_world.specs.World.{World, Logs, log_of}
+use Rattle.pblk_world.specs.World.{Logs}
 use Rattle.pblk_world.specs.EngineLog.{Taken, Placed, placements, has_landed, bears_position}
-use Rattle.pblk_world.specs.Fronts.{last_take}
-use Rattle.pblk_world.specs.Lines.{found_image}
 use Rattle.pblk_world.specs.Space.{is_readable_in, gives_back}
 use Rattle.l2p_map.specs.declared.slot.Slot.TheVariants.{Cached, Media}
 use Rattle.stripe_placer.proofs.Among.{IsAmong}
-use Rattle.core_laws.specs.PlainWorlds.{IsBlankWorld}
-use Rattle.core_laws.specs.SlotOf.{address_in, readable_block, media_of, slot_of_winner, slot_by, slot_of}
+use Rattle.core_laws.specs.SlotOf.{address_in, readable_block, media_of, slot_of_entry, slot_of_winner}
 use Rattle.core_laws.proofs.Turns.{found_is}
-use Rattle.line_laws.proofs.Blank.{found_blank, no_counted}
 
 -- ---- lists
 
@@ -41,7 +36,7 @@ any_found {X} f (x ∷ xs) e = go (f x) e (any_found f xs)
     go true e rest = (x, refl)
     go false e rest = rest e
 
-both_true : (a b : Bool) → (a && b) ≡ true → (a ≡ true) × (b ≡ true)
+pub both_true : (a b : Bool) → (a && b) ≡ true → (a ≡ true) × (b ≡ true)
 both_true true b e = (refl, e)
 both_true false b e = absurd cc
 
@@ -79,12 +74,11 @@ read_in i logs q p e =
 
 -- ---- the slot
 
-pub record IsOnDrive (i : Image) (logs : Logs) (lba line at q : ℕ) : Type 0 where
-  pub entry : Taken
-  pub last : last_take (logs 0) lba ≡ Some entry
-  pub of_position : entry.entry.position ≡ q
+-- of an entry that is on the drive
+pub record IsEntryOnDrive (i : Image) (logs : Logs) (t : Taken) (line at q : ℕ) : Type 0 where
+  pub of_position : t.entry.position ≡ q
   pub stripe : Placed
-  pub read : IsReadIn i logs entry.entry.position stripe
+  pub read : IsReadIn i logs t.entry.position stripe
   pub of_line : stripe.stripe.line ≡ line
   pub address : address_in i logs stripe.life stripe (stripe.stripe.at + read.number) ≡ at
 
@@ -97,28 +91,32 @@ same_address l m a b p q e = cc
 same_position : (l m a b p q : ℕ) → Media l a p ≡ Media m b q → p ≡ q
 same_position l m a b p q e = cc
 
-winner_none : (i : Image) (w : World) (lba : ℕ) → IsBlankWorld i w → winner (counted (found_image i (log_of w))) lba ≡ None
-winner_none i w lba blank = ap (λ (rs : List Record). winner rs lba) (ap counted (found_blank i w blank.plain.legal blank.free) ∙ no_counted i blank.plain.accepted blank.free)
-
-pub on_drive : (i : Image) (w : World) (lba line at q : ℕ) → IsBlankWorld i w → slot_of i (log_of w) lba ≡ Media line at q → IsOnDrive i (log_of w) lba line at q
-on_drive i w lba line at q blank slot = go (last_take (log_of w 0) lba) refl slot
+pub entry_on_drive : (i : Image) (logs : Logs) (t : Taken) (line at q : ℕ) → slot_of_entry i logs t.entry.position ≡ Media line at q → IsEntryOnDrive i logs t line at q
+entry_on_drive i logs t line at q slot = by (find (gives_back i.shape (logs 0) t.entry.position) (placements (logs 0))) refl slot
   where
-    by : (t : Taken) → last_take (log_of w 0) lba ≡ Some t → (p : Option Placed) → find (gives_back i.shape (log_of w 0) t.entry.position) (placements (log_of w 0)) ≡ p
-        → option_map_or (media_of i (log_of w) t.entry.position) p (Cached t.entry.position) ≡ Media line at q → IsOnDrive i (log_of w) lba line at q
-    by t last None none e = absurd cc
-    by t last (Some p) some e =
-        let read : IsReadIn i (log_of w) t.entry.position p = read_in i (log_of w) t.entry.position p some in
-        let found : ℕ = unwrap_or (readable_block i (log_of w) t.entry.position p) 0 in
+    by : (p : Option Placed) → find (gives_back i.shape (logs 0) t.entry.position) (placements (logs 0)) ≡ p → option_map_or (media_of i logs t.entry.position) p (Cached t.entry.position) ≡ Media line at q → IsEntryOnDrive i logs t line at q
+    by None none e = absurd cc
+    by (Some p) some e =
+        let read : IsReadIn i logs t.entry.position p = read_in i logs t.entry.position p some in
+        let found : ℕ = unwrap_or (readable_block i logs t.entry.position p) 0 in
         record {
-          entry = t;
-          last = last;
-          of_position = same_position p.stripe.line line (address_in i (log_of w) p.life p found) at t.entry.position q e;
+          of_position = same_position p.stripe.line line (address_in i logs p.life p found) at t.entry.position q e;
           stripe = p;
           read = read;
-          of_line = same_line p.stripe.line line (address_in i (log_of w) p.life p found) at t.entry.position q e;
-          address = ap (λ n. address_in i (log_of w) p.life p (unwrap_or n 0)) (sym read.first) ∙ same_address p.stripe.line line (address_in i (log_of w) p.life p found) at t.entry.position q e;
+          of_line = same_line p.stripe.line line (address_in i logs p.life p found) at t.entry.position q e;
+          address = ap (λ n. address_in i logs p.life p (unwrap_or n 0)) (sym read.first) ∙ same_address p.stripe.line line (address_in i logs p.life p found) at t.entry.position q e;
         }
 
-    go : (t : Option Taken) → last_take (log_of w 0) lba ≡ t → slot_by i (log_of w) lba t ≡ Media line at q → IsOnDrive i (log_of w) lba line at q
-    go None f e = let not_there : slot_of_winner None ≡ Media line at q = ap slot_of_winner (sym (winner_none i w lba blank)) ∙ e in absurd cc
-    go (Some t) f e = by t f (find (gives_back i.shape (log_of w 0) t.entry.position) (placements (log_of w 0))) refl e
+-- of a sector's winner
+pub record IsWinnersSlot (winning : Record) (line at q : ℕ) : Type 0 where
+  pub of_line : winning.line ≡ line
+  pub of_address : winning.at ≡ at
+  pub of_position : winning.position ≡ q
+
+pub winner_on_drive : (o : Option Record) (line at q : ℕ) → slot_of_winner o ≡ Media line at q → (r : Record) × (o ≡ Some r) × IsWinnersSlot r line at q
+winner_on_drive None line at q e = absurd cc
+winner_on_drive (Some r) line at q e = (
+  r,
+  refl,
+  record { of_line = same_line r.line line r.at at r.position q e; of_address = same_address r.line line r.at at r.position q e; of_position = same_position r.line line r.at at r.position q e },
+)

@@ -1,29 +1,52 @@
 -- The block of a sector that is on the drive, by its line and its address in the line.
-use Rattle.std.specs.Prelude.{ℕ, ◌*◌, ◌<◌, ◌≡◌, length, slice_get, Some}
+use Rattle.std.specs.Prelude.{ℕ, ◌-◌, ◌*◌, ◌<◌, ◌≤◌, ◌≡◌, length, slice_get, Option, Some, None}
 use Rattle.pblk_model.specs.Shape.{units}
 use Rattle.pblk_model.specs.Chunk.{Chunk, Block, IsReadable}
+use Rattle.pblk_model.specs.Contents.{counted, winner}
 use Rattle.pblk_model.specs.LineOrder.{line_order}
 use Rattle.pblk_model.specs.Marks.{sector_mark}
 use Rattle.pblk_model.specs.Image.{Image}
+use Rattle.pblk_model.specs.Records.{Record}
+use Rattle.pblk_model.specs.Sealed.{IsSealed}
 use Rattle.pblk_layout.specs.Live.{units_in}
 use Rattle.pblk_world.specs.World.{Logs, media}
-use Rattle.pblk_world.specs.EngineLog.{Opening, Opened, life_of, Taken, takes}
-use Rattle.pblk_world.specs.Fronts.{last_take}
+use Rattle.pblk_world.specs.EngineLog.{AsFound, Opening, Opened, life_of, Taken, takes}
+use Rattle.pblk_world.specs.Fronts.{first_position, last_take}
+use Rattle.pblk_world.specs.Lines.{found_image}
 use Rattle.pblk_laws.specs.LineBlocks.{chunk_in}
 use Rattle.core_laws.specs.OpenedLines.{live_now}
 
--- It is that of the sector's last entry, of this position. It can be read, and bears the sector's mark.
-pub record IsBlockOfSlot (i : Image) (logs : Logs) (lba line at position : ℕ) : Type 0 where
-  pub entry : Taken
-  pub last : last_take (logs 0) lba ≡ Some entry
-  pub of_position : entry.entry.position ≡ position
-  pub taken : slice_get (takes (logs 0)) position ≡ Some entry
-  -- its line was opened
+-- It is the block of an entry of this mount, which has this position, in a line that was opened.
+pub record IsOfEntry (i : Image) (logs : Logs) (lba line position : ℕ) (block : Block) (t : Taken) : Type 0 where
+  pub of_position : t.entry.position ≡ position
+  pub from_first : first_position (logs 0) ≤ position
+  pub taken : slice_get (takes (logs 0)) (position - first_position (logs 0)) ≡ Some t
   pub opening : Opening
   pub opened : life_of (logs 0) line ≡ Opened opening
-  pub in_range : line < i.shape.chunks
+  pub sector : block.sector ≡ t.entry.sector
+  pub mark : block.mark ≡ sector_mark lba position
+
+-- It is the block of the sector's winner in the image that the mount found, in a line that is as it was found.
+pub record IsOfWinner (i : Image) (logs : Logs) (lba line at position : ℕ) (block : Block) : Type 0 where
+  pub winning : Record
+  pub wins : winner (counted (found_image i logs)) lba ≡ Some winning
+  pub of_line : winning.line ≡ line
+  pub of_address : winning.at ≡ at
+  pub of_position : winning.position ≡ position
+  pub as_found : life_of (logs 0) line ≡ AsFound
+  pub sector : block.sector ≡ winning.sector
+  -- only a crafted image has blocks that bear other marks than the pairs of their lines' end records
+  pub mark : IsSealed (found_image i logs) → block.mark ≡ sector_mark lba position
+
+-- It is that of the sector's last entry, and of its winner where no entry of it was taken.
+abbrev pub IsOfLatest : Image → Logs → ℕ → ℕ → ℕ → ℕ → Block → Option Taken → Type 0
+IsOfLatest i logs lba line at position block None = IsOfWinner i logs lba line at position block
+IsOfLatest i logs lba line at position block (Some t) = IsOfEntry i logs lba line position block t
+
+-- The block can be read.
+pub record IsBlockOfSlot (i : Image) (logs : Logs) (lba line at position : ℕ) : Type 0 where
   -- the address is one of the line's, and this is its place: a unit and a block of its chunk
-  pub wide : length (units_in (live_now i logs line)) ≡ units i.shape
+  pub in_range : line < i.shape.chunks
   pub within : at < length (units_in (live_now i logs line)) * i.shape.clba
   pub unit : ℕ
   pub number : ℕ
@@ -35,5 +58,5 @@ pub record IsBlockOfSlot (i : Image) (logs : Logs) (lba line at position : ℕ) 
   pub readable : IsReadable i.shape chunk number
   pub block : Block
   pub written : slice_get chunk.blocks number ≡ Some block
-  pub sector : block.sector ≡ entry.entry.sector
-  pub mark : block.mark ≡ sector_mark lba position
+  -- whose it is
+  pub latest : IsOfLatest i logs lba line at position block (last_take (logs 0) lba)

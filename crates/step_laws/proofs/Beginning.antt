@@ -1,55 +1,95 @@
--- The first step of a mount of a blank drive.
-use Rattle.std.proofs.Common.{◌≡◌, ◌≢◌, ℕ, None, List, [], ◌∷◌, refl, sym, ap, arith}
-use Rattle.std.specs.List.{AllByRecursion}
-use Rattle.pblk_model.specs.declared.chunk.ChunkState.TheVariants as states
-use Rattle.pblk_model.specs.Accepted.{IsAccepted}
-use Rattle.pblk_model.specs.Chunk.{Chunk, free_chunk}
-use Rattle.pblk_model.specs.Image.{Image, IsFit}
-use Rattle.pblk_model.specs.StartRecord.{start_of}
-use Rattle.pblk_world.specs.Events.{Begin, Decides}
-use Rattle.pblk_world.specs.World.{log_of, media}
-use Rattle.pblk_world.specs.Lines.{next_seq}
-use Rattle.pblk_world.specs.Legal.{IsLegal}
+-- The first event of an engine that knows all logs.
+use Rattle.std.proofs.Common.{◌≡◌, ℕ, ◌+◌, ◌<◌, ◌≤◌, ◌&&◌, zero, suc, nat_lt, false, cond, Some, None, Option, List, [], ◌∷◌, ◌++◌, length, take, refl, sym, ap, ◌∙◌, arith}
+use Rattle.std.specs.Prelude.{slice_get, slice_index}
+use Rattle.std.specs.List.{Contains, filter, filter_map}
+use Rattle.std.specs.Option.{option_map, option_map_or}
+use Rattle.std.proofs.Math.Seq.{take-length}
+use Rattle.pblk_model.specs.declared.shape.Shape.{Shape}
+use Rattle.pblk_model.specs.Chunk.{Chunk}
+use Rattle.pblk_model.specs.UnitLog.{UnitEvent, after_log}
+use Rattle.pblk_model.specs.Image.{Image}
+use Rattle.pblk_world.specs.Events.{Beginning, Begin, Decides, Logged}
+use Rattle.pblk_world.specs.World.{World, Logs, log_of, known, knows_engine, cut_logs, media, unit_event_of}
+use Rattle.pblk_world.specs.EngineLog.{begun, answers}
+use Rattle.pblk_world.specs.Lines.{found_by, found_image, told_by, told_events, known_image}
+use Rattle.pblk_world.specs.Commanding.{ends_program, ends_stripe, ended_stripes}
 use Rattle.pblk_world.specs.Opening.{MayBegin}
-use Rattle.pblk_laws.proofs.BlankImages.{no_head, no_end}
-use Rattle.core_laws.specs.PlainWorlds.{IsBlankWorld}
-use Rattle.line_laws.proofs.Blank.{no_start}
-use Rattle.media_laws.proofs.Images.{AreFree, no_strays}
-use Rattle.media_laws.proofs.Quiet.{still_free}
-use Rattle.step_laws.specs.Whole.{engine_step, first_beginning}
-use Rattle.step_laws.proofs.Knowing.{next_step, still_blank}
+use Rattle.pblk_world.specs.Legal.{IsLegal}
+use Rattle.core_laws.specs.PlainWorlds.{IsPlainWorld}
+use Rattle.core_laws.proofs.Lists.{fun_same}
+use Rattle.placing_laws.proofs.Online.{get_numbered}
+use Rattle.step_laws.specs.Whole.{knows_all, engine_step, after_begin, IsLevel, IsKnown}
+use Rattle.step_laws.proofs.ChunkEvents.{same_images}
+use Rattle.step_laws.proofs.EngineSteps.{engine_logs, media_still}
+use Rattle.step_laws.proofs.Knowing.{next_step, still_plain, known_whole, known_before}
+use Rattle.step_laws.proofs.Levels.{level_by}
 
-pub nothing_yet : (i : Image) → IsAccepted i.shape → IsFit i → AllByRecursion (AllByRecursion (λ c. c ≡ free_chunk)) i.units → IsBlankWorld i []
-unfolding IsLegal
-nothing_yet i accepted fit free = record {
-  plain = record { accepted = accepted; fit = fit; legal = tt; engine = tt; units = λ unit. tt };
-  free = free;
-}
+pub mount_begins : (i : Image) (w : World) (b : Beginning) → IsPlainWorld i w → MayBegin i (log_of w) b → IsPlainWorld i (after_begin i.shape b w)
+mount_begins i w b plain may = still_plain i (engine_step i.shape (Begin b) w) w plain (next_step i w 0 (Decides (Begin b)) plain.legal (omega arith) may) refl
 
-media_free : (i : Image) → AreFree i → AreFree (media i (log_of []))
-media_free i free = still_free i (log_of []) free (λ unit. tt)
+-- ---- the engine's log
 
-not_open : (c : Chunk) → c ≡ free_chunk → c.state ≢ states.Open
-not_open c is opens = let free : c.state ≡ states.Free = ap (λ (d : Chunk). d.state) is in absurd (cc)
+first_log : (s : Shape) (w : World) (b : Beginning) → log_of w 0 ≡ [] → log_of (after_begin s b w) 0 ≡ record { event = Decides (Begin b); knows = knows_all s w } ∷ []
+first_log s w b none =
+    ap (λ (logs : Logs). logs 0) (engine_logs s (Begin b) w) ∙ ap (λ (log : List Logged). log ++ record { event = Decides (Begin b); knows = knows_all s w } ∷ []) none
 
-weaker : {X : Type 0} (P Q : X → Type 0) → ((x : X) → P x → Q x) → (xs : List X) → AllByRecursion P xs → AllByRecursion Q xs
-weaker P Q says [] all = tt
-weaker P Q says (x ∷ xs) all = (says x all.0, weaker P Q says xs all.1)
+pub begun_is : (s : Shape) (w : World) (b : Beginning) → log_of w 0 ≡ [] → begun (log_of (after_begin s b w) 0) ≡ Some (record { beginning = b; knows = knows_all s w })
+begun_is s w b none = ap (λ (log : List Logged). begun log) (first_log s w b none)
 
-may_begin : (i : Image) → IsAccepted i.shape → AreFree i → MayBegin i (log_of []) first_beginning
-may_begin i accepted free =
-    let img : Image = media i (log_of []) in
-    let none : (line : ℕ) → start_of (media i (log_of [])) line ≡ None = λ line. no_start (media i (log_of [])) line accepted (media_free i free) in record {
-      is_first = refl;
-      no_open_chunk = weaker (AllByRecursion (λ (c : Chunk). c ≡ free_chunk)) (AllByRecursion (λ (c : Chunk). c.state ≢ states.Open))
-          (weaker (λ (c : Chunk). c ≡ free_chunk) (λ (c : Chunk). c.state ≢ states.Open) not_open) (media i (log_of [])).units (media_free i free);
-      first = sym (no_end (media i (log_of [])) none);
-      seq = sym (ap next_seq (no_head (media i (log_of [])) none));
-      strays = sym (no_strays (media i (log_of [])) (media_free i free));
-    }
+-- ---- the image that it finds
 
-pub begins : (i : Image) → IsAccepted i.shape → IsFit i → AllByRecursion (AllByRecursion (λ c. c ≡ free_chunk)) i.units → IsBlankWorld i (engine_step i.shape (Begin first_beginning) [] ∷ [])
-begins i accepted fit free =
-    let blank : IsBlankWorld i [] = nothing_yet i accepted fit free in
-    still_blank i (engine_step i.shape (Begin first_beginning) []) [] blank
-    (next_step i [] 0 (Decides (Begin first_beginning)) blank.plain.legal (omega arith) (may_begin i accepted free)) refl
+-- logs with another log of the engine
+with_engine : List Logged → Logs → Logs
+with_engine log logs zero = log
+with_engine log logs (suc unit) = logs (suc unit)
+
+pub found_is : (i : Image) (w : World) (b : Beginning) → IsLegal i w → log_of w 0 ≡ [] → found_image i (log_of (after_begin i.shape b w)) ≡ media i (log_of w)
+unfolding with_engine
+found_is i w b legal none =
+    let new : Logs = log_of (after_begin i.shape b w) in
+    let cut : Logs = cut_logs (knows_all i.shape w) new in
+    ap (found_by i new) (begun_is i.shape w b none) ∙ ap (media i) (fun_same cut (with_engine (cut 0) (log_of w)) go)
+  where
+    go : (author : ℕ) → cut_logs (knows_all i.shape w) (log_of (after_begin i.shape b w)) author ≡ with_engine (cut_logs (knows_all i.shape w) (log_of (after_begin i.shape b w)) 0) (log_of w) author
+    go zero = refl
+    go (suc unit) =
+        ap (take (slice_index (knows_all i.shape w) (suc unit))) (ap (λ (logs : Logs). logs (suc unit)) (engine_logs i.shape (Begin b) w))
+        ∙ ap (λ n. take n (log_of w (suc unit))) (known_whole i w legal (suc unit)) ∙ take-length (log_of w (suc unit))
+
+untold : (s : Shape) (o : Option (List Chunk)) → option_map (λ cs. after_log s cs []) o ≡ o
+untold s None = refl
+untold s (Some chunks) = refl
+
+pub known_is : (i : Image) (w : World) (b : Beginning) → IsLegal i w → log_of w 0 ≡ [] → IsKnown i (after_begin i.shape b w)
+known_is i w b legal none =
+    let new : Logs = log_of (after_begin i.shape b w) in
+    same_images i.shape (known_image i new).units (media i (log_of w)).units (λ unit. one unit ∙ ap (λ (j : Image). slice_get j.units unit) (found_is i w b legal none))
+    ∙ sym (media_still i i.shape (Begin b) w)
+  where
+    one : (unit : ℕ) → slice_get (known_image i (log_of (after_begin i.shape b w))).units unit ≡ slice_get (found_image i (log_of (after_begin i.shape b w))).units unit
+    one unit =
+        let new : Logs = log_of (after_begin i.shape b w) in
+        let none_told : told_events new (0 + unit) ≡ [] = ap (λ (log : List Logged). filter_map (λ (l : Logged). told_by new (0 + unit) l.event) log) (first_log i.shape w b none) in
+        get_numbered (λ unit. after_log i.shape unit.1 (told_events new unit.0)) 0 (found_image i new).units unit
+        ∙ ap (λ (es : List UnitEvent). option_map (λ cs. after_log i.shape cs es) (slice_get (found_image i new).units unit)) none_told
+        ∙ untold i.shape (slice_get (found_image i new).units unit)
+
+-- ---- nothing is under way
+
+none_ended : (log : List Logged) → ((l : Logged) → Contains log l → knows_engine l ≡ 0) → ended_stripes log ≡ 0
+none_ended [] early = refl
+none_ended (l ∷ log) early =
+    let first : knows_engine l ≡ 0 = early l (0, omega arith, refl) in
+    let not : ends_stripe l ≡ false = ap (λ n. nat_lt 0 n && option_map_or ends_program (unit_event_of l.event) false) first in
+    ap (λ b. length (cond b (l ∷ filter ends_stripe log) (filter ends_stripe log))) not ∙ none_ended log (λ m has. early m (suc has.0, (let inside : has.0 < length log = has.1 in omega arith), has.2))
+
+none_level : (i : Image) (w : World) → IsLegal i w → log_of w 0 ≡ [] → IsLevel w
+none_level i w legal none unit =
+    none_ended (log_of w (suc unit)) (λ l has.
+    let low : known l 0 ≤ length (log_of w 0) = known_before i w legal (suc unit) l has 0 in
+    let count : length (log_of w 0) ≡ 0 = ap (λ (log : List Logged). length log) none in
+    omega arith)
+    ∙ sym (ap (λ (log : List Logged). length (answers log unit)) none)
+
+pub begins_level : (i : Image) (w : World) (b : Beginning) → IsLegal i w → log_of w 0 ≡ [] → IsLevel (after_begin i.shape b w)
+begins_level i w b legal none = level_by i.shape (Begin b) w (λ unit. refl) (none_level i w legal none)

@@ -1,27 +1,27 @@
 -- The next step of an engine that knows all logs.
-use Rattle.std.proofs.Common.{◌≡◌, ℕ, zero, suc, true, Some, List, ◌∷◌, refl, ap, ◌∙◌, arith}
+use Rattle.std.proofs.Common.{◌≡◌, ℕ, zero, suc, true, Some, List, [], ◌∷◌, ◌++◌, refl, ap, ◌∙◌, arith}
+use Rattle.std.proofs.lemmas.Option.{none-some}
 use Rattle.pblk_model.specs.declared.shape.Shape.{Shape}
 use Rattle.pblk_model.specs.Image.{Image}
 use Rattle.pblk_world.specs.Events.{EngineEvent, Begin, Decides, Logged}
 use Rattle.pblk_world.specs.World.{World, Logs, log_of, media}
 use Rattle.pblk_world.specs.EngineLog.{Begun, begun}
 use Rattle.pblk_world.specs.Legal.{MayDecide, IsDecision}
-use Rattle.core_laws.specs.PlainWorlds.{is_plain_decision, IsBlankWorld}
+use Rattle.core_laws.specs.PlainWorlds.{is_plain_decision, IsPlainWorld}
 use Rattle.core_laws.specs.Stepping.{after}
 use Rattle.core_laws.proofs.Lists.{fun_same}
-use Rattle.media_laws.proofs.Quiet.{begun_stays}
 use Rattle.media_laws.proofs.Steps.{log_here, log_elsewhere}
 use Rattle.step_laws.specs.Whole.{knows_all, engine_step}
-use Rattle.step_laws.proofs.Knowing.{next_step, still_blank}
+use Rattle.step_laws.proofs.Knowing.{next_step, still_plain}
 
 decides : (i : Image) (logs : Logs) (b : Begun) (e : EngineEvent) → begun (logs 0) ≡ Some b → IsDecision i logs b e → MayDecide i logs e
 decides i logs b (Begin x) begins may = absurd may
 decides i logs b e begins may = (b, begins, may)
 
-pub engine_next : (i : Image) (w : World) (b : Begun) (e : EngineEvent) → IsBlankWorld i w → begun (log_of w 0) ≡ Some b → IsDecision i (log_of w) b e → is_plain_decision e ≡ true
-    → IsBlankWorld i (engine_step i.shape e w ∷ w)
-engine_next i w b e blank begins may plain =
-    still_blank i (engine_step i.shape e w) w blank (next_step i w 0 (Decides e) blank.plain.legal (omega arith) (decides i (log_of w) b e begins may)) plain
+pub engine_next : (i : Image) (w : World) (b : Begun) (e : EngineEvent) → IsPlainWorld i w → begun (log_of w 0) ≡ Some b → IsDecision i (log_of w) b e → is_plain_decision e ≡ true
+    → IsPlainWorld i (engine_step i.shape e w ∷ w)
+engine_next i w b e is begins may plain =
+    still_plain i (engine_step i.shape e w) w is (next_step i w 0 (Decides e) is.legal (omega arith) (decides i (log_of w) b e begins may)) plain
 
 pub engine_logs : (s : Shape) (e : EngineEvent) (w : World) → log_of (engine_step s e w ∷ w) ≡ after (log_of w) e (knows_all s w)
 engine_logs s e w = fun_same (log_of (engine_step s e w ∷ w)) (after (log_of w) e (knows_all s w)) go
@@ -30,9 +30,13 @@ engine_logs s e w = fun_same (log_of (engine_step s e w ∷ w)) (after (log_of w
     go zero = log_here (engine_step s e w) w 0 refl
     go (suc unit) = log_elsewhere (engine_step s e w) w (suc unit) (λ same. let no : 0 ≡ suc unit = same in absurd (omega arith))
 
+begun_stays : (log : List Logged) (l : Logged) (b : Begun) → begun log ≡ Some b → begun (log ++ l ∷ []) ≡ Some b
+begun_stays [] l b e = absurd (none-some b e)
+begun_stays (m ∷ log) l b e = e
+
 pub begun_still : (s : Shape) (e : EngineEvent) (w : World) (b : Begun) → begun (log_of w 0) ≡ Some b → begun (log_of (engine_step s e w ∷ w) 0) ≡ Some b
 begun_still s e w b begins =
-    ap (λ (log : List Logged). begun log) (log_here (engine_step s e w) w 0 refl) ∙ begun_stays (log_of w 0) (engine_step s e w).logged b begins ∙ begins
+    ap (λ (log : List Logged). begun log) (log_here (engine_step s e w) w 0 refl) ∙ begun_stays (log_of w 0) (engine_step s e w).logged b begins
 
 pub media_still : (i : Image) (s : Shape) (e : EngineEvent) (w : World) → media i (log_of (engine_step s e w ∷ w)) ≡ media i (log_of w)
 media_still i s e w = ap (media i) (engine_logs s e w)

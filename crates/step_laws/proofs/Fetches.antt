@@ -15,39 +15,34 @@ use Rattle.pblk_world.specs.World.{World, log_of, media, unit_events}
 use Rattle.pblk_world.specs.EngineLog.{Begun, begun}
 use Rattle.pblk_world.specs.Commanding.{has_stopped, IsCommand, MayDo}
 use Rattle.pblk_laws.specs.LineBlocks.{chunk_in}
-use Rattle.core_laws.specs.PlainWorlds.{IsBlankWorld}
+use Rattle.core_laws.specs.PlainWorlds.{IsPlainWorld}
 use Rattle.step_laws.specs.Whole.{unit_step, fetch_of}
-use Rattle.step_laws.proofs.Knowing.{next_step, still_blank}
+use Rattle.step_laws.proofs.ChunkEvents.{same_images}
+use Rattle.step_laws.proofs.Knowing.{next_step, still_plain}
 use Rattle.step_laws.proofs.UnitSteps.{none_stopped, has_chunks, media_now, media_elsewhere}
 
 may_read : (i : Image) (w : World) (unit chunk block : ℕ) (c : Chunk) (o : Option Begun) → IsCommand i (log_of w) unit c chunk (Read block) o
 may_read i w unit chunk block c None = tt
 may_read i w unit chunk block c (Some b) = tt
 
-pub may_fetch : (i : Image) (w : World) (unit chunk block : ℕ) (c : Chunk) (answer : ChunkAnswer) → IsBlankWorld i w → chunk_in (media i (log_of w)) chunk unit ≡ Some c
+pub may_fetch : (i : Image) (w : World) (unit chunk block : ℕ) (c : Chunk) (answer : ChunkAnswer) → IsPlainWorld i w → chunk_in (media i (log_of w)) chunk unit ≡ Some c
     → NotRefused answer → ChunkStep i.shape c (Read block) answer c → MayDo i (log_of w) unit (fetch_of chunk block answer)
-may_fetch i w unit chunk block c answer blank there given step =
+may_fetch i w unit chunk block c answer plain there given step =
     let chunks = has_chunks (slice_get (media i (log_of w)).units unit) chunk c there in record {
       chunks = chunks.0;
       has_chunks = chunks.1;
       event = record { found = c; there = chunks.2; blocks = tt; outcome = (given, step) };
-      stopped = λ was. let none : has_stopped (unit_events (log_of w) unit) ≡ false = none_stopped (log_of w (suc unit)) (blank.plain.units unit) in absurd (cc);
+      stopped = λ was. let none : has_stopped (unit_events (log_of w) unit) ≡ false = none_stopped (log_of w (suc unit)) (plain.units unit) in absurd (cc);
       command = may_read i w unit chunk block c (begun (log_of w 0));
     }
 
-pub fetch_next : (i : Image) (w : World) (unit chunk block : ℕ) (c : Chunk) (answer : ChunkAnswer) (maker : Maker) → IsBlankWorld i w → unit < units i.shape → chunk_in (media i (log_of w)) chunk unit ≡ Some c
-    → NotRefused answer → ChunkStep i.shape c (Read block) answer c → IsBlankWorld i (unit_step i.shape unit (fetch_of chunk block answer) maker w ∷ w)
-fetch_next i w unit chunk block c answer maker blank range there given step =
-    still_blank i (unit_step i.shape unit (fetch_of chunk block answer) maker w) w blank
-    (next_step i w (suc unit) (Does (fetch_of chunk block answer) maker) blank.plain.legal (omega arith) (may_fetch i w unit chunk block c answer blank there given step)) refl
+pub fetch_next : (i : Image) (w : World) (unit chunk block : ℕ) (c : Chunk) (answer : ChunkAnswer) (maker : Maker) → IsPlainWorld i w → unit < units i.shape → chunk_in (media i (log_of w)) chunk unit ≡ Some c
+    → NotRefused answer → ChunkStep i.shape c (Read block) answer c → IsPlainWorld i (unit_step i.shape unit (fetch_of chunk block answer) maker w ∷ w)
+fetch_next i w unit chunk block c answer maker plain range there given step =
+    still_plain i (unit_step i.shape unit (fetch_of chunk block answer) maker w) w plain
+    (next_step i w (suc unit) (Does (fetch_of chunk block answer) maker) plain.legal (omega arith) (may_fetch i w unit chunk block c answer plain there given step)) refl
 
 -- ---- the media
-
-same_lists : {X : Type 0} (xs ys : List X) → ((k : ℕ) → slice_get xs k ≡ slice_get ys k) → xs ≡ ys
-same_lists [] [] same = refl
-same_lists [] (y ∷ ys) same = absurd (none-some y (same 0))
-same_lists (x ∷ xs) [] same = absurd (none-some x (sym (same 0)))
-same_lists (x ∷ xs) (y ∷ ys) same = ap (λ z. z ∷ xs) (same_Some x y (same 0)) ∙ ap (λ zs. y ∷ zs) (same_lists xs ys (λ k. same (suc k)))
 
 set_same : {X : Type 0} (xs : List X) (k : ℕ) (x : X) → slice_get xs k ≡ Some x → slice_set xs k x ≡ xs
 set_same [] k x e = absurd (none-some x e)
@@ -67,9 +62,7 @@ all_left s (Some chunks) chunk block answer = ap (λ (cs : List Chunk). Some cs)
 
 pub media_stays : (i : Image) (w : World) (unit chunk block : ℕ) (answer : ChunkAnswer) (maker : Maker) → media i (log_of (unit_step i.shape unit (fetch_of chunk block answer) maker w ∷ w)) ≡ media i (log_of w)
 media_stays i w unit chunk block answer maker =
-    let same : (media i (log_of (unit_step i.shape unit (fetch_of chunk block answer) maker w ∷ w))).units ≡ (media i (log_of w)).units =
-    same_lists (media i (log_of (unit_step i.shape unit (fetch_of chunk block answer) maker w ∷ w))).units (media i (log_of w)).units (λ u. go u (cases_order u unit)) in
-    ap (λ (us : List (List Chunk)). record { shape = i.shape; units = us }) same
+    same_images i.shape (media i (log_of (unit_step i.shape unit (fetch_of chunk block answer) maker w ∷ w))).units (media i (log_of w)).units (λ u. go u (cases_order u unit))
   where
     own : slice_get (media i (log_of (unit_step i.shape unit (fetch_of chunk block answer) maker w ∷ w))).units unit ≡ slice_get (media i (log_of w)).units unit
     own = media_now i unit (fetch_of chunk block answer) maker w ∙ all_left i.shape (slice_get (media i (log_of w)).units unit) chunk block answer

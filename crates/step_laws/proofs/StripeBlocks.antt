@@ -69,7 +69,7 @@ padded_long n bytes =
     let more : length (zeros (n - length bytes)) ≡ n - length bytes = zeros_long (n - length bytes) in
     omega arith
 
-pad_is : (s : Shape) → IsBlock s (pad_block s)
+pub pad_is : (s : Shape) → IsBlock s (pad_block s)
 unfolding zeros
 pad_is s = record { size = length-replicate s.sector 0; bytes = all_replicate (λ x. x < 256) s.sector 0 (lit< tt); lba = lit< tt; position = lit< tt }
 

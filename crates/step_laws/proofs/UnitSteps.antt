@@ -1,5 +1,5 @@
 -- The next step of a unit whose author knows all logs.
-use Rattle.std.proofs.Common.{◌≡◌, ◌≢◌, ℕ, ◌<◌, ◌==◌, ◌||◌, suc, nat_lt, cond, Bool, true, false, Some, None, Option, List, [], ◌∷◌, ◌++◌, length, take, refl, sym, subst, ap, ◌∙◌, arith, if◌then◌else◌}
+use Rattle.std.proofs.Common.{◌≡◌, ◌≢◌, ℕ, ◌<◌, ◌==◌, ◌||◌, suc, cond, Bool, true, false, Some, None, Option, List, [], ◌∷◌, ◌++◌, length, take, refl, sym, subst, ap, ◌∙◌, arith, if◌then◌else◌}
 use Rattle.std.specs.Prelude.{slice_get}
 use Rattle.std.specs.List.{AllByRecursion, Contains, filter, filter_map, cons_option}
 use Rattle.std.specs.Option.{option_map, option_and_then, IfSome}
@@ -21,18 +21,18 @@ use Rattle.pblk_world.specs.Answering.{IsNew, MayLand}
 use Rattle.pblk_world.specs.Legal.{IsAllowed, IsLegal}
 use Rattle.pblk_laws.specs.LineBlocks.{chunk_in}
 use Rattle.pblk_laws.proofs.Lists.{all_by_get, all_filter_map, all_contains}
-use Rattle.core_laws.specs.PlainWorlds.{is_plain_event, is_plain_outcome, ArePlain, IsBlankWorld}
+use Rattle.core_laws.specs.PlainWorlds.{is_plain_event, is_plain_outcome, ArePlain, IsPlainWorld}
 use Rattle.core_laws.specs.PlacerOf.{unanswered_on}
-use Rattle.core_laws.proofs.Placing.{is_below}
+use Rattle.core_laws.proofs.Rows.{same_number, other_number}
 use Rattle.media_laws.proofs.Images.{media_at}
 use Rattle.media_laws.proofs.Programs.{get_after, get_whole, more}
-use Rattle.media_laws.proofs.Quiet.{quiet}
 use Rattle.media_laws.proofs.Steps.{log_here, log_elsewhere}
-use Rattle.media_laws.proofs.Written.{next_is_taken}
+use Rattle.placing_laws.proofs.PlainEvents.{has_begun_plain}
 use Rattle.placed_laws.specs.StripePrograms.{HasHappened}
 use Rattle.placed_laws.proofs.Happened.{happened}
-use Rattle.step_laws.specs.Whole.{engine_step, unit_step, unit_steps, program_of}
-use Rattle.step_laws.proofs.Knowing.{known_whole, next_step, still_blank}
+use Rattle.step_laws.specs.Whole.{engine_step, unit_step, is_made_by, commands_of, program_of}
+use Rattle.step_laws.proofs.Knowing.{known_whole, next_step, still_plain}
+use Rattle.media_laws.proofs.LineWritten.{program_is_taken}
 
 -- ---- the logs
 
@@ -46,7 +46,7 @@ other_log s unit e maker w author apart = log_elsewhere (unit_step s unit e make
 pub engine_log : (s : Shape) (unit : ℕ) (e : UnitEvent) (maker : Maker) (w : World) → log_of (unit_step s unit e maker w ∷ w) 0 ≡ log_of w 0
 engine_log s unit e maker w = other_log s unit e maker w 0 (λ same. let no : 0 ≡ suc unit = same in absurd (omega arith))
 
--- ---- how many steps were made by units
+-- ---- how many commands a worker made
 
 one_more : (t : Bool) (s : Step) (w : World) → t ≡ true → length (cond t (s ∷ w) w) ≡ suc (length w)
 one_more t s w e = ap (λ b. length (cond b (s ∷ w) w)) e
@@ -54,11 +54,20 @@ one_more t s w e = ap (λ b. length (cond b (s ∷ w) w)) e
 no_more : (t : Bool) (s : Step) (w : World) → t ≡ false → length (cond t (s ∷ w) w) ≡ length w
 no_more t s w e = ap (λ b. length (cond b (s ∷ w) w)) e
 
-pub units_count : (s : Shape) (unit : ℕ) (e : UnitEvent) (maker : Maker) (w : World) → unit_steps (unit_step s unit e maker w ∷ w) ≡ suc (unit_steps w)
-units_count s unit e maker w = one_more (nat_lt 0 (suc unit)) (unit_step s unit e maker w) (filter (λ (step : Step). nat_lt 0 step.author) w) (is_below 0 (suc unit) (omega arith))
+made_before : ℕ → World → World
+made_before worker w = filter (λ (step : Step). is_made_by worker step.logged.event) w
 
-pub engines_count : (s : Shape) (e : EngineEvent) (w : World) → unit_steps (engine_step s e w ∷ w) ≡ unit_steps w
-engines_count s e w = no_more (nat_lt 0 0) (engine_step s e w) (filter (λ (step : Step). nat_lt 0 step.author) w) refl
+pub own_count : (s : Shape) (unit : ℕ) (e : UnitEvent) (maker : Maker) (w : World) → commands_of maker.worker (unit_step s unit e maker w ∷ w) ≡ suc (commands_of maker.worker w)
+unfolding made_before
+own_count s unit e maker w = one_more (maker.worker == maker.worker) (unit_step s unit e maker w) (made_before maker.worker w) (same_number maker.worker)
+
+pub others_count : (s : Shape) (unit : ℕ) (e : UnitEvent) (maker : Maker) (w : World) (worker : ℕ) → worker ≢ maker.worker → commands_of worker (unit_step s unit e maker w ∷ w) ≡ commands_of worker w
+unfolding made_before
+others_count s unit e maker w worker apart = no_more (maker.worker == worker) (unit_step s unit e maker w) (made_before worker w) (other_number maker.worker worker (λ same. apart (sym same)))
+
+pub engines_count : (s : Shape) (e : EngineEvent) (w : World) (worker : ℕ) → commands_of worker (engine_step s e w ∷ w) ≡ commands_of worker w
+unfolding made_before
+engines_count s e w worker = no_more false (engine_step s e w) (made_before worker w) refl
 
 -- ---- the media
 
@@ -124,12 +133,12 @@ named_within i w unit legal =
 
 -- ---- a program
 
-pub has_begun : (i : Image) (w : World) (unit k : ℕ) (p : Placed) → IsBlankWorld i w → slice_get (placed_on (log_of w 0) unit) k ≡ Some p → (b : Begun) × (begun (log_of w 0) ≡ Some b)
-has_begun i w unit k p blank there = go (begun (log_of w 0)) refl
+pub has_begun : (i : Image) (w : World) (unit k : ℕ) (p : Placed) → IsPlainWorld i w → slice_get (placed_on (log_of w 0) unit) k ≡ Some p → (b : Begun) × (begun (log_of w 0) ≡ Some b)
+has_begun i w unit k p plain there = has_begun_plain i w plain (some (log_of w 0) there)
   where
-    go : (o : Option Begun) → begun (log_of w 0) ≡ o → (b : Begun) × (begun (log_of w 0) ≡ Some b)
-    go None e = absurd (none-some p (ap (λ (log : List Logged). slice_get (placed_on log unit) k) (sym ((quiet i w blank).begins e)) ∙ there))
-    go (Some b) e = (b, e)
+    some : (log : List Logged) → slice_get (placed_on log unit) k ≡ Some p → 0 < length log
+    some [] e = absurd (none-some p e)
+    some (l ∷ log) e = omega arith
 
 pub engine_longer : (w : World) (b : Begun) → begun (log_of w 0) ≡ Some b → 0 < length (log_of w 0)
 engine_longer w b e = go (log_of w 0) e
@@ -142,29 +151,29 @@ pub has_chunks : (o : Option (List Chunk)) (chunk : ℕ) (c : Chunk) → option_
 has_chunks None chunk c e = absurd (none-some c e)
 has_chunks (Some chunks) chunk c e = (chunks, refl, e)
 
-pub may_program : (i : Image) (w : World) (unit : ℕ) (p : Placed) → IsBlankWorld i w → unit < units i.shape → slice_get (placed_on (log_of w 0) unit) (ended_stripes (log_of w (suc unit))) ≡ Some p
+pub may_program : (i : Image) (w : World) (unit : ℕ) (p : Placed) → IsPlainWorld i w → unit < units i.shape → slice_get (placed_on (log_of w 0) unit) (ended_stripes (log_of w (suc unit))) ≡ Some p
     → AllByRecursion (IsBlock i.shape) p.stripe.blocks → MayDo i (log_of w) unit (program_of p.stripe)
-may_program i w unit p blank range there blocks =
-    let taken : (c : Chunk) × (chunk_in (media i (log_of w)) p.stripe.chunk unit ≡ Some c) × (refusal i.shape c (Write p.stripe.at p.stripe.blocks) ≡ None) = next_is_taken i w unit p blank range there in
+may_program i w unit p plain range there blocks =
+    let taken : (c : Chunk) × (chunk_in (media i (log_of w)) p.stripe.chunk unit ≡ Some c) × (refusal i.shape c (Write p.stripe.at p.stripe.blocks) ≡ None) = program_is_taken i w unit p plain there in
     let chunks = has_chunks (slice_get (media i (log_of w)).units unit) p.stripe.chunk taken.0 taken.1 in
-    let begins = has_begun i w unit (ended_stripes (log_of w (suc unit))) p blank there in
+    let begins = has_begun i w unit (ended_stripes (log_of w (suc unit))) p plain there in
     let stripe : IsStripe (log_of w) unit p.stripe.chunk p.stripe.at p.stripe.blocks = record { placed = p; earliest = there; its_chunk = refl; its_place = refl; its_blocks = refl } in record {
       chunks = chunks.0;
       has_chunks = chunks.1;
       event = record { found = taken.0; there = chunks.2; blocks = blocks; outcome = (tt, (taken.2, refl)) };
-      stopped = λ was. let none : has_stopped (unit_events (log_of w) unit) ≡ false = none_stopped (log_of w (suc unit)) (blank.plain.units unit) in absurd (cc);
+      stopped = λ was. let none : has_stopped (unit_events (log_of w) unit) ≡ false = none_stopped (log_of w (suc unit)) (plain.units unit) in absurd (cc);
       command = subst (λ o. IsCommand i (log_of w) unit taken.0 p.stripe.chunk (Write p.stripe.at p.stripe.blocks) o) (sym begins.1) stripe;
     }
 
-pub program_next : (i : Image) (w : World) (unit : ℕ) (p : Placed) (maker : Maker) → IsBlankWorld i w → unit < units i.shape → slice_get (placed_on (log_of w 0) unit) (ended_stripes (log_of w (suc unit))) ≡ Some p
-    → AllByRecursion (IsBlock i.shape) p.stripe.blocks → IsBlankWorld i (unit_step i.shape unit (program_of p.stripe) maker w ∷ w)
-program_next i w unit p maker blank range there blocks =
-    still_blank i (unit_step i.shape unit (program_of p.stripe) maker w) w blank
-    (next_step i w (suc unit) (Does (program_of p.stripe) maker) blank.plain.legal (omega arith) (may_program i w unit p blank range there blocks)) refl
+pub program_next : (i : Image) (w : World) (unit : ℕ) (p : Placed) (maker : Maker) → IsPlainWorld i w → unit < units i.shape → slice_get (placed_on (log_of w 0) unit) (ended_stripes (log_of w (suc unit))) ≡ Some p
+    → AllByRecursion (IsBlock i.shape) p.stripe.blocks → IsPlainWorld i (unit_step i.shape unit (program_of p.stripe) maker w ∷ w)
+program_next i w unit p maker plain range there blocks =
+    still_plain i (unit_step i.shape unit (program_of p.stripe) maker w) w plain
+    (next_step i w (suc unit) (Does (program_of p.stripe) maker) plain.legal (omega arith) (may_program i w unit p plain range there blocks)) refl
 
-pub may_land : (i : Image) (w : World) (unit : ℕ) (p : Placed) (maker : Maker) → IsBlankWorld i w → unanswered_on (log_of w 0) unit ≡ Some p → ended_stripes (log_of w (suc unit)) ≡ length (answers (log_of w 0) unit)
+pub may_land : (i : Image) (w : World) (unit : ℕ) (p : Placed) (maker : Maker) → IsPlainWorld i w → unanswered_on (log_of w 0) unit ≡ Some p → ended_stripes (log_of w (suc unit)) ≡ length (answers (log_of w 0) unit)
     → MayLand (log_of (unit_step i.shape unit (program_of p.stripe) maker w ∷ w)) unit (length (log_of w (suc unit)))
-may_land i w unit p maker blank waits level =
+may_land i w unit p maker plain waits level =
     let s : Step = unit_step i.shape unit (program_of p.stripe) maker w in
     let here : log_of (s ∷ w) (suc unit) ≡ log_of w (suc unit) ++ s.logged ∷ [] = unit_log i.shape unit (program_of p.stripe) maker w in
     let own : log_of (s ∷ w) 0 ≡ log_of w 0 = engine_log i.shape unit (program_of p.stripe) maker w in
@@ -172,9 +181,9 @@ may_land i w unit p maker blank waits level =
     ap (λ (log : List Logged). slice_get log (length (log_of w (suc unit)))) here ∙ get_after (log_of w (suc unit)) (s.logged ∷ []) in
     let before : take (length (log_of w (suc unit))) (log_of (s ∷ w) (suc unit)) ≡ log_of w (suc unit) =
     ap (λ (log : List Logged). take (length (log_of w (suc unit))) log) here ∙ take-append_seam (log_of w (suc unit)) (s.logged ∷ []) in
-    let begins = has_begun i w unit (length (answers (log_of w 0) unit)) p blank waits in
+    let begins = has_begun i w unit (length (answers (log_of w 0) unit)) p plain waits in
     let some : 0 < length (log_of w 0) = engine_longer w begins.0 begins.1 in
-    let knows : known s.logged 0 ≡ length (log_of w 0) = known_whole i w blank.plain.legal 0 in
+    let knows : known s.logged 0 ≡ length (log_of w 0) = known_whole i w plain.legal 0 in
     let fewer : length (answers (log_of w 0) unit) < length (placed_on (log_of w 0) unit) = slice_get_within (placed_on (log_of w 0) unit) (length (answers (log_of w 0) unit)) p waits in record {
       program = program_of p.stripe;
       new = record {
@@ -183,7 +192,7 @@ may_land i w unit p maker blank waits level =
         event = refl;
         once = λ named.
             let within : length (log_of w (suc unit)) < length (log_of w (suc unit)) =
-            all_contains (λ n. n < length (log_of w (suc unit))) (named_events (log_of w 0) unit) (length (log_of w (suc unit))) (named_within i w unit blank.plain.legal)
+            all_contains (λ n. n < length (log_of w (suc unit))) (named_events (log_of w 0) unit) (length (log_of w (suc unit))) (named_within i w unit plain.legal)
             (subst (λ (log : List Logged). Contains (named_events log unit) (length (log_of w (suc unit)))) own named) in absurd (omega arith);
       };
       stripe = record {

@@ -1,13 +1,16 @@
 -- Steps of an author who knows all logs whole, made one after another.
-use Rattle.std.specs.Prelude.{ℕ, suc, ◌+◌, ◌≡◌, nat_lt, List, [], ◌∷◌, map, length}
+use Rattle.std.specs.Prelude.{ℕ, suc, ◌+◌, ◌≡◌, ◌==◌, Bool, false, List, [], ◌∷◌, map, length}
 use Rattle.std.specs.List.{filter, range_with_len}
 use Rattle.pblk_model.specs.declared.shape.Shape.{Shape}
 use Rattle.pblk_model.specs.Shape.{units}
-use Rattle.pblk_model.specs.ChunkStep.{ChunkAnswer, Write, Read, Done}
-use Rattle.pblk_model.specs.UnitLog.{UnitEvent, Answered}
-use Rattle.pblk_world.specs.Events.{Beginning, EngineEvent, Landed, Stripe, Decides, Does, Maker, Step}
-use Rattle.pblk_world.specs.World.{World, log_of}
+use Rattle.pblk_model.specs.Chunk.{Block}
+use Rattle.pblk_model.specs.ChunkStep.{ChunkAnswer, Write, Read, Reset, Done}
+use Rattle.pblk_model.specs.UnitLog.{UnitOutcome, UnitEvent, Answered}
+use Rattle.pblk_model.specs.Image.{Image}
+use Rattle.pblk_world.specs.Events.{Beginning, EngineEvent, Begin, Landed, ResetDone, Stripe, Event, Decides, Does, Maker, Step}
+use Rattle.pblk_world.specs.World.{World, log_of, media}
 use Rattle.pblk_world.specs.EngineLog.{answers}
+use Rattle.pblk_world.specs.Lines.{known_image}
 use Rattle.pblk_world.specs.Commanding.{ended_stripes}
 
 -- the lengths of all logs, by their authors' numbers
@@ -25,23 +28,52 @@ unit_step s unit e maker w = record {
   logged = record { event = Does e maker; knows = knows_all s w };
 }
 
--- how many steps were made by units
-abbrev pub unit_steps : World → ℕ
-unit_steps w = length (filter (λ step. nat_lt 0 step.author) w)
+-- Makers.
 
--- one worker makes all commands
+-- how many commands of units a worker made
+abbrev pub is_made_by : ℕ → Event → Bool
+is_made_by worker (Decides e) = false
+is_made_by worker (Does e maker) = maker.worker == worker
+
+abbrev pub commands_of : ℕ → World → ℕ
+commands_of worker w = length (filter (λ step. is_made_by worker step.logged.event) w)
+
+-- the maker of a worker's next command
+abbrev pub maker_of : ℕ → World → Maker
+maker_of worker w = record { worker = worker; made = commands_of worker w }
+
+-- One worker makes all commands of a session. The opening has a number of its own.
 abbrev pub next_maker : World → Maker
-next_maker w = record { worker = 0; made = unit_steps w }
+next_maker w = maker_of 0 w
+
+abbrev pub opening_maker : World → Maker
+opening_maker w = maker_of 1 w
+
+-- What a unit does.
+
+-- a program of these blocks, as it ended
+abbrev pub write_of : ℕ → ℕ → List Block → UnitOutcome → UnitEvent
+write_of chunk at blocks outcome = record { chunk = chunk; command = Write at blocks; outcome = outcome }
 
 -- the program of a stripe, when it was done
 abbrev pub program_of : Stripe → UnitEvent
-program_of stripe = record {
-  chunk = stripe.chunk;
-  command = Write stripe.at stripe.blocks;
-  outcome = Answered Done;
-}
+program_of stripe = write_of stripe.chunk stripe.at stripe.blocks (Answered Done)
 
--- the world once the unit has done it, and once the engine has noted that
+-- the reset of a chunk, when it was done
+abbrev pub reset_of : ℕ → UnitEvent
+reset_of chunk = record { chunk = chunk; command = Reset; outcome = Answered Done }
+
+-- a fetch of a block
+abbrev pub fetch_of : ℕ → ℕ → ChunkAnswer → UnitEvent
+fetch_of chunk block answer = record { chunk = chunk; command = Read block; outcome = Answered answer }
+
+-- The world after a step, or two.
+
+-- once a mount has begun
+abbrev pub after_begin : Shape → Beginning → World → World
+after_begin s b w = engine_step s (Begin b) w ∷ w
+
+-- once a unit has done the program of a stripe, and once the engine has noted that
 abbrev pub after_program : Shape → ℕ → Stripe → Maker → World → World
 after_program s unit stripe maker w = unit_step s unit (program_of stripe) maker w ∷ w
 
@@ -52,14 +84,24 @@ abbrev pub after_landing : Shape → ℕ → Stripe → Maker → World → Worl
 after_landing s unit stripe maker w =
     noted s (Landed unit (length (log_of w (suc unit)))) (after_program s unit stripe maker w)
 
+-- once a unit has reset a chunk, and once the engine has noted that
+abbrev pub after_reset_of : Shape → ℕ → ℕ → Maker → World → World
+after_reset_of s unit chunk maker w = unit_step s unit (reset_of chunk) maker w ∷ w
+
+abbrev pub after_noted_reset : Shape → ℕ → ℕ → Maker → World → World
+after_noted_reset s unit chunk maker w =
+    noted s (ResetDone unit (length (log_of w (suc unit)))) (after_reset_of s unit chunk maker w)
+
+-- What is so while the engine notes each answer before anything else is done.
+
 -- each unit has ended as many stripes as the engine noted answers
 abbrev pub IsLevel : World → Type 0
 IsLevel w = (unit : ℕ) → ended_stripes (log_of w (suc unit)) ≡ length (answers (log_of w 0) unit)
 
+-- the engine knows the chunks as they are
+abbrev pub IsKnown : Image → World → Type 0
+IsKnown i w = known_image i (log_of w) ≡ media i (log_of w)
+
 -- what a mount of a blank drive begins with
 abbrev pub first_beginning : Beginning
 first_beginning = record { first = 0; seq = 1; strays = [] }
-
--- a fetch of a block
-abbrev pub fetch_of : ℕ → ℕ → ChunkAnswer → UnitEvent
-fetch_of chunk block answer = record { chunk = chunk; command = Read block; outcome = Answered answer }

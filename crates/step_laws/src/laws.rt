@@ -8,13 +8,12 @@ ghost use Rattle.std.specs.Option.{option_map};
 ghost use Rattle.pblk_model.specs.declared.shape.Shape.{Shape};
 ghost use Rattle.pblk_model.specs.declared.chunk.Mark.{Mark};
 ghost use Rattle.pblk_model.specs.StartRecord.{StartRecord};
-ghost use Rattle.pblk_model.specs.Chunk.{Chunk, Block, free_chunk, IsBlock};
+ghost use Rattle.pblk_model.specs.Chunk.{Chunk, Block, IsBlock};
 ghost use Rattle.pblk_model.specs.ChunkStep.{ChunkAnswer, Gave, ChunkStep, Write, Read, refusal};
 ghost use Rattle.pblk_model.specs.UnitLog.{UnitEvent, NotRefused, after_event};
-ghost use Rattle.pblk_model.specs.Image.{Image, IsFit};
-ghost use Rattle.pblk_model.specs.Accepted.{IsAccepted};
+ghost use Rattle.pblk_model.specs.Image.{Image};
 ghost use Rattle.pblk_model.specs.Shape.{units};
-ghost use Rattle.pblk_world.specs.Events.{EngineEvent, Begin, Take, Open, Place, Decides, Entry, Stripe};
+ghost use Rattle.pblk_world.specs.Events.{EngineEvent, Take, Open, Place, Decides, Entry, Stripe};
 ghost use Rattle.pblk_world.specs.Events.{Maker};
 ghost use Rattle.pblk_world.specs.World.{World, log_of, media};
 ghost use Rattle.pblk_world.specs.EngineLog.{Begun, begun, Placed, placements, answers, answer_by};
@@ -24,18 +23,18 @@ ghost use Rattle.pblk_world.specs.Commanding.{is_program, ended_stripes};
 ghost use Rattle.pblk_world.specs.Answering.{MayLand};
 ghost use Rattle.pblk_world.specs.Legal.{IsDecision};
 ghost use Rattle.pblk_laws.specs.LineBlocks.{chunk_in};
-ghost use Rattle.core_laws.specs.PlainWorlds.{is_plain_decision, IsPlainWorld, IsBlankWorld};
+ghost use Rattle.core_laws.specs.PlainWorlds.{is_plain_decision, IsPlainWorld};
 ghost use Rattle.core_laws.specs.PlacerOf.{unanswered_on};
 ghost use Rattle.core_laws.specs.Stepping.{after};
-ghost use Rattle.step_laws.specs.Whole.{knows_all, engine_step, unit_step, program_of};
-ghost use Rattle.step_laws.specs.Whole.{after_landing, fetch_of, first_beginning, unit_steps, IsLevel};
+ghost use Rattle.step_laws.specs.Whole.{knows_all, engine_step, unit_step, program_of, fetch_of};
+ghost use Rattle.step_laws.specs.Whole.{after_landing, commands_of, IsLevel, IsKnown};
 
-/// What the engine may do by the whole logs it may do next, knowing them all: the world stays one on a
-/// drive that was blank, and what stands on the drive stays.
+/// What the engine may do by the whole logs it may do next, knowing them all: the world stays a plain
+/// one, and what stands on the drive stays.
 pub fn an_engine_step_is_legal()
-    ensures legal { (i : Image) (w : World) (b : Begun) (e : EngineEvent) → IsBlankWorld i w
+    ensures legal { (i : Image) (w : World) (b : Begun) (e : EngineEvent) → IsPlainWorld i w
         → begun (log_of w 0) ≡ Some b → IsDecision i (log_of w) b e → is_plain_decision e ≡ true
-        → IsBlankWorld i (engine_step i.shape e w ∷ w) }
+        → IsPlainWorld i (engine_step i.shape e w ∷ w) }
     ensures logs { (s : Shape) (e : EngineEvent) (w : World)
         → log_of (engine_step s e w ∷ w) ≡ after (log_of w) e (knows_all s w) }
     ensures begun { (s : Shape) (e : EngineEvent) (w : World) (b : Begun)
@@ -47,16 +46,16 @@ pub fn an_engine_step_is_legal()
 /// The program of a unit's stripe that isn't answered may be done next, where all programs before it are
 /// answered. It changes the unit's log and its media alone, and then the engine may note it as landed.
 pub fn a_program_is_legal()
-    ensures legal { (i : Image) (w : World) (unit : ℕ) (p : Placed) (maker : Maker) → IsBlankWorld i w
+    ensures legal { (i : Image) (w : World) (unit : ℕ) (p : Placed) (maker : Maker) → IsPlainWorld i w
         → unanswered_on (log_of w 0) unit ≡ Some p
         → ended_stripes (log_of w (suc unit)) ≡ length (answers (log_of w 0) unit)
-        → IsBlankWorld i (unit_step i.shape unit (program_of p.stripe) maker w ∷ w) }
+        → IsPlainWorld i (unit_step i.shape unit (program_of p.stripe) maker w ∷ w) }
     ensures may_land { (i : Image) (w : World) (unit : ℕ) (p : Placed) (maker : Maker)
-        → IsBlankWorld i w → unanswered_on (log_of w 0) unit ≡ Some p
+        → IsPlainWorld i w → unanswered_on (log_of w 0) unit ≡ Some p
         → ended_stripes (log_of w (suc unit)) ≡ length (answers (log_of w 0) unit)
         → MayLand (log_of (unit_step i.shape unit (program_of p.stripe) maker w ∷ w)) unit
         (length (log_of w (suc unit))) }
-    ensures taken { (i : Image) (w : World) (unit : ℕ) (p : Placed) → IsBlankWorld i w
+    ensures taken { (i : Image) (w : World) (unit : ℕ) (p : Placed) → IsPlainWorld i w
         → unanswered_on (log_of w 0) unit ≡ Some p
         → ended_stripes (log_of w (suc unit)) ≡ length (answers (log_of w 0) unit)
         → (c : Chunk) × (chunk_in (media i (log_of w)) p.stripe.chunk unit ≡ Some c)
@@ -83,12 +82,17 @@ pub fn a_unit_step_changes_its_unit()
         ≡ slice_get (media i (log_of w)).units other }
 {}
 
-/// Each step of a unit is counted, and none of the engine.
+/// Each step of a unit is counted for the worker that made its command and for no other, and none of
+/// the engine is.
 pub fn a_unit_step_is_counted()
-    ensures unit { (s : Shape) (unit : ℕ) (e : UnitEvent) (maker : Maker) (w : World)
-        → unit_steps (unit_step s unit e maker w ∷ w) ≡ suc (unit_steps w) }
-    ensures engine { (s : Shape) (e : EngineEvent) (w : World)
-        → unit_steps (engine_step s e w ∷ w) ≡ unit_steps w }
+    ensures own { (s : Shape) (unit : ℕ) (e : UnitEvent) (maker : Maker) (w : World)
+        → commands_of maker.worker (unit_step s unit e maker w ∷ w)
+        ≡ suc (commands_of maker.worker w) }
+    ensures others { (s : Shape) (unit : ℕ) (e : UnitEvent) (maker : Maker) (w : World)
+        (worker : ℕ) → worker ≢ maker.worker
+        → commands_of worker (unit_step s unit e maker w ∷ w) ≡ commands_of worker w }
+    ensures engine { (s : Shape) (e : EngineEvent) (w : World) (worker : ℕ)
+        → commands_of worker (engine_step s e w ∷ w) ≡ commands_of worker w }
 {}
 
 /// What a stripe writes are blocks of the drive.
@@ -99,20 +103,24 @@ pub fn a_stripe_has_blocks_of_the_drive()
 {}
 
 /// Once the engine has noted a stripe's program as landed each unit has ended as many stripes as it has
-/// answers, where it had before. That stripe is answered, and the stripes of other units stay as they were.
+/// answers, where it had before, and the engine knows the chunks as they are, where it did before. That
+/// stripe is answered, and the stripes of other units stay as they were.
 pub fn a_landing_is_level()
-    ensures legal { (i : Image) (w : World) (unit : ℕ) (p : Placed) (maker : Maker) → IsBlankWorld i w
+    ensures legal { (i : Image) (w : World) (unit : ℕ) (p : Placed) (maker : Maker) → IsPlainWorld i w
         → unanswered_on (log_of w 0) unit ≡ Some p
         → ended_stripes (log_of w (suc unit)) ≡ length (answers (log_of w 0) unit)
-        → IsBlankWorld i (after_landing i.shape unit p.stripe maker w) }
-    ensures level { (i : Image) (w : World) (unit : ℕ) (p : Placed) (maker : Maker) → IsBlankWorld i w
+        → IsPlainWorld i (after_landing i.shape unit p.stripe maker w) }
+    ensures level { (i : Image) (w : World) (unit : ℕ) (p : Placed) (maker : Maker) → IsPlainWorld i w
         → unanswered_on (log_of w 0) unit ≡ Some p → IsLevel w
         → IsLevel (after_landing i.shape unit p.stripe maker w) }
+    ensures known { (i : Image) (w : World) (unit : ℕ) (p : Placed) (maker : Maker) → IsPlainWorld i w
+        → unanswered_on (log_of w 0) unit ≡ Some p → IsLevel w → IsKnown i w
+        → IsKnown i (after_landing i.shape unit p.stripe maker w) }
     ensures answered { (i : Image) (w : World) (unit : ℕ) (p : Placed) (maker : Maker)
-        → IsBlankWorld i w → unanswered_on (log_of w 0) unit ≡ Some p → IsLevel w
+        → IsPlainWorld i w → unanswered_on (log_of w 0) unit ≡ Some p → IsLevel w
         → unanswered_on (log_of (after_landing i.shape unit p.stripe maker w) 0) unit ≡ None }
     ensures others { (i : Image) (w : World) (unit : ℕ) (p : Placed) (maker : Maker) (other : ℕ)
-        → IsBlankWorld i w → unanswered_on (log_of w 0) unit ≡ Some p → IsLevel w → other ≢ unit
+        → IsPlainWorld i w → unanswered_on (log_of w 0) unit ≡ Some p → IsLevel w → other ≢ unit
         → unanswered_on (log_of (after_landing i.shape unit p.stripe maker w) 0) other
         ≡ unanswered_on (log_of w 0) other }
 {}
@@ -134,26 +142,28 @@ pub fn other_steps_are_level()
         → is_program e.command ≡ false → IsLevel w → IsLevel (unit_step s unit e maker w ∷ w) }
 {}
 
-/// A mount of a drive whose chunks are all Free begins at position 0 and sequence number 1, and resets no
-/// line.
-pub fn a_mount_begins()
-    ensures nothing { (i : Image) → IsAccepted i.shape → IsFit i
-        → AllByRecursion (AllByRecursion (λ c. c ≡ free_chunk)) i.units → IsBlankWorld i [] }
-    ensures legal { (i : Image) → IsAccepted i.shape → IsFit i
-        → AllByRecursion (AllByRecursion (λ c. c ≡ free_chunk)) i.units
-        → IsBlankWorld i (engine_step i.shape (Begin first_beginning) [] ∷ []) }
-    ensures begun { (s : Shape) → begun (log_of (engine_step s (Begin first_beginning) [] ∷ []) 0)
-        ≡ Some (record { beginning = first_beginning; knows = knows_all s [] }) }
-    ensures level { (s : Shape) → IsLevel (engine_step s (Begin first_beginning) [] ∷ []) }
+/// Entries that are taken, lines that are opened, stripes that are placed, and fetches leave the engine
+/// knowing the chunks as they are.
+pub fn other_steps_leave_chunks_known()
+    ensures taking { (i : Image) (w : World) (entry : Entry) (mark : Mark) → IsKnown i w
+        → IsKnown i (engine_step i.shape (Take entry mark) w ∷ w) }
+    ensures opening { (i : Image) (w : World) (line : ℕ) (start : StartRecord) → IsKnown i w
+        → IsKnown i (engine_step i.shape (Open line start) w ∷ w) }
+    ensures placing { (i : Image) (w : World) (stripe : Stripe) → IsKnown i w
+        → IsKnown i (engine_step i.shape (Place stripe) w ∷ w) }
+    ensures fetch { (i : Image) (w : World) (unit chunk block : ℕ) (answer : ChunkAnswer)
+        (maker : Maker) → IsPlainWorld i w → IsKnown i w
+        → IsKnown i (unit_step i.shape unit (fetch_of chunk block answer) maker w ∷ w) }
 {}
 
-/// A block may be fetched next, with the answer of the chunk table. It changes the unit's log alone.
+/// A block may be fetched next, whether or not the mount has begun, with the answer of the chunk table.
+/// It changes the unit's log alone.
 pub fn a_fetch_is_legal()
     ensures legal { (i : Image) (w : World) (unit chunk block : ℕ) (c : Chunk) (answer : ChunkAnswer)
-        (maker : Maker) → IsBlankWorld i w → unit < units i.shape
+        (maker : Maker) → IsPlainWorld i w → unit < units i.shape
         → chunk_in (media i (log_of w)) chunk unit ≡ Some c → NotRefused answer
         → ChunkStep i.shape c (Read block) answer c
-        → IsBlankWorld i (unit_step i.shape unit (fetch_of chunk block answer) maker w ∷ w) }
+        → IsPlainWorld i (unit_step i.shape unit (fetch_of chunk block answer) maker w ∷ w) }
     ensures media { (i : Image) (w : World) (unit chunk block : ℕ) (answer : ChunkAnswer)
         (maker : Maker)
         → media i (log_of (unit_step i.shape unit (fetch_of chunk block answer) maker w ∷ w))
@@ -171,7 +181,7 @@ pub fn a_fetch_is_legal()
 /// refused, and gives that block.
 pub fn a_fetch_gives_what_landed()
     ensures { (i : Image) (w : World) (line unit k r : ℕ) (o : Opening) (p : Placed) (block : Block)
-        → IsBlankWorld i w → life_of (log_of w 0) line ≡ Opened o
+        → IsPlainWorld i w → life_of (log_of w 0) line ≡ Opened o
         → slice_get (stripes_on (log_of w 0) o unit) k ≡ Some p → r < i.shape.ws_opt
         → slice_get p.stripe.blocks r ≡ Some block → has_landed (log_of w 0) p ≡ true
         → is_readable_in i.shape (log_of w 0) unit (p.stripe.at + r) (Opened o) ≡ true

@@ -1,0 +1,47 @@
+-- A chunk of a unit after an event, and images by their units.
+use Rattle.std.proofs.Common.{◌≡◌, ◌≢◌, ℕ, suc, Some, None, Option, List, [], ◌∷◌, refl, sym, ap, ◌∙◌}
+use Rattle.std.specs.Prelude.{slice_get, slice_set}
+use Rattle.std.specs.Option.{option_map, option_map_or, option_and_then}
+use Rattle.std.proofs.lemmas.Option.{same_Some, none-some}
+use Rattle.pblk_model.specs.declared.shape.Shape.{Shape}
+use Rattle.pblk_model.specs.Chunk.{Chunk}
+use Rattle.pblk_model.specs.UnitLog.{UnitEvent, after_outcome, after_event}
+use Rattle.pblk_model.specs.Image.{Image}
+use Rattle.stripe_placer.proofs.Among.{got_here, got_else}
+
+-- ---- lists
+
+pub same_lists : {X : Type 0} (xs ys : List X) → ((k : ℕ) → slice_get xs k ≡ slice_get ys k) → xs ≡ ys
+same_lists [] [] same = refl
+same_lists [] (y ∷ ys) same = absurd (none-some y (same 0))
+same_lists (x ∷ xs) [] same = absurd (none-some x (sym (same 0)))
+same_lists (x ∷ xs) (y ∷ ys) same = ap (λ z. z ∷ xs) (same_Some x y (same 0)) ∙ ap (λ zs. y ∷ zs) (same_lists xs ys (λ k. same (suc k)))
+
+pub same_images : (s : Shape) (us vs : List (List Chunk)) → ((unit : ℕ) → slice_get us unit ≡ slice_get vs unit) → ◌≡◌ {A = Image} (record { shape = s; units = us }) (record { shape = s; units = vs })
+same_images s us vs same = ap (λ (xs : List (List Chunk)). record { shape = s; units = xs }) (same_lists us vs same)
+
+-- ---- one event
+
+beside_in : (s : Shape) (chunks : List Chunk) (e : UnitEvent) (line : ℕ) → line ≢ e.chunk → slice_get (after_event s chunks e) line ≡ slice_get chunks line
+beside_in s chunks e line apart = go (slice_get chunks e.chunk)
+  where
+    go : (o : Option Chunk) → slice_get (option_map_or (λ (c : Chunk). slice_set chunks e.chunk (after_outcome s c e.command e.outcome)) o chunks) line ≡ slice_get chunks line
+    go None = refl
+    go (Some c) = got_else chunks e.chunk line (after_outcome s c e.command e.outcome) apart
+
+here_in : (s : Shape) (chunks : List Chunk) (e : UnitEvent) (c : Chunk) → slice_get chunks e.chunk ≡ Some c → slice_get (after_event s chunks e) e.chunk ≡ Some (after_outcome s c e.command e.outcome)
+here_in s chunks e c there =
+    ap (λ (o : Option Chunk). slice_get (option_map_or (λ (c : Chunk). slice_set chunks e.chunk (after_outcome s c e.command e.outcome)) o chunks) e.chunk) there
+    ∙ got_here chunks e.chunk c (after_outcome s c e.command e.outcome) there
+
+-- of a unit whose chunks are these
+
+pub chunk_beside : (s : Shape) (o : Option (List Chunk)) (e : UnitEvent) (line : ℕ) → line ≢ e.chunk
+    → option_and_then (λ chunks. slice_get chunks line) (option_map (λ chunks. after_event s chunks e) o) ≡ option_and_then (λ chunks. slice_get chunks line) o
+chunk_beside s None e line apart = refl
+chunk_beside s (Some chunks) e line apart = beside_in s chunks e line apart
+
+pub chunk_here : (s : Shape) (o : Option (List Chunk)) (e : UnitEvent) (c : Chunk) → option_and_then (λ chunks. slice_get chunks e.chunk) o ≡ Some c
+    → option_and_then (λ chunks. slice_get chunks e.chunk) (option_map (λ chunks. after_event s chunks e) o) ≡ Some (after_outcome s c e.command e.outcome)
+chunk_here s None e c there = absurd (none-some c there)
+chunk_here s (Some chunks) e c there = here_in s chunks e c there
