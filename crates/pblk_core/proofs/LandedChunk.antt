@@ -1,16 +1,15 @@
 -- What an open line's records keep of the blocks of a chunk of it.
-use Rattle.std.proofs.Common.{◌≡◌, ◌≢◌, ◌⊎◌, ℕ, ◌+◌, ◌-◌, ◌*◌, ◌/◌, ◌%◌, ◌<◌, ◌≤◌, ◌==◌, zero, suc, nat_lt, nat_le, if◌then◌else◌, Bool, true, false, Some, None, Option, List, [], ◌∷◌, length, take, drop, refl, sym, subst, ap, ap₂, ◌∙◌, arith, inl, inr}
+use Rattle.std.proofs.Common.{◌≡◌, ◌≢◌, ◌⊎◌, ℕ, ◌+◌, ◌-◌, ◌*◌, ◌/◌, ◌%◌, ◌<◌, ◌≤◌, ◌==◌, zero, suc, nat_lt, nat_le, if◌then◌else◌, Bool, true, false, Some, None, Option, List, [], ◌∷◌, length, take, drop, refl, sym, subst, ap, ap₂, ◌∙◌, arith, inl, inr, mul-div_cancel, div-add-mod'}
 use Rattle.std.specs.Prelude.{slice_get, slice_range, is_some}
-use Rattle.std.specs.List.{AllByRecursion, flat_map, range_with_len}
+use Rattle.std.specs.List.{AllByRecursion, flat_map}
 use Rattle.std.specs.Option.{option_map}
 use Rattle.std.proofs.lemmas.Bool.{cases_order, eqb-true}
-use Rattle.std.proofs.lemmas.List.FromFn.{length-range_with_len}
-use Rattle.std.proofs.lemmas.Option.{same_Some, none-some, slice_get-map, slice_get_past, slice_get_within}
-use Rattle.std.proofs.Math.Nat.{div-add-mod, mod-lt, mul-le-mul_right, mul_comm}
+use Rattle.std.proofs.lemmas.Option.{none-some, slice_get-map, slice_get_past, slice_get_within}
+use Rattle.std.specs.List.Sorted.{IsStrictlyIncreasing}
+use Rattle.std.proofs.Math.Nat.{div-add-mod, mod-lt, mul_comm}
 use Rattle.pblk_model.specs.declared.shape.Shape.{Shape}
 use Rattle.pblk_model.specs.declared.chunk.Mark.{Mark}
 use Rattle.pblk_model.specs.Chunk.{Block}
-use Rattle.pblk_model.specs.Shape.{units}
 use Rattle.pblk_model.specs.Marks.{pad_lba}
 use Rattle.pblk_model.specs.Image.{Image}
 use Rattle.pblk_model.specs.LineOrder.{line_order, address_of, column_of, data_len, start_len}
@@ -28,48 +27,38 @@ use Rattle.core_laws.proofs.Turns.{filtered_is}
 use Rattle.landing_laws.specs.ChunkBlocks.{chunk_blocks}
 use Rattle.landing_laws.specs.ReadSlots.{address_of_block}
 use Rattle.landing_laws.proofs.SlotsInWorlds.{address_at}
-use Rattle.media_laws.proofs.Columns.{block_get, blocks_count, column_get}
+use Rattle.media_laws.proofs.Columns.{block_get, blocks_count}
 use Rattle.pblk_world.specs.Lines.{known_image}
-use Rattle.media_laws.proofs.Found.{known_whole, whole_prefixes, whole_line_units, within_some}
-use Rattle.media_laws.proofs.Lives.{lived, stripes_same}
-use Rattle.media_laws.proofs.Readable.{stripes_on_are}
+use Rattle.media_laws.proofs.Found.{within_some}
 use Rattle.core_laws.proofs.Lists.{all_filter}
 use Rattle.placed_laws.proofs.StripeBlocks.{have_blocks}
 use Rattle.pblk_core.proofs.LandedEntries.{read_of}
 use Rattle.placing_laws.proofs.Lengths.{is_before, ends_before}
-use Rattle.pblk_core.proofs.LandedLogs.{rows_of_chunks}
+use Rattle.pblk_core.proofs.ChunkRows.{row_below, rows_of_chunks}
 use Rattle.stripe_placer.specs.Placing.{Program}
-use Rattle.stripe_placer.proofs.Among.{IsAmong}
-use Rattle.core_laws.specs.PlainWorlds.{IsBlankWorld}
+use Rattle.stripe_placer.proofs.Among.{IsAmong, from_filter}
+use Rattle.landing_laws.proofs.ChunkRows.{one_place}
+use Rattle.pblk_laws.proofs.LineUnits.{line_units_rise}
+use Rattle.placing_laws.proofs.InOrder.{IsAtPlace}
+use Rattle.core_laws.specs.PlainWorlds.{IsPlainWorld}
 use Rattle.pblk_core.specs.Stands.{IsOpenLine}
 use Rattle.pblk_core.specs.Readable.{ReadBlock, block_reads, data_mark, position_of}
 use Rattle.pblk_core.specs.declared.open_lines.OpenLine.{OpenLine}
 use Rattle.pblk_core.proofs.LandedReads.{IsChunkRead}
 use Rattle.pblk_core.proofs.LandedWay.{IsOnWay, at_number}
 use Rattle.pblk_core.proofs.ReadBlocks.{place_is, none_told, pads_there, reads_there}
-use Rattle.pblk_core.proofs.BlankLines.{now_units}
+use Rattle.pblk_core.proofs.LineUnits.{now_units}
 
 -- ---- where a block stands in the order of its line
 
-numbers_get : (a n k : ℕ) → k < n → slice_get (range_with_len a n) k ≡ Some (a + k)
-numbers_get a zero k h = absurd (omega arith)
-numbers_get a (suc n) zero h = let same : a ≡ a + 0 = omega arith in ap Some same
-numbers_get a (suc n) (suc k) h = let same : a + 1 + k ≡ a + suc k = omega arith in numbers_get (a + 1) n k (omega arith) ∙ ap Some same
-
-pub place_found : (s : Shape) (g unit b : ℕ) → 0 < s.ws_opt → s.clba % s.ws_opt ≡ 0 → unit < g → b < s.clba → position_of (unit, b) (line_order s (range_with_len 0 g)) ≡ Some (address_of s g unit b)
-place_found s g unit b ws whole inside below =
-    let us : List ℕ = range_with_len 0 g in
-    let long : g ≡ length (range_with_len 0 g) = sym (length-range_with_len 0 g) in
-    let from : 0 + unit ≡ unit = omega arith in
-    let there : slice_get (range_with_len 0 g) unit ≡ Some unit = numbers_get 0 g unit inside ∙ ap Some from in
-    place_is (line_order s (range_with_len 0 g)) (unit, b) (Some (address_of s g unit b))
-    (orders.found s (range_with_len 0 g) g unit unit b order_exactly (λ s g k b ws whole c h. (address_below s.ws_opt g s.clba k b ws whole c h, chunk_back s.ws_opt g k b ws c, block_back s.ws_opt g k b ws c)) ws whole long there below).1
+pub place_found : (s : Shape) (us : List ℕ) (unit c b : ℕ) → IsStrictlyIncreasing us → 0 < s.ws_opt → s.clba % s.ws_opt ≡ 0 → slice_get us c ≡ Some unit → b < s.clba → position_of (unit, b) (line_order s us) ≡ Some (address_of s (length us) c b)
+place_found s us unit c b rise ws whole there below =
+    place_is (line_order s us) (unit, b) (Some (address_of s (length us) c b))
+    (orders.found s us (length us) c unit b order_exactly (λ s g k b ws whole c h. (address_below s.ws_opt g s.clba k b ws whole c h, chunk_back s.ws_opt g k b ws c, block_back s.ws_opt g k b ws c)) ws whole refl there below).1
     (λ a h.
-    let is = orders.at s (range_with_len 0 g) a unit b order_exactly order_length (λ s g a ws whole some h. (chunk_below s.ws_opt g s.clba a some, block_below s.ws_opt g s.clba a ws whole some h, address_back s.ws_opt g a ws)) ws whole h in
-    let in_row = slice_get_within (range_with_len 0 g) _ unit is.unit_is in
-    let same : unit ≡ 0 + column_of s (length (range_with_len 0 g)) a = same_Some unit (0 + column_of s (length (range_with_len 0 g)) a) (sym is.unit_is ∙ numbers_get 0 g (column_of s (length (range_with_len 0 g)) a) (subst (λ m. column_of s (length (range_with_len 0 g)) a < m) (sym long) in_row)) in
-    let column : unit ≡ column_of s (length (range_with_len 0 g)) a = same ∙ (let z : 0 + column_of s (length (range_with_len 0 g)) a ≡ column_of s (length (range_with_len 0 g)) a = omega arith in z) in
-    ap Some (ap₂ (λ m k. address_of s m k b) long column ∙ is.address))
+    let is = orders.at s us a unit b order_exactly order_length (λ s g a ws whole some h. (chunk_below s.ws_opt g s.clba a some, block_below s.ws_opt g s.clba a ws whole some h, address_back s.ws_opt g a ws)) ws whole h in
+    let same : c ≡ column_of s (length us) a = one_place us c (column_of s (length us) a) unit rise there is.unit_is in
+    ap Some (ap (λ k. address_of s (length us) k b) same ∙ is.address))
 
 -- ---- a block of the chunk in its line
 
@@ -81,29 +70,15 @@ pub record IsInLine (i : Image) (w : World) (unit : ℕ) (o : Opening) (slot : O
   pub address : address_of_block i (log_of w) o unit n ≡ number * i.shape.ws_opt + n % i.shape.ws_opt
   pub place : position_of (unit, n) (line_order slot.records.shape (units_in slot.live)) ≡ Some (number * i.shape.ws_opt + n % i.shape.ws_opt)
 
-units_all : (i : Image) (w : World) (unit : ℕ) (of : Program) → IsBlankWorld i w → (is : IsOnWay i w unit of) → now_units i w is.row.opening.line ≡ range_with_len 0 (units i.shape)
-units_all i w unit of blank is = whole_line_units i (known_image i (log_of w)) is.row.opening.line (known_whole i w (log_of w) blank (whole_prefixes w)) is.line_is.well.in_range
-
 long_all : (n : ℕ) (ps : List Placed) → ((k : ℕ) (r : Placed) → slice_get ps k ≡ Some r → length r.stripe.blocks ≡ n) → AllByRecursion (λ (r : Placed). length r.stripe.blocks ≡ n) ps
 long_all n [] each = tt
 long_all n (r ∷ ps) each = (each 0 r refl, long_all n ps (λ k x e. each (suc k) x e))
 
-row_below : (w n m : ℕ) → n < m * w → n / w < m
-row_below w n m below = go (cases_order (n / w) m)
-  where
-    parts : w * (n / w) + n % w ≡ n
-    parts = div-add-mod n w
-
-    go : (n / w ≡ m) ⊎ ((n / w < m) ⊎ (m < n / w)) → n / w < m
-    go (inl same) = let p : m * w ≡ w * (n / w) = ap (λ k. k * w) (sym same) ∙ mul_comm (n / w) w in absurd (omega arith)
-    go (inr (inl less)) = less
-    go (inr (inr more)) = let p : m * w ≤ (n / w) * w = mul-le-mul_right w (omega arith) in let q : (n / w) * w ≡ w * (n / w) = mul_comm (n / w) w in absurd (omega arith)
-
-pub in_line : (i : Image) (w : World) (unit : ℕ) (of : Program) (slot : OpenLine) (n : ℕ) (b : Block) → IsBlankWorld i w → (is : IsOnWay i w unit of) → IsOpenLine i (log_of w) is.row.opening slot
+pub in_line : (i : Image) (w : World) (unit : ℕ) (of : Program) (slot : OpenLine) (n : ℕ) (b : Block) → IsPlainWorld i w → (is : IsOnWay i w unit of) → IsOpenLine i (log_of w) is.row.opening slot
     → slice_get (chunk_blocks (log_of w 0) is.row.opening unit) n ≡ Some b → IsInLine i w unit is.row.opening slot n b
-in_line i w unit of slot n b blank is kept there =
+in_line i w unit of slot n b plain is kept there =
     let ws : 0 < i.shape.ws_opt = is.line_is.striped.some in
-    let rows = rows_of_chunks i w is.row.opening unit blank in
+    let rows = rows_of_chunks i w is.row.opening unit plain in
     let long = long_all i.shape.ws_opt (stripes_on (log_of w 0) is.row.opening unit) (λ k r at. (rows k r at).blocks) in
     let count : length (chunk_blocks (log_of w 0) is.row.opening unit) ≡ length (stripes_on (log_of w 0) is.row.opening unit) * i.shape.ws_opt = blocks_count i.shape.ws_opt (stripes_on (log_of w 0) is.row.opening unit) long in
     let within : n < length (chunk_blocks (log_of w 0) is.row.opening unit) = slice_get_within (chunk_blocks (log_of w 0) is.row.opening unit) n b there in
@@ -113,26 +88,29 @@ in_line i w unit of slot n b blank is kept there =
     let parts : n / i.shape.ws_opt * i.shape.ws_opt + n % i.shape.ws_opt ≡ n = ap (λ m. m + n % i.shape.ws_opt) (mul_comm (n / i.shape.ws_opt) i.shape.ws_opt) ∙ div-add-mod n i.shape.ws_opt in
     let its = rows (n / i.shape.ws_opt) p.0 p.1 in
     let own : p.0.stripe.unit ≡ unit = eqb-true p.0.stripe.unit unit (filtered_is (λ (x : Placed). x.stripe.unit == unit) (stripes_of (log_of w 0) is.row.opening) (n / i.shape.ws_opt) p.0 p.1) in
-    let number : ℕ = n / i.shape.ws_opt * units i.shape + unit in
-    let at : slice_get (stripes_of (log_of w 0) is.row.opening) (n / i.shape.ws_opt * units i.shape + unit) ≡ Some p.0 =
-    ap (λ ps. slice_get ps (n / i.shape.ws_opt * units i.shape + unit)) (stripes_same (log_of w 0) is.row.stripe.stripe.line is.row.opening (lived i w blank).lives is.stands)
-    ∙ sym (column_get i w is.row.stripe.stripe.line unit (n / i.shape.ws_opt) blank is.row.inside)
-    ∙ ap (λ ps. slice_get ps (n / i.shape.ws_opt)) (sym (stripes_on_are i w is.row.stripe.stripe.line unit is.row.opening blank is.stands)) ∙ p.1 in
-    let short : n / i.shape.ws_opt * units i.shape + unit < length (stripes_of (log_of w 0) is.row.opening) = slice_get_within (stripes_of (log_of w 0) is.row.opening) (n / i.shape.ws_opt * units i.shape + unit) p.0 at in
+    let among : IsAmong (stripes_of (log_of w 0) is.row.opening) p.0 = from_filter (λ (x : Placed). x.stripe.unit == unit) (stripes_of (log_of w 0) is.row.opening) p.0 (n / i.shape.ws_opt, p.1) in
+    let place : IsAtPlace i (now_units i w) is.row.opening.line among.0 p.0.stripe.unit p.0.stripe.at = is.line_is.order.places among.0 p.0 among.1 in
+    let column : slice_get (now_units i w is.row.opening.line) (among.0 % length (now_units i w is.row.opening.line)) ≡ Some unit = place.its_unit ∙ ap (λ u. Some u) own in
+    let same_row : among.0 / length (now_units i w is.row.opening.line) ≡ n / i.shape.ws_opt =
+    sym (mul-div_cancel (among.0 / length (now_units i w is.row.opening.line)) {n = i.shape.ws_opt} ws) ∙ ap (λ m. m / i.shape.ws_opt) (sym place.its_block ∙ its.at) ∙ mul-div_cancel (n / i.shape.ws_opt) {n = i.shape.ws_opt} ws in
+    let number : n / i.shape.ws_opt * length (now_units i w is.row.opening.line) + among.0 % length (now_units i w is.row.opening.line) ≡ among.0 =
+    ap (λ m. m * length (now_units i w is.row.opening.line) + among.0 % length (now_units i w is.row.opening.line)) (sym same_row) ∙ div-add-mod' among.0 (length (now_units i w is.row.opening.line)) in
+    let short : among.0 < length (stripes_of (log_of w 0) is.row.opening) = slice_get_within (stripes_of (log_of w 0) is.row.opening) among.0 p.0 among.1 in
     let all = is.line_is.order.inside in
     let total = is.line_is.count in
-    let here = at_number i w is.row.opening (n / i.shape.ws_opt * units i.shape + unit) p.0.stripe.unit p.0.stripe.at is.line_is (is.line_is.order.places (n / i.shape.ws_opt * units i.shape + unit) p.0 at) in
+    let here = at_number i w is.row.opening among.0 p.0.stripe.unit p.0.stripe.at is.line_is place in
     let wide : 0 < width (as_opened i (log_of w) is.row.opening) = (let g = is.line_is.wide_is in let h = is.line_is.striped.wide in omega arith) in
     let below : n < i.shape.clba = (let a : p.0.stripe.at ≡ n / i.shape.ws_opt * i.shape.ws_opt = its.at in let c = its.within in omega arith) in
     record {
-      number = n / i.shape.ws_opt * units i.shape + unit;
+      number = among.0;
       stripe = p.0;
-      there = at;
+      there = among.1;
       block = sym (block_get i.shape.ws_opt (stripes_on (log_of w 0) is.row.opening unit) (n / i.shape.ws_opt) (n % i.shape.ws_opt) p.0 long p.1 rest) ∙ ap (slice_get (chunk_blocks (log_of w 0) is.row.opening unit)) parts ∙ there;
-      address = address_at i (log_of w) is.row.opening unit n (n / i.shape.ws_opt * units i.shape + unit) ws wide (omega arith)
-          (ap₂ (λ u m. is_stripe_at i.shape (as_opened i (log_of w) is.row.opening) u m (n / i.shape.ws_opt * units i.shape + unit)) (sym own) (sym its.at) ∙ here);
-      place = ap₂ (λ s us. position_of (unit, n) (line_order s us)) kept.records.shape (ap units_in kept.live ∙ is.line_is.units ∙ units_all i w unit of blank is)
-          ∙ place_found i.shape (units i.shape) unit n ws blank.plain.accepted.drive.whole_stripes is.row.inside below;
+      address = address_at i (log_of w) is.row.opening unit n among.0 ws wide (omega arith)
+          (ap₂ (λ u m. is_stripe_at i.shape (as_opened i (log_of w) is.row.opening) u m among.0) (sym own) (sym its.at) ∙ here);
+      place = ap₂ (λ s us. position_of (unit, n) (line_order s us)) kept.records.shape (ap units_in kept.live ∙ is.line_is.units)
+          ∙ place_found i.shape (now_units i w is.row.opening.line) unit (among.0 % length (now_units i w is.row.opening.line)) n (line_units_rise (known_image i (log_of w)) is.row.opening.line) ws plain.accepted.drive.whole_stripes column below
+          ∙ ap (λ m. Some (m * i.shape.ws_opt + n % i.shape.ws_opt)) number;
     }
 
 -- ---- its mark
@@ -178,7 +156,7 @@ lt_no m n e = grind arith
 lt_yes : (m n : ℕ) → nat_lt m n ≡ true → m < n
 lt_yes m n e = grind arith
 
-le_yes : (m n : ℕ) → nat_le m n ≡ true → m ≤ n
+pub le_yes : (m n : ℕ) → nat_le m n ≡ true → m ≤ n
 le_yes m n e = grind arith
 
 le_no : (m n : ℕ) → nat_le m n ≡ false → n < m
@@ -200,8 +178,8 @@ told_none i w unit o slot n b none unnamed = record {
     both : {c : Bool} → c ≡ true → c ≡ false → ⊥
     both p q = cc
 
-told_block : (i : Image) (w : World) (unit : ℕ) (of : Program) (slot : OpenLine) (n : ℕ) (b : Block) → IsBlankWorld i w → (is : IsOnWay i w unit of) → IsOpenLine i (log_of w) is.row.opening slot → IsInLine i w unit is.row.opening slot n b → AreKinds i w is.row.opening → IsTold i w unit is.row.opening slot n b
-told_block i w unit of slot n b blank is kept l kinds = by (nat_le (start_len i.shape) at) refl
+told_block : (i : Image) (w : World) (unit : ℕ) (of : Program) (slot : OpenLine) (n : ℕ) (b : Block) → IsPlainWorld i w → (is : IsOnWay i w unit of) → IsOpenLine i (log_of w) is.row.opening slot → IsInLine i w unit is.row.opening slot n b → AreKinds i w is.row.opening → IsTold i w unit is.row.opening slot n b
+told_block i w unit of slot n b plain is kept l kinds = by (nat_le (start_len i.shape) at) refl
   where
     at : ℕ
     at = l.number * i.shape.ws_opt + n % i.shape.ws_opt
@@ -217,7 +195,7 @@ told_block i w unit of slot n b blank is kept l kinds = by (nat_le (start_len i.
 
     line_get : slice_get (flat_map (λ (p : Placed). p.stripe.blocks) (stripes_of (log_of w 0) is.row.opening)) (l.number * i.shape.ws_opt + n % i.shape.ws_opt) ≡ Some b
     line_get = block_get i.shape.ws_opt (stripes_of (log_of w 0) is.row.opening) l.number (n % i.shape.ws_opt) l.stripe
-        (all_filter (λ (p : Placed). length p.stripe.blocks ≡ i.shape.ws_opt) (λ (p : Placed). is_life is.row.opening.number p.life) (placements (log_of w 0)) (have_blocks i w blank.plain.accepted blank.plain.legal).blocks)
+        (all_filter (λ (p : Placed). length p.stripe.blocks ≡ i.shape.ws_opt) (λ (p : Placed). is_life is.row.opening.number p.life) (placements (log_of w 0)) (have_blocks i w plain.accepted plain.legal).blocks)
         l.there (mod-lt n is.line_is.striped.some) ∙ l.block
 
     kind : HasKind i.shape (takes (log_of w 0)) is.row.opening l.number l.stripe.stripe.blocks
@@ -278,8 +256,8 @@ told_block i w unit of slot n b blank is kept l kinds = by (nat_le (start_len i.
         (kind.outside b among (inl (omega arith)))
     by true e = after_start e (nat_lt (l.number * i.shape.ws_opt + n % i.shape.ws_opt) (end_address i.shape is.row.opening)) refl
 
-pub chunk_read : (i : Image) (w : World) (unit : ℕ) (of : Program) (slot : OpenLine) → IsBlankWorld i w → (is : IsOnWay i w unit of) → IsOpenLine i (log_of w) is.row.opening slot → AreKinds i w is.row.opening → IsChunkRead i w unit is.row.opening slot
-chunk_read i w unit of slot blank is kept kinds = record {
-  reads = λ n b there. (told_block i w unit of slot n b blank is kept (in_line i w unit of slot n b blank is kept there) kinds).reads;
-  marks = λ n b there. (told_block i w unit of slot n b blank is kept (in_line i w unit of slot n b blank is kept there) kinds).marks;
+pub chunk_read : (i : Image) (w : World) (unit : ℕ) (of : Program) (slot : OpenLine) → IsPlainWorld i w → (is : IsOnWay i w unit of) → IsOpenLine i (log_of w) is.row.opening slot → AreKinds i w is.row.opening → IsChunkRead i w unit is.row.opening slot
+chunk_read i w unit of slot plain is kept kinds = record {
+  reads = λ n b there. (told_block i w unit of slot n b plain is kept (in_line i w unit of slot n b plain is kept there) kinds).reads;
+  marks = λ n b there. (told_block i w unit of slot n b plain is kept (in_line i w unit of slot n b plain is kept there) kinds).marks;
 }

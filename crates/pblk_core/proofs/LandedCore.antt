@@ -1,10 +1,8 @@
 -- What a core keeps of a program that is under way.
-use Rattle.std.proofs.Common.{◌≡◌, ℕ, ◌+◌, ◌*◌, ◌/◌, ◌^◌, ◌<◌, ◌≤◌, ◌==◌, zero, suc, true, false, Some, Option, List, [], length, refl, sym, subst, ap, ◌∙◌, arith, inl}
+use Rattle.std.proofs.Common.{◌≡◌, ℕ, ◌+◌, ◌*◌, ◌/◌, ◌^◌, ◌<◌, ◌≤◌, ◌==◌, true, false, Some, Option, List, [], length, refl, sym, subst, ap, ◌∙◌, arith, inl}
 use Rattle.std.specs.Prelude.{slice_get, slice_set}
-use Rattle.std.specs.List.{fold, range_with_len}
+use Rattle.std.specs.List.{range_with_len}
 use Rattle.std.specs.Option.{option_map, option_map_or, option_and_then}
-use Rattle.std.proofs.Math.Seq.{take-length}
-use Rattle.std.proofs.Math.Nat.{two-pow-succ}
 use Rattle.std.proofs.lemmas.List.{length-map}
 use Rattle.std.proofs.lemmas.List.FromFn.{length-range_with_len}
 use Rattle.std.proofs.lemmas.Option.{same_Some}
@@ -15,7 +13,6 @@ use Rattle.pblk_world.specs.World.{World, log_of}
 use Rattle.pblk_world.specs.EngineLog.{Placed, stripes_of, stripes_on, holds_position}
 use Rattle.pblk_world.specs.Fronts.{taken}
 use Rattle.pblk_world.specs.Space.{freed}
-use Rattle.pblk_world.specs.Lines.{known_image}
 use Rattle.pblk_world.specs.Victims.{engine_prefix}
 use Rattle.line_table.specs.declared.row.Row.{Row}
 use Rattle.line_table.specs.declared.row.LineState.TheVariants.{Open, Full}
@@ -25,9 +22,8 @@ use Rattle.stripe_placer.specs.Placing.{Program, UnitRow, program, under_way_in}
 use Rattle.stripe_placer.specs.Placing.UnitRow.{UnderWay}
 use Rattle.stripe_placer.proofs.Among.{IsAmong, in_filter}
 use Rattle.write_window.specs.Window as view
-use Rattle.core_laws.specs.OpenedLines.{bits_of, opened_units}
 use Rattle.core_laws.specs.PlacerOf.{IsAwaited, placing_of, positions_in_stripe}
-use Rattle.core_laws.specs.PlainWorlds.{IsBlankWorld}
+use Rattle.core_laws.specs.PlainWorlds.{IsPlainWorld}
 use Rattle.core_laws.specs.RowsOf.{row_of_line, rows_of, width_in}
 use Rattle.core_laws.proofs.Rows.{row_at, same_number}
 use Rattle.landing_laws.specs.ChunkBlocks.{IsInRow}
@@ -38,16 +34,17 @@ use Rattle.line_laws.proofs.Quiet.{set_same}
 use Rattle.line_laws.proofs.Tables.{changed_is}
 use Rattle.line_laws.proofs.LineRoom.{has_room, state_open}
 use Rattle.line_laws.proofs.Orders.{in_order}
-use Rattle.media_laws.proofs.Found.{ArePrefixes, known_whole, whole_line_units, within_some}
+use Rattle.media_laws.proofs.Found.{within_some}
 use Rattle.placed_laws.proofs.Placed.{stripe_holds}
 use Rattle.pblk_core.specs.Slots.{IsSlot}
 use Rattle.pblk_core.specs.Stands.{Stands, unlanded}
 use Rattle.pblk_core.specs.declared.open_lines.OpenLine.{OpenLine}
 use Rattle.pblk_core.specs.declared.target_core.Core.{Core}
 use Rattle.pblk_core.proofs.LandedLines.{HasSlot, has_slot, found_slot, fewer_landed}
-use Rattle.pblk_core.proofs.LandedLogs.{rows_of_chunks}
+use Rattle.pblk_core.proofs.ChunkRows.{rows_of_chunks}
 use Rattle.pblk_core.proofs.LandedWay.{IsOnWay, of_row, on_way, awaited, line_of_way}
 use Rattle.pblk_core.proofs.StandsFacts.{window_taken_is}
+use Rattle.pblk_core.proofs.LineBits.{known_bits}
 
 -- ---- the row that the placer tells
 
@@ -62,11 +59,11 @@ pub record IsOfCore (i : Image) (w : World) (c : Core) (unit : ℕ) (of : Progra
   pub waits : IsAwaited i (log_of w) c.placer.entries.pad [] of
   pub has : HasSlot i (log_of w) c.open is.row.opening
 
-pub of_core : (i : Image) (w : World) (c : Core) (unit : ℕ) (of : Program) → IsBlankWorld i w → Stands i (log_of w) c → slice_get c.placer.units unit ≡ Some (UnderWay of) → IsOfCore i w c unit of
-of_core i w c unit of blank st there =
+pub of_core : (i : Image) (w : World) (c : Core) (unit : ℕ) (of : Program) → IsPlainWorld i w → Stands i (log_of w) c → slice_get c.placer.units unit ≡ Some (UnderWay of) → IsOfCore i w c unit of
+of_core i w c unit of plain st there =
     let row : slice_get (placing_of i (log_of w) c.placer.entries.pad []).units unit ≡ Some (UnderWay of) = ap (λ p. slice_get p.units unit) (sym st.placing) ∙ there in
-    let is : IsOnWay i w unit of = on_way i w unit of blank (of_row i (log_of w) c.placer.entries.pad unit of row) in
-    record { is = is; waits = awaited i w c.placer.entries.pad unit of blank is row; has = has_slot i w c unit of blank is st }
+    let is : IsOnWay i w unit of = on_way i w unit of plain (of_row i (log_of w) c.placer.entries.pad unit of row) in
+    record { is = is; waits = awaited i w c.placer.entries.pad unit of plain is row; has = has_slot i w c unit of plain is st }
 
 -- ---- its entries
 
@@ -86,54 +83,29 @@ in_window i w c q st low high =
     let from : c.window.freed ≤ freed i.shape (log_of w 0) = st.to_freed in
     (omega arith, subst (λ n. q < n) (sym (window_taken_is i w c st)) high)
 
-pub entry_held : (i : Image) (w : World) (c : Core) (unit : ℕ) (of : Program) (k q : ℕ) → IsBlankWorld i w → Stands i (log_of w) c → IsOnWay i w unit of → slice_get of.positions k ≡ Some q → view.IsHeld c.window q
-entry_held i w c unit of k q blank st is at =
-    let own = own_in_window i w unit is.row.stripe q blank.plain is.row.waits (holds_it i w unit of k q is at) in
+pub entry_held : (i : Image) (w : World) (c : Core) (unit : ℕ) (of : Program) (k q : ℕ) → IsPlainWorld i w → Stands i (log_of w) c → IsOnWay i w unit of → slice_get of.positions k ≡ Some q → view.IsHeld c.window q
+entry_held i w c unit of k q plain st is at =
+    let own = own_in_window i w unit is.row.stripe q plain is.row.waits (holds_it i w unit of k q is at) in
     in_window i w c q st own.1 own.2
 
 -- ---- its place in the chunk
 
-pub in_row : (i : Image) (w : World) (unit : ℕ) (of : Program) → IsBlankWorld i w → (is : IsOnWay i w unit of) → (n : ℕ) × (slice_get (stripes_on (log_of w 0) is.row.opening unit) n ≡ Some is.row.stripe) × IsInRow i.shape n is.row.stripe
-in_row i w unit of blank is =
+pub in_row : (i : Image) (w : World) (unit : ℕ) (of : Program) → IsPlainWorld i w → (is : IsOnWay i w unit of) → (n : ℕ) × (slice_get (stripes_on (log_of w 0) is.row.opening unit) n ≡ Some is.row.stripe) × IsInRow i.shape n is.row.stripe
+in_row i w unit of plain is =
     let among : IsAmong (stripes_on (log_of w 0) is.row.opening unit) is.row.stripe =
     in_filter (λ (p : Placed). p.stripe.unit == unit) (stripes_of (log_of w 0) is.row.opening) is.row.stripe (is.number, is.there) (ap (λ u. u == unit) is.its_unit ∙ same_number unit) in
-    (among.0, among.1, rows_of_chunks i w is.row.opening unit blank among.0 is.row.stripe among.1)
+    (among.0, among.1, rows_of_chunks i w is.row.opening unit plain among.0 is.row.stripe among.1)
 
 pub block_is : (i : Image) (w : World) (unit : ℕ) (of : Program) → (is : IsOnWay i w unit of) → of.block ≡ is.row.stripe.stripe.at
 block_is i w unit of is = sym (ap (λ (x : Program). x.block) is.row.is)
 
-pub block_within : (i : Image) (w : World) (unit : ℕ) (of : Program) → IsBlankWorld i w → IsOnWay i w unit of → of.block + i.shape.ws_opt ≤ i.shape.clba
-block_within i w unit of blank is = subst (λ n. n + i.shape.ws_opt ≤ i.shape.clba) (sym (block_is i w unit of is)) (in_row i w unit of blank is).2.within
+pub block_within : (i : Image) (w : World) (unit : ℕ) (of : Program) → IsPlainWorld i w → IsOnWay i w unit of → of.block + i.shape.ws_opt ≤ i.shape.clba
+block_within i w unit of plain is = subst (λ n. n + i.shape.ws_opt ≤ i.shape.clba) (sym (block_is i w unit of is)) (in_row i w unit of plain is).2.within
 
 -- ---- the units of its line
 
-prefix_of : (w : World) (n : ℕ) → ArePrefixes w (engine_prefix n (log_of w))
-prefix_of w n zero = (n, refl)
-prefix_of w n (suc unit) = (length (log_of w (suc unit)), sym (take-length (log_of w (suc unit))))
-
-pub opened_all : (i : Image) (w : World) (unit : ℕ) (of : Program) → IsBlankWorld i w → (is : IsOnWay i w unit of) → opened_units i (log_of w) is.row.opening ≡ range_with_len 0 (units i.shape)
-opened_all i w unit of blank is =
-    whole_line_units i (known_image i (engine_prefix is.row.opening.number (log_of w))) is.row.opening.line
-    (known_whole i w (engine_prefix is.row.opening.number (log_of w)) blank (prefix_of w is.row.opening.number)) is.line_is.well.in_range
-
-bits_below : (acc a n : ℕ) → fold (λ m unit. m + 2 ^ unit) acc (range_with_len a n) + 2 ^ a ≡ acc + 2 ^ (a + n)
-bits_below acc a zero = let same : a ≡ a + 0 = omega arith in ap (λ m. acc + 2 ^ m) same
-bits_below acc a (suc n) =
-    let rest : fold (λ m unit. m + 2 ^ unit) (acc + 2 ^ a) (range_with_len (a + 1) n) + 2 ^ (a + 1) ≡ acc + 2 ^ a + 2 ^ (a + 1 + n) = bits_below (acc + 2 ^ a) (a + 1) n in
-    let more : a + 1 ≡ suc a = omega arith in
-    let twice : 2 ^ (a + 1) ≡ 2 ^ a + 2 ^ a = ap (λ m. 2 ^ m) more ∙ two-pow-succ a in
-    let next : a + 1 + n ≡ a + suc n = omega arith in
-    let sum : fold (λ m unit. m + 2 ^ unit) (acc + 2 ^ a) (range_with_len (a + 1) n) + 2 ^ a ≡ acc + 2 ^ (a + 1 + n) = omega arith in
-    sum ∙ ap (λ m. acc + 2 ^ m) next
-
-pub live_few : (i : Image) (w : World) (c : Core) (unit : ℕ) (of : Program) → IsBlankWorld i w → (is : IsOnWay i w unit of) → (has : HasSlot i (log_of w) c.open is.row.opening) → has.slot.live < 2 ^ units i.shape
-live_few i w c unit of blank is has =
-    let sum : bits_of (range_with_len 0 (units i.shape)) + 2 ^ 0 ≡ 0 + 2 ^ (0 + units i.shape) = bits_below 0 0 (units i.shape) in
-    let live : has.slot.live ≡ bits_of (range_with_len 0 (units i.shape)) = has.is.live ∙ ap bits_of (opened_all i w unit of blank is) in
-    let plain : 0 + units i.shape ≡ units i.shape = omega arith in
-    let same : 2 ^ (0 + units i.shape) ≡ 2 ^ units i.shape = ap (λ n. 2 ^ n) plain in
-    let one : 2 ^ 0 ≡ 1 = refl in
-    omega arith
+pub live_few : (i : Image) (w : World) (c : Core) (unit : ℕ) (of : Program) → IsPlainWorld i w → (is : IsOnWay i w unit of) → (has : HasSlot i (log_of w) c.open is.row.opening) → has.slot.live < 2 ^ units i.shape
+live_few i w c unit of plain is has = subst (λ n. n < 2 ^ units i.shape) (sym has.is.live) (known_bits i w (engine_prefix is.row.opening.number (log_of w)) is.row.opening.line plain)
 
 pub left_some : (i : Image) (w : World) (c : Core) (unit : ℕ) (of : Program) → (is : IsOnWay i w unit of) → (has : HasSlot i (log_of w) c.open is.row.opening) → 0 < has.slot.stripes_left
 left_some i w c unit of is has =
@@ -150,14 +122,14 @@ line_within i w c unit of st is =
     let count : length (rows_of i (log_of w)).rows ≡ i.shape.chunks = length-map (range_with_len 0 i.shape.chunks) (row_of_line i (log_of w)) ∙ length-range_with_len 0 i.shape.chunks in
     subst (λ t. is.row.opening.line < length t.rows) (sym st.table) (omega arith)
 
-pub may_fill : (i : Image) (w : World) (c : Core) (unit : ℕ) (of : Program) (row : Row) (addresses : ℕ) → IsBlankWorld i w → Stands i (log_of w) c → (is : IsOnWay i w unit of) → IsRow c.lines is.row.opening.line row → IsChange row.state Full addresses
-may_fill i w c unit of row addresses blank st is there =
+pub may_fill : (i : Image) (w : World) (c : Core) (unit : ℕ) (of : Program) (row : Row) (addresses : ℕ) → IsPlainWorld i w → Stands i (log_of w) c → (is : IsOnWay i w unit of) → IsRow c.lines is.row.opening.line row → IsChange row.state Full addresses
+may_fill i w c unit of row addresses plain st is there =
     let ln : ℕ = is.row.opening.line in
     let at = row_at (row_of_line i (log_of w)) i.shape.chunks 0 is.row.opening.line row (ap (λ t. slice_get t.rows is.row.opening.line) (sym st.table) ∙ there) in
-    let plain : 0 + is.row.opening.line ≡ is.row.stripe.stripe.line = (let z : 0 + is.row.opening.line ≡ is.row.opening.line = omega arith in z) ∙ is.its_line in
+    let from : 0 + is.row.opening.line ≡ is.row.stripe.stripe.line = (let z : 0 + is.row.opening.line ≡ is.row.opening.line = omega arith in z) ∙ is.its_line in
     let state : Open ≡ row.state =
-    sym (state_open i (log_of w) unit is.row.stripe is.row.opening is.line_is.striped.some (in_order i w blank.plain).failed is.row.waits is.row.life is.stands (has_room i w is.row.stripe.stripe.line is.row.opening blank.plain is.stands))
-    ∙ ap (λ n. (row_of_line i (log_of w) n).state) (sym plain) ∙ ap (λ (r : Row). r.state) at.1 in
+    sym (state_open i (log_of w) unit is.row.stripe is.row.opening is.line_is.striped.some (in_order i w plain).failed is.row.waits is.row.life is.stands (has_room i w is.row.stripe.stripe.line is.row.opening plain is.stands))
+    ∙ ap (λ n. (row_of_line i (log_of w) n).state) (sym from) ∙ ap (λ (r : Row). r.state) at.1 in
     subst (λ s. IsChange s Full addresses) state (inl refl)
 
 -- the slot that is found is its line's

@@ -1,7 +1,10 @@
 -- What the blocks of the stripes of a line are.
-use Rattle.std.proofs.Common.{◌≡◌, ◌≢◌, ◌⊎◌, ℕ, ◌+◌, ◌-◌, ◌*◌, ◌<◌, ◌≤◌, ◌==◌, nat_lt, true, false, zero, suc, Bool, Some, None, List, [], ◌∷◌, drop, sym, ap, ◌∙◌, inl, inr, if◌then◌else◌}
-use Rattle.std.specs.Prelude.{slice_get, slice_range, is_some}
-use Rattle.std.specs.List.{AllByRecursion}
+use Rattle.std.proofs.Common.{◌≡◌, ◌≢◌, ◌⊎◌, ℕ, ◌+◌, ◌-◌, ◌*◌, ◌/◌, ◌<◌, ◌≤◌, ◌==◌, ◌&&◌, nat_lt, nat_eq, true, false, cond, zero, suc, Bool, Some, None, List, [], ◌∷◌, ◌++◌, length, drop, refl, sym, subst, ap, ap₂, ◌∙◌, arith, inl, inr, if◌then◌else◌, append-nil, le_refl}
+use Rattle.std.specs.Prelude.{slice_get, slice_range, is_some, nat_le}
+use Rattle.std.specs.List.{AllByRecursion, filter}
+use Rattle.std.proofs.Math.Nat.{mul-le-mul_right}
+use Rattle.std.proofs.lemmas.Bool.{eqb-true}
+use Rattle.std.proofs.lemmas.Option.{same_Some, none-some}
 use Rattle.pblk_model.specs.declared.shape.Shape.{Shape}
 use Rattle.pblk_model.specs.declared.chunk.Mark.{Mark}
 use Rattle.pblk_model.specs.Accepted.{IsAccepted}
@@ -10,28 +13,38 @@ use Rattle.pblk_model.specs.Image.{Image}
 use Rattle.pblk_model.specs.Marks.{meta_mark, pad_lba, void_lba}
 use Rattle.pblk_model.specs.Records.{named}
 use Rattle.pblk_model.specs.LineOrder.{start_len, end_len}
-use Rattle.pblk_model.specs.StartRecord.{start_bytes}
-use Rattle.pblk_world.specs.World.{World, log_of}
-use Rattle.pblk_world.specs.EngineLog.{Opening, Taken, takes}
-use Rattle.pblk_world.specs.Placing.{record_blocks, end_address}
+use Rattle.pblk_model.specs.StartRecord.{StartRecord, start_bytes}
+use Rattle.pblk_world.specs.Events.{Stripe, Open, Place, Free, Event, Decides, Logged}
+use Rattle.pblk_world.specs.World.{World, Logs, log_of, prefixes}
+use Rattle.pblk_world.specs.EngineLog.{Opening, Opened, life_of, is_life, Taken, takes, Placed, placements, stripes_of, has_failed}
+use Rattle.pblk_world.specs.Placing.{MayPlace, IsStart, IsData, IsEnd, IsPad, record_blocks, data_blocks, end_address}
+use Rattle.pblk_world.proofs.Appending.{life_more, takes_more, placements_more}
+use Rattle.pblk_world.proofs.Growing.{at_end}
 use Rattle.stripe_placer.specs.Placing.{Program}
 use Rattle.stripe_placer.proofs.Among.{IsAmong}
-use Rattle.core_laws.specs.PlainWorlds.{IsBlankWorld}
-use Rattle.core_laws.proofs.Lists.{all_at}
-use Rattle.core_laws.proofs.Placing.{is_below}
-use Rattle.media_laws.specs.Standing.{stripes_in}
-use Rattle.media_laws.proofs.Lives.{lived, stripes_same}
+use Rattle.core_laws.specs.PlainWorlds.{IsPlainWorld}
+use Rattle.core_laws.proofs.Lists.{all_at, filter_none}
+use Rattle.core_laws.proofs.Numbers.{opens_at, life_at}
+use Rattle.core_laws.proofs.Opening.{placed_before}
+use Rattle.core_laws.proofs.Placing.{is_below, new_placed, with_place, placements_now}
+use Rattle.core_laws.proofs.Taking.{filter_last}
+use Rattle.line_laws.specs.PlacedEntries.{AreOfSectors}
+use Rattle.line_laws.proofs.Orders.{in_order}
+use Rattle.placing_laws.proofs.Answers.{not_failed}
+use Rattle.placing_laws.proofs.Followed.{IsNextEvent, by_events, follow}
+use Rattle.placing_laws.proofs.InOrder.{its_stripes}
+use Rattle.placing_laws.proofs.Lengths.{IsStriped}
+use Rattle.placing_laws.proofs.Opened.{IsOpenedLine, opened_lines}
 use Rattle.pblk_laws.proofs.Lists.{all_take}
 use Rattle.pblk_laws.proofs.MarkNames.{pad_none, meta_none}
-use Rattle.prefix_law.proofs.Filling.{IsFilled, IsOfTaken}
+use Rattle.prefix_law.proofs.Filling.{IsOfTaken, data_taken}
 use Rattle.prefix_law.proofs.Media.{cut_marks}
-use Rattle.prefix_law.proofs.Taking.{IsUsers}
-use Rattle.prefix_law.proofs.Blank.{all_users, filled}
 use Rattle.pblk_core.specs.Stands.{IsOpenLine}
 use Rattle.pblk_core.specs.declared.open_lines.OpenLine.{OpenLine}
+use Rattle.pblk_core.proofs.LineUnits.{now_units}
 use Rattle.pblk_core.proofs.LandedReads.{IsChunkRead}
 use Rattle.pblk_core.proofs.LandedWay.{IsOnWay}
-use Rattle.pblk_core.proofs.LandedChunk.{AreKinds, chunk_read}
+use Rattle.pblk_core.proofs.LandedChunk.{HasKind, AreKinds, chunk_read, le_yes}
 
 all_drop : {X : Type 0} (P : X → Type 0) (n : ℕ) (xs : List X) → AllByRecursion P xs → AllByRecursion P (drop n xs)
 all_drop P zero xs all = all
@@ -47,55 +60,189 @@ of_record s seq count bytes from to b accepted at =
     ap (λ m. is_some (named s m)) (all_at (λ (x : Block). x.mark ≡ meta_mark seq) (slice_range (record_blocks s seq count bytes) from to) at.0 b at.1 all)
     ∙ ap is_some (meta_none s seq accepted)
 
+and_first : (a b : Bool) → (a && b) ≡ true → a ≡ true
+and_first true b e = refl
+and_first false b e = absurd cc
+
 abbrev by_lba : Shape → ℕ → Bool
 by_lba s lba = is_some (if nat_lt lba s.capacity then Some (Some lba) else (if lba == void_lba then Some None else None))
 
-Holds : Bool → Type 0
-Holds true = Unit {0}
-Holds false = ⊥
+-- ---- the stripe that is placed next
 
-pub are_kinds : (i : Image) (w : World) (unit : ℕ) (of : Program) → IsBlankWorld i w → (is : IsOnWay i w unit of) → AreKinds i w is.row.opening
-are_kinds i w unit of blank is j p there = record {
-  outside = outside;
-  data_of = data_of;
+of_taken : (s : Shape) (log : List Logged) (b : Block) → IsAccepted s → AreOfSectors s log → IsOfTaken s (takes log) b
+    → ((b.mark.lba ≡ pad_lba) × (is_some (named s b.mark) ≡ false)) ⊎ ((b.mark.lba ≢ pad_lba) × (is_some (named s b.mark) ≡ true) × ((t : Taken) × IsAmong (takes log) t × (b.mark ≡ t.mark)))
+of_taken s log b accepted sectors (inl pad) = inl (ap (λ (x : Block). x.mark.lba) pad, ap (λ (x : Block). is_some (named s x.mark)) pad ∙ ap is_some (pad_none s accepted))
+of_taken s log b accepted sectors (inr (k, t, at, same)) =
+    let mark : b.mark ≡ t.mark = ap (λ (x : Block). x.mark) same in
+    let low : t.mark.lba < s.capacity = all_at (λ (t : Taken). t.mark.lba < s.capacity) (takes log) k t at sectors in
+    let some : is_some (named s b.mark) ≡ true =
+    ap (λ (m : Mark). by_lba s m.lba) mark ∙ ap (λ a. is_some (if a then Some (Some t.mark.lba) else (if t.mark.lba == void_lba then Some None else None))) (is_below t.mark.lba s.capacity low) in
+    inr (λ pad. let clash : true ≡ false = sym some ∙ ap (by_lba s) pad ∙ ap is_some (pad_none s accepted) in absurd cc, some, (t, (k, at), mark))
+
+module _ (i : Image) (ls : Logs) (o : Opening) (stripe : Stripe) (accepted : IsAccepted i.shape) (sectors : AreOfSectors i.shape (ls 0)) (striped : IsStriped i.shape o.start.width) (sound : has_failed (ls 0) o ≡ false) where
+  abbrev count : ℕ
+  count = length (stripes_of (ls 0) o)
+
+  abbrev Here : Type 0
+  Here = HasKind i.shape (takes (ls 0)) o count stripe.blocks
+
+  start_kind : IsStart i ls o stripe → Here
+  start_kind is = record {
+    outside = λ b at side. of_record i.shape o.start.seq (start_len i.shape) (start_bytes i.shape o.start) (count * i.shape.ws_opt - 0) (count * i.shape.ws_opt - 0 + i.shape.ws_opt) b accepted
+        (at.0, ap (λ bs. slice_get bs at.0) (sym is.blocks) ∙ at.1);
+    data_of = λ b at low high. let within : count * i.shape.ws_opt < start_len i.shape = is.within in absurd (omega arith);
+  }
+
+  end_kind : IsEnd i ls o stripe → Here
+  end_kind is = record {
+    outside = λ b at side. of_record i.shape o.start.seq (end_len i.shape o.start.width) _ (count * i.shape.ws_opt - end_address i.shape o) (count * i.shape.ws_opt - end_address i.shape o + i.shape.ws_opt) b accepted
+        (at.0, ap (λ bs. slice_get bs at.0) (sym is.blocks) ∙ at.1);
+    data_of = λ b at low high. let from : end_address i.shape o ≤ count * i.shape.ws_opt = is.from in absurd (omega arith);
+  }
+
+  behind_start : IsData i ls o stripe → start_len i.shape ≤ count * i.shape.ws_opt
+  behind_start is =
+      let enough : start_len i.shape / i.shape.ws_opt ≤ count = le_yes (start_len i.shape / i.shape.ws_opt) count (and_first (nat_le (start_len i.shape / i.shape.ws_opt) count) _ is.start_landed) in
+      let whole : start_len i.shape / i.shape.ws_opt * i.shape.ws_opt ≡ start_len i.shape = striped.start_is in
+      let more : start_len i.shape / i.shape.ws_opt * i.shape.ws_opt ≤ count * i.shape.ws_opt = mul-le-mul_right i.shape.ws_opt enough in
+      omega arith
+
+  data_kind : IsData i ls o stripe → Here
+  data_kind is = record {
+    outside = λ b at side. absurd (between side);
+    data_of = λ b at low high. of_taken i.shape (ls 0) b accepted sectors
+        (all_at (IsOfTaken i.shape (takes (ls 0))) (data_blocks i.shape (ls 0)) at.0 b (ap (λ bs. slice_get bs at.0) (sym is.blocks) ∙ at.1) (data_taken i.shape (ls 0)));
+  }
+    where
+      between : (count * i.shape.ws_opt < start_len i.shape) ⊎ (end_address i.shape o ≤ count * i.shape.ws_opt) → ⊥
+      between (inl low) = let from : start_len i.shape ≤ count * i.shape.ws_opt = behind_start is in absurd (omega arith)
+      between (inr high) = let within : count * i.shape.ws_opt < end_address i.shape o = is.within in absurd (omega arith)
+
+  pub kind_of : IsStart i ls o stripe ⊎ (IsData i ls o stripe ⊎ (IsEnd i ls o stripe ⊎ IsPad i ls o stripe)) → HasKind i.shape (takes (ls 0)) o (length (stripes_of (ls 0) o)) stripe.blocks
+  kind_of (inl is) = start_kind is
+  kind_of (inr (inl is)) = data_kind is
+  kind_of (inr (inr (inl is))) = end_kind is
+  kind_of (inr (inr (inr is))) = let failed : has_failed (ls 0) o ≡ true = is.failed in absurd cc
+
+-- ---- one more event
+
+HaveKinds : Shape → List Logged → Type 0
+HaveKinds s log = (line : ℕ) (o : Opening) → life_of log line ≡ Opened o → (j : ℕ) (p : Placed) → slice_get (stripes_of log o) j ≡ Some p → HasKind s (takes log) o j p.stripe.blocks
+
+more_taken : (s : Shape) (log : List Logged) (l : Logged) (o : Opening) (j : ℕ) (blocks : List Block) → HasKind s (takes log) o j blocks → HasKind s (takes (log ++ l ∷ [])) o j blocks
+more_taken s log l o j blocks is = record {
+  outside = is.outside;
+  data_of = λ b at low high. go b (is.data_of b at low high);
 }
   where
-    s : Shape
-    s = i.shape
+    get_more : {X : Type 0} (xs ys : List X) (k : ℕ) (x : X) → slice_get xs k ≡ Some x → slice_get (xs ++ ys) k ≡ Some x
+    get_more [] ys k x e = absurd (none-some x e)
+    get_more (y ∷ xs) ys zero x e = e
+    get_more (y ∷ xs) ys (suc k) x e = get_more xs ys k x e
 
-    accepted : IsAccepted i.shape
-    accepted = blank.plain.accepted
+    go : (b : Block) → ((b.mark.lba ≡ pad_lba) × (is_some (named s b.mark) ≡ false)) ⊎ ((b.mark.lba ≢ pad_lba) × (is_some (named s b.mark) ≡ true) × ((t : Taken) × IsAmong (takes log) t × (b.mark ≡ t.mark)))
+        → ((b.mark.lba ≡ pad_lba) × (is_some (named s b.mark) ≡ false)) ⊎ ((b.mark.lba ≢ pad_lba) × (is_some (named s b.mark) ≡ true) × ((t : Taken) × IsAmong (takes (log ++ l ∷ [])) t × (b.mark ≡ t.mark)))
+    go b (inl pad) = inl pad
+    go b (inr e) = inr (e.0, e.1, (e.2.0, (e.2.1.0, ap (λ ts. slice_get ts e.2.1.0) (takes_more log l) ∙ get_more (takes log) _ e.2.1.0 e.2.0 e.2.1.1), e.2.2))
 
-    o : Opening
-    o = is.row.opening
+same_opening : (p o : Opening) → Opened p ≡ Opened o → p ≡ o
+same_opening p o e = cc
 
-    fill : IsFilled i.shape (takes (log_of w 0)) (stripes_in (log_of w 0) is.row.stripe.stripe.line) is.row.opening j p
-    fill = (filled i w blank is.row.stripe.stripe.line j is.row.opening p is.stands
-        (ap (λ ps. slice_get ps j) (sym (stripes_same (log_of w 0) is.row.stripe.stripe.line is.row.opening (lived i w blank).lives is.stands)) ∙ there)).0
+-- it places no stripe, and a line of which nothing was placed may be opened by it
+kinds_stay : (s : Shape) (log : List Logged) (l : Logged) (line : ℕ) (o : Opening) (j : ℕ) (p : Placed) → HaveKinds s log → placements (log ++ l ∷ []) ≡ placements log → (life_of log line ≡ Opened o) ⊎ (o.number ≡ length log)
+    → slice_get (stripes_of (log ++ l ∷ []) o) j ≡ Some p → HasKind s (takes (log ++ l ∷ [])) o j p.stripe.blocks
+unfolding HaveKinds
+kinds_stay s log l line o j p was same (inl life) there = more_taken s log l o j p.stripe.blocks
+    (was line o life j p (ap (λ (ps : List Placed). slice_get (filter (λ (q : Placed). is_life o.number q.life) ps) j) (sym same) ∙ there))
+kinds_stay s log l line o j p was same (inr number) there =
+    absurd (none-some p (sym (ap₂ (λ (ps : List Placed) n. slice_get (filter (λ (q : Placed). is_life n q.life) ps) j) same number
+    ∙ ap (λ (ps : List Placed). slice_get ps j) (filter_none (λ (q : Placed). is_life (length log) q.life) (placements log) (placed_before log (length log) (le_refl (length log))))) ∙ there))
 
-    outside : (b : Block) → IsAmong p.stripe.blocks b → (j * i.shape.ws_opt < start_len i.shape) ⊎ (end_address i.shape is.row.opening ≤ j * i.shape.ws_opt) → is_some (named i.shape b.mark) ≡ false
-    outside b at (inl low) =
-        of_record i.shape is.row.opening.start.seq (start_len i.shape) (start_bytes i.shape is.row.opening.start) (j * i.shape.ws_opt - 0) (j * i.shape.ws_opt - 0 + i.shape.ws_opt) b accepted
-        (at.0, ap (λ bs. slice_get bs at.0) (sym (fill.start low)) ∙ at.1)
-    outside b at (inr high) =
-        of_record i.shape is.row.opening.start.seq (end_len i.shape is.row.opening.start.width) _
-        (j * i.shape.ws_opt - end_address i.shape is.row.opening) (j * i.shape.ws_opt - end_address i.shape is.row.opening + i.shape.ws_opt) b accepted
-        (at.0, ap (λ bs. slice_get bs at.0) (sym (fill.last high)) ∙ at.1)
+stripe_behind : (log : List Logged) (stripe : Stripe) (knows : List ℕ) (o other : Opening) (b : Bool) → life_of log stripe.line ≡ Opened o → is_life other.number (Opened o) ≡ b
+    → stripes_of (with_place log stripe knows) other ≡ stripes_of log other ++ cond b (new_placed log stripe o ∷ []) []
+stripe_behind log stripe knows o other b opened is =
+    ap (filter (λ (p : Placed). is_life other.number p.life)) (placements_now log stripe knows o opened)
+    ∙ filter_last (λ (p : Placed). is_life other.number p.life) (placements log) (new_placed log stripe o) b is
 
-    of_taken : (b : Block) → IsOfTaken i.shape (takes (log_of w 0)) b
-        → ((b.mark.lba ≡ pad_lba) × (is_some (named i.shape b.mark) ≡ false)) ⊎ ((b.mark.lba ≢ pad_lba) × (is_some (named i.shape b.mark) ≡ true) × ((t : Taken) × IsAmong (takes (log_of w 0)) t × (b.mark ≡ t.mark)))
-    of_taken b (inl pad) = inl (ap (λ (x : Block). x.mark.lba) pad, ap (λ (x : Block). is_some (named i.shape x.mark)) pad ∙ ap is_some (pad_none i.shape accepted))
-    of_taken b (inr (k, t, at, same)) =
-        let its : IsUsers i.shape k t = all_users i w blank k t at in
-        let mark : b.mark ≡ t.mark = ap (λ (x : Block). x.mark) same in
-        let lba : b.mark.lba ≡ t.entry.lba = ap (λ (m : Mark). m.lba) (mark ∙ its.mark) in
-        let some : is_some (named i.shape b.mark) ≡ true =
-        ap (by_lba i.shape) lba ∙ ap (λ a. is_some (if a then Some (Some t.entry.lba) else (if t.entry.lba == void_lba then Some None else None))) (is_below t.entry.lba i.shape.capacity its.lba) in
-        inr (λ pad. let clash : true ≡ false = sym some ∙ ap (by_lba i.shape) pad ∙ ap is_some (pad_none i.shape accepted) in absurd cc, some, (t, (k, at), mark))
+kinds_placed : (i : Image) (us : ℕ → List ℕ) (w : World) (knows : List ℕ) (stripe : Stripe) → IsNextEvent i us w 0 (record { event = Decides (Place stripe); knows = knows }) → HaveKinds i.shape (log_of w 0)
+    → (line : ℕ) (o : Opening) → life_of (log_of w 0) line ≡ Opened o → (j : ℕ) (p : Placed) → slice_get (stripes_of (with_place (log_of w 0) stripe knows) o) j ≡ Some p
+    → HasKind i.shape (takes (with_place (log_of w 0) stripe knows)) o j p.stripe.blocks
+unfolding HaveKinds
+kinds_placed i us w knows stripe next was line o life j p there = go (is_life o.number (Opened may.opening)) refl
+  where
+    l : Logged
+    l = record { event = Decides (Place stripe); knows = knows }
 
-    data_of : (b : Block) → IsAmong p.stripe.blocks b → start_len i.shape ≤ j * i.shape.ws_opt → j * i.shape.ws_opt < end_address i.shape is.row.opening
-        → ((b.mark.lba ≡ pad_lba) × (is_some (named i.shape b.mark) ≡ false)) ⊎ ((b.mark.lba ≢ pad_lba) × (is_some (named i.shape b.mark) ≡ true) × ((t : Taken) × IsAmong (takes (log_of w 0)) t × (b.mark ≡ t.mark)))
-    data_of b at low high = of_taken b (all_at (IsOfTaken i.shape (takes (log_of w 0))) p.stripe.blocks at.0 b at.1 (fill.middle low high))
+    ls : Logs
+    ls = prefixes (record { event = Decides (Place stripe); knows = knows }) (log_of w)
 
-pub chunk_is_read : (i : Image) (w : World) (unit : ℕ) (of : Program) (slot : OpenLine) → IsBlankWorld i w → (is : IsOnWay i w unit of) → IsOpenLine i (log_of w) is.row.opening slot → IsChunkRead i w unit is.row.opening slot
-chunk_is_read i w unit of slot blank is kept = chunk_read i w unit of slot blank is kept (are_kinds i w unit of blank is)
+    plain : IsPlainWorld i w
+    plain = next.world.plain
+
+    may : MayPlace i (prefixes (record { event = Decides (Place stripe); knows = knows }) (log_of w)) stripe
+    may = next.allowed.2
+
+    opened : life_of (log_of w 0) stripe.line ≡ Opened may.opening
+    opened = ap (λ (xs : List Logged). life_of xs stripe.line) (sym next.own) ∙ may.is_open
+
+    well : IsOpenedLine i us stripe.line may.opening
+    well = opened_lines i us w next.world stripe.line may.opening opened
+
+    own : {X : Type 0} (f : List Logged → X) → f (prefixes (record { event = Decides (Place stripe); knows = knows }) (log_of w) 0) ≡ f (log_of w 0)
+    own f = ap f next.own
+
+    now : HasKind i.shape (takes (log_of w 0)) may.opening (length (stripes_of (log_of w 0) may.opening)) stripe.blocks
+    now = subst (λ (xs : List Logged). HasKind i.shape (takes xs) may.opening (length (stripes_of xs may.opening)) stripe.blocks) next.own
+        (kind_of i ls may.opening stripe plain.accepted
+        (subst (AreOfSectors i.shape) (sym next.own) (in_order i w plain).sectors)
+        (subst (IsStriped i.shape) (sym well.width) (its_stripes i us stripe.line may.opening plain.accepted.drive.ws_opt plain.accepted.drive.whole_stripes well))
+        (own (λ xs. has_failed xs may.opening) ∙ not_failed (log_of w 0) may.opening plain.engine) may.kind)
+
+    by : may.opening ≡ o → (slice_get (stripes_of (log_of w 0) o) j ≡ Some p) ⊎ ((j ≡ length (stripes_of (log_of w 0) o)) × (new_placed (log_of w 0) stripe may.opening ≡ p)) → HasKind i.shape (takes (log_of w 0)) o j p.stripe.blocks
+    by same (inl old) = was line o life j p old
+    by same (inr last) =
+        subst (λ (x : Placed). HasKind i.shape (takes (log_of w 0)) o j x.stripe.blocks) last.1
+        (subst (λ n. HasKind i.shape (takes (log_of w 0)) o n stripe.blocks) (sym last.0)
+        (subst (λ (x : Opening). HasKind i.shape (takes (log_of w 0)) x (length (stripes_of (log_of w 0) x)) stripe.blocks) same now))
+
+    go : (b : Bool) → is_life o.number (Opened may.opening) ≡ b → HasKind i.shape (takes (with_place (log_of w 0) stripe knows)) o j p.stripe.blocks
+    go true e =
+        let number : may.opening.number ≡ o.number = eqb-true may.opening.number o.number e in
+        let one : line ≡ stripe.line = same_Some line stripe.line (sym ((life_at (log_of w 0) line o life).0) ∙ ap (opens_at (log_of w 0)) (sym number) ∙ (life_at (log_of w 0) stripe.line may.opening opened).0) in
+        let same : may.opening ≡ o = same_opening may.opening o (sym opened ∙ ap (life_of (log_of w 0)) (sym one) ∙ life) in
+        more_taken i.shape (log_of w 0) l o j p.stripe.blocks
+        (by same (at_end (stripes_of (log_of w 0) o) (new_placed (log_of w 0) stripe may.opening) p j (ap (λ (ps : List Placed). slice_get ps j) (sym (stripe_behind (log_of w 0) stripe knows may.opening o true opened e)) ∙ there)))
+    go false e = more_taken i.shape (log_of w 0) l o j p.stripe.blocks
+        (was line o life j p (ap (λ (ps : List Placed). slice_get ps j) (sym (append-nil (stripes_of (log_of w 0) o)) ∙ sym (stripe_behind (log_of w 0) stripe knows may.opening o false opened e)) ∙ there))
+
+kinds_opened : (s : Shape) (log : List Logged) (knows : List ℕ) (other line : ℕ) (start : StartRecord) (o : Opening) → (if other == line then Opened (record { number = length log; line = line; start = start; knows = knows }) else life_of log line) ≡ Opened o
+    → (life_of log line ≡ Opened o) ⊎ (o.number ≡ length log)
+kinds_opened s log knows other line start o = go (nat_eq other line)
+  where
+    go : (b : Bool) → (if b then Opened (record { number = length log; line = line; start = start; knows = knows }) else life_of log line) ≡ Opened o → (life_of log line ≡ Opened o) ⊎ (o.number ≡ length log)
+    go true e = inr (ap (λ (x : Opening). x.number) (sym (same_opening (record { number = length log; line = line; start = start; knows = knows }) o e)))
+    go false e = inl e
+
+kinds_next : (i : Image) (us : ℕ → List ℕ) (w : World) (knows : List ℕ) (x : Event) → IsNextEvent i us w 0 (record { event = x; knows = knows }) → HaveKinds i.shape (log_of w 0) → HaveKinds i.shape (log_of w 0 ++ record { event = x; knows = knows } ∷ [])
+unfolding HaveKinds
+kinds_next i us w knows (Decides (Place stripe)) next was line o life j p there =
+    kinds_placed i us w knows stripe next was line o (sym (life_more (log_of w 0) (record { event = Decides (Place stripe); knows = knows }) line) ∙ life) j p there
+kinds_next i us w knows (Decides (Open other start)) next was line o life j p there =
+    let l : Logged = record { event = Decides (Open other start); knows = knows } in
+    kinds_stay i.shape (log_of w 0) l line o j p was (placements_more (log_of w 0) l ∙ append-nil (placements (log_of w 0)))
+    (kinds_opened i.shape (log_of w 0) knows other line start o (sym (life_more (log_of w 0) l line) ∙ life)) there
+kinds_next i us w knows (Decides (Free other)) next was line o life j p there = let plain = next.plain in absurd cc
+kinds_next i us w knows x next was line o life j p there =
+    let l : Logged = record { event = x; knows = knows } in
+    kinds_stay i.shape (log_of w 0) l line o j p was (placements_more (log_of w 0) l ∙ append-nil (placements (log_of w 0))) (inl (sym (life_more (log_of w 0) l line) ∙ life)) there
+
+all_kinds : (i : Image) (w : World) → IsPlainWorld i w → HaveKinds i.shape (log_of w 0)
+unfolding HaveKinds
+all_kinds i w plain = by_events i (now_units i w) 0 (HaveKinds i.shape) (λ line o life. absurd cc) (λ v l next before. kinds_next i (now_units i w) v l.knows l.event next before) w (follow i w plain)
+
+pub are_kinds : (i : Image) (w : World) (unit : ℕ) (of : Program) → IsPlainWorld i w → (is : IsOnWay i w unit of) → AreKinds i w is.row.opening
+unfolding HaveKinds
+are_kinds i w unit of plain is j p there = all_kinds i w plain is.row.stripe.stripe.line is.row.opening is.stands j p there
+
+pub chunk_is_read : (i : Image) (w : World) (unit : ℕ) (of : Program) (slot : OpenLine) → IsPlainWorld i w → (is : IsOnWay i w unit of) → IsOpenLine i (log_of w) is.row.opening slot → IsChunkRead i w unit is.row.opening slot
+chunk_is_read i w unit of slot plain is kept = chunk_read i w unit of slot plain is kept (are_kinds i w unit of plain is)

@@ -1,38 +1,44 @@
 -- What the logs say once a stripe has landed: what stays, and which program it was.
-use Rattle.std.proofs.Common.{◌≡◌, ◌≢◌, ℕ, ◌+◌, ◌<◌, ◌≤◌, ◌==◌, zero, suc, Bool, true, false, cond, Some, None, List, [], ◌∷◌, ◌++◌, length, refl, sym, ap, ap₂, ◌∙◌, arith, append-nil, length-append}
-use Rattle.std.specs.Prelude.{slice_get, map, is_some, take}
+use Rattle.std.proofs.Common.{◌≡◌, ◌≢◌, ℕ, ◌+◌, ◌<◌, ◌≤◌, ◌==◌, zero, suc, nat_lt, nat_eq, if◌then◌else◌, Bool, true, false, cond, Some, Option, None, List, [], ◌∷◌, ◌++◌, length, refl, sym, ap, ap₂, ◌∙◌, arith, append-nil, length-append}
+use Rattle.std.specs.Prelude.{slice_get, is_some}
 use Rattle.std.specs.List.{filter, range_with_len}
-use Rattle.std.specs.Option.{option_and_then}
-use Rattle.std.proofs.lemmas.Option.{same_Some, none-some, slice_get_past}
+use Rattle.std.specs.Option.{option_map}
+use Rattle.std.proofs.lemmas.Bool.{eqb-true, eqb-false}
+use Rattle.std.proofs.lemmas.Option.{same_Some, slice_get_past}
 use Rattle.pblk_model.specs.Shape.{units}
-use Rattle.pblk_model.specs.ChunkStep.{ChunkCommand, Write, Read, Reset}
-use Rattle.pblk_model.specs.UnitLog.{UnitEvent}
-use Rattle.pblk_model.specs.Image.{Image, line_units}
+use Rattle.pblk_model.specs.declared.shape.Shape.{Shape}
+use Rattle.pblk_model.specs.declared.chunk.ChunkState.TheVariants as states
+use Rattle.pblk_model.specs.Chunk.{Chunk, Block}
+use Rattle.pblk_model.specs.ChunkStep.{Write, Done}
+use Rattle.pblk_model.specs.UnitLog.{UnitEvent, Answered, after_outcome}
+use Rattle.pblk_model.specs.Image.{Image, is_online_in, line_units}
 use Rattle.pblk_world.specs.Answering.{MayLand}
-use Rattle.pblk_world.specs.Commanding.{ended_stripes}
 use Rattle.pblk_world.specs.Events.{Landed, Decides, Logged}
 use Rattle.pblk_world.specs.Fronts.{is_users, user_takes}
-use Rattle.pblk_world.specs.World.{World, Logs, log_of, unit_event_at, unit_event_of}
-use Rattle.pblk_world.specs.EngineLog.{Begun, DidLand, Opening, openings, is_life, Taken, takes, Placed, placed_on, stripes_of, answers}
+use Rattle.pblk_world.specs.World.{World, Logs, log_of, unit_event_at}
+use Rattle.pblk_world.specs.EngineLog.{Begun, begun, placements, DidLand, Opening, openings, is_life, Taken, takes, Placed, placed_on, stripes_of, answers}
 use Rattle.pblk_world.specs.Space.{freed}
-use Rattle.pblk_world.specs.Lines.{known_image}
+use Rattle.pblk_world.specs.Lines.{known_image, told_by}
+use Rattle.pblk_layout.specs.Live.{is_live}
 use Rattle.pblk_world.proofs.Appending.{takes_more, openings_more, life_more}
 use Rattle.core_laws.specs.Stepping.{after}
 use Rattle.core_laws.specs.OpenedLines.{bits_of, live_now, opened_units, standing}
 use Rattle.core_laws.specs.PlacerOf.{unanswered_on}
-use Rattle.core_laws.specs.PlainWorlds.{IsBlankWorld}
+use Rattle.core_laws.specs.PlainWorlds.{IsPlainWorld}
 use Rattle.core_laws.proofs.Answered.{IsAnswer}
 use Rattle.core_laws.proofs.Engine.{prefix_same}
 use Rattle.core_laws.proofs.Steady.{standing_same}
-use Rattle.landing_laws.specs.ChunkBlocks.{AreInRows}
-use Rattle.landing_laws.proofs.BlankWorlds.{kept_units}
-use Rattle.landing_laws.proofs.ChunkOrder.{in_rows}
 use Rattle.landing_laws.proofs.FreedFront.{freed_rises}
 use Rattle.landing_laws.proofs.LandedStripe.{is_answer}
-use Rattle.media_laws.proofs.Found.{known_whole, known_landed, whole_prefixes, whole_line_units}
-use Rattle.media_laws.proofs.Programs.{HasPrograms, Writing, get_more, get_mapped, program_at, programs, write_by, write_of, writes_in}
-use Rattle.media_laws.proofs.Quiet.{quiet}
+use Rattle.core_laws.proofs.Lists.{all_at}
+use Rattle.core_laws.proofs.Turns.{filtered_is}
+use Rattle.stripe_placer.proofs.Among.{IsAmong, from_filter}
 use Rattle.placed_laws.proofs.OneStripe.{one_stripe}
+use Rattle.placed_laws.proofs.KnownChunks.{chunk_in, is_on, live_chunk}
+use Rattle.placing_laws.proofs.KeptLines.{all_online, few_units, same_units}
+use Rattle.pblk_core.proofs.ChunkRows.{rows_of_chunks}
+use Rattle.pblk_core.proofs.KnownAfter.{told_after, untold_after, beside_after}
+use Rattle.pblk_core.proofs.LandedProgram.{IsItsProgram, landed_program}
 use Rattle.pblk_core.specs.Stands.{under_way}
 
 landed_log : List Logged → ℕ → ℕ → List ℕ → List Logged
@@ -56,42 +62,70 @@ users_landed logs unit event knows = ap (filter (λ (t : Taken). is_users t.entr
 pub stripes_landed : (logs : Logs) (unit event : ℕ) (knows : List ℕ) (o : Opening) → stripes_of (after logs (Landed unit event) knows 0) o ≡ stripes_of (logs 0) o
 stripes_landed logs unit event knows o = ap (filter (λ (p : Placed). is_life o.number p.life)) (is_answer (logs 0) unit event knows).placements
 
-pub live_landed : (i : Image) (w : World) (unit event : ℕ) (knows : List ℕ) (line : ℕ) → IsBlankWorld i w → line < i.shape.chunks → live_now i (after (log_of w) (Landed unit event) knows) line ≡ live_now i (log_of w) line
-live_landed i w unit event knows line blank inside =
-    ap bits_of (whole_line_units i (known_image i (after (log_of w) (Landed unit event) knows)) line (known_landed i w unit event knows blank) inside
-    ∙ sym (whole_line_units i (known_image i (log_of w)) line (known_whole i w (log_of w) blank (whole_prefixes w)) inside))
+written_online : (s : Shape) (o : Option Chunk) (x : UnitEvent) (at : ℕ) (blocks : List Block) → x.command ≡ Write at blocks → x.outcome ≡ Answered Done → is_on o ≡ true
+    → is_on (option_map (λ (c : Chunk). after_outcome s c x.command x.outcome) o) ≡ is_on o
+written_online s None x at blocks writes done on = refl
+written_online s (Some c) x at blocks writes done on =
+    ap₂ (λ k a. is_online_in (after_outcome s c k a).state) writes done
+    ∙ elim (nat_lt (length c.blocks + length blocks) s.clba) as (λ b. is_online_in (if b then states.Open else states.Closed) ≡ true) [ true ↦ refl | false ↦ refl ]
+    ∙ sym on
+
+-- whether a unit has a chunk of a line that isn't Offline
+same_live_unit : (i : Image) (w : World) (unit event : ℕ) (knows : List ℕ) (p : Placed) (b : Begun) (line u : ℕ) → IsPlainWorld i w → MayLand (log_of w) unit event → unanswered_on (log_of w 0) unit ≡ Some p → begun (log_of w 0) ≡ Some b
+    → is_live (known_image i (after (log_of w) (Landed unit event) knows)) line u ≡ is_live (known_image i (log_of w)) line u
+same_live_unit i w unit event knows p b line u plain may waits begins =
+    live_chunk (known_image i (after (log_of w) (Landed unit event) knows)) line u ∙ by_unit (nat_eq unit u) refl ∙ sym (live_chunk (known_image i (log_of w)) line u)
+  where
+    is : IsItsProgram w unit event p
+    is = landed_program i w unit event p plain may waits
+
+    online : is_live (known_image i (log_of w)) p.stripe.line p.stripe.unit ≡ true
+    online =
+        let among : IsAmong (placements (log_of w 0)) p = from_filter (λ (q : Placed). q.stripe.unit == unit) (placements (log_of w 0)) p (length (answers (log_of w 0) unit), waits) in
+        all_at (λ (q : Placed). is_live (known_image i (log_of w)) q.stripe.line q.stripe.unit ≡ true) (placements (log_of w 0)) among.0 p among.1 (all_online i w plain)
+
+    own : p.stripe.unit ≡ unit
+    own = eqb-true p.stripe.unit unit (filtered_is (λ (q : Placed). q.stripe.unit == unit) (placements (log_of w 0)) (length (answers (log_of w 0) unit)) p waits)
+
+    told : (c : Bool) → nat_eq unit u ≡ c → told_by (log_of w) u (Decides (Landed unit event)) ≡ (if c then unit_event_at (log_of w) unit event else None)
+    told c e = ap (λ (x : Bool). if x then unit_event_at (log_of w) u event else None) e ∙ go c e
+      where
+        go : (c : Bool) → nat_eq unit u ≡ c → (if c then unit_event_at (log_of w) u event else None) ≡ (if c then unit_event_at (log_of w) unit event else None)
+        go true e = ap (λ v. unit_event_at (log_of w) v event) (sym (eqb-true unit u e))
+        go false e = refl
+
+    by_chunk : nat_eq unit u ≡ true → (c : Bool) → nat_eq is.done.event.chunk line ≡ c → is_on (chunk_in (known_image i (after (log_of w) (Landed unit event) knows)) u line) ≡ is_on (chunk_in (known_image i (log_of w)) u line)
+    by_chunk here true e =
+        let same : is.done.event.chunk ≡ line = eqb-true is.done.event.chunk line e in
+        let on : is_on (chunk_in (known_image i (log_of w)) u line) ≡ true =
+        ap₂ (λ v n. is_on (chunk_in (known_image i (log_of w)) v n)) (sym (own ∙ eqb-true unit u here)) (sym (sym is.chunk ∙ same)) ∙ sym (live_chunk (known_image i (log_of w)) p.stripe.line p.stripe.unit) ∙ online in
+        ap is_on (told_after i (log_of w) (Landed unit event) knows u line b is.done.event begins (told true here ∙ is.done.is_event) same)
+        ∙ written_online i.shape (chunk_in (known_image i (log_of w)) u line) is.done.event p.stripe.at p.stripe.blocks is.done.command is.done.done on
+    by_chunk here false e = ap is_on (beside_after i (log_of w) (Landed unit event) knows u line b is.done.event begins (told true here ∙ is.done.is_event) (eqb-false is.done.event.chunk line e))
+
+    by_unit : (c : Bool) → nat_eq unit u ≡ c → is_on (chunk_in (known_image i (after (log_of w) (Landed unit event) knows)) u line) ≡ is_on (chunk_in (known_image i (log_of w)) u line)
+    by_unit true e = by_chunk e (nat_eq is.done.event.chunk line) refl
+    by_unit false e = ap is_on (untold_after i (log_of w) (Landed unit event) knows u line b begins (told false e))
+
+pub live_landed : (i : Image) (w : World) (unit event : ℕ) (knows : List ℕ) (p : Placed) (b : Begun) (line : ℕ) → IsPlainWorld i w → MayLand (log_of w) unit event → unanswered_on (log_of w 0) unit ≡ Some p → begun (log_of w 0) ≡ Some b
+    → live_now i (after (log_of w) (Landed unit event) knows) line ≡ live_now i (log_of w) line
+live_landed i w unit event knows p b line plain may waits begins =
+    ap bits_of (same_units (known_image i (after (log_of w) (Landed unit event) knows)) (known_image i (log_of w)) line
+    (few_units i w (after (log_of w) (Landed unit event) knows) plain) (few_units i w (log_of w) plain) (λ u. same_live_unit i w unit event knows p b line u plain may waits begins))
 
 pub units_landed : (i : Image) (logs : Logs) (unit event : ℕ) (knows : List ℕ) (o : Opening) → o.number ≤ length (logs 0) → opened_units i (after logs (Landed unit event) knows) o ≡ opened_units i logs o
 units_landed i logs unit event knows o before = ap (λ (ls : Logs). line_units (known_image i ls) o.line) (prefix_same logs (Landed unit event) knows o.number before)
 
 -- ---- fronts
 
-pub rows_of_chunks : (i : Image) (w : World) (o : Opening) (unit : ℕ) → IsBlankWorld i w → AreInRows i.shape (log_of w 0) o unit
-rows_of_chunks i w o unit blank = in_rows i w o unit blank.plain (kept_units i w blank)
+pub freed_landed : (i : Image) (w : World) (b : Begun) (unit event : ℕ) (knows : List ℕ) → IsPlainWorld i w → MayLand (log_of w) unit event → freed i.shape (log_of w 0) ≤ freed i.shape (after (log_of w) (Landed unit event) knows 0)
+freed_landed i w b unit event knows plain may = freed_rises i (log_of w) w b (Landed unit event) knows plain (λ o u. rows_of_chunks i w o u plain) refl refl may
 
-pub freed_landed : (i : Image) (w : World) (b : Begun) (unit event : ℕ) (knows : List ℕ) → IsBlankWorld i w → MayLand (log_of w) unit event → freed i.shape (log_of w 0) ≤ freed i.shape (after (log_of w) (Landed unit event) knows 0)
-freed_landed i w b unit event knows blank may = freed_rises i (log_of w) w b (Landed unit event) knows blank.plain (λ o u. rows_of_chunks i w o u blank) refl refl may
-
--- ---- the program that has landed is of the chunk of the stripe's line
-
-line_written : (chunk : ℕ) (command : ChunkCommand) (x : Writing) → write_by chunk command ≡ Some x → chunk ≡ x.0
-line_written chunk (Write at blocks) x e = ap (λ (y : Writing). y.0) (same_Some (chunk, blocks) x e)
-line_written chunk (Read b) x e = absurd (none-some x e)
-line_written chunk Reset x e = absurd (none-some x e)
-
-pub chunk_landed : (i : Image) (w : World) (unit event : ℕ) (p : Placed) → IsBlankWorld i w → MayLand (log_of w) unit event → unanswered_on (log_of w 0) unit ≡ Some p
+pub chunk_landed : (i : Image) (w : World) (unit event : ℕ) (p : Placed) → IsPlainWorld i w → MayLand (log_of w) unit event → unanswered_on (log_of w 0) unit ≡ Some p
     → (e : UnitEvent) → unit_event_at (log_of w) unit event ≡ Some e → e.chunk ≡ p.stripe.line
-chunk_landed i w unit event p blank may waits e is =
-    let l : Logged = may.new.logged in
-    let same : may.program ≡ e = same_Some may.program e (sym (ap (option_and_then (λ (m : Logged). unit_event_of m.event)) may.new.is_known ∙ may.new.event) ∙ is) in
-    let x : (y : Writing) × (write_by may.program.chunk may.program.command ≡ Some y) × (slice_get (writes_in (log_of w (suc unit))) (ended_stripes (take event (log_of w (suc unit)))) ≡ Some y) =
-    program_at (log_of w (suc unit)) event may.new.logged may.program ((quiet i w blank).good unit) may.new.is_known may.new.event may.stripe.program in
-    let all : HasPrograms w unit = programs i w unit blank in
-    let here : slice_get (writes_in (log_of w (suc unit))) (length (answers (log_of w 0) unit)) ≡ Some x.0 = ap (slice_get (writes_in (log_of w (suc unit)))) (sym may.stripe.its_turn) ∙ x.2 in
-    let mine : slice_get (map write_of (placed_on (log_of w 0) unit)) (length (answers (log_of w 0) unit)) ≡ Some x.0 =
-    ap (λ ws. slice_get ws (length (answers (log_of w 0) unit))) all.1 ∙ get_more (writes_in (log_of w (suc unit))) all.0 (length (answers (log_of w 0) unit)) x.0 here in
-    let written : write_of p ≡ x.0 = same_Some (write_of p) x.0 (sym (get_mapped write_of (placed_on (log_of w 0) unit) (length (answers (log_of w 0) unit)) p waits) ∙ mine) in
-    ap (λ (u : UnitEvent). u.chunk) (sym same) ∙ line_written may.program.chunk may.program.command x.0 x.1 ∙ ap (λ (y : Writing). y.0) (sym written)
+chunk_landed i w unit event p plain may waits e is =
+    let its : IsItsProgram w unit event p = landed_program i w unit event p plain may waits in
+    ap (λ (x : UnitEvent). x.chunk) (same_Some e its.done.event (sym is ∙ its.done.is_event)) ∙ its.chunk
 
 -- ---- one stripe less is under way
 
@@ -123,14 +157,14 @@ fewer_pass f g a (suc n) (suc k) inside passes fails others =
     go true h = omega arith
     go false h = h
 
-pub one_less_under_way : (i : Image) (w : World) (unit event : ℕ) (knows : List ℕ) (p : Placed) → IsBlankWorld i w → unit < units i.shape → unanswered_on (log_of w 0) unit ≡ Some p
+pub one_less_under_way : (i : Image) (w : World) (unit event : ℕ) (knows : List ℕ) (p : Placed) → IsPlainWorld i w → unit < units i.shape → unanswered_on (log_of w 0) unit ≡ Some p
     → under_way i.shape (log_of w 0) ≡ under_way i.shape (after (log_of w) (Landed unit event) knows 0) + 1
-one_less_under_way i w unit event knows p blank inside waits =
+one_less_under_way i w unit event knows p plain inside waits =
     let old : List Logged = log_of w 0 in
     let new : List Logged = after (log_of w) (Landed unit event) knows 0 in
     let is : IsAnswer (log_of w 0) (after (log_of w) (Landed unit event) knows 0) unit (DidLand event) = is_answer (log_of w 0) unit event knows in
     let from : 0 + unit ≡ unit = omega arith in
-    let few : length (placed_on (log_of w 0) unit) ≤ length (answers (log_of w 0) unit) + 1 = one_stripe i w unit blank.plain.legal in
+    let few : length (placed_on (log_of w 0) unit) ≤ length (answers (log_of w 0) unit) + 1 = one_stripe i w unit plain.legal in
     let count : length (answers (after (log_of w) (Landed unit event) knows 0) unit) ≡ length (answers (log_of w 0) unit) + 1 = ap length is.here ∙ length-append (answers (log_of w 0) unit) (DidLand event ∷ []) in
     let none : unanswered_on (after (log_of w) (Landed unit event) knows 0) unit ≡ None =
     ap (λ ps. slice_get (filter (λ (q : Placed). q.stripe.unit == unit) ps) (length (answers (after (log_of w) (Landed unit event) knows 0) unit))) is.placements

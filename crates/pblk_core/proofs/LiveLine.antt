@@ -1,5 +1,5 @@
 -- The line in which a sector is live, by its slot.
-use Rattle.std.proofs.Common.{◌≡◌, ℕ, ◌+◌, ◌≤◌, ◌&&◌, ◌||◌, not, zero, suc, Bool, true, false, cond, Some, None, Option, List, [], ◌∷◌, length, refl, sym, subst, ap, ap₂, ◌∙◌, arith}
+use Rattle.std.proofs.Common.{◌≡◌, ℕ, ◌+◌, ◌≤◌, ◌&&◌, ◌||◌, if◌then◌else◌, not, zero, suc, Bool, true, false, cond, Some, None, Option, List, [], ◌∷◌, length, refl, sym, subst, ap, ap₂, ◌∙◌, arith}
 use Rattle.std.specs.Prelude.{slice_get, ◌%◌}
 use Rattle.std.specs.List.{AllByRecursion, filter, find, list_any}
 use Rattle.std.specs.Option.{option_map, option_map_or, option_and_then}
@@ -17,11 +17,13 @@ use Rattle.pblk_world.specs.Victims.{is_in_force, line_of_position, line_of}
 use Rattle.media_laws.proofs.Images.{is_in}
 use Rattle.l2p_map.specs.declared.slot.Slot.TheVariants.{Cached}
 use Rattle.stripe_placer.proofs.Among.{IsAmong}
-use Rattle.core_laws.specs.PlainWorlds.{IsBlankWorld}
+use Rattle.core_laws.specs.PlainWorlds.{IsPlainWorld}
 use Rattle.core_laws.specs.SlotOf.{slot_of, slot_by, slot_of_entry, slot_of_winner, media_of}
 use Rattle.core_laws.specs.WindowOf.{is_given_back}
 use Rattle.core_laws.proofs.Rows.{same_number}
-use Rattle.media_laws.proofs.Lives.{IsLiving, lived}
+use Rattle.line_laws.proofs.Winners.{winner_starts}
+use Rattle.pblk_core.proofs.FoundLines.{started_as_found}
+use Rattle.pblk_core.proofs.LineUnits.{IsLiving, living}
 use Rattle.line_laws.proofs.PlainLogs.{none_lost}
 use Rattle.landing_laws.proofs.Growing.{and_second, given_holds}
 use Rattle.landing_laws.proofs.Cached.{last_is_among}
@@ -95,11 +97,11 @@ in_force log p (Freed was knows) is now opened = absurd cc
 in_force log p (Opened o) is now opened =
     ap (λ l. is_in_force log l p.stripe.line) is ∙ ap (λ (l : LineLife). is_life o.number l) now ∙ same_number o.number
 
-pub position_line : (i : Image) (w : World) (q : ℕ) → IsBlankWorld i w → line_of_position i.shape (log_of w 0) q ≡ placed_line i.shape (log_of w 0) q
-position_line i w q blank =
+pub position_line : (i : Image) (w : World) (q : ℕ) → IsPlainWorld i w → line_of_position i.shape (log_of w 0) q ≡ placed_line i.shape (log_of w 0) q
+position_line i w q plain =
     ap (option_map (λ (p : Placed). p.stripe.line))
     (find_agree (IsLiving (log_of w 0)) (λ p. holds_position i.shape q p && not (was_lost (log_of w 0) p) && is_in_force (log_of w 0) p.life p.stripe.line) (holds_position i.shape q)
-    (λ p living. same p (none_lost (log_of w 0) blank.plain.engine p) (in_force (log_of w 0) p p.life refl living.0 living.1)) (placements (log_of w 0)) (lived i w blank).lives)
+    (λ p living. same p (none_lost (log_of w 0) plain.engine p) (in_force (log_of w 0) p p.life refl living.0 living.1)) (placements (log_of w 0)) (living i w plain))
   where
     both : (b : Bool) → (b && true && true) ≡ b
     both true = refl
@@ -111,9 +113,9 @@ position_line i w q blank =
 
 -- ---- the line of a slot
 
-entry_line : (i : Image) (w : World) (holds : Holds) (t : Taken) → IsBlankWorld i w → AreHolds i.shape (log_of w 0) holds → IsAmong (takes (log_of w 0)) t
+entry_line : (i : Image) (w : World) (holds : Holds) (t : Taken) → IsPlainWorld i w → AreHolds i.shape (log_of w 0) holds → IsAmong (takes (log_of w 0)) t
     → line_of_slot holds.rows.items (slot_of_entry i (log_of w) t.entry.position) ≡ placed_line i.shape (log_of w 0) t.entry.position
-entry_line i w holds t blank are among = go (find (gives_back i.shape (log_of w 0) t.entry.position) (placements (log_of w 0))) refl
+entry_line i w holds t plain are among = go (find (gives_back i.shape (log_of w 0) t.entry.position) (placements (log_of w 0))) refl
   where
     go : (o : Option Placed) → find (gives_back i.shape (log_of w 0) t.entry.position) (placements (log_of w 0)) ≡ o
         → line_of_slot holds.rows.items (option_map_or (media_of i (log_of w) t.entry.position) o (Cached t.entry.position)) ≡ placed_line i.shape (log_of w 0) t.entry.position
@@ -124,17 +126,17 @@ entry_line i w holds t blank are among = go (find (gives_back i.shape (log_of w 
     go (Some p) e =
         let found : (gives_back i.shape (log_of w 0) t.entry.position p ≡ true) × IsAmong (placements (log_of w 0)) p = found_true (gives_back i.shape (log_of w 0) t.entry.position) (placements (log_of w 0)) p e in
         let held : holds_position i.shape t.entry.position p ≡ true = and_second (has_landed (log_of w 0) p) (holds_position i.shape t.entry.position p) (given_holds i.shape (log_of w 0) t.entry.position p found.0) in
-        sym (ap (option_map (λ (p : Placed). p.stripe.line)) (single_found (holds_position i.shape t.entry.position) (placements (log_of w 0)) p found.1.0 (held_once i w blank.plain t.entry.position) found.1.1 held))
+        sym (ap (option_map (λ (p : Placed). p.stripe.line)) (single_found (holds_position i.shape t.entry.position) (placements (log_of w 0)) p found.1.0 (held_once i w plain t.entry.position) found.1.1 held))
 
-pub line_is : (i : Image) (w : World) (holds : Holds) (lba : ℕ) → IsBlankWorld i w → counted (found_image i (log_of w)) ≡ [] → AreHolds i.shape (log_of w 0) holds
+pub line_is : (i : Image) (w : World) (holds : Holds) (lba : ℕ) → IsPlainWorld i w → AreHolds i.shape (log_of w 0) holds
     → line_of_slot holds.rows.items (slot_of i (log_of w) lba) ≡ line_of i (log_of w) lba (last_take (log_of w 0) lba)
-line_is i w holds lba blank none are = go (last_take (log_of w 0) lba) refl
+line_is i w holds lba plain are = go (last_take (log_of w 0) lba) refl
   where
+    found_line : (o : Option Record) → winner (counted (found_image i (log_of w))) lba ≡ o
+        → line_of_slot holds.rows.items (slot_of_winner o) ≡ option_and_then (λ (r : Record). if is_as_found (life_of (log_of w 0) r.line) then Some r.line else None) o
+    found_line None e = refl
+    found_line (Some r) e = sym (ap (λ b. cond b (Some r.line) None) (started_as_found i w r.line plain (winner_starts (found_image i (log_of w)) lba r e)))
+
     go : (o : Option Taken) → last_take (log_of w 0) lba ≡ o → line_of_slot holds.rows.items (slot_by i (log_of w) lba o) ≡ line_of i (log_of w) lba o
-    go None e =
-        ap (λ (rs : List Record). line_of_slot holds.rows.items (slot_of_winner (winner rs lba))) none
-        ∙ sym (ap (λ (rs : List Record). option_and_then (λ (r : Record). if_found r) (winner rs lba)) none)
-      where
-        if_found : Record → Option ℕ
-        if_found r = cond (is_as_found (life_of (log_of w 0) r.line)) (Some r.line) None
-    go (Some t) e = entry_line i w holds t blank are (last_is_among (log_of w 0) lba t e).0 ∙ sym (position_line i w t.entry.position blank)
+    go None e = found_line (winner (counted (found_image i (log_of w))) lba) refl
+    go (Some t) e = entry_line i w holds t plain are (last_is_among (log_of w 0) lba t e).0 ∙ sym (position_line i w t.entry.position plain)

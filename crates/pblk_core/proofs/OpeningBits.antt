@@ -15,7 +15,7 @@ use Rattle.std.proofs.lemmas.Nat.{pow_below}
 use Rattle.pblk_model.specs.Image.{is_online_in}
 use Rattle.pblk_layout.proofs.Sets.{filter_more}
 use Rattle.core_laws.specs.OpenedLines.{bits_of}
-use Rattle.pblk_core.specs.BlankDrives.{is_online_at, online_below, online_bits, all_online}
+use Rattle.begin_laws.specs.OnlineUnits.{is_online_at, online_below, online_bits, all_online}
 
 pub place_inside : (u n c line : ℕ) → u < n → line < c → u * c + line < n * c
 place_inside u n c line h l =
@@ -35,7 +35,7 @@ whole_bit s u accepted inside =
     mod_small : (m n : ℕ) → m < n → m % n ≡ m
     mod_small m n h = mod-eq_of_lt h
 
-bits_kept : (p : ℕ → Bool) (n : ℕ) → bits_of (filter p (range_with_len 0 (suc n))) ≡ bits_of (filter p (range_with_len 0 n)) + cond (p n) (2 ^ n) 0
+pub bits_kept : (p : ℕ → Bool) (n : ℕ) → bits_of (filter p (range_with_len 0 (suc n))) ≡ bits_of (filter p (range_with_len 0 n)) + cond (p n) (2 ^ n) 0
 bits_kept p n =
     let from : 0 + n ≡ n = omega arith in
     ap bits_of (filter_more p 0 n) ∙ sum_by-append (λ unit. 2 ^ unit) (filter p (range_with_len 0 n)) (cond (p (0 + n)) ((0 + n) ∷ []) [])
@@ -46,7 +46,7 @@ bits_kept p n =
     last true = zero-add (2 ^ n)
     last false = refl
 
-kept_below : (p : ℕ → Bool) (n : ℕ) → bits_of (filter p (range_with_len 0 n)) < 2 ^ n
+pub kept_below : (p : ℕ → Bool) (n : ℕ) → bits_of (filter p (range_with_len 0 n)) < 2 ^ n
 kept_below p zero = omega arith
 kept_below p (suc n) = go (p n) (kept_below p n) (bits_kept p n)
   where

@@ -1,30 +1,28 @@
 -- What a core that opens a line keeps, and what is known of the line.
-use Rattle.std.proofs.Common.{◌≡◌, ℕ, ◌+◌, ◌*◌, ◌/◌, ◌^◌, ◌<◌, ◌≤◌, ◌==◌, ◌&&◌, zero, suc, nat_lt, Bool, true, false, Some, None, Option, List, [], ◌∷◌, length, refl, sym, subst, ap, ◌∙◌, arith, zero-add, le_refl, mul-suc}
+use Rattle.std.proofs.Common.{◌≡◌, ℕ, ◌+◌, ◌*◌, ◌/◌, ◌^◌, ◌<◌, ◌≤◌, ◌==◌, ◌&&◌, not, zero, suc, nat_lt, Bool, true, false, Some, None, Option, List, [], ◌∷◌, length, refl, sym, subst, ap, ◌∙◌, arith, le_refl, mul-suc}
 use Rattle.std.specs.Prelude.{map, position, slice_get}
-use Rattle.std.specs.List.{AllByRecursion, range_with_len, slice_index_or}
+use Rattle.std.specs.List.{AllByRecursion, slice_index_or}
 use Rattle.std.specs.Option.{is_some, unwrap_or}
-use Rattle.std.proofs.Math.Nat.{add-mul}
+use Rattle.std.proofs.Math.Nat.{add-mul, mul-le-mul_right}
 use Rattle.std.proofs.lemmas.Bool.{eqb-true}
-use Rattle.std.proofs.lemmas.List.Sums.{sum_by-append}
-use Rattle.std.proofs.lemmas.List.FromFn.{length-range_with_len}
 use Rattle.std.proofs.lemmas.Option.{get_or_from_slice_get, slice_get-get_or, same_Some}
 use Rattle.pblk_model.specs.declared.shape.Shape.{Shape}
 use Rattle.pblk_model.specs.Accepted.{IsAccepted}
 use Rattle.pblk_model.specs.Shape.{units}
 use Rattle.pblk_model.proofs.Sizes.{line_is_short}
 use Rattle.pblk_model.specs.LineOrder.{data_len}
-use Rattle.pblk_model.specs.Image.{Image, width, line_units}
+use Rattle.pblk_model.specs.Image.{Image, width}
 use Rattle.pblk_world.specs.World.{World, Logs, log_of}
 use Rattle.pblk_world.specs.EngineLog.{Begun, begun, Opening, Opened, is_opened, life_of}
-use Rattle.pblk_world.specs.Lines.{known_image}
+use Rattle.pblk_world.specs.Lines.{known_image, has_number, are_empty, line_data}
 use Rattle.pblk_world.specs.Opening.{MayOpen}
 use Rattle.pblk_layout.specs.Live.{units_in}
 use Rattle.line_table.specs.Rows.{is_free}
 use Rattle.write_window.specs.Window as view
 use Rattle.stripe_placer.specs.OpenLines.{OpenLine as PlacedLine, opened}
 use Rattle.stripe_placer.specs.OpenLines.Stripe.{Unplaced}
-use Rattle.core_laws.specs.OpenedLines.{bits_of, live_now, open_line, open_lines}
-use Rattle.core_laws.specs.PlainWorlds.{IsBlankWorld}
+use Rattle.core_laws.specs.OpenedLines.{live_now, open_line, open_lines}
+use Rattle.core_laws.specs.PlainWorlds.{IsPlainWorld}
 use Rattle.core_laws.proofs.Lists.{all_at}
 use Rattle.core_laws.proofs.Opening.{length_replicated}
 use Rattle.placed_laws.proofs.LeftLines.{lines_of_left, left_opened}
@@ -34,13 +32,15 @@ use Rattle.line_laws.proofs.OpenedRows.{free_closed}
 use Rattle.line_laws.proofs.Ranges.{row_there}
 use Rattle.placing_laws.proofs.FullLines.{one_is_open}
 use Rattle.placing_laws.proofs.Lengths.{IsStriped, striped}
-use Rattle.placing_laws.proofs.Units.{bits_back}
-use Rattle.media_laws.proofs.Found.{IsWhole, known_whole, whole_prefixes, whole_width, whole_line_units}
-use Rattle.media_laws.proofs.Places.{wide}
 use Rattle.pblk_core.specs.declared.target_core.Core.{Core}
+use Rattle.pblk_core.specs.declared.work.Work.{Work}
 use Rattle.pblk_core.specs.declared.work.Work.TheVariants.{Open}
+use Rattle.pblk_core.specs.declared.resets.LineChunk.{LineChunk}
+use Rattle.pblk_core.specs.Resets.{resets_left}
+use Rattle.stripe_placer.proofs.Opening.{width_some}
+use Rattle.pblk_core.proofs.LineBits.{known_bits, known_width, bits_width}
 use Rattle.pblk_core.specs.Stands.{Stands, left_openings}
-use Rattle.pblk_core.specs.Named.{choice, named, next_line, next_units, next_start}
+use Rattle.pblk_core.specs.Named.{choice, reset_or, named_beside, named, next_line, next_units, next_start}
 use Rattle.pblk_core.proofs.WorkOf.{open_count, synced_at}
 
 -- ---- what its next work tells
@@ -75,9 +75,14 @@ some_is : (o : Option ℕ) → is_some o ≡ true → o ≡ Some (unwrap_or o 0)
 some_is None e = absurd cc
 some_is (Some n) e = refl
 
+-- no chunk is to be reset
+pub named_opens : (o : Option LineChunk) (otherwise : Work) → reset_or o otherwise ≡ Open → otherwise ≡ Open
+named_opens None otherwise e = e
+named_opens (Some chunk) otherwise e = absurd cc
+
 pub open_is_named : (c : Core) → named c ≡ Open → MayOpenNext c
 open_is_named c h =
-    let parts = opens _ _ _ _ _ h in
+    let parts = opens _ _ _ _ _ (named_opens (slice_get (resets_left c.resets) 0) (named_beside c) h) in
     let asks = both _ _ parts.0 in
     let numbers = both _ _ parts.2 in
     let fit = both _ _ numbers.1 in
@@ -88,25 +93,6 @@ open_is_named c h =
       front = below_is (view.synced c.window).position (2 ^ 61) fit.1;
       line = some_is (position is_free c.lines.rows) parts.1;
     }
-
--- ---- the bits of all units
-
-bits_from : (a n : ℕ) → bits_of (range_with_len a n) + 2 ^ a ≡ 2 ^ (a + n)
-bits_from a zero = let same : a + 0 ≡ a = omega arith in zero-add (2 ^ a) ∙ ap (λ k. 2 ^ k) (sym same)
-bits_from a (suc n) =
-    let rest : bits_of (range_with_len (a + 1) n) + 2 ^ (a + 1) ≡ 2 ^ (a + 1 + n) = bits_from (a + 1) n in
-    let next : 2 ^ (a + 1) ≡ 2 ^ suc a = let same : a + 1 ≡ suc a = omega arith in ap (λ k. 2 ^ k) same in
-    let double : 2 ^ suc a ≡ 2 ^ a + 2 ^ a = omega arith in
-    let first : bits_of (range_with_len a (suc n)) ≡ bits_of (a ∷ []) + bits_of (range_with_len (a + 1) n) = sum_by-append (λ unit. 2 ^ unit) (a ∷ []) (range_with_len (a + 1) n) in
-    let one : bits_of (a ∷ []) ≡ 2 ^ a = zero-add (2 ^ a) in
-    let end : 2 ^ (a + 1 + n) ≡ 2 ^ (a + suc n) = let same : a + 1 + n ≡ a + suc n = omega arith in ap (λ k. 2 ^ k) same in
-    omega arith
-
-bits_below : (n : ℕ) → bits_of (range_with_len 0 n) < 2 ^ n
-bits_below n =
-    let all : bits_of (range_with_len 0 n) + 2 ^ 0 ≡ 2 ^ (0 + n) = bits_from 0 n in
-    let end : 2 ^ (0 + n) ≡ 2 ^ n = let same : 0 + n ≡ n = omega arith in ap (λ k. 2 ^ k) same in
-    omega arith
 
 -- ---- lengths of a line of all units
 
@@ -121,15 +107,16 @@ some_factor : (n w m : ℕ) → n * w ≡ m → 0 < m → 0 < n
 some_factor zero w m e some = absurd (omega arith)
 some_factor (suc n) w m e some = omega arith
 
-pub has_stripes : (s : Shape) → IsAccepted s → 0 < units s * (s.clba / s.ws_opt)
-has_stripes s accepted =
-    let is : IsStriped s (units s) = striped s (units s) accepted.drive.ws_opt accepted.drive.whole_stripes (has_data s accepted) (wide s accepted) in
-    let rows : 0 < data_len s (units s) / s.ws_opt = some_factor (data_len s (units s) / s.ws_opt) s.ws_opt (data_len s (units s)) is.data_is (has_data s accepted) in
+-- a line of some data has a stripe
+pub has_stripes : (s : Shape) (g : ℕ) → IsAccepted s → 0 < data_len s g → 0 < g * (s.clba / s.ws_opt)
+has_stripes s g accepted some_data =
+    let is : IsStriped s g = striped s g accepted.drive.ws_opt accepted.drive.whole_stripes some_data (width_some s g accepted.drive.ws_opt (λ e. absurd (omega arith))) in
+    let rows : 0 < data_len s g / s.ws_opt = some_factor (data_len s g / s.ws_opt) s.ws_opt (data_len s g) is.data_is some_data in
     let fits = is.fits in omega arith
 
-pub stripes_few : (s : Shape) → IsAccepted s → units s * (s.clba / s.ws_opt) < 2 ^ 32
-stripes_few s accepted =
-    let is : IsStriped s (units s) = striped s (units s) accepted.drive.ws_opt accepted.drive.whole_stripes (has_data s accepted) (wide s accepted) in
+all_stripes_few : (s : Shape) → IsAccepted s → units s * (s.clba / s.ws_opt) < 2 ^ 32
+all_stripes_few s accepted =
+    let is : IsStriped s (units s) = striped s (units s) accepted.drive.ws_opt accepted.drive.whole_stripes (has_data s accepted) (width_some s (units s) accepted.drive.ws_opt (λ e. let some : 0 < data_len s (units s) = has_data s accepted in absurd (omega arith))) in
     let short : units s * s.clba ≤ 65536 = line_is_short s (units s) accepted (le_refl (units s)) in
     let whole : units s * (s.clba / s.ws_opt) * s.ws_opt ≡ units s * s.clba = is.line_is in
     below_product (units s * (s.clba / s.ws_opt)) s.ws_opt (units s * s.clba) whole accepted.drive.ws_opt short
@@ -140,55 +127,57 @@ stripes_few s accepted =
         let parts : n * suc w ≡ n * w + n = mul-suc n w in
         omega arith
 
+pub stripes_few : (s : Shape) (g : ℕ) → IsAccepted s → g ≤ units s → g * (s.clba / s.ws_opt) < 2 ^ 32
+stripes_few s g accepted few =
+    let all : units s * (s.clba / s.ws_opt) < 2 ^ 32 = all_stripes_few s accepted in
+    let less : g * (s.clba / s.ws_opt) ≤ units s * (s.clba / s.ws_opt) = mul-le-mul_right (s.clba / s.ws_opt) few in
+    omega arith
+
 -- ---- the line that is opened next
 
 pub record IsNextLine (i : Image) (w : World) (c : Core) : Type 0 where
   pub least : IsLeastFree i (log_of w) (next_line c)
   pub closed : is_opened (life_of (log_of w 0) (next_line c)) ≡ false
-  -- its units are all
+  -- its units are those that are known
   pub live : slice_get c.live.items (next_line c) ≡ Some (live_now i (log_of w) (next_line c))
   pub units_are : next_units c ≡ live_now i (log_of w) (next_line c)
   pub small : next_units c < 2 ^ units i.shape
-  pub wide : length (units_in (next_units c)) ≡ units i.shape
-  pub known : width (known_image i (log_of w)) (next_line c) ≡ units i.shape
+  pub wide : length (units_in (next_units c)) ≡ width (known_image i (log_of w)) (next_line c)
+  pub few : width (known_image i (log_of w)) (next_line c) ≤ units i.shape
+  pub data_some : 0 < data_len i.shape (width (known_image i (log_of w)) (next_line c))
   pub stripes : 0 < length (opened i.shape (next_line c) (live_now i (log_of w) (next_line c))).stripes
 
-pub next_line_is : (i : Image) (w : World) (c : Core) → IsBlankWorld i w → Stands i (log_of w) c → MayOpenNext c → IsNextLine i w c
-next_line_is i w c blank st may = record {
+third : (a b c : Bool) → (a && b && c) ≡ true → c ≡ true
+third true true c e = e
+third true false c e = absurd cc
+third false b c e = absurd cc
+
+pub next_line_is : (i : Image) (w : World) (c : Core) → IsPlainWorld i w → Stands i (log_of w) c → MayOpenNext c → IsNextLine i w c
+next_line_is i w c plain st may = record {
   least = least;
   closed = free_closed i (log_of w) line least.is_free;
   live = there;
   units_are = is;
-  small = subst (λ m. m < 2 ^ units i.shape) (sym (is ∙ bits)) (bits_below (units i.shape));
+  small = subst (λ m. m < 2 ^ units i.shape) (sym is) (known_bits i w (log_of w) (next_line c) plain);
   wide = ap (λ m. length (units_in m)) is ∙ count;
-  known = whole_width i known line whole least.in_range;
+  few = known_width i w (log_of w) (next_line c) plain;
+  data_some = data_is;
   stripes = subst (λ k. 0 < k) (sym (length_replicated (length (units_in (live_now i (log_of w) line)) * (i.shape.clba / i.shape.ws_opt)) Unplaced))
-      (subst (λ g. 0 < g * (i.shape.clba / i.shape.ws_opt)) (sym count) (has_stripes i.shape blank.plain.accepted));
+      (subst (λ g. 0 < g * (i.shape.clba / i.shape.ws_opt)) (sym count) (has_stripes i.shape (width (known_image i (log_of w)) (next_line c)) plain.accepted data_is));
 }
   where
     line : ℕ
     line = next_line c
 
-    known : Image
-    known = known_image i (log_of w)
-
     least : IsLeastFree i (log_of w) (next_line c)
     least = least_free i (log_of w) (next_line c) (ap (λ t. position is_free t.rows) (sym st.table) ∙ may.line)
 
-    whole : IsWhole i (known_image i (log_of w))
-    whole = known_whole i w (log_of w) blank (whole_prefixes w)
+    data_is : 0 < data_len i.shape (width (known_image i (log_of w)) (next_line c))
+    data_is = below_is 0 (data_len i.shape (width (known_image i (log_of w)) (next_line c)))
+        (third (not (has_number i (log_of w) (life_of (log_of w 0) (next_line c)) (next_line c))) (are_empty (known_image i (log_of w)) (next_line c)) (nat_lt 0 (line_data (known_image i (log_of w)) (next_line c))) least.is_free)
 
-    all : line_units (known_image i (log_of w)) (next_line c) ≡ range_with_len 0 (units i.shape)
-    all = whole_line_units i (known_image i (log_of w)) (next_line c) whole least.in_range
-
-    bits : live_now i (log_of w) (next_line c) ≡ bits_of (range_with_len 0 (units i.shape))
-    bits = ap bits_of all
-
-    few : length (known_image i (log_of w)).units ≤ 64
-    few = subst (λ n. n ≤ 64) (sym whole.count) blank.plain.accepted.drive.few_units
-
-    count : length (units_in (live_now i (log_of w) (next_line c))) ≡ units i.shape
-    count = ap (λ (us : List ℕ). length us) (bits_back (known_image i (log_of w)) (next_line c) few ∙ all) ∙ length-range_with_len 0 (units i.shape)
+    count : length (units_in (live_now i (log_of w) (next_line c))) ≡ width (known_image i (log_of w)) (next_line c)
+    count = bits_width i w (log_of w) (next_line c) plain
 
     there : slice_get c.live.items (next_line c) ≡ Some (live_now i (log_of w) (next_line c))
     there =
@@ -199,10 +188,10 @@ next_line_is i w c blank st may = record {
     is = get_or_from_slice_get c.live.items (next_line c) (live_now i (log_of w) (next_line c)) 0 there
 
 -- what is found of it
-pub chosen : (i : Image) (w : World) (c : Core) (line live d : ℕ) → IsBlankWorld i w → Stands i (log_of w) c → MayOpenNext c → position is_free c.lines.rows ≡ Some line → live ≡ slice_index_or c.live.items line d
+pub chosen : (i : Image) (w : World) (c : Core) (line live d : ℕ) → IsPlainWorld i w → Stands i (log_of w) c → MayOpenNext c → position is_free c.lines.rows ≡ Some line → live ≡ slice_index_or c.live.items line d
     → (next_line c ≡ line) × (live ≡ next_units c)
-chosen i w c line live d blank st may found is =
-    let next : IsNextLine i w c = next_line_is i w c blank st may in
+chosen i w c line live d plain st may found is =
+    let next : IsNextLine i w c = next_line_is i w c plain st may in
     let at : next_line c ≡ line = same_Some (next_line c) line (sym may.line ∙ found) in
     (at, is ∙ ap (λ n. slice_index_or c.live.items n d) (sym at) ∙ get_or_from_slice_get c.live.items (next_line c) (live_now i (log_of w) (next_line c)) d next.live ∙ sym next.units_are)
 
@@ -231,26 +220,26 @@ none_open i logs line k d closed inside same =
     subst Holds clash tt
 
 -- it may be opened
-pub next_may_open : (i : Image) (w : World) (c : Core) (b : Begun) → IsBlankWorld i w → Stands i (log_of w) c → MayOpenNext c → begun (log_of w 0) ≡ Some b
+pub next_may_open : (i : Image) (w : World) (c : Core) (b : Begun) → IsPlainWorld i w → Stands i (log_of w) c → MayOpenNext c → begun (log_of w 0) ≡ Some b
     → MayOpen i (log_of w) b (next_line c) (next_start c)
-next_may_open i w c b blank st may has = record {
+next_may_open i w c b plain st may has = record {
   in_range = is.least.in_range;
   is_free = is.least.is_free;
   is_first = is.least.is_first;
-  one_other = λ m n inside within. one_is_open i w m n blank.plain few;
+  one_other = λ m n inside within. one_is_open i w m n plain few;
   own_line = refl;
-  own_width = is.wide ∙ sym is.known;
+  own_width = is.wide;
   own_capacity = st.own_capacity;
   seq = st.next_seq ∙ ap (λ (x : Begun). x.beginning.seq + _) same;
   first_seq = st.first_seq ∙ ap (λ (x : Begun). x.beginning.seq) same;
-  front = synced_at i w c blank st;
+  front = synced_at i w c plain st;
   rows = st.older;
   seq_number = may.seq;
   front_number = may.front;
 }
   where
     is : IsNextLine i w c
-    is = next_line_is i w c blank st may
+    is = next_line_is i w c plain st may
 
     same : st.beginning ≡ b
     same = same_Some st.beginning b (sym st.has_begun ∙ has)

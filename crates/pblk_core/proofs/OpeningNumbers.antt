@@ -1,23 +1,32 @@
 -- The numbers of the start record of the line that is opened next fit a start record.
-use Rattle.std.proofs.Common.{◌≡◌, ℕ, ◌+◌, ◌-◌, ◌^◌, ◌<◌, ◌≤◌, ◌==◌, ◌&&◌, nat_lt, nat_le, Bool, true, Some, None, Option, List, [], ◌∷◌, length, refl, sym, subst, ap, ◌∙◌, arith, IsTrue}
+use Rattle.std.proofs.Common.{◌≡◌, ◌≢◌, ℕ, ◌+◌, ◌-◌, ◌^◌, ◌<◌, ◌≤◌, ◌==◌, ◌&&◌, not, zero, suc, nat_lt, nat_le, if◌then◌else◌, cond, Bool, true, false, Some, None, Option, List, [], ◌∷◌, length, refl, sym, subst, ap, ◌∙◌, arith, IsTrue}
 use Rattle.std.specs.Prelude.{slice_get}
+use Rattle.std.specs.List.{AllByRecursion, filter_map, cons_option, range_with_len}
 use Rattle.std.proofs.lemmas.Option.{none-some, same_Some}
 use Rattle.pblk_model.specs.declared.shape.Shape.{Shape}
-use Rattle.pblk_model.specs.StartRecord.{StartRecord, start_fits, rows_fit}
+use Rattle.pblk_model.specs.StartRecord.{Row, StartRecord, start_of, start_fits, rows_fit}
 use Rattle.pblk_model.specs.Image.{Image}
 use Rattle.pblk_meta.specs.Records.{start_numbers}
 use Rattle.pblk_world.specs.Events.{Begin, Event, Decides, Logged}
 use Rattle.pblk_world.specs.World.{World, Logs, log_of, prefixes}
-use Rattle.pblk_world.specs.EngineLog.{Begun, begun_by, begun, openings}
+use Rattle.pblk_world.specs.EngineLog.{Begun, begun_by, begun, openings, is_as_found, life_of}
+use Rattle.pblk_world.specs.Fronts.{first_position, synced}
 use Rattle.pblk_world.specs.Legal.{IsLegal, IsAllowed}
-use Rattle.pblk_world.specs.Lines.{next_seq}
-use Rattle.pblk_world.specs.Starts.{older_rows}
-use Rattle.core_laws.specs.PlainWorlds.{IsBlankWorld}
+use Rattle.pblk_world.specs.Lines.{found_image, next_seq}
+use Rattle.pblk_world.specs.Space.{freed}
+use Rattle.pblk_world.specs.Starts.{found_row, older_row, older_rows}
+use Rattle.write_window.specs.Window as view
+use Rattle.core_laws.specs.PlainWorlds.{IsPlainWorld}
+use Rattle.core_laws.proofs.Rows.{other_number}
 use Rattle.line_table.proofs.Places.{eqb-same}
-use Rattle.line_laws.proofs.Blank.{blank_start, no_older}
+use Rattle.landing_laws.proofs.Growing.{freed_within}
 use Rattle.placed_laws.proofs.Happened.{happened}
 use Rattle.pblk_core.specs.declared.target_core.Core.{Core}
-use Rattle.pblk_core.specs.Stands.{Stands}
+use Rattle.pblk_core.specs.Named.{next_line, next_start}
+use Rattle.pblk_core.specs.Stands.{Stands, IsOlder}
+use Rattle.pblk_core.proofs.FoundLines.{free_unstarted}
+use Rattle.pblk_core.proofs.OpeningFacts.{MayOpenNext, IsNextLine, next_line_is}
+use Rattle.pblk_core.proofs.WorkOf.{synced_at}
 
 -- ---- the mount's first number
 
@@ -48,34 +57,94 @@ le_true a b h = grind arith
 lt_true : (a b : ℕ) → a < b → nat_lt a b ≡ true
 lt_true a b h = grind arith
 
-record_fits : (s : Shape) (r : StartRecord) → r.capacity ≡ s.capacity → 1 ≤ r.first_seq → r.first_seq ≤ r.seq → r.seq < 2 ^ 61 → r.front < 2 ^ 61 → r.rows ≡ [] → start_fits s r.line r.width r ≡ true
-record_fits s r capacity some rises seq front none =
+-- each row is of the line of which it is made
+IsOwnRow : ℕ → Option Row → Type 0
+IsOwnRow line None = Unit {0}
+IsOwnRow line (Some row) = row.line ≡ line
+
+own_row : (i : Image) (logs : Logs) (line : ℕ) → IsOwnRow line (older_row i logs line)
+unfolding IsOwnRow
+own_row i logs line = by_life (is_as_found (life_of (logs 0) line)) (found_row i logs line (start_of (found_image i logs) line)) (found (start_of (found_image i logs) line))
+  where
+    found : (o : Option StartRecord) → IsOwnRow line (found_row i logs line o)
+    found None = tt
+    found (Some start) = refl
+
+    by_life : (b : Bool) (o : Option Row) → IsOwnRow line o → IsOwnRow line (if b then o else None)
+    by_life true o is = is
+    by_life false o is = tt
+
+abbrev made : Image → Logs → ℕ → ℕ → List Row
+made i logs a n = filter_map (older_row i logs) (range_with_len a n)
+
+rows_are_fit : (i : Image) (logs : Logs) (r : StartRecord) (first least a n : ℕ) → older_row i logs r.line ≡ None → first ≤ r.front → least ≤ a → a + n ≤ i.shape.chunks
+    → AllByRecursion (IsOlder r.first_seq first) (filter_map (older_row i logs) (range_with_len a n)) → rows_fit i.shape r least (filter_map (older_row i logs) (range_with_len a n)) ≡ true
+unfolding IsOwnRow
+rows_are_fit i logs r first least a zero none front low within older = refl
+rows_are_fit i logs r first least a (suc n) none front low within older = go (older_row i logs a) refl (own_row i logs a) older
+    (λ m below rest. rows_are_fit i logs r first m (a + 1) n none front below (omega arith) rest)
+  where
+    go : (o : Option Row) → older_row i logs a ≡ o → IsOwnRow a o → AllByRecursion (IsOlder r.first_seq first) (cons_option o (filter_map (older_row i logs) (range_with_len (a + 1) n)))
+        → ((m : ℕ) → m ≤ a + 1 → AllByRecursion (IsOlder r.first_seq first) (filter_map (older_row i logs) (range_with_len (a + 1) n)) → rows_fit i.shape r m (filter_map (older_row i logs) (range_with_len (a + 1) n)) ≡ true)
+        → rows_fit i.shape r least (cons_option o (filter_map (older_row i logs) (range_with_len (a + 1) n))) ≡ true
+    go None e own older again = again least (omega arith) older
+    go (Some row) e own older again =
+        let other : row.line ≢ r.line = λ same. none-some row (sym none ∙ ap (older_row i logs) (sym (sym own ∙ same)) ∙ e) in
+        let bound : row.bound ≤ first = older.0.2 in
+        let next : rows_fit i.shape r (row.line + 1) (filter_map (older_row i logs) (range_with_len (a + 1) n)) ≡ true =
+        again (row.line + 1) (omega (arith, own)) older.1 in
+        and_true _ _ (and_true _ _ (and_true _ _ (and_true _ _ (and_true _ _ (and_true _ _
+        (le_true least row.line (omega (arith, own))) (lt_true row.line i.shape.chunks (omega (arith, own)))) (ap (λ b. not b) (other_number row.line r.line other))) (le_true 1 row.seq older.0.0))
+        (lt_true row.seq r.first_seq older.0.1)) (le_true row.bound r.front (omega arith))) next
+
+few_made : {X : Type 0} (h : ℕ → Option X) (a n : ℕ) → length (filter_map h (range_with_len a n)) ≤ n
+few_made h a zero = omega arith
+few_made h a (suc n) = let rest = few_made h (a + 1) n in elim (h a) as (λ o. length (cons_option o (filter_map h (range_with_len (a + 1) n))) ≤ suc n) [ None ↦ omega arith | Some x ↦ omega arith ]
+
+fewer_made : {X : Type 0} (h : ℕ → Option X) (a n k : ℕ) → h (a + k) ≡ None → k < n → length (filter_map h (range_with_len a n)) + 1 ≤ n
+fewer_made h a zero k none inside = absurd (omega arith)
+fewer_made {X} h a (suc n) zero none inside =
+    let from : a + 0 ≡ a = omega arith in
+    let rest = few_made h (a + 1) n in
+    subst (λ (o : Option X). length (cons_option o (filter_map h (range_with_len (a + 1) n))) + 1 ≤ suc n) (sym (ap h (sym from) ∙ none)) (omega arith)
+fewer_made {X} h a (suc n) (suc k) none inside =
+    let next : a + suc k ≡ a + 1 + k = omega arith in
+    let rest : length (filter_map h (range_with_len (a + 1) n)) + 1 ≤ n = fewer_made h (a + 1) n k (ap h (sym next) ∙ none) (omega arith) in
+    elim (h a) as (λ (o : Option X). length (cons_option o (filter_map h (range_with_len (a + 1) n))) + 1 ≤ suc n) [ None ↦ omega arith | Some x ↦ omega arith ]
+
+record_fits : (s : Shape) (r : StartRecord) → r.capacity ≡ s.capacity → 1 ≤ r.first_seq → r.first_seq ≤ r.seq → r.seq < 2 ^ 61 → r.front < 2 ^ 61 → length r.rows ≤ s.chunks - 1 → rows_fit s r 0 r.rows ≡ true → start_fits s r.line r.width r ≡ true
+record_fits s r capacity some rises seq front few rows =
     and_true _ _ (and_true _ _ (and_true _ _ (and_true _ _ (and_true _ _ (and_true _ _ (and_true _ _ (and_true _ _
     (eqb-same r.line) (eqb-same r.width)) (ap (λ n. n == s.capacity) capacity ∙ eqb-same s.capacity)) (le_true 1 r.first_seq some)) (le_true r.first_seq r.seq rises))
-    (lt_true r.seq (2 ^ 61) seq)) (lt_true r.front (2 ^ 61) front)) (ap (λ (rs : List _). nat_le (length rs) (s.chunks - 1)) none ∙ le_true 0 (s.chunks - 1) (omega arith)))
-    (ap (rows_fit s r 0) none)
+    (lt_true r.seq (2 ^ 61) seq)) (lt_true r.front (2 ^ 61) front)) (le_true (length r.rows) (s.chunks - 1) few)) rows
 
-pub next_fits : (i : Image) (w : World) (c : Core) (line width front : ℕ) → IsBlankWorld i w → Stands i (log_of w) c → c.start.seq < 2 ^ 61 → front < 2 ^ 61
-    → IsTrue (start_fits i.shape line width (record {
-      line = line;
-      width = width;
-      seq = c.start.seq;
-      first_seq = c.start.first_seq;
-      front = front;
-      capacity = c.start.capacity;
-      rows = (start_numbers c.start).rows;
-    }))
-next_fits i w c line width front blank st seq low =
-    let none : older_rows i (log_of w) ≡ [] = no_older i (log_of w) (blank_start i w blank.plain.accepted blank.plain.legal blank.free) in
+pub next_fits : (i : Image) (w : World) (c : Core) → IsPlainWorld i w → Stands i (log_of w) c → MayOpenNext c → IsTrue (start_fits i.shape (next_start c).line (next_start c).width (next_start c))
+next_fits i w c plain st may =
+    let is : IsNextLine i w c = next_line_is i w c plain st may in
     let first : c.start.first_seq ≡ st.beginning.beginning.seq = st.first_seq in
     let next : c.start.seq ≡ st.beginning.beginning.seq + length (openings (log_of w 0)) = st.next_seq in
-    let some : 1 ≤ st.beginning.beginning.seq = begin_seq i w st.beginning blank.plain.legal st.has_begun in
-    record_fits i.shape (record {
-      line = line;
-      width = width;
-      seq = c.start.seq;
-      first_seq = c.start.first_seq;
-      front = front;
-      capacity = c.start.capacity;
-      rows = (start_numbers c.start).rows;
-    }) st.own_capacity (omega arith) (omega arith) seq low (st.older ∙ none)
+    let some : 1 ≤ st.beginning.beginning.seq = begin_seq i w st.beginning plain.legal st.has_begun in
+    let none : older_row i (log_of w) (next_line c) ≡ None = unstarted_row i (log_of w) (next_line c) (free_unstarted i (log_of w) (next_line c) plain.engine is.least.is_free) in
+    let from : 0 + next_line c ≡ next_line c = omega arith in
+    let fewer : length (older_rows i (log_of w)) + 1 ≤ i.shape.chunks = fewer_made (older_row i (log_of w)) 0 i.shape.chunks (next_line c) (ap (older_row i (log_of w)) from ∙ none) is.least.in_range in
+    let count : length (start_numbers c.start).rows ≡ length (older_rows i (log_of w)) = ap (λ (rs : List Row). length rs) st.older in
+    record_fits i.shape (next_start c) st.own_capacity (omega arith) (omega arith) may.seq may.front (omega arith)
+    (subst (λ (rs : List Row). rows_fit i.shape (next_start c) 0 rs ≡ true) (sym st.older)
+    (rows_are_fit i (log_of w) (next_start c) c.first 0 0 i.shape.chunks none (front_above i w c plain st) (omega arith) (omega arith)
+    (subst (AllByRecursion (IsOlder c.start.first_seq c.first)) st.older st.fits.rows)))
+  where
+    unstarted_row : (i : Image) (logs : Logs) (line : ℕ) → start_of (found_image i logs) line ≡ None → older_row i logs line ≡ None
+    unstarted_row i logs line none = ap (λ o. if is_as_found (life_of (logs 0) line) then found_row i logs line o else None) none ∙ either (is_as_found (life_of (logs 0) line))
+      where
+        either : (b : Bool) → ◌≡◌ {A = Option Row} (cond b None None) None
+        either true = refl
+        either false = refl
+
+    front_above : (i : Image) (w : World) (c : Core) → IsPlainWorld i w → Stands i (log_of w) c → c.first ≤ (view.synced c.window).position
+    front_above i w c plain st =
+        let a : first_position (log_of w 0) ≤ c.window.freed = st.from_first in
+        let b : c.window.freed ≤ freed i.shape (log_of w 0) = st.to_freed in
+        let d : freed i.shape (log_of w 0) ≤ synced i.shape (log_of w 0) = freed_within i.shape (log_of w 0) in
+        let e : (view.synced c.window).position ≡ synced i.shape (log_of w 0) = synced_at i w c plain st in
+        let f : c.first ≡ first_position (log_of w 0) = st.first in
+        omega arith

@@ -32,7 +32,7 @@ use Rattle.line_table.proofs.Places.{get_set_same}
 use Rattle.line_laws.proofs.LiveCounts.{live_few}
 use Rattle.write_window.specs.Window as view
 use Rattle.core_laws.specs.PlacerOf.{positions_of, row_of}
-use Rattle.core_laws.specs.PlainWorlds.{IsBlankWorld}
+use Rattle.core_laws.specs.PlainWorlds.{IsPlainWorld}
 use Rattle.core_laws.specs.Stepping.{after}
 use Rattle.media_laws.proofs.Found.{within_some}
 use Rattle.pblk_model.specs.EndRecord.{end_bytes}
@@ -57,8 +57,8 @@ use Rattle.pblk_core.proofs.WaitingEntries.{IsSized, are_sized, IsWaiting, waiti
 
 -- ---- the program
 
-pub offer : (i : Image) (w : World) (c : Core) (of : Placement) → IsBlankWorld i w → Stands i (log_of w) c → Some (program of) ≡ next_stripe c.placer 0 → (o : Opening) × IsOfferedNow i w c.placer.entries.pad o (program of)
-offer i w c of blank st next = offered_now i w c.placer.entries.pad 0 (program of) blank (ap (λ p. next_stripe p 0) (sym st.placing) ∙ sym next)
+pub offer : (i : Image) (w : World) (c : Core) (of : Placement) → IsPlainWorld i w → Stands i (log_of w) c → Some (program of) ≡ next_stripe c.placer 0 → (o : Opening) × IsOfferedNow i w c.placer.entries.pad o (program of)
+offer i w c of plain st next = offered_now i w c.placer.entries.pad 0 (program of) plain (ap (λ p. next_stripe p 0) (sym st.placing) ∙ sym next)
 
 -- the opening of the program, and its place among the open lines
 pub record IsFound (i : Image) (w : World) (c : Core) (of : Placement) (result : ℕ) : Type 0 where
@@ -67,10 +67,10 @@ pub record IsFound (i : Image) (w : World) (c : Core) (of : Placement) (result :
   pub has : HasSlot i (log_of w) c.open o
   pub at : result ≡ has.k
 
-pub found : (i : Image) (w : World) (c : Core) (of : Placement) (result : ℕ) → IsBlankWorld i w → Stands i (log_of w) c → Some (program of) ≡ next_stripe c.placer 0 → result < 2
+pub found : (i : Image) (w : World) (c : Core) (of : Placement) (result : ℕ) → IsPlainWorld i w → Stands i (log_of w) c → Some (program of) ≡ next_stripe c.placer 0 → result < 2
     → ((slot : KeptLine) → IsSlot c.open result slot → slot.records.line ≡ of.line) → ((slot : KeptLine) → IsSlot c.open 0 slot → slot.records.line ≡ of.line → result ≡ 0) → IsFound i w c of result
-found i w c of result blank st next inside line first =
-    let its = offer i w c of blank st next in
+found i w c of result plain st next inside line first =
+    let its = offer i w c of plain st next in
     let has : HasSlot i (log_of w) c.open its.0 = has_slot i w c c.placer.entries.pad its.0 (program of) its.1 st in
     record {
       o = its.0;
@@ -79,10 +79,10 @@ found i w c of result blank st next inside line first =
       at = found_slot i w c c.placer.entries.pad its.0 (program of) result its.1 st has inside line first;
     }
 
-pub found_there : (i : Image) (w : World) (c : Core) (of : Placement) → IsBlankWorld i w → Stands i (log_of w) c → Some (program of) ≡ next_stripe c.placer 0
+pub found_there : (i : Image) (w : World) (c : Core) (of : Placement) → IsPlainWorld i w → Stands i (log_of w) c → Some (program of) ≡ next_stripe c.placer 0
     → (k : ℕ) × (slot : KeptLine) × (k < 2) × IsSlot c.open k slot × (slot.records.line ≡ of.line)
-found_there i w c of blank st next =
-    let its = offer i w c of blank st next in
+found_there i w c of plain st next =
+    let its = offer i w c of plain st next in
     let has : HasSlot i (log_of w) c.open its.0 = has_slot i w c c.placer.entries.pad its.0 (program of) its.1 st in
     (has.k, has.slot, has.inside, has.there, has.is.records.line ∙ sym its.1.own)
 
@@ -101,12 +101,12 @@ entry_at ts k q e = go (slice_get ts k) refl (sym (get_mapped (λ (t : Taken). t
     go None f g = absurd (none-some q g)
     go (Some t) f g = (t, f, same_Some t.entry.position q g)
 
-pub in_the_window : (i : Image) (w : World) (c : Core) (o : Opening) (of : Program) (k q : ℕ) → IsBlankWorld i w → Stands i (log_of w) c → IsOfferedNow i w c.placer.entries.pad o of
+pub in_the_window : (i : Image) (w : World) (c : Core) (o : Opening) (of : Program) (k q : ℕ) → IsPlainWorld i w → Stands i (log_of w) c → IsOfferedNow i w c.placer.entries.pad o of
     → slice_get of.positions k ≡ Some q → view.IsHeld c.window q
-in_the_window i w c o of k q blank st now e =
+in_the_window i w c o of k q plain st now e =
     let n : ℕ = entries_for of.kind i.shape.ws_opt in
     let at = entry_at (take n (waiting i.shape (log_of w 0))) k q (ap (λ (qs : List ℕ). slice_get qs k) (sym (now.positions ∙ positions_are i.shape (log_of w 0) of.kind)) ∙ e) in
-    let is : IsWaiting i w c at.0 k = waiting_at i w c k at.0 blank st (get_taken n (waiting i.shape (log_of w 0)) k at.0 at.1) in
+    let is : IsWaiting i w c at.0 k = waiting_at i w c k at.0 plain st (get_taken n (waiting i.shape (log_of w 0)) k at.0 at.1) in
     let end : view.taken c.window ≡ taken (log_of w 0) = window_taken_is i w c st in
     let low : c.window.freed ≤ at.0.entry.position = is.low in
     let high : at.0.entry.position < taken (log_of w 0) = is.high in
@@ -162,25 +162,25 @@ small_capacity s is =
     blocks_few (inl e) = let size : units s * s.chunks * s.clba * 512 ≤ 268435456 = subst (λ n. units s * s.chunks * s.clba * n ≤ 268435456) e is.target.size in omega arith
     blocks_few (inr e) = let size : units s * s.chunks * s.clba * 4096 ≤ 268435456 = subst (λ n. units s * s.chunks * s.clba * n ≤ 268435456) e is.target.size in omega arith
 
-pub live_room : (i : Image) (w : World) (c : Core) (line count : ℕ) (row : Row) → IsBlankWorld i w → Stands i (log_of w) c → IsRow c.lines line row → count ≤ i.shape.ws_opt → row.live + count < 2 ^ 32
-live_room i w c line count row blank st there few =
+pub live_room : (i : Image) (w : World) (c : Core) (line count : ℕ) (row : Row) → IsPlainWorld i w → Stands i (log_of w) c → IsRow c.lines line row → count ≤ i.shape.ws_opt → row.live + count < 2 ^ 32
+live_room i w c line count row plain st there few =
     let its = row_at (row_of_line i (log_of w)) i.shape.chunks 0 line row (ap (λ (t : Table). slice_get t.rows line) (sym st.table) ∙ there) in
     let from : 0 + line ≡ line = omega arith in
     let live : row.live ≡ (row_of_line i (log_of w) line).live = ap (λ (r : Row). r.live) (sym its.1) ∙ ap (λ n. (row_of_line i (log_of w) n).live) from in
     let most : (row_of_line i (log_of w) line).live ≤ i.shape.capacity = live_few i (log_of w) line in
-    let small : i.shape.capacity < 2 ^ 30 = small_capacity i.shape blank.plain.accepted in
-    let stripe : i.shape.ws_opt ≤ 64 = blank.plain.accepted.drive.short_stripes in
+    let small : i.shape.capacity < 2 ^ 30 = small_capacity i.shape plain.accepted in
+    let stripe : i.shape.ws_opt ≤ 64 = plain.accepted.drive.short_stripes in
     omega arith
 
 -- ---- marks
 
-pub marks_room : (i : Image) (w : World) (o : Opening) (of : Program) (pad : ℕ) (slot : KeptLine) (more : ℕ) → IsBlankWorld i w → IsOfferedNow i w pad o of → of.kind ≡ kinds.Data → IsOpenLine i (log_of w) o slot → more ≤ i.shape.ws_opt
+pub marks_room : (i : Image) (w : World) (o : Opening) (of : Program) (pad : ℕ) (slot : KeptLine) (more : ℕ) → IsPlainWorld i w → IsOfferedNow i w pad o of → of.kind ≡ kinds.Data → IsOpenLine i (log_of w) o slot → more ≤ i.shape.ws_opt
     → length slot.records.marks + more ≤ data_len slot.records.shape slot.records.width
-marks_room i w o of pad slot more blank now kind is few =
+marks_room i w o of pad slot more plain now kind is few =
     let s : Shape = i.shape in
     let part = subst (IsInPart i.shape o of.at) kind now.part in
     let count : length (data_marks s (log_of w 0) o) ≡ min (data_len s o.start.width) (next_address s (log_of w 0) o - start_len s) =
-    marks_counted s (log_of w 0) o (have_blocks i w blank.plain.accepted blank.plain.legal) in
+    marks_counted s (log_of w 0) o (have_blocks i w plain.accepted plain.legal) in
     let own : length slot.records.marks ≡ length (data_marks s (log_of w 0) o) = ap (λ (ms : List Mark). length ms) is.records.marks in
     let long : data_len slot.records.shape slot.records.width ≡ data_len s o.start.width = ap₂ data_len is.records.shape is.records.width in
     let at : of.at ≡ next_address s (log_of w 0) o = now.at in
@@ -188,12 +188,12 @@ marks_room i w o of pad slot more blank now kind is few =
     let b : of.at + s.ws_opt ≤ start_len s + data_len s o.start.width = part.1 in
     omega arith
 
-pub marks_told : (i : Image) (w : World) (o : Opening) (of : Program) (pad : ℕ) (slot : KeptLine) → IsBlankWorld i w → IsOfferedNow i w pad o of → of.kind ≡ kinds.End → IsOpenLine i (log_of w) o slot
+pub marks_told : (i : Image) (w : World) (o : Opening) (of : Program) (pad : ℕ) (slot : KeptLine) → IsPlainWorld i w → IsOfferedNow i w pad o of → of.kind ≡ kinds.End → IsOpenLine i (log_of w) o slot
     → length slot.records.marks ≡ data_len slot.records.shape slot.records.width
-marks_told i w o of pad slot blank now kind is =
+marks_told i w o of pad slot plain now kind is =
     let part = subst (IsInPart i.shape o of.at) kind now.part in
     ap (λ (ms : List Mark). length ms) is.records.marks
-    ∙ marks_whole i.shape (log_of w 0) o (have_blocks i w blank.plain.accepted blank.plain.legal) (subst (λ a. end_address i.shape o ≤ a) now.at part)
+    ∙ marks_whole i.shape (log_of w 0) o (have_blocks i w plain.accepted plain.legal) (subst (λ a. end_address i.shape o ≤ a) now.at part)
     ∙ sym (ap₂ data_len is.records.shape is.records.width)
 
 pub end_from : (i : Image) (w : World) (o : Opening) (of : Program) (pad : ℕ) (slot : KeptLine) → IsOfferedNow i w pad o of → of.kind ≡ kinds.End → IsOpenLine i (log_of w) o slot → end_begins slot.records ≤ of.at
@@ -205,12 +205,12 @@ data_by : (t : Bool) (between n : ℕ) → n ≡ (if t then 0 else between) → 
 data_by true between n e some = absurd (omega arith)
 data_by false between n e some = e
 
-pub end_within : (i : Image) (w : World) (o : Opening) (of : Program) (pad : ℕ) (slot : KeptLine) → IsBlankWorld i w → IsOfferedNow i w pad o of → IsOpenLine i (log_of w) o slot
+pub end_within : (i : Image) (w : World) (o : Opening) (of : Program) (pad : ℕ) (slot : KeptLine) → IsPlainWorld i w → IsOfferedNow i w pad o of → IsOpenLine i (log_of w) o slot
     → of.at + slot.records.shape.ws_opt ≤ end_begins slot.records + end_len slot.records.shape slot.records.width
-end_within i w o of pad slot blank now is =
+end_within i w o of pad slot plain now is =
     let s : Shape = i.shape in
     let g : ℕ = o.start.width in
-    let wide : 0 < data_len s g = HaveBlocks.wide (have_blocks i w blank.plain.accepted blank.plain.legal) of.line o now.opened in
+    let wide : 0 < data_len s g = HaveBlocks.wide (have_blocks i w plain.accepted plain.legal) of.line o now.opened in
     let between : data_len s g ≡ g * s.clba - start_len s - end_len s g = data_by (nat_lt (g * s.clba - start_len s - end_len s g) s.ws_opt) (g * s.clba - start_len s - end_len s g) (data_len s g) refl wide in
     let whole : of.at + s.ws_opt ≤ g * s.clba = now.whole in
     let own : of.at + s.ws_opt ≤ start_len s + data_len s g + end_len s g = omega arith in
@@ -256,13 +256,13 @@ end_stripe_is i w pad o of slot shape now kind is same =
 abbrev pub padded_to_stripe : Shape → List Block → List Block
 padded_to_stripe s blocks = blocks ++ replicate (s.ws_opt - length blocks) (pad_block s)
 
-pub data_stripe_is : (i : Image) (w : World) (c : Core) (o : Opening) (of : Placement) (shape : Shape) → IsBlankWorld i w → Stands i (log_of w) c → IsOfferedNow i w c.placer.entries.pad o (program of) → of.kind ≡ kinds.Data → shape ≡ i.shape
+pub data_stripe_is : (i : Image) (w : World) (c : Core) (o : Opening) (of : Placement) (shape : Shape) → IsPlainWorld i w → Stands i (log_of w) c → IsOfferedNow i w c.placer.entries.pad o (program of) → of.kind ≡ kinds.Data → shape ≡ i.shape
     → IsStripeFor i (log_of w) o (program of) (stripe_of of (padded_to_stripe shape (entry_blocks c.window c.holds.rows.items (positions_placed of))))
-data_stripe_is i w c o of shape blank st now kind same =
+data_stripe_is i w c o of shape plain st now kind same =
     stripe_for i w c.placer.entries.pad o of kinds.Data (padded_to_stripe shape (entry_blocks c.window c.holds.rows.items (positions_placed of))) now kind
     (ap₂ padded_to_stripe same
     (ap (entry_blocks c.window c.holds.rows.items) (now.positions ∙ ap (positions_for i.shape (log_of w 0)) kind ∙ positions_are i.shape (log_of w 0) kinds.Data)
-    ∙ waiting_blocks i w c i.shape.ws_opt blank st))
+    ∙ waiting_blocks i w c i.shape.ws_opt plain st))
 
 -- a stripe that was begun, filled with entries and padded
 pub padded_is : (of : Placement) (shape : Shape) (blocks : List Block) (begun filled padded : Filling) → begun ≡ record { shape = shape; stripe = empty_stripe of.line of.unit of.block } → filled ≡ followed_by begun blocks
@@ -282,42 +282,42 @@ told_marks size bytes marks into padded whole same =
 any_stripe : (i : Image) (w : World) (pad : ℕ) (o : Opening) (of : Placement) → IsOfferedNow i w pad o (program of) → IsStripeFor i (log_of w) o (program of) (stripe_of of (blocks_for i.shape (log_of w 0) o of.at of.kind))
 any_stripe i w pad o of now = stripe_for i w pad o of of.kind (blocks_for i.shape (log_of w 0) o of.at of.kind) now refl refl
 
-pub left_room : (i : Image) (w : World) (c : Core) (o : Opening) (of : Placement) → IsBlankWorld i w → Stands i (log_of w) c → IsOfferedNow i w c.placer.entries.pad o (program of) → of.kind ≡ kinds.Data → i.shape.ws_opt ≤ c.left
-left_room i w c o of blank st now kind =
+pub left_room : (i : Image) (w : World) (c : Core) (o : Opening) (of : Placement) → IsPlainWorld i w → Stands i (log_of w) c → IsOfferedNow i w c.placer.entries.pad o (program of) → of.kind ≡ kinds.Data → i.shape.ws_opt ≤ c.left
+left_room i w c o of plain st now kind =
     let stripe : Stripe = stripe_of of (blocks_for i.shape (log_of w 0) o of.at of.kind) in
     let for : IsStripeFor i (log_of w) o (program of) stripe = any_stripe i w c.placer.entries.pad o of now in
     let its = now.its stripe for in
-    let is : IsOfKind i (log_of w) o stripe of.kind = of_kind i w c.placer.entries.pad o (program of) stripe blank now for in
+    let is : IsOfKind i (log_of w) o stripe of.kind = of_kind i w c.placer.entries.pad o (program of) stripe plain now for in
     let less : open_addresses i (log_of w) ≡ open_addresses i (after (log_of w) (Place stripe) []) + entries_for of.kind i.shape.ws_opt =
-    left_by_kind i (log_of w) stripe [] o of.kind blank.plain.accepted (record { opened = its.opened; idle = its.idle }) now.line is in
+    left_by_kind i (log_of w) stripe [] o of.kind plain.accepted (record { opened = its.opened; idle = its.idle }) now.line is in
     let count : entries_for of.kind i.shape.ws_opt ≡ i.shape.ws_opt = ap (λ k. entries_for k i.shape.ws_opt) kind in
     let left : c.left ≡ open_addresses i (log_of w) = st.left in
     omega arith
 
-pub placed_short : (i : Image) (w : World) (c : Core) (o : Opening) (of : Placement) → IsBlankWorld i w → Stands i (log_of w) c → IsOfferedNow i w c.placer.entries.pad o (program of) → of.kind ≡ kinds.Data → c.placed + of.count < 2 ^ 64
-placed_short i w c o of blank st now kind =
+pub placed_short : (i : Image) (w : World) (c : Core) (o : Opening) (of : Placement) → IsPlainWorld i w → Stands i (log_of w) c → IsOfferedNow i w c.placer.entries.pad o (program of) → of.kind ≡ kinds.Data → c.placed + of.count < 2 ^ 64
+placed_short i w c o of plain st now kind =
     let s : Shape = i.shape in
     let log : List Logged = log_of w 0 in
     let stripe : Stripe = stripe_of of (blocks_for s log o of.at of.kind) in
-    let entries : IsData i (log_of w) o stripe = subst (IsOfKind i (log_of w) o stripe) kind (of_kind i w c.placer.entries.pad o (program of) stripe blank now (any_stripe i w c.placer.entries.pad o of now)) in
+    let entries : IsData i (log_of w) o stripe = subst (IsOfKind i (log_of w) o stripe) kind (of_kind i w c.placer.entries.pad o (program of) stripe plain now (any_stripe i w c.placer.entries.pad o of now)) in
     let ts : List Taken = take s.ws_opt (waiting s log) in
     let long : length (positions_placed of) ≡ length ts =
     ap (λ (qs : List ℕ). length qs) (now.positions ∙ ap (positions_for s log) kind ∙ positions_are s log kinds.Data) ∙ length-map ts (λ (t : Taken). t.entry.position) in
     let count : of.count ≡ length (positions_placed of) = now.count in
     let first : length ts ≡ min s.ws_opt (length (waiting s log)) = length-take s.ws_opt (waiting s log) in
     let some : 0 < length (waiting s log) = entries.has_entry in
-    let wide : 0 < s.ws_opt = blank.plain.accepted.drive.ws_opt in
+    let wide : 0 < s.ws_opt = plain.accepted.drive.ws_opt in
     let last = within_some ts (length ts - 1) (omega arith) in
-    let is : IsWaiting i w c last.0 (length ts - 1) = waiting_at i w c (length ts - 1) last.0 blank st (get_taken s.ws_opt (waiting s log) (length ts - 1) last.0 last.1) in
-    let sized : last.0.entry.position < 2 ^ 62 = IsSized.position (all_at (IsSized s) (takes log) is.number last.0 is.there (are_sized i w blank.plain)) in
+    let is : IsWaiting i w c last.0 (length ts - 1) = waiting_at i w c (length ts - 1) last.0 plain st (get_taken s.ws_opt (waiting s log) (length ts - 1) last.0 last.1) in
+    let sized : last.0.entry.position < 2 ^ 62 = IsSized.position (all_at (IsSized s) (takes log) is.number last.0 is.there (are_sized i w plain)) in
     let at : last.0.entry.position ≡ placed_front s log + (length ts - 1) = is.position in
     let front : c.first + c.placed ≡ placed_front s log = st.placed in
     omega arith
 
-pub under_way_short : (i : Image) (w : World) (c : Core) → IsBlankWorld i w → Stands i (log_of w) c → c.under_way + 1 < 2 ^ 32
-under_way_short i w c blank st =
+pub under_way_short : (i : Image) (w : World) (c : Core) → IsPlainWorld i w → Stands i (log_of w) c → c.under_way + 1 < 2 ^ 32
+under_way_short i w c plain st =
     let few : c.under_way ≤ units i.shape = subst (λ n. n ≤ units i.shape) (sym st.in_flight) (few_under_way i.shape (log_of w 0)) in
-    let most : units i.shape ≤ 64 = blank.plain.accepted.drive.few_units in
+    let most : units i.shape ≤ 64 = plain.accepted.drive.few_units in
     omega arith
 
 -- ---- the unit
@@ -345,6 +345,7 @@ pub record IsSettledInto (old mid : Core) (k : ℕ) (slot : KeptLine) (of : Prog
   pub open_count : mid.open.count ≡ old.open.count
   pub open_slots : mid.open.slots.items ≡ slots_for of.kind old.open.slots.items k slot stripe
   pub live : mid.live ≡ old.live
+  pub resets : mid.resets ≡ old.resets
   pub start : mid.start ≡ old.start
   pub first : mid.first ≡ old.first
   pub placed : mid.placed ≡ old.placed + length of.positions
@@ -365,6 +366,7 @@ settled_same old mid kept k slot of stripe same count slots none quiet all = rec
   open_count = ap (λ (c : Core). c.open.count) same ∙ count;
   open_slots = ap (λ (c : Core). c.open.slots.items) same ∙ slots ∙ sym quiet;
   live = ap (λ (c : Core). c.live) same;
+  resets = ap (λ (c : Core). c.resets) same;
   start = ap (λ (c : Core). c.start) same;
   first = ap (λ (c : Core). c.first) same;
   placed = ap (λ (c : Core). c.placed) same ∙ more old.placed (length of.positions) (ap (λ (qs : List ℕ). length qs) none);

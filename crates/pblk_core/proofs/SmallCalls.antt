@@ -16,7 +16,7 @@ use Rattle.write_window.specs.Entries.{is_readable, user_count, users_in}
 use Rattle.write_window.specs.Window.{WindowView}
 use Rattle.write_window.specs.Window as view
 use Rattle.stripe_placer.specs.Placing.{Placing, padded_to}
-use Rattle.core_laws.specs.PlainWorlds.{IsBlankWorld}
+use Rattle.core_laws.specs.PlainWorlds.{IsPlainWorld}
 use Rattle.core_laws.specs.PlacerOf.{positions_of, placing_of}
 use Rattle.core_laws.specs.Positions.{AreNumbered}
 use Rattle.core_laws.specs.WindowOf.{HeldSector, HeldSectors, without_frame, sectors_in, class_of, progress_by, is_given_back, held_of, users_below, window_from}
@@ -31,16 +31,16 @@ use Rattle.landing_laws.proofs.SyncedWindow.{front_synced, numbered_above}
 use Rattle.pblk_core.specs.declared.target_core.Core.{Core}
 use Rattle.pblk_core.specs.Stands.{Stands}
 
-pub numbered_in : (i : Image) (w : World) → IsBlankWorld i w → AreNumbered (log_of w 0)
-numbered_in i w blank = (in_order i w (accepted_small i.shape blank.plain.accepted) blank.plain.legal).numbered
+pub numbered_in : (i : Image) (w : World) → IsPlainWorld i w → AreNumbered (log_of w 0)
+numbered_in i w plain = (in_order i w (accepted_small i.shape plain.accepted) plain.legal).numbered
 
 -- the front synced of the window is that of the logs
-pub synced_stands : (i : Image) (w : World) (c : Core) → IsBlankWorld i w → Stands i (log_of w) c
+pub synced_stands : (i : Image) (w : World) (c : Core) → IsPlainWorld i w → Stands i (log_of w) c
     → view.synced c.window ≡ record { users = users_below (log_of w 0) (synced i.shape (log_of w 0)); position = synced i.shape (log_of w 0) }
-synced_stands i w c blank st =
+synced_stands i w c plain st =
     let a : freed i.shape (log_of w 0) ≤ synced i.shape (log_of w 0) = freed_within i.shape (log_of w 0) in
     let b : c.window.freed ≤ freed i.shape (log_of w 0) = st.to_freed in
-    front_synced i.shape (log_of w 0) c.window.freed c.window (numbered_in i w blank) st.from_first (omega arith) st.window
+    front_synced i.shape (log_of w 0) c.window.freed c.window (numbered_in i w plain) st.from_first (omega arith) st.window
 
 -- ---- users' writes below one more position
 
@@ -159,11 +159,11 @@ map_drop (h ∷ held) = refl
 same_window : (a b : HeldSectors) → a.freed ≡ b.freed → a.users ≡ b.users → a.entries ≡ b.entries → a ≡ b
 same_window a b e f g = λ k. record { freed = e k; users = f k; entries = g k }
 
-by_first : (i : Image) (w : World) (c : Core) (new : WindowView) (t : Taken) → IsBlankWorld i w → Stands i (log_of w) c → IsPopped c.window new
+by_first : (i : Image) (w : World) (c : Core) (new : WindowView) (t : Taken) → IsPlainWorld i w → Stands i (log_of w) c → IsPopped c.window new
     → IsFirstOf i.shape (log_of w 0) c.window.entries (c.window.freed - first_position (log_of w 0)) t
     → (sectors_in new ≡ window_from i.shape (log_of w 0) new.freed) × (new.freed ≤ freed i.shape (log_of w 0))
-by_first i w c new t blank st is first =
-    let numbered : AreNumbered (log_of w 0) = numbered_in i w blank in
+by_first i w c new t plain st is first =
+    let numbered : AreNumbered (log_of w 0) = numbered_in i w plain in
     let low : first_position (log_of w 0) ≤ c.window.freed = st.from_first in
     let at : t.entry.position ≡ first_position (log_of w 0) + (c.window.freed - first_position (log_of w 0)) =
     numbered_at (first_position (log_of w 0)) (length (takes (log_of w 0))) (takes (log_of w 0)) (c.window.freed - first_position (log_of w 0)) t numbered first.there in
@@ -181,17 +181,17 @@ by_first i w c new t blank st is first =
       subst (λ n. n ≤ freed i.shape (log_of w 0)) (sym is.freed) past,
     )
 
-pub popped_window : (i : Image) (w : World) (c : Core) (new : WindowView) → IsBlankWorld i w → Stands i (log_of w) c → IsPopped c.window new
+pub popped_window : (i : Image) (w : World) (c : Core) (new : WindowView) → IsPlainWorld i w → Stands i (log_of w) c → IsPopped c.window new
     → (sectors_in new ≡ window_from i.shape (log_of w 0) new.freed) × (new.freed ≤ freed i.shape (log_of w 0))
-popped_window i w c new blank st is =
+popped_window i w c new plain st is =
     let first : (t : Taken) × IsFirstOf i.shape (log_of w 0) c.window.entries (c.window.freed - first_position (log_of w 0)) t =
     first_of_log i.shape (log_of w 0) c.window.entries (c.window.freed - first_position (log_of w 0)) (ap (λ (x : HeldSectors). x.entries) st.window) (first_held c.window is.readable) in
-    by_first i w c new first.0 blank st is first.1
+    by_first i w c new first.0 plain st is first.1
 
 -- the core with another window stands as it did
-pub popped_stands : (i : Image) (w : World) (c : Core) (new : WindowView) → IsBlankWorld i w → Stands i (log_of w) c → IsPopped c.window new → Stands i (log_of w) (record c { window = new })
-popped_stands i w c new blank st is =
-    let has = popped_window i w c new blank st is in
+pub popped_stands : (i : Image) (w : World) (c : Core) (new : WindowView) → IsPlainWorld i w → Stands i (log_of w) c → IsPopped c.window new → Stands i (log_of w) (record c { window = new })
+popped_stands i w c new plain st is =
+    let has = popped_window i w c new plain st is in
     record {
       layout = st.layout;
       beginning = st.beginning;
@@ -200,6 +200,7 @@ popped_stands i w c new blank st is =
       slots = st.slots;
       table = st.table;
       units = st.units;
+      resets = st.resets;
       size = is.size ∙ st.size;
       window = has.0;
       from_first = let low : first_position (log_of w 0) ≤ c.window.freed = st.from_first in let more : new.freed ≡ c.window.freed + 1 = is.freed in omega arith;
@@ -211,6 +212,7 @@ popped_stands i w c new blank st is =
       first_seq = st.first_seq;
       own_capacity = st.own_capacity;
       older = st.older;
+      fits = record { first = st.fits.first; rows = st.fits.rows };
       first = st.first;
       placed = st.placed;
       left = st.left;
@@ -219,13 +221,13 @@ popped_stands i w c new blank st is =
     }
 
 -- by what the window's call says of its result
-pub popped_else : {F : Type 0} (i : Image) (w : World) (c : Core) (new : WindowView) (o : Option F) → IsBlankWorld i w → Stands i (log_of w) c
+pub popped_else : {F : Type 0} (i : Image) (w : World) (c : Core) (new : WindowView) (o : Option F) → IsPlainWorld i w → Stands i (log_of w) c
     → (IsSome o ↔ (view.is_readable_at c.window c.window.freed ≡ true)) → IfNone o (new ≡ c.window) → OnSome o (new.freed ≡ c.window.freed + 1)
     → OnSome o (new.entries ≡ drop 1 c.window.entries) → OnSome o (new.users ≡ c.window.users + users_in (take 1 c.window.entries)) → new.size ≡ c.window.size
     → Stands i (log_of w) (record c { window = new })
-popped_else i w c new None blank st some same passed entries users size = subst (λ (v : WindowView). Stands i (log_of w) (record c { window = v })) (sym same) st
-popped_else i w c new (Some f) blank st some same passed entries users size =
-    popped_stands i w c new blank st (record { readable = some.0 refl; size = size; freed = passed; users = users; entries = entries })
+popped_else i w c new None plain st some same passed entries users size = subst (λ (v : WindowView). Stands i (log_of w) (record c { window = v })) (sym same) st
+popped_else i w c new (Some f) plain st some same passed entries users size =
+    popped_stands i w c new plain st (record { readable = some.0 refl; size = size; freed = passed; users = users; entries = entries })
 
 -- ---- the pad target
 
@@ -238,6 +240,7 @@ padded_stands i logs c new to st is = record {
   slots = st.slots;
   table = st.table;
   units = st.units;
+  resets = st.resets;
   size = st.size;
   window = st.window;
   from_first = st.from_first;
@@ -249,6 +252,7 @@ padded_stands i logs c new to st is = record {
   first_seq = st.first_seq;
   own_capacity = st.own_capacity;
   older = st.older;
+  fits = record { first = st.fits.first; rows = st.fits.rows };
   first = st.first;
   placed = st.placed;
   left = st.left;

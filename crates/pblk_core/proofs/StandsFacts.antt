@@ -1,5 +1,5 @@
 -- What a core that stands for a legal world keeps.
-use Rattle.std.proofs.Common.{◌≡◌, ℕ, ◌+◌, ◌-◌, ◌*◌, ◌<◌, ◌≤◌, List, [], ◌∷◌, length, Bool, true, false, cond, None, sym, ap, ◌∙◌, arith, length-drop}
+use Rattle.std.proofs.Common.{◌≡◌, ◌+◌, ◌-◌, ◌*◌, ◌<◌, ◌≤◌, List, [], ◌∷◌, length, Bool, true, false, cond, sym, ap, ◌∙◌, arith, length-drop}
 use Rattle.std.proofs.lemmas.List.{length-map}
 use Rattle.std.specs.Prelude.{drop}
 use Rattle.pblk_model.specs.declared.shape.Shape.{Shape}
@@ -8,20 +8,12 @@ use Rattle.pblk_model.specs.Shape.{units}
 use Rattle.pblk_model.specs.Image.{Image}
 use Rattle.pblk_world.specs.World.{World, log_of}
 use Rattle.std.specs.List.{filter}
-use Rattle.pblk_model.specs.StartRecord.{start_of}
-use Rattle.pblk_world.specs.Events.{EngineEvent, Decides}
-use Rattle.pblk_world.specs.EngineLog.{Taken, takes, begun_by}
-use Rattle.pblk_world.specs.Lines.{found_image}
-use Rattle.pblk_world.specs.Starts.{older_rows}
-use Rattle.core_laws.specs.Stepping.{after}
-use Rattle.line_laws.proofs.Blank.{found_blank, no_counted, blank_start, no_older}
-use Rattle.pblk_model.specs.Contents.{counted}
-use Rattle.line_laws.proofs.KeptRows.{found_kept}
+use Rattle.pblk_world.specs.EngineLog.{Taken, takes}
 use Rattle.pblk_world.specs.Fronts.{first_position, taken, synced, is_users, user_takes}
 use Rattle.pblk_world.specs.Space.{freed}
 use Rattle.pblk_world.proofs.SyncedFront.{synced_within}
 use Rattle.write_window.specs.Window as view
-use Rattle.core_laws.specs.PlainWorlds.{IsBlankWorld}
+use Rattle.core_laws.specs.PlainWorlds.{IsPlainWorld}
 use Rattle.core_laws.specs.Positions.{IsUnplaced}
 use Rattle.core_laws.specs.WindowOf.{without_frame, held_of, HeldSectors}
 use Rattle.core_laws.proofs.PlacedPositions.{taken_is_unplaced}
@@ -52,15 +44,8 @@ window_taken_is i w c st =
     let high : c.window.freed ≤ first_position (log_of w 0) + length (takes (log_of w 0)) = freed_taken_within i w c st in
     omega arith
 
-pub next_is_unplaced : (i : Image) (w : World) → IsBlankWorld i w → IsUnplaced i.shape (log_of w 0) (taken (log_of w 0))
-next_is_unplaced i w blank = taken_is_unplaced i.shape (log_of w 0) (in_order i w (accepted_small i.shape blank.plain.accepted) blank.plain.legal).taken
-
--- a drive on which nothing was written has no line of an older mount, whatever event comes
-pub older_none : (i : Image) (w : World) (e : EngineEvent) (knows : List ℕ) → IsBlankWorld i w → begun_by knows (Decides e) ≡ None → older_rows i (log_of w) ≡ older_rows i (after (log_of w) e knows)
-older_none i w e knows blank none =
-    let start : (line : ℕ) → start_of (found_image i (log_of w)) line ≡ None = blank_start i w blank.plain.accepted blank.plain.legal blank.free in
-    no_older i (log_of w) start
-    ∙ sym (no_older i (after (log_of w) e knows) (λ line. ap (λ (j : Image). start_of j line) (found_kept i (log_of w) e knows none) ∙ start line))
+pub next_is_unplaced : (i : Image) (w : World) → IsPlainWorld i w → IsUnplaced i.shape (log_of w 0) (taken (log_of w 0))
+next_is_unplaced i w plain = taken_is_unplaced i.shape (log_of w 0) (in_order i w (accepted_small i.shape plain.accepted) plain.legal).taken
 
 -- how many users' writes were taken
 pub users_few : (i : Image) (w : World) (c : Core) → Stands i (log_of w) c → c.users ≤ taken (log_of w 0)
@@ -75,6 +60,3 @@ users_few i w c st =
 
 pub ring_some : (s : Shape) → IsAccepted s → 0 < s.ring
 ring_some s accepted = let low : units s * (s.mw_cunits + 4 * s.ws_opt) + 16 ≤ s.ring = accepted.target.ring_low in omega arith
-
-pub counted_none : (i : Image) (w : World) → IsBlankWorld i w → counted (found_image i (log_of w)) ≡ []
-counted_none i w blank = ap counted (found_blank i w blank.plain.legal blank.free) ∙ no_counted i blank.plain.accepted blank.free

@@ -1,5 +1,5 @@
 -- A core that opened a line stands for the log with it.
-use Rattle.std.proofs.Common.{◌≡◌, ◌≢◌, ◌⊎◌, eqb, ℕ, ◌+◌, ◌-◌, ◌*◌, ◌/◌, ◌<◌, ◌≤◌, true, false, Some, List, [], ◌∷◌, ◌++◌, length, refl, sym, subst, ap, ap₂, ◌∙◌, arith, inl, inr, length-append, length-set, append-nil, le_refl, take}
+use Rattle.std.proofs.Common.{◌≡◌, ◌≢◌, ◌⊎◌, eqb, ℕ, ◌+◌, ◌-◌, ◌*◌, ◌/◌, ◌<◌, ◌≤◌, true, false, Some, List, [], ◌∷◌, ◌++◌, length, refl, sym, subst, ap, ap₂, ◌∙◌, arith, inl, inr, length-append, length-set, append-nil, le_refl, take, nat_eq, Bool, if◌then◌else◌}
 use Rattle.std.specs.Prelude.{map, slice_get, slice_set, slice_range}
 use Rattle.std.specs.List.{Contains, filter, flat_map, list_any, range_with_len}
 use Rattle.std.specs.Option.{option_map, is_some}
@@ -8,19 +8,19 @@ use Rattle.std.proofs.Math.Seq.{drop-nil, take-nil}
 use Rattle.std.proofs.lemmas.Option.{same_Some, slice_get_within}
 use Rattle.pblk_model.specs.declared.shape.Shape.{Shape}
 use Rattle.pblk_model.specs.Chunk.{Block}
-use Rattle.pblk_model.specs.StartRecord.{start_bytes}
+use Rattle.pblk_model.specs.StartRecord.{start_bytes, start_of}
 use Rattle.pblk_model.specs.Image.{Image, line_units}
 use Rattle.pblk_model.specs.LineOrder.{start_len, data_len}
 use Rattle.pblk_meta.specs.Records.{start_numbers}
 use Rattle.pblk_world.specs.Events.{Open, EngineEvent, Decides, Logged}
 use Rattle.pblk_world.specs.World.{World, Logs, log_of}
-use Rattle.pblk_world.specs.EngineLog.{Taken, takes, Opening, openings, Placed, placements, stripes_of, is_life, has_landed}
+use Rattle.pblk_world.specs.EngineLog.{Taken, takes, Opening, openings, Placed, placements, stripes_of, is_life, has_landed, is_as_found, Opened, life_of}
 use Rattle.pblk_world.specs.Fronts.{first_position, is_users}
-use Rattle.pblk_world.specs.Lines.{known_image}
+use Rattle.pblk_world.specs.Lines.{known_image, found_image}
 use Rattle.pblk_world.specs.Opening.{MayOpen}
 use Rattle.pblk_world.specs.Placing.{end_address}
 use Rattle.pblk_world.specs.Space.{freed, gives_back}
-use Rattle.pblk_world.proofs.Appending.{takes_more, openings_more}
+use Rattle.pblk_world.proofs.Appending.{takes_more, openings_more, life_more}
 use Rattle.line_table.specs.declared.row.LineState.TheVariants as states
 use Rattle.line_table.specs.Rows.{Changes, turned}
 use Rattle.line_table.proofs.Places.{get_within, get_set_same, get_set_other, each_more}
@@ -29,7 +29,7 @@ use Rattle.write_window.specs.Window as view
 use Rattle.core_laws.specs.Stepping.{after}
 use Rattle.core_laws.specs.OpenedLines.{bits_of, live_now, open_line, standing}
 use Rattle.core_laws.specs.PlacerOf.{placing_of}
-use Rattle.core_laws.specs.PlainWorlds.{IsBlankWorld}
+use Rattle.core_laws.specs.PlainWorlds.{IsPlainWorld}
 use Rattle.core_laws.specs.RowsOf.{rows_of, row_of_line}
 use Rattle.core_laws.specs.WindowOf.{is_given_back, sectors_in, window_from}
 use Rattle.core_laws.proofs.Engine.{prefix_whole}
@@ -61,8 +61,11 @@ use Rattle.pblk_core.specs.Named.{next_line, next_units, next_start}
 use Rattle.stripe_placer.specs.OpenLines.{has_left}
 use Rattle.std.proofs.lemmas.Bool.Decides.{eqb_tells}
 use Rattle.pblk_core.proofs.OpeningFacts.{MayOpenNext, IsNextLine, next_line_is, next_may_open}
-use Rattle.pblk_core.proofs.StandsFacts.{older_none}
 use Rattle.pblk_core.proofs.SteadyLines.{open_same, under_way_same}
+use Rattle.pblk_core.proofs.FoundLines.{HasOldRow, free_unstarted, older_kept}
+use Rattle.pblk_core.proofs.KeptResets.{resets_opened, fits_same}
+use Rattle.pblk_core.specs.Resets.{resets_left}
+use Rattle.std.proofs.lemmas.Bool.{eqb-true}
 
 -- ---- entries and their rows
 
@@ -76,7 +79,7 @@ hold_same s log e knows t quiet = ap₂ (λ l u. record { mark = t.mark; line = 
     (line_same s log (record { event = Decides e; knows = knows }) t.entry.position quiet.places)
     (later_same log (record { event = Decides e; knows = knows }) t quiet.takes)
 
-takes_same : (log : List Logged) (e : EngineEvent) (knows : List ℕ) → IsQuiet log e knows → takes (log ++ record { event = Decides e; knows = knows } ∷ []) ≡ takes log
+pub takes_same : (log : List Logged) (e : EngineEvent) (knows : List ℕ) → IsQuiet log e knows → takes (log ++ record { event = Decides e; knows = knows } ∷ []) ≡ takes log
 takes_same log e knows quiet = takes_more log (record { event = Decides e; knows = knows }) ∙ ap (λ o. takes log ++ o) (ap (λ o. Rattle.std.specs.Option.option_to_list o) quiet.takes) ∙ append-nil (takes log)
 
 pub quiet_holds : (s : Shape) (log : List Logged) (e : EngineEvent) (knows : List ℕ) (holds : Holds) → IsQuiet log e knows → AreHolds s log holds → AreHolds s (log ++ record { event = Decides e; knows = knows } ∷ []) holds
@@ -128,6 +131,7 @@ pub record IsOpenedInto (old new : Core) : Type 0 where
   pub open_slots : (line : OpenLine) → IsSlot old.open old.open.count line → new.open.slots.items ≡ slice_set old.open.slots.items old.open.count
       (opened_slot line (next_start old) (next_units old) ((next_start old).width * (old.layout.clba / old.layout.ws_opt)))
   pub live : new.live ≡ old.live
+  pub resets : new.resets ≡ old.resets
   pub seq : new.start.seq ≡ old.start.seq + 1
   pub first_seq : new.start.first_seq ≡ old.start.first_seq
   pub own_capacity : new.start.capacity ≡ old.start.capacity
@@ -153,9 +157,9 @@ set_at lines n k x line inside there = go (eqb_tells k n)
 one_more : (n : ℕ) → n < 2 → n + 1 ≤ 2
 one_more n h = omega arith
 
-pub lines_opened : (i : Image) (w : World) (knows : List ℕ) (old new : Core) → IsBlankWorld i w → Stands i (log_of w) old → MayOpenNext old → IsOpenedInto old new
+pub lines_opened : (i : Image) (w : World) (knows : List ℕ) (old new : Core) → IsPlainWorld i w → Stands i (log_of w) old → MayOpenNext old → IsOpenedInto old new
     → AreOpenLines i (after (log_of w) (Open (next_line old) (next_start old)) knows) new.open
-lines_opened i w knows old new blank st may is = record {
+lines_opened i w knows old new plain st may is = record {
   two = ap length slots_are ∙ length-set old.open.slots.items old.open.count x ∙ st.open_lines.two;
   shapes = λ k line there. go k line (set_at old.open.slots.items old.open.count k x line inside (ap (λ ls. slice_get ls k) (sym slots_are) ∙ there));
   few = subst (λ n. n ≤ 2) (sym is.open_count) (one_more old.open.count may.few);
@@ -177,7 +181,7 @@ lines_opened i w knows old new blank st may is = record {
     alike = quiet_alike (log_of w 0) e knows quiet
 
     line_is : IsNextLine i w old
-    line_is = next_line_is i w old blank st may
+    line_is = next_line_is i w old plain st may
 
     inside : old.open.count < length old.open.slots.items
     inside = let two : length old.open.slots.items ≡ 2 = st.open_lines.two in let few : old.open.count < 2 = may.few in omega arith
@@ -232,9 +236,9 @@ lines_opened i w knows old new blank st may is = record {
               ∙ sym (ap (λ (ps : List Placed). (next_start old).width * (i.shape.clba / i.shape.ws_opt) - length (filter (has_landed (new_logs 0)) ps)) none);
         })
 
-pub opened_stands : (i : Image) (w : World) (knows : List ℕ) (old new : Core) → IsBlankWorld i w → Stands i (log_of w) old → MayOpenNext old → IsOpenedInto old new
+pub opened_stands : (i : Image) (w : World) (knows : List ℕ) (old new : Core) → IsPlainWorld i w → Stands i (log_of w) old → MayOpenNext old → IsOpenedInto old new
     → Stands i (after (log_of w) (Open (next_line old) (next_start old)) knows) new
-opened_stands i w knows old new blank st may is = record {
+opened_stands i w knows old new plain st may is = record {
   layout = is.layout ∙ st.layout;
   beginning = st.beginning;
   has_begun = begun_kept (log_of w 0) e knows refl ∙ st.has_begun;
@@ -242,6 +246,7 @@ opened_stands i w knows old new blank st may is = record {
   slots = λ x within. ap (λ m. fin.get m x) is.map ∙ st.slots x within ∙ ap Some (sym (quiet_slot i (log_of w) e knows x quiet));
   table = table_is;
   units = ap (λ l. l.items) is.live ∙ st.units ∙ map_same (live_now i (log_of w)) (live_now i new_logs) (λ line. ap (λ (j : Image). bits_of (line_units j line)) (sym (known_kept i (log_of w) e knows refl (λ unit. refl)))) (range_with_len 0 i.shape.chunks);
+  resets = ap resets_left is.resets ∙ st.resets ∙ sym (resets_opened i (log_of w) (next_line old) (next_start old) knows line_is.least.is_free);
   size = ap (λ v. v.size) is.window ∙ st.size;
   window = ap sectors_in is.window ∙ st.window ∙ sym (quiet_window i.shape (log_of w) e knows old.window.freed quiet) ∙ ap (λ (v : view.WindowView). window_from i.shape (new_logs 0) v.freed) (sym is.window);
   from_first = subst (λ v. first_position (new_logs 0) ≤ v.freed) (sym is.window) (subst (λ p. p ≤ old.window.freed) (sym first_is) st.from_first);
@@ -251,11 +256,12 @@ opened_stands i w knows old new blank st may is = record {
       subst (λ v. v.freed ≤ freed i.shape (new_logs 0)) (sym is.window) (omega arith);
   holds = subst (AreHolds i.shape (new_logs 0)) (sym is.holds) (quiet_holds i.shape (log_of w 0) e knows old.holds quiet st.holds);
   placing = placing_is;
-  open_lines = lines_opened i w knows old new blank st may is;
+  open_lines = lines_opened i w knows old new plain st may is;
   next_seq = is.seq ∙ seq_is;
   first_seq = is.first_seq ∙ st.first_seq;
   own_capacity = is.own_capacity ∙ st.own_capacity;
-  older = ap (λ rs. map Rattle.pblk_meta.specs.Records.row_numbers rs) is.older ∙ st.older ∙ older_none i w e knows blank refl;
+  older = ap (λ rs. map Rattle.pblk_meta.specs.Records.row_numbers rs) is.older ∙ st.older ∙ older_kept i (log_of w) e knows st.beginning st.has_begun refl (λ line. old_row line (nat_eq (next_line old) line) refl);
+  fits = fits_same old new is.first is.first_seq (ap (λ rs. map Rattle.pblk_meta.specs.Records.row_numbers rs) is.older) st.fits;
   first = is.first ∙ st.first ∙ sym first_is;
   placed = ap₂ (λ a b. a + b) is.first is.placed ∙ st.placed ∙ sym (front_kept i.shape (log_of w 0) e knows refl);
   left = is.left ∙ ap₂ (λ a (s : Shape). a + data_len s (next_start old).width) st.left st.layout ∙ sym (addresses_opened i (log_of w) (next_line old) (next_start old) knows line_is.least.in_range line_is.closed);
@@ -276,13 +282,18 @@ opened_stands i w knows old new blank st may is = record {
     alike = quiet_alike (log_of w 0) e knows quiet
 
     line_is : IsNextLine i w old
-    line_is = next_line_is i w old blank st may
+    line_is = next_line_is i w old plain st may
 
     allowed : MayOpen i (log_of w) st.beginning (next_line old) (next_start old)
-    allowed = next_may_open i w old st.beginning blank st may st.has_begun
+    allowed = next_may_open i w old st.beginning plain st may st.has_begun
 
     first_is : first_position (new_logs 0) ≡ first_position (log_of w 0)
     first_is = first_stays (log_of w 0) (record { event = Decides e; knows = knows }) st.beginning st.has_begun
+
+    old_row : (line : ℕ) (c : Bool) → nat_eq (next_line old) line ≡ c → HasOldRow i (log_of w) (after (log_of w) (Open (next_line old) (next_start old)) knows) line
+    old_row line true f = inr (ap (λ n. start_of (found_image i (log_of w)) n) (sym (eqb-true (next_line old) line f)) ∙ free_unstarted i (log_of w) (next_line old) plain.engine line_is.least.is_free)
+    old_row line false f = inl (ap is_as_found (life_more (log_of w 0) (record { event = Decides (Open (next_line old) (next_start old)); knows = knows }) line
+        ∙ ap (λ c. if c then Opened (record { number = length (log_of w 0); line = line; start = next_start old; knows = knows }) else life_of (log_of w 0) line) f))
 
     there : slice_get old.lines.rows (next_line old) ≡ Some (row_of_line i (log_of w) (0 + next_line old))
     there = ap (λ t. slice_get t.rows (next_line old)) st.table ∙ row_there (row_of_line i (log_of w)) i.shape.chunks 0 (next_line old) line_is.least.in_range
@@ -291,7 +302,7 @@ opened_stands i w knows old new blank st may is = record {
     table_is =
         changed_is old.lines new.lines (next_line old) (turned states.Open (next_start old).width) (row_of_line i (log_of w) (0 + next_line old)) there is.lines
         ∙ ap (with_row (next_line old) (turned states.Open (next_start old).width)) st.table
-        ∙ sym (rows_opened i (log_of w) st.beginning (next_line old) (next_start old) knows blank.plain.accepted.drive (none_freed (log_of w 0) blank.plain.engine) allowed)
+        ∙ sym (rows_opened i (log_of w) st.beginning (next_line old) (next_start old) knows plain.accepted.drive (none_freed (log_of w 0) plain.engine) allowed)
 
     placing_is : new.placer ≡ placing_of i new_logs new.placer.entries.pad []
     placing_is =

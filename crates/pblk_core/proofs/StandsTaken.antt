@@ -13,7 +13,7 @@ use Rattle.pblk_model.specs.Chunk.{IsBlock}
 use Rattle.pblk_world.specs.Taking.{IsMarked, MayTake}
 use Rattle.pblk_world.specs.Events.{Entry, Take, Decides, Logged}
 use Rattle.pblk_world.specs.World.{Logs}
-use Rattle.pblk_world.specs.EngineLog.{Begun, begun, Taken, takes, openings}
+use Rattle.pblk_world.specs.EngineLog.{Begun, begun, Taken, takes, openings, is_as_found}
 use Rattle.pblk_world.specs.Fronts.{first_position, taken, user_takes}
 use Rattle.pblk_world.specs.Space.{freed}
 use Rattle.pblk_world.proofs.Appending.{takes_more, openings_more, life_more}
@@ -35,7 +35,7 @@ use Rattle.pblk_core.specs.Stands.{Stands, AreOpenLines}
 use Rattle.pblk_core.proofs.SteadyLines.{open_lines_same, under_way_same}
 use Rattle.pblk_world.specs.Starts.{older_rows}
 use Rattle.line_laws.proofs.OpenAddresses.{addresses_kept}
-use Rattle.pblk_core.proofs.StandsFacts.{freed_taken_within, window_taken_is, next_is_unplaced, older_none}
+use Rattle.pblk_core.proofs.StandsFacts.{freed_taken_within, window_taken_is, next_is_unplaced}
 use Rattle.std.proofs.lemmas.List.{map-append}
 use Rattle.pblk_meta.specs.Records.{start_numbers}
 use Rattle.core_laws.specs.PlacerOf.{placing_of}
@@ -48,7 +48,6 @@ use Rattle.sector_pool.specs.declared.entry.Source.{Source as EntrySource}
 use Rattle.std.specs.Option.{option_map}
 use Rattle.pblk_core.proofs.TakenHolds.{holds_taken}
 use Rattle.pblk_core.proofs.LiveLine.{line_is}
-use Rattle.pblk_core.proofs.StandsFacts.{counted_none}
 use Rattle.pblk_world.specs.Fronts.{last_take}
 use Rattle.pblk_world.specs.Victims.{line_of}
 use Rattle.core_laws.specs.RowsOf.{rows_of}
@@ -74,7 +73,7 @@ use Rattle.sector_pool.specs.declared.entry.Entry.{Entry as FramedEntry}
 use Rattle.write_window.specs.declared.held.Progress.TheVariants.{Waiting}
 use Rattle.write_window.specs.Window as view
 use Rattle.stripe_placer.specs.Placing.{waits}
-use Rattle.core_laws.specs.PlainWorlds.{IsBlankWorld}
+use Rattle.core_laws.specs.PlainWorlds.{IsPlainWorld}
 use Rattle.core_laws.proofs.Lists.{map_same}
 use Rattle.pblk_model.specs.Contents.{least_missing}
 use Rattle.pblk_world.specs.EngineLog.{placements}
@@ -83,6 +82,9 @@ use Rattle.pblk_world.specs.World.{World, log_of}
 use Rattle.std.specs.List.{list_any}
 use Rattle.std.specs.Prelude.{slice_set, ◌%◌}
 use Rattle.std.proofs.lemmas.Bool.Decides.{nat_tests, eqb_tells}
+use Rattle.pblk_core.proofs.FoundLines.{older_kept}
+use Rattle.pblk_core.proofs.KeptResets.{resets_quiet, fits_same}
+use Rattle.pblk_core.specs.Resets.{resets_left}
 
 -- ---- the map
 
@@ -152,6 +154,7 @@ pub record IsTakenInto (old new : Core) (e : FramedEntry) : Type 0 where
       (e.position % length (rows_with_taker slot e.position old.holds.rows.items)) (record { mark = mark_of e; line = None; taker = None })
   pub open_lines : new.open ≡ old.open
   pub live : new.live ≡ old.live
+  pub resets : new.resets ≡ old.resets
   pub start : new.start ≡ old.start
   pub first : new.first ≡ old.first
   pub placed : new.placed ≡ old.placed
@@ -184,29 +187,29 @@ waiting_is e none user = λ k. record {
     from (Some at) = refl
 
 -- the line of a slot is one of the drive, and has a live sector
-slot_line : (i : Image) (w : World) (c : Core) (lba : ℕ) (slot : Slot) (line : ℕ) → IsBlankWorld i w → Stands i (log_of w) c → fin.get c.map lba ≡ Some slot → lba < i.shape.capacity
+slot_line : (i : Image) (w : World) (c : Core) (lba : ℕ) (slot : Slot) (line : ℕ) → IsPlainWorld i w → Stands i (log_of w) c → fin.get c.map lba ≡ Some slot → lba < i.shape.capacity
     → line_of_slot c.holds.rows.items slot ≡ Some line → line_of i (log_of w) lba (last_take (log_of w 0) lba) ≡ Some line
-slot_line i w c lba slot line blank st found inside is =
+slot_line i w c lba slot line plain st found inside is =
     let now : slot ≡ slot_of i (log_of w) lba = same_Some slot (slot_of i (log_of w) lba) (sym found ∙ st.slots lba inside) in
-    sym (line_is i w c.holds lba blank (counted_none i w blank) st.holds) ∙ sym (ap (line_of_slot c.holds.rows.items) now) ∙ is
+    sym (line_is i w c.holds lba plain st.holds) ∙ sym (ap (line_of_slot c.holds.rows.items) now) ∙ is
 
-pub live_there : (i : Image) (w : World) (c : Core) (lba : ℕ) (slot : Slot) (line : ℕ) (row : Row) → IsBlankWorld i w → Stands i (log_of w) c → fin.get c.map lba ≡ Some slot → lba < i.shape.capacity
+pub live_there : (i : Image) (w : World) (c : Core) (lba : ℕ) (slot : Slot) (line : ℕ) (row : Row) → IsPlainWorld i w → Stands i (log_of w) c → fin.get c.map lba ≡ Some slot → lba < i.shape.capacity
     → line_of_slot c.holds.rows.items slot ≡ Some line → IsRow c.lines line row → 0 < row.live
-live_there i w c lba slot line row blank st found inside is there =
-    let some : 0 < live i (log_of w) line = live_some i (log_of w) line lba inside (slot_line i w c lba slot line blank st found inside is) in
+live_there i w c lba slot line row plain st found inside is there =
+    let some : 0 < live i (log_of w) line = live_some i (log_of w) line lba inside (slot_line i w c lba slot line plain st found inside is) in
     let at : slice_get (map (row_of_line i (log_of w)) (range_with_len 0 i.shape.chunks)) line ≡ Some row = sym (ap (λ (t : Table). slice_get t.rows line) st.table) ∙ there in
     subst (λ (r : Row). 0 < r.live) ((row_at (row_of_line i (log_of w)) i.shape.chunks 0 line row at).1) (subst (λ n. 0 < live i (log_of w) n) (sym (zero-add line)) some)
 
-pub live_inside : (i : Image) (w : World) (c : Core) (lba : ℕ) (slot : Slot) (line : ℕ) → IsBlankWorld i w → Stands i (log_of w) c → fin.get c.map lba ≡ Some slot → lba < i.shape.capacity
+pub live_inside : (i : Image) (w : World) (c : Core) (lba : ℕ) (slot : Slot) (line : ℕ) → IsPlainWorld i w → Stands i (log_of w) c → fin.get c.map lba ≡ Some slot → lba < i.shape.capacity
     → line_of_slot c.holds.rows.items slot ≡ Some line → line < length c.lines.rows
-live_inside i w c lba slot line blank st found inside is =
-    let low : line < i.shape.chunks = line_in_range i (log_of w) lba (last_take (log_of w 0) lba) line (plain_in_order i w blank.plain).placed (slot_line i w c lba slot line blank st found inside is) in
+live_inside i w c lba slot line plain st found inside is =
+    let low : line < i.shape.chunks = line_in_range i (log_of w) lba (last_take (log_of w 0) lba) line (plain_in_order i w plain).placed (slot_line i w c lba slot line plain st found inside is) in
     subst (λ n. line < n) (sym (ap (λ (t : Table). length t.rows) st.table ∙ length-map-range_with_len (row_of_line i (log_of w)) 0 i.shape.chunks)) low
 
-pub taken_stands : (i : Image) (w : World) (knows : List ℕ) (old new : Core) (e : FramedEntry) → IsBlankWorld i w → Stands i (log_of w) old → IsTakenInto old new e
+pub taken_stands : (i : Image) (w : World) (knows : List ℕ) (old new : Core) (e : FramedEntry) → IsPlainWorld i w → Stands i (log_of w) old → IsTakenInto old new e
     → e.position ≡ view.taken old.window → length old.window.entries < old.window.size → e.class ≡ User → e.source ≡ None → e.lba < i.shape.capacity
     → Stands i (after (log_of w) (Take (entry_of e) (mark_of e)) knows) new
-taken_stands i w knows old new e blank st is position room class user inside = record {
+taken_stands i w knows old new e plain st is position room class user inside = record {
   layout = is.layout ∙ st.layout;
   beginning = st.beginning;
   has_begun = begun_kept (log_of w 0) (Take (entry_of e) (mark_of e)) knows refl ∙ st.has_begun;
@@ -214,11 +217,12 @@ taken_stands i w knows old new e blank st is position room class user inside = r
   slots = λ x within. ap (λ m. fin.get m x) is.map ∙ slots_taken i (log_of w) (entry_of e) (mark_of e) knows old.map x unplaced refl st.slots within;
   table = is.lines ∙ ap₂ (λ o t. lose_in o e.position t) line_now st.table ∙ sym table_now;
   units = ap (λ l. l.items) is.live ∙ st.units ∙ map_same (live_now i (log_of w)) (live_now i new_logs) (λ line. sym (units_taken i (log_of w) (entry_of e) (mark_of e) knows line)) (range_with_len 0 i.shape.chunks);
+  resets = ap resets_left is.resets ∙ st.resets ∙ sym (resets_quiet i (log_of w) (Take (entry_of e) (mark_of e)) knows refl (λ unit. refl) (λ line. life_more (log_of w 0) (record { event = Decides (Take (entry_of e) (mark_of e)); knows = knows }) line));
   size = ap (λ v. v.size) is.window ∙ st.size;
   window = window_is;
   from_first = subst (λ v. first_position (new_logs 0) ≤ v.freed) (sym is.window) (subst (λ p. p ≤ old.window.freed) (sym first_is) st.from_first);
   to_freed = subst (λ v. v.freed ≤ freed i.shape (new_logs 0)) (sym is.window) (le_trans st.to_freed (freed_taken i.shape (log_of w 0) (entry_of e) (mark_of e) knows st.beginning st.has_begun));
-  holds = holds_taken i (log_of w) knows (entry_of e) (mark_of e) old.holds new.holds old.window.freed (in_order i w (accepted_small i.shape blank.plain.accepted) blank.plain.legal).numbered
+  holds = holds_taken i (log_of w) knows (entry_of e) (mark_of e) old.holds new.holds old.window.freed (in_order i w (accepted_small i.shape plain.accepted) plain.legal).numbered
       unplaced st.holds refl taken_is st.to_freed within holds_are;
   placing = placing_is;
   open_lines = subst (AreOpenLines i new_logs) (sym is.open_lines) (open_lines_same i (log_of w) (Take (entry_of e) (mark_of e)) knows old.open (alike (log_of w 0) (entry_of e) (mark_of e) knows) (standing_taken (log_of w 0) (entry_of e) (mark_of e) knows) st.open_lines);
@@ -226,6 +230,7 @@ taken_stands i w knows old new e blank st is position room class user inside = r
   first_seq = ap (λ r. r.first_seq) is.start ∙ st.first_seq;
   own_capacity = ap (λ r. r.capacity) is.start ∙ st.own_capacity;
   older = ap (λ r. (start_numbers r).rows) is.start ∙ st.older ∙ older_is;
+  fits = fits_same old new is.first (ap (λ r. r.first_seq) is.start) (ap (λ r. (start_numbers r).rows) is.start) st.fits;
   first = is.first ∙ st.first ∙ sym first_is;
   placed = ap₂ (λ a b. a + b) is.first is.placed ∙ st.placed ∙ sym (front_taken i.shape (log_of w 0) (entry_of e) (mark_of e) knows unplaced);
   left = is.left ∙ st.left ∙ sym (addresses_kept i (log_of w) (Take (entry_of e) (mark_of e)) knows refl);
@@ -240,16 +245,16 @@ taken_stands i w knows old new e blank st is position room class user inside = r
     slot_now = same_Some is.slot (slot_of i (log_of w) e.lba) (sym is.found ∙ st.slots e.lba inside)
 
     line_now : line_of_slot old.holds.rows.items is.slot ≡ line_of i (log_of w) e.lba (last_take (log_of w 0) e.lba)
-    line_now = ap (line_of_slot old.holds.rows.items) slot_now ∙ line_is i w old.holds e.lba blank (counted_none i w blank) st.holds
+    line_now = ap (line_of_slot old.holds.rows.items) slot_now ∙ line_is i w old.holds e.lba plain st.holds
 
     older_is : older_rows i (log_of w) ≡ older_rows i new_logs
-    older_is = older_none i w (Take (entry_of e) (mark_of e)) knows blank refl
+    older_is = older_kept i (log_of w) (Take (entry_of e) (mark_of e)) knows st.beginning st.has_begun refl (λ line. inl (ap is_as_found (life_more (log_of w 0) (record { event = Decides (Take (entry_of e) (mark_of e)); knows = knows }) line)))
 
     taken_is : e.position ≡ taken (log_of w 0)
     taken_is = position ∙ window_taken_is i w old st
 
     unplaced : IsUnplaced i.shape (log_of w 0) e.position
-    unplaced = subst (IsUnplaced i.shape (log_of w 0)) (sym taken_is) (next_is_unplaced i w blank)
+    unplaced = subst (IsUnplaced i.shape (log_of w 0)) (sym taken_is) (next_is_unplaced i w plain)
 
     within : taken (log_of w 0) < old.window.freed + i.shape.ring
     within =
@@ -284,7 +289,7 @@ taken_stands i w knows old new e blank st is position room class user inside = r
         ∙ ap (window_from i.shape (new_logs 0)) (sym (ap (λ v. v.freed) is.window))
 
     table_now : rows_of i new_logs ≡ lose_in (line_of i (log_of w) e.lba (last_take (log_of w 0) e.lba)) e.position (rows_of i (log_of w))
-    table_now = rows_taken i (log_of w) (entry_of e) (mark_of e) knows (none_freed (log_of w 0) blank.plain.engine) (in_order i w (accepted_small i.shape blank.plain.accepted) blank.plain.legal).numbered unplaced taken_is inside
+    table_now = rows_taken i (log_of w) (entry_of e) (mark_of e) knows (none_freed (log_of w 0) plain.engine) (in_order i w (accepted_small i.shape plain.accepted) plain.legal).numbered unplaced taken_is inside
 
     placing_is : new.placer ≡ placing_of i new_logs new.placer.entries.pad []
     placing_is =

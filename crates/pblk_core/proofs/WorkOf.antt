@@ -1,6 +1,6 @@
 -- What a core names as its next work is what the logs name.
-use Rattle.std.proofs.Common.{◌≡◌, ℕ, ◌+◌, ◌-◌, ◌<◌, ◌≤◌, ◌==◌, ◌^◌, ◌&&◌, nat_lt, Bool, true, false, List, length, refl, sym, ap, ap₂, ◌∙◌, arith, le_trans, length-append}
-use Rattle.std.specs.Prelude.{position}
+use Rattle.std.proofs.Common.{◌≡◌, ℕ, ◌+◌, ◌-◌, ◌<◌, ◌≤◌, ◌==◌, ◌^◌, ◌&&◌, nat_lt, Bool, true, false, None, Some, Option, List, length, refl, sym, ap, ap₂, ◌∙◌, arith, le_trans, length-append}
+use Rattle.std.specs.Prelude.{position, slice_get}
 use Rattle.std.specs.Option.{is_some, option_map_or}
 use Rattle.std.proofs.lemmas.List.{length-map}
 use Rattle.std.proofs.lemmas.List.FromFn.{length-range_with_len}
@@ -14,7 +14,7 @@ use Rattle.line_table.specs.Rows.{is_free}
 use Rattle.stripe_placer.specs.Placing.{next_stripe}
 use Rattle.write_window.specs.Window as view
 use Rattle.core_laws.specs.OpenedLines.{open_line, open_lines}
-use Rattle.core_laws.specs.PlainWorlds.{IsBlankWorld}
+use Rattle.core_laws.specs.PlainWorlds.{IsPlainWorld}
 use Rattle.core_laws.specs.PlacerOf.{lost_entries, fresh_entries}
 use Rattle.core_laws.specs.WindowOf.{users_below}
 use Rattle.placed_laws.proofs.LeftLines.{lines_of_left}
@@ -24,34 +24,30 @@ use Rattle.landing_laws.proofs.Growing.{freed_within}
 use Rattle.landing_laws.proofs.SyncedWindow.{front_synced}
 use Rattle.pblk_core.specs.declared.target_core.Core.{Core}
 use Rattle.pblk_core.specs.Stands.{Stands, left_openings}
-use Rattle.pblk_core.specs.Named.{choice, named, pad_of, work_of, first_seq_of}
+use Rattle.pblk_core.specs.Named.{choice, reset_or, asks_line, has_free, may_open, named_beside, named, pad_of, work_beside, work_of, first_seq_of}
+use Rattle.pblk_core.specs.Resets.{resets_left}
+use Rattle.pblk_core.specs.declared.resets.LineChunk.{LineChunk}
+use Rattle.pblk_core.specs.declared.work.Work.{Work}
+use Rattle.pblk_core.specs.declared.work.Work.TheVariants.{Program}
 use Rattle.pblk_core.proofs.StandsFacts.{window_taken_is}
 
--- all that was placed was taken
-pub placed_within : (i : Image) (w : World) (c : Core) → IsBlankWorld i w → Stands i (log_of w) c → c.first + c.placed ≤ view.taken c.window
-placed_within i w c blank st =
-    let front : c.first + c.placed ≡ placed_front i.shape (log_of w 0) = st.placed in
-    let end : view.taken c.window ≡ taken (log_of w 0) = window_taken_is i w c st in
-    let within : placed_front i.shape (log_of w 0) ≤ taken (log_of w 0) = front_within i.shape (log_of w 0) (ordered i w blank.plain) in
-    omega arith
-
 -- the window's front synced is the log's
-pub synced_is : (i : Image) (w : World) (c : Core) → IsBlankWorld i w → Stands i (log_of w) c
+pub synced_is : (i : Image) (w : World) (c : Core) → IsPlainWorld i w → Stands i (log_of w) c
     → view.synced c.window ≡ record { users = users_below (log_of w 0) (synced i.shape (log_of w 0)); position = synced i.shape (log_of w 0) }
-synced_is i w c blank st = front_synced i.shape (log_of w 0) c.window.freed c.window (in_order i w (accepted_small i.shape blank.plain.accepted) blank.plain.legal).numbered
+synced_is i w c plain st = front_synced i.shape (log_of w 0) c.window.freed c.window (in_order i w (accepted_small i.shape plain.accepted) plain.legal).numbered
     st.from_first (le_trans st.to_freed (freed_within i.shape (log_of w 0))) st.window
 
-pub synced_at : (i : Image) (w : World) (c : Core) → IsBlankWorld i w → Stands i (log_of w) c → (view.synced c.window).position ≡ synced i.shape (log_of w 0)
-synced_at i w c blank st = ap (λ (f : Front). f.position) (synced_is i w c blank st)
+pub synced_at : (i : Image) (w : World) (c : Core) → IsPlainWorld i w → Stands i (log_of w) c → (view.synced c.window).position ≡ synced i.shape (log_of w 0)
+synced_at i w c plain st = ap (λ (f : Front). f.position) (synced_is i w c plain st)
 
 -- how many entries wait
-waiting_count : (i : Image) (w : World) → IsBlankWorld i w → length (waiting i.shape (log_of w 0)) ≡ taken (log_of w 0) - placed_front i.shape (log_of w 0)
-waiting_count i w blank =
+waiting_count : (i : Image) (w : World) → IsPlainWorld i w → length (waiting i.shape (log_of w 0)) ≡ taken (log_of w 0) - placed_front i.shape (log_of w 0)
+waiting_count i w plain =
     let both : length (waiting i.shape (log_of w 0)) ≡ length (lost_entries i.shape (log_of w 0)) + length (fresh_entries i.shape (log_of w 0)) =
     length-append (lost_entries i.shape (log_of w 0)) (fresh_entries i.shape (log_of w 0)) in
-    let none : length (lost_entries i.shape (log_of w 0)) ≡ 0 = ap (λ (ts : List Taken). length ts) (lost_are_none i.shape (log_of w 0) (ordered i w blank.plain)) in
+    let none : length (lost_entries i.shape (log_of w 0)) ≡ 0 = ap (λ (ts : List Taken). length ts) (lost_are_none i.shape (log_of w 0) (ordered i w plain)) in
     let fresh : length (fresh_entries i.shape (log_of w 0)) ≡ taken (log_of w 0) - placed_front i.shape (log_of w 0) =
-    sym (length-map (fresh_entries i.shape (log_of w 0)) (λ (t : Taken). t.entry.position)) ∙ ap (λ (qs : List ℕ). length qs) (fresh_in_order i.shape (log_of w 0) (ordered i w blank.plain))
+    sym (length-map (fresh_entries i.shape (log_of w 0)) (λ (t : Taken). t.entry.position)) ∙ ap (λ (qs : List ℕ). length qs) (fresh_in_order i.shape (log_of w 0) (ordered i w plain))
     ∙ length-range_with_len (placed_front i.shape (log_of w 0)) (taken (log_of w 0) - placed_front i.shape (log_of w 0)) in
     omega arith
 
@@ -77,16 +73,34 @@ open_count i w c st = st.open_lines.count ∙ sym (length-map (left_openings i (
 same_choice : (a b : Bool) (m n : Bool) (p q : Bool) (s t : Bool) (x y : Bool) → a ≡ b → m ≡ n → p ≡ q → s ≡ t → x ≡ y → choice a m p s x ≡ choice b n q t y
 same_choice a b m n p q s t x y e f g h k = λ j. choice (e j) (f j) (g j) (h j) (k j)
 
-pub work_is : (i : Image) (w : World) (c : Core) → IsBlankWorld i w → Stands i (log_of w) c → named c ≡ work_of i (log_of w) (pad_of c)
-work_is i w c blank st = same_choice _ _ _ _ _ _ _ _ _ _
+beside_is : (i : Image) (w : World) (c : Core) → IsPlainWorld i w → Stands i (log_of w) c → named_beside c ≡ work_beside i (log_of w) (pad_of c)
+beside_is i w c plain st = same_choice _ _ _ _ _ _ _ _ _ _
     (ap (λ p. is_some (next_stripe p 0)) st.placing)
     (ap₂ (λ a n. a && (n == 0)) waits st.left)
     (ap (λ t. is_some (position is_free t.rows)) st.table)
-    (ap₂ (λ a b. nat_lt a 2 && b) (open_count i w c st) (ap₂ (λ m n. nat_lt m (2 ^ 61) && nat_lt n (2 ^ 61)) seq (synced_at i w c blank st)))
+    (ap₂ (λ a b. nat_lt a 2 && b) (open_count i w c st) (ap₂ (λ m n. nat_lt m (2 ^ 61) && nat_lt n (2 ^ 61)) seq (synced_at i w c plain st)))
     (ap (nat_lt 0) st.in_flight)
   where
     waits : nat_lt (c.first + c.placed) (view.taken c.window) ≡ nat_lt 0 (length (waiting i.shape (log_of w 0)))
-    waits = ap₂ nat_lt st.placed (window_taken_is i w c st) ∙ later (placed_front i.shape (log_of w 0)) (taken (log_of w 0)) ∙ ap (nat_lt 0) (sym (waiting_count i w blank))
+    waits = ap₂ nat_lt st.placed (window_taken_is i w c st) ∙ later (placed_front i.shape (log_of w 0)) (taken (log_of w 0)) ∙ ap (nat_lt 0) (sym (waiting_count i w plain))
 
     seq : c.start.seq ≡ first_seq_of (log_of w) + length (openings (log_of w 0))
     seq = st.next_seq ∙ ap (λ n. n + length (openings (log_of w 0))) (sym (ap (λ o. option_map_or (λ (b : Begun). b.beginning.seq) o 0) st.has_begun))
+
+pub work_is : (i : Image) (w : World) (c : Core) → IsPlainWorld i w → Stands i (log_of w) c → named c ≡ work_of i (log_of w) (pad_of c)
+work_is i w c plain st = ap₂ (λ rs otherwise. reset_or (slice_get rs 0) otherwise) st.resets (beside_is i w c plain st)
+
+-- what a program that is named tells
+some_stripe : (a b c d e : Bool) → choice a b c d e ≡ Program → a ≡ true
+some_stripe true b c d e h = refl
+some_stripe false true true true e h = absurd cc
+some_stripe false true true false e h = absurd cc
+some_stripe false true false d e h = absurd cc
+some_stripe false false c d e h = absurd cc
+
+beside_reset : (o : Option LineChunk) (otherwise : Work) → reset_or o otherwise ≡ Program → otherwise ≡ Program
+beside_reset None otherwise e = e
+beside_reset (Some chunk) otherwise e = absurd cc
+
+pub program_named : (c : Core) → named c ≡ Program → is_some (next_stripe c.placer 0) ≡ true
+program_named c h = some_stripe (is_some (next_stripe c.placer 0)) (asks_line c) (has_free c) (may_open c) (nat_lt 0 c.under_way) (beside_reset (slice_get (resets_left c.resets) 0) (named_beside c) h)

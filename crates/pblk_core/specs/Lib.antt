@@ -5,9 +5,11 @@ pub mod StripeFields
 pub mod Holds
 pub mod Taken
 pub mod Stands
+pub mod Made
 pub mod Slots
 pub mod Entries
 pub mod Readable
 pub mod Named
 pub mod Landing
-pub mod BlankDrives
+pub mod Resets
+pub mod OlderLines

@@ -1,5 +1,5 @@
 -- What a core names as its next work, by its tables and by the logs.
-use Rattle.std.specs.Prelude.{ℕ, ◌+◌, ◌^◌, ◌==◌, ◌&&◌, not, if◌then◌else◌, nat_lt, Bool, length, position, []}
+use Rattle.std.specs.Prelude.{ℕ, ◌+◌, ◌^◌, ◌==◌, ◌&&◌, not, if◌then◌else◌, nat_lt, Bool, length, position, slice_get, [], Option, Some, None}
 use Rattle.std.specs.Option.{is_some, unwrap_or, option_map_or}
 use Rattle.std.specs.List.{slice_index_or}
 use Rattle.pblk_model.specs.Image.{Image}
@@ -16,9 +16,11 @@ use Rattle.write_window.specs.Window as view
 use Rattle.core_laws.specs.OpenedLines.{open_lines}
 use Rattle.core_laws.specs.PlacerOf.{placing_of}
 use Rattle.core_laws.specs.RowsOf.{rows_of}
+use Rattle.pblk_core.specs.Resets.{resets_left, resets_of}
 use Rattle.pblk_core.specs.Stands.{under_way}
+use Rattle.pblk_core.specs.declared.resets.LineChunk.{LineChunk}
 use Rattle.pblk_core.specs.declared.work.Work.{Work}
-use Rattle.pblk_core.specs.declared.work.Work.TheVariants.{Program, Open, Nothing}
+use Rattle.pblk_core.specs.declared.work.Work.TheVariants.{Program, Reset, Open, Nothing}
 use Rattle.pblk_core.specs.declared.work.Why.{Why}
 use Rattle.pblk_core.specs.declared.work.Why.TheVariants.{Busy, NoLine, Rest}
 use Rattle.pblk_core.specs.declared.target_core.Core.{Core}
@@ -34,6 +36,11 @@ choice has_stripe asks_line has_free may_open in_flight =
     else if asks_line && (has_free && may_open) then Open
     else Nothing (why in_flight (asks_line && not has_free))
 
+-- The reset of a chunk comes first.
+abbrev pub reset_or : Option LineChunk → Work → Work
+reset_or None otherwise = otherwise
+reset_or (Some chunk) otherwise = Reset chunk.line chunk.unit
+
 -- By the core's tables.
 
 -- an entry waits, and no open line has an address left
@@ -47,8 +54,12 @@ has_free c = is_some (position is_free c.lines.rows)
 abbrev pub may_open : Core → Bool
 may_open c = nat_lt c.open.count 2 && (nat_lt c.start.seq (2 ^ 61) && nat_lt (view.synced c.window).position (2 ^ 61))
 
+-- what it names where no chunk is to be reset
+abbrev pub named_beside : Core → Work
+named_beside c = choice (is_some (next_stripe c.placer 0)) (asks_line c) (has_free c) (may_open c) (nat_lt 0 c.under_way)
+
 abbrev pub named : Core → Work
-named c = choice (is_some (next_stripe c.placer 0)) (asks_line c) (has_free c) (may_open c) (nat_lt 0 c.under_way)
+named c = reset_or (slice_get (resets_left c.resets) 0) (named_beside c)
 
 abbrev pub pad_of : Core → ℕ
 pad_of c = c.placer.entries.pad
@@ -57,13 +68,16 @@ pad_of c = c.placer.entries.pad
 abbrev pub first_seq_of : Logs → ℕ
 first_seq_of logs = option_map_or (λ (b : Begun). b.beginning.seq) (begun (logs 0)) 0
 
-abbrev pub work_of : Image → Logs → ℕ → Work
-work_of i logs pad = choice
+abbrev pub work_beside : Image → Logs → ℕ → Work
+work_beside i logs pad = choice
     (is_some (next_stripe (placing_of i logs pad []) 0))
     (nat_lt 0 (length (waiting i.shape (logs 0))) && (open_addresses i logs == 0))
     (is_some (position is_free (rows_of i logs).rows))
     (nat_lt (length (open_lines i logs)) 2 && (nat_lt (first_seq_of logs + length (openings (logs 0))) (2 ^ 61) && nat_lt (synced i.shape (logs 0)) (2 ^ 61)))
     (nat_lt 0 (under_way i.shape (logs 0)))
+
+abbrev pub work_of : Image → Logs → ℕ → Work
+work_of i logs pad = reset_or (slice_get (resets_of i logs) 0) (work_beside i logs pad)
 
 -- The line that is opened next, its units, and its start record.
 abbrev pub next_line : Core → ℕ

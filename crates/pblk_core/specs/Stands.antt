@@ -1,11 +1,12 @@
 -- A core stands for the logs of a mount: each of its tables holds what the logs say.
-use Rattle.std.specs.Prelude.{ℕ, false, ◌+◌, ◌-◌, ◌*◌, ◌/◌, ◌%◌, ◌<◌, ◌≤◌, ◌≡◌, List, [], map, length, slice_get, Some}
-use Rattle.std.specs.List.{Contains, filter, range_with_len}
+use Rattle.std.specs.Prelude.{ℕ, false, ◌+◌, ◌-◌, ◌*◌, ◌/◌, ◌%◌, ◌^◌, ◌<◌, ◌≤◌, ◌≡◌, List, [], map, length, slice_get, Some}
+use Rattle.std.specs.List.{AllByRecursion, Contains, filter, range_with_len}
 use Rattle.std.specs.Option.{is_some}
 use Rattle.std.specs.FinMap as map
 use Rattle.pblk_model.specs.declared.shape.Shape.{Shape}
 use Rattle.pblk_model.specs.Shape.{units}
 use Rattle.pblk_model.specs.Image.{Image}
+use Rattle.pblk_model.specs.StartRecord.{Row as OlderLine}
 use Rattle.pblk_meta.specs.Records.{start_numbers}
 use Rattle.pblk_world.specs.Events.{Logged}
 use Rattle.pblk_world.specs.World.{World, Logs, log_of}
@@ -19,9 +20,10 @@ use Rattle.core_laws.specs.PlacerOf.{placing_of, unanswered_on}
 use Rattle.core_laws.specs.RowsOf.{rows_of}
 use Rattle.core_laws.specs.SlotOf.{slot_of}
 use Rattle.core_laws.specs.WindowOf.{is_given_back, sectors_in, window_from}
-use Rattle.core_laws.specs.PlainWorlds.{IsBlankWorld}
+use Rattle.core_laws.specs.PlainWorlds.{IsPlainWorld}
 use Rattle.pblk_core.specs.Holds.{hold_of}
 use Rattle.pblk_core.specs.LineRecords.{AreOf}
+use Rattle.pblk_core.specs.Resets.{resets_left, resets_of}
 use Rattle.pblk_core.specs.declared.hold.Holds.{Holds}
 use Rattle.pblk_core.specs.declared.open_lines.OpenLine.{OpenLine}
 use Rattle.pblk_core.specs.declared.open_lines.OpenLines.{OpenLines}
@@ -58,6 +60,15 @@ pub record AreOpenLines (i : Image) (logs : Logs) (kept : OpenLines) : Type 0 wh
 abbrev pub under_way : Shape → List Logged → ℕ
 under_way s log = length (filter (λ unit. is_some (unanswered_on log unit)) (range_with_len 0 (units s)))
 
+-- The numbers that the mount began with fit a drive: its first position, and the rows of older lines, which are older than
+-- the mount and end before it.
+abbrev pub IsOlder : ℕ → ℕ → OlderLine → Type 0
+IsOlder seq first row = (1 ≤ row.seq) × (row.seq < seq) × (row.bound ≤ first)
+
+pub record HasFitNumbers (c : Core) : Type 0 where
+  pub first : c.first ≤ 2 ^ 62
+  pub rows : AllByRecursion (IsOlder c.start.first_seq c.first) (start_numbers c.start).rows
+
 pub record Stands (i : Image) (logs : Logs) (c : Core) : Type 0 where
   pub layout : c.layout ≡ i.shape
   pub beginning : Begun
@@ -68,6 +79,7 @@ pub record Stands (i : Image) (logs : Logs) (c : Core) : Type 0 where
   -- the lines
   pub table : c.lines ≡ rows_of i logs
   pub units : c.live.items ≡ map (live_now i logs) (range_with_len 0 i.shape.chunks)
+  pub resets : resets_left c.resets ≡ resets_of i logs
   -- the window
   pub size : c.window.size ≡ i.shape.ring
   pub window : sectors_in c.window ≡ window_from i.shape (logs 0) c.window.freed
@@ -82,6 +94,7 @@ pub record Stands (i : Image) (logs : Logs) (c : Core) : Type 0 where
   pub first_seq : c.start.first_seq ≡ beginning.beginning.seq
   pub own_capacity : c.start.capacity ≡ i.shape.capacity
   pub older : (start_numbers c.start).rows ≡ older_rows i logs
+  pub fits : HasFitNumbers c
   -- counters
   pub first : c.first ≡ first_position (logs 0)
   pub placed : c.first + c.placed ≡ placed_front i.shape (logs 0)
@@ -89,9 +102,9 @@ pub record Stands (i : Image) (logs : Logs) (c : Core) : Type 0 where
   pub in_flight : c.under_way ≡ under_way i.shape (logs 0)
   pub users : c.users ≡ length (user_takes (logs 0))
 
--- It stands for the logs of some legal world, on a drive on which nothing was written.
+-- It stands for the logs of some legal world in which nothing failed, was stopped, copied or freed.
 pub record IsStanding (c : Core) : Type 0 where
   pub image : Image
   pub world : World
-  pub legal : IsBlankWorld image world
+  pub legal : IsPlainWorld image world
   pub stands : Stands image (log_of world) c

@@ -2,21 +2,22 @@
 
 ghost use Rattle.std.specs.Prelude.{ℕ, ◌≡◌, ◌+◌, ◌-◌, ◌*◌, ◌==◌, ◌%◌, if◌then◌else◌, max, true, false, ◌<◌, ◌≤◌, ◌^◌, ◌↔◌, ◌++◌, [], ◌∷◌, List, length, drop, Some, None, IfOk, IfSome, IsSome, IsNone, OnSome, IfNone, slice_get};
 ghost use Rattle.std.specs.FinMap as fin;
-ghost use Rattle.std.specs.List.{AllByRecursion};
 ghost use Rattle.line_table.specs.declared.row.Row.{Row};
 ghost use Rattle.line_table.specs.Rows.{IsRow};
 ghost use Rattle.line_laws.specs.Changes.{lose_in};
 ghost use Rattle.pblk_model.specs.Accepted.{IsAccepted};
 ghost use Rattle.pblk_model.specs.Chunk.{IsBlock};
-ghost use Rattle.pblk_model.specs.Image.{Image};
-ghost use Rattle.pblk_model.specs.Chunk.{free_chunk};
-ghost use Rattle.pblk_model.specs.Image.{Image, IsFit, is_online_in};
+ghost use Rattle.pblk_model.specs.Found.{IsFitFound};
+ghost use Rattle.pblk_model.specs.Image.{Image, IsFit};
 ghost use Rattle.pblk_model.specs.Shape.{units};
-ghost use Rattle.pblk_world.specs.Events.{Begin, Take, Open, Place, Landed};
+ghost use Rattle.pblk_world.specs.Events.{Begin, Take, Open, Place, Landed, ResetDone};
 ghost use Rattle.pblk_world.specs.World.{World, Logs, log_of};
 ghost use Rattle.pblk_world.specs.EngineLog.{Begun, begun as begun_of};
 ghost use Rattle.pblk_world.specs.Answering.{MayLand};
-ghost use Rattle.pblk_world.specs.Opening.{MayBegin, MayOpen};
+ghost use Rattle.pblk_world.specs.Opening.{MayOpen};
+ghost use Rattle.pblk_world.specs.Lines.{found_image, known_image, is_given_up, are_empty};
+ghost use Rattle.found_laws.specs.Finding.{IsFoundOf};
+ghost use Rattle.found_laws.specs.Beginnings.{beginning_of};
 ghost use Rattle.pblk_world.specs.Placing.{MayPlace};
 ghost use Rattle.pblk_world.specs.Taking.{MayTake};
 ghost use Rattle.pblk_world.specs.Fronts.{taken, synced, user_takes};
@@ -25,32 +26,35 @@ ghost use Rattle.sector_pool.specs.declared.entry.Class.TheVariants.{User};
 ghost use Rattle.stripe_placer.specs.Placing.{Program, under_way_in};
 ghost use Rattle.write_window.specs.Window as view;
 ghost use Rattle.write_window.specs.declared.held.Progress.TheVariants.{Waiting};
-ghost use Rattle.core_laws.specs.PlainWorlds.{IsBlankWorld};
+ghost use Rattle.core_laws.specs.PlainWorlds.{IsPlainWorld};
 ghost use Rattle.core_laws.specs.SlotOf.{slot_of};
 ghost use Rattle.core_laws.specs.Stepping.{after};
 ghost use Rattle.pblk_core.specs.Holds.{line_of_slot, rows_with_taker};
-ghost use Rattle.pblk_core.specs.BlankDrives.{IsBlankFound, first_beginning, online_bits, all_online};
+ghost use Rattle.pblk_core.specs.Resets.{IsToReset, IsResetTo, resets_of, kept_units, emptied};
 ghost use Rattle.pblk_core.specs.Entries.{positions_placed};
 ghost use Rattle.pblk_core.specs.Landing.{IsUnderWayOn, all_landed};
-ghost use Rattle.pblk_core.specs.Named.{named, pad_of, work_of, next_start, may_open, why};
+ghost use Rattle.pblk_core.specs.Named.{named, named_beside, pad_of, work_of, next_start, may_open, why};
 ghost use Rattle.pblk_core.specs.declared.work.Work.TheVariants as works;
 ghost use Rattle.pblk_layout.specs.Live.{units_in};
 ghost use Rattle.pblk_model.specs.LineOrder.{line_order};
 ghost use Rattle.pblk_model.specs.Frames.{Region, count_out};
 ghost use Rattle.core_laws.specs.WindowOf.{users_below};
+ghost use Rattle.pblk_core.specs.Made.{IsMadeOn};
 ghost use Rattle.pblk_core.specs.Stands.{Stands, IsStanding};
 ghost use Rattle.pblk_core.specs.Taken.{entry_of, mark_of};
 
 use crate::filling::{fill, settle_holds, settle_lines};
 use crate::hold::{Hold, Holds};
 use crate::open_lines::OpenLines;
+use crate::opening::{all_live_units, found_map, is_online, next_seq, older_rows};
 use crate::reading::make_readable;
+use crate::resets::Resets;
 use crate::stripe::Stripe;
 use crate::work::{Why, Work};
 use l2p_map::{Map, Slot};
 use line_table::{LineState, Lines};
 use pblk_layout::Layout;
-use pblk_meta::{Rows, StartRecord};
+use pblk_meta::StartRecord;
 use pblk_model::{ChunkState, Found, Front, Mark, Shape};
 use sector_pool::{Class, Entry, Frame, Pool};
 use std::alloc::{AllocError, Global};
@@ -80,6 +84,8 @@ pub struct Core {
     open: OpenLines,
     // of each line a bit for each unit whose chunk of it isn't Offline
     live: Vec<u64>,
+    // the chunks of the strays that are still to be reset
+    resets: Resets,
     // what the start record of the next line says, but for the line and the front
     start: StartRecord,
     // the mount's first position
@@ -125,71 +131,68 @@ fn supersede(slot: Slot, lines: &mut Lines, holds: &mut Holds, by: u64)
     }
 }
 
-// Whether a chunk isn't Offline.
-fn is_online(state: ChunkState) -> bool
-    ensures { result ≡ is_online_in state }
+// A chunk of a line is in this state from now on: if it is Offline, its unit is no longer one of the line's.
+fn keep_unit(live: &mut Vec<u64>, line: u32, unit: u32, state: ChunkState)
+    requires line { line < length live.old.items }
+    requires unit { unit < 64 }
+    requires there { (units : ℕ) → slice_get live.old.items line ≡ Some units → 2 ^ unit ≤ units }
+    ensures { live.new.items ≡ kept_units live.old.items line unit state }
 {
-    !matches!(state, ChunkState::Offline)
+    if !is_online(state) {
+        live[line as usize] -= 1 << unit;
+    }
 }
 
-// The units whose chunks of a line aren't Offline.
-fn live_units(shape: &Shape, chunks: &[ChunkState], line: u32) -> u64
-    requires accepted { IsAccepted shape.now }
-    requires line { line < shape.now.chunks }
-    requires chunks { length chunks.now ≡ units shape.now * shape.now.chunks }
-    ensures { result ≡ online_bits shape.now chunks.now line }
+// What a line is whose chunks are all Free or Offline, with so many that are Free.
+fn emptied(layout: &Layout, width: u32) -> LineState
+    requires { width ≤ units layout.now }
+    ensures { result ≡ emptied layout.now width }
 {
-    let mut live = 0;
-    for unit in 0..shape.units() {
-        if is_online(chunks[unit as usize * shape.chunks as usize + line as usize]) {
-            live |= 1 << unit;
-        }
+    if layout.data_len(width) == 0 {
+        LineState::Dead
+    } else {
+        LineState::Free
     }
-    live
-}
-
-// Those of each line.
-fn all_live_units(
-    alloc: Global,
-    shape: &Shape,
-    chunks: &[ChunkState],
-) -> Result<Vec<u64>, AllocError>
-    requires accepted { IsAccepted shape.now }
-    requires chunks { length chunks.now ≡ units shape.now * shape.now.chunks }
-    ensures { IfOk result (λ v. v.items ≡ all_online shape.now chunks.now shape.now.chunks) }
-{
-    let mut live = Vec::with_capacity(alloc, shape.chunks as usize)?;
-    for line in 0..shape.chunks {
-        live.push(live_units(shape, chunks, line))?;
-    }
-    Ok(live)
 }
 
 impl Core {
-    /// The core of a target that opens on a drive on which nothing was written. Fails only where there isn't the
-    /// memory.
+    /// The core of a target that opens on a drive of which recovery found this. The findings fit the shape. Fails
+    /// only where there isn't the memory.
     pub fn new(alloc: Global, shape: &Shape, found: Found) -> Result<Core, AllocError>
         requires accepted { IsAccepted shape.now }
-        requires blank { IsBlankFound shape.now found }
+        requires fit { IsFitFound shape.now found }
         ensures { IfOk result (λ core. (i : Image) (w : World) (knows : List ℕ) → i.shape ≡ shape.now
-            → IsBlankWorld i w → log_of w 0 ≡ []
-            → Stands i (after (log_of w) (Begin first_beginning) knows) core) }
+            → IsPlainWorld i w → log_of w 0 ≡ []
+            → IsFoundOf (found_image i (after (log_of w) (Begin (beginning_of found)) knows)) found
+            → Stands i (after (log_of w) (Begin (beginning_of found)) knows) core) }
+    {
+        Core::made(alloc, shape, &found)
+    }
+
+    // What was found, and nothing more.
+    fn made(alloc: Global, shape: &Shape, found: &Found) -> Result<Core, AllocError>
+        requires accepted { IsAccepted shape.now }
+        requires fit { IsFitFound shape.now found.now }
+        ensures { IfOk result (λ core. IsMadeOn shape.now found.now core) }
     {
         let layout = Layout::new(shape);
-        let map = Map::new(alloc, shape.capacity)?;
-        let lines = Lines::new(alloc, &layout, &found)?;
+        let states = found.chunks.as_slice();
+        let map = found_map(alloc, shape.capacity, found.winners.as_slice())?;
+        let lines = Lines::new(alloc, &layout, found)?;
         let placer = Placer::new(alloc, &layout)?;
         let holds = Holds::new(alloc, shape.ring)?;
         let open = OpenLines::new(alloc, &layout)?;
-        let live = all_live_units(alloc, shape, found.chunks.as_slice())?;
+        let live = all_live_units(alloc, shape, states)?;
+        let resets = Resets::new(alloc, shape, states, found.strays.as_slice())?;
+        let seq = next_seq(found.lines.as_slice(), found.head);
         let start = StartRecord {
             line: 0,
             width: 0,
-            seq: 1,
-            first_seq: 1,
+            seq,
+            first_seq: seq,
             front: 0,
             capacity: shape.capacity,
-            rows: Rows::new(alloc),
+            rows: older_rows(alloc, found.lines.as_slice(), found.end)?,
         };
         Ok(Core {
             layout,
@@ -200,6 +203,7 @@ impl Core {
             holds,
             open,
             live,
+            resets,
             start,
             first: found.end,
             placed: 0,
@@ -218,10 +222,10 @@ impl Core {
         requires room { length self.old.window.entries < self.old.window.size }
         requires user { (entry.class ≡ User) × (entry.source ≡ None) }
         requires lba { entry.lba < self.old.layout.capacity }
-        ensures stands { (i : Image) (w : World) (knows : List ℕ) → IsBlankWorld i w
+        ensures stands { (i : Image) (w : World) (knows : List ℕ) → IsPlainWorld i w
             → Stands i (log_of w) self.old
             → Stands i (after (log_of w) (Take (entry_of entry) (mark_of entry)) knows) self.new }
-        ensures legal { (i : Image) (w : World) → IsBlankWorld i w → Stands i (log_of w) self.old
+        ensures legal { (i : Image) (w : World) → IsPlainWorld i w → Stands i (log_of w) self.old
             → IsBlock i.shape (record { sector = entry.frame.bytes; mark = mark_of entry })
             → MayTake i (log_of w) (entry_of entry) (mark_of entry) }
         ensures pushed { self.new.window ≡ record self.old.window {
@@ -252,13 +256,30 @@ impl Core {
         self.placer.wait(position, false);
     }
 
-    /// What comes next: a program, else the opening of a line where an entry waits for an address and one may be
-    /// opened, else nothing, with the reason.
+    /// What comes next: the reset of a used chunk of a line that was given up, the least line's and there the least
+    /// unit's, whether or not its unit has a command in flight; else a program; else the opening of a line where
+    /// an entry waits for an address and one may be opened; else nothing, with the reason.
     pub fn next_work(&self) -> Work
         requires { IsStanding self.now }
         ensures named { result ≡ named self.now }
-        ensures work { (i : Image) (w : World) → IsBlankWorld i w → Stands i (log_of w) self.now
+        ensures work { (i : Image) (w : World) → IsPlainWorld i w → Stands i (log_of w) self.now
             → result ≡ work_of i (log_of w) (pad_of self.now) }
+        ensures reset { (i : Image) (w : World) (line unit : ℕ) → Stands i (log_of w) self.now
+            → result ≡ works.Reset line unit → IsToReset i (log_of w) line unit }
+    {
+        match self.resets.first() {
+            Some(chunk) => Work::Reset {
+                line: chunk.line,
+                unit: chunk.unit,
+            },
+            None => self.work_beside(),
+        }
+    }
+
+    // What comes next where no chunk is to be reset.
+    fn work_beside(&self) -> Work
+        requires { self.now.first + self.now.placed < 2 ^ 64 }
+        ensures { result ≡ named_beside self.now }
     {
         if self.placer.next_stripe(0).is_some() {
             return Work::Program;
@@ -286,10 +307,10 @@ impl Core {
     pub fn open_line(&mut self)
         requires standing { IsStanding self.old }
         requires named { named self.old ≡ works.Open }
-        ensures legal { (i : Image) (w : World) (begun : Begun) → IsBlankWorld i w → Stands i (log_of w) self.old
+        ensures legal { (i : Image) (w : World) (begun : Begun) → IsPlainWorld i w → Stands i (log_of w) self.old
             → begun_of (log_of w 0) ≡ Some begun
             → MayOpen i (log_of w) begun (next_start self.old).line (next_start self.old) }
-        ensures stands { (i : Image) (w : World) (knows : List ℕ) → IsBlankWorld i w
+        ensures stands { (i : Image) (w : World) (knows : List ℕ) → IsPlainWorld i w
             → Stands i (log_of w) self.old
             → Stands i (after (log_of w) (Open (next_start self.old).line (next_start self.old)) knows) self.new }
         ensures window { self.new.window ≡ self.old.window }
@@ -319,9 +340,9 @@ impl Core {
         requires standing { IsStanding self.old }
         requires named { named self.old ≡ works.Program }
         requires shape { into.old.shape ≡ self.old.layout }
-        ensures legal { (i : Image) (w : World) → IsBlankWorld i w → Stands i (log_of w) self.old
+        ensures legal { (i : Image) (w : World) → IsPlainWorld i w → Stands i (log_of w) self.old
             → MayPlace i (log_of w) into.new.stripe }
-        ensures stands { (i : Image) (w : World) (knows : List ℕ) → IsBlankWorld i w
+        ensures stands { (i : Image) (w : World) (knows : List ℕ) → IsPlainWorld i w
             → Stands i (log_of w) self.old
             → Stands i (after (log_of w) (Place into.new.stripe) knows) self.new }
         ensures window { self.new.window ≡ self.old.window }
@@ -358,7 +379,7 @@ impl Core {
     pub fn landed(&mut self, stripe: &Stripe)
         requires standing { IsStanding self.old }
         requires under_way { IsUnderWayOn self.old stripe.now.stripe.unit }
-        ensures stands { (i : Image) (w : World) (event : ℕ) (knows : List ℕ) → IsBlankWorld i w
+        ensures stands { (i : Image) (w : World) (event : ℕ) (knows : List ℕ) → IsPlainWorld i w
             → Stands i (log_of w) self.old → MayLand (log_of w) stripe.now.stripe.unit event
             → Stands i (after (log_of w) (Landed stripe.now.stripe.unit event) knows) self.new }
         ensures own { (r : Region) → view.AreOf r self.old.window.entries → view.AreOf r self.new.window.entries }
@@ -391,6 +412,25 @@ impl Core {
         }
     }
 
+    /// The reset of a chunk that `next_work` names was done or failed, and the chunk has this state. A line of which
+    /// no used chunk is left is Free, or Dead where its width leaves it no data.
+    pub fn reset_done(&mut self, line: u32, unit: u32, state: ChunkState)
+        requires standing { IsStanding self.old }
+        requires named { named self.old ≡ works.Reset line unit }
+        ensures stands { (i : Image) (w : World) (event : ℕ) (knows : List ℕ) → IsPlainWorld i w
+            → Stands i (log_of w) self.old → IsResetTo i (log_of w) unit event line state
+            → Stands i (after (log_of w) (ResetDone unit event) knows) self.new }
+        ensures window { self.new.window ≡ self.old.window }
+        ensures pad { pad_of self.new ≡ pad_of self.old }
+    {
+        self.resets.advance();
+        keep_unit(&mut self.live, line, unit, state);
+        if !self.resets.is_at(line) {
+            let width = self.layout.width(self.live[line as usize]);
+            self.lines.turn(line, emptied(&self.layout, width), width);
+        }
+    }
+
     /// Raises the pad target: entries that are fewer than a stripe holds are placed with Pad blocks where one of
     /// them lies below it. It never falls.
     pub fn ask_pad(&mut self, to: u64)
@@ -411,7 +451,7 @@ impl Core {
     /// The front taken: all that was taken so far.
     pub fn front(&self) -> Front
         ensures position { result.position ≡ view.taken self.now.window }
-        ensures taken { (i : Image) (w : World) → IsBlankWorld i w → Stands i (log_of w) self.now
+        ensures taken { (i : Image) (w : World) → IsPlainWorld i w → Stands i (log_of w) self.now
             → (result.position ≡ taken (log_of w 0)) × (result.users ≡ length (user_takes (log_of w 0))) }
     {
         Front {
@@ -422,7 +462,7 @@ impl Core {
 
     /// The front synced: all below it is on the drive.
     pub fn synced(&self) -> Front
-        ensures { (i : Image) (w : World) → IsBlankWorld i w → Stands i (log_of w) self.now
+        ensures { (i : Image) (w : World) → IsPlainWorld i w → Stands i (log_of w) self.now
             → result ≡ record { users = users_below (log_of w 0) (synced i.shape (log_of w 0)); position = synced i.shape (log_of w 0) } }
     {
         self.window.synced()
@@ -431,7 +471,7 @@ impl Core {
     /// Where the latest content of a sector is. The sector is below the capacity.
     pub fn look(&self, lba: u64) -> Look
         requires { lba < fin.len self.now.map }
-        ensures { (i : Image) (w : World) → IsBlankWorld i w → Stands i (log_of w) self.now
+        ensures { (i : Image) (w : World) → IsPlainWorld i w → Stands i (log_of w) self.now
             → result ≡ slot_of i (log_of w) lba }
     {
         self.map.get(lba)
@@ -462,7 +502,7 @@ impl Core {
     /// read.
     pub fn pop_free(&mut self) -> Option<Frame>
         ensures none { IsNone result ↔ (view.is_readable_at self.old.window self.old.window.freed ≡ false) }
-        ensures stands { (i : Image) (w : World) → IsBlankWorld i w → Stands i (log_of w) self.old
+        ensures stands { (i : Image) (w : World) → IsPlainWorld i w → Stands i (log_of w) self.old
             → Stands i (log_of w) self.new }
         ensures frame { IfSome result (λ f. view.frame_at self.old.window self.old.window.freed ≡ Some f) }
         ensures freed { OnSome result (self.new.window.freed ≡ self.old.window.freed + 1) }
@@ -478,7 +518,7 @@ impl Core {
     /// is at most 2^61 - 2, or the mount's first position where that is greater.
     pub fn grant(&self) -> u64
         requires { IsStanding self.now }
-        ensures { (i : Image) (w : World) → IsBlankWorld i w → Stands i (log_of w) self.now
+        ensures { (i : Image) (w : World) → IsPlainWorld i w → Stands i (log_of w) self.now
             → self.now.window.freed ≡ freed i.shape (log_of w 0) → result ≡ room i (log_of w) }
     {
         let shape = self.layout.shape();
@@ -494,7 +534,7 @@ impl Core {
 
     /// Whether collection is due: the Free lines together have at most as many data addresses as three full lines.
     pub fn is_due(&self) -> bool
-        ensures { (i : Image) (w : World) → IsBlankWorld i w → Stands i (log_of w) self.now
+        ensures { (i : Image) (w : World) → IsPlainWorld i w → Stands i (log_of w) self.now
             → result ≡ is_due i (log_of w) }
     {
         let units = self.layout.shape().units();
@@ -517,6 +557,7 @@ impl Core {
             holds: _,
             open: _,
             live: _,
+            resets: _,
             start: _,
             first: _,
             placed: _,
@@ -528,17 +569,18 @@ impl Core {
     }
 }
 
-/// A mount may begin on a drive on which nothing was written: with no stray, and the first numbers.
-pub fn a_mount_may_begin_on_a_blank_drive()
-    ensures { (i : Image) (w : World) → IsBlankWorld i w → log_of w 0 ≡ [] → MayBegin i (log_of w) first_beginning }
+/// A world of no events, over an image of an accepted shape, is one in which nothing failed, was stopped, copied or
+/// freed.
+pub fn a_world_of_no_events_is_plain()
+    ensures { (i : Image) (w : World) → IsAccepted i.shape → IsFit i
+        → ((author : ℕ) → log_of w author ≡ []) → IsPlainWorld i w }
 {}
 
-/// A world of no events, over an image of an accepted shape whose chunks are all Free, is one on a drive on which
-/// nothing was written.
-pub fn a_world_of_no_events_is_blank()
-    ensures { (i : Image) (w : World) → IsAccepted i.shape → IsFit i
-        → AllByRecursion (AllByRecursion (λ c. c ≡ free_chunk)) i.units
-        → ((author : ℕ) → log_of w author ≡ []) → IsBlankWorld i w }
+/// Where no reset is named, each chunk of a line that was given up is Free or Offline.
+pub fn a_line_is_empty_once_it_was_reset()
+    ensures { (i : Image) (w : World) (line : ℕ) → IsPlainWorld i w → resets_of i (log_of w) ≡ []
+        → line < i.shape.chunks → is_given_up (log_of w 0) line ≡ true
+        → are_empty (known_image i (log_of w)) line ≡ true }
 {}
 
 // Why nothing can be done.

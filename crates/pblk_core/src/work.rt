@@ -3,6 +3,8 @@
 /// What a target does next.
 #[derive(Clone, Copy, Debug, PartialEq, Eq)]
 pub enum Work {
+    /// A chunk of a line that was given up is reset: it is neither Free nor Offline.
+    Reset { line: u32, unit: u32 },
     /// A stripe is placed and programmed.
     Program,
     /// A line is opened.

@@ -3,4 +3,4 @@ use Rattle.pblk_core.proofs.StandsFacts.{window_taken_is}
 use Rattle.pblk_core.proofs.target_core.Core.front.Goals as goal
 
 pub returns-clause-taken : goal.returns-clause-taken
-returns-clause-taken c = λ i w blank st. (c.taken.ensures ∙ window_taken_is i w c.args.self.now st, st.users)
+returns-clause-taken c = λ i w plain st. (c.taken.ensures ∙ window_taken_is i w c.args.self.now st, st.users)

@@ -46,7 +46,7 @@ overflow_add-space-2 c =
     omega arith
 
 pub returns : goal.returns
-returns c = λ i w blank st front.
+returns c = λ i w plain st front.
     let shape : c.shape-shape.result.now ≡ c.args.self.now.layout = c.shape-shape.ensures.shape in
     let wide : c.units-units.result ≡ units c.args.self.now.layout = c.units-units.ensures ∙ ap units shape in
     c.min-2.ensures

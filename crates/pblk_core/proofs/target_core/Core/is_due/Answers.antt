@@ -6,7 +6,7 @@ use Rattle.pblk_core.proofs.SmallGrant.{free_is}
 use Rattle.pblk_core.proofs.target_core.Core.is_due.Goals as goal
 
 pub returns : goal.returns
-returns c = λ i w blank st.
+returns c = λ i w plain st.
     let shape = c.shape.ensures.shape in
     ap₂ nat_le
     (c.free_addresses.ensures ∙ free_is i w c.args.self.now st)

@@ -182,8 +182,8 @@ remove-requires-clause-few c =
 
 pub returns-then-land-eq0-clause-stands : goal.returns-then-land-eq0-clause-stands
 returns-then-land-eq0-clause-stands c =
-    λ i w event knows blank st may.
-    let its : IsOfCore i w c.args.self.now c.args.stripe.now.stripe.unit (program c.in-Some.of) = of_core i w c.args.self.now c.args.stripe.now.stripe.unit (program c.in-Some.of) blank st (told_row c.args.self.now.placer.units c.args.stripe.now.stripe.unit c.unit.result c.under_way.result c.in-Some.of c.requires.under_way.0 c.in-Some.is c.unit.ensures c.under_way.ensures c.requires.under_way.1) in
+    λ i w event knows plain st may.
+    let its : IsOfCore i w c.args.self.now c.args.stripe.now.stripe.unit (program c.in-Some.of) = of_core i w c.args.self.now c.args.stripe.now.stripe.unit (program c.in-Some.of) plain st (told_row c.args.self.now.placer.units c.args.stripe.now.stripe.unit c.unit.result c.under_way.result c.in-Some.of c.requires.under_way.0 c.in-Some.is c.unit.ensures c.under_way.ensures c.requires.under_way.1) in
     let got_is : IsGot i w c.args.self.now c.args.stripe.now.stripe.unit (program c.in-Some.of) c.find-index.result c.get.result.now its = got i w c.args.self.now c.args.stripe.now.stripe.unit (program c.in-Some.of) c.find-index.result c.get.result.now st its c.find-index.ensures.inside c.find-index.ensures.line c.find-index.ensures.first c.get.ensures in
     let mid : IsLandedIn c.args.self.now.open c.land.new.self c.find-index.result c.get.result.now = record { slots = c.land.ensures.slots c.get.result.now c.get.ensures; count = c.land.ensures.count } in
     let less : c.land.result + 1 ≡ c.get.result.now.stripes_left = c.land.ensures.left c.get.result.now c.get.ensures in
@@ -196,8 +196,8 @@ returns-then-land-eq0-clause-stands c =
     let reach : IsRange i.shape c.in-Some.of.block c.readable_range-from.result.0 c.readable_range-from.result.1 =
     subst (λ s. IsRange s c.in-Some.of.block c.readable_range-from.result.0 c.readable_range-from.result.1) shape
     (range_is c.shape-shape.result.now c.in-Some.of.block c.readable_range-from.result.0 c.readable_range-from.result.1 (subst (λ s. 0 < s.ws_opt) (sym shape) its.is.line_is.striped.some)
-    (subst (λ s. c.in-Some.of.block + s.ws_opt ≤ s.clba) (sym shape) (block_within i w c.args.stripe.now.stripe.unit (program c.in-Some.of) blank its.is)) c.readable_range-from.ensures.from c.readable_range-from.ensures.to) in
-    let chunk = chunk_is_read i w c.args.stripe.now.stripe.unit (program c.in-Some.of) its.has.slot blank its.is its.has.is in
+    (subst (λ s. c.in-Some.of.block + s.ws_opt ≤ s.clba) (sym shape) (block_within i w c.args.stripe.now.stripe.unit (program c.in-Some.of) plain its.is)) c.readable_range-from.ensures.from c.readable_range-from.ensures.to) in
+    let chunk = chunk_is_read i w c.args.stripe.now.stripe.unit (program c.in-Some.of) its.has.slot plain its.is its.has.is in
     let into : IsLandedInto c.args.self.now _ (program c.in-Some.of) its.has.k its.has.slot c.land.new.self true c.readable_range-from.result.0 c.readable_range-from.result.1 = record {
       layout = refl;
       map = c.make_readable.ensures.map ∙ ap (λ (l : OpenLine). all_moved c.args.self.now.layout.capacity l.records.line c.args.self.now.map (reads_of l c.in-Some.of.unit c.readable_range-from.result.0 c.readable_range-from.result.1)) got_is.slot;
@@ -214,6 +214,7 @@ returns-then-land-eq0-clause-stands c =
       left = λ e. refl;
       none_left = λ e. last;
       live = refl;
+      resets = refl;
       start = refl;
       first = refl;
       placed = refl;
@@ -221,13 +222,13 @@ returns-then-land-eq0-clause-stands c =
       under_way = refl;
       users = refl;
     } in
-    landed_stands i w c.args.stripe.now.stripe.unit event knows c.args.self.now _ (program c.in-Some.of) c.land.new.self true c.readable_range-from.result.0 c.readable_range-from.result.1 blank st its.is its.waits may its.has into
-    (read_now i w c.args.stripe.now.stripe.unit event knows c.args.self.now _ (program c.in-Some.of) c.land.new.self true c.readable_range-from.result.0 c.readable_range-from.result.1 blank st its.is its.has into reach chunk)
+    landed_stands i w c.args.stripe.now.stripe.unit event knows c.args.self.now _ (program c.in-Some.of) c.land.new.self true c.readable_range-from.result.0 c.readable_range-from.result.1 plain st its.is its.waits may its.has into
+    (read_now i w c.args.stripe.now.stripe.unit event knows c.args.self.now _ (program c.in-Some.of) c.land.new.self true c.readable_range-from.result.0 c.readable_range-from.result.1 plain st its.is its.has into reach chunk)
 
 pub returns-else-land-eq0-clause-stands : goal.returns-else-land-eq0-clause-stands
 returns-else-land-eq0-clause-stands c =
-    λ i w event knows blank st may.
-    let its : IsOfCore i w c.args.self.now c.args.stripe.now.stripe.unit (program c.in-Some.of) = of_core i w c.args.self.now c.args.stripe.now.stripe.unit (program c.in-Some.of) blank st (told_row c.args.self.now.placer.units c.args.stripe.now.stripe.unit c.unit.result c.under_way.result c.in-Some.of c.requires.under_way.0 c.in-Some.is c.unit.ensures c.under_way.ensures c.requires.under_way.1) in
+    λ i w event knows plain st may.
+    let its : IsOfCore i w c.args.self.now c.args.stripe.now.stripe.unit (program c.in-Some.of) = of_core i w c.args.self.now c.args.stripe.now.stripe.unit (program c.in-Some.of) plain st (told_row c.args.self.now.placer.units c.args.stripe.now.stripe.unit c.unit.result c.under_way.result c.in-Some.of c.requires.under_way.0 c.in-Some.is c.unit.ensures c.under_way.ensures c.requires.under_way.1) in
     let got_is : IsGot i w c.args.self.now c.args.stripe.now.stripe.unit (program c.in-Some.of) c.find-index.result c.get.result.now its = got i w c.args.self.now c.args.stripe.now.stripe.unit (program c.in-Some.of) c.find-index.result c.get.result.now st its c.find-index.ensures.inside c.find-index.ensures.line c.find-index.ensures.first c.get.ensures in
     let mid : IsLandedIn c.args.self.now.open c.land.new.self c.find-index.result c.get.result.now = record { slots = c.land.ensures.slots c.get.result.now c.get.ensures; count = c.land.ensures.count } in
     let less : c.land.result + 1 ≡ c.get.result.now.stripes_left = c.land.ensures.left c.get.result.now c.get.ensures in
@@ -238,8 +239,8 @@ returns-else-land-eq0-clause-stands c =
     let reach : IsRange i.shape c.in-Some.of.block c.readable_range-from.result.0 c.readable_range-from.result.1 =
     subst (λ s. IsRange s c.in-Some.of.block c.readable_range-from.result.0 c.readable_range-from.result.1) shape
     (range_is c.shape-shape.result.now c.in-Some.of.block c.readable_range-from.result.0 c.readable_range-from.result.1 (subst (λ s. 0 < s.ws_opt) (sym shape) its.is.line_is.striped.some)
-    (subst (λ s. c.in-Some.of.block + s.ws_opt ≤ s.clba) (sym shape) (block_within i w c.args.stripe.now.stripe.unit (program c.in-Some.of) blank its.is)) c.readable_range-from.ensures.from c.readable_range-from.ensures.to) in
-    let chunk = chunk_is_read i w c.args.stripe.now.stripe.unit (program c.in-Some.of) its.has.slot blank its.is its.has.is in
+    (subst (λ s. c.in-Some.of.block + s.ws_opt ≤ s.clba) (sym shape) (block_within i w c.args.stripe.now.stripe.unit (program c.in-Some.of) plain its.is)) c.readable_range-from.ensures.from c.readable_range-from.ensures.to) in
+    let chunk = chunk_is_read i w c.args.stripe.now.stripe.unit (program c.in-Some.of) its.has.slot plain its.is its.has.is in
     let into : IsLandedInto c.args.self.now _ (program c.in-Some.of) its.has.k its.has.slot c.land.new.self false c.readable_range-from.result.0 c.readable_range-from.result.1 = record {
       layout = refl;
       map = c.make_readable.ensures.map ∙ ap (λ (l : OpenLine). all_moved c.args.self.now.layout.capacity l.records.line c.args.self.now.map (reads_of l c.in-Some.of.unit c.readable_range-from.result.0 c.readable_range-from.result.1)) got_is.slot;
@@ -256,6 +257,7 @@ returns-else-land-eq0-clause-stands c =
       left = λ e. absurd (some e);
       none_left = λ e. absurd (let f : false ≡ true = e in cc);
       live = refl;
+      resets = refl;
       start = refl;
       first = refl;
       placed = refl;
@@ -263,8 +265,8 @@ returns-else-land-eq0-clause-stands c =
       under_way = refl;
       users = refl;
     } in
-    landed_stands i w c.args.stripe.now.stripe.unit event knows c.args.self.now _ (program c.in-Some.of) c.land.new.self false c.readable_range-from.result.0 c.readable_range-from.result.1 blank st its.is its.waits may its.has into
-    (read_now i w c.args.stripe.now.stripe.unit event knows c.args.self.now _ (program c.in-Some.of) c.land.new.self false c.readable_range-from.result.0 c.readable_range-from.result.1 blank st its.is its.has into reach chunk)
+    landed_stands i w c.args.stripe.now.stripe.unit event knows c.args.self.now _ (program c.in-Some.of) c.land.new.self false c.readable_range-from.result.0 c.readable_range-from.result.1 plain st its.is its.waits may its.has into
+    (read_now i w c.args.stripe.now.stripe.unit event knows c.args.self.now _ (program c.in-Some.of) c.land.new.self false c.readable_range-from.result.0 c.readable_range-from.result.1 plain st its.is its.has into reach chunk)
 
 pub returns-then-land-eq0-clause-own : goal.returns-then-land-eq0-clause-own
 returns-then-land-eq0-clause-own c = (both_frames c.args.self.now.window _ _ (positions_placed c.in-Some.of) (reads_of c.get.result.now c.in-Some.of.unit c.readable_range-from.result.0 c.readable_range-from.result.1) c.land_entries.ensures c.make_readable.ensures.window).own

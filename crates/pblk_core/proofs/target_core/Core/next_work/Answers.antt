@@ -1,23 +1,28 @@
-use Rattle.std.proofs.Common.{◌≡◌, ◌+◌, ◌≤◌, ◌∙◌, arith, rules}
-use Rattle.std.proofs.lemmas.Grind.{common_steps}
-use Rattle.write_window.specs.Window as view
-use Rattle.pblk_core.specs.Named.{named}
-use Rattle.pblk_core.specs.declared.work.Work.TheVariants as works
-use Rattle.pblk_core.proofs.WorkOf.{placed_within, work_is}
+use Rattle.std.proofs.Common.{◌+◌, ◌^◌, ◌≤◌, sym, ap, ◌∙◌, arith}
+use Rattle.pblk_core.specs.Named.{named_beside, reset_or}
+use Rattle.pblk_core.proofs.NamedReset.{to_reset}
+use Rattle.pblk_core.proofs.SmallGrant.{small}
+use Rattle.pblk_core.proofs.StandsReset.{named_in}
+use Rattle.pblk_core.proofs.WorkOf.{work_is}
 use Rattle.pblk_core.proofs.target_core.Core.next_work.Goals as goal
 
-pub overflow_add-self : goal.overflow_add-self
-overflow_add-self c =
-    let st = c.requires in
-    let within : c.args.self.now.first + c.args.self.now.placed ≤ view.taken c.args.self.now.window = placed_within st.image st.world c.args.self.now st.legal st.stands in
-    search rules
+pub work_beside-requires : goal.work_beside-requires
+work_beside-requires c =
+    let placed : c.args.self.now.first + c.args.self.now.placed ≤ 2 ^ 62 = (small c.requires.image c.requires.world c.args.self.now c.requires.legal c.requires.stands).placed in
+    omega arith
 
-pub returns-then-may_open-clause-work : goal.returns-then-may_open-clause-work
-returns-then-may_open-clause-work c = λ i w blank st.
-    let is : works.Open ≡ named c.args.self.now = first_of (search rules, grind (arith, common_steps)) in
-    is ∙ work_is i w c.args.self.now blank st
+pub returns-in-Some-clause-work : goal.returns-in-Some-clause-work
+returns-in-Some-clause-work c = λ i w plain st.
+    ap (λ o. reset_or o (named_beside c.args.self.now)) (sym c.in-Some.is ∙ c.first.ensures) ∙ work_is i w c.args.self.now plain st
 
-pub returns-clause-work : goal.returns-clause-work
-returns-clause-work c = λ i w blank st.
-    let is : works.Nothing c.why.result ≡ named c.args.self.now = first_of (search rules, grind (arith, common_steps)) in
-    is ∙ work_is i w c.args.self.now blank st
+pub returns-in-None-clause-work : goal.returns-in-None-clause-work
+returns-in-None-clause-work c = λ i w plain st.
+    c.work_beside.ensures ∙ ap (λ o. reset_or o (named_beside c.args.self.now)) (sym c.in-None.is ∙ c.first.ensures) ∙ work_is i w c.args.self.now plain st
+
+pub returns-in-Some-clause-reset : goal.returns-in-Some-clause-reset
+returns-in-Some-clause-reset c = λ i w line unit st is.
+    to_reset i _ line unit (named_in i _ c.args.self.now line unit st (ap (λ o. reset_or o (named_beside c.args.self.now)) (sym c.first.ensures ∙ c.in-Some.is) ∙ is))
+
+pub returns-in-None-clause-reset : goal.returns-in-None-clause-reset
+returns-in-None-clause-reset c = λ i w line unit st is.
+    to_reset i _ line unit (named_in i _ c.args.self.now line unit st (ap (λ o. reset_or o (named_beside c.args.self.now)) (sym c.first.ensures ∙ c.in-None.is) ∙ sym c.work_beside.ensures ∙ is))

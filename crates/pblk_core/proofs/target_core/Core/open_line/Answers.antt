@@ -4,9 +4,11 @@ use Rattle.std.specs.List.{slice_index_or}
 use Rattle.pblk_model.specs.declared.shape.Shape.{Shape}
 use Rattle.pblk_model.specs.Shape.{units}
 use Rattle.pblk_model.specs.LineOrder.{data_len}
-use Rattle.pblk_model.specs.StartRecord.{start_fits}
+use Rattle.pblk_model.specs.StartRecord.{StartRecord, start_fits}
+use Rattle.pblk_model.specs.Image.{width}
 use Rattle.pblk_meta.specs.Records.{start_numbers}
 use Rattle.pblk_world.specs.World.{log_of}
+use Rattle.pblk_world.specs.Lines.{known_image}
 use Rattle.pblk_layout.specs.Live.{units_in}
 use Rattle.line_table.specs.declared.row.LineState.TheVariants as states
 use Rattle.line_table.specs.Rows.{Changes, turned}
@@ -14,7 +16,7 @@ use Rattle.stripe_placer.specs.Placing.{begun as line_begun}
 use Rattle.core_laws.specs.OpenedLines.{open_lines}
 use Rattle.pblk_core.specs.Slots.{opened_slot}
 use Rattle.pblk_core.specs.Named.{next_line, next_start}
-use Rattle.pblk_core.proofs.OpeningFacts.{open_is_named, next_line_is, next_may_open, chosen, none_open, stripes_few, has_data}
+use Rattle.pblk_core.proofs.OpeningFacts.{open_is_named, next_line_is, next_may_open, chosen, none_open, stripes_few}
 use Rattle.pblk_core.proofs.OpeningNumbers.{next_fits}
 use Rattle.pblk_core.proofs.StandsOpened.{opened_stands}
 use Rattle.pblk_core.proofs.WorkOf.{open_count}
@@ -34,10 +36,10 @@ overflow_mul-stripes c =
     let may = open_is_named c.args.self.now c.requires.named in
     let is = next_line_is st.image st.world c.args.self.now st.legal st.stands may in
     let it = chosen st.image st.world c.args.self.now c.in-Some.line c.index-live.result.now c.index-live.result.now st.legal st.stands may (sym c.least_free.ensures.least ∙ c.in-Some.is) c.index-live.ensures in
-    let value : c.width-width.result * (c.shape-shape.result.now.clba / c.shape-shape.result.now.ws_opt) ≡ units st.image.shape * (st.image.shape.clba / st.image.shape.ws_opt) =
+    let value : c.width-width.result * (c.shape-shape.result.now.clba / c.shape-shape.result.now.ws_opt) ≡ width (known_image st.image (log_of st.world)) (next_line c.args.self.now) * (st.image.shape.clba / st.image.shape.ws_opt) =
     ap₂ (λ g (s : Shape). g * (s.clba / s.ws_opt)) (c.width-width.ensures.width ∙ ap (λ m. length (units_in m)) it.1 ∙ is.wide) (c.shape-shape.ensures.shape ∙ st.stands.layout) in
     let low : c.width-width.result * (c.shape-shape.result.now.clba / c.shape-shape.result.now.ws_opt) < 2 ^ 32 =
-    subst (λ n. n < 2 ^ 32) (sym value) (stripes_few st.image.shape st.legal.plain.accepted) in
+    subst (λ n. n < 2 ^ 32) (sym value) (stripes_few st.image.shape (width (known_image st.image (log_of st.world)) (next_line c.args.self.now)) st.legal.accepted is.few) in
     search rules
 
 pub begin-requires-clause-room : goal.begin-requires-clause-room
@@ -56,7 +58,26 @@ pub begin-requires-clause-fits : goal.begin-requires-clause-fits
 begin-requires-clause-fits c = λ line there.
     let st = c.requires.standing in
     let may = open_is_named c.args.self.now c.requires.named in
-    let low : c.synced.result.position < 2 ^ 61 = subst (λ f. f.position < 2 ^ 61) (sym c.synced.ensures.synced) may.front in
+    let it = chosen st.image st.world c.args.self.now c.in-Some.line c.index-live.result.now c.index-live.result.now st.legal st.stands may (sym c.least_free.ensures.least ∙ c.in-Some.is) c.index-live.ensures in
+    let wide : c.width-width.result ≡ (next_start c.args.self.now).width = c.width-width.ensures.width ∙ ap (λ m. length (units_in m)) it.1 in
+    let front : c.synced.result.position ≡ (next_start c.args.self.now).front = ap (λ f. f.position) c.synced.ensures.synced in
+    let same : next_start c.args.self.now ≡ record {
+      line = c.in-Some.line;
+      width = c.width-width.result;
+      seq = c.args.self.now.start.seq;
+      first_seq = c.args.self.now.start.first_seq;
+      front = c.synced.result.position;
+      capacity = c.args.self.now.start.capacity;
+      rows = (start_numbers c.args.self.now.start).rows;
+    } = (λ j. record {
+      line = it.0 j;
+      width = sym wide j;
+      seq = c.args.self.now.start.seq;
+      first_seq = c.args.self.now.start.first_seq;
+      front = sym front j;
+      capacity = c.args.self.now.start.capacity;
+      rows = (start_numbers c.args.self.now.start).rows;
+    }) in
     subst (λ (s : Shape). IsTrue (start_fits s c.in-Some.line c.width-width.result (start_numbers (record {
       line = c.in-Some.line;
       width = c.width-width.result;
@@ -66,7 +87,7 @@ begin-requires-clause-fits c = λ line there.
       capacity = c.args.self.now.start.capacity;
       rows = c.args.self.now.start.rows;
     })))) (sym (st.stands.open_lines.shapes c.args.self.now.open.count line there))
-    (next_fits st.image st.world c.args.self.now c.in-Some.line c.width-width.result c.synced.result.position st.legal st.stands may.seq low)
+    (subst (λ (r : StartRecord). IsTrue (start_fits st.image.shape r.line r.width r)) same (next_fits st.image st.world c.args.self.now st.legal st.stands may))
 
 pub begin-requires-2-clause-line : goal.begin-requires-2-clause-line
 begin-requires-2-clause-line c =
@@ -100,10 +121,9 @@ begin-requires-2-clause-data c = λ none.
     let may = open_is_named c.args.self.now c.requires.named in
     let is = next_line_is st.image st.world c.args.self.now st.legal st.stands may in
     let it = chosen st.image st.world c.args.self.now c.in-Some.line c.index-live.result.now c.index-live.result.now st.legal st.stands may (sym c.least_free.ensures.least ∙ c.in-Some.is) c.index-live.ensures in
-    let same : data_len c.args.self.now.placer.shape (length (units_in c.index-live.result.now)) ≡ data_len st.image.shape (units st.image.shape) =
+    let same : data_len c.args.self.now.placer.shape (length (units_in c.index-live.result.now)) ≡ data_len st.image.shape (width (known_image st.image (log_of st.world)) (next_line c.args.self.now)) =
     ap₂ data_len (ap (λ p. p.shape) st.stands.placing) (ap (λ m. length (units_in m)) it.1 ∙ is.wide) in
-    let some : 0 < data_len st.image.shape (units st.image.shape) = has_data st.image.shape st.legal.plain.accepted in
-    no_data (data_len st.image.shape (units st.image.shape)) (sym same ∙ none) some
+    no_data (data_len st.image.shape (width (known_image st.image (log_of st.world)) (next_line c.args.self.now))) (sym same ∙ none) is.data_some
   where
     no_data : (n : ℕ) → n ≡ 0 → 0 < n → ⊥
     no_data n e some = absurd (omega arith)
@@ -124,17 +144,17 @@ overflow_add-self-2 c =
     search rules
 
 pub returns-clause-legal : goal.returns-clause-legal
-returns-clause-legal c = λ i w begun blank st has. next_may_open i w c.args.self.now begun blank st (open_is_named c.args.self.now c.requires.named) has
+returns-clause-legal c = λ i w begun plain st has. next_may_open i w c.args.self.now begun plain st (open_is_named c.args.self.now c.requires.named) has
 
 pub returns-clause-stands : goal.returns-clause-stands
-returns-clause-stands c = λ i w knows blank st.
+returns-clause-stands c = λ i w knows plain st.
     let may = open_is_named c.args.self.now c.requires.named in
-    let it = chosen i w c.args.self.now c.in-Some.line c.index-live.result.now c.index-live.result.now blank st may (sym c.least_free.ensures.least ∙ c.in-Some.is) c.index-live.ensures in
+    let it = chosen i w c.args.self.now c.in-Some.line c.index-live.result.now c.index-live.result.now plain st may (sym c.least_free.ensures.least ∙ c.in-Some.is) c.index-live.ensures in
     let width : c.width-width.result ≡ (next_start c.args.self.now).width = c.width-width.ensures.width ∙ ap (λ m. length (units_in m)) it.1 in
     let front : c.synced.result.position ≡ (next_start c.args.self.now).front = ap (λ f. f.position) c.synced.ensures.synced in
     let stripes : c.width-width.result * (c.shape-shape.result.now.clba / c.shape-shape.result.now.ws_opt) ≡ (next_start c.args.self.now).width * (c.args.self.now.layout.clba / c.args.self.now.layout.ws_opt) =
     ap₂ (λ g (s : Shape). g * (s.clba / s.ws_opt)) width c.shape-shape.ensures.shape in
-    opened_stands i w knows c.args.self.now _ blank st may (record {
+    opened_stands i w knows c.args.self.now _ plain st may (record {
       layout = refl;
       map = refl;
       lines = subst (λ n. Changes c.args.self.now.lines c.turn.new.self n (turned states.Open (next_start c.args.self.now).width)) (sym it.0)
@@ -153,6 +173,7 @@ returns-clause-stands c = λ i w knows blank st.
         rows = (start_numbers c.args.self.now.start).rows;
       }) (it.1 j) (stripes j)));
       live = refl;
+      resets = refl;
       seq = refl;
       first_seq = refl;
       own_capacity = refl;

@@ -1,4 +1,4 @@
-use Rattle.std.proofs.Common.{◌≡◌, ℕ, ◌+◌, ◌≤◌, ◌<◌, ◌^◌, List, length, refl, sym, subst, ap, ap₂, ◌∙◌, arith}
+use Rattle.std.proofs.Common.{◌≡◌, ℕ, ◌+◌, ◌≤◌, ◌<◌, ◌^◌, List, length, refl, sym, subst, ap, ap₂, ◌∙◌, arith, true, is_some, rules}
 use Rattle.std.specs.Prelude.{slice_get, slice_set}
 use Rattle.pblk_model.specs.declared.shape.Shape.{Shape}
 use Rattle.pblk_model.specs.declared.chunk.Mark.{Mark}
@@ -15,15 +15,22 @@ use Rattle.pblk_model.specs.LineOrder.{start_len}
 use Rattle.pblk_model.specs.Image.{Image}
 use Rattle.pblk_world.specs.World.{World, log_of}
 use Rattle.pblk_world.specs.Placing.{stripe_at}
-use Rattle.core_laws.specs.PlainWorlds.{IsBlankWorld}
+use Rattle.core_laws.specs.PlainWorlds.{IsPlainWorld}
 use Rattle.stripe_placer.specs.Placing.{Placing, program, placed}
 use Rattle.pblk_core.specs.Stands.{Stands}
 use Rattle.pblk_core.specs.declared.target_core.Core.{Core}
 use Rattle.pblk_core.proofs.PlacedStripe.{IsInPart}
 use Rattle.pblk_core.proofs.WaitingEntries.{sectors_sized}
 use Rattle.pblk_core.proofs.PlacingConditions.{offer, IsFound, found, found_there, slot_is, in_the_window, few_entries, line_inside, live_room, marks_room, marks_told, end_from, end_within, left_room, placed_short, under_way_short, unit_busy, unit_inside, start_stripe_is, end_stripe_is, data_stripe_is, stripe_of, IsSettledInto, settled_same, left_back, slot_there, no_positions, padded_is, told_marks}
+use Rattle.stripe_placer.specs.Placing.{next_stripe}
+use Rattle.pblk_core.proofs.WorkOf.{program_named}
 use Rattle.pblk_core.proofs.target_core.Core.place.Goals as goal
 use Rattle.pblk_core.proofs.target_core.Core.place.Goals.{After-placed, in-Start, in-Data, in-Pad, in-End}
+
+pub unreachable-requires : goal.unreachable-requires
+unreachable-requires c =
+    let some : is_some (next_stripe c.args.self.now.placer 0) ≡ true = program_named c.args.self.now c.requires.named in
+    search rules
 
 pub find-index-requires-clause-there : goal.find-index-requires-clause-there
 find-index-requires-clause-there c =
@@ -161,8 +168,8 @@ overflow_add-self-2 c =
     omega arith
 
 -- the line of the program among the open ones
-the_line : (c : After-placed) (i : Image) (v : World) → IsBlankWorld i v → Stands i (log_of v) c.args.self.now → IsFound i v c.args.self.now c.in-Some.of c.find-index.result
-the_line c i v blank st = found i v c.args.self.now c.in-Some.of c.find-index.result blank st c.in-Some.ensures.next c.find-index.ensures.inside c.find-index.ensures.line c.find-index.ensures.first
+the_line : (c : After-placed) (i : Image) (v : World) → IsPlainWorld i v → Stands i (log_of v) c.args.self.now → IsFound i v c.args.self.now c.in-Some.of c.find-index.result
+the_line c i v plain st = found i v c.args.self.now c.in-Some.of c.find-index.result plain st c.in-Some.ensures.next c.find-index.ensures.inside c.find-index.ensures.line c.find-index.ensures.first
 
 begun_shape : (c : After-placed) (i : Image) (v : World) → Stands i (log_of v) c.args.self.now → c.begin.new.self.shape ≡ i.shape
 begun_shape c i v st = ap (λ f. f.shape) c.begin.ensures ∙ c.requires.shape ∙ st.layout
@@ -174,9 +181,9 @@ no_pad : (c : After-placed) (i : Image) (v : World) → (f : IsFound i v c.args.
 no_pad c i v f is = subst (IsInPart i.shape f.o c.in-Some.of.at) is f.now.part
 
 -- the stripe is the program's
-the_stripe : (c : After-placed) (i : Image) (v : World) → IsBlankWorld i v → Stands i (log_of v) c.args.self.now → (f : IsFound i v c.args.self.now c.in-Some.of c.find-index.result)
+the_stripe : (c : After-placed) (i : Image) (v : World) → IsPlainWorld i v → Stands i (log_of v) c.args.self.now → (f : IsFound i v c.args.self.now c.in-Some.of c.find-index.result)
     → IsStripeFor i (log_of v) f.o (program c.in-Some.of) c.match-of.into.stripe
-the_stripe c i v blank st f =
+the_stripe c i v plain st f =
     let pad : ℕ = c.args.self.now.placer.entries.pad in
     let there : IsSlot c.args.self.now.open c.find-index.result f.has.slot = slot_there i v c.args.self.now c.in-Some.of c.find-index.result f in
     elim c.match-of.branch as (λ b. IsStripeFor i (log_of v) f.o (program c.in-Some.of) c.match-of.into.stripe) [
@@ -188,7 +195,7 @@ the_stripe c i v blank st f =
           let blocks : List Block = entry_blocks c.args.self.now.window c.args.self.now.holds.rows.items (positions_placed c.in-Some.of) in
           subst (IsStripeFor i (log_of v) f.o (program c.in-Some.of))
           (sym (ap (λ f. f.stripe) w.into-is ∙ padded_is c.in-Some.of c.args.into.now.shape blocks c.begin.new.self w.fill.new.into w.pad.new.self c.begin.ensures w.fill.ensures w.pad.ensures))
-          (data_stripe_is i v c.args.self.now f.o c.in-Some.of c.args.into.now.shape blank st f.now w.in-Data.is (c.requires.shape ∙ st.layout))
+          (data_stripe_is i v c.args.self.now f.o c.in-Some.of c.args.into.now.shape plain st f.now w.in-Data.is (c.requires.shape ∙ st.layout))
       | in-Pad w ↦ absurd (no_pad c i v f w.in-Pad.is)
       | in-End w ↦
           let blocks : List Block = stripe_at c.begin.new.self.shape (blocks_at_end f.has.slot.records) (end_begins f.has.slot.records) c.in-Some.of.at in
@@ -196,9 +203,9 @@ the_stripe c i v blank st f =
           (end_stripe_is i v pad f.o c.in-Some.of f.has.slot c.begin.new.self.shape f.now w.in-End.is f.has.is (begun_shape c i v st))
     ]
 
-the_rest : (c : After-placed) (i : Image) (v : World) → IsBlankWorld i v → Stands i (log_of v) c.args.self.now → (f : IsFound i v c.args.self.now c.in-Some.of c.find-index.result)
+the_rest : (c : After-placed) (i : Image) (v : World) → IsPlainWorld i v → Stands i (log_of v) c.args.self.now → (f : IsFound i v c.args.self.now c.in-Some.of c.find-index.result)
     → IsSettledInto c.args.self.now c.match-of.self f.has.k f.has.slot (program c.in-Some.of) c.match-of.into.stripe
-the_rest c i v blank st f =
+the_rest c i v plain st f =
     let pad : ℕ = c.args.self.now.placer.entries.pad in
     let old : Core = c.args.self.now in
     let there : IsSlot c.args.self.now.open c.find-index.result f.has.slot = slot_there i v c.args.self.now c.in-Some.of c.find-index.result f in
@@ -220,6 +227,7 @@ the_rest c i v blank st f =
             (told_marks w.pad.new.self.shape.sector w.parts.result.0.now w.parts.result.1.now c.match-of.into w.pad.new.self (assumption (w.parts.ensures)) w.into-is)
             ∙ sym (ap (λ kind. slots_for kind c.args.self.now.open.slots.items f.has.k f.has.slot c.match-of.into.stripe) w.in-Data.is);
         live = ap (λ (x : Core). x.live) w.self-is;
+        resets = ap (λ (x : Core). x.resets) w.self-is;
         start = ap (λ (x : Core). x.start) w.self-is;
         first = ap (λ (x : Core). x.first) w.self-is;
         placed = ap (λ (x : Core). x.placed) w.self-is ∙ ap (λ n. c.args.self.now.placed + n) (w.from-in-Data.ensures ∙ f.now.count);
@@ -227,7 +235,7 @@ the_rest c i v blank st f =
             ∙ left_back c.args.self.now.left w.from.result i.shape.ws_opt (entries_for c.in-Some.of.kind c.args.self.now.layout.ws_opt)
             (w.from.ensures ∙ ap (λ (s : Shape). s.ws_opt) (w.shape.ensures.shape ∙ st.layout))
             (ap (λ kind. entries_for kind c.args.self.now.layout.ws_opt) w.in-Data.is ∙ ap (λ (s : Shape). s.ws_opt) st.layout)
-            (left_room i v c.args.self.now f.o c.in-Some.of blank st f.now w.in-Data.is);
+            (left_room i v c.args.self.now f.o c.in-Some.of plain st f.now w.in-Data.is);
         under_way = ap (λ (x : Core). x.under_way) w.self-is;
         users = ap (λ (x : Core). x.users) w.self-is;
       }
@@ -239,15 +247,15 @@ the_rest c i v blank st f =
     ]
 
 pub returns-clause-legal : goal.returns-clause-legal
-returns-clause-legal c = λ i v blank st.
-    let f : IsFound i v c.args.self.now c.in-Some.of c.find-index.result = the_line c i v blank st in
-    f.now.may c.match-of.into.stripe (the_stripe c i v blank st f)
+returns-clause-legal c = λ i v plain st.
+    let f : IsFound i v c.args.self.now c.in-Some.of c.find-index.result = the_line c i v plain st in
+    f.now.may c.match-of.into.stripe (the_stripe c i v plain st f)
 
 pub returns-clause-stands : goal.returns-clause-stands
-returns-clause-stands c = λ i v knows blank st.
-    let f : IsFound i v c.args.self.now c.in-Some.of c.find-index.result = the_line c i v blank st in
-    let rest : IsSettledInto c.args.self.now c.match-of.self f.has.k f.has.slot (program c.in-Some.of) c.match-of.into.stripe = the_rest c i v blank st f in
-    placed_stands i v knows c.args.self.now _ f.o (program c.in-Some.of) c.match-of.into.stripe blank st f.has f.now (the_stripe c i v blank st f) f.now.count (record {
+returns-clause-stands c = λ i v knows plain st.
+    let f : IsFound i v c.args.self.now c.in-Some.of c.find-index.result = the_line c i v plain st in
+    let rest : IsSettledInto c.args.self.now c.match-of.self f.has.k f.has.slot (program c.in-Some.of) c.match-of.into.stripe = the_rest c i v plain st f in
+    placed_stands i v knows c.args.self.now _ f.o (program c.in-Some.of) c.match-of.into.stripe plain st f.has f.now (the_stripe c i v plain st f) f.now.count (record {
       layout = rest.layout;
       map = rest.map;
       lines = rest.lines;
@@ -257,6 +265,7 @@ returns-clause-stands c = λ i v knows blank st.
       open_count = rest.open_count;
       open_slots = rest.open_slots;
       live = rest.live;
+      resets = rest.resets;
       start = rest.start;
       first = rest.first;
       placed = rest.placed;

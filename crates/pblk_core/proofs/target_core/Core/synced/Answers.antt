@@ -3,4 +3,4 @@ use Rattle.pblk_core.proofs.SmallCalls.{synced_stands}
 use Rattle.pblk_core.proofs.target_core.Core.synced.Goals as goal
 
 pub returns : goal.returns
-returns c = λ i w blank st. c.synced.ensures.synced ∙ synced_stands i w c.args.self.now blank st
+returns c = λ i w plain st. c.synced.ensures.synced ∙ synced_stands i w c.args.self.now plain st

@@ -11,7 +11,7 @@ use Rattle.pblk_core.proofs.target_core.Core.take.Goals as goal
 
 pub returns : goal.returns
 returns c = record {
-  stands = λ i w knows blank st. taken_stands i w knows c.args.self.now _ c.args.entry blank st (record {
+  stands = λ i w knows plain st. taken_stands i w knows c.args.self.now _ c.args.entry plain st (record {
     slot = c.get.result;
     found = c.get.ensures;
     layout = refl;
@@ -23,6 +23,7 @@ returns c = record {
     holds = c.set-2.ensures ∙ ap (λ rows. slice_set rows (c.args.entry.position % length rows) (record { mark = mark_of c.args.entry; line = None; taker = None })) c.supersede.ensures.holds;
     open_lines = refl;
     live = refl;
+    resets = refl;
     start = refl;
     first = refl;
     placed = refl;
@@ -32,7 +33,7 @@ returns c = record {
   }) c.requires.next c.requires.room c.requires.user.0 c.requires.user.1 (subst (λ s. c.args.entry.lba < s.capacity) st.layout c.requires.lba);
   pushed = c.push.ensures.pushed;
   pad = ap (λ p. p.entries.pad) c.wait.ensures;
-  legal = λ i w blank st block. may_take i w c.args.self.now c.args.entry st c.requires.next c.requires.position c.requires.user.1 (subst (λ s. c.args.entry.lba < s.capacity) st.layout c.requires.lba) block;
+  legal = λ i w plain st block. may_take i w c.args.self.now c.args.entry st c.requires.next c.requires.position c.requires.user.1 (subst (λ s. c.args.entry.lba < s.capacity) st.layout c.requires.lba) block;
 }
 
 pub get-requires : goal.get-requires
@@ -43,7 +44,7 @@ get-requires c =
 pub supersede-requires-clause-room : goal.supersede-requires-clause-room
 supersede-requires-clause-room c =
     let st = c.requires.standing in
-    subst (λ n. 0 < n) (sym st.stands.holds.room) (ring_some st.image.shape st.legal.plain.accepted)
+    subst (λ n. 0 < n) (sym st.stands.holds.room) (ring_some st.image.shape st.legal.accepted)
 
 pub supersede-requires-clause-inside : goal.supersede-requires-clause-inside
 supersede-requires-clause-inside c = λ line is.
@@ -64,7 +65,7 @@ pub set-requires-2 : goal.set-requires-2
 set-requires-2 c =
     let st = c.requires.standing in
     subst (λ rows. 0 < length rows) (sym c.supersede.ensures.holds)
-    (subst (λ n. 0 < n) (sym (taker_length c.get.result c.args.entry.position c.args.self.now.holds.rows.items ∙ st.stands.holds.room)) (ring_some st.image.shape st.legal.plain.accepted))
+    (subst (λ n. 0 < n) (sym (taker_length c.get.result c.args.entry.position c.args.self.now.holds.rows.items ∙ st.stands.holds.room)) (ring_some st.image.shape st.legal.accepted))
 
 pub wait-requires-clause-room : goal.wait-requires-clause-room
 wait-requires-clause-room c =

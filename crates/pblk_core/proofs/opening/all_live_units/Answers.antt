@@ -1,6 +1,6 @@
 use Rattle.std.proofs.Common.{ap₂, ◌∙◌, [], ◌∷◌, ◌++◌}
 use Rattle.pblk_core.proofs.OpeningBits.{lines_more}
-use Rattle.pblk_core.proofs.target_core.all_live_units.Goals as goal
+use Rattle.pblk_core.proofs.opening.all_live_units.Goals as goal
 
 pub loop-line-preserved : goal.loop-line-preserved
 loop-line-preserved c =

@@ -1,8 +1,8 @@
 use Rattle.std.proofs.Common.{◌+◌, ◌*◌, ◌<◌, length, bit_or, sym, subst, ap, ◌∙◌}
 use Rattle.pblk_model.specs.Shape.{units}
 use Rattle.pblk_core.proofs.OpeningBits.{place_inside, whole_bit, bit_more, none_more}
-use Rattle.pblk_core.proofs.target_core.live_units.Goals.{then-is_online, else-is_online}
-use Rattle.pblk_core.proofs.target_core.live_units.Goals as goal
+use Rattle.pblk_core.proofs.opening.live_units.Goals.{then-is_online, else-is_online}
+use Rattle.pblk_core.proofs.opening.live_units.Goals as goal
 
 pub bounds-chunks-unit : goal.bounds-chunks-unit
 bounds-chunks-unit c =

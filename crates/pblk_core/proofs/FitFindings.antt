@@ -1,0 +1,34 @@
+-- What fits a shape.
+use Rattle.std.proofs.Common.{◌≡◌, ℕ, ◌^◌, ◌<◌, Some, None, Option, length, sym, subst, ap, ◌∙◌}
+use Rattle.std.specs.Prelude.{slice_get}
+use Rattle.std.proofs.lemmas.Option.{same_Some, none-some, slice_get_within}
+use Rattle.pblk_model.specs.declared.shape.Shape.{Shape}
+use Rattle.pblk_model.specs.declared.found.Found.{Found}
+use Rattle.pblk_model.specs.declared.found.LineRow.{LineRow}
+use Rattle.pblk_model.specs.Found.{IsFitFound, RowFits, HeadFits}
+use Rattle.line_table.specs.Rows.{Table}
+use Rattle.begin_laws.specs.OpeningTables.{IsOpeningTable}
+use Rattle.pblk_core.proofs.WaitingEntries.{contained}
+
+pub stray_inside : (s : Shape) (f : Found) (k line : ℕ) → IsFitFound s f → slice_get f.strays k ≡ Some line → line < s.chunks
+stray_inside s f k line fit there =
+    let row = fit.strays line (contained f.strays k line there) in
+    subst (λ n. line < n) fit.lines (slice_get_within f.lines line row.0 row.1)
+
+pub head_inside : (s : Shape) (f : Found) (line : ℕ) → IsFitFound s f → f.head ≡ Some line → line < length f.lines
+head_inside s f line fit is = go f.head is fit.head
+  where
+    go : (o : Option ℕ) → o ≡ Some line → HeadFits f o → line < length f.lines
+    go None e fits = absurd (none-some line e)
+    go (Some head) e fits = slice_get_within f.lines line fits.0 (ap (slice_get f.lines) (sym (same_Some head line e)) ∙ fits.2)
+
+pub small_seq : (s : Shape) (f : Found) (line seq : ℕ) (row : LineRow) → IsFitFound s f → slice_get f.lines line ≡ Some row → row.seq ≡ Some seq → seq < 2 ^ 61
+small_seq s f line seq row fit there is = go row.seq is (fit.rows line row there)
+  where
+    go : (o : Option ℕ) → o ≡ Some seq → RowFits s f line row o → seq < 2 ^ 61
+    go None e fits = absurd (none-some seq e)
+    go (Some n) e fits = subst (λ m. m < 2 ^ 61) (same_Some n seq e) fits.1
+
+-- a table of lines of the shape that the layout has
+pub opening_table : (s t : Shape) (f : Found) (table : Table) → s ≡ t → IsOpeningTable s f table → IsOpeningTable t f table
+opening_table s t f table same is = subst (λ (x : Shape). IsOpeningTable x f table) same is

@@ -1,0 +1,159 @@
+-- The lines that a mount found with a start record are as it found them.
+use Rattle.std.proofs.Common.{◌≡◌, ◌⊎◌, ℕ, ◌<◌, ◌≤◌, ◌&&◌, not, zero, suc, if◌then◌else◌, Bool, true, false, cond, Some, None, Option, List, [], ◌∷◌, take, refl, sym, subst, ap, ap₂, ◌∙◌, arith, inl, inr}
+use Rattle.std.specs.Prelude.{slice_get, slice_index}
+use Rattle.std.specs.List.{filter_map, cons_option, enumerate_from, range_with_len}
+use Rattle.std.specs.Option.{option_and_then, is_some}
+use Rattle.std.proofs.lemmas.Option.{same_Some, none-some}
+use Rattle.pblk_model.specs.Chunk.{Chunk}
+use Rattle.pblk_model.specs.UnitLog.{after_log}
+use Rattle.pblk_model.specs.StartRecord.{StartRecord, Row, start_of}
+use Rattle.pblk_model.specs.Image.{Image}
+use Rattle.pblk_model.specs.Contents.{head}
+use Rattle.pblk_world.specs.Events.{EngineEvent, Open, Event, Decides, Begin, Logged}
+use Rattle.pblk_world.specs.World.{World, Logs, log_of, known, prefixes, cut_logs, media, unit_event_of, unit_events}
+use Rattle.pblk_world.specs.EngineLog.{Begun, begun_by, begun, LineLife, AsFound, Opened, Freed, Opening, is_as_found, life_of}
+use Rattle.pblk_world.specs.Legal.{IsAllowed, IsLegal}
+use Rattle.pblk_world.specs.Lines.{found_by, found_image, known_image, has_number, are_empty, is_free_line}
+use Rattle.pblk_world.specs.Fronts.{first_position}
+use Rattle.pblk_world.specs.Starts.{bound_by, found_row, older_row, older_rows}
+use Rattle.pblk_world.specs.Victims.{is_freed}
+use Rattle.pblk_world.proofs.Growing.{knowledge_rises}
+use Rattle.core_laws.specs.PlainWorlds.{is_plain_event, ArePlain, IsPlainWorld}
+use Rattle.core_laws.specs.Stepping.{after}
+use Rattle.core_laws.proofs.Lists.{map_same}
+use Rattle.core_laws.proofs.Numbers.{opens, opens_at, life_at}
+use Rattle.core_laws.proofs.Numbering.{first_stays}
+use Rattle.line_laws.proofs.KeptRows.{found_kept}
+use Rattle.line_laws.proofs.PlainLogs.{none_freed}
+use Rattle.pblk_laws.proofs.Lists.{all_take}
+use Rattle.placed_laws.specs.StripePrograms.{HasHappened}
+use Rattle.placed_laws.proofs.Happened.{happened}
+use Rattle.placed_laws.proofs.KnownImages.{cut_cut}
+
+-- ---- the image that the mount found, as an event of the engine knows it
+
+first_knows : (log : List Logged) (b : Begun) → begun log ≡ Some b → (l : Logged) × (slice_get log 0 ≡ Some l) × (l.knows ≡ b.knows)
+first_knows [] b e = absurd (none-some b e)
+first_knows (l ∷ log) b e = (l, refl, by_event l.knows l.event e)
+  where
+    by_event : (knows : List ℕ) (event : Event) → begun_by knows event ≡ Some b → knows ≡ b.knows
+    by_event knows (Decides (Begin beginning)) e = ap (λ (x : Begun). x.knows) (same_Some (record { beginning = beginning; knows = knows }) b e)
+    by_event knows event e = absurd (none-some b e)
+
+media_same : (i : Image) (a b : Logs) → ((unit : ℕ) → a (suc unit) ≡ b (suc unit)) → media i a ≡ media i b
+media_same i a b same = ap (λ us. record { shape = i.shape; units = us })
+    (map_same (λ (unit : ℕ × List Chunk). after_log i.shape unit.1 (unit_events a unit.0)) (λ (unit : ℕ × List Chunk). after_log i.shape unit.1 (unit_events b unit.0))
+    (λ unit. ap (λ (xs : List Logged). after_log i.shape unit.1 (filter_map (λ (l : Logged). unit_event_of l.event) xs)) (same unit.0)) (enumerate_from 0 i.units))
+
+begun_early : (k : ℕ) (log : List Logged) → 0 < k → begun (take k log) ≡ begun log
+begun_early zero log some = absurd (omega arith)
+begun_early (suc k) [] some = refl
+begun_early (suc k) (l ∷ log) some = refl
+
+pub found_then : (i : Image) (w : World) (k : ℕ) (l : Logged) → IsLegal i w → slice_get (log_of w 0) k ≡ Some l → 0 < k → found_image i (prefixes l (log_of w)) ≡ found_image i (log_of w)
+found_then i w k l legal there some =
+    ap (λ n. found_by i (prefixes l (log_of w)) (begun (take n (log_of w 0)))) is.own ∙ ap (found_by i (prefixes l (log_of w))) (begun_early k (log_of w 0) some) ∙ go (begun (log_of w 0)) refl
+  where
+    is : HasHappened i (log_of w) 0 k l
+    is = happened i w 0 legal k l there
+
+    go : (b : Option Begun) → begun (log_of w 0) ≡ b → found_by i (prefixes l (log_of w)) b ≡ found_by i (log_of w) b
+    go None e = refl
+    go (Some b) e =
+        let first = first_knows (log_of w 0) b e in
+        media_same i (cut_logs b.knows (prefixes l (log_of w))) (cut_logs b.knows (log_of w))
+        (λ unit. cut_cut (slice_index b.knows (suc unit)) (known l (suc unit)) (log_of w (suc unit))
+        (subst (λ ks. slice_index ks (suc unit) ≤ known l (suc unit)) first.2 (knowledge_rises i w 0 (suc unit) 0 k first.0 l legal (omega arith) first.1 there)))
+
+-- ---- a line that was opened had no start record
+
+pub and_first : (a b : Bool) → (a && b) ≡ true → a ≡ true
+and_first true b e = refl
+and_first false b e = absurd cc
+
+pub no_some : (o : Option StartRecord) → not (is_some o) ≡ true → o ≡ None
+no_some None e = refl
+no_some (Some r) e = absurd cc
+
+opens_line : (e : Event) (line : ℕ) → opens e ≡ Some line → (start : StartRecord) × (e ≡ Decides (Open line start))
+opens_line (Decides (Open other start)) line is = (start, ap (λ n. Decides (Open n start)) (same_Some other line is))
+opens_line e line is = absurd (none-some line is)
+
+event_at : (log : List Logged) (n line : ℕ) → opens_at log n ≡ Some line → (l : Logged) × (slice_get log n ≡ Some l) × (opens l.event ≡ Some line)
+event_at log n line is = go (slice_get log n) refl is
+  where
+    go : (o : Option Logged) → slice_get log n ≡ o → option_and_then (λ (l : Logged). opens l.event) o ≡ Some line → (l : Logged) × (slice_get log n ≡ Some l) × (opens l.event ≡ Some line)
+    go None e f = absurd (none-some line f)
+    go (Some l) e f = (l, e, f)
+
+unnumbered : (i : Image) (ls : Logs) (life : LineLife) (line : ℕ) → is_freed life ≡ false → not (has_number i ls life line) ≡ true → start_of (found_image i ls) line ≡ None
+unnumbered i ls AsFound line freed e = no_some (start_of (found_image i ls) line) e
+unnumbered i ls (Opened o) line freed e = absurd cc
+unnumbered i ls (Freed was knows) line freed e = absurd cc
+
+pub free_unstarted : (i : Image) (logs : Logs) (line : ℕ) → ArePlain (logs 0) → is_free_line i logs line ≡ true → start_of (found_image i logs) line ≡ None
+free_unstarted i logs line plain free = unnumbered i logs (life_of (logs 0) line) line (none_freed (logs 0) plain line)
+    (and_first (not (has_number i logs (life_of (logs 0) line) line)) (are_empty (known_image i logs) line) (and_first _ _ free))
+
+pub opened_unstarted : (i : Image) (w : World) (line : ℕ) (o : Opening) → IsPlainWorld i w → life_of (log_of w 0) line ≡ Opened o → start_of (found_image i (log_of w)) line ≡ None
+opened_unstarted i w line o plain life =
+    let at = event_at (log_of w 0) o.number line ((life_at (log_of w 0) line o life).0) in
+    let is : HasHappened i (log_of w) 0 o.number at.0 = happened i w 0 plain.legal o.number at.0 at.1 in
+    let opening = opens_line at.0.event line at.2 in
+    let allowed : IsAllowed i 0 (Decides (Open line opening.0)) (prefixes at.0 (log_of w)) = subst (λ e. IsAllowed i 0 e (prefixes at.0 (log_of w))) opening.1 is.allowed in
+    let begins : begun (take o.number (log_of w 0)) ≡ Some allowed.0 = ap (λ n. begun (take n (log_of w 0))) (sym is.own) ∙ allowed.1 in
+    let free : is_free_line i (prefixes at.0 (log_of w)) line ≡ true = allowed.2.is_free in
+    ap (λ (j : Image). start_of j line) (sym (found_then i w o.number at.0 plain.legal at.1 (later o.number allowed.0 begins)))
+    ∙ free_unstarted i (prefixes at.0 (log_of w)) line (all_take (λ (l : Logged). is_plain_event l.event ≡ true) (known at.0 0) (log_of w 0) plain.engine) free
+  where
+    later : (n : ℕ) (b : Begun) → begun (take n (log_of w 0)) ≡ Some b → 0 < n
+    later zero b e = absurd (none-some b e)
+    later (suc n) b e = omega arith
+
+pub started_as_found : (i : Image) (w : World) (line : ℕ) → IsPlainWorld i w → is_some (start_of (found_image i (log_of w)) line) ≡ true → is_as_found (life_of (log_of w 0) line) ≡ true
+started_as_found i w line plain starts = go (life_of (log_of w 0) line) refl
+  where
+    go : (life : LineLife) → life_of (log_of w 0) line ≡ life → is_as_found life ≡ true
+    go AsFound e = refl
+    go (Opened o) e = let none : is_some (start_of (found_image i (log_of w)) line) ≡ false = ap is_some (opened_unstarted i w line o plain e) in absurd cc
+    go (Freed was knows) e = let no : is_freed (life_of (log_of w 0) line) ≡ false = none_freed (log_of w 0) plain.engine line in let yes : is_freed (life_of (log_of w 0) line) ≡ true = ap is_freed e in absurd cc
+
+-- ---- the rows of older lines stay
+
+made_same : {X Y : Type 0} (f g : X → Option Y) → ((x : X) → f x ≡ g x) → (xs : List X) → filter_map f xs ≡ filter_map g xs
+made_same f g same [] = refl
+made_same f g same (x ∷ xs) = ap₂ (λ o ys. cons_option o ys) (same x) (made_same f g same xs)
+
+if_none : (b : Bool) → ◌≡◌ {A = Option Row} (cond b None None) None
+if_none true = refl
+if_none false = refl
+
+abbrev pub HasOldRow : Image → Logs → Logs → ℕ → Type 0
+HasOldRow i logs new line = (is_as_found (life_of (new 0) line) ≡ is_as_found (life_of (logs 0) line)) ⊎ (start_of (found_image i logs) line ≡ None)
+
+pub older_kept : (i : Image) (logs : Logs) (e : EngineEvent) (knows : List ℕ) (b : Begun) → begun (logs 0) ≡ Some b → begun_by knows (Decides e) ≡ None → ((line : ℕ) → HasOldRow i logs (after logs e knows) line)
+    → older_rows i logs ≡ older_rows i (after logs e knows)
+older_kept i logs e knows b begins none each = made_same (older_row i logs) (older_row i (after logs e knows)) one (range_with_len 0 i.shape.chunks)
+  where
+    found : found_image i (after logs e knows) ≡ found_image i logs
+    found = found_kept i logs e knows none
+
+    first : first_position (after logs e knows 0) ≡ first_position (logs 0)
+    first = first_stays (logs 0) (record { event = Decides e; knows = knows }) b begins
+
+    row : (line : ℕ) (o : Option StartRecord) → found_row i (after logs e knows) line o ≡ found_row i logs line o
+    row line None = refl
+    row line (Some start) = ap₂ (λ (j : Image) n. Some (record { line = line; seq = start.seq; bound = bound_by (head j) n line start.seq })) found first
+
+    rows : (line : ℕ) → found_row i (after logs e knows) line (start_of (found_image i (after logs e knows)) line) ≡ found_row i logs line (start_of (found_image i logs) line)
+    rows line = ap (λ (j : Image). found_row i (after logs e knows) line (start_of j line)) found ∙ row line (start_of (found_image i logs) line)
+
+    one : (line : ℕ) → older_row i logs line ≡ older_row i (after logs e knows) line
+    one line = go (each line)
+      where
+        go : HasOldRow i logs (after logs e knows) line → older_row i logs line ≡ older_row i (after logs e knows) line
+        go (inl same) = ap₂ (λ c (o : Option Row). if c then o else None) (sym same) (sym (rows line))
+        go (inr unstarted) =
+            let before : found_row i logs line (start_of (found_image i logs) line) ≡ None = ap (found_row i logs line) unstarted in
+            ap (λ (o : Option Row). if is_as_found (life_of (logs 0) line) then o else None) before ∙ if_none (is_as_found (life_of (logs 0) line))
+            ∙ sym (ap (λ (o : Option Row). if is_as_found (life_of (after logs e knows 0) line) then o else None) (rows line ∙ before) ∙ if_none (is_as_found (life_of (after logs e knows 0) line)))

@@ -1,0 +1,143 @@
+-- The chunk that a core names to be reset.
+use Rattle.std.proofs.Common.{◌≡◌, ℕ, ◌<◌, nat_lt, if◌then◌else◌, Bool, true, false, Some, None, Option, List, [], ◌∷◌, refl, sym, ap, ◌∙◌, arith, ◌+◌, ◌==◌}
+use Rattle.std.specs.Prelude.{slice_get}
+use Rattle.std.specs.List.{filter, list_any, range_with_len}
+use Rattle.std.specs.Option.{is_some, option_map_or}
+use Rattle.std.proofs.lemmas.Option.{none-some}
+use Rattle.pblk_model.specs.declared.shape.Shape.{Shape}
+use Rattle.pblk_model.specs.Chunk.{Chunk}
+use Rattle.pblk_model.specs.Shape.{units}
+use Rattle.pblk_model.specs.StartRecord.{start_of}
+use Rattle.pblk_model.specs.Image.{Image}
+use Rattle.pblk_laws.specs.LineBlocks.{chunk_in}
+use Rattle.pblk_world.specs.Events.{Logged}
+use Rattle.pblk_world.specs.World.{World, Logs, log_of}
+use Rattle.pblk_world.specs.EngineLog.{Begun, begun, LineLife, AsFound, Opened, Freed, life_of}
+use Rattle.pblk_world.specs.Lines.{found_by, found_image, known_image, is_stray, stray_lines, is_given_up_by, strays_of, is_given_up}
+use Rattle.pblk_world.specs.Victims.{is_freed}
+use Rattle.core_laws.specs.PlainWorlds.{IsPlainWorld}
+use Rattle.line_laws.proofs.PlainLogs.{none_freed}
+use Rattle.found_laws.proofs.Began.{began_strays}
+use Rattle.begin_laws.proofs.Lists.{any_passed}
+use Rattle.stripe_placer.specs.Placing.{next_stripe}
+use Rattle.pblk_core.specs.Named.{reset_or, choice, asks_line, has_free, may_open, named}
+use Rattle.pblk_core.specs.Resets.{is_used_state, is_used_in, used_units, units_to_reset, resets_of, resets_left, IsToReset}
+use Rattle.pblk_core.specs.declared.resets.LineChunk.{LineChunk}
+use Rattle.pblk_core.specs.declared.target_core.Core.{Core}
+use Rattle.pblk_core.specs.declared.work.Work.{Work}
+use Rattle.pblk_core.specs.declared.work.Work.TheVariants.{Reset}
+use Rattle.pblk_core.proofs.FirstReset.{chunk_of, IsFirstOf, first_is, IsFirstPassed, first_passed}
+use Rattle.pblk_core.proofs.FoundLines.{and_first, no_some}
+
+-- ---- the core's work
+
+abbrev reset_line : Work → ℕ
+reset_line (Reset line unit) = line
+reset_line other = 0
+
+abbrev reset_unit : Work → ℕ
+reset_unit (Reset line unit) = unit
+reset_unit other = 0
+
+abbrev is_reset : Work → Bool
+is_reset (Reset line unit) = true
+is_reset other = false
+
+never_reset : (a b c d e : Bool) → is_reset (choice a b c d e) ≡ false
+never_reset true b c d e = refl
+never_reset false true true true e = refl
+never_reset false true true false e = refl
+never_reset false true false d e = refl
+never_reset false false c d e = refl
+
+same_chunk : (r : LineChunk) (line unit : ℕ) → r.line ≡ line → r.unit ≡ unit → r ≡ chunk_of line unit
+same_chunk r line unit a b = λ k. chunk_of (a k) (b k)
+
+pub first_named : (o : Option LineChunk) (a b c d e : Bool) (line unit : ℕ) → reset_or o (choice a b c d e) ≡ Reset line unit → o ≡ Some (chunk_of line unit)
+first_named None a b c d e line unit is = let its : is_reset (choice a b c d e) ≡ true = ap is_reset is in let none : is_reset (choice a b c d e) ≡ false = never_reset a b c d e in absurd cc
+first_named (Some r) a b c d e line unit is = ap Some (same_chunk r line unit (ap reset_line is) (ap reset_unit is))
+
+pub named_first : (c : Core) (line unit : ℕ) → named c ≡ Reset line unit → slice_get (resets_left c.resets) 0 ≡ Some (chunk_of line unit)
+named_first c line unit is = first_named (slice_get (resets_left c.resets) 0) (is_some (next_stripe c.placer 0)) (asks_line c) (has_free c) (may_open c) (nat_lt 0 c.under_way) line unit is
+
+-- ---- by the logs
+
+pub record IsNamedReset (i : Image) (logs : Logs) (line unit : ℕ) : Type 0 where
+  pub in_range : line < i.shape.chunks
+  pub unit_in_range : unit < units i.shape
+  pub given_up : is_given_up (logs 0) line ≡ true
+  pub first : IsFirstOf (units_to_reset i logs) 0 i.shape.chunks (chunk_of line unit)
+  pub passed : IsFirstPassed (is_used_in (known_image i logs) line) 0 (units i.shape) unit first.units
+  pub chunk : Chunk
+  pub is_chunk : chunk_in (known_image i logs) line unit ≡ Some chunk
+  pub used : is_used_state chunk.state ≡ true
+
+used_chunk : (o : Option Chunk) → option_map_or (λ (c : Chunk). is_used_state c.state) o false ≡ true → (c : Chunk) × (o ≡ Some c) × (is_used_state c.state ≡ true)
+used_chunk None e = absurd cc
+used_chunk (Some c) e = (c, refl, e)
+
+pub reset_named : (i : Image) (logs : Logs) (line unit : ℕ) → slice_get (resets_of i logs) 0 ≡ Some (chunk_of line unit) → IsNamedReset i logs line unit
+reset_named i logs line unit e = go (is_given_up (logs 0) line) refl first.is
+  where
+    first : IsFirstOf (units_to_reset i logs) 0 i.shape.chunks (chunk_of line unit)
+    first = first_is (units_to_reset i logs) 0 i.shape.chunks (chunk_of line unit) e
+
+    with_units : is_given_up (logs 0) line ≡ true → used_units (known_image i logs) line ≡ unit ∷ first.units → IsNamedReset i logs line unit
+    with_units given is =
+        let passed : IsFirstPassed (is_used_in (known_image i logs) line) 0 (units i.shape) unit first.units = first_passed (is_used_in (known_image i logs) line) 0 (units i.shape) unit first.units is in
+        let inside : unit < 0 + units i.shape = passed.inside in
+        let line_inside : line < 0 + i.shape.chunks = first.inside in
+        let used = used_chunk (chunk_in (known_image i logs) line unit) passed.passes in
+        record {
+          in_range = omega arith;
+          unit_in_range = omega arith;
+          given_up = given;
+          first = first;
+          passed = passed;
+          chunk = used.0;
+          is_chunk = used.1;
+          used = used.2;
+        }
+
+    go : (b : Bool) → is_given_up (logs 0) line ≡ b → (if b then used_units (known_image i logs) line else []) ≡ unit ∷ first.units → IsNamedReset i logs line unit
+    go true given is = with_units given is
+    go false given is = absurd (none-some unit (ap (λ xs. slice_get xs 0) is))
+
+pub to_reset : (i : Image) (logs : Logs) (line unit : ℕ) → IsNamedReset i logs line unit → IsToReset i logs line unit
+to_reset i logs line unit is = record {
+  in_range = is.in_range;
+  unit_in_range = is.unit_in_range;
+  given_up = is.given_up;
+  chunk = is.chunk;
+  is_chunk = is.is_chunk;
+  used = is.used;
+}
+
+-- ---- a line that a plain world gave up is a stray of its beginning
+
+pub given_as_found : (log : List Logged) (line : ℕ) → is_freed (life_of log line) ≡ false → is_given_up log line ≡ true → (life_of log line ≡ AsFound) × (list_any (λ stray. stray == line) (strays_of log) ≡ true)
+given_as_found log line freed given = go (life_of log line) refl freed given
+  where
+    go : (life : LineLife) → life_of log line ≡ life → is_freed life ≡ false → is_given_up_by (strays_of log) line life ≡ true → (life_of log line ≡ AsFound) × (list_any (λ stray. stray == line) (strays_of log) ≡ true)
+    go AsFound is kept e = (is, e)
+    go (Opened o) is kept e = absurd cc
+    go (Freed was knows) is kept e = absurd cc
+
+pub given_unstarted : (i : Image) (w : World) (line : ℕ) (b : Begun) → IsPlainWorld i w → begun (log_of w 0) ≡ Some b → line < i.shape.chunks → is_given_up (log_of w 0) line ≡ true → start_of (found_image i (log_of w)) line ≡ None
+given_unstarted i w line b plain begins inside given =
+    let strays : strays_of (log_of w 0) ≡ stray_lines (found_image i (log_of w)) =
+    ap (λ (o : Option Begun). option_map_or (λ (x : Begun). x.beginning.strays) o []) begins ∙ began_strays i w b plain.legal begins in
+    let among = (given_as_found (log_of w 0) line (none_freed (log_of w 0) plain.engine line) given).1 in
+    let shape : (found_image i (log_of w)).shape ≡ i.shape = found_shape i (log_of w) in
+    let stray : is_stray (found_image i (log_of w)) line ≡ true =
+    sym (any_passed (is_stray (found_image i (log_of w))) 0 i.shape.chunks line (omega arith) (omega arith))
+    ∙ ap (λ (s : Shape). list_any (λ stray. stray == line) (filter (is_stray (found_image i (log_of w))) (range_with_len 0 s.chunks))) (sym shape)
+    ∙ sym (ap (list_any (λ stray. stray == line)) strays) ∙ among in
+    no_some (start_of (found_image i (log_of w)) line) (and_first _ _ stray)
+  where
+    found_shape : (j : Image) (ls : Logs) → (found_image j ls).shape ≡ j.shape
+    found_shape j ls = go (begun (ls 0))
+      where
+        go : (o : Option Begun) → (found_by j ls o).shape ≡ j.shape
+        go None = refl
+        go (Some x) = refl

@@ -1,0 +1,44 @@
+-- What a core holds that was made of what recovery found.
+use Rattle.std.specs.Prelude.{ℕ, ◌<◌, ◌≡◌, [], length, map, slice_get, Some}
+use Rattle.std.specs.FinMap as fin
+use Rattle.pblk_model.specs.declared.shape.Shape.{Shape}
+use Rattle.pblk_model.specs.declared.found.Found.{Found}
+use Rattle.pblk_meta.specs.Records.{row_numbers}
+use Rattle.stripe_placer.specs.Placing.{nothing_placed}
+use Rattle.found_laws.specs.Beginnings.{seq_after}
+use Rattle.begin_laws.specs.OnlineUnits.{all_online}
+use Rattle.begin_laws.specs.OpeningTables.{IsOpeningTable, slot_found}
+use Rattle.pblk_core.specs.OlderLines.{older_found}
+use Rattle.pblk_core.specs.Resets.{resets_found, resets_left}
+use Rattle.pblk_core.specs.declared.open_lines.OpenLine.{OpenLine}
+use Rattle.pblk_core.specs.declared.target_core.Core.{Core}
+
+pub record IsMadeOn (s : Shape) (f : Found) (c : Core) : Type 0 where
+  pub layout : c.layout ≡ s
+  -- sectors, lines and chunks as they were found
+  pub capacity : fin.len c.map ≡ s.capacity
+  pub slots : (lba : ℕ) → lba < s.capacity → fin.get c.map lba ≡ Some (slot_found f.winners lba)
+  pub lines : IsOpeningTable s f c.lines
+  pub live : c.live.items ≡ all_online s f.chunks s.chunks
+  pub resets : resets_left c.resets ≡ resets_found s f.chunks f.strays
+  -- positions from the end on, of which none was taken
+  pub size : c.window.size ≡ s.ring
+  pub freed : c.window.freed ≡ f.end
+  pub entries : c.window.entries ≡ []
+  pub no_users : c.window.users ≡ 0
+  pub holds : length c.holds.rows.items ≡ s.ring
+  pub first : c.first ≡ f.end
+  pub placed : c.placed ≡ 0
+  pub users : c.users ≡ 0
+  -- no line is open
+  pub placer : c.placer ≡ nothing_placed s
+  pub two : length c.open.slots.items ≡ 2
+  pub shapes : (k : ℕ) (line : OpenLine) → slice_get c.open.slots.items k ≡ Some line → line.records.shape ≡ s
+  pub none_open : c.open.count ≡ 0
+  pub left : c.left ≡ 0
+  pub in_flight : c.under_way ≡ 0
+  -- what the next start record says
+  pub seq : c.start.seq ≡ seq_after f.lines f.head
+  pub first_seq : c.start.first_seq ≡ seq_after f.lines f.head
+  pub own_capacity : c.start.capacity ≡ s.capacity
+  pub rows : map row_numbers c.start.rows ≡ older_found f.end f.lines
