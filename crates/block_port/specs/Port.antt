@@ -1,9 +1,9 @@
 -- What a port has answered and come to know, and what its calls leave of it.
 use Rattle.std.specs.Prelude.{ℕ, ◌+◌, ◌*◌, ◌/◌, ◌<◌, ◌≤◌, ◌≡◌, ◌⊎◌, ⊤, List, [], ◌∷◌, ◌++◌, map, length, take, slice_range, Option, Result, Ok, Err}
-use Rattle.pblk_model.specs.declared.shape.Shape.{Shape}
 use Rattle.pblk_model.specs.declared.run.Front.{Front}
 use Rattle.pblk_model.specs.declared.run.Place.{Place}
 use Rattle.pblk_model.specs.History.{after, users}
+use Rattle.pblk_model.specs.Image.{Image}
 use Rattle.block_port.specs.declared.port.WriteErr.{WriteErr}
 use Rattle.block_port.specs.declared.port.WriteErr.TheVariants as write
 use Rattle.block_port.specs.declared.port.ReadErr.{ReadErr}
@@ -14,10 +14,10 @@ use Rattle.block_port.specs.declared.rows.DriveAnswer.{DriveAnswer}
 use Rattle.block_port.specs.declared.rows.WornAnswer.{WornAnswer}
 use Rattle.block_port.specs.Own.{PlacedSector, OwnWrite, sectors_of}
 
--- What no call changes of the drive under a target: its numbers and those of the target on it, and the wear level index of
--- each chunk, by unit.
+-- What no call changes of the drive under a target: the image that it had when it was handed in, with its numbers and those
+-- of the target on it, and the wear level index of each chunk, by unit.
 pub record Footing : Type 0 where
-  pub shape : Shape
+  pub image : Image
   pub wear : List (List ℕ)
 
 -- A port to a block device, at one moment.

@@ -1,32 +1,44 @@
--- A mount that begins on a drive on which nothing was written.
-use Rattle.std.proofs.Common.{◌≡◌, ℕ, ◌+◌, ◌-◌, ◌*◌, ◌^◌, ◌<◌, ◌≤◌, min, max, zero, suc, Some, List, [], ◌∷◌, length, refl, sym, subst, ap, ◌∙◌, arith}
-use Rattle.std.specs.Prelude.{map, replicate, slice_get}
-use Rattle.std.specs.List.{AllByRecursion, enumerate_from}
+-- A mount that begins with what was found of its drive.
+use Rattle.std.proofs.Common.{◌≡◌, ℕ, ◌+◌, ◌-◌, ◌*◌, ◌^◌, ◌≤◌, min, max, Some, List, [], ◌∷◌, ◌++◌, drop, take, length, refl, sym, subst, ap, ◌∙◌, arith}
+use Rattle.std.specs.Prelude.{map, slice_get}
+use Rattle.std.specs.List.{filter, flat_map}
+use Rattle.std.specs.Option.{option_map}
 use Rattle.std.proofs.Math.Nat.{mul-le-mul_left}
-use Rattle.std.proofs.Math.Seq.{drop-nil}
-use Rattle.std.proofs.lemmas.List.{length-replicate}
-use Rattle.std.proofs.lemmas.Option.{slice_get_within}
+use Rattle.std.proofs.Math.Seq.{drop-nil, take-append_seam}
+use Rattle.std.proofs.lemmas.Option.{slice_get-map}
+use Rattle.pblk_model.specs.declared.found.Found.{Found}
 use Rattle.pblk_model.specs.declared.shape.Shape.{Shape}
 use Rattle.pblk_model.specs.Accepted.{IsAccepted}
 use Rattle.pblk_model.specs.Shape.{units}
-use Rattle.pblk_model.specs.Chunk.{Chunk, IsChunk, free_chunk}
 use Rattle.pblk_model.specs.Contents.{least_missing}
+use Rattle.pblk_model.specs.Found.{IsFitFound}
 use Rattle.pblk_model.specs.Frames.{PoolView, count_out}
-use Rattle.pblk_model.specs.Image.{Image, blank}
-use Rattle.pblk_laws.proofs.Lists.{all_replicate}
-use Rattle.pblk_laws.proofs.BlankImages.{blank_fit}
-use Rattle.pblk_laws.proofs.ChunkStep.{free_is_chunk}
-use Rattle.unit_port.specs.Unit.{ModelUnit, IsFitUnit}
-use Rattle.pblk_world.specs.Events.{Begin}
-use Rattle.pblk_world.specs.Fronts.{first_position}
+use Rattle.pblk_model.specs.Image.{Image}
+use Rattle.unit_port.specs.Armed.{IsUnarmed}
+use Rattle.unit_port.specs.Unit.{ModelUnit}
+use Rattle.vector_io.specs.Commands.{IsKept}
+use Rattle.scan_recovery.specs.Units.{AreFit, IsUnitOf, image_of}
+use Rattle.scan_recovery.proofs.PadLoops.{fit_image, fit_kept}
+use Rattle.pblk_world.specs.Events.{Beginning, Begin, Decides as Event, Logged}
+use Rattle.pblk_world.specs.EngineLog.{Taken, begun, takes}
+use Rattle.pblk_world.specs.Fronts.{first_position, is_users}
+use Rattle.pblk_world.specs.Lines.{found_image}
+use Rattle.pblk_world.specs.Opening.{MayBegin}
 use Rattle.pblk_world.specs.World.{World, Logs, log_of, media}
 use Rattle.pblk_world.specs.Space.{freed, room, ring_limit, space_limit, position_limit}
-use Rattle.core_laws.specs.PlainWorlds.{IsBlankWorld}
-use Rattle.core_laws.specs.WindowOf.{HeldSectors, without_frame}
-use Rattle.step_laws.specs.Whole.{engine_step, knows_all, first_beginning}
-use Rattle.step_laws.proofs.Beginning.{nothing_yet, begins}
+use Rattle.core_laws.specs.PlacerOf.{unanswered_on}
+use Rattle.core_laws.specs.PlainWorlds.{IsPlainWorld}
+use Rattle.core_laws.specs.WindowOf.{HeldSectors, held_of, without_frame}
+use Rattle.found_laws.specs.Beginnings.{beginning_of}
+use Rattle.found_laws.specs.Finding.{IsFoundOf, NoneOpen}
+use Rattle.found_laws.proofs.Beginning.{may_begin}
+use Rattle.found_laws.proofs.Fits.{found_fits}
+use Rattle.step_laws.specs.Whole.{knows_all, after_begin}
+use Rattle.step_laws.proofs.Beginning.{mount_begins, begun_is, found_is, known_is, begins_level}
 use Rattle.step_laws.proofs.EngineSteps.{engine_logs, media_still}
-use Rattle.step_laws.proofs.Levels.{level_by}
+use Rattle.opening_steps.specs.Finding.{IsFoundAfter}
+use Rattle.opening_steps.specs.Opened.{AreUnarmed, new_events, after_units}
+use Rattle.opening_steps.proofs.Worlds.{plain_world, media_are, units_quiet}
 use Rattle.write_window.specs.declared.held.Held.{Held}
 use Rattle.write_window.specs.Window as window
 use Rattle.pblk_core.specs.Filling.{Filling}
@@ -34,19 +46,16 @@ use Rattle.pblk_core.specs.Named.{pad_of}
 use Rattle.pblk_core.specs.Stands.{Stands, IsStanding}
 use Rattle.pblk_core.specs.declared.target_core.Core.{Core}
 use Rattle.block_target.specs.Begun.{HasBegun, AreBegun}
-use Rattle.block_target.specs.Deeds.{Deed, Decides}
-use Rattle.block_target.specs.Mount.{MountView, IsMount, IsUnitIn, IsNewUnit, AreNewUnits}
+use Rattle.block_port.specs.Own.{OwnWrite, lines_of}
+use Rattle.block_port.specs.declared.rows.WornAnswer.{WornAnswer}
+use Rattle.block_target.specs.Deeds.{Deed, drive_before, drive_found, world_of}
+use Rattle.block_target.specs.Mount.{MountView, IsMount, IsSound, IsUnitIn, engine_log, logs_in}
+use Rattle.block_target.specs.NothingLeft.{AreRefusals}
+use Rattle.block_target.specs.Opened.{IsOpened, first_deeds}
+use Rattle.block_target.specs.Serial.{IsSerial}
 use Rattle.block_target.specs.declared.mount.Parts.{Parts}
 
 -- ---- numbers
-
-product : (a b : ℕ) → a ≤ 64 → b ≤ 1024 → a * b ≤ 65536
-product a b few low =
-    let x : a * b ≤ a * 1024 = mul-le-mul_left a low in
-    omega arith
-
-pub few_chunks : (s : Shape) → IsAccepted s → units s * s.chunks ≤ 65536
-few_chunks s accepted = product (units s) s.chunks accepted.drive.few_units accepted.drive.lines_high
 
 kept : (s : Shape) → IsAccepted s → units s * s.ws_opt ≤ s.ring
 kept s accepted =
@@ -57,130 +66,190 @@ kept s accepted =
 below_ring : (granted free ring less space last : ℕ) → granted ≡ min (min (free + ring - less) space) last → less ≤ ring → granted + less ≤ free + ring
 below_ring granted free ring less space last is low = omega arith
 
-below_last : (granted ring space first : ℕ) → granted ≡ min (min ring space) (max (2 ^ 61 - 2) first) → first ≡ 0 → granted < 2 ^ 61
-below_last granted ring space first is none = omega arith
+below_last : (granted ring space first : ℕ) → granted ≡ min (min ring space) (max (2 ^ 61 - 2) first) → granted ≤ max (2 ^ 61 - 2) first
+below_last granted ring space first is = omega arith
 
 no_less : (granted free : ℕ) → granted ≡ free → free ≤ granted
 no_less granted free is = omega arith
 
-no_more : (a b : ℕ) → a ≤ b → b ≡ 0 → a ≡ b
-no_more a b low is = omega arith
-
--- ---- lists
-
-same_element : {X : Type 0} (n k : ℕ) (x : X) → k < n → slice_get (replicate n x) k ≡ Some x
-same_element zero k x h = absurd (omega arith)
-same_element (suc n) zero x h = refl
-same_element (suc n) (suc k) x h = same_element n k x (omega arith)
-
-untouched : (f : ℕ × List Chunk → List Chunk) → ((x : ℕ × List Chunk) → f x ≡ x.1) → (n k : ℕ) (xs : List (List Chunk)) → slice_get (map f (enumerate_from n xs)) k ≡ slice_get xs k
-untouched f each n k [] = refl
-untouched f each n zero (x ∷ xs) = ap Some (each (n, x))
-untouched f each n (suc k) (x ∷ xs) = untouched f each (n + 1) k xs
+between : (n low high at : ℕ) → low ≤ n → n ≤ high → low ≡ at → high ≡ at → n ≡ high
+between n low high at a b c d = omega arith
 
 nothing_held : (xs : List Held) → map without_frame xs ≡ [] → xs ≡ []
 nothing_held [] e = refl
-nothing_held (x ∷ xs) e = absurd (cc)
+nothing_held (x ∷ xs) e = absurd cc
+
+-- ---- a log that begins
+
+abbrev first_log : Beginning → List ℕ → List Logged
+first_log b knows = record { event = Event (Begin b); knows = knows } ∷ []
+
+nothing_freed : (s : Shape) (b : Beginning) (knows : List ℕ) → freed s (first_log b knows) ≡ b.first
+unfolding least_missing
+nothing_freed s b knows = refl
 
 -- ---- the world
 
-abbrev pub first_world : Shape → World
-first_world s = engine_step s (Begin first_beginning) [] ∷ []
+module _ (s : Shape) (us new : List ModelUnit) (f : Found) (accepted : IsAccepted s) (fit : AreFit s us) (unarmed : AreUnarmed us) (is : IsFoundAfter s us new f) where
+  abbrev i : Image
+  i = image_of s us
 
-all_free : (s : Shape) → AllByRecursion (AllByRecursion (λ c. c ≡ free_chunk)) (blank s).units
-all_free s = all_replicate (AllByRecursion (λ c. c ≡ free_chunk)) (units s) (replicate s.chunks free_chunk) (all_replicate (λ c. c ≡ free_chunk) s.chunks free_chunk refl)
+  abbrev b : Beginning
+  b = beginning_of f
 
-pub nothing_done : (s : Shape) → IsAccepted s → IsBlankWorld (blank s) []
-nothing_done s accepted = nothing_yet (blank s) accepted (blank_fit s) (all_free s)
+  abbrev before : World
+  before = after_units s 0 [] (new_events us new)
 
-pub world_begins : (s : Shape) → IsAccepted s → IsBlankWorld (blank s) (first_world s)
-world_begins s accepted = begins (blank s) accepted (blank_fit s) (all_free s)
+  abbrev pub first_world : World
+  first_world = after_begin s b before
 
-pub core_stands : (s : Shape) (c : Core) → IsAccepted s → HasBegun s c → Stands (blank s) (log_of (first_world s)) c
-core_stands s c accepted begun =
-    subst (λ (logs : Logs). Stands (blank s) logs c) (sym (engine_logs s (Begin first_beginning) []))
-    (begun (blank s) [] (knows_all s []) refl (nothing_done s accepted) refl)
+  plain_before : IsPlainWorld i before
+  plain_before = plain_world s us new accepted fit unarmed is.units.readied
 
-pub core_standing : (s : Shape) (c : Core) → IsAccepted s → HasBegun s c → IsStanding c
-core_standing s c accepted begun = record {
-  image = blank s;
-  world = first_world s;
-  legal = world_begins s accepted;
-  stands = core_stands s c accepted begun;
+  none_before : log_of before 0 ≡ []
+  none_before = units_quiet s 0 [] (new_events us new)
+
+  media_before : media i (log_of before) ≡ image_of s new
+  media_before = media_are s us new accepted fit unarmed is.units.readied
+
+  begins : MayBegin i (log_of before) b
+  begins = may_begin i (log_of before) f none_before (subst NoneOpen (sym media_before) is.closed) (subst (λ (j : Image). IsFoundOf j f) (sym media_before) is.found_is)
+
+  pub first_legal : IsPlainWorld i first_world
+  first_legal = mount_begins i before b plain_before begins
+
+  log_is : log_of first_world 0 ≡ first_log b (knows_all s before)
+  log_is = ap (λ (logs : Logs). logs 0) (engine_logs s (Begin b) before) ∙ ap (λ (log : List Logged). log ++ first_log b (knows_all s before)) none_before
+
+  found_now : found_image i (log_of first_world) ≡ image_of s new
+  found_now = found_is i before b plain_before.legal none_before ∙ media_before
+
+  media_now : media i (log_of first_world) ≡ image_of s new
+  media_now = media_still i s (Begin b) before ∙ media_before
+
+  first_begun : begun (log_of first_world 0) ≡ Some (record { beginning = b; knows = knows_all s before })
+  first_begun = begun_is s before b none_before
+
+  fit_new : AreFit s new
+  fit_new = fit_kept s us new fit is.units.kept
+
+  pub found_fit : IsFitFound s f
+  found_fit = found_fits (image_of s new) f accepted (fit_image s new fit_new) is.found_is
+
+  -- ---- the core
+
+  pub core_stands : (c : Core) → HasBegun s f c → Stands i (log_of first_world) c
+  core_stands c has =
+      subst (λ (logs : Logs). Stands i logs c) (sym (engine_logs s (Begin b) before))
+      (has i before (knows_all s before) refl plain_before none_before
+      (subst (λ (j : Image). IsFoundOf j f) (sym (ap (found_image i) (sym (engine_logs s (Begin b) before)) ∙ found_now)) is.found_is))
+
+  pub core_standing : (c : Core) → HasBegun s f c → IsStanding c
+  core_standing c has = record { image = i; world = first_world; legal = first_legal; stands = core_stands c has }
+
+  pub first_freed : (c : Core) → HasBegun s f c → c.window.freed ≡ freed s (log_of first_world 0)
+  first_freed c has =
+      between c.window.freed (first_position (log_of first_world 0)) (freed s (log_of first_world 0)) b.first (core_stands c has).from_first (core_stands c has).to_freed
+      (ap first_position log_is) (ap (freed s) log_is ∙ nothing_freed s b (knows_all s before))
+
+  no_entries : (c : Core) → HasBegun s f c → c.window.entries ≡ []
+  no_entries c has = nothing_held c.window.entries
+      (ap (λ (h : HeldSectors). h.entries) (core_stands c has).window
+      ∙ ap (λ (log : List Logged). map (held_of s log) (drop (c.window.freed - first_position log) (takes log))) log_is
+      ∙ ap (map _) (drop-nil (c.window.freed - b.first)))
+
+  -- ---- the mount
+
+  abbrev pub first_view : List ModelUnit → List Deed → List (List ℕ) → ℕ → ℕ → MountView
+  first_view found deeds wear granted pad = record { image = i; found = image_of s found; deeds = deeds; units = new; wear = wear; granted = granted; pad = pad }
+
+  unit_begins : (wear : List (List ℕ)) (granted pad number : ℕ) (u : ModelUnit) → slice_get new number ≡ Some u → IsUnitIn (first_view new (first_deeds us new f) wear granted pad) number u
+  unit_begins wear granted pad number u there =
+      let of : IsUnitOf s u = fit_new.each number u there in
+      let was : (o : ModelUnit) × (slice_get us number ≡ Some o) × IsKept o u = is.units.kept.each number u there in
+      record {
+        shape = of.shape;
+        media = ap (λ (j : Image). slice_get j.units number) media_now ∙ slice_get-map (λ (x : ModelUnit). x.media) new number ∙ ap (option_map (λ (x : ModelUnit). x.media)) there;
+        unarmed = subst IsUnarmed (sym was.2.armed) (unarmed number was.0 was.1);
+        fit = of.fits;
+      }
+
+  first_sound : (wear : List (List ℕ)) (granted pad : ℕ) → IsSound (first_view new (first_deeds us new f) wear granted pad)
+  first_sound wear granted pad = record {
+    legal = first_legal;
+    beginning = record { beginning = b; knows = knows_all s before };
+    has_begun = first_begun;
+    first_low = found_fit.end;
+    found_is = found_now;
+    count = fit_new.count;
+    each = λ number u there. unit_begins wear granted pad number u there;
+  }
+
+  begun_mount : (wear : List (List ℕ)) (granted : ℕ) (c : Core) (p : PoolView) (filling : Filling) → HasBegun s f c
+      → granted ≡ room i (log_of first_world) → count_out p.left ≡ 0 → p.region.count ≡ s.ring → p.region.size ≡ s.sector → filling.shape ≡ s
+      → IsMount (first_view new (first_deeds us new f) wear granted (pad_of c)) c p filling
+  begun_mount wear granted c p filling has grants out count size stripe = record {
+    sound = first_sound wear granted (pad_of c);
+    stands = core_stands c has;
+    pad = refl;
+    level = begins_level i before b plain_before.legal none_before;
+    known = known_is i before b plain_before.legal none_before;
+    idle = λ unit. ap (λ (log : List Logged). unanswered_on log unit) log_is;
+    drained = first_freed c has;
+    own = subst (λ (held : List Held). window.AreOf p.region held) (sym (no_entries c has)) tt;
+    out = out ∙ ap (λ (held : List Held). length held) (sym (no_entries c has));
+    count = count;
+    size = size;
+    stripe = stripe;
+    granted = below_ring granted c.window.freed s.ring (units s * s.ws_opt) (space_limit i (log_of first_world)) (position_limit (log_of first_world 0))
+        (grants ∙ ap (λ n. min (min (n + s.ring - units s * s.ws_opt) (space_limit i (log_of first_world))) (position_limit (log_of first_world 0))) (sym (first_freed c has)))
+        (kept s accepted);
+    last = below_last granted (ring_limit s (log_of first_world 0)) (space_limit i (log_of first_world)) (first_position (log_of first_world 0)) grants;
+    room = no_less granted (room i (log_of first_world)) grants;
+  }
+
+  -- by the lists that are kept of it
+  pub mount_opens : (drives : List (List ModelUnit)) (deeds : List Deed) (wear : List (List ℕ)) (granted : ℕ) (parts : Parts) → drives ≡ us ∷ new ∷ [] → deeds ≡ first_deeds us new f → AreBegun s f parts
+      → granted ≡ room i (log_of first_world)
+      → IsMount (record { image = image_of s (drive_before drives); found = image_of s (drive_found drives); deeds = deeds; units = new; wear = wear; granted = granted; pad = pad_of parts.core }) parts.core parts.pool parts.stripe
+  mount_opens drives deeds wear granted parts rows done begun grants =
+      subst (λ (ds : List Deed). IsMount (record { image = image_of s (drive_before drives); found = image_of s (drive_found drives); deeds = ds; units = new; wear = wear; granted = granted; pad = pad_of parts.core }) parts.core parts.pool parts.stripe) (sym done)
+      (subst (λ (rs : List (List ModelUnit)). IsMount (record { image = image_of s (drive_before rs); found = image_of s (drive_found rs); deeds = first_deeds us new f; units = new; wear = wear; granted = granted; pad = pad_of parts.core }) parts.core parts.pool parts.stripe) (sym rows)
+      (begun_mount wear granted parts.core parts.pool parts.stripe begun.core grants begun.out begun.count begun.size begun.stripe))
+
+-- and nothing else was done
+pub opened_view : (s : Shape) (us new : List ModelUnit) (f : Found) (drives : List (List ModelUnit)) (deeds : List Deed) (wear : List (List ℕ)) (granted pad : ℕ) → IsFoundAfter s us new f → drives ≡ us ∷ new ∷ [] → deeds ≡ first_deeds us new f
+    → IsOpened s us (record { image = image_of s (drive_before drives); found = image_of s (drive_found drives); deeds = deeds; units = new; wear = wear; granted = granted; pad = pad })
+opened_view s us new f drives deeds wear granted pad is rows done = record {
+  image = ap (λ (rs : List (List ModelUnit)). image_of s (drive_before rs)) rows;
+  found_is = ap (λ (rs : List (List ModelUnit)). image_of s (drive_found rs)) rows;
+  found = f;
+  is = is;
+  deeds = done;
 }
 
-nothing_freed : (s : Shape) → freed s (log_of (first_world s) 0) ≡ 0
-unfolding least_missing
-nothing_freed s = refl
+-- a list whose elements were all written over
+pub all_written : {X : Type 0} (n : ℕ) (new old was : List X) → length new ≡ length was → was ≡ old → n ≡ length old → take n (new ++ drop (length new) old) ≡ new
+all_written n new old was many same long =
+    let whole : n ≡ length new = long ∙ ap length (sym same) ∙ sym many in
+    ap (λ k. take k (new ++ drop (length new) old)) whole ∙ take-append_seam new (drop (length new) old)
 
-pub first_freed : (s : Shape) (c : Core) → IsAccepted s → HasBegun s c → c.window.freed ≡ freed s (log_of (first_world s) 0)
-first_freed s c accepted begun =
-    no_more c.window.freed (freed s (log_of (first_world s) 0)) (core_stands s c accepted begun).to_freed (nothing_freed s)
+-- so nothing was taken
+pub nothing_taken : (s : Shape) (us : List ModelUnit) (v : MountView) → IsOpened s us v → takes (engine_log v) ≡ []
+nothing_taken s us v is = ap (λ (ds : List Deed). takes (log_of (world_of v.image.shape ds) 0)) is.deeds ∙ none v.image.shape
+  where
+    none : (t : Shape) → takes (log_of (world_of t (first_deeds us v.units is.found)) 0) ≡ []
+    none t =
+        let before : World = after_units t 0 [] (new_events us v.units) in
+        ap (λ (logs : Logs). takes (logs 0)) (engine_logs t (Begin (beginning_of is.found)) before)
+        ∙ ap (λ (log : List Logged). takes (log ++ first_log (beginning_of is.found) (knows_all t before))) (units_quiet t 0 [] (new_events us v.units))
 
-no_entries : (s : Shape) (c : Core) → IsAccepted s → HasBegun s c → c.window.entries ≡ []
-no_entries s c accepted begun = nothing_held c.window.entries
-    (ap (λ (h : HeldSectors). h.entries) (core_stands s c accepted begun).window
-    ∙ ap (map _) (drop-nil (c.window.freed - first_position (log_of (first_world s) 0))))
-
--- ---- units
-
-unit_fits : (s : Shape) (u : ModelUnit) → IsNewUnit s u → IsFitUnit u
-unit_fits s u new = record {
-  count = ap length new.media ∙ length-replicate s.chunks free_chunk ∙ ap (λ (x : Shape). x.chunks) (sym new.shape);
-  chunks = subst (λ (cs : List Chunk). AllByRecursion (IsChunk u.shape) cs) (sym new.media) (all_replicate (IsChunk u.shape) s.chunks free_chunk (free_is_chunk u.shape));
+-- and the port over it is new
+pub new_serial : (s : Shape) (us : List ModelUnit) (v : MountView) (own : List OwnWrite) (worns : List WornAnswer) → IsOpened s us v → own ≡ [] → worns ≡ [] → IsSerial (record { mount = v; seen = 0; own = own; worns = worns })
+new_serial s us v own worns is a b = record {
+  alone =
+      ap (λ (ts : List Taken). map (λ (t : Taken). record { position = t.entry.position; write = record { lba = t.entry.lba; sector = t.entry.sector } }) (filter (λ (t : Taken). is_users t.entry.source) ts)) (nothing_taken s us v is)
+      ∙ sym (ap (flat_map lines_of) a);
+  small = omega arith;
+  worns = subst (λ (ws : List WornAnswer). AreRefusals v.image (logs_in v) ws) (sym b) tt;
 }
-
-media_begins : (s : Shape) (number : ℕ) → number < units s → slice_get (media (blank s) (log_of (first_world s))).units number ≡ Some (replicate s.chunks free_chunk)
-media_begins s number within =
-    ap (λ (i : Image). slice_get i.units number) (media_still (blank s) s (Begin first_beginning) [])
-    ∙ untouched _ (λ unit. refl) 0 number (blank s).units ∙ same_element (units s) number (replicate s.chunks free_chunk) within
-
--- ---- the mount
-
-abbrev pub first_view : Shape → List Deed → List ModelUnit → List (List ℕ) → ℕ → ℕ → MountView
-first_view s deeds us wear granted pad = record { shape = s; deeds = deeds; units = us; wear = wear; granted = granted; pad = pad }
-
-unit_begins : (s : Shape) (us : List ModelUnit) (wear : List (List ℕ)) (granted pad number : ℕ) (u : ModelUnit) → AreNewUnits s us → slice_get us number ≡ Some u
-    → IsUnitIn (first_view s (Decides (Begin first_beginning) ∷ []) us wear granted pad) number u
-unit_begins s us wear granted pad number u new there =
-    let is : IsNewUnit s u = new.each number u there in
-    let within : number < length us = slice_get_within us number u there in
-    let count : length us ≡ units s = new.count in record {
-      shape = is.shape;
-      media = media_begins s number (omega arith) ∙ ap Some (sym is.media);
-      unarmed = is.unarmed;
-      fit = unit_fits s u is;
-    }
-
-begun_mount : (s : Shape) (us : List ModelUnit) (wear : List (List ℕ)) (granted : ℕ) (c : Core) (p : PoolView) (filling : Filling) → IsAccepted s → AreNewUnits s us → HasBegun s c
-    → granted ≡ room (blank s) (log_of (first_world s)) → count_out p.left ≡ 0 → p.region.count ≡ s.ring → p.region.size ≡ s.sector → filling.shape ≡ s
-    → IsMount (first_view s (Decides (Begin first_beginning) ∷ []) us wear granted (pad_of c)) c p filling
-begun_mount s us wear granted c p filling accepted new begun grants out count size stripe = record {
-  sound = record {
-    legal = world_begins s accepted;
-    count = new.count;
-    each = λ number u there. unit_begins s us wear granted (pad_of c) number u new there;
-  };
-  stands = core_stands s c accepted begun;
-  pad = refl;
-  level = level_by s (Begin first_beginning) [] (λ unit. refl) (λ unit. refl);
-  idle = λ unit. refl;
-  drained = first_freed s c accepted begun;
-  own = subst (λ (held : List Held). window.AreOf p.region held) (sym (no_entries s c accepted begun)) tt;
-  out = out ∙ ap (λ (held : List Held). length held) (sym (no_entries s c accepted begun));
-  count = count;
-  size = size;
-  stripe = stripe;
-  granted = below_ring granted c.window.freed s.ring (units s * s.ws_opt) (space_limit (blank s) (log_of (first_world s))) (position_limit (log_of (first_world s) 0))
-      (grants ∙ ap (λ n. min (min (n + s.ring - units s * s.ws_opt) (space_limit (blank s) (log_of (first_world s)))) (position_limit (log_of (first_world s) 0))) (sym (first_freed s c accepted begun)))
-      (kept s accepted);
-  last = below_last granted (ring_limit s (log_of (first_world s) 0)) (space_limit (blank s) (log_of (first_world s))) (first_position (log_of (first_world s) 0)) grants refl;
-  room = no_less granted (room (blank s) (log_of (first_world s))) grants;
-}
-
-pub mount_begins : (s : Shape) (us : List ModelUnit) (wear : List (List ℕ)) (granted : ℕ) (parts : Parts) → IsAccepted s → AreNewUnits s us → AreBegun s parts
-    → granted ≡ room (blank s) (log_of (first_world s))
-    → IsMount (first_view s parts.deeds us wear granted (pad_of parts.core)) parts.core parts.pool parts.stripe
-mount_begins s us wear granted parts accepted new is grants =
-    subst (λ (deeds : List Deed). IsMount (first_view s deeds us wear granted (pad_of parts.core)) parts.core parts.pool parts.stripe) (sym is.deeds)
-    (begun_mount s us wear granted parts.core parts.pool parts.stripe accepted new is.core grants is.out is.count is.size is.stripe)

@@ -5,7 +5,7 @@ use Rattle.std.specs.List.{Contains}
 use Rattle.std.proofs.lemmas.Option.{slice_get_within}
 use Rattle.pblk_model.specs.Contents.{end}
 use Rattle.pblk_model.specs.Frames.{PoolView}
-use Rattle.pblk_model.specs.Image.{blank}
+use Rattle.pblk_model.specs.Sealed.{IsSealed}
 use Rattle.pblk_world.specs.Events.{Logged}
 use Rattle.pblk_world.specs.World.{media}
 use Rattle.pblk_world.specs.EngineLog.{Placed, answers, is_answered, placed_on, placements, turn}
@@ -16,7 +16,7 @@ use Rattle.media_laws.proofs.Found.{within_some}
 use Rattle.media_laws.proofs.Order.{turn_at}
 use Rattle.prefix_law.proofs.Among.{among_contained}
 use Rattle.prefix_law.proofs.Media.{none_left}
-use Rattle.prefix_law.proofs.Blank.{end_is_synced}
+use Rattle.prefix_law.proofs.Resting.{end_is_synced}
 use Rattle.pblk_core.specs.Filling.{Filling}
 use Rattle.pblk_core.specs.declared.target_core.Core.{Core}
 use Rattle.block_target.specs.Mount.{MountView, IsMount, engine_log, logs_in, synced_in, world_in}
@@ -30,5 +30,5 @@ answered log idle p there =
     let within : turn log p < length (answers log p.stripe.unit) = omega arith in
     ap is_some (within_some (answers log p.stripe.unit) (turn log p) within).1
 
-pub end_closed : (v : MountView) (c : Core) (p : PoolView) (f : Filling) → IsMount v c p f → end (media (blank v.shape) (logs_in v)) ≡ synced_in v
-end_closed v c p f m = end_is_synced (blank v.shape) (world_in v) m.sound.legal (answered (engine_log v) m.idle)
+pub end_closed : (v : MountView) (c : Core) (p : PoolView) (f : Filling) → IsMount v c p f → IsSealed v.image → end (media v.image (logs_in v)) ≡ synced_in v
+end_closed v c p f m sealed = end_is_synced v.image (world_in v) m.sound.beginning m.sound.legal sealed m.sound.has_begun (answered (engine_log v) m.idle)

@@ -1,24 +1,26 @@
 -- The device that a port for one session is: what it learns where nothing more was taken, and its fronts.
-use Rattle.std.proofs.Common.{◌≡◌, ℕ, ◌+◌, ◌<◌, ◌≤◌, ◌^◌, nat_lt, ◌⊎◌, suc, get_or, Some, None, inl, inr, Bool, true, false, cond, List, [], ◌∷◌, length, refl, sym, ap, ap₂, subst, ◌∙◌, arith, append-nil, zero-add}
+use Rattle.std.proofs.Common.{◌≡◌, ℕ, ◌+◌, ◌<◌, ◌≤◌, ◌^◌, nat_lt, suc, Some, Bool, true, false, cond, List, [], ◌∷◌, length, refl, sym, ap, ap₂, subst, ◌∙◌, arith, append-nil}
 use Rattle.std.specs.Prelude.{map, slice_get}
-use Rattle.std.proofs.lemmas.Option.{slice_get_cases}
+use Rattle.std.proofs.lemmas.Option.{slice_get_within}
 use Rattle.std.specs.List.{filter, flat_map}
 use Rattle.pblk_model.specs.declared.run.Front.{Front}
-use Rattle.pblk_model.specs.declared.shape.Shape.{Shape}
+use Rattle.pblk_model.specs.Image.{Image}
 use Rattle.pblk_model.specs.Contents.{contents}
 use Rattle.pblk_model.specs.History.{users}
-use Rattle.pblk_model.specs.Image.{blank}
 use Rattle.pblk_world.specs.EngineLog.{Taken, takes}
 use Rattle.pblk_world.specs.Fronts.{first_position, is_users, user_takes, user_positions}
 use Rattle.pblk_world.proofs.SyncedFront.{synced_within}
-use Rattle.prefix_law.proofs.Taking.{IsUsers}
-use Rattle.prefix_law.proofs.Blank.{from_zero, all_users, users_all, count_users}
+use Rattle.landing_laws.proofs.Cached.{numbered_at}
+use Rattle.core_laws.proofs.Placing.{is_below}
+use Rattle.pblk_core.proofs.SmallCalls.{numbered_in}
+use Rattle.pblk_core.proofs.SmallPositions.{taken_bounded}
 use Rattle.block_port.specs.declared.rows.WornAnswer.{WornAnswer}
 use Rattle.block_port.specs.Own.{PlacedSector, lines_of}
 use Rattle.block_port.specs.Port.{IsSameTarget, Learns, IsFront, IsSeen, positions}
 use Rattle.block_target.specs.Mount.{MountView, IsSound, IsSameMount, engine_log, logs_in, world_in, taken_in, synced_in, front_taken, front_synced}
 use Rattle.block_target.specs.NothingLeft.{AreRefusals}
 use Rattle.block_target.specs.Serial.{SerialView, IsSerial, lines_in, device}
+use Rattle.block_target.proofs.Beginnings.{first_of, first_same}
 use Rattle.block_target.proofs.Refusals.{refusals_grown}
 
 -- ---- the lines
@@ -43,25 +45,45 @@ below_same n (t ∷ ts) = go (below_same n ts) (nat_lt t.entry.position n)
     go rest true = ap (λ k. suc k) rest
     go rest false = rest
 
+-- users' entries that are all below a position
+all_pass : (n : ℕ) (ts : List Taken) → ((k : ℕ) (t : Taken) → slice_get ts k ≡ Some t → t.entry.position < n)
+    → length (filter (λ t. nat_lt t.entry.position n) (filter (λ t. is_users t.entry.source) ts)) ≡ length (filter (λ t. is_users t.entry.source) ts)
+all_pass n [] low = refl
+all_pass n (t ∷ ts) low = go (is_users t.entry.source) (all_pass n ts (λ k u there. low (suc k) u there))
+  where
+    here : nat_lt t.entry.position n ≡ true
+    here = is_below t.entry.position n (low 0 t refl)
+
+    go : (b : Bool) → length (filter (λ t. nat_lt t.entry.position n) (filter (λ t. is_users t.entry.source) ts)) ≡ length (filter (λ t. is_users t.entry.source) ts)
+        → length (filter (λ t. nat_lt t.entry.position n) (cond b (t ∷ filter (λ t. is_users t.entry.source) ts) (filter (λ t. is_users t.entry.source) ts))) ≡ length (cond b (t ∷ filter (λ t. is_users t.entry.source) ts) (filter (λ t. is_users t.entry.source) ts))
+    go true rest = ap (λ c. length (cond c (t ∷ filter (λ t. nat_lt t.entry.position n) (filter (λ t. is_users t.entry.source) ts)) (filter (λ t. nat_lt t.entry.position n) (filter (λ t. is_users t.entry.source) ts)))) here ∙ ap (λ k. suc k) rest
+    go false rest = rest
+
 -- ---- the fronts
 
 pub front_taken_is : (s : SerialView) → IsSound s.mount → IsFront (device s) (front_taken s.mount)
 front_taken_is s sound =
     let log = engine_log s.mount in
-    let zero_first : first_position log ≡ 0 = from_zero (blank s.mount.shape) (world_in s.mount) sound.legal in
-    let all : taken_in s.mount ≡ length (takes log) = ap (λ n. n + length (takes log)) zero_first ∙ zero-add (length (takes log)) in
-    let counted : users (user_positions log) (length (takes log)) ≡ length (takes log) = count_users (blank s.mount.shape) (world_in s.mount) (length (takes log)) sound.legal (omega arith) in
     record {
       known = omega arith;
-      users = ap length (users_all (blank s.mount.shape) (world_in s.mount) sound.legal) ∙ sym counted
-          ∙ ap₂ users (sym (positions_in s.mount)) (sym all);
+      users =
+          sym (below_same (taken_in s.mount) (user_takes log)
+          ∙ all_pass (taken_in s.mount) (takes log) (λ k t there. within k t there))
+          ∙ ap (λ ps. users ps (taken_in s.mount)) (sym (positions_in s.mount));
     }
+  where
+    within : (k : ℕ) (t : Taken) → slice_get (takes (engine_log s.mount)) k ≡ Some t → t.entry.position < taken_in s.mount
+    within k t there =
+        let at : t.entry.position ≡ first_position (engine_log s.mount) + k =
+        numbered_at (first_position (engine_log s.mount)) (length (takes (engine_log s.mount))) (takes (engine_log s.mount)) k t (numbered_in s.mount.image (world_in s.mount) sound.legal) there in
+        let low : k < length (takes (engine_log s.mount)) = slice_get_within (takes (engine_log s.mount)) k t there in
+        omega arith
 
 pub front_synced_is : (s : SerialView) → IsFront (device s) (front_synced s.mount)
 front_synced_is s =
     let log = engine_log s.mount in
     record {
-      known = synced_within s.mount.shape log;
+      known = synced_within s.mount.image.shape log;
       users = sym (below_same (synced_in s.mount) (user_takes log)) ∙ ap (λ ps. users ps (synced_in s.mount)) (sym (positions_in s.mount));
     }
 
@@ -75,7 +97,7 @@ lines_same old new same = ap (λ ts. map placed_line (filter (λ t. is_users t.e
 
 pub taken_same : (old new : MountView) → IsSound old → IsSound new → IsSameMount old new → taken_in new ≡ taken_in old
 taken_same old new a b same =
-    ap₂ (λ f ts. f + length ts) (from_zero (blank new.shape) (world_in new) b.legal ∙ sym (from_zero (blank old.shape) (world_in old) a.legal)) same.takes
+    ap₂ (λ f ts. f + length ts) (first_same old new a same) same.takes
 
 pub same_learns : (old new : SerialView) → IsSound old.mount → IsSound new.mount → IsSameMount old.mount new.mount → Learns (device old) (device new)
 same_learns old new a b same = record {
@@ -87,10 +109,10 @@ same_learns old new a b same = record {
 
 pub same_target : (old new : SerialView) → IsSameMount old.mount new.mount → IsSameTarget (device old) (device new)
 same_target old new same = record {
-  start = ap (λ shape. contents (blank shape)) same.shape;
-  capacity = ap (λ shape. shape.capacity) same.shape;
-  sector = ap (λ shape. shape.sector) same.shape;
-  footing = ap₂ (λ (s : Shape) (ws : List (List ℕ)). Some (record { shape = s; wear = ws })) same.shape same.wear;
+  start = ap (λ found. contents found) same.found;
+  capacity = ap (λ image. image.shape.capacity) same.image;
+  sector = ap (λ image. image.shape.sector) same.image;
+  footing = ap₂ (λ (i : Image) (ws : List (List ℕ)). Some (record { image = i; wear = ws })) same.image same.wear;
 }
 
 -- the session's own writes are the history still, where what it has seen is small
@@ -98,8 +120,8 @@ pub same_serial : (old new : SerialView) → IsSound old.mount → IsSerial old 
 same_serial old new sound is same own worns small = record {
   alone = lines_same old.mount new.mount same ∙ is.alone ∙ ap (flat_map lines_of) (sym own);
   small = small;
-  worns = subst (λ (ws : List WornAnswer). AreRefusals (blank new.mount.shape) (logs_in new.mount) ws) (sym worns)
-      (refusals_grown old.mount new.mount same.more old.worns sound same.shape same.deeds is.worns);
+  worns = subst (λ (ws : List WornAnswer). AreRefusals new.mount.image (logs_in new.mount) ws) (sym worns)
+      (refusals_grown old.mount new.mount same.more old.worns sound same.image same.deeds is.worns);
 }
 
 -- ---- what a call answers
@@ -114,30 +136,19 @@ seen_synced old new holds seen = record { is = front_synced_is new; holds = hold
 
 -- all that was taken has a position that is small
 pub taken_small : (v : MountView) → IsSound v → taken_in v ≤ 2 ^ 62
-taken_small v sound = go (takes (engine_log v)) (all_users (blank v.shape) (world_in v) sound.legal) (ap (λ n. n + length (takes (engine_log v))) (from_zero (blank v.shape) (world_in v) sound.legal) ∙ zero-add (length (takes (engine_log v))))
-  where
-    last : (ts : List Taken) (n : ℕ) → n < length ts → ((k : ℕ) (t : Taken) → slice_get ts k ≡ Some t → IsUsers v.shape k t) → n < 2 ^ 62
-    last ts n within all = at (slice_get_cases ts n).1
-      where
-        at : ((t : Taken) × (n < length ts) × (slice_get ts n ≡ Some t) × (get_or ts n t ≡ t)) ⊎ ((length ts ≤ n) × (slice_get ts n ≡ None)) → n < 2 ^ 62
-        at (inl here) = let u = all n here.0 here.2 in let p : here.0.entry.position ≡ n = u.position in let q : here.0.entry.position < 2 ^ 62 = u.number in omega arith
-        at (inr past) = absurd (omega arith)
-
-    go : (ts : List Taken) → ((k : ℕ) (t : Taken) → slice_get ts k ≡ Some t → IsUsers v.shape k t) → taken_in v ≡ length ts → taken_in v ≤ 2 ^ 62
-    go [] all is = omega arith
-    go (t ∷ ts) all is = let small : length ts < 2 ^ 62 = last (t ∷ ts) (length ts) (omega arith) all in omega arith
+taken_small v sound = taken_bounded v.image (world_in v) sound.legal (subst (λ n. n ≤ 2 ^ 62) (sym (first_of (engine_log v) sound.beginning sound.has_begun)) sound.first_low)
 
 pub synced_small : (v : MountView) (f : Front) → IsSound v → f ≡ front_synced v → f.position < 2 ^ 63
 synced_small v f sound is =
     let at : f.position ≡ synced_in v = ap (λ x. x.position) is in
-    let below : synced_in v ≤ taken_in v = synced_within v.shape (engine_log v) in
+    let below : synced_in v ≤ taken_in v = synced_within v.image.shape (engine_log v) in
     let small : taken_in v ≤ 2 ^ 62 = taken_small v sound in
     omega arith
 
 pub all_synced : (old new : MountView) (f : Front) (wanted : ℕ) → IsSound old → IsSound new → IsSameMount old new → wanted ≡ taken_in old → f ≡ front_synced new → wanted ≤ f.position → synced_in new ≡ taken_in new
 all_synced old new f wanted a b same all is enough =
     let at : f.position ≡ synced_in new = ap (λ x. x.position) is in
-    let below : synced_in new ≤ taken_in new = synced_within new.shape (engine_log new) in
+    let below : synced_in new ≤ taken_in new = synced_within new.image.shape (engine_log new) in
     let still : taken_in new ≡ taken_in old = taken_same old new a b same in
     omega arith
 

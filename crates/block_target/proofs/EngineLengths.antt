@@ -1,29 +1,31 @@
 -- The logs at a length of the engine's: they stay as the world grows, and at the whole length they are those of the world
 -- as the engine's last event left it.
-use Rattle.std.proofs.Common.{◌≡◌, ℕ, ◌+◌, ◌-◌, ◌<◌, ◌≤◌, zero, suc, Some, None, Option, List, [], ◌∷◌, ◌++◌, length, take, refl, sym, ap, ap₂, ◌∙◌, arith, length-append, append_assoc}
+use Rattle.std.proofs.Common.{◌≡◌, ℕ, ◌+◌, ◌-◌, ◌<◌, ◌≤◌, zero, suc, Some, None, Option, List, [], ◌∷◌, ◌++◌, length, take, refl, sym, subst, ap, ap₂, ◌∙◌, arith, length-append, append_assoc}
 use Rattle.std.specs.Prelude.{slice_get}
 use Rattle.std.specs.List.{fold}
 use Rattle.std.proofs.Math.Seq.{take-length}
 use Rattle.std.proofs.lemmas.List.{take-append-le}
+use Rattle.pblk_model.specs.declared.shape.Shape.{Shape}
 use Rattle.pblk_model.specs.Image.{Image}
 use Rattle.pblk_model.specs.UnitLog.{UnitEvent}
-use Rattle.pblk_world.specs.Events.{EngineEvent, Landed, Maker, Logged}
+use Rattle.pblk_world.specs.Events.{EngineEvent, Landed, ResetDone, Maker, Logged}
 use Rattle.pblk_world.specs.World.{World, log_of, known}
 use Rattle.pblk_world.specs.Legal.{IsLegal}
 use Rattle.pblk_world.specs.AtRest.{knows_last, logs_at}
 use Rattle.pblk_world.specs.Space.{room}
 use Rattle.pblk_world.proofs.Growing.{grows}
-use Rattle.core_laws.specs.PlainWorlds.{IsBlankWorld}
+use Rattle.core_laws.specs.PlainWorlds.{IsPlainWorld}
 use Rattle.core_laws.proofs.Lists.{fun_same}
-use Rattle.media_laws.proofs.Steps.{log_here, log_elsewhere, blank_tail}
+use Rattle.media_laws.proofs.Steps.{log_here, log_elsewhere, plain_tail}
 use Rattle.placed_laws.specs.StripePrograms.{HasHappened}
 use Rattle.placed_laws.proofs.Happened.{happened}
-use Rattle.step_laws.specs.Whole.{engine_step, unit_step, next_maker}
+use Rattle.step_laws.specs.Whole.{engine_step, unit_step, next_maker, opening_maker}
 use Rattle.step_laws.proofs.Knowing.{known_whole}
 use Rattle.step_laws.proofs.UnitSteps.{engine_log}
 use Rattle.step_laws.proofs.UnitStays.{room_stays}
+use Rattle.opening_steps.specs.Opened.{after_events, after_units}
 use Rattle.pblk_core.specs.Named.{work_of}
-use Rattle.block_target.specs.Deeds.{Deed, Decides, Does, Lands, step_of, world_of, last_event}
+use Rattle.block_target.specs.Deeds.{Deed, Readies, Decides, Does, Lands, NotesReset, after_deed, world_of, last_event}
 use Rattle.block_target.proofs.UnitStands.{work_beside}
 
 -- ---- lists
@@ -72,33 +74,60 @@ no_shorter later w author =
 
 -- the world of what was done, as it was before the last things
 abbrev pub with_deeds : Image → World → List Deed → World
-with_deeds i w deeds = fold (λ (w : World) (d : Deed). step_of i.shape w d ∷ w) w deeds
+with_deeds i w deeds = fold (after_deed i.shape) w deeds
+
+-- a world that followed one that followed another
+followed : (w mid new : World) → (later : World) × (mid ≡ later ++ w) → (later : World) × (new ≡ later ++ mid) → (later : World) × (new ≡ later ++ w)
+followed w mid new a b = (b.0 ++ a.0, b.1 ∙ ap (λ (x : World). b.0 ++ x) a.1 ∙ sym (append_assoc b.0 a.0 w))
+
+events_later : (s : Shape) (unit : ℕ) (w : World) (events : List UnitEvent) → (later : World) × (after_events s unit w events ≡ later ++ w)
+events_later s unit w [] = ([], refl)
+events_later s unit w (e ∷ events) =
+    let next : World = unit_step s unit e (opening_maker w) w ∷ w in
+    followed w next (after_events s unit w (e ∷ events)) (unit_step s unit e (opening_maker w) w ∷ [], refl) (events_later s unit next events)
+
+units_later : (s : Shape) (unit : ℕ) (w : World) (all : List (List UnitEvent)) → (later : World) × (after_units s unit w all ≡ later ++ w)
+units_later s unit w [] = ([], refl)
+units_later s unit w (events ∷ all) =
+    followed w (after_events s unit w events) (after_units s unit w (events ∷ all)) (events_later s unit w events) (units_later s (suc unit) (after_events s unit w events) all)
+
+deed_later : (s : Shape) (w : World) (d : Deed) → (later : World) × (after_deed s w d ≡ later ++ w)
+deed_later s w (Readies all) = units_later s 0 w all
+deed_later s w (Decides e) = (engine_step s e w ∷ [], refl)
+deed_later s w (Does unit e) = (unit_step s unit e (next_maker w) w ∷ [], refl)
+deed_later s w (Lands unit) = (engine_step s (Landed unit (last_event w unit)) w ∷ [], refl)
+deed_later s w (NotesReset unit) = (engine_step s (ResetDone unit (last_event w unit)) w ∷ [], refl)
 
 pub deeds_later : (i : Image) (w : World) (deeds : List Deed) → (later : World) × (with_deeds i w deeds ≡ later ++ w)
 deeds_later i w [] = ([], refl)
-deeds_later i w (d ∷ deeds) =
-    let rest : (later : World) × (with_deeds i (step_of i.shape w d ∷ w) deeds ≡ later ++ (step_of i.shape w d ∷ w)) = deeds_later i (step_of i.shape w d ∷ w) deeds in
-    (rest.0 ++ step_of i.shape w d ∷ [], rest.1 ∙ sym (append_assoc rest.0 (step_of i.shape w d ∷ []) w))
+deeds_later i w (d ∷ deeds) = followed w (after_deed i.shape w d) (with_deeds i w (d ∷ deeds)) (deed_later i.shape w d) (deeds_later i (after_deed i.shape w d) deeds)
 
-pub blank_before : (i : Image) (w : World) (deeds : List Deed) → IsBlankWorld i (with_deeds i w deeds) → IsBlankWorld i w
-blank_before i w [] blank = blank
-blank_before i w (d ∷ deeds) blank = blank_tail i (step_of i.shape w d) w (blank_before i (step_of i.shape w d ∷ w) deeds blank)
+-- an earlier world is as plain
+plain_earlier : (i : Image) (later w : World) → IsPlainWorld i (later ++ w) → IsPlainWorld i w
+plain_earlier i [] w plain = plain
+plain_earlier i (step ∷ later) w plain = plain_earlier i later w (plain_tail i step (later ++ w) plain)
+
+plain_then : (i : Image) (w new : World) → (later : World) × (new ≡ later ++ w) → IsPlainWorld i new → IsPlainWorld i w
+plain_then i w new is plain = plain_earlier i is.0 w (subst (IsPlainWorld i) is.1 plain)
+
+pub plain_before : (i : Image) (w : World) (deeds : List Deed) → IsPlainWorld i (with_deeds i w deeds) → IsPlainWorld i w
+plain_before i w deeds plain = plain_then i w (with_deeds i w deeds) (deeds_later i w deeds) plain
 
 -- ---- as the engine's last event left the world
 
 -- The world as it was then: after it units alone made steps, which changed nothing of what is to be done.
 pub record IsLeft (i : Image) (w : World) : Type 0 where
   pub left : World
-  pub legal : IsBlankWorld i left
+  pub legal : IsPlainWorld i left
   pub own : log_of left 0 ≡ log_of w 0
   pub logs : logs_at (length (log_of w 0)) (log_of w) ≡ log_of left
   pub work : (pad : ℕ) → work_of i (log_of left) pad ≡ work_of i (log_of w) pad
   pub room : room i (log_of left) ≡ room i (log_of w)
 
-none_left : (i : Image) → IsBlankWorld i [] → IsLeft i []
-none_left i blank = record {
+none_left : (i : Image) → IsPlainWorld i [] → IsLeft i []
+none_left i plain = record {
   left = [];
-  legal = blank;
+  legal = plain;
   own = refl;
   logs = fun_same (logs_at 0 (log_of [])) (log_of []) each;
   work = λ pad. refl;
@@ -109,10 +138,10 @@ none_left i blank = record {
     each zero = refl
     each (suc unit) = refl
 
-engine_left : (i : Image) (w : World) (e : EngineEvent) → IsBlankWorld i (engine_step i.shape e w ∷ w) → IsLeft i (engine_step i.shape e w ∷ w)
-engine_left i w e blank = record {
+engine_left : (i : Image) (w : World) (e : EngineEvent) → IsPlainWorld i (engine_step i.shape e w ∷ w) → IsLeft i (engine_step i.shape e w ∷ w)
+engine_left i w e plain = record {
   left = next;
-  legal = blank;
+  legal = plain;
   own = refl;
   logs = fun_same (logs_at (length (log_of next 0)) (log_of next)) (log_of next) each;
   work = λ pad. refl;
@@ -122,8 +151,8 @@ engine_left i w e blank = record {
     next : World
     next = engine_step i.shape e w ∷ w
 
-    before : IsBlankWorld i w
-    before = blank_tail i (engine_step i.shape e w) w blank
+    before : IsPlainWorld i w
+    before = plain_tail i (engine_step i.shape e w) w plain
 
     log_now : log_of next 0 ≡ log_of w 0 ++ (engine_step i.shape e w).logged ∷ []
     log_now = log_here (engine_step i.shape e w) w 0 refl
@@ -138,19 +167,19 @@ engine_left i w e blank = record {
     each zero = take-length (log_of next 0)
     each (suc unit) =
         let still : log_of next (suc unit) ≡ log_of w (suc unit) = log_elsewhere (engine_step i.shape e w) w (suc unit) (λ same. let no : 0 ≡ suc unit = same in absurd (omega arith)) in
-        let all : known (engine_step i.shape e w).logged (suc unit) ≡ length (log_of w (suc unit)) = known_whole i w before.plain.legal (suc unit) in
+        let all : known (engine_step i.shape e w).logged (suc unit) ≡ length (log_of w (suc unit)) = known_whole i w before.legal (suc unit) in
         ap (λ (o : Option Logged). take (knows_last o (suc unit)) (log_of next (suc unit))) last
         ∙ ap₂ (λ k (log : List Logged). take k log) all still
         ∙ take-length (log_of w (suc unit)) ∙ sym still
 
-unit_left : (i : Image) (w : World) (unit : ℕ) (e : UnitEvent) (maker : Maker) → IsBlankWorld i w → IsLeft i w → IsLeft i (unit_step i.shape unit e maker w ∷ w)
-unit_left i w unit e maker blank was = record {
+unit_left : (i : Image) (w : World) (unit : ℕ) (e : UnitEvent) (maker : Maker) → IsPlainWorld i w → IsLeft i w → IsLeft i (unit_step i.shape unit e maker w ∷ w)
+unit_left i w unit e maker plain was = record {
   left = was.left;
   legal = was.legal;
   own = was.own ∙ sym engine;
   logs = ap (λ n. logs_at n (log_of next)) (ap (λ (log : List Logged). length log) engine) ∙ fun_same (logs_at (length (log_of w 0)) (log_of next)) (logs_at (length (log_of w 0)) (log_of w)) each ∙ was.logs;
-  work = λ pad. was.work pad ∙ sym (work_beside i w unit e maker pad blank);
-  room = was.room ∙ sym (room_stays i w unit e maker blank.plain);
+  work = λ pad. was.work pad ∙ sym (work_beside i w unit e maker pad plain);
+  room = was.room ∙ sym (room_stays i w unit e maker plain);
 }
   where
     next : World
@@ -164,16 +193,32 @@ unit_left i w unit e maker blank was = record {
     each (suc u) =
         let more : (more : List Logged) × (log_of next (suc u) ≡ log_of w (suc u) ++ more) = grows (unit_step i.shape unit e maker w ∷ []) w (suc u) in
         ap₂ (λ (own log : List Logged). take (knows_last (slice_get own (length (log_of w 0) - 1)) (suc u)) log) engine more.1
-        ∙ take-append-le (knows_last (slice_get (log_of w 0) (length (log_of w 0) - 1)) (suc u)) (log_of w (suc u)) more.0 (last_within i w (length (log_of w 0) - 1) (suc u) blank.plain.legal)
+        ∙ take-append-le (knows_last (slice_get (log_of w 0) (length (log_of w 0) - 1)) (suc u)) (log_of w (suc u)) more.0 (last_within i w (length (log_of w 0) - 1) (suc u) plain.legal)
 
-one_left : (i : Image) (w : World) (d : Deed) → IsBlankWorld i (step_of i.shape w d ∷ w) → IsLeft i w → IsLeft i (step_of i.shape w d ∷ w)
-one_left i w (Decides e) blank was = engine_left i w e blank
-one_left i w (Does unit e) blank was = unit_left i w unit e (next_maker w) (blank_tail i (unit_step i.shape unit e (next_maker w) w) w blank) was
-one_left i w (Lands unit) blank was = engine_left i w (Landed unit (last_event w unit)) blank
+events_left : (i : Image) (unit : ℕ) (w : World) (events : List UnitEvent) → IsPlainWorld i (after_events i.shape unit w events) → IsLeft i w → IsLeft i (after_events i.shape unit w events)
+events_left i unit w [] plain was = was
+events_left i unit w (e ∷ events) plain was =
+    let next : World = unit_step i.shape unit e (opening_maker w) w ∷ w in
+    let before : IsPlainWorld i w = plain_then i w (after_events i.shape unit w (e ∷ events)) (events_later i.shape unit w (e ∷ events)) plain in
+    events_left i unit next events plain (unit_left i w unit e (opening_maker w) before was)
 
-all_left : (i : Image) (w : World) (deeds : List Deed) → IsBlankWorld i (with_deeds i w deeds) → IsLeft i w → IsLeft i (with_deeds i w deeds)
-all_left i w [] blank was = was
-all_left i w (d ∷ deeds) blank was = all_left i (step_of i.shape w d ∷ w) deeds blank (one_left i w d (blank_before i (step_of i.shape w d ∷ w) deeds blank) was)
+units_left : (i : Image) (unit : ℕ) (w : World) (all : List (List UnitEvent)) → IsPlainWorld i (after_units i.shape unit w all) → IsLeft i w → IsLeft i (after_units i.shape unit w all)
+units_left i unit w [] plain was = was
+units_left i unit w (events ∷ all) plain was =
+    let mid : World = after_events i.shape unit w events in
+    let before : IsPlainWorld i mid = plain_then i mid (after_units i.shape (suc unit) mid all) (units_later i.shape (suc unit) mid all) plain in
+    units_left i (suc unit) mid all plain (events_left i unit w events before was)
 
-pub deeds_left : (i : Image) (deeds : List Deed) → IsBlankWorld i (world_of i.shape deeds) → IsLeft i (world_of i.shape deeds)
-deeds_left i deeds blank = all_left i [] deeds blank (none_left i (blank_before i [] deeds blank))
+one_left : (i : Image) (w : World) (d : Deed) → IsPlainWorld i (after_deed i.shape w d) → IsLeft i w → IsLeft i (after_deed i.shape w d)
+one_left i w (Readies all) plain was = units_left i 0 w all plain was
+one_left i w (Decides e) plain was = engine_left i w e plain
+one_left i w (Does unit e) plain was = unit_left i w unit e (next_maker w) (plain_tail i (unit_step i.shape unit e (next_maker w) w) w plain) was
+one_left i w (Lands unit) plain was = engine_left i w (Landed unit (last_event w unit)) plain
+one_left i w (NotesReset unit) plain was = engine_left i w (ResetDone unit (last_event w unit)) plain
+
+all_left : (i : Image) (w : World) (deeds : List Deed) → IsPlainWorld i (with_deeds i w deeds) → IsLeft i w → IsLeft i (with_deeds i w deeds)
+all_left i w [] plain was = was
+all_left i w (d ∷ deeds) plain was = all_left i (after_deed i.shape w d) deeds plain (one_left i w d (plain_before i (after_deed i.shape w d) deeds plain) was)
+
+pub deeds_left : (i : Image) (deeds : List Deed) → IsPlainWorld i (world_of i.shape deeds) → IsLeft i (world_of i.shape deeds)
+deeds_left i deeds plain = all_left i [] deeds plain (none_left i (plain_before i [] deeds plain))

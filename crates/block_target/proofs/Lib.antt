@@ -1,4 +1,5 @@
 pub mod AskedMounts
+pub mod Beginnings
 pub mod Begun
 pub mod ClosedEnd
 pub mod DeviceFronts
@@ -10,9 +11,11 @@ pub mod PumpedFrames
 pub mod PumpedMount
 pub mod PumpedOpen
 pub mod PumpedProgram
+pub mod PumpedReset
 pub mod PumpedSteps
 pub mod PumpedUnits
 pub mod ReadFetch
+pub mod Readied
 pub mod ReadLook
 pub mod ReadSectors
 pub mod Refusals

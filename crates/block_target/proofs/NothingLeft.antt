@@ -1,5 +1,5 @@
 -- Where the logs name no work, and no stripe is under way, there is nothing left to do.
-use Rattle.std.proofs.Common.{◌≡◌, ◌⊎◌, inl, inr, ℕ, ◌+◌, ◌<◌, ◌≤◌, ◌^◌, ◌==◌, ◌&&◌, nat_lt, Bool, true, false, Some, None, Option, [], length, refl, sym, ap, ap₂, ◌∙◌, arith}
+use Rattle.std.proofs.Common.{◌≡◌, ◌⊎◌, inl, inr, ℕ, ◌+◌, ◌<◌, ◌≤◌, ◌^◌, ◌==◌, ◌&&◌, nat_lt, Bool, true, false, Some, None, Option, List, [], ◌∷◌, length, refl, sym, ap, ap₂, ◌∙◌, arith}
 use Rattle.std.specs.Prelude.{slice_get, position}
 use Rattle.std.specs.List.{Contains}
 use Rattle.std.specs.Option.{is_some, option_map_or}
@@ -12,7 +12,7 @@ use Rattle.pblk_world.specs.Events.{Stripe}
 use Rattle.pblk_world.specs.World.{World, log_of}
 use Rattle.pblk_world.specs.EngineLog.{Begun, begun, Opening, openings, Opened, life_of, Placed, placements, is_answered}
 use Rattle.pblk_world.specs.Fronts.{synced, waiting}
-use Rattle.pblk_world.specs.Lines.{known_image, is_free_line, has_stripe_left}
+use Rattle.pblk_world.specs.Lines.{known_image, are_empty, is_free_line, is_given_up, has_stripe_left}
 use Rattle.pblk_world.specs.Opening.{MayOpen}
 use Rattle.pblk_world.specs.Space.{open_addresses}
 use Rattle.pblk_world.specs.AtRest.{IsDue}
@@ -22,13 +22,12 @@ use Rattle.stripe_placer.specs.Placing.{next_stripe}
 use Rattle.stripe_placer.specs.Placing.UnitRow.{Idle}
 use Rattle.core_laws.specs.OpenedLines.{open_line, open_lines, standing}
 use Rattle.core_laws.specs.PlacerOf.{placing_of, row_in, unanswered_on, waits_again}
-use Rattle.core_laws.specs.PlainWorlds.{IsBlankWorld}
+use Rattle.core_laws.specs.PlainWorlds.{IsPlainWorld}
 use Rattle.core_laws.specs.RowsOf.{rows_of}
 use Rattle.core_laws.proofs.Lists.{all_at}
 use Rattle.core_laws.proofs.Placing.{is_below}
 use Rattle.core_laws.proofs.Turns.{filtered_is}
 use Rattle.line_laws.proofs.NextLine.{none_free}
-use Rattle.media_laws.proofs.Standing.{opened_range}
 use Rattle.placed_laws.specs.LeftOpenings.{left_openings}
 use Rattle.placed_laws.proofs.KnownChunks.{got_within}
 use Rattle.placed_laws.proofs.LeftLines.{lines_of_left, left_opened, left_apart}
@@ -36,7 +35,13 @@ use Rattle.placed_laws.proofs.TwoLines.{chunks_left}
 use Rattle.placing_laws.proofs.Due.{none_due, idle_answered}
 use Rattle.placing_laws.proofs.Followed.{follow}
 use Rattle.placing_laws.proofs.Idle.{row_there}
-use Rattle.pblk_core.specs.Named.{choice, work_of, first_seq_of}
+use Rattle.placing_laws.proofs.Opened.{opened_lines}
+use Rattle.pblk_core.specs.Named.{choice, reset_or, work_of, first_seq_of}
+use Rattle.pblk_core.specs.Resets.{resets_of}
+use Rattle.pblk_core.specs.Stands.{under_way}
+use Rattle.pblk_core.specs.declared.resets.LineChunk.{LineChunk}
+use Rattle.pblk_core.specs.declared.work.Work.{Work}
+use Rattle.pblk_core.proofs.Laws.{reset_empty}
 use Rattle.pblk_core.specs.declared.work.Work.TheVariants as works
 use Rattle.pblk_core.specs.declared.work.Why.{Why}
 use Rattle.block_target.specs.NothingLeft.{HasNothingLeft}
@@ -51,6 +56,14 @@ not_chosen false true false m f reason e = (refl, λ asks. inl refl)
 not_chosen false true true false f reason e = (refl, λ asks. inr refl)
 not_chosen false true true true f reason e = absurd cc
 
+no_reset_named : (o : Option LineChunk) (otherwise : Work) (reason : Why) → reset_or o otherwise ≡ works.Nothing reason → (o ≡ None) × (otherwise ≡ works.Nothing reason)
+no_reset_named None otherwise reason e = (refl, e)
+no_reset_named (Some chunk) otherwise reason e = absurd cc
+
+none_first : {X : Type 0} (xs : List X) → slice_get xs 0 ≡ None → xs ≡ []
+none_first [] e = refl
+none_first (x ∷ xs) e = absurd cc
+
 none_there : {X : Type 0} (o : Option X) → is_some o ≡ false → o ≡ None
 none_there None e = refl
 none_there (Some x) e = absurd cc
@@ -58,11 +71,25 @@ none_there (Some x) e = absurd cc
 true_false : (b : Bool) → b ≡ true → b ≡ false → ⊥
 true_false b e f = absurd cc
 
-module _ (i : Image) (w : World) (pad : ℕ) (reason : Why) (legal : IsBlankWorld i w) (idle : (unit : ℕ) → unanswered_on (log_of w 0) unit ≡ None) (none : work_of i (log_of w) pad ≡ works.Nothing reason) where
+module _ (i : Image) (w : World) (pad : ℕ) (reason : Why) (legal : IsPlainWorld i w) (idle : (unit : ℕ) → unanswered_on (log_of w 0) unit ≡ None) (none : work_of i (log_of w) pad ≡ works.Nothing reason) where
+  abbrev otherwise : Work
+  otherwise = choice
+      (is_some (next_stripe (placing_of i (log_of w) pad []) 0))
+      (nat_lt 0 (length (waiting i.shape (log_of w 0))) && (open_addresses i (log_of w) == 0))
+      (is_some (position is_free (rows_of i (log_of w)).rows))
+      (nat_lt (length (open_lines i (log_of w))) 2 && (nat_lt (first_seq_of (log_of w) + length (openings (log_of w 0))) (2 ^ 61) && nat_lt (synced i.shape (log_of w 0)) (2 ^ 61)))
+      (nat_lt 0 (under_way i.shape (log_of w 0)))
+
+  named : (slice_get (resets_of i (log_of w)) 0 ≡ None) × (otherwise ≡ works.Nothing reason)
+  named = no_reset_named (slice_get (resets_of i (log_of w)) 0) otherwise reason none
+
+  none_reset : (line : ℕ) → line < i.shape.chunks → is_given_up (log_of w 0) line ≡ true → are_empty (known_image i (log_of w)) line ≡ true
+  none_reset line range given = reset_empty i w line legal (none_first (resets_of i (log_of w)) named.0) range given
+
   chosen : (is_some (next_stripe (placing_of i (log_of w) pad []) 0) ≡ false)
       × ((nat_lt 0 (length (waiting i.shape (log_of w 0))) && (open_addresses i (log_of w) == 0)) ≡ true → (is_some (position is_free (rows_of i (log_of w)).rows) ≡ false)
       ⊎ ((nat_lt (length (open_lines i (log_of w))) 2 && (nat_lt (first_seq_of (log_of w) + length (openings (log_of w 0))) (2 ^ 61) && nat_lt (synced i.shape (log_of w 0)) (2 ^ 61))) ≡ false))
-  chosen = not_chosen _ _ _ _ _ reason none
+  chosen = not_chosen _ _ _ _ _ reason named.1
 
   row_idle : (unit : ℕ) → unit < units i.shape → slice_get (placing_of i (log_of w) pad []).units unit ≡ Some Idle
   row_idle unit inside =
@@ -70,11 +97,11 @@ module _ (i : Image) (w : World) (pad : ℕ) (reason : Why) (legal : IsBlankWorl
       ∙ ap (λ (o : Option Placed). Some (option_map_or (λ (p : Placed). row_in i (log_of w) (waits_again (log_of w 0) [] unit) p.life p) o Idle)) (idle unit)
 
   answered : (p : Placed) → Contains (placements (log_of w 0)) p → is_answered (log_of w 0) p ≡ true
-  answered p there = idle_answered i (line_units (known_image i (log_of w))) w pad p (follow i w legal.plain) row_idle there
+  answered p there = idle_answered i (line_units (known_image i (log_of w))) w pad p (follow i w legal) row_idle there
 
   none_due_now : (asked : ℕ) (stripe : Stripe) → asked ≤ pad → ¬ IsDue i (log_of w) asked stripe
   none_due_now asked stripe within =
-      none_due i (line_units (known_image i (log_of w))) w pad asked stripe (follow i w legal.plain) (none_there (next_stripe (placing_of i (log_of w) pad []) 0) chosen.0) answered within
+      none_due i (line_units (known_image i (log_of w))) w pad asked stripe (follow i w legal) (none_there (next_stripe (placing_of i (log_of w) pad []) 0) chosen.0) answered within
 
   -- where a line may be opened, at most one has a stripe left
   one_line : (b : Begun) (line : ℕ) (start : StartRecord) → MayOpen i (log_of w) b line start → length (open_lines i (log_of w)) < 2
@@ -90,11 +117,14 @@ module _ (i : Image) (w : World) (pad : ℕ) (reason : Why) (legal : IsBlankWorl
       left_at k o e = filtered_is (λ o. has_left (open_line i (log_of w) o)) (standing (log_of w 0)) k o e
 
       has_at : (k : ℕ) (o : Opening) → slice_get (left_openings i (log_of w)) k ≡ Some o → has_stripe_left i (log_of w) o.line ≡ true
-      has_at k o e = chunks_left i w o.line o legal.plain (opened_at k o e) (left_at k o e)
+      has_at k o e = chunks_left i w o.line o legal (opened_at k o e) (left_at k o e)
+
+      range_of : (line : ℕ) (o : Opening) → life_of (log_of w 0) line ≡ Opened o → line < i.shape.chunks
+      range_of line o life = (opened_lines i (line_units (known_image i (log_of w))) w (follow i w legal) line o life).in_range
 
       two : (a c : Opening) → slice_get (left_openings i (log_of w)) 0 ≡ Some a → slice_get (left_openings i (log_of w)) 1 ≡ Some c → ⊥
       two a c e f =
-          let one : a.line ≡ c.line = may.one_other a.line c.line (opened_range i w a.line a legal (opened_at 0 a e)) (opened_range i w c.line c legal (opened_at 1 c f)) (has_at 0 a e) (has_at 1 c f) in
+          let one : a.line ≡ c.line = may.one_other a.line c.line (range_of a.line a (opened_at 0 a e)) (range_of c.line c (opened_at 1 c f)) (has_at 0 a e) (has_at 1 c f) in
           let same : 0 ≡ 1 = left_apart i (log_of w) 0 1 a c e f one in
           absurd (omega (arith, same))
 
@@ -133,6 +163,7 @@ module _ (i : Image) (w : World) (pad : ℕ) (reason : Why) (legal : IsBlankWorl
   pub nothing_left : (asked : ℕ) → asked ≤ pad → HasNothingLeft i (log_of w) asked
   nothing_left asked within = record {
     stripes = answered;
+    no_reset = none_reset;
     no_program = λ stripe. none_due_now asked stripe within;
     no_opening = none_opened;
   }

@@ -4,13 +4,14 @@ use Rattle.std.specs.Prelude.{map, slice_get, slice_set}
 use Rattle.pblk_model.specs.Chunk.{Block}
 use Rattle.pblk_model.specs.ChunkStep.{Write, Done}
 use Rattle.pblk_model.specs.Frames.{PoolView}
-use Rattle.pblk_model.specs.Image.{Image, blank}
+use Rattle.pblk_model.specs.Image.{Image}
 use Rattle.pblk_model.specs.UnitLog.{UnitOutcome, Answered, after_event}
 use Rattle.pblk_world.specs.Events.{Place, Landed, Stripe}
+use Rattle.pblk_world.specs.Lines.{found_image}
 use Rattle.pblk_world.specs.World.{World, log_of}
 use Rattle.pblk_world.specs.Answering.{MayLand}
 use Rattle.pblk_world.specs.Placing.{MayPlace}
-use Rattle.core_laws.specs.PlainWorlds.{IsBlankWorld}
+use Rattle.core_laws.specs.PlainWorlds.{IsPlainWorld}
 use Rattle.core_laws.specs.Stepping.{after}
 use Rattle.unit_port.specs.Unit.{ModelUnit, IsFitUnit, Takes, IsReady, Steps}
 use Rattle.pblk_core.specs.Filling.{Filling}
@@ -18,7 +19,7 @@ use Rattle.pblk_core.specs.Stands.{Stands, IsStanding}
 use Rattle.pblk_core.specs.declared.target_core.Core.{Core}
 use Rattle.block_target.specs.Deeds.{world_of}
 use Rattle.block_target.specs.Mount.{MountView, IsMount, IsSound, IsUnitIn, logs_in}
-use Rattle.block_target.proofs.PumpedProgram.{done_deeds, landed_deeds, placed_stands, done_stands, landed_stands, done_legal, landed_legal, in_range, program_fits}
+use Rattle.block_target.proofs.PumpedProgram.{done_deeds, landed_deeds, placed_stands, done_stands, landed_stands, done_legal, landed_legal, landed_found, in_range, program_fits}
 use Rattle.block_target.proofs.PumpedUnits.{is_ready, landed_sound, one_changed, as_many}
 use Rattle.block_target.proofs.PumpedMount.{programmed}
 
@@ -30,44 +31,47 @@ unit_at f (y ∷ ys) (suc k) x within is = unit_at f ys k x (omega arith) is
 pub unit_there : {X : Type 0} (f : X → ModelUnit) (xs : List X) (i k : ℕ) (x : X) → i ≡ k → k < length (map f xs) → x ≡ get_or xs i x → slice_get (map f xs) k ≡ Some (f x)
 unit_there f xs i k x same within is = unit_at f xs k x within (is ∙ ap (λ n. get_or xs n x) same)
 
-module _ (v : MountView) (c : Core) (p : PoolView) (f : Filling) (m : IsMount v c p f) (stripe : Stripe) (may : MayPlace (blank v.shape) (logs_in v) stripe) where
+module _ (v : MountView) (c : Core) (p : PoolView) (f : Filling) (m : IsMount v c p f) (stripe : Stripe) (may : MayPlace v.image (logs_in v) stripe) where
   pub unit_within : stripe.unit < length v.units
-  unit_within = subst (λ n. stripe.unit < n) (sym m.sound.count) (in_range v.shape v.deeds stripe m.stands.beginning m.sound.legal m.stands.has_begun may m.level m.idle)
+  unit_within = subst (λ n. stripe.unit < n) (sym m.sound.count) (in_range v.image v.deeds stripe m.stands.beginning m.sound.legal m.stands.has_begun may m.level m.idle)
 
   -- the unit takes the command
   pub takes_program : (u : ModelUnit) (chunk at : ℕ) (blocks : List Block) → slice_get v.units stripe.unit ≡ Some u → chunk ≡ stripe.chunk → at ≡ stripe.at → blocks ≡ stripe.blocks → Takes u chunk (Write at blocks)
   takes_program u chunk at blocks there a b d =
       let ready : IsReady u stripe.chunk (Write stripe.at stripe.blocks) =
-      is_ready v stripe u (m.sound.each stripe.unit u there) (program_fits v.shape v.deeds stripe m.stands.beginning m.sound.legal m.stands.has_begun may m.level m.idle) in
+      is_ready v stripe u (m.sound.each stripe.unit u there) (program_fits v.image v.deeds stripe m.stands.beginning m.sound.legal m.stands.has_begun may m.level m.idle) in
       let takes : Takes u stripe.chunk (Write stripe.at stripe.blocks) = record { found = ready.found; there = ready.there; taken = inl ready.ready } in
       subst (λ (bs : List Block). Takes u chunk (Write at bs)) (sym d) (subst (λ n. Takes u chunk (Write n stripe.blocks)) (sym b) (subst (λ n. Takes u n (Write stripe.at stripe.blocks)) (sym a) takes))
 
   -- the core stands for what is done, step by step
-  pub placed_standing : (new : Core) → ((knows : List ℕ) → Stands (blank v.shape) (after (logs_in v) (Place stripe) knows) new) → IsStanding new
+  pub placed_standing : (new : Core) → ((knows : List ℕ) → Stands v.image (after (logs_in v) (Place stripe) knows) new) → IsStanding new
   placed_standing new st = record {
-    image = blank v.shape;
-    world = world_of v.shape (done_deeds v.shape v.deeds stripe);
-    legal = done_legal v.shape v.deeds stripe m.stands.beginning m.sound.legal m.stands.has_begun may m.level m.idle;
+    image = v.image;
+    world = world_of v.image.shape (done_deeds v.image v.deeds stripe);
+    legal = done_legal v.image v.deeds stripe m.stands.beginning m.sound.legal m.stands.has_begun may m.level m.idle;
     stands = done_now new st;
   }
     where
-      done_now : (new : Core) → ((knows : List ℕ) → Stands (blank v.shape) (after (logs_in v) (Place stripe) knows) new) → Stands (blank v.shape) (log_of (world_of v.shape (done_deeds v.shape v.deeds stripe))) new
+      done_now : (new : Core) → ((knows : List ℕ) → Stands v.image (after (logs_in v) (Place stripe) knows) new) → Stands v.image (log_of (world_of v.image.shape (done_deeds v.image v.deeds stripe))) new
       done_now new st =
-          done_stands v.shape v.deeds stripe m.stands.beginning m.sound.legal m.stands.has_begun may m.level m.idle new
-          (placed_stands v.shape v.deeds stripe m.stands.beginning m.sound.legal m.stands.has_begun may m.level m.idle new st)
+          done_stands v.image v.deeds stripe m.stands.beginning m.sound.legal m.stands.has_begun may m.level m.idle new
+          (placed_stands v.image v.deeds stripe m.stands.beginning m.sound.legal m.stands.has_begun may m.level m.idle new st)
 
-  pub end_legal : IsBlankWorld (blank v.shape) (world_of v.shape (landed_deeds v.shape v.deeds stripe))
-  end_legal = landed_legal v.shape v.deeds stripe m.stands.beginning m.sound.legal m.stands.has_begun may m.level m.idle
+  pub end_legal : IsPlainWorld v.image (world_of v.image.shape (landed_deeds v.image v.deeds stripe))
+  end_legal = landed_legal v.image v.deeds stripe m.stands.beginning m.sound.legal m.stands.has_begun may m.level m.idle
 
-  pub end_stands : (mid new : Core) → ((knows : List ℕ) → Stands (blank v.shape) (after (logs_in v) (Place stripe) knows) mid)
-      → ((i : Image) (w : World) (event : ℕ) (knows : List ℕ) → IsBlankWorld i w → Stands i (log_of w) mid → MayLand (log_of w) stripe.unit event → Stands i (after (log_of w) (Landed stripe.unit event) knows) new)
-      → Stands (blank v.shape) (log_of (world_of v.shape (landed_deeds v.shape v.deeds stripe))) new
+  end_found : found_image v.image (log_of (world_of v.image.shape (landed_deeds v.image v.deeds stripe))) ≡ found_image v.image (logs_in v)
+  end_found = landed_found v.image v.deeds stripe m.stands.beginning m.sound.legal m.stands.has_begun may m.level m.idle
+
+  pub end_stands : (mid new : Core) → ((knows : List ℕ) → Stands v.image (after (logs_in v) (Place stripe) knows) mid)
+      → ((i : Image) (w : World) (event : ℕ) (knows : List ℕ) → IsPlainWorld i w → Stands i (log_of w) mid → MayLand (log_of w) stripe.unit event → Stands i (after (log_of w) (Landed stripe.unit event) knows) new)
+      → Stands v.image (log_of (world_of v.image.shape (landed_deeds v.image v.deeds stripe))) new
   end_stands mid new st landed =
-      landed_stands v.shape v.deeds stripe m.stands.beginning m.sound.legal m.stands.has_begun may m.level m.idle new
-      (λ event knows note. landed (blank v.shape) (world_of v.shape (done_deeds v.shape v.deeds stripe)) event knows
-      (done_legal v.shape v.deeds stripe m.stands.beginning m.sound.legal m.stands.has_begun may m.level m.idle)
-      (done_stands v.shape v.deeds stripe m.stands.beginning m.sound.legal m.stands.has_begun may m.level m.idle mid
-      (placed_stands v.shape v.deeds stripe m.stands.beginning m.sound.legal m.stands.has_begun may m.level m.idle mid st)) note)
+      landed_stands v.image v.deeds stripe m.stands.beginning m.sound.legal m.stands.has_begun may m.level m.idle new
+      (λ event knows note. landed v.image (world_of v.image.shape (done_deeds v.image v.deeds stripe)) event knows
+      (done_legal v.image v.deeds stripe m.stands.beginning m.sound.legal m.stands.has_begun may m.level m.idle)
+      (done_stands v.image v.deeds stripe m.stands.beginning m.sound.legal m.stands.has_begun may m.level m.idle mid
+      (placed_stands v.image v.deeds stripe m.stands.beginning m.sound.legal m.stands.has_begun may m.level m.idle mid st)) note)
 
   -- the units are as the world leaves them
   pub end_sound : {X : Type 0} (model : X → ModelUnit) (xs : List X) (i : ℕ) (old new : X) (chunk at : ℕ) (blocks : List Block) (wear : List (List ℕ)) (granted pad : ℕ) → v.units ≡ map model xs → i ≡ stripe.unit
@@ -76,7 +80,7 @@ module _ (v : MountView) (c : Core) (p : PoolView) (f : Filling) (m : IsMount v 
       → IsSound (programmed v c p f m stripe may (map model (slice_set xs i new)) wear granted pad)
   end_sound model xs i old new chunk at blocks wear granted pad are same there a b d outcome done steps fit =
       let was : IsUnitIn v stripe.unit (model old) = m.sound.each stripe.unit (model old) there in
-      landed_sound v stripe (model old) (model new) (map model (slice_set xs i new)) wear granted pad m.sound end_legal was
+      landed_sound v stripe (model old) (model new) (map model (slice_set xs i new)) wear granted pad m.sound end_legal end_found was
       (steps.media ∙ (λ j. after_event (was.shape j) (model old).media (record { chunk = a j; command = Write (b j) (d j); outcome = done j })))
       steps.shape steps.armed fit
       (as_many model xs i new ∙ ap (λ (us : List ModelUnit). length us) (sym are))

@@ -10,7 +10,7 @@ use Rattle.pblk_world.specs.EngineLog.{Taken, takes}
 use Rattle.pblk_world.specs.Fronts.{first_position, synced, taken, has_landed_at}
 use Rattle.pblk_world.specs.Space.{freed}
 use Rattle.pblk_world.proofs.SyncedFront.{synced_within}
-use Rattle.core_laws.specs.PlainWorlds.{IsBlankWorld}
+use Rattle.core_laws.specs.PlainWorlds.{IsPlainWorld}
 use Rattle.core_laws.specs.WindowOf.{HeldSector, HeldSectors, without_frame, progress_by, is_given_back, held_of}
 use Rattle.core_laws.proofs.Placing.{not_below}
 use Rattle.landing_laws.proofs.Cached.{numbered_at}
@@ -69,8 +69,8 @@ drop_first (suc k) [] us t e = absurd cc
 drop_first (suc k) (u ∷ ts) us t e = drop_first k ts us t e
 
 -- where no block of the first entry can be read, or there is none, the window's front is that of the log
-pub front_is_freed : (i : Image) (w : World) (c : Core) → IsBlankWorld i w → Stands i (log_of w) c → view.is_readable_at c.window c.window.freed ≡ false → c.window.freed ≡ freed i.shape (log_of w 0)
-front_is_freed i w c blank st unread =
+pub front_is_freed : (i : Image) (w : World) (c : Core) → IsPlainWorld i w → Stands i (log_of w) c → view.is_readable_at c.window c.window.freed ≡ false → c.window.freed ≡ freed i.shape (log_of w 0)
+front_is_freed i w c plain st unread =
     go c.window.entries (drop (c.window.freed - first_position (log_of w 0)) (takes (log_of w 0))) refl refl (ap (λ (x : HeldSectors). x.entries) st.window)
     (sym (at_front c.window (λ h. is_readable h.progress) false) ∙ unread)
   where
@@ -92,7 +92,7 @@ front_is_freed i w c blank st unread =
         let here : without_frame h ≡ held_of i.shape (log_of w 0) t = cc in
         let there : slice_get (takes (log_of w 0)) (c.window.freed - first_position (log_of w 0)) ≡ Some t = drop_first (c.window.freed - first_position (log_of w 0)) (takes (log_of w 0)) ts t from in
         let at : t.entry.position ≡ first_position (log_of w 0) + (c.window.freed - first_position (log_of w 0)) =
-        numbered_at (first_position (log_of w 0)) (length (takes (log_of w 0))) (takes (log_of w 0)) (c.window.freed - first_position (log_of w 0)) t (numbered_in i w blank) there in
+        numbered_at (first_position (log_of w 0)) (length (takes (log_of w 0))) (takes (log_of w 0)) (c.window.freed - first_position (log_of w 0)) t (numbered_in i w plain) there in
         let low : first_position (log_of w 0) ≤ c.window.freed = st.from_first in
         let same_place : t.entry.position ≡ c.window.freed = omega arith in
         let kept : is_given_back i.shape (log_of w 0) t.entry.position ≡ false =

@@ -1,11 +1,10 @@
 -- A mount whose core opened the line that it names.
-use Rattle.std.proofs.Common.{◌≡◌, ℕ, ◌+◌, ◌*◌, ◌^◌, ◌<◌, ◌≤◌, max, List, [], ◌∷◌, ◌++◌, length, refl, sym, subst, ap, ap₂, ◌∙◌, le_refl, append-nil, Some}
+use Rattle.std.proofs.Common.{◌≡◌, ℕ, ◌+◌, ◌-◌, ◌*◌, ◌^◌, ◌≤◌, max, List, [], ◌∷◌, ◌++◌, length, refl, sym, subst, ap, ap₂, ◌∙◌, le_refl, append-nil, Some}
 use Rattle.std.specs.List.{list_any}
 use Rattle.pblk_model.specs.declared.shape.Shape.{Shape}
 use Rattle.pblk_model.specs.Shape.{units}
 use Rattle.pblk_model.specs.Contents.{least_missing}
 use Rattle.pblk_model.specs.Frames.{PoolView}
-use Rattle.pblk_model.specs.Image.{blank}
 use Rattle.pblk_model.specs.StartRecord.{StartRecord}
 use Rattle.pblk_world.specs.Events.{Open, Decides as Event, Logged}
 use Rattle.pblk_world.specs.World.{World, Logs, log_of}
@@ -22,7 +21,8 @@ use Rattle.core_laws.proofs.Numbering.{first_stays}
 use Rattle.core_laws.proofs.Steady.{AreAlike, unanswered_in}
 use Rattle.core_laws.proofs.TakenSlots.{gives_back_same, any_same}
 use Rattle.landing_laws.proofs.QuietEvents.{quiet_alike, open_is_quiet}
-use Rattle.step_laws.specs.Whole.{IsLevel, knows_all}
+use Rattle.step_laws.specs.Whole.{IsLevel, IsKnown, knows_all}
+use Rattle.step_laws.proofs.Known.{known_still}
 use Rattle.step_laws.proofs.Levels.{level_by}
 use Rattle.write_window.specs.Window as window
 use Rattle.pblk_core.specs.Filling.{Filling}
@@ -36,12 +36,13 @@ use Rattle.block_target.proofs.PumpedSteps.{world_next, logs_next, moved, sound_
 -- nothing was done
 pub same_self : (v : MountView) → IsSameMount v v
 same_self v = record {
-  shape = refl;
+  image = refl;
+  found = refl;
   wear = refl;
   more = [];
   deeds = sym (append-nil v.deeds);
   takes = refl;
-  synced = le_refl (synced v.shape (engine_log v));
+  synced = le_refl (synced v.image.shape (engine_log v));
   granted = le_refl v.granted;
   pad = le_refl v.pad;
 }
@@ -73,40 +74,43 @@ module _ (v : MountView) (c new : Core) (line : ℕ) (start : StartRecord) where
   deeds_ = v.deeds ++ Decides (Open line start) ∷ []
 
   abbrev world_ : World
-  world_ = world_of v.shape deeds_
+  world_ = world_of v.image.shape deeds_
 
-  log_is : log_of world_ 0 ≡ opened_log (engine_log v) line start (knows_all v.shape (world_in v))
-  log_is = ap (λ (logs : Logs). logs 0) (logs_next v.shape v.deeds (Open line start))
+  log_is : log_of world_ 0 ≡ opened_log (engine_log v) line start (knows_all v.image.shape (world_in v))
+  log_is = ap (λ (logs : Logs). logs 0) (logs_next v.image.shape v.deeds (Open line start))
 
   -- by what the core's call says
-  pub open_stands : ((knows : List ℕ) → Stands (blank v.shape) (after (logs_in v) (Open line start) knows) new) → Stands (blank v.shape) (log_of world_) new
-  open_stands st = subst (λ (logs : Logs). Stands (blank v.shape) logs new) (sym (logs_next v.shape v.deeds (Open line start))) (st (knows_all v.shape (world_in v)))
+  pub open_stands : ((knows : List ℕ) → Stands v.image (after (logs_in v) (Open line start) knows) new) → Stands v.image (log_of world_) new
+  open_stands st = subst (λ (logs : Logs). Stands v.image logs new) (sym (logs_next v.image.shape v.deeds (Open line start))) (st (knows_all v.image.shape (world_in v)))
 
-  pub open_sound : (granted pad : ℕ) (p : PoolView) (f : Filling) (m : IsMount v c p f) → ((b : Begun) → begun (engine_log v) ≡ Some b → MayOpen (blank v.shape) (logs_in v) b line start)
+  pub open_sound : (granted pad : ℕ) (p : PoolView) (f : Filling) (m : IsMount v c p f) → ((b : Begun) → begun (engine_log v) ≡ Some b → MayOpen v.image (logs_in v) b line start)
       → IsSound (moved v deeds_ granted pad)
   open_sound granted pad p f m may = sound_next v (Open line start) m.stands.beginning granted pad m.sound m.stands.has_begun (may m.stands.beginning m.stands.has_begun) refl
 
   -- the window's front is that of the logs still
-  pub open_drained : (p : PoolView) (f : Filling) → IsMount v c p f → new.window ≡ c.window → new.window.freed ≡ freed v.shape (log_of world_ 0)
+  pub open_drained : (p : PoolView) (f : Filling) → IsMount v c p f → new.window ≡ c.window → new.window.freed ≡ freed v.image.shape (log_of world_ 0)
   open_drained p f m same =
       ap (λ (x : window.WindowView). x.freed) same ∙ m.drained
-      ∙ sym (ap (freed v.shape) log_is ∙ freed_same v.shape (engine_log v) line start (knows_all v.shape (world_in v)) m.stands.beginning m.stands.has_begun)
+      ∙ sym (ap (freed v.image.shape) log_is ∙ freed_same v.image.shape (engine_log v) line start (knows_all v.image.shape (world_in v)) m.stands.beginning m.stands.has_begun)
 
-  pub mount_opened : (p : PoolView) (f : Filling) (granted : ℕ) → IsMount v c p f → ((b : Begun) → begun (engine_log v) ≡ Some b → MayOpen (blank v.shape) (logs_in v) b line start)
-      → ((knows : List ℕ) → Stands (blank v.shape) (after (logs_in v) (Open line start) knows) new) → new.window ≡ c.window → granted ≡ max v.granted (room (blank v.shape) (log_of world_))
+  pub mount_opened : (p : PoolView) (f : Filling) (granted : ℕ) → IsMount v c p f → ((b : Begun) → begun (engine_log v) ≡ Some b → MayOpen v.image (logs_in v) b line start)
+      → ((knows : List ℕ) → Stands v.image (after (logs_in v) (Open line start) knows) new) → new.window ≡ c.window → granted ≡ max v.granted (room v.image (log_of world_))
       → IsMount (moved v deeds_ granted (pad_of new)) new p f
   mount_opened p f granted m may st same is =
       let sound : IsSound (moved v deeds_ granted (pad_of new)) = open_sound granted (pad_of new) p f m may in
-      let drained : new.window.freed ≡ freed v.shape (log_of world_ 0) = open_drained p f m same in
-      let kept = grant_kept (blank v.shape) world_ v.granted new.window.freed sound.legal drained
-      (subst (λ (x : window.WindowView). v.granted + units v.shape * v.shape.ws_opt ≤ x.freed + v.shape.ring) (sym same) m.granted) m.last in
+      let drained : new.window.freed ≡ freed v.image.shape (log_of world_ 0) = open_drained p f m same in
+      let first : first_position (log_of world_ 0) ≡ first_position (engine_log v) =
+      ap first_position log_is ∙ first_stays (engine_log v) (record { event = Event (Open line start); knows = knows_all v.image.shape (world_in v) }) m.stands.beginning m.stands.has_begun in
+      let kept = grant_kept v.image world_ v.granted new.window.freed (first_position (engine_log v)) sound.legal drained first
+      (subst (λ (x : window.WindowView). v.granted + units v.image.shape * v.image.shape.ws_opt ≤ x.freed + v.image.shape.ring) (sym same) m.granted) m.last in
       record {
         sound = sound;
         stands = open_stands st;
         pad = refl;
-        level = subst IsLevel (sym (world_next v.shape v.deeds (Decides (Open line start)))) (level_by v.shape (Open line start) (world_in v) (λ unit. refl) m.level);
+        level = subst IsLevel (sym (world_next v.image.shape v.deeds (Decides (Open line start)))) (level_by v.image.shape (Open line start) (world_in v) (λ unit. refl) m.level);
+        known = subst (IsKnown v.image) (sym (world_next v.image.shape v.deeds (Decides (Open line start)))) (known_still v.image (world_in v) (Open line start) refl (λ unit. refl) m.known);
         idle = λ unit.
-            let same_one : AreAlike (engine_log v) (opened_log (engine_log v) line start (knows_all v.shape (world_in v))) = alike (engine_log v) line start (knows_all v.shape (world_in v)) in
+            let same_one : AreAlike (engine_log v) (opened_log (engine_log v) line start (knows_all v.image.shape (world_in v))) = alike (engine_log v) line start (knows_all v.image.shape (world_in v)) in
             ap (λ (log : List Logged). unanswered_on log unit) log_is ∙ ap₂ (λ ps ns. unanswered_in ps ns unit) same_one.placements same_one.answers ∙ m.idle unit;
         drained = drained;
         own = subst (λ (x : window.WindowView). window.AreOf p.region x.entries) (sym same) m.own;
@@ -114,20 +118,21 @@ module _ (v : MountView) (c new : Core) (line : ℕ) (start : StartRecord) where
         count = m.count;
         size = m.size;
         stripe = m.stripe;
-        granted = subst (λ n. n + units v.shape * v.shape.ws_opt ≤ new.window.freed + v.shape.ring) (sym is) kept.0;
-        last = subst (λ n. n < 2 ^ 61) (sym is) kept.1;
-        room = all_granted granted v.granted (room (blank v.shape) (log_of world_)) is;
+        granted = subst (λ n. n + units v.image.shape * v.image.shape.ws_opt ≤ new.window.freed + v.image.shape.ring) (sym is) kept.0;
+        last = subst (λ n. n ≤ max (2 ^ 61 - 2) (first_position (log_of world_ 0))) (sym is) kept.1;
+        room = all_granted granted v.granted (room v.image (log_of world_)) is;
       }
 
-  pub same_opened : (p : PoolView) (f : Filling) (granted pad : ℕ) → IsMount v c p f → ((b : Begun) → begun (engine_log v) ≡ Some b → MayOpen (blank v.shape) (logs_in v) b line start)
+  pub same_opened : (p : PoolView) (f : Filling) (granted pad : ℕ) → IsMount v c p f → ((b : Begun) → begun (engine_log v) ≡ Some b → MayOpen v.image (logs_in v) b line start)
       → v.granted ≤ granted → v.pad ≤ pad → IsSameMount v (moved v deeds_ granted pad)
   same_opened p f granted pad m may more_granted more_pad = record {
-    shape = refl;
+    image = refl;
+    found = refl;
     wear = refl;
     more = Decides (Open line start) ∷ [];
     deeds = refl;
-    takes = ap takes log_is ∙ takes_same (engine_log v) line start (knows_all v.shape (world_in v));
-    synced = synced_next v.shape v.deeds (Open line start) m.stands.beginning m.stands.has_begun (open_sound granted pad p f m may).legal;
+    takes = ap takes log_is ∙ takes_same (engine_log v) line start (knows_all v.image.shape (world_in v));
+    synced = synced_next v.image v.deeds (Open line start) m.stands.beginning m.stands.has_begun (open_sound granted pad p f m may).legal;
     granted = more_granted;
     pad = more_pad;
   }

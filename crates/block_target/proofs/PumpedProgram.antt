@@ -2,34 +2,37 @@
 use Rattle.std.proofs.Common.{◌≡◌, ◌≢◌, ◌⊎◌, inl, inr, ℕ, ◌+◌, ◌-◌, ◌≤◌, ◌<◌, zero, suc, true, false, Some, None, List, [], ◌∷◌, ◌++◌, length, refl, sym, subst, ap, ap₂, ◌∙◌, arith, length-append, append-nil}
 use Rattle.std.specs.Prelude.{slice_get}
 use Rattle.std.proofs.lemmas.Bool.{cases_order}
-use Rattle.pblk_model.specs.declared.shape.Shape.{Shape}
+use Rattle.pblk_model.specs.Image.{Image}
 use Rattle.pblk_model.specs.Chunk.{Chunk}
 use Rattle.pblk_model.specs.ChunkStep.{Write, refusal}
-use Rattle.pblk_model.specs.Image.{blank}
 use Rattle.pblk_model.specs.Shape.{units}
 use Rattle.pblk_world.specs.Events.{Place, Landed, Stripe, Logged}
 use Rattle.pblk_world.specs.World.{World, Logs, log_of, media}
 use Rattle.pblk_world.specs.EngineLog.{Begun, begun, Placed, placed_on, answers}
+use Rattle.pblk_world.specs.Lines.{found_image}
 use Rattle.pblk_world.specs.Answering.{MayLand}
 use Rattle.pblk_world.specs.Placing.{MayPlace}
 use Rattle.pblk_world.proofs.Answered.{answers_fit}
-use Rattle.core_laws.specs.PlainWorlds.{IsBlankWorld}
+use Rattle.core_laws.specs.PlainWorlds.{IsPlainWorld}
 use Rattle.core_laws.specs.PlacerOf.{unanswered_on}
 use Rattle.core_laws.specs.Stepping.{after}
 use Rattle.core_laws.proofs.Placing.{IsPlacing, new_placed, placed_on_now, answers_now}
 use Rattle.core_laws.proofs.Rows.{same_number, other_number}
 use Rattle.landing_laws.proofs.PlainStripes.{one_unanswered}
 use Rattle.pblk_laws.specs.LineBlocks.{chunk_in}
-use Rattle.media_laws.proofs.Written.{next_is_taken}
-use Rattle.step_laws.specs.Whole.{IsLevel, knows_all, engine_step, unit_step, next_maker, program_of, after_program, after_landing}
+use Rattle.media_laws.proofs.LineWritten.{program_is_taken}
+use Rattle.step_laws.specs.Whole.{IsLevel, IsKnown, knows_all, engine_step, unit_step, next_maker, program_of, after_program, after_landing}
 use Rattle.step_laws.proofs.EngineSteps.{engine_next, engine_logs}
-use Rattle.step_laws.proofs.Levels.{level_by, landing_legal, landing_level, own_waits, others_wait}
+use Rattle.step_laws.proofs.Known.{known_still}
+use Rattle.step_laws.proofs.Levels.{level_by, landing_legal, landing_level, landing_known, own_waits, others_wait}
 use Rattle.step_laws.proofs.Programs.{program_legal, unit_in_range}
+use Rattle.step_laws.proofs.UnitStays.{found_stays}
 use Rattle.step_laws.proofs.UnitSteps.{unit_log, may_land}
+use Rattle.line_laws.proofs.KeptRows.{found_kept}
 use Rattle.pblk_core.specs.Stands.{Stands}
 use Rattle.pblk_core.specs.declared.target_core.Core.{Core}
-use Rattle.block_target.specs.Deeds.{Deed, Decides, Does, Lands, step_of, world_of}
-use Rattle.block_target.proofs.PumpedSteps.{world_next, logs_next}
+use Rattle.block_target.specs.Deeds.{Deed, Decides, Does, Lands, after_deed, world_of}
+use Rattle.block_target.proofs.PumpedSteps.{world_next, logs_next, found_next}
 use Rattle.block_target.proofs.UnitStands.{stands_beside}
 
 none_past : {X : Type 0} (xs : List X) (n : ℕ) → slice_get xs n ≡ None → length xs ≤ n
@@ -45,15 +48,15 @@ got_end (y ∷ xs) x (suc n) e = got_end xs x n (omega arith)
 one_less : (xs : List Logged) (x : Logged) → length (xs ++ x ∷ []) - 1 ≡ length xs
 one_less xs x = let more : length (xs ++ x ∷ []) ≡ length xs + 1 = length-append xs (x ∷ []) in omega arith
 
-module _ (s : Shape) (deeds : List Deed) (stripe : Stripe) where
+module _ (i : Image) (deeds : List Deed) (stripe : Stripe) where
   abbrev pub before : World
-  before = world_of s deeds
+  before = world_of i.shape deeds
 
   abbrev pub placed_deeds : List Deed
   placed_deeds = deeds ++ Decides (Place stripe) ∷ []
 
   abbrev pub placed_world : World
-  placed_world = world_of s placed_deeds
+  placed_world = world_of i.shape placed_deeds
 
   abbrev pub done_deeds : List Deed
   done_deeds = placed_deeds ++ Does stripe.unit (program_of stripe) ∷ []
@@ -62,36 +65,36 @@ module _ (s : Shape) (deeds : List Deed) (stripe : Stripe) where
   landed_deeds = done_deeds ++ Lands stripe.unit ∷ []
 
   abbrev done_world : World
-  done_world = after_program s stripe.unit stripe (next_maker placed_world) placed_world
+  done_world = after_program i.shape stripe.unit stripe (next_maker placed_world) placed_world
 
-  pub done_is : world_of s done_deeds ≡ done_world
-  done_is = world_next s placed_deeds (Does stripe.unit (program_of stripe))
+  pub done_is : world_of i.shape done_deeds ≡ done_world
+  done_is = world_next i.shape placed_deeds (Does stripe.unit (program_of stripe))
 
-  pub landed_is : world_of s landed_deeds ≡ after_landing s stripe.unit stripe (next_maker placed_world) placed_world
+  pub landed_is : world_of i.shape landed_deeds ≡ after_landing i.shape stripe.unit stripe (next_maker placed_world) placed_world
   landed_is =
-      world_next s done_deeds (Lands stripe.unit)
-      ∙ ap (λ (w : World). step_of s w (Lands stripe.unit) ∷ w) done_is
-      ∙ ap (λ n. engine_step s (Landed stripe.unit n) done_world ∷ done_world)
-      (ap (λ (log : List Logged). length log - 1) (unit_log s stripe.unit (program_of stripe) (next_maker placed_world) placed_world)
-      ∙ one_less (log_of placed_world (suc stripe.unit)) (unit_step s stripe.unit (program_of stripe) (next_maker placed_world) placed_world).logged)
+      world_next i.shape done_deeds (Lands stripe.unit)
+      ∙ ap (λ (w : World). after_deed i.shape w (Lands stripe.unit)) done_is
+      ∙ ap (λ n. engine_step i.shape (Landed stripe.unit n) done_world ∷ done_world)
+      (ap (λ (log : List Logged). length log - 1) (unit_log i.shape stripe.unit (program_of stripe) (next_maker placed_world) placed_world)
+      ∙ one_less (log_of placed_world (suc stripe.unit)) (unit_step i.shape stripe.unit (program_of stripe) (next_maker placed_world) placed_world).logged)
 
-  log_is : log_of placed_world 0 ≡ after (log_of before) (Place stripe) (knows_all s before) 0
-  log_is = ap (λ (logs : Logs). logs 0) (logs_next s deeds (Place stripe))
+  log_is : log_of placed_world 0 ≡ after (log_of before) (Place stripe) (knows_all i.shape before) 0
+  log_is = ap (λ (logs : Logs). logs 0) (logs_next i.shape deeds (Place stripe))
 
   -- what is known as the stripe is placed
-  module _ (b : Begun) (legal : IsBlankWorld (blank s) before) (has : begun (log_of before 0) ≡ Some b) (may : MayPlace (blank s) (log_of before) stripe) (level : IsLevel before)
+  module _ (b : Begun) (legal : IsPlainWorld i before) (has : begun (log_of before 0) ≡ Some b) (may : MayPlace i (log_of before) stripe) (level : IsLevel before)
       (idle : (unit : ℕ) → unanswered_on (log_of before 0) unit ≡ None) where
-    pub placed_legal : IsBlankWorld (blank s) placed_world
-    placed_legal = subst (IsBlankWorld (blank s)) (sym (world_next s deeds (Decides (Place stripe)))) (engine_next (blank s) before b (Place stripe) legal has may refl)
+    pub placed_legal : IsPlainWorld i placed_world
+    placed_legal = subst (IsPlainWorld i) (sym (world_next i.shape deeds (Decides (Place stripe)))) (engine_next i before b (Place stripe) legal has may refl)
 
     pub placed_level : IsLevel placed_world
-    placed_level = subst IsLevel (sym (world_next s deeds (Decides (Place stripe)))) (level_by s (Place stripe) before (λ unit. refl) level)
+    placed_level = subst IsLevel (sym (world_next i.shape deeds (Decides (Place stripe)))) (level_by i.shape (Place stripe) before (λ unit. refl) level)
 
     placing : IsPlacing (log_of before 0) stripe may.opening
     placing = record {
       opened = may.is_open;
       idle =
-          let few : length (answers (log_of before 0) stripe.unit) ≤ length (placed_on (log_of before 0) stripe.unit) = answers_fit (blank s) before stripe.unit legal.plain.legal in
+          let few : length (answers (log_of before 0) stripe.unit) ≤ length (placed_on (log_of before 0) stripe.unit) = answers_fit i before stripe.unit legal.legal in
           let all : length (placed_on (log_of before 0) stripe.unit) ≤ length (answers (log_of before 0) stripe.unit) = none_past (placed_on (log_of before 0) stripe.unit) (length (answers (log_of before 0) stripe.unit)) (idle stripe.unit) in
           omega arith;
     }
@@ -99,68 +102,83 @@ module _ (s : Shape) (deeds : List Deed) (stripe : Stripe) where
     abbrev pub placed : Placed
     placed = new_placed (log_of before 0) stripe may.opening
 
-    -- it is the unit's stripe that isn't answered, and the other units have none
+    -- it is the unit'i.shape stripe that isn't answered, and the other units have none
     pub waits : unanswered_on (log_of placed_world 0) stripe.unit ≡ Some placed
     waits =
         ap (λ (log : List Logged). unanswered_on log stripe.unit) log_is
-        ∙ ap₂ (λ (ps : List Placed) n. slice_get ps n) (placed_on_now (log_of before 0) stripe (knows_all s before) may.opening stripe.unit true placing.opened (same_number stripe.unit))
-        (ap (λ (xs : List _). length xs) (answers_now (log_of before 0) stripe (knows_all s before) stripe.unit))
+        ∙ ap₂ (λ (ps : List Placed) n. slice_get ps n) (placed_on_now (log_of before 0) stripe (knows_all i.shape before) may.opening stripe.unit true placing.opened (same_number stripe.unit))
+        (ap (λ (xs : List _). length xs) (answers_now (log_of before 0) stripe (knows_all i.shape before) stripe.unit))
         ∙ got_end (placed_on (log_of before 0) stripe.unit) placed (length (answers (log_of before 0) stripe.unit)) placing.idle
 
     pub others_idle : (unit : ℕ) → unit ≢ stripe.unit → unanswered_on (log_of placed_world 0) unit ≡ None
     others_idle unit apart =
         ap (λ (log : List Logged). unanswered_on log unit) log_is
         ∙ ap₂ (λ (ps : List Placed) n. slice_get ps n)
-        (placed_on_now (log_of before 0) stripe (knows_all s before) may.opening unit false placing.opened (other_number stripe.unit unit (λ e. apart (sym e))) ∙ append-nil (placed_on (log_of before 0) unit))
-        (ap (λ (xs : List _). length xs) (answers_now (log_of before 0) stripe (knows_all s before) unit))
+        (placed_on_now (log_of before 0) stripe (knows_all i.shape before) may.opening unit false placing.opened (other_number stripe.unit unit (λ e. apart (sym e))) ∙ append-nil (placed_on (log_of before 0) unit))
+        (ap (λ (xs : List _). length xs) (answers_now (log_of before 0) stripe (knows_all i.shape before) unit))
         ∙ idle unit
 
-    pub in_range : stripe.unit < units s
-    in_range = unit_in_range (blank s) placed_world stripe.unit (length (answers (log_of placed_world 0) stripe.unit)) placed placed_legal waits
+    pub in_range : stripe.unit < units i.shape
+    in_range = unit_in_range i placed_world stripe.unit (length (answers (log_of placed_world 0) stripe.unit)) placed placed_legal waits
 
     -- the chunk doesn't refuse it
-    pub program_fits : (c : Chunk) × (chunk_in (media (blank s) (log_of placed_world)) stripe.chunk stripe.unit ≡ Some c) × (refusal s c (Write stripe.at stripe.blocks) ≡ None)
-    program_fits = next_is_taken (blank s) placed_world stripe.unit placed placed_legal in_range (ap (slice_get (placed_on (log_of placed_world 0) stripe.unit)) (placed_level stripe.unit) ∙ waits)
+    pub program_fits : (c : Chunk) × (chunk_in (media i (log_of placed_world)) stripe.chunk stripe.unit ≡ Some c) × (refusal i.shape c (Write stripe.at stripe.blocks) ≡ None)
+    program_fits = program_is_taken i placed_world stripe.unit placed placed_legal (ap (slice_get (placed_on (log_of placed_world 0) stripe.unit)) (placed_level stripe.unit) ∙ waits)
 
-    pub done_legal : IsBlankWorld (blank s) (world_of s done_deeds)
-    done_legal = subst (IsBlankWorld (blank s)) (sym done_is) (program_legal (blank s) placed_world stripe.unit placed (next_maker placed_world) placed_legal waits (placed_level stripe.unit))
+    pub done_legal : IsPlainWorld i (world_of i.shape done_deeds)
+    done_legal = subst (IsPlainWorld i) (sym done_is) (program_legal i placed_world stripe.unit placed (next_maker placed_world) placed_legal waits (placed_level stripe.unit))
 
-    pub landed_legal : IsBlankWorld (blank s) (world_of s landed_deeds)
-    landed_legal = subst (IsBlankWorld (blank s)) (sym landed_is) (landing_legal (blank s) placed_world stripe.unit placed (next_maker placed_world) placed_legal waits (placed_level stripe.unit))
+    pub landed_legal : IsPlainWorld i (world_of i.shape landed_deeds)
+    landed_legal = subst (IsPlainWorld i) (sym landed_is) (landing_legal i placed_world stripe.unit placed (next_maker placed_world) placed_legal waits (placed_level stripe.unit))
 
-    pub landed_level : IsLevel (world_of s landed_deeds)
-    landed_level = subst IsLevel (sym landed_is) (landing_level (blank s) placed_world stripe.unit placed (next_maker placed_world) placed_legal waits (placed_level stripe.unit) placed_level)
+    pub landed_level : IsLevel (world_of i.shape landed_deeds)
+    landed_level = subst IsLevel (sym landed_is) (landing_level i placed_world stripe.unit placed (next_maker placed_world) placed_legal waits (placed_level stripe.unit) placed_level)
 
-    pub landed_idle : (unit : ℕ) → unanswered_on (log_of (world_of s landed_deeds) 0) unit ≡ None
+    placed_known : IsKnown i before → IsKnown i placed_world
+    placed_known known = subst (IsKnown i) (sym (world_next i.shape deeds (Decides (Place stripe)))) (known_still i before (Place stripe) refl (λ unit. refl) known)
+
+    pub landed_known : IsKnown i before → IsKnown i (world_of i.shape landed_deeds)
+    landed_known known = subst (IsKnown i) (sym landed_is) (landing_known i placed_world stripe.unit placed (next_maker placed_world) placed_legal waits (placed_level stripe.unit) (placed_known known))
+
+    -- what the mount found stays
+    pub landed_found : found_image i (log_of (world_of i.shape landed_deeds)) ≡ found_image i (log_of before)
+    landed_found =
+        ap (λ (w : World). found_image i (log_of w)) landed_is
+        ∙ ap (found_image i) (engine_logs i.shape (Landed stripe.unit (length (log_of placed_world (suc stripe.unit)))) done_world)
+        ∙ found_kept i (log_of done_world) (Landed stripe.unit (length (log_of placed_world (suc stripe.unit)))) (knows_all i.shape done_world) refl
+        ∙ found_stays i placed_world stripe.unit (program_of stripe) (next_maker placed_world) placed_legal
+        ∙ found_next i deeds (Place stripe) b may
+
+    pub landed_idle : (unit : ℕ) → unanswered_on (log_of (world_of i.shape landed_deeds) 0) unit ≡ None
     landed_idle unit = ap (λ (w : World). unanswered_on (log_of w 0) unit) landed_is ∙ go (cases_order unit stripe.unit)
       where
-        other : unit ≢ stripe.unit → unanswered_on (log_of (after_landing s stripe.unit stripe (next_maker placed_world) placed_world) 0) unit ≡ None
-        other apart = others_wait (blank s) placed_world stripe.unit placed (next_maker placed_world) placed_legal waits (placed_level stripe.unit) unit apart ∙ others_idle unit apart
+        other : unit ≢ stripe.unit → unanswered_on (log_of (after_landing i.shape stripe.unit stripe (next_maker placed_world) placed_world) 0) unit ≡ None
+        other apart = others_wait i placed_world stripe.unit placed (next_maker placed_world) placed_legal waits (placed_level stripe.unit) unit apart ∙ others_idle unit apart
 
-        go : (unit ≡ stripe.unit) ⊎ ((unit < stripe.unit) ⊎ (stripe.unit < unit)) → unanswered_on (log_of (after_landing s stripe.unit stripe (next_maker placed_world) placed_world) 0) unit ≡ None
+        go : (unit ≡ stripe.unit) ⊎ ((unit < stripe.unit) ⊎ (stripe.unit < unit)) → unanswered_on (log_of (after_landing i.shape stripe.unit stripe (next_maker placed_world) placed_world) 0) unit ≡ None
         go (inl same) =
-            ap (λ u. unanswered_on (log_of (after_landing s stripe.unit stripe (next_maker placed_world) placed_world) 0) u) same
-            ∙ own_waits (blank s) placed_world stripe.unit placed (next_maker placed_world) placed_legal waits (placed_level stripe.unit) (one_unanswered (blank s) placed_world placed_legal.plain.legal stripe.unit)
+            ap (λ u. unanswered_on (log_of (after_landing i.shape stripe.unit stripe (next_maker placed_world) placed_world) 0) u) same
+            ∙ own_waits i placed_world stripe.unit placed (next_maker placed_world) placed_legal waits (placed_level stripe.unit) (one_unanswered i placed_world placed_legal.legal stripe.unit)
         go (inr (inl below)) = other (λ same. absurd (omega arith))
         go (inr (inr over)) = other (λ same. absurd (omega arith))
 
     -- the core, once it placed the stripe, and once it heard that it landed
-    pub placed_stands : (c : Core) → ((knows : List ℕ) → Stands (blank s) (after (log_of before) (Place stripe) knows) c) → Stands (blank s) (log_of placed_world) c
-    placed_stands c st = subst (λ (logs : Logs). Stands (blank s) logs c) (sym (logs_next s deeds (Place stripe))) (st (knows_all s before))
+    pub placed_stands : (c : Core) → ((knows : List ℕ) → Stands i (after (log_of before) (Place stripe) knows) c) → Stands i (log_of placed_world) c
+    placed_stands c st = subst (λ (logs : Logs). Stands i logs c) (sym (logs_next i.shape deeds (Place stripe))) (st (knows_all i.shape before))
 
-    pub done_stands : (c : Core) → Stands (blank s) (log_of placed_world) c → Stands (blank s) (log_of (world_of s done_deeds)) c
-    done_stands c st = subst (λ (w : World). Stands (blank s) (log_of w) c) (sym done_is) (stands_beside (blank s) placed_world stripe.unit (program_of stripe) (next_maker placed_world) c placed_legal st)
+    pub done_stands : (c : Core) → Stands i (log_of placed_world) c → Stands i (log_of (world_of i.shape done_deeds)) c
+    done_stands c st = subst (λ (w : World). Stands i (log_of w) c) (sym done_is) (stands_beside i placed_world stripe.unit (program_of stripe) (next_maker placed_world) c placed_legal st)
 
-    pub may_be_noted : MayLand (log_of (world_of s done_deeds)) stripe.unit (length (log_of placed_world (suc stripe.unit)))
+    pub may_be_noted : MayLand (log_of (world_of i.shape done_deeds)) stripe.unit (length (log_of placed_world (suc stripe.unit)))
     may_be_noted = subst (λ (w : World). MayLand (log_of w) stripe.unit (length (log_of placed_world (suc stripe.unit)))) (sym done_is)
-        (may_land (blank s) placed_world stripe.unit placed (next_maker placed_world) placed_legal waits (placed_level stripe.unit))
+        (may_land i placed_world stripe.unit placed (next_maker placed_world) placed_legal waits (placed_level stripe.unit))
 
     pub landed_stands : (c : Core)
-        → ((event : ℕ) (knows : List ℕ) → MayLand (log_of (world_of s done_deeds)) stripe.unit event → Stands (blank s) (after (log_of (world_of s done_deeds)) (Landed stripe.unit event) knows) c)
-        → Stands (blank s) (log_of (world_of s landed_deeds)) c
+        → ((event : ℕ) (knows : List ℕ) → MayLand (log_of (world_of i.shape done_deeds)) stripe.unit event → Stands i (after (log_of (world_of i.shape done_deeds)) (Landed stripe.unit event) knows) c)
+        → Stands i (log_of (world_of i.shape landed_deeds)) c
     landed_stands c st =
-        let now : Stands (blank s) (after (log_of (world_of s done_deeds)) (Landed stripe.unit (length (log_of placed_world (suc stripe.unit)))) (knows_all s done_world)) c = st (length (log_of placed_world (suc stripe.unit))) (knows_all s done_world) may_be_noted in
-        let there : Stands (blank s) (after (log_of done_world) (Landed stripe.unit (length (log_of placed_world (suc stripe.unit)))) (knows_all s done_world)) c =
-        subst (λ (w : World). Stands (blank s) (after (log_of w) (Landed stripe.unit (length (log_of placed_world (suc stripe.unit)))) (knows_all s done_world)) c) done_is now in
-        subst (λ (w : World). Stands (blank s) (log_of w) c) (sym landed_is)
-        (subst (λ (logs : Logs). Stands (blank s) logs c) (sym (engine_logs s (Landed stripe.unit (length (log_of placed_world (suc stripe.unit)))) done_world)) there)
+        let now : Stands i (after (log_of (world_of i.shape done_deeds)) (Landed stripe.unit (length (log_of placed_world (suc stripe.unit)))) (knows_all i.shape done_world)) c = st (length (log_of placed_world (suc stripe.unit))) (knows_all i.shape done_world) may_be_noted in
+        let there : Stands i (after (log_of done_world) (Landed stripe.unit (length (log_of placed_world (suc stripe.unit)))) (knows_all i.shape done_world)) c =
+        subst (λ (w : World). Stands i (after (log_of w) (Landed stripe.unit (length (log_of placed_world (suc stripe.unit)))) (knows_all i.shape done_world)) c) done_is now in
+        subst (λ (w : World). Stands i (log_of w) c) (sym landed_is)
+        (subst (λ (logs : Logs). Stands i logs c) (sym (engine_logs i.shape (Landed stripe.unit (length (log_of placed_world (suc stripe.unit)))) done_world)) there)

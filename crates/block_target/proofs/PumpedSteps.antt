@@ -1,64 +1,89 @@
 -- What is done next by the engine of a mount: the world that it makes, and what stays sound.
-use Rattle.std.proofs.Common.{◌≡◌, ℕ, ◌+◌, ◌-◌, ◌*◌, ◌^◌, ◌<◌, ◌≤◌, max, min, true, Some, List, [], ◌∷◌, ◌++◌, sym, subst, ap, ◌∙◌, arith}
+use Rattle.std.proofs.Common.{◌≡◌, ℕ, ◌+◌, ◌-◌, ◌*◌, ◌^◌, ◌≤◌, max, min, true, Some, None, List, [], ◌∷◌, ◌++◌, sym, subst, ap, refl, ◌∙◌, arith}
 use Rattle.std.specs.Prelude.{slice_get}
 use Rattle.std.proofs.lemmas.List.Sums.{fold-append}
 use Rattle.std.proofs.Math.Nat.{mul-le-mul_left}
 use Rattle.pblk_model.specs.declared.shape.Shape.{Shape}
 use Rattle.pblk_model.specs.Accepted.{IsAccepted}
 use Rattle.pblk_model.specs.Shape.{units}
-use Rattle.pblk_model.specs.Image.{Image, blank}
-use Rattle.pblk_world.specs.Events.{EngineEvent, Decides as Event, Logged}
+use Rattle.pblk_model.specs.Image.{Image}
+use Rattle.pblk_world.specs.Events.{EngineEvent, Begin, Take, Open, Place, Landed, Lost, Again, ResetDone, Free, Decides as Event, Logged}
 use Rattle.pblk_world.specs.World.{World, Logs, log_of, media}
-use Rattle.pblk_world.specs.EngineLog.{Begun, begun}
+use Rattle.pblk_world.specs.EngineLog.{Begun, begun, begun_by}
 use Rattle.pblk_world.specs.Fronts.{first_position, synced}
+use Rattle.pblk_world.specs.Lines.{found_image}
 use Rattle.pblk_world.specs.Space.{freed, room, ring_limit, space_limit, position_limit}
 use Rattle.pblk_world.specs.Legal.{IsDecision}
-use Rattle.core_laws.specs.PlainWorlds.{IsBlankWorld, ArePlain, is_plain_decision}
+use Rattle.core_laws.specs.PlainWorlds.{IsPlainWorld, ArePlain, is_plain_decision}
 use Rattle.core_laws.specs.Stepping.{after}
 use Rattle.core_laws.proofs.Numbering.{first_stays}
 use Rattle.prefix_law.proofs.Fronts.{synced_rises}
-use Rattle.prefix_law.proofs.Blank.{from_zero}
+use Rattle.line_laws.proofs.KeptRows.{found_kept}
 use Rattle.step_laws.specs.Whole.{knows_all}
 use Rattle.step_laws.proofs.EngineSteps.{engine_next, engine_logs, media_still}
-use Rattle.block_target.specs.Deeds.{Deed, Decides, step_of, world_of}
+use Rattle.block_target.specs.Deeds.{Deed, Decides, after_deed, world_of}
 use Rattle.block_target.specs.Mount.{MountView, IsSound, IsUnitIn, world_in, logs_in, engine_log}
+use Rattle.block_target.proofs.Beginnings.{begun_grown}
 
-pub world_next : (s : Shape) (deeds : List Deed) (d : Deed) → world_of s (deeds ++ d ∷ []) ≡ step_of s (world_of s deeds) d ∷ world_of s deeds
-world_next s deeds d = fold-append (λ (w : World) (d : Deed). step_of s w d ∷ w) [] deeds (d ∷ [])
+pub world_next : (s : Shape) (deeds : List Deed) (d : Deed) → world_of s (deeds ++ d ∷ []) ≡ after_deed s (world_of s deeds) d
+world_next s deeds d = fold-append (after_deed s) [] deeds (d ∷ [])
 
 -- the logs once the engine decided
 pub logs_next : (s : Shape) (deeds : List Deed) (e : EngineEvent) → log_of (world_of s (deeds ++ Decides e ∷ [])) ≡ after (log_of (world_of s deeds)) e (knows_all s (world_of s deeds))
 logs_next s deeds e = ap log_of (world_next s deeds (Decides e)) ∙ engine_logs s e (world_of s deeds)
 
+-- a mount that has begun doesn't begin again
+pub begins_not : (i : Image) (logs : Logs) (b : Begun) (e : EngineEvent) (knows : List ℕ) → IsDecision i logs b e → begun_by knows (Event e) ≡ None
+begins_not i logs b (Begin x) knows may = absurd may
+begins_not i logs b (Take entry mark) knows may = refl
+begins_not i logs b (Open line start) knows may = refl
+begins_not i logs b (Place stripe) knows may = refl
+begins_not i logs b (Landed unit event) knows may = refl
+begins_not i logs b (Lost unit event) knows may = refl
+begins_not i logs b (Again unit event) knows may = refl
+begins_not i logs b (ResetDone unit event) knows may = refl
+begins_not i logs b (Free line) knows may = refl
+
+-- and has found what it found
+pub found_next : (i : Image) (deeds : List Deed) (e : EngineEvent) (b : Begun) → IsDecision i (log_of (world_of i.shape deeds)) b e
+    → found_image i (log_of (world_of i.shape (deeds ++ Decides e ∷ []))) ≡ found_image i (log_of (world_of i.shape deeds))
+found_next i deeds e b may =
+    ap (found_image i) (logs_next i.shape deeds e)
+    ∙ found_kept i (log_of (world_of i.shape deeds)) e (knows_all i.shape (world_of i.shape deeds)) (begins_not i (log_of (world_of i.shape deeds)) b e (knows_all i.shape (world_of i.shape deeds)) may)
+
 -- a mount whose deeds and units are these
 abbrev pub moved : MountView → List Deed → ℕ → ℕ → MountView
-moved v deeds granted pad = record { shape = v.shape; deeds = deeds; units = v.units; wear = v.wear; granted = granted; pad = pad }
+moved v deeds granted pad = record { image = v.image; found = v.found; deeds = deeds; units = v.units; wear = v.wear; granted = granted; pad = pad }
 
-pub sound_next : (v : MountView) (e : EngineEvent) (b : Begun) (granted pad : ℕ) → IsSound v → begun (engine_log v) ≡ Some b → IsDecision (blank v.shape) (logs_in v) b e → is_plain_decision e ≡ true
+pub sound_next : (v : MountView) (e : EngineEvent) (b : Begun) (granted pad : ℕ) → IsSound v → begun (engine_log v) ≡ Some b → IsDecision v.image (logs_in v) b e → is_plain_decision e ≡ true
     → IsSound (moved v (v.deeds ++ Decides e ∷ []) granted pad)
 sound_next v e b granted pad sound has may plain = record {
-  legal = subst (IsBlankWorld (blank v.shape)) (sym (world_next v.shape v.deeds (Decides e))) (engine_next (blank v.shape) (world_in v) b e sound.legal has may plain);
+  legal = subst (IsPlainWorld v.image) (sym (world_next v.image.shape v.deeds (Decides e))) (engine_next v.image (world_in v) b e sound.legal has may plain);
+  beginning = sound.beginning;
+  has_begun = begun_grown v.image v.deeds (Decides e ∷ []) sound.beginning sound.has_begun;
+  first_low = sound.first_low;
+  found_is = found_next v.image v.deeds e b may ∙ sound.found_is;
   count = sound.count;
   each = λ number u there.
       let was : IsUnitIn v number u = sound.each number u there in
       record {
         shape = was.shape;
-        media = ap (λ (w : World). slice_get (media (blank v.shape) (log_of w)).units number) (world_next v.shape v.deeds (Decides e))
-            ∙ ap (λ (m : Image). slice_get m.units number) (media_still (blank v.shape) v.shape e (world_in v)) ∙ was.media;
+        media = ap (λ (w : World). slice_get (media v.image (log_of w)).units number) (world_next v.image.shape v.deeds (Decides e))
+            ∙ ap (λ (m : Image). slice_get m.units number) (media_still v.image v.image.shape e (world_in v)) ∙ was.media;
         unarmed = was.unarmed;
         fit = was.fit;
       };
 }
 
 -- the front synced doesn't fall
-pub synced_next : (s : Shape) (deeds : List Deed) (e : EngineEvent) (b : Begun) → begun (log_of (world_of s deeds) 0) ≡ Some b → IsBlankWorld (blank s) (world_of s (deeds ++ Decides e ∷ []))
-    → synced s (log_of (world_of s deeds) 0) ≤ synced s (log_of (world_of s (deeds ++ Decides e ∷ [])) 0)
-synced_next s deeds e b has blank =
-    let log : List Logged = log_of (world_of s deeds) 0 in
-    let l : Logged = record { event = Event e; knows = knows_all s (world_of s deeds) } in
-    let is : log_of (world_of s (deeds ++ Decides e ∷ [])) 0 ≡ log ++ l ∷ [] = ap (λ (logs : Logs). logs 0) (logs_next s deeds e) in
-    subst (λ (new : List Logged). synced s log ≤ synced s new) (sym is)
-    (synced_rises s log l (subst ArePlain is blank.plain.engine) (first_stays log l b has))
+pub synced_next : (i : Image) (deeds : List Deed) (e : EngineEvent) (b : Begun) → begun (log_of (world_of i.shape deeds) 0) ≡ Some b → IsPlainWorld i (world_of i.shape (deeds ++ Decides e ∷ []))
+    → synced i.shape (log_of (world_of i.shape deeds) 0) ≤ synced i.shape (log_of (world_of i.shape (deeds ++ Decides e ∷ [])) 0)
+synced_next i deeds e b has plain =
+    let log : List Logged = log_of (world_of i.shape deeds) 0 in
+    let l : Logged = record { event = Event e; knows = knows_all i.shape (world_of i.shape deeds) } in
+    let is : log_of (world_of i.shape (deeds ++ Decides e ∷ [])) 0 ≡ log ++ l ∷ [] = ap (λ (logs : Logs). logs 0) (logs_next i.shape deeds e) in
+    subst (λ (new : List Logged). synced i.shape log ≤ synced i.shape new) (sym is)
+    (synced_rises i.shape log l (subst ArePlain is plain.engine) (first_stays log l b has))
 
 -- ---- grants
 
@@ -74,7 +99,7 @@ ring_kept s accepted =
 fits : (a g k f r : ℕ) → a + k ≤ f + r → g ≤ f + r - k → k ≤ r → max a g + k ≤ f + r
 fits a g k f r h e low = omega arith
 
-below_both : (a g n : ℕ) → a < n → g < n → max a g < n
+below_both : (a g n : ℕ) → a ≤ n → g ≤ n → max a g ≤ n
 below_both a g n h e = omega arith
 
 -- a grant by these logs leaves no more room
@@ -82,19 +107,13 @@ pub all_granted : (granted before free : ℕ) → granted ≡ max before free �
 all_granted granted before free is = omega arith
 
 -- what a grant by these logs keeps
-pub grant_kept : (i : Image) (w : World) (granted front : ℕ) → IsBlankWorld i w → front ≡ freed i.shape (log_of w 0)
-    → granted + units i.shape * i.shape.ws_opt ≤ front + i.shape.ring → granted < 2 ^ 61
-    → (max granted (room i (log_of w)) + units i.shape * i.shape.ws_opt ≤ front + i.shape.ring) × (max granted (room i (log_of w)) < 2 ^ 61)
-grant_kept i w granted front blank drained was low =
+pub grant_kept : (i : Image) (w : World) (granted front first : ℕ) → IsPlainWorld i w → front ≡ freed i.shape (log_of w 0) → first_position (log_of w 0) ≡ first
+    → granted + units i.shape * i.shape.ws_opt ≤ front + i.shape.ring → granted ≤ max (2 ^ 61 - 2) first
+    → (max granted (room i (log_of w)) + units i.shape * i.shape.ws_opt ≤ front + i.shape.ring) × (max granted (room i (log_of w)) ≤ max (2 ^ 61 - 2) (first_position (log_of w 0)))
+grant_kept i w granted front first plain drained same was low =
     let both = least_of (ring_limit i.shape (log_of w 0)) (space_limit i (log_of w)) (position_limit (log_of w 0)) in
     let within : room i (log_of w) ≤ front + i.shape.ring - units i.shape * i.shape.ws_opt =
-    subst (λ n. room i (log_of w) ≤ n + i.shape.ring - units i.shape * i.shape.ws_opt) (sym drained) both.0 in
-    let zero : first_position (log_of w 0) ≡ 0 = from_zero i w blank in
-    let most : room i (log_of w) ≤ max (2 ^ 61 - 2) 0 = subst (λ n. room i (log_of w) ≤ max (2 ^ 61 - 2) n) zero both.1 in
-    let few : room i (log_of w) < 2 ^ 61 = less_than most in (
-      fits granted (room i (log_of w)) (units i.shape * i.shape.ws_opt) front i.shape.ring was within (ring_kept i.shape blank.plain.accepted),
-      below_both granted (room i (log_of w)) (2 ^ 61) low few,
+    subst (λ n. room i (log_of w) ≤ n + i.shape.ring - units i.shape * i.shape.ws_opt) (sym drained) both.0 in (
+      fits granted (room i (log_of w)) (units i.shape * i.shape.ws_opt) front i.shape.ring was within (ring_kept i.shape plain.accepted),
+      below_both granted (room i (log_of w)) (max (2 ^ 61 - 2) (first_position (log_of w 0))) (subst (λ n. granted ≤ max (2 ^ 61 - 2) n) (sym same) low) both.1,
     )
-  where
-    less_than : {n : ℕ} → n ≤ max (2 ^ 61 - 2) 0 → n < 2 ^ 61
-    less_than h = omega arith

@@ -1,5 +1,5 @@
 -- A unit gives a block: the mount stays one, and nothing else is changed.
-use Rattle.std.proofs.Common.{◌≡◌, ◌≢◌, ◌⊎◌, inl, inr, ℕ, ◌<◌, ◌≤◌, zero, suc, Some, None, Option, List, [], ◌∷◌, ◌++◌, length, refl, sym, subst, ap, ap₂, ◌∙◌, arith, le_refl, if◌then◌else◌}
+use Rattle.std.proofs.Common.{◌≡◌, ◌≢◌, ◌⊎◌, inl, inr, ℕ, ◌-◌, ◌^◌, ◌<◌, ◌≤◌, max, zero, suc, Some, None, Option, List, [], ◌∷◌, ◌++◌, length, refl, sym, subst, ap, ap₂, ◌∙◌, arith, le_refl, if◌then◌else◌}
 use Rattle.std.specs.Prelude.{slice_get, slice_set, slice_index_or, map, Result, Ok, Err, IsOk}
 use Rattle.std.specs.List.{AllByRecursion}
 use Rattle.std.specs.Option.{option_map, option_and_then}
@@ -16,7 +16,6 @@ use Rattle.pblk_model.specs.Chunk.{Chunk, Block, IsChunk, PointerFits, pointer, 
 use Rattle.pblk_model.specs.ChunkStep.{Gave, Empty, Read, ChunkStep, read_refusal_in}
 use Rattle.pblk_model.specs.UnitLog.{UnitEvent, UnitOutcome, Answered, after_event}
 use Rattle.pblk_model.specs.Frames.{PoolView}
-use Rattle.pblk_model.specs.Image.{blank}
 use Rattle.pblk_model.specs.declared.chunk.Got.{Got}
 use Rattle.pblk_model.specs.declared.chunk.Got.TheVariants as got
 use Rattle.pblk_model.specs.declared.chunk.Mark.{Mark}
@@ -26,22 +25,24 @@ use Rattle.unit_port.specs.Armed.{Armed, IsUnarmed}
 use Rattle.unit_port.specs.Unit.{ModelUnit, IsFitUnit, Steps, Takes, TellsBlock}
 use Rattle.pblk_world.specs.Events.{Logged}
 use Rattle.pblk_world.specs.World.{World, log_of, media}
-use Rattle.pblk_world.specs.EngineLog.{takes}
-use Rattle.pblk_world.specs.Fronts.{synced}
+use Rattle.pblk_world.specs.EngineLog.{begun, takes}
+use Rattle.pblk_world.specs.Fronts.{first_position, synced}
+use Rattle.pblk_world.specs.Lines.{found_image}
 use Rattle.pblk_world.specs.Space.{freed, room}
 use Rattle.pblk_laws.specs.LineBlocks.{chunk_in}
-use Rattle.core_laws.specs.PlainWorlds.{IsBlankWorld}
+use Rattle.core_laws.specs.PlainWorlds.{IsPlainWorld}
 use Rattle.core_laws.specs.PlacerOf.{unanswered_on}
 use Rattle.core_laws.proofs.Placing.{is_below}
-use Rattle.step_laws.specs.Whole.{unit_step, fetch_of, next_maker, IsLevel}
+use Rattle.step_laws.specs.Whole.{unit_step, fetch_of, next_maker, IsLevel, IsKnown}
 use Rattle.step_laws.proofs.UnitSteps.{engine_log as engine_log_stays, media_now, media_elsewhere}
-use Rattle.step_laws.proofs.UnitStays.{room_stays}
+use Rattle.step_laws.proofs.Known.{known_at_fetch}
+use Rattle.step_laws.proofs.UnitStays.{found_stays, room_stays}
 use Rattle.step_laws.proofs.Fetches.{fetch_next}
 use Rattle.step_laws.proofs.Levels.{level_unit}
 use Rattle.pblk_core.specs.Filling.{Filling}
 use Rattle.pblk_core.specs.Stands.{Stands}
 use Rattle.pblk_core.specs.declared.target_core.Core.{Core}
-use Rattle.block_target.specs.Deeds.{Deed, Does, step_of, world_of}
+use Rattle.block_target.specs.Deeds.{Deed, Does, after_deed, world_of}
 use Rattle.block_target.specs.Mount.{MountView, IsMount, IsSound, IsUnitIn, IsSameMount, IsFetchable, world_in, logs_in, engine_log, synced_in}
 use Rattle.block_target.proofs.UnitStands.{stands_beside}
 
@@ -65,8 +66,8 @@ all_get P (y ∷ xs) zero x all there = subst P (same_Some y x there) all.0
 all_get P (y ∷ xs) (suc k) x all there = all_get P xs k x all.1 there
 
 -- the world with one thing more
-world_more : (s : Shape) (deeds : List Deed) (d : Deed) → world_of s (deeds ++ d ∷ []) ≡ step_of s (world_of s deeds) d ∷ world_of s deeds
-world_more s deeds d = fold-append (λ w d. step_of s w d ∷ w) [] deeds (d ∷ [])
+world_more : (s : Shape) (deeds : List Deed) (d : Deed) → world_of s (deeds ++ d ∷ []) ≡ after_deed s (world_of s deeds) d
+world_more s deeds d = fold-append (after_deed s) [] deeds (d ∷ [])
 
 -- ---- what can be fetched
 
@@ -92,11 +93,11 @@ pub is_in : (v : MountView) (unit chunk number : ℕ) (sector : List ℕ) (u : M
 is_in v unit chunk number sector u sound here is =
     let its : IsUnitIn v unit u = sound.each unit u here in
     let slot = is.slot in
-    let there : chunk_in (media (blank v.shape) (logs_in v)) chunk unit ≡ Some slot.chunk = ap (chunk_in (media (blank v.shape) (logs_in v)) chunk) (sym is.of_unit) ∙ slot.there in
+    let there : chunk_in (media v.image (logs_in v)) chunk unit ≡ Some slot.chunk = ap (chunk_in (media v.image (logs_in v)) chunk) (sym is.of_unit) ∙ slot.there in
     record {
       found = slot.chunk;
-      there = chunk_of (media (blank v.shape) (logs_in v)).units unit chunk u.media (Some slot.chunk) its.media there;
-      readable = subst (λ (s : Shape). IsReadable s slot.chunk number) (sym its.shape) (subst (λ n. IsReadable v.shape slot.chunk n) is.of_number slot.readable);
+      there = chunk_of (media v.image (logs_in v)).units unit chunk u.media (Some slot.chunk) its.media there;
+      readable = subst (λ (s : Shape). IsReadable s slot.chunk number) (sym its.shape) (subst (λ n. IsReadable v.image.shape slot.chunk n) is.of_number slot.readable);
       block = slot.block;
       written = ap (slice_get slot.chunk.blocks) (sym is.of_number) ∙ slot.written;
       has = is.has;
@@ -111,7 +112,8 @@ may_take u chunk number sector fit is =
 
 abbrev pub fetched : MountView → ℕ → ℕ → ℕ → Block → ModelUnit → MountView
 fetched v unit chunk number b new = record {
-  shape = v.shape;
+  image = v.image;
+  found = v.found;
   deeds = v.deeds ++ Does unit (fetch_of chunk number (Gave b)) ∷ [];
   units = slice_set v.units unit new;
   wear = v.wear;
@@ -128,26 +130,26 @@ module _ (v : MountView) (unit chunk number : ℕ) (u new : ModelUnit) (b : Bloc
   e = fetch_of chunk number (Gave b)
 
   abbrev next : World
-  next = unit_step v.shape unit e (next_maker w) w ∷ w
+  next = unit_step v.image.shape unit e (next_maker w) w ∷ w
 
   abbrev left : MountView
   left = fetched v unit chunk number b new
 
   now : world_in left ≡ next
-  now = world_more v.shape v.deeds (Does unit e)
+  now = world_more v.image.shape v.deeds (Does unit e)
 
   its : IsUnitIn v unit u
   its = sound.each unit u here
 
   log_now : engine_log left ≡ engine_log v
-  log_now = ap (λ (x : World). log_of x 0) now ∙ engine_log_stays v.shape unit e (next_maker w) w
+  log_now = ap (λ (x : World). log_of x 0) now ∙ engine_log_stays v.image.shape unit e (next_maker w) w
 
-  in_range : unit < units_of v.shape
+  in_range : unit < units_of v.image.shape
   in_range = subst (λ n. unit < n) sound.count (slice_get_within v.units unit u here)
 
-  legal : IsBlankWorld (blank v.shape) next
+  legal : IsPlainWorld v.image next
   legal =
-      fetch_next (blank v.shape) w unit chunk number step.event.found (Gave b) (next_maker w) sound.legal in_range
+      fetch_next v.image w unit chunk number step.event.found (Gave b) (next_maker w) sound.legal in_range
       (ap (option_and_then (λ (cs : List Chunk). slice_get cs chunk)) its.media ∙ step.event.there)
       tt (subst (λ (s : Shape). ChunkStep s step.event.found (Read number) (Gave b) step.event.found) its.shape step.event.outcome.1)
 
@@ -155,9 +157,9 @@ module _ (v : MountView) (unit chunk number : ℕ) (u new : ModelUnit) (b : Bloc
   own = record {
     shape = step.shape ∙ its.shape;
     media =
-        ap (λ (x : World). slice_get (media (blank v.shape) (log_of x)).units unit) now
-        ∙ media_now (blank v.shape) unit e (next_maker w) w
-        ∙ ap (option_map (λ cs. after_event v.shape cs e)) its.media
+        ap (λ (x : World). slice_get (media v.image (log_of x)).units unit) now
+        ∙ media_now v.image unit e (next_maker w) w
+        ∙ ap (option_map (λ cs. after_event v.image.shape cs e)) its.media
         ∙ ap (λ (s : Shape). Some (after_event s u.media e)) (sym its.shape)
         ∙ ap (λ (cs : List Chunk). Some cs) (sym step.media);
     unarmed = subst (λ (a : Armed). IsUnarmed a) (sym step.armed) its.unarmed;
@@ -168,8 +170,8 @@ module _ (v : MountView) (unit chunk number : ℕ) (u new : ModelUnit) (b : Bloc
   other n x apart is = record {
     shape = is.shape;
     media =
-        ap (λ (y : World). slice_get (media (blank v.shape) (log_of y)).units n) now
-        ∙ media_elsewhere (blank v.shape) unit e (next_maker w) w n apart ∙ is.media;
+        ap (λ (y : World). slice_get (media v.image (log_of y)).units n) now
+        ∙ media_elsewhere v.image unit e (next_maker w) w n apart ∙ is.media;
     unarmed = is.unarmed;
     fit = is.fit;
   }
@@ -189,15 +191,20 @@ module _ (v : MountView) (unit chunk number : ℕ) (u new : ModelUnit) (b : Bloc
 
   pub fetched_sound : IsSound left
   fetched_sound = record {
-    legal = subst (λ (x : World). IsBlankWorld (blank v.shape) x) (sym now) legal;
+    legal = subst (λ (x : World). IsPlainWorld v.image x) (sym now) legal;
+    beginning = sound.beginning;
+    has_begun = ap begun log_now ∙ sound.has_begun;
+    first_low = sound.first_low;
+    found_is = ap (λ (x : World). found_image v.image (log_of x)) now ∙ found_stays v.image w unit e (next_maker w) sound.legal ∙ sound.found_is;
     count = length-set v.units unit new ∙ sound.count;
     each = λ n x there. each n x (cases_order n unit) there;
   }
 
   pub fetched_same : IsSameMount v left
   fetched_same =
-      let front : synced_in left ≡ synced_in v = ap (synced v.shape) log_now in record {
-        shape = refl;
+      let front : synced_in left ≡ synced_in v = ap (synced v.image.shape) log_now in record {
+        image = refl;
+        found = refl;
         wear = refl;
         more = Does unit e ∷ [];
         deeds = refl;
@@ -210,21 +217,22 @@ module _ (v : MountView) (unit chunk number : ℕ) (u new : ModelUnit) (b : Bloc
   pub fetched_mount : (c : Core) (p : PoolView) (filling : Filling) → IsMount v c p filling → IsMount left c p filling
   fetched_mount c p filling is = record {
     sound = fetched_sound;
-    stands = subst (λ (x : World). Stands (blank v.shape) (log_of x) c) (sym now) (stands_beside (blank v.shape) w unit e (next_maker w) c sound.legal is.stands);
+    stands = subst (λ (x : World). Stands v.image (log_of x) c) (sym now) (stands_beside v.image w unit e (next_maker w) c sound.legal is.stands);
     pad = is.pad;
-    level = subst (λ (x : World). IsLevel x) (sym now) (level_unit v.shape unit e (next_maker w) w refl is.level);
+    known = subst (λ (x : World). IsKnown v.image x) (sym now) (known_at_fetch v.image w unit chunk number (Gave b) (next_maker w) sound.legal is.known);
+    level = subst (λ (x : World). IsLevel x) (sym now) (level_unit v.image.shape unit e (next_maker w) w refl is.level);
     idle = λ n. ap (λ (log : List Logged). unanswered_on log n) log_now ∙ is.idle n;
-    drained = is.drained ∙ ap (freed v.shape) (sym log_now);
+    drained = is.drained ∙ ap (freed v.image.shape) (sym log_now);
     own = is.own;
     out = is.out;
     count = is.count;
     size = is.size;
     stripe = is.stripe;
     granted = is.granted;
-    last = is.last;
+    last = subst (λ n. v.granted ≤ max (2 ^ 61 - 2) n) (sym (ap first_position log_now)) is.last;
     room =
-        let same : room (blank v.shape) (logs_in left) ≡ room (blank v.shape) (logs_in v) = ap (λ (x : World). room (blank v.shape) (log_of x)) now ∙ room_stays (blank v.shape) w unit e (next_maker w) sound.legal.plain in
-        let low : room (blank v.shape) (logs_in v) ≤ v.granted = is.room in
+        let same : room v.image (logs_in left) ≡ room v.image (logs_in v) = ap (λ (x : World). room v.image (log_of x)) now ∙ room_stays v.image w unit e (next_maker w) sound.legal in
+        let low : room v.image (logs_in v) ≤ v.granted = is.room in
         omega (arith, same, low);
   }
 
@@ -254,8 +262,8 @@ unit_read model units unit x within is = slice_get-map model units unit ∙ ap (
 pub unit_inside : {A : Type 0} (model : A → ModelUnit) (v : MountView) (units : List A) (unit chunk number : ℕ) (sector : List ℕ) → IsSound v → v.units ≡ map model units → IsFetchable v unit chunk number sector → unit < length units
 unit_inside model v units unit chunk number sector sound same is =
     let count : length v.units ≡ length units = ap (λ (us : List ModelUnit). length us) same ∙ length-map units model in
-    let whole : length v.units ≡ units_of v.shape = sound.count in
-    let range : unit < units_of v.shape = subst (λ n. n < units_of v.shape) is.of_unit is.slot.of_drive in
+    let whole : length v.units ≡ units_of v.image.shape = sound.count in
+    let range : unit < units_of v.image.shape = subst (λ n. n < units_of v.image.shape) is.of_unit is.slot.of_drive in
     omega arith
 
 pub gave_step : (u new : ModelUnit) (chunk number : ℕ) (before out : List ℕ) (result : Result Got UnitErr) (field : Got) (mark : Mark) (outcome : UnitOutcome) → result ≡ Ok field → field ≡ got.Sector mark
@@ -265,10 +273,10 @@ gave_step u new chunk number before out result field mark outcome is has tells s
 
 -- the mount's view, by its parts
 pub is_fetched : (v : MountView) (unit chunk number : ℕ) (b : Block) (new : ModelUnit) (deeds : List Deed) (us : List ModelUnit) (wear : List (List ℕ)) → deeds ≡ v.deeds ++ Does unit (fetch_of chunk number (Gave b)) ∷ [] → us ≡ slice_set v.units unit new → wear ≡ v.wear
-    → ◌≡◌ {A = MountView} (fetched v unit chunk number b new) (record { shape = v.shape; deeds = deeds; units = us; wear = wear; granted = v.granted; pad = v.pad })
+    → ◌≡◌ {A = MountView} (fetched v unit chunk number b new) (record { image = v.image; found = v.found; deeds = deeds; units = us; wear = wear; granted = v.granted; pad = v.pad })
 is_fetched v unit chunk number b new deeds us wear e f same =
-    ap₂ (λ (ds : List Deed) (xs : List ModelUnit). record { shape = v.shape; deeds = ds; units = xs; wear = v.wear; granted = v.granted; pad = v.pad }) (sym e) (sym f)
-    ∙ ap (λ (ws : List (List ℕ)). record { shape = v.shape; deeds = deeds; units = us; wear = ws; granted = v.granted; pad = v.pad }) (sym same)
+    ap₂ (λ (ds : List Deed) (xs : List ModelUnit). record { image = v.image; found = v.found; deeds = ds; units = xs; wear = v.wear; granted = v.granted; pad = v.pad }) (sym e) (sym f)
+    ∙ ap (λ (ws : List (List ℕ)). record { image = v.image; found = v.found; deeds = deeds; units = us; wear = ws; granted = v.granted; pad = v.pad }) (sym same)
 
 pub same_from : (old v mid new : MountView) → v ≡ old → mid ≡ new → IsSameMount v mid → IsSameMount old new
 same_from old v mid new e f same = subst (λ (x : MountView). IsSameMount x new) e (subst (λ (x : MountView). IsSameMount v x) f same)

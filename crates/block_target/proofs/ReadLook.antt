@@ -1,33 +1,35 @@
 -- What a sector's slot leads to: an entry in the window, or a block that can be fetched.
-use Rattle.std.proofs.Common.{◌≡◌, ◌⊎◌, inl, inr, ℕ, ◌+◌, ◌-◌, ◌*◌, ◌^◌, ◌<◌, ◌≤◌, zero, suc, Some, None, Option, List, [], ◌∷◌, length, replicate, refl, sym, subst, ap, ◌∙◌, arith, zero-add, if◌then◌else◌}
+use Rattle.std.proofs.Common.{◌≡◌, ◌⊎◌, inl, inr, ℕ, ◌-◌, ◌*◌, ◌^◌, ◌<◌, ◌≤◌, Some, None, Option, List, length, replicate, refl, sym, subst, ap, ◌∙◌, arith, zero-add, if◌then◌else◌}
 use Rattle.std.specs.Prelude.{slice_get}
 use Rattle.std.specs.List.{range_with_len}
 use Rattle.std.specs.Option.{option_map}
 use Rattle.std.proofs.lemmas.Bool.{cases_order}
-use Rattle.std.proofs.lemmas.List.Sums.{sum_by-append}
 use Rattle.std.proofs.lemmas.Option.{same_Some, none-some, slice_get_within, slice_get-map}
 use Rattle.pblk_model.specs.declared.shape.Shape.{Shape}
 use Rattle.pblk_model.specs.Shape.{units}
 use Rattle.pblk_model.specs.Bytes.{zeros}
+use Rattle.pblk_model.specs.Contents.{contents}
+use Rattle.pblk_model.specs.History.{after as after_history}
 use Rattle.pblk_model.specs.LineOrder.{line_order}
-use Rattle.pblk_model.specs.Image.{Image, blank}
+use Rattle.pblk_model.specs.Image.{Image}
 use Rattle.pblk_layout.specs.Live.{units_in}
 use Rattle.pblk_world.specs.World.{World, log_of}
-use Rattle.pblk_world.specs.Lines.{known_image}
+use Rattle.pblk_world.specs.Fronts.{history}
+use Rattle.pblk_world.specs.Lines.{found_image}
 use Rattle.l2p_map.specs.declared.slot.Slot.TheVariants.{Cached}
 use Rattle.write_window.specs.declared.held.Held.{Held}
 use Rattle.write_window.specs.Window.{WindowView, IsHeld, sector_at}
-use Rattle.core_laws.specs.OpenedLines.{bits_of, live_now}
-use Rattle.core_laws.specs.PlainWorlds.{IsBlankWorld}
+use Rattle.core_laws.specs.OpenedLines.{live_now}
+use Rattle.core_laws.specs.PlainWorlds.{IsPlainWorld}
 use Rattle.core_laws.specs.SlotOf.{slot_of}
 use Rattle.core_laws.proofs.Placing.{is_below, not_below}
-use Rattle.media_laws.proofs.Found.{whole_prefixes, known_whole, whole_line_units}
 use Rattle.media_laws.proofs.Places.{range_get}
 use Rattle.look_laws.specs.SlotBlocks.{IsBlockOfSlot}
+use Rattle.look_laws.proofs.LiveUnits.{live_small}
 use Rattle.look_laws.proofs.LatestSectors.{cached_latest, window_latest}
 use Rattle.pblk_core.specs.Stands.{Stands}
 use Rattle.pblk_core.specs.declared.target_core.Core.{Core}
-use Rattle.block_target.specs.Mount.{MountView, IsFetchable, logs_in, world_in, latest}
+use Rattle.block_target.specs.Mount.{MountView, IsFetchable, IsSound, engine_log, logs_in, world_in, latest}
 
 -- ---- the window
 
@@ -53,65 +55,48 @@ held_at_sector win q sector there = go (cases_order q win.freed)
         absurd (none-some sector (sym (ap (λ b. option_map (λ (h : Held). h.entry.frame.bytes) (if b then None else slice_get win.entries (q - win.freed))) (is_below q win.freed below)) ∙ there))
     go (inr (inr over)) = above (omega arith)
 
-module _ (v : MountView) (c : Core) (lba : ℕ) (legal : IsBlankWorld (blank v.shape) (world_in v)) (st : Stands (blank v.shape) (logs_in v) c) (inside : lba < v.shape.capacity) where
-  pub cached_sector : (q : ℕ) → slot_of (blank v.shape) (logs_in v) lba ≡ Cached q → sector_at c.window q ≡ slice_get (latest v) lba
-  cached_sector q slot = window_latest (blank v.shape) (world_in v) lba q c.window.freed c.window legal inside st.window st.from_first st.to_freed slot
+-- what a sector holds, by the image that the mount found
+pub latest_at : (v : MountView) (lba : ℕ) → IsSound v → slice_get (latest v) lba ≡ slice_get (after_history (contents (found_image v.image (logs_in v))) (history (engine_log v))) lba
+latest_at v lba sound = ap (λ (f : Image). slice_get (after_history (contents f) (history (engine_log v))) lba) (sym sound.found_is)
 
-  pub cached_is_held : (q : ℕ) → slot_of (blank v.shape) (logs_in v) lba ≡ Cached q → IsHeld c.window q
+module _ (v : MountView) (c : Core) (lba : ℕ) (sound : IsSound v) (st : Stands v.image (logs_in v) c) (inside : lba < v.image.shape.capacity) where
+  pub cached_sector : (q : ℕ) → slot_of v.image (logs_in v) lba ≡ Cached q → sector_at c.window q ≡ slice_get (latest v) lba
+  cached_sector q slot = window_latest v.image (world_in v) lba q c.window.freed c.window sound.legal inside st.window st.from_first st.to_freed slot ∙ sym (latest_at v lba sound)
+
+  pub cached_is_held : (q : ℕ) → slot_of v.image (logs_in v) lba ≡ Cached q → IsHeld c.window q
   cached_is_held q slot =
-      let is = cached_latest (blank v.shape) (world_in v) lba q legal inside slot in
-      held_at_sector c.window q is.0.entry.sector (cached_sector q slot ∙ is.4)
+      let is = cached_latest v.image (world_in v) lba q sound.legal inside slot in
+      held_at_sector c.window q is.0.entry.sector (cached_sector q slot ∙ latest_at v lba sound ∙ is.5)
 
 -- ---- the drive
-
-bits_from : (a n : ℕ) → bits_of (range_with_len a n) + 2 ^ a ≡ 2 ^ (a + n)
-bits_from a zero = let same : a + 0 ≡ a = omega arith in zero-add (2 ^ a) ∙ ap (λ k. 2 ^ k) (sym same)
-bits_from a (suc n) =
-    let rest : bits_of (range_with_len (a + 1) n) + 2 ^ (a + 1) ≡ 2 ^ (a + 1 + n) = bits_from (a + 1) n in
-    let next : 2 ^ (a + 1) ≡ 2 ^ suc a = let same : a + 1 ≡ suc a = omega arith in ap (λ k. 2 ^ k) same in
-    let double : 2 ^ suc a ≡ 2 ^ a + 2 ^ a = omega arith in
-    let first : bits_of (range_with_len a (suc n)) ≡ bits_of (a ∷ []) + bits_of (range_with_len (a + 1) n) = sum_by-append (λ unit. 2 ^ unit) (a ∷ []) (range_with_len (a + 1) n) in
-    let one : bits_of (a ∷ []) ≡ 2 ^ a = zero-add (2 ^ a) in
-    let end : 2 ^ (a + 1 + n) ≡ 2 ^ (a + suc n) = let same : a + 1 + n ≡ a + suc n = omega arith in ap (λ k. 2 ^ k) same in
-    omega arith
-
-bits_below : (n : ℕ) → bits_of (range_with_len 0 n) < 2 ^ n
-bits_below n =
-    let all : bits_of (range_with_len 0 n) + 2 ^ 0 ≡ 2 ^ (0 + n) = bits_from 0 n in
-    let end : 2 ^ (0 + n) ≡ 2 ^ n = let same : 0 + n ≡ n = omega arith in ap (λ k. 2 ^ k) same in
-    omega arith
-
-live_small : (i : Image) (w : World) (line : ℕ) → IsBlankWorld i w → line < i.shape.chunks → live_now i (log_of w) line < 2 ^ units i.shape
-live_small i w line legal range =
-    subst (λ us. bits_of us < 2 ^ units i.shape) (sym (whole_line_units i (known_image i (log_of w)) line (known_whole i w (log_of w) legal (whole_prefixes w)) range)) (bits_below (units i.shape))
 
 live_at : (i : Image) (w : World) (c : Core) (line : ℕ) → Stands i (log_of w) c → line < i.shape.chunks → slice_get c.live.items line ≡ Some (live_now i (log_of w) line)
 live_at i w c line st range =
     ap (λ xs. slice_get xs line) st.units ∙ slice_get-map (live_now i (log_of w)) (range_with_len 0 i.shape.chunks) line
     ∙ ap (option_map (live_now i (log_of w))) (range_get 0 i.shape.chunks line range ∙ ap (λ n. Some n) (zero-add line))
 
-module _ (v : MountView) (c : Core) (lba line at q : ℕ) (legal : IsBlankWorld (blank v.shape) (world_in v)) (st : Stands (blank v.shape) (logs_in v) c) (is : IsBlockOfSlot (blank v.shape) (logs_in v) lba line at q) where
-  here : slice_get c.live.items line ≡ Some (live_now (blank v.shape) (logs_in v) line)
-  here = live_at (blank v.shape) (world_in v) c line st is.in_range
+module _ (v : MountView) (c : Core) (lba line at q : ℕ) (legal : IsPlainWorld v.image (world_in v)) (st : Stands v.image (logs_in v) c) (is : IsBlockOfSlot v.image (logs_in v) lba line at q) where
+  here : slice_get c.live.items line ≡ Some (live_now v.image (logs_in v) line)
+  here = live_at v.image (world_in v) c line st is.in_range
 
-  its_live : (live : ℕ) → slice_get c.live.items line ≡ Some live → live_now (blank v.shape) (logs_in v) line ≡ live
-  its_live live there = same_Some (live_now (blank v.shape) (logs_in v) line) live (sym here ∙ there)
+  its_live : (live : ℕ) → slice_get c.live.items line ≡ Some live → live_now v.image (logs_in v) line ≡ live
+  its_live live there = same_Some (live_now v.image (logs_in v) line) live (sym here ∙ there)
 
   pub line_inside : line < length c.live.items
-  line_inside = slice_get_within c.live.items line (live_now (blank v.shape) (logs_in v) line) here
+  line_inside = slice_get_within c.live.items line (live_now v.image (logs_in v) line) here
 
   pub line_live : (live : ℕ) → slice_get c.live.items line ≡ Some live → live < 2 ^ units c.layout
   line_live live there =
-      subst (λ (s : Shape). live < 2 ^ units s) (sym st.layout) (subst (λ n. n < 2 ^ units v.shape) (its_live live there) (live_small (blank v.shape) (world_in v) line legal is.in_range))
+      subst (λ (s : Shape). live < 2 ^ units s) (sym st.layout) (subst (λ n. n < 2 ^ units v.image.shape) (its_live live there) (live_small v.image (world_in v) line legal))
 
   pub at_inside : (live : ℕ) → slice_get c.live.items line ≡ Some live → at < length (units_in live) * c.layout.clba
   at_inside live there =
-      subst (λ (s : Shape). at < length (units_in live) * s.clba) (sym st.layout) (subst (λ n. at < length (units_in n) * v.shape.clba) (its_live live there) is.within)
+      subst (λ (s : Shape). at < length (units_in live) * s.clba) (sym st.layout) (subst (λ n. at < length (units_in n) * v.image.shape.clba) (its_live live there) is.within)
 
   pub fetchable : (r : ℕ × ℕ) → ((live : ℕ) → slice_get c.live.items line ≡ Some live → slice_get (line_order c.layout (units_in live)) at ≡ Some r) → IsFetchable v r.0 line r.1 is.block.sector
   fetchable r named =
-      let place : slice_get (line_order v.shape (units_in (live_now (blank v.shape) (logs_in v) line))) at ≡ Some r =
-      subst (λ (s : Shape). slice_get (line_order s (units_in (live_now (blank v.shape) (logs_in v) line))) at ≡ Some r) st.layout (named (live_now (blank v.shape) (logs_in v) line) here) in
+      let place : slice_get (line_order v.image.shape (units_in (live_now v.image (logs_in v) line))) at ≡ Some r =
+      subst (λ (s : Shape). slice_get (line_order s (units_in (live_now v.image (logs_in v) line))) at ≡ Some r) st.layout (named (live_now v.image (logs_in v) line) here) in
       let same : (is.unit, is.number) ≡ r = same_Some (is.unit, is.number) r (sym is.place ∙ place) in
       record {
         lba = lba;

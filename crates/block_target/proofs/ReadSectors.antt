@@ -8,11 +8,10 @@ use Rattle.std.proofs.lemmas.List.{take-append-le, drop-append-le, length-drop, 
 use Rattle.std.proofs.lemmas.Option.{none-some, same_Some}
 use Rattle.std.proofs.lemmas.Slice.{take-put_mid, drop-put_mid}
 use borrow.Rule.Slice.PartMut.{put_mid}
-use Rattle.pblk_model.specs.declared.shape.Shape.{Shape}
+use Rattle.pblk_model.specs.Image.{Image}
 use Rattle.pblk_model.specs.declared.run.Front.{Front}
 use Rattle.pblk_model.specs.Contents.{contents}
 use Rattle.pblk_model.specs.History.{SectorWrite, after as after_history}
-use Rattle.pblk_model.specs.Image.{blank}
 use Rattle.pblk_world.specs.EngineLog.{Taken}
 use Rattle.pblk_world.specs.Fronts.{is_users, user_takes}
 use Rattle.block_port.specs.Own.{PlacedSector, sectors_of}
@@ -97,11 +96,12 @@ range_next xs at n x there =
 -- ---- mounts of which nothing more was taken
 
 pub still : (v : MountView) → IsSameMount v v
-still v = record { shape = refl; wear = refl; more = []; deeds = sym (append-nil v.deeds); takes = refl; synced = le_refl _; granted = le_refl v.granted; pad = le_refl v.pad }
+still v = record { image = refl; found = refl; wear = refl; more = []; deeds = sym (append-nil v.deeds); takes = refl; synced = le_refl _; granted = le_refl v.granted; pad = le_refl v.pad }
 
 pub and_then : (a b c : MountView) → IsSameMount a b → IsSameMount b c → IsSameMount a c
 and_then a b c x y = record {
-  shape = y.shape ∙ x.shape;
+  image = y.image ∙ x.image;
+  found = y.found ∙ x.found;
   wear = y.wear ∙ x.wear;
   more = x.more ++ y.more;
   deeds = y.deeds ∙ ap (λ ds. ds ++ y.more) x.deeds ∙ append_assoc a.deeds x.more y.more;
@@ -114,7 +114,7 @@ and_then a b c x y = record {
 -- all sectors are as they were
 pub latest_stays : (a b : MountView) → IsSameMount a b → latest b ≡ latest a
 latest_stays a b same =
-    ap₂ (λ (s : Shape) (ts : List Taken). after_history (contents (blank s)) (map (λ t. record { lba = t.entry.lba; sector = t.entry.sector }) (filter (λ t. is_users t.entry.source) ts))) same.shape same.takes
+    ap₂ (λ (found : Image) (ts : List Taken). after_history (contents found) (map (λ t. record { lba = t.entry.lba; sector = t.entry.sector }) (filter (λ t. is_users t.entry.source) ts))) same.found same.takes
 
 -- ---- the loop
 
@@ -164,18 +164,18 @@ words_at s n lba count all = ap (λ (xs : List (List ℕ)). slice_range xs lba (
     held : contents_after (device s) n ≡ latest s.mount
     held =
         ap (λ k. contents_after (device s) k) all
-        ∙ ap (after_history (contents (blank s.mount.shape))) (lines (user_takes (engine_log s.mount)))
+        ∙ ap (after_history (contents s.mount.found)) (lines (user_takes (engine_log s.mount)))
 
 -- the sectors that a read of a port gave
 pub told_words : (old new : SerialView) (front : Front) (lba count : ℕ) (out : List ℕ) → IsSameMount old.mount new.mount → front ≡ front_taken old.mount
-    → sectors_of old.mount.shape.sector count out ≡ slice_range (latest old.mount) lba (lba + count) → sectors_of (device old).sector count out ≡ sectors_at (device new) front lba count
+    → sectors_of old.mount.image.shape.sector count out ≡ slice_range (latest old.mount) lba (lba + count) → sectors_of (device old).sector count out ≡ sectors_at (device new) front lba count
 told_words old new front lba count out same at read =
     let users : front.users ≡ length (user_takes (engine_log new.mount)) =
     ap (λ (f : Front). f.users) at ∙ ap (λ (ts : List Taken). length (filter (λ t. is_users t.entry.source) ts)) (sym same.takes) in
     read ∙ ap (λ (xs : List (List ℕ)). slice_range xs lba (lba + count)) (sym (latest_stays old.mount new.mount same)) ∙ words_at new front.users lba count users
 
-pub read_words : (v old new : SerialView) (front : Front) (lba size len : ℕ) (out : List ℕ) → v ≡ old → IsSameMount v.mount new.mount → front ≡ front_taken v.mount → size ≡ v.mount.shape.sector
+pub read_words : (v old new : SerialView) (front : Front) (lba size len : ℕ) (out : List ℕ) → v ≡ old → IsSameMount v.mount new.mount → front ≡ front_taken v.mount → size ≡ v.mount.image.shape.sector
     → sectors_of size (len / size) out ≡ slice_range (latest v.mount) lba (lba + len / size) → sectors_of (device old).sector (count_in (device old) len) out ≡ sectors_at (device new) front lba (count_in (device old) len)
 read_words v old new front lba size len out is same at wide read =
     subst (λ (o : SerialView). sectors_of (device o).sector (count_in (device o) len) out ≡ sectors_at (device new) front lba (count_in (device o) len)) is
-    (told_words v new front lba (len / v.mount.shape.sector) out same at (subst (λ s. sectors_of s (len / s) out ≡ slice_range (latest v.mount) lba (lba + len / s)) wide read))
+    (told_words v new front lba (len / v.mount.image.shape.sector) out same at (subst (λ s. sectors_of s (len / s) out ≡ slice_range (latest v.mount) lba (lba + len / s)) wide read))

@@ -2,8 +2,7 @@
 use Rattle.std.proofs.Common.{◌≡◌, ℕ, ◌+◌, ◌≤◌, zero, suc, List, [], ◌∷◌, ◌++◌, length, sym, subst, ap, ◌∙◌, arith, le_trans, append-nil, append_assoc}
 use Rattle.std.proofs.lemmas.List.Sums.{fold-append}
 use Rattle.std.proofs.Math.Seq.{take-length}
-use Rattle.pblk_model.specs.declared.shape.Shape.{Shape}
-use Rattle.pblk_model.specs.Image.{Image, blank}
+use Rattle.pblk_model.specs.Image.{Image}
 use Rattle.pblk_model.specs.Marks.{sector_mark}
 use Rattle.pblk_world.specs.Events.{Take, Logged}
 use Rattle.pblk_world.specs.World.{World, Logs, log_of}
@@ -12,7 +11,7 @@ use Rattle.pblk_world.specs.Legal.{IsLegal}
 use Rattle.pblk_world.specs.Space.{room}
 use Rattle.pblk_world.specs.AtRest.{logs_at}
 use Rattle.block_port.specs.declared.rows.WornAnswer.{WornAnswer}
-use Rattle.block_target.specs.Deeds.{Deed, Decides, step_of, world_of}
+use Rattle.block_target.specs.Deeds.{Deed, Decides, after_deed, world_of}
 use Rattle.block_target.specs.NothingLeft.{HasNothingLeft, HasNothingLeftAt, IsFlushRefusal, IsWriteRefusal, IsRefusal, AreRefusals}
 use Rattle.block_target.specs.Mount.{MountView, IsSound, IsStuckAt, logs_in, engine_log, taken_in, synced_in, next_entry, with_entry, with_entries}
 use Rattle.block_target.proofs.EngineLengths.{same_lengths, no_shorter, with_deeds, deeds_later}
@@ -56,21 +55,21 @@ refusals_later : (i : Image) (later w : World) (worns : List WornAnswer) → IsL
 refusals_later i later w [] legal are = tt
 refusals_later i later w (a ∷ worns) legal are = ((are.0.0, refusal_later i later w are.0.0 legal a.count a.wanted a.have are.0.1), refusals_later i later w worns legal are.1)
 
-refusals_with : (s : Shape) (deeds more : List Deed) (worns : List WornAnswer) → IsLegal (blank s) (world_of s deeds) → AreRefusals (blank s) (log_of (world_of s deeds)) worns
-    → AreRefusals (blank s) (log_of (world_of s (deeds ++ more))) worns
-refusals_with s deeds more worns legal are =
-    let later : (later : World) × (with_deeds (blank s) (world_of s deeds) more ≡ later ++ world_of s deeds) = deeds_later (blank s) (world_of s deeds) more in
-    subst (λ (w : World). AreRefusals (blank s) (log_of w) worns)
-    (sym (fold-append (λ (w : World) (d : Deed). step_of s w d ∷ w) [] deeds more ∙ later.1))
-    (refusals_later (blank s) later.0 (world_of s deeds) worns legal are)
+refusals_with : (i : Image) (deeds more : List Deed) (worns : List WornAnswer) → IsLegal i (world_of i.shape deeds) → AreRefusals i (log_of (world_of i.shape deeds)) worns
+    → AreRefusals i (log_of (world_of i.shape (deeds ++ more))) worns
+refusals_with i deeds more worns legal are =
+    let later : (later : World) × (with_deeds i (world_of i.shape deeds) more ≡ later ++ world_of i.shape deeds) = deeds_later i (world_of i.shape deeds) more in
+    subst (λ (w : World). AreRefusals i (log_of w) worns)
+    (sym (fold-append (after_deed i.shape) [] deeds more ∙ later.1))
+    (refusals_later i later.0 (world_of i.shape deeds) worns legal are)
 
 -- by what was done since
-pub refusals_grown : (old new : MountView) (more : List Deed) (worns : List WornAnswer) → IsSound old → new.shape ≡ old.shape → new.deeds ≡ old.deeds ++ more
-    → AreRefusals (blank old.shape) (logs_in old) worns → AreRefusals (blank new.shape) (logs_in new) worns
-refusals_grown old new more worns sound shape deeds are =
-    subst (λ (s : Shape). AreRefusals (blank s) (log_of (world_of s new.deeds)) worns) (sym shape)
-    (subst (λ (ds : List Deed). AreRefusals (blank old.shape) (log_of (world_of old.shape ds)) worns) (sym deeds)
-    (refusals_with old.shape old.deeds more worns sound.legal.plain.legal are))
+pub refusals_grown : (old new : MountView) (more : List Deed) (worns : List WornAnswer) → IsSound old → new.image ≡ old.image → new.deeds ≡ old.deeds ++ more
+    → AreRefusals old.image (logs_in old) worns → AreRefusals new.image (logs_in new) worns
+refusals_grown old new more worns sound image deeds are =
+    subst (λ (i : Image). AreRefusals i (log_of (world_of i.shape new.deeds)) worns) (sym image)
+    (subst (λ (ds : List Deed). AreRefusals old.image (log_of (world_of old.image.shape ds)) worns) (sym deeds)
+    (refusals_with old.image old.deeds more worns sound.legal.legal are))
 
 -- once sectors are taken
 pub entries_more : (v : MountView) (lba : ℕ) (sectors : List (List ℕ)) → (more : List Deed) × ((with_entries v lba sectors).deeds ≡ v.deeds ++ more)
@@ -83,20 +82,20 @@ entries_more v lba (sector ∷ sectors) =
 -- ---- what is refused
 
 pub flush_refused : (v : MountView) (wanted have : ℕ) → IsStuckAt v wanted have → have ≡ synced_in v → wanted ≤ v.pad → wanted ≤ taken_in v
-    → IsFlushRefusal (blank v.shape) (logs_in v) (length (engine_log v)) wanted have
+    → IsFlushRefusal v.image (logs_in v) (length (engine_log v)) wanted have
 flush_refused v wanted have stuck at padded low = record {
   nothing_left = stuck.spent.nothing_left wanted padded;
   above = stuck.short;
-  is_synced = at ∙ ap (synced v.shape) (sym (take-length (engine_log v)));
+  is_synced = at ∙ ap (synced v.image.shape) (sym (take-length (engine_log v)));
   all_taken = subst (λ (log : List Logged). wanted ≤ taken log) (sym (take-length (engine_log v))) low;
 }
 
 pub write_refused : (v : MountView) (count wanted have : ℕ) → IsStuckAt v wanted have → have ≡ v.granted → wanted ≡ taken_in v + count
-    → IsWriteRefusal (blank v.shape) (logs_in v) (length (engine_log v)) count wanted have
+    → IsWriteRefusal v.image (logs_in v) (length (engine_log v)) count wanted have
 write_refused v count wanted have stuck at own = record {
   nothing_left = stuck.spent.nothing_left 0 (omega arith);
   above = stuck.short;
-  room = subst (λ n. room (blank v.shape) (logs_at (length (engine_log v)) (logs_in v)) ≤ n) (sym at) stuck.spent.no_room;
+  room = subst (λ n. room v.image (logs_at (length (engine_log v)) (logs_in v)) ≤ n) (sym at) stuck.spent.no_room;
   own_count = own ∙ ap (λ (log : List Logged). taken log + count) (sym (take-length (engine_log v)));
 }
 

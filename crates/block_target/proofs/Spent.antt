@@ -1,7 +1,6 @@
 -- A mount whose core names no work has nothing left to do, and no room that isn't granted.
 use Rattle.std.proofs.Common.{◌≡◌, ◌≤◌, List, length, sym, subst, ap, ◌∙◌, arith, le_refl}
 use Rattle.pblk_model.specs.Frames.{PoolView}
-use Rattle.pblk_model.specs.Image.{blank}
 use Rattle.pblk_world.specs.Events.{Logged}
 use Rattle.pblk_world.specs.World.{Logs}
 use Rattle.pblk_world.specs.Space.{room}
@@ -22,14 +21,14 @@ spent v c p f reason m none = record {
   nothing_left = λ asked within. record {
     has_begun = engine_longer (world_in v) m.stands.beginning m.stands.has_begun;
     within = le_refl (length (engine_log v));
-    nothing_left = subst (λ (logs : Logs). HasNothingLeft (blank v.shape) logs asked) (sym is.logs)
-        (nothing_left (blank v.shape) is.left v.pad reason is.legal (λ unit. ap (λ (log : List Logged). unanswered_on log unit) is.own ∙ m.idle unit) (is.work v.pad ∙ none) asked within);
+    nothing_left = subst (λ (logs : Logs). HasNothingLeft v.image logs asked) (sym is.logs)
+        (nothing_left v.image is.left v.pad reason is.legal (λ unit. ap (λ (log : List Logged). unanswered_on log unit) is.own ∙ m.idle unit) (is.work v.pad ∙ none) asked within);
   };
   no_room =
-      let same : room (blank v.shape) (logs_at (length (engine_log v)) (logs_in v)) ≡ room (blank v.shape) (logs_in v) = ap (room (blank v.shape)) is.logs ∙ is.room in
-      let low : room (blank v.shape) (logs_in v) ≤ v.granted = m.room in
+      let same : room v.image (logs_at (length (engine_log v)) (logs_in v)) ≡ room v.image (logs_in v) = ap (room v.image) is.logs ∙ is.room in
+      let low : room v.image (logs_in v) ≤ v.granted = m.room in
       omega (arith, same, low);
 }
   where
-    is : IsLeft (blank v.shape) (world_in v)
-    is = deeds_left (blank v.shape) v.deeds m.sound.legal
+    is : IsLeft v.image (world_in v)
+    is = deeds_left v.image v.deeds m.sound.legal

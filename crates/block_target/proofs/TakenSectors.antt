@@ -16,14 +16,14 @@ use Rattle.block_target.proofs.TakenMount.{logs_decided}
 
 -- ---- the log after one
 
-pub log_taken : (v : MountView) (lba : ℕ) (sector : List ℕ) → engine_log (with_entry v lba sector) ≡ with_take (engine_log v) (next_entry v lba sector) (sector_mark lba (taken_in v)) (knows_all v.shape (world_in v))
-log_taken v lba sector = ap (λ ls. ls 0) (logs_decided v.shape v.deeds (Take (next_entry v lba sector) (sector_mark lba (taken_in v))))
+pub log_taken : (v : MountView) (lba : ℕ) (sector : List ℕ) → engine_log (with_entry v lba sector) ≡ with_take (engine_log v) (next_entry v lba sector) (sector_mark lba (taken_in v)) (knows_all v.image.shape (world_in v))
+log_taken v lba sector = ap (λ ls. ls 0) (logs_decided v.image.shape v.deeds (Take (next_entry v lba sector) (sector_mark lba (taken_in v))))
 
 pub taken_more : (v : MountView) (lba : ℕ) (sector : List ℕ) → taken_in (with_entry v lba sector) ≡ taken_in v + 1
 taken_more v lba sector =
     let log : List Logged = engine_log v in
     let event : EngineEvent = Take (next_entry v lba sector) (sector_mark lba (taken_in v)) in
-    let knows : List ℕ = knows_all v.shape (world_in v) in
+    let knows : List ℕ = knows_all v.image.shape (world_in v) in
     let more : takes (log ++ record { event = Did event; knows = knows } ∷ []) ≡ takes log ++ record { entry = next_entry v lba sector; mark = sector_mark lba (taken_in v) } ∷ [] = takes_more log (record { event = Did event; knows = knows }) in
     let long : length (takes (log ++ record { event = Did event; knows = knows } ∷ [])) ≡ length (takes log) + 1 = ap (λ (ts : List Taken). length ts) more ∙ length-append (takes log) (record { entry = next_entry v lba sector; mark = sector_mark lba (taken_in v) } ∷ []) in
     ap taken (log_taken v lba sector) ∙ ap₂ (λ a b. a + b) (first_kept log event knows refl) long ∙ omega arith
@@ -33,13 +33,13 @@ taken_more v lba sector =
 -- all sectors are taken once those from the index on are
 pub record IsTaking (old now : MountView) (lba size count index : ℕ) (bytes : List ℕ) : Type 0 where
   pub rest : with_entries now (lba + index) (sectors_of size (count - index) (drop (index * size) bytes)) ≡ with_entries old lba (sectors_of size count bytes)
-  pub shape : now.shape ≡ old.shape
+  pub image : now.image ≡ old.image
   pub room : taken_in now + (count - index) ≤ now.granted
 
 pub taking_begins : (v : MountView) (lba size count : ℕ) (bytes : List ℕ) → taken_in v + count ≤ v.granted → IsTaking v v lba size count 0 bytes
 taking_begins v lba size count bytes room = record {
   rest = ap₂ (λ a n. with_entries v a (sectors_of size n (drop (0 * size) bytes))) add sub ∙ ap (λ n. with_entries v lba (sectors_of size count (drop n bytes))) none;
-  shape = refl;
+  image = refl;
   room = omega arith;
 }
   where
@@ -84,7 +84,7 @@ taking_more old now new lba size count index bytes is less done = record {
       ∙ ap₂ (λ s (ss : List (List ℕ)). with_entries (with_entry now (lba + index) s) (lba + index + 1) ss) (slice_is (index * size) size bytes) (ap (λ (xs : List ℕ). sectors_of size k xs) dropped)
       ∙ ap (λ (ss : List (List ℕ)). with_entries now (lba + index) ss) (sym (ap (λ n. sectors_of size n (drop (index * size) bytes)) one ∙ cut_one size k (drop (index * size) bytes)))
       ∙ is.rest;
-  shape = ap (λ (v : MountView). v.shape) done ∙ is.shape;
+  image = ap (λ (v : MountView). v.image) done ∙ is.image;
   room =
       let more : taken_in new ≡ taken_in now + 1 = ap taken_in done ∙ taken_more now (lba + index) (slice_range bytes (index * size) (index * size + size)) in
       let same : new.granted ≡ now.granted = ap (λ (v : MountView). v.granted) done in

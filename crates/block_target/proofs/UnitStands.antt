@@ -1,24 +1,26 @@
 -- A core that stands for a world stands for it with a step more of a unit.
-use Rattle.std.proofs.Common.{◌≡◌, ℕ, ◌+◌, ◌≤◌, ◌^◌, ◌==◌, ◌&&◌, nat_lt, Some, [], ◌∷◌, length, sym, subst, ap, ◌∙◌}
+use Rattle.std.proofs.Common.{◌≡◌, ℕ, ◌+◌, ◌≤◌, ◌^◌, ◌==◌, ◌&&◌, nat_lt, Some, List, [], ◌∷◌, if◌then◌else◌, length, sym, subst, ap, ap₂, ◌∙◌}
 use Rattle.std.specs.Prelude.{slice_get, position}
-use Rattle.std.specs.List.{range_with_len}
+use Rattle.std.specs.List.{flat_map, range_with_len}
 use Rattle.std.specs.Option.{is_some, option_map_or}
 use Rattle.pblk_model.specs.Image.{Image}
 use Rattle.pblk_model.specs.UnitLog.{UnitEvent}
-use Rattle.pblk_world.specs.Events.{Maker}
+use Rattle.pblk_world.specs.Events.{Logged, Maker}
 use Rattle.pblk_world.specs.World.{World, Logs, log_of}
 use Rattle.pblk_world.specs.EngineLog.{Begun, begun, Opening, openings}
+use Rattle.pblk_world.specs.Lines.{is_given_up}
 use Rattle.pblk_world.specs.Fronts.{first_position, synced, waiting, user_takes}
 use Rattle.pblk_world.specs.Space.{freed, placed_front}
 use Rattle.line_table.specs.Rows.{is_free}
 use Rattle.stripe_placer.specs.Placing.{next_stripe}
 use Rattle.core_laws.specs.OpenedLines.{live_now, open_line}
-use Rattle.core_laws.specs.PlainWorlds.{IsPlainWorld, IsBlankWorld}
+use Rattle.core_laws.specs.PlainWorlds.{IsPlainWorld, IsPlainWorld}
 use Rattle.core_laws.proofs.Lists.{map_same}
 use Rattle.step_laws.specs.Whole.{unit_step}
 use Rattle.step_laws.proofs.UnitSteps.{engine_log}
-use Rattle.step_laws.proofs.UnitStays.{rows_stay, lines_stay, older_stay, live_stays, line_stays, left_stay, slot_stays, window_stays, placing_stays, addresses_stay}
-use Rattle.pblk_core.specs.Named.{choice, work_of}
+use Rattle.step_laws.proofs.UnitStays.{known_stays, rows_stay, lines_stay, older_stay, live_stays, line_stays, left_stay, slot_stays, window_stays, placing_stays, addresses_stay}
+use Rattle.pblk_core.specs.Named.{choice, reset_or, work_of}
+use Rattle.pblk_core.specs.Resets.{in_line, resets_of, used_units}
 use Rattle.pblk_core.specs.Stands.{Stands, AreHolds, AreOpenLines, IsOpenLine, left_openings, under_way, unlanded}
 use Rattle.pblk_core.specs.LineRecords.{AreOf}
 use Rattle.pblk_core.specs.declared.open_lines.OpenLine.{OpenLine}
@@ -53,26 +55,32 @@ module _ (i : Image) (w : World) (unit : ℕ) (e : UnitEvent) (maker : Maker) wh
         each = λ k o line there held. open_beside o line plain (are.each k o line (ap (λ os. slice_get os k) (sym left) ∙ there) held);
       }
 
-  pub stands_beside : (c : Core) → IsBlankWorld i w → Stands i (log_of w) c → Stands i after_ c
-  stands_beside c blank st = record {
+  -- the same chunks are still to be reset
+  resets_stay : IsPlainWorld i w → resets_of i after_ ≡ resets_of i (log_of w)
+  resets_stay plain = ap₂ (λ (log : List Logged) (j : Image). flat_map (λ line. in_line line (if is_given_up log line then used_units j line else [])) (range_with_len 0 i.shape.chunks)) engine (known_stays i w unit e maker plain)
+
+  pub stands_beside : (c : Core) → IsPlainWorld i w → Stands i (log_of w) c → Stands i after_ c
+  stands_beside c plain st = record {
     layout = st.layout;
     beginning = st.beginning;
     has_begun = ap begun engine ∙ st.has_begun;
     capacity = st.capacity;
-    slots = λ lba within. st.slots lba within ∙ ap Some (sym (slot_stays i w unit e maker lba blank.plain));
-    table = st.table ∙ sym (rows_stay i w unit e maker blank.plain);
-    units = st.units ∙ map_same (live_now i (log_of w)) (live_now i after_) (λ line. sym (live_stays i w unit e maker line blank.plain)) (range_with_len 0 i.shape.chunks);
+    slots = λ lba within. st.slots lba within ∙ ap Some (sym (slot_stays i w unit e maker lba plain));
+    table = st.table ∙ sym (rows_stay i w unit e maker plain);
+    units = st.units ∙ map_same (live_now i (log_of w)) (live_now i after_) (λ line. sym (live_stays i w unit e maker line plain)) (range_with_len 0 i.shape.chunks);
+    resets = st.resets ∙ sym (resets_stay plain);
     size = st.size;
     window = st.window ∙ sym (window_stays i w unit e maker c.window.freed);
     from_first = subst (λ log. first_position log ≤ c.window.freed) (sym engine) st.from_first;
     to_freed = subst (λ log. c.window.freed ≤ freed i.shape log) (sym engine) st.to_freed;
     holds = subst (λ log. AreHolds i.shape log c.holds) (sym engine) st.holds;
-    placing = st.placing ∙ sym (placing_stays i w unit e maker c.placer.entries.pad [] blank.plain);
-    open_lines = lines_beside c.open blank.plain st.open_lines;
+    placing = st.placing ∙ sym (placing_stays i w unit e maker c.placer.entries.pad [] plain);
+    open_lines = lines_beside c.open plain st.open_lines;
     next_seq = st.next_seq ∙ ap (λ log. st.beginning.beginning.seq + length (openings log)) (sym engine);
     first_seq = st.first_seq;
     own_capacity = st.own_capacity;
-    older = st.older ∙ sym (older_stay i w unit e maker blank.plain);
+    older = st.older ∙ sym (older_stay i w unit e maker plain);
+    fits = st.fits;
     first = st.first ∙ ap first_position (sym engine);
     placed = st.placed ∙ ap (placed_front i.shape) (sym engine);
     left = st.left ∙ sym (addresses_stay i w unit e maker);
@@ -81,11 +89,11 @@ module _ (i : Image) (w : World) (unit : ℕ) (e : UnitEvent) (maker : Maker) wh
   }
 
   -- what is to be done next is the same
-  pub work_beside : (pad : ℕ) → IsBlankWorld i w → work_of i after_ pad ≡ work_of i (log_of w) pad
-  work_beside pad blank = λ j. choice
-      (is_some (next_stripe (placing_stays i w unit e maker pad [] blank.plain j) 0))
+  pub work_beside : (pad : ℕ) → IsPlainWorld i w → work_of i after_ pad ≡ work_of i (log_of w) pad
+  work_beside pad plain = λ j. reset_or (slice_get (resets_stay plain j) 0) (choice
+      (is_some (next_stripe (placing_stays i w unit e maker pad [] plain j) 0))
       (nat_lt 0 (length (waiting i.shape (engine j))) && (addresses_stay i w unit e maker j == 0))
-      (is_some (position is_free (rows_stay i w unit e maker blank.plain j).rows))
-      (nat_lt (length (lines_stay i w unit e maker blank.plain j)) 2
+      (is_some (position is_free (rows_stay i w unit e maker plain j).rows))
+      (nat_lt (length (lines_stay i w unit e maker plain j)) 2
       && (nat_lt (option_map_or (λ (b : Begun). b.beginning.seq) (begun (engine j)) 0 + length (openings (engine j))) (2 ^ 61) && nat_lt (synced i.shape (engine j)) (2 ^ 61)))
-      (nat_lt 0 (under_way i.shape (engine j)))
+      (nat_lt 0 (under_way i.shape (engine j))))

@@ -8,15 +8,15 @@ use Rattle.std.proofs.lemmas.Nat.{div-mul-add}
 use Rattle.pblk_model.specs.declared.run.Place.{Place}
 use Rattle.pblk_model.specs.declared.shape.Shape.{Shape}
 use Rattle.pblk_model.specs.Contents.{contents}
-use Rattle.pblk_model.specs.Image.{blank}
+use Rattle.pblk_model.specs.Image.{Image}
 use Rattle.pblk_model.specs.Marks.{sector_mark}
 use Rattle.pblk_world.specs.Events.{Take, Logged, Decides as Did}
 use Rattle.pblk_world.specs.EngineLog.{Taken, takes}
-use Rattle.pblk_world.specs.Fronts.{first_position, synced, is_users, user_takes}
+use Rattle.pblk_world.specs.Fronts.{synced, is_users, user_takes}
 use Rattle.pblk_world.proofs.Appending.{takes_more}
 use Rattle.core_laws.proofs.Taking.{filter_last}
 use Rattle.landing_laws.proofs.Growing.{synced_grown}
-use Rattle.pblk_core.proofs.SmallPositions.{first_zero, taken_bounded}
+use Rattle.pblk_core.proofs.SmallPositions.{taken_bounded}
 use Rattle.step_laws.specs.Whole.{knows_all}
 use Rattle.block_port.specs.declared.rows.WornAnswer.{WornAnswer}
 use Rattle.block_port.specs.Own.{PlacedSector, OwnWrite, placed_from, lines_of}
@@ -25,6 +25,7 @@ use Rattle.block_target.specs.Deeds.{Deed}
 use Rattle.block_target.specs.Mount.{MountView, IsSound, IsSameMount, IsStuckAt, logs_in, world_in, engine_log, taken_in, synced_in, next_entry, with_entry, with_entries}
 use Rattle.block_target.specs.NothingLeft.{IsWriteRefusal, AreRefusals}
 use Rattle.block_target.specs.Serial.{SerialView, IsSerial, lines_in, device}
+use Rattle.block_target.proofs.Beginnings.{first_of, first_same}
 use Rattle.block_target.proofs.Refusals.{refusals_grown, entries_more, write_refused}
 use Rattle.block_target.proofs.TakenSectors.{log_taken, taken_more}
 
@@ -36,21 +37,18 @@ line_of_take t = record { position = t.entry.position; write = record { lba = t.
 pub lines_kept : (old new : MountView) → IsSameMount old new → lines_in new ≡ lines_in old
 lines_kept old new same = ap (λ (ts : List Taken). map line_of_take (filter (λ (t : Taken). is_users t.entry.source) ts)) same.takes
 
-first_none : (v : MountView) → IsSound v → first_position (engine_log v) ≡ 0
-first_none v sound = first_zero (blank v.shape) (world_in v) sound.legal.plain.accepted sound.legal.plain.legal sound.legal.free
-
 pub taken_kept : (old new : MountView) → IsSound old → IsSound new → IsSameMount old new → taken_in new ≡ taken_in old
-taken_kept old new was is same = ap₂ (λ a (ts : List Taken). a + length ts) (first_none new is ∙ sym (first_none old was)) same.takes
+taken_kept old new was is same = ap₂ (λ a (ts : List Taken). a + length ts) (first_same old new was same) same.takes
 
 pub taken_low : (v : MountView) → IsSound v → taken_in v ≤ 2 ^ 62
-taken_low v sound = taken_bounded (blank v.shape) (world_in v) sound.legal
+taken_low v sound = taken_bounded v.image (world_in v) sound.legal (subst (λ n. n ≤ 2 ^ 62) (sym (first_of (engine_log v) sound.beginning sound.has_begun)) sound.first_low)
 
 pub target_kept : (old new : SerialView) → IsSameMount old.mount new.mount → IsSameTarget (device old) (device new)
 target_kept old new same = record {
-  start = ap (λ (s : Shape). contents (blank s)) same.shape;
-  capacity = ap (λ (s : Shape). s.capacity) same.shape;
-  sector = ap (λ (s : Shape). s.sector) same.shape;
-  footing = ap₂ (λ (s : Shape) (ws : List (List ℕ)). Some (record { shape = s; wear = ws })) same.shape same.wear;
+  start = ap (λ (i : Image). contents i) same.found;
+  capacity = ap (λ (i : Image). i.shape.capacity) same.image;
+  sector = ap (λ (i : Image). i.shape.sector) same.image;
+  footing = ap₂ (λ (i : Image) (ws : List (List ℕ)). Some (record { image = i; wear = ws })) same.image same.wear;
 }
 
 pub learns_none : (old new : SerialView) → IsSound old.mount → IsSound new.mount → IsSameMount old.mount new.mount → Learns (device old) (device new)
@@ -66,7 +64,7 @@ learns_none old new was is same = record {
 one_line : (v : MountView) (lba : ℕ) (sector : List ℕ) → lines_in (with_entry v lba sector) ≡ lines_in v ++ record { position = taken_in v; write = record { lba = lba; sector = sector } } ∷ []
 one_line v lba sector =
     let t : Taken = record { entry = next_entry v lba sector; mark = sector_mark lba (taken_in v) } in
-    let l : Logged = record { event = Did (Take (next_entry v lba sector) (sector_mark lba (taken_in v))); knows = knows_all v.shape (world_in v) } in
+    let l : Logged = record { event = Did (Take (next_entry v lba sector) (sector_mark lba (taken_in v))); knows = knows_all v.image.shape (world_in v) } in
     let more : takes (engine_log v ++ l ∷ []) ≡ takes (engine_log v) ++ t ∷ [] = takes_more (engine_log v) l in
     ap (λ (log : List Logged). map line_of_take (user_takes log)) (log_taken v lba sector)
     ∙ ap (λ (ts : List Taken). map line_of_take (filter (λ (t : Taken). is_users t.entry.source) ts)) more
@@ -90,14 +88,18 @@ taken_all v lba (sector ∷ sectors) =
 pub synced_all : (v : MountView) (lba : ℕ) (sectors : List (List ℕ)) → synced_in v ≤ synced_in (with_entries v lba sectors)
 synced_all v lba [] = omega arith
 synced_all v lba (sector ∷ sectors) =
-    let l : Logged = record { event = Did (Take (next_entry v lba sector) (sector_mark lba (taken_in v))); knows = knows_all v.shape (world_in v) } in
-    let one : synced_in v ≤ synced_in (with_entry v lba sector) = subst (λ (log : List Logged). synced_in v ≤ synced v.shape log) (sym (log_taken v lba sector)) (synced_grown v.shape (engine_log v) l) in
+    let l : Logged = record { event = Did (Take (next_entry v lba sector) (sector_mark lba (taken_in v))); knows = knows_all v.image.shape (world_in v) } in
+    let one : synced_in v ≤ synced_in (with_entry v lba sector) = subst (λ (log : List Logged). synced_in v ≤ synced v.image.shape log) (sym (log_taken v lba sector)) (synced_grown v.image.shape (engine_log v) l) in
     let rest : synced_in (with_entry v lba sector) ≤ synced_in (with_entries (with_entry v lba sector) (lba + 1) sectors) = synced_all (with_entry v lba sector) (lba + 1) sectors in
     omega arith
 
-pub shape_all : (v : MountView) (lba : ℕ) (sectors : List (List ℕ)) → (with_entries v lba sectors).shape ≡ v.shape
-shape_all v lba [] = refl
-shape_all v lba (sector ∷ sectors) = shape_all (with_entry v lba sector) (lba + 1) sectors
+pub image_all : (v : MountView) (lba : ℕ) (sectors : List (List ℕ)) → (with_entries v lba sectors).image ≡ v.image
+image_all v lba [] = refl
+image_all v lba (sector ∷ sectors) = image_all (with_entry v lba sector) (lba + 1) sectors
+
+found_all : (v : MountView) (lba : ℕ) (sectors : List (List ℕ)) → (with_entries v lba sectors).found ≡ v.found
+found_all v lba [] = refl
+found_all v lba (sector ∷ sectors) = found_all (with_entry v lba sector) (lba + 1) sectors
 
 wear_all : (v : MountView) (lba : ℕ) (sectors : List (List ℕ)) → (with_entries v lba sectors).wear ≡ v.wear
 wear_all v lba [] = refl
@@ -137,14 +139,17 @@ learns_write old new mid lba sectors is = record {
 
 pub target_write : (old new : SerialView) (mid : MountView) (lba : ℕ) (sectors : List (List ℕ)) → IsWrite old new mid lba sectors → IsSameTarget (device old) (device new)
 target_write old new mid lba sectors is = record {
-  start = ap (λ (s : Shape). contents (blank s)) shape;
-  capacity = ap (λ (s : Shape). s.capacity) shape;
-  sector = ap (λ (s : Shape). s.sector) shape;
-  footing = ap₂ (λ (s : Shape) (ws : List (List ℕ)). Some (record { shape = s; wear = ws })) shape wear;
+  start = ap (λ (i : Image). contents i) found;
+  capacity = ap (λ (i : Image). i.shape.capacity) image;
+  sector = ap (λ (i : Image). i.shape.sector) image;
+  footing = ap₂ (λ (i : Image) (ws : List (List ℕ)). Some (record { image = i; wear = ws })) image wear;
 }
   where
-    shape : new.mount.shape ≡ old.mount.shape
-    shape = ap (λ (v : MountView). v.shape) is.mount ∙ shape_all mid lba sectors ∙ is.same.shape
+    image : new.mount.image ≡ old.mount.image
+    image = ap (λ (v : MountView). v.image) is.mount ∙ image_all mid lba sectors ∙ is.same.image
+
+    found : new.mount.found ≡ old.mount.found
+    found = ap (λ (v : MountView). v.found) is.mount ∙ found_all mid lba sectors ∙ is.same.found
 
     wear : new.mount.wear ≡ old.mount.wear
     wear = ap (λ (v : MountView). v.wear) is.mount ∙ wear_all mid lba sectors ∙ is.same.wear
@@ -160,12 +165,12 @@ alone_write old new mid lba sectors place is serial first own =
     w = record { place = place; lba = lba; sectors = sectors }
 
 pub worns_write : (old new : SerialView) (mid : MountView) (lba : ℕ) (sectors : List (List ℕ)) → IsWrite old new mid lba sectors → IsSerial old → new.worns ≡ old.worns
-    → AreRefusals (blank new.mount.shape) (logs_in new.mount) new.worns
+    → AreRefusals new.mount.image (logs_in new.mount) new.worns
 worns_write old new mid lba sectors is serial worns =
     let rest : (more : List Deed) × ((with_entries mid lba sectors).deeds ≡ mid.deeds ++ more) = entries_more mid lba sectors in
-    subst (λ (ws : List WornAnswer). AreRefusals (blank new.mount.shape) (logs_in new.mount) ws) (sym worns)
+    subst (λ (ws : List WornAnswer). AreRefusals new.mount.image (logs_in new.mount) ws) (sym worns)
     (refusals_grown old.mount new.mount (is.same.more ++ rest.0) old.worns is.was
-    (ap (λ (v : MountView). v.shape) is.mount ∙ shape_all mid lba sectors ∙ is.same.shape)
+    (ap (λ (v : MountView). v.image) is.mount ∙ image_all mid lba sectors ∙ is.same.image)
     (ap (λ (v : MountView). v.deeds) is.mount ∙ rest.1 ∙ ap (λ (ds : List Deed). ds ++ rest.0) is.same.deeds ∙ append_assoc old.mount.deeds is.same.more rest.0)
     serial.worns)
 
@@ -176,17 +181,17 @@ count_is n size len some is =
     let e : n * size ≡ n * size + 0 = omega arith in
     ap (λ k. k / size) (is ∙ e) ∙ div-mul-add n size 0 some
 
-pub sector_some : (v : MountView) → IsSound v → 0 < v.shape.sector
-sector_some v sound = go sound.legal.plain.accepted.target.sector
+pub sector_some : (v : MountView) → IsSound v → 0 < v.image.shape.sector
+sector_some v sound = go sound.legal.accepted.target.sector
   where
-    go : (v.shape.sector ≡ 512) ⊎ (v.shape.sector ≡ 4096) → 0 < v.shape.sector
+    go : (v.image.shape.sector ≡ 512) ⊎ (v.image.shape.sector ≡ 4096) → 0 < v.image.shape.sector
     go (inl e) = omega arith
     go (inr e) = omega arith
 
 -- a write's end is far below the last position
-pub end_low : (v : MountView) (s : Shape) (first count len : ℕ) → IsSound v → first ≡ taken_in v → s ≡ v.shape → count ≡ len / s.sector → AreSectors v.shape.sector len → first + count < 2 ^ 63
+pub end_low : (v : MountView) (s : Shape) (first count len : ℕ) → IsSound v → first ≡ taken_in v → s ≡ v.image.shape → count ≡ len / s.sector → AreSectors v.image.shape.sector len → first + count < 2 ^ 63
 end_low v s first count len sound from same is sectors =
-    let n : len / v.shape.sector ≡ sectors.count = count_is sectors.count v.shape.sector len (sector_some v sound) sectors.whole in
+    let n : len / v.image.shape.sector ≡ sectors.count = count_is sectors.count v.image.shape.sector len (sector_some v sound) sectors.whole in
     let here : count ≡ sectors.count = is ∙ ap (λ (s : Shape). len / s.sector) same ∙ n in
     let low : taken_in v ≤ 2 ^ 62 = taken_low v sound in
     let few : sectors.count ≤ 16 = sectors.few in
@@ -199,15 +204,15 @@ granted_room old mid first count n was is same from long granted =
 
 -- ---- a write that is refused
 
-pub some_sectors : (v : MountView) (s : Shape) (len : ℕ) → IsSound v → s ≡ v.shape → AreSectors v.shape.sector len → 1 ≤ len / s.sector
+pub some_sectors : (v : MountView) (s : Shape) (len : ℕ) → IsSound v → s ≡ v.image.shape → AreSectors v.image.shape.sector len → 1 ≤ len / s.sector
 some_sectors v s len sound same sectors =
-    let n : len / v.shape.sector ≡ sectors.count = count_is sectors.count v.shape.sector len (sector_some v sound) sectors.whole in
-    let here : len / s.sector ≡ len / v.shape.sector = ap (λ (s : Shape). len / s.sector) same in
+    let n : len / v.image.shape.sector ≡ sectors.count = count_is sectors.count v.image.shape.sector len (sector_some v sound) sectors.whole in
+    let here : len / s.sector ≡ len / v.image.shape.sector = ap (λ (s : Shape). len / s.sector) same in
     let some : 1 ≤ sectors.count = sectors.some in
     omega arith
 
 pub write_cause : (old mid : MountView) (first count n have : ℕ) → IsSound old → IsSound mid → IsSameMount old mid → first ≡ taken_in old → count ≡ n → have ≡ mid.granted → IsStuckAt mid (first + count) have
-    → IsWriteRefusal (blank mid.shape) (logs_in mid) (length (engine_log mid)) n (first + count) have
+    → IsWriteRefusal mid.image (logs_in mid) (length (engine_log mid)) n (first + count) have
 write_cause old mid first count n have was is same from long at stuck =
     let stays : taken_in mid ≡ taken_in old = taken_kept old mid was is same in
     let own : first + count ≡ taken_in mid + n = omega arith in

@@ -1,28 +1,30 @@
--- The parts of a mount on a drive on which nothing was written.
-use Rattle.std.specs.Prelude.{ℕ, ◌≡◌, List, [], ◌∷◌}
+-- The parts of a mount that begins on a drive of which recovery found this.
+use Rattle.std.specs.Prelude.{ℕ, ◌≡◌, List, []}
 use Rattle.pblk_model.specs.declared.shape.Shape.{Shape}
+use Rattle.pblk_model.specs.declared.found.Found.{Found}
 use Rattle.pblk_model.specs.Frames.{count_out}
 use Rattle.pblk_model.specs.Image.{Image}
 use Rattle.pblk_world.specs.Events.{Begin}
+use Rattle.pblk_world.specs.Lines.{found_image}
 use Rattle.pblk_world.specs.World.{World, log_of}
-use Rattle.core_laws.specs.PlainWorlds.{IsBlankWorld}
+use Rattle.core_laws.specs.PlainWorlds.{IsPlainWorld}
 use Rattle.core_laws.specs.Stepping.{after}
-use Rattle.step_laws.specs.Whole.{first_beginning}
+use Rattle.found_laws.specs.Beginnings.{beginning_of}
+use Rattle.found_laws.specs.Finding.{IsFoundOf}
 use Rattle.pblk_core.specs.Stands.{Stands}
 use Rattle.pblk_core.specs.declared.target_core.Core.{Core}
-use Rattle.block_target.specs.Deeds.{Decides}
 use Rattle.block_target.specs.declared.mount.Parts.{Parts}
 
--- the core stands for a log in which the mount has begun, and that is all
-abbrev pub HasBegun : Shape → Core → Type 0
-HasBegun s c = (i : Image) (w : World) (knows : List ℕ) → i.shape ≡ s → IsBlankWorld i w → log_of w 0 ≡ []
-    → Stands i (after (log_of w) (Begin first_beginning) knows) c
+-- the core stands for a log in which the mount has begun with what was found, and that is all
+abbrev pub HasBegun : Shape → Found → Core → Type 0
+HasBegun s f c = (i : Image) (w : World) (knows : List ℕ) → i.shape ≡ s → IsPlainWorld i w → log_of w 0 ≡ []
+    → IsFoundOf (found_image i (after (log_of w) (Begin (beginning_of f)) knows)) f
+    → Stands i (after (log_of w) (Begin (beginning_of f)) knows) c
 
 -- All frames of the pool are left, as many as the ring's positions and of a sector's size.
-pub record AreBegun (s : Shape) (p : Parts) : Type 0 where
-  pub core : HasBegun s p.core
+pub record AreBegun (s : Shape) (f : Found) (p : Parts) : Type 0 where
+  pub core : HasBegun s f p.core
   pub out : count_out p.pool.left ≡ 0
   pub count : p.pool.region.count ≡ s.ring
   pub size : p.pool.region.size ≡ s.sector
   pub stripe : p.stripe.shape ≡ s
-  pub deeds : p.deeds ≡ Decides (Begin first_beginning) ∷ []

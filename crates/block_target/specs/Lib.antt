@@ -2,4 +2,5 @@ pub mod Begun
 pub mod Deeds
 pub mod NothingLeft
 pub mod Mount
+pub mod Opened
 pub mod Serial

@@ -1,26 +1,25 @@
 -- A mount for one session: what contracts see of it.
-use Rattle.std.specs.Prelude.{ℕ, ◌+◌, ◌*◌, ◌^◌, ◌<◌, ◌≤◌, ◌≡◌, List, [], ◌∷◌, ◌++◌, length, replicate, slice_get, Some, None, ◌⊎◌, false}
-use Rattle.pblk_model.specs.declared.shape.Shape.{Shape}
+use Rattle.std.specs.Prelude.{ℕ, ◌+◌, ◌*◌, ◌^◌, ◌-◌, ◌<◌, ◌≤◌, ◌≡◌, List, [], ◌∷◌, ◌++◌, length, max, slice_get, Some, None, ◌⊎◌, false}
 use Rattle.pblk_model.specs.declared.run.Front.{Front}
 use Rattle.pblk_model.specs.Shape.{units}
-use Rattle.pblk_model.specs.Chunk.{free_chunk}
 use Rattle.pblk_model.specs.Contents.{contents}
 use Rattle.pblk_model.specs.Frames.{PoolView, count_out}
 use Rattle.pblk_model.specs.History.{after as after_history}
-use Rattle.pblk_model.specs.Image.{blank}
+use Rattle.pblk_model.specs.Image.{Image}
 use Rattle.pblk_model.specs.Marks.{sector_mark}
 use Rattle.unit_port.specs.Armed.{IsUnarmed}
 use Rattle.unit_port.specs.Unit.{ModelUnit, IsFitUnit}
 use Rattle.pblk_world.specs.Events.{Logged, Entry, Take}
 use Rattle.pblk_world.specs.World.{World, Logs, log_of, media}
-use Rattle.pblk_world.specs.EngineLog.{takes}
-use Rattle.pblk_world.specs.Fronts.{taken, synced, user_takes, history}
+use Rattle.pblk_world.specs.EngineLog.{Begun, begun, takes}
+use Rattle.pblk_world.specs.Fronts.{first_position, taken, synced, user_takes, history}
+use Rattle.pblk_world.specs.Lines.{found_image}
 use Rattle.pblk_world.specs.Space.{freed, is_due, room}
 use Rattle.pblk_world.specs.AtRest.{logs_at}
 use Rattle.core_laws.specs.PlacerOf.{unanswered_on}
-use Rattle.core_laws.specs.PlainWorlds.{IsBlankWorld}
+use Rattle.core_laws.specs.PlainWorlds.{IsPlainWorld}
 use Rattle.core_laws.specs.WindowOf.{users_below}
-use Rattle.step_laws.specs.Whole.{IsLevel}
+use Rattle.step_laws.specs.Whole.{IsLevel, IsKnown}
 use Rattle.write_window.specs.Window as window
 use Rattle.pblk_core.specs.Filling.{Filling}
 use Rattle.pblk_core.specs.Named.{pad_of, work_of}
@@ -32,8 +31,10 @@ use Rattle.block_target.specs.Deeds.{Deed, Decides, world_of}
 use Rattle.block_target.specs.NothingLeft.{HasNothingLeftAt}
 
 pub record MountView : Type 0 where
-  -- the shape of the drive, on which nothing was written at the beginning
-  pub shape : Shape
+  -- the drive as it was handed in
+  pub image : Image
+  -- the drive as the mount found it, once it was made ready
+  pub found : Image
   -- what was done since, oldest first
   pub deeds : List Deed
   -- the drive's units
@@ -46,7 +47,7 @@ pub record MountView : Type 0 where
   pub pad : ℕ
 
 abbrev pub world_in : MountView → World
-world_in v = world_of v.shape v.deeds
+world_in v = world_of v.image.shape v.deeds
 
 abbrev pub logs_in : MountView → Logs
 logs_in v = log_of (world_in v)
@@ -59,7 +60,7 @@ abbrev pub taken_in : MountView → ℕ
 taken_in v = taken (engine_log v)
 
 abbrev pub synced_in : MountView → ℕ
-synced_in v = synced v.shape (engine_log v)
+synced_in v = synced v.image.shape (engine_log v)
 
 abbrev pub front_taken : MountView → Front
 front_taken v = record { users = length (user_takes (engine_log v)); position = taken_in v }
@@ -69,57 +70,53 @@ front_synced v = record { users = users_below (engine_log v) (synced_in v); posi
 
 -- what each sector holds after all that was taken
 abbrev pub latest : MountView → List (List ℕ)
-latest v = after_history (contents (blank v.shape)) (history (engine_log v))
+latest v = after_history (contents v.found) (history (engine_log v))
 
 -- A unit is as the world leaves it, and is armed with nothing.
 pub record IsUnitIn (v : MountView) (number : ℕ) (u : ModelUnit) : Type 0 where
-  pub shape : u.shape ≡ v.shape
-  pub media : slice_get (media (blank v.shape) (logs_in v)).units number ≡ Some u.media
+  pub shape : u.shape ≡ v.image.shape
+  pub media : slice_get (media v.image (logs_in v)).units number ≡ Some u.media
   pub unarmed : IsUnarmed u.armed
   pub fit : IsFitUnit u
 
--- What was done is a legal world, and the units are as it leaves them.
+-- What was done is a legal world of a mount that has begun, and the units are as it leaves them.
 pub record IsSound (v : MountView) : Type 0 where
-  pub legal : IsBlankWorld (blank v.shape) (world_in v)
-  pub count : length v.units ≡ units v.shape
+  pub legal : IsPlainWorld v.image (world_in v)
+  pub beginning : Begun
+  pub has_begun : begun (engine_log v) ≡ Some beginning
+  pub first_low : beginning.beginning.first ≤ 2 ^ 62
+  pub found_is : found_image v.image (logs_in v) ≡ v.found
+  pub count : length v.units ≡ units v.image.shape
   pub each : (number : ℕ) (u : ModelUnit) → slice_get v.units number ≡ Some u → IsUnitIn v number u
 
--- Besides, the core stands for it, each stripe has landed, and the window holds just what isn't given back; the pool's
--- frames are left or in the window.
+-- Besides, the core stands for it, each stripe has landed, what the units did is noted, and the window holds just what isn't
+-- given back; the pool's frames are left or in the window.
 pub record IsMount (v : MountView) (c : Core) (p : PoolView) (filling : Filling) : Type 0 where
   pub sound : IsSound v
-  pub stands : Stands (blank v.shape) (logs_in v) c
+  pub stands : Stands v.image (logs_in v) c
   pub pad : v.pad ≡ pad_of c
   pub level : IsLevel (world_in v)
+  pub known : IsKnown v.image (world_in v)
   pub idle : (unit : ℕ) → unanswered_on (engine_log v) unit ≡ None
-  pub drained : c.window.freed ≡ freed v.shape (engine_log v)
+  pub drained : c.window.freed ≡ freed v.image.shape (engine_log v)
   pub own : window.AreOf p.region c.window.entries
   pub out : count_out p.left ≡ length c.window.entries
-  pub count : p.region.count ≡ v.shape.ring
-  pub size : p.region.size ≡ v.shape.sector
-  pub stripe : filling.shape ≡ v.shape
+  pub count : p.region.count ≡ v.image.shape.ring
+  pub size : p.region.size ≡ v.image.shape.sector
+  pub stripe : filling.shape ≡ v.image.shape
   -- no grant passes the ring's end, less what is kept for collection, nor the last position
-  pub granted : v.granted + units v.shape * v.shape.ws_opt ≤ c.window.freed + v.shape.ring
-  pub last : v.granted < 2 ^ 61
+  pub granted : v.granted + units v.image.shape * v.image.shape.ws_opt ≤ c.window.freed + v.image.shape.ring
+  pub last : v.granted ≤ max (2 ^ 61 - 2) (first_position (engine_log v))
   -- and there is no room that isn't granted
-  pub room : room (blank v.shape) (logs_in v) ≤ v.granted
-
--- Units of a drive of this shape, as many as it has, on which nothing was written, and which are armed with nothing.
-pub record IsNewUnit (s : Shape) (u : ModelUnit) : Type 0 where
-  pub shape : u.shape ≡ s
-  pub media : u.media ≡ replicate s.chunks free_chunk
-  pub unarmed : IsUnarmed u.armed
-
-pub record AreNewUnits (s : Shape) (us : List ModelUnit) : Type 0 where
-  pub count : length us ≡ units s
-  pub each : (number : ℕ) (u : ModelUnit) → slice_get us number ≡ Some u → IsNewUnit s u
+  pub room : room v.image (logs_in v) ≤ v.granted
 
 -- What calls leave.
 
 -- Nothing more was taken; what was done stays done, what is on the drive is there, no chunk's wear level index is changed,
 -- and no grant is taken back.
 pub record IsSameMount (old new : MountView) : Type 0 where
-  pub shape : new.shape ≡ old.shape
+  pub image : new.image ≡ old.image
+  pub found : new.found ≡ old.found
   pub wear : new.wear ≡ old.wear
   pub more : List Deed
   pub deeds : new.deeds ≡ old.deeds ++ more
@@ -134,7 +131,8 @@ next_entry v lba sector = record { position = taken_in v; lba = lba; source = No
 
 abbrev pub with_entry : MountView → ℕ → List ℕ → MountView
 with_entry v lba sector = record {
-  shape = v.shape;
+  image = v.image;
+  found = v.found;
   deeds = v.deeds ++ Decides (Take (next_entry v lba sector) (sector_mark lba (taken_in v))) ∷ [];
   units = v.units;
   wear = v.wear;
@@ -144,7 +142,7 @@ with_entry v lba sector = record {
 
 -- the same with this pad target
 abbrev pub with_pad : MountView → ℕ → MountView
-with_pad v pad = record { shape = v.shape; deeds = v.deeds; units = v.units; wear = v.wear; granted = v.granted; pad = pad }
+with_pad v pad = record { image = v.image; found = v.found; deeds = v.deeds; units = v.units; wear = v.wear; granted = v.granted; pad = pad }
 
 -- after entries of these sectors, one after another
 abbrev pub with_entries : MountView → ℕ → List (List ℕ) → MountView
@@ -153,18 +151,18 @@ with_entries v lba (sector ∷ sectors) = with_entries (with_entry v lba sector)
 
 -- what comes next
 abbrev pub work_in : MountView → Work
-work_in v = work_of (blank v.shape) (logs_in v) v.pad
+work_in v = work_of v.image (logs_in v) v.pad
 
 -- There is nothing left to do, whatever the pad target up to the mount's own is, and no room that isn't granted.
 pub record IsSpent (v : MountView) : Type 0 where
   pub nothing_left : (asked : ℕ) → asked ≤ v.pad
-      → HasNothingLeftAt (blank v.shape) (logs_in v) asked (length (engine_log v))
-  pub no_room : room (blank v.shape) (logs_at (length (engine_log v)) (logs_in v)) ≤ v.granted
+      → HasNothingLeftAt v.image (logs_in v) asked (length (engine_log v))
+  pub no_room : room v.image (logs_at (length (engine_log v)) (logs_in v)) ≤ v.granted
 
 -- Collection isn't due, or there is nothing left to do.
 abbrev pub IsResting : MountView → Type 0
-IsResting v = (is_due (blank v.shape) (logs_in v) ≡ false)
-    ⊎ HasNothingLeftAt (blank v.shape) (logs_in v) 0 (length (engine_log v))
+IsResting v = (is_due v.image (logs_in v) ≡ false)
+    ⊎ HasNothingLeftAt v.image (logs_in v) 0 (length (engine_log v))
 
 -- a front that isn't reached, with nothing left to do
 pub record IsStuckAt (v : MountView) (wanted have : ℕ) : Type 0 where
@@ -176,7 +174,7 @@ pub record IsFetchable (v : MountView) (unit chunk number : ℕ) (sector : List 
   pub lba : ℕ
   pub at : ℕ
   pub position : ℕ
-  pub slot : IsBlockOfSlot (blank v.shape) (logs_in v) lba chunk at position
+  pub slot : IsBlockOfSlot v.image (logs_in v) lba chunk at position
   pub of_unit : slot.unit ≡ unit
   pub of_number : slot.number ≡ number
   pub has : slot.block.sector ≡ sector

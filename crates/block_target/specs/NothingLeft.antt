@@ -9,6 +9,7 @@ use Rattle.pblk_world.specs.Events.{Stripe}
 use Rattle.pblk_world.specs.World.{Logs}
 use Rattle.pblk_world.specs.EngineLog.{Begun, begun, Placed, placements, is_answered}
 use Rattle.pblk_world.specs.Fronts.{taken, synced, waiting}
+use Rattle.pblk_world.specs.Lines.{known_image, are_empty, is_given_up}
 use Rattle.pblk_world.specs.Opening.{MayOpen}
 use Rattle.pblk_world.specs.Space.{open_addresses, room}
 use Rattle.pblk_world.specs.AtRest.{logs_at, IsDue}
@@ -18,6 +19,9 @@ use Rattle.block_port.specs.declared.rows.WornAnswer.{WornAnswer}
 pub record HasNothingLeft (i : Image) (logs : Logs) (asked : ℕ) : Type 0 where
   -- each placed stripe has landed or was lost
   pub stripes : (p : Placed) → Contains (placements (logs 0)) p → is_answered (logs 0) p ≡ true
+  -- each chunk of a line that was given up is Free or Offline
+  pub no_reset : (line : ℕ) → line < i.shape.chunks → is_given_up (logs 0) line ≡ true
+      → are_empty (known_image i logs) line ≡ true
   -- no stripe of an opened line is to be placed
   pub no_program : (stripe : Stripe) → ¬ IsDue i logs asked stripe
   -- an entry waits and no open line has an address left, but none may be opened

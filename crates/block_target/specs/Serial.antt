@@ -4,7 +4,6 @@ use Rattle.std.specs.List.{flat_map}
 use Rattle.pblk_model.specs.declared.run.Front.{Front}
 use Rattle.pblk_model.specs.declared.run.Place.{Place}
 use Rattle.pblk_model.specs.Contents.{contents}
-use Rattle.pblk_model.specs.Image.{blank}
 use Rattle.pblk_world.specs.Fronts.{user_takes}
 use Rattle.block_port.specs.Own.{PlacedSector, OwnWrite, lines_of}
 use Rattle.block_port.specs.Port.{ModelPort}
@@ -33,7 +32,7 @@ lines_in v = map (λ t. record { position = t.entry.position; write = record { l
 -- the device
 abbrev pub device : SerialView → ModelPort
 device s = record {
-  start = contents (blank s.mount.shape);
+  start = contents s.mount.found;
   known = lines_in s.mount;
   taken = taken_in s.mount;
   seen = s.seen;
@@ -41,16 +40,16 @@ device s = record {
   flushed = synced_in s.mount;
   faults = [];
   worns = s.worns;
-  capacity = s.mount.shape.capacity;
-  sector = s.mount.shape.sector;
-  footing = Some (record { shape = s.mount.shape; wear = s.mount.wear });
+  capacity = s.mount.image.shape.capacity;
+  sector = s.mount.image.shape.sector;
+  footing = Some (record { image = s.mount.image; wear = s.mount.wear });
 }
 
 -- The history is made of the session's own writes, and each Worn had its cause.
 pub record IsSerial (s : SerialView) : Type 0 where
   pub alone : lines_in s.mount ≡ flat_map lines_of s.own
   pub small : s.seen < 2 ^ 63
-  pub worns : AreRefusals (blank s.mount.shape) (logs_in s.mount) s.worns
+  pub worns : AreRefusals s.mount.image (logs_in s.mount) s.worns
 
 -- Why a write of so many sectors answers Worn, and why a flush does: at the end of the engine's log, as the call leaves it,
 -- there is nothing left to do. `Drive` doesn't come, since no command fails or is stopped.
@@ -59,18 +58,18 @@ WriteCause v count (Ok place) = ⊤
 WriteCause v count (Err write.Range) = ⊤
 WriteCause v count (Err (write.Drive unit event)) = ⊥
 WriteCause v count (Err (write.Worn wanted have)) =
-    IsWriteRefusal (blank v.shape) (logs_in v) (length (engine_log v)) count wanted have
+    IsWriteRefusal v.image (logs_in v) (length (engine_log v)) count wanted have
 
 abbrev pub FlushCause : MountView → Result Front FlushErr → Type 0
 FlushCause v (Ok front) = ⊤
 FlushCause v (Err (flush.Drive unit event)) = ⊥
 FlushCause v (Err (flush.Worn wanted have)) =
-    IsFlushRefusal (blank v.shape) (logs_in v) (length (engine_log v)) wanted have
+    IsFlushRefusal v.image (logs_in v) (length (engine_log v)) wanted have
 
 -- All that was taken is on the drive, and collection isn't due or there is nothing left to do; or not all is there, where
 -- there is nothing left to do.
 abbrev pub Settles : Result Unit SettleErr → MountView → Type 0
 Settles (Ok x) v = (synced_in v ≡ taken_in v) × IsResting v
 Settles (Err (settle.Worn wanted have)) v = (wanted ≡ taken_in v) × (have ≡ synced_in v)
-    × IsFlushRefusal (blank v.shape) (logs_in v) (length (engine_log v)) wanted have
+    × IsFlushRefusal v.image (logs_in v) (length (engine_log v)) wanted have
 Settles (Err (settle.Drive unit event)) v = ⊥

@@ -1,16 +1,20 @@
-//! What a target for one session does, as rows of a list that contracts see.
-ghost use Rattle.std.specs.Prelude.{Some};
+//! What a target for one session does, as rows of lists that contracts see.
+ghost use Rattle.std.specs.Prelude.{Some, map};
 ghost use Rattle.pblk_model.specs.ChunkStep.{Gave};
 ghost use Rattle.pblk_world.specs.Events.{Begin, Take, Open, Place};
-ghost use Rattle.step_laws.specs.Whole.{program_of, fetch_of, first_beginning};
+ghost use Rattle.step_laws.specs.Whole.{program_of, reset_of, fetch_of};
+ghost use Rattle.found_laws.specs.Beginnings.{beginning_of};
+ghost use Rattle.opening_steps.specs.Opened.{new_events};
 ghost use Rattle.pblk_core.specs.Named.{next_start};
 ghost use Rattle.pblk_core.specs.Taken.{entry_of, mark_of};
-ghost use Rattle.block_target.specs.Deeds.{Decides, Does, Lands};
+ghost use Rattle.block_target.specs.Deeds.{Decides, Does, Lands, drive_before};
+ghost use Rattle.block_target.specs.Deeds as deeds;
 
 use pblk_core::{Core, Stripe};
-use pblk_model::{Mark, Shows};
+use pblk_model::{Found, Mark, Shows};
 use sector_pool::Entry;
 use std::marker::Model;
+use unit_port::{Log, Unit};
 
 /// One thing that is done. Such rows exist in contracts alone, so no value of this type is ever made.
 pub(crate) struct Deed {
@@ -28,14 +32,55 @@ impl Model for Deed {
     ghost view = { λ d. elim d.unmade as (λ _. Deed) [ ] };
 }
 
-/// The mount begins.
-#[derive(Drop)]
-pub(crate) struct Begins;
+/// The units of a drive, as they are at some moment. Such rows exist in contracts alone, too.
+pub(crate) struct DriveRow {
+    unmade: Unmade,
+}
 
-impl Shows for Begins {
+impl Model for DriveRow {
+    ghost use Rattle.std.specs.Prelude.{List};
+    ghost use Rattle.unit_port.specs.Unit.{ModelUnit};
+
+    ghost Value = { List ModelUnit };
+
+    ghost view = { λ d. elim d.unmade as (λ _. List ModelUnit) [ ] };
+}
+
+/// These are the units.
+#[derive(Drop)]
+pub(crate) struct Stand<'a, U: Unit> {
+    pub(crate) units: &'a [U],
+}
+
+impl<U: Unit> Shows for Stand<'_, U> {
+    type Event = DriveRow;
+
+    ghost shown = { λ s. map U.model s.units.now };
+}
+
+/// The drive was made ready, whose units stand in the list's first row as they were before.
+#[derive(Drop)]
+pub(crate) struct Readies<'a, U: Unit> {
+    pub(crate) drives: &'a Log<DriveRow>,
+    pub(crate) units: &'a [U],
+}
+
+impl<U: Unit> Shows for Readies<'_, U> {
     type Event = Deed;
 
-    ghost shown = { λ _. Decides (Begin first_beginning) };
+    ghost shown = { λ r. deeds.Readies (new_events (drive_before r.drives.now) (map U.model r.units.now)) };
+}
+
+/// The mount begins with what was found.
+#[derive(Drop)]
+pub(crate) struct Begins<'a> {
+    pub(crate) found: &'a Found,
+}
+
+impl Shows for Begins<'_> {
+    type Event = Deed;
+
+    ghost shown = { λ b. Decides (Begin (beginning_of b.found.now)) };
 }
 
 /// An entry is taken.
@@ -96,6 +141,31 @@ impl Shows for Landing {
     type Event = Deed;
 
     ghost shown = { λ l. Lands l.unit };
+}
+
+/// A unit resets a chunk.
+#[derive(Drop)]
+pub(crate) struct Resets {
+    pub(crate) unit: u32,
+    pub(crate) line: u32,
+}
+
+impl Shows for Resets {
+    type Event = Deed;
+
+    ghost shown = { λ r. Does r.unit (reset_of r.line) };
+}
+
+/// The reset of a unit is noted.
+#[derive(Drop)]
+pub(crate) struct NotesReset {
+    pub(crate) unit: u32,
+}
+
+impl Shows for NotesReset {
+    type Event = Deed;
+
+    ghost shown = { λ n. deeds.NotesReset n.unit };
 }
 
 /// A unit gives a block.

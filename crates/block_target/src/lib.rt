@@ -4,6 +4,7 @@
 mod deeds;
 mod mount;
 mod opening;
+mod readying;
 mod serial;
 
 pub use block_port::{FlushErr, Front, Note, Place, Port, ReadErr, WriteErr};

@@ -1,26 +1,33 @@
 //! A mount of a drive for one session: the core, its pool and the drive's units.
 ghost use Rattle.std.specs.Prelude.{◌≡◌, ◌<◌, ◌≤◌, ◌++◌, [], ◌∷◌, map, max, length, slice_get, true, false, Some, IfOk, IfErr, IsOk, ◌+◌};
 ghost use Rattle.pblk_model.specs.Accepted.{IsAccepted};
+ghost use Rattle.pblk_model.specs.Found.{IsFitFound};
 ghost use Rattle.pblk_model.specs.Frames.{count_out};
-ghost use Rattle.pblk_world.specs.Events.{Begin};
 ghost use Rattle.block_target.specs.Begun.{AreBegun};
 ghost use Rattle.pblk_model.specs.Contents.{end};
-ghost use Rattle.pblk_model.specs.Image.{Image, blank};
+ghost use Rattle.pblk_model.specs.Image.{Image};
+ghost use Rattle.pblk_model.specs.Sealed.{IsSealed};
 ghost use Rattle.pblk_world.specs.Space.{freed};
 ghost use Rattle.pblk_world.specs.World.{World, log_of, media};
-ghost use Rattle.core_laws.specs.PlainWorlds.{IsBlankWorld};
+ghost use Rattle.core_laws.specs.PlainWorlds.{IsPlainWorld};
 ghost use Rattle.write_window.specs.Window as view;
 ghost use Rattle.pblk_core.specs.Named.{pad_of};
 ghost use Rattle.pblk_core.specs.Stands.{Stands};
-ghost use Rattle.block_target.specs.Deeds.{Decides};
-ghost use Rattle.step_laws.specs.Whole.{first_beginning};
-ghost use Rattle.block_target.specs.Mount.{MountView, IsMount, IsSound, IsSameMount, AreNewUnits, IsStuckAt, IsSpent, IsResting, IsFetchable, logs_in, with_entry, work_in, with_pad, taken_in, synced_in, front_taken, front_synced, latest};
-ghost use Rattle.pblk_core.specs.BlankDrives.{IsBlankFound};
+ghost use Rattle.scan_recovery.specs.Units.{AreFit};
+ghost use Rattle.opening_steps.specs.Opened.{AreUnarmed};
+ghost use Rattle.block_target.specs.Mount.{MountView, IsMount, IsSound, IsSameMount, IsStuckAt, IsSpent, IsResting, IsFetchable, logs_in, with_entry, work_in, with_pad, taken_in, synced_in, front_taken, front_synced, latest};
+ghost use Rattle.pblk_core.specs.Resets.{IsToReset};
+ghost use Rattle.opening_steps.specs.Finding.{AreHandedBack};
+ghost use Rattle.block_target.specs.Opened.{IsOpened};
 ghost use Rattle.pblk_core.specs.declared.work.Work.TheVariants as works;
 
-use crate::deeds::{Begins, Deed, Fetches, Landing, Opens, Places, Programs, Takes};
+use crate::deeds::{
+    Deed, DriveRow, Fetches, Landing, NotesReset, Opens, Places, Programs, Resets, Takes,
+};
+use crate::opening::{OpenErr, Refused};
+use crate::readying::{Ready, cause_of, ready_drive};
 use pblk_core::{Core, Look, Stripe, Work};
-use pblk_model::{ChunkState, Found, Front, Got, Items, LineRow, Shape};
+use pblk_model::{Found, Front, Got, Shape};
 use sector_pool::{Class, Entry, Pool};
 use std::alloc::{AllocError, Global};
 use std::marker::Model;
@@ -36,69 +43,41 @@ pub(crate) struct Mount<U: Unit> {
     units: Vec<U>,
     stripe: Stripe,
     granted: u64,
+    // the units as they were handed in, and as they were found
+    drives: Log<DriveRow>,
     deeds: Log<Deed>,
 }
 
 impl<U: Unit> Model for Mount<U> {
     ghost use Rattle.std.specs.Prelude.{map};
+    ghost use Rattle.scan_recovery.specs.Units.{image_of};
     ghost use Rattle.pblk_core.specs.Named.{pad_of};
     ghost use Rattle.block_target.specs.Mount.{MountView, IsMount};
+    ghost use Rattle.block_target.specs.Deeds.{drive_before, drive_found};
 
     ghost Value = { MountView };
 
-    ghost view = { λ m. record { shape = m.shape; deeds = m.deeds; units = map U.model m.units.items; wear = map U.wear m.units.items; granted = m.granted; pad = pad_of m.core } };
+    ghost view = { λ m. record { image = image_of m.shape (drive_before m.drives); found = image_of m.shape (drive_found m.drives); deeds = m.deeds; units = map U.model m.units.items; wear = map U.wear m.units.items; granted = m.granted; pad = pad_of m.core } };
 
-    ghost invariant = { λ m. IsMount (record { shape = m.shape; deeds = m.deeds; units = map U.model m.units.items; wear = map U.wear m.units.items; granted = m.granted; pad = pad_of m.core }) m.core m.pool m.stripe };
+    ghost invariant = { λ m. IsMount (record { image = image_of m.shape (drive_before m.drives); found = image_of m.shape (drive_found m.drives); deeds = m.deeds; units = map U.model m.units.items; wear = map U.wear m.units.items; granted = m.granted; pad = pad_of m.core }) m.core m.pool m.stripe };
 }
 
-// What recovery finds on a drive whose chunks are all Free.
-fn blank_found(alloc: Global, shape: &Shape) -> Result<Found, AllocError>
-    requires { IsAccepted shape.now }
-    ensures { IfOk result (λ found. IsBlankFound shape.now found) }
-{
-    let chunks = shape.units() * shape.chunks;
-    let row = LineRow {
-        seq: None,
-        bound: 0,
-        top: 0,
-        full: false,
-        young: false,
-    };
-    Ok(Found {
-        winners: Items::new(alloc),
-        head: None,
-        front: 0,
-        end: 0,
-        strays: Items::new(alloc),
-        chunks: Items::from_vec(vec![in alloc; ChunkState::Free; chunks as usize]?),
-        lines: Items::from_vec(vec![in alloc; row; shape.chunks as usize]?),
-    })
-}
-
-// All memory of a mount but that of its units.
+// What a mount keeps beside its units and what was done.
 struct Parts {
     core: Core,
     pool: Pool,
     stripe: Stripe,
-    deeds: Log<Deed>,
 }
 
-fn make_parts(alloc: Global, shape: &Shape) -> Result<Parts, AllocError>
-    requires { IsAccepted shape.now }
-    ensures { IfOk result (λ parts. AreBegun shape.now parts) }
+fn make_parts(alloc: Global, shape: &Shape, found: Found) -> Result<Parts, AllocError>
+    requires accepted { IsAccepted shape.now }
+    requires fit { IsFitFound shape.now found }
+    ensures { IfOk result (AreBegun shape.now found) }
 {
-    let found = blank_found(alloc, shape)?;
     let stripe = Stripe::new(alloc, shape)?;
-    let mut deeds = Log::new(alloc)?;
-    deeds.add(&Begins);
     let pool = Pool::new(alloc, shape.ring, shape.sector)?;
     match Core::new(alloc, shape, found) {
-        Ok(core) => Ok(Parts {
-            core,
-            pool,
-            stripe,
-            deeds,
-        }),
+        Ok(core) => Ok(Parts { core, pool, stripe }),
         Err(e) => {
             end_pool(pool);
             Err(e)
@@ -120,9 +99,9 @@ fn end_pool(pool: Pool)
 // at the front freed.
 fn free_frames(core: &mut Core, pool: &mut Pool)
     requires { view.AreOf pool.old.region core.old.window.entries }
-    ensures stands { (i : Image) (w : World) → IsBlankWorld i w → Stands i (log_of w) core.old
+    ensures stands { (i : Image) (w : World) → IsPlainWorld i w → Stands i (log_of w) core.old
         → Stands i (log_of w) core.new }
-    ensures drained { (i : Image) (w : World) → IsBlankWorld i w → Stands i (log_of w) core.old
+    ensures drained { (i : Image) (w : World) → IsPlainWorld i w → Stands i (log_of w) core.old
         → core.new.window.freed ≡ freed i.shape (log_of w 0) }
     ensures own { view.AreOf pool.new.region core.new.window.entries }
     ensures out { count_out pool.old.left + length core.new.window.entries
@@ -136,25 +115,42 @@ fn free_frames(core: &mut Core, pool: &mut Pool)
 }
 
 impl<U: Unit> Mount<U> {
-    /// A mount of new units.
-    pub(crate) fn new(alloc: Global, units: Vec<U>, shape: &Shape) -> Result<Mount<U>, Vec<U>>
+    /// A mount of units that are armed with nothing: their drive is made ready, and the mount begins with what is found
+    /// of it.
+    pub(crate) fn open(
+        alloc: Global,
+        mut units: Vec<U>,
+        shape: &Shape,
+    ) -> Result<Mount<U>, Refused<U>>
         requires accepted { IsAccepted shape.now }
-        requires new { AreNewUnits shape.now (map U.model units.items) }
-        ensures begun { IfOk result (λ m. m.deeds ≡ Decides (Begin first_beginning) ∷ []) }
-        ensures shape { IfOk result (λ m. m.shape ≡ shape.now) }
-        ensures units { IfOk result (λ m. m.units ≡ map U.model units.items) }
+        requires fit { AreFit shape.now (map U.model units.items) }
+        requires unarmed { AreUnarmed (map U.model units.items) }
+        ensures opened { IfOk result (IsOpened shape.now (map U.model units.items)) }
         ensures wear { IfOk result (λ m. m.wear ≡ map U.wear units.items) }
-        ensures refused { IfErr result (λ us. us ≡ units) }
+        ensures refused { IfErr result (λ r. AreHandedBack shape.now (map U.model units.items) (map U.model r.units.items)) }
+        ensures refused_wear { IfErr result (λ r. map U.wear r.units.items ≡ map U.wear units.items) }
+        ensures quiet { IfErr result (λ r. r.cause ≡ OpenErr.Memory) }
     {
-        match make_parts(alloc, shape) {
-            Err(_) => Err(units),
+        let Ready {
+            drives,
+            found,
+            deeds,
+        } = match ready_drive(alloc, units.as_mut_slice(), shape) {
+            Ok(ready) => ready,
+            Err(e) => {
+                return Err(Refused {
+                    units,
+                    cause: cause_of(e),
+                });
+            }
+        };
+        match make_parts(alloc, shape, found) {
+            Err(_) => Err(Refused {
+                units,
+                cause: OpenErr::Memory,
+            }),
             Ok(parts) => {
-                let Parts {
-                    core,
-                    pool,
-                    stripe,
-                    deeds,
-                } = parts;
+                let Parts { core, pool, stripe } = parts;
                 let granted = core.grant();
                 Ok(Mount {
                     shape: *shape,
@@ -163,6 +159,7 @@ impl<U: Unit> Mount<U> {
                     units,
                     stripe,
                     granted,
+                    drives,
                     deeds,
                 })
             }
@@ -176,16 +173,16 @@ impl<U: Unit> Mount<U> {
         let _ = &self.shape;
     }
 
-    /// What is found on the drive ends at the front synced, since each stripe has landed.
+    /// What is found on the drive, if that was sealed, ends at the front synced, since each stripe has landed.
     pub(crate) fn ends_synced(&self)
-        ensures { end (media (blank self.now.shape) (logs_in self.now)) ≡ synced_in self.now }
+        ensures { IsSealed self.now.image → end (media self.now.image (logs_in self.now)) ≡ synced_in self.now }
     {
         let _ = &self.shape;
     }
 
     /// The shape of the drive.
     pub(crate) fn shape(&self) -> &Shape
-        ensures { result.now ≡ self.now.shape }
+        ensures { result.now ≡ self.now.image.shape }
     {
         &self.shape
     }
@@ -203,11 +200,31 @@ impl<U: Unit> Mount<U> {
         ensures rest { result ≡ false → (self.new ≡ self.old) × IsSpent self.old }
     {
         match self.core.next_work() {
+            Work::Reset { line, unit } => self.reset(line, unit),
             Work::Program => self.program(),
             Work::Open => self.open_line(),
             Work::Nothing(_) => return false,
         }
         true
+    }
+
+    // Resets a chunk of a line that was given up. The core names it.
+    fn reset(&mut self, line: u32, unit: u32)
+        requires named { work_in self.old ≡ works.Reset line unit }
+        requires given_up { IsToReset self.old.image (logs_in self.old) line unit }
+        ensures { IsSameMount self.old self.new }
+    {
+        let of = &mut self.units[unit as usize];
+        match of.reset(line) {
+            Err(_) => unreachable!(),
+            Ok(()) => (),
+        }
+        let (state, _) = of.state(line);
+        self.deeds.add(&Resets { unit, line });
+        self.deeds.add(&NotesReset { unit });
+        self.core.reset_done(line, unit, state);
+        free_frames(&mut self.core, &mut self.pool);
+        self.granted = self.granted.max(self.core.grant());
     }
 
     // Opens the next line. The core names it.
@@ -247,8 +264,8 @@ impl<U: Unit> Mount<U> {
 
     /// Takes a sector at the next position.
     pub(crate) fn take(&mut self, lba: u64, sector: &[u8])
-        requires lba { lba < self.old.shape.capacity }
-        requires size { length sector.now ≡ self.old.shape.sector }
+        requires lba { lba < self.old.image.shape.capacity }
+        requires size { length sector.now ≡ self.old.image.shape.sector }
         requires room { taken_in self.old < self.old.granted }
         ensures { self.new ≡ with_entry self.old lba sector.now }
     {
@@ -349,8 +366,8 @@ impl<U: Unit> Mount<U> {
 
     /// Copies the latest content of a sector.
     pub(crate) fn read(&mut self, lba: u64, out: &mut [u8])
-        requires lba { lba < self.old.shape.capacity }
-        requires size { length out.old ≡ self.old.shape.sector }
+        requires lba { lba < self.old.image.shape.capacity }
+        requires size { length out.old ≡ self.old.image.shape.sector }
         ensures same { IsSameMount self.old self.new }
         ensures latest { slice_get (latest self.old) lba ≡ Some out.new }
     {
@@ -369,7 +386,7 @@ impl<U: Unit> Mount<U> {
 
     // Fetches a block that can be read.
     fn fetch(&mut self, unit: u32, chunk: u32, block: u32, out: &mut [u8])
-        requires size { length out.old ≡ self.old.shape.sector }
+        requires size { length out.old ≡ self.old.image.shape.sector }
         requires there { (sector : _) × IsFetchable self.old unit chunk block sector }
         ensures same { IsSameMount self.old self.new }
         ensures sector { (sector : _) → IsFetchable self.old unit chunk block sector → out.new ≡ sector }
@@ -400,6 +417,7 @@ impl<U: Unit> Mount<U> {
             units,
             stripe: _,
             granted: _,
+            drives: _,
             deeds: _,
         } = self;
         core.close(&mut pool);

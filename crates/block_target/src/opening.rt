@@ -5,12 +5,16 @@ use thiserror::Error;
 /// Why a target wasn't opened.
 #[derive(Clone, Copy, Debug, PartialEq, Eq, Error)]
 pub enum OpenErr {
+    /// This event of this unit, from 1, made in this call, was a stopped command or a fetch of a written block that
+    /// failed.
+    #[error("event {event} of unit {unit} failed or was stopped")]
+    Drive { unit: u32, event: u64 },
     /// There isn't the memory for it.
     #[error("there is not enough memory")]
     Memory,
 }
 
-/// A target that wasn't opened: its units, as they were handed in, and why.
+/// A target that wasn't opened: its units, and why. The drive holds what it held where that was sealed.
 pub struct Refused<U> {
     /// All of them, in their order.
     pub units: Vec<U>,

@@ -3,16 +3,17 @@ ghost use Rattle.std.specs.Prelude.{ℕ, OnErr, IsErrOf, ◌≡◌, ◌<◌, ◌
 ghost use Rattle.std.specs.List.{flat_map};
 ghost use Rattle.pblk_model.specs.Accepted.{IsAccepted};
 ghost use Rattle.pblk_model.specs.Contents.{end};
-ghost use Rattle.pblk_world.specs.Events.{Begin};
+ghost use Rattle.pblk_model.specs.Sealed.{IsSealed};
 ghost use Rattle.pblk_world.specs.World.{media};
 ghost use Rattle.block_port.specs.Own.{lines_of, sectors_of};
 ghost use Rattle.block_port.specs.Port.{AreSectors, IsPastEnd, IsSameTarget, Learns, IsWritten, IsSeen, AreShort, count_in};
 ghost use Rattle.block_port.specs.Port.{write_faults, write_worns, flush_faults, flush_worns};
-ghost use Rattle.pblk_model.specs.Image.{blank};
+ghost use Rattle.scan_recovery.specs.Units.{AreFit};
+ghost use Rattle.opening_steps.specs.Opened.{AreUnarmed};
 ghost use Rattle.block_target.specs.NothingLeft.{IsRefusal, AreRefusals};
-ghost use Rattle.block_target.specs.Deeds.{Decides};
-ghost use Rattle.step_laws.specs.Whole.{first_beginning};
-ghost use Rattle.block_target.specs.Mount.{MountView, AreNewUnits, IsSameMount, IsSound, front_taken, latest, logs_in, synced_in, taken_in, with_entries};
+ghost use Rattle.opening_steps.specs.Finding.{AreHandedBack};
+ghost use Rattle.block_target.specs.Opened.{IsOpened};
+ghost use Rattle.block_target.specs.Mount.{MountView, IsSameMount, IsSound, front_taken, latest, logs_in, synced_in, taken_in, with_entries};
 ghost use Rattle.block_target.specs.Serial.{SerialView, Settles, WriteCause, FlushCause, device, lines_in};
 
 use crate::mount::Mount;
@@ -65,34 +66,31 @@ fn make_lists(alloc: Global) -> Result<Lists, AllocError>
 }
 
 impl<U: Unit> Serial<U> {
-    /// Opens a target over units of a drive on which nothing was written, and which are armed with nothing. They
-    /// are as many as the shape has.
+    /// Opens a target over units of a drive of an accepted shape, as many as it has, that are armed with nothing. Chunks
+    /// that were left Open are padded to their ends, then the drive is scanned, and the mount begins with what is found.
     ///
-    /// Refused with `Memory` alone; the units are handed back.
+    /// Refused: `Drive` where a program of the padding was stopped, or a fetch of a written block failed or was stopped,
+    /// which doesn't come while all are armed with nothing; then `Memory`. The units are handed back. What a sealed drive
+    /// held it holds still, whatever is answered.
     pub fn open(alloc: Global, units: Vec<U>, shape: &Shape) -> Result<Serial<U>, Refused<U>>
         requires accepted { IsAccepted shape.now }
-        requires new { AreNewUnits shape.now (map U.model units.items) }
-        ensures begun { IfOk result (λ s. s.mount.deeds ≡ Decides (Begin first_beginning) ∷ []) }
-        ensures shape { IfOk result (λ s. s.mount.shape ≡ shape.now) }
-        ensures units { IfOk result (λ s. s.mount.units ≡ map U.model units.items) }
+        requires fit { AreFit shape.now (map U.model units.items) }
+        requires unarmed { AreUnarmed (map U.model units.items) }
+        ensures opened { IfOk result (λ s. IsOpened shape.now (map U.model units.items) s.mount) }
         ensures wear { IfOk result (λ s. s.mount.wear ≡ map U.wear units.items) }
         ensures new_port { IfOk result (λ s. (s.seen ≡ 0) × (s.own ≡ []) × (s.worns ≡ [])) }
-        ensures refused { IfErr result (λ r. r.units ≡ units) }
+        ensures refused { IfErr result (λ r. AreHandedBack shape.now (map U.model units.items) (map U.model r.units.items)) }
+        ensures refused_wear { IfErr result (λ r. map U.wear r.units.items ≡ map U.wear units.items) }
+        ensures quiet { IfErr result (λ r. r.cause ≡ OpenErr.Memory) }
     {
-        let (own, worns) = match make_lists(alloc) {
-            Ok(Lists { own, worns }) => (own, worns),
-            Err(_) => {
-                return Err(Refused {
-                    units,
-                    cause: OpenErr::Memory,
-                });
-            }
-        };
-        match Mount::new(alloc, units, shape) {
-            Err(units) => Err(Refused {
+        let Ok(Lists { own, worns }) = make_lists(alloc) else {
+            return Err(Refused {
                 units,
                 cause: OpenErr::Memory,
-            }),
+            });
+        };
+        match Mount::open(alloc, units, shape) {
+            Err(refused) => Err(refused),
             Ok(mount) => Ok(Serial {
                 mount,
                 seen: 0,
@@ -110,8 +108,8 @@ impl<U: Unit> Serial<U> {
     }
 
     /// Brings all that was taken to the drive, and then, while the Free lines are few, does what is left to do. Hands
-    /// the units back. What is then found on the drive ends at the front synced. All that was taken are the session's
-    /// own writes.
+    /// the units back. What is then found on a drive that was sealed ends at the front synced. All that was taken are
+    /// the session's own writes.
     ///
     /// `Worn` comes where not all of it is there and nothing is left to do: `wanted` is the front taken, and `have`
     /// the front synced. `Drive` doesn't come, since no command fails or is stopped. Each call that answered `Worn`
@@ -119,8 +117,8 @@ impl<U: Unit> Serial<U> {
     pub fn close<R: Wait>(mut self, rt: &R) -> (Vec<U>, Result<(), SettleErr>)
         ensures closed { (v : MountView) × IsSameMount self.mount v × IsSound v
             × (map U.model result.0.items ≡ v.units) × (map U.wear result.0.items ≡ v.wear) × Settles result.1 v
-            × AreRefusals (blank v.shape) (logs_in v) self.worns × (taken_in v ≡ taken_in self.mount)
-            × (end (media (blank v.shape) (logs_in v)) ≡ synced_in v) }
+            × AreRefusals v.image (logs_in v) self.worns × (taken_in v ≡ taken_in self.mount)
+            × (IsSealed v.image → end (media v.image (logs_in v)) ≡ synced_in v) }
         ensures alone { lines_in self.mount ≡ flat_map lines_of self.own }
     {
         self.mount.is_sound();
@@ -166,7 +164,7 @@ impl<U: Unit> Serial<U> {
 
     // Notes a call that is refused for want of room.
     fn add_worn(&mut self, count: u32, wanted: u64, have: u64)
-        requires { (n : ℕ) × IsRefusal (blank self.old.mount.shape) (logs_in self.old.mount) n count wanted have }
+        requires { (n : ℕ) × IsRefusal self.old.mount.image (logs_in self.old.mount) n count wanted have }
         ensures { self.new ≡ record {
           mount = self.old.mount;
           seen = self.old.seen;
@@ -184,9 +182,9 @@ impl<U: Unit> Serial<U> {
 
 // Takes sectors from `lba` on, one after another.
 fn take_all<U: Unit>(mount: &mut Mount<U>, lba: u64, bytes: &[u8], count: u32, size: usize)
-    requires size { size ≡ mount.old.shape.sector }
+    requires size { size ≡ mount.old.image.shape.sector }
     requires bytes { length bytes.now ≡ count * size }
-    requires inside { lba + count ≤ mount.old.shape.capacity }
+    requires inside { lba + count ≤ mount.old.image.shape.capacity }
     requires small { lba + count < 2 ^ 64 }
     requires room { taken_in mount.old + count ≤ mount.old.granted }
     ensures { mount.new ≡ with_entries mount.old lba (sectors_of size count bytes.now) }
@@ -199,9 +197,9 @@ fn take_all<U: Unit>(mount: &mut Mount<U>, lba: u64, bytes: &[u8], count: u32, s
 
 // Reads sectors from `lba` on, one after another.
 fn read_all<U: Unit>(mount: &mut Mount<U>, lba: u64, out: &mut [u8], count: u32, size: usize)
-    requires size { size ≡ mount.old.shape.sector }
+    requires size { size ≡ mount.old.image.shape.sector }
     requires whole { length out.old ≡ count * size }
-    requires inside { lba + count ≤ mount.old.shape.capacity }
+    requires inside { lba + count ≤ mount.old.image.shape.capacity }
     requires end { lba + count < 2 ^ 64 }
     ensures same { IsSameMount mount.old mount.new }
     ensures latest { sectors_of size count out.new ≡ slice_range (latest mount.old) lba (lba + count) }

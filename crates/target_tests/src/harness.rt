@@ -1,7 +1,8 @@
 //! Scripts that are run on a target over new units, and what is told of them.
 ghost use Rattle.std.specs.Prelude.{◌≡◌, [], ◌∷◌, map, IfOk};
 ghost use Rattle.pblk_model.specs.Accepted.{IsAccepted};
-ghost use Rattle.block_target.specs.Mount.{AreNewUnits};
+ghost use Rattle.scan_recovery.specs.Units.{AreFit};
+ghost use Rattle.opening_steps.specs.Opened.{AreUnarmed};
 ghost use Rattle.block_target.specs.Serial.{SerialView};
 
 use block_target::{Refused, Serial, SettleErr};
@@ -54,7 +55,7 @@ fn one_port<R: Wait>(
 ) -> Result<Vec<Serial<MemoryUnit>>, AllocError>
     requires { IsAccepted shape.now }
     ensures { IfOk result (λ ports. (s : SerialView)
-        × (ports.items ≡ s ∷ []) × (s.mount.shape ≡ shape.now)) }
+        × (ports.items ≡ s ∷ []) × (s.mount.image.shape ≡ shape.now)) }
 {
     let port = open(alloc, shape)?;
     match Vec::from_array(alloc, [port]) {
@@ -70,7 +71,7 @@ fn one_port<R: Wait>(
 /// A target over new units.
 pub(crate) fn open(alloc: Global, shape: &Shape) -> Result<Serial<MemoryUnit>, AllocError>
     requires { IsAccepted shape.now }
-    ensures { IfOk result (λ s. s.mount.shape ≡ shape.now) }
+    ensures { IfOk result (λ s. s.mount.image.shape ≡ shape.now) }
 {
     match Serial::open(alloc, new_units(alloc, shape)?, shape) {
         Ok(port) => Ok(port),
@@ -81,7 +82,8 @@ pub(crate) fn open(alloc: Global, shape: &Shape) -> Result<Serial<MemoryUnit>, A
 // The units of a drive of this shape on which nothing was written.
 fn new_units(alloc: Global, shape: &Shape) -> Result<Vec<MemoryUnit>, AllocError>
     requires { IsAccepted shape.now }
-    ensures { IfOk result (λ made. AreNewUnits shape.now (map (λ u. u.unit) made.items)) }
+    ensures fit { IfOk result (λ made. AreFit shape.now (map (λ u. u.unit) made.items)) }
+    ensures unarmed { IfOk result (λ made. AreUnarmed (map (λ u. u.unit) made.items)) }
 {
     let mut made = Vec::new(alloc);
     for _unit in 0..shape.units() {

@@ -1,6 +1,5 @@
-use Rattle.std.proofs.Common.{◌++◌, [], ◌∷◌, List, ap, ◌∙◌}
+use Rattle.std.proofs.Common.{ap}
 use Rattle.pblk_core.specs.Filling.{Filling}
-use Rattle.block_target.specs.Deeds.{Deed}
 use Rattle.block_target.proofs.mount.make_parts.Goals as goal
 
 pub returns-in-Ok : goal.returns-in-Ok
@@ -10,5 +9,4 @@ returns-in-Ok c = record {
   count = c.in_ok-pool.ensures.count;
   size = c.in_ok-pool.ensures.size;
   stripe = ap (λ (f : Filling). f.shape) c.in_ok-stripe.ensures;
-  deeds = c.add.ensures ∙ ap (λ (deeds : List Deed). deeds ++ _ ∷ []) c.in_ok-deeds.ensures;
 }

@@ -1,10 +1,16 @@
 use Rattle.std.proofs.Common.{◌≡◌, map, ℕ, zero, suc, List, length, slice_get, replicate, Some, refl, sym, subst, arith, ◌∙◌, ap}
+use Rattle.std.specs.List.{AllByRecursion}
+use Rattle.std.proofs.lemmas.List.{length-replicate}
 use Rattle.std.proofs.lemmas.Option.{none-some, same_Some}
 use Rattle.pblk_model.specs.declared.shape.Shape.{Shape}
 use Rattle.pblk_model.specs.Shape.{units}
+use Rattle.pblk_model.specs.Chunk.{IsChunk, free_chunk}
+use Rattle.pblk_laws.proofs.ChunkStep.{free_is_chunk}
+use Rattle.pblk_laws.proofs.Lists.{all_replicate}
 use Rattle.unit_port.specs.Unit.{ModelUnit}
 use Rattle.ocssd_drive.specs.Units.{WornUnit, new_unit}
-use Rattle.block_target.specs.Mount.{AreNewUnits, IsNewUnit}
+use Rattle.scan_recovery.specs.Units.{AreFit, IsUnitOf}
+use Rattle.opening_steps.specs.Opened.{AreUnarmed}
 use Rattle.target_tests.proofs.harness.new_units.Goals as goal
 
 -- each unit of as many that are the same
@@ -17,17 +23,26 @@ count_new : (s : Shape) (n : ℕ) → length (map (λ (v : WornUnit). v.unit) (r
 count_new s zero = refl
 count_new s (suc n) = ap suc (count_new s n)
 
-is_new : (s : Shape) → IsNewUnit s (new_unit s).unit
-is_new s = record { shape = refl; media = refl; unarmed = (refl, refl) }
+is_fit : (s : Shape) → IsUnitOf s (new_unit s).unit
+is_fit s = record {
+  shape = refl;
+  fits = record { count = length-replicate s.chunks free_chunk; chunks = all_replicate (IsChunk s) s.chunks free_chunk (free_is_chunk s) };
+}
 
-are_new : (s : Shape) (us : List WornUnit) → us ≡ replicate (units s) (new_unit s) → AreNewUnits s (map (λ (v : WornUnit). v.unit) us)
-are_new s us e =
-    let all : AreNewUnits s (map (λ (v : WornUnit). v.unit) (replicate (units s) (new_unit s)))
-    = record { count = count_new s (units s); each = λ k u is. subst (λ (x : ModelUnit). IsNewUnit s x) (sym (each_new s (units s) k u is)) (is_new s) } in
-    subst (λ (xs : List WornUnit). AreNewUnits s (map (λ (v : WornUnit). v.unit) xs)) (sym e) all
+are_fit : (s : Shape) (us : List WornUnit) → us ≡ replicate (units s) (new_unit s) → AreFit s (map (λ (v : WornUnit). v.unit) us)
+are_fit s us e =
+    let all : AreFit s (map (λ (v : WornUnit). v.unit) (replicate (units s) (new_unit s)))
+    = record { count = count_new s (units s); each = λ k u is. subst (λ (x : ModelUnit). IsUnitOf s x) (sym (each_new s (units s) k u is)) (is_fit s) } in
+    subst (λ (xs : List WornUnit). AreFit s (map (λ (v : WornUnit). v.unit) xs)) (sym e) all
+
+are_unarmed : (s : Shape) (us : List WornUnit) → us ≡ replicate (units s) (new_unit s) → AreUnarmed (map (λ (v : WornUnit). v.unit) us)
+are_unarmed s us e =
+    subst (λ (xs : List WornUnit). AreUnarmed (map (λ (v : WornUnit). v.unit) xs)) (sym e)
+    (λ k u is. (ap (λ (x : ModelUnit). x.armed.plans) (each_new s (units s) k u is), ap (λ (x : ModelUnit). x.armed.fuse) (each_new s (units s) k u is)))
 
 pub returns : goal.returns
 returns c =
     let s = c.args.shape.now in
     let reached : c.loop-unit._unit ≡ c.units-unit-end.result = omega arith in
-    are_new s c.loop-unit.made.items (c.loop-unit.invariant ∙ ap (λ n. replicate n (new_unit s)) (reached ∙ c.units-unit-end.ensures))
+    let same = c.loop-unit.invariant ∙ ap (λ n. replicate n (new_unit s)) (reached ∙ c.units-unit-end.ensures) in
+    record { fit = are_fit s c.loop-unit.made.items same; unarmed = are_unarmed s c.loop-unit.made.items same }

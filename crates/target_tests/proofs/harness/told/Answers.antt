@@ -8,9 +8,9 @@ use Rattle.pblk_model.specs.Script.{NeverStuck, ScriptFits}
 use Rattle.run_threads.specs.Run.{IsAcceptedFor}
 use Rattle.target_tests.proofs.harness.told.Goals as goal
 
-accepted_for : (s : Shape) (script : List (List Command)) (ports : List SerialView) (v : SerialView) → ports ≡ v ∷ [] → v.mount.shape ≡ s → ScriptFits s.capacity script → NeverStuck script → IsAcceptedFor script (map device ports)
+accepted_for : (s : Shape) (script : List (List Command)) (ports : List SerialView) (v : SerialView) → ports ≡ v ∷ [] → v.mount.image.shape ≡ s → ScriptFits s.capacity script → NeverStuck script → IsAcceptedFor script (map device ports)
 accepted_for s script ports v one shape fits flows =
-    let same : v.mount.shape.capacity ≡ s.capacity = ap (λ (x : Shape). x.capacity) shape in
+    let same : v.mount.image.shape.capacity ≡ s.capacity = ap (λ (x : Shape). x.capacity) shape in
     record { capacity = s.capacity; fits = fits; flows = flows; within = subst (λ (ps : List SerialView). AllByRecursion (λ (p : ModelPort). s.capacity ≤ p.capacity) (map device ps)) (sym one) (omega (arith, same), tt) }
 
 pub run-requires : goal.run-requires

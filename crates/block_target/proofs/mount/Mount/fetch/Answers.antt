@@ -2,6 +2,8 @@ use Rattle.std.proofs.Common.{ℕ, List, map, refl, sym, ap, subst, ◌∙◌}
 use Rattle.std.proofs.lemmas.List.{map-set}
 use Rattle.pblk_model.specs.Chunk.{Block}
 use Rattle.pblk_core.specs.Named.{pad_of}
+use Rattle.scan_recovery.specs.Units.{image_of}
+use Rattle.block_target.specs.Deeds.{drive_before, drive_found}
 use Rattle.block_target.specs.Mount.{MountView, IsMount, IsFetchable}
 use Rattle.block_target.proofs.ReadFetch.{is_in, may_take, fetched_mount, fetched_same, gave, gives, gave_step, is_fetched, same_from, unit_read, unit_inside}
 use Rattle.block_target.proofs.KeptWear.{wear_kept}
@@ -13,7 +15,7 @@ fetch-requires-clause-whole g c =
     let inside = unit_inside g.U.Unit.model _ c.self.inside.units.items c.args.unit c.args.chunk c.args.block there.0 c.self.invariant.sound refl there.1 in
     let here = unit_read g.U.Unit.model c.self.inside.units.items c.args.unit c.index_mut-from.result.now inside c.index_mut-from.ensures.value in
     let its = c.self.invariant.sound.each c.args.unit (g.U.Unit.model c.index_mut-from.result.now) here in
-    c.requires.size ∙ ap (λ (v : MountView). v.shape.sector) (sym c.self.view_is) ∙ sym (ap (λ s. s.sector) its.shape)
+    c.requires.size ∙ ap (λ (v : MountView). v.image.shape.sector) (sym c.self.view_is) ∙ sym (ap (λ s. s.sector) its.shape)
 
 pub fetch-requires-clause-taken : goal.fetch-requires-clause-taken
 fetch-requires-clause-taken g c =
@@ -68,7 +70,7 @@ returns-clause-same g c =
 
 pub returns-clause-sector : goal.returns-clause-sector
 returns-clause-sector g c = λ sector is.
-    let v : MountView = record { shape = c.self.inside.shape; deeds = c.self.inside.deeds; units = map g.U.Unit.model c.self.inside.units.items; wear = map g.U.Unit.wear c.self.inside.units.items; granted = c.self.inside.granted; pad = pad_of c.self.inside.core } in
+    let v : MountView = record { image = image_of c.self.inside.shape (drive_before c.self.inside.drives); found = image_of c.self.inside.shape (drive_found c.self.inside.drives); deeds = c.self.inside.deeds; units = map g.U.Unit.model c.self.inside.units.items; wear = map g.U.Unit.wear c.self.inside.units.items; granted = c.self.inside.granted; pad = pad_of c.self.inside.core } in
     let there : (sector : List ℕ) × IsFetchable _ c.args.unit c.args.chunk c.args.block sector = subst (λ (v : MountView). (sector : List ℕ) × IsFetchable v c.args.unit c.args.chunk c.args.block sector) (sym c.self.view_is) c.requires.there in
     let inside = unit_inside g.U.Unit.model _ c.self.inside.units.items c.args.unit c.args.chunk c.args.block there.0 c.self.invariant.sound refl there.1 in
     let here = unit_read g.U.Unit.model c.self.inside.units.items c.args.unit c.index_mut-from.result.now inside c.index_mut-from.ensures.value in

@@ -1,5 +1,4 @@
 use Rattle.std.proofs.Common.{◌≡◌, ◌≤◌, ◌++◌, [], ◌∷◌, max, Some, List, ℕ, map, sym, subst, ap, ◌∙◌, arith}
-use Rattle.pblk_model.specs.Image.{blank}
 use Rattle.pblk_world.specs.Events.{Open}
 use Rattle.pblk_world.specs.World.{log_of}
 use Rattle.pblk_world.specs.EngineLog.{Begun, begun}
@@ -9,44 +8,45 @@ use Rattle.core_laws.specs.Stepping.{after}
 use Rattle.pblk_core.specs.Named.{next_start, pad_of}
 use Rattle.pblk_core.specs.Stands.{Stands}
 use Rattle.pblk_core.proofs.WorkOf.{work_is}
-use Rattle.block_target.specs.Deeds.{Deed, Decides, world_of}
+use Rattle.scan_recovery.specs.Units.{image_of}
+use Rattle.block_target.specs.Deeds.{Deed, Decides, world_of, drive_before, drive_found}
 use Rattle.block_target.specs.Mount.{MountView, IsMount, IsSameMount, work_in, world_in, logs_in, engine_log}
 use Rattle.block_target.proofs.PumpedSteps.{moved}
 use Rattle.block_target.proofs.PumpedOpen.{open_stands, open_sound, open_drained, mount_opened, same_opened}
 use Rattle.block_target.proofs.mount.Mount.open_line.Goals as goal
 
 pub open_line-requires-clause-standing : goal.open_line-requires-clause-standing
-open_line-requires-clause-standing g c = record { image = blank c.self.inside.shape; world = world_of c.self.inside.shape c.self.inside.deeds; legal = c.self.invariant.sound.legal; stands = c.self.invariant.stands }
+open_line-requires-clause-standing g c = record { image = image_of c.self.inside.shape (drive_before c.self.inside.drives); world = world_of c.self.inside.shape c.self.inside.deeds; legal = c.self.invariant.sound.legal; stands = c.self.invariant.stands }
 
 pub open_line-requires-clause-named : goal.open_line-requires-clause-named
 open_line-requires-clause-named g c =
-    work_is (blank c.self.inside.shape) (world_of c.self.inside.shape c.self.inside.deeds) c.self.inside.core c.self.invariant.sound.legal c.self.invariant.stands
+    work_is (image_of c.self.inside.shape (drive_before c.self.inside.drives)) (world_of c.self.inside.shape c.self.inside.deeds) c.self.inside.core c.self.invariant.sound.legal c.self.invariant.stands
     ∙ ap work_in c.self.view_is ∙ c.requires
 
 pub grant-requires : goal.grant-requires
 grant-requires g c =
     let m = c.self.invariant in
     let start = next_start c.self.inside.core in
-    let v : MountView = record { shape = c.self.inside.shape; deeds = c.self.inside.deeds; units = map g.U.Unit.model c.self.inside.units.items; wear = map g.U.Unit.wear c.self.inside.units.items; granted = c.self.inside.granted; pad = pad_of c.self.inside.core } in
+    let v : MountView = record { image = image_of c.self.inside.shape (drive_before c.self.inside.drives); found = image_of c.self.inside.shape (drive_found c.self.inside.drives); deeds = c.self.inside.deeds; units = map g.U.Unit.model c.self.inside.units.items; wear = map g.U.Unit.wear c.self.inside.units.items; granted = c.self.inside.granted; pad = pad_of c.self.inside.core } in
     record {
-      image = blank v.shape;
-      world = world_of v.shape (v.deeds ++ Decides (Open start.line start) ∷ []);
+      image = v.image;
+      world = world_of v.image.shape (v.deeds ++ Decides (Open start.line start) ∷ []);
       legal = (open_sound v c.self.inside.core c.open_line.new.self start.line start v.granted v.pad c.self.inside.pool c.self.inside.stripe m
-          (λ b has. c.open_line.ensures.legal (blank v.shape) (world_in v) b m.sound.legal m.stands has)).legal;
-      stands = open_stands v c.self.inside.core c.open_line.new.self start.line start (λ knows. c.open_line.ensures.stands (blank v.shape) (world_in v) knows m.sound.legal m.stands);
+          (λ b has. c.open_line.ensures.legal v.image (world_in v) b m.sound.legal m.stands has)).legal;
+      stands = open_stands v c.self.inside.core c.open_line.new.self start.line start (λ knows. c.open_line.ensures.stands v.image (world_in v) knows m.sound.legal m.stands);
     }
 
 pub invariant_of-self : goal.invariant_of-self
 invariant_of-self g c =
     let m = c.self.invariant in
     let start = next_start c.self.inside.core in
-    let v : MountView = record { shape = c.self.inside.shape; deeds = c.self.inside.deeds; units = map g.U.Unit.model c.self.inside.units.items; wear = map g.U.Unit.wear c.self.inside.units.items; granted = c.self.inside.granted; pad = pad_of c.self.inside.core } in
-    let may : (b : Begun) → begun (engine_log v) ≡ Some b → MayOpen (blank v.shape) (logs_in v) b start.line start = λ b has. c.open_line.ensures.legal (blank v.shape) (world_in v) b m.sound.legal m.stands has in
-    let stands : (knows : List ℕ) → Stands (blank v.shape) (after (logs_in v) (Open start.line start) knows) c.open_line.new.self = λ knows. c.open_line.ensures.stands (blank v.shape) (world_in v) knows m.sound.legal m.stands in
+    let v : MountView = record { image = image_of c.self.inside.shape (drive_before c.self.inside.drives); found = image_of c.self.inside.shape (drive_found c.self.inside.drives); deeds = c.self.inside.deeds; units = map g.U.Unit.model c.self.inside.units.items; wear = map g.U.Unit.wear c.self.inside.units.items; granted = c.self.inside.granted; pad = pad_of c.self.inside.core } in
+    let may : (b : Begun) → begun (engine_log v) ≡ Some b → MayOpen v.image (logs_in v) b start.line start = λ b has. c.open_line.ensures.legal v.image (world_in v) b m.sound.legal m.stands has in
+    let stands : (knows : List ℕ) → Stands v.image (after (logs_in v) (Open start.line start) knows) c.open_line.new.self = λ knows. c.open_line.ensures.stands v.image (world_in v) knows m.sound.legal m.stands in
     let same : c.open_line.new.self.window ≡ c.self.inside.core.window = c.open_line.ensures.window in
     let sound = open_sound v c.self.inside.core c.open_line.new.self start.line start v.granted v.pad c.self.inside.pool c.self.inside.stripe m may in
-    let granted : c.max-self-inside.result ≡ max v.granted (room (blank v.shape) (log_of (world_of v.shape (v.deeds ++ Decides (Open start.line start) ∷ [])))) =
-    c.max-self-inside.ensures ∙ ap (max v.granted) (c.grant.ensures (blank v.shape) (world_of v.shape (v.deeds ++ Decides (Open start.line start) ∷ [])) sound.legal
+    let granted : c.max-self-inside.result ≡ max v.granted (room v.image (log_of (world_of v.image.shape (v.deeds ++ Decides (Open start.line start) ∷ [])))) =
+    c.max-self-inside.ensures ∙ ap (max v.granted) (c.grant.ensures v.image (world_of v.image.shape (v.deeds ++ Decides (Open start.line start) ∷ [])) sound.legal
     (open_stands v c.self.inside.core c.open_line.new.self start.line start stands)
     (open_drained v c.self.inside.core c.open_line.new.self start.line start c.self.inside.pool c.self.inside.stripe m same)) in
     subst (λ (deeds : List Deed). IsMount (moved v deeds c.max-self-inside.result (pad_of c.open_line.new.self)) c.open_line.new.self c.self.inside.pool c.self.inside.stripe) (sym c.add.ensures)
@@ -56,8 +56,8 @@ pub returns : goal.returns
 returns g c =
     let m = c.self.invariant in
     let start = next_start c.self.inside.core in
-    let v : MountView = record { shape = c.self.inside.shape; deeds = c.self.inside.deeds; units = map g.U.Unit.model c.self.inside.units.items; wear = map g.U.Unit.wear c.self.inside.units.items; granted = c.self.inside.granted; pad = pad_of c.self.inside.core } in
-    let may : (b : Begun) → begun (engine_log v) ≡ Some b → MayOpen (blank v.shape) (logs_in v) b start.line start = λ b has. c.open_line.ensures.legal (blank v.shape) (world_in v) b m.sound.legal m.stands has in
+    let v : MountView = record { image = image_of c.self.inside.shape (drive_before c.self.inside.drives); found = image_of c.self.inside.shape (drive_found c.self.inside.drives); deeds = c.self.inside.deeds; units = map g.U.Unit.model c.self.inside.units.items; wear = map g.U.Unit.wear c.self.inside.units.items; granted = c.self.inside.granted; pad = pad_of c.self.inside.core } in
+    let may : (b : Begun) → begun (engine_log v) ≡ Some b → MayOpen v.image (logs_in v) b start.line start = λ b has. c.open_line.ensures.legal v.image (world_in v) b m.sound.legal m.stands has in
     let pad : pad_of c.open_line.new.self ≡ pad_of c.self.inside.core = c.open_line.ensures.pad in
     let is : c.max-self-inside.result ≡ max v.granted c.grant.result = c.max-self-inside.ensures in
     let more : v.granted ≤ c.max-self-inside.result = omega arith in

@@ -1,20 +1,29 @@
 use Rattle.std.proofs.Common.{sym, subst, ap, ◌∙◌, refl}
-use Rattle.pblk_model.specs.Image.{blank}
-use Rattle.block_target.specs.Deeds.{world_of}
-use Rattle.block_target.specs.Mount.{IsSpent, work_in}
+use Rattle.pblk_core.specs.Resets.{IsToReset}
+use Rattle.scan_recovery.specs.Units.{image_of}
+use Rattle.block_target.specs.Deeds.{world_of, drive_before}
+use Rattle.block_target.specs.Mount.{MountView, IsSpent, logs_in, work_in}
 use Rattle.block_target.proofs.PumpedOpen.{same_self}
 use Rattle.block_target.proofs.Spent.{spent}
 use Rattle.block_target.proofs.mount.Mount.pump.Goals as goal
 
+pub reset-requires : goal.reset-requires
+reset-requires g c = record {
+  named = ap work_in (sym c.self.view_is)
+      ∙ sym (c.next_work.ensures.work (image_of c.self.inside.shape (drive_before c.self.inside.drives)) (world_of c.self.inside.shape c.self.inside.deeds) c.self.invariant.sound.legal c.self.invariant.stands) ∙ c.in-Reset.is;
+  given_up = subst (λ (v : MountView). IsToReset v.image (logs_in v) c.in-Reset.line c.in-Reset.unit) c.self.view_is
+      (c.next_work.ensures.reset (image_of c.self.inside.shape (drive_before c.self.inside.drives)) (world_of c.self.inside.shape c.self.inside.deeds) c.in-Reset.line c.in-Reset.unit c.self.invariant.stands c.in-Reset.is);
+}
+
 pub program-requires : goal.program-requires
 program-requires g c =
     ap work_in (sym c.self.view_is)
-    ∙ sym (c.next_work.ensures.work (blank c.self.inside.shape) (world_of c.self.inside.shape c.self.inside.deeds) c.self.invariant.sound.legal c.self.invariant.stands) ∙ c.in-Program.is
+    ∙ sym (c.next_work.ensures.work (image_of c.self.inside.shape (drive_before c.self.inside.drives)) (world_of c.self.inside.shape c.self.inside.deeds) c.self.invariant.sound.legal c.self.invariant.stands) ∙ c.in-Program.is
 
 pub open_line-requires : goal.open_line-requires
 open_line-requires g c =
     ap work_in (sym c.self.view_is)
-    ∙ sym (c.next_work.ensures.work (blank c.self.inside.shape) (world_of c.self.inside.shape c.self.inside.deeds) c.self.invariant.sound.legal c.self.invariant.stands) ∙ c.in-Open.is
+    ∙ sym (c.next_work.ensures.work (image_of c.self.inside.shape (drive_before c.self.inside.drives)) (world_of c.self.inside.shape c.self.inside.deeds) c.self.invariant.sound.legal c.self.invariant.stands) ∙ c.in-Open.is
 
 pub returns-in-Nothing-clause-same : goal.returns-in-Nothing-clause-same
 returns-in-Nothing-clause-same g c = same_self c.args.self.now
@@ -24,5 +33,5 @@ returns-in-Nothing-clause-rest g c = λ none. (
   refl,
   subst IsSpent c.self.view_is
       (spent _ c.self.inside.core c.self.inside.pool c.self.inside.stripe c.in-Nothing.field-0 c.self.invariant
-      (sym (c.next_work.ensures.work (blank c.self.inside.shape) (world_of c.self.inside.shape c.self.inside.deeds) c.self.invariant.sound.legal c.self.invariant.stands) ∙ c.in-Nothing.is)),
+      (sym (c.next_work.ensures.work (image_of c.self.inside.shape (drive_before c.self.inside.drives)) (world_of c.self.inside.shape c.self.inside.deeds) c.self.invariant.sound.legal c.self.invariant.stands) ∙ c.in-Nothing.is)),
 )

@@ -1,8 +1,8 @@
 use Rattle.std.proofs.Common.{◌≡◌, false, length, sym, subst, ◌∙◌, arith, inl, inr}
-use Rattle.pblk_model.specs.Image.{blank}
 use Rattle.pblk_world.specs.Space.{is_due}
 use Rattle.pblk_world.specs.World.{log_of}
-use Rattle.block_target.specs.Deeds.{world_of}
+use Rattle.scan_recovery.specs.Units.{image_of}
+use Rattle.block_target.specs.Deeds.{world_of, drive_before}
 use Rattle.block_target.specs.Mount.{MountView, engine_log, logs_in}
 use Rattle.block_target.specs.NothingLeft.{HasNothingLeftAt}
 use Rattle.block_target.proofs.SameMounts.{same_then, same_mount}
@@ -17,9 +17,9 @@ returns-then-not-is_due-clause-same g c = c.loop.invariant
 pub returns-then-not-is_due-clause-resting : goal.returns-then-not-is_due-clause-resting
 returns-then-not-is_due-clause-resting g c =
     let w = world_of c.self.inside.shape c.self.inside.deeds in
-    let at : is_due (blank c.self.inside.shape) (log_of w) ≡ false =
-    sym (c.is_due.ensures (blank c.self.inside.shape) w c.self.invariant.sound.legal c.self.invariant.stands) ∙ c.if-not-is_due.true in
-    inl (subst (λ (v : MountView). is_due (blank v.shape) (logs_in v) ≡ false) c.self.view_is at)
+    let at : is_due (image_of c.self.inside.shape (drive_before c.self.inside.drives)) (log_of w) ≡ false =
+    sym (c.is_due.ensures (image_of c.self.inside.shape (drive_before c.self.inside.drives)) w c.self.invariant.sound.legal c.self.invariant.stands) ∙ c.if-not-is_due.true in
+    inl (subst (λ (v : MountView). is_due v.image (logs_in v) ≡ false) c.self.view_is at)
 
 pub returns-then-not-pump-clause-same : goal.returns-then-not-pump-clause-same
 returns-then-not-pump-clause-same g c = same_then c.args.self.now c.loop.self c.pump.new.self c.loop.invariant c.pump.ensures.same
@@ -27,7 +27,7 @@ returns-then-not-pump-clause-same g c = same_then c.args.self.now c.loop.self c.
 pub returns-then-not-pump-clause-resting : goal.returns-then-not-pump-clause-resting
 returns-then-not-pump-clause-resting g c =
     let rest = c.pump.ensures.rest c.if-not-pump.true in
-    inr (subst (λ (v : MountView). HasNothingLeftAt (blank v.shape) (logs_in v) 0 (length (engine_log v))) (sym rest.0) (rest.1.nothing_left 0 (omega arith)))
+    inr (subst (λ (v : MountView). HasNothingLeftAt v.image (logs_in v) 0 (length (engine_log v))) (sym rest.0) (rest.1.nothing_left 0 (omega arith)))
 
 pub loop-preserved : goal.loop-preserved
 loop-preserved g c = same_then c.args.self.now c.loop.self c.pump.new.self c.loop.invariant c.pump.ensures.same

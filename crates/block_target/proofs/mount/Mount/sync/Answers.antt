@@ -1,6 +1,6 @@
 use Rattle.std.proofs.Common.{ap, ◌∙◌, ◌≡◌}
-use Rattle.pblk_model.specs.Image.{blank}
-use Rattle.block_target.specs.Deeds.{world_of}
+use Rattle.scan_recovery.specs.Units.{image_of}
+use Rattle.block_target.specs.Deeds.{world_of, drive_before}
 use Rattle.block_target.specs.Mount.{synced_in}
 use Rattle.block_target.proofs.SameMounts.{same_mount, same_worked, stuck_asked}
 use Rattle.block_target.proofs.mount.Mount.sync.Goals as goal
@@ -19,7 +19,7 @@ pub returns-then-not-pump-clause-stuck : goal.returns-then-not-pump-clause-stuck
 returns-then-not-pump-clause-stuck g c =
     let w = world_of c.self.inside.shape c.self.inside.deeds in
     let at : c.synced-synced.result.position ≡ synced_in c.loop.self =
-    ap (λ f. f.position) (c.synced-synced.ensures (blank c.self.inside.shape) w c.self.invariant.sound.legal c.self.invariant.stands) ∙ ap synced_in c.self.view_is in
+    ap (λ f. f.position) (c.synced-synced.ensures (image_of c.self.inside.shape (drive_before c.self.inside.drives)) w c.self.invariant.sound.legal c.self.invariant.stands) ∙ ap synced_in c.self.view_is in
     stuck_asked c.loop.self c.ask_pad.new.self c.pump.new.self c.args.wanted c.synced-synced.result.position c.ask_pad.ensures at c.if-wanted-synced.false (c.pump.ensures.rest c.if-not-pump.true)
 
 pub loop-preserved : goal.loop-preserved

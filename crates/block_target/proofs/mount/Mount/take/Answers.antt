@@ -1,10 +1,11 @@
 use Rattle.std.proofs.Common.{◌≡◌, ◌<◌, ◌^◌, None, refl, sym, subst, ap, ◌∙◌, length, arith}
 use Rattle.std.specs.Prelude.{map}
 use Rattle.pblk_model.specs.Frames.{count_left}
-use Rattle.pblk_model.specs.Image.{blank}
 use Rattle.sector_pool.specs.declared.entry.Class.TheVariants.{User}
 use Rattle.sector_pool.specs.declared.entry.Entry.{Entry as FramedEntry}
 use Rattle.pblk_core.specs.Named.{pad_of}
+use Rattle.scan_recovery.specs.Units.{image_of}
+use Rattle.block_target.specs.Deeds.{drive_before, drive_found}
 use Rattle.block_target.specs.Mount.{MountView, taken_in, world_in, with_entry}
 use Rattle.pblk_core.proofs.StandsFacts.{window_taken_is}
 use Rattle.block_target.proofs.TakenMount.{room_left, frame_left, sector_is_block, mount_with, view_taken, low_position}
@@ -28,15 +29,15 @@ take-requires-2-clause-room g c =
 
 pub invariant_of-self : goal.invariant_of-self
 invariant_of-self g c =
-    let v : MountView = record { shape = c.self.inside.shape; deeds = c.self.inside.deeds; units = map g.U.Unit.model c.self.inside.units.items; wear = map g.U.Unit.wear c.self.inside.units.items; granted = c.self.inside.granted; pad = pad_of c.self.inside.core } in
+    let v : MountView = record { image = image_of c.self.inside.shape (drive_before c.self.inside.drives); found = image_of c.self.inside.shape (drive_found c.self.inside.drives); deeds = c.self.inside.deeds; units = map g.U.Unit.model c.self.inside.units.items; wear = map g.U.Unit.wear c.self.inside.units.items; granted = c.self.inside.granted; pad = pad_of c.self.inside.core } in
     let e : FramedEntry = record { position = c.front.result.position; class = User; lba = c.args.lba; source = None; frame = c.fill.new.self } in
     let room : taken_in v < v.granted = subst (λ (v : MountView). taken_in v < v.granted) (sym c.self.view_is) c.requires.room in
-    let inside : c.args.lba < v.shape.capacity = subst (λ (v : MountView). c.args.lba < v.shape.capacity) (sym c.self.view_is) c.requires.lba in
-    let size : length c.args.sector.now ≡ v.shape.sector = subst (λ (v : MountView). length c.args.sector.now ≡ v.shape.sector) (sym c.self.view_is) c.requires.size in
+    let inside : c.args.lba < v.image.shape.capacity = subst (λ (v : MountView). c.args.lba < v.image.shape.capacity) (sym c.self.view_is) c.requires.lba in
+    let size : length c.args.sector.now ≡ v.image.shape.sector = subst (λ (v : MountView). length c.args.sector.now ≡ v.image.shape.sector) (sym c.self.view_is) c.requires.size in
     let low : c.front.result.position < 2 ^ 62 = low_position v c.self.inside.core c.self.inside.pool c.self.inside.stripe c.front.result.position c.self.invariant room c.front.ensures.position in
     mount_with v c.self.inside.core c.take-2.new.self c.self.inside.pool c.take.new.self c.self.inside.stripe e c.add.new.self c.self.invariant (record {
       stands = c.take-2.ensures.stands;
-      legal = c.take-2.ensures.legal (blank v.shape) (world_in v) c.self.invariant.sound.legal c.self.invariant.stands
+      legal = c.take-2.ensures.legal v.image (world_in v) c.self.invariant.sound.legal c.self.invariant.stands
           (sector_is_block v c.self.inside.core c.self.inside.pool c.self.inside.stripe e c.self.invariant inside low c.args.sector.now c.fill.ensures.bytes size (λ k. omega (arith, c.type_inv.sector k)));
       user = refl;
       pushed = c.take-2.ensures.pushed;
@@ -47,7 +48,7 @@ invariant_of-self g c =
 
 pub returns : goal.returns
 returns g c =
-    let v : MountView = record { shape = c.self.inside.shape; deeds = c.self.inside.deeds; units = map g.U.Unit.model c.self.inside.units.items; wear = map g.U.Unit.wear c.self.inside.units.items; granted = c.self.inside.granted; pad = pad_of c.self.inside.core } in
+    let v : MountView = record { image = image_of c.self.inside.shape (drive_before c.self.inside.drives); found = image_of c.self.inside.shape (drive_found c.self.inside.drives); deeds = c.self.inside.deeds; units = map g.U.Unit.model c.self.inside.units.items; wear = map g.U.Unit.wear c.self.inside.units.items; granted = c.self.inside.granted; pad = pad_of c.self.inside.core } in
     view_taken v c.front.result.position c.args.lba (pad_of c.take-2.new.self) c.fill.new.self.bytes c.args.sector.now c.add.new.self c.add.ensures
-    (c.front.ensures.position ∙ window_taken_is (blank v.shape) (world_in v) c.self.inside.core c.self.invariant.stands) c.fill.ensures.bytes c.take-2.ensures.pad
+    (c.front.ensures.position ∙ window_taken_is v.image (world_in v) c.self.inside.core c.self.invariant.stands) c.fill.ensures.bytes c.take-2.ensures.pad
     ∙ ap (λ (v : MountView). with_entry v c.args.lba c.args.sector.now) c.self.view_is

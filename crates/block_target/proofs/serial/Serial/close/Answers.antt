@@ -1,6 +1,5 @@
 use Rattle.std.proofs.Common.{◌≡◌, List, refl, ap, sym, subst, ◌∙◌}
 use Rattle.std.specs.List.{flat_map}
-use Rattle.pblk_model.specs.Image.{blank}
 use Rattle.block_port.specs.Own.{lines_of}
 use Rattle.block_port.specs.declared.rows.WornAnswer.{WornAnswer}
 use Rattle.block_target.specs.NothingLeft.{AreRefusals}
@@ -32,8 +31,8 @@ returns-clause-closed g c =
               (all_taken c.self.inside.mount c.settle.new.self c.front-wanted.result.position c.is_sound.ensures c.is_sound-2.ensures c.settle.ensures.same wanted),
         )
       ],
-      subst (λ (ws : List WornAnswer). AreRefusals (blank c.settle.new.self.shape) (logs_in c.settle.new.self) ws) (ap (λ s. s.worns) c.self.view_is)
-          (refusals_grown c.self.inside.mount c.settle.new.self c.settle.ensures.same.more c.self.inside.worns c.is_sound.ensures c.settle.ensures.same.shape c.settle.ensures.same.deeds c.self.invariant.worns),
+      subst (λ (ws : List WornAnswer). AreRefusals c.settle.new.self.image (logs_in c.settle.new.self) ws) (ap (λ s. s.worns) c.self.view_is)
+          (refusals_grown c.self.inside.mount c.settle.new.self c.settle.ensures.same.more c.self.inside.worns c.is_sound.ensures c.settle.ensures.same.image c.settle.ensures.same.deeds c.self.invariant.worns),
       taken_same c.self.inside.mount c.settle.new.self c.is_sound.ensures c.is_sound-2.ensures c.settle.ensures.same ∙ ap taken_in mount,
       c.ends_synced.ensures,
     )

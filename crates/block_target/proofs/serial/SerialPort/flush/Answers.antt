@@ -1,6 +1,5 @@
 use Rattle.std.proofs.Common.{length, refl, ap, sym, subst}
 use Rattle.block_port.specs.Port.{Learns}
-use Rattle.pblk_model.specs.Image.{blank}
 use Rattle.block_target.specs.NothingLeft.{IsFlushRefusal}
 use Rattle.block_target.specs.Mount.{logs_in, engine_log}
 use Rattle.block_target.specs.Serial.{SerialView, device}
@@ -24,7 +23,7 @@ add_worn-requires g c =
 pub returns-in-Err-clause-cause : goal.returns-in-Err-clause-cause
 returns-in-Err-clause-cause g c =
     let all = all_taken c.self.inside.mount c.sync-synced.new.self c.front-wanted.result.position c.is_sound.ensures c.is_sound-2.ensures c.sync-synced.ensures.same (ap (λ f. f.position) c.front-wanted.ensures) in
-    subst (λ (s : SerialView). IsFlushRefusal (blank s.mount.shape) (logs_in s.mount) (length (engine_log s.mount)) c.front-wanted.result.position c.in-Err.have) (sym c.add_worn.ensures)
+    subst (λ (s : SerialView). IsFlushRefusal s.mount.image (logs_in s.mount) (length (engine_log s.mount)) c.front-wanted.result.position c.in-Err.have) (sym c.add_worn.ensures)
     (flush_refused c.sync-synced.new.self c.front-wanted.result.position c.in-Err.have c.in-Err.ensures.stuck.2 c.in-Err.ensures.stuck.0 c.in-Err.ensures.stuck.1 all)
 
 pub returns-in-Ok-clause-front : goal.returns-in-Ok-clause-front

@@ -2,7 +2,6 @@ use Rattle.std.proofs.Common.{[], ◌∷◌, ◌++◌, ◌≡◌, ◌+◌, ◌/�
 use Rattle.pblk_model.specs.declared.run.Front.{Front}
 use Rattle.pblk_model.specs.declared.run.Place.{Place}
 use Rattle.pblk_model.specs.declared.shape.Shape.{Shape}
-use Rattle.pblk_model.specs.Image.{blank}
 use Rattle.block_port.specs.Own.{sectors_of}
 use Rattle.block_port.specs.Port.{AreSectors}
 use Rattle.block_target.specs.NothingLeft.{IsWriteRefusal}
@@ -15,7 +14,7 @@ use Rattle.block_target.proofs.serial.SerialPort.write.Goals as goal
 
 pub overflow_add-wanted : goal.overflow_add-wanted
 overflow_add-wanted g c =
-    let sectors : AreSectors c.self.inside.mount.shape.sector (length c.args.bytes.now) = subst (λ (s : SerialView). AreSectors s.mount.shape.sector (length c.args.bytes.now)) (sym c.self.view_is) c.requires.sectors in
+    let sectors : AreSectors c.self.inside.mount.image.shape.sector (length c.args.bytes.now) = subst (λ (s : SerialView). AreSectors s.mount.image.shape.sector (length c.args.bytes.now)) (sym c.self.view_is) c.requires.sectors in
     let low : c.front-first.result.position + c.from.result < 2 ^ 63 =
     end_low c.self.inside.mount c.shape.result.now c.front-first.result.position c.from.result (length c.args.bytes.now) c.is_sound.ensures (ap (λ (f : Front). f.position) c.front-first.ensures) c.shape.ensures c.from.ensures sectors in
     omega arith
@@ -30,10 +29,10 @@ invariant_of-self g c = same_serial _ _ c.is_sound.ensures c.self.invariant c.cl
 
 pub add_worn-requires : goal.add_worn-requires
 add_worn-requires g c =
-    let sectors : AreSectors c.self.inside.mount.shape.sector (length c.args.bytes.now) = subst (λ (s : SerialView). AreSectors s.mount.shape.sector (length c.args.bytes.now)) (sym c.self.view_is) c.requires.sectors in
+    let sectors : AreSectors c.self.inside.mount.image.shape.sector (length c.args.bytes.now) = subst (λ (s : SerialView). AreSectors s.mount.image.shape.sector (length c.args.bytes.now)) (sym c.self.view_is) c.requires.sectors in
     let first : c.front-first.result.position ≡ taken_in c.self.inside.mount = ap (λ (f : Front). f.position) c.front-first.ensures in (
       length (engine_log c.claim-claimed.new.self),
-      refusal_of_write (blank c.claim-claimed.new.self.shape) (logs_in c.claim-claimed.new.self) (length (engine_log c.claim-claimed.new.self)) (length c.args.bytes.now / c.shape.result.now.sector)
+      refusal_of_write c.claim-claimed.new.self.image (logs_in c.claim-claimed.new.self) (length (engine_log c.claim-claimed.new.self)) (length c.args.bytes.now / c.shape.result.now.sector)
           (c.front-first.result.position + c.from.result) c.in-Err.have (some_sectors c.self.inside.mount c.shape.result.now (length c.args.bytes.now) c.is_sound.ensures c.shape.ensures sectors)
           (write_cause c.self.inside.mount c.claim-claimed.new.self c.front-first.result.position c.from.result (length c.args.bytes.now / c.shape.result.now.sector) c.in-Err.have
           c.is_sound.ensures c.is_sound-2.ensures c.claim-claimed.ensures.same first c.from.ensures c.in-Err.ensures.stuck.0 c.in-Err.ensures.stuck.1),
@@ -42,11 +41,11 @@ add_worn-requires g c =
 pub returns-in-Err-clause-cause : goal.returns-in-Err-clause-cause
 returns-in-Err-clause-cause g c =
     let first : c.front-first.result.position ≡ taken_in c.self.inside.mount = ap (λ (f : Front). f.position) c.front-first.ensures in
-    let count : c.from.result ≡ length c.args.bytes.now / c.args.self.now.mount.shape.sector =
-    c.from.ensures ∙ ap (λ (s : Shape). length c.args.bytes.now / s.sector) (c.shape.ensures ∙ ap (λ (s : SerialView). s.mount.shape) c.self.view_is) in
-    subst (λ (s : SerialView). IsWriteRefusal (blank s.mount.shape) (logs_in s.mount) (length (engine_log s.mount)) (length c.args.bytes.now / c.args.self.now.mount.shape.sector) (c.front-first.result.position + c.from.result) c.in-Err.have)
+    let count : c.from.result ≡ length c.args.bytes.now / c.args.self.now.mount.image.shape.sector =
+    c.from.ensures ∙ ap (λ (s : Shape). length c.args.bytes.now / s.sector) (c.shape.ensures ∙ ap (λ (s : SerialView). s.mount.image.shape) c.self.view_is) in
+    subst (λ (s : SerialView). IsWriteRefusal s.mount.image (logs_in s.mount) (length (engine_log s.mount)) (length c.args.bytes.now / c.args.self.now.mount.image.shape.sector) (c.front-first.result.position + c.from.result) c.in-Err.have)
     (sym c.add_worn.ensures)
-    (write_cause c.self.inside.mount c.claim-claimed.new.self c.front-first.result.position c.from.result (length c.args.bytes.now / c.args.self.now.mount.shape.sector) c.in-Err.have
+    (write_cause c.self.inside.mount c.claim-claimed.new.self c.front-first.result.position c.from.result (length c.args.bytes.now / c.args.self.now.mount.image.shape.sector) c.in-Err.have
     c.is_sound.ensures c.is_sound-2.ensures c.claim-claimed.ensures.same first count c.in-Err.ensures.stuck.0 c.in-Err.ensures.stuck.1)
 
 pub returns-in-Err-clause-learns : goal.returns-in-Err-clause-learns
@@ -64,7 +63,7 @@ pub invariant_of-self-2 : goal.invariant_of-self-2
 invariant_of-self-2 g c =
     let was : SerialView = record { mount = c.self.inside.mount; seen = c.self.inside.seen; own = c.self.inside.own; worns = c.self.inside.worns } in
     let new : SerialView = record { mount = c.take_all.new.mount; seen = c.front-first.result.position + c.from.result; own = c.add.new.self; worns = c.self.inside.worns } in
-    let sectors : AreSectors c.self.inside.mount.shape.sector (length c.args.bytes.now) = subst (λ (s : SerialView). AreSectors s.mount.shape.sector (length c.args.bytes.now)) (sym c.self.view_is) c.requires.sectors in
+    let sectors : AreSectors c.self.inside.mount.image.shape.sector (length c.args.bytes.now) = subst (λ (s : SerialView). AreSectors s.mount.image.shape.sector (length c.args.bytes.now)) (sym c.self.view_is) c.requires.sectors in
     let first : c.front-first.result.position ≡ taken_in c.self.inside.mount = ap (λ (f : Front). f.position) c.front-first.ensures in
     let place : Place = record { first = c.front-first.result.position; count = length c.args.bytes.now / c.shape.result.now.sector } in
     record {

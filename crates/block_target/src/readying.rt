@@ -1,0 +1,95 @@
+//! A drive is made ready for a mount: chunks that were left Open are padded, and then it is scanned.
+
+ghost use Rattle.std.specs.Prelude.{◌≡◌, ℕ, [], map, IfOk, IfErr, OnErr};
+ghost use Rattle.pblk_model.specs.Accepted.{IsAccepted};
+ghost use Rattle.scan_recovery.specs.Units.{AreFit};
+ghost use Rattle.opening_steps.specs.Opened.{AreUnarmed};
+ghost use Rattle.opening_steps.specs.Finding.{AreHandedBack};
+ghost use Rattle.block_target.specs.Opened.{IsReady};
+
+use crate::deeds::{Begins, Deed, DriveRow, Readies, Stand};
+use crate::opening::OpenErr;
+use opening_steps::make_ready;
+use pblk_model::{Found, Shape};
+use scan_recovery::ScanErr;
+use std::alloc::{AllocError, Global};
+use unit_port::{Log, Unit};
+
+/// A drive that is ready: what was found of it, its units as they were before and as they were found,
+/// and what was done since.
+#[derive(Drop)]
+pub(crate) struct Ready {
+    pub(crate) drives: Log<DriveRow>,
+    pub(crate) found: Found,
+    pub(crate) deeds: Log<Deed>,
+}
+
+// The lists of a mount of which nothing was done.
+#[derive(Drop)]
+struct Rows {
+    drives: Log<DriveRow>,
+    deeds: Log<Deed>,
+}
+
+fn make_rows(alloc: Global) -> Result<Rows, AllocError>
+    ensures { IfOk result (λ rows. (rows.drives ≡ []) × (rows.deeds ≡ [])) }
+{
+    Ok(Rows {
+        drives: Log::new(alloc)?,
+        deeds: Log::new(alloc)?,
+    })
+}
+
+/// Makes a drive ready whose units are armed with nothing, and lets a mount begin with what is found of it. After an
+/// error the drive holds what it held.
+pub(crate) fn ready_drive<U: Unit>(
+    alloc: Global,
+    units: &mut [U],
+    shape: &Shape,
+) -> Result<Ready, ScanErr>
+    requires accepted { IsAccepted shape.now }
+    requires fit { AreFit shape.now (map U.model units.old) }
+    requires unarmed { AreUnarmed (map U.model units.old) }
+    ensures ready { IfOk result (IsReady shape.now (map U.model units.old) (map U.model units.new)) }
+    ensures handed_back { OnErr result (AreHandedBack shape.now (map U.model units.old) (map U.model units.new)) }
+    ensures quiet { IfErr result (λ e. e ≡ ScanErr.Memory) }
+    ensures wear { map U.wear units.new ≡ map U.wear units.old }
+{
+    let Ok(
+        Rows {
+            mut drives,
+            mut deeds,
+        },
+    ) = make_rows(alloc)
+    else {
+        return Err(ScanErr::Memory);
+    };
+    drives.add(&Stand { units: &*units });
+    match make_ready(alloc, units, shape) {
+        Ok(found) => {
+            deeds.add(&Readies {
+                drives: &drives,
+                units: &*units,
+            });
+            drives.add(&Stand { units: &*units });
+            deeds.add(&Begins { found: &found });
+            Ok(Ready {
+                drives,
+                found,
+                deeds,
+            })
+        }
+        Err(e) => Err(e),
+    }
+}
+
+/// Why a target isn't opened on a drive that couldn't be made ready.
+pub(crate) fn cause_of(e: ScanErr) -> OpenErr
+    ensures drive { (unit event : ℕ) → e ≡ ScanErr.Drive unit event → result ≡ OpenErr.Drive unit event }
+    ensures memory { e ≡ ScanErr.Memory → result ≡ OpenErr.Memory }
+{
+    match e {
+        ScanErr::Drive { unit, event } => OpenErr::Drive { unit, event },
+        ScanErr::Memory => OpenErr::Memory,
+    }
+}
