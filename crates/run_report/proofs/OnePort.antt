@@ -25,7 +25,7 @@ use Rattle.run_threads.specs.declared.records.Trouble.{Trouble}
 use Rattle.run_threads.specs.declared.records.Trouble.TheVariants.{Drive, Worn}
 use Rattle.run_threads.specs.Run.{IsEvent, Runs, Says, faults_in, faults_of}
 use Rattle.run_report.specs.declared.rows.Row.{Row}
-use Rattle.run_report.specs.OnePort.{IsRunOfOnePort, IsTrouble, event_of}
+use Rattle.run_report.specs.OnePort.{AreKept, IsRunOfOnePort, IsTrouble, event_of}
 use Rattle.run_report.specs.Report.{closing_of, outcome_of, transcript_of}
 use Rattle.run_report.specs.Rows as rows
 use Rattle.run_report.specs.Rows.{in_order, positions_of, rows_from, thread_rows, write_of}
@@ -172,7 +172,7 @@ allowed_by told old (Await name) a new m is h front kept hears = absurd h
 
 -- one thread
 module _ (told : List ℕ → ℕ) (cs : List Command) (given : List Answer) (old new : ModelPort) (h : Runs told old cs given new) (closing : Option Trouble) (end : ℕ)
-    (unwritten : old.own ≡ []) (last : ModelPort) (learned : Learns new last) (alone : last.known ≡ flat_map own_writes.lines_of new.own) (flushed : new.flushed ≤ end) where
+    (unwritten : old.own ≡ []) (last : ModelPort) (learned : Learns new last) (alone : last.known ≡ flat_map own_writes.lines_of new.own) where
   abbrev thread : List Row
   thread = thread_rows 0 cs given
 
@@ -239,8 +239,8 @@ module _ (told : List ℕ → ℕ) (cs : List Command) (given : List Answer) (ol
       rw add-one (users_more (places cs given) _ _ (omega (arith, was, low, is)))
   hears c later is name low (suc j) d e = absurd (none-some (Post name) e)
 
-  allowed_first : (c : ℕ) (x : Command × Outcome) → slice_get (zip cs (map outcome_of given)) c ≡ Some x → Allowed (moment 0 c) x.0 x.1
-  allowed_first c x e =
+  allowed_first : new.flushed ≤ end → (c : ℕ) (x : Command × Outcome) → slice_get (zip cs (map outcome_of given)) c ≡ Some x → Allowed (moment 0 c) x.0 x.1
+  allowed_first flushed c x e =
       let at = is_at told cs given old new h c x e in
       let m = is_moment c x e in
       let stays = λ (low : at.later.seen ≤ at.later.flushed). users_more (places cs given) at.later.seen end (omega (arith, low, at.learns.flushed, flushed)) in
@@ -250,9 +250,9 @@ module _ (told : List ℕ → ℕ) (cs : List Command) (given : List Answer) (ol
       (λ low. rw (add-one, ← at.now) (stays low))
       (hears c at.later at.now))
 
-  allowed_each : (i c : ℕ) (x : Command × Outcome) → slice_get (answered (cs ∷ []) t i) c ≡ Some x → Allowed (moment i c) x.0 x.1
-  allowed_each zero c x e = allowed_first c x e
-  allowed_each (suc i) c x e = absurd (none-some x e)
+  allowed_each : new.flushed ≤ end → (i c : ℕ) (x : Command × Outcome) → slice_get (answered (cs ∷ []) t i) c ≡ Some x → Allowed (moment i c) x.0 x.1
+  allowed_each flushed zero c x e = allowed_first flushed c x e
+  allowed_each flushed (suc i) c x e = absurd (none-some x e)
 
   each_own : (i : ℕ) → filter (λ w. w.thread == i) (map write_of thread) ≡ placed_by (cs ∷ []) t i
   each_own zero = filter_first thread (run_threads told cs given old new h) ∙ run_placed told cs given old new h
@@ -264,9 +264,9 @@ module _ (told : List ℕ → ℕ) (cs : List Command) (given : List Answer) (ol
   pub events_are : events t ≡ thread_events ++ closing_event (closing_of closing)
   events_are = ap (λ xs. xs ++ closing_event (closing_of closing)) (append-nil (flat_map outcome_event (map outcome_of given)) ∙ answer_events given)
 
-  pub thread_run : IsTrouble closing → (closing ≡ None → AllByRecursion (λ line. line.position < end) last.known) → IsDistinct (thread_events ++ closing_event (closing_of closing))
+  pub thread_run : new.flushed ≤ end → IsTrouble closing → (closing ≡ None → AllByRecursion (λ line. line.position < end) last.known) → IsDistinct (thread_events ++ closing_event (closing_of closing))
       → IsRun old.sector (cs ∷ []) old.start t (after old.start (sector_writes old.sector (take t.kept t.history)))
-  thread_run trouble kept distinct = record {
+  thread_run flushed trouble kept distinct = record {
     ran = ap (λ (n : ℕ). n ∷ []) (length-map given outcome_of ∙ as_many told cs given old new h);
     order = map write_of thread;
     history = lines_are thread;
@@ -274,7 +274,7 @@ module _ (told : List ℕ → ℕ) (cs : List Command) (given : List Answer) (ol
     seen = λ i c. seen c;
     rising = λ i c. rw add-one (users_more (places cs given) _ _ (seen_rises told cs given old new h c));
     within = λ i c. seen_within c;
-    allowed = allowed_each;
+    allowed = allowed_each flushed;
     numbers = subst (AllByRecursion IsNumber) (sym events_are) (all_append IsNumber thread_events (closing_event (closing_of closing)) (answer_numbers told cs given old new h) (closing_number closing trouble));
     distinct = subst IsDistinct (sym events_are) distinct;
     closed = closed_as t closing trouble (λ none. sym (known_at end) ∙ users_all (positions last.known) end (positions_below end last.known (kept none)) ∙ ap length (known_positions told cs given old new h unwritten last.known alone) ∙ as_long);
@@ -287,40 +287,40 @@ module _ (told : List ℕ → ℕ) (cs : List Command) (given : List Answer) (ol
 abbrev IsRunLeaving : ℕ → List (List Command) → List (List ℕ) → Transcript → Type 0
 IsRunLeaving size script start told_as = IsRun size script start told_as (after start (sector_writes size (take told_as.kept told_as.history)))
 
-told_is : (commands : List Command) (records : Records) (old new : ModelPort) (end : ℕ) (h : IsRunOfOnePort commands records old new end)
+told_is : (commands : List Command) (records : Records) (old new : ModelPort) (end : ℕ) (h : IsRunOfOnePort commands records old new)
     → transcript_of (commands ∷ []) records end ≡ told_by (thread_rows 0 commands h.answers) h.answers records.closing end
 told_is commands records old new end h =
     let thread = thread_rows 0 commands h.answers in
     let ordered : in_order (thread ++ []) ≡ thread = ap in_order (append-nil thread) ∙ in_order_already old.seen thread (run_climbs h.told commands h.answers old new h.ran) in
     rw (h.threads, h.opened) (ap (λ rows. told_by rows h.answers records.closing end) ordered)
 
-faults_are : (commands : List Command) (records : Records) (old new : ModelPort) (end : ℕ) (h : IsRunOfOnePort commands records old new end) → new.faults ≡ faults_in h.answers
+faults_are : (commands : List Command) (records : Records) (old new : ModelPort) (end : ℕ) (h : IsRunOfOnePort commands records old new) → new.faults ≡ faults_in h.answers
 faults_are commands records old new end h = run_faults h.told commands h.answers old new h.ran ∙ ap (λ xs. xs ++ faults_in h.answers) h.faultless
 
-pub one_port : (commands : List Command) (records : Records) (old new : ModelPort) (end : ℕ) → IsRunOfOnePort commands records old new end
+pub one_port : (commands : List Command) (records : Records) (old new : ModelPort) (end : ℕ) (h : IsRunOfOnePort commands records old new) → AreKept records new h.last.known end
     → IsRunLeaving old.sector (commands ∷ []) old.start (transcript_of (commands ∷ []) records end)
-one_port commands records old new end h =
+one_port commands records old new end h kept =
     let distinct = subst (λ (xs : List DriveAnswer). IsDistinct (map event_of xs ++ closing_event (closing_of records.closing))) (faults_are commands records old new end h) h.distinct in
     subst (IsRunLeaving old.sector (commands ∷ []) old.start) (sym (told_is commands records old new end h))
-    (thread_run h.told commands h.answers old new h.ran records.closing end h.unwritten h.last h.learned h.alone h.flushed h.trouble h.kept distinct)
+    (thread_run h.told commands h.answers old new h.ran records.closing end h.unwritten h.last h.learned h.alone kept.flushed h.trouble kept.all distinct)
 
-pub one_history : (commands : List Command) (records : Records) (old new : ModelPort) (end : ℕ) (h : IsRunOfOnePort commands records old new end)
+pub one_history : (commands : List Command) (records : Records) (old new : ModelPort) (end : ℕ) (h : IsRunOfOnePort commands records old new)
     → sector_writes old.sector (transcript_of (commands ∷ []) records end).history ≡ map (λ x. x.write) h.last.known
 one_history commands records old new end h =
     ap (λ (t : Transcript). sector_writes old.sector t.history) (told_is commands records old new end h)
     ∙ sym (known_writes h.told commands h.answers old new h.ran h.unwritten h.last.known h.alone)
 
-pub one_kept : (commands : List Command) (records : Records) (old new : ModelPort) (end : ℕ) (h : IsRunOfOnePort commands records old new end)
+pub one_kept : (commands : List Command) (records : Records) (old new : ModelPort) (end : ℕ) (h : IsRunOfOnePort commands records old new)
     → (transcript_of (commands ∷ []) records end).kept ≡ users (positions h.last.known) end
 one_kept commands records old new end h =
     ap (λ (t : Transcript). t.kept) (told_is commands records old new end h)
     ∙ ap (λ ps. users ps end) (sym (known_positions h.told commands h.answers old new h.ran h.unwritten h.last.known h.alone))
 
-pub one_events : (commands : List Command) (records : Records) (old new : ModelPort) (end : ℕ) → IsRunOfOnePort commands records old new end
+pub one_events : (commands : List Command) (records : Records) (old new : ModelPort) (end : ℕ) → IsRunOfOnePort commands records old new
     → events (transcript_of (commands ∷ []) records end) ≡ map event_of new.faults ++ closing_event (closing_of records.closing)
 one_events commands records old new end h =
     ap events (told_is commands records old new end h)
-    ∙ events_are h.told commands h.answers old new h.ran records.closing end h.unwritten h.last h.learned h.alone h.flushed
+    ∙ events_are h.told commands h.answers old new h.ran records.closing end h.unwritten h.last h.learned h.alone
     ∙ ap (λ (xs : List DriveAnswer). map event_of xs ++ closing_event (closing_of records.closing)) (sym (faults_are commands records old new end h))
 
 -- no thread

@@ -4,7 +4,7 @@ use Rattle.std.specs.List.{AllByRecursion, flat_map}
 use Rattle.pblk_model.specs.declared.script.Command.{Command}
 use Rattle.pblk_model.specs.Transcript.{IsDistinct, IsWorn, closing_event}
 use Rattle.block_port.specs.declared.rows.DriveAnswer.{DriveAnswer}
-use Rattle.block_port.specs.Own.{lines_of}
+use Rattle.block_port.specs.Own.{PlacedSector, lines_of}
 use Rattle.block_port.specs.Port.{Learns, ModelPort}
 use Rattle.run_threads.specs.declared.records.Answer.{Answer}
 use Rattle.run_threads.specs.declared.records.Records.{Records}
@@ -24,8 +24,8 @@ abbrev pub event_of : DriveAnswer → ℕ × ℕ
 event_of answer = (answer.unit, answer.event)
 
 -- The records are of a run of these commands through a port, from one moment of it to the other, and of the
--- close of its target, after which all positions below `end` are kept.
-pub record IsRunOfOnePort (commands : List Command) (records : Records) (old new : ModelPort) (end : ℕ) : Type 0 where
+-- close of its target.
+pub record IsRunOfOnePort (commands : List Command) (records : Records) (old new : ModelPort) : Type 0 where
   -- the device was opened, and the commands were answered one after another
   pub opened : records.opening ≡ None
   pub answers : List Answer
@@ -39,9 +39,11 @@ pub record IsRunOfOnePort (commands : List Command) (records : Records) (old new
   pub last : ModelPort
   pub learned : Learns new last
   pub alone : last.known ≡ flat_map lines_of new.own
-  -- all that was flushed is kept, and where closing met no trouble all that was written
-  pub flushed : new.flushed ≤ end
-  pub kept : records.closing ≡ None → AllByRecursion (λ line. line.position < end) last.known
   pub trouble : IsTrouble records.closing
   -- no event was answered twice
   pub distinct : IsDistinct (map event_of new.faults ++ closing_event (closing_of records.closing))
+
+-- After the close all positions below `end` are kept: all that was flushed, and where closing met no trouble all that is known.
+pub record AreKept (records : Records) (port : ModelPort) (known : List PlacedSector) (end : ℕ) : Type 0 where
+  pub flushed : port.flushed ≤ end
+  pub all : records.closing ≡ None → AllByRecursion (λ line. line.position < end) known

@@ -7,7 +7,7 @@ ghost use Rattle.pblk_model.specs.declared.script.Command.{Command};
 ghost use Rattle.pblk_model.specs.History.{after, users};
 ghost use Rattle.pblk_model.specs.Script.{ScriptFits};
 ghost use Rattle.pblk_model.specs.Transcript.{IsRun, closing_event, events, sector_writes};
-ghost use Rattle.run_report.specs.OnePort.{IsRunOfOnePort, IsTrouble, event_of};
+ghost use Rattle.run_report.specs.OnePort.{AreKept, IsRunOfOnePort, IsTrouble, event_of};
 ghost use Rattle.run_report.specs.Recorded.{IsRecorded};
 ghost use Rattle.run_report.specs.Report.{closing_of, transcript_of};
 ghost use Rattle.run_threads.specs.declared.records.Records.{Records};
@@ -27,28 +27,29 @@ pub fn a_run_is_recorded()
         → IsRecorded script records }
 {}
 
-/// Where a script of one thread is run through one port, the transcript of its records is one of a
-/// run of the script from the port's contents at the beginning, and leaves them after the lines of
-/// its history that are kept. Its history is all that the port knew at last, of which as many lines
-/// are kept as stand at positions below `end`; and it names the events that the port answered, and
-/// then that of the close.
+/// Where a script of one thread is run through one port, the history of the transcript of its
+/// records is all that the port knew at last, of which as many lines are kept as stand at positions
+/// below `end`; and it names the events that the port answered, and then that of the close. Where
+/// all positions below `end` are kept, the transcript is one of a run of the script from the port's
+/// contents at the beginning, and leaves them after the lines that are kept.
 pub fn a_run_through_one_port()
     ensures run { (commands : List Command) (records : Records) (old new : ModelPort) (end : ℕ)
-        → IsRunOfOnePort commands records old new end
+        → (ran : IsRunOfOnePort commands records old new)
+        → AreKept records new ran.last.known end
         → let script = commands ∷ [] in
         let t = transcript_of script records end in
         let kept = sector_writes old.sector (take t.kept t.history) in
         IsRun old.sector script old.start t (after old.start kept) }
     ensures history { (commands : List Command) (records : Records) (old new : ModelPort) (end : ℕ)
-        → (ran : IsRunOfOnePort commands records old new end)
+        → (ran : IsRunOfOnePort commands records old new)
         → let t = transcript_of (commands ∷ []) records end in
         sector_writes old.sector t.history ≡ map (λ line. line.write) ran.last.known }
     ensures kept { (commands : List Command) (records : Records) (old new : ModelPort) (end : ℕ)
-        → (ran : IsRunOfOnePort commands records old new end)
+        → (ran : IsRunOfOnePort commands records old new)
         → let t = transcript_of (commands ∷ []) records end in
         t.kept ≡ users (positions ran.last.known) end }
     ensures events { (commands : List Command) (records : Records) (old new : ModelPort) (end : ℕ)
-        → IsRunOfOnePort commands records old new end
+        → IsRunOfOnePort commands records old new
         → let t = transcript_of (commands ∷ []) records end in
         events t ≡ map event_of new.faults ++ closing_event (closing_of records.closing) }
 {}
