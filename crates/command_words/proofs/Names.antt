@@ -4,17 +4,32 @@ use Rattle.std.specs.List.{AllByRecursion}
 use Rattle.pblk_model.specs.CommandText as text
 use Rattle.command_words.specs.Grammar as model
 use Rattle.command_words.specs.Grammar.{Name, IsPlainWord, IsCommandLine, first_word}
-use Rattle.command_words.specs.Words.{AreWordsOf}
+use Rattle.command_words.specs.Words.{AreWordsOf, IsOneName}
 use Rattle.command_words.proofs.Items.{plain_items}
 
-pub one_name : (words : List (List ℕ)) (image : List ℕ) → AreWordsOf words (model.Geometry image) → (words ≡ image ∷ []) × IsPlainWord image
-one_name words image h =
-    let plain = plain_items h.items words h.spelled h.of.1 in
-    let are : words ≡ image ∷ [] = plain.0 ∙ h.of.0 in
+one_name : (words : List (List ℕ)) (image : List ℕ) (items : List model.Item) → model.AreItems items words → model.names_in items ≡ image ∷ [] → model.options_in items ≡ [] → IsOneName words image
+one_name words image items spelled names options =
+    let plain = plain_items items words spelled options in
+    let are : words ≡ image ∷ [] = plain.0 ∙ names in
     (are, (subst (λ ws. AllByRecursion IsPlainWord ws) are plain.1).0)
 
-pub is_one_name : (words : List (List ℕ)) (image : List ℕ) → words ≡ image ∷ [] → IsPlainWord image → AreWordsOf words (model.Geometry image)
-is_one_name words image e plain = record { items = Name image ∷ []; spelled = ([], plain, e, refl); of = (refl, refl) }
+pub name_of_geometry : (words : List (List ℕ)) (image : List ℕ) → AreWordsOf words (model.Geometry image) → IsOneName words image
+name_of_geometry words image h = one_name words image h.items h.spelled h.of.0 h.of.1
+
+pub name_of_show : (words : List (List ℕ)) (image : List ℕ) → AreWordsOf words (model.Show image) → IsOneName words image
+name_of_show words image h = one_name words image h.items h.spelled h.of.0 h.of.1
+
+pub name_of_report : (words : List (List ℕ)) (image : List ℕ) → AreWordsOf words (model.Report image) → IsOneName words image
+name_of_report words image h = one_name words image h.items h.spelled h.of.0 h.of.1
+
+pub words_of_geometry : (words : List (List ℕ)) (image : List ℕ) → IsOneName words image → AreWordsOf words (model.Geometry image)
+words_of_geometry words image (e, plain) = record { items = Name image ∷ []; spelled = ([], plain, e, refl); of = (refl, refl) }
+
+pub words_of_show : (words : List (List ℕ)) (image : List ℕ) → IsOneName words image → AreWordsOf words (model.Show image)
+words_of_show words image (e, plain) = record { items = Name image ∷ []; spelled = ([], plain, e, refl); of = (refl, refl) }
+
+pub words_of_report : (words : List (List ℕ)) (image : List ℕ) → IsOneName words image → AreWordsOf words (model.Report image)
+words_of_report words image (e, plain) = record { items = Name image ∷ []; spelled = ([], plain, e, refl); of = (refl, refl) }
 
 pub two_names : (words : List (List ℕ)) (image script : List ℕ) → AreWordsOf words (model.Run image script) → (words ≡ image ∷ script ∷ []) × IsPlainWord image × IsPlainWord script
 two_names words image script h =
@@ -58,20 +73,50 @@ command_of words rest c e h = record { items = h.items; rest = rest; words_are =
 
 -- A command is known by its first word.
 
+abbrev first_byte : List ℕ → ℕ
+first_byte [] = 0
+first_byte (byte ∷ bytes) = byte
+
+-- two words of one length
+not_both : (first : List ℕ) → first ≡ codes "create" → first ≡ codes "report" → ⊥
+not_both first a b = let same : 99 ≡ 114 = ap first_byte (sym a ∙ b) in omega (arith, same)
+
 pub as_create : (words rest : List (List ℕ)) (first : List ℕ) (P : model.CommandLine → Type 0) → words ≡ first ∷ rest → first ≡ codes "create"
     → ((image : List ℕ) (numbers : text.CreateNumbers) → AreWordsOf rest (model.Create image numbers) → P (model.Create image numbers)) → (c : model.CommandLine) → IsCommandLine words c → P c
 as_create words rest first P e is k (model.Create image numbers) h = k image numbers (words_of words rest first _ e h).1
 as_create words rest first P e is k (model.Geometry image) h = absurd (cc (is, (words_of words rest first _ e h).0))
+as_create words rest first P e is k (model.Show image) h = absurd (cc (is, (words_of words rest first _ e h).0))
+as_create words rest first P e is k (model.Report image) h = absurd (not_both first is (words_of words rest first _ e h).0)
 as_create words rest first P e is k (model.Run image script) h = absurd (cc (is, (words_of words rest first _ e h).0))
 
 pub as_geometry : (words rest : List (List ℕ)) (first : List ℕ) (P : model.CommandLine → Type 0) → words ≡ first ∷ rest → first ≡ codes "geometry"
     → ((image : List ℕ) → AreWordsOf rest (model.Geometry image) → P (model.Geometry image)) → (c : model.CommandLine) → IsCommandLine words c → P c
 as_geometry words rest first P e is k (model.Create image numbers) h = absurd (cc (is, (words_of words rest first _ e h).0))
 as_geometry words rest first P e is k (model.Geometry image) h = k image (words_of words rest first _ e h).1
+as_geometry words rest first P e is k (model.Show image) h = absurd (cc (is, (words_of words rest first _ e h).0))
+as_geometry words rest first P e is k (model.Report image) h = absurd (cc (is, (words_of words rest first _ e h).0))
 as_geometry words rest first P e is k (model.Run image script) h = absurd (cc (is, (words_of words rest first _ e h).0))
+
+pub as_show : (words rest : List (List ℕ)) (first : List ℕ) (P : model.CommandLine → Type 0) → words ≡ first ∷ rest → first ≡ codes "show"
+    → ((image : List ℕ) → AreWordsOf rest (model.Show image) → P (model.Show image)) → (c : model.CommandLine) → IsCommandLine words c → P c
+as_show words rest first P e is k (model.Create image numbers) h = absurd (cc (is, (words_of words rest first _ e h).0))
+as_show words rest first P e is k (model.Geometry image) h = absurd (cc (is, (words_of words rest first _ e h).0))
+as_show words rest first P e is k (model.Show image) h = k image (words_of words rest first _ e h).1
+as_show words rest first P e is k (model.Report image) h = absurd (cc (is, (words_of words rest first _ e h).0))
+as_show words rest first P e is k (model.Run image script) h = absurd (cc (is, (words_of words rest first _ e h).0))
+
+pub as_report : (words rest : List (List ℕ)) (first : List ℕ) (P : model.CommandLine → Type 0) → words ≡ first ∷ rest → first ≡ codes "report"
+    → ((image : List ℕ) → AreWordsOf rest (model.Report image) → P (model.Report image)) → (c : model.CommandLine) → IsCommandLine words c → P c
+as_report words rest first P e is k (model.Create image numbers) h = absurd (not_both first (words_of words rest first _ e h).0 is)
+as_report words rest first P e is k (model.Geometry image) h = absurd (cc (is, (words_of words rest first _ e h).0))
+as_report words rest first P e is k (model.Show image) h = absurd (cc (is, (words_of words rest first _ e h).0))
+as_report words rest first P e is k (model.Report image) h = k image (words_of words rest first _ e h).1
+as_report words rest first P e is k (model.Run image script) h = absurd (cc (is, (words_of words rest first _ e h).0))
 
 pub as_run : (words rest : List (List ℕ)) (first : List ℕ) (P : model.CommandLine → Type 0) → words ≡ first ∷ rest → first ≡ codes "run"
     → ((image script : List ℕ) → AreWordsOf rest (model.Run image script) → P (model.Run image script)) → (c : model.CommandLine) → IsCommandLine words c → P c
 as_run words rest first P e is k (model.Create image numbers) h = absurd (cc (is, (words_of words rest first _ e h).0))
 as_run words rest first P e is k (model.Geometry image) h = absurd (cc (is, (words_of words rest first _ e h).0))
+as_run words rest first P e is k (model.Show image) h = absurd (cc (is, (words_of words rest first _ e h).0))
+as_run words rest first P e is k (model.Report image) h = absurd (cc (is, (words_of words rest first _ e h).0))
 as_run words rest first P e is k (model.Run image script) h = k image script (words_of words rest first _ e h).1

@@ -94,6 +94,10 @@ pub data CommandLine : Type 0 where
   Create : List ℕ → CreateNumbers → CommandLine
   -- print the numbers of an image
   Geometry : List ℕ → CommandLine
+  -- print what an image holds
+  Show : List ℕ → CommandLine
+  -- print the numbers of what an image holds
+  Report : List ℕ → CommandLine
   -- run on an image a script
   Run : List ℕ → List ℕ → CommandLine
 
@@ -102,11 +106,15 @@ abbrev pub AreItemsOf : List Item → CommandLine → Type 0
 AreItemsOf items (Create image numbers) = (names_in items ≡ image ∷ []) × AllByRecursion (IsOneOf create_options) (options_in items)
     × AreDistinct (options_in items) × AreNumbers create_options (numbers_of numbers) items
 AreItemsOf items (Geometry image) = (names_in items ≡ image ∷ []) × (options_in items ≡ [])
+AreItemsOf items (Show image) = (names_in items ≡ image ∷ []) × (options_in items ≡ [])
+AreItemsOf items (Report image) = (names_in items ≡ image ∷ []) × (options_in items ≡ [])
 AreItemsOf items (Run image script) = (names_in items ≡ image ∷ script ∷ []) × (options_in items ≡ [])
 
 abbrev pub first_word : CommandLine → List ℕ
 first_word (Create image numbers) = codes "create"
 first_word (Geometry image) = codes "geometry"
+first_word (Show image) = codes "show"
+first_word (Report image) = codes "report"
 first_word (Run image script) = codes "run"
 
 -- the words are this command

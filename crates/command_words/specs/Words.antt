@@ -34,6 +34,8 @@ numbers_seen n = record {
 abbrev pub seen : CommandLine → model.CommandLine
 seen (lines.Create image numbers) = model.Create image.now (numbers_seen numbers)
 seen (lines.Geometry image) = model.Geometry image.now
+seen (lines.Show image) = model.Show image.now
+seen (lines.Report image) = model.Report image.now
 seen (lines.Run image script) = model.Run image.now script.now
 
 -- these words after the first one are this command's
@@ -41,6 +43,10 @@ pub record AreWordsOf (words : List (List ℕ)) (c : model.CommandLine) : Type 0
   pub items : List model.Item
   pub spelled : AreItems items words
   pub of : AreItemsOf items c
+
+-- the words are this name alone
+abbrev pub IsOneName : List (List ℕ) → List ℕ → Type 0
+IsOneName words name = (words ≡ name ∷ []) × IsPlainWord name
 
 -- Numbers.
 

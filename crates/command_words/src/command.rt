@@ -37,6 +37,14 @@ pub enum CommandLine<'a> {
     Geometry {
         image: &'a str,
     },
+    /// Prints what an image holds.
+    Show {
+        image: &'a str,
+    },
+    /// Prints the numbers of what an image holds.
+    Report {
+        image: &'a str,
+    },
     /// Runs a script on an image.
     Run {
         image: &'a str,

@@ -4,13 +4,14 @@ ghost use Rattle.std.specs.Prelude.{◌≡◌, List, ℕ, Some, map, IfSome, IfN
 ghost use Rattle.std.specs.Option.{option_map};
 ghost use Rattle.command_words.specs.Grammar as model;
 ghost use Rattle.command_words.specs.Grammar.{IsCommandLine};
-ghost use Rattle.command_words.specs.Words.{AreWordsOf, seen};
+ghost use Rattle.command_words.specs.Words.{AreWordsOf, IsOneName, seen};
 
 use crate::command::CommandLine;
 use crate::create::read_create;
 use crate::item::is_plain;
 
-/// Reads the words of a command line: `create IMAGE`, `geometry IMAGE` or `run IMAGE SCRIPT`.
+/// Reads the words of a command line: `create IMAGE`, `geometry IMAGE`, `show IMAGE`, `report IMAGE` or
+/// `run IMAGE SCRIPT`.
 ///
 /// Options of `create` stand anywhere after its first word, as `--name value` or `--name=value`, each at most
 /// once: `--groups` and `--units` (in a group) are below 2^16; `--chunks`, `--blocks`, `--ws-min`, `--ws-opt`,
@@ -39,6 +40,14 @@ pub fn read_words(words: &[String]) -> Option<CommandLine<'_>>
             let image = read_name(rest)?;
             Some(CommandLine::Geometry { image })
         }
+        "show" => {
+            let image = read_name(rest)?;
+            Some(CommandLine::Show { image })
+        }
+        "report" => {
+            let image = read_name(rest)?;
+            Some(CommandLine::Report { image })
+        }
         "run" => {
             let (image, script) = read_names(rest)?;
             Some(CommandLine::Run { image, script })
@@ -47,10 +56,10 @@ pub fn read_words(words: &[String]) -> Option<CommandLine<'_>>
     }
 }
 
-// The words after `geometry`.
+// The words after the first one of a command that names an image alone.
 fn read_name(words: &[String]) -> Option<&str>
-    ensures found { IfSome result (λ r. AreWordsOf (map string_bytes words.now) (model.Geometry r.now)) }
-    ensures only { (image : List ℕ) → AreWordsOf (map string_bytes words.now) (model.Geometry image)
+    ensures found { IfSome result (λ r. IsOneName (map string_bytes words.now) r.now) }
+    ensures only { (image : List ℕ) → IsOneName (map string_bytes words.now) image
         → IsSomeAnd result (λ r. r.now ≡ image) }
 {
     let [image] = words else {

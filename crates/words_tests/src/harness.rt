@@ -13,6 +13,8 @@ pub fn told(alloc: Global, line: &str) -> Result<String, AllocError> {
     match read_words(&words) {
         Some(CommandLine::Create { image, numbers }) => created(alloc, image, numbers),
         Some(CommandLine::Geometry { image }) => format!(in alloc; "geometry [{image}]"),
+        Some(CommandLine::Show { image }) => format!(in alloc; "show [{image}]"),
+        Some(CommandLine::Report { image }) => format!(in alloc; "report [{image}]"),
         Some(CommandLine::Run { image, script }) => format!(in alloc; "run [{image}] [{script}]"),
         None => format!(in alloc; "refused"),
     }

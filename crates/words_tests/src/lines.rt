@@ -5,9 +5,11 @@ use command_words::{CreateNumbers, read_words};
 use std::test::Fail;
 
 // Words, and what they say.
-const ACCEPTED: [(&str, &str); 21] = [
+const ACCEPTED: [(&str, &str); 23] = [
     ("create|a", "create [a] 1 2 8 24 2 4 8 512 64 64"),
     ("geometry|a", "geometry [a]"),
+    ("show|a", "show [a]"),
+    ("report|a", "report [a]"),
     ("run|a|b", "run [a] [b]"),
     ("create|a|--groups|3", "create [a] 3 2 8 24 2 4 8 512 64 64"),
     ("create|--groups|3|a", "create [a] 3 2 8 24 2 4 8 512 64 64"),
@@ -65,7 +67,7 @@ fn commands_are_read(rt: HostRuntime) -> Result<(), Fail> {
 }
 
 // Words that are no command.
-const REFUSED: [&str; 50] = [
+const REFUSED: [&str; 55] = [
     "",
     "Create|a",
     "creat|a",
@@ -112,6 +114,11 @@ const REFUSED: [&str; 50] = [
     "geometry|a|b",
     "geometry|--groups|1|a",
     "geometry|-a",
+    "show",
+    "show|a|b",
+    "show|--help",
+    "report|",
+    "report|a|--lanes|0",
     "run|a",
     "run|a|b|c",
     "run|a|",

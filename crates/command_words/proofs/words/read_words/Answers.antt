@@ -3,7 +3,7 @@ use Rattle.command_words.specs.Grammar as model
 use Rattle.command_words.specs.Grammar.{IsCommandLine}
 use Rattle.command_words.specs.Words.{numbers_seen}
 use Rattle.command_words.proofs.ItemWords.{first_word_of}
-use Rattle.command_words.proofs.Names.{as_create, as_geometry, as_run}
+use Rattle.command_words.proofs.Names.{as_create, as_geometry, as_show, as_report, as_run, command_of, name_of_geometry, name_of_show, name_of_report, words_of_geometry, words_of_show, words_of_report}
 use Rattle.command_words.proofs.words.read_words.Goals as goal
 
 pub returns-in_err-image-in-create-clause-none : goal.returns-in_err-image-in-create-clause-none
@@ -19,12 +19,32 @@ returns-in_err-image-in-create-clause-only c = λ line h.
 pub returns-in_err-image-in-geometry-clause-none : goal.returns-in_err-image-in-geometry-clause-none
 returns-in_err-image-in-geometry-clause-none c =
     let first = first_word_of c.args.words.now c.first-item.result c.as_str.result.now c.in-len1-up.len_at_least c.first-item.is c.as_str.ensures.value in
-    rw c.from_residual-in_err-image-in-geometry.ensures (as_geometry (map string_bytes c.args.words.now) _ c.as_str.result.now (λ x. ⊥) first c.in-geometry.is (λ image h. c.in_err-image-in-geometry.ensures.only image h))
+    rw c.from_residual-in_err-image-in-geometry.ensures (as_geometry (map string_bytes c.args.words.now) _ c.as_str.result.now (λ x. ⊥) first c.in-geometry.is (λ image h. c.in_err-image-in-geometry.ensures.only image (name_of_geometry _ image h)))
+
+pub returns-in_err-image-in-show-clause-none : goal.returns-in_err-image-in-show-clause-none
+returns-in_err-image-in-show-clause-none c =
+    let first = first_word_of c.args.words.now c.first-item.result c.as_str.result.now c.in-len1-up.len_at_least c.first-item.is c.as_str.ensures.value in
+    rw c.from_residual-in_err-image-in-show.ensures (as_show (map string_bytes c.args.words.now) _ c.as_str.result.now (λ x. ⊥) first c.in-show.is (λ image h. c.in_err-image-in-show.ensures.only image (name_of_show _ image h)))
+
+pub returns-in_err-image-in-report-clause-none : goal.returns-in_err-image-in-report-clause-none
+returns-in_err-image-in-report-clause-none c =
+    let first = first_word_of c.args.words.now c.first-item.result c.as_str.result.now c.in-len1-up.len_at_least c.first-item.is c.as_str.ensures.value in
+    rw c.from_residual-in_err-image-in-report.ensures (as_report (map string_bytes c.args.words.now) _ c.as_str.result.now (λ x. ⊥) first c.in-report.is (λ image h. c.in_err-image-in-report.ensures.only image (name_of_report _ image h)))
 
 pub returns-in_err-image-in-geometry-clause-only : goal.returns-in_err-image-in-geometry-clause-only
 returns-in_err-image-in-geometry-clause-only c = λ line h.
     let first = first_word_of c.args.words.now c.first-item.result c.as_str.result.now c.in-len1-up.len_at_least c.first-item.is c.as_str.ensures.value in
-    absurd (as_geometry (map string_bytes c.args.words.now) _ c.as_str.result.now (λ x. ⊥) first c.in-geometry.is (λ image h. c.in_err-image-in-geometry.ensures.only image h) line h)
+    absurd (as_geometry (map string_bytes c.args.words.now) _ c.as_str.result.now (λ x. ⊥) first c.in-geometry.is (λ image h. c.in_err-image-in-geometry.ensures.only image (name_of_geometry _ image h)) line h)
+
+pub returns-in_err-image-in-show-clause-only : goal.returns-in_err-image-in-show-clause-only
+returns-in_err-image-in-show-clause-only c = λ line h.
+    let first = first_word_of c.args.words.now c.first-item.result c.as_str.result.now c.in-len1-up.len_at_least c.first-item.is c.as_str.ensures.value in
+    absurd (as_show (map string_bytes c.args.words.now) _ c.as_str.result.now (λ x. ⊥) first c.in-show.is (λ image h. c.in_err-image-in-show.ensures.only image (name_of_show _ image h)) line h)
+
+pub returns-in_err-image-in-report-clause-only : goal.returns-in_err-image-in-report-clause-only
+returns-in_err-image-in-report-clause-only c = λ line h.
+    let first = first_word_of c.args.words.now c.first-item.result c.as_str.result.now c.in-len1-up.len_at_least c.first-item.is c.as_str.ensures.value in
+    absurd (as_report (map string_bytes c.args.words.now) _ c.as_str.result.now (λ x. ⊥) first c.in-report.is (λ image h. c.in_err-image-in-report.ensures.only image (name_of_report _ image h)) line h)
 
 pub returns-in_err-image-in-run-clause-none : goal.returns-in_err-image-in-run-clause-none
 returns-in_err-image-in-run-clause-none c =
@@ -46,10 +66,37 @@ pub returns-in_ok-image-in-geometry-clause-only : goal.returns-in_ok-image-in-ge
 returns-in_ok-image-in-geometry-clause-only c =
     let first = first_word_of c.args.words.now c.first-item.result c.as_str.result.now c.in-len1-up.len_at_least c.first-item.is c.as_str.ensures.value in
     as_geometry (map string_bytes c.args.words.now) _ c.as_str.result.now (λ line. Some (model.Geometry c.in_ok-image-in-geometry.image.now) ≡ Some line) first c.in-geometry.is
-    (λ image h. ap (λ x. Some (model.Geometry x)) (c.in_ok-image-in-geometry.ensures.only image h))
+    (λ image h. ap (λ x. Some (model.Geometry x)) (c.in_ok-image-in-geometry.ensures.only image (name_of_geometry _ image h)))
+
+pub returns-in_ok-image-in-show-clause-only : goal.returns-in_ok-image-in-show-clause-only
+returns-in_ok-image-in-show-clause-only c =
+    let first = first_word_of c.args.words.now c.first-item.result c.as_str.result.now c.in-len1-up.len_at_least c.first-item.is c.as_str.ensures.value in
+    as_show (map string_bytes c.args.words.now) _ c.as_str.result.now (λ line. Some (model.Show c.in_ok-image-in-show.image.now) ≡ Some line) first c.in-show.is
+    (λ image h. ap (λ x. Some (model.Show x)) (c.in_ok-image-in-show.ensures.only image (name_of_show _ image h)))
+
+pub returns-in_ok-image-in-report-clause-only : goal.returns-in_ok-image-in-report-clause-only
+returns-in_ok-image-in-report-clause-only c =
+    let first = first_word_of c.args.words.now c.first-item.result c.as_str.result.now c.in-len1-up.len_at_least c.first-item.is c.as_str.ensures.value in
+    as_report (map string_bytes c.args.words.now) _ c.as_str.result.now (λ line. Some (model.Report c.in_ok-image-in-report.image.now) ≡ Some line) first c.in-report.is
+    (λ image h. ap (λ x. Some (model.Report x)) (c.in_ok-image-in-report.ensures.only image (name_of_report _ image h)))
 
 pub returns-in_ok-image-in-run-clause-only : goal.returns-in_ok-image-in-run-clause-only
 returns-in_ok-image-in-run-clause-only c =
     let first = first_word_of c.args.words.now c.first-item.result c.as_str.result.now c.in-len1-up.len_at_least c.first-item.is c.as_str.ensures.value in
     as_run (map string_bytes c.args.words.now) _ c.as_str.result.now (λ line. Some (model.Run c.in_ok-image-in-run.image.now c.in_ok-image-in-run.script.now) ≡ Some line) first c.in-run.is
     (λ image script h. let same = c.in_ok-image-in-run.ensures.only image script h in ap (λ x. Some (model.Run x c.in_ok-image-in-run.script.now)) same.0 ∙ ap (λ x. Some (model.Run image x)) same.1)
+
+pub returns-in_ok-image-in-geometry-clause-found : goal.returns-in_ok-image-in-geometry-clause-found
+returns-in_ok-image-in-geometry-clause-found c =
+    let first = first_word_of c.args.words.now c.first-item.result c.as_str.result.now c.in-len1-up.len_at_least c.first-item.is c.as_str.ensures.value in
+    command_of (map string_bytes c.args.words.now) _ (model.Geometry c.in_ok-image-in-geometry.image.now) (rw c.in-geometry.is at first) (words_of_geometry _ c.in_ok-image-in-geometry.image.now c.in_ok-image-in-geometry.ensures.found)
+
+pub returns-in_ok-image-in-show-clause-found : goal.returns-in_ok-image-in-show-clause-found
+returns-in_ok-image-in-show-clause-found c =
+    let first = first_word_of c.args.words.now c.first-item.result c.as_str.result.now c.in-len1-up.len_at_least c.first-item.is c.as_str.ensures.value in
+    command_of (map string_bytes c.args.words.now) _ (model.Show c.in_ok-image-in-show.image.now) (rw c.in-show.is at first) (words_of_show _ c.in_ok-image-in-show.image.now c.in_ok-image-in-show.ensures.found)
+
+pub returns-in_ok-image-in-report-clause-found : goal.returns-in_ok-image-in-report-clause-found
+returns-in_ok-image-in-report-clause-found c =
+    let first = first_word_of c.args.words.now c.first-item.result c.as_str.result.now c.in-len1-up.len_at_least c.first-item.is c.as_str.ensures.value in
+    command_of (map string_bytes c.args.words.now) _ (model.Report c.in_ok-image-in-report.image.now) (rw c.in-report.is at first) (words_of_report _ c.in_ok-image-in-report.image.now c.in_ok-image-in-report.ensures.found)
