@@ -4,11 +4,11 @@ pub mod Reading
 pub mod RunInput
 pub mod RunComes
 pub mod StoredUnits
-pub mod FreeChunks
-pub mod FreeDrives
+pub mod HandedDrives
 pub mod Sessions
 pub mod Histories
 pub mod WornCauses
 pub mod Servings
 pub mod LeftDrives
 pub mod WornLines
+pub mod Contents

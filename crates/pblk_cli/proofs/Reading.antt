@@ -2,13 +2,12 @@
 use Rattle.std.proofs.Common.{◌≡◌, List, ℕ, Result, Ok, Err}
 use Rattle.std.specs.Result.{IfErr, IfOk}
 use Rattle.pblk_outside.specs.Files.{FilesView}
-use Rattle.pblk_model.specs.CommandText.{geometry_text}
 use Rattle.pblk_model.specs.ImageFile.{Drive, IsImage}
 use Rattle.pblk_cli.specs.declared.output.Output.{Output}
 use Rattle.pblk_cli.specs.declared.refusal.Refusal.{Refusal}
 use Rattle.pblk_cli.specs.declared.refusal.Refusal.TheVariants as refusals
 use Rattle.pblk_cli.specs.Telling.{Holds, IsThere}
-use Rattle.pblk_cli.specs.Commands.{GeometryComesTo}
+use Rattle.pblk_cli.specs.Commands.{TellsComeTo}
 use Rattle.pblk_cli.specs.Endings.{ending_of, reason_of}
 use Rattle.pblk_cli.specs.Reading.{ReadsFile, RefusesBytes}
 
@@ -16,14 +15,13 @@ use Rattle.pblk_cli.specs.Reading.{ReadsFile, RefusesBytes}
 pub is_there : (name bytes : List ℕ) (files : FilesView) → Holds name bytes files → IsThere name files
 is_there name bytes files h = λ told. (bytes, h told)
 
-pub geometry_comes : (image bytes : List ℕ) (old new : FilesView) → ReadsFile image bytes old new → (r : Result Output Refusal)
-    → IfOk r (λ output. (output.status ≡ 0) × (d : Drive) × IsImage bytes d × (output.text.items ≡ geometry_text d)) → IfErr r (λ q. RefusesBytes bytes (reason_of q))
-    → GeometryComesTo image (ending_of r) old new
-geometry_comes image bytes old new read (Ok output) (done, d, is, said) refused = (done, d, record { bytes = bytes; read = read.0; is = is }, read.1, said)
-geometry_comes image bytes old new read (Err (refusals.Image e)) text refused = (bytes, read.0, refused, read.1)
-geometry_comes image bytes old new read (Err refusals.ImageUnbuilt) text refused = refused
-geometry_comes image bytes old new read (Err (refusals.Script e)) text refused = refused
-geometry_comes image bytes old new read (Err refusals.ScriptUnbuilt) text refused = refused
-geometry_comes image bytes old new read (Err (refusals.Failed name)) text refused = absurd refused
-geometry_comes image bytes old new read (Err (refusals.Missing name)) text refused = absurd refused
-geometry_comes image bytes old new read (Err refusals.Memory) text refused = (is_there image bytes old read.0, read.1)
+pub tells_come : (says : Drive → List ℕ) (image bytes : List ℕ) (old new : FilesView) → ReadsFile image bytes old new → (r : Result Output Refusal)
+    → IfOk r (λ output. (output.status ≡ 0) × (d : Drive) × IsImage bytes d × (output.text.items ≡ says d)) → IfErr r (λ q. RefusesBytes bytes (reason_of q))
+    → TellsComeTo says image (ending_of r) old new
+tells_come says image bytes old new read (Ok output) (done, d, is, said) refused = (done, d, record { bytes = bytes; read = read.0; is = is }, read.1, said)
+tells_come says image bytes old new read (Err (refusals.Image e)) text refused = (bytes, read.0, refused, read.1)
+tells_come says image bytes old new read (Err (refusals.Script e)) text refused = refused
+tells_come says image bytes old new read (Err refusals.ScriptUnbuilt) text refused = refused
+tells_come says image bytes old new read (Err (refusals.Failed name)) text refused = absurd refused
+tells_come says image bytes old new read (Err (refusals.Missing name)) text refused = absurd refused
+tells_come says image bytes old new read (Err refusals.Memory) text refused = (is_there image bytes old read.0, read.1)

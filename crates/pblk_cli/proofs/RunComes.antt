@@ -16,10 +16,8 @@ use Rattle.pblk_cli.proofs.Reading.{is_there}
 pub refused_comes : (image script found commands : List ℕ) (old new : FilesView) → ReadsFile image found old new → ReadsFile script commands old new
     → (q : Refusal) → RefusesInput found commands (reason_of q) → RunComesTo image script (Refuses (reason_of q)) old new
 refused_comes image script found commands old new a b (refusals.Image e) h = (found, a.0, is_there script commands old b.0, h, a.1)
-refused_comes image script found commands old new a b refusals.ImageUnbuilt (d, is, free, said, are) =
-    (d, record { bytes = found; read = a.0; is = is }, free, commands, b.0, said, are, a.1)
 refused_comes image script found commands old new a b (refusals.Script e) (d, is, h) = (d, record { bytes = found; read = a.0; is = is }, commands, b.0, h, a.1)
-refused_comes image script found commands old new a b refusals.ScriptUnbuilt (d, is, free, said, are, taken) = (d, record { bytes = found; read = a.0; is = is }, free, commands, b.0, said, are, taken, a.1)
+refused_comes image script found commands old new a b refusals.ScriptUnbuilt (d, is, said, are, many) = (d, record { bytes = found; read = a.0; is = is }, commands, b.0, said, are, many, a.1)
 refused_comes image script found commands old new a b (refusals.Failed name) h = absurd h
 refused_comes image script found commands old new a b (refusals.Missing name) h = absurd h
 refused_comes image script found commands old new a b refusals.Memory h = (is_there image found old a.0, a.1)
@@ -29,7 +27,6 @@ abbrev pub input_of : (image script found commands : List ℕ) (status : ℕ) (t
 input_of image script found commands status text bytes old new a b h = record {
   drive = h.drive;
   drive_is = record { bytes = found; read = a.0; is = h.drive_is };
-  all_free = h.all_free;
   script_bytes = commands;
   script_read = b.0;
   commands = h.commands;

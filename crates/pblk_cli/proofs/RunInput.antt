@@ -18,7 +18,6 @@ use Rattle.pblk_cli.proofs.Refusing.{IsRefusalOf, refuses}
 -- refused bytes of an image are a refused input
 of_bytes : (image script : List ℕ) (q : Refusal) → RefusesBytes image (reason_of q) → RefusesInput image script (reason_of q)
 of_bytes image script (refusals.Image e) h = h
-of_bytes image script refusals.ImageUnbuilt h = absurd h
 of_bytes image script (refusals.Script e) h = absurd h
 of_bytes image script refusals.ScriptUnbuilt h = absurd h
 of_bytes image script (refusals.Failed name) h = absurd h

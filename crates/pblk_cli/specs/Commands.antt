@@ -2,25 +2,26 @@
 use Rattle.std.specs.Prelude.{ℕ, ◌≤◌, ◌≡◌, ◌⊎◌, List, [], map, length, Some, None, Err}
 use Rattle.pblk_outside.specs.Files.{FilesView}
 use Rattle.pblk_model.specs.declared.script.Command.{Command}
-use Rattle.command_words.specs.Grammar.{CommandLine, Create, Geometry, Run, IsCommandLine}
+use Rattle.command_words.specs.Grammar.{CommandLine, Create, Geometry, Show, Report, Run, IsCommandLine}
 use Rattle.pblk_model.specs.CommandText.{CreateNumbers, created_refusal, created_drive, created_text, geometry_text, words_line}
 use Rattle.pblk_model.specs.Contents.{contents, end}
-use Rattle.pblk_model.specs.History.{SectorWrite}
+use Rattle.pblk_model.specs.History.{SectorWrite, users}
 use Rattle.pblk_model.specs.ImageFile.{Drive, IsImage, image_bytes, image_of, image_refusal}
 use Rattle.pblk_model.specs.ScriptText.{IsScript, read_script}
 use Rattle.pblk_model.specs.Sealed.{IsSealed}
-use Rattle.pblk_model.specs.Text.{Closed}
-use Rattle.pblk_model.specs.Transcript.{TranscriptRelation, events, sector_writes}
+use Rattle.pblk_model.specs.Text.{Transcript, text_of}
+use Rattle.pblk_model.specs.Transcript.{IsRun, events, sector_writes}
 use Rattle.pblk_world.specs.World.{World, log_of, media}
-use Rattle.pblk_world.specs.Fronts.{history}
-use Rattle.core_laws.specs.PlainWorlds.{IsBlankWorld}
+use Rattle.pblk_world.specs.EngineLog.{Begun, begun}
+use Rattle.pblk_world.specs.Fronts.{history, user_positions}
+use Rattle.core_laws.specs.PlainWorlds.{IsPlainWorld}
 use Rattle.block_port.specs.declared.rows.WornAnswer.{WornAnswer}
 use Rattle.block_target.specs.NothingLeft.{AreRefusals}
 use Rattle.command_text.specs.Says.{Says}
-use Rattle.pblk_cli.specs.Free.{AreFree}
+use Rattle.pblk_cli.specs.Contents.{numbers_text, show_text}
 use Rattle.pblk_cli.specs.Status.{status_of_run}
 use Rattle.pblk_cli.specs.Worn.{worns_of}
-use Rattle.pblk_cli.specs.Telling.{Call, Image, ImageUnbuilt, Script, ScriptUnbuilt, Failed, Missing, Memory, Ending, Gives, Refuses, Tells, Holds, IsThere, AreUntouched, Stores, FailsReading, IsMissing, FailsWriting}
+use Rattle.pblk_cli.specs.Telling.{Call, Image, Script, ScriptUnbuilt, Failed, Missing, Memory, Ending, Gives, Refuses, Tells, Holds, IsThere, AreUntouched, Stores, FailsReading, IsMissing, FailsWriting}
 
 -- Creating.
 
@@ -33,7 +34,7 @@ CreateComesTo image n (Refuses (Failed name)) old new = (name ≡ image) × (cre
 CreateComesTo image n (Refuses Memory) old new = AreUntouched old new
 CreateComesTo image n ending old new = ⊥
 
--- Geometries.
+-- What is told of images.
 
 -- the file of an image was read, and it is an image of this drive
 pub record IsDriveOf (image : List ℕ) (files : FilesView) (d : Drive) : Type 0 where
@@ -41,13 +42,25 @@ pub record IsDriveOf (image : List ℕ) (files : FilesView) (d : Drive) : Type 0
   pub read : Holds image bytes files
   pub is : IsImage bytes d
 
+-- A command that tells of an image: the file is untouched, and the text is what `says` says of the drive.
+abbrev pub TellsComeTo : (Drive → List ℕ) → List ℕ → Ending → FilesView → FilesView → Type 0
+TellsComeTo says image (Gives status text) old new = (status ≡ 0) × (d : Drive) × IsDriveOf image old d × AreUntouched old new × (text ≡ says d)
+TellsComeTo says image (Refuses (Image e)) old new = (bytes : List ℕ) × Holds image bytes old × (image_refusal bytes ≡ Some e) × AreUntouched old new
+TellsComeTo says image (Refuses (Failed name)) old new = (name ≡ image) × FailsReading image old new
+TellsComeTo says image (Refuses (Missing name)) old new = (name ≡ image) × IsMissing image old new
+TellsComeTo says image (Refuses Memory) old new = IsThere image old × AreUntouched old new
+TellsComeTo says image ending old new = ⊥
+
 abbrev pub GeometryComesTo : List ℕ → Ending → FilesView → FilesView → Type 0
-GeometryComesTo image (Gives status text) old new = (status ≡ 0) × (d : Drive) × IsDriveOf image old d × AreUntouched old new × (text ≡ geometry_text d)
-GeometryComesTo image (Refuses (Image e)) old new = (bytes : List ℕ) × Holds image bytes old × (image_refusal bytes ≡ Some e) × AreUntouched old new
-GeometryComesTo image (Refuses (Failed name)) old new = (name ≡ image) × FailsReading image old new
-GeometryComesTo image (Refuses (Missing name)) old new = (name ≡ image) × IsMissing image old new
-GeometryComesTo image (Refuses Memory) old new = IsThere image old × AreUntouched old new
-GeometryComesTo image ending old new = ⊥
+GeometryComesTo = TellsComeTo geometry_text
+
+-- the sectors that the image holds, and its end
+abbrev pub ShowComesTo : List ℕ → Ending → FilesView → FilesView → Type 0
+ShowComesTo = TellsComeTo show_text
+
+-- the numbers of the drive's chunks, and of what the image holds
+abbrev pub ReportComesTo : List ℕ → Ending → FilesView → FilesView → Type 0
+ReportComesTo = TellsComeTo numbers_text
 
 -- Runs.
 
@@ -55,7 +68,6 @@ GeometryComesTo image ending old new = ⊥
 pub record RunInput (image script : List ℕ) (files : FilesView) : Type 0 where
   pub drive : Drive
   pub drive_is : IsDriveOf image files drive
-  pub all_free : AreFree drive
   pub script_bytes : List ℕ
   pub script_read : Holds script script_bytes files
   pub commands : List (List Command)
@@ -70,29 +82,35 @@ pub record SameNumbers (old new : Drive) : Type 0 where
   pub ring : new.ring ≡ old.ring
   pub wear : map (map (λ k. k.wear)) new.units ≡ map (map (λ k. k.wear)) old.units
 
--- What was done on a drive: a legal world over the image found, whose media are the image left, and whose history is this
--- one. Each of these answers for want of room was given at a length of its engine's log at which nothing was left to do.
+-- What was done on a drive: a legal world over the image found, in which nothing failed and nothing was stopped, copied or
+-- freed. The mount has begun there; the media are the image left, and the history is this one. Each of these answers for
+-- want of room was given at a length of its engine's log at which nothing was left to do.
 pub record IsWorldBetween (found left : Drive) (writes : List SectorWrite) (worns : List WornAnswer) : Type 0 where
   pub world : World
-  pub legal : IsBlankWorld (image_of found) world
+  pub legal : IsPlainWorld (image_of found) world
+  pub beginning : Begun
+  pub has_begun : begun (log_of world 0) ≡ Some beginning
   pub media_are : image_of left ≡ media (image_of found) (log_of world)
   pub history_is : history (log_of world 0) ≡ writes
   pub worn : AreRefusals (image_of found) (log_of world) worns
 
 -- A run of these commands from one drive to another, with this text.
 pub record IsRunBetween (found : Drive) (commands : List (List Command)) (text : List ℕ) (left : Drive) : Type 0 where
-  -- the transcript relation between the script, the contents before, the text and the contents after
-  pub relation : TranscriptRelation found.sector commands (contents (image_of found)) text (contents (image_of left))
+  -- what is printed
+  pub transcript : Transcript
+  pub printed : text ≡ text_of transcript
   -- no line names an event of a unit
-  pub faultless : events relation.0 ≡ []
-  -- where closing answers nothing all of the history is kept
-  pub complete : relation.0.closing ≡ Closed → relation.0.kept ≡ length relation.0.history
+  pub faultless : events transcript ≡ []
   -- the geometry, the settings and the wear indices are as they were
   pub numbers : SameNumbers found left
   -- the printed history is that of a world which leaves this drive, and each `worn` line has its cause there
-  pub world : IsWorldBetween found left (sector_writes found.sector relation.0.history) (worns_of commands relation.0)
-  pub sealed : IsSealed (image_of left)
-  pub end_is : end (image_of left) ≡ relation.0.kept
+  pub world : IsWorldBetween found left (sector_writes found.sector transcript.history) (worns_of commands transcript)
+  -- kept are the lines of the history below the end of the image left
+  pub kept_is : transcript.kept ≡ users (user_positions (log_of world.world 0)) (end (image_of left))
+  -- Where the image found is sealed: the transcript relation between the script, the contents before, the text and the
+  -- contents after holds, by which all of the history is kept where closing answers nothing; and the image left is sealed.
+  pub relation : IsSealed (image_of found) → IsRun found.sector commands (contents (image_of found)) transcript (contents (image_of left))
+  pub sealed : IsSealed (image_of found) → IsSealed (image_of left)
   -- its one spelling is an image of it
   pub spelled : IsImage (image_bytes left) left
 
@@ -101,7 +119,7 @@ pub record RunMade (image script : List ℕ) (status : ℕ) (text : List ℕ) (o
   pub input : RunInput image script old
   pub left : Drive
   pub run : IsRunBetween input.drive input.commands text left
-  pub status_is : status ≡ status_of_run run.relation.0
+  pub status_is : status ≡ status_of_run run.transcript
   pub stored : Stores image (image_bytes left) old new
 
 abbrev pub RunComesTo : List ℕ → List ℕ → Ending → FilesView → FilesView → Type 0
@@ -111,10 +129,8 @@ RunComesTo image script (Refuses (Image e)) old new = (bytes : List ℕ) × Hold
 -- the image is accepted, and the script is refused
 RunComesTo image script (Refuses (Script e)) old new = (d : Drive) × IsDriveOf image old d
     × (bytes : List ℕ) × Holds script bytes old × (read_script d.capacity bytes ≡ Err e) × AreUntouched old new
--- both are accepted, and a chunk of the image isn't Free; or all are, and the script has a second thread
-RunComesTo image script (Refuses ImageUnbuilt) old new = (d : Drive) × IsDriveOf image old d × (¬ AreFree d)
-    × (bytes : List ℕ) × Holds script bytes old × (commands : List (List Command)) × IsScript d.capacity bytes commands × AreUntouched old new
-RunComesTo image script (Refuses ScriptUnbuilt) old new = (d : Drive) × IsDriveOf image old d × AreFree d
+-- both are accepted, and the script has a second thread
+RunComesTo image script (Refuses ScriptUnbuilt) old new = (d : Drive) × IsDriveOf image old d
     × (bytes : List ℕ) × Holds script bytes old × (commands : List (List Command)) × IsScript d.capacity bytes commands × (2 ≤ length commands) × AreUntouched old new
 -- the image, or, where it is there, the script could not be read; or all was made, and the image could not be written
 RunComesTo image script (Refuses (Failed name)) old new = ((name ≡ image) × FailsReading image old new)
@@ -129,6 +145,8 @@ RunComesTo image script (Refuses Memory) old new = IsThere image old × AreUntou
 abbrev pub ComesTo : CommandLine → Ending → FilesView → FilesView → Type 0
 ComesTo (Create image numbers) ending old new = CreateComesTo image numbers ending old new
 ComesTo (Geometry image) ending old new = GeometryComesTo image ending old new
+ComesTo (Show image) ending old new = ShowComesTo image ending old new
+ComesTo (Report image) ending old new = ReportComesTo image ending old new
 ComesTo (Run image script) ending old new = RunComesTo image script ending old new
 
 -- words that are this command: what it comes to is told

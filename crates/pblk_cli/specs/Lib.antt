@@ -1,4 +1,3 @@
-pub mod Free
 pub mod Status
 pub mod Worn
 pub mod Serving
@@ -9,3 +8,4 @@ pub mod Creating
 pub mod Reading
 pub mod Running
 pub mod Program
+pub mod Contents

@@ -5,9 +5,8 @@ use Rattle.pblk_model.specs.declared.script.Command.{Command}
 use Rattle.pblk_model.specs.ImageFile.{Drive, IsImage, image_bytes, image_refusal}
 use Rattle.pblk_model.specs.ScriptText.{IsScript, read_script}
 use Rattle.pblk_cli.specs.Commands.{IsRunBetween}
-use Rattle.pblk_cli.specs.Free.{AreFree}
 use Rattle.pblk_cli.specs.Status.{status_of_run}
-use Rattle.pblk_cli.specs.Telling.{Reason, Image, ImageUnbuilt, Script, ScriptUnbuilt, Failed, Missing, Memory, IsThere, AreUntouched, FailsReading, IsMissing}
+use Rattle.pblk_cli.specs.Telling.{Reason, Image, Script, ScriptUnbuilt, Failed, Missing, Memory, IsThere, AreUntouched, FailsReading, IsMissing}
 
 -- one of both files could not be read, or there was no memory for their bytes
 abbrev pub CannotReadBoth : List ℕ → List ℕ → Reason → FilesView → FilesView → Type 0
@@ -20,14 +19,13 @@ CannotReadBoth image script reason old new = ⊥
 pub record IsRunTo (found : Drive) (commands : List (List Command)) (status : ℕ) (text bytes : List ℕ) : Type 0 where
   pub left : Drive
   pub run : IsRunBetween found commands text left
-  pub status_is : status ≡ status_of_run run.relation.0
+  pub status_is : status ≡ status_of_run run.transcript
   pub bytes_are : bytes ≡ image_bytes left
 
 -- what was read was accepted, and run
 pub record IsRunOfInput (image script : List ℕ) (status : ℕ) (text bytes : List ℕ) : Type 0 where
   pub drive : Drive
   pub drive_is : IsImage image drive
-  pub all_free : AreFree drive
   pub commands : List (List Command)
   pub commands_are : IsScript drive.capacity script commands
   pub one : length commands ≤ 1
@@ -36,8 +34,7 @@ pub record IsRunOfInput (image script : List ℕ) (status : ℕ) (text bytes : L
 -- what was read was refused
 abbrev pub RefusesInput : List ℕ → List ℕ → Reason → Type 0
 RefusesInput image script (Image e) = image_refusal image ≡ Some e
-RefusesInput image script ImageUnbuilt = (d : Drive) × IsImage image d × (¬ AreFree d) × (commands : List (List Command)) × IsScript d.capacity script commands
 RefusesInput image script (Script e) = (d : Drive) × IsImage image d × (read_script d.capacity script ≡ Err e)
-RefusesInput image script ScriptUnbuilt = (d : Drive) × IsImage image d × AreFree d × (commands : List (List Command)) × IsScript d.capacity script commands × (2 ≤ length commands)
+RefusesInput image script ScriptUnbuilt = (d : Drive) × IsImage image d × (commands : List (List Command)) × IsScript d.capacity script commands × (2 ≤ length commands)
 RefusesInput image script Memory = ⊤
 RefusesInput image script reason = ⊥

@@ -4,17 +4,22 @@ use Rattle.std.specs.List.{flat_map}
 use Rattle.pblk_model.specs.declared.shape.Shape.{Shape}
 use Rattle.pblk_model.specs.declared.script.Command.{Command}
 use Rattle.pblk_model.specs.Contents.{contents, end}
-use Rattle.pblk_model.specs.History.{after}
-use Rattle.pblk_model.specs.Image.{Image, blank}
+use Rattle.pblk_model.specs.History.{after, users}
+use Rattle.pblk_model.specs.Image.{Image}
+use Rattle.pblk_model.specs.ImageFile as image_file
+use Rattle.pblk_model.specs.Sealed.{IsSealed}
+use Rattle.pblk_model.specs.Text.{Transcript}
 use Rattle.pblk_model.specs.Transcript.{IsRun, closing_event, events, sector_writes}
 use Rattle.pblk_world.specs.World.{media}
-use Rattle.pblk_world.specs.Fronts.{history}
-use Rattle.ocssd_drive.specs.Drive.{DriveView, IsWhole, shape_of, with_units}
+use Rattle.pblk_world.specs.Fronts.{history, user_positions}
+use Rattle.ocssd_drive.specs.Drive.{DriveView, IsWhole, stored, with_units}
 use Rattle.ocssd_drive.specs.Units.{WornUnit}
+use Rattle.scan_recovery.specs.Units.{image_of}
 use Rattle.block_port.specs.Own.{lines_of}
 use Rattle.block_port.specs.Port.{IsSameTarget, ModelPort}
-use Rattle.block_target.specs.Mount.{MountView, IsSameMount, IsSound, engine_log, logs_in, taken_in}
+use Rattle.block_target.specs.Mount.{MountView, IsSameMount, IsSound, engine_log, logs_in, synced_in, taken_in}
 use Rattle.block_target.specs.NothingLeft.{AreRefusals}
+use Rattle.block_target.specs.Opened.{IsOpened}
 use Rattle.block_target.specs.Serial.{SerialView, device, lines_in}
 use Rattle.run_threads.specs.declared.records.Answer.{Answer}
 use Rattle.run_threads.specs.declared.records.Records.{Records}
@@ -26,13 +31,13 @@ use Rattle.pblk_cli.specs.declared.serve.Served.{Served}
 use Rattle.pblk_cli.specs.Worn.{closing_worn, worns_of}
 use Rattle.pblk_cli.specs.declared.run.Ran.{Ran}
 
--- what the target over a drive stands on when nothing was done
+-- the image on the units of a mount, by what was done
 abbrev pub media_in : MountView → Image
-media_in v = media (blank v.shape) (logs_in v)
+media_in v = media v.image (logs_in v)
 
--- a target on which nothing was done, over these units
-pub record IsOpened (s : Shape) (units : List WornUnit) (target : SerialView) : Type 0 where
-  pub shape : target.mount.shape ≡ s
+-- a target that has begun on these units, and has done nothing else
+pub record IsNewTarget (s : Shape) (units : List WornUnit) (target : SerialView) : Type 0 where
+  pub opened : IsOpened s (map (λ u. u.unit) units) target.mount
   pub wear : target.mount.wear ≡ map (λ u. u.wear) units
   pub unwritten : target.own ≡ []
   pub calm : target.worns ≡ []
@@ -57,41 +62,43 @@ pub record IsClosed (target : SerialView) (records : Records) (served : Served) 
   pub wear : map (λ u. u.wear) served.units.items ≡ mount.wear
   -- the port knew of its own writes alone
   pub alone : lines_in target.mount ≡ flat_map lines_of target.own
-  -- all that is told as synced is on the drive, and, where the close met no trouble, all that was taken
-  pub end_is : end (media_in mount) ≡ served.end
-  pub all : served.records.closing ≡ None → served.end ≡ taken_in mount
+  -- where the close met no trouble all that was taken is on the drive
+  pub all : served.records.closing ≡ None → synced_in mount ≡ taken_in mount
   -- each answer for want of room had its cause
-  pub refusals : AreRefusals (blank mount.shape) (logs_in mount) target.worns
-  pub worn : AreRefusals (blank mount.shape) (logs_in mount) (closing_worn (closing_of served.records.closing))
+  pub refusals : AreRefusals mount.image (logs_in mount) target.worns
+  pub worn : AreRefusals mount.image (logs_in mount) (closing_worn (closing_of served.records.closing))
   pub trouble : IsTrouble served.records.closing
   pub quiet : closing_event (closing_of served.records.closing) ≡ []
   pub threads : served.records.threads ≡ records.threads
   pub opening : served.records.opening ≡ records.opening
 
--- A script was run on a drive of this shape on which nothing was written: what was done is the world of a mount, and the
--- records have the transcript of a run whose history is the world's.
-pub record IsServing (s : Shape) (script : List (List Command)) (records : Records) (front : ℕ) (mount : MountView) : Type 0 where
-  pub shape : mount.shape ≡ s
+-- the transcript of records, by the end of the image that a mount leaves
+abbrev pub transcript_in : List (List Command) → Records → MountView → Transcript
+transcript_in script records v = transcript_of script records (end (media_in v))
+
+-- A script was run on a drive with this image: what was done is the world of a mount, whose history is the transcript's.
+-- Where the image is sealed the transcript is one of a run from what the image held.
+pub record IsServing (i : Image) (script : List (List Command)) (records : Records) (mount : MountView) : Type 0 where
+  pub image : mount.image ≡ i
   pub sound : IsSound mount
   pub recorded : IsRecorded script records
-  pub run : let t = transcript_of script records front in let start = contents (blank s) in
-      IsRun s.sector script start t (after start (sector_writes s.sector (take t.kept t.history)))
-  pub faultless : events (transcript_of script records front) ≡ []
-  pub history_is : history (engine_log mount) ≡ sector_writes s.sector (transcript_of script records front).history
-  pub worn : AreRefusals (blank s) (logs_in mount) (worns_of script (transcript_of script records front))
-  pub kept : (transcript_of script records front).kept ≡ front
-  pub end_is : end (media_in mount) ≡ front
+  pub faultless : events (transcript_in script records mount) ≡ []
+  pub history_is : history (engine_log mount) ≡ sector_writes i.shape.sector (transcript_in script records mount).history
+  pub worn : AreRefusals i (logs_in mount) (worns_of script (transcript_in script records mount))
+  pub kept : (transcript_in script records mount).kept ≡ users (user_positions (engine_log mount)) (end (media_in mount))
+  pub run : IsSealed i → let t = transcript_in script records mount in let start = contents i in
+      IsRun i.shape.sector script start t (after start (sector_writes i.shape.sector (take t.kept t.history)))
 
 pub record IsServed (s : Shape) (script : List (List Command)) (units : List WornUnit) (served : Served) : Type 0 where
   pub mount : MountView
-  pub serving : IsServing s script served.records served.end mount
+  pub serving : IsServing (image_of s (map (λ u. u.unit) units)) script served.records mount
   pub units_are : map (λ u. u.unit) served.units.items ≡ mount.units
   pub wear : map (λ u. u.wear) served.units.items ≡ map (λ u. u.wear) units
 
 -- the same on the units of a drive
 pub record IsRan (found : DriveView) (script : List (List Command)) (ran : Ran) : Type 0 where
   pub mount : MountView
-  pub serving : IsServing (shape_of found) script ran.records ran.end mount
+  pub serving : IsServing (image_file.image_of (stored found)) script ran.records mount
   pub units_are : map (λ u. u.unit) ran.drive.units ≡ mount.units
   pub wear : map (λ u. u.wear) ran.drive.units ≡ map (λ u. u.wear) found.units
   pub numbers : ran.drive ≡ with_units ran.drive.units found

@@ -22,8 +22,6 @@ pub record Call : Type 0 where
 pub data Reason : Type 0 where
   -- the image, or what it is to be made of
   Image : ImageErr → Reason
-  -- an image that `run` doesn't take so far
-  ImageUnbuilt : Reason
   Script : ScriptErr → Reason
   -- a script that `run` doesn't take so far: it has a second thread
   ScriptUnbuilt : Reason
@@ -40,7 +38,6 @@ pub data Ending : Type 0 where
 
 abbrev pub status_of : Reason → ℕ
 status_of (Image e) = 3
-status_of ImageUnbuilt = 3
 status_of (Script e) = 2
 status_of ScriptUnbuilt = 2
 status_of (Failed name) = 4
@@ -49,7 +46,6 @@ status_of Memory = 7
 
 abbrev pub line_of : Reason → List ℕ
 line_of (Image e) = image_line e
-line_of ImageUnbuilt = codes "image Unbuilt" ++ newline
 line_of (Script e) = script_line e
 line_of ScriptUnbuilt = codes "script Unbuilt" ++ newline
 line_of (Failed name) = failed_line name

@@ -1,17 +1,17 @@
-//! The program behind the command `pblk`: it reads its words, makes images (`create`), tells their numbers (`geometry`), and
-//! runs scripts on them (`run`).
+//! The program behind the command `pblk`: it reads its words, makes images (`create`), tells their numbers (`geometry`) and
+//! what they hold (`show` and `report`), and runs scripts on them (`run`).
 //!
-//! So far `run` takes images whose chunks are all Free, and scripts of one thread.
+//! So far `run` takes scripts of one thread.
 #![tactic(auto)]
 
 mod create;
-mod free;
 mod geometry;
 mod main_call;
 mod output;
 mod refusal;
 mod run;
 mod serve;
+mod show;
 mod status;
 
 pub use main_call::{pblk_main, pblk_program};

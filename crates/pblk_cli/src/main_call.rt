@@ -12,6 +12,7 @@ use crate::geometry::geometry;
 use crate::output::Output;
 use crate::refusal::{Refusal, finish};
 use crate::run::run;
+use crate::show::{report_numbers, show};
 use command_text::{tell_memory, tell_words};
 use command_words::{CommandLine, read_words};
 use pblk_outside::{Files, Sink, WordsErr};
@@ -75,6 +76,8 @@ fn do_command<'a, R: Wait, F: Files>(
     match command {
         CommandLine::Create { image, numbers } => create(alloc, image, &numbers, files),
         CommandLine::Geometry { image } => geometry(alloc, image, files),
+        CommandLine::Show { image } => show(alloc, image, files),
+        CommandLine::Report { image } => report_numbers(alloc, image, files),
         CommandLine::Run { image, script } => run(rt, alloc, image, script, files),
     }
 }

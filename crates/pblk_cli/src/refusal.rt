@@ -16,8 +16,6 @@ use std::alloc::{AllocError, AllocFailed};
 pub(crate) enum Refusal<'a> {
     /// The image, or what it is to be made of, is refused.
     Image(ImageErr),
-    /// The image isn't one that `run` takes so far: a chunk isn't Free.
-    ImageUnbuilt,
     /// The script is refused.
     Script(ScriptErr),
     /// The script isn't one that `run` takes so far: it has a second thread.
@@ -53,7 +51,7 @@ impl Refusal<'_> {
     {
         match self {
             Refusal::Script(_) | Refusal::ScriptUnbuilt => 2,
-            Refusal::Image(_) | Refusal::ImageUnbuilt => 3,
+            Refusal::Image(_) => 3,
             Refusal::Failed(_) | Refusal::Missing(_) => 4,
             Refusal::Memory => 7,
         }
@@ -67,7 +65,6 @@ impl Refusal<'_> {
     {
         match self {
             Refusal::Image(e) => tell_image(out, &e),
-            Refusal::ImageUnbuilt => tell(out, &[b"image Unbuilt\n"]),
             Refusal::Script(e) => tell_script(out, &e),
             Refusal::ScriptUnbuilt => tell(out, &[b"script Unbuilt\n"]),
             Refusal::Failed(name) => tell_failed(out, name),

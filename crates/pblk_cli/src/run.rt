@@ -1,17 +1,17 @@
 //! `run`: a script on the drive of an image.
 
 ghost use Rattle.std.specs.Prelude.{◌≡◌, ◌≤◌, IfOk, IfErr, length};
+ghost use Rattle.pblk_model.specs.Contents.{end};
+ghost use Rattle.pblk_model.specs.ImageFile.{image_of};
 ghost use Rattle.pblk_model.specs.Script.{NeverStuck, ScriptFits};
 ghost use Rattle.drive_image.specs.Quiet.{IsQuiet};
 ghost use Rattle.ocssd_drive.specs.Drive.{stored};
 ghost use Rattle.pblk_cli.specs.Commands.{RunComesTo};
 ghost use Rattle.pblk_cli.specs.Endings.{ending_of, reason_of};
-ghost use Rattle.pblk_cli.specs.Free.{AreFree};
 ghost use Rattle.pblk_cli.specs.Reading.{ReadsFile};
 ghost use Rattle.pblk_cli.specs.Running.{CannotReadBoth, RefusesInput, IsRunOfInput, IsRunTo};
 ghost use Rattle.pblk_cli.specs.Serving.{IsRan};
 
-use crate::free::is_free;
 use crate::geometry::{read_file, refusal_of};
 use crate::output::Output;
 use crate::refusal::Refusal;
@@ -24,6 +24,7 @@ use pblk_outside::Files;
 use run_report::transcript;
 use run_script::read_script;
 use run_threads::Records;
+use scan_recovery::contents;
 use std::alloc::{AllocError, Global};
 use std::sync::Wait;
 
@@ -98,9 +99,6 @@ fn run_input<'a, R: Wait>(
         Ok(script) => script,
         Err(e) => return Err(script_refusal_of(e)),
     };
-    if !is_free(&drive) {
-        return Err(Refusal::ImageUnbuilt);
-    }
     let threads = script.as_slice().len();
     if threads > 1 {
         return Err(Refusal::ScriptUnbuilt);
@@ -122,14 +120,13 @@ fn script_refusal_of<'a>(e: ScriptErr) -> Refusal<'a>
     }
 }
 
-// Runs a script of one thread at most on a drive whose chunks are all Free, and makes what is stored and what is told.
+// Runs a script of one thread at most on a drive, and makes what is stored and what is told.
 fn run_and_store<R: Wait>(
     rt: &R,
     alloc: Global,
     drive: Drive,
     script: &Script,
 ) -> Result<(Vec<u8>, Output), AllocError>
-    requires free { AreFree (stored drive) }
     requires quiet { IsQuiet drive }
     requires one { length script.now ≤ 1 }
     requires fits { ScriptFits drive.capacity script.now }
@@ -137,24 +134,31 @@ fn run_and_store<R: Wait>(
     ensures { IfOk result (λ made. IsRunTo (stored drive) script.now made.1.status made.1.text.items made.0.items) }
 {
     let ran = run_on(rt, alloc, drive, script)?;
-    let text = transcript(alloc, script, &ran.records, ran.end)?;
+    let left_end = end_of(alloc, &ran.drive)?;
+    let text = transcript(alloc, script, &ran.records, left_end)?;
     let status = if has_worn(&ran.records) { WORN } else { 0 };
     let mut bytes = Vec::new(alloc);
     store(&ran.drive, &mut bytes)?;
     Ok((bytes, Output { status, text }))
 }
 
-/// A drive after a run, what the script was answered, and the end of what is on the drive, as a position.
+// The end of what is on a drive, as a position.
+fn end_of(alloc: Global, drive: &Drive) -> Result<u64, AllocError>
+    ensures { IfOk result (λ e. e ≡ end (image_of (stored drive.now))) }
+{
+    let held = contents(alloc, drive)?;
+    Ok(held.end)
+}
+
+/// A drive after a run, and what the script was answered.
 #[derive(Debug, Drop)]
 pub(crate) struct Ran {
     pub(crate) drive: Drive,
     pub(crate) records: Records,
-    pub(crate) end: u64,
 }
 
-// Runs a script of one thread at most on the units of a drive whose chunks are all Free.
+// Runs a script of one thread at most on the units of a drive.
 fn run_on<R: Wait>(rt: &R, alloc: Global, drive: Drive, script: &Script) -> Result<Ran, AllocError>
-    requires free { AreFree (stored drive) }
     requires quiet { IsQuiet drive }
     requires one { length script.now ≤ 1 }
     requires fits { ScriptFits drive.capacity script.now }
@@ -179,6 +183,5 @@ fn run_on<R: Wait>(rt: &R, alloc: Global, drive: Drive, script: &Script) -> Resu
             units: served.units,
         },
         records: served.records,
-        end: served.end,
     })
 }

@@ -3,9 +3,10 @@
 ghost use Rattle.std.specs.Prelude.{◌≡◌, ◌≤◌, ◌<◌, ◌^◌, ◌∷◌, [], length, map, IfOk};
 ghost use Rattle.pblk_model.specs.Accepted.{IsAccepted};
 ghost use Rattle.pblk_model.specs.Script.{NeverStuck, ScriptFits};
-ghost use Rattle.block_target.specs.Mount.{AreNewUnits};
 ghost use Rattle.block_target.specs.Serial.{SerialView};
-ghost use Rattle.pblk_cli.specs.Serving.{IsOpened, IsSession, IsClosed, IsServed};
+ghost use Rattle.opening_steps.specs.Opened.{AreUnarmed};
+ghost use Rattle.scan_recovery.specs.Units.{AreFit};
+ghost use Rattle.pblk_cli.specs.Serving.{IsNewTarget, IsSession, IsClosed, IsServed};
 
 use block_target::{Refused, Serial, SettleErr};
 use ocssd_drive::MemoryUnit;
@@ -14,16 +15,14 @@ use run_threads::{Records, ThreadRows, Trouble, run};
 use std::alloc::{AllocError, Global};
 use std::sync::Wait;
 
-/// What a run leaves: the units, what the script was answered, and the position below which all entries are on
-/// the drive, and no other.
+/// What a run leaves: the units, and what the script was answered.
 #[derive(Debug, Drop)]
 pub(crate) struct Served {
     pub(crate) units: Vec<MemoryUnit>,
     pub(crate) records: Records,
-    pub(crate) end: u64,
 }
 
-/// Runs a script of one thread at most on a target over new units, and closes it.
+/// Runs a script of one thread at most on a target over the units of a drive, which are armed with nothing, and closes it.
 pub(crate) fn serve<R: Wait>(
     rt: &R,
     alloc: Global,
@@ -32,7 +31,8 @@ pub(crate) fn serve<R: Wait>(
     script: &Script,
 ) -> Result<Served, AllocError>
     requires accepted { IsAccepted shape.now }
-    requires new { AreNewUnits shape.now (map (λ u. u.unit) units.items) }
+    requires fit { AreFit shape.now (map (λ u. u.unit) units.items) }
+    requires unarmed { AreUnarmed (map (λ u. u.unit) units.items) }
     requires one { length script.now ≤ 1 }
     requires fits { ScriptFits shape.now.capacity script.now }
     requires flows { NeverStuck script.now }
@@ -43,15 +43,16 @@ pub(crate) fn serve<R: Wait>(
     Ok(close(rt, target, records))
 }
 
-// A target over new units.
+// A target over the units of a drive. Where there is no memory for one, the units are let go, and no image is stored.
 fn open(
     alloc: Global,
     units: Vec<MemoryUnit>,
     shape: &Shape,
 ) -> Result<Serial<MemoryUnit>, AllocError>
     requires accepted { IsAccepted shape.now }
-    requires new { AreNewUnits shape.now (map (λ u. u.unit) units.items) }
-    ensures { IfOk result (IsOpened shape.now units.items) }
+    requires fit { AreFit shape.now (map (λ u. u.unit) units.items) }
+    requires unarmed { AreUnarmed (map (λ u. u.unit) units.items) }
+    ensures { IfOk result (IsNewTarget shape.now units.items) }
 {
     match Serial::open(alloc, units, shape) {
         Ok(target) => Ok(target),
@@ -67,7 +68,7 @@ fn run_session<R: Wait>(
     script: &Script,
 ) -> Result<(Serial<MemoryUnit>, Records), AllocError>
     requires one { length script.now ≤ 1 }
-    requires fits { ScriptFits target.mount.shape.capacity script.now }
+    requires fits { ScriptFits target.mount.image.shape.capacity script.now }
     requires flows { NeverStuck script.now }
     ensures { IfOk result (λ ran. IsSession script.now target ran.1 ran.0) }
 {
@@ -127,11 +128,10 @@ fn only_port(mut ports: Vec<Serial<MemoryUnit>>) -> Serial<MemoryUnit>
 fn close<R: Wait>(rt: &R, target: Serial<MemoryUnit>, records: Records) -> Served
     ensures { IsClosed target records result }
 {
-    let taken = target.front().position;
     let (units, settled) = target.close(rt);
-    let (closing, end) = match settled {
-        Ok(()) => (None, taken),
-        Err(SettleErr::Worn { wanted, have }) => (Some(worn(wanted, have)), have),
+    let closing = match settled {
+        Ok(()) => None,
+        Err(SettleErr::Worn { wanted, have }) => Some(worn(wanted, have)),
         Err(SettleErr::Drive { .. }) => unreachable!(),
     };
     let Records {
@@ -146,7 +146,6 @@ fn close<R: Wait>(rt: &R, target: Serial<MemoryUnit>, records: Records) -> Serve
             opening,
             closing,
         },
-        end,
     }
 }
 

@@ -33,7 +33,7 @@ fn content_of(held: Held) -> Content<'static> {
 // the output, from 1, or 0 for none; the status; what was written; and the file `image` afterwards.
 type Row<'a> = (&'a str, Held, u64, u64, u8, &'a str, Held);
 
-const ROWS: [Row<'static>; 21] = [
+const ROWS: [Row<'static>; 25] = [
     // The image is read, then the script, then the image is written.
     (
         "geometry|image",
@@ -218,6 +218,35 @@ const ROWS: [Row<'static>; 21] = [
         4,
         "files Failed im",
         Held::Blank,
+    ),
+    // What an image holds is told of it alone.
+    (
+        "show|image",
+        Held::Written,
+        1,
+        0,
+        4,
+        "files Failed image\n",
+        Held::Written,
+    ),
+    (
+        "show|image",
+        Held::Absent,
+        0,
+        0,
+        4,
+        "files Missing image\n",
+        Held::Absent,
+    ),
+    ("show|image", Held::No, 0, 0, 3, "image Short 2\n", Held::No),
+    (
+        "report|image",
+        Held::Written,
+        0,
+        1,
+        8,
+        "{\"capacity\":64,\"closed\":0,\"counted\":1,\"end\":1,\"free\"",
+        Held::Written,
     ),
 ];
 

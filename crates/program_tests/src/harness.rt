@@ -148,6 +148,48 @@ pub(crate) fn refuses<R: Wait>(
     compare(rt, alloc, &Asked::calm(words, &image, &script), &told)
 }
 
+/// A call among several on the same files: its words, the file `script` beside it, the status, and what is written.
+pub(crate) type Step<'a> = (&'a str, &'a str, u8, &'a str);
+
+/// Makes calls one after another, the first on this image and each on what the one before it left, and gives the number of
+/// the first that ended otherwise than told.
+pub(crate) fn first_wrong_step<R: Wait>(
+    rt: &R,
+    alloc: Global,
+    image: &Content<'_>,
+    steps: &[Step<'_>],
+) -> Result<FirstWrong, AllocError> {
+    let mut files = MemoryFiles::new(alloc, &[])?;
+    put(alloc, &mut files, "image", image)?;
+    for (number, step) in steps.iter().enumerate() {
+        let wrong = wrong_step(rt, alloc, &mut files, step)?;
+        if wrong != Wrong::Nothing {
+            return Ok(Some((number, wrong)));
+        }
+    }
+    Ok(None)
+}
+
+fn wrong_step<R: Wait>(
+    rt: &R,
+    alloc: Global,
+    files: &mut MemoryFiles,
+    step: &Step<'_>,
+) -> Result<Wrong, AllocError> {
+    let (words, script, told, text) = step;
+    files.put("script", script.as_bytes())?;
+    let mut out = MemorySink::new(alloc, &[])?;
+    let words = words_of(alloc, words)?;
+    let status = call(rt, alloc, &words, files, &mut out);
+    if status != *told {
+        return Ok(Wrong::Status(status));
+    }
+    if out.taken() != text.as_bytes() {
+        return Ok(Wrong::Text);
+    }
+    Ok(Wrong::Nothing)
+}
+
 /// The words of a line, which are parted by `|`.
 pub(crate) fn words_of(alloc: Global, line: &str) -> Result<Vec<String>, AllocError> {
     let mut words = Vec::new(alloc);

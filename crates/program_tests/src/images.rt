@@ -109,7 +109,7 @@ fn a_script_and_a_wrong_pointer_are_refused(rt: HostRuntime) -> Result<(), Fail>
     Ok(())
 }
 
-// Images that are accepted, and of which a chunk isn't Free: it is Open, Closed or Offline.
+// Images of which a chunk isn't Free: it is Open, Closed or Offline.
 const NOT_FREE: [Content<'static>; 4] = [
     Content::Image(&SMALL, &[(0, 1)], &[]),
     Content::Cut(&[(4128, 2)], 4640),
@@ -120,12 +120,10 @@ const NOT_FREE: [Content<'static>; 4] = [
 // A script, and the status and the line.
 type Beside<'a> = (&'a str, (u8, &'a str));
 
-// Scripts beside them: only a refused one is told of before the image.
-const SCRIPTS_BESIDE: [Beside<'static>; 4] = [
-    ("thread\nr 0 1\n", (3, "image Unbuilt\n")),
-    ("", (3, "image Unbuilt\n")),
-    ("thread\nf\n", (3, "image Unbuilt\n")),
+// Scripts beside them that are refused, so that nothing is done on the drive.
+const SCRIPTS_BESIDE: [Beside<'static>; 2] = [
     ("thread\nx\n", (2, "script Form 2\n")),
+    ("thread\nthread\n", (2, "script Unbuilt\n")),
 ];
 
 fn first_wrong_beside<R: Wait>(
@@ -145,7 +143,7 @@ fn first_wrong_beside<R: Wait>(
 }
 
 #[test]
-fn images_with_written_chunks_are_not_taken_yet(rt: HostRuntime) -> Result<(), Fail> {
+fn scripts_beside_written_images_are_refused(rt: HostRuntime) -> Result<(), Fail> {
     for image in &NOT_FREE {
         assert_eq!(rt;
             first_wrong_beside(&rt, rt.alloc(), *image, &SCRIPTS_BESIDE)?,

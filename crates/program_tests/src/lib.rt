@@ -14,8 +14,12 @@ mod harness;
 #[cfg(test)]
 mod images;
 #[cfg(test)]
+mod mounts;
+#[cfg(test)]
 mod run;
 #[cfg(test)]
 mod scripts;
+#[cfg(test)]
+mod show;
 #[cfg(test)]
 mod words;

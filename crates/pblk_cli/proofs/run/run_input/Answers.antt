@@ -8,20 +8,13 @@ use Rattle.pblk_cli.proofs.run.run_input.Goals as goal
 pub returns-in-Err-clause-refused : goal.returns-in-Err-clause-refused
 returns-in-Err-clause-refused g c = refuses_input c.args.image.items c.args.script.now c.load.result c.in-Err.e c.in-Err.is (rw (sym c.deref.ensures.value) c.load.ensures.refused) (rw (sym c.deref.ensures.value) c.load.ensures.taken) c.refusal_of.result (record { memory = c.refusal_of.ensures.memory; image = c.refusal_of.ensures.image })
 
-pub returns-then-not-is_free-clause-refused : goal.returns-then-not-is_free-clause-refused
-returns-then-not-is_free-clause-refused g c = (stored c.in-Ok.drive, rw (sym c.deref.ensures.value) c.in-Ok.ensures.image, λ free. absurd (cc (c.is_free.ensures.1 free, c.if-not-is_free.true)), c.in-Ok-read_script.script, subst (λ n. IsScript n c.args.script.now c.in-Ok-read_script.script) (ap (λ d. d.capacity) c.drive.view_is) c.in-Ok-read_script.ensures.script)
-
 pub returns-in-Err-read_script-clause-refused : goal.returns-in-Err-read_script-clause-refused
 returns-in-Err-read_script-clause-refused g c = refuses_script c.args.image.items c.args.script.now (stored c.in-Ok.drive) (rw (sym c.deref.ensures.value) c.in-Ok.ensures.image) c.in-Err-read_script.e (subst (λ n. Refuses c.in-Err-read_script.e (read_script n c.args.script.now)) (ap (λ d. d.capacity) c.drive.view_is) c.in-Err-read_script.ensures.read) c.script_refusal_of.result (record { memory = c.script_refusal_of.ensures.memory; script = c.script_refusal_of.ensures.script })
-
-pub run_and_store-requires-clause-free : goal.run_and_store-requires-clause-free
-run_and_store-requires-clause-free g c = c.is_free.ensures.0 c.if-not-is_free.false
 
 pub returns-then-threads-gt1-clause-refused : goal.returns-then-threads-gt1-clause-refused
 returns-then-threads-gt1-clause-refused g c = (
   stored c.in-Ok.drive,
   rw (sym c.deref.ensures.value) c.in-Ok.ensures.image,
-  c.is_free.ensures.0 c.if-not-is_free.false,
   c.in-Ok-read_script.script,
   subst (λ n. IsScript n c.args.script.now c.in-Ok-read_script.script) (ap (λ d. d.capacity) c.drive.view_is) c.in-Ok-read_script.ensures.script,
   (let many : 1 < length c.as_slice-threads.result.now = c.if-threads-gt1.true in
@@ -32,7 +25,6 @@ pub returns-in-Ok-run_and_store-clause-run : goal.returns-in-Ok-run_and_store-cl
 returns-in-Ok-run_and_store-clause-run g c = record {
   drive = stored c.in-Ok.drive;
   drive_is = rw (sym c.deref.ensures.value) c.in-Ok.ensures.image;
-  all_free = c.is_free.ensures.0 c.if-not-is_free.false;
   commands = c.in-Ok-read_script.script;
   commands_are = subst (λ n. IsScript n c.args.script.now c.in-Ok-read_script.script) (ap (λ d. d.capacity) c.drive.view_is) c.in-Ok-read_script.ensures.script;
   one =

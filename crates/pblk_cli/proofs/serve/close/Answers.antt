@@ -8,15 +8,15 @@ use Rattle.pblk_cli.proofs.serve.close.Goals as goal
 pub returns : goal.returns
 returns g c =
     elim c.match-settled.branch [
-      | in-Ok w ↦ closed_well c.args.target c.args.records c.close-units.result.0 c.front-taken.result.position c.close-units.ensures.closed.0
+      | in-Ok w ↦ closed_well c.args.target c.args.records c.close-units.result.0 c.close-units.ensures.closed.0
           (c.close-units.ensures.closed.1, c.close-units.ensures.closed.2, c.close-units.ensures.closed.3, c.close-units.ensures.closed.4) c.close-units.ensures.alone
-          (subst (λ r. Settles r c.close-units.ensures.closed.0) w.in-Ok.is c.close-units.ensures.closed.5).0 c.close-units.ensures.closed.7 c.close-units.ensures.closed.8
-          (ap (λ f. f.position) c.front-taken.ensures) c.close-units.ensures.closed.6 _ refl (ap (λ x. records_with c.args.records x.0) w.closing-is) (ap (λ x. x.1) w.closing-is)
+          (subst (λ r. Settles r c.close-units.ensures.closed.0) w.in-Ok.is c.close-units.ensures.closed.5).0 c.close-units.ensures.closed.6
+          _ refl (ap (records_with c.args.records) w.closing-is)
       | in-Err-Worn w ↦
           let e : c.close-units.result.1 ≡ Err (settle.Worn w.in-Err-Worn.wanted w.in-Err-Worn.have) = w.in-Err-Worn.is ∙ ap (λ x. Err x) (rw w.in-Err-Worn.is at w.in-Err-Worn.field-0-is) in
           let s = subst (λ r. Settles r c.close-units.ensures.closed.0) e c.close-units.ensures.closed.5 in
           closed_worn c.args.target c.args.records c.close-units.result.0 w.in-Err-Worn.wanted w.in-Err-Worn.have c.close-units.ensures.closed.0
           (c.close-units.ensures.closed.1, c.close-units.ensures.closed.2, c.close-units.ensures.closed.3, c.close-units.ensures.closed.4) c.close-units.ensures.alone
-          s.2.above w.worn.ensures.number s.1 c.close-units.ensures.closed.8 c.close-units.ensures.closed.6 s.2
-          _ refl (ap (λ x. records_with c.args.records x.0) w.closing-is ∙ ap (λ t. records_with c.args.records (Some t)) w.worn.ensures.is) (ap (λ x. x.1) w.closing-is)
+          s.2.above w.worn.ensures.number c.close-units.ensures.closed.6 s.2
+          _ refl (ap (records_with c.args.records) w.closing-is ∙ ap (λ t. records_with c.args.records (Some t)) w.worn.ensures.is)
     ]
