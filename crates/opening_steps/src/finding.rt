@@ -12,10 +12,10 @@ use std::alloc::Global;
 use unit_port::Unit;
 
 /// What is found on a drive whose units are armed with nothing, once the chunks that a mount left Open
-/// were padded.
+/// were padded (Bjørling, González, Bonnet, FAST 2017, recovery).
 ///
-/// The shape is accepted, and the units are those of a drive of it. After an error, which is `Memory`,
-/// the drive holds what it held.
+/// The shape is accepted, and the units are those of a drive of it. The only error is `Memory`. Whatever is
+/// answered, a sealed drive holds what it held, and no wear index changes.
 pub fn make_ready<U: Unit>(alloc: Global, units: &mut [U], shape: &Shape) -> Result<Found, ScanErr>
     requires accepted { IsAccepted shape.now }
     requires fit { AreFit shape.now (map U.model units.old) }

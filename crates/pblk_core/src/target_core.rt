@@ -67,7 +67,7 @@ const FIRST_NUMBER_PAST: u64 = 1 << 61;
 /// Where all positions end, but for a mount that began beyond it.
 const LAST_POSITION: u64 = (1 << 61) - 2;
 
-/// What is latest of a sector.
+/// Where the latest content of a sector is.
 pub type Look = Slot;
 
 /// The tables of a target, and the steps that it makes over them (Bjørling, González, Bonnet, FAST 2017, write
@@ -156,8 +156,9 @@ fn emptied(layout: &Layout, width: u32) -> LineState
 }
 
 impl Core {
-    /// The core of a target that opens on a drive of which recovery found this. The findings fit the shape. Fails
-    /// only where there isn't the memory.
+    /// The core of a target that opens on a drive of an accepted shape, of which recovery found this (Bjørling,
+    /// González, Bonnet, FAST 2017, recovery): it begins at the end that was found. The findings fit the shape, as
+    /// those of any image of it do. Fails only where there isn't the memory, of which it takes all that the core uses.
     pub fn new(alloc: Global, shape: &Shape, found: Found) -> Result<Core, AllocError>
         requires accepted { IsAccepted shape.now }
         requires fit { IsFitFound shape.now found }
@@ -213,8 +214,8 @@ impl Core {
         })
     }
 
-    /// Takes an entry: the next one by position, of a user, with a sector below the capacity. The window has room
-    /// for it. From then on it is the latest of its sector.
+    /// Takes an entry: the next one by position, which is below 2^62, of a user, with a sector below the capacity.
+    /// The window has room for it. From then on it is the latest of its sector.
     pub fn take(&mut self, entry: Entry)
         requires standing { IsStanding self.old }
         requires next { entry.position ≡ view.taken self.old.window }
@@ -412,8 +413,9 @@ impl Core {
         }
     }
 
-    /// The reset of a chunk that `next_work` names was done or failed, and the chunk has this state. A line of which
-    /// no used chunk is left is Free, or Dead where its width leaves it no data.
+    /// The reset of the chunk that `next_work` names, of this line and this unit, was done or failed, and the chunk has
+    /// this state: Free or Offline (Open-Channel SSD Specification 2.0, Chunk states). A line of which no used chunk is
+    /// left is Free, or Dead where its width leaves it no data.
     pub fn reset_done(&mut self, line: u32, unit: u32, state: ChunkState)
         requires standing { IsStanding self.old }
         requires named { named self.old ≡ works.Reset line unit }

@@ -27,7 +27,7 @@ use pblk_meta::StartRecord;
 use std::alloc::{AllocError, Global};
 
 /// What the image of a drive holds: the user sectors, each the newest of its records that count, and where the mount of its
-/// newest start record ends.
+/// newest start record ends (Bjørling, González, Bonnet, FAST 2017, recovery).
 ///
 /// All written blocks are looked at where they lie, those of Open chunks too, which can't all be fetched. No unit is
 /// commanded, and the drive stays as it is. Fails only for want of memory: beside the sectors, each of which is copied once,

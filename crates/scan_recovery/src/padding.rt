@@ -20,11 +20,11 @@ const PAD: Mark = Mark {
     position: 0,
 };
 
-/// Closes every Open chunk of a drive: by line, and then by unit, each is programmed with Pad blocks to its end, in
-/// programs that end at multiples of WS_OPT.
+/// Closes every Open chunk of a drive (Open-Channel SSD Specification 2.0, Chunk states): by line, and then by unit, each
+/// is programmed with Pad blocks to its end, in programs that end at multiples of WS_OPT.
 ///
 /// The shape is accepted, and the units are those of a drive of it. A program that fails leaves its chunk Closed, and is
-/// no error. A Sealed drive stays Sealed and holds what it held, also where it stops.
+/// no error. A sealed drive stays sealed and holds what it held, also where it stops.
 ///
 /// Refused: `Drive` where a unit answered Stopped, which ends the padding; it names that event. `Memory` where there
 /// isn't as much as a stripe takes; then nothing was programmed.

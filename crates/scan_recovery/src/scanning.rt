@@ -18,9 +18,10 @@ use pblk_model::{Found, Shape};
 use std::alloc::Global;
 use unit_port::Unit;
 
-/// What recovery by scanning finds on a drive without Open chunks.
+/// What recovery by scanning finds on a drive without Open chunks (Bjørling, González, Bonnet, FAST 2017, recovery): what a
+/// mount begins with.
 ///
-/// Each written block is fetched; the chunks stay as they were. The shape is accepted, the units are those of a drive of
+/// Written blocks are fetched, line by line; the chunks stay as they were. The shape is accepted, the units are those of a drive of
 /// it, and no chunk is Open, as after `pad`.
 ///
 /// Refused: `Drive` where a fetch failed or was stopped, which ends the scan; it names that event. `Memory` where there

@@ -42,6 +42,7 @@ impl Sectors {
         self.count
     }
 
+    /// Whether there is none.
     pub fn is_empty(&self) -> bool
         ensures { IsTrue result ↔ (self.now ≡ []) }
     {
@@ -61,10 +62,13 @@ impl Sectors {
     }
 }
 
-/// The line of the head and its sequence number: of all whole start records the one of the greatest sequence number.
+/// The head, the newest start record: of all whole ones that of the greatest sequence number, and of equal ones that of
+/// the least line.
 #[derive(Clone, Copy, Debug, PartialEq, Eq)]
 pub struct Head {
+    /// Its line, by number from 0.
     pub line: u32,
+    /// Its sequence number, from 1 to below 2^61.
     pub seq: u64,
 }
 
@@ -72,8 +76,9 @@ pub struct Head {
 /// González, Bonnet, FAST 2017, recovery).
 #[derive(Debug, Drop)]
 pub struct Contents {
+    /// The user sectors, as many as the capacity.
     pub sectors: Sectors,
-    /// The least position from the head's front on that no record bears, and 0 without a head.
+    /// The least position from the head's front on that no record of a line of the head's mount bears, and 0 without a head.
     pub end: u64,
     /// How many of the records that count have a sector.
     pub counted: u64,

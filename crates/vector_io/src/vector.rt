@@ -21,7 +21,7 @@ use std::marker::Model;
 use thiserror::Error;
 use unit_port::Unit;
 
-/// Why addresses are no vector: the first reason in this order.
+/// Why addresses are no vector: the first reason in this order. An index is a place among the addresses, from 0.
 #[derive(Clone, Copy, Debug, PartialEq, Eq, Error)]
 pub enum VectorErr {
     /// There is none, or there are more than 64.
@@ -38,7 +38,8 @@ pub enum VectorErr {
     Memory,
 }
 
-/// From 1 to 64 addresses of blocks of a drive, no two of them equal, and the drive's geometry.
+/// From 1 to 64 addresses of blocks of a drive, no two of them equal, and the drive's geometry (Open-Channel SSD
+/// Specification 2.0, Vector read, write and reset).
 #[derive(Debug, Drop)]
 pub struct Vector {
     geometry: Geometry,
