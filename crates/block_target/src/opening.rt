@@ -5,8 +5,8 @@ use thiserror::Error;
 /// Why a target wasn't opened.
 #[derive(Clone, Copy, Debug, PartialEq, Eq, Error)]
 pub enum OpenErr {
-    /// This event of this unit, from 1, made in this call, was a stopped command or a fetch of a written block that
-    /// failed.
+    /// This event of this unit, made in this call, was a stopped command or a fetch of a written block that failed. Units
+    /// are numbered from 0, and the events of a unit's log from 1. It doesn't come so far.
     #[error("event {event} of unit {unit} failed or was stopped")]
     Drive { unit: u32, event: u64 },
     /// There isn't the memory for it.
@@ -18,17 +18,17 @@ pub enum OpenErr {
 pub struct Refused<U> {
     /// All of them, in their order.
     pub units: Vec<U>,
-    /// What was wanting.
+    /// Why the target wasn't opened.
     pub cause: OpenErr,
 }
 
 /// Why not all that was written is on the drive as a target closes.
 #[derive(Clone, Copy, Debug, PartialEq, Eq, Error)]
 pub enum SettleErr {
-    /// This event of this unit, from 1, was a failed fetch or a stopped command.
+    /// This event of this unit, numbered from 1, was a failed fetch or a stopped command. It doesn't come so far.
     #[error("event {event} of unit {unit} failed or was stopped")]
     Drive { unit: u32, event: u64 },
-    /// All below `wanted` was asked for, and all below `have` is on the drive.
+    /// All positions below `wanted` were asked for, those below `have` are on the drive, and nothing is left to do.
     #[error("{wanted} is wanted, and there is {have}")]
     Worn { wanted: u64, have: u64 },
 }

@@ -67,7 +67,8 @@ fn make_lists(alloc: Global) -> Result<Lists, AllocError>
 
 impl<U: Unit> Serial<U> {
     /// Opens a target over units of a drive of an accepted shape, as many as it has, that are armed with nothing. Chunks
-    /// that were left Open are padded to their ends, then the drive is scanned, and the mount begins with what is found.
+    /// that were left Open are padded to their ends, then the drive is scanned, and the mount begins with what is found
+    /// (Bjørling, González, Bonnet, FAST 2017, recovery). It takes all memory of the mount.
     ///
     /// Refused: `Drive` where a program of the padding was stopped, or a fetch of a written block failed or was stopped,
     /// which doesn't come while all are armed with nothing; then `Memory`. The units are handed back. What a sealed drive

@@ -26,7 +26,7 @@ use std::sync::Wait;
 /// |---|---|
 /// | 0 | the command did all its work, and its text was written |
 /// | 1 | the words are no command |
-/// | 2 | the script is refused |
+/// | 2 | the script is refused, or has a second thread |
 /// | 3 | the image is refused, or what `create` is to make |
 /// | 4 | a file could not be read or written, or isn't there |
 /// | 6 | a script was run, and there was no room for all that it writes; the text was written |
@@ -34,7 +34,8 @@ use std::sync::Wait;
 /// | 8 | the command did its work, and its text could not be written whole |
 ///
 /// With each status but 0, 6 and 8 one line says why. The words are judged first; then files are read, the image before the
-/// script; then the image is judged, then the script; the file is written before the text. A run may wait.
+/// script; then the image is judged, then the script; the file is written before the text. A run may wait:
+/// nothing says that its call returns.
 pub fn pblk_main<R: Wait, F: Files, O: Sink>(
     rt: &R,
     alloc: Global,

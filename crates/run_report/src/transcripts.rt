@@ -14,7 +14,8 @@ use std::alloc::{AllocError, Global};
 /// The text of a run's transcript, by its script and its records, where the stored image keeps the
 /// positions below `end`.
 ///
-/// The history has a line for each sector of each write that was placed, by rising positions.
+/// The history has a line for each sector of each write that was placed, by rising positions. Fails only
+/// for want of memory.
 pub fn transcript(
     alloc: Global,
     script: &Script,
