@@ -4,6 +4,7 @@ use pblk_model::ScriptErr;
 use run_report::transcript;
 use run_script::read_script;
 use run_threads::{Answer, Answers, Front, Place, Records, ThreadRows, Trouble, Word, Words};
+use scan_recovery::{Contents, Sectors};
 use std::alloc::{AllocError, Global};
 
 /// What a command was answered.
@@ -43,10 +44,21 @@ pub(crate) fn told(alloc: Global, script: &str, run: &Run) -> Result<String, All
     if !are_answered(&script, &records) {
         return format!(in alloc; "no answers of the script");
     }
-    let bytes = transcript(alloc, &script, &records, run.end)?;
+    let bytes = transcript(alloc, &script, &records, &ending(alloc, run.end))?;
     match String::from_utf8(bytes) {
         Ok(text) => Ok(text),
         Err(_) => format!(in alloc; "no text"),
+    }
+}
+
+// Contents of this end, of which nothing else counts.
+fn ending(alloc: Global, end: u64) -> Contents {
+    Contents {
+        sectors: Sectors::new(Vec::new(alloc), 512, 0),
+        end,
+        counted: 1001,
+        live: 1002,
+        head: None,
     }
 }
 

@@ -9,22 +9,23 @@ use crate::outcomes::{put_closing, put_opening, put_threads};
 use crate::rows::rows;
 use pblk_model::Script;
 use run_threads::Records;
+use scan_recovery::Contents;
 use std::alloc::{AllocError, Global};
 
-/// The text of a run's transcript, by its script and its records, where the stored image keeps the
-/// positions below `end`.
-///
-/// The history has a line for each sector of each write that was placed, by rising positions. Fails only
+/// The text of a run's transcript, by its script, its records, and the contents of the image that the run left. Fails only
 /// for want of memory.
+///
+/// The history has a line for each sector of each write that was placed, by rising positions. Kept are its lines below the
+/// end of the contents.
 pub fn transcript(
     alloc: Global,
     script: &Script,
     records: &Records,
-    end: u64,
+    contents: &Contents,
 ) -> Result<Vec<u8>, AllocError>
     requires { IsRecorded script.now records.now }
     ensures { IfOk result (λ bytes.
-        bytes.items ≡ text_of (transcript_of script.now records.now end)) }
+        bytes.items ≡ text_of (transcript_of script.now records.now contents.now.end)) }
 {
     let threads = records.threads.as_slice();
     let rows = rows(alloc, script.as_slice(), threads)?;
@@ -33,7 +34,7 @@ pub fn transcript(
     put_threads(&mut out, threads)?;
     put_opening(&mut out, records.opening)?;
     put_closing(&mut out, records.closing)?;
-    let kept = kept(&rows, end);
+    let kept = kept(&rows, contents.end);
     writeln!(out, "kept {kept}")?;
     Ok(out.into_bytes())
 }
