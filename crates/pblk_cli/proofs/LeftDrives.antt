@@ -139,11 +139,15 @@ kept_contents i v legal sealed t size kept history_is =
 
 -- The run.
 
-pub run_to : (found : DriveView) (script : List (List Command)) (ran : Ran) (front : ℕ) (text bytes : List ℕ) (status : ℕ) → IsRan found script ran → front ≡ end (image_of (stored ran.drive))
-    → text ≡ text_of (transcript_of script ran.records front) → status ≡ status_of_run (transcript_of script ran.records front)
+-- the transcript by the end of the image left
+abbrev pub transcript_left : List (List Command) → Ran → Transcript
+transcript_left script ran = transcript_of script ran.records (end (image_of (stored ran.drive)))
+
+pub run_to : (found : DriveView) (script : List (List Command)) (ran : Ran) (text bytes : List ℕ) (status : ℕ) → IsRan found script ran
+    → text ≡ text_of (transcript_left script ran) → status ≡ status_of_run (transcript_left script ran)
     → bytes ≡ image_bytes (stored ran.drive) → IsImage (image_bytes (stored ran.drive)) (stored ran.drive)
     → IsRunTo (stored found) script status text bytes
-run_to found script ran front text bytes status is front_is said status_is bytes_are spelled =
+run_to found script ran text bytes status is said status_is bytes_are spelled =
     let i : Image = image_of (stored found) in
     let v : MountView = is.mount in
     let t : Transcript = transcript_in script ran.records is.mount in
@@ -153,7 +157,7 @@ run_to found script ran front text bytes status is front_is said status_is bytes
     let legal : IsPlainWorld (image_of (stored found)) (world_in is.mount) = subst (λ (x : Image). IsPlainWorld x (world_in is.mount)) serving.image serving.sound.legal in
     -- the end that was found is that of the mount's media
     let same_end : end (image_of (stored ran.drive)) ≡ end (media_in is.mount) = ap end left ∙ ap (λ (x : Image). end (media x (logs_in is.mount))) (sym serving.image) in
-    let told : transcript_of script ran.records front ≡ t = ap (transcript_of script ran.records) (front_is ∙ same_end) in
+    let told : transcript_left script ran ≡ t = ap (transcript_of script ran.records) same_end in
     let kept : t.kept ≡ users (user_positions (engine_log is.mount)) (end (image_of (stored ran.drive))) =
     serving.kept ∙ ap (users (user_positions (engine_log is.mount))) (sym same_end) in
     record {

@@ -2,10 +2,9 @@
 
 ghost use Rattle.std.specs.Prelude.{◌≡◌, IfOk, IfErr};
 ghost use Rattle.pblk_model.specs.CommandText.{geometry_text};
-ghost use Rattle.pblk_model.specs.ImageFile.{Drive, IsImage};
 ghost use Rattle.pblk_cli.specs.Commands.{GeometryComesTo};
 ghost use Rattle.pblk_cli.specs.Endings.{ending_of, reason_of};
-ghost use Rattle.pblk_cli.specs.Reading.{CannotRead, ReadsFile, RefusesBytes};
+ghost use Rattle.pblk_cli.specs.Reading.{CannotRead, ReadsFile, RefusesBytes, TellsOf};
 
 use crate::output::Output;
 use crate::refusal::Refusal;
@@ -51,8 +50,7 @@ pub(crate) fn read_file<'a, F: Files>(
 
 // The text on an image of these bytes.
 fn tell_geometry<'a>(alloc: Global, bytes: &[u8]) -> Result<Output, Refusal<'a>>
-    ensures text { IfOk result (λ output. (output.status ≡ 0)
-        × (d : Drive) × IsImage bytes.now d × (output.text.items ≡ geometry_text d)) }
+    ensures text { IfOk result (λ output. TellsOf geometry_text bytes.now output.status output.text.items) }
     ensures refused { IfErr result (λ refusal. RefusesBytes bytes.now (reason_of refusal)) }
 {
     match load(alloc, bytes) {

@@ -4,8 +4,11 @@ ghost use Rattle.std.specs.Prelude.{◌≡◌, ◌≤◌, IfOk, IfErr, length};
 ghost use Rattle.pblk_model.specs.Contents.{end};
 ghost use Rattle.pblk_model.specs.ImageFile.{image_of};
 ghost use Rattle.pblk_model.specs.Script.{NeverStuck, ScriptFits};
+ghost use Rattle.pblk_model.specs.Text.{text_of};
 ghost use Rattle.drive_image.specs.Quiet.{IsQuiet};
 ghost use Rattle.ocssd_drive.specs.Drive.{stored};
+ghost use Rattle.run_report.specs.Recorded.{IsRecorded};
+ghost use Rattle.run_report.specs.Report.{transcript_of};
 ghost use Rattle.pblk_cli.specs.Commands.{RunComesTo};
 ghost use Rattle.pblk_cli.specs.Endings.{ending_of, reason_of};
 ghost use Rattle.pblk_cli.specs.Reading.{ReadsFile};
@@ -134,20 +137,20 @@ fn run_and_store<R: Wait>(
     ensures { IfOk result (λ made. IsRunTo (stored drive) script.now made.1.status made.1.text.items made.0.items) }
 {
     let ran = run_on(rt, alloc, drive, script)?;
-    let left_end = end_of(alloc, &ran.drive)?;
-    let text = transcript(alloc, script, &ran.records, left_end)?;
+    let text = transcript_text(alloc, script, &ran)?;
     let status = if has_worn(&ran.records) { WORN } else { 0 };
     let mut bytes = Vec::new(alloc);
     store(&ran.drive, &mut bytes)?;
     Ok((bytes, Output { status, text }))
 }
 
-// The end of what is on a drive, as a position.
-fn end_of(alloc: Global, drive: &Drive) -> Result<u64, AllocError>
-    ensures { IfOk result (λ e. e ≡ end (image_of (stored drive.now))) }
+// The text of a run's transcript, by what the drive then holds. The contents are let go with it.
+fn transcript_text(alloc: Global, script: &Script, ran: &Ran) -> Result<Vec<u8>, AllocError>
+    requires { IsRecorded script.now ran.now.records }
+    ensures { IfOk result (λ text. text.items ≡ text_of (transcript_of script.now ran.now.records (end (image_of (stored ran.now.drive))))) }
 {
-    let held = contents(alloc, drive)?;
-    Ok(held.end)
+    let held = contents(alloc, &ran.drive)?;
+    transcript(alloc, script, &ran.records, &held)
 }
 
 /// A drive after a run, and what the script was answered.

@@ -1,13 +1,12 @@
 //! `show` and `report`: what an image holds.
 
 ghost use Rattle.std.specs.Prelude.{◌≡◌, IfOk, IfErr, string_bytes};
-ghost use Rattle.pblk_model.specs.ImageFile as image_file;
 ghost use Rattle.pblk_model.specs.ImageFile.{IsImage};
 ghost use Rattle.ocssd_drive.specs.Drive.{stored};
 ghost use Rattle.pblk_cli.specs.Commands.{ReportComesTo, ShowComesTo};
 ghost use Rattle.pblk_cli.specs.Contents.{numbers_text, show_text};
 ghost use Rattle.pblk_cli.specs.Endings.{ending_of, reason_of};
-ghost use Rattle.pblk_cli.specs.Reading.{RefusesBytes};
+ghost use Rattle.pblk_cli.specs.Reading.{RefusesBytes, TellsOf};
 
 use crate::geometry::{read_file, refusal_of};
 use crate::output::Output;
@@ -51,8 +50,7 @@ pub(crate) fn report_numbers<'a, F: Files>(
 
 // The listing of an image of these bytes.
 fn tell_sectors<'a>(alloc: Global, bytes: Vec<u8>) -> Result<Output, Refusal<'a>>
-    ensures text { IfOk result (λ output. (output.status ≡ 0)
-        × (d : image_file.Drive) × IsImage bytes.items d × (output.text.items ≡ show_text d)) }
+    ensures text { IfOk result (λ output. TellsOf show_text bytes.items output.status output.text.items) }
     ensures refused { IfErr result (λ refusal. RefusesBytes bytes.items (reason_of refusal)) }
 {
     match drive_of(alloc, bytes) {
@@ -66,8 +64,7 @@ fn tell_sectors<'a>(alloc: Global, bytes: Vec<u8>) -> Result<Output, Refusal<'a>
 
 // The numbers of an image of these bytes.
 fn tell_numbers<'a>(alloc: Global, bytes: Vec<u8>) -> Result<Output, Refusal<'a>>
-    ensures text { IfOk result (λ output. (output.status ≡ 0)
-        × (d : image_file.Drive) × IsImage bytes.items d × (output.text.items ≡ numbers_text d)) }
+    ensures text { IfOk result (λ output. TellsOf numbers_text bytes.items output.status output.text.items) }
     ensures refused { IfErr result (λ refusal. RefusesBytes bytes.items (reason_of refusal)) }
 {
     match drive_of(alloc, bytes) {
