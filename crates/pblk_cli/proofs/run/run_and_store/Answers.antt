@@ -9,8 +9,8 @@ use Rattle.pblk_cli.proofs.WornLines.{calm_is, worn_is}
 use Rattle.pblk_cli.proofs.run.run_and_store.Goals.{then-has_worn, else-has_worn}
 use Rattle.pblk_cli.proofs.run.run_and_store.Goals as goal
 
-pub transcript_text-text-requires : goal.transcript_text-text-requires
-transcript_text-text-requires g c = c.in_ok-ran.ensures.serving.recorded
+pub transcript_text-requires : goal.transcript_text-requires
+transcript_text-requires g c = c.in_ok-ran.ensures.serving.recorded
 
 pub returns : goal.returns
 returns g c =
