@@ -12,3 +12,4 @@ pub mod Servings
 pub mod LeftDrives
 pub mod WornLines
 pub mod Contents
+pub mod CreatedDrives

@@ -26,9 +26,9 @@ use Rattle.pblk_cli.specs.Telling.{Call, Image, Script, ScriptUnbuilt, Failed, M
 -- Creating.
 
 abbrev pub CreateComesTo : List ℕ → CreateNumbers → Ending → FilesView → FilesView → Type 0
--- the image was made and stored
+-- the image was made and stored, and it is sealed
 CreateComesTo image n (Gives status text) old new = (status ≡ 0) × (created_refusal n ≡ None) × Stores image (image_bytes (created_drive n)) old new
-    × (text ≡ created_text (length (image_bytes (created_drive n))))
+    × (text ≡ created_text (length (image_bytes (created_drive n)))) × IsSealed (image_of (created_drive n))
 CreateComesTo image n (Refuses (Image e)) old new = (created_refusal n ≡ Some e) × AreUntouched old new
 CreateComesTo image n (Refuses (Failed name)) old new = (name ≡ image) × (created_refusal n ≡ None) × FailsWriting image old new
 CreateComesTo image n (Refuses Memory) old new = AreUntouched old new

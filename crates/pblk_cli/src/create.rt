@@ -3,7 +3,8 @@
 ghost use Rattle.std.specs.Prelude.{◌≡◌, length, None, IfOk, IfErr, string_bytes};
 ghost use Rattle.command_words.specs.Words.{numbers_seen};
 ghost use Rattle.pblk_model.specs.CommandText.{created_drive, created_geometry, created_refusal, least_bits};
-ghost use Rattle.pblk_model.specs.ImageFile.{image_bytes};
+ghost use Rattle.pblk_model.specs.ImageFile.{image_bytes, image_of};
+ghost use Rattle.pblk_model.specs.Sealed.{IsSealed};
 ghost use Rattle.ocssd_geometry.specs.Numbers.{numbers_of};
 ghost use Rattle.pblk_cli.specs.Commands.{CreateComesTo};
 ghost use Rattle.pblk_cli.specs.Endings.{ending_of};
@@ -15,6 +16,7 @@ use command_text::created_text;
 use command_words::CreateNumbers;
 use drive_image::{Settings, blank, store};
 use ocssd_geometry::Geometry;
+use pblk_laws::blank_is_sealed;
 use pblk_model::ImageErr;
 use pblk_outside::Files;
 use std::alloc::Global;
@@ -46,6 +48,7 @@ pub(crate) fn create<'a, F: Files>(
 // The bytes of the image.
 fn make(alloc: Global, numbers: &CreateNumbers) -> Result<Vec<u8>, ImageErr>
     ensures made { IfOk result (λ bytes. bytes.items ≡ image_bytes (created_drive (numbers_seen numbers.now))) }
+    ensures sealed { IfOk result (λ bytes. IsSealed (image_of (created_drive (numbers_seen numbers.now)))) }
     ensures accepted { IfOk result (λ bytes. created_refusal (numbers_seen numbers.now) ≡ None) }
     ensures refused { IfErr result (λ e. MakesNothing (numbers_seen numbers.now) e) }
 {
@@ -56,6 +59,7 @@ fn make(alloc: Global, numbers: &CreateNumbers) -> Result<Vec<u8>, ImageErr>
         ring: numbers.ring,
     };
     let drive = blank(alloc, &geometry, &settings)?;
+    blank_is_sealed();
     let mut bytes = Vec::new(alloc);
     match store(&drive, &mut bytes) {
         Ok(()) => Ok(bytes),
