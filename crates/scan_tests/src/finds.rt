@@ -8,7 +8,7 @@ use std::test::Fail;
 // A start record and a stripe on the same unit, whose positions leave out the first four.
 const HOLE: [Step; 2] = [Step::First(0, 1), Step::Sectors(0, 8, 4, 4, 4)];
 
-static IMAGES: [Case; 9] = [
+static IMAGES: [Case; 10] = [
     Case {
         steps: &HOLE,
         fails: None,
@@ -126,6 +126,34 @@ static IMAGES: [Case; 9] = [
             "line 0 seq 1 bound 0 top 20 full young",
             "chunks c-------c-------",
             "events 12 24",
+        ],
+    },
+    // So does one behind a full line: of the newer line's stripes those at 24, 32 and 40 are missing.
+    Case {
+        steps: &[
+            Step::Start(0, 1, 1, 0, None),
+            Step::Sectors(0, 4, 40, 0, 0),
+            Step::End(0, 1, 0),
+            Step::Start(1, 2, 1, 40, None),
+            Step::Sectors(1, 4, 20, 0, 40),
+            Step::Sectors(1, 28, 4, 24, 64),
+            Step::Sectors(1, 36, 4, 32, 72),
+            Step::End(1, 2, 40),
+            Step::Close(0, 1),
+        ],
+        fails: None,
+        stops: None,
+        told: &[
+            "padded",
+            "0 events, 0 closed 24 with 0 pads, 1 closed 12 with 0 pads",
+            "0 events, 0 closed 24 with 0 pads, 1 closed 24 with 0 pads",
+            "head 1, front 40, end 60",
+            "sector 0 of position 40 at 1.4 to sector 19",
+            "sector 20 of position 20 at 0.24 to sector 39",
+            "line 0 seq 1 bound 0 top 40 full young",
+            "line 1 seq 2 bound 0 top 60 full young",
+            "chunks cc------cc------",
+            "events 36 48",
         ],
     },
     // A position that was given up is no gap, and a sector that there isn't bears no position.
