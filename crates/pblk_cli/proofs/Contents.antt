@@ -1,7 +1,6 @@
 -- Contents of an image as the model has them.
 use Rattle.std.proofs.Common.{◌≡◌, List, ℕ, refl, ap, ◌∙◌}
-use Rattle.pblk_model.specs.Contents.{contents, end}
-use Rattle.pblk_model.specs.Image.{Image}
+use Rattle.pblk_model.specs.Contents.{contents}
 use Rattle.pblk_model.specs.ImageFile.{Drive, image_of}
 use Rattle.run_report.specs.Listing.{listing_of, listing_text}
 use Rattle.run_report.specs.Numbers.{report_text}

@@ -1,11 +1,10 @@
 -- Drives whose units are handed to a target: they fit their shape, and nothing arms them.
-use Rattle.std.proofs.Common.{◌≡◌, ℕ, zero, suc, List, [], ◌∷◌, length, map, Some, slice_get, refl, sym, subst, ap, ap₂, ◌∙◌}
+use Rattle.std.proofs.Common.{◌≡◌, ℕ, zero, suc, List, [], ◌∷◌, map, Some, slice_get, refl, sym, subst, ap, ◌∙◌}
 use Rattle.std.specs.List.{AllByRecursion}
 use Rattle.std.proofs.lemmas.List.{length-map}
 use Rattle.std.proofs.lemmas.Option.{none-some, same_Some}
 use Rattle.pblk_model.specs.declared.shape.Shape.{Shape}
 use Rattle.pblk_model.specs.Chunk.{Chunk}
-use Rattle.pblk_model.specs.Image.{Image}
 use Rattle.pblk_model.specs.ImageFile as image_file
 use Rattle.unit_port.specs.Armed.{IsUnarmed}
 use Rattle.unit_port.specs.Unit.{ModelUnit}

@@ -18,7 +18,7 @@ use Rattle.pblk_model.specs.Shape.{units}
 use Rattle.pblk_model.specs.Text.{HistoryLine, Transcript, text_of}
 use Rattle.pblk_model.specs.UnitLog.{after_log}
 use Rattle.pblk_model.specs.Transcript.{IsRun, sector_writes}
-use Rattle.pblk_world.specs.World.{log_of, media, unit_events}
+use Rattle.pblk_world.specs.World.{media, unit_events}
 use Rattle.pblk_world.specs.Fronts.{history, user_positions}
 use Rattle.core_laws.specs.PlainWorlds.{IsPlainWorld}
 use Rattle.unit_port.specs.Unit.{IsFitUnit, ModelUnit}
@@ -28,7 +28,6 @@ use Rattle.prefix_law.proofs.Sealed as sealing
 use Rattle.ocssd_drive.specs.Drive.{DriveView, IsWhole, shape_of, stored, with_units}
 use Rattle.ocssd_drive.specs.Units.{IsUnitOf, WornUnit}
 use Rattle.block_target.specs.Mount.{IsSound, IsUnitIn, MountView, engine_log, logs_in, world_in}
-use Rattle.block_target.specs.NothingLeft.{AreRefusals}
 use Rattle.run_report.specs.Report.{transcript_of}
 use Rattle.scan_recovery.specs.Units as scan
 use Rattle.pblk_cli.specs.declared.run.Ran.{Ran}
@@ -36,7 +35,6 @@ use Rattle.pblk_cli.specs.declared.serve.Served.{Served}
 use Rattle.pblk_cli.specs.Running.{IsRunTo}
 use Rattle.pblk_cli.specs.Serving.{IsRan, IsServed, IsServing, media_in, transcript_in}
 use Rattle.pblk_cli.specs.Status.{status_of_run}
-use Rattle.pblk_cli.specs.Worn.{worns_of}
 use Rattle.pblk_cli.proofs.HandedDrives.{image_handed, media_mapped}
 use Rattle.pblk_cli.proofs.StoredUnits.{image_units, same_numbers}
 

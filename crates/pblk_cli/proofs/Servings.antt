@@ -1,21 +1,20 @@
 -- What a session and a close come to.
-use Rattle.std.proofs.Common.{Vec, Option, ◌≡◌, ℕ, ◌^◌, ◌<◌, ◌≤◌, List, [], ◌∷◌, length, map, take, Some, None, refl, sym, subst, ap, ap₂, ◌∙◌, arith}
+use Rattle.std.proofs.Common.{Vec, Option, ◌≡◌, ℕ, ◌^◌, ◌<◌, ◌≤◌, List, [], ◌∷◌, length, map, take, Some, None, refl, sym, subst, ap, ◌∙◌, arith}
 use Rattle.std.specs.List.{AllByRecursion, flat_map}
-use Rattle.std.proofs.lemmas.List.{append-nil, take-map}
+use Rattle.std.proofs.lemmas.List.{append-nil}
 use Rattle.std.proofs.lemmas.List.FromFn.{length-map-range_with_len}
 use Rattle.std.proofs.Math.Nat.{le_refl}
-use Rattle.pblk_laws.proofs.Lists.{all_at}
 use Rattle.pblk_model.specs.declared.script.Command.{Command}
 use Rattle.pblk_model.specs.declared.shape.Shape.{Shape}
 use Rattle.pblk_model.specs.Accepted.{IsAccepted}
 use Rattle.pblk_model.specs.Contents.{contents, end, sector_of}
-use Rattle.pblk_model.specs.History.{SectorWrite, after, users}
+use Rattle.pblk_model.specs.History.{after, users}
 use Rattle.pblk_model.specs.Image.{Image}
 use Rattle.pblk_model.specs.Script.{ScriptFits}
 use Rattle.pblk_model.specs.Sealed.{IsSealed}
 use Rattle.pblk_model.specs.Text.{Transcript}
 use Rattle.pblk_model.specs.Transcript.{IsDistinct, IsRun, closing_event, sector_writes}
-use Rattle.pblk_world.specs.Fronts.{history, user_positions}
+use Rattle.pblk_world.specs.Fronts.{user_positions}
 use Rattle.unit_port.specs.Unit.{ModelUnit}
 use Rattle.ocssd_drive.specs.Units.{WornUnit}
 use Rattle.prefix_law.proofs.Prefix.{prefix_above}
@@ -32,7 +31,7 @@ use Rattle.run_threads.specs.declared.records.Trouble.TheVariants.{Worn}
 use Rattle.run_threads.specs.declared.records.Answer.{Answer}
 use Rattle.run_threads.specs.Run.{Runs}
 use Rattle.run_report.specs.OnePort.{AreKept, IsRunOfOnePort}
-use Rattle.run_report.specs.Report.{closing_of, transcript_of}
+use Rattle.run_report.specs.Report.{closing_of}
 use Rattle.run_report.proofs.OnePort.{no_port, one_events, one_history, one_kept, one_port}
 use Rattle.run_report.proofs.Recorded.{recorded}
 use Rattle.pblk_cli.specs.declared.serve.Served.{Served}
