@@ -33,6 +33,7 @@ use Rattle.found_laws.proofs.States.{live_are}
 use Rattle.line_laws.proofs.FreeRows.{addresses_free}
 use Rattle.line_laws.proofs.KeptRows.{same_row}
 use Rattle.line_laws.proofs.Tables.{same_table}
+use Rattle.line_laws.proofs.OpenedRows.{either}
 use Rattle.begin_laws.specs.JustBegun.{HasJustBegun}
 use Rattle.begin_laws.specs.OpeningTables.{IsOpeningTable}
 use Rattle.begin_laws.proofs.Begun.{named_image, found_at, known_at, named_fit, named_found, life_is}
@@ -44,10 +45,6 @@ pub width_found : (i : Image) (f : Found) (logs : Logs) (line : ℕ) (is : HasJu
 unfolding width_of
 width_found i f logs line is inside =
     ap (λ us. length us) (live_are (named_image i logs is.knows) f line (named_fit i f logs is) (named_found i f logs is) inside) ∙ line_units_count (named_image i logs is.knows) line
-
-either : {X : Type 0} (b : Bool) (x : X) → (if b then x else x) ≡ x
-either true x = refl
-either false x = refl
 
 width_now : (i : Image) (f : Found) (logs : Logs) (line : ℕ) (is : HasJustBegun i f logs) → width_in i logs line (life_of (logs 0) line) ≡ width (named_image i logs is.knows) line
 width_now i f logs line is =

@@ -1,6 +1,5 @@
 -- A mount that has begun goes on with that beginning, whatever is done.
-use Rattle.std.proofs.Common.{◌≡◌, Some, Option, List, [], ◌∷◌, ◌++◌, sym, ap, ap₂, ◌∙◌}
-use Rattle.std.specs.Option.{option_map_or}
+use Rattle.std.proofs.Common.{◌≡◌, Some, List, [], ◌∷◌, ◌++◌, sym, ap, ap₂, ◌∙◌}
 use Rattle.std.proofs.lemmas.List.Sums.{fold-append}
 use Rattle.std.proofs.lemmas.Option.{none-some}
 use Rattle.pblk_model.specs.Image.{Image}
@@ -9,6 +8,7 @@ use Rattle.pblk_world.specs.World.{World, log_of}
 use Rattle.pblk_world.specs.EngineLog.{Begun, begun}
 use Rattle.pblk_world.specs.Fronts.{first_position}
 use Rattle.pblk_world.proofs.Growing.{grows}
+use Rattle.prefix_law.proofs.Starting.{first_is as first_of}
 use Rattle.block_target.specs.Deeds.{Deed, after_deed, world_of}
 use Rattle.block_target.specs.Mount.{MountView, IsSound, IsSameMount, engine_log}
 use Rattle.block_target.proofs.EngineLengths.{deeds_later}
@@ -16,9 +16,6 @@ use Rattle.block_target.proofs.EngineLengths.{deeds_later}
 pub begun_more : (log more : List Logged) (b : Begun) → begun log ≡ Some b → begun (log ++ more) ≡ Some b
 begun_more [] more b has = absurd (none-some b has)
 begun_more (l ∷ log) more b has = has
-
-pub first_of : (log : List Logged) (b : Begun) → begun log ≡ Some b → first_position log ≡ b.beginning.first
-first_of log b has = ap (λ (o : Option Begun). option_map_or (λ (x : Begun). x.beginning.first) o 0) has
 
 -- the world with more that is done
 pub world_grown : (i : Image) (deeds more : List Deed) → (later : World) × (world_of i.shape (deeds ++ more) ≡ later ++ world_of i.shape deeds)

@@ -3,7 +3,6 @@ use Rattle.std.proofs.Common.{◌≡◌, ℕ, ◌+◌, ◌-◌, ◌*◌, ◌^◌
 use Rattle.std.specs.Prelude.{map, slice_get}
 use Rattle.std.specs.List.{filter, flat_map}
 use Rattle.std.specs.Option.{option_map}
-use Rattle.std.proofs.Math.Nat.{mul-le-mul_left}
 use Rattle.std.proofs.Math.Seq.{drop-nil, take-append_seam}
 use Rattle.std.proofs.lemmas.Option.{slice_get-map}
 use Rattle.pblk_model.specs.declared.found.Found.{Found}
@@ -45,6 +44,7 @@ use Rattle.pblk_core.specs.Filling.{Filling}
 use Rattle.pblk_core.specs.Named.{pad_of}
 use Rattle.pblk_core.specs.Stands.{Stands, IsStanding}
 use Rattle.pblk_core.specs.declared.target_core.Core.{Core}
+use Rattle.pblk_core.proofs.SmallGrant.{ring_kept as kept}
 use Rattle.block_target.specs.Begun.{HasBegun, AreBegun}
 use Rattle.block_port.specs.Own.{OwnWrite, lines_of}
 use Rattle.block_port.specs.declared.rows.WornAnswer.{WornAnswer}
@@ -56,12 +56,6 @@ use Rattle.block_target.specs.Serial.{IsSerial}
 use Rattle.block_target.specs.declared.mount.Parts.{Parts}
 
 -- ---- numbers
-
-kept : (s : Shape) → IsAccepted s → units s * s.ws_opt ≤ s.ring
-kept s accepted =
-    let low : units s * (s.mw_cunits + 4 * s.ws_opt) + 16 ≤ s.ring = accepted.target.ring_low in
-    let less : units s * s.ws_opt ≤ units s * (s.mw_cunits + 4 * s.ws_opt) = mul-le-mul_left (units s) (omega arith) in
-    omega arith
 
 below_ring : (granted free ring less space last : ℕ) → granted ≡ min (min (free + ring - less) space) last → less ≤ ring → granted + less ≤ free + ring
 below_ring granted free ring less space last is low = omega arith

@@ -11,11 +11,10 @@ use Rattle.pblk_world.specs.World.{media}
 use Rattle.pblk_world.specs.EngineLog.{Placed, answers, is_answered, placed_on, placements, turn}
 use Rattle.core_laws.specs.PlacerOf.{unanswered_on}
 use Rattle.core_laws.proofs.Rows.{same_number}
+use Rattle.core_laws.proofs.Lists.{got_within as within_some, none_past as none_left}
+use Rattle.core_laws.proofs.Turns.{its_turn as turn_at}
 use Rattle.stripe_placer.proofs.Among.{IsAmong, in_filter}
-use Rattle.media_laws.proofs.Found.{within_some}
-use Rattle.media_laws.proofs.Order.{turn_at}
 use Rattle.prefix_law.proofs.Among.{among_contained}
-use Rattle.prefix_law.proofs.Media.{none_left}
 use Rattle.prefix_law.proofs.Resting.{end_is_synced}
 use Rattle.pblk_core.specs.Filling.{Filling}
 use Rattle.pblk_core.specs.declared.target_core.Core.{Core}

@@ -4,23 +4,22 @@ use Rattle.std.specs.Prelude.{map, slice_get}
 use Rattle.std.proofs.lemmas.Option.{slice_get_within}
 use Rattle.std.specs.List.{filter, flat_map}
 use Rattle.pblk_model.specs.declared.run.Front.{Front}
-use Rattle.pblk_model.specs.Image.{Image}
-use Rattle.pblk_model.specs.Contents.{contents}
 use Rattle.pblk_model.specs.History.{users}
 use Rattle.pblk_world.specs.EngineLog.{Taken, takes}
 use Rattle.pblk_world.specs.Fronts.{first_position, is_users, user_takes, user_positions}
 use Rattle.pblk_world.proofs.SyncedFront.{synced_within}
 use Rattle.landing_laws.proofs.Cached.{numbered_at}
-use Rattle.core_laws.proofs.Placing.{is_below}
 use Rattle.pblk_core.proofs.SmallCalls.{numbered_in}
 use Rattle.pblk_core.proofs.SmallPositions.{taken_bounded}
 use Rattle.block_port.specs.declared.rows.WornAnswer.{WornAnswer}
 use Rattle.block_port.specs.Own.{PlacedSector, lines_of}
-use Rattle.block_port.specs.Port.{IsSameTarget, Learns, IsFront, IsSeen, positions}
+use Rattle.block_port.specs.Port.{Learns, IsFront, IsSeen, positions}
+use Rattle.stripe_placer.proofs.Chunks.{lt_yes as is_below}
+use Rattle.prefix_law.proofs.Starting.{first_is as first_of}
 use Rattle.block_target.specs.Mount.{MountView, IsSound, IsSameMount, engine_log, logs_in, world_in, taken_in, synced_in, front_taken, front_synced}
 use Rattle.block_target.specs.NothingLeft.{AreRefusals}
 use Rattle.block_target.specs.Serial.{SerialView, IsSerial, lines_in, device}
-use Rattle.block_target.proofs.Beginnings.{first_of, first_same}
+use Rattle.block_target.proofs.Beginnings.{first_same}
 use Rattle.block_target.proofs.Refusals.{refusals_grown}
 
 -- ---- the lines
@@ -89,9 +88,6 @@ front_synced_is s =
 
 -- ---- nothing more was taken
 
-abbrev pub with_mount : SerialView → MountView → SerialView
-with_mount s v = record { mount = v; seen = s.seen; own = s.own; worns = s.worns }
-
 pub lines_same : (old new : MountView) → IsSameMount old new → lines_in new ≡ lines_in old
 lines_same old new same = ap (λ ts. map placed_line (filter (λ t. is_users t.entry.source) ts)) same.takes
 
@@ -105,14 +101,6 @@ same_learns old new a b same = record {
   known = lines_same old.mount new.mount same ∙ sym (append-nil (lines_in old.mount));
   rise = let e = taken_same old.mount new.mount a b same in omega arith;
   flushed = same.synced;
-}
-
-pub same_target : (old new : SerialView) → IsSameMount old.mount new.mount → IsSameTarget (device old) (device new)
-same_target old new same = record {
-  start = ap (λ found. contents found) same.found;
-  capacity = ap (λ image. image.shape.capacity) same.image;
-  sector = ap (λ image. image.shape.sector) same.image;
-  footing = ap₂ (λ (i : Image) (ws : List (List ℕ)). Some (record { image = i; wear = ws })) same.image same.wear;
 }
 
 -- the session's own writes are the history still, where what it has seen is small

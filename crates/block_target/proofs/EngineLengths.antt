@@ -8,6 +8,7 @@ use Rattle.std.proofs.lemmas.List.{take-append-le}
 use Rattle.pblk_model.specs.declared.shape.Shape.{Shape}
 use Rattle.pblk_model.specs.Image.{Image}
 use Rattle.pblk_model.specs.UnitLog.{UnitEvent}
+use Rattle.pblk_model.proofs.OrderedBlocks.{get_front as got_front}
 use Rattle.pblk_world.specs.Events.{EngineEvent, Landed, ResetDone, Maker, Logged}
 use Rattle.pblk_world.specs.World.{World, log_of, known}
 use Rattle.pblk_world.specs.Legal.{IsLegal}
@@ -16,6 +17,7 @@ use Rattle.pblk_world.specs.Space.{room}
 use Rattle.pblk_world.proofs.Growing.{grows}
 use Rattle.core_laws.specs.PlainWorlds.{IsPlainWorld}
 use Rattle.core_laws.proofs.Lists.{fun_same}
+use Rattle.core_laws.proofs.Answered.{get_last as got_last}
 use Rattle.media_laws.proofs.Steps.{log_here, log_elsewhere, plain_tail}
 use Rattle.placed_laws.specs.StripePrograms.{HasHappened}
 use Rattle.placed_laws.proofs.Happened.{happened}
@@ -27,17 +29,6 @@ use Rattle.opening_steps.specs.Opened.{after_events, after_units}
 use Rattle.pblk_core.specs.Named.{work_of}
 use Rattle.block_target.specs.Deeds.{Deed, Readies, Decides, Does, Lands, NotesReset, after_deed, world_of, last_event}
 use Rattle.block_target.proofs.UnitStands.{work_beside}
-
--- ---- lists
-
-got_front : {X : Type 0} (xs ys : List X) (k : ℕ) → k < length xs → slice_get (xs ++ ys) k ≡ slice_get xs k
-got_front [] ys k h = absurd (omega arith)
-got_front (x ∷ xs) ys zero h = refl
-got_front (x ∷ xs) ys (suc k) h = got_front xs ys k (omega arith)
-
-got_last : {X : Type 0} (xs : List X) (x : X) → slice_get (xs ++ x ∷ []) (length xs) ≡ Some x
-got_last [] x = refl
-got_last (y ∷ xs) x = got_last xs x
 
 -- ---- what the last event of a prefix knew is there
 

@@ -20,16 +20,16 @@ use Rattle.line_table.specs.Rows.{is_free}
 use Rattle.stripe_placer.specs.OpenLines.{has_left}
 use Rattle.stripe_placer.specs.Placing.{next_stripe}
 use Rattle.stripe_placer.specs.Placing.UnitRow.{Idle}
+use Rattle.stripe_placer.proofs.Chunks.{lt_yes as is_below}
 use Rattle.core_laws.specs.OpenedLines.{open_line, open_lines, standing}
 use Rattle.core_laws.specs.PlacerOf.{placing_of, row_in, unanswered_on, waits_again}
 use Rattle.core_laws.specs.PlainWorlds.{IsPlainWorld}
 use Rattle.core_laws.specs.RowsOf.{rows_of}
-use Rattle.core_laws.proofs.Lists.{all_at}
-use Rattle.core_laws.proofs.Placing.{is_below}
+use Rattle.core_laws.proofs.Lists.{all_at, got_within}
 use Rattle.core_laws.proofs.Turns.{filtered_is}
 use Rattle.line_laws.proofs.NextLine.{none_free}
+use Rattle.line_laws.proofs.IdleUnits.{no_both as true_false}
 use Rattle.placed_laws.specs.LeftOpenings.{left_openings}
-use Rattle.placed_laws.proofs.KnownChunks.{got_within}
 use Rattle.placed_laws.proofs.LeftLines.{lines_of_left, left_opened, left_apart}
 use Rattle.placed_laws.proofs.TwoLines.{chunks_left}
 use Rattle.placing_laws.proofs.Due.{none_due, idle_answered}
@@ -67,9 +67,6 @@ none_first (x ∷ xs) e = absurd cc
 none_there : {X : Type 0} (o : Option X) → is_some o ≡ false → o ≡ None
 none_there None e = refl
 none_there (Some x) e = absurd cc
-
-true_false : (b : Bool) → b ≡ true → b ≡ false → ⊥
-true_false b e f = absurd cc
 
 module _ (i : Image) (w : World) (pad : ℕ) (reason : Why) (legal : IsPlainWorld i w) (idle : (unit : ℕ) → unanswered_on (log_of w 0) unit ≡ None) (none : work_of i (log_of w) pad ≡ works.Nothing reason) where
   abbrev otherwise : Work

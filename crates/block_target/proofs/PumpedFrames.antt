@@ -1,5 +1,5 @@
 -- Frames that a window gives back, and where its front then is.
-use Rattle.std.proofs.Common.{◌≡◌, ℕ, ◌+◌, ◌-◌, ◌≤◌, zero, suc, Bool, true, false, cond, nat_lt, Some, None, List, [], ◌∷◌, length, drop, refl, sym, ap, ap₂, ◌∙◌, arith}
+use Rattle.std.proofs.Common.{◌≡◌, ◌+◌, ◌-◌, ◌≤◌, Bool, true, false, cond, nat_lt, Some, None, List, [], ◌∷◌, length, drop, refl, sym, ap, ap₂, ◌∙◌, arith}
 use Rattle.std.specs.Prelude.{map, slice_get}
 use Rattle.std.specs.Option.{option_map, option_map_or}
 use Rattle.std.proofs.lemmas.Option.{none-some, same_Some}
@@ -22,7 +22,7 @@ use Rattle.write_window.specs.Window.{WindowView}
 use Rattle.write_window.specs.Window as view
 use Rattle.pblk_core.specs.Stands.{Stands}
 use Rattle.pblk_core.specs.declared.target_core.Core.{Core}
-use Rattle.pblk_core.proofs.SmallCalls.{numbered_in}
+use Rattle.pblk_core.proofs.SmallCalls.{numbered_in, drop_first}
 use Rattle.pblk_core.proofs.StandsFacts.{window_taken_is}
 
 -- ---- the first entry
@@ -62,11 +62,6 @@ given_no : (landed given : Bool) → (given ≡ true → landed ≡ true) → is
 given_no landed false first e = refl
 given_no true true first e = absurd cc
 given_no false true first e = let no : false ≡ true = first refl in absurd cc
-
-drop_first : (k : ℕ) (ts us : List Taken) (t : Taken) → drop k ts ≡ t ∷ us → slice_get ts k ≡ Some t
-drop_first zero ts us t e = ap (λ xs. slice_get xs 0) e
-drop_first (suc k) [] us t e = absurd cc
-drop_first (suc k) (u ∷ ts) us t e = drop_first k ts us t e
 
 -- where no block of the first entry can be read, or there is none, the window's front is that of the log
 pub front_is_freed : (i : Image) (w : World) (c : Core) → IsPlainWorld i w → Stands i (log_of w) c → view.is_readable_at c.window c.window.freed ≡ false → c.window.freed ≡ freed i.shape (log_of w 0)

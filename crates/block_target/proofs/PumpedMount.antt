@@ -14,6 +14,7 @@ use Rattle.core_laws.specs.PlainWorlds.{IsPlainWorld, ArePlain}
 use Rattle.core_laws.specs.PlacerOf.{unanswered_on}
 use Rattle.core_laws.proofs.Numbering.{first_stays}
 use Rattle.prefix_law.proofs.Fronts.{synced_rises}
+use Rattle.prefix_law.proofs.Starting.{first_is as first_of}
 use Rattle.landing_laws.proofs.FreedFront.{freed_rises}
 use Rattle.write_window.specs.Window as window
 use Rattle.unit_port.specs.Unit.{ModelUnit}
@@ -29,7 +30,7 @@ use Rattle.pblk_core.proofs.LandedLogs.{freed_landed}
 use Rattle.block_target.specs.Deeds.{Deed, Decides, world_of}
 use Rattle.block_target.specs.Mount.{MountView, IsMount, IsSound, IsSameMount, engine_log, world_in}
 use Rattle.block_target.proofs.PumpedSteps.{world_next, logs_next, synced_next, all_granted, grant_kept}
-use Rattle.block_target.proofs.Beginnings.{first_of, begun_in}
+use Rattle.block_target.proofs.Beginnings.{begun_in}
 use Rattle.block_target.proofs.PumpedUnits.{landed_more, landed_grown}
 use Rattle.block_target.proofs.PumpedProgram.{placed_world, landed_deeds, landed_is, done_is, placed_legal, waits, placed_level, placed, landed_legal, landed_level, landed_known, landed_idle, done_legal as done_legal_of}
 

@@ -1,5 +1,5 @@
 -- A stripe is placed, its unit programs it, and that is noted as landed: the worlds that these make.
-use Rattle.std.proofs.Common.{◌≡◌, ◌≢◌, ◌⊎◌, inl, inr, ℕ, ◌+◌, ◌-◌, ◌≤◌, ◌<◌, zero, suc, true, false, Some, None, List, [], ◌∷◌, ◌++◌, length, refl, sym, subst, ap, ap₂, ◌∙◌, arith, length-append, append-nil}
+use Rattle.std.proofs.Common.{◌≡◌, ◌≢◌, ◌⊎◌, inl, inr, ℕ, ◌+◌, ◌-◌, ◌≤◌, ◌<◌, suc, true, false, Some, None, List, [], ◌∷◌, ◌++◌, length, refl, sym, subst, ap, ap₂, ◌∙◌, arith, length-append, append-nil}
 use Rattle.std.specs.Prelude.{slice_get}
 use Rattle.std.proofs.lemmas.Bool.{cases_order}
 use Rattle.pblk_model.specs.Image.{Image}
@@ -18,6 +18,8 @@ use Rattle.core_laws.specs.PlacerOf.{unanswered_on}
 use Rattle.core_laws.specs.Stepping.{after}
 use Rattle.core_laws.proofs.Placing.{IsPlacing, new_placed, placed_on_now, answers_now}
 use Rattle.core_laws.proofs.Rows.{same_number, other_number}
+use Rattle.core_laws.proofs.Lists.{none_past}
+use Rattle.core_laws.proofs.PlacedLines.{get_last as got_end}
 use Rattle.landing_laws.proofs.PlainStripes.{one_unanswered}
 use Rattle.pblk_laws.specs.LineBlocks.{chunk_in}
 use Rattle.media_laws.proofs.LineWritten.{program_is_taken}
@@ -34,16 +36,6 @@ use Rattle.pblk_core.specs.declared.target_core.Core.{Core}
 use Rattle.block_target.specs.Deeds.{Deed, Decides, Does, Lands, after_deed, world_of}
 use Rattle.block_target.proofs.PumpedSteps.{world_next, logs_next, found_next}
 use Rattle.block_target.proofs.UnitStands.{stands_beside}
-
-none_past : {X : Type 0} (xs : List X) (n : ℕ) → slice_get xs n ≡ None → length xs ≤ n
-none_past [] n e = omega arith
-none_past (x ∷ xs) zero e = absurd cc
-none_past (x ∷ xs) (suc n) e = let rest : length xs ≤ n = none_past xs n e in omega arith
-
-got_end : {X : Type 0} (xs : List X) (x : X) (n : ℕ) → n ≡ length xs → slice_get (xs ++ x ∷ []) n ≡ Some x
-got_end [] x n e = ap (slice_get (x ∷ [])) e
-got_end (y ∷ xs) x zero e = absurd (omega arith)
-got_end (y ∷ xs) x (suc n) e = got_end xs x n (omega arith)
 
 one_less : (xs : List Logged) (x : Logged) → length (xs ++ x ∷ []) - 1 ≡ length xs
 one_less xs x = let more : length (xs ++ x ∷ []) ≡ length xs + 1 = length-append xs (x ∷ []) in omega arith

@@ -1,20 +1,18 @@
 -- A unit resets a chunk of a line that was given up, and that is noted: the world that these make, and the mount then.
-use Rattle.std.proofs.Common.{◌≡◌, ◌≢◌, ◌⊎◌, inl, inr, ℕ, ◌+◌, ◌-◌, ◌*◌, ◌^◌, ◌<◌, ◌≤◌, max, suc, true, Some, None, Option, List, [], ◌∷◌, ◌++◌, length, refl, sym, subst, ap, ap₂, ◌∙◌, arith, length-append, append_assoc, append-nil}
+use Rattle.std.proofs.Common.{◌≡◌, ◌≢◌, ◌⊎◌, inl, inr, ℕ, ◌+◌, ◌-◌, ◌*◌, ◌^◌, ◌<◌, ◌≤◌, max, suc, true, Some, List, [], ◌∷◌, ◌++◌, length, refl, sym, subst, ap, ap₂, ◌∙◌, arith, length-append, append_assoc, append-nil}
 use Rattle.std.specs.Prelude.{map, slice_get, slice_set}
 use Rattle.std.specs.Option.{option_map, option_and_then}
-use Rattle.std.specs.Option.{option_map_or}
-use Rattle.std.proofs.lemmas.List.{length-set}
 use Rattle.std.proofs.lemmas.Option.{same_Some, slice_get_within}
 use Rattle.pblk_model.specs.declared.shape.Shape.{Shape}
 use Rattle.pblk_model.specs.declared.chunk.ChunkState.{ChunkState}
 use Rattle.pblk_model.specs.declared.chunk.ChunkState.TheVariants as states
 use Rattle.pblk_model.specs.Chunk.{Chunk}
-use Rattle.pblk_model.specs.ChunkStep.{Reset, Done, reset_refusal_in, after_reset}
+use Rattle.pblk_model.specs.ChunkStep.{Reset, Done, after_reset}
 use Rattle.pblk_model.specs.Found.{IsUsed}
 use Rattle.pblk_model.specs.Frames.{PoolView, count_out}
 use Rattle.pblk_model.specs.Image.{Image}
 use Rattle.pblk_model.specs.Shape.{units}
-use Rattle.pblk_model.specs.UnitLog.{UnitEvent, UnitOutcome, Answered, after_event, after_outcome}
+use Rattle.pblk_model.specs.UnitLog.{UnitOutcome, Answered, after_event, after_outcome}
 use Rattle.pblk_laws.specs.LineBlocks.{chunk_in}
 use Rattle.pblk_world.specs.Events.{ResetDone, Decides as Event, Logged}
 use Rattle.pblk_world.specs.World.{World, Logs, log_of, media}
@@ -37,7 +35,7 @@ use Rattle.unit_port.specs.Unit.{ModelUnit, IsFitUnit, Steps, Takes}
 use Rattle.step_laws.specs.Whole.{IsLevel, IsKnown, engine_step, unit_step, knows_all, next_maker, reset_of, after_reset_of, after_noted_reset}
 use Rattle.step_laws.proofs.ChunkEvents.{chunk_here}
 use Rattle.step_laws.proofs.EngineSteps.{engine_logs, media_still}
-use Rattle.step_laws.proofs.GivenUp.{reset_legal, may_note, noted_legal, noted_known, noted_level, noted_waits}
+use Rattle.step_laws.proofs.GivenUp.{reset_legal, may_note, noted_legal, noted_known, noted_level, noted_waits, reset_taken as used_resets}
 use Rattle.step_laws.proofs.UnitStays.{found_stays, known_stays}
 use Rattle.step_laws.proofs.UnitSteps.{unit_log, engine_log as engine_beside, media_now, media_elsewhere}
 use Rattle.pblk_core.specs.Filling.{Filling}
@@ -46,6 +44,7 @@ use Rattle.pblk_core.specs.Resets.{is_used_state, IsToReset, IsResetTo}
 use Rattle.pblk_core.specs.Stands.{Stands}
 use Rattle.pblk_core.specs.declared.target_core.Core.{Core}
 use Rattle.pblk_core.proofs.ChunkRows.{rows_of_chunks}
+use Rattle.placing_laws.proofs.UnitHistory.{event_length as event_count}
 use Rattle.block_target.specs.Deeds.{Deed, Does, NotesReset, after_deed, world_of}
 use Rattle.block_target.specs.Mount.{MountView, IsMount, IsSound, IsUnitIn, IsSameMount, world_in, logs_in, engine_log}
 use Rattle.block_target.proofs.Beginnings.{begun_in}
@@ -61,19 +60,6 @@ is_used states.Free e = absurd cc
 is_used states.Open e = tt
 is_used states.Closed e = tt
 is_used states.Offline e = absurd cc
-
-used_resets : (state : ChunkState) → IsUsed state → reset_refusal_in state ≡ None
-used_resets states.Free h = absurd h
-used_resets states.Open h = refl
-used_resets states.Closed h = refl
-used_resets states.Offline h = absurd h
-
-event_count : (s : Shape) (chunks : List Chunk) (e : UnitEvent) → length (after_event s chunks e) ≡ length chunks
-event_count s chunks e = go (slice_get chunks e.chunk)
-  where
-    go : (o : Option Chunk) → length (option_map_or (λ (c : Chunk). slice_set chunks e.chunk (after_outcome s c e.command e.outcome)) o chunks) ≡ length chunks
-    go None = refl
-    go (Some c) = length-set chunks e.chunk (after_outcome s c e.command e.outcome)
 
 abbrev pub reset_more : ℕ → ℕ → List Deed
 reset_more line unit = Does unit (reset_of line) ∷ NotesReset unit ∷ []

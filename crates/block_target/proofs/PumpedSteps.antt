@@ -2,9 +2,7 @@
 use Rattle.std.proofs.Common.{◌≡◌, ℕ, ◌+◌, ◌-◌, ◌*◌, ◌^◌, ◌≤◌, max, min, true, Some, None, List, [], ◌∷◌, ◌++◌, sym, subst, ap, refl, ◌∙◌, arith}
 use Rattle.std.specs.Prelude.{slice_get}
 use Rattle.std.proofs.lemmas.List.Sums.{fold-append}
-use Rattle.std.proofs.Math.Nat.{mul-le-mul_left}
 use Rattle.pblk_model.specs.declared.shape.Shape.{Shape}
-use Rattle.pblk_model.specs.Accepted.{IsAccepted}
 use Rattle.pblk_model.specs.Shape.{units}
 use Rattle.pblk_model.specs.Image.{Image}
 use Rattle.pblk_world.specs.Events.{EngineEvent, Begin, Take, Open, Place, Landed, Lost, Again, ResetDone, Free, Decides as Event, Logged}
@@ -21,6 +19,7 @@ use Rattle.prefix_law.proofs.Fronts.{synced_rises}
 use Rattle.line_laws.proofs.KeptRows.{found_kept}
 use Rattle.step_laws.specs.Whole.{knows_all}
 use Rattle.step_laws.proofs.EngineSteps.{engine_next, engine_logs, media_still}
+use Rattle.pblk_core.proofs.SmallGrant.{ring_kept}
 use Rattle.block_target.specs.Deeds.{Deed, Decides, after_deed, world_of}
 use Rattle.block_target.specs.Mount.{MountView, IsSound, IsUnitIn, world_in, logs_in, engine_log}
 use Rattle.block_target.proofs.Beginnings.{begun_grown}
@@ -89,12 +88,6 @@ synced_next i deeds e b has plain =
 
 least_of : (a b c : ℕ) → (min (min a b) c ≤ a) × (min (min a b) c ≤ c)
 least_of a b c = (omega arith, omega arith)
-
-ring_kept : (s : Shape) → IsAccepted s → units s * s.ws_opt ≤ s.ring
-ring_kept s accepted =
-    let low : units s * (s.mw_cunits + 4 * s.ws_opt) + 16 ≤ s.ring = accepted.target.ring_low in
-    let less : units s * s.ws_opt ≤ units s * (s.mw_cunits + 4 * s.ws_opt) = mul-le-mul_left (units s) (omega arith) in
-    omega arith
 
 fits : (a g k f r : ℕ) → a + k ≤ f + r → g ≤ f + r - k → k ≤ r → max a g + k ≤ f + r
 fits a g k f r h e low = omega arith

@@ -1,7 +1,6 @@
 -- A unit gives a block: the mount stays one, and nothing else is changed.
-use Rattle.std.proofs.Common.{◌≡◌, ◌≢◌, ◌⊎◌, inl, inr, ℕ, ◌-◌, ◌^◌, ◌<◌, ◌≤◌, max, zero, suc, Some, None, Option, List, [], ◌∷◌, ◌++◌, length, refl, sym, subst, ap, ap₂, ◌∙◌, arith, le_refl, if◌then◌else◌}
+use Rattle.std.proofs.Common.{◌≡◌, ◌≢◌, ◌⊎◌, inl, inr, ℕ, ◌-◌, ◌^◌, ◌<◌, ◌≤◌, max, Some, None, Option, List, [], ◌∷◌, ◌++◌, length, refl, sym, subst, ap, ap₂, ◌∙◌, arith, le_refl, if◌then◌else◌}
 use Rattle.std.specs.Prelude.{slice_get, slice_set, slice_index_or, map, Result, Ok, Err, IsOk}
-use Rattle.std.specs.List.{AllByRecursion}
 use Rattle.std.specs.Option.{option_map, option_and_then}
 use Rattle.std.proofs.lemmas.Bool.{cases_order}
 use Rattle.std.proofs.lemmas.List.Sums.{fold-append}
@@ -30,9 +29,10 @@ use Rattle.pblk_world.specs.Fronts.{first_position, synced}
 use Rattle.pblk_world.specs.Lines.{found_image}
 use Rattle.pblk_world.specs.Space.{freed, room}
 use Rattle.pblk_laws.specs.LineBlocks.{chunk_in}
+use Rattle.pblk_laws.proofs.ImageBytesPieces.{all_at as all_get}
 use Rattle.core_laws.specs.PlainWorlds.{IsPlainWorld}
 use Rattle.core_laws.specs.PlacerOf.{unanswered_on}
-use Rattle.core_laws.proofs.Placing.{is_below}
+use Rattle.core_laws.proofs.Lists.{get_set_other, get_set_same}
 use Rattle.step_laws.specs.Whole.{unit_step, fetch_of, next_maker, IsLevel, IsKnown}
 use Rattle.step_laws.proofs.UnitSteps.{engine_log as engine_log_stays, media_now, media_elsewhere}
 use Rattle.step_laws.proofs.Known.{known_at_fetch}
@@ -42,28 +42,12 @@ use Rattle.step_laws.proofs.Levels.{level_unit}
 use Rattle.pblk_core.specs.Filling.{Filling}
 use Rattle.pblk_core.specs.Stands.{Stands}
 use Rattle.pblk_core.specs.declared.target_core.Core.{Core}
+use Rattle.stripe_placer.proofs.Chunks.{lt_yes as is_below}
 use Rattle.block_target.specs.Deeds.{Deed, Does, after_deed, world_of}
 use Rattle.block_target.specs.Mount.{MountView, IsMount, IsSound, IsUnitIn, IsSameMount, IsFetchable, world_in, logs_in, engine_log, synced_in}
 use Rattle.block_target.proofs.UnitStands.{stands_beside}
 
 -- ---- lists
-
-pub get_set_same : {A : Type 0} (xs : List A) (i : ℕ) (y : A) → i < length xs → slice_get (slice_set xs i y) i ≡ Some y
-get_set_same [] i y h = absurd (omega arith)
-get_set_same (x ∷ xs) zero y h = refl
-get_set_same (x ∷ xs) (suc i) y h = get_set_same xs i y (omega arith)
-
-pub get_set_other : {A : Type 0} (xs : List A) (i j : ℕ) (y : A) → j ≢ i → slice_get (slice_set xs i y) j ≡ slice_get xs j
-get_set_other [] i j y h = refl
-get_set_other (x ∷ xs) zero zero y h = absurd (h refl)
-get_set_other (x ∷ xs) zero (suc j) y h = refl
-get_set_other (x ∷ xs) (suc i) zero y h = refl
-get_set_other (x ∷ xs) (suc i) (suc j) y h = get_set_other xs i j y (λ e. h (ap suc e))
-
-all_get : {X : Type 0} (P : X → Type 0) (xs : List X) (k : ℕ) (x : X) → AllByRecursion P xs → slice_get xs k ≡ Some x → P x
-all_get P [] k x all there = absurd (cc)
-all_get P (y ∷ xs) zero x all there = subst P (same_Some y x there) all.0
-all_get P (y ∷ xs) (suc k) x all there = all_get P xs k x all.1 there
 
 -- the world with one thing more
 world_more : (s : Shape) (deeds : List Deed) (d : Deed) → world_of s (deeds ++ d ∷ []) ≡ after_deed s (world_of s deeds) d

@@ -22,13 +22,14 @@ use Rattle.write_window.specs.Window.{WindowView, IsHeld, sector_at}
 use Rattle.core_laws.specs.OpenedLines.{live_now}
 use Rattle.core_laws.specs.PlainWorlds.{IsPlainWorld}
 use Rattle.core_laws.specs.SlotOf.{slot_of}
-use Rattle.core_laws.proofs.Placing.{is_below, not_below}
-use Rattle.media_laws.proofs.Places.{range_get}
+use Rattle.core_laws.proofs.Placing.{not_below}
+use Rattle.core_laws.proofs.Lists.{range_get}
 use Rattle.look_laws.specs.SlotBlocks.{IsBlockOfSlot}
 use Rattle.look_laws.proofs.LiveUnits.{live_small}
 use Rattle.look_laws.proofs.LatestSectors.{cached_latest, window_latest}
 use Rattle.pblk_core.specs.Stands.{Stands}
 use Rattle.pblk_core.specs.declared.target_core.Core.{Core}
+use Rattle.stripe_placer.proofs.Chunks.{lt_yes as is_below}
 use Rattle.block_target.specs.Mount.{MountView, IsFetchable, IsSound, engine_log, logs_in, world_in, latest}
 
 -- ---- the window

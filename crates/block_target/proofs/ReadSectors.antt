@@ -16,6 +16,8 @@ use Rattle.pblk_world.specs.EngineLog.{Taken}
 use Rattle.pblk_world.specs.Fronts.{is_users, user_takes}
 use Rattle.block_port.specs.Own.{PlacedSector, sectors_of}
 use Rattle.block_port.specs.Port.{contents_after, count_in, sectors_at}
+use Rattle.core_laws.proofs.Lists.{get_dropped as dropped_get}
+use Rattle.pblk_core.proofs.Filled.{suc-mul as suc_times}
 use Rattle.block_target.specs.Mount.{MountView, IsSameMount, engine_log, front_taken, latest}
 use Rattle.block_target.specs.Serial.{SerialView, device}
 
@@ -23,9 +25,6 @@ use Rattle.block_target.specs.Serial.{SerialView, device}
 
 next_at : (index size : ℕ) → (index + 1) * size ≡ index * size + size
 next_at index size = grind arith
-
-suc_times : (n size : ℕ) → suc n * size ≡ size + n * size
-suc_times n size = grind arith
 
 -- two runs of sectors, one after the other
 sectors_append : (size k n : ℕ) (front rest : List ℕ) → length front ≡ k * size → sectors_of size (k + n) (front ++ rest) ≡ sectors_of size k front ++ sectors_of size n rest
@@ -78,11 +77,6 @@ take_next zero [] x there = absurd (none-some x there)
 take_next zero (y ∷ xs) x there = ap (λ z. z ∷ []) (same_Some y x there)
 take_next (suc n) [] x there = absurd (none-some x there)
 take_next (suc n) (y ∷ xs) x there = let e : suc n + 1 ≡ suc (n + 1) = omega arith in ap (λ k. take k (y ∷ xs)) e ∙ ap (λ zs. y ∷ zs) (take_next n xs x there)
-
-dropped_get : {X : Type 0} (n : ℕ) (xs : List X) (k : ℕ) → slice_get (drop n xs) k ≡ slice_get xs (n + k)
-dropped_get zero xs k = let same : k ≡ 0 + k = omega arith in ap (slice_get xs) same
-dropped_get (suc n) [] k = refl
-dropped_get (suc n) (x ∷ xs) k = let same : suc (n + k) ≡ suc n + k = omega arith in dropped_get n xs k ∙ ap (slice_get (x ∷ xs)) same
 
 pub range_none : {X : Type 0} (xs : List X) (at : ℕ) → slice_range xs at (at + 0) ≡ []
 range_none xs at = let e : at + 0 - at ≡ 0 = omega arith in ap (λ n. take n (drop at xs)) e

@@ -21,6 +21,7 @@ use Rattle.core_laws.specs.Stepping.{after}
 use Rattle.core_laws.proofs.Numbering.{first_stays}
 use Rattle.core_laws.proofs.Steady.{AreAlike, unanswered_in}
 use Rattle.core_laws.proofs.Taking.{alike, with_take}
+use Rattle.core_laws.proofs.Lists.{with_last}
 use Rattle.step_laws.specs.Whole.{knows_all, engine_step, IsLevel, IsKnown}
 use Rattle.step_laws.proofs.EngineSteps.{engine_next, engine_logs, media_still}
 use Rattle.step_laws.proofs.Known.{known_still}
@@ -69,10 +70,6 @@ frame_left v c p f m room sum =
     omega arith
 
 -- ---- the mount
-
-with_last : {X : Type 0} (P : X → Type 0) (xs : List X) (x : X) → AllByRecursion P xs → P x → AllByRecursion P (xs ++ x ∷ [])
-with_last P [] x h last = (last, tt)
-with_last P (y ∷ xs) x h last = (h.0, with_last P xs x h.1 last)
 
 pub all_bytes : (bytes : List ℕ) → ((k : ℕ) → slice_index bytes k < 256) → AllByRecursion (λ x. x < 256) bytes
 all_bytes [] fit = tt

@@ -1,6 +1,6 @@
 -- An entry that is taken leaves the front freed, and as much room as there was.
-use Rattle.std.proofs.Common.{◌≡◌, ◌⊎◌, inl, inr, ℕ, ◌+◌, ◌-◌, ◌*◌, ◌/◌, ◌^◌, ◌<◌, ◌≤◌, ◌&&◌, ◌||◌, not, nat_lt, min, max, Bool, true, false, length, arith, Some, List, [], ◌∷◌, refl, sym, subst, ap, ap₂, ◌∙◌, if◌then◌else◌}
-use Rattle.std.specs.List.{AllByRecursion, list_any, range_with_len}
+use Rattle.std.proofs.Common.{◌≡◌, ◌⊎◌, inl, inr, ℕ, ◌+◌, ◌-◌, ◌*◌, ◌/◌, ◌^◌, ◌<◌, ◌≤◌, ◌&&◌, not, nat_lt, min, max, Bool, true, false, length, arith, Some, List, refl, sym, subst, ap, ap₂, ◌∙◌, if◌then◌else◌}
+use Rattle.std.specs.List.{range_with_len}
 use Rattle.std.specs.Option.{is_some}
 use Rattle.std.proofs.lemmas.Bool.{cases_order}
 use Rattle.pblk_model.specs.declared.shape.Shape.{Shape}
@@ -10,17 +10,17 @@ use Rattle.pblk_model.specs.Shape.{units}
 use Rattle.pblk_model.specs.StartRecord.{start_of}
 use Rattle.pblk_world.specs.Events.{Entry, Take, Logged, Decides as Did}
 use Rattle.pblk_world.specs.World.{Logs}
-use Rattle.pblk_world.specs.EngineLog.{Begun, begun, LineLife, AsFound, Opened, Freed, life_of, Placed, takes, placements, has_landed, holds_position}
+use Rattle.pblk_world.specs.EngineLog.{Begun, begun, LineLife, AsFound, Opened, Freed, life_of, takes, placements}
 use Rattle.pblk_world.specs.Fronts.{first_position, taken, has_landed_at}
 use Rattle.pblk_world.specs.Lines.{known_image, are_empty, line_data, has_number, is_free_line}
-use Rattle.pblk_world.specs.Space.{full_data, open_addresses, free_addresses, placed_front, freed, gives_back, room}
+use Rattle.pblk_world.specs.Space.{full_data, open_addresses, free_addresses, placed_front, freed, room}
 use Rattle.core_laws.specs.Positions.{IsUnplaced}
 use Rattle.core_laws.specs.Stepping.{after}
 use Rattle.core_laws.specs.WindowOf.{is_given_back}
 use Rattle.core_laws.proofs.Numbering.{first_stays}
-use Rattle.core_laws.proofs.Steady.{AreAlike}
-use Rattle.core_laws.proofs.TakenSlots.{gives_back_same, any_same}
-use Rattle.core_laws.proofs.Taking.{alike, with_take}
+use Rattle.core_laws.proofs.Taking.{with_take}
+use Rattle.core_laws.proofs.Tests.{no_both as not_both}
+use Rattle.core_laws.proofs.TakenWindow.{not_landed as no_landed}
 use Rattle.landing_laws.proofs.FreedFront.{freed_here}
 use Rattle.landing_laws.proofs.Growing.{given_landed}
 use Rattle.landing_laws.proofs.Least.{IsLeast, least}
@@ -29,20 +29,9 @@ use Rattle.line_laws.proofs.KeptRows.{found_kept, known_kept}
 use Rattle.line_laws.proofs.OpenAddresses.{addresses_kept}
 use Rattle.line_laws.proofs.PlacedFront.{front_taken}
 use Rattle.line_laws.proofs.Ranges.{sum_same}
-use Rattle.pblk_core.proofs.StandsTaken.{freed_taken}
+use Rattle.pblk_core.proofs.StandsTaken.{freed_taken, given_same}
 
 -- ---- the front freed stays
-
-no_landed : (s : Shape) (log : List Logged) (q : ℕ) (ps : List Placed) → AllByRecursion (λ p. holds_position s q p ≡ false) ps → list_any (λ p. has_landed log p && holds_position s q p) ps ≡ false
-no_landed s log q [] none = refl
-no_landed s log q (p ∷ ps) none = ap₂ (λ a b. a || b) (not_and (has_landed log p) (holds_position s q p) none.0) (no_landed s log q ps none.1)
-  where
-    not_and : (a b : Bool) → b ≡ false → (a && b) ≡ false
-    not_and true b e = e
-    not_and false b e = refl
-
-not_both : {X : Type 0} (b : Bool) → b ≡ true → b ≡ false → X
-not_both b e f = absurd cc
 
 given_none : (s : Shape) (log : List Logged) (q : ℕ) → IsUnplaced s log q → is_given_back s log q ≡ false
 given_none s log q none = go (is_given_back s log q) refl
@@ -62,14 +51,6 @@ given_at_freed s log none = go (cases_order (freed s log) (taken log)) (least (i
         let within : freed s log ≤ first_position log + length (takes log) = is.within in
         let beyond : first_position log + length (takes log) < freed s log = more in
         absurd (omega arith)
-
-given_same : (s : Shape) (log : List Logged) (entry : Entry) (mark : Mark) (knows : List ℕ) (q : ℕ) → is_given_back s (with_take log entry mark knows) q ≡ is_given_back s log q
-given_same s log entry mark knows q =
-    any_same (gives_back s new q) (gives_back s log q) (gives_back_same s log new (alike log entry mark knows) q) (placements new)
-    ∙ ap (list_any (gives_back s log q)) (AreAlike.placements (alike log entry mark knows))
-  where
-    new : List Logged
-    new = with_take log entry mark knows
 
 pub freed_same : (s : Shape) (log : List Logged) (entry : Entry) (mark : Mark) (knows : List ℕ) (b : Begun) → begun log ≡ Some b → IsUnplaced s log (taken log)
     → freed s (with_take log entry mark knows) ≡ freed s log

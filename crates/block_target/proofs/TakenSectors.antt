@@ -1,7 +1,6 @@
 -- Sectors that are taken one after another, as the loop takes them.
 use Rattle.std.proofs.Common.{◌≡◌, ℕ, suc, ◌+◌, ◌-◌, ◌*◌, ◌<◌, ◌≤◌, List, [], ◌∷◌, ◌++◌, length, take, drop, slice_range, refl, sym, ap, ap₂, ◌∙◌, arith, length-append}
-use Rattle.std.proofs.Math.Nat.{mul-le-mul_right}
-use Rattle.std.proofs.lemmas.List.{drop-drop, length-take-le, length-drop}
+use Rattle.std.proofs.lemmas.List.{drop-drop}
 use Rattle.pblk_model.specs.Marks.{sector_mark}
 use Rattle.pblk_world.specs.Events.{EngineEvent, Take, Logged, Decides as Did}
 use Rattle.pblk_world.specs.EngineLog.{Taken, takes}
@@ -36,22 +35,6 @@ pub record IsTaking (old now : MountView) (lba size count index : ℕ) (bytes : 
   pub image : now.image ≡ old.image
   pub room : taken_in now + (count - index) ≤ now.granted
 
-pub taking_begins : (v : MountView) (lba size count : ℕ) (bytes : List ℕ) → taken_in v + count ≤ v.granted → IsTaking v v lba size count 0 bytes
-taking_begins v lba size count bytes room = record {
-  rest = ap₂ (λ a n. with_entries v a (sectors_of size n (drop (0 * size) bytes))) add sub ∙ ap (λ n. with_entries v lba (sectors_of size count (drop n bytes))) none;
-  image = refl;
-  room = omega arith;
-}
-  where
-    add : lba + 0 ≡ lba
-    add = omega arith
-
-    sub : count - 0 ≡ count
-    sub = omega arith
-
-    none : 0 * size ≡ 0
-    none = omega arith
-
 cut_one : (size n : ℕ) (bytes : List ℕ) → sectors_of size (suc n) bytes ≡ take size bytes ∷ sectors_of size n (drop size bytes)
 unfolding sectors_of
 cut_one size n bytes = refl
@@ -65,17 +48,6 @@ slice_is at size bytes = let e : at + size - at ≡ size = omega arith in ap (λ
 
 next_at : (index size : ℕ) → (index + 1) * size ≡ index * size + size
 next_at index size = grind arith
-
-pub slice_inside : (index count size : ℕ) → index < count → index * size + size ≤ count * size
-slice_inside index count size less =
-    let e : (index + 1) * size ≡ index * size + size = next_at index size in
-    let le : (index + 1) * size ≤ count * size = mul-le-mul_right size (let h : index + 1 ≤ count = omega arith in h) in
-    omega arith
-
-pub slice_long : (index count size : ℕ) (bytes : List ℕ) → index < count → length bytes ≡ count * size → length (slice_range bytes (index * size) (index * size + size)) ≡ size
-slice_long index count size bytes less long =
-    let inside : index * size + size ≤ count * size = slice_inside index count size less in
-    ap (λ (xs : List ℕ). length xs) (slice_is (index * size) size bytes) ∙ length-take-le size (drop (index * size) bytes) (let e : length (drop (index * size) bytes) ≡ length bytes - index * size = length-drop (index * size) bytes in omega arith)
 
 pub taking_more : (old now new : MountView) (lba size count index : ℕ) (bytes : List ℕ) → IsTaking old now lba size count index bytes → index < count
     → new ≡ with_entry now (lba + index) (slice_range bytes (index * size) (index * size + size)) → IsTaking old new lba size count (index + 1) bytes

@@ -21,11 +21,12 @@ use Rattle.step_laws.specs.Whole.{knows_all}
 use Rattle.block_port.specs.declared.rows.WornAnswer.{WornAnswer}
 use Rattle.block_port.specs.Own.{PlacedSector, OwnWrite, placed_from, lines_of}
 use Rattle.block_port.specs.Port.{AreSectors, Learns, IsSameTarget, Rise}
+use Rattle.prefix_law.proofs.Starting.{first_is as first_of}
 use Rattle.block_target.specs.Deeds.{Deed}
 use Rattle.block_target.specs.Mount.{MountView, IsSound, IsSameMount, IsStuckAt, logs_in, world_in, engine_log, taken_in, synced_in, next_entry, with_entry, with_entries}
 use Rattle.block_target.specs.NothingLeft.{IsWriteRefusal, AreRefusals}
 use Rattle.block_target.specs.Serial.{SerialView, IsSerial, lines_in, device}
-use Rattle.block_target.proofs.Beginnings.{first_of, first_same}
+use Rattle.block_target.proofs.Beginnings.{first_same}
 use Rattle.block_target.proofs.Refusals.{refusals_grown, entries_more, write_refused}
 use Rattle.block_target.proofs.TakenSectors.{log_taken, taken_more}
 
@@ -42,14 +43,6 @@ taken_kept old new was is same = ap₂ (λ a (ts : List Taken). a + length ts) (
 
 pub taken_low : (v : MountView) → IsSound v → taken_in v ≤ 2 ^ 62
 taken_low v sound = taken_bounded v.image (world_in v) sound.legal (subst (λ n. n ≤ 2 ^ 62) (sym (first_of (engine_log v) sound.beginning sound.has_begun)) sound.first_low)
-
-pub target_kept : (old new : SerialView) → IsSameMount old.mount new.mount → IsSameTarget (device old) (device new)
-target_kept old new same = record {
-  start = ap (λ (i : Image). contents i) same.found;
-  capacity = ap (λ (i : Image). i.shape.capacity) same.image;
-  sector = ap (λ (i : Image). i.shape.sector) same.image;
-  footing = ap₂ (λ (i : Image) (ws : List (List ℕ)). Some (record { image = i; wear = ws })) same.image same.wear;
-}
 
 pub learns_none : (old new : SerialView) → IsSound old.mount → IsSound new.mount → IsSameMount old.mount new.mount → Learns (device old) (device new)
 learns_none old new was is same = record {

@@ -160,8 +160,8 @@ pub record IsSpent (v : MountView) : Type 0 where
   pub no_room : room v.image (logs_at (length (engine_log v)) (logs_in v)) ≤ v.granted
 
 -- Collection isn't due, or there is nothing left to do.
-abbrev pub IsResting : MountView → Type 0
-IsResting v = (is_due v.image (logs_in v) ≡ false)
+abbrev pub IsCollectionOver : MountView → Type 0
+IsCollectionOver v = (is_due v.image (logs_in v) ≡ false)
     ⊎ HasNothingLeftAt v.image (logs_in v) 0 (length (engine_log v))
 
 -- a front that isn't reached, with nothing left to do

@@ -12,7 +12,7 @@ use Rattle.block_port.specs.declared.port.WriteErr.TheVariants as write
 use Rattle.block_port.specs.declared.port.FlushErr.{FlushErr}
 use Rattle.block_port.specs.declared.port.FlushErr.TheVariants as flush
 use Rattle.block_port.specs.declared.rows.WornAnswer.{WornAnswer}
-use Rattle.block_target.specs.Mount.{MountView, IsResting, logs_in, engine_log, taken_in, synced_in}
+use Rattle.block_target.specs.Mount.{MountView, IsCollectionOver, logs_in, engine_log, taken_in, synced_in}
 use Rattle.block_target.specs.NothingLeft.{IsFlushRefusal, IsWriteRefusal, AreRefusals}
 use Rattle.block_target.specs.declared.opening.SettleErr.{SettleErr}
 use Rattle.block_target.specs.declared.opening.SettleErr.TheVariants as settle
@@ -69,7 +69,7 @@ FlushCause v (Err (flush.Worn wanted have)) =
 -- All that was taken is on the drive, and collection isn't due or there is nothing left to do; or not all is there, where
 -- there is nothing left to do.
 abbrev pub Settles : Result Unit SettleErr → MountView → Type 0
-Settles (Ok x) v = (synced_in v ≡ taken_in v) × IsResting v
+Settles (Ok x) v = (synced_in v ≡ taken_in v) × IsCollectionOver v
 Settles (Err (settle.Worn wanted have)) v = (wanted ≡ taken_in v) × (have ≡ synced_in v)
     × IsFlushRefusal v.image (logs_in v) (length (engine_log v)) wanted have
 Settles (Err (settle.Drive unit event)) v = ⊥

@@ -15,7 +15,7 @@ ghost use Rattle.pblk_core.specs.Named.{pad_of};
 ghost use Rattle.pblk_core.specs.Stands.{Stands};
 ghost use Rattle.scan_recovery.specs.Units.{AreFit};
 ghost use Rattle.opening_steps.specs.Opened.{AreUnarmed};
-ghost use Rattle.block_target.specs.Mount.{MountView, IsMount, IsSound, IsSameMount, IsStuckAt, IsSpent, IsResting, IsFetchable, logs_in, with_entry, work_in, with_pad, taken_in, synced_in, front_taken, front_synced, latest};
+ghost use Rattle.block_target.specs.Mount.{MountView, IsMount, IsSound, IsSameMount, IsStuckAt, IsSpent, IsCollectionOver, IsFetchable, logs_in, with_entry, work_in, with_pad, taken_in, synced_in, front_taken, front_synced, latest};
 ghost use Rattle.pblk_core.specs.Resets.{IsToReset};
 ghost use Rattle.opening_steps.specs.Finding.{AreHandedBack};
 ghost use Rattle.block_target.specs.Opened.{IsOpened};
@@ -335,7 +335,7 @@ impl<U: Unit> Mount<U> {
     /// Works until collection isn't due, or nothing is left to do.
     fn rest<R: Wait>(&mut self, rt: &R)
         ensures same { IsSameMount self.old self.new }
-        ensures resting { IsResting self.new }
+        ensures resting { IsCollectionOver self.new }
     {
         for _ in rt.forever() {
             if !self.core.is_due() {
@@ -353,7 +353,7 @@ impl<U: Unit> Mount<U> {
     pub(crate) fn settle<R: Wait>(&mut self, rt: &R, wanted: u64) -> Result<(), u64>
         ensures same { IsSameMount self.old self.new }
         ensures synced { IsOk result → wanted ≤ synced_in self.new }
-        ensures resting { IsOk result → IsResting self.new }
+        ensures resting { IsOk result → IsCollectionOver self.new }
         ensures stuck { IfErr result (λ have. (have ≡ synced_in self.new) × (wanted ≤ self.new.pad) × IsStuckAt self.new wanted have) }
     {
         match self.sync(rt, wanted) {

@@ -1,5 +1,5 @@
 -- What the answer to a program changes of a placer.
-use Rattle.std.proofs.Common.{◌≡◌, ◌≢◌, ◌⊎◌, inl, inr, ℕ, ◌+◌, ◌*◌, ◌/◌, ◌<◌, ◌≤◌, ◌==◌, ◌&&◌, zero, suc, nat_eq, nat_lt, Bool, true, false, Some, None, Option, List, [], ◌∷◌, ◌++◌, length, refl, sym, subst, subst₂, ap, ap₂, ◌∙◌, arith}
+use Rattle.std.proofs.Common.{◌≡◌, ◌≢◌, ◌⊎◌, inl, inr, ℕ, ◌+◌, ◌*◌, ◌/◌, ◌<◌, ◌≤◌, ◌==◌, zero, suc, nat_eq, nat_lt, Bool, true, false, Some, None, Option, List, [], ◌∷◌, ◌++◌, length, refl, sym, subst, subst₂, ap, ap₂, ◌∙◌, arith}
 use Rattle.std.specs.Prelude.{map, slice_get}
 use Rattle.std.specs.List.{filter, find}
 use Rattle.std.proofs.lemmas.Bool.{eqb-true, eqb-false}
@@ -10,25 +10,27 @@ use Rattle.pblk_world.specs.Events.{EngineEvent, Logged}
 use Rattle.pblk_world.specs.World.{Logs}
 use Rattle.pblk_world.specs.EngineLog.{LineLife, AsFound, Opened, Freed, is_life, life_of, Opening, Placed, placements, placed_on, Answer, DidLand, WasLost, answers, answer_of, stripes_of, turn}
 use Rattle.stripe_placer.specs.OpenLines as line
-use Rattle.stripe_placer.specs.OpenLines.{OpenLine, width, unit_of, numbers, has_left, with_stripe, in_line}
+use Rattle.stripe_placer.specs.OpenLines.{OpenLine, width, unit_of, numbers, has_left, in_line}
 use Rattle.stripe_placer.specs.OpenLines.Stripe.{Unplaced, Unanswered}
 use Rattle.stripe_placer.specs.Placing.{Program}
 use Rattle.stripe_placer.specs.Inside.{IsProgramOf, IsUnanswered}
 use Rattle.stripe_placer.proofs.Agreeing.{in_line_same, in_line_other}
 use Rattle.stripe_placer.proofs.Among.{IsAmong, from_filter, from_map}
 use Rattle.stripe_placer.proofs.Steps.{unanswered_left}
+use Rattle.stripe_placer.proofs.Rows.{length_replicate as length_replicated}
 use Rattle.pblk_layout.specs.Live.{units_in}
 use Rattle.pblk_layout.proofs.Orders.{some_wide}
 use Rattle.core_laws.specs.Stepping.{after}
 use Rattle.core_laws.specs.OpenedLines.{as_opened, by_answer, became, placed_as, is_stripe_at, outcome, with_outcomes, open_line, standing, open_lines}
-use Rattle.core_laws.proofs.Lists.{map_same, all_at}
+use Rattle.core_laws.specs.PlacerOf.{unanswered_on}
+use Rattle.core_laws.proofs.Lists.{map_same, all_at, none_past as past}
 use Rattle.core_laws.proofs.Steady.{as_opened_same}
 use Rattle.core_laws.proofs.Rows.{rows_set, row_at}
-use Rattle.core_laws.proofs.Opening.{length_replicated}
 use Rattle.core_laws.proofs.Numbers.{opens_at}
 use Rattle.core_laws.proofs.Stripes.{one_stripe}
-use Rattle.core_laws.proofs.Turns.{found_is, filtered_is, stands_at_turn}
+use Rattle.core_laws.proofs.Turns.{found_is, filtered_is, stands_at_turn, its_unit, its_turn}
 use Rattle.core_laws.proofs.PlacedLines.{IsStanding, all_standing}
+use Rattle.core_laws.proofs.Tests.{first_of}
 
 -- an event answers the unit's stripe, and places nothing
 pub record IsAnswer (log new : List Logged) (unit : ℕ) (a : Answer) : Type 0 where
@@ -42,7 +44,7 @@ pub record IsFirst (log : List Logged) (unit : ℕ) (q : Placed) : Type 0 where
   pub of_unit : q.stripe.unit ≡ unit
   pub turn_is : turn log q ≡ length (answers log unit)
 
-get_last : {X : Type 0} (xs : List X) (x : X) → slice_get (xs ++ x ∷ []) (length xs) ≡ Some x
+pub get_last : {X : Type 0} (xs : List X) (x : X) → slice_get (xs ++ x ∷ []) (length xs) ≡ Some x
 get_last [] x = refl
 get_last (y ∷ xs) x = get_last xs x
 
@@ -97,15 +99,6 @@ by_none (Some (WasLost k)) e = absurd cc
 some_stripe : (log : List Logged) (x : Option Placed) → became log x ≡ Unanswered → (q : Placed) × (x ≡ Some q) × (answer_of log q ≡ None)
 some_stripe log None e = absurd cc
 some_stripe log (Some q) e = (q, refl, by_none (answer_of log q) e)
-
-first_of : (a b : Bool) → (a && b) ≡ true → a ≡ true
-first_of true b e = refl
-first_of false b e = absurd cc
-
-past : {X : Type 0} (xs : List X) (k : ℕ) → slice_get xs k ≡ None → length xs ≤ k
-past [] k e = omega arith
-past (x ∷ xs) zero e = absurd cc
-past (x ∷ xs) (suc k) e = let rest : length xs ≤ k = past xs k e in omega arith
 
 pub answered_at : (i : Image) (logs : Logs) (of : Program) → IsProgramOf i.shape (open_lines i logs) of.unit of → length (placed_on (logs 0) of.unit) ≡ length (answers (logs 0) of.unit) + 1
     → (o : Opening) × (q : Placed) × IsAnsweredAt i logs o of q
@@ -231,3 +224,11 @@ none_left i logs o of q to at other stands none = go (nat_eq other.line of.line)
         (one_number (logs 0) o other at.standing stands same) same (unanswered_left (open_line i logs o) (of.at / i.shape.ws_opt) at.waits) in
         absurd cc
     go false f = ap has_left (in_line_other (open_line i logs other) of.line (of.at / i.shape.ws_opt) to (eqb-false other.line of.line f)) ∙ none
+
+-- the unanswered stripe of a unit is the one that the next answer is for
+pub first_unanswered : (log : List Logged) (unit : ℕ) (p : Placed) → unanswered_on log unit ≡ Some p → IsFirst log unit p
+first_unanswered log unit p e = record {
+  among = from_filter (λ (q : Placed). q.stripe.unit == unit) (placements log) p (length (answers log unit), e);
+  of_unit = its_unit log unit (length (answers log unit)) p e;
+  turn_is = its_turn log unit (length (answers log unit)) p e;
+}

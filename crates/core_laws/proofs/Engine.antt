@@ -22,7 +22,7 @@ prefix_at logs e knows n within (suc unit) = refl
 pub prefix_same : (logs : Logs) (e : EngineEvent) (knows : List ℕ) (n : ℕ) → n ≤ length (logs 0) → engine_prefix n (after logs e knows) ≡ engine_prefix n logs
 prefix_same logs e knows n within = fun_same (engine_prefix n (after logs e knows)) (engine_prefix n logs) (prefix_at logs e knows n within)
 
-whole_at : (logs : Logs) (author : ℕ) → engine_prefix (length (logs 0)) logs author ≡ logs author
+pub whole_at : (logs : Logs) (author : ℕ) → engine_prefix (length (logs 0)) logs author ≡ logs author
 whole_at logs zero = take_all (length (logs 0)) (logs 0) (le_refl (length (logs 0)))
 whole_at logs (suc unit) = refl
 
@@ -32,7 +32,7 @@ prefix_whole logs e knows = prefix_same logs e knows (length (logs 0)) (le_refl 
 
 -- ---- numbers
 
-opened_number : (number : ℕ) (knows : List ℕ) (e : Event) (o : Opening) → opened_by number knows e ≡ Some o → o.number ≡ number
+pub opened_number : (number : ℕ) (knows : List ℕ) (e : Event) (o : Opening) → opened_by number knows e ≡ Some o → o.number ≡ number
 opened_number number knows (Decides (Open line start)) o h = ap (λ (x : Opening). x.number) (sym (same_Some (record { number = number; line = line; start = start; knows = knows }) o h))
 opened_number number knows e o h = absurd (none-some o h)
 

@@ -1,4 +1,5 @@
 pub mod Lists
+pub mod Tests
 pub mod Engine
 pub mod Steady
 pub mod Taking

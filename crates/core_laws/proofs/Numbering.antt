@@ -14,7 +14,7 @@ use Rattle.core_laws.specs.PlacerOf.{positions_of}
 use Rattle.core_laws.specs.Positions.{AreNumbered}
 use Rattle.core_laws.proofs.Taking.{positions_last}
 
-begun_stays : (log : List Logged) (l : Logged) (b : Begun) → begun log ≡ Some b → begun (log ++ l ∷ []) ≡ begun log
+pub begun_stays : (log : List Logged) (l : Logged) (b : Begun) → begun log ≡ Some b → begun (log ++ l ∷ []) ≡ begun log
 begun_stays [] l b e = absurd (none-some b e)
 begun_stays (m ∷ log) l b e = refl
 
@@ -24,7 +24,7 @@ first_stays log l b e = ap (λ (x : Option Begun). option_map_or (λ (b : Begun)
 numbered_same : (a b : ℕ) (ts us : List Taken) → a ≡ b → ts ≡ us → positions_of us ≡ range_with_len b (length us) → positions_of ts ≡ range_with_len a (length ts)
 numbered_same a b ts us p q is = ap positions_of q ∙ is ∙ ap₂ (λ n (vs : List Taken). range_with_len n (length vs)) (sym p) (sym q)
 
-range_more : (a n : ℕ) → range_with_len a (suc n) ≡ range_with_len a n ++ (a + n) ∷ []
+pub range_more : (a n : ℕ) → range_with_len a (suc n) ≡ range_with_len a n ++ (a + n) ∷ []
 range_more a zero = let same : a ≡ a + 0 = omega arith in ap (λ k. k ∷ []) same
 range_more a (suc n) =
     let same : a + 1 + n ≡ a + suc n = omega arith in

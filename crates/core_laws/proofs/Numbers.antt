@@ -18,12 +18,12 @@ opens e = None
 abbrev pub opens_at : List Logged → ℕ → Option ℕ
 opens_at log n = option_and_then (λ (l : Logged). opens l.event) (slice_get log n)
 
-get_middle : {X : Type 0} (xs : List X) (y : X) (ys : List X) → slice_get (xs ++ y ∷ ys) (length xs) ≡ Some y
+pub get_middle : {X : Type 0} (xs : List X) (y : X) (ys : List X) → slice_get (xs ++ y ∷ ys) (length xs) ≡ Some y
 get_middle [] y ys = refl
 get_middle (x ∷ xs) y ys = get_middle xs y ys
 
 -- what is made of numbered elements, by where they stand
-made_at : {X Y : Type 0} (h : ℕ × X → Option Y) (P : Y → Type 0) (before xs all : List X) (n : ℕ) → n ≡ length before → all ≡ before ++ xs
+pub made_at : {X Y : Type 0} (h : ℕ × X → Option Y) (P : Y → Type 0) (before xs all : List X) (n : ℕ) → n ≡ length before → all ≡ before ++ xs
     → ((e : ℕ × X) (y : Y) → slice_get all e.0 ≡ Some e.1 → h e ≡ Some y → P y) → AllByRecursion P (filter_map h (enumerate_from n xs))
 made_at h P before [] all n count is says = tt
 made_at {X} {Y} h P before (x ∷ xs) all n count is says = go (h (n, x)) refl

@@ -17,15 +17,17 @@ use Rattle.pblk_world.proofs.Appending.{takes_more, answers_more, life_more, ope
 use Rattle.stripe_placer.specs.OpenLines.{Stripe, OpenLine, opened, numbers, has_left, is_to_place, is_closed, is_lost, is_unplaced, is_unanswered, stripe_is, in_one_chunk}
 use Rattle.stripe_placer.specs.OpenLines.Stripe.{Unplaced}
 use Rattle.stripe_placer.specs.Placing.{begun}
+use Rattle.stripe_placer.proofs.Rows.{length_replicate as length_replicated, map_last}
 use Rattle.core_laws.specs.Stepping.{after}
 use Rattle.core_laws.specs.OpenedLines.{bits_of, became, is_stripe_at, outcome, with_outcomes, open_line, standing, open_lines}
 use Rattle.core_laws.specs.PlacerOf.{entries_of, contains_unit, row_of, placing_of}
-use Rattle.core_laws.proofs.Lists.{fun_same, map_agree, map_same, filter_agree, filter_none}
+use Rattle.core_laws.proofs.Lists.{fun_same, map_agree, map_same, filter_agree, filter_none, none_any}
 use Rattle.core_laws.proofs.Engine.{prefix_whole, openings_before, stopped_more}
 use Rattle.core_laws.proofs.Steady.{AreAlike, open_line_same, standing_before, row_same, unanswered_in}
 use Rattle.core_laws.proofs.Taking.{same_placing, filter_last}
 use Rattle.core_laws.proofs.Rows.{other_number, same_number}
 use Rattle.core_laws.proofs.Stopping.{entries_same}
+use Rattle.core_laws.proofs.Tests.{or_left}
 
 -- ---- the numbers of lives
 
@@ -49,7 +51,7 @@ lives_from line n k (l ∷ log) life within not_it =
 pub life_before : (log : List Logged) (line n : ℕ) → length log ≤ n → is_life n (life_of log line) ≡ false
 life_before log line n within = lives_from line n 0 log AsFound (omega arith) refl
 
-all_made : {X Y : Type 0} (h : X → Option Y) (P : Y → Type 0) → ((x : X) (y : Y) → h x ≡ Some y → P y) → (xs : List X) → AllByRecursion P (filter_map h xs)
+pub all_made : {X Y : Type 0} (h : X → Option Y) (P : Y → Type 0) → ((x : X) (y : Y) → h x ≡ Some y → P y) → (xs : List X) → AllByRecursion P (filter_map h xs)
 all_made h P says [] = tt
 all_made {X} {Y} h P says (x ∷ xs) = go (h x) refl (all_made h P says xs)
   where
@@ -74,10 +76,6 @@ replicated_gets zero i x test e = refl
 replicated_gets (suc n) zero x test e = e
 replicated_gets (suc n) (suc i) x test e = replicated_gets n i x test e
 
-none_any : {X : Type 0} (test : X → Bool) → ((x : X) → test x ≡ false) → (xs : List X) → list_any test xs ≡ false
-none_any test none [] = refl
-none_any test none (x ∷ xs) = ap (λ b. b || list_any test xs) (none x) ∙ none_any test none xs
-
 first_left : (l : OpenLine) (n : ℕ) → l.stripes ≡ replicate (suc n) Unplaced → is_closed l 0 ≡ false → is_to_place l 0 ≡ true
 first_left l n e open_chunk = ap₂ (λ (xs : List Stripe) b. option_map_or is_unplaced (slice_get xs 0) false && not b) e open_chunk
 
@@ -88,14 +86,6 @@ chunk_open l n e = none_any (λ i. stripe_is l is_lost i && in_one_chunk l i 0) 
 any_first : (test : ℕ → Bool) (n : ℕ) → 0 < n → test 0 ≡ true → list_any test (range_with_len 0 n) ≡ true
 any_first test zero some e = absurd (omega arith)
 any_first test (suc n) some e = ap (λ b. b || list_any test (range_with_len 1 n)) e
-
-or_left : (a b : Bool) → a ≡ true → (a || b) ≡ true
-or_left true b e = refl
-or_left false b e = absurd cc
-
-pub length_replicated : {X : Type 0} (n : ℕ) (x : X) → length (replicate n x) ≡ n
-length_replicated zero x = refl
-length_replicated (suc n) x = ap suc (length_replicated n x)
 
 left_by : (l : OpenLine) (n : ℕ) → l.stripes ≡ replicate n Unplaced → 0 < n → has_left l ≡ true
 left_by l zero e some = absurd (omega arith)
@@ -180,10 +170,6 @@ new_line i logs line start knows =
     ∙ no_outcomes i.shape (new 0) o l (length l.stripes) (sym (ap (λ k. replicate k Unplaced) (length_replicated _ Unplaced)))
     (ap (filter (λ (p : Placed). is_life (length (logs 0)) p.life)) ((alike (logs 0) line start knows).placements)
     ∙ filter_none (λ (p : Placed). is_life (length (logs 0)) p.life) (placements (logs 0)) (placed_before (logs 0) (length (logs 0)) (le_refl (length (logs 0)))))
-
-pub map_last : {X Y : Type 0} (f : X → Y) (xs : List X) (x : X) → map f (xs ++ x ∷ []) ≡ map f xs ++ f x ∷ []
-map_last f [] x = refl
-map_last f (y ∷ xs) x = ap (λ ys. f y ∷ ys) (map_last f xs x)
 
 lines_more : (i : Image) (logs : Logs) (line : ℕ) (start : StartRecord) (knows : List ℕ) → is_opened (life_of (logs 0) line) ≡ false
     → 0 < length (opened i.shape line (live_now i logs line)).stripes

@@ -18,6 +18,7 @@ use Rattle.stripe_placer.specs.Entries.{Entries, waiting, without_first}
 use Rattle.stripe_placer.specs.OpenLines.{OpenLine, kind_of}
 use Rattle.stripe_placer.specs.Placing.{Program, next_positions}
 use Rattle.stripe_placer.proofs.Named.{IsProgramIn, its_program}
+use Rattle.stripe_placer.proofs.Chunks.{lt_yes as is_below}
 use Rattle.core_laws.specs.Stepping.{after}
 use Rattle.core_laws.specs.OpenedLines.{open_line}
 use Rattle.core_laws.specs.PlacerOf.{IsStripeOf, positions_of, positions_in_stripe, lost_entries, fresh_entries, entries_of}
@@ -25,12 +26,13 @@ use Rattle.core_laws.proofs.Lists.{filter_same, filter_agree}
 use Rattle.core_laws.proofs.Engine.{placements_before}
 use Rattle.core_laws.proofs.Taking.{filter_last, same_entries}
 use Rattle.core_laws.proofs.Rows.{other_number}
-use Rattle.core_laws.proofs.Placing.{IsPlacing, is_below, new_placed, with_place, placements_now, answer_now, new_unanswered}
+use Rattle.core_laws.proofs.Placing.{IsPlacing, new_placed, with_place, placements_now, answer_now, new_unanswered}
 use Rattle.core_laws.proofs.Removing.{is_within, and_no, and_yes, removed_both, apart_numbered, apart_split, filter_twice, take_taken}
+use Rattle.core_laws.proofs.Tests.{second_of as yes_not_no}
 
 -- ---- a stripe holds the positions in it
 
-holds_is : (s : Shape) (position : ℕ) (bs : List Block) → list_any (bears_position s position) bs ≡ list_any (λ q. q == position) (filter_map (position_in s) bs)
+pub holds_is : (s : Shape) (position : ℕ) (bs : List Block) → list_any (bears_position s position) bs ≡ list_any (λ q. q == position) (filter_map (position_in s) bs)
 holds_is s position [] = refl
 holds_is s position (b ∷ bs) = go (is_some (named s b.mark)) (holds_is s position bs)
   where
@@ -119,18 +121,11 @@ next_are_first s e kinds.Data = take_taken s.ws_opt (waiting e)
 next_are_first s e kinds.Pad = refl
 next_are_first s e kinds.End = refl
 
-placed_position : Shape → List Logged → ℕ → Bool
-placed_position s log position = nat_lt 0 (length (filter (holds_position s position) (placements log)))
-
-yes_not_no : (a b : Bool) → (a && b) ≡ true → b ≡ true
-yes_not_no true b e = e
-yes_not_no false b e = absurd cc
-
 not_true : (b : Bool) → not b ≡ true → b ≡ false
 not_true true e = absurd cc
 not_true false e = refl
 
-length_positions : (ts : List Taken) → length (positions_of ts) ≡ length ts
+pub length_positions : (ts : List Taken) → length (positions_of ts) ≡ length ts
 length_positions [] = refl
 length_positions (t ∷ ts) = ap suc (length_positions ts)
 

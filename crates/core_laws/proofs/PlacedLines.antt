@@ -24,6 +24,7 @@ use Rattle.stripe_placer.proofs.Agreeing.{in_line_same, in_line_other}
 use Rattle.stripe_placer.proofs.Named.{IsProgramIn, its_program, next_unplaced, its_stripe_is}
 use Rattle.stripe_placer.proofs.Steps.{unanswered_left}
 use Rattle.stripe_placer.proofs.Among.{got_here}
+use Rattle.stripe_placer.proofs.Rows.{length_replicate as length_replicated}
 use Rattle.core_laws.specs.Stepping.{after}
 use Rattle.core_laws.specs.OpenedLines.{as_opened, is_stripe_at, outcome, with_outcomes, open_line, standing, open_lines}
 use Rattle.pblk_world.specs.Fronts.{first_position}
@@ -34,10 +35,11 @@ use Rattle.core_laws.proofs.Engine.{prefix_whole, stopped_more}
 use Rattle.core_laws.proofs.Steady.{as_opened_same, standing_before, standing_same, row_same}
 use Rattle.core_laws.proofs.Rows.{other_number, same_number, rows_set, row_at}
 use Rattle.core_laws.proofs.Taking.{same_placing}
-use Rattle.core_laws.proofs.Opening.{life_before, length_replicated}
+use Rattle.core_laws.proofs.Opening.{life_before}
 use Rattle.core_laws.proofs.Numbers.{opens_at, life_at, standing_at, of_its_line}
 use Rattle.core_laws.proofs.Stripes.{at_its_place, not_at, find_only}
 use Rattle.core_laws.proofs.Placing.{IsPlacing, new_placed, with_place, placed_on_now, answers_now, outcome_there, outcome_elsewhere, outcome_beside}
+use Rattle.core_laws.proofs.Tests.{or_left}
 
 -- ---- which stripe of its line it is
 
@@ -53,7 +55,7 @@ pub record IsPlacedAt (i : Image) (logs : Logs) (o : Opening) (stripe : Stripe) 
   pub next : next_of (open_line i logs o) ≡ Some j
   pub program : program_at i.shape (open_line i logs o) stripe j ≡ of
 
-life_is_before : (log : List Logged) (line : ℕ) (o : Opening) → life_of log line ≡ Opened o → o.number < length log
+pub life_is_before : (log : List Logged) (line : ℕ) (o : Opening) → life_of log line ≡ Opened o → o.number < length log
 life_is_before log line o e = go (nat_lt o.number (length log)) refl
   where
     go : (b : Bool) → nat_lt o.number (length log) ≡ b → o.number < length log
@@ -146,7 +148,7 @@ zipped : {X : Type 0} (P Q R : X → Type 0) (S : X → Type 0) → ((x : X) →
 zipped P Q R S says [] p q r = tt
 zipped P Q R S says (x ∷ xs) p q r = (says x p.0 q.0 r.0, zipped P Q R S says xs p.1 q.1 r.1)
 
-passes : {X : Type 0} (test : X → Bool) (xs : List X) → AllByRecursion (λ x. test x ≡ true) (filter test xs)
+pub passes : {X : Type 0} (test : X → Bool) (xs : List X) → AllByRecursion (λ x. test x ≡ true) (filter test xs)
 passes test [] = tt
 passes {X} test (x ∷ xs) = go (test x) refl (passes test xs)
   where
@@ -179,17 +181,13 @@ line_now i logs knows o stripe of j some is at other stands = go (nat_eq other.l
 
 -- ---- each line has a stripe left as before
 
-found_any : (test : ℕ → Bool) (xs : List ℕ) (j : ℕ) → find test xs ≡ Some j → list_any test xs ≡ true
+pub found_any : (test : ℕ → Bool) (xs : List ℕ) (j : ℕ) → find test xs ≡ Some j → list_any test xs ≡ true
 found_any test [] j e = absurd (none-some j e)
 found_any test (x ∷ xs) j e = go (test x) e (λ f. found_any test xs j f)
   where
     go : (b : Bool) → cond b (Some x) (find test xs) ≡ Some j → (find test xs ≡ Some j → list_any test xs ≡ true) → (b || list_any test xs) ≡ true
     go true f rest = refl
     go false f rest = rest f
-
-or_left : (a b : Bool) → a ≡ true → (a || b) ≡ true
-or_left true b e = refl
-or_left false b e = absurd cc
 
 left_of_it : (i : Image) (logs : Logs) (o : Opening) (stripe : Stripe) (of : Program) (j : ℕ) → IsPlacedAt i logs o stripe of j
     → has_left (in_line of.line (of.at / i.shape.ws_opt) Unanswered (open_line i logs o)) ≡ has_left (open_line i logs o)
@@ -241,7 +239,7 @@ lines_placed i logs knows o stripe of j some is at =
 
 -- ---- the rows
 
-get_last : {X : Type 0} (xs : List X) (x : X) (k : ℕ) → k ≡ length xs → slice_get (xs ++ x ∷ []) k ≡ Some x
+pub get_last : {X : Type 0} (xs : List X) (x : X) (k : ℕ) → k ≡ length xs → slice_get (xs ++ x ∷ []) k ≡ Some x
 get_last [] x zero e = refl
 get_last [] x (suc k) e = absurd (omega (arith, e))
 get_last (y ∷ xs) x zero e = absurd (omega (arith, e))
@@ -287,7 +285,7 @@ row_before i logs again unit idle =
     let past : length (placed_on (logs 0) unit) ≤ length (answers (logs 0) unit) = omega (arith, idle) in
     ap (λ u. option_map_or (λ (p : Placed). row_in i logs (waits_again (logs 0) again unit) p.life p) u Idle) (slice_get_past (placed_on (logs 0) unit) (length (answers (logs 0) unit)) past)
 
-get_row : {X : Type 0} (f : ℕ → X) (n a k : ℕ) → k < n → slice_get (map f (range_with_len a n)) k ≡ Some (f (a + k))
+pub get_row : {X : Type 0} (f : ℕ → X) (n a k : ℕ) → k < n → slice_get (map f (range_with_len a n)) k ≡ Some (f (a + k))
 get_row f zero a k h = absurd (omega arith)
 get_row f (suc n) a zero h = let e : a ≡ a + 0 = omega arith in ap (λ m. Some (f m)) e
 get_row f (suc n) a (suc k) h = let e : a + 1 + k ≡ a + suc k = omega arith in get_row f n (a + 1) k (omega arith) ∙ ap (λ m. Some (f m)) e

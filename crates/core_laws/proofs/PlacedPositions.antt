@@ -20,9 +20,10 @@ use Rattle.pblk_world.specs.Fronts.{first_position, taken, waits, was_placed, wa
 use Rattle.pblk_world.specs.Placing.{next_address, end_address, end_record, IsStart, IsData, IsEnd, IsPad, MayPlace, data_blocks, record_blocks}
 use Rattle.core_laws.specs.PlacerOf.{positions_of}
 use Rattle.core_laws.specs.Positions.{AreNumbered, AreMarked, AreTaken, IsUnplaced}
-use Rattle.core_laws.proofs.Lists.{all_filter}
+use Rattle.core_laws.proofs.Lists.{all_filter, all_dropped, all_taken, all_mapped, all_replicated}
 use Rattle.core_laws.proofs.Rows.{other_number}
 use Rattle.core_laws.proofs.Placing.{not_below, weaker}
+use Rattle.core_laws.proofs.Tests.{first_of, second_of}
 
 abbrev pub BearsBelow : Shape → ℕ → Block → Type 0
 BearsBelow s n b = (q : ℕ) → bears_position s q b ≡ true → q < n
@@ -35,41 +36,15 @@ holds_below s n (b ∷ bs) all q e = go (bears_position s q b) refl e (λ f. hol
     go true f g rest = all.0 q f
     go false f g rest = rest g
 
-first_of : (a b : Bool) → (a && b) ≡ true → a ≡ true
-first_of true b e = refl
-first_of false b e = absurd cc
-
-second_of : (a b : Bool) → (a && b) ≡ true → b ≡ true
-second_of true b e = e
-second_of false b e = absurd cc
-
-unnamed : (s : Shape) (m : Mark) → s.capacity ≤ meta_lba → meta_lba ≤ m.lba → m.lba ≢ void_lba → is_some (named s m) ≡ false
+pub unnamed : (s : Shape) (m : Mark) → s.capacity ≤ meta_lba → meta_lba ≤ m.lba → m.lba ≢ void_lba → is_some (named s m) ≡ false
 unnamed s m small above other = ap₂ (λ a b. is_some (if a then Some (Some m.lba) else (if b then Some None else None))) (not_below s.capacity m.lba (omega arith)) (other_number m.lba void_lba other)
 
 bears_none : (s : Shape) (n : ℕ) (b : Block) → is_some (named s b.mark) ≡ false → BearsBelow s n b
 bears_none s n b none = λ q e. let yes_ : is_some (named s b.mark) ≡ true = first_of (is_some (named s b.mark)) (b.mark.position == q) e in absurd cc
 
-all_replicated : {X : Type 0} (P : X → Type 0) (n : ℕ) (x : X) → P x → AllByRecursion P (replicate n x)
-all_replicated P zero x p = tt
-all_replicated P (suc n) x p = (p, all_replicated P n x p)
-
-all_taken : {X : Type 0} (P : X → Type 0) (n : ℕ) (xs : List X) → AllByRecursion P xs → AllByRecursion P (take n xs)
-all_taken P zero xs all = tt
-all_taken P (suc n) [] all = tt
-all_taken P (suc n) (x ∷ xs) all = (all.0, all_taken P n xs all.1)
-
-all_dropped : {X : Type 0} (P : X → Type 0) (n : ℕ) (xs : List X) → AllByRecursion P xs → AllByRecursion P (drop n xs)
-all_dropped P zero xs all = all
-all_dropped P (suc n) [] all = tt
-all_dropped P (suc n) (x ∷ xs) all = all_dropped P n xs all.1
-
 pub all_joined : {X : Type 0} (P : X → Type 0) (xs ys : List X) → AllByRecursion P xs → AllByRecursion P ys → AllByRecursion P (xs ++ ys)
 all_joined P [] ys a b = b
 all_joined P (x ∷ xs) ys a b = (a.0, all_joined P xs ys a.1 b)
-
-all_mapped : {X Y : Type 0} (P : Y → Type 0) (f : X → Y) (xs : List X) → AllByRecursion (λ x. P (f x)) xs → AllByRecursion P (map f xs)
-all_mapped P f [] all = tt
-all_mapped P f (x ∷ xs) all = (all.0, all_mapped P f xs all.1)
 
 pads_below : (s : Shape) (n : ℕ) → s.capacity ≤ meta_lba → BearsBelow s n (pad_block s)
 pads_below s n small = bears_none s n (pad_block s) (unnamed s (pad_block s).mark small (omega arith) (λ e. absurd (omega (arith, e))))
@@ -83,7 +58,7 @@ records_below s n size seq (suc count) bytes small = (
 
 -- ---- entries
 
-numbered_below : (a n : ℕ) (ts : List Taken) → positions_of ts ≡ range_with_len a n → AllByRecursion (λ (t : Taken). t.entry.position < a + n) ts
+pub numbered_below : (a n : ℕ) (ts : List Taken) → positions_of ts ≡ range_with_len a n → AllByRecursion (λ (t : Taken). t.entry.position < a + n) ts
 numbered_below a n [] is = tt
 numbered_below a zero (t ∷ ts) is = absurd cc
 numbered_below a (suc n) (t ∷ ts) is =

@@ -9,6 +9,7 @@ use Rattle.pblk_world.specs.EngineLog.{LineLife, Opened, is_life, life_of, Openi
 use Rattle.pblk_world.proofs.Appending.{answers_more, placements_more}
 use Rattle.stripe_placer.specs.OpenLines.{OpenLine}
 use Rattle.stripe_placer.specs.OpenLines.Stripe.{Unplaced, Unanswered}
+use Rattle.stripe_placer.proofs.Chunks.{lt_yes as is_below}
 use Rattle.core_laws.specs.OpenedLines.{by_answer, became, placed_as, is_stripe_at, outcome}
 use Rattle.core_laws.proofs.Lists.{all_filter}
 use Rattle.core_laws.proofs.Engine.{placements_before}
@@ -69,20 +70,13 @@ pub answer_now : (log : List Logged) (stripe : Stripe) (knows : List ℕ) (o : O
     → answer_of (with_place log stripe knows) q ≡ answer_of log q
 answer_now log stripe knows o q opened before = ap₂ (λ (xs : List Answer) k. slice_get xs k) (answers_now log stripe knows q.stripe.unit) (turn_now log stripe knows o q opened before)
 
-all_pass : {X : Type 0} (test : X → Bool) (xs : List X) → AllByRecursion (λ x. test x ≡ true) xs → filter test xs ≡ xs
+pub all_pass : {X : Type 0} (test : X → Bool) (xs : List X) → AllByRecursion (λ x. test x ≡ true) xs → filter test xs ≡ xs
 all_pass test [] all = refl
 all_pass test (x ∷ xs) all = ap (λ b. cond b (x ∷ filter test xs) (filter test xs)) all.0 ∙ ap (λ ys. x ∷ ys) (all_pass test xs all.1)
 
 pub weaker : {X : Type 0} (P Q : X → Type 0) → ((x : X) → P x → Q x) → (xs : List X) → AllByRecursion P xs → AllByRecursion Q xs
 weaker P Q says [] all = tt
 weaker P Q says (x ∷ xs) all = (says x all.0, weaker P Q says xs all.1)
-
-pub is_below : (m n : ℕ) → m < n → nat_lt m n ≡ true
-is_below m n h = go (nat_lt m n) refl
-  where
-    go : (b : Bool) → nat_lt m n ≡ b → b ≡ true
-    go true e = refl
-    go false e = let above : n ≤ m = grind arith in absurd (omega arith)
 
 -- all stripes of the unit were placed before it
 turn_of_new : (log : List Logged) (stripe : Stripe) (o : Opening) → turn log (new_placed log stripe o) ≡ length (placed_on log stripe.unit)
@@ -102,7 +96,7 @@ became_now : (log : List Logged) (stripe : Stripe) (knows : List ℕ) (o : Openi
 became_now log stripe knows o None opened before = refl
 became_now log stripe knows o (Some q) opened before = ap by_answer (answer_now log stripe knows o q opened (le_of_lt (before q refl)))
 
-stripes_before : (log : List Logged) (o : Opening) → AllByRecursion (λ p. p.number < length log) (stripes_of log o)
+pub stripes_before : (log : List Logged) (o : Opening) → AllByRecursion (λ p. p.number < length log) (stripes_of log o)
 stripes_before log o = all_filter (λ (p : Placed). p.number < length log) (λ (p : Placed). is_life o.number p.life) (placements log) (placements_before log)
 
 stripes_now : (log : List Logged) (stripe : Stripe) (knows : List ℕ) (o other : Opening) (b : Bool) → life_of log stripe.line ≡ Opened o → is_life other.number (Opened o) ≡ b

@@ -33,11 +33,11 @@ removed zero ts apart = all_stay ts
 removed (suc n) [] apart = refl
 removed (suc n) (t ∷ ts) apart = first_goes t (take n (positions_of ts)) ts ∙ others_stay t.entry.position (take n (positions_of ts)) ts apart.0 ∙ removed n ts apart.1
 
-all_first : {X : Type 0} (P : X → Type 0) (xs ys : List X) → AllByRecursion P (xs ++ ys) → AllByRecursion P xs
+pub all_first : {X : Type 0} (P : X → Type 0) (xs ys : List X) → AllByRecursion P (xs ++ ys) → AllByRecursion P xs
 all_first P [] ys all = tt
 all_first P (x ∷ xs) ys all = (all.0, all_first P xs ys all.1)
 
-all_second : {X : Type 0} (P : X → Type 0) (xs ys : List X) → AllByRecursion P (xs ++ ys) → AllByRecursion P ys
+pub all_second : {X : Type 0} (P : X → Type 0) (xs ys : List X) → AllByRecursion P (xs ++ ys) → AllByRecursion P ys
 all_second P [] ys all = all
 all_second P (x ∷ xs) ys all = all_second P xs ys all.1
 
@@ -76,7 +76,7 @@ apart_filtered test (t ∷ ts) apart = go (test t) (apart_filtered test ts apart
     go true rest = (kept ts apart.0, rest)
     go false rest = rest
 
-above : (a n q : ℕ) (ts : List Taken) → q < a → positions_of ts ≡ range_with_len a n → AllByRecursion (λ (u : Taken). u.entry.position ≢ q) ts
+pub above : (a n q : ℕ) (ts : List Taken) → q < a → positions_of ts ≡ range_with_len a n → AllByRecursion (λ (u : Taken). u.entry.position ≢ q) ts
 above a n q [] below is = tt
 above a zero q (t ∷ ts) below is = absurd cc
 above a (suc n) q (t ∷ ts) below is =

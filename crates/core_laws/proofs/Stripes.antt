@@ -9,11 +9,7 @@ use Rattle.pblk_layout.proofs.Sets.{member}
 use Rattle.stripe_placer.specs.OpenLines.{OpenLine, width, unit_of}
 use Rattle.core_laws.specs.OpenedLines.{is_stripe_at}
 use Rattle.core_laws.proofs.Rows.{same_number}
-
-both : (a b : Bool) → (a && b) ≡ true → (a ≡ true) × (b ≡ true)
-both true true e = (refl, refl)
-both true false e = absurd cc
-both false b e = absurd cc
+use Rattle.core_laws.proofs.Tests.{both}
 
 one_rank : (live i j : ℕ) → i < length (units_in live) → j < length (units_in live) → slice_index_or (units_in live) i 0 ≡ slice_index_or (units_in live) j 0 → i ≡ j
 one_rank live i j a b same =
@@ -24,7 +20,7 @@ one_rank live i j a b same =
 same_quotient : (m n w : ℕ) → 0 < w → m * w ≡ n * w → m ≡ n
 same_quotient m n w some e = sym (mul-div_cancel m {n = w} some) ∙ ap (λ k. k / w) e ∙ mul-div_cancel n {n = w} some
 
-by_parts : (i j g : ℕ) → i / g ≡ j / g → i % g ≡ j % g → i ≡ j
+pub by_parts : (i j g : ℕ) → i / g ≡ j / g → i % g ≡ j % g → i ≡ j
 by_parts i j g q r = sym (div-add-mod' i g) ∙ ap₂ (λ a b. a * g + b) q r ∙ div-add-mod' j g
 
 -- two stripes at one place are one

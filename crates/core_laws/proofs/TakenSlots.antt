@@ -20,7 +20,7 @@ use Rattle.stripe_placer.specs.OpenLines.{OpenLine}
 use Rattle.core_laws.specs.Stepping.{after}
 use Rattle.core_laws.specs.PlacerOf.{number_of}
 use Rattle.core_laws.specs.SlotOf.{address_in, readable_block, media_of, slot_of_entry, slot_of_winner, slot_by, slot_of}
-use Rattle.core_laws.proofs.Lists.{filter_same}
+use Rattle.core_laws.proofs.Lists.{filter_same, find_none}
 use Rattle.core_laws.proofs.Rows.{same_number}
 use Rattle.core_laws.proofs.Steady.{AreAlike, answer_same, lost_same, as_opened_same}
 use Rattle.core_laws.proofs.Opening.{placed_before}
@@ -36,7 +36,7 @@ pub any_same : {X : Type 0} (f g : X → Bool) → ((x : X) → f x ≡ g x) →
 any_same f g same [] = refl
 any_same f g same (x ∷ xs) = ap₂ (λ a b. a || b) (same x) (any_same f g same xs)
 
-find_same : {X : Type 0} (f g : X → Bool) → ((x : X) → f x ≡ g x) → (xs : List X) → find f xs ≡ find g xs
+pub find_same : {X : Type 0} (f g : X → Bool) → ((x : X) → f x ≡ g x) → (xs : List X) → find f xs ≡ find g xs
 find_same f g same [] = refl
 find_same f g same (x ∷ xs) = ap₂ (λ b o. cond b (Some x) o) (same x) (find_same f g same xs)
 
@@ -67,7 +67,7 @@ gives_back_same s old new same position p = ap₂ (λ a b. a && b) (landed_same 
 
 -- ---- an entry's slot
 
-is_before : (n m : ℕ) → ((k : ℕ) → m ≤ k → (n == k) ≡ false) → n < m
+pub is_before : (n m : ℕ) → ((k : ℕ) → m ≤ k → (n == k) ≡ false) → n < m
 is_before n m none = go (nat_lt n m) refl
   where
     go : (b : Bool) → nat_lt n m ≡ b → n < m
@@ -142,10 +142,6 @@ never_read test more n (b ∷ bs) e = go (test b) e (λ f. never_read test more 
     go true f rest = absurd cc
     go false f rest = rest f
 
-find_none : {X : Type 0} (test : X → Bool) (xs : List X) → AllByRecursion (λ x. test x ≡ false) xs → find test xs ≡ None
-find_none test [] all = refl
-find_none test (x ∷ xs) all = ap (λ b. cond b (Some x) (find test xs)) all.0 ∙ find_none test xs all.1
-
 not_given : (s : Shape) (log : List Logged) (position : ℕ) (ps : List Placed) → AllByRecursion (λ p. holds_position s position p ≡ false) ps → AllByRecursion (λ p. gives_back s log position p ≡ false) ps
 not_given s log position [] all = tt
 not_given s log position (p ∷ ps) all = (
@@ -154,7 +150,7 @@ not_given s log position (p ∷ ps) all = (
   not_given s log position ps all.1,
 )
 
-last_is : {X : Type 0} (o : Option X) (xs : List X) (x : X) → last_or o (xs ++ x ∷ []) ≡ Some x
+pub last_is : {X : Type 0} (o : Option X) (xs : List X) (x : X) → last_or o (xs ++ x ∷ []) ≡ Some x
 last_is o [] x = refl
 last_is o (y ∷ xs) x = last_is (Some y) xs x
 

@@ -10,11 +10,11 @@ use Rattle.pblk_world.specs.EngineLog.{Begun, Taken, takes, Placed, placements, 
 use Rattle.pblk_world.specs.Fronts.{first_position, taken, has_landed_at, is_users, user_takes}
 use Rattle.pblk_world.specs.Space.{gives_back}
 use Rattle.pblk_world.proofs.Appending.{takes_more}
+use Rattle.stripe_placer.proofs.Rows.{map_last}
 use Rattle.core_laws.specs.WindowOf.{HeldSector, HeldSectors, class_of, source_of, is_given_back, progress_by, held_of, waiting_sector, users_below, window_from}
 use Rattle.core_laws.proofs.Lists.{map_same}
 use Rattle.core_laws.proofs.Steady.{AreAlike}
 use Rattle.core_laws.proofs.Placing.{not_below}
-use Rattle.core_laws.proofs.Opening.{map_last}
 use Rattle.core_laws.proofs.Taking.{with_take, alike, filter_last, not_both}
 use Rattle.core_laws.proofs.TakenSlots.{any_same, landed_same, gives_back_same, begun_same}
 
@@ -25,7 +25,7 @@ landed_at_same s old new same position =
     any_same (λ p. has_landed new p && holds_position s position p) (λ p. has_landed old p && holds_position s position p) (λ p. ap (λ b. b && holds_position s position p) (landed_same old new same p)) (placements new)
     ∙ ap (list_any (λ p. has_landed old p && holds_position s position p)) same.placements
 
-given_same : (s : Shape) (old new : List Logged) → AreAlike old new → (position : ℕ) → is_given_back s new position ≡ is_given_back s old position
+pub given_same : (s : Shape) (old new : List Logged) → AreAlike old new → (position : ℕ) → is_given_back s new position ≡ is_given_back s old position
 given_same s old new same position =
     any_same (gives_back s new position) (gives_back s old position) (gives_back_same s old new same position) (placements new) ∙ ap (list_any (gives_back s old position)) same.placements
 
@@ -39,7 +39,7 @@ held_same s old new same t = ap₂ (λ a b. record {
   progress = progress_by a b;
 }) (landed_at_same s old new same t.entry.position) (given_same s old new same t.entry.position)
 
-not_landed : (s : Shape) (log : List Logged) (position : ℕ) (ps : List Placed) → AllByRecursion (λ p. holds_position s position p ≡ false) ps → list_any (λ p. has_landed log p && holds_position s position p) ps ≡ false
+pub not_landed : (s : Shape) (log : List Logged) (position : ℕ) (ps : List Placed) → AllByRecursion (λ p. holds_position s position p ≡ false) ps → list_any (λ p. has_landed log p && holds_position s position p) ps ≡ false
 not_landed s log position [] all = refl
 not_landed s log position (p ∷ ps) all = ap (λ b. b || list_any (λ p. has_landed log p && holds_position s position p) ps) (not_both (has_landed log p) (holds_position s position p) all.0) ∙ not_landed s log position ps all.1
 

@@ -3,15 +3,17 @@ use Rattle.std.proofs.Common.{◌≡◌, ℕ, ◌+◌, ◌<◌, ◌≤◌, ◌==
 use Rattle.std.specs.Prelude.{slice_get, ⊤}
 use Rattle.std.specs.List.{AllByRecursion, filter, filter_map, cons_option, enumerate_from, find}
 use Rattle.std.proofs.lemmas.Option.{same_Some, none-some}
+use Rattle.std.proofs.lemmas.Bool.{eqb-true}
 use Rattle.pblk_world.specs.Events.{Logged}
 use Rattle.pblk_world.specs.EngineLog.{Placed, placed_by, placements, placed_on, turn}
 use Rattle.stripe_placer.proofs.Among.{IsAmong, in_filter, later}
+use Rattle.stripe_placer.proofs.Chunks.{lt_yes as is_below}
 use Rattle.core_laws.proofs.Lists.{all_at, all_filter, filter_none}
 use Rattle.core_laws.proofs.Engine.{placed_number}
 use Rattle.core_laws.proofs.Rows.{same_number}
-use Rattle.core_laws.proofs.Placing.{is_below, not_below, weaker}
+use Rattle.core_laws.proofs.Placing.{not_below, weaker}
 
-abbrev Rises : List Placed → Type 0
+abbrev pub Rises : List Placed → Type 0
 Rises [] = ⊤
 Rises (p ∷ ps) = AllByRecursion (λ (q : Placed). p.number < q.number) ps × Rises ps
 
@@ -24,7 +26,7 @@ numbers_from log m n (x ∷ xs) below = go (placed_by log n x.event) refl (numbe
     go None e rest = rest
     go (Some p) e rest = let number : p.number ≡ n = placed_number log n x.event p e in (omega arith, rest)
 
-rise_from : (log : List Logged) (n : ℕ) (xs : List Logged) → Rises (filter_map (λ (e : ℕ × Logged). placed_by log e.0 e.1.event) (enumerate_from n xs))
+pub rise_from : (log : List Logged) (n : ℕ) (xs : List Logged) → Rises (filter_map (λ (e : ℕ × Logged). placed_by log e.0 e.1.event) (enumerate_from n xs))
 rise_from log n [] = tt
 rise_from log n (x ∷ xs) = go (placed_by log n x.event) refl (rise_from log (n + 1) xs)
   where
@@ -33,7 +35,7 @@ rise_from log n (x ∷ xs) = go (placed_by log n x.event) refl (rise_from log (n
     go None e rest = rest
     go (Some p) e rest = let number : p.number ≡ n = placed_number log n x.event p e in let below : p.number < n + 1 = omega arith in (numbers_from log p.number (n + 1) xs below, rest)
 
-rise_filtered : (test : Placed → Bool) (ps : List Placed) → Rises ps → Rises (filter test ps)
+pub rise_filtered : (test : Placed → Bool) (ps : List Placed) → Rises ps → Rises (filter test ps)
 rise_filtered test [] rise = tt
 rise_filtered test (p ∷ ps) rise = go (test p) (rise_filtered test ps rise.1)
   where
@@ -41,7 +43,7 @@ rise_filtered test (p ∷ ps) rise = go (test p) (rise_filtered test ps rise.1)
     go true rest = (all_filter (λ (q : Placed). p.number < q.number) test ps rise.0, rest)
     go false rest = rest
 
-count_before : (ps : List Placed) (m : ℕ) (q : Placed) → Rises ps → slice_get ps m ≡ Some q → length (filter (λ (r : Placed). nat_lt r.number q.number) ps) ≡ m
+pub count_before : (ps : List Placed) (m : ℕ) (q : Placed) → Rises ps → slice_get ps m ≡ Some q → length (filter (λ (r : Placed). nat_lt r.number q.number) ps) ≡ m
 count_before [] m q rise e = absurd (none-some q e)
 count_before (p ∷ ps) zero q rise e =
     let same : p.number ≡ q.number = ap (λ (x : Placed). x.number) (same_Some p q e) in
@@ -76,3 +78,12 @@ stands_at_turn log p among =
     let at : IsAmong (placed_on log p.stripe.unit) p = in_filter (λ (q : Placed). q.stripe.unit == p.stripe.unit) (placements log) p among (same_number p.stripe.unit) in
     let same : turn log p ≡ at.0 = count_before (placed_on log p.stripe.unit) at.0 p (rise_filtered (λ (q : Placed). q.stripe.unit == p.stripe.unit) (placements log) (rise_from log 0 log)) at.1 in
     ap (slice_get (placed_on log p.stripe.unit)) same ∙ at.1
+
+-- what stands at a place among the stripes of a unit is of that unit, and has that turn
+pub its_unit : (log : List Logged) (unit k : ℕ) (p : Placed) → slice_get (placed_on log unit) k ≡ Some p → p.stripe.unit ≡ unit
+its_unit log unit k p at = eqb-true p.stripe.unit unit (filtered_is (λ (q : Placed). q.stripe.unit == unit) (placements log) k p at)
+
+pub its_turn : (log : List Logged) (unit k : ℕ) (p : Placed) → slice_get (placed_on log unit) k ≡ Some p → turn log p ≡ k
+its_turn log unit k p at =
+    ap (λ u. length (filter (λ (r : Placed). nat_lt r.number p.number) (placed_on log u))) (its_unit log unit k p at)
+    ∙ count_before (placed_on log unit) k p (rise_filtered (λ (q : Placed). q.stripe.unit == unit) (placements log) (rise_from log 0 log)) at

@@ -2,7 +2,6 @@
 use Rattle.std.specs.Prelude.{ℕ, suc, ◌≡◌, Bool, true, false, List}
 use Rattle.std.specs.List.{AllByRecursion}
 use Rattle.pblk_model.specs.Accepted.{IsAccepted}
-use Rattle.pblk_model.specs.Chunk.{free_chunk}
 use Rattle.pblk_model.specs.Image.{Image, IsFit}
 use Rattle.pblk_model.specs.UnitLog.{UnitOutcome, Answered, Failed, Stopped}
 use Rattle.pblk_world.specs.Events.{EngineEvent, Begin, Take, Open, Place, Landed, Lost, Again, ResetDone, Free, Event, Decides, Does, Logged}
@@ -42,8 +41,3 @@ pub record IsPlainWorld (i : Image) (w : World) : Type 0 where
   pub legal : IsLegal i w
   pub engine : ArePlain (log_of w 0)
   pub units : (unit : ℕ) → ArePlain (log_of w (suc unit))
-
--- and nothing was written on the drive before
-pub record IsBlankWorld (i : Image) (w : World) : Type 0 where
-  pub plain : IsPlainWorld i w
-  pub free : AllByRecursion (AllByRecursion (λ c. c ≡ free_chunk)) i.units

@@ -37,22 +37,22 @@ head_at i h e =
 
 -- ---- how many records there are
 
-some_few : {Y : Type 0} (o : Option Y) (ys : List Y) → length (cons_option o ys) ≤ suc (length ys)
+pub some_few : {Y : Type 0} (o : Option Y) (ys : List Y) → length (cons_option o ys) ≤ suc (length ys)
 some_few None ys = omega arith
 some_few (Some y) ys = omega arith
 
-kept_few : {Y : Type 0} (f : ℕ → Option Y) (a n : ℕ) → length (filter_map f (range_with_len a n)) ≤ n
+pub kept_few : {Y : Type 0} (f : ℕ → Option Y) (a n : ℕ) → length (filter_map f (range_with_len a n)) ≤ n
 kept_few f a zero = omega arith
 kept_few f a (suc n) = let more = kept_few f (a + 1) n in let one = some_few (f a) (filter_map f (range_with_len (a + 1) n)) in omega arith
 
-line_is_few : (i : Image) (line : ℕ) (o : Option StartRecord) → IsAccepted i.shape → IsFit i → length (records_after i line o) ≤ 65536
+pub line_is_few : (i : Image) (line : ℕ) (o : Option StartRecord) → IsAccepted i.shape → IsFit i → length (records_after i line o) ≤ 65536
 line_is_few i line None accepted fit = omega arith
 line_is_few i line (Some start) accepted fit =
     let few = kept_few (record_at i line start) 0 (width i line * i.shape.clba) in
     let short : width i line * i.shape.clba ≤ 65536 = line_is_short i.shape (width i line) accepted (width_within i line fit) in
     omega arith
 
-lines_few : (i : Image) (a n : ℕ) → IsAccepted i.shape → IsFit i → length (flat_map (line_records i) (range_with_len a n)) ≤ n * 65536
+pub lines_few : (i : Image) (a n : ℕ) → IsAccepted i.shape → IsFit i → length (flat_map (line_records i) (range_with_len a n)) ≤ n * 65536
 lines_few i a zero accepted fit = omega arith
 lines_few i a (suc n) accepted fit =
     let more = lines_few i (a + 1) n accepted fit in

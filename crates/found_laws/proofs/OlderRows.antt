@@ -16,8 +16,9 @@ use Rattle.pblk_world.specs.Fronts.{first_position}
 use Rattle.pblk_world.specs.Lines.{found_image, known_image, are_empty, line_data, has_number, is_free_line, next_seq}
 use Rattle.pblk_world.specs.Starts.{row_bound, bound_by, found_row, older_row, older_rows}
 use Rattle.pblk_world.specs.Legal.{IsLegal}
-use Rattle.found_laws.proofs.Began.{IsBegun, named_image, began, found_named}
-use Rattle.found_laws.proofs.Counting.{start_numbers, head_at, bound_low}
+use Rattle.opening_laws.proofs.FoundImages.{found_first, found_seq}
+use Rattle.found_laws.proofs.Began.{named_image, found_named}
+use Rattle.found_laws.proofs.Counting.{start_numbers, head_at, some_few, kept_few, bound_low}
 
 -- a row of a line fits a start record
 record IsRowFor (s : Shape) (r : StartRecord) (line : ℕ) (row : Row) : Type 0 where
@@ -103,10 +104,12 @@ older_fits : (i : Image) (w : World) (b : Begun) (r : StartRecord) (line : ℕ) 
     → line < i.shape.chunks → IfSome (older_row i (log_of w) line) (IsRowFor i.shape r line)
 older_fits i w b r line legal e seq front none inside = elim (cases_Bool (is_as_found (life_of (log_of w 0) line))) [
   | inl found ↦
-      let is : IsBegun i w b = began i w b legal e in
+      let named = found_named i w b e in
+      let first : b.beginning.first ≡ end (named_image i (log_of w) b) = found_first i w b legal e ∙ ap end named in
+      let following : b.beginning.seq ≡ next_seq (head (named_image i (log_of w) b)) = found_seq i w b legal e ∙ ap (λ (j : Image). next_seq (head j)) named in
       let same = row_of_found i w b line e found in
       subst (λ o. IfSome o (IsRowFor i.shape r line)) (sym same)
-      (fits_by (named_image i (log_of w) b) r b.beginning.first line (start_of (named_image i (log_of w) b) line) inside refl is.first (seq ∙ is.seq) front
+      (fits_by (named_image i (log_of w) b) r b.beginning.first line (start_of (named_image i (log_of w) b) line) inside refl first (seq ∙ following) front
       (λ some here. some (sym same ∙ ap (older_row i (log_of w)) here ∙ none)))
   | inr other ↦ subst (λ o. IfSome o (IsRowFor i.shape r line)) (sym (ap (λ c. if c then found_row i (log_of w) line (start_of (found_image i (log_of w)) line) else None) other)) tt
 ]
@@ -117,14 +120,6 @@ rows_fit_record i w b r legal e seq front none =
     fits_from i.shape r (older_row i (log_of w)) (λ line inside. older_fits i w b r line legal e seq front none inside) 0 0 i.shape.chunks (omega arith) (omega arith)
 
 -- ---- they are few
-
-some_few : {Y : Type 0} (o : Option Y) (ys : List Y) → length (cons_option o ys) ≤ suc (length ys)
-some_few None ys = omega arith
-some_few (Some y) ys = omega arith
-
-kept_few : {Y : Type 0} (f : ℕ → Option Y) (a n : ℕ) → length (filter_map f (range_with_len a n)) ≤ n
-kept_few f a zero = omega arith
-kept_few f a (suc n) = let more = kept_few f (a + 1) n in let one = some_few (f a) (filter_map f (range_with_len (a + 1) n)) in omega arith
 
 one_less : {Y : Type 0} (f : ℕ → Option Y) (a n k : ℕ) → k < n → f (a + k) ≡ None → length (filter_map f (range_with_len a n)) + 1 ≤ n
 one_less f a zero k h none = absurd (omega arith)

@@ -7,6 +7,4 @@ mod laws;
 mod worlds;
 
 pub use laws::{a_mount_begins_with_what_is_found, chunks_are_found_by_line, what_is_found_fits};
-pub use worlds::{
-    a_mount_began_with_what_it_found, media_of_a_world_are_fit, older_rows_fit_a_start_record,
-};
+pub use worlds::{media_of_a_world_are_fit, older_rows_fit_a_start_record};

@@ -2,18 +2,14 @@
 //! nothing.
 
 ghost use Rattle.std.specs.Prelude.{◌≡◌, ◌≤◌, ◌<◌, ◌-◌, ℕ, List, length, true, Some, None};
-ghost use Rattle.pblk_model.specs.declared.found.Found.{Found};
 ghost use Rattle.pblk_model.specs.Accepted.{IsAccepted};
 ghost use Rattle.pblk_model.specs.Image.{Image, IsFit};
 ghost use Rattle.pblk_model.specs.StartRecord.{StartRecord, rows_fit};
-ghost use Rattle.pblk_model.specs.Contents.{head, end};
 ghost use Rattle.pblk_world.specs.World.{World, Logs, log_of, cut_logs, media};
 ghost use Rattle.pblk_world.specs.EngineLog.{Begun, begun};
-ghost use Rattle.pblk_world.specs.Lines.{found_image, is_free_line, next_seq, stray_lines};
+ghost use Rattle.pblk_world.specs.Lines.{found_image, is_free_line};
 ghost use Rattle.pblk_world.specs.Starts.{older_row, older_rows};
 ghost use Rattle.pblk_world.specs.Legal.{IsLegal};
-ghost use Rattle.found_laws.specs.Finding.{IsFoundOf, NoneOpen};
-ghost use Rattle.found_laws.specs.Beginnings.{beginning_of};
 
 /// The media of a legal world are those of a drive of its shape, at any prefixes of its logs. So is
 /// the image that its mount found.
@@ -24,24 +20,6 @@ pub fn media_of_a_world_are_fit()
         → IsLegal i w → IsFit (media i (cut_logs lengths (log_of w))) }
     ensures found { (i : Image) (w : World) → IsAccepted i.shape → IsFit i → IsLegal i w
         → IsFit (found_image i (log_of w)) }
-{}
-
-/// The mount of a legal world began with what is found of the image that it found, which has no
-/// Open chunk.
-pub fn a_mount_began_with_what_it_found()
-    ensures beginning { (i : Image) (w : World) (b : Begun) (f : Found) → IsLegal i w
-        → begun (log_of w 0) ≡ Some b → IsFoundOf (found_image i (log_of w)) f
-        → b.beginning ≡ beginning_of f }
-    ensures first { (i : Image) (w : World) (b : Begun) → IsLegal i w
-        → begun (log_of w 0) ≡ Some b → b.beginning.first ≡ end (found_image i (log_of w)) }
-    ensures seq { (i : Image) (w : World) (b : Begun) → IsLegal i w
-        → begun (log_of w 0) ≡ Some b
-        → b.beginning.seq ≡ next_seq (head (found_image i (log_of w))) }
-    ensures strays { (i : Image) (w : World) (b : Begun) → IsLegal i w
-        → begun (log_of w 0) ≡ Some b
-        → b.beginning.strays ≡ stray_lines (found_image i (log_of w)) }
-    ensures closed { (i : Image) (w : World) (b : Begun) → IsLegal i w
-        → begun (log_of w 0) ≡ Some b → NoneOpen (found_image i (log_of w)) }
 {}
 
 /// The rows of older lines fit a start record of the mount whose line is none of them and whose

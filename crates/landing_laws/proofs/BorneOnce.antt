@@ -23,15 +23,15 @@ use Rattle.pblk_world.proofs.Appending.{placements_more}
 use Rattle.core_laws.specs.PlacerOf.{positions_of}
 use Rattle.core_laws.specs.Positions.{AreNumbered, AreMarked}
 use Rattle.core_laws.specs.PlainWorlds.{is_plain_event, ArePlain, IsPlainWorld}
-use Rattle.core_laws.proofs.Lists.{filter_none}
+use Rattle.core_laws.proofs.Lists.{filter_none, all_dropped, all_taken, all_replicated}
 use Rattle.core_laws.proofs.Rows.{other_number}
 use Rattle.core_laws.proofs.Placing.{not_below, weaker}
 use Rattle.core_laws.proofs.Numbering.{numbered_after}
 use Rattle.core_laws.proofs.KeptPositions.{marked_after}
-use Rattle.core_laws.proofs.PlacedPositions.{all_joined}
+use Rattle.core_laws.proofs.PlacedPositions.{all_joined, unnamed}
 use Rattle.landing_laws.proofs.Keeping.{IsKept, kept}
 use Rattle.landing_laws.proofs.Entries.{accepted_small}
-use Rattle.landing_laws.proofs.HeldOnce.{unnamed, none_times_lost, all_taken, all_dropped, all_replicated}
+use Rattle.landing_laws.proofs.HeldOnce.{none_times_lost}
 use Rattle.landing_laws.proofs.SyncedWindow.{numbered_above}
 
 unfoldable pub times : Shape → ℕ → List Block → ℕ

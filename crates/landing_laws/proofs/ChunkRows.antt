@@ -8,8 +8,9 @@ use Rattle.std.proofs.lemmas.Nat.{div-mul-add, mod-mul-add}
 use Rattle.std.proofs.lemmas.Option.{same_Some, none-some, slice_get_within, get_or_from_slice_get}
 use Rattle.pblk_model.specs.declared.shape.Shape.{Shape}
 use Rattle.pblk_world.specs.EngineLog.{Placed}
+use Rattle.stripe_placer.proofs.Chunks.{lt_yes as is_below}
 use Rattle.landing_laws.specs.ChunkBlocks.{IsStripeNumber}
-use Rattle.core_laws.proofs.Placing.{is_below, not_below}
+use Rattle.core_laws.proofs.Placing.{not_below}
 
 -- ---- rising numbers differ
 

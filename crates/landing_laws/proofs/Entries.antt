@@ -47,7 +47,7 @@ order_kept i small = record {
   };
 }
 
-all_true : {X : Type 0} (xs : List X) → AllByRecursion (λ (x : X). true ≡ true) xs
+pub all_true : {X : Type 0} (xs : List X) → AllByRecursion (λ (x : X). true ≡ true) xs
 all_true [] = tt
 all_true (x ∷ xs) = (refl, all_true xs)
 

@@ -19,15 +19,13 @@ use Rattle.pblk_world.specs.Placing.{next_address, end_address, end_record, IsSt
 use Rattle.pblk_world.specs.Legal.{IsLegal, IsDecision}
 use Rattle.pblk_world.proofs.Appending.{placements_more}
 use Rattle.core_laws.specs.Positions.{AreNumbered, AreMarked}
-use Rattle.core_laws.proofs.Lists.{all_filter}
+use Rattle.core_laws.proofs.Lists.{all_filter, all_dropped, all_taken, zipped as mapped_both, all_replicated}
 use Rattle.core_laws.proofs.Placing.{weaker}
 use Rattle.core_laws.proofs.Numbering.{numbered_after, first_stays}
 use Rattle.core_laws.proofs.KeptPositions.{marked_after}
 use Rattle.core_laws.proofs.PlacedPositions.{all_joined}
+use Rattle.core_laws.proofs.Tests.{no_both as not_both, second_of as and_second}
 use Rattle.landing_laws.proofs.Keeping.{IsKept, kept}
-use Rattle.landing_laws.proofs.LandedBlocks.{mapped_both}
-use Rattle.landing_laws.proofs.Growing.{and_second}
-use Rattle.landing_laws.proofs.HeldOnce.{all_taken, all_dropped, all_replicated}
 use Rattle.landing_laws.proofs.BorneOnce.{BearsNone, records_none, pads_none}
 use Rattle.landing_laws.proofs.SyncedWindow.{numbered_above}
 
@@ -41,9 +39,6 @@ holds_from s n (b ∷ bs) all q e = go (bears_position s q b) refl e (λ f. hold
     go : (c : Bool) → bears_position s q b ≡ c → (c || list_any (bears_position s q) bs) ≡ true → (list_any (bears_position s q) bs ≡ true → n ≤ q) → n ≤ q
     go true f g rest = all.0 q f
     go false f g rest = rest g
-
-not_both : {X : Type 0} (b : Bool) → b ≡ true → b ≡ false → X
-not_both b e f = absurd cc
 
 from_none : (s : Shape) (n : ℕ) (b : Block) → BearsNone s b → BearsFrom s n b
 from_none s n b none = λ q e. not_both (bears_position s q b) e (none q)

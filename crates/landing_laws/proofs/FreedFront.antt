@@ -1,6 +1,5 @@
 -- The front freed in a plain world.
-use Rattle.std.proofs.Common.{◌≡◌, ◌⊎◌, inl, inr, ℕ, ◌+◌, ◌<◌, ◌≤◌, ◌==◌, ◌||◌, zero, suc, Bool, true, false, Some, None, List, [], ◌∷◌, ◌++◌, length, refl, sym, subst, ap, ◌∙◌, arith, append-nil, length-append}
-use Rattle.std.specs.Prelude.{slice_get}
+use Rattle.std.proofs.Common.{◌≡◌, ◌⊎◌, inl, inr, ℕ, ◌+◌, ◌<◌, ◌≤◌, ◌==◌, true, false, Some, None, List, [], ◌∷◌, ◌++◌, length, refl, sym, subst, ap, ◌∙◌, arith, append-nil, length-append}
 use Rattle.std.specs.List.{AllByRecursion}
 use Rattle.std.specs.Option.{option_to_list}
 use Rattle.std.proofs.lemmas.Bool.{cases_order}
@@ -20,10 +19,11 @@ use Rattle.core_laws.specs.PlacerOf.{unanswered_on}
 use Rattle.core_laws.specs.PlainWorlds.{is_plain_decision, IsPlainWorld}
 use Rattle.core_laws.specs.Stepping.{after}
 use Rattle.core_laws.specs.WindowOf.{is_given_back}
-use Rattle.core_laws.proofs.Lists.{all_at}
+use Rattle.core_laws.proofs.Lists.{all_at, got_within as some_at}
 use Rattle.core_laws.proofs.Placing.{new_placed, placements_now}
 use Rattle.core_laws.proofs.PlacedPositions.{all_joined}
 use Rattle.core_laws.proofs.Taking.{alike}
+use Rattle.core_laws.proofs.Tests.{no_both as not_both, or_left}
 use Rattle.landing_laws.specs.ChunkBlocks.{can_be_read, AreInRows}
 use Rattle.landing_laws.proofs.Keeping.{IsKept, kept}
 use Rattle.landing_laws.proofs.Least.{IsLeast, least, least_rises, least_below}
@@ -77,19 +77,10 @@ takes_grow log l =
     let count : length (takes (log ++ l ∷ [])) ≡ length (takes log) + length (option_to_list (taken_by l.event)) = ap length (takes_more log l) ∙ length-append (takes log) (option_to_list (taken_by l.event)) in
     omega arith
 
-or_left : (a b : Bool) → a ≡ true → (a || b) ≡ true
-or_left true b e = refl
-or_left false b e = absurd cc
-
 by_kept : (s : Shape) (log : List Logged) (e : EngineEvent) (knows : List ℕ) → begun_by knows (Decides e) ≡ None → AreKept log (log ++ record { event = Decides e; knows = knows } ∷ []) → freed s log ≤ freed s (log ++ record { event = Decides e; knows = knows } ∷ [])
 by_kept s log e knows none kept =
     let l : Logged = record { event = Decides e; knows = knows } in
     freed_by s log (log ++ l ∷ []) (first_kept log e knows none) (takes_grow log l) (λ q f. given_kept s log (log ++ l ∷ []) kept q ∙ f)
-
-some_at : {X : Type 0} (xs : List X) (m : ℕ) → m < length xs → (x : X) × (slice_get xs m ≡ Some x)
-some_at [] m inside = absurd (omega arith)
-some_at (x ∷ xs) zero inside = (x, refl)
-some_at (x ∷ xs) (suc m) inside = some_at xs m (omega arith)
 
 pub freed_rises : (i : Image) (known : Logs) (w : World) (beginning : Begun) (e : EngineEvent) (knows : List ℕ) → IsPlainWorld i w → ((o : Opening) (unit : ℕ) → AreInRows i.shape (log_of w 0) o unit)
     → known 0 ≡ log_of w 0 → is_plain_decision e ≡ true → IsDecision i known beginning e → freed i.shape (log_of w 0) ≤ freed i.shape (after (log_of w) e knows 0)
@@ -110,9 +101,6 @@ freed_rises i known w beginning (Lost unit event) knows plain rows own passes ma
 freed_rises i known w beginning (Again unit event) knows plain rows own passes may = absurd cc
 freed_rises i known w beginning (ResetDone unit event) knows plain rows own passes may = by_kept i.shape (log_of w 0) (ResetDone unit event) knows refl (alike_kept (log_of w 0) (after (log_of w) (ResetDone unit event) knows 0) (quiet_alike (log_of w 0) (ResetDone unit event) knows (reset_is_quiet (log_of w 0) unit event knows)))
 freed_rises i known w beginning (Free line) knows plain rows own passes may = absurd cc
-
-not_both : {X : Type 0} (b : Bool) → b ≡ true → b ≡ false → X
-not_both b e f = absurd cc
 
 -- an entry at a front that is given back may leave the window
 pub freed_past : (s : Shape) (log : List Logged) (from : ℕ) → from ≤ freed s log → from < taken log → is_given_back s log from ≡ true → from + 1 ≤ freed s log

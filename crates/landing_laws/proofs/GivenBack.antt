@@ -12,10 +12,10 @@ use Rattle.stripe_placer.proofs.Among.{IsAmong, in_filter}
 use Rattle.core_laws.specs.PlainWorlds.{ArePlain}
 use Rattle.core_laws.proofs.Lists.{all_at}
 use Rattle.core_laws.proofs.Rows.{same_number}
+use Rattle.core_laws.proofs.TakenSlots.{any_same}
 use Rattle.landing_laws.specs.ChunkBlocks.{AreInRows}
 use Rattle.landing_laws.proofs.LandedStripe.{IsOneMore}
 use Rattle.landing_laws.proofs.PlainStripes.{unit_landed}
-use Rattle.landing_laws.proofs.Untouched.{any_same}
 
 -- ---- the blocks of a chunk
 
@@ -129,14 +129,6 @@ of_unit_landed s log new p o is r among its =
     all_at (λ (r : Placed). has_landed new r ≡ true) (placed_on new p.stripe.unit) at.0 r at.1 (unit_landed new p.stripe.unit is.plain_new is.all_answered)
 
 -- ---- what could be read can be read
-
-pub fewer : {X : Type 0} (f : X → Bool) (xs : List X) → length (filter f xs) ≤ length xs
-fewer f [] = omega arith
-fewer {X} f (x ∷ xs) = go (f x) (fewer f xs)
-  where
-    go : (b : Bool) → length (filter f xs) ≤ length xs → length (cond b (x ∷ filter f xs) (filter f xs)) ≤ suc (length xs)
-    go true rest = omega arith
-    go false rest = omega arith
 
 pub last_at : {X : Type 0} (xs : List X) (m : ℕ) → length xs ≡ suc m → (x : X) × (slice_get xs m ≡ Some x)
 last_at [] m e = absurd cc

@@ -8,18 +8,21 @@ use Rattle.pblk_world.specs.Events.{Logged}
 use Rattle.pblk_world.specs.EngineLog.{LineLife, AsFound, Opened, Freed, is_life, Opening, Placed, placements, stripes_of, stripes_on, answer_of, is_land, has_landed, bears_position}
 use Rattle.pblk_world.specs.Space.{landed_blocks, is_readable_in, gives_back}
 use Rattle.stripe_placer.proofs.Among.{IsAmong}
+use Rattle.stripe_placer.proofs.Chunks.{lt_yes as is_below}
 use Rattle.core_laws.specs.PlainWorlds.{ArePlain}
 use Rattle.core_laws.specs.WindowOf.{is_given_back}
-use Rattle.core_laws.proofs.Lists.{all_filter}
+use Rattle.core_laws.proofs.Lists.{all_filter, all_of as each, zipped as mapped_both, filter_short as fewer}
 use Rattle.core_laws.proofs.Rows.{same_number}
-use Rattle.core_laws.proofs.Placing.{is_below, weaker}
+use Rattle.core_laws.proofs.Placing.{weaker}
+use Rattle.core_laws.proofs.Tests.{no_both as not_both, first_of as and_first, second_of as and_second, and_both}
+use Rattle.core_laws.proofs.PlacedLines.{passes as pass_filter}
+use Rattle.core_laws.proofs.TakenSlots.{any_same}
 use Rattle.landing_laws.specs.ChunkBlocks.{can_be_read}
 use Rattle.landing_laws.proofs.LandedStripe.{each_among}
-use Rattle.landing_laws.proofs.LandedBlocks.{mapped_both, on_new, blocks_more, readable_unit, readable_opening, its_opening, pass_filter}
+use Rattle.landing_laws.proofs.LandedBlocks.{on_new, blocks_more, readable_unit, readable_opening, its_opening}
 use Rattle.landing_laws.proofs.PlainStripes.{none_of_lost}
-use Rattle.landing_laws.proofs.Growing.{and_first, and_second, and_both, any_weaker}
-use Rattle.landing_laws.proofs.Untouched.{any_same}
-use Rattle.landing_laws.proofs.GivenBack.{flat_any, any_split, readable_life, gives_of_chunk, IsLandedNow, of_unit_landed, fewer, times_le, rows_within}
+use Rattle.landing_laws.proofs.Growing.{any_weaker}
+use Rattle.landing_laws.proofs.GivenBack.{flat_any, any_split, readable_life, gives_of_chunk, IsLandedNow, of_unit_landed, times_le, rows_within}
 
 -- ---- what could be read can be read
 
@@ -80,9 +83,6 @@ readable_other s log new p o r block is e = go (nat_eq r.stripe.unit p.stripe.un
     go true f = by_life r.life (first (is_life o.number r.life) (ap (λ b. is_life o.number r.life && b) (sym f) ∙ e))
     go false f = readable_unit s log new p r.stripe.unit block r.life is.one_more (eqb-false r.stripe.unit p.stripe.unit f)
 
-not_both : {X : Type 0} (b : Bool) → b ≡ true → b ≡ false → X
-not_both b e f = absurd cc
-
 its_chunk : (s : Shape) (log new : List Logged) (p : Placed) (o : Opening) → IsLandedNow s log new p o → of_chunk p o p ≡ true
 its_chunk s log new p o is = and_both (is_life o.number p.life) (p.stripe.unit == p.stripe.unit) (its_opening o p.life is.life) (same_number p.stripe.unit)
 
@@ -95,10 +95,6 @@ gives_other s log new p o q r is either e =
     ap₂ (λ a b. a && b) (landed_other s log new p o r is either e)
     (any_same (λ (b : ℕ × Block). bears_position s q b.1 && is_readable_in s new r.stripe.unit b.0 r.life) (λ (b : ℕ × Block). bears_position s q b.1 && is_readable_in s log r.stripe.unit b.0 r.life)
     (λ b. ap (λ c. bears_position s q b.1 && c) (readable_other s log new p o r b.0 is e)) (enumerate_from r.stripe.at r.stripe.blocks))
-
-each : {X : Type 0} (P : X → Type 0) → ((x : X) → P x) → (xs : List X) → AllByRecursion P xs
-each P all [] = tt
-each P all (x ∷ xs) = (all x, each P all xs)
 
 pub chunk_life : (p : Placed) (o : Opening) (r : Placed) → of_chunk p o r ≡ true → is_life o.number r.life ≡ true
 chunk_life p o r e = and_first (is_life o.number r.life) (r.stripe.unit == p.stripe.unit) e

@@ -1,10 +1,9 @@
 -- An event takes nothing back: what has landed has landed, and the front synced never falls.
-use Rattle.std.proofs.Common.{◌≡◌, ℕ, ◌+◌, ◌<◌, ◌≤◌, ◌==◌, ◌&&◌, ◌||◌, zero, suc, nat_lt, Bool, true, false, Some, None, Option, List, [], ◌∷◌, ◌++◌, length, refl, ap, ap₂, ◌∙◌, arith, append-nil, length-append}
+use Rattle.std.proofs.Common.{◌≡◌, ℕ, ◌+◌, ◌<◌, ◌≤◌, ◌==◌, ◌&&◌, ◌||◌, nat_lt, Bool, true, false, Some, None, Option, List, [], ◌∷◌, ◌++◌, length, refl, ap, ap₂, ◌∙◌, arith, append-nil, length-append}
 use Rattle.std.specs.Prelude.{slice_get}
 use Rattle.std.specs.List.{AllByRecursion, filter, list_any, enumerate_from}
 use Rattle.std.specs.Option.{option_to_list}
 use Rattle.std.proofs.lemmas.List.Elements.{filter-append}
-use Rattle.std.proofs.lemmas.Option.{none-some}
 use Rattle.pblk_model.specs.declared.shape.Shape.{Shape}
 use Rattle.pblk_model.specs.Chunk.{Block}
 use Rattle.pblk_world.specs.Events.{Event, Logged}
@@ -14,9 +13,10 @@ use Rattle.pblk_world.specs.Space.{is_readable_in, gives_back, freed}
 use Rattle.pblk_world.proofs.Appending.{takes_more, answers_more, placements_more}
 use Rattle.pblk_world.proofs.SyncedFront.{synced_within}
 use Rattle.core_laws.specs.WindowOf.{is_given_back}
-use Rattle.core_laws.proofs.Lists.{all_filter, filter_none}
+use Rattle.core_laws.proofs.Lists.{all_filter, filter_none, get_more as get_before, all_of as each}
 use Rattle.core_laws.proofs.Engine.{placed_number, placements_before}
 use Rattle.core_laws.proofs.Placing.{not_below, weaker}
+use Rattle.core_laws.proofs.Tests.{first_of as and_first, second_of as and_second, and_both}
 use Rattle.landing_laws.proofs.Least.{least_rises}
 
 more_numbers : (log : List Logged) (e : Event) (n : ℕ) → n < length log → AllByRecursion (λ (q : Placed). nat_lt q.number n ≡ false) (option_to_list (placed_by log (length log) e))
@@ -37,11 +37,6 @@ turn_grown log l r before =
     (filter_none (λ (q : Placed). nat_lt q.number r.number) (filter (λ (p : Placed). p.stripe.unit == r.stripe.unit) more)
     (all_filter (λ (q : Placed). nat_lt q.number r.number ≡ false) (λ (p : Placed). p.stripe.unit == r.stripe.unit) more (more_numbers log l.event r.number before)))
     ∙ append-nil (filter (λ (q : Placed). nat_lt q.number r.number) (placed_on log r.stripe.unit)))
-
-get_before : {X : Type 0} (xs ys : List X) (n : ℕ) (x : X) → slice_get xs n ≡ Some x → slice_get (xs ++ ys) n ≡ Some x
-get_before [] ys n x e = absurd (none-some x e)
-get_before (y ∷ xs) ys zero x e = e
-get_before (y ∷ xs) ys (suc n) x e = get_before xs ys n x e
 
 pub answer_grown : (log : List Logged) (l : Logged) (r : Placed) (a : Answer) → r.number < length log → answer_of log r ≡ Some a → answer_of (log ++ l ∷ []) r ≡ Some a
 answer_grown log l r a before is =
@@ -79,18 +74,6 @@ any_weaker {X} f g (x ∷ xs) all e = go (f x) refl e (any_weaker f g xs all.1)
     go true h k rest = or_true (g x) (list_any g xs) (all.0 h)
     go false h k rest = or_either (g x) (list_any g xs) (rest k)
 
-pub and_first : (a b : Bool) → (a && b) ≡ true → a ≡ true
-and_first true b e = refl
-and_first false b e = absurd cc
-
-pub and_second : (a b : Bool) → (a && b) ≡ true → b ≡ true
-and_second true b e = e
-and_second false b e = absurd cc
-
-pub and_both : (a b : Bool) → a ≡ true → b ≡ true → (a && b) ≡ true
-and_both true b e f = f
-and_both false b e f = absurd cc
-
 pub landed_at_grown : (s : Shape) (log : List Logged) (l : Logged) (q : ℕ) → has_landed_at s log q ≡ true → has_landed_at s (log ++ l ∷ []) q ≡ true
 landed_at_grown s log l q e =
     let new : List Logged = log ++ l ∷ [] in
@@ -100,9 +83,6 @@ landed_at_grown s log l q e =
     (weaker (λ (r : Placed). r.number < length log) (λ (r : Placed). (has_landed log r && holds_position s q r) ≡ true → (has_landed new r && holds_position s q r) ≡ true)
     (λ r before f. and_both (has_landed new r) (holds_position s q r) (landed_grown log l r before (and_first (has_landed log r) (holds_position s q r) f)) (and_second (has_landed log r) (holds_position s q r) f))
     (placements log) (placements_before log)) e)
-
-first_grown : (m : Logged) (log : List Logged) (l : Logged) → first_position ((m ∷ log) ++ l ∷ []) ≡ first_position (m ∷ log)
-first_grown m log l = refl
 
 pub synced_grown : (s : Shape) (log : List Logged) (l : Logged) → synced s log ≤ synced s (log ++ l ∷ [])
 synced_grown s [] l = let none : synced s [] ≤ taken [] = synced_within s [] in omega arith
@@ -129,10 +109,6 @@ given_holds s log q r e =
     (and_first (has_landed log r) (list_any (λ (b : ℕ × Block). bears_position s q b.1 && is_readable_in s log r.stripe.unit b.0 r.life) (enumerate_from r.stripe.at r.stripe.blocks)) e)
     (readable_bears (bears_position s q) (λ b. is_readable_in s log r.stripe.unit b.0 r.life) r.stripe.at r.stripe.blocks
     (and_second (has_landed log r) (list_any (λ (b : ℕ × Block). bears_position s q b.1 && is_readable_in s log r.stripe.unit b.0 r.life) (enumerate_from r.stripe.at r.stripe.blocks)) e))
-
-each : {X : Type 0} (P : X → Type 0) → ((x : X) → P x) → (xs : List X) → AllByRecursion P xs
-each P all [] = tt
-each P all (x ∷ xs) = (all x, each P all xs)
 
 pub given_landed : (s : Shape) (log : List Logged) (q : ℕ) → is_given_back s log q ≡ true → has_landed_at s log q ≡ true
 given_landed s log q e = any_weaker (gives_back s log q) (λ r. has_landed log r && holds_position s q r) (placements log)

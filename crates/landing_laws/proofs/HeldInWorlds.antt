@@ -11,10 +11,10 @@ use Rattle.core_laws.specs.PlacerOf.{unanswered_on}
 use Rattle.core_laws.specs.PlainWorlds.{IsPlainWorld}
 use Rattle.core_laws.specs.WindowOf.{is_given_back}
 use Rattle.core_laws.proofs.Lists.{all_at}
+use Rattle.core_laws.proofs.Answered.{first_unanswered}
 use Rattle.landing_laws.specs.ChunkBlocks.{newly_readable, chunk_blocks, AreInRows}
 use Rattle.landing_laws.proofs.Entries.{AreInOrder, in_order, accepted_small}
 use Rattle.landing_laws.proofs.Least.{least_below}
-use Rattle.landing_laws.proofs.Turns.{first_unanswered}
 use Rattle.landing_laws.proofs.LandedStripe.{with_landing, one_more}
 use Rattle.landing_laws.proofs.LandedWindow.{landed_now}
 use Rattle.landing_laws.proofs.GivenNow.{IsOfChunk, chunk_members}

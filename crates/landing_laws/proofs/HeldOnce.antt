@@ -1,17 +1,16 @@
 -- In a plain world each position is in one stripe at most.
-use Rattle.std.proofs.Common.{◌≡◌, ◌≢◌, ◌⊎◌, inl, inr, ℕ, ◌+◌, ◌-◌, ◌<◌, ◌≤◌, ◌==◌, ◌&&◌, ◌||◌, zero, suc, not, nat_lt, Bool, true, false, cond, Some, None, List, [], ◌∷◌, ◌++◌, length, take, drop, replicate, refl, sym, subst, ap, ap₂, ◌∙◌, arith, length-append}
-use Rattle.std.specs.Prelude.{map, slice_get, slice_range, is_some, if◌then◌else◌}
+use Rattle.std.proofs.Common.{◌≡◌, ◌⊎◌, inl, inr, ℕ, ◌+◌, ◌-◌, ◌<◌, ◌≤◌, ◌==◌, ◌&&◌, ◌||◌, zero, suc, not, nat_lt, Bool, true, false, cond, List, [], ◌∷◌, ◌++◌, length, take, drop, replicate, refl, sym, subst, ap, ◌∙◌, arith, length-append}
+use Rattle.std.specs.Prelude.{map, slice_get, slice_range, is_some}
 use Rattle.std.specs.List.{AllByRecursion, filter, list_any}
 use Rattle.std.specs.Option.{option_to_list}
 use Rattle.std.proofs.lemmas.Bool.{eqb-true}
 use Rattle.std.proofs.lemmas.List.Elements.{filter-append}
 use Rattle.std.proofs.lemmas.Option.{same_Some, slice_get_within}
 use Rattle.pblk_model.specs.declared.shape.Shape.{Shape}
-use Rattle.pblk_model.specs.declared.chunk.Mark.{Mark}
 use Rattle.pblk_model.specs.Chunk.{Block}
 use Rattle.pblk_model.specs.Blocks.{blocks_of}
 use Rattle.pblk_model.specs.Image.{Image}
-use Rattle.pblk_model.specs.Marks.{meta_lba, void_lba, meta_mark, pad_block}
+use Rattle.pblk_model.specs.Marks.{meta_lba, meta_mark, pad_block}
 use Rattle.pblk_model.specs.LineOrder.{start_len, end_len}
 use Rattle.pblk_model.specs.StartRecord.{start_bytes}
 use Rattle.pblk_model.specs.EndRecord.{end_bytes}
@@ -24,18 +23,18 @@ use Rattle.pblk_world.specs.Placing.{next_address, end_address, end_record, IsSt
 use Rattle.pblk_world.specs.Legal.{IsDecision}
 use Rattle.pblk_world.proofs.Appending.{placements_more}
 use Rattle.stripe_placer.proofs.Among.{IsAmong, in_filter}
+use Rattle.stripe_placer.proofs.Chunks.{lt_yes as is_below}
 use Rattle.core_laws.specs.Positions.{AreMarked}
 use Rattle.core_laws.specs.PlainWorlds.{is_plain_event, ArePlain, IsPlainWorld}
-use Rattle.core_laws.proofs.Lists.{all_filter, filter_none}
-use Rattle.core_laws.proofs.Rows.{other_number}
-use Rattle.core_laws.proofs.Placing.{is_below, not_below, weaker}
+use Rattle.core_laws.proofs.Lists.{all_filter, filter_none, all_dropped, all_taken, all_mapped, zipped as mapped_both, all_replicated}
+use Rattle.core_laws.proofs.Placing.{weaker}
 use Rattle.core_laws.proofs.KeptPositions.{marked_after}
-use Rattle.core_laws.proofs.PlacedPositions.{all_joined}
+use Rattle.core_laws.proofs.PlacedPositions.{all_joined, unnamed}
+use Rattle.core_laws.proofs.Tests.{first_of as and_first, second_of as and_second}
+use Rattle.core_laws.proofs.PlacedLines.{passes as pass_filter}
 use Rattle.landing_laws.proofs.Keeping.{IsKept, kept}
 use Rattle.landing_laws.proofs.Entries.{accepted_small}
-use Rattle.landing_laws.proofs.LandedBlocks.{mapped_both, pass_filter}
 use Rattle.landing_laws.proofs.PlainStripes.{plain_not_lost}
-use Rattle.landing_laws.proofs.Growing.{and_first, and_second}
 
 -- how many stripes hold a position
 abbrev pub holders : Shape → List Logged → ℕ → ℕ
@@ -57,29 +56,8 @@ holds_fresh s log (b ∷ bs) all q e = go (bears_position s q b) refl e (λ f. h
     go true f g rest = all.0 q f
     go false f g rest = rest g
 
-pub unnamed : (s : Shape) (m : Mark) → s.capacity ≤ meta_lba → meta_lba ≤ m.lba → m.lba ≢ void_lba → is_some (named s m) ≡ false
-unnamed s m small above other = ap₂ (λ a b. is_some (if a then Some (Some m.lba) else (if b then Some None else None))) (not_below s.capacity m.lba (omega arith)) (other_number m.lba void_lba other)
-
 bears_none : (s : Shape) (log : List Logged) (b : Block) → is_some (named s b.mark) ≡ false → BearsFresh s log b
 bears_none s log b none = λ q e. let some : is_some (named s b.mark) ≡ true = and_first (is_some (named s b.mark)) (b.mark.position == q) e in absurd cc
-
-pub all_replicated : {X : Type 0} (P : X → Type 0) (n : ℕ) (x : X) → P x → AllByRecursion P (replicate n x)
-all_replicated P zero x p = tt
-all_replicated P (suc n) x p = (p, all_replicated P n x p)
-
-pub all_taken : {X : Type 0} (P : X → Type 0) (n : ℕ) (xs : List X) → AllByRecursion P xs → AllByRecursion P (take n xs)
-all_taken P zero xs all = tt
-all_taken P (suc n) [] all = tt
-all_taken P (suc n) (x ∷ xs) all = (all.0, all_taken P n xs all.1)
-
-pub all_dropped : {X : Type 0} (P : X → Type 0) (n : ℕ) (xs : List X) → AllByRecursion P xs → AllByRecursion P (drop n xs)
-all_dropped P zero xs all = all
-all_dropped P (suc n) [] all = tt
-all_dropped P (suc n) (x ∷ xs) all = all_dropped P n xs all.1
-
-all_mapped : {X Y : Type 0} (P : Y → Type 0) (f : X → Y) (xs : List X) → AllByRecursion (λ x. P (f x)) xs → AllByRecursion P (map f xs)
-all_mapped P f [] all = tt
-all_mapped P f (x ∷ xs) all = (all.0, all_mapped P f xs all.1)
 
 pads_fresh : (s : Shape) (log : List Logged) → s.capacity ≤ meta_lba → BearsFresh s log (pad_block s)
 pads_fresh s log small = bears_none s log (pad_block s) (unnamed s (pad_block s).mark small (omega arith) (λ e. absurd (omega (arith, e))))

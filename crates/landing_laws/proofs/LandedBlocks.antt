@@ -7,17 +7,15 @@ use Rattle.pblk_world.specs.Events.{Logged}
 use Rattle.pblk_world.specs.EngineLog.{LineLife, AsFound, Opened, Freed, is_life, Opening, Placed, placements, stripes_of, stripes_on, answer_of, is_land, is_loss, has_landed, was_lost}
 use Rattle.pblk_world.specs.Space.{landed_blocks, is_readable_in}
 use Rattle.stripe_placer.proofs.Among.{IsAmong, in_filter}
-use Rattle.core_laws.proofs.Lists.{all_at, all_filter, filter_agree}
+use Rattle.core_laws.proofs.Lists.{all_at, all_filter, filter_agree, zipped as mapped_both}
 use Rattle.core_laws.proofs.Rows.{same_number, other_number}
 use Rattle.core_laws.proofs.Placing.{weaker}
-use Rattle.landing_laws.proofs.Turns.{Rises, rise_from, rise_filtered}
+use Rattle.core_laws.proofs.Tests.{no_both as not_both}
+use Rattle.core_laws.proofs.Turns.{Rises, rise_from, rise_filtered}
+use Rattle.core_laws.proofs.PlacedLines.{passes as pass_filter}
 use Rattle.landing_laws.proofs.LandedStripe.{IsOneMore}
 
 -- ---- a list in which one more element passes
-
-pub mapped_both : {X : Type 0} (P Q R : X → Type 0) → ((x : X) → P x → Q x → R x) → (xs : List X) → AllByRecursion P xs → AllByRecursion Q xs → AllByRecursion R xs
-mapped_both P Q R says [] a b = tt
-mapped_both P Q R says (x ∷ xs) a b = (says x a.0 b.0, mapped_both P Q R says xs a.1 b.1)
 
 -- the one that passes now is told by its number
 OneMore : (Placed → Bool) → (Placed → Bool) → Placed → List Placed → Type 0
@@ -125,18 +123,6 @@ lost_same log new p other unit is =
 readable_by : (s : Shape) (log new : List Logged) (p : Placed) (other : Opening) (unit block : ℕ) → IsOneMore log new p → landed_blocks s new other unit ≡ landed_blocks s log other unit
     → is_readable_in s new unit block (Opened other) ≡ is_readable_in s log unit block (Opened other)
 readable_by s log new p other unit block is same = ap₂ (λ a n. (a || (n == s.clba)) || nat_lt (block + s.mw_cunits) n) (lost_same log new p other unit is) same
-
--- those of a filter pass its test
-pub pass_filter : {X : Type 0} (test : X → Bool) (xs : List X) → AllByRecursion (λ x. test x ≡ true) (filter test xs)
-pass_filter test [] = tt
-pass_filter {X} test (x ∷ xs) = go (test x) refl (pass_filter test xs)
-  where
-    go : (b : Bool) → test x ≡ b → AllByRecursion (λ x. test x ≡ true) (filter test xs) → AllByRecursion (λ x. test x ≡ true) (cond b (x ∷ filter test xs) (filter test xs))
-    go true e rest = (e, rest)
-    go false e rest = rest
-
-not_both : {X : Type 0} (b : Bool) → b ≡ true → b ≡ false → X
-not_both b e f = absurd cc
 
 pub apart_unit : (log : List Logged) (p : Placed) (other : Opening) (unit : ℕ) → unit ≢ p.stripe.unit → AllByRecursion (λ r. r ≡ p → ⊥) (stripes_on log other unit)
 apart_unit log p other unit apart = weaker (λ (r : Placed). (r.stripe.unit == unit) ≡ true) (λ (r : Placed). r ≡ p → ⊥)

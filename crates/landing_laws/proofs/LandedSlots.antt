@@ -21,6 +21,7 @@ use Rattle.l2p_map.specs.declared.slot.Slot.{Slot}
 use Rattle.l2p_map.specs.declared.slot.Slot.TheVariants.{Cached, Media}
 use Rattle.stripe_placer.specs.OpenLines.{numbers}
 use Rattle.stripe_placer.proofs.Among.{IsAmong}
+use Rattle.stripe_placer.proofs.Chunks.{lt_yes as is_below}
 use Rattle.core_laws.specs.Stepping.{after}
 use Rattle.core_laws.specs.OpenedLines.{as_opened, is_stripe_at}
 use Rattle.core_laws.specs.PlacerOf.{number_of}
@@ -28,14 +29,15 @@ use Rattle.core_laws.specs.SlotOf.{address_in, readable_block, media_of, slot_of
 use Rattle.core_laws.specs.WindowOf.{is_given_back}
 use Rattle.core_laws.proofs.Lists.{all_at}
 use Rattle.core_laws.proofs.Numbers.{opens_at}
-use Rattle.core_laws.proofs.Placing.{is_below, weaker}
+use Rattle.core_laws.proofs.Placing.{weaker}
 use Rattle.core_laws.proofs.Turns.{found_is}
+use Rattle.core_laws.proofs.Tests.{second_of as and_second}
+use Rattle.core_laws.proofs.TakenSlots.{find_same}
 use Rattle.landing_laws.specs.ChunkBlocks.{chunk_blocks, IsInRow}
 use Rattle.landing_laws.specs.ReadSlots.{block_read, address_of_block, read_slot}
 use Rattle.landing_laws.proofs.LandedStripe.{each_among}
 use Rattle.landing_laws.proofs.LandedBlocks.{on_new}
-use Rattle.landing_laws.proofs.Growing.{and_second, given_holds}
-use Rattle.landing_laws.proofs.Untouched.{find_same}
+use Rattle.landing_laws.proofs.Growing.{given_holds}
 use Rattle.landing_laws.proofs.Slots.{IsBefore, lives_before, found_kept, address_kept, media_by}
 use Rattle.landing_laws.proofs.GivenBack.{IsLandedNow, of_unit_landed, readable_life, gives_of_chunk}
 use Rattle.landing_laws.proofs.GivenNow.{of_chunk, gives_other, gives_still, readable_own, readable_other, chunk_life, chunk_unit, IsOfChunk, chunk_members, given_now}
@@ -49,9 +51,6 @@ pub record IsLanding (i : Image) (logs : Logs) (e : EngineEvent) (knows : List �
   pub once : HeldOnce i.shape (logs 0)
   pub takes : takes (after logs e knows 0) ≡ takes (logs 0)
   pub begins : begun_by knows (Decides e) ≡ None
-
-among_now : (i : Image) (logs : Logs) (e : EngineEvent) (knows : List ℕ) (p : Placed) (o : Opening) (r : Placed) → IsLanding i logs e knows p o → IsAmong (placements (logs 0)) r → IsAmong (placements (after logs e knows 0)) r
-among_now i logs e knows p o r is among = subst (λ (ps : List Placed). IsAmong ps r) (sym is.now.one_more.stripes) among
 
 -- ---- the stripe that gives a position back
 

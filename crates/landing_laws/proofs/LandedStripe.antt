@@ -13,8 +13,7 @@ use Rattle.stripe_placer.proofs.Among.{IsAmong, later}
 use Rattle.core_laws.specs.PlacerOf.{unanswered_on}
 use Rattle.core_laws.proofs.Rows.{other_number, same_number}
 use Rattle.core_laws.proofs.Placing.{weaker}
-use Rattle.core_laws.proofs.Answered.{IsAnswer, IsFirst, its_answer, others_answer}
-use Rattle.landing_laws.proofs.Turns.{first_unanswered}
+use Rattle.core_laws.proofs.Answered.{IsAnswer, IsFirst, its_answer, others_answer, first_unanswered}
 
 abbrev pub with_landing : List Logged → ℕ → ℕ → List ℕ → List Logged
 with_landing log unit event knows = log ++ record { event = Decides (Landed unit event); knows = knows } ∷ []

@@ -14,10 +14,10 @@ use Rattle.core_laws.specs.PlacerOf.{unanswered_on}
 use Rattle.core_laws.specs.PlainWorlds.{is_plain_event, ArePlain, IsPlainWorld}
 use Rattle.core_laws.specs.WindowOf.{HeldSector, class_of, source_of, is_given_back, progress_by, held_of, users_below, window_from}
 use Rattle.core_laws.proofs.PlacedPositions.{all_joined}
+use Rattle.core_laws.proofs.Answered.{first_unanswered}
 use Rattle.landing_laws.specs.ChunkBlocks.{can_be_read, AreInRows}
 use Rattle.landing_laws.specs.Advanced.{advanced, advanced_sector, advanced_window}
 use Rattle.landing_laws.proofs.LandedStripe.{with_landing, is_answer, one_more, landed_at_by}
-use Rattle.landing_laws.proofs.Turns.{first_unanswered}
 use Rattle.landing_laws.proofs.PlainStripes.{one_unanswered}
 use Rattle.landing_laws.proofs.GivenBack.{IsLandedNow}
 use Rattle.landing_laws.proofs.GivenNow.{given_now}

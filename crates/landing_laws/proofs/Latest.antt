@@ -1,7 +1,7 @@
 -- What a sector holds after the history.
-use Rattle.std.proofs.Common.{◌≡◌, ◌≢◌, ℕ, ◌+◌, ◌<◌, ◌==◌, zero, suc, nat_eq, nat_lt, Bool, true, false, cond, Some, None, Option, List, [], ◌∷◌, length, refl, sym, subst, ap, ◌∙◌, arith}
+use Rattle.std.proofs.Common.{◌≡◌, ◌≢◌, ℕ, ◌<◌, ◌==◌, zero, suc, nat_eq, nat_lt, Bool, true, false, cond, Some, None, Option, List, [], ◌∷◌, length, refl, sym, subst, ap, ◌∙◌}
 use Rattle.std.specs.Prelude.{map, slice_get, slice_set}
-use Rattle.std.specs.List.{AllByRecursion, filter, fold, last_or, range_with_len}
+use Rattle.std.specs.List.{AllByRecursion, filter, fold, last_or}
 use Rattle.std.proofs.lemmas.Bool.{eqb-true, eqb-false}
 use Rattle.pblk_model.specs.declared.shape.Shape.{Shape}
 use Rattle.pblk_model.specs.History.{SectorWrite, after_write, users}
@@ -12,21 +12,14 @@ use Rattle.pblk_world.specs.World.{World, log_of}
 use Rattle.pblk_world.specs.EngineLog.{Taken, takes}
 use Rattle.pblk_world.specs.Fronts.{first_position, taken, is_users, user_takes, history, user_positions, last_take}
 use Rattle.stripe_placer.proofs.Among.{got_else}
-use Rattle.core_laws.specs.PlacerOf.{positions_of}
+use Rattle.stripe_placer.proofs.Chunks.{lt_yes as is_below}
 use Rattle.core_laws.specs.PlainWorlds.{IsPlainWorld}
-use Rattle.core_laws.proofs.Placing.{is_below, weaker}
+use Rattle.core_laws.proofs.Placing.{weaker, all_pass}
+use Rattle.core_laws.proofs.Lists.{get_set_same as set_here}
+use Rattle.core_laws.proofs.PlacedPositions.{numbered_below}
 use Rattle.landing_laws.proofs.Entries.{IsUsers, AreInOrder, in_order, users_entries, accepted_small}
 
-pub all_pass : {X : Type 0} (test : X → Bool) (xs : List X) → AllByRecursion (λ x. test x ≡ true) xs → filter test xs ≡ xs
-all_pass test [] all = refl
-all_pass test (x ∷ xs) all = ap (λ b. cond b (x ∷ filter test xs) (filter test xs)) all.0 ∙ ap (λ ys. x ∷ ys) (all_pass test xs all.1)
-
-set_here : {X : Type 0} (xs : List X) (k : ℕ) (x : X) → k < length xs → slice_get (slice_set xs k x) k ≡ Some x
-set_here [] k x inside = absurd (omega arith)
-set_here (y ∷ ys) zero x inside = refl
-set_here (y ∷ ys) (suc k) x inside = set_here ys k x (omega arith)
-
-set_length : {X : Type 0} (xs : List X) (k : ℕ) (x : X) → length (slice_set xs k x) ≡ length xs
+pub set_length : {X : Type 0} (xs : List X) (k : ℕ) (x : X) → length (slice_set xs k x) ≡ length xs
 set_length [] k x = refl
 set_length (y ∷ ys) zero x = refl
 set_length (y ∷ ys) (suc k) x = ap suc (set_length ys k x)
@@ -81,14 +74,6 @@ pub first_sector : (i : Image) (w : World) (before : List (List ℕ)) (lba : ℕ
 first_sector i w before lba plain inside last = subst (Holds (slice_get before lba) (histories.after before (history (log_of w 0))) lba) last (history_holds i w before lba plain inside)
 
 -- ---- how many there are
-
-pub numbered_below : (a n : ℕ) (ts : List Taken) → positions_of ts ≡ range_with_len a n → AllByRecursion (λ (t : Taken). t.entry.position < a + n) ts
-numbered_below a n [] is = tt
-numbered_below a zero (t ∷ ts) is = absurd cc
-numbered_below a (suc n) (t ∷ ts) is =
-    let first : t.entry.position ≡ a = cc in
-    let rest : positions_of ts ≡ range_with_len (a + 1) n = cc in
-    (omega arith, weaker (λ (u : Taken). u.entry.position < a + 1 + n) (λ (u : Taken). u.entry.position < a + suc n) (λ u h. omega arith) ts (numbered_below (a + 1) n ts rest))
 
 count_all : (n : ℕ) (ts : List Taken) → AllByRecursion (λ (t : Taken). t.entry.position < n) ts → users (map (λ (t : Taken). t.entry.position) ts) n ≡ length (map write_of ts)
 count_all n [] all = refl

@@ -2,6 +2,7 @@
 use Rattle.std.proofs.Common.{◌≡◌, ℕ, ◌+◌, ◌<◌, ◌≤◌, ◌⊎◌, zero, suc, Bool, true, false, refl, subst, arith, if◌then◌else◌, inl, inr}
 use Rattle.std.proofs.lemmas.Bool.{cases_order}
 use Rattle.pblk_model.specs.Contents.{least_missing}
+use Rattle.core_laws.proofs.Tests.{no_both as not_both}
 
 -- all from p on up to the least missing one are borne, and it is missing or the turns are over
 pub record IsLeast (borne : ℕ → Bool) (turns p m : ℕ) : Type 0 where
@@ -33,9 +34,6 @@ pub least : (borne : ℕ → Bool) (turns p : ℕ) → IsLeast borne turns p (le
 unfolding least_missing
 least borne zero p = record { from = omega arith; within = omega arith; below = λ q a b. absurd (omega arith); missing = λ a. absurd (omega arith) }
 least borne (suc turns) p = least_by borne turns p (borne p) refl (least borne turns (p + 1))
-
-not_both : {X : Type 0} (b : Bool) → b ≡ true → b ≡ false → X
-not_both b e f = absurd cc
 
 -- where more is borne, in as many turns or more, the least missing one is no lesser
 pub least_rises : (f g : ℕ → Bool) (m n p : ℕ) → ((q : ℕ) → f q ≡ true → g q ≡ true) → m ≤ n → least_missing f m p ≤ least_missing g n p

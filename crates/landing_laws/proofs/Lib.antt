@@ -27,7 +27,7 @@ pub mod WholeStripes
 pub mod ChunkRows
 pub mod ChunkOrder
 pub mod KnownUnits
-pub mod BlankWorlds
+pub mod NoResets
 pub mod FreedFront
 pub mod WindowSteps
 pub mod NewlyRead

@@ -1,5 +1,5 @@
 -- The stripes of an opened line stand in it in line order.
-use Rattle.std.proofs.Common.{◌≡◌, ◌⊎◌, inl, inr, ℕ, ◌+◌, ◌*◌, ◌/◌, ◌%◌, ◌<◌, ◌&&◌, zero, suc, not, nat_eq, nat_lt, Bool, true, false, cond, Some, None, Option, List, [], ◌∷◌, ◌++◌, length, refl, sym, subst, ap, ap₂, ◌∙◌, arith, append-nil, mul-div_cancel}
+use Rattle.std.proofs.Common.{◌≡◌, ◌⊎◌, inl, inr, ℕ, ◌+◌, ◌*◌, ◌/◌, ◌%◌, ◌<◌, ◌&&◌, not, nat_eq, nat_lt, Bool, true, false, cond, Some, None, Option, List, [], ◌∷◌, ◌++◌, length, refl, sym, subst, ap, ap₂, ◌∙◌, arith, append-nil, mul-div_cancel}
 use Rattle.std.proofs.Math.Nat.{mul-mod_left}
 use Rattle.std.specs.Prelude.{slice_get, if◌then◌else◌}
 use Rattle.std.specs.List.{filter}
@@ -18,6 +18,7 @@ use Rattle.pblk_world.specs.Lines.{known_image, are_empty, has_number, is_free_l
 use Rattle.pblk_world.specs.Placing.{IsNext, IsStart, IsData, IsEnd, IsPad}
 use Rattle.pblk_world.specs.Legal.{IsDecision}
 use Rattle.pblk_world.proofs.Appending.{placements_more}
+use Rattle.pblk_world.proofs.Growing.{at_end}
 use Rattle.core_laws.specs.PlainWorlds.{ArePlain}
 use Rattle.core_laws.proofs.Placing.{with_place, new_placed, placements_now}
 use Rattle.core_laws.proofs.Taking.{filter_last}
@@ -97,12 +98,6 @@ place_is s us g j unit at some count e = go (slice_get us (column_of s g (j * s.
     go (Some u) f h =
         let same : ◌≡◌ {A = ℕ × ℕ} (u, block_of s g (j * s.ws_opt)) (unit, at) = same_Some (u, block_of s g (j * s.ws_opt)) (unit, at) h in
         (ap (slice_get us) (sym column) ∙ f ∙ ap (λ (x : ℕ × ℕ). Some x.0) same, sym (ap (λ (x : ℕ × ℕ). x.1) same) ∙ block)
-
-at_end : {X : Type 0} (xs : List X) (x y : X) (k : ℕ) → slice_get (xs ++ x ∷ []) k ≡ Some y → (slice_get xs k ≡ Some y) ⊎ ((k ≡ length xs) × (x ≡ y))
-at_end [] x y zero e = inr (refl, same_Some x y e)
-at_end [] x y (suc k) e = absurd (none-some y e)
-at_end (z ∷ xs) x y zero e = inl e
-at_end (z ∷ xs) x y (suc k) e = elim (at_end xs x y k e) as (λ _. (slice_get xs k ≡ Some y) ⊎ ((suc k ≡ suc (length xs)) × (x ≡ y))) [ inl h ↦ inl h | inr h ↦ inr (ap suc h.0, h.1) ]
 
 -- which line's next stripe it is; in a plain world there is no other kind
 pub next_of_kind : (i : Image) (known : Logs) (o : Opening) (stripe : Stripe) → ArePlain (known 0) → IsStart i known o stripe ⊎ (IsData i known o stripe ⊎ (IsEnd i known o stripe ⊎ IsPad i known o stripe)) → IsNext i known o stripe

@@ -10,17 +10,17 @@ use Rattle.pblk_world.specs.Events.{Logged}
 use Rattle.pblk_world.specs.EngineLog.{Opened, Opening, Placed, placements, placed_on, stripes_on, answer_of, is_land, has_landed, bears_position}
 use Rattle.pblk_world.specs.Space.{landed_blocks, is_readable_in, gives_back}
 use Rattle.stripe_placer.proofs.Among.{IsAmong, in_filter}
+use Rattle.stripe_placer.proofs.Chunks.{lt_yes as is_below}
 use Rattle.core_laws.specs.PlainWorlds.{ArePlain}
 use Rattle.core_laws.specs.WindowOf.{is_given_back}
-use Rattle.core_laws.proofs.Lists.{all_at}
-use Rattle.core_laws.proofs.Placing.{is_below, not_below}
+use Rattle.core_laws.proofs.Lists.{all_at, got_within as some_at, filter_short as fewer}
+use Rattle.core_laws.proofs.Placing.{not_below}
 use Rattle.core_laws.proofs.Rows.{same_number, other_number}
-use Rattle.core_laws.proofs.Turns.{found_is}
+use Rattle.core_laws.proofs.Turns.{found_is, rise_from, rise_filtered}
+use Rattle.core_laws.proofs.Tests.{second_of as and_second}
 use Rattle.landing_laws.specs.ChunkBlocks.{chunk_blocks, readable_blocks, IsInRow, AreInRows}
-use Rattle.landing_laws.proofs.Turns.{rise_from, rise_filtered}
 use Rattle.landing_laws.proofs.LandedBlocks.{on_new, on_its, on_rises, blocks_more}
-use Rattle.landing_laws.proofs.Growing.{and_second}
-use Rattle.landing_laws.proofs.GivenBack.{IsLandedNow, of_unit_landed, gives_of_chunk, fewer, times_le, rows_within}
+use Rattle.landing_laws.proofs.GivenBack.{IsLandedNow, of_unit_landed, gives_of_chunk, times_le, rows_within}
 use Rattle.landing_laws.proofs.GivenNow.{readable_plain, blocks_below, chunk_life, chunk_unit, IsOfChunk, chunk_members}
 use Rattle.landing_laws.proofs.Finding.{some_any, found_within, found_in_stripe}
 use Rattle.landing_laws.proofs.NewlyRead.{find_below, found_any, rises_at}
@@ -30,11 +30,6 @@ pub record IsNewest (log : List Logged) (p : Placed) : Type 0 where
   pub index : ℕ
   pub at : slice_get (placed_on log p.stripe.unit) index ≡ Some p
   pub last : length (placed_on log p.stripe.unit) ≤ index + 1
-
-some_at : {X : Type 0} (xs : List X) (m : ℕ) → m < length xs → (x : X) × (slice_get xs m ≡ Some x)
-some_at [] m inside = absurd (omega arith)
-some_at (x ∷ xs) zero inside = (x, refl)
-some_at (x ∷ xs) (suc m) inside = some_at xs m (omega arith)
 
 none_newer : (log : List Logged) (p r : Placed) → IsNewest log p → IsAmong (placed_on log p.stripe.unit) r → r.number ≤ p.number
 none_newer log p r is there = go (cases_order there.0 is.index)
@@ -51,7 +46,7 @@ none_newer log p r is there = go (cases_order there.0 is.index)
         let last : length (placed_on log p.stripe.unit) ≤ is.index + 1 = is.last in
         absurd (omega arith)
 
-last_in_chunk : (log : List Logged) (p : Placed) (o : Opening) (k : ℕ) → IsNewest log p → slice_get (stripes_on log o p.stripe.unit) k ≡ Some p → length (stripes_on log o p.stripe.unit) ≤ k + 1
+pub last_in_chunk : (log : List Logged) (p : Placed) (o : Opening) (k : ℕ) → IsNewest log p → slice_get (stripes_on log o p.stripe.unit) k ≡ Some p → length (stripes_on log o p.stripe.unit) ≤ k + 1
 last_in_chunk log p o k is at = go (cases_order (length (stripes_on log o p.stripe.unit)) (k + 1))
   where
     go : (length (stripes_on log o p.stripe.unit) ≡ k + 1) ⊎ ((length (stripes_on log o p.stripe.unit) < k + 1) ⊎ (k + 1 < length (stripes_on log o p.stripe.unit))) → length (stripes_on log o p.stripe.unit) ≤ k + 1

@@ -1,9 +1,10 @@
 -- A stripe has landed: the window and the map by the blocks that can be read now and couldn't before.
-use Rattle.std.proofs.Common.{◌≡◌, ℕ, ◌+◌, ◌-◌, ◌<◌, ◌≤◌, ◌&&◌, ◌||◌, zero, suc, nat_eq, nat_lt, Bool, true, false, Some, None, Option, List, [], ◌∷◌, length, take, drop, refl, sym, subst, ap, ap₂, ◌∙◌, arith, append-nil}
+use Rattle.std.proofs.Common.{◌≡◌, ℕ, ◌+◌, ◌-◌, ◌<◌, ◌≤◌, ◌&&◌, ◌||◌, nat_eq, nat_lt, Bool, true, false, Some, None, Option, List, [], ◌∷◌, length, take, drop, refl, sym, subst, ap, ap₂, ◌∙◌, arith, append-nil}
 use Rattle.std.specs.Prelude.{map, slice_get, is_some, if◌then◌else◌}
 use Rattle.std.specs.List.{filter, find, list_any, flat_map, enumerate_from}
 use Rattle.std.proofs.lemmas.Bool.{eqb-true}
 use Rattle.std.specs.Option.{option_map, option_map_or}
+use Rattle.std.proofs.lemmas.List.{take-take as take_within}
 use Rattle.pblk_model.specs.declared.shape.Shape.{Shape}
 use Rattle.pblk_model.specs.Chunk.{Block}
 use Rattle.pblk_model.specs.Image.{Image}
@@ -21,12 +22,12 @@ use Rattle.core_laws.specs.PlacerOf.{unanswered_on}
 use Rattle.core_laws.specs.PlainWorlds.{IsPlainWorld}
 use Rattle.core_laws.specs.SlotOf.{slot_of}
 use Rattle.core_laws.specs.WindowOf.{HeldSector, class_of, source_of, is_given_back, progress_by, held_of, users_below, window_from}
+use Rattle.core_laws.proofs.Answered.{first_unanswered}
 use Rattle.landing_laws.specs.ChunkBlocks.{chunk_blocks, can_be_read, readable_blocks, newly_readable, block_among, AreInRows}
 use Rattle.landing_laws.specs.Advanced.{advanced_sector, advanced_window}
 use Rattle.landing_laws.specs.ReadSlots.{block_read, address_of_block, read_slot}
 use Rattle.landing_laws.proofs.Cached.{cached_kept}
 use Rattle.landing_laws.proofs.Growing.{given_landed}
-use Rattle.landing_laws.proofs.Turns.{first_unanswered}
 use Rattle.landing_laws.proofs.LandedStripe.{with_landing, landed_at_by}
 use Rattle.landing_laws.proofs.LandedBlocks.{on_new, blocks_more}
 use Rattle.landing_laws.proofs.GivenBack.{IsLandedNow}
@@ -38,23 +39,6 @@ use Rattle.landing_laws.proofs.SlotsInWorlds.{slot_landed, read_is_some}
 use Rattle.landing_laws.proofs.Untouched.{same_window}
 use Rattle.landing_laws.proofs.NewlyRead.{find_behind, found_any}
 use Rattle.landing_laws.proofs.NewBlocks.{IsNewest, read_found, given_before, chunk_within}
-
--- ---- parts of a list
-
-any_parts : {X : Type 0} (f : X → Bool) (k : ℕ) (xs : List X) → list_any f xs ≡ (list_any f (take k xs) || list_any f (drop k xs))
-any_parts f zero xs = refl
-any_parts f (suc k) [] = refl
-any_parts f (suc k) (x ∷ xs) = go (f x) (any_parts f k xs)
-  where
-    go : (b : Bool) → list_any f xs ≡ (list_any f (take k xs) || list_any f (drop k xs)) → (b || list_any f xs) ≡ ((b || list_any f (take k xs)) || list_any f (drop k xs))
-    go true rest = refl
-    go false rest = rest
-
-pub take_within : {X : Type 0} (k m : ℕ) (xs : List X) → k ≤ m → take k (take m xs) ≡ take k xs
-take_within zero m xs within = refl
-take_within (suc k) zero xs within = absurd (omega arith)
-take_within (suc k) (suc m) [] within = refl
-take_within (suc k) (suc m) (x ∷ xs) within = ap (λ ys. x ∷ ys) (take_within k m xs (omega arith))
 
 -- ---- what is given back now
 

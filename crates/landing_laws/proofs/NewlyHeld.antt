@@ -2,6 +2,7 @@
 use Rattle.std.proofs.Common.{◌≡◌, ℕ, ◌+◌, ◌*◌, ◌<◌, ◌≤◌, ◌==◌, ◌&&◌, ◌||◌, zero, suc, Bool, true, false, cond, Some, List, [], ◌∷◌, ◌++◌, length, take, drop, refl, sym, subst, ap, ◌∙◌, arith}
 use Rattle.std.specs.Prelude.{is_some}
 use Rattle.std.specs.List.{AllByRecursion, filter, find, list_any, flat_map, enumerate_from}
+use Rattle.std.proofs.lemmas.List.{take-take as take_within}
 use Rattle.pblk_model.specs.declared.shape.Shape.{Shape}
 use Rattle.pblk_model.specs.Chunk.{Block}
 use Rattle.pblk_world.specs.Events.{Logged}
@@ -12,15 +13,16 @@ use Rattle.stripe_placer.proofs.Among.{IsAmong}
 use Rattle.core_laws.specs.WindowOf.{is_given_back}
 use Rattle.core_laws.proofs.Lists.{all_at, all_filter}
 use Rattle.core_laws.proofs.Turns.{found_is}
+use Rattle.core_laws.proofs.Tests.{first_of as and_first, second_of as and_second, or_right as or_either}
 use Rattle.landing_laws.specs.ChunkBlocks.{chunk_blocks, readable_blocks, newly_readable}
 use Rattle.landing_laws.proofs.BorneOnce.{times, times_append, BearsOnce, fewer_filtered, fewer_taken}
 use Rattle.landing_laws.proofs.HeldOnce.{HeldOnce, holders, one_holder}
-use Rattle.landing_laws.proofs.Growing.{and_first, and_second, given_holds, given_landed}
+use Rattle.landing_laws.proofs.Growing.{given_holds, given_landed}
 use Rattle.landing_laws.proofs.GivenBack.{IsLandedNow, flat_any, gives_of_chunk, any_append}
 use Rattle.landing_laws.proofs.GivenNow.{blocks_below, chunk_life, chunk_unit, IsOfChunk, chunk_members}
 use Rattle.landing_laws.proofs.NewlyRead.{found_any}
 use Rattle.landing_laws.proofs.NewBlocks.{IsNewest, read_found, chunk_within, any_member, some_of}
-use Rattle.landing_laws.proofs.NewWindow.{take_within, low_high, given_newly}
+use Rattle.landing_laws.proofs.NewWindow.{low_high, given_newly}
 
 -- ---- counting
 
@@ -155,10 +157,6 @@ newly_kept s log new p o q is held once e =
         → list_any (bears_position s q) (chunk_blocks log o p.stripe.unit) ≡ true → b ≡ false
     go true f clear borne = let bad : list_any (bears_position s q) (take (readable_blocks s (landed_blocks s log o p.stripe.unit)) (chunk_blocks log o p.stripe.unit)) ≡ true = earlier_block s log new p o q is held f borne in absurd cc
     go false f clear borne = refl
-
-or_either : (a b : Bool) → b ≡ true → (a || b) ≡ true
-or_either true b e = refl
-or_either false b e = e
 
 pub newly_landed : (s : Shape) (log new : List Logged) (p : Placed) (o : Opening) (q : ℕ) → IsLandedNow s log new p o → IsNewest log p → list_any (bears_position s q) (newly_readable s log o p.stripe.unit) ≡ true → has_landed_at s new q ≡ true
 newly_landed s log new p o q is newest e = given_landed s new q

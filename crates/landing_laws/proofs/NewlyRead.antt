@@ -6,13 +6,11 @@ use Rattle.std.proofs.lemmas.Bool.{cases_order}
 use Rattle.std.proofs.lemmas.Option.{same_Some, none-some}
 use Rattle.pblk_world.specs.EngineLog.{Placed}
 use Rattle.core_laws.proofs.Lists.{all_at}
-use Rattle.core_laws.proofs.Placing.{is_below, not_below}
-use Rattle.landing_laws.proofs.Turns.{Rises}
+use Rattle.core_laws.proofs.Placing.{not_below}
+use Rattle.core_laws.proofs.Turns.{Rises}
+use Rattle.stripe_placer.proofs.Chunks.{lt_yes as is_below}
 
 -- ---- finding among numbered elements
-
-abbrev numbered : {X : Type 0} → (X → Bool) → ℕ × X → Bool
-numbered bears b = bears b.1
 
 -- those that are read are the first ones
 pub find_below : {X : Type 0} (bears : X → Bool) (reads : ℕ → Bool) (high n : ℕ) (xs : List X) → ((b : ℕ) → n ≤ b → b < n + length xs → reads b ≡ nat_lt b high)

@@ -19,12 +19,12 @@ use Rattle.pblk_world.specs.Lines.{strays_of, found_by, told_by, told_events, kn
 use Rattle.pblk_world.specs.Commanding.{is_reset, MayDo}
 use Rattle.pblk_world.specs.Legal.{IsLegal, IsLegalStep, IsAllowed}
 use Rattle.core_laws.specs.PlainWorlds.{is_plain_event, is_plain_outcome, ArePlain, IsPlainWorld}
-use Rattle.core_laws.proofs.Lists.{all_at}
+use Rattle.core_laws.proofs.Lists.{all_at, all_taken, set_same}
 use Rattle.core_laws.proofs.PlacedPositions.{all_joined}
 use Rattle.landing_laws.specs.KeptUnits.{IsKnownWithUnits, HasKeptUnits}
 use Rattle.landing_laws.proofs.Keeping.{all_front}
-use Rattle.landing_laws.proofs.KnownUnits.{all_taken, units_from, on_line, units_more, after_all}
-use Rattle.landing_laws.proofs.BlankWorlds.{set_same, may_do, plain_outcome, logged_no_reset, AllPlain, plain_tail, both_plain}
+use Rattle.landing_laws.proofs.KnownUnits.{units_from, on_line, units_more, after_all}
+use Rattle.landing_laws.proofs.NoResets.{may_do, plain_outcome, logged_no_reset, AllPlain, plain_tail, both_plain}
 
 -- which chunks of a unit aren't Offline
 abbrev pub pattern : List Chunk → List Bool

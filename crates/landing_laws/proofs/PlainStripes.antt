@@ -5,7 +5,7 @@ use Rattle.std.specs.List.{AllByRecursion, Contains, filter, cons_option, list_a
 use Rattle.std.specs.Option.{option_to_list}
 use Rattle.std.proofs.lemmas.Bool.{eqb-true}
 use Rattle.std.proofs.lemmas.List.Elements.{filter-append}
-use Rattle.std.proofs.lemmas.Option.{none-some, slice_get_within, get_or_from_slice_get}
+use Rattle.std.proofs.lemmas.Option.{none-some, slice_get_within}
 use Rattle.pblk_model.specs.Image.{Image}
 use Rattle.pblk_world.specs.Events.{EngineEvent, Place, Landed, Lost, Event, Decides, Logged}
 use Rattle.pblk_world.specs.World.{World, Logs, log_of}
@@ -13,7 +13,8 @@ use Rattle.pblk_world.specs.EngineLog.{Begun, life_of, Placed, placed_by, placem
 use Rattle.pblk_world.specs.Legal.{IsLegal, IsDecision}
 use Rattle.pblk_world.proofs.Appending.{answers_more, placements_more}
 use Rattle.core_laws.specs.PlainWorlds.{is_plain_event, ArePlain}
-use Rattle.core_laws.proofs.Lists.{all_at}
+use Rattle.core_laws.proofs.Lists.{all_at, got_within as some_at, is_in}
+use Rattle.pblk_laws.proofs.Lists.{all_by_get as all_by_index}
 use Rattle.landing_laws.proofs.Keeping.{IsKept, kept}
 use Rattle.landing_laws.proofs.Turns.{turn_at}
 
@@ -48,14 +49,6 @@ none_of_lost log [] plain = refl
 none_of_lost log (r ∷ rs) plain = ap (λ b. b || list_any (was_lost log) rs) (plain_not_lost log r plain) ∙ none_of_lost log rs plain
 
 -- ---- one stripe of a unit
-
-some_at : {X : Type 0} (xs : List X) (m : ℕ) → m < length xs → (x : X) × (slice_get xs m ≡ Some x)
-some_at [] m inside = absurd (omega arith)
-some_at (x ∷ xs) zero inside = (x, refl)
-some_at (x ∷ xs) (suc m) inside = some_at xs m (omega arith)
-
-is_in : {X : Type 0} (xs : List X) (k : ℕ) (x : X) → slice_get xs k ≡ Some x → Contains xs x
-is_in xs k x e = (k, slice_get_within xs k x e, get_or_from_slice_get xs k x x e)
 
 some_within : {X : Type 0} (xs : List X) (m : ℕ) → is_some (slice_get xs m) ≡ true → m < length xs
 some_within [] m e = absurd cc
@@ -141,10 +134,6 @@ pub one_unanswered : (i : Image) (w : World) → IsLegal i w → HasOne (log_of 
 one_unanswered i w legal = kept i (λ e. true) HasOne (one_kept i) w legal (all_true (log_of w 0))
 
 -- ---- the stripes of a unit, once the one that wasn't answered has landed
-
-all_by_index : {X : Type 0} (P : X → Type 0) (xs : List X) → ((k : ℕ) (x : X) → slice_get xs k ≡ Some x → P x) → AllByRecursion P xs
-all_by_index P [] each = tt
-all_by_index P (x ∷ xs) each = (each 0 x refl, all_by_index P xs (λ k y e. each (suc k) y e))
 
 answered_lands : (o : Option Answer) → is_some o ≡ true → is_loss o ≡ false → is_land o ≡ true
 answered_lands None some kept = absurd cc

@@ -1,7 +1,6 @@
 -- Which events leave the window and the map as they were.
 use Rattle.std.proofs.Common.{◌≡◌, ℕ, ◌<◌, ◌≤◌, true, Some, None, Option, List, [], ◌∷◌, ◌++◌, length, refl, sym, ap, ap₂, ◌∙◌, arith, append-nil}
 use Rattle.std.specs.Prelude.{slice_get}
-use Rattle.std.specs.List.{AllByRecursion}
 use Rattle.std.specs.Option.{option_to_list}
 use Rattle.std.proofs.lemmas.Option.{slice_get_past}
 use Rattle.pblk_model.specs.declared.shape.Shape.{Shape}
@@ -17,11 +16,12 @@ use Rattle.pblk_world.proofs.Answered.{answers_fit}
 use Rattle.core_laws.specs.Stepping.{after}
 use Rattle.core_laws.specs.SlotOf.{slot_of}
 use Rattle.core_laws.specs.WindowOf.{window_from}
-use Rattle.core_laws.proofs.Lists.{fun_same}
+use Rattle.core_laws.proofs.Lists.{fun_same, all_of as each}
 use Rattle.core_laws.proofs.Engine.{placements_before}
 use Rattle.core_laws.proofs.Rows.{same_number}
 use Rattle.core_laws.proofs.Steady.{AreAlike, answer_same}
 use Rattle.core_laws.proofs.Placing.{with_place, new_placed, placements_now, placed_on_now, answers_now, answer_now, weaker}
+use Rattle.core_laws.proofs.Answered.{get_last as get_end}
 use Rattle.landing_laws.proofs.Turns.{turn_at}
 use Rattle.landing_laws.proofs.Untouched.{AreKept, window_kept}
 use Rattle.landing_laws.proofs.Slots.{first_kept, slot_kept}
@@ -43,10 +43,6 @@ quiet_alike log e knows quiet =
       placements = placements_more log l ∙ no_more (placements log) (placed_by log (length log) (Decides e)) quiet.places;
       answers = fun_same (answers (log ++ l ∷ [])) (answers log) (λ unit. answers_more log l unit ∙ no_more (answers log unit) (answer_by unit (Decides e)) (quiet.answers unit));
     }
-
-each : {X : Type 0} (P : X → Type 0) → ((x : X) → P x) → (xs : List X) → AllByRecursion P xs
-each P all [] = tt
-each P all (x ∷ xs) = (all x, each P all xs)
 
 pub alike_kept : (log new : List Logged) → AreAlike log new → AreKept log new
 alike_kept log new same = record {
@@ -75,10 +71,6 @@ pub reset_is_quiet : (log : List Logged) (unit event : ℕ) (knows : List ℕ) �
 reset_is_quiet log unit event knows = record { begins = refl; takes = refl; places = refl; answers = λ unit. refl }
 
 -- ---- a stripe is placed
-
-get_end : {X : Type 0} (xs : List X) (x : X) → slice_get (xs ++ x ∷ []) (length xs) ≡ Some x
-get_end [] x = refl
-get_end (y ∷ xs) x = get_end xs x
 
 new_none : (log : List Logged) (stripe : Stripe) (knows : List ℕ) (o : Opening) → life_of log stripe.line ≡ Opened o → length (answers log stripe.unit) ≤ length (placed_on log stripe.unit)
     → answer_of (with_place log stripe knows) (new_placed log stripe o) ≡ None

@@ -1,5 +1,5 @@
 -- What an event leaves of the slots in the map.
-use Rattle.std.proofs.Common.{◌≡◌, ℕ, ◌+◌, ◌*◌, ◌-◌, ◌<◌, ◌≤◌, ◌==◌, ◌&&◌, nat_lt, Bool, true, false, Some, None, Option, List, [], ◌∷◌, ◌++◌, length, refl, ap, ◌∙◌, arith}
+use Rattle.std.proofs.Common.{◌≡◌, ℕ, ◌+◌, ◌*◌, ◌-◌, ◌<◌, ◌≤◌, ◌==◌, ◌&&◌, false, Some, None, Option, List, [], ◌∷◌, ◌++◌, length, refl, ap, ◌∙◌}
 use Rattle.std.specs.List.{AllByRecursion, filter, find, enumerate_from, last_or}
 use Rattle.std.specs.Option.{option_map, option_map_or, unwrap_or}
 use Rattle.pblk_model.specs.Chunk.{Block}
@@ -16,11 +16,11 @@ use Rattle.stripe_placer.specs.OpenLines.{OpenLine}
 use Rattle.core_laws.specs.Stepping.{after}
 use Rattle.core_laws.specs.PlacerOf.{number_of}
 use Rattle.core_laws.specs.SlotOf.{address_in, readable_block, media_of, slot_of_entry, slot_of_winner, slot_by, slot_of}
-use Rattle.core_laws.proofs.Rows.{same_number}
 use Rattle.core_laws.proofs.Steady.{as_opened_same}
 use Rattle.core_laws.proofs.Opening.{placed_before}
 use Rattle.core_laws.proofs.Stripes.{find_all}
-use Rattle.landing_laws.proofs.Untouched.{AreKept, find_same, find_kept, readable_kept, all_give_kept, none_gives}
+use Rattle.core_laws.proofs.TakenSlots.{find_same, is_before}
+use Rattle.landing_laws.proofs.Untouched.{AreKept, find_kept, readable_kept, all_give_kept, none_gives}
 
 -- ---- the beginning
 
@@ -45,17 +45,6 @@ abbrev pub IsBefore : ℕ → LineLife → Type 0
 IsBefore n AsFound = Unit {0}
 IsBefore n (Opened o) = o.number < n
 IsBefore n (Freed past k) = Unit {0}
-
-is_before : (n m : ℕ) → ((k : ℕ) → m ≤ k → (n == k) ≡ false) → n < m
-is_before n m none = go (nat_lt n m) refl
-  where
-    go : (b : Bool) → nat_lt n m ≡ b → n < m
-    go true e = grind arith
-    go false e =
-        let above : m ≤ n = grind arith in
-        let no : (n == n) ≡ false = none n above in
-        let same : (n == n) ≡ true = same_number n in
-        absurd cc
 
 before_by : (n : ℕ) (life : LineLife) → ((m : ℕ) → n ≤ m → is_life m life ≡ false) → IsBefore n life
 before_by n AsFound none = tt

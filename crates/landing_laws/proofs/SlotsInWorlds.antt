@@ -18,9 +18,9 @@ use Rattle.core_laws.specs.PlacerOf.{unanswered_on}
 use Rattle.core_laws.specs.PlainWorlds.{IsPlainWorld}
 use Rattle.core_laws.specs.SlotOf.{slot_of}
 use Rattle.core_laws.proofs.Stripes.{find_only, not_at}
+use Rattle.core_laws.proofs.Answered.{first_unanswered}
 use Rattle.landing_laws.specs.ChunkBlocks.{chunk_blocks, can_be_read, AreInRows}
 use Rattle.landing_laws.specs.ReadSlots.{block_read, address_of_block, read_slot}
-use Rattle.landing_laws.proofs.Turns.{first_unanswered}
 use Rattle.landing_laws.proofs.HeldOnce.{held_once}
 use Rattle.landing_laws.proofs.LandedWindow.{landed_now}
 use Rattle.landing_laws.proofs.LandedSlots.{slot_now}

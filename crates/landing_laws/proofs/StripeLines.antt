@@ -1,24 +1,20 @@
 -- The line of a placed stripe is that of the opening in which it was placed.
-use Rattle.std.proofs.Common.{◌≡◌, ℕ, zero, suc, Some, None, Option, List, [], ◌∷◌, take, refl, sym, subst, ap, ◌∙◌}
+use Rattle.std.proofs.Common.{◌≡◌, ℕ, Some, None, Option, List, take, refl, sym, subst, ap, ◌∙◌}
 use Rattle.std.specs.Prelude.{slice_get}
-use Rattle.std.specs.List.{AllByRecursion, filter_map, cons_option, enumerate_from}
+use Rattle.std.specs.List.{AllByRecursion, enumerate_from}
 use Rattle.std.specs.Option.{option_and_then}
 use Rattle.std.proofs.lemmas.Option.{same_Some, none-some}
 use Rattle.pblk_world.specs.Events.{Place, Event, Decides, Logged}
 use Rattle.pblk_world.specs.EngineLog.{LineLife, AsFound, Opened, Freed, life_of, Opening, Placed, placed_by, placements}
 use Rattle.core_laws.proofs.Numbers.{opens, opens_at, life_at}
+use Rattle.core_laws.proofs.Lists.{get_whole}
+use Rattle.core_laws.proofs.Opening.{all_made}
 
 -- a life by an opening is of the opening that its event made
 pub IsOpenedFor : List Logged → ℕ → LineLife → Type 0
 IsOpenedFor log line AsFound = Unit {0}
 IsOpenedFor log line (Opened o) = (opens_at log o.number ≡ Some o.line) × (o.line ≡ line)
 IsOpenedFor log line (Freed past k) = Unit {0}
-
-get_whole : {X : Type 0} (m : ℕ) (xs : List X) (n : ℕ) (x : X) → slice_get (take m xs) n ≡ Some x → slice_get xs n ≡ Some x
-get_whole zero xs n x e = absurd (none-some x e)
-get_whole (suc m) [] n x e = e
-get_whole (suc m) (y ∷ xs) zero x e = e
-get_whole (suc m) (y ∷ xs) (suc n) x e = get_whole m xs n x e
 
 opens_whole : (m : ℕ) (log : List Logged) (n line : ℕ) → opens_at (take m log) n ≡ Some line → opens_at log n ≡ Some line
 opens_whole m log n line e = go (slice_get (take m log) n) refl e
@@ -40,14 +36,6 @@ placed_for log number (Decides (Place stripe)) p h =
     let is : ◌≡◌ {A = Placed} (record { number = number; stripe = stripe; life = life_of (take number log) stripe.line }) p = same_Some (record { number = number; stripe = stripe; life = life_of (take number log) stripe.line }) p h in
     subst (λ (x : Placed). IsOpenedFor log x.stripe.line x.life) is (life_for log number stripe.line (life_of (take number log) stripe.line) refl)
 placed_for log number e p h = absurd (none-some p h)
-
-all_made : {X Y : Type 0} (h : X → Option Y) (P : Y → Type 0) → ((x : X) (y : Y) → h x ≡ Some y → P y) → (xs : List X) → AllByRecursion P (filter_map h xs)
-all_made h P says [] = tt
-all_made {X} {Y} h P says (x ∷ xs) = go (h x) refl (all_made h P says xs)
-  where
-    go : (o : Option Y) → h x ≡ o → AllByRecursion P (filter_map h xs) → AllByRecursion P (cons_option o (filter_map h xs))
-    go None e rest = rest
-    go (Some y) e rest = (says x y e, rest)
 
 pub placed_lines : (log : List Logged) → AllByRecursion (λ (p : Placed). IsOpenedFor log p.stripe.line p.life) (placements log)
 placed_lines log = all_made (λ (e : ℕ × Logged). placed_by log e.0 e.1.event) (λ (p : Placed). IsOpenedFor log p.stripe.line p.life) (λ e p h. placed_for log e.0 e.1.event p h) (enumerate_from 0 log)

@@ -21,11 +21,10 @@ use Rattle.core_laws.specs.PlacerOf.{positions_of}
 use Rattle.core_laws.specs.Positions.{AreNumbered}
 use Rattle.core_laws.specs.WindowOf.{HeldSector, HeldSectors, without_frame, sectors_in, class_of, progress_by, is_given_back, held_of, users_below, window_from}
 use Rattle.core_laws.proofs.Lists.{all_filter, filter_none}
-use Rattle.core_laws.proofs.Placing.{is_below, not_below, weaker}
+use Rattle.core_laws.proofs.Placing.{not_below, weaker}
+use Rattle.core_laws.proofs.Tests.{no_both as not_both}
+use Rattle.stripe_placer.proofs.Chunks.{lt_yes as is_below}
 use Rattle.landing_laws.proofs.Least.{IsLeast, least}
-
-not_both : {X : Type 0} (b : Bool) → b ≡ true → b ≡ false → X
-not_both b e f = absurd cc
 
 pub one_least : (f : ℕ → Bool) (turns p m : ℕ) → IsLeast f turns p m → m ≡ least_missing f turns p
 one_least f turns p m is = go (cases_order m (least_missing f turns p)) (least f turns p)

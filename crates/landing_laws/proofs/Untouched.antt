@@ -10,8 +10,9 @@ use Rattle.pblk_world.specs.EngineLog.{LineLife, AsFound, Opened, Freed, is_life
 use Rattle.pblk_world.specs.Fronts.{first_position, has_landed_at, is_users}
 use Rattle.pblk_world.specs.Space.{landed_blocks, is_readable_in, gives_back}
 use Rattle.core_laws.specs.WindowOf.{HeldSectors, class_of, source_of, is_given_back, progress_by, held_of, users_below, window_from}
-use Rattle.core_laws.proofs.Lists.{map_same, filter_agree, filter_none, all_filter}
+use Rattle.core_laws.proofs.Lists.{map_same, filter_agree, filter_none, all_filter, find_none as find_fail}
 use Rattle.core_laws.proofs.Placing.{weaker}
+use Rattle.core_laws.proofs.TakenSlots.{any_same}
 
 -- ---- lists with more elements that fail
 
@@ -23,10 +24,6 @@ pub any_kept : {X : Type 0} (f g : X → Bool) (xs more : List X) → AllByRecur
 any_kept f g [] more all none = any_fail f more none
 any_kept f g (x ∷ xs) more all none = ap₂ (λ a b. a || b) all.0 (any_kept f g xs more all.1 none)
 
-find_fail : {X : Type 0} (f : X → Bool) (xs : List X) → AllByRecursion (λ x. f x ≡ false) xs → find f xs ≡ None
-find_fail f [] all = refl
-find_fail f (x ∷ xs) all = ap (λ b. cond b (Some x) (find f xs)) all.0 ∙ find_fail f xs all.1
-
 pub find_kept : {X : Type 0} (f g : X → Bool) (xs more : List X) → AllByRecursion (λ x. f x ≡ g x) xs → AllByRecursion (λ x. f x ≡ false) more → find f (xs ++ more) ≡ find g xs
 find_kept f g [] more all none = find_fail f more none
 find_kept f g (x ∷ xs) more all none = ap₂ (λ b o. cond b (Some x) o) all.0 (find_kept f g xs more all.1 none)
@@ -34,14 +31,6 @@ find_kept f g (x ∷ xs) more all none = ap₂ (λ b o. cond b (Some x) o) all.0
 filter_kept : {X : Type 0} (f g : X → Bool) (xs more : List X) → AllByRecursion (λ x. f x ≡ g x) xs → AllByRecursion (λ x. f x ≡ false) more → filter f (xs ++ more) ≡ filter g xs
 filter_kept f g xs more all none =
     filter-append f xs more ∙ ap₂ (λ a b. a ++ b) (filter_agree (λ x. f x ≡ g x) f g (λ x e. e) xs all) (filter_none f more none) ∙ append-nil (filter g xs)
-
-pub find_same : {X : Type 0} (f g : X → Bool) → ((x : X) → f x ≡ g x) → (xs : List X) → find f xs ≡ find g xs
-find_same f g same [] = refl
-find_same f g same (x ∷ xs) = ap₂ (λ b o. cond b (Some x) o) (same x) (find_same f g same xs)
-
-pub any_same : {X : Type 0} (f g : X → Bool) → ((x : X) → f x ≡ g x) → (xs : List X) → list_any f xs ≡ list_any g xs
-any_same f g same [] = refl
-any_same f g same (x ∷ xs) = ap₂ (λ a b. a || b) (same x) (any_same f g same xs)
 
 -- ---- the stripes
 
@@ -91,9 +80,6 @@ readable_kept s log new kept unit block (Opened o) = ap₂ (λ a n. (a || (n == 
 readable_kept s log new kept unit block (Freed past k) = refl
 
 -- ---- positions
-
-pub can_read : Shape → List Logged → ℕ → Placed → ℕ × Block → Bool
-can_read s log position p b = bears_position s position b.1 && is_readable_in s log p.stripe.unit b.0 p.life
 
 landed_at_kept : (s : Shape) (log new : List Logged) → AreKept log new → (position : ℕ) → has_landed_at s new position ≡ has_landed_at s log position
 landed_at_kept s log new kept position =

@@ -18,7 +18,7 @@ use Rattle.pblk_world.specs.EngineLog.{Opening, stripes_of, has_failed, block_of
 use Rattle.pblk_world.specs.Fronts.{waiting}
 use Rattle.pblk_world.specs.Placing.{next_address, end_address, start_blocks, end_blocks, IsStart, IsData, IsEnd, IsPad}
 use Rattle.core_laws.specs.PlainWorlds.{ArePlain}
-use Rattle.core_laws.proofs.Opening.{length_replicated}
+use Rattle.stripe_placer.proofs.Rows.{length_replicate as length_replicated}
 use Rattle.landing_laws.specs.ChunkBlocks.{IsStripeNumber}
 use Rattle.landing_laws.proofs.PlainStripes.{none_of_lost}
 use Rattle.landing_laws.proofs.GivenBack.{times_le}
@@ -45,7 +45,7 @@ next_times n m w h =
     let next : suc n * w ≡ n * w + w = grind arith in
     omega arith
 
-whole_chunk : (clba w : ℕ) → clba % w ≡ 0 → clba / w * w ≡ clba
+pub whole_chunk : (clba w : ℕ) → clba % w ≡ 0 → clba / w * w ≡ clba
 whole_chunk clba w whole = let sum : clba / w * w + clba % w ≡ clba = div-add-mod' clba w in omega arith
 
 quotient_below : (n g c : ℕ) → n < c * g → n / g < c

@@ -22,7 +22,7 @@ ghost use Rattle.pblk_world.specs.Legal.{IsLegal, IsDecision};
 ghost use Rattle.pblk_world.specs.Placing.{MayPlace};
 ghost use Rattle.pblk_world.specs.Space.{freed, landed_blocks, is_readable_in};
 ghost use Rattle.l2p_map.specs.declared.slot.Slot.TheVariants.{Cached};
-ghost use Rattle.core_laws.specs.PlainWorlds.{is_plain_decision, ArePlain, IsPlainWorld, IsBlankWorld};
+ghost use Rattle.core_laws.specs.PlainWorlds.{is_plain_decision, ArePlain, IsPlainWorld};
 ghost use Rattle.core_laws.specs.Positions.{AreNumbered, AreMarked, AreTaken};
 ghost use Rattle.core_laws.specs.PlacerOf.{unanswered_on};
 ghost use Rattle.core_laws.specs.OpenedLines.{as_opened, is_stripe_at};
@@ -212,11 +212,9 @@ pub fn a_position_is_in_one_stripe()
         → length (filter (holds_position i.shape q) (placements (log_of w 0))) ≤ 1 }
 {}
 
-/// On a drive on which nothing was written, and wherever a plain mount found no strays, lines keep
-/// their units. Where they do, the stripes of an opened line stand in line order, and in each chunk
-/// one after another from its first block.
+/// Wherever a plain mount found no strays, lines keep their units. Where they do, the stripes of an
+/// opened line stand in line order, and in each chunk one after another from its first block.
 pub fn stripes_stand_in_order()
-    ensures blank { (i : Image) (w : World) → IsBlankWorld i w → HasKeptUnits i w }
     ensures without_strays { (i : Image) (w : World) → IsPlainWorld i w
         → strays_of (log_of w 0) ≡ [] → HasKeptUnits i w }
     ensures line { (i : Image) (w : World) (o : Opening) (j : ℕ) (p : Placed)

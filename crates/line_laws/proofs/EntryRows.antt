@@ -9,9 +9,10 @@ use Rattle.pblk_world.specs.EngineLog.{Taken}
 use Rattle.line_table.specs.Rows.{latest}
 use Rattle.core_laws.proofs.Lists.{filter_agree, filter_same, filter_none, all_filter}
 use Rattle.core_laws.proofs.PlacedPositions.{all_joined}
-use Rattle.core_laws.proofs.Placing.{is_below, not_below, weaker}
+use Rattle.core_laws.proofs.Placing.{not_below, weaker}
 use Rattle.core_laws.proofs.Rows.{same_number, other_number}
 use Rattle.core_laws.proofs.Taking.{not_both}
+use Rattle.stripe_placer.proofs.Chunks.{lt_yes as is_below}
 use Rattle.line_laws.proofs.NextTakes.{IsRising, rising_before, rising_after, is_at, fails_at, passes_later, passes_last, is_same, none_found, IsFound, one_more}
 use Rattle.line_laws.proofs.TakenRows.{count_less}
 

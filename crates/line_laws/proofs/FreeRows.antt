@@ -18,7 +18,8 @@ use Rattle.line_table.specs.declared.row.LineState.TheVariants.{Free, Open, Full
 use Rattle.line_table.specs.declared.row.LineState.TheVariants as states
 use Rattle.line_table.specs.Rows.{is_free_state, is_free, free_len, free_addresses}
 use Rattle.core_laws.specs.RowsOf.{state_found, state_in, logs_then, width_given_up, width_in, row_of_line, rows_of}
-use Rattle.core_laws.proofs.Placing.{is_below}
+use Rattle.core_laws.proofs.Tests.{both}
+use Rattle.stripe_placer.proofs.Chunks.{lt_yes as is_below}
 use Rattle.line_laws.proofs.Ranges.{sum_same}
 
 -- ---- one line
@@ -65,11 +66,6 @@ pub free_state : (i : Image) (logs : Logs) (line : ℕ) → is_free_line i logs 
 free_state i logs line e = only_free (row_of_line i logs line).state (row_free i logs line ∙ e)
 
 -- ---- the free addresses
-
-both : (a b : Bool) → (a && b) ≡ true → (a ≡ true) × (b ≡ true)
-both true true e = (refl, refl)
-both true false e = absurd cc
-both false b e = absurd cc
 
 width_given : (i : Image) (logs then_ : Logs) (line : ℕ) → are_empty (known_image i logs) line ≡ true → width_given_up i logs then_ line ≡ width (known_image i logs) line
 width_given i logs then_ line e = ap (λ b. if b then width (known_image i logs) line else width (known_image i then_) line) e

@@ -1,5 +1,5 @@
 -- The unit of a stripe that may be placed has as many answers as stripes.
-use Rattle.std.proofs.Common.{◌≡◌, ℕ, ◌<◌, ◌≤◌, zero, suc, nat_lt, Bool, true, false, Some, None, List, [], ◌∷◌, length, refl, ap, ap₂, ◌∙◌, arith, le_refl}
+use Rattle.std.proofs.Common.{◌≡◌, ℕ, ◌<◌, ◌≤◌, nat_lt, Bool, true, false, Some, None, List, length, refl, ap, ap₂, ◌∙◌, arith, le_refl}
 use Rattle.std.specs.Prelude.{slice_get}
 use Rattle.std.specs.List.{Contains}
 use Rattle.std.specs.Option.{is_some}
@@ -10,13 +10,8 @@ use Rattle.pblk_world.specs.World.{Logs}
 use Rattle.pblk_world.specs.EngineLog.{Placed, placed_on, Answer, answers, answer_of, is_answered}
 use Rattle.pblk_world.specs.Placing.{MayPlace}
 use Rattle.core_laws.specs.PlacerOf.{unanswered_on}
-use Rattle.core_laws.proofs.Answered.{IsFirst}
-use Rattle.line_laws.proofs.FirstAnswers.{first_unanswered}
-
-some_there : {X : Type 0} (xs : List X) (k : ℕ) → k < length xs → (x : X) × (slice_get xs k ≡ Some x)
-some_there [] k within = absurd (omega arith)
-some_there (x ∷ xs) zero within = (x, refl)
-some_there (x ∷ xs) (suc k) within = some_there xs k (omega arith)
+use Rattle.core_laws.proofs.Answered.{IsFirst, first_unanswered}
+use Rattle.core_laws.proofs.Lists.{got_within as some_there}
 
 pub first_answer : (log : List Logged) (unit : ℕ) (p : Placed) → unanswered_on log unit ≡ Some p → answer_of log p ≡ None
 first_answer log unit p e =
@@ -26,7 +21,7 @@ first_answer log unit p e =
 unanswered : (log : List Logged) (unit : ℕ) (p : Placed) → unanswered_on log unit ≡ Some p → is_answered log p ≡ false
 unanswered log unit p e = ap is_some (first_answer log unit p e)
 
-no_both : (b : Bool) → b ≡ true → b ≡ false → ⊥
+pub no_both : (b : Bool) → b ≡ true → b ≡ false → ⊥
 no_both true e f = cc
 no_both false e f = cc
 

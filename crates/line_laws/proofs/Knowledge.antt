@@ -15,7 +15,7 @@ use Rattle.pblk_world.specs.Lines.{found_by, found_image, told_by, told_events, 
 use Rattle.pblk_world.specs.Answering.{IsNew}
 use Rattle.pblk_world.specs.Legal.{IsAllowed, IsKnowledge, IsLegal}
 use Rattle.stripe_placer.proofs.Among.{IsAmong, later}
-use Rattle.core_laws.proofs.Lists.{map_same}
+use Rattle.core_laws.proofs.Lists.{map_same, zipped}
 use Rattle.core_laws.proofs.Placing.{weaker}
 use Rattle.core_laws.proofs.PlacedPositions.{all_joined}
 use Rattle.line_laws.specs.Known.{AreKnown}
@@ -75,10 +75,6 @@ IsEarlier l m = (author : ℕ) → known m author ≤ known l author
 earlier : (i : Image) (logs : Logs) (l : Logged) → IsKnowledge i logs 0 l → AllByRecursion (IsEarlier l) (logs 0)
 unfolding IsEarlier
 earlier i logs l knowledge = weaker (IsAmong (logs 0)) (λ m. (author : ℕ) → known m author ≤ known l author) (λ m at author. knowledge.rising m author (contains (logs 0) m at)) (logs 0) (among_all (logs 0))
-
-zipped : {X : Type 0} (P Q R : X → Type 0) → ((x : X) → P x → Q x → R x) → (xs : List X) → AllByRecursion P xs → AllByRecursion Q xs → AllByRecursion R xs
-zipped P Q R says [] p q = tt
-zipped P Q R says (x ∷ xs) p q = (says x p.0 q.0, zipped P Q R says xs p.1 q.1)
 
 named_now : (i : Image) (w : World) (l : Logged) → IsLegal i w → IsKnowledge i (log_of w) 0 l → AllByRecursion (NamesBelow (known l)) (log_of w 0)
 unfolding AllKnown IsEarlier

@@ -1,7 +1,7 @@
 -- What may be done by the whole logs may be done by what the engine knows of them.
-use Rattle.std.proofs.Common.{◌*◌, ◌-◌, min, ◌≡◌, ◌⊎◌, inl, inr, ℕ, ◌+◌, ◌/◌, ◌<◌, ◌≤◌, ◌&&◌, not, nat_lt, true, false, Some, None, Option, List, [], ◌∷◌, length, refl, sym, subst, subst₂, ap, ap₂, ◌∙◌, if◌then◌else◌}
+use Rattle.std.proofs.Common.{◌*◌, ◌-◌, min, ◌≡◌, ◌⊎◌, inl, inr, ℕ, ◌+◌, ◌/◌, ◌<◌, ◌≤◌, ◌&&◌, not, nat_lt, true, false, Some, None, Option, List, length, refl, sym, subst, subst₂, ap, ap₂, ◌∙◌, if◌then◌else◌}
 use Rattle.std.specs.Prelude.{sum_by}
-use Rattle.std.specs.List.{Contains, filter_map, cons_option, list_all, range_with_len}
+use Rattle.std.specs.List.{Contains, list_all, range_with_len}
 use Rattle.std.specs.Option.{option_and_then, is_some}
 use Rattle.pblk_model.specs.declared.chunk.Mark.{Mark}
 use Rattle.pblk_model.specs.Chunk.{Chunk}
@@ -23,6 +23,7 @@ use Rattle.pblk_world.specs.Space.{full_data, unplaced_in, addresses, placed_fro
 use Rattle.pblk_world.specs.Victims.{line_of_position, line_of}
 use Rattle.line_table.specs.declared.row.LineState.TheVariants as states
 use Rattle.core_laws.specs.RowsOf.{rows_of}
+use Rattle.core_laws.proofs.Lists.{made_same}
 use Rattle.line_laws.specs.Known.{AreKnown}
 use Rattle.line_laws.specs.Plain.{NoneFreed}
 use Rattle.line_laws.proofs.KeptRows.{row_kept}
@@ -84,10 +85,6 @@ older_known : (i : Image) (logs more : Logs) → AreKnown i logs more → (line 
 older_known i logs more is line =
     ap₂ (λ (xs : List Logged) (f : Image). if is_as_found (life_of xs line) then found_row i more line (start_of f line) else None) is.own is.found
     ∙ ap (λ o. if is_as_found (life_of (logs 0) line) then o else None) (row_known i logs more is line (start_of (found_image i logs) line))
-
-made_same : {X Y : Type 0} (f g : X → Option Y) → ((x : X) → f x ≡ g x) → (xs : List X) → filter_map f xs ≡ filter_map g xs
-made_same f g same [] = refl
-made_same {X} {Y} f g same (x ∷ xs) = ap₂ (λ (h : Option Y) (ys : List Y). cons_option h ys) (same x) (made_same f g same xs)
 
 pub opening_known : (i : Image) (logs more : Logs) (b : Begun) (line : ℕ) (start : StartRecord) → AreKnown i logs more → MayOpen i logs b line start → MayOpen i more b line start
 opening_known i logs more b line start is may = record {

@@ -13,35 +13,28 @@ use Rattle.stripe_placer.proofs.Among.{IsAmong, in_filter}
 use Rattle.core_laws.specs.PlacerOf.{unanswered_on}
 use Rattle.core_laws.specs.Stepping.{after}
 use Rattle.pblk_model.specs.StartRecord.{StartRecord}
-use Rattle.core_laws.proofs.Answered.{IsAnswer, IsFirst, its_answer, others_answer}
+use Rattle.core_laws.proofs.Answered.{IsAnswer, IsFirst, its_answer, others_answer, first_unanswered}
 use Rattle.core_laws.proofs.Engine.{placements_before}
-use Rattle.core_laws.proofs.Lists.{filter_agree, filter_same, filter_none, all_filter}
+use Rattle.core_laws.proofs.Lists.{filter_agree, filter_same, filter_none, all_filter, zipped, filter_short as few_pass}
 use Rattle.core_laws.proofs.Opening.{placed_before}
 use Rattle.core_laws.proofs.Placing.{with_place, new_placed, IsPlacing, answer_now, new_unanswered}
 use Rattle.core_laws.proofs.Rows.{same_number, other_number}
 use Rattle.core_laws.proofs.Steady.{AreAlike}
 use Rattle.core_laws.proofs.Taking.{filter_last}
 use Rattle.core_laws.proofs.TakenSlots.{landed_same}
+use Rattle.core_laws.proofs.Turns.{Rises, rise_from, rise_filtered}
+use Rattle.core_laws.proofs.Removing.{all_first as all_left, all_second as all_right}
 use Rattle.line_laws.specs.InOrder.{HasRoom}
 use Rattle.line_laws.specs.LandedStripes.{landed_count, keeps_landed}
 use Rattle.line_laws.specs.OpenAddresses.{keeps_stripes}
-use Rattle.line_laws.proofs.FirstAnswers.{Rises, rise_from, rise_filtered, among_all, passed, first_unanswered, its_landing}
+use Rattle.line_laws.proofs.FirstAnswers.{among_all, passed, its_landing}
 use Rattle.line_laws.proofs.IdleUnits.{first_answer}
 use Rattle.line_laws.proofs.Kept.{with_event, placements_kept, alike_kept}
 use Rattle.line_laws.proofs.LineRoom.{few_stripes}
 use Rattle.line_laws.proofs.OpenedRows.{new_opening}
 use Rattle.line_laws.proofs.PlacedAddresses.{stripes_now}
-use Rattle.line_laws.proofs.NextTakes.{all_left, all_right}
 
 -- ---- lists all of which pass
-
-few_pass : {X : Type 0} (f : X → Bool) (xs : List X) → length (filter f xs) ≤ length xs
-few_pass f [] = omega arith
-few_pass {X} f (x ∷ xs) = go (f x) (few_pass f xs)
-  where
-    go : (b : Bool) → length (filter f xs) ≤ length xs → length (cond b (x ∷ filter f xs) (filter f xs)) ≤ suc (length xs)
-    go true h = omega arith
-    go false h = omega arith
 
 all_count : {X : Type 0} (f : X → Bool) (xs : List X) → list_all f xs ≡ true → length (filter f xs) ≡ length xs
 all_count f [] e = refl
@@ -51,7 +44,7 @@ all_count {X} f (x ∷ xs) e = go (f x) e (λ h. all_count f xs h)
     go true h rest = ap suc (rest h)
     go false h rest = absurd cc
 
-count_all : {X : Type 0} (f : X → Bool) (xs : List X) → length (filter f xs) ≡ length xs → list_all f xs ≡ true
+pub count_all : {X : Type 0} (f : X → Bool) (xs : List X) → length (filter f xs) ≡ length xs → list_all f xs ≡ true
 count_all f [] e = refl
 count_all {X} f (x ∷ xs) e = go (f x) e (λ h. count_all f xs h)
   where
@@ -119,10 +112,6 @@ others_after [] p after rise = above p after rise.0
     above p [] all = tt
     above p (q ∷ qs) all = let more : p.number < q.number = all.0 in ((λ e. absurd (omega arith)), above p qs all.1)
 others_after (q ∷ before) p after rise = others_after before p after rise.1
-
-zipped : {X : Type 0} (P Q R : X → Type 0) → ((x : X) → P x → Q x → R x) → (xs : List X) → AllByRecursion P xs → AllByRecursion Q xs → AllByRecursion R xs
-zipped P Q R says [] p q = tt
-zipped P Q R says (x ∷ xs) p q = (says x p.0 q.0, zipped P Q R says xs p.1 q.1)
 
 one_more : (f g : Placed → Bool) (before : List Placed) (p : Placed) (after : List Placed) → f p ≡ false → g p ≡ true
     → filter g before ≡ filter f before → filter g after ≡ filter f after → length (filter g (before ++ p ∷ after)) ≡ length (filter f (before ++ p ∷ after)) + 1

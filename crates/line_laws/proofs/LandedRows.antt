@@ -1,5 +1,5 @@
 -- What a stripe that has landed changes in the table.
-use Rattle.std.proofs.Common.{◌≡◌, ◌≢◌, ℕ, ◌/◌, ◌&&◌, zero, suc, not, nat_eq, Bool, true, false, cond, Some, None, Option, List, [], ◌∷◌, ◌++◌, length, refl, sym, ap, ap₂, ◌∙◌, append-nil}
+use Rattle.std.proofs.Common.{◌≡◌, ◌≢◌, ℕ, ◌/◌, ◌&&◌, not, nat_eq, Bool, true, false, Some, None, Option, List, [], ◌∷◌, ◌++◌, length, refl, sym, ap, ap₂, ◌∙◌, append-nil}
 use Rattle.std.specs.Prelude.{if◌then◌else◌, map, slice_get, slice_set}
 use Rattle.std.specs.List.{filter, filter_map, cons_option, find, list_all, enumerate_from}
 use Rattle.std.specs.Option.{option_map, option_map_or, option_and_then, option_to_list}
@@ -27,20 +27,19 @@ use Rattle.core_laws.specs.PlacerOf.{unanswered_on}
 use Rattle.core_laws.specs.RowsOf.{state_in, width_in, taker_in, row_of_line, rows_of}
 use Rattle.core_laws.proofs.Numbers.{opens_at, life_at}
 use Rattle.core_laws.proofs.Rows.{other_number}
+use Rattle.core_laws.proofs.Lists.{get_set_other as get_else}
+use Rattle.core_laws.proofs.Answered.{first_unanswered}
+use Rattle.core_laws.proofs.TakenSlots.{find_same}
 use Rattle.line_laws.specs.Changes.{with_row, full_if}
 use Rattle.line_laws.specs.OpenAddresses.{keeps_addresses}
 use Rattle.line_laws.specs.Plain.{NoneFreed, NoneFailed}
 use Rattle.line_laws.proofs.Kept.{with_event, KeepsStripes, stripes_kept, also_stripes, lives_kept}
 use Rattle.line_laws.proofs.KeptRows.{found_kept, KeepsChunks, KeepsLines, live_kept, taker_kept, row_parts, same_row, row_kept}
 use Rattle.line_laws.proofs.OpenAddresses.{failed_kept}
-use Rattle.line_laws.proofs.FirstAnswers.{first_unanswered, its_landing, have_landed_beside, have_landed_stays}
+use Rattle.line_laws.proofs.FirstAnswers.{its_landing, have_landed_beside, have_landed_stays}
 use Rattle.line_laws.proofs.Tables.{row_changes_any}
 
 -- ---- entries stay where they are
-
-find_same : {X : Type 0} (f g : X → Bool) → ((x : X) → f x ≡ g x) → (xs : List X) → find f xs ≡ find g xs
-find_same f g same [] = refl
-find_same f g same (x ∷ xs) = ap₂ (λ b o. cond b (Some x) o) (same x) (find_same f g same xs)
 
 force_kept : (log new : List Logged) → ((line : ℕ) → life_of new line ≡ life_of log line) → (life : LineLife) (line : ℕ) → is_in_force new life line ≡ is_in_force log life line
 force_kept log new lives AsFound line = refl
@@ -80,14 +79,7 @@ lines_kept i logs e knows keeps none untaken = record {
 
 -- ---- the chunks of the other lines
 
-get_else : {X : Type 0} (xs : List X) (k m : ℕ) (x : X) → m ≢ k → slice_get (slice_set xs k x) m ≡ slice_get xs m
-get_else [] k m x other = refl
-get_else (y ∷ xs) zero zero x other = absurd (other refl)
-get_else (y ∷ xs) zero (suc m) x other = refl
-get_else (y ∷ xs) (suc k) zero x other = refl
-get_else (y ∷ xs) (suc k) (suc m) x other = get_else xs k m x (λ e. other (ap suc e))
-
-event_beside : (s : Shape) (chunks : List Chunk) (e : UnitEvent) (m : ℕ) → m ≢ e.chunk → slice_get (after_event s chunks e) m ≡ slice_get chunks m
+pub event_beside : (s : Shape) (chunks : List Chunk) (e : UnitEvent) (m : ℕ) → m ≢ e.chunk → slice_get (after_event s chunks e) m ≡ slice_get chunks m
 event_beside s chunks e m other = go (slice_get chunks e.chunk)
   where
     go : (o : Option Chunk) → slice_get (option_map_or (λ (c : Chunk). slice_set chunks e.chunk (after_outcome s c e.command e.outcome)) o chunks) m ≡ slice_get chunks m
@@ -100,7 +92,7 @@ log_beside s chunks log None m other = ap (λ xs. slice_get (after_log s chunks 
 log_beside s chunks log (Some e) m other =
     ap (λ cs. slice_get cs m) (fold-append (after_event s) chunks log (e ∷ [])) ∙ event_beside s (after_log s chunks log) e m (other e refl)
 
-to_list : {X : Type 0} (o : Option X) → cons_option o [] ≡ option_to_list o
+pub to_list : {X : Type 0} (o : Option X) → cons_option o [] ≡ option_to_list o
 to_list None = refl
 to_list (Some x) = refl
 

@@ -1,8 +1,6 @@
 pub mod Ranges
 pub mod FreeRows
 pub mod NextLine
-pub mod Quiet
-pub mod Blank
 pub mod Kept
 pub mod OpenAddresses
 pub mod PlacedAddresses
@@ -30,4 +28,3 @@ pub mod LinesInRange
 pub mod LineRoom
 pub mod LandedCounts
 pub mod AwaitedStripes
-pub mod BlankTable

@@ -23,16 +23,16 @@ use Rattle.line_table.specs.declared.row.LineState.TheVariants as states
 use Rattle.core_laws.specs.PlacerOf.{unanswered_on}
 use Rattle.core_laws.specs.PlainWorlds.{is_plain_event, ArePlain, IsPlainWorld}
 use Rattle.core_laws.specs.RowsOf.{state_in, row_of_line}
-use Rattle.core_laws.proofs.Answered.{IsFirst}
+use Rattle.core_laws.proofs.Answered.{IsFirst, first_unanswered}
 use Rattle.core_laws.proofs.Lists.{filter_none}
 use Rattle.core_laws.proofs.Numbers.{opens_at, life_at}
 use Rattle.core_laws.proofs.Opening.{placed_before}
 use Rattle.core_laws.proofs.Placing.{with_place, new_placed}
 use Rattle.core_laws.proofs.Rows.{same_number}
+use Rattle.core_laws.proofs.Tests.{both}
 use Rattle.line_laws.specs.InOrder.{HasRoom}
 use Rattle.line_laws.specs.OpenAddresses.{keeps_addresses}
 use Rattle.line_laws.specs.Plain.{NoneFailed}
-use Rattle.line_laws.proofs.FirstAnswers.{first_unanswered}
 use Rattle.line_laws.proofs.IdleUnits.{first_answer}
 use Rattle.line_laws.proofs.Kept.{with_event, placements_kept, lives_kept, also_stripes}
 use Rattle.line_laws.proofs.OpenedRows.{new_opening, life_now, life_elsewhere}
@@ -78,11 +78,6 @@ AllRoom s log = (line : ℕ) (o : Opening) → life_of log line ≡ Opened o →
 
 opened_same : (o other : Opening) → Opened o ≡ Opened other → o ≡ other
 opened_same o other e = cc
-
-both : (a b : Bool) → (a && b) ≡ true → (a ≡ true) × (b ≡ true)
-both true true e = (refl, refl)
-both true false e = absurd cc
-both false b e = absurd cc
 
 room_same : (s : Shape) (log new : List Logged) (o : Opening) → placements new ≡ placements log → HasRoom s log o → HasRoom s new o
 room_same s log new o same is = record {

@@ -15,9 +15,10 @@ use Rattle.core_laws.proofs.Lists.{all_filter}
 use Rattle.core_laws.proofs.Placing.{weaker}
 use Rattle.core_laws.proofs.PlacedPositions.{all_joined}
 use Rattle.core_laws.proofs.Stripes.{find_all}
+use Rattle.core_laws.proofs.Opening.{all_made}
 use Rattle.line_laws.specs.InOrder.{IsInPlace}
 use Rattle.line_laws.proofs.Tables.{range_below}
-use Rattle.line_laws.proofs.Winners.{all_made, block_line, winner_is}
+use Rattle.line_laws.proofs.Winners.{block_line, winner_is}
 
 -- ---- records that count
 

@@ -14,8 +14,9 @@ use Rattle.pblk_world.specs.Lines.{is_free_line, has_stripe_left}
 use Rattle.pblk_world.specs.Opening.{MayOpen}
 use Rattle.line_table.specs.Rows.{is_free}
 use Rattle.core_laws.specs.RowsOf.{row_of_line, rows_of}
+use Rattle.core_laws.proofs.PlacedLines.{get_row as row_there}
 use Rattle.line_laws.specs.LeastFree.{IsLeastFree, IsStartOf}
-use Rattle.line_laws.proofs.Ranges.{value_at, row_there}
+use Rattle.line_laws.proofs.Ranges.{value_at}
 use Rattle.line_laws.proofs.FreeRows.{row_free, free_width}
 
 free_at : (i : Image) (logs : Logs) (line : ℕ) (b : Bool) → line < i.shape.chunks → is_free (get_or (rows_of i logs).rows line (row_of_line i logs 0)) ≡ b → is_free_line i logs line ≡ b

@@ -9,10 +9,12 @@ use Rattle.std.proofs.lemmas.Option.{same_Some, none-some}
 use Rattle.pblk_world.specs.EngineLog.{Taken}
 use Rattle.line_table.specs.Rows.{latest}
 use Rattle.core_laws.specs.PlacerOf.{positions_of}
-use Rattle.core_laws.proofs.Lists.{all_filter}
-use Rattle.core_laws.proofs.Placing.{is_below, not_below, weaker}
+use Rattle.core_laws.proofs.Lists.{all_filter, find_none as find_fails, find_agree}
+use Rattle.core_laws.proofs.Placing.{not_below, weaker}
 use Rattle.core_laws.proofs.Rows.{other_number}
 use Rattle.core_laws.proofs.Taking.{not_both}
+use Rattle.core_laws.proofs.Removing.{all_second as all_right}
+use Rattle.stripe_placer.proofs.Chunks.{lt_yes as is_below}
 
 -- ---- rising positions
 
@@ -35,14 +37,6 @@ rising_by a (suc n) (t ∷ ts) e =
     let first : t.entry.position ≡ a = cc in
     let rest : positions_of ts ≡ range_with_len (a + 1) n = cc in
     (weaker (λ (u : Taken). a + 1 ≤ u.entry.position) (λ (u : Taken). t.entry.position < u.entry.position) (λ u h. omega arith) ts (from_by (a + 1) n ts rest), rising_by (a + 1) n ts rest)
-
-pub all_left : {X : Type 0} (P : X → Type 0) (xs ys : List X) → AllByRecursion P (xs ++ ys) → AllByRecursion P xs
-all_left P [] ys all = tt
-all_left P (x ∷ xs) ys all = (all.0, all_left P xs ys all.1)
-
-pub all_right : {X : Type 0} (P : X → Type 0) (xs ys : List X) → AllByRecursion P (xs ++ ys) → AllByRecursion P ys
-all_right P [] ys all = all
-all_right P (x ∷ xs) ys all = all_right P xs ys all.1
 
 pub rising_before : (before : List Taken) (t : Taken) (after : List Taken) → IsRising (before ++ t ∷ after) → AllByRecursion (λ u. u.entry.position < t.entry.position) before
 rising_before [] t after rise = tt
@@ -117,14 +111,6 @@ passes_last test before t after passes none =
 
 abbrev pub is_same : Taken → Taken → Bool
 is_same t u = u.mark.lba == t.mark.lba
-
-find_fails : {X : Type 0} (test : X → Bool) (xs : List X) → AllByRecursion (λ x. test x ≡ false) xs → find test xs ≡ None
-find_fails test [] all = refl
-find_fails test (x ∷ xs) all = ap (λ b. cond b (Some x) (find test xs)) all.0 ∙ find_fails test xs all.1
-
-find_agree : {X : Type 0} (P : X → Type 0) (f g : X → Bool) → ((x : X) → P x → f x ≡ g x) → (xs : List X) → AllByRecursion P xs → find f xs ≡ find g xs
-find_agree P f g same [] all = refl
-find_agree P f g same (x ∷ xs) all = ap₂ (λ b o. cond b (Some x) o) (same x all.0) (find_agree P f g same xs all.1)
 
 and_true : (a b : Bool) → b ≡ true → (a && b) ≡ a
 and_true true b e = e

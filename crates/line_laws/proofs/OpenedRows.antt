@@ -1,7 +1,7 @@
 -- What a line that is opened changes in the table.
-use Rattle.std.proofs.Common.{◌≡◌, ◌≢◌, ℕ, ◌+◌, ◌-◌, ◌*◌, ◌/◌, ◌%◌, ◌<◌, ◌≤◌, ◌&&◌, not, nat_eq, nat_lt, nat_le, Bool, true, false, cond, Some, None, Option, List, [], ◌∷◌, length, take, refl, sym, subst, ap, ap₂, ◌∙◌, arith, le_refl, append-nil, div-add-mod', mod-lt, mod-eq_of_lt}
+use Rattle.std.proofs.Common.{◌≡◌, ◌≢◌, ℕ, ◌+◌, ◌-◌, ◌*◌, ◌/◌, ◌%◌, ◌<◌, ◌≤◌, ◌&&◌, not, nat_eq, nat_lt, nat_le, Bool, true, false, Some, None, Option, List, [], length, take, refl, sym, subst, ap, ap₂, ◌∙◌, arith, le_refl, append-nil, div-add-mod', mod-lt, mod-eq_of_lt}
 use Rattle.std.specs.Prelude.{if◌then◌else◌}
-use Rattle.std.specs.List.{AllByRecursion, filter, find, list_all, list_any, last_or}
+use Rattle.std.specs.List.{filter, find, list_all, list_any, last_or}
 use Rattle.std.specs.Option.{option_map, option_and_then, is_some}
 use Rattle.std.proofs.Math.Nat.{le-mul_of_pos_right, mul_comm, zero-mul}
 use Rattle.std.proofs.lemmas.Bool.{eqb-true, eqb-false}
@@ -25,10 +25,12 @@ use Rattle.line_table.specs.declared.row.LineState.TheVariants as states
 use Rattle.line_table.specs.Rows.{turned}
 use Rattle.core_laws.specs.Stepping.{after}
 use Rattle.core_laws.specs.RowsOf.{state_in, width_in, taker_by, taker_in, row_of_line, rows_of}
-use Rattle.core_laws.proofs.Lists.{filter_none}
+use Rattle.core_laws.proofs.Lists.{filter_none, all_of, find_agree}
 use Rattle.core_laws.proofs.Opening.{placed_before}
 use Rattle.core_laws.proofs.Rows.{same_number, other_number}
 use Rattle.core_laws.proofs.Turns.{found_is}
+use Rattle.core_laws.proofs.Tests.{both}
+use Rattle.core_laws.proofs.Taking.{not_both}
 use Rattle.line_laws.specs.Changes.{with_row}
 use Rattle.line_laws.specs.Plain.{NoneFreed}
 use Rattle.line_laws.proofs.Kept.{with_event, KeepsStripes, stripes_kept, alike_kept, have_landed_alike}
@@ -36,11 +38,6 @@ use Rattle.line_laws.proofs.KeptRows.{found_kept, known_kept, KeepsLines, live_k
 use Rattle.line_laws.proofs.OpenAddresses.{failed_kept}
 use Rattle.line_laws.proofs.Tables.{row_changes_any}
 use Rattle.line_laws.proofs.Winners.{winner_starts}
-
-both : (a b : Bool) → (a && b) ≡ true → (a ≡ true) × (b ≡ true)
-both true true e = (refl, refl)
-both true false e = absurd cc
-both false b e = absurd cc
 
 -- ---- nothing is live in a Free line
 
@@ -146,10 +143,6 @@ force_same log line start knows (Opened o) other closed before = go (nat_eq othe
         ∙ other_number (length log) o.number (λ f. eqb-false o.number (length log) before (sym f))
         ∙ sym (no_force log (Opened o) other (ap (λ n. is_opened (life_of log n)) same ∙ closed))
 
-find_agree : {X : Type 0} (P : X → Type 0) (f g : X → Bool) → ((x : X) → P x → f x ≡ g x) → (xs : List X) → AllByRecursion P xs → find f xs ≡ find g xs
-find_agree P f g same [] all = refl
-find_agree P f g same (x ∷ xs) all = ap₂ (λ b o. cond b (Some x) o) (same x all.0) (find_agree P f g same xs all.1)
-
 position_same : (s : Shape) (log : List Logged) (line : ℕ) (start : StartRecord) (knows : List ℕ) (position : ℕ) → is_opened (life_of log line) ≡ false
     → line_of_position s (with_event log (Open line start) knows) position ≡ line_of_position s log position
 position_same s log line start knows position closed =
@@ -202,7 +195,7 @@ lines_same i logs line start knows free = record {
 
 -- ---- the row of the line
 
-either : {X : Type 0} (b : Bool) (x : X) → (if b then x else x) ≡ x
+pub either : {X : Type 0} (b : Bool) (x : X) → (if b then x else x) ≡ x
 either true x = refl
 either false x = refl
 
@@ -253,14 +246,6 @@ unfolding state_by
 state_opened i new line o none some =
     ap (state_by (line_end i.shape o / i.shape.ws_opt) (new 0)) none
     ∙ ap (λ b. if b && list_all (has_landed (new 0)) (take (line_end i.shape o / i.shape.ws_opt) []) then states.Full else states.Open) (not_above (line_end i.shape o / i.shape.ws_opt) some)
-
-not_both : (a b : Bool) → b ≡ false → (a && b) ≡ false
-not_both true b e = e
-not_both false b e = refl
-
-all_of : {X : Type 0} (P : X → Type 0) → ((x : X) → P x) → (xs : List X) → AllByRecursion P xs
-all_of P each [] = tt
-all_of P each (x ∷ xs) = (each x, all_of P each xs)
 
 no_taker : (i : Image) (logs new : Logs) (line : ℕ) → is_free_line i logs line ≡ true → KeepsLines i logs new → taker_by i new line ≡ None
 no_taker i logs new line free keeps =

@@ -20,10 +20,10 @@ use Rattle.core_laws.proofs.KeptPositions.{marked_after, taken_after}
 use Rattle.core_laws.proofs.Numbering.{numbered_after}
 use Rattle.core_laws.proofs.Placing.{new_placed, placements_now, weaker}
 use Rattle.core_laws.proofs.PlacedPositions.{all_joined}
+use Rattle.core_laws.proofs.Removing.{all_first as all_left, all_second as all_right}
 use Rattle.line_laws.specs.InOrder.{IsInPlace, IsInOrder}
 use Rattle.line_laws.specs.PlacedEntries.{AreOfSectors}
 use Rattle.line_laws.proofs.Kept.{with_event, placements_kept}
-use Rattle.line_laws.proofs.NextTakes.{all_left, all_right}
 use Rattle.line_laws.proofs.OpenedRows.{free_closed}
 use Rattle.line_laws.proofs.PlainLogs.{none_freed, none_lost, none_failed}
 

@@ -1,5 +1,5 @@
 -- How the data addresses of the opened lines change with a stripe that is placed.
-use Rattle.std.proofs.Common.{◌≡◌, ◌≢◌, ℕ, ◌+◌, ◌-◌, ◌*◌, ◌/◌, ◌%◌, ◌<◌, ◌≤◌, ◌&&◌, ◌||◌, nat_lt, nat_le, max, Bool, true, false, cond, List, [], ◌∷◌, ◌++◌, length, take, refl, sym, subst, ap, ap₂, ◌∙◌, arith, append-nil, length-append, div-add-mod', le_of_lt, add-zero, inl, inr, ◌⊎◌}
+use Rattle.std.proofs.Common.{◌≡◌, ◌≢◌, ℕ, ◌+◌, ◌-◌, ◌*◌, ◌/◌, ◌%◌, ◌<◌, ◌≤◌, ◌||◌, nat_lt, nat_le, max, Bool, true, false, cond, List, [], ◌∷◌, ◌++◌, length, take, refl, sym, subst, ap, ap₂, ◌∙◌, arith, append-nil, length-append, div-add-mod', le_of_lt, add-zero, inl, inr, ◌⊎◌}
 use Rattle.std.specs.Prelude.{if◌then◌else◌}
 use Rattle.std.specs.List.{AllByRecursion, filter, list_any, list_all}
 use Rattle.std.specs.Int.{div_ceil}
@@ -24,6 +24,7 @@ use Rattle.core_laws.proofs.Numbers.{opens_at, life_at}
 use Rattle.core_laws.proofs.Placing.{with_place, new_placed, IsPlacing, placements_now, answer_now, new_unanswered}
 use Rattle.core_laws.proofs.Rows.{same_number, other_number}
 use Rattle.core_laws.proofs.Taking.{filter_last}
+use Rattle.core_laws.proofs.Tests.{both}
 use Rattle.line_laws.proofs.Ranges.{sum_more}
 
 -- ---- multiples of a stripe
@@ -168,11 +169,6 @@ left_less s log o none from within =
     ap (λ b. if b then 0 else E - max (start_len s) (next_address s log o)) none
     ∙ sums
     ∙ ap₂ (λ b n. (if b then 0 else E - max (start_len s) n) + s.ws_opt) (sym none) (sym next)
-
-both : (a b : Bool) → (a && b) ≡ true → (a ≡ true) × (b ≡ true)
-both true true e = (refl, refl)
-both true false e = absurd cc
-both false b e = absurd cc
 
 -- a start record that has landed whole is behind the next address
 past_start : (s : Shape) (log : List Logged) (o : Opening) → 0 < s.ws_opt → has_landed_start s log o ≡ true → start_len s ≤ next_address s log o

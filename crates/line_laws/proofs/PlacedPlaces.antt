@@ -1,5 +1,5 @@
 -- Where the entries of sectors are once a stripe is placed.
-use Rattle.std.proofs.Common.{◌≡◌, ◌≢◌, ◌⊎◌, inl, inr, ℕ, ◌+◌, ◌-◌, ◌<◌, ◌≤◌, ◌==◌, ◌&&◌, ◌||◌, zero, suc, not, nat_eq, Bool, true, false, cond, Some, None, Option, List, [], ◌∷◌, length, take, drop, refl, sym, ap, ap₂, ◌∙◌, arith, le_of_lt, if◌then◌else◌}
+use Rattle.std.proofs.Common.{◌≡◌, ◌⊎◌, inl, inr, ℕ, ◌+◌, ◌-◌, ◌<◌, ◌≤◌, ◌==◌, ◌&&◌, ◌||◌, zero, suc, not, nat_eq, Bool, true, false, cond, Some, None, Option, List, [], ◌∷◌, length, take, drop, refl, sym, ap, ap₂, ◌∙◌, arith, le_of_lt, if◌then◌else◌}
 use Rattle.std.specs.Prelude.{map, replicate, slice_range}
 use Rattle.std.specs.List.{AllByRecursion, find, list_any}
 use Rattle.std.specs.Option.{option_map, option_or, is_some}
@@ -7,7 +7,6 @@ use Rattle.std.proofs.lemmas.Bool.{eqb-true, eqb-false}
 use Rattle.std.proofs.lemmas.List.Folds.{find-append, list_any-append}
 use Rattle.std.proofs.lemmas.Option.{none-some}
 use Rattle.pblk_model.specs.declared.shape.Shape.{Shape}
-use Rattle.pblk_model.specs.declared.chunk.Mark.{Mark}
 use Rattle.pblk_model.specs.Chunk.{Block}
 use Rattle.pblk_model.specs.Blocks.{blocks_of}
 use Rattle.pblk_model.specs.LineOrder.{start_len, end_len}
@@ -25,11 +24,13 @@ use Rattle.pblk_world.specs.Victims.{is_in_force, line_of_position, line_of}
 use Rattle.pblk_world.proofs.Appending.{life_more}
 use Rattle.core_laws.specs.Stepping.{after}
 use Rattle.core_laws.proofs.Engine.{placements_before}
-use Rattle.core_laws.proofs.Placing.{with_place, new_placed, IsPlacing, placements_now, answer_now, new_unanswered, is_below, not_below}
+use Rattle.core_laws.proofs.Placing.{with_place, new_placed, IsPlacing, placements_now, answer_now, new_unanswered}
 use Rattle.core_laws.proofs.Rows.{same_number, other_number}
+use Rattle.core_laws.proofs.Lists.{all_dropped, all_taken, all_replicated, find_agree}
+use Rattle.core_laws.proofs.PlacedPositions.{unnamed as unnamed_mark}
+use Rattle.stripe_placer.proofs.Chunks.{lt_yes as is_below}
 use Rattle.line_laws.proofs.KeptRows.{found_kept}
 use Rattle.line_laws.proofs.LandedRows.{winner_kept}
-use Rattle.line_laws.proofs.Quiet.{all_taken}
 use Rattle.line_laws.proofs.NextTakes.{is_at}
 use Rattle.line_laws.proofs.PlacedEntryRows.{with_entries, entries_are}
 
@@ -38,22 +39,10 @@ use Rattle.line_laws.proofs.PlacedEntryRows.{with_entries, entries_are}
 IsUnnamed : Shape → Block → Type 0
 IsUnnamed s b = is_some (named s b.mark) ≡ false
 
-unnamed_mark : (s : Shape) (m : Mark) → s.capacity ≤ meta_lba → meta_lba ≤ m.lba → m.lba ≢ void_lba → is_some (named s m) ≡ false
-unnamed_mark s m small above other = ap₂ (λ a b. is_some (if a then Some (Some m.lba) else (if b then Some None else None))) (not_below s.capacity m.lba (omega arith)) (other_number m.lba void_lba other)
-
 none_borne : (s : Shape) (q : ℕ) (bs : List Block) → AllByRecursion (IsUnnamed s) bs → list_any (bears_position s q) bs ≡ false
 unfolding IsUnnamed
 none_borne s q [] all = refl
 none_borne s q (b ∷ bs) all = ap₂ (λ c d. (c && (b.mark.position == q)) || d) all.0 (none_borne s q bs all.1)
-
-all_replicated : {X : Type 0} (P : X → Type 0) (n : ℕ) (x : X) → P x → AllByRecursion P (replicate n x)
-all_replicated P zero x p = tt
-all_replicated P (suc n) x p = (p, all_replicated P n x p)
-
-all_dropped : {X : Type 0} (P : X → Type 0) (n : ℕ) (xs : List X) → AllByRecursion P xs → AllByRecursion P (drop n xs)
-all_dropped P zero xs all = all
-all_dropped P (suc n) [] all = tt
-all_dropped P (suc n) (x ∷ xs) all = all_dropped P n xs all.1
 
 pads_unnamed : (s : Shape) (n : ℕ) → s.capacity ≤ meta_lba → AllByRecursion (IsUnnamed s) (replicate n (pad_block s))
 unfolding IsUnnamed
@@ -72,7 +61,7 @@ part_unnamed s seq count bytes from to small =
 pub BearsThese : Shape → Stripe → List Taken → Type 0
 BearsThese s stripe ts = (q : ℕ) → list_any (bears_position s q) stripe.blocks ≡ list_any (λ t. q == t.entry.position) ts
 
-turned_round : (m n : ℕ) → (m == n) ≡ (n == m)
+pub turned_round : (m n : ℕ) → (m == n) ≡ (n == m)
 turned_round m n = go (nat_eq m n) refl
   where
     go : (b : Bool) → nat_eq m n ≡ b → (m == n) ≡ (n == m)
@@ -121,10 +110,6 @@ others_bear i logs o stripe small (inr (inr its)) = λ q. ap (list_any (bears_po
     ∙ none_borne i.shape q (replicate i.shape.ws_opt (pad_block i.shape)) (pads_unnamed i.shape i.shape.ws_opt small)
 
 -- ---- where entries are
-
-find_agree : {X : Type 0} (P : X → Type 0) (f g : X → Bool) → ((x : X) → P x → f x ≡ g x) → (xs : List X) → AllByRecursion P xs → find f xs ≡ find g xs
-find_agree P f g same [] all = refl
-find_agree P f g same (x ∷ xs) all = ap₂ (λ b o. cond b (Some x) o) (same x all.0) (find_agree P f g same xs all.1)
 
 force_now : (log : List Logged) (stripe : Stripe) (knows : List ℕ) (life : LineLife) (line : ℕ) → is_in_force (with_place log stripe knows) life line ≡ is_in_force log life line
 force_now log stripe knows AsFound line = refl

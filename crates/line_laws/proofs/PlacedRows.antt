@@ -18,6 +18,8 @@ use Rattle.pblk_world.specs.Placing.{IsStart, IsData, IsEnd, IsPad, line_end}
 use Rattle.pblk_world.specs.Victims.{line_of_position, line_of}
 use Rattle.pblk_world.proofs.Appending.{takes_more, life_more}
 use Rattle.stripe_placer.proofs.Among.{IsAmong, later}
+use Rattle.stripe_placer.proofs.Chunks.{lt_yes as is_below}
+use Rattle.stripe_placer.proofs.Rising.{le_true as at_most}
 use Rattle.line_table.specs.declared.row.LineState.TheVariants as states
 use Rattle.line_table.specs.declared.row.Row.{Row}
 use Rattle.line_table.specs.Rows.{Table, EachRow}
@@ -25,13 +27,13 @@ use Rattle.core_laws.specs.Stepping.{after}
 use Rattle.core_laws.specs.Positions.{IsUnplaced, AreNumbered, AreMarked}
 use Rattle.core_laws.specs.RowsOf.{state_in, state_of, width_in, taker_by, taker_in, row_of_line, rows_of}
 use Rattle.core_laws.proofs.Engine.{placements_before}
-use Rattle.core_laws.proofs.Lists.{all_filter, filter_none}
-use Rattle.core_laws.proofs.Placing.{with_place, new_placed, IsPlacing, answer_now, new_unanswered, is_below, weaker}
+use Rattle.core_laws.proofs.Lists.{all_filter, filter_none, all_taken, all_of, zipped}
+use Rattle.core_laws.proofs.Placing.{with_place, new_placed, IsPlacing, answer_now, new_unanswered, weaker}
 use Rattle.core_laws.proofs.Rows.{other_number, row_at}
+use Rattle.core_laws.proofs.PlacedLines.{passes}
 use Rattle.line_laws.specs.Plain.{NoneFreed, NoneLost}
 use Rattle.line_laws.specs.PlacedEntries.{place_entries, AreOfSectors}
 use Rattle.line_laws.proofs.KeptRows.{found_kept, known_kept, KeepsChunks, state_same, width_same, same_row}
-use Rattle.line_laws.proofs.Quiet.{all_taken}
 use Rattle.line_laws.proofs.NextTakes.{IsRising, rising_by}
 use Rattle.line_laws.proofs.EntryRows.{Places, last_of, live_with, taker_with, IsNowhere}
 use Rattle.line_laws.proofs.PlacedAddresses.{stripes_now, losses_now, or_false}
@@ -53,13 +55,6 @@ failed_now log stripe knows o other is = go (is_life other.number (Opened o)) re
     go false e =
         ap (list_any (was_lost (with_place log stripe knows))) (stripes_now log stripe knows o other false is.opened e ∙ append-nil (stripes_of log other))
         ∙ losses_now log stripe knows o other is.opened
-
-at_most : (m n : ℕ) → m ≤ n → nat_le m n ≡ true
-at_most m n h = go (nat_le m n) refl
-  where
-    go : (b : Bool) → nat_le m n ≡ b → b ≡ true
-    go true e = refl
-    go false e = let above : n < m = grind arith in absurd (omega arith)
 
 -- a list with one more element that doesn't pass
 first_pass : {X : Type 0} (f : X → Bool) (xs : List X) (y : X) (n : ℕ) → f y ≡ false
@@ -173,10 +168,6 @@ not_again s log t fine = ap (λ n. (times_placed s log t == n) && was_placed s l
     go zero = refl
     go (suc n) = ap (λ b. b && nat_lt 0 (suc n)) (other_number (suc n) 0 (λ e. absurd (omega arith)))
 
-all_of : {X : Type 0} (P : X → Type 0) → ((x : X) → P x) → (xs : List X) → AllByRecursion P xs
-all_of P each [] = tt
-all_of P each (x ∷ xs) = (each x, all_of P each xs)
-
 pub waiting_fresh : (s : Shape) (log : List Logged) → NoneLost log → waiting s log ≡ filter (λ t. not (was_placed s log t)) (takes log)
 waiting_fresh s log fine = ap (λ ts. ts ++ filter (λ t. not (was_placed s log t)) (takes log))
     (filter_none (λ t. waits s log t && was_placed s log t) (takes log) (all_of (λ t. (waits s log t && was_placed s log t) ≡ false) (λ t. not_again s log t fine) (takes log)))
@@ -194,14 +185,6 @@ rising_taken zero ts rise = tt
 rising_taken (suc n) [] rise = tt
 rising_taken (suc n) (t ∷ ts) rise = (all_taken (λ (u : Taken). t.entry.position < u.entry.position) n ts rise.0, rising_taken n ts rise.1)
 
-passes : {X : Type 0} (test : X → Bool) (xs : List X) → AllByRecursion (λ x. test x ≡ true) (filter test xs)
-passes test [] = tt
-passes {X} test (x ∷ xs) = go (test x) refl (passes test xs)
-  where
-    go : (b : Bool) → test x ≡ b → AllByRecursion (λ x. test x ≡ true) (filter test xs) → AllByRecursion (λ x. test x ≡ true) (cond b (x ∷ filter test xs) (filter test xs))
-    go true e rest = (e, rest)
-    go false e rest = rest
-
 none_pass : {X : Type 0} (test : X → Bool) (xs : List X) → not (nat_lt 0 (length (filter test xs))) ≡ true → AllByRecursion (λ x. test x ≡ false) xs
 none_pass test [] e = tt
 none_pass {X} test (x ∷ xs) e = go (test x) refl e (λ f. none_pass test xs f)
@@ -210,10 +193,6 @@ none_pass {X} test (x ∷ xs) e = go (test x) refl e (λ f. none_pass test xs f)
         → AllByRecursion (λ x. test x ≡ false) (x ∷ xs)
     go true f h rest = absurd (cc (sym (ap not (is_below 0 (suc (length (filter test xs))) (omega arith))) ∙ h))
     go false f h rest = (f, rest h)
-
-zipped : {X : Type 0} (P Q R : X → Type 0) → ((x : X) → P x → Q x → R x) → (xs : List X) → AllByRecursion P xs → AllByRecursion Q xs → AllByRecursion R xs
-zipped P Q R says [] p q = tt
-zipped P Q R says (x ∷ xs) p q = (says x p.0 q.0, zipped P Q R says xs p.1 q.1)
 
 among_all : {X : Type 0} (xs : List X) → AllByRecursion (IsAmong xs) xs
 among_all [] = tt

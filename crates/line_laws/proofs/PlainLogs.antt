@@ -1,11 +1,12 @@
 -- A mount in which nothing fails and nothing is freed.
-use Rattle.std.proofs.Common.{◌≡◌, ℕ, ◌+◌, ◌==◌, ◌||◌, zero, suc, Bool, true, false, Some, None, List, [], ◌∷◌, refl, ap₂}
+use Rattle.std.proofs.Common.{◌≡◌, ℕ, ◌+◌, ◌==◌, zero, suc, true, false, Some, None, List, [], ◌∷◌, refl}
 use Rattle.std.specs.Prelude.{if◌then◌else◌, slice_get}
-use Rattle.std.specs.List.{AllByRecursion, fold, filter_map, cons_option, list_any, enumerate_from}
+use Rattle.std.specs.List.{AllByRecursion, fold, filter_map, cons_option, enumerate_from}
 use Rattle.pblk_world.specs.Events.{Open, Free, Landed, Lost, Event, Decides, Logged}
 use Rattle.pblk_world.specs.EngineLog.{LineLife, AsFound, Opened, turned, turned_by, Answer, DidLand, answer_by, answers, turn, is_loss, was_lost, stripes_of}
 use Rattle.pblk_world.specs.Victims.{is_freed}
 use Rattle.core_laws.specs.PlainWorlds.{is_plain_event, ArePlain}
+use Rattle.core_laws.proofs.Lists.{none_any}
 use Rattle.line_laws.specs.Plain.{NoneFreed, NoneLost, NoneFailed}
 
 turned_plain : (line n : ℕ) (life : LineLife) (knows : List ℕ) (e : Event) → is_plain_event e ≡ true → is_freed life ≡ false → is_freed (turned_by line life n knows e) ≡ false
@@ -45,10 +46,6 @@ loss_at (x ∷ xs) (suc k) all = loss_at xs k all.1
 
 pub none_lost : (log : List Logged) → ArePlain log → NoneLost log
 none_lost log plain p = loss_at (answers log p.stripe.unit) (turn log p) (landings p.stripe.unit log plain)
-
-none_any : {X : Type 0} (f : X → Bool) → ((x : X) → f x ≡ false) → (xs : List X) → list_any f xs ≡ false
-none_any f none [] = refl
-none_any f none (x ∷ xs) = ap₂ (λ a b. a || b) (none x) (none_any f none xs)
 
 pub none_failed : (log : List Logged) → ArePlain log → NoneFailed log
 none_failed log plain o = none_any (was_lost log) (none_lost log plain) (stripes_of log o)

@@ -21,12 +21,16 @@ use Rattle.pblk_world.proofs.Appending.{placements_more}
 use Rattle.pblk_world.proofs.Growing.{at_end}
 use Rattle.core_laws.specs.PlacerOf.{unanswered_on}
 use Rattle.core_laws.specs.PlainWorlds.{IsPlainWorld}
-use Rattle.core_laws.proofs.Lists.{all_at, all_filter}
+use Rattle.core_laws.proofs.Lists.{all_at, all_filter, get_more, get_whole}
 use Rattle.line_laws.specs.InOrder.{IsInPlace, IsInOrder, IsLanding}
-use Rattle.line_laws.proofs.Blank.{begun_empty}
 use Rattle.line_laws.proofs.Orders.{in_order}
 
 -- ---- the first event begins the mount
+
+begun_empty : (n : ℕ) (log : List Logged) → log ≡ [] → begun (take n log) ≡ None
+begun_empty zero log e = refl
+begun_empty (suc n) [] e = refl
+begun_empty (suc n) (l ∷ log) e = absurd cc
 
 first_begins : (i : Image) (logs : Logs) (knows : List ℕ) (e : Event) → begun (logs 0) ≡ None → IsAllowed i 0 e logs → (b : Begun) × (begun_by knows e ≡ Some b)
 first_begins i logs knows (Decides (Begin b)) none may = (record { beginning = b; knows = knows }, refl)
@@ -53,17 +57,6 @@ begun_taken (suc k) [] some = refl
 begun_taken (suc k) (m ∷ log) some = refl
 
 -- ---- stripes of a prefix
-
-get_more : {X : Type 0} (xs ys : List X) (n : ℕ) (x : X) → slice_get xs n ≡ Some x → slice_get (xs ++ ys) n ≡ Some x
-get_more [] ys n x e = absurd (none-some x e)
-get_more (y ∷ xs) ys zero x e = e
-get_more (y ∷ xs) ys (suc n) x e = get_more xs ys n x e
-
-get_whole : {X : Type 0} (m : ℕ) (xs : List X) (n : ℕ) (x : X) → slice_get (take m xs) n ≡ Some x → slice_get xs n ≡ Some x
-get_whole zero xs n x e = absurd (none-some x e)
-get_whole (suc m) [] n x e = e
-get_whole (suc m) (y ∷ xs) zero x e = e
-get_whole (suc m) (y ∷ xs) (suc n) x e = get_whole m xs n x e
 
 placements_grow : (xs ys : List Logged) → (more : List Placed) × (placements (xs ++ ys) ≡ placements xs ++ more)
 placements_grow xs [] = ([], ap placements (append-nil xs) ∙ sym (append-nil (placements xs)))

@@ -1,6 +1,6 @@
 -- Sums and lists over the numbers of a range.
-use Rattle.std.proofs.Common.{◌≡◌, ◌≢◌, ℕ, ◌+◌, ◌<◌, ◌≤◌, zero, suc, Some, List, [], ◌∷◌, get_or, refl, sym, subst, ap, ap₂, ◌∙◌, arith}
-use Rattle.std.specs.Prelude.{map, slice_get, sum_by}
+use Rattle.std.proofs.Common.{◌≡◌, ◌≢◌, ℕ, ◌+◌, ◌<◌, ◌≤◌, zero, suc, List, [], ◌∷◌, get_or, refl, sym, subst, ap, ap₂, ◌∙◌, arith}
+use Rattle.std.specs.Prelude.{map, sum_by}
 use Rattle.std.specs.List.{range_with_len}
 use Rattle.std.proofs.lemmas.List.Sums.{sum_by-cons}
 
@@ -10,13 +10,6 @@ value_at f (suc n) a zero d within = let first : a ≡ a + 0 = omega arith in ap
 value_at f (suc n) a (suc k) d within =
     let next : a + 1 + k ≡ a + suc k = omega arith in
     value_at f n (a + 1) k d (omega arith) ∙ ap f next
-
-pub row_there : {X : Type 0} (f : ℕ → X) (n a k : ℕ) → k < n → slice_get (map f (range_with_len a n)) k ≡ Some (f (a + k))
-row_there f zero a k within = absurd (omega arith)
-row_there f (suc n) a zero within = let first : a ≡ a + 0 = omega arith in ap (λ m. Some (f m)) first
-row_there f (suc n) a (suc k) within =
-    let next : a + 1 + k ≡ a + suc k = omega arith in
-    row_there f n (a + 1) k (omega arith) ∙ ap (λ m. Some (f m)) next
 
 pub sum_same : {X : Type 0} (f g : X → ℕ) → ((x : X) → f x ≡ g x) → (xs : List X) → sum_by f xs ≡ sum_by g xs
 sum_same f g same [] = refl

@@ -14,8 +14,8 @@ use Rattle.core_laws.specs.RowsOf.{row_of_line, rows_of}
 use Rattle.core_laws.proofs.Lists.{map_same, map_agree}
 use Rattle.core_laws.proofs.Placing.{weaker}
 use Rattle.core_laws.proofs.Rows.{rows_set}
+use Rattle.core_laws.proofs.PlacedLines.{get_row as row_there}
 use Rattle.line_laws.specs.Changes.{with_row}
-use Rattle.line_laws.proofs.Ranges.{row_there}
 
 pub same_table : (s t : Shape) (rows more : List Row) → s ≡ t → rows ≡ more → ◌≡◌ {A = Table} (record { shape = s; rows = rows }) (record { shape = t; rows = more })
 same_table s t rows more e f = λ i. record { shape = e i; rows = f i }

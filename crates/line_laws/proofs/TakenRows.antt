@@ -1,7 +1,7 @@
 -- What a user's entry that is taken changes in the table.
 use Rattle.std.proofs.Common.{◌≡◌, ◌≢◌, ℕ, ◌+◌, ◌-◌, ◌/◌, ◌<◌, ◌≤◌, ◌==◌, ◌&&◌, zero, suc, not, nat_eq, nat_lt, Bool, true, false, cond, Some, None, Option, List, [], ◌∷◌, ◌++◌, length, refl, sym, subst, ap, ap₂, ◌∙◌, arith, append-nil}
 use Rattle.std.specs.Prelude.{if◌then◌else◌}
-use Rattle.std.specs.List.{AllByRecursion, filter, find, last_or, range_with_len}
+use Rattle.std.specs.List.{AllByRecursion, filter, last_or, range_with_len}
 use Rattle.std.specs.Option.{option_map}
 use Rattle.std.proofs.lemmas.Bool.{eqb-true}
 use Rattle.std.proofs.lemmas.Option.{same_Some, none-some}
@@ -23,10 +23,12 @@ use Rattle.core_laws.specs.Stepping.{after}
 use Rattle.core_laws.specs.PlacerOf.{positions_of}
 use Rattle.core_laws.specs.Positions.{IsUnplaced, AreNumbered}
 use Rattle.core_laws.specs.RowsOf.{state_in, width_in, taker_by, taker_in, row_of_line, rows_of}
-use Rattle.core_laws.proofs.Lists.{filter_agree, all_filter}
-use Rattle.core_laws.proofs.Placing.{is_below, not_below, weaker}
+use Rattle.core_laws.proofs.Lists.{filter_agree, all_filter, find_none}
+use Rattle.core_laws.proofs.Placing.{not_below, weaker}
 use Rattle.core_laws.proofs.Rows.{same_number, other_number}
 use Rattle.core_laws.proofs.Taking.{filter_last, not_both}
+use Rattle.core_laws.proofs.TakenSlots.{last_is}
+use Rattle.stripe_placer.proofs.Chunks.{lt_yes as is_below}
 use Rattle.line_laws.specs.Changes.{lose_in}
 use Rattle.line_laws.specs.Plain.{NoneFreed}
 use Rattle.line_laws.proofs.Kept.{with_event, KeepsStripes, stripes_kept, lives_kept, alike_kept, have_landed_alike}
@@ -48,10 +50,6 @@ below_by a (suc n) (t ∷ ts) e =
 
 pub all_below : (log : List Logged) → AreNumbered log → AllByRecursion (λ t. t.entry.position < taken log) (takes log)
 all_below log numbered = below_by (first_position log) (length (takes log)) (takes log) numbered
-
-last_is : {X : Type 0} (o : Option X) (xs : List X) (x : X) → last_or o (xs ++ x ∷ []) ≡ Some x
-last_is o [] x = refl
-last_is o (y ∷ xs) x = last_is (Some y) xs x
 
 -- ---- the latest entry of each sector
 
@@ -93,10 +91,6 @@ before_new log entry mark knows numbered next =
     ∙ append-nil (filter (λ (u : Taken). (u.mark.lba == mark.lba) && nat_lt u.entry.position entry.position) (takes log))
     ∙ filter_agree (λ (u : Taken). u.entry.position < taken log) (λ (u : Taken). (u.mark.lba == mark.lba) && nat_lt u.entry.position entry.position) (λ (u : Taken). u.mark.lba == mark.lba)
     (λ u below. and_true (u.mark.lba == mark.lba) (nat_lt u.entry.position entry.position) (is_below u.entry.position entry.position (omega arith))) (takes log) (all_below log numbered))
-
-find_none : {X : Type 0} (test : X → Bool) (xs : List X) → AllByRecursion (λ x. test x ≡ false) xs → find test xs ≡ None
-find_none test [] all = refl
-find_none test (x ∷ xs) all = ap (λ b. cond b (Some x) (find test xs)) all.0 ∙ find_none test xs all.1
 
 no_and : (a b : Bool) → a ≡ false → (a && b) ≡ false
 no_and true b e = absurd cc

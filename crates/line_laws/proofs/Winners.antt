@@ -1,6 +1,6 @@
 -- Records that count are in lines with a start record.
 use Rattle.std.proofs.Common.{◌≡◌, ℕ, Bool, true, false, Some, None, Option, List, [], ◌∷◌, refl, sym, subst, ap, ◌∙◌, if◌then◌else◌}
-use Rattle.std.specs.List.{AllByRecursion, fold, filter, filter_map, flat_map, cons_option, range_with_len}
+use Rattle.std.specs.List.{AllByRecursion, fold, filter, flat_map, range_with_len}
 use Rattle.std.specs.Option.{option_map, option_and_then, is_some}
 use Rattle.std.proofs.lemmas.Option.{same_Some, none-some}
 use Rattle.pblk_model.specs.declared.chunk.Mark.{Mark}
@@ -12,6 +12,7 @@ use Rattle.pblk_model.specs.Records.{Record, named, mark_at, bears, record_at, r
 use Rattle.pblk_model.specs.Contents.{head, end_after, counts, counted_after, counted, newer, is_newer, is_of, winner}
 use Rattle.core_laws.proofs.Lists.{all_filter}
 use Rattle.core_laws.proofs.PlacedPositions.{all_joined}
+use Rattle.core_laws.proofs.Opening.{all_made}
 
 -- the record's line has a start record
 abbrev pub HasStart : Image → Record → Type 0
@@ -30,14 +31,6 @@ pub block_line : (i : Image) (line a : ℕ) (start : StartRecord) (o : Option Bl
     → option_and_then (λ block. option_and_then (bears i.shape line start.seq a block) (mark_at i.shape (end_of i line start) a block)) o ≡ Some r → r.line ≡ line
 block_line i line a start None r e = absurd (none-some r e)
 block_line i line a start (Some block) r e = marked_line i line start.seq a block (mark_at i.shape (end_of i line start) a block) r e
-
-pub all_made : {X Y : Type 0} (h : X → Option Y) (P : Y → Type 0) → ((x : X) (y : Y) → h x ≡ Some y → P y) → (xs : List X) → AllByRecursion P (filter_map h xs)
-all_made h P says [] = tt
-all_made {X} {Y} h P says (x ∷ xs) = go (h x) refl (all_made h P says xs)
-  where
-    go : (o : Option Y) → h x ≡ o → AllByRecursion P (filter_map h xs) → AllByRecursion P (cons_option o (filter_map h xs))
-    go None e rest = rest
-    go (Some y) e rest = (says x y e, rest)
 
 line_starts : (i : Image) (line : ℕ) (o : Option StartRecord) → start_of i line ≡ o → AllByRecursion (HasStart i) (records_after i line o)
 line_starts i line None e = tt

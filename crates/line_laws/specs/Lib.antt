@@ -6,4 +6,3 @@ pub mod PlacedEntries
 pub mod InOrder
 pub mod Known
 pub mod LandedStripes
-pub mod BlankRows

@@ -10,10 +10,7 @@ pub use addresses::{
     a_data_stripe_takes_its_addresses, a_placed_stripe_moves_the_placed_front,
     an_opened_line_brings_its_addresses,
 };
-pub use opening::{
-    a_blank_drive_has_free_rows, a_blank_drive_has_no_older_lines, a_least_free_line_may_be_opened,
-    free_rows_are_free_lines,
-};
+pub use opening::{a_least_free_line_may_be_opened, free_rows_are_free_lines};
 pub use rows::{
     a_change_leaves_one_table, a_landed_stripe_fills_its_line, a_line_lands_by_its_stripes,
     a_placed_stripe_brings_its_entries, a_plain_mount_loses_nothing,

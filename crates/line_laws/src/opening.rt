@@ -1,22 +1,16 @@
 //! Laws on the line that is opened next: each is the contract of a function that does nothing.
 
-ghost use Rattle.std.specs.Prelude.{◌≡◌, ◌<◌, ℕ, true, false, List, [], Some, None, position};
+ghost use Rattle.std.specs.Prelude.{◌≡◌, ◌<◌, ℕ, true, false, Some, None, position};
 ghost use Rattle.pblk_model.specs.Image.{Image};
-ghost use Rattle.pblk_model.specs.StartRecord.{StartRecord, start_of};
-ghost use Rattle.pblk_model.specs.Contents.{counted};
-ghost use Rattle.pblk_world.specs.Events.{Beginning, Begin};
-ghost use Rattle.pblk_world.specs.World.{World, Logs, log_of};
+ghost use Rattle.pblk_model.specs.StartRecord.{StartRecord};
+ghost use Rattle.pblk_world.specs.World.{Logs};
 ghost use Rattle.pblk_world.specs.EngineLog.{Begun};
-ghost use Rattle.pblk_world.specs.Lines.{found_image, is_free_line, has_stripe_left};
-ghost use Rattle.pblk_world.specs.Starts.{older_rows};
+ghost use Rattle.pblk_world.specs.Lines.{is_free_line, has_stripe_left};
 ghost use Rattle.pblk_world.specs.Opening.{MayOpen};
 ghost use Rattle.pblk_world.specs.Space as space;
 ghost use Rattle.line_table.specs.declared.row.LineState.TheVariants as states;
 ghost use Rattle.line_table.specs.Rows.{is_free, free_addresses};
-ghost use Rattle.core_laws.specs.PlainWorlds.{IsBlankWorld};
 ghost use Rattle.core_laws.specs.RowsOf.{row_of_line, rows_of};
-ghost use Rattle.core_laws.specs.Stepping.{after};
-ghost use Rattle.line_laws.specs.BlankRows.{blank_table};
 ghost use Rattle.line_laws.specs.LeastFree.{IsLeastFree, IsStartOf};
 
 /// A row of the table is Free exactly where its line is. So the least Free row is the least Free
@@ -43,22 +37,4 @@ pub fn a_least_free_line_may_be_opened()
         → ((m n : ℕ) → m < i.shape.chunks → n < i.shape.chunks
         → has_stripe_left i logs m ≡ true → has_stripe_left i logs n ≡ true → m ≡ n)
         → IsStartOf i logs begun line start → MayOpen i logs begun line start }
-{}
-
-/// A drive on which nothing was written is found as it was. It has no start record and no record
-/// that counts, so a start record that is written on it has no row of an older line.
-pub fn a_blank_drive_has_no_older_lines()
-    ensures found { (i : Image) (w : World) → IsBlankWorld i w → found_image i (log_of w) ≡ i }
-    ensures starts { (i : Image) (w : World) (line : ℕ) → IsBlankWorld i w
-        → start_of (found_image i (log_of w)) line ≡ None }
-    ensures counted { (i : Image) (w : World) → IsBlankWorld i w
-        → counted (found_image i (log_of w)) ≡ [] }
-    ensures rows { (i : Image) (w : World) → IsBlankWorld i w → older_rows i (log_of w) ≡ [] }
-{}
-
-/// A mount that begins on a drive on which nothing was written has all lines Free, each of all
-/// units.
-pub fn a_blank_drive_has_free_rows()
-    ensures { (i : Image) (w : World) (b : Beginning) (knows : List ℕ) → IsBlankWorld i w
-        → log_of w 0 ≡ [] → rows_of i (after (log_of w) (Begin b) knows) ≡ blank_table i.shape }
 {}

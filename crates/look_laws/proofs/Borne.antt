@@ -19,12 +19,13 @@ use Rattle.pblk_world.specs.Placing.{next_address, end_address, end_record, IsSt
 use Rattle.pblk_world.specs.Legal.{IsLegal, IsDecision}
 use Rattle.pblk_world.proofs.Appending.{takes_more, placements_more}
 use Rattle.stripe_placer.proofs.Among.{IsAmong, later}
-use Rattle.core_laws.proofs.Lists.{all_filter}
+use Rattle.core_laws.proofs.Lists.{all_filter, all_dropped, all_taken, all_replicated}
 use Rattle.core_laws.proofs.Placing.{weaker}
 use Rattle.core_laws.proofs.PlacedPositions.{all_joined}
 use Rattle.landing_laws.proofs.Keeping.{IsKept, kept}
-use Rattle.landing_laws.proofs.HeldOnce.{all_taken, all_dropped, all_replicated}
 use Rattle.landing_laws.proofs.BorneOnce.{BearsNone, records_none, pads_none}
+use Rattle.landing_laws.proofs.Entries.{all_true}
+use Rattle.line_laws.proofs.FirstAnswers.{among_all}
 
 -- it is that of one of these entries
 pub record IsOfOne (ts : List Taken) (b : Block) : Type 0 where
@@ -46,10 +47,6 @@ no_entrys s ts b none q e = go (bears_position s q b) (none q) e
     go false f g = absurd (cc)
 
 -- ---- entries that wait
-
-among_all : {X : Type 0} (xs : List X) → AllByRecursion (IsAmong xs) xs
-among_all [] = tt
-among_all (x ∷ xs) = ((0, refl), weaker (IsAmong xs) (IsAmong (x ∷ xs)) (λ y at. later x xs y at) xs (among_all xs))
 
 waiting_among : (s : Shape) (log : List Logged) → AllByRecursion (IsAmong (takes log)) (waiting s log)
 waiting_among s log =
@@ -121,10 +118,6 @@ entries_kept i small = record {
   first = λ known b knows may. tt;
   next = λ known log beginning e knows begins own passes may was. entries_next i known log beginning e knows small own may was;
 }
-
-all_true : {X : Type 0} (xs : List X) → AllByRecursion (λ (x : X). true ≡ true) xs
-all_true [] = tt
-all_true (x ∷ xs) = (refl, all_true xs)
 
 pub placed_entries : (i : Image) (w : World) → i.shape.capacity ≤ meta_lba → IsLegal i w → AreEntries i.shape (log_of w 0)
 placed_entries i w small legal = kept i (λ e. true) (AreEntries i.shape) (entries_kept i small) w legal (all_true (log_of w 0))

@@ -23,6 +23,7 @@ use Rattle.core_laws.specs.Positions.{AreNumbered}
 use Rattle.core_laws.specs.SlotOf.{address_in}
 use Rattle.core_laws.proofs.Lists.{all_at}
 use Rattle.core_laws.proofs.Rows.{same_number}
+use Rattle.core_laws.proofs.Tests.{both as both_true}
 use Rattle.landing_laws.proofs.Cached.{last_is_among, numbered_at}
 use Rattle.landing_laws.proofs.Entries.{in_order, accepted_small}
 use Rattle.line_laws.specs.InOrder.{IsInPlace}
@@ -37,7 +38,7 @@ use Rattle.look_laws.specs.SlotBlocks.{IsOfEntry, IsOfLatest, IsBlockOfSlot}
 use Rattle.look_laws.proofs.Borne.{IsOfOne, IsEntrys, placed_entries}
 use Rattle.look_laws.proofs.LineAddresses.{number_is, address_within, place_is}
 use Rattle.look_laws.proofs.LiveUnits.{live_units}
-use Rattle.look_laws.proofs.ReadBlocks.{both_true, IsReadIn, IsEntryOnDrive}
+use Rattle.look_laws.proofs.ReadBlocks.{IsReadIn, IsEntryOnDrive}
 
 -- ---- entries by their positions
 

@@ -15,10 +15,12 @@ use Rattle.pblk_world.specs.Victims.{is_freed}
 use Rattle.pblk_world.specs.Legal.{IsLegal, IsKnowledge, IsLegalStep}
 use Rattle.pblk_world.proofs.Appending.{life_more}
 use Rattle.core_laws.specs.PlainWorlds.{IsPlainWorld}
+use Rattle.core_laws.proofs.Tests.{first_of as and_left}
+use Rattle.core_laws.proofs.Numbering.{begun_stays}
 use Rattle.line_laws.proofs.Knowledge.{are_known}
 use Rattle.media_laws.proofs.Beginnings.{media_same, found_stays}
-use Rattle.media_laws.proofs.Decisions.{IsFirst, IsLater, decided, begun_stays, first_begins, never_freed}
-use Rattle.media_laws.proofs.LineLives.{and_left, opened_by_event, opening_is}
+use Rattle.media_laws.proofs.Decisions.{IsFirst, IsLater, decided, first_begins, never_freed}
+use Rattle.media_laws.proofs.LineLives.{opened_by_event, opening_is}
 use Rattle.media_laws.proofs.Steps.{log_here, log_elsewhere, plain_tail, IsSomeones, whose}
 use Rattle.placing_laws.proofs.PlainEvents.{has_begun_plain}
 

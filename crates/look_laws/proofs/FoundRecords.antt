@@ -19,15 +19,14 @@ use Rattle.pblk_model.specs.Sealed.{AgreesWithLine, IsSealed}
 use Rattle.pblk_model.proofs.OrderedBlocks.{order_exactly}
 use Rattle.pblk_laws.specs.LineBlocks.{chunk_in}
 use Rattle.pblk_laws.proofs.LineUnits.{line_units_count, block_named}
-use Rattle.core_laws.proofs.Lists.{all_filter}
+use Rattle.core_laws.proofs.Lists.{all_filter, got_within as some_at}
 use Rattle.core_laws.proofs.PlacedPositions.{all_joined}
 use Rattle.line_laws.proofs.Winners.{winner_is}
+use Rattle.media_laws.proofs.LineChunks.{split_then as then_of}
+use Rattle.stripe_placer.proofs.Chunks.{le_of as at_least}
+use Rattle.pblk_layout.proofs.Orders.{some_wide as wide_of}
 
 -- ---- options
-
-pub then_of : {X Y : Type 0} (f : X → Option Y) (o : Option X) (y : Y) → option_and_then f o ≡ Some y → (x : X) × (o ≡ Some x) × (f x ≡ Some y)
-then_of f None y e = absurd (none-some y e)
-then_of f (Some x) y e = (x, refl, e)
 
 map_of : {X Y : Type 0} (f : X → Y) (o : Option X) (y : Y) → option_map f o ≡ Some y → (x : X) × (o ≡ Some x) × (f x ≡ y)
 map_of f None y e = absurd (none-some y e)
@@ -116,15 +115,6 @@ pub record IsPlaced (i : Image) (line at : ℕ) (block : Block) : Type 0 where
   pub there : chunk_in i line unit ≡ Some chunk
   pub written : slice_get chunk.blocks number ≡ Some block
 
-some_at : {X : Type 0} (xs : List X) (k : ℕ) → k < length xs → (x : X) × (slice_get xs k ≡ Some x)
-some_at [] k h = absurd (omega arith)
-some_at (x ∷ xs) zero h = (x, refl)
-some_at (x ∷ xs) (suc k) h = some_at xs k (omega arith)
-
-wide_of : (g c a : ℕ) → a < g * c → 0 < g
-wide_of zero c a h = absurd (omega arith)
-wide_of (suc g) c a h = omega arith
-
 pub block_placed : (i : Image) (line at : ℕ) (block : Block) → 0 < i.shape.ws_opt → i.shape.clba % i.shape.ws_opt ≡ 0 → at < width i line * i.shape.clba → block_at i line at ≡ Some block → IsPlaced i line at block
 block_placed i line at block some whole within is =
     let us : List ℕ = line_units i line in
@@ -148,9 +138,6 @@ named_sector s m lba e = go (nat_lt m.lba s.capacity) e
     go : (b : Bool) → (if b then Some (Some m.lba) else (if m.lba == void_lba then Some None else None)) ≡ Some (Some lba) → m.lba ≡ lba
     go true f = same_Some m.lba lba (same_Some (Some m.lba) (Some lba) f)
     go false f = absurd (inner (m.lba == void_lba) f)
-
-at_least : (a b : ℕ) → nat_lt a b ≡ false → b ≤ a
-at_least a b e = grind arith
 
 -- in a sealed image it is the block's own
 own_mark : (i : Image) (r : Record) (is : IsFoundRecord i r) → IsSealed i → (o : Option EndRecord) → end_of i r.line is.start ≡ o → mark_at i.shape o r.at is.block ≡ Some is.mark → is.block.mark ≡ is.mark

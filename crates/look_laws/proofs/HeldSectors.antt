@@ -1,5 +1,5 @@
 -- The sector of an entry in a window.
-use Rattle.std.proofs.Common.{◌≡◌, ℕ, ◌+◌, ◌-◌, ◌<◌, ◌≤◌, zero, suc, Some, None, Option, List, [], ◌∷◌, refl, sym, ap, ◌∙◌, arith, if◌then◌else◌}
+use Rattle.std.proofs.Common.{◌≡◌, ℕ, ◌+◌, ◌-◌, ◌<◌, ◌≤◌, Some, None, Option, List, refl, sym, ap, ◌∙◌, arith, if◌then◌else◌}
 use Rattle.std.specs.Prelude.{map, drop, slice_get}
 use Rattle.std.specs.Option.{option_map}
 use Rattle.pblk_model.specs.declared.shape.Shape.{Shape}
@@ -16,17 +16,9 @@ use Rattle.core_laws.specs.Positions.{AreNumbered}
 use Rattle.core_laws.specs.SlotOf.{slot_of}
 use Rattle.core_laws.specs.WindowOf.{HeldSector, HeldSectors, without_frame, sectors_in, held_of, window_from}
 use Rattle.core_laws.proofs.Placing.{not_below}
+use Rattle.core_laws.proofs.Lists.{get_dropped as dropped_get}
 use Rattle.landing_laws.proofs.Cached.{IsCachedEntry, cached, cached_within, cached_stands}
-
-mapped_get : {X Y : Type 0} (f : X → Y) (xs : List X) (k : ℕ) → slice_get (map f xs) k ≡ option_map f (slice_get xs k)
-mapped_get f [] k = refl
-mapped_get f (x ∷ xs) zero = refl
-mapped_get f (x ∷ xs) (suc k) = mapped_get f xs k
-
-dropped_get : {X : Type 0} (n : ℕ) (xs : List X) (k : ℕ) → slice_get (drop n xs) k ≡ slice_get xs (n + k)
-dropped_get zero xs k = let same : k ≡ 0 + k = omega arith in ap (slice_get xs) same
-dropped_get (suc n) [] k = refl
-dropped_get (suc n) (x ∷ xs) k = let same : suc (n + k) ≡ suc n + k = omega arith in dropped_get n xs k ∙ ap (slice_get (x ∷ xs)) same
+use Rattle.stripe_placer.proofs.Rows.{get_map as mapped_get}
 
 bytes_without : (o : Option Held) → option_map (λ (h : Held). h.entry.frame.bytes) o ≡ option_map (λ (h : HeldSector). h.sector) (option_map without_frame o)
 bytes_without None = refl

@@ -9,4 +9,3 @@ pub mod EntryBlocks
 pub mod WinnerBlocks
 pub mod SlotBlocks
 pub mod LatestSectors
-pub mod BlankLooks

@@ -13,9 +13,9 @@ use Rattle.pblk_layout.specs.Live.{units_in}
 use Rattle.pblk_world.specs.World.{Logs}
 use Rattle.pblk_world.specs.EngineLog.{Opening, Placed}
 use Rattle.stripe_placer.specs.OpenLines.{OpenLine, width, unit_of}
+use Rattle.stripe_placer.proofs.Rows.{length_replicate as length_replicated}
 use Rattle.core_laws.specs.OpenedLines.{as_opened, is_stripe_at}
 use Rattle.core_laws.specs.PlacerOf.{number_of}
-use Rattle.core_laws.proofs.Opening.{length_replicated}
 use Rattle.core_laws.proofs.Stripes.{at_its_place, not_at, find_only}
 use Rattle.placed_laws.specs.StripeTurns.{IsAtTurn}
 

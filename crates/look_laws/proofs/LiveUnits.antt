@@ -1,9 +1,8 @@
 -- The units of a line, by their bits.
-use Rattle.std.proofs.Common.{◌≡◌, ℕ, ◌+◌, ◌^◌, ◌<◌, ◌≤◌, suc, Bool, true, false, cond, List, [], ◌∷◌, map, length, ap, ◌∙◌, arith, zero-add}
+use Rattle.std.proofs.Common.{◌≡◌, ℕ, ◌+◌, ◌^◌, ◌<◌, ◌≤◌, suc, Bool, true, false, cond, List, [], ◌∷◌, map, length, ap, ◌∙◌, arith}
 use Rattle.std.specs.List.{filter, enumerate_from}
 use Rattle.std.specs.Option.{option_map_or}
 use Rattle.std.specs.Prelude.{slice_get, false}
-use Rattle.std.proofs.lemmas.List.Sums.{sum_by-append}
 use Rattle.pblk_model.specs.Shape.{units}
 use Rattle.pblk_model.specs.Chunk.{Chunk}
 use Rattle.pblk_model.specs.Image.{Image, line_units, is_online_in}
@@ -15,15 +14,13 @@ use Rattle.core_laws.specs.PlainWorlds.{IsPlainWorld}
 use Rattle.placing_laws.proofs.KeptLines.{few_units}
 use Rattle.placing_laws.proofs.Online.{known_length}
 use Rattle.placing_laws.proofs.Units.{bits_back}
+use Rattle.placed_laws.proofs.UnitBits.{bits_more as bits_first}
 
 -- the units come back from them
 pub live_units : (i : Image) (w : World) (line : ℕ) → IsPlainWorld i w → units_in (live_now i (log_of w) line) ≡ line_units (known_image i (log_of w)) line
 live_units i w line plain = bits_back (known_image i (log_of w)) line (few_units i w (log_of w) plain)
 
 -- ---- they are few
-
-bits_first : (a : ℕ) (xs : List ℕ) → bits_of (a ∷ xs) ≡ 2 ^ a + bits_of xs
-bits_first a xs = sum_by-append (λ unit. 2 ^ unit) (a ∷ []) xs ∙ ap (λ n. n + bits_of xs) (zero-add (2 ^ a))
 
 bits_few : (test : ℕ × List Chunk → Bool) (a : ℕ) (us : List (List Chunk)) → bits_of (map (λ unit. unit.0) (filter test (enumerate_from a us))) + 2 ^ a ≤ 2 ^ (a + length us)
 bits_few test a [] = let same : 2 ^ (a + 0) ≡ 2 ^ a = (let is : a + 0 ≡ a = omega arith in ap (λ n. 2 ^ n) is) in omega arith

@@ -14,6 +14,7 @@ use Rattle.l2p_map.specs.declared.slot.Slot.TheVariants.{Cached, Media}
 use Rattle.stripe_placer.proofs.Among.{IsAmong}
 use Rattle.core_laws.specs.SlotOf.{address_in, readable_block, media_of, slot_of_entry, slot_of_winner}
 use Rattle.core_laws.proofs.Turns.{found_is}
+use Rattle.core_laws.proofs.Tests.{both as both_true}
 
 -- ---- lists
 
@@ -35,10 +36,6 @@ any_found {X} f (x ∷ xs) e = go (f x) e (any_found f xs)
     go : (b : Bool) → (b || list_any f xs) ≡ true → (list_any f xs ≡ true → (y : X) × (find f xs ≡ Some y)) → (y : X) × (cond b (Some x) (find f xs) ≡ Some y)
     go true e rest = (x, refl)
     go false e rest = rest e
-
-pub both_true : (a b : Bool) → (a && b) ≡ true → (a ≡ true) × (b ≡ true)
-both_true true b e = (refl, e)
-both_true false b e = absurd cc
 
 -- ---- the block that is read
 

@@ -1,5 +1,5 @@
 -- With what a mount began: what its units had done by then knew nothing of it, and no chunk was Open.
-use Rattle.std.proofs.Common.{◌≡◌, ◌≢◌, ℕ, ◌≤◌, ◌⊎◌, ◌==◌, zero, suc, Bool, true, false, if◌then◌else◌, Some, None, Option, List, [], ◌∷◌, ◌++◌, length, take, refl, sym, subst, ap, ◌∙◌, arith, inl, inr}
+use Rattle.std.proofs.Common.{◌≡◌, ◌≢◌, ℕ, ◌≤◌, ◌⊎◌, ◌==◌, suc, Bool, true, false, if◌then◌else◌, Some, None, Option, List, [], ◌∷◌, ◌++◌, length, take, refl, sym, subst, ap, ◌∙◌, arith, inl, inr}
 use Rattle.std.specs.Prelude.{slice_get, slice_index, map}
 use Rattle.std.specs.List.{AllByRecursion, filter_map, enumerate_from}
 use Rattle.std.specs.Option.{option_and_then}
@@ -15,11 +15,12 @@ use Rattle.pblk_world.specs.Lines.{found_by, found_image}
 use Rattle.pblk_world.specs.Opening.{MayBegin}
 use Rattle.pblk_world.proofs.Growing.{at_end}
 use Rattle.core_laws.specs.PlainWorlds.{IsPlainWorld}
-use Rattle.core_laws.proofs.Lists.{fun_same}
+use Rattle.core_laws.proofs.Lists.{fun_same, get_whole as get_first}
+use Rattle.core_laws.proofs.Numbering.{begun_stays}
 use Rattle.pblk_laws.specs.LineBlocks.{chunk_in}
 use Rattle.pblk_laws.proofs.Lists.{all_at}
 use Rattle.media_laws.proofs.Steps.{log_here, log_elsewhere, plain_tail, IsSomeones, whose, named_within}
-use Rattle.media_laws.proofs.Decisions.{IsFirst, IsLater, decided, begun_stays, first_begins}
+use Rattle.media_laws.proofs.Decisions.{IsFirst, IsLater, decided, first_begins}
 use Rattle.media_laws.proofs.Made.{still_first, still_within}
 use Rattle.media_laws.proofs.UnitChunks.{chunk_after, media_chunk_after}
 
@@ -41,12 +42,6 @@ split_chunk img line unit c e = go (slice_get img.units unit) refl e
     go : (o : Option (List Chunk)) → slice_get img.units unit ≡ o → option_and_then (λ (chunks : List Chunk). slice_get chunks line) o ≡ Some c → (chunks : List Chunk) × (slice_get img.units unit ≡ Some chunks) × (slice_get chunks line ≡ Some c)
     go None f e = absurd (none-some c e)
     go (Some chunks) f e = (chunks, f, e)
-
-get_first : {X : Type 0} (m : ℕ) (xs : List X) (n : ℕ) (x : X) → slice_get (take m xs) n ≡ Some x → slice_get xs n ≡ Some x
-get_first zero xs n x e = absurd (none-some x e)
-get_first (suc m) [] n x e = absurd (none-some x e)
-get_first (suc m) (y ∷ xs) zero x e = e
-get_first (suc m) (y ∷ xs) (suc n) x e = get_first m xs n x e
 
 -- each event of a unit knew no more than there was of the engine's log
 

@@ -1,18 +1,17 @@
 -- What the engine decided: it began the mount first, freed nothing, and what it opened stays opened.
 use Rattle.std.proofs.Common.{◌≡◌, ℕ, ◌+◌, ◌≤◌, ◌⊎◌, ◌==◌, zero, suc, true, false, Some, None, Option, List, [], ◌∷◌, ◌++◌, length, take, drop, refl, sym, ap, ◌∙◌, arith, if◌then◌else◌, inl, inr, append-nil, append_assoc}
-use Rattle.std.specs.List.{AllByRecursion, fold, enumerate_from}
-use Rattle.std.proofs.lemmas.List.{take-append-drop}
-use Rattle.std.proofs.lemmas.Option.{none-some}
+use Rattle.std.specs.List.{fold, enumerate_from}
+use Rattle.std.proofs.lemmas.List.{take-append-drop, take-take as take_first}
 use Rattle.pblk_model.specs.Image.{Image}
 use Rattle.pblk_world.specs.Events.{EngineEvent, Begin, Open, Free, Event, Decides, Beginning, Logged}
 use Rattle.pblk_world.specs.World.{Logs}
 use Rattle.pblk_world.specs.EngineLog.{Begun, begun, LineLife, AsFound, Opened, life_of, is_opened, turned, turned_by}
-use Rattle.pblk_world.specs.Lines.{strays_of}
 use Rattle.pblk_world.specs.Victims.{is_freed}
 use Rattle.pblk_world.specs.Opening.{MayBegin}
 use Rattle.pblk_world.specs.Legal.{IsDecision, MayDecide}
 use Rattle.pblk_world.proofs.Appending.{life_more}
 use Rattle.core_laws.specs.PlainWorlds.{is_plain_event, ArePlain}
+use Rattle.core_laws.proofs.Lists.{all_dropped as all_drop}
 use Rattle.pblk_laws.proofs.Lists.{all_take}
 
 -- ---- decisions
@@ -28,15 +27,6 @@ decided i logs (Begin b) h = inl (b, refl, h)
 decided i logs e h = inr h
 
 -- ---- the beginning
-
-pub begun_stays : (log : List Logged) (l : Logged) (b : Begun) → begun log ≡ Some b → begun (log ++ l ∷ []) ≡ begun log
-begun_stays [] l b e = absurd (none-some b e)
-begun_stays (m ∷ log) l b e = refl
-
-pub no_strays_before : (n : ℕ) (log : List Logged) → strays_of log ≡ [] → strays_of (take n log) ≡ []
-no_strays_before zero log e = refl
-no_strays_before (suc n) [] e = e
-no_strays_before (suc n) (l ∷ log) e = e
 
 pub begun_before : (n : ℕ) (log : List Logged) → begun (take n log) ≡ None → (begun log ≡ None → log ≡ []) → n ≤ length log → n ≤ 0
 begun_before zero log e says within = omega arith
@@ -76,17 +66,6 @@ opened_many log [] line plain is = ap (λ (xs : List Logged). is_opened (life_of
 opened_many log (l ∷ more) line plain is =
     ap (λ (xs : List Logged). is_opened (life_of xs line)) (sym (append_assoc log (l ∷ []) more))
     ∙ opened_many (log ++ l ∷ []) more line plain.1 (ap is_opened (life_more log l line) ∙ opened_by_one line (length log) (life_of log line) l.knows l.event plain.0 is)
-
-all_drop : {X : Type 0} (P : X → Type 0) (n : ℕ) (xs : List X) → AllByRecursion P xs → AllByRecursion P (drop n xs)
-all_drop P zero xs all = all
-all_drop P (suc n) [] all = tt
-all_drop P (suc n) (x ∷ xs) all = all_drop P n xs all.1
-
-take_first : {X : Type 0} (m n : ℕ) (xs : List X) → m ≤ n → take m (take n xs) ≡ take m xs
-take_first zero n xs h = refl
-take_first (suc m) zero xs h = absurd (omega arith)
-take_first (suc m) (suc n) [] h = refl
-take_first (suc m) (suc n) (x ∷ xs) h = ap (λ ys. x ∷ ys) (take_first m n xs (omega arith))
 
 pub opened_whole : (n : ℕ) (log : List Logged) (line : ℕ) → ArePlain log → is_opened (life_of (take n log) line) ≡ true → is_opened (life_of log line) ≡ true
 opened_whole n log line plain is =

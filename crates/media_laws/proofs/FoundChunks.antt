@@ -16,12 +16,13 @@ use Rattle.pblk_world.specs.World.{World, log_of, unit_events, unit_event_of}
 use Rattle.pblk_world.specs.EngineLog.{Begun, begun}
 use Rattle.pblk_world.specs.Lines.{found_image, is_empty_state}
 use Rattle.core_laws.specs.PlainWorlds.{IsPlainWorld}
+use Rattle.core_laws.proofs.Lists.{got_within as within_some}
 use Rattle.pblk_laws.specs.LineBlocks.{chunk_in}
 use Rattle.pblk_laws.proofs.Lists.{all_at}
 use Rattle.pblk_laws.proofs.UnitChunks.{log_keeps}
 use Rattle.pblk_laws.proofs.UnitLog.{log_grows}
 use Rattle.media_laws.proofs.Images.{media_at}
-use Rattle.media_laws.proofs.Growing.{take_next, within_some}
+use Rattle.media_laws.proofs.Growing.{take_next}
 use Rattle.media_laws.proofs.Made.{IsMade, made}
 use Rattle.media_laws.proofs.UnitChunks.{events_in, last_in, chunk_after}
 use Rattle.media_laws.proofs.Beginnings.{BeginsAt, begins, found_chunk_after}
@@ -69,9 +70,6 @@ found_is_chunk i w unit line b c plain begun_is there =
 -- the chunk once it holds nothing: as it is, or after its reset
 abbrev pub emptied : Shape → Chunk → Chunk
 emptied s c = if is_empty_state c.state then c else after_reset s c
-
-pub IsEmptied : Chunk → Type 0
-IsEmptied c = (c ≡ free_chunk) ⊎ (c ≡ offline_chunk)
 
 no_blocks : (bs : List Block) → length bs ≡ 0 → bs ≡ []
 no_blocks [] e = refl

@@ -1,6 +1,6 @@
 -- Lists that grow, and the stripes of a unit in a log that grows.
-use Rattle.std.proofs.Common.{◌≡◌, ℕ, ◌<◌, ◌≤◌, ◌==◌, zero, suc, Some, None, Option, List, [], ◌∷◌, ◌++◌, length, take, drop, refl, sym, ap, ◌∙◌, arith, append-nil, append_assoc}
-use Rattle.std.specs.Prelude.{slice_get, map, Bool}
+use Rattle.std.proofs.Common.{◌≡◌, ℕ, ◌<◌, ◌==◌, zero, suc, Some, None, Option, List, [], ◌∷◌, ◌++◌, length, take, drop, refl, sym, ap, ◌∙◌, arith, append-nil, append_assoc}
+use Rattle.std.specs.Prelude.{slice_get, Bool}
 use Rattle.std.specs.List.{filter, filter_map, cons_option}
 use Rattle.std.specs.Option.{option_to_list}
 use Rattle.std.proofs.lemmas.List.{take-append-drop}
@@ -9,36 +9,13 @@ use Rattle.std.proofs.lemmas.Option.{same_Some, none-some}
 use Rattle.pblk_world.specs.Events.{Logged}
 use Rattle.pblk_world.specs.EngineLog.{Placed, placed_by, placements, placed_on}
 use Rattle.pblk_world.proofs.Appending.{placements_more}
+use Rattle.core_laws.proofs.Lists.{get_more}
 
 -- ---- lists
-
-pub get_more : {X : Type 0} (xs ys : List X) (n : ℕ) (x : X) → slice_get xs n ≡ Some x → slice_get (xs ++ ys) n ≡ Some x
-get_more [] ys n x e = absurd (none-some x e)
-get_more (y ∷ xs) ys zero x e = e
-get_more (y ∷ xs) ys (suc n) x e = get_more xs ys n x e
 
 pub get_after : {X : Type 0} (xs ys : List X) → slice_get (xs ++ ys) (length xs) ≡ slice_get ys 0
 get_after [] ys = refl
 get_after (x ∷ xs) ys = get_after xs ys
-
-first_is : {X : Type 0} (ys : List X) (x : X) → slice_get ys 0 ≡ Some x → (rest : List X) × (ys ≡ x ∷ rest)
-first_is [] x e = absurd (none-some x e)
-first_is (y ∷ ys) x e = (ys, ap (λ z. z ∷ ys) (same_Some y x e))
-
--- a list with a prefix, by its next element
-pub next_of : {X : Type 0} (all xs more : List X) (x : X) → all ≡ xs ++ more → slice_get all (length xs) ≡ Some x → (rest : List X) × (all ≡ (xs ++ x ∷ []) ++ rest)
-next_of all xs more x is there =
-    let first = first_is more x (sym (get_after xs more) ∙ ap (λ ys. slice_get ys (length xs)) (sym is) ∙ there) in
-    (first.0, is ∙ ap (λ ys. xs ++ ys) first.1 ∙ sym (append_assoc xs (x ∷ []) first.0))
-
-pub get_mapped : {X Y : Type 0} (f : X → Y) (xs : List X) (k : ℕ) (x : X) → slice_get xs k ≡ Some x → slice_get (map f xs) k ≡ Some (f x)
-get_mapped f [] k x e = absurd (none-some x e)
-get_mapped f (y ∷ xs) zero x e = ap (λ z. Some z) (ap f (same_Some y x e))
-get_mapped f (y ∷ xs) (suc k) x e = get_mapped f xs k x e
-
-pub map_append : {X Y : Type 0} (f : X → Y) (xs ys : List X) → map f (xs ++ ys) ≡ map f xs ++ map f ys
-map_append f [] ys = refl
-map_append f (x ∷ xs) ys = ap (λ zs. f x ∷ zs) (map_append f xs ys)
 
 pub one_more : {Y : Type 0} (o : Option Y) → cons_option o [] ≡ option_to_list o
 one_more None = refl
@@ -52,12 +29,6 @@ get_whole zero xs n x e = absurd (none-some x e)
 get_whole (suc m) [] n x e = absurd (none-some x e)
 get_whole (suc m) (y ∷ xs) zero x e = (e, omega arith)
 get_whole (suc m) (y ∷ xs) (suc n) x e = let rest = get_whole m xs n x e in (rest.0, (let below : n < m = rest.1 in omega arith))
-
-pub take_again : {X : Type 0} (n m : ℕ) (xs : List X) → n ≤ m → take n (take m xs) ≡ take n xs
-take_again zero m xs h = refl
-take_again (suc n) zero xs h = absurd (omega arith)
-take_again (suc n) (suc m) [] h = refl
-take_again (suc n) (suc m) (x ∷ xs) h = ap (λ ys. x ∷ ys) (take_again n m xs (omega arith))
 
 pub take_next : {X : Type 0} (xs : List X) (n : ℕ) (x : X) → slice_get xs n ≡ Some x → take (suc n) xs ≡ take n xs ++ x ∷ []
 take_next [] n x e = absurd (none-some x e)
@@ -84,14 +55,3 @@ placed_kept n log unit k p there =
 
 pub placed_on_more : (log : List Logged) (l : Logged) (unit : ℕ) → placed_on (log ++ l ∷ []) unit ≡ placed_on log unit ++ filter (λ (p : Placed). p.stripe.unit == unit) (option_to_list (placed_by log (length log) l.event))
 placed_on_more log l unit = ap (filter (λ (p : Placed). p.stripe.unit == unit)) (placements_more log l) ∙ filter-append (λ (p : Placed). p.stripe.unit == unit) (placements log) (option_to_list (placed_by log (length log) l.event))
-
-pub within_some : {X : Type 0} (xs : List X) (k : ℕ) → k < length xs → (x : X) × (slice_get xs k ≡ Some x)
-within_some [] k h = absurd (omega arith)
-within_some (x ∷ xs) zero h = (x, refl)
-within_some (x ∷ xs) (suc k) h = within_some xs k (omega arith)
-
-pub get_taken : {X : Type 0} (n : ℕ) (xs : List X) (k : ℕ) → k < n → slice_get (take n xs) k ≡ slice_get xs k
-get_taken zero xs k h = absurd (omega arith)
-get_taken (suc n) [] k h = refl
-get_taken (suc n) (x ∷ xs) zero h = refl
-get_taken (suc n) (x ∷ xs) (suc k) h = get_taken n xs k (omega arith)

@@ -26,10 +26,12 @@ use Rattle.pblk_world.specs.Commanding.{is_program, is_reset, was_stopped, ends_
 use Rattle.pblk_world.proofs.Growing.{knowledge_rises}
 use Rattle.core_laws.specs.PlainWorlds.{is_plain_event, IsPlainWorld}
 use Rattle.core_laws.proofs.Rows.{same_number, other_number}
-use Rattle.core_laws.proofs.Placing.{is_below, not_below}
+use Rattle.core_laws.proofs.Placing.{not_below}
+use Rattle.core_laws.proofs.Lists.{with_last}
+use Rattle.core_laws.proofs.Removing.{and_no}
 use Rattle.pblk_laws.proofs.ChunkStep.{write_placed}
 use Rattle.pblk_laws.proofs.Lists.{all_take}
-use Rattle.media_laws.proofs.Steps.{with_last}
+use Rattle.stripe_placer.proofs.Chunks.{lt_yes as is_below}
 use Rattle.media_laws.proofs.Decisions.{never_freed, opened_later}
 use Rattle.media_laws.proofs.Growing.{take_next}
 use Rattle.media_laws.proofs.UnitChunks.{chunk_after, chunk_unmade, chunk_beside, chunk_here}
@@ -63,10 +65,6 @@ is_a_stray log line = list_any (λ stray. stray == line) (strays_of log)
 or_no : (b : Bool) → (b || false) ≡ b
 or_no true = refl
 or_no false = refl
-
-pub and_no : (b : Bool) → (b && false) ≡ false
-and_no true = refl
-and_no false = refl
 
 pub cleared_more : (line : ℕ) (log : List Logged) (l : Logged) → was_cleared line (log ++ l ∷ []) ≡ (was_cleared line log || clears_it line l)
 cleared_more line log l = list_any-append (clears_it line) log (l ∷ []) ∙ ap (λ b. was_cleared line log || b) (or_no (clears_it line l))

@@ -20,8 +20,9 @@ use Rattle.pblk_world.specs.Commanding.{is_reset}
 use Rattle.pblk_world.proofs.Answered.{answers_fit}
 use Rattle.pblk_world.proofs.Appending.{answers_more, named_more}
 use Rattle.core_laws.specs.PlainWorlds.{IsPlainWorld}
-use Rattle.media_laws.proofs.Steps.{with_last}
-use Rattle.media_laws.proofs.Growing.{get_more, placed_on_more}
+use Rattle.core_laws.proofs.Lists.{get_more, with_last}
+use Rattle.core_laws.proofs.Removing.{and_no}
+use Rattle.media_laws.proofs.Growing.{placed_on_more}
 use Rattle.media_laws.proofs.UnitChunks.{event_beside, event_here}
 use Rattle.media_laws.proofs.History.{cleared_by, filled, firsts, firsts_next}
 use Rattle.media_laws.proofs.ToldEvents.{told, IsThere, told_in_longer, told_more}
@@ -63,10 +64,6 @@ or_no false = refl
 or_yes : (b : Bool) → (b || true) ≡ true
 or_yes true = refl
 or_yes false = refl
-
-and_no : (b : Bool) → (b && false) ≡ false
-and_no true = refl
-and_no false = refl
 
 -- ---- an event of the unit
 

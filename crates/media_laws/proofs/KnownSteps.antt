@@ -5,6 +5,7 @@ use Rattle.std.specs.List.{Contains, list_any}
 use Rattle.std.specs.Option.{option_map, option_and_then}
 use Rattle.std.proofs.lemmas.Bool.{eqb-true, cases_order}
 use Rattle.std.proofs.lemmas.Option.{same_Some, none-some}
+use Rattle.std.proofs.lemmas.List.{take-take as take_again}
 use Rattle.pblk_model.specs.Chunk.{Chunk}
 use Rattle.pblk_model.specs.ChunkStep.{Reset}
 use Rattle.pblk_model.specs.UnitLog.{UnitEvent, after_log}
@@ -20,15 +21,18 @@ use Rattle.pblk_world.specs.Answering.{MayLand, MayNoteReset}
 use Rattle.pblk_world.specs.Legal.{IsDecision}
 use Rattle.pblk_world.proofs.Appending.{life_more}
 use Rattle.core_laws.specs.PlainWorlds.{is_plain_decision, IsPlainWorld}
-use Rattle.core_laws.proofs.Lists.{filter_none, all_filter}
+use Rattle.core_laws.proofs.Lists.{filter_none, all_filter, get_taken, is_in}
 use Rattle.core_laws.proofs.Rows.{same_number, other_number}
+use Rattle.core_laws.proofs.Tests.{first_of as and_left, second_of as and_right}
+use Rattle.core_laws.proofs.Placing.{weaker}
+use Rattle.core_laws.proofs.Numbering.{begun_stays}
 use Rattle.pblk_laws.specs.LineBlocks.{chunk_in}
 use Rattle.pblk_laws.proofs.Lists.{all_take}
 use Rattle.media_laws.proofs.Steps.{log_here, log_elsewhere, plain_tail, IsEngines, IsSomeones, whose}
-use Rattle.media_laws.proofs.Images.{is_in, known_at}
-use Rattle.media_laws.proofs.Decisions.{IsFirst, IsLater, decided, begun_stays}
-use Rattle.media_laws.proofs.LineLives.{IsInLine, living, weaker, and_left, and_right, free_unopened, same_logged}
-use Rattle.media_laws.proofs.Growing.{get_whole, take_again, get_taken}
+use Rattle.media_laws.proofs.Images.{known_at}
+use Rattle.media_laws.proofs.Decisions.{IsFirst, IsLater, decided}
+use Rattle.media_laws.proofs.LineLives.{IsInLine, living, free_unopened, same_logged}
+use Rattle.media_laws.proofs.Growing.{get_whole}
 use Rattle.media_laws.proofs.UnitEvents.{IsProgram, IsClearing, IsDeed, IsDone, done}
 use Rattle.media_laws.proofs.History.{cleared_by, filled, firsts, clears_it, clears_as}
 use Rattle.media_laws.proofs.Beginnings.{found_stays}

@@ -25,16 +25,5 @@ pub mod LineReadable
 pub mod LineOver
 pub mod LineStanding
 pub mod Images
-pub mod Quiet
-pub mod Found
-pub mod Lives
-pub mod Places
-pub mod Programs
 pub mod Order
-pub mod Chunks
-pub mod Columns
-pub mod Written
-pub mod Readable
-pub mod Over
-pub mod Standing
 pub mod Named

@@ -8,7 +8,7 @@ use Rattle.pblk_model.specs.Chunk.{Chunk}
 use Rattle.pblk_model.specs.Image.{Image}
 use Rattle.pblk_world.specs.Lines.{chunks_of}
 use Rattle.pblk_laws.specs.LineBlocks.{chunk_in}
-use Rattle.media_laws.proofs.LineLives.{and_left, and_right}
+use Rattle.core_laws.proofs.Tests.{first_of as and_left, second_of as and_right}
 
 -- the chunk of a unit, where it has one
 pub at_unit : {X Y : Type 0} (h : X → Option Y) (xs : List X) (k : ℕ) (x : X) (y : Y) → slice_get xs k ≡ Some x → h x ≡ Some y → (f : Y → Bool) → list_all f (filter_map h xs) ≡ true → f y ≡ true

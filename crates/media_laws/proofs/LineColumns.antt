@@ -11,6 +11,7 @@ use Rattle.std.proofs.Math.Nat.{div-add-mod, mul-le-mul_left, lt_of_mul-lt-mul_l
 use Rattle.std.proofs.lemmas.Option.{same_Some, none-some, slice_get_within}
 use Rattle.std.proofs.lemmas.Nat.{div-mul-add}
 use Rattle.pblk_model.specs.Image.{Image}
+use Rattle.pblk_model.proofs.OrderedBlocks.{get_front as get_within}
 use Rattle.pblk_world.specs.Events.{Logged}
 use Rattle.pblk_world.specs.World.{World, log_of}
 use Rattle.pblk_world.specs.EngineLog.{Placed, placements, placed_on, turn}
@@ -174,9 +175,6 @@ long_stripes i w line unit plain = all_by_get (λ (p : Placed). length p.stripe.
 
 -- ---- the blocks of stripes of one length
 
-pub AreLong : ℕ → List Placed → Type 0
-AreLong n ps = AllByRecursion (λ (p : Placed). length p.stripe.blocks ≡ n) ps
-
 pub blocks_count : (n : ℕ) (ps : List Placed) → AllByRecursion (λ (p : Placed). length p.stripe.blocks ≡ n) ps → length (blocks_of_stripes ps) ≡ length ps * n
 blocks_count n [] all = omega arith
 blocks_count n (p ∷ ps) all =
@@ -189,11 +187,6 @@ blocks_count n (p ∷ ps) all =
 get_past : {X : Type 0} (xs ys : List X) (k : ℕ) → slice_get (xs ++ ys) (length xs + k) ≡ slice_get ys k
 get_past [] ys k = ap (slice_get ys) (zero-add k)
 get_past (x ∷ xs) ys k = let index : suc (length xs) + k ≡ suc (length xs + k) = omega arith in ap (slice_get (x ∷ (xs ++ ys))) index ∙ get_past xs ys k
-
-get_within : {X : Type 0} (xs ys : List X) (k : ℕ) → k < length xs → slice_get (xs ++ ys) k ≡ slice_get xs k
-get_within [] ys k h = absurd (omega arith)
-get_within (x ∷ xs) ys zero h = refl
-get_within (x ∷ xs) ys (suc k) h = get_within xs ys k (omega arith)
 
 pub block_get : (n : ℕ) (ps : List Placed) (k r : ℕ) (p : Placed) → AllByRecursion (λ (p : Placed). length p.stripe.blocks ≡ n) ps → slice_get ps k ≡ Some p → r < n
     → slice_get (blocks_of_stripes ps) (k * n + r) ≡ slice_get p.stripe.blocks r

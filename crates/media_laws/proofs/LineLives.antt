@@ -1,6 +1,6 @@
 -- What a line that was opened is for the rest of the mount: its life stays, and its stripes are those of that life.
-use Rattle.std.proofs.Common.{◌≡◌, ◌≢◌, ℕ, ◌<◌, ◌⊎◌, ◌==◌, ◌&&◌, ◌||◌, not, suc, nat_eq, Bool, true, false, Some, None, Option, List, [], ◌∷◌, ◌++◌, length, take, refl, sym, subst, ap, ◌∙◌, arith, if◌then◌else◌, inl, inr}
-use Rattle.std.specs.List.{AllByRecursion, list_any}
+use Rattle.std.proofs.Common.{◌≡◌, ◌≢◌, ℕ, ◌<◌, ◌⊎◌, ◌==◌, not, suc, nat_eq, Bool, true, false, Some, None, Option, List, [], ◌∷◌, ◌++◌, length, take, refl, sym, subst, ap, ◌∙◌, arith, if◌then◌else◌, inl, inr}
+use Rattle.std.specs.List.{AllByRecursion}
 use Rattle.std.specs.Option.{option_to_list, IfSome}
 use Rattle.std.proofs.lemmas.Bool.{eqb-true, eqb-false}
 use Rattle.std.proofs.lemmas.Option.{same_Some, none-some}
@@ -16,13 +16,16 @@ use Rattle.pblk_world.specs.Placing.{MayPlace}
 use Rattle.pblk_world.specs.Legal.{IsDecision}
 use Rattle.pblk_world.proofs.Appending.{life_more, placements_more}
 use Rattle.core_laws.specs.PlainWorlds.{is_plain_decision, is_plain_event, ArePlain, IsPlainWorld}
-use Rattle.core_laws.proofs.Lists.{filter_agree}
+use Rattle.core_laws.proofs.Lists.{filter_agree, none_any}
 use Rattle.core_laws.proofs.Numbers.{life_at, of_its_line}
 use Rattle.core_laws.proofs.Rows.{same_number, other_number}
+use Rattle.core_laws.proofs.Tests.{first_of as and_left}
+use Rattle.core_laws.proofs.Placing.{weaker}
+use Rattle.core_laws.proofs.Numbering.{begun_stays}
 use Rattle.pblk_laws.proofs.Lists.{all_append, all_filter_map, all_get}
 use Rattle.media_laws.specs.Standing.{stripes_in}
 use Rattle.media_laws.proofs.Steps.{log_here, log_elsewhere, plain_tail, IsSomeones, whose}
-use Rattle.media_laws.proofs.Decisions.{IsFirst, IsLater, decided, begun_stays, first_begins}
+use Rattle.media_laws.proofs.Decisions.{IsFirst, IsLater, decided, first_begins}
 
 -- ---- what an opening says
 
@@ -46,14 +49,6 @@ pub record AreLiving (i : Image) (log : List Logged) : Type 0 where
   pub stripes : AllByRecursion (IsInLine log) (placements log)
 
 -- ---- a line's life after an event
-
-pub and_left : (a b : Bool) → (a && b) ≡ true → a ≡ true
-and_left true b e = refl
-and_left false b e = absurd (cc)
-
-pub and_right : (a b : Bool) → (a && b) ≡ true → b ≡ true
-and_right true b e = e
-and_right false b e = absurd (cc)
 
 not_numbered : (i : Image) (logs : Logs) (life : LineLife) (line : ℕ) → not (has_number i logs life line) ≡ true → is_opened life ≡ false
 not_numbered i logs AsFound line e = refl
@@ -83,10 +78,6 @@ opened_by_event line life n knows (Free other) o plain is = absurd (cc)
 opened_by_event line life n knows e o plain is = inl is
 
 -- ---- a step of the engine
-
-pub weaker : {X : Type 0} (P Q : X → Type 0) → ((x : X) → P x → Q x) → (xs : List X) → AllByRecursion P xs → AllByRecursion Q xs
-weaker P Q says [] all = tt
-weaker P Q says (x ∷ xs) all = (says x all.0, weaker P Q says xs all.1)
 
 -- the line that is opened wasn't opened before
 pub opening_is : (i : Image) (logs : Logs) (b : Begun) (e : EngineEvent) (line : ℕ) (start : StartRecord) → IsDecision i logs b e → e ≡ Open line start → MayOpen i logs b line start
@@ -153,9 +144,6 @@ none_living i log begins found none = record {
 
 living_first : (i : Image) (b : Beginning) (knows : List ℕ) → AreLiving i (record { event = Decides (Begin b); knows = knows } ∷ [])
 living_first i b knows = none_living i (record { event = Decides (Begin b); knows = knows } ∷ []) (λ none. absurd (none-some _ (sym none ∙ first_begins (record { event = Decides (Begin b); knows = knows }) b refl))) (λ line. refl) refl
-
-pub event_log : Logged → EngineEvent → Logged
-event_log l e = record { event = Decides e; knows = l.knows }
 
 pub same_logged : (l : Logged) (e : Event) → l.event ≡ e → l ≡ record { event = e; knows = l.knows }
 same_logged l e is = let f : Event → Logged = λ x. record { event = x; knows = l.knows } in ap f is
@@ -225,10 +213,6 @@ lands_not_lost (Some (WasLost event)) h = absurd h
 
 pub not_lost : (log : List Logged) (p : Placed) → ArePlain log → was_lost log p ≡ false
 not_lost log p plain = lands_not_lost (answer_of log p) (all_get IsLand (answers log p.stripe.unit) _ (answers_land log p.stripe.unit plain))
-
-none_any : {X : Type 0} (test : X → Bool) → ((x : X) → test x ≡ false) → (xs : List X) → list_any test xs ≡ false
-none_any test none [] = refl
-none_any test none (x ∷ xs) = ap (λ b. b || list_any test xs) (none x) ∙ none_any test none xs
 
 pub none_failed : (log : List Logged) (o : Opening) → ArePlain log → has_failed log o ≡ false
 none_failed log o plain = none_any (was_lost log) (λ p. not_lost log p plain) (stripes_of log o)

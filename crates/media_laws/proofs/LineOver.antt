@@ -15,22 +15,26 @@ use Rattle.pblk_world.specs.Lines.{known_image, chunks_of, is_over_state, are_ov
 use Rattle.pblk_world.specs.Starts.{have_landed}
 use Rattle.core_laws.specs.PlainWorlds.{IsPlainWorld}
 use Rattle.core_laws.proofs.Rows.{other_number}
-use Rattle.core_laws.proofs.Placing.{is_below, not_below}
+use Rattle.core_laws.proofs.Placing.{not_below}
+use Rattle.core_laws.proofs.Lists.{got_within as within_some, get_taken}
+use Rattle.core_laws.proofs.Tests.{first_of as and_left, second_of as and_right, within_is as true_le}
 use Rattle.stripe_placer.proofs.Among.{IsAmong}
+use Rattle.stripe_placer.proofs.Chunks.{lt_yes as is_below, lt_of as lt_true}
+use Rattle.stripe_placer.proofs.Rising.{le_true}
 use Rattle.pblk_laws.specs.LineBlocks.{chunk_in}
 use Rattle.pblk_laws.proofs.Lists.{all_by_get}
 use Rattle.pblk_laws.proofs.LineUnits.{line_units_count}
 use Rattle.media_laws.specs.Standing.{state_at, stripes_in}
-use Rattle.media_laws.proofs.Growing.{get_whole, get_taken, within_some}
+use Rattle.media_laws.proofs.Growing.{get_whole}
 use Rattle.media_laws.proofs.Order.{stripes_at}
-use Rattle.media_laws.proofs.LineLives.{and_left, and_right, all_living, stripes_same}
+use Rattle.media_laws.proofs.LineLives.{all_living, stripes_same}
 use Rattle.media_laws.proofs.LineChunks.{of_unit, of_units, split_then}
 use Rattle.media_laws.proofs.UnitCounts.{known_units}
 use Rattle.media_laws.proofs.OpenedChunks.{IsOpenedChunk, opened_chunk}
 use Rattle.media_laws.proofs.OpenedUnits.{known_on, on_unit_there, opened_in_range}
 use Rattle.media_laws.proofs.LinePlaces.{units_known, stripes_in_chunk}
 use Rattle.media_laws.proofs.LineColumns.{IsColumn, column_stripes}
-use Rattle.media_laws.proofs.LineWritten.{lt_true, answered, count_answered, answered_by, landed_is, on_unit, told_chunk, known_chunk_there}
+use Rattle.media_laws.proofs.LineWritten.{answered, count_answered, answered_by, landed_is, on_unit, told_chunk, known_chunk_there}
 use Rattle.media_laws.proofs.LineReadable.{answered_few, answered_fit, passed_blocks}
 
 -- ---- a chunk is over where it is full
@@ -60,7 +64,7 @@ all_true : {X : Type 0} (f : X → Bool) (xs : List X) → AllByRecursion (λ x.
 all_true f [] all = refl
 all_true f (x ∷ xs) all = ap (λ b. b && list_all f xs) all.0 ∙ all_true f xs all.1
 
-each_true : {X : Type 0} (f : X → Bool) (xs : List X) (k : ℕ) (x : X) → list_all f xs ≡ true → slice_get xs k ≡ Some x → f x ≡ true
+pub each_true : {X : Type 0} (f : X → Bool) (xs : List X) (k : ℕ) (x : X) → list_all f xs ≡ true → slice_get xs k ≡ Some x → f x ≡ true
 each_true f [] k x all there = absurd (none-some x there)
 each_true f (y ∷ xs) zero x all there = ap f (sym (same_Some y x there)) ∙ and_left (f y) (list_all f xs) all
 each_true f (y ∷ xs) (suc k) x all there = each_true f xs k x (and_right (f y) (list_all f xs) all) there
@@ -160,16 +164,6 @@ all_over i w line plain opened full = of_units (known_image i (log_of w)) line i
         let full_here : count_answered w line unit * i.shape.ws_opt ≡ i.shape.clba = full unit column.0 column.1 in
         let some : 0 < i.shape.clba = plain.accepted.drive.clba in
         subst (λ d. is_over d ≡ true) same (subst (λ wp. is_over_state false (state_at i.shape wp) ≡ true) (sym (told_pointer i w line unit plain)) (full_over i.shape (count_answered w line unit * i.shape.ws_opt) (omega arith) full_here))
-
-le_true : (m n : ℕ) → m ≤ n → nat_le m n ≡ true
-le_true m n h = by (nat_le m n) refl
-  where
-    by : (b : Bool) → nat_le m n ≡ b → b ≡ true
-    by true e = refl
-    by false e = let above : n < m = grind arith in absurd (omega arith)
-
-true_le : (m n : ℕ) → nat_le m n ≡ true → m ≤ n
-true_le m n h = grind arith
 
 enough_stripes : (i : Image) (w : World) (line n : ℕ) → ((j : ℕ) → j < n → HasLandedAt w line j) → n ≤ length (stripes_in (log_of w 0) line)
 enough_stripes i w line zero landed = omega arith

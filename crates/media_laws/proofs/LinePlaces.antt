@@ -8,10 +8,9 @@ use Rattle.std.proofs.lemmas.Bool.{eqb-true}
 use Rattle.std.proofs.lemmas.List.{length-take-le, length-drop, length-take}
 use Rattle.std.proofs.lemmas.List.Elements.{filter-append}
 use Rattle.std.proofs.lemmas.Option.{same_Some, none-some}
-use Rattle.std.proofs.Math.Nat.{mul-div_cancel, mul-mod_left, mul-pos, mul-le-mul_right, lt_of_mul-lt-mul_right, div-add-mod}
+use Rattle.std.proofs.Math.Nat.{mul-div_cancel, mul-mod_left, mul-le-mul_right, lt_of_mul-lt-mul_right, div-add-mod}
 use Rattle.pblk_model.specs.declared.shape.Shape.{Shape}
 use Rattle.pblk_model.specs.declared.chunk.Mark.{Mark}
-use Rattle.pblk_model.specs.Shape.{units}
 use Rattle.pblk_model.specs.Chunk.{Block}
 use Rattle.pblk_model.specs.Blocks.{blocks_of}
 use Rattle.pblk_model.specs.Marks.{meta_mark, pad_block}
@@ -29,9 +28,9 @@ use Rattle.pblk_world.proofs.Appending.{placements_more}
 use Rattle.pblk_world.proofs.Growing.{at_end}
 use Rattle.core_laws.specs.PlainWorlds.{IsPlainWorld}
 use Rattle.core_laws.proofs.Lists.{all_at}
-use Rattle.core_laws.proofs.Opening.{length_replicated}
 use Rattle.core_laws.proofs.Turns.{filtered_is}
 use Rattle.stripe_placer.proofs.Among.{IsAmong, from_filter}
+use Rattle.stripe_placer.proofs.Rows.{length_map as length_mapped, length_replicate as length_replicated}
 use Rattle.pblk_laws.proofs.LineUnits.{line_units_count}
 use Rattle.media_laws.specs.Standing.{stripes_in}
 use Rattle.media_laws.proofs.Steps.{log_here, log_elsewhere, plain_tail, IsEngines, IsSomeones, whose}
@@ -61,11 +60,7 @@ padded_count s bs few =
     let all : length (padded s bs) ≡ length bs + length (replicate (s.ws_opt - length bs) (pad_block s)) = length-append bs (replicate (s.ws_opt - length bs) (pad_block s)) in
     omega arith
 
-length_mapped : {X Y : Type 0} (f : X → Y) (xs : List X) → length (map f xs) ≡ length xs
-length_mapped f [] = refl
-length_mapped f (x ∷ xs) = ap suc (length_mapped f xs)
-
-take_few : {X : Type 0} (n : ℕ) (xs : List X) → length (take n xs) ≤ n
+pub take_few : {X : Type 0} (n : ℕ) (xs : List X) → length (take n xs) ≤ n
 take_few n xs = omega (arith, length-take n xs)
 
 data_count : (s : Shape) (log : List Logged) → length (data_blocks s log) ≡ s.ws_opt
@@ -90,18 +85,6 @@ data_by between w = by (nat_lt between w)
     by : (b : Bool) → 0 < (if b then 0 else between) → (if b then 0 else between) ≡ between
     by true h = absurd (omega arith)
     by false h = refl
-
-pub has_data : (s : Shape) → IsAccepted s → 0 < data_len s (units s)
-has_data s accepted =
-    let room : (16 + s.ws_opt) * s.ws_opt ≤ 2 * data_len s (units s) = accepted.target.room in
-    let some : 0 < (16 + s.ws_opt) * s.ws_opt = mul-pos (omega arith) accepted.drive.ws_opt in
-    omega arith
-
-pub three_parts : (s : Shape) → IsAccepted s → start_len s + data_len s (units s) + end_len s (units s) ≡ units s * s.clba
-three_parts s accepted =
-    let some : 0 < data_len s (units s) = has_data s accepted in
-    let is : data_len s (units s) ≡ units s * s.clba - start_len s - end_len s (units s) = data_by (units s * s.clba - start_len s - end_len s (units s)) s.ws_opt some in
-    omega arith
 
 -- of a line of so many units
 pub parts_of : (s : Shape) (g : ℕ) → 0 < data_len s g → start_len s + data_len s g + end_len s g ≡ g * s.clba
@@ -284,11 +267,3 @@ places_by i s w plain h (inl e) line j p there = go (decided i (prefixes s.logge
 pub placed_in : (i : Image) (w : World) → IsPlainWorld i w → ArePlacedIn i w
 placed_in i [] plain = λ line j p there. absurd (none-some p there)
 placed_in i (s ∷ w) plain = places_by i s w plain (placed_in i w (plain_tail i s w plain)) (whose i s w plain)
-
--- its line has a unit
-pub some_units : (s : Shape) (us : List ℕ) (line j : ℕ) (stripe : Stripe) → IsPlacedIn s us line j stripe → 0 < length us
-some_units s us line j stripe h = go us h.within
-  where
-    go : (us : List ℕ) → j * s.ws_opt < length us * s.clba → 0 < length us
-    go [] within = absurd (omega arith)
-    go (u ∷ us) within = omega arith

@@ -1,6 +1,6 @@
 -- Which blocks that have landed can be read.
 use Rattle.std.proofs.Common.{◌≡◌, ℕ, ◌+◌, ◌*◌, ◌<◌, ◌≤◌, ◌==◌, ◌||◌, nat_lt, zero, suc, Bool, true, false, cond, List, [], ◌∷◌, length, refl, sym, subst, ap, ap₂, ◌∙◌, arith, if◌then◌else◌}
-use Rattle.std.specs.List.{AllByRecursion, filter, list_any}
+use Rattle.std.specs.List.{AllByRecursion, filter}
 use Rattle.std.proofs.Math.Nat.{mul-le-mul_right}
 use Rattle.pblk_model.specs.declared.shape.Shape.{Shape}
 use Rattle.pblk_model.specs.declared.chunk.ChunkState.TheVariants as states
@@ -13,11 +13,10 @@ use Rattle.pblk_world.specs.Space.{landed_blocks, is_readable_in}
 use Rattle.pblk_world.specs.Commanding.{ended_stripes}
 use Rattle.core_laws.specs.PlainWorlds.{IsPlainWorld}
 use Rattle.core_laws.proofs.Rows.{other_number}
-use Rattle.core_laws.proofs.Lists.{filter_agree}
-use Rattle.core_laws.proofs.Placing.{is_below}
+use Rattle.core_laws.proofs.Lists.{filter_agree, got_within as within_some, none_any}
 use Rattle.pblk_laws.proofs.Lists.{all_by_get, all_take}
+use Rattle.stripe_placer.proofs.Chunks.{lt_yes as is_below}
 use Rattle.media_laws.specs.Standing.{state_at, blocks_of_stripes, is_programmed}
-use Rattle.media_laws.proofs.Growing.{within_some}
 use Rattle.media_laws.proofs.Order.{stripes_at}
 use Rattle.media_laws.proofs.LineLives.{all_living, stripes_same, not_lost}
 use Rattle.media_laws.proofs.Answers.{fewer_answers}
@@ -107,10 +106,6 @@ readable_at s wp b below fits early =
     by : (c : Bool) → nat_lt wp s.clba ≡ c → ReadableIn (if c then states.Open else states.Closed) s.mw_cunits wp b
     by true e = early (let h : wp < s.clba = grind arith in h)
     by false e = below
-
-none_any : {X : Type 0} (test : X → Bool) → ((x : X) → test x ≡ false) → (xs : List X) → list_any test xs ≡ false
-none_any test none [] = refl
-none_any test none (x ∷ xs) = ap (λ b. b || list_any test xs) (none x) ∙ none_any test none xs
 
 pub readable : (i : Image) (w : World) (line unit block : ℕ) (o : Opening) → IsPlainWorld i w → life_of (log_of w 0) line ≡ Opened o
     → is_readable_in i.shape (log_of w 0) unit block (Opened o) ≡ true → block < landed_blocks i.shape (log_of w 0) o unit → IsReadable i.shape (standing_chunk i.shape w line unit) block

@@ -1,5 +1,5 @@
 -- Where the stripes of an opened line stand, and what stands in each chunk of a drive.
-use Rattle.std.proofs.Common.{◌≡◌, ℕ, ◌+◌, ◌*◌, ◌<◌, ◌≤◌, ◌⊎◌, ◌==◌, nat_lt, suc, Bool, true, false, Some, None, Option, List, [], length, refl, sym, ap, ap₂, ◌∙◌, arith, if◌then◌else◌, inl, inr}
+use Rattle.std.proofs.Common.{◌≡◌, ℕ, ◌+◌, ◌*◌, ◌<◌, ◌≤◌, ◌⊎◌, nat_lt, suc, Bool, true, false, Some, None, Option, List, length, refl, sym, ap, ap₂, ◌∙◌, arith, if◌then◌else◌, inl, inr}
 use Rattle.std.specs.Prelude.{slice_get}
 use Rattle.std.specs.List.{Contains, filter}
 use Rattle.std.specs.Option.{option_map}
@@ -11,21 +11,19 @@ use Rattle.pblk_model.specs.Chunk.{Chunk, free_chunk, offline_chunk, IsReadable}
 use Rattle.pblk_model.specs.ChunkStep.{after_reset}
 use Rattle.pblk_model.specs.Image.{Image, line_units, block_at}
 use Rattle.pblk_world.specs.World.{World, log_of, media}
-use Rattle.pblk_world.specs.EngineLog.{Begun, begun, LineLife, AsFound, Opened, Freed, Opening, is_opened, life_of, Placed, placements, turn, answers, has_landed, stripes_of, stripes_on}
+use Rattle.pblk_world.specs.EngineLog.{Begun, begun, LineLife, AsFound, Opened, Freed, Opening, is_opened, life_of, Placed, turn, answers, has_landed, stripes_of, stripes_on}
 use Rattle.pblk_world.specs.Lines.{found_image, known_image, place_of, is_given_up, is_given_up_by, strays_of}
 use Rattle.pblk_world.specs.Victims.{is_freed}
 use Rattle.pblk_world.specs.Space.{landed_blocks, is_readable_in}
 use Rattle.pblk_world.specs.Commanding.{ended_stripes}
 use Rattle.core_laws.specs.PlainWorlds.{IsPlainWorld}
-use Rattle.core_laws.proofs.Lists.{filter_none}
-use Rattle.core_laws.proofs.Rows.{other_number}
-use Rattle.core_laws.proofs.Placing.{is_below}
+use Rattle.core_laws.proofs.Lists.{is_in}
 use Rattle.pblk_laws.specs.LineBlocks.{chunk_in}
+use Rattle.stripe_placer.proofs.Chunks.{lt_yes as is_below, lt_of as lt_true}
 use Rattle.media_laws.specs.Standing.{chunk_with, blocks_of_stripes, stripes_in, is_programmed}
-use Rattle.media_laws.proofs.Images.{is_in}
 use Rattle.media_laws.proofs.Order.{stripes_at}
 use Rattle.media_laws.proofs.Decisions.{never_freed}
-use Rattle.media_laws.proofs.LineLives.{IsLiving, all_living, stripes_same, weaker}
+use Rattle.media_laws.proofs.LineLives.{all_living, stripes_same}
 use Rattle.media_laws.proofs.UnitCounts.{found_there}
 use Rattle.media_laws.proofs.History.{cleared_by, filled, was_cleared, is_a_stray}
 use Rattle.media_laws.proofs.Stood.{IsStanding}
@@ -38,7 +36,7 @@ use Rattle.media_laws.proofs.OpenedChunks.{standing_now, media_by, noted_cleared
 use Rattle.media_laws.proofs.OpenedUnits.{known_on, on_unit_there, opened_in_range}
 use Rattle.media_laws.proofs.LinePlaces.{units_known, IsPlacedIn, placed_in, place_of_stripe}
 use Rattle.media_laws.proofs.LineColumns.{IsColumn, IsChunkStripe, chunk_stripe, column_of_unit}
-use Rattle.media_laws.proofs.LineWritten.{lt_true, answered, count_answered, answered_by, landed_is, on_unit, standing_chunk, written_chunk, known_chunk_there, block_at_address}
+use Rattle.media_laws.proofs.LineWritten.{answered, count_answered, answered_by, landed_is, on_unit, standing_chunk, written_chunk, known_chunk_there, block_at_address}
 use Rattle.media_laws.proofs.LineReadable.{stripes_on_are, landed_at, programmed_at, landed_count, readable}
 
 -- ---- places
@@ -212,12 +210,3 @@ given_unopened w line given = go (life_of (log_of w 0) line) given
     go AsFound given = refl
     go (Opened o) given = absurd (cc)
     go (Freed was knows) given = refl
-
--- a line that wasn't opened has no stripe
-pub unopened_none : (i : Image) (w : World) (line : ℕ) → IsPlainWorld i w → is_opened (life_of (log_of w 0) line) ≡ false → stripes_in (log_of w 0) line ≡ []
-unopened_none i w line plain none = filter_none (λ (p : Placed). p.stripe.line == line) (placements (log_of w 0))
-    (weaker (IsLiving (log_of w 0)) (λ (p : Placed). (p.stripe.line == line) ≡ false) (λ p living. other_number p.stripe.line line (λ same.
-    not_both (ap is_opened (ap (life_of (log_of w 0)) (sym same) ∙ living.0) ∙ living.1) none)) (placements (log_of w 0)) (all_living i w plain))
-  where
-    not_both : {b : Bool} → b ≡ true → b ≡ false → ⊥
-    not_both p q = cc

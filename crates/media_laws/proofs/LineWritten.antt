@@ -23,17 +23,17 @@ use Rattle.pblk_world.specs.EngineLog.{Placed, placed_on, turn, answers, Answer,
 use Rattle.pblk_world.specs.Lines.{known_image, place_of}
 use Rattle.pblk_world.specs.Commanding.{ended_stripes}
 use Rattle.core_laws.specs.PlainWorlds.{ArePlain, IsPlainWorld}
-use Rattle.core_laws.proofs.Lists.{all_filter}
+use Rattle.core_laws.proofs.Lists.{all_filter, get_taken}
 use Rattle.core_laws.proofs.Rows.{same_number, other_number}
-use Rattle.core_laws.proofs.Placing.{is_below, not_below}
+use Rattle.core_laws.proofs.Placing.{not_below, weaker}
 use Rattle.core_laws.proofs.Turns.{filtered_is}
 use Rattle.pblk_laws.specs.LineBlocks.{chunk_in, written_at}
 use Rattle.pblk_laws.proofs.LineUnits.{line_units_chunks, line_units_count}
 use Rattle.pblk_laws.proofs.Lists.{all_take}
+use Rattle.stripe_placer.proofs.Chunks.{lt_yes as is_below}
 use Rattle.media_laws.specs.Standing.{state_at, chunk_with, blocks_of_stripes, stripes_in, is_programmed}
-use Rattle.media_laws.proofs.Growing.{get_taken}
 use Rattle.media_laws.proofs.Order.{stripes_first, stripes_at}
-use Rattle.media_laws.proofs.LineLives.{IsLand, answers_land, weaker}
+use Rattle.media_laws.proofs.LineLives.{IsLand, answers_land}
 use Rattle.media_laws.proofs.UnitCounts.{known_units}
 use Rattle.media_laws.proofs.History.{filled, firsts}
 use Rattle.media_laws.proofs.OpenedChunks.{is_kept, IsWritten, IsOpenedChunk, opened_chunk}
@@ -72,9 +72,6 @@ block_of_place i line a unit block h =
     ∙ from_chunk i line (block_of i.shape (width i line) a) (slice_get (line_units i line) (column_of i.shape (width i line) a)) unit block h
 
 -- ---- a test that holds of the first elements alone
-
-pub lt_true : (m n : ℕ) → nat_lt m n ≡ true → m < n
-lt_true m n h = grind arith
 
 lt_suc : (m n : ℕ) → nat_lt (suc m) (suc n) ≡ nat_lt m n
 lt_suc m n = go (cases_order m n)

@@ -5,6 +5,7 @@ use Rattle.std.specs.List.{AllByRecursion, Contains, filter_map, cons_option, en
 use Rattle.std.specs.Option.{option_and_then}
 use Rattle.std.proofs.lemmas.Bool.{eqb-true}
 use Rattle.std.proofs.lemmas.Option.{same_Some, none-some}
+use Rattle.std.proofs.lemmas.List.{take-take as take_again}
 use Rattle.pblk_model.specs.Chunk.{Chunk}
 use Rattle.pblk_model.specs.UnitLog.{UnitEvent, after_log}
 use Rattle.pblk_model.specs.Image.{Image}
@@ -14,12 +15,11 @@ use Rattle.pblk_world.specs.EngineLog.{Begun, begun, begun_by}
 use Rattle.pblk_world.specs.Lines.{found_by, found_image, known_image, told_by, told_events}
 use Rattle.pblk_world.specs.Legal.{IsLegal, IsLegalStep, IsDecision}
 use Rattle.core_laws.specs.PlainWorlds.{is_plain_decision, IsPlainWorld}
-use Rattle.core_laws.proofs.Lists.{fun_same}
+use Rattle.core_laws.proofs.Lists.{fun_same, get_taken, is_in, with_last}
 use Rattle.pblk_laws.proofs.Lists.{all_by_get}
-use Rattle.media_laws.proofs.Steps.{log_here, log_elsewhere, with_last, plain_tail, IsSomeones, whose}
-use Rattle.media_laws.proofs.Images.{is_in}
+use Rattle.media_laws.proofs.Steps.{log_here, log_elsewhere, plain_tail, IsSomeones, whose}
 use Rattle.media_laws.proofs.Decisions.{IsFirst, IsLater, decided}
-use Rattle.media_laws.proofs.Growing.{get_whole, take_again, get_taken}
+use Rattle.media_laws.proofs.Growing.{get_whole}
 use Rattle.media_laws.proofs.ToldEvents.{told, told_are}
 
 -- ---- each answer is within what its event names

@@ -5,7 +5,7 @@ use Rattle.std.specs.Prelude.{slice_get}
 use Rattle.std.specs.List.{filter, filter_map, enumerate_from}
 use Rattle.std.specs.Option.{option_map_or, option_and_then, option_to_list}
 use Rattle.std.proofs.Math.Seq.{take-length}
-use Rattle.std.proofs.lemmas.Option.{same_Some, none-some, slice_get_within}
+use Rattle.std.proofs.lemmas.Option.{none-some, slice_get_within}
 use Rattle.pblk_model.specs.declared.shape.Shape.{Shape}
 use Rattle.pblk_model.specs.declared.chunk.ChunkState.TheVariants as states
 use Rattle.pblk_model.specs.Shape.{units}
@@ -25,13 +25,16 @@ use Rattle.pblk_world.proofs.Appending.{life_more}
 use Rattle.core_laws.specs.PlainWorlds.{IsPlainWorld}
 use Rattle.core_laws.proofs.Lists.{fun_same}
 use Rattle.core_laws.proofs.Turns.{filtered_is}
+use Rattle.core_laws.proofs.Tests.{second_of as and_right}
+use Rattle.core_laws.proofs.Numbering.{begun_stays}
 use Rattle.stripe_placer.proofs.Among.{IsAmong, in_map, in_filter}
 use Rattle.pblk_laws.specs.LineBlocks.{chunk_in}
 use Rattle.pblk_laws.proofs.LineUnits.{line_units_count, line_units_chunks}
+use Rattle.pblk_laws.proofs.ImageBytesPieces.{enumerate_get as numbered_get}
 use Rattle.media_laws.proofs.Steps.{log_here, log_elsewhere, plain_tail, IsEngines, IsSomeones, whose}
-use Rattle.media_laws.proofs.Decisions.{IsFirst, IsLater, decided, begun_stays, opened_whole}
+use Rattle.media_laws.proofs.Decisions.{IsFirst, IsLater, decided, opened_whole}
 use Rattle.media_laws.proofs.Made.{still_first}
-use Rattle.media_laws.proofs.LineLives.{living, and_right, opened_by_event, opening_is}
+use Rattle.media_laws.proofs.LineLives.{living, opened_by_event, opening_is}
 use Rattle.media_laws.proofs.UnitCounts.{known_units, media_units}
 use Rattle.media_laws.proofs.History.{filled, firsts}
 use Rattle.media_laws.proofs.Beginnings.{found_stays}
@@ -114,11 +117,6 @@ unit_on img line k unit there = go (chunk_in img line unit) (line_units_chunks i
         past (u ∷ us) zero unit e (c ∷ cs) count f = absurd (cc)
         past (u ∷ us) (suc k) unit e (c ∷ cs) count f = past us k unit e cs (omega arith) f
 
-numbered_get : {X : Type 0} (n : ℕ) (xs : List X) (k : ℕ) (x : X) → slice_get xs k ≡ Some x → slice_get (enumerate_from n xs) k ≡ Some (n + k, x)
-numbered_get n [] k x e = absurd (none-some x e)
-numbered_get {X} n (y ∷ xs) zero x e = let same : n ≡ n + 0 = omega arith in let f : ℕ → X → Option (ℕ × X) = λ m z. Some (m, z) in ap₂ f same (same_Some y x e)
-numbered_get {X} n (y ∷ xs) (suc k) x e = let same : n + 1 + k ≡ n + suc k = omega arith in let f : ℕ → Option (ℕ × X) = λ m. Some (m, x) in numbered_get (n + 1) xs k x e ∙ ap f same
-
 pub on_unit_there : (img : Image) (line unit : ℕ) → is_on img line unit ≡ true → IsAmong (line_units img line) unit
 on_unit_there img line unit on = go (slice_get img.units unit) refl (on_by line (slice_get img.units unit) ∙ on)
   where
@@ -165,7 +163,7 @@ still_opened i s w line plain opened =
     opened_whole (length (log_of w 0)) (log_of (s ∷ w) 0) line plain.engine
     (ap (λ (log : List Logged). is_opened (life_of log line)) (still_first (log_of w 0) s.logged (s.author == 0) (length (log_of w 0)) (le_refl (length (log_of w 0))) ∙ take-length (log_of w 0)) ∙ opened)
 
-still_begun : (s : Step) (w : World) (b : Begun) → begun (log_of w 0) ≡ Some b → begun (log_of (s ∷ w) 0) ≡ Some b
+pub still_begun : (s : Step) (w : World) (b : Begun) → begun (log_of w 0) ≡ Some b → begun (log_of (s ∷ w) 0) ≡ Some b
 still_begun s w b is = by (s.author == 0)
   where
     by : (t : Bool) → begun (if t then log_of w 0 ++ s.logged ∷ [] else log_of w 0) ≡ Some b
@@ -208,9 +206,6 @@ known_quiet i s w b plain author begun_is none =
 pub record IsWide (i : Image) (w : World) (line : ℕ) (o : Opening) : Type 0 where
   pub width : o.start.width ≡ length (line_units (known_image i (log_of w)) line)
   pub some_data : 0 < data_len i.shape o.start.width
-
-AreWide : Image → World → Type 0
-AreWide i w = (line : ℕ) (o : Opening) → life_of (log_of w 0) line ≡ Opened o → IsWide i w line o
 
 wide_later : (i : Image) (s : Step) (w : World) (line : ℕ) (o : Opening) → IsPlainWorld i (s ∷ w) → life_of (log_of w 0) line ≡ Opened o → IsWide i w line o → IsWide i (s ∷ w) line o
 wide_later i s w line o plain life h = record { width = h.width ∙ ap length (sym (units_stay i s w line plain (ap is_opened life))); some_data = h.some_data }

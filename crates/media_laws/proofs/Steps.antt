@@ -9,7 +9,7 @@ use Rattle.pblk_world.specs.Events.{EngineEvent, Event, Decides, Does, Maker, Lo
 use Rattle.pblk_world.specs.World.{World, log_of, known, prefixes}
 use Rattle.pblk_world.specs.Legal.{IsLegal, IsLegalStep, IsAllowed, MayDecide}
 use Rattle.pblk_world.specs.Commanding.{MayDo}
-use Rattle.core_laws.specs.PlainWorlds.{is_plain_decision, is_plain_outcome, is_plain_event, ArePlain, IsPlainWorld, IsBlankWorld}
+use Rattle.core_laws.specs.PlainWorlds.{is_plain_decision, is_plain_outcome, is_plain_event, ArePlain, IsPlainWorld}
 use Rattle.core_laws.proofs.Rows.{same_number, other_number}
 
 -- ---- an author's log after a step
@@ -30,10 +30,6 @@ pub last_of : {X : Type 0} (P : X → Type 0) (xs : List X) (x : X) → AllByRec
 last_of P [] x h = h.0
 last_of P (y ∷ xs) x h = last_of P xs x h.1
 
-pub with_last : {X : Type 0} (P : X → Type 0) (xs : List X) (x : X) → AllByRecursion P xs → P x → AllByRecursion P (xs ++ x ∷ [])
-with_last P [] x h last = (last, tt)
-with_last P (y ∷ xs) x h last = (h.0, with_last P xs x h.1 last)
-
 tail_plain : (s : Step) (log : List Logged) (b : Bool) → ArePlain (if b then log ++ s.logged ∷ [] else log) → ArePlain log
 tail_plain s log true h = first_of (λ (l : Logged). is_plain_event l.event ≡ true) log s.logged h
 tail_plain s log false h = h
@@ -47,9 +43,6 @@ plain_tail i s w h = record {
   engine = tail_plain s (log_of w 0) (s.author == 0) h.engine;
   units = λ unit. tail_plain s (log_of w (suc unit)) (s.author == suc unit) (h.units unit);
 }
-
-pub blank_tail : (i : Image) (s : Step) (w : World) → IsBlankWorld i (s ∷ w) → IsBlankWorld i w
-blank_tail i s w h = record { plain = plain_tail i s w h.plain; free = h.free }
 
 -- ---- whose a step is
 
@@ -100,13 +93,7 @@ whose i s w h =
     let step : IsLegalStep i (log_of w) s = h.legal.0 in
     by_event i s w s.author s.logged.event refl refl (last_plain s w s.author refl (plain_by i s w h s.author refl)) step.author (whole_own i s w step) step.allowed
 
-pub someones : (i : Image) (s : Step) (w : World) → IsBlankWorld i (s ∷ w) → IsSomeones i s w
-someones i s w h = whose i s w h.plain
-
 -- what an event names is within the logs
 pub named_within : (i : Image) (s : Step) (w : World) → IsPlainWorld i (s ∷ w) → (other : ℕ) → known s.logged other ≤ length (log_of w other)
 unfolding IsLegal
 named_within i s w h other = let step : IsLegalStep i (log_of w) s = h.legal.0 in step.knowledge.within other
-
-pub known_within : (i : Image) (s : Step) (w : World) → IsBlankWorld i (s ∷ w) → (other : ℕ) → known s.logged other ≤ length (log_of w other)
-known_within i s w h other = named_within i s w h.plain other

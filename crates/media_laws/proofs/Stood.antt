@@ -15,13 +15,14 @@ use Rattle.pblk_world.specs.EngineLog.{Begun, begun, Placed}
 use Rattle.pblk_world.specs.Lines.{found_image, is_empty_state}
 use Rattle.pblk_world.specs.Commanding.{is_reset, ends_stripe, ended_stripes}
 use Rattle.core_laws.specs.PlainWorlds.{IsPlainWorld}
-use Rattle.core_laws.proofs.Lists.{filter_none}
+use Rattle.core_laws.proofs.Lists.{filter_none, got_within as within_some, get_taken}
+use Rattle.core_laws.proofs.Removing.{and_no}
 use Rattle.pblk_laws.specs.LineBlocks.{chunk_in}
 use Rattle.pblk_laws.proofs.Lists.{all_by_get}
-use Rattle.media_laws.proofs.Growing.{get_whole, get_taken, within_some}
+use Rattle.media_laws.proofs.Growing.{get_whole}
 use Rattle.media_laws.proofs.UnitChunks.{chunk_after}
 use Rattle.media_laws.proofs.UnitEvents.{IsDeed, IsDone, done}
-use Rattle.media_laws.proofs.History.{cleared_by, filled, firsts, clears_it, was_cleared, is_a_stray, early_counts, clears_as, and_no, Stands, Now, by_event, clearing_first}
+use Rattle.media_laws.proofs.History.{cleared_by, filled, firsts, clears_it, was_cleared, is_a_stray, early_counts, clears_as, Stands, Now, by_event, clearing_first}
 use Rattle.media_laws.proofs.Beginnings.{BeginsAt, begins, found_chunk_after}
 
 -- a chunk that the mount found as this, after n events of its unit

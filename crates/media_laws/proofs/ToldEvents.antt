@@ -1,5 +1,5 @@
 -- What the engine was told of a unit: the events of the unit's log that its own log names.
-use Rattle.std.proofs.Common.{◌≡◌, ℕ, ◌==◌, suc, nat_eq, Bool, true, false, Some, None, Option, List, [], ◌∷◌, ◌++◌, refl, sym, ap, ap₂, ◌∙◌, if◌then◌else◌}
+use Rattle.std.proofs.Common.{◌≡◌, ℕ, ◌==◌, suc, nat_eq, Bool, true, false, Some, None, List, [], ◌∷◌, ◌++◌, refl, sym, ap, ap₂, ◌∙◌, if◌then◌else◌}
 use Rattle.std.specs.Prelude.{⊤, slice_get}
 use Rattle.std.specs.List.{AllByRecursion, filter_map, cons_option}
 use Rattle.std.specs.Option.{option_and_then, option_to_list}
@@ -7,7 +7,8 @@ use Rattle.pblk_model.specs.UnitLog.{UnitEvent}
 use Rattle.pblk_world.specs.Events.{Landed, Lost, ResetDone, Event, Decides, Logged}
 use Rattle.pblk_world.specs.World.{Logs, unit_event_of}
 use Rattle.pblk_world.specs.Lines.{told_by, told_events}
-use Rattle.media_laws.proofs.Growing.{get_more, more}
+use Rattle.core_laws.proofs.Lists.{get_more, made_same as map_agree}
+use Rattle.media_laws.proofs.Growing.{more}
 
 -- what the engine's log says of this log of a unit
 abbrev pub told : List Logged → List Logged → ℕ → List UnitEvent
@@ -18,10 +19,6 @@ told_same logs unit (Decides (Landed other event)) = refl
 told_same logs unit (Decides (Lost other event)) = refl
 told_same logs unit (Decides (ResetDone other event)) = refl
 told_same logs unit e = refl
-
-map_agree : {X Y : Type 0} (f g : X → Option Y) → ((x : X) → f x ≡ g x) → (xs : List X) → filter_map f xs ≡ filter_map g xs
-map_agree f g same [] = refl
-map_agree f g same (x ∷ xs) = ap₂ (λ o ys. cons_option o ys) (same x) (map_agree f g same xs)
 
 pub told_are : (logs : Logs) (unit : ℕ) → told_events logs unit ≡ told (logs 0) (logs (suc unit)) unit
 told_are logs unit = map_agree (λ (l : Logged). told_by logs unit l.event) (λ (l : Logged). told_by (λ a. logs (suc unit)) unit l.event) (λ l. told_same logs unit l.event) (logs 0)

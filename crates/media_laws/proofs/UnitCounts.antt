@@ -11,10 +11,10 @@ use Rattle.pblk_world.specs.World.{World, Logs, log_of, cut_logs, media, unit_ev
 use Rattle.pblk_world.specs.EngineLog.{begun}
 use Rattle.pblk_world.specs.Lines.{found_by, found_image, known_image, told_events}
 use Rattle.core_laws.specs.PlainWorlds.{IsPlainWorld}
+use Rattle.core_laws.proofs.Lists.{got_within as within_some}
 use Rattle.pblk_laws.specs.LineBlocks.{chunk_in}
 use Rattle.pblk_laws.proofs.Lists.{all_at}
 use Rattle.pblk_laws.proofs.UnitChunks.{log_count}
-use Rattle.media_laws.proofs.Growing.{within_some}
 
 abbrev pub HasChunks : ℕ → List (List Chunk) → Type 0
 HasChunks n us = AllByRecursion (λ u. length u ≡ n) us
@@ -42,10 +42,6 @@ found_shape i logs = elim (begun (logs 0)) as (λ o. i.shape ≡ (found_by i log
 
 pub found_units : (i : Image) (logs : Logs) → length (found_image i logs).units ≡ length i.units
 found_units i logs = elim (begun (logs 0)) as (λ o. length (found_by i logs o).units ≡ length i.units) [ None ↦ refl | Some b ↦ media_units i (cut_logs b.knows logs) ]
-
-pub known_chunks : (i : Image) (logs : Logs) → HasChunks i.shape.chunks i.units → HasChunks i.shape.chunks (known_image i logs).units
-known_chunks i logs all = mapped_all (λ cs. length cs ≡ i.shape.chunks) (λ cs. length cs ≡ i.shape.chunks) (λ (u : ℕ × List Chunk). after_log i.shape u.1 (told_events logs u.0)) 0 (found_image i logs).units
-    (λ k cs count. log_count i.shape cs (told_events logs k) ∙ count) (found_chunks i logs all)
 
 pub known_units : (i : Image) (logs : Logs) → length (known_image i logs).units ≡ length i.units
 known_units i logs = mapped_count (λ (u : ℕ × List Chunk). after_log i.shape u.1 (told_events logs u.0)) 0 (found_image i logs).units ∙ found_units i logs

@@ -18,6 +18,7 @@ use Rattle.line_laws.specs.InOrder.{IsInPlace}
 use Rattle.line_laws.proofs.Orders.{in_order}
 use Rattle.landing_laws.specs.ChunkBlocks.{AreInRows}
 use Rattle.landing_laws.proofs.ChunkRows.{unit_rows}
+use Rattle.landing_laws.proofs.WholeStripes.{whole_chunk as chunk_whole}
 use Rattle.placed_laws.proofs.StripeBlocks.{have_blocks}
 use Rattle.placing_laws.proofs.Followed.{IsFollowed, follow}
 use Rattle.placing_laws.proofs.Forms.{IsLineOf, line_of}
@@ -37,13 +38,6 @@ row_below w n m below = go (cases_order (n / w) m)
     go (inl same) = let p : m * w ≡ w * (n / w) = ap (λ k. k * w) (sym same) ∙ mul_comm (n / w) w in absurd (omega arith)
     go (inr (inl less)) = less
     go (inr (inr more)) = let p : m * w ≤ (n / w) * w = mul-le-mul_right w (omega arith) in let q : (n / w) * w ≡ w * (n / w) = mul_comm (n / w) w in absurd (omega arith)
-
--- whole stripes fill a chunk
-pub chunk_whole : (c w : ℕ) → c % w ≡ 0 → c / w * w ≡ c
-chunk_whole c w whole =
-    let parts : w * (c / w) + c % w ≡ c = div-add-mod c w in
-    let swap : c / w * w ≡ w * (c / w) = mul_comm (c / w) w in
-    omega arith
 
 -- the line of a stripe of an opening, as it was opened
 pub record IsStripeIn (i : Image) (w : World) (o : Opening) (p : Placed) : Type 0 where

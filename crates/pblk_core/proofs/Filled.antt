@@ -5,12 +5,9 @@ use Rattle.std.proofs.Math.Nat.{mul-le-mul_right}
 use Rattle.pblk_model.specs.declared.chunk.Mark.{Mark}
 use Rattle.pblk_model.specs.Bytes.{zeros}
 use Rattle.pblk_model.specs.Blocks.{blocks_of}
+use Rattle.placed_laws.proofs.StripeBlocks.{length_blocks as length-blocks_of}
 
-pub length-blocks_of : (size : ℕ) (bytes : List ℕ) (marks : List Mark) → length (blocks_of size bytes marks) ≡ length marks
-length-blocks_of size bytes [] = refl
-length-blocks_of size bytes (m ∷ marks) = ap suc (length-blocks_of size (drop size bytes) marks)
-
-suc-mul : (n size : ℕ) → suc n * size ≡ size + n * size
+pub suc-mul : (n size : ℕ) → suc n * size ≡ size + n * size
 suc-mul n size = grind arith
 
 -- more bytes and marks at the ends are more blocks at the end

@@ -8,8 +8,8 @@ use Rattle.line_table.specs.Rows.{Table, IsRow, Changes, lost}
 use Rattle.line_table.proofs.Places.{get_set_same}
 use Rattle.line_laws.specs.Changes.{with_row}
 use Rattle.line_laws.specs.PlacedEntries.{gained}
-use Rattle.media_laws.proofs.Found.{within_some as some_there}
 use Rattle.line_laws.proofs.Tables.{changed_is, same_table}
+use Rattle.core_laws.proofs.Lists.{got_within as some_there}
 use Rattle.pblk_core.specs.declared.hold.Hold.{Hold}
 use Rattle.pblk_core.specs.Entries.{placed_by, place_hold}
 

@@ -8,7 +8,7 @@ use Rattle.pblk_model.specs.declared.found.LineRow.{LineRow}
 use Rattle.pblk_model.specs.Found.{IsFitFound, RowFits, HeadFits}
 use Rattle.line_table.specs.Rows.{Table}
 use Rattle.begin_laws.specs.OpeningTables.{IsOpeningTable}
-use Rattle.pblk_core.proofs.WaitingEntries.{contained}
+use Rattle.core_laws.proofs.Lists.{is_in as contained}
 
 pub stray_inside : (s : Shape) (f : Found) (k line : ℕ) → IsFitFound s f → slice_get f.strays k ≡ Some line → line < s.chunks
 stray_inside s f k line fit there =

@@ -1,16 +1,15 @@
 -- The lines that a mount found with a start record are as it found them.
-use Rattle.std.proofs.Common.{◌≡◌, ◌⊎◌, ℕ, ◌<◌, ◌≤◌, ◌&&◌, not, zero, suc, if◌then◌else◌, Bool, true, false, cond, Some, None, Option, List, [], ◌∷◌, take, refl, sym, subst, ap, ap₂, ◌∙◌, arith, inl, inr}
+use Rattle.std.proofs.Common.{◌≡◌, ◌⊎◌, ℕ, ◌<◌, ◌≤◌, not, zero, suc, if◌then◌else◌, Bool, true, false, cond, Some, None, Option, List, take, refl, sym, subst, ap, ap₂, ◌∙◌, arith, inl, inr}
 use Rattle.std.specs.Prelude.{slice_get, slice_index}
-use Rattle.std.specs.List.{filter_map, cons_option, enumerate_from, range_with_len}
+use Rattle.std.specs.List.{range_with_len}
 use Rattle.std.specs.Option.{option_and_then, is_some}
 use Rattle.std.proofs.lemmas.Option.{same_Some, none-some}
-use Rattle.pblk_model.specs.Chunk.{Chunk}
-use Rattle.pblk_model.specs.UnitLog.{after_log}
+use Rattle.std.proofs.lemmas.List.{take-take as cut_cut}
 use Rattle.pblk_model.specs.StartRecord.{StartRecord, Row, start_of}
 use Rattle.pblk_model.specs.Image.{Image}
 use Rattle.pblk_model.specs.Contents.{head}
-use Rattle.pblk_world.specs.Events.{EngineEvent, Open, Event, Decides, Begin, Logged}
-use Rattle.pblk_world.specs.World.{World, Logs, log_of, known, prefixes, cut_logs, media, unit_event_of, unit_events}
+use Rattle.pblk_world.specs.Events.{EngineEvent, Open, Event, Decides, Logged}
+use Rattle.pblk_world.specs.World.{World, Logs, log_of, known, prefixes, cut_logs}
 use Rattle.pblk_world.specs.EngineLog.{Begun, begun_by, begun, LineLife, AsFound, Opened, Freed, Opening, is_as_found, life_of}
 use Rattle.pblk_world.specs.Legal.{IsAllowed, IsLegal}
 use Rattle.pblk_world.specs.Lines.{found_by, found_image, known_image, has_number, are_empty, is_free_line}
@@ -20,35 +19,20 @@ use Rattle.pblk_world.specs.Victims.{is_freed}
 use Rattle.pblk_world.proofs.Growing.{knowledge_rises}
 use Rattle.core_laws.specs.PlainWorlds.{is_plain_event, ArePlain, IsPlainWorld}
 use Rattle.core_laws.specs.Stepping.{after}
-use Rattle.core_laws.proofs.Lists.{map_same}
+use Rattle.core_laws.proofs.Lists.{made_same}
 use Rattle.core_laws.proofs.Numbers.{opens, opens_at, life_at}
 use Rattle.core_laws.proofs.Numbering.{first_stays}
+use Rattle.core_laws.proofs.Tests.{first_of as and_first}
 use Rattle.line_laws.proofs.KeptRows.{found_kept}
 use Rattle.line_laws.proofs.PlainLogs.{none_freed}
 use Rattle.pblk_laws.proofs.Lists.{all_take}
 use Rattle.placed_laws.specs.StripePrograms.{HasHappened}
 use Rattle.placed_laws.proofs.Happened.{happened}
-use Rattle.placed_laws.proofs.KnownImages.{cut_cut}
+use Rattle.placed_laws.proofs.KnownImages.{media_same, first_knows}
+use Rattle.placing_laws.proofs.PlainEvents.{begun_first as begun_early}
+use Rattle.prefix_law.proofs.Starting.{none_of as no_some}
 
 -- ---- the image that the mount found, as an event of the engine knows it
-
-first_knows : (log : List Logged) (b : Begun) → begun log ≡ Some b → (l : Logged) × (slice_get log 0 ≡ Some l) × (l.knows ≡ b.knows)
-first_knows [] b e = absurd (none-some b e)
-first_knows (l ∷ log) b e = (l, refl, by_event l.knows l.event e)
-  where
-    by_event : (knows : List ℕ) (event : Event) → begun_by knows event ≡ Some b → knows ≡ b.knows
-    by_event knows (Decides (Begin beginning)) e = ap (λ (x : Begun). x.knows) (same_Some (record { beginning = beginning; knows = knows }) b e)
-    by_event knows event e = absurd (none-some b e)
-
-media_same : (i : Image) (a b : Logs) → ((unit : ℕ) → a (suc unit) ≡ b (suc unit)) → media i a ≡ media i b
-media_same i a b same = ap (λ us. record { shape = i.shape; units = us })
-    (map_same (λ (unit : ℕ × List Chunk). after_log i.shape unit.1 (unit_events a unit.0)) (λ (unit : ℕ × List Chunk). after_log i.shape unit.1 (unit_events b unit.0))
-    (λ unit. ap (λ (xs : List Logged). after_log i.shape unit.1 (filter_map (λ (l : Logged). unit_event_of l.event) xs)) (same unit.0)) (enumerate_from 0 i.units))
-
-begun_early : (k : ℕ) (log : List Logged) → 0 < k → begun (take k log) ≡ begun log
-begun_early zero log some = absurd (omega arith)
-begun_early (suc k) [] some = refl
-begun_early (suc k) (l ∷ log) some = refl
 
 pub found_then : (i : Image) (w : World) (k : ℕ) (l : Logged) → IsLegal i w → slice_get (log_of w 0) k ≡ Some l → 0 < k → found_image i (prefixes l (log_of w)) ≡ found_image i (log_of w)
 found_then i w k l legal there some =
@@ -66,14 +50,6 @@ found_then i w k l legal there some =
         (subst (λ ks. slice_index ks (suc unit) ≤ known l (suc unit)) first.2 (knowledge_rises i w 0 (suc unit) 0 k first.0 l legal (omega arith) first.1 there)))
 
 -- ---- a line that was opened had no start record
-
-pub and_first : (a b : Bool) → (a && b) ≡ true → a ≡ true
-and_first true b e = refl
-and_first false b e = absurd cc
-
-pub no_some : (o : Option StartRecord) → not (is_some o) ≡ true → o ≡ None
-no_some None e = refl
-no_some (Some r) e = absurd cc
 
 opens_line : (e : Event) (line : ℕ) → opens e ≡ Some line → (start : StartRecord) × (e ≡ Decides (Open line start))
 opens_line (Decides (Open other start)) line is = (start, ap (λ n. Decides (Open n start)) (same_Some other line is))
@@ -119,10 +95,6 @@ started_as_found i w line plain starts = go (life_of (log_of w 0) line) refl
     go (Freed was knows) e = let no : is_freed (life_of (log_of w 0) line) ≡ false = none_freed (log_of w 0) plain.engine line in let yes : is_freed (life_of (log_of w 0) line) ≡ true = ap is_freed e in absurd cc
 
 -- ---- the rows of older lines stay
-
-made_same : {X Y : Type 0} (f g : X → Option Y) → ((x : X) → f x ≡ g x) → (xs : List X) → filter_map f xs ≡ filter_map g xs
-made_same f g same [] = refl
-made_same f g same (x ∷ xs) = ap₂ (λ o ys. cons_option o ys) (same x) (made_same f g same xs)
 
 if_none : (b : Bool) → ◌≡◌ {A = Option Row} (cond b None None) None
 if_none true = refl

@@ -18,9 +18,6 @@ use Rattle.pblk_core.specs.declared.target_core.Core.{Core}
 use Rattle.pblk_core.specs.Stands.{Stands}
 use Rattle.pblk_core.proofs.StandsFacts.{window_taken_is}
 
-placer_is : (i : Image) (w : World) (c : Core) → Stands i (log_of w) c → c.placer ≡ placing_of i (log_of w) c.placer.entries.pad []
-placer_is i w c st = st.placing
-
 pub held_room : (i : Image) (w : World) (c : Core) → IsPlainWorld i w → Stands i (log_of w) c → length c.window.entries < c.window.size → length (held c.placer) < c.placer.shape.ring
 held_room i w c plain st some =
     let few : length (held (placing_of i (log_of w) c.placer.entries.pad [])) ≤ taken (log_of w 0) - c.window.freed =

@@ -19,7 +19,8 @@ use Rattle.pblk_world.proofs.Appending.{life_more}
 use Rattle.core_laws.specs.PlacerOf.{unanswered_on}
 use Rattle.core_laws.specs.PlainWorlds.{IsPlainWorld}
 use Rattle.core_laws.specs.Stepping.{after}
-use Rattle.core_laws.proofs.Lists.{filter_none, filter_same}
+use Rattle.core_laws.proofs.Lists.{filter_none, filter_same, all_of}
+use Rattle.core_laws.proofs.Tests.{both as and_true}
 use Rattle.line_laws.proofs.KeptRows.{begun_kept, known_kept}
 use Rattle.pblk_core.specs.Resets.{is_used_state, is_used_in, used_units, in_line, units_to_reset, resets_of}
 use Rattle.pblk_core.specs.Stands.{IsOlder, HasFitNumbers}
@@ -60,10 +61,6 @@ resets_quiet i logs e knows none untold lives = resets_same i logs (after logs e
 
 -- ---- empty lines
 
-and_true : (a b : Bool) → (a && b) ≡ true → (a ≡ true) × (b ≡ true)
-and_true true b e = (refl, e)
-and_true false b e = absurd cc
-
 one_empty : (o : Option Chunk) (rest : List Chunk) → list_all (λ (c : Chunk). is_empty_state c.state) (cons_option o rest) ≡ true → ((c : Chunk) → o ≡ Some c → is_empty_state c.state ≡ true) × (list_all (λ (c : Chunk). is_empty_state c.state) rest ≡ true)
 one_empty None rest e = ((λ c f. absurd (none-some c f)), e)
 one_empty (Some d) rest e =
@@ -86,10 +83,6 @@ empty_unused j line unit all = by_unit (slice_get j.units unit) refl
     by_unit : (o : Option (List Chunk)) → slice_get j.units unit ≡ o → option_map_or (λ (c : Chunk). is_used_state c.state) (option_and_then (λ (cs : List Chunk). slice_get cs line) o) false ≡ false
     by_unit None e = refl
     by_unit (Some cs) e = by_chunk cs e (slice_get cs line) refl
-
-all_of : {X : Type 0} (P : X → Type 0) → ((x : X) → P x) → (xs : List X) → AllByRecursion P xs
-all_of P each [] = tt
-all_of P each (x ∷ xs) = (each x, all_of P each xs)
 
 pub empty_none : (j : Image) (line : ℕ) → are_empty j line ≡ true → used_units j line ≡ []
 empty_none j line all = filter_none (is_used_in j line) (range_with_len 0 (units j.shape)) (all_of (λ unit. is_used_in j line unit ≡ false) (λ unit. empty_unused j line unit all) (range_with_len 0 (units j.shape)))

@@ -27,20 +27,21 @@ use Rattle.core_laws.proofs.Turns.{filtered_is}
 use Rattle.landing_laws.specs.ChunkBlocks.{chunk_blocks}
 use Rattle.landing_laws.specs.ReadSlots.{address_of_block}
 use Rattle.landing_laws.proofs.SlotsInWorlds.{address_at}
-use Rattle.media_laws.proofs.Columns.{block_get, blocks_count}
+use Rattle.media_laws.proofs.LineColumns.{block_get, blocks_count}
 use Rattle.pblk_world.specs.Lines.{known_image}
-use Rattle.media_laws.proofs.Found.{within_some}
-use Rattle.core_laws.proofs.Lists.{all_filter}
+use Rattle.core_laws.proofs.Lists.{all_filter, got_within as within_some}
 use Rattle.placed_laws.proofs.StripeBlocks.{have_blocks}
 use Rattle.pblk_core.proofs.LandedEntries.{read_of}
 use Rattle.placing_laws.proofs.Lengths.{is_before, ends_before}
 use Rattle.pblk_core.proofs.ChunkRows.{row_below, rows_of_chunks}
 use Rattle.stripe_placer.specs.Placing.{Program}
 use Rattle.stripe_placer.proofs.Among.{IsAmong, from_filter}
+use Rattle.stripe_placer.proofs.Chunks.{le_of as lt_no, lt_of as lt_yes}
 use Rattle.landing_laws.proofs.ChunkRows.{one_place}
 use Rattle.pblk_laws.proofs.LineUnits.{line_units_rise}
 use Rattle.placing_laws.proofs.InOrder.{IsAtPlace}
 use Rattle.core_laws.specs.PlainWorlds.{IsPlainWorld}
+use Rattle.core_laws.proofs.Tests.{within_is as le_yes}
 use Rattle.pblk_core.specs.Stands.{IsOpenLine}
 use Rattle.pblk_core.specs.Readable.{ReadBlock, block_reads, data_mark, position_of}
 use Rattle.pblk_core.specs.declared.open_lines.OpenLine.{OpenLine}
@@ -149,15 +150,6 @@ multiple_le w j r m n some is below h = go (cases_order n (j * w))
         let before : j < m = is_before w j m n some is more in
         let ends : j * w + w ≤ n = ends_before w j m n is before in
         absurd (omega arith)
-
-lt_no : (m n : ℕ) → nat_lt m n ≡ false → n ≤ m
-lt_no m n e = grind arith
-
-lt_yes : (m n : ℕ) → nat_lt m n ≡ true → m < n
-lt_yes m n e = grind arith
-
-pub le_yes : (m n : ℕ) → nat_le m n ≡ true → m ≤ n
-le_yes m n e = grind arith
 
 le_no : (m n : ℕ) → nat_le m n ≡ false → n < m
 le_no m n e = grind arith

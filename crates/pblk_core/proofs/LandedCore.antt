@@ -26,15 +26,14 @@ use Rattle.core_laws.specs.PlacerOf.{IsAwaited, placing_of, positions_in_stripe}
 use Rattle.core_laws.specs.PlainWorlds.{IsPlainWorld}
 use Rattle.core_laws.specs.RowsOf.{row_of_line, rows_of, width_in}
 use Rattle.core_laws.proofs.Rows.{row_at, same_number}
+use Rattle.core_laws.proofs.Lists.{got_within as within_some, set_same}
 use Rattle.landing_laws.specs.ChunkBlocks.{IsInRow}
 use Rattle.landing_laws.proofs.HeldInWorlds.{own_in_window}
 use Rattle.landing_laws.proofs.NewBlocks.{any_member}
 use Rattle.line_laws.specs.Changes.{with_row, full_if}
-use Rattle.line_laws.proofs.Quiet.{set_same}
 use Rattle.line_laws.proofs.Tables.{changed_is}
 use Rattle.line_laws.proofs.LineRoom.{has_room, state_open}
 use Rattle.line_laws.proofs.Orders.{in_order}
-use Rattle.media_laws.proofs.Found.{within_some}
 use Rattle.placed_laws.proofs.Placed.{stripe_holds}
 use Rattle.pblk_core.specs.Slots.{IsSlot}
 use Rattle.pblk_core.specs.Stands.{Stands, unlanded}

@@ -1,8 +1,7 @@
 -- The window as entries land and become readable, one after another, without frames.
-use Rattle.std.proofs.Common.{◌≡◌, ℕ, ◌+◌, ◌-◌, ◌≤◌, ◌==◌, ◌&&◌, ◌||◌, zero, suc, nat_eq, if◌then◌else◌, Bool, true, false, Some, None, Option, List, [], ◌∷◌, length, take, drop, refl, sym, subst, ap, ap₂, ◌∙◌, arith}
+use Rattle.std.proofs.Common.{◌≡◌, ℕ, ◌+◌, ◌-◌, ◌≤◌, ◌==◌, ◌&&◌, ◌||◌, zero, suc, if◌then◌else◌, Bool, true, false, Some, None, Option, List, [], ◌∷◌, length, take, drop, refl, sym, subst, ap, ap₂, ◌∙◌, arith}
 use Rattle.std.specs.Prelude.{slice_get, map, is_some}
 use Rattle.std.specs.List.{cons_option, enumerate_from, filter_map, list_any, range_with_len}
-use Rattle.std.proofs.lemmas.Bool.{eqb-true, eqb-false}
 use Rattle.pblk_model.specs.declared.shape.Shape.{Shape}
 use Rattle.pblk_model.specs.Chunk.{Block}
 use Rattle.pblk_model.specs.Records.{named}
@@ -16,9 +15,9 @@ use Rattle.write_window.specs.declared.held.Progress.TheVariants as progress
 use Rattle.core_laws.specs.PlacerOf.{positions_of}
 use Rattle.core_laws.specs.WindowOf.{HeldSector, HeldSectors, held_of, sectors_in, without_frame}
 use Rattle.core_laws.proofs.Lists.{fun_same}
-use Rattle.core_laws.proofs.Rows.{same_number, other_number}
 use Rattle.landing_laws.specs.Advanced.{advanced_window}
 use Rattle.landing_laws.proofs.WindowSteps.{step_landed, step_again, step_readable, lands_more, reads_more, no_more}
+use Rattle.line_laws.proofs.PlacedPlaces.{turned_round as turned_around}
 use Rattle.pblk_core.specs.Landing.{all_landed, one_landed}
 use Rattle.pblk_core.specs.Readable.{ReadBlock, all_readable}
 use Rattle.pblk_core.proofs.ReadRuns.{held_stays, landed_stays}
@@ -63,13 +62,6 @@ numbered_from s log a (suc n) (h ∷ held) (t ∷ ts) same numbered = (
 
 pub same_advance : (lands also reads others : ℕ → Bool) (v : HeldSectors) → ((q : ℕ) → lands q ≡ also q) → ((q : ℕ) → reads q ≡ others q) → advanced_window lands reads v ≡ advanced_window also others v
 same_advance lands also reads others v first second = ap₂ (λ (f g : ℕ → Bool). advanced_window f g v) (fun_same lands also first) (fun_same reads others second)
-
-turned_around : (m n : ℕ) → (m == n) ≡ (n == m)
-turned_around m n = go (nat_eq m n) refl
-  where
-    go : (b : Bool) → nat_eq m n ≡ b → (m == n) ≡ (n == m)
-    go true e = e ∙ sym (ap (λ k. n == k) (eqb-true m n e) ∙ same_number n)
-    go false e = e ∙ sym (other_number n m (λ same. eqb-false m n e (sym same)))
 
 -- ---- entries land
 

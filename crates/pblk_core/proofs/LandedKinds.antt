@@ -1,5 +1,5 @@
 -- What the blocks of the stripes of a line are.
-use Rattle.std.proofs.Common.{◌≡◌, ◌≢◌, ◌⊎◌, ℕ, ◌+◌, ◌-◌, ◌*◌, ◌/◌, ◌<◌, ◌≤◌, ◌==◌, ◌&&◌, nat_lt, nat_eq, true, false, cond, zero, suc, Bool, Some, None, List, [], ◌∷◌, ◌++◌, length, drop, refl, sym, subst, ap, ap₂, ◌∙◌, arith, inl, inr, if◌then◌else◌, append-nil, le_refl}
+use Rattle.std.proofs.Common.{◌≡◌, ◌≢◌, ◌⊎◌, ℕ, ◌+◌, ◌-◌, ◌*◌, ◌/◌, ◌<◌, ◌≤◌, ◌==◌, nat_lt, nat_eq, true, false, zero, suc, Bool, Some, None, List, [], ◌∷◌, ◌++◌, length, drop, refl, sym, subst, ap, ap₂, ◌∙◌, arith, inl, inr, if◌then◌else◌, append-nil, le_refl}
 use Rattle.std.specs.Prelude.{slice_get, slice_range, is_some, nat_le}
 use Rattle.std.specs.List.{AllByRecursion, filter}
 use Rattle.std.proofs.Math.Nat.{mul-le-mul_right}
@@ -22,34 +22,31 @@ use Rattle.pblk_world.proofs.Appending.{life_more, takes_more, placements_more}
 use Rattle.pblk_world.proofs.Growing.{at_end}
 use Rattle.stripe_placer.specs.Placing.{Program}
 use Rattle.stripe_placer.proofs.Among.{IsAmong}
+use Rattle.stripe_placer.proofs.Chunks.{lt_yes as is_below}
 use Rattle.core_laws.specs.PlainWorlds.{IsPlainWorld}
-use Rattle.core_laws.proofs.Lists.{all_at, filter_none}
+use Rattle.core_laws.proofs.Lists.{all_at, filter_none, all_dropped as all_drop}
 use Rattle.core_laws.proofs.Numbers.{opens_at, life_at}
 use Rattle.core_laws.proofs.Opening.{placed_before}
-use Rattle.core_laws.proofs.Placing.{is_below, new_placed, with_place, placements_now}
-use Rattle.core_laws.proofs.Taking.{filter_last}
+use Rattle.core_laws.proofs.Placing.{new_placed, with_place}
+use Rattle.core_laws.proofs.Tests.{first_of as and_first, within_is as le_yes}
 use Rattle.line_laws.specs.PlacedEntries.{AreOfSectors}
 use Rattle.line_laws.proofs.Orders.{in_order}
 use Rattle.placing_laws.proofs.Answers.{not_failed}
 use Rattle.placing_laws.proofs.Followed.{IsNextEvent, by_events, follow}
-use Rattle.placing_laws.proofs.InOrder.{its_stripes}
+use Rattle.placing_laws.proofs.InOrder.{its_stripes, stripes_now as stripe_behind}
 use Rattle.placing_laws.proofs.Lengths.{IsStriped}
 use Rattle.placing_laws.proofs.Opened.{IsOpenedLine, opened_lines}
 use Rattle.pblk_laws.proofs.Lists.{all_take}
 use Rattle.pblk_laws.proofs.MarkNames.{pad_none, meta_none}
 use Rattle.prefix_law.proofs.Filling.{IsOfTaken, data_taken}
 use Rattle.prefix_law.proofs.Media.{cut_marks}
+use Rattle.placed_laws.proofs.GoingAll.{opened_is as same_opening}
 use Rattle.pblk_core.specs.Stands.{IsOpenLine}
 use Rattle.pblk_core.specs.declared.open_lines.OpenLine.{OpenLine}
 use Rattle.pblk_core.proofs.LineUnits.{now_units}
 use Rattle.pblk_core.proofs.LandedReads.{IsChunkRead}
 use Rattle.pblk_core.proofs.LandedWay.{IsOnWay}
-use Rattle.pblk_core.proofs.LandedChunk.{HasKind, AreKinds, chunk_read, le_yes}
-
-all_drop : {X : Type 0} (P : X → Type 0) (n : ℕ) (xs : List X) → AllByRecursion P xs → AllByRecursion P (drop n xs)
-all_drop P zero xs all = all
-all_drop P (suc n) [] all = tt
-all_drop P (suc n) (x ∷ xs) all = all_drop P n xs all.1
+use Rattle.pblk_core.proofs.LandedChunk.{HasKind, AreKinds, chunk_read}
 
 -- a block of a record has its mark
 of_record : (s : Shape) (seq count : ℕ) (bytes : List ℕ) (from to : ℕ) (b : Block) → IsAccepted s → IsAmong (slice_range (record_blocks s seq count bytes) from to) b → is_some (named s b.mark) ≡ false
@@ -59,10 +56,6 @@ of_record s seq count bytes from to b accepted at =
     (all_drop (λ (x : Block). x.mark ≡ meta_mark seq) from (record_blocks s seq count bytes) (cut_marks s.sector count bytes (meta_mark seq))) in
     ap (λ m. is_some (named s m)) (all_at (λ (x : Block). x.mark ≡ meta_mark seq) (slice_range (record_blocks s seq count bytes) from to) at.0 b at.1 all)
     ∙ ap is_some (meta_none s seq accepted)
-
-and_first : (a b : Bool) → (a && b) ≡ true → a ≡ true
-and_first true b e = refl
-and_first false b e = absurd cc
 
 abbrev by_lba : Shape → ℕ → Bool
 by_lba s lba = is_some (if nat_lt lba s.capacity then Some (Some lba) else (if lba == void_lba then Some None else None))
@@ -145,9 +138,6 @@ more_taken s log l o j blocks is = record {
     go b (inl pad) = inl pad
     go b (inr e) = inr (e.0, e.1, (e.2.0, (e.2.1.0, ap (λ ts. slice_get ts e.2.1.0) (takes_more log l) ∙ get_more (takes log) _ e.2.1.0 e.2.0 e.2.1.1), e.2.2))
 
-same_opening : (p o : Opening) → Opened p ≡ Opened o → p ≡ o
-same_opening p o e = cc
-
 -- it places no stripe, and a line of which nothing was placed may be opened by it
 kinds_stay : (s : Shape) (log : List Logged) (l : Logged) (line : ℕ) (o : Opening) (j : ℕ) (p : Placed) → HaveKinds s log → placements (log ++ l ∷ []) ≡ placements log → (life_of log line ≡ Opened o) ⊎ (o.number ≡ length log)
     → slice_get (stripes_of (log ++ l ∷ []) o) j ≡ Some p → HasKind s (takes (log ++ l ∷ [])) o j p.stripe.blocks
@@ -157,12 +147,6 @@ kinds_stay s log l line o j p was same (inl life) there = more_taken s log l o j
 kinds_stay s log l line o j p was same (inr number) there =
     absurd (none-some p (sym (ap₂ (λ (ps : List Placed) n. slice_get (filter (λ (q : Placed). is_life n q.life) ps) j) same number
     ∙ ap (λ (ps : List Placed). slice_get ps j) (filter_none (λ (q : Placed). is_life (length log) q.life) (placements log) (placed_before log (length log) (le_refl (length log))))) ∙ there))
-
-stripe_behind : (log : List Logged) (stripe : Stripe) (knows : List ℕ) (o other : Opening) (b : Bool) → life_of log stripe.line ≡ Opened o → is_life other.number (Opened o) ≡ b
-    → stripes_of (with_place log stripe knows) other ≡ stripes_of log other ++ cond b (new_placed log stripe o ∷ []) []
-stripe_behind log stripe knows o other b opened is =
-    ap (filter (λ (p : Placed). is_life other.number p.life)) (placements_now log stripe knows o opened)
-    ∙ filter_last (λ (p : Placed). is_life other.number p.life) (placements log) (new_placed log stripe o) b is
 
 kinds_placed : (i : Image) (us : ℕ → List ℕ) (w : World) (knows : List ℕ) (stripe : Stripe) → IsNextEvent i us w 0 (record { event = Decides (Place stripe); knows = knows }) → HaveKinds i.shape (log_of w 0)
     → (line : ℕ) (o : Opening) → life_of (log_of w 0) line ≡ Opened o → (j : ℕ) (p : Placed) → slice_get (stripes_of (with_place (log_of w 0) stripe knows) o) j ≡ Some p

@@ -1,5 +1,5 @@
 -- The open lines of a core once a stripe has landed.
-use Rattle.std.proofs.Common.{◌≡◌, ℕ, ◌+◌, ◌-◌, ◌<◌, ◌≤◌, ◌&&◌, zero, suc, Bool, true, false, cond, Some, None, Option, List, [], ◌∷◌, length, replicate, refl, sym, ap, ◌∙◌, arith, length-append}
+use Rattle.std.proofs.Common.{◌≡◌, ℕ, ◌+◌, ◌-◌, ◌<◌, ◌≤◌, ◌&&◌, zero, suc, Bool, true, false, cond, Some, List, [], ◌∷◌, length, replicate, refl, sym, ap, ◌∙◌, arith, length-append}
 use Rattle.std.specs.Prelude.{slice_get, slice_set, map}
 use Rattle.std.specs.List.{filter, list_all}
 use Rattle.std.proofs.lemmas.List.{length-map, length-replicate}
@@ -8,21 +8,23 @@ use Rattle.std.proofs.lemmas.Option.{same_Some, none-some, slice_get_within}
 use Rattle.pblk_model.specs.Image.{Image}
 use Rattle.pblk_world.specs.Events.{Logged}
 use Rattle.pblk_world.specs.World.{World, Logs, log_of}
-use Rattle.pblk_world.specs.EngineLog.{Opening, answer_of, has_landed, is_land, Answer, DidLand, WasLost, Placed, stripes_of}
+use Rattle.pblk_world.specs.EngineLog.{Opening, answer_of, has_landed, Placed, stripes_of}
 use Rattle.stripe_placer.specs.OpenLines as line
-use Rattle.stripe_placer.specs.OpenLines.{OpenLine, has_left, is_landed, in_line}
-use Rattle.stripe_placer.specs.OpenLines.Stripe.{Unplaced, Unanswered, Lost}
+use Rattle.stripe_placer.specs.OpenLines.{is_landed}
+use Rattle.stripe_placer.specs.OpenLines.Stripe.{Unplaced, Unanswered}
 use Rattle.stripe_placer.specs.OpenLines.Stripe.{Landed as HasLanded}
 use Rattle.stripe_placer.specs.Placing.{Program}
 use Rattle.stripe_placer.proofs.Among.{IsAmong}
-use Rattle.core_laws.specs.OpenedLines.{open_line, by_answer}
+use Rattle.core_laws.specs.OpenedLines.{open_line}
 use Rattle.core_laws.specs.PlainWorlds.{IsPlainWorld}
+use Rattle.core_laws.proofs.Lists.{got_within as within_some, filter_short as short}
 use Rattle.line_laws.specs.LandedStripes.{landed_count}
-use Rattle.media_laws.proofs.Found.{within_some}
 use Rattle.placed_laws.specs.LeftOpenings.{left_openings}
 use Rattle.placed_laws.proofs.LeftLines.{left_apart}
 use Rattle.placing_laws.proofs.Forms.{formed, answered_as}
 use Rattle.placing_laws.proofs.InOrder.{stripe_count}
+use Rattle.placing_laws.proofs.NextStripes.{landed_is as landed_by}
+use Rattle.landing_laws.proofs.Latest.{set_length}
 use Rattle.pblk_core.specs.Slots.{IsSlot}
 use Rattle.pblk_core.specs.Stands.{Stands, IsOpenLine}
 use Rattle.pblk_core.specs.declared.target_core.Core.{Core}
@@ -86,18 +88,6 @@ found_slot i w c o ln result own st has inside its first = go has.k refl
 
 -- ---- counting stripes
 
-pub short : {X : Type 0} (f : X → Bool) (xs : List X) → length (filter f xs) ≤ length xs
-short f [] = omega arith
-short f (x ∷ xs) = let h : length (filter f xs) ≤ length xs = short f xs in elim (f x) as (λ b. length (cond b (x ∷ filter f xs) (filter f xs)) ≤ length (x ∷ xs)) [ true ↦ omega arith | false ↦ omega arith ]
-
-pub all_pass : {X : Type 0} (f : X → Bool) (xs : List X) → length (filter f xs) ≡ length xs → list_all f xs ≡ true
-all_pass f [] e = refl
-all_pass {X} f (x ∷ xs) e = go (f x) (short f xs) e (all_pass f xs)
-  where
-    go : (b : Bool) → length (filter f xs) ≤ length xs → length (cond b (x ∷ filter f xs) (filter f xs)) ≡ length (x ∷ xs) → (length (filter f xs) ≡ length xs → list_all f xs ≡ true) → (b && list_all f xs) ≡ true
-    go true h e rest = rest (omega arith)
-    go false h e rest = absurd (omega arith)
-
 pub not_all_pass : {X : Type 0} (f : X → Bool) (xs : List X) → length (filter f xs) < length xs → list_all f xs ≡ false
 not_all_pass f [] e = absurd (omega arith)
 not_all_pass {X} f (x ∷ xs) e = go (f x) e (not_all_pass f xs)
@@ -119,11 +109,6 @@ one_more_passes {X} f (z ∷ xs) (suc k) x y at fails passes = go (f z) (one_mor
     go true h = omega arith
     go false h = h
 
-pub set_length : {X : Type 0} (xs : List X) (k : ℕ) (y : X) → length (slice_set xs k y) ≡ length xs
-set_length [] k y = refl
-set_length (x ∷ xs) zero y = refl
-set_length (x ∷ xs) (suc k) y = ap suc (set_length xs k y)
-
 mapped_count : {X Y : Type 0} (f : Y → Bool) (g : X → Y) (h : X → Bool) → ((x : X) → f (g x) ≡ h x) → (xs : List X) → length (filter f (map g xs)) ≡ length (filter h xs)
 mapped_count f g h same [] = refl
 mapped_count {X} f g h same (x ∷ xs) = ap (λ b. length (cond b (g x ∷ filter f (map g xs)) (filter f (map g xs)))) (same x) ∙ go (h x) (mapped_count f g h same xs)
@@ -135,11 +120,6 @@ mapped_count {X} f g h same (x ∷ xs) = ap (λ b. length (cond b (g x ∷ filte
 none_counted : (n : ℕ) → length (filter is_landed (replicate n Unplaced)) ≡ 0
 none_counted zero = refl
 none_counted (suc n) = none_counted n
-
-landed_by : (a : Option Answer) → is_landed (by_answer a) ≡ is_land a
-landed_by None = refl
-landed_by (Some (DidLand e)) = refl
-landed_by (Some (WasLost e)) = refl
 
 answered_landed : (log : List Logged) (p : Placed) → is_landed (answered_as log p) ≡ has_landed log p
 unfolding answered_as

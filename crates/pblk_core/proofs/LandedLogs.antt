@@ -1,5 +1,5 @@
 -- What the logs say once a stripe has landed: what stays, and which program it was.
-use Rattle.std.proofs.Common.{◌≡◌, ◌≢◌, ℕ, ◌+◌, ◌<◌, ◌≤◌, ◌==◌, zero, suc, nat_lt, nat_eq, if◌then◌else◌, Bool, true, false, cond, Some, Option, None, List, [], ◌∷◌, ◌++◌, length, refl, sym, ap, ap₂, ◌∙◌, arith, append-nil, length-append}
+use Rattle.std.proofs.Common.{◌≡◌, ◌≢◌, ℕ, ◌+◌, ◌<◌, ◌≤◌, ◌==◌, zero, suc, nat_lt, nat_eq, if◌then◌else◌, Bool, true, false, cond, Some, Option, None, List, [], ◌∷◌, length, refl, sym, ap, ap₂, ◌∙◌, arith, append-nil, length-append}
 use Rattle.std.specs.Prelude.{slice_get, is_some}
 use Rattle.std.specs.List.{filter, range_with_len}
 use Rattle.std.specs.Option.{option_map}
@@ -20,14 +20,13 @@ use Rattle.pblk_world.specs.EngineLog.{Begun, begun, placements, DidLand, Openin
 use Rattle.pblk_world.specs.Space.{freed}
 use Rattle.pblk_world.specs.Lines.{known_image, told_by}
 use Rattle.pblk_layout.specs.Live.{is_live}
-use Rattle.pblk_world.proofs.Appending.{takes_more, openings_more, life_more}
+use Rattle.pblk_world.proofs.Appending.{takes_more, openings_more}
 use Rattle.core_laws.specs.Stepping.{after}
-use Rattle.core_laws.specs.OpenedLines.{bits_of, live_now, opened_units, standing}
+use Rattle.core_laws.specs.OpenedLines.{bits_of, live_now, opened_units}
 use Rattle.core_laws.specs.PlacerOf.{unanswered_on}
 use Rattle.core_laws.specs.PlainWorlds.{IsPlainWorld}
 use Rattle.core_laws.proofs.Answered.{IsAnswer}
 use Rattle.core_laws.proofs.Engine.{prefix_same}
-use Rattle.core_laws.proofs.Steady.{standing_same}
 use Rattle.landing_laws.proofs.FreedFront.{freed_rises}
 use Rattle.landing_laws.proofs.LandedStripe.{is_answer}
 use Rattle.core_laws.proofs.Lists.{all_at}
@@ -41,9 +40,6 @@ use Rattle.pblk_core.proofs.KnownAfter.{told_after, untold_after, beside_after}
 use Rattle.pblk_core.proofs.LandedProgram.{IsItsProgram, landed_program}
 use Rattle.pblk_core.specs.Stands.{under_way}
 
-landed_log : List Logged → ℕ → ℕ → List ℕ → List Logged
-landed_log log unit event knows = log ++ record { event = Decides (Landed unit event); knows = knows } ∷ []
-
 -- ---- what stays
 
 pub takes_landed : (logs : Logs) (unit event : ℕ) (knows : List ℕ) → takes (after logs (Landed unit event) knows 0) ≡ takes (logs 0)
@@ -51,10 +47,6 @@ takes_landed logs unit event knows = takes_more (logs 0) (record { event = Decid
 
 pub openings_landed : (logs : Logs) (unit event : ℕ) (knows : List ℕ) → openings (after logs (Landed unit event) knows 0) ≡ openings (logs 0)
 openings_landed logs unit event knows = openings_more (logs 0) (record { event = Decides (Landed unit event); knows = knows }) ∙ append-nil (openings (logs 0))
-
-pub standing_landed : (logs : Logs) (unit event : ℕ) (knows : List ℕ) → standing (after logs (Landed unit event) knows 0) ≡ standing (logs 0)
-standing_landed logs unit event knows = standing_same (logs 0) (after logs (Landed unit event) knows 0) (openings_landed logs unit event knows)
-    (λ line. life_more (logs 0) (record { event = Decides (Landed unit event); knows = knows }) line)
 
 pub users_landed : (logs : Logs) (unit event : ℕ) (knows : List ℕ) → user_takes (after logs (Landed unit event) knows 0) ≡ user_takes (logs 0)
 users_landed logs unit event knows = ap (filter (λ (t : Taken). is_users t.entry.source)) (takes_landed logs unit event knows)

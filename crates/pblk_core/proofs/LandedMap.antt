@@ -16,7 +16,7 @@ use Rattle.pblk_world.specs.EngineLog.{bears_position}
 use Rattle.l2p_map.specs.declared.slot.Slot.{Slot}
 use Rattle.l2p_map.specs.declared.slot.Slot.TheVariants.{Cached, Media}
 use Rattle.core_laws.proofs.Rows.{same_number, other_number}
-use Rattle.core_laws.proofs.Placing.{is_below}
+use Rattle.stripe_placer.proofs.Chunks.{lt_yes as is_below}
 use Rattle.pblk_core.specs.Readable.{ReadBlock, is_cached, moved, all_moved}
 use Rattle.pblk_core.proofs.LandedEntries.{read_of}
 

@@ -20,18 +20,19 @@ use Rattle.core_laws.specs.OpenedLines.{open_line, standing, bits_of}
 use Rattle.core_laws.specs.PlacerOf.{IsAwaited}
 use Rattle.core_laws.specs.PlainWorlds.{IsPlainWorld}
 use Rattle.core_laws.specs.Stepping.{after}
-use Rattle.core_laws.proofs.Lists.{all_at, all_filter}
+use Rattle.core_laws.proofs.Lists.{all_at, all_filter, got_within as within_some}
 use Rattle.core_laws.proofs.Rows.{same_number, other_number}
 use Rattle.core_laws.proofs.Steady.{standing_before}
 use Rattle.core_laws.proofs.Turns.{filtered_is}
 use Rattle.line_laws.specs.LandedStripes.{landed_count}
-use Rattle.line_laws.proofs.LandedCounts.{one_landed, count_beside}
-use Rattle.media_laws.proofs.Found.{within_some}
+use Rattle.line_laws.proofs.LandedCounts.{one_landed, count_beside, count_all as all_pass}
 use Rattle.placed_laws.specs.LeftOpenings.{left_openings}
 use Rattle.placed_laws.proofs.LeftLines.{left_apart, left_opened}
 use Rattle.placed_laws.proofs.LandedLines.{left_until_landed, left_after_landing}
 use Rattle.placed_laws.proofs.StandingOpenings.{life_there, opening_at}
 use Rattle.placing_laws.proofs.InOrder.{stripe_count}
+use Rattle.landing_laws.proofs.Latest.{set_length}
+use Rattle.prefix_law.proofs.Taking.{all_pass as keeps_all}
 use Rattle.pblk_core.specs.LineRecords.{AreOf}
 use Rattle.pblk_core.specs.Slots.{IsSlot, landed_slot}
 use Rattle.pblk_core.specs.Stands.{IsOpenLine, AreOpenLines, unlanded}
@@ -39,7 +40,7 @@ use Rattle.pblk_core.specs.declared.open_lines.OpenLine.{OpenLine as KeptLine}
 use Rattle.pblk_core.specs.declared.open_lines.OpenLines.{OpenLines}
 use Rattle.pblk_core.proofs.LandedLogs.{stripes_landed, units_landed}
 use Rattle.pblk_core.proofs.LandedWay.{IsOnWay, waits_there, line_of_way, stripe_number, unit_is}
-use Rattle.pblk_core.proofs.LandedLines.{HasSlot, all_pass, not_all_pass, one_more_passes, set_length, landed_are, stripes_are}
+use Rattle.pblk_core.proofs.LandedLines.{HasSlot, not_all_pass, one_more_passes, landed_are, stripes_are}
 use Rattle.pblk_core.proofs.LineUnits.{now_units}
 
 -- ---- which openings are left
@@ -91,10 +92,6 @@ own_more i w unit of is few =
     ∙ ap not (not_all_pass is_landed (slice_set (open_line i (log_of w) is.row.opening).stripes is.number HasLanded) (omega arith))
 
 -- ---- lists of at most two
-
-keeps_all : {X : Type 0} (f : X → Bool) (xs : List X) → ((m : ℕ) (x : X) → slice_get xs m ≡ Some x → f x ≡ true) → filter f xs ≡ xs
-keeps_all f [] each = refl
-keeps_all f (x ∷ xs) each = ap (λ b. cond b (x ∷ filter f xs) (filter f xs)) (each 0 x refl) ∙ ap (λ ys. x ∷ ys) (keeps_all f xs (λ m y e. each (suc m) y e))
 
 pub record DropsOne {X : Type 0} (f : X → Bool) (xs : List X) (k : ℕ) : Type 0 where
   pub count : length (filter f xs) + 1 ≡ length xs

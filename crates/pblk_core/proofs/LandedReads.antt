@@ -1,35 +1,32 @@
 -- What becomes readable once a program has landed, by the blocks of its chunk.
-use Rattle.std.proofs.Common.{◌≡◌, ◌⊎◌, ℕ, ◌+◌, ◌-◌, ◌*◌, ◌<◌, ◌≤◌, ◌==◌, zero, suc, nat_eq, if◌then◌else◌, Bool, true, false, cond, Some, List, [], ◌∷◌, length, take, drop, refl, sym, ap, ap₂, ◌∙◌, arith, inl, inr, length-drop}
+use Rattle.std.proofs.Common.{◌≡◌, ℕ, ◌+◌, ◌-◌, ◌*◌, ◌<◌, ◌≤◌, ◌==◌, suc, nat_eq, if◌then◌else◌, Bool, true, false, cond, Some, List, [], ◌∷◌, length, take, drop, refl, sym, ap, ap₂, ◌∙◌, arith, length-drop}
 use Rattle.std.specs.Prelude.{slice_get, is_some}
 use Rattle.std.specs.List.{AllByRecursion, enumerate_from, filter, filter_map, range_with_len}
-use Rattle.std.proofs.lemmas.Bool.{cases_order}
 use Rattle.std.proofs.lemmas.List.{length-take-le}
-use Rattle.std.proofs.lemmas.Option.{same_Some, slice_get_within}
+use Rattle.std.proofs.lemmas.Option.{slice_get_within}
 use Rattle.pblk_model.specs.declared.shape.Shape.{Shape}
 use Rattle.pblk_model.specs.Chunk.{Block}
 use Rattle.pblk_model.specs.Image.{Image}
 use Rattle.pblk_model.specs.Records.{named}
 use Rattle.pblk_world.specs.Events.{Landed, Logged}
 use Rattle.pblk_world.specs.World.{World, log_of}
-use Rattle.pblk_world.specs.EngineLog.{Opening, Taken, takes, Placed, placements, placed_on, stripes_on, has_landed}
+use Rattle.pblk_world.specs.EngineLog.{Opening, Taken, takes, Placed, stripes_on, has_landed}
 use Rattle.pblk_world.specs.Space.{landed_blocks}
-use Rattle.stripe_placer.proofs.Among.{IsAmong, in_filter}
+use Rattle.stripe_placer.proofs.Among.{IsAmong}
 use Rattle.stripe_placer.specs.Placing.{Program}
 use Rattle.core_laws.specs.Stepping.{after}
 use Rattle.core_laws.specs.PlainWorlds.{IsPlainWorld}
 use Rattle.core_laws.proofs.Lists.{all_at}
-use Rattle.core_laws.proofs.Rows.{same_number, other_number}
+use Rattle.core_laws.proofs.Rows.{other_number}
 use Rattle.landing_laws.specs.ChunkBlocks.{chunk_blocks, newly_readable, readable_blocks}
 use Rattle.landing_laws.specs.ReadSlots.{address_of_block}
-use Rattle.landing_laws.proofs.Turns.{rise_from, rise_filtered}
-use Rattle.landing_laws.proofs.LandedBlocks.{on_new, on_rises, blocks_more}
+use Rattle.landing_laws.proofs.LandedBlocks.{on_new, blocks_more}
 use Rattle.landing_laws.proofs.LandedWindow.{landed_now}
 use Rattle.landing_laws.proofs.GivenBack.{IsLandedNow, of_unit_landed}
 use Rattle.landing_laws.proofs.GivenNow.{chunk_unit, IsOfChunk, chunk_members}
-use Rattle.landing_laws.proofs.NewlyRead.{rises_at}
-use Rattle.landing_laws.proofs.NewBlocks.{IsNewest}
+use Rattle.landing_laws.proofs.NewBlocks.{last_in_chunk}
 use Rattle.landing_laws.proofs.NewWindow.{newest_in}
-use Rattle.media_laws.proofs.Columns.{blocks_count}
+use Rattle.media_laws.proofs.LineColumns.{blocks_count}
 use Rattle.pblk_core.specs.Readable.{block_reads, reads_of}
 use Rattle.pblk_core.specs.declared.open_lines.OpenLine.{OpenLine}
 use Rattle.pblk_core.proofs.LandedCore.{in_row, block_is}
@@ -38,40 +35,6 @@ use Rattle.pblk_core.proofs.ChunkRows.{rows_of_chunks}
 use Rattle.pblk_core.proofs.LandedWay.{IsOnWay}
 
 -- ---- the stripe is the last of its chunk, and all before it have landed
-
-some_at : {X : Type 0} (xs : List X) (m : ℕ) → m < length xs → (x : X) × (slice_get xs m ≡ Some x)
-some_at [] m inside = absurd (omega arith)
-some_at (x ∷ xs) zero inside = (x, refl)
-some_at (x ∷ xs) (suc m) inside = some_at xs m (omega arith)
-
-none_newer : (log : List Logged) (p r : Placed) → IsNewest log p → IsAmong (placed_on log p.stripe.unit) r → r.number ≤ p.number
-none_newer log p r is there = go (cases_order there.0 is.index)
-  where
-    go : (there.0 ≡ is.index) ⊎ ((there.0 < is.index) ⊎ (is.index < there.0)) → r.number ≤ p.number
-    go (inl same) =
-        let equal : r.number ≡ p.number = ap (λ (x : Placed). x.number) (same_Some r p (sym there.1 ∙ ap (slice_get (placed_on log p.stripe.unit)) same ∙ is.at)) in
-        omega arith
-    go (inr (inl below)) =
-        let less : r.number < p.number = rises_at (placed_on log p.stripe.unit) there.0 is.index r p (rise_filtered (λ (x : Placed). x.stripe.unit == p.stripe.unit) (placements log) (rise_from log 0 log)) there.1 is.at below in
-        omega arith
-    go (inr (inr above)) =
-        let inside : there.0 < length (placed_on log p.stripe.unit) = slice_get_within (placed_on log p.stripe.unit) there.0 r there.1 in
-        let last : length (placed_on log p.stripe.unit) ≤ is.index + 1 = is.last in
-        absurd (omega arith)
-
-last_in_chunk : (log : List Logged) (p : Placed) (o : Opening) (k : ℕ) → IsNewest log p → slice_get (stripes_on log o p.stripe.unit) k ≡ Some p → length (stripes_on log o p.stripe.unit) ≤ k + 1
-last_in_chunk log p o k is at = go (cases_order (length (stripes_on log o p.stripe.unit)) (k + 1))
-  where
-    go : (length (stripes_on log o p.stripe.unit) ≡ k + 1) ⊎ ((length (stripes_on log o p.stripe.unit) < k + 1) ⊎ (k + 1 < length (stripes_on log o p.stripe.unit))) → length (stripes_on log o p.stripe.unit) ≤ k + 1
-    go (inl same) = omega arith
-    go (inr (inl below)) = omega arith
-    go (inr (inr above)) =
-        let next : (r : Placed) × (slice_get (stripes_on log o p.stripe.unit) (k + 1) ≡ Some r) = some_at (stripes_on log o p.stripe.unit) (k + 1) above in
-        let newer : p.number < next.0.number = rises_at (stripes_on log o p.stripe.unit) k (k + 1) p next.0 (on_rises log o p.stripe.unit) at next.1 (omega arith) in
-        let of : IsOfChunk log p o next.0 = all_at (IsOfChunk log p o) (stripes_on log o p.stripe.unit) (k + 1) next.0 next.1 (chunk_members log p o) in
-        let older : next.0.number ≤ p.number = none_newer log p next.0 is
-        (in_filter (λ (x : Placed). x.stripe.unit == p.stripe.unit) (placements log) next.0 of.among (ap (λ u. u == p.stripe.unit) (chunk_unit p o next.0 of.of) ∙ same_number p.stripe.unit)) in
-        absurd (omega arith)
 
 all_kept : {X : Type 0} (f : X → Bool) (xs : List X) → ((k : ℕ) (x : X) → slice_get xs k ≡ Some x → f x ≡ true) → length (filter f xs) ≡ length xs
 all_kept f [] each = refl

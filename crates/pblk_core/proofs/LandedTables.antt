@@ -38,7 +38,7 @@ use Rattle.landing_laws.proofs.LandedStripe.{landed_at_now}
 use Rattle.landing_laws.proofs.NewBlocks.{any_member}
 use Rattle.landing_laws.proofs.NewWindow.{window_by_new, slot_by_new}
 use Rattle.landing_laws.proofs.WindowSteps.{reads_more}
-use Rattle.core_laws.proofs.Lists.{all_at}
+use Rattle.core_laws.proofs.Lists.{all_at, range_get}
 use Rattle.placed_laws.proofs.Placed.{range_dropped, stripe_holds}
 use Rattle.pblk_core.specs.Landing.{all_landed}
 use Rattle.pblk_core.specs.Readable.{ReadBlock, all_moved, all_readable, reads_of}
@@ -111,11 +111,6 @@ has_both false g false = refl
 has_both false g true = refl
 has_both true false h = refl
 has_both true true h = refl
-
-range_get : (a n k : ℕ) → k < n → slice_get (range_with_len a n) k ≡ Some (a + k)
-range_get a zero k h = absurd (omega arith)
-range_get a (suc n) zero h = let same : a ≡ a + 0 = omega arith in ap Some same
-range_get a (suc n) (suc k) h = let same : a + 1 + k ≡ a + suc k = omega arith in range_get (a + 1) n k (omega arith) ∙ ap Some same
 
 mapped_some : {X : Type 0} (f : X → ℕ) (o : Option X) (n : ℕ) → option_map f o ≡ Some n → (x : X) × (o ≡ Some x) × (f x ≡ n)
 mapped_some f None n e = absurd cc

@@ -1,5 +1,5 @@
 -- A program under way in a core's placer, by the logs: its stripe, and which one of its line it is.
-use Rattle.std.proofs.Common.{◌≡◌, ℕ, ◌+◌, ◌-◌, ◌*◌, ◌/◌, ◌%◌, ◌<◌, ◌≤◌, ◌==◌, ◌&&◌, ◌||◌, Bool, true, false, Some, None, Option, List, [], ◌∷◌, ◌++◌, zero, suc, length, replicate, refl, sym, subst, ap, ap₂, ◌∙◌, arith, zero-add}
+use Rattle.std.proofs.Common.{◌≡◌, ℕ, ◌+◌, ◌-◌, ◌*◌, ◌/◌, ◌%◌, ◌<◌, ◌≤◌, ◌==◌, ◌&&◌, Bool, true, Some, None, Option, List, [], length, replicate, refl, sym, subst, ap, ap₂, ◌∙◌, arith, zero-add}
 use Rattle.std.specs.Prelude.{slice_get, map}
 use Rattle.std.specs.List.{list_any, range_with_len, slice_index_or}
 use Rattle.std.specs.Option.{option_map, option_map_or, unwrap_or}
@@ -11,6 +11,7 @@ use Rattle.std.proofs.Math.Nat.{mul-div_cancel}
 use Rattle.pblk_model.specs.declared.shape.Shape.{Shape}
 use Rattle.pblk_model.specs.Shape.{units}
 use Rattle.pblk_model.specs.Image.{Image}
+use Rattle.pblk_model.proofs.OrderedBlocks.{get_front as get_first}
 use Rattle.pblk_layout.specs.Live.{units_in}
 use Rattle.pblk_world.specs.Events.{Stripe, Logged}
 use Rattle.pblk_world.specs.World.{World, Logs, log_of}
@@ -28,9 +29,10 @@ use Rattle.core_laws.specs.PlainWorlds.{IsPlainWorld}
 use Rattle.core_laws.proofs.Lists.{all_at}
 use Rattle.core_laws.proofs.Rows.{row_at, same_number, under_way_is}
 use Rattle.core_laws.proofs.Stripes.{at_its_place, find_only, not_at}
+use Rattle.core_laws.proofs.Tests.{first_of as and_first, or_right as or_second}
+use Rattle.core_laws.proofs.Answered.{first_unanswered}
 use Rattle.landing_laws.proofs.LandedStripe.{one_more}
 use Rattle.landing_laws.proofs.NewBlocks.{any_member}
-use Rattle.landing_laws.proofs.Turns.{first_unanswered}
 use Rattle.line_laws.specs.InOrder.{IsInPlace}
 use Rattle.line_laws.proofs.Orders.{in_order}
 use Rattle.placed_laws.specs.LeftOpenings.{left_openings}
@@ -149,19 +151,6 @@ on_way i w unit of plain row =
     }
 
 -- ---- the program is awaited
-
-get_first : {X : Type 0} (xs ys : List X) (k : ℕ) → k < length xs → slice_get (xs ++ ys) k ≡ slice_get xs k
-get_first [] ys k h = absurd (omega arith)
-get_first (x ∷ xs) ys zero h = refl
-get_first (x ∷ xs) ys (suc k) h = get_first xs ys k (omega arith)
-
-or_second : (a b : Bool) → b ≡ true → (a || b) ≡ true
-or_second true b e = refl
-or_second false b e = e
-
-and_first : (a b : Bool) → (a && b) ≡ true → a ≡ true
-and_first true b e = refl
-and_first false b e = absurd cc
 
 pub waits_there : (i : Image) (w : World) (unit : ℕ) (of : Program) → (is : IsOnWay i w unit of) → slice_get (open_line i (log_of w) is.row.opening).stripes is.number ≡ Some Unanswered
 unfolding answered_as

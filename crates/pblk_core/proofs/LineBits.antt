@@ -1,5 +1,5 @@
 -- The bits of the units of a line.
-use Rattle.std.proofs.Common.{◌≡◌, ℕ, ◌+◌, ◌-◌, ◌^◌, ◌<◌, ◌≤◌, zero, suc, Bool, true, false, cond, List, [], ◌∷◌, ◌++◌, length, refl, sym, subst, ap, ◌∙◌, arith, append-nil}
+use Rattle.std.proofs.Common.{◌≡◌, ℕ, ◌+◌, ◌-◌, ◌^◌, ◌<◌, ◌≤◌, zero, suc, Bool, false, cond, List, [], ◌∷◌, ◌++◌, length, refl, sym, subst, ap, ◌∙◌, arith, append-nil}
 use Rattle.std.specs.Prelude.{slice_get}
 use Rattle.std.specs.List.{filter, range_with_len}
 use Rattle.std.specs.Option.{option_map_or}
@@ -14,6 +14,7 @@ use Rattle.pblk_world.specs.World.{World, Logs}
 use Rattle.pblk_world.specs.Lines.{known_image}
 use Rattle.core_laws.specs.OpenedLines.{bits_of}
 use Rattle.core_laws.specs.PlainWorlds.{IsPlainWorld}
+use Rattle.core_laws.proofs.Lists.{filter_short}
 use Rattle.placed_laws.proofs.KnownChunks.{length_known}
 use Rattle.placing_laws.proofs.KeptLines.{few_units}
 use Rattle.placing_laws.proofs.Units.{bits_back, units_are}
@@ -50,10 +51,6 @@ known_count i w ls plain = length_known i ls ∙ plain.fit.units
 
 pub known_bits : (i : Image) (w : World) (ls : Logs) (line : ℕ) → IsPlainWorld i w → bits_of (line_units (known_image i ls) line) < 2 ^ units i.shape
 known_bits i w ls line plain = subst (λ n. bits_of (line_units (known_image i ls) line) < 2 ^ n) (known_count i w ls plain) (bits_few (known_image i ls) line (few_units i w ls plain))
-
-filter_short : {X : Type 0} (f : X → Bool) (xs : List X) → length (filter f xs) ≤ length xs
-filter_short f [] = omega arith
-filter_short f (x ∷ xs) = let h : length (filter f xs) ≤ length xs = filter_short f xs in elim (f x) as (λ b. length (cond b (x ∷ filter f xs) (filter f xs)) ≤ length (x ∷ xs)) [ true ↦ omega arith | false ↦ omega arith ]
 
 range_length : (a n : ℕ) → length (range_with_len a n) ≡ n
 range_length a zero = refl

@@ -1,9 +1,8 @@
 -- The units of the lines that a mount opened, as they are known: those of each opened line stay as they were when it was opened.
-use Rattle.std.proofs.Common.{◌≡◌, ℕ, ◌+◌, ◌<◌, ◌≤◌, suc, zero, true, Some, None, Option, List, [], ◌∷◌, length, map, take, refl, sym, ap, ap₂, ◌∙◌, arith}
+use Rattle.std.proofs.Common.{◌≡◌, ℕ, ◌<◌, ◌≤◌, true, Some, List, length, take, sym, ap, ◌∙◌, arith}
 use Rattle.std.specs.Prelude.{slice_get}
-use Rattle.std.specs.List.{AllByRecursion, enumerate_from, range_with_len}
-use Rattle.std.specs.Option.{option_and_then}
-use Rattle.std.proofs.lemmas.Option.{same_Some, none-some, slice_get_within}
+use Rattle.std.specs.List.{AllByRecursion, enumerate_from}
+use Rattle.std.proofs.lemmas.Option.{same_Some, none-some}
 use Rattle.pblk_model.specs.Image.{Image, line_units}
 use Rattle.pblk_world.specs.Events.{Event, Decides, Place, Logged}
 use Rattle.pblk_world.specs.World.{World, Logs, log_of}
@@ -12,13 +11,14 @@ use Rattle.pblk_world.specs.Victims.{engine_prefix}
 use Rattle.pblk_world.specs.Lines.{known_image}
 use Rattle.core_laws.specs.OpenedLines.{as_opened, bits_of}
 use Rattle.core_laws.specs.PlainWorlds.{IsPlainWorld}
-use Rattle.core_laws.proofs.Lists.{all_at, fun_same}
-use Rattle.core_laws.proofs.Numbers.{opens, life_at}
+use Rattle.core_laws.proofs.Lists.{all_at}
 use Rattle.core_laws.proofs.Placing.{weaker}
+use Rattle.core_laws.proofs.Opening.{all_made}
+use Rattle.core_laws.proofs.PlacedLines.{life_is_before as opened_before}
 use Rattle.line_laws.specs.InOrder.{IsInPlace}
 use Rattle.line_laws.proofs.Orders.{in_order}
-use Rattle.line_laws.proofs.Winners.{all_made}
-use Rattle.placed_laws.proofs.KnownImages.{cut_cut}
+use Rattle.placed_laws.proofs.TwoLines.{prefix_prefix as prefix_twice}
+use Rattle.media_laws.proofs.LinePlaces.{take_few as short_take}
 
 -- the units of each line, as they are known
 abbrev pub now_units : Image → World → ℕ → List ℕ
@@ -36,18 +36,6 @@ then_by log number e p h = absurd (none-some p h)
 placed_then : (log : List Logged) → AllByRecursion (λ (p : Placed). p.life ≡ life_of (take p.number log) p.stripe.line) (placements log)
 placed_then log = all_made (λ (e : ℕ × Logged). placed_by log e.0 e.1.event) (λ (p : Placed). p.life ≡ life_of (take p.number log) p.stripe.line) (λ e p h. then_by log e.0 e.1.event p h) (enumerate_from 0 log)
 
-opened_before : (log : List Logged) (line : ℕ) (o : Opening) → life_of log line ≡ Opened o → o.number < length log
-opened_before log line o life = go (slice_get log o.number) refl ((life_at log line o life).0)
-  where
-    go : (x : Option Logged) → slice_get log o.number ≡ x → option_and_then (λ (l : Logged). opens l.event) x ≡ Some line → o.number < length log
-    go None e is = absurd (none-some line is)
-    go (Some l) e is = slice_get_within log o.number l e
-
-short_take : {X : Type 0} (n : ℕ) (xs : List X) → length (take n xs) ≤ n
-short_take zero xs = omega arith
-short_take (suc n) [] = omega arith
-short_take (suc n) (x ∷ xs) = let rest : length (take n xs) ≤ n = short_take n xs in omega arith
-
 pub opened_earlier : (log : List Logged) (k : ℕ) (p : Placed) (o : Opening) → slice_get (placements log) k ≡ Some p → p.life ≡ Opened o → o.number ≤ p.number
 opened_earlier log k p o there life =
     let then_ : p.life ≡ life_of (take p.number log) p.stripe.line = all_at (λ (q : Placed). q.life ≡ life_of (take q.number log) q.stripe.line) (placements log) k p there (placed_then log) in
@@ -56,13 +44,6 @@ opened_earlier log k p o there life =
     omega arith
 
 -- ---- the line as it was opened, by a later prefix
-
-prefix_twice : (logs : Logs) (m n : ℕ) → m ≤ n → engine_prefix m (engine_prefix n logs) ≡ engine_prefix m logs
-prefix_twice logs m n within = fun_same (engine_prefix m (engine_prefix n logs)) (engine_prefix m logs) each
-  where
-    each : (author : ℕ) → engine_prefix m (engine_prefix n logs) author ≡ engine_prefix m logs author
-    each zero = cut_cut m n (logs 0) within
-    each (suc unit) = refl
 
 pub same_live : (i : Image) (logs : Logs) (o : Opening) (n : ℕ) → o.number ≤ n → (as_opened i (engine_prefix n logs) o).live ≡ (as_opened i logs o).live
 same_live i logs o n within = ap (λ (ls : Logs). bits_of (line_units (known_image i ls) o.line)) (prefix_twice logs o.number n within)
@@ -75,10 +56,3 @@ IsLiving log p = (life_of log p.stripe.line ≡ p.life) × (is_opened p.life ≡
 
 pub living : (i : Image) (w : World) → IsPlainWorld i w → AllByRecursion (IsLiving (log_of w 0)) (placements (log_of w 0))
 living i w plain = weaker (IsInPlace i (log_of w 0)) (IsLiving (log_of w 0)) (λ p is. (is.stands ∙ sym is.life, ap is_opened is.life)) (placements (log_of w 0)) (in_order i w plain).placed
-
--- ---- lists
-
--- two functions that are the same on a range
-pub same_in_range : {X : Type 0} (f g : ℕ → X) (a n : ℕ) → ((k : ℕ) → k < a + n → f k ≡ g k) → map f (range_with_len a n) ≡ map g (range_with_len a n)
-same_in_range f g a zero each = refl
-same_in_range f g a (suc n) each = ap₂ (λ x xs. x ∷ xs) (each a (omega arith)) (same_in_range f g (a + 1) n (λ k inside. each k (omega arith)))

@@ -1,7 +1,7 @@
 -- The line in which a sector is live, by its slot.
-use Rattle.std.proofs.Common.{◌≡◌, ℕ, ◌+◌, ◌≤◌, ◌&&◌, ◌||◌, if◌then◌else◌, not, zero, suc, Bool, true, false, cond, Some, None, Option, List, [], ◌∷◌, length, refl, sym, subst, ap, ap₂, ◌∙◌, arith}
+use Rattle.std.proofs.Common.{◌≡◌, ℕ, ◌+◌, ◌≤◌, ◌&&◌, if◌then◌else◌, not, zero, suc, Bool, true, false, cond, Some, None, Option, List, [], ◌∷◌, length, refl, sym, subst, ap, ap₂, ◌∙◌, arith}
 use Rattle.std.specs.Prelude.{slice_get, ◌%◌}
-use Rattle.std.specs.List.{AllByRecursion, filter, find, list_any}
+use Rattle.std.specs.List.{filter, find}
 use Rattle.std.specs.Option.{option_map, option_map_or, option_and_then}
 use Rattle.std.proofs.lemmas.Option.{same_Some, none-some}
 use Rattle.pblk_model.specs.Image.{Image}
@@ -14,20 +14,23 @@ use Rattle.pblk_world.specs.Fronts.{last_take}
 use Rattle.pblk_world.specs.Lines.{found_image}
 use Rattle.pblk_world.specs.Space.{gives_back}
 use Rattle.pblk_world.specs.Victims.{is_in_force, line_of_position, line_of}
-use Rattle.media_laws.proofs.Images.{is_in}
 use Rattle.l2p_map.specs.declared.slot.Slot.TheVariants.{Cached}
 use Rattle.stripe_placer.proofs.Among.{IsAmong}
 use Rattle.core_laws.specs.PlainWorlds.{IsPlainWorld}
 use Rattle.core_laws.specs.SlotOf.{slot_of, slot_by, slot_of_entry, slot_of_winner, media_of}
 use Rattle.core_laws.specs.WindowOf.{is_given_back}
 use Rattle.core_laws.proofs.Rows.{same_number}
+use Rattle.core_laws.proofs.Lists.{is_in, find_agree}
+use Rattle.core_laws.proofs.Tests.{second_of as and_second}
+use Rattle.core_laws.proofs.Turns.{found_is as found_true}
 use Rattle.line_laws.proofs.Winners.{winner_starts}
 use Rattle.pblk_core.proofs.FoundLines.{started_as_found}
 use Rattle.pblk_core.proofs.LineUnits.{IsLiving, living}
 use Rattle.line_laws.proofs.PlainLogs.{none_lost}
-use Rattle.landing_laws.proofs.Growing.{and_second, given_holds}
+use Rattle.landing_laws.proofs.Growing.{given_holds}
 use Rattle.landing_laws.proofs.Cached.{last_is_among}
 use Rattle.landing_laws.proofs.HeldOnce.{held_once}
+use Rattle.landing_laws.proofs.Finding.{none_any}
 use Rattle.placed_laws.specs.EntryHolds.{placed_line}
 use Rattle.pblk_core.specs.declared.hold.Hold.{Hold}
 use Rattle.pblk_core.specs.declared.hold.Holds.{Holds}
@@ -35,30 +38,6 @@ use Rattle.pblk_core.specs.Holds.{line_of_slot}
 use Rattle.pblk_core.specs.Stands.{AreHolds}
 
 -- ---- lists
-
-find_agree : {X : Type 0} (P : X → Type 0) (f g : X → Bool) → ((x : X) → P x → f x ≡ g x) → (xs : List X) → AllByRecursion P xs → find f xs ≡ find g xs
-find_agree P f g same [] all = refl
-find_agree P f g same (x ∷ xs) all = ap₂ (λ b o. cond b (Some x) o) (same x all.0) (find_agree P f g same xs all.1)
-
-none_any_by : {X : Type 0} (f : X → Bool) (x : X) (xs : List X) (b : Bool) → f x ≡ b → find f (x ∷ xs) ≡ None → (find f xs ≡ None → list_any f xs ≡ false) → list_any f (x ∷ xs) ≡ false
-none_any_by f x xs true h e rest = absurd (none-some x (sym e ∙ ap (λ b. cond b (Some x) (find f xs)) h))
-none_any_by f x xs false h e rest = ap (λ b. b || list_any f xs) h ∙ rest (sym (ap (λ b. cond b (Some x) (find f xs)) h) ∙ e)
-
-pub none_any : {X : Type 0} (f : X → Bool) (xs : List X) → find f xs ≡ None → list_any f xs ≡ false
-none_any f [] e = refl
-none_any f (x ∷ xs) e = none_any_by f x xs (f x) refl e (none_any f xs)
-
-found_by : {X : Type 0} (f : X → Bool) (y : X) (xs : List X) (x : X) (b : Bool) → f y ≡ b → find f (y ∷ xs) ≡ Some x → (find f xs ≡ Some x → (f x ≡ true) × IsAmong xs x) → (f x ≡ true) × IsAmong (y ∷ xs) x
-found_by f y xs x true h e rest =
-    let same : y ≡ x = same_Some y x (sym (ap (λ b. cond b (Some y) (find f xs)) h) ∙ e) in
-    (subst (λ z. f z ≡ true) same h, (0, ap (λ z. Some z) same))
-found_by f y xs x false h e rest =
-    let at : (f x ≡ true) × IsAmong xs x = rest (sym (ap (λ b. cond b (Some y) (find f xs)) h) ∙ e) in
-    (at.0, (suc at.1.0, at.1.1))
-
-pub found_true : {X : Type 0} (f : X → Bool) (xs : List X) (x : X) → find f xs ≡ Some x → (f x ≡ true) × IsAmong xs x
-found_true f [] x e = absurd (none-some x e)
-found_true f (y ∷ xs) x e = found_by f y xs x (f y) refl e (found_true f xs x)
 
 filter_true : {X : Type 0} (f : X → Bool) (y : X) (xs : List X) → f y ≡ true → length (filter f (y ∷ xs)) ≡ length (filter f xs) + 1
 filter_true f y xs h = ap (λ b. length (cond b (y ∷ filter f xs) (filter f xs))) h ∙ omega arith

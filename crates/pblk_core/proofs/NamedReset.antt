@@ -16,10 +16,12 @@ use Rattle.pblk_world.specs.EngineLog.{Begun, begun, LineLife, AsFound, Opened, 
 use Rattle.pblk_world.specs.Lines.{found_by, found_image, known_image, is_stray, stray_lines, is_given_up_by, strays_of, is_given_up}
 use Rattle.pblk_world.specs.Victims.{is_freed}
 use Rattle.core_laws.specs.PlainWorlds.{IsPlainWorld}
+use Rattle.core_laws.proofs.Tests.{first_of as and_first}
 use Rattle.line_laws.proofs.PlainLogs.{none_freed}
-use Rattle.found_laws.proofs.Began.{began_strays}
+use Rattle.opening_laws.proofs.FoundImages.{found_strays}
 use Rattle.begin_laws.proofs.Lists.{any_passed}
 use Rattle.stripe_placer.specs.Placing.{next_stripe}
+use Rattle.prefix_law.proofs.Starting.{none_of as no_some}
 use Rattle.pblk_core.specs.Named.{reset_or, choice, asks_line, has_free, may_open, named}
 use Rattle.pblk_core.specs.Resets.{is_used_state, is_used_in, used_units, units_to_reset, resets_of, resets_left, IsToReset}
 use Rattle.pblk_core.specs.declared.resets.LineChunk.{LineChunk}
@@ -27,7 +29,6 @@ use Rattle.pblk_core.specs.declared.target_core.Core.{Core}
 use Rattle.pblk_core.specs.declared.work.Work.{Work}
 use Rattle.pblk_core.specs.declared.work.Work.TheVariants.{Reset}
 use Rattle.pblk_core.proofs.FirstReset.{chunk_of, IsFirstOf, first_is, IsFirstPassed, first_passed}
-use Rattle.pblk_core.proofs.FoundLines.{and_first, no_some}
 
 -- ---- the core's work
 
@@ -126,7 +127,7 @@ given_as_found log line freed given = go (life_of log line) refl freed given
 pub given_unstarted : (i : Image) (w : World) (line : ℕ) (b : Begun) → IsPlainWorld i w → begun (log_of w 0) ≡ Some b → line < i.shape.chunks → is_given_up (log_of w 0) line ≡ true → start_of (found_image i (log_of w)) line ≡ None
 given_unstarted i w line b plain begins inside given =
     let strays : strays_of (log_of w 0) ≡ stray_lines (found_image i (log_of w)) =
-    ap (λ (o : Option Begun). option_map_or (λ (x : Begun). x.beginning.strays) o []) begins ∙ began_strays i w b plain.legal begins in
+    ap (λ (o : Option Begun). option_map_or (λ (x : Begun). x.beginning.strays) o []) begins ∙ found_strays i w b plain.legal begins in
     let among = (given_as_found (log_of w 0) line (none_freed (log_of w 0) plain.engine line) given).1 in
     let shape : (found_image i (log_of w)).shape ≡ i.shape = found_shape i (log_of w) in
     let stray : is_stray (found_image i (log_of w)) line ≡ true =

@@ -15,6 +15,7 @@ use Rattle.std.proofs.lemmas.Nat.{pow_below}
 use Rattle.pblk_model.specs.Image.{is_online_in}
 use Rattle.pblk_layout.proofs.Sets.{filter_more}
 use Rattle.core_laws.specs.OpenedLines.{bits_of}
+use Rattle.core_laws.proofs.Numbering.{range_more as range_last}
 use Rattle.begin_laws.specs.OnlineUnits.{is_online_at, online_below, online_bits, all_online}
 
 pub place_inside : (u n c line : ℕ) → u < n → line < c → u * c + line < n * c
@@ -83,10 +84,6 @@ none_more s chunks line unit live d inside offline is =
     bits_kept p unit ∙ ap (λ b. bits_of (online_below s chunks line unit) + cond b (2 ^ unit) 0) (next_is s chunks line unit d inside ∙ offline) in
     let none : bits_of (online_below s chunks line unit) + 0 ≡ bits_of (online_below s chunks line unit) = omega arith in
     is ∙ sym none ∙ sym more ∙ ap (λ n. bits_of (online_below s chunks line n)) next
-
-range_last : (a n : ℕ) → range_with_len a (suc n) ≡ range_with_len a n ++ (a + n) ∷ []
-range_last a zero = let same : a ≡ a + 0 = omega arith in ap (λ k. k ∷ []) same
-range_last a (suc n) = let same : a + 1 + n ≡ a + suc n = omega arith in ap (λ xs. a ∷ xs) (range_last (a + 1) n ∙ ap (λ k. range_with_len (a + 1) n ++ k ∷ []) same)
 
 -- one more line
 pub lines_more : (s : Shape) (chunks : List ChunkState) (n : ℕ) → all_online s chunks n ++ online_bits s chunks n ∷ [] ≡ all_online s chunks (n + 1)

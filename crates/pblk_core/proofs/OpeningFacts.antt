@@ -1,6 +1,6 @@
 -- What a core that opens a line keeps, and what is known of the line.
-use Rattle.std.proofs.Common.{◌≡◌, ℕ, ◌+◌, ◌*◌, ◌/◌, ◌^◌, ◌<◌, ◌≤◌, ◌==◌, ◌&&◌, not, zero, suc, nat_lt, Bool, true, false, Some, None, Option, List, [], ◌∷◌, length, refl, sym, subst, ap, ◌∙◌, arith, le_refl, mul-suc}
-use Rattle.std.specs.Prelude.{map, position, slice_get}
+use Rattle.std.proofs.Common.{◌≡◌, ℕ, ◌+◌, ◌*◌, ◌/◌, ◌^◌, ◌<◌, ◌≤◌, ◌==◌, not, zero, suc, nat_lt, Bool, true, false, Some, None, Option, length, refl, sym, subst, ap, ◌∙◌, arith, le_refl, mul-suc}
+use Rattle.std.specs.Prelude.{position, slice_get}
 use Rattle.std.specs.List.{AllByRecursion, slice_index_or}
 use Rattle.std.specs.Option.{is_some, unwrap_or}
 use Rattle.std.proofs.Math.Nat.{add-mul, mul-le-mul_right}
@@ -23,21 +23,25 @@ use Rattle.stripe_placer.specs.OpenLines.{OpenLine as PlacedLine, opened}
 use Rattle.stripe_placer.specs.OpenLines.Stripe.{Unplaced}
 use Rattle.core_laws.specs.OpenedLines.{live_now, open_line, open_lines}
 use Rattle.core_laws.specs.PlainWorlds.{IsPlainWorld}
-use Rattle.core_laws.proofs.Lists.{all_at}
-use Rattle.core_laws.proofs.Opening.{length_replicated}
+use Rattle.core_laws.proofs.Lists.{all_at, all_mapped}
+use Rattle.core_laws.proofs.Tests.{both}
+use Rattle.core_laws.proofs.Placing.{weaker}
+use Rattle.core_laws.proofs.PlacedLines.{get_row as row_there}
 use Rattle.placed_laws.proofs.LeftLines.{lines_of_left, left_opened}
 use Rattle.line_laws.specs.LeastFree.{IsLeastFree}
 use Rattle.line_laws.proofs.NextLine.{least_free}
 use Rattle.line_laws.proofs.OpenedRows.{free_closed}
-use Rattle.line_laws.proofs.Ranges.{row_there}
 use Rattle.placing_laws.proofs.FullLines.{one_is_open}
 use Rattle.placing_laws.proofs.Lengths.{IsStriped, striped}
+use Rattle.placing_laws.proofs.Opened.{third}
 use Rattle.pblk_core.specs.declared.target_core.Core.{Core}
 use Rattle.pblk_core.specs.declared.work.Work.{Work}
 use Rattle.pblk_core.specs.declared.work.Work.TheVariants.{Open}
 use Rattle.pblk_core.specs.declared.resets.LineChunk.{LineChunk}
 use Rattle.pblk_core.specs.Resets.{resets_left}
 use Rattle.stripe_placer.proofs.Opening.{width_some}
+use Rattle.stripe_placer.proofs.Rows.{length_replicate as length_replicated}
+use Rattle.stripe_placer.proofs.Chunks.{lt_of as below_is}
 use Rattle.pblk_core.proofs.LineBits.{known_bits, known_width, bits_width}
 use Rattle.pblk_core.specs.Stands.{Stands, left_openings}
 use Rattle.pblk_core.specs.Named.{choice, reset_or, named_beside, named, next_line, next_units, next_start}
@@ -45,20 +49,12 @@ use Rattle.pblk_core.proofs.WorkOf.{open_count, synced_at}
 
 -- ---- what its next work tells
 
-both : (a b : Bool) → (a && b) ≡ true → (a ≡ true) × (b ≡ true)
-both true true e = (refl, refl)
-both true false e = absurd cc
-both false b e = absurd cc
-
 opens : (a b c d e : Bool) → choice a b c d e ≡ Open → (b ≡ true) × (c ≡ true) × (d ≡ true)
 opens true b c d e h = absurd cc
 opens false true true true e h = (refl, refl, refl)
 opens false true true false e h = absurd cc
 opens false true false d e h = absurd cc
 opens false false c d e h = absurd cc
-
-below_is : (a b : ℕ) → nat_lt a b ≡ true → a < b
-below_is a b e = grind arith
 
 zero_is : (n : ℕ) → (n == 0) ≡ true → n ≡ 0
 zero_is n e = eqb-true n 0 e
@@ -147,11 +143,6 @@ pub record IsNextLine (i : Image) (w : World) (c : Core) : Type 0 where
   pub data_some : 0 < data_len i.shape (width (known_image i (log_of w)) (next_line c))
   pub stripes : 0 < length (opened i.shape (next_line c) (live_now i (log_of w) (next_line c))).stripes
 
-third : (a b c : Bool) → (a && b && c) ≡ true → c ≡ true
-third true true c e = e
-third true false c e = absurd cc
-third false b c e = absurd cc
-
 pub next_line_is : (i : Image) (w : World) (c : Core) → IsPlainWorld i w → Stands i (log_of w) c → MayOpenNext c → IsNextLine i w c
 next_line_is i w c plain st may = record {
   least = least;
@@ -194,15 +185,6 @@ chosen i w c line live d plain st may found is =
     let next : IsNextLine i w c = next_line_is i w c plain st may in
     let at : next_line c ≡ line = same_Some (next_line c) line (sym may.line ∙ found) in
     (at, is ∙ ap (λ n. slice_index_or c.live.items n d) (sym at) ∙ get_or_from_slice_get c.live.items (next_line c) (live_now i (log_of w) (next_line c)) d next.live ∙ sym next.units_are)
-
--- it is none of the open ones
-all_mapped : {X Y : Type 0} (P : Y → Type 0) (f : X → Y) (xs : List X) → AllByRecursion (λ x. P (f x)) xs → AllByRecursion P (map f xs)
-all_mapped P f [] all = tt
-all_mapped P f (x ∷ xs) all = (all.0, all_mapped P f xs all.1)
-
-pub weaker : {X : Type 0} (P Q : X → Type 0) → ((x : X) → P x → Q x) → (xs : List X) → AllByRecursion P xs → AllByRecursion Q xs
-weaker P Q f [] all = tt
-weaker P Q f (x ∷ xs) all = (f x all.0, weaker P Q f xs all.1)
 
 abbrev Holds : Bool → Type 0
 Holds true = Unit {0}

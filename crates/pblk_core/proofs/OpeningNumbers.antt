@@ -1,5 +1,5 @@
 -- The numbers of the start record of the line that is opened next fit a start record.
-use Rattle.std.proofs.Common.{◌≡◌, ◌≢◌, ℕ, ◌+◌, ◌-◌, ◌^◌, ◌<◌, ◌≤◌, ◌==◌, ◌&&◌, not, zero, suc, nat_lt, nat_le, if◌then◌else◌, cond, Bool, true, false, Some, None, Option, List, [], ◌∷◌, length, refl, sym, subst, ap, ◌∙◌, arith, IsTrue}
+use Rattle.std.proofs.Common.{◌≡◌, ◌≢◌, ℕ, ◌+◌, ◌-◌, ◌^◌, ◌<◌, ◌≤◌, ◌==◌, not, zero, suc, if◌then◌else◌, cond, Bool, true, false, Some, None, Option, List, [], ◌∷◌, length, refl, sym, subst, ap, ◌∙◌, arith, IsTrue}
 use Rattle.std.specs.Prelude.{slice_get}
 use Rattle.std.specs.List.{AllByRecursion, filter_map, cons_option, range_with_len}
 use Rattle.std.proofs.lemmas.Option.{none-some, same_Some}
@@ -18,9 +18,14 @@ use Rattle.pblk_world.specs.Starts.{found_row, older_row, older_rows}
 use Rattle.write_window.specs.Window as view
 use Rattle.core_laws.specs.PlainWorlds.{IsPlainWorld}
 use Rattle.core_laws.proofs.Rows.{other_number}
+use Rattle.core_laws.proofs.Tests.{and_both as and_true}
 use Rattle.line_table.proofs.Places.{eqb-same}
 use Rattle.landing_laws.proofs.Growing.{freed_within}
 use Rattle.placed_laws.proofs.Happened.{happened}
+use Rattle.stripe_placer.proofs.Chunks.{lt_yes as lt_true}
+use Rattle.stripe_placer.proofs.Rising.{le_true}
+use Rattle.found_laws.proofs.Counting.{kept_few as few_made}
+use Rattle.prefix_law.proofs.Starting.{next_positive as some_next}
 use Rattle.pblk_core.specs.declared.target_core.Core.{Core}
 use Rattle.pblk_core.specs.Named.{next_line, next_start}
 use Rattle.pblk_core.specs.Stands.{Stands, IsOlder}
@@ -29,10 +34,6 @@ use Rattle.pblk_core.proofs.OpeningFacts.{MayOpenNext, IsNextLine, next_line_is}
 use Rattle.pblk_core.proofs.WorkOf.{synced_at}
 
 -- ---- the mount's first number
-
-some_next : (o : Option StartRecord) → 1 ≤ next_seq o
-some_next None = omega arith
-some_next (Some h) = omega arith
 
 seq_by : (i : Image) (logs : Logs) (knows : List ℕ) (e : Event) (b : Begun) → begun_by knows e ≡ Some b → IsAllowed i 0 e logs → 1 ≤ b.beginning.seq
 seq_by i logs knows (Decides (Begin x)) b h may =
@@ -47,15 +48,6 @@ begin_seq i w b legal has = go (log_of w 0) refl
     go (l ∷ log) is = seq_by i (prefixes l (log_of w)) l.knows l.event b (sym (ap begun is) ∙ has) (happened i w 0 legal 0 l (ap (λ (xs : List Logged). slice_get xs 0) is)).allowed
 
 -- ---- the record
-
-and_true : (a b : Bool) → a ≡ true → b ≡ true → (a && b) ≡ true
-and_true a b e f = ap (λ x. x && b) e ∙ f
-
-le_true : (a b : ℕ) → a ≤ b → nat_le a b ≡ true
-le_true a b h = grind arith
-
-lt_true : (a b : ℕ) → a < b → nat_lt a b ≡ true
-lt_true a b h = grind arith
 
 -- each row is of the line of which it is made
 IsOwnRow : ℕ → Option Row → Type 0
@@ -73,9 +65,6 @@ own_row i logs line = by_life (is_as_found (life_of (logs 0) line)) (found_row i
     by_life : (b : Bool) (o : Option Row) → IsOwnRow line o → IsOwnRow line (if b then o else None)
     by_life true o is = is
     by_life false o is = tt
-
-abbrev made : Image → Logs → ℕ → ℕ → List Row
-made i logs a n = filter_map (older_row i logs) (range_with_len a n)
 
 rows_are_fit : (i : Image) (logs : Logs) (r : StartRecord) (first least a n : ℕ) → older_row i logs r.line ≡ None → first ≤ r.front → least ≤ a → a + n ≤ i.shape.chunks
     → AllByRecursion (IsOlder r.first_seq first) (filter_map (older_row i logs) (range_with_len a n)) → rows_fit i.shape r least (filter_map (older_row i logs) (range_with_len a n)) ≡ true
@@ -96,10 +85,6 @@ rows_are_fit i logs r first least a (suc n) none front low within older = go (ol
         and_true _ _ (and_true _ _ (and_true _ _ (and_true _ _ (and_true _ _ (and_true _ _
         (le_true least row.line (omega (arith, own))) (lt_true row.line i.shape.chunks (omega (arith, own)))) (ap (λ b. not b) (other_number row.line r.line other))) (le_true 1 row.seq older.0.0))
         (lt_true row.seq r.first_seq older.0.1)) (le_true row.bound r.front (omega arith))) next
-
-few_made : {X : Type 0} (h : ℕ → Option X) (a n : ℕ) → length (filter_map h (range_with_len a n)) ≤ n
-few_made h a zero = omega arith
-few_made h a (suc n) = let rest = few_made h (a + 1) n in elim (h a) as (λ o. length (cons_option o (filter_map h (range_with_len (a + 1) n))) ≤ suc n) [ None ↦ omega arith | Some x ↦ omega arith ]
 
 fewer_made : {X : Type 0} (h : ℕ → Option X) (a n k : ℕ) → h (a + k) ≡ None → k < n → length (filter_map h (range_with_len a n)) + 1 ≤ n
 fewer_made h a zero k none inside = absurd (omega arith)

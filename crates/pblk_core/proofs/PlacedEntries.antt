@@ -16,24 +16,21 @@ use Rattle.line_laws.specs.Changes.{with_row}
 use Rattle.line_laws.specs.PlacedEntries.{next_take, placed_row, place_entry, place_entries}
 use Rattle.core_laws.specs.PlacerOf.{positions_of, positions_in_stripe}
 use Rattle.pblk_world.specs.Fronts.{waiting}
-use Rattle.pblk_world.specs.Victims.{position_in}
-use Rattle.pblk_model.specs.Chunk.{Block}
-use Rattle.pblk_model.specs.Records.{named}
-use Rattle.std.specs.Prelude.{is_some, if◌then◌else◌}
-use Rattle.std.specs.List.{filter_map, cons_option}
 use Rattle.std.proofs.lemmas.Option.{slice_get-get_or}
 use Rattle.core_laws.specs.PlainWorlds.{IsPlainWorld}
 use Rattle.core_laws.specs.WindowOf.{is_given_back}
-use Rattle.core_laws.proofs.Lists.{all_at}
+use Rattle.core_laws.proofs.Lists.{all_at, get_whole as get_taken}
 use Rattle.core_laws.proofs.Placing.{with_place}
 use Rattle.placed_laws.proofs.Ordered.{ordered}
 use Rattle.placed_laws.proofs.EntryHolds.{later_same, line_of_others, line_of_stripe}
+use Rattle.pblk_laws.proofs.Lists.{all_by_get as all_by_index}
 use Rattle.pblk_core.specs.Stands.{Stands}
 use Rattle.pblk_core.specs.declared.target_core.Core.{Core}
 use Rattle.pblk_core.proofs.StandsFacts.{ring_some}
-use Rattle.pblk_core.proofs.WaitingEntries.{get_taken, all_by_index, IsWaiting, waiting_at, row_of_entry}
+use Rattle.pblk_core.proofs.WaitingEntries.{IsWaiting, waiting_at, row_of_entry}
 use Rattle.core_laws.proofs.Rows.{same_number}
-use Rattle.landing_laws.proofs.Untouched.{find_same}
+use Rattle.core_laws.proofs.TakenSlots.{find_same}
+use Rattle.core_laws.proofs.PlacedEntries.{holds_is as bears_is}
 use Rattle.placed_laws.specs.EntryHolds.{later_take, placed_line}
 use Rattle.pblk_core.specs.Entries.{with_line, row_placed, placed_rows, placed_by, place_hold, placed_lines}
 use Rattle.pblk_core.specs.Holds.{hold_of, row_at}
@@ -122,15 +119,6 @@ lines_placed_are s log line rows table (t ∷ ts) all =
     ∙ lines_placed_are s log line rows (place_entry log line table t) ts all.1
 
 -- ---- the rows by the log
-
-bears_is : (s : Shape) (position : ℕ) (bs : List Block) → list_any (bears_position s position) bs ≡ list_any (λ q. q == position) (filter_map (position_in s) bs)
-bears_is s position [] = refl
-bears_is s position (b ∷ bs) = go (is_some (named s b.mark)) (bears_is s position bs)
-  where
-    go : (c : Bool) → list_any (bears_position s position) bs ≡ list_any (λ q. q == position) (filter_map (position_in s) bs)
-        → ((c && (b.mark.position == position)) || list_any (bears_position s position) bs) ≡ list_any (λ q. q == position) (cons_option (if c then Some b.mark.position else None) (filter_map (position_in s) bs))
-    go true rest = ap (λ r. (b.mark.position == position) || r) rest
-    go false rest = rest
 
 unplaced_among : (s : Shape) (log : List Logged) (p : ℕ) (ts : List Taken) → AllByRecursion (λ (t : Taken). placed_line s log t.entry.position ≡ None) ts → list_any (λ q. q == p) (positions_of ts) ≡ true → placed_line s log p ≡ None
 unplaced_among s log p [] all e = absurd cc

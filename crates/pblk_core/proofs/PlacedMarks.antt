@@ -1,9 +1,9 @@
 -- The stripes of an opening, and the marks of its data, once a stripe is placed.
-use Rattle.std.proofs.Common.{◌≡◌, ◌≢◌, ℕ, ◌+◌, ◌-◌, ◌*◌, ◌/◌, ◌<◌, ◌≤◌, ◌==◌, zero, suc, Bool, true, false, cond, Some, List, [], ◌∷◌, ◌++◌, length, take, drop, refl, sym, ap, ap₂, ◌∙◌, arith, append-nil, length-append, length-drop, take_all, le_of_lt}
+use Rattle.std.proofs.Common.{◌≡◌, ◌≢◌, ℕ, ◌+◌, ◌-◌, ◌*◌, ◌/◌, ◌<◌, ◌≤◌, ◌==◌, zero, suc, Bool, true, false, cond, List, [], ◌∷◌, ◌++◌, length, take, drop, refl, sym, ap, ap₂, ◌∙◌, arith, append-nil, length-append, length-drop, take_all, le_of_lt}
 use Rattle.std.specs.Prelude.{map, slice_get, slice_range}
 use Rattle.std.specs.List.{AllByRecursion, filter, flat_map, range_with_len}
 use Rattle.std.specs.Option.{is_some}
-use Rattle.std.proofs.lemmas.List.{take-append-le, drop-append-le, nil_from_length, map-append}
+use Rattle.std.proofs.lemmas.List.{drop-append-le, nil_from_length, map-append}
 use Rattle.std.proofs.lemmas.Grind.{flat_map-append}
 use Rattle.std.proofs.lemmas.Option.{slice_get_past}
 use Rattle.std.proofs.lemmas.Bool.{eqb-true}
@@ -21,14 +21,11 @@ use Rattle.core_laws.proofs.Engine.{placements_before}
 use Rattle.core_laws.proofs.Lists.{filter_agree, all_filter}
 use Rattle.core_laws.proofs.Rows.{same_number, other_number}
 use Rattle.core_laws.proofs.Taking.{filter_last}
-use Rattle.core_laws.proofs.Placing.{IsPlacing, with_place, new_placed, placements_now, answers_now, placed_on_now, answer_now, new_unanswered}
+use Rattle.core_laws.proofs.Placing.{IsPlacing, with_place, new_placed, answers_now, placed_on_now, answer_now, new_unanswered}
+use Rattle.core_laws.proofs.PlacedLines.{get_last as got_end}
+use Rattle.placing_laws.proofs.InOrder.{stripes_now}
+use Rattle.prefix_law.proofs.Filling.{range_more as beyond_end}
 use Rattle.pblk_core.specs.Stands.{unlanded, under_way}
-
-pub stripes_now : (log : List Logged) (stripe : Stripe) (knows : List ℕ) (o other : Opening) (b : Bool) → life_of log stripe.line ≡ Opened o → is_life other.number (Opened o) ≡ b
-    → stripes_of (with_place log stripe knows) other ≡ stripes_of log other ++ cond b (new_placed log stripe o ∷ []) []
-stripes_now log stripe knows o other b opened is =
-    ap (filter (λ (p : Placed). is_life other.number p.life)) (placements_now log stripe knows o opened)
-    ∙ filter_last (λ (p : Placed). is_life other.number p.life) (placements log) (new_placed log stripe o) b is
 
 -- ---- how many haven't landed
 
@@ -67,11 +64,6 @@ at_end xs ys a b from within =
     ap (take (b - a)) (drop-append-le a xs ys from)
     ∙ take_all (b - a) (drop a xs ++ ys) (omega arith)
     ∙ ap (λ zs. zs ++ ys) (sym (take_all (b - a) (drop a xs) (omega arith)))
-
-beyond_end : {X : Type 0} (xs ys : List X) (a b : ℕ) → a ≤ b → b ≤ length xs → slice_range (xs ++ ys) a b ≡ slice_range xs a b
-beyond_end xs ys a b order within =
-    let left : length (drop a xs) ≡ length xs - a = length-drop a xs in
-    ap (take (b - a)) (drop-append-le a xs ys (omega arith)) ∙ take-append-le (b - a) (drop a xs) ys (omega arith)
 
 abbrev pub line_blocks : List Logged → Opening → List Block
 line_blocks log o = flat_map (λ p. p.stripe.blocks) (stripes_of log o)
@@ -120,24 +112,11 @@ pub marks_beyond : (s : Shape) (log : List Logged) (stripe : Stripe) (knows : Li
 marks_beyond s log stripe knows o opened within =
     marks_of_it s log stripe knows o opened ∙ ap (map (λ (b : Block). b.mark)) (beyond_end (line_blocks log o) stripe.blocks (start_len s) (end_address s o) (omega arith) within)
 
-pub blocks_length : (n : ℕ) (ps : List Placed) → AllByRecursion (λ (p : Placed). length p.stripe.blocks ≡ n) ps → length (flat_map (λ (p : Placed). p.stripe.blocks) ps) ≡ length ps * n
-blocks_length n [] all = omega arith
-blocks_length n (p ∷ ps) all =
-    let rest : length (flat_map (λ (p : Placed). p.stripe.blocks) ps) ≡ length ps * n = blocks_length n ps all.1 in
-    let first : length p.stripe.blocks ≡ n = all.0 in
-    let both : length (p.stripe.blocks ++ flat_map (λ (p : Placed). p.stripe.blocks) ps) ≡ length p.stripe.blocks + length (flat_map (λ (p : Placed). p.stripe.blocks) ps) = length-append p.stripe.blocks (flat_map (λ (p : Placed). p.stripe.blocks) ps) in
-    both ∙ grind arith
-
 pub marks_of_blocks : (size : ℕ) (bytes : List ℕ) (marks : List Mark) → map (λ (b : Block). b.mark) (blocks_of size bytes marks) ≡ marks
 marks_of_blocks size bytes [] = refl
 marks_of_blocks size bytes (m ∷ marks) = ap (λ ms. m ∷ ms) (marks_of_blocks size (drop size bytes) marks)
 
 -- ---- stripes under way
-
-got_end : {X : Type 0} (xs : List X) (x : X) (n : ℕ) → n ≡ length xs → slice_get (xs ++ x ∷ []) n ≡ Some x
-got_end [] x n e = ap (slice_get (x ∷ [])) e
-got_end (y ∷ xs) x zero e = absurd (omega arith)
-got_end (y ∷ xs) x (suc n) e = got_end xs x n (omega arith)
 
 idle_before : (log : List Logged) (stripe : Stripe) (o : Opening) → IsPlacing log stripe o → is_some (unanswered_on log stripe.unit) ≡ false
 idle_before log stripe o is = ap is_some (slice_get_past (placed_on log stripe.unit) (length (answers log stripe.unit)) (omega (arith, is.idle)))

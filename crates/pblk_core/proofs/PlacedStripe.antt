@@ -1,7 +1,7 @@
 -- The program that the placer of a standing core offers, and the stripe for it.
-use Rattle.std.proofs.Common.{◌≡◌, ◌⊎◌, inl, inr, ℕ, ◌+◌, ◌-◌, ◌*◌, ◌/◌, ◌<◌, ◌≤◌, ◌&&◌, zero, suc, Bool, true, false, Some, List, [], ◌∷◌, ◌||◌, cond, length, take, refl, sym, subst, ap, ◌∙◌, arith}
+use Rattle.std.proofs.Common.{◌≡◌, ◌⊎◌, inl, inr, ℕ, ◌+◌, ◌-◌, ◌*◌, ◌/◌, ◌<◌, ◌≤◌, ◌&&◌, zero, suc, Bool, true, false, Some, List, [], ◌||◌, length, take, refl, sym, subst, ap, ◌∙◌, arith}
 use Rattle.std.specs.Prelude.{nat_le, slice_get}
-use Rattle.std.specs.List.{find, list_all, list_any}
+use Rattle.std.specs.List.{list_all, list_any}
 use Rattle.std.proofs.Math.Nat.{mul-le-mul_right}
 use Rattle.std.proofs.lemmas.Option.{slice_get_within}
 use Rattle.pblk_model.specs.declared.shape.Shape.{Shape}
@@ -20,12 +20,13 @@ use Rattle.stripe_placer.specs.Entries.{Entries}
 use Rattle.stripe_placer.specs.OpenLines.{OpenLine, numbers, is_to_place, is_unanswered, has_left}
 use Rattle.stripe_placer.proofs.Among.{IsAmong, in_filter}
 use Rattle.stripe_placer.proofs.Named.{IsProgramIn, its_program}
-use Rattle.media_laws.proofs.Found.{within_some}
 use Rattle.placed_laws.proofs.LeftLines.{left_apart}
+use Rattle.placed_laws.proofs.GoingAll.{opened_is as opened_same}
 use Rattle.stripe_placer.specs.Placing.{Program, next_in, next_stripe}
 use Rattle.core_laws.specs.OpenedLines.{open_line, standing}
 use Rattle.core_laws.specs.PlacerOf.{entries_of, placing_of, IsStripeOf}
 use Rattle.core_laws.specs.PlainWorlds.{IsPlainWorld}
+use Rattle.core_laws.proofs.Lists.{got_within as within_some}
 use Rattle.placing_laws.specs.StripeFor.{IsStripeFor, IsProgramFor, positions_for}
 use Rattle.placing_laws.proofs.Opened.{life_stands}
 use Rattle.placing_laws.proofs.Followed.{IsFollowed, follow}
@@ -36,6 +37,7 @@ use Rattle.placing_laws.proofs.Forms.{formed}
 use Rattle.placing_laws.proofs.NextStripes.{unfailed}
 use Rattle.placing_laws.proofs.Offered.{IsOffered, what_is_offered}
 use Rattle.placing_laws.proofs.Placeable.{HasParts, parts_of, kind_in, kind_by, IsPart, part_of, next_may_be_placed, next_is_its, offered_is_for}
+use Rattle.landing_laws.proofs.Finding.{some_any as found_some}
 use Rattle.pblk_core.specs.Stands.{Stands, left_openings, IsOpenLine}
 use Rattle.pblk_core.specs.Slots.{IsSlot}
 use Rattle.pblk_core.specs.declared.target_core.Core.{Core}
@@ -73,17 +75,6 @@ in_part s o k c d kinds.Start a b part = ends_before s.ws_opt k c (start_len s) 
 in_part s o k c d kinds.Data a b part = (begins_after s.ws_opt k c (start_len s) a part.0, ends_before s.ws_opt k (c + d) (end_address s o) b part.1)
 in_part s o k c d kinds.Pad a b part = part
 in_part s o k c d kinds.End a b part = begins_after s.ws_opt k (c + d) (end_address s o) b part
-
-opened_same : (p o : Opening) → Opened p ≡ Opened o → p ≡ o
-opened_same p o e = cc
-
-found_some : {X : Type 0} (test : X → Bool) (xs : List X) (x : X) → find test xs ≡ Some x → list_any test xs ≡ true
-found_some test [] x e = absurd cc
-found_some {X} test (y ∷ ys) x e = go (test y) e (found_some test ys x)
-  where
-    go : (b : Bool) → cond b (Some y) (find test ys) ≡ Some x → (find test ys ≡ Some x → list_any test ys ≡ true) → (b || list_any test ys) ≡ true
-    go true f rest = refl
-    go false f rest = rest f
 
 -- a line with a next stripe has one left
 has_one : {s : Shape} {e : Entries} {of : Program} (l : OpenLine) → (j : ℕ) × IsProgramIn s e l of j → has_left l ≡ true

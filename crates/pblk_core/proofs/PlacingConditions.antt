@@ -26,6 +26,7 @@ use Rattle.stripe_placer.specs.declared.placement.StripeKind.TheVariants as kind
 use Rattle.stripe_placer.specs.declared.placement.Placement.{Placement}
 use Rattle.stripe_placer.specs.Placing.{Program, Placing, program, next_stripe, placed, placed_again, placed_first, is_stopped}
 use Rattle.stripe_placer.specs.Placing.UnitRow.{UnderWay}
+use Rattle.stripe_placer.proofs.Rows.{get_map as get_mapped}
 use Rattle.line_table.specs.declared.row.Row.{Row}
 use Rattle.line_table.specs.Rows.{Table, IsRow}
 use Rattle.line_table.proofs.Places.{get_set_same}
@@ -34,10 +35,9 @@ use Rattle.write_window.specs.Window as view
 use Rattle.core_laws.specs.PlacerOf.{positions_of, row_of}
 use Rattle.core_laws.specs.PlainWorlds.{IsPlainWorld}
 use Rattle.core_laws.specs.Stepping.{after}
-use Rattle.media_laws.proofs.Found.{within_some}
 use Rattle.pblk_model.specs.EndRecord.{end_bytes}
 use Rattle.core_laws.specs.RowsOf.{row_of_line}
-use Rattle.core_laws.proofs.Lists.{all_at}
+use Rattle.core_laws.proofs.Lists.{all_at, got_within as within_some, get_whole as get_taken}
 use Rattle.core_laws.proofs.Rows.{row_at}
 use Rattle.placed_laws.proofs.StripeBlocks.{HaveBlocks, have_blocks, marks_counted, marks_whole}
 use Rattle.placing_laws.specs.StripeFor.{IsStripeFor, blocks_for, positions_for}
@@ -53,7 +53,7 @@ use Rattle.pblk_core.proofs.PlacedMarks.{few_under_way, marks_of_blocks}
 use Rattle.pblk_core.proofs.PlacedStripe.{IsOfferedNow, IsInPart, IsOfKind, offered_now, of_kind, HasSlot, has_slot, found_slot}
 use Rattle.pblk_core.proofs.StandsFacts.{window_taken_is}
 use Rattle.pblk_core.proofs.StandsPlaced.{entries_for, positions_are, left_by_kind, slots_for}
-use Rattle.pblk_core.proofs.WaitingEntries.{IsSized, are_sized, IsWaiting, waiting_at, waiting_blocks, get_taken, get_mapped}
+use Rattle.pblk_core.proofs.WaitingEntries.{IsSized, are_sized, IsWaiting, waiting_at, waiting_blocks}
 
 -- ---- the program
 

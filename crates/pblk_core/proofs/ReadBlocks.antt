@@ -15,9 +15,10 @@ use Rattle.pblk_model.specs.LineOrder.{line_order}
 use Rattle.pblk_model.specs.Marks.{pad_lba}
 use Rattle.pblk_layout.specs.Live.{units_in}
 use Rattle.core_laws.proofs.Rows.{same_number, other_number}
-use Rattle.core_laws.proofs.Placing.{is_below, not_below}
+use Rattle.core_laws.proofs.Placing.{not_below}
 use Rattle.l2p_map.specs.declared.slot.Slot.{Slot}
 use Rattle.l2p_map.specs.declared.slot.Slot.TheVariants.{Unwritten, Cached, Media}
+use Rattle.stripe_placer.proofs.Chunks.{lt_yes as is_below}
 use Rattle.pblk_core.specs.declared.open_lines.OpenLine.{OpenLine}
 use Rattle.pblk_core.specs.Readable.{data_mark, is_place, position_of, ReadBlock, read_at, is_cached, moved, block_reads}
 

@@ -12,18 +12,12 @@ use Rattle.write_window.specs.Entries.{has_landed, with_progress}
 use Rattle.write_window.specs.Window.{WindowView, IsHeld, has_landed_at, turned}
 use Rattle.write_window.specs.declared.held.Held.{Held}
 use Rattle.write_window.specs.declared.held.Progress.TheVariants.{Readable}
+use Rattle.line_laws.proofs.LandedRows.{to_list as alone}
+use Rattle.core_laws.proofs.Numbering.{range_more}
 use Rattle.pblk_core.specs.declared.open_lines.OpenLine.{OpenLine}
 use Rattle.pblk_core.specs.Readable.{ReadBlock, moved, all_moved, all_readable, block_reads, reads_of}
 
 -- ---- one block more
-
-pub range_more : (a n : ℕ) → range_with_len a (suc n) ≡ range_with_len a n ++ (a + n) ∷ []
-range_more a zero = let same : a ≡ a + 0 = omega arith in ap (λ m. m ∷ []) same
-range_more a (suc n) = let same : a + 1 + n ≡ a + suc n = omega arith in ap (λ xs. a ∷ xs) (range_more (a + 1) n ∙ ap (λ m. range_with_len (a + 1) n ++ m ∷ []) same)
-
-alone : {Y : Type 0} (o : Option Y) → cons_option o [] ≡ option_to_list o
-alone None = refl
-alone (Some y) = refl
 
 pub reads_more : (l : OpenLine) (unit from block : ℕ) → from ≤ block → reads_of l unit from (block + 1) ≡ reads_of l unit from block ++ option_to_list (block_reads l unit block)
 reads_more l unit from block h =

@@ -16,7 +16,7 @@ use Rattle.line_table.specs.Rows.{Table, IsRow, IsChange}
 use Rattle.line_table.proofs.Places.{get_set_same}
 use Rattle.core_laws.specs.OpenedLines.{live_now}
 use Rattle.core_laws.specs.RowsOf.{row_of_line}
-use Rattle.line_laws.proofs.Ranges.{row_there}
+use Rattle.core_laws.proofs.PlacedLines.{get_row as row_there}
 use Rattle.pblk_core.specs.declared.target_core.Core.{Core}
 use Rattle.pblk_core.specs.declared.work.Work.TheVariants.{Reset}
 use Rattle.pblk_core.specs.Named.{named}

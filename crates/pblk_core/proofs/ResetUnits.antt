@@ -20,7 +20,7 @@ use Rattle.core_laws.specs.PlainWorlds.{IsPlainWorld}
 use Rattle.core_laws.specs.Stepping.{after}
 use Rattle.core_laws.proofs.Lists.{map_same, filter_same}
 use Rattle.core_laws.proofs.Rows.{rows_set}
-use Rattle.line_laws.proofs.Ranges.{row_there}
+use Rattle.core_laws.proofs.PlacedLines.{get_row as row_there}
 use Rattle.placing_laws.proofs.KeptLines.{few_units}
 use Rattle.pblk_core.specs.Resets.{is_used_state, is_used_in, used_units, units_to_reset, resets_of, kept_units}
 use Rattle.pblk_core.proofs.FirstReset.{others_are, bits_less, bit_in}
@@ -30,9 +30,6 @@ use Rattle.pblk_core.proofs.NamedReset.{IsNamedReset}
 use Rattle.pblk_core.proofs.ResetChunks.{IsNoted, test_chunk, tested_else, tested_now, tested_before, used_online, live_is}
 
 -- ---- the chunks that are still to be reset
-
-apart : (l u line unit : ℕ) → (u ≢ unit) → (l ≢ line) ⊎ (u ≢ unit)
-apart l u line unit other = inr other
 
 empty_not : (state : ChunkState) → is_empty_state state ≡ true → is_used_state state ≡ false
 empty_not state e = ap not e

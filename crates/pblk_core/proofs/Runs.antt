@@ -8,7 +8,8 @@ use Rattle.pblk_model.specs.Chunk.{Block}
 use Rattle.pblk_model.specs.Shape.{units}
 use Rattle.pblk_model.specs.Blocks.{blocks_of}
 use Rattle.pblk_model.specs.LineOrder.{start_len, end_len, data_len, HoldsEnd, IsLeastMultiple}
-use Rattle.pblk_core.proofs.Filled.{length-blocks_of, take-blocks_of, drop-blocks_of}
+use Rattle.placed_laws.proofs.StripeBlocks.{length_blocks as length-blocks_of}
+use Rattle.pblk_core.proofs.Filled.{take-blocks_of, drop-blocks_of}
 
 data_within : (t : Bool) (n m : ℕ) → m ≡ cond t 0 n → m ≤ n
 data_within true n m e = omega arith

@@ -16,12 +16,13 @@ use Rattle.write_window.specs.Entries.{is_readable, user_count, users_in}
 use Rattle.write_window.specs.Window.{WindowView}
 use Rattle.write_window.specs.Window as view
 use Rattle.stripe_placer.specs.Placing.{Placing, padded_to}
+use Rattle.stripe_placer.proofs.Chunks.{lt_yes as is_below}
 use Rattle.core_laws.specs.PlainWorlds.{IsPlainWorld}
 use Rattle.core_laws.specs.PlacerOf.{positions_of, placing_of}
 use Rattle.core_laws.specs.Positions.{AreNumbered}
 use Rattle.core_laws.specs.WindowOf.{HeldSector, HeldSectors, without_frame, sectors_in, class_of, progress_by, is_given_back, held_of, users_below, window_from}
 use Rattle.core_laws.proofs.Lists.{all_filter, filter_none}
-use Rattle.core_laws.proofs.Placing.{is_below, not_below, weaker}
+use Rattle.core_laws.proofs.Placing.{not_below, weaker}
 use Rattle.core_laws.proofs.PoppedWindow.{window_popped}
 use Rattle.landing_laws.proofs.Entries.{accepted_small, in_order}
 use Rattle.landing_laws.proofs.Cached.{numbered_at}
@@ -115,7 +116,7 @@ get_below [] k x e = absurd (none-some x e)
 get_below (y ∷ xs) zero x e = omega arith
 get_below (y ∷ xs) (suc k) x e = let rest : k < length xs = get_below xs k x e in omega arith
 
-drop_first : (k : ℕ) (ts us : List Taken) (t : Taken) → drop k ts ≡ t ∷ us → slice_get ts k ≡ Some t
+pub drop_first : (k : ℕ) (ts us : List Taken) (t : Taken) → drop k ts ≡ t ∷ us → slice_get ts k ≡ Some t
 drop_first zero ts us t e = ap (λ xs. slice_get xs 0) e
 drop_first (suc k) [] us t e = absurd cc
 drop_first (suc k) (u ∷ ts) us t e = drop_first k ts us t e

@@ -28,7 +28,7 @@ pub record IsSmall (c : Core) : Type 0 where
   pub ring : c.layout.ring ≤ 16384
   pub kept : units c.layout * c.layout.ws_opt ≤ c.layout.ring
 
-ring_kept : (s : Shape) → IsAccepted s → units s * s.ws_opt ≤ s.ring
+pub ring_kept : (s : Shape) → IsAccepted s → units s * s.ws_opt ≤ s.ring
 ring_kept s accepted =
     let low : units s * (s.mw_cunits + 4 * s.ws_opt) + 16 ≤ s.ring = accepted.target.ring_low in
     let less : units s * s.ws_opt ≤ units s * (s.mw_cunits + 4 * s.ws_opt) = mul-le-mul_left (units s) (omega arith) in

@@ -1,6 +1,6 @@
 -- How large the numbers of a mount are: its positions, and the addresses that are left.
 use Rattle.std.proofs.Common.{◌≡◌, ℕ, ◌+◌, ◌-◌, ◌*◌, ◌^◌, ◌<◌, ◌≤◌, max, zero, suc, Bool, true, false, nat_lt, Some, List, [], ◌∷◌, ◌++◌, length, refl, ap, ◌∙◌, arith, if◌then◌else◌, append-nil, length-append}
-use Rattle.std.specs.List.{AllByRecursion, range_with_len, sum_by}
+use Rattle.std.specs.List.{range_with_len, sum_by}
 use Rattle.std.proofs.lemmas.List.Sums.{sum_by-cons}
 use Rattle.pblk_model.specs.declared.shape.Shape.{Shape}
 use Rattle.pblk_model.specs.Accepted.{IsAccepted}
@@ -21,6 +21,7 @@ use Rattle.pblk_world.proofs.Appending.{takes_more}
 use Rattle.core_laws.specs.PlainWorlds.{IsPlainWorld}
 use Rattle.core_laws.proofs.Numbering.{first_stays}
 use Rattle.landing_laws.proofs.Keeping.{IsKept, kept}
+use Rattle.landing_laws.proofs.Entries.{all_true}
 use Rattle.placing_laws.proofs.Followed.{follow}
 use Rattle.placing_laws.proofs.Opened.{opened_lines}
 use Rattle.pblk_core.proofs.LineBits.{known_units, known_width}
@@ -55,10 +56,6 @@ taken_kept i = record {
   first = λ known b knows may low. (let start : b.first ≤ 2 ^ 62 = low in omega arith);
   next = λ known log b e knows begins own passes may was. taken_next i known log b e knows begins own may was;
 }
-
-all_true : {X : Type 0} (xs : List X) → AllByRecursion (λ (x : X). true ≡ true) xs
-all_true [] = tt
-all_true (x ∷ xs) = (refl, all_true xs)
 
 pub taken_bounded : (i : Image) (w : World) → IsPlainWorld i w → first_position (log_of w 0) ≤ 2 ^ 62 → taken (log_of w 0) ≤ 2 ^ 62
 unfolding AreBounded

@@ -27,7 +27,7 @@ use Rattle.core_laws.specs.OpenedLines.{open_line}
 use Rattle.core_laws.specs.PlacerOf.{placing_of, unanswered_on}
 use Rattle.core_laws.specs.PlainWorlds.{IsPlainWorld}
 use Rattle.core_laws.specs.WindowOf.{sectors_in, window_from, HeldSectors, HeldSector, without_frame}
-use Rattle.core_laws.proofs.Lists.{filter_none, filter_same}
+use Rattle.core_laws.proofs.Lists.{filter_none, filter_same, all_of}
 use Rattle.found_laws.specs.Finding.{IsFoundOf, taken_state}
 use Rattle.found_laws.specs.Beginnings.{seq_after, beginning_of}
 use Rattle.found_laws.proofs.States.{state_is}
@@ -48,10 +48,6 @@ use Rattle.pblk_core.specs.declared.target_core.Core.{Core}
 use Rattle.pblk_core.proofs.KeptResets.{flat_same}
 
 -- ---- lists
-
-all_of : {X : Type 0} (P : X → Type 0) → ((x : X) → P x) → (xs : List X) → AllByRecursion P xs
-all_of P each [] = tt
-all_of P each (x ∷ xs) = (each x, all_of P each xs)
 
 nowhere : {X : Type 0} (x : X) → Contains [] x → ⊥
 nowhere x among = let h : among.0 < 0 = among.1 in absurd (omega arith)

@@ -41,6 +41,8 @@ use Rattle.line_laws.proofs.Orders.{in_order}
 use Rattle.line_laws.proofs.PlacedFront.{front_kept}
 use Rattle.placed_laws.proofs.EntryHolds.{later_same, line_same}
 use Rattle.placing_laws.proofs.InOrder.{stripe_count}
+use Rattle.placing_laws.proofs.PlainEvents.{same as number_same}
+use Rattle.begin_laws.proofs.Lists.{mapped_agree as same_in_range}
 use Rattle.pblk_core.specs.Landing.{all_landed, one_landed as entry_landed}
 use Rattle.pblk_core.specs.Readable.{ReadBlock, all_moved, all_readable, reads_of}
 use Rattle.pblk_core.specs.Stands.{Stands, AreHolds, AreOpenLines, under_way, unlanded}
@@ -54,7 +56,7 @@ use Rattle.pblk_core.proofs.ChunkRows.{rows_of_chunks}
 use Rattle.pblk_core.proofs.LandedLogs.{takes_landed, openings_landed, users_landed, stripes_landed, live_landed, freed_landed, chunk_landed, one_less_under_way}
 use Rattle.pblk_core.proofs.LandedOpen.{IsLandedIn, IsRemoved, lines_stay, line_leaves}
 use Rattle.pblk_core.proofs.LandedWay.{IsOnWay, line_of_way, unit_is}
-use Rattle.pblk_core.proofs.LineUnits.{now_units, same_in_range}
+use Rattle.pblk_core.proofs.LineUnits.{now_units}
 use Rattle.pblk_core.proofs.FoundLines.{older_kept}
 use Rattle.pblk_core.proofs.KeptResets.{resets_landed, fits_same}
 use Rattle.pblk_world.proofs.Appending.{life_more}
@@ -175,9 +177,6 @@ full_by i w unit of left false is e last none =
 
 number_less : (m n : ℕ) → m ≤ n → (m == n) ≡ false → m < n
 number_less m n h e = grind arith
-
-number_same : (m n : ℕ) → (m == n) ≡ true → m ≡ n
-number_same m n e = grind arith
 
 pub landed_stands : (i : Image) (w : World) (unit event : ℕ) (knows : List ℕ) (old new : Core) (of : Program) (mid : OpenLines) (full : Bool) (from to : ℕ) → IsPlainWorld i w → (st : Stands i (log_of w) old)
     → (is : IsOnWay i w unit of) → IsAwaited i (log_of w) old.placer.entries.pad [] of → MayLand (log_of w) unit event → (has : HasSlot i (log_of w) old.open is.row.opening)

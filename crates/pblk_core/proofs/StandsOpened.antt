@@ -1,8 +1,8 @@
 -- A core that opened a line stands for the log with it.
 use Rattle.std.proofs.Common.{◌≡◌, ◌≢◌, ◌⊎◌, eqb, ℕ, ◌+◌, ◌-◌, ◌*◌, ◌/◌, ◌<◌, ◌≤◌, true, false, Some, List, [], ◌∷◌, ◌++◌, length, refl, sym, subst, ap, ap₂, ◌∙◌, arith, inl, inr, length-append, length-set, append-nil, le_refl, take, nat_eq, Bool, if◌then◌else◌}
 use Rattle.std.specs.Prelude.{map, slice_get, slice_set, slice_range}
-use Rattle.std.specs.List.{Contains, filter, flat_map, list_any, range_with_len}
-use Rattle.std.specs.Option.{option_map, is_some}
+use Rattle.std.specs.List.{Contains, filter, flat_map, range_with_len}
+use Rattle.std.specs.Option.{option_map}
 use Rattle.std.specs.FinMap as fin
 use Rattle.std.proofs.Math.Seq.{drop-nil, take-nil}
 use Rattle.std.proofs.lemmas.Option.{same_Some, slice_get_within}
@@ -11,7 +11,6 @@ use Rattle.pblk_model.specs.Chunk.{Block}
 use Rattle.pblk_model.specs.StartRecord.{start_bytes, start_of}
 use Rattle.pblk_model.specs.Image.{Image, line_units}
 use Rattle.pblk_model.specs.LineOrder.{start_len, data_len}
-use Rattle.pblk_meta.specs.Records.{start_numbers}
 use Rattle.pblk_world.specs.Events.{Open, EngineEvent, Decides, Logged}
 use Rattle.pblk_world.specs.World.{World, Logs, log_of}
 use Rattle.pblk_world.specs.EngineLog.{Taken, takes, Opening, openings, Placed, placements, stripes_of, is_life, has_landed, is_as_found, Opened, life_of}
@@ -19,7 +18,7 @@ use Rattle.pblk_world.specs.Fronts.{first_position, is_users}
 use Rattle.pblk_world.specs.Lines.{known_image, found_image}
 use Rattle.pblk_world.specs.Opening.{MayOpen}
 use Rattle.pblk_world.specs.Placing.{end_address}
-use Rattle.pblk_world.specs.Space.{freed, gives_back}
+use Rattle.pblk_world.specs.Space.{freed}
 use Rattle.pblk_world.proofs.Appending.{takes_more, openings_more, life_more}
 use Rattle.line_table.specs.declared.row.LineState.TheVariants as states
 use Rattle.line_table.specs.Rows.{Changes, turned}
@@ -37,7 +36,8 @@ use Rattle.core_laws.proofs.Lists.{map_same, filter_none, all_at, all_filter}
 use Rattle.core_laws.proofs.Numbering.{first_stays}
 use Rattle.core_laws.proofs.Opening.{placing_opened, placed_before}
 use Rattle.core_laws.proofs.Steady.{AreAlike, standing_before}
-use Rattle.core_laws.proofs.TakenSlots.{gives_back_same, any_same}
+use Rattle.core_laws.proofs.PlacedLines.{get_row as row_there}
+use Rattle.core_laws.proofs.TakenWindow.{given_same}
 use Rattle.landing_laws.proofs.QuietEvents.{IsQuiet, quiet_alike, quiet_window, quiet_slot, open_is_quiet}
 use Rattle.landing_laws.proofs.Least.{least_rises}
 use Rattle.line_laws.specs.Changes.{with_row}
@@ -46,7 +46,6 @@ use Rattle.line_laws.proofs.OpenAddresses.{addresses_opened}
 use Rattle.line_laws.proofs.OpenedRows.{rows_opened}
 use Rattle.line_laws.proofs.PlacedFront.{front_kept}
 use Rattle.line_laws.proofs.PlainLogs.{none_freed}
-use Rattle.line_laws.proofs.Ranges.{row_there}
 use Rattle.line_laws.proofs.Tables.{changed_is}
 use Rattle.placed_laws.proofs.EntryHolds.{later_same, line_same}
 use Rattle.placed_laws.proofs.LeftLines.{left_more}
@@ -68,11 +67,6 @@ use Rattle.pblk_core.specs.Resets.{resets_left}
 use Rattle.std.proofs.lemmas.Bool.{eqb-true}
 
 -- ---- entries and their rows
-
-given_same : (s : Shape) (old new : List Logged) → AreAlike old new → (q : ℕ) → is_given_back s new q ≡ is_given_back s old q
-given_same s old new alike q =
-    any_same (gives_back s new q) (gives_back s old q) (gives_back_same s old new alike q) (placements new)
-    ∙ ap (list_any (gives_back s old q)) (AreAlike.placements alike)
 
 hold_same : (s : Shape) (log : List Logged) (e : EngineEvent) (knows : List ℕ) (t : Taken) → IsQuiet log e knows → hold_of s (log ++ record { event = Decides e; knows = knows } ∷ []) t ≡ hold_of s log t
 hold_same s log e knows t quiet = ap₂ (λ l u. record { mark = t.mark; line = l; taker = option_map (λ (v : Taken). v.entry.position) u })

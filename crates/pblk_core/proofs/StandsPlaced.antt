@@ -42,7 +42,7 @@ use Rattle.core_laws.specs.PlainWorlds.{IsPlainWorld}
 use Rattle.core_laws.specs.RowsOf.{rows_of}
 use Rattle.core_laws.specs.Stepping.{after}
 use Rattle.core_laws.specs.WindowOf.{is_given_back, sectors_in, window_from}
-use Rattle.core_laws.proofs.Lists.{all_at, all_filter, map_same}
+use Rattle.core_laws.proofs.Lists.{all_at, all_filter, map_same, get_whole as get_taken}
 use Rattle.core_laws.proofs.Numbering.{first_stays}
 use Rattle.core_laws.proofs.PlacedLines.{placing_placed}
 use Rattle.core_laws.proofs.Placing.{IsPlacing, with_place}
@@ -51,9 +51,10 @@ use Rattle.core_laws.proofs.Steady.{standing_before}
 use Rattle.placed_laws.proofs.LeftLines.{left_placed}
 use Rattle.placed_laws.proofs.Ordered.{ordered, lost_are_none}
 use Rattle.placed_laws.proofs.StandingOpenings.{rise_filtered, standing_rise, one_place}
-use Rattle.placed_laws.proofs.StripeBlocks.{have_blocks}
+use Rattle.placed_laws.proofs.StripeBlocks.{have_blocks, length_joined as blocks_length}
 use Rattle.placing_laws.specs.StripeFor.{IsStripeFor, blocks_for, positions_for}
 use Rattle.line_table.proofs.Places.{get_set_same, get_set_other}
+use Rattle.pblk_laws.proofs.Lists.{all_by_get as all_by_index}
 use Rattle.pblk_core.specs.Entries.{placed_lines, placed_rows}
 use Rattle.pblk_core.specs.Slots.{with_marks}
 use Rattle.pblk_core.specs.Stands.{Stands, AreHolds, IsOpenLine, AreOpenLines, left_openings}
@@ -62,10 +63,10 @@ use Rattle.pblk_core.specs.declared.hold.Hold.{Hold}
 use Rattle.pblk_core.specs.declared.target_core.Core.{Core}
 use Rattle.pblk_core.specs.declared.open_lines.OpenLine.{OpenLine as KeptLine}
 use Rattle.pblk_core.proofs.PlacedEntries.{rows_length, row_placed_is, lines_placed_are}
-use Rattle.pblk_core.proofs.PlacedMarks.{line_blocks, marks_before, marks_more, marks_beyond, marks_elsewhere, blocks_length, unlanded_placed, one_more_under_way}
+use Rattle.pblk_core.proofs.PlacedMarks.{line_blocks, marks_before, marks_more, marks_beyond, marks_elsewhere, unlanded_placed, one_more_under_way}
 use Rattle.pblk_core.proofs.PlacedStripe.{IsOfferedNow, IsInPart, IsOfKind, of_kind, HasSlot}
 use Rattle.pblk_core.proofs.SteadyLines.{units_same}
-use Rattle.pblk_core.proofs.WaitingEntries.{IsWaiting, get_taken, all_by_index, waiting_at}
+use Rattle.pblk_core.proofs.WaitingEntries.{IsWaiting, waiting_at}
 use Rattle.pblk_core.proofs.FoundLines.{older_kept}
 use Rattle.pblk_core.proofs.KeptResets.{resets_quiet, fits_same}
 use Rattle.pblk_core.specs.Resets.{resets_left}

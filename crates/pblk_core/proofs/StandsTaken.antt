@@ -122,7 +122,7 @@ standing_taken log entry mark knows = standing_same log (with_take log entry mar
 
 -- ---- fronts
 
-given_same : (s : Shape) (log : List Logged) (entry : Entry) (mark : Mark) (knows : List ℕ) (q : ℕ) → is_given_back s (with_take log entry mark knows) q ≡ is_given_back s log q
+pub given_same : (s : Shape) (log : List Logged) (entry : Entry) (mark : Mark) (knows : List ℕ) (q : ℕ) → is_given_back s (with_take log entry mark knows) q ≡ is_given_back s log q
 given_same s log entry mark knows q =
     any_same (gives_back s new q) (gives_back s log q) (gives_back_same s log new (alike log entry mark knows) q) (placements new)
     ∙ ap (list_any (gives_back s log q)) (AreAlike.placements (alike log entry mark knows))

@@ -1,7 +1,7 @@
 -- The rows beside the entries once one more is taken.
 use Rattle.std.proofs.Common.{◌≡◌, ◌≢◌, ◌⊎◌, inl, inr, ℕ, ◌+◌, ◌*◌, ◌/◌, ◌%◌, ◌<◌, ◌≤◌, ◌==◌, ◌&&◌, zero, suc, nat_lt, Bool, true, false, cond, Some, None, Option, List, [], ◌∷◌, ◌++◌, length, refl, sym, subst, ap, ap₂, ◌∙◌, arith, length-set}
 use Rattle.std.specs.Prelude.{slice_get, slice_set}
-use Rattle.std.specs.List.{AllByRecursion, Contains, filter, find, list_any, last_or}
+use Rattle.std.specs.List.{Contains, filter, find, list_any, last_or}
 use Rattle.std.specs.Option.{option_map, option_map_or}
 use Rattle.std.proofs.Math.Nat.{div-add-mod, mul-le-mul_left}
 use Rattle.std.proofs.lemmas.Nat.{mod_below}
@@ -21,19 +21,22 @@ use Rattle.core_laws.specs.Stepping.{after}
 use Rattle.core_laws.specs.Positions.{IsUnplaced, AreNumbered}
 use Rattle.core_laws.specs.SlotOf.{slot_of, slot_by, media_of}
 use Rattle.core_laws.specs.WindowOf.{is_given_back}
-use Rattle.core_laws.proofs.Placing.{is_below, not_below}
+use Rattle.core_laws.proofs.Placing.{not_below}
 use Rattle.core_laws.proofs.Rows.{same_number}
 use Rattle.core_laws.proofs.Stripes.{find_fails_last}
 use Rattle.core_laws.proofs.Taking.{alike}
 use Rattle.core_laws.proofs.TakenSlots.{gives_back_same, any_same}
 use Rattle.core_laws.proofs.Steady.{AreAlike}
+use Rattle.core_laws.proofs.Tests.{both as both_true}
+use Rattle.core_laws.proofs.Lists.{find_none, is_in, get_set_other, get_set_same}
 use Rattle.landing_laws.proofs.Least.{least_below}
 use Rattle.landing_laws.proofs.Cached.{IsCachedEntry, cached, last_is_among, numbered_at}
 use Rattle.landing_laws.proofs.FreedFront.{freed_taken}
-use Rattle.media_laws.proofs.Images.{is_in}
 use Rattle.landing_laws.proofs.Finding.{any_none}
 use Rattle.placed_laws.specs.EntryHolds.{later_take, placed_line}
 use Rattle.placed_laws.proofs.EntryHolds.{later_stays, later_of_others, later_of_sector, none_is_later, line_same}
+use Rattle.stripe_placer.proofs.Chunks.{lt_yes as is_below, lt_of as below_is}
+use Rattle.placing_laws.proofs.Due.{none_at as none_passes}
 use Rattle.pblk_core.specs.declared.hold.Hold.{Hold}
 use Rattle.pblk_core.specs.declared.hold.Holds.{Holds}
 use Rattle.pblk_core.specs.Holds.{hold_of, row_at, with_taker, rows_with_taker}
@@ -60,18 +63,6 @@ apart n q p less within same = go (cases_order (q / n) (p / n)) (div-add-mod q n
         omega arith
 
 -- ---- lists
-
-get_set_same : {X : Type 0} (xs : List X) (i : ℕ) (y : X) → i < length xs → slice_get (slice_set xs i y) i ≡ Some y
-get_set_same [] i y h = absurd (omega arith)
-get_set_same (x ∷ xs) zero y h = refl
-get_set_same (x ∷ xs) (suc i) y h = get_set_same xs i y (omega arith)
-
-get_set_other : {X : Type 0} (xs : List X) (i j : ℕ) (y : X) → j ≢ i → slice_get (slice_set xs i y) j ≡ slice_get xs j
-get_set_other [] i j y n = refl
-get_set_other (x ∷ xs) zero zero y n = absurd (n refl)
-get_set_other (x ∷ xs) zero (suc j) y n = refl
-get_set_other (x ∷ xs) (suc i) zero y n = refl
-get_set_other (x ∷ xs) (suc i) (suc j) y n = get_set_other xs i j y (λ e. n (ap suc e))
 
 at_last : {X : Type 0} (xs : List X) (x y : X) (k : ℕ) → slice_get (xs ++ x ∷ []) k ≡ Some y → (slice_get xs k ≡ Some y) ⊎ (x ≡ y)
 at_last [] x y zero e = inr (same_Some x y e)
@@ -154,19 +145,6 @@ found_passes {X} f (y ∷ xs) x e = go (f y) refl e (found_passes f xs x)
     go true b h rest = let s : y ≡ x = same_Some y x h in (subst (λ z. f z ≡ true) s b, (0, h))
     go false b h rest = let is : (f x ≡ true) × ((k : ℕ) × (slice_get xs k ≡ Some x)) = rest h in (is.0, (suc is.1.0, is.1.1))
 
-none_passes : {X : Type 0} (f : X → Bool) (xs : List X) (k : ℕ) (x : X) → find f xs ≡ None → slice_get xs k ≡ Some x → f x ≡ false
-none_passes f [] k x e h = absurd (none-some x h)
-none_passes {X} f (y ∷ xs) k x e h = go k h (f y) refl e (λ m. none_passes f xs m x)
-  where
-    go : (k : ℕ) → slice_get (y ∷ xs) k ≡ Some x → (b : Bool) → f y ≡ b → cond b (Some y) (find f xs) ≡ None → ((m : ℕ) → find f xs ≡ None → slice_get xs m ≡ Some x → f x ≡ false) → f x ≡ false
-    go k h true b e rest = absurd (none-some y (sym e))
-    go zero h false b e rest = let s : y ≡ x = same_Some y x h in subst (λ z. f z ≡ false) s b
-    go (suc k) h false b e rest = rest k e h
-
-find_none : {X : Type 0} (f : X → Bool) (xs : List X) → AllByRecursion (λ x. f x ≡ false) xs → find f xs ≡ None
-find_none f [] all = refl
-find_none f (x ∷ xs) all = ap (λ b. cond b (Some x) (find f xs)) all.0 ∙ find_none f xs all.1
-
 -- ---- rows
 
 -- two different positions of one window have different rows
@@ -194,13 +172,6 @@ rows_own : (q by : ℕ) (rows : List Hold) (h : Hold) → 0 < length rows → ro
 rows_own q by rows h some is =
     ap (λ o. slice_get (option_map_or (λ h. slice_set rows (q % length rows) (with_taker by h)) o rows) (q % length rows)) is
     ∙ get_set_same rows (q % length rows) (with_taker by h) (mod_below q (length rows) some)
-
-both_true : (a b : Bool) → (a && b) ≡ true → (a ≡ true) × (b ≡ true)
-both_true true b e = (refl, e)
-both_true false b e = absurd cc
-
-below_is : (m n : ℕ) → nat_lt m n ≡ true → m < n
-below_is m n e = grind arith
 
 -- ---- the rows
 

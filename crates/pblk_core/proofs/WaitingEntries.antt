@@ -1,9 +1,9 @@
 -- The entries that wait, in the window of a core and in the rows beside it.
 use Rattle.std.proofs.Common.{◌≡◌, ℕ, ◌+◌, ◌-◌, ◌<◌, ◌≤◌, ◌^◌, ◌%◌, ◌&&◌, zero, suc, nat_lt, nat_le, Bool, true, false, Some, None, Option, List, [], ◌∷◌, ◌++◌, length, take, drop, refl, sym, subst, ap, ap₂, ◌∙◌, arith, append-nil}
 use Rattle.std.specs.Prelude.{map, slice_get, is_some, if◌then◌else◌}
-use Rattle.std.specs.List.{AllByRecursion, Contains, range_with_len}
+use Rattle.std.specs.List.{AllByRecursion, range_with_len}
 use Rattle.std.specs.Option.{option_map, option_map_or, unwrap_or}
-use Rattle.std.proofs.lemmas.Option.{same_Some, none-some, slice_get_within, get_or_from_slice_get}
+use Rattle.std.proofs.lemmas.Option.{same_Some, none-some}
 use Rattle.pblk_model.specs.declared.shape.Shape.{Shape}
 use Rattle.pblk_model.specs.Marks.{pad_mark}
 use Rattle.pblk_model.specs.Image.{Image}
@@ -20,11 +20,12 @@ use Rattle.core_laws.specs.PlainWorlds.{IsPlainWorld, IsPlainWorld}
 use Rattle.core_laws.specs.PlacerOf.{positions_of, placing_of}
 use Rattle.core_laws.specs.Positions.{AreNumbered}
 use Rattle.core_laws.specs.WindowOf.{HeldSector, HeldSectors, without_frame, held_of, is_given_back}
-use Rattle.core_laws.proofs.Lists.{all_at}
+use Rattle.core_laws.proofs.Lists.{all_at, get_more as get_front, get_whole as get_taken, is_in as contained, get_dropped}
 use Rattle.core_laws.proofs.PlacedPositions.{all_joined}
 use Rattle.core_laws.proofs.Placing.{not_below}
 use Rattle.core_laws.proofs.WaitingEntries.{waiting_alike}
 use Rattle.stripe_placer.specs.Placing.{held}
+use Rattle.stripe_placer.proofs.Rows.{get_map as get_mapped}
 use Rattle.landing_laws.proofs.Growing.{given_landed}
 use Rattle.placed_laws.specs.Placed.{IsInWindow}
 use Rattle.placed_laws.specs.EntryHolds.{placed_line}
@@ -32,6 +33,7 @@ use Rattle.placed_laws.proofs.Events.{of_legal_log}
 use Rattle.placed_laws.proofs.Ordered.{IsOrdered, ordered, count_is, waiting_are_last}
 use Rattle.placed_laws.proofs.HeldPositions.{in_window}
 use Rattle.placed_laws.proofs.EntryHolds.{line_below_front}
+use Rattle.pblk_laws.proofs.Lists.{all_by_get as all_by_index}
 use Rattle.pblk_core.specs.Entries.{entry_block, entry_blocks}
 use Rattle.pblk_core.specs.Holds.{hold_of, row_at}
 use Rattle.pblk_core.specs.Stands.{Stands}
@@ -40,38 +42,10 @@ use Rattle.pblk_core.specs.declared.hold.Hold.{Hold}
 
 -- ---- lists
 
-pub get_taken : {X : Type 0} (n : ℕ) (xs : List X) (k : ℕ) (x : X) → slice_get (take n xs) k ≡ Some x → slice_get xs k ≡ Some x
-get_taken zero xs k x e = absurd (none-some x e)
-get_taken (suc n) [] k x e = absurd (none-some x e)
-get_taken (suc n) (y ∷ ys) zero x e = e
-get_taken (suc n) (y ∷ ys) (suc k) x e = get_taken n ys k x e
-
-pub get_dropped : {X : Type 0} (n : ℕ) (xs : List X) (k : ℕ) → slice_get (drop n xs) k ≡ slice_get xs (n + k)
-get_dropped zero xs k = let same : 0 + k ≡ k = omega arith in ap (slice_get xs) (sym same)
-get_dropped (suc n) [] k = refl
-get_dropped (suc n) (y ∷ ys) k = let next : suc n + k ≡ suc (n + k) = omega arith in get_dropped n ys k ∙ ap (slice_get (y ∷ ys)) (sym next)
-
-pub get_mapped : {X Y : Type 0} (f : X → Y) (xs : List X) (k : ℕ) → slice_get (map f xs) k ≡ option_map f (slice_get xs k)
-get_mapped f [] k = refl
-get_mapped f (x ∷ xs) zero = refl
-get_mapped f (x ∷ xs) (suc k) = get_mapped f xs k
-
 get_ranged : (a n k x : ℕ) → slice_get (range_with_len a n) k ≡ Some x → x ≡ a + k
 get_ranged a zero k x e = absurd (none-some x e)
 get_ranged a (suc n) zero x e = let same : a ≡ x = same_Some a x e in omega arith
 get_ranged a (suc n) (suc k) x e = let rest : x ≡ a + 1 + k = get_ranged (a + 1) n k x e in omega arith
-
-get_front : {X : Type 0} (xs ys : List X) (k : ℕ) (x : X) → slice_get xs k ≡ Some x → slice_get (xs ++ ys) k ≡ Some x
-get_front [] ys k x e = absurd (none-some x e)
-get_front (z ∷ xs) ys zero x e = e
-get_front (z ∷ xs) ys (suc k) x e = get_front xs ys k x e
-
-pub all_by_index : {X : Type 0} (P : X → Type 0) (xs : List X) → ((k : ℕ) (x : X) → slice_get xs k ≡ Some x → P x) → AllByRecursion P xs
-all_by_index P [] is = tt
-all_by_index P (x ∷ xs) is = (is 0 x refl, all_by_index P xs (λ k y e. is (suc k) y e))
-
-pub contained : {X : Type 0} (xs : List X) (k : ℕ) (x : X) → slice_get xs k ≡ Some x → Contains xs x
-contained xs k x e = (k, slice_get_within xs k x e, get_or_from_slice_get xs k x x e)
 
 -- ---- what was taken
 

@@ -1,8 +1,9 @@
 -- How many stripes of a line are in one chunk.
-use Rattle.std.proofs.Common.{◌≡◌, ℕ, ◌+◌, ◌*◌, ◌/◌, ◌%◌, ◌<◌, ◌≤◌, ◌||◌, suc, nat_eq, Bool, true, false, cond, Some, List, [], ◌∷◌, length, refl, sym, subst, ap, ap₂, ◌∙◌, arith, div-add-mod'}
+use Rattle.std.proofs.Common.{◌≡◌, ℕ, ◌+◌, ◌/◌, ◌%◌, ◌<◌, ◌≤◌, ◌||◌, suc, nat_eq, Bool, true, false, cond, Some, List, [], ◌∷◌, length, refl, sym, subst, ap, ◌∙◌, arith}
 use Rattle.std.specs.Prelude.{slice_get}
 use Rattle.std.specs.List.{filter}
 use Rattle.std.proofs.lemmas.Bool.{eqb-true}
+use Rattle.core_laws.proofs.Stripes.{by_parts}
 use Rattle.placed_laws.proofs.Distinct.{IsIn, Distinct, distinct_few}
 use Rattle.placed_laws.proofs.Placed.{is_in_list}
 
@@ -41,9 +42,6 @@ row_of_place {X} f g a (x ∷ xs) r e = go (f x) refl e (row_of_place f g (a + 1
         by_row : (b : Bool) → nat_eq (a / g) r ≡ b → (b || is_in_list (rows f g (a + 1) xs) r) ≡ true → (n : ℕ) × (y : X) × (slice_get (x ∷ xs) n ≡ Some y) × (f y ≡ true) × ((a + n) / g ≡ r)
         by_row true q e = here p (eqb-true (a / g) r q)
         by_row false q e = further (rest e)
-
-by_parts : (i j g : ℕ) → i / g ≡ j / g → i % g ≡ j % g → i ≡ j
-by_parts i j g q r = sym (div-add-mod' i g) ∙ ap₂ (λ a b. a * g + b) q r ∙ div-add-mod' j g
 
 -- those of one column are distinct
 distinct_rows_of : {X : Type 0} (f : X → Bool) (g a : ℕ) (xs : List X) → ((n m : ℕ) (y z : X) → slice_get xs n ≡ Some y → slice_get xs m ≡ Some z → f y ≡ true → f z ≡ true → (a + n) % g ≡ (a + m) % g) → Distinct (rows f g a xs)

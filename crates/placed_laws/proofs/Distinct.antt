@@ -7,6 +7,7 @@ use Rattle.std.proofs.lemmas.Option.{same_Some, none-some}
 use Rattle.std.proofs.lemmas.List.Folds.{list_any-append}
 use Rattle.stripe_placer.proofs.Among.{IsAmong, later}
 use Rattle.core_laws.proofs.Rows.{same_number}
+use Rattle.core_laws.proofs.Tests.{no_both, or_left, or_right}
 use Rattle.placed_laws.proofs.Placed.{is_in_list, in_range}
 
 abbrev pub IsIn : List ℕ → ℕ → Type 0
@@ -16,19 +17,9 @@ abbrev pub Distinct : List ℕ → Type 0
 Distinct [] = ⊤
 Distinct (x ∷ xs) = (is_in_list xs x ≡ false) × Distinct xs
 
-pub no_both : {X : Type 0} (b : Bool) → b ≡ true → b ≡ false → X
-no_both b e f = absurd (grind arith)
-
-either : (a b : Bool) → (a || b) ≡ true → (a ≡ true) ⊎ (b ≡ true)
+pub either : (a b : Bool) → (a || b) ≡ true → (a ≡ true) ⊎ (b ≡ true)
 either true b e = inl refl
 either false b e = inr e
-
-or_left : (a b : Bool) → a ≡ true → (a || b) ≡ true
-or_left a b e = ap (λ c. c || b) e
-
-or_right : (a b : Bool) → b ≡ true → (a || b) ≡ true
-or_right true b e = refl
-or_right false b e = e
 
 -- what is in a list
 

@@ -1,7 +1,7 @@
 -- What an event changes of the later entry of a sector, and of the line of an entry's stripe.
-use Rattle.std.proofs.Common.{◌≡◌, ℕ, ◌+◌, ◌<◌, ◌≤◌, ◌==◌, ◌&&◌, ◌||◌, zero, suc, nat_lt, nat_le, Bool, true, false, cond, Some, None, Option, List, [], ◌∷◌, ◌++◌, length, take, refl, ap, ap₂, ◌∙◌, arith, append-nil}
+use Rattle.std.proofs.Common.{◌≡◌, ℕ, ◌+◌, ◌<◌, ◌≤◌, ◌==◌, ◌&&◌, ◌||◌, nat_lt, nat_le, Bool, true, false, cond, Some, None, Option, List, [], ◌∷◌, ◌++◌, length, take, refl, ap, ap₂, ◌∙◌, arith, append-nil}
 use Rattle.std.specs.Prelude.{is_some}
-use Rattle.std.specs.List.{AllByRecursion, find, list_any, range_with_len}
+use Rattle.std.specs.List.{find, list_any}
 use Rattle.std.specs.Option.{option_map, option_to_list}
 use Rattle.pblk_model.specs.declared.shape.Shape.{Shape}
 use Rattle.pblk_model.specs.declared.chunk.Mark.{Mark}
@@ -10,21 +10,17 @@ use Rattle.pblk_world.specs.EngineLog.{Taken, taken_by, takes, life_of, Placed, 
 use Rattle.pblk_world.specs.Fronts.{first_position, taken}
 use Rattle.pblk_world.specs.Space.{placed_front}
 use Rattle.pblk_world.proofs.Appending.{takes_more, placements_more}
-use Rattle.core_laws.specs.PlacerOf.{positions_of}
 use Rattle.core_laws.specs.Positions.{AreNumbered}
 use Rattle.core_laws.proofs.Rows.{same_number}
-use Rattle.core_laws.proofs.Placing.{is_below, not_below, weaker}
+use Rattle.core_laws.proofs.Placing.{not_below, weaker}
 use Rattle.core_laws.proofs.Stripes.{find_last, find_fails_last}
+use Rattle.core_laws.proofs.Lists.{find_none}
+use Rattle.core_laws.proofs.Taking.{not_both as and_no}
+use Rattle.core_laws.proofs.PlacedPositions.{numbered_below}
+use Rattle.stripe_placer.proofs.Chunks.{lt_yes as is_below}
+use Rattle.stripe_placer.proofs.Rows.{find_first as found_stays}
 use Rattle.placed_laws.specs.EntryHolds.{later_take, placed_line}
 use Rattle.placed_laws.proofs.Ordered.{IsOrdered, some_hold_below}
-
-found_stays : {X : Type 0} (test : X → Bool) (xs ys : List X) (x : X) → find test xs ≡ Some x → find test (xs ++ ys) ≡ Some x
-found_stays test [] ys x e = absurd cc
-found_stays {X} test (z ∷ xs) ys x e = go (test z) e (found_stays test xs ys x)
-  where
-    go : (b : Bool) → cond b (Some z) (find test xs) ≡ Some x → (find test xs ≡ Some x → find test (xs ++ ys) ≡ Some x) → cond b (Some z) (find test (xs ++ ys)) ≡ Some x
-    go true f rest = f
-    go false f rest = rest f
 
 -- ---- the later entry of a sector
 
@@ -37,10 +33,6 @@ pub later_same : (log : List Logged) (l : Logged) (t : Taken) → taken_by l.eve
 later_same log l t none =
     ap (find (λ (u : Taken). nat_lt t.entry.position u.entry.position && (u.mark.lba == t.mark.lba)))
     (takes_more log l ∙ ap (λ o. takes log ++ option_to_list o) none ∙ append-nil (takes log))
-
-and_no : (a b : Bool) → b ≡ false → (a && b) ≡ false
-and_no true b e = e
-and_no false b e = refl
 
 pub later_of_others : (log : List Logged) (entry : Entry) (mark : Mark) (knows : List ℕ) (t : Taken) → (mark.lba == t.mark.lba) ≡ false
     → later_take (log ++ record { event = Decides (Take entry mark); knows = knows } ∷ []) t ≡ later_take log t
@@ -57,18 +49,6 @@ later_of_sector log entry mark knows t none same after =
     (ap₂ (λ a b. a && b) (is_below t.entry.position entry.position after) (ap (λ n. n == t.mark.lba) same ∙ same_number t.mark.lba)) none
 
 -- none is later than the last that was taken
-
-find_none : {X : Type 0} (test : X → Bool) (xs : List X) → AllByRecursion (λ x. test x ≡ false) xs → find test xs ≡ None
-find_none test [] all = refl
-find_none test (x ∷ xs) all = ap (λ b. cond b (Some x) (find test xs)) all.0 ∙ find_none test xs all.1
-
-numbered_below : (a n : ℕ) (ts : List Taken) → positions_of ts ≡ range_with_len a n → AllByRecursion (λ (t : Taken). t.entry.position < a + n) ts
-numbered_below a n [] is = tt
-numbered_below a zero (t ∷ ts) is = absurd cc
-numbered_below a (suc n) (t ∷ ts) is =
-    let first : t.entry.position ≡ a = cc in
-    let rest : positions_of ts ≡ range_with_len (a + 1) n = cc in
-    (omega arith, weaker (λ (u : Taken). u.entry.position < a + 1 + n) (λ (u : Taken). u.entry.position < a + suc n) (λ u h. omega arith) ts (numbered_below (a + 1) n ts rest))
 
 pub none_is_later : (log : List Logged) (t : Taken) → AreNumbered log → taken log ≤ t.entry.position + 1 → later_take log t ≡ None
 none_is_later log t numbered last =

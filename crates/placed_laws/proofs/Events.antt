@@ -8,14 +8,7 @@ use Rattle.pblk_world.specs.Events.{EngineEvent, Event, Decides, Does, Logged, S
 use Rattle.pblk_world.specs.World.{World, Logs, log_of, known, prefixes}
 use Rattle.pblk_world.specs.Legal.{MayDecide, IsAllowed, IsLegalStep, IsLegal}
 use Rattle.core_laws.specs.PlainWorlds.{is_plain_event, IsPlainWorld}
-
-pub all_front : {X : Type 0} (P : X → Type 0) (xs ys : List X) → AllByRecursion P (xs ++ ys) → AllByRecursion P xs
-all_front P [] ys all = tt
-all_front P (x ∷ xs) ys all = (all.0, all_front P xs ys all.1)
-
-pub all_back : {X : Type 0} (P : X → Type 0) (xs ys : List X) → AllByRecursion P (xs ++ ys) → AllByRecursion P ys
-all_back P [] ys all = all
-all_back P (x ∷ xs) ys all = all_back P xs ys all.1
+use Rattle.core_laws.proofs.Removing.{all_first as all_front, all_second as all_back}
 
 -- something is kept by each event that the engine may decide, of those that pass a test
 abbrev pub IsKeptBy : Image → (Event → Bool) → (List Logged → Type 0) → Type 0

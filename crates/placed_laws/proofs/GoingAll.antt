@@ -26,25 +26,25 @@ use Rattle.pblk_world.specs.Victims.{engine_prefix}
 use Rattle.pblk_world.proofs.Appending.{life_more, placements_more}
 use Rattle.stripe_placer.proofs.Among.{IsAmong, from_filter}
 use Rattle.core_laws.specs.PlainWorlds.{is_plain_event, is_plain_outcome, IsPlainWorld}
-use Rattle.core_laws.proofs.Lists.{all_at, filter_none}
+use Rattle.core_laws.proofs.Lists.{all_at, filter_none, got_within, get_whole}
 use Rattle.core_laws.proofs.Numbers.{life_at}
 use Rattle.core_laws.proofs.Opening.{placed_before}
 use Rattle.core_laws.proofs.Placing.{weaker}
 use Rattle.core_laws.proofs.PlacedPositions.{all_joined}
 use Rattle.core_laws.proofs.Rows.{same_number, other_number}
+use Rattle.core_laws.proofs.Turns.{its_unit}
 use Rattle.placed_laws.specs.StripePrograms.{HasHappened, IsProgramDone}
 use Rattle.placed_laws.proofs.Ordered.{HaveNoLoss, no_loss_after}
 use Rattle.placed_laws.proofs.StandingOpenings.{opening_at, life_there}
 use Rattle.placed_laws.proofs.StripeBlocks.{have_blocks, wide_after}
-use Rattle.placed_laws.proofs.Happened.{happened, landed_at, placed_by_prefix, get_whole}
+use Rattle.placed_laws.proofs.Happened.{happened, landed_at, placed_by_prefix}
 use Rattle.placed_laws.proofs.KnownImages.{known_by_prefix}
-use Rattle.placed_laws.proofs.KnownChunks.{take_next, got_within, by_prefixes, length_known, units_by_live, chunk_in, is_on, live_chunk, chunk_untold, each_chunk, known_empty}
-use Rattle.placed_laws.proofs.Turns.{its_unit}
+use Rattle.placed_laws.proofs.KnownChunks.{take_next, by_prefixes, length_known, units_by_live, chunk_in, is_on, live_chunk, chunk_untold, each_chunk, known_empty}
 use Rattle.placed_laws.specs.StripeTurns.{IsAtTurn}
 use Rattle.placed_laws.proofs.GoingLines.{IsFilling, IsGoing, IsNewer, going_on, going_further, untouched}
 use Rattle.placed_laws.proofs.GoingSteps.{AreGoing, keeps_lives, landed_chunk, reset_chunk, place_at, place_room, width_counts}
 
-opened_is : (o p : Opening) → Opened o ≡ Opened p → o ≡ p
+pub opened_is : (o p : Opening) → Opened o ≡ Opened p → o ≡ p
 opened_is o p e = cc
 
 -- ---- a line is opened

@@ -55,7 +55,7 @@ prefix_count {X} f (x ∷ xs) ys (suc m) n =
     go true rest = omega arith
     go false rest = rest
 
-placed_on_more : (log : List Logged) (l : Logged) (u : ℕ) → placed_on (log ++ l ∷ []) u ≡ placed_on log u ++ filter (λ (p : Placed). p.stripe.unit == u) (option_to_list (placed_by log (length log) l.event))
+pub placed_on_more : (log : List Logged) (l : Logged) (u : ℕ) → placed_on (log ++ l ∷ []) u ≡ placed_on log u ++ filter (λ (p : Placed). p.stripe.unit == u) (option_to_list (placed_by log (length log) l.event))
 placed_on_more log l u =
     ap (filter (λ (p : Placed). p.stripe.unit == u)) (placements_more log l)
     ∙ filter-append (λ (p : Placed). p.stripe.unit == u) (placements log) (option_to_list (placed_by log (length log) l.event))

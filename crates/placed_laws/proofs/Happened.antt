@@ -19,7 +19,7 @@ use Rattle.pblk_world.specs.Answering.{MayLand}
 use Rattle.pblk_world.specs.Legal.{IsAllowed, IsLegalStep, IsLegal}
 use Rattle.pblk_world.proofs.Appending.{placements_more}
 use Rattle.pblk_world.proofs.Growing.{at_end}
-use Rattle.core_laws.proofs.Lists.{fun_same}
+use Rattle.core_laws.proofs.Lists.{fun_same, get_more as get_before, get_whole}
 use Rattle.placed_laws.specs.StripePrograms.{HasHappened, IsProgramDone}
 
 cut_longer : (s : Step) (w : World) (l : Logged) → ((other : ℕ) → known l other ≤ length (log_of w other)) → prefixes l (log_of (s ∷ w)) ≡ prefixes l (log_of w)
@@ -67,17 +67,6 @@ happened i [] author legal k l there = absurd (none-some l there)
 happened i (s ∷ w) author legal k l there = happened_by i s w author legal.0 (happened i w author legal.1) (s.author == author) refl k l there
 
 -- ---- prefixes
-
-pub get_whole : {X : Type 0} (m : ℕ) (xs : List X) (n : ℕ) (x : X) → slice_get (take m xs) n ≡ Some x → slice_get xs n ≡ Some x
-get_whole zero xs n x e = absurd (none-some x e)
-get_whole (suc m) [] n x e = e
-get_whole (suc m) (y ∷ xs) zero x e = e
-get_whole (suc m) (y ∷ xs) (suc n) x e = get_whole m xs n x e
-
-get_before : {X : Type 0} (xs ys : List X) (n : ℕ) (x : X) → slice_get xs n ≡ Some x → slice_get (xs ++ ys) n ≡ Some x
-get_before [] ys n x e = absurd (none-some x e)
-get_before (y ∷ xs) ys zero x e = e
-get_before (y ∷ xs) ys (suc n) x e = get_before xs ys n x e
 
 take_twice : {X : Type 0} (n m : ℕ) (xs : List X) (x : X) → slice_get (take m xs) n ≡ Some x → take n (take m xs) ≡ take n xs
 take_twice n zero xs x e = absurd (none-some x e)

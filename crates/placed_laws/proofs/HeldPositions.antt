@@ -21,11 +21,12 @@ use Rattle.stripe_placer.specs.Placing.{Program, positions_in, held}
 use Rattle.stripe_placer.specs.Placing.UnitRow.{Idle}
 use Rattle.stripe_placer.proofs.Among.{IsAmong, from_filter}
 use Rattle.core_laws.specs.PlacerOf.{positions_of, positions_in_stripe, fresh_entries, entries_of, waits_again, program_of_placed, row_of_program, row_in, row_of, unanswered_on, placing_of}
+use Rattle.core_laws.proofs.Tests.{no_both}
+use Rattle.core_laws.proofs.Turns.{its_unit, its_turn}
 use Rattle.placed_laws.specs.Placed.{placed_positions, placed_count, IsInWindow}
 use Rattle.placed_laws.proofs.Placed.{stripe_holds, in_range}
 use Rattle.placed_laws.proofs.Ordered.{IsOrdered, in_order, lost_are_none, fresh_in_order, front_within}
-use Rattle.placed_laws.proofs.Turns.{its_unit, its_turn}
-use Rattle.placed_laws.proofs.Distinct.{IsIn, Distinct, no_both, in_joined, at_in, passing, in_made, made_of, distinct_joined, distinct_range, distinct_made, one_maker, distinct_rows, distinct_at, distinct_few}
+use Rattle.placed_laws.proofs.Distinct.{IsIn, Distinct, in_joined, at_in, passing, in_made, made_of, distinct_joined, distinct_range, distinct_made, one_maker, distinct_rows, distinct_at, distinct_few}
 
 -- ---- the rows of the units
 

@@ -1,5 +1,5 @@
 -- The known chunks of a line, event by event.
-use Rattle.std.proofs.Common.{◌≡◌, ◌≢◌, ℕ, ◌+◌, ◌*◌, ◌<◌, ◌≤◌, ◌==◌, ◌&&◌, zero, suc, nat_lt, Bool, true, false, cond, Some, None, Option, List, [], ◌∷◌, ◌++◌, length, take, refl, sym, subst, ap, ap₂, ◌∙◌, arith, if◌then◌else◌}
+use Rattle.std.proofs.Common.{◌≡◌, ◌≢◌, ℕ, ◌+◌, ◌*◌, ◌≤◌, ◌==◌, ◌&&◌, zero, suc, nat_lt, Bool, true, false, cond, Some, None, Option, List, [], ◌∷◌, ◌++◌, length, take, refl, sym, subst, ap, ap₂, ◌∙◌, arith, if◌then◌else◌}
 use Rattle.std.specs.Prelude.{slice_get, slice_set, map}
 use Rattle.std.specs.List.{AllByRecursion, filter, filter_map, cons_option, enumerate_from, list_all}
 use Rattle.std.specs.Option.{option_and_then, option_map, option_map_or, option_to_list}
@@ -20,8 +20,9 @@ use Rattle.pblk_world.specs.EngineLog.{Begun, begun}
 use Rattle.pblk_world.specs.Lines.{found_by, found_image, told_by, told_events, known_image}
 use Rattle.pblk_world.specs.Victims.{engine_prefix}
 use Rattle.stripe_placer.proofs.Among.{got_here, got_else}
-use Rattle.core_laws.proofs.Lists.{all_at}
+use Rattle.core_laws.proofs.Lists.{all_at, got_within}
 use Rattle.core_laws.proofs.Placing.{weaker}
+use Rattle.core_laws.proofs.Numbering.{begun_stays}
 
 -- ---- prefixes of a list, one by one
 
@@ -29,11 +30,6 @@ pub take_next : {X : Type 0} (xs : List X) (k : ℕ) (x : X) → slice_get xs k 
 take_next [] k x e = absurd (none-some x e)
 take_next (y ∷ xs) zero x e = ap (λ z. z ∷ []) (same_Some y x e)
 take_next (y ∷ xs) (suc k) x e = ap (λ ys. y ∷ ys) (take_next xs k x e)
-
-pub got_within : {X : Type 0} (xs : List X) (k : ℕ) → k < length xs → (x : X) × (slice_get xs k ≡ Some x)
-got_within [] k h = absurd (omega arith)
-got_within (x ∷ xs) zero h = (x, refl)
-got_within (x ∷ xs) (suc k) h = got_within xs k (omega arith)
 
 pub by_prefixes : {X : Type 0} (xs : List X) (Q : ℕ → Type 0) → Q 0 → ((k : ℕ) (x : X) → slice_get xs k ≡ Some x → Q k → Q (suc k)) → (k : ℕ) → k ≤ length xs → Q k
 by_prefixes xs Q first next zero h = first
@@ -67,10 +63,6 @@ known_get i logs u =
     ∙ ap (λ v. option_map (λ (cs : List Chunk). after_log i.shape cs (told_events logs v)) (slice_get (found_image i logs).units u)) same
 
 -- ---- one more event
-
-pub begun_stays : (log : List Logged) (l : Logged) (b : Begun) → begun log ≡ Some b → begun (log ++ l ∷ []) ≡ begun log
-begun_stays [] l b e = absurd (none-some b e)
-begun_stays (m ∷ log) l b e = refl
 
 found_next : (i : Image) (logs : Logs) (k : ℕ) (l : Logged) (b : Begun) → slice_get (logs 0) k ≡ Some l → begun (take k (logs 0)) ≡ Some b → found_image i (engine_prefix (suc k) logs) ≡ found_image i (engine_prefix k logs)
 found_next i logs k l b there begins = by_begun (begun (take (suc k) (logs 0))) (ap (λ (xs : List Logged). begun xs) (take_next (logs 0) k l there) ∙ begun_stays (take k (logs 0)) l b begins)

@@ -4,6 +4,7 @@ use Rattle.std.specs.Prelude.{slice_get, slice_index, map}
 use Rattle.std.specs.List.{filter_map, cons_option, enumerate_from}
 use Rattle.std.specs.Option.{option_and_then}
 use Rattle.std.proofs.lemmas.Option.{same_Some, none-some}
+use Rattle.std.proofs.lemmas.List.{take-take as cut_cut}
 use Rattle.pblk_model.specs.Chunk.{Chunk}
 use Rattle.pblk_model.specs.UnitLog.{after_log}
 use Rattle.pblk_model.specs.Image.{Image}
@@ -14,29 +15,17 @@ use Rattle.pblk_world.specs.Lines.{found_by, found_image, told_by, told_events, 
 use Rattle.pblk_world.specs.Victims.{engine_prefix}
 use Rattle.pblk_world.specs.Legal.{IsAllowed, IsLegal}
 use Rattle.pblk_world.proofs.Growing.{knowledge_rises}
-use Rattle.core_laws.proofs.Lists.{map_same}
+use Rattle.core_laws.proofs.Lists.{map_same, get_whole, get_taken as get_cut}
 use Rattle.placed_laws.specs.StripePrograms.{HasHappened}
-use Rattle.placed_laws.proofs.Happened.{happened, get_whole}
+use Rattle.placed_laws.proofs.Happened.{happened}
 
 -- ---- cut lists
-
-get_cut : {X : Type 0} (m : ℕ) (xs : List X) (n : ℕ) → n < m → slice_get (take m xs) n ≡ slice_get xs n
-get_cut zero xs n h = absurd (omega arith)
-get_cut (suc m) [] n h = refl
-get_cut (suc m) (x ∷ xs) zero h = refl
-get_cut (suc m) (x ∷ xs) (suc n) h = get_cut m xs n (omega arith)
 
 pub cut_within : {X : Type 0} (m : ℕ) (xs : List X) (n : ℕ) (x : X) → slice_get (take m xs) n ≡ Some x → n < m
 cut_within zero xs n x e = absurd (none-some x e)
 cut_within (suc m) [] n x e = absurd (none-some x e)
 cut_within (suc m) (y ∷ xs) zero x e = omega arith
 cut_within (suc m) (y ∷ xs) (suc n) x e = let rest : n < m = cut_within m xs n x e in omega arith
-
-pub cut_cut : {X : Type 0} (n m : ℕ) (xs : List X) → n ≤ m → take n (take m xs) ≡ take n xs
-cut_cut zero m xs h = refl
-cut_cut (suc n) zero xs h = absurd (omega arith)
-cut_cut (suc n) (suc m) [] h = refl
-cut_cut (suc n) (suc m) (x ∷ xs) h = ap (λ ys. x ∷ ys) (cut_cut n m xs (omega arith))
 
 -- what is made of a list's elements, by where they stand
 made_alike : {X Y : Type 0} (f g : X → Option Y) (xs : List X) → ((j : ℕ) (x : X) → slice_get xs j ≡ Some x → f x ≡ g x) → filter_map f xs ≡ filter_map g xs
@@ -87,7 +76,7 @@ told_same i w k l unit legal there =
 
 -- ---- what the mount found
 
-first_knows : (log : List Logged) (b : Begun) → begun log ≡ Some b → (l : Logged) × (slice_get log 0 ≡ Some l) × (l.knows ≡ b.knows)
+pub first_knows : (log : List Logged) (b : Begun) → begun log ≡ Some b → (l : Logged) × (slice_get log 0 ≡ Some l) × (l.knows ≡ b.knows)
 first_knows [] b e = absurd (none-some b e)
 first_knows (l ∷ log) b e = (l, refl, by_event l.knows l.event e)
   where
@@ -95,7 +84,7 @@ first_knows (l ∷ log) b e = (l, refl, by_event l.knows l.event e)
     by_event knows (Decides (Begin beginning)) e = ap (λ (x : Begun). x.knows) (same_Some (record { beginning = beginning; knows = knows }) b e)
     by_event knows event e = absurd (none-some b e)
 
-media_same : (i : Image) (a b : Logs) → ((unit : ℕ) → a (suc unit) ≡ b (suc unit)) → media i a ≡ media i b
+pub media_same : (i : Image) (a b : Logs) → ((unit : ℕ) → a (suc unit) ≡ b (suc unit)) → media i a ≡ media i b
 media_same i a b same = ap (λ us. record { shape = i.shape; units = us })
     (map_same (λ (unit : ℕ × List Chunk). after_log i.shape unit.1 (unit_events a unit.0)) (λ (unit : ℕ × List Chunk). after_log i.shape unit.1 (unit_events b unit.0))
     (λ unit. ap (λ (xs : List Logged). after_log i.shape unit.1 (filter_map (λ (l : Logged). unit_event_of l.event) xs)) (same unit.0)) (enumerate_from 0 i.units))

@@ -1,5 +1,5 @@
 -- A line of which no stripe was lost has one left until all of them have landed.
-use Rattle.std.proofs.Common.{◌≡◌, ℕ, ◌+◌, ◌/◌, ◌&&◌, ◌||◌, zero, suc, not, nat_eq, Bool, true, false, Some, None, Option, List, [], ◌∷◌, length, refl, ap, ap₂, ◌∙◌, arith}
+use Rattle.std.proofs.Common.{◌≡◌, ℕ, ◌+◌, ◌/◌, ◌&&◌, ◌||◌, zero, suc, not, nat_eq, Bool, true, false, Some, None, Option, List, [], ◌∷◌, length, refl, ap, ◌∙◌, arith}
 use Rattle.std.specs.Prelude.{slice_get, slice_set, map, if◌then◌else◌}
 use Rattle.std.specs.List.{AllByRecursion, filter, list_any, list_all, range_with_len}
 use Rattle.std.specs.Option.{option_map_or}
@@ -14,7 +14,8 @@ use Rattle.core_laws.specs.Stepping.{after}
 use Rattle.core_laws.specs.PlainWorlds.{IsPlainWorld}
 use Rattle.core_laws.specs.OpenedLines.{as_opened, by_answer, became, placed_as, outcome, open_line}
 use Rattle.core_laws.specs.PlacerOf.{IsAwaited}
-use Rattle.core_laws.proofs.Lists.{filter_same}
+use Rattle.core_laws.proofs.Lists.{filter_same, none_any}
+use Rattle.core_laws.proofs.TakenSlots.{any_same}
 use Rattle.placed_laws.specs.LeftOpenings.{left_openings}
 use Rattle.placed_laws.proofs.Ordered.{HaveNoLoss, never_lost, ordered}
 use Rattle.placed_laws.proofs.LeftLines.{left_landed}
@@ -30,14 +31,6 @@ any_later g a (suc n) =
 any_numbered : (f : Stripe → Bool) (xs : List Stripe) → list_any (λ j. option_map_or f (slice_get xs j) false) (range_with_len 0 (length xs)) ≡ list_any f xs
 any_numbered f [] = refl
 any_numbered f (x ∷ xs) = ap (λ b. f x || b) (any_later (λ j. option_map_or f (slice_get (x ∷ xs) j) false) 0 (length xs) ∙ any_numbered f xs)
-
-any_same : {X : Type 0} (f g : X → Bool) → ((x : X) → f x ≡ g x) → (xs : List X) → list_any f xs ≡ list_any g xs
-any_same f g same [] = refl
-any_same f g same (x ∷ xs) = ap₂ (λ a b. a || b) (same x) (any_same f g same xs)
-
-none_any : {X : Type 0} (f : X → Bool) → ((x : X) → f x ≡ false) → (xs : List X) → list_any f xs ≡ false
-none_any f none [] = refl
-none_any f none (x ∷ xs) = ap₂ (λ a b. a || b) (none x) (none_any f none xs)
 
 none_at : (xs : List Stripe) (j : ℕ) → AllByRecursion (λ x. is_lost x ≡ false) xs → option_map_or is_lost (slice_get xs j) false ≡ false
 none_at [] j all = refl

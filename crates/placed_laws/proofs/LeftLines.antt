@@ -21,7 +21,7 @@ use Rattle.stripe_placer.specs.Inside.{AreApart}
 use Rattle.core_laws.specs.Stepping.{after}
 use Rattle.core_laws.specs.OpenedLines.{open_line, standing, open_lines, live_now}
 use Rattle.core_laws.specs.PlacerOf.{IsStripeOf, IsAwaited}
-use Rattle.core_laws.proofs.Lists.{fun_same, all_at, all_filter}
+use Rattle.core_laws.proofs.Lists.{fun_same, all_at, all_filter, all_mapped}
 use Rattle.core_laws.proofs.Steady.{AreAlike, standing_same, lines_same}
 use Rattle.core_laws.proofs.Placing.{IsPlacing, weaker}
 use Rattle.core_laws.proofs.PlacedLines.{IsPlacedAt, placed_at, lines_placed}
@@ -125,10 +125,6 @@ made_agree : (log new : List Logged) (ls : List OpenLine) → AllByRecursion (λ
     → filter_map (λ (l : OpenLine). opened_as (life_of new l.line)) ls ≡ filter_map (λ (l : OpenLine). opened_as (life_of log l.line)) ls
 made_agree log new [] same = refl
 made_agree log new (l ∷ ls) same = ap₂ (λ o ys. cons_option o ys) (ap opened_as same.0) (made_agree log new ls same.1)
-
-all_mapped : {X Y : Type 0} (P : Y → Type 0) (f : X → Y) (xs : List X) → AllByRecursion (λ x. P (f x)) xs → AllByRecursion P (map f xs)
-all_mapped P f [] all = tt
-all_mapped P f (x ∷ xs) all = (all.0, all_mapped P f xs all.1)
 
 pub left_more : (i : Image) (logs : Logs) (line : ℕ) (start : StartRecord) (knows : List ℕ) → is_opened (life_of (logs 0) line) ≡ false → 0 < length (opened i.shape line (live_now i logs line)).stripes
     → left_openings i (after logs (Open line start) knows) ≡ left_openings i logs ++ record { number = length (logs 0); line = line; start = start; knows = knows } ∷ []

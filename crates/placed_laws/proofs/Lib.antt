@@ -1,7 +1,6 @@
 pub mod Events
 pub mod Placed
 pub mod Ordered
-pub mod Turns
 pub mod OneStripe
 pub mod Distinct
 pub mod HeldPositions

@@ -5,15 +5,15 @@ use Rattle.std.specs.List.{Contains, filter}
 use Rattle.std.specs.Option.{option_to_list}
 use Rattle.std.proofs.lemmas.Bool.{eqb-true}
 use Rattle.std.proofs.lemmas.List.Elements.{filter-append}
-use Rattle.std.proofs.lemmas.Option.{slice_get_within, get_or_from_slice_get}
 use Rattle.pblk_model.specs.Image.{Image}
 use Rattle.pblk_world.specs.Events.{EngineEvent, Place, Decides, Logged}
 use Rattle.pblk_world.specs.World.{World, Logs, log_of}
 use Rattle.pblk_world.specs.EngineLog.{life_of, Placed, placed_by, placements, placed_on, answers, answer_by, is_answered}
 use Rattle.pblk_world.specs.Legal.{MayDecide, IsLegal}
 use Rattle.pblk_world.proofs.Appending.{answers_more, placements_more}
+use Rattle.core_laws.proofs.Lists.{is_in}
+use Rattle.core_laws.proofs.Turns.{its_unit, its_turn}
 use Rattle.placed_laws.proofs.Events.{of_legal_log}
-use Rattle.placed_laws.proofs.Turns.{its_unit, its_turn}
 
 abbrev HasOne : List Logged → Type 0
 HasOne log = (unit : ℕ) → length (placed_on log unit) ≤ length (answers log unit) + 1
@@ -27,9 +27,6 @@ some_within : {X : Type 0} (xs : List X) (k : ℕ) → is_some (slice_get xs k) 
 some_within [] k e = absurd cc
 some_within (x ∷ xs) zero e = omega arith
 some_within (x ∷ xs) (suc k) e = let rest : k < length xs = some_within xs k e in omega arith
-
-is_in : {X : Type 0} (xs : List X) (k : ℕ) (x : X) → slice_get xs k ≡ Some x → Contains xs x
-is_in xs k x e = (k, slice_get_within xs k x e, get_or_from_slice_get xs k x x e)
 
 -- where all of them are answered, there are as many answers
 pub all_answered : (log : List Logged) (unit : ℕ) → ((p : Placed) → Contains (placed_on log unit) p → is_answered log p ≡ true) → length (placed_on log unit) ≤ length (answers log unit)

@@ -1,5 +1,5 @@
 -- The engine's log of a plain world: what was taken, and that it is placed in order.
-use Rattle.std.proofs.Common.{◌≡◌, ◌≢◌, ◌⊎◌, inl, inr, ℕ, ◌+◌, ◌-◌, ◌^◌, ◌<◌, ◌≤◌, ◌==◌, ◌&&◌, zero, suc, not, nat_lt, nat_le, min, Bool, true, false, cond, Some, None, Option, List, [], ◌∷◌, ◌++◌, length, take, drop, replicate, refl, sym, subst, ap, ap₂, ◌∙◌, arith, append-nil, length-append}
+use Rattle.std.proofs.Common.{◌≡◌, ◌⊎◌, inl, inr, ℕ, ◌+◌, ◌-◌, ◌^◌, ◌<◌, ◌≤◌, ◌==◌, ◌&&◌, zero, suc, not, nat_lt, nat_le, min, Bool, true, false, cond, Some, None, Option, List, [], ◌∷◌, ◌++◌, length, take, drop, replicate, refl, sym, subst, ap, ap₂, ◌∙◌, arith, append-nil, length-append}
 use Rattle.std.specs.Prelude.{is_some, if◌then◌else◌, map, slice_range}
 use Rattle.std.specs.List.{AllByRecursion, filter, filter_map, flat_map, list_any, range_with_len, cons_option}
 use Rattle.std.specs.Option.{option_to_list}
@@ -30,20 +30,17 @@ use Rattle.pblk_world.proofs.Appending.{takes_more, placements_more, answers_mor
 use Rattle.core_laws.specs.PlainWorlds.{is_plain_decision, IsPlainWorld}
 use Rattle.core_laws.specs.PlacerOf.{positions_of, positions_in_stripe, lost_entries, fresh_entries}
 use Rattle.core_laws.specs.Positions.{AreNumbered, AreMarked}
-use Rattle.core_laws.proofs.Lists.{all_at, filter_same}
-use Rattle.core_laws.proofs.Rows.{other_number}
-use Rattle.core_laws.proofs.Placing.{is_below, not_below, weaker}
+use Rattle.core_laws.proofs.Lists.{all_at, filter_same, all_dropped, all_taken, all_replicated}
+use Rattle.core_laws.proofs.Placing.{weaker}
 use Rattle.core_laws.proofs.Numbering.{first_stays, numbered_after}
 use Rattle.core_laws.proofs.KeptPositions.{marked_after}
-use Rattle.core_laws.proofs.PlacedPositions.{all_joined}
+use Rattle.core_laws.proofs.PlacedPositions.{all_joined, unnamed}
+use Rattle.stripe_placer.proofs.Chunks.{lt_yes as is_below}
 use Rattle.placed_laws.specs.Placed.{placed_positions, placed_count}
 use Rattle.placed_laws.proofs.Events.{IsKept, of_plain_log}
 use Rattle.placed_laws.proofs.Placed.{is_in_list, some_hold, was_placed_by, rest_are_last, placed_are_first, range_dropped, range_taken, range_joined, in_range}
 
 -- ---- blocks without positions
-
-unnamed : (s : Shape) (m : Mark) → s.capacity ≤ meta_lba → meta_lba ≤ m.lba → m.lba ≢ void_lba → is_some (named s m) ≡ false
-unnamed s m small above other = ap₂ (λ a b. is_some (if a then Some (Some m.lba) else (if b then Some None else None))) (not_below s.capacity m.lba (omega arith)) (other_number m.lba void_lba other)
 
 abbrev BearsNone : Shape → Block → Type 0
 BearsNone s b = is_some (named s b.mark) ≡ false
@@ -51,20 +48,6 @@ BearsNone s b = is_some (named s b.mark) ≡ false
 none_in : (s : Shape) (bs : List Block) → AllByRecursion (BearsNone s) bs → filter_map (position_in s) bs ≡ []
 none_in s [] all = refl
 none_in s (b ∷ bs) all = ap (λ c. cons_option (if c then Some b.mark.position else None) (filter_map (position_in s) bs)) all.0 ∙ none_in s bs all.1
-
-all_taken : {X : Type 0} (P : X → Type 0) (n : ℕ) (xs : List X) → AllByRecursion P xs → AllByRecursion P (take n xs)
-all_taken P zero xs all = tt
-all_taken P (suc n) [] all = tt
-all_taken P (suc n) (x ∷ xs) all = (all.0, all_taken P n xs all.1)
-
-all_dropped : {X : Type 0} (P : X → Type 0) (n : ℕ) (xs : List X) → AllByRecursion P xs → AllByRecursion P (drop n xs)
-all_dropped P zero xs all = all
-all_dropped P (suc n) [] all = tt
-all_dropped P (suc n) (x ∷ xs) all = all_dropped P n xs all.1
-
-all_replicated : {X : Type 0} (P : X → Type 0) (n : ℕ) (x : X) → P x → AllByRecursion P (replicate n x)
-all_replicated P zero x p = tt
-all_replicated P (suc n) x p = (p, all_replicated P n x p)
 
 pads_bear_none : (s : Shape) → s.capacity ≤ meta_lba → BearsNone s (pad_block s)
 pads_bear_none s small = unnamed s (pad_block s).mark small (omega arith) (λ e. absurd (omega (arith, e)))
@@ -226,10 +209,6 @@ no_loss_after log e knows plain none unit =
     let l : Logged = record { event = Decides e; knows = knows } in
     subst (AllByRecursion (λ (a : Answer). is_loss (Some a) ≡ false)) (sym (answers_more log l unit))
     (all_joined (λ (a : Answer). is_loss (Some a) ≡ false) (answers log unit) (option_to_list (answer_by unit (Decides e))) (none unit) (answer_is_none e unit plain))
-
--- what an event adds to the placed positions
-added_positions : Shape → List Logged → EngineEvent → List ℕ
-added_positions s log e = flat_map (λ (p : Placed). positions_in_stripe s p.stripe) (option_to_list (placed_by log (length log) (Decides e)))
 
 takes_grow : (log : List Logged) (l : Logged) → length (takes log) ≤ length (takes (log ++ l ∷ []))
 takes_grow log l =

@@ -1,7 +1,7 @@
 -- Which entries were placed, where the stripes' positions follow one another.
-use Rattle.std.proofs.Common.{◌≡◌, ◌≢◌, ℕ, ◌+◌, ◌-◌, ◌<◌, ◌==◌, ◌&&◌, ◌||◌, zero, suc, not, nat_lt, nat_le, min, Bool, true, false, cond, Some, None, List, [], ◌∷◌, ◌++◌, length, take, drop, refl, sym, ap, ap₂, ◌∙◌, arith}
+use Rattle.std.proofs.Common.{◌≡◌, ◌≢◌, ℕ, ◌+◌, ◌-◌, ◌==◌, ◌&&◌, ◌||◌, zero, suc, not, nat_lt, nat_le, min, Bool, true, false, cond, Some, None, List, [], ◌∷◌, ◌++◌, length, take, drop, refl, sym, ap, ap₂, ◌∙◌, arith}
 use Rattle.std.specs.Prelude.{is_some, if◌then◌else◌}
-use Rattle.std.specs.List.{AllByRecursion, filter, filter_map, flat_map, list_any, range_with_len, cons_option}
+use Rattle.std.specs.List.{filter, filter_map, flat_map, list_any, range_with_len, cons_option}
 use Rattle.std.proofs.lemmas.List.Folds.{list_any-append}
 use Rattle.pblk_model.specs.declared.shape.Shape.{Shape}
 use Rattle.pblk_model.specs.Chunk.{Block}
@@ -13,6 +13,7 @@ use Rattle.pblk_world.specs.Victims.{position_in}
 use Rattle.core_laws.specs.PlacerOf.{positions_of, positions_in_stripe}
 use Rattle.core_laws.proofs.Lists.{filter_agree}
 use Rattle.core_laws.proofs.Rows.{other_number, same_number}
+use Rattle.core_laws.proofs.Removing.{above as above_all}
 use Rattle.placed_laws.specs.Placed.{placed_positions}
 
 abbrev pub is_in_list : List ℕ → ℕ → Bool
@@ -58,14 +59,6 @@ pub in_range : (a n q : ℕ) → is_in_list (range_with_len a n) q ≡ (nat_le a
 in_range a zero q = grind arith
 in_range a (suc n) q = ap (λ b. (a == q) || b) (in_range (a + 1) n q) ∙ grind arith
 
-above_all : (a n q : ℕ) (ts : List Taken) → q < a → positions_of ts ≡ range_with_len a n → AllByRecursion (λ (u : Taken). u.entry.position ≢ q) ts
-above_all a n q [] below is = tt
-above_all a zero q (t ∷ ts) below is = absurd cc
-above_all a (suc n) q (t ∷ ts) below is =
-    let first : t.entry.position ≡ a = cc in
-    let rest : positions_of ts ≡ range_with_len (a + 1) n = cc in
-    ((λ e. absurd (omega arith)), above_all (a + 1) n q ts (omega arith) rest)
-
 beside_first : (a n : ℕ) (t : Taken) → t.entry.position ≢ a → is_in_list (range_with_len a (suc n)) t.entry.position ≡ is_in_list (range_with_len (a + 1) n) t.entry.position
 beside_first a n t apart = ap (λ b. b || is_in_list (range_with_len (a + 1) n) t.entry.position) (other_number a t.entry.position (λ e. apart (sym e)))
 
@@ -79,10 +72,6 @@ all_stay (t ∷ ts) = ap (λ us. t ∷ us) (all_stay ts)
 none_stay : (ts : List Taken) → filter (λ (t : Taken). is_in_list [] t.entry.position) ts ≡ []
 none_stay [] = refl
 none_stay (t ∷ ts) = none_stay ts
-
-drop_none : {X : Type 0} (n : ℕ) → drop {A = X} n [] ≡ []
-drop_none zero = refl
-drop_none (suc n) = refl
 
 -- of entries in a row the ones past the placed ones are the last
 pub rest_are_last : (a n m : ℕ) (ts : List Taken) → positions_of ts ≡ range_with_len a m → filter (λ (t : Taken). not (is_in_list (range_with_len a n) t.entry.position)) ts ≡ drop n ts

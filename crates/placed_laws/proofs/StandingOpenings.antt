@@ -8,33 +8,14 @@ use Rattle.std.proofs.lemmas.Option.{same_Some, none-some}
 use Rattle.pblk_world.specs.Events.{Open, Free, Event, Decides, Logged}
 use Rattle.pblk_world.specs.EngineLog.{LineLife, AsFound, Opened, Freed, is_life, life_of, turned, turned_by, last_opening, Opening, opened_by, openings}
 use Rattle.core_laws.specs.OpenedLines.{standing}
-use Rattle.core_laws.proofs.Lists.{all_at, all_filter}
+use Rattle.core_laws.proofs.Lists.{all_at, all_filter, zipped}
 use Rattle.core_laws.proofs.PlacedLines.{IsStanding, all_standing}
+use Rattle.core_laws.proofs.Engine.{opened_number}
+use Rattle.core_laws.proofs.Numbers.{get_middle, made_at}
 
 -- the opening that is the event of this number
 abbrev pub opening_at : List Logged → ℕ → Option Opening
 opening_at log n = option_and_then (λ (l : Logged). opened_by n l.knows l.event) (slice_get log n)
-
-get_middle : {X : Type 0} (xs : List X) (y : X) (ys : List X) → slice_get (xs ++ y ∷ ys) (length xs) ≡ Some y
-get_middle [] y ys = refl
-get_middle (x ∷ xs) y ys = get_middle xs y ys
-
-made_at : {X Y : Type 0} (h : ℕ × X → Option Y) (P : Y → Type 0) (before xs all : List X) (n : ℕ) → n ≡ length before → all ≡ before ++ xs
-    → ((e : ℕ × X) (y : Y) → slice_get all e.0 ≡ Some e.1 → h e ≡ Some y → P y) → AllByRecursion P (filter_map h (enumerate_from n xs))
-made_at h P before [] all n count is says = tt
-made_at {X} {Y} h P before (x ∷ xs) all n count is says = go (h (n, x)) refl
-    (made_at h P (before ++ x ∷ []) xs all (n + 1) (omega (arith, count, length-append before (x ∷ []))) (is ∙ sym (append_assoc before (x ∷ []) xs)) says)
-  where
-    here : slice_get all n ≡ Some x
-    here = ap₂ (λ (ys : List X) k. slice_get ys k) is count ∙ get_middle before x xs
-
-    go : (o : Option Y) → h (n, x) ≡ o → AllByRecursion P (filter_map h (enumerate_from (n + 1) xs)) → AllByRecursion P (cons_option o (filter_map h (enumerate_from (n + 1) xs)))
-    go None e rest = rest
-    go (Some y) e rest = (says (n, x) y here e, rest)
-
-opened_number : (number : ℕ) (knows : List ℕ) (e : Event) (o : Opening) → opened_by number knows e ≡ Some o → o.number ≡ number
-opened_number number knows (Decides (Open line start)) o h = ap (λ (x : Opening). x.number) (sym (same_Some (record { number = number; line = line; start = start; knows = knows }) o h))
-opened_number number knows e o h = absurd (none-some o h)
 
 pub openings_there : (log : List Logged) → AllByRecursion (λ (o : Opening). opening_at log o.number ≡ Some o) (openings log)
 openings_there log = made_at (λ (e : ℕ × Logged). opened_by e.0 e.1.knows e.1.event) (λ (o : Opening). opening_at log o.number ≡ Some o) [] log log 0 refl refl
@@ -79,10 +60,6 @@ alive_opened log o there alive = go (life_of log o.line) refl alive
         let number : other.number ≡ o.number = eqb-true other.number o.number a in
         ap (λ (x : Opening). Opened x) (same_Some other o (sym (life_there log o.line other e) ∙ ap (opening_at log) number ∙ there))
     go (Freed past knows) e a = absurd cc
-
-zipped : {X : Type 0} (P Q R : X → Type 0) → ((x : X) → P x → Q x → R x) → (xs : List X) → AllByRecursion P xs → AllByRecursion Q xs → AllByRecursion R xs
-zipped P Q R says [] p q = tt
-zipped P Q R says (x ∷ xs) p q = (says x p.0 q.0, zipped P Q R says xs p.1 q.1)
 
 -- an opening that stands is that of its line's life
 pub standing_opened : (log : List Logged) → AllByRecursion (λ (o : Opening). life_of log o.line ≡ Opened o) (standing log)

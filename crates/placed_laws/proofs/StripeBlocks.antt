@@ -1,5 +1,5 @@
 -- Each stripe has as many blocks as a program writes, and a line has marks for its data.
-use Rattle.std.proofs.Common.{◌≡◌, ◌⊎◌, inl, inr, ℕ, ◌+◌, ◌-◌, ◌*◌, ◌/◌, ◌%◌, ◌<◌, ◌≤◌, ◌&&◌, zero, suc, not, nat_lt, nat_eq, min, Bool, true, false, List, [], ◌∷◌, ◌++◌, length, take, drop, replicate, refl, sym, subst, ap, ap₂, ◌∙◌, arith, length-append, length-take, length-drop, div-add-mod'}
+use Rattle.std.proofs.Common.{◌≡◌, ◌⊎◌, inl, inr, ℕ, ◌+◌, ◌-◌, ◌*◌, ◌/◌, ◌%◌, ◌<◌, ◌≤◌, ◌&&◌, suc, not, nat_lt, nat_eq, min, Bool, true, false, List, [], ◌∷◌, ◌++◌, length, take, drop, replicate, refl, sym, subst, ap, ap₂, ◌∙◌, arith, length-append, length-take, length-drop, div-add-mod'}
 use Rattle.std.specs.Prelude.{slice_range, map, if◌then◌else◌}
 use Rattle.std.specs.List.{AllByRecursion, flat_map}
 use Rattle.std.specs.Option.{option_to_list}
@@ -20,7 +20,7 @@ use Rattle.pblk_model.specs.StartRecord.{StartRecord, start_bytes}
 use Rattle.pblk_model.specs.EndRecord.{end_bytes}
 use Rattle.pblk_world.specs.Events.{EngineEvent, Stripe, Open, Place, Free, Decides, Logged}
 use Rattle.pblk_world.specs.World.{World, Logs, log_of}
-use Rattle.pblk_world.specs.EngineLog.{LineLife, Opened, Freed, life_of, last_opening, is_life, Opening, Taken, Placed, placed_by, placements, stripes_of, block_of_taken}
+use Rattle.pblk_world.specs.EngineLog.{Opened, Freed, life_of, last_opening, is_life, Opening, Taken, Placed, placed_by, placements, stripes_of, block_of_taken}
 use Rattle.pblk_world.specs.Fronts.{waiting}
 use Rattle.pblk_world.specs.Lines.{known_image, has_number, are_empty, line_data, is_free_line}
 use Rattle.pblk_world.specs.Placing.{next_address, end_address, end_record, data_marks, IsStart, IsData, IsEnd, IsPad, record_blocks}
@@ -28,6 +28,7 @@ use Rattle.pblk_world.specs.Legal.{MayDecide, IsLegal}
 use Rattle.pblk_world.proofs.Appending.{life_more, placements_more}
 use Rattle.core_laws.proofs.Lists.{all_filter}
 use Rattle.core_laws.proofs.PlacedPositions.{all_joined}
+use Rattle.stripe_placer.proofs.Rows.{length_map as length_mapped, length_replicate as length_replicated}
 use Rattle.placed_laws.proofs.Events.{of_legal_log}
 
 -- ---- numbers
@@ -58,17 +59,9 @@ data_ends s g some = go (nat_lt (g * s.clba - start_len s - end_len s g) s.ws_op
 
 -- ---- lengths
 
-length_blocks : (size : ℕ) (bytes : List ℕ) (marks : List Mark) → length (blocks_of size bytes marks) ≡ length marks
+pub length_blocks : (size : ℕ) (bytes : List ℕ) (marks : List Mark) → length (blocks_of size bytes marks) ≡ length marks
 length_blocks size bytes [] = refl
 length_blocks size bytes (m ∷ marks) = ap suc (length_blocks size (drop size bytes) marks)
-
-length_replicated : {X : Type 0} (n : ℕ) (x : X) → length (replicate n x) ≡ n
-length_replicated zero x = refl
-length_replicated (suc n) x = ap suc (length_replicated n x)
-
-length_mapped : {X Y : Type 0} (f : X → Y) (xs : List X) → length (map f xs) ≡ length xs
-length_mapped f [] = refl
-length_mapped f (x ∷ xs) = ap suc (length_mapped f xs)
 
 length_record : (s : Shape) (seq count : ℕ) (bytes : List ℕ) → length (record_blocks s seq count bytes) ≡ count
 length_record s seq count bytes = length_blocks s.sector bytes (replicate count (meta_mark seq)) ∙ length_replicated count (meta_mark seq)
@@ -146,9 +139,6 @@ free_is_wide i known line is = go (not (has_number i known (life_of (known 0) li
     go true false c e f = absurd cc
     go false b c e f = absurd cc
 
-IsWide : Shape → LineLife → Type 0
-IsWide s life = (o : Opening) → life ≡ Opened o → 0 < data_len s o.start.width
-
 opened_is : (o p : Opening) → Opened o ≡ Opened p → o ≡ p
 opened_is o p e = cc
 
@@ -189,7 +179,7 @@ have_blocks i w accepted legal = of_legal_log i (HaveBlocks i.shape) (record { w
 
 -- ---- the marks of a line's data
 
-length_joined : (n : ℕ) (ps : List Placed) → AllByRecursion (λ (p : Placed). length p.stripe.blocks ≡ n) ps → length (flat_map (λ (p : Placed). p.stripe.blocks) ps) ≡ length ps * n
+pub length_joined : (n : ℕ) (ps : List Placed) → AllByRecursion (λ (p : Placed). length p.stripe.blocks ≡ n) ps → length (flat_map (λ (p : Placed). p.stripe.blocks) ps) ≡ length ps * n
 length_joined n [] all = sym (zero-mul n)
 length_joined n (p ∷ ps) all =
     length-append p.stripe.blocks (flat_map (λ (p : Placed). p.stripe.blocks) ps) ∙ ap₂ (λ a b. a + b) all.0 (length_joined n ps all.1) ∙ swapped n (length ps * n) ∙ sym (suc-mul (length ps) n)

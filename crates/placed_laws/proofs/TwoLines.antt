@@ -6,6 +6,7 @@ use Rattle.std.specs.Option.{option_and_then, option_map_or}
 use Rattle.std.proofs.lemmas.Bool.{cases_order}
 use Rattle.std.proofs.lemmas.Option.{same_Some, none-some, slice_get_within, get_or_from_slice_get}
 use Rattle.std.proofs.Math.Nat.{mul_comm, zero-mul}
+use Rattle.std.proofs.lemmas.List.{take-take as cut_cut}
 use Rattle.pblk_model.specs.declared.shape.Shape.{Shape}
 use Rattle.pblk_model.specs.Shape.{units}
 use Rattle.pblk_model.specs.Accepted.{IsAccepted}
@@ -24,25 +25,26 @@ use Rattle.pblk_world.proofs.Appending.{life_more}
 use Rattle.stripe_placer.specs.OpenLines.{Stripe, OpenLine, width, unit_of, is_landed, has_left}
 use Rattle.stripe_placer.specs.OpenLines.Stripe.{Unplaced}
 use Rattle.stripe_placer.proofs.Among.{IsAmong}
+use Rattle.stripe_placer.proofs.Rows.{length_map as length_mapped, length_replicate as length_replicated}
 use Rattle.core_laws.specs.PlainWorlds.{IsPlainWorld}
 use Rattle.core_laws.specs.OpenedLines.{bits_of, opened_units, as_opened, is_stripe_at, by_answer, became, placed_as, outcome, open_line, open_lines, standing}
-use Rattle.core_laws.proofs.Lists.{fun_same, all_at}
+use Rattle.core_laws.proofs.Lists.{fun_same, all_at, got_within}
 use Rattle.core_laws.proofs.Numbers.{life_at}
-use Rattle.core_laws.proofs.Opening.{length_replicated}
 use Rattle.core_laws.proofs.Stripes.{at_its_place}
 use Rattle.core_laws.proofs.Turns.{found_is, filtered_is}
+use Rattle.core_laws.proofs.Tests.{no_both}
 use Rattle.placed_laws.specs.LeftOpenings.{left_openings}
 use Rattle.placed_laws.specs.StripePrograms.{HasHappened}
 use Rattle.placed_laws.proofs.Ordered.{HaveNoLoss}
-use Rattle.placed_laws.proofs.Distinct.{passed_by, no_both}
+use Rattle.placed_laws.proofs.Distinct.{passed_by}
 use Rattle.placed_laws.proofs.EntryHolds.{found_any}
 use Rattle.placed_laws.proofs.LandedLines.{left_by_landing, none_lost_in}
 use Rattle.placed_laws.proofs.LeftLines.{lines_of_left, left_opened, left_apart}
 use Rattle.placed_laws.proofs.StandingOpenings.{opening_at, life_there, NumbersRise, rise_filtered, standing_rise}
 use Rattle.placed_laws.proofs.StripeBlocks.{data_ends}
 use Rattle.placed_laws.proofs.Happened.{happened}
-use Rattle.placed_laws.proofs.KnownImages.{cut_cut, known_by_prefix}
-use Rattle.placed_laws.proofs.KnownChunks.{take_next, got_within, length_known, units_by_live}
+use Rattle.placed_laws.proofs.KnownImages.{known_by_prefix}
+use Rattle.placed_laws.proofs.KnownChunks.{take_next, length_known, units_by_live}
 use Rattle.placed_laws.specs.StripeTurns.{IsAtTurn}
 use Rattle.placed_laws.proofs.GoingLines.{landed_on, IsGoing}
 use Rattle.placed_laws.proofs.GoingAll.{IsWell, all_well}
@@ -51,7 +53,7 @@ use Rattle.placed_laws.proofs.FullLines.{IsLandedWhole, over_landed, landed_stay
 
 -- ---- prefixes
 
-prefix_prefix : (logs : Logs) (n k : ℕ) → n ≤ k → engine_prefix n (engine_prefix k logs) ≡ engine_prefix n logs
+pub prefix_prefix : (logs : Logs) (n k : ℕ) → n ≤ k → engine_prefix n (engine_prefix k logs) ≡ engine_prefix n logs
 prefix_prefix logs n k h = fun_same (engine_prefix n (engine_prefix k logs)) (engine_prefix n logs) each
   where
     each : (author : ℕ) → engine_prefix n (engine_prefix k logs) author ≡ engine_prefix n logs author
@@ -143,7 +145,7 @@ full_line i logs k line o accepted few same before wide is none whole =
 
 -- ---- lines that are over
 
-wide_width : (s : Shape) (g : ℕ) → 0 < data_len s g → 0 < g
+pub wide_width : (s : Shape) (g : ℕ) → 0 < data_len s g → 0 < g
 wide_width s zero some =
     let ends : start_len s + data_len s 0 + end_len s 0 ≡ 0 * s.clba = data_ends s 0 some in
     let none : 0 * s.clba ≡ 0 = zero-mul s.clba in
@@ -302,10 +304,6 @@ at_most_two i w plain = go (cases_order 2 (length (left_openings i (log_of w))))
         let b = got_within (left_openings i (log_of w)) 1 (omega (arith, many)) in
         let c = got_within (left_openings i (log_of w)) 2 many in
         absurd (three a.0 b.0 c.0 a.1 b.1 c.1)
-
-length_mapped : {X Y : Type 0} (f : X → Y) (xs : List X) → length (map f xs) ≡ length xs
-length_mapped f [] = refl
-length_mapped f (x ∷ xs) = ap suc (length_mapped f xs)
 
 pub two_lines : (i : Image) (w : World) → IsPlainWorld i w → length (open_lines i (log_of w)) ≤ 2
 two_lines i w plain =

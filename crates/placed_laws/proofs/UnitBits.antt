@@ -18,7 +18,7 @@ pub rises_lower : (a b : ℕ) (us : List ℕ) → a ≤ b → RisesFrom b us →
 rises_lower a b [] h rise = tt
 rises_lower a b (u ∷ us) h rise = let low : b ≤ u = rise.0 in (omega arith, rise.1)
 
-bits_more : (u : ℕ) (us : List ℕ) → bits_of (u ∷ us) ≡ 2 ^ u + bits_of us
+pub bits_more : (u : ℕ) (us : List ℕ) → bits_of (u ∷ us) ≡ 2 ^ u + bits_of us
 bits_more u us = sum_by-cons (λ unit. 2 ^ unit) u us
 
 -- numbers from a on make a multiple of the a-th power of two

@@ -8,6 +8,7 @@ use Rattle.pblk_world.specs.Events.{Landed, Lost, Event, Decides, Logged}
 use Rattle.pblk_world.specs.EngineLog.{Placed, placements, Answer, DidLand, answer_by, answers, turn, is_land, is_loss, has_landed, was_lost, Opening, stripes_of, has_failed}
 use Rattle.pblk_world.proofs.Appending.{answers_more}
 use Rattle.core_laws.specs.PlainWorlds.{is_plain_event, ArePlain}
+use Rattle.core_laws.proofs.Lists.{get_more}
 
 -- ---- nothing is lost
 
@@ -47,11 +48,6 @@ pub not_failed : (log : List Logged) (o : Opening) → ArePlain log → has_fail
 not_failed log o plain = none_fails log (stripes_of log o) plain
 
 -- ---- what has landed stays so
-
-get_more : {X : Type 0} (xs ys : List X) (n : ℕ) (x : X) → slice_get xs n ≡ Some x → slice_get (xs ++ ys) n ≡ Some x
-get_more [] ys n x e = absurd (none-some x e)
-get_more (y ∷ xs) ys zero x e = e
-get_more (y ∷ xs) ys (suc n) x e = get_more xs ys n x e
 
 land_more : (xs ys : List Answer) (n : ℕ) → is_land (slice_get xs n) ≡ true → is_land (slice_get (xs ++ ys) n) ≡ true
 land_more xs ys n e = go (slice_get xs n) refl e

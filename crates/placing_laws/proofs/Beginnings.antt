@@ -1,11 +1,11 @@
 -- What the engine of a plain world was told, and with what its mount began, as the logs grow.
 use Rattle.std.proofs.Common.{◌≡◌, ◌≢◌, ◌⊎◌, inl, inr, ℕ, ◌+◌, ◌<◌, ◌≤◌, ◌==◌, zero, suc, nat_eq, nat_lt, Bool, true, false, Some, None, Option, List, [], ◌∷◌, ◌++◌, map, length, take, refl, sym, subst, ap, ap₂, ◌∙◌, arith, if◌then◌else◌, length-append}
 use Rattle.std.specs.Prelude.{slice_get, slice_index, ⊤}
-use Rattle.std.specs.List.{AllByRecursion, Contains, filter_map, cons_option, enumerate_from}
+use Rattle.std.specs.List.{AllByRecursion, Contains, filter_map, enumerate_from}
 use Rattle.std.specs.Option.{option_map, option_and_then}
 use Rattle.std.proofs.lemmas.Bool.{eqb-true}
 use Rattle.std.proofs.lemmas.List.{take-append-le}
-use Rattle.std.proofs.lemmas.Option.{same_Some, none-some, slice_get_within, get_or_from_slice_get, slice_get-get_or}
+use Rattle.std.proofs.lemmas.Option.{same_Some, none-some, slice_get-get_or}
 use Rattle.pblk_model.specs.declared.chunk.ChunkState.TheVariants as states
 use Rattle.pblk_model.specs.Chunk.{Chunk, Block}
 use Rattle.pblk_model.specs.ChunkStep.{ChunkCommand, Write, Read, Reset, Done}
@@ -18,18 +18,13 @@ use Rattle.pblk_world.specs.Lines.{found_by, told_by, told_events, known_image}
 use Rattle.pblk_world.specs.Commanding.{is_program}
 use Rattle.pblk_world.proofs.Growing.{at_end}
 use Rattle.core_laws.specs.PlainWorlds.{is_plain_event, IsPlainWorld}
-use Rattle.core_laws.proofs.Lists.{all_at, fun_same}
-use Rattle.placing_laws.proofs.Worlds.{plain_before, all_and_last}
+use Rattle.core_laws.proofs.Lists.{all_at, fun_same, get_more, is_in as contains_at, with_last as all_and_last}
+use Rattle.placing_laws.proofs.Worlds.{plain_before}
 use Rattle.placing_laws.proofs.PlainEvents.{IsNextPlain, next_plain, has_begun_plain}
 use Rattle.placing_laws.proofs.Online.{get_numbered}
 use Rattle.placing_laws.proofs.UnitHistory.{made, chunk_at, IsEventAt, are_fine}
 
 -- ---- growing logs
-
-get_more : {X : Type 0} (xs ys : List X) (n : ℕ) (x : X) → slice_get xs n ≡ Some x → slice_get (xs ++ ys) n ≡ Some x
-get_more [] ys n x e = absurd (none-some x e)
-get_more (y ∷ xs) ys zero x e = e
-get_more (y ∷ xs) ys (suc n) x e = get_more xs ys n x e
 
 pub grown : (log : List Logged) (l : Logged) (b : Bool) (n : ℕ) (m : Logged) → slice_get log n ≡ Some m → slice_get (if b then log ++ l ∷ [] else log) n ≡ Some m
 grown log l true n m e = get_more log (l ∷ []) n m e
@@ -215,12 +210,9 @@ first_knows (l ∷ log) b e = (l, (0, omega arith, refl), by l.event e)
     by (Decides (Begin first)) f = ap (λ (c : Begun). c.knows) (sym (same_Some (record { beginning = first; knows = l.knows }) b f))
     by x f = absurd (none-some b f)
 
-begun_stays : (log : List Logged) (l : Logged) (b : Begun) → begun log ≡ Some b → begun (log ++ l ∷ []) ≡ Some b
+pub begun_stays : (log : List Logged) (l : Logged) (b : Begun) → begun log ≡ Some b → begun (log ++ l ∷ []) ≡ Some b
 begun_stays [] l b e = absurd (none-some b e)
 begun_stays (m ∷ log) l b e = e
-
-contains_at : {X : Type 0} (xs : List X) (k : ℕ) (x : X) → slice_get xs k ≡ Some x → Contains xs x
-contains_at xs k x e = (k, slice_get_within xs k x e, get_or_from_slice_get xs k x x e)
 
 from_last : (log : List Logged) (l m : Logged) → Contains (log ++ l ∷ []) m → Contains log m ⊎ (l ≡ m)
 from_last log l m c = go (at_end log l m c.0 (slice_get-get_or (log ++ l ∷ []) c.0 m c.1 ∙ ap (λ (z : Logged). Some z) c.2))
@@ -294,10 +286,6 @@ image_same i ls logs same told first =
     found_same (Some b) e =
         ap (λ (es : ℕ → List UnitEvent). record { shape = i.shape; units = map (λ unit. after_log i.shape unit.1 (es unit.0)) (enumerate_from 0 i.units) })
         (fun_same (unit_events (cut_logs b.knows ls)) (unit_events (cut_logs b.knows logs)) (λ unit. ap (λ (log : List Logged). filter_map (λ (l : Logged). unit_event_of l.event) log) (first b e unit)))
-
-made_same : {X Y : Type 0} (f g : X → Option Y) (P : X → Type 0) (xs : List X) → ((x : X) → P x → f x ≡ g x) → AllByRecursion P xs → filter_map f xs ≡ filter_map g xs
-made_same f g P [] same all = refl
-made_same f g P (x ∷ xs) same all = ap₂ (λ o ys. cons_option o ys) (same x all.0) (made_same f g P xs same all.1)
 
 -- where the units' logs name the same events
 unfoldable pub SameAt : World → Logs → Logs → Logged → Type 0

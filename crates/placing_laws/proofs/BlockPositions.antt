@@ -1,5 +1,5 @@
 -- The positions that a stripe's blocks bear: those of its entries, and none where it has no entries.
-use Rattle.std.proofs.Common.{◌≡◌, ◌≢◌, ℕ, ◌-◌, ◌<◌, ◌≤◌, ◌==◌, ◌&&◌, not, zero, suc, true, false, Some, None, Option, List, [], ◌∷◌, ◌++◌, map, length, take, drop, replicate, refl, sym, subst, ap, ap₂, ◌∙◌, arith, if◌then◌else◌, append-nil}
+use Rattle.std.proofs.Common.{◌≡◌, ℕ, ◌-◌, ◌<◌, ◌≤◌, ◌==◌, ◌&&◌, not, zero, suc, true, false, Some, None, Option, List, [], ◌∷◌, ◌++◌, map, length, take, drop, replicate, refl, sym, subst, ap, ◌∙◌, arith, if◌then◌else◌, append-nil}
 use Rattle.std.specs.Prelude.{slice_range, is_some}
 use Rattle.std.specs.List.{AllByRecursion, filter, filter_map, cons_option}
 use Rattle.pblk_model.specs.declared.shape.Shape.{Shape}
@@ -18,16 +18,13 @@ use Rattle.pblk_world.specs.Placing.{data_blocks, record_blocks}
 use Rattle.pblk_world.specs.Victims.{position_in}
 use Rattle.pblk_world.proofs.Appending.{takes_more}
 use Rattle.core_laws.specs.PlacerOf.{positions_of}
-use Rattle.core_laws.proofs.Lists.{all_filter}
-use Rattle.core_laws.proofs.Placing.{is_below, not_below}
-use Rattle.core_laws.proofs.Rows.{other_number}
-use Rattle.placing_laws.proofs.Worlds.{all_and_last, all_take}
+use Rattle.core_laws.proofs.Lists.{all_filter, all_dropped as all_drop, all_taken as all_take, with_last as all_and_last}
+use Rattle.core_laws.proofs.PlacedPositions.{unnamed}
+use Rattle.pblk_laws.proofs.Lists.{all_append as all_both}
+use Rattle.stripe_placer.proofs.Chunks.{lt_yes as is_below}
 use Rattle.placing_laws.proofs.Followed.{IsFollowed, IsNextEvent, by_events}
 
 -- ---- blocks that bear none
-
-unnamed : (s : Shape) (m : Mark) → s.capacity ≤ meta_lba → meta_lba ≤ m.lba → m.lba ≢ void_lba → is_some (named s m) ≡ false
-unnamed s m small above other = ap₂ (λ a b. is_some (if a then Some (Some m.lba) else (if b then Some None else None))) (not_below s.capacity m.lba (omega arith)) (other_number m.lba void_lba other)
 
 bears_none : (s : Shape) (b : Block) → is_some (named s b.mark) ≡ false → position_in s b ≡ None
 bears_none s b none = ap (λ c. if c then Some b.mark.position else None) none
@@ -42,11 +39,6 @@ records_none s size seq (suc count) bytes small = (
   bears_none s (record { sector = take size bytes; mark = meta_mark seq }) (unnamed s (meta_mark seq) small (omega arith) (λ e. absurd (omega (arith, e)))),
   records_none s size seq count (drop size bytes) small,
 )
-
-all_drop : {X : Type 0} (P : X → Type 0) (n : ℕ) (xs : List X) → AllByRecursion P xs → AllByRecursion P (drop n xs)
-all_drop P zero xs all = all
-all_drop P (suc n) [] all = tt
-all_drop P (suc n) (x ∷ xs) all = all_drop P n xs all.1
 
 pub record_positions : (s : Shape) (seq count : ℕ) (bytes : List ℕ) (from to : ℕ) → s.capacity ≤ meta_lba → filter_map (position_in s) (slice_range (record_blocks s seq count bytes) from to) ≡ []
 record_positions s seq count bytes from to small =
@@ -83,10 +75,6 @@ bears_step i us w knows x next all =
 
 all_bear : (i : Image) (us : ℕ → List ℕ) (w : World) → IsFollowed i us w → AllByRecursion (Bears i.shape) (takes (log_of w 0))
 all_bear i us w is = by_events i us 0 (λ log. AllByRecursion (Bears i.shape) (takes log)) tt (λ v l next all. bears_step i us v l.knows l.event next all) w is
-
-all_both : {X : Type 0} (P : X → Type 0) (xs ys : List X) → AllByRecursion P xs → AllByRecursion P ys → AllByRecursion P (xs ++ ys)
-all_both P [] ys a b = b
-all_both P (x ∷ xs) ys a b = (a.0, all_both P xs ys a.1 b)
 
 entries_made : (s : Shape) (ts : List Taken) (bs : List Block) → AllByRecursion (Bears s) ts → AllByRecursion (λ b. position_in s b ≡ None) bs → filter_map (position_in s) (map block_of_taken ts ++ bs) ≡ positions_of ts
 entries_made s [] bs all none = none_made (position_in s) bs none

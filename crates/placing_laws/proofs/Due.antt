@@ -1,10 +1,8 @@
 -- Where the placer of a plain world offers nothing, no stripe is to be placed.
-use Rattle.std.proofs.Common.{◌≡◌, ◌⊎◌, inl, inr, ℕ, ◌+◌, ◌-◌, ◌/◌, ◌%◌, ◌<◌, ◌≤◌, ◌==◌, ◌&&◌, ◌||◌, zero, suc, not, nat_lt, Bool, true, false, cond, Some, None, Option, List, [], ◌∷◌, ◌++◌, map, length, take, drop, refl, sym, subst, ap, ap₂, ◌∙◌, arith, if◌then◌else◌, mod-lt}
-use Rattle.std.specs.Prelude.{slice_get, nat_le, nat_eq, ⊤}
-use Rattle.std.specs.List.{AllByRecursion, Contains, filter, filter_map, cons_option, find, list_all, list_any, enumerate_from, range_with_len, slice_index_or}
+use Rattle.std.proofs.Common.{◌≡◌, ◌⊎◌, inl, inr, ℕ, ◌+◌, ◌-◌, ◌/◌, ◌%◌, ◌<◌, ◌≤◌, ◌==◌, ◌&&◌, zero, suc, not, nat_lt, Bool, true, false, cond, Some, None, Option, List, [], ◌∷◌, ◌++◌, map, length, take, drop, refl, sym, subst, ap, ap₂, ◌∙◌, arith, if◌then◌else◌, mod-lt}
+use Rattle.std.specs.Prelude.{slice_get, nat_le, nat_eq}
+use Rattle.std.specs.List.{Contains, filter_map, cons_option, find, list_all, list_any, range_with_len, slice_index_or}
 use Rattle.std.specs.Option.{option_map_or, is_some}
-use Rattle.std.proofs.lemmas.Bool.{eqb-true}
-use Rattle.std.proofs.lemmas.Bool.Decides.{nat_tests}
 use Rattle.std.proofs.lemmas.Nat.Bits.{bit_at-zero}
 use Rattle.std.proofs.lemmas.Option.{same_Some, none-some, slice_get_within, slice_get-get_or, get_or_from_slice_get}
 use Rattle.pblk_model.specs.declared.shape.Shape.{Shape}
@@ -16,7 +14,7 @@ use Rattle.pblk_world.specs.World.{World, log_of}
 use Rattle.pblk_layout.specs.Live.{is_live}
 use Rattle.core_laws.proofs.Rows.{same_number}
 use Rattle.pblk_world.specs.Lines.{known_image}
-use Rattle.pblk_world.specs.EngineLog.{is_opened, Taken, Opening, Opened, life_of, Placed, placed_by, placements, placed_on, answers, is_answered, turn, stripes_of, has_landed, has_failed}
+use Rattle.pblk_world.specs.EngineLog.{is_opened, Taken, Opening, Opened, life_of, Placed, placements, placed_on, answers, is_answered, turn, stripes_of, has_landed, has_failed}
 use Rattle.pblk_world.specs.Fronts as fronts
 use Rattle.pblk_world.specs.Placing.{end_address, line_end, IsStart, IsData, IsEnd, IsPad}
 use Rattle.pblk_world.specs.AtRest.{IsUrgent, IsDue}
@@ -27,13 +25,17 @@ use Rattle.stripe_placer.specs.OpenLines.{OpenLine, unit_of, numbers, is_to_plac
 use Rattle.stripe_placer.specs.Placing.{Program, UnitRow, is_under_way, is_ready, allows, next_positions, program_of, allowed_at, next_in, next_stripe}
 use Rattle.stripe_placer.specs.Placing.UnitRow.{Idle}
 use Rattle.stripe_placer.proofs.Among.{IsAmong, later, in_map, in_filter, from_filter}
+use Rattle.stripe_placer.proofs.Chunks.{lt_yes as is_below}
+use Rattle.stripe_placer.proofs.Rising.{le_true as within_is}
 use Rattle.core_laws.specs.OpenedLines.{open_line, standing, open_lines}
 use Rattle.core_laws.specs.PlacerOf.{positions_of, entries_of, row_of, placing_of}
-use Rattle.core_laws.proofs.Engine.{placed_number}
-use Rattle.core_laws.proofs.Lists.{all_at, all_filter, filter_none}
-use Rattle.core_laws.proofs.Placing.{is_below, not_below, weaker}
-use Rattle.core_laws.proofs.Turns.{filtered_is}
+use Rattle.core_laws.proofs.Lists.{all_at, none_past}
+use Rattle.core_laws.proofs.Placing.{not_below}
+use Rattle.core_laws.proofs.Turns.{its_unit as unit_at, its_turn as turn_at}
 use Rattle.core_laws.proofs.WaitingEntries.{waiting_alike}
+use Rattle.core_laws.proofs.Tests.{both, or_left as or_first, or_right as or_second, within_is as is_within, and_both as yes_yes}
+use Rattle.core_laws.proofs.PlacedEntries.{length_positions as positions_length}
+use Rattle.core_laws.proofs.PlacedLines.{found_any}
 use Rattle.pblk_world.proofs.Answered.{answers_fit}
 use Rattle.placing_laws.proofs.Followed.{IsFollowed}
 use Rattle.placing_laws.proofs.Answers.{not_failed}
@@ -46,83 +48,28 @@ use Rattle.placing_laws.proofs.Idle.{all_answered, is_idle, no_stopped, idle_row
 use Rattle.placing_laws.proofs.Online.{known_length}
 use Rattle.placing_laws.proofs.KeptLines.{all_online}
 use Rattle.placing_laws.proofs.Offered.{live_inside, unit_within}
-use Rattle.placing_laws.proofs.Placeable.{kind_in, kind_by, IsPart, HasParts, parts_of, both, yes_yes, within_is, positions_length}
-
--- ---- the stripes of a unit stand in order
-
-abbrev Rises : List Placed → Type 0
-Rises [] = ⊤
-Rises (p ∷ ps) = AllByRecursion (λ (q : Placed). p.number < q.number) ps × Rises ps
-
-numbers_from : (log : List Logged) (m n : ℕ) (xs : List Logged) → m < n → AllByRecursion (λ (q : Placed). m < q.number) (filter_map (λ (e : ℕ × Logged). placed_by log e.0 e.1.event) (enumerate_from n xs))
-numbers_from log m n [] below = tt
-numbers_from log m n (x ∷ xs) below = go (placed_by log n x.event) refl (numbers_from log m (n + 1) xs (omega arith))
-  where
-    go : (o : Option Placed) → placed_by log n x.event ≡ o → AllByRecursion (λ (q : Placed). m < q.number) (filter_map (λ (e : ℕ × Logged). placed_by log e.0 e.1.event) (enumerate_from (n + 1) xs))
-        → AllByRecursion (λ (q : Placed). m < q.number) (cons_option o (filter_map (λ (e : ℕ × Logged). placed_by log e.0 e.1.event) (enumerate_from (n + 1) xs)))
-    go None e rest = rest
-    go (Some p) e rest = let number : p.number ≡ n = placed_number log n x.event p e in (omega arith, rest)
-
-rise_from : (log : List Logged) (n : ℕ) (xs : List Logged) → Rises (filter_map (λ (e : ℕ × Logged). placed_by log e.0 e.1.event) (enumerate_from n xs))
-rise_from log n [] = tt
-rise_from log n (x ∷ xs) = go (placed_by log n x.event) refl (rise_from log (n + 1) xs)
-  where
-    go : (o : Option Placed) → placed_by log n x.event ≡ o → Rises (filter_map (λ (e : ℕ × Logged). placed_by log e.0 e.1.event) (enumerate_from (n + 1) xs))
-        → Rises (cons_option o (filter_map (λ (e : ℕ × Logged). placed_by log e.0 e.1.event) (enumerate_from (n + 1) xs)))
-    go None e rest = rest
-    go (Some p) e rest = let number : p.number ≡ n = placed_number log n x.event p e in let below : p.number < n + 1 = omega arith in (numbers_from log p.number (n + 1) xs below, rest)
-
-rise_filtered : (test : Placed → Bool) (ps : List Placed) → Rises ps → Rises (filter test ps)
-rise_filtered test [] rise = tt
-rise_filtered test (p ∷ ps) rise = go (test p) (rise_filtered test ps rise.1)
-  where
-    go : (b : Bool) → Rises (filter test ps) → Rises (cond b (p ∷ filter test ps) (filter test ps))
-    go true rest = (all_filter (λ (q : Placed). p.number < q.number) test ps rise.0, rest)
-    go false rest = rest
-
-count_before : (ps : List Placed) (m : ℕ) (q : Placed) → Rises ps → slice_get ps m ≡ Some q → length (filter (λ (r : Placed). nat_lt r.number q.number) ps) ≡ m
-count_before [] m q rise e = absurd (none-some q e)
-count_before (p ∷ ps) zero q rise e =
-    let same : p.number ≡ q.number = ap (λ (x : Placed). x.number) (same_Some p q e) in
-    let within : q.number ≤ p.number = omega arith in
-    ap (λ b. length (cond b (p ∷ filter (λ (r : Placed). nat_lt r.number q.number) ps) (filter (λ (r : Placed). nat_lt r.number q.number) ps))) (not_below q.number p.number within)
-    ∙ ap length (filter_none (λ (r : Placed). nat_lt r.number q.number) ps
-    (weaker (λ (r : Placed). p.number < r.number) (λ (r : Placed). nat_lt r.number q.number ≡ false) (λ r above. not_below q.number r.number (omega arith)) ps rise.0))
-count_before (p ∷ ps) (suc m) q rise e =
-    ap (λ b. length (cond b (p ∷ filter (λ (r : Placed). nat_lt r.number q.number) ps) (filter (λ (r : Placed). nat_lt r.number q.number) ps))) (is_below p.number q.number (all_at (λ (r : Placed). p.number < r.number) ps m q e rise.0))
-    ∙ ap suc (count_before ps m q rise.1 e)
+use Rattle.placing_laws.proofs.Placeable.{kind_in, kind_by, IsPart, HasParts, parts_of}
 
 -- ---- units of which each stripe is answered
+
+is_contained : {X : Type 0} (xs : List X) (x : X) → IsAmong xs x → Contains xs x
+is_contained xs x at = (at.0, slice_get_within xs at.0 x at.1, get_or_from_slice_get xs at.0 x x at.1)
+
+pub AreAnswered : List Logged → Type 0
+AreAnswered log = (p : Placed) → Contains (placements log) p → is_answered log p ≡ true
 
 has_got : {X : Type 0} (xs : List X) (k : ℕ) → is_some (slice_get xs k) ≡ true → k < length xs
 has_got [] k e = absurd cc
 has_got (x ∷ xs) zero e = omega arith
 has_got (x ∷ xs) (suc k) e = let rest : k < length xs = has_got xs k e in omega arith
 
-is_contained : {X : Type 0} (xs : List X) (x : X) → IsAmong xs x → Contains xs x
-is_contained xs x at = (at.0, slice_get_within xs at.0 x at.1, get_or_from_slice_get xs at.0 x x at.1)
-
-none_past : {X : Type 0} (xs : List X) (k : ℕ) → slice_get xs k ≡ None → length xs ≤ k
-none_past [] k h = omega arith
-none_past (x ∷ xs) zero h = absurd cc
-none_past (x ∷ xs) (suc k) h = let rest : length xs ≤ k = none_past xs k h in omega arith
-
-pub AreAnswered : List Logged → Type 0
-AreAnswered log = (p : Placed) → Contains (placements log) p → is_answered log p ≡ true
-
-same_unit : (log : List Logged) (unit : ℕ) (p : Placed) (m : ℕ) → slice_get (placed_on log unit) m ≡ Some p → p.stripe.unit ≡ unit
-same_unit log unit p m e = eqb-true p.stripe.unit unit (filtered_is (λ (q : Placed). q.stripe.unit == unit) (placements log) m p e)
-
 -- a stripe of a unit that is answered
 pub its_turn : (log : List Logged) (unit : ℕ) (p : Placed) (m : ℕ) → slice_get (placed_on log unit) m ≡ Some p → is_answered log p ≡ true → (turn log p ≡ m) × (turn log p < length (answers log unit))
 its_turn log unit p m e answered =
-    let its : p.stripe.unit ≡ unit = same_unit log unit p m e in
+    let its : p.stripe.unit ≡ unit = unit_at log unit m p e in
     let below : turn log p < length (answers log p.stripe.unit) = has_got (answers log p.stripe.unit) (turn log p) answered in
     let same_count : length (answers log p.stripe.unit) ≡ length (answers log unit) = ap (λ u. length (answers log u)) its in
-    let there : slice_get (placed_on log p.stripe.unit) m ≡ Some p = ap (λ u. slice_get (placed_on log u) m) its ∙ e in (
-      count_before (placed_on log p.stripe.unit) m p (rise_filtered (λ (q : Placed). q.stripe.unit == p.stripe.unit) (placements log) (rise_from log 0 log)) there,
-      omega arith,
-    )
+    (turn_at log unit m p e, omega arith)
 
 pub idle_unit : (i : Image) (us : ℕ → List ℕ) (w : World) (unit : ℕ) → IsFollowed i us w → AreAnswered (log_of w 0) → length (answers (log_of w 0) unit) ≡ length (placed_on (log_of w 0) unit)
 unfolding AreAnswered
@@ -156,17 +103,6 @@ record IsAllowedNext (i : Image) (us : ℕ → List ℕ) (w : World) (pad : ℕ)
   inside : length (stripes_of (log_of w 0) o) < stripe_count i us o.line
   part : IsPart (length (stripes_of (log_of w 0) o)) (start_len i.shape / i.shape.ws_opt) (open_line i (log_of w) o).data_count kind
   allowed : allows i.shape (entries_of i.shape (log_of w 0) pad) (open_line i (log_of w) o) kind ≡ true
-
-is_within : (m n : ℕ) → nat_le m n ≡ true → m ≤ n
-is_within m n e = grind (arith, nat_tests)
-
-pub or_first : (a b : Bool) → a ≡ true → (a || b) ≡ true
-or_first true b e = refl
-or_first false b e = absurd cc
-
-or_second : (a b : Bool) → b ≡ true → (a || b) ≡ true
-or_second true b e = refl
-or_second false b e = e
 
 any_at : (ts : List Taken) (k : ℕ) (t : Taken) (pad : ℕ) → slice_get ts k ≡ Some t → t.entry.position < pad → list_any (λ q. nat_lt q pad) (positions_of ts) ≡ true
 any_at [] k t pad e h = absurd (none-some t e)
@@ -240,15 +176,7 @@ due_next i us w pad target o stripe is line parts within (inr (inr (inr its))) =
 
 -- ---- it would be offered
 
-pub found_any : (test : ℕ → Bool) (xs : List ℕ) (j : ℕ) → find test xs ≡ Some j → list_any test xs ≡ true
-found_any test [] j e = absurd (none-some j e)
-found_any test (x ∷ xs) j e = go (test x) e (λ f. found_any test xs j f)
-  where
-    go : (b : Bool) → cond b (Some x) (find test xs) ≡ Some j → (find test xs ≡ Some j → list_any test xs ≡ true) → (b || list_any test xs) ≡ true
-    go true f rest = refl
-    go false f rest = rest f
-
-none_at : {X : Type 0} (test : X → Bool) (xs : List X) (k : ℕ) (x : X) → find test xs ≡ None → slice_get xs k ≡ Some x → test x ≡ false
+pub none_at : {X : Type 0} (test : X → Bool) (xs : List X) (k : ℕ) (x : X) → find test xs ≡ None → slice_get xs k ≡ Some x → test x ≡ false
 none_at test [] k x e at = absurd (none-some x at)
 none_at {X} test (y ∷ ys) k x e at = go (test y) refl e k at (λ f m b. none_at test ys m x f b)
   where

@@ -11,8 +11,8 @@ use Rattle.pblk_world.specs.Lines.{known_image}
 use Rattle.pblk_world.specs.EngineLog.{is_opened, Opening, Opened, life_of, Placed, stripes_of, answer_of}
 use Rattle.stripe_placer.specs.OpenLines.{Stripe, OpenLine, width}
 use Rattle.stripe_placer.specs.OpenLines.Stripe.{Unplaced}
+use Rattle.stripe_placer.proofs.Rows.{length_replicate as length_replicated}
 use Rattle.core_laws.specs.OpenedLines.{bits_of, as_opened, is_stripe_at, by_answer, became, outcome, open_line}
-use Rattle.core_laws.proofs.Opening.{length_replicated}
 use Rattle.core_laws.proofs.Stripes.{at_its_place, not_at}
 use Rattle.placing_laws.proofs.Followed.{IsFollowed}
 use Rattle.placing_laws.proofs.Units.{bits_back}

@@ -17,19 +17,20 @@ use Rattle.pblk_world.specs.EngineLog.{LineLife, AsFound, Opened, Freed, is_open
 use Rattle.pblk_world.specs.Lines.{known_image, is_over_state, are_over, has_stripe_left}
 use Rattle.stripe_placer.specs.OpenLines.{OpenLine, numbers, is_unanswered, is_to_place, has_left}
 use Rattle.stripe_placer.proofs.Among.{IsAmong, in_filter, in_map, from_filter}
+use Rattle.stripe_placer.proofs.Chunks.{le_of as is_above, lt_of as is_below}
 use Rattle.core_laws.specs.OpenedLines.{by_answer, open_line, standing, open_lines}
-use Rattle.core_laws.proofs.Lists.{all_at, all_filter}
+use Rattle.core_laws.proofs.Lists.{all_at, all_filter, got_within, all_taken, get_dropped, range_get as get_range}
 use Rattle.core_laws.proofs.Rows.{same_number}
+use Rattle.placing_laws.proofs.Due.{its_turn}
 use Rattle.placing_laws.proofs.Followed.{IsFollowed, follow}
 use Rattle.placing_laws.proofs.Units.{units_are}
 use Rattle.placing_laws.proofs.Opened.{opened_lines, life_stands}
 use Rattle.core_laws.specs.PlainWorlds.{IsPlainWorld}
+use Rattle.core_laws.proofs.PlacedLines.{found_any}
 use Rattle.placing_laws.proofs.KeptLines.{few_units}
 use Rattle.placing_laws.proofs.InOrder.{wide, stripe_count}
 use Rattle.placing_laws.proofs.Forms.{answered_as, IsLineOf, line_of, formed}
 use Rattle.placing_laws.proofs.NextStripes.{next_is, in_form}
-use Rattle.placing_laws.proofs.Offered.{is_below, is_above}
-use Rattle.placing_laws.proofs.Due.{its_turn, found_any}
 use Rattle.placing_laws.proofs.HeldChunks.{Holds, on_chunk, all_held}
 use Rattle.placing_laws.proofs.PlacedBlocks.{IsWhole, all_whole, lines_are}
 
@@ -61,16 +62,6 @@ some_kept test (y ∷ ys) (suc n) (suc k) x h e passes = go (test y) (some_kept 
     go : (b : Bool) → 1 ≤ length (filter test (take n ys)) → 1 ≤ length (cond b (y ∷ filter test (take n ys)) (filter test (take n ys)))
     go true f = omega arith
     go false f = f
-
-get_dropped : {X : Type 0} (n : ℕ) (xs : List X) (k : ℕ) → slice_get (drop n xs) k ≡ slice_get xs (n + k)
-get_dropped zero xs k = let from : k ≡ 0 + k = omega arith in ap (slice_get xs) from
-get_dropped (suc n) [] k = refl
-get_dropped (suc n) (x ∷ xs) k = let next : suc (n + k) ≡ suc n + k = omega arith in get_dropped n xs k ∙ ap (slice_get (x ∷ xs)) next
-
-got_within : {X : Type 0} (xs : List X) (k : ℕ) → k < length xs → (x : X) × (slice_get xs k ≡ Some x)
-got_within [] k h = absurd (omega arith)
-got_within (x ∷ xs) zero h = (x, refl)
-got_within (x ∷ xs) (suc k) h = got_within xs k (omega arith)
 
 again : (g k : ℕ) → 0 < g → (g + k) % g ≡ k % g
 again g k some = let one : g + k ≡ k + 1 * g = omega arith in ap (λ n. n % g) one ∙ add-mul-mod_self_right k 1 g
@@ -217,11 +208,6 @@ is_done i us w o is line none =
 
 -- ---- its chunks are full
 
-get_range : (a n k : ℕ) → k < n → slice_get (range_with_len a n) k ≡ Some (a + k)
-get_range a zero k h = absurd (omega arith)
-get_range a (suc n) zero h = let same : a ≡ a + 0 = omega arith in ap (λ m. Some m) same
-get_range a (suc n) (suc k) h = let next : a + 1 + k ≡ a + suc k = omega arith in get_range (a + 1) n k (omega arith) ∙ ap (λ m. Some m) next
-
 live_among : (i : Image) (us : ℕ → List ℕ) (w : World) (line unit : ℕ) → IsFollowed i us w → is_opened (life_of (log_of w 0) line) ≡ true → unit < 64 → is_live (known_image i (log_of w)) line unit ≡ true → IsAmong (us line) unit
 live_among i us w line unit is opened inside live =
     let from : 0 + unit ≡ unit = omega arith in
@@ -237,11 +223,6 @@ on_unit_count i us w o unit is life line done among =
     let less : length (filter (λ (p : Placed). p.stripe.unit == unit) (stripes_of (log_of w 0) o)) ≤ on_chunk o.line (take (length (answers (log_of w 0) unit)) (placed_on (log_of w 0) unit)) =
     answered_count i us w o unit is life done.answered in
     omega arith
-
-all_taken : {X : Type 0} (P : X → Type 0) (n : ℕ) (xs : List X) → AllByRecursion P xs → AllByRecursion P (take n xs)
-all_taken P zero xs all = tt
-all_taken P (suc n) [] all = tt
-all_taken P (suc n) (x ∷ xs) all = (all.0, all_taken P n xs all.1)
 
 closed_over : (b : Bool) (state : ChunkState) → state ≡ states.Closed → is_over_state b state ≡ true
 closed_over b state e = ap (is_over_state b) e

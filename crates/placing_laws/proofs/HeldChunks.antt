@@ -21,8 +21,8 @@ use Rattle.pblk_world.proofs.Answered.{answers_fit}
 use Rattle.pblk_world.proofs.Appending.{answers_more}
 use Rattle.stripe_placer.proofs.Among.{IsAmong, from_filter, got_here, got_else}
 use Rattle.core_laws.specs.PlainWorlds.{IsPlainWorld}
-use Rattle.core_laws.proofs.Lists.{all_at, all_filter}
-use Rattle.placing_laws.proofs.Worlds.{plain_before, all_take}
+use Rattle.core_laws.proofs.Lists.{all_at, all_filter, all_taken as all_take}
+use Rattle.placing_laws.proofs.Worlds.{plain_before}
 use Rattle.placing_laws.proofs.PlainEvents.{IsNextPlain, next_plain, IsInOpened}
 use Rattle.placing_laws.proofs.Beginnings.{IsReset, told_now, named_grows, grown}
 use Rattle.placing_laws.proofs.KnownImages.{known_before, known_one_more}

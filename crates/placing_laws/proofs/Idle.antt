@@ -17,10 +17,9 @@ use Rattle.stripe_placer.proofs.Numbered.{get_mapped}
 use Rattle.stripe_placer.proofs.Among.{IsAmong, from_filter}
 use Rattle.core_laws.specs.PlacerOf.{stopped_by, was_stopped_on, contains_unit, waits_again, row_in, row_of, unanswered_on}
 use Rattle.core_laws.specs.PlainWorlds.{is_plain_event, ArePlain}
-use Rattle.core_laws.proofs.Lists.{all_at, all_filter}
+use Rattle.core_laws.proofs.Lists.{all_at, all_filter, with_last as all_and_last}
 use Rattle.core_laws.proofs.Placing.{placements_now}
 use Rattle.core_laws.proofs.Turns.{stands_at_turn}
-use Rattle.placing_laws.proofs.Worlds.{all_and_last}
 use Rattle.placing_laws.proofs.Followed.{IsFollowed, IsNextEvent, by_events}
 
 -- ---- nothing was stopped

@@ -1,7 +1,7 @@
 -- The stripes of an opened line are placed in line order, and data and the end record behind a start record that has landed.
 use Rattle.std.proofs.Common.{◌≡◌, ◌⊎◌, inl, inr, ℕ, ◌+◌, ◌*◌, ◌/◌, ◌%◌, ◌<◌, ◌≤◌, ◌&&◌, zero, suc, nat_eq, Bool, true, false, cond, Some, None, Option, List, [], ◌∷◌, ◌++◌, length, take, refl, sym, subst, ap, ap₂, ◌∙◌, arith, if◌then◌else◌, append-nil, mul-div_cancel, le_refl, le_of_lt, length-append, subst₂}
 use Rattle.std.specs.Prelude.{slice_get, nat_le}
-use Rattle.std.specs.List.{AllByRecursion, filter, list_all}
+use Rattle.std.specs.List.{filter, list_all}
 use Rattle.std.specs.Option.{option_map}
 use Rattle.std.proofs.lemmas.Bool.{eqb-true}
 use Rattle.std.proofs.lemmas.Option.{same_Some, none-some}
@@ -15,17 +15,16 @@ use Rattle.pblk_world.specs.EngineLog.{is_opened, Opening, Opened, life_of, turn
 use Rattle.pblk_world.specs.Lines.{known_image, place_of}
 use Rattle.pblk_world.specs.Placing.{IsStart, IsData, IsEnd, IsPad, MayPlace, end_address, line_end}
 use Rattle.pblk_world.proofs.Appending.{life_more, placements_more}
-use Rattle.core_laws.proofs.Lists.{all_filter, filter_none}
-use Rattle.core_laws.proofs.Engine.{placements_before}
+use Rattle.core_laws.proofs.Lists.{filter_none, all_taken as all_take}
 use Rattle.core_laws.proofs.Numbers.{opens_at, life_at}
 use Rattle.core_laws.proofs.Opening.{placed_before}
-use Rattle.core_laws.proofs.Placing.{new_placed, with_place, placements_now, answer_now}
+use Rattle.core_laws.proofs.Placing.{new_placed, with_place, placements_now, answer_now, stripes_before}
 use Rattle.core_laws.proofs.Taking.{filter_last}
 use Rattle.core_laws.proofs.Rows.{same_number}
+use Rattle.core_laws.proofs.Tests.{second_of as and_second}
 use Rattle.stripe_placer.proofs.Opening.{width_some}
 use Rattle.pblk_world.specs.EngineLog.{is_land}
 use Rattle.pblk_world.proofs.Growing.{at_end}
-use Rattle.placing_laws.proofs.Worlds.{all_take}
 use Rattle.placing_laws.proofs.Followed.{IsFollowed, IsNextEvent, by_events, then_units, units_width}
 use Rattle.placing_laws.proofs.Lengths.{IsStriped, striped, is_before}
 use Rattle.placing_laws.proofs.Answers.{not_failed, landed_more, all_landed}
@@ -71,10 +70,6 @@ pub record IsPlacedNext (i : Image) (us : ℕ → List ℕ) (log : List Logged) 
   pub place : IsAtPlace i us stripe.line (length (stripes_of log o)) stripe.unit stripe.at
   pub inside : length (stripes_of log o) < stripe_count i us stripe.line
   pub started : start_len i.shape / i.shape.ws_opt ≤ length (stripes_of log o) → list_all (has_landed log) (take (start_len i.shape / i.shape.ws_opt) (stripes_of log o)) ≡ true
-
-and_second : (a b : Bool) → (a && b) ≡ true → b ≡ true
-and_second true b e = e
-and_second false b e = absurd cc
 
 all_first : {X : Type 0} (test : X → Bool) (m n : ℕ) (xs : List X) → m ≤ n → list_all test (take n xs) ≡ true → list_all test (take m xs) ≡ true
 all_first test zero n xs h e = refl
@@ -147,9 +142,6 @@ pub record IsInOrder (i : Image) (us : ℕ → List ℕ) (log : List Logged) (li
   pub places : (k : ℕ) (p : Placed) → slice_get (stripes_of log o) k ≡ Some p → IsAtPlace i us line k p.stripe.unit p.stripe.at
   pub started : start_len i.shape / i.shape.ws_opt < length (stripes_of log o) → list_all (has_landed log) (take (start_len i.shape / i.shape.ws_opt) (stripes_of log o)) ≡ true
 
-stripes_before : (log : List Logged) (o : Opening) → AllByRecursion (λ p. p.number < length log) (stripes_of log o)
-stripes_before log o = all_filter (λ (p : Placed). p.number < length log) (λ (p : Placed). is_life o.number p.life) (placements log) (placements_before log)
-
 -- where the event places none
 stays : (i : Image) (us : ℕ → List ℕ) (log : List Logged) (l : Logged) (line : ℕ) (o : Opening) → placements (log ++ l ∷ []) ≡ placements log → IsInOrder i us log line o → IsInOrder i us (log ++ l ∷ []) line o
 stays i us log l line o same is =
@@ -177,7 +169,7 @@ begins i us log l line o same number =
 abbrev HasOrder : Image → (ℕ → List ℕ) → List Logged → Type 0
 HasOrder i us log = (line : ℕ) (o : Opening) → life_of log line ≡ Opened o → IsInOrder i us log line o
 
-stripes_now : (log : List Logged) (stripe : Stripe) (knows : List ℕ) (o other : Opening) (b : Bool) → life_of log stripe.line ≡ Opened o → is_life other.number (Opened o) ≡ b
+pub stripes_now : (log : List Logged) (stripe : Stripe) (knows : List ℕ) (o other : Opening) (b : Bool) → life_of log stripe.line ≡ Opened o → is_life other.number (Opened o) ≡ b
     → stripes_of (with_place log stripe knows) other ≡ stripes_of log other ++ cond b (new_placed log stripe o ∷ []) []
 stripes_now log stripe knows o other b opened is =
     ap (filter (λ (p : Placed). is_life other.number p.life)) (placements_now log stripe knows o opened)

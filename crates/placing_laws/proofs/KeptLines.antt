@@ -18,7 +18,8 @@ use Rattle.core_laws.specs.PlainWorlds.{IsPlainWorld}
 use Rattle.core_laws.proofs.Numbers.{opens, life_at}
 use Rattle.core_laws.proofs.Placing.{new_placed, placements_now}
 use Rattle.core_laws.proofs.Turns.{filtered_is}
-use Rattle.placing_laws.proofs.Worlds.{plain_before, all_and_last}
+use Rattle.core_laws.proofs.Lists.{with_last as all_and_last}
+use Rattle.placing_laws.proofs.Worlds.{plain_before}
 use Rattle.placing_laws.proofs.Units.{units_are}
 use Rattle.placing_laws.proofs.Online.{known_length}
 use Rattle.placing_laws.proofs.PlainEvents.{IsNextPlain, next_plain, IsInOpened, placed_in_opened}

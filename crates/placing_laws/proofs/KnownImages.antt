@@ -1,11 +1,12 @@
 -- The image as the engine of a plain world knows it, as the logs grow.
 use Rattle.std.proofs.Common.{◌≡◌, ℕ, ◌+◌, ◌<◌, ◌≤◌, ◌==◌, zero, suc, Bool, true, false, Some, None, Option, List, [], ◌∷◌, ◌++◌, length, take, refl, sym, ap, ap₂, ◌∙◌, arith, if◌then◌else◌, le_refl, take_all, append-nil}
 use Rattle.std.specs.Prelude.{slice_get, slice_index}
-use Rattle.std.specs.List.{Contains, filter_map, cons_option}
+use Rattle.std.specs.List.{filter_map, cons_option}
 use Rattle.std.specs.Option.{option_map, option_map_or, option_and_then, option_to_list}
 use Rattle.std.proofs.lemmas.List.Elements.{filter_map-append}
 use Rattle.std.proofs.lemmas.List.Sums.{fold-append}
-use Rattle.std.proofs.lemmas.Option.{none-some, slice_get_within, get_or_from_slice_get}
+use Rattle.std.proofs.lemmas.Option.{none-some}
+use Rattle.std.proofs.lemmas.List.{take-take as take_take}
 use Rattle.pblk_model.specs.declared.shape.Shape.{Shape}
 use Rattle.pblk_model.specs.Chunk.{Chunk}
 use Rattle.pblk_model.specs.UnitLog.{UnitEvent, after_event, after_log}
@@ -17,23 +18,15 @@ use Rattle.pblk_world.specs.EngineLog.{Begun, begun}
 use Rattle.pblk_world.specs.Lines.{found_by, found_image, told_by, told_events, known_image}
 use Rattle.pblk_world.specs.Victims.{engine_prefix}
 use Rattle.core_laws.specs.PlainWorlds.{is_plain_event, IsPlainWorld}
-use Rattle.core_laws.proofs.Lists.{all_at, fun_same}
-use Rattle.placing_laws.proofs.PlainEvents.{IsNextPlain, begun_first, take_take}
+use Rattle.core_laws.proofs.Lists.{all_at, fun_same, get_taken as get_take, is_in as contains_at}
+use Rattle.core_laws.proofs.Engine.{whole_at}
+use Rattle.placing_laws.proofs.PlainEvents.{IsNextPlain, begun_first}
 use Rattle.placing_laws.proofs.Online.{get_numbered}
 use Rattle.placing_laws.proofs.Beginnings.{IsTold, all_told, begins_well, first_knows, image_same, SameAt, told_one, taken_by, grown, get_whole}
 
 made_at : {X Y : Type 0} (f g : X → Option Y) (xs : List X) → ((k : ℕ) (x : X) → slice_get xs k ≡ Some x → f x ≡ g x) → filter_map f xs ≡ filter_map g xs
 made_at f g [] same = refl
 made_at f g (x ∷ xs) same = ap₂ (λ o ys. cons_option o ys) (same 0 x refl) (made_at f g xs (λ k y e. same (suc k) y e))
-
-get_take : {X : Type 0} (m : ℕ) (xs : List X) (n : ℕ) → n < m → slice_get (take m xs) n ≡ slice_get xs n
-get_take zero xs n h = absurd (omega arith)
-get_take (suc m) [] n h = refl
-get_take (suc m) (y ∷ xs) zero h = refl
-get_take (suc m) (y ∷ xs) (suc n) h = get_take m xs n (omega arith)
-
-contains_at : {X : Type 0} (xs : List X) (k : ℕ) (x : X) → slice_get xs k ≡ Some x → Contains xs x
-contains_at xs k x e = (k, slice_get_within xs k x e, get_or_from_slice_get xs k x x e)
 
 -- ---- what the engine knows when it makes an event
 
@@ -78,10 +71,6 @@ known_longer i s w n is within =
     (λ u j named. ap (option_and_then (λ (z : Logged). unit_event_of z.event)) (grown (log_of w (suc u)) s.logged (s.author == suc u) j named.logged named.at.there ∙ sym named.at.there))
     (all_at (λ (z : Logged). is_plain_event z.event ≡ true) log k m (get_whole n log k m e).0 is.engine) (all_at (λ (z : Logged). IsTold w z z.event) log k m (get_whole n log k m e).0 (all_told i w is))))
     (λ b begins unit. taken_by (log_of w (suc unit)) s.logged (s.author == suc unit) (slice_index b.knows (suc unit)) (begins_well i w unit is b (begun_of_first n log b begins)).within)
-
-whole_at : (logs : Logs) (author : ℕ) → engine_prefix (length (logs 0)) logs author ≡ logs author
-whole_at logs zero = take_all (length (logs 0)) (logs 0) (le_refl (length (logs 0)))
-whole_at logs (suc unit) = refl
 
 pub whole_prefix : (logs : Logs) → engine_prefix (length (logs 0)) logs ≡ logs
 whole_prefix logs = fun_same (engine_prefix (length (logs 0)) logs) logs (whole_at logs)

@@ -11,7 +11,6 @@ pub mod BlockPositions
 pub mod Idle
 pub mod Offered
 pub mod Placeable
-pub mod Blank
 pub mod Due
 pub mod Programs
 pub mod PlacedBlocks

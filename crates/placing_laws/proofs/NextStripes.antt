@@ -10,6 +10,7 @@ use Rattle.stripe_placer.specs.OpenLines.Stripe.{Unplaced}
 use Rattle.stripe_placer.proofs.Numbered.{found_in_range, none_in_range}
 use Rattle.core_laws.specs.OpenedLines.{by_answer}
 use Rattle.core_laws.specs.PlainWorlds.{ArePlain}
+use Rattle.core_laws.proofs.Lists.{none_any}
 use Rattle.placing_laws.proofs.Answers.{not_lost}
 use Rattle.placing_laws.proofs.Forms.{answered_as}
 
@@ -20,7 +21,7 @@ lost_is None = refl
 lost_is (Some (DidLand n)) = refl
 lost_is (Some (WasLost n)) = refl
 
-landed_is : (a : Option Answer) → is_landed (by_answer a) ≡ is_land a
+pub landed_is : (a : Option Answer) → is_landed (by_answer a) ≡ is_land a
 landed_is None = refl
 landed_is (Some (DidLand n)) = refl
 landed_is (Some (WasLost n)) = refl
@@ -43,10 +44,6 @@ unlost : (log : List Logged) (ps : List Placed) (m : ℕ) → ArePlain log → A
 unfolding answered_as
 unlost log [] m plain = new_unlost m
 unlost log (p ∷ ps) m plain = (lost_is (answer_of log p) ∙ not_lost log p plain, unlost log ps m plain)
-
-none_any : {X : Type 0} (test : X → Bool) → ((x : X) → test x ≡ false) → (xs : List X) → list_any test xs ≡ false
-none_any test none [] = refl
-none_any test none (x ∷ xs) = ap (λ b. b || list_any test xs) (none x) ∙ none_any test none xs
 
 all_any : {X : Type 0} (test : X → Bool) (xs : List X) → AllByRecursion (λ x. test x ≡ false) xs → list_any test xs ≡ false
 all_any test [] all = refl

@@ -18,6 +18,7 @@ use Rattle.stripe_placer.specs.OpenLines.{OpenLine, width, has_left, next_of, ki
 use Rattle.stripe_placer.specs.Placing.{Program, UnitRow, is_under_way, is_ready, allows, next_positions, program_of, next_in, next_stripe}
 use Rattle.stripe_placer.proofs.Named.{IsProgramIn, its_program}
 use Rattle.stripe_placer.proofs.Among.{IsAmong, later, from_filter, from_map}
+use Rattle.stripe_placer.proofs.Chunks.{le_of as is_above, lt_of as is_below}
 use Rattle.core_laws.specs.OpenedLines.{open_line, standing, open_lines}
 use Rattle.core_laws.specs.PlacerOf.{entries_of, row_of, placing_of}
 use Rattle.core_laws.proofs.Lists.{all_at}
@@ -103,12 +104,6 @@ pub record IsOffered (i : Image) (us : ℕ → List ℕ) (w : World) (pad : ℕ)
   pub positions : next_positions i.shape (entries_of i.shape (log_of w 0) pad) of.kind ≡ of.positions
   pub unit : of.unit < units i.shape
   pub idle : length (answers (log_of w 0) of.unit) ≡ length (placed_on (log_of w 0) of.unit)
-
-pub is_below : (m n : ℕ) → nat_lt m n ≡ true → m < n
-is_below m n e = grind arith
-
-pub is_above : (m n : ℕ) → nat_lt m n ≡ false → n ≤ m
-is_above m n e = grind arith
 
 -- the number of a line's next stripe, and that the line has so many
 next_number : (i : Image) (us : ℕ → List ℕ) (w : World) (o : Opening) (j : ℕ) → IsFollowed i us w → IsLineOf i us w o → next_of (open_line i (log_of w) o) ≡ Some j

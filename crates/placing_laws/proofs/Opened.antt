@@ -15,8 +15,8 @@ use Rattle.core_laws.specs.PlainWorlds.{is_plain_event}
 use Rattle.core_laws.proofs.Engine.{openings_before}
 use Rattle.core_laws.proofs.Rows.{other_number, same_number}
 use Rattle.core_laws.specs.OpenedLines.{standing}
+use Rattle.core_laws.proofs.Lists.{with_last as all_and_last}
 use Rattle.stripe_placer.proofs.Among.{IsAmong, before_last, in_filter}
-use Rattle.placing_laws.proofs.Worlds.{all_and_last}
 use Rattle.placing_laws.proofs.Followed.{IsFollowed, IsNextEvent, by_events, units_width}
 
 -- ---- an opening of a line
@@ -27,7 +27,7 @@ pub record IsOpenedLine (i : Image) (us : ℕ → List ℕ) (line : ℕ) (o : Op
   pub width : o.start.width ≡ length (us line)
   pub has_data : 0 < data_len i.shape (length (us line))
 
-third : (a b c : Bool) → (a && b && c) ≡ true → c ≡ true
+pub third : (a b c : Bool) → (a && b && c) ≡ true → c ≡ true
 third true true c e = e
 third true false c e = absurd cc
 third false b c e = absurd cc

@@ -16,7 +16,7 @@ use Rattle.pblk_model.specs.StartRecord.{start_bytes}
 use Rattle.pblk_model.specs.EndRecord.{end_bytes}
 use Rattle.pblk_world.specs.Events.{Stripe, Logged}
 use Rattle.pblk_world.specs.World.{World, Logs, log_of}
-use Rattle.pblk_world.specs.EngineLog.{is_opened, Taken, Opening, Opened, life_of, Placed, placements, placed_on, answers, stripes_of, has_landed}
+use Rattle.pblk_world.specs.EngineLog.{is_opened, Opening, Opened, life_of, Placed, placements, placed_on, answers, stripes_of, has_landed}
 use Rattle.pblk_world.specs.Fronts as fronts
 use Rattle.pblk_world.specs.Lines.{known_image, place_of}
 use Rattle.pblk_world.specs.Placing.{end_address, line_end, end_record, IsNext, IsStart, IsData, IsEnd, IsPad, MayPlace}
@@ -25,13 +25,17 @@ use Rattle.stripe_placer.specs.declared.placement.StripeKind.{StripeKind}
 use Rattle.stripe_placer.specs.declared.placement.StripeKind.TheVariants as kinds
 use Rattle.stripe_placer.specs.Entries.{waiting, has_stripe}
 use Rattle.stripe_placer.specs.OpenLines as line
-use Rattle.stripe_placer.specs.OpenLines.{OpenLine, kind_of, start_has_landed, data_has_landed}
+use Rattle.stripe_placer.specs.OpenLines.{OpenLine, kind_of, start_has_landed}
 use Rattle.stripe_placer.specs.Placing.{Program, allows, next_positions, next_stripe}
 use Rattle.stripe_placer.proofs.Among.{IsAmong}
+use Rattle.stripe_placer.proofs.Rising.{le_true as within_is}
+use Rattle.stripe_placer.proofs.Chunks.{le_of as is_above, lt_of as is_below}
 use Rattle.core_laws.specs.OpenedLines.{open_line}
-use Rattle.core_laws.specs.PlacerOf.{positions_of, entries_of, placing_of, IsStripeOf}
+use Rattle.core_laws.specs.PlacerOf.{entries_of, placing_of, IsStripeOf}
 use Rattle.core_laws.proofs.Turns.{filtered_is}
 use Rattle.core_laws.proofs.WaitingEntries.{waiting_alike}
+use Rattle.core_laws.proofs.Tests.{both, and_both as yes_yes}
+use Rattle.core_laws.proofs.PlacedEntries.{length_positions as positions_length}
 use Rattle.placing_laws.proofs.Followed.{IsFollowed, units_width}
 use Rattle.placing_laws.specs.StripeFor.{blocks_for, IsStripeFor, positions_for, IsProgramFor}
 use Rattle.placing_laws.proofs.Lengths.{IsStriped, begins_before, ends_before, begins_after}
@@ -41,7 +45,7 @@ use Rattle.placing_laws.proofs.Forms.{IsLineOf, formed}
 use Rattle.placing_laws.proofs.NextStripes.{unfailed, start_landed, data_landed, all_parts}
 use Rattle.placing_laws.proofs.BlockPositions.{record_positions, data_positions, no_pad_positions}
 use Rattle.placing_laws.proofs.Idle.{all_answered}
-use Rattle.placing_laws.proofs.Offered.{IsOffered, what_is_offered, is_below, is_above}
+use Rattle.placing_laws.proofs.Offered.{IsOffered, what_is_offered}
 
 -- ---- the place of a stripe
 
@@ -58,19 +62,6 @@ place_at i us ls line k unit at same some is =
     (ap₂ (λ (us : List ℕ) j. slice_get us j) (same) column ∙ is.its_unit) block
 
 -- ---- kinds
-
-pub both : (a b : Bool) → (a && b) ≡ true → (a ≡ true) × (b ≡ true)
-both true true e = (refl, refl)
-both true false e = absurd cc
-both false b e = absurd cc
-
-pub yes_yes : (a b : Bool) → a ≡ true → b ≡ true → (a && b) ≡ true
-yes_yes true true a b = refl
-yes_yes true false a b = absurd cc
-yes_yes false b a c = absurd cc
-
-pub within_is : (m n : ℕ) → m ≤ n → nat_le m n ≡ true
-within_is m n h = grind (arith, nat_tests)
 
 -- the kind by the stripe's number alone
 unfoldable pub kind_in : ℕ → ℕ → ℕ → StripeKind
@@ -106,10 +97,6 @@ or_some w [] test some e =
     none_within : (w : ℕ) → 0 < w → nat_le w 0 ≡ false
     none_within w h = grind (arith, nat_tests)
 or_some w (q ∷ qs) test some e = omega arith
-
-pub positions_length : (ts : List Taken) → length (positions_of ts) ≡ length ts
-positions_length [] = refl
-positions_length (t ∷ ts) = ap suc (positions_length ts)
 
 has_some : (s : Shape) (log : List Logged) (pad : ℕ) → 0 < s.ws_opt → has_stripe s.ws_opt (entries_of s log pad) ≡ true → 0 < length (fronts.waiting s log)
 has_some s log pad some e =

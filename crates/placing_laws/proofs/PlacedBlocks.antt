@@ -21,7 +21,8 @@ use Rattle.pblk_world.specs.Placing.{IsStart, IsData, IsEnd, IsPad, MayPlace, re
 use Rattle.pblk_world.proofs.Appending.{placements_more}
 use Rattle.core_laws.proofs.Numbers.{opens_at, life_at}
 use Rattle.core_laws.proofs.Placing.{new_placed, placements_now}
-use Rattle.placing_laws.proofs.Worlds.{all_and_last}
+use Rattle.core_laws.proofs.Lists.{with_last as all_and_last}
+use Rattle.stripe_placer.proofs.Rows.{length_replicate as new_length}
 use Rattle.placing_laws.proofs.Followed.{IsFollowed, IsNextEvent, by_events}
 use Rattle.placing_laws.proofs.Lengths.{IsStriped, is_before, ends_before}
 use Rattle.placing_laws.proofs.Answers.{not_failed}
@@ -39,10 +40,6 @@ part_long bs from w h =
     let a : length (take (from + w - from) (drop from bs)) ≡ min (from + w - from) (length (drop from bs)) = length-take (from + w - from) (drop from bs) in
     let b : length (drop from bs) ≡ length bs - from = length-drop from bs in
     omega arith
-
-new_length : {X : Type 0} (n : ℕ) (x : X) → length (replicate n x) ≡ n
-new_length zero x = refl
-new_length (suc n) x = ap suc (new_length n x)
 
 padded_long : (w : ℕ) (bs : List Block) (b : Block) → w ≤ length (bs ++ replicate (w - length bs) b)
 padded_long w bs b =

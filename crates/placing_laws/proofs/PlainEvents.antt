@@ -1,7 +1,7 @@
 -- Plain worlds, step by step: a line that was opened stays so, and each stripe stands in one.
 use Rattle.std.proofs.Common.{◌≡◌, ℕ, ◌+◌, ◌<◌, ◌≤◌, ◌==◌, zero, suc, nat_lt, Bool, true, false, Some, List, [], ◌∷◌, ◌++◌, length, take, drop, refl, sym, subst, ap, ◌∙◌, arith, if◌then◌else◌, append-nil, append_assoc, le_refl, take_all, length-append}
 use Rattle.std.specs.List.{AllByRecursion}
-use Rattle.std.proofs.lemmas.List.{take-append-le}
+use Rattle.std.proofs.lemmas.List.{take-append-le, take-take as take_take}
 use Rattle.std.proofs.lemmas.Option.{none-some}
 use Rattle.pblk_model.specs.Image.{Image}
 use Rattle.pblk_world.specs.Events.{Begin, Does, Open, Place, Free, Event, Decides, Logged, Step}
@@ -11,7 +11,8 @@ use Rattle.pblk_world.specs.Legal.{IsLegal, IsLegalStep, IsAllowed, IsKnowledge}
 use Rattle.pblk_world.proofs.Appending.{life_more, placements_more}
 use Rattle.core_laws.specs.PlainWorlds.{is_plain_event, ArePlain, IsPlainWorld}
 use Rattle.core_laws.proofs.Placing.{new_placed, placements_now}
-use Rattle.placing_laws.proofs.Worlds.{all_and_last, all_take, all_but_last, plain_before, are_plain}
+use Rattle.core_laws.proofs.Lists.{all_dropped as all_drop, all_taken as all_take, with_last as all_and_last}
+use Rattle.placing_laws.proofs.Worlds.{all_but_last, plain_before, are_plain}
 
 -- ---- one more event of an author
 
@@ -26,7 +27,7 @@ last_plain : (log : List Logged) (l : Logged) (b : Bool) → b ≡ true → AreP
 last_plain log l true e all = (all_but_last (λ (m : Logged). is_plain_event m.event ≡ true) log l all).1
 last_plain log l false e all = absurd cc
 
-same : (m n : ℕ) → (m == n) ≡ true → m ≡ n
+pub same : (m n : ℕ) → (m == n) ≡ true → m ≡ n
 same m n e = grind arith
 
 pub next_plain : (i : Image) (s : Step) (w : World) (author : ℕ) → IsPlainWorld i (s ∷ w) → (s.author == author) ≡ true → IsNextPlain i w author s.logged
@@ -78,17 +79,6 @@ pub take_and_drop : {X : Type 0} (n : ℕ) (xs : List X) → take n xs ++ drop n
 take_and_drop zero xs = refl
 take_and_drop (suc n) [] = refl
 take_and_drop (suc n) (x ∷ xs) = ap (λ ys. x ∷ ys) (take_and_drop n xs)
-
-pub take_take : {X : Type 0} (m n : ℕ) (xs : List X) → m ≤ n → take m (take n xs) ≡ take m xs
-take_take zero n xs h = refl
-take_take (suc m) zero xs h = absurd (omega arith)
-take_take (suc m) (suc n) [] h = refl
-take_take (suc m) (suc n) (x ∷ xs) h = ap (λ ys. x ∷ ys) (take_take m n xs (omega arith))
-
-all_drop : {X : Type 0} (P : X → Type 0) (n : ℕ) (xs : List X) → AllByRecursion P xs → AllByRecursion P (drop n xs)
-all_drop P zero xs all = all
-all_drop P (suc n) [] all = tt
-all_drop P (suc n) (x ∷ xs) all = all_drop P n xs all.1
 
 pub opened_later : (m n : ℕ) (log : List Logged) (line : ℕ) → m ≤ n → ArePlain log → is_opened (life_of (take m log) line) ≡ true → is_opened (life_of (take n log) line) ≡ true
 opened_later m n log line h plain is =

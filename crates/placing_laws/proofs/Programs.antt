@@ -18,15 +18,11 @@ use Rattle.pblk_world.specs.Answering.{MayLand}
 use Rattle.pblk_world.proofs.Appending.{placements_more}
 use Rattle.pblk_world.proofs.Growing.{at_end}
 use Rattle.core_laws.specs.PlainWorlds.{IsPlainWorld}
+use Rattle.core_laws.proofs.Lists.{get_more, get_whole}
 use Rattle.placing_laws.proofs.Worlds.{plain_before}
 use Rattle.placing_laws.proofs.PlainEvents.{IsNextPlain, next_plain, has_begun_plain, begun_first}
 
 -- ---- stripes of a unit in a longer log
-
-get_more : {X : Type 0} (xs ys : List X) (n : ℕ) (x : X) → slice_get xs n ≡ Some x → slice_get (xs ++ ys) n ≡ Some x
-get_more [] ys n x e = absurd (none-some x e)
-get_more (y ∷ xs) ys zero x e = e
-get_more (y ∷ xs) ys (suc n) x e = get_more xs ys n x e
 
 filter_both : {X : Type 0} (test : X → Bool) (xs ys : List X) → filter test (xs ++ ys) ≡ filter test xs ++ filter test ys
 filter_both test [] ys = refl
@@ -134,12 +130,6 @@ take_more (y ∷ ys) zero x e = ap (λ z. z ∷ []) (same_Some y x e)
 take_more (y ∷ ys) (suc n) x e =
     let next : suc n + 1 ≡ suc (n + 1) = omega arith in
     ap (λ m. take m (y ∷ ys)) next ∙ ap (λ zs. y ∷ zs) (take_more ys n x e)
-
-get_whole : {X : Type 0} (m : ℕ) (xs : List X) (n : ℕ) (x : X) → slice_get (take m xs) n ≡ Some x → slice_get xs n ≡ Some x
-get_whole zero xs n x e = absurd (none-some x e)
-get_whole (suc m) [] n x e = e
-get_whole (suc m) (y ∷ xs) zero x e = e
-get_whole (suc m) (y ∷ xs) (suc n) x e = get_whole m xs n x e
 
 take_within : {X : Type 0} (m : ℕ) (xs : List X) (n : ℕ) (x : X) → slice_get (take m xs) n ≡ Some x → take n (take m xs) ≡ take n xs
 take_within zero xs n x e = absurd (none-some x e)

@@ -27,7 +27,8 @@ use Rattle.stripe_placer.proofs.Among.{IsAmong, from_filter, got_here, got_else}
 use Rattle.core_laws.proofs.Turns.{filtered_is}
 use Rattle.pblk_world.proofs.Growing.{at_end, knowledge_rises}
 use Rattle.core_laws.specs.PlainWorlds.{is_plain_outcome, is_plain_event, ArePlain, IsPlainWorld}
-use Rattle.core_laws.proofs.Lists.{all_at}
+use Rattle.core_laws.proofs.Lists.{all_at, got_within, get_more}
+use Rattle.core_laws.proofs.Removing.{and_no}
 use Rattle.placing_laws.proofs.Worlds.{plain_before}
 use Rattle.placing_laws.proofs.PlainEvents.{take_and_drop, has_begun_plain, begun_first, IsNextPlain, next_plain, opened_later, IsInOpened, placed_in_opened}
 use Rattle.placing_laws.proofs.Online.{get_numbered}
@@ -36,15 +37,6 @@ use Rattle.placing_laws.proofs.Online.{get_numbered}
 
 abbrev pub Contained : {X : Type 0} → List X → X → Type 0
 Contained xs x = IsAmong xs x
-
-and_no : (b : Bool) → (b && false) ≡ false
-and_no true = refl
-and_no false = refl
-
-get_more : {X : Type 0} (xs ys : List X) (n : ℕ) (x : X) → slice_get xs n ≡ Some x → slice_get (xs ++ ys) n ≡ Some x
-get_more [] ys n x e = absurd (none-some x e)
-get_more (y ∷ xs) ys zero x e = e
-get_more (y ∷ xs) ys (suc n) x e = get_more xs ys n x e
 
 -- a stripe that was placed stays so
 among_later : (log : List Logged) (m : Logged) (p : Placed) → IsAmong (placements log) p → IsAmong (placements (log ++ m ∷ [])) p
@@ -427,7 +419,7 @@ set_length [] k c = refl
 set_length (x ∷ xs) zero c = refl
 set_length (x ∷ xs) (suc k) c = ap suc (set_length xs k c)
 
-event_length : (s : Shape) (chunks : List Chunk) (e : UnitEvent) → length (after_event s chunks e) ≡ length chunks
+pub event_length : (s : Shape) (chunks : List Chunk) (e : UnitEvent) → length (after_event s chunks e) ≡ length chunks
 event_length s chunks e = go (slice_get chunks e.chunk)
   where
     go : (o : Option Chunk) → length (option_map_or (λ (c : Chunk). slice_set chunks e.chunk (after_outcome s c e.command e.outcome)) o chunks) ≡ length chunks
@@ -437,11 +429,6 @@ event_length s chunks e = go (slice_get chunks e.chunk)
 log_length : (s : Shape) (es : List UnitEvent) (chunks : List Chunk) → length (after_log s chunks es) ≡ length chunks
 log_length s [] chunks = refl
 log_length s (e ∷ es) chunks = log_length s es (after_event s chunks e) ∙ event_length s chunks e
-
-got_within : {X : Type 0} (xs : List X) (k : ℕ) → k < length xs → (x : X) × (slice_get xs k ≡ Some x)
-got_within [] k h = absurd (omega arith)
-got_within (x ∷ xs) zero h = (x, refl)
-got_within (x ∷ xs) (suc k) h = got_within xs k (omega arith)
 
 chunk_there : (i : Image) (unit : ℕ) (log other : List Logged) (line : ℕ) (c : Chunk) → chunk_at i unit log line ≡ Some c → (d : Chunk) × (chunk_at i unit other line ≡ Some d)
 chunk_there i unit log other line c e = go (slice_get i.units unit) e

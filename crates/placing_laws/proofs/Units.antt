@@ -34,10 +34,6 @@ bits_more p n =
     let last : bits_of (cond (p (0 + n)) ((0 + n) ∷ []) []) ≡ as_bit (p n) * 2 ^ n = ap (λ k. bits_of (cond (p k) (k ∷ []) [])) from ∙ last_bit (p n) n in
     omega arith
 
-bit_small : (b : Bool) → as_bit b < 2 ^ 1
-bit_small true = omega arith
-bit_small false = omega arith
-
 below : (p : ℕ → Bool) (n : ℕ) → bits_of (kept p n) < 2 ^ n
 below p zero = omega arith
 below p (suc n) = go (p n) (below p n) (bits_more p n)

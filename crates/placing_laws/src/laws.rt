@@ -8,19 +8,14 @@ ghost use Rattle.pblk_world.specs.Events.{Stripe};
 ghost use Rattle.pblk_world.specs.World.{World, log_of};
 ghost use Rattle.pblk_world.specs.EngineLog.{Opening, Opened, life_of, Placed, placements, is_answered};
 ghost use Rattle.pblk_world.specs.AtRest.{IsDue};
-ghost use Rattle.pblk_world.specs.Lines.{known_image, has_stripe_left, strays_of};
+ghost use Rattle.pblk_world.specs.Lines.{known_image, has_stripe_left};
 ghost use Rattle.pblk_world.specs.Placing.{MayPlace};
 ghost use Rattle.stripe_placer.specs.Placing.{Program, next_stripe};
 ghost use Rattle.stripe_placer.specs.Placing.UnitRow.{Idle};
-ghost use Rattle.core_laws.specs.PlainWorlds.{IsPlainWorld, IsBlankWorld};
+ghost use Rattle.core_laws.specs.PlainWorlds.{IsPlainWorld};
 ghost use Rattle.core_laws.specs.OpenedLines.{opened_units, open_lines};
 ghost use Rattle.core_laws.specs.PlacerOf.{placing_of, IsStripeOf};
 ghost use Rattle.placing_laws.specs.StripeFor.{IsStripeFor, IsProgramFor};
-
-/// A mount of a blank drive finds no line to reset.
-pub fn a_blank_drive_has_no_strays()
-    ensures { (i : Image) (w : World) → IsBlankWorld i w → strays_of (log_of w 0) ≡ [] }
-{}
 
 /// A program that the placer offers is that of a stripe in a line that was opened, inside the
 /// line, with the first entries that wait where it is one of data.

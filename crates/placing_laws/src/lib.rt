@@ -4,7 +4,7 @@
 mod laws;
 
 pub use laws::{
-    a_blank_drive_has_no_strays, a_next_stripe_may_be_placed,
-    an_idle_placer_has_no_stripe_under_way, an_offered_program_is_of_an_open_line,
-    an_opened_line_keeps_its_units, no_stripe_is_due, one_line_is_open,
+    a_next_stripe_may_be_placed, an_idle_placer_has_no_stripe_under_way,
+    an_offered_program_is_of_an_open_line, an_opened_line_keeps_its_units, no_stripe_is_due,
+    one_line_is_open,
 };

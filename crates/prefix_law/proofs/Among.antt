@@ -4,7 +4,7 @@ use Rattle.std.specs.Prelude.{slice_get}
 use Rattle.std.specs.List.{Contains, filter_map, flat_map, cons_option}
 use Rattle.std.proofs.lemmas.Option.{same_Some, none-some, slice_get-get_or}
 use Rattle.stripe_placer.proofs.Among.{IsAmong, later}
-use Rattle.media_laws.proofs.Images.{is_in}
+use Rattle.core_laws.proofs.Lists.{is_in}
 
 pub among_contained : {X : Type 0} (xs : List X) (x : X) → Contains xs x → IsAmong xs x
 among_contained xs x (k, inside, e) = (k, slice_get-get_or xs k x inside ∙ ap (λ y. Some y) e)

@@ -1,5 +1,5 @@
 -- What an image holds that is assembled from entries, and where its end is.
-use Rattle.std.proofs.Common.{◌≡◌, ℕ, ◌+◌, ◌-◌, ◌<◌, ◌≤◌, ◌⊎◌, ◌&&◌, ◌||◌, nat_lt, nat_le, Bool, true, false, cond, Some, None, Option, List, [], ◌∷◌, length, refl, sym, subst, ap, ap₂, ◌∙◌, arith, inl, inr}
+use Rattle.std.proofs.Common.{◌≡◌, ℕ, ◌+◌, ◌-◌, ◌<◌, ◌≤◌, ◌⊎◌, ◌&&◌, nat_lt, nat_le, Bool, true, false, cond, Some, None, Option, List, [], ◌∷◌, length, refl, sym, subst, ap, ap₂, ◌∙◌, arith, inl, inr}
 use Rattle.std.specs.List.{Contains, filter}
 use Rattle.std.specs.Option.{option_map_or}
 use Rattle.std.proofs.lemmas.Bool.{cases_order}
@@ -12,6 +12,10 @@ use Rattle.pblk_model.specs.Image.{Image}
 use Rattle.pblk_laws.proofs.Lists.{contains_more, contains_first, contains_cases, contains_none}
 use Rattle.pblk_laws.proofs.Ends.{end_is_end}
 use Rattle.pblk_laws.proofs.Winners.{winner_is_winner, winner_is_only, no_winner_no_record, no_winner}
+use Rattle.core_laws.proofs.Tests.{both, or_left as or_first, or_right as or_second, within_is as le_true}
+use Rattle.stripe_placer.proofs.Chunks.{lt_yes as true_lt, lt_of as lt_true}
+use Rattle.stripe_placer.proofs.Rising.{le_true as true_le}
+use Rattle.placed_laws.proofs.Distinct.{either}
 use Rattle.prefix_law.specs.Assembled.{Given, Entries, IsEntry, IsEntryOf, IsLastOf, by_row, CountsOld, HoldsUnder, IsAssembled}
 
 -- ---- what is in a filtered list
@@ -38,42 +42,6 @@ filtered_into {X} f (x ∷ xs) r there is = by (f x) refl (contains_cases x r xs
     by false e (inr later) rest = rest later
 
 -- ---- what counts
-
-lt_true : (m n : ℕ) → nat_lt m n ≡ true → m < n
-lt_true m n h = grind arith
-
-pub true_lt : (m n : ℕ) → m < n → nat_lt m n ≡ true
-true_lt m n h = by (nat_lt m n) refl
-  where
-    by : (b : Bool) → nat_lt m n ≡ b → b ≡ true
-    by true e = refl
-    by false e = let past : n ≤ m = grind arith in absurd (omega arith)
-
-le_true : (m n : ℕ) → nat_le m n ≡ true → m ≤ n
-le_true m n h = grind arith
-
-pub true_le : (m n : ℕ) → m ≤ n → nat_le m n ≡ true
-true_le m n h = by (nat_le m n) refl
-  where
-    by : (b : Bool) → nat_le m n ≡ b → b ≡ true
-    by true e = refl
-    by false e = let past : n < m = grind arith in absurd (omega arith)
-
-either : (a b : Bool) → (a || b) ≡ true → (a ≡ true) ⊎ (b ≡ true)
-either true b e = inl refl
-either false b e = inr e
-
-both : (a b : Bool) → (a && b) ≡ true → (a ≡ true) × (b ≡ true)
-both true b e = (refl, e)
-both false b e = absurd (cc)
-
-or_first : (a b : Bool) → a ≡ true → (a || b) ≡ true
-or_first true b e = refl
-or_first false b e = absurd (cc)
-
-or_second : (a b : Bool) → b ≡ true → (a || b) ≡ true
-or_second true b e = refl
-or_second false b e = e
 
 -- of the head's mount and below the end, or by a row
 abbrev pub CountsBy : StartRecord → ℕ → Record → Type 0

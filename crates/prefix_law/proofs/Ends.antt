@@ -23,20 +23,21 @@ use Rattle.pblk_world.specs.Fronts.{first_position}
 use Rattle.pblk_world.specs.Starts.{start_stripes}
 use Rattle.pblk_world.specs.Placing.{end_address, record_blocks, start_blocks}
 use Rattle.core_laws.specs.PlainWorlds.{IsPlainWorld}
+use Rattle.core_laws.proofs.Lists.{got_within as within_some, all_mapped, none_past as none_left}
 use Rattle.pblk_laws.specs.EndBlocks.{FitsBytes, IsEndRecord, IsEndOf, AreEnd}
 use Rattle.pblk_laws.proofs.Lists.{all_at, all_by_get}
 use Rattle.pblk_laws.proofs.EndSpelling.{read_end_back, end_written, end_bytes_length}
 use Rattle.pblk_laws.proofs.MarkNames.{pad_none, meta_none}
 use Rattle.media_laws.specs.Standing.{stripes_in}
-use Rattle.media_laws.proofs.Growing.{within_some}
 use Rattle.media_laws.proofs.LineLives.{IsOpenedAs, living}
 use Rattle.media_laws.proofs.OpenedUnits.{opened_wide}
 use Rattle.media_laws.proofs.LinePlaces.{placed_in, record_count, parts_of, stripes_in_chunk}
 use Rattle.media_laws.proofs.LineColumns.{blocks_count, block_get}
+use Rattle.stripe_placer.proofs.Rows.{length_map as length_mapped}
 use Rattle.prefix_law.proofs.Histories.{by_elements}
 use Rattle.prefix_law.proofs.Filling.{IsFilled, IsOfTaken, filled, start_whole, marks_in, end_with}
 use Rattle.prefix_law.proofs.Taking.{IsUsers, all_users}
-use Rattle.prefix_law.proofs.Media.{none_left, length_same, IsWritten, written_there, media_width, get_range, cut_bytes, cut_marks, part_get}
+use Rattle.prefix_law.proofs.Media.{length_same, IsWritten, written_there, media_width, get_range, cut_bytes, cut_marks, part_get}
 
 -- ---- where the end record begins
 
@@ -132,14 +133,6 @@ get_mapped : {X Y : Type 0} (f : X → Y) (xs : List X) (k : ℕ) (x : X) → sl
 get_mapped f [] k x e = absurd (none-some x e)
 get_mapped f (y ∷ xs) zero x e = ap (λ z. Some z) (ap f (same_Some y x e))
 get_mapped f (y ∷ xs) (suc k) x e = get_mapped f xs k x e
-
-length_mapped : {X Y : Type 0} (f : X → Y) (xs : List X) → length (map f xs) ≡ length xs
-length_mapped f [] = refl
-length_mapped f (x ∷ xs) = ap suc (length_mapped f xs)
-
-pub all_mapped : {X Y : Type 0} (P : Y → Type 0) (f : X → Y) (xs : List X) → AllByRecursion (λ x. P (f x)) xs → AllByRecursion P (map f xs)
-all_mapped P f [] h = tt
-all_mapped P f (x ∷ xs) h = (h.0, all_mapped P f xs h.1)
 
 range_count : {X : Type 0} (xs : List X) (a b : ℕ) → b ≤ length xs → length (slice_range xs a b) ≡ b - a
 range_count xs a b h = let left : length (drop a xs) ≡ length xs - a = length-drop a xs in length-take-le (b - a) (drop a xs) (omega arith)

@@ -5,7 +5,7 @@ use Rattle.std.specs.List.{AllByRecursion, filter, flat_map, list_all}
 use Rattle.std.specs.Option.{option_to_list}
 use Rattle.std.specs.Int.{div_ceil}
 use Rattle.std.proofs.lemmas.Bool.{eqb-true}
-use Rattle.std.proofs.lemmas.Option.{same_Some, none-some, slice_get_within}
+use Rattle.std.proofs.lemmas.Option.{none-some, slice_get_within}
 use Rattle.std.proofs.lemmas.List.{take-append-le, length-drop}
 use Rattle.std.proofs.lemmas.Grind.{flat_map-append}
 use Rattle.std.proofs.Math.Nat.{mod-lt, mul-div_cancel_left, mul-le-mul_right, lt_of_mul-lt-mul_right, div-add-mod}
@@ -27,15 +27,20 @@ use Rattle.pblk_world.specs.Legal.{IsDecision}
 use Rattle.pblk_world.proofs.Appending.{life_more, takes_more}
 use Rattle.pblk_world.proofs.Growing.{at_end}
 use Rattle.core_laws.specs.PlainWorlds.{is_plain_decision, ArePlain, IsPlainWorld}
+use Rattle.core_laws.proofs.Lists.{got_within as within_some, get_more, all_mapped, get_taken}
+use Rattle.core_laws.proofs.Tests.{first_of as and_left, second_of as and_right, within_is as le_true}
+use Rattle.core_laws.proofs.Placing.{weaker}
 use Rattle.stripe_placer.proofs.Among.{IsAmong, from_filter}
 use Rattle.pblk_laws.proofs.Lists.{all_append, all_replicate, all_by_get}
 use Rattle.media_laws.specs.Standing.{stripes_in}
 use Rattle.media_laws.proofs.Steps.{log_here, log_elsewhere, plain_tail, IsSomeones, whose}
 use Rattle.media_laws.proofs.Decisions.{IsFirst, IsLater, decided}
-use Rattle.media_laws.proofs.Growing.{within_some, get_more, get_whole}
-use Rattle.media_laws.proofs.LineLives.{all_living, stripes_same, none_failed, placed_is, same_logged, opened_by_event, opening_is, free_unopened, and_left, and_right}
+use Rattle.media_laws.proofs.Growing.{get_whole}
+use Rattle.media_laws.proofs.LineLives.{all_living, stripes_same, none_failed, placed_is, same_logged, opened_by_event, opening_is, free_unopened}
 use Rattle.media_laws.proofs.LinePlaces.{placed_in, stripe_opened, stripes_more}
 use Rattle.media_laws.proofs.LineColumns.{blocks_count}
+use Rattle.media_laws.proofs.LineOver.{each_true}
+use Rattle.placed_laws.proofs.GoingAll.{opened_is as some_same}
 use Rattle.prefix_law.proofs.Fronts.{landed_stays}
 
 -- ---- the blocks of an end record, by the stripes of its line
@@ -80,7 +85,7 @@ drop_more zero xs ys h = refl
 drop_more (suc n) [] ys h = absurd (omega arith)
 drop_more (suc n) (x ∷ xs) ys h = drop_more n xs ys (omega arith)
 
-range_more : {X : Type 0} (xs ys : List X) (a b : ℕ) → a ≤ b → b ≤ length xs → slice_range (xs ++ ys) a b ≡ slice_range xs a b
+pub range_more : {X : Type 0} (xs ys : List X) (a b : ℕ) → a ≤ b → b ≤ length xs → slice_range (xs ++ ys) a b ≡ slice_range xs a b
 range_more xs ys a b h k =
     ap (take (b - a)) (drop_more a xs ys (omega arith))
     ∙ take-append-le (b - a) (drop a xs) ys (omega (arith, length-drop a xs))
@@ -94,9 +99,6 @@ end_stays s o ps more h =
 
 -- ---- what waits was taken
 
-of_filter : (s : Shape) (ts : List Taken) (f : Taken → Bool) (k : ℕ) (t : Taken) → slice_get (filter f ts) k ≡ Some t → (m : ℕ) × (slice_get ts m ≡ Some t)
-of_filter s ts f k t there = from_filter f ts t (k, there)
-
 get_append : {X : Type 0} (xs ys : List X) (k : ℕ) (x : X) → slice_get (xs ++ ys) k ≡ Some x → IsAmong xs x ⊎ IsAmong ys x
 get_append [] ys k x e = inr (k, e)
 get_append (y ∷ xs) ys zero x e = inl (0, e)
@@ -109,19 +111,11 @@ waiting_taken s log k t there =
       | inr at ↦ from_filter (λ t. not (was_placed s log t)) (takes log) t at
     ]
 
-all_mapped : {X Y : Type 0} (P : Y → Type 0) (f : X → Y) (xs : List X) → AllByRecursion (λ x. P (f x)) xs → AllByRecursion P (map f xs)
-all_mapped P f [] h = tt
-all_mapped P f (x ∷ xs) h = (h.0, all_mapped P f xs h.1)
-
 pub data_taken : (s : Shape) (log : List Logged) → AllByRecursion (IsOfTaken s (takes log)) (data_blocks s log)
 data_taken s log = all_append (IsOfTaken s (takes log)) (map block_of_taken (take s.ws_opt (waiting s log))) (replicate (s.ws_opt - length (map block_of_taken (take s.ws_opt (waiting s log)))) (pad_block s))
     (all_mapped (IsOfTaken s (takes log)) block_of_taken (take s.ws_opt (waiting s log)) (all_by_get (λ t. IsOfTaken s (takes log) (block_of_taken t)) (take s.ws_opt (waiting s log))
     (λ k t there. let at = waiting_taken s log k t (get_whole s.ws_opt (waiting s log) k t there).0 in inr (at.0, t, at.1, refl))))
     (all_replicate (IsOfTaken s (takes log)) (s.ws_opt - length (map block_of_taken (take s.ws_opt (waiting s log)))) (pad_block s) (inl refl))
-
-weaker : {X : Type 0} (P Q : X → Type 0) → ((x : X) → P x → Q x) → (xs : List X) → AllByRecursion P xs → AllByRecursion Q xs
-weaker P Q says [] all = tt
-weaker P Q says (x ∷ xs) all = (says x all.0, weaker P Q says xs all.1)
 
 pub taken_more : (s : Shape) (ts more : List Taken) (bs : List Block) → AllByRecursion (IsOfTaken s ts) bs → AllByRecursion (IsOfTaken s (ts ++ more)) bs
 taken_more s ts more bs all = weaker (IsOfTaken s ts) (IsOfTaken s (ts ++ more)) one bs all
@@ -131,20 +125,6 @@ taken_more s ts more bs all = weaker (IsOfTaken s ts) (IsOfTaken s (ts ++ more))
     one b (inr (k, t, there, is)) = inr (k, t, get_more ts more k t there, is)
 
 -- ---- the first stripes of an opening that have landed
-
-each_true : {X : Type 0} (f : X → Bool) (xs : List X) (k : ℕ) (x : X) → list_all f xs ≡ true → slice_get xs k ≡ Some x → f x ≡ true
-each_true f [] k x all there = absurd (none-some x there)
-each_true f (y ∷ xs) zero x all there = ap f (sym (same_Some y x there)) ∙ and_left (f y) (list_all f xs) all
-each_true f (y ∷ xs) (suc k) x all there = each_true f xs k x (and_right (f y) (list_all f xs) all) there
-
-get_taken : {X : Type 0} (n : ℕ) (xs : List X) (k : ℕ) → k < n → slice_get (take n xs) k ≡ slice_get xs k
-get_taken zero xs k h = absurd (omega arith)
-get_taken (suc n) [] k h = refl
-get_taken (suc n) (x ∷ xs) zero h = refl
-get_taken (suc n) (x ∷ xs) (suc k) h = get_taken n xs k (omega arith)
-
-le_true : (m n : ℕ) → nat_le m n ≡ true → m ≤ n
-le_true m n h = grind arith
 
 pub enough_placed : (log : List Logged) (o : Opening) (n : ℕ) → have_landed log o n ≡ true → n ≤ length (stripes_of log o)
 enough_placed log o n h = le_true n (length (stripes_of log o)) (and_left (nat_le n (length (stripes_of log o))) (list_all (has_landed log) (take n (stripes_of log o))) h)
@@ -164,9 +144,6 @@ start_whole s some =
     let is : start_stripes s ≡ k = mul-div_cancel_left k some in
     let commuted : s.ws_opt * k ≡ k * s.ws_opt = omega arith in
     commuted ∙ ap (λ n. n * s.ws_opt) (sym is)
-
-some_same : (a b : Opening) → Opened a ≡ Opened b → a ≡ b
-some_same a b e = cc
 
 -- a line that isn't opened has no stripe
 pub none_in : (i : Image) (w : World) (line : ℕ) → IsPlainWorld i w → is_opened (life_of (log_of w 0) line) ≡ false → stripes_in (log_of w 0) line ≡ []

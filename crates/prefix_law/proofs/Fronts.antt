@@ -1,11 +1,9 @@
 -- What has landed stays landed, and the front synced never falls.
-use Rattle.std.proofs.Common.{◌≡◌, ℕ, ◌+◌, ◌<◌, ◌≤◌, ◌⊎◌, ◌==◌, ◌&&◌, ◌||◌, zero, suc, Bool, true, false, Some, List, [], ◌∷◌, ◌++◌, length, refl, sym, ap, ap₂, ◌∙◌, arith, inl, inr, length-append, if◌then◌else◌}
+use Rattle.std.proofs.Common.{◌≡◌, ℕ, ◌+◌, ◌<◌, ◌≤◌, ◌⊎◌, ◌==◌, ◌&&◌, zero, suc, Bool, true, false, Some, List, [], ◌∷◌, ◌++◌, length, sym, ap, ap₂, ◌∙◌, arith, inl, inr, length-append, if◌then◌else◌}
 use Rattle.std.specs.Prelude.{slice_get}
-use Rattle.std.specs.List.{filter, list_any}
+use Rattle.std.specs.List.{filter}
 use Rattle.std.specs.Option.{option_to_list}
 use Rattle.std.proofs.lemmas.Bool.{cases_order}
-use Rattle.std.proofs.lemmas.Option.{same_Some, none-some}
-use Rattle.std.proofs.lemmas.List.Elements.{filter-append}
 use Rattle.pblk_model.specs.declared.shape.Shape.{Shape}
 use Rattle.pblk_model.specs.Contents.{least_missing}
 use Rattle.pblk_world.specs.Events.{Logged}
@@ -15,15 +13,16 @@ use Rattle.pblk_world.proofs.Appending.{placements_more, answers_more, takes_mor
 use Rattle.pblk_world.proofs.SyncedFront.{synced_is, synced_within, synced_missing}
 use Rattle.core_laws.specs.PlainWorlds.{ArePlain}
 use Rattle.core_laws.proofs.Rows.{same_number}
-use Rattle.stripe_placer.proofs.Among.{IsAmong, in_filter, later}
+use Rattle.stripe_placer.proofs.Among.{IsAmong, in_filter}
+use Rattle.stripe_placer.proofs.Chunks.{lt_yes as is_below, lt_of as lt_true}
 use Rattle.media_laws.proofs.Steps.{first_of}
-use Rattle.media_laws.proofs.Programs.{get_more}
-use Rattle.media_laws.proofs.Order.{turn_at}
-use Rattle.media_laws.proofs.Written.{landed_is, lt_true}
-use Rattle.core_laws.proofs.Placing.{is_below}
-
-placed_on_more : (log : List Logged) (l : Logged) (unit : ℕ) → placed_on (log ++ l ∷ []) unit ≡ placed_on log unit ++ filter (λ (p : Placed). p.stripe.unit == unit) (option_to_list (placed_by log (length log) l.event))
-placed_on_more log l unit = ap (filter (λ (p : Placed). p.stripe.unit == unit)) (placements_more log l) ∙ filter-append (λ (p : Placed). p.stripe.unit == unit) (placements log) (option_to_list (placed_by log (length log) l.event))
+use Rattle.media_laws.proofs.LineWritten.{landed_is}
+use Rattle.media_laws.proofs.KnownSteps.{any_at as is_any}
+use Rattle.core_laws.proofs.Tests.{both as both_true}
+use Rattle.core_laws.proofs.Lists.{get_more}
+use Rattle.core_laws.proofs.Turns.{its_turn as turn_at}
+use Rattle.placed_laws.proofs.GoingLines.{placed_on_more}
+use Rattle.placed_laws.proofs.Distinct.{passing as any_is}
 
 pub landed_stays : (log : List Logged) (l : Logged) (p : Placed) → ArePlain (log ++ l ∷ []) → ArePlain log → IsAmong (placements log) p → has_landed log p ≡ true → has_landed (log ++ l ∷ []) p ≡ true
 landed_stays log l p plain before among landed =
@@ -40,27 +39,6 @@ landed_stays log l p plain before among landed =
     landed_is (log ++ l ∷ []) p plain ∙ is_below (turn (log ++ l ∷ []) p) (length (answers (log ++ l ∷ []) p.stripe.unit)) (omega arith)
 
 -- ---- some element passes
-
-pub any_is : {X : Type 0} (f : X → Bool) (xs : List X) → list_any f xs ≡ true → (x : X) × IsAmong xs x × (f x ≡ true)
-any_is f [] e = absurd (cc)
-any_is {X} f (x ∷ xs) e = by (f x) refl e (λ h. any_is f xs h)
-  where
-    by : (b : Bool) → f x ≡ b → (b || list_any f xs) ≡ true → (list_any f xs ≡ true → (y : X) × IsAmong xs y × (f y ≡ true)) → (y : X) × IsAmong (x ∷ xs) y × (f y ≡ true)
-    by true is e rest = (x, (0, refl), is)
-    by false is e rest = let r = rest e in (r.0, later x xs r.0 r.1, r.2)
-
-pub is_any : {X : Type 0} (f : X → Bool) (xs : List X) (k : ℕ) (x : X) → slice_get xs k ≡ Some x → f x ≡ true → list_any f xs ≡ true
-is_any f [] k x there e = absurd (none-some x there)
-is_any f (y ∷ xs) zero x there e = ap (λ b. b || list_any f xs) (ap f (same_Some y x there) ∙ e)
-is_any {X} f (y ∷ xs) (suc k) x there e = ap (λ b. f y || b) (is_any f xs k x there e) ∙ by (f y)
-  where
-    by : (b : Bool) → (b || true) ≡ true
-    by true = refl
-    by false = refl
-
-pub both_true : (a b : Bool) → (a && b) ≡ true → (a ≡ true) × (b ≡ true)
-both_true true b e = (refl, e)
-both_true false b e = absurd (cc)
 
 landed_at_stays : (s : Shape) (log : List Logged) (l : Logged) (q : ℕ) → ArePlain (log ++ l ∷ []) → ArePlain log → has_landed_at s log q ≡ true → has_landed_at s (log ++ l ∷ []) q ≡ true
 landed_at_stays s log l q plain before landed =

@@ -11,9 +11,8 @@ use Rattle.pblk_model.specs.Contents.{end, sector_of, contents}
 use Rattle.pblk_model.specs.History.{SectorWrite, after}
 use Rattle.pblk_model.specs.Image.{Image}
 use Rattle.stripe_placer.proofs.Among.{got_here, got_else}
-use Rattle.media_laws.proofs.Found.{within_some}
-use Rattle.media_laws.proofs.Places.{range_get}
-use Rattle.media_laws.proofs.Programs.{get_whole}
+use Rattle.media_laws.proofs.Growing.{get_whole}
+use Rattle.core_laws.proofs.Lists.{got_within as within_some, get_taken, range_get}
 use Rattle.prefix_law.specs.Assembled.{Given, Entries, IsEntryOf, IsLastOf, IsAssembled}
 use Rattle.prefix_law.specs.Continued.{given_of}
 use Rattle.prefix_law.proofs.Assembly.{last_stands, under_stands}
@@ -112,12 +111,6 @@ map_get : (ws : List SectorWrite) (k : ℕ) (w : SectorWrite) → slice_get ws k
 map_get [] k w e = absurd (none-some w e)
 map_get (v ∷ ws) zero w e = ap (λ x. Some x) (ap given_of (same_Some v w e))
 map_get (v ∷ ws) (suc k) w e = map_get ws k w e
-
-get_taken : {X : Type 0} (n : ℕ) (xs : List X) (k : ℕ) → k < n → slice_get (take n xs) k ≡ slice_get xs k
-get_taken zero xs k h = absurd (omega arith)
-get_taken (suc n) [] k h = refl
-get_taken (suc n) (x ∷ xs) zero h = refl
-get_taken (suc n) (x ∷ xs) (suc k) h = get_taken n xs k (omega arith)
 
 some_same : (a b : ℕ) → Some a ≡ Some b → a ≡ b
 some_same a b e = cc

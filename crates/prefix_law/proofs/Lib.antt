@@ -16,4 +16,3 @@ pub mod Prefix
 pub mod EndHeads
 pub mod Sealed
 pub mod Resting
-pub mod Blank

@@ -1,5 +1,5 @@
 -- Which start records of opened lines stand whole in the media, and which blocks.
-use Rattle.std.proofs.Common.{◌≡◌, ℕ, ◌+◌, ◌-◌, ◌*◌, ◌/◌, ◌%◌, ◌^◌, ◌<◌, ◌≤◌, zero, suc, Bool, true, false, cond, Some, None, Option, List, [], ◌∷◌, ◌++◌, length, take, drop, replicate, refl, sym, subst, ap, ap₂, ◌∙◌, arith, if◌then◌else◌}
+use Rattle.std.proofs.Common.{◌≡◌, ℕ, ◌+◌, ◌-◌, ◌*◌, ◌/◌, ◌%◌, ◌^◌, ◌<◌, ◌≤◌, zero, suc, Bool, true, false, Some, None, Option, List, [], ◌∷◌, ◌++◌, length, take, drop, replicate, refl, sym, subst, ap, ap₂, ◌∙◌, arith, if◌then◌else◌}
 use Rattle.std.specs.Prelude.{slice_get, slice_range}
 use Rattle.std.specs.List.{AllByRecursion, cons_option, filter, filter_map, flat_map}
 use Rattle.std.specs.Option.{option_and_then, option_map}
@@ -13,7 +13,7 @@ use Rattle.pblk_model.specs.Shape.{units}
 use Rattle.pblk_model.specs.Chunk.{Chunk, Block}
 use Rattle.pblk_model.specs.Blocks.{blocks_of}
 use Rattle.pblk_model.specs.Marks.{meta_mark}
-use Rattle.pblk_model.specs.LineOrder.{start_len, data_len}
+use Rattle.pblk_model.specs.LineOrder.{start_len}
 use Rattle.pblk_model.specs.Image.{Image, is_online_in, line_units, width, block_at}
 use Rattle.pblk_model.specs.StartRecord.{StartRecord, read_start, start_of, start_bytes, start_fits}
 use Rattle.pblk_world.specs.Events.{Logged}
@@ -24,50 +24,27 @@ use Rattle.pblk_world.specs.Starts.{start_stripes}
 use Rattle.pblk_world.specs.Placing.{start_blocks, stripe_at}
 use Rattle.pblk_world.specs.Commanding.{ended_stripes}
 use Rattle.core_laws.specs.PlainWorlds.{IsPlainWorld}
+use Rattle.core_laws.proofs.Lists.{got_within as within_some, get_taken, get_dropped as get_drop, filter_short as fewer_all, none_past as none_left}
 use Rattle.pblk_laws.specs.StartBlocks.{AreStart}
 use Rattle.pblk_laws.proofs.LineUnits.{line_units_count}
 use Rattle.pblk_laws.proofs.Starts.{fields_fit, read_back, start_bytes_length, marked, found, found_is}
 use Rattle.media_laws.specs.Standing.{stripes_in, is_programmed, blocks_of_stripes}
-use Rattle.media_laws.proofs.Growing.{within_some}
 use Rattle.media_laws.proofs.UnitCounts.{known_units}
 use Rattle.media_laws.proofs.LineLives.{IsOpenedAs, living}
-use Rattle.media_laws.proofs.LinePlaces.{record_count, parts_of, units_known, stripe_opened}
+use Rattle.media_laws.proofs.LinePlaces.{record_count, units_known, stripe_opened}
 use Rattle.media_laws.proofs.Order.{stripes_at}
 use Rattle.media_laws.proofs.LineColumns.{column_stripes}
 use Rattle.media_laws.proofs.LineReadable.{passed_blocks}
 use Rattle.media_laws.proofs.OpenedUnits.{IsWide, opened_wide, media_line_units}
 use Rattle.media_laws.proofs.LineWritten.{place_in_units, block_of_place, programmed, written_chunk, block_at_address}
+use Rattle.placed_laws.proofs.TwoLines.{wide_width as some_width}
 use Rattle.prefix_law.proofs.Starting.{start_fits_line}
 use Rattle.prefix_law.proofs.Filling.{IsFilled, filled, start_whole}
 
 -- ---- lists
 
-pub get_drop : {X : Type 0} (n : ℕ) (xs : List X) (r : ℕ) → slice_get (drop n xs) r ≡ slice_get xs (n + r)
-get_drop zero xs r = ap (slice_get xs) (let same : r ≡ 0 + r = omega arith in same)
-get_drop (suc n) [] r = refl
-get_drop (suc n) (x ∷ xs) r = get_drop n xs r ∙ ap (slice_get (x ∷ xs)) (let same : suc (n + r) ≡ suc n + r = omega arith in same)
-
-get_taken : {X : Type 0} (n : ℕ) (xs : List X) (k : ℕ) → k < n → slice_get (take n xs) k ≡ slice_get xs k
-get_taken zero xs k h = absurd (omega arith)
-get_taken (suc n) [] k h = refl
-get_taken (suc n) (x ∷ xs) zero h = refl
-get_taken (suc n) (x ∷ xs) (suc k) h = get_taken n xs k (omega arith)
-
 pub get_range : {X : Type 0} (xs : List X) (a b r : ℕ) → r < b - a → slice_get (slice_range xs a b) r ≡ slice_get xs (a + r)
 get_range xs a b r h = get_taken (b - a) (drop a xs) r h ∙ get_drop a xs r
-
-pub none_left : {X : Type 0} (xs : List X) (k : ℕ) → slice_get xs k ≡ None → length xs ≤ k
-none_left [] k e = omega arith
-none_left (x ∷ xs) zero e = absurd (none-some x (sym e))
-none_left (x ∷ xs) (suc k) e = let rest : length xs ≤ k = none_left xs k e in omega arith
-
-fewer_all : {X : Type 0} (f : X → Bool) (xs : List X) → length (filter f xs) ≤ length xs
-fewer_all f [] = omega arith
-fewer_all {X} f (x ∷ xs) = by (f x) (fewer_all f xs)
-  where
-    by : (b : Bool) → length (filter f xs) ≤ length xs → length (cond b (x ∷ filter f xs) (filter f xs)) ≤ suc (length xs)
-    by true h = omega arith
-    by false h = omega arith
 
 -- no line is wider than there are units
 fewer_made : (line : ℕ) (us : List (List Chunk)) → length (filter_map (λ (unit : List Chunk). slice_get unit line) us) ≤ length us
@@ -115,10 +92,6 @@ opening_of log line is = by (life_of log line) refl
 -- a line with a stripe is opened
 pub line_opened : (i : Image) (w : World) (line j : ℕ) (p : Placed) → IsPlainWorld i w → slice_get (stripes_in (log_of w 0) line) j ≡ Some p → (o : Opening) × (life_of (log_of w 0) line ≡ Opened o)
 line_opened i w line j p world there = opening_of (log_of w 0) line (stripe_opened i w line j p world there)
-
-some_width : (s : Shape) (g : ℕ) → 0 < data_len s g → 0 < g
-some_width s zero h = let all = parts_of s 0 h in absurd (omega arith)
-some_width s (suc g) h = omega arith
 
 -- an opened line has units
 pub has_units : (i : Image) (w : World) (line : ℕ) → IsPlainWorld i w → is_opened (life_of (log_of w 0) line) ≡ true → 0 < length (units_known i w line)

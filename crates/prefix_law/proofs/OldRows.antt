@@ -17,20 +17,18 @@ use Rattle.pblk_laws.proofs.Ends.{end_is_end}
 use Rattle.pblk_laws.proofs.Heads.{head_is_head, no_head_no_start}
 use Rattle.pblk_laws.proofs.Starts.{numbers, found_is}
 use Rattle.stripe_placer.proofs.Among.{IsAmong, later}
+use Rattle.stripe_placer.proofs.Chunks.{lt_yes as true_lt}
+use Rattle.stripe_placer.proofs.Rising.{le_true as true_le, le_false as false_le}
 use Rattle.core_laws.proofs.Rows.{same_number}
-use Rattle.media_laws.proofs.Places.{range_get}
+use Rattle.core_laws.proofs.Tests.{both as both_true}
+use Rattle.core_laws.proofs.Lists.{range_get}
+use Rattle.media_laws.proofs.KnownSteps.{any_at as is_any}
+use Rattle.placed_laws.proofs.Distinct.{passing as any_is}
 use Rattle.prefix_law.specs.Assembled.{by_row}
 use Rattle.prefix_law.specs.Continued.{row_of, rows_of}
 use Rattle.prefix_law.proofs.Among.{made_into, made_from}
-use Rattle.prefix_law.proofs.Assembly.{filtered_from, filtered_into, true_lt, true_le, CountsBy, counts_by, counts_young, counts_row}
-use Rattle.prefix_law.proofs.Fronts.{any_is, is_any, both_true}
+use Rattle.prefix_law.proofs.Assembly.{filtered_from, filtered_into, CountsBy, counts_by, counts_young, counts_row}
 use Rattle.prefix_law.proofs.RecordLines.{range_is, IsAt, record_is_at}
-
-false_le : (m n : ℕ) → n < m → nat_le m n ≡ false
-false_le m n h = by (nat_le m n) refl where
-  by : (b : Bool) → nat_le m n ≡ b → b ≡ false
-  by true e = let low : m ≤ n = leb-true m n e in absurd (omega arith)
-  by false e = refl
 
 -- ---- the rows of a start record
 

@@ -33,6 +33,7 @@ use Rattle.opening_laws.specs.Losing.{IsLostLine}
 use Rattle.opening_laws.specs.Early.{ArePrefixes}
 use Rattle.opening_laws.proofs.LostImages.{line_kept, line_lost}
 use Rattle.opening_laws.proofs.FoundImages.{found_first, found_sealed, found_holds, early_before, early_holds}
+use Rattle.stripe_placer.proofs.Rows.{length_map as length_mapped}
 use Rattle.prefix_law.specs.Continued.{given_of, entries_from, IsNextStart, IsContinued}
 use Rattle.prefix_law.proofs.Continuing.{front_above, end_among, contents_are}
 use Rattle.prefix_law.proofs.Fronts.{synced_from}
@@ -41,10 +42,6 @@ use Rattle.prefix_law.proofs.Taking.{line_of, history_is, count_users}
 use Rattle.prefix_law.proofs.Media.{opening_of, start_is}
 use Rattle.prefix_law.proofs.Records.{IsOfEntry, of_entry, landed_borne}
 use Rattle.prefix_law.proofs.Unopened.{kept_or_lost, in_range}
-
-length_mapped : {X Y : Type 0} (f : X → Y) (xs : List X) → length (map f xs) ≡ length xs
-length_mapped f [] = refl
-length_mapped f (x ∷ xs) = ap suc (length_mapped f xs)
 
 get_mapped : {X Y : Type 0} (f : X → Y) (xs : List X) (k : ℕ) (x : X) → slice_get xs k ≡ Some x → slice_get (map f xs) k ≡ Some (f x)
 get_mapped f [] k x e = absurd (none-some x e)

@@ -12,14 +12,11 @@ use Rattle.pblk_model.specs.EndRecord.{end_of}
 use Rattle.pblk_model.specs.StartRecord.{StartRecord, start_of}
 use Rattle.pblk_model.specs.Records.{Record, named, mark_at, bears, record_at, records_after, line_records, records}
 use Rattle.stripe_placer.proofs.Among.{IsAmong}
-use Rattle.media_laws.proofs.Places.{range_get}
+use Rattle.core_laws.proofs.Lists.{range_get}
+use Rattle.media_laws.proofs.LineChunks.{split_then as then_is}
 use Rattle.prefix_law.proofs.Among.{among_contained, contained_among, flat_into, flat_from, made_into, made_from}
 
 -- ---- one record
-
-pub then_is : {X Y : Type 0} (f : X → Option Y) (o : Option X) (y : Y) → option_and_then f o ≡ Some y → (x : X) × (o ≡ Some x) × (f x ≡ Some y)
-then_is f None y e = absurd (none-some y e)
-then_is f (Some x) y e = (x, refl, e)
 
 pub map_is : {X Y : Type 0} (f : X → Y) (o : Option X) (y : Y) → option_map f o ≡ Some y → (x : X) × (o ≡ Some x) × (f x ≡ y)
 map_is f None y e = absurd (none-some y e)

@@ -20,23 +20,23 @@ use Rattle.pblk_world.specs.Placing.{end_address}
 use Rattle.core_laws.specs.PlainWorlds.{IsPlainWorld}
 use Rattle.core_laws.proofs.Rows.{same_number}
 use Rattle.core_laws.proofs.Placing.{not_below}
+use Rattle.core_laws.proofs.Tests.{both as both_true}
 use Rattle.stripe_placer.proofs.Among.{IsAmong, in_filter}
+use Rattle.stripe_placer.proofs.Chunks.{le_of as lt_false}
 use Rattle.pblk_laws.proofs.MarkNames.{named_sector}
 use Rattle.media_laws.specs.Standing.{stripes_in, is_programmed}
 use Rattle.media_laws.proofs.LinePlaces.{IsPlacedIn, placed_in, units_known, next_fits}
 use Rattle.media_laws.proofs.LineWritten.{block_at_address}
 use Rattle.media_laws.proofs.LineStanding.{landed_is_programmed}
-use Rattle.prefix_law.proofs.RecordLines.{then_is, map_is, record_with, IsAt, record_is_at, at_is_record}
-use Rattle.prefix_law.proofs.Fronts.{any_is, both_true}
+use Rattle.media_laws.proofs.LineChunks.{split_then as then_is}
+use Rattle.placed_laws.proofs.Distinct.{passing as any_is}
+use Rattle.prefix_law.proofs.RecordLines.{map_is, record_with, IsAt, record_is_at, at_is_record}
 use Rattle.prefix_law.proofs.Filling.{filled}
 use Rattle.prefix_law.proofs.Taking.{IsUsers, all_users}
 use Rattle.prefix_law.proofs.Media.{IsWritten, written_there, media_width, opening_of, line_opened, start_stands, start_is}
 use Rattle.prefix_law.proofs.Ends.{IsData, data_block, end_begins, end_whole, pair_is, pairs_within}
 
 -- ---- the mark of a record is its block's own
-
-lt_false : (m n : ℕ) → nat_lt m n ≡ false → n ≤ m
-lt_false m n h = grind arith
 
 -- a data address's mark, by the end record or by itself
 pub own_mark : (i : Image) (w : World) (line a : ℕ) (o : Opening) (b : Block) (m : Mark) (e : Option EndRecord) → IsPlainWorld i w → life_of (log_of w 0) line ≡ Opened o → block_at (media i (log_of w)) line a ≡ Some b

@@ -20,16 +20,19 @@ use Rattle.pblk_world.specs.Space.{placed_front}
 use Rattle.pblk_world.proofs.SyncedFront.{synced_missing}
 use Rattle.core_laws.specs.PlainWorlds.{IsPlainWorld}
 use Rattle.core_laws.proofs.Rows.{same_number}
-use Rattle.core_laws.proofs.Placing.{is_below}
 use Rattle.stripe_placer.proofs.Among.{IsAmong, from_filter}
+use Rattle.stripe_placer.proofs.Chunks.{lt_yes as is_below}
 use Rattle.pblk_laws.proofs.Ends.{end_is_end}
 use Rattle.media_laws.proofs.LineWritten.{landed_is}
+use Rattle.media_laws.proofs.LineChunks.{split_then as then_is}
+use Rattle.media_laws.proofs.KnownSteps.{any_at as is_any}
 use Rattle.placed_laws.proofs.Ordered.{ordered, some_hold_below, front_within}
+use Rattle.placed_laws.proofs.Distinct.{passing as any_is}
 use Rattle.prefix_law.specs.Continued.{entries_from, IsNextStart}
 use Rattle.prefix_law.proofs.Among.{contained_among}
-use Rattle.prefix_law.proofs.Fronts.{any_is, is_any, synced_from}
+use Rattle.prefix_law.proofs.Fronts.{synced_from}
 use Rattle.prefix_law.proofs.Media.{IsWritten, opening_of, written_there, start_is}
-use Rattle.prefix_law.proofs.RecordLines.{IsAt, record_is_at, record_with, then_is, map_is}
+use Rattle.prefix_law.proofs.RecordLines.{IsAt, record_is_at, record_with, map_is}
 use Rattle.prefix_law.proofs.Records.{own_mark}
 use Rattle.prefix_law.proofs.Continuing.{WhichHead, OfThisMount, AsFound, which, is_new, holds_as_found, none_landed}
 use Rattle.prefix_law.proofs.Prefix.{lines_of, opened_in, continued, end_above}

@@ -31,27 +31,29 @@ use Rattle.pblk_world.specs.Commanding.{ended_stripes}
 use Rattle.core_laws.specs.PlainWorlds.{IsPlainWorld}
 use Rattle.core_laws.proofs.Rows.{other_number}
 use Rattle.core_laws.proofs.Placing.{not_below}
+use Rattle.core_laws.proofs.Lists.{got_within as within_some, all_mapped}
 use Rattle.pblk_laws.specs.LineBlocks.{chunk_in}
 use Rattle.pblk_laws.proofs.Lists.{all_at, all_by_get}
 use Rattle.pblk_laws.proofs.LineUnits.{line_units_chunks}
 use Rattle.pblk_laws.proofs.StartHeads.{spelled_begins_once}
 use Rattle.media_laws.specs.Standing.{state_at, stripes_in}
-use Rattle.media_laws.proofs.Growing.{within_some, get_whole}
+use Rattle.media_laws.proofs.Growing.{get_whole}
 use Rattle.media_laws.proofs.UnitCounts.{found_shape}
 use Rattle.media_laws.proofs.Order.{stripes_at}
 use Rattle.media_laws.proofs.LinePlaces.{units_known, stripes_in_chunk}
 use Rattle.media_laws.proofs.LineColumns.{IsColumn, column_stripes, block_get, blocks_count}
-use Rattle.media_laws.proofs.LineWritten.{place_in_units, block_of_place, programmed, count_programmed, programmed_by, on_unit, standing_chunk, lt_true, written_chunk}
+use Rattle.media_laws.proofs.LineWritten.{place_in_units, block_of_place, programmed, count_programmed, programmed_by, on_unit, standing_chunk, written_chunk}
 use Rattle.media_laws.proofs.LineReadable.{passed_blocks, programmed_fit}
 use Rattle.media_laws.proofs.LineStanding.{landed_is_programmed}
 use Rattle.media_laws.proofs.OpenedUnits.{opened_wide, media_line_units}
 use Rattle.opening_laws.proofs.LostImages.{line_lost, line_agrees, line_begins_kept, line_begins_lost}
 use Rattle.opening_laws.proofs.FoundImages.{early_before, early_sealed}
+use Rattle.stripe_placer.proofs.Chunks.{lt_of as lt_true}
 use Rattle.prefix_law.proofs.Starting.{start_fits_line}
 use Rattle.prefix_law.proofs.Filling.{IsFilled, IsOfTaken, filled, marks_in, end_with, start_whole}
 use Rattle.prefix_law.proofs.Taking.{IsUsers, all_users}
 use Rattle.prefix_law.proofs.Media.{IsWritten, written_block, written_there, media_width, width_low, opening_of, start_is, ProgrammedAt, part_get, get_range, cut_marks}
-use Rattle.prefix_law.proofs.Ends.{end_begins, end_whole, pair_is, pairs_within, stands, count, block_written, past_end, all_blocks, line_long, all_mapped, row_above, placed_record}
+use Rattle.prefix_law.proofs.Ends.{end_begins, end_whole, pair_is, pairs_within, stands, count, block_written, past_end, all_blocks, line_long, row_above, placed_record}
 use Rattle.prefix_law.proofs.Unopened.{kept_or_lost}
 use Rattle.prefix_law.proofs.Prefix.{whole, found_accepted, found_fit, found_whole, same_count}
 use Rattle.prefix_law.proofs.EndHeads.{IsDataMark, end_begins_none}

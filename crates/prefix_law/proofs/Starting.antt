@@ -1,5 +1,5 @@
 -- With which start records lines are opened, by the image that the mount found.
-use Rattle.std.proofs.Common.{◌≡◌, ℕ, ◌+◌, ◌-◌, ◌^◌, ◌<◌, ◌≤◌, ◌⊎◌, ◌==◌, ◌&&◌, not, nat_lt, nat_le, zero, suc, Bool, true, false, Some, None, Option, List, [], ◌∷◌, ◌++◌, length, refl, sym, subst, ap, ap₂, ◌∙◌, arith, inl, inr, if◌then◌else◌}
+use Rattle.std.proofs.Common.{◌≡◌, ℕ, ◌+◌, ◌-◌, ◌^◌, ◌<◌, ◌≤◌, ◌⊎◌, ◌==◌, not, nat_lt, nat_le, zero, suc, Bool, true, false, Some, None, Option, List, [], ◌∷◌, ◌++◌, length, refl, sym, subst, ap, ◌∙◌, arith, inl, inr, if◌then◌else◌}
 use Rattle.std.specs.List.{filter_map, cons_option, range_with_len}
 use Rattle.std.specs.Option.{option_map_or, is_some}
 use Rattle.std.proofs.Math.Path.{fun_ext}
@@ -20,15 +20,19 @@ use Rattle.pblk_world.proofs.Appending.{life_more}
 use Rattle.core_laws.specs.PlainWorlds.{ArePlain, IsPlainWorld}
 use Rattle.core_laws.proofs.Numbering.{first_stays}
 use Rattle.core_laws.proofs.Rows.{same_number, other_number}
+use Rattle.core_laws.proofs.Tests.{first_of as and_left, and_both}
 use Rattle.pblk_laws.proofs.Starts.{numbers, found_is}
 use Rattle.media_laws.proofs.Steps.{log_here, log_elsewhere, plain_tail, IsEngines, IsSomeones, whose}
-use Rattle.media_laws.proofs.Decisions.{IsFirst, IsLater, decided, begun_stays, never_freed}
+use Rattle.media_laws.proofs.Decisions.{IsFirst, IsLater, decided, never_freed}
 use Rattle.media_laws.proofs.Beginnings.{found_stays}
-use Rattle.media_laws.proofs.LineLives.{IsOpenedAs, living, opened_by_event, opening_is, and_left}
+use Rattle.media_laws.proofs.LineLives.{IsOpenedAs, living, opened_by_event, opening_is}
 use Rattle.media_laws.proofs.OpenedChunks.{has_begun}
 use Rattle.media_laws.proofs.Named.{found_same}
 use Rattle.media_laws.proofs.UnitCounts.{found_shape}
+use Rattle.media_laws.proofs.OpenedUnits.{still_begun}
 use Rattle.opening_laws.proofs.FoundImages.{found_first, found_seq}
+use Rattle.stripe_placer.proofs.Chunks.{lt_yes as true_lt}
+use Rattle.stripe_placer.proofs.Rising.{le_true as true_le}
 use Rattle.prefix_law.specs.Continued.{row_of, rows_of, IsNextStart}
 use Rattle.prefix_law.proofs.Fronts.{synced_rises, synced_from}
 use Rattle.prefix_law.proofs.OldRows.{old_seq, bound_low}
@@ -49,13 +53,6 @@ abbrev AreStarted : Image → World → Type 0
 AreStarted i w = (line : ℕ) (o : Opening) → life_of (log_of w 0) line ≡ Opened o → IsStarted i w line o
 
 -- ---- after one more step
-
-still_begun : (s : Step) (w : World) (b : Begun) → begun (log_of w 0) ≡ Some b → begun (log_of (s ∷ w) 0) ≡ Some b
-still_begun s w b is = by (s.author == 0)
-  where
-    by : (t : Bool) → begun (if t then log_of w 0 ++ s.logged ∷ [] else log_of w 0) ≡ Some b
-    by true = begun_stays (log_of w 0) s.logged b is ∙ is
-    by false = is
 
 rises : (i : Image) (s : Step) (w : World) (b : Begun) → IsPlainWorld i (s ∷ w) → begun (log_of w 0) ≡ Some b → synced i.shape (log_of w 0) ≤ synced i.shape (log_of (s ∷ w) 0)
 rises i s w b plain is = by (s.author == 0) plain.engine
@@ -112,7 +109,7 @@ not_found i w line plain h is = by (life_of (log_of w 0) line) refl
 
 -- ---- a line that is opened
 
-none_of : (o : Option StartRecord) → not (is_some o) ≡ true → o ≡ None
+pub none_of : (o : Option StartRecord) → not (is_some o) ≡ true → o ≡ None
 none_of None e = refl
 none_of (Some r) e = absurd (cc)
 
@@ -124,7 +121,7 @@ free_numberless i logs line unfreed is = by (life_of (logs 0) line) unfreed is
     by (Opened o) unfreed e = absurd (cc)
     by (Freed was knows) unfreed e = absurd (cc)
 
-first_is : (log : List Logged) (b : Begun) → begun log ≡ Some b → first_position log ≡ b.beginning.first
+pub first_is : (log : List Logged) (b : Begun) → begun log ≡ Some b → first_position log ≡ b.beginning.first
 first_is log b is = ap (λ (o : Option Begun). option_map_or (λ (x : Begun). x.beginning.first) o 0) is
 
 started_now : (i : Image) (s : Step) (w : World) (line : ℕ) (start : StartRecord) (b : Begun) → IsPlainWorld i (s ∷ w) → AreStarted i w → (e : IsEngines i s w) → begun (log_of w 0) ≡ Some b
@@ -186,25 +183,8 @@ started i (s ∷ w) plain = started_by i s w plain (started i w (plain_tail i s 
 
 -- ---- such a record fits its line
 
-true_le : (m n : ℕ) → m ≤ n → nat_le m n ≡ true
-true_le m n h = by (nat_le m n) refl
-  where
-    by : (b : Bool) → nat_le m n ≡ b → b ≡ true
-    by true e = refl
-    by false e = let past : n < m = grind arith in absurd (omega arith)
-
-true_lt : (m n : ℕ) → m < n → nat_lt m n ≡ true
-true_lt m n h = by (nat_lt m n) refl
-  where
-    by : (b : Bool) → nat_lt m n ≡ b → b ≡ true
-    by true e = refl
-    by false e = let past : n ≤ m = grind arith in absurd (omega arith)
-
 equal : (m n : ℕ) → m ≡ n → (m == n) ≡ true
 equal m n e = ap (λ k. k == n) e ∙ same_number n
-
-and_both : (a b : Bool) → a ≡ true → b ≡ true → (a && b) ≡ true
-and_both a b p q = ap₂ (λ x y. x && y) p q
 
 -- the rows of a found image fit a start record of the next mount
 module _ (s : Shape) (found : Image) (front : ℕ) (r : StartRecord) (n : IsNextStart found front r) (shape : s ≡ found.shape) (none : start_of found r.line ≡ None) where
@@ -278,7 +258,7 @@ module _ (s : Shape) (found : Image) (front : ℕ) (r : StartRecord) (n : IsNext
       let same : length r.rows ≡ length (filter_map (λ line. row_of found line (start_of found line)) (range_with_len 0 s.chunks)) = ap length n.rows ∙ ap (λ (x : Shape). length (filter_map (λ line. row_of found line (start_of found line)) (range_with_len 0 x.chunks))) (sym shape) in
       omega arith
 
-next_positive : (o : Option StartRecord) → 1 ≤ next_seq o
+pub next_positive : (o : Option StartRecord) → 1 ≤ next_seq o
 next_positive None = omega arith
 next_positive (Some h) = omega arith
 

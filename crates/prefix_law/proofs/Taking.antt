@@ -20,10 +20,11 @@ use Rattle.pblk_world.proofs.Appending.{takes_more}
 use Rattle.pblk_world.proofs.Growing.{at_end}
 use Rattle.core_laws.specs.PlainWorlds.{is_plain_decision, IsPlainWorld}
 use Rattle.core_laws.proofs.Numbering.{first_stays}
-use Rattle.core_laws.proofs.Placing.{is_below, not_below}
+use Rattle.core_laws.proofs.Placing.{not_below}
 use Rattle.media_laws.proofs.Steps.{log_here, log_elsewhere, plain_tail, IsSomeones, whose}
 use Rattle.media_laws.proofs.Decisions.{IsFirst, IsLater, decided}
 use Rattle.media_laws.proofs.LineLives.{same_logged}
+use Rattle.stripe_placer.proofs.Chunks.{lt_yes as is_below}
 
 -- a user's entry with its mark, at this position
 pub record IsUsers (s : Shape) (k : ℕ) (t : Taken) : Type 0 where
@@ -91,7 +92,7 @@ all_users i (s ∷ w) world = users_by i s w world (all_users i w (plain_tail i 
 abbrev pub line_of : Taken → SectorWrite
 line_of t = record { lba = t.entry.lba; sector = t.entry.sector }
 
-all_pass : {X : Type 0} (test : X → Bool) (xs : List X) → ((k : ℕ) (x : X) → slice_get xs k ≡ Some x → test x ≡ true) → filter test xs ≡ xs
+pub all_pass : {X : Type 0} (test : X → Bool) (xs : List X) → ((k : ℕ) (x : X) → slice_get xs k ≡ Some x → test x ≡ true) → filter test xs ≡ xs
 all_pass test [] all = refl
 all_pass test (x ∷ xs) all = ap (λ b. cond b (x ∷ filter test xs) (filter test xs)) (all 0 x refl) ∙ ap (λ ys. x ∷ ys) (all_pass test xs (λ k y there. all (suc k) y there))
 

@@ -14,7 +14,7 @@ ghost use Rattle.pblk_world.specs.EngineLog.{Begun, begun, is_opened, Opening, O
 ghost use Rattle.pblk_world.specs.EngineLog.{Taken, takes};
 ghost use Rattle.pblk_world.specs.Starts.{start_stripes};
 ghost use Rattle.pblk_world.specs.Fronts.{first_position, taken, synced, has_landed_at, history, user_positions};
-ghost use Rattle.core_laws.specs.PlainWorlds.{IsBlankWorld, IsPlainWorld};
+ghost use Rattle.core_laws.specs.PlainWorlds.{IsPlainWorld};
 ghost use Rattle.media_laws.specs.Standing.{is_programmed};
 ghost use Rattle.prefix_law.specs.Assembled.{Entries, IsEntryOf, IsLastOf, IsAssembled};
 ghost use Rattle.prefix_law.specs.Continued.{entries_from, IsContinued};
@@ -110,17 +110,4 @@ pub fn no_mount_changes_nothing()
 pub fn the_media_are_sealed()
     ensures { (i : Image) (w : World) → IsPlainWorld i w → IsSealed i
         → IsSealed (media i (log_of w)) }
-{}
-
-/// A drive on which nothing was written is sealed, and a mount begins there with position 0. So at
-/// each moment its end is at most the front taken, and it is the front synced where each placed
-/// stripe is answered.
-pub fn a_blank_drive_is_sealed()
-    ensures sealed { (i : Image) (w : World) → IsBlankWorld i w → IsSealed i }
-    ensures first { (i : Image) (w : World) → IsBlankWorld i w → first_position (log_of w 0) ≡ 0 }
-    ensures within { (i : Image) (w : World) → IsBlankWorld i w
-        → end (media i (log_of w)) ≤ taken (log_of w 0) }
-    ensures resting { (i : Image) (w : World) → IsBlankWorld i w
-        → ((p : Placed) → Contains (placements (log_of w 0)) p → is_answered (log_of w 0) p ≡ true)
-        → end (media i (log_of w)) ≡ synced i.shape (log_of w 0) }
 {}

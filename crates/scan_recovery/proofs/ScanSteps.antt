@@ -1,6 +1,6 @@
 -- The states of chunks, and how many records there are.
-use Rattle.std.proofs.Common.{◌≡◌, ℕ, ◌+◌, ◌*◌, ◌^◌, ◌<◌, ◌≤◌, zero, suc, List, [], ◌∷◌, ◌++◌, length, map, take, get_or, Option, Some, None, refl, sym, ap, ◌∙◌, subst, arith, append_assoc, append-nil, length-append}
-use Rattle.std.specs.List.{AllByRecursion, cons_option, filter_map, flat_map, range_with_len, slice_get}
+use Rattle.std.proofs.Common.{◌≡◌, ℕ, ◌+◌, ◌*◌, ◌^◌, ◌<◌, ◌≤◌, zero, suc, List, [], ◌∷◌, ◌++◌, length, map, take, get_or, Option, Some, None, refl, sym, ap, ◌∙◌, subst, arith, append_assoc, append-nil}
+use Rattle.std.specs.List.{AllByRecursion, filter_map, flat_map, range_with_len, slice_get}
 use Rattle.std.specs.Option.{option_and_then, option_map, IfSome}
 use Rattle.std.proofs.lemmas.List.{length-map}
 use Rattle.std.proofs.lemmas.Option.{slice_get_within, get_or_from_slice_get}
@@ -11,10 +11,9 @@ use Rattle.pblk_model.specs.Image.{Image, IsFit, width, block_at}
 use Rattle.pblk_model.specs.StartRecord.{StartRecord, start_of}
 use Rattle.pblk_model.specs.EndRecord.{end_of}
 use Rattle.pblk_model.specs.Records.{Record, named, mark_at, bears, record_at, records_after, line_records}
-use Rattle.pblk_model.proofs.Sizes.{line_is_short}
-use Rattle.pblk_laws.proofs.Lists.{all_append, all_at}
-use Rattle.pblk_laws.proofs.Widths.{width_within}
+use Rattle.pblk_laws.proofs.Lists.{all_append, all_at, all_cons_option as kept_one}
 use Rattle.found_laws.specs.Finding.{taken_state}
+use Rattle.found_laws.proofs.Counting.{lines_few}
 use Rattle.scan_recovery.specs.declared.trace.Trace.{Trace}
 use Rattle.scan_recovery.specs.declared.survey.Survey.{Survey}
 use Rattle.scan_recovery.specs.Survey.{IsSurvey}
@@ -68,10 +67,6 @@ record_line i line start a =
     (λ block. if_then (λ r. r.line ≡ line) (bears i.shape line start.seq a block) (mark_at i.shape (end_of i line start) a block)
     (λ m. if_map (λ (r : Record). r.line ≡ line) (λ lba. record { line = line; seq = start.seq; at = a; position = m.position; lba = lba; sector = block.sector }) (named i.shape m) (λ lba. refl)))
 
-kept_one : {Y : Type 0} (P : Y → Type 0) (o : Option Y) (ys : List Y) → IfSome o P → AllByRecursion P ys → AllByRecursion P (cons_option o ys)
-kept_one P None ys h k = k
-kept_one P (Some y) ys h k = (h, k)
-
 pub kept_all : {X Y : Type 0} (P : Y → Type 0) (f : X → Option Y) (xs : List X) → ((x : X) → IfSome (f x) P) → AllByRecursion P (filter_map f xs)
 kept_all P f [] h = tt
 kept_all P f (x ∷ xs) h = kept_one P (f x) (filter_map f xs) (h x) (kept_all P f xs h)
@@ -98,29 +93,6 @@ traces_below n (t ∷ ts) h = (h.0, traces_below n ts h.1)
 
 pub survey_within : (i : Image) (n : ℕ) (v : Survey) → IsSurvey i n v → AllByRecursion (λ t. t.line < n) v.traces.items
 survey_within i n v S = traces_below n v.traces.items (subst (AllByRecursion (λ r. r.line < n)) (sym S.traces) (thin_below n (flat_map (line_records i) (range_with_len 0 n)) (lines_below i 0 n n (omega arith))))
-
-some_few : {Y : Type 0} (o : Option Y) (ys : List Y) → length (cons_option o ys) ≤ suc (length ys)
-some_few None ys = omega arith
-some_few (Some y) ys = omega arith
-
-kept_few : {Y : Type 0} (f : ℕ → Option Y) (a n : ℕ) → length (filter_map f (range_with_len a n)) ≤ n
-kept_few f a zero = omega arith
-kept_few f a (suc n) = let more = kept_few f (a + 1) n in let one = some_few (f a) (filter_map f (range_with_len (a + 1) n)) in omega arith
-
-line_is_few : (i : Image) (line : ℕ) (o : Option StartRecord) → IsAccepted i.shape → IsFit i → length (records_after i line o) ≤ 65536
-line_is_few i line None accepted fit = omega arith
-line_is_few i line (Some start) accepted fit =
-    let few = kept_few (record_at i line start) 0 (width i line * i.shape.clba) in
-    let short : width i line * i.shape.clba ≤ 65536 = line_is_short i.shape (width i line) accepted (width_within i line fit) in
-    omega arith
-
-lines_few : (i : Image) (a n : ℕ) → IsAccepted i.shape → IsFit i → length (flat_map (line_records i) (range_with_len a n)) ≤ n * 65536
-lines_few i a zero accepted fit = omega arith
-lines_few i a (suc n) accepted fit =
-    let more = lines_few i (a + 1) n accepted fit in
-    let one : length (line_records i a) ≤ 65536 = line_is_few i a (start_of i a) accepted fit in
-    let both = length-append (line_records i a) (flat_map (line_records i) (range_with_len (a + 1) n)) in
-    omega arith
 
 pub survey_few : (i : Image) (n : ℕ) (v : Survey) → IsAccepted i.shape → IsFit i → n ≤ 1024 → IsSurvey i n v → length v.traces.items ≤ 2 ^ 26
 survey_few i n v accepted fit small S =

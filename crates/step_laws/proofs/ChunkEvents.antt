@@ -7,7 +7,8 @@ use Rattle.pblk_model.specs.declared.shape.Shape.{Shape}
 use Rattle.pblk_model.specs.Chunk.{Chunk}
 use Rattle.pblk_model.specs.UnitLog.{UnitEvent, after_outcome, after_event}
 use Rattle.pblk_model.specs.Image.{Image}
-use Rattle.stripe_placer.proofs.Among.{got_here, got_else}
+use Rattle.stripe_placer.proofs.Among.{got_here}
+use Rattle.line_laws.proofs.LandedRows.{event_beside as beside_in}
 
 -- ---- lists
 
@@ -21,13 +22,6 @@ pub same_images : (s : Shape) (us vs : List (List Chunk)) → ((unit : ℕ) → 
 same_images s us vs same = ap (λ (xs : List (List Chunk)). record { shape = s; units = xs }) (same_lists us vs same)
 
 -- ---- one event
-
-beside_in : (s : Shape) (chunks : List Chunk) (e : UnitEvent) (line : ℕ) → line ≢ e.chunk → slice_get (after_event s chunks e) line ≡ slice_get chunks line
-beside_in s chunks e line apart = go (slice_get chunks e.chunk)
-  where
-    go : (o : Option Chunk) → slice_get (option_map_or (λ (c : Chunk). slice_set chunks e.chunk (after_outcome s c e.command e.outcome)) o chunks) line ≡ slice_get chunks line
-    go None = refl
-    go (Some c) = got_else chunks e.chunk line (after_outcome s c e.command e.outcome) apart
 
 here_in : (s : Shape) (chunks : List Chunk) (e : UnitEvent) (c : Chunk) → slice_get chunks e.chunk ≡ Some c → slice_get (after_event s chunks e) e.chunk ≡ Some (after_outcome s c e.command e.outcome)
 here_in s chunks e c there =

@@ -1,6 +1,5 @@
 -- The next step of an engine that knows all logs.
-use Rattle.std.proofs.Common.{◌≡◌, ℕ, zero, suc, true, Some, List, [], ◌∷◌, ◌++◌, refl, ap, ◌∙◌, arith}
-use Rattle.std.proofs.lemmas.Option.{none-some}
+use Rattle.std.proofs.Common.{◌≡◌, ℕ, zero, suc, true, Some, List, ◌∷◌, refl, ap, ◌∙◌, arith}
 use Rattle.pblk_model.specs.declared.shape.Shape.{Shape}
 use Rattle.pblk_model.specs.Image.{Image}
 use Rattle.pblk_world.specs.Events.{EngineEvent, Begin, Decides, Logged}
@@ -11,6 +10,7 @@ use Rattle.core_laws.specs.PlainWorlds.{is_plain_decision, IsPlainWorld}
 use Rattle.core_laws.specs.Stepping.{after}
 use Rattle.core_laws.proofs.Lists.{fun_same}
 use Rattle.media_laws.proofs.Steps.{log_here, log_elsewhere}
+use Rattle.placing_laws.proofs.Beginnings.{begun_stays}
 use Rattle.step_laws.specs.Whole.{knows_all, engine_step}
 use Rattle.step_laws.proofs.Knowing.{next_step, still_plain}
 
@@ -29,10 +29,6 @@ engine_logs s e w = fun_same (log_of (engine_step s e w ∷ w)) (after (log_of w
     go : (author : ℕ) → log_of (engine_step s e w ∷ w) author ≡ after (log_of w) e (knows_all s w) author
     go zero = log_here (engine_step s e w) w 0 refl
     go (suc unit) = log_elsewhere (engine_step s e w) w (suc unit) (λ same. let no : 0 ≡ suc unit = same in absurd (omega arith))
-
-begun_stays : (log : List Logged) (l : Logged) (b : Begun) → begun log ≡ Some b → begun (log ++ l ∷ []) ≡ Some b
-begun_stays [] l b e = absurd (none-some b e)
-begun_stays (m ∷ log) l b e = e
 
 pub begun_still : (s : Shape) (e : EngineEvent) (w : World) (b : Begun) → begun (log_of w 0) ≡ Some b → begun (log_of (engine_step s e w ∷ w) 0) ≡ Some b
 begun_still s e w b begins =

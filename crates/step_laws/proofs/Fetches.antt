@@ -1,9 +1,8 @@
 -- A fetch of a block.
-use Rattle.std.proofs.Common.{◌≡◌, ◌⊎◌, inl, inr, ℕ, ◌<◌, zero, suc, false, Some, None, Option, List, [], ◌∷◌, refl, sym, subst, ap, ◌∙◌, arith}
+use Rattle.std.proofs.Common.{◌≡◌, ◌⊎◌, inl, inr, ℕ, ◌<◌, suc, false, Some, None, Option, List, ◌∷◌, refl, sym, subst, ap, ◌∙◌, arith}
 use Rattle.std.specs.Prelude.{slice_get, slice_set}
 use Rattle.std.specs.Option.{option_map, option_map_or}
 use Rattle.std.proofs.lemmas.Bool.{cases_order}
-use Rattle.std.proofs.lemmas.Option.{same_Some, none-some}
 use Rattle.pblk_model.specs.declared.shape.Shape.{Shape}
 use Rattle.pblk_model.specs.Shape.{units}
 use Rattle.pblk_model.specs.Chunk.{Chunk}
@@ -16,6 +15,7 @@ use Rattle.pblk_world.specs.EngineLog.{Begun, begun}
 use Rattle.pblk_world.specs.Commanding.{has_stopped, IsCommand, MayDo}
 use Rattle.pblk_laws.specs.LineBlocks.{chunk_in}
 use Rattle.core_laws.specs.PlainWorlds.{IsPlainWorld}
+use Rattle.core_laws.proofs.Lists.{set_same}
 use Rattle.step_laws.specs.Whole.{unit_step, fetch_of}
 use Rattle.step_laws.proofs.ChunkEvents.{same_images}
 use Rattle.step_laws.proofs.Knowing.{next_step, still_plain}
@@ -43,11 +43,6 @@ fetch_next i w unit chunk block c answer maker plain range there given step =
     (next_step i w (suc unit) (Does (fetch_of chunk block answer) maker) plain.legal (omega arith) (may_fetch i w unit chunk block c answer plain there given step)) refl
 
 -- ---- the media
-
-set_same : {X : Type 0} (xs : List X) (k : ℕ) (x : X) → slice_get xs k ≡ Some x → slice_set xs k x ≡ xs
-set_same [] k x e = absurd (none-some x e)
-set_same (y ∷ xs) zero x e = ap (λ z. z ∷ xs) (sym (same_Some y x e))
-set_same (y ∷ xs) (suc k) x e = ap (λ zs. y ∷ zs) (set_same xs k x e)
 
 read_leaves : (s : Shape) (chunks : List Chunk) (chunk block : ℕ) (answer : ChunkAnswer) → after_event s chunks (fetch_of chunk block answer) ≡ chunks
 read_leaves s chunks chunk block answer = go (slice_get chunks chunk) refl

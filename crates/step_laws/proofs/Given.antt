@@ -14,12 +14,12 @@ use Rattle.pblk_world.specs.EngineLog.{Opening, Opened, is_opened, life_of, Plac
 use Rattle.pblk_world.specs.Space.{is_readable_in}
 use Rattle.pblk_laws.specs.LineBlocks.{chunk_in}
 use Rattle.core_laws.specs.PlainWorlds.{IsPlainWorld}
-use Rattle.core_laws.proofs.Placing.{is_below}
 use Rattle.media_laws.proofs.LineColumns.{IsChunkStripe, chunk_stripe, column_of_unit}
 use Rattle.media_laws.proofs.LineReadable.{stripes_on_are}
 use Rattle.media_laws.proofs.LineStanding.{landed_is_programmed, is_read}
 use Rattle.media_laws.proofs.LineWritten.{programmed, on_unit, standing_chunk, block_in_stripe, written_chunk}
 use Rattle.media_laws.proofs.Order.{stripes_at}
+use Rattle.stripe_placer.proofs.Chunks.{lt_yes as is_below}
 
 read_taken : (s : Shape) (state : ChunkState) (wp b : ℕ) → ReadableIn state s.mw_cunits wp b → b < s.clba → read_refusal_in s state b ≡ None
 read_taken s states.Free wp b h within = absurd h

@@ -24,7 +24,7 @@ use Rattle.pblk_laws.specs.LineBlocks.{chunk_in}
 use Rattle.pblk_laws.proofs.Lists.{all_contains}
 use Rattle.core_laws.specs.PlainWorlds.{IsPlainWorld}
 use Rattle.core_laws.specs.PlacerOf.{unanswered_on}
-use Rattle.media_laws.proofs.Programs.{get_after}
+use Rattle.media_laws.proofs.Growing.{get_after}
 use Rattle.media_laws.proofs.Steps.{log_here}
 use Rattle.placing_laws.proofs.PlainEvents.{has_begun_plain}
 use Rattle.step_laws.specs.Whole.{engine_step, unit_step, reset_of, after_reset_of, after_noted_reset, IsLevel, IsKnown}
@@ -37,7 +37,7 @@ use Rattle.step_laws.proofs.UnitSteps.{unit_log, engine_log, media_now, media_el
 
 -- ---- it may be done
 
-reset_taken : (state : ChunkState) → IsUsed state → reset_refusal_in state ≡ None
+pub reset_taken : (state : ChunkState) → IsUsed state → reset_refusal_in state ≡ None
 reset_taken states.Free used = absurd used
 reset_taken states.Open used = refl
 reset_taken states.Closed used = refl

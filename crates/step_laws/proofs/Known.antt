@@ -14,7 +14,7 @@ use Rattle.pblk_world.specs.Lines.{told_by, known_image}
 use Rattle.core_laws.specs.PlainWorlds.{IsPlainWorld}
 use Rattle.core_laws.proofs.Rows.{same_number, other_number}
 use Rattle.line_laws.proofs.KeptRows.{known_kept}
-use Rattle.media_laws.proofs.Programs.{get_after}
+use Rattle.media_laws.proofs.Growing.{get_after}
 use Rattle.media_laws.proofs.Steps.{log_elsewhere}
 use Rattle.placing_laws.proofs.KnownImages.{known_one_more}
 use Rattle.step_laws.specs.Whole.{knows_all, engine_step, unit_step, fetch_of, noted, IsKnown}

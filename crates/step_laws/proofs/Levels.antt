@@ -15,9 +15,9 @@ use Rattle.pblk_world.specs.Commanding.{is_program, was_stopped, ends_stripe, en
 use Rattle.pblk_world.proofs.Appending.{answers_more, placements_more}
 use Rattle.core_laws.specs.PlainWorlds.{IsPlainWorld}
 use Rattle.core_laws.specs.PlacerOf.{unanswered_on}
-use Rattle.core_laws.proofs.Placing.{is_below}
 use Rattle.core_laws.proofs.Rows.{same_number, other_number}
 use Rattle.media_laws.proofs.Steps.{log_here, log_elsewhere}
+use Rattle.stripe_placer.proofs.Chunks.{lt_yes as is_below}
 use Rattle.step_laws.specs.Whole.{engine_step, unit_step, program_of, IsLevel, IsKnown, after_program, after_landing}
 use Rattle.step_laws.proofs.Knowing.{known_whole}
 use Rattle.step_laws.proofs.Known.{known_told}

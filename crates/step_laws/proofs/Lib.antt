@@ -11,7 +11,5 @@ pub mod Known
 pub mod Levels
 pub mod Pads
 pub mod Beginning
-pub mod BlankBeginning
 pub mod GivenUp
 pub mod Given
-pub mod BlankSteps

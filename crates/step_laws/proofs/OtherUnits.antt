@@ -1,6 +1,6 @@
 -- What the logs say of lines, rows, the map and the placer, with other logs of units by which the engine knows as much.
-use Rattle.std.proofs.Common.{◌≡◌, ◌⊎◌, inl, inr, ℕ, ◌+◌, ◌-◌, ◌*◌, ◌<◌, ◌≤◌, zero, suc, min, Bool, Some, None, Option, List, [], ◌∷◌, length, take, refl, sym, ap, ap₂, ◌∙◌, arith, take_all, length-take, if◌then◌else◌}
-use Rattle.std.specs.List.{find, filter, filter_map, cons_option, range_with_len}
+use Rattle.std.proofs.Common.{◌≡◌, ◌⊎◌, inl, inr, ℕ, ◌+◌, ◌-◌, ◌*◌, ◌<◌, ◌≤◌, zero, suc, min, Bool, Some, None, Option, List, length, take, refl, sym, ap, ap₂, ◌∙◌, arith, take_all, length-take, if◌then◌else◌}
+use Rattle.std.specs.List.{find, filter, range_with_len}
 use Rattle.std.specs.Option.{option_map_or, unwrap_or}
 use Rattle.std.proofs.lemmas.Bool.{cases_order}
 use Rattle.std.proofs.lemmas.List.{take-take}
@@ -24,7 +24,7 @@ use Rattle.core_laws.specs.OpenedLines.{bits_of, live_now, as_opened, with_outco
 use Rattle.core_laws.specs.PlacerOf.{entries_of, unanswered_on, waits_again, row_of_program, program_of_stripe, row_in, row_of, number_of, placing_of}
 use Rattle.core_laws.specs.RowsOf.{rows_of}
 use Rattle.core_laws.specs.SlotOf.{address_in, readable_block, media_of, slot_of_winner, slot_by, slot_of}
-use Rattle.core_laws.proofs.Lists.{fun_same, map_same, filter_same}
+use Rattle.core_laws.proofs.Lists.{fun_same, map_same, filter_same, made_same}
 use Rattle.line_laws.specs.Known.{AreKnown}
 use Rattle.line_laws.specs.Plain.{NoneFreed}
 use Rattle.line_laws.proofs.KnownLines.{rows_known, room_known}
@@ -64,10 +64,6 @@ prefix_of_prefix m n logs = fun_same (engine_prefix m (engine_prefix n logs)) (e
     go : (author : ℕ) → engine_prefix m (engine_prefix n logs) author ≡ engine_prefix (min m n) logs author
     go zero = short (cases_order m n)
     go (suc unit) = refl
-
-made_same : {X Y : Type 0} (f g : X → Option Y) → ((x : X) → f x ≡ g x) → (xs : List X) → filter_map f xs ≡ filter_map g xs
-made_same f g same [] = refl
-made_same {X} {Y} f g same (x ∷ xs) = ap₂ (λ (h : Option Y) (ys : List Y). cons_option h ys) (same x) (made_same f g same xs)
 
 module _ (i : Image) (us : ℕ → List Logged) (logs : Logs) (alike : AreAlike i us logs) where
   abbrev more : Logs

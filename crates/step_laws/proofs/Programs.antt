@@ -1,13 +1,11 @@
 -- The program of a unit's stripe that isn't answered, where all programs before it are.
-use Rattle.std.proofs.Common.{◌≡◌, ℕ, ◌<◌, ◌==◌, suc, true, false, Some, None, Option, List, ◌∷◌, length, refl, ap, ◌∙◌, arith}
+use Rattle.std.proofs.Common.{◌≡◌, ℕ, ◌<◌, ◌==◌, suc, true, Some, ◌∷◌, length, ap, ◌∙◌, arith}
 use Rattle.std.specs.Prelude.{slice_get}
 use Rattle.std.specs.List.{AllByRecursion}
-use Rattle.std.specs.Option.{option_map_or}
 use Rattle.std.proofs.lemmas.Bool.{eqb-true}
-use Rattle.std.proofs.lemmas.Option.{slice_get_within}
 use Rattle.pblk_model.specs.Shape.{units}
-use Rattle.pblk_model.specs.Chunk.{Chunk, IsBlock}
-use Rattle.pblk_model.specs.Image.{Image, is_online_in}
+use Rattle.pblk_model.specs.Chunk.{IsBlock}
+use Rattle.pblk_model.specs.Image.{Image}
 use Rattle.pblk_layout.specs.Live.{is_live}
 use Rattle.pblk_world.specs.Events.{Maker}
 use Rattle.pblk_world.specs.World.{World, log_of}
@@ -21,16 +19,10 @@ use Rattle.core_laws.proofs.Turns.{filtered_is}
 use Rattle.stripe_placer.proofs.Among.{IsAmong, from_filter}
 use Rattle.placing_laws.proofs.KeptLines.{all_online}
 use Rattle.placing_laws.proofs.Online.{known_length}
+use Rattle.placing_laws.proofs.Offered.{live_inside as live_within}
 use Rattle.step_laws.specs.Whole.{unit_step, program_of}
 use Rattle.step_laws.proofs.StripeBlocks.{placed_are_blocks}
 use Rattle.step_laws.proofs.UnitSteps.{program_next}
-
-live_within : (j : Image) (line unit : ℕ) → is_live j line unit ≡ true → unit < length j.units
-live_within j line unit e = go (slice_get j.units unit) refl e
-  where
-    go : (o : Option (List Chunk)) → slice_get j.units unit ≡ o → option_map_or (λ chunks. option_map_or (λ c. is_online_in c.state) (slice_get chunks line) false) o false ≡ true → unit < length j.units
-    go None f e = absurd (cc)
-    go (Some chunks) f e = slice_get_within j.units unit chunks f
 
 pub unit_in_range : (i : Image) (w : World) (unit k : ℕ) (p : Placed) → IsPlainWorld i w → slice_get (placed_on (log_of w 0) unit) k ≡ Some p → unit < units i.shape
 unit_in_range i w unit k p plain there =

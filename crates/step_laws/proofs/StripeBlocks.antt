@@ -24,23 +24,15 @@ use Rattle.pblk_laws.proofs.EndSpelling.{end_spelled, end_bytes_are}
 use Rattle.pblk_laws.proofs.Lists.{all_append, all_take, all_replicate, all_filter}
 use Rattle.pblk_laws.proofs.Starts.{spelled, start_bytes_are}
 use Rattle.core_laws.specs.PlainWorlds.{is_plain_event, IsPlainWorld}
+use Rattle.core_laws.proofs.Lists.{all_dropped as all_drop, all_mapped as all_map, with_last}
 use Rattle.landing_laws.proofs.Keeping.{IsKept, kept}
-use Rattle.media_laws.proofs.Steps.{with_last}
+use Rattle.placed_laws.proofs.GoingAll.{opened_is as opened_same}
 
 abbrev AreBlocks : Shape → List Block → Type 0
 AreBlocks s blocks = AllByRecursion (IsBlock s) blocks
 
 abbrev AreBytes : List ℕ → Type 0
 AreBytes bytes = AllByRecursion (λ x. x < 256) bytes
-
-all_drop : {X : Type 0} (P : X → Type 0) (n : ℕ) (xs : List X) → AllByRecursion P xs → AllByRecursion P (drop n xs)
-all_drop P zero xs h = h
-all_drop P (suc n) [] h = tt
-all_drop P (suc n) (x ∷ xs) h = all_drop P n xs h.1
-
-all_map : {X Y : Type 0} (P : Y → Type 0) (f : X → Y) (xs : List X) → AllByRecursion (λ x. P (f x)) xs → AllByRecursion P (map f xs)
-all_map P f [] h = tt
-all_map P f (x ∷ xs) h = (h.0, all_map P f xs h.1)
 
 -- ---- records
 
@@ -118,9 +110,6 @@ takes_next i known b log (Take entry mark) knows may all =
     (with_last (λ t. IsBlock i.shape (block_of_taken t)) (takes log) (record { entry = entry; mark = mark }) all may.block)
 takes_next i known b log e knows may all =
     subst (AllByRecursion (λ t. IsBlock i.shape (block_of_taken t))) (sym (takes_more log (record { event = Decides e; knows = knows }) ∙ append-nil (takes log))) all
-
-opened_same : (p o : Opening) → Opened p ≡ Opened o → p ≡ o
-opened_same p o e = cc
 
 turned_next : (i : Image) (known : Logs) (b : Begun) (log : List Logged) (e : EngineEvent) (knows : List ℕ) (line : ℕ) (o : Opening) → IsDecision i known b e
     → ((o : Opening) → life_of log line ≡ Opened o → o.start.seq < 2 ^ 61) → turned_by line (life_of log line) (length log) knows (Decides e) ≡ Opened o → o.start.seq < 2 ^ 61

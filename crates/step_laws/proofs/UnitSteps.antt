@@ -25,7 +25,7 @@ use Rattle.core_laws.specs.PlainWorlds.{is_plain_event, is_plain_outcome, ArePla
 use Rattle.core_laws.specs.PlacerOf.{unanswered_on}
 use Rattle.core_laws.proofs.Rows.{same_number, other_number}
 use Rattle.media_laws.proofs.Images.{media_at}
-use Rattle.media_laws.proofs.Programs.{get_after, get_whole, more}
+use Rattle.media_laws.proofs.Growing.{get_after, get_whole, more}
 use Rattle.media_laws.proofs.Steps.{log_here, log_elsewhere}
 use Rattle.placing_laws.proofs.PlainEvents.{has_begun_plain}
 use Rattle.placed_laws.specs.StripePrograms.{HasHappened}

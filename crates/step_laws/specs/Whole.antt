@@ -101,7 +101,3 @@ IsLevel w = (unit : ℕ) → ended_stripes (log_of w (suc unit)) ≡ length (ans
 -- the engine knows the chunks as they are
 abbrev pub IsKnown : Image → World → Type 0
 IsKnown i w = known_image i (log_of w) ≡ media i (log_of w)
-
--- what a mount of a blank drive begins with
-abbrev pub first_beginning : Beginning
-first_beginning = record { first = 0; seq = 1; strays = [] }

@@ -14,5 +14,5 @@ pub use laws::{
     a_stripe_has_blocks_of_the_drive, a_unit_step_changes_its_unit, a_unit_step_is_counted,
     an_engine_step_is_legal, other_steps_are_level, other_steps_leave_chunks_known,
 };
-pub use opening::{a_mount_begins, a_mount_of_a_blank_drive_begins, a_pad_is_legal};
+pub use opening::{a_mount_begins, a_pad_is_legal};
 pub use resets::{a_reset_is_legal, a_reset_is_noted};

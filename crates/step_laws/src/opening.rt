@@ -2,13 +2,11 @@
 //! of a function that does nothing.
 
 ghost use Rattle.std.specs.Prelude.{◌≡◌, ◌<◌, ℕ, false, Some, None, List, [], ◌∷◌};
-ghost use Rattle.std.specs.List.{AllByRecursion};
 ghost use Rattle.pblk_model.specs.declared.shape.Shape.{Shape};
-ghost use Rattle.pblk_model.specs.Accepted.{IsAccepted};
-ghost use Rattle.pblk_model.specs.Chunk.{Chunk, Block, free_chunk};
+ghost use Rattle.pblk_model.specs.Chunk.{Chunk, Block};
 ghost use Rattle.pblk_model.specs.ChunkStep.{Done, Write, refusal};
 ghost use Rattle.pblk_model.specs.UnitLog.{UnitOutcome, Answered, IsOutcome};
-ghost use Rattle.pblk_model.specs.Image.{Image, IsFit};
+ghost use Rattle.pblk_model.specs.Image.{Image};
 ghost use Rattle.pblk_model.specs.Shape.{units};
 ghost use Rattle.pblk_world.specs.Events.{Beginning, Maker};
 ghost use Rattle.pblk_world.specs.World.{World, log_of, media, unit_events};
@@ -18,9 +16,9 @@ ghost use Rattle.pblk_world.specs.Commanding.{has_stopped, IsPadding};
 ghost use Rattle.pblk_world.specs.Opening.{MayBegin};
 ghost use Rattle.pblk_world.specs.Legal.{IsLegal};
 ghost use Rattle.pblk_laws.specs.LineBlocks.{chunk_in};
-ghost use Rattle.core_laws.specs.PlainWorlds.{IsPlainWorld, IsBlankWorld};
+ghost use Rattle.core_laws.specs.PlainWorlds.{IsPlainWorld};
 ghost use Rattle.step_laws.specs.Whole.{knows_all, unit_step, write_of, after_begin};
-ghost use Rattle.step_laws.specs.Whole.{first_beginning, IsLevel, IsKnown};
+ghost use Rattle.step_laws.specs.Whole.{IsLevel, IsKnown};
 
 /// Before a mount begins, Pad blocks may be written next at the pointer of an Open chunk, up to a
 /// multiple of WS_OPT, by a unit that wasn't stopped. The program ends as the chunk table says: it is done,
@@ -54,14 +52,4 @@ pub fn a_mount_begins()
         → IsKnown i (after_begin i.shape b w) }
     ensures level { (i : Image) (w : World) (b : Beginning) → IsLegal i w → log_of w 0 ≡ []
         → IsLevel (after_begin i.shape b w) }
-{}
-
-/// A mount of a drive whose chunks are all Free begins at position 0 and sequence number 1, and resets no
-/// line.
-pub fn a_mount_of_a_blank_drive_begins()
-    ensures nothing { (i : Image) → IsAccepted i.shape → IsFit i
-        → AllByRecursion (AllByRecursion (λ c. c ≡ free_chunk)) i.units → IsBlankWorld i [] }
-    ensures legal { (i : Image) → IsAccepted i.shape → IsFit i
-        → AllByRecursion (AllByRecursion (λ c. c ≡ free_chunk)) i.units
-        → IsBlankWorld i (after_begin i.shape first_beginning []) }
 {}

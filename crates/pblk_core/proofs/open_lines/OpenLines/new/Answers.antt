@@ -1,7 +1,6 @@
 use Rattle.std.proofs.Common.{◌≡◌, ◌+◌, sym, subst, ap, ◌∙◌, arith, length, length-append, ◌∷◌, [], List}
 use Rattle.std.specs.List.{AllByRecursion}
-use Rattle.placing_laws.proofs.Worlds.{all_and_last}
-use Rattle.core_laws.proofs.Lists.{all_at}
+use Rattle.core_laws.proofs.Lists.{all_at, with_last as all_and_last}
 use Rattle.pblk_core.specs.LineRecords.{Records}
 use Rattle.pblk_core.specs.declared.open_lines.OpenLine.{OpenLine}
 use Rattle.pblk_core.proofs.open_lines.OpenLines.new.Goals as goal

@@ -6,6 +6,7 @@ use Rattle.std.proofs.lemmas.Option.{same_Some}
 use Rattle.stripe_placer.specs.Placing.{Placing, program}
 use Rattle.std.specs.List.{Contains}
 use Rattle.write_window.specs.Window.{WindowView, IsHeld, has_landed_at}
+use Rattle.landing_laws.proofs.Latest.{set_length}
 use Rattle.pblk_core.specs.Entries.{positions_placed}
 use Rattle.pblk_core.specs.Landing.{all_landed}
 use Rattle.pblk_core.specs.Readable.{all_moved, all_readable, reads_of}
@@ -17,7 +18,6 @@ use Rattle.pblk_core.proofs.LandedKinds.{chunk_is_read}
 use Rattle.pblk_core.proofs.LandedNow.{read_now}
 use Rattle.pblk_core.proofs.LandedReads.{IsRange, range_is}
 use Rattle.pblk_core.proofs.LandedTables.{reads_held}
-use Rattle.pblk_core.proofs.LandedLines.{set_length}
 use Rattle.pblk_core.proofs.LandedLogs.{one_less_under_way}
 use Rattle.pblk_core.proofs.LandedOpen.{IsLandedIn, IsRemoved, slot_of_mid}
 use Rattle.pblk_core.proofs.LandedWay.{line_of_way, unit_is}
