@@ -1,4 +1,4 @@
--- Lists of which something holds of each element.
+-- Lists: their elements, their parts, and what holds of each element.
 use Rattle.std.proofs.Common.{◌≡◌, ℕ, ◌+◌, ◌<◌, ◌≤◌, zero, suc, Bool, true, false, cond, Some, None, Option, List, [], ◌∷◌, length, refl, subst, ap, ap₂, ◌∙◌, arith, drop, ◌++◌, take, ◌||◌, replicate, sym, add-zero, ◌≢◌}
 use Rattle.std.specs.Prelude.{map, slice_get, slice_set}
 use Rattle.std.specs.List.{AllByRecursion, filter, filter_map, cons_option, enumerate_from, list_any, find, Contains, range_with_len}
@@ -51,6 +51,7 @@ numbers_below {X} {Y} h number says m n (x ∷ xs) within = go (h (n, x)) refl (
     go None e rest = rest
     go (Some y) e rest = let is : number y ≡ n = says (n, x) y e in (omega arith, rest)
 
+-- there is an element at each place inside
 pub got_within : {X : Type 0} (xs : List X) (k : ℕ) → k < length xs → (x : X) × (slice_get xs k ≡ Some x)
 got_within [] k h = absurd (omega arith)
 got_within (x ∷ xs) zero h = (x, refl)
@@ -75,6 +76,7 @@ pub all_mapped : {X Y : Type 0} (P : Y → Type 0) (f : X → Y) (xs : List X) �
 all_mapped P f [] all = tt
 all_mapped P f (x ∷ xs) all = (all.0, all_mapped P f xs all.1)
 
+-- what holds of everything
 pub all_of : {X : Type 0} (P : X → Type 0) → ((x : X) → P x) → (xs : List X) → AllByRecursion P xs
 all_of P all [] = tt
 all_of P all (x ∷ xs) = (all x, all_of P all xs)
@@ -99,6 +101,7 @@ get_taken (suc m) [] n h = refl
 get_taken (suc m) (x ∷ xs) zero h = refl
 get_taken (suc m) (x ∷ xs) (suc n) h = get_taken m xs n (omega arith)
 
+-- what stands at a place is in the list
 pub is_in : {X : Type 0} (xs : List X) (k : ℕ) (x : X) → slice_get xs k ≡ Some x → Contains xs x
 is_in xs k x e = (k, slice_get_within xs k x e, get_or_from_slice_get xs k x x e)
 
@@ -137,6 +140,7 @@ range_get a zero k h = absurd (omega arith)
 range_get a (suc n) zero h = ap (λ m. Some m) (sym (add-zero a))
 range_get a (suc n) (suc k) h = let same : a + 1 + k ≡ a + suc k = omega arith in range_get (a + 1) n k (omega arith) ∙ ap (λ m. Some m) same
 
+-- an element set to itself
 pub set_same : {X : Type 0} (xs : List X) (k : ℕ) (x : X) → slice_get xs k ≡ Some x → slice_set xs k x ≡ xs
 set_same [] k x e = refl
 set_same (y ∷ xs) zero x e = ap (λ z. z ∷ xs) (sym (same_Some y x e))

@@ -21,13 +21,8 @@ pub mod Finding
 pub mod StripeLines
 pub mod LandedSlots
 pub mod SlotsInWorlds
-pub mod KeepingKnown
-pub mod LineStripes
 pub mod WholeStripes
 pub mod ChunkRows
-pub mod ChunkOrder
-pub mod KnownUnits
-pub mod NoResets
 pub mod FreedFront
 pub mod WindowSteps
 pub mod NewlyRead
@@ -38,4 +33,3 @@ pub mod NewlyHeld
 pub mod FirstPositions
 pub mod HeldInWorlds
 pub mod PlacedBlocks
-pub mod PatternUnits

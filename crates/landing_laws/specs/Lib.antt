@@ -1,4 +1,3 @@
 pub mod ChunkBlocks
 pub mod Advanced
 pub mod ReadSlots
-pub mod KeptUnits

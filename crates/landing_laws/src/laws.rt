@@ -7,17 +7,16 @@ ghost use Rattle.std.specs.Prelude.{Bool, nat_lt, true, false, slice_get, is_som
 ghost use Rattle.std.specs.List.{AllByRecursion, filter, list_any};
 ghost use Rattle.pblk_model.specs.declared.shape.Shape.{Shape};
 ghost use Rattle.pblk_model.specs.History.{after as after_history, users};
-ghost use Rattle.pblk_model.specs.Image.{Image, line_units};
+ghost use Rattle.pblk_model.specs.Image.{Image};
 ghost use Rattle.pblk_model.specs.Marks.{meta_lba};
 ghost use Rattle.pblk_model.specs.StartRecord.{StartRecord};
 ghost use Rattle.pblk_world.specs.Events.{EngineEvent, Stripe, Open, Place, Landed, ResetDone, Logged};
 ghost use Rattle.pblk_world.specs.World.{World, Logs, log_of};
-ghost use Rattle.pblk_world.specs.EngineLog.{Begun, LineLife, Opened, Opening, stripes_of, life_of};
+ghost use Rattle.pblk_world.specs.EngineLog.{Begun, LineLife, Opened, Opening, life_of};
 ghost use Rattle.pblk_world.specs.EngineLog.{Taken, takes, Placed, placements, placed_on, answers};
 ghost use Rattle.pblk_world.specs.EngineLog.{bears_position, holds_position};
 ghost use Rattle.pblk_world.specs.Fronts.{first_position, taken, has_landed_at, synced};
 ghost use Rattle.pblk_world.specs.Fronts.{history, user_positions, last_take};
-ghost use Rattle.pblk_world.specs.Lines.{strays_of};
 ghost use Rattle.pblk_world.specs.Legal.{IsLegal, IsDecision};
 ghost use Rattle.pblk_world.specs.Placing.{MayPlace};
 ghost use Rattle.pblk_world.specs.Space.{freed, landed_blocks, is_readable_in};
@@ -30,9 +29,8 @@ ghost use Rattle.core_laws.specs.Stepping.{after};
 ghost use Rattle.core_laws.specs.SlotOf.{slot_of};
 ghost use Rattle.core_laws.specs.WindowOf.{is_given_back, window_from};
 ghost use Rattle.core_laws.specs.WindowOf.{HeldSectors, sectors_in, users_below};
-ghost use Rattle.landing_laws.specs.ChunkBlocks.{can_be_read, AreInRows, IsStripeNumber};
+ghost use Rattle.landing_laws.specs.ChunkBlocks.{can_be_read, AreInRows};
 ghost use Rattle.landing_laws.specs.ChunkBlocks.{chunk_blocks, newly_readable, block_among};
-ghost use Rattle.landing_laws.specs.KeptUnits.{HasKeptUnits};
 ghost use Rattle.landing_laws.specs.Advanced.{advanced_window};
 ghost use Rattle.landing_laws.specs.ReadSlots.{block_read, address_of_block, read_slot};
 ghost use Rattle.stripe_placer.specs.OpenLines.{width};
@@ -210,18 +208,6 @@ pub fn a_landed_stripe_moves_its_sectors()
 pub fn a_position_is_in_one_stripe()
     ensures { (i : Image) (w : World) → IsPlainWorld i w → (q : ℕ)
         → length (filter (holds_position i.shape q) (placements (log_of w 0))) ≤ 1 }
-{}
-
-/// Wherever a plain mount found no strays, lines keep their units. Where they do, the stripes of an
-/// opened line stand in line order, and in each chunk one after another from its first block.
-pub fn stripes_stand_in_order()
-    ensures without_strays { (i : Image) (w : World) → IsPlainWorld i w
-        → strays_of (log_of w 0) ≡ [] → HasKeptUnits i w }
-    ensures line { (i : Image) (w : World) (o : Opening) (j : ℕ) (p : Placed)
-        → IsPlainWorld i w → HasKeptUnits i w → slice_get (stripes_of (log_of w 0) o) j ≡ Some p
-        → IsStripeNumber i.shape (line_units i p.stripe.line) j p.stripe }
-    ensures chunk { (i : Image) (w : World) (o : Opening) (unit : ℕ) → IsPlainWorld i w
-        → HasKeptUnits i w → AreInRows i.shape (log_of w 0) o unit }
 {}
 
 /// In a legal world a unit has at most one stripe that isn't answered, and it was placed in an

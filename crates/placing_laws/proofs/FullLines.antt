@@ -19,7 +19,7 @@ use Rattle.stripe_placer.specs.OpenLines.{OpenLine, numbers, is_unanswered, is_t
 use Rattle.stripe_placer.proofs.Among.{IsAmong, in_filter, in_map, from_filter}
 use Rattle.stripe_placer.proofs.Chunks.{le_of as is_above, lt_of as is_below}
 use Rattle.core_laws.specs.OpenedLines.{by_answer, open_line, standing, open_lines}
-use Rattle.core_laws.proofs.Lists.{all_at, all_filter, got_within, all_taken, get_dropped, range_get as get_range}
+use Rattle.core_laws.proofs.Lists.{all_at, all_filter, got_within, get_dropped, range_get as get_range}
 use Rattle.core_laws.proofs.Rows.{same_number}
 use Rattle.placing_laws.proofs.Due.{its_turn}
 use Rattle.placing_laws.proofs.Followed.{IsFollowed, follow}
