@@ -18,8 +18,8 @@ blank_image : (g : Geometry) (sector capacity ring : ℕ) → image_of (blank_dr
 blank_image g sector capacity ring =
     let free : StoredChunk = record { chunk = free_chunk; wear = 0 } in
     let units : map (map (λ (k : StoredChunk). k.chunk)) (replicate (g.groups * g.pus) (replicate g.chunks free)) ≡ replicate (g.groups * g.pus) (replicate g.chunks free_chunk)
-      = map_replicate (map (λ (k : StoredChunk). k.chunk)) (g.groups * g.pus) (replicate g.chunks free)
-        ∙ ap (replicate (g.groups * g.pus)) (map_replicate (λ (k : StoredChunk). k.chunk) g.chunks free) in
+    = map_replicate (map (λ (k : StoredChunk). k.chunk)) (g.groups * g.pus) (replicate g.chunks free)
+    ∙ ap (replicate (g.groups * g.pus)) (map_replicate (λ (k : StoredChunk). k.chunk) g.chunks free) in
     ap (λ (us : List (List Chunk)). record { shape = shape_with g sector capacity ring; units = us }) units
 
 -- it is sealed where all blank images are
