@@ -3,12 +3,15 @@
 use std::alloc::Allocator;
 use std::cell::Cell;
 use std::fs::{File, Files, Metadata, OpenFile, OpenOptions, Permissions};
-use std::io::{Error, ErrorKind, Read, Seek, SeekFrom, Write};
+use std::io;
+use std::io::{Error, ErrorKind, PipeReader, PipeWriter, Read, Seek, SeekFrom, Write};
+use std::os::fd::BorrowedFd;
+use std::os::unix::net::SocketAddr;
 use std::path::PathBuf;
-use std::{fs, io};
 
 /// The system's files, of which the call fails that takes `left` to 0. Each call of them and of
-/// their open files that a write may make counts. A write of bytes takes half of them.
+/// their open files that a write may make counts, and no other call is supported. A write of bytes
+/// takes half of them.
 #[derive(Drop)]
 pub struct Failing<'a> {
     pub real: HostRuntime,
@@ -33,10 +36,14 @@ fn count(left: &Cell<u32>) -> io::Result<()> {
     }
 }
 
+// What no write asks for.
+fn unasked<T>() -> io::Result<T> {
+    Err(Error::from(ErrorKind::Unsupported))
+}
+
 impl Read for FailingFile<'_> {
-    fn read(&mut self, buf: &mut [u8]) -> io::Result<usize> {
-        count(self.left)?;
-        self.real.read(buf)
+    fn read(&mut self, _buf: &mut [u8]) -> io::Result<usize> {
+        Err(Error::from(ErrorKind::Unsupported))
     }
 }
 
@@ -52,8 +59,8 @@ impl Write for FailingFile<'_> {
 }
 
 impl Seek for FailingFile<'_> {
-    fn seek(&mut self, to: SeekFrom) -> io::Result<u64> {
-        self.real.seek(to)
+    fn seek(&mut self, _to: SeekFrom) -> io::Result<u64> {
+        Err(Error::from(ErrorKind::Unsupported))
     }
 }
 
@@ -63,8 +70,8 @@ impl OpenFile for FailingFile<'_> {
         self.real.metadata()
     }
 
-    fn set_len(&self, size: u64) -> io::Result<()> {
-        self.real.set_len(size)
+    fn set_len(&self, _size: u64) -> io::Result<()> {
+        unasked()
     }
 
     fn sync_all(&self) -> io::Result<()> {
@@ -73,7 +80,7 @@ impl OpenFile for FailingFile<'_> {
     }
 
     fn sync_data(&self) -> io::Result<()> {
-        self.real.sync_data()
+        unasked()
     }
 
     fn set_permissions(&self, perm: Permissions) -> io::Result<()> {
@@ -96,49 +103,82 @@ impl<'a> Files for Failing<'a> {
         })
     }
 
-    fn open_dir(&self, path: &str) -> io::Result<<HostRuntime as Files>::Dir> {
-        self.real.open_dir(path)
+    fn open_dir(&self, _path: &str) -> io::Result<<HostRuntime as Files>::Dir> {
+        unasked()
     }
 
-    fn metadata(&self, path: &str) -> io::Result<Metadata> {
-        count(self.left)?;
-        fs::metadata(&self.real, path)
+    fn metadata(&self, _path: &str) -> io::Result<Metadata> {
+        unasked()
     }
 
     fn symlink_metadata(&self, path: &str) -> io::Result<Metadata> {
         count(self.left)?;
-        fs::symlink_metadata(&self.real, path)
+        self.real.symlink_metadata(path)
     }
 
-    fn copy(&self, from: &str, to: &str) -> io::Result<u64> {
-        count(self.left)?;
-        fs::copy(&self.real, from, to)
+    fn copy(&self, _from: &str, _to: &str) -> io::Result<u64> {
+        unasked()
     }
 
     fn rename(&self, from: &str, to: &str) -> io::Result<()> {
         count(self.left)?;
-        fs::rename(&self.real, from, to)
+        self.real.rename(from, to)
     }
 
     fn remove_file(&self, path: &str) -> io::Result<()> {
         count(self.left)?;
-        fs::remove_file(&self.real, path)
+        self.real.remove_file(path)
     }
 
-    fn create_dir(&self, path: &str) -> io::Result<()> {
-        fs::create_dir(&self.real, path)
+    fn create_dir(&self, _path: &str) -> io::Result<()> {
+        unasked()
     }
 
-    fn remove_dir(&self, path: &str) -> io::Result<()> {
-        fs::remove_dir(&self.real, path)
+    fn remove_dir(&self, _path: &str) -> io::Result<()> {
+        unasked()
     }
 
-    fn remove_dir_all<B: Allocator>(&self, alloc: B, path: &str) -> io::Result<()> {
-        self.real.remove_dir_all(alloc, path)
+    fn remove_dir_all<B: Allocator>(&self, _alloc: B, _path: &str) -> io::Result<()> {
+        unasked()
     }
 
-    fn read_link<B: Allocator>(&self, alloc: B, path: &str) -> io::Result<PathBuf<B>> {
-        count(self.left)?;
-        self.real.read_link(alloc, path)
+    fn canonicalize<B: Allocator>(&self, _alloc: B, _path: &str) -> io::Result<PathBuf<B>> {
+        unasked()
+    }
+
+    fn read_link<B: Allocator>(&self, _alloc: B, _path: &str) -> io::Result<PathBuf<B>> {
+        unasked()
+    }
+
+    fn hard_link(&self, _original: &str, _link: &str) -> io::Result<()> {
+        unasked()
+    }
+
+    fn set_permissions(&self, _path: &str, _perm: Permissions) -> io::Result<()> {
+        unasked()
+    }
+
+    fn symlink(&self, _original: &str, _link: &str) -> io::Result<()> {
+        unasked()
+    }
+
+    fn pipe(&self) -> io::Result<(PipeReader, PipeWriter)> {
+        unasked()
+    }
+
+    fn chown(&self, _path: &str, _uid: Option<u32>, _gid: Option<u32>) -> io::Result<()> {
+        unasked()
+    }
+
+    fn lchown(&self, _path: &str, _uid: Option<u32>, _gid: Option<u32>) -> io::Result<()> {
+        unasked()
+    }
+
+    fn create_dir_with_mode(&self, _path: &str, _mode: u32) -> io::Result<()> {
+        unasked()
+    }
+
+    fn bind_unix(&self, _socket: BorrowedFd<'_>, _addr: &SocketAddr) -> io::Result<()> {
+        unasked()
     }
 }

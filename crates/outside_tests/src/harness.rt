@@ -1,6 +1,6 @@
-//! What is asked of files and sinks, and what they tell.
+//! What is asked of files, and what they tell.
 
-use pblk_outside::{FileErr, Files, Sink};
+use pblk_outside::{FileErr, Files};
 use std::alloc::{AllocError, Global};
 
 /// A call of files.
@@ -19,8 +19,8 @@ pub enum Told {
     Memory,
 }
 
-/// Asks files for a call. What is read is appended to `into`.
-pub fn ask<F: Files>(files: &mut F, asked: Asked<'_>, into: &mut Vec<u8>) -> Told {
+// Asks files for a call. What is read is appended to `into`.
+fn ask<F: Files>(files: &mut F, asked: Asked<'_>, into: &mut Vec<u8>) -> Told {
     let answer = match asked {
         Asked::Read(name) => files.read(name, into),
         Asked::Write(name, bytes) => files.write(name, bytes),
@@ -36,22 +36,23 @@ pub fn ask<F: Files>(files: &mut F, asked: Asked<'_>, into: &mut Vec<u8>) -> Tol
 /// A call, what it is to tell, and what is to be in the buffer after it, which has one byte before.
 pub type Row<'a> = (Asked<'a>, Told, &'a [u8]);
 
+// Makes a call, and says whether it went as it was to go.
+fn goes_right<F: Files>(alloc: Global, files: &mut F, row: Row<'_>) -> Result<bool, AllocError> {
+    let (asked, told, left) = row;
+    let mut into = vec![in alloc; b'>']?;
+    Ok(ask(files, asked, &mut into) == told && into.as_slice() == left)
+}
+
 /// Makes the calls in order, and gives the number of the first row that went otherwise.
 pub fn first_wrong<F: Files>(
     alloc: Global,
     files: &mut F,
     rows: &[Row<'_>],
 ) -> Result<Option<usize>, AllocError> {
-    for (number, (asked, told, left)) in rows.iter().enumerate() {
-        let mut into = vec![in alloc; b'>']?;
-        if ask(files, *asked, &mut into) != *told || into.as_slice() != *left {
+    for (number, row) in rows.iter().enumerate() {
+        if !goes_right(alloc, files, *row)? {
             return Ok(Some(number));
         }
     }
     Ok(None)
-}
-
-/// Gives a sink a piece, and tells whether it took the whole of it.
-pub fn takes<O: Sink>(sink: &mut O, piece: &[u8]) -> bool {
-    sink.write(piece).is_ok()
 }

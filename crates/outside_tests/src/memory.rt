@@ -1,11 +1,12 @@
 //! Files and sinks in memory.
 
-use crate::harness::{Asked, Row, Told, first_wrong, takes};
-use pblk_outside::{MemoryFiles, MemorySink};
+use crate::harness::{Asked, Row, Told, first_wrong};
+use pblk_outside::{MemoryFiles, MemorySink, Sink};
 use std::alloc::{AllocError, Global};
-use std::test::Fail;
 
-const CALLS: [Row<'static>; 8] = [
+const FILES: &[(&str, &[u8])] = &[("image", b"old"), ("notes", b"kept")];
+
+const CALLS: &[Row<'static>] = &[
     (Asked::Read("image"), Told::Done, b">old"),
     (Asked::Write("image", b"newer"), Told::Done, b">"),
     (Asked::Read("image"), Told::Done, b">newer"),
@@ -19,8 +20,9 @@ const CALLS: [Row<'static>; 8] = [
 // Two files, and the fifth and the sixth call fail.
 fn two_files(alloc: Global) -> Result<MemoryFiles, AllocError> {
     let mut files = MemoryFiles::new(alloc, &[5, 6])?;
-    files.put("image", b"old")?;
-    files.put("notes", b"kept")?;
+    for (name, bytes) in FILES {
+        files.put(name, bytes)?;
+    }
     Ok(files)
 }
 
@@ -29,37 +31,42 @@ fn is_newer(files: &MemoryFiles) -> bool {
     files.get("image") == Some(b"newer".as_slice()) && files.get("absent").is_none()
 }
 
+// Whether all calls go as told, and leave those files.
+fn calls_go_right(alloc: Global) -> Result<bool, AllocError> {
+    let mut files = two_files(alloc)?;
+    let wrong = first_wrong(alloc, &mut files, CALLS)?;
+    Ok(wrong.is_none() && is_newer(&files))
+}
+
 #[test]
-fn files_hold_what_was_written_and_fail_at_chosen_calls(rt: HostRuntime) -> Result<(), Fail> {
-    let mut files = two_files(rt.alloc())?;
-    assert_eq!(rt; first_wrong(rt.alloc(), &mut files, &CALLS)?, None);
-    assert!(rt; is_newer(&files));
+fn files_hold_what_was_written_and_fail_at_chosen_calls(rt: HostRuntime) -> Result<(), AllocError> {
+    assert!(rt; calls_go_right(rt.alloc())?);
     Ok(())
 }
 
 // A piece, whether it is taken whole, and all that was taken by then.
 type Piece<'a> = (&'a [u8], bool, &'a [u8]);
 
-const PIECES: [Piece<'static>; 4] = [
+const PIECES: &[Piece<'static>] = &[
     (b"one ", true, b"one "),
     (b"two ", true, b"one two "),
     (b"three", false, b"one two th"),
     (b"!", true, b"one two th!"),
 ];
 
-// Gives the pieces in order, and tells the number of the first that went otherwise.
-fn first_wrong_piece(sink: &mut MemorySink, pieces: &[Piece<'_>]) -> Option<usize> {
-    for (number, (piece, whole, taken)) in pieces.iter().enumerate() {
-        if takes(sink, piece) != *whole || sink.taken() != *taken {
-            return Some(number);
+// Gives a sink the pieces in order, and says whether all went as told. The third call fails.
+fn pieces_go_right(alloc: Global) -> Result<bool, AllocError> {
+    let mut sink = MemorySink::new(alloc, &[3])?;
+    for (piece, whole, taken) in PIECES {
+        if sink.write(piece).is_ok() != *whole || sink.taken() != *taken {
+            return Ok(false);
         }
     }
-    None
+    Ok(true)
 }
 
 #[test]
-fn a_sink_takes_half_of_a_piece_that_fails(rt: HostRuntime) -> Result<(), Fail> {
-    let mut sink = MemorySink::new(rt.alloc(), &[3])?;
-    assert_eq!(rt; first_wrong_piece(&mut sink, &PIECES), None);
+fn a_sink_takes_half_of_a_piece_that_fails(rt: HostRuntime) -> Result<(), AllocError> {
+    assert!(rt; pieces_go_right(rt.alloc())?);
     Ok(())
 }

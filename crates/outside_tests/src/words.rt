@@ -34,11 +34,30 @@ impl Env for Given<'_> {
 
 const LONG: [u8; 300] = [b'x'; 300];
 
-// Whether the words after the name can be had, and are these.
-fn gathers(alloc: Global, words: &[&[u8]], wanted: &[&[u8]]) -> bool {
-    match real_words(alloc, &Given { words }) {
-        Ok(gathered) => are(&gathered, wanted),
-        Err(_) => false,
+// All words, and those after the name, or none where a word is no text.
+type Row<'a> = (&'a [&'a [u8]], Option<&'a [&'a [u8]]>);
+
+const ROWS: &[Row<'static>] = &[
+    (&[], Some(&[])),
+    (&[b"\xff"], Some(&[])),
+    (
+        &[b"pblk", b"run", b"", b"a b\nc"],
+        Some(&[b"run", b"", b"a b\nc"]),
+    ),
+    (&[b"pblk", b"\xc3\xa9"], Some(&[b"\xc3\xa9"])),
+    (&[b"pblk", &LONG, b"end"], Some(&[&LONG, b"end"])),
+    (&[b"pblk", b"\xff"], None),
+    (&[b"pblk", b"run", b"a\xc3"], None),
+    (&[b"pblk", b"\xed\xa0\x80", b"run"], None),
+];
+
+// Whether the words after the name are these, or are refused since one is no text.
+fn goes_right(alloc: Global, row: Row<'_>) -> bool {
+    let (words, wanted) = row;
+    match (real_words(alloc, &Given { words }), wanted) {
+        (Ok(gathered), Some(wanted)) => are(&gathered, wanted),
+        (Err(error), None) => error == WordsErr::NotText,
+        _ => false,
     }
 }
 
@@ -46,8 +65,8 @@ fn are(gathered: &[String], wanted: &[&[u8]]) -> bool {
     if gathered.len() != wanted.len() {
         return false;
     }
-    for (word, bytes) in gathered.iter().zip(wanted) {
-        if word.as_bytes() != *bytes {
+    for number in 0..wanted.len() {
+        if gathered[number].as_bytes() != wanted[number] {
             return false;
         }
     }
@@ -55,38 +74,8 @@ fn are(gathered: &[String], wanted: &[&[u8]]) -> bool {
 }
 
 #[test]
-fn words_are_those_after_the_name(rt: HostRuntime) {
-    let rows: [(&[&[u8]], &[&[u8]]); 5] = [
-        (&[], &[]),
-        (&[b"\xff"], &[]),
-        (
-            &[b"pblk", b"run", b"", b"a b\nc"],
-            &[b"run", b"", b"a b\nc"],
-        ),
-        (&[b"pblk", "\u{e9}".as_bytes()], &["\u{e9}".as_bytes()]),
-        (&[b"pblk", &LONG, b"end"], &[&LONG, b"end"]),
-    ];
-    for (row, (words, wanted)) in rows.iter().enumerate() {
-        assert!(rt; gathers(rt.alloc(), words, wanted), "row {row}");
+fn words_are_those_after_the_name_if_all_are_text(rt: HostRuntime) {
+    for row in ROWS {
+        assert!(rt; goes_right(rt.alloc(), *row));
     }
-}
-
-#[test]
-fn a_word_that_is_no_text_is_refused(rt: HostRuntime) {
-    let rows: [&[&[u8]]; 3] = [
-        &[b"pblk", b"\xff"],
-        &[b"pblk", b"run", b"a\xc3"],
-        &[b"pblk", b"\xed\xa0\x80", b"run"],
-    ];
-    for words in rows {
-        assert_eq!(rt;
-            real_words(rt.alloc(), &Given { words }).err(),
-            Some(WordsErr::NotText)
-        );
-    }
-}
-
-#[test]
-fn this_programs_words_can_be_had(rt: HostRuntime) {
-    assert!(rt; real_words(rt.alloc(), &rt).is_ok());
 }
