@@ -1,5 +1,5 @@
 -- Blocks that are spelled one after another.
-use Rattle.std.proofs.Common.{◌≡◌, ℕ, suc, ◌+◌, ◌-◌, ◌*◌, ◌%◌, ◌<◌, ◌≤◌, List, [], ◌∷◌, ◌++◌, length, take, drop, refl, sym, ap, ◌∙◌, arith, append_assoc, length-append, length-drop}
+use Rattle.std.proofs.Common.{◌≡◌, ℕ, ◌+◌, ◌-◌, ◌*◌, ◌%◌, ◌<◌, ◌≤◌, List, [], ◌∷◌, ◌++◌, length, take, drop, refl, sym, ap, ◌∙◌, arith, append_assoc, length-append, length-drop}
 use Rattle.std.proofs.lemmas.List.{append-nil, take-append-drop, take-take, drop-drop, take_all, length-take-le}
 use Rattle.std.proofs.lemmas.List.Concat.{flat_map-append}
 use Rattle.std.specs.List.{AllByRecursion, flat_map}
@@ -36,6 +36,17 @@ spelling_begins size spelled bytes marks = record {
 
 pub next-mul : (n size : ℕ) → (n + 1) * size ≡ n * size + size
 next-mul n size = grind arith
+
+-- what is left is at least one more
+pub room_for_next : (n count width long : ℕ) → n < count → long ≡ (count - n) * width → width ≤ long
+room_for_next n count width long below long-is =
+    let more : count - n ≡ (count - (n + 1)) + 1 = omega arith in
+    let k = count - (n + 1) in
+    omega (arith, long-is, ap (λ m. m * width) more, next-mul k width)
+
+-- and there is room for it
+pub room_for_more : (n count size used room : ℕ) → n < count → used + (count - n) * size ≤ room → used + size ≤ room
+room_for_more n count size used room below h = omega (arith, h, room_for_next n count size ((count - n) * size) below refl)
 
 -- a block is its sector and the two numbers of its mark
 block_spelled : (size : ℕ) (block : List ℕ) (m : Mark) → length block ≡ size + 16 → le64 m.lba ≡ take 8 (drop size block) → le64 m.position ≡ take 8 (drop (size + 8) block)

@@ -1,6 +1,6 @@
 -- When a write is refused, and what stands after blocks are appended.
-use Rattle.std.proofs.Common.{◌≡◌, ℕ, ◌+◌, ◌*◌, ◌%◌, ◌<◌, ◌≤◌, Bool, true, false, ltb, if◌then◌else◌, ◌≢◌, zero, suc, List, ◌++◌, length, refl, sym, ap, ◌∙◌, arith, length-append, Option, None}
-use Rattle.std.proofs.Math.Nat.{mod-add-mod}
+use Rattle.std.proofs.Common.{◌≡◌, ℕ, ◌+◌, ◌*◌, ◌%◌, ◌<◌, ◌≤◌, Bool, true, false, ltb, if◌then◌else◌, ◌≢◌, List, ◌++◌, length, refl, sym, ap, ◌∙◌, arith, length-append, Option, None}
+use Rattle.std.proofs.Math.Nat.{mod-add-mod, mul-pos, pos_of_ne-zero}
 use Rattle.std.proofs.lemmas.Bool.{ltb-true}
 use Rattle.std.proofs.lemmas.Bool.Decides.{nat_tests}
 use Rattle.std.specs.List.{AllByRecursion}
@@ -73,6 +73,5 @@ room s state bytes marks n fits =
     let within = pointer_within state s.clba _ fits in
     omega arith
 
-pub some_multiples : (k m : ℕ) → k * m ≢ 0 → 0 < k
-some_multiples zero m some = absurd (some (omega arith))
-some_multiples (suc k) m some = omega arith
+pub some_blocks : (k m : ℕ) → k ≢ 0 → 0 < m → 0 < k * m
+some_blocks k m some positive = mul-pos (pos_of_ne-zero some) positive

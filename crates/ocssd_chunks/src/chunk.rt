@@ -212,10 +212,11 @@ impl Chunk {
         ensures shape { self.new.shape ≡ self.old.shape }
         ensures fits { IsChunk self.new.shape self.new.chunk }
     {
-        let count = multiples as usize * self.shape.ws_min as usize;
-        if count == 0 {
+        let least = self.shape.ws_min as usize;
+        if multiples == 0 {
             return;
         }
+        let count = multiples as usize * least;
         let state = state_at(&self.shape, self.marks.len() + count);
         let (bytes, marks) = first_blocks(bytes, marks, self.shape.sector as usize, count);
         self.append(bytes, marks, state);

@@ -1,4 +1,5 @@
 mod Powers
+mod Settings
 pub mod Sizes
 pub mod LineOrder
 pub mod OrderedBlocks

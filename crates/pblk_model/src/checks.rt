@@ -1,8 +1,11 @@
 //! Which shapes are accepted.
 
-ghost use Rattle.std.specs.Prelude.{◌≡◌, ◌↔◌, ◌≤◌, IsNone, IsTrue};
+ghost use Rattle.std.specs.Prelude.{◌≡◌, ◌↔◌, ◌≤◌, ◌<◌, ◌+◌, ◌-◌, ◌*◌, ◌^◌, ◌⊎◌, ◌==◌, ◌||◌, ◌&&◌, nat_le, nat_lt, IsNone, IsTrue};
+ghost use Rattle.std.specs.Bool.{OnTrue};
+ghost use Rattle.pblk_model.specs.Shape.{units};
+ghost use Rattle.pblk_model.specs.LineOrder.{data_len};
 ghost use Rattle.std.specs.Int.{IsPowerOfTwo};
-ghost use Rattle.pblk_model.specs.Accepted.{IsAccepted, IsDriveShape, HasCounts, count_checks, drive_checks, settings_checks, shape_refusal, is_ring_power};
+ghost use Rattle.pblk_model.specs.Accepted.{IsAccepted, IsMeasured, IsDriveShape, HasCounts, count_checks, drive_checks, settings_checks, shape_refusal, is_ring_power};
 ghost use Rattle.pblk_model.specs.Checks.{first_failing};
 
 use crate::lengths::data_blocks;
@@ -87,29 +90,82 @@ impl Shape {
         ensures first { result ≡ first_failing (settings_checks self.now) }
         ensures accepted { IsNone result ↔ IsAccepted self.now }
     {
-        if self.sector != 512 && self.sector != 4096 {
-            return Some(1);
-        }
-        let units = u64::from(self.units());
-        let blocks = units * u64::from(self.chunks) * u64::from(self.clba);
-        if blocks * u64::from(self.sector) > 268_435_456 {
-            return Some(2);
-        }
-        let data = data_blocks(self, self.units());
-        let stripe = u64::from(self.ws_opt);
-        if 2 * data < (16 + stripe) * stripe {
-            return Some(3);
-        }
-        let spare = u64::from(self.chunks) - 5;
-        if self.capacity == 0 || self.capacity >= 1 << 40 || 4 * self.capacity > 3 * spare * data {
-            return Some(4);
-        }
-        let least = units * (u64::from(self.mw_cunits) + 4 * stripe) + 16;
-        if !is_ring_power(self.ring) || u64::from(self.ring) < least {
-            return Some(5);
-        }
+        first_broken_setting(self)
+    }
+}
+
+// The first check that fails; which facts the checks come to is told apart from them.
+fn first_broken_setting(shape: &Shape) -> Option<u32>
+    requires { IsDriveShape shape.now }
+    ensures { result ≡ first_failing (settings_checks shape.now) }
+{
+    if !is_sector(shape.sector) {
+        Some(1)
+    } else if !is_small(shape) {
+        Some(2)
+    } else if !has_room(shape) {
+        Some(3)
+    } else if !has_spare(shape) {
+        Some(4)
+    } else if !is_ring_power(shape.ring) || u64::from(shape.ring) < least_ring(shape) {
+        Some(5)
+    } else {
         None
     }
+}
+
+fn is_sector(bytes: u32) -> bool
+    ensures test { result ≡ ((bytes == 512) || (bytes == 4096)) }
+    ensures sector { OnTrue result ((bytes ≡ 512) ⊎ (bytes ≡ 4096)) }
+{
+    bytes == 512 || bytes == 4096
+}
+
+// Whether all sectors of the drive have at most 256 MiB.
+fn is_small(shape: &Shape) -> bool
+    requires { IsMeasured shape.now }
+    ensures { result ≡ nat_le (units shape.now * shape.now.chunks * shape.now.clba * shape.now.sector) 268435456 }
+{
+    let chunks = u64::from(shape.units()) * u64::from(shape.chunks);
+    chunks * u64::from(shape.clba) * u64::from(shape.sector) <= 268_435_456
+}
+
+// Whether a line's data is long enough to be placed in stripes while others land.
+fn has_room(shape: &Shape) -> bool
+    requires { IsMeasured shape.now }
+    ensures { result ≡ nat_le ((16 + shape.now.ws_opt) * shape.now.ws_opt) (2 * data_len shape.now (units shape.now)) }
+{
+    let stripe = u64::from(shape.ws_opt);
+    (16 + stripe) * stripe <= 2 * data_blocks(shape, shape.units())
+}
+
+// Whether the drive has room for the capacity, and more beside.
+fn has_spare(shape: &Shape) -> bool
+    requires { IsMeasured shape.now }
+    ensures { result ≡ (nat_le 1 shape.now.capacity && nat_lt shape.now.capacity (2 ^ 40)
+        && nat_le (4 * shape.now.capacity) (3 * (shape.now.chunks - 5) * data_len shape.now (units shape.now))) }
+{
+    1 <= shape.capacity
+        && shape.capacity < 1 << 40
+        && 4 * shape.capacity <= quarters(shape.chunks, data_blocks(shape, shape.units()))
+}
+
+// Four times the greatest capacity: a quarter of the lines, and five besides, stay spare.
+fn quarters(chunks: u32, blocks: u64) -> u64
+    requires chunks { (8 ≤ chunks) × (chunks ≤ 1024) }
+    requires blocks { blocks < 2 ^ 38 }
+    ensures { result ≡ 3 * (chunks - 5) * blocks }
+{
+    3 * (u64::from(chunks) - 5) * blocks
+}
+
+// The least ring: what may wait to become readable in each unit, and one command's sectors.
+fn least_ring(shape: &Shape) -> u64
+    requires { IsDriveShape shape.now }
+    ensures { result ≡ units shape.now * (shape.now.mw_cunits + 4 * shape.now.ws_opt) + 16 }
+{
+    let waiting = u64::from(shape.mw_cunits) + 4 * u64::from(shape.ws_opt);
+    u64::from(shape.units()) * waiting + 16
 }
 
 // Whether this is one of the powers of two up to 2 to the 14.

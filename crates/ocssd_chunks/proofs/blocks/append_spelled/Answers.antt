@@ -1,7 +1,22 @@
 use Rattle.std.proofs.Common.{◌≡◌, ◌+◌, ◌-◌, ◌*◌, ◌++◌, [], ◌∷◌, length, take, sym, ap, ◌∙◌, length-append, arith}
 use Rattle.std.proofs.lemmas.List.{take-append-drop, length-take-le}
-use Rattle.ocssd_chunks.proofs.Spelling.{spelling_goes_on, next-mul}
+use Rattle.ocssd_chunks.proofs.Spelling.{spelling_goes_on, next-mul, room_for_next, room_for_more}
 use Rattle.ocssd_chunks.proofs.blocks.append_spelled.Goals as goal
+
+pub overflow_add-size : goal.overflow_add-size
+overflow_add-size c =
+    let l = c.loop-block in
+    let more = room_for_next l._block c.args.count (c.args.size + 16) _ c.loop-block-test.true l.invariant.left in
+    omega (arith, more)
+
+pub split_at-requires : goal.split_at-requires
+split_at-requires c = room_for_next c.loop-block._block c.args.count (c.args.size + 16) _ c.loop-block-test.true c.loop-block.invariant.left
+
+pub append_bytes-requires : goal.append_bytes-requires
+append_bytes-requires c =
+    let l = c.loop-block in
+    let long = length-take-le c.args.size c.split_at.result.0.now (omega (arith, c.split_at.ensures.front_len)) in
+    rw long (room_for_more l._block c.args.count c.args.size _ _ c.loop-block-test.true l.invariant.room_for_bytes)
 
 pub loop-block-preserved : goal.loop-block-preserved
 loop-block-preserved c =

@@ -1,5 +1,4 @@
-use Rattle.std.proofs.Common.{◌≡◌, ◌-◌, ◌*◌, ◌+◌, ◌≤◌, ◌++◌, ℕ, List, length, vec_len, vec_capacity}
-use Rattle.ocssd_chunks.specs.Spelled.{AddsSpelled}
+use Rattle.std.proofs.Common.{◌≡◌, ◌-◌, ◌*◌, ◌+◌, ◌≤◌, length, vec_len, vec_capacity}
 use Rattle.ocssd_chunks.proofs.Spelling.{IsSpellingSoFar}
 use Rattle.ocssd_chunks.proofs.blocks.append_spelled.Given as goal
 

@@ -1,9 +1,9 @@
-use Rattle.std.proofs.Common.{◌≡◌, ◌*◌, length, refl, arith, inr}
-use Rattle.std.proofs.Math.Nat.{mul-mod_left}
+use Rattle.std.proofs.Common.{◌≡◌, ◌*◌, ◌<◌, length, refl, arith, inr}
+use Rattle.std.proofs.Math.Nat.{mul-mod_left, pos_of_ne-zero}
 use Rattle.std.proofs.lemmas.List.{length-take-le}
 use Rattle.pblk_model.specs.Blocks.{blocks_of}
 use Rattle.ocssd_chunks.proofs.BlockList.{length-blocks_of}
-use Rattle.ocssd_chunks.proofs.Writes.{taken, placed, some_multiples}
+use Rattle.ocssd_chunks.proofs.Writes.{taken, placed, some_blocks}
 use Rattle.ocssd_chunks.proofs.chunk.Chunk.cut_write.Goals as goal
 
 pub append-requires-clause-place : goal.append-requires-clause-place
@@ -14,6 +14,7 @@ append-requires-clause-place c =
     let more = length-blocks_of q.shape.sector c.args.bytes.now c.args.marks.now in
     let written = length-blocks_of q.shape.sector q.bytes.items q.marks.items in
     let wp_is : length (blocks_of q.shape.sector q.bytes.items q.marks.items) ≡ c.len.result = omega (arith, q.marks.ok.0) in
+    let some = some_blocks c.args.multiples q.shape.ws_min c.if-multiples-eq0.false c.self.invariant.accepted.drive.ws_min in
     rw (c.state_at-state.ensures, ← c.self.view_is, c.first_blocks.ensures.count, wp_is) (placed _ q.shape.clba (omega arith) (omega (arith, is_taken.room)))
 
 pub append-requires-clause-multiple : goal.append-requires-clause-multiple
@@ -33,5 +34,5 @@ returns-clause-chunk c = λ some.
 pub returns-clause-stop : goal.returns-clause-stop
 returns-clause-stop c =
     let more = length-blocks_of c.args.self.now.shape.sector c.args.bytes.now c.args.marks.now in
-    let some = some_multiples c.args.multiples c.self.inside.shape.ws_min c.if-count-eq0.false in
+    let some : 0 < c.args.multiples = pos_of_ne-zero c.if-multiples-eq0.false in
     inr (c.requires.taken, (c.args.multiples, some, rw more c.requires.part, returns-clause-chunk c some))

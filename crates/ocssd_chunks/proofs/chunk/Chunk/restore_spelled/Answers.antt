@@ -1,6 +1,4 @@
-use Rattle.std.proofs.Common.{◌≡◌, ◌*◌, ◌≤◌, ◌∙◌, length, arith}
-use Rattle.std.proofs.Math.Nat.{mul-le-mul_right}
-use Rattle.pblk_model.specs.Chunk.{IsChunk}
+use Rattle.std.proofs.Common.{◌∙◌, arith}
 use Rattle.ocssd_chunks.proofs.BlockList.{length-blocks_of}
 use Rattle.ocssd_chunks.proofs.Spelling.{IsSpelled, added_alone, spelled_chunk}
 use Rattle.ocssd_chunks.proofs.Writes.{pointer_within}
