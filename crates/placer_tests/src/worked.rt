@@ -28,7 +28,7 @@ fn small(alloc: Global) -> Result<Pair, AllocError> {
 }
 
 // No line is open at first. Data waits for the start record, for its unit, and for a stripe's entries or the pad target.
-const OPENED: [(Asked, Told); 42] = [
+const OPENED: &[(Asked, Told)] = &[
     (Next(0), Nothing),
     (Begin(0, 3), Done),
     (Begin(0, 3), Refused),
@@ -74,7 +74,7 @@ const OPENED: [(Asked, Told); 42] = [
 ];
 
 // The end record waits for the last data, and then the line is open no more.
-const ENDED: [(Asked, Told); 13] = [
+const ENDED: &[(Asked, Told)] = &[
     (Wait(35), Done),
     (Wait(36), Done),
     (Next(0), Nothing),
@@ -109,15 +109,15 @@ fn fill<R: Abort>(rt: &R, alloc: Global, pair: &mut Pair) -> Result<(), AllocErr
 #[test]
 fn a_line_is_filled_in_order(rt: HostRuntime) -> Result<(), Fail> {
     let mut pair = small(rt.alloc())?;
-    run(&rt, rt.alloc(), &mut pair, &OPENED)?;
+    run(&rt, rt.alloc(), &mut pair, OPENED)?;
     fill(&rt, rt.alloc(), &mut pair)?;
-    run(&rt, rt.alloc(), &mut pair, &ENDED)?;
+    run(&rt, rt.alloc(), &mut pair, ENDED)?;
     Ok(())
 }
 
 // A lost stripe closes its chunk: the other one gets pads to its end, whatever waits. Its entries are placed again in the
 // next line, before the others and in order.
-const LOST: [(Asked, Told); 50] = [
+const LOST: &[(Asked, Told)] = &[
     (Begin(0, 3), Done),
     (Place(0), Start(0, 0, 0, 0)),
     (Landed(0), Start(0, 0, 0, 0)),
@@ -171,7 +171,7 @@ const LOST: [(Asked, Told); 50] = [
 ];
 
 // Without a whole start record a line has no data: pads to the end of its other chunk alone.
-const START_LOST: [(Asked, Told); 21] = [
+const START_LOST: &[(Asked, Told)] = &[
     (Begin(2, 3), Done),
     (Place(0), Start(2, 0, 0, 0)),
     (Lost(0), Start(2, 0, 0, 0)),
@@ -197,7 +197,7 @@ const START_LOST: [(Asked, Told); 21] = [
 ];
 
 // A stopped stripe is offered again before all others, by unit, also in a line that has failed.
-const STOPPED: [(Asked, Told); 47] = [
+const STOPPED: &[(Asked, Told)] = &[
     (Begin(0, 3), Done),
     (Place(0), Start(0, 0, 0, 0)),
     (Stopped(0), Start(0, 0, 0, 0)),
@@ -248,7 +248,7 @@ const STOPPED: [(Asked, Told); 47] = [
 ];
 
 // Of two lines the one that was opened first comes first, whatever its number.
-const TWO: [(Asked, Told); 21] = [
+const TWO: &[(Asked, Told)] = &[
     (Begin(5, 3), Done),
     (Begin(2, 2), Done),
     (Begin(3, 3), Refused),
@@ -273,7 +273,7 @@ const TWO: [(Asked, Told); 21] = [
 ];
 
 // Lost entries come first and in order; one entry below the pad target is enough, wherever it waits.
-const WAITING: [(Asked, Told); 16] = [
+const WAITING: &[(Asked, Told)] = &[
     (Begin(0, 3), Done),
     (Place(0), Start(0, 0, 0, 0)),
     (Landed(0), Start(0, 0, 0, 0)),
@@ -294,7 +294,7 @@ const WAITING: [(Asked, Told); 16] = [
 
 #[test]
 fn worlds_by_hand(rt: HostRuntime) -> Result<(), Fail> {
-    let worlds: [&[(Asked, Told)]; 5] = [&LOST, &START_LOST, &STOPPED, &TWO, &WAITING];
+    let worlds: [&[(Asked, Told)]; 5] = [LOST, START_LOST, STOPPED, TWO, WAITING];
     for steps in worlds {
         let mut pair = small(rt.alloc())?;
         run(&rt, rt.alloc(), &mut pair, steps)?;

@@ -4,7 +4,7 @@ use crate::harness::{Asked, Bench, Told, ask};
 use std::test::Fail;
 
 // Of a pool of two frames of 512 bytes: what is asked, what it tells, and how many frames are left.
-const TWO: [(Asked, Told, u32); 11] = [
+const TWO: &[(Asked, Told, u32)] = &[
     (Asked::Take, Told::Taken, 1),
     (Asked::Take, Told::Taken, 0),
     (Asked::Take, Told::NoneLeft, 0),
@@ -19,13 +19,13 @@ const TWO: [(Asked, Told, u32); 11] = [
 ];
 
 // Of a pool without frames.
-const NONE: [(Asked, Told, u32); 2] = [
+const NONE: &[(Asked, Told, u32)] = &[
     (Asked::Take, Told::NoneLeft, 0),
     (Asked::Close, Told::Closed, 0),
 ];
 
 // Of a pool of one frame without bytes.
-const EMPTY: [(Asked, Told, u32); 4] = [
+const EMPTY: &[(Asked, Told, u32)] = &[
     (Asked::Take, Told::Taken, 0),
     (Asked::Close, Told::Refused, 0),
     (Asked::Give, Told::Given, 1),
@@ -33,15 +33,11 @@ const EMPTY: [(Asked, Told, u32); 4] = [
 ];
 
 // The pools of the three tables.
-const POOLS: [(u32, u32, &[(Asked, Told, u32)]); 3] = [
-    (2, 512, &TWO),
-    (0, 512, &NONE),
-    (1, 0, &EMPTY),
-];
+const POOLS: &[(u32, u32, &[(Asked, Told, u32)])] = &[(2, 512, TWO), (0, 512, NONE), (1, 0, EMPTY)];
 
 #[test]
 fn frames_go_out_and_come_back(rt: HostRuntime) -> Result<(), Fail> {
-    for (count, size, steps) in POOLS {
+    for &(count, size, steps) in POOLS {
         let mut bench = Some(Bench::new(rt.alloc(), count, size)?);
         for (asked, told, left) in steps {
             let (next, answer) = ask(bench, *asked);

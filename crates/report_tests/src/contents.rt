@@ -16,7 +16,7 @@ const BLANK: Held = Held {
 };
 
 // What images hold, and their listings.
-const LISTED: [(Held, &str); 9] = [
+const LISTED: &[(Held, &str)] = &[
     (BLANK, "end 0 sectors 64\n"),
     (
         Held {
@@ -83,14 +83,14 @@ const LISTED: [(Held, &str); 9] = [
 
 #[test]
 fn contents_are_listed(rt: HostRuntime) -> Result<(), Fail> {
-    for (held, text) in LISTED {
+    for &(held, text) in LISTED {
         assert_eq!(rt; listed(rt.alloc(), &held)?.as_str(), text, "{held:?}");
     }
     Ok(())
 }
 
 // Chunks of the small drive, the numbers of recovery, and the reports. Codes of states: Closed 2, Open 4, Offline 8.
-const REPORTED: [(&[Used], Held, &str); 3] = [
+const REPORTED: &[(&[Used], Held, &str)] = &[
     (
         &[],
         BLANK,
@@ -134,7 +134,7 @@ const REPORTED: [(&[Used], Held, &str); 3] = [
 
 #[test]
 fn drives_are_reported(rt: HostRuntime) -> Result<(), Fail> {
-    for (used, held, text) in REPORTED {
+    for &(used, held, text) in REPORTED {
         assert_eq!(rt;
             reported(rt.alloc(), used, &held)?.as_str(),
             text,

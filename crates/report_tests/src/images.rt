@@ -93,7 +93,7 @@ fn image(alloc: Global, used: &[Used]) -> Result<Vec<u8>, AllocError> {
     let mut bytes = Vec::new(alloc);
     bytes.extend_from_slice(b"PBLKOCSD")?;
     bytes.resize(4128, 0)?;
-    for &(at, byte) in &NUMBERS {
+    for &(at, byte) in NUMBERS {
         put(&mut bytes, at, byte);
     }
     for unit in 0..2u8 {
@@ -120,7 +120,7 @@ fn image(alloc: Global, used: &[Used]) -> Result<Vec<u8>, AllocError> {
 
 // The version 1, sectors of 512 bytes, 64 user sectors, a ring of 64; 2.0; addresses of 0, 1, 3 and 5 bits; 1 group, 2
 // units, 8 chunks of 24 blocks, WS_MIN 2, WS_OPT 4, MW_CUNITS 8.
-const NUMBERS: [(usize, u8); 15] = [
+const NUMBERS: &[(usize, u8)] = &[
     (8, 1),
     (13, 2),
     (16, 64),

@@ -6,7 +6,7 @@ use std::test::Fail;
 
 // Scripts, the answers of their threads, and the transcripts, where the device was opened and
 // closed without trouble, and all below position 100 is kept.
-const TOLD: [(&str, &[&[Row]], &str); 9] = [
+const TOLD: &[(&str, &[&[Row]], &str)] = &[
     ("", &[], "kept 0\n"),
     ("thread\n", &[&[]], "kept 0\n"),
     (
@@ -77,7 +77,7 @@ const TOLD: [(&str, &[&[Row]], &str); 9] = [
 
 #[test]
 fn runs_are_told(rt: HostRuntime) -> Result<(), Fail> {
-    for (script, threads, text) in TOLD {
+    for &(script, threads, text) in TOLD {
         let run = Run {
             threads,
             opening: None,
@@ -90,7 +90,7 @@ fn runs_are_told(rt: HostRuntime) -> Result<(), Fail> {
 }
 
 // Scripts, what opening and closing answered, and the transcripts.
-const TROUBLED: [(&str, Run, &str); 4] = [
+const TROUBLED: &[(&str, Run, &str)] = &[
     (
         "thread\nw 5 1 17\nthread\nf\n",
         Run {
@@ -140,7 +140,7 @@ const TROUBLED: [(&str, Run, &str); 4] = [
 
 #[test]
 fn troubles_are_told(rt: HostRuntime) -> Result<(), Fail> {
-    for (script, run, text) in TROUBLED {
+    for &(script, run, text) in TROUBLED {
         assert_eq!(rt; told(rt.alloc(), script, &run)?.as_str(), text, "{script}");
     }
     Ok(())

@@ -5,7 +5,7 @@ use std::alloc::{AllocError, Global};
 use std::test::Fail;
 
 // Lines that stand so often one after another, and what is told of them.
-const ROWS: [(&[(&[u8], u32)], &str); 10] = [
+const ROWS: &[(&[(&[u8], u32)], &str)] = &[
     (&[(b"thread", 16)], "16 threads, 0 commands"),
     (&[(b"thread", 17)], "Limit 17"),
     (&[(b"thread", 17), (b"thread x", 1)], "Limit 17"),
@@ -54,7 +54,7 @@ const ROWS: [(&[(&[u8], u32)], &str); 10] = [
 
 #[test]
 fn limits_are_kept(rt: HostRuntime) -> Result<(), Fail> {
-    for (lines, says) in ROWS {
+    for &(lines, says) in ROWS {
         let mut bytes = Vec::new(rt.alloc());
         for (line, times) in lines {
             add_lines(&mut bytes, line, *times)?;
@@ -77,7 +77,7 @@ fn from_offset(alloc: Global, offset: u32, last: &[u8]) -> Result<Vec<u8>, Alloc
 }
 
 // Where a last line begins, the line, and what is told.
-const OFFSETS: [(u32, &[u8], &str); 10] = [
+const OFFSETS: &[(u32, &[u8], &str)] = &[
     (4_194_303, b"f", "1 threads, 1 commands"),
     (4_194_304, b"f", "Limit 3"),
     (4_194_303, b"thread\n", "2 threads, 0 commands"),
@@ -92,7 +92,7 @@ const OFFSETS: [(u32, &[u8], &str); 10] = [
 
 #[test]
 fn lines_begin_early(rt: HostRuntime) -> Result<(), Fail> {
-    for (offset, last, says) in OFFSETS {
+    for &(offset, last, says) in OFFSETS {
         let bytes = from_offset(rt.alloc(), offset, last)?;
         assert_eq!(rt; counted(rt.alloc(), &bytes, 64)?.as_str(), says, "{offset}");
     }

@@ -4,7 +4,7 @@ use crate::harness::told;
 use std::test::Fail;
 
 // Bytes that are a script on a target of this capacity.
-const ACCEPTED: [(&str, u64, &str); 28] = [
+const ACCEPTED: &[(&str, u64, &str)] = &[
     ("", 64, ""),
     ("\n", 64, ""),
     ("\n\n#\n# é \u{1f600}\n", 64, ""),
@@ -67,7 +67,7 @@ const ACCEPTED: [(&str, u64, &str); 28] = [
 
 #[test]
 fn scripts_are_read(rt: HostRuntime) -> Result<(), Fail> {
-    for (bytes, capacity, says) in ACCEPTED {
+    for &(bytes, capacity, says) in ACCEPTED {
         assert_eq!(rt;
             told(rt.alloc(), bytes.as_bytes(), capacity)?.as_str(),
             says,
@@ -78,7 +78,7 @@ fn scripts_are_read(rt: HostRuntime) -> Result<(), Fail> {
 }
 
 // Sectors past the capacity, and awaits that nothing ends.
-const RANGES_AND_AWAITS: [(&str, u64, &str); 14] = [
+const RANGES_AND_AWAITS: &[(&str, u64, &str)] = &[
     ("thread\nw 60 5 1\n", 64, "Range 2"),
     ("thread\nr 64 1\n", 64, "Range 2"),
     ("thread\nr 63 2\n", 64, "Range 2"),
@@ -126,7 +126,7 @@ const RANGES_AND_AWAITS: [(&str, u64, &str); 14] = [
 
 #[test]
 fn ranges_and_awaits_are_judged(rt: HostRuntime) -> Result<(), Fail> {
-    for (bytes, capacity, says) in RANGES_AND_AWAITS {
+    for &(bytes, capacity, says) in RANGES_AND_AWAITS {
         assert_eq!(rt;
             told(rt.alloc(), bytes.as_bytes(), capacity)?.as_str(),
             says,
@@ -137,7 +137,7 @@ fn ranges_and_awaits_are_judged(rt: HostRuntime) -> Result<(), Fail> {
 }
 
 // What is told of several refusals, and where lines may stand.
-const ORDER: [(&str, u64, &str); 18] = [
+const ORDER: &[(&str, u64, &str)] = &[
     // The first line that is refused by itself comes before what is awaited.
     ("thread\nawait x\nw 64 1 1\n", 64, "Range 3"),
     ("thread\nawait x\nw 1 17 1\n", 64, "Limit 3"),
@@ -164,7 +164,7 @@ const ORDER: [(&str, u64, &str); 18] = [
 
 #[test]
 fn first_refusal_decides(rt: HostRuntime) -> Result<(), Fail> {
-    for (bytes, capacity, says) in ORDER {
+    for &(bytes, capacity, says) in ORDER {
         assert_eq!(rt;
             told(rt.alloc(), bytes.as_bytes(), capacity)?.as_str(),
             says,
@@ -175,7 +175,7 @@ fn first_refusal_decides(rt: HostRuntime) -> Result<(), Fail> {
 }
 
 // Counts and numbers.
-const NUMBERS: [(&str, u64, &str); 22] = [
+const NUMBERS: &[(&str, u64, &str)] = &[
     // Counts of 1 to 16.
     ("thread\nw 1 0 1\n", 64, "Limit 2"),
     ("thread\nw 1 17 1\n", 64, "Limit 2"),
@@ -208,7 +208,7 @@ const NUMBERS: [(&str, u64, &str); 22] = [
 
 #[test]
 fn numbers_are_judged(rt: HostRuntime) -> Result<(), Fail> {
-    for (bytes, capacity, says) in NUMBERS {
+    for &(bytes, capacity, says) in NUMBERS {
         assert_eq!(rt;
             told(rt.alloc(), bytes.as_bytes(), capacity)?.as_str(),
             says,
@@ -219,7 +219,7 @@ fn numbers_are_judged(rt: HostRuntime) -> Result<(), Fail> {
 }
 
 // Names, and the words of a line.
-const WORDS: [(&str, u64, &str); 32] = [
+const WORDS: &[(&str, u64, &str)] = &[
     // Names of 1 to 16 lower-case letters or digits.
     ("thread\npost abcdefghij0123456\n", 64, "Form 2"),
     ("thread\nawait abcdefghij0123456\n", 64, "Form 2"),
@@ -258,7 +258,7 @@ const WORDS: [(&str, u64, &str); 32] = [
 
 #[test]
 fn words_are_judged(rt: HostRuntime) -> Result<(), Fail> {
-    for (bytes, capacity, says) in WORDS {
+    for &(bytes, capacity, says) in WORDS {
         assert_eq!(rt;
             told(rt.alloc(), bytes.as_bytes(), capacity)?.as_str(),
             says,
@@ -269,7 +269,7 @@ fn words_are_judged(rt: HostRuntime) -> Result<(), Fail> {
 }
 
 // Bytes that are no text, and what is told of them.
-const BYTES: [(&[u8], &str); 4] = [
+const BYTES: &[(&[u8], &str)] = &[
     (b"#\xff\x80\nthread\n", "[]"),
     (b"thread\n\xff\n", "Form 2"),
     (b"thread\npost \xff\n", "Form 2"),
@@ -278,7 +278,7 @@ const BYTES: [(&[u8], &str); 4] = [
 
 #[test]
 fn any_bytes_are_judged(rt: HostRuntime) -> Result<(), Fail> {
-    for (bytes, says) in BYTES {
+    for &(bytes, says) in BYTES {
         assert_eq!(rt; told(rt.alloc(), bytes, 64)?.as_str(), says);
     }
     Ok(())

@@ -6,7 +6,7 @@ use std::test::Fail;
 
 // What is asked in order, what is told, and then the free addresses and the least Free line. A line has 40 data addresses
 // at width 2, 16 at width 1, and none at width 0.
-const STEPS: [(Asked, Told, u64, Option<u32>); 44] = [
+const STEPS: &[(Asked, Told, u64, Option<u32>)] = &[
     (Asked::State(0), Told::State(LineState::Free), 320, Some(0)),
     (Asked::State(8), Told::Refused, 320, Some(0)),
     (
@@ -128,7 +128,7 @@ fn a_line_goes_through_its_states(rt: HostRuntime) -> Result<(), Fail> {
     let mut bench = Bench::blank(rt.alloc())?;
     assert_eq!(rt; bench.free_addresses(), 320);
     assert_eq!(rt; bench.least_free(), Some(0));
-    for (asked, told, addresses, least) in STEPS {
+    for &(asked, told, addresses, least) in STEPS {
         assert_eq!(rt; ask(&mut bench, asked), told, "{asked:?}");
         assert_eq!(rt; bench.free_addresses(), addresses, "{asked:?}");
         assert_eq!(rt; bench.least_free(), least, "{asked:?}");
@@ -137,7 +137,7 @@ fn a_line_goes_through_its_states(rt: HostRuntime) -> Result<(), Fail> {
 }
 
 // Of a drive with lines of every kind, the state of each line, its live sectors, and what took one from it.
-const OPENED: [(Asked, Told); 16] = [
+const OPENED: &[(Asked, Told)] = &[
     (Asked::State(0), Told::State(LineState::Full)),
     (Asked::State(1), Told::State(LineState::Failed)),
     (Asked::State(2), Told::State(LineState::Freed)),
@@ -160,7 +160,7 @@ const OPENED: [(Asked, Told); 16] = [
 #[test]
 fn lines_open_as_they_are_found(rt: HostRuntime) -> Result<(), Fail> {
     let mut bench = Bench::used(rt.alloc())?;
-    for (asked, told) in OPENED {
+    for &(asked, told) in OPENED {
         assert_eq!(rt; ask(&mut bench, asked), told, "{asked:?}");
     }
     assert_eq!(rt; bench.free_addresses(), 136);

@@ -59,7 +59,7 @@ const LATER: Slot = Slot::Media {
 };
 
 // What is asked in order, and what is told.
-const STEPS: [(Asked, Told); 19] = [
+const STEPS: &[(Asked, Told)] = &[
     (Asked::Get(5), Told::Slot(Slot::Unwritten)),
     (Asked::Get(0), Told::Slot(Slot::Unwritten)),
     (Asked::Get(63), Told::Slot(Slot::Unwritten)),
@@ -92,7 +92,7 @@ fn slots_are_set_one_at_a_time(rt: HostRuntime) -> Result<(), Fail> {
     let mut bench = Bench {
         map: Map::new(rt.alloc(), SECTORS)?,
     };
-    for (asked, told) in STEPS {
+    for &(asked, told) in STEPS {
         assert_eq!(rt; ask(&mut bench, asked), told, "{asked:?}");
     }
     Ok(())

@@ -5,7 +5,7 @@ use sector_pool::Class::{Copy, User};
 use std::test::Fail;
 
 // Of a window of 64 entries from position 0 on that has none yet.
-const BLANK: [(Asked, Told); 5] = [
+const BLANK: &[(Asked, Told)] = &[
     (Asked::Get(0), Told::NotHeld),
     (Asked::PopFree, Told::NotReadable),
     (Asked::Freed, Told::Freed(0)),
@@ -14,7 +14,7 @@ const BLANK: [(Asked, Told); 5] = [
 ];
 
 // Of a window of three entries from position 5 on: full, landed out of order, and past its wrap to the end.
-const THREE: [(Asked, Told); 46] = [
+const THREE: &[(Asked, Told)] = &[
     (Asked::Push(User, 10), Told::Done),
     (Asked::Push(Copy, 11), Told::Done),
     (Asked::Push(User, 12), Told::Done),
@@ -64,7 +64,7 @@ const THREE: [(Asked, Told); 46] = [
 ];
 
 // Of a window of two entries that is closed while it holds both.
-const HOLDS: [(Asked, Told); 8] = [
+const HOLDS: &[(Asked, Told)] = &[
     (Asked::Push(User, 1), Told::Done),
     (Asked::Push(User, 2), Told::Done),
     (Asked::Landed(0), Told::Done),
@@ -76,7 +76,7 @@ const HOLDS: [(Asked, Told); 8] = [
 ];
 
 // Of a window at the last position that an entry may have.
-const LAST: [(Asked, Told); 4] = [
+const LAST: &[(Asked, Told)] = &[
     (Asked::Push(User, 1), Told::Done),
     (Asked::Push(User, 2), Told::Refused),
     (Asked::Landed(0x7FFF_FFFF_FFFF_FFFF), Told::Done),
@@ -84,19 +84,19 @@ const LAST: [(Asked, Told); 4] = [
 ];
 
 // Of a window without room.
-const NONE: [(Asked, Told); 3] = [
+const NONE: &[(Asked, Told)] = &[
     (Asked::Push(User, 1), Told::Refused),
     (Asked::Get(9), Told::NotHeld),
     (Asked::Freed, Told::Freed(9)),
 ];
 
 // The windows of the tables: for how many entries, from which position on.
-const WINDOWS: [(u32, u64, &[(Asked, Told)]); 5] = [
-    (64, 0, &BLANK),
-    (3, 5, &THREE),
-    (2, 0, &HOLDS),
-    (2, 0x7FFF_FFFF_FFFF_FFFF, &LAST),
-    (0, 9, &NONE),
+const WINDOWS: &[(u32, u64, &[(Asked, Told)])] = &[
+    (64, 0, BLANK),
+    (3, 5, THREE),
+    (2, 0, HOLDS),
+    (2, 0x7FFF_FFFF_FFFF_FFFF, LAST),
+    (0, 9, NONE),
 ];
 
 /// How many frames each window's pool has.
@@ -104,7 +104,7 @@ const FRAMES: u32 = 4;
 
 #[test]
 fn entries_land_and_go_in_order(rt: HostRuntime) -> Result<(), Fail> {
-    for (size, first, steps) in WINDOWS {
+    for &(size, first, steps) in WINDOWS {
         let mut bench = Bench::new(rt.alloc(), size, first, FRAMES)?;
         for (asked, told) in steps {
             let (next, answer) = ask(bench, *asked);

@@ -5,7 +5,7 @@ use command_words::{CreateNumbers, read_words};
 use std::test::Fail;
 
 // Words, and what they say.
-const ACCEPTED: [(&str, &str); 23] = [
+const ACCEPTED: &[(&str, &str)] = &[
     ("create|a", "create [a] 1 2 8 24 2 4 8 512 64 64"),
     ("geometry|a", "geometry [a]"),
     ("show|a", "show [a]"),
@@ -60,14 +60,14 @@ const ACCEPTED: [(&str, &str); 23] = [
 
 #[test]
 fn commands_are_read(rt: HostRuntime) -> Result<(), Fail> {
-    for (words, says) in ACCEPTED {
+    for &(words, says) in ACCEPTED {
         assert_eq!(rt; told(rt.alloc(), words)?.as_str(), says, "{words}");
     }
     Ok(())
 }
 
 // Words that are no command.
-const REFUSED: [&str; 55] = [
+const REFUSED: &[&str] = &[
     "",
     "Create|a",
     "creat|a",
