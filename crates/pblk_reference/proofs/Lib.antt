@@ -6,3 +6,4 @@ pub mod Ends
 pub mod Ranges
 pub mod Bearing
 pub mod Newest
+pub mod Words

@@ -1,10 +1,13 @@
 -- The chunks of a line, and its blocks, as they are read from the units in memory.
-use Rattle.std.proofs.Common.{◌≡◌, ℕ, ◌+◌, ◌*◌, ◌/◌, ◌%◌, Bool, true, false, cond, List, [], ◌∷◌, length, map, Option, Some, None, refl, sym, ap, ◌∙◌}
+use Rattle.std.proofs.Common.{◌≡◌, ℕ, ◌+◌, ◌*◌, ◌/◌, ◌%◌, ◌<◌, arith, Bool, true, false, cond, List, [], ◌∷◌, length, map, Option, Some, None, refl, sym, ap, ◌∙◌}
 use Rattle.std.specs.List.{filter, filter_map, slice_get, cons_option}
 use Rattle.std.specs.Option.{option_and_then}
 use Rattle.std.specs.Global.{Vec}
 use Rattle.pblk_model.specs.Chunk.{Chunk}
 use Rattle.pblk_model.specs.Image.{Image, is_online_in, line_chunks, width, block_at}
+use Rattle.pblk_model.specs.declared.shape.Shape.{Shape}
+use Rattle.pblk_model.specs.Accepted.{IsAccepted}
+use Rattle.pblk_model.specs.LineOrder.{column_of, block_of}
 use Rattle.pblk_reference.specs.Line.{online_chunk, online_chunks}
 
 -- one more unit
@@ -28,9 +31,24 @@ pub width_of : (i : Image) (us : List (Vec Chunk)) (line : ℕ) → i.units ≡ 
 width_of i us line e = ap length (line_chunks_of i us line e)
 
 -- the block at a line address, from the chunk that has it
-pub block_from : (i : Image) (us : List (Vec Chunk)) (line at g w : ℕ) (o : Option Chunk) → i.units ≡ map (λ u. u.items) us → g ≡ width i line → w ≡ i.shape.ws_opt
-    → o ≡ slice_get (online_chunks line us) ((at / w) % g)
-    → option_and_then (λ c. slice_get c.blocks (at / w / g * w + at % w)) o ≡ block_at i line at
-block_from i us line at g w o units g-is w-is o-is =
-    let e : o ≡ slice_get (line_chunks i line) ((at / w) % g) = o-is ∙ ap (λ cs. slice_get cs ((at / w) % g)) (sym (line_chunks_of i us line units)) in
-    rw (e, g-is, w-is) refl
+pub block_from : (i : Image) (us : List (Vec Chunk)) (line at g w k b : ℕ) (o : Option Chunk) → i.units ≡ map (λ u. u.items) us → g ≡ width i line → w ≡ i.shape.ws_opt
+    → k ≡ (at / w) % g → b ≡ at / w / g * w + at % w → o ≡ slice_get (online_chunks line us) k
+    → option_and_then (λ c. slice_get c.blocks b) o ≡ block_at i line at
+block_from i us line at g w k b o units g-is w-is k-is b-is o-is =
+    let e : o ≡ slice_get (line_chunks i line) ((at / w) % g) = o-is ∙ ap (slice_get (online_chunks line us)) k-is ∙ ap (λ cs. slice_get cs ((at / w) % g)) (sym (line_chunks_of i us line units)) in
+    rw (e, b-is, g-is, w-is) refl
+
+-- and a line of no width has none
+none_of : (cs : List Chunk) (k b : ℕ) → length cs ≡ 0 → None ≡ option_and_then (λ c. slice_get c.blocks b) (slice_get cs k)
+none_of [] k b e = refl
+none_of (c ∷ cs) k b e = absurd cc
+
+pub no_blocks : (i : Image) (line at g : ℕ) → g ≡ width i line → g ≡ 0 → None ≡ block_at i line at
+no_blocks i line at g g-is none =
+    none_of (line_chunks i line) (column_of i.shape (width i line) at) (block_of i.shape (width i line) at) (sym g-is ∙ none)
+
+pub has_stripes : (s t : Shape) → s ≡ t → IsAccepted t → 0 < s.ws_opt
+has_stripes s t e accepted = rw e accepted.drive.ws_opt
+
+pub some_width : (g : ℕ) → (g ≡ 0 → ⊥) → 0 < g
+some_width g h = omega arith

@@ -1,12 +1,24 @@
 -- The words of the two records, without the zeros behind them.
-use Rattle.std.specs.Prelude.{ℕ, List, ◌++◌, length}
-use Rattle.pblk_model.specs.Bytes.{le16, le32, le64, zeros}
-use Rattle.pblk_model.specs.StartRecord.{StartRecord, magic}
+use Rattle.std.specs.Prelude.{ℕ, List, [], ◌∷◌, ◌++◌, length}
+use Rattle.std.specs.List.{flat_map}
+use Rattle.pblk_model.specs.declared.chunk.Mark.{Mark}
+use Rattle.pblk_model.specs.Bytes.{le16, le32, le64}
+use Rattle.pblk_model.specs.StartRecord.{Row, StartRecord, magic}
 use Rattle.pblk_model.specs.EndRecord.{EndRecord}
 
+-- the magic number, the version and the kind
+unfoldable pub kind_words : ℕ → List ℕ
+kind_words kind = le32 magic ++ le16 1 ++ le16 kind
+
+unfoldable pub row_words : Row → List ℕ
+row_words r = flat_map le32 (r.line ∷ 0 ∷ []) ++ flat_map le64 (r.seq ∷ r.bound ∷ [])
+
 unfoldable pub start_header : StartRecord → List ℕ
-start_header r = le32 magic ++ le16 1 ++ le16 1 ++ le32 r.line ++ le32 r.width ++ le64 r.seq ++ le64 r.first_seq ++ le64 r.front
-    ++ le64 r.capacity ++ le32 (length r.rows) ++ zeros 12
+start_header r = kind_words 1 ++ flat_map le32 (r.line ∷ r.width ∷ []) ++ flat_map le64 (r.seq ∷ r.first_seq ∷ r.front ∷ r.capacity ∷ [])
+    ++ flat_map le32 (length r.rows ∷ 0 ∷ 0 ∷ 0 ∷ [])
+
+unfoldable pub pair_words : Mark → List ℕ
+pair_words m = flat_map le64 (m.lba ∷ m.position ∷ [])
 
 unfoldable pub end_header : EndRecord → List ℕ
-end_header r = le32 magic ++ le16 1 ++ le16 2 ++ le32 r.line ++ le32 r.width ++ le64 r.seq ++ le32 (length r.pairs) ++ zeros 4
+end_header r = kind_words 2 ++ flat_map le32 (r.line ∷ r.width ∷ []) ++ flat_map le64 (r.seq ∷ []) ++ flat_map le32 (length r.pairs ∷ 0 ∷ [])

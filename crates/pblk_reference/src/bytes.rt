@@ -1,11 +1,16 @@
 //! Numbers and zeros among bytes.
 
-ghost use Rattle.std.specs.Prelude.{◌≡◌, ◌<◌, ◌++◌, drop, slice_index, OnOk};
+ghost use Rattle.std.specs.Prelude.{◌≡◌, ◌*◌, ◌<◌, ◌++◌, drop, slice_index, OnOk};
 ghost use Rattle.std.specs.Int.{w32, w64};
 ghost use Rattle.std.specs.Str.{bytes_eq};
-ghost use Rattle.pblk_model.specs.Bytes.{number_at, padded_to, zeros};
+ghost use Rattle.std.specs.List.{flat_map};
+ghost use Rattle.pblk_model.specs.Bytes.{le32, le64, number_at, padded_to, zeros};
+ghost use Rattle.pblk_reference.specs.Words.{kind_words};
 
 use std::alloc::{AllocError, Global};
+
+/// The first four bytes of a record.
+const MAGIC: u32 = 0x7062_6c6b;
 
 fn byte_at(bytes: &[u8], at: usize) -> u8
     ensures { result ≡ slice_index bytes.now at }
@@ -50,6 +55,35 @@ pub fn after(bytes: &[u8], n: usize) -> &[u8]
     if n <= bytes.len() { &bytes[n..] } else { &[] }
 }
 
+/// Adds numbers of four bytes.
+pub fn put_u32s(out: &mut Vec<u8>, numbers: &[u32]) -> Result<(), AllocError>
+    ensures { OnOk result (out.new.items ≡ out.old.items ++ flat_map le32 numbers.now) }
+{
+    for number in numbers {
+        out.extend_from_slice(&number.to_le_bytes())?;
+    }
+    Ok(())
+}
+
+/// Adds numbers of eight bytes.
+pub fn put_u64s(out: &mut Vec<u8>, numbers: &[u64]) -> Result<(), AllocError>
+    ensures { OnOk result (out.new.items ≡ out.old.items ++ flat_map le64 numbers.now) }
+{
+    for number in numbers {
+        out.extend_from_slice(&number.to_le_bytes())?;
+    }
+    Ok(())
+}
+
+/// Adds the words that a record of this kind begins with.
+pub fn put_kind(out: &mut Vec<u8>, kind: u16) -> Result<(), AllocError>
+    ensures { OnOk result (out.new.items ≡ out.old.items ++ kind_words kind) }
+{
+    out.extend_from_slice(&MAGIC.to_le_bytes())?;
+    out.extend_from_slice(&1u16.to_le_bytes())?;
+    out.extend_from_slice(&kind.to_le_bytes())
+}
+
 /// Adds zeros.
 #[tactic(auto, unfolding(pblk_model::specs::Bytes::zeros))]
 pub fn put_zeros(alloc: Global, out: &mut Vec<u8>, n: usize) -> Result<(), AllocError>
@@ -65,6 +99,13 @@ pub fn pad(alloc: Global, out: &mut Vec<u8>, n: usize) -> Result<(), AllocError>
 {
     let missing = n.saturating_sub(out.len());
     put_zeros(alloc, out, missing)
+}
+
+/// How many bytes blocks of this many bytes have.
+pub fn byte_len(blocks: u32, sector: u32) -> usize
+    ensures { result ≡ blocks * sector }
+{
+    (u64::from(blocks) * u64::from(sector)) as usize
 }
 
 /// Whether two runs of bytes are the same.

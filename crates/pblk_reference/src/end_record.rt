@@ -4,15 +4,15 @@ ghost use Rattle.std.specs.Prelude.{◌≡◌, ◌<◌, ◌≤◌, ◌^◌, ◌+
 ghost use Rattle.std.specs.List.{flat_map};
 ghost use Rattle.pblk_model.specs.Accepted.{IsAccepted};
 ghost use Rattle.pblk_model.specs.Shape.{units};
-ghost use Rattle.pblk_model.specs.EndRecord.{pair_bytes, end_bytes, pairs_in, end_of};
+ghost use Rattle.pblk_model.specs.EndRecord.{end_bytes, pairs_in, end_of};
 ghost use Rattle.pblk_reference.specs.Ready.{IsReady};
-ghost use Rattle.pblk_reference.specs.Words.{end_header};
+ghost use Rattle.pblk_reference.specs.Words.{pair_words, end_header};
 ghost use Rattle.pblk_reference.specs.Reading.{end_fields, end_read};
 
-use crate::bytes::{after, pad, put_zeros, same, u64_at};
+use crate::bytes::{after, byte_len, pad, put_kind, put_u32s, put_u64s, same, u64_at};
 use crate::image::Image;
 use crate::order::{data_len, end_len, width};
-use crate::start::{MAGIC, StartRecord, bytes_of, have_meta, written_run};
+use crate::start::{StartRecord, bytes_of, have_meta, written_run};
 use pblk_model::{Mark, Shape};
 use std::alloc::{AllocError, Global};
 use std::marker::Model;
@@ -40,42 +40,28 @@ impl Model for EndRecord {
     } };
 }
 
-fn put_pair(out: &mut Vec<u8>, pair: Mark) -> Result<(), AllocError>
-    ensures { OnOk result (out.new.items ≡ out.old.items ++ pair_bytes pair) }
-{
-    out.extend_from_slice(&pair.lba.to_le_bytes())?;
-    out.extend_from_slice(&pair.position.to_le_bytes())?;
-    Ok(())
-}
-
 fn put_pairs(out: &mut Vec<u8>, pairs: &[Mark]) -> Result<(), AllocError>
-    ensures { OnOk result (out.new.items ≡ out.old.items ++ flat_map pair_bytes pairs.now) }
+    ensures { OnOk result (out.new.items ≡ out.old.items ++ flat_map pair_words pairs.now) }
 {
     for pair in pairs {
-        put_pair(out, *pair)?;
+        put_u64s(out, &[pair.lba, pair.position])?;
     }
     Ok(())
 }
 
-#[tactic(auto, unfolding(crate::specs::Words::end_header))]
 fn header(alloc: Global, end: &EndRecord) -> Result<Vec<u8>, AllocError>
     requires { length end.now.pairs < 2 ^ 32 }
     ensures { IfOk result (λ v. v.items ≡ end_header end.now) }
 {
     let mut out = Vec::new(alloc);
-    out.extend_from_slice(&MAGIC.to_le_bytes())?;
-    out.extend_from_slice(&1u16.to_le_bytes())?;
-    out.extend_from_slice(&2u16.to_le_bytes())?;
-    out.extend_from_slice(&end.line.to_le_bytes())?;
-    out.extend_from_slice(&end.width.to_le_bytes())?;
-    out.extend_from_slice(&end.seq.to_le_bytes())?;
-    out.extend_from_slice(&(end.pairs.len() as u32).to_le_bytes())?;
-    put_zeros(alloc, &mut out, 4)?;
+    put_kind(&mut out, 2)?;
+    put_u32s(&mut out, &[end.line, end.width])?;
+    put_u64s(&mut out, &[end.seq])?;
+    put_u32s(&mut out, &[end.pairs.len() as u32, 0])?;
     Ok(out)
 }
 
 /// The record's one spelling, in the blocks of a line's end.
-#[tactic(auto, unfolding(crate::specs::Words::end_header))]
 pub fn end_bytes(alloc: Global, shape: &Shape, end: &EndRecord) -> Result<Vec<u8>, AllocError>
     requires accepted { IsAccepted shape.now }
     requires width { end.now.width ≤ units shape.now }
@@ -84,8 +70,8 @@ pub fn end_bytes(alloc: Global, shape: &Shape, end: &EndRecord) -> Result<Vec<u8
 {
     let mut out = header(alloc, end)?;
     put_pairs(&mut out, &end.pairs)?;
-    let len = u64::from(end_len(shape, end.width)) * u64::from(shape.sector);
-    pad(alloc, &mut out, len as usize)?;
+    let len = byte_len(end_len(shape, end.width), shape.sector);
+    pad(alloc, &mut out, len)?;
     Ok(out)
 }
 

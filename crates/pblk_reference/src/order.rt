@@ -1,6 +1,6 @@
 //! The order of a line's blocks.
 
-ghost use Rattle.std.specs.Prelude.{◌≡◌, ◌+◌, ◌<◌, ◌≤◌, ◌^◌, length, slice_get};
+ghost use Rattle.std.specs.Prelude.{◌≡◌, ◌+◌, ◌*◌, ◌/◌, ◌%◌, ◌<◌, ◌≤◌, ◌^◌, length, slice_get};
 ghost use Rattle.std.specs.Option.{option_copied};
 ghost use Rattle.pblk_model.specs.Accepted.{IsAccepted};
 ghost use Rattle.pblk_model.specs.Shape.{units};
@@ -17,9 +17,7 @@ pub fn start_len(shape: &Shape) -> u32
     requires { IsAccepted shape.now }
     ensures { result ≡ start_len shape.now }
 {
-    let bytes = 64 + 24 * (u64::from(shape.chunks) - 1);
-    let stripe = u64::from(shape.ws_opt) * u64::from(shape.sector);
-    (u64::from(shape.ws_opt) * bytes.div_ceil(stripe)) as u32
+    shape.start_len()
 }
 
 /// How many blocks at the end of a line of this width are its end record.
@@ -29,10 +27,7 @@ pub fn end_len(shape: &Shape, width: u32) -> u32
     ensures len { result ≡ end_len shape.now width }
     ensures short { result < 2 ^ 31 }
 {
-    let blocks = u64::from(width) * u64::from(shape.clba);
-    let bytes = 32 + 16 * blocks.saturating_sub(u64::from(start_len(shape)));
-    let stripe = u64::from(shape.ws_opt) * (u64::from(shape.sector) + 16);
-    (u64::from(shape.ws_opt) * bytes.div_ceil(stripe)) as u32
+    shape.end_len(width)
 }
 
 /// How many blocks between the two records of a line of this width are data.
@@ -41,11 +36,7 @@ pub fn data_len(shape: &Shape, width: u32) -> u32
     requires width { width ≤ units shape.now }
     ensures { result ≡ data_len shape.now width }
 {
-    let blocks = width * shape.clba;
-    let between = blocks
-        .saturating_sub(start_len(shape))
-        .saturating_sub(end_len(shape, width));
-    if between < shape.ws_opt { 0 } else { between }
+    shape.data_len(width)
 }
 
 fn is_online(state: ChunkState) -> bool
@@ -113,6 +104,23 @@ pub fn width(image: &Image, line: u32) -> u32
     count_online(&image.units, line)
 }
 
+fn column_of(at: u32, ws_opt: u32, width: u32) -> u32
+    requires stripe { 0 < ws_opt }
+    requires width { 0 < width }
+    ensures { result ≡ (at / ws_opt) % width }
+{
+    at / ws_opt % width
+}
+
+fn block_of(at: u32, ws_opt: u32, width: u32) -> u32
+    requires stripe { 0 < ws_opt }
+    requires width { 0 < width }
+    ensures { result ≡ at / ws_opt / width * ws_opt + at % ws_opt }
+{
+    let stripe = at / ws_opt;
+    stripe / width * ws_opt + at % ws_opt
+}
+
 /// The block at a line address, where it is written.
 pub fn block_at(image: &Image, line: u32, at: u32) -> Option<&Block>
     requires { IsReady image.now }
@@ -122,8 +130,7 @@ pub fn block_at(image: &Image, line: u32, at: u32) -> Option<&Block>
     if width == 0 {
         return None;
     }
-    let stripe = at / image.shape.ws_opt;
-    let chunk = nth_online(&image.units, line, stripe % width)?;
-    let block = stripe / width * image.shape.ws_opt + at % image.shape.ws_opt;
-    block_in(chunk, block)
+    let ws_opt = image.shape.ws_opt;
+    let chunk = nth_online(&image.units, line, column_of(at, ws_opt, width))?;
+    block_in(chunk, block_of(at, ws_opt, width))
 }

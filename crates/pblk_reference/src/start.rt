@@ -6,20 +6,17 @@ ghost use Rattle.std.specs.List.{flat_map};
 ghost use Rattle.std.specs.Option.{option_map};
 ghost use Rattle.pblk_model.specs.Accepted.{IsAccepted};
 ghost use Rattle.pblk_model.specs.LineOrder.{start_len};
-ghost use Rattle.pblk_model.specs.StartRecord.{row_bytes, start_bytes, rows_fit, start_fits, rows_in, start_in, read_start, written_run, have_meta, marked_start, start_of};
+ghost use Rattle.pblk_model.specs.StartRecord.{start_bytes, rows_fit, start_fits, rows_in, start_in, read_start, written_run, have_meta, marked_start, start_of};
 ghost use Rattle.pblk_reference.specs.Ready.{IsReady};
-ghost use Rattle.pblk_reference.specs.Words.{start_header};
+ghost use Rattle.pblk_reference.specs.Words.{row_words, start_header};
 ghost use Rattle.pblk_reference.specs.Reading.{start_fields, start_read};
 
-use crate::bytes::{after, pad, put_zeros, same, u32_at, u64_at};
+use crate::bytes::{after, byte_len, pad, put_kind, put_u32s, put_u64s, same, u32_at, u64_at};
 use crate::image::{Block, Image};
 use crate::order::{block_at, start_len, width};
 use pblk_model::Shape;
 use std::alloc::{AllocError, Global};
 use std::marker::Model;
-
-/// The first four bytes of a record.
-pub const MAGIC: u32 = 0x7062_6c6b;
 
 /// The address in the mark of a record's blocks.
 pub const META: u64 = u64::MAX - 2;
@@ -73,55 +70,46 @@ impl Model for StartRecord {
     } };
 }
 
-fn put_row(alloc: Global, out: &mut Vec<u8>, row: &Row) -> Result<(), AllocError>
-    ensures { OnOk result (out.new.items ≡ out.old.items ++ row_bytes row.now) }
+fn put_row(out: &mut Vec<u8>, row: &Row) -> Result<(), AllocError>
+    ensures { OnOk result (out.new.items ≡ out.old.items ++ row_words row.now) }
 {
-    out.extend_from_slice(&row.line.to_le_bytes())?;
-    put_zeros(alloc, out, 4)?;
-    out.extend_from_slice(&row.seq.to_le_bytes())?;
-    out.extend_from_slice(&row.bound.to_le_bytes())
+    put_u32s(out, &[row.line, 0])?;
+    put_u64s(out, &[row.seq, row.bound])
 }
 
-fn put_rows(alloc: Global, out: &mut Vec<u8>, rows: &[Row]) -> Result<(), AllocError>
-    ensures { OnOk result (out.new.items ≡ out.old.items ++ flat_map row_bytes rows.now) }
+fn put_rows(out: &mut Vec<u8>, rows: &[Row]) -> Result<(), AllocError>
+    ensures { OnOk result (out.new.items ≡ out.old.items ++ flat_map row_words rows.now) }
 {
     for row in rows {
-        put_row(alloc, out, row)?;
+        put_row(out, row)?;
     }
     Ok(())
 }
 
-#[tactic(auto, unfolding(crate::specs::Words::start_header))]
 fn header(alloc: Global, start: &StartRecord) -> Result<Vec<u8>, AllocError>
     requires { length start.now.rows < 2 ^ 32 }
     ensures { IfOk result (λ v. v.items ≡ start_header start.now) }
 {
     let mut out = Vec::new(alloc);
-    out.extend_from_slice(&MAGIC.to_le_bytes())?;
-    out.extend_from_slice(&1u16.to_le_bytes())?;
-    out.extend_from_slice(&1u16.to_le_bytes())?;
-    out.extend_from_slice(&start.line.to_le_bytes())?;
-    out.extend_from_slice(&start.width.to_le_bytes())?;
-    out.extend_from_slice(&start.seq.to_le_bytes())?;
-    out.extend_from_slice(&start.first_seq.to_le_bytes())?;
-    out.extend_from_slice(&start.front.to_le_bytes())?;
-    out.extend_from_slice(&start.capacity.to_le_bytes())?;
-    out.extend_from_slice(&(start.rows.len() as u32).to_le_bytes())?;
-    put_zeros(alloc, &mut out, 12)?;
+    put_kind(&mut out, 1)?;
+    put_u32s(&mut out, &[start.line, start.width])?;
+    put_u64s(
+        &mut out,
+        &[start.seq, start.first_seq, start.front, start.capacity],
+    )?;
+    put_u32s(&mut out, &[start.rows.len() as u32, 0, 0, 0])?;
     Ok(out)
 }
 
 /// The record's one spelling, in the blocks of a line's front.
-#[tactic(auto, unfolding(crate::specs::Words::start_header))]
 pub fn start_bytes(alloc: Global, shape: &Shape, start: &StartRecord) -> Result<Vec<u8>, AllocError>
     requires accepted { IsAccepted shape.now }
     requires rows { length start.now.rows < 2 ^ 32 }
     ensures { IfOk result (λ v. v.items ≡ start_bytes shape.now start.now) }
 {
     let mut out = header(alloc, start)?;
-    put_rows(alloc, &mut out, &start.rows)?;
-    let len = u64::from(start_len(shape)) * u64::from(shape.sector);
-    pad(alloc, &mut out, len as usize)?;
+    put_rows(&mut out, &start.rows)?;
+    pad(alloc, &mut out, byte_len(start_len(shape), shape.sector))?;
     Ok(out)
 }
 
