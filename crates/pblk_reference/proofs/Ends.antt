@@ -13,7 +13,7 @@ use Rattle.pblk_model.specs.LineOrder.{end_len}
 use Rattle.pblk_model.specs.Image.{Image, width}
 use Rattle.pblk_model.specs.StartRecord.{StartRecord, written_run, have_meta}
 use Rattle.pblk_model.specs.EndRecord.{EndRecord, pairs_in, end_in, end_bytes, read_end, end_of}
-use Rattle.pblk_reference.specs.Reading.{end_fields, end_read}
+use Rattle.pblk_reference.specs.Reading.{end_fields, end_read, end_among, end_run}
 
 pub pairs_go_on : (front now : List Mark) (count i lba position : ℕ) (bytes rest : List ℕ) (total : List Mark) → i < count
     → lba ≡ number_at w64 0 bytes → position ≡ number_at w64 8 bytes → rest ≡ drop 16 bytes
@@ -49,35 +49,30 @@ unfolding end_fields end_read
 spelled_end s line g seq bytes text r r-is text-is same =
     ap (λ (x : EndRecord). Some x) r-is ∙ chosen (bytes_eq (end_bytes s (end_in s line g seq bytes)) bytes) (end_in s line g seq bytes) (subst (λ (x : EndRecord). bytes_eq (end_bytes s x) bytes ≡ true) r-is (subst (λ (t : List ℕ). bytes_eq t bytes ≡ true) text-is same))
 
--- what the blocks of a line's end give
-unfoldable end_with : Image → ℕ → StartRecord → List Block → Option EndRecord
-end_with i line start blocks = cond (have_meta start.seq blocks) (read_end i.shape line (width i line) start.seq (flat_map (λ b. b.sector) blocks)) None
+-- ---- the record among a line's last blocks
 
-end_by_run : (i : Image) (line w n first : ℕ) (s : Shape) (start : StartRecord) (r : Option (List Block)) → s ≡ i.shape → w ≡ width i line → n ≡ end_len s w → first ≡ w * s.clba - n
-    → r ≡ written_run i line first n → option_and_then (end_with i line start) r ≡ end_of i line start
-unfolding end_with
-end_by_run i line w n first s start r s-is w-is n-is first-is r-is =
-    let len : n ≡ end_len i.shape (width i line) = n-is ∙ ap (λ (x : Shape). end_len x w) s-is ∙ ap (end_len i.shape) w-is in
-    let place : first ≡ width i line * i.shape.clba - end_len i.shape (width i line) =
-    first-is ∙ ap (λ (x : Shape). w * x.clba - n) s-is ∙ ap (λ x. x * i.shape.clba - n) w-is ∙ ap (λ m. width i line * i.shape.clba - m) len in
-    ap (option_and_then (end_with i line start)) (r-is ∙ ap (λ x. written_run i line x n) place ∙ ap (written_run i line (width i line * i.shape.clba - end_len i.shape (width i line))) len)
+pub unmarked : (s : Shape) (line g seq : ℕ) (blocks : List Block) → have_meta seq blocks ≡ false → None ≡ end_among s line g seq blocks
+unfolding end_among
+unmarked s line g seq blocks marks = sym (ap (λ b. cond b (read_end s line g seq (flat_map (λ b. b.sector) blocks)) None) marks)
 
-pub end_unwritten : (i : Image) (line w n first : ℕ) (s : Shape) (start : StartRecord) → s ≡ i.shape → w ≡ width i line → n ≡ end_len s w → first ≡ w * s.clba - n
-    → None ≡ written_run i line first n → None ≡ end_of i line start
-end_unwritten i line w n first s start s-is w-is n-is first-is run-is = end_by_run i line w n first s start None s-is w-is n-is first-is run-is
+pub marked : (s : Shape) (line g seq : ℕ) (blocks : List Block) (bytes : List ℕ) → have_meta seq blocks ≡ true → bytes ≡ flat_map (λ b. b.sector) blocks
+    → end_read s line g seq bytes ≡ end_among s line g seq blocks
+unfolding end_among end_read
+marked s line g seq blocks bytes marks bytes-is =
+    ap (end_read s line g seq) bytes-is ∙ sym (ap (λ b. cond b (read_end s line g seq (flat_map (λ b. b.sector) blocks)) None) marks)
 
-pub end_unmarked : (i : Image) (line w n first : ℕ) (s : Shape) (start : StartRecord) (blocks : List Block) → s ≡ i.shape → w ≡ width i line → n ≡ end_len s w → first ≡ w * s.clba - n
-    → Some blocks ≡ written_run i line first n → have_meta start.seq blocks ≡ false → None ≡ end_of i line start
-unfolding end_with
-end_unmarked i line w n first s start blocks s-is w-is n-is first-is run-is marks =
-    let h : None ≡ end_with i line start blocks = sym (ap (λ b. cond b (read_end i.shape line (width i line) start.seq (flat_map (λ b. b.sector) blocks)) None) marks) in
-    h ∙ end_by_run i line w n first s start (Some blocks) s-is w-is n-is first-is run-is
+-- the blocks where an end record is
+pub run_at_end : (i : Image) (line g n len first : ℕ) (s : Shape) → s ≡ i.shape → n ≡ end_len s g → len ≡ g * s.clba → first ≡ len - n → written_run i line first n ≡ end_run i line g
+unfolding end_run
+run_at_end i line g n len first s s-is n-is len-is first-is =
+    let last : n ≡ end_len i.shape g = n-is ∙ ap (λ (x : Shape). end_len x g) s-is in
+    let whole : len ≡ g * i.shape.clba = len-is ∙ ap (λ (x : Shape). g * x.clba) s-is in
+    let place : first ≡ g * i.shape.clba - end_len i.shape g = first-is ∙ ap (λ x. x - n) whole ∙ ap (λ m. g * i.shape.clba - m) last in
+    ap (λ x. written_run i line x n) place ∙ ap (written_run i line (g * i.shape.clba - end_len i.shape g)) last
 
-pub end_marked : (i : Image) (line w n first : ℕ) (s : Shape) (start : StartRecord) (blocks : List Block) (bytes : List ℕ) (o : Option EndRecord) → s ≡ i.shape → w ≡ width i line → n ≡ end_len s w → first ≡ w * s.clba - n
-    → Some blocks ≡ written_run i line first n → have_meta start.seq blocks ≡ true → bytes ≡ flat_map (λ b. b.sector) blocks → o ≡ end_read s line w start.seq bytes → o ≡ end_of i line start
-unfolding end_with end_read
-end_marked i line w n first s start blocks bytes o s-is w-is n-is first-is run-is marks bytes-is o-is =
-    let read : o ≡ end_read i.shape line (width i line) start.seq (flat_map (λ b. b.sector) blocks) =
-    o-is ∙ ap (λ (x : Shape). end_read x line w start.seq bytes) s-is ∙ ap (λ x. end_read i.shape line x start.seq bytes) w-is ∙ ap (end_read i.shape line (width i line) start.seq) bytes-is in
-    let h : read_end i.shape line (width i line) start.seq (flat_map (λ b. b.sector) blocks) ≡ end_with i line start blocks = sym (ap (λ b. cond b (read_end i.shape line (width i line) start.seq (flat_map (λ b. b.sector) blocks)) None) marks) in
-    read ∙ h ∙ end_by_run i line w n first s start (Some blocks) s-is w-is n-is first-is run-is
+pub end_by_run : (i : Image) (line g : ℕ) (s : Shape) (start : StartRecord) (r : Option (List Block)) → s ≡ i.shape → g ≡ width i line → r ≡ end_run i line g
+    → option_and_then (end_among s line g start.seq) r ≡ end_of i line start
+unfolding end_among end_run
+end_by_run i line g s start r s-is g-is r-is =
+    ap (option_and_then (end_among s line g start.seq)) r-is ∙ ap (λ (x : Shape). option_and_then (end_among x line g start.seq) (end_run i line g)) s-is
+    ∙ ap (λ x. option_and_then (end_among i.shape line x start.seq) (end_run i line x)) g-is

@@ -7,3 +7,5 @@ pub mod Ranges
 pub mod Bearing
 pub mod Newest
 pub mod Words
+pub mod Results
+pub mod Marks

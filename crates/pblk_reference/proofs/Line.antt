@@ -1,5 +1,5 @@
 -- The chunks of a line, and its blocks, as they are read from the units in memory.
-use Rattle.std.proofs.Common.{◌≡◌, ℕ, ◌+◌, ◌*◌, ◌/◌, ◌%◌, ◌<◌, arith, Bool, true, false, cond, List, [], ◌∷◌, length, map, Option, Some, None, refl, sym, ap, ◌∙◌}
+use Rattle.std.proofs.Common.{◌≡◌, ℕ, ◌+◌, ◌*◌, ◌/◌, ◌%◌, ◌^◌, ◌<◌, ◌≤◌, arith, Bool, true, false, cond, List, [], ◌∷◌, length, map, Option, Some, None, refl, sym, ap, ◌∙◌}
 use Rattle.std.specs.List.{filter, filter_map, slice_get, cons_option}
 use Rattle.std.specs.Option.{option_and_then}
 use Rattle.std.specs.Global.{Vec}
@@ -8,6 +8,9 @@ use Rattle.pblk_model.specs.Image.{Image, is_online_in, line_chunks, width, bloc
 use Rattle.pblk_model.specs.declared.shape.Shape.{Shape}
 use Rattle.pblk_model.specs.Accepted.{IsAccepted}
 use Rattle.pblk_model.specs.LineOrder.{column_of, block_of}
+use Rattle.pblk_model.specs.Shape.{units}
+use Rattle.std.proofs.lemmas.List.{length-map}
+use Rattle.pblk_reference.specs.Ready.{IsReady}
 use Rattle.pblk_reference.specs.Line.{online_chunk, online_chunks}
 
 -- one more unit
@@ -52,3 +55,17 @@ has_stripes s t e accepted = rw e accepted.drive.ws_opt
 
 pub some_width : (g : ℕ) → (g ≡ 0 → ⊥) → 0 < g
 some_width g h = omega arith
+
+-- a line is no wider than there are units
+pub fewer_units : (i : Image) (us : List (Vec Chunk)) (n : ℕ) → i.units ≡ map (λ u. u.items) us → IsReady i → n ≤ length us → n ≤ units i.shape
+fewer_units i us n e ready few =
+    let same : length us ≡ length i.units = sym (length-map us (λ u. u.items)) ∙ ap length (sym e) in
+    let bound : length i.units ≤ units i.shape = ready.units in
+    omega (arith, same, bound, few)
+
+pub few_units : (i : Image) (us : List (Vec Chunk)) → i.units ≡ map (λ u. u.items) us → IsReady i → length us < 2 ^ 32
+few_units i us e ready =
+    let same : length us ≡ length i.units = sym (length-map us (λ u. u.items)) ∙ ap length (sym e) in
+    let bound : length i.units ≤ units i.shape = ready.units in
+    let short : units i.shape ≤ 64 = ready.shape.drive.few_units in
+    omega (arith, same, bound, short)

@@ -1,5 +1,5 @@
 -- One more number of a range.
-use Rattle.std.proofs.Common.{◌≡◌, ℕ, ◌+◌, List, [], ◌∷◌, ◌++◌, Option, Some, None, sym, ap, ◌∙◌, arith}
+use Rattle.std.proofs.Common.{◌≡◌, ℕ, ◌+◌, ◌≤◌, List, [], ◌∷◌, ◌++◌, Option, Some, None, sym, ap, ◌∙◌, arith}
 use Rattle.std.specs.List.{filter_map, flat_map, range_with_len, cons_option}
 use Rattle.std.proofs.lemmas.List.{map-id, append-nil}
 use Rattle.std.proofs.lemmas.List.Elements.{filter_map-append}
@@ -23,3 +23,18 @@ none_more f n front o o-is none front-is = front-is ∙ sym (filter_map_range_mo
 
 pub all_more : {X : Type 0} (f : ℕ → List X) (n : ℕ) (now front xs : List X) → xs ≡ f n → now ≡ front ++ xs → front ≡ flat_map f (range_with_len 0 n) → now ≡ flat_map f (range_with_len 0 (n + 1))
 all_more f n now front xs xs-is now-is front-is = now-is ∙ ap (λ ys. ys ++ xs) front-is ∙ sym (flat_map_range_more f n xs xs-is)
+
+-- and how long the lists are
+pub whole_range : {X : Type 0} (f : ℕ → Option X) (found : List X) (at len n : ℕ) → at ≤ len → len ≤ at → len ≡ n → found ≡ filter_map f (range_with_len 0 at) → found ≡ filter_map f (range_with_len 0 n)
+whole_range f found at len n le ge n-is found-is =
+    let all : at ≡ n = omega arith in
+    found-is ∙ ap (λ m. filter_map f (range_with_len 0 m)) all
+
+pub one_more : (n m at : ℕ) → m ≡ n + 1 → n ≤ at → m ≤ at + 1
+one_more n m at m-is few = omega arith
+
+pub no_more : (n at : ℕ) → n ≤ at → n ≤ at + 1
+no_more n at few = omega arith
+
+pub at_most : (n at len most : ℕ) → n ≤ at → at ≤ len → len ≤ most → n ≤ most
+at_most n at len most few le short = omega arith

@@ -1,7 +1,6 @@
 -- How large the numbers of an accepted shape are.
-use Rattle.std.proofs.Common.{◌≡◌, ℕ, ◌+◌, ◌*◌, ◌/◌, ◌≤◌, ◌⊎◌, inl, inr, arith}
-use Rattle.std.proofs.Math.Nat.{mul-le-mul_left, mul-le-mul_right, div-le_self}
-use Rattle.std.specs.Int.{div_ceil}
+use Rattle.std.proofs.Common.{◌≡◌, ℕ, ◌+◌, ◌-◌, ◌*◌, ◌^◌, ◌<◌, ◌≤◌, Fits, w32, ◌⊎◌, inl, inr, arith}
+use Rattle.std.proofs.Math.Nat.{mul-le-mul_left, mul-le-mul_right}
 use Rattle.pblk_model.specs.declared.shape.Shape.{Shape}
 use Rattle.pblk_model.specs.Shape.{units}
 use Rattle.pblk_model.specs.Accepted.{IsAccepted}
@@ -24,13 +23,15 @@ line_is_short s g accepted few =
     let part : g * s.clba ≤ units s * s.clba = mul-le-mul_right s.clba few in
     omega arith
 
-pub blocks_are_few : (s : Shape) (n g b : ℕ) → IsAccepted s → n ≤ units s → g ≡ n → b ≡ s.clba → g * b ≤ 65536
-blocks_are_few s n g b accepted few g-is b-is = rw (g-is, b-is) (line_is_short s n accepted few)
+pub below_u32 : (n : ℕ) → n ≤ 65536 → Fits w32 n
+below_u32 n few = omega arith
 
--- and whole stripes for so many bytes are few blocks
-pub stripes_are_short : (w x y d : ℕ) → d ≡ div_ceil x y → w ≤ 64 → w * d ≤ 64 * (x + 1)
-stripes_are_short w x y d d-is short =
-    let h1 : w * d ≤ 64 * d = mul-le-mul_right d short in
-    let h2 : x / y ≤ x = div-le_self x y in
-    let h3 : d ≤ x + 1 = omega arith in
-    omega arith
+pub room_for : (first len n : ℕ) → len ≤ 65536 → first ≡ len - n → n < 2 ^ 31 → first + n < 2 ^ 32
+room_for first len n few first-is short = omega arith
+
+-- the same of a shape that is another's view
+pub accepted_as : (s t : Shape) → s ≡ t → IsAccepted t → IsAccepted s
+accepted_as s t e accepted = rw e accepted
+
+pub narrow_as : (g : ℕ) (s t : Shape) → s ≡ t → g ≤ units t → g ≤ units s
+narrow_as g s t e narrow = rw e narrow

@@ -2,16 +2,17 @@
 
 ghost use Rattle.std.specs.Prelude.{◌≡◌, ◌<◌, ◌≤◌, ◌^◌, ◌++◌, length, OnOk, IfOk, vec_len};
 ghost use Rattle.std.specs.List.{flat_map};
+ghost use Rattle.std.specs.Option.{option_map};
 ghost use Rattle.pblk_model.specs.Accepted.{IsAccepted};
 ghost use Rattle.pblk_model.specs.Shape.{units};
 ghost use Rattle.pblk_model.specs.EndRecord.{end_bytes, pairs_in, end_of};
 ghost use Rattle.pblk_reference.specs.Ready.{IsReady};
 ghost use Rattle.pblk_reference.specs.Words.{pair_words, end_header};
-ghost use Rattle.pblk_reference.specs.Reading.{end_fields, end_read};
+ghost use Rattle.pblk_reference.specs.Reading.{end_fields, end_read, end_among, end_run};
 
 use crate::bytes::{after, byte_len, pad, put_kind, put_u32s, put_u64s, same, u64_at};
-use crate::image::Image;
-use crate::order::{data_len, end_len, width};
+use crate::image::{Block, Image};
+use crate::order::{data_len, end_len, line_len, width};
 use crate::start::{StartRecord, bytes_of, have_meta, written_run};
 use pblk_model::{Mark, Shape};
 use std::alloc::{AllocError, Global};
@@ -134,6 +135,42 @@ fn read_end(
     Ok(Some(end))
 }
 
+// The record in the blocks of a line's end, where they have its mark.
+fn end_among(
+    alloc: Global,
+    shape: &Shape,
+    line: u32,
+    width: u32,
+    seq: u64,
+    found: &[Block],
+) -> Result<Option<EndRecord>, AllocError>
+    requires accepted { IsAccepted shape.now }
+    requires width { width ≤ units shape.now }
+    ensures { IfOk result (λ o. o ≡ end_among shape.now line width seq found.now) }
+{
+    if !have_meta(seq, found) {
+        return Ok(None);
+    }
+    let bytes = bytes_of(alloc, found)?;
+    read_end(alloc, shape, line, width, seq, &bytes)
+}
+
+// The blocks of a line's end, where all of them are written.
+fn end_run(
+    alloc: Global,
+    image: &Image,
+    line: u32,
+    width: u32,
+) -> Result<Option<Vec<Block>>, AllocError>
+    requires ready { IsReady image.now }
+    requires width { width ≤ units image.now.shape }
+    ensures { IfOk result (λ o. option_map (λ v. v.items) o ≡ end_run image.now line width) }
+{
+    let len = end_len(&image.shape, width);
+    let first = line_len(&image.shape, width).saturating_sub(len);
+    written_run(alloc, image, line, first, len)
+}
+
 /// The end record of a line with this start record, where it is whole.
 pub fn end_of(
     alloc: Global,
@@ -145,16 +182,8 @@ pub fn end_of(
     ensures { IfOk result (λ o. o ≡ end_of image.now line start.now) }
 {
     let width = width(image, line);
-    let len = end_len(&image.shape, width);
-    let blocks = width * image.shape.clba;
-    let first = blocks.saturating_sub(len);
-    let Some(found) = written_run(alloc, image, line, first, len)? else {
+    let Some(found) = end_run(alloc, image, line, width)? else {
         return Ok(None);
     };
-    if !have_meta(start.seq, &found) {
-        return Ok(None);
-    }
-    let bytes = bytes_of(alloc, &found)?;
-    let end = read_end(alloc, &image.shape, line, width, start.seq, &bytes)?;
-    Ok(end)
+    end_among(alloc, &image.shape, line, width, start.seq, &found)
 }

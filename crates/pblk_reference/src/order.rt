@@ -39,6 +39,16 @@ pub fn data_len(shape: &Shape, width: u32) -> u32
     shape.data_len(width)
 }
 
+/// How many blocks a line of this width has.
+pub fn line_len(shape: &Shape, width: u32) -> u32
+    requires accepted { IsAccepted shape.now }
+    requires width { width ≤ units shape.now }
+    ensures len { result ≡ width * shape.now.clba }
+    ensures few { result ≤ 65536 }
+{
+    width * shape.clba
+}
+
 fn is_online(state: ChunkState) -> bool
     ensures { result ≡ is_online_in state }
 {

@@ -1,6 +1,6 @@
 //! What the written blocks of an image bear.
 
-ghost use Rattle.std.specs.Prelude.{◌≡◌, ◌*◌, ◌≤◌, IfOk, vec_len};
+ghost use Rattle.std.specs.Prelude.{◌≡◌, ◌-◌, ◌*◌, ◌≤◌, nat_lt, if◌then◌else◌, None, slice_get, IfOk, vec_len};
 ghost use Rattle.std.specs.List.{filter_map, range_with_len};
 ghost use Rattle.pblk_model.specs.Accepted.{IsAccepted};
 ghost use Rattle.pblk_model.specs.Image.{width};
@@ -10,7 +10,7 @@ ghost use Rattle.pblk_reference.specs.Reading.{record_with, records_on};
 
 use crate::end_record::{EndRecord, end_of};
 use crate::image::{Block, Image};
-use crate::order::{block_at, start_len, width};
+use crate::order::{block_at, line_len, start_len, width};
 use crate::start::start_of;
 use pblk_model::{Mark, Shape};
 use std::alloc::{AllocError, Global};
@@ -76,20 +76,23 @@ fn named(shape: &Shape, mark: Mark) -> Option<Option<u64>>
     }
 }
 
+fn pair_at(pairs: &[Mark], start: u32, at: u32) -> Option<Mark>
+    ensures { result ≡ (if nat_lt at start then None else slice_get pairs.now (at - start)) }
+{
+    if at < start {
+        None
+    } else {
+        pairs.get((at - start) as usize).copied()
+    }
+}
+
 fn mark_at(shape: &Shape, end: &Option<EndRecord>, at: u32, block: &Block) -> Option<Mark>
     requires { IsAccepted shape.now }
     ensures { result ≡ mark_at shape.now end.now at block.now }
 {
     match end {
         None => Some(block.mark),
-        Some(end) => {
-            let start = start_len(shape);
-            if at < start {
-                None
-            } else {
-                end.pairs.get((at - start) as usize).copied()
-            }
-        }
+        Some(end) => pair_at(&end.pairs, start_len(shape), at),
     }
 }
 
@@ -136,8 +139,7 @@ fn record_at(
     let Some(mark) = mark_at(&image.shape, end, at, block) else {
         return Ok(None);
     };
-    let record = bears(alloc, &image.shape, line, seq, at, block, mark)?;
-    Ok(record)
+    bears(alloc, &image.shape, line, seq, at, block, mark)
 }
 
 fn records_with(
@@ -152,9 +154,8 @@ fn records_with(
         (range_with_len 0 (width image.now line * image.now.shape.clba))) }
     ensures few { IfOk result (λ v. vec_len v ≤ 65536) }
 {
-    let blocks = width(image, line) * image.shape.clba;
     let mut found = Vec::new(alloc);
-    for at in 0..blocks {
+    for at in 0..line_len(&image.shape, width(image, line)) {
         if let Some(record) = record_at(alloc, image, line, seq, end, at)? {
             found.push(record)?;
         }
@@ -171,8 +172,7 @@ fn line_records(alloc: Global, image: &Image, line: u32) -> Result<Vec<Record>, 
         return Ok(Vec::new(alloc));
     };
     let end = end_of(alloc, image, line, &start)?;
-    let found = records_with(alloc, image, line, start.seq, &end)?;
-    Ok(found)
+    records_with(alloc, image, line, start.seq, &end)
 }
 
 /// All records of an image, by line and then in line order. They are at most 2^26.

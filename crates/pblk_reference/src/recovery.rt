@@ -140,8 +140,7 @@ pub fn counted(alloc: Global, image: &Image) -> Result<Vec<Record>, AllocError>
 {
     let all = records(alloc, image)?;
     let last = head(alloc, image)?;
-    let kept = counted_after(alloc, &all, &last)?;
-    Ok(kept)
+    counted_after(alloc, &all, &last)
 }
 
 // Of two records of one position and sequence number that of the later line address is newer, and

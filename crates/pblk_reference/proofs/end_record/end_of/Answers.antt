@@ -1,29 +1,29 @@
-use Rattle.std.proofs.Common.{sym, ap, ◌∙◌, refl, arith}
+use Rattle.std.proofs.Common.{sym, ap, ◌∙◌, refl, None, Some}
 use Rattle.std.specs.Option.{option_map}
-use Rattle.std.specs.List.{flat_map}
 use Rattle.pblk_model.specs.Image.{Image}
-use Rattle.pblk_model.specs.StartRecord.{StartRecord, have_meta}
-use Rattle.pblk_reference.specs.Reading.{end_read}
-use Rattle.pblk_reference.proofs.Sizes.{blocks_are_few}
-use Rattle.pblk_reference.proofs.Ends.{end_marked}
+use Rattle.pblk_model.specs.StartRecord.{StartRecord}
+use Rattle.pblk_reference.specs.Reading.{end_among}
+use Rattle.pblk_reference.proofs.Results.{answered}
+use Rattle.pblk_reference.proofs.Sizes.{accepted_as, narrow_as}
+use Rattle.pblk_reference.proofs.Ends.{end_by_run}
 use Rattle.pblk_reference.proofs.end_record.end_of.Goals as goal
 
-pub overflow_mul-blocks : goal.overflow_mul-blocks
-overflow_mul-blocks c =
-    let short = blocks_are_few c.args.image.now.shape c.width-width.result c.width-width.result c.image.inside.shape.clba c.requires.shape c.width-width.ensures.few refl (ap (λ (i : Image). i.shape.clba) c.image.view_is) in
-    omega (arith, short)
+pub end_among-requires : goal.end_among-requires
+end_among-requires c = record {
+  accepted = accepted_as c.image.inside.shape c.args.image.now.shape (ap (λ (i : Image). i.shape) c.image.view_is) c.requires.shape;
+  width = narrow_as c.width-width.result c.image.inside.shape c.args.image.now.shape (ap (λ (i : Image). i.shape) c.image.view_is) c.width-width.ensures.few;
+}
 
-pub written_run-requires-clause-room : goal.written_run-requires-clause-room
-written_run-requires-clause-room c =
-    let short = blocks_are_few c.args.image.now.shape c.width-width.result c.width-width.result c.image.inside.shape.clba c.requires.shape c.width-width.ensures.few refl (ap (λ (i : Image). i.shape.clba) c.image.view_is) in
-    omega (arith, short, c.saturating_sub-first.ensures, c.end_len-len.ensures.short)
+pub returns-in_default : goal.returns-in_default
+returns-in_default c =
+    let run = ap (option_map (λ v. v.items)) (sym c.in_default.is) ∙ c.in_ok-found.ensures in
+    end_by_run c.args.image.now c.args.line c.width-width.result c.args.image.now.shape c.args.start.now None refl c.width-width.ensures.width run
 
 pub returns : goal.returns
 returns c =
     let shape = ap (λ (i : Image). i.shape) c.image.view_is in
     let run = ap (option_map (λ v. v.items)) (sym c.in-Some.is) ∙ c.in_ok-found.ensures in
-    let seq = ap (λ (r : StartRecord). r.seq) c.start.view_is in
-    let marks = ap (λ q. have_meta q c.in-Some.found.items) (sym seq) ∙ ap (have_meta c.start.inside.seq) (sym c.deref.ensures.value) ∙ sym c.have_meta.ensures ∙ c.if-not-have_meta.false in
-    let bytes = c.deref-3.ensures.value ∙ c.in_ok-bytes.ensures ∙ ap (flat_map (λ b. b.sector)) c.deref-2.ensures.value in
-    let read = c.in_ok-end.ensures ∙ ap (λ q. end_read c.image.inside.shape c.args.line c.width-width.result q c.deref-3.result.now) seq in
-    end_marked c.args.image.now c.args.line c.width-width.result c.end_len-len.result c.saturating_sub-first.result c.image.inside.shape c.args.start.now c.in-Some.found.items c.deref-3.result.now c.in_ok-end.end shape c.width-width.ensures.width c.end_len-len.ensures.len c.saturating_sub-first.ensures run marks bytes read
+    let seq = ap (λ (r : StartRecord). end_among c.image.inside.shape c.args.line c.width-width.result r.seq c.deref.result.now) c.start.view_is in
+    let among = ap (end_among c.image.inside.shape c.args.line c.width-width.result c.args.start.now.seq) c.deref.ensures.value in
+    answered (λ o. o) c.end_among.result _ _ c.end_among.ensures
+    (seq ∙ among ∙ end_by_run c.args.image.now c.args.line c.width-width.result c.image.inside.shape c.args.start.now (Some c.in-Some.found.items) shape c.width-width.ensures.width run)
