@@ -9,3 +9,4 @@ pub mod Newest
 pub mod Words
 pub mod Results
 pub mod Marks
+pub mod RowsFit

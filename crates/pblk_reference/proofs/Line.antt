@@ -3,6 +3,9 @@ use Rattle.std.proofs.Common.{◌≡◌, ℕ, ◌+◌, ◌*◌, ◌/◌, ◌%◌
 use Rattle.std.specs.List.{filter, filter_map, slice_get, cons_option}
 use Rattle.std.specs.Option.{option_and_then}
 use Rattle.std.specs.Global.{Vec}
+use Rattle.std.specs.Prelude.{nat_lt, get_or}
+use Rattle.std.proofs.lemmas.Bool.Decides.{nat_tests}
+use Rattle.std.proofs.lemmas.Option.{slice_get_read, slice_get_past}
 use Rattle.pblk_model.specs.Chunk.{Chunk}
 use Rattle.pblk_model.specs.Image.{Image, is_online_in, line_chunks, width, block_at}
 use Rattle.pblk_model.specs.declared.shape.Shape.{Shape}
@@ -69,3 +72,26 @@ few_units i us e ready =
     let bound : length i.units ≤ units i.shape = ready.units in
     let short : units i.shape ≤ 64 = ready.shape.drive.few_units in
     omega (arith, same, bound, short)
+
+-- a unit's chunk of a line
+pub no_chunk : (line : ℕ) (unit : List Chunk) → None ≡ slice_get unit line → None ≡ online_chunk line unit
+unfolding online_chunk
+no_chunk line unit none = ap (option_and_then (λ c. cond (is_online_in c.state) (Some c) None)) none
+
+pub online_is : (line : ℕ) (unit : List Chunk) (c : Chunk) → Some c ≡ slice_get unit line → is_online_in c.state ≡ true → Some c ≡ online_chunk line unit
+unfolding online_chunk
+online_is line unit c some online = sym (ap (λ b. cond b (Some c) None) online) ∙ ap (option_and_then (λ c. cond (is_online_in c.state) (Some c) None)) some
+
+pub offline_is : (line : ℕ) (unit : List Chunk) (c : Chunk) → Some c ≡ slice_get unit line → is_online_in c.state ≡ false → None ≡ online_chunk line unit
+unfolding online_chunk
+offline_is line unit c some offline = sym (ap (λ b. cond b (Some c) None) offline) ∙ ap (option_and_then (λ c. cond (is_online_in c.state) (Some c) None)) some
+
+pub found_at : (unit : List Chunk) (line : ℕ) (c : Chunk) → true ≡ nat_lt line (length unit) → c ≡ get_or unit line c → Some c ≡ slice_get unit line
+found_at unit line c within c-is =
+    let lt : line < length unit = grind (arith, nat_tests) in
+    sym (slice_get_read unit (length unit) line c refl lt c-is)
+
+pub none_at : (unit : List Chunk) (line : ℕ) → false ≡ nat_lt line (length unit) → None ≡ slice_get unit line
+none_at unit line past =
+    let le : length unit ≤ line = grind (arith, nat_tests) in
+    sym (slice_get_past unit line le)

@@ -35,3 +35,6 @@ accepted_as s t e accepted = rw e accepted
 
 pub narrow_as : (g : ℕ) (s t : Shape) → s ≡ t → g ≤ units t → g ≤ units s
 narrow_as g s t e narrow = rw e narrow
+
+pub some_lines : (n : ℕ) → 8 ≤ n → 0 < n
+some_lines n many = omega arith

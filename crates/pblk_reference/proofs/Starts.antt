@@ -136,3 +136,8 @@ start_from i line n g s blocks bytes o s-is n-is g-is run-is bytes-is o-is =
     let run : Some blocks ≡ written_run i line 0 (start_len i.shape) = run-is ∙ ap (written_run i line 0) (n-is ∙ ap start_len s-is) in
     ap (marked_start blocks) read
     ∙ ap (option_and_then (λ bs. marked_start bs (read_start i.shape line (width i line) (flat_map (λ b. b.sector) bs)))) run
+
+pub start_unwritten : (i : Image) (line n : ℕ) (s : Shape) → s ≡ i.shape → n ≡ start_len s → None ≡ written_run i line 0 n → None ≡ start_of i line
+start_unwritten i line n s s-is n-is run-is =
+    let run : None ≡ written_run i line 0 (start_len i.shape) = run-is ∙ ap (written_run i line 0) (n-is ∙ ap start_len s-is) in
+    ap (option_and_then (λ bs. marked_start bs (read_start i.shape line (width i line) (flat_map (λ b. b.sector) bs)))) run

@@ -58,7 +58,6 @@ fn is_online(state: ChunkState) -> bool
     }
 }
 
-#[tactic(auto, unfolding(crate::specs::Line::online_chunk))]
 fn online_chunk(unit: &[Chunk], line: u32) -> Option<&Chunk>
     ensures { option_copied result ≡ online_chunk line unit.now }
 {

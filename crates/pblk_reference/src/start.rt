@@ -173,7 +173,7 @@ fn numbers_fit(shape: &Shape, line: u32, width: u32, start: &StartRecord) -> boo
 }
 
 fn start_fits(shape: &Shape, line: u32, width: u32, start: &StartRecord) -> bool
-    requires { IsAccepted shape.now }
+    requires { 0 < shape.now.chunks }
     ensures fits { result ≡ start_fits shape.now line width start.now }
     ensures low { OnTrue result (start.now.front < 2 ^ 61) }
 {
