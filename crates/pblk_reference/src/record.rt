@@ -121,7 +121,6 @@ fn bears(
     }))
 }
 
-#[tactic(auto, unfolding(crate::specs::Reading::record_with))]
 fn record_at(
     alloc: Global,
     image: &Image,
