@@ -38,3 +38,6 @@ narrow_as g s t e narrow = rw e narrow
 
 pub some_lines : (n : ℕ) → 8 ≤ n → 0 < n
 some_lines n many = omega arith
+
+pub narrow_end : (s : Shape) (g h : ℕ) → g ≡ h → h ≤ units s → g ≤ units s
+narrow_end s g h e narrow = rw e narrow

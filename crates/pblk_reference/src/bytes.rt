@@ -1,11 +1,11 @@
 //! Numbers and zeros among bytes.
 
-ghost use Rattle.std.specs.Prelude.{◌≡◌, ◌*◌, ◌<◌, ◌++◌, drop, slice_index, OnOk};
+ghost use Rattle.std.specs.Prelude.{◌≡◌, ◌*◌, ◌<◌, ◌++◌, drop, slice_index, OnOk, IfOk};
 ghost use Rattle.std.specs.Int.{w32, w64};
 ghost use Rattle.std.specs.Str.{bytes_eq};
 ghost use Rattle.std.specs.List.{flat_map};
 ghost use Rattle.pblk_model.specs.Bytes.{le32, le64, number_at, padded_to, zeros};
-ghost use Rattle.pblk_reference.specs.Words.{kind_words};
+ghost use Rattle.pblk_reference.specs.Words.{kind_words, front_words};
 
 use std::alloc::{AllocError, Global};
 
@@ -75,13 +75,32 @@ pub fn put_u64s(out: &mut Vec<u8>, numbers: &[u64]) -> Result<(), AllocError>
     Ok(())
 }
 
-/// Adds the words that a record of this kind begins with.
-pub fn put_kind(out: &mut Vec<u8>, kind: u16) -> Result<(), AllocError>
+fn put_kind(out: &mut Vec<u8>, kind: u16) -> Result<(), AllocError>
     ensures { OnOk result (out.new.items ≡ out.old.items ++ kind_words kind) }
 {
     out.extend_from_slice(&MAGIC.to_le_bytes())?;
     out.extend_from_slice(&1u16.to_le_bytes())?;
     out.extend_from_slice(&kind.to_le_bytes())
+}
+
+/// The words of a record of this kind in front of its rows or marks: those of every record, then the numbers of eight
+/// bytes, and then those of four.
+pub fn front_words(
+    alloc: Global,
+    kind: u16,
+    line: u32,
+    width: u32,
+    long: &[u64],
+    short: &[u32],
+) -> Result<Vec<u8>, AllocError>
+    ensures { IfOk result (λ v. v.items ≡ front_words kind line width long.now short.now) }
+{
+    let mut out = Vec::new(alloc);
+    put_kind(&mut out, kind)?;
+    put_u32s(&mut out, &[line, width])?;
+    put_u64s(&mut out, long)?;
+    put_u32s(&mut out, short)?;
+    Ok(out)
 }
 
 /// Adds zeros.

@@ -7,10 +7,10 @@ ghost use Rattle.pblk_model.specs.Accepted.{IsAccepted};
 ghost use Rattle.pblk_model.specs.Shape.{units};
 ghost use Rattle.pblk_model.specs.EndRecord.{end_bytes, pairs_in, end_of};
 ghost use Rattle.pblk_reference.specs.Ready.{IsReady};
-ghost use Rattle.pblk_reference.specs.Words.{pair_words, end_header};
+ghost use Rattle.pblk_reference.specs.Words.{pair_words};
 ghost use Rattle.pblk_reference.specs.Reading.{end_fields, end_read, end_among, end_run};
 
-use crate::bytes::{after, byte_len, pad, put_kind, put_u32s, put_u64s, same, u64_at};
+use crate::bytes::{after, byte_len, front_words, pad, put_u64s, same, u64_at};
 use crate::image::{Block, Image};
 use crate::order::{data_len, end_len, line_len, width};
 use crate::start::{StartRecord, bytes_of, have_meta, written_run};
@@ -50,18 +50,6 @@ fn put_pairs(out: &mut Vec<u8>, pairs: &[Mark]) -> Result<(), AllocError>
     Ok(())
 }
 
-fn header(alloc: Global, end: &EndRecord) -> Result<Vec<u8>, AllocError>
-    requires { length end.now.pairs < 2 ^ 32 }
-    ensures { IfOk result (λ v. v.items ≡ end_header end.now) }
-{
-    let mut out = Vec::new(alloc);
-    put_kind(&mut out, 2)?;
-    put_u32s(&mut out, &[end.line, end.width])?;
-    put_u64s(&mut out, &[end.seq])?;
-    put_u32s(&mut out, &[end.pairs.len() as u32, 0])?;
-    Ok(out)
-}
-
 /// The record's one spelling, in the blocks of a line's end.
 pub fn end_bytes(alloc: Global, shape: &Shape, end: &EndRecord) -> Result<Vec<u8>, AllocError>
     requires accepted { IsAccepted shape.now }
@@ -69,7 +57,8 @@ pub fn end_bytes(alloc: Global, shape: &Shape, end: &EndRecord) -> Result<Vec<u8
     requires pairs { length end.now.pairs < 2 ^ 32 }
     ensures { IfOk result (λ v. v.items ≡ end_bytes shape.now end.now) }
 {
-    let mut out = header(alloc, end)?;
+    let short = [end.pairs.len() as u32, 0];
+    let mut out = front_words(alloc, 2, end.line, end.width, &[end.seq], &short)?;
     put_pairs(&mut out, &end.pairs)?;
     let len = byte_len(end_len(shape, end.width), shape.sector);
     pad(alloc, &mut out, len)?;

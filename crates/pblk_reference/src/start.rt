@@ -8,10 +8,10 @@ ghost use Rattle.pblk_model.specs.Accepted.{IsAccepted};
 ghost use Rattle.pblk_model.specs.LineOrder.{start_len};
 ghost use Rattle.pblk_model.specs.StartRecord.{start_bytes, rows_fit, start_fits, rows_in, start_in, read_start, written_run, have_meta, marked_start, start_of};
 ghost use Rattle.pblk_reference.specs.Ready.{IsReady};
-ghost use Rattle.pblk_reference.specs.Words.{row_words, start_header};
+ghost use Rattle.pblk_reference.specs.Words.{row_words};
 ghost use Rattle.pblk_reference.specs.Reading.{start_fields, start_read};
 
-use crate::bytes::{after, byte_len, pad, put_kind, put_u32s, put_u64s, same, u32_at, u64_at};
+use crate::bytes::{after, byte_len, front_words, pad, put_u32s, put_u64s, same, u32_at, u64_at};
 use crate::image::{Block, Image};
 use crate::order::{block_at, start_len, width};
 use pblk_model::Shape;
@@ -86,28 +86,15 @@ fn put_rows(out: &mut Vec<u8>, rows: &[Row]) -> Result<(), AllocError>
     Ok(())
 }
 
-fn header(alloc: Global, start: &StartRecord) -> Result<Vec<u8>, AllocError>
-    requires { length start.now.rows < 2 ^ 32 }
-    ensures { IfOk result (λ v. v.items ≡ start_header start.now) }
-{
-    let mut out = Vec::new(alloc);
-    put_kind(&mut out, 1)?;
-    put_u32s(&mut out, &[start.line, start.width])?;
-    put_u64s(
-        &mut out,
-        &[start.seq, start.first_seq, start.front, start.capacity],
-    )?;
-    put_u32s(&mut out, &[start.rows.len() as u32, 0, 0, 0])?;
-    Ok(out)
-}
-
 /// The record's one spelling, in the blocks of a line's front.
 pub fn start_bytes(alloc: Global, shape: &Shape, start: &StartRecord) -> Result<Vec<u8>, AllocError>
     requires accepted { IsAccepted shape.now }
     requires rows { length start.now.rows < 2 ^ 32 }
     ensures { IfOk result (λ v. v.items ≡ start_bytes shape.now start.now) }
 {
-    let mut out = header(alloc, start)?;
+    let long = [start.seq, start.first_seq, start.front, start.capacity];
+    let short = [start.rows.len() as u32, 0, 0, 0];
+    let mut out = front_words(alloc, 1, start.line, start.width, &long, &short)?;
     put_rows(&mut out, &start.rows)?;
     pad(alloc, &mut out, byte_len(start_len(shape), shape.sector))?;
     Ok(out)
