@@ -11,11 +11,11 @@ use pblk_reference::{
 };
 use std::alloc::{AllocError, Global};
 
-pub const META: u64 = 18446744073709551613;
+const META: u64 = 18446744073709551613;
 
 pub const VOID: u64 = 18446744073709551614;
 
-pub const PAD: u64 = 18446744073709551615;
+const PAD: u64 = 18446744073709551615;
 
 /// A drive of two units of eight chunks of 24 blocks. A line has 4 blocks of start record, 40 of
 /// data and 4 of end record.
@@ -41,68 +41,45 @@ pub fn image_of(chunks: Units) -> Image
 
 /// Blocks at consecutive line addresses: of tags, sectors and positions that rise by these steps.
 #[derive(Clone, Copy)]
-pub struct Run {
-    pub line: u32,
-    pub at: usize,
-    pub count: u64,
-    pub tag: u64,
-    pub tag_step: u64,
-    pub lba: u64,
-    pub lba_step: u64,
-    pub position: u64,
-    pub position_step: u64,
+struct Run {
+    line: u32,
+    at: usize,
+    count: u64,
+    tag: u64,
+    tag_step: u64,
+    lba: u64,
+    lba_step: u64,
+    position: u64,
+    position_step: u64,
 }
 
 /// What is done to an image.
 #[derive(Clone, Copy)]
 pub enum Step {
-    /// A start record, with a row of an older line's number, sequence number and bound or none.
+    /// The start record of a line of the first mount, without rows: the line, its sequence number and the front.
+    First(u32, u64, u64),
+    /// A start record with a row of an older line's number, sequence number and bound.
     Start {
         line: u32,
         seq: u64,
         first_seq: u64,
         front: u64,
-        row: Option<(u32, u64, u64)>,
+        row: (u32, u64, u64),
     },
-    Write(Run),
-    /// An end record with the pairs of sectors 0 to 39 at positions from here on.
-    End {
-        line: u32,
-        seq: u64,
-        position: u64,
-    },
+    /// Sectors of one tag, whose positions rise with them: the line, the line address, how many, the tag, and the first
+    /// sector and position.
+    Sectors(u32, usize, u64, u64, u64, u64),
+    /// Pads whose bytes have a tag that rises: the line, the line address, how many, and the first tag.
+    Pads(u32, usize, u64, u64),
+    /// An end record with the pairs of sectors 0 to 39 at positions from here on: the line, its sequence number, and the
+    /// first position.
+    End(u32, u64, u64),
     /// All blocks of a chunk are taken away.
     Clear {
         unit: usize,
         chunk: usize,
         state: ChunkState,
     },
-}
-
-/// A written block of this tag and mark.
-pub const fn one(line: u32, at: usize, tag: u64, lba: u64, position: u64) -> Step {
-    Step::Write(Run {
-        line,
-        at,
-        count: 1,
-        tag,
-        tag_step: 0,
-        lba,
-        lba_step: 0,
-        position,
-        position_step: 0,
-    })
-}
-
-/// The start record of a line of the first mount, with the front 0.
-pub const fn first_start(line: u32, seq: u64) -> Step {
-    Step::Start {
-        line,
-        seq,
-        first_seq: 1,
-        front: 0,
-        row: None,
-    }
 }
 
 fn blank(alloc: Global) -> Result<Units, AllocError> {
@@ -185,14 +162,6 @@ fn write_meta(
     Ok(())
 }
 
-fn rows_of(alloc: Global, row: Option<(u32, u64, u64)>) -> Result<Vec<Row>, AllocError> {
-    let mut rows = Vec::new(alloc);
-    if let Some((line, seq, bound)) = row {
-        rows.push(Row { line, seq, bound })?;
-    }
-    Ok(rows)
-}
-
 fn write_start(alloc: Global, all: &mut Units, start: &StartRecord) -> Result<(), AllocError> {
     if start.rows.len() > 1 {
         return Ok(());
@@ -220,13 +189,30 @@ fn pairs_from(alloc: Global, position: u64) -> Result<Vec<Mark>, AllocError> {
 
 fn take_step(alloc: Global, all: &mut Units, step: Step) -> Result<(), AllocError> {
     match step {
+        Step::First(line, seq, front) => {
+            let start = StartRecord {
+                line,
+                width: 2,
+                seq,
+                first_seq: 1,
+                front,
+                capacity: 64,
+                rows: Vec::new(alloc),
+            };
+            write_start(alloc, all, &start)
+        },
         Step::Start {
             line,
             seq,
             first_seq,
             front,
-            row,
+            row: (older, older_seq, bound),
         } => {
+            let row = Row {
+                line: older,
+                seq: older_seq,
+                bound,
+            };
             let start = StartRecord {
                 line,
                 width: 2,
@@ -234,16 +220,41 @@ fn take_step(alloc: Global, all: &mut Units, step: Step) -> Result<(), AllocErro
                 first_seq,
                 front,
                 capacity: 64,
-                rows: rows_of(alloc, row)?,
+                rows: vec![in alloc; row]?,
             };
             write_start(alloc, all, &start)
         },
-        Step::Write(run) => write(alloc, all, run),
-        Step::End {
-            line,
-            seq,
-            position,
-        } => {
+        Step::Sectors(line, at, count, tag, lba, position) => write(
+            alloc,
+            all,
+            Run {
+                line,
+                at,
+                count,
+                tag,
+                tag_step: 0,
+                lba,
+                lba_step: 1,
+                position,
+                position_step: 1,
+            },
+        ),
+        Step::Pads(line, at, count, tag) => write(
+            alloc,
+            all,
+            Run {
+                line,
+                at,
+                count,
+                tag,
+                tag_step: 1,
+                lba: PAD,
+                lba_step: 0,
+                position: 0,
+                position_step: 0,
+            },
+        ),
+        Step::End(line, seq, position) => {
             let end = EndRecord {
                 line,
                 width: 2,

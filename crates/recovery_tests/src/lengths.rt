@@ -1,6 +1,6 @@
 //! Lengths, addresses and the words of a start record.
 
-use crate::harness::{Step, Units, image_of, made, one, small};
+use crate::harness::{Step, Units, image_of, made, small};
 use pblk_model::ChunkState;
 use pblk_reference::{
     Row, StartRecord, block_at, data_len, end_len, start_bytes, start_len, width,
@@ -45,7 +45,7 @@ fn blocks_stand_at_their_addresses(rt: HostRuntime) -> Result<(), Fail> {
         state: ChunkState::Offline,
     };
     for (line, at, wanted) in [(2, 0, (1, None)), (3, 0, (2, Some(8))), (3, 1, (2, None))] {
-        let all = made(rt.alloc(), &[one(3, 9, 1, 7, 8), offline])?;
+        let all = made(rt.alloc(), &[Step::Sectors(3, 9, 1, 1, 7, 8), offline])?;
         assert_eq!(rt; found_at(all, line, at), wanted);
     }
     Ok(())
@@ -81,9 +81,8 @@ fn a_start_record_has_these_bytes(rt: HostRuntime) -> Result<(), Fail> {
         1, 0, 0, 0, 0, 0, 0, 0, 0, 0, 0, 0, 0, 0, 0, 0, // the number of rows
         5, 0, 0, 0, 0, 0, 0, 0, 6, 0, 0, 0, 0, 0, 0, 0, 7, 0, 0, 0, 0, 0, 0, 0, // the row
     ];
-    assert_eq!(rt; bytes.len(), 2048);
-    for (at, byte) in bytes.iter().enumerate() {
-        assert_eq!(rt; (at, *byte), (at, front.get(at).copied().unwrap_or(0)));
-    }
+    let mut wanted = Vec::from_slice(rt.alloc(), &front)?;
+    wanted.resize(2048, 0)?;
+    assert_eq!(rt; bytes, wanted);
     Ok(())
 }
