@@ -1,4 +1,3 @@
-use Rattle.std.proofs.Common.{◌++◌, ap, ◌∙◌}
 use Rattle.pblk_reference.specs.Words.{pair_words}
 use Rattle.pblk_reference.proofs.Words.{piece_more, pieces_all}
 use Rattle.pblk_reference.proofs.end_record.put_pairs.Goals as goal

@@ -1,4 +1,3 @@
-use Rattle.std.proofs.Common.{arith}
 use Rattle.pblk_reference.proofs.Sizes.{line_is_short, below_u32}
 use Rattle.pblk_reference.proofs.order.line_len.Goals as goal
 
