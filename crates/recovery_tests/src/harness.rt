@@ -162,22 +162,6 @@ fn write_meta(
     Ok(())
 }
 
-fn write_start(alloc: Global, all: &mut Units, start: &StartRecord) -> Result<(), AllocError> {
-    if start.rows.len() > 1 {
-        return Ok(());
-    }
-    let bytes = start_bytes(alloc, &small(), start)?;
-    write_meta(alloc, all, start.line, 0, start.seq, &bytes)
-}
-
-fn write_end(alloc: Global, all: &mut Units, end: &EndRecord) -> Result<(), AllocError> {
-    if end.width != 2 || end.pairs.len() > 40 {
-        return Ok(());
-    }
-    let bytes = end_bytes(alloc, &small(), end)?;
-    write_meta(alloc, all, end.line, 44, end.seq, &bytes)
-}
-
 fn pairs_from(alloc: Global, position: u64) -> Result<Vec<Mark>, AllocError> {
     let mut pairs = Vec::new(alloc);
     for lba in 0..40u64 {
@@ -187,19 +171,56 @@ fn pairs_from(alloc: Global, position: u64) -> Result<Vec<Mark>, AllocError> {
     Ok(pairs)
 }
 
+fn write_start(
+    alloc: Global,
+    all: &mut Units,
+    line: u32,
+    seq: u64,
+    first_seq: u64,
+    front: u64,
+    rows: Vec<Row>,
+) -> Result<(), AllocError> {
+    if rows.len() > 1 {
+        return Ok(());
+    }
+    let start = StartRecord {
+        line,
+        width: 2,
+        seq,
+        first_seq,
+        front,
+        capacity: 64,
+        rows,
+    };
+    let bytes = start_bytes(alloc, &small(), &start)?;
+    write_meta(alloc, all, line, 0, seq, &bytes)
+}
+
+fn write_end(
+    alloc: Global,
+    all: &mut Units,
+    line: u32,
+    seq: u64,
+    position: u64,
+) -> Result<(), AllocError> {
+    let pairs = pairs_from(alloc, position)?;
+    if pairs.len() > 40 {
+        return Ok(());
+    }
+    let end = EndRecord {
+        line,
+        width: 2,
+        seq,
+        pairs,
+    };
+    let bytes = end_bytes(alloc, &small(), &end)?;
+    write_meta(alloc, all, line, 44, seq, &bytes)
+}
+
 fn take_step(alloc: Global, all: &mut Units, step: Step) -> Result<(), AllocError> {
     match step {
         Step::First(line, seq, front) => {
-            let start = StartRecord {
-                line,
-                width: 2,
-                seq,
-                first_seq: 1,
-                front,
-                capacity: 64,
-                rows: Vec::new(alloc),
-            };
-            write_start(alloc, all, &start)
+            write_start(alloc, all, line, seq, 1, front, Vec::new(alloc))
         },
         Step::Start {
             line,
@@ -213,16 +234,8 @@ fn take_step(alloc: Global, all: &mut Units, step: Step) -> Result<(), AllocErro
                 seq: older_seq,
                 bound,
             };
-            let start = StartRecord {
-                line,
-                width: 2,
-                seq,
-                first_seq,
-                front,
-                capacity: 64,
-                rows: vec![in alloc; row]?,
-            };
-            write_start(alloc, all, &start)
+            let rows = vec![in alloc; row]?;
+            write_start(alloc, all, line, seq, first_seq, front, rows)
         },
         Step::Sectors(line, at, count, tag, lba, position) => write(
             alloc,
@@ -254,15 +267,7 @@ fn take_step(alloc: Global, all: &mut Units, step: Step) -> Result<(), AllocErro
                 position_step: 0,
             },
         ),
-        Step::End(line, seq, position) => {
-            let end = EndRecord {
-                line,
-                width: 2,
-                seq,
-                pairs: pairs_from(alloc, position)?,
-            };
-            write_end(alloc, all, &end)
-        },
+        Step::End(line, seq, position) => write_end(alloc, all, line, seq, position),
         Step::Clear { unit, chunk, state } => {
             clear(all, unit, chunk, state);
             Ok(())

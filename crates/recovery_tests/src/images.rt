@@ -31,7 +31,7 @@ const TWO_FULL: [Step; 6] = [
     Step::End(1, 2, 40),
 ];
 
-const CASES: [Case; 14] = [
+static CASES: [Case; 14] = [
     Case {
         name: "blank",
         steps: &[Step::Pads(0, 0, 0, 0)],
