@@ -1,5 +1,5 @@
 -- Drives whose units are armed or disarmed.
-use Rattle.std.proofs.Common.{◌≡◌, ℕ, zero, suc, Bool, true, false, ltb, replicate, ◌+◌, Vec, Global, List, [], ◌∷◌, length, map, refl, sym, ap, ◌∙◌, subst, arith, Option, Some, None, slice_get}
+use Rattle.std.proofs.Common.{◌≡◌, ℕ, zero, suc, Bool, true, false, ltb, replicate, ◌+◌, Vec, Global, List, [], ◌∷◌, length, map, refl, sym, ap, ◌∙◌, subst, arith, Option, Some, None, ◌<◌, vec_len, get_or, slice_get, slice_set}
 use Rattle.std.specs.List.{AllByRecursion, enumerate_from}
 use Rattle.std.specs.Vec.{with_items}
 use Rattle.std.specs.Option.{option_map}
@@ -18,6 +18,10 @@ use Rattle.ocssd_drive.specs.Drive.{AreArmedTogether, DriveView, HasWord, IsArme
 use Rattle.ocssd_drive.proofs.Arming.{get_enumerated}
 use Rattle.ocssd_drive.proofs.Lists.{some_same}
 use Rattle.ocssd_drive.proofs.UnitChunks.{zeros_all}
+use Rattle.ocssd_drive.proofs.Restoring.{IsUnitAt, unit_at, still_whole}
+use Rattle.ocssd_drive.specs.DriveFields.{drive_view}
+use Rattle.ocssd_drive.specs.declared.drive.Drive.TheInside.{Inside}
+use Rattle.pblk_model.specs.Shape.{units as units_of}
 
 -- units of a drive of this shape
 abbrev pub HaveShape : Shape → List WornUnit → Type 0
@@ -104,3 +108,16 @@ new_of s = record {
 pub shapes_new : (s : Shape) (n : ℕ) → HaveShape s (replicate n (new_unit s))
 shapes_new s zero = tt
 shapes_new s (suc n) = (new_of s, shapes_new s n)
+
+-- the drive, as contracts see it, has a unit of this number
+pub unit_within : (d : Inside) (v : DriveView) (unit : ℕ) → IsWhole (drive_view d) → drive_view d ≡ v → unit < units_of (shape_of v) → unit < vec_len d.units
+unit_within d v unit whole is within =
+    subst (λ (n : ℕ). unit < n) (sym whole.count ∙ sym d.units.ok.0) (subst (λ (x : DriveView). unit < units_of (shape_of x)) (sym is) within)
+
+pub unit_seen : (d : Inside) (v : DriveView) (unit : ℕ) (u : WornUnit) → IsWhole (drive_view d) → drive_view d ≡ v → unit < units_of (shape_of v) → u ≡ get_or d.units.items unit u → IsUnitAt v unit u
+unit_seen d v unit u whole is within read = subst (λ (x : DriveView). IsUnitAt x unit u) is
+    (unit_at (drive_view d) unit u whole (subst (λ (x : DriveView). unit < units_of (shape_of x)) (sym is) within) read)
+
+-- a unit that was changed is still one of the drive
+pub whole_again : (d : DriveView) (unit : ℕ) (u new : WornUnit) → IsWhole d → IsUnitAt d unit u → IsUnitOf new.unit.shape new → new.unit.shape ≡ u.unit.shape → IsWhole (with_units (slice_set d.units unit new) d)
+whole_again d unit u new whole at fits same = still_whole d unit new whole (subst (λ (s : Shape). IsUnitOf s new) (same ∙ at.fits.shape) fits)

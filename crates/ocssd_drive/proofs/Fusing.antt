@@ -1,15 +1,16 @@
 -- The seat of the fuse's unit, as it takes in those of the other units.
 use Rattle.std.proofs.Common.{◌≡◌, ◌≢◌, ◌⊎◌, ℕ, Bool, true, false, ltb, eqb, ◌||◌, ◌+◌, ◌<◌, ◌≤◌, List, length, map, refl, sym, ap, ◌∙◌, subst, arith, inl, inr, Option, Some, None, slice_get, slice_set, slice_index_or}
 use Rattle.std.proofs.lemmas.Bool.{lt-ltb, le-ltb, eqb-true, eq-eqb, ne_eqb}
-use Rattle.std.proofs.lemmas.Option.{none-some, slice_get_within, slice_get_cases}
+use Rattle.std.proofs.lemmas.Option.{none-some, slice_get-get_or, slice_get_within, slice_get_cases}
 use Rattle.std.specs.Option.{IsSome}
 use native.Mathlib.Decide.{ℕ_discrete, dec_lt}
 use Rattle.unit_port.specs.declared.armed.Fuse.{Fuse}
 use Rattle.unit_port.specs.Armed.{Armed, has_stopped}
 use Rattle.unit_port.specs.Unit.{IsStopped}
+use Rattle.pblk_model.specs.UnitLog.{UnitEvent}
 use Rattle.ocssd_drive.specs.StopWord.{SeatView}
-use Rattle.ocssd_drive.specs.Journal.{IsCalm, SeatSays, SeatTells}
-use Rattle.ocssd_drive.specs.Faults.{fuse_is_at}
+use Rattle.ocssd_drive.specs.Journal.{IsCalm, SeatSays, SeatTells, SeatTellsBy}
+use Rattle.ocssd_drive.specs.Faults.{fuse_is_at, fuse_is_at_unit}
 use Rattle.ocssd_drive.specs.Units.{WornUnit, disarmed}
 use Rattle.ocssd_drive.specs.Drive.{AreArmedTogether, FuseFell, KnowsMore, fitting_fuse}
 use Rattle.ocssd_drive.proofs.Lists.{some_same}
@@ -242,3 +243,14 @@ none_stopped old t nowhere calm i u there stopped =
     let none : u.unit.armed.fuse ≡ None = (t.each i u there).with_fuse ∙ unfused old t nowhere t.fuse refl in
     let still : has_stopped u.unit.armed u.unit.log ≡ false = (calm i u there).stops none in
     absurd cc
+
+seat_there : (a : Armed) (log : List UnitEvent) (fuse : Option Fuse) → fuse_is_at_unit a.unit fuse ≡ true → SeatTellsBy a log fuse None → ⊥
+seat_there a log None here tells = cc
+seat_there a log (Some f) here tells = tells
+
+-- the unit on which the fuse falls has a seat
+pub keeper_there : (units : List WornUnit) (at : ℕ) (d : WornUnit) (seat : Option SeatView) → (u : WornUnit) × (slice_get units at ≡ Some u) × (fuse_is_at u.unit.armed ≡ true) → seat ≡ None
+    → SeatTells (slice_index_or units at d).unit.armed (slice_index_or units at d).unit.log seat → ⊥
+keeper_there units at d seat there none tells =
+    let same : there.0 ≡ slice_index_or units at d = some_same _ _ (sym there.1 ∙ slice_get-get_or units at d (slice_get_within units at there.0 there.1)) in
+    seat_there _ _ _ (subst (λ (u : WornUnit). fuse_is_at u.unit.armed ≡ true) same there.2) (subst (SeatTells (slice_index_or units at d).unit.armed (slice_index_or units at d).unit.log) none tells)

@@ -14,6 +14,7 @@ mod Lists
 mod Making
 mod Seats
 mod StopWordSteps
+mod Taking
 mod TallySteps
 mod UnitChunks
 mod UnitSteps

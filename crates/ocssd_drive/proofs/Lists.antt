@@ -1,5 +1,5 @@
 -- Lists place by place.
-use Rattle.std.proofs.Common.{◌≡◌, ◌≢◌, ℕ, zero, suc, ◌<◌, List, [], ◌∷◌, length, refl, sym, ap, arith, Some, slice_get, slice_set}
+use Rattle.std.proofs.Common.{◌≡◌, ◌≢◌, ℕ, zero, suc, ◌<◌, List, [], ◌∷◌, length, refl, sym, ap, arith, Option, Some, None, IsNone, IfNone, slice_get, slice_set}
 use Rattle.std.specs.Option.{unwrap_or}
 use Rattle.std.proofs.lemmas.Option.{none-some}
 
@@ -24,3 +24,7 @@ get_set_other (x ∷ xs) zero zero y n = absurd (n refl)
 get_set_other (x ∷ xs) zero (suc j) y n = refl
 get_set_other (x ∷ xs) (suc i) zero y n = refl
 get_set_other (x ∷ xs) (suc i) (suc j) y n = get_set_other xs i j y (λ e. n (ap suc e))
+
+pub if_none : {A : Type 0} (P : Type 0) (r : Option A) → (IsNone r → P) → IfNone r P
+if_none P None holds = holds refl
+if_none P (Some x) holds = tt

@@ -1,13 +1,14 @@
 -- A unit's chunks: all are chunks of its drive, and one of them is replaced.
-use Rattle.std.proofs.Common.{◌≡◌, ℕ, zero, suc, ◌<◌, lit<, replicate, List, [], ◌∷◌, length, map, get_or, slice_get, slice_set, Some, refl, sym, ap, ◌∙◌}
-use Rattle.std.proofs.lemmas.List.{length-map}
-use Rattle.std.proofs.lemmas.Option.{slice_get-map, slice_get_read, slice_get_within, same_Some}
+use Rattle.std.proofs.Common.{◌≡◌, ℕ, zero, suc, ◌+◌, ◌<◌, lit<, replicate, nat_lt, vec_len, false, Bor, List, [], ◌∷◌, ◌++◌, length, map, get_or, slice_get, slice_set, is_some, IfSome, Option, Some, None, refl, sym, ap, ap₂, subst, ◌∙◌, add-one}
+use Rattle.std.proofs.lemmas.List.{length-map, map-append}
+use Rattle.std.proofs.lemmas.Bool.{ltb-true, ltb-false}
+use Rattle.std.proofs.lemmas.Option.{slice_get-map, slice_get_read, slice_get_within, slice_get_past, same_Some}
 use Rattle.std.specs.List.{AllByRecursion}
 use Rattle.pblk_model.specs.declared.shape.Shape.{Shape}
-use Rattle.pblk_model.specs.Chunk.{Chunk, IsChunk}
+use Rattle.pblk_model.specs.Chunk.{Chunk, IsChunk, free_chunk}
 use Rattle.ocssd_chunks.specs.DriveChunk.{DriveChunk}
 use Rattle.unit_port.specs.Unit.{IsChunkOf, IsFitUnit}
-use Rattle.ocssd_drive.specs.Units.{IsChunkIn, IsUnitOf}
+use Rattle.ocssd_drive.specs.Units.{WornUnit, IsChunkIn, IsUnitOf}
 use Rattle.ocssd_drive.specs.UnitFields.{IsSound, worn_unit}
 use Rattle.ocssd_drive.specs.declared.memory_unit.MemoryUnit.TheInside.{Inside}
 
@@ -75,6 +76,49 @@ at_place u chunk found sound within read =
       fits = all_get (IsChunkIn u.shape) u.chunks.items chunk found sound.chunks place;
     }
 
+-- the unit, as contracts see it, has a chunk of this number
+module _ (u : Inside) (v : WornUnit) (chunk : ℕ) (is : worn_unit u ≡ v) (within : chunk < length v.unit.media) where
+  inside : chunk < length u.chunks.items
+  inside = rw (length-map u.chunks.items (λ (c : DriveChunk). c.chunk)) at (subst (λ (x : WornUnit). chunk < length x.unit.media) (sym is) within)
+
+  pub chunk_within : chunk < vec_len u.chunks
+  chunk_within = subst (λ (n : ℕ). chunk < n) (sym u.chunks.ok.0) inside
+
+  pub wear_within : IsSound u → chunk < vec_len u.wear
+  wear_within sound = subst (λ (n : ℕ). chunk < n) (sound.count ∙ sym sound.worn ∙ sym u.wear.ok.0) inside
+
+  pub wear_read : IsSound u → (w : ℕ) → w ≡ get_or u.wear.items chunk w → slice_get v.wear chunk ≡ Some w
+  wear_read sound w read = subst (λ (x : WornUnit). slice_get x.wear chunk ≡ Some w) is
+      (slice_get_read u.wear.items (length u.wear.items) chunk w refl (subst (λ (n : ℕ). chunk < n) (sound.count ∙ sym sound.worn) inside) read)
+
+-- this is what contracts see as the unit's chunk of a number
+pub record IsChunkAt (v : WornUnit) (chunk : ℕ) (found : DriveChunk) : Type 0 where
+  pub there : IsChunkOf v.unit chunk found.chunk
+  pub shape : found.shape ≡ v.unit.shape
+
+seen_at : (u : Inside) (v : WornUnit) (chunk : ℕ) (found : DriveChunk) → IsSound u → worn_unit u ≡ v → chunk < length u.chunks.items → found ≡ get_or u.chunks.items chunk found → IsChunkAt v chunk found
+seen_at u v chunk found sound is within read =
+    let place = slice_get_read u.chunks.items (length u.chunks.items) chunk found refl within read in
+    subst (λ (x : WornUnit). IsChunkAt x chunk found) is (record {
+      there = chunk_there u.chunks.items chunk found place;
+      shape = (all_get (IsChunkIn u.shape) u.chunks.items chunk found sound.chunks place).shape;
+    })
+
+pub chunk_at : (u : Inside) (v : WornUnit) (chunk : ℕ) (found : DriveChunk) → IsSound u → worn_unit u ≡ v → chunk < length v.unit.media → found ≡ get_or u.chunks.items chunk found → IsChunkAt v chunk found
+chunk_at u v chunk found sound is within read = seen_at u v chunk found sound is (inside u v chunk is within) read
+
+-- a chunk that was looked up
+pub looked_up : (u : Inside) (v : WornUnit) (chunk : ℕ) (r : Option (Bor DriveChunk)) → IsSound u → worn_unit u ≡ v → is_some r ≡ nat_lt chunk (length u.chunks.items)
+    → IfSome r (λ x. x.now ≡ get_or u.chunks.items chunk x.now) → IfSome r (λ x. IsChunkOf v.unit chunk x.now.chunk × (x.now.shape ≡ v.unit.shape))
+looked_up u v chunk None sound is some read = tt
+looked_up u v chunk (Some x) sound is some read =
+    let at = seen_at u v chunk x.now sound is (ltb-true _ _ (sym some)) read in
+    (at.there, at.shape)
+
+pub not_there : (u : Inside) (v : WornUnit) (chunk : ℕ) → worn_unit u ≡ v → nat_lt chunk (length u.chunks.items) ≡ false → slice_get v.unit.media chunk ≡ None
+not_there u v chunk is past = subst (λ (x : WornUnit). slice_get x.unit.media chunk ≡ None) is
+    (slice_get_past (chunks_of u.chunks.items) chunk (rw (length-map u.chunks.items (λ (c : DriveChunk). c.chunk)) (ltb-false _ _ past)))
+
 -- the unit is one of its drive
 pub unit_of : (u : Inside) → IsSound u → IsUnitOf u.shape (worn_unit u)
 unit_of u sound = record {
@@ -93,3 +137,28 @@ fit u sound = record {
 pub zeros_all : (n : ℕ) → AllByRecursion (λ w. w < 256) (replicate n 0)
 zeros_all zero = tt
 zeros_all (suc n) = (lit< tt, zeros_all n)
+
+-- one more of the same
+replicate-more : {X : Type 0} (n : ℕ) (x : X) → replicate n x ++ x ∷ [] ≡ replicate (suc n) x
+replicate-more zero x = refl
+replicate-more (suc n) x = ap (λ xs. x ∷ xs) (replicate-more n x)
+
+pub one_more_same : {X : Type 0} (old new : List X) (n : ℕ) (x y : X) → old ≡ replicate n y → x ≡ y → new ≡ old ++ x ∷ [] → new ≡ replicate (n + 1) y
+one_more_same old new n x y same is added = added ∙ ap₂ (λ (xs : List _) (z : _). xs ++ z ∷ []) same is ∙ replicate-more n y ∙ ap (λ (k : ℕ). replicate k y) (sym (add-one n))
+
+pub one_more_free : (old new : List DriveChunk) (n : ℕ) (c : DriveChunk) → chunks_of old ≡ replicate n free_chunk → c.chunk ≡ free_chunk → new ≡ old ++ c ∷ [] → chunks_of new ≡ replicate (n + 1) free_chunk
+one_more_free old new n c same is added = one_more_same (chunks_of old) (chunks_of new) n c.chunk free_chunk same is (ap chunks_of added ∙ map-append (λ (x : DriveChunk). x.chunk) old (c ∷ []))
+
+pub all_more : {X : Type 0} (P : X → Type 0) (xs : List X) (x : X) → AllByRecursion P xs → P x → AllByRecursion P (xs ++ x ∷ [])
+all_more P [] x all one = (one, tt)
+all_more P (y ∷ ys) x all one = (all.0, all_more P ys x all.1 one)
+
+-- a new chunk is one of a drive of its shape
+pub new_chunk_in : (s : Shape) (c : DriveChunk) → c ≡ record { shape = s; chunk = free_chunk } → IsChunk c.shape c.chunk → IsChunkIn s c
+new_chunk_in s c is fits =
+    let same : c.shape ≡ s = ap (λ (x : DriveChunk). x.shape) is in
+    record { shape = same; fits = subst (λ (t : Shape). IsChunk t c.chunk) same fits }
+
+-- one more new chunk
+pub one_more_in : (s : Shape) (old new : List DriveChunk) (c : DriveChunk) → AllByRecursion (IsChunkIn s) old → c ≡ record { shape = s; chunk = free_chunk } → IsChunk c.shape c.chunk → new ≡ old ++ c ∷ [] → AllByRecursion (IsChunkIn s) new
+one_more_in s old new c all is fits added = subst (λ (cs : List DriveChunk). AllByRecursion (IsChunkIn s) cs) (sym added) (all_more (IsChunkIn s) old c all (new_chunk_in s c is fits))

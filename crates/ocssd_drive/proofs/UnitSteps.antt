@@ -1,6 +1,7 @@
 -- A unit's command: the fault that its journal finds, the chunk that it meets, and the event that is noted.
-use Rattle.std.proofs.Common.{◌≡◌, inl, inr, ℕ, true, List, [], ◌∷◌, ◌++◌, slice_get, slice_set, Some, None, refl, ◌∙◌}
+use Rattle.std.proofs.Common.{◌≡◌, inl, inr, ℕ, true, List, [], ◌∷◌, ◌++◌, ◌<◌, vec_len, slice_get, slice_set, Some, None, refl, ap, ◌∙◌}
 use Rattle.std.proofs.lemmas.List.{length-set, map-set}
+use Rattle.std.proofs.lemmas.Option.{slice_get_within}
 use Rattle.std.specs.Option.{IsSome}
 use Rattle.std.specs.Vec.{with_item}
 use Rattle.pblk_model.specs.declared.shape.Shape.{Shape}
@@ -10,18 +11,18 @@ use Rattle.pblk_model.specs.UnitLog.{UnitEvent, UnitOutcome, Answered, Failed, S
 use Rattle.ocssd_chunks.specs.DriveChunk.{DriveChunk}
 use Rattle.unit_port.specs.declared.armed.CommandKind.{CommandKind}
 use Rattle.unit_port.specs.declared.armed.CommandKind.TheVariants as kinds
-use Rattle.unit_port.specs.Armed.{events_since, has_stopped}
+use Rattle.unit_port.specs.Armed.{events_since, has_stopped, is_fail, is_stop}
 use Rattle.unit_port.specs.Unit.{ModelUnit, IsFitUnit, Takes, Steps}
 use Rattle.ocssd_drive.specs.declared.fault.Fault.{Fault}
 use Rattle.ocssd_drive.specs.declared.fault.Fault.TheVariants as faults
 use Rattle.ocssd_drive.specs.declared.memory_unit.MemoryUnit.TheInside.{Inside}
-use Rattle.ocssd_drive.specs.Faults.{fuse_is_at, IsOutcomeBy, fault_of, kind_of}
+use Rattle.ocssd_drive.specs.Faults.{fuse_is_at, IsOutcomeBy, fault_of, is_failing, is_stopping, kind_of}
 use Rattle.ocssd_drive.specs.Arming.{IsLoaded, finds as found_by, seat_after}
 use Rattle.ocssd_drive.specs.Planned.{IsPlanned}
 use Rattle.ocssd_drive.specs.Journal.{JournalView}
-use Rattle.ocssd_drive.specs.Units.{IsChunkIn, TakesUnder, MeetsFault}
+use Rattle.ocssd_drive.specs.Units.{WornUnit, IsChunkIn, TakesUnder, MeetsFault}
 use Rattle.ocssd_drive.specs.UnitFields.{IsSound, worn_unit}
-use Rattle.ocssd_drive.proofs.UnitChunks.{IsFound, chunks_of, all_set, chunk_there, set_again, fit}
+use Rattle.ocssd_drive.proofs.UnitChunks.{IsFound, chunks_of, chunk_within, all_set, chunk_there, set_again, fit}
 
 -- what a journal finds befalls the next command of a kind
 pub record Finds (old : JournalView) (kind : CommandKind) (fault : Fault) (new : JournalView) : Type 0 where
@@ -133,6 +134,26 @@ sound_after u chunk left next sound one = record {
 
 pub fit_with : (u : Inside) (next : JournalView) → IsSound u → IsFitUnit (after u u.chunks.items next)
 fit_with u next sound = record { count = (fit u sound).count; chunks = (fit u sound).chunks }
+
+pub sound_with : (u : Inside) (next : JournalView) → IsSound u → IsSound (record { shape = u.shape; chunks = u.chunks; wear = u.wear; journal = next })
+sound_with u next sound = record { accepted = sound.accepted; count = sound.count; chunks = sound.chunks; worn = sound.worn; worn_fits = sound.worn_fits }
+
+-- the chunk that a command names is there
+pub command_within : (u : Inside) (v : WornUnit) (chunk : ℕ) (command : ChunkCommand) → worn_unit u ≡ v → Takes v.unit chunk command → chunk < vec_len u.chunks
+command_within u v chunk command is takes = chunk_within u v chunk is (slice_get_within v.unit.media chunk takes.found takes.there)
+
+-- an outcome by a fault fails where the fault is a failure, and is stopped where it is a stop
+pub fails_by : (s : Shape) (command : ChunkCommand) (fault : Fault) (outcome : UnitOutcome) → IsOutcomeBy s command fault outcome → is_fail outcome ≡ is_failing fault
+fails_by s command faults.Nothing outcome by = ap is_fail by.1
+fails_by s command (faults.Fails cut) outcome by = ap is_fail by
+fails_by s command (faults.Stops cut) outcome by = ap is_fail by
+fails_by s command faults.Stopped outcome by = ap is_fail by
+
+pub stops_by : (s : Shape) (command : ChunkCommand) (fault : Fault) (outcome : UnitOutcome) → IsOutcomeBy s command fault outcome → is_stop outcome ≡ is_stopping fault
+stops_by s command faults.Nothing outcome by = ap is_stop by.1
+stops_by s command (faults.Fails cut) outcome by = ap is_stop by
+stops_by s command (faults.Stops cut) outcome by = ap is_stop by
+stops_by s command faults.Stopped outcome by = ap is_stop by
 
 pub fit_after : (u : Inside) (chunk : ℕ) (left : DriveChunk) (next : JournalView) → IsSound u → IsChunkIn u.shape left → IsFitUnit (after u (slice_set u.chunks.items chunk left) next)
 fit_after u chunk left next sound one = fit _ (sound_after u chunk left next sound one)

@@ -1,7 +1,7 @@
 //! What befalls a command.
 
 /// What befalls a unit's next command.
-#[derive(Clone, Copy, Debug, PartialEq, Eq)]
+#[derive(Clone, Copy)]
 pub(crate) enum Fault {
     /// Nothing: it is done.
     Nothing,

@@ -5,7 +5,7 @@ use pblk_model::{Got, Mark, Shows, UnitEvent};
 use unit_port::{Armed, FaultPlan, Fuse, Log, UnitErr};
 
 /// What became of a program or a reset, with the multiples of WS_MIN that had landed where it wasn't done.
-#[derive(Clone, Copy, Debug, PartialEq, Eq)]
+#[derive(Clone, Copy)]
 pub(crate) enum Landed {
     Done,
     Failed(u32),

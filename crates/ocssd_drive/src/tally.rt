@@ -12,7 +12,7 @@ use std::marker::Model;
 use unit_port::{CommandKind, FaultPlan};
 
 /// A fault that is to fall on the nth command of a kind, counted from 1.
-#[derive(Clone, Copy, Debug, PartialEq, Eq)]
+#[derive(Clone, Copy)]
 pub(crate) struct Fall {
     pub(crate) nth: u32,
     pub(crate) cut: u32,
@@ -22,7 +22,7 @@ pub(crate) struct Fall {
 /// ones.
 ///
 /// What a command costs here doesn't grow with the plans: the next fault stands last.
-#[derive(Debug, Drop)]
+#[derive(Drop)]
 pub(crate) struct Tally {
     count: u64,
     falls: Vec<Fall>,

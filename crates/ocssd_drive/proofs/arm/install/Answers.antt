@@ -29,3 +29,7 @@ loop-arming-preserved c =
 
 pub returns : goal.returns
 returns c = all_installed c.args.plans.now c.args.fuse c.args.armings.items c.loop-arming.armings.items c.args.units.now c.loop-arming.units c.loop-arming.invariant (search rules)
+
+pub bounds-units-at : goal.bounds-units-at
+bounds-units-at c =
+    installed_within c.args.plans.now c.args.fuse c.args.armings.items c.loop-arming.armings.items c.pop.new.self.items c.args.units.now c.loop-arming.units c.in-Some.arming c.len-at.result c.loop-arming.invariant c.in-Some.ensures.items (c.len-at.ensures ∙ c.pop.new.self.ok.0) c.requires.count c.loop-arming.auto.units

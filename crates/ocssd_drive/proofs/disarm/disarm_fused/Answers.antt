@@ -1,7 +1,8 @@
-use Rattle.std.proofs.Common.{subst, arith}
+use Rattle.std.proofs.Common.{◌<◌, ℕ, sym, subst, arith}
 use Rattle.std.proofs.lemmas.List.{length-set}
+use Rattle.std.proofs.lemmas.Option.{slice_get_within}
 use Rattle.ocssd_drive.specs.Journal.{SeatTells}
-use Rattle.ocssd_drive.proofs.Fusing.{join_more, skip_first, word_there, fused_there, other_there, all_joined, all_joined_calm, stopped_by_fuse, fused_first}
+use Rattle.ocssd_drive.proofs.Fusing.{join_more, skip_first, word_there, fused_there, other_there, all_joined, all_joined_calm, stopped_by_fuse, fused_first, keeper_there}
 use Rattle.ocssd_drive.proofs.disarm.disarm_fused.Goals as goal
 use Rattle.ocssd_drive.proofs.disarm.disarm_fused.Goals.{then-i-at, else-i-at}
 
@@ -31,3 +32,12 @@ returns-clause-stopped c = stopped_by_fuse c.args.units.now c.args.at c.loop-i.i
 
 pub returns-clause-calm : goal.returns-clause-calm
 returns-clause-calm c = all_joined_calm c.args.units.now c.args.at c.loop-i.i c.in-Some.keeper c.loop-i.units c.loop-i.keeper c.loop-i.invariant (omega (arith, length-set c.args.units.now c.args.at c.disarm.new.self))
+
+pub bounds-units-at : goal.bounds-units-at
+bounds-units-at c = slice_get_within c.args.units.now c.args.at c.requires.there.0 c.requires.there.1
+
+pub unreachable-requires : goal.unreachable-requires
+unreachable-requires c = keeper_there c.args.units.now c.args.at c.index-units-at.result c.disarm.result c.requires.there c.in_default.is c.disarm.ensures.seat
+
+pub bounds-units-i : goal.bounds-units-i
+bounds-units-i c = subst (λ (n : ℕ). c.loop-i.i < n) (sym c.loop-i.auto.units) c.loop-i-test.true

@@ -1,6 +1,6 @@
 use Rattle.std.specs.Option.{is_some}
-use Rattle.std.proofs.Common.{◌≡◌, ◌∙◌, ap, length}
-use Rattle.ocssd_drive.specs.Drive.{DriveView, armed_units, fitting_fuse, with_units}
+use Rattle.std.proofs.Common.{◌≡◌, ◌∙◌, ap, sym, length}
+use Rattle.ocssd_drive.specs.Drive.{DriveView, armed_units, fitting_fuse, shape_of, with_units}
 use Rattle.ocssd_drive.specs.DriveFields.{drive_view}
 use Rattle.ocssd_drive.proofs.Drives.{armed_together, length-armed, shapes_armed, whole_with, written_over, fits_again}
 use Rattle.ocssd_drive.proofs.drive.Drive.arm.Goals as goal
@@ -39,3 +39,18 @@ returns-clause-together c =
 
 pub returns-clause-whole : goal.returns-clause-whole
 returns-clause-whole c = invariant_of-self c
+
+pub make_armings-requires : goal.make_armings-requires
+make_armings-requires c = fits_again c.len-2.result c.args.fuse c.fitting-fuse.result (c.fitting-fuse.ensures ∙ ap (λ n. fitting_fuse n c.args.fuse) (c.len.ensures ∙ sym c.len-2.ensures))
+
+pub install-requires-clause-count : goal.install-requires-clause-count
+install-requires-clause-count c = c.in_ok-armings.ensures.count ∙ c.len-2.ensures ∙ sym c.deref_mut.ensures.len
+
+pub install-requires-clause-each : goal.install-requires-clause-each
+install-requires-clause-each c = c.in_ok-armings.ensures.each
+
+pub returns-clause-refused : goal.returns-clause-refused
+returns-clause-refused c = tt
+
+pub returns-clause-numbers : goal.returns-clause-numbers
+returns-clause-numbers c = ap shape_of c.self.view_is

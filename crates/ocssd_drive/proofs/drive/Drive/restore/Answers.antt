@@ -1,6 +1,9 @@
 use Rattle.std.proofs.Common.{◌∙◌, ap}
 use Rattle.ocssd_drive.specs.Drive.{DriveView, stored}
 use Rattle.ocssd_drive.specs.DriveFields.{drive_view}
+use Rattle.ocssd_drive.specs.Drive.{shape_of}
+use Rattle.ocssd_drive.specs.Units.{WornUnit}
+use Rattle.ocssd_drive.proofs.Drives.{unit_within, whole_again}
 use Rattle.ocssd_drive.proofs.Restoring.{IsUnitAt, unit_at, restored_by, stored-restored}
 use Rattle.ocssd_drive.proofs.drive.Drive.restore.Goals as goal
 use Rattle.ocssd_drive.proofs.drive.Drive.restore.Goals.{After-index_mut-found}
@@ -31,3 +34,15 @@ returns-clause-stored c =
     let at = found (goal.at.returns-clause-stored c).After-index_mut-found in
     let d : DriveView = drive_view c.self.inside in
     rw (← c.self.view_is) (ap stored (restored_by d c.args.unit c.args.chunk c.args.state c.args.bytes.now c.args.marks.now c.args.wear _ _ at c.restore.ensures.restored) ∙ stored-restored d c.args.unit c.args.chunk _ _ at.there)
+
+pub index_mut-found-requires : goal.index_mut-found-requires
+index_mut-found-requires c = unit_within c.self.inside c.args.self.now c.args.unit c.self.invariant c.self.view_is c.requires.unit
+
+pub invariant_of-self : goal.invariant_of-self
+invariant_of-self c = whole_again (drive_view c.self.inside) c.args.unit _ _ c.self.invariant (found (goal.at.invariant_of-self c).After-index_mut-found) c.restore.ensures.fits (ap (λ (u : WornUnit). u.unit.shape) c.restore.ensures.restored)
+
+pub returns-clause-numbers : goal.returns-clause-numbers
+returns-clause-numbers c = ap shape_of c.self.view_is
+
+pub returns-clause-whole : goal.returns-clause-whole
+returns-clause-whole c = invariant_of-self c

@@ -1,6 +1,9 @@
 use Rattle.std.proofs.Common.{◌∙◌, ap}
 use Rattle.ocssd_drive.specs.Drive.{DriveView, stored}
 use Rattle.ocssd_drive.specs.DriveFields.{drive_view}
+use Rattle.ocssd_drive.specs.Drive.{shape_of}
+use Rattle.ocssd_drive.specs.Units.{WornUnit}
+use Rattle.ocssd_drive.proofs.Drives.{unit_within, whole_again}
 use Rattle.ocssd_drive.proofs.Restoring.{IsUnitAt, unit_at, restored_is, stored-restored}
 use Rattle.ocssd_drive.proofs.drive.Drive.restore_spelled.Goals as goal
 use Rattle.ocssd_drive.proofs.drive.Drive.restore_spelled.Goals.{After-index_mut-found}
@@ -33,3 +36,15 @@ returns-clause-restored c =
       is = restored_is d c.args.unit c.args.chunk _ _ _ at.there r.is;
       kept = ap stored (restored_is d c.args.unit c.args.chunk _ _ _ at.there r.is) ∙ stored-restored d c.args.unit c.args.chunk _ _ at.there;
     })
+
+pub index_mut-found-requires : goal.index_mut-found-requires
+index_mut-found-requires c = unit_within c.self.inside c.args.self.now c.args.unit c.self.invariant c.self.view_is c.requires.unit
+
+pub invariant_of-self : goal.invariant_of-self
+invariant_of-self c = whole_again (drive_view c.self.inside) c.args.unit _ _ c.self.invariant (found (goal.at.invariant_of-self c).After-index_mut-found) c.restore_spelled.ensures.fits (ap (λ (u : WornUnit). u.unit.shape) c.restore_spelled.ensures.restored.is)
+
+pub returns-clause-numbers : goal.returns-clause-numbers
+returns-clause-numbers c = ap shape_of c.self.view_is
+
+pub returns-clause-whole : goal.returns-clause-whole
+returns-clause-whole c = invariant_of-self c

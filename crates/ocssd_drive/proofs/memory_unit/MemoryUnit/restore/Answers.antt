@@ -1,7 +1,7 @@
 use Rattle.std.proofs.Common.{◌<◌, refl, ◌∙◌, arith}
 use Rattle.std.proofs.lemmas.List.{length-set, map-set}
 use Rattle.ocssd_drive.specs.Units.{IsChunkIn}
-use Rattle.ocssd_drive.proofs.UnitChunks.{IsAt, all_set, at_place, unit_of}
+use Rattle.ocssd_drive.proofs.UnitChunks.{IsAt, all_set, at_place, chunk_within, unit_of, wear_within}
 use Rattle.ocssd_drive.proofs.memory_unit.MemoryUnit.restore.Goals as goal
 use Rattle.ocssd_drive.proofs.memory_unit.MemoryUnit.restore.Goals.{After-index_mut-found}
 
@@ -41,3 +41,9 @@ returns-clause-restored c =
 
 pub returns-clause-fits : goal.returns-clause-fits
 returns-clause-fits c = unit_of _ (invariant_of-self c)
+
+pub index_mut-requires : goal.index_mut-requires
+index_mut-requires c = wear_within c.self.inside c.args.self.now c.args.chunk c.self.view_is c.requires.chunk c.self.invariant
+
+pub index_mut-found-requires : goal.index_mut-found-requires
+index_mut-found-requires c = chunk_within c.self.inside c.args.self.now c.args.chunk c.self.view_is c.requires.chunk

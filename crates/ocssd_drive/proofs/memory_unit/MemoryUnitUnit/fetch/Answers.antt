@@ -1,3 +1,5 @@
+use Rattle.std.proofs.Common.{refl, ap}
+use Rattle.ocssd_drive.specs.Units.{WornUnit}
 use Rattle.pblk_model.specs.ChunkStep.{Read}
 use Rattle.unit_port.specs.declared.armed.CommandKind.TheVariants as kinds
 use Rattle.unit_port.specs.Armed.{IsUnarmed}
@@ -7,7 +9,7 @@ use Rattle.ocssd_drive.specs.Shown.{fetch_outcome}
 use Rattle.ocssd_drive.specs.Units.{MeetsFault}
 use Rattle.ocssd_drive.specs.UnitFields.{worn_unit}
 use Rattle.ocssd_drive.proofs.UnitChunks.{IsFound, found_of}
-use Rattle.ocssd_drive.proofs.UnitSteps.{Finds, finds, met_in, takes_under, planned, steps_reading, fit_with}
+use Rattle.ocssd_drive.proofs.UnitSteps.{command_within, fails_by, stops_by, sound_with, Finds, finds, met_in, takes_under, planned, steps_reading, fit_with}
 use Rattle.ocssd_drive.proofs.memory_unit.MemoryUnitUnit.fetch.Goals as goal
 use Rattle.ocssd_drive.proofs.memory_unit.MemoryUnitUnit.fetch.Goals.{After-index-found, After-note}
 
@@ -61,3 +63,30 @@ returns-clause-quiet c = λ unarmed.
     let h = (goal.at.returns-clause-quiet c).After-index-found in
     let un : IsUnarmed c.self.inside.journal.armed = rw (← c.self.view_is) at unarmed in
     got_by c.self.inside.shape (Read c.args.block) c.fault-fault.result c.read_chunk-got.new.out c.read_chunk-got.result (befalls_nothing c.self.inside.journal kinds.Fetch c.fault-fault.result c.fault-fault.new.self (befalls h) un) (met c).by
+
+pub index-found-requires : goal.index-found-requires
+index-found-requires c = command_within c.self.inside c.args.self.now c.args.chunk _ c.self.view_is c.requires.taken
+
+pub note-requires-clause-kind : goal.note-requires-clause-kind
+note-requires-clause-kind c = refl
+
+pub note-requires-clause-fault : goal.note-requires-clause-fault
+note-requires-clause-fault c = c.fault-fault.ensures.fault
+
+pub note-requires-clause-fails : goal.note-requires-clause-fails
+note-requires-clause-fails c = fails_by c.index-found.result.now.shape (Read c.args.block) _ _ c.read_chunk-got.ensures.met.by
+
+pub note-requires-clause-stops : goal.note-requires-clause-stops
+note-requires-clause-stops c = stops_by c.index-found.result.now.shape (Read c.args.block) _ _ c.read_chunk-got.ensures.met.by
+
+pub returns-clause-calm : goal.returns-clause-calm
+returns-clause-calm c = c.note.ensures.calm
+
+pub returns-clause-wear : goal.returns-clause-wear
+returns-clause-wear c = ap (λ (v : WornUnit). v.wear) c.self.view_is
+
+pub invariant_of-self : goal.invariant_of-self
+invariant_of-self c = sound_with c.self.inside c.note.new.self c.self.invariant
+
+pub returns-clause-media : goal.returns-clause-media
+returns-clause-media c = ap (λ (v : WornUnit). v.unit.media) c.self.view_is

@@ -1,3 +1,5 @@
+use Rattle.std.proofs.Common.{◌≡◌, ◌*◌, length, refl, sym, ap, subst}
+use Rattle.ocssd_drive.specs.Units.{WornUnit}
 use Rattle.pblk_model.specs.Blocks.{blocks_of}
 use Rattle.pblk_model.specs.ChunkStep.{ChunkCommand, Write}
 use Rattle.unit_port.specs.declared.armed.CommandKind.TheVariants as kinds
@@ -7,7 +9,7 @@ use Rattle.unit_port.specs.Unit.{Takes}
 use Rattle.ocssd_drive.specs.Shown.{outcome_of}
 use Rattle.ocssd_drive.specs.UnitFields.{worn_unit}
 use Rattle.ocssd_drive.proofs.UnitChunks.{IsFound, found_of}
-use Rattle.ocssd_drive.proofs.UnitSteps.{Finds, finds, takes_under, planned, steps, fit_after}
+use Rattle.ocssd_drive.proofs.UnitSteps.{command_within, fails_by, stops_by, sound_after, Finds, finds, takes_under, planned, steps, fit_after}
 use Rattle.ocssd_drive.proofs.memory_unit.MemoryUnitUnit.program.Goals as goal
 use Rattle.ocssd_drive.proofs.memory_unit.MemoryUnitUnit.program.Goals.{After-index_mut-found}
 
@@ -54,3 +56,33 @@ returns-clause-quiet c = λ unarmed.
     let h = (goal.at.returns-clause-quiet c).After-index_mut-found in
     let un : IsUnarmed c.self.inside.journal.armed = rw (← c.self.view_is) at unarmed in
     done_by c.self.inside.shape (command h) c.fault-fault.result (outcome_of c.write_chunk-landed.result) c.result_of.result (befalls_nothing c.self.inside.journal kinds.Program c.fault-fault.result c.fault-fault.new.self (befalls h) un) c.write_chunk-landed.ensures.by c.result_of.ensures
+
+pub index_mut-found-requires : goal.index_mut-found-requires
+index_mut-found-requires c = command_within c.self.inside c.args.self.now c.args.chunk _ c.self.view_is c.requires.taken
+
+pub note-requires-clause-kind : goal.note-requires-clause-kind
+note-requires-clause-kind c = refl
+
+pub note-requires-clause-fault : goal.note-requires-clause-fault
+note-requires-clause-fault c = c.fault-fault.ensures.fault
+
+pub note-requires-clause-fails : goal.note-requires-clause-fails
+note-requires-clause-fails c = fails_by c.self.inside.shape (Write c.args.at (blocks_of c.self.inside.shape.sector c.args.bytes.now c.args.marks.now)) _ _ c.write_chunk-landed.ensures.by
+
+pub note-requires-clause-stops : goal.note-requires-clause-stops
+note-requires-clause-stops c = stops_by c.self.inside.shape (Write c.args.at (blocks_of c.self.inside.shape.sector c.args.bytes.now c.args.marks.now)) _ _ c.write_chunk-landed.ensures.by
+
+pub returns-clause-calm : goal.returns-clause-calm
+returns-clause-calm c = c.note.ensures.calm
+
+pub returns-clause-wear : goal.returns-clause-wear
+returns-clause-wear c = ap (λ (v : WornUnit). v.wear) c.self.view_is
+
+pub invariant_of-self : goal.invariant_of-self
+invariant_of-self c = sound_after c.self.inside c.args.chunk c.write_chunk-landed.new.chunk c.note.new.self c.self.invariant c.write_chunk-landed.ensures.fits
+
+pub are_blocks-requires : goal.are_blocks-requires
+are_blocks-requires c = subst (λ (v : WornUnit). length c.args.bytes.now ≡ length c.args.marks.now * v.unit.shape.sector) (sym c.self.view_is) c.requires.whole
+
+pub write_chunk-landed-requires-clause-whole : goal.write_chunk-landed-requires-clause-whole
+write_chunk-landed-requires-clause-whole c = subst (λ (v : WornUnit). length c.args.bytes.now ≡ length c.args.marks.now * v.unit.shape.sector) (sym c.self.view_is) c.requires.whole

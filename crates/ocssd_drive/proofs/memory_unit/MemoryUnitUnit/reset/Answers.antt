@@ -1,3 +1,5 @@
+use Rattle.std.proofs.Common.{refl, ap}
+use Rattle.ocssd_drive.specs.Units.{WornUnit}
 use Rattle.pblk_model.specs.ChunkStep.{Reset}
 use Rattle.unit_port.specs.declared.armed.CommandKind.TheVariants as kinds
 use Rattle.unit_port.specs.Armed.{IsUnarmed}
@@ -7,7 +9,7 @@ use Rattle.ocssd_drive.specs.Shown.{outcome_of}
 use Rattle.ocssd_drive.specs.Units.{MeetsFault}
 use Rattle.ocssd_drive.specs.UnitFields.{worn_unit}
 use Rattle.ocssd_drive.proofs.UnitChunks.{IsFound, found_of}
-use Rattle.ocssd_drive.proofs.UnitSteps.{Finds, finds, takes_under, planned, steps, fit_after, sound_after, met_in}
+use Rattle.ocssd_drive.proofs.UnitSteps.{command_within, fails_by, stops_by, Finds, finds, takes_under, planned, steps, fit_after, sound_after, met_in}
 use Rattle.ocssd_drive.proofs.memory_unit.MemoryUnitUnit.reset.Goals as goal
 use Rattle.ocssd_drive.proofs.memory_unit.MemoryUnitUnit.reset.Goals.{After-index_mut-found, After-result_of}
 
@@ -55,3 +57,24 @@ returns-clause-quiet c = λ unarmed.
     let h = (goal.at.returns-clause-quiet c).After-index_mut-found in
     let un : IsUnarmed c.self.inside.journal.armed = rw (← c.self.view_is) at unarmed in
     done_by c.self.inside.shape (Reset) c.fault-fault.result (outcome_of c.reset_chunk-landed.result) c.result_of.result (befalls_nothing c.self.inside.journal kinds.Reset c.fault-fault.result c.fault-fault.new.self (befalls h) un) (met c).by c.result_of.ensures
+
+pub index_mut-found-requires : goal.index_mut-found-requires
+index_mut-found-requires c = command_within c.self.inside c.args.self.now c.args.chunk _ c.self.view_is c.requires
+
+pub note-requires-clause-kind : goal.note-requires-clause-kind
+note-requires-clause-kind c = refl
+
+pub note-requires-clause-fault : goal.note-requires-clause-fault
+note-requires-clause-fault c = c.fault-fault.ensures.fault
+
+pub note-requires-clause-fails : goal.note-requires-clause-fails
+note-requires-clause-fails c = fails_by c.index_mut-found.result.now.shape Reset _ _ c.reset_chunk-landed.ensures.by
+
+pub note-requires-clause-stops : goal.note-requires-clause-stops
+note-requires-clause-stops c = stops_by c.index_mut-found.result.now.shape Reset _ _ c.reset_chunk-landed.ensures.by
+
+pub returns-clause-calm : goal.returns-clause-calm
+returns-clause-calm c = c.note.ensures.calm
+
+pub returns-clause-wear : goal.returns-clause-wear
+returns-clause-wear c = ap (λ (v : WornUnit). v.wear) c.self.view_is
