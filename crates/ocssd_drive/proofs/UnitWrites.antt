@@ -32,14 +32,21 @@ pub write_of : (s : Shape) (c : Chunk) (at : ℕ) (bytes : List ℕ) (marks : Li
 write_of s c at bytes marks r = rw (← length-blocks_of s.sector bytes marks) (write_in s c.state (pointer c) at (length (blocks_of s.sector bytes marks)) r)
 
 -- n multiples of m blocks each; fewer multiples are fewer blocks
-pub fewer : (n m k count : ℕ) → n * m ≡ count → 0 < count → 0 < n → k ≤ n - 1 → k * m < count
+fewer : (n m k count : ℕ) → n * m ≡ count → 0 < count → 0 < n → k ≤ n - 1 → k * m < count
 fewer n zero k count whole some positive few = absurd (omega arith)
 fewer n (suc m) k count whole some positive few =
     let below : k < n = omega arith in
     rw (← whole) (mul-lt-mul_of_pos_right below (omega arith))
 
-pub no_more : (n m k count : ℕ) → n * m ≡ count → k ≤ n → k * m ≤ count
+no_more : (n m k count : ℕ) → n * m ≡ count → k ≤ n → k * m ≤ count
 no_more n m k count whole few = omega (arith, mul-le-mul_right m few)
+
+-- so many multiples land of a program that fails, and of one within which the drive stops
+pub fewer_land : (n m cut k count : ℕ) → n * m ≡ count → 0 < count → 0 < n → k ≡ min cut (n - 1) → k * m < count
+fewer_land n m cut k count whole some positive least = fewer n m k count whole some positive (omega arith)
+
+pub most_land : (n m cut k count : ℕ) → n * m ≡ count → k ≡ min cut n → k * m ≤ count
+most_land n m cut k count whole least = no_more n m k count whole (omega arith)
 
 -- the multiples of a program that fails, and of one within which the drive stops
 pub fails : (s : Shape) (found left : DriveChunk) (at cut n k : ℕ) (blocks : List Block) → refusal s found.chunk (Write at blocks) ≡ None → n ≡ length blocks / s.ws_min → k ≡ min cut (n - 1) → k * s.ws_min < length blocks → left.chunk ≡ closed_after s found.chunk blocks k → IsChunkIn s left
