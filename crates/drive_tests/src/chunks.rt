@@ -9,7 +9,7 @@ use std::test::Fail;
 
 // What is asked of a chunk. A write has the blocks from a number to before another, at their places; those
 // that fail or are cut off begin at block 0, and have a number of blocks and of multiples that land.
-#[derive(Drop)]
+#[derive(Clone, Copy)]
 enum Asked {
     Write(usize, usize),
     Read(u32),
@@ -24,7 +24,7 @@ enum Asked {
 }
 
 // What it told. A block is known by its number, which is in its mark and fills its sector.
-#[derive(PartialEq, Eq, Drop)]
+#[derive(Clone, Copy, PartialEq, Eq)]
 enum Told {
     Done,
     Refused(ChunkErr),
@@ -194,69 +194,79 @@ const FREE: Told = Told::Is(ChunkState::Free, 0);
 
 const OFFLINE: Told = Told::Is(ChunkState::Offline, 0);
 
+// Writes, reads and resets of a chunk, in turn.
+static CALLS: [(Asked, Told); 23] = [
+    (Asked::Write(0, 0), Told::Refused(ChunkErr::NotMultiple)),
+    (Asked::Write(0, 3), Told::Refused(ChunkErr::NotMultiple)),
+    (Asked::Write(2, 6), Told::Refused(ChunkErr::NotAtPointer)),
+    (Asked::Write(0, 4), Told::Done),
+    (Asked::Read(0), Told::Empty),
+    (Asked::Write(4, 12), Told::Done),
+    (Asked::Read(3), Told::Block(3)),
+    (Asked::Read(4), Told::Empty),
+    (Asked::Write(12, 26), Told::Refused(ChunkErr::PastEnd)),
+    (Asked::State, Told::Is(ChunkState::Open, 12)),
+    (Asked::Written(11), Told::Block(11)),
+    (Asked::Reset, Told::Done),
+    (Asked::State, FREE),
+    (Asked::Written(0), Told::Empty),
+    (Asked::Reset, Told::Refused(ChunkErr::NotResettable)),
+    (Asked::Write(0, 24), Told::Done),
+    (Asked::State, Told::Is(ChunkState::Closed, 24)),
+    (Asked::Read(23), Told::Block(23)),
+    (Asked::Read(24), Told::Refused(ChunkErr::PastEnd)),
+    (Asked::Written(23), Told::Block(23)),
+    (Asked::Write(24, 26), Told::Refused(ChunkErr::Closed)),
+    (Asked::Reset, Told::Done),
+    (Asked::State, FREE),
+];
+
 #[test]
 fn chunk_calls(rt: HostRuntime) -> Result<(), Fail> {
-    let rows = [
-        (Asked::Write(0, 0), Told::Refused(ChunkErr::NotMultiple)),
-        (Asked::Write(0, 3), Told::Refused(ChunkErr::NotMultiple)),
-        (Asked::Write(2, 6), Told::Refused(ChunkErr::NotAtPointer)),
-        (Asked::Write(0, 4), Told::Done),
-        (Asked::Read(0), Told::Empty),
-        (Asked::Write(4, 12), Told::Done),
-        (Asked::Read(3), Told::Block(3)),
-        (Asked::Read(4), Told::Empty),
-        (Asked::Write(12, 26), Told::Refused(ChunkErr::PastEnd)),
-        (Asked::State, Told::Is(ChunkState::Open, 12)),
-        (Asked::Written(11), Told::Block(11)),
-        (Asked::Reset, Told::Done),
-        (Asked::State, FREE),
-        (Asked::Written(0), Told::Empty),
-        (Asked::Reset, Told::Refused(ChunkErr::NotResettable)),
-        (Asked::Write(0, 24), Told::Done),
-        (Asked::State, Told::Is(ChunkState::Closed, 24)),
-        (Asked::Read(23), Told::Block(23)),
-        (Asked::Read(24), Told::Refused(ChunkErr::PastEnd)),
-        (Asked::Written(23), Told::Block(23)),
-        (Asked::Write(24, 26), Told::Refused(ChunkErr::Closed)),
-        (Asked::Reset, Told::Done),
-        (Asked::State, FREE),
-    ];
-    walk(&rt, Chunk::new(rt.alloc(), &Shape::small())?, &rows);
+    walk(&rt, Chunk::new(rt.alloc(), &Shape::small())?, &CALLS);
     Ok(())
 }
 
+// A failed write costs the chunk, and so does a failed reset. What is cut off is done or not.
+static FAULTS: [(Asked, Told); 20] = [
+    (Asked::CutWrite(4, 0), Told::Done),
+    (Asked::State, FREE),
+    (Asked::CutWrite(4, 1), Told::Done),
+    (Asked::State, Told::Is(ChunkState::Open, 2)),
+    (Asked::CutReset(false), Told::Done),
+    (Asked::State, Told::Is(ChunkState::Open, 2)),
+    (Asked::CutReset(true), Told::Done),
+    (Asked::State, FREE),
+    (Asked::FailWrite(4, 1), Told::Done),
+    (Asked::State, Told::Is(ChunkState::Closed, 2)),
+    (Asked::Reset, Told::Done),
+    (Asked::State, OFFLINE),
+    (Asked::Reset, Told::Refused(ChunkErr::NotResettable)),
+    (Asked::Restore(8), Told::Done),
+    (Asked::State, Told::Is(ChunkState::Closed, 8)),
+    (Asked::Read(7), Told::Block(7)),
+    (Asked::FailReset, Told::Done),
+    (Asked::State, OFFLINE),
+    (Asked::Write(0, 2), Told::Refused(ChunkErr::Offline)),
+    (Asked::Read(0), Told::Refused(ChunkErr::Offline)),
+];
+
 #[test]
 fn faults_and_cuts_leave_what_they_should(rt: HostRuntime) -> Result<(), Fail> {
-    // A failed write costs the chunk, and so does a failed reset. What is cut off is done or not.
-    let rows = [
-        (Asked::CutWrite(4, 0), Told::Done),
-        (Asked::State, FREE),
-        (Asked::CutWrite(4, 1), Told::Done),
-        (Asked::State, Told::Is(ChunkState::Open, 2)),
-        (Asked::CutReset(false), Told::Done),
-        (Asked::State, Told::Is(ChunkState::Open, 2)),
-        (Asked::CutReset(true), Told::Done),
-        (Asked::State, FREE),
-        (Asked::FailWrite(4, 1), Told::Done),
-        (Asked::State, Told::Is(ChunkState::Closed, 2)),
-        (Asked::Reset, Told::Done),
-        (Asked::State, OFFLINE),
-        (Asked::Reset, Told::Refused(ChunkErr::NotResettable)),
-        (Asked::Restore(8), Told::Done),
-        (Asked::State, Told::Is(ChunkState::Closed, 8)),
-        (Asked::Read(7), Told::Block(7)),
-        (Asked::FailReset, Told::Done),
-        (Asked::State, OFFLINE),
-        (Asked::Write(0, 2), Told::Refused(ChunkErr::Offline)),
-        (Asked::Read(0), Told::Refused(ChunkErr::Offline)),
-    ];
-    walk(&rt, Chunk::new(rt.alloc(), &Shape::small())?, &rows);
+    walk(&rt, Chunk::new(rt.alloc(), &Shape::small())?, &FAULTS);
     Ok(())
 }
 
 // The descriptor of a chunk of the small drive without blocks, whose block 0 has the address 0.
 const BLANK: [u8; 32] = [
     1, 1, 0, 0, 0, 0, 0, 0, 0, 0, 0, 0, 0, 0, 0, 0, 24, 0, 0, 0, 0, 0, 0, 0, 0, 0, 0, 0, 0, 0, 0, 0,
+];
+
+// Bytes 0, 1 and 24 of a descriptor that is refused, and what for.
+static REFUSED: [((u8, u8, u8), DescriptorErr); 3] = [
+    ((3, 2, 2), DescriptorErr::State),
+    ((1, 2, 2), DescriptorErr::Kind),
+    ((1, 1, 2), DescriptorErr::Pointer),
 ];
 
 #[test]
@@ -272,17 +282,12 @@ fn descriptors_are_refused_in_order(rt: HostRuntime) {
     blank.write(&mut out);
     assert!(rt; out == BLANK);
     assert!(rt; read_descriptor(&BLANK) == Ok(blank));
-    let rows = [
-        ((3, 2, 2), DescriptorErr::State),
-        ((1, 2, 2), DescriptorErr::Kind),
-        ((1, 1, 2), DescriptorErr::Pointer),
-    ];
-    for ((state, kind, pointer), refusal) in rows {
+    for ((state, kind, pointer), refusal) in &REFUSED {
         let mut bytes = BLANK;
-        bytes[0] = state;
-        bytes[1] = kind;
-        bytes[24] = pointer;
-        assert!(rt; read_descriptor(&bytes) == Err(refusal));
+        bytes[0] = *state;
+        bytes[1] = *kind;
+        bytes[24] = *pointer;
+        assert!(rt; read_descriptor(&bytes) == Err(*refusal));
         assert!(rt; read_descriptor(&bytes[..31]) == Err(DescriptorErr::Length));
     }
 }

@@ -10,14 +10,14 @@ use std::test::Fail;
 use std::thread;
 use unit_port::{Armed, Log};
 
-const MARKS: [Mark; 4] = [Mark {
+static MARKS: [Mark; 4] = [Mark {
     lba: 3,
     position: 9,
 }; 4];
 
 // What is asked of a unit, chunk by chunk: a program of four blocks from a block on, a fetch of a block, a
 // reset, a chunk's state, and how many events the log has.
-#[derive(Drop)]
+#[derive(Clone, Copy)]
 enum Asked {
     Program(u32, u32),
     Fetch(u32, u32),
@@ -27,7 +27,7 @@ enum Asked {
 }
 
 // What it told. A fetch gives the first byte of the buffer, which is 99 before.
-#[derive(PartialEq, Eq, Drop)]
+#[derive(Clone, Copy, PartialEq, Eq)]
 enum Told {
     Refused,
     Done,
@@ -125,31 +125,62 @@ fn walk(rt: &impl Abort, mut units: Vec<MemoryUnit>, rows: &[(usize, Asked, Told
 // A fuse for a unit that the drive doesn't have.
 const NO_FUSE: (u32, u32, u32) = (2, 1, 0);
 
+// A fuse that falls at the first command of unit 1.
+static FUSED: [(usize, Asked, Told); 7] = [
+    (1, Asked::Program(0, 0), Told::Stopped),
+    (1, Asked::State(0), Told::Is(ChunkState::Open, 2)),
+    (1, Asked::Events, Told::Count(1)),
+    (0, Asked::Fetch(0, 0), Told::Stopped),
+    (0, Asked::Events, Told::Count(1)),
+    (1, Asked::Reset(0), Told::Stopped),
+    (1, Asked::State(0), Told::Is(ChunkState::Open, 2)),
+];
+
+// No command has the number 0, and a drive that is disarmed has no fuse.
+static UNFUSED: [(usize, Asked, Told); 4] = [
+    (0, Asked::Program(0, 0), Told::Done),
+    (1, Asked::Program(0, 0), Told::Done),
+    (1, Asked::Reset(8), Told::Refused),
+    (1, Asked::Reset(1), Told::Refused),
+];
+
 #[test]
 fn the_fuse_stops_the_whole_drive(rt: HostRuntime) -> Result<(), Fail> {
     let units = armed(rt.alloc(), &[], (1, 1, 1), true)?;
-    let rows = [
-        (1, Asked::Program(0, 0), Told::Stopped),
-        (1, Asked::State(0), Told::Is(ChunkState::Open, 2)),
-        (1, Asked::Events, Told::Count(1)),
-        (0, Asked::Fetch(0, 0), Told::Stopped),
-        (0, Asked::Events, Told::Count(1)),
-        (1, Asked::Reset(0), Told::Stopped),
-        (1, Asked::State(0), Told::Is(ChunkState::Open, 2)),
-    ];
-    walk(&rt, units, &rows);
-    // No command has the number 0, and a drive that is disarmed has no fuse.
-    let rows = [
-        (0, Asked::Program(0, 0), Told::Done),
-        (1, Asked::Program(0, 0), Told::Done),
-        (1, Asked::Reset(8), Told::Refused),
-        (1, Asked::Reset(1), Told::Refused),
-    ];
-    walk(&rt, armed(rt.alloc(), &[], NO_FUSE, true)?, &rows);
-    walk(&rt, armed(rt.alloc(), &[], (0, 0, 0), true)?, &rows);
-    walk(&rt, armed(rt.alloc(), &[], (0, 1, 0), false)?, &rows);
+    walk(&rt, units, &FUSED);
+    walk(&rt, armed(rt.alloc(), &[], NO_FUSE, true)?, &UNFUSED);
+    walk(&rt, armed(rt.alloc(), &[], (0, 0, 0), true)?, &UNFUSED);
+    walk(&rt, armed(rt.alloc(), &[], (0, 1, 0), false)?, &UNFUSED);
     Ok(())
 }
+
+// What the plans below make of the commands of unit 0, and not of unit 1.
+static PLANNED: [(usize, Asked, Told); 14] = [
+    (0, Asked::Program(0, 0), Told::Done),
+    (0, Asked::Program(0, 4), Told::Failed),
+    (0, Asked::State(0), Told::Is(ChunkState::Closed, 6)),
+    (0, Asked::Program(1, 0), Told::Failed),
+    (0, Asked::State(1), Told::Is(ChunkState::Closed, 2)),
+    (0, Asked::Fetch(0, 1), Told::Sector(7)),
+    (0, Asked::Fetch(0, 1), Told::Failed),
+    (0, Asked::Fetch(0, 1), Told::Sector(7)),
+    (0, Asked::Reset(0), Told::Failed),
+    (0, Asked::State(0), Told::Is(ChunkState::Offline, 0)),
+    (0, Asked::Reset(1), Told::Done),
+    (0, Asked::Events, Told::Count(8)),
+    (1, Asked::Program(0, 0), Told::Done),
+    (1, Asked::Program(0, 4), Told::Done),
+];
+
+// A stop counts before a plan that falls on the same command.
+static PLANNED_AND_FUSED: [(usize, Asked, Told); 6] = [
+    (0, Asked::Program(0, 0), Told::Done),
+    (0, Asked::Fetch(0, 0), Told::Empty),
+    (0, Asked::Reset(0), Told::Stopped),
+    (0, Asked::State(0), Told::Is(ChunkState::Free, 0)),
+    (1, Asked::Program(0, 0), Told::Stopped),
+    (1, Asked::State(0), Told::Is(ChunkState::Free, 0)),
+];
 
 #[test]
 fn plans_fail_the_commands_that_they_name(rt: HostRuntime) -> Result<(), Fail> {
@@ -160,33 +191,12 @@ fn plans_fail_the_commands_that_they_name(rt: HostRuntime) -> Result<(), Fail> {
         plan(CommandKind::Fetch, 2, 0),
         plan(CommandKind::Program, 3, 9),
     ];
-    let rows = [
-        (0, Asked::Program(0, 0), Told::Done),
-        (0, Asked::Program(0, 4), Told::Failed),
-        (0, Asked::State(0), Told::Is(ChunkState::Closed, 6)),
-        (0, Asked::Program(1, 0), Told::Failed),
-        (0, Asked::State(1), Told::Is(ChunkState::Closed, 2)),
-        (0, Asked::Fetch(0, 1), Told::Sector(7)),
-        (0, Asked::Fetch(0, 1), Told::Failed),
-        (0, Asked::Fetch(0, 1), Told::Sector(7)),
-        (0, Asked::Reset(0), Told::Failed),
-        (0, Asked::State(0), Told::Is(ChunkState::Offline, 0)),
-        (0, Asked::Reset(1), Told::Done),
-        (0, Asked::Events, Told::Count(8)),
-        (1, Asked::Program(0, 0), Told::Done),
-        (1, Asked::Program(0, 4), Told::Done),
-    ];
-    walk(&rt, armed(rt.alloc(), &plans, NO_FUSE, true)?, &rows);
-    // A stop counts before a plan that falls on the same command.
-    let rows = [
-        (0, Asked::Program(0, 0), Told::Done),
-        (0, Asked::Fetch(0, 0), Told::Empty),
-        (0, Asked::Reset(0), Told::Stopped),
-        (0, Asked::State(0), Told::Is(ChunkState::Free, 0)),
-        (1, Asked::Program(0, 0), Told::Stopped),
-        (1, Asked::State(0), Told::Is(ChunkState::Free, 0)),
-    ];
-    walk(&rt, armed(rt.alloc(), &plans, (0, 2, 1), true)?, &rows);
+    walk(&rt, armed(rt.alloc(), &plans, NO_FUSE, true)?, &PLANNED);
+    walk(
+        &rt,
+        armed(rt.alloc(), &plans, (0, 2, 1), true)?,
+        &PLANNED_AND_FUSED,
+    );
     Ok(())
 }
 
@@ -208,17 +218,19 @@ fn program_on(unit: &mut MemoryUnit) {
     }
 }
 
+// What two threads leave of a drive whose fuse falls at the twentieth command of unit 1.
+static STOPPED: [(usize, Asked, Told); 4] = [
+    (1, Asked::Events, Told::Count(20)),
+    (1, Asked::State(3), Told::Is(ChunkState::Open, 8)),
+    (1, Asked::Fetch(0, 0), Told::Stopped),
+    (0, Asked::Fetch(0, 0), Told::Stopped),
+];
+
 #[test]
 fn two_threads_find_that_the_drive_stopped(rt: HostRuntime) -> Result<(), Fail> {
     let mut units = armed(rt.alloc(), &[], (1, 20, 2), true)?;
     thread::for_each_mut(&rt, &mut units, 2, &|_, unit| program_on(unit));
-    let rows = [
-        (1, Asked::Events, Told::Count(20)),
-        (1, Asked::State(3), Told::Is(ChunkState::Open, 8)),
-        (1, Asked::Fetch(0, 0), Told::Stopped),
-        (0, Asked::Fetch(0, 0), Told::Stopped),
-    ];
-    walk(&rt, units, &rows);
+    walk(&rt, units, &STOPPED);
     Ok(())
 }
 
