@@ -1,285 +1,43 @@
 //! Files that can't be read or written, and an output that fails.
 
-use crate::drives::SMALL;
-use crate::harness::{Asked, BLANK, Content, FirstWrong, Told, Wrong, compare};
-use std::alloc::{AllocError, Global};
-use std::sync::Wait;
+use crate::harness::check;
 use std::test::Fail;
 
-const SCRIPT: Content<'static> = Content::Text("thread\nw 5 1 17\n");
-
-const WRITTEN: Content<'static> = Content::Image(&SMALL, &[(5, 17)], &[]);
-
-// What the file `image` holds.
-#[derive(Clone, Copy)]
-enum Held {
-    Absent,
-    Blank,
-    Written,
-    // A text.
-    No,
-}
-
-fn content_of(held: Held) -> Content<'static> {
-    match held {
-        Held::Absent => Content::Absent,
-        Held::Blank => BLANK,
-        Held::Written => WRITTEN,
-        Held::No => Content::Text("no"),
-    }
-}
-
-// The words; the file `image` before; the number of the call of the files that fails, and of that of
-// the output, from 1, or 0 for none; the status; what was written; and the file `image` afterwards.
-type Row<'a> = (&'a str, Held, u64, u64, u8, &'a str, Held);
-
-const ROWS: [Row<'static>; 25] = [
-    // The image is read, then the script, then the image is written.
-    (
-        "geometry|image",
-        Held::Blank,
-        1,
-        0,
-        4,
-        "files Failed image\n",
-        Held::Blank,
-    ),
-    (
-        "geometry|image",
-        Held::Absent,
-        1,
-        0,
-        4,
-        "files Failed image\n",
-        Held::Absent,
-    ),
-    (
-        "run|image|script",
-        Held::Blank,
-        1,
-        0,
-        4,
-        "files Failed image\n",
-        Held::Blank,
-    ),
-    (
-        "run|image|script",
-        Held::Blank,
-        2,
-        0,
-        4,
-        "files Failed script\n",
-        Held::Blank,
-    ),
-    (
-        "run|image|script",
-        Held::No,
-        2,
-        0,
-        4,
-        "files Failed script\n",
-        Held::No,
-    ),
-    (
-        "run|image|script",
-        Held::Blank,
-        3,
-        0,
-        4,
-        "files Failed image\n",
-        Held::Blank,
-    ),
-    (
-        "run|image|script",
-        Held::Blank,
-        4,
-        0,
-        0,
-        "h 0 0 5 17\nkept 1\n",
-        Held::Written,
-    ),
-    (
-        "run|image|script",
-        Held::No,
-        3,
-        0,
-        3,
-        "image Short 2\n",
-        Held::No,
-    ),
-    (
-        "create|image",
-        Held::Absent,
-        1,
-        0,
-        4,
-        "files Failed image\n",
-        Held::Absent,
-    ),
-    (
-        "create|image",
-        Held::Written,
-        1,
-        0,
-        4,
-        "files Failed image\n",
-        Held::Written,
-    ),
-    (
-        "create|image",
-        Held::Written,
-        2,
-        0,
-        0,
-        "created 4640\n",
-        Held::Blank,
-    ),
-    (
-        "create|image|--ring|65",
-        Held::Written,
-        1,
-        0,
-        3,
-        "image Settings 5\n",
-        Held::Written,
-    ),
-    (
-        "create|image|image",
-        Held::Written,
-        1,
-        0,
-        1,
-        "words\n",
-        Held::Written,
-    ),
-    // The output takes half of its text: the command did its work all the same.
-    ("create|image", Held::Absent, 0, 1, 8, "create", Held::Blank),
-    (
-        "create|image",
-        Held::Written,
-        0,
-        1,
-        8,
-        "create",
-        Held::Blank,
-    ),
-    (
-        "run|image|script",
-        Held::Blank,
-        0,
-        1,
-        8,
-        "h 0 0 5 1",
-        Held::Written,
-    ),
-    // Of a refusal's line a part is written, and the status stays.
-    (
-        "create|image|image",
-        Held::Blank,
-        0,
-        1,
-        1,
-        "wor",
-        Held::Blank,
-    ),
-    (
-        "run|image|absent",
-        Held::Blank,
-        0,
-        1,
-        4,
-        "files M",
-        Held::Blank,
-    ),
-    (
-        "run|image|absent",
-        Held::Blank,
-        0,
-        2,
-        4,
-        "files Missing abs",
-        Held::Blank,
-    ),
-    // Both fail: the file first.
-    (
-        "run|image|script",
-        Held::Blank,
-        3,
-        9,
-        4,
-        "files Failed image\n",
-        Held::Blank,
-    ),
-    (
-        "geometry|image",
-        Held::Blank,
-        1,
-        2,
-        4,
-        "files Failed im",
-        Held::Blank,
-    ),
-    // What an image holds is told of it alone.
-    (
-        "show|image",
-        Held::Written,
-        1,
-        0,
-        4,
-        "files Failed image\n",
-        Held::Written,
-    ),
-    (
-        "show|image",
-        Held::Absent,
-        0,
-        0,
-        4,
-        "files Missing image\n",
-        Held::Absent,
-    ),
-    ("show|image", Held::No, 0, 0, 3, "image Short 2\n", Held::No),
-    (
-        "report|image",
-        Held::Written,
-        0,
-        1,
-        8,
-        "{\"capacity\":64,\"closed\":0,\"counted\":1,\"end\":1,\"free\"",
-        Held::Written,
-    ),
-];
-
-fn wrong_in<R: Wait>(rt: &R, alloc: Global, row: &Row<'_>) -> Result<Wrong, AllocError> {
-    let (words, before, files, output, status, text, after) = row;
-    let image = content_of(*before);
-    let asked = Asked {
-        words,
-        image: &image,
-        script: &SCRIPT,
-        failing_files: &[*files],
-        failing_output: &[*output],
-    };
-    let told = Told {
-        status: *status,
-        text,
-        image: content_of(*after),
-    };
-    compare(rt, alloc, &asked, &told)
-}
-
-fn first_wrong<R: Wait>(rt: &R, alloc: Global, rows: &[Row<'_>]) -> Result<FirstWrong, AllocError> {
-    for (number, row) in rows.iter().enumerate() {
-        let wrong = wrong_in(rt, alloc, row)?;
-        if wrong != Wrong::Nothing {
-            return Ok(Some((number, wrong)));
-        }
-    }
-    Ok(None)
-}
+// Calls, which call of the files and of the output fails, and how they end.
+const FAULTS: &str = "
+# The image is read, then the script, then the image is written.
+call=geometry|image ; images=drive small ; files=1 ; status=4 ; text=files Failed image/
+call=geometry|image ; images=absent ; files=1 ; status=4 ; text=files Failed image/
+call=run|image|script ; images=drive small ; files=1 ; status=4 ; text=files Failed image/
+call=run|image|script ; images=drive small ; files=2 ; status=4 ; text=files Failed script/
+call=run|image|script ; images=no ; files=2 ; status=4 ; text=files Failed script/
+call=run|image|script ; images=drive small ; files=3 ; status=4 ; text=files Failed image/
+call=run|image|script ; images=drive small ; files=4 ; text=h 0 0 5 17/kept 1/ ; after=drive small 5=17
+call=run|image|script ; images=no ; files=3 ; status=3 ; text=image Short 2/
+call=create|image ; images=absent ; files=1 ; status=4 ; text=files Failed image/
+call=create|image ; images=drive small 5=17 ; files=1 ; status=4 ; text=files Failed image/
+call=create|image ; images=drive small 5=17 ; files=2 ; text=created 4640/ ; after=drive small
+call=create|image|--ring|65 ; images=drive small 5=17 ; files=1 ; status=3 ; text=image Settings 5/
+call=create|image|image ; images=drive small 5=17 ; files=1 ; status=1 ; text=words/
+# The output takes half of its text: the command did its work all the same.
+call=create|image ; images=absent ; output=1 ; status=8 ; text=create ; after=drive small
+call=create|image ; images=drive small 5=17 ; output=1 ; status=8 ; text=create ; after=drive small
+call=run|image|script ; images=drive small ; output=1 ; status=8 ; text=h 0 0 5 1 ; after=drive small 5=17
+# Of a refusal's line a part is written, and the status stays.
+call=create|image|image ; images=drive small ; output=1 ; status=1 ; text=wor
+call=run|image|absent ; images=drive small ; output=1 ; status=4 ; text=files M
+call=run|image|absent ; images=drive small ; output=2 ; status=4 ; text=files Missing abs
+# Both fail: the file first.
+call=run|image|script ; images=drive small ; files=3 ; output=9 ; status=4 ; text=files Failed image/
+call=geometry|image ; images=drive small ; files=1 ; output=2 ; status=4 ; text=files Failed im
+# What an image holds is told of it alone.
+call=show|image ; images=drive small 5=17 ; files=1 ; status=4 ; text=files Failed image/
+call=show|image ; images=absent ; status=4 ; text=files Missing image/
+call=show|image ; images=no ; status=3 ; text=image Short 2/
+call=report|image ; images=drive small 5=17 ; output=1 ; status=8 ; text={\"capacity\":64,\"closed\":0,\"counted\":1,\"end\":1,\"free\"
+";
 
 #[test]
 fn faults_are_answered(rt: HostRuntime) -> Result<(), Fail> {
-    assert_eq!(rt; first_wrong(&rt, rt.alloc(), &ROWS)?, None);
-    Ok(())
+    check(&rt, rt.alloc(), "script=thread/w 5 1 17/", FAULTS)
 }

@@ -1,95 +1,25 @@
 //! `geometry`: what it prints of an image.
 
-use crate::drives::{Edit, GROUPS, LARGE_SECTORS, ONE_UNIT, SMALL};
-use crate::harness::{Asked, BLANK, Content, FirstWrong, Told, Wrong, compare};
-use std::alloc::{AllocError, Global};
-use std::sync::Wait;
+use crate::harness::check;
 use std::test::Fail;
 
-// Chunk 3 of unit 0 and chunk 7 of unit 1 are Offline; chunks 1 and 2 of unit 0 were closed by
-// writes of which nothing landed.
-const STATES: [Edit; 4] = [(4160, 2), (4192, 2), (4224, 8), (4608, 8)];
-
-// At most 4 chunks are open, and 2 in a unit; 2.7, with the numbers 1 and 3 for MCCAP and WIT; and
-// a byte of the geometry and of a descriptor that say nothing.
-const MAXIMA: [Edit; 7] = [
-    (33, 7),
-    (48, 1),
-    (64, 3),
-    (172, 4),
-    (176, 2),
-    (4127, 9),
-    (4131, 9),
-];
-
 // Images, and what is printed.
-const PRINTED: [(Content<'static>, &str); 7] = [
-    (
-        BLANK,
-        "groups 1\nunits 2\nchunks 8\nblocks 24\nws_min 2\nws_opt 4\nmw_cunits 8\nmaxoc 0\nmaxocpu 0\nsector 512\ncapacity 64\nring 64\nfree 16\nopen 0\nclosed 0\noffline 0\n",
-    ),
-    (
-        Content::Image(&LARGE_SECTORS, &[], &[]),
-        "groups 1\nunits 2\nchunks 8\nblocks 24\nws_min 2\nws_opt 4\nmw_cunits 0\nmaxoc 0\nmaxocpu 0\nsector 4096\ncapacity 90\nring 64\nfree 16\nopen 0\nclosed 0\noffline 0\n",
-    ),
-    (
-        Content::Image(&GROUPS, &[], &[]),
-        "groups 2\nunits 6\nchunks 8\nblocks 24\nws_min 2\nws_opt 4\nmw_cunits 8\nmaxoc 0\nmaxocpu 0\nsector 512\ncapacity 297\nring 256\nfree 48\nopen 0\nclosed 0\noffline 0\n",
-    ),
-    (
-        Content::Image(&ONE_UNIT, &[], &[]),
-        "groups 1\nunits 1\nchunks 12\nblocks 84\nws_min 1\nws_opt 6\nmw_cunits 54\nmaxoc 0\nmaxocpu 0\nsector 512\ncapacity 1\nring 128\nfree 12\nopen 0\nclosed 0\noffline 0\n",
-    ),
-    // A line of which both units have a stripe, and of the large sectors one unit has two.
-    (
-        Content::Image(
-            &LARGE_SECTORS,
-            &[(3, 1), (3, 2), (3, 3), (3, 4), (3, 5)],
-            &[],
-        ),
-        "groups 1\nunits 2\nchunks 8\nblocks 24\nws_min 2\nws_opt 4\nmw_cunits 0\nmaxoc 0\nmaxocpu 0\nsector 4096\ncapacity 90\nring 64\nfree 14\nopen 2\nclosed 0\noffline 0\n",
-    ),
-    (
-        Content::Image(&SMALL, &[(0, 1)], &STATES),
-        "groups 1\nunits 2\nchunks 8\nblocks 24\nws_min 2\nws_opt 4\nmw_cunits 8\nmaxoc 0\nmaxocpu 0\nsector 512\ncapacity 64\nring 64\nfree 10\nopen 2\nclosed 2\noffline 2\n",
-    ),
-    (
-        Content::Image(&SMALL, &[], &MAXIMA),
-        "groups 1\nunits 2\nchunks 8\nblocks 24\nws_min 2\nws_opt 4\nmw_cunits 8\nmaxoc 4\nmaxocpu 2\nsector 512\ncapacity 64\nring 64\nfree 16\nopen 0\nclosed 0\noffline 0\n",
-    ),
-];
-
-fn wrong_print<R: Wait>(
-    rt: &R,
-    alloc: Global,
-    image: Content<'_>,
-    text: &str,
-) -> Result<Wrong, AllocError> {
-    let asked = Asked::calm("geometry|image", &image, &Content::Absent);
-    let told = Told {
-        status: 0,
-        text,
-        image,
-    };
-    compare(rt, alloc, &asked, &told)
-}
-
-fn first_wrong<R: Wait>(
-    rt: &R,
-    alloc: Global,
-    rows: &[(Content<'_>, &str)],
-) -> Result<FirstWrong, AllocError> {
-    for (number, (image, text)) in rows.iter().enumerate() {
-        let wrong = wrong_print(rt, alloc, *image, text)?;
-        if wrong != Wrong::Nothing {
-            return Ok(Some((number, wrong)));
-        }
-    }
-    Ok(None)
-}
+const PRINTED: &str = "
+images=drive small ; text=groups 1/units 2/chunks 8/blocks 24/ws_min 2/ws_opt 4/mw_cunits 8/maxoc 0/maxocpu 0/sector 512/capacity 64/ring 64/free 16/open 0/closed 0/offline 0/
+images=drive large ; text=groups 1/units 2/chunks 8/blocks 24/ws_min 2/ws_opt 4/mw_cunits 0/maxoc 0/maxocpu 0/sector 4096/capacity 90/ring 64/free 16/open 0/closed 0/offline 0/
+images=drive groups ; text=groups 2/units 6/chunks 8/blocks 24/ws_min 2/ws_opt 4/mw_cunits 8/maxoc 0/maxocpu 0/sector 512/capacity 297/ring 256/free 48/open 0/closed 0/offline 0/
+images=drive unit ; text=groups 1/units 1/chunks 12/blocks 84/ws_min 1/ws_opt 6/mw_cunits 54/maxoc 0/maxocpu 0/sector 512/capacity 1/ring 128/free 12/open 0/closed 0/offline 0/
+# A line of which both units have a stripe, and of the large sectors one unit has two.
+images=drive large 3=1 3=2 3=3 3=4 3=5 ; text=groups 1/units 2/chunks 8/blocks 24/ws_min 2/ws_opt 4/mw_cunits 0/maxoc 0/maxocpu 0/sector 4096/capacity 90/ring 64/free 14/open 2/closed 0/offline 0/
+# Chunk 3 of unit 0 and chunk 7 of unit 1 are Offline; chunks 1 and 2 of unit 0 were closed by
+# writes of which nothing landed.
+images=drive small 0=1 2@4160 2@4192 8@4224 8@4608 ; text=groups 1/units 2/chunks 8/blocks 24/ws_min 2/ws_opt 4/mw_cunits 8/maxoc 0/maxocpu 0/sector 512/capacity 64/ring 64/free 10/open 2/closed 2/offline 2/
+# At most 4 chunks are open, and 2 in a unit; 2.7, with the numbers 1 and 3 for MCCAP and WIT; and
+# a byte of the geometry and of a descriptor that say nothing.
+images=drive small 7@33 1@48 3@64 4@172 2@176 9@4127 9@4131 ; text=groups 1/units 2/chunks 8/blocks 24/ws_min 2/ws_opt 4/mw_cunits 8/maxoc 4/maxocpu 2/sector 512/capacity 64/ring 64/free 16/open 0/closed 0/offline 0/
+";
 
 #[test]
 fn the_numbers_of_images_are_printed(rt: HostRuntime) -> Result<(), Fail> {
-    assert_eq!(rt; first_wrong(&rt, rt.alloc(), &PRINTED)?, None);
-    Ok(())
+    check(&rt, rt.alloc(), "call=geometry|image", PRINTED)
 }

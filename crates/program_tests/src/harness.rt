@@ -1,247 +1,238 @@
-//! Calls of the program: what is there before one, and what is there after it.
+//! Tables of calls of the program, and the loop that goes over them.
+//!
+//! A table is lines. One that begins with `#` is a comment, and each other a row. A row has parts
+//! `NAME=VALUE`, parted by ` ; `, and for those that it hasn't the usual ones of its table:
+//!
+//! - `call`: the words of a command line, parted by `|`; or `no words`.
+//! - `images`: what the file `image` may hold before, parted by `, `; or `left`, what the row
+//!   before left.
+//! - `script`: what the file `script` holds; it is absent without the part.
+//! - `files` and `output`: which call of the files, or of the output, is to fail, counted from 1;
+//!   none without the part.
+//! - `status` and `text`: how the call ends on each of these images: its status, 0 without the
+//!   part, and what is written.
+//! - `after`: what the file `image` holds then; without the part what it held before; or `untold`.
+//!
+//! A file is `absent`; or it holds the image of a drive, as `drive` and the drive's name, then the
+//! lines of its history, as `SECTOR=TAG`, bytes that are put into it, as `BYTE@PLACE`, and last the
+//! length that it is cut or filled with zeros to, as `cut:LENGTH`; or else it holds a text. In
+//! texts and in words `/` ends a line.
+//!
+//! The script, and a file `other`, are to be as they were.
 
-use crate::drives::{Edit, Numbers, Row, SMALL, edit, image};
+use crate::drives::{Write, drive, image};
 use pblk_cli::pblk_main;
 use pblk_outside::{MemoryFiles, MemorySink};
 use std::alloc::{AllocError, Global};
 use std::sync::Wait;
+use std::test::Fail;
 
-/// What a file holds.
-#[derive(Clone, Copy)]
-pub(crate) enum Content<'a> {
-    /// Nothing is told of it.
-    Untold,
-    /// There is no such file.
-    Absent,
-    Text(&'a str),
-    Bytes(&'a [u8]),
-    /// The image of a drive with a history, and bytes put into it at their places.
-    Image(&'a Numbers, &'a [Row], &'a [Edit]),
-    /// The blank image of the small drive with bytes put into it, then cut or filled with zeros to
-    /// a length.
-    Cut(&'a [Edit], usize),
-}
-
-/// The blank image of the small drive.
-pub(crate) const BLANK: Content<'static> = Content::Image(&SMALL, &[], &[]);
-
-/// A call: its words, parted by `|`; the files `image` and `script`; and which calls of the files
-/// and of the output are to fail, counted from 1.
-#[derive(Clone, Copy)]
-pub(crate) struct Asked<'a> {
-    pub(crate) words: &'a str,
-    pub(crate) image: &'a Content<'a>,
-    pub(crate) script: &'a Content<'a>,
-    pub(crate) failing_files: &'a [u64],
-    pub(crate) failing_output: &'a [u64],
-}
-
-impl<'a> Asked<'a> {
-    /// A call where nothing fails.
-    pub(crate) fn calm(words: &'a str, image: &'a Content<'a>, script: &'a Content<'a>) -> Self {
-        Asked {
-            words,
-            image,
-            script,
-            failing_files: &[],
-            failing_output: &[],
+/// Makes the calls of a table's rows, of which each has the usual parts below its own. Fails with
+/// the first row that goes otherwise than told, and what of it.
+pub(crate) fn check<R: Wait>(rt: &R, alloc: Global, usual: &str, table: &str) -> Result<(), Fail> {
+    let mut files = MemoryFiles::new(alloc, &[])?;
+    for line in table.split('\n') {
+        if !line.is_empty() && !line.starts_with('#') {
+            check_row(rt, alloc, &mut files, usual, line)?;
         }
     }
+    Ok(())
 }
 
-/// How a call ended: its status, and what was written, and what the file `image` holds.
-#[derive(Clone, Copy)]
-pub(crate) struct Told<'a> {
-    pub(crate) status: u8,
-    pub(crate) text: &'a str,
-    pub(crate) image: Content<'a>,
-}
-
-/// What of a call's end was otherwise than told.
-#[derive(Clone, Copy, Debug, PartialEq, Eq)]
-pub(crate) enum Wrong {
-    Nothing,
-    Status(u8),
-    Text,
-    Image,
-    /// The script, or the file `other`.
-    OtherFiles,
-}
-
-/// The number of the first row of a table that went otherwise, and what of it.
-pub(crate) type FirstWrong = Option<(usize, Wrong)>;
-
-/// Makes a call, and compares its end with what is told. The script and the file `other` are to be
-/// as they were.
-pub(crate) fn compare<R: Wait>(
+fn check_row<R: Wait>(
     rt: &R,
     alloc: Global,
-    asked: &Asked<'_>,
-    told: &Told<'_>,
-) -> Result<Wrong, AllocError> {
-    let mut files = files_of(alloc, asked)?;
-    let mut out = MemorySink::new(alloc, asked.failing_output)?;
-    let words = words_of(alloc, asked.words)?;
-    let status = call(rt, alloc, &words, &mut files, &mut out);
-    if status != told.status {
-        return Ok(Wrong::Status(status));
+    files: &mut MemoryFiles,
+    usual: &str,
+    line: &str,
+) -> Result<(), Fail> {
+    let row = format!(in alloc; "{line} ; {usual}")?;
+    let wrong = wrong_row(rt, alloc, files, &row)?;
+    if wrong.is_empty() {
+        return Ok(());
     }
-    if out.taken() != told.text.as_bytes() {
-        return Ok(Wrong::Text);
+    Err(Fail::new(format!(in alloc; "{wrong}: {line}")?))
+}
+
+// The value of a part of a row, of which the first of this name counts.
+fn value<'a>(row: &'a str, name: &str, otherwise: &'a str) -> &'a str {
+    for part in row.split(" ; ") {
+        if let Some((known, value)) = part.split_once('=') {
+            if known == name {
+                return value;
+            }
+        }
     }
-    wrong_files(alloc, &files, asked, told)
+    otherwise
+}
+
+// A number; the greatest, where the text is none.
+fn number(text: &str) -> u64 {
+    text.parse::<u64>().unwrap_or(u64::MAX)
+}
+
+// What of a row goes otherwise than told: nothing, or a name.
+fn wrong_row<R: Wait>(
+    rt: &R,
+    alloc: Global,
+    files: &mut MemoryFiles,
+    row: &str,
+) -> Result<&'static str, AllocError> {
+    for image in value(row, "images", "").split(", ") {
+        let wrong = wrong_call(rt, alloc, files, row, image)?;
+        if !wrong.is_empty() {
+            return Ok(wrong);
+        }
+    }
+    Ok("")
+}
+
+// The same of its call on an image.
+fn wrong_call<R: Wait>(
+    rt: &R,
+    alloc: Global,
+    files: &mut MemoryFiles,
+    row: &str,
+    image: &str,
+) -> Result<&'static str, AllocError> {
+    begin(alloc, files, row, image)?;
+    let mut out = MemorySink::new(alloc, &[number(value(row, "output", "0"))])?;
+    let status = call(rt, alloc, value(row, "call", ""), files, &mut out)?;
+    if u64::from(status) != number(value(row, "status", "0")) {
+        return Ok("status");
+    }
+    if !is_text(alloc, out.taken(), value(row, "text", ""))? {
+        return Ok("text");
+    }
+    wrong_file(alloc, files, row, image)
+}
+
+fn is_text(alloc: Global, bytes: &[u8], text: &str) -> Result<bool, AllocError> {
+    Ok(text_of(alloc, text)?.as_bytes() == bytes)
+}
+
+// Calls the program, which gives its status.
+fn call<R: Wait>(
+    rt: &R,
+    alloc: Global,
+    line: &str,
+    files: &mut MemoryFiles,
+    out: &mut MemorySink,
+) -> Result<u8, AllocError> {
+    let words = words_of(alloc, line)?;
+    Ok(pblk_main(rt, alloc, &words, files, out))
 }
 
 // The files before a call.
-fn files_of(alloc: Global, asked: &Asked<'_>) -> Result<MemoryFiles, AllocError> {
-    let mut files = MemoryFiles::new(alloc, asked.failing_files)?;
-    put(alloc, &mut files, "image", asked.image)?;
-    put(alloc, &mut files, "script", asked.script)?;
-    files.put("other", b"other")?;
-    Ok(files)
+fn begin(alloc: Global, files: &mut MemoryFiles, row: &str, image: &str) -> Result<(), AllocError> {
+    if image != "left" {
+        *files = MemoryFiles::new(alloc, &[number(value(row, "files", "0"))])?;
+    }
+    put_all(alloc, files, row, image)
 }
 
-/// Calls the program, which gives its status.
-pub(crate) fn call<R: Wait>(
-    rt: &R,
+fn put_all(
     alloc: Global,
-    words: &[String],
     files: &mut MemoryFiles,
-    out: &mut MemorySink,
-) -> u8 {
-    pblk_main(rt, alloc, words, files, out)
+    row: &str,
+    image: &str,
+) -> Result<(), AllocError> {
+    put(alloc, files, "image", image)?;
+    put(alloc, files, "script", value(row, "script", "absent"))?;
+    files.put("other", b"other")
 }
 
 // What of the files after a call is otherwise than told.
-fn wrong_files(
+fn wrong_file(
     alloc: Global,
     files: &MemoryFiles,
-    asked: &Asked<'_>,
-    told: &Told<'_>,
-) -> Result<Wrong, AllocError> {
-    if !holds(alloc, files, "image", &told.image)? {
-        return Ok(Wrong::Image);
+    row: &str,
+    image: &str,
+) -> Result<&'static str, AllocError> {
+    let after = value(row, "after", image);
+    if after == "untold" {
+        return Ok("");
     }
-    let script = holds(alloc, files, "script", asked.script)?;
-    if !script || files.get("other") != Some(b"other".as_slice()) {
-        return Ok(Wrong::OtherFiles);
-    }
-    Ok(Wrong::Nothing)
+    let mut told = MemoryFiles::new(alloc, &[])?;
+    put_all(alloc, &mut told, row, after)?;
+    Ok(first_other(files, &told))
 }
 
-/// Makes a call where nothing fails, which is to end with this status and line, and to change no
-/// file.
-pub(crate) fn refuses<R: Wait>(
-    rt: &R,
-    alloc: Global,
-    words: &str,
-    image: Content<'_>,
-    script: Content<'_>,
-    end: (u8, &str),
-) -> Result<Wrong, AllocError> {
-    let (status, text) = end;
-    let told = Told {
-        status,
-        text,
-        image,
-    };
-    compare(rt, alloc, &Asked::calm(words, &image, &script), &told)
-}
-
-/// A call among several on the same files: its words, the file `script` beside it, the status, and what is written.
-pub(crate) type Step<'a> = (&'a str, &'a str, u8, &'a str);
-
-/// Makes calls one after another, the first on this image and each on what the one before it left, and gives the number of
-/// the first that ended otherwise than told.
-pub(crate) fn first_wrong_step<R: Wait>(
-    rt: &R,
-    alloc: Global,
-    image: &Content<'_>,
-    steps: &[Step<'_>],
-) -> Result<FirstWrong, AllocError> {
-    let mut files = MemoryFiles::new(alloc, &[])?;
-    put(alloc, &mut files, "image", image)?;
-    for (number, step) in steps.iter().enumerate() {
-        let wrong = wrong_step(rt, alloc, &mut files, step)?;
-        if wrong != Wrong::Nothing {
-            return Ok(Some((number, wrong)));
+// The name of the first file that two have otherwise, if there is one.
+fn first_other(files: &MemoryFiles, told: &MemoryFiles) -> &'static str {
+    for name in ["image", "script", "other"] {
+        if files.get(name) != told.get(name) {
+            return name;
         }
     }
-    Ok(None)
+    ""
 }
 
-fn wrong_step<R: Wait>(
-    rt: &R,
-    alloc: Global,
-    files: &mut MemoryFiles,
-    step: &Step<'_>,
-) -> Result<Wrong, AllocError> {
-    let (words, script, told, text) = step;
-    files.put("script", script.as_bytes())?;
-    let mut out = MemorySink::new(alloc, &[])?;
-    let words = words_of(alloc, words)?;
-    let status = call(rt, alloc, &words, files, &mut out);
-    if status != *told {
-        return Ok(Wrong::Status(status));
-    }
-    if out.taken() != text.as_bytes() {
-        return Ok(Wrong::Text);
-    }
-    Ok(Wrong::Nothing)
-}
-
-/// The words of a line, which are parted by `|`.
+/// The words of a line.
 pub(crate) fn words_of(alloc: Global, line: &str) -> Result<Vec<String>, AllocError> {
     let mut words = Vec::new(alloc);
-    for word in line.split('|') {
-        words.push(String::from_str(alloc, word)?)?;
+    if line != "no words" {
+        for word in line.split('|') {
+            add_word(alloc, &mut words, word)?;
+        }
     }
     Ok(words)
 }
 
-// The bytes of a file that is there.
-fn bytes_of(alloc: Global, content: &Content<'_>) -> Result<Option<Vec<u8>>, AllocError> {
-    match content {
-        Content::Untold | Content::Absent => Ok(None),
-        Content::Text(text) => Ok(Some(Vec::from_slice(alloc, text.as_bytes())?)),
-        Content::Bytes(bytes) => Ok(Some(Vec::from_slice(alloc, bytes)?)),
-        Content::Image(numbers, history, edits) => {
-            let mut bytes = image(alloc, numbers, history)?;
-            edit(&mut bytes, edits);
-            Ok(Some(bytes))
-        }
-        Content::Cut(edits, length) => {
-            let mut bytes = image(alloc, &SMALL, &[])?;
-            edit(&mut bytes, edits);
-            bytes.resize(*length, 0)?;
-            Ok(Some(bytes))
-        }
+fn add_word(alloc: Global, words: &mut Vec<String>, word: &str) -> Result<(), AllocError> {
+    words.push(text_of(alloc, word)?)?;
+    Ok(())
+}
+
+fn text_of(alloc: Global, text: &str) -> Result<String, AllocError> {
+    text.replace(alloc, '/', "\n")
+}
+
+// Makes a file hold this, unless it is absent, or was left by an earlier call.
+fn put(alloc: Global, files: &mut MemoryFiles, name: &str, held: &str) -> Result<(), AllocError> {
+    if held == "absent" || held == "left" {
+        return Ok(());
+    }
+    match held.strip_prefix("drive ") {
+        Some(parts) => files.put(name, &image_of(alloc, parts)?),
+        None => files.put(name, text_of(alloc, held)?.as_bytes()),
     }
 }
 
-fn put(
-    alloc: Global,
-    files: &mut MemoryFiles,
-    name: &str,
-    content: &Content<'_>,
-) -> Result<(), AllocError> {
-    match bytes_of(alloc, content)? {
-        Some(bytes) => files.put(name, &bytes),
+// The image of a drive. Where there is none of the name it is empty.
+fn image_of(alloc: Global, told: &str) -> Result<Vec<u8>, AllocError> {
+    let (name, parts) = told.split_once(' ').unwrap_or((told, ""));
+    let Some(numbers) = drive(name) else {
+        return Ok(Vec::new(alloc));
+    };
+    let mut bytes = image(alloc, numbers, &history_of(alloc, parts)?)?;
+    for part in parts.split(' ') {
+        edit(&mut bytes, part)?;
+    }
+    Ok(bytes)
+}
+
+// The lines of a history among the parts of an image.
+fn history_of(alloc: Global, parts: &str) -> Result<Vec<Write>, AllocError> {
+    let mut history = Vec::new(alloc);
+    for part in parts.split(' ') {
+        if let Some((lba, tag)) = part.split_once('=') {
+            history.push((number(lba), number(tag)))?;
+        }
+    }
+    Ok(history)
+}
+
+// Puts a byte at its place, or cuts an image, where a part says so.
+fn edit(bytes: &mut Vec<u8>, part: &str) -> Result<(), AllocError> {
+    if let Some((byte, place)) = part.split_once('@') {
+        let place = number(place) as usize;
+        if place < bytes.len() {
+            bytes[place] = number(byte).to_le_bytes()[0];
+        }
+    }
+    match part.strip_prefix("cut:") {
+        Some(length) => bytes.resize(number(length) as usize, 0),
         None => Ok(()),
-    }
-}
-
-fn holds(
-    alloc: Global,
-    files: &MemoryFiles,
-    name: &str,
-    content: &Content<'_>,
-) -> Result<bool, AllocError> {
-    if matches!(content, Content::Untold) {
-        return Ok(true);
-    }
-    match bytes_of(alloc, content)? {
-        Some(bytes) => Ok(files.get(name) == Some(bytes.as_slice())),
-        None => Ok(files.get(name).is_none()),
     }
 }

@@ -1,87 +1,54 @@
 //! Scripts that `run` refuses, on the blank small drive.
 
-use crate::harness::{BLANK, Content, FirstWrong, Wrong, refuses};
-use std::alloc::{AllocError, Global};
-use std::sync::Wait;
+use crate::harness::check;
 use std::test::Fail;
 
 // Scripts, and why they are refused.
-const REFUSED: [(&str, &str); 25] = [
-    ("x", "script Form 1\n"),
-    ("w 5 1 17\n", "script Form 1\n"),
-    ("\n#\n\nthread\nw 5 1\n", "script Form 5\n"),
-    ("thread\nw  5 1 17\n", "script Form 2\n"),
-    ("thread\nw 05 1 17\n", "script Form 2\n"),
-    ("thread\nr 5 1 \n", "script Form 2\n"),
-    ("thread\r\n", "script Form 1\n"),
-    ("thread\nw 5 1 18446744073709551616\n", "script Form 2\n"),
-    ("thread\npost A\n", "script Form 2\n"),
-    ("thread\npost a\nthread\npost a\n", "script Form 4\n"),
-    ("thread\nw 5 0 17\n", "script Limit 2\n"),
-    ("thread\nr 64 17\n", "script Limit 2\n"),
-    (
-        "thread\nthread\nthread\nthread\nthread\nthread\nthread\nthread\nthread\nthread\nthread\nthread\nthread\nthread\nthread\nthread\nthread\n",
-        "script Limit 17\n",
-    ),
-    ("thread\nw 60 5 1\n", "script Range 2\n"),
-    ("thread\nr 64 1\n", "script Range 2\n"),
-    ("thread\nr 18446744073709551615 16\n", "script Range 2\n"),
-    ("thread\nr 63 1\nr 63 2\nx\n", "script Range 3\n"),
-    ("thread\nawait x\n", "script NeverPosted 2\n"),
-    (
-        "thread\nawait a\npost a\nawait b\n",
-        "script NeverPosted 4\n",
-    ),
-    ("thread\nawait a\npost a\n", "script Stuck 2\n"),
-    (
-        "thread\nawait a\npost b\nthread\nawait b\npost a\n",
-        "script Stuck 2\n",
-    ),
-    (
-        "thread\nf\nthread\npost c\nawait a\npost b\nthread\nawait c\nawait b\npost a\n",
-        "script Stuck 5\n",
-    ),
-    // Scripts that are none that is taken so far: they have a second thread.
-    ("thread\nthread\n", "script Unbuilt\n"),
-    ("thread\nw 5 1 17\nf\nthread\nr 5 1\n", "script Unbuilt\n"),
-    (
-        "thread\npost a\nthread\nawait a\nthread\n",
-        "script Unbuilt\n",
-    ),
-];
-
-fn first_wrong<R: Wait>(
-    rt: &R,
-    alloc: Global,
-    rows: &[(&str, &str)],
-) -> Result<FirstWrong, AllocError> {
-    for (number, (script, line)) in rows.iter().enumerate() {
-        let held = Content::Text(script);
-        let wrong = refuses(rt, alloc, "run|image|script", BLANK, held, (2, line))?;
-        if wrong != Wrong::Nothing {
-            return Ok(Some((number, wrong)));
-        }
-    }
-    Ok(None)
-}
+const REFUSED: &str = "
+script=x ; text=script Form 1/
+script=w 5 1 17/ ; text=script Form 1/
+script=/#//thread/w 5 1/ ; text=script Form 5/
+script=thread/w  5 1 17/ ; text=script Form 2/
+script=thread/w 05 1 17/ ; text=script Form 2/
+script=thread/r 5 1 / ; text=script Form 2/
+script=thread\r/ ; text=script Form 1/
+script=thread/w 5 1 18446744073709551616/ ; text=script Form 2/
+script=thread/post A/ ; text=script Form 2/
+script=thread/post a/thread/post a/ ; text=script Form 4/
+script=thread/w 5 0 17/ ; text=script Limit 2/
+script=thread/r 64 17/ ; text=script Limit 2/
+script=thread/thread/thread/thread/thread/thread/thread/thread/thread/thread/thread/thread/thread/thread/thread/thread/thread/ ; text=script Limit 17/
+script=thread/w 60 5 1/ ; text=script Range 2/
+script=thread/r 64 1/ ; text=script Range 2/
+script=thread/r 18446744073709551615 16/ ; text=script Range 2/
+script=thread/r 63 1/r 63 2/x/ ; text=script Range 3/
+script=thread/await x/ ; text=script NeverPosted 2/
+script=thread/await a/post a/await b/ ; text=script NeverPosted 4/
+script=thread/await a/post a/ ; text=script Stuck 2/
+script=thread/await a/post b/thread/await b/post a/ ; text=script Stuck 2/
+script=thread/f/thread/post c/await a/post b/thread/await c/await b/post a/ ; text=script Stuck 5/
+# Scripts that are none that is taken so far: they have a second thread.
+script=thread/thread/ ; text=script Unbuilt/
+script=thread/w 5 1 17/f/thread/r 5 1/ ; text=script Unbuilt/
+script=thread/post a/thread/await a/thread/ ; text=script Unbuilt/
+";
 
 #[test]
 fn scripts_are_refused(rt: HostRuntime) -> Result<(), Fail> {
-    assert_eq!(rt; first_wrong(&rt, rt.alloc(), &REFUSED)?, None);
-    Ok(())
+    check(
+        &rt,
+        rt.alloc(),
+        "call=run|image|script ; images=drive small ; status=2",
+        REFUSED,
+    )
 }
+
+// An image in place of a script.
+const IMAGE: &str = "
+call=run|image|image ; images=drive small ; status=2 ; text=script Form 1/
+";
 
 #[test]
 fn an_image_is_no_script(rt: HostRuntime) -> Result<(), Fail> {
-    let end = (2, "script Form 1\n");
-    let wrong = refuses(
-        &rt,
-        rt.alloc(),
-        "run|image|image",
-        BLANK,
-        Content::Absent,
-        end,
-    )?;
-    assert_eq!(rt; wrong, Wrong::Nothing);
-    Ok(())
+    check(&rt, rt.alloc(), "", IMAGE)
 }
