@@ -24,7 +24,7 @@ call=create|image|--chunks|33 ; images=absent, old, drive chunks-33 ; text=creat
 
 #[test]
 fn blank_images_are_made(rt: HostRuntime) -> Result<(), Fail> {
-    check(&rt, rt.alloc(), "", MADE)
+    check(&rt, rt.alloc(), "script=absent", MADE)
 }
 
 // Words, and why nothing is made: where there is no file, and over a file.

@@ -71,6 +71,22 @@ fn number(text: &str) -> u64 {
     text.parse::<u64>().unwrap_or(u64::MAX)
 }
 
+// Whether all parts of a row have names that a row's parts may have.
+fn has_known_names(row: &str) -> bool {
+    for part in row.split(" ; ") {
+        match part.split_once('=') {
+            Some(
+                (
+                    "call" | "images" | "script" | "files" | "output" | "status" | "text" | "after",
+                    _,
+                ),
+            ) => {}
+            _ => return false,
+        }
+    }
+    true
+}
+
 // What of a row goes otherwise than told: nothing, or a name.
 fn wrong_row<R: Wait>(
     rt: &R,
@@ -78,6 +94,9 @@ fn wrong_row<R: Wait>(
     files: &mut MemoryFiles,
     row: &str,
 ) -> Result<&'static str, AllocError> {
+    if !has_known_names(row) {
+        return Ok("names");
+    }
     for image in value(row, "images", "").split(", ") {
         let wrong = wrong_call(rt, alloc, files, row, image)?;
         if !wrong.is_empty() {

@@ -50,5 +50,5 @@ call=run|image|image ; images=drive small ; status=2 ; text=script Form 1/
 
 #[test]
 fn an_image_is_no_script(rt: HostRuntime) -> Result<(), Fail> {
-    check(&rt, rt.alloc(), "", IMAGE)
+    check(&rt, rt.alloc(), "script=absent", IMAGE)
 }

@@ -59,7 +59,7 @@ fn words_that_are_no_command_touch_no_file(rt: HostRuntime) -> Result<(), Fail> 
 #[test]
 fn no_words_are_no_command(rt: HostRuntime) -> Result<(), Fail> {
     let row = "call=no words ; images=absent ; status=1 ; text=words/";
-    check(&rt, rt.alloc(), "", row)
+    check(&rt, rt.alloc(), "script=absent", row)
 }
 
 // Whether the program ends so on these words, or on none, where there is no file.
