@@ -3,7 +3,7 @@
 ghost use Rattle.std.specs.Prelude.{◌≡◌, string_bytes};
 
 /// The status that the program ends with, and the text that it writes.
-#[derive(Debug, Drop)]
+#[derive(Drop)]
 pub(crate) struct Output {
     pub(crate) status: u8,
     pub(crate) text: Vec<u8>,

@@ -12,7 +12,7 @@ use pblk_outside::{Sink, SinkErr};
 use std::alloc::{AllocError, AllocFailed};
 
 /// Why a command is refused.
-#[derive(Clone, Copy, Debug)]
+#[derive(Clone, Copy)]
 pub(crate) enum Refusal<'a> {
     /// The image, or what it is to be made of, is refused.
     Image(ImageErr),

@@ -154,7 +154,7 @@ fn transcript_text(alloc: Global, script: &Script, ran: &Ran) -> Result<Vec<u8>,
 }
 
 /// A drive after a run, and what the script was answered.
-#[derive(Debug, Drop)]
+#[derive(Drop)]
 pub(crate) struct Ran {
     pub(crate) drive: Drive,
     pub(crate) records: Records,

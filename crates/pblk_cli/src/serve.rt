@@ -16,7 +16,7 @@ use std::alloc::{AllocError, Global};
 use std::sync::Wait;
 
 /// What a run leaves: the units, and what the script was answered.
-#[derive(Debug, Drop)]
+#[derive(Drop)]
 pub(crate) struct Served {
     pub(crate) units: Vec<MemoryUnit>,
     pub(crate) records: Records,
