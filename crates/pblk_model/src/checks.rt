@@ -130,7 +130,7 @@ fn is_small(shape: &Shape) -> bool
     chunks * u64::from(shape.clba) * u64::from(shape.sector) <= 268_435_456
 }
 
-// Whether a line's data is long enough to be placed in stripes while others land.
+// Whether twice the data of a line is at least `(16 + WS_OPT) * WS_OPT` blocks.
 fn has_room(shape: &Shape) -> bool
     requires { IsMeasured shape.now }
     ensures { result ≡ nat_le ((16 + shape.now.ws_opt) * shape.now.ws_opt) (2 * data_len shape.now (units shape.now)) }
@@ -139,7 +139,7 @@ fn has_room(shape: &Shape) -> bool
     (16 + stripe) * stripe <= 2 * data_blocks(shape, shape.units())
 }
 
-// Whether the drive has room for the capacity, and more beside.
+// Whether the capacity is from 1 to below 2^40, and four times it is at most what `quarters` gives.
 fn has_spare(shape: &Shape) -> bool
     requires { IsMeasured shape.now }
     ensures { result ≡ (nat_le 1 shape.now.capacity && nat_lt shape.now.capacity (2 ^ 40)
@@ -150,7 +150,7 @@ fn has_spare(shape: &Shape) -> bool
         && 4 * shape.capacity <= quarters(shape.chunks, data_blocks(shape, shape.units()))
 }
 
-// Four times the greatest capacity: a quarter of the lines, and five besides, stay spare.
+// The most that four times a capacity may be: three times the data of all lines but five.
 fn quarters(chunks: u32, blocks: u64) -> u64
     requires chunks { (8 ≤ chunks) × (chunks ≤ 1024) }
     requires blocks { blocks < 2 ^ 38 }
@@ -159,7 +159,7 @@ fn quarters(chunks: u32, blocks: u64) -> u64
     3 * (u64::from(chunks) - 5) * blocks
 }
 
-// The least ring: what may wait to become readable in each unit, and one command's sectors.
+// The least ring: `units * (MW_CUNITS + 4 * WS_OPT) + 16` entries.
 fn least_ring(shape: &Shape) -> u64
     requires { IsDriveShape shape.now }
     ensures { result ≡ units shape.now * (shape.now.mw_cunits + 4 * shape.now.ws_opt) + 16 }
