@@ -71,16 +71,16 @@ fn number(text: &str) -> u64 {
     text.parse::<u64>().unwrap_or(u64::MAX)
 }
 
-// Whether all parts of a row have names that a row's parts may have.
+// The names that a row's parts may have.
+static NAMES: &[&str] = &[
+    "call", "images", "script", "files", "output", "status", "text", "after",
+];
+
+// Whether all parts of a row have such names.
 fn has_known_names(row: &str) -> bool {
     for part in row.split(" ; ") {
         match part.split_once('=') {
-            Some(
-                (
-                    "call" | "images" | "script" | "files" | "output" | "status" | "text" | "after",
-                    _,
-                ),
-            ) => {}
+            Some((name, _)) if NAMES.contains(&name) => {}
             _ => return false,
         }
     }
