@@ -14,9 +14,9 @@
 //! - `after`: what the file `image` holds then; without the part what it held before; or `untold`.
 //!
 //! A file is `absent`; or it holds the image of a drive, as `drive` and the drive's name, then the
-//! lines of its history, as `SECTOR=TAG`, bytes that are put into it, as `BYTE@PLACE`, and last the
-//! length that it is cut or filled with zeros to, as `cut:LENGTH`; or else it holds a text. In
-//! texts and in words `/` ends a line.
+//! lines of its history, as `SECTOR=TAG`, bytes that are put into it, as `BYTE@PLACE` (where it ends
+//! before the place, after zeros), and last the length that it is cut or filled with zeros to, as
+//! `cut:LENGTH`; or else it holds a text. In texts and in words `/` ends a line.
 //!
 //! The script, and a file `other`, are to be as they were.
 
@@ -245,13 +245,21 @@ fn history_of(alloc: Global, parts: &str) -> Result<Vec<Write>, AllocError> {
 // Puts a byte at its place, or cuts an image, where a part says so.
 fn edit(bytes: &mut Vec<u8>, part: &str) -> Result<(), AllocError> {
     if let Some((byte, place)) = part.split_once('@') {
-        let place = number(place) as usize;
-        if place < bytes.len() {
-            bytes[place] = number(byte).to_le_bytes()[0];
-        }
+        put_byte(bytes, number(place) as usize, number(byte).to_le_bytes()[0])?;
     }
     match part.strip_prefix("cut:") {
         Some(length) => bytes.resize(number(length) as usize, 0),
         None => Ok(()),
     }
+}
+
+// Puts a byte at a place. An image that ends before it is filled with zeros up to there.
+fn put_byte(bytes: &mut Vec<u8>, place: usize, byte: u8) -> Result<(), AllocError> {
+    if bytes.len() <= place {
+        bytes.resize(place.saturating_add(1), 0)?;
+    }
+    if let Some(old) = bytes.get_mut(place) {
+        *old = byte;
+    }
+    Ok(())
 }
