@@ -14,8 +14,8 @@
 //! - `after`: what the file `image` holds then; without the part what it held before; or `untold`.
 //!
 //! A file is `absent`; or it holds the image of a drive, as `drive` and the drive's name, then the
-//! lines of its history, as `SECTOR=TAG`, bytes that are put into it, as `BYTE@PLACE` (where it ends
-//! before the place, after zeros), and last the length that it is cut or filled with zeros to, as
+//! lines of its history, as `SECTOR=TAG`, bytes that are put into it, as `BYTE@PLACE` (a place past
+//! its end lengthens it with zeros), and last the length that it is cut or filled with zeros to, as
 //! `cut:LENGTH`; or else it holds a text. In texts and in words `/` ends a line.
 //!
 //! The script, and a file `other`, are to be as they were.
