@@ -38,6 +38,7 @@ use Rattle.begin_laws.specs.JustBegun.{HasJustBegun}
 use Rattle.begin_laws.specs.OpeningTables.{IsOpeningTable}
 use Rattle.begin_laws.proofs.Begun.{named_image, found_at, known_at, named_fit, named_found, life_is}
 use Rattle.begin_laws.proofs.Lists.{any_passed, passed_made, filter_agree}
+use Rattle.pblk_model.proofs.StartRecordLemmas.{some_seq}
 
 -- ---- widths
 
@@ -72,10 +73,6 @@ same_state : (started full empty : Bool) (addresses : ℕ) → opening_by starte
 same_state true full empty addresses = refl
 same_state false full true addresses = refl
 same_state false full false addresses = refl
-
-some_seq : (o : Option StartRecord) → is_some (option_map (λ r. r.seq) o) ≡ is_some o
-some_seq None = refl
-some_seq (Some r) = refl
 
 opening_is : (i : Image) (f : Found) (logs : Logs) (line : ℕ) (is : HasJustBegun i f logs) → line < i.shape.chunks
     → opening_state i.shape f line (line_row (named_image i logs is.knows) line)

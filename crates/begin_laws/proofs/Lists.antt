@@ -4,8 +4,8 @@ use Rattle.std.specs.List.{Contains, filter, filter_map, find, list_any, cons_op
 use Rattle.std.specs.Option.{option_map_or}
 use Rattle.std.proofs.lemmas.Bool.{cases_eq, eq-eqb, ne_eqb}
 use Rattle.std.proofs.lemmas.Option.{none-some, same_Some}
-use Rattle.pblk_laws.proofs.Lists.{contains_first, contains_more}
 use Rattle.line_laws.proofs.Ranges.{sum_same}
+use Rattle.lemmas.proofs.Lists.{contains_first, contains_more}
 
 -- ---- numbered elements
 

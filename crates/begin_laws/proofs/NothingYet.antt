@@ -19,10 +19,11 @@ use Rattle.stripe_placer.specs.Placing.{UnitRow, nothing_placed}
 use Rattle.stripe_placer.specs.Placing.UnitRow.{Idle}
 use Rattle.core_laws.specs.OpenedLines.{open_line, open_lines, standing}
 use Rattle.core_laws.specs.PlacerOf.{placing_of, entries_of, row_of, row_in, waits_again, unanswered_on}
-use Rattle.core_laws.specs.WindowOf.{HeldSectors, HeldSector, window_from}
+use Rattle.core_laws.specs.WindowOf.{window_from}
 use Rattle.core_laws.proofs.Taking.{same_placing}
 use Rattle.begin_laws.specs.JustBegun.{HasJustBegun}
 use Rattle.begin_laws.proofs.Lists.{sum_none}
+use Rattle.core_laws.proofs.WindowOfLemmas.{same_window}
 
 -- ---- the engine's log alone
 
@@ -80,9 +81,6 @@ no_addresses i f logs is =
     sum_none (λ line. unplaced_in i.shape (logs 0) (life_of (logs 0) line)) (λ line. ap (λ (xs : List Logged). unplaced_in i.shape xs (life_of xs line)) is.log) 0 i.shape.chunks
 
 -- ---- the window
-
-same_window : (from m n : ℕ) (xs ys : List HeldSector) → m ≡ n → xs ≡ ys → ◌≡◌ {A = HeldSectors} (record { freed = from; users = m; entries = xs }) (record { freed = from; users = n; entries = ys })
-same_window from m n xs ys a b = λ k. record { freed = from; users = a k; entries = b k }
 
 pub window_is : (i : Image) (f : Found) (logs : Logs) (from : ℕ) → HasJustBegun i f logs → window_from i.shape (logs 0) from ≡ record { freed = from; users = 0; entries = [] }
 window_is i f logs from is =

@@ -27,4 +27,5 @@ mount_asked v c d p filling m stands same = record {
   granted = subst (λ w. v.granted + units v.image.shape * v.image.shape.ws_opt ≤ w.freed + v.image.shape.ring) (sym same) m.granted;
   last = m.last;
   room = m.room;
+  once = m.once;
 }

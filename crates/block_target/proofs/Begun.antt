@@ -1,5 +1,5 @@
 -- A mount that begins with what was found of its drive.
-use Rattle.std.proofs.Common.{◌≡◌, ℕ, ◌+◌, ◌-◌, ◌*◌, ◌^◌, ◌≤◌, min, max, Some, List, [], ◌∷◌, ◌++◌, drop, take, length, refl, sym, subst, ap, ◌∙◌, arith}
+use Rattle.std.proofs.Common.{◌≡◌, ℕ, ◌+◌, ◌-◌, ◌*◌, ◌^◌, ◌≤◌, min, max, Some, List, [], ◌∷◌, ◌++◌, drop, take, length, refl, sym, subst, ap, ap₂, ◌∙◌, arith, false}
 use Rattle.std.specs.Prelude.{map, slice_get}
 use Rattle.std.specs.List.{filter, flat_map}
 use Rattle.std.specs.Option.{option_map}
@@ -15,7 +15,7 @@ use Rattle.pblk_model.specs.Frames.{PoolView, count_out}
 use Rattle.pblk_model.specs.Image.{Image}
 use Rattle.unit_port.specs.Armed.{IsUnarmed}
 use Rattle.unit_port.specs.Unit.{ModelUnit}
-use Rattle.vector_io.specs.Commands.{IsKept}
+use Rattle.unit_port.specs.Commands.{IsKept, AreUnarmed}
 use Rattle.scan_recovery.specs.Units.{AreFit, IsUnitOf, image_of}
 use Rattle.scan_recovery.proofs.PadLoops.{fit_image, fit_kept}
 use Rattle.pblk_world.specs.Events.{Beginning, Begin, Decides as Event, Logged}
@@ -35,25 +35,29 @@ use Rattle.found_laws.proofs.Fits.{found_fits}
 use Rattle.step_laws.specs.Whole.{knows_all, after_begin}
 use Rattle.step_laws.proofs.Beginning.{mount_begins, begun_is, found_is, known_is, begins_level}
 use Rattle.step_laws.proofs.EngineSteps.{engine_logs, media_still}
-use Rattle.opening_steps.specs.Finding.{IsFoundAfter}
-use Rattle.opening_steps.specs.Opened.{AreUnarmed, new_events, after_units}
-use Rattle.opening_steps.proofs.Worlds.{plain_world, media_are, units_quiet}
+use Rattle.scan_recovery.specs.Readying.{IsFoundAfter}
+use Rattle.step_laws.specs.Opened.{new_events, after_units}
+use Rattle.step_laws.proofs.Worlds.{plain_world, media_are, units_quiet}
 use Rattle.write_window.specs.declared.held.Held.{Held}
 use Rattle.write_window.specs.Window as window
 use Rattle.pblk_core.specs.Filling.{Filling}
 use Rattle.pblk_core.specs.Named.{pad_of}
 use Rattle.pblk_core.specs.Stands.{Stands, IsStanding}
 use Rattle.pblk_core.specs.declared.target_core.Core.{Core}
+use Rattle.pblk_core.proofs.FreedWindow.{unread_at_front}
 use Rattle.pblk_core.proofs.SmallGrant.{ring_kept as kept}
 use Rattle.block_target.specs.Begun.{HasBegun, AreBegun}
 use Rattle.block_port.specs.Own.{OwnWrite, lines_of}
 use Rattle.block_port.specs.declared.rows.WornAnswer.{WornAnswer}
 use Rattle.block_target.specs.Deeds.{Deed, drive_before, drive_found, world_of}
+use Rattle.block_target.specs.Granted.{WasRoom}
 use Rattle.block_target.specs.Mount.{MountView, IsMount, IsSound, IsUnitIn, engine_log, logs_in}
 use Rattle.block_target.specs.NothingLeft.{AreRefusals}
 use Rattle.block_target.specs.Opened.{IsOpened, first_deeds}
 use Rattle.block_target.specs.Serial.{IsSerial}
 use Rattle.block_target.specs.declared.mount.Parts.{Parts}
+use Rattle.block_target.proofs.GrantedRoom.{room_now}
+use Rattle.block_target.proofs.GrantedTakes.{none_taken}
 
 -- ---- numbers
 
@@ -146,6 +150,9 @@ module _ (s : Shape) (us new : List ModelUnit) (f : Found) (accepted : IsAccepte
       between c.window.freed (first_position (log_of first_world 0)) (freed s (log_of first_world 0)) b.first (core_stands c has).from_first (core_stands c has).to_freed
       (ap first_position log_is) (ap (freed s) log_is ∙ nothing_freed s b (knows_all s before))
 
+  pub first_unread : (c : Core) → HasBegun s f c → window.is_readable_at c.window c.window.freed ≡ false
+  first_unread c has = unread_at_front i first_world c first_legal (core_stands c has) (first_freed c has)
+
   no_entries : (c : Core) → HasBegun s f c → c.window.entries ≡ []
   no_entries c has = nothing_held c.window.entries
       (ap (λ (h : HeldSectors). h.entries) (core_stands c has).window
@@ -200,6 +207,7 @@ module _ (s : Shape) (us new : List ModelUnit) (f : Found) (accepted : IsAccepte
         (kept s accepted);
     last = below_last granted (ring_limit s (log_of first_world 0)) (space_limit i (log_of first_world)) (first_position (log_of first_world 0)) grants;
     room = no_less granted (room i (log_of first_world)) grants;
+    once = subst (λ n. WasRoom i (log_of first_world) (length (log_of first_world 0)) n) (sym grants) (room_now i (first_deeds us new f) (record { beginning = b; knows = knows_all s before }) first_legal first_begun);
   }
 
   -- by the lists that are kept of it
@@ -213,13 +221,15 @@ module _ (s : Shape) (us new : List ModelUnit) (f : Found) (accepted : IsAccepte
 
 -- and nothing else was done
 pub opened_view : (s : Shape) (us new : List ModelUnit) (f : Found) (drives : List (List ModelUnit)) (deeds : List Deed) (wear : List (List ℕ)) (granted pad : ℕ) → IsFoundAfter s us new f → drives ≡ us ∷ new ∷ [] → deeds ≡ first_deeds us new f
+    → granted ≡ room (image_of s us) (log_of (world_of s (first_deeds us new f)))
     → IsOpened s us (record { image = image_of s (drive_before drives); found = image_of s (drive_found drives); deeds = deeds; units = new; wear = wear; granted = granted; pad = pad })
-opened_view s us new f drives deeds wear granted pad is rows done = record {
+opened_view s us new f drives deeds wear granted pad is rows done grants = record {
   image = ap (λ (rs : List (List ModelUnit)). image_of s (drive_before rs)) rows;
   found_is = ap (λ (rs : List (List ModelUnit)). image_of s (drive_found rs)) rows;
   found = f;
   is = is;
   deeds = done;
+  granted = grants ∙ ap₂ (λ (rs : List (List ModelUnit)) (ds : List Deed). room (image_of s (drive_before rs)) (log_of (world_of s ds))) (sym rows) (sym done);
 }
 
 -- a list whose elements were all written over
@@ -246,4 +256,5 @@ new_serial s us v own worns is a b = record {
       ∙ sym (ap (flat_map lines_of) a);
   small = omega arith;
   worns = subst (λ (ws : List WornAnswer). AreRefusals v.image (logs_in v) ws) (sym b) tt;
+  granted = record { each = λ k knows entry mark at users. absurd (none_taken (engine_log v) k knows entry mark (nothing_taken s us v is) at) };
 }

@@ -10,24 +10,24 @@ use Rattle.pblk_world.specs.Events.{Logged}
 use Rattle.pblk_world.specs.World.{media}
 use Rattle.pblk_world.specs.EngineLog.{Placed, answers, is_answered, placed_on, placements, turn}
 use Rattle.core_laws.specs.PlacerOf.{unanswered_on}
-use Rattle.core_laws.proofs.Rows.{same_number}
-use Rattle.core_laws.proofs.Lists.{got_within as within_some, none_past as none_left}
 use Rattle.core_laws.proofs.Turns.{its_turn as turn_at}
-use Rattle.stripe_placer.proofs.Among.{IsAmong, in_filter}
-use Rattle.prefix_law.proofs.Among.{among_contained}
 use Rattle.prefix_law.proofs.Resting.{end_is_synced}
 use Rattle.pblk_core.specs.Filling.{Filling}
 use Rattle.pblk_core.specs.declared.target_core.Core.{Core}
 use Rattle.block_target.specs.Mount.{MountView, IsMount, engine_log, logs_in, synced_in, world_in}
+use Rattle.lemmas.proofs.Lists.{IsAmong, among_contained}
+use Rattle.lemmas.proofs.Maps.{in_filter}
+use Rattle.lemmas.proofs.Parts.{got_within, none_past}
+use Rattle.lemmas.proofs.Tests.{same_number}
 
 answered : (log : List Logged) → ((unit : ℕ) → unanswered_on log unit ≡ None) → (p : Placed) → Contains (placements log) p → is_answered log p ≡ true
 answered log idle p there =
     let at : IsAmong (placed_on log p.stripe.unit) p = in_filter (λ (q : Placed). q.stripe.unit == p.stripe.unit) (placements log) p (among_contained (placements log) p there) (same_number p.stripe.unit) in
-    let few : length (placed_on log p.stripe.unit) ≤ length (answers log p.stripe.unit) = none_left (placed_on log p.stripe.unit) (length (answers log p.stripe.unit)) (idle p.stripe.unit) in
+    let few : length (placed_on log p.stripe.unit) ≤ length (answers log p.stripe.unit) = none_past (placed_on log p.stripe.unit) (length (answers log p.stripe.unit)) (idle p.stripe.unit) in
     let low : at.0 < length (placed_on log p.stripe.unit) = slice_get_within (placed_on log p.stripe.unit) at.0 p at.1 in
     let its : turn log p ≡ at.0 = turn_at log p.stripe.unit at.0 p at.1 in
     let within : turn log p < length (answers log p.stripe.unit) = omega arith in
-    ap is_some (within_some (answers log p.stripe.unit) (turn log p) within).1
+    ap is_some (got_within (answers log p.stripe.unit) (turn log p) within).1
 
 pub end_closed : (v : MountView) (c : Core) (p : PoolView) (f : Filling) → IsMount v c p f → IsSealed v.image → end (media v.image (logs_in v)) ≡ synced_in v
 end_closed v c p f m sealed = end_is_synced v.image (world_in v) m.sound.beginning m.sound.legal sealed m.sound.has_begun (answered (engine_log v) m.idle)

@@ -10,17 +10,17 @@ use Rattle.pblk_world.specs.Fronts.{first_position, is_users, user_takes, user_p
 use Rattle.pblk_world.proofs.SyncedFront.{synced_within}
 use Rattle.landing_laws.proofs.Cached.{numbered_at}
 use Rattle.pblk_core.proofs.SmallCalls.{numbered_in}
-use Rattle.pblk_core.proofs.SmallPositions.{taken_bounded}
 use Rattle.block_port.specs.declared.rows.WornAnswer.{WornAnswer}
 use Rattle.block_port.specs.Own.{PlacedSector, lines_of}
 use Rattle.block_port.specs.Port.{Learns, IsFront, IsSeen, positions}
-use Rattle.stripe_placer.proofs.Chunks.{lt_yes as is_below}
-use Rattle.prefix_law.proofs.Starting.{first_is as first_of}
 use Rattle.block_target.specs.Mount.{MountView, IsSound, IsSameMount, engine_log, logs_in, world_in, taken_in, synced_in, front_taken, front_synced}
 use Rattle.block_target.specs.NothingLeft.{AreRefusals}
 use Rattle.block_target.specs.Serial.{SerialView, IsSerial, lines_in, device}
 use Rattle.block_target.proofs.Beginnings.{first_same}
+use Rattle.block_target.proofs.GrantedTakes.{granted_same}
 use Rattle.block_target.proofs.Refusals.{refusals_grown}
+use Rattle.block_target.proofs.MountLemmas.{taken_small}
+use Rattle.lemmas.proofs.Tests.{lt_true}
 
 -- ---- the lines
 
@@ -51,7 +51,7 @@ all_pass n [] low = refl
 all_pass n (t ∷ ts) low = go (is_users t.entry.source) (all_pass n ts (λ k u there. low (suc k) u there))
   where
     here : nat_lt t.entry.position n ≡ true
-    here = is_below t.entry.position n (low 0 t refl)
+    here = lt_true t.entry.position n (low 0 t refl)
 
     go : (b : Bool) → length (filter (λ t. nat_lt t.entry.position n) (filter (λ t. is_users t.entry.source) ts)) ≡ length (filter (λ t. is_users t.entry.source) ts)
         → length (filter (λ t. nat_lt t.entry.position n) (cond b (t ∷ filter (λ t. is_users t.entry.source) ts) (filter (λ t. is_users t.entry.source) ts))) ≡ length (cond b (t ∷ filter (λ t. is_users t.entry.source) ts) (filter (λ t. is_users t.entry.source) ts))
@@ -110,6 +110,7 @@ same_serial old new sound is same own worns small = record {
   small = small;
   worns = subst (λ (ws : List WornAnswer). AreRefusals new.mount.image (logs_in new.mount) ws) (sym worns)
       (refusals_grown old.mount new.mount same.more old.worns sound same.image same.deeds is.worns);
+  granted = granted_same old.mount new.mount sound same is.granted;
 }
 
 -- ---- what a call answers
@@ -121,10 +122,6 @@ pub seen_synced : (old new : SerialView) → old.seen ≤ synced_in new.mount �
 seen_synced old new holds seen = record { is = front_synced_is new; holds = holds; seen = seen }
 
 -- ---- what a flush answers
-
--- all that was taken has a position that is small
-pub taken_small : (v : MountView) → IsSound v → taken_in v ≤ 2 ^ 62
-taken_small v sound = taken_bounded v.image (world_in v) sound.legal (subst (λ n. n ≤ 2 ^ 62) (sym (first_of (engine_log v) sound.beginning sound.has_begun)) sound.first_low)
 
 pub synced_small : (v : MountView) (f : Front) → IsSound v → f ≡ front_synced v → f.position < 2 ^ 63
 synced_small v f sound is =

@@ -8,7 +8,6 @@ use Rattle.std.proofs.lemmas.List.{take-append-le}
 use Rattle.pblk_model.specs.declared.shape.Shape.{Shape}
 use Rattle.pblk_model.specs.Image.{Image}
 use Rattle.pblk_model.specs.UnitLog.{UnitEvent}
-use Rattle.pblk_model.proofs.OrderedBlocks.{get_front as got_front}
 use Rattle.pblk_world.specs.Events.{EngineEvent, Landed, ResetDone, Maker, Logged}
 use Rattle.pblk_world.specs.World.{World, log_of, known}
 use Rattle.pblk_world.specs.Legal.{IsLegal}
@@ -16,19 +15,20 @@ use Rattle.pblk_world.specs.AtRest.{knows_last, logs_at}
 use Rattle.pblk_world.specs.Space.{room}
 use Rattle.pblk_world.proofs.Growing.{grows}
 use Rattle.core_laws.specs.PlainWorlds.{IsPlainWorld}
-use Rattle.core_laws.proofs.Lists.{fun_same}
-use Rattle.core_laws.proofs.Answered.{get_last as got_last}
-use Rattle.media_laws.proofs.Steps.{log_here, log_elsewhere, plain_tail}
 use Rattle.placed_laws.specs.StripePrograms.{HasHappened}
 use Rattle.placed_laws.proofs.Happened.{happened}
 use Rattle.step_laws.specs.Whole.{engine_step, unit_step, next_maker, opening_maker}
 use Rattle.step_laws.proofs.Knowing.{known_whole}
 use Rattle.step_laws.proofs.UnitSteps.{engine_log}
 use Rattle.step_laws.proofs.UnitStays.{room_stays}
-use Rattle.opening_steps.specs.Opened.{after_events, after_units}
+use Rattle.step_laws.specs.Opened.{after_events, after_units}
 use Rattle.pblk_core.specs.Named.{work_of}
 use Rattle.block_target.specs.Deeds.{Deed, Readies, Decides, Does, Lands, NotesReset, after_deed, world_of, last_event}
 use Rattle.block_target.proofs.UnitStands.{work_beside}
+use Rattle.core_laws.proofs.PlainWorldsLemmas.{plain_before as plain_tail}
+use Rattle.lemmas.proofs.Numbers.{fun_same}
+use Rattle.lemmas.proofs.Parts.{get_first, get_last}
+use Rattle.pblk_world.proofs.WorldLemmas.{log_elsewhere, log_here}
 
 -- ---- what the last event of a prefix knew is there
 
@@ -48,7 +48,7 @@ same_lengths i later w n legal some within = fun_same (logs_at n (log_of (later 
     engine = grows later w 0
 
     last : slice_get (log_of (later ++ w) 0) (n - 1) ≡ slice_get (log_of w 0) (n - 1)
-    last = ap (λ (log : List Logged). slice_get log (n - 1)) engine.1 ∙ got_front (log_of w 0) engine.0 (n - 1) (omega arith)
+    last = ap (λ (log : List Logged). slice_get log (n - 1)) engine.1 ∙ get_first (log_of w 0) engine.0 (n - 1) (omega arith)
 
     each : (author : ℕ) → logs_at n (log_of (later ++ w)) author ≡ logs_at n (log_of w) author
     each zero = ap (take n) engine.1 ∙ take-append-le n (log_of w 0) engine.0 within
@@ -152,7 +152,7 @@ engine_left i w e plain = record {
     last =
         let long : length (log_of next 0) ≡ length (log_of w 0) + 1 = ap (λ (log : List Logged). length log) log_now ∙ length-append (log_of w 0) ((engine_step i.shape e w).logged ∷ []) in
         let at : length (log_of next 0) - 1 ≡ length (log_of w 0) = omega arith in
-        ap₂ (λ (log : List Logged) k. slice_get log k) log_now at ∙ got_last (log_of w 0) (engine_step i.shape e w).logged
+        ap₂ (λ (log : List Logged) k. slice_get log k) log_now at ∙ get_last (log_of w 0) (engine_step i.shape e w).logged
 
     each : (author : ℕ) → logs_at (length (log_of next 0)) (log_of next) author ≡ log_of next author
     each zero = take-length (log_of next 0)

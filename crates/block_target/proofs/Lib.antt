@@ -4,6 +4,8 @@ pub mod Begun
 pub mod ClosedEnd
 pub mod DeviceFronts
 pub mod EngineLengths
+pub mod GrantedRoom
+pub mod GrantedTakes
 pub mod KeptWear
 pub mod NothingLeft
 pub mod PumpedCall
@@ -26,3 +28,5 @@ pub mod TakenRoom
 pub mod TakenSectors
 pub mod UnitStands
 pub mod Written
+pub mod MountLemmas
+pub mod DeedsLemmas

@@ -20,15 +20,12 @@ use Rattle.line_table.specs.Rows.{is_free}
 use Rattle.stripe_placer.specs.OpenLines.{has_left}
 use Rattle.stripe_placer.specs.Placing.{next_stripe}
 use Rattle.stripe_placer.specs.Placing.UnitRow.{Idle}
-use Rattle.stripe_placer.proofs.Chunks.{lt_yes as is_below}
 use Rattle.core_laws.specs.OpenedLines.{open_line, open_lines, standing}
 use Rattle.core_laws.specs.PlacerOf.{placing_of, row_in, unanswered_on, waits_again}
 use Rattle.core_laws.specs.PlainWorlds.{IsPlainWorld}
 use Rattle.core_laws.specs.RowsOf.{rows_of}
-use Rattle.core_laws.proofs.Lists.{all_at, got_within}
 use Rattle.core_laws.proofs.Turns.{filtered_is}
 use Rattle.line_laws.proofs.NextLine.{none_free}
-use Rattle.line_laws.proofs.IdleUnits.{no_both as true_false}
 use Rattle.placed_laws.specs.LeftOpenings.{left_openings}
 use Rattle.placed_laws.proofs.LeftLines.{lines_of_left, left_opened, left_apart}
 use Rattle.placed_laws.proofs.TwoLines.{chunks_left}
@@ -45,6 +42,9 @@ use Rattle.pblk_core.proofs.Laws.{reset_empty}
 use Rattle.pblk_core.specs.declared.work.Work.TheVariants as works
 use Rattle.pblk_core.specs.declared.work.Why.{Why}
 use Rattle.block_target.specs.NothingLeft.{HasNothingLeft}
+use Rattle.lemmas.proofs.Options.{none_there}
+use Rattle.lemmas.proofs.Parts.{all_at, got_within}
+use Rattle.lemmas.proofs.Tests.{lt_true, not_both}
 
 -- ---- what is chosen
 
@@ -63,10 +63,6 @@ no_reset_named (Some chunk) otherwise reason e = absurd cc
 none_first : {X : Type 0} (xs : List X) → slice_get xs 0 ≡ None → xs ≡ []
 none_first [] e = refl
 none_first (x ∷ xs) e = absurd cc
-
-none_there : {X : Type 0} (o : Option X) → is_some o ≡ false → o ≡ None
-none_there None e = refl
-none_there (Some x) e = absurd cc
 
 module _ (i : Image) (w : World) (pad : ℕ) (reason : Why) (legal : IsPlainWorld i w) (idle : (unit : ℕ) → unanswered_on (log_of w 0) unit ≡ None) (none : work_of i (log_of w) pad ≡ works.Nothing reason) where
   abbrev otherwise : Work
@@ -137,7 +133,7 @@ module _ (i : Image) (w : World) (pad : ℕ) (reason : Why) (legal : IsPlainWorl
   none_opened b line start has waits full may = go (chosen.1 asks)
     where
       asks : (nat_lt 0 (length (waiting i.shape (log_of w 0))) && (open_addresses i (log_of w) == 0)) ≡ true
-      asks = ap₂ (λ x n. x && (n == 0)) (is_below 0 (length (waiting i.shape (log_of w 0))) waits) full
+      asks = ap₂ (λ x n. x && (n == 0)) (lt_true 0 (length (waiting i.shape (log_of w 0))) waits) full
 
       seq : first_seq_of (log_of w) + length (openings (log_of w 0)) ≡ start.seq
       seq = ap (λ (o : Option Begun). option_map_or (λ (x : Begun). x.beginning.seq) o 0 + length (openings (log_of w 0))) has ∙ sym may.seq
@@ -149,13 +145,13 @@ module _ (i : Image) (w : World) (pad : ℕ) (reason : Why) (legal : IsPlainWorl
       front = let number : start.front < 2 ^ 61 = may.front_number in let is : start.front ≡ synced i.shape (log_of w 0) = may.front in omega (arith, is, number)
 
       opens : (nat_lt (length (open_lines i (log_of w))) 2 && (nat_lt (first_seq_of (log_of w) + length (openings (log_of w 0))) (2 ^ 61) && nat_lt (synced i.shape (log_of w 0)) (2 ^ 61))) ≡ true
-      opens = ap₂ (λ x y. x && y) (is_below (length (open_lines i (log_of w))) 2 (one_line b line start may))
-          (ap₂ (λ x y. x && y) (is_below (first_seq_of (log_of w) + length (openings (log_of w 0))) (2 ^ 61) low) (is_below (synced i.shape (log_of w 0)) (2 ^ 61) front))
+      opens = ap₂ (λ x y. x && y) (lt_true (length (open_lines i (log_of w))) 2 (one_line b line start may))
+          (ap₂ (λ x y. x && y) (lt_true (first_seq_of (log_of w) + length (openings (log_of w 0))) (2 ^ 61) low) (lt_true (synced i.shape (log_of w 0)) (2 ^ 61) front))
 
       go : (is_some (position is_free (rows_of i (log_of w)).rows) ≡ false)
           ⊎ ((nat_lt (length (open_lines i (log_of w))) 2 && (nat_lt (first_seq_of (log_of w) + length (openings (log_of w 0))) (2 ^ 61) && nat_lt (synced i.shape (log_of w 0)) (2 ^ 61))) ≡ false) → ⊥
-      go (inl no_free) = true_false (is_free_line i (log_of w) line) may.is_free (none_free i (log_of w) line (none_there (position is_free (rows_of i (log_of w)).rows) no_free) may.in_range)
-      go (inr not_open) = true_false _ opens not_open
+      go (inl no_free) = not_both (is_free_line i (log_of w) line) may.is_free (none_free i (log_of w) line (none_there (position is_free (rows_of i (log_of w)).rows) no_free) may.in_range)
+      go (inr not_open) = not_both _ opens not_open
 
   pub nothing_left : (asked : ℕ) → asked ≤ pad → HasNothingLeft i (log_of w) asked
   nothing_left asked within = record {

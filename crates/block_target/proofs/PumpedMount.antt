@@ -1,5 +1,5 @@
 -- A mount whose unit programmed the next stripe.
-use Rattle.std.proofs.Common.{◌≡◌, ℕ, ◌+◌, ◌-◌, ◌*◌, ◌^◌, ◌≤◌, max, suc, Some, None, List, [], ◌∷◌, ◌++◌, length, refl, sym, subst, ap, ◌∙◌, arith, append-nil, le_trans}
+use Rattle.std.proofs.Common.{◌≡◌, ℕ, ◌+◌, ◌-◌, ◌*◌, ◌^◌, ◌<◌, ◌≤◌, max, suc, Some, None, List, [], ◌∷◌, ◌++◌, length, length-append, refl, sym, subst, ap, ◌∙◌, arith, append-nil, le_trans}
 use Rattle.pblk_model.specs.Image.{Image}
 use Rattle.pblk_model.specs.Shape.{units}
 use Rattle.pblk_model.specs.Frames.{PoolView, count_out}
@@ -9,7 +9,6 @@ use Rattle.pblk_world.specs.EngineLog.{Begun, begun, takes}
 use Rattle.pblk_world.specs.Fronts.{first_position, synced}
 use Rattle.pblk_world.specs.Placing.{MayPlace}
 use Rattle.pblk_world.specs.Space.{freed, room}
-use Rattle.pblk_world.proofs.Appending.{takes_more}
 use Rattle.core_laws.specs.PlainWorlds.{IsPlainWorld, ArePlain}
 use Rattle.core_laws.specs.PlacerOf.{unanswered_on}
 use Rattle.core_laws.proofs.Numbering.{first_stays}
@@ -29,10 +28,13 @@ use Rattle.pblk_core.proofs.ChunkRows.{rows_of_chunks}
 use Rattle.pblk_core.proofs.LandedLogs.{freed_landed}
 use Rattle.block_target.specs.Deeds.{Deed, Decides, world_of}
 use Rattle.block_target.specs.Mount.{MountView, IsMount, IsSound, IsSameMount, engine_log, world_in}
-use Rattle.block_target.proofs.PumpedSteps.{world_next, logs_next, synced_next, all_granted, grant_kept}
+use Rattle.block_target.proofs.PumpedSteps.{synced_next, all_granted, grant_kept}
 use Rattle.block_target.proofs.Beginnings.{begun_in}
+use Rattle.block_target.proofs.GrantedRoom.{once_granted}
 use Rattle.block_target.proofs.PumpedUnits.{landed_more, landed_grown}
 use Rattle.block_target.proofs.PumpedProgram.{placed_world, landed_deeds, landed_is, done_is, placed_legal, waits, placed_level, placed, landed_legal, landed_level, landed_known, landed_idle, done_legal as done_legal_of}
+use Rattle.block_target.proofs.DeedsLemmas.{logs_decided, world_more}
+use Rattle.pblk_world.proofs.EngineLogLemmas.{takes_more}
 
 module _ (i : Image) (deeds : List Deed) (stripe : Stripe) (b : Begun) (legal : IsPlainWorld i (world_of i.shape deeds)) (has : begun (log_of (world_of i.shape deeds) 0) ≡ Some b)
     (may : MayPlace i (log_of (world_of i.shape deeds)) stripe) (level : IsLevel (world_of i.shape deeds)) (idle : (unit : ℕ) → unanswered_on (log_of (world_of i.shape deeds) 0) unit ≡ None) where
@@ -55,7 +57,7 @@ module _ (i : Image) (deeds : List Deed) (stripe : Stripe) (b : Begun) (legal : 
   end_log = mid_log ++ record { event = Event (Landed stripe.unit event); knows = knows_all i.shape done_ } ∷ []
 
   mid_is : log_of mid 0 ≡ mid_log
-  mid_is = ap (λ (logs : Logs). logs 0) (logs_next i.shape deeds (Place stripe))
+  mid_is = ap (λ (logs : Logs). logs 0) (logs_decided i.shape deeds (Place stripe))
 
   mid_legal : IsPlainWorld i mid
   mid_legal = placed_legal i deeds stripe b legal has may level idle
@@ -68,7 +70,7 @@ module _ (i : Image) (deeds : List Deed) (stripe : Stripe) (b : Begun) (legal : 
       (engine_beside i.shape stripe.unit (program_of stripe) (next_maker mid) mid ∙ mid_is)
 
   has_mid : begun mid_log ≡ Some b
-  has_mid = ap begun (sym mid_is) ∙ ap (λ (w : World). begun (log_of w 0)) (world_next i.shape deeds (Decides (Place stripe))) ∙ begun_still i.shape (Place stripe) (world_of i.shape deeds) b has
+  has_mid = ap begun (sym mid_is) ∙ ap (λ (w : World). begun (log_of w 0)) (world_more i.shape deeds (Decides (Place stripe))) ∙ begun_still i.shape (Place stripe) (world_of i.shape deeds) b has
 
   end_legal : IsPlainWorld i (world_of i.shape (landed_deeds i deeds stripe))
   end_legal = landed_legal i deeds stripe b legal has may level idle
@@ -139,6 +141,7 @@ module _ (v : MountView) (c : Core) (p : PoolView) (f : Filling) (m : IsMount v 
         granted = subst (λ n. n + units v.image.shape * v.image.shape.ws_opt ≤ new.window.freed + v.image.shape.ring) (sym is) kept.0;
         last = subst (λ n. n ≤ max (2 ^ 61 - 2) (first_position (log_of now_world 0))) (sym is) kept.1;
         room = all_granted granted v.granted (room v.image (log_of now_world)) is;
+        once = once_granted v (programmed us wear granted (pad_of new)) (landed_more stripe) m.sound.beginning m.sound.legal sound.legal sound_begun refl (landed_grown v.deeds stripe) is m.once;
       }
     where
       sound_begun : begun (log_of now_world 0) ≡ Some m.sound.beginning
@@ -146,6 +149,15 @@ module _ (v : MountView) (c : Core) (p : PoolView) (f : Filling) (m : IsMount v 
 
       further : (a x y r g h : ℕ) → a ≤ x + r → x ≡ g → y ≡ h → g ≤ h → a ≤ y + r
       further a x y r g h low e f grows = omega arith
+
+  -- the log is longer
+  pub more_programmed : length (engine_log v) < length (log_of now_world 0)
+  more_programmed =
+      let first : Logged = record { event = Event (Place stripe); knows = knows_all v.image.shape (world_in v) } in
+      let mid : List Logged = engine_log v ++ first ∷ [] in
+      let long : length (log_of now_world 0) ≡ length mid + 1 = ap (λ (log : List Logged). length log) (end_is v.image v.deeds stripe m.stands.beginning m.sound.legal m.stands.has_begun may m.level m.idle) ∙ length-append mid _ in
+      let middle : length mid ≡ length (engine_log v) + 1 = length-append (engine_log v) (first ∷ []) in
+      omega arith
 
   pub same_programmed : (us : List ModelUnit) (wear : List (List ℕ)) (granted pad : ℕ) → wear ≡ v.wear → v.granted ≤ granted → v.pad ≤ pad → IsSameMount v (programmed us wear granted pad)
   same_programmed us wear granted pad same_wear more_granted more_pad = record {

@@ -1,5 +1,5 @@
 -- A mount whose core opened the line that it names.
-use Rattle.std.proofs.Common.{◌≡◌, ℕ, ◌+◌, ◌-◌, ◌*◌, ◌^◌, ◌≤◌, max, List, [], ◌∷◌, ◌++◌, length, refl, sym, subst, ap, ap₂, ◌∙◌, le_refl, append-nil, Some}
+use Rattle.std.proofs.Common.{◌≡◌, ℕ, ◌+◌, ◌-◌, ◌*◌, ◌^◌, ◌<◌, ◌≤◌, max, List, [], ◌∷◌, ◌++◌, length, length-append, arith, refl, sym, subst, ap, ap₂, ◌∙◌, append-nil, Some}
 use Rattle.std.specs.List.{list_any}
 use Rattle.pblk_model.specs.declared.shape.Shape.{Shape}
 use Rattle.pblk_model.specs.Shape.{units}
@@ -12,11 +12,9 @@ use Rattle.pblk_world.specs.EngineLog.{Begun, begun, takes, placements}
 use Rattle.pblk_world.specs.Fronts.{first_position, synced}
 use Rattle.pblk_world.specs.Opening.{MayOpen}
 use Rattle.pblk_world.specs.Space.{freed, gives_back, room}
-use Rattle.pblk_world.proofs.Appending.{takes_more}
 use Rattle.core_laws.specs.PlacerOf.{unanswered_on}
 use Rattle.core_laws.specs.Stepping.{after}
 use Rattle.core_laws.specs.WindowOf.{is_given_back}
-use Rattle.core_laws.proofs.Lists.{fun_same}
 use Rattle.core_laws.proofs.Numbering.{first_stays}
 use Rattle.core_laws.proofs.Steady.{AreAlike, unanswered_in}
 use Rattle.core_laws.proofs.TakenSlots.{gives_back_same, any_same}
@@ -31,21 +29,11 @@ use Rattle.pblk_core.specs.Stands.{Stands}
 use Rattle.pblk_core.specs.declared.target_core.Core.{Core}
 use Rattle.block_target.specs.Deeds.{Deed, Decides, world_of}
 use Rattle.block_target.specs.Mount.{MountView, IsMount, IsSound, IsSameMount, world_in, logs_in, engine_log}
-use Rattle.block_target.proofs.PumpedSteps.{world_next, logs_next, moved, sound_next, synced_next, all_granted, grant_kept}
-
--- nothing was done
-pub same_self : (v : MountView) → IsSameMount v v
-same_self v = record {
-  image = refl;
-  found = refl;
-  wear = refl;
-  more = [];
-  deeds = sym (append-nil v.deeds);
-  takes = refl;
-  synced = le_refl (synced v.image.shape (engine_log v));
-  granted = le_refl v.granted;
-  pad = le_refl v.pad;
-}
+use Rattle.block_target.proofs.GrantedRoom.{once_granted}
+use Rattle.block_target.proofs.PumpedSteps.{moved, sound_next, synced_next, all_granted, grant_kept}
+use Rattle.block_target.proofs.DeedsLemmas.{logs_decided, world_more}
+use Rattle.lemmas.proofs.Numbers.{fun_same}
+use Rattle.pblk_world.proofs.EngineLogLemmas.{takes_more}
 
 abbrev opened_log : List Logged → ℕ → StartRecord → List ℕ → List Logged
 opened_log log line start knows = log ++ record { event = Event (Open line start); knows = knows } ∷ []
@@ -69,6 +57,14 @@ freed_same s log line start knows b has =
         any_same (gives_back s new q) (gives_back s log q) (gives_back_same s log new (alike log line start knows) q) (placements new)
         ∙ ap (list_any (gives_back s log q)) (AreAlike.placements (alike log line start knows))
 
+-- the log is longer
+pub more_opened : (v : MountView) (line : ℕ) (start : StartRecord) → length (engine_log v) < length (log_of (world_of v.image.shape (v.deeds ++ Decides (Open line start) ∷ [])) 0)
+more_opened v line start =
+    let long : length (log_of (world_of v.image.shape (v.deeds ++ Decides (Open line start) ∷ [])) 0) ≡ length (engine_log v) + 1 =
+    ap (λ (logs : Logs). length (logs 0)) (logs_decided v.image.shape v.deeds (Open line start))
+    ∙ length-append (engine_log v) (record { event = Event (Open line start); knows = knows_all v.image.shape (world_in v) } ∷ []) in
+    omega arith
+
 module _ (v : MountView) (c new : Core) (line : ℕ) (start : StartRecord) where
   abbrev deeds_ : List Deed
   deeds_ = v.deeds ++ Decides (Open line start) ∷ []
@@ -77,11 +73,11 @@ module _ (v : MountView) (c new : Core) (line : ℕ) (start : StartRecord) where
   world_ = world_of v.image.shape deeds_
 
   log_is : log_of world_ 0 ≡ opened_log (engine_log v) line start (knows_all v.image.shape (world_in v))
-  log_is = ap (λ (logs : Logs). logs 0) (logs_next v.image.shape v.deeds (Open line start))
+  log_is = ap (λ (logs : Logs). logs 0) (logs_decided v.image.shape v.deeds (Open line start))
 
   -- by what the core's call says
   pub open_stands : ((knows : List ℕ) → Stands v.image (after (logs_in v) (Open line start) knows) new) → Stands v.image (log_of world_) new
-  open_stands st = subst (λ (logs : Logs). Stands v.image logs new) (sym (logs_next v.image.shape v.deeds (Open line start))) (st (knows_all v.image.shape (world_in v)))
+  open_stands st = subst (λ (logs : Logs). Stands v.image logs new) (sym (logs_decided v.image.shape v.deeds (Open line start))) (st (knows_all v.image.shape (world_in v)))
 
   pub open_sound : (granted pad : ℕ) (p : PoolView) (f : Filling) (m : IsMount v c p f) → ((b : Begun) → begun (engine_log v) ≡ Some b → MayOpen v.image (logs_in v) b line start)
       → IsSound (moved v deeds_ granted pad)
@@ -107,8 +103,8 @@ module _ (v : MountView) (c new : Core) (line : ℕ) (start : StartRecord) where
         sound = sound;
         stands = open_stands st;
         pad = refl;
-        level = subst IsLevel (sym (world_next v.image.shape v.deeds (Decides (Open line start)))) (level_by v.image.shape (Open line start) (world_in v) (λ unit. refl) m.level);
-        known = subst (IsKnown v.image) (sym (world_next v.image.shape v.deeds (Decides (Open line start)))) (known_still v.image (world_in v) (Open line start) refl (λ unit. refl) m.known);
+        level = subst IsLevel (sym (world_more v.image.shape v.deeds (Decides (Open line start)))) (level_by v.image.shape (Open line start) (world_in v) (λ unit. refl) m.level);
+        known = subst (IsKnown v.image) (sym (world_more v.image.shape v.deeds (Decides (Open line start)))) (known_still v.image (world_in v) (Open line start) refl (λ unit. refl) m.known);
         idle = λ unit.
             let same_one : AreAlike (engine_log v) (opened_log (engine_log v) line start (knows_all v.image.shape (world_in v))) = alike (engine_log v) line start (knows_all v.image.shape (world_in v)) in
             ap (λ (log : List Logged). unanswered_on log unit) log_is ∙ ap₂ (λ ps ns. unanswered_in ps ns unit) same_one.placements same_one.answers ∙ m.idle unit;
@@ -121,6 +117,7 @@ module _ (v : MountView) (c new : Core) (line : ℕ) (start : StartRecord) where
         granted = subst (λ n. n + units v.image.shape * v.image.shape.ws_opt ≤ new.window.freed + v.image.shape.ring) (sym is) kept.0;
         last = subst (λ n. n ≤ max (2 ^ 61 - 2) (first_position (log_of world_ 0))) (sym is) kept.1;
         room = all_granted granted v.granted (room v.image (log_of world_)) is;
+        once = once_granted v (moved v deeds_ granted (pad_of new)) (Decides (Open line start) ∷ []) sound.beginning m.sound.legal sound.legal sound.has_begun refl refl is m.once;
       }
 
   pub same_opened : (p : PoolView) (f : Filling) (granted pad : ℕ) → IsMount v c p f → ((b : Begun) → begun (engine_log v) ≡ Some b → MayOpen v.image (logs_in v) b line start)

@@ -1,5 +1,5 @@
 -- A stripe is placed, its unit programs it, and that is noted as landed: the worlds that these make.
-use Rattle.std.proofs.Common.{◌≡◌, ◌≢◌, ◌⊎◌, inl, inr, ℕ, ◌+◌, ◌-◌, ◌≤◌, ◌<◌, suc, true, false, Some, None, List, [], ◌∷◌, ◌++◌, length, refl, sym, subst, ap, ap₂, ◌∙◌, arith, length-append, append-nil}
+use Rattle.std.proofs.Common.{◌≡◌, ◌≢◌, ◌⊎◌, inl, inr, ℕ, ◌+◌, ◌-◌, ◌≤◌, ◌<◌, suc, true, false, Some, None, List, [], ◌∷◌, ◌++◌, length, refl, sym, subst, ap, ap₂, ◌∙◌, arith, append-nil}
 use Rattle.std.specs.Prelude.{slice_get}
 use Rattle.std.proofs.lemmas.Bool.{cases_order}
 use Rattle.pblk_model.specs.Image.{Image}
@@ -17,8 +17,6 @@ use Rattle.core_laws.specs.PlainWorlds.{IsPlainWorld}
 use Rattle.core_laws.specs.PlacerOf.{unanswered_on}
 use Rattle.core_laws.specs.Stepping.{after}
 use Rattle.core_laws.proofs.Placing.{IsPlacing, new_placed, placed_on_now, answers_now}
-use Rattle.core_laws.proofs.Rows.{same_number, other_number}
-use Rattle.core_laws.proofs.Lists.{none_past}
 use Rattle.core_laws.proofs.PlacedLines.{get_last as got_end}
 use Rattle.landing_laws.proofs.PlainStripes.{one_unanswered}
 use Rattle.pblk_laws.specs.LineBlocks.{chunk_in}
@@ -30,15 +28,16 @@ use Rattle.step_laws.proofs.Levels.{level_by, landing_legal, landing_level, land
 use Rattle.step_laws.proofs.Programs.{program_legal, unit_in_range}
 use Rattle.step_laws.proofs.UnitStays.{found_stays}
 use Rattle.step_laws.proofs.UnitSteps.{unit_log, may_land}
-use Rattle.line_laws.proofs.KeptRows.{found_kept}
 use Rattle.pblk_core.specs.Stands.{Stands}
 use Rattle.pblk_core.specs.declared.target_core.Core.{Core}
 use Rattle.block_target.specs.Deeds.{Deed, Decides, Does, Lands, after_deed, world_of}
-use Rattle.block_target.proofs.PumpedSteps.{world_next, logs_next, found_next}
+use Rattle.block_target.proofs.PumpedSteps.{found_next}
 use Rattle.block_target.proofs.UnitStands.{stands_beside}
-
-one_less : (xs : List Logged) (x : Logged) → length (xs ++ x ∷ []) - 1 ≡ length xs
-one_less xs x = let more : length (xs ++ x ∷ []) ≡ length xs + 1 = length-append xs (x ∷ []) in omega arith
+use Rattle.block_target.proofs.DeedsLemmas.{logs_decided, world_more}
+use Rattle.core_laws.proofs.SteppingLemmas.{found_kept}
+use Rattle.lemmas.proofs.Parts.{none_past}
+use Rattle.lemmas.proofs.Tests.{other_number, same_number}
+use Rattle.pblk_world.proofs.EventsLemmas.{one_less}
 
 module _ (i : Image) (deeds : List Deed) (stripe : Stripe) where
   abbrev pub before : World
@@ -60,27 +59,27 @@ module _ (i : Image) (deeds : List Deed) (stripe : Stripe) where
   done_world = after_program i.shape stripe.unit stripe (next_maker placed_world) placed_world
 
   pub done_is : world_of i.shape done_deeds ≡ done_world
-  done_is = world_next i.shape placed_deeds (Does stripe.unit (program_of stripe))
+  done_is = world_more i.shape placed_deeds (Does stripe.unit (program_of stripe))
 
   pub landed_is : world_of i.shape landed_deeds ≡ after_landing i.shape stripe.unit stripe (next_maker placed_world) placed_world
   landed_is =
-      world_next i.shape done_deeds (Lands stripe.unit)
+      world_more i.shape done_deeds (Lands stripe.unit)
       ∙ ap (λ (w : World). after_deed i.shape w (Lands stripe.unit)) done_is
       ∙ ap (λ n. engine_step i.shape (Landed stripe.unit n) done_world ∷ done_world)
       (ap (λ (log : List Logged). length log - 1) (unit_log i.shape stripe.unit (program_of stripe) (next_maker placed_world) placed_world)
       ∙ one_less (log_of placed_world (suc stripe.unit)) (unit_step i.shape stripe.unit (program_of stripe) (next_maker placed_world) placed_world).logged)
 
   log_is : log_of placed_world 0 ≡ after (log_of before) (Place stripe) (knows_all i.shape before) 0
-  log_is = ap (λ (logs : Logs). logs 0) (logs_next i.shape deeds (Place stripe))
+  log_is = ap (λ (logs : Logs). logs 0) (logs_decided i.shape deeds (Place stripe))
 
   -- what is known as the stripe is placed
   module _ (b : Begun) (legal : IsPlainWorld i before) (has : begun (log_of before 0) ≡ Some b) (may : MayPlace i (log_of before) stripe) (level : IsLevel before)
       (idle : (unit : ℕ) → unanswered_on (log_of before 0) unit ≡ None) where
     pub placed_legal : IsPlainWorld i placed_world
-    placed_legal = subst (IsPlainWorld i) (sym (world_next i.shape deeds (Decides (Place stripe)))) (engine_next i before b (Place stripe) legal has may refl)
+    placed_legal = subst (IsPlainWorld i) (sym (world_more i.shape deeds (Decides (Place stripe)))) (engine_next i before b (Place stripe) legal has may refl)
 
     pub placed_level : IsLevel placed_world
-    placed_level = subst IsLevel (sym (world_next i.shape deeds (Decides (Place stripe)))) (level_by i.shape (Place stripe) before (λ unit. refl) level)
+    placed_level = subst IsLevel (sym (world_more i.shape deeds (Decides (Place stripe)))) (level_by i.shape (Place stripe) before (λ unit. refl) level)
 
     placing : IsPlacing (log_of before 0) stripe may.opening
     placing = record {
@@ -127,7 +126,7 @@ module _ (i : Image) (deeds : List Deed) (stripe : Stripe) where
     landed_level = subst IsLevel (sym landed_is) (landing_level i placed_world stripe.unit placed (next_maker placed_world) placed_legal waits (placed_level stripe.unit) placed_level)
 
     placed_known : IsKnown i before → IsKnown i placed_world
-    placed_known known = subst (IsKnown i) (sym (world_next i.shape deeds (Decides (Place stripe)))) (known_still i before (Place stripe) refl (λ unit. refl) known)
+    placed_known known = subst (IsKnown i) (sym (world_more i.shape deeds (Decides (Place stripe)))) (known_still i before (Place stripe) refl (λ unit. refl) known)
 
     pub landed_known : IsKnown i before → IsKnown i (world_of i.shape landed_deeds)
     landed_known known = subst (IsKnown i) (sym landed_is) (landing_known i placed_world stripe.unit placed (next_maker placed_world) placed_legal waits (placed_level stripe.unit) (placed_known known))
@@ -156,7 +155,7 @@ module _ (i : Image) (deeds : List Deed) (stripe : Stripe) where
 
     -- the core, once it placed the stripe, and once it heard that it landed
     pub placed_stands : (c : Core) → ((knows : List ℕ) → Stands i (after (log_of before) (Place stripe) knows) c) → Stands i (log_of placed_world) c
-    placed_stands c st = subst (λ (logs : Logs). Stands i logs c) (sym (logs_next i.shape deeds (Place stripe))) (st (knows_all i.shape before))
+    placed_stands c st = subst (λ (logs : Logs). Stands i logs c) (sym (logs_decided i.shape deeds (Place stripe))) (st (knows_all i.shape before))
 
     pub done_stands : (c : Core) → Stands i (log_of placed_world) c → Stands i (log_of (world_of i.shape done_deeds)) c
     done_stands c st = subst (λ (w : World). Stands i (log_of w) c) (sym done_is) (stands_beside i placed_world stripe.unit (program_of stripe) (next_maker placed_world) c placed_legal st)

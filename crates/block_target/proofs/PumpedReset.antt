@@ -1,5 +1,5 @@
 -- A unit resets a chunk of a line that was given up, and that is noted: the world that these make, and the mount then.
-use Rattle.std.proofs.Common.{◌≡◌, ◌≢◌, ◌⊎◌, inl, inr, ℕ, ◌+◌, ◌-◌, ◌*◌, ◌^◌, ◌<◌, ◌≤◌, max, suc, true, Some, List, [], ◌∷◌, ◌++◌, length, refl, sym, subst, ap, ap₂, ◌∙◌, arith, length-append, append_assoc, append-nil}
+use Rattle.std.proofs.Common.{◌≡◌, ◌≢◌, ◌⊎◌, inl, inr, ℕ, ◌+◌, ◌-◌, ◌*◌, ◌^◌, ◌<◌, ◌≤◌, max, suc, true, Some, List, [], ◌∷◌, ◌++◌, length, refl, sym, subst, ap, ap₂, ◌∙◌, arith, append_assoc, append-nil, length-append}
 use Rattle.std.specs.Prelude.{map, slice_get, slice_set}
 use Rattle.std.specs.Option.{option_map, option_and_then}
 use Rattle.std.proofs.lemmas.Option.{same_Some, slice_get_within}
@@ -21,12 +21,10 @@ use Rattle.pblk_world.specs.Fronts.{first_position, synced}
 use Rattle.pblk_world.specs.Lines.{found_image, known_image}
 use Rattle.pblk_world.specs.Space.{freed, room}
 use Rattle.pblk_world.specs.Answering.{MayNoteReset}
-use Rattle.pblk_world.proofs.Appending.{takes_more}
 use Rattle.core_laws.specs.PlainWorlds.{IsPlainWorld, ArePlain}
 use Rattle.core_laws.specs.PlacerOf.{unanswered_on}
 use Rattle.core_laws.specs.Stepping.{after}
 use Rattle.core_laws.proofs.Numbering.{first_stays}
-use Rattle.line_laws.proofs.KeptRows.{found_kept}
 use Rattle.landing_laws.proofs.FreedFront.{freed_rises}
 use Rattle.prefix_law.proofs.Fronts.{synced_rises}
 use Rattle.write_window.specs.Window as window
@@ -48,12 +46,14 @@ use Rattle.placing_laws.proofs.UnitHistory.{event_length as event_count}
 use Rattle.block_target.specs.Deeds.{Deed, Does, NotesReset, after_deed, world_of}
 use Rattle.block_target.specs.Mount.{MountView, IsMount, IsSound, IsUnitIn, IsSameMount, world_in, logs_in, engine_log}
 use Rattle.block_target.proofs.Beginnings.{begun_in}
-use Rattle.block_target.proofs.PumpedSteps.{world_next, all_granted, grant_kept}
+use Rattle.block_target.proofs.GrantedRoom.{once_granted}
+use Rattle.block_target.proofs.PumpedSteps.{all_granted, grant_kept}
 use Rattle.block_target.proofs.PumpedUnits.{one_changed, as_many}
 use Rattle.block_target.proofs.UnitStands.{stands_beside}
-
-one_less : (xs : List Logged) (x : Logged) → length (xs ++ x ∷ []) - 1 ≡ length xs
-one_less xs x = let more : length (xs ++ x ∷ []) ≡ length xs + 1 = length-append xs (x ∷ []) in omega arith
+use Rattle.block_target.proofs.DeedsLemmas.{world_more}
+use Rattle.core_laws.proofs.SteppingLemmas.{found_kept}
+use Rattle.pblk_world.proofs.EngineLogLemmas.{takes_more}
+use Rattle.pblk_world.proofs.EventsLemmas.{one_less}
 
 is_used : (state : ChunkState) → is_used_state state ≡ true → IsUsed state
 is_used states.Free e = absurd cc
@@ -87,11 +87,11 @@ module _ (v : MountView) (c : Core) (p : PoolView) (f : Filling) (m : IsMount v 
   end_world = world_of v.image.shape (reset_deeds v.deeds line unit)
 
   mid_is : world_of v.image.shape (v.deeds ++ Does unit (reset_of line) ∷ []) ≡ mid
-  mid_is = world_next v.image.shape v.deeds (Does unit (reset_of line))
+  mid_is = world_more v.image.shape v.deeds (Does unit (reset_of line))
 
   end_is : end_world ≡ after_noted_reset v.image.shape unit line (next_maker w) w
   end_is =
-      world_next v.image.shape (v.deeds ++ Does unit (reset_of line) ∷ []) (NotesReset unit)
+      world_more v.image.shape (v.deeds ++ Does unit (reset_of line) ∷ []) (NotesReset unit)
       ∙ ap (λ (x : World). after_deed v.image.shape x (NotesReset unit)) mid_is
       ∙ ap (λ n. engine_step v.image.shape (ResetDone unit n) mid ∷ mid)
       (ap (λ (log : List Logged). length log - 1) (unit_log v.image.shape unit (reset_of line) (next_maker w) w)
@@ -159,6 +159,12 @@ module _ (v : MountView) (c : Core) (p : PoolView) (f : Filling) (m : IsMount v 
 
   pub takes_stay : takes (log_of end_world 0) ≡ takes (engine_log v)
   takes_stay = ap takes end_log ∙ takes_more (engine_log v) end_logged ∙ append-nil (takes (engine_log v))
+
+  -- the log is longer
+  pub more_reset : length (engine_log v) < length (log_of end_world 0)
+  more_reset =
+      let long : length (log_of end_world 0) ≡ length (engine_log v) + 1 = ap (λ (log : List Logged). length log) end_log ∙ length-append (engine_log v) (end_logged ∷ []) in
+      omega arith
 
   first_at : first_position (log_of end_world 0) ≡ first_position (engine_log v)
   first_at = ap first_position end_log ∙ first_stays (engine_log v) end_logged m.sound.beginning m.sound.has_begun
@@ -288,6 +294,7 @@ module _ (v : MountView) (c : Core) (p : PoolView) (f : Filling) (m : IsMount v 
         granted = subst (λ n. n + units v.image.shape * v.image.shape.ws_opt ≤ new.window.freed + v.image.shape.ring) (sym is_granted) kept.0;
         last = subst (λ n. n ≤ max (2 ^ 61 - 2) (first_position (log_of end_world 0))) (sym is_granted) kept.1;
         room = all_granted granted v.granted (room i (log_of end_world)) is_granted;
+        once = once_granted v (reset_view us wear granted (pad_of new)) (reset_more line unit) sound.beginning m.sound.legal sound.legal sound.has_begun refl (reset_grown v.deeds line unit) is_granted m.once;
       }
     where
       further : (a x y r g h : ℕ) → a ≤ x + r → x ≡ g → y ≡ h → g ≤ h → a ≤ y + r

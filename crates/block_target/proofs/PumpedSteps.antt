@@ -1,8 +1,6 @@
 -- What is done next by the engine of a mount: the world that it makes, and what stays sound.
 use Rattle.std.proofs.Common.{◌≡◌, ℕ, ◌+◌, ◌-◌, ◌*◌, ◌^◌, ◌≤◌, max, min, true, Some, None, List, [], ◌∷◌, ◌++◌, sym, subst, ap, refl, ◌∙◌, arith}
 use Rattle.std.specs.Prelude.{slice_get}
-use Rattle.std.proofs.lemmas.List.Sums.{fold-append}
-use Rattle.pblk_model.specs.declared.shape.Shape.{Shape}
 use Rattle.pblk_model.specs.Shape.{units}
 use Rattle.pblk_model.specs.Image.{Image}
 use Rattle.pblk_world.specs.Events.{EngineEvent, Begin, Take, Open, Place, Landed, Lost, Again, ResetDone, Free, Decides as Event, Logged}
@@ -13,23 +11,16 @@ use Rattle.pblk_world.specs.Lines.{found_image}
 use Rattle.pblk_world.specs.Space.{freed, room, ring_limit, space_limit, position_limit}
 use Rattle.pblk_world.specs.Legal.{IsDecision}
 use Rattle.core_laws.specs.PlainWorlds.{IsPlainWorld, ArePlain, is_plain_decision}
-use Rattle.core_laws.specs.Stepping.{after}
 use Rattle.core_laws.proofs.Numbering.{first_stays}
 use Rattle.prefix_law.proofs.Fronts.{synced_rises}
-use Rattle.line_laws.proofs.KeptRows.{found_kept}
 use Rattle.step_laws.specs.Whole.{knows_all}
-use Rattle.step_laws.proofs.EngineSteps.{engine_next, engine_logs, media_still}
+use Rattle.step_laws.proofs.EngineSteps.{engine_next, media_still}
 use Rattle.pblk_core.proofs.SmallGrant.{ring_kept}
-use Rattle.block_target.specs.Deeds.{Deed, Decides, after_deed, world_of}
+use Rattle.block_target.specs.Deeds.{Deed, Decides, world_of}
 use Rattle.block_target.specs.Mount.{MountView, IsSound, IsUnitIn, world_in, logs_in, engine_log}
 use Rattle.block_target.proofs.Beginnings.{begun_grown}
-
-pub world_next : (s : Shape) (deeds : List Deed) (d : Deed) → world_of s (deeds ++ d ∷ []) ≡ after_deed s (world_of s deeds) d
-world_next s deeds d = fold-append (after_deed s) [] deeds (d ∷ [])
-
--- the logs once the engine decided
-pub logs_next : (s : Shape) (deeds : List Deed) (e : EngineEvent) → log_of (world_of s (deeds ++ Decides e ∷ [])) ≡ after (log_of (world_of s deeds)) e (knows_all s (world_of s deeds))
-logs_next s deeds e = ap log_of (world_next s deeds (Decides e)) ∙ engine_logs s e (world_of s deeds)
+use Rattle.block_target.proofs.DeedsLemmas.{logs_decided, world_more}
+use Rattle.core_laws.proofs.SteppingLemmas.{found_kept}
 
 -- a mount that has begun doesn't begin again
 pub begins_not : (i : Image) (logs : Logs) (b : Begun) (e : EngineEvent) (knows : List ℕ) → IsDecision i logs b e → begun_by knows (Event e) ≡ None
@@ -47,7 +38,7 @@ begins_not i logs b (Free line) knows may = refl
 pub found_next : (i : Image) (deeds : List Deed) (e : EngineEvent) (b : Begun) → IsDecision i (log_of (world_of i.shape deeds)) b e
     → found_image i (log_of (world_of i.shape (deeds ++ Decides e ∷ []))) ≡ found_image i (log_of (world_of i.shape deeds))
 found_next i deeds e b may =
-    ap (found_image i) (logs_next i.shape deeds e)
+    ap (found_image i) (logs_decided i.shape deeds e)
     ∙ found_kept i (log_of (world_of i.shape deeds)) e (knows_all i.shape (world_of i.shape deeds)) (begins_not i (log_of (world_of i.shape deeds)) b e (knows_all i.shape (world_of i.shape deeds)) may)
 
 -- a mount whose deeds and units are these
@@ -57,7 +48,7 @@ moved v deeds granted pad = record { image = v.image; found = v.found; deeds = d
 pub sound_next : (v : MountView) (e : EngineEvent) (b : Begun) (granted pad : ℕ) → IsSound v → begun (engine_log v) ≡ Some b → IsDecision v.image (logs_in v) b e → is_plain_decision e ≡ true
     → IsSound (moved v (v.deeds ++ Decides e ∷ []) granted pad)
 sound_next v e b granted pad sound has may plain = record {
-  legal = subst (IsPlainWorld v.image) (sym (world_next v.image.shape v.deeds (Decides e))) (engine_next v.image (world_in v) b e sound.legal has may plain);
+  legal = subst (IsPlainWorld v.image) (sym (world_more v.image.shape v.deeds (Decides e))) (engine_next v.image (world_in v) b e sound.legal has may plain);
   beginning = sound.beginning;
   has_begun = begun_grown v.image v.deeds (Decides e ∷ []) sound.beginning sound.has_begun;
   first_low = sound.first_low;
@@ -67,7 +58,7 @@ sound_next v e b granted pad sound has may plain = record {
       let was : IsUnitIn v number u = sound.each number u there in
       record {
         shape = was.shape;
-        media = ap (λ (w : World). slice_get (media v.image (log_of w)).units number) (world_next v.image.shape v.deeds (Decides e))
+        media = ap (λ (w : World). slice_get (media v.image (log_of w)).units number) (world_more v.image.shape v.deeds (Decides e))
             ∙ ap (λ (m : Image). slice_get m.units number) (media_still v.image v.image.shape e (world_in v)) ∙ was.media;
         unarmed = was.unarmed;
         fit = was.fit;
@@ -80,7 +71,7 @@ pub synced_next : (i : Image) (deeds : List Deed) (e : EngineEvent) (b : Begun) 
 synced_next i deeds e b has plain =
     let log : List Logged = log_of (world_of i.shape deeds) 0 in
     let l : Logged = record { event = Event e; knows = knows_all i.shape (world_of i.shape deeds) } in
-    let is : log_of (world_of i.shape (deeds ++ Decides e ∷ [])) 0 ≡ log ++ l ∷ [] = ap (λ (logs : Logs). logs 0) (logs_next i.shape deeds e) in
+    let is : log_of (world_of i.shape (deeds ++ Decides e ∷ [])) 0 ≡ log ++ l ∷ [] = ap (λ (logs : Logs). logs 0) (logs_decided i.shape deeds e) in
     subst (λ (new : List Logged). synced i.shape log ≤ synced i.shape new) (sym is)
     (synced_rises i.shape log l (subst ArePlain is plain.engine) (first_stays log l b has))
 

@@ -21,8 +21,8 @@ use Rattle.unit_port.specs.Unit.{ModelUnit, IsFitUnit, IsReady}
 use Rattle.block_target.specs.Deeds.{Deed, Decides, Does, Lands, world_of}
 use Rattle.block_target.specs.Mount.{MountView, IsSound, IsUnitIn, world_in}
 use Rattle.block_target.proofs.Beginnings.{begun_in}
-use Rattle.block_target.proofs.PumpedSteps.{world_next}
 use Rattle.block_target.proofs.PumpedProgram.{landed_is, placed_world, landed_deeds}
+use Rattle.block_target.proofs.DeedsLemmas.{world_more}
 
 -- ---- one unit is another
 
@@ -63,7 +63,7 @@ module _ (v : MountView) (stripe : Stripe) where
   done_ = after_program v.image.shape stripe.unit stripe (next_maker placed_) placed_
 
   placed_media : media v.image (log_of placed_) ≡ media v.image (log_of (world_in v))
-  placed_media = ap (λ (w : World). media v.image (log_of w)) (world_next v.image.shape v.deeds (Decides (Place stripe))) ∙ media_still v.image v.image.shape (Place stripe) (world_in v)
+  placed_media = ap (λ (w : World). media v.image (log_of w)) (world_more v.image.shape v.deeds (Decides (Place stripe))) ∙ media_still v.image v.image.shape (Place stripe) (world_in v)
 
   landed_media : media v.image (log_of (world_of v.image.shape (landed_deeds v.image v.deeds stripe))) ≡ media v.image (log_of done_)
   landed_media = ap (λ (w : World). media v.image (log_of w)) (landed_is v.image v.deeds stripe) ∙ media_still v.image v.image.shape (Landed stripe.unit (length (log_of placed_ (suc stripe.unit)))) done_

@@ -3,7 +3,6 @@ use Rattle.std.proofs.Common.{◌≡◌, ◌≢◌, ◌⊎◌, inl, inr, ℕ, �
 use Rattle.std.specs.Prelude.{slice_get, slice_set, slice_index_or, map, Result, Ok, Err, IsOk}
 use Rattle.std.specs.Option.{option_map, option_and_then}
 use Rattle.std.proofs.lemmas.Bool.{cases_order}
-use Rattle.std.proofs.lemmas.List.Sums.{fold-append}
 use Rattle.std.proofs.lemmas.Option.{same_Some, slice_get_within, slice_get-map, slice_get_read}
 use Rattle.std.proofs.Math.ListN.{length-set}
 use Rattle.pblk_model.specs.declared.shape.Shape.{Shape}
@@ -29,10 +28,8 @@ use Rattle.pblk_world.specs.Fronts.{first_position, synced}
 use Rattle.pblk_world.specs.Lines.{found_image}
 use Rattle.pblk_world.specs.Space.{freed, room}
 use Rattle.pblk_laws.specs.LineBlocks.{chunk_in}
-use Rattle.pblk_laws.proofs.ImageBytesPieces.{all_at as all_get}
 use Rattle.core_laws.specs.PlainWorlds.{IsPlainWorld}
 use Rattle.core_laws.specs.PlacerOf.{unanswered_on}
-use Rattle.core_laws.proofs.Lists.{get_set_other, get_set_same}
 use Rattle.step_laws.specs.Whole.{unit_step, fetch_of, next_maker, IsLevel, IsKnown}
 use Rattle.step_laws.proofs.UnitSteps.{engine_log as engine_log_stays, media_now, media_elsewhere}
 use Rattle.step_laws.proofs.Known.{known_at_fetch}
@@ -42,23 +39,22 @@ use Rattle.step_laws.proofs.Levels.{level_unit}
 use Rattle.pblk_core.specs.Filling.{Filling}
 use Rattle.pblk_core.specs.Stands.{Stands}
 use Rattle.pblk_core.specs.declared.target_core.Core.{Core}
-use Rattle.stripe_placer.proofs.Chunks.{lt_yes as is_below}
-use Rattle.block_target.specs.Deeds.{Deed, Does, after_deed, world_of}
+use Rattle.block_target.specs.Deeds.{Deed, Does}
 use Rattle.block_target.specs.Mount.{MountView, IsMount, IsSound, IsUnitIn, IsSameMount, IsFetchable, world_in, logs_in, engine_log, synced_in}
+use Rattle.block_target.proofs.GrantedRoom.{room_grown}
 use Rattle.block_target.proofs.UnitStands.{stands_beside}
+use Rattle.block_target.proofs.DeedsLemmas.{world_more}
+use Rattle.lemmas.proofs.Parts.{all_get, get_set_other, get_set_same}
+use Rattle.lemmas.proofs.Tests.{lt_true}
 
 -- ---- lists
-
--- the world with one thing more
-world_more : (s : Shape) (deeds : List Deed) (d : Deed) → world_of s (deeds ++ d ∷ []) ≡ after_deed s (world_of s deeds) d
-world_more s deeds d = fold-append (after_deed s) [] deeds (d ∷ [])
 
 -- ---- what can be fetched
 
 read_taken : (s : Shape) (state : ChunkState) (wp b : ℕ) → PointerFits state s.clba wp → ReadableIn state s.mw_cunits wp b → read_refusal_in s state b ≡ None
 read_taken s states.Free wp b fits h = absurd h
-read_taken s states.Open wp b fits h = let below : wp < s.clba = fits.1 in ap (λ t. if t then None else Some errors.PastEnd) (is_below b s.clba (omega arith))
-read_taken s states.Closed wp b fits h = ap (λ t. if t then None else Some errors.PastEnd) (is_below b s.clba (omega arith))
+read_taken s states.Open wp b fits h = let below : wp < s.clba = fits.1 in ap (λ t. if t then None else Some errors.PastEnd) (lt_true b s.clba (omega arith))
+read_taken s states.Closed wp b fits h = ap (λ t. if t then None else Some errors.PastEnd) (lt_true b s.clba (omega arith))
 read_taken s states.Offline wp b fits h = absurd h
 
 chunk_of : (all : List (List Chunk)) (unit line : ℕ) (chunks : List Chunk) (o : Option Chunk) → slice_get all unit ≡ Some chunks → option_and_then (λ cs. slice_get cs line) (slice_get all unit) ≡ o → slice_get chunks line ≡ o
@@ -218,6 +214,7 @@ module _ (v : MountView) (unit chunk number : ℕ) (u new : ModelUnit) (b : Bloc
         let same : room v.image (logs_in left) ≡ room v.image (logs_in v) = ap (λ (x : World). room v.image (log_of x)) now ∙ room_stays v.image w unit e (next_maker w) sound.legal in
         let low : room v.image (logs_in v) ≤ v.granted = is.room in
         omega (arith, same, low);
+    once = room_grown v left (Does unit e ∷ []) v.granted sound.legal refl refl is.once;
   }
 
   -- what was given is what stands there

@@ -23,14 +23,14 @@ use Rattle.core_laws.specs.OpenedLines.{live_now}
 use Rattle.core_laws.specs.PlainWorlds.{IsPlainWorld}
 use Rattle.core_laws.specs.SlotOf.{slot_of}
 use Rattle.core_laws.proofs.Placing.{not_below}
-use Rattle.core_laws.proofs.Lists.{range_get}
 use Rattle.look_laws.specs.SlotBlocks.{IsBlockOfSlot}
 use Rattle.look_laws.proofs.LiveUnits.{live_small}
 use Rattle.look_laws.proofs.LatestSectors.{cached_latest, window_latest}
 use Rattle.pblk_core.specs.Stands.{Stands}
 use Rattle.pblk_core.specs.declared.target_core.Core.{Core}
-use Rattle.stripe_placer.proofs.Chunks.{lt_yes as is_below}
 use Rattle.block_target.specs.Mount.{MountView, IsFetchable, IsSound, engine_log, logs_in, world_in, latest}
+use Rattle.lemmas.proofs.Maps.{range_get}
+use Rattle.lemmas.proofs.Tests.{lt_true}
 
 -- ---- the window
 
@@ -53,7 +53,7 @@ held_at_sector win q sector there = go (cases_order q win.freed)
     go : (q ≡ win.freed) ⊎ ((q < win.freed) ⊎ (win.freed < q)) → IsHeld win q
     go (inl same) = above (omega arith)
     go (inr (inl below)) =
-        absurd (none-some sector (sym (ap (λ b. option_map (λ (h : Held). h.entry.frame.bytes) (if b then None else slice_get win.entries (q - win.freed))) (is_below q win.freed below)) ∙ there))
+        absurd (none-some sector (sym (ap (λ b. option_map (λ (h : Held). h.entry.frame.bytes) (if b then None else slice_get win.entries (q - win.freed))) (lt_true q win.freed below)) ∙ there))
     go (inr (inr over)) = above (omega arith)
 
 -- what a sector holds, by the image that the mount found

@@ -1,12 +1,11 @@
 -- Sectors that are read one after another, as the loop reads them.
-use Rattle.std.proofs.Common.{◌≡◌, ℕ, zero, suc, ◌+◌, ◌-◌, ◌*◌, ◌/◌, ◌<◌, ◌≤◌, Some, List, [], ◌∷◌, ◌++◌, length, take, drop, slice_range, refl, sym, subst, ap, ap₂, ◌∙◌, arith, append-nil, append_assoc, le_trans, le_refl}
+use Rattle.std.proofs.Common.{◌≡◌, ℕ, zero, suc, ◌+◌, ◌-◌, ◌*◌, ◌/◌, ◌<◌, ◌≤◌, Some, List, [], ◌∷◌, ◌++◌, length, take, drop, slice_range, refl, sym, subst, ap, ap₂, ◌∙◌, arith, append-nil}
 use Rattle.std.specs.Prelude.{slice_get, map}
 use Rattle.std.specs.List.{filter}
 use Rattle.std.proofs.Math.Nat.{mul-le-mul_right}
 use Rattle.std.proofs.Math.Seq.{take-append_seam}
-use Rattle.std.proofs.lemmas.List.{take-append-le, drop-append-le, length-drop, length-take-le, take-append-drop}
+use Rattle.std.proofs.lemmas.List.{length-take-le, take-append-drop}
 use Rattle.std.proofs.lemmas.Option.{none-some, same_Some}
-use Rattle.std.proofs.lemmas.Slice.{take-put_mid, drop-put_mid}
 use borrow.Rule.Slice.PartMut.{put_mid}
 use Rattle.pblk_model.specs.Image.{Image}
 use Rattle.pblk_model.specs.declared.run.Front.{Front}
@@ -16,31 +15,14 @@ use Rattle.pblk_world.specs.EngineLog.{Taken}
 use Rattle.pblk_world.specs.Fronts.{is_users, user_takes}
 use Rattle.block_port.specs.Own.{PlacedSector, sectors_of}
 use Rattle.block_port.specs.Port.{contents_after, count_in, sectors_at}
-use Rattle.core_laws.proofs.Lists.{get_dropped as dropped_get}
-use Rattle.pblk_core.proofs.Filled.{suc-mul as suc_times}
 use Rattle.block_target.specs.Mount.{MountView, IsSameMount, engine_log, front_taken, latest}
 use Rattle.block_target.specs.Serial.{SerialView, device}
+use Rattle.block_port.proofs.OwnLemmas.{cut_none, sectors_append}
+use Rattle.block_target.proofs.MountLemmas.{same_mount, same_then}
+use Rattle.lemmas.proofs.Numbers.{next_at}
+use Rattle.lemmas.proofs.Parts.{get_dropped, part_length, put_part}
 
 -- ---- runs of sectors
-
-next_at : (index size : ℕ) → (index + 1) * size ≡ index * size + size
-next_at index size = grind arith
-
--- two runs of sectors, one after the other
-sectors_append : (size k n : ℕ) (front rest : List ℕ) → length front ≡ k * size → sectors_of size (k + n) (front ++ rest) ≡ sectors_of size k front ++ sectors_of size n rest
-unfolding sectors_of
-sectors_append size zero n [] rest h = let e : 0 + n ≡ n = omega arith in rw e refl
-sectors_append size zero n (b ∷ front) rest h = absurd (omega (arith, h))
-sectors_append size (suc k) n front rest h =
-    let e : suc k + n ≡ suc (k + n) = omega arith in
-    let long : length front ≡ size + k * size = h ∙ suc_times k size in
-    let within : size ≤ length front = omega (arith, long) in
-    let left : length (drop size front) ≡ k * size = length-drop size front ∙ omega (arith, long) in
-    rw (e, take-append-le size front rest within, drop-append-le size front rest within) (ap (λ ss. take size front ∷ ss) (sectors_append size k n (drop size front) rest left))
-
-none_of : (size : ℕ) (bytes : List ℕ) → sectors_of size 0 bytes ≡ []
-unfolding sectors_of
-none_of size bytes = refl
 
 one_of : (size : ℕ) (sector rest : List ℕ) → length sector ≡ size → sectors_of size 1 (sector ++ rest) ≡ sector ∷ []
 unfolding sectors_of
@@ -51,16 +33,7 @@ first_of_more size k bytes enough =
     let e : k + 0 ≡ k = omega arith in
     ap (sectors_of size k) (sym (take-append-drop (k * size) bytes)) ∙ ap (λ n. sectors_of size n (take (k * size) bytes ++ drop (k * size) bytes)) (sym e)
     ∙ sectors_append size k 0 (take (k * size) bytes) (drop (k * size) bytes) (length-take-le (k * size) bytes enough)
-    ∙ ap (λ ss. sectors_of size k (take (k * size) bytes) ++ ss) (none_of size (drop (k * size) bytes)) ∙ append-nil (sectors_of size k (take (k * size) bytes))
-
--- a part that was written over
-put_part : (at n : ℕ) (xs ys zs : List ℕ) → ys ≡ zs → n ≡ length zs → at + length zs ≤ length xs → put_mid at n xs ys ≡ take at xs ++ (zs ++ drop (at + length zs) xs)
-put_part at n xs ys zs same long fits =
-    let end = at + length zs in
-    let ys_long : length ys ≡ n = ap length same ∙ sym long in
-    let front = take-put_mid at n xs ys end (ap (λ k. at + k) (sym long ∙ sym ys_long)) (omega (arith, fits)) in
-    let back = drop-put_mid at n xs ys end (omega (arith, long)) (omega (arith, fits)) ys_long in
-    sym (take-append-drop end (put_mid at n xs ys)) ∙ ap (λ f. f ++ drop end (put_mid at n xs ys)) front ∙ ap (λ b. (take at xs ++ ys) ++ b) back ∙ append_assoc (take at xs) ys (drop end xs) ∙ ap (λ y. take at xs ++ (y ++ drop end xs)) same
+    ∙ ap (λ ss. sectors_of size k (take (k * size) bytes) ++ ss) (cut_none size (drop (k * size) bytes)) ∙ append-nil (sectors_of size k (take (k * size) bytes))
 
 pub one_more_read : (size index : ℕ) (bytes sector : List ℕ) → length sector ≡ size → index * size + size ≤ length bytes
     → sectors_of size (index + 1) (put_mid (index * size) size bytes sector) ≡ sectors_of size index bytes ++ sector ∷ []
@@ -85,25 +58,9 @@ pub range_next : {X : Type 0} (xs : List X) (at n : ℕ) (x : X) → slice_get x
 range_next xs at n x there =
     let long : at + (n + 1) - at ≡ n + 1 = omega arith in
     let short : at + n - at ≡ n = omega arith in
-    ap (λ k. take k (drop at xs)) long ∙ take_next n (drop at xs) x (dropped_get at xs n ∙ there) ∙ ap (λ k. take k (drop at xs) ++ x ∷ []) (sym short)
+    ap (λ k. take k (drop at xs)) long ∙ take_next n (drop at xs) x (get_dropped at xs n ∙ there) ∙ ap (λ k. take k (drop at xs) ++ x ∷ []) (sym short)
 
 -- ---- mounts of which nothing more was taken
-
-pub still : (v : MountView) → IsSameMount v v
-still v = record { image = refl; found = refl; wear = refl; more = []; deeds = sym (append-nil v.deeds); takes = refl; synced = le_refl _; granted = le_refl v.granted; pad = le_refl v.pad }
-
-pub and_then : (a b c : MountView) → IsSameMount a b → IsSameMount b c → IsSameMount a c
-and_then a b c x y = record {
-  image = y.image ∙ x.image;
-  found = y.found ∙ x.found;
-  wear = y.wear ∙ x.wear;
-  more = x.more ++ y.more;
-  deeds = y.deeds ∙ ap (λ ds. ds ++ y.more) x.deeds ∙ append_assoc a.deeds x.more y.more;
-  takes = y.takes ∙ x.takes;
-  synced = le_trans x.synced y.synced;
-  granted = le_trans x.granted y.granted;
-  pad = le_trans x.pad y.pad;
-}
 
 -- all sectors are as they were
 pub latest_stays : (a b : MountView) → IsSameMount a b → latest b ≡ latest a
@@ -115,10 +72,11 @@ latest_stays a b same =
 -- those below the index are read
 pub record IsReading (old now : MountView) (lba size count index : ℕ) (out : List ℕ) : Type 0 where
   pub same : IsSameMount old now
+  pub pad : now.pad ≡ old.pad
   pub read : sectors_of size index out ≡ slice_range (latest old) lba (lba + index)
 
 pub reading_begins : (v : MountView) (lba size count : ℕ) (out : List ℕ) → IsReading v v lba size count 0 out
-reading_begins v lba size count out = record { same = still v; read = none_of size out ∙ sym (range_none (latest v) lba) }
+reading_begins v lba size count out = record { same = same_mount v; pad = refl; read = cut_none size out ∙ sym (range_none (latest v) lba) }
 
 pub part_inside : (index count size : ℕ) → index < count → index * size + size ≤ count * size
 part_inside index count size less =
@@ -126,20 +84,16 @@ part_inside index count size less =
     let le : (index + 1) * size ≤ count * size = mul-le-mul_right size (let h : index + 1 ≤ count = omega arith in h) in
     omega arith
 
-pub part_long : (at size : ℕ) (bytes : List ℕ) → at + size ≤ length bytes → length (slice_range bytes at (at + size)) ≡ size
-part_long at size bytes inside =
-    let e : at + size - at ≡ size = omega arith in
-    ap (λ n. length (take n (drop at bytes))) e ∙ length-take-le size (drop at bytes) (let rest : length (drop at bytes) ≡ length bytes - at = length-drop at bytes in omega arith)
-
 pub reading_more : (old now new : MountView) (lba size count index n : ℕ) (out sector : List ℕ) → IsReading old now lba size count index out → index < count → length out ≡ count * size
-    → IsSameMount now new → slice_get (latest now) (lba + index) ≡ Some sector → length sector ≡ length (slice_range out (index * size) (index * size + size)) → n ≡ size
+    → IsSameMount now new → new.pad ≡ now.pad → slice_get (latest now) (lba + index) ≡ Some sector → length sector ≡ length (slice_range out (index * size) (index * size + size)) → n ≡ size
     → IsReading old new lba size count (index + 1) (put_mid (index * size) n out sector)
-reading_more old now new lba size count index n out sector is less whole same there kept wide =
+reading_more old now new lba size count index n out sector is less whole same padded there kept wide =
     let inside : index * size + size ≤ count * size = part_inside index count size less in
-    let long : length sector ≡ size = kept ∙ part_long (index * size) size out (omega arith) in
+    let long : length sector ≡ size = kept ∙ part_length (index * size) size out (omega arith) in
     let at : slice_get (latest old) (lba + index) ≡ Some sector = ap (λ (xs : List (List ℕ)). slice_get xs (lba + index)) (sym (latest_stays old now is.same)) ∙ there in
     record {
-      same = and_then old now new is.same same;
+      same = same_then old now new is.same same;
+      pad = padded ∙ is.pad;
       read =
           ap (λ k. sectors_of size (index + 1) (put_mid (index * size) k out sector)) wide ∙ one_more_read size index out sector long (omega arith)
           ∙ ap (λ ss. ss ++ sector ∷ []) is.read ∙ sym (range_next (latest old) lba index sector at);

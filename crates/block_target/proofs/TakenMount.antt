@@ -2,8 +2,6 @@
 use Rattle.std.proofs.Common.{◌≡◌, ℕ, ◌+◌, ◌-◌, ◌*◌, ◌^◌, ◌<◌, ◌≤◌, max, suc, true, None, Some, List, [], ◌∷◌, ◌++◌, length, refl, sym, subst, ap, ap₂, ◌∙◌, arith, length-append}
 use Rattle.std.specs.Prelude.{slice_get, slice_index}
 use Rattle.std.specs.List.{AllByRecursion}
-use Rattle.std.proofs.lemmas.List.Sums.{fold-append}
-use Rattle.pblk_model.specs.declared.shape.Shape.{Shape}
 use Rattle.pblk_model.specs.Frames.{Region, PoolView, count_left, count_out}
 use Rattle.pblk_model.specs.Image.{Image}
 use Rattle.pblk_model.specs.Marks.{sector_mark}
@@ -21,9 +19,8 @@ use Rattle.core_laws.specs.Stepping.{after}
 use Rattle.core_laws.proofs.Numbering.{first_stays}
 use Rattle.core_laws.proofs.Steady.{AreAlike, unanswered_in}
 use Rattle.core_laws.proofs.Taking.{alike, with_take}
-use Rattle.core_laws.proofs.Lists.{with_last}
 use Rattle.step_laws.specs.Whole.{knows_all, engine_step, IsLevel, IsKnown}
-use Rattle.step_laws.proofs.EngineSteps.{engine_next, engine_logs, media_still}
+use Rattle.step_laws.proofs.EngineSteps.{engine_next, media_still}
 use Rattle.step_laws.proofs.Known.{known_still}
 use Rattle.step_laws.proofs.Levels.{level_by}
 use Rattle.sector_pool.specs.declared.entry.Entry.{Entry as FramedEntry}
@@ -38,19 +35,16 @@ use Rattle.pblk_core.specs.Named.{pad_of}
 use Rattle.pblk_core.specs.Stands.{Stands}
 use Rattle.pblk_core.specs.Taken.{entry_of, mark_of}
 use Rattle.pblk_core.proofs.StandsFacts.{next_is_unplaced, window_taken_is}
-use Rattle.block_target.specs.Deeds.{Deed, Decides, after_deed, world_of}
+use Rattle.block_target.specs.Deeds.{Deed, Decides, world_of}
 use Rattle.block_target.specs.Mount.{MountView, IsMount, IsUnitIn, world_in, logs_in, engine_log, taken_in, with_entry}
 use Rattle.block_target.proofs.Beginnings.{begun_grown}
+use Rattle.block_target.proofs.GrantedRoom.{room_grown}
 use Rattle.block_target.proofs.PumpedSteps.{found_next}
 use Rattle.block_target.proofs.TakenRoom.{freed_same, room_taken}
+use Rattle.block_target.proofs.DeedsLemmas.{logs_decided, world_more}
+use Rattle.lemmas.proofs.Lists.{with_last}
 
 -- ---- one thing more is done
-
-pub world_more : (s : Shape) (deeds : List Deed) (d : Deed) → world_of s (deeds ++ d ∷ []) ≡ after_deed s (world_of s deeds) d
-world_more s deeds d = fold-append (after_deed s) [] deeds (d ∷ [])
-
-pub logs_decided : (s : Shape) (deeds : List Deed) (e : EngineEvent) → log_of (world_of s (deeds ++ Decides e ∷ [])) ≡ after (log_of (world_of s deeds)) e (knows_all s (world_of s deeds))
-logs_decided s deeds e = ap log_of (world_more s deeds (Decides e)) ∙ engine_logs s e (world_of s deeds)
 
 -- ---- room
 
@@ -137,6 +131,7 @@ mount_taken v old new p q f e m is = record {
   granted = subst (λ n. v.granted + units v.image.shape * v.image.shape.ws_opt ≤ n + v.image.shape.ring) (sym freed_stays) m.granted;
   last = subst (λ n. v.granted ≤ max (2 ^ 61 - 2) n) (sym (ap first_position log_is ∙ first_stays (engine_log v) (record { event = Did event; knows = knows }) b begins)) m.last;
   room = room_stays;
+  once = room_grown v (record { image = v.image; found = v.found; deeds = taken_deeds v e; units = v.units; wear = v.wear; granted = v.granted; pad = pad_of new }) (Decides event ∷ []) v.granted m.sound.legal refl refl m.once;
 }
   where
     i : Image

@@ -19,17 +19,18 @@ use Rattle.core_laws.specs.Stepping.{after}
 use Rattle.core_laws.specs.WindowOf.{is_given_back}
 use Rattle.core_laws.proofs.Numbering.{first_stays}
 use Rattle.core_laws.proofs.Taking.{with_take}
-use Rattle.core_laws.proofs.Tests.{no_both as not_both}
 use Rattle.core_laws.proofs.TakenWindow.{not_landed as no_landed}
 use Rattle.landing_laws.proofs.FreedFront.{freed_here}
 use Rattle.landing_laws.proofs.Growing.{given_landed}
 use Rattle.landing_laws.proofs.Least.{IsLeast, least}
 use Rattle.line_laws.proofs.Kept.{lives_kept}
-use Rattle.line_laws.proofs.KeptRows.{found_kept, known_kept}
+use Rattle.line_laws.proofs.KeptRows.{known_kept}
 use Rattle.line_laws.proofs.OpenAddresses.{addresses_kept}
 use Rattle.line_laws.proofs.PlacedFront.{front_taken}
 use Rattle.line_laws.proofs.Ranges.{sum_same}
 use Rattle.pblk_core.proofs.StandsTaken.{freed_taken, given_same}
+use Rattle.core_laws.proofs.SteppingLemmas.{found_kept}
+use Rattle.lemmas.proofs.Tests.{no_both}
 
 -- ---- the front freed stays
 
@@ -37,7 +38,7 @@ given_none : (s : Shape) (log : List Logged) (q : ℕ) → IsUnplaced s log q �
 given_none s log q none = go (is_given_back s log q) refl
   where
     go : (b : Bool) → is_given_back s log q ≡ b → b ≡ false
-    go true e = not_both (has_landed_at s log q) (given_landed s log q e) (no_landed s log q (placements log) none)
+    go true e = no_both (has_landed_at s log q) (given_landed s log q e) (no_landed s log q (placements log) none)
     go false e = refl
 
 given_at_freed : (s : Shape) (log : List Logged) → IsUnplaced s log (taken log) → is_given_back s log (freed s log) ≡ false

@@ -1,17 +1,19 @@
 -- Sectors that are taken one after another, as the loop takes them.
-use Rattle.std.proofs.Common.{◌≡◌, ℕ, suc, ◌+◌, ◌-◌, ◌*◌, ◌<◌, ◌≤◌, List, [], ◌∷◌, ◌++◌, length, take, drop, slice_range, refl, sym, ap, ap₂, ◌∙◌, arith, length-append}
+use Rattle.std.proofs.Common.{◌≡◌, ℕ, zero, suc, ◌+◌, ◌-◌, ◌*◌, ◌<◌, ◌≤◌, List, [], ◌∷◌, ◌++◌, length, take, drop, slice_range, refl, sym, ap, ap₂, ◌∙◌, arith, length-append}
 use Rattle.std.proofs.lemmas.List.{drop-drop}
 use Rattle.pblk_model.specs.Marks.{sector_mark}
 use Rattle.pblk_world.specs.Events.{EngineEvent, Take, Logged, Decides as Did}
 use Rattle.pblk_world.specs.EngineLog.{Taken, takes}
 use Rattle.pblk_world.specs.Fronts.{taken}
-use Rattle.pblk_world.proofs.Appending.{takes_more}
 use Rattle.landing_laws.proofs.Slots.{first_kept}
 use Rattle.core_laws.proofs.Taking.{with_take}
 use Rattle.step_laws.specs.Whole.{knows_all}
 use Rattle.block_port.specs.Own.{sectors_of}
 use Rattle.block_target.specs.Mount.{MountView, world_in, engine_log, taken_in, next_entry, with_entry, with_entries}
-use Rattle.block_target.proofs.TakenMount.{logs_decided}
+use Rattle.block_port.proofs.OwnLemmas.{cut_none}
+use Rattle.block_target.proofs.DeedsLemmas.{logs_decided}
+use Rattle.lemmas.proofs.Numbers.{next_at}
+use Rattle.pblk_world.proofs.EngineLogLemmas.{takes_more}
 
 -- ---- the log after one
 
@@ -39,15 +41,14 @@ cut_one : (size n : ℕ) (bytes : List ℕ) → sectors_of size (suc n) bytes �
 unfolding sectors_of
 cut_one size n bytes = refl
 
-cut_none : (size : ℕ) (bytes : List ℕ) → sectors_of size 0 bytes ≡ []
+-- there are as many
+pub sectors_many : (size n : ℕ) (bytes : List ℕ) → length (sectors_of size n bytes) ≡ n
 unfolding sectors_of
-cut_none size bytes = refl
+sectors_many size zero bytes = refl
+sectors_many size (suc n) bytes = ap (λ k. suc k) (sectors_many size n (drop size bytes))
 
 pub slice_is : (at size : ℕ) (bytes : List ℕ) → slice_range bytes at (at + size) ≡ take size (drop at bytes)
 slice_is at size bytes = let e : at + size - at ≡ size = omega arith in ap (λ n. take n (drop at bytes)) e
-
-next_at : (index size : ℕ) → (index + 1) * size ≡ index * size + size
-next_at index size = grind arith
 
 pub taking_more : (old now new : MountView) (lba size count index : ℕ) (bytes : List ℕ) → IsTaking old now lba size count index bytes → index < count
     → new ≡ with_entry now (lba + index) (slice_range bytes (index * size) (index * size + size)) → IsTaking old new lba size count (index + 1) bytes

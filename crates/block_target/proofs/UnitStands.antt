@@ -15,7 +15,6 @@ use Rattle.line_table.specs.Rows.{is_free}
 use Rattle.stripe_placer.specs.Placing.{next_stripe}
 use Rattle.core_laws.specs.OpenedLines.{live_now, open_line}
 use Rattle.core_laws.specs.PlainWorlds.{IsPlainWorld, IsPlainWorld}
-use Rattle.core_laws.proofs.Lists.{map_same}
 use Rattle.step_laws.specs.Whole.{unit_step}
 use Rattle.step_laws.proofs.UnitSteps.{engine_log}
 use Rattle.step_laws.proofs.UnitStays.{known_stays, rows_stay, lines_stay, older_stay, live_stays, line_stays, left_stay, slot_stays, window_stays, placing_stays, addresses_stay}
@@ -26,6 +25,7 @@ use Rattle.pblk_core.specs.LineRecords.{AreOf}
 use Rattle.pblk_core.specs.declared.open_lines.OpenLine.{OpenLine}
 use Rattle.pblk_core.specs.declared.open_lines.OpenLines.{OpenLines}
 use Rattle.pblk_core.specs.declared.target_core.Core.{Core}
+use Rattle.lemmas.proofs.Maps.{map_same}
 
 module _ (i : Image) (w : World) (unit : ℕ) (e : UnitEvent) (maker : Maker) where
   abbrev after_ : Logs

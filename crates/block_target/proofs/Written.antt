@@ -13,15 +13,12 @@ use Rattle.pblk_model.specs.Marks.{sector_mark}
 use Rattle.pblk_world.specs.Events.{Take, Logged, Decides as Did}
 use Rattle.pblk_world.specs.EngineLog.{Taken, takes}
 use Rattle.pblk_world.specs.Fronts.{synced, is_users, user_takes}
-use Rattle.pblk_world.proofs.Appending.{takes_more}
 use Rattle.core_laws.proofs.Taking.{filter_last}
 use Rattle.landing_laws.proofs.Growing.{synced_grown}
-use Rattle.pblk_core.proofs.SmallPositions.{taken_bounded}
 use Rattle.step_laws.specs.Whole.{knows_all}
 use Rattle.block_port.specs.declared.rows.WornAnswer.{WornAnswer}
 use Rattle.block_port.specs.Own.{PlacedSector, OwnWrite, placed_from, lines_of}
 use Rattle.block_port.specs.Port.{AreSectors, Learns, IsSameTarget, Rise}
-use Rattle.prefix_law.proofs.Starting.{first_is as first_of}
 use Rattle.block_target.specs.Deeds.{Deed}
 use Rattle.block_target.specs.Mount.{MountView, IsSound, IsSameMount, IsStuckAt, logs_in, world_in, engine_log, taken_in, synced_in, next_entry, with_entry, with_entries}
 use Rattle.block_target.specs.NothingLeft.{IsWriteRefusal, AreRefusals}
@@ -29,6 +26,9 @@ use Rattle.block_target.specs.Serial.{SerialView, IsSerial, lines_in, device}
 use Rattle.block_target.proofs.Beginnings.{first_same}
 use Rattle.block_target.proofs.Refusals.{refusals_grown, entries_more, write_refused}
 use Rattle.block_target.proofs.TakenSectors.{log_taken, taken_more}
+use Rattle.block_port.proofs.PortLemmas.{rise_placed}
+use Rattle.block_target.proofs.MountLemmas.{taken_small}
+use Rattle.pblk_world.proofs.EngineLogLemmas.{takes_more}
 
 -- ---- work that takes nothing
 
@@ -40,9 +40,6 @@ lines_kept old new same = ap (λ (ts : List Taken). map line_of_take (filter (λ
 
 pub taken_kept : (old new : MountView) → IsSound old → IsSound new → IsSameMount old new → taken_in new ≡ taken_in old
 taken_kept old new was is same = ap₂ (λ a (ts : List Taken). a + length ts) (first_same old new was same) same.takes
-
-pub taken_low : (v : MountView) → IsSound v → taken_in v ≤ 2 ^ 62
-taken_low v sound = taken_bounded v.image (world_in v) sound.legal (subst (λ n. n ≤ 2 ^ 62) (sym (first_of (engine_log v) sound.beginning sound.has_begun)) sound.first_low)
 
 pub learns_none : (old new : SerialView) → IsSound old.mount → IsSound new.mount → IsSameMount old.mount new.mount → Learns (device old) (device new)
 learns_none old new was is same = record {
@@ -97,12 +94,6 @@ found_all v lba (sector ∷ sectors) = found_all (with_entry v lba sector) (lba 
 wear_all : (v : MountView) (lba : ℕ) (sectors : List (List ℕ)) → (with_entries v lba sectors).wear ≡ v.wear
 wear_all v lba [] = refl
 wear_all v lba (sector ∷ sectors) = wear_all (with_entry v lba sector) (lba + 1) sectors
-
-pub rise_placed : (p lba : ℕ) (sectors : List (List ℕ)) → Rise p (p + length sectors) (placed_from p lba sectors)
-rise_placed p lba [] = omega arith
-rise_placed p lba (s ∷ sectors) =
-    let e : p + 1 + length sectors ≡ p + length (s ∷ sectors) = omega arith in
-    (omega arith, subst (λ n. Rise (p + 1) n (placed_from (p + 1) (lba + 1) sectors)) e (rise_placed (p + 1) (lba + 1) sectors))
 
 -- ---- a write
 
@@ -167,6 +158,11 @@ worns_write old new mid lba sectors is serial worns =
     (ap (λ (v : MountView). v.deeds) is.mount ∙ rest.1 ∙ ap (λ (ds : List Deed). ds ++ rest.0) is.same.deeds ∙ append_assoc old.mount.deeds is.same.more rest.0)
     serial.worns)
 
+-- the pad target stays
+pub pad_all : (v : MountView) (lba : ℕ) (sectors : List (List ℕ)) → (with_entries v lba sectors).pad ≡ v.pad
+pad_all v lba [] = refl
+pad_all v lba (sector ∷ sectors) = pad_all (with_entry v lba sector) (lba + 1) sectors
+
 -- ---- numbers
 
 pub count_is : (n size len : ℕ) → 0 < size → len ≡ n * size → len / size ≡ n
@@ -186,7 +182,7 @@ pub end_low : (v : MountView) (s : Shape) (first count len : ℕ) → IsSound v 
 end_low v s first count len sound from same is sectors =
     let n : len / v.image.shape.sector ≡ sectors.count = count_is sectors.count v.image.shape.sector len (sector_some v sound) sectors.whole in
     let here : count ≡ sectors.count = is ∙ ap (λ (s : Shape). len / s.sector) same ∙ n in
-    let low : taken_in v ≤ 2 ^ 62 = taken_low v sound in
+    let low : taken_in v ≤ 2 ^ 62 = taken_small v sound in
     let few : sectors.count ≤ 16 = sectors.few in
     omega arith
 

@@ -11,6 +11,7 @@ use Rattle.core_laws.specs.PlainWorlds.{IsPlainWorld}
 use Rattle.core_laws.specs.Stepping.{after}
 use Rattle.found_laws.specs.Beginnings.{beginning_of}
 use Rattle.found_laws.specs.Finding.{IsFoundOf}
+use Rattle.pblk_core.specs.Named.{pad_of}
 use Rattle.pblk_core.specs.Stands.{Stands}
 use Rattle.pblk_core.specs.declared.target_core.Core.{Core}
 use Rattle.block_target.specs.declared.mount.Parts.{Parts}
@@ -21,9 +22,10 @@ HasBegun s f c = (i : Image) (w : World) (knows : List ℕ) → i.shape ≡ s �
     → IsFoundOf (found_image i (after (log_of w) (Begin (beginning_of f)) knows)) f
     → Stands i (after (log_of w) (Begin (beginning_of f)) knows) c
 
--- All frames of the pool are left, as many as the ring's positions and of a sector's size.
+-- The pad target is 0, and all frames of the pool are left, as many as the ring's positions and of a sector's size.
 pub record AreBegun (s : Shape) (f : Found) (p : Parts) : Type 0 where
   pub core : HasBegun s f p.core
+  pub pad : pad_of p.core ≡ 0
   pub out : count_out p.pool.left ≡ 0
   pub count : p.pool.region.count ≡ s.ring
   pub size : p.pool.region.size ≡ s.sector

@@ -7,7 +7,7 @@ use Rattle.pblk_model.specs.UnitLog.{UnitEvent}
 use Rattle.pblk_world.specs.Events.{EngineEvent, Landed, ResetDone}
 use Rattle.pblk_world.specs.World.{World, log_of}
 use Rattle.unit_port.specs.Unit.{ModelUnit}
-use Rattle.opening_steps.specs.Opened.{after_units}
+use Rattle.step_laws.specs.Opened.{after_units}
 use Rattle.step_laws.specs.Whole.{engine_step, unit_step, next_maker}
 
 pub data Deed : Type 0 where

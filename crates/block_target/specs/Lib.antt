@@ -1,5 +1,6 @@
 pub mod Begun
 pub mod Deeds
+pub mod Granted
 pub mod NothingLeft
 pub mod Mount
 pub mod Opened

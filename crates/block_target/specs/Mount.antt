@@ -28,6 +28,7 @@ use Rattle.pblk_core.specs.declared.target_core.Core.{Core}
 use Rattle.pblk_core.specs.declared.work.Work.{Work}
 use Rattle.look_laws.specs.SlotBlocks.{IsBlockOfSlot}
 use Rattle.block_target.specs.Deeds.{Deed, Decides, world_of}
+use Rattle.block_target.specs.Granted.{WasRoom}
 use Rattle.block_target.specs.NothingLeft.{HasNothingLeftAt}
 
 pub record MountView : Type 0 where
@@ -107,8 +108,10 @@ pub record IsMount (v : MountView) (c : Core) (p : PoolView) (filling : Filling)
   -- no grant passes the ring's end, less what is kept for collection, nor the last position
   pub granted : v.granted + units v.image.shape * v.image.shape.ws_opt ≤ c.window.freed + v.image.shape.ring
   pub last : v.granted ≤ max (2 ^ 61 - 2) (first_position (engine_log v))
-  -- and there is no room that isn't granted
+  -- there is no room that isn't granted
   pub room : room v.image (logs_in v) ≤ v.granted
+  -- and no more is granted than there once was room for
+  pub once : WasRoom v.image (logs_in v) (length (engine_log v)) v.granted
 
 -- What calls leave.
 

@@ -3,13 +3,14 @@ use Rattle.std.specs.Prelude.{◌≡◌, List, [], ◌∷◌}
 use Rattle.pblk_model.specs.declared.shape.Shape.{Shape}
 use Rattle.pblk_model.specs.declared.found.Found.{Found}
 use Rattle.pblk_world.specs.Events.{Begin}
+use Rattle.pblk_world.specs.Space.{room}
 use Rattle.unit_port.specs.Unit.{ModelUnit}
 use Rattle.scan_recovery.specs.Units.{image_of}
 use Rattle.found_laws.specs.Beginnings.{beginning_of}
-use Rattle.opening_steps.specs.Finding.{IsFoundAfter}
-use Rattle.opening_steps.specs.Opened.{new_events}
+use Rattle.scan_recovery.specs.Readying.{IsFoundAfter}
+use Rattle.step_laws.specs.Opened.{new_events}
 use Rattle.block_target.specs.Deeds.{Deed, Readies, Decides}
-use Rattle.block_target.specs.Mount.{MountView}
+use Rattle.block_target.specs.Mount.{MountView, logs_in}
 use Rattle.block_target.specs.declared.readying.Ready.{Ready}
 
 -- what is done then: the mount begins
@@ -21,10 +22,11 @@ pub record IsReady (s : Shape) (old new : List ModelUnit) (ready : Ready) : Type
   pub drives : ready.drives ≡ old ∷ new ∷ []
   pub deeds : ready.deeds ≡ first_deeds old new ready.found
 
--- A mount of these units has begun, and that is all. It found the drive as that now is.
+-- A mount of these units has begun, and that is all. It found the drive as that now is. It is granted what there is room for.
 pub record IsOpened (s : Shape) (us : List ModelUnit) (v : MountView) : Type 0 where
   pub image : v.image ≡ image_of s us
   pub found_is : v.found ≡ image_of s v.units
   pub found : Found
   pub is : IsFoundAfter s us v.units found
   pub deeds : v.deeds ≡ first_deeds us v.units found
+  pub granted : v.granted ≡ room v.image (logs_in v)

@@ -1,5 +1,5 @@
 -- A port for one session: what contracts see of it, and the device that it is.
-use Rattle.std.specs.Prelude.{ℕ, ◌^◌, ◌<◌, ◌≡◌, ⊤, List, [], map, length, Some, Result, Ok, Err}
+use Rattle.std.specs.Prelude.{ℕ, ◌+◌, ◌-◌, ◌^◌, ◌<◌, ◌≡◌, ⊤, List, [], map, length, Some, Result, Ok, Err}
 use Rattle.std.specs.List.{flat_map}
 use Rattle.pblk_model.specs.declared.run.Front.{Front}
 use Rattle.pblk_model.specs.declared.run.Place.{Place}
@@ -13,6 +13,7 @@ use Rattle.block_port.specs.declared.port.FlushErr.{FlushErr}
 use Rattle.block_port.specs.declared.port.FlushErr.TheVariants as flush
 use Rattle.block_port.specs.declared.rows.WornAnswer.{WornAnswer}
 use Rattle.block_target.specs.Mount.{MountView, IsCollectionOver, logs_in, engine_log, taken_in, synced_in}
+use Rattle.block_target.specs.Granted.{WasRoom, AreGranted}
 use Rattle.block_target.specs.NothingLeft.{IsFlushRefusal, IsWriteRefusal, AreRefusals}
 use Rattle.block_target.specs.declared.opening.SettleErr.{SettleErr}
 use Rattle.block_target.specs.declared.opening.SettleErr.TheVariants as settle
@@ -45,11 +46,17 @@ device s = record {
   footing = Some (record { image = s.mount.image; wear = s.mount.wear });
 }
 
--- The history is made of the session's own writes, and each Worn had its cause.
+-- The history is made of the session's own writes, each of which was granted before, and each Worn had its cause.
 pub record IsSerial (s : SerialView) : Type 0 where
   pub alone : lines_in s.mount ≡ flat_map lines_of s.own
   pub small : s.seen < 2 ^ 63
   pub worns : AreRefusals s.mount.image (logs_in s.mount) s.worns
+  pub granted : AreGranted s.mount.image (logs_in s.mount)
+
+-- A write that was placed so: there was room for it before the first of its sectors was taken.
+abbrev pub IsGrantedPlace : MountView → Place → Type 0
+IsGrantedPlace v place =
+    WasRoom v.image (logs_in v) (length (engine_log v) - place.count) (place.first + place.count)
 
 -- Why a write of so many sectors answers Worn, and why a flush does: at the end of the engine's log, as the call leaves it,
 -- there is nothing left to do. `Drive` doesn't come, since no command fails or is stopped.

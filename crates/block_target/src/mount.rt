@@ -14,10 +14,11 @@ ghost use Rattle.write_window.specs.Window as view;
 ghost use Rattle.pblk_core.specs.Named.{pad_of};
 ghost use Rattle.pblk_core.specs.Stands.{Stands};
 ghost use Rattle.scan_recovery.specs.Units.{AreFit};
-ghost use Rattle.opening_steps.specs.Opened.{AreUnarmed};
-ghost use Rattle.block_target.specs.Mount.{MountView, IsMount, IsSound, IsSameMount, IsStuckAt, IsSpent, IsCollectionOver, IsFetchable, logs_in, with_entry, work_in, with_pad, taken_in, synced_in, front_taken, front_synced, latest};
+ghost use Rattle.unit_port.specs.Commands.{AreUnarmed};
+ghost use Rattle.block_target.specs.Granted.{WasRoom};
+ghost use Rattle.block_target.specs.Mount.{MountView, IsMount, IsSound, IsSameMount, IsStuckAt, IsSpent, IsCollectionOver, IsFetchable, engine_log, logs_in, with_entry, work_in, with_pad, taken_in, synced_in, front_taken, front_synced, latest};
 ghost use Rattle.pblk_core.specs.Resets.{IsToReset};
-ghost use Rattle.opening_steps.specs.Finding.{AreHandedBack};
+ghost use Rattle.scan_recovery.specs.Readying.{AreHandedBack};
 ghost use Rattle.block_target.specs.Opened.{IsOpened};
 ghost use Rattle.pblk_core.specs.declared.work.Work.TheVariants as works;
 
@@ -103,6 +104,7 @@ fn free_frames(core: &mut Core, pool: &mut Pool)
         → Stands i (log_of w) core.new }
     ensures drained { (i : Image) (w : World) → IsPlainWorld i w → Stands i (log_of w) core.old
         → core.new.window.freed ≡ freed i.shape (log_of w 0) }
+    ensures unread { view.is_readable_at core.new.window core.new.window.freed ≡ false }
     ensures own { view.AreOf pool.new.region core.new.window.entries }
     ensures out { count_out pool.old.left + length core.new.window.entries
         ≡ count_out pool.new.left + length core.old.window.entries }
@@ -194,9 +196,11 @@ impl<U: Unit> Mount<U> {
         self.core.front()
     }
 
-    /// Looks what comes next, and does it; false where there is nothing to do.
+    /// Looks what comes next, and does it, so that the engine's log grows; false where there is nothing to do.
     fn pump(&mut self) -> bool
         ensures same { IsSameMount self.old self.new }
+        ensures pad { self.new.pad ≡ self.old.pad }
+        ensures more { result ≡ true → length (engine_log self.old) < length (engine_log self.new) }
         ensures rest { result ≡ false → (self.new ≡ self.old) × IsSpent self.old }
     {
         match self.core.next_work() {
@@ -212,7 +216,9 @@ impl<U: Unit> Mount<U> {
     fn reset(&mut self, line: u32, unit: u32)
         requires named { work_in self.old ≡ works.Reset line unit }
         requires given_up { IsToReset self.old.image (logs_in self.old) line unit }
-        ensures { IsSameMount self.old self.new }
+        ensures same { IsSameMount self.old self.new }
+        ensures pad { self.new.pad ≡ self.old.pad }
+        ensures more { length (engine_log self.old) < length (engine_log self.new) }
     {
         let of = &mut self.units[unit as usize];
         match of.reset(line) {
@@ -230,7 +236,9 @@ impl<U: Unit> Mount<U> {
     // Opens the next line. The core names it.
     fn open_line(&mut self)
         requires { work_in self.old ≡ works.Open }
-        ensures { IsSameMount self.old self.new }
+        ensures same { IsSameMount self.old self.new }
+        ensures pad { self.new.pad ≡ self.old.pad }
+        ensures more { length (engine_log self.old) < length (engine_log self.new) }
     {
         self.deeds.add(&Opens { core: &self.core });
         self.core.open_line();
@@ -240,7 +248,9 @@ impl<U: Unit> Mount<U> {
     // Places the next stripe, which the core names, and programs it.
     fn program(&mut self)
         requires { work_in self.old ≡ works.Program }
-        ensures { IsSameMount self.old self.new }
+        ensures same { IsSameMount self.old self.new }
+        ensures pad { self.new.pad ≡ self.old.pad }
+        ensures more { length (engine_log self.old) < length (engine_log self.new) }
     {
         self.core.place(&mut self.stripe);
         self.deeds.add(&Places {
@@ -288,10 +298,13 @@ impl<U: Unit> Mount<U> {
     }
 
     /// Works until positions up to `wanted` are granted. Else there is nothing more to do, and those below what is
-    /// answered are granted.
+    /// answered are granted. No more is granted than there once was room for.
     pub(crate) fn claim<R: Wait>(&mut self, rt: &R, wanted: u64) -> Result<(), u64>
         ensures same { IsSameMount self.old self.new }
+        ensures pad { self.new.pad ≡ self.old.pad }
         ensures granted { IsOk result → wanted ≤ self.new.granted }
+        ensures once { let length_now = length (engine_log self.new) in
+            WasRoom self.new.image (logs_in self.new) length_now self.new.granted }
         ensures stuck { IfErr result (λ have. (have ≡ self.new.granted) × IsStuckAt self.new wanted have) }
     {
         for _ in rt.forever() {
@@ -312,19 +325,22 @@ impl<U: Unit> Mount<U> {
         self.core.ask_pad(to);
     }
 
-    /// Works until all below a position is on the drive, and gives the front synced. Else there is nothing more to
-    /// do, and all below what is answered is there.
+    /// Asks for pads up to a position, and works until all below it is on the drive: gives the front synced. Else
+    /// there is nothing more to do, and all below what is answered is there.
     pub(crate) fn sync<R: Wait>(&mut self, rt: &R, wanted: u64) -> Result<Front, u64>
         ensures same { IsSameMount self.old self.new }
-        ensures synced { IfOk result (λ front. (front ≡ front_synced self.new) × (wanted ≤ front.position)) }
-        ensures stuck { IfErr result (λ have. (have ≡ synced_in self.new) × (wanted ≤ self.new.pad) × IsStuckAt self.new wanted have) }
+        ensures pad { self.new.pad ≡ max self.old.pad wanted }
+        ensures synced { IfOk result (λ front.
+            (front ≡ front_synced self.new) × (wanted ≤ front.position)) }
+        ensures stuck { IfErr result (λ have.
+            (have ≡ synced_in self.new) × (wanted ≤ self.new.pad) × IsStuckAt self.new wanted have) }
     {
+        self.ask_pad(wanted);
         for _ in rt.forever() {
             let synced = self.core.synced();
             if wanted <= synced.position {
                 return Ok(synced);
             }
-            self.ask_pad(wanted);
             if !self.pump() {
                 return Err(synced.position);
             }
@@ -335,6 +351,7 @@ impl<U: Unit> Mount<U> {
     /// Works until collection isn't due, or nothing is left to do.
     fn rest<R: Wait>(&mut self, rt: &R)
         ensures same { IsSameMount self.old self.new }
+        ensures pad { self.new.pad ≡ self.old.pad }
         ensures resting { IsCollectionOver self.new }
     {
         for _ in rt.forever() {
@@ -352,9 +369,11 @@ impl<U: Unit> Mount<U> {
     /// do. Else not all of it is there and there is nothing more to do, and all below what is answered is there.
     pub(crate) fn settle<R: Wait>(&mut self, rt: &R, wanted: u64) -> Result<(), u64>
         ensures same { IsSameMount self.old self.new }
+        ensures pad { self.new.pad ≡ max self.old.pad wanted }
         ensures synced { IsOk result → wanted ≤ synced_in self.new }
         ensures resting { IsOk result → IsCollectionOver self.new }
-        ensures stuck { IfErr result (λ have. (have ≡ synced_in self.new) × (wanted ≤ self.new.pad) × IsStuckAt self.new wanted have) }
+        ensures stuck { IfErr result (λ have.
+            (have ≡ synced_in self.new) × (wanted ≤ self.new.pad) × IsStuckAt self.new wanted have) }
     {
         match self.sync(rt, wanted) {
             Ok(_) => (),
@@ -369,6 +388,7 @@ impl<U: Unit> Mount<U> {
         requires lba { lba < self.old.image.shape.capacity }
         requires size { length out.old ≡ self.old.image.shape.sector }
         ensures same { IsSameMount self.old self.new }
+        ensures pad { self.new.pad ≡ self.old.pad }
         ensures latest { slice_get (latest self.old) lba ≡ Some out.new }
     {
         match self.core.look(lba) {
@@ -389,6 +409,7 @@ impl<U: Unit> Mount<U> {
         requires size { length out.old ≡ self.old.image.shape.sector }
         requires there { (sector : _) × IsFetchable self.old unit chunk block sector }
         ensures same { IsSameMount self.old self.new }
+        ensures pad { self.new.pad ≡ self.old.pad }
         ensures sector { (sector : _) → IsFetchable self.old unit chunk block sector → out.new ≡ sector }
     {
         let from = &mut self.units[unit as usize];

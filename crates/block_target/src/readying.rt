@@ -3,15 +3,14 @@
 ghost use Rattle.std.specs.Prelude.{◌≡◌, ℕ, [], map, IfOk, IfErr, OnErr};
 ghost use Rattle.pblk_model.specs.Accepted.{IsAccepted};
 ghost use Rattle.scan_recovery.specs.Units.{AreFit};
-ghost use Rattle.opening_steps.specs.Opened.{AreUnarmed};
-ghost use Rattle.opening_steps.specs.Finding.{AreHandedBack};
+ghost use Rattle.unit_port.specs.Commands.{AreUnarmed};
+ghost use Rattle.scan_recovery.specs.Readying.{AreHandedBack};
 ghost use Rattle.block_target.specs.Opened.{IsReady};
 
 use crate::deeds::{Begins, Deed, DriveRow, Readies, Stand};
 use crate::opening::OpenErr;
-use opening_steps::make_ready;
 use pblk_model::{Found, Shape};
-use scan_recovery::ScanErr;
+use scan_recovery::{ScanErr, make_ready};
 use std::alloc::{AllocError, Global};
 use unit_port::{Log, Unit};
 

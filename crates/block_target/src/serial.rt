@@ -6,15 +6,16 @@ ghost use Rattle.pblk_model.specs.Contents.{end};
 ghost use Rattle.pblk_model.specs.Sealed.{IsSealed};
 ghost use Rattle.pblk_world.specs.World.{media};
 ghost use Rattle.block_port.specs.Own.{lines_of, sectors_of};
-ghost use Rattle.block_port.specs.Port.{AreSectors, IsPastEnd, IsSameTarget, Learns, IsWritten, IsSeen, AreShort, count_in};
-ghost use Rattle.block_port.specs.Port.{write_faults, write_worns, flush_faults, flush_worns};
+ghost use Rattle.block_port.specs.Port.{AreSectors, IsPastEnd, IsSameTarget, Learns, IsWritten, IsSeen, AreShort, count_in, sectors_at};
+ghost use Rattle.block_port.specs.Port.{write_faults, write_worns, read_faults, flush_faults, flush_worns};
 ghost use Rattle.scan_recovery.specs.Units.{AreFit};
-ghost use Rattle.opening_steps.specs.Opened.{AreUnarmed};
+ghost use Rattle.unit_port.specs.Commands.{AreUnarmed};
+ghost use Rattle.block_target.specs.Granted.{AreGranted};
 ghost use Rattle.block_target.specs.NothingLeft.{IsRefusal, AreRefusals};
-ghost use Rattle.opening_steps.specs.Finding.{AreHandedBack};
+ghost use Rattle.scan_recovery.specs.Readying.{AreHandedBack};
 ghost use Rattle.block_target.specs.Opened.{IsOpened};
 ghost use Rattle.block_target.specs.Mount.{MountView, IsSameMount, IsSound, front_taken, latest, logs_in, synced_in, taken_in, with_entries};
-ghost use Rattle.block_target.specs.Serial.{SerialView, Settles, WriteCause, FlushCause, device, lines_in};
+ghost use Rattle.block_target.specs.Serial.{SerialView, Settles, WriteCause, FlushCause, IsGrantedPlace, device, lines_in};
 
 use crate::mount::Mount;
 use crate::opening::{OpenErr, Refused, SettleErr};
@@ -119,7 +120,8 @@ impl<U: Unit> Serial<U> {
         ensures closed { (v : MountView) × IsSameMount self.mount v × IsSound v
             × (map U.model result.0.items ≡ v.units) × (map U.wear result.0.items ≡ v.wear) × Settles result.1 v
             × AreRefusals v.image (logs_in v) self.worns × (taken_in v ≡ taken_in self.mount)
-            × (IsSealed v.image → end (media v.image (logs_in v)) ≡ synced_in v) }
+            × (IsSealed v.image → end (media v.image (logs_in v)) ≡ synced_in v)
+            × AreGranted v.image (logs_in v) × (v.pad ≡ max self.mount.pad (taken_in self.mount)) }
         ensures alone { lines_in self.mount ≡ flat_map lines_of self.own }
     {
         self.mount.is_sound();
@@ -203,6 +205,7 @@ fn read_all<U: Unit>(mount: &mut Mount<U>, lba: u64, out: &mut [u8], count: u32,
     requires inside { lba + count ≤ mount.old.image.shape.capacity }
     requires end { lba + count < 2 ^ 64 }
     ensures same { IsSameMount mount.old mount.new }
+    ensures pad { mount.new.pad ≡ mount.old.pad }
     ensures latest { sectors_of size count out.new ≡ slice_range (latest mount.old) lba (lba + count) }
 {
     for index in 0..count {
@@ -218,6 +221,8 @@ impl<U: Unit> Port for Serial<U> {
         requires sectors { AreSectors (device self.old).sector (length bytes.now) }
         ensures cause { let count = count_in (device self.old) (length bytes.now) in
             WriteCause self.new.mount count result }
+        ensures granted { IfOk result (IsGrantedPlace self.new.mount) }
+        ensures pad { self.new.mount.pad ≡ self.old.mount.pad }
 
         // What each `Port` ensures.
         ensures range { IsErrOf result WriteErr.Range ↔ IsPastEnd (device self.old) lba (length bytes.now) }
@@ -260,7 +265,24 @@ impl<U: Unit> Port for Serial<U> {
         Ok(place)
     }
 
-    fn read<R: Wait>(&mut self, rt: &R, lba: u64, out: &mut [u8]) -> Result<Front, ReadErr> {
+    fn read<R: Wait>(&mut self, rt: &R, lba: u64, out: &mut [u8]) -> Result<Front, ReadErr>
+        requires sectors { AreSectors (device self.old).sector (length out.old) }
+        ensures pad { self.new.mount.pad ≡ self.old.mount.pad }
+
+        // What each `Port` ensures.
+        ensures range { IsErrOf result ReadErr.Range ↔ IsPastEnd (device self.old) lba (length out.old) }
+        ensures untouched { IsErrOf result ReadErr.Range → device self.new ≡ device self.old }
+        ensures front { IfOk result (λ front. IsSeen front (device self.old) (device self.new)) }
+        ensures words { let count = count_in (device self.old) (length out.old) in
+            IfOk result (λ front. sectors_of (device self.old).sector count out.new
+            ≡ sectors_at (device self.new) front lba count) }
+        ensures refused_seen { OnErr result ((device self.new).seen ≡ (device self.old).seen) }
+        ensures own { (device self.new).own ≡ (device self.old).own }
+        ensures faults { (device self.new).faults ≡ (device self.old).faults ++ read_faults result }
+        ensures worns { (device self.new).worns ≡ (device self.old).worns }
+        ensures learns { Learns (device self.old) (device self.new) }
+        ensures target { IsSameTarget (device self.old) (device self.new) }
+    {
         self.mount.is_sound();
         if self.is_past_end(lba, out.len()) {
             return Err(ReadErr::Range);
@@ -277,6 +299,7 @@ impl<U: Unit> Port for Serial<U> {
 
     fn flush<R: Wait>(&mut self, rt: &R) -> Result<Front, FlushErr>
         ensures cause { FlushCause self.new.mount result }
+        ensures pad { self.new.mount.pad ≡ max self.old.mount.pad (taken_in self.old.mount) }
 
         // What each `Port` ensures.
         ensures front { IfOk result (λ front. IsSeen front (device self.old) (device self.new)) }

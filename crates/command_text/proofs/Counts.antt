@@ -1,14 +1,11 @@
 -- How many elements pass a test.
-use Rattle.std.proofs.Common.{◌≡◌, ℕ, zero, suc, ◌+◌, Bool, true, false, cond, Some, refl, List, [], ◌∷◌, ◌++◌, length, take, map, filter, sym, ap, ◌∙◌, arith, append_assoc, length-append, add-one}
+use Rattle.std.proofs.Common.{◌≡◌, ℕ, suc, ◌+◌, Bool, true, false, cond, Some, refl, List, [], ◌∷◌, ◌++◌, length, take, map, filter, sym, ap, ◌∙◌, arith, append_assoc, length-append, add-one}
 use Rattle.std.specs.List.{slice_get, flat_map, zip}
 use Rattle.std.proofs.lemmas.List.{append-nil}
 use Rattle.pblk_model.specs.Chunk.{Chunk}
 use Rattle.pblk_model.specs.ImageFile.{StoredChunk}
-
-take_more : {X : Type 0} (xs : List X) (i : ℕ) (x : X) → slice_get xs i ≡ Some x → take (suc i) xs ≡ take i xs ++ x ∷ []
-take_more [] i x e = absurd (cc e)
-take_more (y ∷ xs) zero x e = ap (λ z. z ∷ []) (cc e)
-take_more (y ∷ xs) (suc i) x e = ap (λ ys. y ∷ ys) (take_more xs i x e)
+use Rattle.lemmas.proofs.Maps.{filter_both}
+use Rattle.lemmas.proofs.Parts.{take_next}
 
 pub take-all : {X : Type 0} (xs : List X) (n : ℕ) → n ≡ length xs → take n xs ≡ xs
 take-all xs n e = ap (λ k. take k xs) e ∙ whole xs
@@ -21,18 +18,18 @@ append_cond : {X : Type 0} (b : Bool) (x : X) (xs ys : List X) → cond b (x ∷
 append_cond true x xs ys = refl
 append_cond false x xs ys = refl
 
-filter_append : {X : Type 0} (p : X → Bool) (xs ys : List X) → filter p (xs ++ ys) ≡ filter p xs ++ filter p ys
-filter_append p [] ys = refl
-filter_append p (x ∷ xs) ys = ap (λ zs. cond (p x) (x ∷ zs) zs) (filter_append p xs ys) ∙ append_cond (p x) x (filter p xs) (filter p ys)
-
 -- one element more
-count_more : {X : Type 0} (p : X → Bool) (xs : List X) (i : ℕ) (x : X) → slice_get xs i ≡ Some x → length (filter p (take (i + 1) xs)) ≡ length (filter p (take i xs)) + length (filter p (x ∷ []))
-count_more p xs i x e = rw add-one (ap (λ ys. length (filter p ys)) (take_more xs i x e) ∙ ap length (filter_append p (take i xs) (x ∷ [])) ∙ length-append (filter p (take i xs)) (filter p (x ∷ [])))
+count_more : {X : Type 0} (p : X → Bool) (xs : List X) (i : ℕ) (x : X) → slice_get xs i ≡ Some x
+    → length (filter p (take (i + 1) xs)) ≡ length (filter p (take i xs)) + length (filter p (x ∷ []))
+count_more p xs i x e = rw add-one (ap (λ ys. length (filter p ys)) (take_next xs i x e) ∙ ap length (filter_both p (take i xs) (x ∷ []))
+    ∙ length-append (filter p (take i xs)) (filter p (x ∷ [])))
 
-pub count_one : {X : Type 0} (p : X → Bool) (xs : List X) (i : ℕ) (x : X) → slice_get xs i ≡ Some x → p x ≡ true → length (filter p (take (i + 1) xs)) ≡ length (filter p (take i xs)) + 1
+pub count_one : {X : Type 0} (p : X → Bool) (xs : List X) (i : ℕ) (x : X) → slice_get xs i ≡ Some x → p x ≡ true
+    → length (filter p (take (i + 1) xs)) ≡ length (filter p (take i xs)) + 1
 count_one p xs i x e h = count_more p xs i x e ∙ ap (λ b. length (filter p (take i xs)) + length (cond b (x ∷ []) [])) h
 
-pub count_none : {X : Type 0} (p : X → Bool) (xs : List X) (i : ℕ) (x : X) → slice_get xs i ≡ Some x → p x ≡ false → length (filter p (take (i + 1) xs)) ≡ length (filter p (take i xs))
+pub count_none : {X : Type 0} (p : X → Bool) (xs : List X) (i : ℕ) (x : X) → slice_get xs i ≡ Some x → p x ≡ false
+    → length (filter p (take (i + 1) xs)) ≡ length (filter p (take i xs))
 count_none p xs i x e h = count_more p xs i x e ∙ ap (λ b. length (filter p (take i xs)) + length (cond b (x ∷ []) [])) h ∙ omega arith
 
 -- the elements of one list more
@@ -42,10 +39,13 @@ joined_more f (y ∷ xs) x = ap (λ zs. f y ++ zs) (joined_more f xs x) ∙ sym 
 
 pub count_joined : {X Y : Type 0} (p : Y → Bool) (f : X → List Y) (xs : List X) (i : ℕ) (x : X) → slice_get xs i ≡ Some x
     → length (filter p (flat_map (λ ys. ys) (map f (take (i + 1) xs)))) ≡ length (filter p (flat_map (λ ys. ys) (map f (take i xs)))) + length (filter p (f x))
-count_joined p f xs i x e = rw add-one (ap (λ ys. length (filter p (flat_map (λ zs. zs) (map f ys)))) (take_more xs i x e) ∙ ap (λ ys. length (filter p ys)) (joined_more f (take i xs) x)
-    ∙ ap length (filter_append p (flat_map (λ ys. ys) (map f (take i xs))) (f x)) ∙ length-append (filter p (flat_map (λ ys. ys) (map f (take i xs)))) (filter p (f x)))
+count_joined p f xs i x e = rw add-one (ap (λ ys. length (filter p (flat_map (λ zs. zs) (map f ys)))) (take_next xs i x e)
+    ∙ ap (λ ys. length (filter p ys)) (joined_more f (take i xs) x)
+    ∙ ap length (filter_both p (flat_map (λ ys. ys) (map f (take i xs))) (f x))
+    ∙ length-append (filter p (flat_map (λ ys. ys) (map f (take i xs)))) (filter p (f x)))
 
-same_length : {X Y : Type 0} (b : Bool) (x : X) (y : Y) (xs : List X) (ys : List Y) → length xs ≡ length ys → length (cond b (x ∷ xs) xs) ≡ length (cond b (y ∷ ys) ys)
+same_length : {X Y : Type 0} (b : Bool) (x : X) (y : Y) (xs : List X) (ys : List Y) → length xs ≡ length ys
+    → length (cond b (x ∷ xs) xs) ≡ length (cond b (y ∷ ys) ys)
 same_length true x y xs ys e = ap suc e
 same_length false x y xs ys e = e
 

@@ -67,17 +67,20 @@ on_err_map (Err e) P Q h k = k h
 -- Pieces.
 
 pieces_split : (pieces : List (Bor (List ℕ))) (i : ℕ) (d : Bor (List ℕ)) → i < length pieces
-    → flat_map (λ piece. piece.now) pieces ≡ (flat_map (λ piece. piece.now) (take i pieces) ++ (get_or pieces i d).now) ++ flat_map (λ piece. piece.now) (drop (suc i) pieces)
+    → flat_map (λ piece. piece.now) pieces ≡ (flat_map (λ piece. piece.now) (take i pieces) ++ (get_or pieces i d).now) ++ flat_map (λ piece. piece.now)
+    (drop (suc i) pieces)
 pieces_split [] i d below = absurd (omega (arith, below))
 pieces_split (x ∷ xs) zero d below = refl
 pieces_split (x ∷ xs) (suc i) d below = ap (λ ys. x.now ++ ys) (pieces_split xs i d (omega (arith, below))) ∙ simp append_assoc
 
 pub pieces_failed : (pieces : List (Bor (List ℕ))) (i : ℕ) (d : Bor (List ℕ)) (old mid new : SinkView) → i < length pieces
-    → HasTaken (flat_map (λ piece. piece.now) (take i pieces)) old mid → HasFailed (get_or pieces i d).now mid new → HasFailed (flat_map (λ piece. piece.now) pieces) old new
+    → HasTaken (flat_map (λ piece. piece.now) (take i pieces)) old mid → HasFailed (get_or pieces i d).now mid new
+    → HasFailed (flat_map (λ piece. piece.now) pieces) old new
 pieces_failed pieces i d old mid new below h k =
     let before = flat_map (λ piece. piece.now) (take i pieces) in
     let piece = (get_or pieces i d).now in
-    subst (λ x. HasFailed x old new) (sym (pieces_split pieces i d below)) (failed_first (before ++ piece) (flat_map (λ piece. piece.now) (drop (suc i) pieces)) old new (failed_then before piece old mid new h k))
+    subst (λ x. HasFailed x old new) (sym (pieces_split pieces i d below))
+    (failed_first (before ++ piece) (flat_map (λ piece. piece.now) (drop (suc i) pieces)) old new (failed_then before piece old mid new h k))
 
 pub said_as : (a b : List ℕ) (old new : SinkView) → a ≡ b → Says a old new → Says b old new
 said_as a b old new e h = subst (λ x. Says x old new) e h
@@ -88,10 +91,13 @@ spaced_then : (k : ℕ) (ns ys : List ℕ) → spaced (k ∷ ns) ++ ys ≡ codes
 spaced_then k ns ys = append_assoc (codes " " ++ decimal k) (spaced ns) ys
 
 pub number_line_text : (word digits : List ℕ) (n : ℕ) → digits ≡ decimal n → word ++ (codes " " ++ (digits ++ newline)) ≡ word ++ spaced (n ∷ []) ++ newline
-number_line_text word digits n e = ap (λ ds. word ++ (codes " " ++ (ds ++ newline))) e ∙ sym (append_assoc word (spaced (n ∷ [])) newline ∙ ap (λ ys. word ++ ys) (spaced_then n [] newline))
+number_line_text word digits n e = ap (λ ds. word ++ (codes " " ++ (ds ++ newline))) e
+    ∙ sym (append_assoc word (spaced (n ∷ [])) newline ∙ ap (λ ys. word ++ ys) (spaced_then n [] newline))
 
-three_numbers : (k m n : ℕ) → spaced (k ∷ m ∷ n ∷ []) ++ newline ≡ codes " " ++ (decimal k ++ (codes " " ++ (decimal m ++ (codes " " ++ (decimal n ++ newline)))))
-three_numbers k m n = spaced_then k (m ∷ n ∷ []) newline ∙ ap (λ ys. codes " " ++ (decimal k ++ ys)) (spaced_then m (n ∷ []) newline ∙ ap (λ ys. codes " " ++ (decimal m ++ ys)) (spaced_then n [] newline))
+three_numbers : (k m n : ℕ) → spaced (k ∷ m ∷ n ∷ []) ++ newline ≡ codes " " ++
+    (decimal k ++ (codes " " ++ (decimal m ++ (codes " " ++ (decimal n ++ newline)))))
+three_numbers k m n = spaced_then k (m ∷ n ∷ []) newline
+    ∙ ap (λ ys. codes " " ++ (decimal k ++ ys)) (spaced_then m (n ∷ []) newline ∙ ap (λ ys. codes " " ++ (decimal m ++ ys)) (spaced_then n [] newline))
 
 pub numbers_line_text : (word a b c : List ℕ) (k m n : ℕ) → a ≡ decimal k → b ≡ decimal m → c ≡ decimal n
     → word ++ (codes " " ++ (a ++ (codes " " ++ (b ++ (codes " " ++ (c ++ newline)))))) ≡ word ++ spaced (k ∷ m ∷ n ∷ []) ++ newline

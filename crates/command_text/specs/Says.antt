@@ -3,7 +3,8 @@ use Rattle.std.specs.Prelude.{ℕ, ◌≡◌, ◌≤◌, ◌⊎◌, ◌++◌, Is
 use Rattle.pblk_outside.specs.Faults.{HasRisen}
 use Rattle.pblk_outside.specs.Sink.{SinkView, TakesPrefix}
 
--- where the sink tells what it has taken, it has taken the whole text, or a prefix of it, and its count of faults has risen
+-- where the sink tells what it has taken, it has taken the whole text, or a prefix of it, and its count
+-- of faults has risen
 abbrev pub Says : List ℕ → SinkView → SinkView → Type 0
 Says text old new = IsTrue old.told → (new.taken ≡ old.taken ++ text) ⊎ (TakesPrefix text old.taken new.taken × HasRisen old.faults new.faults)
 

@@ -5,15 +5,11 @@ use Rattle.std.specs.List.{AllByRecursion}
 use Rattle.command_words.specs.Grammar.{Item, Name, Named, IsPlainWord}
 use Rattle.command_words.specs.Words.{IsItemBefore, HasPlainName}
 use Rattle.command_words.proofs.Items.{all_at}
+use Rattle.lemmas.proofs.Parts.{take-all}
 
 pub some_and : {X : Type 0} (r : Option X) (P Q : X → Type 0) → IfSome r P → IsSome r → ((x : X) → P x → Q x) → IsSomeAnd r Q
 some_and None P Q h some k = absurd (cc some)
 some_and (Some x) P Q h some k = k x h
-
--- a list with a first element
-take-all : {X : Type 0} (xs : List X) → take (length xs) xs ≡ xs
-take-all [] = refl
-take-all (x ∷ xs) = ap (λ ys. x ∷ ys) (take-all xs)
 
 pub first_of : {X : Type 0} (xs : List X) (a : X) → 1 ≤ length xs → a ≡ get_or xs 0 a → xs ≡ a ∷ take (length xs - 1) (drop 1 xs)
 first_of [] a some e = absurd (omega (arith, some))
@@ -40,13 +36,15 @@ parts_agree (c ∷ a) (d ∷ b) x y ha hb e =
 not_plain : (name word : List ℕ) → IsPlainWord name → 45 ∷ word ≡ name → ⊥
 not_plain name word plain e = (subst (λ x. IsPlainWord x) (sym e) plain) refl
 
-after_dashes : (option n v : List ℕ) (rest others : List (List ℕ)) → (codes "--" ++ option) ∷ rest ≡ (codes "--" ++ n ++ codes "=" ++ v) ∷ others → option ≡ n ++ 61 ∷ v
+after_dashes : (option n v : List ℕ) (rest others : List (List ℕ)) → (codes "--" ++ option) ∷ rest ≡ (codes "--" ++ n ++ codes "=" ++ v) ∷ others
+    → option ≡ n ++ 61 ∷ v
 after_dashes option n v rest others e =
     let same : option ≡ (n ++ 61 ∷ []) ++ v = cc e in
     same ∙ append_assoc n (61 ∷ []) v
 
 -- an option whose word has a `=`
-pub with_equals : (option name value : List ℕ) (rest others : List (List ℕ)) (item : Item) → option ≡ name ++ 61 ∷ value → AllByRecursion (λ c. c ≢ 61) name → HasPlainName item
+pub with_equals : (option name value : List ℕ) (rest others : List (List ℕ)) (item : Item) → option ≡ name ++ 61 ∷ value → AllByRecursion (λ c. c ≢ 61) name
+    → HasPlainName item
     → IsItemBefore item others ((codes "--" ++ option) ∷ rest) → (Named name value ≡ item) × (rest ≡ others) × IsPlainWord value
 with_equals option name value rest others (Name n) parts lacks plain h = absurd (not_plain n (45 ∷ option) h.0 (cc h.1))
 with_equals option name value rest others (Named n v) parts lacks plain h = elim h.1 [
@@ -73,7 +71,8 @@ without_equals option rest others (Named n v) lacks plain h = elim h.1 [
 ]
 
 -- a word that begins with one `-` alone
-pub no_option : (word : List ℕ) (rest others : List (List ℕ)) (item : Item) → ((more : List ℕ) → word ≢ 45 ∷ more) → IsItemBefore item others ((45 ∷ word) ∷ rest) → ⊥
+pub no_option : (word : List ℕ) (rest others : List (List ℕ)) (item : Item) → ((more : List ℕ) → word ≢ 45 ∷ more)
+    → IsItemBefore item others ((45 ∷ word) ∷ rest) → ⊥
 no_option word rest others (Name n) none h = not_plain n word h.0 (cc h.1)
 no_option word rest others (Named n v) none h = elim h.1 [
   | inl e ↦ none n (cc e)
@@ -85,7 +84,8 @@ plain_word [] some none = some refl
 plain_word (b ∷ bs) some none = λ e. none bs (ap (λ x. x ∷ bs) e)
 
 -- a word that doesn't begin with `-` is a name
-pub is_name : (word : List ℕ) (rest others : List (List ℕ)) (item : Item) → ((more : List ℕ) → word ≢ 45 ∷ more) → IsItemBefore item others (word ∷ rest) → (Name word ≡ item) × (rest ≡ others)
+pub is_name : (word : List ℕ) (rest others : List (List ℕ)) (item : Item) → ((more : List ℕ) → word ≢ 45 ∷ more) → IsItemBefore item others (word ∷ rest)
+    → (Name word ≡ item) × (rest ≡ others)
 is_name word rest others (Name n) none h = (ap (λ x. Name x) (cc h.1), cc h.1)
 is_name word rest others (Named n v) none h = elim h.1 [
   | inl e ↦ absurd (none (45 ∷ n) (cc e))
@@ -93,7 +93,8 @@ is_name word rest others (Named n v) none h = elim h.1 [
 ]
 
 -- an option whose value is the next word
-pub with_next : (option word : List ℕ) (words ws others : List (List ℕ)) (item : Item) → words ≡ word ∷ ws → AllByRecursion (λ c. c ≢ 61) option → HasPlainName item
+pub with_next : (option word : List ℕ) (words ws others : List (List ℕ)) (item : Item) → words ≡ word ∷ ws → AllByRecursion (λ c. c ≢ 61) option
+    → HasPlainName item
     → IsItemBefore item others ((codes "--" ++ option) ∷ words) → (Named option word ≡ item) × (ws ≡ others) × IsPlainWord word
 with_next option word words ws others item e lacks plain h =
     let found = without_equals option words others item lacks plain h in
@@ -101,8 +102,10 @@ with_next option word words ws others item e lacks plain h =
     let same : found.0 ≡ word = sym (cc joined) in
     (ap (λ x. Named option x) (sym same) ∙ found.1, cc joined, subst (λ x. IsPlainWord x) same found.3)
 
-pub first_word_of : (words : List (String Global)) (first : String Global) (word : List ℕ) → 1 ≤ length words → first ≡ get_or words 0 first → word ≡ string_bytes first → map string_bytes words ≡ word ∷ map string_bytes (take (length words - 1) (drop 1 words))
-first_word_of words first word some is e = ap (λ ws. map string_bytes ws) (first_of words first some is) ∙ ap (λ w. w ∷ map string_bytes (take (length words - 1) (drop 1 words))) (sym e)
+pub first_word_of : (words : List (String Global)) (first : String Global) (word : List ℕ) → 1 ≤ length words → first ≡ get_or words 0 first
+    → word ≡ string_bytes first → map string_bytes words ≡ word ∷ map string_bytes (take (length words - 1) (drop 1 words))
+first_word_of words first word some is e = ap (λ ws. map string_bytes ws) (first_of words first some is)
+    ∙ ap (λ w. w ∷ map string_bytes (take (length words - 1) (drop 1 words))) (sym e)
 
 pub some_words : (words : List (String Global)) → length words ≢ 0 → map string_bytes words ≢ []
 some_words [] some e = some refl

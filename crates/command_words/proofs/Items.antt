@@ -5,29 +5,21 @@ use Rattle.std.proofs.lemmas.Bool.{true≢false, cases_Bool}
 use Rattle.std.proofs.lemmas.Slice.Eq.{bytes_eq-Decides}
 use Rattle.command_words.specs.Grammar.{Item, Name, Named, IsPlainWord, AreItems, names_in, options_in, value_in, AreDistinct}
 use Rattle.command_words.specs.Words.{IsItemBefore}
+use Rattle.lemmas.proofs.Bytes.{same_bytes, true_same}
+use Rattle.lemmas.proofs.Lists.{all_append}
 
 -- Tests of names.
-
-pub same_name : (xs ys : List ℕ) → bytes_eq xs ys ≡ true → xs ≡ ys
-same_name xs ys h = (bytes_eq-Decides xs ys).0 h
 
 pub other_name : (xs ys : List ℕ) → bytes_eq xs ys ≡ false → xs ≢ ys
 other_name xs ys h e = true≢false (sym ((bytes_eq-Decides xs ys).1 e) ∙ h)
 
 pub is_other : (xs ys : List ℕ) → xs ≢ ys → bytes_eq xs ys ≡ false
 is_other xs ys h = elim (cases_Bool (bytes_eq xs ys)) [
-  | inl k ↦ absurd (h (same_name xs ys k))
+  | inl k ↦ absurd (h (same_bytes xs ys k))
   | inr k ↦ k
 ]
 
-pub is_same : (xs ys : List ℕ) → xs ≡ ys → bytes_eq xs ys ≡ true
-is_same xs ys e = (bytes_eq-Decides xs ys).1 e
-
 -- Lists.
-
-pub all_append : {X : Type 0} (P : X → Type 0) (xs ys : List X) → AllByRecursion P xs → AllByRecursion P ys → AllByRecursion P (xs ++ ys)
-all_append P [] ys h k = k
-all_append P (x ∷ xs) ys h k = (h.0, all_append P xs ys h.1 k)
 
 pub all_at : {X : Type 0} (P : X → Type 0) (xs : List X) (x : X) (ys : List X) → AllByRecursion P (xs ++ x ∷ ys) → P x
 all_at P [] x ys h = h.0
@@ -55,15 +47,17 @@ cond_some : {X : Type 0} (b : Bool) (v : X) (o p : Option X) → b ≡ true → 
 cond_some true v o p h = refl
 cond_some false v o p h = absurd (true≢false (sym h))
 
-new_step : {X : Type 0} (b : Bool) (v : X) (o p : Option X) (value : X) → cond b (Some v) o ≡ None → (o ≡ None → p ≡ Some value) → cond b (Some v) p ≡ Some value
+new_step : {X : Type 0} (b : Bool) (v : X) (o p : Option X) (value : X) → cond b (Some v) o ≡ None → (o ≡ None → p ≡ Some value)
+    → cond b (Some v) p ≡ Some value
 new_step true v o p value h k = absurd (cc h)
 new_step false v o p value h k = k h
 
 -- an option that wasn't named has the value that it is named with
 pub new_value : (x value : List ℕ) (xs ys : List Item) → value_in x xs ≡ None → value_in x (xs ++ Named x value ∷ ys) ≡ Some value
-new_value x value [] ys h = cond_some (bytes_eq x x) value _ None (is_same x x refl)
+new_value x value [] ys h = cond_some (bytes_eq x x) value _ None (true_same x x refl)
 new_value x value (Name n ∷ xs) ys h = new_value x value xs ys h
-new_value x value (Named n v ∷ xs) ys h = new_step (bytes_eq n x) v (value_in x xs) (value_in x (xs ++ Named x value ∷ ys)) value h (λ k. new_value x value xs ys k)
+new_value x value (Named n v ∷ xs) ys h = new_step (bytes_eq n x) v (value_in x xs) (value_in x (xs ++ Named x value ∷ ys)) value h
+    (λ k. new_value x value xs ys k)
 
 -- an option that has no value wasn't named
 pub unnamed : (x : List ℕ) (xs : List Item) → value_in x xs ≡ None → AllByRecursion (λ y. y ≢ x) (options_in xs)
@@ -79,7 +73,7 @@ pub named_once : (x word value : List ℕ) (xs ys : List Item) → value_in x xs
 named_once x word value [] ys h d = absurd (cc h)
 named_once x word value (Name n ∷ xs) ys h d = named_once x word value xs ys h d
 named_once x word value (Named n v ∷ xs) ys h d = elim (cases_Bool (bytes_eq n x)) [
-  | inl k ↦ all_at (λ y. y ≢ n) (options_in xs) x (options_in ys) (rw (options_in-append xs (Named x value ∷ ys)) at d.0) (sym (same_name n x k))
+  | inl k ↦ all_at (λ y. y ≢ n) (options_in xs) x (options_in ys) (rw (options_in-append xs (Named x value ∷ ys)) at d.0) (sym (same_bytes n x k))
   | inr k ↦ named_once x word value xs ys (sym (ap (λ b. cond b (Some v) (value_in x xs)) k) ∙ h) d.1
 ]
 
@@ -108,7 +102,8 @@ item_has_words (Named n v) rest words h e = elim h.1 [
 ]
 
 -- items without options are names alone
-pub plain_items : (items : List Item) (words : List (List ℕ)) → AreItems items words → options_in items ≡ [] → (words ≡ names_in items) × AllByRecursion IsPlainWord words
+pub plain_items : (items : List Item) (words : List (List ℕ)) → AreItems items words → options_in items ≡ [] → (words ≡ names_in items)
+    × AllByRecursion IsPlainWord words
 plain_items [] words h e = (h, rw h tt)
 plain_items (Name n ∷ items) words (rest, plain, is, others) e =
     let more = plain_items items rest others e in

@@ -7,7 +7,8 @@ use Rattle.command_words.specs.Grammar.{Name, IsPlainWord, IsCommandLine, first_
 use Rattle.command_words.specs.Words.{AreWordsOf, IsOneName}
 use Rattle.command_words.proofs.Items.{plain_items}
 
-one_name : (words : List (List ℕ)) (image : List ℕ) (items : List model.Item) → model.AreItems items words → model.names_in items ≡ image ∷ [] → model.options_in items ≡ [] → IsOneName words image
+one_name : (words : List (List ℕ)) (image : List ℕ) (items : List model.Item) → model.AreItems items words → model.names_in items ≡ image ∷ []
+    → model.options_in items ≡ [] → IsOneName words image
 one_name words image items spelled names options =
     let plain = plain_items items words spelled options in
     let are : words ≡ image ∷ [] = plain.0 ∙ names in
@@ -31,22 +32,30 @@ words_of_show words image (e, plain) = record { items = Name image ∷ []; spell
 pub words_of_report : (words : List (List ℕ)) (image : List ℕ) → IsOneName words image → AreWordsOf words (model.Report image)
 words_of_report words image (e, plain) = record { items = Name image ∷ []; spelled = ([], plain, e, refl); of = (refl, refl) }
 
-pub two_names : (words : List (List ℕ)) (image script : List ℕ) → AreWordsOf words (model.Run image script) → (words ≡ image ∷ script ∷ []) × IsPlainWord image × IsPlainWord script
+pub two_names : (words : List (List ℕ)) (image script : List ℕ) → AreWordsOf words (model.Run image script) → (words ≡ image ∷ script ∷ []) × IsPlainWord image
+    × IsPlainWord script
 two_names words image script h =
     let plain = plain_items h.items words h.spelled h.of.1 in
     let are : words ≡ image ∷ script ∷ [] = plain.0 ∙ h.of.0 in
     let all = subst (λ ws. AllByRecursion IsPlainWord ws) are plain.1 in
     (are, all.0, all.1.0)
 
-pub are_two_names : (words : List (List ℕ)) (image script : List ℕ) → words ≡ image ∷ script ∷ [] → IsPlainWord image → IsPlainWord script → AreWordsOf words (model.Run image script)
-are_two_names words image script e one other = record { items = Name image ∷ Name script ∷ []; spelled = (script ∷ [], one, e, ([], other, refl, refl)); of = (refl, refl) }
+pub are_two_names : (words : List (List ℕ)) (image script : List ℕ) → words ≡ image ∷ script ∷ [] → IsPlainWord image → IsPlainWord script
+    → AreWordsOf words (model.Run image script)
+are_two_names words image script e one other = record {
+  items = Name image ∷ Name script ∷ [];
+  spelled = (script ∷ [], one, e, ([], other, refl, refl));
+  of = (refl, refl);
+}
 
-pub one_word : (words : List (String Global)) (w : String Global) (word : List ℕ) → 1 ≤ length words → length words < 2 → w ≡ get_or words 0 w → word ≡ string_bytes w → map string_bytes words ≡ word ∷ []
+pub one_word : (words : List (String Global)) (w : String Global) (word : List ℕ) → 1 ≤ length words → length words < 2 → w ≡ get_or words 0 w
+    → word ≡ string_bytes w → map string_bytes words ≡ word ∷ []
 one_word [] w word low high is e = absurd (omega (arith, low))
 one_word (x ∷ []) w word low high is e = cc
 one_word (x ∷ (y ∷ words)) w word low high is e = absurd (omega (arith, high))
 
-pub two_words : (words : List (String Global)) (w v : String Global) (word other : List ℕ) → 2 ≤ length words → length words < 3 → w ≡ get_or words 0 w → v ≡ get_or words 1 v → word ≡ string_bytes w → other ≡ string_bytes v → map string_bytes words ≡ word ∷ other ∷ []
+pub two_words : (words : List (String Global)) (w v : String Global) (word other : List ℕ) → 2 ≤ length words → length words < 3 → w ≡ get_or words 0 w
+    → v ≡ get_or words 1 v → word ≡ string_bytes w → other ≡ string_bytes v → map string_bytes words ≡ word ∷ other ∷ []
 two_words [] w v word other low high iw iv e f = absurd (omega (arith, low))
 two_words (x ∷ []) w v word other low high iw iv e f = absurd (omega (arith, low))
 two_words (x ∷ (y ∷ [])) w v word other low high iw iv e f = cc
@@ -62,7 +71,8 @@ count_of_words (w ∷ words) (x ∷ ws) e =
 -- The words of a command line.
 
 -- its first word, and the others
-pub words_of : (words rest : List (List ℕ)) (first : List ℕ) (c : model.CommandLine) → words ≡ first ∷ rest → IsCommandLine words c → (first ≡ first_word c) × AreWordsOf rest c
+pub words_of : (words rest : List (List ℕ)) (first : List ℕ) (c : model.CommandLine) → words ≡ first ∷ rest → IsCommandLine words c → (first ≡ first_word c)
+    × AreWordsOf rest c
 words_of words rest first c e h =
     let joined : first ∷ rest ≡ first_word c ∷ h.rest = sym e ∙ h.words_are in
     let same : h.rest ≡ rest = sym (cc joined) in
@@ -82,7 +92,8 @@ not_both : (first : List ℕ) → first ≡ codes "create" → first ≡ codes "
 not_both first a b = let same : 99 ≡ 114 = ap first_byte (sym a ∙ b) in omega (arith, same)
 
 pub as_create : (words rest : List (List ℕ)) (first : List ℕ) (P : model.CommandLine → Type 0) → words ≡ first ∷ rest → first ≡ codes "create"
-    → ((image : List ℕ) (numbers : text.CreateNumbers) → AreWordsOf rest (model.Create image numbers) → P (model.Create image numbers)) → (c : model.CommandLine) → IsCommandLine words c → P c
+    → ((image : List ℕ) (numbers : text.CreateNumbers) → AreWordsOf rest (model.Create image numbers) → P (model.Create image numbers))
+    → (c : model.CommandLine) → IsCommandLine words c → P c
 as_create words rest first P e is k (model.Create image numbers) h = k image numbers (words_of words rest first _ e h).1
 as_create words rest first P e is k (model.Geometry image) h = absurd (cc (is, (words_of words rest first _ e h).0))
 as_create words rest first P e is k (model.Show image) h = absurd (cc (is, (words_of words rest first _ e h).0))

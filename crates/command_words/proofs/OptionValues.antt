@@ -1,32 +1,21 @@
 -- The numbers of options, by what was read of them.
-use Rattle.std.proofs.Common.{bytes_eq, cond, ◌==◌, ◌&&◌, ◌≡◌, ◌≢◌, ℕ, ◌<◌, ◌≤◌, ◌^◌, zero, suc, Bool, true, false, Option, Some, None, List, [], ◌∷◌, ◌++◌, map, get_or, set, refl, sym, ap, subst, ◌∙◌, inl, inr, arith}
+use Rattle.std.proofs.Common.{bytes_eq, cond, ◌==◌, ◌≡◌, ◌≢◌, ℕ, ◌<◌, ◌≤◌, ◌^◌, zero, suc, Bool, true, false, Option, Some, None, List, [], ◌∷◌, ◌++◌, map, get_or, set, refl, sym, ap, subst, ◌∙◌, inl, inr, arith}
 use Rattle.std.specs.Fmt.{decimal}
 use Rattle.std.specs.List.{AllByRecursion, slice_get, list_all}
-use Rattle.std.specs.Option.{is_some}
 use Rattle.std.proofs.lemmas.Fmt.{decimal_injective}
 use Rattle.command_words.specs.Grammar.{Item, Name, Named, NumberOption, IsNumber, AreNumbers, IsOneOf, value_in, AreDistinct, create_options}
 use Rattle.command_words.specs.Words.{IsValue, AreValues}
 use Rattle.command_words.proofs.Items.{same_value, new_value, is_other, other_name}
 use Rattle.std.proofs.lemmas.Bool.{cases_Bool, eqb-false}
+use Rattle.lemmas.proofs.Parts.{all_get}
+use Rattle.lemmas.proofs.Tests.{first_of, second_of}
 
 abbrev pub names : List NumberOption → List (List ℕ)
 names os = map (λ o. o.name) os
 
-and_left : (a b : Bool) → (a && b) ≡ true → a ≡ true
-and_left true b h = refl
-and_left false b h = h
-
-and_right : (a b : Bool) → (a && b) ≡ true → b ≡ true
-and_right true b h = h
-and_right false b h = absurd (cc h)
-
-pub all_get : {X : Type 0} (P : X → Type 0) (xs : List X) (i : ℕ) (x : X) → AllByRecursion P xs → slice_get xs i ≡ Some x → P x
-all_get P [] i x h e = absurd (cc e)
-all_get P (y ∷ xs) zero x h e = let is : y ≡ x = cc e in rw (sym is) h.0
-all_get P (y ∷ xs) (suc i) x h e = all_get P xs i x h.1 e
-
 -- the same values, with an item of another kind or option
-pub same_values : (os : List NumberOption) (vs : List (Option ℕ)) (items : List Item) (item : Item) → AllByRecursion (λ o. value_in o.name (item ∷ []) ≡ None) os → AreValues os vs items → AreValues os vs (items ++ item ∷ [])
+pub same_values : (os : List NumberOption) (vs : List (Option ℕ)) (items : List Item) (item : Item)
+    → AllByRecursion (λ o. value_in o.name (item ∷ []) ≡ None) os → AreValues os vs items → AreValues os vs (items ++ item ∷ [])
 same_values [] [] items item k h = tt
 same_values [] (v ∷ vs) items item k h = h
 same_values (o ∷ os) [] items item k h = h
@@ -40,20 +29,18 @@ cond_none : {X : Type 0} (b : Bool) (v : X) (o : Option X) → o ≡ None → b 
 cond_none true v o e h = absurd (cc h)
 cond_none false v o e h = e
 
-option_has_no_value : (name value : List ℕ) (os : List NumberOption) → AllByRecursion (λ other. other ≢ name) (names os) → AllByRecursion (λ o. value_in o.name (Named name value ∷ []) ≡ None) os
+option_has_no_value : (name value : List ℕ) (os : List NumberOption) → AllByRecursion (λ other. other ≢ name) (names os)
+    → AllByRecursion (λ o. value_in o.name (Named name value ∷ []) ≡ None) os
 option_has_no_value name value [] h = tt
-option_has_no_value name value (o ∷ os) h = (cond_none (bytes_eq name o.name) value None refl (is_other name o.name (λ e. h.0 (sym e))), option_has_no_value name value os h.1)
+option_has_no_value name value (o ∷ os) h = (
+  cond_none (bytes_eq name o.name) value None refl
+      (is_other name o.name (λ e. h.0 (sym e))),
+  option_has_no_value name value os h.1,
+)
 
-pub with_name : (os : List NumberOption) (vs : List (Option ℕ)) (items : List Item) (name : List ℕ) → AreValues os vs items → AreValues os vs (items ++ Name name ∷ [])
+pub with_name : (os : List NumberOption) (vs : List (Option ℕ)) (items : List Item) (name : List ℕ) → AreValues os vs items
+    → AreValues os vs (items ++ Name name ∷ [])
 with_name os vs items name h = same_values os vs items (Name name) (name_has_no_value name os) h
-
-pub some_value : {X : Type 0} (o : Option X) → is_some o ≡ true → (x : X) × (o ≡ Some x)
-some_value None h = absurd (cc h)
-some_value (Some x) h = (x, refl)
-
-pub no_value : {X : Type 0} (o : Option X) → is_some o ≡ false → o ≡ None
-no_value None h = refl
-no_value (Some x) h = absurd (cc h)
 
 pub none_of : (o : NumberOption) (word : Option (List ℕ)) → IsValue o None word → word ≡ None
 none_of o None h = refl
@@ -70,7 +57,8 @@ not_valued o (Some n) word h e = absurd (cc e)
 
 -- an option that has no value yet is given one
 pub with_value : (os : List NumberOption) (vs : List (Option ℕ)) (items : List Item) (i : ℕ) (name value : List ℕ) (n below : ℕ)
-    → AreDistinct (names os) → slice_get (names os) i ≡ Some name → slice_get (map (λ o. o.below) os) i ≡ Some below → get_or vs i None ≡ None → value ≡ decimal n → n < below
+    → AreDistinct (names os) → slice_get (names os) i ≡ Some name → slice_get (map (λ o. o.below) os) i ≡ Some below → get_or vs i None ≡ None
+    → value ≡ decimal n → n < below
     → AreValues os vs items → AreValues os (set vs i (Some n)) (items ++ Named name value ∷ [])
 with_value [] vs items i name value n below d at_name at_below at_value spelled small h = absurd (cc at_name)
 with_value (o ∷ os) [] items i name value n below d at_name at_below at_value spelled small h = absurd h
@@ -87,7 +75,8 @@ with_value (o ∷ os) (v ∷ vs) items (suc i) name value n below d at_name at_b
     (rw (same_value o.name (Named name value) items other.0) h.0, with_value os vs items i name value n below d.1 at_name at_below at_value spelled small h.1)
 
 -- the word of an option, by its place in the list
-pub value_at : (os : List NumberOption) (vs : List (Option ℕ)) (items : List Item) (i : ℕ) (name : List ℕ) (v : Option ℕ) → slice_get (names os) i ≡ Some name → get_or vs i None ≡ v → AreValues os vs items → (o : NumberOption) × IsValue o v (value_in name items)
+pub value_at : (os : List NumberOption) (vs : List (Option ℕ)) (items : List Item) (i : ℕ) (name : List ℕ) (v : Option ℕ) → slice_get (names os) i ≡ Some name
+    → get_or vs i None ≡ v → AreValues os vs items → (o : NumberOption) × IsValue o v (value_in name items)
 value_at [] vs items i name v at_name at_value h = absurd (cc at_name)
 value_at (o ∷ os) [] items i name v at_name at_value h = absurd h
 value_at (o ∷ os) (w ∷ vs) items zero name v at_name at_value h =
@@ -97,7 +86,8 @@ value_at (o ∷ os) (w ∷ vs) items zero name v at_name at_value h =
 value_at (o ∷ os) (w ∷ vs) items (suc i) name v at_name at_value h = value_at os vs items i name v at_name at_value h.1
 
 -- a word that is named is a number, below its bound
-pub number_at : (os : List NumberOption) (ns : List ℕ) (items : List Item) (i : ℕ) (name word : List ℕ) (below : ℕ) → slice_get (names os) i ≡ Some name → slice_get (map (λ o. o.below) os) i ≡ Some below → value_in name items ≡ Some word → AreNumbers os ns items → (n : ℕ) × (word ≡ decimal n) × (n < below)
+pub number_at : (os : List NumberOption) (ns : List ℕ) (items : List Item) (i : ℕ) (name word : List ℕ) (below : ℕ) → slice_get (names os) i ≡ Some name
+    → slice_get (map (λ o. o.below) os) i ≡ Some below → value_in name items ≡ Some word → AreNumbers os ns items → (n : ℕ) × (word ≡ decimal n) × (n < below)
 number_at [] ns items i name word below at_name at_below at_word h = absurd (cc at_name)
 number_at (o ∷ os) [] items i name word below at_name at_below at_word h = absurd h
 number_at (o ∷ os) (n ∷ ns) items zero name word below at_name at_below at_word h =
@@ -113,12 +103,14 @@ one_number o m n None small h k = h ∙ sym k
 one_number o m n (Some word) small h k = decimal_injective m n (omega (arith, h.1, small)) (omega (arith, k.1, small)) (sym h.0 ∙ k.0)
 
 -- an option in the list has a bound
-pub below_all : (os : List NumberOption) (i : ℕ) (name : List ℕ) → AllByRecursion (λ o. o.below ≤ 2 ^ 64) os → slice_get (names os) i ≡ Some name → (b : ℕ) × (slice_get (map (λ o. o.below) os) i ≡ Some b) × (b ≤ 2 ^ 64)
+pub below_all : (os : List NumberOption) (i : ℕ) (name : List ℕ) → AllByRecursion (λ o. o.below ≤ 2 ^ 64) os → slice_get (names os) i ≡ Some name → (b : ℕ)
+    × (slice_get (map (λ o. o.below) os) i ≡ Some b) × (b ≤ 2 ^ 64)
 below_all [] i name small e = absurd (cc e)
 below_all (o ∷ os) zero name small e = (o.below, refl, small.0)
 below_all (o ∷ os) (suc i) name small e = below_all os i name small.1 e
 
-pub one_list : (os : List NumberOption) (ms ns : List ℕ) (items : List Item) → AllByRecursion (λ o. o.below ≤ 2 ^ 64) os → AreNumbers os ms items → AreNumbers os ns items → ms ≡ ns
+pub one_list : (os : List NumberOption) (ms ns : List ℕ) (items : List Item) → AllByRecursion (λ o. o.below ≤ 2 ^ 64) os → AreNumbers os ms items
+    → AreNumbers os ns items → ms ≡ ns
 one_list [] [] [] items small h k = refl
 one_list [] [] (n ∷ ns) items small h k = absurd k
 one_list [] (m ∷ ms) ns items small h k = absurd h
@@ -178,8 +170,8 @@ plain_by_test (b ∷ bs) h = elim (cases_Bool (b == 61)) [
 plain_one : (os : List NumberOption) (name : List ℕ) → list_all (λ o. is_plain_name o.name) os ≡ true → IsOneOf os name → AllByRecursion (λ b. b ≢ 61) name
 plain_one [] name h one = absurd one
 plain_one (o ∷ os) name h one = elim one [
-  | inl e ↦ rw e (plain_by_test o.name (and_left (is_plain_name o.name) (list_all (λ o. is_plain_name o.name) os) h))
-  | inr more ↦ plain_one os name (and_right (is_plain_name o.name) (list_all (λ o. is_plain_name o.name) os) h) more
+  | inl e ↦ rw e (plain_by_test o.name (first_of (is_plain_name o.name) (list_all (λ o. is_plain_name o.name) os) h))
+  | inr more ↦ plain_one os name (second_of (is_plain_name o.name) (list_all (λ o. is_plain_name o.name) os) h) more
 ]
 
 pub plain_names : (name : List ℕ) → IsOneOf create_options name → AllByRecursion (λ b. b ≢ 61) name

@@ -15,22 +15,21 @@ use Rattle.stripe_placer.specs.OpenLines.Stripe.{Unplaced, Unanswered}
 use Rattle.stripe_placer.specs.Placing.{Program}
 use Rattle.stripe_placer.specs.Inside.{IsProgramOf, IsUnanswered}
 use Rattle.stripe_placer.proofs.Agreeing.{in_line_same, in_line_other}
-use Rattle.stripe_placer.proofs.Among.{IsAmong, from_filter, from_map}
 use Rattle.stripe_placer.proofs.Steps.{unanswered_left}
-use Rattle.stripe_placer.proofs.Rows.{length_replicate as length_replicated}
 use Rattle.pblk_layout.specs.Live.{units_in}
-use Rattle.pblk_layout.proofs.Orders.{some_wide}
 use Rattle.core_laws.specs.Stepping.{after}
 use Rattle.core_laws.specs.OpenedLines.{as_opened, by_answer, became, placed_as, is_stripe_at, outcome, with_outcomes, open_line, standing, open_lines}
 use Rattle.core_laws.specs.PlacerOf.{unanswered_on}
-use Rattle.core_laws.proofs.Lists.{map_same, all_at, none_past as past}
 use Rattle.core_laws.proofs.Steady.{as_opened_same}
-use Rattle.core_laws.proofs.Rows.{rows_set, row_at}
 use Rattle.core_laws.proofs.Numbers.{opens_at}
 use Rattle.core_laws.proofs.Stripes.{one_stripe}
-use Rattle.core_laws.proofs.Turns.{found_is, filtered_is, stands_at_turn, its_unit, its_turn}
+use Rattle.core_laws.proofs.Turns.{filtered_is, stands_at_turn, its_unit, its_turn}
 use Rattle.core_laws.proofs.PlacedLines.{IsStanding, all_standing}
-use Rattle.core_laws.proofs.Tests.{first_of}
+use Rattle.lemmas.proofs.Lists.{IsAmong, length_replicate}
+use Rattle.lemmas.proofs.Maps.{found_passes, from_filter, from_map, map_same, row_at, rows_set}
+use Rattle.lemmas.proofs.Numbers.{some_units}
+use Rattle.lemmas.proofs.Parts.{all_at, get_last, none_past}
+use Rattle.lemmas.proofs.Tests.{first_of}
 
 -- an event answers the unit's stripe, and places nothing
 pub record IsAnswer (log new : List Logged) (unit : ℕ) (a : Answer) : Type 0 where
@@ -43,10 +42,6 @@ pub record IsFirst (log : List Logged) (unit : ℕ) (q : Placed) : Type 0 where
   pub among : IsAmong (placements log) q
   pub of_unit : q.stripe.unit ≡ unit
   pub turn_is : turn log q ≡ length (answers log unit)
-
-pub get_last : {X : Type 0} (xs : List X) (x : X) → slice_get (xs ++ x ∷ []) (length xs) ≡ Some x
-get_last [] x = refl
-get_last (y ∷ xs) x = get_last xs x
 
 get_other : {X : Type 0} (xs : List X) (x : X) (k : ℕ) → k ≢ length xs → slice_get (xs ++ x ∷ []) k ≡ slice_get xs k
 get_other [] x zero other = absurd (other refl)
@@ -114,12 +109,12 @@ answered_at i logs of is one =
     let zero_more : 0 + j ≡ j = omega arith in
     let some : (q : Placed) × (placed_as s log o l0 j ≡ Some q) × (answer_of log q ≡ None) = some_stripe log (placed_as s log o l0 j) (ap (outcome s log o l0) (sym zero_more) ∙ at.1) in
     let q : Placed = some.0 in
-    let found : (is_stripe_at s l0 q.stripe.unit q.stripe.at j ≡ true) × IsAmong (stripes_of log o) q = found_is (λ (p : Placed). is_stripe_at s l0 p.stripe.unit p.stripe.at j) (stripes_of log o) q some.1 in
+    let found : (is_stripe_at s l0 q.stripe.unit q.stripe.at j ≡ true) × IsAmong (stripes_of log o) q = found_passes (λ (p : Placed). is_stripe_at s l0 p.stripe.unit p.stripe.at j) (stripes_of log o) q some.1 in
     let among : IsAmong (placements log) q = from_filter (λ (p : Placed). is_life o.number p.life) (placements log) q found.1 in
     let unit : q.stripe.unit ≡ of.unit = sym (eqb-true (unit_of l0 j) q.stripe.unit (first_of (unit_of l0 j == q.stripe.unit) (j / width l0 * s.ws_opt == q.stripe.at) found.0)) ∙ both.1 in
-    let late : length (answers log of.unit) ≤ turn log q = past (answers log of.unit) (turn log q) (ap (λ u. slice_get (answers log u) (turn log q)) (sym unit) ∙ some.2) in
+    let late : length (answers log of.unit) ≤ turn log q = none_past (answers log of.unit) (turn log q) (ap (λ u. slice_get (answers log u) (turn log q)) (sym unit) ∙ some.2) in
     let soon : turn log q < length (placed_on log of.unit) = slice_get_within (placed_on log of.unit) (turn log q) q (ap (λ u. slice_get (placed_on log u) (turn log q)) (sym unit) ∙ stands_at_turn log q among) in
-    let count : length l0.stripes ≡ length (units_in l0.live) * (s.clba / s.ws_opt) = length_replicated (length (units_in l0.live) * (s.clba / s.ws_opt)) Unplaced in (
+    let count : length l0.stripes ≡ length (units_in l0.live) * (s.clba / s.ws_opt) = length_replicate (length (units_in l0.live) * (s.clba / s.ws_opt)) Unplaced in (
       o,
       q,
       record {
@@ -127,7 +122,7 @@ answered_at i logs of is one =
         line = ap (λ (l : OpenLine). l.line) from.2 ∙ is.line.2;
         first = record { among = among; of_unit = unit; turn_is = omega (arith, late, soon, one) };
         inside = at.0;
-        wide = some_wide (length (units_in l0.live)) (s.clba / s.ws_opt) j (subst (λ n. j < n) count at.0);
+        wide = some_units (length (units_in l0.live)) (s.clba / s.ws_opt) j (subst (λ n. j < n) count at.0);
         here = found.0;
         is = some.1;
         waits = both.0;
@@ -151,7 +146,7 @@ outcome_by : (s : Shape) (log new : List Logged) (unit : ℕ) (a : Answer) (q : 
 outcome_by s log new unit a q o l j is first other =
     ap (became new) (same_place s log new o l j is.placements)
     ∙ became_by log new unit a q (placed_as s log o l j) is first
-    (λ r e. (from_filter (λ (p : Placed). is_life o.number p.life) (placements log) r (found_is (λ (p : Placed). is_stripe_at s l p.stripe.unit p.stripe.at j) (stripes_of log o) r e).1, other r e))
+    (λ r e. (from_filter (λ (p : Placed). is_life o.number p.life) (placements log) r (found_passes (λ (p : Placed). is_stripe_at s l p.stripe.unit p.stripe.at j) (stripes_of log o) r e).1, other r e))
 
 line_of_it : (i : Image) (logs : Logs) (e : EngineEvent) (knows : List ℕ) (o : Opening) (of : Program) (a : Answer) (q : Placed) → 0 < i.shape.ws_opt → IsAnswer (logs 0) (after logs e knows 0) of.unit a → IsAnsweredAt i logs o of q
     → open_line i (after logs e knows) o ≡ in_line of.line (of.at / i.shape.ws_opt) (by_answer (Some a)) (open_line i logs o)
@@ -167,17 +162,17 @@ line_of_it i logs e knows o of a q some is at =
     (ap (outcome s new o l0) from ∙ ap (became new) (same_place s (logs 0) new o l0 j is.placements ∙ at.is) ∙ ap by_answer (its_answer (logs 0) new of.unit a q is at.first))
     (λ m other. outcome_by s (logs 0) new of.unit a q o l0 m is at.first
     (λ r f same. other (one_stripe s l0 q.stripe.unit q.stripe.at m j some at.wide
-    (subst (λ (p : Placed). is_stripe_at s l0 p.stripe.unit p.stripe.at m ≡ true) same (found_is (λ (p : Placed). is_stripe_at s l0 p.stripe.unit p.stripe.at m) (stripes_of (logs 0) o) r f).0) at.here ∙ sym from))))
+    (subst (λ (p : Placed). is_stripe_at s l0 p.stripe.unit p.stripe.at m ≡ true) same (found_passes (λ (p : Placed). is_stripe_at s l0 p.stripe.unit p.stripe.at m) (stripes_of (logs 0) o) r f).0) at.here ∙ sym from))))
     ∙ sym (in_line_same (open_line i logs o) of.line j (by_answer (Some a)) at.line)
 
 lives_once : (m n : ℕ) (life : LineLife) → is_life m life ≡ true → is_life n life ≡ true → m ≡ n
 lives_once m n AsFound a b = absurd cc
 lives_once m n (Opened o) a b = sym (eqb-true o.number m a) ∙ eqb-true o.number n b
-lives_once m n (Freed past k) a b = absurd cc
+lives_once m n (Freed none_past k) a b = absurd cc
 
 life_is : (s : Shape) (log : List Logged) (o : Opening) (l : OpenLine) (j : ℕ) (r : Placed) → placed_as s log o l j ≡ Some r → is_life o.number r.life ≡ true
 life_is s log o l j r e =
-    let found = found_is (λ (p : Placed). is_stripe_at s l p.stripe.unit p.stripe.at j) (stripes_of log o) r e in
+    let found = found_passes (λ (p : Placed). is_stripe_at s l p.stripe.unit p.stripe.at j) (stripes_of log o) r e in
     filtered_is (λ (p : Placed). is_life o.number p.life) (placements log) found.1.0 r found.1.1
 
 line_elsewhere : (i : Image) (logs : Logs) (e : EngineEvent) (knows : List ℕ) (o other : Opening) (of : Program) (a : Answer) (q : Placed) → IsAnswer (logs 0) (after logs e knows 0) of.unit a → IsAnsweredAt i logs o of q

@@ -10,7 +10,8 @@ use Rattle.pblk_world.specs.EngineLog.{Opening, opened_by, openings, life_of, Pl
 use Rattle.pblk_world.specs.Victims.{engine_prefix}
 use Rattle.core_laws.specs.Stepping.{after}
 use Rattle.core_laws.specs.PlacerOf.{stopped_by, was_stopped_on}
-use Rattle.core_laws.proofs.Lists.{fun_same, numbers_below}
+use Rattle.lemmas.proofs.Maps.{numbers_below}
+use Rattle.lemmas.proofs.Numbers.{fun_same}
 
 -- ---- prefixes
 

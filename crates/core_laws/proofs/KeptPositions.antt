@@ -11,11 +11,12 @@ use Rattle.pblk_world.specs.EngineLog.{Begun, begun, Taken, taken_by, takes, Pla
 use Rattle.pblk_world.specs.Fronts.{first_position, taken}
 use Rattle.pblk_world.specs.Taking.{IsMarked}
 use Rattle.pblk_world.specs.Legal.{IsDecision}
-use Rattle.pblk_world.proofs.Appending.{takes_more, placements_more}
+use Rattle.pblk_world.proofs.Appending.{placements_more}
 use Rattle.core_laws.specs.Positions.{AreNumbered, AreMarked, AreTaken}
-use Rattle.core_laws.proofs.Placing.{weaker}
 use Rattle.core_laws.proofs.Numbering.{first_stays}
-use Rattle.core_laws.proofs.PlacedPositions.{all_joined, placed_taken}
+use Rattle.core_laws.proofs.PlacedPositions.{placed_taken}
+use Rattle.lemmas.proofs.Lists.{all_append, all_imply}
+use Rattle.pblk_world.proofs.EngineLogLemmas.{takes_more}
 
 mark_position : (i : Image) (logs : Logs) (entry : Entry) (mark : Mark) (source : Option Source) → IsMarked i logs entry mark source → mark.position ≡ entry.position
 mark_position i logs entry mark None is = ap (λ (m : Mark). m.position) is
@@ -27,7 +28,7 @@ pub marked_after : (i : Image) (known : Logs) (log : List Logged) (beginning : B
 marked_after i known log beginning (Take entry mark) knows may is =
     let l : Logged = record { event = Decides (Take entry mark); knows = knows } in
     subst (AllByRecursion (λ (t : Taken). t.mark.position ≡ t.entry.position)) (sym (takes_more log l))
-    (all_joined (λ (t : Taken). t.mark.position ≡ t.entry.position) (takes log) (record { entry = entry; mark = mark } ∷ []) is (mark_position i known entry mark entry.source may.marked, tt))
+    (all_append (λ (t : Taken). t.mark.position ≡ t.entry.position) (takes log) (record { entry = entry; mark = mark } ∷ []) is (mark_position i known entry mark entry.source may.marked, tt))
 marked_after i known log beginning e knows may is =
     let l : Logged = record { event = Decides e; knows = knows } in
     subst (AllByRecursion (λ (t : Taken). t.mark.position ≡ t.entry.position)) (sym (takes_more log l ∙ append-nil (takes log))) is
@@ -56,7 +57,7 @@ taken_after i known log beginning e knows small begins own may numbered marked i
     let n : ℕ = taken (log ++ l ∷ []) in
     let grows : taken log ≤ taken (log ++ l ∷ []) = taken_grows log l beginning begins in
     subst (AllByRecursion (λ (p : Placed). (q : ℕ) → holds_position i.shape q p ≡ true → q < taken (log ++ l ∷ []))) (sym (placements_more log l))
-    (all_joined (λ (p : Placed). (q : ℕ) → holds_position i.shape q p ≡ true → q < taken (log ++ l ∷ [])) (placements log) (option_to_list (placed_by log (length log) (Decides e)))
-    (weaker (λ (p : Placed). (q : ℕ) → holds_position i.shape q p ≡ true → q < taken log) (λ (p : Placed). (q : ℕ) → holds_position i.shape q p ≡ true → q < taken (log ++ l ∷ []))
+    (all_append (λ (p : Placed). (q : ℕ) → holds_position i.shape q p ≡ true → q < taken (log ++ l ∷ [])) (placements log) (option_to_list (placed_by log (length log) (Decides e)))
+    (all_imply (λ (p : Placed). (q : ℕ) → holds_position i.shape q p ≡ true → q < taken log) (λ (p : Placed). (q : ℕ) → holds_position i.shape q p ≡ true → q < taken (log ++ l ∷ []))
     (λ p below q holds. let inside : q < taken log = below q holds in omega arith) (placements log) is)
     (placed_now i known log beginning e (taken (log ++ l ∷ [])) small own may numbered marked grows))

@@ -11,23 +11,23 @@ use Rattle.pblk_world.specs.Events.{EngineEvent, Landed, Lost, Decides, Logged}
 use Rattle.pblk_world.specs.World.{Logs}
 use Rattle.pblk_world.specs.EngineLog.{Opening, openings, Taken, takes, Placed, placements, placed_on, Answer, DidLand, WasLost, answers, answer_of, was_lost, is_loss, holds_position}
 use Rattle.pblk_world.specs.Fronts.{times_placed, times_lost, was_placed, waits}
-use Rattle.pblk_world.proofs.Appending.{takes_more, answers_more, life_more, openings_more, placements_more}
+use Rattle.pblk_world.proofs.Appending.{life_more, openings_more, placements_more}
 use Rattle.stripe_placer.specs.Entries.{Entries}
 use Rattle.stripe_placer.specs.OpenLines.{has_left, in_line}
 use Rattle.stripe_placer.specs.Placing.{Program, answered, landed, lost}
 use Rattle.stripe_placer.specs.Placing.UnitRow.{Idle, UnderWay}
-use Rattle.stripe_placer.proofs.Among.{IsAmong, later}
 use Rattle.core_laws.specs.Stepping.{after}
 use Rattle.core_laws.specs.OpenedLines.{by_answer, open_line, standing, open_lines}
 use Rattle.core_laws.specs.PlacerOf.{IsAwaited, positions_of, lost_entries, fresh_entries, entries_of, was_stopped_on, contains_unit, waits_again, row_in, row_of, placing_of}
-use Rattle.core_laws.proofs.Lists.{map_agree, filter_same, filter_agree}
 use Rattle.core_laws.proofs.Engine.{stopped_more}
 use Rattle.core_laws.proofs.Steady.{standing_same, row_same}
-use Rattle.core_laws.proofs.Rows.{other_number, same_number, rows_set, row_at}
 use Rattle.core_laws.proofs.Taking.{same_placing, same_entries}
-use Rattle.core_laws.proofs.Placing.{weaker}
 use Rattle.core_laws.proofs.PlacedLines.{IsStanding, all_standing}
 use Rattle.core_laws.proofs.Answered.{IsAnswer, IsFirst, IsAnsweredAt, answered_at, its_answer, others_answer, line_answered, none_left}
+use Rattle.lemmas.proofs.Lists.{IsAmong, all_imply, later}
+use Rattle.lemmas.proofs.Maps.{filter_agree, filter_same, map_agree, row_at, rows_set}
+use Rattle.lemmas.proofs.Tests.{other_number, same_number}
+use Rattle.pblk_world.proofs.EngineLogLemmas.{answers_more, takes_more}
 
 commute : {O X : Type 0} (test : X → Bool) (g : X → X) (f : O → X) (xs : List O) → AllByRecursion (λ x. test (f x) ≡ false → test (g (f x)) ≡ false) xs
     → filter test (map (λ x. g (f x)) xs) ≡ filter test (map g (filter test (map f xs)))
@@ -53,7 +53,7 @@ lines_answered i logs e knows o of a q some is at =
     ∙ ap (filter has_left) (map_agree (IsStanding (logs 0)) (open_line i (after logs e knows)) (λ other. in_line of.line (of.at / i.shape.ws_opt) (by_answer (Some a)) (open_line i logs other))
     (line_answered i logs e knows o of a q some is.answer at) (standing (logs 0)) (all_standing (logs 0)))
     ∙ commute has_left (in_line of.line (of.at / i.shape.ws_opt) (by_answer (Some a))) (open_line i logs) (standing (logs 0))
-    (weaker (IsStanding (logs 0)) (λ other. has_left (open_line i logs other) ≡ false → has_left (in_line of.line (of.at / i.shape.ws_opt) (by_answer (Some a)) (open_line i logs other)) ≡ false)
+    (all_imply (IsStanding (logs 0)) (λ other. has_left (open_line i logs other) ≡ false → has_left (in_line of.line (of.at / i.shape.ws_opt) (by_answer (Some a)) (open_line i logs other)) ≡ false)
     (λ other stands none. none_left i logs o of q (by_answer (Some a)) at other stands none) (standing (logs 0)) (all_standing (logs 0)))
 
 row_of_it : (i : Image) (logs : Logs) (e : EngineEvent) (knows again : List ℕ) (unit : ℕ) (a : Answer) → IsAnswer (logs 0) (after logs e knows 0) unit a
@@ -89,7 +89,7 @@ placing_answered i logs e knows pad again of a some awaited is =
 
 each_among : (ps : List Placed) → AllByRecursion (IsAmong ps) ps
 each_among [] = tt
-each_among (p ∷ ps) = ((0, refl), weaker (IsAmong ps) (IsAmong (p ∷ ps)) (λ q at. later p ps q at) ps (each_among ps))
+each_among (p ∷ ps) = ((0, refl), all_imply (IsAmong ps) (IsAmong (p ∷ ps)) (λ q at. later p ps q at) ps (each_among ps))
 
 kept_loss : (log new : List Logged) (unit event : ℕ) (q : Placed) → IsAnswer log new unit (DidLand event) → IsFirst log unit q → (r : Placed) → IsAmong (placements log) r → was_lost new r ≡ was_lost log r
 kept_loss log new unit event q is first r among = elim (others_answer log new unit (DidLand event) q r is first among) as (λ _. was_lost new r ≡ was_lost log r) [

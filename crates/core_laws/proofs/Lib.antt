@@ -1,5 +1,3 @@
-pub mod Lists
-pub mod Tests
 pub mod Engine
 pub mod Steady
 pub mod Taking
@@ -22,3 +20,7 @@ pub mod Numbering
 pub mod PlacedPositions
 pub mod KeptPositions
 pub mod PoppedWindow
+pub mod PlainWorldsLemmas
+pub mod PlacerOfLemmas
+pub mod SteppingLemmas
+pub mod WindowOfLemmas

@@ -1,5 +1,5 @@
 -- What was taken has positions in order.
-use Rattle.std.proofs.Common.{◌≡◌, ℕ, ◌+◌, zero, suc, Some, Option, List, [], ◌∷◌, ◌++◌, length, refl, sym, ap, ap₂, ◌∙◌, arith, append-nil, length-append}
+use Rattle.std.proofs.Common.{◌≡◌, ℕ, ◌+◌, Some, Option, List, [], ◌∷◌, ◌++◌, length, refl, sym, ap, ap₂, ◌∙◌, append-nil, length-append}
 use Rattle.std.specs.List.{range_with_len}
 use Rattle.std.specs.Option.{option_map_or}
 use Rattle.std.proofs.lemmas.Option.{none-some}
@@ -9,10 +9,11 @@ use Rattle.pblk_world.specs.World.{Logs}
 use Rattle.pblk_world.specs.EngineLog.{Begun, begun, Taken, takes}
 use Rattle.pblk_world.specs.Fronts.{first_position, taken}
 use Rattle.pblk_world.specs.Legal.{IsDecision}
-use Rattle.pblk_world.proofs.Appending.{takes_more}
 use Rattle.core_laws.specs.PlacerOf.{positions_of}
 use Rattle.core_laws.specs.Positions.{AreNumbered}
 use Rattle.core_laws.proofs.Taking.{positions_last}
+use Rattle.lemmas.proofs.Maps.{range_last}
+use Rattle.pblk_world.proofs.EngineLogLemmas.{takes_more}
 
 pub begun_stays : (log : List Logged) (l : Logged) (b : Begun) → begun log ≡ Some b → begun (log ++ l ∷ []) ≡ begun log
 begun_stays [] l b e = absurd (none-some b e)
@@ -23,15 +24,6 @@ first_stays log l b e = ap (λ (x : Option Begun). option_map_or (λ (b : Begun)
 
 numbered_same : (a b : ℕ) (ts us : List Taken) → a ≡ b → ts ≡ us → positions_of us ≡ range_with_len b (length us) → positions_of ts ≡ range_with_len a (length ts)
 numbered_same a b ts us p q is = ap positions_of q ∙ is ∙ ap₂ (λ n (vs : List Taken). range_with_len n (length vs)) (sym p) (sym q)
-
-pub range_more : (a n : ℕ) → range_with_len a (suc n) ≡ range_with_len a n ++ (a + n) ∷ []
-range_more a zero = let same : a ≡ a + 0 = omega arith in ap (λ k. k ∷ []) same
-range_more a (suc n) =
-    let same : a + 1 + n ≡ a + suc n = omega arith in
-    ap (λ ks. a ∷ ks) (range_more (a + 1) n ∙ ap (λ k. range_with_len (a + 1) n ++ k ∷ []) same)
-
-range_last : (a n : ℕ) → range_with_len a (n + 1) ≡ range_with_len a n ++ (a + n) ∷ []
-range_last a n = let next : n + 1 ≡ suc n = omega arith in ap (range_with_len a) next ∙ range_more a n
 
 numbered_more : (a b : ℕ) (ts us : List Taken) (t : Taken) → a ≡ b → ts ≡ us ++ t ∷ [] → t.entry.position ≡ b + length us → positions_of us ≡ range_with_len b (length us) → positions_of ts ≡ range_with_len a (length ts)
 numbered_more a b ts us t p q next is =

@@ -13,21 +13,22 @@ use Rattle.pblk_world.specs.Events.{Open, Free, Place, Event, Decides, Logged}
 use Rattle.pblk_world.specs.World.{Logs}
 use Rattle.pblk_world.specs.EngineLog.{LineLife, AsFound, Opened, Freed, is_life, is_opened, life_of, turned, turned_by, last_opening, Opening, openings, takes, Placed, placed_by, placements, answers, stripes_of}
 use Rattle.pblk_world.specs.Lines.{known_image}
-use Rattle.pblk_world.proofs.Appending.{takes_more, answers_more, life_more, openings_more, placements_more}
+use Rattle.pblk_world.proofs.Appending.{life_more, openings_more, placements_more}
 use Rattle.stripe_placer.specs.OpenLines.{Stripe, OpenLine, opened, numbers, has_left, is_to_place, is_closed, is_lost, is_unplaced, is_unanswered, stripe_is, in_one_chunk}
 use Rattle.stripe_placer.specs.OpenLines.Stripe.{Unplaced}
 use Rattle.stripe_placer.specs.Placing.{begun}
-use Rattle.stripe_placer.proofs.Rows.{length_replicate as length_replicated, map_last}
 use Rattle.core_laws.specs.Stepping.{after}
 use Rattle.core_laws.specs.OpenedLines.{bits_of, became, is_stripe_at, outcome, with_outcomes, open_line, standing, open_lines}
 use Rattle.core_laws.specs.PlacerOf.{entries_of, contains_unit, row_of, placing_of}
-use Rattle.core_laws.proofs.Lists.{fun_same, map_agree, map_same, filter_agree, filter_none, none_any}
 use Rattle.core_laws.proofs.Engine.{prefix_whole, openings_before, stopped_more}
 use Rattle.core_laws.proofs.Steady.{AreAlike, open_line_same, standing_before, row_same, unanswered_in}
 use Rattle.core_laws.proofs.Taking.{same_placing, filter_last}
-use Rattle.core_laws.proofs.Rows.{other_number, same_number}
 use Rattle.core_laws.proofs.Stopping.{entries_same}
-use Rattle.core_laws.proofs.Tests.{or_left}
+use Rattle.lemmas.proofs.Lists.{length_replicate}
+use Rattle.lemmas.proofs.Maps.{filter_agree, filter_none, map_agree, map_last, map_same, none_any}
+use Rattle.lemmas.proofs.Numbers.{fun_same}
+use Rattle.lemmas.proofs.Tests.{or_left, other_number, same_number}
+use Rattle.pblk_world.proofs.EngineLogLemmas.{answers_more, takes_more}
 
 -- ---- the numbers of lives
 
@@ -90,7 +91,7 @@ any_first test (suc n) some e = ap (λ b. b || list_any test (range_with_len 1 n
 left_by : (l : OpenLine) (n : ℕ) → l.stripes ≡ replicate n Unplaced → 0 < n → has_left l ≡ true
 left_by l zero e some = absurd (omega arith)
 left_by l (suc n) e some =
-    let count : length l.stripes ≡ suc n = ap (λ (xs : List Stripe). length xs) e ∙ length_replicated (suc n) Unplaced in
+    let count : length l.stripes ≡ suc n = ap (λ (xs : List Stripe). length xs) e ∙ length_replicate (suc n) Unplaced in
     or_left (list_any (is_to_place l) (numbers l)) (list_any is_unanswered l.stripes)
     (any_first (is_to_place l) (length l.stripes) (omega arith) (first_left l n e (chunk_open l (suc n) e)))
 
@@ -101,7 +102,7 @@ unplaced_all f none a (suc n) = ap₂ (λ x xs. x ∷ xs) (none a) (unplaced_all
 -- an opening of which no stripe was placed
 no_outcomes : (s : Shape) (log : List Logged) (o : Opening) (l : OpenLine) (n : ℕ) → l.stripes ≡ replicate n Unplaced → stripes_of log o ≡ [] → with_outcomes s log o l ≡ l
 no_outcomes s log o l n e none =
-    let count : length l.stripes ≡ n = ap (λ (xs : List Stripe). length xs) e ∙ length_replicated n Unplaced in
+    let count : length l.stripes ≡ n = ap (λ (xs : List Stripe). length xs) e ∙ length_replicate n Unplaced in
     ap (λ xs. record l { stripes = xs })
     (unplaced_all (outcome s log o l) (λ j. ap (λ (ps : List Placed). became log (find (λ (p : Placed). is_stripe_at s l p.stripe.unit p.stripe.at j) ps)) none) 0 (length l.stripes)
     ∙ ap (λ k. replicate k Unplaced) count ∙ sym e)
@@ -167,7 +168,7 @@ new_line i logs line start knows =
     let o : Opening = new_opening (logs 0) line start knows in
     let l : OpenLine = opened i.shape line (live_now i logs line) in
     ap (λ (ls : Logs). with_outcomes i.shape (new 0) o (opened i.shape line (live_now i ls line))) (prefix_whole logs (Open line start) knows)
-    ∙ no_outcomes i.shape (new 0) o l (length l.stripes) (sym (ap (λ k. replicate k Unplaced) (length_replicated _ Unplaced)))
+    ∙ no_outcomes i.shape (new 0) o l (length l.stripes) (sym (ap (λ k. replicate k Unplaced) (length_replicate _ Unplaced)))
     (ap (filter (λ (p : Placed). is_life (length (logs 0)) p.life)) ((alike (logs 0) line start knows).placements)
     ∙ filter_none (λ (p : Placed). is_life (length (logs 0)) p.life) (placements (logs 0)) (placed_before (logs 0) (length (logs 0)) (le_refl (length (logs 0)))))
 
@@ -181,7 +182,7 @@ lines_more i logs line start knows closed some =
     ap (λ os. filter has_left (map (open_line i new) os)) (standing_more (logs 0) line start knows closed)
     ∙ ap (filter has_left) (map_last (open_line i new) (standing (logs 0)) o)
     ∙ filter_last has_left (map (open_line i new) (standing (logs 0))) (open_line i new o) true
-    (ap has_left (new_line i logs line start knows) ∙ left_by l (length l.stripes) (sym (ap (λ k. replicate k Unplaced) (length_replicated _ Unplaced))) some)
+    (ap has_left (new_line i logs line start knows) ∙ left_by l (length l.stripes) (sym (ap (λ k. replicate k Unplaced) (length_replicate _ Unplaced))) some)
     ∙ ap₂ (λ (xs : List OpenLine) (x : OpenLine). filter has_left xs ++ x ∷ [])
     (map_agree (λ (o : Opening). o.number < length (logs 0)) (open_line i new) (open_line i logs) (open_line_same i logs (Open line start) knows (alike (logs 0) line start knows)) (standing (logs 0)) (standing_before (logs 0)))
     (new_line i logs line start knows)

@@ -11,24 +11,22 @@ use Rattle.pblk_world.specs.World.{Logs}
 use Rattle.pblk_world.specs.EngineLog.{Taken, takes, Opened, Opening, Placed, placements, life_of, was_lost, is_loss, bears_position, holds_position}
 use Rattle.pblk_world.specs.Fronts.{first_position, times_placed, times_lost, was_placed, waits}
 use Rattle.pblk_world.specs.Victims.{position_in}
-use Rattle.pblk_world.proofs.Appending.{takes_more}
 use Rattle.stripe_placer.specs.declared.placement.StripeKind.{StripeKind}
 use Rattle.stripe_placer.specs.declared.placement.StripeKind.TheVariants as kinds
 use Rattle.stripe_placer.specs.Entries.{Entries, waiting, without_first}
 use Rattle.stripe_placer.specs.OpenLines.{OpenLine, kind_of}
 use Rattle.stripe_placer.specs.Placing.{Program, next_positions}
 use Rattle.stripe_placer.proofs.Named.{IsProgramIn, its_program}
-use Rattle.stripe_placer.proofs.Chunks.{lt_yes as is_below}
 use Rattle.core_laws.specs.Stepping.{after}
 use Rattle.core_laws.specs.OpenedLines.{open_line}
 use Rattle.core_laws.specs.PlacerOf.{IsStripeOf, positions_of, positions_in_stripe, lost_entries, fresh_entries, entries_of}
-use Rattle.core_laws.proofs.Lists.{filter_same, filter_agree}
 use Rattle.core_laws.proofs.Engine.{placements_before}
 use Rattle.core_laws.proofs.Taking.{filter_last, same_entries}
-use Rattle.core_laws.proofs.Rows.{other_number}
 use Rattle.core_laws.proofs.Placing.{IsPlacing, new_placed, with_place, placements_now, answer_now, new_unanswered}
-use Rattle.core_laws.proofs.Removing.{is_within, and_no, and_yes, removed_both, apart_numbered, apart_split, filter_twice, take_taken}
-use Rattle.core_laws.proofs.Tests.{second_of as yes_not_no}
+use Rattle.core_laws.proofs.Removing.{is_within, and_yes, removed_both, apart_numbered, apart_split, filter_twice, take_taken}
+use Rattle.lemmas.proofs.Maps.{filter_agree, filter_same}
+use Rattle.lemmas.proofs.Tests.{and_refused, lt_true, not_true, other_number, second_of}
+use Rattle.pblk_world.proofs.EngineLogLemmas.{takes_more}
 
 -- ---- a stripe holds the positions in it
 
@@ -89,7 +87,7 @@ not_equal m n h = other_number m n (λ e. absurd (omega arith))
 lost_by : (p l n : ℕ) (b : Bool) → n ≡ p + more_by b → l ≤ p → ((n == l) && nat_lt 0 n) ≡ (((p == l) && nat_lt 0 p) && not b)
 lost_by p l n true is few =
     let above : l < n = omega (arith, is) in
-    ap (λ c. c && nat_lt 0 n) (not_equal n l above) ∙ sym (and_no ((p == l) && nat_lt 0 p))
+    ap (λ c. c && nat_lt 0 n) (not_equal n l above) ∙ sym (and_refused ((p == l) && nat_lt 0 p))
 lost_by p l n false is few =
     let same : n ≡ p = omega (arith, is) in
     ap (λ k. (k == l) && nat_lt 0 k) same ∙ sym (and_yes ((p == l) && nat_lt 0 p))
@@ -97,7 +95,7 @@ lost_by p l n false is few =
 fresh_by : (p n : ℕ) (b : Bool) → n ≡ p + more_by b → not (nat_lt 0 n) ≡ (not (nat_lt 0 p) && not b)
 fresh_by p n true is =
     let some : 0 < n = omega (arith, is) in
-    ap not (is_below 0 n some) ∙ sym (and_no (not (nat_lt 0 p)))
+    ap not (lt_true 0 n some) ∙ sym (and_refused (not (nat_lt 0 p)))
 fresh_by p n false is =
     let same : n ≡ p = omega (arith, is) in
     ap (λ k. not (nat_lt 0 k)) same ∙ sym (and_yes (not (nat_lt 0 p)))
@@ -120,10 +118,6 @@ next_are_first s e kinds.Start = refl
 next_are_first s e kinds.Data = take_taken s.ws_opt (waiting e)
 next_are_first s e kinds.Pad = refl
 next_are_first s e kinds.End = refl
-
-not_true : (b : Bool) → not b ≡ true → b ≡ false
-not_true true e = absurd cc
-not_true false e = refl
 
 pub length_positions : (ts : List Taken) → length (positions_of ts) ≡ length ts
 length_positions [] = refl
@@ -149,7 +143,7 @@ entries_placed i logs knows pad o stripe of is numbered =
     let first : qs ≡ take of.count (positions_of lost ++ positions_of fresh) =
     is.positions ∙ sym next ∙ next_are_first s e (kind_of l j) ∙ ap (λ n. take n (waiting e)) count in
     let apart = apart_split (λ t. waits s log t && was_placed s log t) (λ t. not (was_placed s log t)) (λ q. nat_lt 0 (length (filter (holds_position s q) (placements log))))
-    (λ t f. yes_not_no (waits s log t) (was_placed s log t) f) (λ t f. not_true (was_placed s log t) f) (takes log) (apart_numbered (first_position log) (length (takes log)) (takes log) numbered) in
+    (λ t f. second_of (waits s log t) (was_placed s log t) f) (λ t f. not_true (was_placed s log t) f) (takes log) (apart_numbered (first_position log) (length (takes log)) (takes log) numbered) in
     let removed = removed_both of.count lost fresh apart in
     let same : takes new ≡ takes log = takes_more log (record { event = Decides (Place stripe); knows = knows }) ∙ append-nil (takes log) in
     let less : lost_entries s new ≡ drop of.count lost =

@@ -9,7 +9,6 @@ use Rattle.pblk_model.specs.declared.shape.Shape.{Shape}
 use Rattle.pblk_model.specs.Shape.{units}
 use Rattle.pblk_model.specs.Image.{Image}
 use Rattle.pblk_layout.specs.Live.{units_in}
-use Rattle.pblk_layout.proofs.Orders.{some_wide}
 use Rattle.pblk_world.specs.Events.{Stripe, Place, Decides, Logged}
 use Rattle.pblk_world.specs.World.{Logs}
 use Rattle.pblk_world.specs.EngineLog.{Opened, is_life, life_of, Opening, openings, Placed, placed_on, answers, takes}
@@ -23,23 +22,23 @@ use Rattle.stripe_placer.specs.Placing.UnitRow.{Idle, UnderWay}
 use Rattle.stripe_placer.proofs.Agreeing.{in_line_same, in_line_other}
 use Rattle.stripe_placer.proofs.Named.{IsProgramIn, its_program, next_unplaced, its_stripe_is}
 use Rattle.stripe_placer.proofs.Steps.{unanswered_left}
-use Rattle.stripe_placer.proofs.Among.{got_here}
-use Rattle.stripe_placer.proofs.Rows.{length_replicate as length_replicated}
 use Rattle.core_laws.specs.Stepping.{after}
 use Rattle.core_laws.specs.OpenedLines.{as_opened, is_stripe_at, outcome, with_outcomes, open_line, standing, open_lines}
 use Rattle.pblk_world.specs.Fronts.{first_position}
 use Rattle.core_laws.proofs.PlacedEntries.{entries_placed}
 use Rattle.core_laws.specs.PlacerOf.{IsStripeOf, positions_of, entries_of, positions_in_stripe, number_of, program_at, program_of_stripe, row_in, row_of, unanswered_on, was_stopped_on, contains_unit, waits_again, placing_of}
-use Rattle.core_laws.proofs.Lists.{map_agree, map_same}
 use Rattle.core_laws.proofs.Engine.{prefix_whole, stopped_more}
 use Rattle.core_laws.proofs.Steady.{as_opened_same, standing_before, standing_same, row_same}
-use Rattle.core_laws.proofs.Rows.{other_number, same_number, rows_set, row_at}
 use Rattle.core_laws.proofs.Taking.{same_placing}
 use Rattle.core_laws.proofs.Opening.{life_before}
 use Rattle.core_laws.proofs.Numbers.{opens_at, life_at, standing_at, of_its_line}
 use Rattle.core_laws.proofs.Stripes.{at_its_place, not_at, find_only}
 use Rattle.core_laws.proofs.Placing.{IsPlacing, new_placed, with_place, placed_on_now, answers_now, outcome_there, outcome_elsewhere, outcome_beside}
-use Rattle.core_laws.proofs.Tests.{or_left}
+use Rattle.lemmas.proofs.Lists.{all_imply, length_replicate}
+use Rattle.lemmas.proofs.Maps.{all_passed, map_agree, map_same, row_at, rows_set}
+use Rattle.lemmas.proofs.Numbers.{some_units}
+use Rattle.lemmas.proofs.Parts.{got_here}
+use Rattle.lemmas.proofs.Tests.{or_left, other_number, same_number}
 
 -- ---- which stripe of its line it is
 
@@ -86,7 +85,7 @@ placed_at i logs pad o stripe of some is =
     let opened : (opens_at (logs 0) o.number ≡ Some stripe.line) × (o.line ≡ stripe.line) = life_at (logs 0) stripe.line o is.opened in
     let unit : unit_of l j ≡ stripe.unit = ap (λ (x : Program). x.unit) same ∙ sym is.unit in
     let block : j / width l * s.ws_opt ≡ stripe.at = ap (λ (x : Program). x.block) same ∙ sym is.block in
-    let count : length l0.stripes ≡ length (units_in l0.live) * (s.clba / s.ws_opt) = length_replicated (length (units_in l0.live) * (s.clba / s.ws_opt)) Unplaced in
+    let count : length l0.stripes ≡ length (units_in l0.live) * (s.clba / s.ws_opt) = length_replicate (length (units_in l0.live) * (s.clba / s.ws_opt)) Unplaced in
     let inside : j < length (units_in l0.live) * (s.clba / s.ws_opt) = subst (λ n. j < n) count at.0 in (
       j,
       record {
@@ -95,7 +94,7 @@ placed_at i logs pad o stripe of some is =
         its_line = ap (λ (x : Program). x.line) same;
         number = its_stripe_is s e l of j some its.1;
         inside = at.0;
-        wide = some_wide (length (units_in l0.live)) (s.clba / s.ws_opt) j inside;
+        wide = some_units (length (units_in l0.live)) (s.clba / s.ws_opt) j inside;
         here = at_its_place s l0 stripe.unit stripe.at j unit block;
         unplaced = ap (outcome s (logs 0) o l0) (sym from) ∙ at.1;
         next = its.1.next;
@@ -148,17 +147,9 @@ zipped : {X : Type 0} (P Q R : X → Type 0) (S : X → Type 0) → ((x : X) →
 zipped P Q R S says [] p q r = tt
 zipped P Q R S says (x ∷ xs) p q r = (says x p.0 q.0 r.0, zipped P Q R S says xs p.1 q.1 r.1)
 
-pub passes : {X : Type 0} (test : X → Bool) (xs : List X) → AllByRecursion (λ x. test x ≡ true) (filter test xs)
-passes test [] = tt
-passes {X} test (x ∷ xs) = go (test x) refl (passes test xs)
-  where
-    go : (b : Bool) → test x ≡ b → AllByRecursion (λ x. test x ≡ true) (filter test xs) → AllByRecursion (λ x. test x ≡ true) (cond b (x ∷ filter test xs) (filter test xs))
-    go true e rest = (e, rest)
-    go false e rest = rest
-
 pub all_standing : (log : List Logged) → AllByRecursion (IsStanding log) (standing log)
 all_standing log = zipped (λ (o : Opening). o.number < length log) (λ (o : Opening). opens_at log o.number ≡ Some o.line) (λ (o : Opening). is_life o.number (life_of log o.line) ≡ true) (IsStanding log)
-    (λ o p q r. record { before = p; opens = q; alive = r }) (standing log) (standing_before log) (standing_at log) (passes (λ (o : Opening). is_life o.number (life_of log o.line)) (openings log))
+    (λ o p q r. record { before = p; opens = q; alive = r }) (standing log) (standing_before log) (standing_at log) (all_passed (λ (o : Opening). is_life o.number (life_of log o.line)) (openings log))
 
 -- the standing opening of a line has the number of its life
 pub its_number : (log : List Logged) (o other : Opening) (line : ℕ) → life_of log line ≡ Opened o → IsStanding log other → other.line ≡ line → o.number ≡ other.number
@@ -222,10 +213,6 @@ commute test g f (x ∷ xs) all =
     go true e = ap (λ ys. g (f x) ∷ ys) e
     go false e = e
 
-all_weaker : {X : Type 0} (P Q : X → Type 0) → ((x : X) → P x → Q x) → (xs : List X) → AllByRecursion P xs → AllByRecursion Q xs
-all_weaker P Q says [] all = tt
-all_weaker P Q says (x ∷ xs) all = (says x all.0, all_weaker P Q says xs all.1)
-
 pub lines_placed : (i : Image) (logs : Logs) (knows : List ℕ) (o : Opening) (stripe : Stripe) (of : Program) (j : ℕ) → 0 < i.shape.ws_opt → IsPlacing (logs 0) stripe o → IsPlacedAt i logs o stripe of j
     → open_lines i (after logs (Place stripe) knows) ≡ map (in_line of.line (of.at / i.shape.ws_opt) Unanswered) (open_lines i logs)
 lines_placed i logs knows o stripe of j some is at =
@@ -235,7 +222,7 @@ lines_placed i logs knows o stripe of j some is at =
     ap (λ os. filter has_left (map (open_line i new) os)) (standing_same (logs 0) (new 0) (openings_more (logs 0) l ∙ append-nil (openings (logs 0))) (λ line. life_more (logs 0) l line))
     ∙ ap (filter has_left) (map_agree (IsStanding (logs 0)) (open_line i new) (λ other. in_line of.line (of.at / i.shape.ws_opt) Unanswered (open_line i logs other)) (line_now i logs knows o stripe of j some is at) (standing (logs 0)) (all_standing (logs 0)))
     ∙ commute has_left (in_line of.line (of.at / i.shape.ws_opt) Unanswered) (open_line i logs) (standing (logs 0))
-    (all_weaker (IsStanding (logs 0)) (λ other. has_left (in_line of.line (of.at / i.shape.ws_opt) Unanswered (open_line i logs other)) ≡ has_left (open_line i logs other)) (left_now i logs o stripe of j is at) (standing (logs 0)) (all_standing (logs 0)))
+    (all_imply (IsStanding (logs 0)) (λ other. has_left (in_line of.line (of.at / i.shape.ws_opt) Unanswered (open_line i logs other)) ≡ has_left (open_line i logs other)) (left_now i logs o stripe of j is at) (standing (logs 0)) (all_standing (logs 0)))
 
 -- ---- the rows
 

@@ -1,5 +1,5 @@
 -- A stripe holds positions that were taken.
-use Rattle.std.proofs.Common.{◌≡◌, ◌≢◌, ◌⊎◌, inl, inr, ℕ, ◌+◌, ◌-◌, ◌<◌, ◌≤◌, ◌==◌, ◌&&◌, ◌||◌, zero, suc, not, Bool, true, false, Some, None, List, [], ◌∷◌, ◌++◌, length, take, drop, replicate, refl, sym, subst, ap₂, arith}
+use Rattle.std.proofs.Common.{◌≡◌, ◌≢◌, ◌⊎◌, inl, inr, ℕ, ◌+◌, ◌-◌, ◌<◌, ◌≤◌, ◌==◌, ◌&&◌, ◌||◌, zero, suc, not, Bool, true, false, Some, None, List, [], ◌∷◌, length, take, drop, replicate, refl, sym, subst, ap₂, arith}
 use Rattle.std.specs.Prelude.{map, slice_range, is_some, if◌then◌else◌}
 use Rattle.std.specs.List.{AllByRecursion, filter, list_any, range_with_len}
 use Rattle.std.proofs.lemmas.Bool.{eqb-true}
@@ -20,10 +20,11 @@ use Rattle.pblk_world.specs.Fronts.{first_position, taken, waits, was_placed, wa
 use Rattle.pblk_world.specs.Placing.{next_address, end_address, end_record, IsStart, IsData, IsEnd, IsPad, MayPlace, data_blocks, record_blocks}
 use Rattle.core_laws.specs.PlacerOf.{positions_of}
 use Rattle.core_laws.specs.Positions.{AreNumbered, AreMarked, AreTaken, IsUnplaced}
-use Rattle.core_laws.proofs.Lists.{all_filter, all_dropped, all_taken, all_mapped, all_replicated}
-use Rattle.core_laws.proofs.Rows.{other_number}
-use Rattle.core_laws.proofs.Placing.{not_below, weaker}
-use Rattle.core_laws.proofs.Tests.{first_of, second_of}
+use Rattle.core_laws.proofs.Placing.{not_below}
+use Rattle.lemmas.proofs.Lists.{all_append, all_imply, all_replicated}
+use Rattle.lemmas.proofs.Maps.{all_filter, all_mapped}
+use Rattle.lemmas.proofs.Parts.{all_dropped, all_taken}
+use Rattle.lemmas.proofs.Tests.{first_of, other_number, second_of}
 
 abbrev pub BearsBelow : Shape → ℕ → Block → Type 0
 BearsBelow s n b = (q : ℕ) → bears_position s q b ≡ true → q < n
@@ -41,10 +42,6 @@ unnamed s m small above other = ap₂ (λ a b. is_some (if a then Some (Some m.l
 
 bears_none : (s : Shape) (n : ℕ) (b : Block) → is_some (named s b.mark) ≡ false → BearsBelow s n b
 bears_none s n b none = λ q e. let yes_ : is_some (named s b.mark) ≡ true = first_of (is_some (named s b.mark)) (b.mark.position == q) e in absurd cc
-
-pub all_joined : {X : Type 0} (P : X → Type 0) (xs ys : List X) → AllByRecursion P xs → AllByRecursion P ys → AllByRecursion P (xs ++ ys)
-all_joined P [] ys a b = b
-all_joined P (x ∷ xs) ys a b = (a.0, all_joined P xs ys a.1 b)
 
 pads_below : (s : Shape) (n : ℕ) → s.capacity ≤ meta_lba → BearsBelow s n (pad_block s)
 pads_below s n small = bears_none s n (pad_block s) (unnamed s (pad_block s).mark small (omega arith) (λ e. absurd (omega (arith, e))))
@@ -64,7 +61,7 @@ numbered_below a zero (t ∷ ts) is = absurd cc
 numbered_below a (suc n) (t ∷ ts) is =
     let first : t.entry.position ≡ a = cc in
     let rest : positions_of ts ≡ range_with_len (a + 1) n = cc in
-    (omega arith, weaker (λ (u : Taken). u.entry.position < a + 1 + n) (λ (u : Taken). u.entry.position < a + suc n) (λ u h. omega arith) ts (numbered_below (a + 1) n ts rest))
+    (omega arith, all_imply (λ (u : Taken). u.entry.position < a + 1 + n) (λ (u : Taken). u.entry.position < a + suc n) (λ u h. omega arith) ts (numbered_below (a + 1) n ts rest))
 
 marks_below : (n : ℕ) (ts : List Taken) → AllByRecursion (λ (t : Taken). t.mark.position ≡ t.entry.position) ts → AllByRecursion (λ (t : Taken). t.entry.position < n) ts → AllByRecursion (λ (t : Taken). t.mark.position < n) ts
 marks_below n [] a b = tt
@@ -77,14 +74,14 @@ data_below : (s : Shape) (log : List Logged) → s.capacity ≤ meta_lba → Are
 data_below s log small numbered marked =
     let all : AllByRecursion (λ (t : Taken). t.mark.position < taken log) (takes log) = marks_below (taken log) (takes log) marked (numbered_below (first_position log) (length (takes log)) (takes log) numbered) in
     let waits_below : AllByRecursion (λ (t : Taken). t.mark.position < taken log) (waiting s log) =
-    all_joined (λ (t : Taken). t.mark.position < taken log) (filter (λ t. waits s log t && was_placed s log t) (takes log)) (filter (λ t. not (was_placed s log t)) (takes log))
+    all_append (λ (t : Taken). t.mark.position < taken log) (filter (λ t. waits s log t && was_placed s log t) (takes log)) (filter (λ t. not (was_placed s log t)) (takes log))
     (all_filter (λ (t : Taken). t.mark.position < taken log) (λ t. waits s log t && was_placed s log t) (takes log) all)
     (all_filter (λ (t : Taken). t.mark.position < taken log) (λ t. not (was_placed s log t)) (takes log) all) in
     let first : AllByRecursion (BearsBelow s (taken log)) (map block_of_taken (take s.ws_opt (waiting s log))) =
     all_mapped (BearsBelow s (taken log)) block_of_taken (take s.ws_opt (waiting s log))
-    (weaker (λ (t : Taken). t.mark.position < taken log) (λ (t : Taken). BearsBelow s (taken log) (block_of_taken t)) (λ t h. entry_below s (taken log) t h) (take s.ws_opt (waiting s log))
+    (all_imply (λ (t : Taken). t.mark.position < taken log) (λ (t : Taken). BearsBelow s (taken log) (block_of_taken t)) (λ t h. entry_below s (taken log) t h) (take s.ws_opt (waiting s log))
     (all_taken (λ (t : Taken). t.mark.position < taken log) s.ws_opt (waiting s log) waits_below)) in
-    all_joined (BearsBelow s (taken log)) (map block_of_taken (take s.ws_opt (waiting s log))) (replicate (s.ws_opt - length (map block_of_taken (take s.ws_opt (waiting s log)))) (pad_block s)) first
+    all_append (BearsBelow s (taken log)) (map block_of_taken (take s.ws_opt (waiting s log))) (replicate (s.ws_opt - length (map block_of_taken (take s.ws_opt (waiting s log)))) (pad_block s)) first
     (all_replicated (BearsBelow s (taken log)) (s.ws_opt - length (map block_of_taken (take s.ws_opt (waiting s log)))) (pad_block s) (pads_below s (taken log) small))
 
 -- ---- a placed stripe

@@ -6,15 +6,17 @@ use Rattle.std.proofs.lemmas.Option.{slice_get_past}
 use Rattle.pblk_model.specs.declared.shape.Shape.{Shape}
 use Rattle.pblk_world.specs.Events.{Stripe, Place, Decides, Logged}
 use Rattle.pblk_world.specs.EngineLog.{LineLife, Opened, is_life, life_of, Opening, Placed, placements, placed_on, Answer, DidLand, WasLost, answers, answer_of, stripes_of, turn}
-use Rattle.pblk_world.proofs.Appending.{answers_more, placements_more}
+use Rattle.pblk_world.proofs.Appending.{placements_more}
 use Rattle.stripe_placer.specs.OpenLines.{OpenLine}
 use Rattle.stripe_placer.specs.OpenLines.Stripe.{Unplaced, Unanswered}
-use Rattle.stripe_placer.proofs.Chunks.{lt_yes as is_below}
 use Rattle.core_laws.specs.OpenedLines.{by_answer, became, placed_as, is_stripe_at, outcome}
-use Rattle.core_laws.proofs.Lists.{all_filter}
 use Rattle.core_laws.proofs.Engine.{placements_before}
 use Rattle.core_laws.proofs.Taking.{filter_last}
 use Rattle.core_laws.proofs.Stripes.{find_all, find_last, find_fails_last}
+use Rattle.lemmas.proofs.Lists.{all_imply}
+use Rattle.lemmas.proofs.Maps.{all_filter}
+use Rattle.lemmas.proofs.Tests.{lt_true}
+use Rattle.pblk_world.proofs.EngineLogLemmas.{answers_more}
 
 abbrev pub with_place : List Logged → Stripe → List ℕ → List Logged
 with_place log stripe knows = log ++ record { event = Decides (Place stripe); knows = knows } ∷ []
@@ -74,14 +76,10 @@ pub all_pass : {X : Type 0} (test : X → Bool) (xs : List X) → AllByRecursion
 all_pass test [] all = refl
 all_pass test (x ∷ xs) all = ap (λ b. cond b (x ∷ filter test xs) (filter test xs)) all.0 ∙ ap (λ ys. x ∷ ys) (all_pass test xs all.1)
 
-pub weaker : {X : Type 0} (P Q : X → Type 0) → ((x : X) → P x → Q x) → (xs : List X) → AllByRecursion P xs → AllByRecursion Q xs
-weaker P Q says [] all = tt
-weaker P Q says (x ∷ xs) all = (says x all.0, weaker P Q says xs all.1)
-
 -- all stripes of the unit were placed before it
 turn_of_new : (log : List Logged) (stripe : Stripe) (o : Opening) → turn log (new_placed log stripe o) ≡ length (placed_on log stripe.unit)
 turn_of_new log stripe o = ap length (all_pass (λ (r : Placed). nat_lt r.number (length log)) (placed_on log stripe.unit)
-    (weaker (λ (p : Placed). p.number < length log) (λ (p : Placed). nat_lt p.number (length log) ≡ true) (λ p h. is_below p.number (length log) h) (placed_on log stripe.unit)
+    (all_imply (λ (p : Placed). p.number < length log) (λ (p : Placed). nat_lt p.number (length log) ≡ true) (λ p h. lt_true p.number (length log) h) (placed_on log stripe.unit)
     (all_filter (λ (p : Placed). p.number < length log) (λ (p : Placed). p.stripe.unit == stripe.unit) (placements log) (placements_before log))))
 
 pub new_unanswered : (log : List Logged) (stripe : Stripe) (knows : List ℕ) (o : Opening) → IsPlacing log stripe o → answer_of (with_place log stripe knows) (new_placed log stripe o) ≡ None

@@ -4,8 +4,8 @@ use Rattle.std.specs.Prelude.{⊤}
 use Rattle.std.specs.List.{AllByRecursion, filter, list_any, range_with_len}
 use Rattle.pblk_world.specs.EngineLog.{Taken}
 use Rattle.core_laws.specs.PlacerOf.{positions_of}
-use Rattle.core_laws.proofs.Lists.{filter_agree}
-use Rattle.core_laws.proofs.Rows.{other_number, same_number}
+use Rattle.lemmas.proofs.Maps.{filter_agree}
+use Rattle.lemmas.proofs.Tests.{other_number, same_number}
 
 abbrev pub Apart : List Taken → Type 0
 Apart [] = ⊤
@@ -130,10 +130,6 @@ pub take_taken : {X : Type 0} (n : ℕ) (xs : List X) → take n xs ≡ take (le
 take_taken zero xs = refl
 take_taken (suc n) [] = refl
 take_taken (suc n) (x ∷ xs) = ap (λ ys. x ∷ ys) (take_taken n xs)
-
-pub and_no : (b : Bool) → (b && false) ≡ false
-and_no true = refl
-and_no false = refl
 
 pub and_yes : (b : Bool) → (b && true) ≡ b
 and_yes true = refl

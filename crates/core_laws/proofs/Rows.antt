@@ -1,49 +1,10 @@
 -- One unit's row changed, and the others kept.
-use Rattle.std.proofs.Common.{◌≡◌, ◌≢◌, ℕ, ◌+◌, ◌<◌, ◌≤◌, ◌==◌, ◌||◌, zero, suc, not, nat_eq, Bool, true, false, cond, Some, List, [], ◌∷◌, refl, sym, ap, ap₂, ◌∙◌, arith}
-use Rattle.std.specs.Prelude.{map, slice_get, slice_set}
-use Rattle.std.specs.List.{range_with_len}
-use Rattle.std.proofs.lemmas.Bool.{eqb-true, eqb-false}
-use Rattle.std.proofs.lemmas.Option.{same_Some, none-some}
+use Rattle.std.proofs.Common.{◌≡◌, ◌≢◌, ℕ, ◌==◌, ◌||◌, not, nat_eq, Bool, true, false, cond, List, [], ◌∷◌, refl, sym, ap, ◌∙◌}
+use Rattle.std.proofs.lemmas.Bool.{eqb-true}
 use Rattle.stripe_placer.specs.Placing.{Program}
 use Rattle.stripe_placer.specs.Placing.UnitRow.{UnderWay, Stopped}
 use Rattle.core_laws.specs.PlacerOf.{contains_unit, without_unit, row_of_program}
-
-pub other_number : (m n : ℕ) → m ≢ n → (m == n) ≡ false
-other_number m n apart = go (nat_eq m n) refl
-  where
-    go : (b : Bool) → nat_eq m n ≡ b → b ≡ false
-    go true e = absurd (apart (eqb-true m n e))
-    go false e = refl
-
-pub same_number : (n : ℕ) → (n == n) ≡ true
-same_number n = go (nat_eq n n) refl
-  where
-    go : (b : Bool) → nat_eq n n ≡ b → b ≡ true
-    go true e = refl
-    go false e = absurd (eqb-false n n e refl)
-
--- the rows from a number on
-pub rows_set : {X : Type 0} (f g : ℕ → X) (n a k : ℕ) (r : X) → k < n → g (a + k) ≡ r → ((m : ℕ) → m ≢ a + k → g m ≡ f m) → map g (range_with_len a n) ≡ slice_set (map f (range_with_len a n)) k r
-rows_set f g zero a k r within here there = absurd (omega arith)
-rows_set f g (suc n) a zero r within here there =
-    let first : a + 0 ≡ a = omega arith in
-    ap₂ (λ x xs. x ∷ xs) (ap g (sym first) ∙ here) (later f g n (a + 1) (λ m above. there m (λ e. absurd (omega arith))))
-  where
-    later : {X : Type 0} (f g : ℕ → X) (n a : ℕ) → ((m : ℕ) → a ≤ m → g m ≡ f m) → map g (range_with_len a n) ≡ map f (range_with_len a n)
-    later f g zero a same = refl
-    later f g (suc n) a same = ap₂ (λ x xs. x ∷ xs) (same a (omega arith)) (later f g n (a + 1) (λ m above. same m (omega arith)))
-rows_set f g (suc n) a (suc k) r within here there =
-    let next : a + suc k ≡ a + 1 + k = omega arith in
-    ap₂ (λ x xs. x ∷ xs) (there a (λ e. absurd (omega arith))) (rows_set f g n (a + 1) k r (omega arith) (ap g (sym next) ∙ here) (λ m other. there m (λ e. other (e ∙ next))))
-
-pub row_at : {X : Type 0} (f : ℕ → X) (n a k : ℕ) (r : X) → slice_get (map f (range_with_len a n)) k ≡ Some r → (k < n) × (f (a + k) ≡ r)
-row_at f zero a k r e = absurd (none-some r e)
-row_at f (suc n) a zero r e = let first : a + 0 ≡ a = omega arith in (omega arith, ap f first ∙ same_Some (f a) r e)
-row_at f (suc n) a (suc k) r e =
-    let rest = row_at f n (a + 1) k r e in
-    let next : a + suc k ≡ a + 1 + k = omega arith in
-    let inside : k < n = rest.0 in
-    (omega arith, ap f next ∙ rest.1)
+use Rattle.lemmas.proofs.Tests.{other_number}
 
 -- ---- sets of units
 

@@ -15,8 +15,9 @@ use Rattle.stripe_placer.specs.Placing.UnitRow.{Idle}
 use Rattle.core_laws.specs.Stepping.{after}
 use Rattle.core_laws.specs.OpenedLines.{as_opened, bits_of, by_answer, became, placed_as, is_stripe_at, outcome, with_outcomes, open_line, standing, open_lines}
 use Rattle.core_laws.specs.PlacerOf.{row_of_program, program_of_stripe, row_in, row_of, unanswered_on, waits_again}
-use Rattle.core_laws.proofs.Lists.{map_agree, map_same, filter_same, all_filter, all_at}
 use Rattle.core_laws.proofs.Engine.{prefix_same, openings_before, placements_before}
+use Rattle.lemmas.proofs.Maps.{all_filter, filter_same, map_agree, map_same}
+use Rattle.lemmas.proofs.Parts.{all_at}
 
 -- the same stripes are placed and answered
 pub record AreAlike (old new : List Logged) : Type 0 where

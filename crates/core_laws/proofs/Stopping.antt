@@ -10,17 +10,20 @@ use Rattle.pblk_world.specs.Events.{Again, Decides, Logged}
 use Rattle.pblk_world.specs.World.{Logs}
 use Rattle.pblk_world.specs.EngineLog.{LineLife, AsFound, Opened, Freed, takes, Placed, placements, answers, openings}
 use Rattle.pblk_world.specs.Fronts.{was_placed, waits}
-use Rattle.pblk_world.proofs.Appending.{takes_more, answers_more, life_more, openings_more, placements_more}
+use Rattle.pblk_world.proofs.Appending.{life_more, openings_more, placements_more}
 use Rattle.stripe_placer.specs.Placing.{Program, UnitRow, Placing, IsUnderWay, stopped, placed, placed_again, placed_first, is_stopped}
 use Rattle.stripe_placer.specs.Placing.UnitRow.{Idle, UnderWay, Stopped}
 use Rattle.core_laws.specs.Stepping.{after}
 use Rattle.core_laws.specs.OpenedLines.{open_lines}
 use Rattle.core_laws.specs.PlacerOf.{positions_of, lost_entries, fresh_entries, entries_of, program_of_placed, row_of_program, row_in, unanswered_on, was_stopped_on, contains_unit, without_unit, waits_again, row_of, placing_of}
-use Rattle.core_laws.proofs.Lists.{fun_same, filter_same}
 use Rattle.core_laws.proofs.Engine.{stopped_more}
 use Rattle.core_laws.proofs.Steady.{AreAlike, is_lost_same, is_fresh_same, standing_same, lines_same, row_same, row_in_same, unanswered_before, unanswered_in}
 use Rattle.core_laws.proofs.Taking.{same_placing, same_entries}
-use Rattle.core_laws.proofs.Rows.{other_number, same_number, rows_set, row_at, not_without, others_within, under_way_is, stopped_is}
+use Rattle.core_laws.proofs.Rows.{not_without, others_within, under_way_is, stopped_is}
+use Rattle.lemmas.proofs.Maps.{filter_same, row_at, rows_set}
+use Rattle.lemmas.proofs.Numbers.{fun_same}
+use Rattle.lemmas.proofs.Tests.{other_number, same_number}
+use Rattle.pblk_world.proofs.EngineLogLemmas.{answers_more, takes_more}
 
 -- ---- entries
 

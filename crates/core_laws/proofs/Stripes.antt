@@ -8,8 +8,7 @@ use Rattle.pblk_layout.specs.Live.{units_in}
 use Rattle.pblk_layout.proofs.Sets.{member}
 use Rattle.stripe_placer.specs.OpenLines.{OpenLine, width, unit_of}
 use Rattle.core_laws.specs.OpenedLines.{is_stripe_at}
-use Rattle.core_laws.proofs.Rows.{same_number}
-use Rattle.core_laws.proofs.Tests.{both}
+use Rattle.lemmas.proofs.Tests.{both, same_number}
 
 one_rank : (live i j : ℕ) → i < length (units_in live) → j < length (units_in live) → slice_index_or (units_in live) i 0 ≡ slice_index_or (units_in live) j 0 → i ≡ j
 one_rank live i j a b same =

@@ -14,18 +14,18 @@ use Rattle.pblk_world.specs.EngineLog.{Begun, begun, LineLife, AsFound, Opened, 
 use Rattle.pblk_world.specs.Fronts.{last_take}
 use Rattle.pblk_world.specs.Lines.{found_by, found_image}
 use Rattle.pblk_world.specs.Space.{landed_blocks, is_closed_in, is_readable_in, gives_back}
-use Rattle.pblk_world.proofs.Appending.{takes_more}
 use Rattle.l2p_map.specs.declared.slot.Slot.TheVariants.{Cached, Media}
 use Rattle.stripe_placer.specs.OpenLines.{OpenLine}
 use Rattle.core_laws.specs.Stepping.{after}
 use Rattle.core_laws.specs.PlacerOf.{number_of}
 use Rattle.core_laws.specs.SlotOf.{address_in, readable_block, media_of, slot_of_entry, slot_of_winner, slot_by, slot_of}
-use Rattle.core_laws.proofs.Lists.{filter_same, find_none}
-use Rattle.core_laws.proofs.Rows.{same_number}
 use Rattle.core_laws.proofs.Steady.{AreAlike, answer_same, lost_same, as_opened_same}
 use Rattle.core_laws.proofs.Opening.{placed_before}
 use Rattle.core_laws.proofs.Stripes.{find_all}
-use Rattle.core_laws.proofs.Taking.{with_take, alike, filter_last, not_both}
+use Rattle.core_laws.proofs.Taking.{with_take, alike, filter_last}
+use Rattle.lemmas.proofs.Maps.{filter_same, find_none}
+use Rattle.lemmas.proofs.Tests.{and_false, same_number}
+use Rattle.pblk_world.proofs.EngineLogLemmas.{takes_more}
 
 -- ---- what can be read
 
@@ -145,7 +145,7 @@ never_read test more n (b ∷ bs) e = go (test b) e (λ f. never_read test more 
 not_given : (s : Shape) (log : List Logged) (position : ℕ) (ps : List Placed) → AllByRecursion (λ p. holds_position s position p ≡ false) ps → AllByRecursion (λ p. gives_back s log position p ≡ false) ps
 not_given s log position [] all = tt
 not_given s log position (p ∷ ps) all = (
-  not_both (has_landed log p) (list_any (λ (b : ℕ × Block). bears_position s position b.1 && is_readable_in s log p.stripe.unit b.0 p.life) (enumerate_from p.stripe.at p.stripe.blocks))
+  and_false (has_landed log p) (list_any (λ (b : ℕ × Block). bears_position s position b.1 && is_readable_in s log p.stripe.unit b.0 p.life) (enumerate_from p.stripe.at p.stripe.blocks))
       (never_read (bears_position s position) (λ (b : ℕ × Block). is_readable_in s log p.stripe.unit b.0 p.life) p.stripe.at p.stripe.blocks all.0),
   not_given s log position ps all.1,
 )

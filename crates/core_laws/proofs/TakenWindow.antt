@@ -9,14 +9,15 @@ use Rattle.pblk_world.specs.Events.{Entry, Take, Decides, Logged}
 use Rattle.pblk_world.specs.EngineLog.{Begun, Taken, takes, Placed, placements, has_landed, holds_position}
 use Rattle.pblk_world.specs.Fronts.{first_position, taken, has_landed_at, is_users, user_takes}
 use Rattle.pblk_world.specs.Space.{gives_back}
-use Rattle.pblk_world.proofs.Appending.{takes_more}
-use Rattle.stripe_placer.proofs.Rows.{map_last}
-use Rattle.core_laws.specs.WindowOf.{HeldSector, HeldSectors, class_of, source_of, is_given_back, progress_by, held_of, waiting_sector, users_below, window_from}
-use Rattle.core_laws.proofs.Lists.{map_same}
+use Rattle.core_laws.specs.WindowOf.{HeldSector, class_of, source_of, is_given_back, progress_by, held_of, waiting_sector, users_below, window_from}
 use Rattle.core_laws.proofs.Steady.{AreAlike}
 use Rattle.core_laws.proofs.Placing.{not_below}
-use Rattle.core_laws.proofs.Taking.{with_take, alike, filter_last, not_both}
+use Rattle.core_laws.proofs.Taking.{with_take, alike, filter_last}
 use Rattle.core_laws.proofs.TakenSlots.{any_same, landed_same, gives_back_same, begun_same}
+use Rattle.core_laws.proofs.WindowOfLemmas.{same_window}
+use Rattle.lemmas.proofs.Maps.{map_last, map_same}
+use Rattle.lemmas.proofs.Tests.{and_false}
+use Rattle.pblk_world.proofs.EngineLogLemmas.{takes_more}
 
 -- ---- how far an entry has come
 
@@ -41,7 +42,7 @@ held_same s old new same t = ap₂ (λ a b. record {
 
 pub not_landed : (s : Shape) (log : List Logged) (position : ℕ) (ps : List Placed) → AllByRecursion (λ p. holds_position s position p ≡ false) ps → list_any (λ p. has_landed log p && holds_position s position p) ps ≡ false
 not_landed s log position [] all = refl
-not_landed s log position (p ∷ ps) all = ap (λ b. b || list_any (λ p. has_landed log p && holds_position s position p) ps) (not_both (has_landed log p) (holds_position s position p) all.0) ∙ not_landed s log position ps all.1
+not_landed s log position (p ∷ ps) all = ap (λ b. b || list_any (λ p. has_landed log p && holds_position s position p) ps) (and_false (has_landed log p) (holds_position s position p) all.0) ∙ not_landed s log position ps all.1
 
 held_new : (s : Shape) (log : List Logged) (entry : Entry) (mark : Mark) → AllByRecursion (λ p. holds_position s entry.position p ≡ false) (placements log) → held_of s log (record { entry = entry; mark = mark }) ≡ waiting_sector entry
 held_new s log entry mark none = ap (λ a. record {
@@ -70,9 +71,6 @@ users_same log entry mark knows from below =
     go true = filter_last (λ (t : Taken). nat_lt t.entry.position from) (user_takes log) (record { entry = entry; mark = mark }) false (not_below from entry.position below)
         ∙ append-nil (filter (λ (t : Taken). nat_lt t.entry.position from) (user_takes log))
     go false = ap (filter (λ (t : Taken). nat_lt t.entry.position from)) (append-nil (user_takes log))
-
-same_window : (from u v : ℕ) (a b : List HeldSector) → u ≡ v → a ≡ b → ◌≡◌ {A = HeldSectors} (record { freed = from; users = u; entries = a }) (record { freed = from; users = v; entries = b })
-same_window from u v a b p q = λ i. record { freed = from; users = p i; entries = q i }
 
 pub window_taken : (s : Shape) (log : List Logged) (entry : Entry) (mark : Mark) (knows : List ℕ) (from : ℕ) → AllByRecursion (λ p. holds_position s entry.position p ≡ false) (placements log)
     → entry.position ≡ taken log → from ≤ taken log

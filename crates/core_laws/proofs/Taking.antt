@@ -11,7 +11,7 @@ use Rattle.pblk_world.specs.Events.{Entry, Take, Decides, Logged}
 use Rattle.pblk_world.specs.World.{Logs}
 use Rattle.pblk_world.specs.EngineLog.{Taken, takes, placements, answers, openings, holds_position}
 use Rattle.pblk_world.specs.Fronts.{was_placed, waits}
-use Rattle.pblk_world.proofs.Appending.{takes_more, answers_more, life_more, openings_more, placements_more}
+use Rattle.pblk_world.proofs.Appending.{life_more, openings_more, placements_more}
 use Rattle.stripe_placer.specs.Entries.{Entries, with_entry}
 use Rattle.stripe_placer.specs.OpenLines.{OpenLine}
 use Rattle.stripe_placer.specs.Placing.{UnitRow, Placing}
@@ -19,9 +19,12 @@ use Rattle.stripe_placer.specs.Placing as placer
 use Rattle.core_laws.specs.Stepping.{after}
 use Rattle.core_laws.specs.OpenedLines.{open_lines}
 use Rattle.core_laws.specs.PlacerOf.{positions_of, lost_entries, fresh_entries, entries_of, contains_unit, row_of, placing_of}
-use Rattle.core_laws.proofs.Lists.{fun_same, map_same, filter_same, filter_none}
 use Rattle.core_laws.proofs.Engine.{stopped_more}
 use Rattle.core_laws.proofs.Steady.{AreAlike, is_lost_same, is_fresh_same, standing_same, lines_same, row_same, unanswered_in}
+use Rattle.lemmas.proofs.Maps.{filter_none, filter_same, map_same}
+use Rattle.lemmas.proofs.Numbers.{fun_same}
+use Rattle.lemmas.proofs.Tests.{and_false}
+use Rattle.pblk_world.proofs.EngineLogLemmas.{answers_more, takes_more}
 
 pub same_placing : (s : Shape) (a b : Entries) (us vs : List UnitRow) (ls ms : List OpenLine) → a ≡ b → us ≡ vs → ls ≡ ms
     → ◌≡◌ {A = Placing} (record { shape = s; entries = a; units = us; lines = ls }) (record { shape = s; entries = b; units = vs; lines = ms })
@@ -36,10 +39,6 @@ alike log entry mark knows = record {
   answers = fun_same (answers (with_take log entry mark knows)) (answers log)
       (λ unit. answers_more log (record { event = Decides (Take entry mark); knows = knows }) unit ∙ append-nil (answers log unit));
 }
-
-pub not_both : (a b : Bool) → b ≡ false → (a && b) ≡ false
-not_both true b e = e
-not_both false b e = refl
 
 never_placed : (s : Shape) (log : List Logged) (t : Taken) → AllByRecursion (λ p. holds_position s t.entry.position p ≡ false) (placements log) → was_placed s log t ≡ false
 never_placed s log t none = ap (λ ps. nat_lt 0 (length ps)) (filter_none (holds_position s t.entry.position) (placements log) none)
@@ -65,7 +64,7 @@ entries_taken s log entry mark knows pad none =
     let lost : lost_entries s new ≡ lost_entries s log =
     filter_same (λ u. waits s new u && was_placed s new u) (λ u. waits s log u && was_placed s log u) (is_lost_same s log new (alike log entry mark knows)) (takes new)
     ∙ ap (filter (λ u. waits s log u && was_placed s log u)) more
-    ∙ filter_last (λ u. waits s log u && was_placed s log u) (takes log) t false (not_both (waits s log t) (was_placed s log t) unplaced)
+    ∙ filter_last (λ u. waits s log u && was_placed s log u) (takes log) t false (and_false (waits s log t) (was_placed s log t) unplaced)
     ∙ append-nil (lost_entries s log) in
     let fresh : fresh_entries s new ≡ fresh_entries s log ++ t ∷ [] =
     filter_same (λ u. not (was_placed s new u)) (λ u. not (was_placed s log u)) (is_fresh_same s log new (alike log entry mark knows)) (takes new)

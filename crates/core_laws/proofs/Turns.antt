@@ -1,17 +1,17 @@
 -- The turn of a stripe on its unit is its place among the stripes placed there.
 use Rattle.std.proofs.Common.{◌≡◌, ℕ, ◌+◌, ◌<◌, ◌≤◌, ◌==◌, zero, suc, nat_lt, Bool, true, false, cond, Some, None, Option, List, [], ◌∷◌, length, refl, sym, ap, ◌∙◌, arith}
 use Rattle.std.specs.Prelude.{slice_get, ⊤}
-use Rattle.std.specs.List.{AllByRecursion, filter, filter_map, cons_option, enumerate_from, find}
+use Rattle.std.specs.List.{AllByRecursion, filter, filter_map, cons_option, enumerate_from}
 use Rattle.std.proofs.lemmas.Option.{same_Some, none-some}
 use Rattle.std.proofs.lemmas.Bool.{eqb-true}
 use Rattle.pblk_world.specs.Events.{Logged}
 use Rattle.pblk_world.specs.EngineLog.{Placed, placed_by, placements, placed_on, turn}
-use Rattle.stripe_placer.proofs.Among.{IsAmong, in_filter, later}
-use Rattle.stripe_placer.proofs.Chunks.{lt_yes as is_below}
-use Rattle.core_laws.proofs.Lists.{all_at, all_filter, filter_none}
 use Rattle.core_laws.proofs.Engine.{placed_number}
-use Rattle.core_laws.proofs.Rows.{same_number}
-use Rattle.core_laws.proofs.Placing.{not_below, weaker}
+use Rattle.core_laws.proofs.Placing.{not_below}
+use Rattle.lemmas.proofs.Lists.{IsAmong, all_imply}
+use Rattle.lemmas.proofs.Maps.{all_filter, filter_none, in_filter}
+use Rattle.lemmas.proofs.Parts.{all_at}
+use Rattle.lemmas.proofs.Tests.{lt_true, same_number}
 
 abbrev pub Rises : List Placed → Type 0
 Rises [] = ⊤
@@ -50,18 +50,10 @@ count_before (p ∷ ps) zero q rise e =
     let within : q.number ≤ p.number = omega arith in
     ap (λ b. length (cond b (p ∷ filter (λ (r : Placed). nat_lt r.number q.number) ps) (filter (λ (r : Placed). nat_lt r.number q.number) ps))) (not_below q.number p.number within)
     ∙ ap length (filter_none (λ (r : Placed). nat_lt r.number q.number) ps
-    (weaker (λ (r : Placed). p.number < r.number) (λ (r : Placed). nat_lt r.number q.number ≡ false) (λ r above. not_below q.number r.number (omega arith)) ps rise.0))
+    (all_imply (λ (r : Placed). p.number < r.number) (λ (r : Placed). nat_lt r.number q.number ≡ false) (λ r above. not_below q.number r.number (omega arith)) ps rise.0))
 count_before (p ∷ ps) (suc m) q rise e =
-    ap (λ b. length (cond b (p ∷ filter (λ (r : Placed). nat_lt r.number q.number) ps) (filter (λ (r : Placed). nat_lt r.number q.number) ps))) (is_below p.number q.number (all_at (λ (r : Placed). p.number < r.number) ps m q e rise.0))
+    ap (λ b. length (cond b (p ∷ filter (λ (r : Placed). nat_lt r.number q.number) ps) (filter (λ (r : Placed). nat_lt r.number q.number) ps))) (lt_true p.number q.number (all_at (λ (r : Placed). p.number < r.number) ps m q e rise.0))
     ∙ ap suc (count_before ps m q rise.1 e)
-
-pub found_is : {X : Type 0} (test : X → Bool) (xs : List X) (x : X) → find test xs ≡ Some x → (test x ≡ true) × IsAmong xs x
-found_is test [] x e = absurd (none-some x e)
-found_is {X} test (y ∷ ys) x e = go (test y) refl e (λ f. found_is test ys x f)
-  where
-    go : (b : Bool) → test y ≡ b → cond b (Some y) (find test ys) ≡ Some x → (find test ys ≡ Some x → (test x ≡ true) × IsAmong ys x) → (test x ≡ true) × IsAmong (y ∷ ys) x
-    go true t f rest = let same : y ≡ x = same_Some y x f in (ap test (sym same) ∙ t, (0, f))
-    go false t f rest = ((rest f).0, later y ys x (rest f).1)
 
 pub filtered_is : {X : Type 0} (test : X → Bool) (xs : List X) (m : ℕ) (x : X) → slice_get (filter test xs) m ≡ Some x → test x ≡ true
 filtered_is test [] m x e = absurd (none-some x e)

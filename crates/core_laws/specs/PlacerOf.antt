@@ -60,7 +60,7 @@ program_at s l stripe j = record {
 abbrev pub program_of_stripe : Shape → OpenLine → Stripe → Program
 program_of_stripe s l stripe = program_at s l stripe (number_of s l stripe)
 
--- of one that was placed in an opened line: as the line was before it was placed
+-- the program of a stripe that was placed in an opened line, by the line as it was before
 abbrev pub program_of_placed : Image → Logs → Opening → Placed → Program
 program_of_placed i logs o p = program_of_stripe i.shape (open_line i (engine_prefix p.number logs) o) p.stripe
 
@@ -85,8 +85,8 @@ contains_unit units unit = list_any (λ u. u == unit) units
 abbrev pub without_unit : ℕ → List ℕ → List ℕ
 without_unit unit units = filter (λ u. not (u == unit)) units
 
--- A program that was stopped is offered again, until it is under way again. The engine notes only the answer to that, so these
--- units are named beside the logs.
+-- A program that was stopped is offered again, until it is under way again. The engine notes only the answer to
+-- that, so these units are named beside the logs.
 abbrev pub waits_again : List Logged → List ℕ → ℕ → Bool
 waits_again log again unit = was_stopped_on log unit && not (contains_unit again unit)
 
@@ -112,7 +112,8 @@ placing_of i logs pad again = record {
   lines = open_lines i logs;
 }
 
--- The next program of the line of an opening, and a stripe at its place with its entries, on a unit whose stripes are answered.
+-- The next program of an opened line, and a stripe at its place with its entries, on a unit whose stripes are
+-- all answered.
 pub record IsStripeOf (i : Image) (logs : Logs) (pad : ℕ) (o : Opening) (stripe : Stripe) (of : Program) : Type 0 where
   pub opened : life_of (logs 0) stripe.line ≡ Opened o
   pub next : next_in i.shape (entries_of i.shape (logs 0) pad) (open_line i logs o) ≡ Some of

@@ -19,7 +19,7 @@ use Rattle.line_table.specs.Rows.{Table}
 
 -- States.
 
--- of a line that nothing is needed of: it is Freed until all its chunks are Free or Offline
+-- of a line of which nothing is needed any more: it is Freed until all its chunks are Free or Offline
 abbrev pub state_given_up : Image → Logs → ℕ → LineState
 state_given_up i logs line = if are_empty (known_image i logs) line
     then (if line_data (known_image i logs) line == 0 then Dead else Free)

@@ -1,5 +1,5 @@
--- What the window holds, by the logs of a mount. A log doesn't say in which frame an entry's bytes are: windows are compared
--- by the bytes.
+-- What the window holds, by the logs of a mount. A log doesn't say in which frame an entry's bytes are: windows
+-- are compared by the bytes.
 use Rattle.std.specs.Prelude.{ℕ, ◌-◌, nat_lt, Bool, true, false, List, map, drop, length, Option, Some, None}
 use Rattle.std.specs.List.{filter, list_any}
 use Rattle.std.specs.Option.{option_map}

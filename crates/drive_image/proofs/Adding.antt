@@ -5,6 +5,8 @@ use Rattle.std.specs.List.{enumerate_from, flat_map, sum_by}
 use Rattle.std.proofs.lemmas.List.Sums.{sum_by-cons}
 use Rattle.std.proofs.lemmas.Option.{none-some, same_Some}
 use Rattle.drive_image.specs.Storing.{HasRoom, WasAdded}
+use Rattle.lemmas.proofs.Maps.{enumerate_get}
+use Rattle.lemmas.proofs.Parts.{take-all}
 
 pub room_here : {Z : Type 0} (old : Vec ℕ Z) (xs ys : List ℕ) → HasRoom old (xs ++ ys) → HasRoom old xs
 room_here old xs ys room = omega (arith, length-append xs ys)
@@ -22,12 +24,14 @@ added_both old mid new xs ys first second = record {
 
 -- The pieces of the first elements.
 
-pub flat_take : {X : Type 0} (f : X → List ℕ) (xs : List X) (i : ℕ) (x : X) → slice_get xs i ≡ Some x → flat_map f (take (suc i) xs) ≡ flat_map f (take i xs) ++ f x
+pub flat_take : {X : Type 0} (f : X → List ℕ) (xs : List X) (i : ℕ) (x : X) → slice_get xs i ≡ Some x
+    → flat_map f (take (suc i) xs) ≡ flat_map f (take i xs) ++ f x
 flat_take f [] i x is = absurd (none-some x is)
 flat_take f (y ∷ xs) zero x is = append-nil (f y) ∙ ap f (same_Some y x is)
 flat_take f (y ∷ xs) (suc i) x is = ap (λ ys. f y ++ ys) (flat_take f xs i x is) ∙ sym (append_assoc (f y) (flat_map f (take i xs)) (f x))
 
-room_take : {X : Type 0} (f : X → List ℕ) (xs : List X) (i : ℕ) (x : X) → slice_get xs i ≡ Some x → length (flat_map f (take i xs)) + length (f x) ≤ length (flat_map f xs)
+room_take : {X : Type 0} (f : X → List ℕ) (xs : List X) (i : ℕ) (x : X) → slice_get xs i ≡ Some x
+    → length (flat_map f (take i xs)) + length (f x) ≤ length (flat_map f xs)
 room_take f [] i x is = absurd (none-some x is)
 room_take f (y ∷ xs) zero x is =
     let same : length (f y) ≡ length (f x) = ap (λ z. length (f z)) (same_Some y x is) in
@@ -40,10 +44,6 @@ room_take f (y ∷ xs) (suc i) x is =
     let part : length (flat_map f (take (suc i) (y ∷ xs))) ≡ length (f y) + length (flat_map f (take i xs)) = length-append (f y) (flat_map f (take i xs)) in
     omega arith
 
-take_all : {X : Type 0} (xs : List X) → take (length xs) xs ≡ xs
-take_all [] = refl
-take_all (x ∷ xs) = ap (λ ys. x ∷ ys) (take_all xs)
-
 -- those of the first i elements were added
 pub record FirstAdded {X Z : Type 0} (f : X → List ℕ) (xs : List X) (i : ℕ) (old new : Vec ℕ Z) : Type 0 where
   pub items : new.items ≡ old.items ++ flat_map f (take i xs)
@@ -52,7 +52,8 @@ pub record FirstAdded {X Z : Type 0} (f : X → List ℕ) (xs : List X) (i : ℕ
 pub none_added : {X Z : Type 0} (f : X → List ℕ) (xs : List X) (old : Vec ℕ Z) → FirstAdded f xs 0 old old
 none_added f xs old = record { items = sym (append-nil old.items); capacity = omega arith }
 
-pub one_added : {X Z : Type 0} (f : X → List ℕ) (xs : List X) (i : ℕ) (x : X) (old now new : Vec ℕ Z) → FirstAdded f xs i old now → slice_get xs i ≡ Some x → WasAdded now new (f x)
+pub one_added : {X Z : Type 0} (f : X → List ℕ) (xs : List X) (i : ℕ) (x : X) (old now new : Vec ℕ Z) → FirstAdded f xs i old now → slice_get xs i ≡ Some x
+    → WasAdded now new (f x)
     → FirstAdded f xs (i + 1) old new
 one_added f xs i x old now new before is added =
     let next : suc i ≡ i + 1 = omega arith in
@@ -62,27 +63,21 @@ one_added f xs i x old now new before is added =
       capacity = omega (arith, before.capacity, added.capacity);
     }
 
-pub room_left : {X Z : Type 0} (f : X → List ℕ) (xs : List X) (i : ℕ) (x : X) (old now : Vec ℕ Z) → HasRoom old (flat_map f xs) → FirstAdded f xs i old now → slice_get xs i ≡ Some x
+pub room_left : {X Z : Type 0} (f : X → List ℕ) (xs : List X) (i : ℕ) (x : X) (old now : Vec ℕ Z) → HasRoom old (flat_map f xs) → FirstAdded f xs i old now
+    → slice_get xs i ≡ Some x
     → HasRoom now (f x)
 room_left f xs i x old now room before is =
-    let size : length now.items ≡ length old.items + length (flat_map f (take i xs)) = ap length before.items ∙ length-append old.items (flat_map f (take i xs)) in
+    let size : length now.items ≡ length old.items + length (flat_map f (take i xs)) = ap length before.items
+    ∙ length-append old.items (flat_map f (take i xs)) in
     let part : length (flat_map f (take i xs)) + length (f x) ≤ length (flat_map f xs) = room_take f xs i x is in
     omega (arith, before.capacity)
 
-pub all_added : {X Z : Type 0} (f : X → List ℕ) (xs : List X) (n : ℕ) (old new : Vec ℕ Z) → FirstAdded f xs n old new → length xs ≡ n → WasAdded old new (flat_map f xs)
+pub all_added : {X Z : Type 0} (f : X → List ℕ) (xs : List X) (n : ℕ) (old new : Vec ℕ Z) → FirstAdded f xs n old new → length xs ≡ n
+    → WasAdded old new (flat_map f xs)
 all_added f xs n old new added count = record {
-  items = added.items ∙ ap (λ ys. old.items ++ flat_map f ys) (ap (λ m. take m xs) (sym count) ∙ take_all xs);
+  items = added.items ∙ ap (λ ys. old.items ++ flat_map f ys) (ap (λ m. take m xs) (sym count) ∙ take-all xs);
   capacity = added.capacity;
 }
-
-pub enumerate_get : {X : Type 0} (n : ℕ) (xs : List X) (k : ℕ) (x : X) → slice_get xs k ≡ Some x → slice_get (enumerate_from n xs) k ≡ Some (n + k, x)
-enumerate_get n [] k x e = absurd (none-some x e)
-enumerate_get n (y ∷ ys) zero x e =
-    let place : n ≡ n + 0 = omega arith in
-    ap (λ z. Some (n, z)) (same_Some y x e) ∙ ap (λ i. Some (i, x)) place
-enumerate_get n (y ∷ ys) (suc k) x e =
-    let place : n + 1 + k ≡ n + suc k = omega arith in
-    enumerate_get (n + 1) ys k x e ∙ ap (λ i. Some (i, x)) place
 
 pub enumerated : {X : Type 0} (xs : List X) (k : ℕ) (x : X) → slice_get xs k ≡ Some x → slice_get (enumerate_from 0 xs) k ≡ Some (k, x)
 enumerated xs k x is =
@@ -112,14 +107,16 @@ sum_take g xs i x is =
     ap (λ n. sum_by g (take n xs)) next ∙ sum_take_at g xs i x is
 
 pub sum_all : {X : Type 0} (g : X → ℕ) (xs : List X) (n : ℕ) → length xs ≡ n → sum_by g (take n xs) ≡ sum_by g xs
-sum_all g xs n count = ap (sum_by g) (ap (λ m. take m xs) (sym count) ∙ take_all xs)
+sum_all g xs n count = ap (sum_by g) (ap (λ m. take m xs) (sym count) ∙ take-all xs)
 
 -- Five pieces one after another.
 
-pub added_as : {Z : Type 0} (old new : Vec ℕ Z) (xs ys : List ℕ) → new.items ≡ old.items ++ ys → ys ≡ xs → vec_capacity old ≤ vec_capacity new → WasAdded old new xs
+pub added_as : {Z : Type 0} (old new : Vec ℕ Z) (xs ys : List ℕ) → new.items ≡ old.items ++ ys → ys ≡ xs → vec_capacity old ≤ vec_capacity new
+    → WasAdded old new xs
 added_as old new xs ys items same room = record { items = items ∙ ap (λ zs. old.items ++ zs) same; capacity = room }
 
-pub five_added : {Z : Type 0} (v0 v1 v2 v3 v4 v5 : Vec ℕ Z) (a b c d e : List ℕ) → WasAdded v0 v1 a → WasAdded v1 v2 b → WasAdded v2 v3 c → WasAdded v3 v4 d → WasAdded v4 v5 e
+pub five_added : {Z : Type 0} (v0 v1 v2 v3 v4 v5 : Vec ℕ Z) (a b c d e : List ℕ) → WasAdded v0 v1 a → WasAdded v1 v2 b → WasAdded v2 v3 c → WasAdded v3 v4 d
+    → WasAdded v4 v5 e
     → WasAdded v0 v5 (a ++ b ++ c ++ d ++ e)
 five_added v0 v1 v2 v3 v4 v5 a b c d e p q r s t =
     added_both v0 v4 v5 (a ++ b ++ c ++ d) e (added_both v0 v3 v4 (a ++ b ++ c) d (added_both v0 v2 v3 (a ++ b) c (added_both v0 v1 v2 a b p q) r) s) t

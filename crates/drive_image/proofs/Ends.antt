@@ -1,8 +1,7 @@
 -- Where the parts of an image end, by the numbers of its geometry.
-use Rattle.std.proofs.Common.{◌≡◌, ℕ, ◌+◌, ◌-◌, ◌*◌, ◌/◌, ◌%◌, ◌<◌, ◌≤◌, Option, List, length, drop, inl, inr, sym, ap, ◌∙◌, subst, arith, length-drop, mul-pos}
-use Rattle.std.specs.List.{range_with_len, slice_range, sum_by}
+use Rattle.std.proofs.Common.{◌≡◌, ℕ, ◌+◌, ◌-◌, ◌*◌, ◌/◌, ◌%◌, ◌<◌, ◌≤◌, Option, List, inl, inr, sym, ap, ◌∙◌, subst, arith, mul-pos}
+use Rattle.std.specs.List.{range_with_len, sum_by}
 use Rattle.std.specs.Option.{option_map}
-use Rattle.std.proofs.lemmas.List.{length-take}
 use Rattle.std.proofs.lemmas.Nat.{div_below}
 use Rattle.std.proofs.Math.Nat.{le-mul_of_pos_right, mul-le-mul_right, mul_assoc, mul_comm}
 use Rattle.pblk_model.specs.declared.shape.Shape.{Shape}
@@ -13,13 +12,12 @@ use Rattle.pblk_model.specs.Checks.{first_failing}
 use Rattle.pblk_model.specs.Geometry.{Geometry}
 use Rattle.pblk_model.specs.ImageFile.{blocks_end, chunk_checks, chunk_refusal, descriptor_at, descriptors_end, geometry_at, pointer_at, shape_at}
 use Rattle.pblk_model.specs.Shape.{units}
-
-pub slice_length : (b : List ℕ) (from to n : ℕ) → from + n ≡ to → to ≤ length b → length (slice_range b from to) ≡ n
-slice_length b from to n is within = omega (arith, length-take (to - from) (drop from b), length-drop from b)
+use Rattle.pblk_model.proofs.AcceptedLemmas.{sector_within}
 
 -- The n-th chunk.
 
-pub unit_below : (b : List ℕ) (g : Geometry) (n : ℕ) → g ≡ geometry_at b → IsAccepted (shape_at b) → n < units (shape_at b) * (shape_at b).chunks → n / g.chunks < g.groups * g.pus
+pub unit_below : (b : List ℕ) (g : Geometry) (n : ℕ) → g ≡ geometry_at b → IsAccepted (shape_at b) → n < units (shape_at b) * (shape_at b).chunks
+    → n / g.chunks < g.groups * g.pus
 unit_below b g n is accepted inside =
     let below : n < g.groups * g.pus * g.chunks = subst (λ (g : Geometry). n < g.groups * g.pus * g.chunks) (sym is) inside in
     let some : 8 ≤ g.chunks = subst (λ (g : Geometry). 8 ≤ g.chunks) (sym is) accepted.drive.lines_low in
@@ -28,7 +26,8 @@ unit_below b g n is accepted inside =
 abbrev refusal_by : Geometry → ℕ → List ℕ → Option ImageErr
 refusal_by g n d = option_map (errors.Chunk (n / g.chunks) (n % g.chunks)) (first_failing (chunk_checks g (n / g.chunks) (n % g.chunks) d))
 
-pub refused_by : (b : List ℕ) (g : Geometry) (n : ℕ) (r : Option ℕ) → g ≡ geometry_at b → r ≡ first_failing (chunk_checks g (n / g.chunks) (n % g.chunks) (descriptor_at b n))
+pub refused_by : (b : List ℕ) (g : Geometry) (n : ℕ) (r : Option ℕ) → g ≡ geometry_at b
+    → r ≡ first_failing (chunk_checks g (n / g.chunks) (n % g.chunks) (descriptor_at b n))
     → option_map (errors.Chunk (n / g.chunks) (n % g.chunks)) r ≡ chunk_refusal b n
 refused_by b g n r is by = ap (option_map (errors.Chunk (n / g.chunks) (n % g.chunks))) by ∙ ap (λ g. refusal_by g n (descriptor_at b n)) is
 
@@ -36,15 +35,15 @@ refused_by b g n r is by = ap (option_map (errors.Chunk (n / g.chunks) (n % g.ch
 
 pub all_blocks : (s : Shape) → IsAccepted s → units s * s.chunks * s.clba ≤ 268435456
 all_blocks s accepted = elim accepted.target.sector [
-  | inl e ↦ let size : units s * s.chunks * s.clba * 512 ≤ 268435456 = subst (λ n. units s * s.chunks * s.clba * n ≤ 268435456) e accepted.target.size in omega arith
-  | inr e ↦ let size : units s * s.chunks * s.clba * 4096 ≤ 268435456 = subst (λ n. units s * s.chunks * s.clba * n ≤ 268435456) e accepted.target.size in omega arith
+  | inl e ↦ let size : units s * s.chunks * s.clba * 512 ≤ 268435456 = subst (λ n. units s * s.chunks * s.clba * n ≤ 268435456) e accepted.target.size in
+      omega arith
+  | inr e ↦ let size : units s * s.chunks * s.clba * 4096 ≤ 268435456 = subst (λ n. units s * s.chunks * s.clba * n ≤ 268435456) e accepted.target.size in
+      omega arith
 ]
 
-pub sector_within : (s : Shape) → IsAccepted s → s.sector ≤ 4096
-sector_within s accepted = elim accepted.target.sector [ inl e ↦ omega arith | inr e ↦ omega arith ]
-
 -- this many blocks are not too many
-pub few_blocks : (b : List ℕ) (g : Geometry) (count : ℕ) → g ≡ geometry_at b → IsAccepted (shape_at b) → count ≤ units (shape_at b) * (shape_at b).chunks → count * g.clba ≤ 268435456
+pub few_blocks : (b : List ℕ) (g : Geometry) (count : ℕ) → g ≡ geometry_at b → IsAccepted (shape_at b) → count ≤ units (shape_at b) * (shape_at b).chunks
+    → count * g.clba ≤ 268435456
 few_blocks b g count is accepted within =
     let all : units (shape_at b) * (shape_at b).chunks * g.clba ≤ 268435456 =
     subst (λ (x : Geometry). units (shape_at b) * (shape_at b).chunks * x.clba ≤ 268435456) (sym is) (all_blocks (shape_at b) accepted) in
@@ -66,11 +65,13 @@ pub count_is : (b : List ℕ) (g : Geometry) → g ≡ geometry_at b → g.group
 count_is b g is = ap (λ (g : Geometry). g.groups * g.pus * g.chunks) is
 
 pub blocks_end_is : (b : List ℕ) (g : Geometry) (sector blocks : ℕ) → g ≡ geometry_at b → sector ≡ (shape_at b).sector
-    → blocks ≡ sum_by (pointer_at b) (range_with_len 0 (g.groups * g.pus * g.chunks)) → 4128 + 32 * (g.groups * g.pus * g.chunks) + (sector + 16) * blocks ≡ blocks_end b
+    → blocks ≡ sum_by (pointer_at b) (range_with_len 0 (g.groups * g.pus * g.chunks))
+    → 4128 + 32 * (g.groups * g.pus * g.chunks) + (sector + 16) * blocks ≡ blocks_end b
 blocks_end_is b g sector blocks is same sum =
     ap (λ n. 4128 + 32 * (g.groups * g.pus * g.chunks) + (sector + 16) * n) sum
     ∙ (ap (λ n. 4128 + 32 * (g.groups * g.pus * g.chunks) + (n + 16) * sum_by (pointer_at b) (range_with_len 0 (g.groups * g.pus * g.chunks))) same
-    ∙ ap (λ (g : Geometry). 4128 + 32 * (g.groups * g.pus * g.chunks) + ((shape_at b).sector + 16) * sum_by (pointer_at b) (range_with_len 0 (g.groups * g.pus * g.chunks))) is)
+    ∙ ap (λ (g : Geometry). 4128 + 32 * (g.groups * g.pus * g.chunks) + ((shape_at b).sector + 16) * sum_by (pointer_at b)
+    (range_with_len 0 (g.groups * g.pus * g.chunks))) is)
 
 pub clba_within : (s : Shape) → IsAccepted s → s.clba ≤ 268435456
 clba_within s accepted =

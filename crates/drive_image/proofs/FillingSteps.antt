@@ -11,9 +11,11 @@ use Rattle.pblk_model.specs.Chunk.{free_chunk}
 use Rattle.pblk_model.specs.Shape.{units}
 use Rattle.ocssd_drive.specs.Drive.{changed_at}
 use Rattle.drive_image.specs.Filling.{IsNth, bytes_of}
-use Rattle.drive_image.proofs.Sums.{sum_more}
-use Rattle.drive_image.proofs.Flat.{flat, joined, flat_length, flat_changed, all_changed, AreEmptyFrom, spelled_more, empty_all, get_same, get_other}
-use Rattle.drive_image.proofs.ListFacts.{all_at, all_flat, all_replicate, length_changed}
+use Rattle.drive_image.proofs.Flat.{flat, flat_length, flat_changed, all_changed, AreEmptyFrom, spelled_more, empty_all, get_same, get_other}
+use Rattle.drive_image.proofs.ListFacts.{all_flat, length_changed}
+use Rattle.lemmas.proofs.Lists.{all_replicated}
+use Rattle.lemmas.proofs.Maps.{sum_more}
+use Rattle.lemmas.proofs.Parts.{all_get, joined}
 
 abbrev pub chunk_bytes : StoredChunk → List ℕ
 chunk_bytes k = flat_map block_bytes k.chunk.blocks
@@ -37,35 +39,43 @@ nothing b n =
     let none : n - n ≡ 0 = omega arith in
     ap (λ m. take m (drop n b)) none
 
-pub blank_filled : (b : List ℕ) → AreFilled b 0 (descriptors_end b) (replicate (units (shape_at b)) (replicate (geometry_at b).chunks (record { chunk = free_chunk; wear = 0 })))
+pub blank_filled : (b : List ℕ) → AreFilled b 0 (descriptors_end b) (replicate (units (shape_at b)) (replicate (geometry_at b).chunks (record {
+  chunk = free_chunk;
+  wear = 0;
+})))
 blank_filled b =
     let k : StoredChunk = record { chunk = free_chunk; wear = 0 } in
     let u = replicate (geometry_at b).chunks k in
     let us = replicate (units (shape_at b)) u in
     let all : AllByRecursion (λ (k : StoredChunk). chunk_bytes k ≡ []) (flat us) =
-    all_flat (λ (k : StoredChunk). chunk_bytes k ≡ []) us (all_replicate (AllByRecursion (λ (k : StoredChunk). chunk_bytes k ≡ [])) (units (shape_at b)) u (all_replicate (λ (k : StoredChunk). chunk_bytes k ≡ []) (geometry_at b).chunks k refl)) in
-    let free : AreEmptyFrom chunk_bytes 0 (flat us) = record { empty = λ m x low is. all_at (λ (k : StoredChunk). chunk_bytes k ≡ []) (flat us) m x all is } in
+    all_flat (λ (k : StoredChunk). chunk_bytes k ≡ []) us
+    (all_replicated (AllByRecursion (λ (k : StoredChunk). chunk_bytes k ≡ [])) (units (shape_at b)) u
+    (all_replicated (λ (k : StoredChunk). chunk_bytes k ≡ []) (geometry_at b).chunks k refl)) in
+    let free : AreEmptyFrom chunk_bytes 0 (flat us) = record { empty = λ m x low is. all_get (λ (k : StoredChunk). chunk_bytes k ≡ []) (flat us) m x all is } in
     record {
       ends = omega arith;
       count = length-replicate (units (shape_at b)) u;
-      each = all_replicate (λ (u : List StoredChunk). length u ≡ (geometry_at b).chunks) (units (shape_at b)) u (length-replicate (geometry_at b).chunks k);
+      each = all_replicated (λ (u : List StoredChunk). length u ≡ (geometry_at b).chunks) (units (shape_at b)) u (length-replicate (geometry_at b).chunks k);
       done = λ m k low is. absurd (omega arith);
       free = free;
       blocks = empty_all chunk_bytes (flat us) free ∙ sym (nothing b (descriptors_end b));
     }
 
-further : (start size before one after at length : ℕ) → at ≡ start + size * before → length ≡ size * one → after ≡ before + one → at + length ≡ start + size * after
+further : (start size before one after at length : ℕ) → at ≡ start + size * before → length ≡ size * one → after ≡ before + one
+    → at + length ≡ start + size * after
 further start size before one after at length is more next =
     let product : size * (before + one) ≡ size * before + size * one = mul-add size before one in
     let same : size * after ≡ size * (before + one) = ap (λ n. size * n) next in
     omega arith
 
-done_more : (b : List ℕ) (n at m : ℕ) (us new : List (List StoredChunk)) (k x : StoredChunk) → flat new ≡ slice_set (flat us) n k → AreFilled b n at us → IsNth b n at k
+done_more : (b : List ℕ) (n at m : ℕ) (us new : List (List StoredChunk)) (k x : StoredChunk) → flat new ≡ slice_set (flat us) n k → AreFilled b n at us
+    → IsNth b n at k
     → m < n + 1 → slice_get (flat new) m ≡ Some x → IsDescribed b m x
 done_more b n at m us new k x flatly filled nth low is = elim (cases_lt m n) [
   | inl before ↦ filled.done m x before (sym (get_other (flat us) n m k (λ same. omega arith)) ∙ (ap (λ xs. slice_get xs m) (sym flatly) ∙ is))
   | inr there ↦ let same : n ≡ m = omega arith in
-      let last : slice_get (slice_set (flat us) n k) n ≡ Some x = ap (λ i. slice_get (slice_set (flat us) n k) i) same ∙ (ap (λ xs. slice_get xs m) (sym flatly) ∙ is) in
+      let last : slice_get (slice_set (flat us) n k) n ≡ Some x = ap (λ i. slice_get (slice_set (flat us) n k) i) same
+      ∙ (ap (λ xs. slice_get xs m) (sym flatly) ∙ is) in
       let one : k ≡ x = sym (get_same (flat us) n k x last) in
       subst (λ i. IsDescribed b i x) same (subst (λ y. IsDescribed b n y) one nth.descriptor)
 ]
@@ -83,11 +93,16 @@ one_filled b n at more us k filled nth inside some is =
     let within : n < length (flat us) = subst (λ m. n < m) (sym (whole ∙ ap (λ m. m * c) filled.count)) inside in
     let begins : descriptors_end b ≤ at = omega (arith, filled.ends) in
     record {
-      ends = further (descriptors_end b) ((shape_at b).sector + 16) (sum_by (pointer_at b) (range_with_len 0 n)) (pointer_at b n) (sum_by (pointer_at b) (range_with_len 0 (n + 1))) at more filled.ends is (sum_more (pointer_at b) n);
+      ends = further (descriptors_end b) ((shape_at b).sector + 16) (sum_by (pointer_at b) (range_with_len 0 n)) (pointer_at b n)
+          (sum_by (pointer_at b) (range_with_len 0 (n + 1))) at more filled.ends is (sum_more (pointer_at b) n);
       count = length_changed (λ chunks. slice_set chunks (n % c) k) (n / c) us ∙ filled.count;
-      each = all_changed (λ (u : List StoredChunk). length u ≡ c) (λ chunks. slice_set chunks (n % c) k) (n / c) us (λ u h. length-set u (n % c) k ∙ h) filled.each;
+      each = all_changed (λ (u : List StoredChunk). length u ≡ c) (λ chunks. slice_set chunks (n % c) k) (n / c) us (λ u h. length-set u (n % c) k
+          ∙ h) filled.each;
       done = λ m x low is. done_more b n at m us new k x flatly filled nth low is;
-      free = record { empty = λ m x high is. filled.free.empty m x (omega arith) (sym (get_other (flat us) n m k (λ same. omega arith)) ∙ (ap (λ xs. slice_get xs m) (sym flatly) ∙ is)) };
+      free = record {
+        empty = λ m x high is. filled.free.empty m x (omega arith) (sym (get_other (flat us) n m k (λ same. omega arith))
+            ∙ (ap (λ xs. slice_get xs m) (sym flatly) ∙ is));
+      };
       blocks = ap (flat_map chunk_bytes) flatly
           ∙ (spelled_more chunk_bytes (flat us) n k within filled.free
           ∙ (ap (λ ys. ys ++ chunk_bytes k) filled.blocks

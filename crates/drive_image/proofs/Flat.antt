@@ -1,22 +1,14 @@
 -- Lists of lists of one length as one list, of which one element is changed.
-use Rattle.std.proofs.Common.{◌≡◌, ℕ, ◌+◌, ◌-◌, ◌*◌, zero, suc, ◌<◌, ◌≤◌, Option, Some, None, List, [], ◌∷◌, ◌++◌, length, length-append, take, drop, slice_get, slice_set, refl, sym, ap, ◌∙◌, subst, arith, append_assoc, append-nil}
-use Rattle.std.specs.List.{AllByRecursion, flat_map, slice_range}
+use Rattle.std.proofs.Common.{◌≡◌, ℕ, ◌+◌, ◌-◌, ◌*◌, zero, suc, ◌<◌, ◌≤◌, Option, Some, None, List, [], ◌∷◌, ◌++◌, length, length-append, slice_get, slice_set, refl, sym, ap, ◌∙◌, subst, arith, append_assoc, append-nil}
+use Rattle.std.specs.List.{AllByRecursion, flat_map}
 use Rattle.std.specs.Option.{option_map_or}
 use Rattle.std.proofs.lemmas.Grind.{flat_map-append}
-use Rattle.std.proofs.lemmas.List.{drop-drop, set-append_left, set-append_right}
+use Rattle.std.proofs.lemmas.List.{set-append_left, set-append_right}
 use Rattle.std.proofs.lemmas.Option.{none-some, same_Some}
-use Rattle.std.proofs.Math.Seq.{take-add}
 use Rattle.ocssd_drive.specs.Drive.{changed_at}
+use Rattle.lemmas.proofs.Parts.{get_more, get_right}
 
 -- Pieces of a list that stand side by side.
-
-pub joined : (b : List ℕ) (from at to : ℕ) → from ≤ at → at ≤ to → slice_range b from at ++ slice_range b at to ≡ slice_range b from to
-joined b from at to p q =
-    let whole : (at - from) + (to - at) ≡ to - from = omega arith in
-    let start : from + (at - from) ≡ at = omega arith in
-    ap (λ n. slice_range b from at ++ take (to - at) (drop n b)) (sym start)
-    ∙ (ap (λ xs. slice_range b from at ++ take (to - at) xs) (sym (drop-drop (at - from) from b))
-    ∙ (sym (take-add (at - from) (to - at) (drop from b)) ∙ ap (λ n. take n (drop from b)) whole))
 
 -- One list.
 
@@ -34,25 +26,15 @@ flat_length n (xs ∷ xss) all =
     let rest : length (flat xss) ≡ length xss * n = flat_length n xss all.1 in
     omega (arith, length-append xs (flat xss))
 
-get_left : {X : Type 0} (xs ys : List X) (i : ℕ) (x : X) → slice_get xs i ≡ Some x → slice_get (xs ++ ys) i ≡ Some x
-get_left [] ys i x is = absurd (none-some x is)
-get_left (y ∷ xs) ys zero x is = is
-get_left (y ∷ xs) ys (suc i) x is = get_left xs ys i x is
-
-get_right : {X : Type 0} (xs ys : List X) (i : ℕ) → slice_get (xs ++ ys) (length xs + i) ≡ slice_get ys i
-get_right [] ys i = ap (slice_get ys) (omega arith)
-get_right (x ∷ xs) ys i =
-    let next : length (x ∷ xs) + i ≡ suc (length xs + i) = omega arith in
-    ap (slice_get (x ∷ xs ++ ys)) next ∙ get_right xs ys i
-
 -- what stands at a place of one of the lists stands in the one list
-pub flat_get : {X : Type 0} (n : ℕ) (xss : List (List X)) (u j : ℕ) (xs : List X) (x : X) → AllByRecursion (λ xs. length xs ≡ n) xss → slice_get xss u ≡ Some xs → slice_get xs j ≡ Some x
+pub flat_get : {X : Type 0} (n : ℕ) (xss : List (List X)) (u j : ℕ) (xs : List X) (x : X) → AllByRecursion (λ xs. length xs ≡ n) xss → slice_get xss u ≡ Some xs
+    → slice_get xs j ≡ Some x
     → slice_get (flat xss) (u * n + j) ≡ Some x
 flat_get n [] u j xs x all list is = absurd (none-some xs list)
 flat_get n (ys ∷ xss) zero j xs x all list is =
     let same : ys ≡ xs = same_Some ys xs list in
     let place : zero * n + j ≡ j = omega arith in
-    ap (slice_get (ys ++ flat xss)) place ∙ get_left ys (flat xss) j x (ap (λ zs. slice_get zs j) same ∙ is)
+    ap (slice_get (ys ++ flat xss)) place ∙ get_more ys (flat xss) j x (ap (λ zs. slice_get zs j) same ∙ is)
 flat_get n (ys ∷ xss) (suc u) j xs x all list is =
     let first : length ys ≡ n = all.0 in
     let place : suc u * n + j ≡ length ys + (u * n + j) = omega arith in
@@ -83,7 +65,8 @@ flat_changed n (ys ∷ xss) (suc u) j x all within =
 
 -- What holds of each element, where one is changed.
 
-pub all_changed : {X : Type 0} (P : X → Type 0) (change : X → X) (u : ℕ) (xs : List X) → ((x : X) → P x → P (change x)) → AllByRecursion P xs → AllByRecursion P (changed_at change u xs)
+pub all_changed : {X : Type 0} (P : X → Type 0) (change : X → X) (u : ℕ) (xs : List X) → ((x : X) → P x → P (change x)) → AllByRecursion P xs
+    → AllByRecursion P (changed_at change u xs)
 all_changed P change u [] step all = tt
 all_changed P change zero (x ∷ xs) step all = (step x all.0, all.1)
 all_changed P change (suc u) (x ∷ xs) step all = subst (AllByRecursion P) (sym (changed_next change x xs u)) (all.0, all_changed P change u xs step all.1)
@@ -102,7 +85,8 @@ empty_all f (x ∷ xs) h =
     let rest : AreEmptyFrom f 0 xs = record { empty = λ m y within is. h.empty (suc m) y (omega arith) is } in
     ap (λ ys. ys ++ flat_map f xs) (h.empty 0 x (omega arith) refl) ∙ empty_all f xs rest
 
-pub spelled_more : {X : Type 0} (f : X → List ℕ) (xs : List X) (n : ℕ) (k : X) → n < length xs → AreEmptyFrom f n xs → flat_map f (slice_set xs n k) ≡ flat_map f xs ++ f k
+pub spelled_more : {X : Type 0} (f : X → List ℕ) (xs : List X) (n : ℕ) (k : X) → n < length xs → AreEmptyFrom f n xs
+    → flat_map f (slice_set xs n k) ≡ flat_map f xs ++ f k
 spelled_more f [] n k within h = absurd (omega arith)
 spelled_more f (x ∷ xs) zero k within h =
     let rest : AreEmptyFrom f 0 xs = record { empty = λ m y low is. h.empty (suc m) y (omega arith) is } in

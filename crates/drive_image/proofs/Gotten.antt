@@ -25,9 +25,11 @@ described b n d blocks row count =
     let made : ℕ → ℕ → ℕ → Descriptor = λ s k w. record { state = d.state; wear = d.wear; slba = s; cnlb = k; wp = w } in
     ap (λ s. made s d.cnlb d.wp) row.slba
     ∙ (ap (λ k. made (packed (geometry_at b) (first_address (geometry_at b) (n / (geometry_at b).chunks) (n % (geometry_at b).chunks))) k d.wp) row.cnlb
-    ∙ ap (λ w. made (packed (geometry_at b) (first_address (geometry_at b) (n / (geometry_at b).chunks) (n % (geometry_at b).chunks))) (geometry_at b).clba w) (sym count))
+    ∙ ap (λ w. made (packed (geometry_at b) (first_address (geometry_at b) (n / (geometry_at b).chunks) (n % (geometry_at b).chunks))) (geometry_at b).clba w)
+    (sym count))
 
-pub got_nth : (b : List ℕ) (n at : ℕ) (old new : DriveView) (d : Descriptor) (chunks size : ℕ) (blocks : List Block) → WasPut b n at old new d chunks size blocks → GotNth b n at old new
+pub got_nth : (b : List ℕ) (n at : ℕ) (old new : DriveView) (d : Descriptor) (chunks size : ℕ) (blocks : List Block)
+    → WasPut b n at old new d chunks size blocks → GotNth b n at old new
 got_nth b n at old new d chunks size blocks put = record {
   got = worn_chunk d.state blocks d.wear;
   is = record {

@@ -1,47 +1,17 @@
 -- How long an image is.
-use Rattle.std.proofs.Common.{◌≡◌, ℕ, ◌+◌, ◌*◌, List, [], ◌∷◌, ◌++◌, length, length-append, refl, ap, ◌∙◌, arith}
+use Rattle.std.proofs.Common.{◌≡◌, ℕ, ◌+◌, ◌*◌, List, ◌∷◌, ◌++◌, length, length-append, refl, ap, ◌∙◌, arith}
 use Rattle.std.specs.List.{AllByRecursion, enumerate_from, flat_map, sum_by}
-use Rattle.std.proofs.lemmas.List.{length-replicate}
 use Rattle.std.proofs.lemmas.List.FromFn.{length-enumerate_from}
-use Rattle.std.proofs.lemmas.List.Sums.{sum_by-cons}
-use Rattle.std.proofs.Math.Nat.{mul-add}
-use Rattle.pblk_model.specs.Bytes.{le16, le32, le64, zeros}
+use Rattle.pblk_model.specs.Bytes.{le16, le32, zeros}
 use Rattle.pblk_model.specs.Chunk.{Block, pointer}
-use Rattle.pblk_model.specs.Descriptor.{Descriptor, spelled}
 use Rattle.pblk_model.specs.Geometry.{Geometry, geometry_bytes}
 use Rattle.pblk_model.specs.ImageFile.{StoredChunk, Drive, block_bytes, blocks_bytes, descriptor_bytes, descriptor_of, descriptors_bytes, header_bytes, image_bytes, unit_descriptors}
 use Rattle.drive_image.specs.Storing.{chunk_bytes, written_in}
-use Rattle.drive_image.proofs.ListFacts.{all_weaker}
-
-flat_even : {X : Type 0} (f : X → List ℕ) (n : ℕ) (xs : List X) → AllByRecursion (λ x. length (f x) ≡ n) xs → length (flat_map f xs) ≡ n * length xs
-flat_even f n [] all = omega arith
-flat_even f n (x ∷ xs) all =
-    let first : length (f x) ≡ n = all.0 in
-    let rest : length (flat_map f xs) ≡ n * length xs = flat_even f n xs all.1 in
-    omega (arith, length-append (f x) (flat_map f xs))
-
-flat_sum : {X : Type 0} (f : X → List ℕ) (m : ℕ) (g : X → ℕ) (xs : List X) → AllByRecursion (λ x. length (f x) ≡ m * g x) xs → length (flat_map f xs) ≡ m * sum_by g xs
-flat_sum f m g [] all =
-    let none : sum_by g [] ≡ 0 = refl in
-    let nothing : m * sum_by g [] ≡ m * 0 = ap (λ n. m * n) none in
-    omega arith
-flat_sum f m g (x ∷ xs) all =
-    let first : length (f x) ≡ m * g x = all.0 in
-    let rest : length (flat_map f xs) ≡ m * sum_by g xs = flat_sum f m g xs all.1 in
-    let sum : m * sum_by g (x ∷ xs) ≡ m * (g x + sum_by g xs) = ap (λ n. m * n) (sum_by-cons g x xs) in
-    let both : m * (g x + sum_by g xs) ≡ m * g x + m * sum_by g xs = mul-add m (g x) (sum_by g xs) in
-    omega (arith, length-append (f x) (flat_map f xs))
-
-all_of : {X : Type 0} (P : X → Type 0) (xs : List X) → ((x : X) → P x) → AllByRecursion P xs
-all_of P [] h = tt
-all_of P (x ∷ xs) h = (h x, all_of P xs h)
-
-all_enumerate : {X : Type 0} (P : ℕ × X → Type 0) (Q : X → Type 0) (n : ℕ) (xs : List X) → ((i : ℕ) (x : X) → Q x → P (i, x)) → AllByRecursion Q xs → AllByRecursion P (enumerate_from n xs)
-all_enumerate P Q n [] step h = tt
-all_enumerate P Q n (x ∷ xs) step h = (step n x h.0, all_enumerate P Q (n + 1) xs step h.1)
-
-pub header_length : (d : Drive) → length (header_bytes 1 d) ≡ 32
-header_length d = refl
+use Rattle.lemmas.proofs.Lists.{all_everywhere, all_weaker}
+use Rattle.lemmas.proofs.Maps.{all_enumerate, flat_length, length_of_sum}
+use Rattle.pblk_model.proofs.BytesLemmas.{with_zeros}
+use Rattle.pblk_model.proofs.DescriptorLemmas.{descriptor_length}
+use Rattle.pblk_model.proofs.ImageFileLemmas.{block_length, header_length}
 
 abbrev front : Geometry → List ℕ
 front g = (g.mjr ∷ g.mnr ∷ zeros 6)
@@ -55,24 +25,14 @@ front_length : (g : Geometry) → length (front g) ≡ 148
 unfolding zeros
 front_length g = refl
 
-zeros_length : (n : ℕ) → length (zeros n) ≡ n
-unfolding zeros
-zeros_length n = length-replicate n 0
-
-with_zeros : (xs : List ℕ) (k n : ℕ) → length xs ≡ k → length (xs ++ zeros n) ≡ k + n
-with_zeros xs k n h = omega (arith, length-append xs (zeros n), zeros_length n)
-
 pub geometry_length : (g : Geometry) → length (geometry_bytes g) ≡ 4096
 geometry_length g = with_zeros (front g) 148 3948 (front_length g)
-
-pub descriptor_length : (d : Descriptor) → length (spelled d) ≡ 32
-unfolding zeros
-descriptor_length d = refl
 
 unit_length : (g : Geometry) (unit : ℕ) (ks : List StoredChunk) → length (unit_descriptors g (unit, ks)) ≡ 32 * length ks
 unit_length g unit ks =
     let f : ℕ × StoredChunk → List ℕ = λ chunk. descriptor_bytes g unit chunk.0 chunk.1 in
-    flat_even f 32 (enumerate_from 0 ks) (all_of (λ chunk. length (f chunk) ≡ 32) (enumerate_from 0 ks) (λ chunk. descriptor_length (descriptor_of g unit chunk.0 chunk.1)))
+    flat_length f 32 (enumerate_from 0 ks) (all_everywhere (λ chunk. length (f chunk) ≡ 32) (enumerate_from 0 ks)
+    (λ chunk. descriptor_length (descriptor_of g unit chunk.0 chunk.1)))
     ∙ ap (λ n. 32 * n) (length-enumerate_from 0 ks)
 
 -- a drive whose units all have this many chunks, all of whose sectors are of its size
@@ -82,25 +42,23 @@ pub record IsEven (d : Drive) (n : ℕ) : Type 0 where
 
 descriptors_length : (d : Drive) (n : ℕ) → IsEven d n → length (descriptors_bytes d) ≡ 32 * n * length d.units
 descriptors_length d n even =
-    flat_even (unit_descriptors d.geometry) (32 * n) (enumerate_from 0 d.units)
-    (all_enumerate (λ unit. length (unit_descriptors d.geometry unit) ≡ 32 * n) (λ (ks : List StoredChunk). length ks ≡ n) 0 d.units (λ i ks count. unit_length d.geometry i ks ∙ ap (λ m. 32 * m) count) even.chunks)
+    flat_length (unit_descriptors d.geometry) (32 * n) (enumerate_from 0 d.units)
+    (all_enumerate (λ unit. length (unit_descriptors d.geometry unit) ≡ 32 * n) (λ (ks : List StoredChunk). length ks ≡ n) 0 d.units
+    (λ i ks count. unit_length d.geometry i ks ∙ ap (λ m. 32 * m) count) even.chunks)
     ∙ ap (λ m. 32 * n * m) (length-enumerate_from 0 d.units)
 
-block_length : (size : ℕ) (b : Block) → length b.sector ≡ size → length (block_bytes b) ≡ size + 16
-block_length size b is =
-    let lba : length (le64 b.mark.lba) ≡ 8 = refl in
-    let position : length (le64 b.mark.position) ≡ 8 = refl in
-    omega (arith, length-append (b.sector ++ le64 b.mark.lba) (le64 b.mark.position), length-append b.sector (le64 b.mark.lba))
-
-chunk_length : (size : ℕ) (k : StoredChunk) → AllByRecursion (λ (b : Block). length b.sector ≡ size) k.chunk.blocks → length (chunk_bytes k) ≡ (size + 16) * pointer k.chunk
-chunk_length size k all = flat_even block_bytes (size + 16) k.chunk.blocks (all_weaker (λ (b : Block). length b.sector ≡ size) (λ (b : Block). length (block_bytes b) ≡ size + 16) k.chunk.blocks (λ b is. block_length size b is) all)
+chunk_length : (size : ℕ) (k : StoredChunk) → AllByRecursion (λ (b : Block). length b.sector ≡ size) k.chunk.blocks
+    → length (chunk_bytes k) ≡ (size + 16) * pointer k.chunk
+chunk_length size k all = flat_length block_bytes (size + 16) k.chunk.blocks
+    (all_weaker (λ (b : Block). length b.sector ≡ size) (λ (b : Block). length (block_bytes b) ≡ size + 16) k.chunk.blocks (λ b is. block_length size b is) all)
 
 blocks_length : (d : Drive) (n : ℕ) → IsEven d n → length (blocks_bytes d) ≡ (d.sector + 16) * sum_by written_in d.units
 blocks_length d n even =
     let P : StoredChunk → Type 0 = λ k. AllByRecursion (λ (b : Block). length b.sector ≡ d.sector) k.chunk.blocks in
-    flat_sum (flat_map chunk_bytes) (d.sector + 16) written_in d.units
+    length_of_sum (flat_map chunk_bytes) (d.sector + 16) written_in d.units
     (all_weaker (AllByRecursion P) (λ ks. length (flat_map chunk_bytes ks) ≡ (d.sector + 16) * written_in ks) d.units
-    (λ ks all. flat_sum chunk_bytes (d.sector + 16) (λ k. pointer k.chunk) ks (all_weaker P (λ k. length (chunk_bytes k) ≡ (d.sector + 16) * pointer k.chunk) ks (λ k is. chunk_length d.sector k is) all)) even.sectors)
+    (λ ks all. length_of_sum chunk_bytes (d.sector + 16) (λ k. pointer k.chunk) ks
+    (all_weaker P (λ k. length (chunk_bytes k) ≡ (d.sector + 16) * pointer k.chunk) ks (λ k is. chunk_length d.sector k is) all)) even.sectors)
 
 pub image_long : (d : Drive) (n : ℕ) → IsEven d n → length (image_bytes d) ≡ 4128 + 32 * (length d.units * n) + (d.sector + 16) * sum_by written_in d.units
 image_long d n even =

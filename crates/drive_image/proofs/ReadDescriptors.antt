@@ -22,7 +22,8 @@ ok_of_state bytes clba (Some state) some kind blocks =
     ∙ (ok_chosen (pointer_holds state (number_at w64 16 bytes) (number_at w64 24 bytes)) (descriptor_in state bytes)
     ∙ ap (λ n. pointer_holds state n (number_at w64 24 bytes)) blocks)
 
-pub read_at_place : (bytes : List ℕ) (clba : ℕ) → length bytes ≡ 32 → is_some (state_in (slice_index bytes 0)) ≡ true → slice_index bytes 1 ≡ 1 → number_at w64 16 bytes ≡ clba
+pub read_at_place : (bytes : List ℕ) (clba : ℕ) → length bytes ≡ 32 → is_some (state_in (slice_index bytes 0)) ≡ true → slice_index bytes 1 ≡ 1
+    → number_at w64 16 bytes ≡ clba
     → is_ok (read_descriptor bytes) ≡ option_map_or (λ state. pointer_holds state clba (number_at w64 24 bytes)) (state_in (slice_index bytes 0)) true
 read_at_place bytes clba size state kind blocks =
     ap is_ok (cond-true (eqb (length bytes) 32) (of_state bytes (state_in (slice_index bytes 0))) (Err errors.Length) (eq-eqb (length bytes) 32 size))

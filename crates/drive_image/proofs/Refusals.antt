@@ -25,7 +25,8 @@ append_none (Some x ∷ xs) ys is = absurd cc
 -- What bytes of the length of a geometry are read as.
 
 pub read_judges : (bytes : List ℕ) → length bytes ≡ 4096 → read_geometry bytes ≡ unless_refused (geometry_in bytes) (geometry_refusal (geometry_in bytes))
-read_judges bytes size = cond-true (eqb (length bytes) 4096) (unless_refused (geometry_in bytes) (geometry_refusal (geometry_in bytes))) (Err Length) (eq-eqb (length bytes) 4096 size)
+read_judges bytes size = cond-true (eqb (length bytes) 4096) (unless_refused (geometry_in bytes) (geometry_refusal (geometry_in bytes))) (Err Length)
+    (eq-eqb (length bytes) 4096 size)
 
 ok_of : (g x : Geometry) (r : Option GeometryErr) → Ok x ≡ unless_refused g r → (r ≡ None) × (x ≡ g)
 ok_of g x None is = (refl, cc)
@@ -35,7 +36,8 @@ err_of : (g : Geometry) (e : GeometryErr) (r : Option GeometryErr) → Err e ≡
 err_of g e None is = absurd cc
 err_of g e (Some x) is = cc
 
-pub read_ok : (bytes : List ℕ) (g : Geometry) → length bytes ≡ 4096 → Ok g ≡ read_geometry bytes → (geometry_refusal (geometry_in bytes) ≡ None) × (g ≡ geometry_in bytes)
+pub read_ok : (bytes : List ℕ) (g : Geometry) → length bytes ≡ 4096 → Ok g ≡ read_geometry bytes → (geometry_refusal (geometry_in bytes) ≡ None)
+    × (g ≡ geometry_in bytes)
 read_ok bytes g size is = ok_of (geometry_in bytes) g (geometry_refusal (geometry_in bytes)) (is ∙ read_judges bytes size)
 
 pub read_err : (bytes : List ℕ) (e : GeometryErr) → length bytes ≡ 4096 → Err e ≡ read_geometry bytes → geometry_refusal (geometry_in bytes) ≡ Some e

@@ -10,17 +10,20 @@ use Rattle.ocssd_drive.specs.Drive.{DriveView, IsWhole, shape_of, stored}
 use Rattle.ocssd_drive.specs.Units.{WornUnit, IsUnitOf, stored_chunks}
 use Rattle.pblk_model.specs.Shape.{units}
 use Rattle.drive_image.proofs.Lengths.{IsEven}
-use Rattle.drive_image.proofs.ListFacts.{all_map, all_weaker}
+use Rattle.lemmas.proofs.Lists.{all_weaker}
+use Rattle.lemmas.proofs.Maps.{all_mapped}
 
 abbrev kept : Chunk × ℕ → StoredChunk
 kept p = record { chunk = p.0; wear = p.1 }
 
-kept_chunks : (P : Chunk → Type 0) (media : List Chunk) (wear : List ℕ) → AllByRecursion P media → AllByRecursion (λ (k : StoredChunk). P k.chunk) (map kept (zip media wear))
+kept_chunks : (P : Chunk → Type 0) (media : List Chunk) (wear : List ℕ) → AllByRecursion P media
+    → AllByRecursion (λ (k : StoredChunk). P k.chunk) (map kept (zip media wear))
 kept_chunks P [] wear all = tt
 kept_chunks P (c ∷ media) [] all = tt
 kept_chunks P (c ∷ media) (w ∷ wear) all = (all.0, kept_chunks P media wear all.1)
 
-kept_wears : (media : List Chunk) (wear : List ℕ) → AllByRecursion (λ w. w < 256) wear → AllByRecursion (λ (k : StoredChunk). k.wear < 256) (map kept (zip media wear))
+kept_wears : (media : List Chunk) (wear : List ℕ) → AllByRecursion (λ w. w < 256) wear
+    → AllByRecursion (λ (k : StoredChunk). k.wear < 256) (map kept (zip media wear))
 kept_wears [] wear all = tt
 kept_wears (c ∷ media) [] all = tt
 kept_wears (c ∷ media) (w ∷ wear) all = (all.0, kept_wears media wear all.1)
@@ -46,14 +49,17 @@ unit_wears s u is = kept_wears u.unit.media u.wear is.worn_fits
 -- A drive.
 
 pub all_chunks : (d : DriveView) → IsWhole d → AllByRecursion (AllByRecursion (λ (k : StoredChunk). IsChunk (shape_of d) k.chunk)) (stored d).units
-all_chunks d whole = all_map (AllByRecursion (λ (k : StoredChunk). IsChunk (shape_of d) k.chunk)) stored_chunks d.units
-    (all_weaker (IsUnitOf (shape_of d)) (λ (u : WornUnit). AllByRecursion (λ (k : StoredChunk). IsChunk (shape_of d) k.chunk) (stored_chunks u)) d.units (λ u is. unit_chunks (shape_of d) u is) whole.fit)
+all_chunks d whole = all_mapped (AllByRecursion (λ (k : StoredChunk). IsChunk (shape_of d) k.chunk)) stored_chunks d.units
+    (all_weaker (IsUnitOf (shape_of d)) (λ (u : WornUnit). AllByRecursion (λ (k : StoredChunk). IsChunk (shape_of d) k.chunk) (stored_chunks u)) d.units
+    (λ u is. unit_chunks (shape_of d) u is) whole.fit)
 
 pub all_wears : (d : DriveView) → IsWhole d → AllByRecursion (AllByRecursion (λ (k : StoredChunk). k.wear < 256)) (stored d).units
-all_wears d whole = all_map (AllByRecursion (λ (k : StoredChunk). k.wear < 256)) stored_chunks d.units
-    (all_weaker (IsUnitOf (shape_of d)) (λ (u : WornUnit). AllByRecursion (λ (k : StoredChunk). k.wear < 256) (stored_chunks u)) d.units (λ u is. unit_wears (shape_of d) u is) whole.fit)
+all_wears d whole = all_mapped (AllByRecursion (λ (k : StoredChunk). k.wear < 256)) stored_chunks d.units
+    (all_weaker (IsUnitOf (shape_of d)) (λ (u : WornUnit). AllByRecursion (λ (k : StoredChunk). k.wear < 256) (stored_chunks u)) d.units
+    (λ u is. unit_wears (shape_of d) u is) whole.fit)
 
-pub all_sectors : (d : DriveView) → IsWhole d → AllByRecursion (AllByRecursion (λ (k : StoredChunk). AllByRecursion (λ (b : Block). length b.sector ≡ d.sector) k.chunk.blocks)) (stored d).units
+pub all_sectors : (d : DriveView) → IsWhole d → AllByRecursion
+    (AllByRecursion (λ (k : StoredChunk). AllByRecursion (λ (b : Block). length b.sector ≡ d.sector) k.chunk.blocks)) (stored d).units
 all_sectors d whole =
     let P : StoredChunk → Type 0 = λ k. AllByRecursion (λ (b : Block). length b.sector ≡ d.sector) k.chunk.blocks in
     all_weaker (AllByRecursion (λ (k : StoredChunk). IsChunk (shape_of d) k.chunk)) (AllByRecursion P) (stored d).units
@@ -66,19 +72,21 @@ is_fit d whole =
     let chunk : StoredChunk → Chunk = λ k. k.chunk in
     record {
       units = length-map (stored d).units (map chunk) ∙ (length-map d.units stored_chunks ∙ whole.count);
-      chunks = all_map (λ (unit : List Chunk). length unit ≡ (shape_of d).chunks) (map chunk) (stored d).units
-          (all_map (λ (us : List StoredChunk). length (map chunk us) ≡ (shape_of d).chunks) stored_chunks d.units
+      chunks = all_mapped (λ (unit : List Chunk). length unit ≡ (shape_of d).chunks) (map chunk) (stored d).units
+          (all_mapped (λ (us : List StoredChunk). length (map chunk us) ≡ (shape_of d).chunks) stored_chunks d.units
           (all_weaker (IsUnitOf (shape_of d)) (λ (u : WornUnit). length (map chunk (stored_chunks u)) ≡ (shape_of d).chunks) d.units
           (λ u is. length-map (stored_chunks u) chunk ∙ unit_length (shape_of d) u is) whole.fit));
-      each = all_map (AllByRecursion (IsChunk (shape_of d))) (map chunk) (stored d).units
-          (all_weaker (AllByRecursion (λ (k : StoredChunk). IsChunk (shape_of d) k.chunk)) (λ (us : List StoredChunk). AllByRecursion (IsChunk (shape_of d)) (map chunk us)) (stored d).units
-          (λ us all. all_map (IsChunk (shape_of d)) chunk us all) (all_chunks d whole));
+      each = all_mapped (AllByRecursion (IsChunk (shape_of d))) (map chunk) (stored d).units
+          (all_weaker (AllByRecursion (λ (k : StoredChunk). IsChunk (shape_of d) k.chunk))
+          (λ (us : List StoredChunk). AllByRecursion (IsChunk (shape_of d)) (map chunk us)) (stored d).units
+          (λ us all. all_mapped (IsChunk (shape_of d)) chunk us all) (all_chunks d whole));
     }
 
 pub is_even : (d : DriveView) → IsWhole d → IsEven (stored d) (shape_of d).chunks
 is_even d whole = record {
-  chunks = all_map (λ (ks : List StoredChunk). length ks ≡ (shape_of d).chunks) stored_chunks d.units
-      (all_weaker (IsUnitOf (shape_of d)) (λ (u : WornUnit). length (stored_chunks u) ≡ (shape_of d).chunks) d.units (λ u is. unit_length (shape_of d) u is) whole.fit);
+  chunks = all_mapped (λ (ks : List StoredChunk). length ks ≡ (shape_of d).chunks) stored_chunks d.units
+      (all_weaker (IsUnitOf (shape_of d)) (λ (u : WornUnit). length (stored_chunks u) ≡ (shape_of d).chunks) d.units
+      (λ u is. unit_length (shape_of d) u is) whole.fit);
   sectors = all_sectors d whole;
 }
 

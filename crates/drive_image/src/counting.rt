@@ -10,6 +10,7 @@ ghost use Rattle.drive_image.specs.Storing.{written_in};
 
 use crate::kept::kept_chunk;
 use ocssd_drive::{Drive, MemoryUnit, Shape};
+use pblk_model::{DESCRIPTOR_LEN, DESCRIPTORS_AT};
 
 /// The length in bytes of a drive's image.
 pub(crate) fn image_length(drive: &Drive) -> usize
@@ -19,7 +20,7 @@ pub(crate) fn image_length(drive: &Drive) -> usize
     let shape = drive.shape();
     let blocks = written_blocks(drive, &shape);
     let chunks = shape.units() * shape.chunks;
-    4128 + 32 * chunks as usize + (shape.sector as usize + 16) * blocks
+    DESCRIPTORS_AT + DESCRIPTOR_LEN * chunks as usize + (shape.sector as usize + 16) * blocks
 }
 
 // How many blocks of a drive are written.

@@ -19,7 +19,7 @@ use crate::kept::first_block;
 use crate::parts::{Numbers, check_reaches};
 use ocssd_chunks::read_descriptor;
 use ocssd_drive::Geometry;
-use pblk_model::ImageErr;
+use pblk_model::{DESCRIPTOR_LEN, DESCRIPTORS_AT, ImageErr};
 
 /// Whether the descriptors are those of a drive of these numbers, and the blocks are as many as
 /// they say.
@@ -33,7 +33,7 @@ pub(crate) fn check_chunks(bytes: &[u8], numbers: &Numbers) -> Result<(), ImageE
     let geometry = &numbers.geometry;
     let units = u32::from(geometry.groups) * u32::from(geometry.pus);
     let count = units * geometry.chunks;
-    let end = 4128 + 32 * count as usize;
+    let end = DESCRIPTORS_AT + DESCRIPTOR_LEN * count as usize;
     check_reaches(bytes, end)?;
     let blocks = check_descriptors(bytes, geometry, count)?;
     let end = end + (numbers.settings.sector as usize + 16) * blocks as usize;
@@ -51,7 +51,7 @@ fn check_descriptors(bytes: &[u8], geometry: &Geometry, count: u32) -> Result<u6
     requires accepted { IsGeometry geometry.now }
     requires shape { IsAccepted (shape_at bytes.now) }
     requires count { count ≤ units (shape_at bytes.now) * (shape_at bytes.now).chunks }
-    requires reaches { 4128 + 32 * count ≤ length bytes.now }
+    requires reaches { DESCRIPTORS_AT + DESCRIPTOR_LEN * count ≤ length bytes.now }
     ensures refused { result_err result ≡ descriptor_refusal bytes.now count }
     ensures blocks { IfOk result (λ n. n ≡ sum_by (pointer_at bytes.now) (range_with_len 0 count)) }
     ensures few { IfOk result (λ n. n ≤ count * geometry.now.clba) }
@@ -69,15 +69,15 @@ fn check_descriptor(bytes: &[u8], geometry: &Geometry, n: u32) -> Result<u64, Im
     requires accepted { IsGeometry geometry.now }
     requires shape { IsAccepted (shape_at bytes.now) }
     requires index { n < units (shape_at bytes.now) * (shape_at bytes.now).chunks }
-    requires reaches { 4128 + 32 * n + 32 ≤ length bytes.now }
+    requires reaches { DESCRIPTORS_AT + DESCRIPTOR_LEN * n + DESCRIPTOR_LEN ≤ length bytes.now }
     ensures refused { result_err result ≡ chunk_refusal bytes.now n }
     ensures pointer { IfOk result (λ wp. wp ≡ pointer_at bytes.now n) }
     ensures within { IfOk result (λ wp. wp ≤ geometry.now.clba) }
 {
     let unit = n / geometry.chunks;
     let chunk = n % geometry.chunks;
-    let at = 4128 + 32 * n as usize;
-    let descriptor = &bytes[at..at + 32];
+    let at = DESCRIPTORS_AT + DESCRIPTOR_LEN * n as usize;
+    let descriptor = &bytes[at..at + DESCRIPTOR_LEN];
     match broken_rule(geometry, unit, chunk, descriptor) {
         Some(rule) => Err(ImageErr::Chunk { unit, chunk, rule }),
         None => Ok(u64_at(descriptor, 24)),
@@ -91,7 +91,7 @@ fn broken_rule(geometry: &Geometry, unit: u32, chunk: u32, bytes: &[u8]) -> Opti
     requires accepted { IsGeometry geometry.now }
     requires unit { unit < geometry.now.groups * geometry.now.pus }
     requires chunk { chunk < geometry.now.chunks }
-    requires size { length bytes.now ≡ 32 }
+    requires size { length bytes.now ≡ DESCRIPTOR_LEN }
     ensures first { let checks = chunk_checks (numbers_of geometry.now) unit chunk bytes.now
         in result ≡ first_failing checks }
 {
@@ -128,7 +128,7 @@ fn is_multiple(blocks: u64, geometry: &Geometry) -> bool
 // Whether the write pointer of a descriptor fits its state, the rest of the descriptor being as it
 // should.
 fn has_place(bytes: &[u8], clba: u32) -> bool
-    requires size { length bytes.now ≡ 32 }
+    requires size { length bytes.now ≡ DESCRIPTOR_LEN }
     requires state { is_some (state_in (slice_index bytes.now 0)) ≡ true }
     requires kind { slice_index bytes.now 1 ≡ 1 }
     requires blocks { number_at w64 16 bytes.now ≡ clba }

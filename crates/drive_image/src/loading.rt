@@ -18,7 +18,7 @@ use crate::making::made;
 use crate::parts::{Numbers, read_numbers};
 use ocssd_chunks::{Descriptor, read_descriptor};
 use ocssd_drive::Drive;
-use pblk_model::ImageErr;
+use pblk_model::{DESCRIPTOR_LEN, DESCRIPTORS_AT, ImageErr};
 use std::alloc::Global;
 
 /// The drive that an image is of. Its units' logs are empty, and it isn't armed.
@@ -77,7 +77,7 @@ fn fill(drive: &mut Drive, bytes: &[u8])
 {
     let shape = drive.shape();
     let count = shape.units() * shape.chunks;
-    let mut at = 4128 + 32 * count as usize;
+    let mut at = DESCRIPTORS_AT + DESCRIPTOR_LEN * count as usize;
     for n in 0..count {
         at += restore_chunk(drive, bytes, n, at);
     }
@@ -118,8 +118,8 @@ fn nth_descriptor(bytes: &[u8], n: u32) -> Descriptor
     requires index { n < chunks_at bytes.now }
     ensures { IsRow bytes.now n (fields_of result) }
 {
-    let at = 4128 + 32 * n as usize;
-    let row = &bytes[at..at + 32];
+    let at = DESCRIPTORS_AT + DESCRIPTOR_LEN * n as usize;
+    let row = &bytes[at..at + DESCRIPTOR_LEN];
     let Ok(descriptor) = read_descriptor(row) else {
         unreachable!()
     };

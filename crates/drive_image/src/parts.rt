@@ -16,7 +16,7 @@ ghost use Rattle.drive_image.specs.Parts.{header_refusals, number_refusals};
 use crate::bytes::{u32_at, u64_at};
 use crate::numbers::{Settings, check_settings};
 use ocssd_drive::Geometry;
-use pblk_model::ImageErr;
+use pblk_model::{DESCRIPTORS_AT, HEADER_LEN, ImageErr};
 
 /// The geometry and the settings that an image's first two parts say.
 #[derive(Clone, Copy, Debug)]
@@ -45,10 +45,10 @@ pub(crate) fn read_numbers(bytes: &[u8]) -> Result<Numbers, ImageErr>
     ensures shape { IfOk result (λ n. let s = n.settings
         in shape_with (numbers_of n.geometry) s.sector s.capacity s.ring ≡ shape_at bytes.now) }
     ensures accepted { IfOk result (λ _. IsAccepted (shape_at bytes.now)) }
-    ensures reaches { IfOk result (λ _. 4128 ≤ length bytes.now) }
+    ensures reaches { IfOk result (λ _. DESCRIPTORS_AT ≤ length bytes.now) }
 {
     check_header(bytes)?;
-    check_reaches(bytes, 4128)?;
+    check_reaches(bytes, DESCRIPTORS_AT)?;
     let geometry = read_geometry(bytes)?;
     let (sector, capacity, ring) = (u32_at(bytes, 12), u64_at(bytes, 16), u64_at(bytes, 24));
     let settings = settings_of(&geometry, sector, capacity, ring)?;
@@ -58,9 +58,9 @@ pub(crate) fn read_numbers(bytes: &[u8]) -> Result<Numbers, ImageErr>
 // Whether the input begins as an image of this version.
 fn check_header(bytes: &[u8]) -> Result<(), ImageErr>
     ensures refused { result_err result ≡ first_refusal (header_refusals bytes.now) }
-    ensures reaches { IfOk result (λ _. 32 ≤ length bytes.now) }
+    ensures reaches { IfOk result (λ _. HEADER_LEN ≤ length bytes.now) }
 {
-    check_reaches(bytes, 32)?;
+    check_reaches(bytes, HEADER_LEN)?;
     let magic = &bytes[..8];
     if magic != b"PBLKOCSD".as_slice() {
         return Err(ImageErr::Magic);
@@ -73,13 +73,13 @@ fn check_header(bytes: &[u8]) -> Result<(), ImageErr>
 
 // The geometry of an image.
 fn read_geometry(bytes: &[u8]) -> Result<Geometry, ImageErr>
-    requires { 4128 ≤ length bytes.now }
+    requires { DESCRIPTORS_AT ≤ length bytes.now }
     ensures refused { let refusal = geometry_refusal (geometry_at bytes.now)
         in result_err result ≡ option_map errors.Geometry refusal }
     ensures numbers { IfOk result (λ g. numbers_of g ≡ geometry_at bytes.now) }
     ensures accepted { IfOk result IsGeometry }
 {
-    let part = &bytes[32..4128];
+    let part = &bytes[HEADER_LEN..DESCRIPTORS_AT];
     match Geometry::read(part) {
         Ok(geometry) => Ok(geometry),
         Err(refusal) => Err(ImageErr::Geometry(refusal)),

@@ -18,7 +18,7 @@ use crate::kept::{first_block, kept_chunk};
 use ocssd_chunks::{Chunk, Descriptor};
 use ocssd_drive::{Drive, Geometry, MemoryUnit, Shape};
 use pblk_laws::spelled_image_is_read;
-use pblk_model::Mark;
+use pblk_model::{DESCRIPTOR_LEN, Mark};
 use std::alloc::AllocError;
 
 /// Adds a drive's image to `out`: the header with the settings, the geometry, a descriptor for each
@@ -122,7 +122,7 @@ fn put_descriptor(geometry: &Geometry, unit: u32, chunk: u32, kept: &MemoryUnit,
     requires chunks { kept.now.unit.shape.chunks ≡ geometry.now.chunks }
     requires clba { kept.now.unit.shape.clba ≡ geometry.now.clba }
     requires fits { IsUnitOf kept.now.unit.shape kept.now }
-    requires room { length out.old.items + 32 ≤ vec_capacity out.old }
+    requires room { length out.old.items + DESCRIPTOR_LEN ≤ vec_capacity out.old }
     ensures { let chunks = stored_chunks kept.now
         in IsDescriptorAdded (numbers_of geometry.now) unit chunk chunks out.old out.new }
 {
@@ -135,7 +135,7 @@ fn put_descriptor(geometry: &Geometry, unit: u32, chunk: u32, kept: &MemoryUnit,
         cnlb: u64::from(geometry.clba),
         wp: u64::from(pointer),
     };
-    let mut bytes = [0; 32];
+    let mut bytes = [0; DESCRIPTOR_LEN];
     descriptor.write(&mut bytes);
     put(out, &bytes);
 }

@@ -7,8 +7,8 @@ use ocssd_chunks::{
 use std::process::Abort;
 use std::test::Fail;
 
-// What is asked of a chunk. A write has the blocks from a number to before another, at their places; those
-// that fail or are cut off begin at block 0, and have a number of blocks and of multiples that land.
+// What is asked of a chunk. A write names its first block and the block behind its last one. A write that
+// fails or is cut off begins at block 0, and names how many blocks it has and how many multiples of them land.
 #[derive(Clone, Copy)]
 enum Asked {
     Write(usize, usize),
@@ -35,7 +35,7 @@ enum Told {
     Unasked,
 }
 
-// Blocks for a chunk, and two more.
+// The blocks of a chunk, and two more.
 #[derive(Drop)]
 struct Blocks {
     bytes: [u8; 13312],
@@ -62,7 +62,7 @@ fn mark_of(block: u8) -> Mark {
 }
 
 impl Blocks {
-    // The sectors and marks from a number to before another.
+    // The sectors and marks of the blocks from one number up to, but without, another.
     fn part(&self, start: usize, end: usize) -> Option<(&[u8], &[Mark])> {
         if start <= end && end <= 26 {
             Some((&self.bytes[start * 512..end * 512], &self.marks[start..end]))
@@ -100,7 +100,7 @@ fn answered(answer: Result<(), ChunkErr>) -> Told {
     }
 }
 
-// The number of a block, if its sector and its mark have the same.
+// The number of a block, if its sector and its mark have the same number.
 fn block_of(sector: &[u8], mark: Mark) -> Told {
     match sector.first() {
         Some(number) if mark == mark_of(*number) && sector.iter().all(|byte| *byte == *number) => {
@@ -167,7 +167,7 @@ fn part_reset(chunk: &mut Chunk, cut: Option<bool>) -> Told {
     Told::Done
 }
 
-// Restores a chunk that was closed with the first blocks.
+// Restores a chunk that was closed when only its first blocks were written.
 fn restore(chunk: &mut Chunk, blocks: &Blocks, count: usize) -> Told {
     let shape = chunk.shape();
     match blocks.part(0, count) {
@@ -182,7 +182,7 @@ fn restore(chunk: &mut Chunk, blocks: &Blocks, count: usize) -> Told {
     }
 }
 
-// Asks row by row, of a new chunk.
+// Asks a new chunk, row by row.
 fn walk(rt: &impl Abort, mut chunk: Chunk, rows: &[(Asked, Told)]) {
     let blocks = make_blocks();
     for (row, (asked, told)) in rows.iter().enumerate() {
@@ -227,7 +227,8 @@ fn chunk_calls(rt: HostRuntime) -> Result<(), Fail> {
     Ok(())
 }
 
-// A failed write costs the chunk, and so does a failed reset. What is cut off is done or not.
+// A failed write closes the chunk for good, and a failed reset takes it Offline. What is cut off is done or
+// not.
 static FAULTS: [(Asked, Told); 20] = [
     (Asked::CutWrite(4, 0), Told::Done),
     (Asked::State, FREE),
@@ -257,12 +258,12 @@ fn faults_and_cuts_leave_what_they_should(rt: HostRuntime) -> Result<(), Fail> {
     Ok(())
 }
 
-// The descriptor of a chunk of the small drive without blocks, whose block 0 has the address 0.
+// The descriptor of the small drive's first chunk, which has no block. Its block 0 has the address 0.
 const BLANK: [u8; 32] = [
     1, 1, 0, 0, 0, 0, 0, 0, 0, 0, 0, 0, 0, 0, 0, 0, 24, 0, 0, 0, 0, 0, 0, 0, 0, 0, 0, 0, 0, 0, 0, 0,
 ];
 
-// Bytes 0, 1 and 24 of a descriptor that is refused, and what for.
+// Bytes 0, 1 and 24 of descriptors that are refused, and the refusals.
 static REFUSED: [((u8, u8, u8), DescriptorErr); 3] = [
     ((3, 2, 2), DescriptorErr::State),
     ((1, 2, 2), DescriptorErr::Kind),

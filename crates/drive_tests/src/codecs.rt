@@ -60,10 +60,10 @@ fn what_is_written_reads_back(rt: HostRuntime) {
     assert!(rt; Geometry::read(&[0; 4095]) == Err(GeometryErr::Length));
 }
 
-// Three bytes that are changed, by their places.
+// Three places, and the bytes that are put there.
 type Changes = ((usize, u8), (usize, u8), (usize, u8));
 
-// Row by row, what a page with some bytes changed is refused for.
+// The refusals of pages with some bytes changed, row by row.
 fn walk(rt: &impl Abort, page: &[u8; 4096], rows: &[(Changes, Option<GeometryErr>)]) {
     for (row, ((first, second, third), refusal)) in rows.iter().enumerate() {
         let bytes = changed(*page, &[*first, *second, *third]);
@@ -71,10 +71,10 @@ fn walk(rt: &impl Abort, page: &[u8; 4096], rows: &[(Changes, Option<GeometryErr
     }
 }
 
-// A byte that no field has.
+// A byte that belongs to no field.
 const NONE: (usize, u8) = (4095, 0);
 
-// Changes of the small page, and what each page is refused for, by a field or by a rule.
+// Changes of the small drive's page, and the refusal of each: by a field or by a rule.
 static FIELDS: [(Changes, Option<GeometryErr>); 29] = [
     // Fields before rules, each in its order; what stands between the fields is ignored.
     (((1, 7), (12, 7), (4095, 7)), None),
@@ -120,7 +120,7 @@ fn each_field_is_refused_at_its_edge(rt: HostRuntime) {
     walk(&rt, &small_page(), &FIELDS);
 }
 
-// Changes of a page with wider addresses, and what each page is refused for.
+// Changes of a page with wider addresses, and the refusal of each.
 static RULES: [(Changes, Option<GeometryErr>); 22] = [
     (((64, 5), (66, 13), NONE), Some(GeometryErr::Profile(1))),
     (((64, 4), (66, 16), NONE), None),

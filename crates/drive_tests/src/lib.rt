@@ -1,4 +1,4 @@
-//! Tests of the drive in memory and of its parts, on their public calls.
+//! Tests of the drive in memory, of its parts and of its vectors, on their public calls.
 #![tactic(auto)]
 
 #[cfg(test)]
@@ -9,3 +9,5 @@ mod chunks;
 mod codecs;
 #[cfg(test)]
 mod units;
+#[cfg(test)]
+mod vector;

@@ -26,7 +26,7 @@ enum Asked {
     Events,
 }
 
-// What it told. A fetch gives the first byte of the buffer, which is 99 before.
+// What it told. A fetch tells the first byte of the buffer, which is 99 before the fetch.
 #[derive(Clone, Copy, PartialEq, Eq)]
 enum Told {
     Refused,
@@ -94,7 +94,7 @@ fn state(unit: &MemoryUnit, chunk: u32) -> Told {
     Told::Is(state, pointer)
 }
 
-// The two units of a small drive that is armed so, and disarmed or not.
+// The two units of a small drive that is armed as given, and then disarmed or not.
 fn armed(
     alloc: Global,
     plans: &[FaultPlan],
@@ -111,7 +111,7 @@ fn armed(
     Ok(units)
 }
 
-// Asks row by row, of the unit with a number.
+// Asks the unit of each row, row by row.
 fn walk(rt: &impl Abort, mut units: Vec<MemoryUnit>, rows: &[(usize, Asked, Told)]) {
     for (row, (at, asked, told)) in rows.iter().enumerate() {
         let same = match units.get_mut(*at) {
@@ -154,7 +154,7 @@ fn the_fuse_stops_the_whole_drive(rt: HostRuntime) -> Result<(), Fail> {
     Ok(())
 }
 
-// What the plans below make of the commands of unit 0, and not of unit 1.
+// What the plans below make of the commands of unit 0. Those of unit 1 are as without plans.
 static PLANNED: [(usize, Asked, Told); 14] = [
     (0, Asked::Program(0, 0), Told::Done),
     (0, Asked::Program(0, 4), Told::Failed),
@@ -255,7 +255,7 @@ fn wear(unit: &MemoryUnit, chunk: u32) -> Option<u8> {
     }
 }
 
-// A row of a log.
+// One row of a log.
 #[derive(Drop)]
 struct Row {
     number: u64,
@@ -280,7 +280,7 @@ fn a_log_grows_in_each_thread_that_has_it(rt: HostRuntime) -> Result<(), Fail> {
     Ok(())
 }
 
-// A call is accepted where the type's values may cross threads.
+// A call of it is accepted only for a type whose values may go to another thread.
 fn may_cross<T: Send>() {}
 
 #[test]

@@ -1,4 +1,4 @@
-//! Drives that tests are about.
+//! The drives whose layouts are tested.
 
 use pblk_layout::Layout;
 use pblk_model::Shape;

@@ -3,7 +3,7 @@
 use crate::drives::{small, two_groups};
 use pblk_layout::Layout;
 
-// The start record's, the end record's and the data's length at a width.
+// The lengths of the start record, of the end record and of the data at a width.
 fn lengths(layout: &Layout, width: u32) -> Option<(u32, u32, u32)> {
     if width > layout.shape().units() {
         return None;

@@ -1,8 +1,10 @@
-//! Tests of the formats on worked examples.
+//! Tests of the formats: lengths, places and records on worked examples, and images of drives.
 #![tactic(auto)]
 
 #[cfg(test)]
 mod drives;
+#[cfg(test)]
+mod image;
 #[cfg(test)]
 mod layout;
 #[cfg(test)]

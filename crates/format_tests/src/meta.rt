@@ -5,7 +5,7 @@ use pblk_meta::{EndRecord, Pairs, Row, Rows, StartRecord};
 use pblk_model::Mark;
 use std::alloc::{AllocError, Global};
 
-// What reading tells of a start record: its numbers, and of each row its line, seq and bound added up.
+// What reading tells of a start record: its numbers, and for each row the sum of its line, seq and bound.
 #[derive(Clone, Copy, Debug, PartialEq, Eq)]
 enum Start {
     Refused,
@@ -48,7 +48,7 @@ fn changed(mut bytes: [u8; 2048], changes: &[(usize, u8)]) -> [u8; 2048] {
     bytes
 }
 
-// Bytes without their last.
+// Bytes without the last one.
 fn cut(bytes: &[u8]) -> &[u8] {
     if bytes.is_empty() {
         return bytes;
@@ -107,7 +107,7 @@ fn a_start_record_is_read(rt: HostRuntime) {
     }
 }
 
-// One byte of it is another: in the header, in the row, behind it.
+// One byte of it is changed: in the header, in the row, or behind the row.
 #[test]
 fn a_start_record_is_refused(rt: HostRuntime) {
     let base = start_of_line_1();
@@ -217,7 +217,7 @@ fn a_start_record_is_written(rt: HostRuntime) -> Result<(), AllocError> {
     Ok(())
 }
 
-// What reading tells of an end record: how many marks it has, and the first and the last.
+// What reading tells of an end record: how many marks it has, and its first and last mark.
 #[derive(Clone, Copy, Debug, PartialEq, Eq)]
 enum End {
     Refused,
@@ -319,7 +319,7 @@ fn an_end_record_is_read(rt: HostRuntime) {
     }
 }
 
-// One byte of the header or behind the marks is another; or it is read for another line.
+// One byte of the header or behind the marks is changed; or the record is read as that of another line.
 #[test]
 fn an_end_record_is_refused(rt: HostRuntime) {
     let base = end_of_line_3();

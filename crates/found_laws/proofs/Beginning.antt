@@ -9,7 +9,6 @@ use Rattle.pblk_model.specs.Chunk.{Chunk}
 use Rattle.pblk_model.specs.Image.{Image}
 use Rattle.pblk_model.specs.StartRecord.{StartRecord}
 use Rattle.pblk_model.specs.Contents.{head}
-use Rattle.pblk_laws.proofs.Lists.{all_by_get}
 use Rattle.pblk_world.specs.World.{Logs, media}
 use Rattle.pblk_world.specs.Lines.{next_seq}
 use Rattle.pblk_world.specs.Opening.{MayBegin}
@@ -17,6 +16,7 @@ use Rattle.found_laws.specs.Finding.{IsFoundOf, NoneOpen}
 use Rattle.found_laws.specs.Beginnings.{seq_after, beginning_of}
 use Rattle.found_laws.proofs.Counting.{IsHeadAt, head_at}
 use Rattle.found_laws.proofs.Rows.{row_at}
+use Rattle.lemmas.proofs.Parts.{all_by_get}
 
 none_open : (i : Image) → NoneOpen i → AllByRecursion (AllByRecursion (λ c. c.state ≢ states.Open)) i.units
 none_open i none = all_by_get (AllByRecursion (λ (c : Chunk). c.state ≢ states.Open)) i.units (λ unit u there.

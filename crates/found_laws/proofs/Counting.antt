@@ -1,6 +1,6 @@
 -- The end, and the positions of the records that count.
 use Rattle.std.proofs.Common.{◌≡◌, ℕ, ◌+◌, ◌*◌, ◌^◌, ◌<◌, ◌≤◌, ◌==◌, ◌&&◌, nat_lt, nat_le, max, zero, suc, Bool, true, false, cond, ltb, leb, Option, Some, None, List, [], ◌∷◌, length, refl, sym, subst, ap, ◌∙◌, arith, inl, inr, length-append}
-use Rattle.std.specs.List.{AllByRecursion, Contains, filter, filter_map, flat_map, fold, find, list_any, cons_option, range_with_len}
+use Rattle.std.specs.List.{AllByRecursion, Contains, filter, filter_map, flat_map, fold, find, list_any, range_with_len}
 use Rattle.std.specs.Option.{option_map_or}
 use Rattle.std.proofs.lemmas.Bool.{and_parts, or_cases, ltb-true, leb-true, eq-eqb, eqb-true}
 use Rattle.pblk_model.specs.declared.shape.Shape.{Shape}
@@ -9,15 +9,16 @@ use Rattle.pblk_model.specs.Image.{Image, IsFit, width}
 use Rattle.pblk_model.specs.StartRecord.{Row, StartRecord, rows_fit, start_of}
 use Rattle.pblk_model.specs.Records.{Record, record_at, records_after, line_records, records}
 use Rattle.pblk_model.specs.Contents.{IsHead, head, is_borne, least_missing, end_after, end, counts, counted_after, counted}
-use Rattle.pblk_model.proofs.Sizes.{line_is_short}
 use Rattle.pblk_laws.proofs.Ends.{end_is_end}
 use Rattle.pblk_laws.proofs.Heads.{head_is_head}
-use Rattle.pblk_laws.proofs.Lists.{all_contains, contains_cases, contains_none}
 use Rattle.pblk_laws.proofs.Starts.{HasNumbers, numbers, found_is}
 use Rattle.pblk_laws.proofs.Widths.{width_within}
 use Rattle.pblk_world.specs.Starts.{row_bound}
 use Rattle.found_laws.specs.Finding.{top_of}
 use Rattle.found_laws.proofs.Places.{counted_passed}
+use Rattle.lemmas.proofs.Lists.{all_contains, contains_cases, contains_none}
+use Rattle.lemmas.proofs.Maps.{longer_option}
+use Rattle.pblk_model.proofs.AcceptedLemmas.{line_is_short}
 
 -- ---- the head's numbers
 
@@ -37,13 +38,9 @@ head_at i h e =
 
 -- ---- how many records there are
 
-pub some_few : {Y : Type 0} (o : Option Y) (ys : List Y) → length (cons_option o ys) ≤ suc (length ys)
-some_few None ys = omega arith
-some_few (Some y) ys = omega arith
-
 pub kept_few : {Y : Type 0} (f : ℕ → Option Y) (a n : ℕ) → length (filter_map f (range_with_len a n)) ≤ n
 kept_few f a zero = omega arith
-kept_few f a (suc n) = let more = kept_few f (a + 1) n in let one = some_few (f a) (filter_map f (range_with_len (a + 1) n)) in omega arith
+kept_few f a (suc n) = let more = kept_few f (a + 1) n in let one = longer_option (f a) (filter_map f (range_with_len (a + 1) n)) in omega arith
 
 pub line_is_few : (i : Image) (line : ℕ) (o : Option StartRecord) → IsAccepted i.shape → IsFit i → length (records_after i line o) ≤ 65536
 line_is_few i line None accepted fit = omega arith

@@ -6,19 +6,12 @@ use Rattle.std.specs.Option.{option_map, option_and_then}
 use Rattle.std.proofs.lemmas.Bool.{cases_eq, cases_order}
 use Rattle.std.proofs.lemmas.Option.{none-some, same_Some, slice_get-map}
 use Rattle.pblk_model.specs.Found.{Rise}
-use Rattle.pblk_laws.proofs.Lists.{all_append, contains_more, contains_first, contains_cases, contains_none}
+use Rattle.lemmas.proofs.Lists.{contains_cases, contains_first, contains_more, contains_none}
+use Rattle.lemmas.proofs.Maps.{range_get as range_at}
+use Rattle.lemmas.proofs.Options.{map_some}
+use Rattle.lemmas.proofs.Parts.{get_first, get_rest}
 
 -- ---- elements by place
-
-pub get_first : {X : Type 0} (xs ys : List X) (k : ℕ) → k < length xs → slice_get (xs ++ ys) k ≡ slice_get xs k
-get_first [] ys k h = absurd (omega arith)
-get_first (x ∷ xs) ys zero h = refl
-get_first (x ∷ xs) ys (suc k) h = get_first xs ys k (omega arith)
-
-pub get_rest : {X : Type 0} (xs ys : List X) (n k : ℕ) → length xs ≡ n → slice_get (xs ++ ys) (n + k) ≡ slice_get ys k
-get_rest [] ys n k e = let same : n + k ≡ k = omega arith in ap (slice_get ys) same
-get_rest (x ∷ xs) ys zero k e = absurd (omega arith)
-get_rest (x ∷ xs) ys (suc n) k e = let step : suc n + k ≡ suc (n + k) = omega arith in ap (slice_get (x ∷ (xs ++ ys))) step ∙ get_rest xs ys n k (omega arith)
 
 -- an element of lists that are joined, each of one length
 pub joined_at : {X Y : Type 0} (g : X → List Y) (n : ℕ) (us : List X) (k j : ℕ) → AllByRecursion (λ u. length (g u) ≡ n) us → j < n
@@ -41,17 +34,7 @@ joined_count g n (u ∷ us) all =
     let next : suc (length us) * n ≡ n + length us * n = omega arith in
     omega arith
 
--- an element of joined lists is one of one of them
-pub joined_of : {X Y : Type 0} (P : Y → Type 0) (g : X → List Y) (us : List X) → ((u : X) → AllByRecursion P (g u)) → AllByRecursion P (flat_map g us)
-joined_of P g [] each = tt
-joined_of P g (u ∷ us) each = all_append P (g u) (flat_map g us) (each u) (joined_of P g us each)
-
 -- ---- lists that are made of the numbers from one on
-
-pub range_at : (a n k : ℕ) → k < n → slice_get (range_with_len a n) k ≡ Some (a + k)
-range_at a zero k h = absurd (omega arith)
-range_at a (suc n) zero h = ap (λ m. Some m) (sym (add-zero a))
-range_at a (suc n) (suc k) h = let step : a + 1 + k ≡ a + suc k = omega arith in range_at (a + 1) n k (omega arith) ∙ ap (λ m. Some m) step
 
 pub range_get : (a n k x : ℕ) → slice_get (range_with_len a n) k ≡ Some x → (k < n) × (a + k ≡ x)
 range_get a zero k x e = absurd (none-some x e)
@@ -61,13 +44,9 @@ range_get a (suc n) (suc k) x e = let rest = range_get (a + 1) n k x e in (omega
 pub mapped_at : {Y : Type 0} (f : ℕ → Y) (n k : ℕ) → k < n → slice_get (map f (range_with_len 0 n)) k ≡ Some (f k)
 mapped_at f n k h = let first : 0 + k ≡ k = omega arith in slice_get-map f (range_with_len 0 n) k ∙ ap (option_map f) (range_at 0 n k h) ∙ ap (λ m. Some (f m)) first
 
-option_mapped : {X Y : Type 0} (f : X → Y) (o : Option X) (y : Y) → option_map f o ≡ Some y → (x : X) × (o ≡ Some x) × (f x ≡ y)
-option_mapped f None y e = absurd (none-some y e)
-option_mapped f (Some x) y e = (x, refl, same_Some (f x) y e)
-
 pub mapped_get : {Y : Type 0} (f : ℕ → Y) (n k : ℕ) (y : Y) → slice_get (map f (range_with_len 0 n)) k ≡ Some y → (k < n) × (f k ≡ y)
 mapped_get f n k y e =
-    let of = option_mapped f (slice_get (range_with_len 0 n) k) y (sym (slice_get-map f (range_with_len 0 n) k) ∙ e) in
+    let of = map_some f (slice_get (range_with_len 0 n) k) y (sym (slice_get-map f (range_with_len 0 n) k) ∙ e) in
     let at = range_get 0 n k of.0 of.1 in
     let same : k ≡ of.0 = omega (arith, at.1) in
     (at.0, ap f same ∙ of.2)

@@ -18,21 +18,10 @@ use Rattle.pblk_world.specs.World.{World, Logs, log_of, known, cut_logs, prefixe
 use Rattle.pblk_world.specs.EngineLog.{Begun, begun}
 use Rattle.pblk_world.specs.Lines.{found_by, found_image}
 use Rattle.pblk_world.specs.Legal.{IsAllowed, IsLegal}
+use Rattle.lemmas.proofs.Maps.{numbered_length}
+use Rattle.pblk_world.proofs.WorldLemmas.{media_at}
 
 -- ---- numbered elements
-
-mapped_at : {X Y : Type 0} (f : ℕ × X → Y) (n : ℕ) (xs : List X) (k : ℕ) → slice_get (map f (enumerate_from n xs)) k ≡ option_map (λ x. f (n + k, x)) (slice_get xs k)
-mapped_at f n [] k = refl
-mapped_at {X} {Y} f n (x ∷ xs) zero = let same : n ≡ n + 0 = omega arith in let g : ℕ → Option Y = λ m. Some (f (m, x)) in ap g same
-mapped_at {X} {Y} f n (x ∷ xs) (suc k) =
-    let same : n + 1 + k ≡ n + suc k = omega arith in
-    mapped_at f (n + 1) xs k ∙ ap (λ m. option_map {U = Y} (λ y. f (m, y)) (slice_get xs k)) same
-
-pub media_at : (i : Image) (logs : Logs) (unit : ℕ) → slice_get (media i logs).units unit ≡ option_map (λ chunks. after_log i.shape chunks (unit_events logs unit)) (slice_get i.units unit)
-media_at i logs unit =
-    let same : 0 + unit ≡ unit = omega arith in
-    mapped_at (λ (u : ℕ × List Chunk). after_log i.shape u.1 (unit_events logs u.0)) 0 i.units unit
-    ∙ ap (λ m. option_map (λ chunks. after_log i.shape chunks (unit_events logs m)) (slice_get i.units unit)) same
 
 -- ---- each unit's log is one over its chunks
 
@@ -87,10 +76,6 @@ shorter s chunks (suc n) (l ∷ log) is = go (λ cs h. shorter s cs n log h) (un
 
 -- ---- so the media are fit
 
-numbered_count : {X Y : Type 0} (f : ℕ × X → Y) (n : ℕ) (xs : List X) → length (map f (enumerate_from n xs)) ≡ length xs
-numbered_count f n [] = refl
-numbered_count f n (x ∷ xs) = ap suc (numbered_count f (n + 1) xs)
-
 numbered_all : {X Y : Type 0} (P : X → Type 0) (Q : Y → Type 0) (f : ℕ × X → Y) (n : ℕ) (xs : List X) → ((k : ℕ) (x : X) → slice_get xs k ≡ Some x → P x → Q (f (n + k, x))) → AllByRecursion P xs
     → AllByRecursion Q (map f (enumerate_from n xs))
 numbered_all P Q f n [] each all = tt
@@ -102,7 +87,7 @@ numbered_all P Q f n (x ∷ xs) each all =
 
 fit_by_logs : (i : Image) (logs : Logs) → IsAccepted i.shape → IsFit i → ((unit : ℕ) (chunks : List Chunk) → slice_get i.units unit ≡ Some chunks → IsUnitLog i.shape chunks (events (logs (suc unit)))) → IsFit (media i logs)
 fit_by_logs i logs accepted fit log = record {
-  units = numbered_count (λ (u : ℕ × List Chunk). after_log i.shape u.1 (unit_events logs u.0)) 0 i.units ∙ fit.units;
+  units = numbered_length (λ (u : ℕ × List Chunk). after_log i.shape u.1 (unit_events logs u.0)) 0 i.units ∙ fit.units;
   chunks = numbered_all (λ (u : List Chunk). length u ≡ i.shape.chunks) (λ (u : List Chunk). length u ≡ i.shape.chunks) (λ (u : ℕ × List Chunk). after_log i.shape u.1 (unit_events logs u.0)) 0 i.units
       (λ k chunks there count. log_count i.shape chunks (unit_events logs (0 + k)) ∙ count) fit.chunks;
   each = numbered_all (AllByRecursion (IsChunk i.shape)) (AllByRecursion (IsChunk i.shape)) (λ (u : ℕ × List Chunk). after_log i.shape u.1 (unit_events logs u.0)) 0 i.units

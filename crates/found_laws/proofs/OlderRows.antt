@@ -18,7 +18,8 @@ use Rattle.pblk_world.specs.Starts.{row_bound, bound_by, found_row, older_row, o
 use Rattle.pblk_world.specs.Legal.{IsLegal}
 use Rattle.opening_laws.proofs.FoundImages.{found_first, found_seq}
 use Rattle.found_laws.proofs.Began.{named_image, found_named}
-use Rattle.found_laws.proofs.Counting.{start_numbers, head_at, some_few, kept_few, bound_low}
+use Rattle.found_laws.proofs.Counting.{start_numbers, head_at, kept_few, bound_low}
+use Rattle.lemmas.proofs.Maps.{longer_option}
 
 -- a row of a line fits a start record
 record IsRowFor (s : Shape) (r : StartRecord) (line : ℕ) (row : Row) : Type 0 where
@@ -131,7 +132,7 @@ one_less f a (suc n) zero h none =
 one_less f a (suc n) (suc k) h none =
     let step : a + suc k ≡ a + 1 + k = omega arith in
     let rest : length (filter_map f (range_with_len (a + 1) n)) + 1 ≤ n = one_less f (a + 1) n k (omega arith) (ap f (sym step) ∙ none) in
-    let one = some_few (f a) (filter_map f (range_with_len (a + 1) n)) in
+    let one = longer_option (f a) (filter_map f (range_with_len (a + 1) n)) in
     omega arith
 
 pub rows_few : (i : Image) (logs : Logs) (line : ℕ) → line < i.shape.chunks → older_row i logs line ≡ None → length (older_rows i logs) ≤ i.shape.chunks - 1

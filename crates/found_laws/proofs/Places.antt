@@ -1,6 +1,6 @@
 -- Written blocks, and the records that they bear.
-use Rattle.std.proofs.Common.{◌≡◌, ℕ, ◌+◌, ◌*◌, ◌<◌, ◌≤◌, zero, suc, Bool, true, false, cond, Option, Some, None, List, [], ◌∷◌, length, refl, sym, subst, ap, ◌∙◌, arith}
-use Rattle.std.specs.List.{AllByRecursion, Contains, slice_get, filter, filter_map, flat_map, cons_option, range_with_len}
+use Rattle.std.proofs.Common.{◌≡◌, ℕ, ◌+◌, ◌*◌, ◌<◌, ◌≤◌, zero, suc, true, false, Option, Some, None, length, refl, sym, subst, ap, ◌∙◌, arith}
+use Rattle.std.specs.List.{AllByRecursion, Contains, slice_get, filter_map, flat_map, range_with_len}
 use Rattle.std.specs.Option.{option_map, option_and_then, IfSome}
 use Rattle.std.proofs.lemmas.Option.{none-some, slice_get_within}
 use Rattle.pblk_model.specs.declared.chunk.ChunkState.{ChunkState}
@@ -17,10 +17,12 @@ use Rattle.pblk_model.specs.Contents.{head, end_after, counts, counted_after, co
 use Rattle.pblk_model.proofs.LeastLengths.{start_len_positive}
 use Rattle.pblk_laws.specs.LineBlocks.{chunk_in}
 use Rattle.pblk_laws.proofs.LineUnits.{line_units_chunks}
-use Rattle.pblk_laws.proofs.Lists.{all_append, all_at, all_contains, all_filter}
 use Rattle.pblk_laws.proofs.Runs.{start_none}
 use Rattle.pblk_world.specs.Lines.{is_empty_state}
 use Rattle.found_laws.specs.Finding.{taken_state}
+use Rattle.lemmas.proofs.Lists.{all_append, all_contains}
+use Rattle.lemmas.proofs.Maps.{all_cons_option, all_filter, all_passed}
+use Rattle.pblk_laws.proofs.LineBlocksLemmas.{chunk_fits}
 
 -- ---- a written block is in a chunk that is found Closed
 
@@ -37,13 +39,6 @@ written_state states.Free clba wp fits some = absurd (omega arith)
 written_state states.Open clba wp fits some = (refl, refl)
 written_state states.Closed clba wp fits some = (refl, refl)
 written_state states.Offline clba wp fits some = absurd (omega arith)
-
-chunk_fits : (i : Image) (line unit : ℕ) (c : Chunk) → IsFit i → chunk_in i line unit ≡ Some c → IsChunk i.shape c
-chunk_fits i line unit c fit e = go (slice_get i.units unit) refl e
-  where
-    go : (o : Option (List Chunk)) → slice_get i.units unit ≡ o → option_and_then (λ u. slice_get u line) o ≡ Some c → IsChunk i.shape c
-    go None is h = absurd (none-some c h)
-    go (Some u) is h = all_at (IsChunk i.shape) u line c (all_at (AllByRecursion (IsChunk i.shape)) i.units unit u fit.each is) h
 
 abbrev column : Image → ℕ → ℕ → ℕ
 column i line a = column_of i.shape (width i line) a
@@ -100,13 +95,9 @@ block_bears i line start a inside is within = by_block (block_at i line a) refl
     by_block None e = tt
     by_block (Some block) e = by_mark block (mark_at i.shape (end_of i line start) a block) e
 
-kept : {Y : Type 0} (P : Y → Type 0) (o : Option Y) (ys : List Y) → IfSome o P → AllByRecursion P ys → AllByRecursion P (cons_option o ys)
-kept P None ys h all = all
-kept P (Some y) ys h all = (h, all)
-
 range_kept : {Y : Type 0} (P : Y → Type 0) (f : ℕ → Option Y) (a n m : ℕ) → a + n ≤ m → ((k : ℕ) → k < m → IfSome (f k) P) → AllByRecursion P (filter_map f (range_with_len a n))
 range_kept P f a zero m within each = tt
-range_kept P f a (suc n) m within each = kept P (f a) (filter_map f (range_with_len (a + 1) n)) (each a (omega arith)) (range_kept P f (a + 1) n m (omega arith) each)
+range_kept P f a (suc n) m within each = all_cons_option P (f a) (filter_map f (range_with_len (a + 1) n)) (each a (omega arith)) (range_kept P f (a + 1) n m (omega arith) each)
 
 of_line : (i : Image) (line : ℕ) (o : Option StartRecord) → line < i.shape.chunks → start_of i line ≡ o → AllByRecursion (IsOfBlock i) (records_after i line o)
 of_line i line None inside e = tt
@@ -120,14 +111,6 @@ of_lines i a (suc n) within =
     all_append (IsOfBlock i) (line_records i a) (flat_map (line_records i) (range_with_len (a + 1) n)) (of_line i a (start_of i a) (omega arith) refl) (of_lines i (a + 1) n (omega arith))
 
 -- ---- records that count
-
-all_passed : {X : Type 0} (p : X → Bool) (xs : List X) → AllByRecursion (λ x. p x ≡ true) (filter p xs)
-all_passed p [] = tt
-all_passed p (x ∷ xs) = go (p x) refl (all_passed p xs)
-  where
-    go : (b : Bool) → p x ≡ b → AllByRecursion (λ x. p x ≡ true) (filter p xs) → AllByRecursion (λ x. p x ≡ true) (cond b (x ∷ filter p xs) (filter p xs))
-    go true e rest = (e, rest)
-    go false e rest = rest
 
 of_counted : (i : Image) (o : Option StartRecord) → AllByRecursion (IsOfBlock i) (counted_after (records i) o)
 of_counted i None = tt

@@ -13,10 +13,11 @@ use Rattle.pblk_model.specs.Chunk.{Chunk}
 use Rattle.pblk_model.specs.Found.{IsUsed, HasUsed, live_unit, live_units, state_at}
 use Rattle.pblk_model.specs.Image.{Image, IsFit, is_online_in, line_units}
 use Rattle.pblk_laws.specs.LineBlocks.{chunk_in}
-use Rattle.pblk_laws.proofs.Lists.{all_at}
 use Rattle.pblk_world.specs.Lines.{is_empty_state, are_empty}
 use Rattle.found_laws.specs.Finding.{IsFoundOf, taken_state, taken_states}
-use Rattle.found_laws.proofs.Lists.{joined_at, joined_count, joined_of}
+use Rattle.found_laws.proofs.Lists.{joined_at, joined_count}
+use Rattle.lemmas.proofs.Maps.{all_flat_map}
+use Rattle.lemmas.proofs.Parts.{all_get}
 
 abbrev pub state_of : Chunk → ChunkState
 state_of c = taken_state c.state
@@ -53,8 +54,8 @@ none_open (c ∷ cs) = (not_open c.state, none_open cs)
 
 pub states_closed : (i : Image) (f : Found) (n : ℕ) → IsFoundOf i f → slice_get f.chunks n ≢ Some states.Open
 states_closed i f n is e =
-    all_at (λ (s : ChunkState). s ≢ states.Open) (taken_states i) n states.Open
-    (joined_of (λ (s : ChunkState). s ≢ states.Open) (map state_of) i.units none_open) (ap (λ cs. slice_get cs n) (sym is.chunks_are) ∙ e) refl
+    all_get (λ (s : ChunkState). s ≢ states.Open) (taken_states i) n states.Open
+    (all_flat_map (λ (s : ChunkState). s ≢ states.Open) (map state_of) i.units none_open) (ap (λ cs. slice_get cs n) (sym is.chunks_are) ∙ e) refl
 
 -- ---- the units of a line
 

@@ -10,6 +10,6 @@ abbrev pub seq_after : List LineRow → Option ℕ → ℕ
 seq_after lines None = 1
 seq_after lines (Some line) = option_map_or (λ seq. seq + 1) (option_and_then (λ row. row.seq) (slice_get lines line)) 1
 
--- at the end, with the sequence number after the head's, and the strays
+-- a mount begins at the end, with the sequence number after the head's, and with the strays
 abbrev pub beginning_of : Found → Beginning
 beginning_of f = record { first = f.end; seq = seq_after f.lines f.head; strays = f.strays }

@@ -28,7 +28,7 @@ winner_with lba r = record { lba = lba; position = r.position; line = r.line; at
 abbrev pub winner_of : Image → ℕ → Option Winner
 winner_of i lba = option_map (winner_with lba) (winner (counted i) lba)
 
--- a line's bound, by the head and the line's own start record: that of the head's row for it
+-- the bound of a line: that of the row which the head has for the line and its sequence number
 abbrev pub bound_with : Option StartRecord → ℕ → Option ℕ → ℕ
 bound_with None line seq = 0
 bound_with (Some h) line None = 0

@@ -1,10 +1,11 @@
-//! Laws on what recovery finds of an image, and on how a mount begins with it.
+//! Laws on what recovery finds of an image, as `specs/` defines it, and on how a mount begins with it.
 //!
-//! What is found stands in `specs/`.
+//! - What is found fits the shape of the drive, so a target can begin with it.
+//! - A mount may begin with it where no chunk is Open.
+//! - The media of a legal world are those of a drive of its shape, and the rows of older lines fit a start
+//!   record.
 #![tactic(auto)]
 
 mod laws;
-mod worlds;
 
-pub use laws::{a_mount_begins_with_what_is_found, chunks_are_found_by_line, what_is_found_fits};
-pub use worlds::{media_of_a_world_are_fit, older_rows_fit_a_start_record};
+pub use laws::{a_mount_begins_with_what_is_found, what_is_found_fits};

@@ -1,19 +1,14 @@
 -- What the finite map of a list of slots has at a sector.
-use Rattle.std.proofs.Common.{◌≡◌, ◌≢◌, ℕ, ◌+◌, ◌<◌, zero, suc, true, false, cond, eqb, Some, None, List, [], ◌∷◌, length, replicate, refl, sym, ap, ◌∙◌, arith}
+use Rattle.std.proofs.Common.{◌≡◌, ℕ, ◌+◌, ◌<◌, zero, suc, cond, eqb, Some, None, List, [], ◌∷◌, length, replicate, refl, sym, ap, ◌∙◌, arith}
 use Rattle.std.proofs.lemmas.Bool.Decides.{nat_tests}
 use Rattle.std.specs.List.{slice_get, slice_set, enumerate_from}
 use Rattle.std.specs.Option.{is_some}
-use Rattle.std.specs.Ordering.{nat_cmp, eq_by_cmp}
+use Rattle.std.specs.Ordering.{nat_cmp}
 use Rattle.std.specs.Cmp.{nat_cmp_total, unsigned_tied}
 use Rattle.std.specs.FinMap.{find, get, len, insert, from_entries, get-from_entries, get-insert, len-empty, len-insert, same_map, nat_cmp-IsAntisymmetric}
 use Rattle.l2p_map.specs.declared.slot.Slot.{Slot}
 use Rattle.l2p_map.specs.Sectors.{sectors}
-
-same_key : (q a : ℕ) → q ≡ a → eq_by_cmp nat_cmp q a ≡ true
-same_key q a e = unsigned_tied q a ∙ grind (arith, nat_tests)
-
-other_key : (q a : ℕ) → q ≢ a → eq_by_cmp nat_cmp q a ≡ false
-other_key q a e = unsigned_tied q a ∙ grind (arith, nat_tests)
+use Rattle.lemmas.proofs.Tests.{other_key, same_key}
 
 find_before : (slots : List Slot) (a q : ℕ) → q < a → find nat_cmp q (enumerate_from a slots) ≡ None
 find_before [] a q h = refl

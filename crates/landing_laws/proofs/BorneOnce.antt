@@ -23,16 +23,18 @@ use Rattle.pblk_world.proofs.Appending.{placements_more}
 use Rattle.core_laws.specs.PlacerOf.{positions_of}
 use Rattle.core_laws.specs.Positions.{AreNumbered, AreMarked}
 use Rattle.core_laws.specs.PlainWorlds.{is_plain_event, ArePlain, IsPlainWorld}
-use Rattle.core_laws.proofs.Lists.{filter_none, all_dropped, all_taken, all_replicated}
-use Rattle.core_laws.proofs.Rows.{other_number}
-use Rattle.core_laws.proofs.Placing.{not_below, weaker}
+use Rattle.core_laws.proofs.Placing.{not_below}
 use Rattle.core_laws.proofs.Numbering.{numbered_after}
 use Rattle.core_laws.proofs.KeptPositions.{marked_after}
-use Rattle.core_laws.proofs.PlacedPositions.{all_joined, unnamed}
+use Rattle.core_laws.proofs.PlacedPositions.{unnamed}
 use Rattle.landing_laws.proofs.Keeping.{IsKept, kept}
-use Rattle.landing_laws.proofs.Entries.{accepted_small}
 use Rattle.landing_laws.proofs.HeldOnce.{none_times_lost}
 use Rattle.landing_laws.proofs.SyncedWindow.{numbered_above}
+use Rattle.lemmas.proofs.Lists.{all_append, all_imply, all_replicated}
+use Rattle.lemmas.proofs.Maps.{fewer_taken, filter_none}
+use Rattle.lemmas.proofs.Parts.{all_dropped, all_taken}
+use Rattle.lemmas.proofs.Tests.{other_number}
+use Rattle.pblk_model.proofs.MarksLemmas.{accepted_small}
 
 unfoldable pub times : Shape → ℕ → List Block → ℕ
 times s q bs = length (filter (bears_position s q) bs)
@@ -50,7 +52,7 @@ none_by s b none = λ q. ap (λ c. c && (b.mark.position == q)) none
 
 no_times : (s : Shape) (q : ℕ) (bs : List Block) → AllByRecursion (BearsNone s) bs → times s q bs ≡ 0
 unfolding times
-no_times s q bs all = ap length (filter_none (bears_position s q) bs (weaker (BearsNone s) (λ (b : Block). bears_position s q b ≡ false) (λ b none. none q) bs all))
+no_times s q bs all = ap length (filter_none (bears_position s q) bs (all_imply (BearsNone s) (λ (b : Block). bears_position s q b ≡ false) (λ b none. none q) bs all))
 
 pub pads_none : (s : Shape) → s.capacity ≤ meta_lba → BearsNone s (pad_block s)
 pads_none s small = none_by s (pad_block s) (unnamed s (pad_block s).mark small (omega arith) (λ e. absurd (omega (arith, e))))
@@ -109,15 +111,6 @@ fewer_filtered {X} f g (x ∷ xs) = go (g x) (f x) refl (fewer_filtered f g xs)
     go true false e rest = subst (λ d. length (cond d (x ∷ filter f (filter g xs)) (filter f (filter g xs))) ≤ length (filter f xs)) (sym e) rest
     go false true e rest = omega arith
     go false false e rest = rest
-
-pub fewer_taken : {X : Type 0} (f : X → Bool) (n : ℕ) (xs : List X) → length (filter f (take n xs)) ≤ length (filter f xs)
-fewer_taken f zero xs = omega arith
-fewer_taken f (suc n) [] = omega arith
-fewer_taken {X} f (suc n) (x ∷ xs) = go (f x) (fewer_taken f n xs)
-  where
-    go : (b : Bool) → length (filter f (take n xs)) ≤ length (filter f xs) → length (cond b (x ∷ filter f (take n xs)) (filter f (take n xs))) ≤ length (cond b (x ∷ filter f xs) (filter f xs))
-    go true rest = omega arith
-    go false rest = rest
 
 -- none waits that was placed
 none_waits : (s : Shape) (log : List Logged) (t : Taken) → ArePlain log → (waits s log t && was_placed s log t) ≡ false
@@ -191,7 +184,7 @@ once_next : (i : Image) (known : Logs) (log : List Logged) (beginning : Begun) (
 once_next i known log beginning (Place stripe) knows small own may was =
     let l : Logged = record { event = Decides (Place stripe); knows = knows } in
     subst (AllByRecursion (λ (p : Placed). BearsOnce i.shape p.stripe.blocks)) (sym (placements_more log l))
-    (all_joined (λ (p : Placed). BearsOnce i.shape p.stripe.blocks) (placements log) (_ ∷ []) was.once
+    (all_append (λ (p : Placed). BearsOnce i.shape p.stripe.blocks) (placements log) (_ ∷ []) was.once
     (by_kind i known stripe may.opening small (subst ArePlain (sym own) was.plain) (subst AreNumbered (sym own) was.numbered) (subst AreMarked (sym own) was.marked) may.kind, tt))
 once_next i known log beginning e knows small own may was =
     let l : Logged = record { event = Decides e; knows = knows } in
@@ -202,7 +195,7 @@ once_kept i small = record {
   empty = record { plain = tt; numbered = refl; marked = tt; once = tt };
   first = λ known b knows may. record { plain = (refl, tt); numbered = refl; marked = tt; once = tt };
   next = λ known log beginning e knows begins own passes may was. record {
-    plain = all_joined (λ (l : Logged). is_plain_event l.event ≡ true) log (record { event = Decides e; knows = knows } ∷ []) was.plain (passes, tt);
+    plain = all_append (λ (l : Logged). is_plain_event l.event ≡ true) log (record { event = Decides e; knows = knows } ∷ []) was.plain (passes, tt);
     numbered = numbered_after i known log beginning e knows begins own may was.numbered;
     marked = marked_after i known log beginning e knows may was.marked;
     once = once_next i known log beginning e knows small own may was;

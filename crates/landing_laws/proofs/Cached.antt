@@ -1,7 +1,7 @@
 -- A sector that is in the buffer is in the window.
-use Rattle.std.proofs.Common.{◌≡◌, ◌⊎◌, inl, inr, ℕ, ◌+◌, ◌-◌, ◌<◌, ◌≤◌, ◌==◌, ◌||◌, zero, suc, Bool, true, false, cond, Some, None, Option, List, [], ◌∷◌, length, refl, sym, subst, ap, ◌∙◌, arith}
+use Rattle.std.proofs.Common.{◌≡◌, ◌⊎◌, inl, inr, ℕ, ◌+◌, ◌-◌, ◌<◌, ◌≤◌, ◌==◌, zero, suc, false, Some, None, Option, List, [], ◌∷◌, length, refl, sym, subst, ap, ◌∙◌, arith}
 use Rattle.std.specs.Prelude.{slice_get}
-use Rattle.std.specs.List.{filter, find, list_any, last_or, range_with_len}
+use Rattle.std.specs.List.{filter, find, last_or, range_with_len}
 use Rattle.std.specs.Option.{option_map_or}
 use Rattle.std.proofs.lemmas.Bool.{eqb-true}
 use Rattle.std.proofs.lemmas.Option.{same_Some, none-some, slice_get_within}
@@ -15,21 +15,14 @@ use Rattle.pblk_world.specs.Fronts.{first_position, taken, last_take}
 use Rattle.pblk_world.specs.Lines.{found_image}
 use Rattle.pblk_world.specs.Space.{gives_back, freed}
 use Rattle.l2p_map.specs.declared.slot.Slot.TheVariants.{Cached}
-use Rattle.stripe_placer.proofs.Among.{IsAmong, from_filter, later}
 use Rattle.core_laws.specs.PlacerOf.{positions_of}
 use Rattle.core_laws.specs.Positions.{AreNumbered}
 use Rattle.core_laws.specs.SlotOf.{media_of, slot_of_winner, slot_by, slot_of}
 use Rattle.core_laws.specs.WindowOf.{is_given_back}
 use Rattle.core_laws.proofs.Turns.{filtered_is}
 use Rattle.landing_laws.proofs.Least.{least_below}
-
-found_none : {X : Type 0} (test : X → Bool) (xs : List X) → find test xs ≡ None → list_any test xs ≡ false
-found_none test [] e = refl
-found_none {X} test (x ∷ xs) e = go (test x) e (found_none test xs)
-  where
-    go : (b : Bool) → cond b (Some x) (find test xs) ≡ None → (find test xs ≡ None → list_any test xs ≡ false) → (b || list_any test xs) ≡ false
-    go true f rest = absurd cc
-    go false f rest = rest f
+use Rattle.lemmas.proofs.Lists.{IsAmong, later}
+use Rattle.lemmas.proofs.Maps.{found_none, from_filter}
 
 same_cached : (p q : ℕ) → Cached p ≡ Cached q → p ≡ q
 same_cached p q e = cc

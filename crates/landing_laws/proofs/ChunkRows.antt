@@ -1,45 +1,19 @@
 -- The stripes of a chunk, of those of its line: every so many is one, and each is a stripe further.
 use Rattle.std.proofs.Common.{◌≡◌, ◌⊎◌, inl, inr, ℕ, ◌+◌, ◌*◌, ◌-◌, ◌/◌, ◌%◌, ◌<◌, ◌==◌, zero, suc, nat_eq, nat_lt, Bool, true, false, cond, Some, List, [], ◌∷◌, length, refl, sym, subst, ap, ap₂, ◌∙◌, arith, mod-lt, div-add-mod'}
-use Rattle.std.specs.Prelude.{slice_get, slice_index}
+use Rattle.std.specs.Prelude.{slice_get}
 use Rattle.std.specs.List.{filter}
 use Rattle.std.specs.List.Sorted.{IsStrictlyIncreasing}
 use Rattle.std.proofs.lemmas.Bool.{eqb-true, eqb-false, cases_order}
 use Rattle.std.proofs.lemmas.Nat.{div-mul-add, mod-mul-add}
-use Rattle.std.proofs.lemmas.Option.{same_Some, none-some, slice_get_within, get_or_from_slice_get}
+use Rattle.std.proofs.lemmas.Option.{same_Some, none-some, slice_get_within}
 use Rattle.pblk_model.specs.declared.shape.Shape.{Shape}
 use Rattle.pblk_world.specs.EngineLog.{Placed}
-use Rattle.stripe_placer.proofs.Chunks.{lt_yes as is_below}
 use Rattle.landing_laws.specs.ChunkBlocks.{IsStripeNumber}
 use Rattle.core_laws.proofs.Placing.{not_below}
+use Rattle.lemmas.proofs.Parts.{one_column}
+use Rattle.lemmas.proofs.Tests.{lt_true}
 
 -- ---- rising numbers differ
-
-rises_far : (xs : List ℕ) (a d : ℕ) → IsStrictlyIncreasing xs → a + suc d < length xs → slice_index xs a < slice_index xs (a + suc d)
-rises_far xs a zero rise inside =
-    let next : a + 1 ≡ a + suc 0 = omega arith in
-    subst (λ n. slice_index xs a < slice_index xs n) next (rise a (omega arith))
-rises_far xs a (suc d) rise inside =
-    let near : slice_index xs a < slice_index xs (a + suc d) = rises_far xs a d rise (omega arith) in
-    let step : slice_index xs (a + suc d) < slice_index xs (a + suc d + 1) = rise (a + suc d) (omega arith) in
-    let next : a + suc d + 1 ≡ a + suc (suc d) = omega arith in
-    subst (λ n. slice_index xs a < slice_index xs n) next (omega arith)
-
-not_less : (xs : List ℕ) (a b v : ℕ) → IsStrictlyIncreasing xs → slice_get xs a ≡ Some v → slice_get xs b ≡ Some v → a < b → ⊥
-not_less xs a b v rise first second below =
-    let inside : b < length xs = slice_get_within xs b v second in
-    let far : a + suc (b - a - 1) ≡ b = omega arith in
-    let more : slice_index xs a < slice_index xs b = subst (λ n. slice_index xs a < slice_index xs n) far (rises_far xs a (b - a - 1) rise (omega arith)) in
-    let one : slice_index xs a ≡ v = get_or_from_slice_get xs a v 0 first in
-    let other : slice_index xs b ≡ v = get_or_from_slice_get xs b v 0 second in
-    omega arith
-
-pub one_place : (xs : List ℕ) (a b v : ℕ) → IsStrictlyIncreasing xs → slice_get xs a ≡ Some v → slice_get xs b ≡ Some v → a ≡ b
-one_place xs a b v rise first second = go (cases_order a b)
-  where
-    go : (a ≡ b) ⊎ ((a < b) ⊎ (b < a)) → a ≡ b
-    go (inl same) = same
-    go (inr (inl below)) = absurd (not_less xs a b v rise first second below)
-    go (inr (inr above)) = absurd (not_less xs b a v rise second first above)
 
 -- ---- how many of the first j are in column c of g
 
@@ -84,7 +58,7 @@ next_before g c j some at = go (next_row g j some)
     go : ((j % g + 1 < g) × ((j + 1) / g ≡ j / g) × ((j + 1) % g ≡ j % g + 1)) ⊎ ((j % g + 1 ≡ g) × ((j + 1) / g ≡ j / g + 1) × ((j + 1) % g ≡ 0)) → before g c (j + 1) ≡ before g c j + 1
     go (inl is) =
         let column : (j + 1) % g ≡ j % g + 1 = is.2 in
-        ap₂ (λ q b. q + one_more b) is.1 (is_below c ((j + 1) % g) (omega arith)) ∙ ap (λ n. n + 1) (sym here)
+        ap₂ (λ q b. q + one_more b) is.1 (lt_true c ((j + 1) % g) (omega arith)) ∙ ap (λ n. n + 1) (sym here)
     go (inr is) =
         let column : (j + 1) % g ≡ 0 = is.2 in
         ap₂ (λ q b. q + one_more b) is.1 (not_below ((j + 1) % g) c (omega arith)) ∙ omega (arith, here)
@@ -98,13 +72,13 @@ other_before g c j some within apart = go (next_row g j some) (cases_order c (j 
     go is (inl same) = absurd (apart (sym same))
     go (inl is) (inr (inl below)) =
         let column : (j + 1) % g ≡ j % g + 1 = is.2 in
-        ap₂ (λ q b. q + one_more b) is.1 (is_below c ((j + 1) % g) (omega arith)) ∙ ap (λ b. j / g + one_more b) (sym (is_below c (j % g) below))
+        ap₂ (λ q b. q + one_more b) is.1 (lt_true c ((j + 1) % g) (omega arith)) ∙ ap (λ b. j / g + one_more b) (sym (lt_true c (j % g) below))
     go (inl is) (inr (inr above)) =
         let column : (j + 1) % g ≡ j % g + 1 = is.2 in
         ap₂ (λ q b. q + one_more b) is.1 (not_below ((j + 1) % g) c (omega arith)) ∙ ap (λ b. j / g + one_more b) (sym (not_below (j % g) c (omega arith)))
     go (inr is) (inr (inl below)) =
         let column : (j + 1) % g ≡ 0 = is.2 in
-        ap₂ (λ q b. q + one_more b) is.1 (not_below ((j + 1) % g) c (omega arith)) ∙ omega arith ∙ ap (λ b. j / g + one_more b) (sym (is_below c (j % g) below))
+        ap₂ (λ q b. q + one_more b) is.1 (not_below ((j + 1) % g) c (omega arith)) ∙ omega arith ∙ ap (λ b. j / g + one_more b) (sym (lt_true c (j % g) below))
     go (inr is) (inr (inr above)) = let last : j % g + 1 ≡ g = is.0 in absurd (omega arith)
 
 -- ---- the stripes of a unit
@@ -128,12 +102,12 @@ rows_from s us unit c j (r ∷ ps) rise its each k p e =
         → p.stripe.at ≡ (before (length us) c j + k) * s.ws_opt
     go true f zero h rest =
         let same : r ≡ p = same_Some r p h in
-        let column : j % length us ≡ c = one_place us (j % length us) c unit rise (first.unit ∙ ap (λ n. Some n) (eqb-true r.stripe.unit unit f)) its in
+        let column : j % length us ≡ c = one_column us (j % length us) c unit rise (first.unit ∙ ap (λ n. Some n) (eqb-true r.stripe.unit unit f)) its in
         let row : before (length us) c j ≡ j / length us = here_before (length us) c j column in
         let count : j / length us ≡ before (length us) c j + 0 = omega arith in
         ap (λ (x : Placed). x.stripe.at) (sym same) ∙ first.at ∙ ap (λ n. n * s.ws_opt) count
     go true f (suc k) h rest =
-        let column : j % length us ≡ c = one_place us (j % length us) c unit rise (first.unit ∙ ap (λ n. Some n) (eqb-true r.stripe.unit unit f)) its in
+        let column : j % length us ≡ c = one_column us (j % length us) c unit rise (first.unit ∙ ap (λ n. Some n) (eqb-true r.stripe.unit unit f)) its in
         let next : before (length us) c (j + 1) ≡ before (length us) c j + 1 = next_before (length us) c j (omega (arith, inside)) column in
         let count : before (length us) c (j + 1) + k ≡ before (length us) c j + suc k = omega arith in
         rest k h ∙ ap (λ n. n * s.ws_opt) count

@@ -1,24 +1,22 @@
 -- What a plain world took: users' entries, each with the mark of its sector, their positions in order.
-use Rattle.std.proofs.Common.{◌≡◌, ℕ, ◌<◌, ◌≤◌, ◌^◌, true, Some, None, Option, List, [], ◌∷◌, ◌++◌, refl, sym, subst, ap, ◌∙◌, arith, append-nil}
+use Rattle.std.proofs.Common.{◌≡◌, ℕ, ◌<◌, ◌≤◌, true, List, [], ◌∷◌, ◌++◌, refl, sym, subst, ◌∙◌, append-nil}
 use Rattle.std.specs.List.{AllByRecursion}
 use Rattle.pblk_model.specs.declared.shape.Shape.{Shape}
-use Rattle.pblk_model.specs.declared.chunk.Mark.{Mark}
-use Rattle.pblk_model.specs.Accepted.{IsAccepted}
 use Rattle.pblk_model.specs.Image.{Image}
 use Rattle.pblk_model.specs.Marks.{meta_lba}
-use Rattle.pblk_world.specs.Events.{EngineEvent, Source, Entry, Take, Decides, Logged}
+use Rattle.pblk_world.specs.Events.{EngineEvent, Take, Decides, Logged}
 use Rattle.pblk_world.specs.World.{World, Logs, log_of}
 use Rattle.pblk_world.specs.EngineLog.{Begun, Taken, takes}
 use Rattle.pblk_world.specs.Fronts.{is_users}
-use Rattle.pblk_world.specs.Taking.{IsMarked}
 use Rattle.pblk_world.specs.Legal.{IsLegal, IsDecision}
-use Rattle.pblk_world.proofs.Appending.{takes_more}
 use Rattle.core_laws.specs.Positions.{AreNumbered, AreMarked, AreTaken}
 use Rattle.core_laws.specs.PlainWorlds.{is_plain_event, is_plain_decision, IsPlainWorld}
 use Rattle.core_laws.proofs.Numbering.{numbered_after}
 use Rattle.core_laws.proofs.KeptPositions.{marked_after, taken_after}
-use Rattle.core_laws.proofs.PlacedPositions.{all_joined}
 use Rattle.landing_laws.proofs.Keeping.{IsKept, kept}
+use Rattle.lemmas.proofs.Lists.{all_append, all_true}
+use Rattle.pblk_world.proofs.EngineLogLemmas.{takes_more}
+use Rattle.pblk_world.proofs.TakingLemmas.{users_mark}
 
 -- the entry is a user's, with its sector's mark
 pub record IsUsers (s : Shape) (t : Taken) : Type 0 where
@@ -33,9 +31,6 @@ pub record AreInOrder (s : Shape) (log : List Logged) : Type 0 where
   pub marked : AreMarked log
   pub taken : AreTaken s log
 
-pub accepted_small : (s : Shape) → IsAccepted s → s.capacity ≤ meta_lba
-accepted_small s accepted = let small : s.capacity < 2 ^ 40 = accepted.target.capacity_number in omega arith
-
 order_kept : (i : Image) → i.shape.capacity ≤ meta_lba → IsKept i (λ e. true) (AreInOrder i.shape)
 order_kept i small = record {
   empty = record { numbered = refl; marked = tt; taken = tt };
@@ -47,25 +42,17 @@ order_kept i small = record {
   };
 }
 
-pub all_true : {X : Type 0} (xs : List X) → AllByRecursion (λ (x : X). true ≡ true) xs
-all_true [] = tt
-all_true (x ∷ xs) = (refl, all_true xs)
-
 pub in_order : (i : Image) (w : World) → i.shape.capacity ≤ meta_lba → IsLegal i w → AreInOrder i.shape (log_of w 0)
 in_order i w small legal = kept i (λ e. true) (AreInOrder i.shape) (order_kept i small) w legal (all_true (log_of w 0))
 
 -- ---- users' entries
-
-users_mark : (i : Image) (known : Logs) (entry : Entry) (mark : Mark) (source : Option Source) → is_users source ≡ true → IsMarked i known entry mark source → mark.lba ≡ entry.lba
-users_mark i known entry mark None passes is = ap (λ (m : Mark). m.lba) is
-users_mark i known entry mark (Some source) passes is = absurd cc
 
 users_next : (i : Image) (known : Logs) (log : List Logged) (beginning : Begun) (e : EngineEvent) (knows : List ℕ) → is_plain_decision e ≡ true → IsDecision i known beginning e
     → AllByRecursion (IsUsers i.shape) (takes log) → AllByRecursion (IsUsers i.shape) (takes (log ++ record { event = Decides e; knows = knows } ∷ []))
 users_next i known log beginning (Take entry mark) knows passes may was =
     let l : Logged = record { event = Decides (Take entry mark); knows = knows } in
     subst (AllByRecursion (IsUsers i.shape)) (sym (takes_more log l))
-    (all_joined (IsUsers i.shape) (takes log) (record { entry = entry; mark = mark } ∷ []) was
+    (all_append (IsUsers i.shape) (takes log) (record { entry = entry; mark = mark } ∷ []) was
     (record { users = passes; sector = users_mark i known entry mark entry.source passes may.marked; lba = may.lba }, tt))
 users_next i known log beginning e knows passes may was =
     let l : Logged = record { event = Decides e; knows = knows } in

@@ -5,21 +5,14 @@ use Rattle.std.specs.List.{AllByRecursion, find, list_any, flat_map, enumerate_f
 use Rattle.std.proofs.lemmas.Option.{same_Some, none-some}
 use Rattle.pblk_model.specs.Chunk.{Block}
 use Rattle.pblk_world.specs.EngineLog.{Placed}
-use Rattle.landing_laws.proofs.GivenBack.{IsAt, enumerate_append}
+use Rattle.landing_laws.proofs.GivenBack.{IsAt}
+use Rattle.lemmas.proofs.Maps.{enumerate_append}
 
 pub any_none : {X : Type 0} (f : X → Bool) (xs : List X) → list_any f xs ≡ false → find f xs ≡ None
 any_none f [] e = refl
 any_none {X} f (x ∷ xs) e = go (f x) e (any_none f xs)
   where
     go : (b : Bool) → (b || list_any f xs) ≡ false → (list_any f xs ≡ false → find f xs ≡ None) → cond b (Some x) (find f xs) ≡ None
-    go true g rest = absurd cc
-    go false g rest = rest g
-
-pub none_any : {X : Type 0} (f : X → Bool) (xs : List X) → find f xs ≡ None → list_any f xs ≡ false
-none_any f [] e = refl
-none_any {X} f (x ∷ xs) e = go (f x) e (none_any f xs)
-  where
-    go : (b : Bool) → cond b (Some x) (find f xs) ≡ None → (find f xs ≡ None → list_any f xs ≡ false) → (b || list_any f xs) ≡ false
     go true g rest = absurd cc
     go false g rest = rest g
 

@@ -19,15 +19,15 @@ use Rattle.pblk_world.specs.Placing.{next_address, end_address, end_record, IsSt
 use Rattle.pblk_world.specs.Legal.{IsLegal, IsDecision}
 use Rattle.pblk_world.proofs.Appending.{placements_more}
 use Rattle.core_laws.specs.Positions.{AreNumbered, AreMarked}
-use Rattle.core_laws.proofs.Lists.{all_filter, all_dropped, all_taken, zipped as mapped_both, all_replicated}
-use Rattle.core_laws.proofs.Placing.{weaker}
 use Rattle.core_laws.proofs.Numbering.{numbered_after, first_stays}
 use Rattle.core_laws.proofs.KeptPositions.{marked_after}
-use Rattle.core_laws.proofs.PlacedPositions.{all_joined}
-use Rattle.core_laws.proofs.Tests.{no_both as not_both, second_of as and_second}
 use Rattle.landing_laws.proofs.Keeping.{IsKept, kept}
 use Rattle.landing_laws.proofs.BorneOnce.{BearsNone, records_none, pads_none}
 use Rattle.landing_laws.proofs.SyncedWindow.{numbered_above}
+use Rattle.lemmas.proofs.Lists.{all_append, all_imply, all_replicated, all_true, zipped}
+use Rattle.lemmas.proofs.Maps.{all_filter}
+use Rattle.lemmas.proofs.Parts.{all_dropped, all_taken}
+use Rattle.lemmas.proofs.Tests.{no_both, second_of}
 
 abbrev BearsFrom : Shape → ℕ → Block → Type 0
 BearsFrom s n b = (q : ℕ) → bears_position s q b ≡ true → n ≤ q
@@ -41,10 +41,10 @@ holds_from s n (b ∷ bs) all q e = go (bears_position s q b) refl e (λ f. hold
     go false f g rest = rest g
 
 from_none : (s : Shape) (n : ℕ) (b : Block) → BearsNone s b → BearsFrom s n b
-from_none s n b none = λ q e. not_both (bears_position s q b) e (none q)
+from_none s n b none = λ q e. no_both (bears_position s q b) e (none q)
 
 part_from : (s : Shape) (n seq count : ℕ) (bytes : List ℕ) (from to : ℕ) → s.capacity ≤ meta_lba → AllByRecursion (BearsFrom s n) (slice_range (record_blocks s seq count bytes) from to)
-part_from s n seq count bytes from to small = weaker (BearsNone s) (BearsFrom s n) (from_none s n) (slice_range (record_blocks s seq count bytes) from to)
+part_from s n seq count bytes from to small = all_imply (BearsNone s) (BearsFrom s n) (from_none s n) (slice_range (record_blocks s seq count bytes) from to)
     (all_taken (BearsNone s) (to - from) (drop from (record_blocks s seq count bytes)) (all_dropped (BearsNone s) from (record_blocks s seq count bytes) (records_none s s.sector seq count bytes small)))
 
 -- an entry's mark is from the first position on
@@ -52,25 +52,25 @@ abbrev IsFrom : ℕ → Taken → Type 0
 IsFrom n t = n ≤ t.mark.position
 
 entry_from : (s : Shape) (n : ℕ) (t : Taken) → IsFrom n t → BearsFrom s n (block_of_taken t)
-entry_from s n t above = λ q e. let same : t.mark.position ≡ q = eqb-true t.mark.position q (and_second (is_some (named s t.mark)) (t.mark.position == q) e) in omega arith
+entry_from s n t above = λ q e. let same : t.mark.position ≡ q = eqb-true t.mark.position q (second_of (is_some (named s t.mark)) (t.mark.position == q) e) in omega arith
 
 all_mapped : (s : Shape) (n : ℕ) (ts : List Taken) → AllByRecursion (IsFrom n) ts → AllByRecursion (BearsFrom s n) (map block_of_taken ts)
 all_mapped s n [] all = tt
 all_mapped s n (t ∷ ts) all = (entry_from s n t all.0, all_mapped s n ts all.1)
 
 takes_from : (log : List Logged) → AreNumbered log → AreMarked log → AllByRecursion (IsFrom (first_position log)) (takes log)
-takes_from log numbered marked = mapped_both (λ (t : Taken). first_position log ≤ t.entry.position) (λ (t : Taken). t.mark.position ≡ t.entry.position) (IsFrom (first_position log))
+takes_from log numbered marked = zipped (λ (t : Taken). first_position log ≤ t.entry.position) (λ (t : Taken). t.mark.position ≡ t.entry.position) (IsFrom (first_position log))
     (λ t a b. omega arith) (takes log) (numbered_above (first_position log) (takes log) numbered) marked
 
 data_from : (s : Shape) (log : List Logged) → s.capacity ≤ meta_lba → AreNumbered log → AreMarked log → AllByRecursion (BearsFrom s (first_position log)) (data_blocks s log)
 data_from s log small numbered marked =
     let n : ℕ = first_position log in
     let all : AllByRecursion (IsFrom (first_position log)) (waiting s log) =
-    all_joined (IsFrom (first_position log)) (filter (λ t. waits s log t && was_placed s log t) (takes log)) (filter (λ t. not (was_placed s log t)) (takes log))
+    all_append (IsFrom (first_position log)) (filter (λ t. waits s log t && was_placed s log t) (takes log)) (filter (λ t. not (was_placed s log t)) (takes log))
     (all_filter (IsFrom (first_position log)) (λ t. waits s log t && was_placed s log t) (takes log) (takes_from log numbered marked))
     (all_filter (IsFrom (first_position log)) (λ t. not (was_placed s log t)) (takes log) (takes_from log numbered marked)) in
     let bs : List Block = map block_of_taken (take s.ws_opt (waiting s log)) in
-    all_joined (BearsFrom s n) bs (replicate (s.ws_opt - length bs) (pad_block s))
+    all_append (BearsFrom s n) bs (replicate (s.ws_opt - length bs) (pad_block s))
     (all_mapped s n (take s.ws_opt (waiting s log)) (all_taken (IsFrom (first_position log)) s.ws_opt (waiting s log) all))
     (all_replicated (BearsFrom s n) (s.ws_opt - length bs) (pad_block s) (from_none s n (pad_block s) (pads_none s small)))
 
@@ -102,7 +102,7 @@ from_next i known log beginning (Place stripe) knows small begins own may was =
     (by_kind i known stripe may.opening small (subst AreNumbered (sym own) was.numbered) (subst AreMarked (sym own) was.marked) may.kind) q e in
     omega arith in
     subst (AllByRecursion (λ (p : Placed). (q : ℕ) → holds_position i.shape q p ≡ true → first_position (log ++ l ∷ []) ≤ q)) (sym (placements_more log l))
-    (all_joined (λ (p : Placed). (q : ℕ) → holds_position i.shape q p ≡ true → first_position (log ++ l ∷ []) ≤ q) (placements log) (_ ∷ [])
+    (all_append (λ (p : Placed). (q : ℕ) → holds_position i.shape q p ≡ true → first_position (log ++ l ∷ []) ≤ q) (placements log) (_ ∷ [])
     (subst (λ n. AllByRecursion (λ (p : Placed). (q : ℕ) → holds_position i.shape q p ≡ true → n ≤ q) (placements log)) (sym (first_stays log l beginning begins)) was.from) (new, tt))
 from_next i known log beginning e knows small begins own may was =
     let l : Logged = record { event = Decides e; knows = knows } in
@@ -119,10 +119,6 @@ from_kept i small = record {
     from = from_next i known log beginning e knows small begins own may was;
   };
 }
-
-all_true : {X : Type 0} (xs : List X) → AllByRecursion (λ (x : X). true ≡ true) xs
-all_true [] = tt
-all_true (x ∷ xs) = (refl, all_true xs)
 
 pub placed_from : (i : Image) (w : World) → i.shape.capacity ≤ meta_lba → IsLegal i w → AreFrom i.shape (log_of w 0)
 placed_from i w small legal = (kept i (λ e. true) (IsFromFirst i.shape) (from_kept i small) w legal (all_true (log_of w 0))).from

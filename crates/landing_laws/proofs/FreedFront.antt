@@ -1,29 +1,24 @@
 -- The front freed in a plain world.
-use Rattle.std.proofs.Common.{◌≡◌, ◌⊎◌, inl, inr, ℕ, ◌+◌, ◌<◌, ◌≤◌, ◌==◌, true, false, Some, None, List, [], ◌∷◌, ◌++◌, length, refl, sym, subst, ap, ◌∙◌, arith, append-nil, length-append}
+use Rattle.std.proofs.Common.{◌≡◌, ◌⊎◌, inl, inr, ℕ, ◌+◌, ◌<◌, ◌≤◌, ◌==◌, true, false, Some, None, List, [], ◌∷◌, ◌++◌, length, refl, sym, subst, ap, ◌∙◌, arith, append-nil}
 use Rattle.std.specs.List.{AllByRecursion}
-use Rattle.std.specs.Option.{option_to_list}
 use Rattle.std.proofs.lemmas.Bool.{cases_order}
 use Rattle.pblk_model.specs.declared.shape.Shape.{Shape}
 use Rattle.pblk_model.specs.Contents.{least_missing}
 use Rattle.pblk_model.specs.Image.{Image}
 use Rattle.pblk_world.specs.Events.{EngineEvent, Begin, Take, Open, Place, Landed, Lost, Again, ResetDone, Free, Decides, Logged}
 use Rattle.pblk_world.specs.World.{World, Logs, log_of}
-use Rattle.pblk_world.specs.EngineLog.{Begun, begun_by, Opened, life_of, Opening, takes, taken_by, Placed, placements, placed_on, answers}
+use Rattle.pblk_world.specs.EngineLog.{Begun, begun_by, Opened, life_of, Opening, takes, Placed, placements, placed_on, answers}
 use Rattle.pblk_world.specs.Fronts.{first_position, taken}
 use Rattle.pblk_world.specs.Space.{freed}
 use Rattle.pblk_world.specs.Legal.{IsLegal, IsDecision}
-use Rattle.pblk_world.proofs.Appending.{takes_more, placements_more}
+use Rattle.pblk_world.proofs.Appending.{placements_more}
 use Rattle.pblk_world.proofs.Answered.{answers_fit}
-use Rattle.stripe_placer.proofs.Among.{IsAmong, from_filter}
 use Rattle.core_laws.specs.PlacerOf.{unanswered_on}
 use Rattle.core_laws.specs.PlainWorlds.{is_plain_decision, IsPlainWorld}
 use Rattle.core_laws.specs.Stepping.{after}
 use Rattle.core_laws.specs.WindowOf.{is_given_back}
-use Rattle.core_laws.proofs.Lists.{all_at, got_within as some_at}
 use Rattle.core_laws.proofs.Placing.{new_placed, placements_now}
-use Rattle.core_laws.proofs.PlacedPositions.{all_joined}
 use Rattle.core_laws.proofs.Taking.{alike}
-use Rattle.core_laws.proofs.Tests.{no_both as not_both, or_left}
 use Rattle.landing_laws.specs.ChunkBlocks.{can_be_read, AreInRows}
 use Rattle.landing_laws.proofs.Keeping.{IsKept, kept}
 use Rattle.landing_laws.proofs.Least.{IsLeast, least, least_rises, least_below}
@@ -31,6 +26,11 @@ use Rattle.landing_laws.proofs.LandedWindow.{given_back_landed}
 use Rattle.landing_laws.proofs.QuietEvents.{alike_kept, quiet_alike, open_is_quiet, reset_is_quiet, place_kept}
 use Rattle.landing_laws.proofs.Slots.{first_kept}
 use Rattle.landing_laws.proofs.Untouched.{AreKept, given_kept}
+use Rattle.lemmas.proofs.Lists.{IsAmong, all_append, all_true}
+use Rattle.lemmas.proofs.Maps.{from_filter}
+use Rattle.lemmas.proofs.Parts.{all_at, got_within}
+use Rattle.lemmas.proofs.Tests.{no_both, or_left}
+use Rattle.pblk_world.proofs.EngineLogLemmas.{takes_grow}
 
 -- ---- each stripe was placed in an opened line
 
@@ -42,7 +42,7 @@ opening_next : (i : Image) (known : Logs) (log : List Logged) (beginning : Begun
 opening_next i known log beginning (Place stripe) knows own may was =
     let opened : life_of log stripe.line ≡ Opened may.opening = ap (λ (xs : List Logged). life_of xs stripe.line) (sym own) ∙ may.is_open in
     subst (AllByRecursion IsOfOpening) (sym (placements_now log stripe knows may.opening opened))
-    (all_joined IsOfOpening (placements log) (new_placed log stripe may.opening ∷ []) was ((may.opening, refl), tt))
+    (all_append IsOfOpening (placements log) (new_placed log stripe may.opening ∷ []) was ((may.opening, refl), tt))
 opening_next i known log beginning e knows own may was =
     let l : Logged = record { event = Decides e; knows = knows } in
     subst (AllByRecursion IsOfOpening) (sym (placements_more log l ∙ append-nil (placements log))) was
@@ -53,10 +53,6 @@ opening_kept i = record {
   first = λ known b knows may. tt;
   next = λ known log beginning e knows begins own passes may was. opening_next i known log beginning e knows own may was;
 }
-
-all_true : {X : Type 0} (xs : List X) → AllByRecursion (λ (x : X). true ≡ true) xs
-all_true [] = tt
-all_true (x ∷ xs) = (refl, all_true xs)
 
 pub its_opening : (i : Image) (w : World) (unit : ℕ) (p : Placed) → IsLegal i w → unanswered_on (log_of w 0) unit ≡ Some p → (o : Opening) × (p.life ≡ Opened o)
 its_opening i w unit p legal waits =
@@ -72,11 +68,6 @@ freed_by s log new first more keeps =
     subst (λ n. freed s log ≤ least_missing (is_given_back s new) (length (takes new)) n) (sym first)
     (least_rises (is_given_back s log) (is_given_back s new) (length (takes log)) (length (takes new)) (first_position log) keeps more)
 
-takes_grow : (log : List Logged) (l : Logged) → length (takes log) ≤ length (takes (log ++ l ∷ []))
-takes_grow log l =
-    let count : length (takes (log ++ l ∷ [])) ≡ length (takes log) + length (option_to_list (taken_by l.event)) = ap length (takes_more log l) ∙ length-append (takes log) (option_to_list (taken_by l.event)) in
-    omega arith
-
 by_kept : (s : Shape) (log : List Logged) (e : EngineEvent) (knows : List ℕ) → begun_by knows (Decides e) ≡ None → AreKept log (log ++ record { event = Decides e; knows = knows } ∷ []) → freed s log ≤ freed s (log ++ record { event = Decides e; knows = knows } ∷ [])
 by_kept s log e knows none kept =
     let l : Logged = record { event = Decides e; knows = knows } in
@@ -91,7 +82,7 @@ freed_rises i known w beginning (Place stripe) knows plain rows own passes may =
     (place_kept (log_of w 0) stripe knows may.opening (ap (λ log. life_of log stripe.line) (sym own) ∙ may.is_open) (answers_fit i w stripe.unit plain.legal))
 freed_rises i known w beginning (Landed unit event) knows plain rows own passes may =
     let inside : length (answers (log_of w 0) unit) < length (placed_on (log_of w 0) unit) = subst (λ (xs : List Logged). length (answers xs unit) < length (placed_on xs unit)) own may.stripe.placed in
-    let waits : (p : Placed) × (unanswered_on (log_of w 0) unit ≡ Some p) = some_at (placed_on (log_of w 0) unit) (length (answers (log_of w 0) unit)) inside in
+    let waits : (p : Placed) × (unanswered_on (log_of w 0) unit ≡ Some p) = got_within (placed_on (log_of w 0) unit) (length (answers (log_of w 0) unit)) inside in
     let its : (o : Opening) × (waits.0.life ≡ Opened o) = its_opening i w unit waits.0 plain.legal waits.1 in
     let l : Logged = record { event = Decides (Landed unit event); knows = knows } in
     freed_by i.shape (log_of w 0) (after (log_of w) (Landed unit event) knows 0) (first_kept (log_of w 0) (Landed unit event) knows refl) (takes_grow (log_of w 0) l)
@@ -107,7 +98,7 @@ pub freed_past : (s : Shape) (log : List Logged) (from : ℕ) → from ≤ freed
 freed_past s log from below inside given = go (cases_order from (freed s log)) (least (is_given_back s log) (length (takes log)) (first_position log))
   where
     go : (from ≡ freed s log) ⊎ ((from < freed s log) ⊎ (freed s log < from)) → IsLeast (is_given_back s log) (length (takes log)) (first_position log) (freed s log) → from + 1 ≤ freed s log
-    go (inl same) is = not_both (is_given_back s log from) given (ap (is_given_back s log) same ∙ is.missing (let here : from < first_position log + length (takes log) = inside in omega arith))
+    go (inl same) is = no_both (is_given_back s log from) given (ap (is_given_back s log) same ∙ is.missing (let here : from < first_position log + length (takes log) = inside in omega arith))
     go (inr (inl less)) is = omega arith
     go (inr (inr more)) is = absurd (omega arith)
 

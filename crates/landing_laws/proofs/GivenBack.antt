@@ -8,14 +8,15 @@ use Rattle.pblk_model.specs.Chunk.{Block}
 use Rattle.pblk_world.specs.Events.{Logged}
 use Rattle.pblk_world.specs.EngineLog.{LineLife, AsFound, Opened, Freed, is_life, Opening, Placed, placements, placed_on, stripes_on, answers, has_landed, bears_position}
 use Rattle.pblk_world.specs.Space.{is_readable_in, gives_back}
-use Rattle.stripe_placer.proofs.Among.{IsAmong, in_filter}
 use Rattle.core_laws.specs.PlainWorlds.{ArePlain}
-use Rattle.core_laws.proofs.Lists.{all_at}
-use Rattle.core_laws.proofs.Rows.{same_number}
 use Rattle.core_laws.proofs.TakenSlots.{any_same}
 use Rattle.landing_laws.specs.ChunkBlocks.{AreInRows}
 use Rattle.landing_laws.proofs.LandedStripe.{IsOneMore}
 use Rattle.landing_laws.proofs.PlainStripes.{unit_landed}
+use Rattle.lemmas.proofs.Lists.{IsAmong}
+use Rattle.lemmas.proofs.Maps.{enumerate_append, in_filter}
+use Rattle.lemmas.proofs.Parts.{all_at}
+use Rattle.lemmas.proofs.Tests.{same_number}
 
 -- ---- the blocks of a chunk
 
@@ -26,13 +27,6 @@ any_append f (x ∷ xs) ys = go (f x) (any_append f xs ys)
     go : (b : Bool) → list_any f (xs ++ ys) ≡ (list_any f xs || list_any f ys) → (b || list_any f (xs ++ ys)) ≡ ((b || list_any f xs) || list_any f ys)
     go true rest = refl
     go false rest = rest
-
-pub enumerate_append : {X : Type 0} (n : ℕ) (xs ys : List X) → enumerate_from n (xs ++ ys) ≡ enumerate_from n xs ++ enumerate_from (n + length xs) ys
-enumerate_append n [] ys = let same : n ≡ n + 0 = omega arith in ap (λ m. enumerate_from m ys) same
-enumerate_append {X} n (x ∷ xs) ys =
-    let next : n + 1 + length xs ≡ n + suc (length xs) = omega arith in
-    let head : ℕ × X = (n, x) in
-    ap (λ es. head ∷ es) (enumerate_append (n + 1) xs ys ∙ ap (λ m. enumerate_from (n + 1) xs ++ enumerate_from m ys) next)
 
 -- a stripe of so many blocks, that many after another
 abbrev pub IsAt : ℕ → ℕ → ℕ → Placed → Type 0

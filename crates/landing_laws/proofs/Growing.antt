@@ -10,14 +10,17 @@ use Rattle.pblk_world.specs.Events.{Event, Logged}
 use Rattle.pblk_world.specs.EngineLog.{takes, taken_by, Placed, placed_by, placements, placed_on, Answer, answers, answer_by, answer_of, turn, is_land, has_landed, bears_position, holds_position}
 use Rattle.pblk_world.specs.Fronts.{first_position, taken, has_landed_at, synced}
 use Rattle.pblk_world.specs.Space.{is_readable_in, gives_back, freed}
-use Rattle.pblk_world.proofs.Appending.{takes_more, answers_more, placements_more}
+use Rattle.pblk_world.proofs.Appending.{placements_more}
 use Rattle.pblk_world.proofs.SyncedFront.{synced_within}
 use Rattle.core_laws.specs.WindowOf.{is_given_back}
-use Rattle.core_laws.proofs.Lists.{all_filter, filter_none, get_more as get_before, all_of as each}
 use Rattle.core_laws.proofs.Engine.{placed_number, placements_before}
-use Rattle.core_laws.proofs.Placing.{not_below, weaker}
-use Rattle.core_laws.proofs.Tests.{first_of as and_first, second_of as and_second, and_both}
+use Rattle.core_laws.proofs.Placing.{not_below}
 use Rattle.landing_laws.proofs.Least.{least_rises}
+use Rattle.lemmas.proofs.Lists.{all_imply, all_of}
+use Rattle.lemmas.proofs.Maps.{all_filter, filter_none}
+use Rattle.lemmas.proofs.Parts.{get_more}
+use Rattle.lemmas.proofs.Tests.{and_both, first_of, second_of}
+use Rattle.pblk_world.proofs.EngineLogLemmas.{answers_more, takes_more}
 
 more_numbers : (log : List Logged) (e : Event) (n : ℕ) → n < length log → AllByRecursion (λ (q : Placed). nat_lt q.number n ≡ false) (option_to_list (placed_by log (length log) e))
 more_numbers log e n before = go (placed_by log (length log) e) refl
@@ -41,7 +44,7 @@ turn_grown log l r before =
 pub answer_grown : (log : List Logged) (l : Logged) (r : Placed) (a : Answer) → r.number < length log → answer_of log r ≡ Some a → answer_of (log ++ l ∷ []) r ≡ Some a
 answer_grown log l r a before is =
     ap₂ (λ (xs : List Answer) n. slice_get xs n) (answers_more log l r.stripe.unit) (turn_grown log l r before)
-    ∙ get_before (answers log r.stripe.unit) (option_to_list (answer_by r.stripe.unit l.event)) (turn log r) a is
+    ∙ get_more (answers log r.stripe.unit) (option_to_list (answer_by r.stripe.unit l.event)) (turn log r) a is
 
 landed_grown : (log : List Logged) (l : Logged) (r : Placed) → r.number < length log → has_landed log r ≡ true → has_landed (log ++ l ∷ []) r ≡ true
 landed_grown log l r before e = go (answer_of log r) refl e
@@ -80,8 +83,8 @@ landed_at_grown s log l q e =
     ap (λ ps. list_any (λ r. has_landed (log ++ l ∷ []) r && holds_position s q r) ps) (placements_more log l)
     ∙ any_joined (λ r. has_landed new r && holds_position s q r) (placements log) (option_to_list (placed_by log (length log) l.event))
     (any_weaker (λ r. has_landed log r && holds_position s q r) (λ r. has_landed new r && holds_position s q r) (placements log)
-    (weaker (λ (r : Placed). r.number < length log) (λ (r : Placed). (has_landed log r && holds_position s q r) ≡ true → (has_landed new r && holds_position s q r) ≡ true)
-    (λ r before f. and_both (has_landed new r) (holds_position s q r) (landed_grown log l r before (and_first (has_landed log r) (holds_position s q r) f)) (and_second (has_landed log r) (holds_position s q r) f))
+    (all_imply (λ (r : Placed). r.number < length log) (λ (r : Placed). (has_landed log r && holds_position s q r) ≡ true → (has_landed new r && holds_position s q r) ≡ true)
+    (λ r before f. and_both (has_landed new r) (holds_position s q r) (landed_grown log l r before (first_of (has_landed log r) (holds_position s q r) f)) (second_of (has_landed log r) (holds_position s q r) f))
     (placements log) (placements_before log)) e)
 
 pub synced_grown : (s : Shape) (log : List Logged) (l : Logged) → synced s log ≤ synced s (log ++ l ∷ [])
@@ -106,13 +109,13 @@ pub given_holds : (s : Shape) (log : List Logged) (q : ℕ) (r : Placed) → giv
 given_holds s log q r e =
     let test : ℕ × Block → Bool = λ b. bears_position s q b.1 && is_readable_in s log r.stripe.unit b.0 r.life in
     and_both (has_landed log r) (holds_position s q r)
-    (and_first (has_landed log r) (list_any (λ (b : ℕ × Block). bears_position s q b.1 && is_readable_in s log r.stripe.unit b.0 r.life) (enumerate_from r.stripe.at r.stripe.blocks)) e)
+    (first_of (has_landed log r) (list_any (λ (b : ℕ × Block). bears_position s q b.1 && is_readable_in s log r.stripe.unit b.0 r.life) (enumerate_from r.stripe.at r.stripe.blocks)) e)
     (readable_bears (bears_position s q) (λ b. is_readable_in s log r.stripe.unit b.0 r.life) r.stripe.at r.stripe.blocks
-    (and_second (has_landed log r) (list_any (λ (b : ℕ × Block). bears_position s q b.1 && is_readable_in s log r.stripe.unit b.0 r.life) (enumerate_from r.stripe.at r.stripe.blocks)) e))
+    (second_of (has_landed log r) (list_any (λ (b : ℕ × Block). bears_position s q b.1 && is_readable_in s log r.stripe.unit b.0 r.life) (enumerate_from r.stripe.at r.stripe.blocks)) e))
 
 pub given_landed : (s : Shape) (log : List Logged) (q : ℕ) → is_given_back s log q ≡ true → has_landed_at s log q ≡ true
 given_landed s log q e = any_weaker (gives_back s log q) (λ r. has_landed log r && holds_position s q r) (placements log)
-    (each (λ (r : Placed). gives_back s log q r ≡ true → (has_landed log r && holds_position s q r) ≡ true) (given_holds s log q) (placements log)) e
+    (all_of (λ (r : Placed). gives_back s log q r ≡ true → (has_landed log r && holds_position s q r) ≡ true) (given_holds s log q) (placements log)) e
 
 pub freed_within : (s : Shape) (log : List Logged) → freed s log ≤ synced s log
 freed_within s log = least_rises (is_given_back s log) (has_landed_at s log) (length (takes log)) (length (takes log)) (first_position log) (given_landed s log) (omega arith)

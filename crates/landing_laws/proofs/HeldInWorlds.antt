@@ -6,14 +6,12 @@ use Rattle.pblk_world.specs.World.{World, log_of}
 use Rattle.pblk_world.specs.EngineLog.{Opened, Opening, takes, is_land, Placed, placements, stripes_on, bears_position, holds_position}
 use Rattle.pblk_world.specs.Fronts.{first_position, taken, has_landed_at}
 use Rattle.pblk_world.specs.Space.{freed}
-use Rattle.stripe_placer.proofs.Among.{IsAmong}
 use Rattle.core_laws.specs.PlacerOf.{unanswered_on}
 use Rattle.core_laws.specs.PlainWorlds.{IsPlainWorld}
 use Rattle.core_laws.specs.WindowOf.{is_given_back}
-use Rattle.core_laws.proofs.Lists.{all_at}
 use Rattle.core_laws.proofs.Answered.{first_unanswered}
 use Rattle.landing_laws.specs.ChunkBlocks.{newly_readable, chunk_blocks, AreInRows}
-use Rattle.landing_laws.proofs.Entries.{AreInOrder, in_order, accepted_small}
+use Rattle.landing_laws.proofs.Entries.{AreInOrder, in_order}
 use Rattle.landing_laws.proofs.Least.{least_below}
 use Rattle.landing_laws.proofs.LandedStripe.{with_landing, one_more}
 use Rattle.landing_laws.proofs.LandedWindow.{landed_now}
@@ -23,6 +21,9 @@ use Rattle.landing_laws.proofs.BorneOnce.{borne_once}
 use Rattle.landing_laws.proofs.FirstPositions.{placed_from}
 use Rattle.landing_laws.proofs.NewWindow.{newest_in}
 use Rattle.landing_laws.proofs.NewlyHeld.{any_stripe, member_of, any_part, own_kept, newly_kept, newly_landed}
+use Rattle.lemmas.proofs.Lists.{IsAmong}
+use Rattle.lemmas.proofs.Parts.{all_at}
+use Rattle.pblk_model.proofs.MarksLemmas.{accepted_small}
 
 -- a position that a stripe holds was taken in this mount
 pub held_taken : (i : Image) (w : World) (q : ℕ) (r : Placed) → IsPlainWorld i w → IsAmong (placements (log_of w 0)) r → holds_position i.shape q r ≡ true → (first_position (log_of w 0) ≤ q) × (q < taken (log_of w 0))

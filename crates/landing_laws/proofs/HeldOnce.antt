@@ -22,19 +22,17 @@ use Rattle.pblk_world.specs.Fronts.{times_placed, times_lost, waits, was_placed,
 use Rattle.pblk_world.specs.Placing.{next_address, end_address, end_record, IsStart, IsData, IsEnd, IsPad, data_blocks, record_blocks}
 use Rattle.pblk_world.specs.Legal.{IsDecision}
 use Rattle.pblk_world.proofs.Appending.{placements_more}
-use Rattle.stripe_placer.proofs.Among.{IsAmong, in_filter}
-use Rattle.stripe_placer.proofs.Chunks.{lt_yes as is_below}
 use Rattle.core_laws.specs.Positions.{AreMarked}
 use Rattle.core_laws.specs.PlainWorlds.{is_plain_event, ArePlain, IsPlainWorld}
-use Rattle.core_laws.proofs.Lists.{all_filter, filter_none, all_dropped, all_taken, all_mapped, zipped as mapped_both, all_replicated}
-use Rattle.core_laws.proofs.Placing.{weaker}
 use Rattle.core_laws.proofs.KeptPositions.{marked_after}
-use Rattle.core_laws.proofs.PlacedPositions.{all_joined, unnamed}
-use Rattle.core_laws.proofs.Tests.{first_of as and_first, second_of as and_second}
-use Rattle.core_laws.proofs.PlacedLines.{passes as pass_filter}
+use Rattle.core_laws.proofs.PlacedPositions.{unnamed}
 use Rattle.landing_laws.proofs.Keeping.{IsKept, kept}
-use Rattle.landing_laws.proofs.Entries.{accepted_small}
-use Rattle.landing_laws.proofs.PlainStripes.{plain_not_lost}
+use Rattle.core_laws.proofs.PlainWorldsLemmas.{not_lost}
+use Rattle.lemmas.proofs.Lists.{IsAmong, all_append, all_imply, all_replicated, zipped}
+use Rattle.lemmas.proofs.Maps.{all_filter, all_mapped, all_passed, filter_none, in_filter}
+use Rattle.lemmas.proofs.Parts.{all_dropped, all_taken}
+use Rattle.lemmas.proofs.Tests.{first_of, lt_true, second_of}
+use Rattle.pblk_model.proofs.MarksLemmas.{accepted_small}
 
 -- how many stripes hold a position
 abbrev pub holders : Shape → List Logged → ℕ → ℕ
@@ -57,7 +55,7 @@ holds_fresh s log (b ∷ bs) all q e = go (bears_position s q b) refl e (λ f. h
     go false f g rest = rest g
 
 bears_none : (s : Shape) (log : List Logged) (b : Block) → is_some (named s b.mark) ≡ false → BearsFresh s log b
-bears_none s log b none = λ q e. let some : is_some (named s b.mark) ≡ true = and_first (is_some (named s b.mark)) (b.mark.position == q) e in absurd cc
+bears_none s log b none = λ q e. let some : is_some (named s b.mark) ≡ true = first_of (is_some (named s b.mark)) (b.mark.position == q) e in absurd cc
 
 pads_fresh : (s : Shape) (log : List Logged) → s.capacity ≤ meta_lba → BearsFresh s log (pad_block s)
 pads_fresh s log small = bears_none s log (pad_block s) (unnamed s (pad_block s).mark small (omega arith) (λ e. absurd (omega (arith, e))))
@@ -79,7 +77,7 @@ none_times_lost s log t plain = ap length (filter_none (λ p. was_lost log p && 
   where
     each : (ps : List Placed) → AllByRecursion (λ (p : Placed). (was_lost log p && holds_position s t.entry.position p) ≡ false) ps
     each [] = tt
-    each (p ∷ ps) = (ap (λ b. b && holds_position s t.entry.position p) (plain_not_lost log p plain), each ps)
+    each (p ∷ ps) = (ap (λ b. b && holds_position s t.entry.position p) (not_lost log p plain), each ps)
 
 -- an entry that waits, with its position in its mark
 abbrev IsWaiting : Shape → List Logged → Taken → Type 0
@@ -87,30 +85,30 @@ IsWaiting s log t = (waits s log t ≡ true) × (t.mark.position ≡ t.entry.pos
 
 entry_fresh : (s : Shape) (log : List Logged) (t : Taken) → ArePlain log → IsWaiting s log t → BearsFresh s log (block_of_taken t)
 entry_fresh s log t plain is = λ q e.
-    let same : t.mark.position ≡ q = eqb-true t.mark.position q (and_second (is_some (named s t.mark)) (t.mark.position == q) e) in
+    let same : t.mark.position ≡ q = eqb-true t.mark.position q (second_of (is_some (named s t.mark)) (t.mark.position == q) e) in
     let none : times_placed s log t ≡ 0 = eqb-true (times_placed s log t) (times_lost s log t) is.0 ∙ none_times_lost s log t plain in
     ap (holders s log) (sym same ∙ is.1) ∙ none
 
 waiting_all : (s : Shape) (log : List Logged) → ArePlain log → AreMarked log → AllByRecursion (IsWaiting s log) (waiting s log)
 waiting_all s log plain marked =
-    all_joined (IsWaiting s log) (filter (λ t. waits s log t && was_placed s log t) (takes log)) (filter (λ t. not (was_placed s log t)) (takes log))
-    (mapped_both (λ (t : Taken). (waits s log t && was_placed s log t) ≡ true) (λ (t : Taken). t.mark.position ≡ t.entry.position) (IsWaiting s log) (λ t a b. (and_first (waits s log t) (was_placed s log t) a, b))
-    (filter (λ t. waits s log t && was_placed s log t) (takes log)) (pass_filter (λ t. waits s log t && was_placed s log t) (takes log)) (all_filter (λ (t : Taken). t.mark.position ≡ t.entry.position) (λ t. waits s log t && was_placed s log t) (takes log) marked))
-    (mapped_both (λ (t : Taken). not (was_placed s log t) ≡ true) (λ (t : Taken). t.mark.position ≡ t.entry.position) (IsWaiting s log) (λ t a b. (fresh t a, b))
-    (filter (λ t. not (was_placed s log t)) (takes log)) (pass_filter (λ t. not (was_placed s log t)) (takes log)) (all_filter (λ (t : Taken). t.mark.position ≡ t.entry.position) (λ t. not (was_placed s log t)) (takes log) marked))
+    all_append (IsWaiting s log) (filter (λ t. waits s log t && was_placed s log t) (takes log)) (filter (λ t. not (was_placed s log t)) (takes log))
+    (zipped (λ (t : Taken). (waits s log t && was_placed s log t) ≡ true) (λ (t : Taken). t.mark.position ≡ t.entry.position) (IsWaiting s log) (λ t a b. (first_of (waits s log t) (was_placed s log t) a, b))
+    (filter (λ t. waits s log t && was_placed s log t) (takes log)) (all_passed (λ t. waits s log t && was_placed s log t) (takes log)) (all_filter (λ (t : Taken). t.mark.position ≡ t.entry.position) (λ t. waits s log t && was_placed s log t) (takes log) marked))
+    (zipped (λ (t : Taken). not (was_placed s log t) ≡ true) (λ (t : Taken). t.mark.position ≡ t.entry.position) (IsWaiting s log) (λ t a b. (fresh t a, b))
+    (filter (λ t. not (was_placed s log t)) (takes log)) (all_passed (λ t. not (was_placed s log t)) (takes log)) (all_filter (λ (t : Taken). t.mark.position ≡ t.entry.position) (λ t. not (was_placed s log t)) (takes log) marked))
   where
     by : (m n : ℕ) → not (nat_lt 0 m) ≡ true → n ≤ m → (m == n) ≡ true
     by zero n e h = let same : n ≡ 0 = omega arith in ap (λ k. 0 == k) same
-    by (suc m) n e h = let above : nat_lt 0 (suc m) ≡ true = is_below 0 (suc m) (omega arith) in absurd cc
+    by (suc m) n e h = let above : nat_lt 0 (suc m) ≡ true = lt_true 0 (suc m) (omega arith) in absurd cc
 
     fresh : (t : Taken) → not (was_placed s log t) ≡ true → waits s log t ≡ true
     fresh t e = by (times_placed s log t) (times_lost s log t) e (let none : times_lost s log t ≡ 0 = none_times_lost s log t plain in omega arith)
 
 data_fresh : (s : Shape) (log : List Logged) → s.capacity ≤ meta_lba → ArePlain log → AreMarked log → AllByRecursion (BearsFresh s log) (data_blocks s log)
 data_fresh s log small plain marked =
-    all_joined (BearsFresh s log) (map block_of_taken (take s.ws_opt (waiting s log))) (replicate (s.ws_opt - length (map block_of_taken (take s.ws_opt (waiting s log)))) (pad_block s))
+    all_append (BearsFresh s log) (map block_of_taken (take s.ws_opt (waiting s log))) (replicate (s.ws_opt - length (map block_of_taken (take s.ws_opt (waiting s log)))) (pad_block s))
     (all_mapped (BearsFresh s log) block_of_taken (take s.ws_opt (waiting s log))
-    (weaker (IsWaiting s log) (λ (t : Taken). BearsFresh s log (block_of_taken t)) (λ t is. entry_fresh s log t plain is) (take s.ws_opt (waiting s log))
+    (all_imply (IsWaiting s log) (λ (t : Taken). BearsFresh s log (block_of_taken t)) (λ t is. entry_fresh s log t plain is) (take s.ws_opt (waiting s log))
     (all_taken (IsWaiting s log) s.ws_opt (waiting s log) (waiting_all s log plain marked))))
     (all_replicated (BearsFresh s log) (s.ws_opt - length (map block_of_taken (take s.ws_opt (waiting s log)))) (pad_block s) (pads_fresh s log small))
 
@@ -174,7 +172,7 @@ once_kept i small = record {
   empty = record { plain = tt; marked = tt; once = λ q. omega arith };
   first = λ known b knows may. record { plain = (refl, tt); marked = tt; once = λ q. omega arith };
   next = λ known log beginning e knows begins own passes may was. record {
-    plain = all_joined (λ (l : Logged). is_plain_event l.event ≡ true) log (record { event = Decides e; knows = knows } ∷ []) was.plain (passes, tt);
+    plain = all_append (λ (l : Logged). is_plain_event l.event ≡ true) log (record { event = Decides e; knows = knows } ∷ []) was.plain (passes, tt);
     marked = marked_after i known log beginning e knows may was.marked;
     once = once_next i known log beginning e knows small own may was;
   };

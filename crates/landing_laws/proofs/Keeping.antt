@@ -10,6 +10,7 @@ use Rattle.pblk_world.specs.World.{World, Logs, log_of, known, prefixes}
 use Rattle.pblk_world.specs.EngineLog.{Begun, begun}
 use Rattle.pblk_world.specs.Opening.{MayBegin}
 use Rattle.pblk_world.specs.Legal.{IsLegal, IsLegalStep, IsAllowed, IsDecision}
+use Rattle.lemmas.proofs.Lists.{all_front}
 
 -- It holds of the empty log and of one that begins, and each allowed event that passes the test keeps it.
 pub record IsKept (i : Image) (test : Event → Bool) (P : List Logged → Type 0) : Type 0 where
@@ -17,10 +18,6 @@ pub record IsKept (i : Image) (test : Event → Bool) (P : List Logged → Type 
   pub first : (known : Logs) (b : Beginning) (knows : List ℕ) → MayBegin i known b → P (record { event = Decides (Begin b); knows = knows } ∷ [])
   pub next : (known : Logs) (log : List Logged) (beginning : Begun) (e : EngineEvent) (knows : List ℕ) → begun log ≡ Some beginning → known 0 ≡ log
       → test (Decides e) ≡ true → IsDecision i known beginning e → P log → P (log ++ record { event = Decides e; knows = knows } ∷ [])
-
-pub all_front : {X : Type 0} (P : X → Type 0) (xs ys : List X) → AllByRecursion P (xs ++ ys) → AllByRecursion P xs × AllByRecursion P ys
-all_front P [] ys all = (tt, all)
-all_front P (x ∷ xs) ys all = let rest = all_front P xs ys all.1 in ((all.0, rest.0), rest.1)
 
 kept_next : (i : Image) (test : Event → Bool) (P : List Logged → Type 0) → IsKept i test P → (known : Logs) (log : List Logged) (e : Event) (knows : List ℕ) → known 0 ≡ log → test e ≡ true → IsAllowed i 0 e known → P log
     → P (log ++ record { event = e; knows = knows } ∷ [])

@@ -6,14 +6,12 @@ use Rattle.pblk_model.specs.declared.shape.Shape.{Shape}
 use Rattle.pblk_world.specs.Events.{Logged}
 use Rattle.pblk_world.specs.EngineLog.{LineLife, AsFound, Opened, Freed, is_life, Opening, Placed, placements, stripes_of, stripes_on, answer_of, is_land, is_loss, has_landed, was_lost}
 use Rattle.pblk_world.specs.Space.{landed_blocks, is_readable_in}
-use Rattle.stripe_placer.proofs.Among.{IsAmong, in_filter}
-use Rattle.core_laws.proofs.Lists.{all_at, all_filter, filter_agree, zipped as mapped_both}
-use Rattle.core_laws.proofs.Rows.{same_number, other_number}
-use Rattle.core_laws.proofs.Placing.{weaker}
-use Rattle.core_laws.proofs.Tests.{no_both as not_both}
 use Rattle.core_laws.proofs.Turns.{Rises, rise_from, rise_filtered}
-use Rattle.core_laws.proofs.PlacedLines.{passes as pass_filter}
 use Rattle.landing_laws.proofs.LandedStripe.{IsOneMore}
+use Rattle.lemmas.proofs.Lists.{IsAmong, all_imply, zipped}
+use Rattle.lemmas.proofs.Maps.{all_filter, all_passed, any_agree, filter_agree, in_filter}
+use Rattle.lemmas.proofs.Parts.{all_at}
+use Rattle.lemmas.proofs.Tests.{no_both, other_number, same_number}
 
 -- ---- a list in which one more element passes
 
@@ -50,7 +48,7 @@ count_more f g p (r ∷ xs) zero rise at passes fails all =
     let same : r ≡ p = cc in
     passes_here f g p r xs same passes fails
     (filter_agree (λ (x : Placed). f x ≡ g x) f g (λ x e. e) xs
-    (mapped_both (λ (x : Placed). r.number < x.number) (λ (x : Placed). (x ≡ p) ⊎ (f x ≡ g x)) (λ (x : Placed). f x ≡ g x)
+    (zipped (λ (x : Placed). r.number < x.number) (λ (x : Placed). (x ≡ p) ⊎ (f x ≡ g x)) (λ (x : Placed). f x ≡ g x)
     (λ x above either. later_same f g p x either (subst (λ (y : Placed). y.number < x.number) same above)) xs rise.0 all.1))
 count_more f g p (r ∷ xs) (suc k) rise at passes fails all =
     passes_later r (filter f xs) (filter g xs) (f r) (g r)
@@ -88,7 +86,7 @@ blocks_more s log new p o is life =
     let more : length (filter (has_landed new) (stripes_on log o p.stripe.unit)) ≡ n + 1 =
     count_more (has_landed new) (has_landed log) p (stripes_on log o p.stripe.unit) at.0 (on_rises log o p.stripe.unit) at.1 is.now (ap is_land is.before)
     (on_all (λ (r : Placed). (r ≡ p) ⊎ (has_landed new r ≡ has_landed log r)) log o p.stripe.unit
-    (weaker (λ (r : Placed). (r ≡ p) ⊎ (answer_of new r ≡ answer_of log r)) (λ (r : Placed). (r ≡ p) ⊎ (has_landed new r ≡ has_landed log r)) (landed_either log new p) (placements log) is.others)) in
+    (all_imply (λ (r : Placed). (r ≡ p) ⊎ (answer_of new r ≡ answer_of log r)) (λ (r : Placed). (r ≡ p) ⊎ (has_landed new r ≡ has_landed log r)) (landed_either log new p) (placements log) is.others)) in
     ap (λ (ps : List Placed). length (filter (has_landed new) ps) * s.ws_opt) (on_new log new p is o p.stripe.unit)
     ∙ ap (λ k. k * s.ws_opt) more ∙ grind arith
 
@@ -101,7 +99,7 @@ pub blocks_elsewhere : (s : Shape) (log new : List Logged) (p : Placed) (other :
 blocks_elsewhere s log new p other unit is apart =
     ap (λ (ps : List Placed). length (filter (has_landed new) ps) * s.ws_opt) (on_new log new p is other unit)
     ∙ ap (λ (ps : List Placed). length ps * s.ws_opt) (filter_agree (λ (r : Placed). has_landed new r ≡ has_landed log r) (has_landed new) (has_landed log) (λ r e. e) (stripes_on log other unit)
-    (mapped_both (λ (r : Placed). (r ≡ p) ⊎ (answer_of new r ≡ answer_of log r)) (λ (r : Placed). r ≡ p → ⊥) (λ (r : Placed). has_landed new r ≡ has_landed log r) (landed_elsewhere log new p) (stripes_on log other unit)
+    (zipped (λ (r : Placed). (r ≡ p) ⊎ (answer_of new r ≡ answer_of log r)) (λ (r : Placed). r ≡ p → ⊥) (λ (r : Placed). has_landed new r ≡ has_landed log r) (landed_elsewhere log new p) (stripes_on log other unit)
     (on_all (λ (r : Placed). (r ≡ p) ⊎ (answer_of new r ≡ answer_of log r)) log other unit is.others) apart))
 
 -- nothing more is lost
@@ -109,30 +107,26 @@ lost_by : (log new : List Logged) (p r : Placed) → IsOneMore log new p → (r 
 lost_by log new p r is (inl same) = ap (was_lost new) same ∙ is.not_lost ∙ sym (ap is_loss is.before) ∙ ap (was_lost log) (sym same)
 lost_by log new p r is (inr kept) = ap is_loss kept
 
-any_agree : {X : Type 0} (f g : X → Bool) (xs : List X) → AllByRecursion (λ x. f x ≡ g x) xs → list_any f xs ≡ list_any g xs
-any_agree f g [] all = refl
-any_agree f g (x ∷ xs) all = ap₂ (λ a b. a || b) all.0 (any_agree f g xs all.1)
-
 pub lost_same : (log new : List Logged) (p : Placed) (other : Opening) (unit : ℕ) → IsOneMore log new p → list_any (was_lost new) (stripes_on new other unit) ≡ list_any (was_lost log) (stripes_on log other unit)
 lost_same log new p other unit is =
     ap (list_any (was_lost new)) (on_new log new p is other unit)
     ∙ any_agree (was_lost new) (was_lost log) (stripes_on log other unit)
     (on_all (λ (r : Placed). was_lost new r ≡ was_lost log r) log other unit
-    (weaker (λ (r : Placed). (r ≡ p) ⊎ (answer_of new r ≡ answer_of log r)) (λ (r : Placed). was_lost new r ≡ was_lost log r) (λ r either. lost_by log new p r is either) (placements log) is.others))
+    (all_imply (λ (r : Placed). (r ≡ p) ⊎ (answer_of new r ≡ answer_of log r)) (λ (r : Placed). was_lost new r ≡ was_lost log r) (λ r either. lost_by log new p r is either) (placements log) is.others))
 
 readable_by : (s : Shape) (log new : List Logged) (p : Placed) (other : Opening) (unit block : ℕ) → IsOneMore log new p → landed_blocks s new other unit ≡ landed_blocks s log other unit
     → is_readable_in s new unit block (Opened other) ≡ is_readable_in s log unit block (Opened other)
 readable_by s log new p other unit block is same = ap₂ (λ a n. (a || (n == s.clba)) || nat_lt (block + s.mw_cunits) n) (lost_same log new p other unit is) same
 
 pub apart_unit : (log : List Logged) (p : Placed) (other : Opening) (unit : ℕ) → unit ≢ p.stripe.unit → AllByRecursion (λ r. r ≡ p → ⊥) (stripes_on log other unit)
-apart_unit log p other unit apart = weaker (λ (r : Placed). (r.stripe.unit == unit) ≡ true) (λ (r : Placed). r ≡ p → ⊥)
-    (λ r e same. not_both (r.stripe.unit == unit) e (other_number r.stripe.unit unit (λ f. apart (sym f ∙ ap (λ (x : Placed). x.stripe.unit) same))))
-    (stripes_on log other unit) (pass_filter (λ (r : Placed). r.stripe.unit == unit) (stripes_of log other))
+apart_unit log p other unit apart = all_imply (λ (r : Placed). (r.stripe.unit == unit) ≡ true) (λ (r : Placed). r ≡ p → ⊥)
+    (λ r e same. no_both (r.stripe.unit == unit) e (other_number r.stripe.unit unit (λ f. apart (sym f ∙ ap (λ (x : Placed). x.stripe.unit) same))))
+    (stripes_on log other unit) (all_passed (λ (r : Placed). r.stripe.unit == unit) (stripes_of log other))
 
 pub apart_opening : (log : List Logged) (p : Placed) (o other : Opening) (unit : ℕ) → p.life ≡ Opened o → other.number ≢ o.number → AllByRecursion (λ r. r ≡ p → ⊥) (stripes_on log other unit)
-apart_opening log p o other unit life apart = weaker (λ (r : Placed). is_life other.number r.life ≡ true) (λ (r : Placed). r ≡ p → ⊥)
-    (λ r e same. not_both (is_life other.number r.life) e (ap (λ (x : Placed). is_life other.number x.life) same ∙ ap (is_life other.number) life ∙ other_number o.number other.number (λ f. apart (sym f))))
-    (stripes_on log other unit) (all_filter (λ (r : Placed). is_life other.number r.life ≡ true) (λ (r : Placed). r.stripe.unit == unit) (stripes_of log other) (pass_filter (λ (r : Placed). is_life other.number r.life) (placements log)))
+apart_opening log p o other unit life apart = all_imply (λ (r : Placed). is_life other.number r.life ≡ true) (λ (r : Placed). r ≡ p → ⊥)
+    (λ r e same. no_both (is_life other.number r.life) e (ap (λ (x : Placed). is_life other.number x.life) same ∙ ap (is_life other.number) life ∙ other_number o.number other.number (λ f. apart (sym f))))
+    (stripes_on log other unit) (all_filter (λ (r : Placed). is_life other.number r.life ≡ true) (λ (r : Placed). r.stripe.unit == unit) (stripes_of log other) (all_passed (λ (r : Placed). is_life other.number r.life) (placements log)))
 
 pub readable_unit : (s : Shape) (log new : List Logged) (p : Placed) (unit block : ℕ) (life : LineLife) → IsOneMore log new p → unit ≢ p.stripe.unit → is_readable_in s new unit block life ≡ is_readable_in s log unit block life
 readable_unit s log new p unit block AsFound is apart = refl

@@ -20,30 +20,28 @@ use Rattle.pblk_world.specs.Space.{landed_blocks, is_closed_in, is_readable_in, 
 use Rattle.l2p_map.specs.declared.slot.Slot.{Slot}
 use Rattle.l2p_map.specs.declared.slot.Slot.TheVariants.{Cached, Media}
 use Rattle.stripe_placer.specs.OpenLines.{numbers}
-use Rattle.stripe_placer.proofs.Among.{IsAmong}
-use Rattle.stripe_placer.proofs.Chunks.{lt_yes as is_below}
 use Rattle.core_laws.specs.Stepping.{after}
 use Rattle.core_laws.specs.OpenedLines.{as_opened, is_stripe_at}
 use Rattle.core_laws.specs.PlacerOf.{number_of}
 use Rattle.core_laws.specs.SlotOf.{address_in, readable_block, media_of, slot_of_entry, slot_of_winner, slot_by, slot_of}
 use Rattle.core_laws.specs.WindowOf.{is_given_back}
-use Rattle.core_laws.proofs.Lists.{all_at}
 use Rattle.core_laws.proofs.Numbers.{opens_at}
-use Rattle.core_laws.proofs.Placing.{weaker}
-use Rattle.core_laws.proofs.Turns.{found_is}
-use Rattle.core_laws.proofs.Tests.{second_of as and_second}
 use Rattle.core_laws.proofs.TakenSlots.{find_same}
 use Rattle.landing_laws.specs.ChunkBlocks.{chunk_blocks, IsInRow}
 use Rattle.landing_laws.specs.ReadSlots.{block_read, address_of_block, read_slot}
-use Rattle.landing_laws.proofs.LandedStripe.{each_among}
 use Rattle.landing_laws.proofs.LandedBlocks.{on_new}
 use Rattle.landing_laws.proofs.Growing.{given_holds}
-use Rattle.landing_laws.proofs.Slots.{IsBefore, lives_before, found_kept, address_kept, media_by}
+use Rattle.landing_laws.proofs.Slots.{IsBefore, lives_before, address_kept, media_by}
 use Rattle.landing_laws.proofs.GivenBack.{IsLandedNow, of_unit_landed, readable_life, gives_of_chunk}
 use Rattle.landing_laws.proofs.GivenNow.{of_chunk, gives_other, gives_still, readable_own, readable_other, chunk_life, chunk_unit, IsOfChunk, chunk_members, given_now}
 use Rattle.landing_laws.proofs.HeldOnce.{HeldOnce, one_holder}
 use Rattle.landing_laws.proofs.StripeLines.{placed_lines, own_opening, IsOpenedFor}
-use Rattle.landing_laws.proofs.Finding.{any_none, none_any, some_any, find_unique, first_stays, found_within, found_in_stripe}
+use Rattle.landing_laws.proofs.Finding.{any_none, some_any, find_unique, first_stays, found_within, found_in_stripe}
+use Rattle.core_laws.proofs.SteppingLemmas.{found_kept}
+use Rattle.lemmas.proofs.Lists.{IsAmong, all_imply, among_all}
+use Rattle.lemmas.proofs.Maps.{found_none, found_passes}
+use Rattle.lemmas.proofs.Parts.{all_at}
+use Rattle.lemmas.proofs.Tests.{lt_true, second_of}
 
 -- all that is used
 pub record IsLanding (i : Image) (logs : Logs) (e : EngineEvent) (knows : List ℕ) (p : Placed) (o : Opening) : Type 0 where
@@ -66,10 +64,10 @@ holder_found : (s : Shape) (log new : List Logged) (q : ℕ) (r : Placed) → pl
 holder_found s log new q r same once among e =
     ap (find (gives_back s new q)) same
     ∙ find_unique (gives_back s new q) (placements log) among.0 r among.1 e
-    (weaker (IsAmong (placements log)) (λ (t : Placed). gives_back s new q t ≡ true → t ≡ r)
+    (all_imply (IsAmong (placements log)) (λ (t : Placed). gives_back s new q t ≡ true → t ≡ r)
     (λ t there f. one_holder s log q t r once there among
-    (and_second (has_landed new t) (holds_position s q t) (given_holds s new q t f))
-    (and_second (has_landed new r) (holds_position s q r) (given_holds s new q r e))) (placements log) (each_among (placements log)))
+    (second_of (has_landed new t) (holds_position s q t) (given_holds s new q t f))
+    (second_of (has_landed new r) (holds_position s q r) (given_holds s new q r e))) (placements log) (among_all (placements log)))
 
 -- ---- a sector that was on the drive
 
@@ -79,7 +77,7 @@ readable_down s log unit a b (Opened o) below e = go (is_closed_in s log o unit)
   where
     go : (c d : Bool) → nat_lt (b + s.mw_cunits) (landed_blocks s log o unit) ≡ d → (c || d) ≡ true → (c || nat_lt (a + s.mw_cunits) (landed_blocks s log o unit)) ≡ true
     go true d f g = refl
-    go false true f g = let inside : b + s.mw_cunits < landed_blocks s log o unit = grind arith in is_below (a + s.mw_cunits) (landed_blocks s log o unit) (omega arith)
+    go false true f g = let inside : b + s.mw_cunits < landed_blocks s log o unit = grind arith in lt_true (a + s.mw_cunits) (landed_blocks s log o unit) (omega arith)
     go false false f g = absurd cc
 readable_down s log unit a b (Freed past k) below e = absurd cc
 
@@ -97,12 +95,12 @@ block_stays i logs e knows p o q r is gives =
     (first_stays (bears_position i.shape q) (λ b. is_readable_in i.shape (logs 0) r.stripe.unit b r.life) (λ b. is_readable_in i.shape (after logs e knows 0) r.stripe.unit b r.life) r.stripe.at r.stripe.blocks
     (λ a b below f. readable_down i.shape (logs 0) r.stripe.unit a b r.life below f)
     (λ b f. readable_more i.shape (logs 0) (after logs e knows 0) p o r b is f)
-    (and_second (has_landed (logs 0) r) (list_any (λ (b : ℕ × Block). bears_position i.shape q b.1 && is_readable_in i.shape (logs 0) r.stripe.unit b.0 r.life) (enumerate_from r.stripe.at r.stripe.blocks)) gives))
+    (second_of (has_landed (logs 0) r) (list_any (λ (b : ℕ × Block). bears_position i.shape q b.1 && is_readable_in i.shape (logs 0) r.stripe.unit b.0 r.life) (enumerate_from r.stripe.at r.stripe.blocks)) gives))
 
 media_stays : (i : Image) (logs : Logs) (e : EngineEvent) (knows : List ℕ) (p : Placed) (o : Opening) (q : ℕ) (r : Placed) → IsLanding i logs e knows p o → find (gives_back i.shape (logs 0) q) (placements (logs 0)) ≡ Some r
     → slot_of_entry i (after logs e knows) q ≡ media_of i logs q r
 media_stays i logs e knows p o q r is found =
-    let at : (gives_back i.shape (logs 0) q r ≡ true) × IsAmong (placements (logs 0)) r = found_is (gives_back i.shape (logs 0) q) (placements (logs 0)) r found in
+    let at : (gives_back i.shape (logs 0) q r ≡ true) × IsAmong (placements (logs 0)) r = found_passes (gives_back i.shape (logs 0) q) (placements (logs 0)) r found in
     ap (λ (x : Option Placed). option_map_or (media_of i (after logs e knows) q) x (Cached q))
     (holder_found i.shape (logs 0) (after logs e knows 0) q r is.now.one_more.stripes is.once at.1 (gives_now i.shape (logs 0) (after logs e knows 0) p o q r is.now at.1 at.0))
     ∙ media_by i logs e knows q r (all_at (λ (r : Placed). IsBefore (length (logs 0)) r.life) (placements (logs 0)) at.1.0 r at.1.1 (lives_before (logs 0)))
@@ -221,7 +219,7 @@ entry_now i logs e knows p o q is = go (find (gives_back i.shape (logs 0) q) (pl
         ap (λ (x : Option Placed). option_map_or (media_of i (after logs e knows) q) x (Cached q))
         (any_none (gives_back i.shape (after logs e knows 0) q) (placements (after logs e knows 0))
         (given_now i.shape (logs 0) (after logs e knows 0) p o q is.now
-        ∙ ap₂ (λ a b. a || b) none (none_any (reads_now i (after logs e knows 0) p o q) (enumerate_from 0 (chunk_blocks (after logs e knows 0) o p.stripe.unit)) f)))
+        ∙ ap₂ (λ a b. a || b) none (found_none (reads_now i (after logs e knows 0) p o q) (enumerate_from 0 (chunk_blocks (after logs e knows 0) o p.stripe.unit)) f)))
     leaves (Some b) f none = media_leaves i logs e knows p o q b is f
 
     go : (x : Option Placed) → find (gives_back i.shape (logs 0) q) (placements (logs 0)) ≡ x
@@ -229,7 +227,7 @@ entry_now i logs e knows p o q is = go (find (gives_back i.shape (logs 0) q) (pl
     go (Some r) f = media_stays i logs e knows p o q r is f
     go None f =
         leaves (find (reads_now i (after logs e knows 0) p o q) (enumerate_from 0 (chunk_blocks (after logs e knows 0) o p.stripe.unit))) refl
-        (none_any (gives_back i.shape (logs 0) q) (placements (logs 0)) f)
+        (found_none (gives_back i.shape (logs 0) q) (placements (logs 0)) f)
 
 by_now : (i : Image) (logs : Logs) (e : EngineEvent) (knows : List ℕ) (p : Placed) (o : Opening) (lba : ℕ) (t : Option Taken) → IsLanding i logs e knows p o
     → slot_by i (after logs e knows) lba t ≡ read_slot i logs o p.stripe.unit (block_read i.shape (after logs e knows 0) o p.stripe.unit) (slot_by i logs lba t)

@@ -8,12 +8,12 @@ use Rattle.pblk_model.specs.declared.shape.Shape.{Shape}
 use Rattle.pblk_world.specs.Events.{Landed, Decides, Logged}
 use Rattle.pblk_world.specs.EngineLog.{Placed, placements, DidLand, answers, answer_of, is_land, is_loss, has_landed, was_lost, holds_position}
 use Rattle.pblk_world.specs.Fronts.{has_landed_at}
-use Rattle.pblk_world.proofs.Appending.{answers_more, placements_more}
-use Rattle.stripe_placer.proofs.Among.{IsAmong, later}
+use Rattle.pblk_world.proofs.Appending.{placements_more}
 use Rattle.core_laws.specs.PlacerOf.{unanswered_on}
-use Rattle.core_laws.proofs.Rows.{other_number, same_number}
-use Rattle.core_laws.proofs.Placing.{weaker}
 use Rattle.core_laws.proofs.Answered.{IsAnswer, IsFirst, its_answer, others_answer, first_unanswered}
+use Rattle.lemmas.proofs.Lists.{IsAmong, all_imply, among_all}
+use Rattle.lemmas.proofs.Tests.{or_no, or_true, other_number, same_number}
+use Rattle.pblk_world.proofs.EngineLogLemmas.{answers_more}
 
 abbrev pub with_landing : List Logged → ℕ → ℕ → List ℕ → List Logged
 with_landing log unit event knows = log ++ record { event = Decides (Landed unit event); knows = knows } ∷ []
@@ -36,10 +36,6 @@ is_answer log unit event knows =
       elsewhere = λ v other. answers_more log l v ∙ ap (λ b. answers log v ++ option_to_list (if b then Some (DidLand event) else None)) (other_number unit v (λ e. other (sym e))) ∙ append-nil (answers log v);
     }
 
-pub each_among : {X : Type 0} (xs : List X) → AllByRecursion (IsAmong xs) xs
-each_among [] = tt
-each_among (x ∷ xs) = ((0, refl), weaker (IsAmong xs) (IsAmong (x ∷ xs)) (λ y at. later x xs y at) xs (each_among xs))
-
 pub one_more : (log : List Logged) (unit event : ℕ) (knows : List ℕ) (p : Placed) → unanswered_on log unit ≡ Some p → IsOneMore log (with_landing log unit event knows) p
 one_more log unit event knows p waits =
     let new : List Logged = with_landing log unit event knows in
@@ -52,18 +48,10 @@ one_more log unit event knows p waits =
       before = ap (λ n. slice_get (answers log p.stripe.unit) n) (first.turn_is ∙ ap (λ u. length (answers log u)) (sym first.of_unit)) ∙ slice_get_past (answers log p.stripe.unit) (length (answers log p.stripe.unit)) (omega arith);
       now = ap is_land answer;
       not_lost = ap is_loss answer;
-      others = weaker (IsAmong (placements log)) (λ (r : Placed). (r ≡ p) ⊎ (answer_of new r ≡ answer_of log r)) (λ r among. others_answer log new unit (DidLand event) p r is first among) (placements log) (each_among (placements log));
+      others = all_imply (IsAmong (placements log)) (λ (r : Placed). (r ≡ p) ⊎ (answer_of new r ≡ answer_of log r)) (λ r among. others_answer log new unit (DidLand event) p r is first among) (placements log) (among_all (placements log));
     }
 
 -- ---- a test that one more element passes
-
-or_no : (b : Bool) → (b || false) ≡ b
-or_no true = refl
-or_no false = refl
-
-or_yes : (b : Bool) → (b || true) ≡ true
-or_yes true = refl
-or_yes false = refl
 
 -- of a list in which it stands
 any_with : {X : Type 0} (f : X → Bool) (xs : List X) (k : ℕ) (p : X) → slice_get xs k ≡ Some p → (list_any f xs || f p) ≡ list_any f xs
@@ -84,7 +72,7 @@ any_but f g p [] none all = refl
 any_but {X} f g p (x ∷ xs) none all = go all.0 (any_but f g p xs none all.1)
   where
     by : (b c d : Bool) → (c || b) ≡ (d || b) → ((b || c) || b) ≡ ((false || d) || b)
-    by true c d rest = sym (or_yes d)
+    by true c d rest = sym (or_true d)
     by false c d rest = rest
 
     keep : (b c d e : Bool) → (c || b) ≡ (d || b) → ((e || c) || b) ≡ ((e || d) || b)
@@ -109,7 +97,7 @@ landed_at_by s log new p q is =
     ap (λ ps. list_any (λ r. has_landed new r && holds_position s q r) ps) is.stripes
     ∙ any_more (λ r. has_landed new r && holds_position s q r) (λ r. has_landed log r && holds_position s q r) p (placements log) is.among
     (ap (λ a. is_land a && holds_position s q p) is.before)
-    (weaker (λ (r : Placed). (r ≡ p) ⊎ (answer_of new r ≡ answer_of log r)) (λ (r : Placed). (r ≡ p) ⊎ ((has_landed new r && holds_position s q r) ≡ (has_landed log r && holds_position s q r)))
+    (all_imply (λ (r : Placed). (r ≡ p) ⊎ (answer_of new r ≡ answer_of log r)) (λ (r : Placed). (r ≡ p) ⊎ ((has_landed new r && holds_position s q r) ≡ (has_landed log r && holds_position s q r)))
     (λ r other. landed_or log new p (holds_position s q) r other) (placements log) is.others)
     ∙ ap (λ b. has_landed_at s log q || (b && holds_position s q p)) is.now
 

@@ -8,12 +8,10 @@ use Rattle.pblk_world.specs.Events.{Landed, Decides, Logged}
 use Rattle.pblk_world.specs.World.{World, log_of}
 use Rattle.pblk_world.specs.EngineLog.{Opened, Opening, Taken, takes, Placed, placed_on, answers, DidLand, holds_position}
 use Rattle.pblk_world.specs.Fronts.{first_position, has_landed_at, is_users}
-use Rattle.pblk_world.proofs.Appending.{takes_more}
 use Rattle.write_window.specs.declared.held.Progress.{Progress}
 use Rattle.core_laws.specs.PlacerOf.{unanswered_on}
 use Rattle.core_laws.specs.PlainWorlds.{is_plain_event, ArePlain, IsPlainWorld}
 use Rattle.core_laws.specs.WindowOf.{HeldSector, class_of, source_of, is_given_back, progress_by, held_of, users_below, window_from}
-use Rattle.core_laws.proofs.PlacedPositions.{all_joined}
 use Rattle.core_laws.proofs.Answered.{first_unanswered}
 use Rattle.landing_laws.specs.ChunkBlocks.{can_be_read, AreInRows}
 use Rattle.landing_laws.specs.Advanced.{advanced, advanced_sector, advanced_window}
@@ -24,9 +22,11 @@ use Rattle.landing_laws.proofs.GivenNow.{given_now}
 use Rattle.landing_laws.proofs.Growing.{given_landed}
 use Rattle.landing_laws.proofs.Slots.{first_kept}
 use Rattle.landing_laws.proofs.Untouched.{same_window}
+use Rattle.lemmas.proofs.Lists.{all_append}
+use Rattle.pblk_world.proofs.EngineLogLemmas.{takes_more}
 
 pub plain_landing : (log : List Logged) (unit event : ℕ) (knows : List ℕ) → ArePlain log → ArePlain (with_landing log unit event knows)
-plain_landing log unit event knows plain = all_joined (λ (l : Logged). is_plain_event l.event ≡ true) log (record { event = Decides (Landed unit event); knows = knows } ∷ []) plain (refl, tt)
+plain_landing log unit event knows plain = all_append (λ (l : Logged). is_plain_event l.event ≡ true) log (record { event = Decides (Landed unit event); knows = knows } ∷ []) plain (refl, tt)
 
 -- the stripe that lands next on a unit of a plain world
 pub landed_now : (i : Image) (w : World) (unit event : ℕ) (knows : List ℕ) (p : Placed) (o : Opening) → IsPlainWorld i w → unanswered_on (log_of w 0) unit ≡ Some p → p.life ≡ Opened o → AreInRows i.shape (log_of w 0) o unit

@@ -11,13 +11,14 @@ use Rattle.pblk_world.specs.Events.{Logged}
 use Rattle.pblk_world.specs.World.{World, log_of}
 use Rattle.pblk_world.specs.EngineLog.{Taken, takes}
 use Rattle.pblk_world.specs.Fronts.{first_position, taken, is_users, user_takes, history, user_positions, last_take}
-use Rattle.stripe_placer.proofs.Among.{got_else}
-use Rattle.stripe_placer.proofs.Chunks.{lt_yes as is_below}
 use Rattle.core_laws.specs.PlainWorlds.{IsPlainWorld}
-use Rattle.core_laws.proofs.Placing.{weaker, all_pass}
-use Rattle.core_laws.proofs.Lists.{get_set_same as set_here}
+use Rattle.core_laws.proofs.Placing.{all_pass}
 use Rattle.core_laws.proofs.PlacedPositions.{numbered_below}
-use Rattle.landing_laws.proofs.Entries.{IsUsers, AreInOrder, in_order, users_entries, accepted_small}
+use Rattle.landing_laws.proofs.Entries.{IsUsers, AreInOrder, in_order, users_entries}
+use Rattle.lemmas.proofs.Lists.{all_imply}
+use Rattle.lemmas.proofs.Parts.{get_set_same, got_else}
+use Rattle.lemmas.proofs.Tests.{lt_true}
+use Rattle.pblk_model.proofs.MarksLemmas.{accepted_small}
 
 pub set_length : {X : Type 0} (xs : List X) (k : ℕ) (x : X) → length (slice_set xs k x) ≡ length xs
 set_length [] k x = refl
@@ -50,12 +51,12 @@ latest_holds s first (t ∷ ts) sectors lba o all inside was = go (nat_eq t.mark
         → Holds first (fold after_write next (map write_of ts)) lba (last_or o (cond b (t ∷ filter (λ (t : Taken). t.mark.lba == lba) ts) (filter (λ (t : Taken). t.mark.lba == lba) ts)))
     go true e rest =
         let same : t.entry.lba ≡ lba = sym all.0.sector ∙ eqb-true t.mark.lba lba e in
-        rest (Some t) (ap (slice_get next) (sym same) ∙ set_here sectors t.entry.lba t.entry.sector (subst (λ n. n < length sectors) (sym same) inside))
+        rest (Some t) (ap (slice_get next) (sym same) ∙ get_set_same sectors t.entry.lba t.entry.sector (subst (λ n. n < length sectors) (sym same) inside))
     go false e rest = rest o (still_holds first sectors lba o (write_of t) (λ same. eqb-false t.mark.lba lba e (all.0.sector ∙ sym same)) was)
 
 all_users : (s : Shape) (log : List Logged) → AllByRecursion (IsUsers s) (takes log) → user_takes log ≡ takes log
 all_users s log all = all_pass (λ (t : Taken). is_users t.entry.source) (takes log)
-    (weaker (IsUsers s) (λ (t : Taken). is_users t.entry.source ≡ true) (λ t is. is.users) (takes log) all)
+    (all_imply (IsUsers s) (λ (t : Taken). is_users t.entry.source ≡ true) (λ t is. is.users) (takes log) all)
 
 history_holds : (i : Image) (w : World) (before : List (List ℕ)) (lba : ℕ) → IsPlainWorld i w → lba < length before
     → Holds (slice_get before lba) (histories.after before (history (log_of w 0))) lba (last_take (log_of w 0) lba)
@@ -78,7 +79,7 @@ first_sector i w before lba plain inside last = subst (Holds (slice_get before l
 count_all : (n : ℕ) (ts : List Taken) → AllByRecursion (λ (t : Taken). t.entry.position < n) ts → users (map (λ (t : Taken). t.entry.position) ts) n ≡ length (map write_of ts)
 count_all n [] all = refl
 count_all n (t ∷ ts) all =
-    ap (λ b. length (cond b (t.entry.position ∷ filter (λ q. nat_lt q n) (map (λ (t : Taken). t.entry.position) ts)) (filter (λ q. nat_lt q n) (map (λ (t : Taken). t.entry.position) ts)))) (is_below t.entry.position n all.0)
+    ap (λ b. length (cond b (t.entry.position ∷ filter (λ q. nat_lt q n) (map (λ (t : Taken). t.entry.position) ts)) (filter (λ q. nat_lt q n) (map (λ (t : Taken). t.entry.position) ts)))) (lt_true t.entry.position n all.0)
     ∙ ap suc (count_all n ts all.1)
 
 pub history_count : (i : Image) (w : World) → IsPlainWorld i w → users (user_positions (log_of w 0)) (taken (log_of w 0)) ≡ length (history (log_of w 0))

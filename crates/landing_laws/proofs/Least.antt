@@ -1,8 +1,8 @@
 -- The least position that isn't borne.
-use Rattle.std.proofs.Common.{◌≡◌, ℕ, ◌+◌, ◌<◌, ◌≤◌, ◌⊎◌, zero, suc, Bool, true, false, refl, subst, arith, if◌then◌else◌, inl, inr}
+use Rattle.std.proofs.Common.{◌≡◌, ℕ, ◌+◌, ◌<◌, ◌≤◌, ◌⊎◌, zero, suc, Bool, true, false, refl, arith, if◌then◌else◌, inl, inr}
 use Rattle.std.proofs.lemmas.Bool.{cases_order}
 use Rattle.pblk_model.specs.Contents.{least_missing}
-use Rattle.core_laws.proofs.Tests.{no_both as not_both}
+use Rattle.lemmas.proofs.Tests.{below_by, no_both}
 
 -- all from p on up to the least missing one are borne, and it is missing or the turns are over
 pub record IsLeast (borne : ℕ → Bool) (turns p m : ℕ) : Type 0 where
@@ -10,15 +10,6 @@ pub record IsLeast (borne : ℕ → Bool) (turns p m : ℕ) : Type 0 where
   pub within : m ≤ p + turns
   pub below : (q : ℕ) → p ≤ q → q < m → borne q ≡ true
   pub missing : m < p + turns → borne m ≡ false
-
-below_by : (borne : ℕ → Bool) (p : ℕ) → borne p ≡ true → (m : ℕ) → ((q : ℕ) → p + 1 ≤ q → q < m → borne q ≡ true)
-    → (q : ℕ) → p ≤ q → q < m → borne q ≡ true
-below_by borne p e m h q a b = go (cases_order p q)
-  where
-    go : (p ≡ q) ⊎ ((p < q) ⊎ (q < p)) → borne q ≡ true
-    go (inl same) = subst (λ z. borne z ≡ true) same e
-    go (inr (inl above)) = h q (omega arith) b
-    go (inr (inr beneath)) = absurd (omega arith)
 
 least_by : (borne : ℕ → Bool) (turns p : ℕ) (b : Bool) → borne p ≡ b → IsLeast borne turns (p + 1) (least_missing borne turns (p + 1))
     → IsLeast borne (suc turns) p (if b then least_missing borne turns (p + 1) else p)
@@ -46,7 +37,7 @@ least_rises f g m n p more fewer = go (cases_order (least_missing f m p) (least_
     go (inr (inr beneath)) a b =
         let x : least_missing f m p ≤ p + m = a.within in
         let y : p ≤ least_missing g n p = b.from in
-        not_both (g (least_missing g n p)) (more (least_missing g n p) (a.below (least_missing g n p) y beneath)) (b.missing (omega arith))
+        no_both (g (least_missing g n p)) (more (least_missing g n p) (a.below (least_missing g n p) y beneath)) (b.missing (omega arith))
 
 -- one that is missing is no lesser than the least
 pub least_below : (borne : ℕ → Bool) (turns p q : ℕ) → p ≤ q → borne q ≡ false → least_missing borne turns p ≤ q
@@ -55,4 +46,4 @@ least_below borne turns p q from none = go (cases_order (least_missing borne tur
     go : (least_missing borne turns p ≡ q) ⊎ ((least_missing borne turns p < q) ⊎ (q < least_missing borne turns p)) → least_missing borne turns p ≤ q
     go (inl same) = omega arith
     go (inr (inl above)) = omega arith
-    go (inr (inr beneath)) = not_both (borne q) ((least borne turns p).below q from beneath) none
+    go (inr (inr beneath)) = no_both (borne q) ((least borne turns p).below q from beneath) none

@@ -1,29 +1,29 @@
 -- A stripe has landed: the blocks of its chunk that can be read now are those behind the ones that could be before.
-use Rattle.std.proofs.Common.{◌≡◌, ◌⊎◌, inl, inr, ℕ, ◌+◌, ◌*◌, ◌-◌, ◌<◌, ◌≤◌, ◌==◌, ◌&&◌, ◌||◌, zero, suc, nat_eq, nat_lt, Bool, true, false, Some, None, Option, List, [], ◌∷◌, length, take, refl, sym, ap, ◌∙◌, arith, length-append}
+use Rattle.std.proofs.Common.{◌≡◌, ◌⊎◌, inl, inr, ℕ, ◌+◌, ◌*◌, ◌-◌, ◌<◌, ◌≤◌, ◌==◌, ◌&&◌, ◌||◌, suc, nat_eq, nat_lt, Bool, true, false, Some, List, [], ◌∷◌, length, take, refl, sym, ap, ◌∙◌, arith, length-append}
 use Rattle.std.specs.Prelude.{slice_get, is_some, if◌then◌else◌}
 use Rattle.std.specs.List.{filter, find, list_any, flat_map, enumerate_from}
 use Rattle.std.proofs.lemmas.Bool.{cases_order}
-use Rattle.std.proofs.lemmas.Option.{same_Some, none-some, slice_get_within}
+use Rattle.std.proofs.lemmas.Option.{same_Some, slice_get_within}
 use Rattle.pblk_model.specs.declared.shape.Shape.{Shape}
 use Rattle.pblk_model.specs.Chunk.{Block}
 use Rattle.pblk_world.specs.Events.{Logged}
 use Rattle.pblk_world.specs.EngineLog.{Opened, Opening, Placed, placements, placed_on, stripes_on, answer_of, is_land, has_landed, bears_position}
 use Rattle.pblk_world.specs.Space.{landed_blocks, is_readable_in, gives_back}
-use Rattle.stripe_placer.proofs.Among.{IsAmong, in_filter}
-use Rattle.stripe_placer.proofs.Chunks.{lt_yes as is_below}
 use Rattle.core_laws.specs.PlainWorlds.{ArePlain}
 use Rattle.core_laws.specs.WindowOf.{is_given_back}
-use Rattle.core_laws.proofs.Lists.{all_at, got_within as some_at, filter_short as fewer}
 use Rattle.core_laws.proofs.Placing.{not_below}
-use Rattle.core_laws.proofs.Rows.{same_number, other_number}
-use Rattle.core_laws.proofs.Turns.{found_is, rise_from, rise_filtered}
-use Rattle.core_laws.proofs.Tests.{second_of as and_second}
+use Rattle.core_laws.proofs.Turns.{rise_from, rise_filtered}
 use Rattle.landing_laws.specs.ChunkBlocks.{chunk_blocks, readable_blocks, IsInRow, AreInRows}
 use Rattle.landing_laws.proofs.LandedBlocks.{on_new, on_its, on_rises, blocks_more}
 use Rattle.landing_laws.proofs.GivenBack.{IsLandedNow, of_unit_landed, gives_of_chunk, times_le, rows_within}
 use Rattle.landing_laws.proofs.GivenNow.{readable_plain, blocks_below, chunk_life, chunk_unit, IsOfChunk, chunk_members}
 use Rattle.landing_laws.proofs.Finding.{some_any, found_within, found_in_stripe}
 use Rattle.landing_laws.proofs.NewlyRead.{find_below, found_any, rises_at}
+use Rattle.lemmas.proofs.Lists.{IsAmong}
+use Rattle.lemmas.proofs.Maps.{any_member, filter_short, found_passes, in_filter}
+use Rattle.lemmas.proofs.Options.{some_value}
+use Rattle.lemmas.proofs.Parts.{all_at, got_within}
+use Rattle.lemmas.proofs.Tests.{lt_true, other_number, same_number, second_of}
 
 -- it is the last stripe of its unit
 pub record IsNewest (log : List Logged) (p : Placed) : Type 0 where
@@ -53,7 +53,7 @@ last_in_chunk log p o k is at = go (cases_order (length (stripes_on log o p.stri
     go (inl same) = omega arith
     go (inr (inl below)) = omega arith
     go (inr (inr above)) =
-        let next : (r : Placed) × (slice_get (stripes_on log o p.stripe.unit) (k + 1) ≡ Some r) = some_at (stripes_on log o p.stripe.unit) (k + 1) above in
+        let next : (r : Placed) × (slice_get (stripes_on log o p.stripe.unit) (k + 1) ≡ Some r) = got_within (stripes_on log o p.stripe.unit) (k + 1) above in
         let newer : p.number < next.0.number = rises_at (stripes_on log o p.stripe.unit) k (k + 1) p next.0 (on_rises log o p.stripe.unit) at next.1 (omega arith) in
         let of : IsOfChunk log p o next.0 = all_at (IsOfChunk log p o) (stripes_on log o p.stripe.unit) (k + 1) next.0 next.1 (chunk_members log p o) in
         let older : next.0.number ≤ p.number = none_newer log p next.0 is
@@ -69,7 +69,7 @@ landed_before s log new p o is newest =
     let few : length (stripes_on log o p.stripe.unit) ≤ here.0 + 1 = last_in_chunk log p o here.0 newest here.1 in
     let more : landed_blocks s new o p.stripe.unit ≡ landed_blocks s log o p.stripe.unit + s.ws_opt = blocks_more s log new p o is.one_more is.life in
     let n : ℕ = length (filter (has_landed new) (stripes_on new o p.stripe.unit)) in
-    let count : n ≤ length (stripes_on new o p.stripe.unit) = fewer (has_landed new) (stripes_on new o p.stripe.unit) in
+    let count : n ≤ length (stripes_on new o p.stripe.unit) = filter_short (has_landed new) (stripes_on new o p.stripe.unit) in
     let same : length (stripes_on new o p.stripe.unit) ≡ length (stripes_on log o p.stripe.unit) = ap (λ (ps : List Placed). length ps) (on_new log new p is.one_more o p.stripe.unit) in
     let product : landed_blocks s new o p.stripe.unit ≤ suc here.0 * s.ws_opt = times_le n (suc here.0) s.ws_opt (omega arith) in
     let next : suc here.0 * s.ws_opt ≡ here.0 * s.ws_opt + s.ws_opt = grind arith in
@@ -85,14 +85,14 @@ shifted b m n = go (cases_order (b + m) n)
 
     go : (b + m ≡ n) ⊎ ((b + m < n) ⊎ (n < b + m)) → nat_lt (b + m) n ≡ nat_lt b (n - m)
     go (inl same) = none (omega arith)
-    go (inr (inl below)) = is_below (b + m) n below ∙ sym (is_below b (n - m) (omega arith))
+    go (inr (inl below)) = lt_true (b + m) n below ∙ sym (lt_true b (n - m) (omega arith))
     go (inr (inr above)) = none (omega arith)
 
 reads_are : (s : Shape) (log : List Logged) (o : Opening) (unit b : ℕ) → ArePlain log → b < s.clba → is_readable_in s log unit b (Opened o) ≡ nat_lt b (readable_blocks s (landed_blocks s log o unit))
 reads_are s log o unit b plain within = readable_plain s log o unit b plain ∙ go (nat_eq (landed_blocks s log o unit) s.clba)
   where
     go : (c : Bool) → (c || nat_lt (b + s.mw_cunits) (landed_blocks s log o unit)) ≡ nat_lt b (if c then s.clba else landed_blocks s log o unit - s.mw_cunits)
-    go true = sym (is_below b s.clba within)
+    go true = sym (lt_true b s.clba within)
     go false = shifted b s.mw_cunits (landed_blocks s log o unit)
 
 flat_length : (size : ℕ) (ps : List Placed) → ((k : ℕ) (p : Placed) → slice_get ps k ≡ Some p → length p.stripe.blocks ≡ size) → length (flat_map (λ (p : Placed). p.stripe.blocks) ps) ≡ length ps * size
@@ -117,19 +117,6 @@ read_found s log o unit q cs plain within =
     ∙ ap (λ k. find (λ (b : ℕ × Block). bears_position s q b.1) (enumerate_from 0 (take k cs))) (let same : readable_blocks s (landed_blocks s log o unit) - 0 ≡ readable_blocks s (landed_blocks s log o unit) = omega arith in same)
 
 -- ---- what could be read is given back
-
-pub any_member : {X : Type 0} (f : X → Bool) (xs : List X) (k : ℕ) (x : X) → slice_get xs k ≡ Some x → f x ≡ true → list_any f xs ≡ true
-any_member f [] k x at e = absurd (none-some x at)
-any_member f (y ∷ ys) zero x at e = ap (λ b. b || list_any f ys) (ap f (same_Some y x at) ∙ e)
-any_member f (y ∷ ys) (suc k) x at e = ap (λ b. f y || b) (any_member f ys k x at e) ∙ either (f y)
-  where
-    either : (b : Bool) → (b || true) ≡ true
-    either true = refl
-    either false = refl
-
-pub some_of : {X : Type 0} (o : Option X) → is_some o ≡ true → (x : X) × (o ≡ Some x)
-some_of None e = absurd cc
-some_of (Some x) e = (x, refl)
 
 before_lands : (log new : List Logged) (p r : Placed) → (r ≡ p) ⊎ (answer_of new r ≡ answer_of log r) → (r ≡ p → ⊥) → has_landed new r ≡ true → has_landed log r ≡ true
 before_lands log new p r (inl same) apart e = absurd (apart same)
@@ -166,18 +153,18 @@ given_found : (s : Shape) (log new : List Logged) (p : Placed) (o : Opening) (q 
     → find (λ (b : ℕ × Block). bears_position s q b.1 && is_readable_in s log p.stripe.unit b.0 (Opened o)) (enumerate_from 0 (chunk_blocks log o p.stripe.unit)) ≡ Some b → is_given_back s log q ≡ true
 given_found s log new p o q b is newest found =
     let test : ℕ × Block → Bool = λ b. bears_position s q b.1 && is_readable_in s log p.stripe.unit b.0 (Opened o) in
-    let passes : test b ≡ true = (found_is test (enumerate_from 0 (chunk_blocks log o p.stripe.unit)) b found).0 in
+    let passes : test b ≡ true = (found_passes test (enumerate_from 0 (chunk_blocks log o p.stripe.unit)) b found).0 in
     let at : (k : ℕ) × (r : Placed) × (slice_get (stripes_on log o p.stripe.unit) k ≡ Some r) × (find test (enumerate_from r.stripe.at r.stripe.blocks) ≡ Some b) =
     found_in_stripe test s.ws_opt 0 (stripes_on log o p.stripe.unit) b
     (λ k r e. let row = is.rows k r e in ((let at : r.stripe.at ≡ k * s.ws_opt = row.at in omega arith), row.blocks)) found in
-    given_by s log new p o q b at.0 at.1 is newest (and_second (bears_position s q b.1) (is_readable_in s log p.stripe.unit b.0 (Opened o)) passes) at.2 at.3
+    given_by s log new p o q b at.0 at.1 is newest (second_of (bears_position s q b.1) (is_readable_in s log p.stripe.unit b.0 (Opened o)) passes) at.2 at.3
 
 pub given_before : (s : Shape) (log new : List Logged) (p : Placed) (o : Opening) (q : ℕ) → IsLandedNow s log new p o → IsNewest log p
     → list_any (bears_position s q) (take (readable_blocks s (landed_blocks s log o p.stripe.unit)) (chunk_blocks log o p.stripe.unit)) ≡ true → is_given_back s log q ≡ true
 given_before s log new p o q is newest e =
     let test : ℕ × Block → Bool = λ b. bears_position s q b.1 && is_readable_in s log p.stripe.unit b.0 (Opened o) in
     let found : (b : ℕ × Block) × (find test (enumerate_from 0 (chunk_blocks log o p.stripe.unit)) ≡ Some b) =
-    some_of (find test (enumerate_from 0 (chunk_blocks log o p.stripe.unit)))
+    some_value (find test (enumerate_from 0 (chunk_blocks log o p.stripe.unit)))
     (ap is_some (read_found s log o p.stripe.unit q (chunk_blocks log o p.stripe.unit) is.plain (chunk_within s log o p.stripe.unit is.rows))
     ∙ found_any (bears_position s q) 0 (take (readable_blocks s (landed_blocks s log o p.stripe.unit)) (chunk_blocks log o p.stripe.unit)) ∙ e) in
     given_found s log new p o q found.0 is newest found.1

@@ -1,5 +1,5 @@
 -- A stripe has landed: the window and the map by the blocks that can be read now and couldn't before.
-use Rattle.std.proofs.Common.{◌≡◌, ℕ, ◌+◌, ◌-◌, ◌<◌, ◌≤◌, ◌&&◌, ◌||◌, nat_eq, nat_lt, Bool, true, false, Some, None, Option, List, [], ◌∷◌, length, take, drop, refl, sym, subst, ap, ap₂, ◌∙◌, arith, append-nil}
+use Rattle.std.proofs.Common.{◌≡◌, ℕ, ◌+◌, ◌-◌, ◌<◌, ◌≤◌, ◌&&◌, ◌||◌, nat_eq, nat_lt, Bool, true, false, Some, List, [], ◌∷◌, length, take, drop, refl, sym, subst, ap, ap₂, ◌∙◌, arith, append-nil}
 use Rattle.std.specs.Prelude.{map, slice_get, is_some, if◌then◌else◌}
 use Rattle.std.specs.List.{filter, find, list_any, flat_map, enumerate_from}
 use Rattle.std.proofs.lemmas.Bool.{eqb-true}
@@ -13,7 +13,6 @@ use Rattle.pblk_world.specs.World.{World, log_of}
 use Rattle.pblk_world.specs.EngineLog.{Opened, Opening, Taken, takes, Placed, placed_on, answers, bears_position, holds_position}
 use Rattle.pblk_world.specs.Fronts.{first_position, has_landed_at, is_users}
 use Rattle.pblk_world.specs.Space.{landed_blocks, is_readable_in}
-use Rattle.pblk_world.proofs.Appending.{takes_more}
 use Rattle.l2p_map.specs.declared.slot.Slot.{Slot}
 use Rattle.l2p_map.specs.declared.slot.Slot.TheVariants.{Unwritten, Cached, Media}
 use Rattle.write_window.specs.declared.held.Progress.{Progress}
@@ -39,6 +38,8 @@ use Rattle.landing_laws.proofs.SlotsInWorlds.{slot_landed, read_is_some}
 use Rattle.landing_laws.proofs.Untouched.{same_window}
 use Rattle.landing_laws.proofs.NewlyRead.{find_behind, found_any}
 use Rattle.landing_laws.proofs.NewBlocks.{IsNewest, read_found, given_before, chunk_within}
+use Rattle.lemmas.proofs.Options.{some_mapped}
+use Rattle.pblk_world.proofs.EngineLogLemmas.{takes_more}
 
 -- ---- what is given back now
 
@@ -78,10 +79,6 @@ found_among s log new p o q is newest kept =
   where
     same_chunk : (unit : ℕ) → chunk_blocks new o unit ≡ chunk_blocks log o unit
     same_chunk unit = ap (λ (ps : List Placed). flat_map (λ (r : Placed). r.stripe.blocks) ps) (on_new log new p is.one_more o unit)
-
-some_mapped : {X Y : Type 0} (f : X → Y) (x : Option X) → is_some (option_map f x) ≡ is_some x
-some_mapped f None = refl
-some_mapped f (Some x) = refl
 
 pub given_newly : (s : Shape) (log new : List Logged) (p : Placed) (o : Opening) (q : ℕ) → IsLandedNow s log new p o → IsNewest log p
     → is_given_back s new q ≡ (is_given_back s log q || list_any (bears_position s q) (newly_readable s log o p.stripe.unit))

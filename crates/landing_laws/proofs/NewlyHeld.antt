@@ -9,20 +9,21 @@ use Rattle.pblk_world.specs.Events.{Logged}
 use Rattle.pblk_world.specs.EngineLog.{Opened, is_life, Opening, Placed, placements, stripes_of, stripes_on, has_landed, bears_position, holds_position}
 use Rattle.pblk_world.specs.Fronts.{has_landed_at}
 use Rattle.pblk_world.specs.Space.{landed_blocks, is_readable_in, gives_back}
-use Rattle.stripe_placer.proofs.Among.{IsAmong}
 use Rattle.core_laws.specs.WindowOf.{is_given_back}
-use Rattle.core_laws.proofs.Lists.{all_at, all_filter}
-use Rattle.core_laws.proofs.Turns.{found_is}
-use Rattle.core_laws.proofs.Tests.{first_of as and_first, second_of as and_second, or_right as or_either}
 use Rattle.landing_laws.specs.ChunkBlocks.{chunk_blocks, readable_blocks, newly_readable}
-use Rattle.landing_laws.proofs.BorneOnce.{times, times_append, BearsOnce, fewer_filtered, fewer_taken}
+use Rattle.landing_laws.proofs.BorneOnce.{times, times_append, BearsOnce, fewer_filtered}
 use Rattle.landing_laws.proofs.HeldOnce.{HeldOnce, holders, one_holder}
 use Rattle.landing_laws.proofs.Growing.{given_holds, given_landed}
 use Rattle.landing_laws.proofs.GivenBack.{IsLandedNow, flat_any, gives_of_chunk, any_append}
 use Rattle.landing_laws.proofs.GivenNow.{blocks_below, chunk_life, chunk_unit, IsOfChunk, chunk_members}
 use Rattle.landing_laws.proofs.NewlyRead.{found_any}
-use Rattle.landing_laws.proofs.NewBlocks.{IsNewest, read_found, chunk_within, any_member, some_of}
+use Rattle.landing_laws.proofs.NewBlocks.{IsNewest, read_found, chunk_within}
 use Rattle.landing_laws.proofs.NewWindow.{low_high, given_newly}
+use Rattle.lemmas.proofs.Lists.{IsAmong}
+use Rattle.lemmas.proofs.Maps.{all_filter, any_found, any_member, fewer_taken, found_passes}
+use Rattle.lemmas.proofs.Options.{some_value}
+use Rattle.lemmas.proofs.Parts.{all_at}
+use Rattle.lemmas.proofs.Tests.{first_of, or_right, second_of}
 
 -- ---- counting
 
@@ -89,8 +90,8 @@ any_stripe f (p ∷ ps) e = go (list_any f p.stripe.blocks) (sym (any_append f p
 
 pub member_of : {X : Type 0} (f : X → Bool) (xs : List X) → list_any f xs ≡ true → (x : X) × (f x ≡ true) × IsAmong xs x
 member_of {X} f xs e =
-    let found : (x : X) × (find f xs ≡ Some x) = some_of (find f xs) (sym (any_is f xs) ∙ e) in
-    let is = found_is f xs found.0 found.1 in
+    let found : (x : X) × (find f xs ≡ Some x) = some_value (find f xs) (sym (any_is f xs) ∙ e) in
+    let is = found_passes f xs found.0 found.1 in
     (found.0, is.0, is.1)
   where
     any_is : {X : Type 0} (f : X → Bool) (xs : List X) → list_any f xs ≡ is_some (find f xs)
@@ -101,14 +102,6 @@ member_of {X} f xs e =
         by true rest = refl
         by false rest = rest
 
-any_found : {X : Type 0} (f : X → Bool) (xs : List X) → list_any f xs ≡ is_some (find f xs)
-any_found f [] = refl
-any_found {X} f (x ∷ xs) = by (f x) (any_found f xs)
-  where
-    by : (b : Bool) → list_any f xs ≡ is_some (find f xs) → (b || list_any f xs) ≡ is_some (cond b (Some x) (find f xs))
-    by true rest = refl
-    by false rest = rest
-
 -- a stripe of the chunk that gives the position back does so by an earlier block
 earlier_block : (s : Shape) (log new : List Logged) (p : Placed) (o : Opening) (q : ℕ) → IsLandedNow s log new p o → HeldOnce s log → is_given_back s log q ≡ true → list_any (bears_position s q) (chunk_blocks log o p.stripe.unit) ≡ true
     → list_any (bears_position s q) (take (readable_blocks s (landed_blocks s log o p.stripe.unit)) (chunk_blocks log o p.stripe.unit)) ≡ true
@@ -117,9 +110,9 @@ earlier_block s log new p o q is held given borne =
     let r : (x : Placed) × (holds_position s q x ≡ true) × IsAmong (stripes_on log o p.stripe.unit) x = member_of (holds_position s q) (stripes_on log o p.stripe.unit) (any_stripe (bears_position s q) (stripes_on log o p.stripe.unit) borne) in
     let of : IsOfChunk log p o r.0 = all_at (IsOfChunk log p o) (stripes_on log o p.stripe.unit) r.2.0 r.0 r.2.1 (chunk_members log p o) in
     let t : (x : Placed) × (gives_back s log q x ≡ true) × IsAmong (placements log) x = member_of (gives_back s log q) (placements log) given in
-    let same : t.0 ≡ r.0 = one_holder s log q t.0 r.0 held t.2 of.among (and_second (has_landed log t.0) (holds_position s q t.0) (given_holds s log q t.0 t.1)) r.1 in
+    let same : t.0 ≡ r.0 = one_holder s log q t.0 r.0 held t.2 of.among (second_of (has_landed log t.0) (holds_position s q t.0) (given_holds s log q t.0 t.1)) r.1 in
     let gives : gives_back s log q r.0 ≡ true = ap (gives_back s log q) (sym same) ∙ t.1 in
-    let landed : has_landed log r.0 ≡ true = and_first (has_landed log r.0) (holds_position s q r.0) (given_holds s log q r.0 gives) in
+    let landed : has_landed log r.0 ≡ true = first_of (has_landed log r.0) (holds_position s q r.0) (given_holds s log q r.0 gives) in
     let reads : list_any test (enumerate_from r.0.stripe.at r.0.stripe.blocks) ≡ true = sym (gives_of_chunk s log o p.stripe.unit q r.0 landed (chunk_unit p o r.0 of.of) (chunk_life p o r.0 of.of)) ∙ gives in
     let whole : list_any test (enumerate_from 0 (chunk_blocks log o p.stripe.unit)) ≡ true =
     flat_any test s.ws_opt 0 (stripes_on log o p.stripe.unit) (λ k x e. let row = is.rows k x e in ((let at : x.stripe.at ≡ k * s.ws_opt = row.at in omega arith), row.blocks))
@@ -160,7 +153,7 @@ newly_kept s log new p o q is held once e =
 
 pub newly_landed : (s : Shape) (log new : List Logged) (p : Placed) (o : Opening) (q : ℕ) → IsLandedNow s log new p o → IsNewest log p → list_any (bears_position s q) (newly_readable s log o p.stripe.unit) ≡ true → has_landed_at s new q ≡ true
 newly_landed s log new p o q is newest e = given_landed s new q
-    (given_newly s log new p o q is newest ∙ or_either (is_given_back s log q) (list_any (bears_position s q) (newly_readable s log o p.stripe.unit)) e)
+    (given_newly s log new p o q is newest ∙ or_right (is_given_back s log q) (list_any (bears_position s q) (newly_readable s log o p.stripe.unit)) e)
 
 -- of a part of a list
 any_dropped : {X : Type 0} (f : X → Bool) (k : ℕ) (xs : List X) → list_any f (drop k xs) ≡ true → list_any f xs ≡ true
@@ -195,6 +188,6 @@ own_kept s log p q held among waits holds = go (is_given_back s log q) refl
     go true f =
         let t : (x : Placed) × (gives_back s log q x ≡ true) × IsAmong (placements log) x = member_of (gives_back s log q) (placements log) f in
         let both : (has_landed log t.0 && holds_position s q t.0) ≡ true = given_holds s log q t.0 t.1 in
-        let same : t.0 ≡ p = one_holder s log q t.0 p held t.2 among (and_second (has_landed log t.0) (holds_position s q t.0) both) holds in
-        no_both (has_landed log p) (ap (has_landed log) (sym same) ∙ and_first (has_landed log t.0) (holds_position s q t.0) both) waits
+        let same : t.0 ≡ p = one_holder s log q t.0 p held t.2 among (second_of (has_landed log t.0) (holds_position s q t.0) both) holds in
+        no_both (has_landed log p) (ap (has_landed log) (sym same) ∙ first_of (has_landed log t.0) (holds_position s q t.0) both) waits
     go false f = refl

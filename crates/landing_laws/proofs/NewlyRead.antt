@@ -5,10 +5,10 @@ use Rattle.std.specs.List.{find, list_any, enumerate_from}
 use Rattle.std.proofs.lemmas.Bool.{cases_order}
 use Rattle.std.proofs.lemmas.Option.{same_Some, none-some}
 use Rattle.pblk_world.specs.EngineLog.{Placed}
-use Rattle.core_laws.proofs.Lists.{all_at}
 use Rattle.core_laws.proofs.Placing.{not_below}
 use Rattle.core_laws.proofs.Turns.{Rises}
-use Rattle.stripe_placer.proofs.Chunks.{lt_yes as is_below}
+use Rattle.lemmas.proofs.Parts.{all_at}
+use Rattle.lemmas.proofs.Tests.{lt_true}
 
 -- ---- finding among numbered elements
 
@@ -51,7 +51,7 @@ find_below {X} bears reads high n (x ∷ xs) same = go (cases_order n high) (fin
     go (inr (inr above)) rest = past (omega arith) rest
     go (inr (inl below)) rest =
         let next : suc (high - (n + 1)) ≡ high - n = omega arith in
-        ap₂ (λ c (o : Option (ℕ × X)). cond c (Some head) o) (ap (λ c. bears x && c) (here ∙ is_below n high below) ∙ holds (bears x)) rest
+        ap₂ (λ c (o : Option (ℕ × X)). cond c (Some head) o) (ap (λ c. bears x && c) (here ∙ lt_true n high below) ∙ holds (bears x)) rest
         ∙ ap (λ k. find (λ (b : ℕ × X). bears b.1) (enumerate_from n (take k (x ∷ xs)))) next
 
 -- where none of the first passes, it is found behind them

@@ -1,59 +1,28 @@
 -- Stripes in a plain world: none is lost, and at most one of a unit isn't answered.
-use Rattle.std.proofs.Common.{◌≡◌, ℕ, ◌+◌, ◌<◌, ◌≤◌, ◌==◌, ◌||◌, zero, suc, nat_eq, Bool, true, false, cond, Some, None, Option, List, [], ◌∷◌, ◌++◌, length, take, refl, sym, subst, ap, ap₂, ◌∙◌, arith, length-append}
-use Rattle.std.specs.Prelude.{slice_get, is_some, if◌then◌else◌}
-use Rattle.std.specs.List.{AllByRecursion, Contains, filter, cons_option, list_any}
+use Rattle.std.proofs.Common.{◌≡◌, ℕ, ◌+◌, ◌<◌, ◌≤◌, ◌==◌, zero, suc, nat_eq, Bool, true, false, cond, Some, None, Option, List, [], ◌∷◌, ◌++◌, length, take, refl, sym, subst, ap, ap₂, ◌∙◌, arith, length-append}
+use Rattle.std.specs.Prelude.{slice_get, is_some}
+use Rattle.std.specs.List.{AllByRecursion, Contains, filter}
 use Rattle.std.specs.Option.{option_to_list}
 use Rattle.std.proofs.lemmas.Bool.{eqb-true}
 use Rattle.std.proofs.lemmas.List.Elements.{filter-append}
-use Rattle.std.proofs.lemmas.Option.{none-some, slice_get_within}
+use Rattle.std.proofs.lemmas.Option.{slice_get_within}
 use Rattle.pblk_model.specs.Image.{Image}
-use Rattle.pblk_world.specs.Events.{EngineEvent, Place, Landed, Lost, Event, Decides, Logged}
+use Rattle.pblk_world.specs.Events.{EngineEvent, Place, Decides, Logged}
 use Rattle.pblk_world.specs.World.{World, Logs, log_of}
-use Rattle.pblk_world.specs.EngineLog.{Begun, life_of, Placed, placed_by, placements, placed_on, Answer, DidLand, WasLost, answers, answer_by, answer_of, turn, is_land, is_loss, has_landed, was_lost, is_answered}
+use Rattle.pblk_world.specs.EngineLog.{Begun, life_of, Placed, placed_by, placements, placed_on, Answer, DidLand, WasLost, answers, answer_of, is_land, is_loss, has_landed, is_answered}
 use Rattle.pblk_world.specs.Legal.{IsLegal, IsDecision}
-use Rattle.pblk_world.proofs.Appending.{answers_more, placements_more}
-use Rattle.core_laws.specs.PlainWorlds.{is_plain_event, ArePlain}
-use Rattle.core_laws.proofs.Lists.{all_at, got_within as some_at, is_in}
-use Rattle.pblk_laws.proofs.Lists.{all_by_get as all_by_index}
+use Rattle.pblk_world.proofs.Appending.{placements_more}
+use Rattle.core_laws.specs.PlainWorlds.{ArePlain}
 use Rattle.landing_laws.proofs.Keeping.{IsKept, kept}
 use Rattle.landing_laws.proofs.Turns.{turn_at}
+use Rattle.core_laws.proofs.PlainWorldsLemmas.{not_lost}
+use Rattle.lemmas.proofs.Lists.{all_true}
+use Rattle.lemmas.proofs.Parts.{all_by_get, got_within, is_in, some_within, within_some}
+use Rattle.pblk_world.proofs.EngineLogLemmas.{answer_count}
 
 -- ---- no stripe is lost
 
-not_loss : (unit : ℕ) (e : Event) (a : Answer) → is_plain_event e ≡ true → answer_by unit e ≡ Some a → is_loss (Some a) ≡ false
-not_loss unit (Decides (Landed other event)) a plain is = go (nat_eq other unit) is
-  where
-    go : (b : Bool) → (if b then Some (DidLand event) else None) ≡ Some a → is_loss (Some a) ≡ false
-    go true e = ap is_loss (sym e)
-    go false e = absurd (none-some a e)
-not_loss unit (Decides (Lost other event)) a plain is = absurd cc
-not_loss unit e a plain is = absurd (none-some a is)
-
-none_lost : (unit : ℕ) (log : List Logged) → ArePlain log → AllByRecursion (λ a. is_loss (Some a) ≡ false) (answers log unit)
-none_lost unit [] plain = tt
-none_lost unit (l ∷ log) plain = go (answer_by unit l.event) refl (none_lost unit log plain.1)
-  where
-    go : (o : Option Answer) → answer_by unit l.event ≡ o → AllByRecursion (λ a. is_loss (Some a) ≡ false) (answers log unit) → AllByRecursion (λ a. is_loss (Some a) ≡ false) (cons_option o (answers log unit))
-    go None e rest = rest
-    go (Some a) e rest = (not_loss unit l.event a plain.0 e, rest)
-
-pub plain_not_lost : (log : List Logged) (r : Placed) → ArePlain log → was_lost log r ≡ false
-plain_not_lost log r plain = go (answer_of log r) refl
-  where
-    go : (o : Option Answer) → answer_of log r ≡ o → is_loss o ≡ false
-    go None e = refl
-    go (Some a) e = all_at (λ (a : Answer). is_loss (Some a) ≡ false) (answers log r.stripe.unit) (turn log r) a e (none_lost r.stripe.unit log plain)
-
-pub none_of_lost : (log : List Logged) (rs : List Placed) → ArePlain log → list_any (was_lost log) rs ≡ false
-none_of_lost log [] plain = refl
-none_of_lost log (r ∷ rs) plain = ap (λ b. b || list_any (was_lost log) rs) (plain_not_lost log r plain) ∙ none_of_lost log rs plain
-
 -- ---- one stripe of a unit
-
-some_within : {X : Type 0} (xs : List X) (m : ℕ) → is_some (slice_get xs m) ≡ true → m < length xs
-some_within [] m e = absurd cc
-some_within (x ∷ xs) zero e = omega arith
-some_within (x ∷ xs) (suc m) e = let rest : m < length xs = some_within xs m e in omega arith
 
 -- where all stripes of a unit are answered there are as many answers
 pub idle_fits : (log : List Logged) (unit : ℕ) → ((p : Placed) → Contains (placed_on log unit) p → is_answered log p ≡ true) → length (placed_on log unit) ≤ length (answers log unit)
@@ -62,7 +31,7 @@ idle_fits log unit idle = go (length (placed_on log unit)) refl
     go : (n : ℕ) → length (placed_on log unit) ≡ n → length (placed_on log unit) ≤ length (answers log unit)
     go zero e = omega arith
     go (suc m) e =
-        let last : (p : Placed) × (slice_get (placed_on log unit) m ≡ Some p) = some_at (placed_on log unit) m (omega arith) in
+        let last : (p : Placed) × (slice_get (placed_on log unit) m ≡ Some p) = got_within (placed_on log unit) m (omega arith) in
         let at = turn_at log unit m last.0 last.1 in
         let inside : m < length (answers log unit) = some_within (answers log unit) m
         (ap₂ (λ u n. is_some (slice_get (answers log u) n)) (sym at.0) (sym at.1) ∙ idle last.0 (is_in (placed_on log unit) m last.0 last.1)) in
@@ -76,11 +45,6 @@ placed_count log l unit =
     ap (λ (ps : List Placed). length (filter (λ (p : Placed). p.stripe.unit == unit) ps)) (placements_more log l)
     ∙ ap length (filter-append (λ (p : Placed). p.stripe.unit == unit) (placements log) (option_to_list (placed_by log (length log) l.event)))
     ∙ length-append (placed_on log unit) (filter (λ (p : Placed). p.stripe.unit == unit) (option_to_list (placed_by log (length log) l.event)))
-
-answer_count : (log : List Logged) (l : Logged) (unit : ℕ) → length (answers log unit) ≤ length (answers (log ++ l ∷ []) unit)
-answer_count log l unit =
-    let same : length (answers (log ++ l ∷ []) unit) ≡ length (answers log unit) + length (option_to_list (answer_by unit l.event)) = ap length (answers_more log l unit) ∙ length-append (answers log unit) (option_to_list (answer_by unit l.event)) in
-    omega arith
 
 at_most_one : {X : Type 0} (test : X → Bool) (o : Option X) → length (filter test (option_to_list o)) ≤ 1
 at_most_one test None = omega arith
@@ -126,10 +90,6 @@ one_kept i = record {
   next = λ known log beginning e knows begins own passes may was. one_next i known log beginning e knows own may was;
 }
 
-all_true : {X : Type 0} (xs : List X) → AllByRecursion (λ (x : X). true ≡ true) xs
-all_true [] = tt
-all_true (x ∷ xs) = (refl, all_true xs)
-
 pub one_unanswered : (i : Image) (w : World) → IsLegal i w → HasOne (log_of w 0)
 one_unanswered i w legal = kept i (λ e. true) HasOne (one_kept i) w legal (all_true (log_of w 0))
 
@@ -140,16 +100,11 @@ answered_lands None some kept = absurd cc
 answered_lands (Some (DidLand event)) some kept = refl
 answered_lands (Some (WasLost event)) some kept = absurd cc
 
-within_some : {X : Type 0} (xs : List X) (m : ℕ) → m < length xs → is_some (slice_get xs m) ≡ true
-within_some [] m inside = absurd (omega arith)
-within_some (x ∷ xs) zero inside = refl
-within_some (x ∷ xs) (suc m) inside = within_some xs m (omega arith)
-
 -- all of them have landed
 pub unit_landed : (new : List Logged) (unit : ℕ) → ArePlain new → length (placed_on new unit) ≤ length (answers new unit) → AllByRecursion (λ r. has_landed new r ≡ true) (placed_on new unit)
-unit_landed new unit plain fit = all_by_index (λ (r : Placed). has_landed new r ≡ true) (placed_on new unit) (λ k r e.
+unit_landed new unit plain fit = all_by_get (λ (r : Placed). has_landed new r ≡ true) (placed_on new unit) (λ k r e.
     let at = turn_at new unit k r e in
     let inside : k < length (placed_on new unit) = slice_get_within (placed_on new unit) k r e in
     answered_lands (answer_of new r)
     (ap₂ (λ u n. is_some (slice_get (answers new u) n)) at.0 at.1 ∙ within_some (answers new unit) k (omega arith))
-    (plain_not_lost new r plain))
+    (not_lost new r plain))

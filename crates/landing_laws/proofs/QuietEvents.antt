@@ -11,20 +11,22 @@ use Rattle.pblk_world.specs.World.{World, Logs, log_of}
 use Rattle.pblk_world.specs.EngineLog.{begun_by, Opened, life_of, Opening, takes, taken_by, Placed, placed_by, placements, placed_on, answers, answer_by, answer_of}
 use Rattle.pblk_world.specs.Legal.{IsLegal}
 use Rattle.pblk_world.specs.Placing.{MayPlace}
-use Rattle.pblk_world.proofs.Appending.{takes_more, answers_more, placements_more}
+use Rattle.pblk_world.proofs.Appending.{placements_more}
 use Rattle.pblk_world.proofs.Answered.{answers_fit}
 use Rattle.core_laws.specs.Stepping.{after}
 use Rattle.core_laws.specs.SlotOf.{slot_of}
 use Rattle.core_laws.specs.WindowOf.{window_from}
-use Rattle.core_laws.proofs.Lists.{fun_same, all_of as each}
 use Rattle.core_laws.proofs.Engine.{placements_before}
-use Rattle.core_laws.proofs.Rows.{same_number}
 use Rattle.core_laws.proofs.Steady.{AreAlike, answer_same}
-use Rattle.core_laws.proofs.Placing.{with_place, new_placed, placements_now, placed_on_now, answers_now, answer_now, weaker}
-use Rattle.core_laws.proofs.Answered.{get_last as get_end}
+use Rattle.core_laws.proofs.Placing.{with_place, new_placed, placements_now, placed_on_now, answers_now, answer_now}
 use Rattle.landing_laws.proofs.Turns.{turn_at}
 use Rattle.landing_laws.proofs.Untouched.{AreKept, window_kept}
 use Rattle.landing_laws.proofs.Slots.{first_kept, slot_kept}
+use Rattle.lemmas.proofs.Lists.{all_imply, all_of}
+use Rattle.lemmas.proofs.Numbers.{fun_same}
+use Rattle.lemmas.proofs.Parts.{get_last}
+use Rattle.lemmas.proofs.Tests.{same_number}
+use Rattle.pblk_world.proofs.EngineLogLemmas.{answers_more, takes_more}
 
 -- the event neither begins, takes, places nor answers
 pub record IsQuiet (log : List Logged) (e : EngineEvent) (knows : List ℕ) : Type 0 where
@@ -48,7 +50,7 @@ pub alike_kept : (log new : List Logged) → AreAlike log new → AreKept log ne
 alike_kept log new same = record {
   more = [];
   stripes = same.placements ∙ sym (append-nil (placements log));
-  answered = each (λ (r : Placed). answer_of new r ≡ answer_of log r) (answer_same log new same) (placements log);
+  answered = all_of (λ (r : Placed). answer_of new r ≡ answer_of log r) (answer_same log new same) (placements log);
   none = tt;
 }
 
@@ -77,7 +79,7 @@ new_none : (log : List Logged) (stripe : Stripe) (knows : List ℕ) (o : Opening
 new_none log stripe knows o opened fit =
     let there : slice_get (placed_on (with_place log stripe knows) stripe.unit) (length (placed_on log stripe.unit)) ≡ Some (new_placed log stripe o) =
     ap (λ (ps : List Placed). slice_get ps (length (placed_on log stripe.unit))) (placed_on_now log stripe knows o stripe.unit true opened (same_number stripe.unit))
-    ∙ get_end (placed_on log stripe.unit) (new_placed log stripe o) in
+    ∙ get_last (placed_on log stripe.unit) (new_placed log stripe o) in
     let at = turn_at (with_place log stripe knows) stripe.unit (length (placed_on log stripe.unit)) (new_placed log stripe o) there in
     ap₂ (λ xs n. slice_get xs n) (answers_now log stripe knows stripe.unit) at.1
     ∙ slice_get_past (answers log stripe.unit) (length (placed_on log stripe.unit)) fit
@@ -87,7 +89,7 @@ pub place_kept : (log : List Logged) (stripe : Stripe) (knows : List ℕ) (o : O
 place_kept log stripe knows o opened fit = record {
   more = new_placed log stripe o ∷ [];
   stripes = placements_now log stripe knows o opened;
-  answered = weaker (λ (r : Placed). r.number < length log) (λ (r : Placed). answer_of (with_place log stripe knows) r ≡ answer_of log r)
+  answered = all_imply (λ (r : Placed). r.number < length log) (λ (r : Placed). answer_of (with_place log stripe knows) r ≡ answer_of log r)
       (λ r before. answer_now log stripe knows o r opened (omega arith)) (placements log) (placements_before log);
   none = (new_none log stripe knows o opened fit, tt);
 }

@@ -7,9 +7,8 @@ use Rattle.pblk_model.specs.Contents.{counted, winner}
 use Rattle.pblk_model.specs.Image.{Image}
 use Rattle.pblk_world.specs.Events.{EngineEvent, Decides, Logged}
 use Rattle.pblk_world.specs.World.{Logs}
-use Rattle.pblk_world.specs.EngineLog.{Begun, begun, begun_by, LineLife, AsFound, Opened, Freed, is_life, Taken, takes, Placed, placements, bears_position}
+use Rattle.pblk_world.specs.EngineLog.{Begun, begun_by, LineLife, AsFound, Opened, Freed, is_life, Taken, takes, Placed, placements, bears_position}
 use Rattle.pblk_world.specs.Fronts.{first_position, last_take}
-use Rattle.pblk_world.specs.Lines.{found_by, found_image}
 use Rattle.pblk_world.specs.Space.{is_readable_in, gives_back}
 use Rattle.l2p_map.specs.declared.slot.Slot.TheVariants.{Cached, Media}
 use Rattle.stripe_placer.specs.OpenLines.{OpenLine}
@@ -21,22 +20,13 @@ use Rattle.core_laws.proofs.Opening.{placed_before}
 use Rattle.core_laws.proofs.Stripes.{find_all}
 use Rattle.core_laws.proofs.TakenSlots.{find_same, is_before}
 use Rattle.landing_laws.proofs.Untouched.{AreKept, find_kept, readable_kept, all_give_kept, none_gives}
+use Rattle.core_laws.proofs.SteppingLemmas.{found_kept}
+use Rattle.pblk_world.proofs.EngineLogLemmas.{begun_kept}
 
 -- ---- the beginning
 
-pub begun_kept : (log : List Logged) (e : EngineEvent) (knows : List ℕ) → begun_by knows (Decides e) ≡ None → begun (log ++ record { event = Decides e; knows = knows } ∷ []) ≡ begun log
-begun_kept [] e knows none = none
-begun_kept (l ∷ log) e knows none = refl
-
 pub first_kept : (log : List Logged) (e : EngineEvent) (knows : List ℕ) → begun_by knows (Decides e) ≡ None → first_position (log ++ record { event = Decides e; knows = knows } ∷ []) ≡ first_position log
 first_kept log e knows none = ap (λ (b : Option Begun). option_map_or (λ (b : Begun). b.beginning.first) b 0) (begun_kept log e knows none)
-
-pub found_kept : (i : Image) (logs : Logs) (e : EngineEvent) (knows : List ℕ) → begun_by knows (Decides e) ≡ None → found_image i (after logs e knows) ≡ found_image i logs
-found_kept i logs e knows none = ap (found_by i (after logs e knows)) (begun_kept (logs 0) e knows none) ∙ go (begun (logs 0))
-  where
-    go : (b : Option Begun) → found_by i (after logs e knows) b ≡ found_by i logs b
-    go None = refl
-    go (Some b) = refl
 
 -- ---- addresses
 

@@ -1,8 +1,8 @@
 -- The map once a stripe of a plain world has landed, and where the blocks of a chunk stand.
-use Rattle.std.proofs.Common.{◌≡◌, ℕ, ◌+◌, ◌*◌, ◌/◌, ◌%◌, ◌<◌, ◌&&◌, ◌||◌, Bool, true, false, cond, Some, None, Option, List, [], ◌∷◌, length, refl, sym, subst, ap, ◌∙◌, arith, append-nil}
+use Rattle.std.proofs.Common.{◌≡◌, ℕ, ◌+◌, ◌*◌, ◌/◌, ◌%◌, ◌<◌, ◌&&◌, Bool, true, Some, Option, List, length, refl, sym, subst, ap, ◌∙◌, arith, append-nil}
 use Rattle.std.specs.Prelude.{is_some}
-use Rattle.std.specs.List.{find, list_any, enumerate_from}
-use Rattle.std.specs.Option.{option_map, unwrap_or}
+use Rattle.std.specs.List.{find, enumerate_from}
+use Rattle.std.specs.Option.{unwrap_or}
 use Rattle.pblk_model.specs.declared.shape.Shape.{Shape}
 use Rattle.pblk_model.specs.Chunk.{Block}
 use Rattle.pblk_model.specs.Image.{Image}
@@ -10,7 +10,6 @@ use Rattle.pblk_world.specs.Events.{Landed, Decides, Logged}
 use Rattle.pblk_world.specs.World.{World, Logs, log_of}
 use Rattle.pblk_world.specs.EngineLog.{Opened, Opening, takes, Placed, bears_position}
 use Rattle.pblk_world.specs.Space.{is_readable_in}
-use Rattle.pblk_world.proofs.Appending.{takes_more}
 use Rattle.stripe_placer.specs.OpenLines.{width}
 use Rattle.core_laws.specs.Stepping.{after}
 use Rattle.core_laws.specs.OpenedLines.{as_opened, is_stripe_at}
@@ -24,6 +23,9 @@ use Rattle.landing_laws.specs.ReadSlots.{block_read, address_of_block, read_slot
 use Rattle.landing_laws.proofs.HeldOnce.{held_once}
 use Rattle.landing_laws.proofs.LandedWindow.{landed_now}
 use Rattle.landing_laws.proofs.LandedSlots.{slot_now}
+use Rattle.lemmas.proofs.Maps.{any_found}
+use Rattle.lemmas.proofs.Options.{some_mapped}
+use Rattle.pblk_world.proofs.EngineLogLemmas.{takes_more}
 
 pub slot_landed : (i : Image) (w : World) (unit event : ℕ) (knows : List ℕ) (p : Placed) (o : Opening) (lba : ℕ) → IsPlainWorld i w → unanswered_on (log_of w 0) unit ≡ Some p → p.life ≡ Opened o → AreInRows i.shape (log_of w 0) o unit
     → slot_of i (after (log_of w) (Landed unit event) knows) lba
@@ -49,18 +51,6 @@ address_at i logs o unit block j some wide inside there =
     (ap (is_stripe_at i.shape (as_opened i logs o) unit (block / i.shape.ws_opt * i.shape.ws_opt)) from ∙ there)
     (λ m other. not_at i.shape (as_opened i logs o) unit (block / i.shape.ws_opt * i.shape.ws_opt) m j some wide there (λ e. other (e ∙ sym from)))
     ∙ ap (λ m. Some m) from)
-
-any_found : {X : Type 0} (f : X → Bool) (xs : List X) → list_any f xs ≡ is_some (find f xs)
-any_found f [] = refl
-any_found {X} f (x ∷ xs) = go (f x) (any_found f xs)
-  where
-    go : (b : Bool) → list_any f xs ≡ is_some (find f xs) → (b || list_any f xs) ≡ is_some (cond b (Some x) (find f xs))
-    go true rest = refl
-    go false rest = rest
-
-some_mapped : {X Y : Type 0} (f : X → Y) (x : Option X) → is_some (option_map f x) ≡ is_some x
-some_mapped f None = refl
-some_mapped f (Some x) = refl
 
 pub read_is_some : (s : Shape) (log : List Logged) (o : Opening) (unit position : ℕ) → can_be_read s log o unit position ≡ is_some (block_read s log o unit position)
 read_is_some s log o unit position =

@@ -7,8 +7,8 @@ use Rattle.std.proofs.lemmas.Option.{same_Some, none-some}
 use Rattle.pblk_world.specs.Events.{Place, Event, Decides, Logged}
 use Rattle.pblk_world.specs.EngineLog.{LineLife, AsFound, Opened, Freed, life_of, Opening, Placed, placed_by, placements}
 use Rattle.core_laws.proofs.Numbers.{opens, opens_at, life_at}
-use Rattle.core_laws.proofs.Lists.{get_whole}
 use Rattle.core_laws.proofs.Opening.{all_made}
+use Rattle.lemmas.proofs.Parts.{get_whole}
 
 -- a life by an opening is of the opening that its event made
 pub IsOpenedFor : List Logged → ℕ → LineLife → Type 0

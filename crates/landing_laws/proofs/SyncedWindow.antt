@@ -20,19 +20,19 @@ use Rattle.write_window.specs.Window as window
 use Rattle.core_laws.specs.PlacerOf.{positions_of}
 use Rattle.core_laws.specs.Positions.{AreNumbered}
 use Rattle.core_laws.specs.WindowOf.{HeldSector, HeldSectors, without_frame, sectors_in, class_of, progress_by, is_given_back, held_of, users_below, window_from}
-use Rattle.core_laws.proofs.Lists.{all_filter, filter_none}
-use Rattle.core_laws.proofs.Placing.{not_below, weaker}
-use Rattle.core_laws.proofs.Tests.{no_both as not_both}
-use Rattle.stripe_placer.proofs.Chunks.{lt_yes as is_below}
+use Rattle.core_laws.proofs.Placing.{not_below}
 use Rattle.landing_laws.proofs.Least.{IsLeast, least}
+use Rattle.lemmas.proofs.Lists.{all_imply}
+use Rattle.lemmas.proofs.Maps.{all_filter, filter_none}
+use Rattle.lemmas.proofs.Tests.{below_by, lt_true, no_both}
 
 pub one_least : (f : ℕ → Bool) (turns p m : ℕ) → IsLeast f turns p m → m ≡ least_missing f turns p
 one_least f turns p m is = go (cases_order m (least_missing f turns p)) (least f turns p)
   where
     go : (m ≡ least_missing f turns p) ⊎ ((m < least_missing f turns p) ⊎ (least_missing f turns p < m)) → IsLeast f turns p (least_missing f turns p) → m ≡ least_missing f turns p
     go (inl same) other = same
-    go (inr (inl above)) other = let a : p ≤ m = is.from in let b : least_missing f turns p ≤ p + turns = other.within in not_both (f m) (other.below m a above) (is.missing (omega arith))
-    go (inr (inr beneath)) other = let a : p ≤ least_missing f turns p = other.from in let b : m ≤ p + turns = is.within in not_both (f (least_missing f turns p)) (is.below (least_missing f turns p) a beneath) (other.missing (omega arith))
+    go (inr (inl above)) other = let a : p ≤ m = is.from in let b : least_missing f turns p ≤ p + turns = other.within in no_both (f m) (other.below m a above) (is.missing (omega arith))
+    go (inr (inr beneath)) other = let a : p ≤ least_missing f turns p = other.from in let b : m ≤ p + turns = is.within in no_both (f (least_missing f turns p)) (is.below (least_missing f turns p) a beneath) (other.missing (omega arith))
 
 -- ---- the entries that have landed first
 
@@ -44,14 +44,6 @@ landed_by true true = refl
 -- the same entries
 abbrev AreAlike : Shape → List Logged → List Held → List Taken → Type 0
 AreAlike s log held ts = map without_frame held ≡ map (held_of s log) ts
-
-below_first : (f : ℕ → Bool) (p : ℕ) → f p ≡ true → (m : ℕ) → ((q : ℕ) → p + 1 ≤ q → q < m → f q ≡ true) → (q : ℕ) → p ≤ q → q < m → f q ≡ true
-below_first f p e m h q a b = go (cases_order p q)
-  where
-    go : (p ≡ q) ⊎ ((p < q) ⊎ (q < p)) → f q ≡ true
-    go (inl same) = subst (λ z. f z ≡ true) same e
-    go (inr (inl above)) = h q (omega arith) b
-    go (inr (inr beneath)) = absurd (omega arith)
 
 lead : (s : Shape) (log : List Logged) (held : List Held) (ts : List Taken) (from : ℕ) → AreAlike s log held ts → positions_of ts ≡ range_with_len from (length ts)
     → IsLeast (has_landed_at s log) (length ts) from (from + prefix_len (λ (h : Held). has_landed h.progress) held)
@@ -75,7 +67,7 @@ lead s log (h ∷ held) (t ∷ ts) from same numbered =
         subst (IsLeast (has_landed_at s log) (suc (length ts)) from) (sym next) (record {
           from = omega arith;
           within = let a : from + 1 + m ≤ from + 1 + length ts = is.within in omega arith;
-          below = λ q a b. below_first (has_landed_at s log) from (sym e) (from + 1 + m) is.below q a b;
+          below = λ q a b. below_by (has_landed_at s log) from (sym e) (from + 1 + m) is.below q a b;
           missing = λ a. is.missing (omega arith);
         })
     go false e is = record { from = omega arith; within = omega arith; below = λ q a b. absurd (omega arith); missing = λ a. ap (has_landed_at s log) (omega arith) ∙ sym e }
@@ -106,13 +98,13 @@ numbered_above a [] is = tt
 numbered_above a (t ∷ ts) is =
     let first : t.entry.position ≡ a = cc in
     let rest : positions_of ts ≡ range_with_len (a + 1) (length ts) = cc in
-    (omega arith, weaker (λ (u : Taken). a + 1 ≤ u.entry.position) (λ (u : Taken). a ≤ u.entry.position) (λ u h. omega arith) ts (numbered_above (a + 1) ts rest))
+    (omega arith, all_imply (λ (u : Taken). a + 1 ≤ u.entry.position) (λ (u : Taken). a ≤ u.entry.position) (λ u h. omega arith) ts (numbered_above (a + 1) ts rest))
 
 none_below : (a bound : ℕ) (ts : List Taken) → bound ≤ a → positions_of ts ≡ range_with_len a (length ts) → filter (λ (t : Taken). nat_lt t.entry.position bound) (filter (λ (t : Taken). is_users t.entry.source) ts) ≡ []
 none_below a bound ts within is =
     filter_none (λ (t : Taken). nat_lt t.entry.position bound) (filter (λ (t : Taken). is_users t.entry.source) ts)
     (all_filter (λ (t : Taken). nat_lt t.entry.position bound ≡ false) (λ (t : Taken). is_users t.entry.source) ts
-    (weaker (λ (t : Taken). a ≤ t.entry.position) (λ (t : Taken). nat_lt t.entry.position bound ≡ false) (λ t h. not_below bound t.entry.position (omega arith)) ts (numbered_above a ts is)))
+    (all_imply (λ (t : Taken). a ≤ t.entry.position) (λ (t : Taken). nat_lt t.entry.position bound ≡ false) (λ t h. not_below bound t.entry.position (omega arith)) ts (numbered_above a ts is)))
 
 count_below : (a m : ℕ) (ts : List Taken) → positions_of ts ≡ range_with_len a (length ts)
     → length (filter (λ (t : Taken). nat_lt t.entry.position (a + m)) (filter (λ (t : Taken). is_users t.entry.source) ts)) ≡ users_of (take m ts)
@@ -123,7 +115,7 @@ count_below a (suc m) (t ∷ ts) is =
     let first : t.entry.position ≡ a = cc in
     let rest : positions_of ts ≡ range_with_len (a + 1) (length ts) = cc in
     let next : a + suc m ≡ a + 1 + m = omega arith in
-    go (is_users t.entry.source) (is_below t.entry.position (a + suc m) (omega arith))
+    go (is_users t.entry.source) (lt_true t.entry.position (a + suc m) (omega arith))
     (ap (λ n. length (filter (λ (t : Taken). nat_lt t.entry.position n) (filter (λ (t : Taken). is_users t.entry.source) ts))) next ∙ count_below (a + 1) m ts rest)
   where
     go : (b : Bool) → nat_lt t.entry.position (a + suc m) ≡ true

@@ -10,22 +10,18 @@ use Rattle.pblk_world.specs.EngineLog.{LineLife, AsFound, Opened, Freed, is_life
 use Rattle.pblk_world.specs.Fronts.{first_position, has_landed_at, is_users}
 use Rattle.pblk_world.specs.Space.{landed_blocks, is_readable_in, gives_back}
 use Rattle.core_laws.specs.WindowOf.{HeldSectors, class_of, source_of, is_given_back, progress_by, held_of, users_below, window_from}
-use Rattle.core_laws.proofs.Lists.{map_same, filter_agree, filter_none, all_filter, find_none as find_fail}
-use Rattle.core_laws.proofs.Placing.{weaker}
 use Rattle.core_laws.proofs.TakenSlots.{any_same}
+use Rattle.lemmas.proofs.Lists.{all_imply}
+use Rattle.lemmas.proofs.Maps.{all_filter, any_fail, filter_agree, filter_none, find_none, map_same}
 
 -- ---- lists with more elements that fail
-
-any_fail : {X : Type 0} (f : X → Bool) (xs : List X) → AllByRecursion (λ x. f x ≡ false) xs → list_any f xs ≡ false
-any_fail f [] all = refl
-any_fail f (x ∷ xs) all = ap (λ b. b || list_any f xs) all.0 ∙ any_fail f xs all.1
 
 pub any_kept : {X : Type 0} (f g : X → Bool) (xs more : List X) → AllByRecursion (λ x. f x ≡ g x) xs → AllByRecursion (λ x. f x ≡ false) more → list_any f (xs ++ more) ≡ list_any g xs
 any_kept f g [] more all none = any_fail f more none
 any_kept f g (x ∷ xs) more all none = ap₂ (λ a b. a || b) all.0 (any_kept f g xs more all.1 none)
 
 pub find_kept : {X : Type 0} (f g : X → Bool) (xs more : List X) → AllByRecursion (λ x. f x ≡ g x) xs → AllByRecursion (λ x. f x ≡ false) more → find f (xs ++ more) ≡ find g xs
-find_kept f g [] more all none = find_fail f more none
+find_kept f g [] more all none = find_none f more none
 find_kept f g (x ∷ xs) more all none = ap₂ (λ b o. cond b (Some x) o) all.0 (find_kept f g xs more all.1 none)
 
 filter_kept : {X : Type 0} (f g : X → Bool) (xs more : List X) → AllByRecursion (λ x. f x ≡ g x) xs → AllByRecursion (λ x. f x ≡ false) more → filter f (xs ++ more) ≡ filter g xs
@@ -63,16 +59,16 @@ unfolding of_opening
 blocks_kept s log new kept o unit =
     ap (λ (ps : List Placed). length (filter (has_landed new) ps) * s.ws_opt) (on_kept log new kept o unit)
     ∙ ap (λ (ps : List Placed). length ps * s.ws_opt) (filter_kept (has_landed new) (has_landed log) (stripes_on log o unit) (of_opening o unit kept.more)
-    (stays_all (λ r. has_landed new r ≡ has_landed log r) o unit (placements log) (weaker (λ (r : Placed). answer_of new r ≡ answer_of log r) (λ (r : Placed). has_landed new r ≡ has_landed log r) (λ r e. ap is_land e) (placements log) kept.answered))
-    (stays_all (λ r. has_landed new r ≡ false) o unit kept.more (weaker (λ (r : Placed). answer_of new r ≡ None) (λ (r : Placed). has_landed new r ≡ false) (λ r e. ap is_land e) kept.more kept.none)))
+    (stays_all (λ r. has_landed new r ≡ has_landed log r) o unit (placements log) (all_imply (λ (r : Placed). answer_of new r ≡ answer_of log r) (λ (r : Placed). has_landed new r ≡ has_landed log r) (λ r e. ap is_land e) (placements log) kept.answered))
+    (stays_all (λ r. has_landed new r ≡ false) o unit kept.more (all_imply (λ (r : Placed). answer_of new r ≡ None) (λ (r : Placed). has_landed new r ≡ false) (λ r e. ap is_land e) kept.more kept.none)))
 
 lost_kept : (log new : List Logged) → AreKept log new → (o : Opening) (unit : ℕ) → list_any (was_lost new) (stripes_on new o unit) ≡ list_any (was_lost log) (stripes_on log o unit)
 unfolding of_opening
 lost_kept log new kept o unit =
     ap (list_any (was_lost new)) (on_kept log new kept o unit)
     ∙ any_kept (was_lost new) (was_lost log) (stripes_on log o unit) (of_opening o unit kept.more)
-    (stays_all (λ r. was_lost new r ≡ was_lost log r) o unit (placements log) (weaker (λ (r : Placed). answer_of new r ≡ answer_of log r) (λ (r : Placed). was_lost new r ≡ was_lost log r) (λ r e. ap is_loss e) (placements log) kept.answered))
-    (stays_all (λ r. was_lost new r ≡ false) o unit kept.more (weaker (λ (r : Placed). answer_of new r ≡ None) (λ (r : Placed). was_lost new r ≡ false) (λ r e. ap is_loss e) kept.more kept.none))
+    (stays_all (λ r. was_lost new r ≡ was_lost log r) o unit (placements log) (all_imply (λ (r : Placed). answer_of new r ≡ answer_of log r) (λ (r : Placed). was_lost new r ≡ was_lost log r) (λ r e. ap is_loss e) (placements log) kept.answered))
+    (stays_all (λ r. was_lost new r ≡ false) o unit kept.more (all_imply (λ (r : Placed). answer_of new r ≡ None) (λ (r : Placed). was_lost new r ≡ false) (λ r e. ap is_loss e) kept.more kept.none))
 
 pub readable_kept : (s : Shape) (log new : List Logged) → AreKept log new → (unit block : ℕ) (life : LineLife) → is_readable_in s new unit block life ≡ is_readable_in s log unit block life
 readable_kept s log new kept unit block AsFound = refl
@@ -85,8 +81,8 @@ landed_at_kept : (s : Shape) (log new : List Logged) → AreKept log new → (po
 landed_at_kept s log new kept position =
     ap (λ ps. list_any (λ r. has_landed new r && holds_position s position r) ps) kept.stripes
     ∙ any_kept (λ r. has_landed new r && holds_position s position r) (λ r. has_landed log r && holds_position s position r) (placements log) kept.more
-    (weaker (λ (r : Placed). answer_of new r ≡ answer_of log r) (λ (r : Placed). (has_landed new r && holds_position s position r) ≡ (has_landed log r && holds_position s position r)) (λ r e. ap (λ a. is_land a && holds_position s position r) e) (placements log) kept.answered)
-    (weaker (λ (r : Placed). answer_of new r ≡ None) (λ (r : Placed). (has_landed new r && holds_position s position r) ≡ false) (λ r e. ap (λ a. is_land a && holds_position s position r) e) kept.more kept.none)
+    (all_imply (λ (r : Placed). answer_of new r ≡ answer_of log r) (λ (r : Placed). (has_landed new r && holds_position s position r) ≡ (has_landed log r && holds_position s position r)) (λ r e. ap (λ a. is_land a && holds_position s position r) e) (placements log) kept.answered)
+    (all_imply (λ (r : Placed). answer_of new r ≡ None) (λ (r : Placed). (has_landed new r && holds_position s position r) ≡ false) (λ r e. ap (λ a. is_land a && holds_position s position r) e) kept.more kept.none)
 
 gives_kept : (s : Shape) (log new : List Logged) → AreKept log new → (position : ℕ) (r : Placed) → answer_of new r ≡ answer_of log r → gives_back s new position r ≡ gives_back s log position r
 gives_kept s log new kept position r e = ap₂ (λ a b. is_land a && b) e
@@ -94,10 +90,10 @@ gives_kept s log new kept position r e = ap₂ (λ a b. is_land a && b) e
     (λ b. ap (λ c. bears_position s position b.1 && c) (readable_kept s log new kept r.stripe.unit b.0 r.life)) (enumerate_from r.stripe.at r.stripe.blocks))
 
 pub all_give_kept : (s : Shape) (log new : List Logged) → AreKept log new → (position : ℕ) → AllByRecursion (λ r. gives_back s new position r ≡ gives_back s log position r) (placements log)
-all_give_kept s log new kept position = weaker (λ (r : Placed). answer_of new r ≡ answer_of log r) (λ (r : Placed). gives_back s new position r ≡ gives_back s log position r) (gives_kept s log new kept position) (placements log) kept.answered
+all_give_kept s log new kept position = all_imply (λ (r : Placed). answer_of new r ≡ answer_of log r) (λ (r : Placed). gives_back s new position r ≡ gives_back s log position r) (gives_kept s log new kept position) (placements log) kept.answered
 
 pub none_gives : (s : Shape) (log new : List Logged) → (kept : AreKept log new) → (position : ℕ) → AllByRecursion (λ r. gives_back s new position r ≡ false) kept.more
-none_gives s log new kept position = weaker (λ (r : Placed). answer_of new r ≡ None) (λ (r : Placed). gives_back s new position r ≡ false)
+none_gives s log new kept position = all_imply (λ (r : Placed). answer_of new r ≡ None) (λ (r : Placed). gives_back s new position r ≡ false)
     (λ r e. ap (λ a. is_land a && list_any (λ (b : ℕ × Block). bears_position s position b.1 && is_readable_in s new r.stripe.unit b.0 r.life) (enumerate_from r.stripe.at r.stripe.blocks)) e) kept.more kept.none
 
 pub given_kept : (s : Shape) (log new : List Logged) → AreKept log new → (position : ℕ) → is_given_back s new position ≡ is_given_back s log position

@@ -10,8 +10,8 @@ use Rattle.write_window.specs.Entries.{has_landed, AreFrom, with_progress}
 use Rattle.write_window.specs.Window.{WindowView, has_landed_at, turned}
 use Rattle.core_laws.specs.WindowOf.{HeldSector, HeldSectors, without_frame, sectors_in}
 use Rattle.core_laws.proofs.Placing.{not_below}
-use Rattle.core_laws.proofs.Rows.{same_number, other_number}
 use Rattle.landing_laws.specs.Advanced.{advanced, advanced_sector, advanced_window}
+use Rattle.lemmas.proofs.Tests.{other_number, same_number}
 
 -- ---- one entry
 

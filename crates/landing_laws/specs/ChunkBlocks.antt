@@ -32,7 +32,7 @@ abbrev pub block_among : Shape → List Logged → Opening → ℕ → ℕ → O
 block_among s log o unit position = option_map (λ b. b.0) (find (λ b. bears_position s position b.1)
     (enumerate_from (readable_blocks s (landed_blocks s log o unit)) (newly_readable s log o unit)))
 
--- it is the stripe of this number in its chunk, and within the chunk
+-- the stripe is the one of this number in its chunk, and lies within the chunk
 pub record IsInRow (s : Shape) (number : ℕ) (p : Placed) : Type 0 where
   pub at : p.stripe.at ≡ number * s.ws_opt
   pub blocks : length p.stripe.blocks ≡ s.ws_opt

@@ -7,14 +7,12 @@ use Rattle.std.proofs.lemmas.List.Elements.{filter-append}
 use Rattle.pblk_model.specs.Contents.{is_of}
 use Rattle.pblk_world.specs.EngineLog.{Taken}
 use Rattle.line_table.specs.Rows.{latest}
-use Rattle.core_laws.proofs.Lists.{filter_agree, filter_same, filter_none, all_filter}
-use Rattle.core_laws.proofs.PlacedPositions.{all_joined}
-use Rattle.core_laws.proofs.Placing.{not_below, weaker}
-use Rattle.core_laws.proofs.Rows.{same_number, other_number}
-use Rattle.core_laws.proofs.Taking.{not_both}
-use Rattle.stripe_placer.proofs.Chunks.{lt_yes as is_below}
+use Rattle.core_laws.proofs.Placing.{not_below}
 use Rattle.line_laws.proofs.NextTakes.{IsRising, rising_before, rising_after, is_at, fails_at, passes_later, passes_last, is_same, none_found, IsFound, one_more}
 use Rattle.line_laws.proofs.TakenRows.{count_less}
+use Rattle.lemmas.proofs.Lists.{all_append, all_imply}
+use Rattle.lemmas.proofs.Maps.{all_filter, filter_agree, filter_none, filter_same}
+use Rattle.lemmas.proofs.Tests.{and_false, lt_true, not_first, other_number, same_number}
 
 -- the line of each sector, by its latest entry or another one
 abbrev pub Places : Type 0
@@ -82,24 +80,20 @@ none_before : (before : List Taken) (t : Taken) (after : List Taken) (x : Taken)
     → is_at t.entry.position (before_of (before ++ t ∷ after) x) ≡ false
 none_before before t after x rise fails = fails_at (λ u. (u.mark.lba == x.mark.lba) && nat_lt u.entry.position x.entry.position) before t after rise fails
 
-not_first : (a b : Bool) → a ≡ false → (a && b) ≡ false
-not_first true b e = absurd cc
-not_first false b e = refl
-
 -- of the entries up to it none comes after it
 up_to : (before : List Taken) (t : Taken) (after : List Taken) → IsRising (before ++ t ∷ after) → AllByRecursion (λ x. is_at t.entry.position (before_of (before ++ t ∷ after) x) ≡ false) before
 up_to before t after rise =
-    weaker (λ (x : Taken). x.entry.position < t.entry.position) (λ x. is_at t.entry.position (before_of (before ++ t ∷ after) x) ≡ false)
-    (λ x h. none_before before t after x rise (not_both (t.mark.lba == x.mark.lba) (nat_lt t.entry.position x.entry.position) (not_below x.entry.position t.entry.position (omega arith))))
+    all_imply (λ (x : Taken). x.entry.position < t.entry.position) (λ x. is_at t.entry.position (before_of (before ++ t ∷ after) x) ≡ false)
+    (λ x h. none_before before t after x rise (and_false (t.mark.lba == x.mark.lba) (nat_lt t.entry.position x.entry.position) (not_below x.entry.position t.entry.position (omega arith))))
     before (rising_before before t after rise)
 
 itself : (before : List Taken) (t : Taken) (after : List Taken) → IsRising (before ++ t ∷ after) → is_at t.entry.position (before_of (before ++ t ∷ after) t) ≡ false
-itself before t after rise = none_before before t after t rise (not_both (t.mark.lba == t.mark.lba) (nat_lt t.entry.position t.entry.position) (not_below t.entry.position t.entry.position (omega arith)))
+itself before t after rise = none_before before t after t rise (and_false (t.mark.lba == t.mark.lba) (nat_lt t.entry.position t.entry.position) (not_below t.entry.position t.entry.position (omega arith)))
 
 of_others : (before : List Taken) (t : Taken) (after xs : List Taken) → IsRising (before ++ t ∷ after) → AllByRecursion (λ x. is_same t x ≡ false) xs
     → AllByRecursion (λ x. is_at t.entry.position (before_of (before ++ t ∷ after) x) ≡ false) xs
 of_others before t after xs rise none =
-    weaker (λ x. is_same t x ≡ false) (λ x. is_at t.entry.position (before_of (before ++ t ∷ after) x) ≡ false)
+    all_imply (λ x. is_same t x ≡ false) (λ x. is_at t.entry.position (before_of (before ++ t ∷ after) x) ≡ false)
     (λ x h. none_before before t after x rise (not_first (t.mark.lba == x.mark.lba) (nat_lt t.entry.position x.entry.position) (turned_round x.mark.lba t.mark.lba h))) xs none
 
 -- ---- with no later entry of the sector
@@ -130,7 +124,7 @@ taker_last capacity before t after places line rise none =
     let ts : List Taken = before ++ t ∷ after in
     ap (λ us. option_map (λ (u : Taken). u.entry.position) (last_or None us))
     (took_same capacity ts places t.entry.position line ts
-    (all_joined (λ x. is_at t.entry.position (before_of (before ++ t ∷ after) x) ≡ false) before (t ∷ after) (up_to before t after rise)
+    (all_append (λ x. is_at t.entry.position (before_of (before ++ t ∷ after) x) ≡ false) before (t ∷ after) (up_to before t after rise)
     (itself before t after rise, of_others before t after after rise (none_found (is_same t) after none))))
 
 -- ---- with a later one
@@ -153,15 +147,15 @@ its_before before t after u rise f =
     let above : AllByRecursion (λ v. u.entry.position < v.entry.position) f.after = rising_after (before ++ t ∷ f.before) u f.after rest in
     let it : t.entry.position < u.entry.position = all_in t u f.before f.after (subst (AllByRecursion (λ v. t.entry.position < v.entry.position)) f.is (rising_after before t after rise)) in
     passes_last (λ v. (v.mark.lba == u.mark.lba) && nat_lt v.entry.position u.entry.position) before t after
-    (ap₂ (λ a b. a && b) (ap (λ n. n == u.mark.lba) (sym sector) ∙ same_number u.mark.lba) (is_below t.entry.position u.entry.position it))
+    (ap₂ (λ a b. a && b) (ap (λ n. n == u.mark.lba) (sym sector) ∙ same_number u.mark.lba) (lt_true t.entry.position u.entry.position it))
     (ap (filter (λ v. (v.mark.lba == u.mark.lba) && nat_lt v.entry.position u.entry.position)) f.is
     ∙ filter_none (λ v. (v.mark.lba == u.mark.lba) && nat_lt v.entry.position u.entry.position) (f.before ++ u ∷ f.after)
-    (all_joined (λ v. ((v.mark.lba == u.mark.lba) && nat_lt v.entry.position u.entry.position) ≡ false) f.before (u ∷ f.after)
-    (weaker (λ v. is_same t v ≡ false) (λ v. ((v.mark.lba == u.mark.lba) && nat_lt v.entry.position u.entry.position) ≡ false)
+    (all_append (λ v. ((v.mark.lba == u.mark.lba) && nat_lt v.entry.position u.entry.position) ≡ false) f.before (u ∷ f.after)
+    (all_imply (λ v. is_same t v ≡ false) (λ v. ((v.mark.lba == u.mark.lba) && nat_lt v.entry.position u.entry.position) ≡ false)
     (λ v h. not_first (v.mark.lba == u.mark.lba) (nat_lt v.entry.position u.entry.position) (ap (λ n. v.mark.lba == n) sector ∙ h)) f.before f.fail) (
-      not_both (u.mark.lba == u.mark.lba) (nat_lt u.entry.position u.entry.position) (not_below u.entry.position u.entry.position (omega arith)),
-      weaker (λ (v : Taken). u.entry.position < v.entry.position) (λ v. ((v.mark.lba == u.mark.lba) && nat_lt v.entry.position u.entry.position) ≡ false)
-          (λ v h. not_both (v.mark.lba == u.mark.lba) (nat_lt v.entry.position u.entry.position) (not_below u.entry.position v.entry.position (omega arith))) f.after above,
+      and_false (u.mark.lba == u.mark.lba) (nat_lt u.entry.position u.entry.position) (not_below u.entry.position u.entry.position (omega arith)),
+      all_imply (λ (v : Taken). u.entry.position < v.entry.position) (λ v. ((v.mark.lba == u.mark.lba) && nat_lt v.entry.position u.entry.position) ≡ false)
+          (λ v h. and_false (v.mark.lba == u.mark.lba) (nat_lt v.entry.position u.entry.position) (not_below u.entry.position v.entry.position (omega arith))) f.after above,
     )))
   where
     all_in : (t u : Taken) (xs ys : List Taken) → AllByRecursion (λ v. t.entry.position < v.entry.position) (xs ++ u ∷ ys) → t.entry.position < u.entry.position
@@ -185,9 +179,9 @@ past_it before t after u rise f x above = go (nat_eq t.mark.lba x.mark.lba) refl
         ∙ ap₂ (λ (xs : List Taken) b. xs ++ cond b (u ∷ filter (λ v. (v.mark.lba == x.mark.lba) && nat_lt v.entry.position x.entry.position) f.after)
         (filter (λ v. (v.mark.lba == x.mark.lba) && nat_lt v.entry.position x.entry.position) f.after))
         (filter_none (λ v. (v.mark.lba == x.mark.lba) && nat_lt v.entry.position x.entry.position) f.before
-        (weaker (λ v. is_same t v ≡ false) (λ v. ((v.mark.lba == x.mark.lba) && nat_lt v.entry.position x.entry.position) ≡ false)
+        (all_imply (λ v. is_same t v ≡ false) (λ v. ((v.mark.lba == x.mark.lba) && nat_lt v.entry.position x.entry.position) ≡ false)
         (λ v h. not_first (v.mark.lba == x.mark.lba) (nat_lt v.entry.position x.entry.position) (ap (λ n. v.mark.lba == n) sector ∙ h)) f.before f.fail))
-        (ap₂ (λ a b. a && b) (ap (λ n. n == x.mark.lba) (its ∙ sym sector) ∙ same_number x.mark.lba) (is_below u.entry.position x.entry.position above)))
+        (ap₂ (λ a b. a && b) (ap (λ n. n == x.mark.lba) (its ∙ sym sector) ∙ same_number x.mark.lba) (lt_true u.entry.position x.entry.position above)))
 
 pub taker_later : (capacity : ℕ) (before : List Taken) (t : Taken) (after : List Taken) (u : Taken) (places : Places) (line : ℕ) → IsRising (before ++ t ∷ after) → IsNowhere t.entry.position places → t.mark.lba < capacity
     → IsFound (is_same t) after u
@@ -200,15 +194,15 @@ taker_later capacity before t after u places line rise nowhere inside f =
     let above : AllByRecursion (λ v. u.entry.position < v.entry.position) f.after = rising_after (before ++ t ∷ f.before) u f.after rest in
     let its : before_of (before ++ t ∷ after) u ≡ Some t = its_before before t after u rise f in
     let yes : took_with capacity (before ++ t ∷ after) (with_entry t.entry.position line places) line u ≡ true =
-    ap₂ (λ a o. a && is_of line (with_entry t.entry.position line places u.mark.lba o)) (is_below u.mark.lba capacity below) its
+    ap₂ (λ a o. a && is_of line (with_entry t.entry.position line places u.mark.lba o)) (lt_true u.mark.lba capacity below) its
     ∙ ap (λ b. is_of line (if b then Some line else places u.mark.lba (Some t))) (same_number t.entry.position) ∙ same_number line in
     let no : took_with capacity (before ++ t ∷ after) places line u ≡ false =
-    ap₂ (λ a o. a && is_of line (places u.mark.lba o)) (is_below u.mark.lba capacity below) its ∙ ap (is_of line) (nowhere u.mark.lba t refl) in
+    ap₂ (λ a o. a && is_of line (places u.mark.lba o)) (lt_true u.mark.lba capacity below) its ∙ ap (is_of line) (nowhere u.mark.lba t refl) in
     let up : AllByRecursion (λ x. is_at t.entry.position (before_of (before ++ t ∷ after) x) ≡ false) (before ++ t ∷ f.before) =
-    all_joined (λ x. is_at t.entry.position (before_of (before ++ t ∷ after) x) ≡ false) before (t ∷ f.before) (up_to before t after rise)
+    all_append (λ x. is_at t.entry.position (before_of (before ++ t ∷ after) x) ≡ false) before (t ∷ f.before) (up_to before t after rise)
     (itself before t after rise, of_others before t after f.before rise f.fail) in
     let past : AllByRecursion (λ x. is_at t.entry.position (before_of (before ++ t ∷ after) x) ≡ false) f.after =
-    weaker (λ (v : Taken). u.entry.position < v.entry.position) (λ x. is_at t.entry.position (before_of (before ++ t ∷ after) x) ≡ false) (λ x h. past_it before t after u rise f x h) f.after above in
+    all_imply (λ (v : Taken). u.entry.position < v.entry.position) (λ x. is_at t.entry.position (before_of (before ++ t ∷ after) x) ≡ false) (λ x h. past_it before t after u rise f x h) f.after above in
     let old_parts : filter (took_with capacity (before ++ t ∷ after) places line) (before ++ t ∷ after)
     ≡ filter (took_with capacity (before ++ t ∷ after) places line) (before ++ t ∷ f.before) ++ filter (took_with capacity (before ++ t ∷ after) places line) f.after =
     ap (filter (took_with capacity (before ++ t ∷ after) places line)) parts

@@ -1,18 +1,18 @@
 -- The first stripe of a unit that isn't answered, and which stripes its answer tells of.
-use Rattle.std.proofs.Common.{◌≡◌, ◌⊎◌, inl, inr, ℕ, ◌==◌, ◌&&◌, zero, suc, nat_lt, nat_le, Bool, true, false, cond, Some, None, List, [], ◌∷◌, ◌++◌, length, take, refl, sym, ap, ap₂, ◌∙◌, append-nil}
+use Rattle.std.proofs.Common.{◌≡◌, ◌⊎◌, inl, inr, ℕ, ◌==◌, ◌&&◌, nat_lt, nat_le, Bool, true, false, cond, Some, None, List, [], ◌∷◌, ◌++◌, length, take, refl, sym, ap, ap₂, ◌∙◌, append-nil}
 use Rattle.std.specs.Prelude.{if◌then◌else◌, slice_get}
 use Rattle.std.specs.List.{AllByRecursion, filter, list_all}
 use Rattle.std.specs.Option.{option_to_list}
 use Rattle.pblk_world.specs.Events.{Landed, Decides, Logged}
 use Rattle.pblk_world.specs.EngineLog.{is_life, Opening, Placed, placements, stripes_of, Answer, DidLand, answers, answer_of, turn, is_land, has_landed}
 use Rattle.pblk_world.specs.Starts.{have_landed}
-use Rattle.pblk_world.proofs.Appending.{answers_more}
-use Rattle.stripe_placer.proofs.Among.{IsAmong, later}
 use Rattle.core_laws.proofs.Answered.{IsAnswer, IsFirst, others_answer}
-use Rattle.core_laws.proofs.Lists.{all_taken}
-use Rattle.core_laws.proofs.Placing.{weaker}
-use Rattle.core_laws.proofs.Rows.{same_number, other_number}
 use Rattle.line_laws.proofs.Kept.{with_event, placements_kept}
+use Rattle.lemmas.proofs.Lists.{IsAmong, among_all}
+use Rattle.lemmas.proofs.Maps.{all_agree}
+use Rattle.lemmas.proofs.Parts.{all_taken}
+use Rattle.lemmas.proofs.Tests.{other_number, same_number}
+use Rattle.pblk_world.proofs.EngineLogLemmas.{answers_more, land_more}
 
 -- ---- the first one
 
@@ -28,10 +28,6 @@ its_landing log unit event knows = record {
 
 -- ---- the stripes of other openings
 
-pub among_all : {X : Type 0} (xs : List X) → AllByRecursion (IsAmong xs) xs
-among_all [] = tt
-among_all (x ∷ xs) = ((0, refl), weaker (IsAmong xs) (IsAmong (x ∷ xs)) (λ y at. later x xs y at) xs (among_all xs))
-
 -- what passes, among all
 abbrev pub IsPassed : {X : Type 0} → (X → Bool) → List X → X → Type 0
 IsPassed f xs x = IsAmong xs x × (f x ≡ true)
@@ -43,10 +39,6 @@ passed {X} f all (x ∷ xs) there = go (f x) refl (passed f all xs there.1)
     go : (b : Bool) → f x ≡ b → AllByRecursion (λ y. IsAmong all y × (f y ≡ true)) (filter f xs) → AllByRecursion (λ y. IsAmong all y × (f y ≡ true)) (cond b (x ∷ filter f xs) (filter f xs))
     go true e rest = ((there.0, e), rest)
     go false e rest = rest
-
-all_agree : {X : Type 0} (P : X → Type 0) (f g : X → Bool) → ((x : X) → P x → f x ≡ g x) → (xs : List X) → AllByRecursion P xs → list_all f xs ≡ list_all g xs
-all_agree P f g same [] all = refl
-all_agree P f g same (x ∷ xs) all = ap₂ (λ a b. a && b) (same x all.0) (all_agree P f g same xs all.1)
 
 have_by : (log new : List Logged) (o : Opening) (n : ℕ) → placements new ≡ placements log
     → have_landed new o n ≡ (nat_le n (length (stripes_of log o)) && list_all (has_landed new) (take n (stripes_of log o)))
@@ -71,11 +63,6 @@ have_landed_beside log new unit a p o n is first apart =
     same q (inr e) its = ap is_land e
 
 -- ---- what has landed stays so
-
-land_more : (xs ys : List Answer) (k : ℕ) → is_land (slice_get xs k) ≡ true → is_land (slice_get (xs ++ ys) k) ≡ true
-land_more [] ys k e = absurd cc
-land_more (x ∷ xs) ys zero e = e
-land_more (x ∷ xs) ys (suc k) e = land_more xs ys k e
 
 landed_stays : (log : List Logged) (unit event : ℕ) (knows : List ℕ) (p : Placed) → has_landed log p ≡ true → has_landed (with_event log (Landed unit event) knows) p ≡ true
 landed_stays log unit event knows p e =

@@ -13,14 +13,13 @@ use Rattle.pblk_world.specs.EngineLog.{LineLife, AsFound, Opened, Freed, life_of
 use Rattle.pblk_world.specs.Lines.{found_image, known_image, line_data, are_empty, has_number, is_free_line}
 use Rattle.pblk_world.specs.Starts.{have_landed}
 use Rattle.pblk_world.specs.Space as space
-use Rattle.line_table.specs.declared.row.LineState.{LineState}
 use Rattle.line_table.specs.declared.row.LineState.TheVariants.{Free, Open, Full, Failed, Dead}
 use Rattle.line_table.specs.declared.row.LineState.TheVariants as states
 use Rattle.line_table.specs.Rows.{is_free_state, is_free, free_len, free_addresses}
 use Rattle.core_laws.specs.RowsOf.{state_found, state_in, logs_then, width_given_up, width_in, row_of_line, rows_of}
-use Rattle.core_laws.proofs.Tests.{both}
-use Rattle.stripe_placer.proofs.Chunks.{lt_yes as is_below}
 use Rattle.line_laws.proofs.Ranges.{sum_same}
+use Rattle.lemmas.proofs.Tests.{both, lt_true}
+use Rattle.line_table.proofs.RowsLemmas.{free_state as only_free}
 
 -- ---- one line
 
@@ -30,7 +29,7 @@ given_up_free true n = go (nat_eq n 0) refl
   where
     go : (c : Bool) → nat_eq n 0 ≡ c → is_free_state (if c then Dead else Free) ≡ nat_lt 0 n
     go true e = ap (nat_lt 0) (sym (eqb-true n 0 e))
-    go false e = sym (is_below 0 n (let other = eqb-false n 0 e in omega arith))
+    go false e = sym (lt_true 0 n (let other = eqb-false n 0 e in omega arith))
 
 opened_free : (b c : Bool) → is_free_state (if b then Failed else if c then Full else Open) ≡ false
 opened_free true c = refl
@@ -53,14 +52,6 @@ state_free i logs line (Freed past knows) = given_up_free (are_empty (known_imag
 
 pub row_free : (i : Image) (logs : Logs) (line : ℕ) → is_free (row_of_line i logs line) ≡ is_free_line i logs line
 row_free i logs line = state_free i logs line (life_of (logs 0) line)
-
-only_free : (state : LineState) → is_free_state state ≡ true → state ≡ Free
-only_free Free e = refl
-only_free Open e = absurd cc
-only_free Full e = absurd cc
-only_free Failed e = absurd cc
-only_free states.Freed e = absurd cc
-only_free Dead e = absurd cc
 
 pub free_state : (i : Image) (logs : Logs) (line : ℕ) → is_free_line i logs line ≡ true → (row_of_line i logs line).state ≡ Free
 free_state i logs line e = only_free (row_of_line i logs line).state (row_free i logs line ∙ e)

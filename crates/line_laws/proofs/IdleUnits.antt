@@ -11,7 +11,8 @@ use Rattle.pblk_world.specs.EngineLog.{Placed, placed_on, Answer, answers, answe
 use Rattle.pblk_world.specs.Placing.{MayPlace}
 use Rattle.core_laws.specs.PlacerOf.{unanswered_on}
 use Rattle.core_laws.proofs.Answered.{IsFirst, first_unanswered}
-use Rattle.core_laws.proofs.Lists.{got_within as some_there}
+use Rattle.lemmas.proofs.Parts.{got_within}
+use Rattle.lemmas.proofs.Tests.{not_both}
 
 pub first_answer : (log : List Logged) (unit : ℕ) (p : Placed) → unanswered_on log unit ≡ Some p → answer_of log p ≡ None
 first_answer log unit p e =
@@ -20,10 +21,6 @@ first_answer log unit p e =
 
 unanswered : (log : List Logged) (unit : ℕ) (p : Placed) → unanswered_on log unit ≡ Some p → is_answered log p ≡ false
 unanswered log unit p e = ap is_some (first_answer log unit p e)
-
-pub no_both : (b : Bool) → b ≡ true → b ≡ false → ⊥
-no_both true e f = cc
-no_both false e f = cc
 
 pub all_answered : (i : Image) (logs : Logs) (stripe : Stripe) → length (answers (logs 0) stripe.unit) ≤ length (placed_on (logs 0) stripe.unit) → MayPlace i logs stripe
     → length (answers (logs 0) stripe.unit) ≡ length (placed_on (logs 0) stripe.unit)
@@ -35,7 +32,7 @@ all_answered i logs stripe few may = go (nat_lt (length (answers (logs 0) stripe
         omega arith
     go true e =
         let below : length (answers (logs 0) stripe.unit) < length (placed_on (logs 0) stripe.unit) = grind arith in
-        let some : (p : Placed) × (unanswered_on (logs 0) stripe.unit ≡ Some p) = some_there (placed_on (logs 0) stripe.unit) (length (answers (logs 0) stripe.unit)) below in
+        let some : (p : Placed) × (unanswered_on (logs 0) stripe.unit ≡ Some p) = got_within (placed_on (logs 0) stripe.unit) (length (answers (logs 0) stripe.unit)) below in
         let among : Contains (placed_on (logs 0) stripe.unit) some.0 = (length (answers (logs 0) stripe.unit), below, get_or_from_slice_get (placed_on (logs 0) stripe.unit) (length (answers (logs 0) stripe.unit)) some.0 some.0 some.1) in
         let answered : is_answered (logs 0) some.0 ≡ true = may.idle some.0 among in
-        absurd (no_both (is_answered (logs 0) some.0) answered (unanswered (logs 0) stripe.unit some.0 some.1))
+        absurd (not_both (is_answered (logs 0) some.0) answered (unanswered (logs 0) stripe.unit some.0 some.1))

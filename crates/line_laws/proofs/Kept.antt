@@ -6,11 +6,12 @@ use Rattle.std.specs.Option.{option_to_list}
 use Rattle.pblk_world.specs.Events.{EngineEvent, Open, Place, Landed, Lost, Free, Decides, Logged}
 use Rattle.pblk_world.specs.EngineLog.{life_of, is_life, Opening, stripes_of, has_landed, Placed, placements, placed_by, Answer, DidLand, answer_by, answers, turn, is_loss, was_lost}
 use Rattle.pblk_world.specs.Starts.{have_landed}
-use Rattle.pblk_world.proofs.Appending.{answers_more, life_more, placements_more}
-use Rattle.core_laws.proofs.Lists.{fun_same}
+use Rattle.pblk_world.proofs.Appending.{life_more, placements_more}
 use Rattle.core_laws.proofs.Steady.{AreAlike}
 use Rattle.core_laws.proofs.TakenSlots.{landed_same}
 use Rattle.line_laws.specs.OpenAddresses.{keeps_stripes, keeps_addresses}
+use Rattle.lemmas.proofs.Numbers.{fun_same}
+use Rattle.pblk_world.proofs.EngineLogLemmas.{answers_more}
 
 abbrev pub with_event : List Logged → EngineEvent → List ℕ → List Logged
 with_event log e knows = log ++ record { event = Decides e; knows = knows } ∷ []

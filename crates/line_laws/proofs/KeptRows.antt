@@ -12,9 +12,9 @@ use Rattle.pblk_model.specs.EndRecord.{end_of}
 use Rattle.pblk_model.specs.Contents.{is_of}
 use Rattle.pblk_world.specs.Events.{EngineEvent, Free, Decides, Logged}
 use Rattle.pblk_world.specs.World.{Logs}
-use Rattle.pblk_world.specs.EngineLog.{Begun, begun, begun_by, LineLife, AsFound, Opened, Freed, life_of, Opening, Taken, takes}
+use Rattle.pblk_world.specs.EngineLog.{begun, begun_by, LineLife, AsFound, Opened, Freed, life_of, Opening, Taken, takes}
 use Rattle.pblk_world.specs.Fronts.{last_take}
-use Rattle.pblk_world.specs.Lines.{found_by, found_image, told_by, told_events, known_image, are_empty}
+use Rattle.pblk_world.specs.Lines.{found_image, told_by, told_events, known_image, are_empty}
 use Rattle.pblk_world.specs.Victims.{is_freed, line_of, is_live_in, live, took_from, take_before}
 use Rattle.line_table.specs.declared.row.LineState.{LineState}
 use Rattle.line_table.specs.declared.row.LineState.TheVariants.{Free, Full, Failed, Dead}
@@ -22,21 +22,15 @@ use Rattle.line_table.specs.declared.row.LineState.TheVariants as states
 use Rattle.line_table.specs.declared.row.Row.{Row}
 use Rattle.core_laws.specs.Stepping.{after}
 use Rattle.core_laws.specs.RowsOf.{state_found, state_in, width_in, taker_by, taker_in, row_of_line}
-use Rattle.core_laws.proofs.Lists.{filter_same, map_same}
 use Rattle.line_laws.proofs.Kept.{with_event}
+use Rattle.core_laws.proofs.SteppingLemmas.{found_kept}
+use Rattle.lemmas.proofs.Maps.{filter_same, map_same}
 
 -- ---- images
 
 pub begun_kept : (log : List Logged) (e : EngineEvent) (knows : List ℕ) → begun_by knows (Decides e) ≡ None → begun (with_event log e knows) ≡ begun log
 begun_kept [] e knows none = none
 begun_kept (l ∷ log) e knows none = refl
-
-pub found_kept : (i : Image) (logs : Logs) (e : EngineEvent) (knows : List ℕ) → begun_by knows (Decides e) ≡ None → found_image i (after logs e knows) ≡ found_image i logs
-found_kept i logs e knows none = ap (found_by i (after logs e knows)) (begun_kept (logs 0) e knows none) ∙ go (begun (logs 0))
-  where
-    go : (b : Option Begun) → found_by i (after logs e knows) b ≡ found_by i logs b
-    go None = refl
-    go (Some b) = refl
 
 -- the event tells of no program that landed or was lost, and of no reset
 pub told_kept : (logs : Logs) (e : EngineEvent) (knows : List ℕ) (unit : ℕ) → told_by logs unit (Decides e) ≡ None → told_events (after logs e knows) unit ≡ told_events logs unit

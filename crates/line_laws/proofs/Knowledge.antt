@@ -1,24 +1,23 @@
 -- The prefixes that an event of the engine names say as much of the lines as the whole logs.
 use Rattle.std.proofs.Common.{◌≡◌, ℕ, ◌<◌, ◌≤◌, ◌==◌, zero, suc, Bool, true, false, Some, None, Option, List, [], ◌∷◌, ◌++◌, length, take, refl, subst, ap, ap₂, ◌∙◌, arith, take_all, le_refl, length-take, if◌then◌else◌}
 use Rattle.std.specs.Prelude.{map, slice_get, slice_index}
-use Rattle.std.specs.List.{AllByRecursion, Contains, filter_map, cons_option, enumerate_from}
-use Rattle.std.specs.Option.{option_and_then}
+use Rattle.std.specs.List.{AllByRecursion, filter_map, cons_option, enumerate_from}
 use Rattle.std.proofs.lemmas.Bool.{eqb-true}
 use Rattle.std.proofs.lemmas.List.{take-take}
-use Rattle.std.proofs.lemmas.Option.{same_Some, none-some, slice_get_within, get_or_from_slice_get}
+use Rattle.std.proofs.lemmas.Option.{same_Some, none-some, slice_get_within}
 use Rattle.pblk_model.specs.UnitLog.{UnitEvent, after_log}
 use Rattle.pblk_model.specs.Image.{Image}
 use Rattle.pblk_world.specs.Events.{Begin, Landed, Lost, Again, ResetDone, Event, Decides, Does, Logged}
-use Rattle.pblk_world.specs.World.{World, Logs, log_of, known, cut_logs, prefixes, unit_event_of, unit_events, unit_event_at, media}
+use Rattle.pblk_world.specs.World.{World, Logs, log_of, known, cut_logs, prefixes, unit_event_at}
 use Rattle.pblk_world.specs.EngineLog.{Begun, begun_by, begun, named_by}
 use Rattle.pblk_world.specs.Lines.{found_by, found_image, told_by, told_events, known_image}
 use Rattle.pblk_world.specs.Answering.{IsNew}
 use Rattle.pblk_world.specs.Legal.{IsAllowed, IsKnowledge, IsLegal}
-use Rattle.stripe_placer.proofs.Among.{IsAmong, later}
-use Rattle.core_laws.proofs.Lists.{map_same, zipped}
-use Rattle.core_laws.proofs.Placing.{weaker}
-use Rattle.core_laws.proofs.PlacedPositions.{all_joined}
 use Rattle.line_laws.specs.Known.{AreKnown}
+use Rattle.lemmas.proofs.Lists.{IsAmong, all_append, all_imply, among_all, zipped}
+use Rattle.lemmas.proofs.Maps.{map_same}
+use Rattle.lemmas.proofs.Parts.{contained_among}
+use Rattle.pblk_world.proofs.WorldLemmas.{media_same, unit_event_cut}
 
 -- ---- the events that are named are known
 
@@ -57,24 +56,17 @@ all_known i (s ∷ w) legal = go (s.author == 0) refl (all_known i w legal.1)
   where
     go : (b : Bool) → (s.author == 0) ≡ b → AllByRecursion (λ l. NamesBelow (known l) l) (log_of w 0) → AllByRecursion (λ l. NamesBelow (known l) l) (if b then log_of w 0 ++ s.logged ∷ [] else log_of w 0)
     go false e all = all
-    go true e all = all_joined (λ l. NamesBelow (known l) l) (log_of w 0) (s.logged ∷ []) all
+    go true e all = all_append (λ l. NamesBelow (known l) l) (log_of w 0) (s.logged ∷ []) all
         (names_known i (log_of w) s.logged s.logged.event (subst (λ a. IsAllowed i a s.logged.event (prefixes s.logged (log_of w))) (eqb-true s.author 0 e) legal.0.allowed), tt)
 
 -- ---- no event knows more than the next one
-
-among_all : {X : Type 0} (xs : List X) → AllByRecursion (IsAmong xs) xs
-among_all [] = tt
-among_all (x ∷ xs) = ((0, refl), weaker (IsAmong xs) (IsAmong (x ∷ xs)) (λ y at. later x xs y at) xs (among_all xs))
-
-contains : {X : Type 0} (xs : List X) (x : X) → IsAmong xs x → Contains xs x
-contains xs x at = (at.0, slice_get_within xs at.0 x at.1, get_or_from_slice_get xs at.0 x x at.1)
 
 IsEarlier : Logged → Logged → Type 0
 IsEarlier l m = (author : ℕ) → known m author ≤ known l author
 
 earlier : (i : Image) (logs : Logs) (l : Logged) → IsKnowledge i logs 0 l → AllByRecursion (IsEarlier l) (logs 0)
 unfolding IsEarlier
-earlier i logs l knowledge = weaker (IsAmong (logs 0)) (λ m. (author : ℕ) → known m author ≤ known l author) (λ m at author. knowledge.rising m author (contains (logs 0) m at)) (logs 0) (among_all (logs 0))
+earlier i logs l knowledge = all_imply (IsAmong (logs 0)) (λ m. (author : ℕ) → known m author ≤ known l author) (λ m at author. knowledge.rising m author (contained_among (logs 0) m at)) (logs 0) (among_all (logs 0))
 
 named_now : (i : Image) (w : World) (l : Logged) → IsLegal i w → IsKnowledge i (log_of w) 0 l → AllByRecursion (NamesBelow (known l)) (log_of w 0)
 unfolding AllKnown IsEarlier
@@ -94,12 +86,9 @@ get_taken (x ∷ xs) zero n within = absurd (omega arith)
 get_taken (x ∷ xs) (suc m) zero within = refl
 get_taken (x ∷ xs) (suc m) (suc n) within = get_taken xs m n (omega arith)
 
-event_same : (logs : Logs) (l : Logged) (unit n : ℕ) → n < known l (suc unit) → unit_event_at (prefixes l logs) unit n ≡ unit_event_at logs unit n
-event_same logs l unit n within = ap (option_and_then (λ (m : Logged). unit_event_of m.event)) (get_taken (logs (suc unit)) (known l (suc unit)) n within)
-
 told_if : (logs : Logs) (l : Logged) (unit n : ℕ) (b : Bool) → ((if b then Some n else None) ≡ Some n → n < known l (suc unit))
     → (if b then unit_event_at (prefixes l logs) unit n else None) ≡ (if b then unit_event_at logs unit n else None)
-told_if logs l unit n true within = event_same logs l unit n (within refl)
+told_if logs l unit n true within = unit_event_cut logs l unit n (within refl)
 told_if logs l unit n false within = refl
 
 told_same : (logs : Logs) (l : Logged) (unit : ℕ) (e : Event) → ((n : ℕ) → named_by unit e ≡ Some n → n < known l (suc unit)) → told_by (prefixes l logs) unit e ≡ told_by logs unit e
@@ -119,13 +108,6 @@ begun_first (m ∷ log) b e = (m, (0, refl), by_event m.knows m.event e)
     by_event : (knows : List ℕ) (ev : Event) → begun_by knows ev ≡ Some b → knows ≡ b.knows
     by_event knows (Decides (Begin beginning)) h = ap (λ (x : Begun). x.knows) (same_Some (record { beginning = beginning; knows = knows }) b h)
     by_event knows ev h = absurd (none-some b h)
-
-media_same : (i : Image) (logs more : Logs) → ((unit : ℕ) → logs (suc unit) ≡ more (suc unit)) → media i logs ≡ media i more
-media_same i logs more same =
-    let units_same : (media i logs).units ≡ (media i more).units =
-    map_same (λ unit. after_log i.shape unit.1 (unit_events logs unit.0)) (λ unit. after_log i.shape unit.1 (unit_events more unit.0))
-    (λ unit. ap (λ (xs : List Logged). after_log i.shape unit.1 (filter_map (λ m. unit_event_of m.event) xs)) (same unit.0)) (enumerate_from 0 i.units) in
-    λ k. record { shape = i.shape; units = units_same k }
 
 pub are_known : (i : Image) (w : World) (l : Logged) → IsLegal i w → IsKnowledge i (log_of w) 0 l → AreKnown i (log_of w) (prefixes l (log_of w))
 are_known i w l legal knowledge =
@@ -147,4 +129,4 @@ are_known i w l legal knowledge =
         let first : (m : Logged) × IsAmong (log_of w 0) m × (m.knows ≡ b.knows) = begun_first (log_of w 0) b e in
         media_same i (cut_logs b.knows (prefixes l (log_of w))) (cut_logs b.knows (log_of w))
         (λ unit. take-take (slice_index b.knows (suc unit)) (known l (suc unit)) (log_of w (suc unit))
-        (subst (λ (ks : List ℕ). slice_index ks (suc unit) ≤ known l (suc unit)) first.2 (knowledge.rising first.0 (suc unit) (contains (log_of w 0) first.0 first.1))))
+        (subst (λ (ks : List ℕ). slice_index ks (suc unit) ≤ known l (suc unit)) first.2 (knowledge.rising first.0 (suc unit) (contained_among (log_of w 0) first.0 first.1))))

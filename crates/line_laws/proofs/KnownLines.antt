@@ -23,12 +23,12 @@ use Rattle.pblk_world.specs.Space.{full_data, unplaced_in, addresses, placed_fro
 use Rattle.pblk_world.specs.Victims.{line_of_position, line_of}
 use Rattle.line_table.specs.declared.row.LineState.TheVariants as states
 use Rattle.core_laws.specs.RowsOf.{rows_of}
-use Rattle.core_laws.proofs.Lists.{made_same}
 use Rattle.line_laws.specs.Known.{AreKnown}
 use Rattle.line_laws.specs.Plain.{NoneFreed}
 use Rattle.line_laws.proofs.KeptRows.{row_kept}
 use Rattle.line_laws.proofs.Ranges.{sum_same}
 use Rattle.line_laws.proofs.Tables.{rows_stay}
+use Rattle.lemmas.proofs.Maps.{made_same}
 
 -- ---- rows
 

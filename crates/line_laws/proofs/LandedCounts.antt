@@ -9,16 +9,13 @@ use Rattle.pblk_world.specs.Events.{EngineEvent, Stripe, Open, Place, Landed, Lo
 use Rattle.pblk_world.specs.EngineLog.{Opened, is_life, Opening, Placed, placements, stripes_of, DidLand, answer_by, answer_of, is_land, has_landed}
 use Rattle.pblk_world.specs.Starts.{have_landed}
 use Rattle.pblk_world.specs.Placing.{line_end}
-use Rattle.stripe_placer.proofs.Among.{IsAmong, in_filter}
 use Rattle.core_laws.specs.PlacerOf.{unanswered_on}
 use Rattle.core_laws.specs.Stepping.{after}
 use Rattle.pblk_model.specs.StartRecord.{StartRecord}
 use Rattle.core_laws.proofs.Answered.{IsAnswer, IsFirst, its_answer, others_answer, first_unanswered}
 use Rattle.core_laws.proofs.Engine.{placements_before}
-use Rattle.core_laws.proofs.Lists.{filter_agree, filter_same, filter_none, all_filter, zipped, filter_short as few_pass}
 use Rattle.core_laws.proofs.Opening.{placed_before}
 use Rattle.core_laws.proofs.Placing.{with_place, new_placed, IsPlacing, answer_now, new_unanswered}
-use Rattle.core_laws.proofs.Rows.{same_number, other_number}
 use Rattle.core_laws.proofs.Steady.{AreAlike}
 use Rattle.core_laws.proofs.Taking.{filter_last}
 use Rattle.core_laws.proofs.TakenSlots.{landed_same}
@@ -27,12 +24,15 @@ use Rattle.core_laws.proofs.Removing.{all_first as all_left, all_second as all_r
 use Rattle.line_laws.specs.InOrder.{HasRoom}
 use Rattle.line_laws.specs.LandedStripes.{landed_count, keeps_landed}
 use Rattle.line_laws.specs.OpenAddresses.{keeps_stripes}
-use Rattle.line_laws.proofs.FirstAnswers.{among_all, passed, its_landing}
+use Rattle.line_laws.proofs.FirstAnswers.{passed, its_landing}
 use Rattle.line_laws.proofs.IdleUnits.{first_answer}
 use Rattle.line_laws.proofs.Kept.{with_event, placements_kept, alike_kept}
 use Rattle.line_laws.proofs.LineRoom.{few_stripes}
 use Rattle.line_laws.proofs.OpenedRows.{new_opening}
 use Rattle.line_laws.proofs.PlacedAddresses.{stripes_now}
+use Rattle.lemmas.proofs.Lists.{IsAmong, among_all, zipped}
+use Rattle.lemmas.proofs.Maps.{all_filter, filter_agree, filter_none, filter_same, filter_short, in_filter}
+use Rattle.lemmas.proofs.Tests.{other_number, same_number}
 
 -- ---- lists all of which pass
 
@@ -50,14 +50,14 @@ count_all {X} f (x ∷ xs) e = go (f x) e (λ h. count_all f xs h)
   where
     go : (b : Bool) → length (cond b (x ∷ filter f xs) (filter f xs)) ≡ suc (length xs) → (length (filter f xs) ≡ length xs → list_all f xs ≡ true) → (b && list_all f xs) ≡ true
     go true h rest = rest (omega arith)
-    go false h rest = let few : length (filter f xs) ≤ length xs = few_pass f xs in absurd (omega arith)
+    go false h rest = let few : length (filter f xs) ≤ length xs = filter_short f xs in absurd (omega arith)
 
 whole_by : {X : Type 0} (f : X → Bool) (xs : List X) (n : ℕ) → length xs ≤ n → (nat_le n (length xs) && list_all f (take n xs)) ≡ (length (filter f xs) == n)
 whole_by {X} f xs n within =
     ap (λ ys. nat_le n (length xs) && list_all f ys) (take_all n xs within) ∙ go (nat_le n (length xs)) (list_all f xs) refl refl
   where
     few : length (filter f xs) ≤ length xs
-    few = few_pass f xs
+    few = filter_short f xs
 
     go : (a b : Bool) → nat_le n (length xs) ≡ a → list_all f xs ≡ b → (a && b) ≡ (length (filter f xs) == n)
     go true true d e =

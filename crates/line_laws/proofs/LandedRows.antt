@@ -20,24 +20,26 @@ use Rattle.pblk_world.specs.Lines.{found_image, told_by, told_events, known_imag
 use Rattle.pblk_world.specs.Starts.{have_landed}
 use Rattle.pblk_world.specs.Placing.{line_end}
 use Rattle.pblk_world.specs.Victims.{is_in_force, line_of_position, line_of_winner, line_of}
-use Rattle.pblk_world.proofs.Appending.{takes_more}
 use Rattle.line_table.specs.declared.row.LineState.TheVariants as states
 use Rattle.core_laws.specs.Stepping.{after}
 use Rattle.core_laws.specs.PlacerOf.{unanswered_on}
 use Rattle.core_laws.specs.RowsOf.{state_in, width_in, taker_in, row_of_line, rows_of}
 use Rattle.core_laws.proofs.Numbers.{opens_at, life_at}
-use Rattle.core_laws.proofs.Rows.{other_number}
-use Rattle.core_laws.proofs.Lists.{get_set_other as get_else}
 use Rattle.core_laws.proofs.Answered.{first_unanswered}
 use Rattle.core_laws.proofs.TakenSlots.{find_same}
 use Rattle.line_laws.specs.Changes.{with_row, full_if}
 use Rattle.line_laws.specs.OpenAddresses.{keeps_addresses}
 use Rattle.line_laws.specs.Plain.{NoneFreed, NoneFailed}
 use Rattle.line_laws.proofs.Kept.{with_event, KeepsStripes, stripes_kept, also_stripes, lives_kept}
-use Rattle.line_laws.proofs.KeptRows.{found_kept, KeepsChunks, KeepsLines, live_kept, taker_kept, row_parts, same_row, row_kept}
+use Rattle.line_laws.proofs.KeptRows.{KeepsChunks, KeepsLines, live_kept, taker_kept, row_parts, same_row, row_kept}
 use Rattle.line_laws.proofs.OpenAddresses.{failed_kept}
 use Rattle.line_laws.proofs.FirstAnswers.{its_landing, have_landed_beside, have_landed_stays}
 use Rattle.line_laws.proofs.Tables.{row_changes_any}
+use Rattle.core_laws.proofs.SteppingLemmas.{found_kept}
+use Rattle.lemmas.proofs.Maps.{one_more}
+use Rattle.lemmas.proofs.Parts.{get_set_other}
+use Rattle.lemmas.proofs.Tests.{other_number}
+use Rattle.pblk_world.proofs.EngineLogLemmas.{takes_more}
 
 -- ---- entries stay where they are
 
@@ -84,7 +86,7 @@ event_beside s chunks e m other = go (slice_get chunks e.chunk)
   where
     go : (o : Option Chunk) → slice_get (option_map_or (λ (c : Chunk). slice_set chunks e.chunk (after_outcome s c e.command e.outcome)) o chunks) m ≡ slice_get chunks m
     go None = refl
-    go (Some c) = get_else chunks e.chunk m (after_outcome s c e.command e.outcome) other
+    go (Some c) = get_set_other chunks e.chunk m (after_outcome s c e.command e.outcome) other
 
 log_beside : (s : Shape) (chunks : List Chunk) (log : List UnitEvent) (o : Option UnitEvent) (m : ℕ) → ((e : UnitEvent) → o ≡ Some e → m ≢ e.chunk)
     → slice_get (after_log s chunks (log ++ option_to_list o)) m ≡ slice_get (after_log s chunks log) m
@@ -92,14 +94,10 @@ log_beside s chunks log None m other = ap (λ xs. slice_get (after_log s chunks 
 log_beside s chunks log (Some e) m other =
     ap (λ cs. slice_get cs m) (fold-append (after_event s) chunks log (e ∷ [])) ∙ event_beside s (after_log s chunks log) e m (other e refl)
 
-pub to_list : {X : Type 0} (o : Option X) → cons_option o [] ≡ option_to_list o
-to_list None = refl
-to_list (Some x) = refl
-
 told_more : (logs : Logs) (e : EngineEvent) (knows : List ℕ) (unit : ℕ) → told_events (after logs e knows) unit ≡ told_events logs unit ++ option_to_list (told_by logs unit (Decides e))
 told_more logs e knows unit =
     filter_map-append (λ (l : Logged). told_by logs unit l.event) (logs 0) (record { event = Decides e; knows = knows } ∷ [])
-    ∙ ap (λ xs. filter_map (λ (l : Logged). told_by logs unit l.event) (logs 0) ++ xs) (to_list (told_by logs unit (Decides e)))
+    ∙ ap (λ xs. filter_map (λ (l : Logged). told_by logs unit l.event) (logs 0) ++ xs) (one_more (told_by logs unit (Decides e)))
 
 made_same : {X : Type 0} (f g : X → List Chunk) (m : ℕ) → ((x : X) → slice_get (f x) m ≡ slice_get (g x) m) → (xs : List X) → filter_map (λ unit. slice_get unit m) (map f xs) ≡ filter_map (λ unit. slice_get unit m) (map g xs)
 made_same f g m same [] = refl

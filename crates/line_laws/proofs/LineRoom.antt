@@ -18,18 +18,14 @@ use Rattle.pblk_world.specs.Starts.{have_landed}
 use Rattle.pblk_world.specs.Placing.{next_address, end_address, line_end, IsStart, IsData, IsEnd, IsPad}
 use Rattle.pblk_world.specs.Legal.{IsDecision, MayDecide, IsAllowed, IsLegal}
 use Rattle.pblk_world.proofs.Appending.{life_more}
-use Rattle.stripe_placer.proofs.Among.{IsAmong, in_filter}
 use Rattle.line_table.specs.declared.row.LineState.TheVariants as states
 use Rattle.core_laws.specs.PlacerOf.{unanswered_on}
 use Rattle.core_laws.specs.PlainWorlds.{is_plain_event, ArePlain, IsPlainWorld}
 use Rattle.core_laws.specs.RowsOf.{state_in, row_of_line}
 use Rattle.core_laws.proofs.Answered.{IsFirst, first_unanswered}
-use Rattle.core_laws.proofs.Lists.{filter_none}
 use Rattle.core_laws.proofs.Numbers.{opens_at, life_at}
 use Rattle.core_laws.proofs.Opening.{placed_before}
 use Rattle.core_laws.proofs.Placing.{with_place, new_placed}
-use Rattle.core_laws.proofs.Rows.{same_number}
-use Rattle.core_laws.proofs.Tests.{both}
 use Rattle.line_laws.specs.InOrder.{HasRoom}
 use Rattle.line_laws.specs.OpenAddresses.{keeps_addresses}
 use Rattle.line_laws.specs.Plain.{NoneFailed}
@@ -39,6 +35,10 @@ use Rattle.line_laws.proofs.OpenedRows.{new_opening, life_now, life_elsewhere}
 use Rattle.line_laws.proofs.Orders.{plain_before}
 use Rattle.line_laws.proofs.PlacedAddresses.{stripe_within, whole_start, whole_line, whole_to_end, stripes_now}
 use Rattle.line_laws.proofs.PlainLogs.{none_failed}
+use Rattle.lemmas.proofs.Lists.{IsAmong}
+use Rattle.lemmas.proofs.Maps.{filter_none, in_filter}
+use Rattle.lemmas.proofs.Tests.{both, same_number}
+use Rattle.pblk_world.proofs.EngineLogLemmas.{opened_same}
 
 -- ---- a line with data
 
@@ -75,9 +75,6 @@ stripe_fits i logs o stripe drive fine some (inr (inr (inr its))) = absurd (cc (
 
 AllRoom : Shape → List Logged → Type 0
 AllRoom s log = (line : ℕ) (o : Opening) → life_of log line ≡ Opened o → HasRoom s log o
-
-opened_same : (o other : Opening) → Opened o ≡ Opened other → o ≡ other
-opened_same o other e = cc
 
 room_same : (s : Shape) (log new : List Logged) (o : Opening) → placements new ≡ placements log → HasRoom s log o → HasRoom s new o
 room_same s log new o same is = record {

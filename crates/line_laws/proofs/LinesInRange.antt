@@ -11,14 +11,13 @@ use Rattle.pblk_world.specs.World.{Logs}
 use Rattle.pblk_world.specs.EngineLog.{Begun, begun, life_of, is_as_found, Placed, placements, was_lost, holds_position, Taken}
 use Rattle.pblk_world.specs.Lines.{found_by, found_image}
 use Rattle.pblk_world.specs.Victims.{is_in_force, line_of}
-use Rattle.core_laws.proofs.Lists.{all_filter}
-use Rattle.core_laws.proofs.Placing.{weaker}
-use Rattle.core_laws.proofs.PlacedPositions.{all_joined}
 use Rattle.core_laws.proofs.Stripes.{find_all}
 use Rattle.core_laws.proofs.Opening.{all_made}
 use Rattle.line_laws.specs.InOrder.{IsInPlace}
 use Rattle.line_laws.proofs.Tables.{range_below}
 use Rattle.line_laws.proofs.Winners.{block_line, winner_is}
+use Rattle.lemmas.proofs.Lists.{all_append, all_imply}
+use Rattle.lemmas.proofs.Maps.{all_filter}
 
 -- ---- records that count
 
@@ -28,8 +27,8 @@ lines_of i line (Some start) = all_made (record_at i line start) (λ (r : Record
 
 all_lines : (i : Image) (n : ℕ) (lines : List ℕ) → AllByRecursion (λ line. line < n) lines → AllByRecursion (λ (r : Record). r.line < n) (flat_map (line_records i) lines)
 all_lines i n [] all = tt
-all_lines i n (line ∷ lines) all = all_joined (λ (r : Record). r.line < n) (line_records i line) (flat_map (line_records i) lines)
-    (weaker (λ (r : Record). r.line ≡ line) (λ (r : Record). r.line < n) (λ r e. subst (λ m. m < n) (sym e) all.0) (line_records i line) (lines_of i line (start_of i line)))
+all_lines i n (line ∷ lines) all = all_append (λ (r : Record). r.line < n) (line_records i line) (flat_map (line_records i) lines)
+    (all_imply (λ (r : Record). r.line ≡ line) (λ (r : Record). r.line < n) (λ r e. subst (λ m. m < n) (sym e) all.0) (line_records i line) (lines_of i line (start_of i line)))
     (all_lines i n lines all.1)
 
 counted_inside : (i : Image) (o : Option StartRecord) → AllByRecursion (λ (r : Record). r.line < 0 + i.shape.chunks) (counted_after (records i) o)

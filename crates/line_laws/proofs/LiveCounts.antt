@@ -6,15 +6,8 @@ use Rattle.pblk_model.specs.Image.{Image}
 use Rattle.pblk_world.specs.World.{Logs}
 use Rattle.pblk_world.specs.Fronts.{last_take}
 use Rattle.pblk_world.specs.Victims.{line_of, is_live_in, live}
-use Rattle.core_laws.proofs.Rows.{same_number}
-
-few_pass : (test : ℕ → Bool) (a n : ℕ) → length (filter test (range_with_len a n)) ≤ n
-few_pass test a zero = omega arith
-few_pass test a (suc n) = go (test a) (few_pass test (a + 1) n)
-  where
-    go : (b : Bool) → length (filter test (range_with_len (a + 1) n)) ≤ n → length (cond b (a ∷ filter test (range_with_len (a + 1) n)) (filter test (range_with_len (a + 1) n))) ≤ suc n
-    go true h = omega arith
-    go false h = omega arith
+use Rattle.lemmas.proofs.Maps.{few_pass}
+use Rattle.lemmas.proofs.Tests.{same_number}
 
 some_passes : (test : ℕ → Bool) (a n k : ℕ) → k < n → test (a + k) ≡ true → 0 < length (filter test (range_with_len a n))
 some_passes test a zero k within e = absurd (omega arith)

@@ -9,12 +9,11 @@ use Rattle.std.proofs.lemmas.Option.{same_Some, none-some}
 use Rattle.pblk_world.specs.EngineLog.{Taken}
 use Rattle.line_table.specs.Rows.{latest}
 use Rattle.core_laws.specs.PlacerOf.{positions_of}
-use Rattle.core_laws.proofs.Lists.{all_filter, find_none as find_fails, find_agree}
-use Rattle.core_laws.proofs.Placing.{not_below, weaker}
-use Rattle.core_laws.proofs.Rows.{other_number}
-use Rattle.core_laws.proofs.Taking.{not_both}
+use Rattle.core_laws.proofs.Placing.{not_below}
 use Rattle.core_laws.proofs.Removing.{all_second as all_right}
-use Rattle.stripe_placer.proofs.Chunks.{lt_yes as is_below}
+use Rattle.lemmas.proofs.Lists.{all_imply, last_in}
+use Rattle.lemmas.proofs.Maps.{all_filter, find_agree, find_none}
+use Rattle.lemmas.proofs.Tests.{and_false, and_true, lt_true, other_number}
 
 -- ---- rising positions
 
@@ -28,7 +27,7 @@ from_by a zero (t ∷ ts) e = absurd cc
 from_by a (suc n) (t ∷ ts) e =
     let first : t.entry.position ≡ a = cc in
     let rest : positions_of ts ≡ range_with_len (a + 1) n = cc in
-    (omega arith, weaker (λ (u : Taken). a + 1 ≤ u.entry.position) (λ (u : Taken). a ≤ u.entry.position) (λ u h. omega arith) ts (from_by (a + 1) n ts rest))
+    (omega arith, all_imply (λ (u : Taken). a + 1 ≤ u.entry.position) (λ (u : Taken). a ≤ u.entry.position) (λ u h. omega arith) ts (from_by (a + 1) n ts rest))
 
 pub rising_by : (a n : ℕ) (ts : List Taken) → positions_of ts ≡ range_with_len a n → IsRising ts
 rising_by a n [] e = tt
@@ -36,7 +35,7 @@ rising_by a zero (t ∷ ts) e = absurd cc
 rising_by a (suc n) (t ∷ ts) e =
     let first : t.entry.position ≡ a = cc in
     let rest : positions_of ts ≡ range_with_len (a + 1) n = cc in
-    (weaker (λ (u : Taken). a + 1 ≤ u.entry.position) (λ (u : Taken). t.entry.position < u.entry.position) (λ u h. omega arith) ts (from_by (a + 1) n ts rest), rising_by (a + 1) n ts rest)
+    (all_imply (λ (u : Taken). a + 1 ≤ u.entry.position) (λ (u : Taken). t.entry.position < u.entry.position) (λ u h. omega arith) ts (from_by (a + 1) n ts rest), rising_by (a + 1) n ts rest)
 
 pub rising_before : (before : List Taken) (t : Taken) (after : List Taken) → IsRising (before ++ t ∷ after) → AllByRecursion (λ u. u.entry.position < t.entry.position) before
 rising_before [] t after rise = tt
@@ -67,10 +66,10 @@ last_elsewhere position o [] was all = was
 last_elsewhere position o (x ∷ xs) was all = last_elsewhere position (Some x) xs all.0 all.1
 
 below_elsewhere : (position : ℕ) (xs : List Taken) → AllByRecursion (λ u. u.entry.position < position) xs → AllByRecursion (IsElsewhere position) xs
-below_elsewhere position xs all = weaker (λ (u : Taken). u.entry.position < position) (IsElsewhere position) (λ u h. other_number u.entry.position position (λ e. absurd (omega arith))) xs all
+below_elsewhere position xs all = all_imply (λ (u : Taken). u.entry.position < position) (IsElsewhere position) (λ u h. other_number u.entry.position position (λ e. absurd (omega arith))) xs all
 
 above_elsewhere : (position : ℕ) (xs : List Taken) → AllByRecursion (λ u. position < u.entry.position) xs → AllByRecursion (IsElsewhere position) xs
-above_elsewhere position xs all = weaker (λ (u : Taken). position < u.entry.position) (IsElsewhere position) (λ u h. other_number u.entry.position position (λ e. absurd (omega arith))) xs all
+above_elsewhere position xs all = all_imply (λ (u : Taken). position < u.entry.position) (IsElsewhere position) (λ u h. other_number u.entry.position position (λ e. absurd (omega arith))) xs all
 
 last_by : (test : Taken → Bool) (before : List Taken) (t : Taken) (after : List Taken)
     → last_or None (filter test (before ++ t ∷ after)) ≡ last_or (last_or None (filter test before)) (cond (test t) (t ∷ filter test after) (filter test after))
@@ -112,22 +111,18 @@ passes_last test before t after passes none =
 abbrev pub is_same : Taken → Taken → Bool
 is_same t u = u.mark.lba == t.mark.lba
 
-and_true : (a b : Bool) → b ≡ true → (a && b) ≡ a
-and_true true b e = e
-and_true false b e = refl
-
 pub next_by : (before : List Taken) (t : Taken) (after : List Taken) → IsRising (before ++ t ∷ after)
     → find (λ u. (u.mark.lba == t.mark.lba) && nat_lt t.entry.position u.entry.position) (before ++ t ∷ after) ≡ find (is_same t) after
 next_by before t after rise =
     find-append (λ u. (u.mark.lba == t.mark.lba) && nat_lt t.entry.position u.entry.position) before (t ∷ after)
     ∙ ap (λ o. option_or o (find (λ u. (u.mark.lba == t.mark.lba) && nat_lt t.entry.position u.entry.position) (t ∷ after)))
-    (find_fails (λ u. (u.mark.lba == t.mark.lba) && nat_lt t.entry.position u.entry.position) before
-    (weaker (λ (u : Taken). u.entry.position < t.entry.position) (λ u. ((u.mark.lba == t.mark.lba) && nat_lt t.entry.position u.entry.position) ≡ false)
-    (λ u h. not_both (u.mark.lba == t.mark.lba) (nat_lt t.entry.position u.entry.position) (not_below u.entry.position t.entry.position (omega arith))) before (rising_before before t after rise)))
+    (find_none (λ u. (u.mark.lba == t.mark.lba) && nat_lt t.entry.position u.entry.position) before
+    (all_imply (λ (u : Taken). u.entry.position < t.entry.position) (λ u. ((u.mark.lba == t.mark.lba) && nat_lt t.entry.position u.entry.position) ≡ false)
+    (λ u h. and_false (u.mark.lba == t.mark.lba) (nat_lt t.entry.position u.entry.position) (not_below u.entry.position t.entry.position (omega arith))) before (rising_before before t after rise)))
     ∙ ap (λ b. cond b (Some t) (find (λ u. (u.mark.lba == t.mark.lba) && nat_lt t.entry.position u.entry.position) after))
-    (not_both (t.mark.lba == t.mark.lba) (nat_lt t.entry.position t.entry.position) (not_below t.entry.position t.entry.position (omega arith)))
+    (and_false (t.mark.lba == t.mark.lba) (nat_lt t.entry.position t.entry.position) (not_below t.entry.position t.entry.position (omega arith)))
     ∙ find_agree (λ (u : Taken). t.entry.position < u.entry.position) (λ u. (u.mark.lba == t.mark.lba) && nat_lt t.entry.position u.entry.position) (is_same t)
-    (λ u h. and_true (u.mark.lba == t.mark.lba) (nat_lt t.entry.position u.entry.position) (is_below t.entry.position u.entry.position h)) after (rising_after before t after rise)
+    (λ u h. and_true (u.mark.lba == t.mark.lba) (nat_lt t.entry.position u.entry.position) (lt_true t.entry.position u.entry.position h)) after (rising_after before t after rise)
 
 pub none_found : {X : Type 0} (test : X → Bool) (xs : List X) → find test xs ≡ None → AllByRecursion (λ x. test x ≡ false) xs
 none_found test [] e = tt
@@ -162,10 +157,6 @@ found_at {X} test (y ∷ ys) x e = go (test y) refl e (λ f. found_at test ys x 
 last_some : (P : Taken → Type 0) (y : Taken) (ys : List Taken) → P y → AllByRecursion P ys → (z : Taken) × (last_or (Some y) ys ≡ Some z) × P z
 last_some P y [] is all = (y, refl, is)
 last_some P y (x ∷ xs) is all = last_some P x xs all.0 all.1
-
-pub last_in : {X : Type 0} (P : X → Type 0) (o : Option X) (xs : List X) (x : X) → ((y : X) → o ≡ Some y → P y) → AllByRecursion P xs → last_or o xs ≡ Some x → P x
-last_in P o [] x was all e = was x e
-last_in P o (y ∷ xs) x was all e = last_in P (Some y) xs x (λ z f. subst P (same_Some y z f) all.0) all.1 e
 
 pub latest_is : (by : ℕ) (o : Option Taken) → ((t : Taken) → o ≡ Some t → t.entry.position < by) → latest (option_map (λ (t : Taken). t.entry.position) o) by ≡ by
 latest_is by None below = refl

@@ -13,13 +13,13 @@ use Rattle.pblk_world.specs.Placing.{end_address}
 use Rattle.pblk_world.specs.Space.{unplaced_in, open_addresses}
 use Rattle.pblk_world.proofs.Appending.{life_more}
 use Rattle.core_laws.specs.Stepping.{after}
-use Rattle.core_laws.proofs.Lists.{filter_none}
 use Rattle.core_laws.proofs.Opening.{placed_before}
-use Rattle.core_laws.proofs.Rows.{same_number, other_number}
 use Rattle.core_laws.proofs.TakenSlots.{any_same}
 use Rattle.line_laws.specs.OpenAddresses.{keeps_addresses}
 use Rattle.line_laws.proofs.Ranges.{sum_same, sum_more}
 use Rattle.line_laws.proofs.Kept.{KeepsStripes, stripes_kept, also_stripes, lives_kept}
+use Rattle.lemmas.proofs.Maps.{filter_none}
+use Rattle.lemmas.proofs.Tests.{other_number, same_number}
 
 -- ---- events that place nothing
 

@@ -19,25 +19,26 @@ use Rattle.pblk_world.specs.Lines.{found_image, known_image, line_data, are_empt
 use Rattle.pblk_world.specs.Opening.{MayOpen}
 use Rattle.pblk_world.specs.Placing.{line_end}
 use Rattle.pblk_world.specs.Victims.{is_in_force, line_of_position, line_of_winner, line_of, took_from, take_before}
-use Rattle.pblk_world.proofs.Appending.{takes_more, life_more}
+use Rattle.pblk_world.proofs.Appending.{life_more}
 use Rattle.line_table.specs.declared.row.LineState.{LineState}
 use Rattle.line_table.specs.declared.row.LineState.TheVariants as states
 use Rattle.line_table.specs.Rows.{turned}
 use Rattle.core_laws.specs.Stepping.{after}
 use Rattle.core_laws.specs.RowsOf.{state_in, width_in, taker_by, taker_in, row_of_line, rows_of}
-use Rattle.core_laws.proofs.Lists.{filter_none, all_of, find_agree}
 use Rattle.core_laws.proofs.Opening.{placed_before}
-use Rattle.core_laws.proofs.Rows.{same_number, other_number}
-use Rattle.core_laws.proofs.Turns.{found_is}
-use Rattle.core_laws.proofs.Tests.{both}
-use Rattle.core_laws.proofs.Taking.{not_both}
 use Rattle.line_laws.specs.Changes.{with_row}
 use Rattle.line_laws.specs.Plain.{NoneFreed}
 use Rattle.line_laws.proofs.Kept.{with_event, KeepsStripes, stripes_kept, alike_kept, have_landed_alike}
-use Rattle.line_laws.proofs.KeptRows.{found_kept, known_kept, KeepsLines, live_kept, same_row, row_kept}
+use Rattle.line_laws.proofs.KeptRows.{known_kept, KeepsLines, live_kept, same_row, row_kept}
 use Rattle.line_laws.proofs.OpenAddresses.{failed_kept}
 use Rattle.line_laws.proofs.Tables.{row_changes_any}
 use Rattle.line_laws.proofs.Winners.{winner_starts}
+use Rattle.core_laws.proofs.SteppingLemmas.{found_kept}
+use Rattle.lemmas.proofs.Lists.{all_of}
+use Rattle.lemmas.proofs.Maps.{filter_none, find_agree, found_passes}
+use Rattle.lemmas.proofs.Tests.{and_false, both, other_number, same_number}
+use Rattle.pblk_world.proofs.EngineLogLemmas.{takes_more}
+use Rattle.pblk_world.proofs.LinesLemmas.{free_unopened}
 
 -- ---- nothing is live in a Free line
 
@@ -49,14 +50,6 @@ free_start i logs line free life = go (is_some (start_of (found_image i logs) li
     go false e = refl
     go true e = absurd (cc (sym free ∙ ap (λ (l : LineLife). not (has_number i logs l line) && are_empty (known_image i logs) line && nat_lt 0 (line_data (known_image i logs) line)) life
         ∙ ap (λ b. not b && are_empty (known_image i logs) line && nat_lt 0 (line_data (known_image i logs) line)) e))
-
-pub free_closed : (i : Image) (logs : Logs) (line : ℕ) → is_free_line i logs line ≡ true → is_opened (life_of (logs 0) line) ≡ false
-free_closed i logs line free = go (life_of (logs 0) line) refl
-  where
-    go : (l : LineLife) → life_of (logs 0) line ≡ l → is_opened l ≡ false
-    go AsFound e = refl
-    go (Opened o) e = absurd (cc (sym free ∙ ap (λ (l : LineLife). not (has_number i logs l line) && are_empty (known_image i logs) line && nat_lt 0 (line_data (known_image i logs) line)) e))
-    go (Freed past knows) e = refl
 
 no_force : (log : List Logged) (life : LineLife) (line : ℕ) → is_opened (life_of log line) ≡ false → is_in_force log life line ≡ false
 no_force log AsFound line closed = refl
@@ -83,7 +76,7 @@ position_elsewhere i logs line position closed = go (find (in_force i.shape (log
         there false f = refl
         there true f =
             let test : (holds_position i.shape position p && not (was_lost (logs 0) p) && is_in_force (logs 0) p.life p.stripe.line) ≡ true =
-            (found_is (in_force i.shape (logs 0) position) (placements (logs 0)) p e).0 in
+            (found_passes (in_force i.shape (logs 0) position) (placements (logs 0)) p e).0 in
             let forced : is_in_force (logs 0) p.life p.stripe.line ≡ true =
             (both (holds_position i.shape position p && not (was_lost (logs 0) p)) (is_in_force (logs 0) p.life p.stripe.line) test).1 in
             let not_it : is_in_force (logs 0) p.life p.stripe.line ≡ false =
@@ -112,7 +105,7 @@ winner_elsewhere i logs line lba free = go (winner (counted (found_image i logs)
 
 pub not_in_free : (i : Image) (logs : Logs) (line lba : ℕ) (t : Option Taken) → is_free_line i logs line ≡ true → is_of line (line_of i logs lba t) ≡ false
 not_in_free i logs line lba None free = winner_elsewhere i logs line lba free
-not_in_free i logs line lba (Some t) free = position_elsewhere i logs line t.entry.position (free_closed i logs line free)
+not_in_free i logs line lba (Some t) free = position_elsewhere i logs line t.entry.position (free_unopened i logs line free)
 
 -- ---- the lines of sectors stay
 
@@ -191,7 +184,7 @@ lines_same i logs line start knows free = record {
   where
     each : (lba : ℕ) (t : Option Taken) → line_of i (after logs (Open line start) knows) lba t ≡ line_of i logs lba t
     each lba None = winner_same i logs line start knows lba free
-    each lba (Some t) = position_same i.shape (logs 0) line start knows t.entry.position (free_closed i logs line free)
+    each lba (Some t) = position_same i.shape (logs 0) line start knows t.entry.position (free_unopened i logs line free)
 
 -- ---- the row of the line
 
@@ -251,7 +244,7 @@ no_taker : (i : Image) (logs new : Logs) (line : ℕ) → is_free_line i logs li
 no_taker i logs new line free keeps =
     ap (λ (ts : List Taken). option_map (λ (t : Taken). t.entry.position) (last_or None ts))
     (filter_none (took_from i new line) (takes (new 0)) (all_of (λ t. took_from i new line t ≡ false)
-    (λ t. not_both (nat_lt t.mark.lba i.shape.capacity) (is_of line (line_of i new t.mark.lba (take_before (new 0) t)))
+    (λ t. and_false (nat_lt t.mark.lba i.shape.capacity) (is_of line (line_of i new t.mark.lba (take_before (new 0) t)))
     (ap (is_of line) (keeps.line_of t.mark.lba (take_before (new 0) t)) ∙ not_in_free i logs line t.mark.lba (take_before (new 0) t) free)) (takes (new 0))))
 
 pub rows_opened : (i : Image) (logs : Logs) (begun : Begun) (line : ℕ) (start : StartRecord) (knows : List ℕ) → IsDriveShape i.shape → NoneFreed (logs 0) → MayOpen i logs begun line start

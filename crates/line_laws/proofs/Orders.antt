@@ -1,31 +1,30 @@
 -- The logs of a plain world are in order.
-use Rattle.std.proofs.Common.{◌≡◌, ℕ, ◌<◌, ◌≤◌, ◌^◌, ◌==◌, nat_eq, Bool, true, false, Some, None, Option, List, [], ◌∷◌, ◌++◌, length, take, refl, sym, subst, ap, ◌∙◌, arith, append-nil, take_all, le_refl, if◌then◌else◌}
+use Rattle.std.proofs.Common.{◌≡◌, ℕ, ◌<◌, ◌≤◌, ◌^◌, ◌==◌, nat_eq, Bool, true, false, Some, List, [], ◌∷◌, ◌++◌, length, take, refl, sym, subst, ap, ◌∙◌, arith, append-nil, take_all, le_refl, if◌then◌else◌}
 use Rattle.std.specs.List.{AllByRecursion}
 use Rattle.std.proofs.lemmas.Bool.{eqb-true}
-use Rattle.pblk_model.specs.declared.chunk.Mark.{Mark}
 use Rattle.pblk_model.specs.Accepted.{IsAccepted}
 use Rattle.pblk_model.specs.Marks.{meta_lba}
 use Rattle.pblk_model.specs.Image.{Image}
-use Rattle.pblk_world.specs.Events.{EngineEvent, Beginning, Source, Entry, Begin, Take, Open, Place, Landed, Lost, Again, ResetDone, Free, Event, Decides, Does, Logged}
+use Rattle.pblk_world.specs.Events.{EngineEvent, Beginning, Begin, Take, Open, Place, Landed, Lost, Again, ResetDone, Free, Event, Decides, Does, Logged}
 use Rattle.pblk_world.specs.World.{World, Logs, log_of, known, prefixes}
 use Rattle.pblk_world.specs.EngineLog.{Begun, begun, Opened, is_opened, life_of, Opening, Placed, placements, Taken, takes}
-use Rattle.pblk_world.specs.Fronts.{is_users}
-use Rattle.pblk_world.specs.Taking.{IsMarked}
 use Rattle.pblk_world.specs.Legal.{IsDecision, MayDecide, IsAllowed, IsLegal}
-use Rattle.pblk_world.proofs.Appending.{takes_more, life_more}
+use Rattle.pblk_world.proofs.Appending.{life_more}
 use Rattle.pblk_world.proofs.Answered.{answers_fit}
 use Rattle.core_laws.specs.PlainWorlds.{is_plain_event, ArePlain, IsPlainWorld}
 use Rattle.core_laws.specs.Positions.{AreNumbered, AreMarked, AreTaken}
 use Rattle.core_laws.proofs.KeptPositions.{marked_after, taken_after}
 use Rattle.core_laws.proofs.Numbering.{numbered_after}
-use Rattle.core_laws.proofs.Placing.{new_placed, placements_now, weaker}
-use Rattle.core_laws.proofs.PlacedPositions.{all_joined}
+use Rattle.core_laws.proofs.Placing.{new_placed, placements_now}
 use Rattle.core_laws.proofs.Removing.{all_first as all_left, all_second as all_right}
 use Rattle.line_laws.specs.InOrder.{IsInPlace, IsInOrder}
 use Rattle.line_laws.specs.PlacedEntries.{AreOfSectors}
 use Rattle.line_laws.proofs.Kept.{with_event, placements_kept}
-use Rattle.line_laws.proofs.OpenedRows.{free_closed}
 use Rattle.line_laws.proofs.PlainLogs.{none_freed, none_lost, none_failed}
+use Rattle.lemmas.proofs.Lists.{all_append, all_imply}
+use Rattle.pblk_world.proofs.EngineLogLemmas.{takes_more}
+use Rattle.pblk_world.proofs.LinesLemmas.{free_unopened}
+use Rattle.pblk_world.proofs.TakingLemmas.{users_mark}
 
 -- what holds of the engine's log alone
 pub record IsOrdered (i : Image) (log : List Logged) : Type 0 where
@@ -37,16 +36,12 @@ pub record IsOrdered (i : Image) (log : List Logged) : Type 0 where
 
 -- ---- one event
 
-users_mark : (i : Image) (logs : Logs) (entry : Entry) (mark : Mark) (source : Option Source) → is_users source ≡ true → IsMarked i logs entry mark source → mark.lba ≡ entry.lba
-users_mark i logs entry mark None users is = ap (λ (m : Mark). m.lba) is
-users_mark i logs entry mark (Some source) users is = absurd cc
-
 sectors_after : (i : Image) (logs : Logs) (log : List Logged) (b : Begun) (e : EngineEvent) (knows : List ℕ) → is_plain_event (Decides e) ≡ true → IsDecision i logs b e → AreOfSectors i.shape log → AreOfSectors i.shape (with_event log e knows)
 sectors_after i logs log b (Take entry mark) knows plain may is =
     let same : mark.lba ≡ entry.lba = users_mark i logs entry mark entry.source plain may.marked in
     let inside : entry.lba < i.shape.capacity = may.lba in
     subst (AllByRecursion (λ (t : Taken). t.mark.lba < i.shape.capacity)) (sym (takes_more log (record { event = Decides (Take entry mark); knows = knows })))
-    (all_joined (λ (t : Taken). t.mark.lba < i.shape.capacity) (takes log) (record { entry = entry; mark = mark } ∷ []) is (omega arith, tt))
+    (all_append (λ (t : Taken). t.mark.lba < i.shape.capacity) (takes log) (record { entry = entry; mark = mark } ∷ []) is (omega arith, tt))
 sectors_after i logs log b e knows plain may is =
     subst (AllByRecursion (λ (t : Taken). t.mark.lba < i.shape.capacity)) (sym (takes_more log (record { event = Decides e; knows = knows }) ∙ append-nil (takes log))) is
 
@@ -58,14 +53,14 @@ stays i logs log b (Open other start) knows plain may own line o opened = life_m
     go : (c : Bool) → nat_eq other line ≡ c → (if c then Opened (record { number = length log; line = line; start = start; knows = knows }) else life_of log line) ≡ Opened o
     go false e = opened
     go true e =
-        let closed : is_opened (life_of (logs 0) other) ≡ false = free_closed i logs other may.is_free in
+        let closed : is_opened (life_of (logs 0) other) ≡ false = free_unopened i logs other may.is_free in
         let open_now : is_opened (life_of (logs 0) other) ≡ true = ap (λ (xs : List Logged). is_opened (life_of xs other)) own ∙ ap (λ n. is_opened (life_of log n)) (eqb-true other line e) ∙ ap is_opened opened in
         absurd (cc (sym closed ∙ open_now))
 stays i logs log b (Free other) knows plain may own line o opened = absurd cc
 stays i logs log b e knows plain may own line o opened = life_more log (record { event = Decides e; knows = knows }) line ∙ opened
 
 still : (i : Image) (log new : List Logged) → ((line : ℕ) (o : Opening) → life_of log line ≡ Opened o → life_of new line ≡ Opened o) → (ps : List Placed) → AllByRecursion (IsInPlace i log) ps → AllByRecursion (IsInPlace i new) ps
-still i log new stays ps all = weaker (IsInPlace i log) (IsInPlace i new)
+still i log new stays ps all = all_imply (IsInPlace i log) (IsInPlace i new)
     (λ p is. record { in_range = is.in_range; chunk = is.chunk; opening = is.opening; life = is.life; stands = stays p.stripe.line is.opening is.stands }) ps all
 
 placed_after : (i : Image) (logs : Logs) (log : List Logged) (b : Begun) (e : EngineEvent) (knows : List ℕ) → is_plain_event (Decides e) ≡ true → IsDecision i logs b e → logs 0 ≡ log
@@ -75,7 +70,7 @@ placed_after i logs log b (Place stripe) knows plain may own all =
     let o : Opening = may.opening in
     let opened : life_of log stripe.line ≡ Opened o = ap (λ (xs : List Logged). life_of xs stripe.line) (sym own) ∙ may.is_open in
     subst (AllByRecursion (IsInPlace i new)) (sym (placements_now log stripe knows o opened))
-    (all_joined (IsInPlace i new) (placements log) (new_placed log stripe o ∷ []) (still i log new (stays i logs log b (Place stripe) knows plain may own) (placements log) all)
+    (all_append (IsInPlace i new) (placements log) (new_placed log stripe o ∷ []) (still i log new (stays i logs log b (Place stripe) knows plain may own) (placements log) all)
     (record { in_range = may.in_range; chunk = may.chunk; opening = o; life = refl; stands = stays i logs log b (Place stripe) knows plain may own stripe.line o opened }, tt))
 placed_after i logs log b (Lost unit event) knows plain may own all = absurd cc
 placed_after i logs log b (Free line) knows plain may own all = absurd cc

@@ -18,14 +18,13 @@ use Rattle.pblk_world.specs.Placing.{next_address, end_address, IsStart, IsData,
 use Rattle.pblk_world.specs.Space.{unplaced_in, open_addresses}
 use Rattle.pblk_world.proofs.Appending.{life_more}
 use Rattle.core_laws.specs.Stepping.{after}
-use Rattle.core_laws.proofs.Lists.{all_filter}
 use Rattle.core_laws.proofs.Engine.{placements_before}
 use Rattle.core_laws.proofs.Numbers.{opens_at, life_at}
 use Rattle.core_laws.proofs.Placing.{with_place, new_placed, IsPlacing, placements_now, answer_now, new_unanswered}
-use Rattle.core_laws.proofs.Rows.{same_number, other_number}
 use Rattle.core_laws.proofs.Taking.{filter_last}
-use Rattle.core_laws.proofs.Tests.{both}
 use Rattle.line_laws.proofs.Ranges.{sum_more}
+use Rattle.lemmas.proofs.Maps.{all_filter}
+use Rattle.lemmas.proofs.Tests.{both, or_no, other_number, same_number}
 
 -- ---- multiples of a stripe
 
@@ -103,10 +102,6 @@ losses_now log stripe knows o other opened =
     (λ p before. ap is_loss (answer_now log stripe knows o p opened (le_of_lt before))) (stripes_of log other)
     (all_filter (λ (p : Placed). p.number < length log) (λ (p : Placed). is_life other.number p.life) (placements log) (placements_before log))
 
-pub or_false : (b : Bool) → (b || false) ≡ b
-or_false true = refl
-or_false false = refl
-
 -- in another opening nothing changes
 elsewhere : (s : Shape) (log : List Logged) (stripe : Stripe) (knows : List ℕ) (o other : Opening) → life_of log stripe.line ≡ Opened o → is_life other.number (Opened o) ≡ false
     → unplaced_in s (with_place log stripe knows) (Opened other) ≡ unplaced_in s log (Opened other)
@@ -123,7 +118,7 @@ here s log stripe knows o is =
     let more : stripes_of new o ≡ stripes_of log o ++ new_placed log stripe o ∷ [] = stripes_now log stripe knows o o true is.opened (same_number o.number) in
     ap₂ (λ b n. if b then 0 else end_address s o - max (start_len s) (n * s.ws_opt))
     (ap (list_any (was_lost new)) more ∙ list_any-append (was_lost new) (stripes_of log o) (new_placed log stripe o ∷ [])
-    ∙ ap₂ (λ a b. a || (b || false)) (losses_now log stripe knows o o is.opened) (ap is_loss (new_unanswered log stripe knows o is)) ∙ or_false (has_failed log o))
+    ∙ ap₂ (λ a b. a || (b || false)) (losses_now log stripe knows o o is.opened) (ap is_loss (new_unanswered log stripe knows o is)) ∙ or_no (has_failed log o))
     (ap (λ (ps : List Placed). length ps) more ∙ length-append (stripes_of log o) (new_placed log stripe o ∷ []))
 
 -- ---- all lines together

@@ -9,12 +9,12 @@ use Rattle.pblk_world.specs.EngineLog.{life_of, Taken, takes}
 use Rattle.line_table.specs.declared.row.Row.{Row}
 use Rattle.line_table.specs.Rows.{latest}
 use Rattle.core_laws.specs.RowsOf.{state_of, width_in}
-use Rattle.core_laws.proofs.Rows.{other_number}
 use Rattle.line_laws.specs.PlacedEntries.{next_take, placed_row, place_entries}
 use Rattle.line_laws.proofs.KeptRows.{row_parts, same_row}
 use Rattle.line_laws.proofs.NextTakes.{IsRising, is_at, is_same, next_by, IsFound, found_at}
 use Rattle.line_laws.proofs.EntryRows.{Places, with_entry, live_with, taker_with, IsNowhere, live_elsewhere, taker_elsewhere, live_last, taker_last, live_later, taker_later}
 use Rattle.line_laws.proofs.Tables.{table_of, table_changes}
+use Rattle.lemmas.proofs.Tests.{other_number}
 
 -- the row of a line where the entries of sectors are in these lines
 abbrev pub row_with : Image → Logs → Places → ℕ → Row

@@ -11,7 +11,7 @@ use Rattle.pblk_world.specs.World.{Logs}
 use Rattle.pblk_world.specs.EngineLog.{Begun, begun, begun_by, Taken, taken_by, takes, Placed, placed_by, placements, holds_position, Opening}
 use Rattle.pblk_world.specs.Fronts.{first_position, was_placed}
 use Rattle.pblk_world.specs.Space.{placed_front}
-use Rattle.pblk_world.proofs.Appending.{takes_more, placements_more}
+use Rattle.pblk_world.proofs.Appending.{placements_more}
 use Rattle.stripe_placer.specs.Entries.{Entries, waiting}
 use Rattle.stripe_placer.specs.OpenLines.{OpenLine, kind_of}
 use Rattle.stripe_placer.specs.Placing.{Program, next_positions}
@@ -20,7 +20,6 @@ use Rattle.core_laws.specs.Stepping.{after}
 use Rattle.core_laws.specs.OpenedLines.{open_line}
 use Rattle.core_laws.specs.PlacerOf.{fresh_entries, entries_of, IsStripeOf}
 use Rattle.core_laws.specs.Positions.{IsUnplaced, AreNumbered}
-use Rattle.core_laws.proofs.Lists.{filter_same, filter_none}
 use Rattle.core_laws.proofs.PlacedEntries.{entries_placed, next_are_first}
 use Rattle.core_laws.proofs.Placing.{with_place}
 use Rattle.core_laws.proofs.Steady.{was_placed_same}
@@ -28,6 +27,8 @@ use Rattle.core_laws.proofs.Taking.{filter_last}
 use Rattle.core_laws.proofs.Taking as taking
 use Rattle.line_laws.specs.OpenAddresses.{keeps_placed}
 use Rattle.line_laws.proofs.Kept.{with_event}
+use Rattle.lemmas.proofs.Maps.{filter_none, filter_same}
+use Rattle.pblk_world.proofs.EngineLogLemmas.{takes_more}
 
 begun_by_none : (e : EngineEvent) (knows : List ℕ) → keeps_placed e ≡ true → begun_by knows (Decides e) ≡ None
 begun_by_none (Begin b) knows keeps = absurd cc

@@ -5,7 +5,6 @@ use Rattle.std.specs.List.{AllByRecursion, find, list_any}
 use Rattle.std.specs.Option.{option_map, option_or, is_some}
 use Rattle.std.proofs.lemmas.Bool.{eqb-true, eqb-false}
 use Rattle.std.proofs.lemmas.List.Folds.{find-append, list_any-append}
-use Rattle.std.proofs.lemmas.Option.{none-some}
 use Rattle.pblk_model.specs.declared.shape.Shape.{Shape}
 use Rattle.pblk_model.specs.Chunk.{Block}
 use Rattle.pblk_model.specs.Blocks.{blocks_of}
@@ -25,14 +24,16 @@ use Rattle.pblk_world.proofs.Appending.{life_more}
 use Rattle.core_laws.specs.Stepping.{after}
 use Rattle.core_laws.proofs.Engine.{placements_before}
 use Rattle.core_laws.proofs.Placing.{with_place, new_placed, IsPlacing, placements_now, answer_now, new_unanswered}
-use Rattle.core_laws.proofs.Rows.{same_number, other_number}
-use Rattle.core_laws.proofs.Lists.{all_dropped, all_taken, all_replicated, find_agree}
 use Rattle.core_laws.proofs.PlacedPositions.{unnamed as unnamed_mark}
-use Rattle.stripe_placer.proofs.Chunks.{lt_yes as is_below}
-use Rattle.line_laws.proofs.KeptRows.{found_kept}
 use Rattle.line_laws.proofs.LandedRows.{winner_kept}
 use Rattle.line_laws.proofs.NextTakes.{is_at}
 use Rattle.line_laws.proofs.PlacedEntryRows.{with_entries, entries_are}
+use Rattle.core_laws.proofs.SteppingLemmas.{found_kept}
+use Rattle.lemmas.proofs.Lists.{all_replicated}
+use Rattle.lemmas.proofs.Maps.{find_agree}
+use Rattle.lemmas.proofs.Options.{none_of_map}
+use Rattle.lemmas.proofs.Parts.{all_dropped, all_taken}
+use Rattle.lemmas.proofs.Tests.{lt_true, or_no, other_number, same_number}
 
 -- ---- which positions the blocks of a stripe bear
 
@@ -70,7 +71,7 @@ turned_round m n = go (nat_eq m n) refl
 
 entry_bears : (s : Shape) (q : ℕ) (t : Taken) → t.mark.lba < s.capacity → t.mark.position ≡ t.entry.position → bears_position s q (block_of_taken t) ≡ (q == t.entry.position)
 entry_bears s q t inside marked =
-    ap₂ (λ a n. is_some (if a then Some (Some t.mark.lba) else (if t.mark.lba == void_lba then Some None else None)) && (n == q)) (is_below t.mark.lba s.capacity inside) marked
+    ap₂ (λ a n. is_some (if a then Some (Some t.mark.lba) else (if t.mark.lba == void_lba then Some None else None)) && (n == q)) (lt_true t.mark.lba s.capacity inside) marked
     ∙ turned_round t.entry.position q
 
 -- what is known of each of the entries
@@ -82,10 +83,6 @@ entries_bear : (s : Shape) (q : ℕ) (ts : List Taken) → AllByRecursion (IsNam
 entries_bear s q [] all = refl
 entries_bear s q (t ∷ ts) all = ap₂ (λ a b. a || b) (entry_bears s q t all.0.inside all.0.marked) (entries_bear s q ts all.1)
 
-or_false : (b : Bool) → (b || false) ≡ b
-or_false true = refl
-or_false false = refl
-
 pub data_bears : (i : Image) (logs : Logs) (o : Opening) (stripe : Stripe) → i.shape.capacity ≤ meta_lba → IsData i logs o stripe → AllByRecursion (IsNamed i.shape) (take i.shape.ws_opt (waiting i.shape (logs 0)))
     → BearsThese i.shape stripe (take i.shape.ws_opt (waiting i.shape (logs 0)))
 unfolding BearsThese
@@ -96,7 +93,7 @@ data_bears i logs o stripe small its all = λ q.
     ∙ list_any-append (bears_position i.shape q) (map block_of_taken ts) (replicate (s.ws_opt - length (map block_of_taken ts)) (pad_block s))
     ∙ ap₂ (λ a b. a || b) (entries_bear i.shape q ts all)
     (none_borne i.shape q (replicate (s.ws_opt - length (map block_of_taken ts)) (pad_block s)) (pads_unnamed i.shape (s.ws_opt - length (map block_of_taken ts)) small))
-    ∙ or_false (list_any (λ (t : Taken). q == t.entry.position) ts)
+    ∙ or_no (list_any (λ (t : Taken). q == t.entry.position) ts)
 
 pub others_bear : (i : Image) (logs : Logs) (o : Opening) (stripe : Stripe) → i.shape.capacity ≤ meta_lba → IsStart i logs o stripe ⊎ (IsEnd i logs o stripe ⊎ IsPad i logs o stripe) → BearsThese i.shape stripe []
 unfolding BearsThese
@@ -116,14 +113,10 @@ force_now log stripe knows AsFound line = refl
 force_now log stripe knows (Opened o) line = ap (is_life o.number) (life_more log (record { event = Decides (Place stripe); knows = knows }) line)
 force_now log stripe knows (Freed past k) line = refl
 
-none_there : {X Y : Type 0} (f : X → Y) (o : Option X) → option_map f o ≡ None → o ≡ None
-none_there f None e = refl
-none_there f (Some x) e = absurd (none-some (f x) (sym e))
-
 -- the position's line: the stripe's for one that it bears, which no stripe held before
 either_line : (old : Option Placed) (p : Placed) (b : Bool) → (b ≡ true → option_map (λ (q : Placed). q.stripe.line) old ≡ None)
     → option_map (λ (q : Placed). q.stripe.line) (option_or old (cond b (Some p) None)) ≡ (if b then Some p.stripe.line else option_map (λ (q : Placed). q.stripe.line) old)
-either_line old p true nowhere = ap (λ o. option_map (λ (q : Placed). q.stripe.line) (option_or o (Some p))) (none_there (λ (q : Placed). q.stripe.line) old (nowhere refl))
+either_line old p true nowhere = ap (λ o. option_map (λ (q : Placed). q.stripe.line) (option_or o (Some p))) (none_of_map (λ (q : Placed). q.stripe.line) old (nowhere refl))
 either_line None p false nowhere = refl
 either_line (Some x) p false nowhere = refl
 

@@ -1,7 +1,7 @@
 -- What a stripe that is placed changes in the table.
 use Rattle.std.proofs.Common.{◌≡◌, ◌⊎◌, ℕ, ◌+◌, ◌/◌, ◌<◌, ◌≤◌, ◌==◌, ◌&&◌, ◌||◌, zero, suc, not, nat_lt, nat_le, Bool, true, false, cond, None, List, [], ◌∷◌, ◌++◌, length, take, refl, sym, subst, ap, ap₂, ◌∙◌, arith, append-nil, length-append, le_of_lt, take_all, if◌then◌else◌}
 use Rattle.std.specs.Prelude.{slice_get}
-use Rattle.std.specs.List.{AllByRecursion, filter, list_any, list_all, range_with_len}
+use Rattle.std.specs.List.{AllByRecursion, filter, list_any, list_all}
 use Rattle.std.proofs.lemmas.List.{take-append-le}
 use Rattle.std.proofs.lemmas.List.Folds.{list_any-append, list_all-append}
 use Rattle.pblk_model.specs.declared.shape.Shape.{Shape}
@@ -16,10 +16,7 @@ use Rattle.pblk_world.specs.Lines.{known_image, are_empty}
 use Rattle.pblk_world.specs.Starts.{have_landed}
 use Rattle.pblk_world.specs.Placing.{IsStart, IsData, IsEnd, IsPad, line_end}
 use Rattle.pblk_world.specs.Victims.{line_of_position, line_of}
-use Rattle.pblk_world.proofs.Appending.{takes_more, life_more}
-use Rattle.stripe_placer.proofs.Among.{IsAmong, later}
-use Rattle.stripe_placer.proofs.Chunks.{lt_yes as is_below}
-use Rattle.stripe_placer.proofs.Rising.{le_true as at_most}
+use Rattle.pblk_world.proofs.Appending.{life_more}
 use Rattle.line_table.specs.declared.row.LineState.TheVariants as states
 use Rattle.line_table.specs.declared.row.Row.{Row}
 use Rattle.line_table.specs.Rows.{Table, EachRow}
@@ -27,20 +24,23 @@ use Rattle.core_laws.specs.Stepping.{after}
 use Rattle.core_laws.specs.Positions.{IsUnplaced, AreNumbered, AreMarked}
 use Rattle.core_laws.specs.RowsOf.{state_in, state_of, width_in, taker_by, taker_in, row_of_line, rows_of}
 use Rattle.core_laws.proofs.Engine.{placements_before}
-use Rattle.core_laws.proofs.Lists.{all_filter, filter_none, all_taken, all_of, zipped}
-use Rattle.core_laws.proofs.Placing.{with_place, new_placed, IsPlacing, answer_now, new_unanswered, weaker}
-use Rattle.core_laws.proofs.Rows.{other_number, row_at}
-use Rattle.core_laws.proofs.PlacedLines.{passes}
+use Rattle.core_laws.proofs.Placing.{with_place, new_placed, IsPlacing, answer_now, new_unanswered}
 use Rattle.line_laws.specs.Plain.{NoneFreed, NoneLost}
 use Rattle.line_laws.specs.PlacedEntries.{place_entries, AreOfSectors}
-use Rattle.line_laws.proofs.KeptRows.{found_kept, known_kept, KeepsChunks, state_same, width_same, same_row}
+use Rattle.line_laws.proofs.KeptRows.{known_kept, KeepsChunks, state_same, width_same, same_row}
 use Rattle.line_laws.proofs.NextTakes.{IsRising, rising_by}
 use Rattle.line_laws.proofs.EntryRows.{Places, last_of, live_with, taker_with, IsNowhere}
-use Rattle.line_laws.proofs.PlacedAddresses.{stripes_now, losses_now, or_false}
+use Rattle.line_laws.proofs.PlacedAddresses.{stripes_now, losses_now}
 use Rattle.line_laws.proofs.PlacedEntryRows.{row_with, IsEntry, with_entries, entries_placed, entry_at}
 use Rattle.line_laws.proofs.PlacedPlaces.{BearsThese, IsNamed, data_bears, others_bear, places_now}
 use Rattle.line_laws.proofs.Tables.{table_of, tables_agree}
 use Rattle.line_laws.proofs.TakenRows.{in_no_line, taker_is}
+use Rattle.core_laws.proofs.SteppingLemmas.{found_kept}
+use Rattle.lemmas.proofs.Lists.{IsAmong, all_imply, all_of, among_all, zipped}
+use Rattle.lemmas.proofs.Maps.{all_agree, all_filter, all_passed, few_pass, filter_none, row_at}
+use Rattle.lemmas.proofs.Parts.{all_taken}
+use Rattle.lemmas.proofs.Tests.{le_true, lt_true, or_no, other_number}
+use Rattle.pblk_world.proofs.EngineLogLemmas.{takes_more}
 
 -- ---- states stay
 
@@ -51,7 +51,7 @@ failed_now log stripe knows o other is = go (is_life other.number (Opened o)) re
     go true e =
         ap (list_any (was_lost (with_place log stripe knows))) (stripes_now log stripe knows o other true is.opened e)
         ∙ list_any-append (was_lost (with_place log stripe knows)) (stripes_of log other) (new_placed log stripe o ∷ [])
-        ∙ ap₂ (λ a b. a || (b || false)) (losses_now log stripe knows o other is.opened) (ap is_loss (new_unanswered log stripe knows o is)) ∙ or_false (has_failed log other)
+        ∙ ap₂ (λ a b. a || (b || false)) (losses_now log stripe knows o other is.opened) (ap is_loss (new_unanswered log stripe knows o is)) ∙ or_no (has_failed log other)
     go false e =
         ap (list_any (was_lost (with_place log stripe knows))) (stripes_now log stripe knows o other false is.opened e ∙ append-nil (stripes_of log other))
         ∙ losses_now log stripe knows o other is.opened
@@ -68,24 +68,20 @@ first_pass f xs y n fails = go (nat_le n (length xs)) refl
     rest true e above =
         let within : n ≤ length (xs ++ y ∷ []) = grind arith in
         let all : length (xs ++ y ∷ []) ≤ n = omega (arith, count) in
-        ap (list_all f) (take_all n (xs ++ y ∷ []) all) ∙ list_all-append f xs (y ∷ []) ∙ ap (λ b. list_all f xs && (b && true)) fails ∙ and_no (list_all f xs)
+        ap (list_all f) (take_all n (xs ++ y ∷ []) all) ∙ list_all-append f xs (y ∷ []) ∙ ap (λ b. list_all f xs && (b && true)) fails ∙ and_false (list_all f xs)
       where
-        and_no : (b : Bool) → (b && false) ≡ false
-        and_no true = refl
-        and_no false = refl
+        and_false : (b : Bool) → (b && false) ≡ false
+        and_false true = refl
+        and_false false = refl
     rest false e above = refl
 
     go : (b : Bool) → nat_le n (length xs) ≡ b → (nat_le n (length (xs ++ y ∷ [])) && list_all f (take n (xs ++ y ∷ []))) ≡ (b && list_all f (take n xs))
     go true e =
         let within : n ≤ length xs = grind arith in
-        ap₂ (λ b ys. b && list_all f ys) (at_most n (length (xs ++ y ∷ [])) (omega (arith, count))) (take-append-le n xs (y ∷ []) within)
+        ap₂ (λ b ys. b && list_all f ys) (le_true n (length (xs ++ y ∷ [])) (omega (arith, count))) (take-append-le n xs (y ∷ []) within)
     go false e =
         let above : length xs < n = grind arith in
         rest (nat_le n (length (xs ++ y ∷ []))) refl above
-
-all_agree : {X : Type 0} (P : X → Type 0) (f g : X → Bool) → ((x : X) → P x → f x ≡ g x) → (xs : List X) → AllByRecursion P xs → list_all f xs ≡ list_all g xs
-all_agree P f g same [] all = refl
-all_agree P f g same (x ∷ xs) all = ap₂ (λ a b. a && b) (same x all.0) (all_agree P f g same xs all.1)
 
 old_landed : (log : List Logged) (stripe : Stripe) (knows : List ℕ) (o other : Opening) (n : ℕ) → IsPlacing log stripe o
     → list_all (has_landed (with_place log stripe knows)) (take n (stripes_of log other)) ≡ list_all (has_landed log) (take n (stripes_of log other))
@@ -138,11 +134,11 @@ rows_by : (i : Image) (logs : Logs) (stripe : Stripe) (knows : List ℕ) (o : Op
     → rows_of i (after logs (Place stripe) knows) ≡ place_entries (logs 0) stripe.line (rows_of i logs) ts
 rows_by i logs stripe knows o ts is freed bears rise own all unplaced =
     let nowhere : AllByRecursion (λ t. line_of_position i.shape (logs 0) t.entry.position ≡ None) ts =
-    weaker (λ (t : Taken). IsUnplaced i.shape (logs 0) t.entry.position) (λ (t : Taken). line_of_position i.shape (logs 0) t.entry.position ≡ None) (λ t h. in_no_line i.shape (logs 0) t.entry.position h) ts unplaced in
+    all_imply (λ (t : Taken). IsUnplaced i.shape (logs 0) t.entry.position) (λ (t : Taken). line_of_position i.shape (logs 0) t.entry.position ≡ None) (λ t h. in_no_line i.shape (logs 0) t.entry.position h) ts unplaced in
     let same : line_of i (after logs (Place stripe) knows) ≡ with_entries stripe.line ts (line_of i logs) = λ k lba t. places_now i logs stripe knows o ts is bears nowhere lba t k in
     table_now i logs stripe knows o (with_entries stripe.line ts (line_of i logs)) is freed same
     ∙ entries_placed i logs stripe.line ts (line_of i logs) rise own all
-    (weaker (λ (t : Taken). line_of_position i.shape (logs 0) t.entry.position ≡ None) (λ (t : Taken). IsNowhere t.entry.position (line_of i logs))
+    (all_imply (λ (t : Taken). line_of_position i.shape (logs 0) t.entry.position ≡ None) (λ (t : Taken). IsNowhere t.entry.position (line_of i logs))
     (λ t h. λ lba u e. ap (line_of_position i.shape (logs 0)) e ∙ h) ts nowhere)
     ∙ ap (λ table. place_entries (logs 0) stripe.line table ts) (sym (table_was i logs freed))
 
@@ -191,12 +187,8 @@ none_pass {X} test (x ∷ xs) e = go (test x) refl e (λ f. none_pass test xs f)
   where
     go : (b : Bool) → test x ≡ b → not (nat_lt 0 (length (cond b (x ∷ filter test xs) (filter test xs)))) ≡ true → (not (nat_lt 0 (length (filter test xs))) ≡ true → AllByRecursion (λ x. test x ≡ false) xs)
         → AllByRecursion (λ x. test x ≡ false) (x ∷ xs)
-    go true f h rest = absurd (cc (sym (ap not (is_below 0 (suc (length (filter test xs))) (omega arith))) ∙ h))
+    go true f h rest = absurd (cc (sym (ap not (lt_true 0 (suc (length (filter test xs))) (omega arith))) ∙ h))
     go false f h rest = (f, rest h)
-
-among_all : {X : Type 0} (xs : List X) → AllByRecursion (IsAmong xs) xs
-among_all [] = tt
-among_all (x ∷ xs) = ((0, refl), weaker (IsAmong xs) (IsAmong (x ∷ xs)) (λ y at. later x xs y at) xs (among_all xs))
 
 -- what holds of all fresh entries holds of the first ones that wait
 first_waiting : (s : Shape) (log : List Logged) (P : Taken → Type 0) → NoneLost log → AllByRecursion P (filter (λ t. not (was_placed s log t)) (takes log)) → AllByRecursion P (take s.ws_opt (waiting s log))
@@ -217,19 +209,11 @@ rows_placed i logs stripe knows o small is freed fine numbered marked sectors it
     (first_waiting i.shape (logs 0) (IsEntry i.shape.capacity (takes (logs 0))) fine (all_filter (IsEntry i.shape.capacity (takes (logs 0))) (λ t. not (was_placed i.shape (logs 0) t)) (takes (logs 0))
     (zipped (λ (t : Taken). t.mark.lba < i.shape.capacity) (IsAmong (takes (logs 0))) (IsEntry i.shape.capacity (takes (logs 0)))
     (λ t a b. entry_at i.shape.capacity (takes (logs 0)) b.0 t b.1 a) (takes (logs 0)) sectors (among_all (takes (logs 0))))))
-    (first_waiting i.shape (logs 0) (λ (t : Taken). IsUnplaced i.shape (logs 0) t.entry.position) fine (weaker (λ t. not (was_placed i.shape (logs 0) t) ≡ true) (λ (t : Taken). IsUnplaced i.shape (logs 0) t.entry.position)
+    (first_waiting i.shape (logs 0) (λ (t : Taken). IsUnplaced i.shape (logs 0) t.entry.position) fine (all_imply (λ t. not (was_placed i.shape (logs 0) t) ≡ true) (λ (t : Taken). IsUnplaced i.shape (logs 0) t.entry.position)
     (λ t h. none_pass (holds_position i.shape t.entry.position) (placements (logs 0)) h) (filter (λ t. not (was_placed i.shape (logs 0) t)) (takes (logs 0)))
-    (passes (λ t. not (was_placed i.shape (logs 0) t)) (takes (logs 0)))))
+    (all_passed (λ t. not (was_placed i.shape (logs 0) t)) (takes (logs 0)))))
 
 -- ---- some first ones of them
-
-few_pass : (test : ℕ → Bool) (a n : ℕ) → length (filter test (range_with_len a n)) ≤ n
-few_pass test a zero = omega arith
-few_pass test a (suc n) = go (test a) (few_pass test (a + 1) n)
-  where
-    go : (b : Bool) → length (filter test (range_with_len (a + 1) n)) ≤ n → length (cond b (a ∷ filter test (range_with_len (a + 1) n)) (filter test (range_with_len (a + 1) n))) ≤ suc n
-    go true h = omega arith
-    go false h = omega arith
 
 -- what holds of all fresh entries holds of so many that wait
 some_waiting : (s : Shape) (log : List Logged) (P : Taken → Type 0) (n : ℕ) → NoneLost log → AllByRecursion P (filter (λ t. not (was_placed s log t)) (takes log)) → AllByRecursion P (take n (waiting s log))
@@ -247,9 +231,9 @@ live_between i logs line n freed fine numbered sectors =
     (zipped (λ (t : Taken). t.mark.lba < i.shape.capacity) (IsAmong (takes (logs 0))) (IsEntry i.shape.capacity (takes (logs 0)))
     (λ t a b. entry_at i.shape.capacity (takes (logs 0)) b.0 t b.1 a) (takes (logs 0)) sectors (among_all (takes (logs 0))))))
     (some_waiting i.shape (logs 0) (λ (t : Taken). IsNowhere t.entry.position (line_of i logs)) n fine
-    (weaker (λ t. not (was_placed i.shape (logs 0) t) ≡ true) (λ (t : Taken). IsNowhere t.entry.position (line_of i logs))
+    (all_imply (λ t. not (was_placed i.shape (logs 0) t) ≡ true) (λ (t : Taken). IsNowhere t.entry.position (line_of i logs))
     (λ t h. λ lba u e. ap (line_of_position i.shape (logs 0)) e ∙ in_no_line i.shape (logs 0) t.entry.position (none_pass (holds_position i.shape t.entry.position) (placements (logs 0)) h))
-    (filter (λ t. not (was_placed i.shape (logs 0) t)) (takes (logs 0))) (passes (λ t. not (was_placed i.shape (logs 0) t)) (takes (logs 0)))))
+    (filter (λ t. not (was_placed i.shape (logs 0) t)) (takes (logs 0))) (all_passed (λ t. not (was_placed i.shape (logs 0) t)) (takes (logs 0)))))
     ∙ ap (λ table. place_entries (logs 0) line table (take n (waiting i.shape (logs 0)))) (sym (table_was i logs freed)) in
     λ m row there.
     let at = row_at (row_with i logs (with_entries line (take n (waiting i.shape (logs 0))) (line_of i logs))) i.shape.chunks 0 m row (ap (λ (t : Table). slice_get t.rows m) same ∙ there) in

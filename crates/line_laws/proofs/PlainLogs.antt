@@ -1,28 +1,16 @@
 -- A mount in which nothing fails and nothing is freed.
-use Rattle.std.proofs.Common.{◌≡◌, ℕ, ◌+◌, ◌==◌, zero, suc, true, false, Some, None, List, [], ◌∷◌, refl}
+use Rattle.std.proofs.Common.{◌≡◌, ℕ, ◌==◌, zero, suc, true, false, Some, None, List, [], ◌∷◌, refl}
 use Rattle.std.specs.Prelude.{if◌then◌else◌, slice_get}
-use Rattle.std.specs.List.{AllByRecursion, fold, filter_map, cons_option, enumerate_from}
-use Rattle.pblk_world.specs.Events.{Open, Free, Landed, Lost, Event, Decides, Logged}
-use Rattle.pblk_world.specs.EngineLog.{LineLife, AsFound, Opened, turned, turned_by, Answer, DidLand, answer_by, answers, turn, is_loss, was_lost, stripes_of}
-use Rattle.pblk_world.specs.Victims.{is_freed}
+use Rattle.std.specs.List.{AllByRecursion, filter_map, cons_option}
+use Rattle.pblk_world.specs.Events.{Landed, Lost, Event, Decides, Logged}
+use Rattle.pblk_world.specs.EngineLog.{AsFound, Answer, DidLand, answer_by, answers, turn, is_loss, was_lost, stripes_of}
 use Rattle.core_laws.specs.PlainWorlds.{is_plain_event, ArePlain}
-use Rattle.core_laws.proofs.Lists.{none_any}
 use Rattle.line_laws.specs.Plain.{NoneFreed, NoneLost, NoneFailed}
-
-turned_plain : (line n : ℕ) (life : LineLife) (knows : List ℕ) (e : Event) → is_plain_event e ≡ true → is_freed life ≡ false → is_freed (turned_by line life n knows e) ≡ false
-turned_plain line n life knows (Decides (Open other start)) plain is = elim (other == line) as (λ b. is_freed (if b then Opened (record { number = n; line = line; start = start; knows = knows }) else life) ≡ false) [
-  | true ↦ refl
-  | false ↦ is
-]
-turned_plain line n life knows (Decides (Free other)) plain is = absurd cc
-turned_plain line n life knows e plain is = is
-
-lives_plain : (line n : ℕ) (log : List Logged) (life : LineLife) → ArePlain log → is_freed life ≡ false → is_freed (fold (turned line) life (enumerate_from n log)) ≡ false
-lives_plain line n [] life plain is = is
-lives_plain line n (l ∷ log) life plain is = lives_plain line (n + 1) log (turned_by line life n l.knows l.event) plain.1 (turned_plain line n life l.knows l.event plain.0 is)
+use Rattle.core_laws.proofs.PlainWorldsLemmas.{lives_unfreed}
+use Rattle.lemmas.proofs.Maps.{none_any}
 
 pub none_freed : (log : List Logged) → ArePlain log → NoneFreed log
-none_freed log plain line = lives_plain line 0 log AsFound plain refl
+none_freed log plain line = lives_unfreed line 0 log AsFound plain refl
 
 abbrev AreLandings : List Answer → Type 0
 AreLandings xs = AllByRecursion (λ a. is_loss (Some a) ≡ false) xs

@@ -21,9 +21,11 @@ use Rattle.pblk_world.proofs.Appending.{placements_more}
 use Rattle.pblk_world.proofs.Growing.{at_end}
 use Rattle.core_laws.specs.PlacerOf.{unanswered_on}
 use Rattle.core_laws.specs.PlainWorlds.{IsPlainWorld}
-use Rattle.core_laws.proofs.Lists.{all_at, all_filter, get_more, get_whole}
 use Rattle.line_laws.specs.InOrder.{IsInPlace, IsInOrder, IsLanding}
 use Rattle.line_laws.proofs.Orders.{in_order}
+use Rattle.lemmas.proofs.Maps.{all_filter}
+use Rattle.lemmas.proofs.Parts.{all_at, get_more, get_whole}
+use Rattle.pblk_world.proofs.EngineLogLemmas.{begun_taken}
 
 -- ---- the first event begins the mount
 
@@ -50,11 +52,6 @@ has_begun i (s ∷ w) legal = go (s.author == 0) refl (log_of w 0) refl (has_beg
         (subst (λ a. IsAllowed i a s.logged.event (prefixes s.logged (log_of w))) (eqb-true s.author 0 e) legal.0.allowed))
     go true e (m ∷ log) same (inl none) = absurd (cc (sym same ∙ none))
     go true e (m ∷ log) same (inr (b, is)) = inr (b, sym (ap begun same) ∙ is)
-
-begun_taken : (k : ℕ) (log : List Logged) → 0 < k → begun (take k log) ≡ begun log
-begun_taken zero log some = absurd (omega arith)
-begun_taken (suc k) [] some = refl
-begun_taken (suc k) (m ∷ log) some = refl
 
 -- ---- stripes of a prefix
 

@@ -11,11 +11,10 @@ use Rattle.pblk_world.specs.World.{Logs}
 use Rattle.line_table.specs.declared.row.Row.{Row}
 use Rattle.line_table.specs.Rows.{Table, Changes}
 use Rattle.core_laws.specs.RowsOf.{row_of_line, rows_of}
-use Rattle.core_laws.proofs.Lists.{map_same, map_agree}
-use Rattle.core_laws.proofs.Placing.{weaker}
-use Rattle.core_laws.proofs.Rows.{rows_set}
 use Rattle.core_laws.proofs.PlacedLines.{get_row as row_there}
 use Rattle.line_laws.specs.Changes.{with_row}
+use Rattle.lemmas.proofs.Lists.{all_imply}
+use Rattle.lemmas.proofs.Maps.{map_agree, map_same, rows_set}
 
 pub same_table : (s t : Shape) (rows more : List Row) → s ≡ t → rows ≡ more → ◌≡◌ {A = Table} (record { shape = s; rows = rows }) (record { shape = t; rows = more })
 same_table s t rows more e f = λ i. record { shape = e i; rows = f i }
@@ -28,7 +27,7 @@ changed_is old new line change row there changes =
 
 pub range_below : (a n : ℕ) → AllByRecursion (λ m. m < a + n) (range_with_len a n)
 range_below a zero = tt
-range_below a (suc n) = (omega arith, weaker (λ (m : ℕ). m < a + 1 + n) (λ (m : ℕ). m < a + suc n) (λ m h. omega arith) (range_with_len (a + 1) n) (range_below (a + 1) n))
+range_below a (suc n) = (omega arith, all_imply (λ (m : ℕ). m < a + 1 + n) (λ (m : ℕ). m < a + suc n) (λ m h. omega arith) (range_with_len (a + 1) n) (range_below (a + 1) n))
 
 -- the rows of a function
 abbrev pub table_of : Shape → (ℕ → Row) → Table

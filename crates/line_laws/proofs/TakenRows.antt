@@ -1,10 +1,10 @@
 -- What a user's entry that is taken changes in the table.
-use Rattle.std.proofs.Common.{◌≡◌, ◌≢◌, ℕ, ◌+◌, ◌-◌, ◌/◌, ◌<◌, ◌≤◌, ◌==◌, ◌&&◌, zero, suc, not, nat_eq, nat_lt, Bool, true, false, cond, Some, None, Option, List, [], ◌∷◌, ◌++◌, length, refl, sym, subst, ap, ap₂, ◌∙◌, arith, append-nil}
+use Rattle.std.proofs.Common.{◌≡◌, ◌≢◌, ℕ, ◌+◌, ◌-◌, ◌/◌, ◌<◌, ◌≤◌, ◌==◌, ◌&&◌, zero, suc, not, nat_eq, nat_lt, Bool, true, false, cond, Some, None, Option, List, [], ◌∷◌, ◌++◌, length, refl, sym, ap, ap₂, ◌∙◌, arith, append-nil}
 use Rattle.std.specs.Prelude.{if◌then◌else◌}
 use Rattle.std.specs.List.{AllByRecursion, filter, last_or, range_with_len}
 use Rattle.std.specs.Option.{option_map}
 use Rattle.std.proofs.lemmas.Bool.{eqb-true}
-use Rattle.std.proofs.lemmas.Option.{same_Some, none-some}
+use Rattle.std.proofs.lemmas.Option.{none-some}
 use Rattle.pblk_model.specs.declared.shape.Shape.{Shape}
 use Rattle.pblk_model.specs.declared.chunk.Mark.{Mark}
 use Rattle.pblk_model.specs.Image.{Image, width}
@@ -16,26 +16,27 @@ use Rattle.pblk_world.specs.Fronts.{first_position, taken, last_take}
 use Rattle.pblk_world.specs.Lines.{known_image, are_empty}
 use Rattle.pblk_world.specs.Placing.{line_end}
 use Rattle.pblk_world.specs.Victims.{is_freed, is_in_force, line_of_position, line_of, is_live_in, live, take_before, took_from}
-use Rattle.pblk_world.proofs.Appending.{takes_more}
 use Rattle.line_table.specs.declared.row.LineState.TheVariants as states
 use Rattle.line_table.specs.Rows.{latest, lost}
 use Rattle.core_laws.specs.Stepping.{after}
 use Rattle.core_laws.specs.PlacerOf.{positions_of}
 use Rattle.core_laws.specs.Positions.{IsUnplaced, AreNumbered}
 use Rattle.core_laws.specs.RowsOf.{state_in, width_in, taker_by, taker_in, row_of_line, rows_of}
-use Rattle.core_laws.proofs.Lists.{filter_agree, all_filter, find_none}
-use Rattle.core_laws.proofs.Placing.{not_below, weaker}
-use Rattle.core_laws.proofs.Rows.{same_number, other_number}
-use Rattle.core_laws.proofs.Taking.{filter_last, not_both}
+use Rattle.core_laws.proofs.Placing.{not_below}
+use Rattle.core_laws.proofs.Taking.{filter_last}
 use Rattle.core_laws.proofs.TakenSlots.{last_is}
-use Rattle.stripe_placer.proofs.Chunks.{lt_yes as is_below}
 use Rattle.line_laws.specs.Changes.{lose_in}
 use Rattle.line_laws.specs.Plain.{NoneFreed}
 use Rattle.line_laws.proofs.Kept.{with_event, KeepsStripes, stripes_kept, lives_kept, alike_kept, have_landed_alike}
-use Rattle.line_laws.proofs.KeptRows.{found_kept, known_kept, KeepsChunks, state_same, width_same, live_same, same_row}
+use Rattle.line_laws.proofs.KeptRows.{known_kept, KeepsChunks, state_same, width_same, live_same, same_row}
 use Rattle.line_laws.proofs.LandedRows.{line_of_kept}
 use Rattle.line_laws.proofs.OpenAddresses.{failed_kept}
 use Rattle.line_laws.proofs.Tables.{row_changes_any, rows_stay}
+use Rattle.core_laws.proofs.SteppingLemmas.{found_kept}
+use Rattle.lemmas.proofs.Lists.{all_imply, last_in}
+use Rattle.lemmas.proofs.Maps.{all_filter, filter_agree, find_none}
+use Rattle.lemmas.proofs.Tests.{and_false, and_true, lt_true, not_first, other_number, same_number}
+use Rattle.pblk_world.proofs.EngineLogLemmas.{takes_more}
 
 -- ---- positions below the next one
 
@@ -46,7 +47,7 @@ below_by a (suc n) (t ∷ ts) e =
     let first : t.entry.position ≡ a = cc in
     let rest : positions_of ts ≡ range_with_len (a + 1) n = cc in
     let later : AllByRecursion (λ u. u.entry.position < a + 1 + n) ts = below_by (a + 1) n ts rest in
-    (omega arith, weaker (λ (u : Taken). u.entry.position < a + 1 + n) (λ (u : Taken). u.entry.position < a + suc n) (λ u h. omega arith) ts later)
+    (omega arith, all_imply (λ (u : Taken). u.entry.position < a + 1 + n) (λ (u : Taken). u.entry.position < a + suc n) (λ u h. omega arith) ts later)
 
 pub all_below : (log : List Logged) → AreNumbered log → AllByRecursion (λ t. t.entry.position < taken log) (takes log)
 all_below log numbered = below_by (first_position log) (length (takes log)) (takes log) numbered
@@ -75,33 +76,25 @@ before_old : (log : List Logged) (entry : Entry) (mark : Mark) (knows : List ℕ
 before_old log entry mark knows t below =
     ap (last_or None) (ap (filter (λ (u : Taken). (u.mark.lba == t.mark.lba) && nat_lt u.entry.position t.entry.position)) (takes_now log entry mark knows)
     ∙ filter_last (λ (u : Taken). (u.mark.lba == t.mark.lba) && nat_lt u.entry.position t.entry.position) (takes log) (new_taken entry mark) false
-    (not_both (mark.lba == t.mark.lba) (nat_lt entry.position t.entry.position) (not_below t.entry.position entry.position (omega arith)))
+    (and_false (mark.lba == t.mark.lba) (nat_lt entry.position t.entry.position) (not_below t.entry.position entry.position (omega arith)))
     ∙ append-nil (filter (λ (u : Taken). (u.mark.lba == t.mark.lba) && nat_lt u.entry.position t.entry.position) (takes log)))
-
-and_true : (a b : Bool) → b ≡ true → (a && b) ≡ a
-and_true true b e = e
-and_true false b e = refl
 
 -- before the new one is the sector's latest
 before_new : (log : List Logged) (entry : Entry) (mark : Mark) (knows : List ℕ) → AreNumbered log → entry.position ≡ taken log → take_before (with_event log (Take entry mark) knows) (new_taken entry mark) ≡ last_take log mark.lba
 before_new log entry mark knows numbered next =
     ap (last_or None) (ap (filter (λ (u : Taken). (u.mark.lba == mark.lba) && nat_lt u.entry.position entry.position)) (takes_now log entry mark knows)
     ∙ filter_last (λ (u : Taken). (u.mark.lba == mark.lba) && nat_lt u.entry.position entry.position) (takes log) (new_taken entry mark) false
-    (not_both (mark.lba == mark.lba) (nat_lt entry.position entry.position) (not_below entry.position entry.position (omega arith)))
+    (and_false (mark.lba == mark.lba) (nat_lt entry.position entry.position) (not_below entry.position entry.position (omega arith)))
     ∙ append-nil (filter (λ (u : Taken). (u.mark.lba == mark.lba) && nat_lt u.entry.position entry.position) (takes log))
     ∙ filter_agree (λ (u : Taken). u.entry.position < taken log) (λ (u : Taken). (u.mark.lba == mark.lba) && nat_lt u.entry.position entry.position) (λ (u : Taken). u.mark.lba == mark.lba)
-    (λ u below. and_true (u.mark.lba == mark.lba) (nat_lt u.entry.position entry.position) (is_below u.entry.position entry.position (omega arith))) (takes log) (all_below log numbered))
-
-no_and : (a b : Bool) → a ≡ false → (a && b) ≡ false
-no_and true b e = absurd cc
-no_and false b e = refl
+    (λ u below. and_true (u.mark.lba == mark.lba) (nat_lt u.entry.position entry.position) (lt_true u.entry.position entry.position (omega arith))) (takes log) (all_below log numbered))
 
 -- an entry that no stripe holds is in no line
 pub in_no_line : (s : Shape) (log : List Logged) (position : ℕ) → IsUnplaced s log position → line_of_position s log position ≡ None
 in_no_line s log position none = ap (option_map (λ (p : Placed). p.stripe.line))
     (find_none (λ (p : Placed). holds_position s position p && not (was_lost log p) && is_in_force log p.life p.stripe.line) (placements log)
-    (weaker (λ (p : Placed). holds_position s position p ≡ false) (λ (p : Placed). (holds_position s position p && not (was_lost log p) && is_in_force log p.life p.stripe.line) ≡ false)
-    (λ p h. no_and (holds_position s position p && not (was_lost log p)) (is_in_force log p.life p.stripe.line) (no_and (holds_position s position p) (not (was_lost log p)) h)) (placements log) none))
+    (all_imply (λ (p : Placed). holds_position s position p ≡ false) (λ (p : Placed). (holds_position s position p && not (was_lost log p) && is_in_force log p.life p.stripe.line) ≡ false)
+    (λ p h. not_first (holds_position s position p && not (was_lost log p)) (is_in_force log p.life p.stripe.line) (not_first (holds_position s position p) (not (was_lost log p)) h)) (placements log) none))
 
 -- ---- sectors live in a line
 
@@ -179,7 +172,7 @@ took_old i logs entry mark knows line t below = ap (λ b. nat_lt t.mark.lba i.sh
 took_new : (i : Image) (logs : Logs) (entry : Entry) (mark : Mark) (knows : List ℕ) (line : ℕ) → AreNumbered (logs 0) → entry.position ≡ taken (logs 0) → mark.lba < i.shape.capacity
     → took_from i (after logs (Take entry mark) knows) line (new_taken entry mark) ≡ is_live_in i logs line mark.lba
 took_new i logs entry mark knows line numbered next inside =
-    ap (λ b. b && is_of line (line_of i (after logs (Take entry mark) knows) mark.lba (take_before (after logs (Take entry mark) knows 0) (new_taken entry mark)))) (is_below mark.lba i.shape.capacity inside)
+    ap (λ b. b && is_of line (line_of i (after logs (Take entry mark) knows) mark.lba (take_before (after logs (Take entry mark) knows 0) (new_taken entry mark)))) (lt_true mark.lba i.shape.capacity inside)
     ∙ ap (λ u. is_of line (line_of i (after logs (Take entry mark) knows) mark.lba u)) (before_new (logs 0) entry mark knows numbered next)
     ∙ ap (is_of line) (line_of_kept i logs (Take entry mark) knows refl refl mark.lba (last_take (logs 0) mark.lba))
 
@@ -192,10 +185,6 @@ takers_now i logs entry mark knows line b numbered next inside is =
     ∙ filter_last (took_from i new line) (takes (logs 0)) (new_taken entry mark) b (took_new i logs entry mark knows line numbered next inside ∙ is)
     ∙ ap (λ xs. xs ++ cond b (new_taken entry mark ∷ []) [])
     (filter_agree (λ (t : Taken). t.entry.position < taken (logs 0)) (took_from i new line) (took_from i logs line) (λ t below. took_old i logs entry mark knows line t (omega arith)) (takes (logs 0)) (all_below (logs 0) numbered))
-
-last_in : {X : Type 0} (P : X → Type 0) (o : Option X) (xs : List X) (x : X) → ((y : X) → o ≡ Some y → P y) → AllByRecursion P xs → last_or o xs ≡ Some x → P x
-last_in P o [] x was all e = was x e
-last_in P o (y ∷ xs) x was all e = last_in P (Some y) xs x (λ z f. subst P (same_Some y z f) all.0) all.1 e
 
 latest_is : (by : ℕ) (o : Option Taken) → ((t : Taken) → o ≡ Some t → t.entry.position < by) → latest (option_map (λ (t : Taken). t.entry.position) o) by ≡ by
 latest_is by None below = refl

@@ -10,9 +10,9 @@ use Rattle.pblk_model.specs.StartRecord.{StartRecord, start_of}
 use Rattle.pblk_model.specs.EndRecord.{end_of}
 use Rattle.pblk_model.specs.Records.{Record, named, mark_at, bears, record_at, records_after, line_records, records}
 use Rattle.pblk_model.specs.Contents.{head, end_after, counts, counted_after, counted, newer, is_newer, is_of, winner}
-use Rattle.core_laws.proofs.Lists.{all_filter}
-use Rattle.core_laws.proofs.PlacedPositions.{all_joined}
 use Rattle.core_laws.proofs.Opening.{all_made}
+use Rattle.lemmas.proofs.Lists.{all_append}
+use Rattle.lemmas.proofs.Maps.{all_filter}
 
 -- the record's line has a start record
 abbrev pub HasStart : Image → Record → Type 0
@@ -40,7 +40,7 @@ line_starts i line (Some start) e = all_made (record_at i line start) (HasStart 
 
 all_lines : (i : Image) (lines : List ℕ) → AllByRecursion (HasStart i) (flat_map (line_records i) lines)
 all_lines i [] = tt
-all_lines i (line ∷ lines) = all_joined (HasStart i) (line_records i line) (flat_map (line_records i) lines) (line_starts i line (start_of i line) refl) (all_lines i lines)
+all_lines i (line ∷ lines) = all_append (HasStart i) (line_records i line) (flat_map (line_records i) lines) (line_starts i line (start_of i line) refl) (all_lines i lines)
 
 counted_starts : (i : Image) (o : Option StartRecord) → AllByRecursion (HasStart i) (counted_after (records i) o)
 counted_starts i None = tt

@@ -16,7 +16,8 @@ use Rattle.core_laws.specs.Positions.{AreNumbered, AreMarked, AreTaken}
 use Rattle.line_laws.specs.Plain.{NoneFreed, NoneLost, NoneFailed}
 use Rattle.line_laws.specs.PlacedEntries.{AreOfSectors}
 
--- a stripe that was placed is in a line of the drive, which is opened as it was then
+-- A placed stripe is in a line of the drive. That line is opened still, by the opening that it had when the
+-- stripe was placed.
 pub record IsInPlace (i : Image) (log : List Logged) (p : Placed) : Type 0 where
   pub in_range : p.stripe.line < i.shape.chunks
   pub chunk : p.stripe.chunk ≡ p.stripe.line
@@ -36,12 +37,12 @@ pub record IsInOrder (i : Image) (logs : Logs) : Type 0 where
   pub lost : NoneLost (logs 0)
   pub failed : NoneFailed (logs 0)
 
--- the stripes of an opened line are no more than the line has
+-- an opened line has no more stripes than it has room for
 pub record HasRoom (s : Shape) (log : List Logged) (o : Opening) : Type 0 where
   pub some : 0 < data_len s o.start.width
   pub within : length (stripes_of log o) * s.ws_opt ≤ line_end s o
 
--- the stripe that an event of a unit was a program of, as its answer is noted
+-- the stripe whose program an event of a unit was, when its answer is noted
 pub record IsLanding (i : Image) (logs : Logs) (unit event : ℕ) : Type 0 where
   pub stripe : Placed
   pub is_first : unanswered_on (logs 0) unit ≡ Some stripe

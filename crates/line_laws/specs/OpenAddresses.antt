@@ -2,7 +2,7 @@
 use Rattle.std.specs.Prelude.{Bool, true, false}
 use Rattle.pblk_world.specs.Events.{EngineEvent, Begin, Take, Open, Place, Landed, Lost, Again, ResetDone, Free}
 
--- it neither places a stripe nor tells of a loss
+-- the event neither places a stripe nor tells of a loss
 abbrev pub keeps_stripes : EngineEvent → Bool
 keeps_stripes (Begin b) = true
 keeps_stripes (Take entry mark) = true
@@ -14,7 +14,7 @@ keeps_stripes (Again unit event) = true
 keeps_stripes (ResetDone unit event) = true
 keeps_stripes (Free line) = true
 
--- and it neither opens nor frees a line
+-- nor does it open or free a line
 abbrev pub keeps_addresses : EngineEvent → Bool
 keeps_addresses (Begin b) = true
 keeps_addresses (Take entry mark) = true
@@ -26,7 +26,7 @@ keeps_addresses (Again unit event) = true
 keeps_addresses (ResetDone unit event) = true
 keeps_addresses (Free line) = false
 
--- it neither begins the mount, nor takes an entry, nor places a stripe
+-- the event neither begins the mount, nor takes an entry, nor places a stripe
 abbrev pub keeps_placed : EngineEvent → Bool
 keeps_placed (Begin b) = false
 keeps_placed (Take entry mark) = false

@@ -1,4 +1,4 @@
--- What the entries of a stripe that is placed make of its line's row.
+-- What the entries of a placed stripe change in the row of its line.
 use Rattle.std.specs.Prelude.{ℕ, ◌+◌, ◌<◌, ◌==◌, ◌&&◌, nat_lt, List, Option, Some, None}
 use Rattle.std.specs.List.{AllByRecursion, find, fold}
 use Rattle.pblk_model.specs.declared.shape.Shape.{Shape}
@@ -12,7 +12,7 @@ use Rattle.line_laws.specs.Changes.{with_row}
 abbrev pub next_take : List Logged → Taken → Option Taken
 next_take log t = find (λ u. (u.mark.lba == t.mark.lba) && nat_lt t.entry.position u.entry.position) (takes log)
 
--- a live sector more
+-- one live sector more
 abbrev pub gained : Row → Row
 gained row = record row { live = row.live + 1 }
 

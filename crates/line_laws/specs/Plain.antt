@@ -1,4 +1,4 @@
--- What a mount in which nothing fails and nothing is freed never comes to.
+-- What never comes in a mount in which nothing fails and nothing is freed.
 use Rattle.std.specs.Prelude.{ℕ, ◌≡◌, false, List}
 use Rattle.pblk_world.specs.Events.{Logged}
 use Rattle.pblk_world.specs.EngineLog.{Opening, Placed, life_of, was_lost, has_failed}

@@ -5,3 +5,4 @@ pub mod Widths
 pub mod Tables
 pub mod Sizes
 pub mod Opened
+pub mod RowsLemmas

@@ -11,12 +11,13 @@ use Rattle.pblk_model.specs.declared.shape.Shape.{Shape}
 use Rattle.pblk_model.specs.Shape.{units}
 use Rattle.pblk_model.specs.LineOrder.{data_len}
 use Rattle.line_table.specs.declared.row.LineState.{LineState}
-use Rattle.line_table.specs.declared.row.LineState.TheVariants.{Free, Open, Full, Failed, Freed, Dead}
+use Rattle.line_table.specs.declared.row.LineState.TheVariants.{Free}
 use Rattle.line_table.specs.declared.row.Row.{Row}
 use Rattle.line_table.specs.Rows.{Table, IsFreeLine, Changes, latest, lost, kept, turned, is_free, is_free_state, is_free_at, free_len}
 use Rattle.line_table.specs.LineSets.{has}
 use Rattle.line_table.specs.Inside.{Keeps}
 use Rattle.line_table.proofs.Places.{get_set_same, get_set_other}
+use Rattle.line_table.proofs.RowsLemmas.{free_state}
 
 -- a sum with one term changed
 pub sum_changed : (f : Row → ℕ) (rows : List Row) (i : ℕ) (old new : Row) → slice_get rows i ≡ Some old → sum_by f (slice_set rows i new) + f old ≡ sum_by f rows + f new
@@ -105,14 +106,6 @@ none_at [] h = refl
 none_at (r ∷ rows) h =
     let rest : prefix_len (λ r. not (is_free r)) rows ≡ length rows = none_at rows (λ m. h (suc m)) in
     ap (λ b. cond (not b) (1 + prefix_len (λ r. not (is_free r)) rows) 0) (h 0) ∙ omega arith
-
-free_state : (state : LineState) → is_free_state state ≡ true → state ≡ Free
-free_state Free e = refl
-free_state Open e = absurd cc
-free_state Full e = absurd cc
-free_state Failed e = absurd cc
-free_state Freed e = absurd cc
-free_state Dead e = absurd cc
 
 -- the row of a line that is Free
 free_row : (rows : List Row) (n : ℕ) → is_free_at rows n ≡ true → (row : Row) × (slice_get rows n ≡ Some row) × (row.state ≡ Free)

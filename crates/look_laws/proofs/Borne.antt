@@ -1,9 +1,8 @@
 -- A block that a stripe writes is that of an entry that was taken, where it bears a position.
-use Rattle.std.proofs.Common.{◌≡◌, ◌⊎◌, inl, inr, ℕ, ◌+◌, ◌-◌, ◌≤◌, zero, suc, ◌&&◌, not, true, false, List, [], ◌∷◌, ◌++◌, length, take, drop, replicate, refl, sym, subst, ◌∙◌, append-nil}
+use Rattle.std.proofs.Common.{◌≡◌, ◌⊎◌, inl, inr, ℕ, ◌+◌, ◌-◌, ◌≤◌, ◌&&◌, not, true, false, List, [], ◌∷◌, ◌++◌, length, take, drop, replicate, refl, sym, subst, ◌∙◌, append-nil}
 use Rattle.std.specs.Prelude.{map, slice_range}
 use Rattle.std.specs.List.{AllByRecursion, filter}
 use Rattle.std.specs.Option.{option_to_list}
-use Rattle.std.proofs.lemmas.Option.{none-some}
 use Rattle.pblk_model.specs.declared.shape.Shape.{Shape}
 use Rattle.pblk_model.specs.Chunk.{Block}
 use Rattle.pblk_model.specs.Image.{Image}
@@ -17,15 +16,13 @@ use Rattle.pblk_world.specs.EngineLog.{Begun, Taken, taken_by, takes, Opening, P
 use Rattle.pblk_world.specs.Fronts.{waits, was_placed, waiting}
 use Rattle.pblk_world.specs.Placing.{next_address, end_address, end_record, IsStart, IsData, IsEnd, IsPad, data_blocks, record_blocks}
 use Rattle.pblk_world.specs.Legal.{IsLegal, IsDecision}
-use Rattle.pblk_world.proofs.Appending.{takes_more, placements_more}
-use Rattle.stripe_placer.proofs.Among.{IsAmong, later}
-use Rattle.core_laws.proofs.Lists.{all_filter, all_dropped, all_taken, all_replicated}
-use Rattle.core_laws.proofs.Placing.{weaker}
-use Rattle.core_laws.proofs.PlacedPositions.{all_joined}
+use Rattle.pblk_world.proofs.Appending.{placements_more}
 use Rattle.landing_laws.proofs.Keeping.{IsKept, kept}
 use Rattle.landing_laws.proofs.BorneOnce.{BearsNone, records_none, pads_none}
-use Rattle.landing_laws.proofs.Entries.{all_true}
-use Rattle.line_laws.proofs.FirstAnswers.{among_all}
+use Rattle.lemmas.proofs.Lists.{IsAmong, all_append, all_imply, all_replicated, all_true, among_all, among_more}
+use Rattle.lemmas.proofs.Maps.{all_filter}
+use Rattle.lemmas.proofs.Parts.{all_dropped, all_taken}
+use Rattle.pblk_world.proofs.EngineLogLemmas.{takes_more}
 
 -- it is that of one of these entries
 pub record IsOfOne (ts : List Taken) (b : Block) : Type 0 where
@@ -50,7 +47,7 @@ no_entrys s ts b none q e = go (bears_position s q b) (none q) e
 
 waiting_among : (s : Shape) (log : List Logged) → AllByRecursion (IsAmong (takes log)) (waiting s log)
 waiting_among s log =
-    all_joined (IsAmong (takes log)) (filter (λ t. waits s log t && was_placed s log t) (takes log)) (filter (λ t. not (was_placed s log t)) (takes log))
+    all_append (IsAmong (takes log)) (filter (λ t. waits s log t && was_placed s log t) (takes log)) (filter (λ t. not (was_placed s log t)) (takes log))
     (all_filter (IsAmong (takes log)) (λ t. waits s log t && was_placed s log t) (takes log) (among_all (takes log)))
     (all_filter (IsAmong (takes log)) (λ t. not (was_placed s log t)) (takes log) (among_all (takes log)))
 
@@ -61,13 +58,13 @@ all_mapped s all (t ∷ ts) each = (λ q e. record { entry = t; among = each.0; 
 -- ---- a stripe
 
 part_entrys : (s : Shape) (ts : List Taken) (seq count : ℕ) (bytes : List ℕ) (from to : ℕ) → s.capacity ≤ meta_lba → AllByRecursion (IsEntrys s ts) (slice_range (record_blocks s seq count bytes) from to)
-part_entrys s ts seq count bytes from to small = weaker (BearsNone s) (IsEntrys s ts) (no_entrys s ts) (slice_range (record_blocks s seq count bytes) from to)
+part_entrys s ts seq count bytes from to small = all_imply (BearsNone s) (IsEntrys s ts) (no_entrys s ts) (slice_range (record_blocks s seq count bytes) from to)
     (all_taken (BearsNone s) (to - from) (drop from (record_blocks s seq count bytes)) (all_dropped (BearsNone s) from (record_blocks s seq count bytes) (records_none s s.sector seq count bytes small)))
 
 data_entrys : (s : Shape) (log : List Logged) → s.capacity ≤ meta_lba → AllByRecursion (IsEntrys s (takes log)) (data_blocks s log)
 data_entrys s log small =
     let bs : List Block = map block_of_taken (take s.ws_opt (waiting s log)) in
-    all_joined (IsEntrys s (takes log)) bs (replicate (s.ws_opt - length bs) (pad_block s))
+    all_append (IsEntrys s (takes log)) bs (replicate (s.ws_opt - length bs) (pad_block s))
     (all_mapped s (takes log) (take s.ws_opt (waiting s log)) (all_taken (IsAmong (takes log)) s.ws_opt (waiting s log) (waiting_among s log)))
     (all_replicated (IsEntrys s (takes log)) (s.ws_opt - length bs) (pad_block s) (no_entrys s (takes log) (pad_block s) (pads_none s small)))
 
@@ -83,17 +80,12 @@ by_kind i logs stripe o small (inr (inr (inr is))) = subst (AllByRecursion (IsEn
 
 -- ---- more entries
 
-among_more : {X : Type 0} (xs ys : List X) (x : X) → IsAmong xs x → IsAmong (xs ++ ys) x
-among_more [] ys x at = absurd (none-some x at.1)
-among_more (y ∷ xs) ys x (zero, there) = (0, there)
-among_more (y ∷ xs) ys x (suc k, there) = later y (xs ++ ys) x (among_more xs ys x (k, there))
-
 one_more : (s : Shape) (ts more : List Taken) (b : Block) → IsEntrys s ts b → IsEntrys s (ts ++ more) b
 one_more s ts more b is q e = let one : IsOfOne ts b = is q e in record { entry = one.entry; among = among_more ts more one.entry one.among; its = one.its }
 
 all_more : (s : Shape) (ts more : List Taken) (ps : List Placed) → AllByRecursion (λ p. AllByRecursion (IsEntrys s ts) p.stripe.blocks) ps → AllByRecursion (λ p. AllByRecursion (IsEntrys s (ts ++ more)) p.stripe.blocks) ps
-all_more s ts more ps all = weaker (λ p. AllByRecursion (IsEntrys s ts) p.stripe.blocks) (λ p. AllByRecursion (IsEntrys s (ts ++ more)) p.stripe.blocks)
-    (λ p each. weaker (IsEntrys s ts) (IsEntrys s (ts ++ more)) (one_more s ts more) p.stripe.blocks each) ps all
+all_more s ts more ps all = all_imply (λ p. AllByRecursion (IsEntrys s ts) p.stripe.blocks) (λ p. AllByRecursion (IsEntrys s (ts ++ more)) p.stripe.blocks)
+    (λ p each. all_imply (IsEntrys s ts) (IsEntrys s (ts ++ more)) (one_more s ts more) p.stripe.blocks each) ps all
 
 -- ---- in a world
 
@@ -105,7 +97,7 @@ entries_next i known log beginning (Place stripe) knows small own may was =
     let new : AllByRecursion (IsEntrys i.shape (takes log)) stripe.blocks = subst (λ (xs : List Logged). AllByRecursion (IsEntrys i.shape (takes xs)) stripe.blocks) own (by_kind i known stripe may.opening small may.kind) in
     subst (λ (ts : List Taken). AllByRecursion (λ (p : Placed). AllByRecursion (IsEntrys i.shape ts) p.stripe.blocks) (placements (log ++ l ∷ []))) (sym same)
     (subst (AllByRecursion (λ (p : Placed). AllByRecursion (IsEntrys i.shape (takes log)) p.stripe.blocks)) (sym (placements_more log l))
-    (all_joined (λ (p : Placed). AllByRecursion (IsEntrys i.shape (takes log)) p.stripe.blocks) (placements log) (_ ∷ []) was (new, tt)))
+    (all_append (λ (p : Placed). AllByRecursion (IsEntrys i.shape (takes log)) p.stripe.blocks) (placements log) (_ ∷ []) was (new, tt)))
 entries_next i known log beginning e knows small own may was =
     let l : Logged = record { event = Decides e; knows = knows } in
     subst (AllByRecursion (λ (p : Placed). AllByRecursion (IsEntrys i.shape (takes (log ++ l ∷ []))) p.stripe.blocks)) (sym (placements_more log l ∙ append-nil (placements log)))

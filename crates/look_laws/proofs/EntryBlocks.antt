@@ -16,29 +16,30 @@ use Rattle.pblk_world.specs.EngineLog.{Opening, Opened, life_of, is_life, Taken,
 use Rattle.pblk_world.specs.Fronts.{first_position, last_take}
 use Rattle.pblk_world.specs.Space.{is_readable_in}
 use Rattle.pblk_laws.specs.LineBlocks.{chunk_in}
-use Rattle.stripe_placer.proofs.Among.{IsAmong, in_filter}
 use Rattle.core_laws.specs.OpenedLines.{live_now, as_opened, opened_units}
 use Rattle.core_laws.specs.PlainWorlds.{IsPlainWorld}
 use Rattle.core_laws.specs.Positions.{AreNumbered}
 use Rattle.core_laws.specs.SlotOf.{address_in}
-use Rattle.core_laws.proofs.Lists.{all_at}
-use Rattle.core_laws.proofs.Rows.{same_number}
-use Rattle.core_laws.proofs.Tests.{both as both_true}
 use Rattle.landing_laws.proofs.Cached.{last_is_among, numbered_at}
-use Rattle.landing_laws.proofs.Entries.{in_order, accepted_small}
+use Rattle.landing_laws.proofs.Entries.{in_order}
 use Rattle.line_laws.specs.InOrder.{IsInPlace}
 use Rattle.line_laws.proofs.Orders.{in_order as ordered}
 use Rattle.placed_laws.specs.StripeTurns.{IsAtTurn}
 use Rattle.placed_laws.proofs.StripeBlocks.{have_blocks}
 use Rattle.placed_laws.proofs.GoingLines.{few_places}
 use Rattle.placed_laws.proofs.TwoLines.{units_stay, width_stays, bits_are_units, turns_are, room_is}
-use Rattle.media_laws.proofs.UnitCounts.{media_units}
 use Rattle.step_laws.proofs.Given.{given}
 use Rattle.look_laws.specs.SlotBlocks.{IsOfEntry, IsOfLatest, IsBlockOfSlot}
 use Rattle.look_laws.proofs.Borne.{IsOfOne, IsEntrys, placed_entries}
 use Rattle.look_laws.proofs.LineAddresses.{number_is, address_within, place_is}
 use Rattle.look_laws.proofs.LiveUnits.{live_units}
 use Rattle.look_laws.proofs.ReadBlocks.{IsReadIn, IsEntryOnDrive}
+use Rattle.lemmas.proofs.Lists.{IsAmong}
+use Rattle.lemmas.proofs.Maps.{in_filter}
+use Rattle.lemmas.proofs.Parts.{all_at}
+use Rattle.lemmas.proofs.Tests.{both, same_number}
+use Rattle.pblk_model.proofs.MarksLemmas.{accepted_small}
+use Rattle.pblk_world.proofs.WorldLemmas.{length_media}
 
 -- ---- entries by their positions
 
@@ -59,7 +60,7 @@ its_block : (i : Image) (w : World) (t : Taken) (p : Placed) (r : ℕ) (b : Bloc
 its_block i w t p r b plain among placed there bears =
     let one : IsOfOne (takes (log_of w 0)) b = all_at (IsEntrys i.shape (takes (log_of w 0))) p.stripe.blocks r b there
     (all_at (λ (p : Placed). _) (placements (log_of w 0)) placed.0 p placed.1 (placed_entries i w (accepted_small i.shape plain.accepted) plain.legal)) t.entry.position bears in
-    let position : b.mark.position ≡ t.entry.position = eqb-true b.mark.position t.entry.position (both_true (is_some (named i.shape b.mark)) (b.mark.position == t.entry.position) bears).1 in
+    let position : b.mark.position ≡ t.entry.position = eqb-true b.mark.position t.entry.position (both (is_some (named i.shape b.mark)) (b.mark.position == t.entry.position) bears).1 in
     let marked : b.mark.position ≡ one.entry.mark.position = ap (λ (x : Block). x.mark.position) one.its in
     let own : one.entry.mark.position ≡ one.entry.entry.position = its_mark i w one.entry plain one.among in
     let same_position : one.entry.entry.position ≡ t.entry.position = omega arith in
@@ -95,7 +96,7 @@ block_of_entry i w lba line at q t plain last is =
     let stands = given i w p.stripe.line p.stripe.unit on.0 read.number o p read.block plain opened on.1 inside read.there read.landed
     (subst (λ l. is_readable_in i.shape (log_of w 0) p.stripe.unit (p.stripe.at + read.number) l ≡ true) place.life read.readable) in
     let unit : p.stripe.unit < length (media i (log_of w)).units = unit_within (media i (log_of w)) p.stripe.line p.stripe.unit stands.0 stands.1 in
-    let drive : p.stripe.unit < units i.shape = subst (λ n. p.stripe.unit < n) (media_units i (log_of w) ∙ plain.fit.units) unit in
+    let drive : p.stripe.unit < units i.shape = subst (λ n. p.stripe.unit < n) (length_media i (log_of w) ∙ plain.fit.units) unit in
     let some : 0 < i.shape.ws_opt = plain.accepted.drive.ws_opt in
     let whole = plain.accepted.drive.whole_stripes in
     let live : units_in (as_opened i (log_of w) o).live ≡ opened_units i (log_of w) o = bits_are_units i w o plain in

@@ -15,14 +15,17 @@ use Rattle.pblk_world.specs.Victims.{is_freed}
 use Rattle.pblk_world.specs.Legal.{IsLegal, IsKnowledge, IsLegalStep}
 use Rattle.pblk_world.proofs.Appending.{life_more}
 use Rattle.core_laws.specs.PlainWorlds.{IsPlainWorld}
-use Rattle.core_laws.proofs.Tests.{first_of as and_left}
 use Rattle.core_laws.proofs.Numbering.{begun_stays}
 use Rattle.line_laws.proofs.Knowledge.{are_known}
-use Rattle.media_laws.proofs.Beginnings.{media_same, found_stays}
-use Rattle.media_laws.proofs.Decisions.{IsFirst, IsLater, decided, first_begins, never_freed}
+use Rattle.media_laws.proofs.Beginnings.{found_stays}
+use Rattle.media_laws.proofs.Decisions.{IsFirst, IsLater, decided, never_freed}
 use Rattle.media_laws.proofs.LineLives.{opened_by_event, opening_is}
-use Rattle.media_laws.proofs.Steps.{log_here, log_elsewhere, plain_tail, IsSomeones, whose}
+use Rattle.media_laws.proofs.Steps.{IsSomeones, whose}
 use Rattle.placing_laws.proofs.PlainEvents.{has_begun_plain}
+use Rattle.core_laws.proofs.PlainWorldsLemmas.{plain_before}
+use Rattle.lemmas.proofs.Tests.{first_of}
+use Rattle.pblk_world.proofs.EngineLogLemmas.{first_begins}
+use Rattle.pblk_world.proofs.WorldLemmas.{log_elsewhere, log_here, media_same}
 
 -- ---- the strays
 
@@ -33,7 +36,7 @@ strays_by : (i : Image) (s : Step) (w : World) → IsPlainWorld i (s ∷ w) → 
 strays_by i s w plain before (inr (unit, e)) b is =
     let same : log_of (s ∷ w) 0 ≡ log_of w 0 = log_elsewhere s w 0 (λ a. let no : suc unit ≡ 0 = sym e.author ∙ a in absurd (omega arith)) in
     let was : begun (log_of w 0) ≡ Some b = ap begun (sym same) ∙ is in
-    before b was ∙ ap stray_lines (sym (found_stays i s w b (plain_tail i s w plain) was is))
+    before b was ∙ ap stray_lines (sym (found_stays i s w b (plain_before i s w plain) was is))
 strays_by i s w plain before (inl e) b is = go (decided i (prefixes s.logged (log_of w)) e.event e.allowed)
   where
     here : log_of (s ∷ w) 0 ≡ log_of w 0 ++ s.logged ∷ []
@@ -52,12 +55,12 @@ strays_by i s w plain before (inl e) b is = go (decided i (prefixes s.logged (lo
     go (inr l) =
         let begins : begun (log_of w 0) ≡ Some l.0 = ap begun (sym e.own) ∙ l.1 in
         let was : begun (log_of w 0) ≡ Some b = sym (begun_stays (log_of w 0) s.logged l.0 begins) ∙ ap begun (sym here) ∙ is in
-        before b was ∙ ap stray_lines (sym (found_stays i s w b (plain_tail i s w plain) was is))
+        before b was ∙ ap stray_lines (sym (found_stays i s w b (plain_before i s w plain) was is))
 
 -- the mount's strays are those of the image that it found
 begun_strays : (i : Image) (w : World) → IsPlainWorld i w → (b : Begun) → begun (log_of w 0) ≡ Some b → b.beginning.strays ≡ stray_lines (found_image i (log_of w))
 begun_strays i [] plain b is = absurd (none-some b is)
-begun_strays i (s ∷ w) plain b is = strays_by i s w plain (begun_strays i w (plain_tail i s w plain)) (whose i s w plain) b is
+begun_strays i (s ∷ w) plain b is = strays_by i s w plain (begun_strays i w (plain_before i s w plain)) (whose i s w plain) b is
 
 not_among : (test : ℕ → Bool) (line : ℕ) (xs : List ℕ) → test line ≡ false → list_any (λ stray. stray == line) (filter test xs) ≡ false
 not_among test line [] none = refl
@@ -74,7 +77,7 @@ not_among test line (x ∷ xs) none = go (test x) refl (not_among test line xs n
 -- ---- lines that are opened
 
 free_unnumbered : (i : Image) (logs : Logs) (line : ℕ) → is_freed (life_of (logs 0) line) ≡ false → is_free_line i logs line ≡ true → is_some (start_of (found_image i logs) line) ≡ false
-free_unnumbered i logs line unfreed free = go (life_of (logs 0) line) unfreed (and_left (not (has_number i logs (life_of (logs 0) line) line)) (are_empty (known_image i logs) line) (and_left _ (nat_lt 0 (line_data (known_image i logs) line)) free))
+free_unnumbered i logs line unfreed free = go (life_of (logs 0) line) unfreed (first_of (not (has_number i logs (life_of (logs 0) line) line)) (are_empty (known_image i logs) line) (first_of _ (nat_lt 0 (line_data (known_image i logs) line)) free))
   where
     by : (b : Bool) → not b ≡ true → b ≡ false
     by true e = absurd (cc)
@@ -91,7 +94,7 @@ unfolding IsLegal
 unnumbered_by i s w line o plain before whose is = go whose
   where
     earlier : IsPlainWorld i w
-    earlier = plain_tail i s w plain
+    earlier = plain_before i s w plain
 
     -- the image that was found stays
     stays : (b : Begun) → begun (log_of w 0) ≡ Some b → is_some (start_of (found_image i (log_of w)) line) ≡ false → is_some (start_of (found_image i (log_of (s ∷ w))) line) ≡ false
@@ -139,7 +142,7 @@ unnumbered_by i s w line o plain before whose is = go whose
 
 opened_unnumbered : (i : Image) (w : World) (line : ℕ) (o : Opening) → IsPlainWorld i w → life_of (log_of w 0) line ≡ Opened o → is_some (start_of (found_image i (log_of w)) line) ≡ false
 opened_unnumbered i [] line o plain is = absurd (cc)
-opened_unnumbered i (s ∷ w) line o plain is = unnumbered_by i s w line o plain (opened_unnumbered i w line o (plain_tail i s w plain)) (whose i s w plain) is
+opened_unnumbered i (s ∷ w) line o plain is = unnumbered_by i s w line o plain (opened_unnumbered i w line o (plain_before i s w plain)) (whose i s w plain) is
 
 -- ---- so a line with a sequence number stays as it was found
 

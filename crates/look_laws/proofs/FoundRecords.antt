@@ -2,7 +2,7 @@
 use Rattle.std.proofs.Common.{◌≡◌, ℕ, ◌+◌, ◌-◌, ◌*◌, ◌/◌, ◌%◌, ◌<◌, ◌≤◌, ◌==◌, nat_lt, zero, suc, Bool, true, false, Some, None, Option, List, [], ◌∷◌, length, refl, sym, subst, ap, ◌∙◌, arith, if◌then◌else◌}
 use Rattle.std.specs.Prelude.{slice_get}
 use Rattle.std.specs.List.{AllByRecursion, filter_map, flat_map, cons_option, range_with_len}
-use Rattle.std.specs.Option.{option_map, option_and_then}
+use Rattle.std.specs.Option.{option_and_then}
 use Rattle.std.proofs.lemmas.Option.{same_Some, none-some, slice_get_within}
 use Rattle.std.proofs.Math.Nat.{mod-lt}
 use Rattle.pblk_model.specs.declared.shape.Shape.{Shape}
@@ -19,18 +19,15 @@ use Rattle.pblk_model.specs.Sealed.{AgreesWithLine, IsSealed}
 use Rattle.pblk_model.proofs.OrderedBlocks.{order_exactly}
 use Rattle.pblk_laws.specs.LineBlocks.{chunk_in}
 use Rattle.pblk_laws.proofs.LineUnits.{line_units_count, block_named}
-use Rattle.core_laws.proofs.Lists.{all_filter, got_within as some_at}
-use Rattle.core_laws.proofs.PlacedPositions.{all_joined}
 use Rattle.line_laws.proofs.Winners.{winner_is}
-use Rattle.media_laws.proofs.LineChunks.{split_then as then_of}
-use Rattle.stripe_placer.proofs.Chunks.{le_of as at_least}
-use Rattle.pblk_layout.proofs.Orders.{some_wide as wide_of}
+use Rattle.lemmas.proofs.Lists.{all_append}
+use Rattle.lemmas.proofs.Maps.{all_filter}
+use Rattle.lemmas.proofs.Numbers.{some_units}
+use Rattle.lemmas.proofs.Options.{map_some, split_then}
+use Rattle.lemmas.proofs.Parts.{got_within}
+use Rattle.lemmas.proofs.Tests.{le_of_lt_false}
 
 -- ---- options
-
-map_of : {X Y : Type 0} (f : X → Y) (o : Option X) (y : Y) → option_map f o ≡ Some y → (x : X) × (o ≡ Some x) × (f x ≡ y)
-map_of f None y e = absurd (none-some y e)
-map_of f (Some x) y e = (x, refl, same_Some (f x) y e)
 
 -- ---- records
 
@@ -50,9 +47,9 @@ pub record IsFoundRecord (i : Image) (r : Record) : Type 0 where
 
 found_at : (i : Image) (line a : ℕ) (start : StartRecord) (r : Record) → line < i.shape.chunks → start_of i line ≡ Some start → a < width i line * i.shape.clba → record_at i line start a ≡ Some r → IsFoundRecord i r
 found_at i line a start r range starts within is =
-    let block = then_of (λ block. option_and_then (bears i.shape line start.seq a block) (mark_at i.shape (end_of i line start) a block)) (block_at i line a) r is in
-    let mark = then_of (bears i.shape line start.seq a block.0) (mark_at i.shape (end_of i line start) a block.0) r block.2 in
-    let made = map_of (λ lba. record { line = line; seq = start.seq; at = a; position = mark.0.position; lba = lba; sector = block.0.sector }) (named i.shape mark.0) r mark.2 in
+    let block = split_then (λ block. option_and_then (bears i.shape line start.seq a block) (mark_at i.shape (end_of i line start) a block)) (block_at i line a) r is in
+    let mark = split_then (bears i.shape line start.seq a block.0) (mark_at i.shape (end_of i line start) a block.0) r block.2 in
+    let made = map_some (λ lba. record { line = line; seq = start.seq; at = a; position = mark.0.position; lba = lba; sector = block.0.sector }) (named i.shape mark.0) r mark.2 in
     subst (IsFoundRecord i) made.2
     (record {
       in_range = range;
@@ -95,7 +92,7 @@ of_lines : (i : Image) (lines : List ℕ) → AllByRecursion (λ line. (0 ≤ li
 of_lines i [] all = tt
 of_lines i (line ∷ lines) all =
     let high : line < 0 + i.shape.chunks = all.0.1 in
-    all_joined (IsFoundRecord i) (line_records i line) (flat_map (line_records i) lines) (of_line i line (omega arith) (start_of i line) refl) (of_lines i lines all.1)
+    all_append (IsFoundRecord i) (line_records i line) (flat_map (line_records i) lines) (of_line i line (omega arith) (start_of i line) refl) (of_lines i lines all.1)
 
 counted_are : (i : Image) (o : Option StartRecord) → AllByRecursion (IsFoundRecord i) (counted_after (records i) o)
 counted_are i None = tt
@@ -120,10 +117,10 @@ block_placed i line at block some whole within is =
     let us : List ℕ = line_units i line in
     let count : length us ≡ width i line = line_units_count i line in
     let inside : at < length us * i.shape.clba = subst (λ n. at < n * i.shape.clba) (sym count) within in
-    let column : column_of i.shape (length us) at < length us = mod-lt (at / i.shape.ws_opt) (wide_of (length us) i.shape.clba at inside) in
-    let unit = some_at us (column_of i.shape (length us) at) column in
+    let column : column_of i.shape (length us) at < length us = mod-lt (at / i.shape.ws_opt) (some_units (length us) i.shape.clba at inside) in
+    let unit = got_within us (column_of i.shape (length us) at) column in
     let place : slice_get (line_order i.shape us) at ≡ Some (unit.0, block_of i.shape (length us) at) = (order_exactly i.shape us at unit.0 some whole).1 (unit.1, inside) in
-    let chunk = then_of (λ (c : Chunk). slice_get c.blocks (block_of i.shape (length us) at)) (chunk_in i line unit.0) block (sym (block_named i line at (unit.0, block_of i.shape (length us) at) some whole place) ∙ is) in
+    let chunk = split_then (λ (c : Chunk). slice_get c.blocks (block_of i.shape (length us) at)) (chunk_in i line unit.0) block (sym (block_named i line at (unit.0, block_of i.shape (length us) at) some whole place) ∙ is) in
     record { unit = unit.0; number = block_of i.shape (length us) at; place = place; chunk = chunk.0; there = chunk.1; written = chunk.2 }
 
 -- ---- its mark
@@ -150,7 +147,7 @@ own_mark i r is sealed (Some end_) e marked = go (nat_lt r.at (start_len i.shape
     go : (b : Bool) → nat_lt r.at (start_len i.shape) ≡ b → (if b then None else slice_get end_.pairs (r.at - start_len i.shape)) ≡ Some is.mark → is.block.mark ≡ is.mark
     go true f m = absurd (none-some is.mark m)
     go false f m =
-        let above : start_len i.shape ≤ r.at = at_least r.at (start_len i.shape) f in
+        let above : start_len i.shape ≤ r.at = le_of_lt_false r.at (start_len i.shape) f in
         let split : start_len i.shape + (r.at - start_len i.shape) ≡ r.at = omega arith in
         let inside : r.at - start_len i.shape < length end_.pairs = slice_get_within end_.pairs (r.at - start_len i.shape) is.mark m in
         let pair : slice_get end_.pairs (r.at - start_len i.shape) ≡ Some is.block.mark = agrees.marks (r.at - start_len i.shape) is.block inside (ap (block_at i r.line) split ∙ is.there) in

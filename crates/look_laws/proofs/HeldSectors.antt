@@ -1,5 +1,5 @@
 -- The sector of an entry in a window.
-use Rattle.std.proofs.Common.{◌≡◌, ℕ, ◌+◌, ◌-◌, ◌<◌, ◌≤◌, Some, None, Option, List, refl, sym, ap, ◌∙◌, arith, if◌then◌else◌}
+use Rattle.std.proofs.Common.{◌≡◌, ℕ, ◌+◌, ◌-◌, ◌<◌, ◌≤◌, Some, None, List, sym, ap, ◌∙◌, arith, if◌then◌else◌}
 use Rattle.std.specs.Prelude.{map, drop, slice_get}
 use Rattle.std.specs.Option.{option_map}
 use Rattle.pblk_model.specs.declared.shape.Shape.{Shape}
@@ -16,13 +16,10 @@ use Rattle.core_laws.specs.Positions.{AreNumbered}
 use Rattle.core_laws.specs.SlotOf.{slot_of}
 use Rattle.core_laws.specs.WindowOf.{HeldSector, HeldSectors, without_frame, sectors_in, held_of, window_from}
 use Rattle.core_laws.proofs.Placing.{not_below}
-use Rattle.core_laws.proofs.Lists.{get_dropped as dropped_get}
 use Rattle.landing_laws.proofs.Cached.{IsCachedEntry, cached, cached_within, cached_stands}
 use Rattle.stripe_placer.proofs.Rows.{get_map as mapped_get}
-
-bytes_without : (o : Option Held) → option_map (λ (h : Held). h.entry.frame.bytes) o ≡ option_map (λ (h : HeldSector). h.sector) (option_map without_frame o)
-bytes_without None = refl
-bytes_without (Some h) = refl
+use Rattle.core_laws.proofs.WindowOfLemmas.{bytes_without}
+use Rattle.lemmas.proofs.Parts.{get_dropped}
 
 pub sector_held : (s : Shape) (log : List Logged) (from q : ℕ) (win : WindowView) (t : Taken) → sectors_in win ≡ window_from s log from → first_position log ≤ from → from ≤ q
     → slice_get (takes log) (q - first_position log) ≡ Some t → sector_at win q ≡ Some t.entry.sector
@@ -36,7 +33,7 @@ sector_held s log from q win t same low high there =
     ∙ ap (option_map (λ (h : HeldSector). h.sector))
     (sym (mapped_get without_frame win.entries (q - win.freed)) ∙ ap (λ (hs : List HeldSector). slice_get hs (q - win.freed)) entries
     ∙ mapped_get (held_of s log) (drop (from - first_position log) (takes log)) (q - win.freed)
-    ∙ ap (option_map (held_of s log)) (dropped_get (from - first_position log) (takes log) (q - win.freed) ∙ ap (slice_get (takes log)) index ∙ there))
+    ∙ ap (option_map (held_of s log)) (get_dropped (from - first_position log) (takes log) (q - win.freed) ∙ ap (slice_get (takes log)) index ∙ there))
 
 pub cached_held : (i : Image) (logs : Logs) (lba q from : ℕ) (win : WindowView) → AreNumbered (logs 0) → sectors_in win ≡ window_from i.shape (logs 0) from → first_position (logs 0) ≤ from
     → from ≤ freed i.shape (logs 0) → slot_of i logs lba ≡ Cached q → (t : Taken) × (last_take (logs 0) lba ≡ Some t) × (sector_at win q ≡ Some t.entry.sector)

@@ -21,14 +21,15 @@ use Rattle.core_laws.specs.PlainWorlds.{IsPlainWorld}
 use Rattle.core_laws.specs.SlotOf.{media_of, slot_of_winner, slot_by, slot_of}
 use Rattle.write_window.specs.Window.{WindowView, sector_at}
 use Rattle.core_laws.specs.WindowOf.{sectors_in, window_from}
-use Rattle.core_laws.proofs.Lists.{range_get}
 use Rattle.landing_laws.proofs.Cached.{IsCachedEntry, cached, last_is_among}
-use Rattle.landing_laws.proofs.Entries.{in_order, accepted_small}
+use Rattle.landing_laws.proofs.Entries.{in_order}
 use Rattle.landing_laws.proofs.Latest.{latest_sector, first_sector}
 use Rattle.look_laws.specs.SlotBlocks.{IsOfLatest, IsBlockOfSlot}
 use Rattle.look_laws.proofs.EntryBlocks.{taken_at}
 use Rattle.look_laws.proofs.HeldSectors.{cached_held}
 use Rattle.look_laws.proofs.WinnerBlocks.{found_shape}
+use Rattle.lemmas.proofs.Maps.{range_get}
+use Rattle.pblk_model.proofs.MarksLemmas.{accepted_small}
 
 -- ---- what the mount found
 

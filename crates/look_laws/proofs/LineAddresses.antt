@@ -13,11 +13,11 @@ use Rattle.pblk_layout.specs.Live.{units_in}
 use Rattle.pblk_world.specs.World.{Logs}
 use Rattle.pblk_world.specs.EngineLog.{Opening, Placed}
 use Rattle.stripe_placer.specs.OpenLines.{OpenLine, width, unit_of}
-use Rattle.stripe_placer.proofs.Rows.{length_replicate as length_replicated}
 use Rattle.core_laws.specs.OpenedLines.{as_opened, is_stripe_at}
 use Rattle.core_laws.specs.PlacerOf.{number_of}
 use Rattle.core_laws.proofs.Stripes.{at_its_place, not_at, find_only}
 use Rattle.placed_laws.specs.StripeTurns.{IsAtTurn}
+use Rattle.lemmas.proofs.Lists.{length_replicate}
 
 module _ (i : Image) (logs : Logs) (o : Opening) (us : List ℕ) (line j : ℕ) (p : Placed) (some : 0 < i.shape.ws_opt) (whole : i.shape.clba % i.shape.ws_opt ≡ 0) (live : units_in (as_opened i logs o).live ≡ us) (is : IsAtTurn i.shape us line j p) where
   column : j % length us < length us
@@ -36,7 +36,7 @@ module _ (i : Image) (logs : Logs) (o : Opening) (us : List ℕ) (line j : ℕ) 
         ap₂ (λ (xs : List ℕ) n. slice_index_or xs (j % n) 0) live g ∙ get_or_from_slice_get us (j % length us) p.stripe.unit 0 is.unit in
         let place : j / width l * i.shape.ws_opt ≡ p.stripe.at = ap (λ n. j / n * i.shape.ws_opt) g ∙ sym is.at in
         let there : is_stripe_at i.shape l p.stripe.unit p.stripe.at j ≡ true = at_its_place i.shape l p.stripe.unit p.stripe.at j unit place in
-        let count : length l.stripes ≡ width l * (i.shape.clba / i.shape.ws_opt) = length_replicated (width l * (i.shape.clba / i.shape.ws_opt)) _ in
+        let count : length l.stripes ≡ width l * (i.shape.clba / i.shape.ws_opt) = length_replicate (width l * (i.shape.clba / i.shape.ws_opt)) _ in
         let all : width l * (i.shape.clba / i.shape.ws_opt) ≡ length us * (i.shape.clba / i.shape.ws_opt) = ap (λ n. n * (i.shape.clba / i.shape.ws_opt)) g in
         let under : j < i.shape.clba / i.shape.ws_opt * length us = below in
         let inner : j < length l.stripes = omega arith in

@@ -12,9 +12,9 @@ use Rattle.pblk_world.specs.Lines.{known_image}
 use Rattle.core_laws.specs.OpenedLines.{bits_of, live_now}
 use Rattle.core_laws.specs.PlainWorlds.{IsPlainWorld}
 use Rattle.placing_laws.proofs.KeptLines.{few_units}
-use Rattle.placing_laws.proofs.Online.{known_length}
 use Rattle.placing_laws.proofs.Units.{bits_back}
 use Rattle.placed_laws.proofs.UnitBits.{bits_more as bits_first}
+use Rattle.pblk_world.proofs.LinesLemmas.{length_known}
 
 -- the units come back from them
 pub live_units : (i : Image) (w : World) (line : ℕ) → IsPlainWorld i w → units_in (live_now i (log_of w) line) ≡ line_units (known_image i (log_of w)) line
@@ -44,6 +44,6 @@ live_small i w line plain =
     let known : Image = known_image i (log_of w) in
     let few : bits_of (line_units (known_image i (log_of w)) line) + 2 ^ 0 ≤ 2 ^ (0 + length (known_image i (log_of w)).units) =
     bits_few (λ (unit : ℕ × List Chunk). option_map_or (λ c. is_online_in c.state) (slice_get unit.1 line) false) 0 (known_image i (log_of w)).units in
-    let count : length (known_image i (log_of w)).units ≡ units i.shape = known_length i (log_of w) ∙ plain.fit.units in
+    let count : length (known_image i (log_of w)).units ≡ units i.shape = length_known i (log_of w) ∙ plain.fit.units in
     let same : 2 ^ (0 + length (known_image i (log_of w)).units) ≡ 2 ^ units i.shape = (let is : 0 + length (known_image i (log_of w)).units ≡ units i.shape = omega arith in ap (λ n. 2 ^ n) is) in
     omega arith

@@ -11,10 +11,10 @@ use Rattle.pblk_world.specs.World.{Logs}
 use Rattle.pblk_world.specs.EngineLog.{Taken, Placed, placements, has_landed, bears_position}
 use Rattle.pblk_world.specs.Space.{is_readable_in, gives_back}
 use Rattle.l2p_map.specs.declared.slot.Slot.TheVariants.{Cached, Media}
-use Rattle.stripe_placer.proofs.Among.{IsAmong}
 use Rattle.core_laws.specs.SlotOf.{address_in, readable_block, media_of, slot_of_entry, slot_of_winner}
-use Rattle.core_laws.proofs.Turns.{found_is}
-use Rattle.core_laws.proofs.Tests.{both as both_true}
+use Rattle.lemmas.proofs.Lists.{IsAmong}
+use Rattle.lemmas.proofs.Maps.{found_passes}
+use Rattle.lemmas.proofs.Tests.{both}
 
 -- ---- lists
 
@@ -52,12 +52,12 @@ pub record IsReadIn (i : Image) (logs : Logs) (q : ℕ) (p : Placed) : Type 0 wh
 pub read_in : (i : Image) (logs : Logs) (q : ℕ) (p : Placed) → find (gives_back i.shape (logs 0) q) (placements (logs 0)) ≡ Some p → IsReadIn i logs q p
 read_in i logs q p e =
     let test : ℕ × Block → Bool = λ b. bears_position i.shape q b.1 && is_readable_in i.shape (logs 0) p.stripe.unit b.0 p.life in
-    let is = found_is (gives_back i.shape (logs 0) q) (placements (logs 0)) p e in
-    let facts = both_true (has_landed (logs 0) p) (list_any test (enumerate_from p.stripe.at p.stripe.blocks)) is.0 in
+    let is = found_passes (gives_back i.shape (logs 0) q) (placements (logs 0)) p e in
+    let facts = both (has_landed (logs 0) p) (list_any test (enumerate_from p.stripe.at p.stripe.blocks)) is.0 in
     let found = any_found test (enumerate_from p.stripe.at p.stripe.blocks) facts.1 in
-    let at = found_is test (enumerate_from p.stripe.at p.stripe.blocks) found.0 found.1 in
+    let at = found_passes test (enumerate_from p.stripe.at p.stripe.blocks) found.0 found.1 in
     let numbered = numbered_get p.stripe.at p.stripe.blocks at.1.0 found.0 at.1.1 in
-    let passes = both_true (bears_position i.shape q found.0.1) (is_readable_in i.shape (logs 0) p.stripe.unit found.0.0 p.life) at.0 in
+    let passes = both (bears_position i.shape q found.0.1) (is_readable_in i.shape (logs 0) p.stripe.unit found.0.0 p.life) at.0 in
     record {
       among = is.1;
       landed = facts.0;

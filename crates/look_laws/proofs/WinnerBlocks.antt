@@ -3,7 +3,7 @@ use Rattle.std.proofs.Common.{◌≡◌, ◌≢◌, ◌⊎◌, inl, inr, ℕ, �
 use Rattle.std.specs.Prelude.{is_some, slice_get}
 use Rattle.std.specs.Option.{option_map_or, option_and_then}
 use Rattle.std.proofs.lemmas.Bool.{cases_order}
-use Rattle.std.proofs.lemmas.Option.{slice_get_past, slice_get_within}
+use Rattle.std.proofs.lemmas.Option.{slice_get_within}
 use Rattle.pblk_model.specs.declared.shape.Shape.{Shape}
 use Rattle.pblk_model.specs.declared.chunk.ChunkState.{ChunkState}
 use Rattle.pblk_model.specs.declared.chunk.ChunkState.TheVariants as states
@@ -27,7 +27,7 @@ use Rattle.core_laws.specs.PlainWorlds.{IsPlainWorld}
 use Rattle.media_laws.proofs.Beginnings.{begins, found_chunk_after}
 use Rattle.media_laws.proofs.FoundChunks.{found_is_chunk}
 use Rattle.media_laws.proofs.LineStanding.{media_stays, known_stays}
-use Rattle.media_laws.proofs.UnitCounts.{found_units, known_units}
+use Rattle.media_laws.proofs.UnitCounts.{found_units}
 use Rattle.placing_laws.proofs.KeptLines.{same_units}
 use Rattle.look_laws.specs.SlotBlocks.{IsOfWinner, IsOfLatest, IsBlockOfSlot}
 use Rattle.look_laws.proofs.EntryBlocks.{unit_within}
@@ -35,6 +35,8 @@ use Rattle.look_laws.proofs.FoundLines.{numbered_as_found, numbered_kept}
 use Rattle.look_laws.proofs.FoundRecords.{IsFoundRecord, winner_found, IsPlaced, block_placed, sealed_mark}
 use Rattle.look_laws.proofs.LiveUnits.{live_units}
 use Rattle.look_laws.proofs.ReadBlocks.{IsWinnersSlot}
+use Rattle.pblk_layout.proofs.LiveLemmas.{none_past}
+use Rattle.pblk_world.proofs.LinesLemmas.{length_known}
 
 -- ---- the image that the mount found
 
@@ -69,15 +71,11 @@ online_is j line unit = go (slice_get j.units unit)
     go None = refl
     go (Some chunks) = refl
 
--- nor has a unit beyond the drive's
-none_past : (j : Image) (line unit : ℕ) → length j.units ≤ unit → is_live j line unit ≡ false
-none_past j line unit far = ap (λ (o : Option (List Chunk)). option_map_or (λ chunks. option_map_or (λ c. is_online_in c.state) (slice_get chunks line) false) o false) (slice_get_past j.units unit far)
-
 pub units_as_found : (i : Image) (w : World) (b : Begun) (line : ℕ) → IsPlainWorld i w → line < i.shape.chunks → begun (log_of w 0) ≡ Some b → is_opened (life_of (log_of w 0) line) ≡ false → is_given_up (log_of w 0) line ≡ false
     → line_units (known_image i (log_of w)) line ≡ line_units (found_image i (log_of w)) line
 units_as_found i w b line plain range begin unopened kept =
     let found : length (found_image i (log_of w)).units ≡ length i.units = found_units i (log_of w) in
-    let known : length (known_image i (log_of w)).units ≡ length i.units = known_units i (log_of w) in
+    let known : length (known_image i (log_of w)).units ≡ length i.units = length_known i (log_of w) in
     let all : length i.units ≡ units i.shape = plain.fit.units in
     let few : units i.shape ≤ 64 = plain.accepted.drive.few_units in
     same_units (known_image i (log_of w)) (found_image i (log_of w)) line (omega arith) (omega arith) (λ unit. go unit (cases_order unit (units i.shape)))
@@ -85,7 +83,7 @@ units_as_found i w b line plain range begin unopened kept =
     past : (unit : ℕ) → units i.shape ≤ unit → is_live (known_image i (log_of w)) line unit ≡ is_live (found_image i (log_of w)) line unit
     past unit far =
         let found : length (found_image i (log_of w)).units ≡ length i.units = found_units i (log_of w) in
-        let known : length (known_image i (log_of w)).units ≡ length i.units = known_units i (log_of w) in
+        let known : length (known_image i (log_of w)).units ≡ length i.units = length_known i (log_of w) in
         let all : length i.units ≡ units i.shape = plain.fit.units in
         none_past (known_image i (log_of w)) line unit (omega arith) ∙ sym (none_past (found_image i (log_of w)) line unit (omega arith))
 

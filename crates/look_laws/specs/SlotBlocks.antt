@@ -1,4 +1,4 @@
--- The block of a sector that is on the drive, by its line and its address in the line.
+-- The block to which a sector's slot leads on the drive, by its line and its address in the line.
 use Rattle.std.specs.Prelude.{ℕ, ◌-◌, ◌*◌, ◌<◌, ◌≤◌, ◌≡◌, length, slice_get, Option, Some, None}
 use Rattle.pblk_model.specs.Shape.{units}
 use Rattle.pblk_model.specs.Chunk.{Chunk, Block, IsReadable}
@@ -16,7 +16,7 @@ use Rattle.pblk_world.specs.Lines.{found_image}
 use Rattle.pblk_laws.specs.LineBlocks.{chunk_in}
 use Rattle.core_laws.specs.OpenedLines.{live_now}
 
--- It is the block of an entry of this mount, which has this position, in a line that was opened.
+-- The block is that of an entry that this mount took, at this position. Its line was opened by this mount.
 pub record IsOfEntry (i : Image) (logs : Logs) (lba line position : ℕ) (block : Block) (t : Taken) : Type 0 where
   pub of_position : t.entry.position ≡ position
   pub from_first : first_position (logs 0) ≤ position
@@ -26,7 +26,7 @@ pub record IsOfEntry (i : Image) (logs : Logs) (lba line position : ℕ) (block 
   pub sector : block.sector ≡ t.entry.sector
   pub mark : block.mark ≡ sector_mark lba position
 
--- It is the block of the sector's winner in the image that the mount found, in a line that is as it was found.
+-- The block is that of the sector's winner in the image that the mount found. Its line is as it was found.
 pub record IsOfWinner (i : Image) (logs : Logs) (lba line at position : ℕ) (block : Block) : Type 0 where
   pub winning : Record
   pub wins : winner (counted (found_image i logs)) lba ≡ Some winning
@@ -35,15 +35,15 @@ pub record IsOfWinner (i : Image) (logs : Logs) (lba line at position : ℕ) (bl
   pub of_position : winning.position ≡ position
   pub as_found : life_of (logs 0) line ≡ AsFound
   pub sector : block.sector ≡ winning.sector
-  -- only a crafted image has blocks that bear other marks than the pairs of their lines' end records
+  -- in an image that isn't sealed a block may bear another mark than its pair in the line's end record
   pub mark : IsSealed (found_image i logs) → block.mark ≡ sector_mark lba position
 
--- It is that of the sector's last entry, and of its winner where no entry of it was taken.
+-- The block is that of the sector's last entry. Where none was taken, it is that of the winner.
 abbrev pub IsOfLatest : Image → Logs → ℕ → ℕ → ℕ → ℕ → Block → Option Taken → Type 0
 IsOfLatest i logs lba line at position block None = IsOfWinner i logs lba line at position block
 IsOfLatest i logs lba line at position block (Some t) = IsOfEntry i logs lba line position block t
 
--- The block can be read.
+-- There is such a block, and it can be read.
 pub record IsBlockOfSlot (i : Image) (logs : Logs) (lba line at position : ℕ) : Type 0 where
   -- the address is one of the line's, and this is its place: a unit and a block of its chunk
   pub in_range : line < i.shape.chunks

@@ -13,14 +13,16 @@ use Rattle.pblk_world.specs.EngineLog.{Begun, DidLand, answers, answer_by}
 use Rattle.pblk_world.specs.Commanding.{ends_stripe, ended_stripes}
 use Rattle.pblk_world.specs.Answering.{MayLand}
 use Rattle.pblk_world.specs.Legal.{IsDecision}
-use Rattle.pblk_world.proofs.Appending.{answers_more}
 use Rattle.core_laws.specs.PlainWorlds.{is_plain_decision, IsPlainWorld}
-use Rattle.media_laws.proofs.Steps.{log_here, log_elsewhere, plain_tail, IsEngines, IsSomeones, whose}
+use Rattle.media_laws.proofs.Steps.{IsEngines, IsSomeones, whose}
 use Rattle.media_laws.proofs.Decisions.{IsFirst, IsLater, decided}
-use Rattle.media_laws.proofs.Growing.{get_whole, take_next}
 use Rattle.media_laws.proofs.UnitEvents.{IsDone, done}
 use Rattle.media_laws.proofs.History.{one_if, ended_more, program_counts}
 use Rattle.media_laws.proofs.KnownSteps.{program_deed}
+use Rattle.core_laws.proofs.PlainWorldsLemmas.{plain_before}
+use Rattle.lemmas.proofs.Parts.{get_whole_within, take_next}
+use Rattle.pblk_world.proofs.EngineLogLemmas.{answers_more}
+use Rattle.pblk_world.proofs.WorldLemmas.{log_elsewhere, log_here}
 
 AreFewer : List Logged → List Logged → ℕ → Type 0
 AreFewer log own unit = length (answers log unit) ≤ ended_stripes own
@@ -50,7 +52,7 @@ module _ (i : Image) (s : Step) (w : World) (world : IsPlainWorld i w) (engines 
       by true same =
           let land : MayLand (prefixes s.logged (log_of w)) unit n = subst (λ u. MayLand (prefixes s.logged (log_of w)) u n) (eqb-true other unit same) may in
           let m : ℕ = known s.logged (suc unit) in
-          let whole = get_whole m (log_of w (suc unit)) n land.new.logged land.new.is_known in
+          let whole = get_whole_within m (log_of w (suc unit)) n land.new.logged land.new.is_known in
           let below : n < m = whole.1 in
           let one : land.stripe.logged ≡ land.new.logged = same_Some land.stripe.logged land.new.logged (sym land.stripe.is_logged ∙ land.new.is_known) in
           let d : IsDone i w unit n land.new.logged land.program = done i w unit n land.new.logged land.program world whole.0 land.new.event in
@@ -85,9 +87,9 @@ fewer_by i s w unit plain h (inl e) =
     (go (decided i (prefixes s.logged (log_of w)) e.event e.allowed)))
   where
     go : IsFirst i (prefixes s.logged (log_of w)) e.event ⊎ IsLater i (prefixes s.logged (log_of w)) e.event → length (answers (log_of w 0 ++ s.logged ∷ []) unit) ≤ ended_stripes (log_of w (suc unit))
-    go (inl f) = silent i s w (plain_tail i s w plain) e unit h (ap (answer_by unit) (e.is_event ∙ ap Decides f.1))
-    go (inr l) = later i s w (plain_tail i s w plain) e unit h l.0 e.event e.is_event e.plain l.2
+    go (inl f) = silent i s w (plain_before i s w plain) e unit h (ap (answer_by unit) (e.is_event ∙ ap Decides f.1))
+    go (inr l) = later i s w (plain_before i s w plain) e unit h l.0 e.event e.is_event e.plain l.2
 
 pub fewer_answers : (i : Image) (w : World) (unit : ℕ) → IsPlainWorld i w → length (answers (log_of w 0) unit) ≤ ended_stripes (log_of w (suc unit))
 fewer_answers i [] unit plain = omega arith
-fewer_answers i (s ∷ w) unit plain = fewer_by i s w unit plain (fewer_answers i w unit (plain_tail i s w plain)) (whose i s w plain)
+fewer_answers i (s ∷ w) unit plain = fewer_by i s w unit plain (fewer_answers i w unit (plain_before i s w plain)) (whose i s w plain)

@@ -9,20 +9,22 @@ use Rattle.pblk_model.specs.Chunk.{Chunk}
 use Rattle.pblk_model.specs.UnitLog.{after_log}
 use Rattle.pblk_model.specs.Image.{Image}
 use Rattle.pblk_world.specs.Events.{Beginning, Decides, Logged, Step}
-use Rattle.pblk_world.specs.World.{World, Logs, log_of, known, knows_engine, prefixes, cut_logs, media, unit_event_of}
+use Rattle.pblk_world.specs.World.{World, log_of, known, knows_engine, prefixes, cut_logs, media, unit_event_of}
 use Rattle.pblk_world.specs.EngineLog.{Begun, begun}
 use Rattle.pblk_world.specs.Lines.{found_by, found_image}
 use Rattle.pblk_world.specs.Opening.{MayBegin}
 use Rattle.pblk_world.proofs.Growing.{at_end}
 use Rattle.core_laws.specs.PlainWorlds.{IsPlainWorld}
-use Rattle.core_laws.proofs.Lists.{fun_same, get_whole as get_first}
 use Rattle.core_laws.proofs.Numbering.{begun_stays}
 use Rattle.pblk_laws.specs.LineBlocks.{chunk_in}
-use Rattle.pblk_laws.proofs.Lists.{all_at}
-use Rattle.media_laws.proofs.Steps.{log_here, log_elsewhere, plain_tail, IsSomeones, whose, named_within}
-use Rattle.media_laws.proofs.Decisions.{IsFirst, IsLater, decided, first_begins}
-use Rattle.media_laws.proofs.Made.{still_first, still_within}
+use Rattle.media_laws.proofs.Steps.{IsSomeones, whose, named_within}
+use Rattle.media_laws.proofs.Decisions.{IsFirst, IsLater, decided}
 use Rattle.media_laws.proofs.UnitChunks.{chunk_after, media_chunk_after}
+use Rattle.core_laws.proofs.PlainWorldsLemmas.{plain_before}
+use Rattle.lemmas.proofs.Parts.{all_get, get_whole}
+use Rattle.pblk_world.proofs.EngineLogLemmas.{first_begins}
+use Rattle.pblk_world.proofs.EventsLemmas.{still_first, still_within}
+use Rattle.pblk_world.proofs.WorldLemmas.{log_elsewhere, log_here, media_same}
 
 pub record BeginsAt (i : Image) (w : World) (b : Begun) : Type 0 where
   pub within : (unit : ℕ) → slice_index b.knows (suc unit) ≤ length (log_of w (suc unit))
@@ -61,7 +63,7 @@ knew_by i s w n l own plain before true there = go (at_end own s.logged l n ther
 
 knew_of : (i : Image) (w : World) (unit n : ℕ) (l : Logged) → IsPlainWorld i w → slice_get (log_of w (suc unit)) n ≡ Some l → IsKnowing w l
 knew_of i [] unit n l plain there = absurd (none-some l there)
-knew_of i (s ∷ w) unit n l plain there = knew_by i s w n l (log_of w (suc unit)) plain (λ old. knew_of i w unit n l (plain_tail i s w plain) old) (s.author == suc unit) there
+knew_of i (s ∷ w) unit n l plain there = knew_by i s w n l (log_of w (suc unit)) plain (λ old. knew_of i w unit n l (plain_before i s w plain) old) (s.author == suc unit) there
 
 -- ---- the induction
 
@@ -70,10 +72,10 @@ begins_first i s w first plain empty may = record {
   within = λ unit. named_within i s w plain (suc unit);
   early = λ unit n l there.
       let none : length (log_of w 0) ≡ 0 = ap length empty in
-      let few : knows_engine l ≤ length (log_of w 0) = knew_of i w unit n l (plain_tail i s w plain) (get_first (known s.logged (suc unit)) (log_of w (suc unit)) n l there) in omega arith;
+      let few : knows_engine l ≤ length (log_of w 0) = knew_of i w unit n l (plain_before i s w plain) (get_whole (known s.logged (suc unit)) (log_of w (suc unit)) n l there) in omega arith;
   closed = λ unit line c there.
       let at = split_chunk (media i (prefixes s.logged (log_of w))) line unit c (media_chunk_after i (prefixes s.logged (log_of w)) unit line ∙ there) in
-      all_at (λ (c : Chunk). c.state ≢ states.Open) at.0 line c (all_at (AllByRecursion (λ (c : Chunk). c.state ≢ states.Open)) (media i (prefixes s.logged (log_of w))).units unit at.0 may.no_open_chunk at.1) at.2;
+      all_get (λ (c : Chunk). c.state ≢ states.Open) at.0 line c (all_get (AllByRecursion (λ (c : Chunk). c.state ≢ states.Open)) (media i (prefixes s.logged (log_of w))).units unit at.0 may.no_open_chunk at.1) at.2;
 }
 
 begins_by : (i : Image) (s : Step) (w : World) → IsPlainWorld i (s ∷ w) → ((b : Begun) → begun (log_of w 0) ≡ Some b → BeginsAt i w b) → IsSomeones i s w → (b : Begun) → begun (log_of (s ∷ w) 0) ≡ Some b → BeginsAt i (s ∷ w) b
@@ -96,7 +98,7 @@ begins_by i s w plain h (inl e) b is = go (decided i (prefixes s.logged (log_of 
 
 pub begins : (i : Image) (w : World) → IsPlainWorld i w → (b : Begun) → begun (log_of w 0) ≡ Some b → BeginsAt i w b
 begins i [] plain b is = absurd (none-some b is)
-begins i (s ∷ w) plain b is = begins_by i s w plain (begins i w (plain_tail i s w plain)) (whose i s w plain) b is
+begins i (s ∷ w) plain b is = begins_by i s w plain (begins i w (plain_before i s w plain)) (whose i s w plain) b is
 
 -- ---- the image that the mount found
 
@@ -105,11 +107,6 @@ found_chunk_after i w b unit line begins = ap (λ o. chunk_in (found_by i (log_o
 
 media_by : Image → (ℕ → List Logged) → Image
 media_by i own = record { shape = i.shape; units = map (λ (u : ℕ × List Chunk). after_log i.shape u.1 (filter_map (λ (l : Logged). unit_event_of l.event) (own u.0))) (enumerate_from 0 i.units) }
-
--- images of logs that are the same for each unit
-pub media_same : (i : Image) (a b : Logs) → ((unit : ℕ) → a (suc unit) ≡ b (suc unit)) → media i a ≡ media i b
-unfolding media_by
-media_same i a b same = ap (media_by i) (fun_same (λ unit. a (suc unit)) (λ unit. b (suc unit)) same)
 
 -- which stays as it was
 pub found_stays : (i : Image) (s : Step) (w : World) (b : Begun) → IsPlainWorld i w → begun (log_of w 0) ≡ Some b → begun (log_of (s ∷ w) 0) ≡ Some b → found_image i (log_of (s ∷ w)) ≡ found_image i (log_of w)

@@ -16,17 +16,15 @@ use Rattle.pblk_world.specs.World.{World, log_of, unit_events, unit_event_of}
 use Rattle.pblk_world.specs.EngineLog.{Begun, begun}
 use Rattle.pblk_world.specs.Lines.{found_image, is_empty_state}
 use Rattle.core_laws.specs.PlainWorlds.{IsPlainWorld}
-use Rattle.core_laws.proofs.Lists.{got_within as within_some}
 use Rattle.pblk_laws.specs.LineBlocks.{chunk_in}
-use Rattle.pblk_laws.proofs.Lists.{all_at}
 use Rattle.pblk_laws.proofs.UnitChunks.{log_keeps}
 use Rattle.pblk_laws.proofs.UnitLog.{log_grows}
-use Rattle.media_laws.proofs.Images.{media_at}
-use Rattle.media_laws.proofs.Growing.{take_next}
 use Rattle.media_laws.proofs.Made.{IsMade, made}
 use Rattle.media_laws.proofs.UnitChunks.{events_in, last_in, chunk_after}
 use Rattle.media_laws.proofs.Beginnings.{BeginsAt, begins, found_chunk_after}
-use Rattle.media_laws.proofs.LineChunks.{split_then}
+use Rattle.lemmas.proofs.Options.{split_then}
+use Rattle.lemmas.proofs.Parts.{all_get, got_within, take_next}
+use Rattle.pblk_world.proofs.WorldLemmas.{media_at}
 
 -- ---- a unit's log
 
@@ -43,7 +41,7 @@ log_by : (i : Image) (w : World) (unit n : ℕ) (chunks : List Chunk) → IsPlai
 unfolding IsUnitLog events_in
 log_by i w unit zero chunks plain at few = tt
 log_by i w unit (suc n) chunks plain at few =
-    let l = within_some (log_of w (suc unit)) n (omega arith) in
+    let l = got_within (log_of w (suc unit)) n (omega arith) in
     subst (λ (log : List Logged). IsUnitLog i.shape chunks (events_in log)) (sym (take_next (log_of w (suc unit)) n l.0 l.1))
     (go l.0 l.1 (unit_event_of l.0.event) refl (log_by i w unit n chunks plain at (omega arith)))
   where
@@ -60,9 +58,9 @@ found_is_chunk i w unit line b c plain begun_is there =
     let n : ℕ = slice_index b.knows (suc unit) in
     let at : BeginsAt i w b = begins i w plain b begun_is in
     let split = split_then (λ (chunks : List Chunk). slice_get (after_log i.shape chunks (events_in (take (slice_index b.knows (suc unit)) (log_of w (suc unit))))) line) (slice_get i.units unit) c (sym (found_chunk_after i w b unit line begun_is) ∙ there) in
-    all_at (IsChunk i.shape) (after_log i.shape split.0 (events_in (take (slice_index b.knows (suc unit)) (log_of w (suc unit))))) line c
+    all_get (IsChunk i.shape) (after_log i.shape split.0 (events_in (take (slice_index b.knows (suc unit)) (log_of w (suc unit))))) line c
     (log_keeps i.shape split.0 (events_in (take (slice_index b.knows (suc unit)) (log_of w (suc unit)))) plain.accepted.drive.ws_min
-    (all_at (AllByRecursion (IsChunk i.shape)) i.units unit split.0 plain.fit.each split.1)
+    (all_get (AllByRecursion (IsChunk i.shape)) i.units unit split.0 plain.fit.each split.1)
     (log_by i w unit (slice_index b.knows (suc unit)) split.0 plain split.1 (at.within unit))) split.2
 
 -- ---- emptied

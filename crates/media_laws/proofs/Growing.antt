@@ -1,39 +1,20 @@
 -- Lists that grow, and the stripes of a unit in a log that grows.
-use Rattle.std.proofs.Common.{◌≡◌, ℕ, ◌<◌, ◌==◌, zero, suc, Some, None, Option, List, [], ◌∷◌, ◌++◌, length, take, drop, refl, sym, ap, ◌∙◌, arith, append-nil, append_assoc}
+use Rattle.std.proofs.Common.{◌≡◌, ℕ, ◌==◌, Some, List, [], ◌∷◌, ◌++◌, length, take, drop, refl, sym, ap, ◌∙◌, append-nil, append_assoc}
 use Rattle.std.specs.Prelude.{slice_get, Bool}
-use Rattle.std.specs.List.{filter, filter_map, cons_option}
+use Rattle.std.specs.List.{filter}
 use Rattle.std.specs.Option.{option_to_list}
 use Rattle.std.proofs.lemmas.List.{take-append-drop}
-use Rattle.std.proofs.lemmas.List.Elements.{filter-append, filter_map-append}
-use Rattle.std.proofs.lemmas.Option.{same_Some, none-some}
+use Rattle.std.proofs.lemmas.List.Elements.{filter-append}
 use Rattle.pblk_world.specs.Events.{Logged}
 use Rattle.pblk_world.specs.EngineLog.{Placed, placed_by, placements, placed_on}
 use Rattle.pblk_world.proofs.Appending.{placements_more}
-use Rattle.core_laws.proofs.Lists.{get_more}
+use Rattle.lemmas.proofs.Parts.{get_more}
 
 -- ---- lists
 
 pub get_after : {X : Type 0} (xs ys : List X) → slice_get (xs ++ ys) (length xs) ≡ slice_get ys 0
 get_after [] ys = refl
 get_after (x ∷ xs) ys = get_after xs ys
-
-pub one_more : {Y : Type 0} (o : Option Y) → cons_option o [] ≡ option_to_list o
-one_more None = refl
-one_more (Some y) = refl
-
-pub more : {X Y : Type 0} (h : X → Option Y) (xs : List X) (x : X) → filter_map h (xs ++ x ∷ []) ≡ filter_map h xs ++ option_to_list (h x)
-more h xs x = filter_map-append h xs (x ∷ []) ∙ ap (λ ys. filter_map h xs ++ ys) (one_more (h x))
-
-pub get_whole : {X : Type 0} (m : ℕ) (xs : List X) (n : ℕ) (x : X) → slice_get (take m xs) n ≡ Some x → (slice_get xs n ≡ Some x) × (n < m)
-get_whole zero xs n x e = absurd (none-some x e)
-get_whole (suc m) [] n x e = absurd (none-some x e)
-get_whole (suc m) (y ∷ xs) zero x e = (e, omega arith)
-get_whole (suc m) (y ∷ xs) (suc n) x e = let rest = get_whole m xs n x e in (rest.0, (let below : n < m = rest.1 in omega arith))
-
-pub take_next : {X : Type 0} (xs : List X) (n : ℕ) (x : X) → slice_get xs n ≡ Some x → take (suc n) xs ≡ take n xs ++ x ∷ []
-take_next [] n x e = absurd (none-some x e)
-take_next (y ∷ xs) zero x e = ap (λ z. z ∷ []) (same_Some y x e)
-take_next (y ∷ xs) (suc n) x e = ap (λ zs. y ∷ zs) (take_next xs n x e)
 
 -- ---- stripes on a unit, in a longer log
 

@@ -25,17 +25,16 @@ use Rattle.pblk_world.specs.Victims.{is_freed}
 use Rattle.pblk_world.specs.Commanding.{is_program, is_reset, was_stopped, ends_program, ends_stripe, ended_stripes}
 use Rattle.pblk_world.proofs.Growing.{knowledge_rises}
 use Rattle.core_laws.specs.PlainWorlds.{is_plain_event, IsPlainWorld}
-use Rattle.core_laws.proofs.Rows.{same_number, other_number}
 use Rattle.core_laws.proofs.Placing.{not_below}
-use Rattle.core_laws.proofs.Lists.{with_last}
-use Rattle.core_laws.proofs.Removing.{and_no}
 use Rattle.pblk_laws.proofs.ChunkStep.{write_placed}
-use Rattle.pblk_laws.proofs.Lists.{all_take}
-use Rattle.stripe_placer.proofs.Chunks.{lt_yes as is_below}
-use Rattle.media_laws.proofs.Decisions.{never_freed, opened_later}
-use Rattle.media_laws.proofs.Growing.{take_next}
+use Rattle.media_laws.proofs.Decisions.{never_freed}
 use Rattle.media_laws.proofs.UnitChunks.{chunk_after, chunk_unmade, chunk_beside, chunk_here}
 use Rattle.media_laws.proofs.UnitEvents.{IsFetch, IsPad, IsProgram, IsClearing, IsDeed, IsDone, done}
+use Rattle.core_laws.proofs.PlainWorldsLemmas.{opened_later}
+use Rattle.lemmas.proofs.Lists.{with_last}
+use Rattle.lemmas.proofs.Parts.{all_taken, take_next}
+use Rattle.lemmas.proofs.Tests.{and_refused, lt_true, or_no, other_number, same_number}
+use Rattle.pblk_world.proofs.LinesLemmas.{not_given_up, reset_empty}
 
 -- ---- words
 
@@ -61,10 +60,6 @@ abbrev pub is_a_stray : List Logged → ℕ → Bool
 is_a_stray log line = list_any (λ stray. stray == line) (strays_of log)
 
 -- ---- counts
-
-or_no : (b : Bool) → (b || false) ≡ b
-or_no true = refl
-or_no false = refl
 
 pub cleared_more : (line : ℕ) (log : List Logged) (l : Logged) → was_cleared line (log ++ l ∷ []) ≡ (was_cleared line log || clears_it line l)
 cleared_more line log l = list_any-append (clears_it line) log (l ∷ []) ∙ ap (λ b. was_cleared line log || b) (or_no (clears_it line l))
@@ -94,19 +89,19 @@ abbrev IsCounted : Logged → UnitEvent → Bool → Bool → Type 0
 IsCounted l e ends resets = (ends_stripe l ≡ ends) × (is_reset e.command ≡ resets)
 
 fetch_counts : (l : Logged) (e : UnitEvent) → unit_event_of l.event ≡ Some e → IsFetch e → IsCounted l e false false
-fetch_counts l e is d = (ends_as l e false is (ap (λ c. is_program c && not (was_stopped e.outcome)) d.command) ∙ and_no (nat_lt 0 (knows_engine l)), ap is_reset d.command)
+fetch_counts l e is d = (ends_as l e false is (ap (λ c. is_program c && not (was_stopped e.outcome)) d.command) ∙ and_refused (nat_lt 0 (knows_engine l)), ap is_reset d.command)
 
 pub early_counts : (l : Logged) → knows_engine l ≤ 0 → ends_stripe l ≡ false
 early_counts l few = ap (λ b. b && option_map_or ends_program (unit_event_of l.event) false) (not_below (knows_engine l) 0 few)
 
 pub program_counts : (i : Image) (w : World) (unit n : ℕ) (l : Logged) (e : UnitEvent) (found : Chunk) → unit_event_of l.event ≡ Some e → IsProgram i w unit n l e found → IsCounted l e true false
 program_counts i w unit n l e found is d = (
-  ends_as l e true is (ap₂ (λ c o. is_program c && not (was_stopped o)) d.command d.done) ∙ ap (λ b. b && true) (is_below 0 (knows_engine l) d.knew),
+  ends_as l e true is (ap₂ (λ c o. is_program c && not (was_stopped o)) d.command d.done) ∙ ap (λ b. b && true) (lt_true 0 (knows_engine l) d.knew),
   ap is_reset d.command,
 )
 
 clearing_counts : (w : World) (l : Logged) (e : UnitEvent) (found : Chunk) → unit_event_of l.event ≡ Some e → IsClearing w l e found → IsCounted l e false true
-clearing_counts w l e found is d = (ends_as l e false is (ap (λ c. is_program c && not (was_stopped e.outcome)) d.command) ∙ and_no (nat_lt 0 (knows_engine l)), ap is_reset d.command)
+clearing_counts w l e found is d = (ends_as l e false is (ap (λ c. is_program c && not (was_stopped e.outcome)) d.command) ∙ and_refused (nat_lt 0 (knows_engine l)), ap is_reset d.command)
 
 -- ---- states
 
@@ -122,15 +117,6 @@ never_open s c = go c.state (pointer c)
         by true e = absurd (cc)
         by false e = absurd (cc)
     go states.Offline wp e = absurd (cc)
-
-pub reset_empty : (s : Shape) (c : Chunk) → is_empty_state (after_reset s c).state ≡ true
-reset_empty s c = go c.state (pointer c)
-  where
-    go : (state : ChunkState) (wp : ℕ) → is_empty_state (reset_in s state wp).state ≡ true
-    go states.Free wp = refl
-    go states.Open wp = refl
-    go states.Closed wp = elim (wp == s.clba) as (λ b. is_empty_state (if b then free_chunk else offline_chunk).state ≡ true) [ true ↦ refl | false ↦ refl ]
-    go states.Offline wp = refl
 
 base_not_open : (s : Shape) (r : Bool) (c : Chunk) → c.state ≢ states.Open → (cleared_by s r c).state ≢ states.Open
 base_not_open s true c closed = never_open s c
@@ -151,11 +137,6 @@ stray_by : (strays : List ℕ) (line : ℕ) (life : LineLife) → is_given_up_by
 stray_by strays line AsFound given unfreed = given
 stray_by strays line (Opened o) given unfreed = absurd (cc)
 stray_by strays line (Freed was knows) given unfreed = absurd (cc)
-
-unopened_by : (strays : List ℕ) (line : ℕ) (life : LineLife) → is_given_up_by strays line life ≡ true → is_opened life ≡ false
-unopened_by strays line AsFound e = refl
-unopened_by strays line (Opened o) e = absurd (cc)
-unopened_by strays line (Freed past knows) e = refl
 
 strays_first : (n : ℕ) (log : List Logged) → 0 < n → strays_of (take n log) ≡ strays_of log
 strays_first zero log some = absurd (omega arith)
@@ -242,7 +223,7 @@ module _ (i : Image) (w : World) (plain : IsPlainWorld i w) (unit line : ℕ) (c
     by_none : unit_event_of l.event ≡ None → Now (suc n)
     by_none is = kept n r (was_cleared line (take (suc n) own)) ps (firsts log unit line (ended_stripes (take (suc n) own))) h
         (not_cleared (ap (λ o. option_map_or (λ (e : UnitEvent). (e.chunk == line) && is_reset e.command) o false) is))
-        (not_ended (ap (λ o. nat_lt 0 (knows_engine l) && option_map_or ends_program o false) is ∙ and_no (nat_lt 0 (knows_engine l))))
+        (not_ended (ap (λ o. nat_lt 0 (knows_engine l) && option_map_or ends_program o false) is ∙ and_refused (nat_lt 0 (knows_engine l))))
         (ap (λ (xs : List Logged). chunk_after i unit xs line) next ∙ chunk_unmade i unit (take n own) l line is)
 
     module _ (e : UnitEvent) (is : unit_event_of l.event ≡ Some e) (d : IsDone i w unit n l e) where
@@ -271,7 +252,7 @@ module _ (i : Image) (w : World) (plain : IsPlainWorld i w) (unit line : ℕ) (c
 
         fetched : IsFetch e → Now (suc n)
         fetched fetch = kept n r (was_cleared line (take (suc n) own)) ps (firsts log unit line (ended_stripes (take (suc n) own))) h
-            (not_cleared (clears_as line l e is ∙ ap (λ b. (e.chunk == line) && b) (fetch_counts l e is fetch).1 ∙ and_no (e.chunk == line)))
+            (not_cleared (clears_as line l e is ∙ ap (λ b. (e.chunk == line) && b) (fetch_counts l e is fetch).1 ∙ and_refused (e.chunk == line)))
             (not_ended (fetch_counts l e is fetch).0)
             (now_is ∙ ap₂ (λ x o. Some (after_outcome i.shape d.found x o)) fetch.command fetch.answered ∙ ap (λ x. Some x) was ∙ sym h.now)
 
@@ -293,7 +274,7 @@ module _ (i : Image) (w : World) (plain : IsPlainWorld i w) (unit line : ℕ) (c
         programmed program =
             let p : Placed = program.placed in
             let counts = program_counts i w unit n l e d.found is program in
-            let same_r : was_cleared line (take (suc n) own) ≡ r = not_cleared (clears_as line l e is ∙ ap (λ b. (e.chunk == line) && b) counts.1 ∙ and_no (e.chunk == line)) in
+            let same_r : was_cleared line (take (suc n) own) ≡ r = not_cleared (clears_as line l e is ∙ ap (λ b. (e.chunk == line) && b) counts.1 ∙ and_refused (e.chunk == line)) in
             let mine : p.stripe.line ≡ line = sym program.chunk ∙ its in
             let same_ps : firsts log unit line (ended_stripes (take (suc n) own)) ≡ ps ++ p ∷ [] =
             one_ended p counts.0 program.earliest ∙ ap (λ b. ps ++ cond b (p ∷ []) []) (ap (λ x. x == line) mine ∙ same_number line) in
@@ -320,7 +301,7 @@ module _ (i : Image) (w : World) (plain : IsPlainWorld i w) (unit line : ℕ) (c
               where
                 no : is_opened (life_of (take (knows_engine l) (log_of w 0)) line) ≡ true → ⊥
                 no opened = true_false (sym opened ∙ ap (λ m. is_opened (life_of (take (knows_engine l) (log_of w 0)) m)) (sym its)
-                    ∙ unopened_by (strays_of (take (knows_engine l) (log_of w 0))) e.chunk (life_of (take (knows_engine l) (log_of w 0)) e.chunk) clearing.given_up)
+                    ∙ not_given_up (strays_of (take (knows_engine l) (log_of w 0))) e.chunk (life_of (take (knows_engine l) (log_of w 0)) e.chunk) clearing.given_up)
                   where
                     true_false : true ≡ false → ⊥
                     true_false q = cc
@@ -358,7 +339,7 @@ module _ (i : Image) (w : World) (plain : IsPlainWorld i w) (unit line : ℕ) (c
                 ap (λ (x : Chunk). is_empty_state x.state) (sym first.2) ∙ clearing.used,
                 ap (list_any (λ stray. stray == line)) (sym (strays_first (knows_engine l) log clearing.knew))
                     ∙ stray_by (strays_of (take (knows_engine l) log)) line (life_of (take (knows_engine l) log) line) given
-                    (never_freed (take (knows_engine l) log) line (all_take (λ (x : Logged). is_plain_event x.event ≡ true) (knows_engine l) log plain.engine)),
+                    (never_freed (take (knows_engine l) log) line (all_taken (λ (x : Logged). is_plain_event x.event ≡ true) (knows_engine l) log plain.engine)),
               );
               writable = inl refl;
               some = tt;

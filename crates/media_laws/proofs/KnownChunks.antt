@@ -18,14 +18,16 @@ use Rattle.pblk_world.specs.EngineLog.{life_of, is_opened, Placed, placed_by, pl
 use Rattle.pblk_world.specs.Lines.{told_by, is_empty_state}
 use Rattle.pblk_world.specs.Commanding.{is_reset}
 use Rattle.pblk_world.proofs.Answered.{answers_fit}
-use Rattle.pblk_world.proofs.Appending.{answers_more, named_more}
+use Rattle.pblk_world.proofs.Appending.{named_more}
 use Rattle.core_laws.specs.PlainWorlds.{IsPlainWorld}
-use Rattle.core_laws.proofs.Lists.{get_more, with_last}
-use Rattle.core_laws.proofs.Removing.{and_no}
 use Rattle.media_laws.proofs.Growing.{placed_on_more}
-use Rattle.media_laws.proofs.UnitChunks.{event_beside, event_here}
 use Rattle.media_laws.proofs.History.{cleared_by, filled, firsts, firsts_next}
 use Rattle.media_laws.proofs.ToldEvents.{told, IsThere, told_in_longer, told_more}
+use Rattle.lemmas.proofs.Lists.{with_last}
+use Rattle.lemmas.proofs.Parts.{get_more}
+use Rattle.lemmas.proofs.Tests.{and_refused, or_no, or_true}
+use Rattle.pblk_model.proofs.UnitLogLemmas.{event_beside, event_here}
+use Rattle.pblk_world.proofs.EngineLogLemmas.{answers_more}
 
 -- ---- words
 
@@ -56,14 +58,6 @@ pub record IsTold (s : Shape) (log own : List Logged) (unit line : ℕ) (c : Chu
   pub noted : told_cleared line (told log own unit) ≡ true → IsNoted log own unit line
   -- an opened line was emptied before
   pub opened : is_opened (life_of log line) ≡ true → (told_cleared line (told log own unit) ≡ true) ⊎ (is_empty_state c.state ≡ true)
-
-or_no : (b : Bool) → (b || false) ≡ b
-or_no true = refl
-or_no false = refl
-
-or_yes : (b : Bool) → (b || true) ≡ true
-or_yes true = refl
-or_yes false = refl
 
 -- ---- an event of the unit
 
@@ -189,7 +183,7 @@ module _ (i : Image) (s : Step) (w : World) (plain : IsPlainWorld i w) (unit lin
 
     -- a program of the stripe whose turn it is
     pub landed : answer_by unit l.event ≡ Some (DidLand n) → (p : Placed) → slice_get (placed_on (log_of w 0) unit) k ≡ Some p → e.chunk ≡ p.stripe.line → e.command ≡ Write p.stripe.at p.stripe.blocks → e.outcome ≡ Answered Done → placed_by log (length log) l.event ≡ None → Told
-    landed answer p turn chunk command outcome none = no_reset_of_it (ap (λ b. (e.chunk == line) && b) (ap is_reset command) ∙ and_no (e.chunk == line)) (firsts log unit line (suc k)) stripes (λ chunks got. leaves chunks got (nat_eq p.stripe.line line) refl)
+    landed answer p turn chunk command outcome none = no_reset_of_it (ap (λ b. (e.chunk == line) && b) (ap is_reset command) ∙ and_refused (e.chunk == line)) (firsts log unit line (suc k)) stripes (λ chunks got. leaves chunks got (nat_eq p.stripe.line line) refl)
       where
         count : length (answers (log ++ l ∷ []) unit) ≡ suc k
         count =
@@ -223,7 +217,7 @@ module _ (i : Image) (s : Step) (w : World) (plain : IsPlainWorld i w) (unit lin
       pub of_it : (e.chunk == line) ≡ true → tr ≡ false → firsts log unit line k ≡ [] → e.outcome ≡ Answered Done → named_by unit l.event ≡ Some n → Told
       of_it same none empty outcome names =
           let so : resets_it line e ≡ true = ap₂ (λ a b. a && b) same (ap is_reset resets) in
-          let tr_is : told_cleared line (told (log ++ l ∷ []) own unit) ≡ true = tr_now ∙ ap (λ b. tr || b) so ∙ or_yes tr in
+          let tr_is : told_cleared line (told (log ++ l ∷ []) own unit) ≡ true = tr_now ∙ ap (λ b. tr || b) so ∙ or_true tr in
           record {
             defined = with_last (λ m. IsThere own unit m.event) log l h.defined defined;
             now = λ chunks got. ap (λ cs. slice_get cs line) (last_event chunks)

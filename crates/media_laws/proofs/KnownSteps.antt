@@ -1,7 +1,7 @@
 -- What the engine knows of each chunk after each of its events.
-use Rattle.std.proofs.Common.{◌≡◌, ℕ, ◌<◌, ◌≤◌, ◌⊎◌, ◌==◌, ◌&&◌, ◌||◌, nat_eq, zero, suc, Bool, true, false, Some, None, List, [], ◌∷◌, ◌++◌, length, take, refl, sym, subst, subst₂, ap, ap₂, ◌∙◌, arith, if◌then◌else◌, inl, inr}
+use Rattle.std.proofs.Common.{◌≡◌, ℕ, ◌<◌, ◌≤◌, ◌⊎◌, ◌==◌, ◌&&◌, nat_eq, suc, Bool, true, false, Some, None, List, [], ◌∷◌, ◌++◌, length, take, refl, sym, subst, subst₂, ap, ap₂, ◌∙◌, arith, if◌then◌else◌, inl, inr}
 use Rattle.std.specs.Prelude.{slice_get}
-use Rattle.std.specs.List.{Contains, list_any}
+use Rattle.std.specs.List.{Contains}
 use Rattle.std.specs.Option.{option_map, option_and_then}
 use Rattle.std.proofs.lemmas.Bool.{eqb-true, cases_order}
 use Rattle.std.proofs.lemmas.Option.{same_Some, none-some}
@@ -21,26 +21,28 @@ use Rattle.pblk_world.specs.Answering.{MayLand, MayNoteReset}
 use Rattle.pblk_world.specs.Legal.{IsDecision}
 use Rattle.pblk_world.proofs.Appending.{life_more}
 use Rattle.core_laws.specs.PlainWorlds.{is_plain_decision, IsPlainWorld}
-use Rattle.core_laws.proofs.Lists.{filter_none, all_filter, get_taken, is_in}
-use Rattle.core_laws.proofs.Rows.{same_number, other_number}
-use Rattle.core_laws.proofs.Tests.{first_of as and_left, second_of as and_right}
-use Rattle.core_laws.proofs.Placing.{weaker}
 use Rattle.core_laws.proofs.Numbering.{begun_stays}
 use Rattle.pblk_laws.specs.LineBlocks.{chunk_in}
-use Rattle.pblk_laws.proofs.Lists.{all_take}
-use Rattle.media_laws.proofs.Steps.{log_here, log_elsewhere, plain_tail, IsEngines, IsSomeones, whose}
+use Rattle.media_laws.proofs.Steps.{IsEngines, IsSomeones, whose}
 use Rattle.media_laws.proofs.Images.{known_at}
 use Rattle.media_laws.proofs.Decisions.{IsFirst, IsLater, decided}
-use Rattle.media_laws.proofs.LineLives.{IsInLine, living, free_unopened, same_logged}
-use Rattle.media_laws.proofs.Growing.{get_whole}
+use Rattle.media_laws.proofs.LineLives.{IsInLine, living, same_logged}
 use Rattle.media_laws.proofs.UnitEvents.{IsProgram, IsClearing, IsDeed, IsDone, done}
 use Rattle.media_laws.proofs.History.{cleared_by, filled, firsts, clears_it, clears_as}
 use Rattle.media_laws.proofs.Beginnings.{found_stays}
 use Rattle.media_laws.proofs.Stood.{first_reset}
 use Rattle.media_laws.proofs.ToldEvents.{told, told_are, IsThere}
-use Rattle.media_laws.proofs.LineChunks.{of_unit, split_then}
+use Rattle.media_laws.proofs.LineChunks.{of_unit}
 use Rattle.media_laws.proofs.Named.{known_whole_image}
 use Rattle.media_laws.proofs.KnownChunks.{told_cleared, IsNoted, IsTold, told_unit, nothing, landed, of_another, of_it}
+use Rattle.core_laws.proofs.PlainWorldsLemmas.{plain_before}
+use Rattle.lemmas.proofs.Lists.{all_imply}
+use Rattle.lemmas.proofs.Maps.{all_filter, any_member, filter_none}
+use Rattle.lemmas.proofs.Options.{split_then}
+use Rattle.lemmas.proofs.Parts.{all_taken, get_taken, get_whole_within, is_in}
+use Rattle.lemmas.proofs.Tests.{first_of, other_number, same_number, second_of}
+use Rattle.pblk_world.proofs.LinesLemmas.{free_unopened}
+use Rattle.pblk_world.proofs.WorldLemmas.{log_elsewhere, log_here}
 
 -- ---- chunks as they are known
 
@@ -55,21 +57,12 @@ known_by i w unit line c there h =
 -- a line that wasn't opened has no stripe
 pub firsts_none : (i : Image) (w : World) (unit line n : ℕ) → IsPlainWorld i w → is_opened (life_of (log_of w 0) line) ≡ false → firsts (log_of w 0) unit line n ≡ []
 firsts_none i w unit line n plain closed = filter_none (λ (p : Placed). p.stripe.line == line) (take n (placed_on (log_of w 0) unit))
-    (weaker (IsInLine (log_of w 0)) (λ (p : Placed). (p.stripe.line == line) ≡ false) (λ p is. other_number p.stripe.line line (λ same.
+    (all_imply (IsInLine (log_of w 0)) (λ (p : Placed). (p.stripe.line == line) ≡ false) (λ p is. other_number p.stripe.line line (λ same.
     not_both (ap is_opened (ap (life_of (log_of w 0)) (sym same) ∙ is.0.0) ∙ is.0.1) closed)) (take n (placed_on (log_of w 0) unit))
-    (all_take (IsInLine (log_of w 0)) n (placed_on (log_of w 0) unit) (all_filter (IsInLine (log_of w 0)) (λ (p : Placed). p.stripe.unit == unit) (placements (log_of w 0)) (living i w plain).stripes)))
+    (all_taken (IsInLine (log_of w 0)) n (placed_on (log_of w 0) unit) (all_filter (IsInLine (log_of w 0)) (λ (p : Placed). p.stripe.unit == unit) (placements (log_of w 0)) (living i w plain).stripes)))
   where
     not_both : {b : Bool} → b ≡ true → b ≡ false → ⊥
     not_both p q = cc
-
-pub any_at : {X : Type 0} (f : X → Bool) (xs : List X) (k : ℕ) (x : X) → slice_get xs k ≡ Some x → f x ≡ true → list_any f xs ≡ true
-any_at f [] k x there is = absurd (none-some x there)
-any_at f (y ∷ xs) zero x there is = ap (λ b. b || list_any f xs) (ap f (same_Some y x there) ∙ is)
-any_at f (y ∷ xs) (suc k) x there is = ap (λ b. f y || b) (any_at f xs k x there is) ∙ or_yes (f y)
-  where
-    or_yes : (b : Bool) → (b || true) ≡ true
-    or_yes true = refl
-    or_yes false = refl
 
 true_false : true ≡ false → ⊥
 true_false q = cc
@@ -106,7 +99,7 @@ module _ (i : Image) (s : Step) (w : World) (now : IsPlainWorld i (s ∷ w)) (en
   Emptied = (told_cleared line (told (log_of w 0) (log_of w (suc unit)) unit) ≡ true) ⊎ (is_empty_state c.state ≡ true)
 
   world : IsPlainWorld i w
-  world = plain_tail i s w now
+  world = plain_before i s w now
 
   life_kept : (x : Event) → l.event ≡ x → turned_by line (life_of log line) (length log) l.knows x ≡ life_of log line → life_of (log ++ l ∷ []) line ≡ life_of log line
   life_kept x is same = life_more log l line ∙ ap (turned_by line (life_of log line) (length log) l.knows) is ∙ same
@@ -127,7 +120,7 @@ module _ (i : Image) (s : Step) (w : World) (now : IsPlainWorld i (s ∷ w)) (en
           let mine : other ≡ unit = eqb-true other unit same in
           let land : MayLand (prefixes l (log_of w)) unit n = subst (λ u. MayLand (prefixes l (log_of w)) u n) mine may in
           let m : ℕ = known l (suc unit) in
-          let whole = get_whole m own n land.new.logged land.new.is_known in
+          let whole = get_whole_within m own n land.new.logged land.new.is_known in
           let below : n < m = whole.1 in
           let one : land.stripe.logged ≡ land.new.logged = same_Some land.stripe.logged land.new.logged (sym land.stripe.is_logged ∙ land.new.is_known) in
           let d : IsDone i w unit n land.new.logged land.program = done i w unit n land.new.logged land.program world whole.0 land.new.event in
@@ -148,7 +141,7 @@ module _ (i : Image) (s : Step) (w : World) (now : IsPlainWorld i (s ∷ w)) (en
   one_reset m n x y e f at_m is_e its_e resets_e at_n is_f its_f resets_f below =
       let first = first_reset i w world b begun_is unit line c there n y f at_n is_f its_f resets_f in
       let clears : clears_it line x ≡ true = clears_as line x e is_e ∙ ap₂ (λ p q. p && q) (ap (λ k. k == line) its_e ∙ same_number line) (ap is_reset resets_e) in
-      true_false (sym (any_at (clears_it line) (take n own) m x (get_taken n own m below ∙ at_m) clears) ∙ first.0)
+      true_false (sym (any_member (clears_it line) (take n own) m x (get_taken n own m below ∙ at_m) clears) ∙ first.0)
 
   reset_step : (other n : ℕ) → l.event ≡ Decides (ResetDone other n) → MayNoteReset (prefixes l (log_of w)) other n → Told
   reset_step other n is may = by (nat_eq other unit) refl
@@ -165,7 +158,7 @@ module _ (i : Image) (s : Step) (w : World) (now : IsPlainWorld i (s ∷ w)) (en
           note = subst (λ u. MayNoteReset (prefixes l (log_of w)) u n) mine may
 
           at_n : slice_get own n ≡ Some note.new.logged
-          at_n = (get_whole (known l (suc unit)) own n note.new.logged note.new.is_known).0
+          at_n = (get_whole_within (known l (suc unit)) own n note.new.logged note.new.is_known).0
 
           tells : told_by (λ a. own) unit l.event ≡ Some note.reset
           tells = ap (told_by (λ a. own) unit) is ∙ ap (λ t. if t then option_and_then (λ (m : Logged). unit_event_of m.event) (slice_get own n) else None) same
@@ -225,7 +218,7 @@ module _ (i : Image) (s : Step) (w : World) (now : IsPlainWorld i (s ∷ w)) (en
           let its : other ≡ line = eqb-true other line same in
           let closed : is_opened (life_of log line) ≡ false = ap₂ (λ (xs : List Logged) n. is_opened (life_of xs n)) (sym engines.own) (sym its) ∙ free_unopened i (prefixes l (log_of w)) other may.is_free in
           let image : known_image i (prefixes l (log_of w)) ≡ known_image i (log_of w) = known_whole_image i s w now engines.author in
-          let empty : are_empty (known_image i (log_of w)) line ≡ true = ap₂ (λ (j : Image) n. are_empty j n) (sym image) (sym its) ∙ and_right _ _ (and_left _ _ may.is_free) in
+          let empty : are_empty (known_image i (log_of w)) line ≡ true = ap₂ (λ (j : Image) n. are_empty j n) (sym image) (sym its) ∙ second_of _ _ (first_of _ _ may.is_free) in
           let tr : Bool = told_cleared line (told log own unit) in
           let its_chunk = known_by i w unit line c there h in
           let over : is_empty_state (filled i.shape (cleared_by i.shape (told_cleared line (told log own unit)) c) (firsts log unit line (length (answers log unit)))).state ≡ true =
@@ -261,7 +254,7 @@ told_by_step : (i : Image) (s : Step) (w : World) (unit line : ℕ) → IsPlainW
 told_by_step i s w unit line plain h (inr (other, u)) b begun_is c there =
     let same : log_of (s ∷ w) 0 ≡ log_of w 0 = log_elsewhere s w 0 (λ a. let no : suc other ≡ 0 = sym u.author ∙ a in absurd (omega arith)) in
     let before : begun (log_of w 0) ≡ Some b = ap begun (sym same) ∙ begun_is in
-    let found : chunk_in (found_image i (log_of w)) line unit ≡ Some c = ap (λ (j : Image). chunk_in j line unit) (sym (found_stays i s w b (plain_tail i s w plain) before begun_is)) ∙ there in
+    let found : chunk_in (found_image i (log_of w)) line unit ≡ Some c = ap (λ (j : Image). chunk_in j line unit) (sym (found_stays i s w b (plain_before i s w plain) before begun_is)) ∙ there in
     subst (λ (log : List Logged). IsTold i.shape log (log_of (s ∷ w) (suc unit)) unit line c) (sym same) (by (s.author == suc unit) (h b before c found))
   where
     by : (t : Bool) → IsTold i.shape (log_of w 0) (log_of w (suc unit)) unit line c → IsTold i.shape (log_of w 0) (if t then log_of w (suc unit) ++ s.logged ∷ [] else log_of w (suc unit)) unit line c
@@ -283,9 +276,9 @@ told_by_step i s w unit line plain h (inl e) b begun_is c there =
     go (inr l) =
         let was : begun (log_of w 0) ≡ Some l.0 = ap begun (sym e.own) ∙ l.1 in
         let before : begun (log_of w 0) ≡ Some b = sym (begun_stays (log_of w 0) s.logged l.0 was) ∙ ap begun (sym here) ∙ begun_is in
-        let found : chunk_in (found_image i (log_of w)) line unit ≡ Some c = ap (λ (j : Image). chunk_in j line unit) (sym (found_stays i s w b (plain_tail i s w plain) before begun_is)) ∙ there in
+        let found : chunk_in (found_image i (log_of w)) line unit ≡ Some c = ap (λ (j : Image). chunk_in j line unit) (sym (found_stays i s w b (plain_before i s w plain) before begun_is)) ∙ there in
         later_step i s w plain e b before unit line c found (h b before c found) l.0 e.event e.is_event e.plain l.2
 
 pub told_at : (i : Image) (w : World) (unit line : ℕ) → IsPlainWorld i w → (b : Begun) → begun (log_of w 0) ≡ Some b → (c : Chunk) → chunk_in (found_image i (log_of w)) line unit ≡ Some c → IsTold i.shape (log_of w 0) (log_of w (suc unit)) unit line c
 told_at i [] unit line plain b begun_is c there = absurd (none-some b begun_is)
-told_at i (s ∷ w) unit line plain b begun_is c there = told_by_step i s w unit line plain (told_at i w unit line (plain_tail i s w plain)) (whose i s w plain) b begun_is c there
+told_at i (s ∷ w) unit line plain b begun_is c there = told_by_step i s w unit line plain (told_at i w unit line (plain_before i s w plain)) (whose i s w plain) b begun_is c there

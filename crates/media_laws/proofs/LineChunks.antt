@@ -8,19 +8,20 @@ use Rattle.pblk_model.specs.Chunk.{Chunk}
 use Rattle.pblk_model.specs.Image.{Image}
 use Rattle.pblk_world.specs.Lines.{chunks_of}
 use Rattle.pblk_laws.specs.LineBlocks.{chunk_in}
-use Rattle.core_laws.proofs.Tests.{first_of as and_left, second_of as and_right}
+use Rattle.lemmas.proofs.Options.{split_then}
+use Rattle.lemmas.proofs.Tests.{first_of, second_of}
 
 -- the chunk of a unit, where it has one
 pub at_unit : {X Y : Type 0} (h : X → Option Y) (xs : List X) (k : ℕ) (x : X) (y : Y) → slice_get xs k ≡ Some x → h x ≡ Some y → (f : Y → Bool) → list_all f (filter_map h xs) ≡ true → f y ≡ true
 at_unit h [] k x y there is f all = absurd (none-some x there)
 at_unit {X} {Y} h (z ∷ xs) zero x y there is f all =
     let its : h z ≡ Some y = ap h (same_Some z x there) ∙ is in
-    and_left (f y) (list_all f (filter_map h xs)) (ap (λ o. list_all f (cons_option o (filter_map h xs))) (sym its) ∙ all)
+    first_of (f y) (list_all f (filter_map h xs)) (ap (λ o. list_all f (cons_option o (filter_map h xs))) (sym its) ∙ all)
 at_unit {X} {Y} h (z ∷ xs) (suc k) x y there is f all = at_unit h xs k x y there is f (rest (h z) all)
   where
     rest : (o : Option Y) → list_all f (cons_option o (filter_map h xs)) ≡ true → list_all f (filter_map h xs) ≡ true
     rest None all = all
-    rest (Some v) all = and_right (f v) (list_all f (filter_map h xs)) all
+    rest (Some v) all = second_of (f v) (list_all f (filter_map h xs)) all
 
 pub at_all : {X Y : Type 0} (h : X → Option Y) (xs : List X) (f : Y → Bool) → ((k : ℕ) (x : X) (y : Y) → slice_get xs k ≡ Some x → h x ≡ Some y → f y ≡ true) → list_all f (filter_map h xs) ≡ true
 at_all h [] f says = refl
@@ -29,10 +30,6 @@ at_all {X} {Y} h (z ∷ xs) f says = by (h z) refl (at_all h xs f (λ k x y ther
     by : (o : Option Y) → h z ≡ o → list_all f (filter_map h xs) ≡ true → list_all f (cons_option o (filter_map h xs)) ≡ true
     by None e rest = rest
     by (Some v) e rest = ap (λ b. b && list_all f (filter_map h xs)) (says 0 z v refl e) ∙ rest
-
-pub split_then : {X Y : Type 0} (f : X → Option Y) (o : Option X) (y : Y) → option_and_then f o ≡ Some y → (x : X) × (o ≡ Some x) × (f x ≡ Some y)
-split_then f None y e = absurd (none-some y e)
-split_then f (Some x) y e = (x, refl, e)
 
 -- by the unit of each
 

@@ -1,8 +1,7 @@
 -- The stripes of a line on one unit, and their blocks in its chunk.
-use Rattle.std.proofs.Common.{◌≡◌, ◌≢◌, ℕ, ◌+◌, ◌-◌, ◌*◌, ◌/◌, ◌%◌, ◌<◌, ◌≤◌, ◌⊎◌, ◌==◌, nat_lt, zero, suc, nat_eq, Bool, true, false, cond, Some, List, [], ◌∷◌, ◌++◌, length, take, drop, refl, sym, subst, ap, ap₂, ◌∙◌, arith, inl, inr, length-append, zero-add}
+use Rattle.std.proofs.Common.{◌≡◌, ◌≢◌, ℕ, ◌+◌, ◌-◌, ◌*◌, ◌/◌, ◌%◌, ◌<◌, ◌≤◌, ◌⊎◌, ◌==◌, nat_lt, zero, suc, nat_eq, Bool, true, false, cond, Some, List, [], ◌∷◌, ◌++◌, length, take, drop, refl, sym, ap, ap₂, ◌∙◌, arith, inl, inr, length-append, zero-add}
 use Rattle.std.specs.Prelude.{slice_get, slice_index}
 use Rattle.std.specs.List.{AllByRecursion, filter}
-use Rattle.std.specs.List.Sorted.{IsStrictlyIncreasing}
 use Rattle.std.proofs.lemmas.Bool.{eqb-true, eqb-false, cases_order}
 use Rattle.std.proofs.lemmas.List.{take-append-drop}
 use Rattle.std.proofs.lemmas.List.Elements.{filter-append}
@@ -11,21 +10,21 @@ use Rattle.std.proofs.Math.Nat.{div-add-mod, mul-le-mul_left, lt_of_mul-lt-mul_l
 use Rattle.std.proofs.lemmas.Option.{same_Some, none-some, slice_get_within}
 use Rattle.std.proofs.lemmas.Nat.{div-mul-add}
 use Rattle.pblk_model.specs.Image.{Image}
-use Rattle.pblk_model.proofs.OrderedBlocks.{get_front as get_within}
 use Rattle.pblk_world.specs.Events.{Logged}
 use Rattle.pblk_world.specs.World.{World, log_of}
 use Rattle.pblk_world.specs.EngineLog.{Placed, placements, placed_on, turn}
 use Rattle.pblk_world.specs.Lines.{known_image}
 use Rattle.core_laws.specs.PlainWorlds.{IsPlainWorld}
-use Rattle.core_laws.proofs.Rows.{same_number, other_number}
 use Rattle.core_laws.proofs.Turns.{filtered_is}
-use Rattle.stripe_placer.proofs.Among.{IsAmong, from_filter}
 use Rattle.pblk_laws.proofs.LineUnits.{line_units_rise}
-use Rattle.pblk_laws.proofs.Lists.{all_by_get}
 use Rattle.media_laws.specs.Standing.{blocks_of_stripes, stripes_in}
 use Rattle.media_laws.proofs.Growing.{get_after}
-use Rattle.media_laws.proofs.Order.{filters_swap, stripes_first, stripes_at}
+use Rattle.media_laws.proofs.Order.{stripes_first, stripes_at}
 use Rattle.media_laws.proofs.LinePlaces.{units_known, IsPlacedIn, placed_in, next_fits, stripes_in_chunk}
+use Rattle.lemmas.proofs.Lists.{IsAmong}
+use Rattle.lemmas.proofs.Maps.{filters_swap, from_filter}
+use Rattle.lemmas.proofs.Parts.{all_by_get, get_first, get_right, one_column}
+use Rattle.lemmas.proofs.Tests.{other_number, same_number}
 
 -- ---- each g-th element
 
@@ -82,33 +81,6 @@ index_is : (us : List ℕ) (k u : ℕ) → slice_get us k ≡ Some u → slice_i
 index_is [] k u e = absurd (none-some u e)
 index_is (v ∷ us) zero u e = same_Some v u e
 index_is (v ∷ us) (suc k) u e = index_is us k u e
-
-rise_by : (us : List ℕ) (a d : ℕ) → IsStrictlyIncreasing us → a + suc d < length us → slice_index us a < slice_index us (a + suc d)
-rise_by us a zero rises inside =
-    let next : a + 1 ≡ a + suc zero = omega arith in
-    subst (λ n. slice_index us a < slice_index us n) next (rises a (omega arith))
-rise_by us a (suc d) rises inside =
-    let before : slice_index us a < slice_index us (a + suc d) = rise_by us a d rises (omega arith) in
-    let last : slice_index us (a + suc d) < slice_index us (a + suc d + 1) = rises (a + suc d) (omega arith) in
-    let next : a + suc d + 1 ≡ a + suc (suc d) = omega arith in
-    subst (λ n. slice_index us a < slice_index us n) next (omega arith)
-
-pub one_column : (us : List ℕ) (a b u : ℕ) → IsStrictlyIncreasing us → slice_get us a ≡ Some u → slice_get us b ≡ Some u → a ≡ b
-one_column us a b u rises at_a at_b = go (cases_order a b)
-  where
-    below : (a b : ℕ) → slice_get us a ≡ Some u → slice_get us b ≡ Some u → a < b → ⊥
-    below a b at_a at_b h =
-        let inside : b < length us = slice_get_within us b u at_b in
-        let apart : a + suc (b - suc a) ≡ b = omega arith in
-        let less : slice_index us a < slice_index us (a + suc (b - suc a)) = rise_by us a (b - suc a) rises (omega arith) in
-        let first : slice_index us a ≡ u = index_is us a u at_a in
-        let second : slice_index us (a + suc (b - suc a)) ≡ u = ap (slice_index us) apart ∙ index_is us b u at_b in
-        absurd (omega arith)
-
-    go : (a ≡ b) ⊎ ((a < b) ⊎ (b < a)) → a ≡ b
-    go (inl e) = e
-    go (inr (inl h)) = absurd (below a b at_a at_b h)
-    go (inr (inr h)) = absurd (below b a at_b at_a h)
 
 -- ---- the stripes of a line on the unit of a column
 
@@ -184,10 +156,6 @@ blocks_count n (p ∷ ps) all =
     let more : suc (length ps) * n ≡ n + length ps * n = omega arith in
     both ∙ ap₂ (λ a b. a + b) here rest ∙ sym more
 
-get_past : {X : Type 0} (xs ys : List X) (k : ℕ) → slice_get (xs ++ ys) (length xs + k) ≡ slice_get ys k
-get_past [] ys k = ap (slice_get ys) (zero-add k)
-get_past (x ∷ xs) ys k = let index : suc (length xs) + k ≡ suc (length xs + k) = omega arith in ap (slice_get (x ∷ (xs ++ ys))) index ∙ get_past xs ys k
-
 pub block_get : (n : ℕ) (ps : List Placed) (k r : ℕ) (p : Placed) → AllByRecursion (λ (p : Placed). length p.stripe.blocks ≡ n) ps → slice_get ps k ≡ Some p → r < n
     → slice_get (blocks_of_stripes ps) (k * n + r) ≡ slice_get p.stripe.blocks r
 block_get n [] k r p all there inside = absurd (none-some p there)
@@ -195,11 +163,11 @@ block_get n (q ∷ ps) zero r p all there inside =
     let same : q ≡ p = same_Some q p there in
     let here : length q.stripe.blocks ≡ n = all.0 in
     let index : 0 * n + r ≡ r = omega arith in
-    ap (slice_get (q.stripe.blocks ++ blocks_of_stripes ps)) index ∙ get_within q.stripe.blocks (blocks_of_stripes ps) r (omega arith) ∙ ap (λ (x : Placed). slice_get x.stripe.blocks r) same
+    ap (slice_get (q.stripe.blocks ++ blocks_of_stripes ps)) index ∙ get_first q.stripe.blocks (blocks_of_stripes ps) r (omega arith) ∙ ap (λ (x : Placed). slice_get x.stripe.blocks r) same
 block_get n (q ∷ ps) (suc k) r p all there inside =
     let here : length q.stripe.blocks ≡ n = all.0 in
     let index : suc k * n + r ≡ length q.stripe.blocks + (k * n + r) = omega arith in
-    ap (slice_get (q.stripe.blocks ++ blocks_of_stripes ps)) index ∙ get_past q.stripe.blocks (blocks_of_stripes ps) (k * n + r) ∙ block_get n ps k r p all.1 there inside
+    ap (slice_get (q.stripe.blocks ++ blocks_of_stripes ps)) index ∙ get_right q.stripe.blocks (blocks_of_stripes ps) (k * n + r) ∙ block_get n ps k r p all.1 there inside
 
 -- ---- the first stripes of a unit in a line
 

@@ -9,23 +9,25 @@ use Rattle.pblk_model.specs.StartRecord.{StartRecord}
 use Rattle.pblk_model.specs.Image.{Image}
 use Rattle.pblk_world.specs.Events.{EngineEvent, Beginning, Begin, Open, Place, Landed, Lost, Free, Event, Decides, Stripe, Logged, Step}
 use Rattle.pblk_world.specs.World.{World, Logs, log_of, prefixes}
-use Rattle.pblk_world.specs.EngineLog.{Begun, begun, Opening, LineLife, AsFound, Opened, Freed, life_of, turned_by, is_opened, is_life, Placed, placed_by, placements, stripes_of, Answer, DidLand, WasLost, answer_by, answers, answer_of, was_lost, is_loss, has_failed}
-use Rattle.pblk_world.specs.Lines.{is_free_line, has_number, known_image, are_empty}
+use Rattle.pblk_world.specs.EngineLog.{Begun, begun, Opening, LineLife, AsFound, Opened, Freed, life_of, turned_by, is_opened, is_life, Placed, placed_by, placements, stripes_of, Answer, DidLand, WasLost, answer_by, answers, is_loss}
+use Rattle.pblk_world.specs.Lines.{has_number}
 use Rattle.pblk_world.specs.Opening.{MayOpen}
 use Rattle.pblk_world.specs.Placing.{MayPlace}
 use Rattle.pblk_world.specs.Legal.{IsDecision}
 use Rattle.pblk_world.proofs.Appending.{life_more, placements_more}
 use Rattle.core_laws.specs.PlainWorlds.{is_plain_decision, is_plain_event, ArePlain, IsPlainWorld}
-use Rattle.core_laws.proofs.Lists.{filter_agree, none_any}
 use Rattle.core_laws.proofs.Numbers.{life_at, of_its_line}
-use Rattle.core_laws.proofs.Rows.{same_number, other_number}
-use Rattle.core_laws.proofs.Tests.{first_of as and_left}
-use Rattle.core_laws.proofs.Placing.{weaker}
 use Rattle.core_laws.proofs.Numbering.{begun_stays}
-use Rattle.pblk_laws.proofs.Lists.{all_append, all_filter_map, all_get}
 use Rattle.media_laws.specs.Standing.{stripes_in}
-use Rattle.media_laws.proofs.Steps.{log_here, log_elsewhere, plain_tail, IsSomeones, whose}
-use Rattle.media_laws.proofs.Decisions.{IsFirst, IsLater, decided, first_begins}
+use Rattle.media_laws.proofs.Steps.{IsSomeones, whose}
+use Rattle.media_laws.proofs.Decisions.{IsFirst, IsLater, decided}
+use Rattle.core_laws.proofs.PlainWorldsLemmas.{plain_before}
+use Rattle.lemmas.proofs.Lists.{all_append, all_imply}
+use Rattle.lemmas.proofs.Maps.{all_filter_map, filter_agree}
+use Rattle.lemmas.proofs.Tests.{other_number, same_number}
+use Rattle.pblk_world.proofs.EngineLogLemmas.{first_begins}
+use Rattle.pblk_world.proofs.LinesLemmas.{free_unopened}
+use Rattle.pblk_world.proofs.WorldLemmas.{log_elsewhere, log_here}
 
 -- ---- what an opening says
 
@@ -54,10 +56,6 @@ not_numbered : (i : Image) (logs : Logs) (life : LineLife) (line : ℕ) → not 
 not_numbered i logs AsFound line e = refl
 not_numbered i logs (Opened o) line e = absurd (cc)
 not_numbered i logs (Freed was knows) line e = refl
-
-pub free_unopened : (i : Image) (logs : Logs) (line : ℕ) → is_free_line i logs line ≡ true → is_opened (life_of (logs 0) line) ≡ false
-free_unopened i logs line e = not_numbered i logs (life_of (logs 0) line) line
-    (and_left (not (has_number i logs (life_of (logs 0) line) line)) (are_empty (known_image i logs) line) (and_left _ _ e))
 
 pub life_stays : (line : ℕ) (life : LineLife) (n : ℕ) (knows : List ℕ) (e : EngineEvent) → is_plain_decision e ≡ true
     → ((other : ℕ) (start : StartRecord) → e ≡ Open other start → other ≢ line) → turned_by line life n knows (Decides e) ≡ life
@@ -98,7 +96,7 @@ living_later i log logs b e knows own begins plain may h = record {
   opened = λ line o is. opened_now line o (sym (life_more log new line) ∙ is);
   stripes = subst (AllByRecursion (IsInLine (log ++ new ∷ []))) (sym (placements_more log new))
       (all_append (IsInLine (log ++ new ∷ [])) (placements log) (option_to_list (placed_by log (length log) (Decides e)))
-      (weaker (IsInLine log) (IsInLine (log ++ new ∷ [])) old_lives (placements log) h.stripes)
+      (all_imply (IsInLine log) (IsInLine (log ++ new ∷ [])) old_lives (placements log) h.stripes)
       (all_option (IsInLine (log ++ new ∷ [])) (placed_by log (length log) (Decides e)) new_lives));
 }
   where
@@ -164,10 +162,10 @@ living_by i s w h (inl e) =
 
 pub living : (i : Image) (w : World) → IsPlainWorld i w → AreLiving i (log_of w 0)
 living i [] plain = none_living i [] (λ none. refl) (λ line. refl) refl
-living i (s ∷ w) plain = living_by i s w (living i w (plain_tail i s w plain)) (whose i s w plain)
+living i (s ∷ w) plain = living_by i s w (living i w (plain_before i s w plain)) (whose i s w plain)
 
 pub all_living : (i : Image) (w : World) → IsPlainWorld i w → AllByRecursion (IsLiving (log_of w 0)) (placements (log_of w 0))
-all_living i w plain = weaker (IsInLine (log_of w 0)) (IsLiving (log_of w 0)) (λ p is. is.0) (placements (log_of w 0)) (living i w plain).stripes
+all_living i w plain = all_imply (IsInLine (log_of w 0)) (IsLiving (log_of w 0)) (λ p is. is.0) (placements (log_of w 0)) (living i w plain).stripes
 
 -- ---- the stripes of an opening are those of its line
 
@@ -210,9 +208,3 @@ lands_not_lost : (o : Option Answer) → IfSome o IsLand → is_loss o ≡ false
 lands_not_lost None h = refl
 lands_not_lost (Some (DidLand event)) h = refl
 lands_not_lost (Some (WasLost event)) h = absurd h
-
-pub not_lost : (log : List Logged) (p : Placed) → ArePlain log → was_lost log p ≡ false
-not_lost log p plain = lands_not_lost (answer_of log p) (all_get IsLand (answers log p.stripe.unit) _ (answers_land log p.stripe.unit plain))
-
-pub none_failed : (log : List Logged) (o : Opening) → ArePlain log → has_failed log o ≡ false
-none_failed log o plain = none_any (was_lost log) (λ p. not_lost log p plain) (stripes_of log o)

@@ -14,28 +14,25 @@ use Rattle.pblk_world.specs.EngineLog.{Placed, answers, has_landed, Opening, Ope
 use Rattle.pblk_world.specs.Lines.{known_image, chunks_of, is_over_state, are_over}
 use Rattle.pblk_world.specs.Starts.{have_landed}
 use Rattle.core_laws.specs.PlainWorlds.{IsPlainWorld}
-use Rattle.core_laws.proofs.Rows.{other_number}
 use Rattle.core_laws.proofs.Placing.{not_below}
-use Rattle.core_laws.proofs.Lists.{got_within as within_some, get_taken}
-use Rattle.core_laws.proofs.Tests.{first_of as and_left, second_of as and_right, within_is as true_le}
-use Rattle.stripe_placer.proofs.Among.{IsAmong}
-use Rattle.stripe_placer.proofs.Chunks.{lt_yes as is_below, lt_of as lt_true}
-use Rattle.stripe_placer.proofs.Rising.{le_true}
+use Rattle.stripe_placer.proofs.Chunks.{lt_of as lt_true}
 use Rattle.pblk_laws.specs.LineBlocks.{chunk_in}
-use Rattle.pblk_laws.proofs.Lists.{all_by_get}
 use Rattle.pblk_laws.proofs.LineUnits.{line_units_count}
 use Rattle.media_laws.specs.Standing.{state_at, stripes_in}
-use Rattle.media_laws.proofs.Growing.{get_whole}
 use Rattle.media_laws.proofs.Order.{stripes_at}
 use Rattle.media_laws.proofs.LineLives.{all_living, stripes_same}
-use Rattle.media_laws.proofs.LineChunks.{of_unit, of_units, split_then}
-use Rattle.media_laws.proofs.UnitCounts.{known_units}
+use Rattle.media_laws.proofs.LineChunks.{of_unit, of_units}
 use Rattle.media_laws.proofs.OpenedChunks.{IsOpenedChunk, opened_chunk}
 use Rattle.media_laws.proofs.OpenedUnits.{known_on, on_unit_there, opened_in_range}
 use Rattle.media_laws.proofs.LinePlaces.{units_known, stripes_in_chunk}
 use Rattle.media_laws.proofs.LineColumns.{IsColumn, column_stripes}
 use Rattle.media_laws.proofs.LineWritten.{answered, count_answered, answered_by, landed_is, on_unit, told_chunk, known_chunk_there}
 use Rattle.media_laws.proofs.LineReadable.{answered_few, answered_fit, passed_blocks}
+use Rattle.lemmas.proofs.Lists.{IsAmong}
+use Rattle.lemmas.proofs.Options.{split_then}
+use Rattle.lemmas.proofs.Parts.{all_by_get, get_taken, get_whole_within, got_within}
+use Rattle.lemmas.proofs.Tests.{first_of, le_true, lt_true as is_below, other_number, second_of, within_is}
+use Rattle.pblk_world.proofs.LinesLemmas.{length_known}
 
 -- ---- a chunk is over where it is full
 
@@ -66,8 +63,8 @@ all_true f (x ∷ xs) all = ap (λ b. b && list_all f xs) all.0 ∙ all_true f x
 
 pub each_true : {X : Type 0} (f : X → Bool) (xs : List X) (k : ℕ) (x : X) → list_all f xs ≡ true → slice_get xs k ≡ Some x → f x ≡ true
 each_true f [] k x all there = absurd (none-some x there)
-each_true f (y ∷ xs) zero x all there = ap f (sym (same_Some y x there)) ∙ and_left (f y) (list_all f xs) all
-each_true f (y ∷ xs) (suc k) x all there = each_true f xs k x (and_right (f y) (list_all f xs) all) there
+each_true f (y ∷ xs) zero x all there = ap f (sym (same_Some y x there)) ∙ first_of (f y) (list_all f xs) all
+each_true f (y ∷ xs) (suc k) x all there = each_true f xs k x (second_of (f y) (list_all f xs) all) there
 
 -- ---- by the stripes of the line
 
@@ -94,14 +91,14 @@ full_landed i w line plain full j inside = by (length (units_known i w line)) re
         let parts : length (units_known i w line) * (j / length (units_known i w line)) + j % length (units_known i w line) ≡ j = div-add-mod j (length (units_known i w line)) in
         let row : j / length (units_known i w line) < i.shape.clba / i.shape.ws_opt = lt_of_mul-lt-mul_left (length (units_known i w line)) (omega arith) in
         let whole : i.shape.clba ≡ i.shape.clba / i.shape.ws_opt * i.shape.ws_opt = stripes_in_chunk i.shape plain.accepted.drive.whole_stripes in
-        let unit = within_some (units_known i w line) (j % length (units_known i w line)) here in
+        let unit = got_within (units_known i w line) (j % length (units_known i w line)) here in
         let all : count_answered w line unit.0 * i.shape.ws_opt ≡ i.shape.clba = full unit.0 (j % length (units_known i w line)) unit.1 in
         let stripe : 0 < i.shape.ws_opt = plain.accepted.drive.ws_opt in
         let under : j / length (units_known i w line) * i.shape.ws_opt < i.shape.clba / i.shape.ws_opt * i.shape.ws_opt =
         (let next : (j / length (units_known i w line) + 1) * i.shape.ws_opt ≤ i.shape.clba / i.shape.ws_opt * i.shape.ws_opt = mul-le-mul_right i.shape.ws_opt (omega arith) in omega arith) in
         let below : j / length (units_known i w line) < count_answered w line unit.0 = lt_of_mul-lt-mul_right i.shape.ws_opt (omega arith) in
         let few : count_answered w line unit.0 ≤ length (stripes_at (log_of w 0) line unit.0) = answered_few w line unit.0 in
-        let at = within_some (stripes_at (log_of w 0) line unit.0) (j / length (units_known i w line)) (omega arith) in
+        let at = got_within (stripes_at (log_of w 0) line unit.0) (j / length (units_known i w line)) (omega arith) in
         let index : j / length (units_known i w line) * length (units_known i w line) + j % length (units_known i w line) ≡ j = omega arith in
         let there : slice_get (stripes_in (log_of w 0) line) j ≡ Some at.0 =
         ap (slice_get (stripes_in (log_of w 0) line)) (sym index) ∙ sym (column_stripes i w line unit.0 (j % length (units_known i w line)) (j / length (units_known i w line)) plain unit.1) ∙ at.1 in
@@ -152,7 +149,7 @@ all_over i w line plain opened full = of_units (known_image i (log_of w)) line i
     inside unit d there =
         let at = split_then (λ (cs : List Chunk). slice_get cs line) (slice_get (known_image i (log_of w)).units unit) d there in
         let within : unit < length (known_image i (log_of w)).units = slice_get_within (known_image i (log_of w)).units unit at.0 at.1 in
-        let count : length (known_image i (log_of w)).units ≡ length i.units = known_units i (log_of w) in
+        let count : length (known_image i (log_of w)).units ≡ length i.units = length_known i (log_of w) in
         let all : length i.units ≡ units i.shape = plain.fit.units in
         omega arith
 
@@ -176,7 +173,7 @@ all_have i w line o plain life n landed =
     ∙ ap (λ b. b && list_all (has_landed (log_of w 0)) (take n (stripes_in (log_of w 0) line))) (le_true n (length (stripes_in (log_of w 0) line)) (enough_stripes i w line n landed))
     ∙ all_true (has_landed (log_of w 0)) (take n (stripes_in (log_of w 0) line))
     (all_by_get (λ p. has_landed (log_of w 0) p ≡ true) (take n (stripes_in (log_of w 0) line)) (λ j p there.
-    let whole = get_whole n (stripes_in (log_of w 0) line) j p there in
+    let whole = get_whole_within n (stripes_in (log_of w 0) line) j p there in
     let at = landed j whole.1 in
     ap (has_landed (log_of w 0)) (same_Some p at.0 (sym whole.0 ∙ at.1)) ∙ at.2))
 
@@ -185,9 +182,9 @@ have_all i w line o plain life n have j inside =
     let same : stripes_of (log_of w 0) o ≡ stripes_in (log_of w 0) line = stripes_same (log_of w 0) line o (all_living i w plain) life in
     let now : (nat_le n (length (stripes_in (log_of w 0) line)) && list_all (has_landed (log_of w 0)) (take n (stripes_in (log_of w 0) line))) ≡ true =
     ap (λ ps. nat_le n (length ps) && list_all (has_landed (log_of w 0)) (take n ps)) (sym same) ∙ have in
-    let enough : n ≤ length (stripes_in (log_of w 0) line) = true_le n (length (stripes_in (log_of w 0) line)) (and_left _ _ now) in
-    let at = within_some (stripes_in (log_of w 0) line) j (omega arith) in
-    (at.0, at.1, each_true (has_landed (log_of w 0)) (take n (stripes_in (log_of w 0) line)) j at.0 (and_right _ _ now) (get_taken n (stripes_in (log_of w 0) line) j inside ∙ at.1))
+    let enough : n ≤ length (stripes_in (log_of w 0) line) = within_is n (length (stripes_in (log_of w 0) line)) (first_of _ _ now) in
+    let at = got_within (stripes_in (log_of w 0) line) j (omega arith) in
+    (at.0, at.1, each_true (has_landed (log_of w 0)) (take n (stripes_in (log_of w 0) line)) j at.0 (second_of _ _ now) (get_taken n (stripes_in (log_of w 0) line) j inside ∙ at.1))
 
 not_found : (i : Image) (w : World) (line : ℕ) (o : Opening) → life_of (log_of w 0) line ≡ Opened o → are_over i (log_of w) line ≡ list_all is_over (chunks_of (known_image i (log_of w)) line)
 not_found i w line o life = ap (λ l. list_all (λ c. is_over_state (is_as_found l) c.state) (chunks_of (known_image i (log_of w)) line)) life

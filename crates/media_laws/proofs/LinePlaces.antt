@@ -1,19 +1,17 @@
 -- Where each stripe of a line is placed: one after another over the line's units.
-use Rattle.std.proofs.Common.{◌≡◌, ℕ, ◌+◌, ◌-◌, ◌*◌, ◌/◌, ◌%◌, ◌<◌, ◌≤◌, ◌⊎◌, ◌==◌, nat_lt, suc, nat_eq, Bool, true, false, cond, Some, None, Option, List, [], ◌∷◌, ◌++◌, length, take, drop, replicate, refl, sym, subst, ap, ap₂, ◌∙◌, arith, if◌then◌else◌, inl, inr, append-nil, length-append, add-zero}
-use Rattle.std.specs.Prelude.{slice_get, slice_range, map}
+use Rattle.std.proofs.Common.{◌≡◌, ℕ, ◌+◌, ◌-◌, ◌*◌, ◌/◌, ◌%◌, ◌<◌, ◌≤◌, ◌⊎◌, ◌==◌, nat_lt, suc, nat_eq, Bool, true, false, cond, Some, None, Option, List, [], ◌∷◌, ◌++◌, length, take, replicate, refl, sym, subst, ap, ap₂, ◌∙◌, arith, if◌then◌else◌, inl, inr, append-nil, length-append, add-zero}
+use Rattle.std.specs.Prelude.{slice_get, map}
 use Rattle.std.specs.List.{filter}
 use Rattle.std.specs.Option.{option_map, option_to_list}
 use Rattle.std.specs.Int.{div_ceil}
 use Rattle.std.proofs.lemmas.Bool.{eqb-true}
-use Rattle.std.proofs.lemmas.List.{length-take-le, length-drop, length-take}
+use Rattle.std.proofs.lemmas.List.{length-take}
 use Rattle.std.proofs.lemmas.List.Elements.{filter-append}
-use Rattle.std.proofs.lemmas.Option.{same_Some, none-some}
+use Rattle.std.proofs.lemmas.Option.{none-some}
 use Rattle.std.proofs.Math.Nat.{mul-div_cancel, mul-mod_left, mul-le-mul_right, lt_of_mul-lt-mul_right, div-add-mod}
 use Rattle.pblk_model.specs.declared.shape.Shape.{Shape}
-use Rattle.pblk_model.specs.declared.chunk.Mark.{Mark}
 use Rattle.pblk_model.specs.Chunk.{Block}
-use Rattle.pblk_model.specs.Blocks.{blocks_of}
-use Rattle.pblk_model.specs.Marks.{meta_mark, pad_block}
+use Rattle.pblk_model.specs.Marks.{pad_block}
 use Rattle.pblk_model.specs.Accepted.{IsAccepted}
 use Rattle.pblk_model.specs.LineOrder.{column_of, block_of, start_len, end_len, data_len}
 use Rattle.pblk_model.specs.Image.{Image, line_units, width}
@@ -22,41 +20,34 @@ use Rattle.pblk_world.specs.World.{World, Logs, log_of, prefixes}
 use Rattle.pblk_world.specs.EngineLog.{Begun, begun, Opening, Opened, life_of, is_opened, Placed, placed_by, placements, stripes_of, has_failed, block_of_taken}
 use Rattle.pblk_world.specs.Fronts.{waiting}
 use Rattle.pblk_world.specs.Lines.{known_image, place_of, told_by}
-use Rattle.pblk_world.specs.Placing.{MayPlace, IsNext, IsStart, IsData, IsEnd, IsPad, next_address, end_address, line_end, record_blocks, start_blocks, end_blocks, padded, data_blocks}
+use Rattle.pblk_world.specs.Placing.{MayPlace, IsNext, IsStart, IsData, IsEnd, IsPad, next_address, end_address, line_end, start_blocks, end_blocks, padded, data_blocks}
 use Rattle.pblk_world.specs.Legal.{IsDecision}
 use Rattle.pblk_world.proofs.Appending.{placements_more}
 use Rattle.pblk_world.proofs.Growing.{at_end}
 use Rattle.core_laws.specs.PlainWorlds.{IsPlainWorld}
-use Rattle.core_laws.proofs.Lists.{all_at}
 use Rattle.core_laws.proofs.Turns.{filtered_is}
-use Rattle.stripe_placer.proofs.Among.{IsAmong, from_filter}
-use Rattle.stripe_placer.proofs.Rows.{length_map as length_mapped, length_replicate as length_replicated}
+use Rattle.stripe_placer.proofs.Rows.{length_map as length_mapped}
 use Rattle.pblk_laws.proofs.LineUnits.{line_units_count}
 use Rattle.media_laws.specs.Standing.{stripes_in}
-use Rattle.media_laws.proofs.Steps.{log_here, log_elsewhere, plain_tail, IsEngines, IsSomeones, whose}
+use Rattle.media_laws.proofs.Steps.{IsEngines, IsSomeones, whose}
 use Rattle.media_laws.proofs.Decisions.{IsFirst, IsLater, decided}
-use Rattle.media_laws.proofs.LineLives.{IsInLine, living, all_living, stripes_same, none_failed, placed_is, same_logged}
+use Rattle.media_laws.proofs.LineLives.{IsInLine, living, all_living, stripes_same, placed_is, same_logged}
 use Rattle.media_laws.proofs.Named.{known_whole_image}
 use Rattle.media_laws.proofs.OpenedUnits.{units_stay, known_quiet, IsWide, opened_wide}
+use Rattle.core_laws.proofs.PlainWorldsLemmas.{none_failed, plain_before}
+use Rattle.lemmas.proofs.Lists.{IsAmong, length_replicate}
+use Rattle.lemmas.proofs.Maps.{from_filter}
+use Rattle.lemmas.proofs.Options.{mapped_some}
+use Rattle.lemmas.proofs.Parts.{all_at, part_is_whole}
+use Rattle.pblk_model.proofs.LineOrderLemmas.{whole_line}
+use Rattle.pblk_world.proofs.PlacingLemmas.{length_record}
+use Rattle.pblk_world.proofs.WorldLemmas.{log_elsewhere, log_here}
 
 -- ---- how many blocks a stripe has
 
-slice_count : {X : Type 0} (xs : List X) (a n : ℕ) → a + n ≤ length xs → length (slice_range xs a (a + n)) ≡ n
-slice_count xs a n h =
-    let few : a + n - a ≡ n = omega arith in
-    let left : length (drop a xs) ≡ length xs - a = length-drop a xs in
-    length-take-le (a + n - a) (drop a xs) (omega arith) ∙ few
-
-pub cut_count : (size : ℕ) (bytes : List ℕ) (marks : List Mark) → length (blocks_of size bytes marks) ≡ length marks
-cut_count size bytes [] = refl
-cut_count size bytes (m ∷ marks) = ap suc (cut_count size (drop size bytes) marks)
-
-pub record_count : (s : Shape) (seq count : ℕ) (bytes : List ℕ) → length (record_blocks s seq count bytes) ≡ count
-record_count s seq count bytes = cut_count s.sector bytes (replicate count (meta_mark seq)) ∙ length_replicated count (meta_mark seq)
-
 padded_count : (s : Shape) (bs : List Block) → length bs ≤ s.ws_opt → length (padded s bs) ≡ s.ws_opt
 padded_count s bs few =
-    let more : length (replicate (s.ws_opt - length bs) (pad_block s)) ≡ s.ws_opt - length bs = length_replicated (s.ws_opt - length bs) (pad_block s) in
+    let more : length (replicate (s.ws_opt - length bs) (pad_block s)) ≡ s.ws_opt - length bs = length_replicate (s.ws_opt - length bs) (pad_block s) in
     let all : length (padded s bs) ≡ length bs + length (replicate (s.ws_opt - length bs) (pad_block s)) = length-append bs (replicate (s.ws_opt - length bs) (pad_block s)) in
     omega arith
 
@@ -86,12 +77,6 @@ data_by between w = by (nat_lt between w)
     by true h = absurd (omega arith)
     by false h = refl
 
--- of a line of so many units
-pub parts_of : (s : Shape) (g : ℕ) → 0 < data_len s g → start_len s + data_len s g + end_len s g ≡ g * s.clba
-parts_of s g some =
-    let is : data_len s g ≡ g * s.clba - start_len s - end_len s g = data_by (g * s.clba - start_len s - end_len s g) s.ws_opt some in
-    omega arith
-
 -- ---- addresses
 
 -- the place of the address at which a stripe begins
@@ -119,21 +104,13 @@ pub record IsPlacedIn (s : Shape) (us : List ℕ) (line j : ℕ) (stripe : Strip
   pub within : j * s.ws_opt < length us * s.clba
   pub in_range : line < s.chunks
 
-found_unit : (o : Option ℕ) (b unit at : ℕ) → option_map {U = ℕ × ℕ} (λ u. (u, b)) o ≡ Some (unit, at) → (o ≡ Some unit) × (at ≡ b)
-found_unit None b unit at e = absurd (none-some (unit, at) e)
-found_unit (Some u) b unit at e =
-    let here : ℕ × ℕ = (u, b) in
-    let there : ℕ × ℕ = (unit, at) in
-    let same : here ≡ there = same_Some here there e in
-    (ap (λ (p : ℕ × ℕ). Some p.0) same, ap (λ (p : ℕ × ℕ). p.1) (sym same))
-
 -- by where it is next, and how long it is
 next_in : (i : Image) (logs : Logs) (us : List ℕ) (stripe : Stripe) (o : Opening) → IsAccepted i.shape → line_units (known_image i logs) stripe.line ≡ us → stripe.line < i.shape.chunks → stripe.chunk ≡ stripe.line
     → IsNext i logs o stripe → length stripe.blocks ≡ i.shape.ws_opt → next_address i.shape (logs 0) o < length us * i.shape.clba
     → IsPlacedIn i.shape us stripe.line (length (stripes_of (logs 0) o)) stripe
 next_in i logs us stripe o accepted is range chunk next count within =
     let j : ℕ = length (stripes_of (logs 0) o) in
-    let there = found_unit (slice_get us (j % length us)) (j / length us * i.shape.ws_opt) stripe.unit stripe.at (sym (place_of_stripe (known_image i logs) stripe.line j us accepted.drive.ws_opt is) ∙ next.in_order) in
+    let there = mapped_some (slice_get us (j % length us)) (j / length us * i.shape.ws_opt) stripe.unit stripe.at (sym (place_of_stripe (known_image i logs) stripe.line j us accepted.drive.ws_opt is) ∙ next.in_order) in
     record { unit = there.0; at = there.1; of_line = refl; chunk = chunk; count = count; within = within; in_range = range }
 
 start_counts : (i : Image) (logs : Logs) (o : Opening) (stripe : Stripe) → IsStart i logs o stripe → length stripe.blocks ≡ i.shape.ws_opt
@@ -141,32 +118,32 @@ start_counts i logs o stripe h =
     let s : Shape = i.shape in
     let a : ℕ = length (stripes_of (logs 0) o) * s.ws_opt in
     let k : ℕ = div_ceil (64 + 24 * (s.chunks - 1)) (s.ws_opt * s.sector) in
-    let long : length (start_blocks s o) ≡ start_len s = record_count s o.start.seq (start_len s) _ in
+    let long : length (start_blocks s o) ≡ start_len s = length_record s o.start.seq (start_len s) _ in
     let within : a < start_len s = h.within in
     let commuted : start_len s ≡ k * s.ws_opt = omega arith in
     let fits : a + s.ws_opt ≤ k * s.ws_opt = next_fits s.ws_opt (length (stripes_of (logs 0) o)) k (omega arith) in
-    ap length h.blocks ∙ slice_count (start_blocks s o) (a - 0) s.ws_opt (omega arith)
+    ap length h.blocks ∙ part_is_whole (start_blocks s o) (a - 0) s.ws_opt (omega arith)
 
 end_counts : (i : Image) (logs : Logs) (o : Opening) (stripe : Stripe) → IsAccepted i.shape → 0 < data_len i.shape o.start.width → IsEnd i logs o stripe → length stripe.blocks ≡ i.shape.ws_opt
 end_counts i logs o stripe accepted some h =
     let s : Shape = i.shape in
     let a : ℕ = length (stripes_of (logs 0) o) * s.ws_opt in
-    let long : length (end_blocks s (logs 0) o) ≡ end_len s o.start.width = record_count s o.start.seq (end_len s o.start.width) _ in
+    let long : length (end_blocks s (logs 0) o) ≡ end_len s o.start.width = length_record s o.start.seq (end_len s o.start.width) _ in
     let whole : s.clba ≡ s.clba / s.ws_opt * s.ws_opt = stripes_in_chunk s accepted.drive.whole_stripes in
     let total : line_end s o ≡ o.start.width * (s.clba / s.ws_opt) * s.ws_opt = ap (λ n. o.start.width * n) whole ∙ (let same : o.start.width * (s.clba / s.ws_opt * s.ws_opt) ≡ o.start.width * (s.clba / s.ws_opt) * s.ws_opt = omega arith in same) in
     let within : a < line_end s o = h.within in
     let fits : a + s.ws_opt ≤ o.start.width * (s.clba / s.ws_opt) * s.ws_opt = next_fits s.ws_opt (length (stripes_of (logs 0) o)) (o.start.width * (s.clba / s.ws_opt)) (omega arith) in
     let from : end_address s o ≤ a = h.from in
-    let parts : end_address s o + end_len s o.start.width ≡ line_end s o = parts_of s o.start.width some in
+    let parts : end_address s o + end_len s o.start.width ≡ line_end s o = whole_line s o.start.width some in
     let room : a - end_address s o + s.ws_opt ≤ length (end_blocks s (logs 0) o) = omega arith in
-    ap length h.blocks ∙ slice_count (end_blocks s (logs 0) o) (a - end_address s o) s.ws_opt room
+    ap length h.blocks ∙ part_is_whole (end_blocks s (logs 0) o) (a - end_address s o) s.ws_opt room
 
 pub next_placed : (i : Image) (w : World) (logs : Logs) (us : List ℕ) (stripe : Stripe) → IsPlainWorld i w → logs 0 ≡ log_of w 0 → line_units (known_image i logs) stripe.line ≡ us → (may : MayPlace i logs stripe)
     → may.opening.start.width ≡ length us → 0 < data_len i.shape may.opening.start.width → IsPlacedIn i.shape us stripe.line (length (stripes_of (logs 0) may.opening)) stripe
 next_placed i w logs us stripe plain own is may width some = go may.kind
   where
     parts : start_len i.shape + data_len i.shape may.opening.start.width + end_len i.shape may.opening.start.width ≡ may.opening.start.width * i.shape.clba
-    parts = parts_of i.shape may.opening.start.width some
+    parts = whole_line i.shape may.opening.start.width some
 
     within : next_address i.shape (logs 0) may.opening < may.opening.start.width * i.shape.clba → next_address i.shape (logs 0) may.opening < length us * i.shape.clba
     within below = subst (λ g. next_address i.shape (logs 0) may.opening < g * i.shape.clba) width below
@@ -204,7 +181,7 @@ stripe_opened i w line j p plain there =
 
 places_before : (i : Image) (s : Step) (w : World) (line j : ℕ) (p : Placed) → IsPlainWorld i (s ∷ w) → ArePlacedIn i w → slice_get (stripes_in (log_of w 0) line) j ≡ Some p → IsPlacedIn i.shape (units_known i (s ∷ w) line) line j p.stripe
 places_before i s w line j p plain h there =
-    subst (λ us. IsPlacedIn i.shape us line j p.stripe) (sym (units_stay i s w line plain (stripe_opened i w line j p (plain_tail i s w plain) there))) (h line j p there)
+    subst (λ us. IsPlacedIn i.shape us line j p.stripe) (sym (units_stay i s w line plain (stripe_opened i w line j p (plain_before i s w plain) there))) (h line j p there)
 
 places_later : (i : Image) (s : Step) (w : World) (b : Begun) → IsPlainWorld i (s ∷ w) → (e : IsEngines i s w) → begun (log_of w 0) ≡ Some b → IsDecision i (prefixes s.logged (log_of w)) b e.event → ArePlacedIn i w
     → (line j : ℕ) (p : Placed) → slice_get (stripes_in (log_of w 0 ++ s.logged ∷ []) line) j ≡ Some p → IsPlacedIn i.shape (units_known i (s ∷ w) line) line j p.stripe
@@ -212,7 +189,7 @@ places_later i s w b plain e begun_is may h line j p there =
     go (placed_by (log_of w 0) (length (log_of w 0)) s.logged.event) refl (ap (λ ps. slice_get ps j) (sym (stripes_more (log_of w 0) s.logged line)) ∙ there)
   where
     world : IsPlainWorld i w
-    world = plain_tail i s w plain
+    world = plain_before i s w plain
 
     logs : Logs
     logs = prefixes s.logged (log_of w)
@@ -266,4 +243,4 @@ places_by i s w plain h (inl e) line j p there = go (decided i (prefixes s.logge
 
 pub placed_in : (i : Image) (w : World) → IsPlainWorld i w → ArePlacedIn i w
 placed_in i [] plain = λ line j p there. absurd (none-some p there)
-placed_in i (s ∷ w) plain = places_by i s w plain (placed_in i w (plain_tail i s w plain)) (whose i s w plain)
+placed_in i (s ∷ w) plain = places_by i s w plain (placed_in i w (plain_before i s w plain)) (whose i s w plain)

@@ -12,16 +12,16 @@ use Rattle.pblk_world.specs.EngineLog.{Placed, turn, answers, has_landed, was_lo
 use Rattle.pblk_world.specs.Space.{landed_blocks, is_readable_in}
 use Rattle.pblk_world.specs.Commanding.{ended_stripes}
 use Rattle.core_laws.specs.PlainWorlds.{IsPlainWorld}
-use Rattle.core_laws.proofs.Rows.{other_number}
-use Rattle.core_laws.proofs.Lists.{filter_agree, got_within as within_some, none_any}
-use Rattle.pblk_laws.proofs.Lists.{all_by_get, all_take}
-use Rattle.stripe_placer.proofs.Chunks.{lt_yes as is_below}
 use Rattle.media_laws.specs.Standing.{state_at, blocks_of_stripes, is_programmed}
 use Rattle.media_laws.proofs.Order.{stripes_at}
-use Rattle.media_laws.proofs.LineLives.{all_living, stripes_same, not_lost}
+use Rattle.media_laws.proofs.LineLives.{all_living, stripes_same}
 use Rattle.media_laws.proofs.Answers.{fewer_answers}
 use Rattle.media_laws.proofs.LineColumns.{chunk_stripe, column_of_unit, long_stripes, blocks_count, firsts_in}
 use Rattle.media_laws.proofs.LineWritten.{programmed, answered, count_programmed, count_answered, landed_is, on_unit, standing_chunk}
+use Rattle.core_laws.proofs.PlainWorldsLemmas.{not_lost}
+use Rattle.lemmas.proofs.Maps.{filter_agree, none_any}
+use Rattle.lemmas.proofs.Parts.{all_by_get, all_taken, got_within}
+use Rattle.lemmas.proofs.Tests.{lt_more, other_number}
 
 -- ---- counts
 
@@ -35,9 +35,6 @@ fewer_pass {X} f g says (x ∷ xs) = by (f x) (g x) (says x) (fewer_pass f g say
     by false true says rest = omega arith
     by false false says rest = rest
 
-lt_more : (t a n : ℕ) → a ≤ n → nat_lt t a ≡ true → nat_lt t n ≡ true
-lt_more t a n more h = let below : t < a = grind arith in is_below t n (omega arith)
-
 pub fewer_landed : (i : Image) (w : World) (line unit : ℕ) → IsPlainWorld i w → count_answered w line unit ≤ count_programmed w line unit
 fewer_landed i w line unit plain = fewer_pass (answered w unit) (programmed w unit)
     (λ p is. lt_more (turn (log_of w 0) p) (length (answers (log_of w 0) unit)) (ended_stripes (log_of w (suc unit))) (fewer_answers i w unit plain) is) (stripes_at (log_of w 0) line unit)
@@ -46,7 +43,7 @@ fewer_landed i w line unit plain = fewer_pass (answered w unit) (programmed w un
 count_fits : (i : Image) (w : World) (line unit n : ℕ) → IsPlainWorld i w → n ≤ length (stripes_at (log_of w 0) line unit) → n * i.shape.ws_opt ≤ i.shape.clba
 count_fits i w line unit zero plain few = omega arith
 count_fits i w line unit (suc n) plain few =
-    let at = within_some (stripes_at (log_of w 0) line unit) n (omega arith) in
+    let at = got_within (stripes_at (log_of w 0) line unit) n (omega arith) in
     let column = column_of_unit i w line unit n at.0 plain at.1 in
     let fits : n * i.shape.ws_opt + i.shape.ws_opt ≤ i.shape.clba = (chunk_stripe i w line unit column.0 n at.0 plain column.1 at.1).fits in omega arith
 
@@ -76,7 +73,7 @@ pub passed_blocks : (i : Image) (w : World) (line unit n : ℕ) → IsPlainWorld
 passed_blocks i w line unit n plain =
     blocks_count i.shape.ws_opt (filter (λ p. nat_lt (turn (log_of w 0) p) n) (stripes_at (log_of w 0) line unit))
     (subst (AllByRecursion (λ (p : Placed). length p.stripe.blocks ≡ i.shape.ws_opt)) (sym (firsts_in (log_of w 0) unit line n))
-    (all_take (λ (p : Placed). length p.stripe.blocks ≡ i.shape.ws_opt) (length (filter (λ p. nat_lt (turn (log_of w 0) p) n) (stripes_at (log_of w 0) line unit))) (stripes_at (log_of w 0) line unit) (long_stripes i w line unit plain)))
+    (all_taken (λ (p : Placed). length p.stripe.blocks ≡ i.shape.ws_opt) (length (filter (λ p. nat_lt (turn (log_of w 0) p) n) (stripes_at (log_of w 0) line unit))) (stripes_at (log_of w 0) line unit) (long_stripes i w line unit plain)))
 
 -- ---- the stripes of an opening on a unit
 

@@ -17,9 +17,8 @@ use Rattle.pblk_world.specs.Victims.{is_freed}
 use Rattle.pblk_world.specs.Space.{landed_blocks, is_readable_in}
 use Rattle.pblk_world.specs.Commanding.{ended_stripes}
 use Rattle.core_laws.specs.PlainWorlds.{IsPlainWorld}
-use Rattle.core_laws.proofs.Lists.{is_in}
 use Rattle.pblk_laws.specs.LineBlocks.{chunk_in}
-use Rattle.stripe_placer.proofs.Chunks.{lt_yes as is_below, lt_of as lt_true}
+use Rattle.stripe_placer.proofs.Chunks.{lt_of as lt_true}
 use Rattle.media_laws.specs.Standing.{chunk_with, blocks_of_stripes, stripes_in, is_programmed}
 use Rattle.media_laws.proofs.Order.{stripes_at}
 use Rattle.media_laws.proofs.Decisions.{never_freed}
@@ -38,6 +37,8 @@ use Rattle.media_laws.proofs.LinePlaces.{units_known, IsPlacedIn, placed_in, pla
 use Rattle.media_laws.proofs.LineColumns.{IsColumn, IsChunkStripe, chunk_stripe, column_of_unit}
 use Rattle.media_laws.proofs.LineWritten.{answered, count_answered, answered_by, landed_is, on_unit, standing_chunk, written_chunk, known_chunk_there, block_at_address}
 use Rattle.media_laws.proofs.LineReadable.{stripes_on_are, landed_at, programmed_at, landed_count, readable}
+use Rattle.lemmas.proofs.Parts.{is_in}
+use Rattle.lemmas.proofs.Tests.{lt_more}
 
 -- ---- places
 
@@ -98,9 +99,6 @@ left_offline i w line unit plain opened inside apart = go (opened_chunk i w unit
     go (inl (kept, written)) =
         let at = on_unit_there (known_image i (log_of w)) line unit (known_on i w unit line plain opened inside range ∙ kept) in
         absurd (apart (is_in (line_units (known_image i (log_of w)) line) at.0 unit at.1))
-
-lt_more : (t a n : ℕ) → a ≤ n → nat_lt t a ≡ true → nat_lt t n ≡ true
-lt_more t a n more h = let below : t < a = grind arith in is_below t n (omega arith)
 
 pub landed_is_programmed : (i : Image) (w : World) (p : Placed) → IsPlainWorld i w → has_landed (log_of w 0) p ≡ true → is_programmed (log_of w) p ≡ true
 landed_is_programmed i w p plain landed = lt_more (turn (log_of w 0) p) (length (answers (log_of w 0) p.stripe.unit)) (ended_stripes (log_of w (suc p.stripe.unit))) (fewer_answers i w p.stripe.unit plain)

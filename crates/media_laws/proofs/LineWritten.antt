@@ -23,24 +23,25 @@ use Rattle.pblk_world.specs.EngineLog.{Placed, placed_on, turn, answers, Answer,
 use Rattle.pblk_world.specs.Lines.{known_image, place_of}
 use Rattle.pblk_world.specs.Commanding.{ended_stripes}
 use Rattle.core_laws.specs.PlainWorlds.{ArePlain, IsPlainWorld}
-use Rattle.core_laws.proofs.Lists.{all_filter, get_taken}
-use Rattle.core_laws.proofs.Rows.{same_number, other_number}
-use Rattle.core_laws.proofs.Placing.{not_below, weaker}
+use Rattle.core_laws.proofs.Placing.{not_below}
 use Rattle.core_laws.proofs.Turns.{filtered_is}
 use Rattle.pblk_laws.specs.LineBlocks.{chunk_in, written_at}
 use Rattle.pblk_laws.proofs.LineUnits.{line_units_chunks, line_units_count}
-use Rattle.pblk_laws.proofs.Lists.{all_take}
-use Rattle.stripe_placer.proofs.Chunks.{lt_yes as is_below}
 use Rattle.media_laws.specs.Standing.{state_at, chunk_with, blocks_of_stripes, stripes_in, is_programmed}
 use Rattle.media_laws.proofs.Order.{stripes_first, stripes_at}
 use Rattle.media_laws.proofs.LineLives.{IsLand, answers_land}
-use Rattle.media_laws.proofs.UnitCounts.{known_units}
 use Rattle.media_laws.proofs.History.{filled, firsts}
 use Rattle.media_laws.proofs.OpenedChunks.{is_kept, IsWritten, IsOpenedChunk, opened_chunk}
 use Rattle.media_laws.proofs.OpenedUnits.{known_on, unit_on, unit_within, opened_in_range, media_line_units}
 use Rattle.media_laws.proofs.WrittenBlocks.{filled_is}
 use Rattle.media_laws.proofs.LinePlaces.{units_known, IsPlacedIn, placed_in, stripe_opened}
 use Rattle.media_laws.proofs.LineColumns.{IsColumn, column_stripes, IsChunkStripe, chunk_stripe, column_of_unit, long_stripes, blocks_count, block_get, firsts_in, next_in}
+use Rattle.lemmas.proofs.Lists.{all_imply}
+use Rattle.lemmas.proofs.Maps.{all_filter}
+use Rattle.lemmas.proofs.Parts.{all_taken, get_taken}
+use Rattle.lemmas.proofs.Tests.{lt_true, other_number, same_number}
+use Rattle.pblk_laws.proofs.LineBlocksLemmas.{from_chunk}
+use Rattle.pblk_world.proofs.LinesLemmas.{length_known}
 
 -- ---- the place of any address
 
@@ -59,13 +60,6 @@ place_in_units img line j r us inside is =
 
 -- the block at an address is that of its place
 
-from_chunk : (i : Image) (line b : ℕ) (o : Option ℕ) (unit block : ℕ) → option_map {U = ℕ × ℕ} (λ u. (u, b)) o ≡ Some (unit, block)
-    → option_and_then (λ (c : Chunk). slice_get c.blocks b) (option_and_then (chunk_in i line) o) ≡ written_at i line (unit, block)
-from_chunk i line b None unit block h = absurd (none-some (unit, block) h)
-from_chunk i line b (Some u) unit block h =
-    let same : (u, b) ≡ (unit, block) = same_Some (u, b) (unit, block) h in
-    ap (λ (p : ℕ × ℕ). written_at i line p) same
-
 pub block_of_place : (i : Image) (line a unit block : ℕ) → place_of i line a ≡ Some (unit, block) → block_at i line a ≡ written_at i line (unit, block)
 block_of_place i line a unit block h =
     ap (option_and_then (λ (c : Chunk). slice_get c.blocks (block_of i.shape (width i line) a))) (line_units_chunks i line (column_of i.shape (width i line) a))
@@ -78,7 +72,7 @@ lt_suc m n = go (cases_order m n)
   where
     go : (m ≡ n) ⊎ ((m < n) ⊎ (n < m)) → nat_lt (suc m) (suc n) ≡ nat_lt m n
     go (inl e) = not_below (suc n) (suc m) (omega arith) ∙ sym (not_below n m (omega arith))
-    go (inr (inl e)) = is_below (suc m) (suc n) (omega arith) ∙ sym (is_below m n e)
+    go (inr (inl e)) = lt_true (suc m) (suc n) (omega arith) ∙ sym (lt_true m n e)
     go (inr (inr e)) = not_below (suc n) (suc m) (omega arith) ∙ sym (not_below n m (omega arith))
 
 none_pass : {X : Type 0} (f : X → Bool) (xs : List X) (k : ℕ) (x : X) → filter f xs ≡ [] → slice_get xs k ≡ Some x → f x ≡ false
@@ -103,7 +97,7 @@ first_pass {X} f (y ∷ xs) k x is there = by (f y) refl is k there (λ e j at. 
     by : (b : Bool) → f y ≡ b → cond b (y ∷ filter f xs) (filter f xs) ≡ take (length (cond b (y ∷ filter f xs) (filter f xs))) (y ∷ xs) → (k : ℕ) → slice_get (y ∷ xs) k ≡ Some x
         → (filter f xs ≡ take (length (filter f xs)) xs → (j : ℕ) → slice_get xs j ≡ Some x → f x ≡ nat_lt j (length (filter f xs)))
         → (zs : List X) → filter f xs ≡ zs → f x ≡ nat_lt k (length (cond b (y ∷ filter f xs) (filter f xs)))
-    by true e is zero there rest zs whole = ap f (sym (same_Some y x there)) ∙ e ∙ sym (is_below 0 (suc (length (filter f xs))) (omega arith))
+    by true e is zero there rest zs whole = ap f (sym (same_Some y x there)) ∙ e ∙ sym (lt_true 0 (suc (length (filter f xs))) (omega arith))
     by true e is (suc k) there rest zs whole = rest (tails y y (filter f xs) (take (length (filter f xs)) xs) is) k there ∙ sym (lt_suc k (length (filter f xs)))
     by false e is k there rest [] whole = none_at k there ∙ sym (not_below (length (filter f xs)) k (let none : length (filter f xs) ≡ 0 = ap length whole in omega arith))
       where
@@ -139,7 +133,7 @@ answered_by w line unit k p there = first_pass (answered w unit) (stripes_at (lo
 
 land_by : (xs : List Answer) (t : ℕ) → AllByRecursion IsLand xs → is_land (slice_get xs t) ≡ nat_lt t (length xs)
 land_by [] t all = sym (not_below 0 t (omega arith))
-land_by (DidLand event ∷ xs) zero all = sym (is_below 0 (suc (length xs)) (omega arith))
+land_by (DidLand event ∷ xs) zero all = sym (lt_true 0 (suc (length xs)) (omega arith))
 land_by (WasLost event ∷ xs) t all = absurd all.0
 land_by (DidLand event ∷ xs) (suc t) all = land_by xs t all.1 ∙ sym (lt_suc t (length xs))
 
@@ -161,7 +155,7 @@ block_by i w line unit count k r p plain there inside = go (cases_order k count)
     ps = stripes_at (log_of w 0) line unit
 
     long : AllByRecursion (λ (p : Placed). length p.stripe.blocks ≡ i.shape.ws_opt) (take count (stripes_at (log_of w 0) line unit))
-    long = all_take (λ (p : Placed). length p.stripe.blocks ≡ i.shape.ws_opt) count (stripes_at (log_of w 0) line unit) (long_stripes i w line unit plain)
+    long = all_taken (λ (p : Placed). length p.stripe.blocks ≡ i.shape.ws_opt) count (stripes_at (log_of w 0) line unit) (long_stripes i w line unit plain)
 
     total : length (blocks_of_stripes (take count (stripes_at (log_of w 0) line unit))) ≡ length (take count (stripes_at (log_of w 0) line unit)) * i.shape.ws_opt
     total = blocks_count i.shape.ws_opt (take count (stripes_at (log_of w 0) line unit)) long
@@ -177,7 +171,7 @@ block_by i w line unit count k r p plain there inside = go (cases_order k count)
     go (inl e) = past (omega arith)
     go (inr (inl below)) =
         block_get i.shape.ws_opt (take count (stripes_at (log_of w 0) line unit)) k r p long (get_taken count (stripes_at (log_of w 0) line unit) k below ∙ there) inside
-        ∙ ap (λ b. if b then slice_get p.stripe.blocks r else None) (sym (is_below k count below))
+        ∙ ap (λ b. if b then slice_get p.stripe.blocks r else None) (sym (lt_true k count below))
     go (inr (inr above)) = past (omega arith)
 
 -- the chunk that the media has
@@ -197,7 +191,7 @@ some_blocks : (i : Image) (w : World) (line unit n : ℕ) → IsPlainWorld i w �
 some_blocks i w line unit n plain =
     subst (AllByRecursion (λ (p : Placed). 0 < length p.stripe.blocks)) (sym (stripes_first (log_of w 0) unit line n))
     (all_filter (λ (p : Placed). 0 < length p.stripe.blocks) (λ (p : Placed). nat_lt (turn (log_of w 0) p) n) (stripes_at (log_of w 0) line unit)
-    (weaker (λ (p : Placed). length p.stripe.blocks ≡ i.shape.ws_opt) (λ (p : Placed). 0 < length p.stripe.blocks) (λ p is. (let some : 0 < i.shape.ws_opt = plain.accepted.drive.ws_opt in omega arith)) (stripes_at (log_of w 0) line unit) (long_stripes i w line unit plain)))
+    (all_imply (λ (p : Placed). length p.stripe.blocks ≡ i.shape.ws_opt) (λ (p : Placed). 0 < length p.stripe.blocks) (λ p is. (let some : 0 < i.shape.ws_opt = plain.accepted.drive.ws_opt in omega arith)) (stripes_at (log_of w 0) line unit) (long_stripes i w line unit plain)))
 
 chunk_of_firsts : (i : Image) (w : World) (line unit n : ℕ) → IsPlainWorld i w → ◌≡◌ {A = Chunk} (filled i.shape free_chunk (firsts (log_of w 0) unit line n)) (chunk_with i.shape (blocks_of_stripes (filter (λ p. nat_lt (turn (log_of w 0) p) n) (stripes_at (log_of w 0) line unit))))
 chunk_of_firsts i w line unit n plain = filled_is i.shape (firsts (log_of w 0) unit line n) (some_blocks i w line unit n plain) ∙ ap (λ ps. chunk_with i.shape (blocks_of_stripes ps)) (stripes_first (log_of w 0) unit line n)
@@ -205,7 +199,7 @@ chunk_of_firsts i w line unit n plain = filled_is i.shape (firsts (log_of w 0) u
 its_unit : (i : Image) (w : World) (line unit c : ℕ) → IsPlainWorld i w → IsColumn i w line unit c → unit < units i.shape
 its_unit i w line unit c plain its =
     let within : unit < length (known_image i (log_of w)).units = unit_within (known_image i (log_of w)) line unit (unit_on (known_image i (log_of w)) line c unit its) in
-    let count : length (known_image i (log_of w)).units ≡ length i.units = known_units i (log_of w) in
+    let count : length (known_image i (log_of w)).units ≡ length i.units = length_known i (log_of w) in
     let all : length i.units ≡ units i.shape = plain.fit.units in
     omega arith
 
@@ -268,7 +262,7 @@ takes_place s wp n some whole fits =
 takes_write : (s : Shape) (wp n : ℕ) → 0 < n → n % s.ws_min ≡ 0 → wp + n ≤ s.clba → write_refusal_in s (state_at s wp) wp wp n ≡ None
 takes_write s wp n some whole fits =
     let below : wp < s.clba = omega arith in
-    ap (λ b. write_refusal_in s (if wp == 0 then states.Free else (if b then states.Open else states.Closed)) wp wp n) (is_below wp s.clba below)
+    ap (λ b. write_refusal_in s (if wp == 0 then states.Free else (if b then states.Open else states.Closed)) wp wp n) (lt_true wp s.clba below)
     ∙ by (nat_eq wp 0)
   where
     by : (b : Bool) → write_refusal_in s (if b then states.Free else states.Open) wp wp n ≡ None

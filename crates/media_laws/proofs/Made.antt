@@ -2,7 +2,6 @@
 use Rattle.std.proofs.Common.{◌≡◌, ℕ, ◌+◌, ◌<◌, ◌≤◌, ◌⊎◌, ◌==◌, zero, suc, Bool, true, false, Some, List, [], ◌∷◌, ◌++◌, length, take, refl, sym, subst, ap, ◌∙◌, arith, if◌then◌else◌, inl, inr, length-append}
 use Rattle.std.specs.Prelude.{slice_get}
 use Rattle.std.proofs.lemmas.Bool.{eqb-true}
-use Rattle.std.proofs.lemmas.List.{take-append-le}
 use Rattle.std.proofs.Math.Seq.{take-length}
 use Rattle.std.proofs.lemmas.Option.{same_Some, none-some, slice_get_within}
 use Rattle.pblk_model.specs.Shape.{units}
@@ -13,17 +12,11 @@ use Rattle.pblk_world.specs.World.{World, Logs, log_of, prefixes, knows_engine, 
 use Rattle.pblk_world.specs.Commanding.{MayDo}
 use Rattle.pblk_world.proofs.Growing.{at_end}
 use Rattle.core_laws.specs.PlainWorlds.{is_plain_outcome, IsPlainWorld}
-use Rattle.media_laws.proofs.Steps.{plain_tail, IsUnits, IsSomeones, whose, named_within}
+use Rattle.media_laws.proofs.Steps.{IsUnits, IsSomeones, whose, named_within}
+use Rattle.core_laws.proofs.PlainWorldsLemmas.{plain_before}
+use Rattle.pblk_world.proofs.EventsLemmas.{still_first, still_within}
 
 -- ---- logs that grow
-
-pub still_first : (log : List Logged) (l : Logged) (b : Bool) (n : ℕ) → n ≤ length log → take n (if b then log ++ l ∷ [] else log) ≡ take n log
-still_first log l true n within = take-append-le n log (l ∷ []) within
-still_first log l false n within = refl
-
-pub still_within : (log : List Logged) (l : Logged) (b : Bool) (n : ℕ) → n ≤ length log → n ≤ length (if b then log ++ l ∷ [] else log)
-still_within log l true n within = omega (arith, length-append log (l ∷ []))
-still_within log l false n within = within
 
 -- ---- events of units
 
@@ -86,7 +79,7 @@ made_by i s w unit n l e plain is before true author there = go (at_end (log_of 
 
 pub made : (i : Image) (w : World) (unit n : ℕ) (l : Logged) (e : UnitEvent) → IsPlainWorld i w → slice_get (log_of w (suc unit)) n ≡ Some l → unit_event_of l.event ≡ Some e → IsMade i w unit n l e
 made i [] unit n l e plain there is = absurd (none-some l there)
-made i (s ∷ w) unit n l e plain there is = made_by i s w unit n l e plain is (λ old. made i w unit n l e (plain_tail i s w plain) old is) (s.author == suc unit) refl there
+made i (s ∷ w) unit n l e plain there is = made_by i s w unit n l e plain is (λ old. made i w unit n l e (plain_before i s w plain) old is) (s.author == suc unit) refl there
 
 -- ---- prefixes of the engine's log
 
@@ -122,4 +115,4 @@ world_by i s w k plain before true author few = go (k == length (log_of w 0) + 1
 pub world_at : (i : Image) (w : World) (k : ℕ) → IsPlainWorld i w → k ≤ length (log_of w 0) → IsWorldAt i w k
 world_at i [] zero plain few = record { world = []; plain = plain; engine = refl }
 world_at i [] (suc k) plain few = absurd (omega arith)
-world_at i (s ∷ w) k plain few = world_by i s w k plain (λ old. world_at i w k (plain_tail i s w plain) old) (s.author == 0) refl few
+world_at i (s ∷ w) k plain few = world_by i s w k plain (λ old. world_at i w k (plain_before i s w plain) old) (s.author == 0) refl few

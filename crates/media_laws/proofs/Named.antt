@@ -4,23 +4,25 @@ use Rattle.std.specs.Prelude.{⊤, slice_get, slice_index, map}
 use Rattle.std.specs.List.{AllByRecursion, Contains, filter_map, cons_option, enumerate_from}
 use Rattle.std.specs.Option.{option_and_then}
 use Rattle.std.proofs.lemmas.Bool.{eqb-true}
-use Rattle.std.proofs.lemmas.Option.{same_Some, none-some}
 use Rattle.std.proofs.lemmas.List.{take-take as take_again}
 use Rattle.pblk_model.specs.Chunk.{Chunk}
 use Rattle.pblk_model.specs.UnitLog.{UnitEvent, after_log}
 use Rattle.pblk_model.specs.Image.{Image}
-use Rattle.pblk_world.specs.Events.{EngineEvent, Begin, Take, Open, Place, Landed, Lost, Again, ResetDone, Free, Event, Decides, Does, Logged, Step}
+use Rattle.pblk_world.specs.Events.{EngineEvent, Begin, Take, Open, Place, Landed, Lost, Again, ResetDone, Free, Event, Decides, Logged, Step}
 use Rattle.pblk_world.specs.World.{World, Logs, log_of, known, prefixes, cut_logs, media, unit_events, unit_event_of}
-use Rattle.pblk_world.specs.EngineLog.{Begun, begun, begun_by}
+use Rattle.pblk_world.specs.EngineLog.{Begun, begun}
 use Rattle.pblk_world.specs.Lines.{found_by, found_image, known_image, told_by, told_events}
 use Rattle.pblk_world.specs.Legal.{IsLegal, IsLegalStep, IsDecision}
 use Rattle.core_laws.specs.PlainWorlds.{is_plain_decision, IsPlainWorld}
-use Rattle.core_laws.proofs.Lists.{fun_same, get_taken, is_in, with_last}
-use Rattle.pblk_laws.proofs.Lists.{all_by_get}
-use Rattle.media_laws.proofs.Steps.{log_here, log_elsewhere, plain_tail, IsSomeones, whose}
+use Rattle.media_laws.proofs.Steps.{IsSomeones, whose}
 use Rattle.media_laws.proofs.Decisions.{IsFirst, IsLater, decided}
-use Rattle.media_laws.proofs.Growing.{get_whole}
 use Rattle.media_laws.proofs.ToldEvents.{told, told_are}
+use Rattle.core_laws.proofs.PlainWorldsLemmas.{plain_before}
+use Rattle.lemmas.proofs.Lists.{with_last}
+use Rattle.lemmas.proofs.Numbers.{fun_same}
+use Rattle.lemmas.proofs.Parts.{all_by_get, get_taken, get_whole_within, is_in}
+use Rattle.pblk_world.proofs.EngineLogLemmas.{begun_first}
+use Rattle.pblk_world.proofs.WorldLemmas.{log_elsewhere, log_here}
 
 -- ---- each answer is within what its event names
 
@@ -34,9 +36,9 @@ abbrev AreWithin : List Logged → Type 0
 AreWithin log = AllByRecursion (λ l. NamesWithin l.knows l.event) log
 
 names_later : (i : Image) (w : World) (s : Step) (b : Begun) (e : EngineEvent) → IsPlainWorld i w → is_plain_decision e ≡ true → IsDecision i (prefixes s.logged (log_of w)) b e → NamesWithin s.logged.knows (Decides e)
-names_later i w s b (Landed unit n) world plain may = (get_whole (known s.logged (suc unit)) (log_of w (suc unit)) n may.new.logged may.new.is_known).1
+names_later i w s b (Landed unit n) world plain may = (get_whole_within (known s.logged (suc unit)) (log_of w (suc unit)) n may.new.logged may.new.is_known).1
 names_later i w s b (Lost unit n) world plain may = absurd (cc)
-names_later i w s b (ResetDone unit n) world plain may = (get_whole (known s.logged (suc unit)) (log_of w (suc unit)) n may.new.logged may.new.is_known).1
+names_later i w s b (ResetDone unit n) world plain may = (get_whole_within (known s.logged (suc unit)) (log_of w (suc unit)) n may.new.logged may.new.is_known).1
 names_later i w s b (Begin x) world plain may = tt
 names_later i w s b (Take entry mark) world plain may = tt
 names_later i w s b (Open line start) world plain may = tt
@@ -51,11 +53,11 @@ names_by i s w plain h (inl e) =
   where
     go : IsFirst i (prefixes s.logged (log_of w)) e.event ⊎ IsLater i (prefixes s.logged (log_of w)) e.event → NamesWithin s.logged.knows (Decides e.event)
     go (inl f) = subst (λ ev. NamesWithin s.logged.knows (Decides ev)) (sym f.1) tt
-    go (inr l) = names_later i w s l.0 e.event (plain_tail i s w plain) e.plain l.2
+    go (inr l) = names_later i w s l.0 e.event (plain_before i s w plain) e.plain l.2
 
 names : (i : Image) (w : World) → IsPlainWorld i w → AreWithin (log_of w 0)
 names i [] plain = tt
-names i (s ∷ w) plain = names_by i s w plain (names i w (plain_tail i s w plain)) (whose i s w plain)
+names i (s ∷ w) plain = names_by i s w plain (names i w (plain_before i s w plain)) (whose i s w plain)
 
 -- ---- what is told by a prefix that has all of them
 
@@ -85,22 +87,6 @@ media_same : (i : Image) (a b : Logs) → ((unit : ℕ) → unit_events a unit �
 unfolding media_by
 media_same i a b same = ap (media_by i) (fun_same (unit_events a) (unit_events b) same)
 
-begun_first : (log : List Logged) (b : Begun) → begun log ≡ Some b → (l : Logged) × (slice_get log 0 ≡ Some l) × (l.knows ≡ b.knows)
-begun_first [] b e = absurd (none-some b e)
-begun_first (l ∷ log) b e = (l, refl, by l.event e)
-  where
-    by : (ev : Event) → begun_by l.knows ev ≡ Some b → l.knows ≡ b.knows
-    by (Decides (Begin x)) e = ap (λ (y : Begun). y.knows) (same_Some (record { beginning = x; knows = l.knows }) b e)
-    by (Decides (Take entry mark)) e = absurd (none-some b e)
-    by (Decides (Open line start)) e = absurd (none-some b e)
-    by (Decides (Place stripe)) e = absurd (none-some b e)
-    by (Decides (Landed unit n)) e = absurd (none-some b e)
-    by (Decides (Lost unit n)) e = absurd (none-some b e)
-    by (Decides (Again unit n)) e = absurd (none-some b e)
-    by (Decides (ResetDone unit n)) e = absurd (none-some b e)
-    by (Decides (Free line)) e = absurd (none-some b e)
-    by (Does x maker) e = absurd (none-some b e)
-
 -- ---- the law
 
 module _ (i : Image) (s : Step) (w : World) (plain : IsPlainWorld i (s ∷ w)) (author : s.author ≡ 0) where
@@ -125,7 +111,7 @@ module _ (i : Image) (s : Step) (w : World) (plain : IsPlainWorld i (s ∷ w)) (
   told_same unit =
       told_are logs unit
       ∙ ap (λ (log : List Logged). told log (logs (suc unit)) unit) own
-      ∙ told_all (log_of w (suc unit)) (known s.logged (suc unit)) unit (log_of w 0) (names i w (plain_tail i s w plain))
+      ∙ told_all (log_of w (suc unit)) (known s.logged (suc unit)) unit (log_of w 0) (names i w (plain_before i s w plain))
       (all_by_get (λ l. known l (suc unit) ≤ known s.logged (suc unit)) (log_of w 0) (λ k l there. rising k (suc unit) l there))
       ∙ sym (told_are (log_of w) unit)
 

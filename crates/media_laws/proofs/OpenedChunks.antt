@@ -16,7 +16,6 @@ use Rattle.pblk_world.specs.EngineLog.{Begun, begun, life_of, is_opened, Placed,
 use Rattle.pblk_world.specs.Lines.{found_image, known_image, is_empty_state}
 use Rattle.pblk_world.specs.Commanding.{is_reset, ended_stripes}
 use Rattle.core_laws.specs.PlainWorlds.{IsPlainWorld}
-use Rattle.core_laws.proofs.Rows.{same_number}
 use Rattle.pblk_laws.specs.LineBlocks.{chunk_in}
 use Rattle.media_laws.proofs.LineLives.{living}
 use Rattle.media_laws.proofs.UnitCounts.{found_there}
@@ -26,9 +25,11 @@ use Rattle.media_laws.proofs.Beginnings.{begins}
 use Rattle.media_laws.proofs.Stood.{IsStanding, standing, first_reset}
 use Rattle.media_laws.proofs.ToldEvents.{told}
 use Rattle.media_laws.proofs.KnownChunks.{told_cleared, IsNoted, IsTold}
-use Rattle.media_laws.proofs.KnownSteps.{known_by, told_at, any_at}
+use Rattle.media_laws.proofs.KnownSteps.{known_by, told_at}
 use Rattle.media_laws.proofs.Answers.{fewer_answers}
 use Rattle.media_laws.proofs.FoundChunks.{emptied, emptied_is, found_is_chunk}
+use Rattle.lemmas.proofs.Maps.{any_member}
+use Rattle.lemmas.proofs.Tests.{same_number}
 
 true_false : true ≡ false → ⊥
 true_false q = cc
@@ -59,7 +60,7 @@ media_by i w unit line c s =
 
 -- a reset that is noted is in the unit's log
 pub noted_cleared : (log own : List Logged) (unit line : ℕ) → IsNoted log own unit line → was_cleared line own ≡ true
-noted_cleared log own unit line n = any_at (clears_it line) own n.number n.logged n.there (clears_as line n.logged n.event n.is_event ∙ ap₂ (λ p q. p && q) (ap (λ k. k == line) n.its ∙ same_number line) (ap is_reset n.resets))
+noted_cleared log own unit line n = any_member (clears_it line) own n.number n.logged n.there (clears_as line n.logged n.event n.is_event ∙ ap₂ (λ p q. p && q) (ap (λ k. k == line) n.its ∙ same_number line) (ap is_reset n.resets))
 
 -- ---- an opened line's chunk
 

@@ -1,6 +1,6 @@
 -- The units of an opened line: those whose chunks weren't Offline when it was opened. They stay, and the start record has
 -- their number.
-use Rattle.std.proofs.Common.{◌≡◌, ℕ, ◌+◌, ◌<◌, ◌⊎◌, ◌==◌, nat_lt, zero, suc, Bool, true, false, cond, Some, None, Option, List, [], ◌∷◌, ◌++◌, map, length, refl, sym, subst, ap, ap₂, ◌∙◌, arith, if◌then◌else◌, inl, inr, append-nil, zero-add, le_refl}
+use Rattle.std.proofs.Common.{◌≡◌, ℕ, ◌+◌, ◌<◌, ◌⊎◌, ◌==◌, zero, suc, Bool, true, false, cond, Some, None, Option, List, [], ◌∷◌, ◌++◌, map, length, refl, sym, subst, ap, ap₂, ◌∙◌, arith, if◌then◌else◌, inl, inr, append-nil, zero-add, le_refl}
 use Rattle.std.specs.Prelude.{slice_get}
 use Rattle.std.specs.List.{filter, filter_map, enumerate_from}
 use Rattle.std.specs.Option.{option_map_or, option_and_then, option_to_list}
@@ -9,7 +9,7 @@ use Rattle.std.proofs.lemmas.Option.{none-some, slice_get_within}
 use Rattle.pblk_model.specs.declared.shape.Shape.{Shape}
 use Rattle.pblk_model.specs.declared.chunk.ChunkState.TheVariants as states
 use Rattle.pblk_model.specs.Shape.{units}
-use Rattle.pblk_model.specs.Chunk.{Chunk, Block, pointer, free_chunk}
+use Rattle.pblk_model.specs.Chunk.{Chunk, free_chunk}
 use Rattle.pblk_model.specs.ChunkStep.{appended}
 use Rattle.pblk_model.specs.UnitLog.{UnitEvent, after_log}
 use Rattle.pblk_model.specs.LineOrder.{data_len}
@@ -23,40 +23,36 @@ use Rattle.pblk_world.specs.Commanding.{ended_stripes}
 use Rattle.pblk_world.specs.Opening.{MayOpen}
 use Rattle.pblk_world.proofs.Appending.{life_more}
 use Rattle.core_laws.specs.PlainWorlds.{IsPlainWorld}
-use Rattle.core_laws.proofs.Lists.{fun_same}
 use Rattle.core_laws.proofs.Turns.{filtered_is}
-use Rattle.core_laws.proofs.Tests.{second_of as and_right}
 use Rattle.core_laws.proofs.Numbering.{begun_stays}
-use Rattle.stripe_placer.proofs.Among.{IsAmong, in_map, in_filter}
 use Rattle.pblk_laws.specs.LineBlocks.{chunk_in}
 use Rattle.pblk_laws.proofs.LineUnits.{line_units_count, line_units_chunks}
-use Rattle.pblk_laws.proofs.ImageBytesPieces.{enumerate_get as numbered_get}
-use Rattle.media_laws.proofs.Steps.{log_here, log_elsewhere, plain_tail, IsEngines, IsSomeones, whose}
-use Rattle.media_laws.proofs.Decisions.{IsFirst, IsLater, decided, opened_whole}
-use Rattle.media_laws.proofs.Made.{still_first}
+use Rattle.media_laws.proofs.Steps.{IsEngines, IsSomeones, whose}
+use Rattle.media_laws.proofs.Decisions.{IsFirst, IsLater, decided}
 use Rattle.media_laws.proofs.LineLives.{living, opened_by_event, opening_is}
-use Rattle.media_laws.proofs.UnitCounts.{known_units, media_units}
 use Rattle.media_laws.proofs.History.{filled, firsts}
 use Rattle.media_laws.proofs.Beginnings.{found_stays}
 use Rattle.media_laws.proofs.ToldEvents.{told, told_are, told_more}
 use Rattle.media_laws.proofs.Named.{known_whole_image}
 use Rattle.media_laws.proofs.OpenedChunks.{has_begun, is_kept, is_kept_by, IsOpenedChunk, opened_chunk}
+use Rattle.core_laws.proofs.PlainWorldsLemmas.{opened_whole, plain_before}
+use Rattle.lemmas.proofs.Lists.{IsAmong}
+use Rattle.lemmas.proofs.Maps.{enumerate_get, in_filter, in_map}
+use Rattle.lemmas.proofs.Numbers.{fun_same}
+use Rattle.lemmas.proofs.Tests.{positive, second_of}
+use Rattle.pblk_model.proofs.ImageLemmas.{appended_online}
+use Rattle.pblk_world.proofs.EventsLemmas.{still_first}
+use Rattle.pblk_world.proofs.LinesLemmas.{length_known}
+use Rattle.pblk_world.proofs.WorldLemmas.{length_media, log_elsewhere, log_here}
 
 -- ---- chunks that aren't Offline
 
 abbrev pub is_on : Image → ℕ → ℕ → Bool
 is_on img line unit = option_map_or (λ (c : Chunk). is_online_in c.state) (chunk_in img line unit) false
 
-appended_on : (s : Shape) (c : Chunk) (blocks : List Block) → is_online_in (appended s c blocks).state ≡ true
-appended_on s c blocks = by (nat_lt (pointer c + length blocks) s.clba)
-  where
-    by : (b : Bool) → is_online_in (if b then states.Open else states.Closed) ≡ true
-    by true = refl
-    by false = refl
-
 filled_on : (s : Shape) (c : Chunk) (ps : List Placed) → is_online_in c.state ≡ true → is_online_in (filled s c ps).state ≡ true
 filled_on s c [] on = on
-filled_on s c (p ∷ ps) on = filled_on s (appended s c p.stripe.blocks) ps (appended_on s c p.stripe.blocks)
+filled_on s c (p ∷ ps) on = filled_on s (appended s c p.stripe.blocks) ps (appended_online s c p.stripe.blocks)
 
 pub known_on : (i : Image) (w : World) (unit line : ℕ) → IsPlainWorld i w → is_opened (life_of (log_of w 0) line) ≡ true → unit < units i.shape → line < i.shape.chunks → is_on (known_image i (log_of w)) line unit ≡ is_kept i w line unit
 known_on i w unit line plain opened inside range = go (opened_chunk i w unit line plain opened inside range)
@@ -124,7 +120,7 @@ on_unit_there img line unit on = go (slice_get img.units unit) refl (on_by line 
     go None e h = absurd (cc)
     go (Some cs) e h =
         let pair : ℕ × List Chunk = (0 + unit, cs) in
-        let at : slice_get (enumerate_from 0 img.units) unit ≡ Some (0 + unit, cs) = numbered_get 0 img.units unit cs e in
+        let at : slice_get (enumerate_from 0 img.units) unit ≡ Some (0 + unit, cs) = enumerate_get 0 img.units unit cs e in
         let kept : IsAmong (filter (λ (u : ℕ × List Chunk). has_on line u.1) (enumerate_from 0 img.units)) (0 + unit, cs) =
         in_filter (λ (u : ℕ × List Chunk). has_on line u.1) (enumerate_from 0 img.units) (0 + unit, cs) (unit, at) h in
         subst (IsAmong (line_units img line)) (zero-add unit) (in_map (λ (u : ℕ × List Chunk). u.0) (filter (λ (u : ℕ × List Chunk). has_on line u.1) (enumerate_from 0 img.units)) (0 + unit, cs) kept)
@@ -147,12 +143,12 @@ opened_in_range i w line plain opened = go (life_of (log_of w 0) line) refl open
     go (Freed was knows) e opened = absurd (cc)
 
 known_count : (i : Image) (w : World) → IsPlainWorld i w → length (known_image i (log_of w)).units ≡ units i.shape
-known_count i w plain = known_units i (log_of w) ∙ plain.fit.units
+known_count i w plain = length_known i (log_of w) ∙ plain.fit.units
 
 pub media_line_units : (i : Image) (w : World) (line : ℕ) → IsPlainWorld i w → is_opened (life_of (log_of w 0) line) ≡ true → line_units (media i (log_of w)) line ≡ line_units (known_image i (log_of w)) line
 media_line_units i w line plain opened =
     let range : line < i.shape.chunks = opened_in_range i w line plain opened in
-    let count : length (media i (log_of w)).units ≡ units i.shape = media_units i (log_of w) ∙ plain.fit.units in
+    let count : length (media i (log_of w)).units ≡ units i.shape = length_media i (log_of w) ∙ plain.fit.units in
     same_line_units (media i (log_of w)) (known_image i (log_of w)) line (count ∙ sym (known_count i w plain))
     (λ unit below. media_on i w unit line plain opened (omega arith) range ∙ sym (known_on i w unit line plain opened (omega arith) range))
 
@@ -172,7 +168,7 @@ still_begun s w b is = by (s.author == 0)
 
 pub units_stay : (i : Image) (s : Step) (w : World) (line : ℕ) → IsPlainWorld i (s ∷ w) → is_opened (life_of (log_of w 0) line) ≡ true → line_units (known_image i (log_of (s ∷ w))) line ≡ line_units (known_image i (log_of w)) line
 units_stay i s w line plain opened =
-    let before : IsPlainWorld i w = plain_tail i s w plain in
+    let before : IsPlainWorld i w = plain_before i s w plain in
     let range : line < i.shape.chunks = opened_in_range i w line before opened in
     let b = has_begun i w line before opened in
     let found : found_image i (log_of (s ∷ w)) ≡ found_image i (log_of w) = found_stays i s w b.0 before b.1 (still_begun s w b.0 b.1) in
@@ -191,7 +187,7 @@ pub known_quiet : (i : Image) (s : Step) (w : World) (b : Begun) → IsPlainWorl
 unfolding image_by
 known_quiet i s w b plain author begun_is none =
     ap₂ (λ (img : Image) (events : ℕ → List UnitEvent). image_by i img events)
-    (found_stays i s w b (plain_tail i s w plain) begun_is (still_begun s w b begun_is))
+    (found_stays i s w b (plain_before i s w plain) begun_is (still_begun s w b begun_is))
     (fun_same (told_events (log_of (s ∷ w))) (told_events (log_of w)) (λ unit.
     let own : log_of (s ∷ w) (suc unit) ≡ log_of w (suc unit) = log_elsewhere s w (suc unit) (λ a. let no : 0 ≡ suc unit = sym author ∙ a in absurd (omega arith)) in
     told_are (log_of (s ∷ w)) unit
@@ -210,9 +206,6 @@ pub record IsWide (i : Image) (w : World) (line : ℕ) (o : Opening) : Type 0 wh
 wide_later : (i : Image) (s : Step) (w : World) (line : ℕ) (o : Opening) → IsPlainWorld i (s ∷ w) → life_of (log_of w 0) line ≡ Opened o → IsWide i w line o → IsWide i (s ∷ w) line o
 wide_later i s w line o plain life h = record { width = h.width ∙ ap length (sym (units_stay i s w line plain (ap is_opened life))); some_data = h.some_data }
 
-positive : (n : ℕ) → nat_lt 0 n ≡ true → 0 < n
-positive n e = grind arith
-
 wide_now : (i : Image) (s : Step) (w : World) (line : ℕ) (start : StartRecord) (b : Begun) → IsPlainWorld i (s ∷ w) → (e : IsEngines i s w) → begun (log_of w 0) ≡ Some b → e.event ≡ Open line start → MayOpen i (prefixes s.logged (log_of w)) b line start
     → IsWide i (s ∷ w) line (record { number = length (log_of w 0); line = line; start = start; knows = s.logged.knows })
 wide_now i s w line start b plain e begun_is is may =
@@ -221,7 +214,7 @@ wide_now i s w line start b plain e begun_is is may =
     let width_is : start.width ≡ width (known_image i (log_of w)) line = may.own_width ∙ ap (λ (j : Image). width j line) then_ in
     record {
       width = width_is ∙ sym (line_units_count (known_image i (log_of w)) line) ∙ ap (λ (j : Image). length (line_units j line)) (sym now);
-      some_data = subst (λ n. 0 < data_len i.shape n) (sym may.own_width) (positive (line_data (known_image i (prefixes s.logged (log_of w))) line) (and_right _ _ may.is_free));
+      some_data = subst (λ n. 0 < data_len i.shape n) (sym may.own_width) (positive (line_data (known_image i (prefixes s.logged (log_of w))) line) (second_of _ _ may.is_free));
     }
 
 wide_by : (i : Image) (s : Step) (w : World) → IsPlainWorld i (s ∷ w) → ((line : ℕ) (o : Opening) → life_of (log_of w 0) line ≡ Opened o → IsWide i w line o) → IsSomeones i s w
@@ -254,7 +247,7 @@ opened_wide i [] plain line o life = absurd (as_found o life)
   where
     as_found : (o : Opening) → life_of [] line ≡ Opened o → ⊥
     as_found o is = absurd (cc)
-opened_wide i (s ∷ w) plain line o life = wide_by i s w plain (opened_wide i w (plain_tail i s w plain)) (whose i s w plain) line o life
+opened_wide i (s ∷ w) plain line o life = wide_by i s w plain (opened_wide i w (plain_before i s w plain)) (whose i s w plain) line o life
 
 pub opened_as_wide : (i : Image) (w : World) (line : ℕ) (o : Opening) → IsPlainWorld i w → life_of (log_of w 0) line ≡ Opened o → o.start.width ≡ width (known_image i (log_of w)) line
 opened_as_wide i w line o plain life = (opened_wide i w plain line o life).width ∙ line_units_count (known_image i (log_of w)) line

@@ -1,13 +1,14 @@
 -- The stripes of a unit stand in the order in which they were placed, each at its turn.
-use Rattle.std.proofs.Common.{◌≡◌, ℕ, ◌+◌, ◌≤◌, ◌==◌, zero, suc, nat_lt, Bool, true, false, cond, Some, List, [], ◌∷◌, take, refl, sym, ap, ◌∙◌, arith}
+use Rattle.std.proofs.Common.{◌≡◌, ℕ, ◌+◌, ◌≤◌, ◌==◌, zero, suc, nat_lt, cond, Some, List, [], ◌∷◌, take, refl, sym, ap, ◌∙◌, arith}
 use Rattle.std.specs.Prelude.{slice_get}
 use Rattle.std.specs.List.{filter}
 use Rattle.pblk_world.specs.Events.{Logged}
 use Rattle.pblk_world.specs.EngineLog.{Placed, placements, placed_on, turn}
 use Rattle.core_laws.proofs.Placing.{not_below}
 use Rattle.core_laws.proofs.Turns.{its_turn as turn_at}
-use Rattle.stripe_placer.proofs.Chunks.{lt_yes as is_below}
 use Rattle.media_laws.specs.Standing.{stripes_in}
+use Rattle.lemmas.proofs.Maps.{filters_swap}
+use Rattle.lemmas.proofs.Tests.{lt_true}
 
 -- the first elements are those whose number is below
 
@@ -23,24 +24,13 @@ firsts_from number a zero m xs is at = none_from number a m xs (omega arith) at
 firsts_from number a (suc n) m [] is at = refl
 firsts_from number a (suc n) m (x ∷ xs) is at =
     let here : number x ≡ a + 0 = at 0 x refl in
-    ap (λ b. cond b (x ∷ filter (λ y. nat_lt (number y) m) xs) (filter (λ y. nat_lt (number y) m) xs)) (is_below (number x) m (omega arith))
+    ap (λ b. cond b (x ∷ filter (λ y. nat_lt (number y) m) xs) (filter (λ y. nat_lt (number y) m) xs)) (lt_true (number x) m (omega arith))
     ∙ ap (λ ys. x ∷ ys) (firsts_from number (a + 1) n m xs (omega arith) (λ k y e. (let there : number y ≡ a + suc k = at (suc k) y e in omega arith)))
 
 pub firsts_are : (log : List Logged) (unit n : ℕ) → filter (λ (p : Placed). nat_lt (turn log p) n) (placed_on log unit) ≡ take n (placed_on log unit)
 firsts_are log unit n = firsts_from (turn log) 0 n n (placed_on log unit) (omega arith) (λ k p e. turn_at log unit k p e ∙ (let same : k ≡ 0 + k = omega arith in same))
 
 -- ---- the stripes of a line on a unit
-
-pub filters_swap : {X : Type 0} (f g : X → Bool) (xs : List X) → filter f (filter g xs) ≡ filter g (filter f xs)
-filters_swap f g [] = refl
-filters_swap {X} f g (x ∷ xs) = by (f x) (g x) refl refl (filters_swap f g xs)
-  where
-    by : (a b : Bool) → f x ≡ a → g x ≡ b → filter f (filter g xs) ≡ filter g (filter f xs)
-        → filter f (cond b (x ∷ filter g xs) (filter g xs)) ≡ filter g (cond a (x ∷ filter f xs) (filter f xs))
-    by true true p q rest = ap (λ c. cond c (x ∷ filter f (filter g xs)) (filter f (filter g xs))) p ∙ ap (λ ys. x ∷ ys) rest ∙ ap (λ c. cond c (x ∷ filter g (filter f xs)) (filter g (filter f xs))) (sym q)
-    by true false p q rest = rest ∙ ap (λ c. cond c (x ∷ filter g (filter f xs)) (filter g (filter f xs))) (sym q)
-    by false true p q rest = ap (λ c. cond c (x ∷ filter f (filter g xs)) (filter f (filter g xs))) p ∙ rest
-    by false false p q rest = rest
 
 -- the first n stripes of a unit, of those in a line
 pub stripes_first : (log : List Logged) (unit line n : ℕ) → filter (λ (p : Placed). p.stripe.line == line) (take n (placed_on log unit))

@@ -1,7 +1,5 @@
 -- A step of a world in which nothing fails: whose it is, and what it may be.
-use Rattle.std.proofs.Common.{◌≡◌, ◌≢◌, ℕ, ◌<◌, ◌≤◌, ◌⊎◌, ◌==◌, zero, suc, Bool, true, false, List, [], ◌∷◌, ◌++◌, length, take, refl, subst, ap, ◌∙◌, arith, if◌then◌else◌, inl, inr}
-use Rattle.std.specs.List.{AllByRecursion}
-use Rattle.std.proofs.Math.Seq.{take-length}
+use Rattle.std.proofs.Common.{◌≡◌, ℕ, ◌<◌, ◌≤◌, ◌⊎◌, zero, suc, true, ◌∷◌, length, refl, subst, arith, inl, inr}
 use Rattle.pblk_model.specs.Image.{Image}
 use Rattle.pblk_model.specs.Shape.{units}
 use Rattle.pblk_model.specs.UnitLog.{UnitEvent}
@@ -10,39 +8,13 @@ use Rattle.pblk_world.specs.World.{World, log_of, known, prefixes}
 use Rattle.pblk_world.specs.Legal.{IsLegal, IsLegalStep, IsAllowed, MayDecide}
 use Rattle.pblk_world.specs.Commanding.{MayDo}
 use Rattle.core_laws.specs.PlainWorlds.{is_plain_decision, is_plain_outcome, is_plain_event, ArePlain, IsPlainWorld}
-use Rattle.core_laws.proofs.Rows.{same_number, other_number}
+use Rattle.lemmas.proofs.Lists.{last_of}
+use Rattle.pblk_world.proofs.LegalLemmas.{whole_own}
+use Rattle.pblk_world.proofs.WorldLemmas.{log_here}
 
 -- ---- an author's log after a step
 
-pub log_here : (s : Step) (w : World) (author : ℕ) → s.author ≡ author → log_of (s ∷ w) author ≡ log_of w author ++ s.logged ∷ []
-log_here s w author e = ap (λ b. if b then log_of w author ++ s.logged ∷ [] else log_of w author) (ap (λ a. a == author) e ∙ same_number author)
-
-pub log_elsewhere : (s : Step) (w : World) (author : ℕ) → s.author ≢ author → log_of (s ∷ w) author ≡ log_of w author
-log_elsewhere s w author e = ap (λ b. if b then log_of w author ++ s.logged ∷ [] else log_of w author) (other_number s.author author e)
-
 -- ---- plain logs
-
-pub first_of : {X : Type 0} (P : X → Type 0) (xs : List X) (x : X) → AllByRecursion P (xs ++ x ∷ []) → AllByRecursion P xs
-first_of P [] x h = tt
-first_of P (y ∷ xs) x h = (h.0, first_of P xs x h.1)
-
-pub last_of : {X : Type 0} (P : X → Type 0) (xs : List X) (x : X) → AllByRecursion P (xs ++ x ∷ []) → P x
-last_of P [] x h = h.0
-last_of P (y ∷ xs) x h = last_of P xs x h.1
-
-tail_plain : (s : Step) (log : List Logged) (b : Bool) → ArePlain (if b then log ++ s.logged ∷ [] else log) → ArePlain log
-tail_plain s log true h = first_of (λ (l : Logged). is_plain_event l.event ≡ true) log s.logged h
-tail_plain s log false h = h
-
-pub plain_tail : (i : Image) (s : Step) (w : World) → IsPlainWorld i (s ∷ w) → IsPlainWorld i w
-unfolding IsLegal
-plain_tail i s w h = record {
-  accepted = h.accepted;
-  fit = h.fit;
-  legal = h.legal.1;
-  engine = tail_plain s (log_of w 0) (s.author == 0) h.engine;
-  units = λ unit. tail_plain s (log_of w (suc unit)) (s.author == suc unit) (h.units unit);
-}
 
 -- ---- whose a step is
 
@@ -68,9 +40,6 @@ pub record IsUnits (i : Image) (s : Step) (w : World) (unit : ℕ) : Type 0 wher
 
 abbrev pub IsSomeones : Image → Step → World → Type 0
 IsSomeones i s w = IsEngines i s w ⊎ ((unit : ℕ) × IsUnits i s w unit)
-
-whole_own : (i : Image) (s : Step) (w : World) → IsLegalStep i (log_of w) s → prefixes s.logged (log_of w) s.author ≡ log_of w s.author
-whole_own i s w h = ap (λ n. take n (log_of w s.author)) h.knowledge.own ∙ take-length (log_of w s.author)
 
 last_plain : (s : Step) (w : World) (author : ℕ) → s.author ≡ author → ArePlain (log_of (s ∷ w) author) → is_plain_event s.logged.event ≡ true
 last_plain s w author e h = last_of (λ (l : Logged). is_plain_event l.event ≡ true) (log_of w author) s.logged (subst ArePlain (log_here s w author e) h)

@@ -1,7 +1,7 @@
 -- How each chunk stands after each prefix of its unit's log that has what the mount began with.
-use Rattle.std.proofs.Common.{◌≡◌, ◌≢◌, ℕ, ◌+◌, ◌-◌, ◌<◌, ◌≤◌, ◌⊎◌, ◌==◌, ◌&&◌, ◌||◌, nat_lt, zero, suc, Bool, true, false, Some, None, Option, List, [], ◌∷◌, length, take, refl, sym, subst, ap, ◌∙◌, arith, inl, inr}
+use Rattle.std.proofs.Common.{◌≡◌, ◌≢◌, ℕ, ◌+◌, ◌-◌, ◌<◌, ◌≤◌, ◌⊎◌, ◌==◌, ◌&&◌, nat_lt, zero, suc, Bool, true, false, Some, None, Option, List, [], length, take, refl, sym, subst, ap, ◌∙◌, arith, inl, inr}
 use Rattle.std.specs.Prelude.{slice_get, slice_index}
-use Rattle.std.specs.List.{AllByRecursion, list_any}
+use Rattle.std.specs.List.{AllByRecursion}
 use Rattle.std.specs.Option.{option_map_or}
 use Rattle.std.proofs.lemmas.Option.{slice_get_within}
 use Rattle.pblk_model.specs.declared.chunk.ChunkState.TheVariants as states
@@ -15,15 +15,14 @@ use Rattle.pblk_world.specs.EngineLog.{Begun, begun, Placed}
 use Rattle.pblk_world.specs.Lines.{found_image, is_empty_state}
 use Rattle.pblk_world.specs.Commanding.{is_reset, ends_stripe, ended_stripes}
 use Rattle.core_laws.specs.PlainWorlds.{IsPlainWorld}
-use Rattle.core_laws.proofs.Lists.{filter_none, got_within as within_some, get_taken}
-use Rattle.core_laws.proofs.Removing.{and_no}
 use Rattle.pblk_laws.specs.LineBlocks.{chunk_in}
-use Rattle.pblk_laws.proofs.Lists.{all_by_get}
-use Rattle.media_laws.proofs.Growing.{get_whole}
 use Rattle.media_laws.proofs.UnitChunks.{chunk_after}
 use Rattle.media_laws.proofs.UnitEvents.{IsDeed, IsDone, done}
 use Rattle.media_laws.proofs.History.{cleared_by, filled, firsts, clears_it, was_cleared, is_a_stray, early_counts, clears_as, Stands, Now, by_event, clearing_first}
 use Rattle.media_laws.proofs.Beginnings.{BeginsAt, begins, found_chunk_after}
+use Rattle.lemmas.proofs.Maps.{any_fail, filter_none}
+use Rattle.lemmas.proofs.Parts.{all_by_get, get_taken, get_whole_within, got_within}
+use Rattle.lemmas.proofs.Tests.{and_refused}
 
 -- a chunk that the mount found as this, after n events of its unit
 pub record IsStanding (i : Image) (w : World) (unit line : ℕ) (c : Chunk) (n : ℕ) : Type 0 where
@@ -35,10 +34,6 @@ pub record IsStanding (i : Image) (w : World) (unit line : ℕ) (c : Chunk) (n :
   pub writable : (firsts (log_of w 0) unit line (ended_stripes (take n (log_of w (suc unit)))) ≡ [])
       ⊎ ((cleared_by i.shape (was_cleared line (take n (log_of w (suc unit)))) c).state ≡ states.Free)
   pub some : AllByRecursion (λ (p : Placed). 0 < length p.stripe.blocks) (firsts (log_of w 0) unit line (ended_stripes (take n (log_of w (suc unit)))))
-
-any_none : {X : Type 0} (f : X → Bool) (xs : List X) → AllByRecursion (λ x. f x ≡ false) xs → list_any f xs ≡ false
-any_none f [] all = refl
-any_none f (x ∷ xs) all = ap (λ b. b || list_any f xs) all.0 ∙ any_none f xs all.1
 
 module _ (i : Image) (w : World) (plain : IsPlainWorld i w) (b : Begun) (begun_is : begun (log_of w 0) ≡ Some b) (unit line : ℕ) (c : Chunk) (there : chunk_in (found_image i (log_of w)) line unit ≡ Some c) where
   abbrev own : List Logged
@@ -71,12 +66,12 @@ module _ (i : Image) (w : World) (plain : IsPlainWorld i w) (b : Begun) (begun_i
       go (inr (inr (inr clearing))) = let some : 0 < knows_engine l = clearing.knew in absurd (omega arith)
 
   none_cleared : was_cleared line (take base own) ≡ false
-  none_cleared = any_none (clears_it line) (take base own) (all_by_get (λ l. clears_it line l ≡ false) (take base own) (λ n l got. by n l got (unit_event_of l.event) refl))
+  none_cleared = any_fail (clears_it line) (take base own) (all_by_get (λ l. clears_it line l ≡ false) (take base own) (λ n l got. by n l got (unit_event_of l.event) refl))
     where
       by : (n : ℕ) (l : Logged) → slice_get (take base own) n ≡ Some l → (o : Option UnitEvent) → unit_event_of l.event ≡ o → clears_it line l ≡ false
       by n l got None is = ap (λ o. option_map_or (λ (e : UnitEvent). (e.chunk == line) && is_reset e.command) o false) is
       by n l got (Some e) is =
-          clears_as line l e is ∙ ap (λ x. (e.chunk == line) && x) (no_reset_early n l e (get_whole base own n l got).0 is (at.early unit n l got)) ∙ and_no (e.chunk == line)
+          clears_as line l e is ∙ ap (λ x. (e.chunk == line) && x) (no_reset_early n l e (get_whole_within base own n l got).0 is (at.early unit n l got)) ∙ and_refused (e.chunk == line)
 
   none_ended : ended_stripes (take base own) ≡ 0
   none_ended = ap length (filter_none ends_stripe (take base own) (all_by_get (λ l. ends_stripe l ≡ false) (take base own) (λ n l got. early_counts l (at.early unit n l got))))
@@ -91,7 +86,7 @@ module _ (i : Image) (w : World) (plain : IsPlainWorld i w) (b : Begun) (begun_i
   each zero few = let same : base ≡ base + zero = omega arith in subst (Now i w plain unit line c closed) same first
   each (suc d) few =
       let next : suc (base + d) ≡ base + suc d = omega arith in
-      let l = within_some own (base + d) (omega arith) in
+      let l = got_within own (base + d) (omega arith) in
       subst (Now i w plain unit line c closed) next (by_event i w plain unit line c closed (base + d) l.0 l.1 (each d (omega arith)) (unit_event_of l.0.event) refl)
 
   stands : (n : ℕ) → base ≤ n → n ≤ length own → Now i w plain unit line c closed n

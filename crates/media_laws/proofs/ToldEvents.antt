@@ -7,8 +7,8 @@ use Rattle.pblk_model.specs.UnitLog.{UnitEvent}
 use Rattle.pblk_world.specs.Events.{Landed, Lost, ResetDone, Event, Decides, Logged}
 use Rattle.pblk_world.specs.World.{Logs, unit_event_of}
 use Rattle.pblk_world.specs.Lines.{told_by, told_events}
-use Rattle.core_laws.proofs.Lists.{get_more, made_same as map_agree}
-use Rattle.media_laws.proofs.Growing.{more}
+use Rattle.lemmas.proofs.Maps.{made_same, more}
+use Rattle.lemmas.proofs.Parts.{get_more}
 
 -- what the engine's log says of this log of a unit
 abbrev pub told : List Logged → List Logged → ℕ → List UnitEvent
@@ -21,7 +21,7 @@ told_same logs unit (Decides (ResetDone other event)) = refl
 told_same logs unit e = refl
 
 pub told_are : (logs : Logs) (unit : ℕ) → told_events logs unit ≡ told (logs 0) (logs (suc unit)) unit
-told_are logs unit = map_agree (λ (l : Logged). told_by logs unit l.event) (λ (l : Logged). told_by (λ a. logs (suc unit)) unit l.event) (λ l. told_same logs unit l.event) (logs 0)
+told_are logs unit = made_same (λ (l : Logged). told_by logs unit l.event) (λ (l : Logged). told_by (λ a. logs (suc unit)) unit l.event) (λ l. told_same logs unit l.event) (logs 0)
 
 -- ---- what it names is there
 

@@ -1,8 +1,8 @@
 -- A chunk of a unit after the events of its log.
-use Rattle.std.proofs.Common.{◌≡◌, ◌≢◌, ℕ, suc, Some, None, Option, List, [], ◌∷◌, ◌++◌, refl, sym, ap, ap₂, ◌∙◌, append-nil}
-use Rattle.std.specs.Prelude.{slice_get, slice_set}
+use Rattle.std.proofs.Common.{◌≡◌, ◌≢◌, ℕ, suc, Some, None, Option, List, [], ◌∷◌, ◌++◌, refl, ap, ◌∙◌, append-nil}
+use Rattle.std.specs.Prelude.{slice_get}
 use Rattle.std.specs.List.{filter_map, cons_option}
-use Rattle.std.specs.Option.{option_map, option_map_or, option_and_then}
+use Rattle.std.specs.Option.{option_map, option_and_then}
 use Rattle.std.proofs.lemmas.List.Elements.{filter_map-append}
 use Rattle.std.proofs.lemmas.List.Sums.{fold-append}
 use Rattle.std.proofs.lemmas.Option.{none-some}
@@ -12,24 +12,11 @@ use Rattle.pblk_model.specs.UnitLog.{UnitEvent, after_outcome, after_event, afte
 use Rattle.pblk_model.specs.Image.{Image}
 use Rattle.pblk_world.specs.Events.{Logged}
 use Rattle.pblk_world.specs.World.{Logs, media, unit_event_of}
-use Rattle.stripe_placer.proofs.Among.{got_here, got_else}
 use Rattle.pblk_laws.specs.LineBlocks.{chunk_in}
-use Rattle.media_laws.proofs.Images.{media_at}
+use Rattle.pblk_model.proofs.UnitLogLemmas.{event_beside, event_here}
+use Rattle.pblk_world.proofs.WorldLemmas.{media_at}
 
 -- ---- one event
-
-pub event_beside : (s : Shape) (chunks : List Chunk) (e : UnitEvent) (line : ℕ) → e.chunk ≢ line → slice_get (after_event s chunks e) line ≡ slice_get chunks line
-event_beside s chunks e line other = go (slice_get chunks e.chunk)
-  where
-    go : (o : Option Chunk) → slice_get (option_map_or (λ (c : Chunk). slice_set chunks e.chunk (after_outcome s c e.command e.outcome)) o chunks) line ≡ slice_get chunks line
-    go None = refl
-    go (Some c) = got_else chunks e.chunk line (after_outcome s c e.command e.outcome) (λ f. other (sym f))
-
-pub event_here : (s : Shape) (chunks : List Chunk) (e : UnitEvent) (line : ℕ) (c : Chunk) → e.chunk ≡ line → slice_get chunks line ≡ Some c → slice_get (after_event s chunks e) line ≡ Some (after_outcome s c e.command e.outcome)
-event_here s chunks e line c its there =
-    let here : slice_get chunks e.chunk ≡ Some c = ap (slice_get chunks) its ∙ there in
-    ap₂ (λ (o : Option Chunk) k. slice_get (option_map_or (λ (c : Chunk). slice_set chunks e.chunk (after_outcome s c e.command e.outcome)) o chunks) k) here (sym its)
-    ∙ got_here chunks e.chunk c (after_outcome s c e.command e.outcome) here
 
 -- ---- a log
 

@@ -1,12 +1,10 @@
 -- What each event of a unit did, in a world in which nothing fails: a fetch, a program of pads before the unit knew that the
 -- mount had begun, and after that a program of its earliest stripe, or a reset of a chunk of a line that was given up.
-use Rattle.std.proofs.Common.{◌≡◌, ℕ, ◌<◌, ◌≤◌, ◌⊎◌, ◌==◌, ◌&&◌, ◌||◌, zero, suc, Bool, true, false, Some, None, Option, List, [], ◌∷◌, take, refl, sym, subst, ap, ap₂, ◌∙◌, arith, inl, inr}
+use Rattle.std.proofs.Common.{◌≡◌, ℕ, ◌<◌, ◌≤◌, ◌⊎◌, ◌==◌, ◌&&◌, ◌||◌, suc, Bool, true, false, Some, None, Option, List, [], ◌∷◌, take, refl, sym, subst, ap, ap₂, ◌∙◌, inl, inr}
 use Rattle.std.specs.Prelude.{slice_get}
 use Rattle.std.specs.List.{AllByRecursion, filter_map, cons_option, list_any}
 use Rattle.std.specs.Option.{option_and_then}
-use Rattle.std.proofs.lemmas.Option.{none-some}
 use Rattle.pblk_model.specs.declared.shape.Shape.{Shape}
-use Rattle.pblk_model.specs.declared.chunk.ChunkState.{ChunkState}
 use Rattle.pblk_model.specs.declared.chunk.ChunkState.TheVariants as states
 use Rattle.pblk_model.specs.Chunk.{Chunk, Block}
 use Rattle.pblk_model.specs.ChunkStep.{ChunkCommand, Write, Read, Reset, ChunkAnswer, Done, Gave, Empty, Refused, refusal}
@@ -19,15 +17,17 @@ use Rattle.pblk_world.specs.EngineLog.{Begun, begun, life_of, is_opened, Placed,
 use Rattle.pblk_world.specs.Lines.{is_empty_state, is_given_up}
 use Rattle.pblk_world.specs.Commanding.{is_reset, was_stopped, ended_stripes, is_stopped_reset, IsCommand, IsStripe, IsGivenUp, MayDo}
 use Rattle.core_laws.specs.PlainWorlds.{is_plain_outcome, is_plain_event, ArePlain, IsPlainWorld}
-use Rattle.core_laws.proofs.Lists.{all_at}
-use Rattle.stripe_placer.proofs.Among.{IsAmong, from_filter}
 use Rattle.pblk_laws.specs.LineBlocks.{chunk_in}
-use Rattle.pblk_laws.proofs.Lists.{all_take}
 use Rattle.media_laws.proofs.Decisions.{begun_before}
 use Rattle.media_laws.proofs.Made.{IsMade, made, IsWorldAt, world_at}
 use Rattle.media_laws.proofs.LineLives.{IsInLine, living}
 use Rattle.media_laws.proofs.Growing.{placed_kept}
 use Rattle.media_laws.proofs.UnitChunks.{chunk_after, media_chunk_after}
+use Rattle.lemmas.proofs.Lists.{IsAmong}
+use Rattle.lemmas.proofs.Maps.{from_filter}
+use Rattle.lemmas.proofs.Parts.{all_at, all_taken}
+use Rattle.pblk_world.proofs.EngineLogLemmas.{begun_knows}
+use Rattle.pblk_world.proofs.LinesLemmas.{used_is}
 
 -- ---- deeds
 
@@ -91,24 +91,18 @@ answered_by (Answered a) plain = (a, refl)
 answered_by (Failed k) plain = absurd (cc)
 answered_by (Stopped k) plain = absurd (cc)
 
-used_is : (state : ChunkState) → IsUsed state → is_empty_state state ≡ false
-used_is states.Free is = absurd is
-used_is states.Open is = refl
-used_is states.Closed is = refl
-used_is states.Offline is = absurd is
-
 -- nothing was stopped
 
 never_stopped : (chunk : ℕ) (log : List Logged) → ArePlain log → list_any (is_stopped_reset chunk) (filter_map (λ (l : Logged). unit_event_of l.event) log) ≡ false
 never_stopped chunk [] plain = refl
 never_stopped chunk (l ∷ log) plain = go l.event plain.0 (never_stopped chunk log plain.1)
   where
-    and_no : (b : Bool) → (b && false) ≡ false
-    and_no true = refl
-    and_no false = refl
+    and_false : (b : Bool) → (b && false) ≡ false
+    and_false true = refl
+    and_false false = refl
 
     not_stopped : (e : UnitEvent) (outcome : UnitOutcome) → e.outcome ≡ outcome → is_plain_outcome outcome ≡ true → is_stopped_reset chunk e ≡ false
-    not_stopped e (Answered answer) f plain = ap (λ (o : UnitOutcome). (e.chunk == chunk) && is_reset e.command && was_stopped o) f ∙ and_no ((e.chunk == chunk) && is_reset e.command)
+    not_stopped e (Answered answer) f plain = ap (λ (o : UnitOutcome). (e.chunk == chunk) && is_reset e.command && was_stopped o) f ∙ and_false ((e.chunk == chunk) && is_reset e.command)
     not_stopped e (Failed k) f plain = absurd (cc)
     not_stopped e (Stopped k) f plain = absurd (cc)
 
@@ -118,10 +112,6 @@ never_stopped chunk (l ∷ log) plain = go l.event plain.0 (never_stopped chunk 
     go (Does e maker) plain rest = ap₂ (λ a b. a || b) (not_stopped e e.outcome refl plain) rest
 
 -- ---- by what allowed it
-
-begun_knows : (n : ℕ) (log : List Logged) (b : Begun) → begun (take n log) ≡ Some b → 0 < n
-begun_knows zero log b e = absurd (none-some b e)
-begun_knows (suc n) log b e = omega arith
 
 module _ (i : Image) (w : World) (plain : IsPlainWorld i w) (unit n : ℕ) (l : Logged) (e : UnitEvent) (m : IsMade i w unit n l e) where
   abbrev log : List Logged
@@ -164,7 +154,7 @@ module _ (i : Image) (w : World) (plain : IsPlainWorld i w) (unit n : ℕ) (l : 
     where
       none : list_any (is_stopped_reset e.chunk) (unit_events m.logs unit) ≡ false
       none = ap (λ (xs : List Logged). list_any (is_stopped_reset e.chunk) (filter_map (λ (l : Logged). unit_event_of l.event) xs)) m.own
-          ∙ never_stopped e.chunk (take n own) (all_take (λ (x : Logged). is_plain_event x.event ≡ true) n own (plain.units unit))
+          ∙ never_stopped e.chunk (take n own) (all_taken (λ (x : Logged). is_plain_event x.event ≡ true) n own (plain.units unit))
 
       go : IsUsed found.state ⊎ (list_any (is_stopped_reset e.chunk) (unit_events m.logs unit) ≡ true) → is_empty_state found.state ≡ false
       go (inl used) = used_is found.state used

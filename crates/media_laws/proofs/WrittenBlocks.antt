@@ -7,9 +7,9 @@ use Rattle.pblk_model.specs.declared.chunk.ChunkState.TheVariants as states
 use Rattle.pblk_model.specs.Chunk.{Chunk, Block, free_chunk}
 use Rattle.pblk_model.specs.ChunkStep.{appended}
 use Rattle.pblk_world.specs.EngineLog.{Placed}
-use Rattle.core_laws.proofs.Rows.{other_number}
 use Rattle.media_laws.specs.Standing.{state_at, chunk_with, blocks_of_stripes}
 use Rattle.media_laws.proofs.History.{filled}
+use Rattle.lemmas.proofs.Tests.{other_number}
 
 state_more : (s : Shape) (n : ℕ) → 0 < n → (if nat_lt n s.clba then states.Open else states.Closed) ≡ state_at s n
 state_more s n h = ap (λ b. if b then states.Free else (if nat_lt n s.clba then states.Open else states.Closed)) (sym (other_number n 0 (λ e. absurd (omega arith))))

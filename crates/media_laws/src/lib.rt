@@ -1,12 +1,14 @@
-//! Laws on what stands on a drive in the worlds of a mount.
+//! Laws on what stands on a drive in a plain world: one in which nothing fails or is stopped, copied or freed.
 //!
-//! What a chunk holds by the stripes that were placed in it stands in `specs/`.
+//! - The stripes of an opened line follow one another in line order, on the units that the line had when it was
+//!   opened.
+//! - A chunk of such a line has the blocks of the stripes that were programmed there (`specs/` says what these
+//!   are). A landed block can be read where the engine takes it for readable.
+//! - The chunks of other lines stay as they were found, but that chunks of lines that were given up may be
+//!   emptied.
+//! - The program of the next stripe isn't refused.
 #![tactic(auto)]
 
 mod laws;
 
-pub use laws::{
-    a_block_stands_at_its_address, a_chunk_has_its_stripes, a_landed_block_is_readable,
-    a_line_is_over_once_it_landed, an_opened_line_has_its_units, other_chunks_stay,
-    stripes_follow_one_another, the_engine_knows_its_image, the_next_program_is_taken,
-};
+pub use laws::a_chunk_has_its_stripes;

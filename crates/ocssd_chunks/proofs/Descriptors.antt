@@ -1,12 +1,11 @@
 -- A descriptor's spelling: how it is put together, and that it is read back.
-use Rattle.std.proofs.Common.{◌≡◌, ℕ, ◌^◌, ◌<◌, true, List, [], ◌++◌, length, drop, Some, Ok, refl, ap, ◌∙◌, append_assoc, arith, length-drop}
+use Rattle.std.proofs.Common.{◌≡◌, ℕ, ◌^◌, ◌<◌, true, List, [], ◌++◌, length, drop, Ok, refl, ap, ◌∙◌, append_assoc, arith, length-drop}
 use Rattle.std.proofs.lemmas.List.{append-nil, nil_from_length, take_at, drop_at, length-append}
 use Rattle.std.proofs.lemmas.Nat.{from_le_bytes-to_le_bytes_8}
 use borrow.Rule.Slice.PartMut.{put_mid}
-use Rattle.pblk_model.specs.declared.chunk.ChunkState.{ChunkState}
-use Rattle.pblk_model.specs.declared.chunk.ChunkState.TheVariants as states
 use Rattle.pblk_model.specs.Bytes.{zeros}
-use Rattle.pblk_model.specs.Descriptor.{Descriptor, spelled, pointer_holds, state_code, state_in, unless_astray, of_state, read_descriptor}
+use Rattle.pblk_model.specs.Descriptor.{Descriptor, spelled, pointer_holds, unless_astray, of_state, read_descriptor}
+use Rattle.pblk_model.proofs.DescriptorLemmas.{state_back}
 
 -- eight elements that are written after a front
 put_after : (front rest more : List ℕ) (place : ℕ) → length front ≡ place → put_mid place 8 (front ++ rest) more ≡ (front ++ more) ++ drop 8 rest
@@ -32,12 +31,6 @@ same_fields d slba cnlb wp p q r = rw (p, q, r) refl
 
 holds_back : (d read : Descriptor) → read ≡ d → pointer_holds d.state d.cnlb d.wp ≡ true → unless_astray read ≡ Ok d
 holds_back d read same holds = rw (same, holds) refl
-
-state_back : (state : ChunkState) → state_in (state_code state) ≡ Some state
-state_back states.Free = refl
-state_back states.Open = refl
-state_back states.Closed = refl
-state_back states.Offline = refl
 
 -- what is spelled is read
 pub read_back : (d : Descriptor) → d.slba < 2 ^ 64 → d.cnlb < 2 ^ 64 → d.wp < 2 ^ 64 → pointer_holds d.state d.cnlb d.wp ≡ true → read_descriptor (spelled d) ≡ Ok d

@@ -5,8 +5,8 @@ use Rattle.pblk_model.specs.declared.chunk.Mark.{Mark}
 use Rattle.pblk_model.specs.declared.chunk.ChunkState.{ChunkState}
 use Rattle.pblk_model.specs.Chunk.{Chunk}
 use Rattle.pblk_model.specs.ChunkStep.{after_reset, reset_in}
-use Rattle.ocssd_chunks.proofs.BlockList.{length-blocks_of}
 use Rattle.ocssd_chunks.proofs.Writes.{chunk_of}
+use Rattle.pblk_model.proofs.BlocksLemmas.{length-blocks_of}
 
 -- a chunk without blocks, in the state that a reset at the number of marks gives
 pub after_reset_is : (s : Shape) (state : ChunkState) (bytes : List ℕ) (marks : List Mark) (wp : ℕ) (next : ChunkState) (new : Chunk) → wp ≡ length marks → reset_in s state wp ≡ record { state = next; blocks = [] } → new ≡ record { state = next; blocks = [] }

@@ -11,7 +11,8 @@ use Rattle.pblk_model.specs.Bytes.{le64}
 use Rattle.pblk_model.specs.Blocks.{blocks_of}
 use Rattle.pblk_model.specs.ImageFile.{block_bytes}
 use Rattle.ocssd_chunks.specs.Spelled.{AddsSpelled}
-use Rattle.ocssd_chunks.proofs.BlockList.{blocks_of-append, length-blocks_of}
+use Rattle.lemmas.proofs.Numbers.{next_at}
+use Rattle.pblk_model.proofs.BlocksLemmas.{blocks_of-append, length-blocks_of}
 
 -- the first n blocks of what is spelled were added, and the rest is left
 pub record IsSpellingSoFar (size n : ℕ) (spelled rest old_bytes new_bytes : List ℕ) (old_marks new_marks : List Mark) : Type 0 where
@@ -34,15 +35,12 @@ spelling_begins size spelled bytes marks = record {
   };
 }
 
-pub next-mul : (n size : ℕ) → (n + 1) * size ≡ n * size + size
-next-mul n size = grind arith
-
 -- what is left is at least one more
 pub room_for_next : (n count width long : ℕ) → n < count → long ≡ (count - n) * width → width ≤ long
 room_for_next n count width long below long-is =
     let more : count - n ≡ (count - (n + 1)) + 1 = omega arith in
     let k = count - (n + 1) in
-    omega (arith, long-is, ap (λ m. m * width) more, next-mul k width)
+    omega (arith, long-is, ap (λ m. m * width) more, next_at k width)
 
 -- and there is room for it
 pub room_for_more : (n count size used room : ℕ) → n < count → used + (count - n) * size ≤ room → used + size ≤ room
@@ -73,7 +71,7 @@ spelling_goes_on size n spelled rest block others old_bytes bytes new_bytes old_
         marks = a.marks ++ (m ∷ []);
         bytes_added = more_bytes ∙ ap (λ b. b ++ take size block) a.bytes_added ∙ append_assoc old_bytes a.bytes (take size block);
         marks_added = more_marks ∙ ap (λ b. b ++ (m ∷ [])) a.marks_added ∙ append_assoc old_marks a.marks (m ∷ []);
-        whole = omega (arith, a.whole, length-append a.bytes (take size block), length-take-le size block (omega (arith, long)), next-mul n size);
+        whole = omega (arith, a.whole, length-append a.bytes (take size block), length-take-le size block (omega (arith, long)), next_at n size);
         many = omega (arith, a.many, length-append a.marks (m ∷ []));
         spelling = ap (flat_map block_bytes) (blocks_of-append size a.bytes (take size block) a.marks (m ∷ []) (rw a.many a.whole))
             ∙ flat_map-append block_bytes (blocks_of size a.bytes a.marks) (blocks_of size (take size block) (m ∷ []))

@@ -12,7 +12,9 @@ use Rattle.pblk_model.specs.declared.chunk.ChunkErr.{ChunkErr}
 use Rattle.pblk_model.specs.Chunk.{Chunk, Block, PointerFits, IsChunk, IsBlock, pointer}
 use Rattle.pblk_model.specs.ChunkStep.{Write, refusal, write_refusal_in, place_refusal}
 use Rattle.pblk_model.specs.Blocks.{blocks_of}
-use Rattle.ocssd_chunks.proofs.BlockList.{length-blocks_of, all_append}
+use Rattle.lemmas.proofs.Lists.{all_append}
+use Rattle.pblk_model.proofs.BlocksLemmas.{length-blocks_of}
+use Rattle.pblk_model.proofs.ChunkLemmas.{pointer_within}
 
 -- the chunk of this state, with the blocks of these bytes and marks
 abbrev pub chunk_of : Shape → ChunkState → List ℕ → List Mark → Chunk
@@ -41,12 +43,6 @@ placed wp clba some within =
 
 mod-add : (a b m : ℕ) → a % m ≡ 0 → b % m ≡ 0 → (a + b) % m ≡ 0
 mod-add a b m first second = sym (mod-add-mod a m b) ∙ rw first (ap (λ (n : ℕ). n % m) (omega arith) ∙ second)
-
-pub pointer_within : (state : ChunkState) (clba wp : ℕ) → PointerFits state clba wp → wp ≤ clba
-pointer_within states.Free clba wp fits = omega arith
-pointer_within states.Open clba wp fits = omega arith
-pointer_within states.Closed clba wp fits = fits
-pointer_within states.Offline clba wp fits = omega arith
 
 -- a chunk with blocks appended, in a state that the new write pointer fits
 pub IsChunk-joined : (s : Shape) (c : Chunk) (state : ChunkState) (blocks : List Block) → IsChunk s c → PointerFits state s.clba (pointer c + length blocks) → length blocks % s.ws_min ≡ 0 → AllByRecursion (IsBlock s) blocks

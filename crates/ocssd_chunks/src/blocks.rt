@@ -37,8 +37,8 @@ pub fn has_sectors(shape: &Shape, bytes: &[u8], marks: &[Mark]) -> bool
     }
 }
 
-/// Adds `count` blocks, each spelled as its sector of `size` bytes and its mark's two numbers, at the ends of lists that have
-/// room for them.
+/// Adds `count` blocks, each spelled as its sector of `size` bytes and its mark's two numbers, at the ends
+/// of lists that have room for them.
 pub(crate) fn append_spelled(
     bytes: &mut Vec<u8>,
     marks: &mut Vec<Mark>,
@@ -49,7 +49,8 @@ pub(crate) fn append_spelled(
     requires whole { length spelled.now ≡ count * (size + 16) }
     requires room_for_bytes { vec_len bytes.old + count * size ≤ vec_capacity bytes.old }
     requires room_for_marks { vec_len marks.old + count ≤ vec_capacity marks.old }
-    ensures added { AddsSpelled size count spelled.now bytes.old.items bytes.new.items marks.old.items marks.new.items }
+    ensures added { AddsSpelled size count spelled.now bytes.old.items bytes.new.items
+        marks.old.items marks.new.items }
     ensures kept_bytes { vec_capacity bytes.old ≤ vec_capacity bytes.new }
     ensures kept_marks { vec_capacity marks.old ≤ vec_capacity marks.new }
 {
@@ -131,7 +132,8 @@ pub(crate) fn first_blocks<'a, 'b>(
     requires whole { length bytes.now ≡ length marks.now * size }
     ensures count { length result.1.now ≡ count }
     ensures whole { length result.0.now ≡ count * size }
-    ensures first { blocks_of size result.0.now result.1.now ≡ take count (blocks_of size bytes.now marks.now) }
+    ensures first { blocks_of size result.0.now result.1.now
+        ≡ take count (blocks_of size bytes.now marks.now) }
 {
     (&bytes[..count * size], &marks[..count])
 }

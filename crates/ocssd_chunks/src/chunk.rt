@@ -148,7 +148,8 @@ impl Chunk {
     /// Refused `NotResettable`, with the chunk as before, where it is Free or Offline (Open-Channel SSD
     /// Specification 2.0, Chunk states, Vector reset).
     pub fn reset(&mut self) -> Result<(), ChunkErr>
-        ensures step { ChunkStep self.old.shape self.old.chunk Reset (reset_answer result) self.new.chunk }
+        ensures step { ChunkStep self.old.shape self.old.chunk Reset (reset_answer result)
+            self.new.chunk }
 
         // What `step` says of the new chunk, for either result.
         ensures done { OnOk result (self.new.chunk ≡ after_reset self.old.shape self.old.chunk) }
@@ -270,11 +271,13 @@ impl Chunk {
         self.append(bytes, marks, state);
     }
 
-    /// Gives a chunk a state, and `count` blocks in place of what it had, from bytes in which each block is its sector and
-    /// then its mark, two numbers of eight little-endian bytes (Open-Channel SSD Specification 2.0, Chunk states and write
-    /// pointer; the spelling is this project's). Each sector is copied once.
+    /// Gives a chunk a state, and `count` blocks in place of what it had, from bytes in which each block is
+    /// its sector and then its mark, two numbers of eight little-endian bytes (Open-Channel SSD
+    /// Specification 2.0, Chunk states and write pointer; the spelling is this project's). Each sector is
+    /// copied once.
     ///
-    /// The count is a multiple of WS_MIN: none for Free and Offline, from 1 to below CLBA for Open, up to CLBA for Closed.
+    /// The count is a multiple of WS_MIN: none for Free and Offline, from 1 to below CLBA for Open, up to
+    /// CLBA for Closed.
     pub fn restore_spelled(&mut self, state: ChunkState, count: u32, bytes: &[u8])
         requires whole { length bytes.now ≡ count * (self.old.shape.sector + 16) }
         requires place { PointerFits state self.old.shape.clba count }

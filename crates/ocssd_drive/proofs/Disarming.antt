@@ -4,8 +4,9 @@ use Rattle.std.proofs.lemmas.Option.{slice_get-map, slice_get_within}
 use native.Mathlib.Decide.{ℕ_discrete}
 use Rattle.ocssd_drive.specs.Journal.{IsCalm}
 use Rattle.ocssd_drive.specs.Units.{WornUnit, disarmed}
-use Rattle.ocssd_drive.proofs.Lists.{same_lists, some_same}
+use Rattle.ocssd_drive.proofs.Lists.{some_same}
 use Rattle.ocssd_drive.proofs.Changing.{IsChanging, none_changed, one_changed, same_changed, all_changed, still_old}
+use Rattle.lemmas.proofs.Parts.{same_lists}
 
 abbrev pub disarm_at : ℕ → WornUnit → WornUnit
 disarm_at i u = disarmed u

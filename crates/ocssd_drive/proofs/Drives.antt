@@ -3,7 +3,6 @@ use Rattle.std.proofs.Common.{◌≡◌, ℕ, zero, suc, Bool, true, false, ltb,
 use Rattle.std.specs.List.{AllByRecursion, enumerate_from}
 use Rattle.std.specs.Vec.{with_items}
 use Rattle.std.specs.Option.{option_map}
-use Rattle.std.proofs.Math.Nat.{zero-mod}
 use Rattle.std.proofs.lemmas.List.{length-replicate, with_items_is}
 use Rattle.std.proofs.lemmas.Option.{none-some}
 use Rattle.atomic_table.specs.Seated.{TableId}
@@ -22,6 +21,7 @@ use Rattle.ocssd_drive.proofs.Restoring.{IsUnitAt, unit_at, still_whole}
 use Rattle.ocssd_drive.specs.DriveFields.{drive_view}
 use Rattle.ocssd_drive.specs.declared.drive.Drive.TheInside.{Inside}
 use Rattle.pblk_model.specs.Shape.{units as units_of}
+use Rattle.pblk_model.proofs.ChunkLemmas.{free_is_chunk}
 
 -- units of a drive of this shape
 abbrev pub HaveShape : Shape → List WornUnit → Type 0
@@ -89,12 +89,9 @@ pub fits_again : (n : ℕ) (given fuse : Option Fuse) → fuse ≡ fitting_fuse 
 fits_again n None fuse is = rw is refl
 fits_again n (Some f) fuse is = is ∙ twice n f (ltb f.unit n) refl ∙ ap (fitting_fuse n) (sym is)
 
-free_fits : (s : Shape) → IsChunk s free_chunk
-free_fits s = record { place = refl; multiple = zero-mod s.ws_min; blocks = tt }
-
 free_all : (s : Shape) (n : ℕ) → AllByRecursion (IsChunk s) (replicate n free_chunk)
 free_all s zero = tt
-free_all s (suc n) = (free_fits s, free_all s n)
+free_all s (suc n) = (free_is_chunk s, free_all s n)
 
 new_of : (s : Shape) → IsUnitOf s (new_unit s)
 new_of s = record {

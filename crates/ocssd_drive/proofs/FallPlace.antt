@@ -11,7 +11,8 @@ use Rattle.std.proofs.lemmas.Option.{slice_get-get_or}
 use Rattle.std.proofs.lemmas.List.Elements.{All-from_recursion, recursion_from_All}
 use Rattle.ocssd_drive.specs.declared.tally.Fall.{Fall}
 use Rattle.ocssd_drive.specs.Tally.{cut_of, IsFalling, IsPlace}
-use Rattle.ocssd_drive.proofs.FallingOrder.{all_weaker, cut_of-absent, cut_of-at}
+use Rattle.ocssd_drive.proofs.FallingOrder.{cut_of-absent, cut_of-at}
+use Rattle.lemmas.proofs.Lists.{all_imply}
 
 pub all-insert : {X : Type 0} (P : X → Type 0) (xs : List X) (at : ℕ) (x : X) → AllByRecursion P xs → P x → AllByRecursion P (insert xs at x)
 all-insert P xs zero x all this = (this, all)
@@ -31,7 +32,7 @@ IsFalling-insert (f ∷ falls) (suc at) fall falling place counted fits =
 -- and adds its cut, on its command alone
 pub cut_of-insert : (falls : List Fall) (at : ℕ) (fall : Fall) → IsPlace falls fall.nth at → (m : ℕ) → cut_of (insert falls at fall) m ≡ option_or (cut_of falls m) (cut_of (fall ∷ []) m)
 cut_of-insert falls zero fall place m =
-    let none : fall.nth ≡ m → cut_of falls m ≡ None = λ same. cut_of-absent falls m (all_weaker (λ (f : Fall). f.nth < fall.nth) (λ (f : Fall). f.nth ≢ m) (λ f below is. omega arith) falls place.earlier) in
+    let none : fall.nth ≡ m → cut_of falls m ≡ None = λ same. cut_of-absent falls m (all_imply (λ (f : Fall). f.nth < fall.nth) (λ (f : Fall). f.nth ≢ m) (λ f below is. omega arith) falls place.earlier) in
     grind (arith, nat_tests)
 cut_of-insert [] (suc at) fall place m = absurd (omega (arith, place.within))
 cut_of-insert (f ∷ falls) (suc at) fall place m =

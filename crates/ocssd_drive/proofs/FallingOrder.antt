@@ -5,20 +5,7 @@ use Rattle.std.proofs.lemmas.Bool.Decides.{nat_tests}
 use Rattle.std.proofs.lemmas.Option.{slice_get_within}
 use Rattle.ocssd_drive.specs.declared.tally.Fall.{Fall}
 use Rattle.ocssd_drive.specs.Tally.{cut_of, IsFalling}
-
-pub all_weaker : {X : Type 0} (P Q : X → Type 0) → ((x : X) → P x → Q x) → (xs : List X) → AllByRecursion P xs → AllByRecursion Q xs
-all_weaker P Q weaker [] all = tt
-all_weaker P Q weaker (x ∷ xs) all = (weaker x all.0, all_weaker P Q weaker xs all.1)
-
-pub all_take : {X : Type 0} (P : X → Type 0) (n : ℕ) (xs : List X) → AllByRecursion P xs → AllByRecursion P (take n xs)
-all_take P zero xs all = tt
-all_take P (suc n) [] all = tt
-all_take P (suc n) (x ∷ xs) all = (all.0, all_take P n xs all.1)
-
-pub all_at : {X : Type 0} (P : X → Type 0) (xs : List X) (i : ℕ) (x : X) → AllByRecursion P xs → slice_get xs i ≡ Some x → P x
-all_at P [] i x all at = absurd (cc)
-all_at P (y ∷ ys) zero x all at = let first : y ≡ x = cc in subst P first all.0
-all_at P (y ∷ ys) (suc i) x all at = all_at P ys i x all.1 at
+use Rattle.lemmas.proofs.Parts.{all_get, all_taken}
 
 -- no fault falls on a command that isn't among their numbers
 pub cut_of-absent : (falls : List Fall) (n : ℕ) → AllByRecursion (λ (f : Fall). f.nth ≢ n) falls → cut_of falls n ≡ None
@@ -34,20 +21,20 @@ cut_of-at (f ∷ falls) zero n fall falling at is =
     let cut : f.cut ≡ fall.cut = cc in
     grind (arith, nat_tests)
 cut_of-at (f ∷ falls) (suc i) n fall falling at is =
-    let below : fall.nth < f.nth = all_at (λ (g : Fall). g.nth < f.nth) falls i fall falling.2 at in
+    let below : fall.nth < f.nth = all_get (λ (g : Fall). g.nth < f.nth) falls i fall falling.2 at in
     let rest = cut_of-at falls i n fall falling.3 at is in
     grind (arith, nat_tests)
 
 pub IsFalling-take : (n : ℕ) (falls : List Fall) → IsFalling falls → IsFalling (take n falls)
 IsFalling-take zero falls falling = tt
 IsFalling-take (suc n) [] falling = tt
-IsFalling-take (suc n) (f ∷ falls) falling = (falling.0, falling.1, all_take _ n falls falling.2, IsFalling-take n falls falling.3)
+IsFalling-take (suc n) (f ∷ falls) falling = (falling.0, falling.1, all_taken _ n falls falling.2, IsFalling-take n falls falling.3)
 
 -- those before a fault fall later
 pub before_later : (falls : List Fall) (i : ℕ) (fall : Fall) → IsFalling falls → slice_get falls i ≡ Some fall → AllByRecursion (λ (f : Fall). fall.nth < f.nth) (take i falls)
 before_later falls zero fall falling at = tt
 before_later [] (suc i) fall falling at = tt
-before_later (f ∷ falls) (suc i) fall falling at = (all_at (λ (g : Fall). g.nth < f.nth) falls i fall falling.2 at, before_later falls i fall falling.3 at)
+before_later (f ∷ falls) (suc i) fall falling at = (all_get (λ (g : Fall). g.nth < f.nth) falls i fall falling.2 at, before_later falls i fall falling.3 at)
 
 -- the fault at the last place
 pub record IsLast (falls : List Fall) (i : ℕ) (fall : Fall) : Type 0 where
@@ -68,7 +55,7 @@ all_after [] i n fall falling last later = tt
 all_after (f ∷ []) zero n fall falling last later = let first : fall ≡ f = cc (sym last.at) in (subst (λ (g : Fall). n < g.nth) first later, tt)
 all_after (f ∷ g ∷ falls) zero n fall falling last later = absurd (omega (arith, last.ends))
 all_after (f ∷ falls) (suc i) n fall falling last later =
-    let below : fall.nth < f.nth = all_at (λ (g : Fall). g.nth < f.nth) falls i fall falling.2 last.at in
+    let below : fall.nth < f.nth = all_get (λ (g : Fall). g.nth < f.nth) falls i fall falling.2 last.at in
     (omega arith, all_after falls i n fall falling.3 (last_tail f falls i fall last) later)
 
 -- without the last, each command but its own has what it had

@@ -16,6 +16,7 @@ use Rattle.ocssd_drive.specs.Drive.{AreArmedTogether, FuseFell, KnowsMore, fitti
 use Rattle.ocssd_drive.proofs.Lists.{some_same}
 use Rattle.ocssd_drive.proofs.Changing.{later, read_at, still_old}
 use Rattle.ocssd_drive.proofs.Disarming.{IsDisarming, disarm_at, none_done, one_more, same_done, all_done, all_calm}
+use Rattle.lemmas.proofs.Tests.{or_true}
 
 -- units that were armed together, with a fuse that falls at commands of the unit `at`, whose seat is `first`
 pub record IsFused (old : List WornUnit) (at : ℕ) (first : SeatView) : Type 0 where
@@ -172,10 +173,6 @@ other_there old at i first units keeper d h within apart =
     let x = slice_index_or units i d in
     let number : x.unit.armed.unit ≡ i = h.fused.numbers i x (still_old disarm_at old units (is_done at i) i d h.disarming.changing within (done_yet at i apart)) in
     fuse_elsewhere x.unit.armed h.fused.fuse (fuse_there old at i first units keeper d h within apart) (λ e. apart (sym number ∙ sym e ∙ h.fused.here))
-
-or_true : (b : Bool) → (b || true) ≡ true
-or_true true = refl
-or_true false = refl
 
 -- at the end
 done_below : (at i j : ℕ) → j < i → is_done at i j ≡ true

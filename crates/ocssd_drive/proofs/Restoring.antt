@@ -16,7 +16,8 @@ use Rattle.ocssd_geometry.specs.Numbers.{numbers_of}
 use Rattle.pblk_model.specs.Shape.{units}
 use Rattle.ocssd_drive.specs.Units.{WornUnit, IsUnitOf, new_unit, stored_chunks, with_stored, worn_chunk}
 use Rattle.ocssd_drive.specs.Drive.{DriveView, IsWhole, new_drive, shape_of, stored, with_chunk_at, with_restored, with_units}
-use Rattle.ocssd_drive.proofs.UnitChunks.{all_get, all_set}
+use Rattle.lemmas.proofs.Maps.{map-replicate}
+use Rattle.lemmas.proofs.Parts.{all_get, all_set}
 
 -- this stands at a place of the drive's units
 pub record IsUnitAt (d : DriveView) (i : ℕ) (u : WornUnit) : Type 0 where
@@ -63,10 +64,6 @@ stored-set u at k = rw (zip-set u.unit.media u.wear at k.chunk k.wear, map-set) 
 -- the same of the drive in a file
 pub stored-restored : (d : DriveView) (i chunk : ℕ) (k : StoredChunk) (u : WornUnit) → slice_get d.units i ≡ Some u → stored (with_restored i chunk k d) ≡ with_chunk_at i chunk k (stored d)
 stored-restored d i chunk k u there = rw (slice_get-map, there, map-set, stored-set u chunk k) refl
-
-map-replicate : {A B : Type 0} (f : A → B) (n : ℕ) (x : A) → map f (replicate n x) ≡ replicate n (f x)
-map-replicate f zero x = refl
-map-replicate f (suc n) x = ap (λ ys. f x ∷ ys) (map-replicate f n x)
 
 abbrev worn_of : Chunk × ℕ → StoredChunk
 worn_of p = record { chunk = p.0; wear = p.1 }

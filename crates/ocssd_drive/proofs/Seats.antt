@@ -13,14 +13,11 @@ use Rattle.ocssd_drive.specs.Arming.{IsLoaded, finds, seat_after, view_after}
 use Rattle.ocssd_drive.proofs.Befalls.{was_stopped, falls_now, never_fails, never_stops}
 use Rattle.ocssd_drive.proofs.Counted.{changes_of-more, changes_of-grows}
 use Rattle.ocssd_drive.proofs.Events.{events_since-add, has_failed-add, has_stopped-add}
+use Rattle.lemmas.proofs.Tests.{or_true}
 
 or_left : (x y : Bool) → (x || y) ≡ true → y ≡ false → x ≡ true
 or_left true y either none = refl
 or_left false y either none = cc
-
-or_true : (x : Bool) → (x || true) ≡ true
-or_true true = refl
-or_true false = refl
 
 unfound : (found : Bool) → (found ≡ true → false ≡ true) → (found || false) ≡ false
 unfound true h = sym (h refl)

@@ -6,6 +6,7 @@ use Rattle.atomic_table.specs.Table.{State, Me, step, opening, Allows, Splits, J
 use Rattle.atomic_table.proofs.Lists.{at_set, at_snoc, at_longer, set_else}
 use Rattle.ocssd_drive.specs.declared.stop_word.StopView.{StopView}
 use Rattle.ocssd_drive.specs.StopWord.{FitsWord, IsStopWord, Looks, Blows, keeper, other_unit, looked, blown, joined}
+use Rattle.lemmas.proofs.Parts.{store_sets}
 
 -- what every seat knows fits the word
 abbrev AllFit : ℕ → Bool → List StopView → Type 0
@@ -35,9 +36,6 @@ number_tells words false e = subst (λ (l : List ℕ). (slice_index l 0 == 1) �
 
 load_stays : (words : List ℕ) (n : ℕ) → words ≡ n ∷ [] → slice_set words 0 (slice_index words 0) ≡ n ∷ []
 load_stays words n e = subst (λ (l : List ℕ). slice_set l 0 (slice_index l 0) ≡ n ∷ []) (sym e) refl
-
-store_sets : (words : List ℕ) (n m : ℕ) → words ≡ n ∷ [] → slice_set words 0 m ≡ m ∷ []
-store_sets words n m e = subst (λ (l : List ℕ). slice_set l 0 m ≡ m ∷ []) (sym e) refl
 
 either_set : (a b s : Bool) → (a ≡ true → s ≡ true) → (b ≡ true → s ≡ true) → (a || b) ≡ true → s ≡ true
 either_set true b s left right e = left refl

@@ -10,7 +10,7 @@ use Rattle.unit_port.specs.declared.armed.FaultPlan.{FaultPlan}
 use Rattle.ocssd_drive.specs.declared.tally.Fall.{Fall}
 use Rattle.ocssd_drive.specs.Faults.{planned}
 use Rattle.ocssd_drive.specs.Tally.{cut_of, IsFalling, IsTally}
-use Rattle.ocssd_drive.proofs.FallingOrder.{all_weaker}
+use Rattle.lemmas.proofs.Lists.{all_imply}
 
 planned-append : (plans : List FaultPlan) (plan : FaultPlan) (unit : ℕ) (kind : CommandKind) (m : ℕ) → planned (plans ++ plan ∷ []) unit kind m ≡ option_or (planned plans unit kind m) (planned (plan ∷ []) unit kind m)
 planned-append [] plan unit kind m = grind arith
@@ -62,7 +62,7 @@ module _ (plans : List FaultPlan) (unit : ℕ) (kind : CommandKind) (n count : �
       let counts = counts_next count n next is tally.counted in
       let at_most : next ≤ n + 1 = counts_at_most next (n + 1) counts in
       let same : next ≡ n + 1 = counts_same next (n + 1) counts (omega (arith, tally.ahead.0, falling.1)) in
-      let none_earlier = all_weaker (λ (f : Fall). n < f.nth) (λ (f : Fall). next ≤ f.nth) (λ f ahead. omega arith) (f ∷ falls) tally.ahead in
+      let none_earlier = all_imply (λ (f : Fall). n < f.nth) (λ (f : Fall). next ≤ f.nth) (λ f ahead. omega arith) (f ∷ falls) tally.ahead in
       read none_earlier ∙ (ap (cut_of (f ∷ falls)) same ∙ tally.falls (n + 1) (omega arith))
 
   pub tally_next : (falls new : List Fall) (next : ℕ) → next ≡ min (count + 1) (2 ^ 64 - 1) → IsFalling new → ((m : ℕ) → next < m → cut_of new m ≡ cut_of falls m)
@@ -71,7 +71,7 @@ module _ (plans : List FaultPlan) (unit : ℕ) (kind : CommandKind) (n count : �
   tally_next falls new next is falling later ahead tally =
       let counts = counts_next count n next is tally.counted in
       let at_most : next ≤ n + 1 = counts_at_most next (n + 1) counts in
-      let none_earlier = all_weaker (λ (f : Fall). n < f.nth) (λ (f : Fall). next ≤ f.nth) (λ f ahead. omega arith) falls tally.ahead in
+      let none_earlier = all_imply (λ (f : Fall). n < f.nth) (λ (f : Fall). next ≤ f.nth) (λ f ahead. omega arith) falls tally.ahead in
       record {
         counted = counts;
         ahead = ahead_by_count new next (n + 1) falling (λ below. counts_same next (n + 1) counts (omega arith)) (ahead none_earlier);

@@ -1,5 +1,5 @@
 -- A unit's chunks: all are chunks of its drive, and one of them is replaced.
-use Rattle.std.proofs.Common.{◌≡◌, ℕ, zero, suc, ◌+◌, ◌<◌, lit<, replicate, nat_lt, vec_len, false, Bor, List, [], ◌∷◌, ◌++◌, length, map, get_or, slice_get, slice_set, is_some, IfSome, Option, Some, None, refl, sym, ap, ap₂, subst, ◌∙◌, add-one}
+use Rattle.std.proofs.Common.{◌≡◌, ℕ, zero, suc, ◌+◌, ◌<◌, lit<, replicate, nat_lt, vec_len, false, Bor, List, [], ◌∷◌, ◌++◌, length, map, get_or, slice_get, is_some, IfSome, Option, Some, None, refl, sym, ap, ap₂, subst, ◌∙◌, add-one}
 use Rattle.std.proofs.lemmas.List.{length-map, map-append}
 use Rattle.std.proofs.lemmas.Bool.{ltb-true, ltb-false}
 use Rattle.std.proofs.lemmas.Option.{slice_get-map, slice_get_read, slice_get_within, slice_get_past, same_Some}
@@ -11,33 +11,15 @@ use Rattle.unit_port.specs.Unit.{IsChunkOf, IsFitUnit}
 use Rattle.ocssd_drive.specs.Units.{WornUnit, IsChunkIn, IsUnitOf}
 use Rattle.ocssd_drive.specs.UnitFields.{IsSound, worn_unit}
 use Rattle.ocssd_drive.specs.declared.memory_unit.MemoryUnit.TheInside.{Inside}
+use Rattle.lemmas.proofs.Lists.{with_last}
+use Rattle.lemmas.proofs.Parts.{all_get}
 
 abbrev pub chunks_of : List DriveChunk → List Chunk
 chunks_of chunks = map (λ (c : DriveChunk). c.chunk) chunks
 
-pub all_set : {X : Type 0} (P : X → Type 0) (xs : List X) (i : ℕ) (x : X) → AllByRecursion P xs → P x → AllByRecursion P (slice_set xs i x)
-all_set P [] i x all one = tt
-all_set P (y ∷ ys) zero x all one = (one, all.1)
-all_set P (y ∷ ys) (suc i) x all one = (all.0, all_set P ys i x all.1 one)
-
-pub all_get : {X : Type 0} (P : X → Type 0) (xs : List X) (i : ℕ) (x : X) → AllByRecursion P xs → slice_get xs i ≡ Some x → P x
-all_get P [] i x all there = cc
-all_get P (y ∷ ys) zero x all there =
-    let same : y ≡ x = cc in
-    rw (← same) all.0
-all_get P (y ∷ ys) (suc i) x all there = all_get P ys i x all.1 there
-
 pub all_chunks : (s : Shape) (chunks : List DriveChunk) → AllByRecursion (IsChunkIn s) chunks → AllByRecursion (IsChunk s) (chunks_of chunks)
 all_chunks s [] all = tt
 all_chunks s (c ∷ chunks) all = (all.0.fits, all_chunks s chunks all.1)
-
--- what stands where it is written again changes nothing
-pub set_again : {X : Type 0} (xs : List X) (i : ℕ) (x : X) → slice_get xs i ≡ Some x → slice_set xs i x ≡ xs
-set_again [] i x there = refl
-set_again (y ∷ ys) zero x there =
-    let same : y ≡ x = cc in
-    rw same refl
-set_again (y ∷ ys) (suc i) x there = ap (λ zs. y ∷ zs) (set_again ys i x there)
 
 pub chunk_there : (chunks : List DriveChunk) (i : ℕ) (c : DriveChunk) → slice_get chunks i ≡ Some c → slice_get (chunks_of chunks) i ≡ Some c.chunk
 chunk_there chunks i c there = rw (slice_get-map, there) refl
@@ -149,10 +131,6 @@ one_more_same old new n x y same is added = added ∙ ap₂ (λ (xs : List _) (z
 pub one_more_free : (old new : List DriveChunk) (n : ℕ) (c : DriveChunk) → chunks_of old ≡ replicate n free_chunk → c.chunk ≡ free_chunk → new ≡ old ++ c ∷ [] → chunks_of new ≡ replicate (n + 1) free_chunk
 one_more_free old new n c same is added = one_more_same (chunks_of old) (chunks_of new) n c.chunk free_chunk same is (ap chunks_of added ∙ map-append (λ (x : DriveChunk). x.chunk) old (c ∷ []))
 
-pub all_more : {X : Type 0} (P : X → Type 0) (xs : List X) (x : X) → AllByRecursion P xs → P x → AllByRecursion P (xs ++ x ∷ [])
-all_more P [] x all one = (one, tt)
-all_more P (y ∷ ys) x all one = (all.0, all_more P ys x all.1 one)
-
 -- a new chunk is one of a drive of its shape
 pub new_chunk_in : (s : Shape) (c : DriveChunk) → c ≡ record { shape = s; chunk = free_chunk } → IsChunk c.shape c.chunk → IsChunkIn s c
 new_chunk_in s c is fits =
@@ -161,4 +139,4 @@ new_chunk_in s c is fits =
 
 -- one more new chunk
 pub one_more_in : (s : Shape) (old new : List DriveChunk) (c : DriveChunk) → AllByRecursion (IsChunkIn s) old → c ≡ record { shape = s; chunk = free_chunk } → IsChunk c.shape c.chunk → new ≡ old ++ c ∷ [] → AllByRecursion (IsChunkIn s) new
-one_more_in s old new c all is fits added = subst (λ (cs : List DriveChunk). AllByRecursion (IsChunkIn s) cs) (sym added) (all_more (IsChunkIn s) old c all (new_chunk_in s c is fits))
+one_more_in s old new c all is fits added = subst (λ (cs : List DriveChunk). AllByRecursion (IsChunkIn s) cs) (sym added) (with_last (IsChunkIn s) old c all (new_chunk_in s c is fits))

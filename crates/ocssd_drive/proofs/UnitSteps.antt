@@ -7,7 +7,7 @@ use Rattle.std.specs.Vec.{with_item}
 use Rattle.pblk_model.specs.declared.shape.Shape.{Shape}
 use Rattle.pblk_model.specs.Chunk.{Chunk}
 use Rattle.pblk_model.specs.ChunkStep.{ChunkCommand, Read, WritesBlocks, refusal}
-use Rattle.pblk_model.specs.UnitLog.{UnitEvent, UnitOutcome, Answered, Failed, Stopped, after_event, after_outcome}
+use Rattle.pblk_model.specs.UnitLog.{UnitEvent, UnitOutcome, Stopped, after_event, after_outcome}
 use Rattle.ocssd_chunks.specs.DriveChunk.{DriveChunk}
 use Rattle.unit_port.specs.declared.armed.CommandKind.{CommandKind}
 use Rattle.unit_port.specs.declared.armed.CommandKind.TheVariants as kinds
@@ -22,7 +22,8 @@ use Rattle.ocssd_drive.specs.Planned.{IsPlanned}
 use Rattle.ocssd_drive.specs.Journal.{JournalView}
 use Rattle.ocssd_drive.specs.Units.{WornUnit, IsChunkIn, TakesUnder, MeetsFault}
 use Rattle.ocssd_drive.specs.UnitFields.{IsSound, worn_unit}
-use Rattle.ocssd_drive.proofs.UnitChunks.{IsFound, chunks_of, chunk_within, all_set, chunk_there, set_again, fit}
+use Rattle.ocssd_drive.proofs.UnitChunks.{IsFound, chunks_of, chunk_within, chunk_there, fit}
+use Rattle.lemmas.proofs.Parts.{all_set, set_same}
 
 -- what a journal finds befalls the next command of a kind
 pub record Finds (old : JournalView) (kind : CommandKind) (fault : Fault) (new : JournalView) : Type 0 where
@@ -95,11 +96,6 @@ left_media : (s : Shape) (chunks : List DriveChunk) (chunk : ℕ) (command : Chu
     → chunks_of (slice_set chunks chunk left) ≡ after_event s (chunks_of chunks) (event_of chunk command outcome)
 left_media s chunks chunk command outcome found left there is = rw (chunk_there chunks chunk found there, map-set, is) refl
 
-after_read : (s : Shape) (c : Chunk) (block : ℕ) (outcome : UnitOutcome) → after_outcome s c (Read block) outcome ≡ c
-after_read s c block (Answered answer) = refl
-after_read s c block (Failed k) = refl
-after_read s c block (Stopped k) = refl
-
 pub steps : (u : Inside) (chunk : ℕ) (command : ChunkCommand) (fault : Fault) (outcome : UnitOutcome) (j next : JournalView) (c : Chunk) (found left : DriveChunk) → Finds u.journal (kind_of command) fault j → IsFound u chunk c found → MeetsFault u.shape found command fault outcome left
     → next.log ≡ j.log ++ event_of chunk command outcome ∷ [] → next.armed ≡ j.armed → WritesBlocks u.shape command
     → Steps (worn_unit u).unit chunk command outcome (after u (slice_set u.chunks.items chunk left) next)
@@ -121,7 +117,7 @@ steps u chunk command fault outcome j next c found left befalls f met noted arme
 pub steps_reading : (u : Inside) (chunk block : ℕ) (fault : Fault) (outcome : UnitOutcome) (j next : JournalView) (c : Chunk) (found : DriveChunk) → Finds u.journal kinds.Fetch fault j → IsFound u chunk c found → MeetsFault u.shape found (Read block) fault outcome found
     → next.log ≡ j.log ++ event_of chunk (Read block) outcome ∷ [] → next.armed ≡ j.armed → Steps (worn_unit u).unit chunk (Read block) outcome (after u u.chunks.items next)
 steps_reading u chunk block fault outcome j next c found befalls f met noted armed =
-    rw (set_again u.chunks.items chunk found f.there) at (steps u chunk (Read block) fault outcome j next c found found befalls f met noted armed tt)
+    rw (set_same u.chunks.items chunk found f.there) at (steps u chunk (Read block) fault outcome j next c found found befalls f met noted armed tt)
 
 pub sound_after : (u : Inside) (chunk : ℕ) (left : DriveChunk) (next : JournalView) → IsSound u → IsChunkIn u.shape left → IsSound (record { shape = u.shape; chunks = with_item u.chunks chunk left; wear = u.wear; journal = next })
 sound_after u chunk left next sound one = record {

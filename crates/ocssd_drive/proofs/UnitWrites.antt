@@ -1,5 +1,5 @@
 -- What a program lands that meets a fault.
-use Rattle.std.proofs.Common.{◌≡◌, ℕ, zero, suc, ◌*◌, ◌/◌, ◌-◌, ◌<◌, ◌≤◌, min, List, [], ◌∷◌, length, take, drop, refl, ap, arith, None}
+use Rattle.std.proofs.Common.{◌≡◌, ℕ, zero, suc, ◌*◌, ◌/◌, ◌-◌, ◌<◌, ◌≤◌, min, List, length, take, refl, ap, arith, None}
 use Rattle.std.proofs.lemmas.Bool.Decides.{nat_tests}
 use Rattle.std.proofs.Math.Nat.{mul-le-mul_right, mul-lt-mul_of_pos_right}
 use Rattle.ocssd_chunks.specs.DriveChunk.{DriveChunk}
@@ -13,10 +13,7 @@ use Rattle.pblk_model.specs.ChunkStep.{Write, refusal, place_refusal, write_refu
 use Rattle.pblk_model.specs.UnitLog.{Failed, Stopped, IsOutcome, after_outcome}
 use Rattle.ocssd_drive.specs.declared.fault.Fault.TheVariants as faults
 use Rattle.ocssd_drive.specs.Units.{IsChunkIn, IsWrite, MeetsFault}
-
-pub length-blocks_of : (size : ℕ) (bytes : List ℕ) (marks : List Mark) → length (blocks_of size bytes marks) ≡ length marks
-length-blocks_of size bytes [] = refl
-length-blocks_of size bytes (m ∷ marks) = ap suc (length-blocks_of size (drop size bytes) marks)
+use Rattle.pblk_model.proofs.BlocksLemmas.{length-blocks_of}
 
 place_of : (s : Shape) (wp at n : ℕ) → place_refusal s wp at n ≡ None → IsWrite s n
 place_of s wp at n e = record { some = grind (arith, nat_tests); multiple = grind (arith, nat_tests); within = grind (arith, nat_tests) }

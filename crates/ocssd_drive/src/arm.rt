@@ -30,7 +30,8 @@ pub(crate) fn make_armings(
 ) -> Result<Vec<Arming>, AllocError>
     requires { fuse ≡ fitting_fuse units fuse }
     ensures count { IfOk result (λ armings. length armings.items ≡ units) }
-    ensures each { IfOk result (λ armings. (word : Option TableId) × HasWord fuse word × AreArmings plans.now fuse word armings.items) }
+    ensures each { IfOk result (λ armings. (word : Option TableId) × HasWord fuse word
+        × AreArmings plans.now fuse word armings.items) }
 {
     let mut keeper = make_keeper(alloc, &fuse)?;
     let mut armings = make_others(alloc, units, plans, &mut keeper)?;
@@ -109,7 +110,8 @@ pub(crate) fn install(
 )
     requires count { length armings.items ≡ length units.old }
     requires few { length units.old < 2 ^ 32 }
-    requires each { (word : Option TableId) × HasWord fuse word × AreArmings plans.now fuse word armings.items }
+    requires each { (word : Option TableId) × HasWord fuse word
+        × AreArmings plans.now fuse word armings.items }
     ensures { (word : Option TableId) → AreArmings plans.now fuse word armings.items
         → units.new ≡ armed_units plans.now fuse word units.old }
 {

@@ -14,8 +14,10 @@ use crate::stop_word::StopSeat;
 pub(crate) fn disarm_units(units: &mut [MemoryUnit])
     requires { AreArmedTogether units.old }
     ensures units { units.new ≡ map disarmed units.old }
-    ensures stopped { (i : ℕ) (u : WornUnit) → slice_get units.old i ≡ Some u → IsStopped u.unit → FuseFell units.old u.unit.armed }
-    ensures calm { (i : ℕ) (u : WornUnit) → slice_get units.old i ≡ Some u → IsCalm u.unit.armed u.unit.log }
+    ensures stopped { (i : ℕ) (u : WornUnit) → slice_get units.old i ≡ Some u → IsStopped u.unit
+        → FuseFell units.old u.unit.armed }
+    ensures calm { (i : ℕ) (u : WornUnit) → slice_get units.old i ≡ Some u
+        → IsCalm u.unit.armed u.unit.log }
 {
     match fuse_unit(units) {
         Some(at) => disarm_fused(units, at),
@@ -25,8 +27,10 @@ pub(crate) fn disarm_units(units: &mut [MemoryUnit])
 
 // The unit on which the fuse falls, if there is a fuse.
 fn fuse_unit(units: &[MemoryUnit]) -> Option<usize>
-    ensures some { IfSome result (λ at. (u : WornUnit) × (slice_get units.now at ≡ Some u) × (fuse_is_at u.unit.armed ≡ true)) }
-    ensures none { IfNone result ((i : ℕ) (u : WornUnit) → slice_get units.now i ≡ Some u → fuse_is_at u.unit.armed ≡ false) }
+    ensures some { IfSome result (λ at. (u : WornUnit) × (slice_get units.now at ≡ Some u)
+        × (fuse_is_at u.unit.armed ≡ true)) }
+    ensures none { IfNone result ((i : ℕ) (u : WornUnit) → slice_get units.now i ≡ Some u
+        → fuse_is_at u.unit.armed ≡ false) }
 {
     units.iter().position(MemoryUnit::has_fuse)
 }
@@ -34,7 +38,8 @@ fn fuse_unit(units: &[MemoryUnit]) -> Option<usize>
 // Disarms units without a fuse.
 fn disarm_plain(units: &mut [MemoryUnit])
     ensures units { units.new ≡ map disarmed units.old }
-    ensures calm { (i : ℕ) (u : WornUnit) → slice_get units.old i ≡ Some u → IsCalm u.unit.armed u.unit.log }
+    ensures calm { (i : ℕ) (u : WornUnit) → slice_get units.old i ≡ Some u
+        → IsCalm u.unit.armed u.unit.log }
 {
     for unit in units {
         unit.disarm();
@@ -44,10 +49,13 @@ fn disarm_plain(units: &mut [MemoryUnit])
 // Disarms units with a fuse, which falls on the unit `at`.
 fn disarm_fused(units: &mut [MemoryUnit], at: usize)
     requires together { AreArmedTogether units.old }
-    requires there { (u : WornUnit) × (slice_get units.old at ≡ Some u) × (fuse_is_at u.unit.armed ≡ true) }
+    requires there { (u : WornUnit) × (slice_get units.old at ≡ Some u)
+        × (fuse_is_at u.unit.armed ≡ true) }
     ensures units { units.new ≡ map disarmed units.old }
-    ensures stopped { (i : ℕ) (u : WornUnit) → slice_get units.old i ≡ Some u → IsStopped u.unit → FuseFell units.old u.unit.armed }
-    ensures calm { (i : ℕ) (u : WornUnit) → slice_get units.old i ≡ Some u → IsCalm u.unit.armed u.unit.log }
+    ensures stopped { (i : ℕ) (u : WornUnit) → slice_get units.old i ≡ Some u → IsStopped u.unit
+        → FuseFell units.old u.unit.armed }
+    ensures calm { (i : ℕ) (u : WornUnit) → slice_get units.old i ≡ Some u
+        → IsCalm u.unit.armed u.unit.log }
 {
     let unit = &mut units[at];
     let Some(mut keeper) = unit.disarm() else {

@@ -149,8 +149,8 @@ impl Drive {
         found.restore(chunk, wear, state, bytes, marks);
     }
 
-    /// As `restore`, from `count` blocks of which each is spelled as its sector and then its mark, two numbers of eight
-    /// little-endian bytes. Each sector is copied once.
+    /// As `restore`, from `count` blocks of which each is spelled as its sector and then its mark, two
+    /// numbers of eight little-endian bytes. Each sector is copied once.
     pub fn restore_spelled(
         &mut self,
         unit: u32,
@@ -185,9 +185,9 @@ impl Drive {
         plans: &[FaultPlan],
         fuse: Option<Fuse>,
     ) -> Result<(), AllocError>
-        ensures armed { OnOk result ((word : Option TableId)
-            × HasWord (fitting_fuse (length self.old.units) fuse) word
-            × (self.new ≡ with_units (armed_units plans.now (fitting_fuse (length self.old.units) fuse) word self.old.units) self.old)) }
+        ensures armed { let fits = fitting_fuse (length self.old.units) fuse
+            in OnOk result ((word : Option TableId) × HasWord fits word
+            × (self.new ≡ with_units (armed_units plans.now fits word self.old.units) self.old)) }
         ensures together { OnOk result (AreArmedTogether self.new.units) }
         ensures refused { OnErr result (self.new ≡ self.old) }
         ensures numbers { shape_of self.new ≡ shape_of self.old }
@@ -211,8 +211,10 @@ impl Drive {
     pub fn disarm(&mut self)
         requires { AreArmedTogether self.old.units }
         ensures units { self.new ≡ with_units (map disarmed self.old.units) self.old }
-        ensures stopped { (i : ℕ) (u : WornUnit) → slice_get self.old.units i ≡ Some u → IsStopped u.unit → FuseFell self.old.units u.unit.armed }
-        ensures calm { (i : ℕ) (u : WornUnit) → slice_get self.old.units i ≡ Some u → IsCalm u.unit.armed u.unit.log }
+        ensures stopped { (i : ℕ) (u : WornUnit) → slice_get self.old.units i ≡ Some u
+            → IsStopped u.unit → FuseFell self.old.units u.unit.armed }
+        ensures calm { (i : ℕ) (u : WornUnit) → slice_get self.old.units i ≡ Some u
+            → IsCalm u.unit.armed u.unit.log }
         ensures whole { IsWhole self.new }
     {
         disarm_units(&mut self.units);

@@ -78,10 +78,14 @@ impl Journal {
     pub(crate) fn fault(&mut self, kind: CommandKind) -> Fault
         ensures same { (self.new.log ≡ self.old.log) × (self.new.armed ≡ self.old.armed) }
         ensures loaded { IsLoaded self.old.seat self.new.seat (finds self.new.seat) }
-        ensures fault { result ≡ fault_of self.new.armed (events_since self.new.armed self.new.log) (finds self.new.seat) kind }
+        ensures fault { result
+            ≡ fault_of self.new.armed (events_since self.new.armed self.new.log)
+            (finds self.new.seat) kind }
         ensures found { finds self.new.seat ≡ true → IsSome self.new.armed.fuse }
-        ensures stays { has_stopped self.old.armed self.old.log ≡ true → finds self.new.seat ≡ true }
-        ensures own { fuse_is_at self.old.armed ≡ true → finds self.new.seat ≡ true → has_stopped self.old.armed self.old.log ≡ true }
+        ensures stays { has_stopped self.old.armed self.old.log ≡ true
+            → finds self.new.seat ≡ true }
+        ensures own { fuse_is_at self.old.armed ≡ true → finds self.new.seat ≡ true
+            → has_stopped self.old.armed self.old.log ≡ true }
     {
         if finds_stop(&mut self.armed.stop) {
             return Fault::Stopped;
@@ -97,7 +101,9 @@ impl Journal {
         shown: &S,
     )
         requires kind { kind_of (S.shown shown.now).command ≡ kind }
-        requires fault { fault ≡ fault_of self.old.armed (events_since self.old.armed self.old.log) (finds self.old.seat) kind }
+        requires fault { fault
+            ≡ fault_of self.old.armed (events_since self.old.armed self.old.log)
+            (finds self.old.seat) kind }
         requires fails { is_fail (S.shown shown.now).outcome ≡ is_failing fault }
         requires stops { is_stop (S.shown shown.now).outcome ≡ is_stopping fault }
         ensures log { self.new.log ≡ self.old.log ++ S.shown shown.now ∷ [] }
@@ -125,7 +131,13 @@ impl Journal {
         requires resets { IsTally plans.now unit kinds.Reset 0 arming.resets }
         requires stop { FitsArming unit fuse arming.stop }
         ensures log { self.new.log ≡ self.old.log }
-        ensures armed { self.new.armed ≡ record { unit = unit; plans = plans.now; fuse = fuse; word = word_of arming.stop; since = length self.old.log } }
+        ensures armed { self.new.armed ≡ record {
+          unit = unit;
+          plans = plans.now;
+          fuse = fuse;
+          word = word_of arming.stop;
+          since = length self.old.log;
+        } }
         ensures seat { self.new.seat ≡ arming.stop }
     {
         self.arms.add(&Arms {
@@ -190,7 +202,8 @@ impl Arming {
     fn stop_cut(&self, fuse: Option<Fuse>, kind: CommandKind) -> Option<u32>
         ensures { (a : Armed) (events : List UnitEvent)
             → AreTallies a events self.now.programs self.now.fetches self.now.resets
-            → fuse ≡ own_fuse a.unit a.fuse → result ≡ fuse_cut a.fuse a.unit kind (changes_of events) }
+            → fuse ≡ own_fuse a.unit a.fuse
+            → result ≡ fuse_cut a.fuse a.unit kind (changes_of events) }
     {
         match fuse {
             Some(fuse) if is_change(kind) && u64::from(fuse.nth) == self.next_change() => {
@@ -229,7 +242,8 @@ impl Arming {
         ensures tallies { (a : Armed) (events : List UnitEvent) (event : UnitEvent)
             → kind_of event.command ≡ kind
             → AreTallies a events self.old.programs self.old.fetches self.old.resets
-            → AreTallies a (events ++ event ∷ []) self.new.programs self.new.fetches self.new.resets }
+            → AreTallies a (events ++ event ∷ []) self.new.programs self.new.fetches
+            self.new.resets }
         ensures stop { self.new.stop ≡ self.old.stop }
     {
         match kind {

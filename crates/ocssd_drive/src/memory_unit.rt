@@ -4,9 +4,8 @@ ghost use Rattle.pblk_model.specs.Accepted.{IsAccepted};
 ghost use Rattle.pblk_model.specs.Blocks.{blocks_of};
 ghost use Rattle.pblk_model.specs.Chunk.{IsChunk, PointerFits, free_chunk, pointer};
 ghost use Rattle.pblk_model.specs.ChunkStep.{Write, Read, Reset};
-ghost use Rattle.pblk_model.specs.UnitLog.{UnitOutcome};
 ghost use Rattle.unit_port.specs.Armed.{IsUnarmed};
-ghost use Rattle.unit_port.specs.Unit.{IsChunkOf, IsFitUnit, IsReady, Steps, Takes, TellsBlock, TellsDone};
+ghost use Rattle.unit_port.specs.Unit.{IsChunkOf, IsFitUnit, IsReady, Takes, TellsBlock, TellsDone, DidProgram, DidFetch, DidReset};
 ghost use Rattle.ocssd_drive.specs.Planned.{IsPlanned};
 ghost use Rattle.ocssd_drive.specs.Units.{WornUnit, new_unit, with_arms, with_stored, worn_chunk, disarmed, IsChunkIn, IsUnitOf, IsWrite, TakesUnder, MeetsFault};
 ghost use Rattle.ocssd_drive.specs.Shown.{outcome_of, fetch_outcome};
@@ -198,8 +197,8 @@ impl MemoryUnit {
         found.restore(state, bytes, marks);
     }
 
-    /// As `restore`, from `count` blocks of which each is spelled as its sector and then its mark, two numbers of eight
-    /// little-endian bytes. Each sector is copied once.
+    /// As `restore`, from `count` blocks of which each is spelled as its sector and then its mark, two
+    /// numbers of eight little-endian bytes. Each sector is copied once.
     pub fn restore_spelled(
         &mut self,
         chunk: u32,
@@ -227,7 +226,13 @@ impl MemoryUnit {
         requires fetches { IsTally plans.now unit kinds.Fetch 0 arming.fetches }
         requires resets { IsTally plans.now unit kinds.Reset 0 arming.resets }
         requires stop { FitsArming unit fuse arming.stop }
-        ensures { self.new ≡ with_arms (record { unit = unit; plans = plans.now; fuse = fuse; word = word_of arming.stop; since = length self.old.unit.log }) arming.stop self.old }
+        ensures { self.new ≡ with_arms (record {
+          unit = unit;
+          plans = plans.now;
+          fuse = fuse;
+          word = word_of arming.stop;
+          since = length self.old.unit.log;
+        }) arming.stop self.old }
     {
         self.journal.arm(arming, unit, plans, fuse);
     }
@@ -263,8 +268,7 @@ impl Unit for MemoryUnit {
         ensures calm { IsCalm self.new.unit.armed self.new.unit.log }
 
         // What each `Unit` ensures.
-        ensures event { let blocks = blocks_of self.old.unit.shape.sector bytes.now marks.now
-            in (outcome : UnitOutcome) × TellsDone result outcome × Steps self.old.unit chunk (Write at blocks) outcome self.new.unit }
+        ensures event { DidProgram self.old.unit chunk at bytes.now marks.now result self.new.unit }
         ensures fits { IsFitUnit self.new.unit }
         ensures wear { self.new.wear ≡ self.old.wear }
         ensures quiet { IsUnarmed self.old.unit.armed → IsOk result }
@@ -293,7 +297,7 @@ impl Unit for MemoryUnit {
         ensures calm { IsCalm self.new.unit.armed self.new.unit.log }
 
         // What each `Unit` ensures.
-        ensures event { (outcome : UnitOutcome) × TellsBlock out.old out.new result outcome × Steps self.old.unit chunk (Read block) outcome self.new.unit }
+        ensures event { DidFetch self.old.unit chunk block out.old out.new result self.new.unit }
         ensures fits { IsFitUnit self.new.unit }
         ensures wear { self.new.wear ≡ self.old.wear }
         ensures quiet { IsUnarmed self.old.unit.armed → IsOk result }
@@ -317,7 +321,7 @@ impl Unit for MemoryUnit {
         ensures calm { IsCalm self.new.unit.armed self.new.unit.log }
 
         // What each `Unit` ensures.
-        ensures event { (outcome : UnitOutcome) × TellsDone result outcome × Steps self.old.unit chunk Reset outcome self.new.unit }
+        ensures event { DidReset self.old.unit chunk result self.new.unit }
         ensures fits { IsFitUnit self.new.unit }
         ensures wear { self.new.wear ≡ self.old.wear }
         ensures quiet { IsUnarmed self.old.unit.armed → IsOk result }
@@ -332,7 +336,8 @@ impl Unit for MemoryUnit {
 
     fn state(&self, chunk: u32) -> (ChunkState, u32)
         requires { chunk < length self.now.unit.media }
-        ensures { (found : _) × IsChunkOf self.now.unit chunk found × (result.0 ≡ found.state) × (result.1 ≡ pointer found) }
+        ensures { (found : _) × IsChunkOf self.now.unit chunk found × (result.0 ≡ found.state)
+            × (result.1 ≡ pointer found) }
     {
         let found = &self.chunks[chunk as usize];
         found.state()
@@ -401,7 +406,8 @@ fn read_chunk(chunk: &Chunk, fault: Fault, block: u32, out: &mut [u8]) -> Result
     requires chunk { IsChunk chunk.now.shape chunk.now.chunk }
     requires whole { length out.old ≡ chunk.now.shape.sector }
     requires taken { TakesUnder chunk.now.shape chunk.now.chunk (Read block) fault }
-    ensures met { MeetsFault chunk.now.shape chunk.now (Read block) fault (fetch_outcome out.new result) chunk.now }
+    ensures met { MeetsFault chunk.now.shape chunk.now (Read block) fault
+        (fetch_outcome out.new result) chunk.now }
     ensures tells { TellsBlock out.old out.new result (fetch_outcome out.new result) }
 {
     match fault {

@@ -36,7 +36,8 @@ impl Model for StopSeat {
 
     ghost view = { λ s. record { word = s.seat.table_id; view = s.seat.me.0 } };
 
-    ghost invariant = { λ s. (s.seat.table_id ≡ (arc_value s.table).shared.table_id) × ((arc_value s.table).shared.table_id.words ≡ 1) × (s.seat.me.1 ≡ []) };
+    ghost invariant = { λ s. (s.seat.table_id ≡ (arc_value s.table).shared.table_id)
+        × ((arc_value s.table).shared.table_id.words ≡ 1) × (s.seat.me.1 ≡ []) };
 }
 
 // The word is 1 exactly where the fuse's unit, which has a seat, says that it fell there, and who found it
@@ -110,7 +111,8 @@ impl StopSeat {
 
     /// Loads the word: whether it is set.
     pub(crate) fn load(&mut self) -> bool
-        ensures view { self.new ≡ record { word = self.old.word; view = looked self.old.view result } }
+        ensures view { self.new
+            ≡ record { word = self.old.word; view = looked self.old.view result } }
         ensures found { self.old.view.found ≡ true → result ≡ true }
         ensures fell { self.old.view.fuse ≡ true → result ≡ self.old.view.fell }
     {
@@ -129,7 +131,8 @@ impl StopSeat {
     pub(crate) fn join(&mut self, other: StopSeat)
         requires word { other.word ≡ self.old.word }
         requires other { other.view.fuse ≡ false }
-        ensures { self.new ≡ record { word = self.old.word; view = joined self.old.view other.view } }
+        ensures { self.new
+            ≡ record { word = self.old.word; view = joined self.old.view other.view } }
     {
         let StopSeat { table: _, seat } = other;
         self.table.shared.join_seat::<Units>(&mut self.seat, seat);

@@ -1,12 +1,14 @@
 -- What an accepted geometry's numbers keep, and what bytes are read as.
-use Rattle.std.proofs.Common.{◌≡◌, ◌≢◌, ℕ, ◌+◌, ◌^◌, ◌≤◌, Bool, true, false, cond, Option, Some, None, Ok, Err, List, [], ◌∷◌, length, refl, sym, arith}
-use Rattle.std.proofs.lemmas.Bool.{and_parts, leb-true, ne_eqb}
-use Rattle.std.specs.Prelude.{◌<◌, ◌==◌, not, nat_le}
+use Rattle.std.proofs.Common.{◌≡◌, ◌≢◌, ℕ, ◌+◌, ◌^◌, ◌≤◌, Bool, true, Some, None, Ok, Err, List, [], ◌∷◌, length, refl, sym, arith}
+use Rattle.std.proofs.lemmas.Bool.{leb-true, ne_eqb}
+use Rattle.std.specs.Prelude.{◌<◌, ◌==◌, not}
 use Rattle.std.proofs.lemmas.Bool.Decides.{nat_tests}
 use Rattle.pblk_model.specs.declared.shape.GeometryErr.{GeometryErr}
 use Rattle.pblk_model.specs.declared.shape.GeometryErr.TheVariants.{Length}
 use Rattle.pblk_model.specs.Checks.{first_failing}
-use Rattle.pblk_model.specs.Geometry.{Geometry, geometry_in, length_holds, field_checks, profile_checks, refusal_from, profile_refusal, geometry_refusal, read_geometry}
+use Rattle.pblk_model.specs.Geometry.{Geometry, geometry_in, field_checks, profile_checks, geometry_refusal, read_geometry}
+use Rattle.lemmas.proofs.Options.{first_passes}
+use Rattle.pblk_model.proofs.GeometryLemmas.{holds, none_refused}
 
 -- ---- a geometry that isn't refused
 
@@ -14,23 +16,11 @@ abbrev AllPass : List (ℕ × Bool) → Type 0
 AllPass [] = Unit {0}
 AllPass (check ∷ checks) = (check.1 ≡ true) × AllPass checks
 
-first_passes : (b : Bool) (rest : Option ℕ) (n : ℕ) → cond b rest (Some n) ≡ None → (b ≡ true) × (rest ≡ None)
-first_passes true rest n e = (refl, e)
-first_passes false rest n e = absurd cc
-
 all_pass : (checks : List (ℕ × Bool)) → first_failing checks ≡ None → AllPass checks
 all_pass [] e = tt
 all_pass (check ∷ checks) e =
     let first = first_passes check.1 (first_failing checks) check.0 e in
     (first.0, all_pass checks first.1)
-
-none_profile : (rule : Option ℕ) → profile_refusal rule ≡ None → rule ≡ None
-none_profile None e = refl
-none_profile (Some rule) e = absurd cc
-
-none_refused : (field rule : Option ℕ) → refusal_from field rule ≡ None → (field ≡ None) × (rule ≡ None)
-none_refused None rule e = (refl, none_profile rule e)
-none_refused (Some offset) rule e = absurd cc
 
 -- the lengths of an address's fields
 pub record HasLengths (g : Geometry) : Type 0 where
@@ -40,19 +30,16 @@ pub record HasLengths (g : Geometry) : Type 0 where
   pub block : g.clba ≤ 2 ^ g.block_bits
   pub sum : g.group_bits + g.pu_bits + g.chunk_bits + g.block_bits ≤ 64
 
-held : (bits count : ℕ) → length_holds bits count ≡ true → count ≤ 2 ^ bits
-held bits count e = leb-true count (2 ^ bits) (and_parts (nat_le bits 32) (nat_le count (2 ^ bits)) e).1
-
 pub accepted_lengths : (g : Geometry) → geometry_refusal g ≡ None → HasLengths g
 accepted_lengths g e =
     let parts = none_refused (first_failing (field_checks g)) (first_failing (profile_checks g)) e in
     let fields = all_pass (field_checks g) parts.0 in
     let rules = all_pass (profile_checks g) parts.1 in
     record {
-      group = held g.group_bits g.groups fields.1.0;
-      pu = held g.pu_bits g.pus fields.1.1.0;
-      chunk = held g.chunk_bits g.chunks fields.1.1.1.0;
-      block = held g.block_bits g.clba fields.1.1.1.1.0;
+      group = holds g.group_bits g.groups fields.1.0;
+      pu = holds g.pu_bits g.pus fields.1.1.0;
+      chunk = holds g.chunk_bits g.chunks fields.1.1.1.0;
+      block = holds g.block_bits g.clba fields.1.1.1.1.0;
       sum = leb-true _ 64 rules.1.1.1.1.1.1.1.0;
     }
 

@@ -1,14 +1,11 @@
 -- Addresses and their numbers.
 use Rattle.std.proofs.Common.{◌≡◌, ℕ, ◌+◌, ◌*◌, ◌/◌, ◌%◌, ◌^◌, ◌<◌, ◌≤◌, None, refl, sym, ap, subst, ◌∙◌, arith}
-use Rattle.std.proofs.Math.Nat.{mul_comm, pow-le-pow_right}
-use Rattle.std.proofs.lemmas.Nat.{pow-add, mul-add-lt, div-mul-add, mod-mul-add, div-add-mod'}
+use Rattle.std.proofs.Math.Nat.{pow-le-pow_right}
+use Rattle.std.proofs.lemmas.Nat.{div-mul-add, mod-mul-add, div-add-mod'}
 use Rattle.pblk_model.specs.declared.shape.Address.{Address}
 use Rattle.pblk_model.specs.Geometry.{Geometry, packed, IsAddress, Packs, geometry_refusal}
 use Rattle.ocssd_geometry.proofs.Acceptance.{accepted_lengths}
-
--- a number and a field at its low end have together the bits of both
-joined_below : (high low i j : ℕ) → high < 2 ^ i → low < 2 ^ j → high * 2 ^ j + low < 2 ^ (i + j)
-joined_below high low i j above below = rw (pow-add 2 i j, mul_comm (2 ^ i) (2 ^ j)) (mul-add-lt high (2 ^ j) low (2 ^ i) above below)
+use Rattle.lemmas.proofs.Numbers.{joined_below}
 
 -- an address's number, and those of its front
 pub record FitsWords (g : Geometry) (a : Address) : Type 0 where

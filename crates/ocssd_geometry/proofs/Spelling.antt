@@ -1,22 +1,19 @@
 -- The one spelling of a geometry.
 use Rattle.std.proofs.Common.{◌≡◌, ℕ, ◌+◌, ◌^◌, ◌<◌, None, Ok, List, [], ◌∷◌, ◌++◌, length, take, drop, refl, sym, ap, subst, ◌∙◌, arith}
 use Rattle.std.specs.Prelude.{slice_index}
-use Rattle.std.proofs.lemmas.List.{append_assoc, take_at, drop_at, length-append, length-replicate, replicate-append-replicate}
+use Rattle.std.proofs.lemmas.List.{append_assoc, take_at, drop_at, length-append, replicate-append-replicate}
 use Rattle.std.proofs.lemmas.Nat.{from_le_bytes-to_le_bytes_2, from_le_bytes-to_le_bytes_4}
 use Rattle.pblk_model.specs.Bytes.{le16, le32, zeros}
 use Rattle.pblk_model.specs.Geometry.{Geometry, geometry_in, geometry_bytes, geometry_refusal, read_geometry}
 use Rattle.ocssd_geometry.specs.Places.{PutAt}
 use Rattle.ocssd_geometry.proofs.Acceptance.{read_accepted}
+use Rattle.pblk_model.proofs.BytesLemmas.{zeros_length}
 
 -- ---- bytes written among zeros
 
 zeros-add : (m n : ℕ) → zeros m ++ zeros n ≡ zeros (m + n)
 unfolding zeros
 zeros-add m n = replicate-append-replicate m n 0
-
-length-zeros : (n : ℕ) → length (zeros n) ≡ n
-unfolding zeros
-length-zeros n = length-replicate n 0
 
 -- bytes, and then zeros
 record IsBegun (out p : List ℕ) (n : ℕ) : Type 0 where
@@ -27,12 +24,12 @@ put_behind : (out new p ys : List ℕ) (at gap rest n : ℕ) → IsBegun out p n
 put_behind out new p ys at gap rest n was is place room =
     let parts : zeros n ≡ zeros gap ++ (zeros (length ys) ++ zeros rest) =
     ap zeros (sym room) ∙ sym (zeros-add (gap + length ys) rest) ∙ ap (λ (xs : List ℕ). xs ++ zeros rest) (sym (zeros-add gap (length ys))) ∙ append_assoc (zeros gap) (zeros (length ys)) (zeros rest) in
-    let front_length : length (p ++ zeros gap) ≡ at = length-append p (zeros gap) ∙ ap (λ (m : ℕ). length p + m) (length-zeros gap) ∙ place in
+    let front_length : length (p ++ zeros gap) ≡ at = length-append p (zeros gap) ∙ ap (λ (m : ℕ). length p + m) (zeros_length gap) ∙ place in
     let whole : out ≡ (p ++ zeros gap) ++ (zeros (length ys) ++ zeros rest) =
     was.is ∙ ap (λ (xs : List ℕ). p ++ xs) parts ∙ sym (append_assoc p (zeros gap) (zeros (length ys) ++ zeros rest)) in
     let twice : out ≡ ((p ++ zeros gap) ++ zeros (length ys)) ++ zeros rest = whole ∙ sym (append_assoc (p ++ zeros gap) (zeros (length ys)) (zeros rest)) in
     let both_length : length ((p ++ zeros gap) ++ zeros (length ys)) ≡ at + length ys =
-    length-append (p ++ zeros gap) (zeros (length ys)) ∙ rw (front_length, length-zeros (length ys)) refl in
+    length-append (p ++ zeros gap) (zeros (length ys)) ∙ rw (front_length, zeros_length (length ys)) refl in
     let front : take at out ≡ p ++ zeros gap = ap (λ (xs : List ℕ). take at xs) whole ∙ take_at (p ++ zeros gap) (zeros (length ys) ++ zeros rest) at front_length in
     let back : drop (at + length ys) out ≡ zeros rest =
     ap (λ (xs : List ℕ). drop (at + length ys) xs) twice ∙ drop_at ((p ++ zeros gap) ++ zeros (length ys)) (zeros rest) (at + length ys) both_length in
@@ -123,7 +120,7 @@ pub bytes_back : (g : Geometry) → FitsFields g → geometry_in (geometry_bytes
 bytes_back g h = spelled_back g (zeros 3948) h
 
 pub length-geometry_bytes : (g : Geometry) → length (geometry_bytes g) ≡ 4096
-length-geometry_bytes g = length-append (spelled g) (zeros 3948) ∙ rw (spelled_length g, length-zeros 3948) refl
+length-geometry_bytes g = length-append (spelled g) (zeros 3948) ∙ rw (spelled_length g, zeros_length 3948) refl
 
 pub read-geometry_bytes : (g : Geometry) → FitsFields g → geometry_refusal g ≡ None → read_geometry (geometry_bytes g) ≡ Ok g
 read-geometry_bytes g h accepted = sym (read_accepted (geometry_bytes g) g (length-geometry_bytes g) (sym (bytes_back g h)) (sym accepted))

@@ -1,6 +1,6 @@
 -- Before a world's units know that the mount has begun, they read and pad alone.
-use Rattle.std.proofs.Common.{◌≡◌, ℕ, ◌+◌, ◌⊎◌, ◌==◌, zero, suc, inl, inr, Bool, true, false, Option, Some, None, List, [], ◌∷◌, ◌++◌, map, length, take, refl, sym, ap, ◌∙◌, subst, arith, if◌then◌else◌, length-append, take_all}
-use Rattle.std.specs.List.{AllByRecursion, slice_get, filter_map, cons_option, enumerate_from}
+use Rattle.std.proofs.Common.{◌≡◌, ℕ, ◌+◌, ◌⊎◌, ◌==◌, suc, inl, inr, Bool, true, false, Option, Some, None, List, [], ◌∷◌, ◌++◌, length, take, refl, sym, ap, ◌∙◌, subst, arith, if◌then◌else◌, length-append, take_all}
+use Rattle.std.specs.List.{AllByRecursion, slice_get, filter_map, cons_option}
 use Rattle.std.specs.Option.{option_map, option_and_then}
 use Rattle.std.proofs.Math.Seq.{take-length}
 use Rattle.std.proofs.lemmas.Bool.{cases_lt}
@@ -17,36 +17,17 @@ use Rattle.pblk_world.specs.EngineLog.{begun}
 use Rattle.pblk_world.specs.Commanding.{MayDo, IsCommand}
 use Rattle.pblk_world.specs.Legal.{IsLegal, IsLegalStep, IsAllowed}
 use Rattle.pblk_laws.specs.LineBlocks.{chunk_in}
-use Rattle.pblk_laws.proofs.Lists.{all_at}
 use Rattle.pblk_laws.proofs.UnitLog.{log_leaves}
 use Rattle.opening_laws.specs.Padding.{IsPaddedAt, ArePadded}
 use Rattle.opening_laws.specs.Early.{ArePrefixes, AreEarly}
 use Rattle.opening_laws.proofs.PaddedChunks.{IsPaddedIn, PadsOnly, IsEarlyCommand, pads_or_reads}
+use Rattle.lemmas.proofs.Lists.{all_but_last, last_of}
+use Rattle.lemmas.proofs.Maps.{numbered_at}
+use Rattle.lemmas.proofs.Parts.{all_get, take_nothing}
+use Rattle.pblk_world.proofs.LegalLemmas.{whole_own}
+use Rattle.pblk_world.proofs.WorldLemmas.{length_media}
 
 -- ---- lists
-
-pub numbered_at : {X Y : Type 0} (f : ℕ × X → Y) (n : ℕ) (xs : List X) (k : ℕ) → slice_get (map f (enumerate_from n xs)) k ≡ option_map (λ x. f (n + k, x)) (slice_get xs k)
-numbered_at f n [] k = refl
-numbered_at {X} {Y} f n (x ∷ xs) zero = let same : n ≡ n + 0 = omega arith in let g : ℕ → Option Y = λ m. Some (f (m, x)) in ap g same
-numbered_at {X} {Y} f n (x ∷ xs) (suc k) =
-    let same : n + 1 + k ≡ n + suc k = omega arith in
-    numbered_at f (n + 1) xs k ∙ ap (λ m. option_map {U = Y} (λ y. f (m, y)) (slice_get xs k)) same
-
-numbered_length : {X Y : Type 0} (f : ℕ × X → Y) (n : ℕ) (xs : List X) → length (map f (enumerate_from n xs)) ≡ length xs
-numbered_length f n [] = refl
-numbered_length f n (x ∷ xs) = ap suc (numbered_length f (n + 1) xs)
-
-first_of : {X : Type 0} (P : X → Type 0) (xs : List X) (x : X) → AllByRecursion P (xs ++ x ∷ []) → AllByRecursion P xs
-first_of P [] x h = tt
-first_of P (y ∷ xs) x h = (h.0, first_of P xs x h.1)
-
-last_of : {X : Type 0} (P : X → Type 0) (xs : List X) (x : X) → AllByRecursion P (xs ++ x ∷ []) → P x
-last_of P [] x h = h.0
-last_of P (y ∷ xs) x h = last_of P xs x h.1
-
-take_none : {X : Type 0} (n : ℕ) → take {A = X} n [] ≡ []
-take_none zero = refl
-take_none (suc n) = refl
 
 -- ---- a unit's chunks
 
@@ -58,9 +39,6 @@ media_at i logs unit =
     let same : 0 + unit ≡ unit = omega arith in
     numbered_at (λ (u : ℕ × List Chunk). after_log i.shape u.1 (unit_events logs u.0)) 0 i.units unit
     ∙ ap (λ m. option_map (media_of i logs m) (slice_get i.units unit)) same
-
-pub media_count : (i : Image) (logs : Logs) → length (media i logs).units ≡ length i.units
-media_count i logs = numbered_length (λ (u : ℕ × List Chunk). after_log i.shape u.1 (unit_events logs u.0)) 0 i.units
 
 abbrev events_in : List Logged → List UnitEvent
 events_in log = filter_map (λ l. unit_event_of l.event) log
@@ -94,7 +72,7 @@ done_more i s w unit cs e fit there is may own past left =
     let found : slice_get ds e.chunk ≡ Some may.event.found = ap (λ (xs : List Chunk). slice_get xs e.chunk) (sym now) ∙ may.event.there in
     let early : IsEarlyCommand i.shape may.event.found e.command = command_early i logs unit may.event.found e.chunk e.command
     (subst (IsCommand i logs unit may.event.found e.chunk e.command) (past_begun (knows_engine s.logged) (log_of w 0) past) may.command) in
-    let fits : AllByRecursion (IsChunk i.shape) cs = all_at (AllByRecursion (IsChunk i.shape)) i.units unit cs fit.each there in
+    let fits : AllByRecursion (IsChunk i.shape) cs = all_get (AllByRecursion (IsChunk i.shape)) i.units unit cs fit.each there in
     subst (PadsOnly i.shape cs) (sym (ap (after_log i.shape cs) (last_event log s.logged e is) ∙ log_leaves i.shape cs (events_in log) e))
     (pads_or_reads i.shape cs ds e may.event.found fits left found e.command refl early)
 
@@ -102,9 +80,6 @@ event_more : (i : Image) (s : Step) (w : World) (unit : ℕ) (cs : List Chunk) (
     → prefixes s.logged (log_of w) (suc unit) ≡ log_of w (suc unit) → knows_engine s.logged ≡ 0 → IsLeft i cs (log_of w (suc unit)) → IsLeft i cs (log_of w (suc unit) ++ s.logged ∷ [])
 event_more i s w unit cs (Decides e) fit there is allowed own past left = absurd allowed
 event_more i s w unit cs (Does e maker) fit there is allowed own past left = done_more i s w unit cs e fit there (ap unit_event_of is) allowed own past left
-
-pub whole_own : (i : Image) (s : Step) (w : World) → IsLegalStep i (log_of w) s → prefixes s.logged (log_of w) s.author ≡ log_of w s.author
-whole_own i s w h = ap (λ n. take n (log_of w s.author)) h.knowledge.own ∙ take-length (log_of w s.author)
 
 step_more : (i : Image) (s : Step) (w : World) (unit : ℕ) (cs : List Chunk) → IsFit i → IsLegalStep i (log_of w) s → s.author ≡ suc unit → slice_get i.units unit ≡ Some cs
     → knows_engine s.logged ≡ 0 → IsLeft i cs (log_of w (suc unit)) → IsLeft i cs (log_of w (suc unit) ++ s.logged ∷ [])
@@ -126,7 +101,7 @@ left_more i cs log l left more n past = elim (cases_lt (length log) n) [
   | inl beyond ↦
       let whole : take n (log ++ l ∷ []) ≡ log ++ l ∷ [] = take_all n (log ++ l ∷ []) (let count = length-append log (l ∷ []) in omega arith) in
       let all : ArePast (log ++ l ∷ []) = subst ArePast whole past in
-      let before : ArePast (take (length log) log) = subst ArePast (sym (take-length log)) (first_of (λ m. knows_engine m ≡ 0) log l all) in
+      let before : ArePast (take (length log) log) = subst ArePast (sym (take-length log)) (all_but_last (λ m. knows_engine m ≡ 0) log l all) in
       subst (IsLeft i cs) (sym whole) (more (last_of (λ m. knows_engine m ≡ 0) log l all) (subst (IsLeft i cs) (take-length log) (left (length log) before)))
 ]
 
@@ -138,7 +113,7 @@ left_by i s w unit cs true is fit step there left =
 
 only_pads : (i : Image) (w : World) (unit : ℕ) (cs : List Chunk) → IsFit i → IsLegal i w → slice_get i.units unit ≡ Some cs → AreLeft i cs (log_of w (suc unit))
 unfolding IsLegal
-only_pads i [] unit cs fit legal there = λ n past. subst (IsLeft i cs) (sym (take_none n)) (λ line. inl refl)
+only_pads i [] unit cs fit legal there = λ n past. subst (IsLeft i cs) (sym (take_nothing n)) (λ line. inl refl)
 only_pads i (s ∷ w) unit cs fit legal there = left_by i s w unit cs (s.author == suc unit) refl fit legal.0 there (only_pads i w unit cs fit legal.1 there)
 
 -- ---- the image
@@ -146,7 +121,7 @@ only_pads i (s ∷ w) unit cs fit legal there = left_by i s w unit cs (s.author 
 pub early_padded : (i : Image) (w : World) (logs : Logs) → IsFit i → IsLegal i w → ArePrefixes w logs → AreEarly logs → ArePadded i (media i logs)
 early_padded i w logs fit legal prefix early = record {
   shape = refl;
-  count = media_count i logs;
+  count = length_media i logs;
   chunks = λ line unit. by_unit line unit (slice_get i.units unit) refl;
 } where
   at_line : (line unit : ℕ) (cs : List Chunk) → slice_get i.units unit ≡ Some cs → (slice_get (media_of i logs unit cs) line ≡ slice_get cs line) ⊎ IsPaddedIn i.shape cs (media_of i logs unit cs) line

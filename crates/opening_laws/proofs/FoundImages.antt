@@ -12,16 +12,20 @@ use Rattle.pblk_model.specs.Sealed.{IsSealed}
 use Rattle.pblk_model.specs.Contents.{head, end}
 use Rattle.pblk_world.specs.Events.{EngineEvent, Begin, Beginning, Event, Decides, Does, Logged, Step}
 use Rattle.pblk_world.specs.World.{World, Logs, log_of, cut_logs, prefixes, knows_engine, media}
-use Rattle.pblk_world.specs.EngineLog.{Begun, begun, begun_by}
+use Rattle.pblk_world.specs.EngineLog.{Begun, begun}
 use Rattle.pblk_world.specs.Lines.{found_by, found_image, next_seq, stray_lines}
 use Rattle.pblk_world.specs.Opening.{MayBegin}
 use Rattle.pblk_world.specs.Legal.{IsLegal, IsLegalStep, IsAllowed, MayDecide}
-use Rattle.pblk_laws.proofs.Lists.{all_take}
 use Rattle.opening_laws.specs.Same.{HasSameLines, HoldsTheSame}
 use Rattle.opening_laws.specs.Padding.{ArePadded}
 use Rattle.opening_laws.specs.Early.{ArePrefixes, AreEarly}
 use Rattle.opening_laws.proofs.PaddedImages.{padded_lines, padded_sealed, padded_holds}
-use Rattle.opening_laws.proofs.EarlyLogs.{whole_own, early_padded}
+use Rattle.opening_laws.proofs.EarlyLogs.{early_padded}
+use Rattle.lemmas.proofs.Lists.{all_imply, with_last}
+use Rattle.lemmas.proofs.Parts.{all_taken}
+use Rattle.pblk_world.proofs.EngineLogLemmas.{begun_of_first, begun_stays, first_begins}
+use Rattle.pblk_world.proofs.LegalLemmas.{whole_own}
+use Rattle.pblk_world.proofs.WorldLemmas.{log_elsewhere, log_here}
 
 -- ---- lists
 
@@ -37,14 +41,6 @@ all_twice P (suc k) zero xs h = tt
 all_twice P (suc k) (suc n) [] h = tt
 all_twice P (suc k) (suc n) (x ∷ xs) h = (h.0, all_twice P k n xs h.1)
 
-with_last : {X : Type 0} (P : X → Type 0) (xs : List X) (x : X) → AllByRecursion P xs → P x → AllByRecursion P (xs ++ x ∷ [])
-with_last P [] x h last = (last, tt)
-with_last P (y ∷ xs) x h last = (h.0, with_last P xs x h.1 last)
-
-weaker : {X : Type 0} (P Q : X → Type 0) → ((x : X) → P x → Q x) → (xs : List X) → AllByRecursion P xs → AllByRecursion Q xs
-weaker P Q says [] h = tt
-weaker P Q says (x ∷ xs) h = (says x h.0, weaker P Q says xs h.1)
-
 -- ---- a log after a step
 
 abbrev GrowsBy : Logged → List Logged → List Logged → Type 0
@@ -55,18 +51,6 @@ grows s w author = by (s.author == author) where
   by : (b : Bool) → GrowsBy s.logged (log_of w author) (if b then log_of w author ++ s.logged ∷ [] else log_of w author)
   by true = inr refl
   by false = inl refl
-
-log_here : (s : Step) (w : World) (author : ℕ) → s.author ≡ author → log_of (s ∷ w) author ≡ log_of w author ++ s.logged ∷ []
-log_here s w author e = by (s.author == author) refl where
-  by : (b : Bool) → (s.author == author) ≡ b → (if b then log_of w author ++ s.logged ∷ [] else log_of w author) ≡ log_of w author ++ s.logged ∷ []
-  by true is = refl
-  by false is = let other : s.author ≢ author = grind arith in absurd (other e)
-
-log_elsewhere : (s : Step) (w : World) (author : ℕ) → s.author ≢ author → log_of (s ∷ w) author ≡ log_of w author
-log_elsewhere s w author n = by (s.author == author) refl where
-  by : (b : Bool) → (s.author == author) ≡ b → (if b then log_of w author ++ s.logged ∷ [] else log_of w author) ≡ log_of w author
-  by true is = let same : s.author ≡ author = grind arith in absurd (n same)
-  by false is = refl
 
 -- ---- whose a step is
 
@@ -100,18 +84,6 @@ decided : (i : Image) (logs : Logs) (e : EngineEvent) → MayDecide i logs e →
 decided i logs (Begin b) h = inl (b, refl, h)
 decided i logs e h = inr (h.0, h.1)
 
-begun_stays : (log : List Logged) (l : Logged) (b : Begun) → begun log ≡ Some b → begun (log ++ l ∷ []) ≡ Some b
-begun_stays [] l b e = absurd (none-some b e)
-begun_stays (m ∷ log) l b e = e
-
-begun_first : (l : Logged) (b : Beginning) → l.event ≡ Decides (Begin b) → begun (l ∷ []) ≡ Some (record { beginning = b; knows = l.knows })
-begun_first l b is = ap (begun_by l.knows) is
-
-begun_whole : (n : ℕ) (log : List Logged) (b : Begun) → begun (take n log) ≡ Some b → begun log ≡ Some b
-begun_whole zero log b e = absurd (none-some b e)
-begun_whole (suc n) [] b e = e
-begun_whole (suc n) (l ∷ log) b e = e
-
 -- ---- what is known of the engine's log
 
 record IsOrderly (w : World) : Type 0 where
@@ -124,7 +96,7 @@ within_more s w unit m n more h last = elim (grows s w (suc unit)) [
   | inr longer ↦ subst (AllByRecursion (λ l. knows_engine l ≤ n)) (sym longer) (with_last (λ l. knows_engine l ≤ n) (log_of w (suc unit)) s.logged old last)
 ] where
   old : AllByRecursion (λ l. knows_engine l ≤ n) (log_of w (suc unit))
-  old = weaker (λ l. knows_engine l ≤ m) (λ l. knows_engine l ≤ n) (λ l h. omega arith) (log_of w (suc unit)) h
+  old = all_imply (λ l. knows_engine l ≤ m) (λ l. knows_engine l ≤ n) (λ l h. omega arith) (log_of w (suc unit)) h
 
 not_zero : (s : Step) (unit : ℕ) → s.author ≡ suc unit → s.author ≢ 0
 not_zero s unit e z = let no : suc unit ≡ 0 = sym e ∙ z in absurd (omega arith)
@@ -150,7 +122,7 @@ orderly_more i s w step q = elim (view i s w step) [
   begins e here none = elim (decided i (prefixes s.logged (log_of w)) e.event e.may) [
     | inl f ↦
         let empty : log_of w 0 ≡ [] = sym e.own ∙ f.2.is_first in
-        none-some (record { beginning = f.0; knows = s.logged.knows }) (sym none ∙ ap (λ (log : List Logged). begun (log ++ s.logged ∷ [])) empty ∙ begun_first s.logged f.0 (e.is_event ∙ ap Decides f.1))
+        none-some (record { beginning = f.0; knows = s.logged.knows }) (sym none ∙ ap (λ (log : List Logged). begun (log ++ s.logged ∷ [])) empty ∙ first_begins s.logged f.0 (e.is_event ∙ ap Decides f.1))
     | inr l ↦ none-some l.0 (sym none ∙ begun_stays (log_of w 0) s.logged l.0 (ap begun (sym e.own) ∙ l.1))
   ]
 
@@ -163,7 +135,7 @@ pub early_before : (i : Image) (w : World) → IsLegal i w → begun (log_of w 0
 early_before i w legal none unit =
     let q : IsOrderly w = orderly i w legal in
     let few : length (log_of w 0) ≡ 0 = ap length (q.begins none) in
-    weaker (λ l. knows_engine l ≤ length (log_of w 0)) (λ l. knows_engine l ≡ 0) (λ l h. omega arith) (log_of w (suc unit)) (q.within unit)
+    all_imply (λ l. knows_engine l ≤ length (log_of w 0)) (λ l. knows_engine l ≡ 0) (λ l h. omega arith) (log_of w (suc unit)) (q.within unit)
 
 -- ---- the beginning
 
@@ -201,10 +173,10 @@ has_begun_by i s w step legal before_it b is = elim (view i s w step) [
   engine e (inl f) =
       let empty : log_of w 0 ≡ [] = sym e.own ∙ f.2.is_first in
       let now : begun (log_of (s ∷ w) 0) ≡ Some (record { beginning = f.0; knows = s.logged.knows }) =
-      ap begun (log_here s w 0 e.author) ∙ ap (λ (log : List Logged). begun (log ++ s.logged ∷ [])) empty ∙ begun_first s.logged f.0 (e.is_event ∙ ap Decides f.1) in
+      ap begun (log_here s w 0 e.author) ∙ ap (λ (log : List Logged). begun (log ++ s.logged ∷ [])) empty ∙ first_begins s.logged f.0 (e.is_event ∙ ap Decides f.1) in
       subst (HasBegun i w) (same_Some (record { beginning = f.0; knows = s.logged.knows }) b (sym now ∙ is)) (record {
         within = step.knowledge.within;
-        early = λ unit. all_take (λ l. knows_engine l ≡ 0) (slice_index s.logged.knows (suc unit)) (log_of w (suc unit)) (early_before i w legal (ap begun empty) unit);
+        early = λ unit. all_taken (λ l. knows_engine l ≡ 0) (slice_index s.logged.knows (suc unit)) (log_of w (suc unit)) (early_before i w legal (ap begun empty) unit);
         may = f.2;
       })
 
@@ -241,7 +213,7 @@ found_padded i w logs fit legal prefix = by (begun (logs 0)) refl where
   by None e = subst (ArePadded i) (sym (found_none i logs e)) (not_padded i)
   by (Some b) e =
       let n = prefix 0 in
-      let h : HasBegun i w b = has_begun i w legal b (begun_whole n.0 (log_of w 0) b (sym (ap begun n.1) ∙ e)) in
+      let h : HasBegun i w b = has_begun i w legal b (begun_of_first n.0 (log_of w 0) b (sym (ap begun n.1) ∙ e)) in
       subst (ArePadded i) (sym (found_is i logs b e)) (early_padded i w (cut_logs b.knows logs) fit legal
       (λ author. let m = prefix author in let both = take_twice (slice_index b.knows author) m.0 (log_of w author) in (both.0, ap (take (slice_index b.knows author)) m.1 ∙ both.1))
       (λ unit. let m = prefix (suc unit) in subst (AllByRecursion (λ l. knows_engine l ≡ 0)) (sym (ap (take (slice_index b.knows (suc unit))) m.1)) (all_twice (λ l. knows_engine l ≡ 0) (slice_index b.knows (suc unit)) m.0 (log_of w (suc unit)) (h.early unit))))

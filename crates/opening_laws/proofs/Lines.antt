@@ -17,12 +17,12 @@ use Rattle.pblk_model.specs.Contents.{later_start, head, end_after, counted_afte
 use Rattle.pblk_laws.specs.LineBlocks.{chunk_in, written_at}
 use Rattle.pblk_laws.specs.StartBlocks.{AreStart}
 use Rattle.pblk_laws.specs.EndBlocks.{IsEndOf, AreEnd}
-use Rattle.pblk_laws.proofs.Lists.{all_at}
 use Rattle.pblk_laws.proofs.LineUnits.{line_units_count, line_units_chunks}
 use Rattle.pblk_laws.proofs.Runs.{run_some}
 use Rattle.pblk_laws.proofs.Starts.{found_is}
 use Rattle.pblk_laws.proofs.EndSpelling.{end_found, end_written}
 use Rattle.opening_laws.specs.Same.{HoldsTheSame}
+use Rattle.lemmas.proofs.Parts.{all_get}
 
 abbrev pub img : Shape → List (List Chunk) → Image
 img s us = record { shape = s; units = us }
@@ -134,7 +134,7 @@ start_carry s us vs l r same e carry =
     let n : ℕ = start_len s in
     let each : (k : ℕ) → k < n → block_at (img s us) l k ≡ slice_get blocks k = are.written in
     let run_u : written_run (img s us) l 0 n ≡ Some blocks = subst (λ m. written_run (img s us) l 0 m ≡ Some blocks) are.count (run_some (img s us) l 0 blocks (λ k h. subst (λ x. block_at (img s us) l x ≡ slice_get blocks k) (omega arith) (each k (omega (arith, are.count))))) in
-    let moved : (k : ℕ) → k < n → block_at (img s vs) l k ≡ slice_get blocks k = λ k h. (let b = there blocks k n are.count h in carry k b.0 (each k h ∙ b.1) (all_at (λ (b : Block). b.mark ≡ meta_mark r.seq) blocks k b.0 are.marks b.1) ∙ sym b.1) in
+    let moved : (k : ℕ) → k < n → block_at (img s vs) l k ≡ slice_get blocks k = λ k h. (let b = there blocks k n are.count h in carry k b.0 (each k h ∙ b.1) (all_get (λ (b : Block). b.mark ≡ meta_mark r.seq) blocks k b.0 are.marks b.1) ∙ sym b.1) in
     let run_v : written_run (img s vs) l 0 n ≡ Some blocks = subst (λ m. written_run (img s vs) l 0 m ≡ Some blocks) are.count (run_some (img s vs) l 0 blocks (λ k h. subst (λ x. block_at (img s vs) l x ≡ slice_get blocks k) (omega arith) (moved k (omega (arith, are.count))))) in
     ap (option_and_then (start_with s l (width (img s vs) l))) run_v ∙ ap (λ g. start_with s l g blocks) same ∙ sym (ap (option_and_then (start_with s l (width (img s us) l))) run_u) ∙ e
 
@@ -153,7 +153,7 @@ end_carry s us vs l start r same e carry =
           let h' : k < end_len s (width (img s us) l) = subst (λ g. k < end_len s g) same h in
           let b = there blocks k (end_len s (width (img s us) l)) are.count h' in
           let here : block_at (img s vs) l (width (img s us) l * s.clba - end_len s (width (img s us) l) + k) ≡ slice_get blocks k =
-          carry (width (img s us) l * s.clba - end_len s (width (img s us) l) + k) b.0 (are.written k h' ∙ b.1) (all_at (λ (b : Block). b.mark ≡ meta_mark r.seq) blocks k b.0 are.marks b.1) ∙ sym b.1 in
+          carry (width (img s us) l * s.clba - end_len s (width (img s us) l) + k) b.0 (are.written k h' ∙ b.1) (all_get (λ (b : Block). b.mark ≡ meta_mark r.seq) blocks k b.0 are.marks b.1) ∙ sym b.1 in
           subst (λ g. block_at (img s vs) l (g * s.clba - end_len s g + k) ≡ slice_get blocks k) (sym same) here;
       bytes = are.bytes;
       marks = are.marks;

@@ -1,12 +1,12 @@
 -- Chunks of lines without a start record are emptied or go Offline: what that leaves of an image.
-use Rattle.std.proofs.Common.{◌≡◌, ℕ, ◌+◌, ◌-◌, ◌*◌, ◌/◌, ◌%◌, ◌^◌, ◌<◌, ◌≤◌, ◌⊎◌, suc, inl, inr, Bool, true, false, cond, Option, Some, None, List, [], ◌∷◌, ◌++◌, map, length, take, drop, refl, sym, ap, ◌∙◌, subst, arith}
+use Rattle.std.proofs.Common.{◌≡◌, ℕ, ◌+◌, ◌-◌, ◌*◌, ◌/◌, ◌%◌, ◌^◌, ◌<◌, ◌≤◌, ◌⊎◌, suc, inl, inr, Bool, true, false, cond, Option, Some, None, List, [], ◌∷◌, ◌++◌, map, length, take, refl, sym, ap, ◌∙◌, subst, arith}
 use Rattle.std.specs.List.{AllByRecursion, slice_get, filter, flat_map, enumerate_from}
 use Rattle.std.specs.Option.{option_and_then, option_map_or}
-use Rattle.std.specs.Int.{Width, w32, w64, byte_len, from_le_bytes}
+use Rattle.std.specs.Int.{w32, w64}
 use Rattle.std.proofs.Math.Nat.{zero-div, mod-le}
 use Rattle.std.proofs.Math.Seq.{take-append_seam}
-use Rattle.std.proofs.lemmas.List.{take-take, drop-take}
-use Rattle.std.proofs.lemmas.Nat.{from_le_bytes-to_le_bytes_4, from_le_bytes-to_le_bytes_8}
+use Rattle.std.proofs.lemmas.List.{take-take}
+use Rattle.std.proofs.lemmas.Nat.{from_le_bytes-to_le_bytes_8}
 use Rattle.std.proofs.lemmas.Option.{none-some, same_Some, slice_get_within}
 use Rattle.pblk_model.specs.declared.shape.Shape.{Shape}
 use Rattle.pblk_model.specs.declared.chunk.Mark.{Mark}
@@ -25,7 +25,6 @@ use Rattle.pblk_model.specs.Sealed.{AgreesWithLine, BeginsNarrower, IsSealed}
 use Rattle.pblk_model.proofs.LeastLengths.{start_len_positive}
 use Rattle.pblk_laws.specs.LineBlocks.{chunk_in, written_at}
 use Rattle.pblk_laws.specs.StartBlocks.{AreStart}
-use Rattle.pblk_laws.proofs.Lists.{all_at, all_by_get}
 use Rattle.pblk_laws.proofs.LineUnits.{line_units_count, line_units_chunks}
 use Rattle.pblk_laws.proofs.Widths.{width_within}
 use Rattle.pblk_laws.proofs.Starts.{HasNumbers, numbers, found_is}
@@ -33,6 +32,10 @@ use Rattle.pblk_laws.proofs.StartHeads.{sector_long}
 use Rattle.opening_laws.specs.Same.{IsSameLine, HoldsTheSame}
 use Rattle.opening_laws.specs.Losing.{IsLostAt, IsLostLine, AreLost}
 use Rattle.opening_laws.proofs.Lines.{img, same_img, same_line_units, same_width, width_same, read_by, block_there, there, all_there, start_carry, same_block, same_chunk, same_start, same_end, same_records, holds_the_same}
+use Rattle.lemmas.proofs.Parts.{all_by_get, all_get}
+use Rattle.pblk_laws.proofs.LineBlocksLemmas.{chunk_fits}
+use Rattle.pblk_model.proofs.BytesLemmas.{number_front}
+use Rattle.pblk_model.proofs.StartRecordLemmas.{width_there}
 
 -- ---- fewer units
 
@@ -70,19 +73,9 @@ fewer line n (u ∷ us) (v ∷ vs) count h =
 
 -- ---- how a start record begins
 
-number_front : (w : Width) (o n : ℕ) (xs : List ℕ) → o + byte_len w ≤ n → number_at w o (take n xs) ≡ number_at w o xs
-number_front w o n xs h =
-    let split : n ≡ o + (n - o) = omega arith in
-    let past : drop o (take n xs) ≡ take (n - o) (drop o xs) = ap (λ m. drop o (take m xs)) split ∙ drop-take o (n - o) xs in
-    ap (λ ys. from_le_bytes w (take (byte_len w) ys)) past ∙ ap (from_le_bytes w) (take-take (byte_len w) (n - o) (drop o xs) (omega arith))
-
 begins_so : (s : Shape) (r : StartRecord) → take 8 (start_bytes s r) ≡ le32 magic ++ le16 1 ++ le16 1
 unfolding zeros
 begins_so s r = refl
-
-width_there : (s : Shape) (r : StartRecord) → r.width < 2 ^ 32 → number_at w32 12 (start_bytes s r) ≡ r.width
-unfolding zeros
-width_there s r low = from_le_bytes-to_le_bytes_4 r.width low
 
 seq_there : (s : Shape) (r : StartRecord) → r.seq < 2 ^ 64 → number_at w64 16 (start_bytes s r) ≡ r.seq
 unfolding zeros
@@ -140,12 +133,6 @@ line_first i l b is = by (slice_get (line_chunks i l) (column_of i.shape (width 
   }
 
 -- ---- chunks of a fit image
-
-fit_chunk : (i : Image) (l u : ℕ) (c : Chunk) → IsFit i → chunk_in i l u ≡ Some c → IsChunk i.shape c
-fit_chunk i l u c fit is = by (slice_get i.units u) refl is where
-  by : (o : Option (List Chunk)) → slice_get i.units u ≡ o → option_and_then (λ chunks. slice_get chunks l) o ≡ Some c → IsChunk i.shape c
-  by None e h = absurd (none-some c h)
-  by (Some cs) e h = all_at (IsChunk i.shape) cs l c (all_at (AllByRecursion (IsChunk i.shape)) i.units u cs fit.each e) h
 
 online_by : (state : ChunkState) (clba wp : ℕ) → PointerFits state clba wp → 0 < wp → is_online_in state ≡ true
 online_by Free clba wp fits some = refl
@@ -214,7 +201,7 @@ module _ (s : Shape) (us vs : List (List Chunk)) (count : length vs ≡ length u
 
     none_narrower : (u : ℕ) (c : Chunk) (b : Block) → chunk_in (img s us) l u ≡ Some c → slice_get c.blocks 0 ≡ Some b → BeginsNarrower (width (img s us) l) b → ⊥
     none_narrower u c b is first =
-        let fits : IsChunk s c = fit_chunk (img s us) l u c fit is in
+        let fits : IsChunk s c = chunk_fits (img s us) l u c fit is in
         let on : is_online_in c.state ≡ true = online_by c.state s.clba (pointer c) fits.place (slice_get_within c.blocks 0 b first) in
         let all : AllByRecursion NoNarrower (line_chunks (img s us) l) = all_by_get NoNarrower (line_chunks (img s us) l) (λ k x there b first n. whole.begins l k x b inside there first n) in
         all_there NoNarrower l us u c all is on b first
@@ -229,12 +216,12 @@ module _ (s : Shape) (us vs : List (List Chunk)) (count : length vs ≡ length u
         let at : block_at (img s vs) l 0 ≡ Some b.0 = are.written 0 some ∙ b.1 in
         let first : IsFirst (img s vs) l b.0 = line_first (img s vs) l b.0 at in
         let had : HadFirst first.chunk = had_first first.column first.chunk b.0 first.there first.first in
-        let fits : IsChunk s first.chunk = fit_chunk (img s us) l had.unit first.chunk fit had.chunk in
-        let block : IsBlock s b.0 = all_at (IsBlock s) first.chunk.blocks 0 b.0 fits.blocks first.first in
+        let fits : IsChunk s first.chunk = chunk_fits (img s us) l had.unit first.chunk fit had.chunk in
+        let block : IsBlock s b.0 = all_get (IsBlock s) first.chunk.blocks 0 b.0 fits.blocks first.first in
         let wide : 1 ≤ width (img s vs) l = (let low = slice_get_within (line_chunks (img s vs) l) first.column first.chunk first.there in omega arith) in
         let low : width (img s us) l ≤ 64 = (let few = width_within (img s us) l fit in let all = accepted.drive.few_units in omega arith) in
         let narrower : width (img s vs) l < width (img s us) l = narrow less in
-        let marked : b.0.mark ≡ meta_mark r.seq = all_at (λ (x : Block). x.mark ≡ meta_mark r.seq) blocks 0 b.0 are.marks b.1 in
+        let marked : b.0.mark ≡ meta_mark r.seq = all_get (λ (x : Block). x.mark ≡ meta_mark r.seq) blocks 0 b.0 are.marks b.1 in
         none_narrower had.unit first.chunk b.0 had.chunk first.first
         (begins_narrower s l (width (img s vs) l) (width (img s us) l) r blocks b.0 accepted f.0 wide narrower (omega arith) b.1 are.bytes marked block.size)
 
@@ -273,7 +260,7 @@ module _ (s : Shape) (us vs : List (List Chunk)) (count : length vs ≡ length u
   kept_agrees start e whole inside started ended =
       let agrees : AgreesWithLine (img s us) l e = whole.ends l start e inside (sym (same_start s us vs l count kept) ∙ started) (sym (same_end s us vs l count kept start) ∙ ended) in
       record {
-        closed = all_by_get (λ c. c.state ≡ Open → ⊥) (line_chunks (img s vs) l) (λ k c is. all_at (λ c. c.state ≡ Open → ⊥) (line_chunks (img s us) l) k c agrees.closed (sym (same_chunk s us vs l count kept k) ∙ is));
+        closed = all_by_get (λ c. c.state ≡ Open → ⊥) (line_chunks (img s vs) l) (λ k c is. all_get (λ c. c.state ≡ Open → ⊥) (line_chunks (img s us) l) k c agrees.closed (sym (same_chunk s us vs l count kept k) ∙ is));
         marks = λ k b below is. agrees.marks k b below (sym (same_block s us vs l count kept (start_len s + k)) ∙ is);
       }
 

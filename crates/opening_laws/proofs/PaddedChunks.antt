@@ -13,8 +13,9 @@ use Rattle.pblk_model.specs.ChunkStep.{ChunkCommand, Write, Read, Reset, Done, G
 use Rattle.pblk_model.specs.Marks.{pad_block}
 use Rattle.pblk_model.specs.UnitLog.{UnitOutcome, UnitEvent, Answered, Failed, Stopped, after_outcome, after_event}
 use Rattle.pblk_model.specs.Image.{is_online_in}
-use Rattle.pblk_laws.proofs.Lists.{all_at, all_take}
 use Rattle.opening_laws.specs.Padding.{IsPadded}
+use Rattle.lemmas.proofs.Parts.{all_get, all_taken, get_set_other, get_set_same}
+use Rattle.pblk_model.proofs.UnitLogLemmas.{read_leaves}
 
 abbrev pub ArePads : Shape → List Block → Type 0
 ArePads s blocks = AllByRecursion (λ b. b ≡ pad_block s) blocks
@@ -50,14 +51,9 @@ program_pads s c at blocks (Answered Done) is some pads = appended_pads s c bloc
 program_pads s c at blocks (Answered (Gave b)) is some pads = as_it_was s c is some
 program_pads s c at blocks (Answered Empty) is some pads = as_it_was s c is some
 program_pads s c at blocks (Answered (Refused e)) is some pads = as_it_was s c is some
-program_pads s c at blocks (Failed k) is some pads = with_pads s c (closed_after s c blocks k) (take (k * s.ws_min) blocks) is some (all_take (λ b. b ≡ pad_block s) (k * s.ws_min) blocks pads) refl refl
+program_pads s c at blocks (Failed k) is some pads = with_pads s c (closed_after s c blocks k) (take (k * s.ws_min) blocks) is some (all_taken (λ b. b ≡ pad_block s) (k * s.ws_min) blocks pads) refl refl
 program_pads s c at blocks (Stopped zero) is some pads = as_it_was s c is some
-program_pads s c at blocks (Stopped (suc k)) is some pads = appended_pads s c (take (suc k * s.ws_min) blocks) is some (all_take (λ b. b ≡ pad_block s) (suc k * s.ws_min) blocks pads)
-
-pub read_leaves : (s : Shape) (c : Chunk) (b : ℕ) (o : UnitOutcome) → after_outcome s c (Read b) o ≡ c
-read_leaves s c b (Answered a) = refl
-read_leaves s c b (Failed k) = refl
-read_leaves s c b (Stopped k) = refl
+program_pads s c at blocks (Stopped (suc k)) is some pads = appended_pads s c (take (suc k * s.ws_min) blocks) is some (all_taken (λ b. b ≡ pad_block s) (suc k * s.ws_min) blocks pads)
 
 -- pads behind pads
 padded_twice : (s : Shape) (c d e : Chunk) → IsPadded s c d → IsPadded s d e → IsPadded s c e
@@ -83,25 +79,13 @@ pub record IsPaddedIn (s : Shape) (cs ds : List Chunk) (line : ℕ) : Type 0 whe
 abbrev pub PadsOnly : Shape → List Chunk → List Chunk → Type 0
 PadsOnly s cs ds = (line : ℕ) → (slice_get ds line ≡ slice_get cs line) ⊎ IsPaddedIn s cs ds line
 
-get_set_same : {A : Type 0} (xs : List A) (i : ℕ) (y : A) → i < length xs → slice_get (slice_set xs i y) i ≡ Some y
-get_set_same [] i y h = absurd (omega arith)
-get_set_same (x ∷ xs) zero y h = refl
-get_set_same (x ∷ xs) (suc i) y h = get_set_same xs i y (omega arith)
-
-get_set_other : {A : Type 0} (xs : List A) (i j : ℕ) (y : A) → j ≢ i → slice_get (slice_set xs i y) j ≡ slice_get xs j
-get_set_other [] i j y n = refl
-get_set_other (x ∷ xs) zero zero y n = absurd (n refl)
-get_set_other (x ∷ xs) zero (suc j) y n = refl
-get_set_other (x ∷ xs) (suc i) zero y n = refl
-get_set_other (x ∷ xs) (suc i) (suc j) y n = get_set_other xs i j y (λ e. n (ap suc e))
-
 open_some : (s : Shape) (c : Chunk) → IsChunk s c → c.state ≡ states.Open → 0 < length c.blocks
 open_some s c chunk is = let fits : (0 < pointer c) × (pointer c < s.clba) = subst (λ st. PointerFits st s.clba (pointer c)) is chunk.place in fits.0
 
 -- an Open chunk among them has blocks
 still_some : (s : Shape) (cs ds : List Chunk) (line : ℕ) (d : Chunk) → AllByRecursion (IsChunk s) cs → PadsOnly s cs ds → slice_get ds line ≡ Some d → d.state ≡ states.Open → 0 < length d.blocks
 still_some s cs ds line d fit only there is = elim (only line) [
-  | inl same ↦ open_some s d (all_at (IsChunk s) cs line d fit (sym same ∙ there)) is
+  | inl same ↦ open_some s d (all_get (IsChunk s) cs line d fit (sym same ∙ there)) is
   | inr p ↦ behind p
 ] where
   behind : IsPaddedIn s cs ds line → 0 < length d.blocks

@@ -16,12 +16,12 @@ use Rattle.pblk_model.specs.EndRecord.{EndRecord, end_of}
 use Rattle.pblk_model.specs.Records.{Record, mark_at, bears, record_at, records_after, line_records}
 use Rattle.pblk_model.specs.Sealed.{AgreesWithLine, BeginsNarrower, IsSealed}
 use Rattle.pblk_laws.specs.LineBlocks.{chunk_in, written_at}
-use Rattle.pblk_laws.proofs.Lists.{all_at, all_by_get}
 use Rattle.pblk_laws.proofs.LineUnits.{line_units_chunks}
 use Rattle.pblk_laws.proofs.MarkNames.{pad_borne}
 use Rattle.opening_laws.specs.Same.{HasSameLines, HoldsTheSame}
 use Rattle.opening_laws.specs.Padding.{IsPaddedAt, ArePadded}
 use Rattle.opening_laws.proofs.Lines.{img, same_img, units_same, width_same, read_by, line_block, block_there, all_there, both_ways, start_carry, end_carry, holds_the_same}
+use Rattle.lemmas.proofs.Parts.{all_by_get, all_get}
 
 -- Lists.
 
@@ -167,7 +167,7 @@ module _ (s : Shape) (us vs : List (List Chunk)) (accepted : IsAccepted s) (pads
     } where
       closed_at : (k : ℕ) (x : Chunk) → WasThere l k x → x.state ≢ Open
       closed_at k x w = elim w.state [
-        | inl same ↦ subst (λ (y : Chunk). y.state ≢ Open) (sym same) (all_at (λ c. c.state ≢ Open) (line_chunks (img s us) l) k w.old agrees.closed w.there)
+        | inl same ↦ subst (λ (y : Chunk). y.state ≢ Open) (sym same) (all_get (λ c. c.state ≢ Open) (line_chunks (img s us) l) k w.old agrees.closed w.there)
         | inr has ↦ absurd (none has)
       ]
 

@@ -7,6 +7,6 @@ use Rattle.pblk_world.specs.World.{World, Logs, log_of, knows_engine}
 abbrev pub ArePrefixes : World → Logs → Type 0
 ArePrefixes w logs = (author : ℕ) → (n : ℕ) × (logs author ≡ take n (log_of w author))
 
--- no event of a unit names a part of the engine's log
+-- no event of a unit knows any of the engine's log
 abbrev pub AreEarly : Logs → Type 0
 AreEarly logs = (unit : ℕ) → AllByRecursion (λ l. knows_engine l ≡ 0) (logs (suc unit))

@@ -1,4 +1,5 @@
--- What padding, and the losing of chunks, leave of an image; and which prefixes of a world's logs are of the time before it began.
+-- What padding and the loss of chunks leave of an image, and which prefixes of a world's logs are of the time
+-- before the mount began.
 pub mod Same
 pub mod Padding
 pub mod Losing

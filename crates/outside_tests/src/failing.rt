@@ -9,16 +9,16 @@ use std::os::fd::BorrowedFd;
 use std::os::unix::net::SocketAddr;
 use std::path::PathBuf;
 
-/// The system's files, of which the call fails that takes `left` to 0. Each call of them and of
-/// their open files that a write may make counts, and no other call is supported. A write of bytes
-/// takes half of them.
+/// The system's files, one of whose calls fails: the one that takes `left` to 0. Each call that a write may
+/// make counts, of the files and of an open file, and no other call is supported. A write of bytes takes half
+/// of them.
 #[derive(Drop)]
 pub struct Failing<'a> {
     pub real: HostRuntime,
     pub left: &'a Cell<u32>,
 }
 
-/// An open file of these.
+/// An open file among these.
 #[derive(Drop)]
 pub struct FailingFile<'a> {
     real: File,
@@ -36,7 +36,7 @@ fn count(left: &Cell<u32>) -> io::Result<()> {
     }
 }
 
-// What no write asks for.
+// The calls that no write makes.
 fn unasked<T>() -> io::Result<T> {
     Err(Error::from(ErrorKind::Unsupported))
 }

@@ -36,14 +36,14 @@ fn ask<F: Files>(files: &mut F, asked: Asked<'_>, into: &mut Vec<u8>) -> Told {
 /// A call, what it is to tell, and what is to be in the buffer after it, which has one byte before.
 pub type Row<'a> = (Asked<'a>, Told, &'a [u8]);
 
-// Makes a call, and says whether it went as it was to go.
+// Makes a call, and says whether it went as told.
 fn goes_right<F: Files>(alloc: Global, files: &mut F, row: Row<'_>) -> Result<bool, AllocError> {
     let (asked, told, left) = row;
     let mut into = vec![in alloc; b'>']?;
     Ok(ask(files, asked, &mut into) == told && into.as_slice() == left)
 }
 
-/// Makes the calls in order, and gives the number of the first row that went otherwise.
+/// Makes the calls in order, and gives the number of the first row that didn't go as told.
 pub fn first_wrong<F: Files>(
     alloc: Global,
     files: &mut F,

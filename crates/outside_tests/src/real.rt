@@ -66,7 +66,7 @@ fn a_file_is_replaced_whole_and_what_is_no_file_is_not(rt: HostRuntime) -> io::R
     take_away(rt, LEFT, &["real/folder", "real"])
 }
 
-// Whether a write fails whose nth call of the system fails.
+// Whether a write fails when its nth call of the system fails.
 fn write_fails(rt: HostRuntime, nth: u32) -> Result<bool, AllocError> {
     let left = Cell::new(nth);
     let runtime = Failing {
@@ -83,8 +83,8 @@ fn is_whole(rt: HostRuntime, failed: bool) -> io::Result<bool> {
     Ok(fs::read(&rt, "failing/image")?.as_slice() == wanted)
 }
 
-// Whether a write fails whose nth call fails, with a file that was there before, which is whole then
-// with nothing beside it.
+// Whether a write over a file fails when its nth call fails, and the file is then whole, with nothing
+// beside it.
 fn fails_alone(rt: HostRuntime, nth: u32) -> io::Result<bool> {
     make(rt, &["failing"], &[("failing/image", "old")])?;
     let failed = write_fails(rt, nth)?;

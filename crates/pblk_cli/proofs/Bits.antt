@@ -1,5 +1,5 @@
 -- How many powers of two are below a count.
-use Rattle.std.proofs.Common.{◌≡◌, ℕ, zero, suc, ◌+◌, ◌*◌, ◌%◌, ◌<◌, ◌≤◌, ◌^◌, Bool, true, false, nat_lt, [], ◌∷◌, ◌++◌, length, refl, ap, ◌∙◌, if◌then◌else◌, add-one, arith}
+use Rattle.std.proofs.Common.{◌≡◌, ℕ, suc, ◌+◌, ◌*◌, ◌%◌, ◌<◌, ◌≤◌, ◌^◌, Bool, true, false, nat_lt, [], ◌∷◌, ◌++◌, length, refl, ap, ◌∙◌, if◌then◌else◌, add-one, arith}
 use Rattle.std.specs.List.{filter, range_with_len}
 use Rattle.std.proofs.lemmas.List.Elements.{filter-append}
 use Rattle.std.proofs.lemmas.Nat.{pow_below}
@@ -8,14 +8,11 @@ use Rattle.std.proofs.lemmas.Bool.{lt-ltb, le-ltb}
 use Rattle.std.proofs.lemmas.List.FromFn.{length-range_with_len}
 use Rattle.std.proofs.lemmas.List.Sums.{length-filter, count_by-le-length}
 use Rattle.std.proofs.lemmas.List.{length-append}
+use Rattle.lemmas.proofs.Maps.{range_more}
 
 -- those among the first n
 abbrev pub below : ℕ → ℕ → ℕ
 below count n = length (filter (λ k. nat_lt (2 ^ k) count) (range_with_len 0 n))
-
-range_more : (a n : ℕ) → range_with_len a (suc n) ≡ range_with_len a n ++ (a + n) ∷ []
-range_more a zero = ap (λ b. b ∷ []) {y = a + zero} (omega arith)
-range_more a (suc n) = ap (λ xs. a ∷ xs) (range_more (a + 1) n ∙ ap (λ b. range_with_len (a + 1) n ++ b ∷ []) {y = a + suc n} (omega arith))
 
 pub below_more : (count n : ℕ) → below count (n + 1) ≡ below count n + length (filter (λ k. nat_lt (2 ^ k) count) (n ∷ []))
 below_more count n = let p : ℕ → Bool = λ k. nat_lt (2 ^ k) count in

@@ -1,5 +1,5 @@
 -- A drive on which nothing is written has a blank image.
-use Rattle.std.proofs.Common.{◌≡◌, ℕ, ◌*◌, zero, suc, List, ◌∷◌, map, replicate, refl, sym, subst, ap, ◌∙◌}
+use Rattle.std.proofs.Common.{◌≡◌, ℕ, ◌*◌, List, map, replicate, sym, subst, ap, ◌∙◌}
 use Rattle.pblk_model.specs.declared.shape.Shape.{Shape}
 use Rattle.pblk_model.specs.Accepted.{IsAccepted}
 use Rattle.pblk_model.specs.Chunk.{Chunk, free_chunk}
@@ -9,17 +9,15 @@ use Rattle.pblk_model.specs.ImageFile as image_file
 use Rattle.pblk_model.specs.ImageFile.{StoredChunk, blank_drive, image_of}
 use Rattle.pblk_model.specs.Sealed.{IsSealed}
 use Rattle.ocssd_drive.specs.Drive.{DriveView, IsWhole, stored}
-
-map_replicate : {X Y : Type 0} (f : X → Y) (n : ℕ) (x : X) → map f (replicate n x) ≡ replicate n (f x)
-map_replicate f zero x = refl
-map_replicate f (suc n) x = ap (λ ys. f x ∷ ys) (map_replicate f n x)
+use Rattle.lemmas.proofs.Maps.{map-replicate}
 
 blank_image : (g : Geometry) (sector capacity ring : ℕ) → image_of (blank_drive g sector capacity ring) ≡ blank (shape_with g sector capacity ring)
 blank_image g sector capacity ring =
     let free : StoredChunk = record { chunk = free_chunk; wear = 0 } in
-    let units : map (map (λ (k : StoredChunk). k.chunk)) (replicate (g.groups * g.pus) (replicate g.chunks free)) ≡ replicate (g.groups * g.pus) (replicate g.chunks free_chunk)
-    = map_replicate (map (λ (k : StoredChunk). k.chunk)) (g.groups * g.pus) (replicate g.chunks free)
-    ∙ ap (replicate (g.groups * g.pus)) (map_replicate (λ (k : StoredChunk). k.chunk) g.chunks free) in
+    let units : map (map (λ (k : StoredChunk). k.chunk)) (replicate (g.groups * g.pus) (replicate g.chunks free)) ≡ replicate (g.groups * g.pus)
+    (replicate g.chunks free_chunk)
+    = map-replicate (map (λ (k : StoredChunk). k.chunk)) (g.groups * g.pus) (replicate g.chunks free)
+    ∙ ap (replicate (g.groups * g.pus)) (map-replicate (λ (k : StoredChunk). k.chunk) g.chunks free) in
     ap (λ (us : List (List Chunk)). record { shape = shape_with g sector capacity ring; units = us }) units
 
 -- it is sealed where all blank images are

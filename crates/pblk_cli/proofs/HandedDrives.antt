@@ -1,41 +1,24 @@
 -- Drives whose units are handed to a target: they fit their shape, and nothing arms them.
 use Rattle.std.proofs.Common.{◌≡◌, ℕ, zero, suc, List, [], ◌∷◌, map, Some, slice_get, refl, sym, subst, ap, ◌∙◌}
 use Rattle.std.specs.List.{AllByRecursion}
-use Rattle.std.proofs.lemmas.List.{length-map}
 use Rattle.std.proofs.lemmas.Option.{none-some, same_Some}
-use Rattle.pblk_model.specs.declared.shape.Shape.{Shape}
 use Rattle.pblk_model.specs.Chunk.{Chunk}
 use Rattle.pblk_model.specs.ImageFile as image_file
 use Rattle.unit_port.specs.Armed.{IsUnarmed}
 use Rattle.unit_port.specs.Unit.{ModelUnit}
 use Rattle.ocssd_drive.specs.Drive.{DriveView, IsWhole, shape_of, stored}
-use Rattle.ocssd_drive.specs.Units.{WornUnit, IsUnitOf}
+use Rattle.ocssd_drive.specs.Units.{WornUnit}
 use Rattle.drive_image.specs.Quiet.{IsQuiet, IsQuietUnit}
 use Rattle.scan_recovery.specs.Units as scan
-use Rattle.scan_recovery.specs.Units.{AreFit}
-use Rattle.opening_steps.specs.Opened.{AreUnarmed}
+use Rattle.unit_port.specs.Commands.{AreUnarmed}
 use Rattle.pblk_cli.proofs.StoredUnits.{image_units}
 
-fit_at : (s : Shape) (us : List WornUnit) → AllByRecursion (IsUnitOf s) us → (k : ℕ) (m : ModelUnit) → slice_get (map (λ (u : WornUnit). u.unit) us) k ≡ Some m → scan.IsUnitOf s m
-fit_at s [] fit k m there = absurd (none-some m there)
-fit_at s (u ∷ us) fit zero m there =
-    let here : scan.IsUnitOf s u.unit = record { shape = fit.0.shape; fits = fit.0.fits } in subst (scan.IsUnitOf s) (same_Some u.unit m there) here
-fit_at s (u ∷ us) fit (suc k) m there = fit_at s us fit.1 k m there
-
-unarmed_at : (us : List WornUnit) → AllByRecursion IsQuietUnit us → (k : ℕ) (m : ModelUnit) → slice_get (map (λ (u : WornUnit). u.unit) us) k ≡ Some m → IsUnarmed m.armed
+unarmed_at : (us : List WornUnit) → AllByRecursion IsQuietUnit us → (k : ℕ) (m : ModelUnit) → slice_get (map (λ (u : WornUnit). u.unit) us) k ≡ Some m
+    → IsUnarmed m.armed
 unarmed_at [] quiet k m there = absurd (none-some m there)
-unarmed_at (u ∷ us) quiet zero m there = subst (λ (x : ModelUnit). IsUnarmed x.armed) (same_Some u.unit m there) (ap (λ a. a.plans) quiet.0.armed, ap (λ a. a.fuse) quiet.0.armed)
+unarmed_at (u ∷ us) quiet zero m there = subst (λ (x : ModelUnit). IsUnarmed x.armed) (same_Some u.unit m there)
+    (ap (λ a. a.plans) quiet.0.armed, ap (λ a. a.fuse) quiet.0.armed)
 unarmed_at (u ∷ us) quiet (suc k) m there = unarmed_at us quiet.1 k m there
-
--- by a shape and units that are the drive's
-pub fit_of : (d e : DriveView) (s : Shape) → e ≡ d → s ≡ shape_of d → IsWhole d → AreFit s (map (λ (u : WornUnit). u.unit) e.units)
-fit_of d e s same shape whole =
-    let own : AreFit (shape_of d) (map (λ (u : WornUnit). u.unit) d.units) = record {
-      count = length-map d.units (λ (u : WornUnit). u.unit) ∙ whole.count;
-      each = fit_at (shape_of d) d.units whole.fit;
-    } in
-    subst (λ (x : DriveView). AreFit s (map (λ (u : WornUnit). u.unit) x.units)) (sym same)
-    (subst (λ (x : Shape). AreFit x (map (λ (u : WornUnit). u.unit) d.units)) (sym shape) own)
 
 pub unarmed_of : (d e : DriveView) → e ≡ d → IsQuiet d → AreUnarmed (map (λ (u : WornUnit). u.unit) e.units)
 unarmed_of d e same quiet = subst (λ (x : DriveView). AreUnarmed (map (λ (u : WornUnit). u.unit) x.units)) (sym same) (unarmed_at d.units quiet)

@@ -36,7 +36,8 @@ pub lines_stay : (old new : MountView) → IsSameMount old new → lines_in new 
 lines_stay old new same = ap (λ (ts : List Taken). map line_of (filter (λ t. is_users t.entry.source) ts)) same.takes
 
 -- each line is below the front taken
-low_lines : (from : ℕ) (ts : List Taken) → ((k : ℕ) (t : Taken) → slice_get ts k ≡ Some t → t.entry.position ≡ from + k) → AllByRecursion (λ (x : PlacedSector). x.position < from + length ts) (map line_of ts)
+low_lines : (from : ℕ) (ts : List Taken) → ((k : ℕ) (t : Taken) → slice_get ts k ≡ Some t → t.entry.position ≡ from + k)
+    → AllByRecursion (λ (x : PlacedSector). x.position < from + length ts) (map line_of ts)
 low_lines from [] at = tt
 low_lines from (t ∷ ts) at = (
   (let here : t.entry.position ≡ from + 0 = at 0 t refl in omega arith),
@@ -47,5 +48,6 @@ low_lines from (t ∷ ts) at = (
 
 pub lines_taken : (v : MountView) → IsSound v → AllByRecursion (λ (x : PlacedSector). x.position < taken_in v) (lines_in v)
 lines_taken v sound =
-    subst (λ (ts : List Taken). AllByRecursion (λ (x : PlacedSector). x.position < taken_in v) (map line_of ts)) (sym (users_all v.image (world_in v) sound.legal))
+    subst (λ (ts : List Taken). AllByRecursion (λ (x : PlacedSector). x.position < taken_in v) (map line_of ts))
+    (sym (users_all v.image (world_in v) sound.legal))
     (low_lines (first_position (engine_log v)) (takes (engine_log v)) (λ k t there. (all_users v.image (world_in v) sound.legal k t there).position))

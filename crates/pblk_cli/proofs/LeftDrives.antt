@@ -1,11 +1,11 @@
 -- The drive that a run leaves.
-use Rattle.std.proofs.Common.{◌≡◌, ℕ, ◌<◌, ◌≤◌, ◌⊎◌, zero, suc, List, [], ◌∷◌, length, map, take, Some, refl, sym, subst, ap, ap₂, ◌∙◌, arith, inl, inr}
+use Rattle.std.proofs.Common.{◌≡◌, ℕ, ◌<◌, ◌≤◌, ◌⊎◌, suc, List, [], ◌∷◌, length, map, take, Some, refl, sym, subst, ap, ap₂, ◌∙◌, arith, inl, inr}
 use Rattle.std.specs.Prelude.{slice_get}
 use Rattle.std.specs.List.{AllByRecursion, enumerate_from}
 use Rattle.std.proofs.lemmas.Bool.{cases_order}
 use Rattle.std.proofs.lemmas.List.{length-map, take-map}
 use Rattle.std.proofs.lemmas.List.FromFn.{length-enumerate_from}
-use Rattle.std.proofs.lemmas.Option.{same_Some, none-some, slice_get_past}
+use Rattle.std.proofs.lemmas.Option.{slice_get_past}
 use Rattle.pblk_model.specs.declared.script.Command.{Command}
 use Rattle.pblk_model.specs.declared.shape.Shape.{Shape}
 use Rattle.pblk_model.specs.Chunk.{Chunk}
@@ -22,7 +22,6 @@ use Rattle.pblk_world.specs.World.{media, unit_events}
 use Rattle.pblk_world.specs.Fronts.{history, user_positions}
 use Rattle.core_laws.specs.PlainWorlds.{IsPlainWorld}
 use Rattle.unit_port.specs.Unit.{IsFitUnit, ModelUnit}
-use Rattle.prefix_law.proofs.Histories.{by_elements}
 use Rattle.prefix_law.proofs.Prefix.{prefix_contents}
 use Rattle.prefix_law.proofs.Sealed as sealing
 use Rattle.ocssd_drive.specs.Drive.{DriveView, IsWhole, shape_of, stored, with_units}
@@ -37,18 +36,10 @@ use Rattle.pblk_cli.specs.Serving.{IsRan, IsServed, IsServing, media_in, transcr
 use Rattle.pblk_cli.specs.Status.{status_of_run}
 use Rattle.pblk_cli.proofs.HandedDrives.{image_handed, media_mapped}
 use Rattle.pblk_cli.proofs.StoredUnits.{image_units, same_numbers}
+use Rattle.lemmas.proofs.Maps.{get_mapped}
+use Rattle.lemmas.proofs.Parts.{got_within, same_lists}
 
 -- The units of a mount are those of its media.
-
-get_mapped : {X Y : Type 0} (f : X → Y) (xs : List X) (k : ℕ) (x : X) → slice_get xs k ≡ Some x → slice_get (map f xs) k ≡ Some (f x)
-get_mapped f [] k x e = absurd (none-some x e)
-get_mapped f (y ∷ xs) zero x e = ap (λ z. Some z) (ap f (same_Some y x e))
-get_mapped f (y ∷ xs) (suc k) x e = get_mapped f xs k x e
-
-within_some : {X : Type 0} (xs : List X) (k : ℕ) → k < length xs → (x : X) × (slice_get xs k ≡ Some x)
-within_some [] k h = absurd (omega arith)
-within_some (x ∷ xs) zero h = (x, refl)
-within_some (x ∷ xs) (suc k) h = within_some xs k (omega arith)
 
 media_count : (v : MountView) → IsSound v → length (media_in v).units ≡ units v.image.shape
 media_count v sound =
@@ -56,17 +47,18 @@ media_count v sound =
     ∙ length-enumerate_from 0 v.image.units ∙ sound.legal.fit.units
 
 pub units_media : (v : MountView) → IsSound v → map (λ (u : ModelUnit). u.media) v.units ≡ (media_in v).units
-units_media v sound = by_elements (map (λ (u : ModelUnit). u.media) v.units) (media_in v).units (λ k. at k (cases_order k (length v.units)))
+units_media v sound = same_lists (map (λ (u : ModelUnit). u.media) v.units) (media_in v).units (λ k. at k (cases_order k (length v.units)))
   where
     past : (k : ℕ) → length v.units ≤ k → slice_get (map (λ (u : ModelUnit). u.media) v.units) k ≡ slice_get (media_in v).units k
     past k high =
         slice_get_past (map (λ (u : ModelUnit). u.media) v.units) k (omega (arith, length-map v.units (λ (u : ModelUnit). u.media)))
         ∙ sym (slice_get_past (media_in v).units k (omega (arith, media_count v sound, sound.count)))
 
-    at : (k : ℕ) → (k ≡ length v.units) ⊎ ((k < length v.units) ⊎ (length v.units < k)) → slice_get (map (λ (u : ModelUnit). u.media) v.units) k ≡ slice_get (media_in v).units k
+    at : (k : ℕ) → (k ≡ length v.units) ⊎ ((k < length v.units) ⊎ (length v.units < k))
+        → slice_get (map (λ (u : ModelUnit). u.media) v.units) k ≡ slice_get (media_in v).units k
     at k (inl e) = past k (omega arith)
     at k (inr (inl low)) =
-        let u = within_some v.units k low in
+        let u = got_within v.units k low in
         let is : IsUnitIn v k u.0 = sound.each k u.0 u.1 in
         get_mapped (λ (x : ModelUnit). x.media) v.units k u.0 u.1 ∙ sym is.media
     at k (inr (inr high)) = past k (omega arith)
@@ -90,19 +82,22 @@ all_fit s (o ∷ olds) (n ∷ news) wear fit each =
       all_fit s olds news rest fit.1 (λ k u there. each (suc k) u there),
     )
 
-pub whole_left : (found : DriveView) (s : Shape) (script : List (List Command)) (served : Served) → IsWhole found → s ≡ shape_of found → IsServed s script found.units served → IsWhole (with_units served.units.items found)
+pub whole_left : (found : DriveView) (s : Shape) (script : List (List Command)) (served : Served) → IsWhole found → s ≡ shape_of found
+    → IsServed s script found.units served → IsWhole (with_units served.units.items found)
 whole_left found s script served whole shape is =
     let mount : is.mount.image.shape ≡ shape_of found = ap (λ (i : Image). i.shape) is.serving.image ∙ shape in
     record {
       geometry_is = whole.geometry_is;
       accepted = whole.accepted;
-      count = sym (length-map served.units.items (λ (u : WornUnit). u.wear)) ∙ ap length is.wear ∙ length-map found.units (λ (u : WornUnit). u.wear) ∙ whole.count;
+      count = sym (length-map served.units.items (λ (u : WornUnit). u.wear)) ∙ ap length is.wear ∙ length-map found.units (λ (u : WornUnit). u.wear)
+          ∙ whole.count;
       fit = all_fit (shape_of found) found.units served.units.items is.wear whole.fit (λ k u there.
           let at : IsUnitIn is.mount k u = is.serving.sound.each k u (ap (λ (us : List ModelUnit). slice_get us k) (sym is.units_are) ∙ there) in
           (at.shape ∙ mount, at.fit));
     }
 
-pub ran_of : (found e : DriveView) (s : Shape) (script : List (List Command)) (served : Served) → e ≡ found → IsWhole found → s ≡ shape_of found → IsServed s script e.units served
+pub ran_of : (found e : DriveView) (s : Shape) (script : List (List Command)) (served : Served) → e ≡ found → IsWhole found → s ≡ shape_of found
+    → IsServed s script e.units served
     → IsRan found script (record { drive = with_units served.units.items e; records = served.records })
 ran_of found e s script served same whole shape is =
     let here : IsServed s script found.units served = subst (λ (d : DriveView). IsServed s script d.units served) same is in
@@ -120,7 +115,8 @@ ran_of found e s script served same whole shape is =
 
 -- The image left.
 
-left_is : (d : DriveView) (v : MountView) (i : Image) → IsWhole d → v.image ≡ i → shape_of d ≡ i.shape → IsSound v → map (λ (u : WornUnit). u.unit) d.units ≡ v.units → image_of (stored d) ≡ media i (logs_in v)
+left_is : (d : DriveView) (v : MountView) (i : Image) → IsWhole d → v.image ≡ i → shape_of d ≡ i.shape → IsSound v
+    → map (λ (u : WornUnit). u.unit) d.units ≡ v.units → image_of (stored d) ≡ media i (logs_in v)
 left_is d v i whole image shape sound are =
     ap₂ (λ (x : Shape) (us : List (List Chunk)). record { shape = x; units = us }) (shape ∙ sym (ap (λ (j : Image). j.shape) image))
     (image_units d whole ∙ sym (media_mapped d.units) ∙ ap (map (λ (u : ModelUnit). u.media)) are ∙ units_media v sound)
@@ -128,7 +124,8 @@ left_is d v i whole image shape sound are =
 
 -- The contents left.
 
-kept_contents : (i : Image) (v : MountView) → IsPlainWorld i (world_in v) → IsSealed i → (t : Transcript) (size : ℕ) → t.kept ≡ users (user_positions (engine_log v)) (end (media i (logs_in v)))
+kept_contents : (i : Image) (v : MountView) → IsPlainWorld i (world_in v) → IsSealed i → (t : Transcript) (size : ℕ)
+    → t.kept ≡ users (user_positions (engine_log v)) (end (media i (logs_in v)))
     → history (engine_log v) ≡ sector_writes size t.history → contents (media i (logs_in v)) ≡ after (contents i) (sector_writes size (take t.kept t.history))
 kept_contents i v legal sealed t size kept history_is =
     prefix_contents i (world_in v) legal sealed
@@ -152,9 +149,11 @@ run_to found script ran text bytes status is said status_is bytes_are spelled =
     let serving : IsServing (image_of (stored found)) script ran.records is.mount = is.serving in
     let left : image_of (stored ran.drive) ≡ media (image_of (stored found)) (logs_in is.mount) =
     left_is ran.drive is.mount (image_of (stored found)) is.whole serving.image (ap shape_of is.numbers) serving.sound is.units_are in
-    let legal : IsPlainWorld (image_of (stored found)) (world_in is.mount) = subst (λ (x : Image). IsPlainWorld x (world_in is.mount)) serving.image serving.sound.legal in
+    let legal : IsPlainWorld (image_of (stored found)) (world_in is.mount) = subst
+    (λ (x : Image). IsPlainWorld x (world_in is.mount)) serving.image serving.sound.legal in
     -- the end that was found is that of the mount's media
-    let same_end : end (image_of (stored ran.drive)) ≡ end (media_in is.mount) = ap end left ∙ ap (λ (x : Image). end (media x (logs_in is.mount))) (sym serving.image) in
+    let same_end : end (image_of (stored ran.drive)) ≡ end (media_in is.mount) = ap end left
+    ∙ ap (λ (x : Image). end (media x (logs_in is.mount))) (sym serving.image) in
     let told : transcript_left script ran ≡ t = ap (transcript_of script ran.records) same_end in
     let kept : t.kept ≡ users (user_positions (engine_log is.mount)) (end (image_of (stored ran.drive))) =
     serving.kept ∙ ap (users (user_positions (engine_log is.mount))) (sym same_end) in
@@ -175,9 +174,11 @@ run_to found script ran text bytes status is said status_is bytes_are spelled =
           worn = serving.worn;
         };
         kept_is = kept;
+        told = serving.told;
         relation = λ sealed.
             subst (IsRun found.sector script (contents (image_of (stored found))) t)
-            (sym (ap contents left ∙ kept_contents (image_of (stored found)) is.mount legal sealed t found.sector (kept ∙ ap (λ (x : Image). users (user_positions (engine_log is.mount)) (end x)) left) serving.history_is))
+            (sym (ap contents left ∙ kept_contents (image_of (stored found)) is.mount legal sealed t found.sector (kept
+            ∙ ap (λ (x : Image). users (user_positions (engine_log is.mount)) (end x)) left) serving.history_is))
             (serving.run sealed);
         sealed = λ sealed. subst IsSealed (sym left) (sealing.sealed (image_of (stored found)) (world_in is.mount) legal sealed);
         spelled = spelled;

@@ -2,19 +2,19 @@
 use Rattle.std.proofs.Common.{Vec, Option, ◌≡◌, ℕ, ◌^◌, ◌<◌, ◌≤◌, List, [], ◌∷◌, length, map, take, Some, None, refl, sym, subst, ap, ◌∙◌, arith}
 use Rattle.std.specs.List.{AllByRecursion, flat_map}
 use Rattle.std.proofs.lemmas.List.{append-nil}
-use Rattle.std.proofs.lemmas.List.FromFn.{length-map-range_with_len}
 use Rattle.std.proofs.Math.Nat.{le_refl}
 use Rattle.pblk_model.specs.declared.script.Command.{Command}
 use Rattle.pblk_model.specs.declared.shape.Shape.{Shape}
 use Rattle.pblk_model.specs.Accepted.{IsAccepted}
-use Rattle.pblk_model.specs.Contents.{contents, end, sector_of}
+use Rattle.pblk_model.specs.Contents.{contents, end}
 use Rattle.pblk_model.specs.History.{after, users}
 use Rattle.pblk_model.specs.Image.{Image}
 use Rattle.pblk_model.specs.Script.{ScriptFits}
 use Rattle.pblk_model.specs.Sealed.{IsSealed}
 use Rattle.pblk_model.specs.Text.{Transcript}
-use Rattle.pblk_model.specs.Transcript.{IsDistinct, IsRun, closing_event, sector_writes}
+use Rattle.pblk_model.specs.Transcript.{IsDistinct, IsRun, IsTranscript, closing_event, sector_writes}
 use Rattle.pblk_world.specs.Fronts.{user_positions}
+use Rattle.pblk_world.specs.Lines.{found_image}
 use Rattle.unit_port.specs.Unit.{ModelUnit}
 use Rattle.ocssd_drive.specs.Units.{WornUnit}
 use Rattle.prefix_law.proofs.Prefix.{prefix_above}
@@ -32,44 +32,57 @@ use Rattle.run_threads.specs.declared.records.Answer.{Answer}
 use Rattle.run_threads.specs.Run.{Runs}
 use Rattle.run_report.specs.OnePort.{AreKept, IsRunOfOnePort}
 use Rattle.run_report.specs.Report.{closing_of}
-use Rattle.run_report.proofs.OnePort.{no_port, one_events, one_history, one_kept, one_port}
+use Rattle.run_report.proofs.OnePort.{no_port, one_events, one_history, one_kept, one_port, one_told}
 use Rattle.run_report.proofs.Recorded.{recorded}
 use Rattle.pblk_cli.specs.declared.serve.Served.{Served}
 use Rattle.pblk_cli.specs.Serving.{HasRun, IsClosed, IsNewTarget, IsServed, IsServing, IsSession, media_in, transcript_in}
 use Rattle.pblk_cli.specs.Worn.{worns_of}
 use Rattle.pblk_cli.proofs.Histories.{history_lines, line_positions, lines_stay, lines_taken}
 use Rattle.pblk_cli.proofs.WornCauses.{one_worns}
-
-sector_count : (i : Image) → length (contents i) ≡ i.shape.capacity
-sector_count i = length-map-range_with_len (sector_of i) 0 i.shape.capacity
+use Rattle.pblk_model.proofs.ContentsLemmas.{contents_count}
 
 -- what no call changes of a target
 footing_is : (s t : Footing) → Some s ≡ Some t → s ≡ t
 footing_is s t e = cc
 
 same_image : (a b : SerialView) → IsSameTarget (device a) (device b) → b.mount.image ≡ a.mount.image
-same_image a b same = ap (λ (f : Footing). f.image) (footing_is (record { image = b.mount.image; wear = b.mount.wear }) (record { image = a.mount.image; wear = a.mount.wear }) same.footing)
+same_image a b same = ap (λ (f : Footing). f.image) (footing_is (record {
+  image = b.mount.image;
+  wear = b.mount.wear;
+}) (record { image = a.mount.image; wear = a.mount.wear }) same.footing)
 
 same_wear : (a b : SerialView) → IsSameTarget (device a) (device b) → b.mount.wear ≡ a.mount.wear
-same_wear a b same = ap (λ (f : Footing). f.wear) (footing_is (record { image = b.mount.image; wear = b.mount.wear }) (record { image = a.mount.image; wear = a.mount.wear }) same.footing)
+same_wear a b same = ap (λ (f : Footing). f.wear) (footing_is (record {
+  image = b.mount.image;
+  wear = b.mount.wear;
+}) (record { image = a.mount.image; wear = a.mount.wear }) same.footing)
 
 no_events : (es : List (ℕ × ℕ)) → es ≡ [] → IsDistinct es
 no_events es none = rw none tt
 
-all_below : (n m : ℕ) (lines : List PlacedSector) → n ≤ m → AllByRecursion (λ (x : PlacedSector). x.position < n) lines → AllByRecursion (λ (x : PlacedSector). x.position < m) lines
+all_below : (n m : ℕ) (lines : List PlacedSector) → n ≤ m → AllByRecursion (λ (x : PlacedSector). x.position < n) lines
+    → AllByRecursion (λ (x : PlacedSector). x.position < m) lines
 all_below n m [] h all = tt
 all_below n m (x ∷ lines) h all = (let low : x.position < n = all.0 in omega arith, all_below n m lines h all.1)
 
 -- a run by another size and from other contents that are the same
 run_by : (size other : ℕ) (script : List (List Command)) (start begin : List (List ℕ)) (t : Transcript) → size ≡ other → start ≡ begin
-    → IsRun size script start t (after start (sector_writes size (take t.kept t.history))) → IsRun other script begin t (after begin (sector_writes other (take t.kept t.history)))
+    → IsRun size script start t (after start (sector_writes size (take t.kept t.history)))
+    → IsRun other script begin t (after begin (sector_writes other (take t.kept t.history)))
 run_by size other script start begin t size_is start_is run =
     subst (λ n. IsRun n script begin t (after begin (sector_writes n (take t.kept t.history)))) size_is
     (subst (λ (c : List (List ℕ)). IsRun size script c t (after c (sector_writes size (take t.kept t.history)))) start_is run)
 
+told_by : (size other : ℕ) (script : List (List Command)) (start begin : List (List ℕ)) (t : Transcript) → size ≡ other → start ≡ begin
+    → IsTranscript size script start t → IsTranscript other script begin t
+told_by size other script start begin t size_is start_is told =
+    subst (λ n. IsTranscript n script begin t) size_is (subst (λ (c : List (List ℕ)). IsTranscript size script c t) start_is told)
+
 -- A target that was opened on the units of a drive, before and after a session, and closed.
-module _ (s : Shape) (us : List ModelUnit) (first last : SerialView) (records : Records) (served : Served) (opened : IsOpened s us first.mount) (unwritten : first.own ≡ []) (calm : first.worns ≡ [])
-    (accepted : IsAccepted s) (unopened : records.opening ≡ None) (target : IsSameTarget (device first) (device last)) (closed : IsClosed last records served) where
+module _ (s : Shape) (us : List ModelUnit) (first last : SerialView) (records : Records) (served : Served) (opened : IsOpened s us first.mount)
+    (unwritten : first.own ≡ []) (calm : first.worns ≡ [])
+    (accepted : IsAccepted s) (unopened : records.opening ≡ None) (target : IsSameTarget (device first) (device last))
+    (closed : IsClosed last records served) where
   abbrev i : Image
   i = image_of s us
 
@@ -91,10 +104,16 @@ module _ (s : Shape) (us : List ModelUnit) (first last : SerialView) (records : 
 
   -- as many sectors are at the beginning
   start_count : length (contents first.mount.found) ≡ s.capacity
-  start_count = sector_count first.mount.found ∙ ap (λ (j : Image). j.shape.capacity) opened.found_is
+  start_count = contents_count first.mount.found ∙ ap (λ (j : Image). j.shape.capacity) opened.found_is
 
   start_is : IsSealed (image_of s us) → contents first.mount.found ≡ contents (image_of s us)
   start_is sealed = ap contents opened.found_is ∙ opened.is.units.holds.contents_are sealed
+
+  -- the contents that the mount found
+  start_found : contents first.mount.found ≡ contents (found_image (image_of s us) (logs_in closed.mount))
+  start_found =
+      sym target.start
+      ∙ ap contents (sym closed.same.found ∙ sym closed.sound.found_is ∙ ap (λ (j : Image). found_image j (logs_in closed.mount)) mount_image)
 
   -- no line was taken since the session
   lines_are : lines_in closed.mount ≡ lines_in last.mount
@@ -113,11 +132,13 @@ module _ (s : Shape) (us : List ModelUnit) (first last : SerialView) (records : 
     all = λ none.
         let all : synced_in closed.mount ≡ taken_in closed.mount = closed.all none in
         all_below (taken_in closed.mount) (end (media_in closed.mount)) (lines_in last.mount) (omega arith)
-        (subst (λ (ls : List PlacedSector). AllByRecursion (λ (line : PlacedSector). line.position < taken_in closed.mount) ls) lines_are (lines_taken closed.mount closed.sound));
+        (subst (λ (ls : List PlacedSector). AllByRecursion (λ (line : PlacedSector). line.position < taken_in closed.mount) ls) lines_are
+        (lines_taken closed.mount closed.sound));
   }
 
   -- One thread.
-  module _ (commands : List Command) (answers : List Answer) (threads : records.threads ≡ answers ∷ []) (told : List ℕ → ℕ) (ran : Runs told (device first) commands answers (device last)) where
+  module _ (commands : List Command) (answers : List Answer) (threads : records.threads ≡ answers ∷ []) (told : List ℕ
+      → ℕ) (ran : Runs told (device first) commands answers (device last)) where
     one : IsRunOfOnePort commands served.records (device first) (device last)
     one = record {
       opened = opening_is;
@@ -128,7 +149,12 @@ module _ (s : Shape) (us : List ModelUnit) (first last : SerialView) (records : 
       unwritten = unwritten;
       faultless = refl;
       last = device last;
-      learned = record { more = []; known = sym (append-nil (lines_in last.mount)); rise = le_refl (taken_in last.mount); flushed = le_refl (synced_in last.mount) };
+      learned = record {
+        more = [];
+        known = sym (append-nil (lines_in last.mount));
+        rise = le_refl (taken_in last.mount);
+        flushed = le_refl (synced_in last.mount);
+      };
       alone = closed.alone;
       trouble = closed.trouble;
       distinct = no_events (closing_event (closing_of served.records.closing)) closed.quiet;
@@ -145,12 +171,19 @@ module _ (s : Shape) (us : List ModelUnit) (first last : SerialView) (records : 
           opening_is (rw (closed.threads ∙ threads) (ran, tt));
       faultless = one_events commands served.records (device first) (device last) front one ∙ closed.quiet;
       history_is =
-          history_lines closed.mount ∙ ap (map (λ (x : PlacedSector). x.write)) lines_are ∙ sym (one_history commands served.records (device first) (device last) front one)
+          history_lines closed.mount ∙ ap (map (λ (x : PlacedSector). x.write)) lines_are
+          ∙ sym (one_history commands served.records (device first) (device last) front one)
           ∙ ap (λ n. sector_writes n (transcript_in (commands ∷ []) served.records closed.mount).history) size_is;
-      worn = subst (λ (j : Image). AreRefusals j (logs_in closed.mount) (worns_of (commands ∷ []) (transcript_in (commands ∷ []) served.records closed.mount))) mount_image
-          (one_worns closed.mount.image (logs_in closed.mount) told commands answers (device first) (device last) served.records front ran calm (closed.threads ∙ threads) closed.refusals closed.worn);
+      worn = subst (λ (j : Image). AreRefusals j (logs_in closed.mount)
+          (worns_of (commands ∷ []) (transcript_in (commands ∷ []) served.records closed.mount))) mount_image
+          (one_worns closed.mount.image (logs_in closed.mount) told commands answers (device first) (device last) served.records front ran calm (closed.threads
+          ∙ threads) closed.refusals closed.worn);
       kept = one_kept commands served.records (device first) (device last) front one ∙ ap (λ ps. users ps front) positions_are;
-      run = λ sealed. run_by first.mount.image.shape.sector s.sector (commands ∷ []) (contents first.mount.found) (contents (image_of s us)) (transcript_in (commands ∷ []) served.records closed.mount) size_is (start_is sealed)
+      told = told_by first.mount.image.shape.sector s.sector (commands ∷ []) (contents first.mount.found)
+          (contents (found_image (image_of s us) (logs_in closed.mount))) (transcript_in (commands ∷ []) served.records closed.mount) size_is start_found
+          (one_told commands served.records (device first) (device last) front one);
+      run = λ sealed. run_by first.mount.image.shape.sector s.sector (commands ∷ []) (contents first.mount.found) (contents (image_of s us))
+          (transcript_in (commands ∷ []) served.records closed.mount) size_is (start_is sealed)
           (one_port commands served.records (device first) (device last) front one (are_kept sealed));
     }
 
@@ -174,8 +207,11 @@ module _ (s : Shape) (us : List ModelUnit) (first last : SerialView) (records : 
           opening_is (rw (closed.threads ∙ threads) tt);
       faultless = rw (closed.threads ∙ threads, opening_is) closed.quiet;
       history_is = history_lines closed.mount ∙ ap (map (λ (x : PlacedSector). x.write)) none_left;
-      worn = subst (λ (j : Image). AreRefusals j (logs_in closed.mount) (worns_of [] (transcript_in [] served.records closed.mount))) mount_image closed.worn;
+      worn = subst (λ (j : Image). AreRefusals j (logs_in closed.mount) (worns_of [] (transcript_in [] served.records closed.mount))) mount_image
+          (rw (closed.threads ∙ threads) closed.worn);
       kept = sym (ap (λ ps. users ps front) no_positions);
+      told = (no_port s.sector served.records (contents (found_image (image_of s us) (logs_in closed.mount))) front (closed.threads
+          ∙ threads) opening_is closed.trouble).told;
       run = λ sealed. no_port s.sector served.records (contents (image_of s us)) front (closed.threads ∙ threads) opening_is closed.trouble;
     }
 
@@ -185,7 +221,8 @@ module _ (s : Shape) (us : List ModelUnit) (first last : SerialView) (records : 
   serving_of (commands ∷ []) one fits h = one_serving commands h.0 h.1 h.2 h.3 fits
   serving_of (commands ∷ (more ∷ script)) one fits h = absurd (omega arith)
 
-pub served_of : (s : Shape) (script : List (List Command)) (units : List WornUnit) (first last : SerialView) (records : Records) (served : Served) → IsAccepted s → length script ≤ 1 → ScriptFits s.capacity script
+pub served_of : (s : Shape) (script : List (List Command)) (units : List WornUnit) (first last : SerialView) (records : Records) (served : Served)
+    → IsAccepted s → length script ≤ 1 → ScriptFits s.capacity script
     → IsNewTarget s units first → IsSession script first records last → IsClosed last records served → IsServed s script units served
 served_of s script units first last records served accepted one fits new session closed = record {
   mount = closed.mount;
@@ -195,7 +232,8 @@ served_of s script units first last records served accepted one fits new session
 }
 
 -- the script fits the capacity of a target that was opened
-pub fits_target : (s : Shape) (units : List WornUnit) (target : SerialView) (script : List (List Command)) → IsNewTarget s units target → ScriptFits s.capacity script → ScriptFits target.mount.image.shape.capacity script
+pub fits_target : (s : Shape) (units : List WornUnit) (target : SerialView) (script : List (List Command)) → IsNewTarget s units target
+    → ScriptFits s.capacity script → ScriptFits target.mount.image.shape.capacity script
 fits_target s units target script new fits = subst (λ (j : Image). ScriptFits j.shape.capacity script) (sym new.opened.image) fits
 
 -- What a close comes to.
@@ -204,7 +242,8 @@ abbrev pub records_with : Records → Option Trouble → Records
 records_with records closing = record { threads = records.threads; opening = records.opening; closing = closing }
 
 abbrev pub Closes : SerialView → List WornUnit → MountView → Type 0
-Closes target units v = IsSameMount target.mount v × IsSound v × (map (λ (u : WornUnit). u.unit) units ≡ v.units) × (map (λ (u : WornUnit). u.wear) units ≡ v.wear)
+Closes target units v = IsSameMount target.mount v × IsSound v × (map (λ (u : WornUnit). u.unit) units ≡ v.units)
+    × (map (λ (u : WornUnit). u.wear) units ≡ v.wear)
 
 pub closed_well : {Z : Type 0} (target : SerialView) (records : Records) (units : Vec WornUnit Z) (v : MountView) → Closes target units.items v
     → lines_in target.mount ≡ flat_map lines_of target.own → synced_in v ≡ taken_in v → AreRefusals v.image (logs_in v) target.worns
@@ -229,10 +268,15 @@ closed_well target records units v is alone settled refusals served units_are re
 some_is : (x : Trouble) → Some x ≡ None → ⊥
 some_is x e = cc
 
-pub closed_worn : {Z : Type 0} (target : SerialView) (records : Records) (units : Vec WornUnit Z) (wanted have : ℕ) (v : MountView) → Closes target units.items v
+pub closed_worn : {Z : Type 0} (target : SerialView) (records : Records) (units : Vec WornUnit Z) (wanted have : ℕ) (v : MountView)
+    → Closes target units.items v
     → lines_in target.mount ≡ flat_map lines_of target.own → have < wanted → wanted < 2 ^ 64
     → AreRefusals v.image (logs_in v) target.worns → IsFlushRefusal v.image (logs_in v) (length (engine_log v)) wanted have
-    → (served : Served) → served.units.items ≡ units.items → served.records ≡ record { threads = records.threads; opening = records.opening; closing = Some (Worn wanted have) }
+    → (served : Served) → served.units.items ≡ units.items → served.records ≡ record {
+      threads = records.threads;
+      opening = records.opening;
+      closing = Some (Worn wanted have);
+    }
     → IsClosed target records served
 closed_worn target records units wanted have v is alone less number refusals cause served units_are records_are = record {
   mount = v;

@@ -1,4 +1,5 @@
--- What each command comes to, by the files before and after: a text, or a refusal with its cause. No other ending is left.
+-- What each command comes to, by the files before and after: a text, or a refusal with its cause. No
+-- other ending is left.
 use Rattle.std.specs.Prelude.{ℕ, ◌≤◌, ◌≡◌, ◌⊎◌, List, [], map, length, Some, None, Err}
 use Rattle.pblk_outside.specs.Files.{FilesView}
 use Rattle.pblk_model.specs.declared.script.Command.{Command}
@@ -10,10 +11,11 @@ use Rattle.pblk_model.specs.ImageFile.{Drive, IsImage, image_bytes, image_of, im
 use Rattle.pblk_model.specs.ScriptText.{IsScript, read_script}
 use Rattle.pblk_model.specs.Sealed.{IsSealed}
 use Rattle.pblk_model.specs.Text.{Transcript, text_of}
-use Rattle.pblk_model.specs.Transcript.{IsRun, events, sector_writes}
+use Rattle.pblk_model.specs.Transcript.{IsRun, IsTranscript, events, sector_writes}
 use Rattle.pblk_world.specs.World.{World, log_of, media}
 use Rattle.pblk_world.specs.EngineLog.{Begun, begun}
 use Rattle.pblk_world.specs.Fronts.{history, user_positions}
+use Rattle.pblk_world.specs.Lines.{found_image}
 use Rattle.core_laws.specs.PlainWorlds.{IsPlainWorld}
 use Rattle.block_port.specs.declared.rows.WornAnswer.{WornAnswer}
 use Rattle.block_target.specs.NothingLeft.{AreRefusals}
@@ -31,7 +33,7 @@ CreateComesTo image n (Gives status text) old new = (status ≡ 0) × (created_r
     × (text ≡ created_text (length (image_bytes (created_drive n)))) × IsSealed (image_of (created_drive n))
 CreateComesTo image n (Refuses (Image e)) old new = (created_refusal n ≡ Some e) × AreUntouched old new
 CreateComesTo image n (Refuses (Failed name)) old new = (name ≡ image) × (created_refusal n ≡ None) × FailsWriting image old new
-CreateComesTo image n (Refuses Memory) old new = AreUntouched old new
+CreateComesTo image n (Refuses Memory) old new = (created_refusal n ≡ None) × AreUntouched old new
 CreateComesTo image n ending old new = ⊥
 
 -- What is told of images.
@@ -82,9 +84,10 @@ pub record SameNumbers (old new : Drive) : Type 0 where
   pub ring : new.ring ≡ old.ring
   pub wear : map (map (λ k. k.wear)) new.units ≡ map (map (λ k. k.wear)) old.units
 
--- What was done on a drive: a legal world over the image found, in which nothing failed and nothing was stopped, copied or
--- freed. The mount has begun there; the media are the image left, and the history is this one. Each of these answers for
--- want of room was given at a length of its engine's log at which nothing was left to do.
+-- What was done on a drive: a legal world over the image found, in which nothing failed and nothing was
+-- stopped, copied or freed. The mount has begun there; the media are the image left, and the history is
+-- this one. Each of these answers for want of room was given at a length of its engine's log at which
+-- nothing was left to do.
 pub record IsWorldBetween (found left : Drive) (writes : List SectorWrite) (worns : List WornAnswer) : Type 0 where
   pub world : World
   pub legal : IsPlainWorld (image_of found) world
@@ -107,14 +110,20 @@ pub record IsRunBetween (found : Drive) (commands : List (List Command)) (text :
   pub world : IsWorldBetween found left (sector_writes found.sector transcript.history) (worns_of commands transcript)
   -- kept are the lines of the history below the end of the image left
   pub kept_is : transcript.kept ≡ users (user_positions (log_of world.world 0)) (end (image_of left))
-  -- Where the image found is sealed: the transcript relation between the script, the contents before, the text and the
-  -- contents after holds, by which all of the history is kept where closing answers nothing; and the image left is sealed.
+  -- It is a transcript of the script from the contents that the mount found: each command has its line,
+  -- the history are the writes that were placed, and each front, word and number is one that the
+  -- relation allows.
+  pub told : IsTranscript found.sector commands (contents (found_image (image_of found) (log_of world.world))) transcript
+  -- Where the image found is sealed, the contents before are those of the image: the transcript relation
+  -- between the script, these, the text and the contents after holds, by which all that was flushed is
+  -- kept, and all of the history where closing answers nothing. And the image left is sealed.
   pub relation : IsSealed (image_of found) → IsRun found.sector commands (contents (image_of found)) transcript (contents (image_of left))
   pub sealed : IsSealed (image_of found) → IsSealed (image_of left)
   -- its one spelling is an image of it
   pub spelled : IsImage (image_bytes left) left
 
--- a run was made, with this status, and the drive that it left is stored under the image's name, in its one spelling
+-- a run was made, with this status, and the drive that it left is stored under the image's name, in its
+-- one spelling
 pub record RunMade (image script : List ℕ) (status : ℕ) (text : List ℕ) (old new : FilesView) : Type 0 where
   pub input : RunInput image script old
   pub left : Drive
@@ -132,7 +141,8 @@ RunComesTo image script (Refuses (Script e)) old new = (d : Drive) × IsDriveOf 
 -- both are accepted, and the script has a second thread
 RunComesTo image script (Refuses ScriptUnbuilt) old new = (d : Drive) × IsDriveOf image old d
     × (bytes : List ℕ) × Holds script bytes old × (commands : List (List Command)) × IsScript d.capacity bytes commands × (2 ≤ length commands) × AreUntouched old new
--- the image, or, where it is there, the script could not be read; or all was made, and the image could not be written
+-- the image, or, where it is there, the script could not be read; or all was made, and the image could
+-- not be written
 RunComesTo image script (Refuses (Failed name)) old new = ((name ≡ image) × FailsReading image old new)
     ⊎ ((name ≡ script) × IsThere image old × FailsReading script old new)
     ⊎ ((name ≡ image) × RunInput image script old × FailsWriting image old new)

@@ -1,5 +1,5 @@
 -- What reading a file and judging its bytes come to.
-use Rattle.std.specs.Prelude.{ℕ, ◌≡◌, ⊤, List, Some}
+use Rattle.std.specs.Prelude.{ℕ, ◌≡◌, List, Some, None}
 use Rattle.pblk_outside.specs.Files.{FilesView}
 use Rattle.pblk_model.specs.ImageFile.{Drive, IsImage, image_refusal}
 use Rattle.pblk_cli.specs.Telling.{Reason, Image, Failed, Missing, Memory, Holds, IsThere, AreUntouched, FailsReading, IsMissing}
@@ -18,8 +18,8 @@ CannotRead name reason old new = ⊥
 abbrev pub TellsOf : (Drive → List ℕ) → List ℕ → ℕ → List ℕ → Type 0
 TellsOf says bytes status text = (status ≡ 0) × (d : Drive) × IsImage bytes d × (text ≡ says d)
 
--- bytes are no image, or there was no memory for its drive
+-- bytes are no image; or they are one, and there was no memory for its drive or for what is told of it
 abbrev pub RefusesBytes : List ℕ → Reason → Type 0
 RefusesBytes bytes (Image e) = image_refusal bytes ≡ Some e
-RefusesBytes bytes Memory = ⊤
+RefusesBytes bytes Memory = image_refusal bytes ≡ None
 RefusesBytes bytes reason = ⊥

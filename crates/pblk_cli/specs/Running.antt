@@ -1,12 +1,13 @@
--- What running the bytes of an image and of a script comes to.
-use Rattle.std.specs.Prelude.{ℕ, ◌≤◌, ◌≡◌, ◌⊎◌, ⊤, List, length, Some, Err}
+-- What running the bytes of a script on the drive of an image comes to.
+use Rattle.std.specs.Prelude.{ℕ, ◌≤◌, ◌≡◌, ◌⊎◌, List, length, Err}
 use Rattle.pblk_outside.specs.Files.{FilesView}
 use Rattle.pblk_model.specs.declared.script.Command.{Command}
-use Rattle.pblk_model.specs.ImageFile.{Drive, IsImage, image_bytes, image_refusal}
+use Rattle.pblk_model.specs.ImageFile.{Drive, image_bytes}
 use Rattle.pblk_model.specs.ScriptText.{IsScript, read_script}
+use Rattle.run_script.specs.Reading.{BeginsWell}
 use Rattle.pblk_cli.specs.Commands.{IsRunBetween}
 use Rattle.pblk_cli.specs.Status.{status_of_run}
-use Rattle.pblk_cli.specs.Telling.{Reason, Image, Script, ScriptUnbuilt, Failed, Missing, Memory, IsThere, AreUntouched, FailsReading, IsMissing}
+use Rattle.pblk_cli.specs.Telling.{Reason, Script, ScriptUnbuilt, Failed, Missing, Memory, IsThere, AreUntouched, FailsReading, IsMissing}
 
 -- one of both files could not be read, or there was no memory for their bytes
 abbrev pub CannotReadBoth : List ℕ → List ℕ → Reason → FilesView → FilesView → Type 0
@@ -22,19 +23,17 @@ pub record IsRunTo (found : Drive) (commands : List (List Command)) (status : �
   pub status_is : status ≡ status_of_run run.transcript
   pub bytes_are : bytes ≡ image_bytes left
 
--- what was read was accepted, and run
-pub record IsRunOfInput (image script : List ℕ) (status : ℕ) (text bytes : List ℕ) : Type 0 where
-  pub drive : Drive
-  pub drive_is : IsImage image drive
+-- The bytes of a script were accepted on a drive, and run.
+pub record IsRunOfScript (found : Drive) (script : List ℕ) (status : ℕ) (text bytes : List ℕ) : Type 0 where
   pub commands : List (List Command)
-  pub commands_are : IsScript drive.capacity script commands
+  pub commands_are : IsScript found.capacity script commands
   pub one : length commands ≤ 1
-  pub run : IsRunTo drive commands status text bytes
+  pub run : IsRunTo found commands status text bytes
 
--- what was read was refused
-abbrev pub RefusesInput : List ℕ → List ℕ → Reason → Type 0
-RefusesInput image script (Image e) = image_refusal image ≡ Some e
-RefusesInput image script (Script e) = (d : Drive) × IsImage image d × (read_script d.capacity script ≡ Err e)
-RefusesInput image script ScriptUnbuilt = (d : Drive) × IsImage image d × (commands : List (List Command)) × IsScript d.capacity script commands × (2 ≤ length commands)
-RefusesInput image script Memory = ⊤
-RefusesInput image script reason = ⊥
+-- They were refused for a drive of this capacity; or there was no memory to read them or to run them,
+-- and the first line that isn't skipped isn't refused.
+abbrev pub RefusesScript : ℕ → List ℕ → Reason → Type 0
+RefusesScript capacity script (Script e) = read_script capacity script ≡ Err e
+RefusesScript capacity script ScriptUnbuilt = (commands : List (List Command)) × IsScript capacity script commands × (2 ≤ length commands)
+RefusesScript capacity script Memory = BeginsWell capacity script
+RefusesScript capacity script reason = ⊥

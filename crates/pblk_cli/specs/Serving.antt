@@ -9,9 +9,10 @@ use Rattle.pblk_model.specs.Image.{Image}
 use Rattle.pblk_model.specs.ImageFile as image_file
 use Rattle.pblk_model.specs.Sealed.{IsSealed}
 use Rattle.pblk_model.specs.Text.{Transcript}
-use Rattle.pblk_model.specs.Transcript.{IsRun, closing_event, events, sector_writes}
+use Rattle.pblk_model.specs.Transcript.{IsRun, IsTranscript, closing_event, events, sector_writes}
 use Rattle.pblk_world.specs.World.{media}
 use Rattle.pblk_world.specs.Fronts.{history, user_positions}
+use Rattle.pblk_world.specs.Lines.{found_image}
 use Rattle.ocssd_drive.specs.Drive.{DriveView, IsWhole, stored, with_units}
 use Rattle.ocssd_drive.specs.Units.{WornUnit}
 use Rattle.scan_recovery.specs.Units.{image_of}
@@ -53,7 +54,8 @@ pub record IsSession (script : List (List Command)) (old : SerialView) (records 
   pub opened : records.opening ≡ None
   pub target : IsSameTarget (device old) (device new)
 
--- A target was closed after a run: what was done on its drive is the world of a mount, in which nothing more was taken.
+-- A target was closed after a run: what was done on its drive is the world of a mount, in which nothing
+-- more was taken.
 pub record IsClosed (target : SerialView) (records : Records) (served : Served) : Type 0 where
   pub mount : MountView
   pub same : IsSameMount target.mount mount
@@ -76,8 +78,9 @@ pub record IsClosed (target : SerialView) (records : Records) (served : Served) 
 abbrev pub transcript_in : List (List Command) → Records → MountView → Transcript
 transcript_in script records v = transcript_of script records (end (media_in v))
 
--- A script was run on a drive with this image: what was done is the world of a mount, whose history is the transcript's.
--- Where the image is sealed the transcript is one of a run from what the image held.
+-- A script was run on a drive with this image: what was done is the world of a mount, whose history is
+-- the transcript's. It is a transcript of the script from what the mount found. Where the image is
+-- sealed it is one of a run from what the image held.
 pub record IsServing (i : Image) (script : List (List Command)) (records : Records) (mount : MountView) : Type 0 where
   pub image : mount.image ≡ i
   pub sound : IsSound mount
@@ -86,6 +89,7 @@ pub record IsServing (i : Image) (script : List (List Command)) (records : Recor
   pub history_is : history (engine_log mount) ≡ sector_writes i.shape.sector (transcript_in script records mount).history
   pub worn : AreRefusals i (logs_in mount) (worns_of script (transcript_in script records mount))
   pub kept : (transcript_in script records mount).kept ≡ users (user_positions (engine_log mount)) (end (media_in mount))
+  pub told : IsTranscript i.shape.sector script (contents (found_image i (logs_in mount))) (transcript_in script records mount)
   pub run : IsSealed i → let t = transcript_in script records mount in let start = contents i in
       IsRun i.shape.sector script start t (after start (sector_writes i.shape.sector (take t.kept t.history)))
 

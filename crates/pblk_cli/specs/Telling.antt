@@ -57,7 +57,8 @@ abbrev pub Finishes : ℕ → List ℕ → ℕ → SinkView → SinkView → Typ
 Finishes own text status old new = ((status ≡ own) × (new.faults ≡ old.faults) × (IsTrue old.told → new.taken ≡ old.taken ++ text))
     ⊎ ((status ≡ 8) × HasRisen old.faults new.faults × (IsTrue old.told → TakesPrefix text old.taken new.taken))
 
--- What a call tells of an ending: its text, or the status and the line of a refusal, whose writing changes nothing.
+-- What a call tells of an ending: its text, or the status and the line of a refusal, whose writing
+-- changes nothing.
 abbrev pub Tells : Ending → ℕ → SinkView → SinkView → Type 0
 Tells (Gives own text) status old new = Finishes own text status old new
 Tells (Refuses reason) status old new = (status ≡ status_of reason) × Says (line_of reason) old new

@@ -28,7 +28,8 @@ pub(crate) fn create<'a, F: Files>(
     numbers: &CreateNumbers,
     files: &mut F,
 ) -> Result<Output, Refusal<'a>>
-    ensures comes { CreateComesTo image.now (numbers_seen numbers.now) (ending_of result) (F.view files.old) (F.view files.new) }
+    ensures comes { CreateComesTo image.now (numbers_seen numbers.now) (ending_of result)
+        (F.view files.old) (F.view files.new) }
     ensures told { (F.view files.new).told ≡ (F.view files.old).told }
 {
     let made = match make(alloc, numbers) {
@@ -47,8 +48,10 @@ pub(crate) fn create<'a, F: Files>(
 
 // The bytes of the image.
 fn make(alloc: Global, numbers: &CreateNumbers) -> Result<Vec<u8>, ImageErr>
-    ensures made { IfOk result (λ bytes. bytes.items ≡ image_bytes (created_drive (numbers_seen numbers.now))) }
-    ensures sealed { IfOk result (λ bytes. IsSealed (image_of (created_drive (numbers_seen numbers.now)))) }
+    ensures made { IfOk result (λ bytes.
+        bytes.items ≡ image_bytes (created_drive (numbers_seen numbers.now))) }
+    ensures sealed { IfOk result (λ bytes.
+        IsSealed (image_of (created_drive (numbers_seen numbers.now)))) }
     ensures accepted { IfOk result (λ bytes. created_refusal (numbers_seen numbers.now) ≡ None) }
     ensures refused { IfErr result (λ e. MakesNothing (numbers_seen numbers.now) e) }
 {

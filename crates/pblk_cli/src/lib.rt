@@ -1,5 +1,5 @@
-//! The program behind the command `pblk`: it reads its words, makes images (`create`), tells their numbers (`geometry`) and
-//! what they hold (`show` and `report`), and runs scripts on them (`run`).
+//! The program behind the command `pblk`: it reads its words, makes images (`create`), tells their
+//! numbers (`geometry`) and what they hold (`show` and `report`), and runs scripts on them (`run`).
 //!
 //! So far `run` takes scripts of one thread.
 #![tactic(auto)]

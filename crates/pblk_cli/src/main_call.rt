@@ -33,9 +33,9 @@ use std::sync::Wait;
 /// | 7 | there was no memory |
 /// | 8 | the command did its work, and its text could not be written whole |
 ///
-/// With each status but 0, 6 and 8 one line says why. The words are judged first; then files are read, the image before the
-/// script; then the image is judged, then the script; the file is written before the text. A run may wait:
-/// nothing says that its call returns.
+/// With each status but 0, 6 and 8 one line says why. The words are judged first; then files are read,
+/// the image before the script; then the image is judged, then the script; the file is written before
+/// the text. A run may wait: nothing says that its call returns.
 pub fn pblk_main<R: Wait, F: Files, O: Sink>(
     rt: &R,
     alloc: Global,
@@ -71,7 +71,8 @@ fn do_command<'a, R: Wait, F: Files>(
     command: CommandLine<'a>,
     files: &mut F,
 ) -> Result<Output, Refusal<'a>>
-    ensures comes { ComesTo (seen command.entry) (ending_of result) (F.view files.old) (F.view files.new) }
+    ensures comes { ComesTo (seen command.entry) (ending_of result)
+        (F.view files.old) (F.view files.new) }
     ensures told { (F.view files.new).told ≡ (F.view files.old).told }
 {
     match command {
@@ -83,8 +84,9 @@ fn do_command<'a, R: Wait, F: Files>(
     }
 }
 
-/// Runs the command that the words are, as `pblk_main` does, and gives its status as the program's exit code. Words that
-/// could not be had are answered here: 1 where one is no text, and 7 for want of memory, each with its line.
+/// Runs the command that the words are, as `pblk_main` does, and gives its status as the program's exit
+/// code. Words that could not be had are answered here: 1 where one is no text, and 7 for want of
+/// memory, each with its line.
 pub fn pblk_program<R: Wait, F: Files, O: Sink>(
     rt: &R,
     alloc: Global,
@@ -92,13 +94,16 @@ pub fn pblk_program<R: Wait, F: Files, O: Sink>(
     files: &mut F,
     out: &mut O,
 ) -> ExitCode
-    ensures { ProgramEnds words (record {
+    ensures ends { ProgramEnds words (record {
       status = exit_status result;
       files = F.view files.old;
       files_after = F.view files.new;
       out = O.view out.old;
       out_after = O.view out.new;
     }) }
+    ensures files_tell { (F.view files.new).told ≡ (F.view files.old).told }
+    ensures out_tells { (O.view out.new).told ≡ (O.view out.old).told }
+    ensures never_falls { (O.view out.old).faults ≤ (O.view out.new).faults }
 {
     match words {
         Ok(words) => ExitCode::from(pblk_main(rt, alloc, &words, files, out)),

@@ -57,9 +57,11 @@ impl Refusal<'_> {
         }
     }
 
-    /// Writes the line of this refusal, and answers its status. Whether the line could be written changes nothing.
+    /// Writes the line of this refusal, and answers its status. Whether the line could be written
+    /// changes nothing.
     pub(crate) fn refuse<O: Sink>(self, out: &mut O) -> u8
-        ensures tells { Tells (Refuses (reason_of self.entry)) result (O.view out.old) (O.view out.new) }
+        ensures tells { Tells (Refuses (reason_of self.entry)) result
+            (O.view out.old) (O.view out.new) }
         ensures told { (O.view out.new).told ≡ (O.view out.old).told }
         ensures never_falls { (O.view out.old).faults ≤ (O.view out.new).faults }
     {
@@ -75,9 +77,11 @@ impl Refusal<'_> {
     }
 }
 
-/// Writes the text of a command that did its work: the status is the command's own, or 8 where the output failed.
+/// Writes the text of a command that did its work: the status is the command's own, or 8 where the
+/// output failed.
 pub(crate) fn finish<O: Sink>(output: &Output, out: &mut O) -> u8
-    ensures tells { Tells (Gives output.now.status output.now.text.items) result (O.view out.old) (O.view out.new) }
+    ensures tells { Tells (Gives output.now.status output.now.text.items) result
+        (O.view out.old) (O.view out.new) }
     ensures told { (O.view out.new).told ≡ (O.view out.old).told }
     ensures never_falls { (O.view out.old).faults ≤ (O.view out.new).faults }
 {

@@ -12,15 +12,15 @@ ghost use Rattle.run_report.specs.Report.{transcript_of};
 ghost use Rattle.pblk_cli.specs.Commands.{RunComesTo};
 ghost use Rattle.pblk_cli.specs.Endings.{ending_of, reason_of};
 ghost use Rattle.pblk_cli.specs.Reading.{ReadsFile};
-ghost use Rattle.pblk_cli.specs.Running.{CannotReadBoth, RefusesInput, IsRunOfInput, IsRunTo};
+ghost use Rattle.pblk_cli.specs.Running.{CannotReadBoth, RefusesScript, IsRunOfScript, IsRunTo};
 ghost use Rattle.pblk_cli.specs.Serving.{IsRan};
 
-use crate::geometry::{read_file, refusal_of};
+use crate::geometry::{drive_of, read_file};
 use crate::output::Output;
 use crate::refusal::Refusal;
 use crate::serve::serve;
 use crate::status::has_worn;
-use drive_image::{load, store};
+use drive_image::store;
 use ocssd_drive::Drive;
 use pblk_model::{Script, ScriptErr};
 use pblk_outside::Files;
@@ -34,8 +34,8 @@ use std::sync::Wait;
 /// The status of a run that had no room for all that was to be written.
 const WORN: u8 = 6;
 
-/// Reads an image and a script, runs the script on the image's drive, stores the drive under the image's name, and gives the
-/// transcript.
+/// Reads an image and a script, runs the script on the image's drive, stores the drive under the image's
+/// name, and gives the transcript.
 pub(crate) fn run<'a, R: Wait, F: Files>(
     rt: &R,
     alloc: Global,
@@ -43,14 +43,20 @@ pub(crate) fn run<'a, R: Wait, F: Files>(
     script: &'a str,
     files: &mut F,
 ) -> Result<Output, Refusal<'a>>
-    ensures comes { RunComesTo image.now script.now (ending_of result) (F.view files.old) (F.view files.new) }
+    ensures comes { RunComesTo image.now script.now (ending_of result)
+        (F.view files.old) (F.view files.new) }
     ensures told { (F.view files.new).told ≡ (F.view files.old).told }
 {
     let (image_bytes, script_bytes) = match read_both(alloc, image, script, files) {
         Ok(read) => read,
         Err(refusal) => return Err(refusal),
     };
-    let (stored, output) = match run_input(rt, alloc, image_bytes, &script_bytes) {
+    // The file's bytes are let go before those to be stored are made.
+    let drive = match drive_of(alloc, image_bytes) {
+        Ok(drive) => drive,
+        Err(refusal) => return Err(refusal),
+    };
+    let (stored, output) = match run_script(rt, alloc, drive, &script_bytes) {
         Ok(made) => made,
         Err(refusal) => return Err(refusal),
     };
@@ -67,9 +73,12 @@ fn read_both<'a, F: Files>(
     script: &'a str,
     files: &mut F,
 ) -> Result<(Vec<u8>, Vec<u8>), Refusal<'a>>
-    ensures image { IfOk result (λ read. ReadsFile image.now read.0.items (F.view files.old) (F.view files.new)) }
-    ensures script { IfOk result (λ read. ReadsFile script.now read.1.items (F.view files.old) (F.view files.new)) }
-    ensures refused { IfErr result (λ refusal. CannotReadBoth image.now script.now (reason_of refusal) (F.view files.old) (F.view files.new)) }
+    ensures image { IfOk result (λ read. ReadsFile image.now read.0.items
+        (F.view files.old) (F.view files.new)) }
+    ensures script { IfOk result (λ read. ReadsFile script.now read.1.items
+        (F.view files.old) (F.view files.new)) }
+    ensures refused { IfErr result (λ refusal.
+        CannotReadBoth image.now script.now (reason_of refusal) (F.view files.old) (F.view files.new)) }
     ensures told { (F.view files.new).told ≡ (F.view files.old).told }
 {
     let image_bytes = match read_file(alloc, image, files) {
@@ -82,22 +91,20 @@ fn read_both<'a, F: Files>(
     }
 }
 
-// Runs what was read: the bytes of the image afterwards, and the status and the transcript's text.
-fn run_input<'a, R: Wait>(
+// Runs the script that these bytes are: the bytes of the image afterwards, and the status and the text of
+// the transcript.
+fn run_script<'a, R: Wait>(
     rt: &R,
     alloc: Global,
-    image: Vec<u8>,
+    drive: Drive,
     script: &[u8],
 ) -> Result<(Vec<u8>, Output), Refusal<'a>>
-    ensures run { IfOk result (λ made. IsRunOfInput image.items script.now made.1.status made.1.text.items made.0.items) }
-    ensures refused { IfErr result (λ refusal. RefusesInput image.items script.now (reason_of refusal)) }
+    requires quiet { IsQuiet drive }
+    ensures run { IfOk result (λ made.
+        IsRunOfScript (stored drive) script.now made.1.status made.1.text.items made.0.items) }
+    ensures refused { IfErr result (λ refusal.
+        RefusesScript (stored drive).capacity script.now (reason_of refusal)) }
 {
-    let drive = match load(alloc, &image) {
-        Ok(drive) => drive,
-        Err(e) => return Err(refusal_of(e)),
-    };
-    // The file's bytes are let go before those to be stored are made.
-    drop(image);
     let script = match read_script(alloc, script, drive.capacity) {
         Ok(script) => script,
         Err(e) => return Err(script_refusal_of(e)),
@@ -134,7 +141,8 @@ fn run_and_store<R: Wait>(
     requires one { length script.now ≤ 1 }
     requires fits { ScriptFits drive.capacity script.now }
     requires flows { NeverStuck script.now }
-    ensures { IfOk result (λ made. IsRunTo (stored drive) script.now made.1.status made.1.text.items made.0.items) }
+    ensures { IfOk result (λ made.
+        IsRunTo (stored drive) script.now made.1.status made.1.text.items made.0.items) }
 {
     let ran = run_on(rt, alloc, drive, script)?;
     let text = transcript_text(alloc, script, &ran)?;
@@ -147,10 +155,11 @@ fn run_and_store<R: Wait>(
 // The text of a run's transcript, by what the drive then holds. The contents are let go with it.
 fn transcript_text(alloc: Global, script: &Script, ran: &Ran) -> Result<Vec<u8>, AllocError>
     requires { IsRecorded script.now ran.now.records }
-    ensures { IfOk result (λ text. text.items ≡ text_of (transcript_of script.now ran.now.records (end (image_of (stored ran.now.drive))))) }
+    ensures { let left = image_of (stored ran.now.drive) in
+        IfOk result (λ text. text.items ≡ text_of (transcript_of script.now ran.now.records (end left))) }
 {
     let held = contents(alloc, &ran.drive)?;
-    transcript(alloc, script, &ran.records, &held)
+    transcript(alloc, script, &ran.records, held.end)
 }
 
 /// A drive after a run, and what the script was answered.

@@ -4,7 +4,7 @@ ghost use Rattle.std.specs.Prelude.{◌≡◌, ◌≤◌, ◌<◌, ◌^◌, ◌�
 ghost use Rattle.pblk_model.specs.Accepted.{IsAccepted};
 ghost use Rattle.pblk_model.specs.Script.{NeverStuck, ScriptFits};
 ghost use Rattle.block_target.specs.Serial.{SerialView};
-ghost use Rattle.opening_steps.specs.Opened.{AreUnarmed};
+ghost use Rattle.unit_port.specs.Commands.{AreUnarmed};
 ghost use Rattle.scan_recovery.specs.Units.{AreFit};
 ghost use Rattle.pblk_cli.specs.Serving.{IsNewTarget, IsSession, IsClosed, IsServed};
 
@@ -22,7 +22,8 @@ pub(crate) struct Served {
     pub(crate) records: Records,
 }
 
-/// Runs a script of one thread at most on a target over the units of a drive, which are armed with nothing, and closes it.
+/// Runs a script of one thread at most on a target over the units of a drive, which are armed with
+/// nothing, and closes it.
 pub(crate) fn serve<R: Wait>(
     rt: &R,
     alloc: Global,
@@ -43,7 +44,8 @@ pub(crate) fn serve<R: Wait>(
     Ok(close(rt, target, records))
 }
 
-// A target over the units of a drive. Where there is no memory for one, the units are let go, and no image is stored.
+// A target over the units of a drive. Where there is no memory for one, the units are let go, and no
+// image is stored.
 fn open(
     alloc: Global,
     units: Vec<MemoryUnit>,

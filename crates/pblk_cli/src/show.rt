@@ -1,17 +1,15 @@
 //! `show` and `report`: what an image holds.
 
 ghost use Rattle.std.specs.Prelude.{◌≡◌, IfOk, IfErr, string_bytes};
-ghost use Rattle.pblk_model.specs.ImageFile.{IsImage};
 ghost use Rattle.ocssd_drive.specs.Drive.{stored};
 ghost use Rattle.pblk_cli.specs.Commands.{ReportComesTo, ShowComesTo};
 ghost use Rattle.pblk_cli.specs.Contents.{numbers_text, show_text};
 ghost use Rattle.pblk_cli.specs.Endings.{ending_of, reason_of};
 ghost use Rattle.pblk_cli.specs.Reading.{RefusesBytes, TellsOf};
 
-use crate::geometry::{read_file, refusal_of};
+use crate::geometry::{drive_of, read_file};
 use crate::output::Output;
 use crate::refusal::Refusal;
-use drive_image::load;
 use ocssd_drive::Drive;
 use pblk_outside::Files;
 use run_report::{listing, report};
@@ -39,7 +37,8 @@ pub(crate) fn report_numbers<'a, F: Files>(
     image: &'a str,
     files: &mut F,
 ) -> Result<Output, Refusal<'a>>
-    ensures comes { ReportComesTo image.now (ending_of result) (F.view files.old) (F.view files.new) }
+    ensures comes { ReportComesTo image.now (ending_of result)
+        (F.view files.old) (F.view files.new) }
     ensures told { (F.view files.new).told ≡ (F.view files.old).told }
 {
     match read_file(alloc, image, files) {
@@ -50,7 +49,8 @@ pub(crate) fn report_numbers<'a, F: Files>(
 
 // The listing of an image of these bytes.
 fn tell_sectors<'a>(alloc: Global, bytes: Vec<u8>) -> Result<Output, Refusal<'a>>
-    ensures text { IfOk result (λ output. TellsOf show_text bytes.items output.status output.text.items) }
+    ensures text { IfOk result (λ output.
+        TellsOf show_text bytes.items output.status output.text.items) }
     ensures refused { IfErr result (λ refusal. RefusesBytes bytes.items (reason_of refusal)) }
 {
     match drive_of(alloc, bytes) {
@@ -64,7 +64,8 @@ fn tell_sectors<'a>(alloc: Global, bytes: Vec<u8>) -> Result<Output, Refusal<'a>
 
 // The numbers of an image of these bytes.
 fn tell_numbers<'a>(alloc: Global, bytes: Vec<u8>) -> Result<Output, Refusal<'a>>
-    ensures text { IfOk result (λ output. TellsOf numbers_text bytes.items output.status output.text.items) }
+    ensures text { IfOk result (λ output.
+        TellsOf numbers_text bytes.items output.status output.text.items) }
     ensures refused { IfErr result (λ refusal. RefusesBytes bytes.items (reason_of refusal)) }
 {
     match drive_of(alloc, bytes) {
@@ -73,17 +74,6 @@ fn tell_numbers<'a>(alloc: Global, bytes: Vec<u8>) -> Result<Output, Refusal<'a>
             Ok(Output::done(text))
         }
         Err(refusal) => Err(refusal),
-    }
-}
-
-// The drive of an image of these bytes, which are let go before the sectors are copied.
-fn drive_of<'a>(alloc: Global, bytes: Vec<u8>) -> Result<Drive, Refusal<'a>>
-    ensures drive { IfOk result (λ drive. IsImage bytes.items (stored drive)) }
-    ensures refused { IfErr result (λ refusal. RefusesBytes bytes.items (reason_of refusal)) }
-{
-    match load(alloc, &bytes) {
-        Ok(drive) => Ok(drive),
-        Err(e) => Err(refusal_of(e)),
     }
 }
 

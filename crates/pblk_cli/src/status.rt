@@ -18,7 +18,8 @@ pub(crate) fn has_worn(records: &Records) -> bool
 
 // Whether a line of the threads is a `worn` line.
 fn any_is_worn(threads: &[Answers]) -> bool
-    ensures { result ≡ list_any (λ answers. list_any (λ a. is_worn (outcome_of a)) answers) threads.now }
+    ensures { result ≡
+        list_any (λ answers. list_any (λ a. is_worn (outcome_of a)) answers) threads.now }
 {
     threads.iter().any(one_is_worn)
 }

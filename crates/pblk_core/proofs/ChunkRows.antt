@@ -10,9 +10,7 @@ use Rattle.pblk_laws.proofs.LineUnits.{line_units_rise}
 use Rattle.pblk_world.specs.World.{World, log_of}
 use Rattle.pblk_world.specs.EngineLog.{Opening, Opened, life_of, is_life, Placed, placements, stripes_of}
 use Rattle.pblk_world.specs.Lines.{known_image}
-use Rattle.stripe_placer.proofs.Among.{IsAmong, from_filter}
 use Rattle.core_laws.specs.PlainWorlds.{IsPlainWorld}
-use Rattle.core_laws.proofs.Lists.{all_at, all_filter}
 use Rattle.core_laws.proofs.Turns.{filtered_is}
 use Rattle.line_laws.specs.InOrder.{IsInPlace}
 use Rattle.line_laws.proofs.Orders.{in_order}
@@ -26,6 +24,9 @@ use Rattle.placing_laws.proofs.InOrder.{IsAtPlace, stripe_count}
 use Rattle.placing_laws.proofs.Lengths.{ends_before}
 use Rattle.placing_laws.proofs.Opened.{opened_lines}
 use Rattle.pblk_core.proofs.LineUnits.{now_units}
+use Rattle.lemmas.proofs.Lists.{IsAmong}
+use Rattle.lemmas.proofs.Maps.{all_filter, from_filter}
+use Rattle.lemmas.proofs.Parts.{all_at}
 
 -- a number in its row
 pub row_below : (w n m : ℕ) → n < m * w → n / w < m

@@ -1,26 +1,12 @@
 -- Lemmas about blocks whose bytes and marks stand in two lists.
-use Rattle.std.proofs.Common.{◌≡◌, ℕ, zero, suc, ◌+◌, ◌-◌, ◌*◌, ◌≤◌, List, [], ◌∷◌, ◌++◌, length, take, drop, replicate, refl, ap, sym, ◌∙◌, arith, length-drop, length-append}
-use Rattle.std.proofs.lemmas.List.{take-append-le, drop-append-le, drop-take, take-take, nil_from_length, length-replicate, drop-drop}
+use Rattle.std.proofs.Common.{◌≡◌, ℕ, zero, suc, ◌+◌, ◌-◌, ◌*◌, ◌≤◌, List, [], ◌∷◌, ◌++◌, length, take, drop, replicate, refl, ap, sym, ◌∙◌, arith, length-append}
+use Rattle.std.proofs.lemmas.List.{length-replicate, drop-drop}
 use Rattle.std.proofs.Math.Nat.{mul-le-mul_right}
 use Rattle.pblk_model.specs.declared.chunk.Mark.{Mark}
 use Rattle.pblk_model.specs.Bytes.{zeros}
 use Rattle.pblk_model.specs.Blocks.{blocks_of}
-use Rattle.placed_laws.proofs.StripeBlocks.{length_blocks as length-blocks_of}
-
-pub suc-mul : (n size : ℕ) → suc n * size ≡ size + n * size
-suc-mul n size = grind arith
-
--- more bytes and marks at the ends are more blocks at the end
-pub blocks_of-append : (size : ℕ) (bytes more : List ℕ) (marks others : List Mark) → length bytes ≡ length marks * size
-    → blocks_of size (bytes ++ more) (marks ++ others) ≡ blocks_of size bytes marks ++ blocks_of size more others
-blocks_of-append size bytes more [] others whole =
-    let none : bytes ≡ [] = nil_from_length bytes (omega arith) in
-    rw none refl
-blocks_of-append size bytes more (m ∷ marks) others whole =
-    let split = suc-mul (length marks) size in
-    let enough : size ≤ length bytes = omega arith in
-    let rest : length (drop size bytes) ≡ length marks * size = simp length-drop (omega arith) in
-    rw (take-append-le size bytes more enough, drop-append-le size bytes more enough, blocks_of-append size (drop size bytes) more marks others rest) refl
+use Rattle.lemmas.proofs.Numbers.{suc-times}
+use Rattle.pblk_model.proofs.BlocksLemmas.{blocks_of-append, length-blocks_of}
 
 -- the first of a value's repetitions and the others
 front_same : {X : Type 0} (n k : ℕ) (x : X) → take n (replicate n x ++ replicate k x) ≡ replicate n x
@@ -39,7 +25,7 @@ more_same (suc n) k x = let next : suc n + k ≡ suc (n + k) = omega arith in rw
 pub zero_blocks : (size k : ℕ) (m : Mark) → blocks_of size (replicate (k * size) 0) (replicate k m) ≡ replicate k (record { sector = zeros size; mark = m })
 unfolding zeros
 zero_blocks size zero m = refl
-zero_blocks size (suc k) m = rw (suc-mul k size, more_same {X = ℕ} size (k * size) 0, front_same {X = ℕ} size (k * size) 0, rest_same {X = ℕ} size (k * size) 0, zero_blocks size k m) refl
+zero_blocks size (suc k) m = rw (suc-times k size, more_same {X = ℕ} size (k * size) 0, front_same {X = ℕ} size (k * size) 0, rest_same {X = ℕ} size (k * size) 0, zero_blocks size k m) refl
 
 -- a stripe that has room for so many blocks more has it for their marks and bytes
 pub marks_room : (size : ℕ) (bytes : List ℕ) (marks : List Mark) (count stripe : ℕ) → length (blocks_of size bytes marks) + count ≤ stripe → length marks + count ≤ stripe
@@ -78,16 +64,8 @@ padded_up size bytes marks stripe m whole within =
     let zeros-is : stripe * size - length bytes ≡ (stripe - length marks) * size = omega arith in
     rw (zeros-is, length-blocks_of size bytes marks, blocks_of-append size bytes (replicate ((stripe - length marks) * size) 0) marks (replicate (stripe - length marks) m) whole, zero_blocks size (stripe - length marks) m) refl
 
-pub take-blocks_of : (size n : ℕ) (bytes : List ℕ) (marks : List Mark) → take n (blocks_of size bytes marks) ≡ blocks_of size (take (n * size) bytes) (take n marks)
-take-blocks_of size zero bytes marks = refl
-take-blocks_of size (suc n) bytes [] = refl
-take-blocks_of size (suc n) bytes (m ∷ marks) =
-    let front : take size (take (size + n * size) bytes) ≡ take size bytes = take-take size (size + n * size) bytes (omega arith) in
-    let rest : drop size (take (size + n * size) bytes) ≡ take (n * size) (drop size bytes) = drop-take size (n * size) bytes in
-    rw (suc-mul n size, front, rest, take-blocks_of size n (drop size bytes) marks) refl
-
 pub drop-blocks_of : (size n : ℕ) (bytes : List ℕ) (marks : List Mark) → drop n (blocks_of size bytes marks) ≡ blocks_of size (drop (n * size) bytes) (drop n marks)
 drop-blocks_of size zero bytes marks = let none : 0 * size ≡ 0 = omega arith in rw none refl
 drop-blocks_of size (suc n) bytes [] = refl
 drop-blocks_of size (suc n) bytes (m ∷ marks) =
-    rw (suc-mul n size, ← drop-drop (n * size) size bytes, drop-blocks_of size n (drop size bytes) marks) refl
+    rw (suc-times n size, ← drop-drop (n * size) size bytes, drop-blocks_of size n (drop size bytes) marks) refl

@@ -5,10 +5,10 @@ use Rattle.std.specs.List.{filter, flat_map, range_with_len}
 use Rattle.std.proofs.lemmas.Bool.{cases_order, eqb-true}
 use Rattle.std.proofs.lemmas.Option.{same_Some, none-some}
 use Rattle.core_laws.specs.OpenedLines.{bits_of}
-use Rattle.core_laws.proofs.Rows.{same_number}
 use Rattle.pblk_core.specs.declared.resets.LineChunk.{LineChunk}
 use Rattle.pblk_core.specs.Resets.{in_line, is_of_line}
 use Rattle.pblk_core.proofs.OpeningBits.{bits_kept}
+use Rattle.lemmas.proofs.Tests.{same_number}
 
 abbrev pub chunk_of : ℕ → ℕ → LineChunk
 chunk_of line unit = record { line = line; unit = unit }

@@ -8,11 +8,11 @@ use Rattle.pblk_model.specs.declared.found.LineRow.{LineRow}
 use Rattle.pblk_model.specs.Found.{IsFitFound, RowFits, HeadFits}
 use Rattle.line_table.specs.Rows.{Table}
 use Rattle.begin_laws.specs.OpeningTables.{IsOpeningTable}
-use Rattle.core_laws.proofs.Lists.{is_in as contained}
+use Rattle.lemmas.proofs.Parts.{is_in}
 
 pub stray_inside : (s : Shape) (f : Found) (k line : ℕ) → IsFitFound s f → slice_get f.strays k ≡ Some line → line < s.chunks
 stray_inside s f k line fit there =
-    let row = fit.strays line (contained f.strays k line there) in
+    let row = fit.strays line (is_in f.strays k line there) in
     subst (λ n. line < n) fit.lines (slice_get_within f.lines line row.0 row.1)
 
 pub head_inside : (s : Shape) (f : Found) (line : ℕ) → IsFitFound s f → f.head ≡ Some line → line < length f.lines

@@ -19,24 +19,24 @@ use Rattle.pblk_world.specs.Victims.{is_freed}
 use Rattle.pblk_world.proofs.Growing.{knowledge_rises}
 use Rattle.core_laws.specs.PlainWorlds.{is_plain_event, ArePlain, IsPlainWorld}
 use Rattle.core_laws.specs.Stepping.{after}
-use Rattle.core_laws.proofs.Lists.{made_same}
 use Rattle.core_laws.proofs.Numbers.{opens, opens_at, life_at}
 use Rattle.core_laws.proofs.Numbering.{first_stays}
-use Rattle.core_laws.proofs.Tests.{first_of as and_first}
-use Rattle.line_laws.proofs.KeptRows.{found_kept}
 use Rattle.line_laws.proofs.PlainLogs.{none_freed}
-use Rattle.pblk_laws.proofs.Lists.{all_take}
 use Rattle.placed_laws.specs.StripePrograms.{HasHappened}
 use Rattle.placed_laws.proofs.Happened.{happened}
-use Rattle.placed_laws.proofs.KnownImages.{media_same, first_knows}
-use Rattle.placing_laws.proofs.PlainEvents.{begun_first as begun_early}
 use Rattle.prefix_law.proofs.Starting.{none_of as no_some}
+use Rattle.core_laws.proofs.SteppingLemmas.{found_kept}
+use Rattle.lemmas.proofs.Maps.{made_same}
+use Rattle.lemmas.proofs.Parts.{all_taken}
+use Rattle.lemmas.proofs.Tests.{first_of}
+use Rattle.pblk_world.proofs.EngineLogLemmas.{begun_first, begun_taken}
+use Rattle.pblk_world.proofs.WorldLemmas.{media_same}
 
 -- ---- the image that the mount found, as an event of the engine knows it
 
 pub found_then : (i : Image) (w : World) (k : ℕ) (l : Logged) → IsLegal i w → slice_get (log_of w 0) k ≡ Some l → 0 < k → found_image i (prefixes l (log_of w)) ≡ found_image i (log_of w)
 found_then i w k l legal there some =
-    ap (λ n. found_by i (prefixes l (log_of w)) (begun (take n (log_of w 0)))) is.own ∙ ap (found_by i (prefixes l (log_of w))) (begun_early k (log_of w 0) some) ∙ go (begun (log_of w 0)) refl
+    ap (λ n. found_by i (prefixes l (log_of w)) (begun (take n (log_of w 0)))) is.own ∙ ap (found_by i (prefixes l (log_of w))) (begun_taken k (log_of w 0) some) ∙ go (begun (log_of w 0)) refl
   where
     is : HasHappened i (log_of w) 0 k l
     is = happened i w 0 legal k l there
@@ -44,7 +44,7 @@ found_then i w k l legal there some =
     go : (b : Option Begun) → begun (log_of w 0) ≡ b → found_by i (prefixes l (log_of w)) b ≡ found_by i (log_of w) b
     go None e = refl
     go (Some b) e =
-        let first = first_knows (log_of w 0) b e in
+        let first = begun_first (log_of w 0) b e in
         media_same i (cut_logs b.knows (prefixes l (log_of w))) (cut_logs b.knows (log_of w))
         (λ unit. cut_cut (slice_index b.knows (suc unit)) (known l (suc unit)) (log_of w (suc unit))
         (subst (λ ks. slice_index ks (suc unit) ≤ known l (suc unit)) first.2 (knowledge_rises i w 0 (suc unit) 0 k first.0 l legal (omega arith) first.1 there)))
@@ -69,7 +69,7 @@ unnumbered i ls (Freed was knows) line freed e = absurd cc
 
 pub free_unstarted : (i : Image) (logs : Logs) (line : ℕ) → ArePlain (logs 0) → is_free_line i logs line ≡ true → start_of (found_image i logs) line ≡ None
 free_unstarted i logs line plain free = unnumbered i logs (life_of (logs 0) line) line (none_freed (logs 0) plain line)
-    (and_first (not (has_number i logs (life_of (logs 0) line) line)) (are_empty (known_image i logs) line) (and_first _ _ free))
+    (first_of (not (has_number i logs (life_of (logs 0) line) line)) (are_empty (known_image i logs) line) (first_of _ _ free))
 
 pub opened_unstarted : (i : Image) (w : World) (line : ℕ) (o : Opening) → IsPlainWorld i w → life_of (log_of w 0) line ≡ Opened o → start_of (found_image i (log_of w)) line ≡ None
 opened_unstarted i w line o plain life =
@@ -80,7 +80,7 @@ opened_unstarted i w line o plain life =
     let begins : begun (take o.number (log_of w 0)) ≡ Some allowed.0 = ap (λ n. begun (take n (log_of w 0))) (sym is.own) ∙ allowed.1 in
     let free : is_free_line i (prefixes at.0 (log_of w)) line ≡ true = allowed.2.is_free in
     ap (λ (j : Image). start_of j line) (sym (found_then i w o.number at.0 plain.legal at.1 (later o.number allowed.0 begins)))
-    ∙ free_unstarted i (prefixes at.0 (log_of w)) line (all_take (λ (l : Logged). is_plain_event l.event ≡ true) (known at.0 0) (log_of w 0) plain.engine) free
+    ∙ free_unstarted i (prefixes at.0 (log_of w)) line (all_taken (λ (l : Logged). is_plain_event l.event ≡ true) (known at.0 0) (log_of w 0) plain.engine) free
   where
     later : (n : ℕ) (b : Begun) → begun (take n (log_of w 0)) ≡ Some b → 0 < n
     later zero b e = absurd (none-some b e)

@@ -6,13 +6,14 @@ use Rattle.std.specs.Option.{option_map_or}
 use Rattle.std.specs.Ordering.{nat_cmp, eq_by_cmp}
 use Rattle.std.specs.FinMap.{FinMap, get-insert}
 use Rattle.std.specs.FinMap as fin
-use Rattle.std.specs.Cmp.{nat_cmp_total, unsigned_tied}
-use Rattle.std.proofs.lemmas.Bool.Decides.{nat_tests, eqb_tells}
+use Rattle.std.specs.Cmp.{nat_cmp_total}
+use Rattle.std.proofs.lemmas.Bool.Decides.{eqb_tells}
 use Rattle.std.proofs.lemmas.Option.{none-some, same_Some, slice_get-get_or}
 use Rattle.pblk_model.specs.declared.found.Winner.{Winner}
 use Rattle.l2p_map.specs.declared.slot.Slot.{Slot}
 use Rattle.l2p_map.specs.declared.slot.Slot.TheVariants.{Unwritten}
 use Rattle.begin_laws.specs.OpeningTables.{place_of_winner, slot_found}
+use Rattle.lemmas.proofs.Tests.{other_key, same_key}
 
 -- Each sector is where the winner among the first ones is.
 pub record AreSet (sectors : ℕ) (winners : List Winner) (k : ℕ) (m : FinMap nat_cmp Slot) : Type 0 where
@@ -46,12 +47,6 @@ find_next (v ∷ ws) (suc k) lba w rise there =
     go (inr a) b =
         ap (λ c. cond c (Some v) (cond (w.lba == lba) (Some w) (found_first ws k lba))) a.0
         ∙ sym (ap (λ c. cond (w.lba == lba) (Some w) (cond c (Some v) (found_first ws k lba))) a.0)
-
-same_key : (q a : ℕ) → q ≡ a → eq_by_cmp nat_cmp q a ≡ true
-same_key q a e = unsigned_tied q a ∙ grind (arith, nat_tests)
-
-other_key : (q a : ℕ) → q ≢ a → eq_by_cmp nat_cmp q a ≡ false
-other_key q a e = unsigned_tied q a ∙ grind (arith, nat_tests)
 
 pub none_set : (capacity : ℕ) (ws : List Winner) (m : FinMap nat_cmp Slot) → fin.len m ≡ capacity → ((lba : ℕ) → lba < capacity → fin.get m lba ≡ Some Unwritten) → AreSet capacity ws 0 m
 none_set capacity ws m size unwritten = record { capacity = size; slots = unwritten }

@@ -7,9 +7,9 @@ use Rattle.pblk_model.specs.Frames.{Region}
 use Rattle.write_window.specs.Window.{WindowView, AreOf, has_landed_at, turned}
 use Rattle.write_window.specs.declared.held.Progress.TheVariants as progress
 use Rattle.write_window.proofs.Owners.{own_with}
-use Rattle.write_window.proofs.Runs.{length_with}
 use Rattle.pblk_core.specs.Landing.{all_landed, one_landed}
 use Rattle.pblk_core.specs.Readable.{ReadBlock, all_readable}
+use Rattle.write_window.proofs.EntriesLemmas.{turned_length}
 
 -- the same frames, and as many
 pub record KeepsFrames (old new : WindowView) : Type 0 where
@@ -23,7 +23,7 @@ none : (w : WindowView) → KeepsFrames w w
 none w = record { own = λ r o. o; count = refl }
 
 one_turned : (w : WindowView) (q : ℕ) (to : _) → KeepsFrames w (turned w q to)
-one_turned w q to = record { own = λ r o. own_with r w.entries _ to o; count = length_with w.entries _ to }
+one_turned w q to = record { own = λ r o. own_with r w.entries _ to o; count = turned_length w.entries _ to }
 
 one : (w : WindowView) (q : ℕ) → KeepsFrames w (one_landed w q)
 one w q = go (has_landed_at w q)

@@ -19,8 +19,6 @@ use Rattle.pblk_world.proofs.Appending.{life_more}
 use Rattle.core_laws.specs.PlacerOf.{unanswered_on}
 use Rattle.core_laws.specs.PlainWorlds.{IsPlainWorld}
 use Rattle.core_laws.specs.Stepping.{after}
-use Rattle.core_laws.proofs.Lists.{filter_none, filter_same, all_of}
-use Rattle.core_laws.proofs.Tests.{both as and_true}
 use Rattle.line_laws.proofs.KeptRows.{begun_kept, known_kept}
 use Rattle.pblk_core.specs.Resets.{is_used_state, is_used_in, used_units, in_line, units_to_reset, resets_of}
 use Rattle.pblk_core.specs.Stands.{IsOlder, HasFitNumbers}
@@ -28,6 +26,9 @@ use Rattle.pblk_core.specs.declared.target_core.Core.{Core}
 use Rattle.pblk_core.proofs.KnownAfter.{untold_after, beside_after}
 use Rattle.pblk_core.proofs.LandedProgram.{IsItsProgram, landed_program}
 use Rattle.pblk_meta.specs.Records.{start_numbers}
+use Rattle.lemmas.proofs.Lists.{all_of}
+use Rattle.lemmas.proofs.Maps.{filter_none, filter_same}
+use Rattle.lemmas.proofs.Tests.{both as and_true}
 
 -- ---- lists
 

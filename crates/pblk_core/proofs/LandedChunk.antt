@@ -29,19 +29,15 @@ use Rattle.landing_laws.specs.ReadSlots.{address_of_block}
 use Rattle.landing_laws.proofs.SlotsInWorlds.{address_at}
 use Rattle.media_laws.proofs.LineColumns.{block_get, blocks_count}
 use Rattle.pblk_world.specs.Lines.{known_image}
-use Rattle.core_laws.proofs.Lists.{all_filter, got_within as within_some}
 use Rattle.placed_laws.proofs.StripeBlocks.{have_blocks}
 use Rattle.pblk_core.proofs.LandedEntries.{read_of}
 use Rattle.placing_laws.proofs.Lengths.{is_before, ends_before}
 use Rattle.pblk_core.proofs.ChunkRows.{row_below, rows_of_chunks}
 use Rattle.stripe_placer.specs.Placing.{Program}
-use Rattle.stripe_placer.proofs.Among.{IsAmong, from_filter}
-use Rattle.stripe_placer.proofs.Chunks.{le_of as lt_no, lt_of as lt_yes}
-use Rattle.landing_laws.proofs.ChunkRows.{one_place}
+use Rattle.stripe_placer.proofs.Chunks.{lt_of as lt_yes}
 use Rattle.pblk_laws.proofs.LineUnits.{line_units_rise}
 use Rattle.placing_laws.proofs.InOrder.{IsAtPlace}
 use Rattle.core_laws.specs.PlainWorlds.{IsPlainWorld}
-use Rattle.core_laws.proofs.Tests.{within_is as le_yes}
 use Rattle.pblk_core.specs.Stands.{IsOpenLine}
 use Rattle.pblk_core.specs.Readable.{ReadBlock, block_reads, data_mark, position_of}
 use Rattle.pblk_core.specs.declared.open_lines.OpenLine.{OpenLine}
@@ -49,6 +45,10 @@ use Rattle.pblk_core.proofs.LandedReads.{IsChunkRead}
 use Rattle.pblk_core.proofs.LandedWay.{IsOnWay, at_number}
 use Rattle.pblk_core.proofs.ReadBlocks.{place_is, none_told, pads_there, reads_there}
 use Rattle.pblk_core.proofs.LineUnits.{now_units}
+use Rattle.lemmas.proofs.Lists.{IsAmong}
+use Rattle.lemmas.proofs.Maps.{all_filter, from_filter}
+use Rattle.lemmas.proofs.Parts.{got_within, one_column}
+use Rattle.lemmas.proofs.Tests.{le_of_lt_false, within_is}
 
 -- ---- where a block stands in the order of its line
 
@@ -58,7 +58,7 @@ place_found s us unit c b rise ws whole there below =
     (orders.found s us (length us) c unit b order_exactly (λ s g k b ws whole c h. (address_below s.ws_opt g s.clba k b ws whole c h, chunk_back s.ws_opt g k b ws c, block_back s.ws_opt g k b ws c)) ws whole refl there below).1
     (λ a h.
     let is = orders.at s us a unit b order_exactly order_length (λ s g a ws whole some h. (chunk_below s.ws_opt g s.clba a some, block_below s.ws_opt g s.clba a ws whole some h, address_back s.ws_opt g a ws)) ws whole h in
-    let same : c ≡ column_of s (length us) a = one_place us c (column_of s (length us) a) unit rise there is.unit_is in
+    let same : c ≡ column_of s (length us) a = one_column us c (column_of s (length us) a) unit rise there is.unit_is in
     ap Some (ap (λ k. address_of s (length us) k b) same ∙ is.address))
 
 -- ---- a block of the chunk in its line
@@ -84,7 +84,7 @@ in_line i w unit of slot n b plain is kept there =
     let count : length (chunk_blocks (log_of w 0) is.row.opening unit) ≡ length (stripes_on (log_of w 0) is.row.opening unit) * i.shape.ws_opt = blocks_count i.shape.ws_opt (stripes_on (log_of w 0) is.row.opening unit) long in
     let within : n < length (chunk_blocks (log_of w 0) is.row.opening unit) = slice_get_within (chunk_blocks (log_of w 0) is.row.opening unit) n b there in
     let row : n / i.shape.ws_opt < length (stripes_on (log_of w 0) is.row.opening unit) = row_below i.shape.ws_opt n (length (stripes_on (log_of w 0) is.row.opening unit)) (omega arith) in
-    let p = within_some (stripes_on (log_of w 0) is.row.opening unit) (n / i.shape.ws_opt) row in
+    let p = got_within (stripes_on (log_of w 0) is.row.opening unit) (n / i.shape.ws_opt) row in
     let rest : n % i.shape.ws_opt < i.shape.ws_opt = mod-lt n ws in
     let parts : n / i.shape.ws_opt * i.shape.ws_opt + n % i.shape.ws_opt ≡ n = ap (λ m. m + n % i.shape.ws_opt) (mul_comm (n / i.shape.ws_opt) i.shape.ws_opt) ∙ div-add-mod n i.shape.ws_opt in
     let its = rows (n / i.shape.ws_opt) p.0 p.1 in
@@ -211,7 +211,7 @@ told_block i w unit of slot n b plain is kept l kinds = by (nat_le (start_len i.
 
     after_start : nat_le (start_len i.shape) (l.number * i.shape.ws_opt + n % i.shape.ws_opt) ≡ true → (d : Bool) → nat_lt (l.number * i.shape.ws_opt + n % i.shape.ws_opt) (end_address i.shape is.row.opening) ≡ d → IsTold i w unit is.row.opening slot n b
     after_start e false f =
-        let beyond : end_address i.shape is.row.opening ≤ l.number * i.shape.ws_opt + n % i.shape.ws_opt = lt_no (l.number * i.shape.ws_opt + n % i.shape.ws_opt) (end_address i.shape is.row.opening) f in
+        let beyond : end_address i.shape is.row.opening ≤ l.number * i.shape.ws_opt + n % i.shape.ws_opt = le_of_lt_false (l.number * i.shape.ws_opt + n % i.shape.ws_opt) (end_address i.shape is.row.opening) f in
         let past : end_address i.shape is.row.opening ≤ l.number * i.shape.ws_opt = multiple_le i.shape.ws_opt l.number (n % i.shape.ws_opt) _ (end_address i.shape is.row.opening) some end_is rest beyond in
         let none : slice_get (data_marks i.shape (log_of w 0) is.row.opening) (l.number * i.shape.ws_opt + n % i.shape.ws_opt - start_len i.shape) ≡ None =
         slice_get-map (λ (x : Block). x.mark) (slice_range flat (start_len i.shape) (end_address i.shape is.row.opening)) (l.number * i.shape.ws_opt + n % i.shape.ws_opt - start_len i.shape)
@@ -220,7 +220,7 @@ told_block i w unit of slot n b plain is kept l kinds = by (nat_le (start_len i.
         (none_told slot unit n (l.number * i.shape.ws_opt + n % i.shape.ws_opt) l.place (mark_is ∙ ap (λ c. if c then slice_get (data_marks i.shape (log_of w 0) is.row.opening) (l.number * i.shape.ws_opt + n % i.shape.ws_opt - start_len i.shape) else None) e ∙ none))
         (kind.outside b among (inr past))
     after_start e true f =
-        let low : start_len i.shape ≤ l.number * i.shape.ws_opt + n % i.shape.ws_opt = le_yes (start_len i.shape) (l.number * i.shape.ws_opt + n % i.shape.ws_opt) e in
+        let low : start_len i.shape ≤ l.number * i.shape.ws_opt + n % i.shape.ws_opt = within_is (start_len i.shape) (l.number * i.shape.ws_opt + n % i.shape.ws_opt) e in
         let high : l.number * i.shape.ws_opt + n % i.shape.ws_opt < end_address i.shape is.row.opening = lt_yes (l.number * i.shape.ws_opt + n % i.shape.ws_opt) (end_address i.shape is.row.opening) f in
         let begins : start_len i.shape ≤ l.number * i.shape.ws_opt = multiple_le i.shape.ws_opt l.number (n % i.shape.ws_opt) _ (start_len i.shape) some is.line_is.striped.start_is rest low in
         let back : start_len i.shape + (l.number * i.shape.ws_opt + n % i.shape.ws_opt - start_len i.shape) ≡ l.number * i.shape.ws_opt + n % i.shape.ws_opt = omega arith in

@@ -20,16 +20,12 @@ use Rattle.line_table.specs.Rows.{Table, IsRow, IsChange, Changes, turned}
 use Rattle.stripe_placer.specs.declared.placement.Placement.{Placement}
 use Rattle.stripe_placer.specs.Placing.{Program, UnitRow, program, under_way_in}
 use Rattle.stripe_placer.specs.Placing.UnitRow.{UnderWay}
-use Rattle.stripe_placer.proofs.Among.{IsAmong, in_filter}
 use Rattle.write_window.specs.Window as view
 use Rattle.core_laws.specs.PlacerOf.{IsAwaited, placing_of, positions_in_stripe}
 use Rattle.core_laws.specs.PlainWorlds.{IsPlainWorld}
 use Rattle.core_laws.specs.RowsOf.{row_of_line, rows_of, width_in}
-use Rattle.core_laws.proofs.Rows.{row_at, same_number}
-use Rattle.core_laws.proofs.Lists.{got_within as within_some, set_same}
 use Rattle.landing_laws.specs.ChunkBlocks.{IsInRow}
 use Rattle.landing_laws.proofs.HeldInWorlds.{own_in_window}
-use Rattle.landing_laws.proofs.NewBlocks.{any_member}
 use Rattle.line_laws.specs.Changes.{with_row, full_if}
 use Rattle.line_laws.proofs.Tables.{changed_is}
 use Rattle.line_laws.proofs.LineRoom.{has_room, state_open}
@@ -44,6 +40,10 @@ use Rattle.pblk_core.proofs.ChunkRows.{rows_of_chunks}
 use Rattle.pblk_core.proofs.LandedWay.{IsOnWay, of_row, on_way, awaited, line_of_way}
 use Rattle.pblk_core.proofs.StandsFacts.{window_taken_is}
 use Rattle.pblk_core.proofs.LineBits.{known_bits}
+use Rattle.lemmas.proofs.Lists.{IsAmong}
+use Rattle.lemmas.proofs.Maps.{any_member, in_filter, row_at}
+use Rattle.lemmas.proofs.Parts.{got_within, set_same}
+use Rattle.lemmas.proofs.Tests.{same_number}
 
 -- ---- the row that the placer tells
 
@@ -167,7 +167,7 @@ pub its_row : (i : Image) (w : World) (c : Core) (unit : ℕ) (of : Program) (li
     → (row : Row) × (slice_get c.lines.rows of.line ≡ Some row) × (length (units_in live) ≡ row.width)
 its_row i w c unit of live st its same =
     let is : IsOnWay i w unit of = its.is in
-    let some = within_some c.lines.rows of.line (subst (λ n. n < length c.lines.rows) (line_of_way i w unit of its.is) (line_within i w c unit of st its.is)) in
+    let some = got_within c.lines.rows of.line (subst (λ n. n < length c.lines.rows) (line_of_way i w unit of its.is) (line_within i w c unit of st its.is)) in
     let at = row_at (row_of_line i (log_of w)) i.shape.chunks 0 of.line some.0 (ap (λ t. slice_get t.rows of.line) (sym st.table) ∙ some.1) in
     let line : 0 + of.line ≡ its.is.row.stripe.stripe.line = (let z : 0 + of.line ≡ of.line = omega arith in z) ∙ sym (line_of_way i w unit of its.is) ∙ its.is.its_line in (
       some.0,

@@ -14,13 +14,14 @@ use Rattle.write_window.specs.declared.held.Progress.{Progress}
 use Rattle.write_window.specs.declared.held.Progress.TheVariants as progress
 use Rattle.core_laws.specs.PlacerOf.{positions_of}
 use Rattle.core_laws.specs.WindowOf.{HeldSector, HeldSectors, held_of, sectors_in, without_frame}
-use Rattle.core_laws.proofs.Lists.{fun_same}
 use Rattle.landing_laws.specs.Advanced.{advanced_window}
 use Rattle.landing_laws.proofs.WindowSteps.{step_landed, step_again, step_readable, lands_more, reads_more, no_more}
 use Rattle.line_laws.proofs.PlacedPlaces.{turned_round as turned_around}
 use Rattle.pblk_core.specs.Landing.{all_landed, one_landed}
 use Rattle.pblk_core.specs.Readable.{ReadBlock, all_readable}
 use Rattle.pblk_core.proofs.ReadRuns.{held_stays, landed_stays}
+use Rattle.lemmas.proofs.Numbers.{fun_same}
+use Rattle.write_window.proofs.EntriesLemmas.{turned_length}
 
 -- ---- positions
 
@@ -28,11 +29,6 @@ turned_from : (held : List Held) (a k : ℕ) (to : Progress) → AreFrom a held 
 turned_from [] a k to from = from
 turned_from (h ∷ held) a zero to from = from
 turned_from (h ∷ held) a (suc k) to from = (from.0, turned_from held (a + 1) k to from.1)
-
-turned_length : (held : List Held) (k : ℕ) (to : Progress) → length (with_progress held k to) ≡ length held
-turned_length [] k to = refl
-turned_length (h ∷ held) zero to = refl
-turned_length (h ∷ held) (suc k) to = ap suc (turned_length held k to)
 
 -- the entries of a window have positions that follow one another, where those of the log have
 pub numbered_from : (s : Shape) (log : List Logged) (a n : ℕ) (held : List Held) (ts : List Taken) → map without_frame held ≡ map (held_of s log) ts → positions_of ts ≡ range_with_len a n → AreFrom a held

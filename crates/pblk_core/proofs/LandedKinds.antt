@@ -18,42 +18,41 @@ use Rattle.pblk_world.specs.Events.{Stripe, Open, Place, Free, Event, Decides, L
 use Rattle.pblk_world.specs.World.{World, Logs, log_of, prefixes}
 use Rattle.pblk_world.specs.EngineLog.{Opening, Opened, life_of, is_life, Taken, takes, Placed, placements, stripes_of, has_failed}
 use Rattle.pblk_world.specs.Placing.{MayPlace, IsStart, IsData, IsEnd, IsPad, record_blocks, data_blocks, end_address}
-use Rattle.pblk_world.proofs.Appending.{life_more, takes_more, placements_more}
+use Rattle.pblk_world.proofs.Appending.{life_more, placements_more}
 use Rattle.pblk_world.proofs.Growing.{at_end}
 use Rattle.stripe_placer.specs.Placing.{Program}
-use Rattle.stripe_placer.proofs.Among.{IsAmong}
-use Rattle.stripe_placer.proofs.Chunks.{lt_yes as is_below}
 use Rattle.core_laws.specs.PlainWorlds.{IsPlainWorld}
-use Rattle.core_laws.proofs.Lists.{all_at, filter_none, all_dropped as all_drop}
 use Rattle.core_laws.proofs.Numbers.{opens_at, life_at}
 use Rattle.core_laws.proofs.Opening.{placed_before}
 use Rattle.core_laws.proofs.Placing.{new_placed, with_place}
-use Rattle.core_laws.proofs.Tests.{first_of as and_first, within_is as le_yes}
 use Rattle.line_laws.specs.PlacedEntries.{AreOfSectors}
 use Rattle.line_laws.proofs.Orders.{in_order}
-use Rattle.placing_laws.proofs.Answers.{not_failed}
 use Rattle.placing_laws.proofs.Followed.{IsNextEvent, by_events, follow}
 use Rattle.placing_laws.proofs.InOrder.{its_stripes, stripes_now as stripe_behind}
 use Rattle.placing_laws.proofs.Lengths.{IsStriped}
 use Rattle.placing_laws.proofs.Opened.{IsOpenedLine, opened_lines}
-use Rattle.pblk_laws.proofs.Lists.{all_take}
 use Rattle.pblk_laws.proofs.MarkNames.{pad_none, meta_none}
 use Rattle.prefix_law.proofs.Filling.{IsOfTaken, data_taken}
 use Rattle.prefix_law.proofs.Media.{cut_marks}
-use Rattle.placed_laws.proofs.GoingAll.{opened_is as same_opening}
 use Rattle.pblk_core.specs.Stands.{IsOpenLine}
 use Rattle.pblk_core.specs.declared.open_lines.OpenLine.{OpenLine}
 use Rattle.pblk_core.proofs.LineUnits.{now_units}
 use Rattle.pblk_core.proofs.LandedReads.{IsChunkRead}
 use Rattle.pblk_core.proofs.LandedWay.{IsOnWay}
 use Rattle.pblk_core.proofs.LandedChunk.{HasKind, AreKinds, chunk_read}
+use Rattle.core_laws.proofs.PlainWorldsLemmas.{none_failed}
+use Rattle.lemmas.proofs.Lists.{IsAmong}
+use Rattle.lemmas.proofs.Maps.{filter_none}
+use Rattle.lemmas.proofs.Parts.{all_at, all_dropped, all_taken}
+use Rattle.lemmas.proofs.Tests.{first_of, lt_true, within_is}
+use Rattle.pblk_world.proofs.EngineLogLemmas.{opened_same, takes_more}
 
 -- a block of a record has its mark
 of_record : (s : Shape) (seq count : ℕ) (bytes : List ℕ) (from to : ℕ) (b : Block) → IsAccepted s → IsAmong (slice_range (record_blocks s seq count bytes) from to) b → is_some (named s b.mark) ≡ false
 of_record s seq count bytes from to b accepted at =
     let all : AllByRecursion (λ (x : Block). x.mark ≡ meta_mark seq) (slice_range (record_blocks s seq count bytes) from to) =
-    all_take (λ (x : Block). x.mark ≡ meta_mark seq) (to - from) (drop from (record_blocks s seq count bytes))
-    (all_drop (λ (x : Block). x.mark ≡ meta_mark seq) from (record_blocks s seq count bytes) (cut_marks s.sector count bytes (meta_mark seq))) in
+    all_taken (λ (x : Block). x.mark ≡ meta_mark seq) (to - from) (drop from (record_blocks s seq count bytes))
+    (all_dropped (λ (x : Block). x.mark ≡ meta_mark seq) from (record_blocks s seq count bytes) (cut_marks s.sector count bytes (meta_mark seq))) in
     ap (λ m. is_some (named s m)) (all_at (λ (x : Block). x.mark ≡ meta_mark seq) (slice_range (record_blocks s seq count bytes) from to) at.0 b at.1 all)
     ∙ ap is_some (meta_none s seq accepted)
 
@@ -69,7 +68,7 @@ of_taken s log b accepted sectors (inr (k, t, at, same)) =
     let mark : b.mark ≡ t.mark = ap (λ (x : Block). x.mark) same in
     let low : t.mark.lba < s.capacity = all_at (λ (t : Taken). t.mark.lba < s.capacity) (takes log) k t at sectors in
     let some : is_some (named s b.mark) ≡ true =
-    ap (λ (m : Mark). by_lba s m.lba) mark ∙ ap (λ a. is_some (if a then Some (Some t.mark.lba) else (if t.mark.lba == void_lba then Some None else None))) (is_below t.mark.lba s.capacity low) in
+    ap (λ (m : Mark). by_lba s m.lba) mark ∙ ap (λ a. is_some (if a then Some (Some t.mark.lba) else (if t.mark.lba == void_lba then Some None else None))) (lt_true t.mark.lba s.capacity low) in
     inr (λ pad. let clash : true ≡ false = sym some ∙ ap (by_lba s) pad ∙ ap is_some (pad_none s accepted) in absurd cc, some, (t, (k, at), mark))
 
 module _ (i : Image) (ls : Logs) (o : Opening) (stripe : Stripe) (accepted : IsAccepted i.shape) (sectors : AreOfSectors i.shape (ls 0)) (striped : IsStriped i.shape o.start.width) (sound : has_failed (ls 0) o ≡ false) where
@@ -95,7 +94,7 @@ module _ (i : Image) (ls : Logs) (o : Opening) (stripe : Stripe) (accepted : IsA
 
   behind_start : IsData i ls o stripe → start_len i.shape ≤ count * i.shape.ws_opt
   behind_start is =
-      let enough : start_len i.shape / i.shape.ws_opt ≤ count = le_yes (start_len i.shape / i.shape.ws_opt) count (and_first (nat_le (start_len i.shape / i.shape.ws_opt) count) _ is.start_landed) in
+      let enough : start_len i.shape / i.shape.ws_opt ≤ count = within_is (start_len i.shape / i.shape.ws_opt) count (first_of (nat_le (start_len i.shape / i.shape.ws_opt) count) _ is.start_landed) in
       let whole : start_len i.shape / i.shape.ws_opt * i.shape.ws_opt ≡ start_len i.shape = striped.start_is in
       let more : start_len i.shape / i.shape.ws_opt * i.shape.ws_opt ≤ count * i.shape.ws_opt = mul-le-mul_right i.shape.ws_opt enough in
       omega arith
@@ -180,7 +179,7 @@ kinds_placed i us w knows stripe next was line o life j p there = go (is_life o.
         (kind_of i ls may.opening stripe plain.accepted
         (subst (AreOfSectors i.shape) (sym next.own) (in_order i w plain).sectors)
         (subst (IsStriped i.shape) (sym well.width) (its_stripes i us stripe.line may.opening plain.accepted.drive.ws_opt plain.accepted.drive.whole_stripes well))
-        (own (λ xs. has_failed xs may.opening) ∙ not_failed (log_of w 0) may.opening plain.engine) may.kind)
+        (own (λ xs. has_failed xs may.opening) ∙ none_failed (log_of w 0) may.opening plain.engine) may.kind)
 
     by : may.opening ≡ o → (slice_get (stripes_of (log_of w 0) o) j ≡ Some p) ⊎ ((j ≡ length (stripes_of (log_of w 0) o)) × (new_placed (log_of w 0) stripe may.opening ≡ p)) → HasKind i.shape (takes (log_of w 0)) o j p.stripe.blocks
     by same (inl old) = was line o life j p old
@@ -193,7 +192,7 @@ kinds_placed i us w knows stripe next was line o life j p there = go (is_life o.
     go true e =
         let number : may.opening.number ≡ o.number = eqb-true may.opening.number o.number e in
         let one : line ≡ stripe.line = same_Some line stripe.line (sym ((life_at (log_of w 0) line o life).0) ∙ ap (opens_at (log_of w 0)) (sym number) ∙ (life_at (log_of w 0) stripe.line may.opening opened).0) in
-        let same : may.opening ≡ o = same_opening may.opening o (sym opened ∙ ap (life_of (log_of w 0)) (sym one) ∙ life) in
+        let same : may.opening ≡ o = opened_same may.opening o (sym opened ∙ ap (life_of (log_of w 0)) (sym one) ∙ life) in
         more_taken i.shape (log_of w 0) l o j p.stripe.blocks
         (by same (at_end (stripes_of (log_of w 0) o) (new_placed (log_of w 0) stripe may.opening) p j (ap (λ (ps : List Placed). slice_get ps j) (sym (stripe_behind (log_of w 0) stripe knows may.opening o true opened e)) ∙ there)))
     go false e = more_taken i.shape (log_of w 0) l o j p.stripe.blocks
@@ -204,7 +203,7 @@ kinds_opened : (s : Shape) (log : List Logged) (knows : List ℕ) (other line : 
 kinds_opened s log knows other line start o = go (nat_eq other line)
   where
     go : (b : Bool) → (if b then Opened (record { number = length log; line = line; start = start; knows = knows }) else life_of log line) ≡ Opened o → (life_of log line ≡ Opened o) ⊎ (o.number ≡ length log)
-    go true e = inr (ap (λ (x : Opening). x.number) (sym (same_opening (record { number = length log; line = line; start = start; knows = knows }) o e)))
+    go true e = inr (ap (λ (x : Opening). x.number) (sym (opened_same (record { number = length log; line = line; start = start; knows = knows }) o e)))
     go false e = inl e
 
 kinds_next : (i : Image) (us : ℕ → List ℕ) (w : World) (knows : List ℕ) (x : Event) → IsNextEvent i us w 0 (record { event = x; knows = knows }) → HaveKinds i.shape (log_of w 0) → HaveKinds i.shape (log_of w 0 ++ record { event = x; knows = knows } ∷ [])

@@ -14,10 +14,8 @@ use Rattle.stripe_placer.specs.OpenLines.{is_landed}
 use Rattle.stripe_placer.specs.OpenLines.Stripe.{Unplaced, Unanswered}
 use Rattle.stripe_placer.specs.OpenLines.Stripe.{Landed as HasLanded}
 use Rattle.stripe_placer.specs.Placing.{Program}
-use Rattle.stripe_placer.proofs.Among.{IsAmong}
 use Rattle.core_laws.specs.OpenedLines.{open_line}
 use Rattle.core_laws.specs.PlainWorlds.{IsPlainWorld}
-use Rattle.core_laws.proofs.Lists.{got_within as within_some, filter_short as short}
 use Rattle.line_laws.specs.LandedStripes.{landed_count}
 use Rattle.placed_laws.specs.LeftOpenings.{left_openings}
 use Rattle.placed_laws.proofs.LeftLines.{left_apart}
@@ -32,6 +30,9 @@ use Rattle.pblk_core.specs.declared.open_lines.OpenLine.{OpenLine as KeptLine}
 use Rattle.pblk_core.specs.declared.open_lines.OpenLines.{OpenLines}
 use Rattle.pblk_core.proofs.LandedWay.{IsOnWay, left_there, waits_there}
 use Rattle.pblk_core.proofs.LineUnits.{now_units}
+use Rattle.lemmas.proofs.Lists.{IsAmong}
+use Rattle.lemmas.proofs.Maps.{filter_short}
+use Rattle.lemmas.proofs.Parts.{got_within}
 
 -- ---- its slot
 
@@ -51,7 +52,7 @@ has_slot i w c unit of plain is st =
     let count : c.open.count ≡ length (left_openings i (log_of w)) = st.open_lines.count in
     let few : c.open.count ≤ 2 = st.open_lines.few in
     let two : length c.open.slots.items ≡ 2 = st.open_lines.two in
-    let slot = within_some c.open.slots.items among.0 (omega arith) in
+    let slot = got_within c.open.slots.items among.0 (omega arith) in
     record {
       k = among.0;
       slot = slot.0;
@@ -78,8 +79,8 @@ found_slot i w c o ln result own st has inside its first = go has.k refl
         by : (r : ℕ) → result ≡ r → r ≡ suc k
         by zero f =
             let within : has.k < length (left_openings i (log_of w)) = slice_get_within (left_openings i (log_of w)) has.k o has.opening in
-            let other = within_some (left_openings i (log_of w)) 0 (omega arith) in
-            let slot = within_some c.open.slots.items 0 (omega arith) in
+            let other = got_within (left_openings i (log_of w)) 0 (omega arith) in
+            let slot = got_within c.open.slots.items 0 (omega arith) in
             let is : IsOpenLine i (log_of w) other.0 slot.0 = st.open_lines.each 0 other.0 slot.0 other.1 slot.1 in
             let same : other.0.line ≡ o.line = sym is.records.line ∙ its slot.0 (ap (λ n. slice_get c.open.slots.items n) f ∙ slot.1) ∙ sym own in
             let at : 0 ≡ has.k = left_apart i (log_of w) 0 has.k other.0 o other.1 has.opening same in
@@ -156,7 +157,7 @@ fewer_landed i w unit of is =
     let more : length (filter is_landed (slice_set (open_line i (log_of w) is.row.opening).stripes is.number HasLanded)) ≡ length (filter is_landed (open_line i (log_of w) is.row.opening).stripes) + 1 =
     one_more_passes is_landed (open_line i (log_of w) is.row.opening).stripes is.number Unanswered HasLanded (waits_there i w unit of is) refl refl in
     let all : length (filter is_landed (slice_set (open_line i (log_of w) is.row.opening).stripes is.number HasLanded)) ≤ length (slice_set (open_line i (log_of w) is.row.opening).stripes is.number HasLanded) =
-    short is_landed (slice_set (open_line i (log_of w) is.row.opening).stripes is.number HasLanded) in
+    filter_short is_landed (slice_set (open_line i (log_of w) is.row.opening).stripes is.number HasLanded) in
     let same : length (slice_set (open_line i (log_of w) is.row.opening).stripes is.number HasLanded) ≡ length (open_line i (log_of w) is.row.opening).stripes = set_length (open_line i (log_of w) is.row.opening).stripes is.number HasLanded in
     let count = landed_are i w unit of is in
     let long = stripes_are i w unit of is in

@@ -20,7 +20,7 @@ use Rattle.pblk_world.specs.EngineLog.{Begun, begun, placements, DidLand, Openin
 use Rattle.pblk_world.specs.Space.{freed}
 use Rattle.pblk_world.specs.Lines.{known_image, told_by}
 use Rattle.pblk_layout.specs.Live.{is_live}
-use Rattle.pblk_world.proofs.Appending.{takes_more, openings_more}
+use Rattle.pblk_world.proofs.Appending.{openings_more}
 use Rattle.core_laws.specs.Stepping.{after}
 use Rattle.core_laws.specs.OpenedLines.{bits_of, live_now, opened_units}
 use Rattle.core_laws.specs.PlacerOf.{unanswered_on}
@@ -29,9 +29,7 @@ use Rattle.core_laws.proofs.Answered.{IsAnswer}
 use Rattle.core_laws.proofs.Engine.{prefix_same}
 use Rattle.landing_laws.proofs.FreedFront.{freed_rises}
 use Rattle.landing_laws.proofs.LandedStripe.{is_answer}
-use Rattle.core_laws.proofs.Lists.{all_at}
 use Rattle.core_laws.proofs.Turns.{filtered_is}
-use Rattle.stripe_placer.proofs.Among.{IsAmong, from_filter}
 use Rattle.placed_laws.proofs.OneStripe.{one_stripe}
 use Rattle.placed_laws.proofs.KnownChunks.{chunk_in, is_on, live_chunk}
 use Rattle.placing_laws.proofs.KeptLines.{all_online, few_units, same_units}
@@ -39,6 +37,10 @@ use Rattle.pblk_core.proofs.ChunkRows.{rows_of_chunks}
 use Rattle.pblk_core.proofs.KnownAfter.{told_after, untold_after, beside_after}
 use Rattle.pblk_core.proofs.LandedProgram.{IsItsProgram, landed_program}
 use Rattle.pblk_core.specs.Stands.{under_way}
+use Rattle.lemmas.proofs.Lists.{IsAmong}
+use Rattle.lemmas.proofs.Maps.{from_filter}
+use Rattle.lemmas.proofs.Parts.{all_at}
+use Rattle.pblk_world.proofs.EngineLogLemmas.{takes_more}
 
 -- ---- what stays
 

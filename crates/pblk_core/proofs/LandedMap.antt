@@ -1,30 +1,22 @@
 -- The map as blocks become readable, one after another, and which blocks these are.
-use Rattle.std.proofs.Common.{◌≡◌, ◌≢◌, ℕ, ◌+◌, ◌<◌, ◌==◌, ◌&&◌, suc, nat_eq, nat_lt, if◌then◌else◌, Bool, true, false, cond, Some, None, List, [], ◌∷◌, refl, sym, subst, ap, ap₂, ◌∙◌, arith}
+use Rattle.std.proofs.Common.{◌≡◌, ◌≢◌, ℕ, ◌+◌, ◌<◌, ◌==◌, ◌&&◌, suc, nat_eq, nat_lt, if◌then◌else◌, Bool, true, false, cond, Some, None, List, [], ◌∷◌, refl, sym, subst, ap, ap₂, ◌∙◌}
 use Rattle.std.specs.Prelude.{slice_get, is_some}
 use Rattle.std.specs.List.{cons_option, enumerate_from, filter_map, find}
 use Rattle.std.specs.Option.{option_map, option_map_or}
-use Rattle.std.specs.Ordering.{nat_cmp, eq_by_cmp}
+use Rattle.std.specs.Ordering.{nat_cmp}
 use Rattle.std.specs.FinMap.{FinMap, get-insert}
 use Rattle.std.specs.FinMap as fin
-use Rattle.std.specs.Cmp.{nat_cmp_total, unsigned_tied}
+use Rattle.std.specs.Cmp.{nat_cmp_total}
 use Rattle.std.proofs.lemmas.Bool.{eqb-true, eqb-false}
-use Rattle.std.proofs.lemmas.Bool.Decides.{nat_tests}
 use Rattle.pblk_model.specs.declared.shape.Shape.{Shape}
 use Rattle.pblk_model.specs.Chunk.{Block}
 use Rattle.pblk_model.specs.Records.{named}
 use Rattle.pblk_world.specs.EngineLog.{bears_position}
 use Rattle.l2p_map.specs.declared.slot.Slot.{Slot}
 use Rattle.l2p_map.specs.declared.slot.Slot.TheVariants.{Cached, Media}
-use Rattle.core_laws.proofs.Rows.{same_number, other_number}
-use Rattle.stripe_placer.proofs.Chunks.{lt_yes as is_below}
 use Rattle.pblk_core.specs.Readable.{ReadBlock, is_cached, moved, all_moved}
 use Rattle.pblk_core.proofs.LandedEntries.{read_of}
-
-same_key : (q a : ℕ) → q ≡ a → eq_by_cmp nat_cmp q a ≡ true
-same_key q a e = unsigned_tied q a ∙ grind (arith, nat_tests)
-
-other_key : (q a : ℕ) → q ≢ a → eq_by_cmp nat_cmp q a ≡ false
-other_key q a e = unsigned_tied q a ∙ grind (arith, nat_tests)
+use Rattle.lemmas.proofs.Tests.{lt_true, other_key, other_number, same_key, same_number}
 
 -- a block of another sector, or of one that isn't in the buffer with its entry, moves nothing
 stays : (capacity line lba : ℕ) (m : FinMap nat_cmp Slot) (b : ReadBlock) (x : Slot) → fin.get m lba ≡ Some x → (b.mark.lba ≡ lba → is_cached (Some x) b.mark.position ≡ false) → fin.get (moved capacity line m b) lba ≡ Some x
@@ -47,7 +39,7 @@ stays capacity line lba m b x at none = go (nat_lt b.mark.lba capacity && is_cac
 moves : (capacity line lba : ℕ) (m : FinMap nat_cmp Slot) (b : ReadBlock) (q : ℕ) → fin.get m lba ≡ Some (Cached q) → lba < capacity → b.mark.lba ≡ lba → b.mark.position ≡ q → fin.get (moved capacity line m b) lba ≡ Some (Media line b.at q)
 moves capacity line lba m b q at below same its =
     ap₂ (λ (x y : Bool). fin.get (if x && y then fin.insert m b.mark.lba (Media line b.at b.mark.position) else m) lba)
-    (is_below b.mark.lba capacity (subst (λ n. n < capacity) (sym same) below))
+    (lt_true b.mark.lba capacity (subst (λ n. n < capacity) (sym same) below))
     (ap (λ o. is_cached o b.mark.position) (ap (fin.get m) same ∙ at) ∙ ap (λ n. q == n) its ∙ same_number q)
     ∙ get-insert nat_cmp_total m b.mark.lba (Media line b.at b.mark.position) lba
     ∙ ap (λ c. cond c (Some (Media line b.at b.mark.position)) (fin.get m lba)) (same_key lba b.mark.lba (sym same))

@@ -15,13 +15,10 @@ use Rattle.stripe_placer.specs.OpenLines.{has_left, is_landed, in_line, with_str
 use Rattle.stripe_placer.specs.OpenLines.Stripe.{Unanswered}
 use Rattle.stripe_placer.specs.OpenLines.Stripe.{Landed as HasLanded}
 use Rattle.stripe_placer.specs.Placing.{Program}
-use Rattle.stripe_placer.proofs.Among.{got_here, got_else}
 use Rattle.core_laws.specs.OpenedLines.{open_line, standing, bits_of}
 use Rattle.core_laws.specs.PlacerOf.{IsAwaited}
 use Rattle.core_laws.specs.PlainWorlds.{IsPlainWorld}
 use Rattle.core_laws.specs.Stepping.{after}
-use Rattle.core_laws.proofs.Lists.{all_at, all_filter, got_within as within_some}
-use Rattle.core_laws.proofs.Rows.{same_number, other_number}
 use Rattle.core_laws.proofs.Steady.{standing_before}
 use Rattle.core_laws.proofs.Turns.{filtered_is}
 use Rattle.line_laws.specs.LandedStripes.{landed_count}
@@ -42,6 +39,10 @@ use Rattle.pblk_core.proofs.LandedLogs.{stripes_landed, units_landed}
 use Rattle.pblk_core.proofs.LandedWay.{IsOnWay, waits_there, line_of_way, stripe_number, unit_is}
 use Rattle.pblk_core.proofs.LandedLines.{HasSlot, not_all_pass, one_more_passes, landed_are, stripes_are}
 use Rattle.pblk_core.proofs.LineUnits.{now_units}
+use Rattle.lemmas.proofs.Maps.{all_filter}
+use Rattle.lemmas.proofs.Numbers.{le_before}
+use Rattle.lemmas.proofs.Parts.{all_at, got_else, got_here, got_within}
+use Rattle.lemmas.proofs.Tests.{other_number, same_number}
 
 -- ---- which openings are left
 
@@ -159,9 +160,6 @@ left_before : (i : Image) (logs : Logs) (k : ℕ) (o : Opening) → slice_get (l
 left_before i logs k o e = all_at (λ (x : Opening). x.number < length (logs 0)) (left_openings i logs) k o e
     (all_filter (λ (x : Opening). x.number < length (logs 0)) (λ x. has_left (open_line i logs x)) (standing (logs 0)) (standing_before (logs 0)))
 
-le_before : (m n : ℕ) → m < n → m ≤ n
-le_before m n h = omega arith
-
 pub own_open : (i : Image) (w : World) (unit event : ℕ) (knows : List ℕ) (of : Program) (k : ℕ) (kept : KeptLine) → (is : IsOnWay i w unit of) → slice_get (left_openings i (log_of w)) k ≡ Some is.row.opening
     → IsOpenLine i (log_of w) is.row.opening kept → IsOpenLine i (after (log_of w) (Landed unit event) knows) is.row.opening (landed_slot kept)
 own_open i w unit event knows of k kept is here old =
@@ -277,12 +275,12 @@ line_leaves i w unit event knows pad of old mid new plain is waits are has lande
     -- the other slot comes first
     slot_there : (k : ℕ) → has.k ≡ k → k < 2 → (x : KeptLine) → IsSlot new 0 x → IsSlot old (1 - k) x
     slot_there zero e h x at =
-        let y : (z : KeptLine) × (IsSlot old 1 z) = within_some old.slots.items 1 (let two : length old.slots.items ≡ 2 = are.two in omega arith) in
+        let y : (z : KeptLine) × (IsSlot old 1 z) = got_within old.slots.items 1 (let two : length old.slots.items ≡ 2 = are.two in omega arith) in
         let in_mid : IsSlot mid 1 y.0 = ap (λ xs. slice_get xs 1) landed.slots ∙ got_else old.slots.items has.k 1 (landed_slot has.slot) (λ f. absurd (omega (arith, e, f))) ∙ y.1 in
         let same : y.0 ≡ x = same_Some y.0 x (sym (gone.first y.0 e in_mid) ∙ at) in
         y.1 ∙ ap Some same
     slot_there (suc zero) e h x at =
-        let y : (z : KeptLine) × (IsSlot old 0 z) = within_some old.slots.items 0 (let two : length old.slots.items ≡ 2 = are.two in omega arith) in
+        let y : (z : KeptLine) × (IsSlot old 0 z) = got_within old.slots.items 0 (let two : length old.slots.items ≡ 2 = are.two in omega arith) in
         let in_mid : IsSlot mid 0 y.0 = ap (λ xs. slice_get xs 0) landed.slots ∙ got_else old.slots.items has.k 0 (landed_slot has.slot) (λ f. absurd (omega (arith, e, f))) ∙ y.1 in
         let same : y.0 ≡ x = same_Some y.0 x (sym (gone.second y.0 e in_mid) ∙ at) in
         y.1 ∙ ap Some same

@@ -14,13 +14,14 @@ use Rattle.pblk_world.specs.Commanding.{ended_stripes}
 use Rattle.pblk_world.specs.Answering.{MayLand}
 use Rattle.core_laws.specs.PlacerOf.{unanswered_on}
 use Rattle.core_laws.specs.PlainWorlds.{IsPlainWorld}
-use Rattle.core_laws.proofs.Lists.{all_at}
 use Rattle.line_laws.specs.InOrder.{IsInPlace}
 use Rattle.line_laws.proofs.Orders.{in_order}
 use Rattle.placed_laws.specs.StripePrograms.{HasHappened, IsProgramDone}
 use Rattle.placed_laws.proofs.Happened.{landed_at}
 use Rattle.placing_laws.proofs.PlainEvents.{has_begun_plain}
-use Rattle.stripe_placer.proofs.Among.{IsAmong, from_filter}
+use Rattle.lemmas.proofs.Lists.{IsAmong}
+use Rattle.lemmas.proofs.Maps.{from_filter}
+use Rattle.lemmas.proofs.Parts.{all_at}
 
 -- ---- the whole logs, as an event of the engine may name them
 

@@ -12,12 +12,9 @@ use Rattle.pblk_world.specs.Events.{Landed, Logged}
 use Rattle.pblk_world.specs.World.{World, log_of}
 use Rattle.pblk_world.specs.EngineLog.{Opening, Taken, takes, Placed, stripes_on, has_landed}
 use Rattle.pblk_world.specs.Space.{landed_blocks}
-use Rattle.stripe_placer.proofs.Among.{IsAmong}
 use Rattle.stripe_placer.specs.Placing.{Program}
 use Rattle.core_laws.specs.Stepping.{after}
 use Rattle.core_laws.specs.PlainWorlds.{IsPlainWorld}
-use Rattle.core_laws.proofs.Lists.{all_at}
-use Rattle.core_laws.proofs.Rows.{other_number}
 use Rattle.landing_laws.specs.ChunkBlocks.{chunk_blocks, newly_readable, readable_blocks}
 use Rattle.landing_laws.specs.ReadSlots.{address_of_block}
 use Rattle.landing_laws.proofs.LandedBlocks.{on_new, blocks_more}
@@ -33,6 +30,9 @@ use Rattle.pblk_core.proofs.LandedCore.{in_row, block_is}
 use Rattle.pblk_core.proofs.LandedEntries.{read_of, reads_list, part_get}
 use Rattle.pblk_core.proofs.ChunkRows.{rows_of_chunks}
 use Rattle.pblk_core.proofs.LandedWay.{IsOnWay}
+use Rattle.lemmas.proofs.Lists.{IsAmong}
+use Rattle.lemmas.proofs.Parts.{all_at}
+use Rattle.lemmas.proofs.Tests.{other_number}
 
 -- ---- the stripe is the last of its chunk, and all before it have landed
 

@@ -27,18 +27,15 @@ use Rattle.core_laws.specs.PlainWorlds.{IsPlainWorld}
 use Rattle.core_laws.specs.SlotOf.{slot_of}
 use Rattle.core_laws.specs.WindowOf.{HeldSector, HeldSectors, is_given_back, held_of, progress_by, sectors_in, window_from, without_frame}
 use Rattle.core_laws.proofs.Placing.{not_below}
-use Rattle.core_laws.proofs.Rows.{same_number}
 use Rattle.landing_laws.specs.Advanced.{advanced, advanced_sector, advanced_window}
 use Rattle.landing_laws.specs.ChunkBlocks.{block_among, chunk_blocks, newly_readable, readable_blocks}
 use Rattle.landing_laws.specs.ReadSlots.{address_of_block, read_slot}
 use Rattle.landing_laws.proofs.Cached.{cached_entry, cached_within, cached_stands}
-use Rattle.landing_laws.proofs.Entries.{accepted_small, in_order}
+use Rattle.landing_laws.proofs.Entries.{in_order}
 use Rattle.landing_laws.proofs.HeldInWorlds.{newly_in_window, newly_has_landed}
 use Rattle.landing_laws.proofs.LandedStripe.{landed_at_now}
-use Rattle.landing_laws.proofs.NewBlocks.{any_member}
 use Rattle.landing_laws.proofs.NewWindow.{window_by_new, slot_by_new}
 use Rattle.landing_laws.proofs.WindowSteps.{reads_more}
-use Rattle.core_laws.proofs.Lists.{all_at, range_get}
 use Rattle.placed_laws.proofs.Placed.{range_dropped, stripe_holds}
 use Rattle.pblk_core.specs.Landing.{all_landed}
 use Rattle.pblk_core.specs.Readable.{ReadBlock, all_moved, all_readable, reads_of}
@@ -52,13 +49,12 @@ use Rattle.pblk_core.proofs.LandedMap.{moved_to, move_all, settled}
 use Rattle.pblk_core.proofs.LandedReads.{chunk_now, IsChunkRead, IsRange, reads_are}
 use Rattle.pblk_core.proofs.LandedWay.{IsOnWay}
 use Rattle.pblk_core.proofs.StandsFacts.{held_count}
+use Rattle.lemmas.proofs.Maps.{any_member, map_dropped, range_get}
+use Rattle.lemmas.proofs.Parts.{all_at}
+use Rattle.lemmas.proofs.Tests.{same_number}
+use Rattle.pblk_model.proofs.MarksLemmas.{accepted_small}
 
 -- ---- the positions of the window
-
-map_dropped : {X Y : Type 0} (f : X → Y) (n : ℕ) (xs : List X) → map f (drop n xs) ≡ drop n (map f xs)
-map_dropped f zero xs = refl
-map_dropped f (suc n) [] = refl
-map_dropped f (suc n) (x ∷ xs) = map_dropped f n xs
 
 log_numbered : (i : Image) (w : World) → IsPlainWorld i w → positions_of (takes (log_of w 0)) ≡ range_with_len (first_position (log_of w 0)) (length (takes (log_of w 0)))
 log_numbered i w plain = (in_order i w (accepted_small i.shape plain.accepted) plain.legal).numbered

@@ -11,7 +11,6 @@ use Rattle.std.proofs.Math.Nat.{mul-div_cancel}
 use Rattle.pblk_model.specs.declared.shape.Shape.{Shape}
 use Rattle.pblk_model.specs.Shape.{units}
 use Rattle.pblk_model.specs.Image.{Image}
-use Rattle.pblk_model.proofs.OrderedBlocks.{get_front as get_first}
 use Rattle.pblk_layout.specs.Live.{units_in}
 use Rattle.pblk_world.specs.Events.{Stripe, Logged}
 use Rattle.pblk_world.specs.World.{World, Logs, log_of}
@@ -22,17 +21,13 @@ use Rattle.stripe_placer.specs.OpenLines.{OpenLine, opened, width, unit_of, numb
 use Rattle.stripe_placer.specs.OpenLines.Stripe.{Unplaced, Unanswered}
 use Rattle.stripe_placer.specs.Placing.{Program}
 use Rattle.stripe_placer.specs.Placing.UnitRow.{Idle, UnderWay}
-use Rattle.stripe_placer.proofs.Among.{IsAmong, from_map, in_map, in_filter}
 use Rattle.core_laws.specs.OpenedLines.{as_opened, by_answer, is_stripe_at, outcome, open_line, open_lines, standing}
 use Rattle.core_laws.specs.PlacerOf.{IsAwaited, number_of, placing_of, program_of_placed, row_in, row_of, unanswered_on, waits_again}
 use Rattle.core_laws.specs.PlainWorlds.{IsPlainWorld}
-use Rattle.core_laws.proofs.Lists.{all_at}
-use Rattle.core_laws.proofs.Rows.{row_at, same_number, under_way_is}
+use Rattle.core_laws.proofs.Rows.{under_way_is}
 use Rattle.core_laws.proofs.Stripes.{at_its_place, find_only, not_at}
-use Rattle.core_laws.proofs.Tests.{first_of as and_first, or_right as or_second}
 use Rattle.core_laws.proofs.Answered.{first_unanswered}
 use Rattle.landing_laws.proofs.LandedStripe.{one_more}
-use Rattle.landing_laws.proofs.NewBlocks.{any_member}
 use Rattle.line_laws.specs.InOrder.{IsInPlace}
 use Rattle.line_laws.proofs.Orders.{in_order}
 use Rattle.placed_laws.specs.LeftOpenings.{left_openings}
@@ -43,6 +38,10 @@ use Rattle.placing_laws.proofs.InOrder.{stripe_count, IsAtPlace}
 use Rattle.placing_laws.proofs.Opened.{life_stands, opened_lines}
 use Rattle.placing_laws.proofs.Followed.{IsFollowed, follow}
 use Rattle.pblk_core.proofs.LineUnits.{now_units, opened_earlier, same_live}
+use Rattle.lemmas.proofs.Lists.{IsAmong}
+use Rattle.lemmas.proofs.Maps.{any_member, from_map, in_filter, in_map, row_at}
+use Rattle.lemmas.proofs.Parts.{all_at, get_first}
+use Rattle.lemmas.proofs.Tests.{first_of, or_right, same_number}
 
 -- ---- the stripe of a row
 
@@ -168,7 +167,7 @@ left_there i w unit of plain is =
     let l : OpenLine = open_line i (log_of w) is.row.opening in
     in_filter (λ (o : Opening). has_left (open_line i (log_of w) o)) (standing (log_of w 0)) is.row.opening
     (life_stands i (now_units i w) w (follow i w plain) is.row.opening.line is.row.opening (ap (life_of (log_of w 0)) is.its_line ∙ is.stands))
-    (or_second (list_any (is_to_place l) (numbers l)) (list_any is_unanswered l.stripes) (any_member is_unanswered l.stripes is.number Unanswered (waits_there i w unit of is) refl))
+    (or_right (list_any (is_to_place l) (numbers l)) (list_any is_unanswered l.stripes) (any_member is_unanswered l.stripes is.number Unanswered (waits_there i w unit of is) refl))
 
 pub unit_is : (i : Image) (w : World) (unit : ℕ) (of : Program) → IsOnWay i w unit of → of.unit ≡ unit
 unit_is i w unit of is = sym (ap (λ (x : Program). x.unit) is.row.is) ∙ is.its_unit
@@ -198,7 +197,7 @@ awaited i w pad unit of plain is row =
     let some : length (answers (log_of w 0) unit) < length (placed_on (log_of w 0) unit) = slice_get_within (placed_on (log_of w 0) unit) (length (answers (log_of w 0) unit)) is.row.stripe is.row.waits in
     let one : length (placed_on (log_of w 0) unit) ≡ length (answers (log_of w 0) unit) + 1 = omega arith in
     let here : unit_of (open_line i (log_of w) is.row.opening) is.number ≡ unit =
-    eqb-true (unit_of (as_opened i (log_of w) is.row.opening) is.number) is.row.stripe.stripe.unit (and_first (unit_of (as_opened i (log_of w) is.row.opening) is.number == is.row.stripe.stripe.unit) (is.number / width (as_opened i (log_of w) is.row.opening) * i.shape.ws_opt == is.row.stripe.stripe.at) is.here) ∙ is.its_unit in
+    eqb-true (unit_of (as_opened i (log_of w) is.row.opening) is.number) is.row.stripe.stripe.unit (first_of (unit_of (as_opened i (log_of w) is.row.opening) is.number == is.row.stripe.stripe.unit) (is.number / width (as_opened i (log_of w) is.row.opening) * i.shape.ws_opt == is.row.stripe.stripe.at) is.here) ∙ is.its_unit in
     record {
       under_way = ap (slice_get (placing_of i (log_of w) pad []).units) u ∙ row;
       stripe = record {

@@ -27,6 +27,7 @@ pub mod TakenHolds
 pub mod StandsTaken
 pub mod SmallCalls
 pub mod SmallPositions
+pub mod FreedWindow
 pub mod SmallGrant
 pub mod PlacedStripe
 pub mod PlacedEntries
@@ -58,3 +59,4 @@ pub mod LandedTables
 pub mod LandedNow
 pub mod LandedChunk
 pub mod LandedKinds
+pub mod StandsLemmas

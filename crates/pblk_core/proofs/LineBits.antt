@@ -1,12 +1,8 @@
 -- The bits of the units of a line.
 use Rattle.std.proofs.Common.{◌≡◌, ℕ, ◌+◌, ◌-◌, ◌^◌, ◌<◌, ◌≤◌, zero, suc, Bool, false, cond, List, [], ◌∷◌, ◌++◌, length, refl, sym, subst, ap, ◌∙◌, arith, append-nil}
-use Rattle.std.specs.Prelude.{slice_get}
 use Rattle.std.specs.List.{filter, range_with_len}
-use Rattle.std.specs.Option.{option_map_or}
-use Rattle.std.proofs.lemmas.Option.{slice_get_past}
 use Rattle.pblk_model.specs.Shape.{units}
-use Rattle.pblk_model.specs.Chunk.{Chunk}
-use Rattle.pblk_model.specs.Image.{Image, is_online_in, line_units, width}
+use Rattle.pblk_model.specs.Image.{Image, line_units, width}
 use Rattle.pblk_laws.proofs.LineUnits.{line_units_count}
 use Rattle.pblk_layout.specs.Live.{units_in, is_live}
 use Rattle.pblk_layout.proofs.Sets.{filter_more}
@@ -14,11 +10,12 @@ use Rattle.pblk_world.specs.World.{World, Logs}
 use Rattle.pblk_world.specs.Lines.{known_image}
 use Rattle.core_laws.specs.OpenedLines.{bits_of}
 use Rattle.core_laws.specs.PlainWorlds.{IsPlainWorld}
-use Rattle.core_laws.proofs.Lists.{filter_short}
-use Rattle.placed_laws.proofs.KnownChunks.{length_known}
 use Rattle.placing_laws.proofs.KeptLines.{few_units}
 use Rattle.placing_laws.proofs.Units.{bits_back, units_are}
 use Rattle.pblk_core.proofs.OpeningBits.{kept_below}
+use Rattle.lemmas.proofs.Maps.{filter_short}
+use Rattle.pblk_layout.proofs.LiveLemmas.{none_past}
+use Rattle.pblk_world.proofs.LinesLemmas.{length_known}
 
 -- a test that nothing passes from n on
 shorter : (p : ℕ → Bool) (n m : ℕ) → ((k : ℕ) → n ≤ k → p k ≡ false) → filter p (range_with_len 0 (n + m)) ≡ filter p (range_with_len 0 n)
@@ -30,16 +27,12 @@ shorter p n (suc m) none =
     ∙ ap (λ b. filter p (range_with_len 0 (n + m)) ++ cond b ((0 + (n + m)) ∷ []) []) (ap p from ∙ none (n + m) (omega arith))
     ∙ append-nil (filter p (range_with_len 0 (n + m))) ∙ shorter p n m none
 
-not_live : (i : Image) (line unit : ℕ) → length i.units ≤ unit → is_live i line unit ≡ false
-not_live i line unit past =
-    ap (λ o. option_map_or (λ (cs : List Chunk). option_map_or (λ (c : Chunk). is_online_in c.state) (slice_get cs line) false) o false) (slice_get_past i.units unit past)
-
 -- the units of a line are those below the image's number of units that have a chunk of it
 pub units_below : (i : Image) (line : ℕ) → length i.units ≤ 64 → line_units i line ≡ filter (is_live i line) (range_with_len 0 (length i.units))
 units_below i line few =
     let all : length i.units + (64 - length i.units) ≡ 64 = omega arith in
     units_are i line (is_live i line) few (λ unit. refl) ∙ ap (λ n. filter (is_live i line) (range_with_len 0 n)) (sym all)
-    ∙ shorter (is_live i line) (length i.units) (64 - length i.units) (λ k past. not_live i line k past)
+    ∙ shorter (is_live i line) (length i.units) (64 - length i.units) (λ k past. none_past i line k past)
 
 pub bits_few : (i : Image) (line : ℕ) → length i.units ≤ 64 → bits_of (line_units i line) < 2 ^ length i.units
 bits_few i line few = subst (λ us. bits_of us < 2 ^ length i.units) (sym (units_below i line few)) (kept_below (is_live i line) (length i.units))

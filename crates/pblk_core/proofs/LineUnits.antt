@@ -11,14 +11,14 @@ use Rattle.pblk_world.specs.Victims.{engine_prefix}
 use Rattle.pblk_world.specs.Lines.{known_image}
 use Rattle.core_laws.specs.OpenedLines.{as_opened, bits_of}
 use Rattle.core_laws.specs.PlainWorlds.{IsPlainWorld}
-use Rattle.core_laws.proofs.Lists.{all_at}
-use Rattle.core_laws.proofs.Placing.{weaker}
 use Rattle.core_laws.proofs.Opening.{all_made}
 use Rattle.core_laws.proofs.PlacedLines.{life_is_before as opened_before}
 use Rattle.line_laws.specs.InOrder.{IsInPlace}
 use Rattle.line_laws.proofs.Orders.{in_order}
 use Rattle.placed_laws.proofs.TwoLines.{prefix_prefix as prefix_twice}
 use Rattle.media_laws.proofs.LinePlaces.{take_few as short_take}
+use Rattle.lemmas.proofs.Lists.{all_imply}
+use Rattle.lemmas.proofs.Parts.{all_at}
 
 -- the units of each line, as they are known
 abbrev pub now_units : Image → World → ℕ → List ℕ
@@ -55,4 +55,4 @@ abbrev pub IsLiving : List Logged → Placed → Type 0
 IsLiving log p = (life_of log p.stripe.line ≡ p.life) × (is_opened p.life ≡ true)
 
 pub living : (i : Image) (w : World) → IsPlainWorld i w → AllByRecursion (IsLiving (log_of w 0)) (placements (log_of w 0))
-living i w plain = weaker (IsInPlace i (log_of w 0)) (IsLiving (log_of w 0)) (λ p is. (is.stands ∙ sym is.life, ap is_opened is.life)) (placements (log_of w 0)) (in_order i w plain).placed
+living i w plain = all_imply (IsInPlace i (log_of w 0)) (IsLiving (log_of w 0)) (λ p is. (is.stands ∙ sym is.life, ap is_opened is.life)) (placements (log_of w 0)) (in_order i w plain).placed

@@ -15,14 +15,9 @@ use Rattle.pblk_world.specs.Lines.{found_image}
 use Rattle.pblk_world.specs.Space.{gives_back}
 use Rattle.pblk_world.specs.Victims.{is_in_force, line_of_position, line_of}
 use Rattle.l2p_map.specs.declared.slot.Slot.TheVariants.{Cached}
-use Rattle.stripe_placer.proofs.Among.{IsAmong}
 use Rattle.core_laws.specs.PlainWorlds.{IsPlainWorld}
 use Rattle.core_laws.specs.SlotOf.{slot_of, slot_by, slot_of_entry, slot_of_winner, media_of}
 use Rattle.core_laws.specs.WindowOf.{is_given_back}
-use Rattle.core_laws.proofs.Rows.{same_number}
-use Rattle.core_laws.proofs.Lists.{is_in, find_agree}
-use Rattle.core_laws.proofs.Tests.{second_of as and_second}
-use Rattle.core_laws.proofs.Turns.{found_is as found_true}
 use Rattle.line_laws.proofs.Winners.{winner_starts}
 use Rattle.pblk_core.proofs.FoundLines.{started_as_found}
 use Rattle.pblk_core.proofs.LineUnits.{IsLiving, living}
@@ -30,12 +25,15 @@ use Rattle.line_laws.proofs.PlainLogs.{none_lost}
 use Rattle.landing_laws.proofs.Growing.{given_holds}
 use Rattle.landing_laws.proofs.Cached.{last_is_among}
 use Rattle.landing_laws.proofs.HeldOnce.{held_once}
-use Rattle.landing_laws.proofs.Finding.{none_any}
 use Rattle.placed_laws.specs.EntryHolds.{placed_line}
 use Rattle.pblk_core.specs.declared.hold.Hold.{Hold}
 use Rattle.pblk_core.specs.declared.hold.Holds.{Holds}
 use Rattle.pblk_core.specs.Holds.{line_of_slot}
 use Rattle.pblk_core.specs.Stands.{AreHolds}
+use Rattle.lemmas.proofs.Lists.{IsAmong}
+use Rattle.lemmas.proofs.Maps.{find_agree, found_none, found_passes}
+use Rattle.lemmas.proofs.Parts.{is_in}
+use Rattle.lemmas.proofs.Tests.{same_number, second_of}
 
 -- ---- lists
 
@@ -99,12 +97,12 @@ entry_line i w holds t plain are among = go (find (gives_back i.shape (log_of w 
     go : (o : Option Placed) → find (gives_back i.shape (log_of w 0) t.entry.position) (placements (log_of w 0)) ≡ o
         → line_of_slot holds.rows.items (option_map_or (media_of i (log_of w) t.entry.position) o (Cached t.entry.position)) ≡ placed_line i.shape (log_of w 0) t.entry.position
     go None e =
-        let kept : is_given_back i.shape (log_of w 0) t.entry.position ≡ false = none_any (gives_back i.shape (log_of w 0) t.entry.position) (placements (log_of w 0)) e in
+        let kept : is_given_back i.shape (log_of w 0) t.entry.position ≡ false = found_none (gives_back i.shape (log_of w 0) t.entry.position) (placements (log_of w 0)) e in
         ap (λ n. option_and_then (λ (h : Hold). h.line) (slice_get holds.rows.items (t.entry.position % n))) are.room
         ∙ ap (option_and_then (λ (h : Hold). h.line)) (are.each t (is_in (takes (log_of w 0)) among.0 t among.1) kept)
     go (Some p) e =
-        let found : (gives_back i.shape (log_of w 0) t.entry.position p ≡ true) × IsAmong (placements (log_of w 0)) p = found_true (gives_back i.shape (log_of w 0) t.entry.position) (placements (log_of w 0)) p e in
-        let held : holds_position i.shape t.entry.position p ≡ true = and_second (has_landed (log_of w 0) p) (holds_position i.shape t.entry.position p) (given_holds i.shape (log_of w 0) t.entry.position p found.0) in
+        let found : (gives_back i.shape (log_of w 0) t.entry.position p ≡ true) × IsAmong (placements (log_of w 0)) p = found_passes (gives_back i.shape (log_of w 0) t.entry.position) (placements (log_of w 0)) p e in
+        let held : holds_position i.shape t.entry.position p ≡ true = second_of (has_landed (log_of w 0) p) (holds_position i.shape t.entry.position p) (given_holds i.shape (log_of w 0) t.entry.position p found.0) in
         sym (ap (option_map (λ (p : Placed). p.stripe.line)) (single_found (holds_position i.shape t.entry.position) (placements (log_of w 0)) p found.1.0 (held_once i w plain t.entry.position) found.1.1 held))
 
 pub line_is : (i : Image) (w : World) (holds : Holds) (lba : ℕ) → IsPlainWorld i w → AreHolds i.shape (log_of w 0) holds

@@ -16,7 +16,6 @@ use Rattle.pblk_world.specs.EngineLog.{Begun, begun, LineLife, AsFound, Opened, 
 use Rattle.pblk_world.specs.Lines.{found_by, found_image, known_image, is_stray, stray_lines, is_given_up_by, strays_of, is_given_up}
 use Rattle.pblk_world.specs.Victims.{is_freed}
 use Rattle.core_laws.specs.PlainWorlds.{IsPlainWorld}
-use Rattle.core_laws.proofs.Tests.{first_of as and_first}
 use Rattle.line_laws.proofs.PlainLogs.{none_freed}
 use Rattle.opening_laws.proofs.FoundImages.{found_strays}
 use Rattle.begin_laws.proofs.Lists.{any_passed}
@@ -29,6 +28,7 @@ use Rattle.pblk_core.specs.declared.target_core.Core.{Core}
 use Rattle.pblk_core.specs.declared.work.Work.{Work}
 use Rattle.pblk_core.specs.declared.work.Work.TheVariants.{Reset}
 use Rattle.pblk_core.proofs.FirstReset.{chunk_of, IsFirstOf, first_is, IsFirstPassed, first_passed}
+use Rattle.lemmas.proofs.Tests.{first_of}
 
 -- ---- the core's work
 
@@ -134,7 +134,7 @@ given_unstarted i w line b plain begins inside given =
     sym (any_passed (is_stray (found_image i (log_of w))) 0 i.shape.chunks line (omega arith) (omega arith))
     ∙ ap (λ (s : Shape). list_any (λ stray. stray == line) (filter (is_stray (found_image i (log_of w))) (range_with_len 0 s.chunks))) (sym shape)
     ∙ sym (ap (list_any (λ stray. stray == line)) strays) ∙ among in
-    no_some (start_of (found_image i (log_of w)) line) (and_first _ _ stray)
+    no_some (start_of (found_image i (log_of w)) line) (first_of _ _ stray)
   where
     found_shape : (j : Image) (ls : Logs) → (found_image j ls).shape ≡ j.shape
     found_shape j ls = go (begun (ls 0))

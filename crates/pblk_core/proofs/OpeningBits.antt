@@ -15,8 +15,8 @@ use Rattle.std.proofs.lemmas.Nat.{pow_below}
 use Rattle.pblk_model.specs.Image.{is_online_in}
 use Rattle.pblk_layout.proofs.Sets.{filter_more}
 use Rattle.core_laws.specs.OpenedLines.{bits_of}
-use Rattle.core_laws.proofs.Numbering.{range_more as range_last}
 use Rattle.begin_laws.specs.OnlineUnits.{is_online_at, online_below, online_bits, all_online}
+use Rattle.lemmas.proofs.Maps.{range_more}
 
 pub place_inside : (u n c line : ℕ) → u < n → line < c → u * c + line < n * c
 place_inside u n c line h l =
@@ -92,5 +92,5 @@ lines_more s chunks n =
     let from : 0 + n ≡ n = omega arith in
     sym (map-append (online_bits s chunks) (range_with_len 0 n) (n ∷ []))
     ∙ ap (λ k. map (online_bits s chunks) (range_with_len 0 n ++ k ∷ [])) (sym from)
-    ∙ ap (map (online_bits s chunks)) (sym (range_last 0 n))
+    ∙ ap (map (online_bits s chunks)) (sym (range_more 0 n))
     ∙ ap (λ k. map (online_bits s chunks) (range_with_len 0 k)) next

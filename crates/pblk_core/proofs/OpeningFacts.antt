@@ -9,7 +9,6 @@ use Rattle.std.proofs.lemmas.Option.{get_or_from_slice_get, slice_get-get_or, sa
 use Rattle.pblk_model.specs.declared.shape.Shape.{Shape}
 use Rattle.pblk_model.specs.Accepted.{IsAccepted}
 use Rattle.pblk_model.specs.Shape.{units}
-use Rattle.pblk_model.proofs.Sizes.{line_is_short}
 use Rattle.pblk_model.specs.LineOrder.{data_len}
 use Rattle.pblk_model.specs.Image.{Image, width}
 use Rattle.pblk_world.specs.World.{World, Logs, log_of}
@@ -23,14 +22,10 @@ use Rattle.stripe_placer.specs.OpenLines.{OpenLine as PlacedLine, opened}
 use Rattle.stripe_placer.specs.OpenLines.Stripe.{Unplaced}
 use Rattle.core_laws.specs.OpenedLines.{live_now, open_line, open_lines}
 use Rattle.core_laws.specs.PlainWorlds.{IsPlainWorld}
-use Rattle.core_laws.proofs.Lists.{all_at, all_mapped}
-use Rattle.core_laws.proofs.Tests.{both}
-use Rattle.core_laws.proofs.Placing.{weaker}
 use Rattle.core_laws.proofs.PlacedLines.{get_row as row_there}
 use Rattle.placed_laws.proofs.LeftLines.{lines_of_left, left_opened}
 use Rattle.line_laws.specs.LeastFree.{IsLeastFree}
 use Rattle.line_laws.proofs.NextLine.{least_free}
-use Rattle.line_laws.proofs.OpenedRows.{free_closed}
 use Rattle.placing_laws.proofs.FullLines.{one_is_open}
 use Rattle.placing_laws.proofs.Lengths.{IsStriped, striped}
 use Rattle.placing_laws.proofs.Opened.{third}
@@ -40,12 +35,17 @@ use Rattle.pblk_core.specs.declared.work.Work.TheVariants.{Open}
 use Rattle.pblk_core.specs.declared.resets.LineChunk.{LineChunk}
 use Rattle.pblk_core.specs.Resets.{resets_left}
 use Rattle.stripe_placer.proofs.Opening.{width_some}
-use Rattle.stripe_placer.proofs.Rows.{length_replicate as length_replicated}
 use Rattle.stripe_placer.proofs.Chunks.{lt_of as below_is}
 use Rattle.pblk_core.proofs.LineBits.{known_bits, known_width, bits_width}
 use Rattle.pblk_core.specs.Stands.{Stands, left_openings}
 use Rattle.pblk_core.specs.Named.{choice, reset_or, named_beside, named, next_line, next_units, next_start}
 use Rattle.pblk_core.proofs.WorkOf.{open_count, synced_at}
+use Rattle.lemmas.proofs.Lists.{all_imply, length_replicate}
+use Rattle.lemmas.proofs.Maps.{all_mapped}
+use Rattle.lemmas.proofs.Parts.{all_at}
+use Rattle.lemmas.proofs.Tests.{both}
+use Rattle.pblk_model.proofs.AcceptedLemmas.{line_is_short}
+use Rattle.pblk_world.proofs.LinesLemmas.{free_unopened}
 
 -- ---- what its next work tells
 
@@ -146,14 +146,14 @@ pub record IsNextLine (i : Image) (w : World) (c : Core) : Type 0 where
 pub next_line_is : (i : Image) (w : World) (c : Core) → IsPlainWorld i w → Stands i (log_of w) c → MayOpenNext c → IsNextLine i w c
 next_line_is i w c plain st may = record {
   least = least;
-  closed = free_closed i (log_of w) line least.is_free;
+  closed = free_unopened i (log_of w) line least.is_free;
   live = there;
   units_are = is;
   small = subst (λ m. m < 2 ^ units i.shape) (sym is) (known_bits i w (log_of w) (next_line c) plain);
   wide = ap (λ m. length (units_in m)) is ∙ count;
   few = known_width i w (log_of w) (next_line c) plain;
   data_some = data_is;
-  stripes = subst (λ k. 0 < k) (sym (length_replicated (length (units_in (live_now i (log_of w) line)) * (i.shape.clba / i.shape.ws_opt)) Unplaced))
+  stripes = subst (λ k. 0 < k) (sym (length_replicate (length (units_in (live_now i (log_of w) line)) * (i.shape.clba / i.shape.ws_opt)) Unplaced))
       (subst (λ g. 0 < g * (i.shape.clba / i.shape.ws_opt)) (sym count) (has_stripes i.shape (width (known_image i (log_of w)) (next_line c)) plain.accepted data_is));
 }
   where
@@ -195,7 +195,7 @@ none_open i logs line k d closed inside same =
     let all : AllByRecursion (λ (l : PlacedLine). is_opened (life_of (logs 0) l.line) ≡ true) (open_lines i logs) =
     subst (AllByRecursion (λ (l : PlacedLine). is_opened (life_of (logs 0) l.line) ≡ true)) (sym (lines_of_left i logs))
     (all_mapped (λ (l : PlacedLine). is_opened (life_of (logs 0) l.line) ≡ true) (open_line i logs) (left_openings i logs)
-    (weaker (λ (o : Opening). life_of (logs 0) o.line ≡ Opened o) (λ o. is_opened (life_of (logs 0) o.line) ≡ true) (λ o h. ap is_opened h) (left_openings i logs) (left_opened i logs))) in
+    (all_imply (λ (o : Opening). life_of (logs 0) o.line ≡ Opened o) (λ o. is_opened (life_of (logs 0) o.line) ≡ true) (λ o h. ap is_opened h) (left_openings i logs) (left_opened i logs))) in
     let is : is_opened (life_of (logs 0) (slice_index_or (open_lines i logs) k d).line) ≡ true =
     all_at (λ (l : PlacedLine). is_opened (life_of (logs 0) l.line) ≡ true) (open_lines i logs) k (slice_index_or (open_lines i logs) k d) (slice_get-get_or (open_lines i logs) k d inside) all in
     let clash : true ≡ false = sym is ∙ ap (λ n. is_opened (life_of (logs 0) n)) same ∙ closed in

@@ -17,13 +17,9 @@ use Rattle.pblk_world.specs.Space.{freed}
 use Rattle.pblk_world.specs.Starts.{found_row, older_row, older_rows}
 use Rattle.write_window.specs.Window as view
 use Rattle.core_laws.specs.PlainWorlds.{IsPlainWorld}
-use Rattle.core_laws.proofs.Rows.{other_number}
-use Rattle.core_laws.proofs.Tests.{and_both as and_true}
 use Rattle.line_table.proofs.Places.{eqb-same}
 use Rattle.landing_laws.proofs.Growing.{freed_within}
 use Rattle.placed_laws.proofs.Happened.{happened}
-use Rattle.stripe_placer.proofs.Chunks.{lt_yes as lt_true}
-use Rattle.stripe_placer.proofs.Rising.{le_true}
 use Rattle.found_laws.proofs.Counting.{kept_few as few_made}
 use Rattle.prefix_law.proofs.Starting.{next_positive as some_next}
 use Rattle.pblk_core.specs.declared.target_core.Core.{Core}
@@ -32,6 +28,7 @@ use Rattle.pblk_core.specs.Stands.{Stands, IsOlder}
 use Rattle.pblk_core.proofs.FoundLines.{free_unstarted}
 use Rattle.pblk_core.proofs.OpeningFacts.{MayOpenNext, IsNextLine, next_line_is}
 use Rattle.pblk_core.proofs.WorkOf.{synced_at}
+use Rattle.lemmas.proofs.Tests.{and_both, le_true, lt_true, other_number}
 
 -- ---- the mount's first number
 
@@ -82,7 +79,7 @@ rows_are_fit i logs r first least a (suc n) none front low within older = go (ol
         let bound : row.bound ≤ first = older.0.2 in
         let next : rows_fit i.shape r (row.line + 1) (filter_map (older_row i logs) (range_with_len (a + 1) n)) ≡ true =
         again (row.line + 1) (omega (arith, own)) older.1 in
-        and_true _ _ (and_true _ _ (and_true _ _ (and_true _ _ (and_true _ _ (and_true _ _
+        and_both _ _ (and_both _ _ (and_both _ _ (and_both _ _ (and_both _ _ (and_both _ _
         (le_true least row.line (omega (arith, own))) (lt_true row.line i.shape.chunks (omega (arith, own)))) (ap (λ b. not b) (other_number row.line r.line other))) (le_true 1 row.seq older.0.0))
         (lt_true row.seq r.first_seq older.0.1)) (le_true row.bound r.front (omega arith))) next
 
@@ -99,7 +96,7 @@ fewer_made {X} h a (suc n) (suc k) none inside =
 
 record_fits : (s : Shape) (r : StartRecord) → r.capacity ≡ s.capacity → 1 ≤ r.first_seq → r.first_seq ≤ r.seq → r.seq < 2 ^ 61 → r.front < 2 ^ 61 → length r.rows ≤ s.chunks - 1 → rows_fit s r 0 r.rows ≡ true → start_fits s r.line r.width r ≡ true
 record_fits s r capacity some rises seq front few rows =
-    and_true _ _ (and_true _ _ (and_true _ _ (and_true _ _ (and_true _ _ (and_true _ _ (and_true _ _ (and_true _ _
+    and_both _ _ (and_both _ _ (and_both _ _ (and_both _ _ (and_both _ _ (and_both _ _ (and_both _ _ (and_both _ _
     (eqb-same r.line) (eqb-same r.width)) (ap (λ n. n == s.capacity) capacity ∙ eqb-same s.capacity)) (le_true 1 r.first_seq some)) (le_true r.first_seq r.seq rises))
     (lt_true r.seq (2 ^ 61) seq)) (lt_true r.front (2 ^ 61) front)) (le_true (length r.rows) (s.chunks - 1) few)) rows
 

@@ -19,22 +19,21 @@ use Rattle.pblk_world.specs.Fronts.{waiting}
 use Rattle.std.proofs.lemmas.Option.{slice_get-get_or}
 use Rattle.core_laws.specs.PlainWorlds.{IsPlainWorld}
 use Rattle.core_laws.specs.WindowOf.{is_given_back}
-use Rattle.core_laws.proofs.Lists.{all_at, get_whole as get_taken}
 use Rattle.core_laws.proofs.Placing.{with_place}
 use Rattle.placed_laws.proofs.Ordered.{ordered}
 use Rattle.placed_laws.proofs.EntryHolds.{later_same, line_of_others, line_of_stripe}
-use Rattle.pblk_laws.proofs.Lists.{all_by_get as all_by_index}
 use Rattle.pblk_core.specs.Stands.{Stands}
 use Rattle.pblk_core.specs.declared.target_core.Core.{Core}
 use Rattle.pblk_core.proofs.StandsFacts.{ring_some}
 use Rattle.pblk_core.proofs.WaitingEntries.{IsWaiting, waiting_at, row_of_entry}
-use Rattle.core_laws.proofs.Rows.{same_number}
 use Rattle.core_laws.proofs.TakenSlots.{find_same}
 use Rattle.core_laws.proofs.PlacedEntries.{holds_is as bears_is}
 use Rattle.placed_laws.specs.EntryHolds.{later_take, placed_line}
 use Rattle.pblk_core.specs.Entries.{with_line, row_placed, placed_rows, placed_by, place_hold, placed_lines}
 use Rattle.pblk_core.specs.Holds.{hold_of, row_at}
 use Rattle.pblk_core.specs.declared.hold.Hold.{Hold}
+use Rattle.lemmas.proofs.Parts.{all_at, all_by_get, get_whole}
+use Rattle.lemmas.proofs.Tests.{same_number}
 
 -- ---- rows
 
@@ -168,11 +167,11 @@ row_placed_is i w c stripe knows n t plain st positions among kept =
     row = st.holds.each t among kept
 
     wait : (k : ℕ) (u : Taken) → slice_get (take n (waiting i.shape (log_of w 0))) k ≡ Some u → IsWaiting i w c u k
-    wait k u e = waiting_at i w c k u plain st (get_taken n (waiting i.shape (log_of w 0)) k u e)
+    wait k u e = waiting_at i w c k u plain st (get_whole n (waiting i.shape (log_of w 0)) k u e)
 
     apart : AreApart i.shape.ring t.entry.position (positions_of (take n (waiting i.shape (log_of w 0))))
     apart = all_mapped (λ (u : Taken). u.entry.position) (λ q. q ≢ t.entry.position → q % i.shape.ring ≢ t.entry.position % i.shape.ring) (take n (waiting i.shape (log_of w 0)))
-        (all_by_index (λ (u : Taken). u.entry.position ≢ t.entry.position → u.entry.position % i.shape.ring ≢ t.entry.position % i.shape.ring) (take n (waiting i.shape (log_of w 0)))
+        (all_by_get (λ (u : Taken). u.entry.position ≢ t.entry.position → u.entry.position % i.shape.ring ≢ t.entry.position % i.shape.ring) (take n (waiting i.shape (log_of w 0)))
         (λ k u e other same.
         let is : IsWaiting i w c u k = wait k u e in
         other (one_row i w c u t is.number among.0 plain is.there there is.row (row_of_entry i w c t among.0 st there kept)
@@ -192,6 +191,6 @@ row_placed_is i w c stripe knows n t plain st positions among kept =
     go true e = with_line_of (Some stripe.line)
         (sym (line_of_stripe i.shape (log_of w 0) stripe knows t.entry.position
         (unplaced_among i.shape (log_of w 0) t.entry.position (take n (waiting i.shape (log_of w 0)))
-        (all_by_index (λ (u : Taken). placed_line i.shape (log_of w 0) u.entry.position ≡ None) (take n (waiting i.shape (log_of w 0))) (λ k u f. IsWaiting.unplaced (wait k u f))) e)
+        (all_by_get (λ (u : Taken). placed_line i.shape (log_of w 0) u.entry.position ≡ None) (take n (waiting i.shape (log_of w 0))) (λ k u f. IsWaiting.unplaced (wait k u f))) e)
         (bears ∙ e)))
     go false e = with_line_of (placed_line i.shape (log_of w 0) t.entry.position) (sym (line_of_others i.shape (log_of w 0) stripe knows t.entry.position (bears ∙ e)))

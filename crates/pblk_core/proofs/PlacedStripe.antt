@@ -18,20 +18,16 @@ use Rattle.stripe_placer.specs.declared.placement.StripeKind.TheVariants as kind
 use Rattle.pblk_world.specs.Starts.{has_landed_start}
 use Rattle.stripe_placer.specs.Entries.{Entries}
 use Rattle.stripe_placer.specs.OpenLines.{OpenLine, numbers, is_to_place, is_unanswered, has_left}
-use Rattle.stripe_placer.proofs.Among.{IsAmong, in_filter}
 use Rattle.stripe_placer.proofs.Named.{IsProgramIn, its_program}
 use Rattle.placed_laws.proofs.LeftLines.{left_apart}
-use Rattle.placed_laws.proofs.GoingAll.{opened_is as opened_same}
 use Rattle.stripe_placer.specs.Placing.{Program, next_in, next_stripe}
 use Rattle.core_laws.specs.OpenedLines.{open_line, standing}
 use Rattle.core_laws.specs.PlacerOf.{entries_of, placing_of, IsStripeOf}
 use Rattle.core_laws.specs.PlainWorlds.{IsPlainWorld}
-use Rattle.core_laws.proofs.Lists.{got_within as within_some}
 use Rattle.placing_laws.specs.StripeFor.{IsStripeFor, IsProgramFor, positions_for}
 use Rattle.placing_laws.proofs.Opened.{life_stands}
 use Rattle.placing_laws.proofs.Followed.{IsFollowed, follow}
 use Rattle.placing_laws.proofs.Lengths.{ends_before, begins_after}
-use Rattle.placing_laws.proofs.Answers.{not_failed}
 use Rattle.placing_laws.proofs.InOrder.{stripe_count}
 use Rattle.placing_laws.proofs.Forms.{formed}
 use Rattle.placing_laws.proofs.NextStripes.{unfailed}
@@ -43,6 +39,11 @@ use Rattle.pblk_core.specs.Slots.{IsSlot}
 use Rattle.pblk_core.specs.declared.target_core.Core.{Core}
 use Rattle.pblk_core.specs.declared.open_lines.OpenLine.{OpenLine as KeptLine}
 use Rattle.pblk_core.specs.declared.open_lines.OpenLines.{OpenLines}
+use Rattle.core_laws.proofs.PlainWorldsLemmas.{none_failed}
+use Rattle.lemmas.proofs.Lists.{IsAmong}
+use Rattle.lemmas.proofs.Maps.{in_filter}
+use Rattle.lemmas.proofs.Parts.{got_within}
+use Rattle.pblk_world.proofs.EngineLogLemmas.{opened_same}
 
 -- where a stripe of a kind begins in its line
 abbrev pub IsInPart : Shape → Opening → ℕ → StripeKind → Type 0
@@ -163,7 +164,7 @@ pub of_kind : (i : Image) (w : World) (pad : ℕ) (o : Opening) (of : Program) (
 of_kind i w pad o of stripe plain now for =
     let may : MayPlace i (log_of w) stripe = now.may stripe for in
     let same : may.opening ≡ o = opened_same may.opening o (sym may.is_open ∙ ap (life_of (log_of w 0)) for.line ∙ now.opened) in
-    one_kind i (log_of w) o stripe of.kind plain.accepted.drive.ws_opt now.start_is (not_failed (log_of w 0) o plain.engine)
+    one_kind i (log_of w) o stripe of.kind plain.accepted.drive.ws_opt now.start_is (none_failed (log_of w 0) o plain.engine)
     (subst (λ a. IsInPart i.shape o a of.kind) now.at now.part) (subst (λ p. Kinds i (log_of w) p stripe) same may.kind)
 
 -- ---- the open line
@@ -183,7 +184,7 @@ has_slot i w c pad o of now st =
     let count : c.open.count ≡ length (left_openings i (log_of w)) = st.open_lines.count in
     let few : c.open.count ≤ 2 = st.open_lines.few in
     let two : length c.open.slots.items ≡ 2 = st.open_lines.two in
-    let slot = within_some c.open.slots.items among.0 (omega arith) in
+    let slot = got_within c.open.slots.items among.0 (omega arith) in
     record {
       k = among.0;
       slot = slot.0;
@@ -209,8 +210,8 @@ found_slot i w c pad o of result now st has inside line first = go has.k refl
         by : (r : ℕ) → result ≡ r → r ≡ suc k
         by zero f =
             let within : has.k < length (left_openings i (log_of w)) = slice_get_within (left_openings i (log_of w)) has.k o has.opening in
-            let other = within_some (left_openings i (log_of w)) 0 (omega arith) in
-            let slot = within_some c.open.slots.items 0 (omega arith) in
+            let other = got_within (left_openings i (log_of w)) 0 (omega arith) in
+            let slot = got_within c.open.slots.items 0 (omega arith) in
             let is : IsOpenLine i (log_of w) other.0 slot.0 = st.open_lines.each 0 other.0 slot.0 other.1 slot.1 in
             let same : other.0.line ≡ o.line = sym is.records.line ∙ line slot.0 (ap (λ n. slice_get c.open.slots.items n) f ∙ slot.1) ∙ now.own in
             let at : 0 ≡ has.k = left_apart i (log_of w) 0 has.k other.0 o other.1 has.opening same in

@@ -37,8 +37,6 @@ use Rattle.core_laws.specs.PlainWorlds.{IsPlainWorld}
 use Rattle.core_laws.specs.Stepping.{after}
 use Rattle.pblk_model.specs.EndRecord.{end_bytes}
 use Rattle.core_laws.specs.RowsOf.{row_of_line}
-use Rattle.core_laws.proofs.Lists.{all_at, got_within as within_some, get_whole as get_taken}
-use Rattle.core_laws.proofs.Rows.{row_at}
 use Rattle.placed_laws.proofs.StripeBlocks.{HaveBlocks, have_blocks, marks_counted, marks_whole}
 use Rattle.placing_laws.specs.StripeFor.{IsStripeFor, blocks_for, positions_for}
 use Rattle.pblk_core.specs.Entries.{positions_placed, entry_blocks, placed_lines, placed_rows}
@@ -54,6 +52,8 @@ use Rattle.pblk_core.proofs.PlacedStripe.{IsOfferedNow, IsInPart, IsOfKind, offe
 use Rattle.pblk_core.proofs.StandsFacts.{window_taken_is}
 use Rattle.pblk_core.proofs.StandsPlaced.{entries_for, positions_are, left_by_kind, slots_for}
 use Rattle.pblk_core.proofs.WaitingEntries.{IsSized, are_sized, IsWaiting, waiting_at, waiting_blocks}
+use Rattle.lemmas.proofs.Maps.{row_at}
+use Rattle.lemmas.proofs.Parts.{all_at, get_whole, got_within}
 
 -- ---- the program
 
@@ -106,7 +106,7 @@ pub in_the_window : (i : Image) (w : World) (c : Core) (o : Opening) (of : Progr
 in_the_window i w c o of k q plain st now e =
     let n : ℕ = entries_for of.kind i.shape.ws_opt in
     let at = entry_at (take n (waiting i.shape (log_of w 0))) k q (ap (λ (qs : List ℕ). slice_get qs k) (sym (now.positions ∙ positions_are i.shape (log_of w 0) of.kind)) ∙ e) in
-    let is : IsWaiting i w c at.0 k = waiting_at i w c k at.0 plain st (get_taken n (waiting i.shape (log_of w 0)) k at.0 at.1) in
+    let is : IsWaiting i w c at.0 k = waiting_at i w c k at.0 plain st (get_whole n (waiting i.shape (log_of w 0)) k at.0 at.1) in
     let end : view.taken c.window ≡ taken (log_of w 0) = window_taken_is i w c st in
     let low : c.window.freed ≤ at.0.entry.position = is.low in
     let high : at.0.entry.position < taken (log_of w 0) = is.high in
@@ -307,8 +307,8 @@ placed_short i w c o of plain st now kind =
     let first : length ts ≡ min s.ws_opt (length (waiting s log)) = length-take s.ws_opt (waiting s log) in
     let some : 0 < length (waiting s log) = entries.has_entry in
     let wide : 0 < s.ws_opt = plain.accepted.drive.ws_opt in
-    let last = within_some ts (length ts - 1) (omega arith) in
-    let is : IsWaiting i w c last.0 (length ts - 1) = waiting_at i w c (length ts - 1) last.0 plain st (get_taken s.ws_opt (waiting s log) (length ts - 1) last.0 last.1) in
+    let last = got_within ts (length ts - 1) (omega arith) in
+    let is : IsWaiting i w c last.0 (length ts - 1) = waiting_at i w c (length ts - 1) last.0 plain st (get_whole s.ws_opt (waiting s log) (length ts - 1) last.0 last.1) in
     let sized : last.0.entry.position < 2 ^ 62 = IsSized.position (all_at (IsSized s) (takes log) is.number last.0 is.there (are_sized i w plain)) in
     let at : last.0.entry.position ≡ placed_front s log + (length ts - 1) = is.position in
     let front : c.first + c.placed ≡ placed_front s log = st.placed in

@@ -14,13 +14,13 @@ use Rattle.pblk_model.specs.declared.chunk.Mark.{Mark}
 use Rattle.pblk_model.specs.LineOrder.{line_order}
 use Rattle.pblk_model.specs.Marks.{pad_lba}
 use Rattle.pblk_layout.specs.Live.{units_in}
-use Rattle.core_laws.proofs.Rows.{same_number, other_number}
 use Rattle.core_laws.proofs.Placing.{not_below}
 use Rattle.l2p_map.specs.declared.slot.Slot.{Slot}
 use Rattle.l2p_map.specs.declared.slot.Slot.TheVariants.{Unwritten, Cached, Media}
-use Rattle.stripe_placer.proofs.Chunks.{lt_yes as is_below}
 use Rattle.pblk_core.specs.declared.open_lines.OpenLine.{OpenLine}
 use Rattle.pblk_core.specs.Readable.{data_mark, is_place, position_of, ReadBlock, read_at, is_cached, moved, block_reads}
+use Rattle.lemmas.proofs.Parts.{get_below}
+use Rattle.lemmas.proofs.Tests.{lt_true, other_number, same_number}
 
 -- ---- the first place in a line's order
 
@@ -45,11 +45,6 @@ front_is {X} p (y ∷ xs) h = go (p y) refl h (front_is p xs)
         let x = rest (omega arith) in
         let next : 1 + position_or_len p xs ≡ suc (position_or_len p xs) = omega arith in
         (x.0, ap (slice_get (y ∷ xs)) next ∙ x.1, x.2)
-
-within : {X : Type 0} (xs : List X) (k : ℕ) (x : X) → slice_get xs k ≡ Some x → k < length xs
-within [] k x at = absurd (none-some x at)
-within (y ∷ xs) zero x at = omega arith
-within (y ∷ xs) (suc k) x at = let rest : k < length xs = within xs k x at in omega arith
 
 same_place : (a b : ℕ × ℕ) → is_place a b ≡ true → a ≡ b
 same_place a b e =
@@ -77,8 +72,8 @@ place_is order place r found only = go (position_or_len (is_place place) order) 
     go n is false e None found only = refl
     go n is false e (Some a) found only =
         let early : position_or_len (is_place place) order ≤ a = front_within (is_place place) order a place found (is_itself place) in
-        let last : a < length order = within order a place found in
-        let passes : nat_lt (position_or_len (is_place place) order) (length order) ≡ true = is_below (position_or_len (is_place place) order) (length order) (omega arith) in
+        let last : a < length order = get_below order a place found in
+        let passes : nat_lt (position_or_len (is_place place) order) (length order) ≡ true = lt_true (position_or_len (is_place place) order) (length order) (omega arith) in
         absurd cc
 
 pub place_at : (l : OpenLine) (s : Shape) (unit block : ℕ) (r : Option ℕ) → l.records.shape ≡ s → IfSome r (λ a. slice_get (line_order s (units_in l.live)) a ≡ Some (unit, block))
@@ -120,10 +115,10 @@ cached_is (Some (Media line at p)) q e = absurd cc
 pub moved_is : (capacity line : ℕ) (m n : FinMap nat_cmp Slot) (b : ReadBlock) (r : Bool) → b.mark.lba < capacity → (IsTrue r ↔ (fin.get m b.mark.lba ≡ Some (Cached b.mark.position)))
     → OnTrue r (n ≡ fin.insert m b.mark.lba (Media line b.at b.mark.position)) → OnFalse r (n ≡ m) → n ≡ moved capacity line m b
 moved_is capacity line m n b true below was set unchanged =
-    set ∙ sym (ap₂ (λ (x y : Bool). if x && y then fin.insert m b.mark.lba (Media line b.at b.mark.position) else m) (is_below b.mark.lba capacity below)
+    set ∙ sym (ap₂ (λ (x y : Bool). if x && y then fin.insert m b.mark.lba (Media line b.at b.mark.position) else m) (lt_true b.mark.lba capacity below)
     (ap (λ o. is_cached o b.mark.position) (was.0 refl) ∙ same_number b.mark.position))
 moved_is capacity line m n b false below was set unchanged =
-    unchanged ∙ sym (ap₂ (λ (x y : Bool). if x && y then fin.insert m b.mark.lba (Media line b.at b.mark.position) else m) (is_below b.mark.lba capacity below) (go (is_cached (fin.get m b.mark.lba) b.mark.position) refl))
+    unchanged ∙ sym (ap₂ (λ (x y : Bool). if x && y then fin.insert m b.mark.lba (Media line b.at b.mark.position) else m) (lt_true b.mark.lba capacity below) (go (is_cached (fin.get m b.mark.lba) b.mark.position) refl))
   where
     go : (c : Bool) → is_cached (fin.get m b.mark.lba) b.mark.position ≡ c → c ≡ false
     go true e = let h : false ≡ true = was.1 (cached_is (fin.get m b.mark.lba) b.mark.position e) in absurd cc

@@ -12,10 +12,9 @@ use Rattle.write_window.specs.Entries.{has_landed, with_progress}
 use Rattle.write_window.specs.Window.{WindowView, IsHeld, has_landed_at, turned}
 use Rattle.write_window.specs.declared.held.Held.{Held}
 use Rattle.write_window.specs.declared.held.Progress.TheVariants.{Readable}
-use Rattle.line_laws.proofs.LandedRows.{to_list as alone}
-use Rattle.core_laws.proofs.Numbering.{range_more}
 use Rattle.pblk_core.specs.declared.open_lines.OpenLine.{OpenLine}
 use Rattle.pblk_core.specs.Readable.{ReadBlock, moved, all_moved, all_readable, block_reads, reads_of}
+use Rattle.lemmas.proofs.Maps.{one_more, range_more}
 
 -- ---- one block more
 
@@ -27,7 +26,7 @@ reads_more l unit from block h =
     ∙ ap (filter_map (block_reads l unit)) (range_more from (block - from))
     ∙ filter_map-append (block_reads l unit) (range_with_len from (block - from)) ((from + (block - from)) ∷ [])
     ∙ ap (λ n. filter_map (block_reads l unit) (range_with_len from (block - from)) ++ cons_option (block_reads l unit n) []) last
-    ∙ ap (λ xs. reads_of l unit from block ++ xs) (alone (block_reads l unit block))
+    ∙ ap (λ xs. reads_of l unit from block ++ xs) (one_more (block_reads l unit block))
 
 pub window_more : (w : WindowView) (l : OpenLine) (unit from block : ℕ) → from ≤ block
     → all_readable (all_readable w (reads_of l unit from block)) (option_to_list (block_reads l unit block)) ≡ all_readable w (reads_of l unit from (block + 1))

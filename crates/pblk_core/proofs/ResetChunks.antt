@@ -19,10 +19,10 @@ use Rattle.pblk_world.specs.Answering.{IsDoneReset, MayNoteReset}
 use Rattle.pblk_world.specs.EngineLog.{Begun, begun}
 use Rattle.pblk_world.specs.Lines.{known_image, told_by, is_empty_state}
 use Rattle.core_laws.specs.Stepping.{after}
-use Rattle.core_laws.proofs.Rows.{same_number, other_number}
 use Rattle.pblk_core.specs.Resets.{is_used_state, IsResetTo}
 use Rattle.pblk_core.proofs.KnownAfter.{untold_after, told_after, beside_after}
 use Rattle.pblk_core.proofs.NamedReset.{IsNamedReset}
+use Rattle.lemmas.proofs.Tests.{other_number, same_number}
 
 -- ---- a reset leaves a chunk Free or Offline
 

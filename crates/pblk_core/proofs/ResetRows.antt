@@ -18,7 +18,7 @@ use Rattle.core_laws.specs.RowsOf.{state_in, state_found, width_in, taker_in, ro
 use Rattle.core_laws.specs.Stepping.{after}
 use Rattle.line_laws.specs.Changes.{with_row}
 use Rattle.line_laws.proofs.Kept.{KeepsStripes, stripes_kept, alike_kept, have_landed_alike, lives_kept}
-use Rattle.line_laws.proofs.KeptRows.{found_kept, KeepsLines, live_kept, taker_kept, same_row, row_kept}
+use Rattle.line_laws.proofs.KeptRows.{KeepsLines, live_kept, taker_kept, same_row, row_kept}
 use Rattle.line_laws.proofs.LandedRows.{keeps_chunks, lines_kept}
 use Rattle.line_laws.proofs.OpenAddresses.{failed_kept}
 use Rattle.line_laws.proofs.PlainLogs.{none_freed}
@@ -28,6 +28,7 @@ use Rattle.pblk_core.proofs.LineBits.{known_count}
 use Rattle.pblk_core.proofs.NamedReset.{IsNamedReset, given_as_found, given_unstarted}
 use Rattle.pblk_core.proofs.ResetChunks.{IsNoted}
 use Rattle.pblk_core.proofs.ResetUnits.{line_left, unused_empty, used_not_empty}
+use Rattle.core_laws.proofs.SteppingLemmas.{found_kept}
 
 -- ---- another line
 

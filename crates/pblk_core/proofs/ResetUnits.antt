@@ -18,8 +18,6 @@ use Rattle.pblk_world.proofs.Appending.{life_more}
 use Rattle.core_laws.specs.OpenedLines.{bits_of, live_now}
 use Rattle.core_laws.specs.PlainWorlds.{IsPlainWorld}
 use Rattle.core_laws.specs.Stepping.{after}
-use Rattle.core_laws.proofs.Lists.{map_same, filter_same}
-use Rattle.core_laws.proofs.Rows.{rows_set}
 use Rattle.core_laws.proofs.PlacedLines.{get_row as row_there}
 use Rattle.placing_laws.proofs.KeptLines.{few_units}
 use Rattle.pblk_core.specs.Resets.{is_used_state, is_used_in, used_units, units_to_reset, resets_of, kept_units}
@@ -28,6 +26,7 @@ use Rattle.pblk_core.proofs.KeptResets.{given_up_kept, empty_none}
 use Rattle.pblk_core.proofs.LineBits.{units_below, known_count}
 use Rattle.pblk_core.proofs.NamedReset.{IsNamedReset}
 use Rattle.pblk_core.proofs.ResetChunks.{IsNoted, test_chunk, tested_else, tested_now, tested_before, used_online, live_is}
+use Rattle.lemmas.proofs.Maps.{filter_same, map_same, rows_set}
 
 -- ---- the chunks that are still to be reset
 

@@ -1,5 +1,5 @@
 -- Lemmas about the blocks of a line's records.
-use Rattle.std.proofs.Common.{◌≡◌, ℕ, zero, suc, ◌+◌, ◌-◌, ◌*◌, ◌≤◌, Bool, true, false, cond, List, [], ◌∷◌, length, take, drop, replicate, slice_range, refl, ap, sym, ◌∙◌, subst, arith}
+use Rattle.std.proofs.Common.{◌≡◌, ℕ, zero, suc, ◌+◌, ◌-◌, ◌*◌, ◌≤◌, List, [], ◌∷◌, length, take, drop, replicate, slice_range, refl, ap, sym, ◌∙◌, subst, arith}
 use Rattle.std.proofs.lemmas.List.{length-replicate}
 use Rattle.std.proofs.Math.Nat.{mul-le-mul_right}
 use Rattle.pblk_model.specs.declared.shape.Shape.{Shape}
@@ -8,12 +8,9 @@ use Rattle.pblk_model.specs.Chunk.{Block}
 use Rattle.pblk_model.specs.Shape.{units}
 use Rattle.pblk_model.specs.Blocks.{blocks_of}
 use Rattle.pblk_model.specs.LineOrder.{start_len, end_len, data_len, HoldsEnd, IsLeastMultiple}
-use Rattle.placed_laws.proofs.StripeBlocks.{length_blocks as length-blocks_of}
-use Rattle.pblk_core.proofs.Filled.{take-blocks_of, drop-blocks_of}
-
-data_within : (t : Bool) (n m : ℕ) → m ≡ cond t 0 n → m ≤ n
-data_within true n m e = omega arith
-data_within false n m e = omega arith
+use Rattle.pblk_core.proofs.Filled.{drop-blocks_of}
+use Rattle.lemmas.proofs.Tests.{data_within}
+use Rattle.pblk_model.proofs.BlocksLemmas.{length-blocks_of, take-blocks_of}
 
 -- the marks of any line have room where those of the widest have
 pub marks_fit : (s : Shape) (g n more room : ℕ) → n + more ≤ data_len s g → g ≤ units s → units s * s.clba ≤ room → n + more ≤ room

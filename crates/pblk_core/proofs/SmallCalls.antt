@@ -9,39 +9,33 @@ use Rattle.pblk_model.specs.Image.{Image}
 use Rattle.pblk_world.specs.Events.{Source, Logged}
 use Rattle.pblk_world.specs.World.{World, Logs, log_of}
 use Rattle.pblk_world.specs.EngineLog.{Taken, takes}
-use Rattle.pblk_world.specs.Fronts.{first_position, synced, is_users}
+use Rattle.pblk_world.specs.Fronts.{first_position, is_users}
 use Rattle.pblk_world.specs.Space.{freed}
 use Rattle.write_window.specs.declared.held.Held.{Held}
 use Rattle.write_window.specs.Entries.{is_readable, user_count, users_in}
 use Rattle.write_window.specs.Window.{WindowView}
 use Rattle.write_window.specs.Window as view
 use Rattle.stripe_placer.specs.Placing.{Placing, padded_to}
-use Rattle.stripe_placer.proofs.Chunks.{lt_yes as is_below}
 use Rattle.core_laws.specs.PlainWorlds.{IsPlainWorld}
 use Rattle.core_laws.specs.PlacerOf.{positions_of, placing_of}
 use Rattle.core_laws.specs.Positions.{AreNumbered}
 use Rattle.core_laws.specs.WindowOf.{HeldSector, HeldSectors, without_frame, sectors_in, class_of, progress_by, is_given_back, held_of, users_below, window_from}
-use Rattle.core_laws.proofs.Lists.{all_filter, filter_none}
-use Rattle.core_laws.proofs.Placing.{not_below, weaker}
+use Rattle.core_laws.proofs.Placing.{not_below}
 use Rattle.core_laws.proofs.PoppedWindow.{window_popped}
-use Rattle.landing_laws.proofs.Entries.{accepted_small, in_order}
+use Rattle.landing_laws.proofs.Entries.{in_order}
 use Rattle.landing_laws.proofs.Cached.{numbered_at}
 use Rattle.landing_laws.proofs.FreedFront.{freed_past}
-use Rattle.landing_laws.proofs.Growing.{freed_within}
-use Rattle.landing_laws.proofs.SyncedWindow.{front_synced, numbered_above}
+use Rattle.landing_laws.proofs.SyncedWindow.{numbered_above}
 use Rattle.pblk_core.specs.declared.target_core.Core.{Core}
 use Rattle.pblk_core.specs.Stands.{Stands}
+use Rattle.lemmas.proofs.Lists.{all_imply}
+use Rattle.lemmas.proofs.Maps.{all_filter, filter_none}
+use Rattle.lemmas.proofs.Parts.{get_below}
+use Rattle.lemmas.proofs.Tests.{lt_true}
+use Rattle.pblk_model.proofs.MarksLemmas.{accepted_small}
 
 pub numbered_in : (i : Image) (w : World) → IsPlainWorld i w → AreNumbered (log_of w 0)
 numbered_in i w plain = (in_order i w (accepted_small i.shape plain.accepted) plain.legal).numbered
-
--- the front synced of the window is that of the logs
-pub synced_stands : (i : Image) (w : World) (c : Core) → IsPlainWorld i w → Stands i (log_of w) c
-    → view.synced c.window ≡ record { users = users_below (log_of w 0) (synced i.shape (log_of w 0)); position = synced i.shape (log_of w 0) }
-synced_stands i w c plain st =
-    let a : freed i.shape (log_of w 0) ≤ synced i.shape (log_of w 0) = freed_within i.shape (log_of w 0) in
-    let b : c.window.freed ≤ freed i.shape (log_of w 0) = st.to_freed in
-    front_synced i.shape (log_of w 0) c.window.freed c.window (numbered_in i w plain) st.from_first (omega arith) st.window
 
 -- ---- users' writes below one more position
 
@@ -67,7 +61,7 @@ unfolding below_of
 none_counted a bound ts within is =
     ap length (filter_none (λ (t : Taken). nat_lt t.entry.position bound) (filter (λ (t : Taken). is_users t.entry.source) ts)
     (all_filter (λ (t : Taken). nat_lt t.entry.position bound ≡ false) (λ (t : Taken). is_users t.entry.source) ts
-    (weaker (λ (t : Taken). a ≤ t.entry.position) (λ (t : Taken). nat_lt t.entry.position bound ≡ false) (λ t h. not_below bound t.entry.position (omega arith)) ts (numbered_above a ts is))))
+    (all_imply (λ (t : Taken). a ≤ t.entry.position) (λ (t : Taken). nat_lt t.entry.position bound ≡ false) (λ t h. not_below bound t.entry.position (omega arith)) ts (numbered_above a ts is))))
 
 one_more : (a k : ℕ) (ts : List Taken) (t : Taken) → positions_of ts ≡ range_with_len a (length ts) → slice_get ts k ≡ Some t
     → below_of (a + k + 1) ts ≡ below_of (a + k) ts + user_count (class_of t.entry.source)
@@ -76,7 +70,7 @@ one_more a zero (u ∷ us) t is at =
     let first : u.entry.position ≡ a = cc in
     let rest : positions_of us ≡ range_with_len (a + 1) (length us) = cc in
     let same : user_count (class_of u.entry.source) ≡ user_count (class_of t.entry.source) = cc in
-    let new : below_of (a + 0 + 1) (u ∷ us) ≡ user_count (class_of u.entry.source) + below_of (a + 0 + 1) us = head_counted (a + 0 + 1) u us (is_below u.entry.position (a + 0 + 1) (omega arith)) in
+    let new : below_of (a + 0 + 1) (u ∷ us) ≡ user_count (class_of u.entry.source) + below_of (a + 0 + 1) us = head_counted (a + 0 + 1) u us (lt_true u.entry.position (a + 0 + 1) (omega arith)) in
     let behind : below_of (a + 0 + 1) us ≡ 0 = none_counted (a + 1) (a + 0 + 1) us (omega arith) rest in
     let old : below_of (a + 0) (u ∷ us) ≡ 0 = none_counted a (a + 0) (u ∷ us) (omega arith) is in
     omega arith
@@ -86,8 +80,8 @@ one_more a (suc k) (u ∷ us) t is at =
     let next : a + 1 + k ≡ a + suc k = omega arith in
     let more : below_of (a + suc k + 1) us ≡ below_of (a + suc k) us + user_count (class_of t.entry.source) =
     subst (λ n. below_of (n + 1) us ≡ below_of n us + user_count (class_of t.entry.source)) next (one_more (a + 1) k us t rest at) in
-    let new : below_of (a + suc k + 1) (u ∷ us) ≡ user_count (class_of u.entry.source) + below_of (a + suc k + 1) us = head_counted (a + suc k + 1) u us (is_below u.entry.position (a + suc k + 1) (omega arith)) in
-    let old : below_of (a + suc k) (u ∷ us) ≡ user_count (class_of u.entry.source) + below_of (a + suc k) us = head_counted (a + suc k) u us (is_below u.entry.position (a + suc k) (omega arith)) in
+    let new : below_of (a + suc k + 1) (u ∷ us) ≡ user_count (class_of u.entry.source) + below_of (a + suc k + 1) us = head_counted (a + suc k + 1) u us (lt_true u.entry.position (a + suc k + 1) (omega arith)) in
+    let old : below_of (a + suc k) (u ∷ us) ≡ user_count (class_of u.entry.source) + below_of (a + suc k) us = head_counted (a + suc k) u us (lt_true u.entry.position (a + suc k) (omega arith)) in
     omega arith
 
 pub users_next : (log : List Logged) (from : ℕ) (t : Taken) → AreNumbered log → first_position log ≤ from → slice_get (takes log) (from - first_position log) ≡ Some t
@@ -110,11 +104,6 @@ pub record IsFirstOf (s : Shape) (log : List Logged) (held : List Held) (k : ℕ
   pub there : slice_get (takes log) k ≡ Some t
   pub given : is_given_back s log t.entry.position ≡ true
   pub users : users_in (take 1 held) ≡ user_count (class_of t.entry.source)
-
-get_below : {X : Type 0} (xs : List X) (k : ℕ) (x : X) → slice_get xs k ≡ Some x → k < length xs
-get_below [] k x e = absurd (none-some x e)
-get_below (y ∷ xs) zero x e = omega arith
-get_below (y ∷ xs) (suc k) x e = let rest : k < length xs = get_below xs k x e in omega arith
 
 pub drop_first : (k : ℕ) (ts us : List Taken) (t : Taken) → drop k ts ≡ t ∷ us → slice_get ts k ≡ Some t
 drop_first zero ts us t e = ap (λ xs. slice_get xs 0) e

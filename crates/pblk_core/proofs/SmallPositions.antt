@@ -7,7 +7,6 @@ use Rattle.pblk_model.specs.Accepted.{IsAccepted}
 use Rattle.pblk_model.specs.Shape.{units}
 use Rattle.pblk_model.specs.LineOrder.{start_len, end_len, data_len}
 use Rattle.pblk_model.specs.Image.{Image, line_units, width}
-use Rattle.pblk_model.proofs.Sizes.{line_is_short}
 use Rattle.pblk_world.specs.Events.{EngineEvent, Take, Decides, Logged}
 use Rattle.pblk_world.specs.World.{World, Logs, log_of}
 use Rattle.pblk_world.specs.EngineLog.{Begun, begun, takes, LineLife, AsFound, Opened, Freed, life_of, has_failed}
@@ -17,14 +16,15 @@ use Rattle.pblk_world.specs.Space.{unplaced_in, open_addresses}
 use Rattle.pblk_world.specs.Space as space
 use Rattle.pblk_world.specs.Placing.{next_address}
 use Rattle.pblk_world.specs.Legal.{IsDecision}
-use Rattle.pblk_world.proofs.Appending.{takes_more}
 use Rattle.core_laws.specs.PlainWorlds.{IsPlainWorld}
 use Rattle.core_laws.proofs.Numbering.{first_stays}
 use Rattle.landing_laws.proofs.Keeping.{IsKept, kept}
-use Rattle.landing_laws.proofs.Entries.{all_true}
 use Rattle.placing_laws.proofs.Followed.{follow}
 use Rattle.placing_laws.proofs.Opened.{opened_lines}
 use Rattle.pblk_core.proofs.LineBits.{known_units, known_width}
+use Rattle.lemmas.proofs.Lists.{all_true}
+use Rattle.pblk_model.proofs.AcceptedLemmas.{line_is_short}
+use Rattle.pblk_world.proofs.EngineLogLemmas.{takes_more}
 
 -- ---- the positions that were taken
 

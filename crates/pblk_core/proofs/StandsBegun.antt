@@ -27,7 +27,6 @@ use Rattle.core_laws.specs.OpenedLines.{open_line}
 use Rattle.core_laws.specs.PlacerOf.{placing_of, unanswered_on}
 use Rattle.core_laws.specs.PlainWorlds.{IsPlainWorld}
 use Rattle.core_laws.specs.WindowOf.{sectors_in, window_from, HeldSectors, HeldSector, without_frame}
-use Rattle.core_laws.proofs.Lists.{filter_none, filter_same, all_of}
 use Rattle.found_laws.specs.Finding.{IsFoundOf, taken_state}
 use Rattle.found_laws.specs.Beginnings.{seq_after, beginning_of}
 use Rattle.found_laws.proofs.States.{state_is}
@@ -46,6 +45,8 @@ use Rattle.pblk_core.specs.Resets.{is_used_state, is_used_in, is_used_at, used_u
 use Rattle.pblk_core.specs.Stands.{Stands, IsOlder, left_openings}
 use Rattle.pblk_core.specs.declared.target_core.Core.{Core}
 use Rattle.pblk_core.proofs.KeptResets.{flat_same}
+use Rattle.lemmas.proofs.Lists.{all_of}
+use Rattle.lemmas.proofs.Maps.{filter_none, filter_same}
 
 -- ---- lists
 

@@ -17,10 +17,11 @@ use Rattle.core_laws.specs.PlainWorlds.{IsPlainWorld}
 use Rattle.core_laws.specs.Positions.{IsUnplaced}
 use Rattle.core_laws.specs.WindowOf.{without_frame, held_of, HeldSectors}
 use Rattle.core_laws.proofs.PlacedPositions.{taken_is_unplaced}
-use Rattle.landing_laws.proofs.Entries.{accepted_small, in_order}
+use Rattle.landing_laws.proofs.Entries.{in_order}
 use Rattle.landing_laws.proofs.Growing.{freed_within}
 use Rattle.pblk_core.specs.declared.target_core.Core.{Core}
 use Rattle.pblk_core.specs.Stands.{Stands}
+use Rattle.pblk_model.proofs.MarksLemmas.{accepted_small}
 
 -- the window ends at the front taken
 pub freed_taken_within : (i : Image) (w : World) (c : Core) → Stands i (log_of w) c → c.window.freed ≤ taken (log_of w 0)

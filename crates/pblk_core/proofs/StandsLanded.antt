@@ -25,7 +25,6 @@ use Rattle.core_laws.specs.RowsOf.{rows_of}
 use Rattle.core_laws.specs.SlotOf.{slot_of}
 use Rattle.core_laws.specs.WindowOf.{is_given_back, sectors_in, window_from}
 use Rattle.core_laws.proofs.Landing.{placing_landed}
-use Rattle.core_laws.proofs.Rows.{same_number, other_number}
 use Rattle.landing_laws.specs.ChunkBlocks.{can_be_read}
 use Rattle.landing_laws.proofs.LandedWindow.{given_back_landed}
 use Rattle.landing_laws.proofs.Slots.{first_kept}
@@ -41,7 +40,6 @@ use Rattle.line_laws.proofs.Orders.{in_order}
 use Rattle.line_laws.proofs.PlacedFront.{front_kept}
 use Rattle.placed_laws.proofs.EntryHolds.{later_same, line_same}
 use Rattle.placing_laws.proofs.InOrder.{stripe_count}
-use Rattle.placing_laws.proofs.PlainEvents.{same as number_same}
 use Rattle.begin_laws.proofs.Lists.{mapped_agree as same_in_range}
 use Rattle.pblk_core.specs.Landing.{all_landed, one_landed as entry_landed}
 use Rattle.pblk_core.specs.Readable.{ReadBlock, all_moved, all_readable, reads_of}
@@ -61,6 +59,7 @@ use Rattle.pblk_core.proofs.FoundLines.{older_kept}
 use Rattle.pblk_core.proofs.KeptResets.{resets_landed, fits_same}
 use Rattle.pblk_world.proofs.Appending.{life_more}
 use Rattle.pblk_core.specs.Resets.{resets_left}
+use Rattle.lemmas.proofs.Tests.{other_number, same as number_same, same_number}
 
 -- ---- the window keeps its front and its size
 

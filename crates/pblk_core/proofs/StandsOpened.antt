@@ -19,7 +19,7 @@ use Rattle.pblk_world.specs.Lines.{known_image, found_image}
 use Rattle.pblk_world.specs.Opening.{MayOpen}
 use Rattle.pblk_world.specs.Placing.{end_address}
 use Rattle.pblk_world.specs.Space.{freed}
-use Rattle.pblk_world.proofs.Appending.{takes_more, openings_more, life_more}
+use Rattle.pblk_world.proofs.Appending.{openings_more, life_more}
 use Rattle.line_table.specs.declared.row.LineState.TheVariants as states
 use Rattle.line_table.specs.Rows.{Changes, turned}
 use Rattle.line_table.proofs.Places.{get_within, get_set_same, get_set_other, each_more}
@@ -32,7 +32,6 @@ use Rattle.core_laws.specs.PlainWorlds.{IsPlainWorld}
 use Rattle.core_laws.specs.RowsOf.{rows_of, row_of_line}
 use Rattle.core_laws.specs.WindowOf.{is_given_back, sectors_in, window_from}
 use Rattle.core_laws.proofs.Engine.{prefix_whole}
-use Rattle.core_laws.proofs.Lists.{map_same, filter_none, all_at, all_filter}
 use Rattle.core_laws.proofs.Numbering.{first_stays}
 use Rattle.core_laws.proofs.Opening.{placing_opened, placed_before}
 use Rattle.core_laws.proofs.Steady.{AreAlike, standing_before}
@@ -65,6 +64,9 @@ use Rattle.pblk_core.proofs.FoundLines.{HasOldRow, free_unstarted, older_kept}
 use Rattle.pblk_core.proofs.KeptResets.{resets_opened, fits_same}
 use Rattle.pblk_core.specs.Resets.{resets_left}
 use Rattle.std.proofs.lemmas.Bool.{eqb-true}
+use Rattle.lemmas.proofs.Maps.{all_filter, filter_none, map_same}
+use Rattle.lemmas.proofs.Parts.{all_at}
+use Rattle.pblk_world.proofs.EngineLogLemmas.{takes_more}
 
 -- ---- entries and their rows
 

@@ -20,7 +20,7 @@ use Rattle.pblk_world.specs.EngineLog.{Taken, takes, openings, Opening, Opened, 
 use Rattle.pblk_world.specs.Fronts.{first_position, waiting, is_users}
 use Rattle.pblk_world.specs.Placing.{MayPlace, next_address, end_address, data_marks}
 use Rattle.pblk_world.specs.Space.{freed, placed_front, open_addresses}
-use Rattle.pblk_world.proofs.Appending.{takes_more, openings_more, life_more}
+use Rattle.pblk_world.proofs.Appending.{openings_more, life_more}
 use Rattle.stripe_placer.specs.declared.placement.StripeKind.{StripeKind}
 use Rattle.stripe_placer.specs.declared.placement.StripeKind.TheVariants as kinds
 use Rattle.stripe_placer.specs.OpenLines.{has_left}
@@ -42,11 +42,9 @@ use Rattle.core_laws.specs.PlainWorlds.{IsPlainWorld}
 use Rattle.core_laws.specs.RowsOf.{rows_of}
 use Rattle.core_laws.specs.Stepping.{after}
 use Rattle.core_laws.specs.WindowOf.{is_given_back, sectors_in, window_from}
-use Rattle.core_laws.proofs.Lists.{all_at, all_filter, map_same, get_whole as get_taken}
 use Rattle.core_laws.proofs.Numbering.{first_stays}
 use Rattle.core_laws.proofs.PlacedLines.{placing_placed}
 use Rattle.core_laws.proofs.Placing.{IsPlacing, with_place}
-use Rattle.core_laws.proofs.Rows.{same_number, other_number}
 use Rattle.core_laws.proofs.Steady.{standing_before}
 use Rattle.placed_laws.proofs.LeftLines.{left_placed}
 use Rattle.placed_laws.proofs.Ordered.{ordered, lost_are_none}
@@ -54,7 +52,6 @@ use Rattle.placed_laws.proofs.StandingOpenings.{rise_filtered, standing_rise, on
 use Rattle.placed_laws.proofs.StripeBlocks.{have_blocks, length_joined as blocks_length}
 use Rattle.placing_laws.specs.StripeFor.{IsStripeFor, blocks_for, positions_for}
 use Rattle.line_table.proofs.Places.{get_set_same, get_set_other}
-use Rattle.pblk_laws.proofs.Lists.{all_by_get as all_by_index}
 use Rattle.pblk_core.specs.Entries.{placed_lines, placed_rows}
 use Rattle.pblk_core.specs.Slots.{with_marks}
 use Rattle.pblk_core.specs.Stands.{Stands, AreHolds, IsOpenLine, AreOpenLines, left_openings}
@@ -70,6 +67,10 @@ use Rattle.pblk_core.proofs.WaitingEntries.{IsWaiting, waiting_at}
 use Rattle.pblk_core.proofs.FoundLines.{older_kept}
 use Rattle.pblk_core.proofs.KeptResets.{resets_quiet, fits_same}
 use Rattle.pblk_core.specs.Resets.{resets_left}
+use Rattle.lemmas.proofs.Maps.{all_filter, map_same}
+use Rattle.lemmas.proofs.Parts.{all_at, all_by_get, get_whole}
+use Rattle.lemmas.proofs.Tests.{other_number, same_number}
+use Rattle.pblk_world.proofs.EngineLogLemmas.{takes_more}
 
 -- ---- by the kind of a stripe
 
@@ -414,8 +415,8 @@ placed_stands i w knows old new o of stripe plain st has now for count is = reco
     first_is = first_stays (log_of w 0) (record { event = Decides (Place stripe); knows = knows }) st.beginning st.has_begun
 
     rows : AllByRecursion (λ (t : Taken). row_at old.holds.rows.items t.entry.position ≡ Some (hold_of i.shape (log_of w 0) t)) ts
-    rows = all_by_index (λ (t : Taken). row_at old.holds.rows.items t.entry.position ≡ Some (hold_of i.shape (log_of w 0) t)) ts
-        (λ k t e. IsWaiting.row (waiting_at i w old k t plain st (get_taken (entries_for of.kind i.shape.ws_opt) (waiting i.shape (log_of w 0)) k t e)))
+    rows = all_by_get (λ (t : Taken). row_at old.holds.rows.items t.entry.position ≡ Some (hold_of i.shape (log_of w 0) t)) ts
+        (λ k t e. IsWaiting.row (waiting_at i w old k t plain st (get_whole (entries_for of.kind i.shape.ws_opt) (waiting i.shape (log_of w 0)) k t e)))
 
     table_is : new.lines ≡ rows_of i new_logs
     table_is =

@@ -24,7 +24,6 @@ use Rattle.core_laws.specs.PlainWorlds.{IsPlainWorld}
 use Rattle.core_laws.specs.RowsOf.{row_of_line, rows_of}
 use Rattle.core_laws.specs.WindowOf.{sectors_in, window_from}
 use Rattle.core_laws.proofs.Engine.{stopped_more}
-use Rattle.core_laws.proofs.Lists.{map_same}
 use Rattle.core_laws.proofs.Numbering.{first_stays}
 use Rattle.core_laws.proofs.Steady.{AreAlike, standing_same, lines_same, row_same, unanswered_in}
 use Rattle.core_laws.proofs.Stopping.{entries_same}
@@ -51,6 +50,7 @@ use Rattle.pblk_core.proofs.ResetUnits.{units_left, others_left, resets_less, un
 use Rattle.pblk_core.proofs.ResetRows.{table_stays, table_turns}
 use Rattle.pblk_core.proofs.StandsOpened.{quiet_holds, quiet_freed, takes_same}
 use Rattle.pblk_core.proofs.SteadyLines.{open_lines_same, under_way_same}
+use Rattle.lemmas.proofs.Maps.{map_same}
 
 -- what a core's fields are once it noted the reset of a chunk, which has this state
 pub record IsResetInto (old new : Core) (line unit : ℕ) (state : ChunkState) : Type 0 where

@@ -5,7 +5,7 @@ use Rattle.std.specs.List.{filter, range_with_len}
 use Rattle.std.specs.Ordering.{nat_cmp, eq_by_cmp}
 use Rattle.std.specs.FinMap.{FinMap, get-insert}
 use Rattle.std.specs.FinMap as fin
-use Rattle.std.specs.Cmp.{nat_cmp_total, unsigned_tied}
+use Rattle.std.specs.Cmp.{nat_cmp_total}
 use Rattle.pblk_model.specs.declared.shape.Shape.{Shape}
 use Rattle.pblk_model.specs.declared.chunk.Mark.{Mark}
 use Rattle.pblk_model.specs.Image.{Image, line_units}
@@ -16,7 +16,7 @@ use Rattle.pblk_world.specs.World.{Logs}
 use Rattle.pblk_world.specs.EngineLog.{Begun, begun, Taken, takes, openings, is_as_found}
 use Rattle.pblk_world.specs.Fronts.{first_position, taken, user_takes}
 use Rattle.pblk_world.specs.Space.{freed}
-use Rattle.pblk_world.proofs.Appending.{takes_more, openings_more, life_more}
+use Rattle.pblk_world.proofs.Appending.{openings_more, life_more}
 use Rattle.l2p_map.specs.declared.slot.Slot.{Slot}
 use Rattle.l2p_map.specs.declared.slot.Slot.TheVariants.{Cached}
 use Rattle.core_laws.specs.Stepping.{after}
@@ -53,7 +53,6 @@ use Rattle.pblk_world.specs.Victims.{line_of}
 use Rattle.core_laws.specs.RowsOf.{rows_of}
 use Rattle.line_laws.proofs.TakenRows.{rows_taken}
 use Rattle.line_laws.proofs.LiveCounts.{live_some}
-use Rattle.core_laws.proofs.Rows.{row_at}
 use Rattle.std.proofs.lemmas.List.FromFn.{length-map-range_with_len}
 use Rattle.line_laws.proofs.Orders.{in_order as plain_in_order}
 use Rattle.line_laws.proofs.LinesInRange.{line_in_range}
@@ -63,7 +62,7 @@ use Rattle.core_laws.specs.RowsOf.{row_of_line}
 use Rattle.pblk_world.specs.Victims.{live}
 use Rattle.std.specs.Prelude.{slice_get}
 use Rattle.line_laws.proofs.PlainLogs.{none_freed}
-use Rattle.landing_laws.proofs.Entries.{accepted_small, in_order}
+use Rattle.landing_laws.proofs.Entries.{in_order}
 use Rattle.std.proofs.lemmas.Option.{same_Some}
 use Rattle.pblk_core.specs.Taken.{entry_of, mark_of}
 use Rattle.pblk_core.specs.Holds.{line_of_slot, rows_with_taker}
@@ -74,25 +73,22 @@ use Rattle.write_window.specs.declared.held.Progress.TheVariants.{Waiting}
 use Rattle.write_window.specs.Window as view
 use Rattle.stripe_placer.specs.Placing.{waits}
 use Rattle.core_laws.specs.PlainWorlds.{IsPlainWorld}
-use Rattle.core_laws.proofs.Lists.{map_same}
 use Rattle.pblk_model.specs.Contents.{least_missing}
 use Rattle.pblk_world.specs.EngineLog.{placements}
 use Rattle.pblk_world.specs.Space.{gives_back}
 use Rattle.pblk_world.specs.World.{World, log_of}
 use Rattle.std.specs.List.{list_any}
 use Rattle.std.specs.Prelude.{slice_set, ◌%◌}
-use Rattle.std.proofs.lemmas.Bool.Decides.{nat_tests, eqb_tells}
+use Rattle.std.proofs.lemmas.Bool.Decides.{eqb_tells}
 use Rattle.pblk_core.proofs.FoundLines.{older_kept}
 use Rattle.pblk_core.proofs.KeptResets.{resets_quiet, fits_same}
 use Rattle.pblk_core.specs.Resets.{resets_left}
+use Rattle.lemmas.proofs.Maps.{map_same, row_at}
+use Rattle.lemmas.proofs.Tests.{other_key, same_key}
+use Rattle.pblk_model.proofs.MarksLemmas.{accepted_small}
+use Rattle.pblk_world.proofs.EngineLogLemmas.{takes_more}
 
 -- ---- the map
-
-same_key : (q a : ℕ) → q ≡ a → eq_by_cmp nat_cmp q a ≡ true
-same_key q a e = unsigned_tied q a ∙ grind (arith, nat_tests)
-
-other_key : (q a : ℕ) → q ≢ a → eq_by_cmp nat_cmp q a ≡ false
-other_key q a e = unsigned_tied q a ∙ grind (arith, nat_tests)
 
 set_at : (f g : ℕ → Slot) (m : FinMap nat_cmp Slot) (lba x q : ℕ) (capacity : ℕ) → ((n : ℕ) → g n ≡ (if lba == n then Cached q else f n))
     → ((n : ℕ) → n < capacity → fin.get m n ≡ Some (f n)) → x < capacity → fin.get (fin.insert m lba (Cached q)) x ≡ Some (g x)

@@ -15,13 +15,14 @@ use Rattle.pblk_world.specs.Placing.{data_marks, end_address}
 use Rattle.stripe_placer.specs.OpenLines.{has_left}
 use Rattle.core_laws.specs.Stepping.{after}
 use Rattle.core_laws.specs.OpenedLines.{opened_units, bits_of, open_line, standing}
-use Rattle.core_laws.proofs.Lists.{filter_agree, filter_same, all_filter, all_at}
 use Rattle.core_laws.proofs.Engine.{prefix_same}
 use Rattle.core_laws.proofs.Steady.{AreAlike, unanswered_in, answer_same, open_line_same, standing_before}
 use Rattle.pblk_core.specs.declared.open_lines.OpenLine.{OpenLine}
 use Rattle.pblk_core.specs.declared.open_lines.OpenLines.{OpenLines}
 use Rattle.pblk_core.specs.LineRecords.{AreOf}
 use Rattle.pblk_core.specs.Stands.{left_openings, unlanded, under_way, IsOpenLine, AreOpenLines}
+use Rattle.lemmas.proofs.Maps.{all_filter, filter_agree, filter_same}
+use Rattle.lemmas.proofs.Parts.{all_at}
 
 pub stripes_same : (old new : List Logged) → AreAlike old new → (o : Opening) → stripes_of new o ≡ stripes_of old o
 stripes_same old new alike o = ap (λ ps. filter (λ (p : Placed). is_life o.number p.life) ps) alike.placements

@@ -14,7 +14,6 @@ use Rattle.pblk_world.specs.World.{Logs}
 use Rattle.pblk_world.specs.EngineLog.{Taken, takes, Placed, placements, holds_position}
 use Rattle.pblk_world.specs.Fronts.{first_position, taken, last_take}
 use Rattle.pblk_world.specs.Space.{gives_back, freed}
-use Rattle.pblk_world.proofs.Appending.{takes_more}
 use Rattle.l2p_map.specs.declared.slot.Slot.{Slot}
 use Rattle.l2p_map.specs.declared.slot.Slot.TheVariants.{Unwritten, Cached, Media}
 use Rattle.core_laws.specs.Stepping.{after}
@@ -22,26 +21,27 @@ use Rattle.core_laws.specs.Positions.{IsUnplaced, AreNumbered}
 use Rattle.core_laws.specs.SlotOf.{slot_of, slot_by, media_of}
 use Rattle.core_laws.specs.WindowOf.{is_given_back}
 use Rattle.core_laws.proofs.Placing.{not_below}
-use Rattle.core_laws.proofs.Rows.{same_number}
 use Rattle.core_laws.proofs.Stripes.{find_fails_last}
 use Rattle.core_laws.proofs.Taking.{alike}
 use Rattle.core_laws.proofs.TakenSlots.{gives_back_same, any_same}
 use Rattle.core_laws.proofs.Steady.{AreAlike}
-use Rattle.core_laws.proofs.Tests.{both as both_true}
-use Rattle.core_laws.proofs.Lists.{find_none, is_in, get_set_other, get_set_same}
 use Rattle.landing_laws.proofs.Least.{least_below}
 use Rattle.landing_laws.proofs.Cached.{IsCachedEntry, cached, last_is_among, numbered_at}
 use Rattle.landing_laws.proofs.FreedFront.{freed_taken}
 use Rattle.landing_laws.proofs.Finding.{any_none}
 use Rattle.placed_laws.specs.EntryHolds.{later_take, placed_line}
 use Rattle.placed_laws.proofs.EntryHolds.{later_stays, later_of_others, later_of_sector, none_is_later, line_same}
-use Rattle.stripe_placer.proofs.Chunks.{lt_yes as is_below, lt_of as below_is}
+use Rattle.stripe_placer.proofs.Chunks.{lt_of as below_is}
 use Rattle.placing_laws.proofs.Due.{none_at as none_passes}
 use Rattle.pblk_core.specs.declared.hold.Hold.{Hold}
 use Rattle.pblk_core.specs.declared.hold.Holds.{Holds}
 use Rattle.pblk_core.specs.Holds.{hold_of, row_at, with_taker, rows_with_taker}
 use Rattle.pblk_core.specs.Stands.{AreHolds}
 use Rattle.pblk_core.proofs.HoldRows.{taker_length}
+use Rattle.lemmas.proofs.Maps.{find_none}
+use Rattle.lemmas.proofs.Parts.{get_set_other, get_set_same, is_in}
+use Rattle.lemmas.proofs.Tests.{both as both_true, lt_true, same_number}
+use Rattle.pblk_world.proofs.EngineLogLemmas.{takes_more}
 
 -- ---- numbers
 
@@ -316,7 +316,7 @@ holds_taken i logs knows entry mark holds new from numbered none are sector next
             let b : u.entry.position ≡ first_position log + j = place u j u_at in
             let lba : u.mark.lba ≡ t.mark.lba = (last_is_among log entry.lba u e).1 ∙ sym sector ∙ same in
             let yes : (nat_lt t.entry.position u.entry.position && (u.mark.lba == t.mark.lba)) ≡ true =
-            ap₂ (λ x y. x && y) (is_below t.entry.position u.entry.position (omega arith)) (ap (λ n. n == t.mark.lba) lba ∙ same_number t.mark.lba) in
+            ap₂ (λ x y. x && y) (lt_true t.entry.position u.entry.position (omega arith)) (ap (λ n. n == t.mark.lba) lba ∙ same_number t.mark.lba) in
             let no : (nat_lt t.entry.position u.entry.position && (u.mark.lba == t.mark.lba)) ≡ false =
             none_passes (λ (u : Taken). nat_lt t.entry.position u.entry.position && (u.mark.lba == t.mark.lba)) (takes log) j u later u_at in
             absurd cc

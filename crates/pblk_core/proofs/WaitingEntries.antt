@@ -1,6 +1,6 @@
 -- The entries that wait, in the window of a core and in the rows beside it.
 use Rattle.std.proofs.Common.{◌≡◌, ℕ, ◌+◌, ◌-◌, ◌<◌, ◌≤◌, ◌^◌, ◌%◌, ◌&&◌, zero, suc, nat_lt, nat_le, Bool, true, false, Some, None, Option, List, [], ◌∷◌, ◌++◌, length, take, drop, refl, sym, subst, ap, ap₂, ◌∙◌, arith, append-nil}
-use Rattle.std.specs.Prelude.{map, slice_get, is_some, if◌then◌else◌}
+use Rattle.std.specs.Prelude.{map, slice_get, if◌then◌else◌}
 use Rattle.std.specs.List.{AllByRecursion, range_with_len}
 use Rattle.std.specs.Option.{option_map, option_map_or, unwrap_or}
 use Rattle.std.proofs.lemmas.Option.{same_Some, none-some}
@@ -13,15 +13,12 @@ use Rattle.pblk_world.specs.EngineLog.{Taken, takes, block_of_taken}
 use Rattle.pblk_world.specs.Fronts.{first_position, taken, waiting, has_landed_at}
 use Rattle.pblk_world.specs.Legal.{MayDecide}
 use Rattle.pblk_world.specs.Space.{freed, placed_front}
-use Rattle.pblk_world.proofs.Appending.{takes_more}
 use Rattle.write_window.specs.Window.{WindowView, sector_at}
 use Rattle.write_window.specs.declared.held.Held.{Held}
 use Rattle.core_laws.specs.PlainWorlds.{IsPlainWorld, IsPlainWorld}
 use Rattle.core_laws.specs.PlacerOf.{positions_of, placing_of}
 use Rattle.core_laws.specs.Positions.{AreNumbered}
 use Rattle.core_laws.specs.WindowOf.{HeldSector, HeldSectors, without_frame, held_of, is_given_back}
-use Rattle.core_laws.proofs.Lists.{all_at, get_more as get_front, get_whole as get_taken, is_in as contained, get_dropped}
-use Rattle.core_laws.proofs.PlacedPositions.{all_joined}
 use Rattle.core_laws.proofs.Placing.{not_below}
 use Rattle.core_laws.proofs.WaitingEntries.{waiting_alike}
 use Rattle.stripe_placer.specs.Placing.{held}
@@ -33,12 +30,16 @@ use Rattle.placed_laws.proofs.Events.{of_legal_log}
 use Rattle.placed_laws.proofs.Ordered.{IsOrdered, ordered, count_is, waiting_are_last}
 use Rattle.placed_laws.proofs.HeldPositions.{in_window}
 use Rattle.placed_laws.proofs.EntryHolds.{line_below_front}
-use Rattle.pblk_laws.proofs.Lists.{all_by_get as all_by_index}
 use Rattle.pblk_core.specs.Entries.{entry_block, entry_blocks}
 use Rattle.pblk_core.specs.Holds.{hold_of, row_at}
 use Rattle.pblk_core.specs.Stands.{Stands}
 use Rattle.pblk_core.specs.declared.target_core.Core.{Core}
 use Rattle.pblk_core.specs.declared.hold.Hold.{Hold}
+use Rattle.core_laws.proofs.WindowOfLemmas.{bytes_without}
+use Rattle.lemmas.proofs.Lists.{all_append}
+use Rattle.lemmas.proofs.Options.{not_noted}
+use Rattle.lemmas.proofs.Parts.{all_at, all_by_get, get_dropped, get_more, get_whole, is_in}
+use Rattle.pblk_world.proofs.EngineLogLemmas.{takes_more}
 
 -- ---- lists
 
@@ -63,7 +64,7 @@ sized_after : (i : Image) (log : List Logged) (known : Logs) (e : EngineEvent) (
     → AllByRecursion (IsSized i.shape) (takes log) → AllByRecursion (IsSized i.shape) (takes (log ++ record { event = Decides e; knows = knows } ∷ []))
 sized_after i log known (Take entry mark) knows own may is =
     subst (AllByRecursion (IsSized i.shape)) (sym (takes_more log (record { event = Decides (Take entry mark); knows = knows })))
-    (all_joined (IsSized i.shape) (takes log) (record { entry = entry; mark = mark } ∷ []) is (record { sector = may.2.block.size; position = may.2.position_number }, tt))
+    (all_append (IsSized i.shape) (takes log) (record { entry = entry; mark = mark } ∷ []) is (record { sector = may.2.block.size; position = may.2.position_number }, tt))
 sized_after i log known e knows own may is =
     subst (AllByRecursion (IsSized i.shape)) (sym (takes_more log (record { event = Decides e; knows = knows }) ∙ append-nil (takes log))) is
 
@@ -83,15 +84,11 @@ pub record IsWaiting (i : Image) (w : World) (c : Core) (t : Taken) (k : ℕ) : 
   pub unplaced : placed_line i.shape (log_of w 0) t.entry.position ≡ None
   pub row : row_at c.holds.rows.items t.entry.position ≡ Some (hold_of i.shape (log_of w 0) t)
 
-no_line : (o : Option ℕ) → is_some o ≡ false → o ≡ None
-no_line None e = refl
-no_line (Some line) e = absurd cc
-
 pub row_of_entry : (i : Image) (w : World) (c : Core) (t : Taken) (number : ℕ) → Stands i (log_of w) c → slice_get (takes (log_of w 0)) number ≡ Some t → is_given_back i.shape (log_of w 0) t.entry.position ≡ false
     → row_at c.holds.rows.items t.entry.position ≡ Some (hold_of i.shape (log_of w 0) t)
 row_of_entry i w c t number st there kept =
     ap (λ n. slice_get c.holds.rows.items (t.entry.position % n)) st.holds.room
-    ∙ st.holds.each t (contained (takes (log_of w 0)) number t there) kept
+    ∙ st.holds.each t (is_in (takes (log_of w 0)) number t there) kept
 
 pub waiting_at : (i : Image) (w : World) (c : Core) (k : ℕ) (t : Taken) → IsPlainWorld i w → Stands i (log_of w) c → slice_get (waiting i.shape (log_of w 0)) k ≡ Some t → IsWaiting i w c t k
 waiting_at i w c k t plain st e =
@@ -105,7 +102,7 @@ waiting_at i w c k t plain st e =
     let position : t.entry.position ≡ placed_front s log + k = omega arith in
     let pad : ℕ = c.placer.entries.pad in
     let own : slice_get (held (placing_of i (log_of w) pad [])) k ≡ Some t.entry.position =
-    get_front _ _ k t.entry.position (ap (λ (qs : List ℕ). slice_get qs k) (waiting_alike s log pad) ∙ get_mapped (λ (t : Taken). t.entry.position) (waiting s log) k ∙ ap (option_map (λ (t : Taken). t.entry.position)) e) in
+    get_more _ _ k t.entry.position (ap (λ (qs : List ℕ). slice_get qs k) (waiting_alike s log pad) ∙ get_mapped (λ (t : Taken). t.entry.position) (waiting s log) k ∙ ap (option_map (λ (t : Taken). t.entry.position)) e) in
     let inside : IsInWindow s log t.entry.position = in_window i (log_of w) pad [] k t.entry.position is own in
     let freed_low : c.window.freed ≤ freed s log = st.to_freed in
     let from : freed s log ≤ t.entry.position = inside.from_freed in
@@ -120,14 +117,14 @@ waiting_at i w c k t plain st e =
       low = omega arith;
       high = high;
       kept = kept;
-      unplaced = no_line (placed_line s log t.entry.position) (line_below_front s log t.entry.position is
-          ∙ and_no (nat_le (first_position log) t.entry.position) (nat_lt t.entry.position (placed_front s log)) (not_below (placed_front s log) t.entry.position above));
+      unplaced = not_noted (placed_line s log t.entry.position) (line_below_front s log t.entry.position is
+          ∙ and_false (nat_le (first_position log) t.entry.position) (nat_lt t.entry.position (placed_front s log)) (not_below (placed_front s log) t.entry.position above));
       row = row_of_entry i w c t (n + k) st there kept;
     }
   where
-    and_no : (a b : Bool) → b ≡ false → (a && b) ≡ false
-    and_no true b e = e
-    and_no false b e = refl
+    and_false : (a b : Bool) → b ≡ false → (a && b) ≡ false
+    and_false true b e = e
+    and_false false b e = refl
 
     not_given : (b : Bool) → is_given_back i.shape (log_of w 0) t.entry.position ≡ b → has_landed_at i.shape (log_of w 0) t.entry.position ≡ false → b ≡ false
     not_given false e none = refl
@@ -143,14 +140,10 @@ held_by_log i w c k st =
     ∙ get_mapped (held_of i.shape (log_of w 0)) (drop (c.window.freed - first_position (log_of w 0)) (takes (log_of w 0))) k
     ∙ ap (option_map (held_of i.shape (log_of w 0))) (get_dropped (c.window.freed - first_position (log_of w 0)) (takes (log_of w 0)) k)
 
-bytes_of : (o : Option Held) → option_map (λ (h : Held). h.entry.frame.bytes) o ≡ option_map (λ (h : HeldSector). h.sector) (option_map without_frame o)
-bytes_of None = refl
-bytes_of (Some h) = refl
-
 bytes_by_log : (i : Image) (w : World) (c : Core) (k : ℕ) → Stands i (log_of w) c
     → option_map (λ (h : Held). h.entry.frame.bytes) (slice_get c.window.entries k) ≡ option_map (λ (t : Taken). t.entry.sector) (slice_get (takes (log_of w 0)) (c.window.freed - first_position (log_of w 0) + k))
 bytes_by_log i w c k st =
-    bytes_of (slice_get c.window.entries k) ∙ ap (option_map (λ (h : HeldSector). h.sector)) (held_by_log i w c k st)
+    bytes_without (slice_get c.window.entries k) ∙ ap (option_map (λ (h : HeldSector). h.sector)) (held_by_log i w c k st)
     ∙ twice (slice_get (takes (log_of w 0)) (c.window.freed - first_position (log_of w 0) + k))
   where
     twice : (o : Option Taken) → option_map (λ (h : HeldSector). h.sector) (option_map (held_of i.shape (log_of w 0)) o) ≡ option_map (λ (t : Taken). t.entry.sector) o
@@ -200,5 +193,5 @@ pub waiting_blocks : (i : Image) (w : World) (c : Core) (n : ℕ) → IsPlainWor
     → entry_blocks c.window c.holds.rows.items (positions_of (take n (waiting i.shape (log_of w 0)))) ≡ map block_of_taken (take n (waiting i.shape (log_of w 0)))
 waiting_blocks i w c n plain st =
     blocks_are c.window c.holds.rows.items (take n (waiting i.shape (log_of w 0)))
-    (all_by_index (λ (t : Taken). entry_block c.window c.holds.rows.items t.entry.position ≡ block_of_taken t) (take n (waiting i.shape (log_of w 0)))
-    (λ k t e. block_is i w c t k st (waiting_at i w c k t plain st (get_taken n (waiting i.shape (log_of w 0)) k t e))))
+    (all_by_get (λ (t : Taken). entry_block c.window c.holds.rows.items t.entry.position ≡ block_of_taken t) (take n (waiting i.shape (log_of w 0)))
+    (λ k t e. block_is i w c t k st (waiting_at i w c k t plain st (get_whole n (waiting i.shape (log_of w 0)) k t e))))

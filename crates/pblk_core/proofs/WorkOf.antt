@@ -1,5 +1,5 @@
 -- What a core names as its next work is what the logs name.
-use Rattle.std.proofs.Common.{◌≡◌, ℕ, ◌+◌, ◌-◌, ◌<◌, ◌≤◌, ◌==◌, ◌^◌, ◌&&◌, nat_lt, Bool, true, false, None, Some, Option, List, length, refl, sym, ap, ap₂, ◌∙◌, arith, le_trans, length-append}
+use Rattle.std.proofs.Common.{◌≡◌, ℕ, ◌+◌, ◌-◌, ◌<◌, ◌≤◌, ◌==◌, ◌^◌, ◌&&◌, nat_lt, Bool, true, false, None, Some, Option, List, length, refl, sym, ap, ap₂, ◌∙◌, arith, length-append}
 use Rattle.std.specs.Prelude.{position, slice_get}
 use Rattle.std.specs.Option.{is_some, option_map_or}
 use Rattle.std.proofs.lemmas.List.{length-map}
@@ -16,12 +16,8 @@ use Rattle.write_window.specs.Window as view
 use Rattle.core_laws.specs.OpenedLines.{open_line, open_lines}
 use Rattle.core_laws.specs.PlainWorlds.{IsPlainWorld}
 use Rattle.core_laws.specs.PlacerOf.{lost_entries, fresh_entries}
-use Rattle.core_laws.specs.WindowOf.{users_below}
 use Rattle.placed_laws.proofs.LeftLines.{lines_of_left}
 use Rattle.placed_laws.proofs.Ordered.{ordered, front_within, fresh_in_order, lost_are_none}
-use Rattle.landing_laws.proofs.Entries.{accepted_small, in_order}
-use Rattle.landing_laws.proofs.Growing.{freed_within}
-use Rattle.landing_laws.proofs.SyncedWindow.{front_synced}
 use Rattle.pblk_core.specs.declared.target_core.Core.{Core}
 use Rattle.pblk_core.specs.Stands.{Stands, left_openings}
 use Rattle.pblk_core.specs.Named.{choice, reset_or, asks_line, has_free, may_open, named_beside, named, pad_of, work_beside, work_of, first_seq_of}
@@ -30,15 +26,10 @@ use Rattle.pblk_core.specs.declared.resets.LineChunk.{LineChunk}
 use Rattle.pblk_core.specs.declared.work.Work.{Work}
 use Rattle.pblk_core.specs.declared.work.Work.TheVariants.{Program}
 use Rattle.pblk_core.proofs.StandsFacts.{window_taken_is}
-
--- the window's front synced is the log's
-pub synced_is : (i : Image) (w : World) (c : Core) → IsPlainWorld i w → Stands i (log_of w) c
-    → view.synced c.window ≡ record { users = users_below (log_of w 0) (synced i.shape (log_of w 0)); position = synced i.shape (log_of w 0) }
-synced_is i w c plain st = front_synced i.shape (log_of w 0) c.window.freed c.window (in_order i w (accepted_small i.shape plain.accepted) plain.legal).numbered
-    st.from_first (le_trans st.to_freed (freed_within i.shape (log_of w 0))) st.window
+use Rattle.pblk_core.proofs.StandsLemmas.{synced_stands}
 
 pub synced_at : (i : Image) (w : World) (c : Core) → IsPlainWorld i w → Stands i (log_of w) c → (view.synced c.window).position ≡ synced i.shape (log_of w 0)
-synced_at i w c plain st = ap (λ (f : Front). f.position) (synced_is i w c plain st)
+synced_at i w c plain st = ap (λ (f : Front). f.position) (synced_stands i w c plain st)
 
 -- how many entries wait
 waiting_count : (i : Image) (w : World) → IsPlainWorld i w → length (waiting i.shape (log_of w 0)) ≡ taken (log_of w 0) - placed_front i.shape (log_of w 0)

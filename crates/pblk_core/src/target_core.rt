@@ -21,7 +21,7 @@ ghost use Rattle.found_laws.specs.Beginnings.{beginning_of};
 ghost use Rattle.pblk_world.specs.Placing.{MayPlace};
 ghost use Rattle.pblk_world.specs.Taking.{MayTake};
 ghost use Rattle.pblk_world.specs.Fronts.{taken, synced, user_takes};
-ghost use Rattle.pblk_world.specs.Space.{freed, is_due, room};
+ghost use Rattle.pblk_world.specs.Space.{is_due, room};
 ghost use Rattle.sector_pool.specs.declared.entry.Class.TheVariants.{User};
 ghost use Rattle.stripe_placer.specs.Placing.{Program, under_way_in};
 ghost use Rattle.write_window.specs.Window as view;
@@ -158,14 +158,16 @@ fn emptied(layout: &Layout, width: u32) -> LineState
 impl Core {
     /// The core of a target that opens on a drive of an accepted shape, of which recovery found this (Bjørling,
     /// González, Bonnet, FAST 2017, recovery): it begins at the end that was found. The findings fit the shape, as
-    /// those of any image of it do. Fails only where there isn't the memory, of which it takes all that the core uses.
+    /// those of any image of it do. The pad target is 0. Fails only where there isn't the memory, of which it takes all
+    /// that the core uses.
     pub fn new(alloc: Global, shape: &Shape, found: Found) -> Result<Core, AllocError>
         requires accepted { IsAccepted shape.now }
         requires fit { IsFitFound shape.now found }
-        ensures { IfOk result (λ core. (i : Image) (w : World) (knows : List ℕ) → i.shape ≡ shape.now
+        ensures stands { IfOk result (λ core. (i : Image) (w : World) (knows : List ℕ) → i.shape ≡ shape.now
             → IsPlainWorld i w → log_of w 0 ≡ []
             → IsFoundOf (found_image i (after (log_of w) (Begin (beginning_of found)) knows)) found
             → Stands i (after (log_of w) (Begin (beginning_of found)) knows) core) }
+        ensures pad { IfOk result (λ core. pad_of core ≡ 0) }
     {
         Core::made(alloc, shape, &found)
     }
@@ -517,11 +519,13 @@ impl Core {
 
     /// Up to which position users may claim: the lesser of the front freed with the ring's size less a stripe for
     /// each unit, and of the front placed with a WS_OPT-th of the data addresses beyond those of two full lines. It
-    /// is at most 2^61 - 2, or the mount's first position where that is greater.
+    /// is at most 2^61 - 2, or the mount's first position where that is greater. The window has given all back that it
+    /// can: `pop_free` answers None.
     pub fn grant(&self) -> u64
-        requires { IsStanding self.now }
+        requires standing { IsStanding self.now }
+        requires drained { view.is_readable_at self.now.window self.now.window.freed ≡ false }
         ensures { (i : Image) (w : World) → IsPlainWorld i w → Stands i (log_of w) self.now
-            → self.now.window.freed ≡ freed i.shape (log_of w 0) → result ≡ room i (log_of w) }
+            → result ≡ room i (log_of w) }
     {
         let shape = self.layout.shape();
         let units = shape.units();

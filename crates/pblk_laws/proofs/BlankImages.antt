@@ -13,10 +13,12 @@ use Rattle.pblk_model.specs.Image.{Image, IsFit, blank, is_online_in, line_chunk
 use Rattle.pblk_model.specs.StartRecord.{start_of}
 use Rattle.pblk_model.specs.Records.{Record, records_after, line_records, records}
 use Rattle.pblk_model.specs.Contents.{later_start, head, end_after, end, counted_after, counted, winner, sector_of, contents}
-use Rattle.pblk_laws.proofs.Lists.{all_replicate, all_get, all_filter_map, all_filter, filter_map_none, flat_map_nil, map_same}
 use Rattle.pblk_model.proofs.LeastLengths.{start_len_positive}
 use Rattle.pblk_laws.proofs.Runs.{start_none}
-use Rattle.pblk_laws.proofs.ChunkStep.{free_is_chunk}
+use Rattle.lemmas.proofs.Lists.{all_replicated}
+use Rattle.lemmas.proofs.Maps.{all_filter, all_filter_map, filter_map_none, flat_map_nil, map_constant}
+use Rattle.lemmas.proofs.Parts.{all_get_some}
+use Rattle.pblk_model.proofs.ChunkLemmas.{free_is_chunk}
 
 unfoldable pub IsEmpty : Chunk → Type 0
 IsEmpty c = c.blocks ≡ []
@@ -27,20 +29,20 @@ no_block None k h = refl
 no_block (Some c) k h = ap (λ blocks. slice_get blocks k) h
 
 pub empty_line : (i : Image) (line : ℕ) → AllByRecursion (AllByRecursion IsEmpty) i.units → AllByRecursion IsEmpty (line_chunks i line)
-empty_line i line h = all_filter IsEmpty (λ c. is_online_in c.state) _ (all_filter_map IsEmpty (AllByRecursion IsEmpty) (λ unit. slice_get unit line) i.units (λ unit each. all_get IsEmpty unit line each) h)
+empty_line i line h = all_filter IsEmpty (λ c. is_online_in c.state) _ (all_filter_map IsEmpty (AllByRecursion IsEmpty) (λ unit. slice_get unit line) i.units (λ unit each. all_get_some IsEmpty unit line each) h)
 
 empty_block : (i : Image) (line a : ℕ) → AllByRecursion (AllByRecursion IsEmpty) i.units → block_at i line a ≡ None
-empty_block i line a h = no_block (slice_get (line_chunks i line) (column_of i.shape (width i line) a)) (block_of i.shape (width i line) a) (all_get IsEmpty (line_chunks i line) (column_of i.shape (width i line) a) (empty_line i line h))
+empty_block i line a h = no_block (slice_get (line_chunks i line) (column_of i.shape (width i line) a)) (block_of i.shape (width i line) a) (all_get_some IsEmpty (line_chunks i line) (column_of i.shape (width i line) a) (empty_line i line h))
 
 pub blank_empty : (s : Shape) → AllByRecursion (AllByRecursion IsEmpty) (blank s).units
 unfolding IsEmpty
-blank_empty s = all_replicate (AllByRecursion IsEmpty) (units s) (replicate s.chunks free_chunk) (all_replicate IsEmpty s.chunks free_chunk refl)
+blank_empty s = all_replicated (AllByRecursion IsEmpty) (units s) (replicate s.chunks free_chunk) (all_replicated IsEmpty s.chunks free_chunk refl)
 
 pub blank_fit : (s : Shape) → IsFit (blank s)
 blank_fit s = record {
   units = length-replicate (units s) (replicate s.chunks free_chunk);
-  chunks = all_replicate (λ (unit : List Chunk). length unit ≡ s.chunks) (units s) (replicate s.chunks free_chunk) (length-replicate s.chunks free_chunk);
-  each = all_replicate (AllByRecursion (IsChunk s)) (units s) (replicate s.chunks free_chunk) (all_replicate (IsChunk s) s.chunks free_chunk (free_is_chunk s));
+  chunks = all_replicated (λ (unit : List Chunk). length unit ≡ s.chunks) (units s) (replicate s.chunks free_chunk) (length-replicate s.chunks free_chunk);
+  each = all_replicated (AllByRecursion (IsChunk s)) (units s) (replicate s.chunks free_chunk) (all_replicated (IsChunk s) s.chunks free_chunk (free_is_chunk s));
 }
 
 pub blank_block : (s : Shape) (line a : ℕ) → block_at (blank s) line a ≡ None
@@ -64,5 +66,5 @@ none_counted : (i : Image) → ((line : ℕ) → start_of i line ≡ None) → c
 none_counted i none = ap (counted_after (records i)) (no_head i none)
 
 pub zeros_held : (i : Image) → ((line : ℕ) → start_of i line ≡ None) → contents i ≡ replicate i.shape.capacity (zeros i.shape.sector)
-zeros_held i none = map_same (sector_of i) (zeros i.shape.sector) 0 i.shape.capacity
+zeros_held i none = map_constant (sector_of i) (zeros i.shape.sector) 0 i.shape.capacity
     (λ lba. ap (λ (rs : List Record). option_map_or (λ (r : Record). r.sector) (winner rs lba) (zeros i.shape.sector)) (none_counted i none))

@@ -12,7 +12,9 @@ use Rattle.pblk_model.specs.declared.chunk.ChunkErr.{ChunkErr}
 use Rattle.pblk_model.specs.declared.chunk.ChunkErr.TheVariants as errors
 use Rattle.pblk_model.specs.Chunk.{Chunk, Block, IsBlock, IsChunk, PointerFits, pointer, free_chunk, offline_chunk}
 use Rattle.pblk_model.specs.ChunkStep.{ChunkCommand, Write, Read, Reset, WritesBlocks, ChunkAnswer, Done, Gave, Empty, Refused, ChunkStep, ChunkFails, ChunkStops, place_refusal, write_refusal_in, appended, StopsWithin, refusal, closed_after, reset_in, after_reset}
-use Rattle.pblk_laws.proofs.Lists.{all_append, all_take}
+use Rattle.lemmas.proofs.Lists.{all_append}
+use Rattle.lemmas.proofs.Parts.{all_taken}
+use Rattle.pblk_model.proofs.ChunkLemmas.{free_is_chunk}
 
 -- Refusals.
 
@@ -160,16 +162,13 @@ closed_is_chunk s c blocks k chunk each few inside =
     record {
       place = rw counted (omega arith);
       multiple = rw counted (add_multiples s.ws_min (pointer c) (k * s.ws_min) chunk.multiple (mul-mod_left k s.ws_min));
-      blocks = all_append (IsBlock s) c.blocks (take (k * s.ws_min) blocks) chunk.blocks (all_take (IsBlock s) (k * s.ws_min) blocks each);
+      blocks = all_append (IsBlock s) c.blocks (take (k * s.ws_min) blocks) chunk.blocks (all_taken (IsBlock s) (k * s.ws_min) blocks each);
     }
 
 pub cut_is_chunk : (s : Shape) (c : Chunk) (blocks : List Block) (k : ℕ) → 0 < s.ws_min → IsChunk s c → AllByRecursion (IsBlock s) blocks → 0 < k → k * s.ws_min ≤ length blocks → pointer c + length blocks ≤ s.clba → IsChunk s (appended s c (take (k * s.ws_min) blocks))
 cut_is_chunk s c blocks k minimum chunk each some few inside =
     let taken : length (take (k * s.ws_min) blocks) ≡ k * s.ws_min = length-take-le (k * s.ws_min) blocks few in
-    appended_is_chunk s c (take (k * s.ws_min) blocks) chunk (all_take (IsBlock s) (k * s.ws_min) blocks each) (rw taken (mul-pos some minimum)) (rw taken (mul-mod_left k s.ws_min)) (rw taken (omega arith))
-
-pub free_is_chunk : (s : Shape) → IsChunk s free_chunk
-free_is_chunk s = record { place = refl; multiple = zero-mod s.ws_min; blocks = tt }
+    appended_is_chunk s c (take (k * s.ws_min) blocks) chunk (all_taken (IsBlock s) (k * s.ws_min) blocks each) (rw taken (mul-pos some minimum)) (rw taken (mul-mod_left k s.ws_min)) (rw taken (omega arith))
 
 pub offline_is_chunk : (s : Shape) → IsChunk s offline_chunk
 offline_is_chunk s = record { place = refl; multiple = zero-mod s.ws_min; blocks = tt }

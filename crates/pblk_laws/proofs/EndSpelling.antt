@@ -1,5 +1,5 @@
 -- End records: what is spelled is read, and what is read was spelled.
-use Rattle.std.proofs.Common.{◌≡◌, ℕ, ◌+◌, ◌-◌, ◌*◌, ◌^◌, ◌<◌, ◌≤◌, zero, suc, Bool, true, false, cond, Option, Some, None, List, [], ◌∷◌, ◌++◌, length, drop, refl, sym, ap, ◌∙◌, subst, arith}
+use Rattle.std.proofs.Common.{◌≡◌, ℕ, ◌+◌, ◌-◌, ◌*◌, ◌^◌, ◌<◌, ◌≤◌, Bool, true, false, cond, Option, Some, None, List, [], ◌∷◌, ◌++◌, length, drop, refl, sym, ap, ◌∙◌, subst, arith}
 use Rattle.std.specs.List.{AllByRecursion, flat_map}
 use Rattle.std.specs.Option.{option_and_then}
 use Rattle.std.specs.Str.{bytes_eq}
@@ -17,10 +17,13 @@ use Rattle.pblk_model.specs.Image.{Image, width}
 use Rattle.pblk_model.specs.StartRecord.{StartRecord, magic, written_run, have_meta}
 use Rattle.pblk_model.specs.EndRecord.{EndRecord, pair_bytes, end_bytes, pairs_in, end_in, read_end, end_of}
 use Rattle.pblk_laws.specs.EndBlocks.{FitsBytes, IsEndRecord, IsEndOf, AreEnd}
-use Rattle.pblk_laws.proofs.Lists.{all_append}
 use Rattle.pblk_model.proofs.LeastLengths.{end_len_least, sector_at_least}
 use Rattle.pblk_laws.proofs.Runs.{run_some, run_is}
-use Rattle.pblk_laws.proofs.Starts.{marked, marks_of, padded_length, AreBytes, byte_is, two, four, eight, some_zeros, ◌then◌}
+use Rattle.pblk_laws.proofs.Starts.{marked, marks_of, padded_length, AreBytes, two, four, eight, some_zeros, ◌then◌}
+use Rattle.lemmas.proofs.Lists.{all_append}
+use Rattle.lemmas.proofs.Numbers.{byte_is}
+use Rattle.lemmas.proofs.Tests.{data_within}
+use Rattle.pblk_model.proofs.EndRecordLemmas.{length-pairs_in, pairs_length}
 
 -- What stands at the fields' places.
 
@@ -82,11 +85,6 @@ marks_fit [] rest h = tt
 marks_fit (m ∷ ms) rest h =
     let parts = same_heads m (record { lba = from_le_bytes w64 (to_le_bytes w64 m.lba); position = from_le_bytes w64 (to_le_bytes w64 m.position) }) ms (pairs_in (length ms) (flat_map pair_bytes ms ++ rest)) h in
     (fits_of m _ _ parts.0 (eight_below m.lba) (eight_below m.position), marks_fit ms rest parts.1)
-
-length-pairs_in : (n : ℕ) (bytes : List ℕ) → length (pairs_in n bytes) ≡ n
-unfolding pairs_in
-length-pairs_in zero bytes = refl
-length-pairs_in (suc n) bytes = ap suc (length-pairs_in n (drop 16 bytes))
 
 pub record IsReadEnd (s : Shape) (line g seq : ℕ) (r : EndRecord) (bytes : List ℕ) : Type 0 where
   pub spelled : bytes ≡ end_bytes s r
@@ -172,18 +170,9 @@ end_written i line start r h =
 
 -- How long the spelling is, and that it is made of bytes.
 
-pairs_length : (pairs : List Mark) → length (flat_map pair_bytes pairs) ≡ 16 * length pairs
-pairs_length [] = refl
-pairs_length (m ∷ ms) = let rest : length (flat_map pair_bytes ms) ≡ 16 * length ms = pairs_length ms in omega arith
-
 pub end_spelled_length : (r : EndRecord) → length (end_spelled r) ≡ 32 + 16 * length r.pairs
 unfolding zeros
 end_spelled_length r = let pairs : length (flat_map pair_bytes r.pairs) ≡ 16 * length r.pairs = pairs_length r.pairs in omega arith
-
--- no more data blocks than lie between the records
-data_within : (b : Bool) (n m : ℕ) → m ≡ cond b 0 n → m ≤ n
-data_within true n m e = omega arith
-data_within false n m e = omega arith
 
 pub end_bytes_length : (s : Shape) (r : EndRecord) → IsAccepted s → IsEndRecord s r → length (end_bytes s r) ≡ end_len s r.width * s.sector
 end_bytes_length s r accepted fits =

@@ -17,11 +17,11 @@ use Rattle.pblk_model.specs.Contents.{later_start, head, is_borne, least_missing
 use Rattle.pblk_model.specs.History.{SectorWrite, after}
 use Rattle.pblk_laws.specs.StartBlocks.{AreStart}
 use Rattle.pblk_laws.specs.FilledLine.{IsFilledLine}
-use Rattle.pblk_laws.proofs.Lists.{all_at}
 use Rattle.pblk_laws.proofs.MarkNames.{named_sector, named_meta, named_pad}
 use Rattle.pblk_laws.proofs.Runs.{run_none}
 use Rattle.pblk_laws.proofs.Starts.{numbers, found_is}
 use Rattle.pblk_laws.proofs.FilledLists.{range_split, filter_map_range_none, filter_map_first, flat_map_first, record_of, records_of, records_length, records_by_place, missing_after, each_borne, each_counts, winner_is_last, after_length}
+use Rattle.lemmas.proofs.Parts.{all_get}
 
 -- an end record breaks off at a block that isn't written
 pub end_none : (i : Image) (line : ℕ) (start : StartRecord) (a : ℕ) → width i line * i.shape.clba - end_len i.shape (width i line) ≤ a
@@ -54,7 +54,7 @@ no_record i line start a not_full none = borne_by i line start a (block_at i lin
 module _ (i : Image) (start : StartRecord) (writes : List SectorWrite) (filled : IsFilledLine i start writes) where
   sector_record : (k : ℕ) (w : SectorWrite) → slice_get writes k ≡ Some w → record_at i 0 start (start_len i.shape + k) ≡ Some (record_of start.seq (start_len i.shape) k w)
   sector_record k w e =
-      let lba : w.lba < i.shape.capacity = all_at (λ (v : SectorWrite). v.lba < i.shape.capacity) writes k w filled.lbas e in
+      let lba : w.lba < i.shape.capacity = all_get (λ (v : SectorWrite). v.lba < i.shape.capacity) writes k w filled.lbas e in
       own_mark i 0 start (start_len i.shape + k) (record { sector = w.sector; mark = sector_mark w.lba k }) filled.not_full (filled.data_blocks k w e)
       ∙ ap (option_map (λ lba. record { line = 0; seq = start.seq; at = start_len i.shape + k; position = k; lba = lba; sector = w.sector })) (named_sector i.shape (sector_mark w.lba k) lba)
 
@@ -68,7 +68,7 @@ module _ (i : Image) (start : StartRecord) (writes : List SectorWrite) (filled :
       let are : AreStart i 0 start blocks = found.2 in
       no_record i 0 start a filled.not_full (λ b written.
       let there : slice_get blocks a ≡ Some b = sym (are.written a (omega arith)) ∙ written in
-      let mark : b.mark ≡ meta_mark start.seq = all_at (λ (x : Block). x.mark ≡ meta_mark start.seq) blocks a b are.marks there in
+      let mark : b.mark ≡ meta_mark start.seq = all_get (λ (x : Block). x.mark ≡ meta_mark start.seq) blocks a b are.marks there in
       ap (named i.shape) mark ∙ named_meta i.shape start.seq filled.capacity)
 
   pad_record : (a : ℕ) → start_len i.shape + length writes ≤ a → a < width i 0 * i.shape.clba → record_at i 0 start a ≡ None

@@ -14,13 +14,15 @@ use Rattle.pblk_model.specs.Image.{Image, IsFit, is_online_in, line_chunks, widt
 use Rattle.pblk_model.specs.StartRecord.{StartRecord, start_fits, start_bytes, read_start, start_of}
 use Rattle.pblk_model.specs.History.{SectorWrite}
 use Rattle.pblk_laws.specs.FilledLine.{IsFilledLine}
-use Rattle.pblk_laws.proofs.Lists.{all_take, all_replicate, all_get, all_filter, all_filter_map}
 use Rattle.pblk_laws.proofs.Shapes.{small, small_accepted}
 use Rattle.pblk_laws.proofs.BlankImages.{IsEmpty, no_block}
-use Rattle.pblk_laws.proofs.ChunkStep.{free_is_chunk}
 use Rattle.pblk_laws.proofs.Runs.{start_none}
 use Rattle.pblk_laws.proofs.Starts.{fields_fit, read_back, marked, found, start_bytes_length, start_bytes_are}
 use Rattle.pblk_laws.proofs.Filled.{end_none}
+use Rattle.lemmas.proofs.Lists.{all_replicated}
+use Rattle.lemmas.proofs.Maps.{all_filter, all_filter_map}
+use Rattle.lemmas.proofs.Parts.{all_dropped, all_get_some, all_taken}
+use Rattle.pblk_model.proofs.ChunkLemmas.{free_is_chunk}
 
 -- The start record and the sectors that spell it.
 
@@ -44,14 +46,9 @@ part_length : (k : ℕ) → k + 512 ≤ 2048 → length (part k) ≡ 512
 unfolding part
 part_length k h = simp (length-take, length-drop) (omega (arith, spelling_length))
 
-all_drop : {X : Type 0} (P : X → Type 0) (n : ℕ) (xs : List X) → AllByRecursion P xs → AllByRecursion P (drop n xs)
-all_drop P zero xs h = h
-all_drop P (suc n) [] h = tt
-all_drop P (suc n) (x ∷ xs) h = all_drop P n xs h.1
-
 part_bytes : (k : ℕ) → AllByRecursion (λ x. x < 256) (part k)
 unfolding part spelling
-part_bytes k = all_take (λ x. x < 256) 512 (drop k (start_bytes small first)) (all_drop (λ x. x < 256) k (start_bytes small first) (start_bytes_are small first))
+part_bytes k = all_taken (λ x. x < 256) 512 (drop k (start_bytes small first)) (all_dropped (λ x. x < 256) k (start_bytes small first) (start_bytes_are small first))
 
 split_off : (k j : ℕ) → k + 512 ≡ j → part k ++ drop j spelling ≡ drop k spelling
 unfolding part
@@ -119,7 +116,7 @@ starts = found image 0 first meta_blocks refl front_written read_first (marked 1
 
 free_empty : (n k : ℕ) → IfSome (slice_get (replicate n free_chunk) k) IsEmpty
 unfolding IsEmpty
-free_empty n k = all_get IsEmpty (replicate n free_chunk) k (all_replicate IsEmpty n free_chunk refl)
+free_empty n k = all_get_some IsEmpty (replicate n free_chunk) k (all_replicated IsEmpty n free_chunk refl)
 
 pub others_empty : (k : ℕ) → AllByRecursion IsEmpty (line_chunks image (suc k))
 others_empty k = all_filter IsEmpty (λ c. is_online_in c.state) _
@@ -129,7 +126,7 @@ others_empty k = all_filter IsEmpty (λ c. is_online_in c.state) _
 others : (line : ℕ) → 0 < line → line < 16 → start_of image line ≡ None
 others zero some h = absurd (omega arith)
 others (suc k) some h = start_none image (suc k) 0 (lit< tt) (no_block (slice_get (line_chunks image (suc k)) (column_of small (width image (suc k)) 0)) (block_of small (width image (suc k)) 0)
-    (all_get IsEmpty (line_chunks image (suc k)) (column_of small (width image (suc k)) 0) (others_empty k)))
+    (all_get_some IsEmpty (line_chunks image (suc k)) (column_of small (width image (suc k)) 0) (others_empty k)))
 
 -- Line 0 past the sector.
 
@@ -174,14 +171,14 @@ meta_is k h = record { size = part_length k h; bytes = part_bytes k; lba = lit< 
 
 data_is : IsBlock small (record { sector = some_sector; mark = sector_mark 5 0 })
 unfolding some_sector
-data_is = record { size = length-replicate {A = ℕ} 512 7; bytes = all_replicate (λ x. x < 256) 512 7 (lit< tt); lba = lit< tt; position = lit< tt }
+data_is = record { size = length-replicate {A = ℕ} 512 7; bytes = all_replicated (λ x. x < 256) 512 7 (lit< tt); lba = lit< tt; position = lit< tt }
 
 pad_is : IsBlock small pad
 unfolding pad_sector zeros
-pad_is = record { size = length-replicate {A = ℕ} 512 0; bytes = all_replicate (λ x. x < 256) 512 0 (lit< tt); lba = lit< tt; position = lit< tt }
+pad_is = record { size = length-replicate {A = ℕ} 512 0; bytes = all_replicated (λ x. x < 256) 512 0 (lit< tt); lba = lit< tt; position = lit< tt }
 
 free_units : (n : ℕ) → AllByRecursion (IsChunk small) (replicate n free_chunk)
-free_units n = all_replicate (IsChunk small) n free_chunk (free_is_chunk small)
+free_units n = all_replicated (IsChunk small) n free_chunk (free_is_chunk small)
 
 meta_chunk : IsChunk small (record { state = Open; blocks = meta_blocks })
 meta_chunk = record {

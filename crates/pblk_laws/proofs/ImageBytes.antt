@@ -1,17 +1,16 @@
 -- A geometry and a descriptor are read back from their spellings.
-use Rattle.std.proofs.Common.{◌≡◌, ℕ, ◌+◌, ◌^◌, ◌<◌, true, eqb, Some, None, Ok, Err, List, [], ◌∷◌, ◌++◌, length, refl, ap, ◌∙◌, arith, length-append}
+use Rattle.std.proofs.Common.{◌≡◌, ℕ, ◌+◌, ◌^◌, ◌<◌, true, eqb, None, Ok, Err, List, [], ◌∷◌, ◌++◌, length, refl, ap, ◌∙◌, arith}
 use Rattle.std.specs.Int.{w8, from_le_bytes}
-use Rattle.std.proofs.lemmas.List.{length-replicate}
 use Rattle.std.proofs.lemmas.Bool.{cond-true, eq-eqb}
 use Rattle.std.proofs.lemmas.Nat.{from_le_bytes-to_le_bytes_2, from_le_bytes-to_le_bytes_4, from_le_bytes-to_le_bytes_8}
 use Rattle.pblk_model.specs.declared.shape.GeometryErr.TheVariants.{Length}
-use Rattle.pblk_model.specs.declared.chunk.ChunkState.{ChunkState}
-use Rattle.pblk_model.specs.declared.chunk.ChunkState.TheVariants.{Free, Open, Closed, Offline}
 use Rattle.pblk_model.specs.declared.chunk.DescriptorErr.TheVariants as errors
 use Rattle.pblk_model.specs.Bytes.{le16, le32, zeros}
 use Rattle.pblk_model.specs.Geometry.{Geometry, geometry_in, geometry_bytes, geometry_refusal, unless_refused, read_geometry}
-use Rattle.pblk_model.specs.Descriptor.{Descriptor, spelled, state_code, state_in, descriptor_in, pointer_holds, unless_astray, of_state, read_descriptor}
+use Rattle.pblk_model.specs.Descriptor.{Descriptor, spelled, descriptor_in, pointer_holds, unless_astray, of_state, read_descriptor}
 use Rattle.pblk_laws.specs.GeometryFields.{FitsFields}
+use Rattle.pblk_model.proofs.BytesLemmas.{with_zeros}
+use Rattle.pblk_model.proofs.DescriptorLemmas.{state_back}
 
 byte_back : (n : ℕ) → n < 256 → from_le_bytes w8 (n ∷ []) ≡ n
 byte_back n h = omega arith
@@ -78,13 +77,6 @@ front_length : (g : Geometry) → length (front g) ≡ 148
 unfolding zeros
 front_length g = refl
 
-zeros_length : (n : ℕ) → length (zeros n) ≡ n
-unfolding zeros
-zeros_length n = length-replicate n 0
-
-with_zeros : (xs : List ℕ) (k n : ℕ) → length xs ≡ k → length (xs ++ zeros n) ≡ k + n
-with_zeros xs k n h = omega (arith, length-append xs (zeros n), zeros_length n)
-
 pub geometry_length : (g : Geometry) → length (geometry_bytes g) ≡ 4096
 geometry_length g = with_zeros (front g) 148 3948 (front_length g)
 
@@ -98,12 +90,6 @@ geometry_back g fits accepted = read_from (geometry_bytes g) g (geometry_length 
 
 -- A descriptor.
 
-pub state_back : (s : ChunkState) → state_in (state_code s) ≡ Some s
-state_back Free = refl
-state_back Closed = refl
-state_back Open = refl
-state_back Offline = refl
-
 same_descriptor : (d : Descriptor) (wear slba cnlb wp : ℕ) → wear ≡ d.wear → slba ≡ d.slba → cnlb ≡ d.cnlb → wp ≡ d.wp
     → ◌≡◌ {A = Descriptor} (record { state = d.state; wear = wear; slba = slba; cnlb = cnlb; wp = wp }) d
 same_descriptor d wear slba cnlb wp p q r s = rw (p, q, r, s) refl
@@ -115,10 +101,6 @@ descriptor_in_back d wear slba cnlb wp = same_descriptor d _ _ _ _
     (from_le_bytes-to_le_bytes_8 d.slba slba)
     (from_le_bytes-to_le_bytes_8 d.cnlb cnlb)
     (from_le_bytes-to_le_bytes_8 d.wp wp)
-
-pub descriptor_length : (d : Descriptor) → length (spelled d) ≡ 32
-unfolding zeros
-descriptor_length d = refl
 
 pub descriptor_back : (d : Descriptor) → d.wear < 256 → d.slba < 2 ^ 64 → d.cnlb < 2 ^ 64 → d.wp < 2 ^ 64 → pointer_holds d.state d.cnlb d.wp ≡ true
     → read_descriptor (spelled d) ≡ Ok d

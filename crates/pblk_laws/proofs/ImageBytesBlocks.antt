@@ -2,7 +2,7 @@
 use Rattle.std.proofs.Common.{◌≡◌, ℕ, zero, suc, ◌+◌, ◌-◌, ◌*◌, ◌^◌, ◌<◌, ◌≤◌, Some, List, [], ◌∷◌, ◌++◌, map, length, length-drop, take, drop, get_or, refl, sym, ap, ◌∙◌, subst, arith, take-add}
 use Rattle.std.specs.Int.{w64, from_le_bytes}
 use Rattle.std.specs.List.{AllByRecursion, flat_map, range_with_len, slice_get, slice_range}
-use Rattle.std.proofs.lemmas.List.{drop-drop, length-take-le}
+use Rattle.std.proofs.lemmas.List.{length-take-le}
 use Rattle.std.proofs.lemmas.Nat.{le_bytes_8}
 use Rattle.std.proofs.lemmas.Option.{none-some, same_Some}
 use Rattle.pblk_model.specs.declared.shape.Shape.{Shape}
@@ -10,7 +10,7 @@ use Rattle.pblk_model.specs.Bytes.{le64, number_at}
 use Rattle.pblk_model.specs.Chunk.{Block, IsBlock}
 use Rattle.pblk_model.specs.ImageFile.{block_bytes}
 use Rattle.pblk_laws.proofs.EndSpelling.{eight_below}
-use Rattle.pblk_laws.proofs.Lists.{all_take}
+use Rattle.lemmas.proofs.Parts.{all_taken, joined}
 
 abbrev pub AreBytes : List ℕ → Type 0
 AreBytes b = AllByRecursion (λ x. x < 256) b
@@ -32,7 +32,7 @@ slice_size b at within = length-take-le 8 (drop at b) (omega (arith, length-drop
 
 number_back : (b : List ℕ) (at : ℕ) → AreBytes b → at + 8 ≤ length b → le64 (number_at w64 at b) ≡ take 8 (drop at b)
 number_back b at h within =
-    let eight : AreBytes (take 8 (drop at b)) = all_take (λ x. x < 256) 8 (drop at b) (bytes_drop at b h) in
+    let eight : AreBytes (take 8 (drop at b)) = all_taken (λ x. x < 256) 8 (drop at b) (bytes_drop at b h) in
     le_bytes_8 (take 8 (drop at b)) (number_at w64 at b) (slice_size b at within) (λ i. each_byte (take 8 (drop at b)) i eight) refl
 
 number_below : (b : List ℕ) (at : ℕ) → AreBytes b → at + 8 ≤ length b → number_at w64 at b < 2 ^ 64
@@ -83,7 +83,7 @@ blocks_are s (suc n) b h within =
     let rest : (size + 16) * n ≤ length (drop (size + 16) b) = omega (arith, length-drop (size + 16) b) in (
       record {
         size = length-take-le size b (omega arith);
-        bytes = all_take (λ x. x < 256) size b h;
+        bytes = all_taken (λ x. x < 256) size b h;
         lba = number_below b size h (omega arith);
         position = number_below b (size + 8) h (omega arith);
       },
@@ -106,14 +106,6 @@ get_of_range f a (suc n) (suc k) x is =
     ap f here ∙ get_of_range f (a + 1) n k x is
 
 -- Pieces that stand side by side.
-
-joined : (b : List ℕ) (from at to : ℕ) → from ≤ at → at ≤ to → slice_range b from at ++ slice_range b at to ≡ slice_range b from to
-joined b from at to p q =
-    let whole : (at - from) + (to - at) ≡ to - from = omega arith in
-    let start : from + (at - from) ≡ at = omega arith in
-    ap (λ n. slice_range b from at ++ take (to - at) (drop n b)) (sym start)
-    ∙ (ap (λ xs. slice_range b from at ++ take (to - at) xs) (sym (drop-drop (at - from) from b))
-    ∙ (sym (take-add (at - from) (to - at) (drop from b)) ∙ ap (λ n. take n (drop from b)) whole))
 
 nothing : (b : List ℕ) (n : ℕ) → [] ≡ slice_range b n n
 nothing b n =

@@ -1,9 +1,9 @@
 -- The drive that bytes are an image of, made chunk by chunk.
-use Rattle.std.proofs.Common.{◌≡◌, ℕ, zero, suc, ◌+◌, ◌-◌, ◌*◌, ◌/◌, ◌%◌, ◌<◌, ◌≤◌, Some, None, Ok, List, [], ◌∷◌, map, length, length-drop, take, drop, refl, sym, ap, ◌∙◌, subst, arith}
+use Rattle.std.proofs.Common.{◌≡◌, ℕ, zero, suc, ◌+◌, ◌-◌, ◌*◌, ◌/◌, ◌%◌, ◌<◌, ◌≤◌, Some, None, Ok, List, map, length, length-drop, take, drop, refl, sym, ap, ◌∙◌, subst, arith}
 use Rattle.std.specs.Int.{w8}
 use Rattle.std.specs.List.{AllByRecursion, flat_map, range_with_len, slice_get, slice_range, sum_by}
-use Rattle.std.proofs.lemmas.List.{length-map, map-id}
-use Rattle.std.proofs.lemmas.List.FromFn.{length-range_with_len, sum_by-map-range_with_len_more}
+use Rattle.std.proofs.lemmas.List.{length-map}
+use Rattle.std.proofs.lemmas.List.FromFn.{length-range_with_len}
 use Rattle.std.proofs.lemmas.Nat.{div-mul-add, mod-mul-add}
 use Rattle.std.proofs.lemmas.Option.{slice_get_within}
 use Rattle.std.proofs.Math.Nat.{mul-add, mul-le-mul_right}
@@ -17,7 +17,8 @@ use Rattle.pblk_model.specs.ImageFile.{StoredChunk, Drive, IsImage, IsImageOf, b
 use Rattle.pblk_model.specs.Shape.{units}
 use Rattle.pblk_laws.proofs.ImageBytesBlocks.{AreBytes, Spans, all_of_range, blocks_are, blocks_back, blocks_count, blocks_in, bytes_drop, get_of_range, spans_range}
 use Rattle.pblk_laws.proofs.ImageBytesHeld.{IsTaken, row_is, state_of, taken_of}
-use Rattle.pblk_laws.proofs.ImageBytesPieces.{all_weaker}
+use Rattle.lemmas.proofs.Lists.{all_weaker}
+use Rattle.lemmas.proofs.Maps.{all_mapped, sum_more}
 
 -- The drive.
 
@@ -45,11 +46,6 @@ drive_in b = record {
 }
 
 -- Where its blocks stand.
-
-sum_more : (g : ℕ → ℕ) (n : ℕ) → sum_by g (range_with_len 0 (n + 1)) ≡ sum_by g (range_with_len 0 n) + g n
-sum_more g n =
-    sym (ap (sum_by g) (map-id (range_with_len 0 (n + 1))))
-    ∙ (sum_by-map-range_with_len_more g (λ x. x) 0 n n (omega arith) ∙ ap (λ xs. sum_by g xs + g n) (map-id (range_with_len 0 n)))
 
 blocks_next : (b : List ℕ) (n : ℕ) → blocks_at b (n + 1) ≡ blocks_at b n + ((shape_at b).sector + 16) * pointer_at b n
 blocks_next b n =
@@ -153,10 +149,6 @@ unit_lengths b = all_of_range (λ (kept : List StoredChunk). length kept ≡ (ge
 units_length : (b : List ℕ) → length (drive_in b).units ≡ units (shape_at b)
 units_length b = length-map (range_with_len 0 (units (shape_at b))) (unit_in b) ∙ length-range_with_len 0 (units (shape_at b))
 
-all_map : {X Y : Type 0} (P : Y → Type 0) (f : X → Y) (xs : List X) → AllByRecursion (λ x. P (f x)) xs → AllByRecursion P (map f xs)
-all_map P f [] h = tt
-all_map P f (x ∷ xs) h = (h.0, all_map P f xs h.1)
-
 drive_fits : (b : List ℕ) → AreBytes b → IsTaken b → IsFit (image_of (drive_in b))
 drive_fits b bytes taken =
     let s = shape_at b in
@@ -164,11 +156,11 @@ drive_fits b bytes taken =
     let chunk : StoredChunk → Chunk = λ k. k.chunk in
     record {
       units = length-map us (map chunk) ∙ units_length b;
-      chunks = all_map (λ (unit : List Chunk). length unit ≡ s.chunks) (map chunk) us
+      chunks = all_mapped (λ (unit : List Chunk). length unit ≡ s.chunks) (map chunk) us
           (all_weaker (λ (kept : List StoredChunk). length kept ≡ s.chunks) (λ (kept : List StoredChunk). length (map chunk kept) ≡ s.chunks) us (λ kept count. length-map kept chunk ∙ count) (unit_lengths b));
-      each = all_map (AllByRecursion (IsChunk s)) (map chunk) us
+      each = all_mapped (AllByRecursion (IsChunk s)) (map chunk) us
           (all_weaker (AllByRecursion (λ (k : StoredChunk). IsChunk s k.chunk)) (λ (kept : List StoredChunk). AllByRecursion (IsChunk s) (map chunk kept)) us
-          (λ kept all. all_map (IsChunk s) chunk kept all) (units_fit b bytes taken));
+          (λ kept all. all_mapped (IsChunk s) chunk kept all) (units_fit b bytes taken));
     }
 
 -- Its descriptors.

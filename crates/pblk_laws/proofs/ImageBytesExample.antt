@@ -9,8 +9,8 @@ use Rattle.pblk_model.specs.Geometry.{Geometry, geometry_refusal}
 use Rattle.pblk_model.specs.Image.{IsFit}
 use Rattle.pblk_model.specs.ImageFile.{StoredChunk, Drive, shape_of, image_of, blocks_bytes}
 use Rattle.pblk_laws.specs.GeometryFields.{FitsFields}
-use Rattle.pblk_laws.proofs.Lists.{all_replicate}
 use Rattle.pblk_laws.proofs.Shapes.{small, small_accepted}
+use Rattle.lemmas.proofs.Lists.{all_replicated}
 
 abbrev pub geometry : Geometry
 geometry = record {
@@ -88,7 +88,7 @@ sector_length n = length-replicate n 7
 
 sector_bytes : (n : ℕ) → AllByRecursion (λ x. x < 256) (sector n)
 unfolding sector
-sector_bytes n = all_replicate (λ x. x < 256) n 7 (lit< tt)
+sector_bytes n = all_replicated (λ x. x < 256) n 7 (lit< tt)
 
 block_is : IsBlock small block
 block_is = record { size = sector_length 512; bytes = sector_bytes 512; lba = lit< tt; position = lit< tt }
@@ -104,15 +104,15 @@ drive_fits = record {
   units = refl;
   chunks = (refl, (refl, (refl, (refl, tt))));
   each = (
-    (written_is, all_replicate (IsChunk small) 15 free_chunk free_is),
-    all_replicate (AllByRecursion (IsChunk small)) 3 (replicate 16 free_chunk) (all_replicate (IsChunk small) 16 free_chunk free_is),
+    (written_is, all_replicated (IsChunk small) 15 free_chunk free_is),
+    all_replicated (AllByRecursion (IsChunk small)) 3 (replicate 16 free_chunk) (all_replicated (IsChunk small) 16 free_chunk free_is),
   );
 }
 
 pub drive_wears : AllByRecursion (AllByRecursion (λ k. k.wear < 256)) drive.units
 drive_wears = (
-  (lit< tt, all_replicate (λ (k : StoredChunk). k.wear < 256) 15 untouched (lit< tt)),
-  all_replicate (AllByRecursion (λ (k : StoredChunk). k.wear < 256)) 3 (replicate 16 untouched) (all_replicate (λ (k : StoredChunk). k.wear < 256) 16 untouched (lit< tt)),
+  (lit< tt, all_replicated (λ (k : StoredChunk). k.wear < 256) 15 untouched (lit< tt)),
+  all_replicated (AllByRecursion (λ (k : StoredChunk). k.wear < 256)) 3 (replicate 16 untouched) (all_replicated (λ (k : StoredChunk). k.wear < 256) 16 untouched (lit< tt)),
 )
 
 pub drive_blocks : blocks_bytes drive ≡ [] → ⊥

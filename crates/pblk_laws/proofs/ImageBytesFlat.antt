@@ -5,8 +5,8 @@ use Rattle.std.proofs.lemmas.Grind.{flat_map-append}
 use Rattle.std.proofs.lemmas.List.Sums.{sum_by-cons}
 use Rattle.std.proofs.lemmas.Nat.{div-add-mod', div_below, mod_below}
 use Rattle.std.proofs.lemmas.Option.{none-some, same_Some, slice_get-get_or}
-use Rattle.std.proofs.Math.Nat.{mul-add}
-use Rattle.pblk_laws.proofs.ImageBytesPieces.{all_at}
+use Rattle.lemmas.proofs.Lists.{all_append}
+use Rattle.lemmas.proofs.Parts.{all_get, get_more, get_right}
 
 abbrev pub flat : {X : Type 0} → List (List X) → List X
 flat xss = flat_map (λ xs. xs) xss
@@ -22,24 +22,9 @@ length_of_flat n (xs ∷ xss) all =
     let rest : length (flat xss) ≡ length xss * n = length_of_flat n xss all.1 in
     omega (arith, length-append xs (flat xss))
 
-all_more : {X : Type 0} (P : X → Type 0) (xs ys : List X) → AllByRecursion P xs → AllByRecursion P ys → AllByRecursion P (xs ++ ys)
-all_more P [] ys h k = k
-all_more P (x ∷ xs) ys h k = (h.0, all_more P xs ys h.1 k)
-
 pub all_flat : {X : Type 0} (P : X → Type 0) (xss : List (List X)) → AllByRecursion (AllByRecursion P) xss → AllByRecursion P (flat xss)
 all_flat P [] h = tt
-all_flat P (xs ∷ xss) h = all_more P xs (flat xss) h.0 (all_flat P xss h.1)
-
-get_left : {X : Type 0} (xs ys : List X) (i : ℕ) (x : X) → slice_get xs i ≡ Some x → slice_get (xs ++ ys) i ≡ Some x
-get_left [] ys i x is = absurd (none-some x is)
-get_left (y ∷ xs) ys zero x is = is
-get_left (y ∷ xs) ys (suc i) x is = get_left xs ys i x is
-
-get_right : {X : Type 0} (xs ys : List X) (i : ℕ) → slice_get (xs ++ ys) (length xs + i) ≡ slice_get ys i
-get_right [] ys i = ap (slice_get ys) (omega arith)
-get_right (x ∷ xs) ys i =
-    let next : length (x ∷ xs) + i ≡ suc (length xs + i) = omega arith in
-    ap (slice_get (x ∷ xs ++ ys)) next ∙ get_right xs ys i
+all_flat P (xs ∷ xss) h = all_append P xs (flat xss) h.0 (all_flat P xss h.1)
 
 flat_get : {X : Type 0} (n : ℕ) (xss : List (List X)) (u j : ℕ) (xs : List X) (x : X) → AllByRecursion (λ xs. length xs ≡ n) xss → slice_get xss u ≡ Some xs → slice_get xs j ≡ Some x
     → slice_get (flat xss) (u * n + j) ≡ Some x
@@ -47,7 +32,7 @@ flat_get n [] u j xs x all list is = absurd (none-some xs list)
 flat_get n (ys ∷ xss) zero j xs x all list is =
     let same : ys ≡ xs = same_Some ys xs list in
     let place : zero * n + j ≡ j = omega arith in
-    ap (slice_get (ys ++ flat xss)) place ∙ get_left ys (flat xss) j x (ap (λ zs. slice_get zs j) same ∙ is)
+    ap (slice_get (ys ++ flat xss)) place ∙ get_more ys (flat xss) j x (ap (λ zs. slice_get zs j) same ∙ is)
 flat_get n (ys ∷ xss) (suc u) j xs x all list is =
     let first : length ys ≡ n = all.0 in
     let place : suc u * n + j ≡ length ys + (u * n + j) = omega arith in
@@ -65,7 +50,7 @@ flat_at c xss n x all some inside is =
     let low : n / c < length xss = div_below n c (length xss) some inside in
     let list = get_or xss (n / c) [] in
     let there : slice_get xss (n / c) ≡ Some list = slice_get-get_or xss (n / c) [] low in
-    let count : length list ≡ c = all_at (λ xs. length xs ≡ c) xss (n / c) list all there in
+    let count : length list ≡ c = all_get (λ xs. length xs ≡ c) xss (n / c) list all there in
     let within : n % c < length list = subst (λ m. n % c < m) (sym count) (mod_below n c some) in
     let found : slice_get list (n % c) ≡ Some (get_or list (n % c) x) = slice_get-get_or list (n % c) x within in
     let place : n / c * c + n % c ≡ n = div-add-mod' n c in
@@ -87,15 +72,3 @@ sum_from g f a (x ∷ xs) each =
 
 pub sum_of_range : {X : Type 0} (g : X → ℕ) (f : ℕ → ℕ) (xs : List X) → ((n : ℕ) (x : X) → slice_get xs n ≡ Some x → f n ≡ g x) → sum_by f (range_with_len 0 (length xs)) ≡ sum_by g xs
 sum_of_range g f xs each = sum_from g f 0 xs (λ n x is. let same : 0 + n ≡ n = omega arith in ap f same ∙ each n x is)
-
-pub length_of_sum : {X : Type 0} (f : X → List ℕ) (m : ℕ) (g : X → ℕ) (xs : List X) → AllByRecursion (λ x. length (f x) ≡ m * g x) xs → length (flat_map f xs) ≡ m * sum_by g xs
-length_of_sum f m g [] all =
-    let none : sum_by g [] ≡ 0 = refl in
-    let nothing : m * sum_by g [] ≡ m * 0 = ap (λ n. m * n) none in
-    omega arith
-length_of_sum f m g (x ∷ xs) all =
-    let first : length (f x) ≡ m * g x = all.0 in
-    let rest : length (flat_map f xs) ≡ m * sum_by g xs = length_of_sum f m g xs all.1 in
-    let sum : m * sum_by g (x ∷ xs) ≡ m * (g x + sum_by g xs) = ap (λ n. m * n) (sum_by-cons g x xs) in
-    let both : m * (g x + sum_by g xs) ≡ m * g x + m * sum_by g xs = mul-add m (g x) (sum_by g xs) in
-    omega (arith, length-append (f x) (flat_map f xs))

@@ -11,8 +11,9 @@ use Rattle.pblk_model.specs.Chunk.{Block, IsBlock, IsChunk, pointer}
 use Rattle.pblk_model.specs.Descriptor.{Descriptor, read_descriptor}
 use Rattle.pblk_model.specs.Geometry.{Geometry}
 use Rattle.pblk_model.specs.ImageFile.{StoredChunk, Drive, IsImage, image_of, shape_of, descriptor_of, block_bytes, blocks_bytes}
-use Rattle.pblk_laws.proofs.ImageBytesPieces.{all_at, cut, Paired, paired_from, cut_flat}
+use Rattle.pblk_laws.proofs.ImageBytesPieces.{cut, Paired, paired_from, cut_flat}
 use Rattle.pblk_laws.proofs.ImageBytesRead.{HasUnits, units_of, chunk_is}
+use Rattle.lemmas.proofs.Parts.{all_get}
 
 le64_same : (m n : ℕ) → m < 2 ^ 64 → n < 2 ^ 64 → le64 m ≡ le64 n → m ≡ n
 le64_same m n h k e = sym (from_le_bytes-to_le_bytes_8 m h) ∙ (ap (number_at w64 0) e ∙ from_le_bytes-to_le_bytes_8 n k)
@@ -102,8 +103,8 @@ alike_drives bytes d e p q =
 blocks_paired : (d e : Drive) (a b : StoredChunk) → d.sector ≡ e.sector → IsChunk (shape_of d) a.chunk → IsChunk (shape_of e) b.chunk → pointer a.chunk ≡ pointer b.chunk
     → Paired (AreBlocks e.sector) a.chunk.blocks b.chunk.blocks
 blocks_paired d e a b same p q count = paired_from (AreBlocks e.sector) a.chunk.blocks b.chunk.blocks count (λ k x y i j.
-    let left : IsBlock (shape_of d) x = all_at (IsBlock (shape_of d)) a.chunk.blocks k x p.blocks i in
-    let right : IsBlock (shape_of e) y = all_at (IsBlock (shape_of e)) b.chunk.blocks k y q.blocks j in
+    let left : IsBlock (shape_of d) x = all_get (IsBlock (shape_of d)) a.chunk.blocks k x p.blocks i in
+    let right : IsBlock (shape_of e) y = all_get (IsBlock (shape_of e)) b.chunk.blocks k y q.blocks j in
     record {
       left = left.size ∙ same;
       right = right.size;
@@ -127,8 +128,8 @@ units_paired bytes d e p q here there like =
     let left : HasUnits d = units_of d here in
     let right : HasUnits e = units_of e there in
     paired_from (Paired (AreAlike e.sector)) d.units e.units (left.count ∙ (ap (λ (g : Geometry). g.groups * g.pus) like.geometry ∙ sym right.count)) (λ unit us vs i k.
-    let count : length us ≡ d.geometry.chunks = all_at (λ (us : List StoredChunk). length us ≡ d.geometry.chunks) d.units unit us left.chunks i in
-    let other : length vs ≡ e.geometry.chunks = all_at (λ (vs : List StoredChunk). length vs ≡ e.geometry.chunks) e.units unit vs right.chunks k in
+    let count : length us ≡ d.geometry.chunks = all_get (λ (us : List StoredChunk). length us ≡ d.geometry.chunks) d.units unit us left.chunks i in
+    let other : length vs ≡ e.geometry.chunks = all_get (λ (vs : List StoredChunk). length vs ≡ e.geometry.chunks) e.units unit vs right.chunks k in
     paired_from (AreAlike e.sector) us vs (count ∙ (ap (λ (g : Geometry). g.chunks) like.geometry ∙ sym other)) (λ chunk a b j l.
     let same : descriptor_of d.geometry unit chunk a ≡ descriptor_of e.geometry unit chunk b = descriptors_same bytes d e unit chunk us vs a b p q like.geometry i j k l in
     record {

@@ -1,40 +1,14 @@
 -- Where the pieces of a list stand, and how a list is cut into them.
-use Rattle.std.proofs.Common.{◌≡◌, ℕ, ◌+◌, ◌-◌, ◌*◌, zero, suc, Some, List, [], ◌∷◌, ◌++◌, map, length, take, drop, refl, sym, ap, ◌∙◌, subst, arith, append_assoc, length-append}
-use Rattle.std.specs.List.{AllByRecursion, slice_get, slice_range, flat_map, enumerate_from}
+use Rattle.std.proofs.Common.{◌≡◌, ℕ, ◌+◌, ◌-◌, ◌*◌, zero, suc, Some, List, [], ◌∷◌, ◌++◌, map, length, take, drop, refl, sym, ap, ◌∙◌, arith, append_assoc, length-append}
+use Rattle.std.specs.List.{AllByRecursion, slice_get, slice_range, flat_map}
 use Rattle.std.proofs.lemmas.List.{take_at, drop_at}
 use Rattle.std.proofs.lemmas.Option.{none-some, same_Some}
 
 -- What holds of each element.
 
-pub all_of : {X : Type 0} (P : X → Type 0) (xs : List X) → ((x : X) → P x) → AllByRecursion P xs
-all_of P [] h = tt
-all_of P (x ∷ xs) h = (h x, all_of P xs h)
-
-pub all_weaker : {X : Type 0} (P Q : X → Type 0) (xs : List X) → ((x : X) → P x → Q x) → AllByRecursion P xs → AllByRecursion Q xs
-all_weaker P Q [] step h = tt
-all_weaker P Q (x ∷ xs) step h = (step x h.0, all_weaker P Q xs step h.1)
-
 pub all_unmap : {X Y : Type 0} (P : Y → Type 0) (f : X → Y) (xs : List X) → AllByRecursion P (map f xs) → AllByRecursion (λ x. P (f x)) xs
 all_unmap P f [] h = tt
 all_unmap P f (x ∷ xs) h = (h.0, all_unmap P f xs h.1)
-
-pub all_at : {X : Type 0} (P : X → Type 0) (xs : List X) (k : ℕ) (x : X) → AllByRecursion P xs → slice_get xs k ≡ Some x → P x
-all_at P [] k x h e = absurd (none-some x e)
-all_at P (y ∷ ys) zero x h e = subst P (same_Some y x e) h.0
-all_at P (y ∷ ys) (suc k) x h e = all_at P ys k x h.1 e
-
-pub all_enumerate : {X : Type 0} (P : ℕ × X → Type 0) (Q : X → Type 0) (n : ℕ) (xs : List X) → ((i : ℕ) (x : X) → Q x → P (i, x)) → AllByRecursion Q xs → AllByRecursion P (enumerate_from n xs)
-all_enumerate P Q n [] step h = tt
-all_enumerate P Q n (x ∷ xs) step h = (step n x h.0, all_enumerate P Q (n + 1) xs step h.1)
-
-pub enumerate_get : {X : Type 0} (n : ℕ) (xs : List X) (k : ℕ) (x : X) → slice_get xs k ≡ Some x → slice_get (enumerate_from n xs) k ≡ Some (n + k, x)
-enumerate_get n [] k x e = absurd (none-some x e)
-enumerate_get n (y ∷ ys) zero x e =
-    let place : n ≡ n + 0 = omega arith in
-    ap (λ z. Some (n, z)) (same_Some y x e) ∙ ap (λ i. Some (i, x)) place
-enumerate_get n (y ∷ ys) (suc k) x e =
-    let place : n + 1 + k ≡ n + suc k = omega arith in
-    enumerate_get (n + 1) ys k x e ∙ ap (λ i. Some (i, x)) place
 
 -- Pieces.
 
@@ -81,13 +55,6 @@ piece_of_flat f n (y ∷ ys) (suc k) x h e =
       is = ap (λ w. f y ++ w) p.is ∙ regroup (f y) p.before (f x) p.after;
       count = omega (arith, length-append (f y) p.before, p.count);
     }
-
-pub flat_length : {X : Type 0} (f : X → List ℕ) (n : ℕ) (xs : List X) → AllByRecursion (λ x. length (f x) ≡ n) xs → length (flat_map f xs) ≡ n * length xs
-flat_length f n [] h = omega arith
-flat_length f n (x ∷ xs) h =
-    let first : length (f x) ≡ n = h.0 in
-    let rest : length (flat_map f xs) ≡ n * length xs = flat_length f n xs h.1 in
-    omega (arith, length-append (f x) (flat_map f xs))
 
 -- Cuts.
 

@@ -1,10 +1,10 @@
 -- The spelling of a drive is an image of it.
-use Rattle.std.proofs.Common.{◌≡◌, ℕ, ◌+◌, ◌*◌, ◌/◌, ◌%◌, ◌^◌, ◌<◌, ◌≤◌, Bool, true, false, cond, not, eqb, ltb, leb, Option, Some, None, Ok, List, [], ◌∷◌, ◌++◌, map, length, refl, sym, ap, ◌∙◌, subst, arith, lit<, append_assoc, length-append}
+use Rattle.std.proofs.Common.{◌≡◌, ℕ, ◌+◌, ◌*◌, ◌/◌, ◌%◌, ◌^◌, ◌<◌, ◌≤◌, true, not, eqb, ltb, Some, None, Ok, List, ◌++◌, map, length, refl, sym, ap, ◌∙◌, subst, arith, lit<, append_assoc, length-append}
 use Rattle.std.proofs.lemmas.List.{length-map}
-use Rattle.std.proofs.lemmas.Bool.{and_parts, and_from, leb-true, eq-eqb, ne_eqb, not_from_false, lt-ltb, le-leb}
-use Rattle.std.proofs.lemmas.Option.{none-some, slice_get_within}
+use Rattle.std.proofs.lemmas.Bool.{and_from, leb-true, eq-eqb, ne_eqb, not_from_false, lt-ltb, le-leb}
+use Rattle.std.proofs.lemmas.Option.{slice_get_within}
 use Rattle.std.proofs.lemmas.List.FromFn.{length-enumerate_from}
-use Rattle.std.proofs.lemmas.Nat.{pow_pos, pow-add, mul-add-lt, div_below, mod_below}
+use Rattle.std.proofs.lemmas.Nat.{pow_pos, div_below, mod_below}
 use Rattle.std.proofs.Math.Nat.{pow-le-pow_right}
 use Rattle.std.specs.List.{AllByRecursion, slice_get, slice_range, flat_map, enumerate_from}
 use Rattle.pblk_model.specs.declared.chunk.ChunkState.{ChunkState}
@@ -13,32 +13,23 @@ use Rattle.pblk_model.specs.Accepted.{IsAccepted}
 use Rattle.pblk_model.specs.Chunk.{PointerFits, IsChunk, pointer}
 use Rattle.pblk_model.specs.Descriptor.{pointer_holds, read_descriptor}
 use Rattle.pblk_model.specs.Checks.{first_failing}
-use Rattle.pblk_model.specs.Geometry.{Geometry, geometry_bytes, geometry_refusal, field_checks, profile_checks, refusal_from, length_holds, packed}
+use Rattle.pblk_model.specs.Geometry.{Geometry, geometry_bytes, geometry_refusal, field_checks, profile_checks, packed}
 use Rattle.pblk_model.specs.Image.{IsFit}
 use Rattle.pblk_model.specs.ImageFile.{StoredChunk, Drive, shape_of, image_of, image_bytes, header_bytes, first_address, descriptor_of, descriptor_bytes, unit_descriptors, descriptors_bytes, blocks_bytes}
 use Rattle.pblk_laws.specs.GeometryFields.{FitsFields}
-use Rattle.pblk_laws.proofs.ImageBytes.{geometry_length, descriptor_back, descriptor_length}
-use Rattle.pblk_laws.proofs.ImageBytesPieces.{Piece, all_of, all_weaker, all_unmap, all_at, all_enumerate, enumerate_get, piece_in_piece, slice_of, slice_of_piece, piece_of_flat, flat_length}
+use Rattle.pblk_laws.proofs.ImageBytes.{geometry_length, descriptor_back}
+use Rattle.pblk_laws.proofs.ImageBytesPieces.{Piece, all_unmap, piece_in_piece, slice_of, slice_of_piece, piece_of_flat}
+use Rattle.lemmas.proofs.Lists.{all_everywhere, all_weaker}
+use Rattle.lemmas.proofs.Maps.{all_enumerate, enumerate_get, flat_length}
+use Rattle.lemmas.proofs.Numbers.{joined_below}
+use Rattle.lemmas.proofs.Parts.{all_get}
+use Rattle.pblk_model.proofs.ChecksLemmas.{none_fails}
+use Rattle.pblk_model.proofs.ChunkLemmas.{pointer_within}
+use Rattle.pblk_model.proofs.DescriptorLemmas.{descriptor_length}
+use Rattle.pblk_model.proofs.GeometryLemmas.{holds, none_refused}
+use Rattle.pblk_model.proofs.ImageFileLemmas.{header_length}
 
 -- What a geometry that isn't refused has.
-
-kept_none : (b : Bool) (o : Option ℕ) (n : ℕ) → cond b o (Some n) ≡ None → (b ≡ true) × (o ≡ None)
-kept_none true o n h = (refl, h)
-kept_none false o n h = absurd (none-some n (sym h))
-
-pub none_fails : (checks : List (ℕ × Bool)) → first_failing checks ≡ None → AllByRecursion (λ check. check.1 ≡ true) checks
-none_fails [] h = tt
-none_fails (check ∷ checks) h =
-    let both = kept_none check.1 (first_failing checks) check.0 h in
-    (both.0, none_fails checks both.1)
-
-pub no_refusal : (field rule : Option ℕ) → refusal_from field rule ≡ None → (field ≡ None) × (rule ≡ None)
-no_refusal None None h = (refl, refl)
-no_refusal None (Some n) h = cc
-no_refusal (Some n) rule h = cc
-
-holds : (bits count : ℕ) → length_holds bits count ≡ true → count ≤ 2 ^ bits
-holds bits count h = leb-true count (2 ^ bits) (and_parts (leb bits 32) (leb count (2 ^ bits)) h).1
 
 -- the lengths of an address's fields
 pub record HasLengths (g : Geometry) : Type 0 where
@@ -49,7 +40,7 @@ pub record HasLengths (g : Geometry) : Type 0 where
 
 pub lengths_of : (g : Geometry) → geometry_refusal g ≡ None → HasLengths g
 lengths_of g h =
-    let both = no_refusal (first_failing (field_checks g)) (first_failing (profile_checks g)) h in
+    let both = none_refused (first_failing (field_checks g)) (first_failing (profile_checks g)) h in
     let fields = none_fails (field_checks g) both.0 in
     let rules = none_fails (profile_checks g) both.1 in
     record {
@@ -61,21 +52,16 @@ lengths_of g h =
 
 -- Addresses.
 
-shifted : (a b j k : ℕ) → a < 2 ^ j → b < 2 ^ k → a * 2 ^ k + b < 2 ^ (j + k)
-shifted a b j k h i =
-    let below : a * 2 ^ k + b < 2 ^ k * 2 ^ j = mul-add-lt a (2 ^ k) b (2 ^ j) h i in
-    omega (arith, pow-add 2 j k)
-
 pub packs_below : (g : Geometry) (unit chunk : ℕ) → HasLengths g → unit < g.groups * g.pus → 0 < g.pus → chunk < g.chunks → packed g (first_address g unit chunk) < 2 ^ 64
 packs_below g unit chunk h inside some low =
     let group : unit / g.pus < g.groups = div_below unit g.pus g.groups some inside in
     let pu : unit % g.pus < g.pus = mod_below unit g.pus some in
     let first : unit / g.pus * 2 ^ g.pu_bits + unit % g.pus < 2 ^ (g.group_bits + g.pu_bits) =
-    shifted (unit / g.pus) (unit % g.pus) g.group_bits g.pu_bits (omega (arith, h.groups)) (omega (arith, h.pus)) in
+    joined_below (unit / g.pus) (unit % g.pus) g.group_bits g.pu_bits (omega (arith, h.groups)) (omega (arith, h.pus)) in
     let second : (unit / g.pus * 2 ^ g.pu_bits + unit % g.pus) * 2 ^ g.chunk_bits + chunk < 2 ^ (g.group_bits + g.pu_bits + g.chunk_bits) =
-    shifted (unit / g.pus * 2 ^ g.pu_bits + unit % g.pus) chunk (g.group_bits + g.pu_bits) g.chunk_bits first (omega (arith, h.chunks)) in
+    joined_below (unit / g.pus * 2 ^ g.pu_bits + unit % g.pus) chunk (g.group_bits + g.pu_bits) g.chunk_bits first (omega (arith, h.chunks)) in
     let third : packed g (first_address g unit chunk) < 2 ^ (g.group_bits + g.pu_bits + g.chunk_bits + g.block_bits) =
-    shifted ((unit / g.pus * 2 ^ g.pu_bits + unit % g.pus) * 2 ^ g.chunk_bits + chunk) 0 (g.group_bits + g.pu_bits + g.chunk_bits) g.block_bits second (pow_pos g.block_bits) in
+    joined_below ((unit / g.pus * 2 ^ g.pu_bits + unit % g.pus) * 2 ^ g.chunk_bits + chunk) 0 (g.group_bits + g.pu_bits + g.chunk_bits) g.block_bits second (pow_pos g.block_bits) in
     let whole : 2 ^ (g.group_bits + g.pu_bits + g.chunk_bits + g.block_bits) ≤ 2 ^ 64 = pow-le-pow_right (lit< tt) h.sum in
     omega (arith, third, whole)
 
@@ -86,12 +72,6 @@ pointer_from Free cnlb wp h = eq-eqb wp 0 h
 pointer_from Open cnlb wp h = and_from (not (eqb wp 0)) (ltb wp cnlb) (not_from_false (eqb wp 0) (ne_eqb wp 0 (λ e. omega (arith, h.0)))) (lt-ltb wp cnlb h.1)
 pointer_from Closed cnlb wp h = le-leb wp cnlb h
 pointer_from Offline cnlb wp h = eq-eqb wp 0 h
-
-pub pointer_within : (s : ChunkState) (cnlb wp : ℕ) → PointerFits s cnlb wp → wp ≤ cnlb
-pointer_within Free cnlb wp h = omega arith
-pointer_within Open cnlb wp h = omega (arith, h.1)
-pointer_within Closed cnlb wp h = h
-pointer_within Offline cnlb wp h = omega arith
 
 -- What a drive's units have.
 
@@ -114,14 +94,14 @@ units_of d fit = record {
 pub chunk_is : (d : Drive) (unit chunk : ℕ) (kept : List StoredChunk) (k : StoredChunk) → HasUnits d → slice_get d.units unit ≡ Some kept → slice_get kept chunk ≡ Some k
     → IsChunk (shape_of d) k.chunk
 chunk_is d unit chunk kept k h p q =
-    all_at (λ (k : StoredChunk). IsChunk (shape_of d) k.chunk) kept chunk k (all_at (AllByRecursion (λ (k : StoredChunk). IsChunk (shape_of d) k.chunk)) d.units unit kept h.each p) q
+    all_get (λ (k : StoredChunk). IsChunk (shape_of d) k.chunk) kept chunk k (all_get (AllByRecursion (λ (k : StoredChunk). IsChunk (shape_of d) k.chunk)) d.units unit kept h.each p) q
 
 -- Where the descriptors stand.
 
 unit_length : (g : Geometry) (unit : ℕ × List StoredChunk) → length unit.1 ≡ g.chunks → length (unit_descriptors g unit) ≡ 32 * g.chunks
 unit_length g unit h =
     let f : ℕ × StoredChunk → List ℕ = λ chunk. descriptor_bytes g unit.0 chunk.0 chunk.1 in
-    let all = all_of (λ chunk. length (f chunk) ≡ 32) (enumerate_from 0 unit.1) (λ chunk. descriptor_length (descriptor_of g unit.0 chunk.0 chunk.1)) in
+    let all = all_everywhere (λ chunk. length (f chunk) ≡ 32) (enumerate_from 0 unit.1) (λ chunk. descriptor_length (descriptor_of g unit.0 chunk.0 chunk.1)) in
     flat_length f 32 (enumerate_from 0 unit.1) all ∙ ap (λ n. 32 * n) (length-enumerate_from 0 unit.1 ∙ h)
 
 unit_lengths : (d : Drive) → HasUnits d → AllByRecursion (λ unit. length (unit_descriptors d.geometry unit) ≡ 32 * d.geometry.chunks) (enumerate_from 0 d.units)
@@ -145,7 +125,7 @@ descriptor_stands d unit chunk kept k h p q =
     let outer : Piece (descriptors_bytes d) (unit_descriptors g (0 + unit, kept)) (32 * g.chunks * unit) =
     piece_of_flat (unit_descriptors g) (32 * g.chunks) (enumerate_from 0 d.units) unit (0 + unit, kept) (unit_lengths d h) (enumerate_get 0 d.units unit kept p) in
     let inner : Piece (flat_map f (enumerate_from 0 kept)) (descriptor_bytes g unit (0 + chunk) k) (32 * chunk) =
-    piece_of_flat f 32 (enumerate_from 0 kept) chunk (0 + chunk, k) (all_of (λ chunk. length (f chunk) ≡ 32) (enumerate_from 0 kept) (λ chunk. descriptor_length (descriptor_of g unit chunk.0 chunk.1))) (enumerate_get 0 kept chunk k q) in
+    piece_of_flat f 32 (enumerate_from 0 kept) chunk (0 + chunk, k) (all_everywhere (λ chunk. length (f chunk) ≡ 32) (enumerate_from 0 kept) (λ chunk. descriptor_length (descriptor_of g unit chunk.0 chunk.1))) (enumerate_get 0 kept chunk k q) in
     let same_unit : 0 + unit ≡ unit = omega arith in
     let same_chunk : 0 + chunk ≡ chunk = omega arith in
     piece_in_piece (descriptors_bytes d) (unit_descriptors g (unit, kept)) (descriptor_bytes g unit chunk k) (32 * g.chunks * unit) (32 * chunk)
@@ -163,9 +143,6 @@ second_part h g d b n m e k = ap (λ w. slice_range w n m) (append_assoc (h ++ g
 pub third_part : (h g d b : List ℕ) (n : ℕ) → length h + length g ≡ n → Piece (h ++ g ++ d ++ b) d n
 third_part h g d b n e = record { before = h ++ g; after = b; is = refl; count = length-append h g ∙ e }
 
-pub header_length : (d : Drive) → length (header_bytes 1 d) ≡ 32
-header_length d = refl
-
 pub descriptor_read : (d : Drive) (unit chunk : ℕ) (kept : List StoredChunk) (k : StoredChunk) → FitsFields d.geometry → geometry_refusal d.geometry ≡ None → IsAccepted (shape_of d) → HasUnits d
     → AllByRecursion (AllByRecursion (λ k. k.wear < 256)) d.units → slice_get d.units unit ≡ Some kept → slice_get kept chunk ≡ Some k
     → read_descriptor (slice_range (image_bytes d) (4128 + 32 * (unit * d.geometry.chunks + chunk)) (4128 + 32 * (unit * d.geometry.chunks + chunk) + 32)) ≡ Ok (descriptor_of d.geometry unit chunk k)
@@ -173,9 +150,9 @@ descriptor_read d unit chunk kept k fields taken accepted h wears p q =
     let g = d.geometry in
     let inside : unit < length d.units = slice_get_within d.units unit kept p in
     let low : chunk < length kept = slice_get_within kept chunk k q in
-    let count : length kept ≡ g.chunks = all_at (λ (kept : List StoredChunk). length kept ≡ g.chunks) d.units unit kept h.chunks p in
+    let count : length kept ≡ g.chunks = all_get (λ (kept : List StoredChunk). length kept ≡ g.chunks) d.units unit kept h.chunks p in
     let is : IsChunk (shape_of d) k.chunk = chunk_is d unit chunk kept k h p q in
-    let wear : k.wear < 256 = all_at (λ (k : StoredChunk). k.wear < 256) kept chunk k (all_at (AllByRecursion (λ (k : StoredChunk). k.wear < 256)) d.units unit kept wears p) q in
+    let wear : k.wear < 256 = all_get (λ (k : StoredChunk). k.wear < 256) kept chunk k (all_get (AllByRecursion (λ (k : StoredChunk). k.wear < 256)) d.units unit kept wears p) q in
     let within : pointer k.chunk ≤ g.clba = pointer_within k.chunk.state g.clba (pointer k.chunk) is.place in
     let blocks : g.clba < 2 ^ 32 = fields.clba in
     let stands : Piece (image_bytes d) (descriptor_bytes g unit chunk k) (4128 + (32 * g.chunks * unit + 32 * chunk)) =

@@ -1,21 +1,17 @@
 -- The spelling of a drive is an image of it.
-use Rattle.std.proofs.Common.{◌≡◌, ℕ, ◌+◌, ◌*◌, ◌/◌, ◌%◌, ◌^◌, ◌<◌, ◌≤◌, ◌==◌, Bool, true, eqb, leb, Option, Some, None, List, [], ◌∷◌, ◌++◌, map, length, length-append, get_or, inl, inr, refl, sym, ap, ◌∙◌, subst, arith, lit<, append-nil, zero, suc}
-use Rattle.std.specs.Prelude.{◌||◌}
+use Rattle.std.proofs.Common.{◌≡◌, ℕ, ◌+◌, ◌*◌, ◌/◌, ◌%◌, ◌^◌, ◌<◌, ◌≤◌, Bool, true, eqb, leb, Option, Some, None, List, [], ◌∷◌, ◌++◌, map, length, length-append, get_or, inl, inr, refl, sym, ap, ◌∙◌, subst, arith, append-nil, zero, suc}
 use Rattle.std.specs.Int.{w32, w64}
 use Rattle.std.specs.List.{AllByRecursion, flat_map, range_with_len, slice_get, slice_range, sum_by}
 use Rattle.std.specs.Option.{is_some, option_map, option_map_or}
-use Rattle.std.proofs.lemmas.Bool.{and_from, cases_lt, cond-true, eq-eqb, le-leb, lt-ltb}
-use Rattle.std.proofs.lemmas.List.Folds.{list_any_at}
-use Rattle.std.proofs.lemmas.List.FromFn.{get_or-range_with_len}
+use Rattle.std.proofs.lemmas.Bool.{and_from, cond-true, eq-eqb, le-leb}
 use Rattle.std.proofs.lemmas.Nat.{div-add-mod', div_below, mod_below, from_le_bytes-to_le_bytes_4, from_le_bytes-to_le_bytes_8}
 use Rattle.std.proofs.lemmas.Option.{slice_get-get_or, slice_get_within}
-use Rattle.std.proofs.Math.Nat.{pow-le-pow_right}
 use Rattle.pblk_model.specs.declared.shape.Shape.{Shape}
 use Rattle.pblk_model.specs.declared.chunk.ChunkState.{ChunkState}
 use Rattle.pblk_model.specs.declared.image.ImageErr.{ImageErr}
 use Rattle.pblk_model.specs.declared.image.ImageErr.TheVariants as errors
-use Rattle.pblk_model.specs.Accepted.{IsAccepted, is_ring_power, settings_checks}
-use Rattle.pblk_model.specs.Bytes.{le64, number_at, zeros}
+use Rattle.pblk_model.specs.Accepted.{IsAccepted, settings_checks}
+use Rattle.pblk_model.specs.Bytes.{number_at, zeros}
 use Rattle.pblk_model.specs.Checks.{first_failing, first_refusal, unless}
 use Rattle.pblk_model.specs.Chunk.{Block, IsBlock, IsChunk, free_chunk, pointer}
 use Rattle.pblk_model.specs.Descriptor.{Descriptor, pointer_holds, spelled, state_code, state_in}
@@ -24,16 +20,19 @@ use Rattle.pblk_model.specs.Image.{IsFit}
 use Rattle.pblk_model.specs.ImageFile.{StoredChunk, Drive, IsImage, block_bytes, blocks_bytes, blocks_end, chunk_checks, chunk_refusal, chunks_at, descriptor_at, descriptor_bytes, descriptor_of, descriptors_bytes, descriptors_end, geometry_at, header_bytes, image_bytes, image_of, image_refusal, image_refusals, pointer_at, shape_at, shape_of}
 use Rattle.pblk_model.specs.Shape.{units}
 use Rattle.pblk_laws.specs.GeometryFields.{FitsFields}
-use Rattle.pblk_laws.proofs.ImageBytes.{descriptor_length, geometry_in_back, geometry_length, state_back}
-use Rattle.pblk_laws.proofs.ImageBytesFlat.{IsFlatAt, all_flat, flat, flat_at, flat_of_flat, length_of_flat, length_of_sum, sum_of_range}
-use Rattle.pblk_laws.proofs.ImageBytesPieces.{Piece, all_weaker, flat_length, piece_in_piece, slice_of, slice_of_piece}
-use Rattle.pblk_laws.proofs.ImageBytesRead.{HasUnits, chunk_is, descriptor_read, descriptor_stands, descriptors_length, header_length, lengths_of, packs_below, pointer_from, pointer_within, second_part, third_part, units_of}
+use Rattle.pblk_laws.proofs.ImageBytes.{geometry_in_back, geometry_length}
+use Rattle.pblk_laws.proofs.ImageBytesFlat.{IsFlatAt, all_flat, flat, flat_at, flat_of_flat, length_of_flat, sum_of_range}
+use Rattle.pblk_laws.proofs.ImageBytesPieces.{Piece, piece_in_piece, slice_of, slice_of_piece}
+use Rattle.pblk_laws.proofs.ImageBytesRead.{HasUnits, chunk_is, descriptor_read, descriptor_stands, descriptors_length, lengths_of, packs_below, pointer_from, second_part, third_part, units_of}
+use Rattle.lemmas.proofs.Lists.{all_weaker}
+use Rattle.lemmas.proofs.Maps.{flat_length, length_of_sum}
+use Rattle.pblk_model.proofs.AcceptedLemmas.{settings_pass}
+use Rattle.pblk_model.proofs.ChecksLemmas.{passes}
+use Rattle.pblk_model.proofs.ChunkLemmas.{pointer_within}
+use Rattle.pblk_model.proofs.DescriptorLemmas.{descriptor_length, state_back}
+use Rattle.pblk_model.proofs.ImageFileLemmas.{block_length, header_length}
 
 -- What holds passes.
-
-passes : (checks : List (ℕ × Bool)) → AllByRecursion (λ (check : ℕ × Bool). check.1 ≡ true) checks → first_failing checks ≡ None
-passes [] h = refl
-passes (check ∷ checks) h = cond-true check.1 (first_failing checks) (Some check.0) h.0 ∙ passes checks h.1
 
 all_none : {E : Type 0} (rs : List (Option E)) → AllByRecursion (λ r. r ≡ None) rs → first_refusal rs ≡ None
 all_none [] h = refl
@@ -41,41 +40,6 @@ all_none (r ∷ rs) h = ap (λ r. first_refusal (r ∷ rs)) h.0 ∙ all_none rs 
 
 held : {E : Type 0} (t : Bool) (e : E) → t ≡ true → unless t e ≡ None
 held t e h = cond-true t None (Some e) h
-
-below_15 : (n k : ℕ) → n ≡ 2 ^ k → n ≤ 16384 → k < 15
-below_15 n k is few = elim (cases_lt k 15) [
-  | inl h ↦ h
-  | inr h ↦ let more : 2 ^ 15 ≤ 2 ^ k = pow-le-pow_right (lit< tt) h in omega (arith, is, few, more)
-]
-
-ring_passes : (n k : ℕ) → n ≡ 2 ^ k → n ≤ 16384 → is_ring_power n ≡ true
-ring_passes n k is few =
-    let small = below_15 n k is few in
-    let at : get_or (range_with_len 0 15) k 0 ≡ k = omega (arith, get_or-range_with_len 0 15 k 0 small) in
-    list_any_at (λ j. n == 2 ^ j) (range_with_len 0 15) k 0 small (eq-eqb n _ (is ∙ ap (λ j. 2 ^ j) (sym at)))
-
-sector_passes : (s : Shape) → IsAccepted s → ((s.sector == 512) || (s.sector == 4096)) ≡ true
-sector_passes s accepted = elim accepted.target.sector [
-  | inl e ↦ subst (λ n. ((n == 512) || (n == 4096)) ≡ true) (sym e) refl
-  | inr e ↦ subst (λ n. ((n == 512) || (n == 4096)) ≡ true) (sym e) refl
-]
-
-settings_pass : (s : Shape) → IsAccepted s → first_failing (settings_checks s) ≡ None
-settings_pass s accepted =
-    let t = accepted.target in
-    passes (settings_checks s) (
-      sector_passes s accepted,
-      (
-        le-leb _ _ t.size,
-        (
-          le-leb _ _ t.room,
-          (
-            rw (le-leb _ _ t.some_capacity, lt-ltb _ _ t.capacity_number, le-leb _ _ t.spare) refl,
-            (rw (ring_passes s.ring t.ring_power.0 t.ring_power.1 t.ring_high, le-leb _ _ t.ring_low) refl, tt),
-          ),
-        ),
-      ),
-    )
 
 sector_fits : (s : Shape) → IsAccepted s → s.sector < 2 ^ 32
 sector_fits s accepted = elim accepted.target.sector [ inl e ↦ omega arith | inr e ↦ omega arith ]
@@ -217,12 +181,6 @@ pointers_sum d good h = sum_of_range (λ (k : StoredChunk). pointer k.chunk) (po
     let inside : n < length d.units * d.geometry.chunks = subst (λ m. n < m) (length_of_flat d.geometry.chunks d.units h.chunks) (slice_get_within (flat d.units) n k is) in
     let nth = nth_is d n k good h is inside in
     ap (number_at w64 24) nth.row ∙ wp_back (descriptor_of d.geometry (n / d.geometry.chunks) (n % d.geometry.chunks) k) nth.fits)
-
-block_length : (size : ℕ) (b : Block) → length b.sector ≡ size → length (block_bytes b) ≡ size + 16
-block_length size b is =
-    let lba : length (le64 b.mark.lba) ≡ 8 = refl in
-    let position : length (le64 b.mark.position) ≡ 8 = refl in
-    omega (arith, length-append (b.sector ++ le64 b.mark.lba) (le64 b.mark.position), length-append b.sector (le64 b.mark.lba))
 
 chunk_length : (s : Shape) (k : StoredChunk) → IsChunk s k.chunk → length (flat_map block_bytes k.chunk.blocks) ≡ (s.sector + 16) * pointer k.chunk
 chunk_length s k is = flat_length block_bytes (s.sector + 16) k.chunk.blocks (all_weaker (IsBlock s) (λ (b : Block). length (block_bytes b) ≡ s.sector + 16) k.chunk.blocks (λ b block. block_length s.sector b block.size) is.blocks)

@@ -15,7 +15,6 @@ pub mod ImageBytesPieces
 pub mod ImageBytesRead
 pub mod ImageBytesTaken
 pub mod LineUnits
-pub mod Lists
 pub mod RecordPlaces
 pub mod RunBounds
 pub mod Runs
@@ -43,3 +42,5 @@ pub mod ScriptRead
 pub mod ImageBytesHeld
 pub mod ImageBytesBlocks
 pub mod ImageBytesDrive
+pub mod LineBlocksLemmas
+pub mod Refusals

@@ -4,18 +4,19 @@ use Rattle.std.specs.Prelude.{slice_index}
 use Rattle.std.specs.List.{AllByRecursion, slice_get, filter, filter_map, enumerate_from, cons_option}
 use Rattle.std.specs.List.Sorted.{IsStrictlyIncreasing}
 use Rattle.std.specs.Option.{option_and_then, option_map_or, option_map, IfSome}
-use Rattle.std.proofs.lemmas.Option.{none-some, same_Some, slice_get_within}
+use Rattle.std.proofs.lemmas.Option.{slice_get_within}
 use Rattle.std.proofs.Math.Nat.{mul-le-mul_right}
 use Rattle.std.proofs.lemmas.Nat.{div-add-mod', le-div}
 use Rattle.pblk_model.specs.declared.shape.Shape.{Shape}
-use Rattle.pblk_model.specs.declared.chunk.ChunkState.{ChunkState}
-use Rattle.pblk_model.specs.declared.chunk.ChunkState.TheVariants.{Free, Open, Closed, Offline}
-use Rattle.pblk_model.specs.Chunk.{Chunk, Block, PointerFits, IsChunk}
+use Rattle.pblk_model.specs.Chunk.{Chunk, Block, IsChunk}
 use Rattle.pblk_model.specs.LineOrder.{line_order, column_of, block_of}
 use Rattle.pblk_model.specs.Image.{Image, IsFit, is_online_in, line_chunks, line_units, width, block_at}
 use Rattle.pblk_laws.specs.LineBlocks.{chunk_in, written_at}
-use Rattle.pblk_laws.proofs.Lists.{all_get, all_filter, all_filter_map}
 use Rattle.pblk_model.proofs.OrderedBlocks.{order_block, order_length}
+use Rattle.lemmas.proofs.Maps.{all_filter, all_filter_map}
+use Rattle.lemmas.proofs.Parts.{all_get_some, get_past, none_past}
+use Rattle.pblk_laws.proofs.LineBlocksLemmas.{from_chunk}
+use Rattle.pblk_model.proofs.ChunkLemmas.{map_cond, pointer_within}
 
 abbrev is_on : ℕ → ℕ × List Chunk → Bool
 is_on line unit = option_map_or (λ (c : Chunk). is_online_in c.state) (slice_get unit.1 line) false
@@ -35,10 +36,6 @@ with_unit (Some c) n us = cond (is_online_in c.state) (n ∷ us) us
 with_chunk : Option Chunk → List Chunk → List Chunk
 with_chunk None cs = cs
 with_chunk (Some c) cs = cond (is_online_in c.state) (c ∷ cs) cs
-
-map_cond : (b : Bool) (unit : ℕ × List Chunk) (rest : List (ℕ × List Chunk)) → map (λ (u : ℕ × List Chunk). u.0) (cond b (unit ∷ rest) rest) ≡ cond b (unit.0 ∷ map (λ (u : ℕ × List Chunk). u.0) rest) (map (λ (u : ℕ × List Chunk). u.0) rest)
-map_cond true unit rest = refl
-map_cond false unit rest = refl
 
 by_chunk : (o : Option Chunk) (n : ℕ) (us : List ℕ) → cond (option_map_or (λ (c : Chunk). is_online_in c.state) o false) (n ∷ us) us ≡ with_unit o n us
 unfolding with_unit
@@ -158,12 +155,6 @@ line_units_chunks i line k = chunks_are line i.units 0 i.units (λ u. ap (slice_
 block_with : Image → ℕ → ℕ → ℕ → Option Block
 block_with i line g a = option_and_then (λ (c : Chunk). slice_get c.blocks (block_of i.shape g a)) (slice_get (line_chunks i line) (column_of i.shape g a))
 
-from_chunk : (i : Image) (line b : ℕ) (o : Option ℕ) (unit block : ℕ) → option_map {U = ℕ × ℕ} (λ u. (u, b)) o ≡ Some (unit, block) → option_and_then (λ (c : Chunk). slice_get c.blocks b) (option_and_then (chunk_in i line) o) ≡ written_at i line (unit, block)
-from_chunk i line b None unit block h = absurd (none-some (unit, block) h)
-from_chunk i line b (Some u) unit block h =
-    let same : (u, b) ≡ (unit, block) = same_Some (u, b) (unit, block) h in
-    ap (λ (p : ℕ × ℕ). written_at i line p) same
-
 pub block_named : (i : Image) (line a : ℕ) (place : ℕ × ℕ) → 0 < i.shape.ws_opt → i.shape.clba % i.shape.ws_opt ≡ 0
     → slice_get (line_order i.shape (line_units i line)) a ≡ Some place → block_at i line a ≡ written_at i line place
 unfolding block_with
@@ -178,27 +169,6 @@ block_named i line a place some whole h =
 
 -- Past the end of the line.
 
-get_within : {X : Type 0} (xs : List X) (k : ℕ) → k < length xs → (x : X) × (slice_get xs k ≡ Some x)
-get_within [] k h = absurd (omega arith)
-get_within (x ∷ xs) zero h = (x, refl)
-get_within (x ∷ xs) (suc k) h = get_within xs k (omega arith)
-
-get_past : {X : Type 0} (xs : List X) (k : ℕ) → length xs ≤ k → slice_get xs k ≡ None
-get_past [] k h = refl
-get_past (x ∷ xs) zero h = absurd (omega arith)
-get_past (x ∷ xs) (suc k) h = get_past xs k (omega arith)
-
-none_past : {X : Type 0} (xs : List X) (k : ℕ) → slice_get xs k ≡ None → length xs ≤ k
-none_past [] k h = omega arith
-none_past (x ∷ xs) zero h = absurd cc
-none_past (x ∷ xs) (suc k) h = let rest : length xs ≤ k = none_past xs k h in omega arith
-
-pointer_below : (state : ChunkState) (clba wp : ℕ) → PointerFits state clba wp → wp ≤ clba
-pointer_below Free clba wp h = omega arith
-pointer_below Open clba wp h = omega (arith, h.1)
-pointer_below Closed clba wp h = h
-pointer_below Offline clba wp h = omega arith
-
 -- the block of a chunk past the end of a line of g chunks is none of its blocks
 block_past : (w g c a : ℕ) → 0 < w → c % w ≡ 0 → 0 < g → g * c ≤ a → c ≤ (a / w) / g * w + a % w
 block_past w g c a some whole wide past =
@@ -212,13 +182,13 @@ block_past w g c a some whole wide past =
 
 no_block : (s : Shape) (b : ℕ) (o : Option Chunk) → IfSome o (IsChunk s) → IfSome o (λ _. s.clba ≤ b) → option_and_then (λ (c : Chunk). slice_get c.blocks b) o ≡ None
 no_block s b None fits past = refl
-no_block s b (Some c) fits past = get_past c.blocks b (let few = pointer_below c.state s.clba (length c.blocks) fits.place in omega arith)
+no_block s b (Some c) fits past = get_past c.blocks b (let few = pointer_within c.state s.clba (length c.blocks) fits.place in omega arith)
 
 line_chunks_fit : (i : Image) (line k : ℕ) → IsFit i → IfSome (slice_get (line_chunks i line) k) (IsChunk i.shape)
 line_chunks_fit i line k fit =
-    all_get (IsChunk i.shape) (line_chunks i line) k
+    all_get_some (IsChunk i.shape) (line_chunks i line) k
     (all_filter (IsChunk i.shape) (λ (c : Chunk). is_online_in c.state) (filter_map (λ (unit : List Chunk). slice_get unit line) i.units)
-    (all_filter_map (IsChunk i.shape) (AllByRecursion (IsChunk i.shape)) (λ (unit : List Chunk). slice_get unit line) i.units (λ unit each. all_get (IsChunk i.shape) unit line each) fit.each))
+    (all_filter_map (IsChunk i.shape) (AllByRecursion (IsChunk i.shape)) (λ (unit : List Chunk). slice_get unit line) i.units (λ unit each. all_get_some (IsChunk i.shape) unit line each) fit.each))
 
 if_there : {X : Type 0} (xs : List X) (k : ℕ) (P : Type 0) → (0 < length xs → P) → IfSome (slice_get xs k) (λ _. P)
 if_there [] k P h = tt

@@ -14,21 +14,15 @@ use Rattle.pblk_model.specs.Bytes.{le64, number_at}
 use Rattle.pblk_model.specs.History.{tag_sector}
 use Rattle.pblk_model.specs.Script.{ScriptFits}
 use Rattle.pblk_model.specs.Text.{Outcome, Silent, Words, Flushed, Drive, Worn, Closing, Closed, ClosedByDrive, ClosedWorn, Transcript, word_of}
-use Rattle.pblk_model.specs.Transcript.{Moment, now, Allowed, Ran, ClosedAs, IsRun, answered, outcome_event, opening_event, closing_event}
-use Rattle.pblk_laws.proofs.Lists.{all_at, all_by_get}
-use Rattle.pblk_laws.proofs.Starts.{byte_is}
+use Rattle.pblk_model.specs.Transcript.{Moment, now, Allowed, Ran, IsClosing, IsTranscript, answered, outcome_event, opening_event, closing_event}
 use Rattle.pblk_laws.proofs.RunBounds.{history_fits, history_short, kept_fits}
 use Rattle.pblk_laws.proofs.OutcomeRows.{WordFits, OutcomeFits, OpeningFits, ClosingFits, AreShort}
 use Rattle.pblk_laws.proofs.OneTranscript.{TextFits}
+use Rattle.lemmas.proofs.Lists.{all_front}
+use Rattle.lemmas.proofs.Parts.{all_by_get, all_get}
+use Rattle.pblk_model.proofs.BytesLemmas.{tag_below}
 
 -- The tag of a sector has 64 bits.
-
-eight_bytes : (n : ℕ) (rest : List ℕ) → number_at w64 0 (le64 n ++ rest) < 2 ^ 64
-eight_bytes n rest = omega (arith, byte_is 0 n, byte_is 1 n, byte_is 2 n, byte_is 3 n, byte_is 4 n, byte_is 5 n, byte_is 6 n, byte_is 7 n)
-
-tag_below : (k n : ℕ) → number_at w64 0 (repeat k (le64 n)) < 2 ^ 64
-tag_below zero n = omega arith
-tag_below (suc k) n = eight_bytes n (repeat k (le64 n))
 
 word_fits : (sector : List ℕ) → WordFits (word_of sector)
 unfolding tag_sector
@@ -94,13 +88,9 @@ paired [] (x ∷ os) c o e f = absurd (omega arith)
 paired (k ∷ cs) (x ∷ os) zero o e f = let same : x ≡ o = cc in (k, ap (λ y. Some (k, y)) same)
 paired (k ∷ cs) (x ∷ os) (suc c) o e f = paired cs os c o (omega arith) f
 
-all_split : {X : Type 0} (P : X → Type 0) (xs ys : List X) → AllByRecursion P (xs ++ ys) → AllByRecursion P xs × AllByRecursion P ys
-all_split P [] ys h = (tt, h)
-all_split P (x ∷ xs) ys h = let rest = all_split P xs ys h.1 in ((h.0, rest.0), rest.1)
-
 all_flat : {X Y : Type 0} (P : Y → Type 0) (f : X → List Y) (xs : List X) → AllByRecursion P (flat_map f xs) → AllByRecursion (λ x. AllByRecursion P (f x)) xs
 all_flat P f [] h = tt
-all_flat P f (x ∷ xs) h = let parts = all_split P (f x) (flat_map f xs) h in (parts.0, all_flat P f xs parts.1)
+all_flat P f (x ∷ xs) h = let parts = all_front P (f x) (flat_map f xs) h in (parts.0, all_flat P f xs parts.1)
 
 each_flat : (outcomes : List (List Outcome)) → AllByRecursion (λ os. AllByRecursion EventFits (flat_map outcome_event os)) outcomes → AllByRecursion (AllByRecursion (λ o. AllByRecursion EventFits (outcome_event o))) outcomes
 each_flat [] h = tt
@@ -111,11 +101,11 @@ unfolding EventFits
 opening_fits None h = tt
 opening_fits (Some e) h = (let fits = h.0.0 in omega arith, let fits = h.0.1 in omega arith)
 
-closing_fits : (t : Transcript) (c : Closing) → AllByRecursion EventFits (closing_event c) → ClosedAs t c → ClosingFits c
+closing_fits : (c : Closing) → AllByRecursion EventFits (closing_event c) → IsClosing c → ClosingFits c
 unfolding EventFits
-closing_fits t Closed h shut = tt
-closing_fits t (ClosedByDrive unit event) h shut = (let fits = h.0.0 in omega arith, let fits = h.0.1 in omega arith)
-closing_fits t (ClosedWorn wanted have) h shut = (let fits = shut.1 in omega arith, let low = shut.0 in let fits = shut.1 in omega arith)
+closing_fits Closed h shut = tt
+closing_fits (ClosedByDrive unit event) h shut = (let fits = h.0.0 in omega arith, let fits = h.0.1 in omega arith)
+closing_fits (ClosedWorn wanted have) h shut = (let fits = shut.1 in omega arith, let low = shut.0 in let fits = shut.1 in omega arith)
 
 short_by : (outcomes : List (List Outcome)) (script : List (List Command)) (n : ℕ) → map length outcomes ≡ map length script → sum_by length script ≤ n → n ≤ 10 ^ 64 → AreShort outcomes
 short_by [] script n e few low = tt
@@ -126,12 +116,12 @@ short_by (os ∷ outcomes) (cs ∷ script) n e few low =
     let total = sum_by-cons length cs script in
     (omega (arith, long, total), short_by outcomes script n more (omega (arith, total)) low)
 
-module _ (size capacity : ℕ) (script : List (List Command)) (before after : List (List ℕ)) (t : Transcript) (fits : ScriptFits capacity script) (run : IsRun size script before t after) where
+module _ (size capacity : ℕ) (script : List (List Command)) (before : List (List ℕ)) (t : Transcript) (fits : ScriptFits capacity script) (run : IsTranscript size script before t) where
   middle : AllByRecursion (AllByRecursion (λ o. AllByRecursion EventFits (outcome_event o))) t.outcomes
   unfolding EventFits
   middle =
-      let parts = all_split EventFits (opening_event t.opening ++ flat_map (flat_map outcome_event) t.outcomes) (closing_event t.closing) run.numbers in
-      let first = all_split EventFits (opening_event t.opening) (flat_map (flat_map outcome_event) t.outcomes) parts.0 in
+      let parts = all_front EventFits (opening_event t.opening ++ flat_map (flat_map outcome_event) t.outcomes) (closing_event t.closing) run.numbers in
+      let first = all_front EventFits (opening_event t.opening) (flat_map (flat_map outcome_event) t.outcomes) parts.0 in
       each_flat t.outcomes (all_flat EventFits (flat_map outcome_event) t.outcomes first.1)
 
   ran_outcomes : map length t.outcomes ≡ map length script → AllByRecursion (AllByRecursion OutcomeFits) t.outcomes
@@ -140,8 +130,8 @@ module _ (size capacity : ℕ) (script : List (List Command)) (before after : Li
       let pair = paired cs.0 os c o cs.2 here in
       let answer : slice_get (answered script t i) c ≡ Some (pair.0, o) =
       ap (λ p. slice_get (zip (unwrap_or p []) (unwrap_or (slice_get t.outcomes i) [])) c) cs.1 ∙ ap (λ p. slice_get (zip cs.0 (unwrap_or p [])) c) there ∙ pair.1 in
-      let event = all_at (λ p. AllByRecursion EventFits (outcome_event p)) os c o (all_at (AllByRecursion (λ p. AllByRecursion EventFits (outcome_event p))) t.outcomes i os middle there) here in
-      outcome_fits (record { size = size; sectors = before; script = script; transcript = t; seen = run.seen; thread = i; command = c }) pair.0 o (length t.history) (run.within i (c + 1)) (history_short size capacity script before after t fits run) event (run.allowed i c (pair.0, o) answer)))
+      let event = all_get (λ p. AllByRecursion EventFits (outcome_event p)) os c o (all_get (AllByRecursion (λ p. AllByRecursion EventFits (outcome_event p))) t.outcomes i os middle there) here in
+      outcome_fits (record { size = size; sectors = before; script = script; transcript = t; seen = run.seen; thread = i; command = c }) pair.0 o (length t.history) (run.within i (c + 1)) (history_short size capacity script before t fits run) event (run.allowed i c (pair.0, o) answer)))
 
   outcomes_by : (o : Option (ℕ × ℕ)) → Ran script t o → AllByRecursion (AllByRecursion OutcomeFits) t.outcomes × (length t.outcomes ≤ 10 ^ 64) × AreShort t.outcomes
   outcomes_by None ran =
@@ -156,15 +146,15 @@ module _ (size capacity : ℕ) (script : List (List Command)) (before after : Li
   pub text_fits : TextFits t
   unfolding EventFits
   text_fits =
-      let parts = all_split EventFits (opening_event t.opening ++ flat_map (flat_map outcome_event) t.outcomes) (closing_event t.closing) run.numbers in
-      let first = all_split EventFits (opening_event t.opening) (flat_map (flat_map outcome_event) t.outcomes) parts.0 in
+      let parts = all_front EventFits (opening_event t.opening ++ flat_map (flat_map outcome_event) t.outcomes) (closing_event t.closing) run.numbers in
+      let first = all_front EventFits (opening_event t.opening) (flat_map (flat_map outcome_event) t.outcomes) parts.0 in
       let threads = outcomes_by t.opening run.ran in
       record {
-        history = history_fits size capacity script before after t fits run;
+        history = history_fits size capacity script before t fits run;
         outcomes = threads.0;
         few = threads.1;
         short = threads.2;
         opening = opening_fits t.opening first.0;
-        closing = closing_fits t t.closing parts.1 run.closed;
-        kept = kept_fits size capacity script before after t fits run;
+        closing = closing_fits t.closing parts.1 run.closing;
+        kept = kept_fits size capacity script before t fits run;
       }

@@ -1,5 +1,5 @@
 -- How large the numbers of a run are.
-use Rattle.std.proofs.Common.{ℕ, zero, suc, ◌+◌, ◌*◌, ◌^◌, ◌<◌, ◌≤◌, ◌==◌, Bool, true, false, not, cond, List, [], ◌∷◌, ◌++◌, map, length, Option, Some, None, slice_get, refl, sym, ap, subst, arith, length-append, inl, inr}
+use Rattle.std.proofs.Common.{ℕ, zero, suc, ◌+◌, ◌*◌, ◌^◌, ◌<◌, ◌≤◌, ◌==◌, Bool, true, false, not, cond, List, [], ◌∷◌, map, length, slice_get, refl, sym, ap, subst, arith, length-append, inl, inr}
 use Rattle.std.specs.List.{AllByRecursion, cons_option, filter, filter_map, flat_map, zip, sum_by, range_with_len}
 use Rattle.std.specs.Option.{unwrap_or}
 use Rattle.std.proofs.lemmas.Bool.{eq-eqb, eqb-false, cases_Bool, cases_lt}
@@ -12,8 +12,10 @@ use Rattle.pblk_model.specs.declared.script.Command.{Command}
 use Rattle.pblk_model.specs.declared.script.Command.TheVariants.{Write, Read, Flush, Post, Await}
 use Rattle.pblk_model.specs.Script.{CommandFits, ScriptFits}
 use Rattle.pblk_model.specs.Text.{Outcome, Silent, Words, Flushed, Drive, Worn, Transcript}
-use Rattle.pblk_model.specs.Transcript.{PlacedWrite, rows_of, placed_write, placed_by, IsRun}
+use Rattle.pblk_model.specs.Transcript.{PlacedWrite, rows_of, placed_write, placed_by, IsTranscript}
 use Rattle.pblk_laws.proofs.TextLines.{RowFits, row_of}
+use Rattle.lemmas.proofs.Lists.{all_append}
+use Rattle.lemmas.proofs.Maps.{longer_option}
 
 -- a write of a script
 record WriteFits (w : PlacedWrite) : Type 0 where
@@ -100,10 +102,6 @@ placed_fit capacity script t i fits =
       | inr past ↦ let none = slice_get_past script i (omega (arith, fits.threads)) in rw none tt
     ]
 
-longer_option : {X : Type 0} (o : Option X) (xs : List X) → length (cons_option o xs) ≤ suc (length xs)
-longer_option None xs = omega arith
-longer_option (Some x) xs = omega arith
-
 commands_length : (i : ℕ) (cs : List Command) (os : List Outcome) → length (filter_map (placed_write i) (zip cs os)) ≤ length cs
 commands_length i [] os = omega arith
 commands_length i (c ∷ cs) [] = omega arith
@@ -115,10 +113,6 @@ thread_length (cs ∷ script) zero = omega (arith, sum_by-cons length cs script)
 thread_length (cs ∷ script) (suc i) = omega (arith, sum_by-cons length cs script, thread_length script i)
 
 -- The rows of the writes.
-
-all_append : {X : Type 0} (P : X → Type 0) (xs ys : List X) → AllByRecursion P xs → AllByRecursion P ys → AllByRecursion P (xs ++ ys)
-all_append P [] ys h k = k
-all_append P (x ∷ xs) ys h k = (h.0, all_append P xs ys h.1 k)
 
 sectors_fit : (thread tag lba count : ℕ) → thread < 16 → tag < 2 ^ 64 → lba + count < 2 ^ 65 → AllByRecursion RowFits (map (λ at. record { thread = thread; lba = at; tag = tag }) (range_with_len lba count))
 sectors_fit thread tag lba zero h k l = tt
@@ -138,7 +132,7 @@ threads_fit (w ∷ order) h = (h.0.thread, threads_fit order h.1)
 
 -- The history of a run.
 
-module _ (size capacity : ℕ) (script : List (List Command)) (before after : List (List ℕ)) (t : Transcript) (fits : ScriptFits capacity script) (run : IsRun size script before t after) where
+module _ (size capacity : ℕ) (script : List (List Command)) (before : List (List ℕ)) (t : Transcript) (fits : ScriptFits capacity script) (run : IsTranscript size script before t) where
   order_fits : AllByRecursion WriteFits run.order
   order_fits = holds_by_thread WriteFits run.order (λ i. subst (AllByRecursion WriteFits) (sym (run.each i)) (placed_fit capacity script t i fits))
 

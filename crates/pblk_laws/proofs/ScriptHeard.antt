@@ -16,6 +16,7 @@ use Rattle.pblk_model.specs.Script.{CommandFits, ScriptFits, IsName, IsNameByte,
 use Rattle.pblk_model.specs.ScriptText.{Said, Thread, Commands, Heard, Line, saids, said_in, said_line, placed, line_number, heard_after, then_heard, spoken, threads_of, script_of, threads_in, commands_in, posts, awaits_unposted, unposted, stuck_at, posts_refusal, form_holds, limit_holds, range_holds, count_holds, count_of, name_of, is_name_byte, IsScript}
 use Rattle.pblk_laws.proofs.ScriptSpelling.{Spells, said_is_spelled, spelled_is_said}
 use Rattle.pblk_laws.proofs.ScriptSaids.{leading_said, threads_said, script_is, saids_of, script_said, BeginsSaid, said_is, begins_of, lines_said, threads_in-append, commands_in-append, threads_counted, commands_counted, all-push, all-later, threads_all, all_threads, posts_is, post_at, post_threads, Once, once-push, once-before, OnceAt, once_at, once_said, unposted_all, all_unposted, no_leading}
+use Rattle.lemmas.proofs.Tests.{both as both_hold, le_true, not_true, within_is}
 
 -- A line that is heard after others.
 pub record IsHeard (capacity : ℕ) (before : List Said) (line : Line) (x : ℕ × Said) : Type 0 where
@@ -108,24 +109,14 @@ abbrev pub SaidFits : ℕ → Said → Type 0
 SaidFits capacity Thread = Unit {0}
 SaidFits capacity (Commands c) = CommandFits capacity c
 
-both_hold : (a b : Bool) → (a && b) ≡ true → (a ≡ true) × (b ≡ true)
-both_hold true b e = (refl, e)
-both_hold false b e = absurd (false≢true e)
-
-is_leb : (a b : ℕ) → nat_le a b ≡ true → a ≤ b
-is_leb a b e = grind (arith, nat_tests)
-
-leb_is : (a b : ℕ) → a ≤ b → nat_le a b ≡ true
-leb_is a b h = grind (arith, nat_tests)
-
 name_bytes : (name : List ℕ) → list_all is_name_byte name ≡ true → AllByRecursion IsNameByte name
 name_bytes [] e = tt
 name_bytes (b ∷ name) e = let both = both_hold (is_name_byte b) (list_all is_name_byte name) e in (name_byte b both.0, name_bytes name both.1)
   where
     name_byte : (b : ℕ) → is_name_byte b ≡ true → IsNameByte b
     name_byte b e = elim (cases_Bool (nat_le 48 b && nat_le b 57)) [
-      | inl digit ↦ let both = both_hold (nat_le 48 b) (nat_le b 57) digit in inl (is_leb 48 b both.0, is_leb b 57 both.1)
-      | inr other ↦ let letter : (nat_le 97 b && nat_le b 122) ≡ true = (rw other at e) in let both = both_hold (nat_le 97 b) (nat_le b 122) letter in inr (is_leb 97 b both.0, is_leb b 122 both.1)
+      | inl digit ↦ let both = both_hold (nat_le 48 b) (nat_le b 57) digit in inl (within_is 48 b both.0, within_is b 57 both.1)
+      | inr other ↦ let letter : (nat_le 97 b && nat_le b 122) ≡ true = (rw other at e) in let both = both_hold (nat_le 97 b) (nat_le b 122) letter in inr (within_is 97 b both.0, within_is b 122 both.1)
     ]
 
 bytes_name : (name : List ℕ) → AllByRecursion IsNameByte name → list_all is_name_byte name ≡ true
@@ -137,29 +128,29 @@ bytes_name (b ∷ name) h = rw (byte_name b h.0) (bytes_name name h.1)
     or_last false = refl
 
     byte_name : (b : ℕ) → IsNameByte b → is_name_byte b ≡ true
-    byte_name b (inl d) = rw (leb_is 48 b d.0) (rw (leb_is b 57 d.1) refl)
-    byte_name b (inr l) = rw (leb_is 97 b l.0) (rw (leb_is b 122 l.1) (or_last (nat_le 48 b && nat_le b 57)))
+    byte_name b (inl d) = rw (le_true 48 b d.0) (rw (le_true b 57 d.1) refl)
+    byte_name b (inr l) = rw (le_true 97 b l.0) (rw (le_true b 122 l.1) (or_last (nat_le 48 b && nat_le b 57)))
 
 name_fits : (name : List ℕ) → name_of name ≡ Some name → IsName name
 name_fits name e = elim (cases_Bool (nat_le 1 (length name) && nat_le (length name) 16 && list_all is_name_byte name)) [
   | inl is ↦
       let both = both_hold (nat_le 1 (length name) && nat_le (length name) 16) (list_all is_name_byte name) is in
       let sizes = both_hold (nat_le 1 (length name)) (nat_le (length name) 16) both.0 in
-      record { some = is_leb 1 (length name) sizes.0; short = is_leb (length name) 16 sizes.1; bytes = name_bytes name both.1 }
+      record { some = within_is 1 (length name) sizes.0; short = within_is (length name) 16 sizes.1; bytes = name_bytes name both.1 }
   | inr none ↦ absurd (let found : None ≡ Some name = (rw none at e) in cc)
 ]
 
 fits_name : (name : List ℕ) → IsName name → name_of name ≡ Some name
-fits_name name h = rw (leb_is 1 (length name) h.some) (rw (leb_is (length name) 16 h.short) (rw (bytes_name name h.bytes) refl))
+fits_name name h = rw (le_true 1 (length name) h.some) (rw (le_true (length name) 16 h.short) (rw (bytes_name name h.bytes) refl))
 
 said_fits : (capacity : ℕ) (before : List Said) (said : Said) → Spells said → limit_holds before said ≡ true → range_holds capacity said ≡ true → SaidFits capacity said
 said_fits capacity before Thread s l r = tt
 said_fits capacity before (Commands (Write lba count tag)) s l r =
     let counted = both_hold (nat_le 1 count) (nat_le count 16) (both_hold _ _ l).1 in
-    (record { number = s.0; some = is_leb 1 count counted.0; few = is_leb count 16 counted.1; within = is_leb (lba + count) capacity r }, s.2)
+    (record { number = s.0; some = within_is 1 count counted.0; few = within_is count 16 counted.1; within = within_is (lba + count) capacity r }, s.2)
 said_fits capacity before (Commands (Read lba count)) s l r =
     let counted = both_hold (nat_le 1 count) (nat_le count 16) (both_hold _ _ l).1 in
-    record { number = s.0; some = is_leb 1 count counted.0; few = is_leb count 16 counted.1; within = is_leb (lba + count) capacity r }
+    record { number = s.0; some = within_is 1 count counted.0; few = within_is count 16 counted.1; within = within_is (lba + count) capacity r }
 said_fits capacity before (Commands Flush) s l r = tt
 said_fits capacity before (Commands (Post name)) s l r = name_fits name s
 said_fits capacity before (Commands (Await name)) s l r = name_fits name s
@@ -174,15 +165,15 @@ fits_spells capacity (Commands (Await name)) h = fits_name name h
 
 fits_range : (capacity : ℕ) (said : Said) → SaidFits capacity said → range_holds capacity said ≡ true
 fits_range capacity Thread h = refl
-fits_range capacity (Commands (Write lba count tag)) h = leb_is (lba + count) capacity h.0.within
-fits_range capacity (Commands (Read lba count)) h = leb_is (lba + count) capacity h.within
+fits_range capacity (Commands (Write lba count tag)) h = le_true (lba + count) capacity h.0.within
+fits_range capacity (Commands (Read lba count)) h = le_true (lba + count) capacity h.within
 fits_range capacity (Commands Flush) h = refl
 fits_range capacity (Commands (Post name)) h = refl
 fits_range capacity (Commands (Await name)) h = refl
 
 fits_count : (capacity : ℕ) (c : Command) → CommandFits capacity c → count_holds (count_of c) ≡ true
-fits_count capacity (Write lba count tag) h = rw (leb_is 1 count h.0.some) (leb_is count 16 h.0.few)
-fits_count capacity (Read lba count) h = rw (leb_is 1 count h.some) (leb_is count 16 h.few)
+fits_count capacity (Write lba count tag) h = rw (le_true 1 count h.0.some) (le_true count 16 h.0.few)
+fits_count capacity (Read lba count) h = rw (le_true 1 count h.some) (le_true count 16 h.few)
 fits_count capacity Flush h = refl
 fits_count capacity (Post name) h = refl
 fits_count capacity (Await name) h = refl
@@ -204,10 +195,6 @@ begins-push [] (Commands (Post name)) b e = absurd (false≢true e)
 begins-push [] (Commands (Await name)) b e = absurd (false≢true e)
 begins-push (Thread ∷ s) x b e = tt
 begins-push (Commands c ∷ s) x b e = absurd b
-
-not_true : (b : Bool) → not b ≡ true → b ≡ false
-not_true true e = absurd (false≢true e)
-not_true false e = refl
 
 new_post : (s : List Said) (x : Said) → form_holds s x ≡ true → (name : List ℕ) → posts name x ≡ true → list_any (posts name) s ≡ false
 new_post s x e name is =

@@ -10,6 +10,7 @@ use Rattle.pblk_model.specs.declared.script.Command.{Command}
 use Rattle.pblk_model.specs.declared.script.Command.TheVariants.{Write, Read, Flush, Post, Await}
 use Rattle.pblk_model.specs.Script.{command_at, command_line, thread_line, thread_lines}
 use Rattle.pblk_model.specs.ScriptText.{Said, Thread, Commands, Heard, saids, said_line, leading, threads_of, script_of, threads_in, commands_in, posts, awaits_unposted, unposted}
+use Rattle.lemmas.proofs.Tests.{either_false}
 
 -- The threads of what was said.
 
@@ -151,10 +152,6 @@ posts_is name (Commands (Read lba count)) e = absurd (false≢true e)
 posts_is name (Commands Flush) e = absurd (false≢true e)
 posts_is name (Commands (Post other)) e = ap (λ n. Commands (Post n)) ((bytes_eq-Decides other name).0 e)
 posts_is name (Commands (Await other)) e = absurd (false≢true e)
-
-either_false : (a b : Bool) → (a || b) ≡ false → (a ≡ false) × (b ≡ false)
-either_false true b e = absurd (true≢false e)
-either_false false b e = (refl, e)
 
 none_posts : (name : List ℕ) (s : List Said) → list_any (posts name) s ≡ false → AllByRecursion (λ x. posts name x ≡ false) s
 none_posts name [] e = tt

@@ -6,7 +6,7 @@ use Rattle.std.specs.Option.{option_and_then, option_map}
 use Rattle.std.specs.Str.{bytes_eq}
 use Rattle.std.specs.Str.Parse.{AllDigits}
 use Rattle.std.specs.Fmt.{decimal}
-use Rattle.std.proofs.lemmas.Bool.{cases_Bool, true≢false, false≢true, ne_eqb}
+use Rattle.std.proofs.lemmas.Bool.{cases_Bool, true≢false, ne_eqb}
 use Rattle.std.proofs.lemmas.Bool.Decides.{Decides-ltb, nat_tests}
 use Rattle.std.proofs.lemmas.List.Splits.{join_with_byte-slice_split}
 use Rattle.std.proofs.lemmas.Slice.Eq.{bytes_eq-Decides}
@@ -16,6 +16,9 @@ use Rattle.pblk_model.specs.declared.script.Command.TheVariants.{Write, Read, Fl
 use Rattle.pblk_model.specs.Script.{thread_line}
 use Rattle.pblk_model.specs.ScriptText.{Said, Thread, Commands, said_line, said_by, said_in, number_of, name_of, is_name_byte}
 use Rattle.pblk_model.specs.ScriptText as text
+use Rattle.lemmas.proofs.Bytes.{same_bytes}
+use Rattle.lemmas.proofs.Options.{map_some, split_then}
+use Rattle.lemmas.proofs.Tests.{both as both_hold}
 
 -- Numbers and names that are spelled.
 
@@ -25,10 +28,6 @@ by_fold = numerals_by_fold (AllDigits 10) tells_digits (λ n ds. fold (λ n digi
 chosen : {A : Type 0} (b : Bool) (v n : A) → (if b then Some v else None) ≡ Some n → (b ≡ true) × (v ≡ n)
 chosen true v n e = (refl, cc)
 chosen false v n e = absurd (cc)
-
-both_hold : (a b : Bool) → (a && b) ≡ true → (a ≡ true) × (b ≡ true)
-both_hold true b e = (refl, e)
-both_hold false b e = absurd (false≢true e)
 
 pub number_is : (word : List ℕ) (n : ℕ) → number_of word ≡ Some n → (word ≡ decimal n) × (n < 2 ^ 64)
 number_is word n e =
@@ -157,29 +156,18 @@ spelled_is_said (Commands (Await name)) s =
 
 -- What is read is spelled so.
 
-word_is : (word literal : List ℕ) → bytes_eq word literal ≡ true → word ≡ literal
-word_is word literal e = (bytes_eq-Decides word literal).0 e
-
 abbrev IsLine : List (List ℕ) → Said → Type 0
 IsLine ws said = (join_with_byte 32 ws ≡ said_line said) × Spells said
-
-map_some : {A B : Type 0} (f : A → B) (o : Option A) (y : B) → option_map f o ≡ Some y → (x : A) × (o ≡ Some x) × (f x ≡ y)
-map_some f None y e = absurd (cc)
-map_some f (Some x) y e = (x, refl, cc)
-
-then_some : {A B : Type 0} (f : A → Option B) (o : Option A) (y : B) → option_and_then f o ≡ Some y → (x : A) × (o ≡ Some x) × (f x ≡ Some y)
-then_some f None y e = absurd (cc)
-then_some f (Some x) y e = (x, refl, e)
 
 line_as : (ws : List (List ℕ)) (said other : Said) → IsLine ws said → said ≡ other → IsLine ws other
 line_as ws said other h e = subst (IsLine ws) e h
 
 one_word : (w : List ℕ) (said : Said) → said_by (w ∷ []) ≡ Some said → IsLine (w ∷ []) said
 one_word w said e = elim (cases_Bool (bytes_eq w thread_line)) [
-  | inl is ↦ let found : Some Thread ≡ Some said = (rw is at e) in line_as (w ∷ []) Thread said (word_is w thread_line is, tt) (cc)
+  | inl is ↦ let found : Some Thread ≡ Some said = (rw is at e) in line_as (w ∷ []) Thread said (same_bytes w thread_line is, tt) (cc)
   | inr other ↦
       let found = chosen (bytes_eq w (codes "f")) (Commands Flush) said (rw other at e) in
-      line_as (w ∷ []) (Commands Flush) said (word_is w (codes "f") found.0, tt) found.1
+      line_as (w ∷ []) (Commands Flush) said (same_bytes w (codes "f") found.0, tt) found.1
 ]
 
 two_words : (w a : List ℕ) (said : Said) → said_by (w ∷ a ∷ []) ≡ Some said → IsLine (w ∷ a ∷ []) said
@@ -187,12 +175,12 @@ two_words w a said e = elim (cases_Bool (bytes_eq w (codes "post"))) [
   | inl is ↦
       let found = map_some (λ name. Commands (Post name)) (name_of a) said (rw is at e) in
       let name = name_is a found.0 found.1 in
-      line_as (w ∷ a ∷ []) (Commands (Post found.0)) said (ap (λ x. x ++ 32 ∷ a) (word_is w (codes "post") is) ∙ ap (λ x. codes "post " ++ x) name.0, name.1) found.2
+      line_as (w ∷ a ∷ []) (Commands (Post found.0)) said (ap (λ x. x ++ 32 ∷ a) (same_bytes w (codes "post") is) ∙ ap (λ x. codes "post " ++ x) name.0, name.1) found.2
   | inr other ↦ elim (cases_Bool (bytes_eq w (codes "await"))) [
     | inl is ↦
         let found = map_some (λ name. Commands (Await name)) (name_of a) said (rw is at (rw other at e)) in
         let name = name_is a found.0 found.1 in
-        line_as (w ∷ a ∷ []) (Commands (Await found.0)) said (ap (λ x. x ++ 32 ∷ a) (word_is w (codes "await") is) ∙ ap (λ x. codes "await " ++ x) name.0, name.1) found.2
+        line_as (w ∷ a ∷ []) (Commands (Await found.0)) said (ap (λ x. x ++ 32 ∷ a) (same_bytes w (codes "await") is) ∙ ap (λ x. codes "await " ++ x) name.0, name.1) found.2
     | inr none ↦ absurd (let found : None ≡ Some said = (rw none at (rw other at e)) in cc)
   ]
 ]
@@ -200,26 +188,26 @@ two_words w a said e = elim (cases_Bool (bytes_eq w (codes "post"))) [
 three_words : (w a b : List ℕ) (said : Said) → said_by (w ∷ a ∷ b ∷ []) ≡ Some said → IsLine (w ∷ a ∷ b ∷ []) said
 three_words w a b said e = elim (cases_Bool (bytes_eq w (codes "r"))) [
   | inl is ↦
-      let first = then_some (λ lba. option_map (λ count. Commands (Read lba count)) (number_of b)) (number_of a) said (rw is at e) in
+      let first = split_then (λ lba. option_map (λ count. Commands (Read lba count)) (number_of b)) (number_of a) said (rw is at e) in
       let second = map_some (λ count. Commands (Read first.0 count)) (number_of b) said first.2 in
       let lba = number_is a first.0 first.1 in
       let count = number_is b second.0 second.1 in
       line_as (w ∷ a ∷ b ∷ []) (Commands (Read first.0 second.0)) said
-      (ap (λ x. x ++ 32 ∷ (a ++ 32 ∷ b)) (word_is w (codes "r") is) ∙ ap (λ x. 114 ∷ 32 ∷ (x ++ 32 ∷ b)) lba.0 ∙ ap (λ x. 114 ∷ 32 ∷ (decimal first.0 ++ 32 ∷ x)) count.0 ∙ sym (read_parts (decimal first.0) (decimal second.0)), (lba.1, count.1)) second.2
+      (ap (λ x. x ++ 32 ∷ (a ++ 32 ∷ b)) (same_bytes w (codes "r") is) ∙ ap (λ x. 114 ∷ 32 ∷ (x ++ 32 ∷ b)) lba.0 ∙ ap (λ x. 114 ∷ 32 ∷ (decimal first.0 ++ 32 ∷ x)) count.0 ∙ sym (read_parts (decimal first.0) (decimal second.0)), (lba.1, count.1)) second.2
   | inr none ↦ absurd (let found : None ≡ Some said = (rw none at e) in cc)
 ]
 
 four_words : (w a b c : List ℕ) (said : Said) → said_by (w ∷ a ∷ b ∷ c ∷ []) ≡ Some said → IsLine (w ∷ a ∷ b ∷ c ∷ []) said
 four_words w a b c said e = elim (cases_Bool (bytes_eq w (codes "w"))) [
   | inl is ↦
-      let first = then_some (λ lba. option_and_then (λ count. option_map (λ tag. Commands (Write lba count tag)) (number_of c)) (number_of b)) (number_of a) said (rw is at e) in
-      let second = then_some (λ count. option_map (λ tag. Commands (Write first.0 count tag)) (number_of c)) (number_of b) said first.2 in
+      let first = split_then (λ lba. option_and_then (λ count. option_map (λ tag. Commands (Write lba count tag)) (number_of c)) (number_of b)) (number_of a) said (rw is at e) in
+      let second = split_then (λ count. option_map (λ tag. Commands (Write first.0 count tag)) (number_of c)) (number_of b) said first.2 in
       let third = map_some (λ tag. Commands (Write first.0 second.0 tag)) (number_of c) said second.2 in
       let lba = number_is a first.0 first.1 in
       let count = number_is b second.0 second.1 in
       let tag = number_is c third.0 third.1 in
       line_as (w ∷ a ∷ b ∷ c ∷ []) (Commands (Write first.0 second.0 third.0)) said (
-        ap (λ x. x ++ 32 ∷ (a ++ 32 ∷ (b ++ 32 ∷ c))) (word_is w (codes "w") is) ∙ ap (λ x. 119 ∷ 32 ∷ (x ++ 32 ∷ (b ++ 32 ∷ c))) lba.0 ∙ ap (λ x. 119 ∷ 32 ∷ (decimal first.0 ++ 32 ∷ (x ++ 32 ∷ c))) count.0
+        ap (λ x. x ++ 32 ∷ (a ++ 32 ∷ (b ++ 32 ∷ c))) (same_bytes w (codes "w") is) ∙ ap (λ x. 119 ∷ 32 ∷ (x ++ 32 ∷ (b ++ 32 ∷ c))) lba.0 ∙ ap (λ x. 119 ∷ 32 ∷ (decimal first.0 ++ 32 ∷ (x ++ 32 ∷ c))) count.0
             ∙ ap (λ x. 119 ∷ 32 ∷ (decimal first.0 ++ 32 ∷ (decimal second.0 ++ 32 ∷ x))) tag.0 ∙ sym (write_parts (decimal first.0) (decimal second.0) (decimal third.0)),
         (lba.1, count.1, tag.1),
       ) third.2

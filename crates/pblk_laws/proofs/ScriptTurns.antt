@@ -1,5 +1,5 @@
 -- Threads that take turns: they never get stuck exactly where there is a time for each command.
-use Rattle.std.proofs.Common.{◌≡◌, ℕ, zero, suc, ◌+◌, ◌<◌, ◌≤◌, ◌||◌, ◌⊎◌, Bool, true, false, if◌then◌else◌, List, [], ◌∷◌, ◌++◌, map, length, Option, Some, None, refl, sym, ap, ◌∙◌, subst, arith, inl, inr, append_assoc, add-one}
+use Rattle.std.proofs.Common.{◌≡◌, ℕ, zero, suc, ◌+◌, ◌<◌, ◌≤◌, ◌⊎◌, true, false, if◌then◌else◌, List, [], ◌∷◌, ◌++◌, map, length, Option, Some, None, refl, sym, ap, ◌∙◌, subst, arith, inl, inr, append_assoc, add-one}
 use Rattle.std.specs.List.{list_any, sum_by}
 use Rattle.std.specs.Str.{bytes_eq}
 use Rattle.std.proofs.lemmas.Bool.{cases_Bool, true≢false, false≢true}
@@ -9,6 +9,9 @@ use Rattle.pblk_model.specs.declared.script.Command.{Command}
 use Rattle.pblk_model.specs.declared.script.Command.TheVariants.{Write, Read, Flush, Post, Await}
 use Rattle.pblk_model.specs.Script.{command_at, NeverStuck}
 use Rattle.pblk_model.specs.ScriptText.{Heard, Numbered, threads_of, script_of, run_on, turn, turns, least_standing, stuck_at}
+use Rattle.lemmas.proofs.Lists.{cases_passed}
+use Rattle.lemmas.proofs.Tests.{or_right}
+use Rattle.pblk_model.proofs.ScriptTextLemmas.{run_on-end, turn-end, turn-next, turns-stay}
 
 -- what is posted once a thread has gone past a command, if it can
 abbrev pub passed : List (List ℕ) → Command → Option (List (List ℕ))
@@ -42,15 +45,6 @@ run_on-stands posted n (Await name) thread e = elim (cases_Bool (list_any (bytes
   | inr fails_so ↦ rw fails_so refl
 ]
 
-pub run_on-end : (posted : List (List ℕ)) → run_on posted [] ≡ (posted, [])
-unfolding run_on
-run_on-end posted = refl
-
--- by what a command lets through
-cases_passed : (o : Option (List (List ℕ))) → (o ≡ None) ⊎ ((more : List (List ℕ)) × (o ≡ Some more))
-cases_passed None = inl refl
-cases_passed (Some more) = inr (more, refl)
-
 pub run_on-length : (posted : List (List ℕ)) (thread : Numbered) → length (run_on posted thread).1 ≤ length thread
 run_on-length posted [] = rw (run_on-end posted) (omega arith)
 run_on-length posted ((n, c) ∷ thread) = elim (cases_passed (passed posted c)) [
@@ -68,14 +62,6 @@ run_on-stays posted ((n, c) ∷ thread) e = elim (cases_passed (passed posted c)
 
 -- Turns in which nothing moves.
 
-pub turn-end : (posted : List (List ℕ)) → turn posted [] ≡ (posted, [])
-unfolding turn
-turn-end posted = refl
-
-pub turn-next : (posted : List (List ℕ)) (thread : Numbered) (threads : List Numbered) → turn posted (thread ∷ threads) ≡ ((turn (run_on posted thread).0 threads).0, (run_on posted thread).1 ∷ (turn (run_on posted thread).0 threads).1)
-unfolding turn
-turn-next posted thread threads = refl
-
 pub turn-stays : (posted : List (List ℕ)) (threads : List Numbered) → map length (turn posted threads).1 ≡ map length threads → turn posted threads ≡ (posted, threads)
 turn-stays posted [] e = turn-end posted
 turn-stays posted (thread ∷ threads) e =
@@ -88,15 +74,6 @@ turn-stays posted (thread ∷ threads) e =
     let rest = turn-stays posted threads others' in
     next ∙ ap (λ r. ((turn r.0 threads).0, r.1 ∷ (turn r.0 threads).1)) stays ∙ ap (λ r. (r.0, thread ∷ r.1)) rest
 
-pub turns-stay : (k : ℕ) (posted : List (List ℕ)) (threads : List Numbered) → turn posted threads ≡ (posted, threads) → turns k posted threads ≡ threads
-unfolding turns
-turns-stay zero posted threads e = refl
-turns-stay (suc k) posted threads e = ap (λ r. turns k r.0 r.1) e ∙ turns-stay k posted threads e
-
-pub turns-next : (k : ℕ) (posted : List (List ℕ)) (threads : List Numbered) → turns (suc k) posted threads ≡ turns k (turn posted threads).0 (turn posted threads).1
-unfolding turns
-turns-next k posted threads = refl
-
 -- The threads without the numbers of their lines.
 abbrev pub plain : List Numbered → List (List Command)
 plain threads = map (map (λ x. x.1)) threads
@@ -107,16 +84,12 @@ IsListed posted name = list_any (bytes_eq name) posted ≡ true
 listed-self : (posted : List (List ℕ)) (name : List ℕ) → IsListed (name ∷ posted) name
 listed-self posted name = rw ((bytes_eq-Decides name name).1 refl) refl
 
-or_later : (a b : Bool) → b ≡ true → (a || b) ≡ true
-or_later true b e = refl
-or_later false b e = e
-
 -- what was posted stays so
 passed-keeps : (posted more : List (List ℕ)) (c : Command) (name : List ℕ) → passed posted c ≡ Some more → IsListed posted name → IsListed more name
 passed-keeps posted more (Write lba count tag) name e h = let same : posted ≡ more = cc in subst (λ p. IsListed p name) same h
 passed-keeps posted more (Read lba count) name e h = let same : posted ≡ more = cc in subst (λ p. IsListed p name) same h
 passed-keeps posted more Flush name e h = let same : posted ≡ more = cc in subst (λ p. IsListed p name) same h
-passed-keeps posted more (Post post) name e h = let same : post ∷ posted ≡ more = cc in subst (λ p. IsListed p name) same (or_later (bytes_eq name post) (list_any (bytes_eq name) posted) h)
+passed-keeps posted more (Post post) name e h = let same : post ∷ posted ≡ more = cc in subst (λ p. IsListed p name) same (or_right (bytes_eq name post) (list_any (bytes_eq name) posted) h)
 passed-keeps posted more (Await await) name e h = elim (cases_Bool (list_any (bytes_eq await) posted)) [
   | inl there ↦ let some : Some posted ≡ Some more = (rw there at e) in let same : posted ≡ more = cc in subst (λ p. IsListed p name) same h
   | inr absent ↦ absurd (let none : None ≡ Some more = (rw absent at e) in cc)
@@ -158,7 +131,8 @@ stands-await posted (Await name) e = elim (cases_Bool (list_any (bytes_eq name) 
   | inr absent ↦ (name, refl, absent)
 ]
 
--- A thread loses its first command. Where a command of the others was: at the k-th thread one later, else where it is.
+-- A thread loses its first command. Where a command of the others was: at the k-th thread one later, else where
+-- it is.
 shift : ℕ → ℕ → ℕ → ℕ
 shift zero zero d = suc d
 shift zero (suc j) d = d

@@ -12,14 +12,13 @@ use Rattle.pblk_model.specs.Shape.{units}
 use Rattle.pblk_model.specs.Chunk.{Chunk, Block, IsBlock, IsChunk}
 use Rattle.pblk_model.specs.LineOrder.{start_len, column_of, block_of, address_of}
 use Rattle.pblk_model.specs.Marks.{meta_lba, meta_mark, sector_mark, pad_mark}
-use Rattle.pblk_model.specs.Image.{Image, IsFit, blank, is_online_in, line_chunks, width, block_at}
+use Rattle.pblk_model.specs.Image.{Image, IsFit, blank, line_chunks, width, block_at}
 use Rattle.pblk_model.specs.StartRecord.{StartRecord, start_bytes, start_of}
 use Rattle.pblk_model.specs.EndRecord.{EndRecord, end_of}
 use Rattle.pblk_model.specs.Sealed.{AgreesWithLine, BeginsNarrower, IsSealed}
 use Rattle.pblk_model.specs.History.{SectorWrite}
 use Rattle.pblk_laws.specs.StartBlocks.{AreStart}
 use Rattle.pblk_laws.specs.FilledLine.{IsFilledLine}
-use Rattle.pblk_laws.proofs.Lists.{all_at, all_by_get, all_get, all_filter, all_filter_map}
 use Rattle.pblk_model.proofs.LineOrder.{address_below, chunk_back, block_back}
 use Rattle.pblk_laws.proofs.Widths.{width_within}
 use Rattle.pblk_laws.proofs.Starts.{found_is}
@@ -27,6 +26,8 @@ use Rattle.pblk_laws.proofs.StartHeads.{spelled_begins_once}
 use Rattle.pblk_laws.proofs.BlankImages.{IsEmpty, empty_line, blank_empty, blank_start}
 use Rattle.pblk_laws.proofs.FilledExample.{image, first, write, is_filled, image_fit, others_empty}
 use Rattle.pblk_laws.proofs.Shapes.{small_accepted}
+use Rattle.lemmas.proofs.Parts.{all_by_get, all_get as all_at, all_get_some}
+use Rattle.pblk_model.proofs.ImageLemmas.{line_fit}
 
 -- A chunk without blocks.
 
@@ -48,12 +49,9 @@ in_chunk : (s : Shape) (n : ℕ) (o : Option Chunk) (b : Block) → IfSome o (Is
 in_chunk s n None b h e = absurd (none-some b e)
 in_chunk s n (Some c) b h e = all_at (IsBlock s) c.blocks n b h.blocks e
 
-line_fit : (i : Image) (line : ℕ) → IsFit i → AllByRecursion (IsChunk i.shape) (line_chunks i line)
-line_fit i line fit = all_filter (IsChunk i.shape) (λ c. is_online_in c.state) _ (all_filter_map (IsChunk i.shape) (AllByRecursion (IsChunk i.shape)) (λ unit. slice_get unit line) i.units (λ unit each. all_get (IsChunk i.shape) unit line each) fit.each)
-
 block_fit : (i : Image) (line a : ℕ) (b : Block) → IsFit i → block_at i line a ≡ Some b → IsBlock i.shape b
 block_fit i line a b fit e =
-    in_chunk i.shape (block_of i.shape (width i line) a) (slice_get (line_chunks i line) (column_of i.shape (width i line) a)) b (all_get (IsChunk i.shape) (line_chunks i line) (column_of i.shape (width i line) a) (line_fit i line fit)) e
+    in_chunk i.shape (block_of i.shape (width i line) a) (slice_get (line_chunks i line) (column_of i.shape (width i line) a)) b (all_get_some (IsChunk i.shape) (line_chunks i line) (column_of i.shape (width i line) a) (line_fit i line fit)) e
 
 -- A block of a run of blocks is a part of their bytes.
 

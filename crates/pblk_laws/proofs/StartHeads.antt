@@ -1,10 +1,10 @@
 -- No block of a start record but its first looks like a header of one.
 use Rattle.std.proofs.Common.{◌≡◌, ℕ, ◌+◌, ◌-◌, ◌*◌, ◌^◌, ◌<◌, ◌≤◌, zero, suc, true, eqb, ltb, leb, not, List, [], ◌∷◌, ◌++◌, length, get_or, take, drop, refl, sym, ap, ◌∙◌, subst, arith, append_assoc, inl, inr}
 use Rattle.std.specs.List.{AllByRecursion, flat_map}
-use Rattle.std.specs.Int.{Width, w32, w64, byte_len, from_le_bytes}
+use Rattle.std.specs.Int.{w32, w64, from_le_bytes}
 use Rattle.std.proofs.lemmas.Bool.{and_parts, ltb-true}
-use Rattle.std.proofs.lemmas.Nat.{from_le_bytes-to_le_bytes_4, from_le_bytes-to_le_bytes_8}
-use Rattle.std.proofs.lemmas.List.{drop-drop, drop-take}
+use Rattle.std.proofs.lemmas.Nat.{from_le_bytes-to_le_bytes_8}
+use Rattle.std.proofs.lemmas.List.{drop-drop}
 use Rattle.std.proofs.Math.Seq.{drop-append-add}
 use Rattle.pblk_model.specs.declared.shape.Shape.{Shape}
 use Rattle.pblk_model.specs.declared.chunk.Mark.{Mark}
@@ -15,7 +15,11 @@ use Rattle.pblk_model.specs.LineOrder.{start_len}
 use Rattle.pblk_model.specs.Marks.{meta_mark}
 use Rattle.pblk_model.specs.StartRecord.{Row, StartRecord, magic, row_bytes, start_bytes, rows_fit, start_fits}
 use Rattle.pblk_model.specs.Sealed.{BeginsNarrower}
-use Rattle.pblk_laws.proofs.Starts.{byte_is, numbers, spelled}
+use Rattle.pblk_laws.proofs.Starts.{numbers, spelled}
+use Rattle.lemmas.proofs.Numbers.{byte_is}
+use Rattle.lemmas.proofs.Parts.{take_less}
+use Rattle.pblk_model.proofs.BytesLemmas.{number_front, zeros_first}
+use Rattle.pblk_model.proofs.StartRecordLemmas.{width_there}
 
 abbrev head_bytes : List ℕ
 head_bytes = le32 magic ++ le16 1 ++ le16 1
@@ -25,11 +29,6 @@ abbrev NoHead : ℕ → List ℕ → Type 0
 NoHead seq t = take 8 t ≡ head_bytes → number_at w64 16 t ≡ seq → 1 ≤ number_at w32 12 t → ⊥
 
 -- Zeros.
-
-zeros_first : (n : ℕ) → get_or (take 8 (zeros n)) 0 0 ≡ 0
-unfolding zeros
-zeros_first zero = refl
-zeros_first (suc n) = refl
 
 zeros_no_head : (seq n : ℕ) → NoHead seq (zeros n)
 zeros_no_head seq n e f g = let h : get_or (take 8 (zeros n)) 0 0 ≡ 107 = ap (λ xs. get_or xs 0 0) e in omega (arith, zeros_first n)
@@ -115,18 +114,6 @@ no_head seq (row ∷ rows) n (suc (suc (suc q))) h =
 
 -- A block is the front of a text.
 
-take_less : (m n : ℕ) (xs : List ℕ) → m ≤ n → take m (take n xs) ≡ take m xs
-take_less zero n xs h = refl
-take_less (suc m) zero xs h = absurd (omega arith)
-take_less (suc m) (suc n) [] h = refl
-take_less (suc m) (suc n) (x ∷ xs) h = ap (λ ys. x ∷ ys) (take_less m n xs (omega arith))
-
-number_front : (w : Width) (o n : ℕ) (xs : List ℕ) → o + byte_len w ≤ n → number_at w o (take n xs) ≡ number_at w o xs
-number_front w o n xs h =
-    let split : n ≡ o + (n - o) = omega arith in
-    let past : drop o (take n xs) ≡ take (n - o) (drop o xs) = ap (λ m. drop o (take m xs)) split ∙ drop-take o (n - o) xs in
-    ap (λ ys. from_le_bytes w (take (byte_len w) ys)) past ∙ ap (from_le_bytes w) (take_less (byte_len w) (n - o) (drop o xs) (omega arith))
-
 front_no_head : (seq n h : ℕ) (xs : List ℕ) (b : Block) → 24 ≤ n → NoHead seq xs → b.sector ≡ take n xs → b.mark.position ≡ seq → BeginsNarrower h b → ⊥
 front_no_head seq n h xs b long none same mark begins =
     none
@@ -152,10 +139,6 @@ rows_older s r least (row ∷ rows) lines first low h =
 past_header : (s : Shape) (r : StartRecord) → drop 64 (start_bytes s r) ≡ row_tail r.rows (start_len s * s.sector - length (spelled r))
 unfolding zeros
 past_header s r = refl
-
-width_there : (s : Shape) (r : StartRecord) → r.width < 2 ^ 32 → number_at w32 12 (start_bytes s r) ≡ r.width
-unfolding zeros
-width_there s r low = from_le_bytes-to_le_bytes_4 r.width low
 
 first_block : (s : Shape) (g h : ℕ) (r : StartRecord) (b : Block) → 24 ≤ s.sector → g < 2 ^ 32 → h ≤ g → r.width ≡ g → b.sector ≡ take s.sector (drop 0 (start_bytes s r)) → BeginsNarrower h b → ⊥
 first_block s g h r b long wide less same sector begins =

@@ -1,11 +1,10 @@
 -- Start records: what is spelled is read, and what is read was spelled.
-use Rattle.std.proofs.Common.{◌≡◌, ℕ, ◌+◌, ◌-◌, ◌*◌, ◌^◌, ◌<◌, ◌≤◌, zero, suc, Bool, true, cond, ◌&&◌, not, eqb, ltb, leb, Option, Some, None, List, [], ◌∷◌, ◌++◌, length, drop, refl, sym, ap, ◌∙◌, subst, arith, ◌/◌, length-append}
+use Rattle.std.proofs.Common.{◌≡◌, ℕ, ◌+◌, ◌-◌, ◌*◌, ◌^◌, ◌<◌, ◌≤◌, zero, suc, Bool, true, cond, ◌&&◌, not, eqb, ltb, leb, Option, Some, None, List, [], ◌∷◌, ◌++◌, length, drop, refl, sym, ap, ◌∙◌, subst, arith, length-append}
 use Rattle.std.proofs.lemmas.List.{length-replicate}
-use Rattle.std.proofs.Math.Nat.{mod-lt}
 use Rattle.std.specs.List.{AllByRecursion, slice_get, flat_map}
 use Rattle.std.specs.Option.{option_and_then}
 use Rattle.std.specs.Str.{bytes_eq}
-use Rattle.std.specs.Int.{w32, byte_at, bytes_low_first}
+use Rattle.std.specs.Int.{w32, bytes_low_first}
 use Rattle.std.proofs.lemmas.Bool.{and_parts, and_from, eqb-true, eq-eqb, ltb-true, leb-true}
 use Rattle.std.proofs.lemmas.Option.{cond_some, none-some}
 use Rattle.std.proofs.lemmas.Slice.Eq.{bytes_eq-Decides}
@@ -20,9 +19,10 @@ use Rattle.pblk_model.specs.Marks.{meta_lba, meta_mark}
 use Rattle.pblk_model.specs.Image.{Image, width, block_at}
 use Rattle.pblk_model.specs.StartRecord.{Row, StartRecord, magic, row_bytes, start_bytes, rows_fit, start_fits, rows_in, start_in, read_start, written_run, have_meta, marked_start, start_of}
 use Rattle.pblk_laws.specs.StartBlocks.{AreStart}
-use Rattle.pblk_laws.proofs.Lists.{all_append, all_replicate}
 use Rattle.pblk_model.proofs.LeastLengths.{start_len_least, sector_at_least}
 use Rattle.pblk_laws.proofs.Runs.{run_some, run_is}
+use Rattle.lemmas.proofs.Lists.{all_append, all_replicated}
+use Rattle.lemmas.proofs.Numbers.{byte_is}
 
 -- The numbers fit their fields.
 
@@ -250,10 +250,6 @@ start_bytes_length s line g r accepted fits =
 pub record AreBytes (xs : List ℕ) : Type 0 where
   pub each : AllByRecursion (λ x. x < 256) xs
 
-pub byte_is : (i n : ℕ) → byte_at i n < 256
-byte_is zero n = mod-lt n (omega arith)
-byte_is (suc i) n = mod-lt (n / 256 ^ suc i) (omega arith)
-
 low_bytes : (i k n : ℕ) → AllByRecursion (λ x. x < 256) (bytes_low_first i k n)
 low_bytes i zero n = tt
 low_bytes i (suc k) n = (byte_is i n, low_bytes (suc i) k n)
@@ -269,7 +265,7 @@ eight n = record { each = low_bytes 0 8 n }
 
 pub some_zeros : (n : ℕ) → AreBytes (zeros n)
 unfolding zeros
-some_zeros n = record { each = all_replicate (λ x. x < 256) n 0 (omega arith) }
+some_zeros n = record { each = all_replicated (λ x. x < 256) n 0 (omega arith) }
 
 pub ◌then◌ : {xs ys : List ℕ} → AreBytes xs → AreBytes ys → AreBytes (xs ++ ys)
 ◌then◌ {xs} {ys} h k = record { each = all_append (λ x. x < 256) xs ys h.each k.each }

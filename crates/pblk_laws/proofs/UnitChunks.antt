@@ -1,5 +1,5 @@
 -- The chunks that a unit's log leaves.
-use Rattle.std.proofs.Common.{◌≡◌, ℕ, zero, suc, ◌<◌, inl, inr, Option, Some, None, List, [], ◌∷◌, ◌++◌, length, refl, sym, ap, ◌∙◌, subst}
+use Rattle.std.proofs.Common.{◌≡◌, ℕ, ◌<◌, inl, inr, Option, Some, None, List, [], ◌∷◌, ◌++◌, length, refl, sym, ap, ◌∙◌, subst}
 use Rattle.std.specs.List.{AllByRecursion, slice_get, slice_set}
 use Rattle.std.specs.Option.{option_map_or}
 use Rattle.std.proofs.lemmas.List.{length-set, append-nil}
@@ -8,9 +8,10 @@ use Rattle.pblk_model.specs.Chunk.{Chunk, IsChunk}
 use Rattle.pblk_model.specs.ChunkStep.{ChunkCommand, Write, Read, Reset, WritesBlocks, ChunkAnswer, Done, Gave, Empty, Refused, ChunkStep, ChunkFails}
 use Rattle.pblk_model.specs.UnitLog.{UnitOutcome, Answered, Failed, Stopped, UnitEvent, NotRefused, IsOutcome, IsEvent, IsUnitLog, InFlight, IsCutWithin, IsCut, after_answer, after_outcome, after_event, after_log}
 use Rattle.pblk_laws.specs.StopLog.{WritesInFlight, IsStopOf}
-use Rattle.pblk_laws.proofs.Lists.{all_at}
 use Rattle.pblk_laws.proofs.ChunkStep.{step_is_chunk, failure_is_chunk, stop_is_chunk}
 use Rattle.pblk_laws.proofs.UnitLog.{answered, failed, stopped, stop_event, log_grows, log_leaves}
+use Rattle.lemmas.proofs.Parts.{all_get, all_set}
+use Rattle.pblk_model.proofs.UnitLogLemmas.{after_event_is}
 
 -- Failures and answers are events.
 
@@ -46,18 +47,10 @@ outcome_is_chunk s c command (Answered answer) minimum chunk blocks h = step_is_
 outcome_is_chunk s c command (Failed k) minimum chunk blocks h = failure_is_chunk s c _ command chunk blocks (failed s c command k h)
 outcome_is_chunk s c command (Stopped k) minimum chunk blocks h = stop_is_chunk s c _ command minimum chunk blocks (stopped s c command k h)
 
-all_set : {X : Type 0} (P : X → Type 0) (xs : List X) (k : ℕ) (x : X) → AllByRecursion P xs → P x → AllByRecursion P (slice_set xs k x)
-all_set P [] k x h p = h
-all_set P (y ∷ xs) zero x h p = (p, h.1)
-all_set P (y ∷ xs) (suc k) x h p = (h.0, all_set P xs k x h.1 p)
-
-event_at : (s : Shape) (chunks : List Chunk) (e : UnitEvent) (c : Chunk) → slice_get chunks e.chunk ≡ Some c → after_event s chunks e ≡ slice_set chunks e.chunk (after_outcome s c e.command e.outcome)
-event_at s chunks e c there = ap (λ o. option_map_or (λ d. slice_set chunks e.chunk (after_outcome s d e.command e.outcome)) o chunks) there
-
 event_keeps : (s : Shape) (chunks : List Chunk) (e : UnitEvent) → 0 < s.ws_min → AllByRecursion (IsChunk s) chunks → IsEvent s chunks e → AllByRecursion (IsChunk s) (after_event s chunks e)
 event_keeps s chunks e minimum each event =
-    let found : IsChunk s event.found = all_at (IsChunk s) chunks e.chunk event.found each event.there in
-    subst (AllByRecursion (IsChunk s)) (sym (event_at s chunks e event.found event.there))
+    let found : IsChunk s event.found = all_get (IsChunk s) chunks e.chunk event.found each event.there in
+    subst (AllByRecursion (IsChunk s)) (sym (after_event_is s chunks e event.found event.there))
     (all_set (IsChunk s) chunks e.chunk (after_outcome s event.found e.command e.outcome) each (outcome_is_chunk s event.found e.command e.outcome minimum found event.blocks event.outcome))
 
 pub log_keeps : (s : Shape) (chunks : List Chunk) (log : List UnitEvent) → 0 < s.ws_min → AllByRecursion (IsChunk s) chunks → IsUnitLog s chunks log → AllByRecursion (IsChunk s) (after_log s chunks log)
@@ -98,7 +91,7 @@ cut_within s chunks left log f h blocks (old, new, there, stops, e) =
     let stop = stop_event s old new f.command stops in
     let event : UnitEvent = stop_of f stop.0 in
     let is : IsEvent s now event = record { found = old; there = there; blocks = blocks; outcome = stop.1 } in
-    let made : left ≡ after_event s now event = e ∙ ap (slice_set now f.chunk) stop.2 ∙ sym (event_at s now event old there) in
+    let made : left ≡ after_event s now event = e ∙ ap (slice_set now f.chunk) stop.2 ∙ sym (after_event_is s now event old there) in
     (event ∷ [], inr (stop.0, refl), log_grows s chunks log event h is, made ∙ sym (log_leaves s chunks log event))
 
 pub cut_is_log : (s : Shape) (chunks left : List Chunk) (log : List UnitEvent) (flight : Option InFlight) → IsUnitLog s chunks log → WritesInFlight s flight → IsCut s (after_log s chunks log) flight left → IsMade s chunks log flight left
@@ -117,7 +110,7 @@ one_more s chunks log more f k e h =
     let last : IsUnitLog s now (event ∷ []) = subst (IsUnitLog s now) e (split_log s chunks log more h) in
     let is : IsEvent s now event = last.0 in
     let made : after_log s chunks (log ++ more) ≡ after_event s now event = ap (λ m. after_log s chunks (log ++ m)) e ∙ log_leaves s chunks log event in
-    (is.found, after_outcome s is.found f.command (Stopped k), is.there, stopped s is.found f.command k is.outcome, made ∙ event_at s now event is.found is.there)
+    (is.found, after_outcome s is.found f.command (Stopped k), is.there, stopped s is.found f.command k is.outcome, made ∙ after_event_is s now event is.found is.there)
 
 pub log_is_cut : (s : Shape) (chunks : List Chunk) (log more : List UnitEvent) (flight : Option InFlight) → IsStopOf flight more → IsUnitLog s chunks (log ++ more)
     → IsCut s (after_log s chunks log) flight (after_log s chunks (log ++ more))

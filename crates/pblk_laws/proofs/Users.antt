@@ -6,7 +6,7 @@ use Rattle.std.specs.List.Sorted.{IsStrictlyIncreasing}
 use Rattle.std.proofs.lemmas.Bool.{cases_lt, lt-ltb, le-ltb}
 use Rattle.std.proofs.lemmas.Option.{same_Some, none-some}
 use Rattle.pblk_model.specs.History.{users}
-use Rattle.pblk_laws.proofs.Lists.{all_at}
+use Rattle.lemmas.proofs.Parts.{all_get}
 
 Rises : List ℕ → Type 0
 Rises [] = Unit {0}
@@ -42,18 +42,11 @@ users_none : (p : ℕ) (xs : List ℕ) → AllByRecursion (λ y. p ≤ y) xs →
 users_none p [] h = refl
 users_none p (x ∷ xs) h = users_past p x xs h.0 ∙ users_none p xs h.1
 
-pub few_users : (xs : List ℕ) (p : ℕ) → users xs p ≤ length xs
-few_users [] p = omega arith
-few_users (x ∷ xs) p = elim (cases_lt x p) [
-  | inl low ↦ omega (arith, users_first p x xs low, few_users xs p)
-  | inr past ↦ omega (arith, users_past p x xs past, few_users xs p)
-]
-
 none_of_rising : (x : ℕ) (xs : List ℕ) (p k q : ℕ) → Rises (x ∷ xs) → slice_get (x ∷ xs) k ≡ Some q → p ≤ x → (q < p) ↔ (k < users (x ∷ xs) p)
 none_of_rising x xs p k q h e past =
     let each : AllByRecursion (λ y. p ≤ y) (x ∷ xs) = above p x xs h past in
     let none : users (x ∷ xs) p ≡ 0 = users_none p (x ∷ xs) each in
-    let high : p ≤ q = all_at (λ y. p ≤ y) (x ∷ xs) k q each e in
+    let high : p ≤ q = all_get (λ y. p ≤ y) (x ∷ xs) k q each e in
     (λ less. absurd (omega arith), λ less. absurd (omega arith))
 
 first_of_rising : (xs : List ℕ) (p k q : ℕ) → Rises xs → slice_get xs k ≡ Some q → (q < p) ↔ (k < users xs p)

@@ -1,17 +1,14 @@
 -- How wide a line is.
 use Rattle.std.proofs.Common.{◌≡◌, ℕ, ◌+◌, ◌≤◌, Bool, true, false, cond, Option, Some, None, List, [], ◌∷◌, length, arith}
-use Rattle.std.specs.List.{slice_get, filter, filter_map, cons_option}
+use Rattle.std.specs.List.{slice_get, filter_map, cons_option}
 use Rattle.pblk_model.specs.Shape.{units}
 use Rattle.pblk_model.specs.Chunk.{Chunk}
 use Rattle.pblk_model.specs.Image.{Image, IsFit, is_online_in, width}
+use Rattle.lemmas.proofs.Maps.{filter_short}
 
 cond_length : {X : Type 0} (b : Bool) (x : X) (xs : List X) (n : ℕ) → length xs ≤ n → length (cond b (x ∷ xs) xs) ≤ n + 1
 cond_length true x xs n h = omega arith
 cond_length false x xs n h = omega arith
-
-filter_length : {X : Type 0} (p : X → Bool) (xs : List X) → length (filter p xs) ≤ length xs
-filter_length p [] = omega arith
-filter_length p (x ∷ xs) = let kept : length (filter p (x ∷ xs)) ≤ length xs + 1 = cond_length (p x) x (filter p xs) (length xs) (filter_length p xs) in omega arith
 
 option_length : {X : Type 0} (o : Option X) (xs : List X) (n : ℕ) → length xs ≤ n → length (cons_option o xs) ≤ n + 1
 option_length None xs n h = omega arith
@@ -23,7 +20,7 @@ filter_map_length f (x ∷ xs) = let kept : length (filter_map f (x ∷ xs)) ≤
 
 pub width_within : (i : Image) (line : ℕ) → IsFit i → width i line ≤ units i.shape
 width_within i line fit =
-    let online : width i line ≤ length (filter_map (λ (unit : List Chunk). slice_get unit line) i.units) = filter_length (λ (c : Chunk). is_online_in c.state) _ in
+    let online : width i line ≤ length (filter_map (λ (unit : List Chunk). slice_get unit line) i.units) = filter_short (λ (c : Chunk). is_online_in c.state) _ in
     let there : length (filter_map (λ (unit : List Chunk). slice_get unit line) i.units) ≤ length i.units = filter_map_length (λ (unit : List Chunk). slice_get unit line) i.units in
     let counted : length i.units ≡ units i.shape = fit.units in
     omega arith

@@ -2,13 +2,13 @@
 use Rattle.std.proofs.Common.{◌≡◌, ◌≢◌, ℕ, ◌<◌, ◌==◌, ◌&&◌, ◌||◌, ◌⊎◌, Bool, true, false, cond, ltb, Option, Some, None, List, [], ◌∷◌, refl, sym, ap, ◌∙◌, subst, arith, inl, inr}
 use Rattle.std.specs.Prelude.{◌↔◌}
 use Rattle.std.specs.List.{Contains, filter, fold}
-use Rattle.std.proofs.lemmas.Option.{same_Some, none-some}
 use Rattle.std.proofs.lemmas.Bool.{cases_Bool, cases_order, lt-ltb, eq-eqb, eqb-true, ltb-true, and_parts, and_from, or_cases, or_left, or_right, both_ways, false_from_ne_true, true≢false}
 use Rattle.pblk_model.specs.Image.{Image}
 use Rattle.pblk_model.specs.Records.{Record}
 use Rattle.pblk_model.specs.Contents.{IsNewer, is_newer, newer, is_of, winner, IsWinner, counted}
-use Rattle.pblk_laws.proofs.Lists.{contains_more, contains_first, contains_cases}
 use Rattle.pblk_laws.proofs.RecordPlaces.{counted_alike}
+use Rattle.lemmas.proofs.Lists.{contains_cases, contains_first, contains_more}
+use Rattle.pblk_model.proofs.ContentsLemmas.{of_same}
 
 -- One number is less than another, or they are equal and more holds.
 
@@ -105,10 +105,6 @@ lba_is : (lba : ℕ) (o : Option ℕ) → is_of lba o ≡ true → o ≡ Some lb
 lba_is lba None e = absurd (true≢false (sym e))
 lba_is lba (Some other) e = ap Some (eqb-true other lba e)
 
-lba_of : (lba : ℕ) (o : Option ℕ) → o ≡ Some lba → is_of lba o ≡ true
-lba_of lba None e = absurd (none-some lba e)
-lba_of lba (Some other) e = eq-eqb other lba (same_Some other lba e)
-
 SeenOf : ℕ → (Record → Type 0) → List Record → Record → Type 0
 SeenOf lba Seen rs r = Seen r ⊎ (Contains rs r × (r.lba ≡ Some lba))
 
@@ -138,7 +134,7 @@ newest_is lba (x ∷ rs) Seen o is =
           (λ r h. elim h [
             | inl seen ↦ inl seen
             | inr there ↦ elim (contains_cases x r rs there.0) [
-              | inl here ↦ absurd (both_ways (is_of lba r.lba) (subst (λ (y : Record). is_of lba y.lba ≡ false) here e) (lba_of lba r.lba there.1))
+              | inl here ↦ absurd (both_ways (is_of lba r.lba) (subst (λ (y : Record). is_of lba y.lba ≡ false) here e) (of_same lba r.lba there.1))
               | inr later ↦ inr (later, there.1)
             ]
           ]) last in

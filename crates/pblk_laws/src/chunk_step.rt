@@ -6,20 +6,20 @@ ghost use Rattle.pblk_model.specs.declared.chunk.ChunkErr.{ChunkErr};
 ghost use Rattle.pblk_model.specs.Chunk.{Chunk, Block, IsChunk};
 ghost use Rattle.pblk_model.specs.ChunkStep.{ChunkCommand, WritesBlocks, ChunkAnswer, Read, Reset, Refused, ChunkStep, ChunkFails, ChunkStops};
 
-/// A command other than a reset only appends blocks to a chunk's.
+/// A command other than a reset only appends blocks to those of the chunk.
 pub fn step_appends()
     ensures { (s : Shape) (old new : Chunk) (command : ChunkCommand) (answer : ChunkAnswer)
         → command ≢ Reset → ChunkStep s old command answer new → (more : List Block)
         × (new.blocks ≡ old.blocks ++ more) }
 {}
 
-/// A command other than a reset that fails only appends blocks to a chunk's.
+/// A command other than a reset that fails only appends blocks to those of the chunk.
 pub fn failure_appends()
     ensures { (s : Shape) (old new : Chunk) (command : ChunkCommand) → command ≢ Reset
         → ChunkFails s old command new → (more : List Block) × (new.blocks ≡ old.blocks ++ more) }
 {}
 
-/// A command other than a reset that the drive's stop cuts off only appends blocks to a chunk's.
+/// A command other than a reset that the drive's stop cuts off only appends blocks to those of the chunk.
 pub fn stop_appends()
     ensures { (s : Shape) (old new : Chunk) (command : ChunkCommand) → command ≢ Reset
         → ChunkStops s old command new → (more : List Block) × (new.blocks ≡ old.blocks ++ more) }
@@ -41,7 +41,7 @@ pub fn read_changes_nothing()
         → new ≡ old }
 {}
 
-/// A chunk gives a command one answer, and is one chunk afterwards.
+/// A command on a chunk has one answer, and leaves one chunk.
 pub fn step_is_determined()
     ensures { (s : Shape) (old first second : Chunk) (command : ChunkCommand)
         (answer other : ChunkAnswer) → ChunkStep s old command answer first

@@ -33,13 +33,13 @@ pub fn end_spelling_fills_its_blocks()
     ensures bytes { (s : Shape) (r : EndRecord) → AllByRecursion (λ x. x < 256) (end_bytes s r) }
 {}
 
-/// A line has the end record that the blocks of its end are.
+/// A line has the end record that the blocks at its end spell.
 pub fn written_end_is_found()
     ensures { (i : Image) (line : ℕ) (start : StartRecord) (r : EndRecord) (blocks : List Block)
         → IsEndOf i line start r → AreEnd i line r blocks → end_of i line start ≡ Some r }
 {}
 
-/// The end record that a line has is what the blocks of its end are.
+/// The blocks at a line's end spell the end record that the line has.
 pub fn found_end_is_written()
     ensures { (i : Image) (line : ℕ) (start : StartRecord) (r : EndRecord) → end_of i line start ≡ Some r
         → IsEndOf i line start r × (blocks : List Block) × AreEnd i line r blocks }

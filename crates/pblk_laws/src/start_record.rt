@@ -33,7 +33,7 @@ pub fn spelling_fills_its_blocks()
         → AllByRecursion (λ x. x < 256) (start_bytes s r) }
 {}
 
-/// A line has the start record that the blocks of its front are.
+/// A line has the start record that the blocks at its front spell.
 pub fn written_is_found()
     ensures { (i : Image) (line : ℕ) (r : StartRecord) (blocks : List Block) → IsAccepted i.shape
         → line < i.shape.chunks → width i line < 2 ^ 32
@@ -41,7 +41,7 @@ pub fn written_is_found()
         → start_of i line ≡ Some r }
 {}
 
-/// The start record that a line has is what the blocks of its front are.
+/// The blocks at a line's front spell the start record that the line has.
 pub fn found_is_written()
     ensures { (i : Image) (line : ℕ) (r : StartRecord) → start_of i line ≡ Some r
         → IsTrue (start_fits i.shape line (width i line) r) × (blocks : List Block)

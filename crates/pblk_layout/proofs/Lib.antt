@@ -2,3 +2,4 @@ pub mod LineBits
 pub mod Orders
 pub mod Sets
 pub mod Sizes
+pub mod LiveLemmas

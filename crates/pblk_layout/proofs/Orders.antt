@@ -1,5 +1,5 @@
 -- The blocks of a line by their addresses, from the law of the line order.
-use Rattle.std.proofs.Common.{◌≡◌, ℕ, ◌+◌, ◌*◌, ◌/◌, ◌%◌, ◌<◌, ◌≤◌, ◌↔◌, zero, suc, true, Some, List, length, sym, ap, ◌∙◌, subst, arith}
+use Rattle.std.proofs.Common.{◌≡◌, ℕ, ◌+◌, ◌*◌, ◌/◌, ◌%◌, ◌<◌, ◌≤◌, ◌↔◌, true, Some, List, length, sym, ap, ◌∙◌, subst, arith}
 use Rattle.std.specs.List.{slice_get}
 use Rattle.std.proofs.lemmas.Option.{same_Some, slice_get_within}
 use Rattle.std.proofs.Math.Nat.{mul-le-mul_left}
@@ -10,6 +10,7 @@ use Rattle.pblk_model.specs.Shape.{units}
 use Rattle.pblk_layout.specs.Live.{is_in, units_below, units_in}
 use Rattle.pblk_layout.proofs.Sizes.{ShortLaw}
 use Rattle.pblk_layout.proofs.Sets.{rank_is, member, get_within}
+use Rattle.lemmas.proofs.Numbers.{some_units}
 
 -- what the line order has at an address
 abbrev pub OrderLaw : Type 0
@@ -26,10 +27,6 @@ AddressLaw = (s : Shape) (g a : ℕ) → 0 < s.ws_opt → s.clba % s.ws_opt ≡ 
 abbrev pub BlockLaw : Type 0
 BlockLaw = (s : Shape) (g k b : ℕ) → 0 < s.ws_opt → s.clba % s.ws_opt ≡ 0 → k < g → b < s.clba
     → (address_of s g k b < g * s.clba) × (column_of s g (address_of s g k b) ≡ k) × (block_of s g (address_of s g k b) ≡ b)
-
-pub some_wide : (g c a : ℕ) → a < g * c → 0 < g
-some_wide zero c a h = absurd (omega arith)
-some_wide (suc g) c a h = omega arith
 
 -- what `place` gives
 pub placed : (s : Shape) (us : List ℕ) (a g unit : ℕ) → OrderLaw → 0 < s.ws_opt → s.clba % s.ws_opt ≡ 0 → g ≡ length us → slice_get us (column_of s g a) ≡ Some unit → a < length us * s.clba
@@ -57,7 +54,7 @@ pub record IsAt (s : Shape) (us : List ℕ) (a unit b : ℕ) : Type 0 where
 pub at : (s : Shape) (us : List ℕ) (a unit b : ℕ) → OrderLaw → LengthLaw → AddressLaw → 0 < s.ws_opt → s.clba % s.ws_opt ≡ 0 → slice_get (line_order s us) a ≡ Some (unit, b) → IsAt s us a unit b
 at s us a unit b law long addresses ws whole h =
     let inside : a < length us * s.clba = omega (arith, slice_get_within (line_order s us) a (unit, b) h, long s us ws whole) in
-    let is = addresses s (length us) a ws whole (some_wide (length us) s.clba a inside) inside in
+    let is = addresses s (length us) a ws whole (some_units (length us) s.clba a inside) inside in
     let there = get_within us (column_of s (length us) a) is.0 in
     let placed_there : slice_get (line_order s us) a ≡ Some (there.0, block_of s (length us) a) = (law s us a there.0 ws whole).1 (there.1, inside) in
     let same : (there.0, block_of s (length us) a) ≡ (unit, b) = same_Some (there.0, block_of s (length us) a) (unit, b) (sym placed_there ∙ h) in

@@ -5,7 +5,7 @@ ghost use Rattle.pblk_model.specs.Image.{Image, line_units};
 ghost use Rattle.pblk_layout.specs.Live.{HasLiveUnits, units_in};
 
 /// Bits that are set exactly for the units whose chunk of a line isn't Offline are the line's units, in their
-/// order, so that what `place` and `addr_of` say of them is said of the line.
+/// order. So what `place` and `addr_of` say of the bits holds for the line.
 pub fn live_units_are_the_lines()
     ensures { (i : Image) (line live : ℕ) → length i.units ≤ 64 → HasLiveUnits i line live
         → units_in live ≡ line_units i line }

@@ -59,8 +59,8 @@ impl Layout {
         &self.shape
     }
 
-    /// How many blocks at a line's front are its start record: the least whole stripes that hold a header of
-    /// 64 bytes and 24 bytes for each other line. It is the same at each width.
+    /// How many blocks at a line's front its start record takes: the least number of whole stripes with room
+    /// for a header of 64 bytes and 24 bytes for each other line. It is the same at each width.
     ///
     /// With 8 lines, stripes of 4 blocks and sectors of 512 bytes it is 4 blocks, for 232 bytes.
     pub fn start_len(&self) -> u32
@@ -71,9 +71,9 @@ impl Layout {
         self.shape.start_len()
     }
 
-    /// How many blocks at the end of a line of this width are its end record: the least whole stripes that
-    /// hold a header of 32 bytes and 16 bytes for each block between the two records. A width is at most the
-    /// number of units.
+    /// How many blocks at the end of a line of this width its end record takes: the least number of whole
+    /// stripes with room for a header of 32 bytes and 16 bytes for each block between the two records. A width
+    /// is at most the number of units.
     ///
     /// With 2 units, chunks of 24 blocks, stripes of 4 blocks and sectors of 512 bytes it is 4 blocks at
     /// widths 1 and 2.
@@ -86,8 +86,8 @@ impl Layout {
         self.shape.end_len(width)
     }
 
-    /// How many blocks between the two records of a line of this width are data, or 0 where they aren't a
-    /// stripe: such a line holds no data. A width is at most the number of units.
+    /// How many blocks between the two records of a line of this width hold data. It is 0 where they are fewer
+    /// than a stripe: such a line holds no data. A width is at most the number of units.
     ///
     /// With 2 units, chunks of 24 blocks, stripes of 4 blocks and sectors of 512 bytes it is 40 blocks at
     /// width 2, and 16 at width 1.
@@ -108,7 +108,7 @@ impl Layout {
         live::width(live)
     }
 
-    /// Which block a line address is that of, as its unit and its number in the unit's chunk.
+    /// The block at a line address, as its unit and its number in the unit's chunk.
     ///
     /// Bit `u` of `live` is set for each unit `u` of the drive whose chunk of the line isn't Offline, and no
     /// other bit is. The address is below the line's width times the number of blocks of a chunk.
@@ -131,7 +131,8 @@ impl Layout {
         requires { live < 2 ^ units self.now }
         ensures found { IfSome result (λ a.
             slice_get (line_order self.now (units_in live)) a ≡ Some (unit, block)) }
-        ensures only { (a : ℕ) → slice_get (line_order self.now (units_in live)) a ≡ Some (unit, block)
+        ensures only { (a : ℕ)
+            → slice_get (line_order self.now (units_in live)) a ≡ Some (unit, block)
             → result ≡ Some a }
         ensures none { IsNone result ↔ ((bit_at live unit ≡ 0) ⊎ (self.now.clba ≤ block)) }
     {

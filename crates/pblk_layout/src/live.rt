@@ -28,7 +28,7 @@ pub(crate) fn rank(live: u64, unit: u32) -> u32
     (live & ((1 << unit) - 1)).count_ones()
 }
 
-/// The unit of the set below which `n` others are.
+/// The unit of the set that has `n` others of it below.
 pub(crate) fn nth(live: u64, n: u32) -> u32
     requires { n < length (units_in live) }
     ensures { slice_get (units_in live) n ≡ Some result }

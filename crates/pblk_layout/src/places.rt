@@ -1,4 +1,4 @@
-//! Line addresses, and the blocks that they are those of.
+//! Line addresses, and the blocks that stand at them.
 
 ghost use Rattle.std.specs.Prelude.{◌≡◌, ◌*◌, ◌<◌, ◌≤◌, ◌^◌, ◌↔◌, ◌⊎◌, ℕ, length, slice_get, Some, IfSome, IsNone};
 ghost use Rattle.std.specs.Int.{bit_at};

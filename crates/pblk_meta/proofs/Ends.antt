@@ -1,5 +1,5 @@
 -- When bytes are an end record.
-use Rattle.std.proofs.Common.{◌≡◌, ℕ, ◌+◌, ◌-◌, ◌*◌, ◌≤◌, zero, suc, Bool, true, false, cond, ◌==◌, Option, Some, None, List, [], ◌∷◌, ◌++◌, length, take, drop, refl, sym, ap, ◌∙◌, arith, append_assoc, length-append, length-drop}
+use Rattle.std.proofs.Common.{◌≡◌, ℕ, ◌+◌, ◌-◌, ◌*◌, ◌≤◌, zero, suc, true, false, cond, ◌==◌, Some, None, List, ◌++◌, length, take, drop, refl, sym, ap, ◌∙◌, arith, append_assoc, length-append, length-drop}
 use Rattle.std.specs.List.{flat_map, list_all}
 use Rattle.std.specs.Str.{bytes_eq}
 use Rattle.std.specs.Int.{w64}
@@ -17,7 +17,11 @@ use Rattle.pblk_laws.specs.EndBlocks.{IsEndRecord}
 use Rattle.pblk_meta.specs.declared.end_record.EndRecord.{EndRecord}
 use Rattle.pblk_meta.specs.Records.{end_numbers}
 use Rattle.pblk_meta.specs.Headers.{end_header, end_read}
-use Rattle.pblk_meta.proofs.Pieces.{taken, same_true, true_same, joined, front_of, rest_of, are_zeros, no_zeros, AreBytes, rest_bytes, le64_back}
+use Rattle.pblk_meta.proofs.Pieces.{taken, joined, front_of, rest_of, are_zeros, no_zeros, AreBytes, rest_bytes, le64_back}
+use Rattle.lemmas.proofs.Bytes.{same_bytes, true_same}
+use Rattle.lemmas.proofs.Options.{none_unless}
+use Rattle.lemmas.proofs.Tests.{data_within}
+use Rattle.pblk_model.proofs.EndRecordLemmas.{length-pairs_in, pairs_length}
 
 -- ---- the spelling in its three parts
 
@@ -34,10 +38,6 @@ text_is r n e = counted (length r.pairs) ∙ ap (λ m. end_header r.line r.width
 header_length : (line g seq n : ℕ) → length (end_header line g seq n) ≡ 32
 unfolding end_header zeros
 header_length line g seq n = refl
-
-pairs_length : (pairs : List Mark) → length (flat_map pair_bytes pairs) ≡ 16 * length pairs
-pairs_length [] = refl
-pairs_length (m ∷ ms) = let rest : length (flat_map pair_bytes ms) ≡ 16 * length ms = pairs_length ms in omega arith
 
 text_length : (r : End) (n : ℕ) → length r.pairs ≡ n → length (text r) ≡ 32 + 16 * n
 text_length r n e = ap length (text_is r n e) ∙ length-append (end_header r.line r.width r.seq n) (flat_map pair_bytes r.pairs) ∙ omega (arith, header_length r.line r.width r.seq n, pairs_length r.pairs)
@@ -68,11 +68,6 @@ assembled s r pairs a b c stop n pairs-is header_there pairs_there zeros_there s
 
 -- ---- the record that is read
 
-length-pairs_in : (n : ℕ) (bytes : List ℕ) → length (pairs_in n bytes) ≡ n
-unfolding pairs_in
-length-pairs_in zero bytes = refl
-length-pairs_in (suc n) bytes = ap suc (length-pairs_in n (drop 16 bytes))
-
 -- the marks' bytes are those that they were read of
 pairs_again : (n : ℕ) (b : List ℕ) → AreBytes b → 16 * n ≤ length b → flat_map pair_bytes (pairs_in n b) ≡ take (16 * n) b
 unfolding pairs_in
@@ -95,15 +90,11 @@ pairs_count s g b = length-pairs_in (data_len s g) (drop 32 b)
 was_read : (s : Shape) (line g seq : ℕ) (b : List ℕ) (r : End) → end_read s line g seq b ≡ Some r → end_bytes s (end_in s line g seq b) ≡ b
 unfolding end_read
 was_read s line g seq b r h =
-    same_true (end_bytes s (end_in s line g seq b)) b (cond_some (bytes_eq (end_bytes s (end_in s line g seq b)) b) (end_in s line g seq b) r h).0
+    same_bytes (end_bytes s (end_in s line g seq b)) b (cond_some (bytes_eq (end_bytes s (end_in s line g seq b)) b) (end_in s line g seq b) r h).0
 
 is_read : (s : Shape) (line g seq : ℕ) (b : List ℕ) → end_bytes s (end_in s line g seq b) ≡ b → Some (end_in s line g seq b) ≡ end_read s line g seq b
 unfolding end_read
 is_read s line g seq b h = ap (λ t. cond t (Some (end_in s line g seq b)) None) (sym (true_same (end_bytes s (end_in s line g seq b)) b h))
-
-none_unless : {X : Type 0} (o : Option X) → ((x : X) → o ≡ Some x → ⊥) → None ≡ o
-none_unless None h = refl
-none_unless (Some x) h = absurd (h x refl)
 
 -- each test that fails is one of a record that is read
 abbrev pub SizeLaw : Type 0
@@ -165,17 +156,13 @@ read_whole s line g seq n b tail behind pairs n-is bytes room tail-is behind-is 
     let all : pairs ≡ pairs_of s g b = pairs-is ∙ ap (λ (xs : List ℕ). pairs_in n xs) behind-is ∙ ap (λ m. pairs_in m (drop 32 b)) n-is in
     let long : length tail ≡ left s g (data_len s g) = ap length tail-is ∙ simp length-drop (omega (arith, size, n-is)) in
     let same : end_bytes s (end_in s line g seq b) ≡ b = same_from s line g seq b (record {
-      header = ap (end_header line g seq) (sym n-is) ∙ same_true (end_header line g seq n) (take 32 b) header;
+      header = ap (end_header line g seq) (sym n-is) ∙ same_bytes (end_header line g seq n) (take 32 b) header;
       pairs = pairs_again (data_len s g) (drop 32 b) (rest_bytes 32 b bytes) (simp length-drop (omega (arith, n-is)));
       tail = sym (are_zeros tail (left s g (data_len s g)) long clear) ∙ tail-is ∙ ap (λ m. drop (32 + 16 * m) b) n-is;
     }) in
     ap (λ (ms : List Mark). Some (record { line = line; width = g; seq = seq; pairs = ms })) all ∙ is_read s line g seq b same
 
 -- ---- sizes
-
-data_within : (t : Bool) (n m : ℕ) → m ≡ cond t 0 n → m ≤ n
-data_within true n m e = omega arith
-data_within false n m e = omega arith
 
 -- the marks have room in the record's blocks
 pub room_for : (s t : Shape) (g e n long : ℕ) → s ≡ t → e ≡ end_len t g → HoldsEnd t g e → n ≡ data_len t g → long ≡ e * s.sector → 32 + 16 * n ≤ long

@@ -1,47 +1,23 @@
 -- What the loops over rows and pairs keep.
-use Rattle.std.proofs.Common.{◌≡◌, ℕ, ◌+◌, ◌-◌, ◌*◌, ◌<◌, ◌≤◌, zero, suc, Bool, true, false, cond, ◌&&◌, Some, None, List, [], ◌∷◌, ◌++◌, map, length, take, drop, refl, sym, ap, ◌∙◌, arith, append_assoc}
+use Rattle.std.proofs.Common.{◌≡◌, ℕ, ◌+◌, ◌-◌, ◌*◌, ◌<◌, ◌≤◌, suc, Bool, true, false, cond, ◌&&◌, Some, None, List, [], ◌∷◌, ◌++◌, map, length, take, drop, refl, sym, ap, ◌∙◌, arith, append_assoc}
 use Rattle.std.specs.List.{flat_map}
-use Rattle.std.specs.Int.{w64}
 use Rattle.std.proofs.lemmas.List.{append-nil}
-use Rattle.pblk_model.specs.declared.chunk.Mark.{Mark}
-use Rattle.pblk_model.specs.Bytes.{number_at}
 use Rattle.std.specs.Str.{bytes_eq}
 use Rattle.std.proofs.lemmas.Bool.{eq-eqb}
 use Rattle.std.proofs.lemmas.List.{take_at, length-take, map-append}
 use Rattle.std.proofs.Math.Seq.{take-add}
 use Rattle.pblk_model.specs.declared.shape.Shape.{Shape}
 use Rattle.pblk_model.specs.StartRecord.{Row as OlderLine, row_bytes, rows_in, rows_fit}
-use Rattle.pblk_model.specs.EndRecord.{pairs_in}
 use Rattle.pblk_model.specs.Bytes.{zeros}
 use Rattle.pblk_meta.specs.declared.rows.Row.{Row}
 use Rattle.pblk_meta.specs.declared.start_header.StartHeader.{StartHeader}
 use Rattle.pblk_meta.specs.Records.{row_numbers, row_in}
 use Rattle.pblk_meta.specs.Headers.{with_rows, row_fits, rows_hold, rows_read}
-use Rattle.pblk_meta.proofs.Pieces.{same_true, true_same, false_differ}
-
-pub pairs_go_on : (front now : List Mark) (count i lba position : ℕ) (bytes rest : List ℕ) (total : List Mark) → i < count
-    → lba ≡ number_at w64 0 bytes → position ≡ number_at w64 8 bytes → rest ≡ drop 16 bytes
-    → now ≡ front ++ record { lba = lba; position = position } ∷ []
-    → front ++ pairs_in (count - i) bytes ≡ total → now ++ pairs_in (count - (i + 1)) rest ≡ total
-unfolding pairs_in
-pairs_go_on front now count i lba position bytes rest total lt lba-is position-is rest-is now-is so_far =
-    let k : count - i ≡ suc (count - (i + 1)) = omega arith in
-    let step : front ++ pairs_in (count - i) bytes ≡ front ++ (record { lba = number_at w64 0 bytes; position = number_at w64 8 bytes } ∷ pairs_in (count - (i + 1)) (drop 16 bytes)) = ap (λ n. front ++ pairs_in n bytes) k in
-    rw (now-is, lba-is, position-is, rest-is) (append_assoc front _ _ ∙ sym step ∙ so_far)
-
-pub pairs_are_read : (front : List Mark) (count i : ℕ) (bytes : List ℕ) (total : List Mark) → count ≤ i → front ++ pairs_in (count - i) bytes ≡ total → front ≡ total
-unfolding pairs_in
-pairs_are_read front count i bytes total le so_far =
-    let k : count - i ≡ 0 = omega arith in
-    let one : front ++ pairs_in (count - i) bytes ≡ front = ap (λ n. front ++ pairs_in n bytes) k ∙ append-nil front in
-    sym one ∙ so_far
+use Rattle.pblk_meta.proofs.Pieces.{false_differ}
+use Rattle.lemmas.proofs.Bytes.{same_bytes, true_same}
+use Rattle.lemmas.proofs.Tests.{and_refused}
 
 -- ---- rows
-
-pub length-rows_in : (n : ℕ) (bytes : List ℕ) → length (rows_in n bytes) ≡ n
-unfolding rows_in
-length-rows_in zero bytes = refl
-length-rows_in (suc n) bytes = ap suc (length-rows_in n (drop 24 bytes))
 
 -- one more row is read
 pub rows_go_on : (front now : List Row) (row : Row) (count i : ℕ) (bytes rest : List ℕ) (total : List OlderLine) → i < count
@@ -58,10 +34,6 @@ same_front : (p xs ys : List ℕ) → bytes_eq (p ++ xs) (p ++ ys) ≡ bytes_eq 
 same_front [] xs ys = refl
 same_front (x ∷ p) xs ys = ap (λ b. b && bytes_eq (p ++ xs) (p ++ ys)) (eq-eqb x x refl) ∙ same_front p xs ys
 
-and_false : (b : Bool) → (b && false) ≡ false
-and_false true = refl
-and_false false = refl
-
 row_length : (x : OlderLine) → length (row_bytes x) ≡ 24
 unfolding zeros
 row_length x = refl
@@ -76,7 +48,7 @@ hold_more : (s : Shape) (h : StartHeader) (all : List OlderLine) (least m : ℕ)
 unfolding rows_hold rows_in
 hold_more s h all least m b fits spelled =
     let xs : List OlderLine = rows_in m (drop 24 b) in
-    let front : row_bytes (row_in b) ≡ take 24 b = same_true (row_bytes (row_in b)) (take 24 b) spelled in
+    let front : row_bytes (row_in b) ≡ take 24 b = same_bytes (row_bytes (row_in b)) (take 24 b) spelled in
     let text : bytes_eq (row_bytes (row_in b) ++ flat_map row_bytes xs) (take (24 * suc (length xs)) b) ≡ bytes_eq (flat_map row_bytes xs) (take (24 * length xs) (drop 24 b)) =
     ap (λ (ys : List ℕ). bytes_eq (row_bytes (row_in b) ++ flat_map row_bytes xs) ys) (rows_taken (length xs) (length xs) b refl)
     ∙ ap (λ (p : List ℕ). bytes_eq (p ++ flat_map row_bytes xs) (take 24 b ++ take (24 * length xs) (drop 24 b))) front
@@ -102,7 +74,7 @@ hold_misspelled s h all least m b long misspelled =
     ∙ take_at (take 24 b) (take (24 * length xs) (drop 24 b)) 24 (simp length-take (omega arith)) in
     let yes : bytes_eq (row_bytes (row_in b)) (take 24 b) ≡ true = true_same (row_bytes (row_in b)) (take 24 b) front in
     absurd cc) in
-    ap (λ t. rows_fit s (with_rows h all) least (row_in b ∷ xs) && t) differ ∙ and_false (rows_fit s (with_rows h all) least (row_in b ∷ xs))
+    ap (λ t. rows_fit s (with_rows h all) least (row_in b ∷ xs) && t) differ ∙ and_refused (rows_fit s (with_rows h all) least (row_in b ∷ xs))
 
 pub hold_goes_on : (s : Shape) (h : StartHeader) (all : List OlderLine) (least next count i : ℕ) (b rest : List ℕ) (total : Bool) → i < count → next ≡ (row_in b).line + 1 → rest ≡ drop 24 b
     → row_fits s h least (row_in b) ≡ true → bytes_eq (row_bytes (row_in b)) (take 24 b) ≡ true

@@ -6,17 +6,15 @@ use Rattle.std.specs.Int.{w32, w64}
 use Rattle.std.proofs.lemmas.Bool.{and_parts, eqb-true}
 use Rattle.std.proofs.lemmas.List.{take_at, drop_at, take-append-drop, drop-drop, length-take, length-drop}
 use Rattle.std.proofs.Math.Seq.{take-add}
-use Rattle.std.proofs.lemmas.Slice.Eq.{bytes_eq-Decides}
 use Rattle.std.proofs.lemmas.Nat.{le_bytes_4, le_bytes_8}
 use Rattle.pblk_model.specs.Bytes.{le32, le64, zeros, number_at}
 use Rattle.pblk_model.specs.StartRecord.{row_bytes}
 use Rattle.pblk_meta.specs.Records.{row_in}
+use Rattle.lemmas.proofs.Bytes.{same_bytes, true_same}
+use Rattle.lemmas.proofs.Parts.{take_whole}
+use Rattle.pblk_model.proofs.BytesLemmas.{zeros_length}
 
 -- ---- lists
-
-pub take_whole : (xs : List ℕ) → take (length xs) xs ≡ xs
-take_whole [] = refl
-take_whole (x ∷ xs) = ap (λ (ys : List ℕ). x ∷ ys) (take_whole xs)
 
 -- what is taken whole
 pub taken : (xs ys : List ℕ) (n : ℕ) → length xs ≡ n → take n xs ≡ ys → xs ≡ ys
@@ -34,14 +32,8 @@ joined p q b n front rest = ap (λ (xs : List ℕ). xs ++ q) front ∙ ap (λ (x
 
 -- ---- tests
 
-pub same_true : (xs ys : List ℕ) → bytes_eq xs ys ≡ true → xs ≡ ys
-same_true xs ys e = (bytes_eq-Decides xs ys).0 e
-
-pub true_same : (xs ys : List ℕ) → xs ≡ ys → bytes_eq xs ys ≡ true
-true_same xs ys e = (bytes_eq-Decides xs ys).1 e
-
 differ : (u : Bool) (xs ys : List ℕ) → bytes_eq xs ys ≡ u → (xs ≡ ys → ⊥) → u ≡ false
-differ true xs ys e never = absurd (never (same_true xs ys e))
+differ true xs ys e never = absurd (never (same_bytes xs ys e))
 differ false xs ys e never = refl
 
 pub false_differ : (xs ys : List ℕ) → (xs ≡ ys → ⊥) → bytes_eq xs ys ≡ false
@@ -64,11 +56,6 @@ are_zeros bytes n long h = all_zeros bytes h ∙ ap zeros long
 
 pub no_zeros : (bytes : List ℕ) (n : ℕ) → bytes ≡ zeros n → list_all (λ b. eqb b 0) bytes ≡ false → ⊥
 no_zeros bytes n e h = let yes : list_all (λ b. eqb b 0) bytes ≡ true = ap (list_all (λ b. eqb b 0)) e ∙ zeros_all n in absurd cc
-
-pub length-zeros : (n : ℕ) → length (zeros n) ≡ n
-unfolding zeros
-length-zeros zero = refl
-length-zeros (suc n) = ap suc (length-zeros n)
 
 -- ---- bytes
 
@@ -134,5 +121,5 @@ row_test b h long =
     (λ is. row_spelling b h long ∙ ap (λ (xs : List ℕ). take 4 b ++ (xs ++ (take 8 (drop 8 b) ++ take 8 (drop 16 b)))) (sym (are_zeros (take 4 (drop 4 b)) 4 short is)) ∙ sym (row_pieces b))
     (λ isnt same.
     let middle : zeros 4 ≡ take 4 (drop 4 b) =
-    same_middle (take 4 b) (zeros 4) (take 4 (drop 4 b)) (take 8 (drop 8 b) ++ take 8 (drop 16 b)) (take 8 (drop 8 b) ++ take 8 (drop 16 b)) (length-zeros 4) short first (sym (row_spelling b h long) ∙ same ∙ row_pieces b) in
+    same_middle (take 4 b) (zeros 4) (take 4 (drop 4 b)) (take 8 (drop 8 b) ++ take 8 (drop 16 b)) (take 8 (drop 8 b) ++ take 8 (drop 16 b)) (zeros_length 4) short first (sym (row_spelling b h long) ∙ same ∙ row_pieces b) in
     no_zeros (take 4 (drop 4 b)) 4 (sym middle) isnt)

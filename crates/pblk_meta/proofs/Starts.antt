@@ -16,8 +16,10 @@ use Rattle.pblk_meta.specs.declared.start_header.StartHeader.{StartHeader}
 use Rattle.pblk_meta.specs.declared.start_record.StartRecord.{StartRecord}
 use Rattle.pblk_meta.specs.Records.{row_numbers, start_numbers}
 use Rattle.pblk_meta.specs.Headers.{start_header, header_in, header_of, with_rows, header_fits, rows_hold, rows_read, start_read}
-use Rattle.pblk_meta.proofs.Pieces.{taken, same_true, true_same, joined, front_of, rest_of, are_zeros, no_zeros}
-use Rattle.pblk_meta.proofs.Loops.{length-rows_in}
+use Rattle.pblk_meta.proofs.Pieces.{taken, joined, front_of, rest_of, are_zeros, no_zeros}
+use Rattle.lemmas.proofs.Bytes.{same_bytes, true_same}
+use Rattle.lemmas.proofs.Options.{none_unless}
+use Rattle.pblk_model.proofs.StartRecordLemmas.{length-rows_in}
 
 -- ---- the spelling in its three parts
 
@@ -84,17 +86,13 @@ unfolding start_read
 was_read s line g b r h =
     let chosen = cond_some (start_fits s line g (start_in b) && bytes_eq (start_bytes s (start_in b)) b) (start_in b) r h in
     let tests = and_parts (start_fits s line g (start_in b)) (bytes_eq (start_bytes s (start_in b)) b) chosen.0 in
-    record { fits = tests.0; same = same_true (start_bytes s (start_in b)) b tests.1 }
+    record { fits = tests.0; same = same_bytes (start_bytes s (start_in b)) b tests.1 }
 
 is_read : (s : Shape) (line g : ℕ) (b : List ℕ) → IsRead s line g b → Some (start_in b) ≡ start_read s line g b
 unfolding start_read
 is_read s line g b h =
     let both : start_fits s line g (start_in b) && bytes_eq (start_bytes s (start_in b)) b ≡ true = and_from (start_fits s line g (start_in b)) (bytes_eq (start_bytes s (start_in b)) b) h.fits (true_same (start_bytes s (start_in b)) b h.same) in
     ap (λ t. cond t (Some (start_in b)) None) (sym both)
-
-none_unless : {X : Type 0} (o : Option X) → ((x : X) → o ≡ Some x → ⊥) → None ≡ o
-none_unless None h = refl
-none_unless (Some x) h = absurd (h x refl)
 
 -- each test that fails is one of a record that is read
 abbrev pub SizeLaw : Type 0
@@ -166,7 +164,7 @@ hold_parts : (s : Shape) (r : Start) (rows : List OlderLine) (n : ℕ) (b : List
 unfolding rows_hold
 hold_parts s r rows n b e h =
     let parts = and_parts (rows_fit s r 0 rows) (bytes_eq (flat_map row_bytes rows) (take (24 * length rows) b)) h in
-    (parts.0, same_true (flat_map row_bytes rows) (take (24 * length rows) b) parts.1 ∙ ap (λ k. take (24 * k) b) e)
+    (parts.0, same_bytes (flat_map row_bytes rows) (take (24 * length rows) b) parts.1 ∙ ap (λ k. take (24 * k) b) e)
 
 parts_hold : (s : Shape) (r : Start) (rows : List OlderLine) (n : ℕ) (b : List ℕ) → length rows ≡ n → rows_fit s r 0 rows ≡ true → flat_map row_bytes rows ≡ take (24 * n) b → rows_hold s r 0 rows b ≡ true
 unfolding rows_hold
@@ -206,7 +204,7 @@ pass_read s line g b rows room a =
     let held = hold_parts s (start_in b) (rows_of b) (header_in b).rows (drop 64 b) (rows_count b) chosen.0 in
     let long : length (drop (64 + 24 * (header_in b).rows) b) ≡ left s (header_in b).rows = simp length-drop (omega (arith, a.size)) in
     let same : start_bytes s (start_in b) ≡ b = same_from s b (record {
-      header = same_true (start_header (header_in b)) (take 64 b) a.header;
+      header = same_bytes (start_header (header_in b)) (take 64 b) a.header;
       rows = held.1;
       tail = sym (are_zeros (drop (64 + 24 * (header_in b).rows) b) (left s (header_in b).rows) long a.tail);
     }) in

@@ -68,8 +68,10 @@ impl EndRecord {
         ensures fits { IfOk result (λ o. IfSome o (λ r. IsEndRecord layout.now (end_numbers r))) }
         ensures whose { IfOk result (λ o. IfSome o (λ r.
             (r.line ≡ line) × (r.width ≡ width) × (r.seq ≡ seq))) }
-        ensures only { (r : End) → IsEndRecord layout.now r → r.line ≡ line → r.width ≡ width → r.seq ≡ seq
-            → bytes.now ≡ end_bytes layout.now r → IfOk result (λ o. option_map end_numbers o ≡ Some r) }
+        ensures only { (r : End) → IsEndRecord layout.now r → r.line ≡ line → r.width ≡ width
+            → r.seq ≡ seq
+            → bytes.now ≡ end_bytes layout.now r
+            → IfOk result (λ o. option_map end_numbers o ≡ Some r) }
     {
         end_read_is_spelled();
         end_spelled_is_read();
@@ -87,7 +89,8 @@ impl EndRecord {
             → out.new ≡ end_bytes s (end_numbers self.now) }
         ensures again { (s : Shape) → length self.now.pairs ≡ data_len s self.now.width
             → length out.old ≡ end_len s self.now.width * s.sector
-            → read_end s self.now.line self.now.width self.now.seq out.new ≡ Some (end_numbers self.now) }
+            → read_end s self.now.line self.now.width self.now.seq out.new
+            ≡ Some (end_numbers self.now) }
     {
         end_spelled_is_read();
         write_end(out, self.line, self.width, self.seq, self.pairs.as_slice());
@@ -102,7 +105,8 @@ pub fn write_end(out: &mut [u8], line: u32, width: u32, seq: u64, marks: &[Mark]
     requires room { 32 + 16 * length marks.now ≤ length out.old }
     requires few { length marks.now < 2 ^ 32 }
     ensures spelling { (s : Shape) → length out.old ≡ end_len s width * s.sector
-        → out.new ≡ end_bytes s (record { line = line; width = width; seq = seq; pairs = marks.now }) }
+        → out.new
+        ≡ end_bytes s (record { line = line; width = width; seq = seq; pairs = marks.now }) }
     ensures fit { AllByRecursion FitsBytes marks.now }
     ensures len { length out.new ≡ length out.old }
 {

@@ -84,7 +84,8 @@ impl Row {
     /// Writes the row's spelling to the 24 bytes from a place on.
     pub(crate) fn write(&self, out: &mut [u8], at: usize)
         requires { at + 24 ≤ length out.old }
-        ensures placed { take (at + 24) out.new ≡ take at out.old ++ row_bytes (row_numbers self.now) }
+        ensures placed { take (at + 24) out.new
+            ≡ take at out.old ++ row_bytes (row_numbers self.now) }
         ensures len { length out.new ≡ length out.old }
     {
         put_u32(out, at, self.line);

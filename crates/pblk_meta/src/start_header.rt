@@ -11,13 +11,10 @@ use crate::bytes::{
     MAGIC, VERSION, are_same, put_u16, put_u32, put_u64, put_zeros, u32_at, u64_at,
 };
 use crate::rows::Row;
-use pblk_model::Shape;
+use pblk_model::{NUMBER_LIMIT, Shape};
 
 /// The kind of a start record.
 const KIND: u16 = 1;
-
-/// Sequence numbers and fronts are below this.
-const LIMIT: u64 = 1 << 61;
 
 /// The numbers in a start record's first 64 bytes; `rows` is how many rows follow.
 #[derive(Clone, Copy, Debug)]
@@ -88,8 +85,8 @@ impl StartHeader {
             && self.capacity == shape.capacity
             && 1 <= self.first_seq
             && self.first_seq <= self.seq
-            && self.seq < LIMIT
-            && self.front < LIMIT
+            && self.seq < NUMBER_LIMIT
+            && self.front < NUMBER_LIMIT
             && self.rows <= shape.chunks - 1
     }
 

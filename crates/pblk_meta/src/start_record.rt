@@ -37,7 +37,7 @@ pub struct StartRecord {
     pub seq: u64,
     /// The first sequence number of the mount, at least 1.
     pub first_seq: u64,
-    /// Below this position all had landed when the record was made. It is below 2^61.
+    /// The synced front when the record was made: all positions below it had landed. It is below 2^61.
     pub front: u64,
     /// The number of user sectors.
     pub capacity: u64,
@@ -71,7 +71,8 @@ impl StartRecord {
         ensures fits { IfOk result (λ o. IfSome o (λ r.
             IsTrue (start_fits layout.now line width (start_numbers r)))) }
         ensures only { (r : Start) → IsTrue (start_fits layout.now line width r)
-            → bytes.now ≡ start_bytes layout.now r → IfOk result (λ o. option_map start_numbers o ≡ Some r) }
+            → bytes.now ≡ start_bytes layout.now r
+            → IfOk result (λ o. option_map start_numbers o ≡ Some r) }
     {
         read_is_spelled();
         spelled_is_read();
@@ -88,7 +89,8 @@ impl StartRecord {
         requires few { length self.now.rows < 2 ^ 32 }
         ensures spelling { (s : Shape) → length out.old ≡ start_len s * s.sector
             → out.new ≡ start_bytes s (start_numbers self.now) }
-        ensures again { (s : Shape) (line width : ℕ) → IsAccepted s → line < s.chunks → width < 2 ^ 32
+        ensures again { (s : Shape) (line width : ℕ) → IsAccepted s → line < s.chunks
+            → width < 2 ^ 32
             → IsTrue (start_fits s line width (start_numbers self.now))
             → length out.old ≡ start_len s * s.sector
             → read_start s line width out.new ≡ Some (start_numbers self.now) }
@@ -105,7 +107,8 @@ impl StartRecord {
 /// for.
 pub fn a_start_record_has_room()
     ensures room { (s : Shape) (line width : ℕ) (r : StartRecord) → IsAccepted s
-        → IsTrue (start_fits s line width (start_numbers r)) → 64 + 24 * length r.rows ≤ start_len s * s.sector }
+        → IsTrue (start_fits s line width (start_numbers r))
+        → 64 + 24 * length r.rows ≤ start_len s * s.sector }
     ensures few { (s : Shape) (line width : ℕ) (r : StartRecord) → IsAccepted s
         → IsTrue (start_fits s line width (start_numbers r)) → length r.rows < 2 ^ 32 }
 {
@@ -199,7 +202,8 @@ fn read_rows(
 // Writes the rows' spellings from a place on, and gives the place behind them.
 fn put_rows(out: &mut [u8], at: usize, rows: &[Row]) -> usize
     requires { at + 24 * length rows.now ≤ length out.old }
-    ensures placed { take result out.new ≡ take at out.old ++ flat_map row_bytes (map row_numbers rows.now) }
+    ensures placed { take result out.new
+        ≡ take at out.old ++ flat_map row_bytes (map row_numbers rows.now) }
     ensures end { result ≡ at + 24 * length rows.now }
     ensures len { length out.new ≡ length out.old }
 {

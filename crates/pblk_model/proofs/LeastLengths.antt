@@ -5,8 +5,8 @@ use Rattle.std.proofs.lemmas.Grind.{div_ceil_times}
 use Rattle.std.proofs.Math.Nat.{lt_of_mul-lt-mul_right, mul-le-mul_left, mul-le-mul_right, mul-pos, pos_of_ne-zero}
 use Rattle.pblk_model.specs.declared.shape.Shape.{Shape}
 use Rattle.pblk_model.specs.Accepted.{IsAccepted}
-use Rattle.pblk_model.proofs.Sizes.{sector_is_long}
 use Rattle.pblk_model.specs.LineOrder.{IsLeastMultiple, HoldsStart, HoldsEnd, start_len, end_len}
+use Rattle.lemmas.proofs.Numbers.{sector_is_long}
 
 pub ceil_holds : (x d : ℕ) → 0 < d → x ≤ div_ceil x d * d
 ceil_holds x d h = (div_ceil_times x d h).0

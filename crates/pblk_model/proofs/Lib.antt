@@ -1,6 +1,22 @@
-mod Powers
 mod Settings
 pub mod Sizes
 pub mod LineOrder
 pub mod OrderedBlocks
 pub mod LeastLengths
+pub mod BytesLemmas
+pub mod ChunkLemmas
+pub mod DescriptorLemmas
+pub mod ImageFileLemmas
+pub mod AcceptedLemmas
+pub mod HistoryLemmas
+pub mod ScriptTextLemmas
+pub mod GeometryLemmas
+pub mod MarksLemmas
+pub mod StartRecordLemmas
+pub mod EndRecordLemmas
+pub mod ContentsLemmas
+pub mod ChecksLemmas
+pub mod BlocksLemmas
+pub mod ImageLemmas
+pub mod UnitLogLemmas
+pub mod LineOrderLemmas

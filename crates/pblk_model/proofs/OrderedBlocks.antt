@@ -3,40 +3,29 @@ use Rattle.std.proofs.Common.{◌≡◌, ℕ, ◌+◌, ◌*◌, ◌/◌, ◌%◌
 use Rattle.std.specs.List.{slice_get, flat_map, range_with_len}
 use Rattle.std.specs.Option.{option_and_then, option_map}
 use Rattle.std.proofs.lemmas.List.FromFn.{length-map-range_with_len, length-range_with_len}
-use Rattle.std.proofs.lemmas.Option.{none-some, same_Some, slice_get_within, slice_get-map}
+use Rattle.std.proofs.lemmas.Option.{slice_get_within, slice_get-map}
 use Rattle.std.proofs.Math.Nat.{mod-lt}
 use Rattle.std.proofs.lemmas.Nat.{div-add-mod', div_below, mul-add-lt}
 use Rattle.pblk_model.specs.declared.shape.Shape.{Shape}
 use Rattle.pblk_model.specs.LineOrder.{line_order, column_of, block_of}
 use Rattle.pblk_model.proofs.LineOrder.{stripe_below, chunk_below}
-
-pub get_front : {X : Type 0} (xs ys : List X) (k : ℕ) → k < length xs → slice_get (xs ++ ys) k ≡ slice_get xs k
-get_front [] ys k h = absurd (omega arith)
-get_front (x ∷ xs) ys zero h = refl
-get_front (x ∷ xs) ys (suc k) h = get_front xs ys k (omega arith)
-
-pub get_back : {X : Type 0} (xs ys : List X) (n k : ℕ) → length xs ≡ n → slice_get (xs ++ ys) (n + k) ≡ slice_get ys k
-get_back [] ys n k h = ap (slice_get ys) (omega arith)
-get_back (x ∷ xs) ys zero k h = absurd (omega arith)
-get_back (x ∷ xs) ys (suc n) k h = let more : suc n + k ≡ suc (n + k) = omega arith in ap (slice_get (x ∷ (xs ++ ys))) more ∙ get_back xs ys n k (omega arith)
+use Rattle.lemmas.proofs.Maps.{range_get}
+use Rattle.lemmas.proofs.Numbers.{some_units}
+use Rattle.lemmas.proofs.Options.{map_some}
+use Rattle.lemmas.proofs.Parts.{get_first, get_rest}
 
 -- pieces of one length
 pub get_piece : {X Y : Type 0} (f : X → List Y) (m : ℕ) (xs : List X) (i j : ℕ) → ((x : X) → length (f x) ≡ m) → j < m
     → slice_get (flat_map f xs) (i * m + j) ≡ option_and_then (λ x. slice_get (f x) j) (slice_get xs i)
 get_piece f m [] i j long h = refl
-get_piece f m (x ∷ xs) zero j long h = ap (slice_get (f x ++ flat_map f xs)) (omega arith) ∙ get_front (f x) (flat_map f xs) j (omega (arith, long x))
+get_piece f m (x ∷ xs) zero j long h = ap (slice_get (f x ++ flat_map f xs)) (omega arith) ∙ get_first (f x) (flat_map f xs) j (omega (arith, long x))
 get_piece f m (x ∷ xs) (suc i) j long h =
     let more : suc i * m + j ≡ m + (i * m + j) = omega arith in
-    ap (slice_get (f x ++ flat_map f xs)) more ∙ get_back (f x) (flat_map f xs) m (i * m + j) (long x) ∙ get_piece f m xs i j long h
+    ap (slice_get (f x ++ flat_map f xs)) more ∙ get_rest (f x) (flat_map f xs) m (i * m + j) (long x) ∙ get_piece f m xs i j long h
 
 pub pieces_length : {X Y : Type 0} (f : X → List Y) (m : ℕ) (xs : List X) → ((x : X) → length (f x) ≡ m) → length (flat_map f xs) ≡ length xs * m
 pieces_length f m [] long = omega arith
 pieces_length f m (x ∷ xs) long = length-append (f x) (flat_map f xs) ∙ omega (arith, long x, pieces_length f m xs long)
-
-get_range : (a n k : ℕ) → k < n → slice_get (range_with_len a n) k ≡ Some (a + k)
-get_range a zero k h = absurd (omega arith)
-get_range a (suc n) zero h = ap Some (omega arith)
-get_range a (suc n) (suc k) h = get_range (a + 1) n k (omega arith) ∙ ap Some (omega arith)
 
 -- A stripe of w blocks, and a row of stripes.
 
@@ -58,7 +47,7 @@ stripe_at : (w row unit k : ℕ) → k < w → slice_get (stripe w row unit) k �
 unfolding stripe
 stripe_at w row unit k h =
     slice_get-map (λ (x : ℕ). (unit, row * w + x)) (range_with_len 0 w) k
-    ∙ ap (option_map (λ (x : ℕ). (unit, row * w + x))) (get_range 0 w k h ∙ ap Some (omega arith))
+    ∙ ap (option_map (λ (x : ℕ). (unit, row * w + x))) (range_get 0 w k h ∙ ap Some (omega arith))
 
 and_then_same : {A B : Type 0} (f : A → Option B) (g : A → B) (o : Option A) → ((x : A) → f x ≡ Some (g x)) → option_and_then f o ≡ option_map g o
 and_then_same f g None h = refl
@@ -78,7 +67,7 @@ order_at : (w rows row column k : ℕ) (us : List ℕ) → row < rows → column
 order_at w rows row column k us in_rows in_row in_stripe =
     let inside : column * w + k < length us * w = below (length us) column w k in_row in_stripe in
     get_piece (row_of w us) (length us * w) (range_with_len 0 rows) row (column * w + k) (row_length w us) inside
-    ∙ ap (option_and_then (λ x. slice_get (row_of w us x) (column * w + k))) (get_range 0 rows row in_rows ∙ ap Some (omega arith))
+    ∙ ap (option_and_then (λ x. slice_get (row_of w us x) (column * w + k))) (range_get 0 rows row in_rows ∙ ap Some (omega arith))
     ∙ row_at w row us column k in_stripe
 
 -- the place of an address
@@ -97,10 +86,6 @@ order_length s us some whole =
     let long : length us * (rows * s.ws_opt) ≡ length us * s.clba = ap (λ x. length us * x) (omega arith) in
     pieces_length (row_of s.ws_opt us) (length us * s.ws_opt) (range_with_len 0 rows) (row_length s.ws_opt us) ∙ ap (λ n. n * (length us * s.ws_opt)) (length-range_with_len 0 rows) ∙ omega arith
 
-some_units : (g c a : ℕ) → a < g * c → 0 < g
-some_units zero c a h = absurd (omega arith)
-some_units (suc g) c a h = omega arith
-
 pub order_block : (s : Shape) (us : List ℕ) (a : ℕ) → 0 < s.ws_opt → s.clba % s.ws_opt ≡ 0 → a < length us * s.clba
     → slice_get (line_order s us) a ≡ option_map (λ unit. (unit, block_of s (length us) a)) (slice_get us (column_of s (length us) a))
 unfolding row_of stripe
@@ -111,10 +96,6 @@ order_block s us a some whole inside =
     let in_rows : (a / w) / g < s.clba / w = div_below (a / w) g (s.clba / w) wide (stripe_below w g s.clba a some whole inside) in
     subst (λ x. slice_get (line_order s us) x ≡ option_map (λ unit. (unit, block_of s g a)) (slice_get us (column_of s g a))) (address_is w g a)
     (order_at w (s.clba / w) ((a / w) / g) ((a / w) % g) (a % w) us in_rows (chunk_below w g s.clba a wide) (mod-lt a some))
-
-map_some : {X Y : Type 0} (f : X → Y) (o : Option X) (y : Y) → option_map f o ≡ Some y → (x : X) × (o ≡ Some x) × (f x ≡ y)
-map_some f None y e = absurd (none-some y e)
-map_some f (Some x) y e = (x, refl, same_Some (f x) y e)
 
 pub order_exactly : (s : Shape) (us : List ℕ) (a unit : ℕ) → 0 < s.ws_opt → s.clba % s.ws_opt ≡ 0
     → (slice_get (line_order s us) a ≡ Some (unit, block_of s (length us) a)) ↔ ((slice_get us (column_of s (length us) a) ≡ Some unit) × (a < length us * s.clba))

@@ -1,23 +1,12 @@
 -- The checks of the settings hold exactly where the shape is accepted.
 use Rattle.std.proofs.Common.{◌≡◌, ◌↔◌, ℕ, ◌^◌, ◌⊎◌, inl, inr, ◌==◌, ◌&&◌, ◌||◌, Bool, true, false, List, [], ◌∷◌, Option, Some, None, IsNone, nat_le, nat_lt, refl, sym, ◌∙◌}
 use Rattle.std.specs.List.{AllByRecursion}
-use Rattle.std.proofs.lemmas.Bool.{leb-true, le-leb, eqb-true, eq-eqb}
+use Rattle.std.proofs.lemmas.Bool.{leb-true, eqb-true, eq-eqb}
 use Rattle.pblk_model.specs.declared.shape.Shape.{Shape}
 use Rattle.pblk_model.specs.Accepted.{IsDriveShape, IsAccepted, settings_checks, is_ring_power}
 use Rattle.pblk_model.specs.Checks.{first_failing}
-use Rattle.pblk_model.proofs.Powers.{power_is_ring, ring_power_is}
-
-both : (a b : Bool) → (a && b) ≡ true → (a ≡ true) × (b ≡ true)
-both true b e = (refl, e)
-both false b e = absurd (cc)
-
-and_both : (a b : Bool) → a ≡ true → b ≡ true → (a && b) ≡ true
-and_both true b h e = e
-and_both false b h e = absurd (cc)
-
-one_of : (a b : Bool) → (a || b) ≡ true → (a ≡ true) ⊎ (b ≡ true)
-one_of true b e = inl refl
-one_of false b e = inr e
+use Rattle.lemmas.proofs.Tests.{both, either}
+use Rattle.pblk_model.proofs.AcceptedLemmas.{ring_power_is, settings_pass}
 
 or_one : (a b : Bool) → (a ≡ true) ⊎ (b ≡ true) → (a || b) ≡ true
 or_one true b h = refl
@@ -25,7 +14,7 @@ or_one false b (inl e) = absurd (cc)
 or_one false b (inr e) = e
 
 sector_is : (n : ℕ) → ((n == 512) || (n == 4096)) ≡ true → (n ≡ 512) ⊎ (n ≡ 4096)
-sector_is n e = elim (one_of (n == 512) (n == 4096) e) [
+sector_is n e = elim (either (n == 512) (n == 4096) e) [
   | inl h ↦ inl (eqb-true n 512 h)
   | inr h ↦ inr (eqb-true n 4096 h)
 ]
@@ -38,11 +27,6 @@ all_hold : (checks : List (ℕ × Bool)) → first_failing checks ≡ None → A
 all_hold [] e = tt
 all_hold ((n, true) ∷ checks) e = (refl, all_hold checks e)
 all_hold ((n, false) ∷ checks) e = absurd (cc)
-
-none_fails : (checks : List (ℕ × Bool)) → AllByRecursion (λ (check : ℕ × Bool). check.1 ≡ true) checks → first_failing checks ≡ None
-none_fails [] h = refl
-none_fails ((n, true) ∷ checks) h = none_fails checks h.1
-none_fails ((n, false) ∷ checks) h = absurd (let e = h.0 in cc)
 
 accepted_of : (s : Shape) → IsDriveShape s → first_failing (settings_checks s) ≡ None → IsAccepted s
 accepted_of s drive e =
@@ -66,25 +50,6 @@ accepted_of s drive e =
       };
     }
 
-checks_of : (s : Shape) → IsAccepted s → first_failing (settings_checks s) ≡ None
-checks_of s a =
-    let t = a.target in
-    let counts = and_both (nat_le 1 s.capacity) _ (le-leb _ _ t.some_capacity) (le-leb _ _ t.capacity_number) in
-    let ring = power_is_ring s.ring t.ring_power.0 t.ring_power.1 t.ring_high in
-    none_fails (settings_checks s) (
-      is_sector s.sector t.sector,
-      (
-        le-leb _ _ t.size,
-        (
-          le-leb _ _ t.room,
-          (
-            and_both (nat_le 1 s.capacity && nat_lt s.capacity (2 ^ 40)) _ counts (le-leb _ _ t.spare),
-            (and_both (is_ring_power s.ring) _ ring (le-leb _ _ t.ring_low), tt),
-          ),
-        ),
-      ),
-    )
-
 none_is : (o : Option ℕ) → IsNone o → o ≡ None
 none_is None e = refl
 none_is (Some n) e = absurd (cc)
@@ -94,4 +59,4 @@ is_none None e = refl
 is_none (Some n) e = absurd (cc)
 
 pub settings_agree : (s : Shape) (o : Option ℕ) → IsDriveShape s → o ≡ first_failing (settings_checks s) → IsNone o ↔ IsAccepted s
-settings_agree s o drive e = (λ n. accepted_of s drive (sym e ∙ none_is o n), λ a. is_none o (e ∙ checks_of s a))
+settings_agree s o drive e = (λ n. accepted_of s drive (sym e ∙ none_is o n), λ a. is_none o (e ∙ settings_pass s a))

@@ -1,5 +1,5 @@
--- The shapes of the drives and targets that the program takes: as checks, of which the first that fails is the refusal, and
--- as the facts that they come to.
+-- Which shapes of a drive and its target the program takes. They are said as checks, of which the first that
+-- fails is the refusal, and as the facts that the checks come to.
 use Rattle.std.specs.Prelude.{ℕ, ◌+◌, ◌-◌, ◌*◌, ◌%◌, ◌^◌, ◌<◌, ◌≤◌, ◌≡◌, ◌⊎◌, ◌==◌, ◌&&◌, ◌||◌, not, nat_lt, nat_le, Bool, List, [], ◌∷◌, Option}
 use Rattle.std.specs.List.{list_any, range_with_len}
 use Rattle.std.specs.Option.{option_map}
@@ -11,7 +11,7 @@ use Rattle.pblk_model.specs.Checks.{first_failing, first_refusal}
 use Rattle.pblk_model.specs.Shape.{units}
 use Rattle.pblk_model.specs.LineOrder.{data_len}
 
--- by the place of its field in a geometry, whether a number isn't 0 that must not be
+-- each number that must not be 0, by the place of its field in a geometry, with whether it isn't 0
 abbrev pub count_checks : Shape → List (ℕ × Bool)
 count_checks s = (64, not (s.groups == 0))
     ∷ (66, not (s.pus == 0))
@@ -21,7 +21,7 @@ count_checks s = (64, not (s.groups == 0))
     ∷ (132, not (s.ws_opt == 0))
     ∷ []
 
--- by its number, whether a rule of the drives that the target takes holds
+-- each rule of the drives that the target takes, by its number, with whether it holds
 abbrev pub drive_checks : Shape → List (ℕ × Bool)
 drive_checks s = (1, nat_le (s.groups * s.pus) 64)
     ∷ (2, nat_le 8 s.chunks && nat_le s.chunks 1024)
@@ -34,7 +34,7 @@ drive_checks s = (1, nat_le (s.groups * s.pus) 64)
 abbrev pub is_ring_power : ℕ → Bool
 is_ring_power n = list_any (λ k. n == 2 ^ k) (range_with_len 0 15)
 
--- by its number, whether a rule of the settings holds
+-- each rule of the settings, by its number, with whether it holds
 abbrev pub settings_checks : Shape → List (ℕ × Bool)
 settings_checks s = (1, (s.sector == 512) || (s.sector == 4096))
     ∷ (2, nat_le (units s * s.chunks * s.clba * s.sector) 268435456)
@@ -89,7 +89,7 @@ pub record IsTargetShape (s : Shape) : Type 0 where
   pub ring_low : units s * (s.mw_cunits + 4 * s.ws_opt) + 16 ≤ s.ring
   pub ring_high : s.ring ≤ 16384
 
--- a drive with sectors of a size that is taken: what the lengths of its lines are measured in
+-- a drive whose sectors have a size that is taken, as the lengths of its lines ask for
 pub record IsMeasured (s : Shape) : Type 0 where
   pub drive : IsDriveShape s
   pub sector : (s.sector ≡ 512) ⊎ (s.sector ≡ 4096)

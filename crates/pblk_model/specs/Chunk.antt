@@ -25,8 +25,8 @@ offline_chunk = record { state = Offline; blocks = [] }
 abbrev pub pointer : Chunk → ℕ
 pointer c = length c.blocks
 
--- Where a write pointer may stand, by the chunk's state and its number of blocks. A Closed chunk whose pointer is below
--- its number of blocks was closed by a failed write.
+-- Where a write pointer may stand, by the chunk's state and its number of blocks. A Closed chunk whose pointer
+-- is below its number of blocks was closed by a failed write.
 abbrev pub PointerFits : ChunkState → ℕ → ℕ → Type 0
 PointerFits Free clba wp = wp ≡ 0
 PointerFits Open clba wp = (0 < wp) × (wp < clba)

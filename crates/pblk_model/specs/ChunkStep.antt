@@ -1,5 +1,5 @@
--- What a chunk answers to a command, and what it is afterwards; and what it may be where the command fails, or is
--- stopped because the drive stops (Open-Channel SSD Specification 2.0, Chunk states, Vector commands).
+-- What a chunk answers to a command, and what it is afterwards; and what it may be where the command fails, or
+-- is stopped because the drive stops (Open-Channel SSD Specification 2.0, Chunk states, Vector commands).
 use Rattle.std.specs.Prelude.{ℕ, ◌+◌, ◌*◌, ◌%◌, ◌<◌, ◌≤◌, ◌≡◌, ◌⊎◌, ◌==◌, ◌||◌, not, if◌then◌else◌, nat_lt, ⊤, List, ◌++◌, length, take, slice_get, Option, Some, None}
 use Rattle.std.specs.List.{AllByRecursion}
 use Rattle.pblk_model.specs.declared.shape.Shape.{Shape}
@@ -94,8 +94,8 @@ ChunkStep s old (Read b) Done new = ⊥
 ChunkStep s old Reset (Gave block) new = ⊥
 ChunkStep s old Reset Empty new = ⊥
 
--- What a command that isn't refused leaves where it fails. A failed write appends k multiples of WS_MIN, fewer than all,
--- and closes the chunk; a failed reset takes it offline.
+-- What a command that isn't refused leaves where it fails. A failed write appends k multiples of WS_MIN, fewer
+-- than all, and closes the chunk; a failed reset takes it offline.
 abbrev pub closed_after : Shape → Chunk → List Block → ℕ → Chunk
 closed_after s c blocks k = record { state = states.Closed; blocks = c.blocks ++ take (k * s.ws_min) blocks }
 
@@ -104,8 +104,9 @@ ChunkFails s old (Write at blocks) new = (refusal s old (Write at blocks) ≡ No
 ChunkFails s old (Read b) new = (refusal s old (Read b) ≡ None) × (new ≡ old)
 ChunkFails s old Reset new = (refusal s old Reset ≡ None) × (new ≡ offline_chunk)
 
--- What a command leaves where the drive stops before it or within it: the chunk as it was, or, where the command isn't
--- refused, what it had done so far. A write appends k multiples of WS_MIN, up to all; a reset is done.
+-- What a command leaves where the drive stops before it or within it: the chunk as it was, or, where the
+-- command isn't refused, what it had done so far. A write appends k multiples of WS_MIN, up to all; a reset is
+-- done.
 abbrev pub StopsWithin : Shape → Chunk → ChunkCommand → Chunk → Type 0
 StopsWithin s old (Write at blocks) new = (k : ℕ) × (0 < k) × (k * s.ws_min ≤ length blocks) × (new ≡ appended s old (take (k * s.ws_min) blocks))
 StopsWithin s old (Read b) new = ⊥

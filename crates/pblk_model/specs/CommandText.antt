@@ -33,7 +33,8 @@ pub record CreateNumbers : Type 0 where
   pub capacity : ℕ
   pub ring : ℕ
 
--- the least number of bits in which a count's numbers can be written: as many as there are powers of two below the count
+-- the least number of bits in which a count's numbers can be written: as many as there are powers of two below
+-- the count
 abbrev pub least_bits : ℕ → ℕ
 least_bits count = length (filter (λ k. nat_lt (2 ^ k) count) (range_with_len 0 32))
 
@@ -131,7 +132,8 @@ script_line script.Memory = codes "memory" ++ newline
 abbrev pub hex_digit : ℕ → ℕ
 hex_digit n = if nat_lt n 10 then 48 + n else 87 + n
 
--- a byte of a name as a refusal prints it: a control character of ASCII as `\x` and two digits, so that the line stays one
+-- a byte of a name as a refusal prints it: a control character of ASCII as `\x` and two digits, so that the
+-- line stays one
 abbrev pub name_byte : ℕ → List ℕ
 name_byte b = if nat_lt b 32 || (b == 127) then 92 ∷ 120 ∷ hex_digit (b / 16) ∷ hex_digit (b % 16) ∷ [] else b ∷ []
 

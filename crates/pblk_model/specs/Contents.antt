@@ -1,5 +1,5 @@
--- What an image holds: for each user sector the newest of the records that count (this project's rules of recovery by
--- scanning; FAST 2017 recovers by scanning too).
+-- What an image holds: for each user sector the newest of the records that count (this project's rules of
+-- recovery by scanning; FAST 2017 recovers by scanning too).
 use Rattle.std.specs.Prelude.{ℕ, zero, suc, ◌+◌, ◌==◌, ◌&&◌, ◌||◌, if◌then◌else◌, nat_lt, nat_le, ◌<◌, ◌≤◌, ◌≡◌, ◌⊎◌, Bool, false, List, [], map, length, Option, Some, None}
 use Rattle.std.specs.List.{Contains, filter, filter_map, list_any, fold, range_with_len}
 use Rattle.std.specs.Option.{option_map_or}
@@ -8,7 +8,8 @@ use Rattle.pblk_model.specs.Bytes.{zeros}
 use Rattle.pblk_model.specs.Records.{Record, records}
 use Rattle.pblk_model.specs.Image.{Image}
 
--- The head: of all whole start records the one of greatest sequence number, and of those the one of the least line.
+-- The head: of all whole start records the one with the greatest sequence number, and among equals the one of
+-- the least line.
 abbrev pub later_start : Option StartRecord → StartRecord → Option StartRecord
 later_start None r = Some r
 later_start (Some best) r = if nat_lt best.seq r.seq then Some r else Some best
@@ -32,19 +33,20 @@ pub record Bears (h : StartRecord) (p : ℕ) (r : Record) : Type 0 where
 abbrev pub is_borne : List Record → StartRecord → ℕ → Bool
 is_borne rs h p = list_any (λ r. nat_le h.first_seq r.seq && (r.position == p)) rs
 
--- the least position from p on that isn't borne, if there is one within so many turns
+-- the least position from p on that nothing bears, if it is found within so many turns
 unfoldable pub least_missing : (ℕ → Bool) → ℕ → ℕ → ℕ
 least_missing borne zero p = p
 least_missing borne (suc turns) p = if borne p then least_missing borne turns (p + 1) else p
 
--- said as a fact: the least position from the head's front on that no record bears in a line of the head's mount
+-- said as a fact: the least position from the head's front on that no record bears in a line of the head's
+-- mount
 pub record IsEnd (rs : List Record) (h : StartRecord) (p : ℕ) : Type 0 where
   pub from_front : h.front ≤ p
   pub missing : (r : Record) → Contains rs r → ¬ Bears h p r
   pub least : (q : ℕ) → h.front ≤ q → q < p → (r : Record) × Contains rs r × Bears h q r
 
--- The end: that position, and 0 without a head. Each record bears one position, so as many turns as there are records
--- are enough.
+-- The end: that position, and 0 without a head. Each record bears one position, so as many turns as there are
+-- records are enough.
 abbrev pub end_after : List Record → Option StartRecord → ℕ
 end_after rs None = 0
 end_after rs (Some h) = least_missing (is_borne rs h) (length rs) h.front
@@ -52,8 +54,8 @@ end_after rs (Some h) = least_missing (is_borne rs h) (length rs) h.front
 abbrev pub end : Image → ℕ
 end i = end_after (records i) (head i)
 
--- A record counts where its line is of the head's mount and its position is below the end, or where its line has a row
--- in the head, for the line's sequence number, and its position is below that row's bound.
+-- A record counts where its line is of the head's mount and its position is below the end, or where its line
+-- has a row in the head, for the line's sequence number, and its position is below that row's bound.
 abbrev pub counts : StartRecord → ℕ → Record → Bool
 counts h p r = (nat_le h.first_seq r.seq && nat_lt r.position p)
     || list_any (λ row. (row.line == r.line) && (row.seq == r.seq) && nat_lt r.position row.bound) h.rows
@@ -65,8 +67,8 @@ counted_after rs (Some h) = filter (counts h (end_after rs (Some h))) rs
 abbrev pub counted : Image → List Record
 counted i = counted_after (records i) (head i)
 
--- b is newer than a: by position, then by sequence number, then by line address; of two that are alike in these the one in
--- the lesser line is newer
+-- b is newer than a: by position, then by sequence number, then by line address; of two that agree in all three
+-- the one in the lesser line is newer
 abbrev pub IsNewer : Record → Record → Type 0
 IsNewer a b = (a.position < b.position) ⊎ ((a.position ≡ b.position) × ((a.seq < b.seq) ⊎ ((a.seq ≡ b.seq)
     × ((a.at < b.at) ⊎ ((a.at ≡ b.at) × (b.line < a.line))))))

@@ -1,5 +1,5 @@
--- The descriptor of a chunk: 32 bytes (Open-Channel SSD Specification 2.0, Chunk descriptor; the places of its fields and
--- the values of its state are this project's profile).
+-- The descriptor of a chunk: 32 bytes (Open-Channel SSD Specification 2.0, Chunk descriptor; the places of its
+-- fields and the values of its state are this project's profile).
 use Rattle.std.specs.Prelude.{ℕ, ◌==◌, ◌&&◌, not, if◌then◌else◌, nat_le, nat_lt, Bool, List, [], ◌∷◌, ◌++◌, length, slice_index, Option, Some, None, Result, Ok, Err}
 use Rattle.std.specs.Int.{w8, w64}
 use Rattle.pblk_model.specs.declared.chunk.ChunkState.{ChunkState}

@@ -35,12 +35,12 @@ pairs_in (suc n) bytes = record { lba = number_at w64 0 bytes; position = number
 abbrev pub end_in : Shape → ℕ → ℕ → ℕ → List ℕ → EndRecord
 end_in s line g seq b = record { line = line; width = g; seq = seq; pairs = pairs_in (data_len s g) (drop 32 b) }
 
--- the record that the bytes spell, if any: the marks may be any
+-- the record that the bytes spell, if they spell one; its marks may be any numbers
 abbrev pub read_end : Shape → ℕ → ℕ → ℕ → List ℕ → Option EndRecord
 read_end s line g seq bytes = if bytes_eq (end_bytes s (end_in s line g seq bytes)) bytes then Some (end_in s line g seq bytes) else None
 
--- The end record of a line with this start record, where it is whole: all its blocks are written and have the line's
--- mark, and their bytes spell it.
+-- The end record of a line with this start record, where it is whole: all its blocks are written and have the
+-- line's mark, and their bytes spell it.
 abbrev pub end_of : Image → ℕ → StartRecord → Option EndRecord
 end_of i line start = option_and_then
     (λ blocks. if have_meta start.seq blocks then read_end i.shape line (width i line) start.seq (flat_map (λ b. b.sector) blocks) else None)

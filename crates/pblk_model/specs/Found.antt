@@ -1,4 +1,5 @@
--- Which findings of a scan a target can begin with: those of some image of an accepted shape.
+-- What a scan must have found so that a target can begin with it. What is found of an image of an accepted
+-- shape is always so.
 use Rattle.std.specs.Prelude.{ℕ, ◌+◌, ◌*◌, ◌^◌, ◌<◌, ◌≤◌, ◌≡◌, ◌≢◌, ◌⊎◌, ⊤, List, [], ◌∷◌, length, slice_get, Option, Some, None}
 use Rattle.std.specs.List.{Contains, filter_map, range_with_len}
 use Rattle.pblk_model.specs.declared.shape.Shape.{Shape}

@@ -1,9 +1,9 @@
--- A pool of frames: one region of memory that is cut into ranges of one size, each of which is left in the pool or out as
--- exactly one frame. Nothing here names a pointer.
+-- A pool of frames: one region of memory that is cut into ranges of one size, each of which is left in the pool
+-- or out as exactly one frame. Nothing here names a pointer.
 use Rattle.std.specs.Prelude.{ℕ, suc, ◌+◌, ◌*◌, ◌≤◌, ◌⊎◌, Bool, true, false, List, [], ◌∷◌}
 
--- A region: from its start in a block of memory on, `count` ranges of `size` bytes, each beginning `stride` bytes after the
--- one before it. Which region it is is all that tells one pool from another.
+-- A region: from its start in a block of memory on, `count` ranges of `size` bytes, each beginning `stride`
+-- bytes after the one before it. Which region it is is all that tells one pool from another.
 pub record Region : Type 0 where
   pub block : ℕ
   pub start : ℕ

@@ -1,5 +1,5 @@
--- The geometry: 4096 bytes with numbers at fixed places (Open-Channel SSD Specification 2.0, Geometry; the places are
--- this project's profile), and how addresses are packed by it.
+-- The geometry: 4096 bytes with numbers at fixed places (Open-Channel SSD Specification 2.0, Geometry; the
+-- places are this project's profile), and how addresses are packed by it.
 use Rattle.std.specs.Prelude.{ℕ, ◌+◌, ◌*◌, ◌^◌, ◌<◌, ◌≡◌, ◌==◌, ◌&&◌, ◌||◌, if◌then◌else◌, nat_le, Bool, List, [], ◌∷◌, ◌++◌, length, Option, Some, None, Result, Ok, Err}
 use Rattle.std.specs.Int.{w8, w16, w32}
 use Rattle.pblk_model.specs.declared.shape.Address.{Address}
@@ -60,7 +60,7 @@ geometry_bytes g = (g.mjr ∷ g.mnr ∷ zeros 6)
     ++ le16 g.groups ++ le16 g.pus ++ le32 g.chunks ++ le32 g.clba ++ zeros 52
     ++ le32 g.ws_min ++ le32 g.ws_opt ++ le32 g.mw_cunits ++ le32 g.maxoc ++ le32 g.maxocpu ++ zeros 3948
 
--- 2 to the length of an address's field is at least the field's count
+-- a field of an address that is so many bits long has room for the numbers of this count
 abbrev pub length_holds : ℕ → ℕ → Bool
 length_holds bits count = nat_le bits 32 && nat_le count (2 ^ bits)
 
@@ -79,11 +79,11 @@ shape_with g sector capacity ring = record {
   ring = ring;
 }
 
--- without settings, at which the checks of a drive don't look
+-- the same without settings, since the checks of a drive don't look at these
 abbrev pub drive_numbers : Geometry → Shape
 drive_numbers g = shape_with g 0 0 0
 
--- by each field's first byte, whether its number is accepted
+-- each field, by its first byte, with whether its number is accepted
 abbrev pub field_checks : Geometry → List (ℕ × Bool)
 field_checks g = (0, g.mjr == 2)
     ∷ (8, length_holds g.group_bits g.groups)
@@ -92,14 +92,14 @@ field_checks g = (0, g.mjr == 2)
     ∷ (11, length_holds g.block_bits g.clba)
     ∷ count_checks (drive_numbers g)
 
--- by its number, whether a rule of the bounds on open chunks and of the lengths holds
+-- each rule of the bounds on open chunks and of the lengths, by its number, with whether it holds
 abbrev pub bound_checks : Geometry → List (ℕ × Bool)
 bound_checks g = (6, (g.maxoc == 0) || nat_le (2 * (g.groups * g.pus)) g.maxoc)
     ∷ (7, (g.maxocpu == 0) || nat_le 2 g.maxocpu)
     ∷ (8, nat_le (g.group_bits + g.pu_bits + g.chunk_bits + g.block_bits) 64)
     ∷ []
 
--- by its number, whether a rule of the drives that the target takes holds
+-- each rule of the drives that the target takes, by its number, with whether it holds
 abbrev pub profile_checks : Geometry → List (ℕ × Bool)
 profile_checks g = drive_checks (drive_numbers g) ++ bound_checks g
 
@@ -123,7 +123,7 @@ unless_refused g (Some e) = Err e
 abbrev pub read_geometry : List ℕ → Result Geometry GeometryErr
 read_geometry bytes = if length bytes == 4096 then unless_refused (geometry_in bytes) (geometry_refusal (geometry_in bytes)) else Err Length
 
--- the number of an address: its fields from the most significant end, each in its length
+-- the number that an address packs to: its fields, from the most significant one on, each in its length of bits
 abbrev pub packed : Geometry → Address → ℕ
 packed g a = ((a.group * 2 ^ g.pu_bits + a.pu) * 2 ^ g.chunk_bits + a.chunk) * 2 ^ g.block_bits + a.block
 

@@ -14,7 +14,7 @@ after_write sectors w = slice_set sectors w.lba w.sector
 abbrev pub after : List (List ℕ) → List SectorWrite → List (List ℕ)
 after sectors history = fold after_write sectors history
 
--- how many lines of a history, of which these are the positions, are below a position
+-- how many lines of a history are below a position, where these are the lines' positions
 abbrev pub users : List ℕ → ℕ → ℕ
 users positions p = length (filter (λ q. nat_lt q p) positions)
 

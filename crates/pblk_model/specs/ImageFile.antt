@@ -1,4 +1,5 @@
--- The file in which a drive is kept: a header, the geometry, a descriptor for each chunk, and the written blocks.
+-- The file in which a drive is kept: a header, the geometry, a descriptor for each chunk, and the written
+-- blocks.
 use Rattle.std.specs.Prelude.{ℕ, ◌+◌, ◌*◌, ◌/◌, ◌%◌, ◌≡◌, ◌==◌, ◌&&◌, true, nat_le, Bool, List, [], ◌∷◌, ◌++◌, map, length, take, slice_get, slice_index, slice_range, Option, Some, None, Ok, codes, replicate}
 use Rattle.std.specs.List.{AllByRecursion, flat_map, enumerate_from, range_with_len, sum_by}
 use Rattle.std.specs.Option.{option_map, option_map_or, is_some}
@@ -115,7 +116,7 @@ blocks_end b = descriptors_end b + ((shape_at b).sector + 16) * sum_by (pointer_
 
 -- Which bytes are refused.
 
--- by its number, whether a rule of the descriptor of a chunk holds
+-- each rule of the descriptor of a chunk, by its number, with whether it holds
 abbrev pub chunk_checks : Geometry → ℕ → ℕ → List ℕ → List (ℕ × Bool)
 chunk_checks g unit chunk d = (1, is_some (state_in (slice_index d 0)))
     ∷ (2, slice_index d 1 == 1)
@@ -151,7 +152,7 @@ image_refusals b = short_of b 32
 abbrev pub image_refusal : List ℕ → Option ImageErr
 image_refusal b = first_refusal (image_refusals b)
 
--- Of which drive bytes are an image that isn't refused. The bytes that are ignored may be any.
+-- Which drive bytes are an image of, where they aren't refused. Bytes that are ignored may hold anything.
 pub record IsImageOf (b : List ℕ) (d : Drive) : Type 0 where
   pub settings : shape_of d ≡ shape_at b
   pub geometry : d.geometry ≡ geometry_at b

@@ -1,18 +1,20 @@
--- A line is the chunks of one index over all units. Its width g is the number of those that aren't Offline. The line's
--- addresses run over them in stripes of WS_OPT blocks, chunk by chunk in the order of their units, and row by row.
+-- A line is the chunks of one index over all units. Its width g is the number of those that aren't Offline. The
+-- line's addresses run over them in stripes of WS_OPT blocks, chunk by chunk in the order of their units, and
+-- row by row.
 use Rattle.std.specs.Prelude.{ℕ, ◌+◌, ◌-◌, ◌*◌, ◌/◌, ◌%◌, ◌<◌, ◌≤◌, ◌≡◌, if◌then◌else◌, nat_lt, List, map}
 use Rattle.std.specs.List.{flat_map, range_with_len}
 use Rattle.std.specs.Int.{div_ceil}
 use Rattle.pblk_model.specs.declared.shape.Shape.{Shape}
 
--- The blocks of a line of these units, in line order, each as a unit and a block of its chunk: row by row, unit by unit,
--- the blocks of a stripe.
+-- The blocks of a line of these units, in line order, each as a unit and a block of its chunk: row by row, unit
+-- by unit, the blocks of a stripe.
 abbrev pub line_order : Shape → List ℕ → List (ℕ × ℕ)
 line_order s line_units = flat_map
     (λ row. flat_map (λ unit. map (λ k. (unit, row * s.ws_opt + k)) (range_with_len 0 s.ws_opt)) line_units)
     (range_with_len 0 (s.clba / s.ws_opt))
 
--- The same as an equation: which of the g units has a line address, in their order, and which block of its chunk it is.
+-- The same as equations: which of the line's g units, in their order, has a line address, and which block of
+-- its chunk that is.
 abbrev pub column_of : Shape → ℕ → ℕ → ℕ
 column_of s g a = (a / s.ws_opt) % g
 
@@ -33,7 +35,7 @@ pub record IsLeastMultiple (w : ℕ) (P : ℕ → Type 0) (n : ℕ) : Type 0 whe
 abbrev pub HoldsStart : Shape → ℕ → Type 0
 HoldsStart s e = 64 + 24 * (s.chunks - 1) ≤ e * s.sector
 
--- how many blocks at a line's front are its start record: the least whole stripes that hold one
+-- how many blocks at a line's front its start record takes: the least number of whole stripes that hold one
 abbrev pub start_len : Shape → ℕ
 start_len s = s.ws_opt * div_ceil (64 + 24 * (s.chunks - 1)) (s.ws_opt * s.sector)
 
@@ -41,10 +43,10 @@ start_len s = s.ws_opt * div_ceil (64 + 24 * (s.chunks - 1)) (s.ws_opt * s.secto
 abbrev pub HoldsEnd : Shape → ℕ → ℕ → Type 0
 HoldsEnd s g e = 32 + 16 * (g * s.clba - start_len s - e) ≤ e * s.sector
 
--- how many blocks at a line's end are its end record: the least whole stripes that hold one
+-- how many blocks at a line's end its end record takes: the least number of whole stripes that hold one
 abbrev pub end_len : Shape → ℕ → ℕ
 end_len s g = s.ws_opt * div_ceil (32 + 16 * (g * s.clba - start_len s)) (s.ws_opt * (s.sector + 16))
 
--- how many blocks between them are data. A line that has no stripe of them is dead
+-- how many blocks between the two hold data; a line with less than a stripe of them is dead
 abbrev pub data_len : Shape → ℕ → ℕ
 data_len s g = let between = g * s.clba - start_len s - end_len s g in if nat_lt between s.ws_opt then 0 else between

@@ -18,16 +18,16 @@ pub record Record : Type 0 where
   -- the line address of the block
   pub at : ℕ
   pub position : ℕ
-  -- whose sector the block holds; none where the position was given up
+  -- the sector whose content the block holds; none where its mark is Void
   pub lba : Option ℕ
   pub sector : List ℕ
 
--- the sector that a mark names: none for one that was given up, and no record for all else
+-- What a mark says: a sector; no sector, where it is Void; and with any other mark there is no record.
 abbrev pub named : Shape → Mark → Option (Option ℕ)
 named s m = if nat_lt m.lba s.capacity then Some (Some m.lba) else (if m.lba == void_lba then Some None else None)
 
--- The mark of a written block: its pair in the end record where that is whole, which has one for each data address; else
--- the block's own.
+-- The mark that counts for a written block. Without a whole end record it is the block's own; with one it is
+-- the block's pair there, and blocks before the data have none.
 abbrev pub mark_at : Shape → Option EndRecord → ℕ → Block → Option Mark
 mark_at s None a block = Some block.mark
 mark_at s (Some end_record) a block = if nat_lt a (start_len s) then None else slice_get end_record.pairs (a - start_len s)

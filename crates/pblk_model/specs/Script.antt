@@ -59,8 +59,8 @@ pub record ScriptFits (capacity : ℕ) (script : List (List Command)) : Type 0 w
   pub once : (i c j d : ℕ) (name : List ℕ) → command_at script i c ≡ Some (Post name) → command_at script j d ≡ Some (Post name) → (i ≡ j) × (c ≡ d)
   pub posted : (j d : ℕ) (name : List ℕ) → command_at script j d ≡ Some (Await name) → (i : ℕ) × (c : ℕ) × (command_at script i c ≡ Some (Post name))
 
--- There is a time for each command, later than those before it in its thread, such that each name is posted before it
--- is awaited. So no thread waits for ever.
+-- There is a time for each command, later than those before it in its thread, such that each name is posted
+-- before it is awaited. So no thread waits for ever.
 abbrev pub NeverStuck : List (List Command) → Type 0
 NeverStuck script = (time : ℕ → ℕ → ℕ)
     × ((i c : ℕ) → time i c < time i (c + 1))

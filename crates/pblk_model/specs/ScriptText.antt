@@ -1,5 +1,5 @@
--- Which bytes are a script, which one, and why others are refused: the first line that is refused decides, then the least
--- line that awaits what nobody posts, then the least line at which a thread is stuck.
+-- Which bytes are a script, which one, and why others are refused: the first line that is refused decides, then
+-- the least line that awaits what nobody posts, then the least line at which a thread is stuck.
 use Rattle.std.specs.Prelude.{ℕ, zero, suc, ◌+◌, ◌-◌, ◌*◌, ◌^◌, ◌≡◌, ◌==◌, ◌&&◌, ◌||◌, not, min, if◌then◌else◌, nat_lt, nat_le, Bool, true, false, List, [], ◌∷◌, ◌++◌, map, length, Option, Some, None, Result, Ok, Err, codes}
 use Rattle.std.specs.List.{filter, fold, list_all, list_any, slice_split, sum_by}
 use Rattle.std.specs.Option.{option_and_then, option_map, option_map_or}
@@ -43,7 +43,7 @@ abbrev pub said_line : Said → List ℕ
 said_line Thread = thread_line
 said_line (Commands c) = command_line c
 
--- the number whose digits these bytes would be
+-- the number that these bytes would be, read as digits
 abbrev pub digits_value : List ℕ → ℕ
 digits_value word = fold (λ n digit. 10 * n + (digit - 48)) 0 word
 
@@ -194,8 +194,9 @@ least_standing [] = None
 least_standing ([] ∷ threads) = least_standing threads
 least_standing ((x ∷ commands) ∷ threads) = Some (option_map_or (min x.0) (least_standing threads) x.0)
 
--- The least line at which a thread is stuck, if one is: the threads are run on again and again until nothing moves. Each turn
--- but the last moves a thread past a command, so as many turns as there are commands are enough.
+-- The least line at which a thread is stuck, if one is: the threads are run on again and again until nothing
+-- moves. Each turn but the last moves a thread past a command, so as many turns as there are commands are
+-- enough.
 abbrev pub stuck_at : List Numbered → Option ℕ
 stuck_at threads = least_standing (turns (sum_by length threads) [] threads)
 

@@ -11,7 +11,8 @@ use Rattle.pblk_model.specs.Image.{Image, line_chunks, width, block_at}
 use Rattle.pblk_model.specs.StartRecord.{StartRecord, magic, start_of}
 use Rattle.pblk_model.specs.EndRecord.{EndRecord, end_of}
 
--- a whole end record: no chunk of its line is Open, and each written data block has its pair as its mark
+-- A whole end record agrees with its line: no chunk of the line is Open, and each written data block has its
+-- pair as its mark.
 pub record AgreesWithLine (i : Image) (line : ℕ) (e : EndRecord) : Type 0 where
   pub closed : AllByRecursion (λ c. c.state ≢ Open) (line_chunks i line)
   pub marks : (k : ℕ) (b : Block) → k < length e.pairs → block_at i line (start_len i.shape + k) ≡ Some b → slice_get e.pairs k ≡ Some b.mark

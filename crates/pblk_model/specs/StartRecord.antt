@@ -1,5 +1,5 @@
--- The start record of a line: which line it is, its sequence number, and what the mount that wrote it knew of older
--- lines (this project's own format).
+-- The start record of a line: which line it is, its sequence number, and what the mount that wrote it knew of
+-- older lines (this project's own format).
 use Rattle.std.specs.Prelude.{ℕ, zero, suc, ◌+◌, ◌-◌, ◌*◌, ◌^◌, ◌==◌, ◌&&◌, if◌then◌else◌, nat_lt, nat_le, Bool, true, not, List, [], ◌∷◌, ◌++◌, length, drop, Option, Some, None}
 use Rattle.std.specs.List.{flat_map, list_all}
 use Rattle.std.specs.Option.{option_and_then, option_map}
@@ -41,8 +41,8 @@ start_bytes s r = padded_to (start_len s * s.sector)
     (le32 magic ++ le16 1 ++ le16 1 ++ le32 r.line ++ le32 r.width ++ le64 r.seq ++ le64 r.first_seq ++ le64 r.front
     ++ le64 r.capacity ++ le32 (length r.rows) ++ zeros 12 ++ flat_map row_bytes r.rows)
 
--- the lines rise from `least` on, and are below the number of lines and not the record's; each row is older than the
--- mount, and its bound is at most the front
+-- the lines rise from `least` on, and are below the number of lines and not the record's; each row is older
+-- than the mount, and its bound is at most the front
 abbrev pub rows_fit : Shape → StartRecord → ℕ → List Row → Bool
 rows_fit s r least [] = true
 rows_fit s r least (row ∷ rows) = nat_le least row.line && nat_lt row.line s.chunks && not (row.line == r.line)
@@ -87,8 +87,8 @@ abbrev pub marked_start : List Block → Option StartRecord → Option StartReco
 marked_start blocks None = None
 marked_start blocks (Some r) = if have_meta r.seq blocks then Some r else None
 
--- The start record of a line, where it is whole: all its blocks are written and have its mark, and their bytes spell it.
--- A line has a sequence number exactly where it has one.
+-- The start record of a line, where it is whole: all its blocks are written and have its mark, and their bytes
+-- spell it. A line has a sequence number exactly where it has one.
 abbrev pub start_of : Image → ℕ → Option StartRecord
 start_of i line = option_and_then (λ blocks. marked_start blocks (read_start i.shape line (width i line) (flat_map (λ b. b.sector) blocks)))
     (written_run i line 0 (start_len i.shape))

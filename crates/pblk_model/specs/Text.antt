@@ -13,7 +13,7 @@ pub record HistoryLine : Type 0 where
   pub lba : ℕ
   pub tag : ℕ
 
--- what a sector shows: its tag, where it is the sector of one
+-- what is printed of a sector: its tag, where it is the sector of one
 pub data Word : Type 0 where
   Tag : ℕ → Word
   Mixed : Word

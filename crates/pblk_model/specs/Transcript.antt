@@ -123,8 +123,8 @@ Allowed m (script.Write lba count tag) (Worn wanted have) = IsWorn wanted have
 -- a read: its front holds all that was seen, and its words are those of the contents there
 Allowed m (script.Read lba count) (Words front words) = (heard m ≤ front) × (front ≤ now m) × (words ≡ words_at (contents_at m front) lba count)
 Allowed m (script.Read lba count) (Drive unit event) = ⊤
--- a flush: its front holds all that was seen, and is kept
-Allowed m script.Flush (Flushed front) = (heard m ≤ front) × (front ≤ now m) × (front ≤ m.transcript.kept)
+-- a flush: its front holds all that was seen
+Allowed m script.Flush (Flushed front) = (heard m ≤ front) × (front ≤ now m)
 Allowed m script.Flush (Drive unit event) = ⊤
 Allowed m script.Flush (Worn wanted have) = IsWorn wanted have
 Allowed m (script.Post name) Silent = ⊤
@@ -138,14 +138,14 @@ abbrev pub Ran : List (List Command) → Transcript → Option (ℕ × ℕ) → 
 Ran script t None = map length t.outcomes ≡ map length script
 Ran script t (Some e) = (t.outcomes ≡ []) × (t.closing ≡ Closed)
 
--- what closing answered: all is kept where it answered nothing
-abbrev pub ClosedAs : Transcript → Closing → Type 0
-ClosedAs t Closed = t.kept ≡ length t.history
-ClosedAs t (ClosedByDrive unit event) = ⊤
-ClosedAs t (ClosedWorn wanted have) = IsWorn wanted have
+-- what closing may answer
+abbrev pub IsClosing : Closing → Type 0
+IsClosing Closed = ⊤
+IsClosing (ClosedByDrive unit event) = ⊤
+IsClosing (ClosedWorn wanted have) = IsWorn wanted have
 
--- A transcript of a run of a script from the contents before, which leaves the contents after. Sectors have this size.
-pub record IsRun (size : ℕ) (script : List (List Command)) (sectors_before : List (List ℕ)) (t : Transcript) (sectors_after : List (List ℕ)) : Type 0 where
+-- A transcript of a run of a script from the contents before, whatever of it is kept. Sectors have this size.
+pub record IsTranscript (size : ℕ) (script : List (List Command)) (sectors_before : List (List ℕ)) (t : Transcript) : Type 0 where
   pub ran : Ran script t t.opening
   -- One history: the placed writes in some order, in which each thread's own stand in its order.
   pub order : List PlacedWrite
@@ -160,9 +160,20 @@ pub record IsRun (size : ℕ) (script : List (List Command)) (sectors_before : L
   -- Events are named by numbers of units and of their events, and none is named twice.
   pub numbers : AllByRecursion (λ e. (e.0 < 2 ^ 32) × (e.1 < 2 ^ 64)) (events t)
   pub distinct : IsDistinct (events t)
-  pub closed : ClosedAs t t.closing
+  pub closing : IsClosing t.closing
   pub kept_within : t.kept ≤ length t.history
-  -- What is kept is what the contents after are made of.
+
+-- each front that a flush answered is kept
+abbrev pub AreFlushesKept : List (List Command) → Transcript → Type 0
+AreFlushesKept commands t = (i c front : ℕ) → slice_get (answered commands t i) c ≡ Some (script.Flush, Flushed front) → front ≤ t.kept
+
+-- The same, and what is kept: a run that leaves the contents after.
+pub record IsRun (size : ℕ) (script : List (List Command)) (sectors_before : List (List ℕ)) (t : Transcript) (sectors_after : List (List ℕ)) : Type 0 where
+  pub told : IsTranscript size script sectors_before t
+  pub flushed : AreFlushesKept script t
+  -- all of the history is, where closing answered nothing
+  pub closed : t.closing ≡ Closed → t.kept ≡ length t.history
+  -- what is kept is what the contents after are made of
   pub kept : sectors_after ≡ after sectors_before (sector_writes size (take t.kept t.history))
 
 -- The transcript relation, between a script, the contents before, the printed text and the contents after.

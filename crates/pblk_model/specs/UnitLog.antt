@@ -1,5 +1,6 @@
--- What a unit's commands leave of its chunks: its log of programs, fetches and resets with their outcomes, and the chunks
--- after it; and what a stop of the drive may leave (Open-Channel SSD Specification 2.0, Vector commands).
+-- What a unit's commands leave of its chunks: its log of programs, fetches and resets with their outcomes, and
+-- the chunks after it; and what a stop of the drive may leave (Open-Channel SSD Specification 2.0, Vector
+-- commands).
 use Rattle.std.specs.Prelude.{ℕ, zero, suc, ◌*◌, ◌<◌, ◌≤◌, ◌≡◌, ◌⊎◌, ⊤, List, [], ◌∷◌, length, take, slice_get, slice_set, Option, Some, None}
 use Rattle.std.specs.List.{fold}
 use Rattle.std.specs.Option.{option_map_or}
@@ -7,8 +8,8 @@ use Rattle.pblk_model.specs.declared.shape.Shape.{Shape}
 use Rattle.pblk_model.specs.Chunk.{Chunk, Block, offline_chunk}
 use Rattle.pblk_model.specs.ChunkStep.{ChunkCommand, Write, Read, Reset, WritesBlocks, ChunkAnswer, Done, Gave, Empty, Refused, ChunkStep, ChunkStops, refusal, appended, after_reset, closed_after}
 
--- What became of a command. A write that failed or was stopped has landed so many multiples of WS_MIN before; a reset
--- that was stopped was done where the number isn't 0. A read lands nothing.
+-- What became of a command. Of a write that failed or was stopped so many multiples of WS_MIN had landed. A
+-- reset that was stopped was done where the number isn't 0. A read lands nothing.
 pub data UnitOutcome : Type 0 where
   Answered : ChunkAnswer → UnitOutcome
   Failed : ℕ → UnitOutcome
@@ -56,8 +57,8 @@ after_event s chunks e = option_map_or (λ c. slice_set chunks e.chunk (after_ou
 abbrev pub after_log : Shape → List Chunk → List UnitEvent → List Chunk
 after_log s chunks log = fold (after_event s) chunks log
 
--- Which outcomes a command may have, by the chunk that it finds: an answer of the chunk table other than a refusal, a
--- failure, or a stop.
+-- Which outcomes a command may have, by the chunk that it finds: an answer of the chunk table other than a
+-- refusal, a failure, or a stop.
 abbrev pub NotRefused : ChunkAnswer → Type 0
 NotRefused Done = ⊤
 NotRefused (Gave block) = ⊤
@@ -83,13 +84,14 @@ pub record IsEvent (s : Shape) (chunks : List Chunk) (e : UnitEvent) : Type 0 wh
   pub blocks : WritesBlocks s e.command
   pub outcome : IsOutcome s found e.command e.outcome
 
--- A log over the chunks before it: its first event is one over them, and the rest is a log over what that leaves.
+-- A log over the chunks before it: its first event is one over them, and the rest is a log over what that
+-- leaves.
 unfoldable pub IsUnitLog : Shape → List Chunk → List UnitEvent → Type 0
 IsUnitLog s chunks [] = ⊤
 IsUnitLog s chunks (e ∷ log) = IsEvent s chunks e × IsUnitLog s (after_event s chunks e) log
 
--- What a stop of the drive may leave of a unit with at most one command in flight: its chunks as they were, or with what
--- that command had done so far.
+-- What a stop of the drive may leave of a unit with at most one command in flight: its chunks as they were, or
+-- with what that command had done so far.
 pub record InFlight : Type 0 where
   pub chunk : ℕ
   pub command : ChunkCommand

@@ -14,17 +14,19 @@ use crate::shape::{Shape, ShapeErr};
 impl Shape {
     /// Why this shape isn't accepted, or None where it is.
     ///
-    /// `Field` with the place of its field in a geometry for the first number that is 0 and must not be: 64, 66, 68, 72, 128
-    /// and 132 for NUM_GRP, NUM_PU, NUM_CHK, CLBA, WS_MIN and WS_OPT.
+    /// `Field` comes for the first number that is 0 and must not be. It has the place of that number in a
+    /// geometry: 64, 66, 68, 72, 128 and 132 for NUM_GRP, NUM_PU, NUM_CHK, CLBA, WS_MIN and WS_OPT.
     ///
-    /// Else `Profile` with the first rule that doesn't hold: 1, at most 64 parallel units in all groups; 2, 8 to 1024 chunks in
-    /// a unit; 3, WS_OPT is a multiple of WS_MIN and at most 64; 4, CLBA is a multiple of WS_OPT; 5, MW_CUNITS is a multiple of
-    /// WS_OPT and below CLBA (Open-Channel SSD Specification 2.0, Geometry; the numbers of the rules are this project's).
+    /// Else `Profile` comes with the first rule that doesn't hold: 1, at most 64 parallel units in all groups;
+    /// 2, 8 to 1024 chunks in a unit; 3, WS_OPT is a multiple of WS_MIN and at most 64; 4, CLBA is a multiple
+    /// of WS_OPT; 5, MW_CUNITS is a multiple of WS_OPT and below CLBA (Open-Channel SSD Specification 2.0,
+    /// Geometry; the numbers of the rules are this project's).
     ///
-    /// Else `Settings` with the first rule that doesn't hold: 1, a sector has 512 or 4096 bytes; 2, all sectors of the drive
-    /// have at most 256 MiB; 3, twice the data of a line is at least `(16 + WS_OPT) * WS_OPT`; 4, the capacity is from 1 to
-    /// below 2^40, and four times it is at most `3 * (NUM_CHK - 5)` times the data of a line; 5, the ring is a power of two up
-    /// to 16,384, and at least `units * (MW_CUNITS + 4 * WS_OPT) + 16`.
+    /// Else `Settings` comes with the first rule that doesn't hold: 1, a sector has 512 or 4096 bytes; 2, all
+    /// sectors of the drive have at most 256 MiB; 3, twice the data of a line is at least `(16 + WS_OPT) *
+    /// WS_OPT`; 4, the capacity is from 1 to below 2^40, and four times it is at most `3 * (NUM_CHK - 5)` times
+    /// the data of a line; 5, the ring is a power of two up to 16,384, and at least `units * (MW_CUNITS + 4 *
+    /// WS_OPT) + 16`.
     pub fn refusal(&self) -> Option<ShapeErr>
         ensures refusal { result ≡ shape_refusal self.now }
         ensures accepted { IsNone result ↔ IsAccepted self.now }
@@ -41,7 +43,8 @@ impl Shape {
         }
     }
 
-    /// The place in a geometry of the field of the first number that is 0 and must not be. `refusal` names the fields.
+    /// The place in a geometry of the field of the first number that is 0 and must not be. `refusal` names the
+    /// fields.
     pub fn zero_field(&self) -> Option<u32>
         ensures first { result ≡ first_failing (count_checks self.now) }
         ensures counts { IsNone result ↔ HasCounts self.now }
@@ -84,7 +87,8 @@ impl Shape {
         }
     }
 
-    /// The first rule of the settings that doesn't hold, where the drive's numbers are accepted. `refusal` names the rules.
+    /// The first rule of the settings that doesn't hold, where the drive's numbers are accepted. `refusal`
+    /// names the rules.
     pub fn broken_setting(&self) -> Option<u32>
         requires { IsDriveShape self.now }
         ensures first { result ≡ first_failing (settings_checks self.now) }
@@ -94,7 +98,7 @@ impl Shape {
     }
 }
 
-// The first check that fails; which facts the checks come to is told apart from them.
+// The first check that fails. That the checks come to the facts of `IsAccepted` is the caller's to show.
 fn first_broken_setting(shape: &Shape) -> Option<u32>
     requires { IsDriveShape shape.now }
     ensures { result ≡ first_failing (settings_checks shape.now) }

@@ -4,12 +4,29 @@ use thiserror::Error;
 
 /// What stands beside a block's sector: the sector's logical address, and its position.
 ///
-/// Three addresses name no sector: Pad `2^64 - 1`, Void `2^64 - 2` and Meta `2^64 - 3`
+/// Three addresses name no sector: [`Mark::PAD_LBA`], [`Mark::VOID_LBA`] and [`Mark::META_LBA`]
 /// (Bjørling, González, Bonnet, FAST 2017: addresses are kept beside the sectors).
 #[derive(Clone, Copy, Debug, PartialEq, Eq)]
 pub struct Mark {
     pub lba: u64,
     pub position: u64,
+}
+
+impl Mark {
+    /// The address of a block that only fills up a stripe, `2^64 - 1`. Its position is 0.
+    pub const PAD_LBA: u64 = u64::MAX;
+
+    /// The address of a copy that had become stale before it was written, `2^64 - 2`. Its position bears no sector.
+    pub const VOID_LBA: u64 = u64::MAX - 1;
+
+    /// The address of a block of a line's start or end record, `2^64 - 3`. Its position is the line's sequence number.
+    pub const META_LBA: u64 = u64::MAX - 2;
+
+    /// The mark of a block that only fills up a stripe.
+    pub const PAD: Mark = Mark {
+        lba: Mark::PAD_LBA,
+        position: 0,
+    };
 }
 
 /// The state of a chunk.

@@ -83,9 +83,9 @@ pub struct LineRow {
     pub bound: u64,
     /// One past the greatest position of the line's records that count, and 0 where it has none.
     pub top: u64,
-    /// The line's end record is whole.
+    /// Whether the line's end record is whole.
     pub full: bool,
-    /// The line's sequence number is at least the head's first one.
+    /// Whether the line's sequence number is at least the head's first one.
     pub young: bool,
 }
 

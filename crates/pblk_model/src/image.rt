@@ -1,9 +1,19 @@
-//! Why bytes are no image of a drive.
+//! The parts of an image of a drive, and why bytes are no image.
 
 use crate::shape::GeometryErr;
 use thiserror::Error;
 
-/// Why bytes are no image of a drive, or numbers no drive: the first reason, part by part.
+/// How many bytes the header of an image has, with which it begins. Its geometry follows.
+pub const HEADER_LEN: usize = 32;
+
+/// The byte of an image at which the descriptors of its chunks begin, behind the header and a geometry of 4096 bytes.
+pub const DESCRIPTORS_AT: usize = HEADER_LEN + 4096;
+
+/// How many bytes the descriptor of a chunk has (Open-Channel SSD Specification 2.0, Chunk descriptor).
+pub const DESCRIPTOR_LEN: usize = 32;
+
+/// Why bytes are no image of a drive, or why there is no drive of some numbers. It is the first reason, as the
+/// parts are judged one after another.
 #[derive(Clone, Copy, Debug, PartialEq, Eq, Error)]
 pub enum ImageErr {
     /// The image doesn't begin with its magic.

@@ -7,6 +7,10 @@ pub struct Place {
     pub count: u32,
 }
 
+/// Sequence numbers of lines and positions of fronts in start records are below this, `2^61`. A start record with a
+/// greater number isn't whole.
+pub const NUMBER_LIMIT: u64 = 1 << 61;
+
 /// A front: all positions below `position`, which hold the first `users` lines of the history.
 #[derive(Clone, Copy, Debug, PartialEq, Eq)]
 pub struct Front {

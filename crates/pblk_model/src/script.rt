@@ -6,8 +6,8 @@ use std::alloc::{AllocError, Global};
 use std::marker::Model;
 use thiserror::Error;
 
-/// The name of a post. In a script that is accepted it has 1 to 16 lower-case ASCII letters or digits. Contracts see its
-/// bytes.
+/// The name of a post. In a script that is accepted it has 1 to 16 lower-case ASCII letters or digits.
+/// Contracts see its bytes.
 #[derive(Debug, Drop)]
 pub struct PostName {
     text: String,
@@ -133,9 +133,11 @@ impl Script {
     }
 }
 
-/// Why bytes are no script, with the number of a line, from 1. A line number that has reached 2^32 - 1 stands still there.
+/// Why bytes are no script, with the number of a line, from 1. A line number that has reached 2^32 - 1 stands
+/// still there.
 ///
-/// The first line decides that is refused by itself, in the order `Form`, `Limit`, `Range`; then `NeverPosted`, then `Stuck`.
+/// The first line that is refused by itself decides; within a line the order is `Form`, `Limit`, `Range`. Where
+/// no line is refused by itself, `NeverPosted` comes before `Stuck`.
 #[derive(Clone, Copy, Debug, PartialEq, Eq, Error)]
 pub enum ScriptErr {
     /// The line has no known form, or is a command before the first thread, or posts a name a second time.

@@ -33,22 +33,25 @@ pub struct Shape {
 impl Shape {
     /// The small drive: two parallel units of eight chunks of 24 blocks, WS_MIN 2, WS_OPT 4, MW_CUNITS 8, sectors of 512
     /// bytes, and on it a target of 64 sectors with a write buffer of 64 entries.
+    pub const SMALL: Shape = Shape {
+        groups: 1,
+        pus: 2,
+        chunks: 8,
+        clba: 24,
+        ws_min: 2,
+        ws_opt: 4,
+        mw_cunits: 8,
+        sector: 512,
+        capacity: 64,
+        ring: 64,
+    };
+
+    /// The small drive's numbers, [`Shape::SMALL`], which are accepted.
     pub fn small() -> Shape
         ensures numbers { result ≡ small }
         ensures accepted { IsAccepted result }
     {
-        Shape {
-            groups: 1,
-            pus: 2,
-            chunks: 8,
-            clba: 24,
-            ws_min: 2,
-            ws_opt: 4,
-            mw_cunits: 8,
-            sector: 512,
-            capacity: 64,
-            ring: 64,
-        }
+        Shape::SMALL
     }
 
     /// The number of parallel units, numbered from 0: `group * pus + pu`.
@@ -58,8 +61,8 @@ impl Shape {
         u32::from(self.groups) * u32::from(self.pus)
     }
 
-    /// How many blocks at a line's front are its start record: the least whole stripes that hold one. On the small drive 4.
-    /// The shape is accepted.
+    /// How many blocks at a line's front its start record takes: the least number of whole stripes that hold
+    /// one. On the small drive it is 4. The shape is accepted.
     pub fn start_len(&self) -> u32
         requires { IsAccepted self.now }
         ensures len { result ≡ start_len self.now }
@@ -70,8 +73,9 @@ impl Shape {
         lengths::start_blocks(self) as u32
     }
 
-    /// How many blocks at the end of a line of this width are its end record: the least whole stripes that hold one. On the
-    /// small drive 4. The shape is accepted, and the width at most the number of units.
+    /// How many blocks at the end of a line of this width its end record takes: the least number of whole
+    /// stripes that hold one. On the small drive it is 4. The shape is accepted, and the width is at most the
+    /// number of units.
     pub fn end_len(&self, width: u32) -> u32
         requires accepted { IsAccepted self.now }
         requires width { width ≤ units self.now }
@@ -83,9 +87,9 @@ impl Shape {
         lengths::end_blocks(self, width) as u32
     }
 
-    /// How many blocks between the two records of a line of this width are data: 0 for a dead line, which has no stripe of
-    /// them. On the small drive 40 for width 2, and 16 for width 1. The shape is accepted, and the width at most the number
-    /// of units.
+    /// How many blocks between the two records of a line of this width hold data. It is 0 for a dead line,
+    /// which has less than a stripe of them. On the small drive it is 40 for width 2, and 16 for width 1. The
+    /// shape is accepted, and the width is at most the number of units.
     pub fn data_len(&self, width: u32) -> u32
         requires accepted { IsAccepted self.now }
         requires width { width ≤ units self.now }
@@ -123,7 +127,7 @@ pub enum GeometryErr {
 /// Why the numbers of a drive and of the target on it aren't accepted.
 #[derive(Clone, Copy, Debug, PartialEq, Eq, Error)]
 pub enum ShapeErr {
-    /// A count is 0 that must not be: the one whose field has its first byte at this place of a geometry.
+    /// A count is 0 and must not be. This is the place in a geometry of its field's first byte.
     #[error("the field at byte {0} is 0")]
     Field(u32),
     /// The numbers break this rule of the drives that the target takes.

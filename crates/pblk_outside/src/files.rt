@@ -29,9 +29,10 @@ pub trait Files {
 
     /// Appends the bytes of the file to `into`.
     ///
-    /// `Failed` comes with a fault. `Missing` comes without one where the files tell that there is
-    /// none of that name, and with one where they don't tell what they hold. `Memory` comes for want of memory, where the file is there as
-    /// far as is told, without a fault. After an error `into` is as it was.
+    /// `Failed` comes with a fault. `Missing` comes without one where the files tell that there is none
+    /// of that name, and with one where they don't tell what they hold. `Memory` comes for want of
+    /// memory, where the file is there as far as is told, without a fault. After an error `into` is as
+    /// it was.
     fn read(&mut self, name: &str, into: &mut Vec<u8>) -> Result<(), FileErr>
         ensures appends { OnOk result
             (AppendsFile name.now (view self.old) into.old.items into.new.items) }

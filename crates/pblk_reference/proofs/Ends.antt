@@ -1,36 +1,15 @@
 -- Reading an end record step by step.
-use Rattle.std.proofs.Common.{◌≡◌, ℕ, suc, ◌+◌, ◌-◌, ◌*◌, ◌<◌, ◌≤◌, Bool, true, false, cond, List, [], ◌∷◌, ◌++◌, drop, Option, Some, None, refl, sym, ap, subst, ◌∙◌, append_assoc, arith}
+use Rattle.std.proofs.Common.{◌≡◌, ℕ, ◌-◌, ◌*◌, Bool, true, false, cond, List, Option, Some, None, refl, sym, ap, subst, ◌∙◌}
 use Rattle.std.specs.Option.{option_and_then}
 use Rattle.std.specs.Str.{bytes_eq}
 use Rattle.std.specs.List.{flat_map}
-use Rattle.std.specs.Int.{w64}
-use Rattle.std.proofs.lemmas.List.{append-nil}
 use Rattle.pblk_model.specs.declared.shape.Shape.{Shape}
-use Rattle.pblk_model.specs.declared.chunk.Mark.{Mark}
-use Rattle.pblk_model.specs.Bytes.{number_at}
 use Rattle.pblk_model.specs.Chunk.{Block}
 use Rattle.pblk_model.specs.LineOrder.{end_len}
 use Rattle.pblk_model.specs.Image.{Image, width}
 use Rattle.pblk_model.specs.StartRecord.{StartRecord, written_run, have_meta}
-use Rattle.pblk_model.specs.EndRecord.{EndRecord, pairs_in, end_in, end_bytes, read_end, end_of}
+use Rattle.pblk_model.specs.EndRecord.{EndRecord, end_in, end_bytes, read_end, end_of}
 use Rattle.pblk_reference.specs.Reading.{end_fields, end_read, end_among, end_run}
-
-pub pairs_go_on : (front now : List Mark) (count i lba position : ℕ) (bytes rest : List ℕ) (total : List Mark) → i < count
-    → lba ≡ number_at w64 0 bytes → position ≡ number_at w64 8 bytes → rest ≡ drop 16 bytes
-    → now ≡ front ++ record { lba = lba; position = position } ∷ []
-    → front ++ pairs_in (count - i) bytes ≡ total → now ++ pairs_in (count - (i + 1)) rest ≡ total
-unfolding pairs_in
-pairs_go_on front now count i lba position bytes rest total lt lba-is position-is rest-is now-is so_far =
-    let k : count - i ≡ suc (count - (i + 1)) = omega arith in
-    let step : front ++ pairs_in (count - i) bytes ≡ front ++ (record { lba = number_at w64 0 bytes; position = number_at w64 8 bytes } ∷ pairs_in (count - (i + 1)) (drop 16 bytes)) = ap (λ n. front ++ pairs_in n bytes) k in
-    rw (now-is, lba-is, position-is, rest-is) (append_assoc front _ _ ∙ sym step ∙ so_far)
-
-pub pairs_are_read : (front : List Mark) (count i : ℕ) (bytes : List ℕ) (total : List Mark) → count ≤ i → front ++ pairs_in (count - i) bytes ≡ total → front ≡ total
-unfolding pairs_in
-pairs_are_read front count i bytes total le so_far =
-    let k : count - i ≡ 0 = omega arith in
-    let one : front ++ pairs_in (count - i) bytes ≡ front = ap (λ n. front ++ pairs_in n bytes) k ∙ append-nil front in
-    sym one ∙ so_far
 
 chosen : {A : Type 0} (b : Bool) (x : A) → b ≡ true → Some x ≡ cond b (Some x) None
 chosen true x e = refl

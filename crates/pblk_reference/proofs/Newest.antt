@@ -1,5 +1,5 @@
 -- The head, the end, and the newest records, step by step.
-use Rattle.std.proofs.Common.{◌≡◌, ℕ, suc, ◌+◌, ◌-◌, ◌<◌, ◌≤◌, Bool, true, false, List, [], ◌∷◌, ◌++◌, length, take, get_or, map, Option, Some, None, refl, sym, ap, ◌∙◌, cond, arith}
+use Rattle.std.proofs.Common.{◌≡◌, ℕ, ◌+◌, ◌<◌, Bool, true, false, List, [], ◌∷◌, ◌++◌, length, take, get_or, map, Option, Some, None, refl, sym, ap, ◌∙◌, cond, arith}
 use Rattle.std.specs.List.{filter, filter_map, fold, range_with_len}
 use Rattle.std.specs.Global.{Vec}
 use Rattle.std.proofs.lemmas.List.{append-nil, map_push}
@@ -9,7 +9,7 @@ use Rattle.std.proofs.lemmas.Grind.{fold-append}
 use Rattle.pblk_model.specs.Image.{Image}
 use Rattle.pblk_model.specs.StartRecord.{StartRecord, start_of}
 use Rattle.pblk_model.specs.Records.{Record, records}
-use Rattle.pblk_model.specs.Contents.{later_start, head, least_missing, end_after, end, counted_after, counted, contents}
+use Rattle.pblk_model.specs.Contents.{later_start, head, end_after, end, counted_after, counted, contents}
 use Rattle.pblk_reference.specs.Reading.{head_to, sector_at}
 use Rattle.pblk_reference.proofs.Ranges.{filter_map_range_more}
 
@@ -35,24 +35,6 @@ unfolding head_to
 no_head i = refl
 
 -- ---- the end
-
-pub missing_stops : (borne : ℕ → Bool) (n i p total : ℕ) → i < n → borne p ≡ false → least_missing borne (n - i) p ≡ total → p ≡ total
-unfolding least_missing
-missing_stops borne n i p total lt free so_far =
-    let k : n - i ≡ suc (n - (i + 1)) = omega arith in
-    sym (ap (λ m. least_missing borne m p) k ∙ ap (λ b. cond b (least_missing borne (n - (i + 1)) (p + 1)) p) free) ∙ so_far
-
-pub missing_goes_on : (borne : ℕ → Bool) (n i p total : ℕ) → i < n → borne p ≡ true → least_missing borne (n - i) p ≡ total → least_missing borne (n - (i + 1)) (p + 1) ≡ total
-unfolding least_missing
-missing_goes_on borne n i p total lt taken so_far =
-    let k : n - i ≡ suc (n - (i + 1)) = omega arith in
-    sym (ap (λ m. least_missing borne m p) k ∙ ap (λ b. cond b (least_missing borne (n - (i + 1)) (p + 1)) p) taken) ∙ so_far
-
-pub missing_is : (borne : ℕ → Bool) (n i p total : ℕ) → n ≤ i → least_missing borne (n - i) p ≡ total → p ≡ total
-unfolding least_missing
-missing_is borne n i p total le so_far =
-    let k : n - i ≡ 0 = omega arith in
-    sym (ap (λ m. least_missing borne m p) k) ∙ so_far
 
 pub end_is : (i : Image) (p : ℕ) (rs : List Record) (h : Option StartRecord) → p ≡ end_after rs h → rs ≡ records i → h ≡ head i → p ≡ end i
 end_is i p rs h p-is rs-is h-is = p-is ∙ ap (λ x. end_after x h) rs-is ∙ ap (end_after (records i)) h-is

@@ -1,19 +1,16 @@
 -- One more number of a range.
 use Rattle.std.proofs.Common.{◌≡◌, ℕ, ◌+◌, ◌≤◌, List, [], ◌∷◌, ◌++◌, Option, Some, None, sym, ap, ◌∙◌, arith}
 use Rattle.std.specs.List.{filter_map, flat_map, range_with_len, cons_option}
-use Rattle.std.proofs.lemmas.List.{map-id, append-nil}
+use Rattle.std.proofs.lemmas.List.{append-nil}
 use Rattle.std.proofs.lemmas.List.Elements.{filter_map-append}
 use Rattle.std.proofs.lemmas.List.Concat.{flat_map-append}
-use Rattle.std.proofs.lemmas.List.FromFn.{map-range_with_len_more}
-
-range_more : (n : ℕ) → range_with_len 0 (n + 1) ≡ range_with_len 0 n ++ n ∷ []
-range_more n = sym (map-id (range_with_len 0 (n + 1))) ∙ map-range_with_len_more (λ k. k) 0 n n (omega arith) ∙ ap (λ xs. xs ++ n ∷ []) (map-id (range_with_len 0 n))
+use Rattle.lemmas.proofs.Maps.{range_from_0}
 
 pub filter_map_range_more : {X : Type 0} (f : ℕ → Option X) (n : ℕ) (o : Option X) → o ≡ f n → filter_map f (range_with_len 0 (n + 1)) ≡ filter_map f (range_with_len 0 n) ++ cons_option o []
-filter_map_range_more f n o e = ap (filter_map f) (range_more n) ∙ filter_map-append f (range_with_len 0 n) (n ∷ []) ∙ ap (λ x. filter_map f (range_with_len 0 n) ++ cons_option x []) (sym e)
+filter_map_range_more f n o e = ap (filter_map f) (range_from_0 n) ∙ filter_map-append f (range_with_len 0 n) (n ∷ []) ∙ ap (λ x. filter_map f (range_with_len 0 n) ++ cons_option x []) (sym e)
 
 pub flat_map_range_more : {X : Type 0} (f : ℕ → List X) (n : ℕ) (xs : List X) → xs ≡ f n → flat_map f (range_with_len 0 (n + 1)) ≡ flat_map f (range_with_len 0 n) ++ xs
-flat_map_range_more f n xs e = ap (flat_map f) (range_more n) ∙ flat_map-append f (range_with_len 0 n) (n ∷ []) ∙ ap (λ x. flat_map f (range_with_len 0 n) ++ x) (append-nil (f n) ∙ sym e)
+flat_map_range_more f n xs e = ap (flat_map f) (range_from_0 n) ∙ flat_map-append f (range_with_len 0 n) (n ∷ []) ∙ ap (λ x. flat_map f (range_with_len 0 n) ++ x) (append-nil (f n) ∙ sym e)
 
 pub some_more : {X : Type 0} (f : ℕ → Option X) (n : ℕ) (now front : List X) (x : X) (o : Option X) → o ≡ f n → o ≡ Some x → now ≡ front ++ x ∷ [] → front ≡ filter_map f (range_with_len 0 n) → now ≡ filter_map f (range_with_len 0 (n + 1))
 some_more f n now front x o o-is some now-is front-is = now-is ∙ ap (λ xs. xs ++ x ∷ []) front-is ∙ sym (filter_map_range_more f n (Some x) (sym some ∙ o-is))

@@ -1,5 +1,5 @@
 -- Reading a start record step by step.
-use Rattle.std.proofs.Common.{◌≡◌, ℕ, zero, suc, leb, ◌+◌, ◌-◌, ◌<◌, ◌≤◌, Bool, true, false, cond, ◌&&◌, ◌==◌, nat_le, nat_lt, ◌^◌, List, [], ◌∷◌, ◌++◌, length, drop, Option, Some, None, refl, sym, ap, subst, ◌∙◌, append_assoc, arith}
+use Rattle.std.proofs.Common.{◌≡◌, ℕ, suc, leb, ◌+◌, ◌-◌, ◌<◌, ◌≤◌, Bool, true, false, cond, ◌&&◌, ◌==◌, nat_le, nat_lt, ◌^◌, List, [], ◌∷◌, ◌++◌, length, drop, Option, Some, None, refl, sym, ap, subst, ◌∙◌, append_assoc, arith}
 use Rattle.std.specs.Option.{option_map, option_and_then}
 use Rattle.std.specs.Str.{bytes_eq}
 use Rattle.std.specs.List.{flat_map}
@@ -13,6 +13,7 @@ use Rattle.pblk_model.specs.LineOrder.{start_len}
 use Rattle.pblk_model.specs.Image.{Image, width, block_at}
 use Rattle.pblk_model.specs.StartRecord.{Row, StartRecord, rows_in, rows_fit, start_in, start_fits, start_bytes, read_start, written_run, marked_start, start_of}
 use Rattle.pblk_reference.specs.Reading.{start_fields, start_read}
+use Rattle.pblk_model.proofs.StartRecordLemmas.{length-rows_in}
 
 -- ---- rows
 
@@ -32,11 +33,6 @@ rows_are_read front count i bytes total le so_far =
     let k : count - i ≡ 0 = omega arith in
     let one : front ++ rows_in (count - i) bytes ≡ front = ap (λ n. front ++ rows_in n bytes) k ∙ append-nil front in
     sym one ∙ so_far
-
-length-rows_in : (n : ℕ) (bytes : List ℕ) → length (rows_in n bytes) ≡ n
-unfolding rows_in
-length-rows_in zero bytes = refl
-length-rows_in (suc n) bytes = ap suc (length-rows_in n (drop 24 bytes))
 
 -- ---- the choice
 

@@ -83,8 +83,8 @@ fn put_kind(out: &mut Vec<u8>, kind: u16) -> Result<(), AllocError>
     out.extend_from_slice(&kind.to_le_bytes())
 }
 
-/// The words of a record of this kind in front of its rows or marks: those of every record, then the numbers of eight
-/// bytes, and then those of four.
+/// The words of a record of this kind in front of its rows or marks: those of every record, then the
+/// numbers of eight bytes, and then those of four.
 pub fn front_words(
     alloc: Global,
     kind: u16,

@@ -16,8 +16,6 @@ use pblk_model::{Mark, Shape};
 use std::alloc::{AllocError, Global};
 use std::marker::Model;
 
-const VOID: u64 = u64::MAX - 1;
-
 /// What a written block bears. Contracts see the model's `Record`.
 #[derive(Debug, Drop)]
 pub struct Record {
@@ -69,7 +67,7 @@ fn named(shape: &Shape, mark: Mark) -> Option<Option<u64>>
 {
     if mark.lba < shape.capacity {
         Some(Some(mark.lba))
-    } else if mark.lba == VOID {
+    } else if mark.lba == Mark::VOID_LBA {
         Some(None)
     } else {
         None
@@ -149,7 +147,8 @@ fn records_with(
     end: &Option<EndRecord>,
 ) -> Result<Vec<Record>, AllocError>
     requires { IsReady image.now }
-    ensures records { IfOk result (λ v. v.items ≡ filter_map (record_with image.now line seq end.now)
+    ensures records { IfOk result (λ v. v.items
+        ≡ filter_map (record_with image.now line seq end.now)
         (range_with_len 0 (width image.now line * image.now.shape.clba))) }
     ensures few { IfOk result (λ v. vec_len v ≤ 65536) }
 {

@@ -14,7 +14,8 @@ use std::alloc::{AllocError, Global};
 
 fn later_start(best: Option<StartRecord>, start: StartRecord) -> StartRecord
     ensures later { Some result ≡ later_start best start }
-    ensures low { IfSome best (λ r. r.front < 2 ^ 61) → start.front < 2 ^ 61 → result.front < 2 ^ 61 }
+    ensures low { IfSome best (λ r. r.front < 2 ^ 61) → start.front < 2 ^ 61
+        → result.front < 2 ^ 61 }
 {
     match best {
         None => start,
@@ -22,7 +23,8 @@ fn later_start(best: Option<StartRecord>, start: StartRecord) -> StartRecord
     }
 }
 
-/// The start record of greatest sequence number, and of those the one of the least line. Its front is below 2^61.
+/// The start record of greatest sequence number, and of those the one of the least line. Its front is below
+/// 2^61.
 pub fn head(alloc: Global, image: &Image) -> Result<Option<StartRecord>, AllocError>
     requires { IsReady image.now }
     ensures head { IfOk result (λ o. o ≡ head image.now) }
@@ -50,7 +52,8 @@ fn is_borne(records: &[Record], head: &StartRecord, position: u64) -> bool
 
 fn least_missing(records: &[Record], head: &StartRecord) -> u64
     requires { head.now.front + length records.now < 2 ^ 64 }
-    ensures { result ≡ least_missing (is_borne records.now head.now) (length records.now) head.now.front }
+    ensures { result
+        ≡ least_missing (is_borne records.now head.now) (length records.now) head.now.front }
 {
     let mut position = head.front;
     for _ in 0..records.len() {
@@ -73,7 +76,8 @@ fn end_after(records: &[Record], head: &Option<StartRecord>) -> u64
     }
 }
 
-/// The least position from the head's front on that no record bears in a line of the head's mount, and 0 without a head.
+/// The least position from the head's front on that no record bears in a line of the head's mount, and 0
+/// without a head.
 pub fn end(alloc: Global, image: &Image) -> Result<u64, AllocError>
     requires { IsReady image.now }
     ensures { IfOk result (λ p. p ≡ end image.now) }

@@ -14,14 +14,9 @@ ghost use Rattle.pblk_reference.specs.Reading.{start_fields, start_read};
 use crate::bytes::{after, byte_len, front_words, pad, put_u32s, put_u64s, same, u32_at, u64_at};
 use crate::image::{Block, Image};
 use crate::order::{block_at, start_len, width};
-use pblk_model::Shape;
+use pblk_model::{Mark, NUMBER_LIMIT, Shape};
 use std::alloc::{AllocError, Global};
 use std::marker::Model;
-
-/// The address in the mark of a record's blocks.
-pub const META: u64 = u64::MAX - 2;
-
-const LIMIT: u64 = 0x2000_0000_0000_0000;
 
 /// A line of an older mount: its sequence number, and the position below which its records count.
 /// Contracts see the model's `Row`.
@@ -155,8 +150,8 @@ fn numbers_fit(shape: &Shape, line: u32, width: u32, start: &StartRecord) -> boo
         && start.capacity == shape.capacity
         && 1 <= start.first_seq
         && start.first_seq <= start.seq
-        && start.seq < LIMIT
-        && start.front < LIMIT
+        && start.seq < NUMBER_LIMIT
+        && start.front < NUMBER_LIMIT
 }
 
 fn start_fits(shape: &Shape, line: u32, width: u32, start: &StartRecord) -> bool
@@ -244,7 +239,7 @@ pub fn have_meta(seq: u64, blocks: &[Block]) -> bool
     ensures { result ≡ have_meta seq blocks.now }
 {
     for block in blocks {
-        if block.mark.lba != META || block.mark.position != seq {
+        if block.mark.lba != Mark::META_LBA || block.mark.position != seq {
             return false;
         }
     }

@@ -8,7 +8,9 @@ use Rattle.pblk_world.specs.Events.{Event, Logged, Step, Decides, Does, Begin, T
 use Rattle.pblk_world.specs.World.{World, Logs, log_of, known, prefixes}
 use Rattle.pblk_world.specs.EngineLog.{Answer, DidLand, WasLost, Placed, placed_on, placements, placed_by, answers, answer_by}
 use Rattle.pblk_world.specs.Legal.{IsLegal, IsLegalStep, IsAllowed}
-use Rattle.pblk_world.proofs.Appending.{answers_more, placements_more}
+use Rattle.pblk_world.proofs.Appending.{placements_more}
+use Rattle.lemmas.proofs.Tests.{same}
+use Rattle.pblk_world.proofs.EngineLogLemmas.{answers_more}
 
 -- what one event adds to the answers of a unit, and to its stripes, as numbers
 abbrev answers_by : ℕ → Event → ℕ
@@ -34,9 +36,6 @@ stripes_grow log l unit = subst (λ (ps : List Placed). length (placed_on log un
 at_most_one : (a p : ℕ) (x : Answer) (b : Bool) → a ≤ p → (b ≡ true → a < p) → a + length (option_to_list (if b then Some x else None)) ≤ p
 at_most_one a p x true h room = let r : a < p = room refl in omega arith
 at_most_one a p x false h room = omega arith
-
-same : (m n : ℕ) → (m == n) ≡ true → m ≡ n
-same m n e = grind arith
 
 abbrev HasRoom : List Logged → ℕ → Type 0
 HasRoom log unit = length (answers log unit) < length (placed_on log unit)

@@ -1,19 +1,12 @@
 -- What an event adds to what the engine's log says.
-use Rattle.std.proofs.Common.{◌≡◌, ℕ, ◌+◌, ◌<◌, ◌≤◌, Some, None, Option, List, [], ◌∷◌, ◌++◌, length, refl, ap, ◌∙◌, arith}
+use Rattle.std.proofs.Common.{◌≡◌, ℕ, ◌+◌, ◌<◌, ◌≤◌, Some, Option, List, [], ◌∷◌, ◌++◌, length, refl, ap, ◌∙◌, arith}
 use Rattle.std.specs.List.{fold, filter_map, cons_option, enumerate_from}
 use Rattle.std.specs.Option.{option_to_list}
 use Rattle.std.proofs.lemmas.List.{take-append-le}
-use Rattle.std.proofs.lemmas.List.Elements.{filter_map-append}
 use Rattle.std.proofs.lemmas.List.Sums.{fold-append}
 use Rattle.pblk_world.specs.Events.{Event, Logged, Decides, Place}
-use Rattle.pblk_world.specs.EngineLog.{takes, taken_by, AsFound, life_of, turned, turned_by, openings, opened_by, placements, placed_by, answers, answer_by, named_events, named_by}
-
-one_more : {Y : Type 0} (o : Option Y) → cons_option o [] ≡ option_to_list o
-one_more None = refl
-one_more (Some y) = refl
-
-more : {X Y : Type 0} (h : X → Option Y) (xs : List X) (x : X) → filter_map h (xs ++ x ∷ []) ≡ filter_map h xs ++ option_to_list (h x)
-more h xs x = filter_map-append h xs (x ∷ []) ∙ ap (λ ys. filter_map h xs ++ ys) (one_more (h x))
+use Rattle.pblk_world.specs.EngineLog.{AsFound, life_of, turned, turned_by, openings, opened_by, placements, placed_by, named_events, named_by}
+use Rattle.lemmas.proofs.Maps.{more}
 
 abbrev numbered_one : {X : Type 0} → ℕ → X → List (ℕ × X)
 numbered_one k x = (k, x) ∷ []
@@ -32,12 +25,6 @@ agree : {X Y : Type 0} (f g : ℕ × X → Option Y) (n : ℕ) (xs : List X) →
 agree f g n [] same = refl
 agree f g n (x ∷ xs) same = ap (λ o. cons_option o (filter_map f (enumerate_from (n + 1) xs))) (same n x (omega arith))
     ∙ ap (λ ys. cons_option (g (n, x)) ys) (agree f g (n + 1) xs (λ k y h. same k y (omega arith)))
-
-pub takes_more : (log : List Logged) (l : Logged) → takes (log ++ l ∷ []) ≡ takes log ++ option_to_list (taken_by l.event)
-takes_more log l = more (λ (m : Logged). taken_by m.event) log l
-
-pub answers_more : (log : List Logged) (l : Logged) (unit : ℕ) → answers (log ++ l ∷ []) unit ≡ answers log unit ++ option_to_list (answer_by unit l.event)
-answers_more log l unit = more (λ (m : Logged). answer_by unit m.event) log l
 
 pub named_more : (log : List Logged) (l : Logged) (unit : ℕ) → named_events (log ++ l ∷ []) unit ≡ named_events log unit ++ option_to_list (named_by unit l.event)
 named_more log l unit = more (λ (m : Logged). named_by unit m.event) log l

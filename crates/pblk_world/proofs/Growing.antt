@@ -3,11 +3,12 @@ use Rattle.std.proofs.Common.{◌≡◌, ℕ, ◌<◌, ◌≤◌, ◌⊎◌, ◌
 use Rattle.std.specs.Prelude.{slice_get}
 use Rattle.std.specs.List.{Contains}
 use Rattle.std.proofs.lemmas.List.{append-nil}
-use Rattle.std.proofs.lemmas.Option.{slice_get_within, get_or_from_slice_get, same_Some, none-some}
+use Rattle.std.proofs.lemmas.Option.{slice_get_within, same_Some, none-some}
 use Rattle.pblk_model.specs.Image.{Image}
 use Rattle.pblk_world.specs.Events.{Logged, Step}
 use Rattle.pblk_world.specs.World.{World, log_of, known}
 use Rattle.pblk_world.specs.Legal.{IsLegal, IsLegalStep}
+use Rattle.lemmas.proofs.Parts.{is_in}
 
 abbrev by_step : Step → Bool → List Logged
 by_step s true = s.logged ∷ []
@@ -38,9 +39,6 @@ at_end [] x y zero e = inr (refl, same_Some x y e)
 at_end [] x y (suc k) e = absurd (none-some y e)
 at_end (z ∷ xs) x y zero e = inl e
 at_end (z ∷ xs) x y (suc k) e = elim (at_end xs x y k e) as (λ _. (slice_get xs k ≡ Some y) ⊎ ((suc k ≡ suc (length xs)) × (x ≡ y))) [ inl h ↦ inl h | inr h ↦ inr (ap suc h.0, h.1) ]
-
-is_in : {X : Type 0} (xs : List X) (k : ℕ) (x : X) → slice_get xs k ≡ Some x → Contains xs x
-is_in xs k x e = (k, slice_get_within xs k x e, get_or_from_slice_get xs k x x e)
 
 Falls : World → ℕ → ℕ → Type 0
 Falls w author other = (j k : ℕ) (early late : Logged) → j ≤ k → slice_get (log_of w author) j ≡ Some early → slice_get (log_of w author) k ≡ Some late → known early other ≤ known late other

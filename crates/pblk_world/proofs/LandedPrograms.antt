@@ -1,5 +1,5 @@
 -- What has landed is a program that was done.
-use Rattle.std.proofs.Common.{◌≡◌, ℕ, ◌⊎◌, ◌==◌, zero, suc, Bool, true, false, Some, None, Option, List, [], ◌∷◌, ◌++◌, length, take, refl, subst, ap, ◌∙◌, arith, if◌then◌else◌, inl, inr}
+use Rattle.std.proofs.Common.{◌≡◌, ℕ, ◌⊎◌, ◌==◌, suc, Bool, true, false, Some, None, Option, List, [], ◌∷◌, ◌++◌, length, refl, subst, ap, ◌∙◌, arith, if◌then◌else◌, inl, inr}
 use Rattle.std.specs.Prelude.{slice_get}
 use Rattle.std.specs.Option.{option_and_then}
 use Rattle.std.proofs.lemmas.Option.{none-some}
@@ -11,17 +11,7 @@ use Rattle.pblk_world.specs.World.{World, Logs, log_of, known, prefixes, unit_ev
 use Rattle.pblk_world.specs.Answering.{MayLand}
 use Rattle.pblk_world.specs.Legal.{IsLegal, IsLegalStep, IsAllowed}
 use Rattle.pblk_world.proofs.Growing.{at_end}
-
-get_more : {X : Type 0} (xs ys : List X) (n : ℕ) (x : X) → slice_get xs n ≡ Some x → slice_get (xs ++ ys) n ≡ Some x
-get_more [] ys n x e = absurd (none-some x e)
-get_more (y ∷ xs) ys zero x e = e
-get_more (y ∷ xs) ys (suc n) x e = get_more xs ys n x e
-
-get_whole : {X : Type 0} (m : ℕ) (xs : List X) (n : ℕ) (x : X) → slice_get (take m xs) n ≡ Some x → slice_get xs n ≡ Some x
-get_whole zero xs n x e = absurd (none-some x e)
-get_whole (suc m) [] n x e = e
-get_whole (suc m) (y ∷ xs) zero x e = e
-get_whole (suc m) (y ∷ xs) (suc n) x e = get_whole m xs n x e
+use Rattle.lemmas.proofs.Parts.{get_more, get_whole}
 
 then_same : {X Y : Type 0} (f : X → Option Y) (o p : Option X) (y : Y) → ((x : X) → o ≡ Some x → p ≡ Some x) → option_and_then f o ≡ Some y → option_and_then f p ≡ Some y
 then_same f None p y h e = absurd (none-some y e)

@@ -3,3 +3,11 @@ pub mod SyncedFront
 pub mod Appending
 pub mod Answered
 pub mod LandedPrograms
+pub mod EngineLogLemmas
+pub mod VictimsLemmas
+pub mod LinesLemmas
+pub mod EventsLemmas
+pub mod WorldLemmas
+pub mod PlacingLemmas
+pub mod TakingLemmas
+pub mod LegalLemmas

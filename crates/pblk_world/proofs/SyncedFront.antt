@@ -1,11 +1,12 @@
 -- What the least position that isn't borne is.
-use Rattle.std.proofs.Common.{◌≡◌, ℕ, ◌+◌, ◌<◌, ◌≤◌, ◌⊎◌, zero, suc, Bool, true, false, refl, subst, arith, if◌then◌else◌, List, length, inl, inr}
+use Rattle.std.proofs.Common.{◌≡◌, ℕ, ◌+◌, ◌<◌, ◌≤◌, ◌⊎◌, zero, suc, Bool, true, false, refl, arith, if◌then◌else◌, List, length, inl, inr}
 use Rattle.std.proofs.lemmas.Bool.{cases_order}
 use Rattle.pblk_model.specs.declared.shape.Shape.{Shape}
 use Rattle.pblk_model.specs.Contents.{least_missing}
 use Rattle.pblk_world.specs.Events.{Logged}
 use Rattle.pblk_world.specs.EngineLog.{takes}
 use Rattle.pblk_world.specs.Fronts.{IsSynced, first_position, has_landed_at, synced, taken}
+use Rattle.lemmas.proofs.Tests.{below_by}
 
 -- all from p on up to the least missing one are borne, and it is missing or the turns are over
 record IsLeast (borne : ℕ → Bool) (turns p m : ℕ) : Type 0 where
@@ -13,15 +14,6 @@ record IsLeast (borne : ℕ → Bool) (turns p m : ℕ) : Type 0 where
   within : m ≤ p + turns
   below : (q : ℕ) → p ≤ q → q < m → borne q ≡ true
   missing : m < p + turns → borne m ≡ false
-
-below_by : (borne : ℕ → Bool) (p : ℕ) → borne p ≡ true → (m : ℕ) → ((q : ℕ) → p + 1 ≤ q → q < m → borne q ≡ true)
-    → (q : ℕ) → p ≤ q → q < m → borne q ≡ true
-below_by borne p e m h q a b = go (cases_order p q)
-  where
-    go : (p ≡ q) ⊎ ((p < q) ⊎ (q < p)) → borne q ≡ true
-    go (inl same) = subst (λ z. borne z ≡ true) same e
-    go (inr (inl above)) = h q (omega arith) b
-    go (inr (inr beneath)) = absurd (omega arith)
 
 least_by : (borne : ℕ → Bool) (turns p : ℕ) (b : Bool) → borne p ≡ b → IsLeast borne turns (p + 1) (least_missing borne turns (p + 1))
     → IsLeast borne (suc turns) p (if b then least_missing borne turns (p + 1) else p)

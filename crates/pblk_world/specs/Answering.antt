@@ -8,14 +8,14 @@ use Rattle.pblk_world.specs.World.{Logs, knows_engine, unit_event_of}
 use Rattle.pblk_world.specs.EngineLog.{placed_on, answers, named_events}
 use Rattle.pblk_world.specs.Commanding.{is_program, ended_stripes}
 
--- The event of this number is known in the unit's log, and wasn't named before.
+-- The event of this number is known of the unit's log, and no earlier event of the engine names it.
 pub record IsNew (logs : Logs) (unit number : ℕ) (e : UnitEvent) : Type 0 where
   pub logged : Logged
   pub is_known : slice_get (logs (suc unit)) number ≡ Some logged
   pub event : unit_event_of logged.event ≡ Some e
   pub once : ¬ Contains (named_events (logs 0) unit) number
 
--- It is a program of the stripe that is in flight on the unit: the first placed one that isn't answered.
+-- It is a program of the stripe that is in flight on the unit: the first one placed there that isn't answered.
 pub record IsOfStripe (logs : Logs) (unit number : ℕ) (e : UnitEvent) : Type 0 where
   pub program : is_program e.command ≡ true
   pub logged : Logged

@@ -31,7 +31,7 @@ was_stopped (Answered answer) = false
 was_stopped (Failed k) = false
 was_stopped (Stopped k) = true
 
--- Programs of stripes: those that were made once the unit's author knew the mount's beginning.
+-- Programs of stripes: those that the unit's author made once it knew of the mount's beginning.
 
 abbrev pub ends_program : UnitEvent → Bool
 ends_program e = is_program e.command && not (was_stopped e.outcome)
@@ -71,8 +71,8 @@ pub record IsStripe (logs : Logs) (unit chunk at : ℕ) (blocks : List Block) : 
 abbrev pub is_stopped_reset : ℕ → UnitEvent → Bool
 is_stopped_reset chunk e = (e.chunk == chunk) && is_reset e.command && was_stopped e.outcome
 
--- a chunk of a line that was freed, or is a stray, and that wasn't opened since; it holds something, unless its reset was
--- stopped
+-- A chunk of a line that was freed, or is a stray, and that wasn't opened since. The chunk holds something,
+-- unless its reset was stopped.
 pub record IsGivenUp (logs : Logs) (unit : ℕ) (c : Chunk) (chunk : ℕ) : Type 0 where
   pub line : is_given_up (logs 0) chunk ≡ true
   pub used : IsUsed c.state ⊎ (list_any (is_stopped_reset chunk) (unit_events logs unit) ≡ true)

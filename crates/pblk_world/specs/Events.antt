@@ -1,4 +1,5 @@
--- What happens in a mount: what the engine decides, and what the units do. Each event stands in the log of its author.
+-- What happens in a mount: what the engine decides, and what the units do. Each event stands in the log of its
+-- author.
 use Rattle.std.specs.Prelude.{ℕ, ◌≤◌, ◌<◌, ◌≡◌, List, Option}
 use Rattle.pblk_model.specs.declared.chunk.Mark.{Mark}
 use Rattle.pblk_model.specs.Chunk.{Block}
@@ -41,8 +42,8 @@ pub data EngineEvent : Type 0 where
   -- a line is opened with a start record
   Open : ℕ → StartRecord → EngineEvent
   Place : Stripe → EngineEvent
-  -- The answers, each a unit and the number of an event in its log, from 0: a program that was done, failed, or was
-  -- stopped, and a reset.
+  -- The answers, each a unit and the number of an event in its log, from 0: a program that was done, failed, or
+  -- was stopped, and a reset.
   Landed : ℕ → ℕ → EngineEvent
   Lost : ℕ → ℕ → EngineEvent
   Again : ℕ → ℕ → EngineEvent
@@ -55,7 +56,8 @@ pub record Maker : Type 0 where
   pub worker : ℕ
   pub made : ℕ
 
--- a call of a worker made the command: the worker had made so many commands before the call, and so many after it
+-- a call of a worker made the command: the worker had made so many commands before the call, and so many after
+-- it
 pub record IsMadeInCall (m : Maker) (caller start stop : ℕ) : Type 0 where
   pub worker : m.worker ≡ caller
   pub from : start ≤ m.made
@@ -65,8 +67,8 @@ pub data Event : Type 0 where
   Decides : EngineEvent → Event
   Does : UnitEvent → Maker → Event
 
--- An event as it stands in its author's log: with the length of the prefix of each log that the author knew, by the
--- number of that log. It knows its own log whole.
+-- An event as it stands in its author's log: with the length of the prefix of each log that the author knew, by
+-- the number of that log. It knows its own log whole.
 pub record Logged : Type 0 where
   pub event : Event
   pub knows : List ℕ

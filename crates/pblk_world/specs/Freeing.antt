@@ -1,4 +1,5 @@
--- When a line may be freed: nothing of it is the only newest record of a sector, and no position of it is needed.
+-- When a line may be freed: each record that counts in it has a newer one elsewhere, and no position of it is
+-- needed.
 use Rattle.std.specs.Prelude.{ℕ, ◌+◌, ◌<◌, ◌≡◌, ◌≢◌, ◌⊎◌, true, ⊤, slice_get, Some}
 use Rattle.std.specs.List.{Contains}
 use Rattle.pblk_model.specs.Chunk.{Block}
@@ -24,14 +25,14 @@ pub record IsLandedRecord (i : Image) (logs : Logs) (o : Opening) (r : Record) :
   pub place : place_of (known_image i logs) o.line r.at ≡ Some (placed.stripe.unit, placed.stripe.at + index)
   pub bears : bears i.shape o.line o.start.seq r.at block block.mark ≡ Some r
 
--- The record of a written block, by the named prefixes: also one of a stripe that was lost.
+-- The record of a written block, by the prefixes that are named; also where its stripe was lost.
 pub record IsWrittenRecord (i : Image) (logs : Logs) (o : Opening) (r : Record) : Type 0 where
   pub block : Block
   pub written : block_at (media i logs) o.line r.at ≡ Some block
   pub bears : bears i.shape o.line o.start.seq r.at block block.mark ≡ Some r
 
--- The records of a line that wasn't freed which count. In a line of an older mount those that count in the image that the
--- mount found.
+-- The records that count of a line that wasn't freed. In a line of an older mount they are those that count in
+-- the image that the mount found.
 pub record IsFoundRecord (i : Image) (logs : Logs) (line : ℕ) (r : Record) : Type 0 where
   pub counts : Contains (counted (found_image i logs)) r
   pub in_line : r.line ≡ line
@@ -72,12 +73,13 @@ pub record MayFree (i : Image) (logs : Logs) (line : ℕ) : Type 0 where
   pub seq : ℕ
   pub has_seq : seq_of i logs line ≡ Some seq
   pub answered : IsAnswered logs (life_of (logs 0) line)
-  -- it is older than the newest start record that has landed, whose front is above every position that counts in it
+  -- it is older than the newest start record that has landed, whose front is above every position that counts
+  -- in it
   pub newest : StartRecord
   pub is_newest : newest_start i logs ≡ Some newest
   pub older : seq < newest.seq
   pub below_front : (r : Record) → IsCountedRecord i logs line r → r.position < newest.front
   -- each record that counts in it has a newer one elsewhere
   pub replaced : (r : Record) (lba : ℕ) → IsCountedRecord i logs line r → r.lba ≡ Some lba → IsReplaced i logs line lba r
-  -- all its chunks are Closed or Offline, but that a Free one of an older mount's line stands for a Closed one
+  -- all its chunks are Closed or Offline; in a line of an older mount a Free chunk is taken as Closed
   pub over : are_over i logs line ≡ true

@@ -45,7 +45,7 @@ history log = map (λ t. record { lba = t.entry.lba; sector = t.entry.sector }) 
 abbrev pub user_positions : List Logged → List ℕ
 user_positions log = map (λ t. t.entry.position) (user_takes log)
 
--- the last entry that was taken of a sector, but for those that are Void
+-- the last entry of a sector that was taken, Void ones left out
 abbrev pub last_take : List Logged → ℕ → Option Taken
 last_take log lba = last_or None (filter (λ t. t.mark.lba == lba) (takes log))
 
@@ -63,7 +63,8 @@ was_placed s log t = nat_lt 0 (times_placed s log t)
 abbrev pub waits : Shape → List Logged → Taken → Bool
 waits s log t = times_placed s log t == times_lost s log t
 
--- the waiting entries in the order in which they are placed: those that were lost before the others, and each by position
+-- the waiting entries in the order in which they are placed: those that were lost before the others, and each
+-- by position
 abbrev pub waiting : Shape → List Logged → List Taken
 waiting s log = filter (λ t. waits s log t && was_placed s log t) (takes log)
     ++ filter (λ t. not (was_placed s log t)) (takes log)

@@ -30,15 +30,15 @@ abbrev pub MayDecide : Image → Logs → EngineEvent → Type 0
 MayDecide i logs (Begin b) = MayBegin i logs b
 MayDecide i logs e = (beginning : Begun) × (begun (logs 0) ≡ Some beginning) × IsDecision i logs beginning e
 
--- What an author may do by these prefixes of the logs, of which its own is whole.
+-- What an author may do by these prefixes of the logs. That of its own log is whole.
 abbrev pub IsAllowed : Image → ℕ → Event → Logs → Type 0
 IsAllowed i zero (Decides e) logs = MayDecide i logs e
 IsAllowed i (suc unit) (Does e maker) logs = MayDo i logs unit e
 IsAllowed i zero (Does e maker) logs = ⊥
 IsAllowed i (suc unit) (Decides e) logs = ⊥
 
--- The prefixes that an event names are prefixes of the logs as they are, its author's whole, and no shorter than those
--- that an earlier event of that author names.
+-- An event names a prefix of each log as it then is: of its author's own log the whole, and of no log a shorter
+-- one than an earlier event of that author names.
 pub record IsKnowledge (i : Image) (logs : Logs) (author : ℕ) (l : Logged) : Type 0 where
   pub authors : length l.knows ≡ units i.shape + 1
   pub own : known l author ≡ length (logs author)
@@ -54,7 +54,8 @@ unfoldable pub IsLegal : Image → World → Type 0
 IsLegal i [] = ⊤
 IsLegal i (step ∷ w) = IsLegalStep i (log_of w) step × IsLegal i w
 
--- A cut of a unit: what a stop leaves of it and of a command in flight, as a Stopped event that is legal as its next one.
+-- A cut of a unit: what a stop leaves of it and of a command in flight. It is what a Stopped event leaves that
+-- would be legal as the unit's next one.
 pub record IsUnitCut (i : Image) (w : World) (unit : ℕ) (step : Step) : Type 0 where
   pub author : step.author ≡ suc unit
   pub event : UnitEvent

@@ -49,7 +49,8 @@ is_empty_state states.Open = false
 is_empty_state states.Closed = false
 is_empty_state states.Offline = true
 
--- nothing more is written to the chunk before it is reset: it is Closed or Offline, or Free in a line as it was found
+-- nothing more is written to the chunk before it is reset: it is Closed or Offline, or Free in a line as it was
+-- found
 abbrev pub is_over_state : Bool → ChunkState → Bool
 is_over_state as_found states.Free = as_found
 is_over_state as_found states.Open = false
@@ -64,7 +65,7 @@ are_empty i line = list_all (λ c. is_empty_state c.state) (chunks_of i line)
 abbrev pub are_over : Image → Logs → ℕ → Bool
 are_over i logs line = list_all (λ c. is_over_state (is_as_found (life_of (logs 0) line)) c.state) (chunks_of (known_image i logs) line)
 
--- the unit and the block of its chunk that a line address is
+-- the unit, and the block of its chunk, that stand at a line address
 abbrev pub place_of : Image → ℕ → ℕ → Option (ℕ × ℕ)
 place_of i line a = option_map (λ unit. (unit, block_of i.shape (width i line) a))
     (slice_get (line_units i line) (column_of i.shape (width i line) a))
@@ -85,8 +86,8 @@ abbrev pub next_seq : Option StartRecord → ℕ
 next_seq None = 1
 next_seq (Some h) = h.seq + 1
 
--- A line is Free where it has no sequence number and all its chunks are Free or Offline, and it isn't Dead: it was blank,
--- a stray that is reset, or was freed and is reset, and it wasn't opened since.
+-- A line is Free where it has no sequence number, isn't Dead, and has Free and Offline chunks alone. It was
+-- blank, or it is a stray or a freed line that was reset, and it wasn't opened since.
 
 abbrev pub has_number : Image → Logs → LineLife → ℕ → Bool
 has_number i logs AsFound line = is_some (start_of (found_image i logs) line)
@@ -109,6 +110,7 @@ strays_of log = option_map_or (λ b. b.beginning.strays) (begun log) []
 abbrev pub is_given_up : List Logged → ℕ → Bool
 is_given_up log line = is_given_up_by (strays_of log) line (life_of log line)
 
--- A line of this mount has a stripe left that is neither landed nor lost while a chunk of it is neither Closed nor Offline.
+-- A line of this mount has a stripe left that is neither landed nor lost while a chunk of it is neither Closed
+-- nor Offline.
 abbrev pub has_stripe_left : Image → Logs → ℕ → Bool
 has_stripe_left i logs line = is_opened (life_of (logs 0) line) && not (are_over i logs line)

@@ -73,11 +73,11 @@ freed s log = least_missing (λ position. list_any (gives_back s log position) (
 abbrev pub placed_front : Shape → List Logged → ℕ
 placed_front s log = first_position log + length (filter (was_placed s log) (takes log))
 
--- within the ring, less what is kept for copies
+-- the room within the ring, less what is kept for copies
 abbrev pub ring_limit : Shape → List Logged → ℕ
 ring_limit s log = freed s log + s.ring - units s * s.ws_opt
 
--- within the drive, where two full lines are kept for collection
+-- the room on the drive, where two full lines are kept for collection
 abbrev pub space_limit : Image → Logs → ℕ
 space_limit i logs = placed_front i.shape (logs 0) + (addresses i logs - 2 * full_data i.shape) / i.shape.ws_opt
 

@@ -13,8 +13,8 @@ use Rattle.pblk_world.specs.EngineLog.{Opening, LineLife, AsFound, Opened, Freed
 use Rattle.pblk_world.specs.Fronts.{first_position}
 use Rattle.pblk_world.specs.Lines.{found_image}
 
--- the position below which the records of an older line count: by the head, the mount's first position for a line of the
--- head's mount, the bound of its row for one with a row, and 0 for any other
+-- the position below which the records of an older line count: by the head, the mount's first position for a
+-- line of the head's mount, the bound of its row for one with a row, and 0 for any other
 abbrev pub row_bound : StartRecord → ℕ → ℕ → ℕ
 row_bound h line seq = option_map_or (λ row. row.bound) (find (λ row. (row.line == line) && (row.seq == seq)) h.rows) 0
 
@@ -38,7 +38,7 @@ older_row i logs line = if is_as_found (life_of (logs 0) line)
 abbrev pub older_rows : Image → Logs → List Row
 older_rows i logs = filter_map (older_row i logs) (range_with_len 0 i.shape.chunks)
 
--- how many stripes of a line are its start record
+-- how many stripes the start record of a line takes
 abbrev pub start_stripes : Shape → ℕ
 start_stripes s = start_len s / s.ws_opt
 

@@ -26,7 +26,8 @@ pub record IsPlaceOf (i : Image) (logs : Logs) (t : Taken) (source : Source) : T
   pub entry : slice_get placed.stripe.blocks block ≡ Some (block_of_taken t)
   pub place : place_of (known_image i logs) source.line source.at ≡ Some (placed.stripe.unit, placed.stripe.at + block)
 
--- The source is the very block of the sector's winner in the image that the mount found, in a line that wasn't freed.
+-- The source is the very block of the sector's winner in the image that the mount found, in a line that wasn't
+-- freed.
 pub record IsPlaceOfWinner (i : Image) (logs : Logs) (lba : ℕ) (source : Source) : Type 0 where
   pub winning : Record
   pub is_winner : winner (counted (found_image i logs)) lba ≡ Some winning
@@ -35,12 +36,13 @@ pub record IsPlaceOfWinner (i : Image) (logs : Logs) (lba : ℕ) (source : Sourc
   pub position : source.position ≡ winning.position
   pub not_freed : life_of (logs 0) source.line ≡ AsFound
 
--- by the sector's latest entry: its winner stands for one that was never taken
+-- by the sector's latest entry; of a sector that was never taken the winner takes its place
 abbrev pub IsPlaceOfLatest : Image → Logs → ℕ → Source → Option Taken → Type 0
 IsPlaceOfLatest i logs lba source None = IsPlaceOfWinner i logs lba source
 IsPlaceOfLatest i logs lba source (Some t) = IsPlaceOf i logs t source
 
--- The source of a copy is the latest of its sector, and this is the block that stands there by the named prefix.
+-- The source of a copy is the latest of its sector, and this is the block that stands there by the named
+-- prefix.
 pub record IsLatest (i : Image) (logs : Logs) (lba : ℕ) (source : Source) (block : Block) : Type 0 where
   pub place : IsPlaceOfLatest i logs lba source (last_take (logs 0) lba)
   pub there : block_at (media i logs) source.line source.at ≡ Some block

@@ -34,7 +34,7 @@ abbrev pub line_of_winner : Image → Logs → ℕ → Option ℕ
 line_of_winner i logs lba = option_and_then (λ r. if is_as_found (life_of (logs 0) r.line) then Some r.line else None)
     (winner (counted (found_image i logs)) lba)
 
--- the line of a sector whose latest entry is this one, or is none
+-- the line of a sector whose latest entry is this one, or that has none
 abbrev pub line_of : Image → Logs → ℕ → Option Taken → Option ℕ
 line_of i logs lba None = line_of_winner i logs lba
 line_of i logs lba (Some t) = line_of_position i.shape (logs 0) t.entry.position
@@ -45,7 +45,8 @@ is_live_in i logs line lba = is_of line (line_of i logs lba (last_take (logs 0) 
 abbrev pub live : Image → Logs → ℕ → ℕ
 live i logs line = length (filter (is_live_in i logs line) (range_with_len 0 i.shape.capacity))
 
--- Takers. A position took a sector from the line in which the sector's latest entry before it is placed, sooner or later.
+-- Takers. A position took a sector from the line in which the sector's latest entry before it is placed, sooner
+-- or later.
 
 abbrev pub take_before : List Logged → Taken → Option Taken
 take_before log t = last_or None
@@ -89,8 +90,9 @@ pub record Candidate : Type 0 where
   pub live : ℕ
   pub seq : ℕ
 
--- Nothing more is written to it before it is reset, it is older than the newest start record that has landed, every position that
--- counts in it is below that record's front, and its live sectors are at most its data addresses less a stripe.
+-- Nothing more is written to it before it is reset, it is older than the newest start record that has landed,
+-- every position that counts in it is below that record's front, and its live sectors are at most its data
+-- addresses less a stripe.
 abbrev pub may_be_collected : Image → Logs → StartRecord → ℕ → ℕ → Bool
 may_be_collected i logs newest line seq = are_over i logs line && nat_lt seq newest.seq
     && list_all (λ position. nat_lt position newest.front) (positions_in i logs (life_of (logs 0) line) line)
@@ -122,8 +124,8 @@ better (Some best) c = if is_before c best then Some c else Some best
 abbrev pub next_victim : Image → Logs → Option ℕ
 next_victim i logs = option_map (λ c. c.line) (fold better None (filter_map (candidate i logs) (range_with_len 0 i.shape.chunks)))
 
--- The victim at work. A line comes to work at the first event of the engine after which collection is due, no victim is at
--- work and it is the next; it stays until it is freed.
+-- The victim at work. A line comes to work at the first event of the engine after which collection is due, no
+-- victim is at work and it is the next; it stays until it is freed.
 
 -- the logs when the engine's had this length
 abbrev pub engine_prefix : ℕ → Logs → Logs

@@ -18,20 +18,20 @@ pub fn logs_only_grow()
         × (log_of (later ++ w) author ≡ log_of w author ++ more) }
 {}
 
-/// What a world was before its last steps is legal where it is.
+/// Where a world is legal, so is what it was before its last steps.
 pub fn a_prefix_is_legal()
     ensures { (i : Image) (later w : World) → IsLegal i (later ++ w) → IsLegal i w }
 {}
 
-/// Along a log of a legal world the lengths that its events name never fall.
+/// Along a log of a legal world, the lengths of the prefixes that its events name never fall.
 pub fn knowledge_never_falls()
     ensures { (i : Image) (w : World) (author other j k : ℕ) (early late : Logged) → IsLegal i w
         → j ≤ k → slice_get (log_of w author) j ≡ Some early
         → slice_get (log_of w author) k ≡ Some late → known early other ≤ known late other }
 {}
 
-/// All positions below the front synced have landed, it is at most the front taken, and below that
-/// its own position hasn't landed.
+/// All positions below the front synced have landed. This front is at most the front taken. Where it is below
+/// that, its own position hasn't landed.
 pub fn a_front_is_synced()
     ensures landed { (s : Shape) (log : List Logged) (q : ℕ) → first_position log ≤ q
         → q < synced s log → has_landed_at s log q ≡ true }
@@ -46,8 +46,8 @@ pub fn one_front_is_synced()
         → p ≡ q }
 {}
 
-/// What an event adds to what the engine's log says of entries, answers and lines, and which stripe
-/// it places.
+/// What one more event adds to what the engine's log says of entries, answers and lines, and which stripe it
+/// places.
 pub fn an_event_is_added()
     ensures takes { (log : List Logged) (l : Logged)
         → takes (log ++ l ∷ []) ≡ takes log ++ option_to_list (taken_by l.event) }
@@ -74,7 +74,7 @@ pub fn answers_are_of_stripes()
         → length (answers (log_of w 0) unit) ≤ length (placed_on (log_of w 0) unit) }
 {}
 
-/// In a legal world what the engine noted as landed is an event of the unit's log that was done.
+/// In a legal world, what the engine notes as landed is an event of the unit's log, and was done.
 pub fn what_landed_was_done()
     ensures { (i : Image) (w : World) (k unit n : ℕ) (l : Logged) → IsLegal i w
         → slice_get (log_of w 0) k ≡ Some l → l.event ≡ Decides (Landed unit n)

@@ -5,10 +5,9 @@ use Rattle.std.specs.List.{filter, flat_map, list_any, range_with_len}
 use Rattle.std.proofs.lemmas.Bool.{eqb-true}
 use Rattle.std.proofs.lemmas.Option.{same_Some, none-some}
 use Rattle.std.proofs.lemmas.List.Folds.{list_any-append}
-use Rattle.stripe_placer.proofs.Among.{IsAmong, later}
-use Rattle.core_laws.proofs.Rows.{same_number}
-use Rattle.core_laws.proofs.Tests.{no_both, or_left, or_right}
 use Rattle.placed_laws.proofs.Placed.{is_in_list, in_range}
+use Rattle.lemmas.proofs.Lists.{IsAmong, later}
+use Rattle.lemmas.proofs.Tests.{either, no_both, or_left, or_right, same_number}
 
 abbrev pub IsIn : List ℕ → ℕ → Type 0
 IsIn xs q = is_in_list xs q ≡ true
@@ -16,10 +15,6 @@ IsIn xs q = is_in_list xs q ≡ true
 abbrev pub Distinct : List ℕ → Type 0
 Distinct [] = ⊤
 Distinct (x ∷ xs) = (is_in_list xs x ≡ false) × Distinct xs
-
-pub either : (a b : Bool) → (a || b) ≡ true → (a ≡ true) ⊎ (b ≡ true)
-either true b e = inl refl
-either false b e = inr e
 
 -- what is in a list
 

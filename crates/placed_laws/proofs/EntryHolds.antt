@@ -9,18 +9,19 @@ use Rattle.pblk_world.specs.Events.{Entry, Stripe, Take, Place, Decides, Logged}
 use Rattle.pblk_world.specs.EngineLog.{Taken, taken_by, takes, life_of, Placed, placed_by, placements, holds_position, bears_position}
 use Rattle.pblk_world.specs.Fronts.{first_position, taken}
 use Rattle.pblk_world.specs.Space.{placed_front}
-use Rattle.pblk_world.proofs.Appending.{takes_more, placements_more}
+use Rattle.pblk_world.proofs.Appending.{placements_more}
 use Rattle.core_laws.specs.Positions.{AreNumbered}
-use Rattle.core_laws.proofs.Rows.{same_number}
-use Rattle.core_laws.proofs.Placing.{not_below, weaker}
+use Rattle.core_laws.proofs.Placing.{not_below}
 use Rattle.core_laws.proofs.Stripes.{find_last, find_fails_last}
-use Rattle.core_laws.proofs.Lists.{find_none}
-use Rattle.core_laws.proofs.Taking.{not_both as and_no}
 use Rattle.core_laws.proofs.PlacedPositions.{numbered_below}
-use Rattle.stripe_placer.proofs.Chunks.{lt_yes as is_below}
 use Rattle.stripe_placer.proofs.Rows.{find_first as found_stays}
 use Rattle.placed_laws.specs.EntryHolds.{later_take, placed_line}
 use Rattle.placed_laws.proofs.Ordered.{IsOrdered, some_hold_below}
+use Rattle.lemmas.proofs.Lists.{all_imply}
+use Rattle.lemmas.proofs.Maps.{find_none}
+use Rattle.lemmas.proofs.Options.{some_mapped}
+use Rattle.lemmas.proofs.Tests.{and_false, lt_true, same_number}
+use Rattle.pblk_world.proofs.EngineLogLemmas.{takes_more}
 
 -- ---- the later entry of a sector
 
@@ -39,21 +40,21 @@ pub later_of_others : (log : List Logged) (entry : Entry) (mark : Mark) (knows :
 later_of_others log entry mark knows t other =
     ap (find (λ (u : Taken). nat_lt t.entry.position u.entry.position && (u.mark.lba == t.mark.lba))) (takes_more log (record { event = Decides (Take entry mark); knows = knows }))
     ∙ find_fails_last (λ (u : Taken). nat_lt t.entry.position u.entry.position && (u.mark.lba == t.mark.lba)) (takes log) (record { entry = entry; mark = mark })
-    (and_no (nat_lt t.entry.position entry.position) (mark.lba == t.mark.lba) other)
+    (and_false (nat_lt t.entry.position entry.position) (mark.lba == t.mark.lba) other)
 
 pub later_of_sector : (log : List Logged) (entry : Entry) (mark : Mark) (knows : List ℕ) (t : Taken) → later_take log t ≡ None → mark.lba ≡ t.mark.lba → t.entry.position < entry.position
     → later_take (log ++ record { event = Decides (Take entry mark); knows = knows } ∷ []) t ≡ Some (record { entry = entry; mark = mark })
 later_of_sector log entry mark knows t none same after =
     ap (find (λ (u : Taken). nat_lt t.entry.position u.entry.position && (u.mark.lba == t.mark.lba))) (takes_more log (record { event = Decides (Take entry mark); knows = knows }))
     ∙ find_last (λ (u : Taken). nat_lt t.entry.position u.entry.position && (u.mark.lba == t.mark.lba)) (takes log) (record { entry = entry; mark = mark }) true
-    (ap₂ (λ a b. a && b) (is_below t.entry.position entry.position after) (ap (λ n. n == t.mark.lba) same ∙ same_number t.mark.lba)) none
+    (ap₂ (λ a b. a && b) (lt_true t.entry.position entry.position after) (ap (λ n. n == t.mark.lba) same ∙ same_number t.mark.lba)) none
 
 -- none is later than the last that was taken
 
 pub none_is_later : (log : List Logged) (t : Taken) → AreNumbered log → taken log ≤ t.entry.position + 1 → later_take log t ≡ None
 none_is_later log t numbered last =
     find_none (λ (u : Taken). nat_lt t.entry.position u.entry.position && (u.mark.lba == t.mark.lba)) (takes log)
-    (weaker (λ (u : Taken). u.entry.position < taken log) (λ (u : Taken). (nat_lt t.entry.position u.entry.position && (u.mark.lba == t.mark.lba)) ≡ false)
+    (all_imply (λ (u : Taken). u.entry.position < taken log) (λ (u : Taken). (nat_lt t.entry.position u.entry.position && (u.mark.lba == t.mark.lba)) ≡ false)
     (λ u below. ap (λ b. b && (u.mark.lba == t.mark.lba)) (not_below u.entry.position t.entry.position (omega arith))) (takes log)
     (numbered_below (first_position log) (length (takes log)) (takes log) numbered))
 
@@ -100,10 +101,6 @@ found_any {X} test (x ∷ xs) = go (test x) (found_any test xs)
     go : (b : Bool) → is_some (find test xs) ≡ list_any test xs → is_some (cond b (Some x) (find test xs)) ≡ (b || list_any test xs)
     go true rest = refl
     go false rest = rest
-
-some_mapped : {X Y : Type 0} (f : X → Y) (o : Option X) → is_some (option_map f o) ≡ is_some o
-some_mapped f None = refl
-some_mapped f (Some x) = refl
 
 pub line_below_front : (s : Shape) (log : List Logged) (q : ℕ) → IsOrdered s log → is_some (placed_line s log q) ≡ (nat_le (first_position log) q && nat_lt q (placed_front s log))
 line_below_front s log q is = some_mapped (λ (p : Placed). p.stripe.line) (find (holds_position s q) (placements log)) ∙ found_any (holds_position s q) (placements log) ∙ some_hold_below s log is q

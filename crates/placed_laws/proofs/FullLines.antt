@@ -16,16 +16,17 @@ use Rattle.pblk_world.specs.World.{Logs}
 use Rattle.pblk_world.specs.EngineLog.{LineLife, Opened, is_as_found, is_life, life_of, Opening, Placed, placements, placed_on, stripes_of, Answer, DidLand, WasLost, answers, turn, is_land, is_loss, has_landed}
 use Rattle.pblk_world.specs.Lines.{known_image, chunks_of, is_over_state, are_over}
 use Rattle.pblk_world.specs.Victims.{engine_prefix}
-use Rattle.stripe_placer.proofs.Among.{IsAmong, in_filter, from_filter}
-use Rattle.core_laws.proofs.Lists.{all_at, got_within}
-use Rattle.core_laws.proofs.Rows.{same_number}
 use Rattle.core_laws.proofs.Turns.{filtered_is, its_turn}
 use Rattle.placed_laws.proofs.Ordered.{HaveNoLoss}
 use Rattle.placed_laws.proofs.Distinct.{passed_by}
 use Rattle.placed_laws.proofs.Columns.{few_in_column}
-use Rattle.placed_laws.proofs.KnownChunks.{take_next, by_prefixes, chunk_in, chunk_of_live, each_chunk, unit_is_live, one_column}
+use Rattle.placed_laws.proofs.KnownChunks.{by_prefixes, chunk_in, chunk_of_live, each_chunk, unit_is_live, one_column}
 use Rattle.placed_laws.specs.StripeTurns.{IsAtTurn}
-use Rattle.placed_laws.proofs.GoingLines.{landed_on, landed_grows, landed_in_stripes, filters_swap, IsFilling, IsGoing, column_is_few}
+use Rattle.placed_laws.proofs.GoingLines.{landed_on, landed_grows, landed_in_stripes, IsFilling, IsGoing, column_is_few}
+use Rattle.lemmas.proofs.Lists.{IsAmong}
+use Rattle.lemmas.proofs.Maps.{filters_swap, from_filter, in_filter}
+use Rattle.lemmas.proofs.Parts.{all_at, got_within, take_next}
+use Rattle.lemmas.proofs.Tests.{same_number}
 
 -- ---- what has landed stays
 

@@ -24,14 +24,9 @@ use Rattle.pblk_world.specs.Placing.{MayPlace}
 use Rattle.pblk_world.specs.Answering.{IsDoneReset}
 use Rattle.pblk_world.specs.Victims.{engine_prefix}
 use Rattle.pblk_world.proofs.Appending.{life_more, placements_more}
-use Rattle.stripe_placer.proofs.Among.{IsAmong, from_filter}
 use Rattle.core_laws.specs.PlainWorlds.{is_plain_event, is_plain_outcome, IsPlainWorld}
-use Rattle.core_laws.proofs.Lists.{all_at, filter_none, got_within, get_whole}
 use Rattle.core_laws.proofs.Numbers.{life_at}
 use Rattle.core_laws.proofs.Opening.{placed_before}
-use Rattle.core_laws.proofs.Placing.{weaker}
-use Rattle.core_laws.proofs.PlacedPositions.{all_joined}
-use Rattle.core_laws.proofs.Rows.{same_number, other_number}
 use Rattle.core_laws.proofs.Turns.{its_unit}
 use Rattle.placed_laws.specs.StripePrograms.{HasHappened, IsProgramDone}
 use Rattle.placed_laws.proofs.Ordered.{HaveNoLoss, no_loss_after}
@@ -39,13 +34,16 @@ use Rattle.placed_laws.proofs.StandingOpenings.{opening_at, life_there}
 use Rattle.placed_laws.proofs.StripeBlocks.{have_blocks, wide_after}
 use Rattle.placed_laws.proofs.Happened.{happened, landed_at, placed_by_prefix}
 use Rattle.placed_laws.proofs.KnownImages.{known_by_prefix}
-use Rattle.placed_laws.proofs.KnownChunks.{take_next, by_prefixes, length_known, units_by_live, chunk_in, is_on, live_chunk, chunk_untold, each_chunk, known_empty}
+use Rattle.placed_laws.proofs.KnownChunks.{by_prefixes, units_by_live, chunk_in, is_on, live_chunk, chunk_untold, each_chunk, known_empty}
 use Rattle.placed_laws.specs.StripeTurns.{IsAtTurn}
 use Rattle.placed_laws.proofs.GoingLines.{IsFilling, IsGoing, IsNewer, going_on, going_further, untouched}
 use Rattle.placed_laws.proofs.GoingSteps.{AreGoing, keeps_lives, landed_chunk, reset_chunk, place_at, place_room, width_counts}
-
-pub opened_is : (o p : Opening) → Opened o ≡ Opened p → o ≡ p
-opened_is o p e = cc
+use Rattle.lemmas.proofs.Lists.{IsAmong, all_append, all_imply}
+use Rattle.lemmas.proofs.Maps.{filter_none, from_filter}
+use Rattle.lemmas.proofs.Parts.{all_at, get_whole, got_within, take_next}
+use Rattle.lemmas.proofs.Tests.{other_number, same_number}
+use Rattle.pblk_world.proofs.EngineLogLemmas.{opened_same}
+use Rattle.pblk_world.proofs.LinesLemmas.{length_known}
 
 -- ---- a line is opened
 
@@ -130,7 +128,7 @@ open_step i logs k line start knows b fit inside there begins closed empty own_w
 
     by_line : (other : ℕ) (o : Opening) (d : Bool) → nat_eq line other ≡ d → (if d then Opened (record { number = length (take k (logs 0)); line = other; start = start; knows = knows }) else life_of (take k (logs 0)) other) ≡ Opened o → IsGoing i logs (suc k) other o
     by_line other o true f e =
-        let same : ◌≡◌ {A = Opening} (record { number = length (take k (logs 0)); line = other; start = start; knows = knows }) o = opened_is (record { number = length (take k (logs 0)); line = other; start = start; knows = knows }) o e in
+        let same : ◌≡◌ {A = Opening} (record { number = length (take k (logs 0)); line = other; start = start; knows = knows }) o = opened_same (record { number = length (take k (logs 0)); line = other; start = start; knows = knows }) o e in
         let last : length (take k (logs 0)) ≡ o.number = ap (λ (x : Opening). x.number) same in
         subst (λ n. IsGoing i logs (suc k) n o) (eqb-true line other f) (begins_going o (sym last ∙ count) (sym last) (sym (ap (λ (x : Opening). x.start) same)))
     by_line other o false f e =
@@ -147,12 +145,12 @@ place_step : (i : Image) (logs : Logs) (k : ℕ) (stripe : Stripe) (knows : List
 place_step i logs k stripe knows b ls accepted there begins own image may wide none is = record {
   going = λ line o e. by_line line o (nat_eq stripe.line line) refl (sym (life line) ∙ e);
   lives = subst (AllByRecursion (λ (p : Placed). life_of (take (suc k) (logs 0)) p.stripe.line ≡ p.life)) (sym placed)
-      (all_joined (λ (p : Placed). life_of (take (suc k) (logs 0)) p.stripe.line ≡ p.life) (placements (take k (logs 0))) (record { number = length (take k (logs 0)); stripe = stripe; life = life_of (take k (logs 0)) stripe.line } ∷ [])
-      (weaker (λ (p : Placed). life_of (take k (logs 0)) p.stripe.line ≡ p.life) (λ (p : Placed). life_of (take (suc k) (logs 0)) p.stripe.line ≡ p.life) (λ p e. life p.stripe.line ∙ e) (placements (take k (logs 0))) is.lives) (life stripe.line, tt));
+      (all_append (λ (p : Placed). life_of (take (suc k) (logs 0)) p.stripe.line ≡ p.life) (placements (take k (logs 0))) (record { number = length (take k (logs 0)); stripe = stripe; life = life_of (take k (logs 0)) stripe.line } ∷ [])
+      (all_imply (λ (p : Placed). life_of (take k (logs 0)) p.stripe.line ≡ p.life) (λ (p : Placed). life_of (take (suc k) (logs 0)) p.stripe.line ≡ p.life) (λ p e. life p.stripe.line ∙ e) (placements (take k (logs 0))) is.lives) (life stripe.line, tt));
   opened = subst (AllByRecursion (λ (p : Placed). is_opened p.life ≡ true)) (sym placed)
-      (all_joined (λ (p : Placed). is_opened p.life ≡ true) (placements (take k (logs 0))) (record { number = length (take k (logs 0)); stripe = stripe; life = life_of (take k (logs 0)) stripe.line } ∷ []) is.opened (ap is_opened opening_is, tt));
+      (all_append (λ (p : Placed). is_opened p.life ≡ true) (placements (take k (logs 0))) (record { number = length (take k (logs 0)); stripe = stripe; life = life_of (take k (logs 0)) stripe.line } ∷ []) is.opened (ap is_opened opening_is, tt));
   chunks = subst (AllByRecursion (λ (p : Placed). p.stripe.chunk ≡ p.stripe.line)) (sym placed)
-      (all_joined (λ (p : Placed). p.stripe.chunk ≡ p.stripe.line) (placements (take k (logs 0))) (record { number = length (take k (logs 0)); stripe = stripe; life = life_of (take k (logs 0)) stripe.line } ∷ []) is.chunks (may.chunk, tt));
+      (all_append (λ (p : Placed). p.stripe.chunk ≡ p.stripe.line) (placements (take k (logs 0))) (record { number = length (take k (logs 0)); stripe = stripe; life = life_of (take k (logs 0)) stripe.line } ∷ []) is.chunks (may.chunk, tt));
 }
   where
     next : take (suc k) (logs 0) ≡ take k (logs 0) ++ record { event = Decides (Place stripe); knows = knows } ∷ []
@@ -185,7 +183,7 @@ place_step i logs k stripe knows b ls accepted there begins own image may wide n
 
     at_own : (o : Opening) → life_of (take k (logs 0)) stripe.line ≡ Opened o → IsGoing i logs (suc k) stripe.line o
     at_own o e =
-        let one : may.opening ≡ o = opened_is may.opening o (sym opening_is ∙ e) in
+        let one : may.opening ≡ o = opened_same may.opening o (sym opening_is ∙ e) in
         let before : IsGoing i logs k stripe.line o = is.going stripe.line o e in
         let room = place_room i ls may.opening stripe accepted (wide stripe.line may.opening opening_is) (subst HaveNoLoss (sym own) none) may.kind in
         let at = place_at i ls may.opening stripe accepted.drive.ws_opt room.0 in

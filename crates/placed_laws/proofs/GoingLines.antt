@@ -19,12 +19,15 @@ use Rattle.pblk_world.specs.World.{Logs}
 use Rattle.pblk_world.specs.EngineLog.{is_life, Opening, Placed, placed_by, placements, placed_on, stripes_of, answers, answer_by}
 use Rattle.pblk_world.specs.Lines.{known_image}
 use Rattle.pblk_world.specs.Victims.{engine_prefix}
-use Rattle.pblk_world.proofs.Appending.{placements_more, answers_more}
+use Rattle.pblk_world.proofs.Appending.{placements_more}
 use Rattle.pblk_world.proofs.Growing.{at_end}
-use Rattle.core_laws.proofs.Rows.{same_number}
 use Rattle.placed_laws.specs.StripeTurns.{IsAtTurn}
 use Rattle.placed_laws.proofs.Columns.{few_in_column}
-use Rattle.placed_laws.proofs.KnownChunks.{take_next, one_column, chunk_in, is_on, live_chunk}
+use Rattle.placed_laws.proofs.KnownChunks.{one_column, chunk_in, is_on, live_chunk}
+use Rattle.lemmas.proofs.Maps.{fewer_taken, filters_swap}
+use Rattle.lemmas.proofs.Parts.{take_next}
+use Rattle.lemmas.proofs.Tests.{same_number}
+use Rattle.pblk_world.proofs.EngineLogLemmas.{answers_more}
 
 -- the stripes of an opening on a unit that have landed, where none was lost: as many of the unit's first stripes as it answered
 abbrev pub landed_on : List Logged → Opening → ℕ → List Placed
@@ -67,30 +70,10 @@ landed_grows log l o u =
     (subst (λ (ps : List Placed). length (landed_on log o u) ≤ length (filter (λ (p : Placed). is_life o.number p.life) (take (length (answers log u) + length (option_to_list (answer_by u l.event))) ps))) (sym (placed_on_more log l u))
     (prefix_count (λ (p : Placed). is_life o.number p.life) (placed_on log u) (filter (λ (p : Placed). p.stripe.unit == u) (option_to_list (placed_by log (length log) l.event))) (length (answers log u)) (length (option_to_list (answer_by u l.event)))))
 
--- what has landed is some of what was placed
-part_count : {X : Type 0} (f : X → Bool) (m : ℕ) (xs : List X) → length (filter f (take m xs)) ≤ length (filter f xs)
-part_count f zero xs = omega arith
-part_count f (suc m) [] = omega arith
-part_count {X} f (suc m) (x ∷ xs) = go (f x) (part_count f m xs)
-  where
-    go : (b : Bool) → length (filter f (take m xs)) ≤ length (filter f xs) → length (cond b (x ∷ filter f (take m xs)) (filter f (take m xs))) ≤ length (cond b (x ∷ filter f xs) (filter f xs))
-    go true rest = omega arith
-    go false rest = rest
-
-pub filters_swap : {X : Type 0} (f g : X → Bool) (xs : List X) → filter f (filter g xs) ≡ filter g (filter f xs)
-filters_swap f g [] = refl
-filters_swap {X} f g (x ∷ xs) = go (f x) (g x) refl refl (filters_swap f g xs)
-  where
-    go : (a b : Bool) → f x ≡ a → g x ≡ b → filter f (filter g xs) ≡ filter g (filter f xs) → filter f (cond b (x ∷ filter g xs) (filter g xs)) ≡ filter g (cond a (x ∷ filter f xs) (filter f xs))
-    go true true p q rest = ap (λ c. cond c (x ∷ filter f (filter g xs)) (filter f (filter g xs))) p ∙ ap (λ ys. x ∷ ys) rest ∙ ap (λ c. cond c (x ∷ filter g (filter f xs)) (filter g (filter f xs))) (sym q)
-    go true false p q rest = rest ∙ ap (λ c. cond c (x ∷ filter g (filter f xs)) (filter g (filter f xs))) (sym q)
-    go false true p q rest = ap (λ c. cond c (x ∷ filter f (filter g xs)) (filter f (filter g xs))) p ∙ rest
-    go false false p q rest = rest
-
 pub landed_in_stripes : (log : List Logged) (o : Opening) (u : ℕ) → length (landed_on log o u) ≤ length (filter (λ (p : Placed). p.stripe.unit == u) (stripes_of log o))
 landed_in_stripes log o u =
     subst (λ (ps : List Placed). length (landed_on log o u) ≤ length ps) (filters_swap (λ (p : Placed). is_life o.number p.life) (λ (p : Placed). p.stripe.unit == u) (placements log))
-    (part_count (λ (p : Placed). is_life o.number p.life) (length (answers log u)) (placed_on log u))
+    (fewer_taken (λ (p : Placed). is_life o.number p.life) (length (answers log u)) (placed_on log u))
 
 -- ---- a chunk has no more stripes than rows
 
@@ -224,14 +207,6 @@ reset_filling s log o u c on = go c.state on
     go states.Open on = free
     go states.Closed on = by_full (pointer c == s.clba) on
     go states.Offline on = absurd cc
-
--- blocks are appended to one
-pub append_online : (s : Shape) (c : Chunk) (blocks : List Block) → is_online_in (appended s c blocks).state ≡ true
-append_online s c blocks = go (nat_lt (pointer c + length blocks) s.clba)
-  where
-    go : (b : Bool) → is_online_in (if b then states.Open else states.Closed) ≡ true
-    go true = refl
-    go false = refl
 
 pub append_filling : (s : Shape) (old new : List Logged) (o : Opening) (u : ℕ) (c : Chunk) (blocks : List Block) → length blocks ≡ s.ws_opt → length (landed_on old o u) + 1 ≤ length (landed_on new o u) → IsFilling s old o u c → IsFilling s new o u (appended s c blocks)
 append_filling s old new o u c blocks whole more is = record {

@@ -20,16 +20,20 @@ use Rattle.pblk_world.specs.EngineLog.{Begun, begun, Opened, is_life, is_opened,
 use Rattle.pblk_world.specs.Lines.{told_by, known_image}
 use Rattle.pblk_world.specs.Placing.{IsNext, IsStart, IsData, IsEnd, IsPad}
 use Rattle.pblk_world.specs.Victims.{engine_prefix}
-use Rattle.pblk_world.proofs.Appending.{life_more, placements_more, answers_more}
-use Rattle.stripe_placer.proofs.Among.{IsAmong, in_filter}
-use Rattle.core_laws.proofs.Placing.{weaker}
-use Rattle.core_laws.proofs.Rows.{same_number}
+use Rattle.pblk_world.proofs.Appending.{life_more, placements_more}
 use Rattle.placed_laws.specs.StripePrograms.{IsProgramDone}
 use Rattle.placed_laws.proofs.Ordered.{HaveNoLoss, never_lost}
-use Rattle.placed_laws.proofs.StripeBlocks.{whole_step, whole_chunks, data_ends}
-use Rattle.placed_laws.proofs.KnownChunks.{take_next, unit_is_live, chunk_in, is_on, live_chunk, chunk_of_live, chunk_untold, chunk_told, chunk_beside}
+use Rattle.placed_laws.proofs.StripeBlocks.{whole_step, whole_chunks}
+use Rattle.placed_laws.proofs.KnownChunks.{unit_is_live, chunk_in, is_on, live_chunk, chunk_of_live, chunk_untold, chunk_told, chunk_beside}
 use Rattle.placed_laws.specs.StripeTurns.{IsAtTurn}
-use Rattle.placed_laws.proofs.GoingLines.{landed_on, IsFilling, IsGoing, IsNewer, going_on, landed_is_few, reset_state, reset_filling, append_online, append_filling, filling_later}
+use Rattle.placed_laws.proofs.GoingLines.{landed_on, IsFilling, IsGoing, IsNewer, going_on, landed_is_few, reset_state, reset_filling, append_filling, filling_later}
+use Rattle.lemmas.proofs.Lists.{IsAmong, all_imply}
+use Rattle.lemmas.proofs.Maps.{in_filter}
+use Rattle.lemmas.proofs.Parts.{take_next}
+use Rattle.lemmas.proofs.Tests.{same_number}
+use Rattle.pblk_model.proofs.ImageLemmas.{appended_online}
+use Rattle.pblk_model.proofs.LineOrderLemmas.{whole_line}
+use Rattle.pblk_world.proofs.EngineLogLemmas.{answers_more}
 
 -- ---- how wide a line is
 
@@ -93,7 +97,7 @@ pub place_room : (i : Image) (ls : Logs) (o : Opening) (stripe : Stripe) → IsA
 place_room i ls o stripe accepted wide none kind = go kind
   where
     ends : start_len i.shape + data_len i.shape o.start.width + end_len i.shape o.start.width ≡ o.start.width * i.shape.clba
-    ends = data_ends i.shape o.start.width wide
+    ends = whole_line i.shape o.start.width wide
 
     room : length (stripes_of (ls 0) o) * i.shape.ws_opt < o.start.width * i.shape.clba → length (stripes_of (ls 0) o) * i.shape.ws_opt + i.shape.ws_opt ≤ o.start.width * i.shape.clba
     room below =
@@ -138,7 +142,7 @@ keeps_lives i logs k l there is same none newer =
           let before : IsGoing i logs k line o = is.going line o (sym (life line) ∙ e) in
           going_on i logs k line o l there before (newer line o (sym (life line) ∙ e) before) (ap (λ o2. filter (λ (p : Placed). is_life o.number p.life) (option_to_list o2)) none);
       lives = subst (AllByRecursion (λ (p : Placed). life_of (take (suc k) (logs 0)) p.stripe.line ≡ p.life)) (sym placed)
-          (weaker (λ (p : Placed). life_of (take k (logs 0)) p.stripe.line ≡ p.life) (λ (p : Placed). life_of (take (suc k) (logs 0)) p.stripe.line ≡ p.life) (λ p e. life p.stripe.line ∙ e) (placements (take k (logs 0))) is.lives);
+          (all_imply (λ (p : Placed). life_of (take k (logs 0)) p.stripe.line ≡ p.life) (λ (p : Placed). life_of (take (suc k) (logs 0)) p.stripe.line ≡ p.life) (λ p e. life p.stripe.line ∙ e) (placements (take k (logs 0))) is.lives);
       opened = subst (AllByRecursion (λ (p : Placed). is_opened p.life ≡ true)) (sym placed) is.opened;
       chunks = subst (AllByRecursion (λ (p : Placed). p.stripe.chunk ≡ p.stripe.line)) (sym placed) is.chunks;
     }
@@ -207,7 +211,7 @@ landed_chunk i logs k u n v line knows b o p there begins at done whole among it
         ∙ ap₂ (λ command outcome. Some (after_outcome i.shape chunk.0 command outcome)) done.command done.done in
         let more : length (landed_on (take k (logs 0)) o v) + 1 ≤ length (landed_on (take k (logs 0) ++ record { event = Decides (Landed u n); knows = knows } ∷ []) o v) =
         subst (λ m. length (landed_on (take k (logs 0)) o m) + 1 ≤ length (landed_on (take k (logs 0) ++ record { event = Decides (Landed u n); knows = knows } ∷ []) o m)) unit (landed_more (take k (logs 0)) u n knows o p at ours) in (
-          live_chunk (known_image i (engine_prefix (suc k) logs)) line v ∙ ap is_on now ∙ append_online i.shape chunk.0 p.stripe.blocks ∙ sym live,
+          live_chunk (known_image i (engine_prefix (suc k) logs)) line v ∙ ap is_on now ∙ appended_online i.shape chunk.0 p.stripe.blocks ∙ sym live,
           λ c f on. subst (IsFilling i.shape (take k (logs 0) ++ record { event = Decides (Landed u n); knows = knows } ∷ []) o v) (same_Some (appended i.shape chunk.0 p.stripe.blocks) c (sym now ∙ f))
               (append_filling i.shape (take k (logs 0)) (take k (logs 0) ++ record { event = Decides (Landed u n); knows = knows } ∷ []) o v chunk.0 p.stripe.blocks whole more (is.filling v chunk.0 chunk.1 chunk.2)),
         )

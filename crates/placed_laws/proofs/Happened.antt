@@ -19,8 +19,9 @@ use Rattle.pblk_world.specs.Answering.{MayLand}
 use Rattle.pblk_world.specs.Legal.{IsAllowed, IsLegalStep, IsLegal}
 use Rattle.pblk_world.proofs.Appending.{placements_more}
 use Rattle.pblk_world.proofs.Growing.{at_end}
-use Rattle.core_laws.proofs.Lists.{fun_same, get_more as get_before, get_whole}
 use Rattle.placed_laws.specs.StripePrograms.{HasHappened, IsProgramDone}
+use Rattle.lemmas.proofs.Numbers.{fun_same}
+use Rattle.lemmas.proofs.Parts.{get_more, get_whole}
 
 cut_longer : (s : Step) (w : World) (l : Logged) → ((other : ℕ) → known l other ≤ length (log_of w other)) → prefixes l (log_of (s ∷ w)) ≡ prefixes l (log_of w)
 cut_longer s w l within = fun_same (prefixes l (log_of (s ∷ w))) (prefixes l (log_of w)) (λ other. go (nat_eq s.author other) other (within other))
@@ -97,7 +98,7 @@ placed_by_prefix log m unit k p e =
     ap (λ (zs : List Logged). slice_get (placed_on zs unit) k) cut.1
     ∙ ap (λ ps. slice_get (filter (λ (p : Placed). p.stripe.unit == unit) ps) k) grown.1
     ∙ ap (λ ps. slice_get ps k) (filter-append (λ (p : Placed). p.stripe.unit == unit) (placements (take m log)) grown.0)
-    ∙ get_before (placed_on (take m log) unit) (filter (λ (p : Placed). p.stripe.unit == unit) grown.0) k p e
+    ∙ get_more (placed_on (take m log) unit) (filter (λ (p : Placed). p.stripe.unit == unit) grown.0) k p e
 
 begun_first : (log : List Logged) (m k : ℕ) (b : Begun) → 0 < m → begun (take k log) ≡ Some b → begun (take m log) ≡ Some b
 begun_first log zero k b some e = absurd (omega arith)

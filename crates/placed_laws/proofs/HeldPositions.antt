@@ -19,14 +19,15 @@ use Rattle.pblk_world.proofs.SyncedFront.{synced_is}
 use Rattle.stripe_placer.specs.Entries.{waiting}
 use Rattle.stripe_placer.specs.Placing.{Program, positions_in, held}
 use Rattle.stripe_placer.specs.Placing.UnitRow.{Idle}
-use Rattle.stripe_placer.proofs.Among.{IsAmong, from_filter}
 use Rattle.core_laws.specs.PlacerOf.{positions_of, positions_in_stripe, fresh_entries, entries_of, waits_again, program_of_placed, row_of_program, row_in, row_of, unanswered_on, placing_of}
-use Rattle.core_laws.proofs.Tests.{no_both}
 use Rattle.core_laws.proofs.Turns.{its_unit, its_turn}
 use Rattle.placed_laws.specs.Placed.{placed_positions, placed_count, IsInWindow}
 use Rattle.placed_laws.proofs.Placed.{stripe_holds, in_range}
 use Rattle.placed_laws.proofs.Ordered.{IsOrdered, in_order, lost_are_none, fresh_in_order, front_within}
 use Rattle.placed_laws.proofs.Distinct.{IsIn, Distinct, in_joined, at_in, passing, in_made, made_of, distinct_joined, distinct_range, distinct_made, one_maker, distinct_rows, distinct_at, distinct_few}
+use Rattle.lemmas.proofs.Lists.{IsAmong}
+use Rattle.lemmas.proofs.Maps.{all_in_range, from_filter}
+use Rattle.lemmas.proofs.Tests.{no_both}
 
 -- ---- the rows of the units
 
@@ -265,10 +266,6 @@ in_window i logs pad again k q is e =
 
 pub held_once : (i : Image) (logs : Logs) (pad : ℕ) (again : List ℕ) (j k q : ℕ) → IsOrdered i.shape (logs 0) → slice_get (held (placing_of i logs pad again)) j ≡ Some q → slice_get (held (placing_of i logs pad again)) k ≡ Some q → j ≡ k
 held_once i logs pad again j k q is a b = distinct_at (held (placing_of i logs pad again)) j k q (held_distinct i logs pad again is) a b
-
-all_in_range : (a n m : ℕ) → a + n ≤ m → AllByRecursion (λ q. q < m) (range_with_len a n)
-all_in_range a zero m h = tt
-all_in_range a (suc n) m h = (omega arith, all_in_range (a + 1) n m (omega arith))
 
 pub fresh_below : (s : Shape) (log : List Logged) → IsOrdered s log → AllByRecursion (λ q. q < taken log) (positions_of (fresh_entries s log))
 fresh_below s log is =

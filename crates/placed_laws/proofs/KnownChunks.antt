@@ -15,21 +15,16 @@ use Rattle.pblk_model.specs.UnitLog.{UnitOutcome, Answered, Failed, Stopped, Uni
 use Rattle.pblk_model.specs.Image.{Image, IsFit, is_online_in, line_units}
 use Rattle.pblk_layout.specs.Live.{is_live}
 use Rattle.pblk_world.specs.Events.{Landed, Lost, ResetDone, Event, Decides, Logged}
-use Rattle.pblk_world.specs.World.{Logs, cut_logs, unit_events, media}
+use Rattle.pblk_world.specs.World.{Logs, cut_logs, unit_events}
 use Rattle.pblk_world.specs.EngineLog.{Begun, begun}
 use Rattle.pblk_world.specs.Lines.{found_by, found_image, told_by, told_events, known_image}
 use Rattle.pblk_world.specs.Victims.{engine_prefix}
-use Rattle.stripe_placer.proofs.Among.{got_here, got_else}
-use Rattle.core_laws.proofs.Lists.{all_at, got_within}
-use Rattle.core_laws.proofs.Placing.{weaker}
 use Rattle.core_laws.proofs.Numbering.{begun_stays}
+use Rattle.lemmas.proofs.Lists.{all_imply}
+use Rattle.lemmas.proofs.Parts.{all_at, got_here, got_within, take_next}
+use Rattle.pblk_model.proofs.UnitLogLemmas.{event_beside}
 
 -- ---- prefixes of a list, one by one
-
-pub take_next : {X : Type 0} (xs : List X) (k : ℕ) (x : X) → slice_get xs k ≡ Some x → take (suc k) xs ≡ take k xs ++ x ∷ []
-take_next [] k x e = absurd (none-some x e)
-take_next (y ∷ xs) zero x e = ap (λ z. z ∷ []) (same_Some y x e)
-take_next (y ∷ xs) (suc k) x e = ap (λ ys. y ∷ ys) (take_next xs k x e)
 
 pub by_prefixes : {X : Type 0} (xs : List X) (Q : ℕ → Type 0) → Q 0 → ((k : ℕ) (x : X) → slice_get xs k ≡ Some x → Q k → Q (suc k)) → (k : ℕ) → k ≤ length xs → Q k
 by_prefixes xs Q first next zero h = first
@@ -37,24 +32,10 @@ by_prefixes xs Q first next (suc k) h = let at = got_within xs k (omega arith) i
 
 -- ---- the units of an image
 
-pub length_numbered : {X Y : Type 0} (f : ℕ × X → Y) (n : ℕ) (xs : List X) → length (map f (enumerate_from n xs)) ≡ length xs
-length_numbered f n [] = refl
-length_numbered f n (x ∷ xs) = ap suc (length_numbered f (n + 1) xs)
-
 get_numbered : {X Y : Type 0} (f : ℕ → X → Y) (n : ℕ) (xs : List X) (u : ℕ) → slice_get (map (λ (e : ℕ × X). f e.0 e.1) (enumerate_from n xs)) u ≡ option_map (f (n + u)) (slice_get xs u)
 get_numbered f n [] u = refl
 get_numbered f n (x ∷ xs) zero = let same : n ≡ n + 0 = omega arith in ap (λ m. Some (f m x)) same
 get_numbered f n (x ∷ xs) (suc u) = let same : n + 1 + u ≡ n + suc u = omega arith in get_numbered f (n + 1) xs u ∙ ap (λ m. option_map (f m) (slice_get xs u)) same
-
-pub length_media : (i : Image) (logs : Logs) → length (media i logs).units ≡ length i.units
-length_media i logs = length_numbered _ 0 i.units
-
-length_found : (i : Image) (logs : Logs) (b : Option Begun) → length (found_by i logs b).units ≡ length i.units
-length_found i logs None = refl
-length_found i logs (Some b) = length_media i (cut_logs b.knows logs)
-
-pub length_known : (i : Image) (logs : Logs) → length (known_image i logs).units ≡ length i.units
-length_known i logs = length_numbered _ 0 (found_image i logs).units ∙ length_found i logs (begun (logs 0))
 
 pub known_get : (i : Image) (logs : Logs) (u : ℕ) → slice_get (known_image i logs).units u ≡ option_map (λ (cs : List Chunk). after_log i.shape cs (told_events logs u)) (slice_get (found_image i logs).units u)
 known_get i logs u =
@@ -146,13 +127,6 @@ after_chunk s cs e line same = go (slice_get cs e.chunk) refl
         ap (slice_get (slice_set cs e.chunk (after_outcome s c e.command e.outcome))) (sym same) ∙ got_here cs e.chunk c (after_outcome s c e.command e.outcome) f
         ∙ ap (option_map (λ (c : Chunk). after_outcome s c e.command e.outcome)) (sym f ∙ ap (slice_get cs) same)
 
-after_other : (s : Shape) (cs : List Chunk) (e : UnitEvent) (line : ℕ) → e.chunk ≢ line → slice_get (after_event s cs e) line ≡ slice_get cs line
-after_other s cs e line other = go (slice_get cs e.chunk)
-  where
-    go : (o : Option Chunk) → slice_get (option_map_or (λ (c : Chunk). slice_set cs e.chunk (after_outcome s c e.command e.outcome)) o cs) line ≡ slice_get cs line
-    go None = refl
-    go (Some c) = got_else cs e.chunk line (after_outcome s c e.command e.outcome) (λ f. other (sym f))
-
 chunk_by : (i : Image) (logs : Logs) (k u line : ℕ) (l : Logged) (b : Begun) (e : UnitEvent) → slice_get (logs 0) k ≡ Some l → begun (take k (logs 0)) ≡ Some b
     → told_by (engine_prefix (suc k) logs) u l.event ≡ Some e → chunk_in (known_image i (engine_prefix (suc k) logs)) u line ≡ option_and_then (λ (cs : List Chunk). slice_get (after_event i.shape cs e) line) (slice_get (known_image i (engine_prefix k logs)).units u)
 chunk_by i logs k u line l b e there begins told =
@@ -181,7 +155,7 @@ chunk_beside i logs k u line l b e there begins told other = chunk_by i logs k u
   where
     go : (o : Option (List Chunk)) → option_and_then (λ (cs : List Chunk). slice_get (after_event i.shape cs e) line) o ≡ option_and_then (λ (cs : List Chunk). slice_get cs line) o
     go None = refl
-    go (Some cs) = after_other i.shape cs e line other
+    go (Some cs) = event_beside i.shape cs e line other
 
 -- ---- units of a line
 
@@ -326,7 +300,7 @@ chunk_empty s c is e = none c.blocks (subst (λ (state : ChunkState). PointerFit
 
 both_weaker : (s : Shape) (units : List (List Chunk)) → AllByRecursion (AllByRecursion (IsChunk s)) units → AllByRecursion (AllByRecursion IsEmptyFree) units
 both_weaker s [] all = tt
-both_weaker s (cs ∷ units) all = (weaker (IsChunk s) IsEmptyFree (chunk_empty s) cs all.0, both_weaker s units all.1)
+both_weaker s (cs ∷ units) all = (all_imply (IsChunk s) IsEmptyFree (chunk_empty s) cs all.0, both_weaker s units all.1)
 
 pub known_empty : (i : Image) (logs : Logs) (u line : ℕ) (c : Chunk) → IsFit i → chunk_in (known_image i logs) u line ≡ Some c → c.state ≡ states.Free → c.blocks ≡ []
 known_empty i logs u line c fit there = go (slice_get (known_image i logs).units u) refl there
@@ -342,7 +316,7 @@ known_empty i logs u line c fit there = go (slice_get (known_image i logs).units
 
 units_from : (t : List Chunk → Bool) (n : ℕ) (xs : List (List Chunk)) → AllByRecursion (λ u. n ≤ u) (map (λ (e : ℕ × List Chunk). e.0) (filter (λ (e : ℕ × List Chunk). t e.1) (enumerate_from n xs)))
 units_from t n [] = tt
-units_from t n (x ∷ xs) = go (t x) (weaker (λ u. n + 1 ≤ u) (λ u. n ≤ u) (λ u h. omega arith) (map (λ (e : ℕ × List Chunk). e.0) (filter (λ (e : ℕ × List Chunk). t e.1) (enumerate_from (n + 1) xs))) (units_from t (n + 1) xs))
+units_from t n (x ∷ xs) = go (t x) (all_imply (λ u. n + 1 ≤ u) (λ u. n ≤ u) (λ u h. omega arith) (map (λ (e : ℕ × List Chunk). e.0) (filter (λ (e : ℕ × List Chunk). t e.1) (enumerate_from (n + 1) xs))) (units_from t (n + 1) xs))
   where
     go : (b : Bool) → AllByRecursion (λ u. n ≤ u) (map (λ (e : ℕ × List Chunk). e.0) (filter (λ (e : ℕ × List Chunk). t e.1) (enumerate_from (n + 1) xs)))
         → AllByRecursion (λ u. n ≤ u) (map (λ (e : ℕ × List Chunk). e.0) (cond b ((n, x) ∷ filter (λ (e : ℕ × List Chunk). t e.1) (enumerate_from (n + 1) xs)) (filter (λ (e : ℕ × List Chunk). t e.1) (enumerate_from (n + 1) xs))))

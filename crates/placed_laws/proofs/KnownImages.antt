@@ -1,23 +1,25 @@
 -- The image as the engine knew it when it made an event: that of its log up to there.
-use Rattle.std.proofs.Common.{◌≡◌, ℕ, ◌<◌, ◌≤◌, zero, suc, nat_eq, Bool, true, false, Some, None, Option, List, [], ◌∷◌, take, refl, subst, ap, ap₂, ◌∙◌, arith, if◌then◌else◌}
+use Rattle.std.proofs.Common.{◌≡◌, ℕ, ◌<◌, ◌≤◌, zero, suc, nat_eq, Bool, true, false, Some, None, Option, List, [], ◌∷◌, take, refl, subst, ap, ◌∙◌, arith, if◌then◌else◌}
 use Rattle.std.specs.Prelude.{slice_get, slice_index, map}
-use Rattle.std.specs.List.{filter_map, cons_option, enumerate_from}
-use Rattle.std.specs.Option.{option_and_then}
-use Rattle.std.proofs.lemmas.Option.{same_Some, none-some}
+use Rattle.std.specs.List.{filter_map, enumerate_from}
+use Rattle.std.proofs.lemmas.Option.{none-some}
 use Rattle.std.proofs.lemmas.List.{take-take as cut_cut}
 use Rattle.pblk_model.specs.Chunk.{Chunk}
 use Rattle.pblk_model.specs.UnitLog.{after_log}
 use Rattle.pblk_model.specs.Image.{Image}
-use Rattle.pblk_world.specs.Events.{Begin, Landed, Lost, ResetDone, Event, Decides, Logged}
-use Rattle.pblk_world.specs.World.{World, Logs, log_of, known, prefixes, cut_logs, unit_event_of, unit_event_at, unit_events, media}
-use Rattle.pblk_world.specs.EngineLog.{Begun, begun, begun_by}
+use Rattle.pblk_world.specs.Events.{Landed, Lost, ResetDone, Event, Decides, Logged}
+use Rattle.pblk_world.specs.World.{World, Logs, log_of, known, prefixes, cut_logs, unit_event_at}
+use Rattle.pblk_world.specs.EngineLog.{Begun, begun}
 use Rattle.pblk_world.specs.Lines.{found_by, found_image, told_by, told_events, known_image}
 use Rattle.pblk_world.specs.Victims.{engine_prefix}
 use Rattle.pblk_world.specs.Legal.{IsAllowed, IsLegal}
 use Rattle.pblk_world.proofs.Growing.{knowledge_rises}
-use Rattle.core_laws.proofs.Lists.{map_same, get_whole, get_taken as get_cut}
 use Rattle.placed_laws.specs.StripePrograms.{HasHappened}
 use Rattle.placed_laws.proofs.Happened.{happened}
+use Rattle.lemmas.proofs.Maps.{made_alike, map_same}
+use Rattle.lemmas.proofs.Parts.{get_whole}
+use Rattle.pblk_world.proofs.EngineLogLemmas.{begun_first}
+use Rattle.pblk_world.proofs.WorldLemmas.{media_same, unit_event_cut}
 
 -- ---- cut lists
 
@@ -27,15 +29,7 @@ cut_within (suc m) [] n x e = absurd (none-some x e)
 cut_within (suc m) (y ∷ xs) zero x e = omega arith
 cut_within (suc m) (y ∷ xs) (suc n) x e = let rest : n < m = cut_within m xs n x e in omega arith
 
--- what is made of a list's elements, by where they stand
-made_alike : {X Y : Type 0} (f g : X → Option Y) (xs : List X) → ((j : ℕ) (x : X) → slice_get xs j ≡ Some x → f x ≡ g x) → filter_map f xs ≡ filter_map g xs
-made_alike f g [] same = refl
-made_alike f g (x ∷ xs) same = ap₂ (λ o ys. cons_option o ys) (same 0 x refl) (made_alike f g xs (λ j y e. same (suc j) y e))
-
 -- ---- what the engine was told
-
-unit_event_cut : (logs : Logs) (l : Logged) (unit n : ℕ) → n < known l (suc unit) → unit_event_at (prefixes l logs) unit n ≡ unit_event_at logs unit n
-unit_event_cut logs l unit n h = ap (option_and_then (λ (m : Logged). unit_event_of m.event)) (get_cut (known l (suc unit)) (logs (suc unit)) n h)
 
 -- an event that was told was known
 told_known : (i : Image) (logs : Logs) (m : Logged) (l : Logged) (unit j : ℕ) → HasHappened i logs 0 j m → known m (suc unit) ≤ known l (suc unit) → told_by (prefixes l logs) unit m.event ≡ told_by logs unit m.event
@@ -76,19 +70,6 @@ told_same i w k l unit legal there =
 
 -- ---- what the mount found
 
-pub first_knows : (log : List Logged) (b : Begun) → begun log ≡ Some b → (l : Logged) × (slice_get log 0 ≡ Some l) × (l.knows ≡ b.knows)
-first_knows [] b e = absurd (none-some b e)
-first_knows (l ∷ log) b e = (l, refl, by_event l.knows l.event e)
-  where
-    by_event : (knows : List ℕ) (event : Event) → begun_by knows event ≡ Some b → knows ≡ b.knows
-    by_event knows (Decides (Begin beginning)) e = ap (λ (x : Begun). x.knows) (same_Some (record { beginning = beginning; knows = knows }) b e)
-    by_event knows event e = absurd (none-some b e)
-
-pub media_same : (i : Image) (a b : Logs) → ((unit : ℕ) → a (suc unit) ≡ b (suc unit)) → media i a ≡ media i b
-media_same i a b same = ap (λ us. record { shape = i.shape; units = us })
-    (map_same (λ (unit : ℕ × List Chunk). after_log i.shape unit.1 (unit_events a unit.0)) (λ (unit : ℕ × List Chunk). after_log i.shape unit.1 (unit_events b unit.0))
-    (λ unit. ap (λ (xs : List Logged). after_log i.shape unit.1 (filter_map (λ (l : Logged). unit_event_of l.event) xs)) (same unit.0)) (enumerate_from 0 i.units))
-
 found_same : (i : Image) (w : World) (k : ℕ) (l : Logged) → IsLegal i w → slice_get (log_of w 0) k ≡ Some l → found_image i (prefixes l (log_of w)) ≡ found_image i (engine_prefix k (log_of w))
 found_same i w k l legal there =
     let is : HasHappened i (log_of w) 0 k l = happened i w 0 legal k l there in
@@ -98,7 +79,7 @@ found_same i w k l legal there =
     go : (b : Option Begun) → begun (take k (log_of w 0)) ≡ b → found_by i (prefixes l (log_of w)) b ≡ found_by i (engine_prefix k (log_of w)) b
     go None e = refl
     go (Some b) e =
-        let first : (f : Logged) × (slice_get (take k (log_of w 0)) 0 ≡ Some f) × (f.knows ≡ b.knows) = first_knows (take k (log_of w 0)) b e in
+        let first : (f : Logged) × (slice_get (take k (log_of w 0)) 0 ≡ Some f) × (f.knows ≡ b.knows) = begun_first (take k (log_of w 0)) b e in
         let at : slice_get (log_of w 0) 0 ≡ Some first.0 = get_whole k (log_of w 0) 0 first.0 first.1 in
         media_same i (cut_logs b.knows (prefixes l (log_of w))) (cut_logs b.knows (engine_prefix k (log_of w)))
         (λ unit.

@@ -7,18 +7,19 @@ use Rattle.pblk_model.specs.Image.{Image}
 use Rattle.pblk_world.specs.Events.{Landed, Logged}
 use Rattle.pblk_world.specs.World.{World, Logs, log_of}
 use Rattle.pblk_world.specs.EngineLog.{Opening, Placed, Answer, DidLand, WasLost, answer_of, is_loss}
-use Rattle.stripe_placer.specs.OpenLines.{Stripe, OpenLine, numbers, is_lost, is_landed, is_unplaced, is_unanswered, stripe_is, in_one_chunk, is_closed, is_to_place, has_left, in_line, with_stripe}
+use Rattle.stripe_placer.specs.OpenLines.{Stripe, OpenLine, numbers, is_lost, is_landed, is_unplaced, is_unanswered, stripe_is, is_closed, is_to_place, has_left, in_line, with_stripe}
 use Rattle.stripe_placer.specs.OpenLines.Stripe.{Unplaced, Unanswered, Landed as HasLanded, Lost as WasIt}
 use Rattle.stripe_placer.specs.Placing.{Program}
 use Rattle.core_laws.specs.Stepping.{after}
 use Rattle.core_laws.specs.PlainWorlds.{IsPlainWorld}
 use Rattle.core_laws.specs.OpenedLines.{as_opened, by_answer, became, placed_as, outcome, open_line}
 use Rattle.core_laws.specs.PlacerOf.{IsAwaited}
-use Rattle.core_laws.proofs.Lists.{filter_same, none_any}
 use Rattle.core_laws.proofs.TakenSlots.{any_same}
 use Rattle.placed_laws.specs.LeftOpenings.{left_openings}
 use Rattle.placed_laws.proofs.Ordered.{HaveNoLoss, never_lost, ordered}
 use Rattle.placed_laws.proofs.LeftLines.{left_landed}
+use Rattle.lemmas.proofs.Maps.{filter_same}
+use Rattle.stripe_placer.proofs.OpenLinesLemmas.{no_chunk_closed}
 
 -- ---- tests by number
 
@@ -31,14 +32,6 @@ any_later g a (suc n) =
 any_numbered : (f : Stripe → Bool) (xs : List Stripe) → list_any (λ j. option_map_or f (slice_get xs j) false) (range_with_len 0 (length xs)) ≡ list_any f xs
 any_numbered f [] = refl
 any_numbered f (x ∷ xs) = ap (λ b. f x || b) (any_later (λ j. option_map_or f (slice_get (x ∷ xs) j) false) 0 (length xs) ∙ any_numbered f xs)
-
-none_at : (xs : List Stripe) (j : ℕ) → AllByRecursion (λ x. is_lost x ≡ false) xs → option_map_or is_lost (slice_get xs j) false ≡ false
-none_at [] j all = refl
-none_at (x ∷ xs) zero all = all.0
-none_at (x ∷ xs) (suc j) all = none_at xs j all.1
-
-no_chunk_closed : (l : OpenLine) (j : ℕ) → AllByRecursion (λ x. is_lost x ≡ false) l.stripes → is_closed l j ≡ false
-no_chunk_closed l j all = none_any (λ i. stripe_is l is_lost i && in_one_chunk l i j) (λ i. ap (λ b. b && in_one_chunk l i j) (none_at l.stripes i all)) (numbers l)
 
 and_not : (a b : Bool) → b ≡ false → (a && not b) ≡ a
 and_not true b e = ap not e

@@ -11,7 +11,7 @@ use Rattle.pblk_model.specs.StartRecord.{StartRecord}
 use Rattle.pblk_world.specs.Events.{Entry, Stripe, Take, Open, Place, Landed, ResetDone, Decides, Logged}
 use Rattle.pblk_world.specs.World.{Logs}
 use Rattle.pblk_world.specs.EngineLog.{Opened, is_opened, life_of, Opening, openings, placements, answers}
-use Rattle.pblk_world.proofs.Appending.{answers_more, life_more, openings_more, placements_more}
+use Rattle.pblk_world.proofs.Appending.{life_more, openings_more, placements_more}
 use Rattle.stripe_placer.specs.OpenLines as outcomes
 use Rattle.stripe_placer.proofs.Agreeing.{in_line_keeps}
 use Rattle.stripe_placer.specs.OpenLines.{OpenLine, opened, has_left, in_line}
@@ -21,15 +21,19 @@ use Rattle.stripe_placer.specs.Inside.{AreApart}
 use Rattle.core_laws.specs.Stepping.{after}
 use Rattle.core_laws.specs.OpenedLines.{open_line, standing, open_lines, live_now}
 use Rattle.core_laws.specs.PlacerOf.{IsStripeOf, IsAwaited}
-use Rattle.core_laws.proofs.Lists.{fun_same, all_at, all_filter, all_mapped}
 use Rattle.core_laws.proofs.Steady.{AreAlike, standing_same, lines_same}
-use Rattle.core_laws.proofs.Placing.{IsPlacing, weaker}
+use Rattle.core_laws.proofs.Placing.{IsPlacing}
 use Rattle.core_laws.proofs.PlacedLines.{IsPlacedAt, placed_at, lines_placed}
 use Rattle.core_laws.proofs.Opening.{placing_opened}
 use Rattle.core_laws.proofs.Landing.{placing_landed}
-use Rattle.core_laws.proofs.Rows.{same_number}
 use Rattle.placed_laws.specs.LeftOpenings.{left_openings, opened_as}
 use Rattle.placed_laws.proofs.StandingOpenings.{NumbersRise, standing_opened, standing_rise, rise_filtered, one_place}
+use Rattle.lemmas.proofs.Lists.{all_imply}
+use Rattle.lemmas.proofs.Maps.{all_filter, all_mapped}
+use Rattle.lemmas.proofs.Numbers.{fun_same}
+use Rattle.lemmas.proofs.Parts.{all_at}
+use Rattle.lemmas.proofs.Tests.{same_number}
+use Rattle.pblk_world.proofs.EngineLogLemmas.{answers_more}
 
 filter_mapped : {X Y : Type 0} (f : Y → Bool) (g : X → Y) (xs : List X) → filter f (map g xs) ≡ map g (filter (λ x. f (g x)) xs)
 filter_mapped f g [] = refl
@@ -62,7 +66,7 @@ left_by_lines : (i : Image) (logs : Logs) → filter_map (λ (l : OpenLine). ope
 left_by_lines i logs =
     ap (filter_map (λ (l : OpenLine). opened_as (life_of (logs 0) l.line))) (lines_of_left i logs)
     ∙ back (open_line i logs) (λ (l : OpenLine). opened_as (life_of (logs 0) l.line)) (left_openings i logs)
-    (weaker (λ (o : Opening). life_of (logs 0) o.line ≡ Opened o) (λ (o : Opening). opened_as (life_of (logs 0) (open_line i logs o).line) ≡ Some o) (λ o is. ap opened_as is) (left_openings i logs) (left_opened i logs))
+    (all_imply (λ (o : Opening). life_of (logs 0) o.line ≡ Opened o) (λ (o : Opening). opened_as (life_of (logs 0) (open_line i logs o).line) ≡ Some o) (λ o is. ap opened_as is) (left_openings i logs) (left_opened i logs))
 
 -- where the lines' numbers and lives stay, so do the openings
 made_same : (log new : List Logged) (ls : List OpenLine) → ((line : ℕ) → life_of new line ≡ life_of log line)
@@ -136,7 +140,7 @@ left_more i logs line start knows closed some =
     let lives : AllByRecursion (λ (l : OpenLine). life_of (new 0) l.line ≡ life_of (logs 0) l.line) (open_lines i logs) =
     subst (AllByRecursion (λ (l : OpenLine). life_of (new 0) l.line ≡ life_of (logs 0) l.line)) (sym (lines_of_left i logs))
     (all_mapped (λ (l : OpenLine). life_of (new 0) l.line ≡ life_of (logs 0) l.line) (open_line i logs) (left_openings i logs)
-    (weaker (λ (o : Opening). life_of (logs 0) o.line ≡ Opened o) (λ (o : Opening). life_of (new 0) (open_line i logs o).line ≡ life_of (logs 0) (open_line i logs o).line)
+    (all_imply (λ (o : Opening). life_of (logs 0) o.line ≡ Opened o) (λ (o : Opening). life_of (new 0) (open_line i logs o).line ≡ life_of (logs 0) (open_line i logs o).line)
     (λ other is. life_elsewhere (logs 0) line start knows other.line closed (ap is_opened is)) (left_openings i logs) (left_opened i logs))) in
     sym (left_by_lines i new)
     ∙ ap (filter_map (λ (l : OpenLine). opened_as (life_of (new 0) l.line))) (ap (λ (p : Placing). p.lines) (placing_opened i logs line start knows 0 [] closed some))

@@ -8,12 +8,13 @@ use Rattle.std.proofs.lemmas.List.Elements.{filter-append}
 use Rattle.pblk_model.specs.Image.{Image}
 use Rattle.pblk_world.specs.Events.{EngineEvent, Place, Decides, Logged}
 use Rattle.pblk_world.specs.World.{World, Logs, log_of}
-use Rattle.pblk_world.specs.EngineLog.{life_of, Placed, placed_by, placements, placed_on, answers, answer_by, is_answered}
+use Rattle.pblk_world.specs.EngineLog.{life_of, Placed, placed_by, placements, placed_on, answers, is_answered}
 use Rattle.pblk_world.specs.Legal.{MayDecide, IsLegal}
-use Rattle.pblk_world.proofs.Appending.{answers_more, placements_more}
-use Rattle.core_laws.proofs.Lists.{is_in}
+use Rattle.pblk_world.proofs.Appending.{placements_more}
 use Rattle.core_laws.proofs.Turns.{its_unit, its_turn}
 use Rattle.placed_laws.proofs.Events.{of_legal_log}
+use Rattle.lemmas.proofs.Parts.{is_in, some_within}
+use Rattle.pblk_world.proofs.EngineLogLemmas.{answer_count}
 
 abbrev HasOne : List Logged → Type 0
 HasOne log = (unit : ℕ) → length (placed_on log unit) ≤ length (answers log unit) + 1
@@ -22,11 +23,6 @@ last_of : {X : Type 0} (n : ℕ) (xs : List X) → length xs ≡ suc n → (x : 
 last_of n [] e = absurd (omega (arith, e))
 last_of zero (x ∷ xs) e = (x, refl)
 last_of (suc n) (x ∷ xs) e = last_of n xs (omega (arith, e))
-
-some_within : {X : Type 0} (xs : List X) (k : ℕ) → is_some (slice_get xs k) ≡ true → k < length xs
-some_within [] k e = absurd cc
-some_within (x ∷ xs) zero e = omega arith
-some_within (x ∷ xs) (suc k) e = let rest : k < length xs = some_within xs k e in omega arith
 
 -- where all of them are answered, there are as many answers
 pub all_answered : (log : List Logged) (unit : ℕ) → ((p : Placed) → Contains (placed_on log unit) p → is_answered log p ≡ true) → length (placed_on log unit) ≤ length (answers log unit)
@@ -41,11 +37,6 @@ all_answered log unit idle = go (length (placed_on log unit)) refl
         let within : n < length (answers log unit) = some_within (answers log unit) n answered in
         omega arith
 
-answers_grow : (log : List Logged) (l : Logged) (unit : ℕ) → length (answers log unit) ≤ length (answers (log ++ l ∷ []) unit)
-answers_grow log l unit =
-    let count : length (answers (log ++ l ∷ []) unit) ≡ length (answers log unit) + length (option_to_list (answer_by unit l.event)) = ap length (answers_more log l unit) ∙ length-append (answers log unit) (option_to_list (answer_by unit l.event)) in
-    omega arith
-
 placed_more : (log : List Logged) (l : Logged) (unit : ℕ) → length (placed_on (log ++ l ∷ []) unit) ≡ length (placed_on log unit) + length (filter (λ (p : Placed). p.stripe.unit == unit) (option_to_list (placed_by log (length log) l.event)))
 placed_more log l unit =
     ap (λ (ps : List Placed). length (filter (λ (p : Placed). p.stripe.unit == unit) ps)) (placements_more log l)
@@ -55,11 +46,11 @@ placed_more log l unit =
 -- an event that adds no stripe of the unit
 none_added : (log : List Logged) (l : Logged) (unit : ℕ) → length (filter (λ (p : Placed). p.stripe.unit == unit) (option_to_list (placed_by log (length log) l.event))) ≡ 0
     → length (placed_on log unit) ≤ length (answers log unit) + 1 → length (placed_on (log ++ l ∷ []) unit) ≤ length (answers (log ++ l ∷ []) unit) + 1
-none_added log l unit none has = omega (arith, answers_grow log l unit, placed_more log l unit, none, has)
+none_added log l unit none has = omega (arith, answer_count log l unit, placed_more log l unit, none, has)
 
 one_added : (log : List Logged) (l : Logged) (unit : ℕ) → length (filter (λ (p : Placed). p.stripe.unit == unit) (option_to_list (placed_by log (length log) l.event))) ≤ 1
     → length (placed_on log unit) ≤ length (answers log unit) → length (placed_on (log ++ l ∷ []) unit) ≤ length (answers (log ++ l ∷ []) unit) + 1
-one_added log l unit few has = omega (arith, answers_grow log l unit, placed_more log l unit, few, has)
+one_added log l unit few has = omega (arith, answer_count log l unit, placed_more log l unit, few, has)
 
 at_most_one : {X : Type 0} (b : Bool) (x : X) → length (cond b (x ∷ []) []) ≤ 1
 at_most_one true x = omega arith

@@ -1,5 +1,5 @@
 -- The engine's log of a plain world: what was taken, and that it is placed in order.
-use Rattle.std.proofs.Common.{◌≡◌, ◌⊎◌, inl, inr, ℕ, ◌+◌, ◌-◌, ◌^◌, ◌<◌, ◌≤◌, ◌==◌, ◌&&◌, zero, suc, not, nat_lt, nat_le, min, Bool, true, false, cond, Some, None, Option, List, [], ◌∷◌, ◌++◌, length, take, drop, replicate, refl, sym, subst, ap, ap₂, ◌∙◌, arith, append-nil, length-append}
+use Rattle.std.proofs.Common.{◌≡◌, ◌⊎◌, inl, inr, ℕ, ◌+◌, ◌-◌, ◌<◌, ◌≤◌, ◌==◌, ◌&&◌, zero, suc, not, nat_lt, nat_le, min, Bool, true, false, cond, Some, None, Option, List, [], ◌∷◌, ◌++◌, length, take, drop, replicate, refl, sym, subst, ap, ap₂, ◌∙◌, arith, append-nil}
 use Rattle.std.specs.Prelude.{is_some, if◌then◌else◌, map, slice_range}
 use Rattle.std.specs.List.{AllByRecursion, filter, filter_map, flat_map, list_any, range_with_len, cons_option}
 use Rattle.std.specs.Option.{option_to_list}
@@ -7,8 +7,6 @@ use Rattle.std.proofs.lemmas.List.Elements.{filter_map-append}
 use Rattle.std.proofs.lemmas.Grind.{flat_map-append}
 use Rattle.std.proofs.lemmas.List.FromFn.{length-range_with_len}
 use Rattle.pblk_model.specs.declared.shape.Shape.{Shape}
-use Rattle.pblk_model.specs.declared.chunk.Mark.{Mark}
-use Rattle.pblk_model.specs.Accepted.{IsAccepted}
 use Rattle.pblk_model.specs.Chunk.{Block}
 use Rattle.pblk_model.specs.Blocks.{blocks_of}
 use Rattle.pblk_model.specs.Image.{Image}
@@ -17,28 +15,32 @@ use Rattle.pblk_model.specs.LineOrder.{start_len, end_len}
 use Rattle.pblk_model.specs.StartRecord.{start_bytes}
 use Rattle.pblk_model.specs.EndRecord.{end_bytes}
 use Rattle.pblk_model.specs.Records.{named}
-use Rattle.pblk_world.specs.Events.{EngineEvent, Source, Entry, Stripe, Beginning, Begin, Take, Place, Landed, Lost, Decides, Logged}
+use Rattle.pblk_world.specs.Events.{EngineEvent, Stripe, Beginning, Begin, Take, Place, Landed, Lost, Decides, Logged}
 use Rattle.pblk_world.specs.World.{World, Logs, log_of}
-use Rattle.pblk_world.specs.EngineLog.{Begun, begun, Taken, taken_by, takes, Opening, Placed, placed_by, placements, Answer, DidLand, answer_by, answers, answer_of, turn, is_loss, was_lost, block_of_taken, holds_position}
-use Rattle.pblk_world.specs.Fronts.{first_position, taken, is_users, times_placed, times_lost, was_placed, waits, waiting}
+use Rattle.pblk_world.specs.EngineLog.{Begun, begun, Taken, takes, Opening, Placed, placed_by, placements, Answer, DidLand, answer_by, answers, answer_of, turn, is_loss, was_lost, block_of_taken, holds_position}
+use Rattle.pblk_world.specs.Fronts.{first_position, taken, times_placed, times_lost, was_placed, waits, waiting}
 use Rattle.pblk_world.specs.Space.{placed_front}
 use Rattle.pblk_world.specs.Victims.{position_in}
 use Rattle.pblk_world.specs.Placing.{next_address, end_address, end_record, IsStart, IsData, IsEnd, IsPad, MayPlace, data_blocks, record_blocks}
-use Rattle.pblk_world.specs.Taking.{IsMarked}
 use Rattle.pblk_world.specs.Legal.{IsDecision}
-use Rattle.pblk_world.proofs.Appending.{takes_more, placements_more, answers_more}
+use Rattle.pblk_world.proofs.Appending.{placements_more}
 use Rattle.core_laws.specs.PlainWorlds.{is_plain_decision, IsPlainWorld}
 use Rattle.core_laws.specs.PlacerOf.{positions_of, positions_in_stripe, lost_entries, fresh_entries}
 use Rattle.core_laws.specs.Positions.{AreNumbered, AreMarked}
-use Rattle.core_laws.proofs.Lists.{all_at, filter_same, all_dropped, all_taken, all_replicated}
-use Rattle.core_laws.proofs.Placing.{weaker}
 use Rattle.core_laws.proofs.Numbering.{first_stays, numbered_after}
 use Rattle.core_laws.proofs.KeptPositions.{marked_after}
-use Rattle.core_laws.proofs.PlacedPositions.{all_joined, unnamed}
-use Rattle.stripe_placer.proofs.Chunks.{lt_yes as is_below}
+use Rattle.core_laws.proofs.PlacedPositions.{unnamed}
 use Rattle.placed_laws.specs.Placed.{placed_positions, placed_count}
 use Rattle.placed_laws.proofs.Events.{IsKept, of_plain_log}
 use Rattle.placed_laws.proofs.Placed.{is_in_list, some_hold, was_placed_by, rest_are_last, placed_are_first, range_dropped, range_taken, range_joined, in_range}
+use Rattle.core_laws.proofs.PlacerOfLemmas.{positions_taken}
+use Rattle.lemmas.proofs.Lists.{all_append, all_imply, all_replicated}
+use Rattle.lemmas.proofs.Maps.{filter_same}
+use Rattle.lemmas.proofs.Parts.{all_at, all_dropped, all_taken}
+use Rattle.lemmas.proofs.Tests.{lt_true}
+use Rattle.pblk_model.proofs.MarksLemmas.{accepted_small}
+use Rattle.pblk_world.proofs.EngineLogLemmas.{answers_more, takes_grow, takes_more}
+use Rattle.pblk_world.proofs.TakingLemmas.{users_mark}
 
 -- ---- blocks without positions
 
@@ -118,18 +120,13 @@ entries_bear : (s : Shape) (ts : List Taken) → AllByRecursion (λ (t : Taken).
     → filter_map (position_in s) (map block_of_taken ts) ≡ positions_of ts
 entries_bear s [] named marked = refl
 entries_bear s (t ∷ ts) named marked =
-    ap (λ b. cons_option (if is_some (if b then Some (Some t.mark.lba) else (if t.mark.lba == void_lba then Some None else None)) then Some t.mark.position else None) (filter_map (position_in s) (map block_of_taken ts))) (is_below t.mark.lba s.capacity named.0)
+    ap (λ b. cons_option (if is_some (if b then Some (Some t.mark.lba) else (if t.mark.lba == void_lba then Some None else None)) then Some t.mark.position else None) (filter_map (position_in s) (map block_of_taken ts))) (lt_true t.mark.lba s.capacity named.0)
     ∙ ap₂ (λ q qs. q ∷ qs) marked.0 (entries_bear s ts named.1 marked.1)
 
 positions_dropped : (n : ℕ) (ts : List Taken) → positions_of (drop n ts) ≡ drop n (positions_of ts)
 positions_dropped zero ts = refl
 positions_dropped (suc n) [] = refl
 positions_dropped (suc n) (t ∷ ts) = positions_dropped n ts
-
-positions_taken : (n : ℕ) (ts : List Taken) → positions_of (take n ts) ≡ take n (positions_of ts)
-positions_taken zero ts = refl
-positions_taken (suc n) [] = refl
-positions_taken (suc n) (t ∷ ts) = ap (λ qs. t.entry.position ∷ qs) (positions_taken n ts)
 
 data_positions : (s : Shape) (log : List Logged) → s.capacity ≤ meta_lba → AreNumbered log → AreMarked log → AreNamed s log → HaveNoLoss log → (order : AreInOrder s log)
     → filter_map (position_in s) (data_blocks s log) ≡ range_with_len (first_position log + order.count) (min s.ws_opt (length (takes log) - order.count))
@@ -180,18 +177,14 @@ next_in_order i logs stripe small is may = by_kind i logs stripe may.opening sma
 
 -- ---- what each event keeps
 
-own_mark : (i : Image) (known : Logs) (entry : Entry) (mark : Mark) (source : Option Source) → is_users source ≡ true → IsMarked i known entry mark source → mark.lba ≡ entry.lba
-own_mark i known entry mark None users is = ap (λ (m : Mark). m.lba) is
-own_mark i known entry mark (Some source) users is = absurd cc
-
 named_after : (i : Image) (known : Logs) (log : List Logged) (beginning : Begun) (e : EngineEvent) (knows : List ℕ) → IsDecision i known beginning e → is_plain_decision e ≡ true
     → AreNamed i.shape log → AreNamed i.shape (log ++ record { event = Decides e; knows = knows } ∷ [])
 named_after i known log beginning (Take entry mark) knows may plain is =
     let l : Logged = record { event = Decides (Take entry mark); knows = knows } in
-    let same : mark.lba ≡ entry.lba = own_mark i known entry mark entry.source plain may.marked in
+    let same : mark.lba ≡ entry.lba = users_mark i known entry mark entry.source plain may.marked in
     let below : entry.lba < i.shape.capacity = may.lba in
     subst (AllByRecursion (λ (t : Taken). t.mark.lba < i.shape.capacity)) (sym (takes_more log l))
-    (all_joined (λ (t : Taken). t.mark.lba < i.shape.capacity) (takes log) (record { entry = entry; mark = mark } ∷ []) is (omega arith, tt))
+    (all_append (λ (t : Taken). t.mark.lba < i.shape.capacity) (takes log) (record { entry = entry; mark = mark } ∷ []) is (omega arith, tt))
 named_after i known log beginning e knows may plain is =
     let l : Logged = record { event = Decides e; knows = knows } in
     subst (AllByRecursion (λ (t : Taken). t.mark.lba < i.shape.capacity)) (sym (takes_more log l ∙ append-nil (takes log))) is
@@ -208,12 +201,7 @@ pub no_loss_after : (log : List Logged) (e : EngineEvent) (knows : List ℕ) →
 no_loss_after log e knows plain none unit =
     let l : Logged = record { event = Decides e; knows = knows } in
     subst (AllByRecursion (λ (a : Answer). is_loss (Some a) ≡ false)) (sym (answers_more log l unit))
-    (all_joined (λ (a : Answer). is_loss (Some a) ≡ false) (answers log unit) (option_to_list (answer_by unit (Decides e))) (none unit) (answer_is_none e unit plain))
-
-takes_grow : (log : List Logged) (l : Logged) → length (takes log) ≤ length (takes (log ++ l ∷ []))
-takes_grow log l =
-    let count : length (takes (log ++ l ∷ [])) ≡ length (takes log) + length (option_to_list (taken_by l.event)) = ap (λ (ts : List Taken). length ts) (takes_more log l) ∙ length-append (takes log) (option_to_list (taken_by l.event)) in
-    omega arith
+    (all_append (λ (a : Answer). is_loss (Some a) ≡ false) (answers log unit) (option_to_list (answer_by unit (Decides e))) (none unit) (answer_is_none e unit plain))
 
 order_with : (s : Shape) (log : List Logged) (e : EngineEvent) (knows : List ℕ) (beginning : Begun) → begun log ≡ Some beginning → (order : AreInOrder s log) (n : ℕ) → order.count + n ≤ length (takes log)
     → flat_map (λ (p : Placed). positions_in_stripe s p.stripe) (option_to_list (placed_by log (length log) (Decides e))) ≡ range_with_len (first_position log + order.count) n
@@ -258,13 +246,10 @@ kept i small log known (Begin b) knows own may plain is =
     subst (λ (xs : List Logged). IsOrdered i.shape (xs ++ record { event = Decides (Begin b); knows = knows } ∷ [])) (sym may.is_first ∙ own) (begins_ordered i.shape b knows)
 kept i small log known e knows own may plain is = kept_after i known log may.0 e knows small (ap begun (sym own) ∙ may.1) own may.2 plain is
 
-pub small_capacity : (s : Shape) → IsAccepted s → s.capacity ≤ meta_lba
-small_capacity s is = let few : s.capacity < 2 ^ 40 = is.target.capacity_number in omega arith
-
 pub ordered : (i : Image) (w : World) → IsPlainWorld i w → IsOrdered i.shape (log_of w 0)
 ordered i w is = of_plain_log i (IsOrdered i.shape)
     (record { numbered = refl; marked = tt; named = tt; no_loss = λ unit. tt; order = record { count = 0; within = omega arith; placed = refl } })
-    (kept i (small_capacity i.shape is.accepted)) w is
+    (kept i (accepted_small i.shape is.accepted)) w is
 
 -- ---- what that says
 
@@ -310,14 +295,14 @@ from_first a zero (t ∷ ts) is = absurd cc
 from_first a (suc n) (t ∷ ts) is =
     let first : t.entry.position ≡ a = cc in
     let rest : positions_of ts ≡ range_with_len (a + 1) n = cc in
-    (omega arith, weaker (λ (u : Taken). a + 1 ≤ u.entry.position) (λ (u : Taken). a ≤ u.entry.position) (λ u h. omega arith) ts (from_first (a + 1) n ts rest))
+    (omega arith, all_imply (λ (u : Taken). a + 1 ≤ u.entry.position) (λ (u : Taken). a ≤ u.entry.position) (λ u h. omega arith) ts (from_first (a + 1) n ts rest))
 
 not_under : (a q : ℕ) (b : Bool) → a ≤ q → (nat_le a q && b) ≡ b
 not_under a q b above = grind arith
 
 pub placed_below : (s : Shape) (log : List Logged) → IsOrdered s log → AllByRecursion (λ (t : Taken). was_placed s log t ≡ nat_lt t.entry.position (placed_front s log)) (takes log)
 placed_below s log is =
-    weaker (λ (t : Taken). first_position log ≤ t.entry.position) (λ (t : Taken). was_placed s log t ≡ nat_lt t.entry.position (placed_front s log))
+    all_imply (λ (t : Taken). first_position log ≤ t.entry.position) (λ (t : Taken). was_placed s log t ≡ nat_lt t.entry.position (placed_front s log))
     (λ t above. was_placed_by s log t ∙ ap (λ xs. is_in_list xs t.entry.position) (in_order s log is) ∙ in_range (first_position log) (placed_count s log) t.entry.position
     ∙ not_under (first_position log) t.entry.position (nat_lt t.entry.position (placed_front s log)) above)
     (takes log) (from_first (first_position log) (length (takes log)) (takes log) is.numbered)

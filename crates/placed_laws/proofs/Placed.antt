@@ -11,10 +11,10 @@ use Rattle.pblk_world.specs.EngineLog.{Taken, Placed, placements, bears_position
 use Rattle.pblk_world.specs.Fronts.{was_placed}
 use Rattle.pblk_world.specs.Victims.{position_in}
 use Rattle.core_laws.specs.PlacerOf.{positions_of, positions_in_stripe}
-use Rattle.core_laws.proofs.Lists.{filter_agree}
-use Rattle.core_laws.proofs.Rows.{other_number, same_number}
 use Rattle.core_laws.proofs.Removing.{above as above_all}
 use Rattle.placed_laws.specs.Placed.{placed_positions}
+use Rattle.lemmas.proofs.Maps.{filter_agree}
+use Rattle.lemmas.proofs.Tests.{other_number, same_number}
 
 abbrev pub is_in_list : List ℕ → ℕ → Bool
 is_in_list xs q = list_any (λ x. x == q) xs

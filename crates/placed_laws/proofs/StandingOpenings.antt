@@ -8,10 +8,12 @@ use Rattle.std.proofs.lemmas.Option.{same_Some, none-some}
 use Rattle.pblk_world.specs.Events.{Open, Free, Event, Decides, Logged}
 use Rattle.pblk_world.specs.EngineLog.{LineLife, AsFound, Opened, Freed, is_life, life_of, turned, turned_by, last_opening, Opening, opened_by, openings}
 use Rattle.core_laws.specs.OpenedLines.{standing}
-use Rattle.core_laws.proofs.Lists.{all_at, all_filter, zipped}
 use Rattle.core_laws.proofs.PlacedLines.{IsStanding, all_standing}
 use Rattle.core_laws.proofs.Engine.{opened_number}
 use Rattle.core_laws.proofs.Numbers.{get_middle, made_at}
+use Rattle.lemmas.proofs.Lists.{zipped}
+use Rattle.lemmas.proofs.Maps.{all_filter}
+use Rattle.lemmas.proofs.Parts.{all_at}
 
 -- the opening that is the event of this number
 abbrev pub opening_at : List Logged → ℕ → Option Opening

@@ -1,5 +1,5 @@
 -- Each stripe has as many blocks as a program writes, and a line has marks for its data.
-use Rattle.std.proofs.Common.{◌≡◌, ◌⊎◌, inl, inr, ℕ, ◌+◌, ◌-◌, ◌*◌, ◌/◌, ◌%◌, ◌<◌, ◌≤◌, ◌&&◌, suc, not, nat_lt, nat_eq, min, Bool, true, false, List, [], ◌∷◌, ◌++◌, length, take, drop, replicate, refl, sym, subst, ap, ap₂, ◌∙◌, arith, length-append, length-take, length-drop, div-add-mod'}
+use Rattle.std.proofs.Common.{◌≡◌, ◌⊎◌, inl, inr, ℕ, ◌+◌, ◌-◌, ◌*◌, ◌/◌, ◌%◌, ◌<◌, ◌≤◌, ◌&&◌, not, nat_lt, nat_eq, min, Bool, true, false, List, [], ◌∷◌, ◌++◌, length, take, drop, replicate, refl, sym, subst, ap, ap₂, ◌∙◌, arith, length-append, length-take, length-drop, div-add-mod'}
 use Rattle.std.specs.Prelude.{slice_range, map, if◌then◌else◌}
 use Rattle.std.specs.List.{AllByRecursion, flat_map}
 use Rattle.std.specs.Option.{option_to_list}
@@ -9,12 +9,10 @@ use Rattle.std.proofs.lemmas.Nat.{mul-add-lt}
 use Rattle.std.proofs.lemmas.Bool.{cases_order}
 use Rattle.pblk_world.specs.Starts.{start_stripes}
 use Rattle.pblk_model.specs.declared.shape.Shape.{Shape}
-use Rattle.pblk_model.specs.declared.chunk.Mark.{Mark}
 use Rattle.pblk_model.specs.Accepted.{IsAccepted}
 use Rattle.pblk_model.specs.Chunk.{Block}
-use Rattle.pblk_model.specs.Blocks.{blocks_of}
 use Rattle.pblk_model.specs.Image.{Image}
-use Rattle.pblk_model.specs.Marks.{meta_mark, pad_block}
+use Rattle.pblk_model.specs.Marks.{pad_block}
 use Rattle.pblk_model.specs.LineOrder.{start_len, end_len, data_len}
 use Rattle.pblk_model.specs.StartRecord.{StartRecord, start_bytes}
 use Rattle.pblk_model.specs.EndRecord.{end_bytes}
@@ -26,10 +24,14 @@ use Rattle.pblk_world.specs.Lines.{known_image, has_number, are_empty, line_data
 use Rattle.pblk_world.specs.Placing.{next_address, end_address, end_record, data_marks, IsStart, IsData, IsEnd, IsPad, record_blocks}
 use Rattle.pblk_world.specs.Legal.{MayDecide, IsLegal}
 use Rattle.pblk_world.proofs.Appending.{life_more, placements_more}
-use Rattle.core_laws.proofs.Lists.{all_filter}
-use Rattle.core_laws.proofs.PlacedPositions.{all_joined}
-use Rattle.stripe_placer.proofs.Rows.{length_map as length_mapped, length_replicate as length_replicated}
+use Rattle.stripe_placer.proofs.Rows.{length_map as length_mapped}
 use Rattle.placed_laws.proofs.Events.{of_legal_log}
+use Rattle.lemmas.proofs.Lists.{all_append, length_replicate}
+use Rattle.lemmas.proofs.Maps.{all_filter}
+use Rattle.lemmas.proofs.Parts.{part_is_whole}
+use Rattle.pblk_model.proofs.LineOrderLemmas.{whole_line}
+use Rattle.pblk_world.proofs.EngineLogLemmas.{opened_same}
+use Rattle.pblk_world.proofs.PlacingLemmas.{length_record}
 
 -- ---- numbers
 
@@ -45,42 +47,17 @@ whole_chunks c w g even =
     let is : c ≡ c / w * w = omega arith in
     ap (λ n. g * n) is ∙ sym (mul_assoc g (c / w) w) ∙ mul_comm (g * (c / w)) w
 
--- the end record ends where its line does
-pub data_ends : (s : Shape) (g : ℕ) → 0 < data_len s g → start_len s + data_len s g + end_len s g ≡ g * s.clba
-data_ends s g some = go (nat_lt (g * s.clba - start_len s - end_len s g) s.ws_opt) refl some
-  where
-    go : (b : Bool) → nat_lt (g * s.clba - start_len s - end_len s g) s.ws_opt ≡ b → 0 < (if b then 0 else g * s.clba - start_len s - end_len s g)
-        → start_len s + (if b then 0 else g * s.clba - start_len s - end_len s g) + end_len s g ≡ g * s.clba
-    go true e some = absurd (omega arith)
-    go false e some = by_parts (g * s.clba) (start_len s) (end_len s g) some
-      where
-        by_parts : (n a b : ℕ) → 0 < n - a - b → a + (n - a - b) + b ≡ n
-        by_parts n a b some = omega arith
-
 -- ---- lengths
-
-pub length_blocks : (size : ℕ) (bytes : List ℕ) (marks : List Mark) → length (blocks_of size bytes marks) ≡ length marks
-length_blocks size bytes [] = refl
-length_blocks size bytes (m ∷ marks) = ap suc (length_blocks size (drop size bytes) marks)
-
-length_record : (s : Shape) (seq count : ℕ) (bytes : List ℕ) → length (record_blocks s seq count bytes) ≡ count
-length_record s seq count bytes = length_blocks s.sector bytes (replicate count (meta_mark seq)) ∙ length_replicated count (meta_mark seq)
 
 length_part : {X : Type 0} (xs : List X) (a b : ℕ) → length (slice_range xs a b) ≡ min (b - a) (length xs - a)
 length_part xs a b = length-take (b - a) (drop a xs) ∙ ap (min (b - a)) (length-drop a xs)
-
-part_is_whole : {X : Type 0} (xs : List X) (a w : ℕ) → a + w ≤ length xs → length (slice_range xs a (a + w)) ≡ w
-part_is_whole xs a w within = length_part xs a (a + w) ∙ by_min (length xs) within
-  where
-    by_min : (n : ℕ) → a + w ≤ n → min (a + w - a) (n - a) ≡ w
-    by_min n within = omega arith
 
 pads_fill : (s : Shape) (ts : List Taken) → length (map block_of_taken (take s.ws_opt ts) ++ replicate (s.ws_opt - length (map block_of_taken (take s.ws_opt ts))) (pad_block s)) ≡ s.ws_opt
 pads_fill s ts =
     let few : length (map block_of_taken (take s.ws_opt ts)) ≡ min s.ws_opt (length ts) = length_mapped block_of_taken (take s.ws_opt ts) ∙ length-take s.ws_opt ts in
     let sum : length (map block_of_taken (take s.ws_opt ts) ++ replicate (s.ws_opt - length (map block_of_taken (take s.ws_opt ts))) (pad_block s)) ≡ length (map block_of_taken (take s.ws_opt ts)) + length (replicate (s.ws_opt - length (map block_of_taken (take s.ws_opt ts))) (pad_block s)) =
     length-append (map block_of_taken (take s.ws_opt ts)) (replicate (s.ws_opt - length (map block_of_taken (take s.ws_opt ts))) (pad_block s)) in
-    let rest : length (replicate (s.ws_opt - length (map block_of_taken (take s.ws_opt ts))) (pad_block s)) ≡ s.ws_opt - length (map block_of_taken (take s.ws_opt ts)) = length_replicated (s.ws_opt - length (map block_of_taken (take s.ws_opt ts))) (pad_block s) in
+    let rest : length (replicate (s.ws_opt - length (map block_of_taken (take s.ws_opt ts))) (pad_block s)) ≡ s.ws_opt - length (map block_of_taken (take s.ws_opt ts)) = length_replicate (s.ws_opt - length (map block_of_taken (take s.ws_opt ts))) (pad_block s) in
     omega arith
 
 -- ---- a stripe that may be placed
@@ -104,7 +81,7 @@ end_whole i logs o stripe some even wide is =
     let chunks : o.start.width * i.shape.clba ≡ i.shape.ws_opt * (o.start.width * (i.shape.clba / i.shape.ws_opt)) = whole_chunks i.shape.clba i.shape.ws_opt o.start.width even in
     let room : next_address i.shape (logs 0) o + i.shape.ws_opt ≤ i.shape.ws_opt * (o.start.width * (i.shape.clba / i.shape.ws_opt)) =
     whole_step (length (stripes_of (logs 0) o)) i.shape.ws_opt (o.start.width * (i.shape.clba / i.shape.ws_opt)) some (subst (λ n. next_address i.shape (logs 0) o < n) chunks is.within) in
-    let ends : start_len i.shape + data_len i.shape o.start.width + end_len i.shape o.start.width ≡ o.start.width * i.shape.clba = data_ends i.shape o.start.width wide in
+    let ends : start_len i.shape + data_len i.shape o.start.width + end_len i.shape o.start.width ≡ o.start.width * i.shape.clba = whole_line i.shape o.start.width wide in
     let within : next_address i.shape (logs 0) o + i.shape.ws_opt ≤ end_address i.shape o + end_len i.shape o.start.width = subst (λ n. next_address i.shape (logs 0) o + i.shape.ws_opt ≤ n) (sym chunks ∙ sym ends) room in
     ap (λ (bs : List Block). length bs) is.blocks
     ∙ part_is_whole (record_blocks i.shape o.start.seq (end_len i.shape o.start.width) (end_bytes i.shape (end_record i.shape (logs 0) o))) (next_address i.shape (logs 0) o - end_address i.shape o) i.shape.ws_opt
@@ -118,7 +95,7 @@ by_kind : (i : Image) (logs : Logs) (o : Opening) (stripe : Stripe) → 0 < i.sh
 by_kind i logs o stripe some even wide (inl is) = start_whole i logs o stripe some is
 by_kind i logs o stripe some even wide (inr (inl is)) = ap (λ (bs : List Block). length bs) is.blocks ∙ pads_fill i.shape (waiting i.shape (logs 0))
 by_kind i logs o stripe some even wide (inr (inr (inl is))) = end_whole i logs o stripe some even wide is
-by_kind i logs o stripe some even wide (inr (inr (inr is))) = ap (λ (bs : List Block). length bs) is.blocks ∙ length_replicated i.shape.ws_opt (pad_block i.shape)
+by_kind i logs o stripe some even wide (inr (inr (inr is))) = ap (λ (bs : List Block). length bs) is.blocks ∙ length_replicate i.shape.ws_opt (pad_block i.shape)
 
 -- ---- each stripe of a legal world
 
@@ -139,9 +116,6 @@ free_is_wide i known line is = go (not (has_number i known (life_of (known 0) li
     go true false c e f = absurd cc
     go false b c e f = absurd cc
 
-opened_is : (o p : Opening) → Opened o ≡ Opened p → o ≡ p
-opened_is o p e = cc
-
 pub wide_after : (i : Image) (known : Logs) (log : List Logged) (e : EngineEvent) (knows : List ℕ) → MayDecide i known e
     → ((line : ℕ) (o : Opening) → life_of log line ≡ Opened o → 0 < data_len i.shape o.start.width)
     → (line : ℕ) (o : Opening) → life_of (log ++ record { event = Decides e; knows = knows } ∷ []) line ≡ Opened o → 0 < data_len i.shape o.start.width
@@ -149,7 +123,7 @@ wide_after i known log (Open other start) knows may before line o is = go (nat_e
   where
     go : (b : Bool) → (if b then Opened (record { number = length log; line = line; start = start; knows = knows }) else life_of log line) ≡ Opened o → 0 < data_len i.shape o.start.width
     go true e =
-        let same : start ≡ o.start = ap (λ (x : Opening). x.start) (opened_is (record { number = length log; line = line; start = start; knows = knows }) o e) in
+        let same : start ≡ o.start = ap (λ (x : Opening). x.start) (opened_same (record { number = length log; line = line; start = start; knows = knows }) o e) in
         subst (λ (x : StartRecord). 0 < data_len i.shape x.width) same (subst (λ n. 0 < data_len i.shape n) (sym may.2.own_width) (free_is_wide i known other may.2.is_free))
     go false e = before line o e
 wide_after i known log (Free other) knows may before line o is = go (nat_eq other line) (sym (life_more log (record { event = Decides (Free other); knows = knows }) line) ∙ is)
@@ -171,7 +145,7 @@ blocks_kept : (i : Image) → IsAccepted i.shape → (log : List Logged) (known 
 blocks_kept i accepted log known e knows own may is = record {
   wide = wide_after i known log e knows may is.wide;
   blocks = subst (AllByRecursion (λ (p : Placed). length p.stripe.blocks ≡ i.shape.ws_opt)) (sym (placements_more log (record { event = Decides e; knows = knows })))
-      (all_joined (λ (p : Placed). length p.stripe.blocks ≡ i.shape.ws_opt) (placements log) (option_to_list (placed_by log (length log) (Decides e))) is.blocks (blocks_after i known log e knows accepted own may is));
+      (all_append (λ (p : Placed). length p.stripe.blocks ≡ i.shape.ws_opt) (placements log) (option_to_list (placed_by log (length log) (Decides e))) is.blocks (blocks_after i known log e knows accepted own may is));
 }
 
 pub have_blocks : (i : Image) (w : World) → IsAccepted i.shape → IsLegal i w → HaveBlocks i.shape (log_of w 0)

@@ -24,15 +24,12 @@ use Rattle.pblk_world.specs.Victims.{engine_prefix}
 use Rattle.pblk_world.proofs.Appending.{life_more}
 use Rattle.stripe_placer.specs.OpenLines.{Stripe, OpenLine, width, unit_of, is_landed, has_left}
 use Rattle.stripe_placer.specs.OpenLines.Stripe.{Unplaced}
-use Rattle.stripe_placer.proofs.Among.{IsAmong}
-use Rattle.stripe_placer.proofs.Rows.{length_map as length_mapped, length_replicate as length_replicated}
+use Rattle.stripe_placer.proofs.Rows.{length_map as length_mapped}
 use Rattle.core_laws.specs.PlainWorlds.{IsPlainWorld}
 use Rattle.core_laws.specs.OpenedLines.{bits_of, opened_units, as_opened, is_stripe_at, by_answer, became, placed_as, outcome, open_line, open_lines, standing}
-use Rattle.core_laws.proofs.Lists.{fun_same, all_at, got_within}
 use Rattle.core_laws.proofs.Numbers.{life_at}
 use Rattle.core_laws.proofs.Stripes.{at_its_place}
-use Rattle.core_laws.proofs.Turns.{found_is, filtered_is}
-use Rattle.core_laws.proofs.Tests.{no_both}
+use Rattle.core_laws.proofs.Turns.{filtered_is}
 use Rattle.placed_laws.specs.LeftOpenings.{left_openings}
 use Rattle.placed_laws.specs.StripePrograms.{HasHappened}
 use Rattle.placed_laws.proofs.Ordered.{HaveNoLoss}
@@ -41,15 +38,22 @@ use Rattle.placed_laws.proofs.EntryHolds.{found_any}
 use Rattle.placed_laws.proofs.LandedLines.{left_by_landing, none_lost_in}
 use Rattle.placed_laws.proofs.LeftLines.{lines_of_left, left_opened, left_apart}
 use Rattle.placed_laws.proofs.StandingOpenings.{opening_at, life_there, NumbersRise, rise_filtered, standing_rise}
-use Rattle.placed_laws.proofs.StripeBlocks.{data_ends}
 use Rattle.placed_laws.proofs.Happened.{happened}
 use Rattle.placed_laws.proofs.KnownImages.{known_by_prefix}
-use Rattle.placed_laws.proofs.KnownChunks.{take_next, length_known, units_by_live}
+use Rattle.placed_laws.proofs.KnownChunks.{units_by_live}
 use Rattle.placed_laws.specs.StripeTurns.{IsAtTurn}
 use Rattle.placed_laws.proofs.GoingLines.{landed_on, IsGoing}
 use Rattle.placed_laws.proofs.GoingAll.{IsWell, all_well}
 use Rattle.placed_laws.proofs.UnitBits.{RisesFrom, rises_lower, units_of_bits}
 use Rattle.placed_laws.proofs.FullLines.{IsLandedWhole, over_landed, landed_stays, all_placed, all_landed}
+use Rattle.lemmas.proofs.Lists.{IsAmong, length_replicate}
+use Rattle.lemmas.proofs.Maps.{found_passes}
+use Rattle.lemmas.proofs.Numbers.{fun_same}
+use Rattle.lemmas.proofs.Parts.{all_at, got_within, take_next}
+use Rattle.lemmas.proofs.Tests.{no_both}
+use Rattle.pblk_model.proofs.LineOrderLemmas.{whole_line}
+use Rattle.pblk_world.proofs.LinesLemmas.{length_known}
+use Rattle.pblk_world.proofs.VictimsLemmas.{whole_prefix}
 
 -- ---- prefixes
 
@@ -58,13 +62,6 @@ prefix_prefix logs n k h = fun_same (engine_prefix n (engine_prefix k logs)) (en
   where
     each : (author : ℕ) → engine_prefix n (engine_prefix k logs) author ≡ engine_prefix n logs author
     each zero = cut_cut n k (logs 0) h
-    each (suc unit) = refl
-
-pub whole_prefix : (logs : Logs) → engine_prefix (length (logs 0)) logs ≡ logs
-whole_prefix logs = fun_same (engine_prefix (length (logs 0)) logs) logs each
-  where
-    each : (author : ℕ) → engine_prefix (length (logs 0)) logs author ≡ logs author
-    each zero = take_all (length (logs 0)) (logs 0) (le_refl (length (logs 0)))
     each (suc unit) = refl
 
 -- ---- the units of a line rise
@@ -119,7 +116,7 @@ full_line i logs k line o accepted few same before wide is none whole =
         ∙ line_units_of_bits (known_image i (engine_prefix o.number logs)) line (subst (λ n. n ≤ 64) (sym (length_known i (engine_prefix o.number logs))) few)
 
     count : length (as_opened i (engine_prefix k logs) o).stripes ≡ length (line_units (known_image i (engine_prefix o.number logs)) line) * (i.shape.clba / i.shape.ws_opt)
-    count = length_replicated (length (units_in (as_opened i (engine_prefix k logs) o).live) * (i.shape.clba / i.shape.ws_opt)) Unplaced ∙ ap (λ (us : List ℕ). length us * (i.shape.clba / i.shape.ws_opt)) live
+    count = length_replicate (length (units_in (as_opened i (engine_prefix k logs) o).live) * (i.shape.clba / i.shape.ws_opt)) Unplaced ∙ ap (λ (us : List ℕ). length us * (i.shape.clba / i.shape.ws_opt)) live
 
     placed : i.shape.clba / i.shape.ws_opt * length (line_units (known_image i (engine_prefix o.number logs)) line) ≤ length (stripes_of (take k (logs 0)) o)
     placed = all_placed i logs k line o wide is whole
@@ -139,7 +136,7 @@ full_line i logs k line o accepted few same before wide is none whole =
         some_found (placed_as i.shape (take k (logs 0)) o (as_opened i (engine_prefix k logs) o) j)
         (found_any (λ (p : Placed). is_stripe_at i.shape (as_opened i (engine_prefix k logs) o) p.stripe.unit p.stripe.at j) (stripes_of (take k (logs 0)) o)
         ∙ passed_by (λ (p : Placed). is_stripe_at i.shape (as_opened i (engine_prefix k logs) o) p.stripe.unit p.stripe.at j) (stripes_of (take k (logs 0)) o) at.0 j at.1 here) in
-        let its : IsAmong (stripes_of (take k (logs 0)) o) found.0 = (found_is (λ (p : Placed). is_stripe_at i.shape (as_opened i (engine_prefix k logs) o) p.stripe.unit p.stripe.at j) (stripes_of (take k (logs 0)) o) found.0 found.1).1 in
+        let its : IsAmong (stripes_of (take k (logs 0)) o) found.0 = (found_passes (λ (p : Placed). is_stripe_at i.shape (as_opened i (engine_prefix k logs) o) p.stripe.unit p.stripe.at j) (stripes_of (take k (logs 0)) o) found.0 found.1).1 in
         ap (λ x. is_landed (became (take k (logs 0)) x)) found.1
         ∙ landed_answer (answer_of (take k (logs 0)) found.0) (all_landed i logs k line o accepted.drive.ws_opt accepted.drive.whole_stripes is none whole its.0 found.0 its.1)
 
@@ -147,7 +144,7 @@ full_line i logs k line o accepted few same before wide is none whole =
 
 pub wide_width : (s : Shape) (g : ℕ) → 0 < data_len s g → 0 < g
 wide_width s zero some =
-    let ends : start_len s + data_len s 0 + end_len s 0 ≡ 0 * s.clba = data_ends s 0 some in
+    let ends : start_len s + data_len s 0 + end_len s 0 ≡ 0 * s.clba = whole_line s 0 some in
     let none : 0 * s.clba ≡ 0 = zero-mul s.clba in
     absurd (omega (arith, ends, none, some))
 wide_width s (suc g) some = omega arith

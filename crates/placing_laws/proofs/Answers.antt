@@ -1,14 +1,13 @@
 -- What has landed stays so, and in a plain log nothing is lost.
-use Rattle.std.proofs.Common.{◌≡◌, ℕ, ◌==◌, ◌&&◌, ◌||◌, zero, suc, nat_lt, Bool, true, false, Some, None, Option, List, [], ◌∷◌, ◌++◌, length, refl, sym, ap, ap₂, ◌∙◌, if◌then◌else◌}
+use Rattle.std.proofs.Common.{◌≡◌, ℕ, ◌==◌, ◌&&◌, zero, suc, nat_lt, Bool, true, false, Some, None, Option, List, [], ◌∷◌, ◌++◌, length, refl, sym, ap, ap₂, ◌∙◌, if◌then◌else◌}
 use Rattle.std.specs.Prelude.{slice_get}
-use Rattle.std.specs.List.{AllByRecursion, filter, cons_option, list_all, list_any}
+use Rattle.std.specs.List.{AllByRecursion, filter, cons_option, list_all}
 use Rattle.std.specs.Option.{option_to_list}
 use Rattle.std.proofs.lemmas.Option.{same_Some, none-some}
 use Rattle.pblk_world.specs.Events.{Landed, Lost, Event, Decides, Logged}
-use Rattle.pblk_world.specs.EngineLog.{Placed, placements, Answer, DidLand, answer_by, answers, turn, is_land, is_loss, has_landed, was_lost, Opening, stripes_of, has_failed}
-use Rattle.pblk_world.proofs.Appending.{answers_more}
+use Rattle.pblk_world.specs.EngineLog.{Placed, placements, Answer, DidLand, answer_by, answers, turn, is_land, is_loss, has_landed}
 use Rattle.core_laws.specs.PlainWorlds.{is_plain_event, ArePlain}
-use Rattle.core_laws.proofs.Lists.{get_more}
+use Rattle.pblk_world.proofs.EngineLogLemmas.{answers_more, land_more}
 
 -- ---- nothing is lost
 
@@ -37,24 +36,7 @@ get_not_lost [] k all = refl
 get_not_lost (a ∷ xs) zero all = all.0
 get_not_lost (a ∷ xs) (suc k) all = get_not_lost xs k all.1
 
-pub not_lost : (log : List Logged) (p : Placed) → ArePlain log → was_lost log p ≡ false
-not_lost log p plain = get_not_lost (answers log p.stripe.unit) (turn log p) (none_lost p.stripe.unit log plain)
-
-none_fails : (log : List Logged) (ps : List Placed) → ArePlain log → list_any (was_lost log) ps ≡ false
-none_fails log [] plain = refl
-none_fails log (p ∷ ps) plain = ap₂ (λ a b. a || b) (not_lost log p plain) (none_fails log ps plain)
-
-pub not_failed : (log : List Logged) (o : Opening) → ArePlain log → has_failed log o ≡ false
-not_failed log o plain = none_fails log (stripes_of log o) plain
-
 -- ---- what has landed stays so
-
-land_more : (xs ys : List Answer) (n : ℕ) → is_land (slice_get xs n) ≡ true → is_land (slice_get (xs ++ ys) n) ≡ true
-land_more xs ys n e = go (slice_get xs n) refl e
-  where
-    go : (o : Option Answer) → slice_get xs n ≡ o → is_land o ≡ true → is_land (slice_get (xs ++ ys) n) ≡ true
-    go None f is = absurd cc
-    go (Some a) f is = ap is_land (get_more xs ys n a f) ∙ is
 
 abbrev turn_in : List Placed → Placed → ℕ
 turn_in ps p = length (filter (λ (q : Placed). nat_lt q.number p.number) (filter (λ (q : Placed). q.stripe.unit == p.stripe.unit) ps))

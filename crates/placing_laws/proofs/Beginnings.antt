@@ -1,10 +1,9 @@
 -- What the engine of a plain world was told, and with what its mount began, as the logs grow.
-use Rattle.std.proofs.Common.{◌≡◌, ◌≢◌, ◌⊎◌, inl, inr, ℕ, ◌+◌, ◌<◌, ◌≤◌, ◌==◌, zero, suc, nat_eq, nat_lt, Bool, true, false, Some, None, Option, List, [], ◌∷◌, ◌++◌, map, length, take, refl, sym, subst, ap, ap₂, ◌∙◌, arith, if◌then◌else◌, length-append}
+use Rattle.std.proofs.Common.{◌≡◌, ◌≢◌, ◌⊎◌, inl, inr, ℕ, ◌+◌, ◌<◌, ◌≤◌, ◌==◌, zero, suc, nat_eq, nat_lt, Bool, true, false, Some, None, Option, List, [], ◌∷◌, ◌++◌, map, length, take, refl, sym, subst, ap, ap₂, ◌∙◌, arith, if◌then◌else◌}
 use Rattle.std.specs.Prelude.{slice_get, slice_index, ⊤}
 use Rattle.std.specs.List.{AllByRecursion, Contains, filter_map, enumerate_from}
 use Rattle.std.specs.Option.{option_map, option_and_then}
 use Rattle.std.proofs.lemmas.Bool.{eqb-true}
-use Rattle.std.proofs.lemmas.List.{take-append-le}
 use Rattle.std.proofs.lemmas.Option.{same_Some, none-some, slice_get-get_or}
 use Rattle.pblk_model.specs.declared.chunk.ChunkState.TheVariants as states
 use Rattle.pblk_model.specs.Chunk.{Chunk, Block}
@@ -18,11 +17,15 @@ use Rattle.pblk_world.specs.Lines.{found_by, told_by, told_events, known_image}
 use Rattle.pblk_world.specs.Commanding.{is_program}
 use Rattle.pblk_world.proofs.Growing.{at_end}
 use Rattle.core_laws.specs.PlainWorlds.{is_plain_event, IsPlainWorld}
-use Rattle.core_laws.proofs.Lists.{all_at, fun_same, get_more, is_in as contains_at, with_last as all_and_last}
-use Rattle.placing_laws.proofs.Worlds.{plain_before}
 use Rattle.placing_laws.proofs.PlainEvents.{IsNextPlain, next_plain, has_begun_plain}
-use Rattle.placing_laws.proofs.Online.{get_numbered}
 use Rattle.placing_laws.proofs.UnitHistory.{made, chunk_at, IsEventAt, are_fine}
+use Rattle.core_laws.proofs.PlainWorldsLemmas.{plain_before}
+use Rattle.lemmas.proofs.Lists.{with_last}
+use Rattle.lemmas.proofs.Maps.{numbered_at}
+use Rattle.lemmas.proofs.Numbers.{fun_same}
+use Rattle.lemmas.proofs.Parts.{all_at, get_more, get_whole_within, is_in}
+use Rattle.pblk_world.proofs.EngineLogLemmas.{begun_stays}
+use Rattle.pblk_world.proofs.EventsLemmas.{still_first, still_within}
 
 -- ---- growing logs
 
@@ -72,12 +75,6 @@ all_told_grow : (s : Step) (w : World) (log : List Logged) → AllByRecursion (�
 all_told_grow s w [] all = tt
 all_told_grow s w (l ∷ log) all = (told_grows s w l l.event all.0, all_told_grow s w log all.1)
 
-pub get_whole : {X : Type 0} (m : ℕ) (xs : List X) (n : ℕ) (x : X) → slice_get (take m xs) n ≡ Some x → (slice_get xs n ≡ Some x) × (n < m)
-get_whole zero xs n x e = absurd (none-some x e)
-get_whole (suc m) [] n x e = absurd (none-some x e)
-get_whole (suc m) (y ∷ xs) zero x e = (e, omega arith)
-get_whole (suc m) (y ∷ xs) (suc n) x e = let rest = get_whole m xs n x e in (rest.0, omega (arith, rest.1))
-
 written_is : (command : ChunkCommand) → is_program command ≡ true → (at : ℕ) × (blocks : List Block) × (command ≡ Write at blocks)
 written_is (Write at blocks) e = (at, blocks, refl)
 written_is (Read at) e = absurd cc
@@ -87,7 +84,7 @@ pub told_now : (i : Image) (w : World) (knows : List ℕ) (x : Event) → IsNext
 told_now i w knows (Decides (Landed unit n)) next =
     let l : Logged = record { event = Decides (Landed unit n); knows = knows } in
     let may = next.allowed.2 in
-    let there = get_whole (known l (suc unit)) (log_of w (suc unit)) n may.new.logged may.new.is_known in
+    let there = get_whole_within (known l (suc unit)) (log_of w (suc unit)) n may.new.logged may.new.is_known in
     let one : may.stripe.logged ≡ may.new.logged = same_Some may.stripe.logged may.new.logged (sym may.stripe.is_logged ∙ may.new.is_known) in
     let program = written_is may.program.command may.stripe.program in
     record {
@@ -101,14 +98,14 @@ told_now i w knows (Decides (Landed unit n)) next =
 told_now i w knows (Decides (ResetDone unit n)) next =
     let l : Logged = record { event = Decides (ResetDone unit n); knows = knows } in
     let may = next.allowed.2 in
-    let there = get_whole (known l (suc unit)) (log_of w (suc unit)) n may.new.logged may.new.is_known in
+    let there = get_whole_within (known l (suc unit)) (log_of w (suc unit)) n may.new.logged may.new.is_known in
     record { named = record { logged = may.new.logged; event = may.reset; at = record { there = there.0; event = may.new.event }; known_then = there.1 }; command = may.is_reset }
 told_now i w knows x next = tt
 
 told_if : (i : Image) (s : Step) (w : World) → IsPlainWorld i (s ∷ w) → AllByRecursion (λ l. IsTold w l l.event) (log_of w 0) → (b : Bool) → (s.author == 0) ≡ b
     → AllByRecursion (λ l. IsTold (s ∷ w) l l.event) (if b then log_of w 0 ++ s.logged ∷ [] else log_of w 0)
 told_if i s w is before true e =
-    all_and_last (λ (l : Logged). IsTold (s ∷ w) l l.event) (log_of w 0) s.logged (all_told_grow s w (log_of w 0) before)
+    with_last (λ (l : Logged). IsTold (s ∷ w) l l.event) (log_of w 0) s.logged (all_told_grow s w (log_of w 0) before)
     (told_grows s w s.logged s.logged.event (told_now i w s.logged.knows s.logged.event (next_plain i s w 0 is e)))
 told_if i s w is before false e = all_told_grow s w (log_of w 0) before
 
@@ -127,14 +124,6 @@ pub record BeginsWell (i : Image) (w : World) (unit : ℕ) (b : Begun) : Type 0 
   -- each event of the engine knows at least as much
   pub rising : (l : Logged) → Contains (log_of w 0) l → slice_index b.knows (suc unit) ≤ known l (suc unit)
 
-longer_by : (log : List Logged) (l : Logged) (c : Bool) (k : ℕ) → k ≤ length log → k ≤ length (if c then log ++ l ∷ [] else log)
-longer_by log l true k h = let count : length (log ++ l ∷ []) ≡ length log + 1 = length-append log (l ∷ []) in omega arith
-longer_by log l false k h = h
-
-pub taken_by : (log : List Logged) (l : Logged) (c : Bool) (k : ℕ) → k ≤ length log → take k (if c then log ++ l ∷ [] else log) ≡ take k log
-taken_by log l true k h = take-append-le k log (l ∷ []) h
-taken_by log l false k h = refl
-
 got_by : (log : List Logged) (l : Logged) (c : Bool) (t : ℕ) (m : Logged) → t < length log → slice_get (if c then log ++ l ∷ [] else log) t ≡ Some m → slice_get log t ≡ Some m
 got_by log l true t m h e = go (at_end log l m t e)
   where
@@ -149,11 +138,11 @@ stays_well i s w unit b before rises =
     let k : ℕ = slice_index b.knows (suc unit) in
     let c : Bool = s.author == suc unit in
     record {
-      within = longer_by old s.logged (s.author == suc unit) k before.within;
+      within = still_within old s.logged (s.author == suc unit) k before.within;
       early = λ t l e at below.
           let within : k ≤ length old = before.within in
           before.early t l e (record { there = got_by old s.logged (s.author == suc unit) t l (omega arith) at.there; event = at.event }) below;
-      closed = λ line c at. before.closed line c (ap (λ (xs : List Logged). chunk_at i unit xs line) (sym (taken_by old s.logged (s.author == suc unit) k before.within)) ∙ at);
+      closed = λ line c at. before.closed line c (ap (λ (xs : List Logged). chunk_at i unit xs line) (sym (still_first old s.logged (s.author == suc unit) k before.within)) ∙ at);
       rising = rises;
     }
 
@@ -167,7 +156,7 @@ opens_closed i ls unit line log c same all there = go (slice_get i.units unit) r
     go (Some chunks) e f =
         let from : 0 + unit ≡ unit = omega arith in
         let at : slice_get (media i ls).units unit ≡ Some (after_log i.shape chunks (made log)) =
-        get_numbered (λ unit. after_log i.shape unit.1 (unit_events ls unit.0)) 0 i.units unit
+        numbered_at (λ unit. after_log i.shape unit.1 (unit_events ls unit.0)) 0 i.units unit
         ∙ ap₂ (λ k (o : Option (List Chunk)). option_map (λ (cs : List Chunk). after_log i.shape cs (unit_events ls k)) o) from e
         ∙ ap (λ (xs : List Logged). Some (after_log i.shape chunks (made xs))) same in
         all_at (λ (c : Chunk). c.state ≢ states.Open) (after_log i.shape chunks (made log)) line c f
@@ -186,7 +175,7 @@ begins_now i s w unit knows (Decides (Begin first)) b author logged is next none
     let k : ℕ = known l (suc unit) in
     subst (BeginsWell i (s ∷ w) unit) same
     (record {
-      within = longer_by old s.logged (s.author == suc unit) k (next.knowledge.within (suc unit));
+      within = still_within old s.logged (s.author == suc unit) k (next.knowledge.within (suc unit));
       early = λ t m e at below.
           let within : k ≤ length old = next.knowledge.within (suc unit) in
           let there : slice_get old t ≡ Some m = got_by old s.logged (s.author == suc unit) t m (omega arith) at.there in
@@ -195,7 +184,7 @@ begins_now i s w unit knows (Decides (Begin first)) b author logged is next none
           let low : knows_engine m ≤ length (log_of w 0) = fine.within in
           omega arith;
       closed = λ line c at. opens_closed i (prefixes l (log_of w)) unit line (take k old) c refl next.allowed.no_open_chunk
-          (ap (λ (xs : List Logged). chunk_at i unit xs line) (sym (taken_by old s.logged (s.author == suc unit) k (next.knowledge.within (suc unit)))) ∙ at);
+          (ap (λ (xs : List Logged). chunk_at i unit xs line) (sym (still_first old s.logged (s.author == suc unit) k (next.knowledge.within (suc unit)))) ∙ at);
       rising = λ m there. let its : known l (suc unit) ≡ known m (suc unit) = ap (λ (z : Logged). known z (suc unit)) (only m there) in omega arith;
     })
 begins_now i s w unit knows x b author logged is next none begins only = absurd (none-some b begins)
@@ -210,15 +199,11 @@ first_knows (l ∷ log) b e = (l, (0, omega arith, refl), by l.event e)
     by (Decides (Begin first)) f = ap (λ (c : Begun). c.knows) (sym (same_Some (record { beginning = first; knows = l.knows }) b f))
     by x f = absurd (none-some b f)
 
-pub begun_stays : (log : List Logged) (l : Logged) (b : Begun) → begun log ≡ Some b → begun (log ++ l ∷ []) ≡ Some b
-begun_stays [] l b e = absurd (none-some b e)
-begun_stays (m ∷ log) l b e = e
-
 from_last : (log : List Logged) (l m : Logged) → Contains (log ++ l ∷ []) m → Contains log m ⊎ (l ≡ m)
 from_last log l m c = go (at_end log l m c.0 (slice_get-get_or (log ++ l ∷ []) c.0 m c.1 ∙ ap (λ (z : Logged). Some z) c.2))
   where
     go : (slice_get log c.0 ≡ Some m) ⊎ ((c.0 ≡ length log) × (l ≡ m)) → Contains log m ⊎ (l ≡ m)
-    go (inl e) = inl (contains_at log c.0 m e)
+    go (inl e) = inl (is_in log c.0 m e)
     go (inr e) = inr e.1
 
 rises_now : (i : Image) (s : Step) (w : World) (unit : ℕ) (b : Begun) → IsPlainWorld i (s ∷ w) → BeginsWell i w unit b → begun (log_of w 0) ≡ Some b → (t : Bool) → (s.author == 0) ≡ t

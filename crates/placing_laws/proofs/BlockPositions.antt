@@ -16,13 +16,15 @@ use Rattle.pblk_world.specs.Fronts.{waits, was_placed, waiting, is_users}
 use Rattle.pblk_world.specs.Taking.{IsMarked}
 use Rattle.pblk_world.specs.Placing.{data_blocks, record_blocks}
 use Rattle.pblk_world.specs.Victims.{position_in}
-use Rattle.pblk_world.proofs.Appending.{takes_more}
 use Rattle.core_laws.specs.PlacerOf.{positions_of}
-use Rattle.core_laws.proofs.Lists.{all_filter, all_dropped as all_drop, all_taken as all_take, with_last as all_and_last}
 use Rattle.core_laws.proofs.PlacedPositions.{unnamed}
-use Rattle.pblk_laws.proofs.Lists.{all_append as all_both}
-use Rattle.stripe_placer.proofs.Chunks.{lt_yes as is_below}
 use Rattle.placing_laws.proofs.Followed.{IsFollowed, IsNextEvent, by_events}
+use Rattle.core_laws.proofs.PlacerOfLemmas.{positions_taken}
+use Rattle.lemmas.proofs.Lists.{all_append, with_last}
+use Rattle.lemmas.proofs.Maps.{all_filter}
+use Rattle.lemmas.proofs.Parts.{all_dropped, all_taken}
+use Rattle.lemmas.proofs.Tests.{lt_true}
+use Rattle.pblk_world.proofs.EngineLogLemmas.{takes_more}
 
 -- ---- blocks that bear none
 
@@ -43,8 +45,8 @@ records_none s size seq (suc count) bytes small = (
 pub record_positions : (s : Shape) (seq count : ℕ) (bytes : List ℕ) (from to : ℕ) → s.capacity ≤ meta_lba → filter_map (position_in s) (slice_range (record_blocks s seq count bytes) from to) ≡ []
 record_positions s seq count bytes from to small =
     none_made (position_in s) (slice_range (record_blocks s seq count bytes) from to)
-    (all_take (λ (b : Block). position_in s b ≡ None) (to - from) (drop from (record_blocks s seq count bytes))
-    (all_drop (λ (b : Block). position_in s b ≡ None) from (record_blocks s seq count bytes) (records_none s s.sector seq count bytes small)))
+    (all_taken (λ (b : Block). position_in s b ≡ None) (to - from) (drop from (record_blocks s seq count bytes))
+    (all_dropped (λ (b : Block). position_in s b ≡ None) from (record_blocks s seq count bytes) (records_none s s.sector seq count bytes small)))
 
 pads_none : (s : Shape) (n : ℕ) → s.capacity ≤ meta_lba → AllByRecursion (λ b. position_in s b ≡ None) (replicate n (pad_block s))
 pads_none s zero small = tt
@@ -59,7 +61,7 @@ Bears s t = position_in s (block_of_taken t) ≡ Some t.entry.position
 bears_own : (i : Image) (ls : Logs) (entry : Entry) (mark : Mark) (source : Option Source) → is_users source ≡ true → entry.lba < i.shape.capacity → IsMarked i ls entry mark source → Bears i.shape (record { entry = entry; mark = mark })
 bears_own i ls entry mark None users low is =
     ap (λ (m : Mark). position_in i.shape (record { sector = entry.sector; mark = m })) is
-    ∙ ap (λ a. if is_some (if a then Some (Some entry.lba) else (if entry.lba == void_lba then Some None else None)) then Some entry.position else None) (is_below entry.lba i.shape.capacity low)
+    ∙ ap (λ a. if is_some (if a then Some (Some entry.lba) else (if entry.lba == void_lba then Some None else None)) then Some entry.position else None) (lt_true entry.lba i.shape.capacity low)
 bears_own i ls entry mark (Some source) users low is = absurd cc
 
 bears_step : (i : Image) (us : ℕ → List ℕ) (w : World) (knows : List ℕ) (x : Event) → IsNextEvent i us w 0 (record { event = x; knows = knows }) → AllByRecursion (Bears i.shape) (takes (log_of w 0))
@@ -68,7 +70,7 @@ bears_step i us w knows (Decides (Take entry mark)) next all =
     let l : Logged = record { event = Decides (Take entry mark); knows = knows } in
     let may = next.allowed.2 in
     subst (AllByRecursion (Bears i.shape)) (sym (takes_more (log_of w 0) l))
-    (all_and_last (Bears i.shape) (takes (log_of w 0)) (record { entry = entry; mark = mark }) all (bears_own i (prefixes l (log_of w)) entry mark entry.source next.plain may.lba may.marked))
+    (with_last (Bears i.shape) (takes (log_of w 0)) (record { entry = entry; mark = mark }) all (bears_own i (prefixes l (log_of w)) entry mark entry.source next.plain may.lba may.marked))
 bears_step i us w knows x next all =
     let l : Logged = record { event = x; knows = knows } in
     subst (AllByRecursion (Bears i.shape)) (sym (takes_more (log_of w 0) l ∙ append-nil (takes (log_of w 0)))) all
@@ -81,11 +83,6 @@ entries_made s [] bs all none = none_made (position_in s) bs none
 entries_made s (t ∷ ts) bs all none =
     ap (λ o. cons_option o (filter_map (position_in s) (map block_of_taken ts ++ bs))) all.0 ∙ ap (λ qs. t.entry.position ∷ qs) (entries_made s ts bs all.1 none)
 
-positions_first : (n : ℕ) (ts : List Taken) → positions_of (take n ts) ≡ take n (positions_of ts)
-positions_first zero ts = refl
-positions_first (suc n) [] = refl
-positions_first (suc n) (t ∷ ts) = ap (λ qs. t.entry.position ∷ qs) (positions_first n ts)
-
 pub data_positions : (i : Image) (us : ℕ → List ℕ) (w : World) → IsFollowed i us w → i.shape.capacity ≤ meta_lba
     → filter_map (position_in i.shape) (data_blocks i.shape (log_of w 0)) ≡ take i.shape.ws_opt (positions_of (waiting i.shape (log_of w 0)))
 data_positions i us w is small =
@@ -94,12 +91,12 @@ data_positions i us w is small =
     let all : AllByRecursion (Bears s) (takes log) = all_bear i us w is in
     let ts : List Taken = take s.ws_opt (waiting s log) in
     entries_made s ts (replicate (s.ws_opt - length (map block_of_taken ts)) (pad_block s))
-    (all_take (Bears s) s.ws_opt (waiting s log)
-    (all_both (Bears s) (filter (λ t. waits s log t && was_placed s log t) (takes log)) (filter (λ t. not (was_placed s log t)) (takes log))
+    (all_taken (Bears s) s.ws_opt (waiting s log)
+    (all_append (Bears s) (filter (λ t. waits s log t && was_placed s log t) (takes log)) (filter (λ t. not (was_placed s log t)) (takes log))
     (all_filter (Bears s) (λ t. waits s log t && was_placed s log t) (takes log) all)
     (all_filter (Bears s) (λ t. not (was_placed s log t)) (takes log) all)))
     (pads_none s (s.ws_opt - length (map block_of_taken ts)) small)
-    ∙ positions_first s.ws_opt (waiting s log)
+    ∙ positions_taken s.ws_opt (waiting s log)
 
 pub no_pad_positions : (s : Shape) (n : ℕ) → s.capacity ≤ meta_lba → filter_map (position_in s) (replicate n (pad_block s)) ≡ []
 no_pad_positions s n small = none_made (position_in s) (replicate n (pad_block s)) (pads_none s n small)

@@ -17,14 +17,15 @@ use Rattle.pblk_world.specs.EngineLog.{Begun, begun, LineLife, AsFound, Opened, 
 use Rattle.pblk_world.specs.Lines.{found_by, found_image, told_by, told_events, known_image, is_empty_state, are_empty, line_data, has_number}
 use Rattle.pblk_world.specs.Opening.{MayOpen}
 use Rattle.pblk_world.proofs.Appending.{named_more}
-use Rattle.stripe_placer.proofs.Among.{got_else}
 use Rattle.core_laws.specs.PlainWorlds.{is_plain_event, IsPlainWorld}
-use Rattle.core_laws.proofs.Lists.{all_at}
-use Rattle.placing_laws.proofs.Online.{get_numbered}
-use Rattle.placing_laws.proofs.PlainEvents.{IsNextPlain, opened_whole}
+use Rattle.placing_laws.proofs.PlainEvents.{IsNextPlain}
 use Rattle.placing_laws.proofs.UnitHistory.{made, chunk_at, IsFineBy, IsFine, are_fine, IsEventAt}
-use Rattle.placing_laws.proofs.Beginnings.{IsNamed, IsLanded, IsReset, IsTold, all_told, begins_well, event_grows, taken_by}
+use Rattle.placing_laws.proofs.Beginnings.{IsNamed, IsLanded, IsReset, IsTold, all_told, begins_well, event_grows}
 use Rattle.placing_laws.proofs.KnownImages.{known_then}
+use Rattle.core_laws.proofs.PlainWorldsLemmas.{opened_whole}
+use Rattle.lemmas.proofs.Maps.{numbered_at}
+use Rattle.lemmas.proofs.Parts.{all_at, got_else}
+use Rattle.pblk_world.proofs.EventsLemmas.{still_first}
 
 -- ---- lists
 
@@ -60,7 +61,7 @@ AreCleared i w = (line : ℕ) → is_opened (life_of (log_of w 0) line) ≡ true
 pub stays_cleared : (i : Image) (s : Step) (w : World) (line unit : ℕ) (b : Begun) → IsPlainWorld i w → begun (log_of w 0) ≡ Some b → IsCleared i w line unit b → IsCleared i (s ∷ w) line unit b
 unfolding IsCleared
 stays_cleared i s w line unit b is begins (inl empty) =
-    inl (λ c at. empty c (ap (λ (xs : List Logged). chunk_at i unit xs line) (sym (taken_by (log_of w (suc unit)) s.logged (s.author == suc unit) (slice_index b.knows (suc unit)) (begins_well i w unit is b begins).within)) ∙ at))
+    inl (λ c at. empty c (ap (λ (xs : List Logged). chunk_at i unit xs line) (sym (still_first (log_of w (suc unit)) s.logged (s.author == suc unit) (slice_index b.knows (suc unit)) (begins_well i w unit is b begins).within)) ∙ at))
 stays_cleared i s w line unit b is begins (inr noted) =
     inr (noted.0, noted.1, noted.2, event_grows s w unit noted.0 noted.1 noted.2 noted.3, noted.4, noted.5, named_grown (s.author == 0))
   where
@@ -126,7 +127,7 @@ found_chunk i w unit line b c begins there = go (slice_get i.units unit) refl th
 
     found : slice_get (found_image i (log_of w)).units unit ≡ option_map (λ cs. after_log i.shape cs (filter_map (λ (l : Logged). unit_event_of l.event) (take (slice_index b.knows (suc unit)) (log_of w (suc unit))))) (slice_get i.units unit)
     found = ap (λ (o : Option Begun). slice_get (found_by i (log_of w) o).units unit) begins
-        ∙ get_numbered (λ unit. after_log i.shape unit.1 (unit_events (cut_logs b.knows (log_of w)) unit.0)) 0 i.units unit
+        ∙ numbered_at (λ unit. after_log i.shape unit.1 (unit_events (cut_logs b.knows (log_of w)) unit.0)) 0 i.units unit
         ∙ ap (λ k. option_map (λ cs. after_log i.shape cs (unit_events (cut_logs b.knows (log_of w)) k)) (slice_get i.units unit)) from
 
     go : (o : Option (List Chunk)) → slice_get i.units unit ≡ o → option_and_then (λ (chunks : List Chunk). slice_get (after_log i.shape chunks (filter_map (λ (l : Logged). unit_event_of l.event) (take (slice_index b.knows (suc unit)) (log_of w (suc unit))))) line) o ≡ Some c
@@ -216,6 +217,6 @@ cleared_now i w knows line start begins unit b next may begun_is = go (scan (λ 
         let found = found_chunk i w unit line b c begun_is there in
         let from : 0 + unit ≡ unit = omega arith in
         let now : slice_get (known_image i (log_of w)).units unit ≡ Some (after_log i.shape found.0 (told_events (log_of w) unit)) =
-        get_numbered (λ unit. after_log i.shape unit.1 (told_events (log_of w) unit.0)) 0 (found_image i (log_of w)).units unit
+        numbered_at (λ unit. after_log i.shape unit.1 (told_events (log_of w) unit.0)) 0 (found_image i (log_of w)).units unit
         ∙ ap₂ (λ k (o : Option (List Chunk)). option_map (λ cs. after_log i.shape cs (told_events (log_of w) k)) o) from found.1 in
         empty_at line (known_image i (log_of w)).units unit (after_log i.shape found.0 (told_events (log_of w) unit)) c empty now (all_beside i.shape (told_events (log_of w) unit) found.0 line beside ∙ found.2))

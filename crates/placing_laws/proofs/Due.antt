@@ -1,10 +1,10 @@
 -- Where the placer of a plain world offers nothing, no stripe is to be placed.
 use Rattle.std.proofs.Common.{◌≡◌, ◌⊎◌, inl, inr, ℕ, ◌+◌, ◌-◌, ◌/◌, ◌%◌, ◌<◌, ◌≤◌, ◌==◌, ◌&&◌, zero, suc, not, nat_lt, Bool, true, false, cond, Some, None, Option, List, [], ◌∷◌, ◌++◌, map, length, take, drop, refl, sym, subst, ap, ap₂, ◌∙◌, arith, if◌then◌else◌, mod-lt}
 use Rattle.std.specs.Prelude.{slice_get, nat_le, nat_eq}
-use Rattle.std.specs.List.{Contains, filter_map, cons_option, find, list_all, list_any, range_with_len, slice_index_or}
-use Rattle.std.specs.Option.{option_map_or, is_some}
+use Rattle.std.specs.List.{Contains, filter_map, find, list_all, list_any, range_with_len, slice_index_or}
+use Rattle.std.specs.Option.{option_map_or}
 use Rattle.std.proofs.lemmas.Nat.Bits.{bit_at-zero}
-use Rattle.std.proofs.lemmas.Option.{same_Some, none-some, slice_get_within, slice_get-get_or, get_or_from_slice_get}
+use Rattle.std.proofs.lemmas.Option.{same_Some, none-some, slice_get-get_or}
 use Rattle.pblk_model.specs.declared.shape.Shape.{Shape}
 use Rattle.pblk_model.specs.Shape.{units}
 use Rattle.pblk_model.specs.LineOrder.{start_len}
@@ -12,7 +12,6 @@ use Rattle.pblk_model.specs.Image.{Image}
 use Rattle.pblk_world.specs.Events.{Stripe, Logged}
 use Rattle.pblk_world.specs.World.{World, log_of}
 use Rattle.pblk_layout.specs.Live.{is_live}
-use Rattle.core_laws.proofs.Rows.{same_number}
 use Rattle.pblk_world.specs.Lines.{known_image}
 use Rattle.pblk_world.specs.EngineLog.{is_opened, Taken, Opening, Opened, life_of, Placed, placements, placed_on, answers, is_answered, turn, stripes_of, has_landed, has_failed}
 use Rattle.pblk_world.specs.Fronts as fronts
@@ -24,50 +23,41 @@ use Rattle.stripe_placer.specs.Entries.{Entries, waiting, has_stripe}
 use Rattle.stripe_placer.specs.OpenLines.{OpenLine, unit_of, numbers, is_to_place, has_left, next_of, kind_of, is_unanswered, start_has_landed}
 use Rattle.stripe_placer.specs.Placing.{Program, UnitRow, is_under_way, is_ready, allows, next_positions, program_of, allowed_at, next_in, next_stripe}
 use Rattle.stripe_placer.specs.Placing.UnitRow.{Idle}
-use Rattle.stripe_placer.proofs.Among.{IsAmong, later, in_map, in_filter, from_filter}
-use Rattle.stripe_placer.proofs.Chunks.{lt_yes as is_below}
-use Rattle.stripe_placer.proofs.Rising.{le_true as within_is}
 use Rattle.core_laws.specs.OpenedLines.{open_line, standing, open_lines}
 use Rattle.core_laws.specs.PlacerOf.{positions_of, entries_of, row_of, placing_of}
-use Rattle.core_laws.proofs.Lists.{all_at, none_past}
 use Rattle.core_laws.proofs.Placing.{not_below}
 use Rattle.core_laws.proofs.Turns.{its_unit as unit_at, its_turn as turn_at}
 use Rattle.core_laws.proofs.WaitingEntries.{waiting_alike}
-use Rattle.core_laws.proofs.Tests.{both, or_left as or_first, or_right as or_second, within_is as is_within, and_both as yes_yes}
 use Rattle.core_laws.proofs.PlacedEntries.{length_positions as positions_length}
 use Rattle.core_laws.proofs.PlacedLines.{found_any}
 use Rattle.pblk_world.proofs.Answered.{answers_fit}
 use Rattle.placing_laws.proofs.Followed.{IsFollowed}
-use Rattle.placing_laws.proofs.Answers.{not_failed}
 use Rattle.placing_laws.proofs.Lengths.{is_before, is_after}
 use Rattle.placing_laws.proofs.Opened.{opened_lines, IsOpenedLine, life_stands}
 use Rattle.placing_laws.proofs.InOrder.{stripe_count, wide}
 use Rattle.placing_laws.proofs.Forms.{IsLineOf, line_of, formed}
 use Rattle.placing_laws.proofs.NextStripes.{next_is, unfailed, start_landed, data_landed, all_parts}
 use Rattle.placing_laws.proofs.Idle.{all_answered, is_idle, no_stopped, idle_row, row_there}
-use Rattle.placing_laws.proofs.Online.{known_length}
 use Rattle.placing_laws.proofs.KeptLines.{all_online}
 use Rattle.placing_laws.proofs.Offered.{live_inside, unit_within}
 use Rattle.placing_laws.proofs.Placeable.{kind_in, kind_by, IsPart, HasParts, parts_of}
+use Rattle.core_laws.proofs.PlainWorldsLemmas.{none_failed}
+use Rattle.lemmas.proofs.Lists.{IsAmong}
+use Rattle.lemmas.proofs.Maps.{from_filter, given_at, in_filter, in_map}
+use Rattle.lemmas.proofs.Parts.{all_at, contained_among, none_past, some_within}
+use Rattle.lemmas.proofs.Tests.{and_both, both, le_true, lt_true, or_left, or_right, same_number, within_is as is_within}
+use Rattle.pblk_world.proofs.LinesLemmas.{length_known}
 
 -- ---- units of which each stripe is answered
 
-is_contained : {X : Type 0} (xs : List X) (x : X) → IsAmong xs x → Contains xs x
-is_contained xs x at = (at.0, slice_get_within xs at.0 x at.1, get_or_from_slice_get xs at.0 x x at.1)
-
 pub AreAnswered : List Logged → Type 0
 AreAnswered log = (p : Placed) → Contains (placements log) p → is_answered log p ≡ true
-
-has_got : {X : Type 0} (xs : List X) (k : ℕ) → is_some (slice_get xs k) ≡ true → k < length xs
-has_got [] k e = absurd cc
-has_got (x ∷ xs) zero e = omega arith
-has_got (x ∷ xs) (suc k) e = let rest : k < length xs = has_got xs k e in omega arith
 
 -- a stripe of a unit that is answered
 pub its_turn : (log : List Logged) (unit : ℕ) (p : Placed) (m : ℕ) → slice_get (placed_on log unit) m ≡ Some p → is_answered log p ≡ true → (turn log p ≡ m) × (turn log p < length (answers log unit))
 its_turn log unit p m e answered =
     let its : p.stripe.unit ≡ unit = unit_at log unit m p e in
-    let below : turn log p < length (answers log p.stripe.unit) = has_got (answers log p.stripe.unit) (turn log p) answered in
+    let below : turn log p < length (answers log p.stripe.unit) = some_within (answers log p.stripe.unit) (turn log p) answered in
     let same_count : length (answers log p.stripe.unit) ≡ length (answers log unit) = ap (λ u. length (answers log u)) its in
     (turn_at log unit m p e, omega arith)
 
@@ -84,7 +74,7 @@ idle_unit i us w unit is all = go (slice_get (placed_on (log_of w 0) unit) (leng
         let log : List Logged = log_of w 0 in
         let m : ℕ = length (answers log unit) in
         let among : IsAmong (placements log) p = from_filter (λ (q : Placed). q.stripe.unit == unit) (placements log) p (m, e) in
-        let turns : (turn log p ≡ m) × (turn log p < m) = its_turn log unit p m e (all p (is_contained (placements log) p among)) in
+        let turns : (turn log p ≡ m) × (turn log p < m) = its_turn log unit p m e (all p (contained_among (placements log) p among)) in
         let same : turn log p ≡ m = turns.0 in
         let below : turn log p < m = turns.1 in
         absurd (omega arith)
@@ -93,8 +83,8 @@ idle_unit i us w unit is all = go (slice_get (placed_on (log_of w 0) unit) (leng
 
 part_is : (k c d : ℕ) (kind : StripeKind) → IsPart k c d kind → kind_in k c d ≡ kind
 unfolding IsPart kind_in
-part_is k c d kinds.Start part = ap (λ b. if b then kinds.Start else if nat_lt k (c + d) then kinds.Data else kinds.End) (is_below k c part)
-part_is k c d kinds.Data part = ap₂ (λ a b. if a then kinds.Start else if b then kinds.Data else kinds.End) (not_below c k part.0) (is_below k (c + d) part.1)
+part_is k c d kinds.Start part = ap (λ b. if b then kinds.Start else if nat_lt k (c + d) then kinds.Data else kinds.End) (lt_true k c part)
+part_is k c d kinds.Data part = ap₂ (λ a b. if a then kinds.Start else if b then kinds.Data else kinds.End) (not_below c k part.0) (lt_true k (c + d) part.1)
 part_is k c d kinds.Pad part = absurd part
 part_is k c d kinds.End part = ap₂ (λ a b. if a then kinds.Start else if b then kinds.Data else kinds.End) (not_below c k (omega arith)) (not_below (c + d) k part)
 
@@ -106,18 +96,18 @@ record IsAllowedNext (i : Image) (us : ℕ → List ℕ) (w : World) (pad : ℕ)
 
 any_at : (ts : List Taken) (k : ℕ) (t : Taken) (pad : ℕ) → slice_get ts k ≡ Some t → t.entry.position < pad → list_any (λ q. nat_lt q pad) (positions_of ts) ≡ true
 any_at [] k t pad e h = absurd (none-some t e)
-any_at (u ∷ us) zero t pad e h = or_first (nat_lt u.entry.position pad) (list_any (λ q. nat_lt q pad) (positions_of us)) (ap (λ (v : Taken). nat_lt v.entry.position pad) (same_Some u t e) ∙ is_below t.entry.position pad h)
-any_at (u ∷ us) (suc k) t pad e h = or_second (nat_lt u.entry.position pad) (list_any (λ q. nat_lt q pad) (positions_of us)) (any_at us k t pad e h)
+any_at (u ∷ us) zero t pad e h = or_left (nat_lt u.entry.position pad) (list_any (λ q. nat_lt q pad) (positions_of us)) (ap (λ (v : Taken). nat_lt v.entry.position pad) (same_Some u t e) ∙ lt_true t.entry.position pad h)
+any_at (u ∷ us) (suc k) t pad e h = or_right (nat_lt u.entry.position pad) (list_any (λ q. nat_lt q pad) (positions_of us)) (any_at us k t pad e h)
 
 urgent : (s : Shape) (log : List Logged) (target pad : ℕ) → target ≤ pad → IsUrgent s log target → has_stripe s.ws_opt (entries_of s log pad) ≡ true
 urgent s log target pad within (inl fills) =
     let count : length (waiting (entries_of s log pad)) ≡ length (fronts.waiting s log) = ap (λ (qs : List ℕ). length qs) (waiting_alike s log pad) ∙ positions_length (fronts.waiting s log) in
-    or_first (nat_le s.ws_opt (length (waiting (entries_of s log pad)))) (list_any (λ q. nat_lt q pad) (waiting (entries_of s log pad))) (within_is s.ws_opt (length (waiting (entries_of s log pad))) (omega arith))
+    or_left (nat_le s.ws_opt (length (waiting (entries_of s log pad)))) (list_any (λ q. nat_lt q pad) (waiting (entries_of s log pad))) (le_true s.ws_opt (length (waiting (entries_of s log pad))) (omega arith))
 urgent s log target pad within (inr below) =
     let t : Taken = below.0 in
     let at : IsAmong (fronts.waiting s log) t = (below.1.0, slice_get-get_or (fronts.waiting s log) below.1.0 t below.1.1 ∙ ap (λ y. Some y) below.1.2) in
     let under : t.entry.position < target = below.2 in
-    or_second (nat_le s.ws_opt (length (waiting (entries_of s log pad)))) (list_any (λ q. nat_lt q pad) (waiting (entries_of s log pad)))
+    or_right (nat_le s.ws_opt (length (waiting (entries_of s log pad)))) (list_any (λ q. nat_lt q pad) (waiting (entries_of s log pad)))
     (ap (list_any (λ q. nat_lt q pad)) (waiting_alike s log pad) ∙ any_at (fronts.waiting s log) at.0 t pad at.1 (omega arith))
 
 due_next : (i : Image) (us : ℕ → List ℕ) (w : World) (pad target : ℕ) (o : Opening) (stripe : Stripe) → IsFollowed i us w → IsLineOf i us w o → HasParts i us w o → target ≤ pad
@@ -151,7 +141,7 @@ due_next i us w pad target o stripe is line parts within (inr (inl ends)) =
     )
 due_next i us w pad target o stripe is line parts within (inr (inr (inl pads))) =
     let fails : has_failed (log_of w 0) o ≡ true = pads.failed in
-    let never : has_failed (log_of w 0) o ≡ false = not_failed (log_of w 0) o is.plain.engine in
+    let never : has_failed (log_of w 0) o ≡ false = none_failed (log_of w 0) o is.plain.engine in
     absurd cc
 due_next i us w pad target o stripe is line parts within (inr (inr (inr its))) =
     let s : Shape = i.shape in
@@ -170,7 +160,7 @@ due_next i us w pad target o stripe is line parts within (inr (inr (inr its))) =
       record {
         inside = omega arith;
         part = (above, before);
-        allowed = yes_yes (start_has_landed l) (has_stripe s.ws_opt (entries_of s log pad)) (start_landed l log ps (stripe_count i us o.line - k) (formed i us w o line) above ∙ started.1) (urgent s log target pad within its.1);
+        allowed = and_both (start_has_landed l) (has_stripe s.ws_opt (entries_of s log pad)) (start_landed l log ps (stripe_count i us o.line - k) (formed i us w o line) above ∙ started.1) (urgent s log target pad within its.1);
       },
     )
 
@@ -184,14 +174,6 @@ none_at {X} test (y ∷ ys) k x e at = go (test y) refl e k at (λ f m b. none_a
     go true is f k at rest = absurd cc
     go false is f zero at rest = ap test (sym (same_Some y x at)) ∙ is
     go false is f (suc k) at rest = rest f k at
-
-given_later : {X Y : Type 0} (give : X → Option Y) (x : X) (xs : List X) (y : Y) → IsAmong (filter_map give xs) y → IsAmong (filter_map give (x ∷ xs)) y
-given_later give x xs y at = elim (give x) as (λ o. IsAmong (cons_option o (filter_map give xs)) y) [ None ↦ at | Some z ↦ later z (filter_map give xs) y at ]
-
-given_at : {X Y : Type 0} (give : X → Option Y) (xs : List X) (x : X) (y : Y) (i : ℕ) → slice_get xs i ≡ Some x → give x ≡ Some y → IsAmong (filter_map give xs) y
-given_at give [] x y i at is = absurd (none-some x at)
-given_at give (z ∷ zs) x y zero at is = (0, ap (λ o. slice_get (cons_option o (filter_map give zs)) 0) (ap give (same_Some z x at) ∙ is))
-given_at give (z ∷ zs) x y (suc i) at is = given_later give z zs y (given_at give zs x y i at is)
 
 offered_next : (i : Image) (us : ℕ → List ℕ) (w : World) (pad : ℕ) (o : Opening) (kind : StripeKind) → IsFollowed i us w → life_of (log_of w 0) o.line ≡ Opened o → IsLineOf i us w o → IsAllowedNext i us w pad o kind
     → IsAmong (filter_map (next_in i.shape (entries_of i.shape (log_of w 0) pad)) (open_lines i (log_of w)))
@@ -210,7 +192,7 @@ offered_next i us w pad o kind is life line next =
     ap (allowed_at s e l) number
     ∙ ap (λ (t : StripeKind). if allows s e l t then Some (program_of s l k t (next_positions s e t)) else None) kind_is
     ∙ ap (λ b. if b then Some (program_of s l k kind (next_positions s e kind)) else None) next.allowed in
-    let left : has_left l ≡ true = or_first (list_any (is_to_place l) (numbers l)) (list_any is_unanswered l.stripes) (found_any (is_to_place l) (numbers l) k number) in
+    let left : has_left l ≡ true = or_left (list_any (is_to_place l) (numbers l)) (list_any is_unanswered l.stripes) (found_any (is_to_place l) (numbers l) k number) in
     let at : IsAmong (open_lines i (log_of w)) l = in_filter has_left (map (open_line i (log_of w)) (standing log)) l (in_map (open_line i (log_of w)) (standing log) o (life_stands i us w is o.line o life)) left in
     given_at (next_in s e) (open_lines i (log_of w)) l (program_of s l k kind (next_positions s e kind)) at.0 at.1 given
 
@@ -259,7 +241,7 @@ idle_answered i us w pad p is idle there =
     let among : IsAmong (placements log) p = (there.0, slice_get-get_or (placements log) there.0 p there.1 ∙ ap (λ (q : Placed). Some q) there.2) in
     let live : is_live (known_image i (log_of w)) p.stripe.line p.stripe.unit ≡ true =
     all_at (λ (q : Placed). is_live (known_image i (log_of w)) q.stripe.line q.stripe.unit ≡ true) (placements log) among.0 p among.1 (all_online i w is.plain) in
-    let few : length (known_image i (log_of w)).units ≡ length i.units = known_length i (log_of w) in
+    let few : length (known_image i (log_of w)).units ≡ length i.units = length_known i (log_of w) in
     let count = is.plain.fit.units in
     let low : p.stripe.unit < length (known_image i (log_of w)).units = live_inside (known_image i (log_of w)) p.stripe.line p.stripe.unit live in
     let inside : p.stripe.unit < units i.shape = omega arith in

@@ -11,11 +11,11 @@ use Rattle.pblk_world.specs.Lines.{told_by, known_image}
 use Rattle.pblk_world.specs.Legal.{IsAllowed}
 use Rattle.pblk_world.proofs.Appending.{life_more}
 use Rattle.core_laws.specs.PlainWorlds.{is_plain_event, IsPlainWorld}
-use Rattle.placing_laws.proofs.Worlds.{plain_before}
 use Rattle.placing_laws.proofs.PlainEvents.{IsNextPlain, next_plain, opened_one_more}
 use Rattle.placing_laws.proofs.KnownImages.{known_then, live_one_more}
 use Rattle.placing_laws.proofs.KeptUnits.{some_begun}
 use Rattle.placing_laws.proofs.KeptLines.{few_units, same_units, units_stay}
+use Rattle.core_laws.proofs.PlainWorldsLemmas.{plain_before}
 
 -- each line that was opened has these units
 pub record IsFollowed (i : Image) (us : ℕ → List ℕ) (w : World) : Type 0 where

@@ -11,7 +11,6 @@ use Rattle.pblk_world.specs.Lines.{known_image}
 use Rattle.pblk_world.specs.EngineLog.{is_opened, Opening, Opened, life_of, Placed, stripes_of, answer_of}
 use Rattle.stripe_placer.specs.OpenLines.{Stripe, OpenLine, width}
 use Rattle.stripe_placer.specs.OpenLines.Stripe.{Unplaced}
-use Rattle.stripe_placer.proofs.Rows.{length_replicate as length_replicated}
 use Rattle.core_laws.specs.OpenedLines.{bits_of, as_opened, is_stripe_at, by_answer, became, outcome, open_line}
 use Rattle.core_laws.proofs.Stripes.{at_its_place, not_at}
 use Rattle.placing_laws.proofs.Followed.{IsFollowed}
@@ -20,6 +19,7 @@ use Rattle.placing_laws.proofs.KeptLines.{few_units, keeps_units}
 use Rattle.placing_laws.proofs.Lengths.{IsStriped}
 use Rattle.placing_laws.proofs.Opened.{IsOpenedLine, opened_lines}
 use Rattle.placing_laws.proofs.InOrder.{wide, stripe_count, IsAtPlace, IsInOrder, in_order, its_stripes}
+use Rattle.lemmas.proofs.Lists.{length_replicate}
 
 -- ---- lists
 
@@ -78,7 +78,7 @@ line_of i us w o is life =
     record {
       units = units;
       wide_is = wide_is;
-      count = length_replicated (width (as_opened i (log_of w) o) * (i.shape.clba / i.shape.ws_opt)) Unplaced ∙ ap (λ g. g * (i.shape.clba / i.shape.ws_opt)) wide_is;
+      count = length_replicate (width (as_opened i (log_of w) o) * (i.shape.clba / i.shape.ws_opt)) Unplaced ∙ ap (λ g. g * (i.shape.clba / i.shape.ws_opt)) wide_is;
       well = well;
       striped = its_stripes i us o.line o is.plain.accepted.drive.ws_opt is.plain.accepted.drive.whole_stripes well;
       order = in_order i us w is o.line o life;

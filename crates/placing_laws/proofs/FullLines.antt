@@ -1,5 +1,5 @@
 -- A line of which each stripe has landed has only full chunks; so a line with a stripe left is one of the placer's.
-use Rattle.std.proofs.Common.{◌≡◌, ℕ, ◌+◌, ◌-◌, ◌*◌, ◌/◌, ◌%◌, ◌<◌, ◌≤◌, ◌==◌, ◌&&◌, ◌||◌, zero, suc, not, nat_lt, Bool, true, false, cond, Some, None, Option, List, [], ◌∷◌, ◌++◌, map, length, take, drop, refl, sym, subst, ap, ap₂, ◌∙◌, arith, append-nil, length-append, length-drop, le_trans, div-add-mod'}
+use Rattle.std.proofs.Common.{◌≡◌, ℕ, ◌+◌, ◌-◌, ◌*◌, ◌/◌, ◌%◌, ◌<◌, ◌≤◌, ◌==◌, ◌&&◌, zero, suc, not, nat_lt, Bool, true, false, cond, Some, None, Option, List, [], ◌∷◌, ◌++◌, map, length, take, drop, refl, sym, subst, ap, ap₂, ◌∙◌, arith, append-nil, length-append, length-drop, le_trans, div-add-mod'}
 use Rattle.std.specs.Prelude.{slice_get}
 use Rattle.std.specs.List.{AllByRecursion, filter, filter_map, cons_option, list_all, list_any, range_with_len}
 use Rattle.std.specs.Option.{option_map_or, is_some}
@@ -16,11 +16,8 @@ use Rattle.pblk_world.specs.World.{World, log_of}
 use Rattle.pblk_world.specs.EngineLog.{LineLife, AsFound, Opened, Freed, is_opened, is_as_found, Opening, life_of, is_life, Placed, placements, placed_on, stripes_of, Answer, answers, answer_of, is_answered, turn}
 use Rattle.pblk_world.specs.Lines.{known_image, is_over_state, are_over, has_stripe_left}
 use Rattle.stripe_placer.specs.OpenLines.{OpenLine, numbers, is_unanswered, is_to_place, has_left}
-use Rattle.stripe_placer.proofs.Among.{IsAmong, in_filter, in_map, from_filter}
-use Rattle.stripe_placer.proofs.Chunks.{le_of as is_above, lt_of as is_below}
+use Rattle.stripe_placer.proofs.Chunks.{lt_of as is_below}
 use Rattle.core_laws.specs.OpenedLines.{by_answer, open_line, standing, open_lines}
-use Rattle.core_laws.proofs.Lists.{all_at, all_filter, got_within, get_dropped, range_get as get_range}
-use Rattle.core_laws.proofs.Rows.{same_number}
 use Rattle.placing_laws.proofs.Due.{its_turn}
 use Rattle.placing_laws.proofs.Followed.{IsFollowed, follow}
 use Rattle.placing_laws.proofs.Units.{units_are}
@@ -33,21 +30,12 @@ use Rattle.placing_laws.proofs.Forms.{answered_as, IsLineOf, line_of, formed}
 use Rattle.placing_laws.proofs.NextStripes.{next_is, in_form}
 use Rattle.placing_laws.proofs.HeldChunks.{Holds, on_chunk, all_held}
 use Rattle.placing_laws.proofs.PlacedBlocks.{IsWhole, all_whole, lines_are}
+use Rattle.lemmas.proofs.Lists.{IsAmong}
+use Rattle.lemmas.proofs.Maps.{all_filter, filter_both, filters_swap, from_filter, in_filter, in_map, range_get}
+use Rattle.lemmas.proofs.Parts.{all_at, get_dropped, got_within, take_and_drop}
+use Rattle.lemmas.proofs.Tests.{either_false, le_of_lt_false, same_number}
 
 -- ---- how many stripes of a full line are on a unit
-
-filter_both : {X : Type 0} (test : X → Bool) (xs ys : List X) → filter test (xs ++ ys) ≡ filter test xs ++ filter test ys
-filter_both test [] ys = refl
-filter_both test (x ∷ xs) ys = go (test x) (filter_both test xs ys)
-  where
-    go : (b : Bool) → filter test (xs ++ ys) ≡ filter test xs ++ filter test ys → cond b (x ∷ filter test (xs ++ ys)) (filter test (xs ++ ys)) ≡ cond b (x ∷ filter test xs) (filter test xs) ++ filter test ys
-    go true e = ap (λ zs. x ∷ zs) e
-    go false e = e
-
-take_and_drop : {X : Type 0} (n : ℕ) (xs : List X) → take n xs ++ drop n xs ≡ xs
-take_and_drop zero xs = refl
-take_and_drop (suc n) [] = refl
-take_and_drop (suc n) (x ∷ xs) = ap (λ ys. x ∷ ys) (take_and_drop n xs)
 
 some_kept : {X : Type 0} (test : X → Bool) (xs : List X) (n k : ℕ) (x : X) → k < n → slice_get xs k ≡ Some x → test x ≡ true → 1 ≤ length (filter test (take n xs))
 some_kept test [] n k x h e passes = absurd (none-some x e)
@@ -86,16 +74,6 @@ copies us g col unit (suc r) ps there inside count places =
 
 -- ---- those that are answered
 
-filter_swap : {X : Type 0} (f g : X → Bool) (xs : List X) → filter f (filter g xs) ≡ filter g (filter f xs)
-filter_swap f g [] = refl
-filter_swap f g (x ∷ xs) = go (f x) (g x) refl refl (filter_swap f g xs)
-  where
-    go : (a b : Bool) → f x ≡ a → g x ≡ b → filter f (filter g xs) ≡ filter g (filter f xs) → filter f (cond b (x ∷ filter g xs) (filter g xs)) ≡ filter g (cond a (x ∷ filter f xs) (filter f xs))
-    go true true p q e = ap (λ c. cond c (x ∷ filter f (filter g xs)) (filter f (filter g xs))) p ∙ ap (λ ys. x ∷ ys) e ∙ sym (ap (λ c. cond c (x ∷ filter g (filter f xs)) (filter g (filter f xs))) q)
-    go true false p q e = e ∙ sym (ap (λ c. cond c (x ∷ filter g (filter f xs)) (filter g (filter f xs))) q)
-    go false true p q e = ap (λ c. cond c (x ∷ filter f (filter g xs)) (filter f (filter g xs))) p ∙ e
-    go false false p q e = e
-
 none_kept : {X : Type 0} (test : X → Bool) (xs : List X) → ((k : ℕ) (x : X) → slice_get xs k ≡ Some x → test x ≡ true → ⊥) → filter test xs ≡ []
 none_kept test [] none = refl
 none_kept test (x ∷ xs) none = go (test x) refl (none_kept test xs (λ k y e. none (suc k) y e))
@@ -129,7 +107,7 @@ answered_count i us w o unit is life all =
     let none : filter of_it (drop a ps) ≡ [] = none_kept of_it (drop a ps)
     (λ k p e its. past_answers i us w o unit k p is all (sym (get_dropped a ps k) ∙ e) its) in
     let split : filter of_it ps ≡ filter of_it (take a ps) = ap (filter of_it) (sym (take_and_drop a ps)) ∙ filter_both of_it (take a ps) (drop a ps) ∙ ap (λ (xs : List Placed). filter of_it (take a ps) ++ xs) none ∙ append-nil (filter of_it (take a ps)) in
-    let same : filter on_unit (stripes_of log o) ≡ filter of_it (take a ps) = filter_swap on_unit of_it (placements log) ∙ split in
+    let same : filter on_unit (stripes_of log o) ≡ filter of_it (take a ps) = filters_swap on_unit of_it (placements log) ∙ split in
     let lines : AllByRecursion (λ (p : Placed). of_it p ≡ true → (p.stripe.chunk == o.line) ≡ true) (take a ps) =
     all_taken (λ (p : Placed). of_it p ≡ true → (p.stripe.chunk == o.line) ≡ true) a ps
     (all_filter (λ (p : Placed). of_it p ≡ true → (p.stripe.chunk == o.line) ≡ true) on_unit (placements log) (in_chunk i o (placements log) (all_whole i us w is) (lines_are i us w o is life))) in
@@ -160,10 +138,6 @@ answered_count i us w o unit is life all =
 
 -- ---- a line without a stripe left
 
-neither : (a b : Bool) → (a || b) ≡ false → (a ≡ false) × (b ≡ false)
-neither true b e = absurd cc
-neither false b e = (refl, e)
-
 one_answered : (log : List Logged) (p : Placed) → is_unanswered (answered_as log p) ≡ false → is_answered log p ≡ true
 unfolding answered_as
 one_answered log p e = go (answer_of log p) e
@@ -174,7 +148,7 @@ one_answered log p e = go (answer_of log p) e
 
 all_answered : (log : List Logged) (ps : List Placed) (m : ℕ) → list_any is_unanswered (in_form log ps m) ≡ false → AllByRecursion (λ p. is_answered log p ≡ true) ps
 all_answered log [] m e = tt
-all_answered log (p ∷ ps) m e = let two = neither (is_unanswered (answered_as log p)) (list_any is_unanswered (in_form log ps m)) e in (one_answered log p two.0, all_answered log ps m two.1)
+all_answered log (p ∷ ps) m e = let two = either_false (is_unanswered (answered_as log p)) (list_any is_unanswered (in_form log ps m)) e in (one_answered log p two.0, all_answered log ps m two.1)
 
 -- each stripe of the line was placed, and is answered
 record IsDone (i : Image) (us : ℕ → List ℕ) (w : World) (o : Opening) : Type 0 where
@@ -187,7 +161,7 @@ is_done i us w o is line none =
     let l : OpenLine = open_line i (log_of w) o in
     let ps : List Placed = stripes_of log o in
     let m : ℕ = stripe_count i us o.line - length ps in
-    let two = neither (list_any (is_to_place l) (numbers l)) (list_any is_unanswered l.stripes) none in
+    let two = either_false (list_any (is_to_place l) (numbers l)) (list_any is_unanswered l.stripes) none in
     record {
       all = go (nat_lt (length ps) (stripe_count i us o.line)) refl two.0;
       answered = all_answered log ps m (ap (list_any is_unanswered) (sym (formed i us w o line)) ∙ two.1);
@@ -201,7 +175,7 @@ is_done i us w o is line none =
         let found : list_any (is_to_place l) (numbers l) ≡ true =
         found_any (is_to_place l) (numbers l) (length ps) (next_is l (log_of w 0) ps (stripe_count i us o.line - length ps) is.plain.engine (formed i us w o line) (omega arith)) in
         absurd cc
-    go false e none_left = same_when (length (stripes_of (log_of w 0) o)) (stripe_count i us o.line) (is_above (length (stripes_of (log_of w 0) o)) (stripe_count i us o.line) e) line.order.inside
+    go false e none_left = same_when (length (stripes_of (log_of w 0) o)) (stripe_count i us o.line) (le_of_lt_false (length (stripes_of (log_of w 0) o)) (stripe_count i us o.line) e) line.order.inside
       where
         same_when : (a b : ℕ) → b ≤ a → a ≤ b → a ≡ b
         same_when a b p q = omega arith
@@ -212,7 +186,7 @@ live_among : (i : Image) (us : ℕ → List ℕ) (w : World) (line unit : ℕ) �
 live_among i us w line unit is opened inside live =
     let from : 0 + unit ≡ unit = omega arith in
     subst (λ xs. IsAmong xs unit) (sym (units_are (known_image i (log_of w)) line (is_live (known_image i (log_of w)) line) (few_units i w (log_of w) is.plain) (λ u. refl)) ∙ is.keeps line opened)
-    (in_filter (is_live (known_image i (log_of w)) line) (range_with_len 0 64) unit (unit, get_range 0 64 unit inside ∙ ap (λ m. Some m) from) live)
+    (in_filter (is_live (known_image i (log_of w)) line) (range_with_len 0 64) unit (unit, range_get 0 64 unit inside ∙ ap (λ m. Some m) from) live)
 
 on_unit_count : (i : Image) (us : ℕ → List ℕ) (w : World) (o : Opening) (unit : ℕ) → IsFollowed i us w → life_of (log_of w 0) o.line ≡ Opened o → IsLineOf i us w o → IsDone i us w o → IsAmong (us o.line) unit
     → i.shape.clba / i.shape.ws_opt ≤ on_chunk o.line (take (length (answers (log_of w 0) unit)) (placed_on (log_of w 0) unit))

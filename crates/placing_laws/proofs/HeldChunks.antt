@@ -10,7 +10,7 @@ use Rattle.pblk_model.specs.declared.shape.Shape.{Shape}
 use Rattle.pblk_model.specs.declared.chunk.ChunkState.TheVariants as states
 use Rattle.pblk_model.specs.Chunk.{Chunk, Block, pointer}
 use Rattle.pblk_model.specs.ChunkStep.{appended}
-use Rattle.pblk_model.specs.UnitLog.{UnitEvent, after_outcome, after_event, after_log}
+use Rattle.pblk_model.specs.UnitLog.{UnitEvent, after_event, after_log}
 use Rattle.pblk_model.specs.Image.{Image, line_units}
 use Rattle.pblk_world.specs.Events.{Begin, Landed, Lost, ResetDone, Event, Decides, Does, Logged, Step}
 use Rattle.pblk_world.specs.World.{World, log_of, prefixes, unit_event_of, unit_event_at}
@@ -18,11 +18,7 @@ use Rattle.pblk_world.specs.EngineLog.{begun, is_opened, life_of, Placed, placed
 use Rattle.pblk_world.specs.Lines.{told_by, known_image}
 use Rattle.pblk_world.specs.Answering.{MayLand}
 use Rattle.pblk_world.proofs.Answered.{answers_fit}
-use Rattle.pblk_world.proofs.Appending.{answers_more}
-use Rattle.stripe_placer.proofs.Among.{IsAmong, from_filter, got_here, got_else}
 use Rattle.core_laws.specs.PlainWorlds.{IsPlainWorld}
-use Rattle.core_laws.proofs.Lists.{all_at, all_filter, all_taken as all_take}
-use Rattle.placing_laws.proofs.Worlds.{plain_before}
 use Rattle.placing_laws.proofs.PlainEvents.{IsNextPlain, next_plain, IsInOpened}
 use Rattle.placing_laws.proofs.Beginnings.{IsReset, told_now, named_grows, grown}
 use Rattle.placing_laws.proofs.KnownImages.{known_before, known_one_more}
@@ -31,7 +27,13 @@ use Rattle.placing_laws.proofs.KeptUnits.{some_begun, same_engine, no_reset_note
 use Rattle.placing_laws.proofs.KeptLines.{all_in_opened}
 use Rattle.placing_laws.proofs.Followed.{follow}
 use Rattle.placing_laws.proofs.PlacedBlocks.{IsWhole, all_whole}
-use Rattle.placing_laws.proofs.Programs.{written, placed_on_more, take_more, landed_stripe}
+use Rattle.placing_laws.proofs.Programs.{written, placed_on_more, landed_stripe}
+use Rattle.core_laws.proofs.PlainWorldsLemmas.{plain_before}
+use Rattle.lemmas.proofs.Lists.{IsAmong}
+use Rattle.lemmas.proofs.Maps.{all_filter, from_filter}
+use Rattle.lemmas.proofs.Parts.{all_at, all_taken, got_else, got_here, take_more}
+use Rattle.pblk_model.proofs.UnitLogLemmas.{event_beside}
+use Rattle.pblk_world.proofs.EngineLogLemmas.{answers_more}
 
 -- ---- the programs of stripes fill a chunk
 
@@ -96,13 +98,6 @@ none_held s c m e = record { long = by m e; closed = λ some full. absurd (omega
 abbrev AllHold : Shape → ℕ → ℕ → Option (List Chunk) → Type 0
 AllHold s line m o = (chunks : List Chunk) (c : Chunk) → o ≡ Some chunks → slice_get chunks line ≡ Some c → Holds s c m
 
-beside : (s : Shape) (chunks : List Chunk) (e : UnitEvent) (line : ℕ) → e.chunk ≢ line → slice_get (after_event s chunks e) line ≡ slice_get chunks line
-beside s chunks e line other = go (slice_get chunks e.chunk)
-  where
-    go : (o : Option Chunk) → slice_get (option_map_or (λ (c : Chunk). slice_set chunks e.chunk (after_outcome s c e.command e.outcome)) o chunks) line ≡ slice_get chunks line
-    go None = refl
-    go (Some c) = got_else chunks e.chunk line (after_outcome s c e.command e.outcome) (λ f. other (sym f))
-
 none_told : (s : Shape) (line m : ℕ) (base o : Option (List Chunk)) → o ≡ option_map (λ cs. after_log s cs []) base → AllHold s line m base → AllHold s line m o
 none_told s line m None o e all chunks c f g = absurd (none-some chunks (sym e ∙ f))
 none_told s line m (Some base) o e all chunks c f g = all chunks c (sym e ∙ f) g
@@ -111,7 +106,7 @@ other_told : (s : Shape) (line m : ℕ) (y : UnitEvent) (base o : Option (List C
 other_told s line m y None o e other all chunks c f g = absurd (none-some chunks (sym e ∙ f))
 other_told s line m y (Some base) o e other all chunks c f g =
     let same : after_event s base y ≡ chunks = same_Some (after_event s base y) chunks (sym e ∙ f) in
-    all base c refl (sym (beside s base y line other) ∙ ap (λ (cs : List Chunk). slice_get cs line) same ∙ g)
+    all base c refl (sym (event_beside s base y line other) ∙ ap (λ (cs : List Chunk). slice_get cs line) same ∙ g)
 
 program_told : (s : Shape) (line m : ℕ) (p : Placed) (base o : Option (List Chunk)) → o ≡ option_map (λ cs. after_log s cs (written p ∷ [])) base → s.ws_opt ≤ length p.stripe.blocks → (b : Bool) → (p.stripe.chunk == line) ≡ b → AllHold s line m base
     → AllHold s line (cond b (m + 1) m) o
@@ -257,7 +252,7 @@ held_step i s w knows (Decides (ResetDone other n)) unit line o is next now all 
                 is_it false q = λ chunks c a b.
                     none_held i.shape c (count_in (log_of w 0 ++ record { event = Decides (ResetDone other n); knows = knows } ∷ []) unit line)
                     (stays ∙ unopened_none (log_of w 0) line (take (length (answers (log_of w 0) unit)) (placed_on (log_of w 0) unit)) q
-                    (all_take (IsInOpened (log_of w 0)) (length (answers (log_of w 0) unit)) (placed_on (log_of w 0) unit) (all_filter (IsInOpened (log_of w 0)) (λ (p : Placed). p.stripe.unit == unit) (placements (log_of w 0)) (all_in_opened i w next.world))))
+                    (all_taken (IsInOpened (log_of w 0)) (length (answers (log_of w 0) unit)) (placed_on (log_of w 0) unit) (all_filter (IsInOpened (log_of w 0)) (λ (p : Placed). p.stripe.unit == unit) (placements (log_of w 0)) (all_in_opened i w next.world))))
 held_step i s w knows (Decides x) unit line o is next now all =
     let log : List Logged = log_of w 0 in
     let m : Logged = record { event = Decides x; knows = knows } in

@@ -2,7 +2,7 @@
 use Rattle.std.proofs.Common.{◌≡◌, ℕ, ◌+◌, ◌<◌, ◌≤◌, ◌==◌, ◌&&◌, zero, suc, not, Bool, true, false, Some, None, Option, List, [], ◌∷◌, ◌++◌, map, length, refl, sym, subst, ap, ◌∙◌, arith, if◌then◌else◌, append-nil}
 use Rattle.std.specs.Prelude.{slice_get}
 use Rattle.std.specs.List.{AllByRecursion, filter_map, cons_option, fold, range_with_len}
-use Rattle.std.specs.Option.{option_map_or, is_some}
+use Rattle.std.specs.Option.{option_map_or}
 use Rattle.std.proofs.lemmas.Option.{slice_get_within, slice_get_past}
 use Rattle.pblk_model.specs.Image.{Image}
 use Rattle.pblk_model.specs.Shape.{units}
@@ -14,13 +14,14 @@ use Rattle.pblk_world.proofs.Appending.{placements_more}
 use Rattle.stripe_placer.specs.Placing.{stopped_in, is_under_way}
 use Rattle.stripe_placer.specs.Placing.UnitRow.{Idle}
 use Rattle.stripe_placer.proofs.Numbered.{get_mapped}
-use Rattle.stripe_placer.proofs.Among.{IsAmong, from_filter}
 use Rattle.core_laws.specs.PlacerOf.{stopped_by, was_stopped_on, contains_unit, waits_again, row_in, row_of, unanswered_on}
 use Rattle.core_laws.specs.PlainWorlds.{is_plain_event, ArePlain}
-use Rattle.core_laws.proofs.Lists.{all_at, all_filter, with_last as all_and_last}
 use Rattle.core_laws.proofs.Placing.{placements_now}
 use Rattle.core_laws.proofs.Turns.{stands_at_turn}
 use Rattle.placing_laws.proofs.Followed.{IsFollowed, IsNextEvent, by_events}
+use Rattle.lemmas.proofs.Lists.{IsAmong, with_last}
+use Rattle.lemmas.proofs.Maps.{all_filter, from_filter}
+use Rattle.lemmas.proofs.Parts.{all_at, within_some}
 
 -- ---- nothing was stopped
 
@@ -48,7 +49,7 @@ lives_step i us w knows (Decides (Place stripe)) next all =
     let may = next.allowed.2 in
     let opened : life_of log stripe.line ≡ Opened may.opening = ap (λ (log : List Logged). life_of log stripe.line) (sym next.own) ∙ may.is_open in
     subst (AllByRecursion (λ (p : Placed). is_opened p.life ≡ true)) (sym (placements_now log stripe knows may.opening opened))
-    (all_and_last (λ (p : Placed). is_opened p.life ≡ true) (placements log) (record { number = length log; stripe = stripe; life = Opened may.opening }) all refl)
+    (with_last (λ (p : Placed). is_opened p.life ≡ true) (placements log) (record { number = length log; stripe = stripe; life = Opened may.opening }) all refl)
 lives_step i us w knows x next all =
     let l : Logged = record { event = x; knows = knows } in
     subst (AllByRecursion (λ (p : Placed). is_opened p.life ≡ true)) (sym (placements_more (log_of w 0) l ∙ append-nil (placements (log_of w 0)))) all
@@ -113,15 +114,10 @@ row_there i logs unit inside = let from : 0 + unit ≡ unit = omega arith in get
 
 -- ---- answers
 
-some_got : {X : Type 0} (xs : List X) (k : ℕ) → k < length xs → is_some (slice_get xs k) ≡ true
-some_got [] k h = absurd (omega arith)
-some_got (x ∷ xs) zero h = refl
-some_got (x ∷ xs) (suc k) h = some_got xs k (omega arith)
-
 -- a unit of which each stripe has an answer
 pub all_answered : (log : List Logged) (unit : ℕ) (p : Placed) → length (answers log unit) ≡ length (placed_on log unit) → IsAmong (placed_on log unit) p → p.stripe.unit ≡ unit → is_answered log p ≡ true
 all_answered log unit p idle among same =
     let turn_is : slice_get (placed_on log p.stripe.unit) (turn log p) ≡ Some p = stands_at_turn log p (from_filter (λ (q : Placed). q.stripe.unit == unit) (placements log) p among) in
     let inside : turn log p < length (placed_on log p.stripe.unit) = slice_get_within (placed_on log p.stripe.unit) (turn log p) p turn_is in
     let count : length (answers log p.stripe.unit) ≡ length (placed_on log p.stripe.unit) = subst (λ u. length (answers log u) ≡ length (placed_on log u)) (sym same) idle in
-    some_got (answers log p.stripe.unit) (turn log p) (omega arith)
+    within_some (answers log p.stripe.unit) (turn log p) (omega arith)

@@ -1,8 +1,7 @@
 -- The stripes of an opened line are placed in line order, and data and the end record behind a start record that has landed.
-use Rattle.std.proofs.Common.{◌≡◌, ◌⊎◌, inl, inr, ℕ, ◌+◌, ◌*◌, ◌/◌, ◌%◌, ◌<◌, ◌≤◌, ◌&&◌, zero, suc, nat_eq, Bool, true, false, cond, Some, None, Option, List, [], ◌∷◌, ◌++◌, length, take, refl, sym, subst, ap, ap₂, ◌∙◌, arith, if◌then◌else◌, append-nil, mul-div_cancel, le_refl, le_of_lt, length-append, subst₂}
+use Rattle.std.proofs.Common.{◌≡◌, ◌⊎◌, inl, inr, ℕ, ◌+◌, ◌*◌, ◌/◌, ◌%◌, ◌<◌, ◌≤◌, ◌&&◌, zero, suc, nat_eq, Bool, true, false, cond, Some, List, [], ◌∷◌, ◌++◌, length, take, refl, sym, subst, ap, ap₂, ◌∙◌, arith, if◌then◌else◌, append-nil, mul-div_cancel, le_refl, le_of_lt, length-append, subst₂}
 use Rattle.std.specs.Prelude.{slice_get, nat_le}
 use Rattle.std.specs.List.{filter, list_all}
-use Rattle.std.specs.Option.{option_map}
 use Rattle.std.proofs.lemmas.Bool.{eqb-true}
 use Rattle.std.proofs.lemmas.Option.{same_Some, none-some}
 use Rattle.std.proofs.lemmas.List.{take-append-le}
@@ -15,20 +14,23 @@ use Rattle.pblk_world.specs.EngineLog.{is_opened, Opening, Opened, life_of, turn
 use Rattle.pblk_world.specs.Lines.{known_image, place_of}
 use Rattle.pblk_world.specs.Placing.{IsStart, IsData, IsEnd, IsPad, MayPlace, end_address, line_end}
 use Rattle.pblk_world.proofs.Appending.{life_more, placements_more}
-use Rattle.core_laws.proofs.Lists.{filter_none, all_taken as all_take}
 use Rattle.core_laws.proofs.Numbers.{opens_at, life_at}
 use Rattle.core_laws.proofs.Opening.{placed_before}
 use Rattle.core_laws.proofs.Placing.{new_placed, with_place, placements_now, answer_now, stripes_before}
 use Rattle.core_laws.proofs.Taking.{filter_last}
-use Rattle.core_laws.proofs.Rows.{same_number}
-use Rattle.core_laws.proofs.Tests.{second_of as and_second}
 use Rattle.stripe_placer.proofs.Opening.{width_some}
 use Rattle.pblk_world.specs.EngineLog.{is_land}
 use Rattle.pblk_world.proofs.Growing.{at_end}
 use Rattle.placing_laws.proofs.Followed.{IsFollowed, IsNextEvent, by_events, then_units, units_width}
 use Rattle.placing_laws.proofs.Lengths.{IsStriped, striped, is_before}
-use Rattle.placing_laws.proofs.Answers.{not_failed, landed_more, all_landed}
+use Rattle.placing_laws.proofs.Answers.{landed_more, all_landed}
 use Rattle.placing_laws.proofs.Opened.{IsOpenedLine, opened_lines}
+use Rattle.core_laws.proofs.PlainWorldsLemmas.{none_failed}
+use Rattle.lemmas.proofs.Maps.{filter_none}
+use Rattle.lemmas.proofs.Options.{mapped_some}
+use Rattle.lemmas.proofs.Parts.{all_taken}
+use Rattle.lemmas.proofs.Tests.{same_number, second_of}
+use Rattle.pblk_world.proofs.EngineLogLemmas.{opened_same}
 
 -- ---- places
 
@@ -43,12 +45,6 @@ stripe_count i us line = wide us line * (i.shape.clba / i.shape.ws_opt)
 pub record IsAtPlace (i : Image) (us : ℕ → List ℕ) (line k unit at : ℕ) : Type 0 where
   pub its_unit : slice_get (us line) (k % wide us line) ≡ Some unit
   pub its_block : at ≡ k / wide us line * i.shape.ws_opt
-
-mapped_some : (o : Option ℕ) (block unit at : ℕ) → option_map {U = ℕ × ℕ} (λ u. (u, block)) o ≡ Some (unit, at) → (o ≡ Some unit) × (at ≡ block)
-mapped_some None block unit at e = absurd (none-some (unit, at) e)
-mapped_some (Some u) block unit at e =
-    let same : (u, block) ≡ (unit, at) = same_Some (u, block) (unit, at) e in
-    (ap (λ (x : ℕ × ℕ). Some x.0) same, ap (λ (x : ℕ × ℕ). x.1) (sym same))
 
 -- the place that the line address of stripe k names
 pub at_place : (i : Image) (us : ℕ → List ℕ) (ls : Logs) (line k unit at : ℕ) → line_units (known_image i ls) line ≡ us line → 0 < i.shape.ws_opt → place_of (known_image i ls) line (k * i.shape.ws_opt) ≡ Some (unit, at) → IsAtPlace i us line k unit at
@@ -105,7 +101,7 @@ next_by_kind i us ls stripe o units some striped well whole opened (inr (inl is)
     let within : k * w < end_address i.shape o = is.within in
     let before : k < c + d = is_before w k (c + d) (end_address i.shape o) some (omega arith) within in
     let fits : c + d ≤ stripe_count i us stripe.line = striped.fits in
-    record { opened = opened; place = at_place i us ls stripe.line k stripe.unit stripe.at units some is.next.in_order; inside = omega arith; started = λ above. and_second (nat_le c k) (list_all (has_landed (ls 0)) (take c (stripes_of (ls 0) o))) is.start_landed }
+    record { opened = opened; place = at_place i us ls stripe.line k stripe.unit stripe.at units some is.next.in_order; inside = omega arith; started = λ above. second_of (nat_le c k) (list_all (has_landed (ls 0)) (take c (stripes_of (ls 0) o))) is.start_landed }
 next_by_kind i us ls stripe o units some striped well whole opened (inr (inr (inl is))) =
     let w : ℕ = i.shape.ws_opt in
     let k : ℕ = length (stripes_of (ls 0) o) in
@@ -119,7 +115,7 @@ next_by_kind i us ls stripe o units some striped well whole opened (inr (inr (in
       opened = opened;
       place = at_place i us ls stripe.line k stripe.unit stripe.at units some is.next.in_order;
       inside = is_before w k (stripe_count i us stripe.line) (line_end i.shape o) some (striped.line_is ∙ sym last) within;
-      started = λ above. all_first (has_landed (ls 0)) c n (stripes_of (ls 0) o) (omega arith) (and_second (nat_le n k) (list_all (has_landed (ls 0)) (take n (stripes_of (ls 0) o))) is.data_landed);
+      started = λ above. all_first (has_landed (ls 0)) c n (stripes_of (ls 0) o) (omega arith) (second_of (nat_le n k) (list_all (has_landed (ls 0)) (take n (stripes_of (ls 0) o))) is.data_landed);
     }
 next_by_kind i us ls stripe o units some striped well whole opened (inr (inr (inr is))) = let fails : has_failed (ls 0) o ≡ true = is.failed in absurd cc
 
@@ -133,7 +129,7 @@ may_be_next i us w l stripe next may =
     let some : 0 < i.shape.ws_opt = is.plain.accepted.drive.ws_opt in
     subst (λ log. IsPlacedNext i us log stripe may.opening) own
     (next_by_kind i us ls stripe may.opening (then_units i us w l stripe.line next (ap is_opened opened)) some (its_stripes i us stripe.line may.opening some is.plain.accepted.drive.whole_stripes well) well
-    (ap (λ log. has_failed log may.opening) own ∙ not_failed (log_of w 0) may.opening is.plain.engine) may.is_open may.kind)
+    (ap (λ log. has_failed log may.opening) own ∙ none_failed (log_of w 0) may.opening is.plain.engine) may.is_open may.kind)
 
 -- ---- the stripes of an opened line
 
@@ -151,7 +147,7 @@ stays i us log l line o same is =
       inside = subst (λ (ps : List Placed). length ps ≤ stripe_count i us line) stripes is.inside;
       places = subst (λ (ps : List Placed). (k : ℕ) (p : Placed) → slice_get ps k ≡ Some p → IsAtPlace i us line k p.stripe.unit p.stripe.at) stripes is.places;
       started = subst (λ (ps : List Placed). c < length ps → list_all (has_landed (log ++ l ∷ [])) (take c ps) ≡ true) stripes
-          (λ above. all_landed log (log ++ l ∷ []) (λ p. p.number < length log) (take c (stripes_of log o)) (λ p before e. landed_more log l p same e) (all_take (λ (p : Placed). p.number < length log) c (stripes_of log o) (stripes_before log o)) (is.started above));
+          (λ above. all_landed log (log ++ l ∷ []) (λ p. p.number < length log) (take c (stripes_of log o)) (λ p before e. landed_more log l p same e) (all_taken (λ (p : Placed). p.number < length log) c (stripes_of log o) (stripes_before log o)) (is.started above));
     }
 
 -- where the line is opened by it
@@ -175,9 +171,6 @@ stripes_now log stripe knows o other b opened is =
     ap (filter (λ (p : Placed). is_life other.number p.life)) (placements_now log stripe knows o opened)
     ∙ filter_last (λ (p : Placed). is_life other.number p.life) (placements log) (new_placed log stripe o) b is
 
-opened_same : (p o : Opening) → Opened p ≡ Opened o → p ≡ o
-opened_same p o e = cc
-
 -- one more stripe of the line
 one_more : (i : Image) (us : ℕ → List ℕ) (log : List Logged) (stripe : Stripe) (knows : List ℕ) (o : Opening) → IsPlacedNext i us log stripe o → IsInOrder i us log stripe.line o → IsInOrder i us (with_place log stripe knows) stripe.line o
 one_more i us log stripe knows o next is =
@@ -190,7 +183,7 @@ one_more i us log stripe knows o next is =
     let room : length ps < stripe_count i us stripe.line = next.inside in
     let keeps : list_all (has_landed log) (take c ps) ≡ true → list_all (has_landed new) (take c ps) ≡ true =
     λ e. all_landed log new (λ q. q.number < length log) (take c ps) (λ q before f. ap is_land (answer_now log stripe knows o q next.opened (le_of_lt before)) ∙ f)
-    (all_take (λ (q : Placed). q.number < length log) c ps (stripes_before log o)) e in
+    (all_taken (λ (q : Placed). q.number < length log) c ps (stripes_before log o)) e in
     record {
       inside = subst (λ (qs : List Placed). length qs ≤ stripe_count i us stripe.line) stripes (omega arith);
       places = subst (λ (qs : List Placed). (k : ℕ) (q : Placed) → slice_get qs k ≡ Some q → IsAtPlace i us stripe.line k q.stripe.unit q.stripe.at) stripes
@@ -216,7 +209,7 @@ elsewhere i us log stripe knows o line other opened apart is =
       places = subst (λ (qs : List Placed). (k : ℕ) (p : Placed) → slice_get qs k ≡ Some p → IsAtPlace i us line k p.stripe.unit p.stripe.at) stripes is.places;
       started = subst (λ (qs : List Placed). c < length qs → list_all (has_landed new) (take c qs) ≡ true) stripes
           (λ above. all_landed log new (λ p. p.number < length log) (take c ps) (λ p before e. ap is_land (answer_now log stripe knows o p opened (le_of_lt before)) ∙ e)
-          (all_take (λ (p : Placed). p.number < length log) c ps (stripes_before log other)) (is.started above));
+          (all_taken (λ (p : Placed). p.number < length log) c ps (stripes_before log other)) (is.started above));
     }
 
 order_placed : (i : Image) (us : ℕ → List ℕ) (log : List Logged) (stripe : Stripe) (knows : List ℕ) (o : Opening) → IsPlacedNext i us log stripe o → HasOrder i us log → (line : ℕ) (other : Opening) → life_of log line ≡ Opened other

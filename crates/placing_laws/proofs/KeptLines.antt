@@ -18,19 +18,20 @@ use Rattle.core_laws.specs.PlainWorlds.{IsPlainWorld}
 use Rattle.core_laws.proofs.Numbers.{opens, life_at}
 use Rattle.core_laws.proofs.Placing.{new_placed, placements_now}
 use Rattle.core_laws.proofs.Turns.{filtered_is}
-use Rattle.core_laws.proofs.Lists.{with_last as all_and_last}
-use Rattle.placing_laws.proofs.Worlds.{plain_before}
 use Rattle.placing_laws.proofs.Units.{units_are}
-use Rattle.placing_laws.proofs.Online.{known_length}
 use Rattle.placing_laws.proofs.PlainEvents.{IsNextPlain, next_plain, IsInOpened, placed_in_opened}
 use Rattle.placing_laws.proofs.KnownImages.{known_then, known_longer, known_before, live_one_more}
 use Rattle.placing_laws.proofs.KeptUnits.{AreOnline, live_stays, some_begun}
+use Rattle.core_laws.proofs.PlainWorldsLemmas.{plain_before}
+use Rattle.lemmas.proofs.Lists.{with_last}
+use Rattle.pblk_world.proofs.EngineLogLemmas.{opened_same}
+use Rattle.pblk_world.proofs.LinesLemmas.{length_known}
 
 -- ---- each stripe stands on a chunk that isn't Offline
 
 pub few_units : (i : Image) (w : World) (ls : Logs) → IsPlainWorld i w → length (known_image i ls).units ≤ 64
 few_units i w ls is =
-    let count : length (known_image i ls).units ≡ length i.units = known_length i ls in
+    let count : length (known_image i ls).units ≡ length i.units = length_known i ls in
     let all = is.fit.units in
     let few = is.accepted.drive.few_units in
     omega arith
@@ -74,7 +75,7 @@ online_by i s w knows (Decides (Place stripe)) is next before olds =
     let live : is_live (known_image i (log_of w)) stripe.line stripe.unit ≡ true =
     ap (λ (j : Image). is_live j stripe.line stripe.unit) (sym (known_then i w l next)) ∙ kind_live i (prefixes l (log_of w)) o stripe (few_units i w (prefixes l (log_of w)) next.world) may.kind in
     subst (AreOnline i (s ∷ w)) (sym (placements_now log stripe knows o life))
-    (all_and_last (λ (p : Placed). is_live (known_image i (log_of (s ∷ w))) p.stripe.line p.stripe.unit ≡ true) (placements log) (new_placed log stripe o) olds
+    (with_last (λ (p : Placed). is_live (known_image i (log_of (s ∷ w))) p.stripe.line p.stripe.unit ≡ true) (placements log) (new_placed log stripe o) olds
     (live_stays i s w stripe.line stripe.unit is (ap is_opened life) before ∙ live))
 online_by i s w knows x is next before olds =
     let l : Logged = record { event = x; knows = knows } in
@@ -115,9 +116,6 @@ unfolding AreKept
 still_kept i s w line o is before life =
     units_stay i s w line is (ap is_opened life) ∙ before line o life
     ∙ ap (λ (j : Image). line_units j o.line) (sym (known_longer i s w o.number (plain_before i s w is) (opening_before (log_of w 0) line o life)))
-
-opened_same : (p o : Opening) → Opened p ≡ Opened o → p ≡ o
-opened_same p o e = cc
 
 kept_by : (i : Image) (s : Step) (w : World) (knows : List ℕ) (x : Event) (line : ℕ) (o : Opening) → s.logged ≡ record { event = x; knows = knows } → IsPlainWorld i (s ∷ w) → AreKept i w → (s.author == 0) ≡ true → IsNextPlain i w 0 (record { event = x; knows = knows })
     → turned_by line (life_of (log_of w 0) line) (length (log_of w 0)) knows x ≡ Opened o → line_units (known_image i (log_of (s ∷ w))) line ≡ opened_units i (log_of (s ∷ w)) o

@@ -7,8 +7,8 @@ use Rattle.std.proofs.lemmas.Bool.{eqb-true, eqb-false}
 use Rattle.std.proofs.lemmas.Option.{none-some}
 use Rattle.pblk_model.specs.declared.shape.Shape.{Shape}
 use Rattle.pblk_model.specs.declared.chunk.ChunkState.TheVariants as states
-use Rattle.pblk_model.specs.Chunk.{Chunk, Block, pointer}
-use Rattle.pblk_model.specs.ChunkStep.{Write, Done, appended}
+use Rattle.pblk_model.specs.Chunk.{Chunk, Block}
+use Rattle.pblk_model.specs.ChunkStep.{Write, Done}
 use Rattle.pblk_model.specs.UnitLog.{Answered, UnitEvent, after_outcome, after_event}
 use Rattle.pblk_model.specs.Image.{Image, is_online_in}
 use Rattle.pblk_layout.specs.Live.{is_live}
@@ -18,15 +18,16 @@ use Rattle.pblk_world.specs.EngineLog.{Begun, begun, Opened, is_opened, turned_b
 use Rattle.pblk_world.specs.Lines.{told_by, known_image}
 use Rattle.pblk_world.specs.Victims.{engine_prefix}
 use Rattle.pblk_world.proofs.Appending.{life_more}
-use Rattle.stripe_placer.proofs.Among.{got_here, got_else}
 use Rattle.core_laws.specs.PlainWorlds.{IsPlainWorld}
-use Rattle.core_laws.proofs.Lists.{all_at, fun_same}
-use Rattle.placing_laws.proofs.Worlds.{plain_before}
 use Rattle.placing_laws.proofs.PlainEvents.{IsNextPlain, next_plain, has_begun_plain, IsInOpened, placed_in_opened}
 use Rattle.placing_laws.proofs.UnitHistory.{IsFineBy, IsFine, are_fine, reset_once, used_before_reset}
 use Rattle.placing_laws.proofs.Beginnings.{IsLanded, IsReset, told_now, BeginsWell, begins_well, named_grows}
 use Rattle.placing_laws.proofs.KnownImages.{known_before, begun_stays, live_one_more, has_online}
 use Rattle.placing_laws.proofs.ClearedLines.{IsCleared, AreCleared, stays_cleared, cleared_now, if_some, event_is}
+use Rattle.core_laws.proofs.PlainWorldsLemmas.{plain_before}
+use Rattle.lemmas.proofs.Numbers.{fun_same}
+use Rattle.lemmas.proofs.Parts.{all_at, got_else, got_here}
+use Rattle.pblk_model.proofs.ImageLemmas.{appended_online}
 
 -- ---- cleared lines, in each world
 
@@ -130,9 +131,6 @@ beside_online s chunks e line other = ap (λ (o : Option Chunk). option_map_or (
     go : (o : Option Chunk) → slice_get (option_map_or (λ (c : Chunk). slice_set chunks e.chunk (after_outcome s c e.command e.outcome)) o chunks) line ≡ slice_get chunks line
     go None = refl
     go (Some c) = got_else chunks e.chunk line (after_outcome s c e.command e.outcome) (λ f. other (sym f))
-
-appended_online : (s : Shape) (c : Chunk) (blocks : List Block) → is_online_in (appended s c blocks).state ≡ true
-appended_online s c blocks = elim (nat_lt (pointer c + length blocks) s.clba) as (λ b. is_online_in (if b then states.Open else states.Closed) ≡ true) [ true ↦ refl | false ↦ refl ]
 
 written_online : (s : Shape) (chunks : List Chunk) (e : UnitEvent) (line at : ℕ) (blocks : List Block) → e.chunk ≡ line → e.command ≡ Write at blocks → e.outcome ≡ Answered Done → has_online chunks line ≡ true → has_online (after_event s chunks e) line ≡ has_online chunks line
 written_online s chunks e line at blocks its writes done online = go (slice_get chunks line) refl online

@@ -1,11 +1,9 @@
 -- The image as the engine of a plain world knows it, as the logs grow.
-use Rattle.std.proofs.Common.{◌≡◌, ℕ, ◌+◌, ◌<◌, ◌≤◌, ◌==◌, zero, suc, Bool, true, false, Some, None, Option, List, [], ◌∷◌, ◌++◌, length, take, refl, sym, ap, ap₂, ◌∙◌, arith, if◌then◌else◌, le_refl, take_all, append-nil}
+use Rattle.std.proofs.Common.{◌≡◌, ℕ, ◌+◌, ◌<◌, ◌≤◌, ◌==◌, suc, Bool, true, false, Some, None, Option, List, [], ◌∷◌, ◌++◌, length, take, refl, sym, ap, ap₂, ◌∙◌, arith, if◌then◌else◌, le_refl, take_all, append-nil}
 use Rattle.std.specs.Prelude.{slice_get, slice_index}
-use Rattle.std.specs.List.{filter_map, cons_option}
+use Rattle.std.specs.List.{filter_map}
 use Rattle.std.specs.Option.{option_map, option_map_or, option_and_then, option_to_list}
-use Rattle.std.proofs.lemmas.List.Elements.{filter_map-append}
 use Rattle.std.proofs.lemmas.List.Sums.{fold-append}
-use Rattle.std.proofs.lemmas.Option.{none-some}
 use Rattle.std.proofs.lemmas.List.{take-take as take_take}
 use Rattle.pblk_model.specs.declared.shape.Shape.{Shape}
 use Rattle.pblk_model.specs.Chunk.{Chunk}
@@ -18,15 +16,13 @@ use Rattle.pblk_world.specs.EngineLog.{Begun, begun}
 use Rattle.pblk_world.specs.Lines.{found_by, found_image, told_by, told_events, known_image}
 use Rattle.pblk_world.specs.Victims.{engine_prefix}
 use Rattle.core_laws.specs.PlainWorlds.{is_plain_event, IsPlainWorld}
-use Rattle.core_laws.proofs.Lists.{all_at, fun_same, get_taken as get_take, is_in as contains_at}
-use Rattle.core_laws.proofs.Engine.{whole_at}
-use Rattle.placing_laws.proofs.PlainEvents.{IsNextPlain, begun_first}
-use Rattle.placing_laws.proofs.Online.{get_numbered}
-use Rattle.placing_laws.proofs.Beginnings.{IsTold, all_told, begins_well, first_knows, image_same, SameAt, told_one, taken_by, grown, get_whole}
-
-made_at : {X Y : Type 0} (f g : X → Option Y) (xs : List X) → ((k : ℕ) (x : X) → slice_get xs k ≡ Some x → f x ≡ g x) → filter_map f xs ≡ filter_map g xs
-made_at f g [] same = refl
-made_at f g (x ∷ xs) same = ap₂ (λ o ys. cons_option o ys) (same 0 x refl) (made_at f g xs (λ k y e. same (suc k) y e))
+use Rattle.placing_laws.proofs.PlainEvents.{IsNextPlain}
+use Rattle.placing_laws.proofs.Beginnings.{IsTold, all_told, begins_well, first_knows, image_same, SameAt, told_one, grown}
+use Rattle.lemmas.proofs.Maps.{made_alike, more as last_made, numbered_at}
+use Rattle.lemmas.proofs.Parts.{all_at, get_taken, get_whole_within, is_in}
+use Rattle.pblk_world.proofs.EngineLogLemmas.{begun_of_first}
+use Rattle.pblk_world.proofs.EventsLemmas.{still_first}
+use Rattle.pblk_world.proofs.VictimsLemmas.{whole_prefix}
 
 -- ---- what the engine knows when it makes an event
 
@@ -37,12 +33,12 @@ known_then i w l next =
     let log : List Logged = log_of w 0 in
     image_same i ls (log_of w) next.own
     (λ unit. ap (λ (xs : List Logged). filter_map (λ (m : Logged). told_by ls unit m.event) xs) next.own
-    ∙ made_at (λ (m : Logged). told_by ls unit m.event) (λ (m : Logged). told_by (log_of w) unit m.event) log
+    ∙ made_alike (λ (m : Logged). told_by ls unit m.event) (λ (m : Logged). told_by (log_of w) unit m.event) log
     (λ k m e. told_one w ls (log_of w) unit m m.event
     (λ u n named.
-    let rises : known m (suc u) ≤ known l (suc u) = next.knowledge.rising m (suc u) (contains_at log k m e) in
+    let rises : known m (suc u) ≤ known l (suc u) = next.knowledge.rising m (suc u) (is_in log k m e) in
     let inside : n < known m (suc u) = named.known_then in
-    ap (option_and_then (λ (z : Logged). unit_event_of z.event)) (get_take (known l (suc u)) (log_of w (suc u)) n (omega arith)))
+    ap (option_and_then (λ (z : Logged). unit_event_of z.event)) (get_taken (known l (suc u)) (log_of w (suc u)) n (omega arith)))
     (all_at (λ (z : Logged). is_plain_event z.event ≡ true) log k m e next.world.engine) (all_at (λ (z : Logged). IsTold w z z.event) log k m e (all_told i w next.world))))
     (λ b begins unit.
     let first = first_knows log b begins in
@@ -52,41 +48,27 @@ known_then i w l next =
 
 -- ---- a longer world
 
-begun_of_first : (n : ℕ) (log : List Logged) (b : Begun) → begun (take n log) ≡ Some b → begun log ≡ Some b
-begun_of_first zero log b e = absurd (none-some b e)
-begun_of_first (suc n) log b e = sym (begun_first (suc n) log (omega arith)) ∙ e
-
 -- the logs at a length of the engine's, in a longer world
 pub known_longer : (i : Image) (s : Step) (w : World) (n : ℕ) → IsPlainWorld i w → n ≤ length (log_of w 0) → known_image i (engine_prefix n (log_of (s ∷ w))) ≡ known_image i (engine_prefix n (log_of w))
 unfolding SameAt
 known_longer i s w n is within =
     let log : List Logged = log_of w 0 in
-    let same : take n (log_of (s ∷ w) 0) ≡ take n log = taken_by log s.logged (s.author == 0) n within in
+    let same : take n (log_of (s ∷ w) 0) ≡ take n log = still_first log s.logged (s.author == 0) n within in
     let ls : Logs = engine_prefix n (log_of (s ∷ w)) in
     let old : Logs = engine_prefix n (log_of w) in
     image_same i ls old same
     (λ unit. ap (λ (xs : List Logged). filter_map (λ (m : Logged). told_by ls unit m.event) xs) same
-    ∙ made_at (λ (m : Logged). told_by ls unit m.event) (λ (m : Logged). told_by old unit m.event) (take n log)
+    ∙ made_alike (λ (m : Logged). told_by ls unit m.event) (λ (m : Logged). told_by old unit m.event) (take n log)
     (λ k m e. told_one w ls old unit m m.event
     (λ u j named. ap (option_and_then (λ (z : Logged). unit_event_of z.event)) (grown (log_of w (suc u)) s.logged (s.author == suc u) j named.logged named.at.there ∙ sym named.at.there))
-    (all_at (λ (z : Logged). is_plain_event z.event ≡ true) log k m (get_whole n log k m e).0 is.engine) (all_at (λ (z : Logged). IsTold w z z.event) log k m (get_whole n log k m e).0 (all_told i w is))))
-    (λ b begins unit. taken_by (log_of w (suc unit)) s.logged (s.author == suc unit) (slice_index b.knows (suc unit)) (begins_well i w unit is b (begun_of_first n log b begins)).within)
-
-pub whole_prefix : (logs : Logs) → engine_prefix (length (logs 0)) logs ≡ logs
-whole_prefix logs = fun_same (engine_prefix (length (logs 0)) logs) logs (whole_at logs)
+    (all_at (λ (z : Logged). is_plain_event z.event ≡ true) log k m (get_whole_within n log k m e).0 is.engine) (all_at (λ (z : Logged). IsTold w z z.event) log k m (get_whole_within n log k m e).0 (all_told i w is))))
+    (λ b begins unit. still_first (log_of w (suc unit)) s.logged (s.author == suc unit) (slice_index b.knows (suc unit)) (begins_well i w unit is b (begun_of_first n log b begins)).within)
 
 -- the image before the world's last event
 pub known_before : (i : Image) (s : Step) (w : World) → IsPlainWorld i w → known_image i (engine_prefix (length (log_of w 0)) (log_of (s ∷ w))) ≡ known_image i (log_of w)
 known_before i s w is = known_longer i s w (length (log_of w 0)) is (le_refl (length (log_of w 0))) ∙ ap (known_image i) (whole_prefix (log_of w))
 
 -- ---- one more event
-
-last_made : {X Y : Type 0} (f : X → Option Y) (xs : List X) (x : X) → filter_map f (xs ++ x ∷ []) ≡ filter_map f xs ++ option_to_list (f x)
-last_made f xs x = filter_map-append f xs (x ∷ []) ∙ ap (λ ys. filter_map f xs ++ ys) (one (f x))
-  where
-    one : {Y : Type 0} (o : Option Y) → cons_option o [] ≡ option_to_list o
-    one None = refl
-    one (Some y) = refl
 
 pub begun_stays : (log : List Logged) (l : Logged) → 0 < length log → begun (log ++ l ∷ []) ≡ begun log
 begun_stays [] l h = absurd (omega arith)
@@ -111,7 +93,7 @@ live_one_more i s w line unit is author some leaves =
     let old : Logs = engine_prefix (length log) new in
     let from : 0 + unit ≡ unit = omega arith in
     let more : new 0 ≡ log ++ s.logged ∷ [] = ap (λ b. if b then log ++ s.logged ∷ [] else log) author in
-    let first : take (length log) (new 0) ≡ log = taken_by log s.logged (s.author == 0) (length log) (le_refl (length log)) ∙ take_all (length log) log (le_refl (length log)) in
+    let first : take (length log) (new 0) ≡ log = still_first log s.logged (s.author == 0) (length log) (le_refl (length log)) ∙ take_all (length log) log (le_refl (length log)) in
     let told : told_events new unit ≡ told_events old unit ++ option_to_list (told_by new unit s.logged.event) =
     ap (λ (xs : List Logged). filter_map (λ (m : Logged). told_by new unit m.event) xs) more ∙ last_made (λ (m : Logged). told_by new unit m.event) log s.logged
     ∙ ap (λ (xs : List Logged). filter_map (λ (m : Logged). told_by old unit m.event) xs ++ option_to_list (told_by new unit s.logged.event)) (sym first) in
@@ -119,11 +101,11 @@ live_one_more i s w line unit is author some leaves =
     ap (λ (b : Option Begun). (found_by i new b).units) (ap begun more ∙ begun_stays log s.logged some ∙ ap begun (sym first)) in
     let base : Option (List Chunk) = slice_get (found_image i old).units unit in
     let new_units : slice_get (known_image i new).units unit ≡ option_map (λ cs. after_log i.shape cs (told_events old unit ++ option_to_list (told_by new unit s.logged.event))) (slice_get (found_image i old).units unit) =
-    get_numbered (λ unit. after_log i.shape unit.1 (told_events new unit.0)) 0 (found_image i new).units unit
+    numbered_at (λ unit. after_log i.shape unit.1 (told_events new unit.0)) 0 (found_image i new).units unit
     ∙ ap₂ (λ k (us : List (List Chunk)). option_map (λ cs. after_log i.shape cs (told_events new k)) (slice_get us unit)) from found
     ∙ ap (λ (es : List UnitEvent). option_map (λ cs. after_log i.shape cs es) (slice_get (found_image i old).units unit)) told in
     let old_units : slice_get (known_image i old).units unit ≡ option_map (λ cs. after_log i.shape cs (told_events old unit)) (slice_get (found_image i old).units unit) =
-    get_numbered (λ unit. after_log i.shape unit.1 (told_events old unit.0)) 0 (found_image i old).units unit
+    numbered_at (λ unit. after_log i.shape unit.1 (told_events old unit.0)) 0 (found_image i old).units unit
     ∙ ap (λ k. option_map (λ cs. after_log i.shape cs (told_events old k)) (slice_get (found_image i old).units unit)) from in
     let before : known_image i old ≡ known_image i (log_of w) = known_before i s w is in
     ap (λ (o : Option (List Chunk)). option_map_or (λ chunks. has_online chunks line) o false) new_units
@@ -146,7 +128,7 @@ known_one_more i s w unit is author some =
     let old : Logs = engine_prefix (length log) new in
     let from : 0 + unit ≡ unit = omega arith in
     let more : new 0 ≡ log ++ s.logged ∷ [] = ap (λ b. if b then log ++ s.logged ∷ [] else log) author in
-    let first : take (length log) (new 0) ≡ log = taken_by log s.logged (s.author == 0) (length log) (le_refl (length log)) ∙ take_all (length log) log (le_refl (length log)) in
+    let first : take (length log) (new 0) ≡ log = still_first log s.logged (s.author == 0) (length log) (le_refl (length log)) ∙ take_all (length log) log (le_refl (length log)) in
     let told : told_events new unit ≡ told_events old unit ++ option_to_list (told_by new unit s.logged.event) =
     ap (λ (xs : List Logged). filter_map (λ (m : Logged). told_by new unit m.event) xs) more ∙ last_made (λ (m : Logged). told_by new unit m.event) log s.logged
     ∙ ap (λ (xs : List Logged). filter_map (λ (m : Logged). told_by old unit m.event) xs ++ option_to_list (told_by new unit s.logged.event)) (sym first) in
@@ -154,11 +136,11 @@ known_one_more i s w unit is author some =
     ap (λ (b : Option Begun). (found_by i new b).units) (ap begun more ∙ begun_stays log s.logged some ∙ ap begun (sym first)) in
     let base : Option (List Chunk) = slice_get (found_image i old).units unit in
     let new_units : slice_get (known_image i new).units unit ≡ option_map (λ cs. after_log i.shape cs (told_events old unit ++ option_to_list (told_by new unit s.logged.event))) (slice_get (found_image i old).units unit) =
-    get_numbered (λ unit. after_log i.shape unit.1 (told_events new unit.0)) 0 (found_image i new).units unit
+    numbered_at (λ unit. after_log i.shape unit.1 (told_events new unit.0)) 0 (found_image i new).units unit
     ∙ ap₂ (λ k (us : List (List Chunk)). option_map (λ cs. after_log i.shape cs (told_events new k)) (slice_get us unit)) from found
     ∙ ap (λ (es : List UnitEvent). option_map (λ cs. after_log i.shape cs es) (slice_get (found_image i old).units unit)) told in
     let old_units : slice_get (known_image i old).units unit ≡ option_map (λ cs. after_log i.shape cs (told_events old unit)) (slice_get (found_image i old).units unit) =
-    get_numbered (λ unit. after_log i.shape unit.1 (told_events old unit.0)) 0 (found_image i old).units unit
+    numbered_at (λ unit. after_log i.shape unit.1 (told_events old unit.0)) 0 (found_image i old).units unit
     ∙ ap (λ k. option_map (λ cs. after_log i.shape cs (told_events old k)) (slice_get (found_image i old).units unit)) from in
     let before : known_image i old ≡ known_image i (log_of w) = known_before i s w is in
     new_units ∙ split_last i.shape (told_events old unit) (option_to_list (told_by new unit s.logged.event)) (slice_get (found_image i old).units unit)

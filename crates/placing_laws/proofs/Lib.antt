@@ -1,6 +1,5 @@
 pub mod Units
 pub mod Worlds
-pub mod Online
 pub mod Lengths
 pub mod Answers
 pub mod Opened

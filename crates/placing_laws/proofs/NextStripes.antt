@@ -1,18 +1,19 @@
 -- The next stripe of an opened line is the one behind those that were placed, and nothing of the line failed.
-use Rattle.std.proofs.Common.{◌≡◌, ℕ, ◌+◌, ◌<◌, ◌≤◌, ◌&&◌, ◌||◌, zero, suc, not, Bool, true, false, Some, None, Option, List, [], ◌∷◌, ◌++◌, map, length, take, drop, replicate, refl, sym, subst, ap, ap₂, ◌∙◌, arith}
+use Rattle.std.proofs.Common.{◌≡◌, ℕ, ◌+◌, ◌<◌, ◌≤◌, ◌&&◌, zero, suc, not, Bool, true, false, Some, None, Option, List, [], ◌∷◌, ◌++◌, map, length, take, drop, replicate, refl, sym, subst, ap, ap₂, ◌∙◌, arith}
 use Rattle.std.specs.Prelude.{slice_get}
-use Rattle.std.specs.List.{AllByRecursion, list_all, list_any}
+use Rattle.std.specs.List.{AllByRecursion, list_all}
 use Rattle.std.specs.Option.{option_map_or}
 use Rattle.pblk_world.specs.Events.{Logged}
 use Rattle.pblk_world.specs.EngineLog.{Placed, Answer, DidLand, WasLost, answer_of, is_land, is_loss, has_landed}
-use Rattle.stripe_placer.specs.OpenLines.{Stripe, OpenLine, is_unplaced, is_landed, is_lost, stripe_is, is_closed, in_one_chunk, numbers, is_to_place, next_of, has_failed, start_has_landed, data_has_landed}
+use Rattle.stripe_placer.specs.OpenLines.{Stripe, OpenLine, is_unplaced, is_landed, is_lost, stripe_is, is_to_place, next_of, has_failed, start_has_landed, data_has_landed}
 use Rattle.stripe_placer.specs.OpenLines.Stripe.{Unplaced}
 use Rattle.stripe_placer.proofs.Numbered.{found_in_range, none_in_range}
 use Rattle.core_laws.specs.OpenedLines.{by_answer}
 use Rattle.core_laws.specs.PlainWorlds.{ArePlain}
-use Rattle.core_laws.proofs.Lists.{none_any}
-use Rattle.placing_laws.proofs.Answers.{not_lost}
 use Rattle.placing_laws.proofs.Forms.{answered_as}
+use Rattle.core_laws.proofs.PlainWorldsLemmas.{not_lost}
+use Rattle.lemmas.proofs.Maps.{any_fail}
+use Rattle.stripe_placer.proofs.OpenLinesLemmas.{length_new, no_chunk_closed}
 
 -- ---- what became of one stripe
 
@@ -45,23 +46,16 @@ unfolding answered_as
 unlost log [] m plain = new_unlost m
 unlost log (p ∷ ps) m plain = (lost_is (answer_of log p) ∙ not_lost log p plain, unlost log ps m plain)
 
-all_any : {X : Type 0} (test : X → Bool) (xs : List X) → AllByRecursion (λ x. test x ≡ false) xs → list_any test xs ≡ false
-all_any test [] all = refl
-all_any test (x ∷ xs) all = ap (λ b. b || list_any test xs) all.0 ∙ all_any test xs all.1
-
 all_got : {X : Type 0} (test : X → Bool) (xs : List X) (k : ℕ) → AllByRecursion (λ x. test x ≡ false) xs → option_map_or test (slice_get xs k) false ≡ false
 all_got test [] k all = refl
 all_got test (x ∷ xs) zero all = all.0
 all_got test (x ∷ xs) (suc k) all = all_got test xs k all.1
 
 pub never_failed : (l : OpenLine) → AllByRecursion (λ x. is_lost x ≡ false) l.stripes → has_failed l ≡ false
-never_failed l all = all_any is_lost l.stripes all
-
-never_closed : (l : OpenLine) (j : ℕ) → AllByRecursion (λ x. is_lost x ≡ false) l.stripes → is_closed l j ≡ false
-never_closed l j all = none_any (λ i. stripe_is l is_lost i && in_one_chunk l i j) (λ i. ap (λ b. b && in_one_chunk l i j) (all_got is_lost l.stripes i all)) (numbers l)
+never_failed l all = any_fail is_lost l.stripes all
 
 to_place : (l : OpenLine) (j : ℕ) → AllByRecursion (λ x. is_lost x ≡ false) l.stripes → is_to_place l j ≡ stripe_is l is_unplaced j
-to_place l j all = ap (λ b. stripe_is l is_unplaced j && not b) (never_closed l j all) ∙ and_true (stripe_is l is_unplaced j)
+to_place l j all = ap (λ b. stripe_is l is_unplaced j && not b) (no_chunk_closed l j all) ∙ and_true (stripe_is l is_unplaced j)
   where
     and_true : (b : Bool) → (b && true) ≡ b
     and_true true = refl
@@ -77,10 +71,6 @@ unplaced_here : (log : List Logged) (ps : List Placed) (m : ℕ) → 0 < m → o
 unplaced_here log [] zero h = absurd (omega arith)
 unplaced_here log [] (suc m) h = refl
 unplaced_here log (p ∷ ps) m h = unplaced_here log ps m h
-
-length_new : (m : ℕ) → length (replicate m Unplaced) ≡ m
-length_new zero = refl
-length_new (suc m) = ap suc (length_new m)
 
 form_length : (log : List Logged) (ps : List Placed) (m : ℕ) → length (in_form log ps m) ≡ length ps + m
 form_length log [] m = length_new m ∙ omega arith

@@ -1,7 +1,7 @@
 -- What the placer of a plain world offers: the next stripe of an opened line, on an idle unit.
-use Rattle.std.proofs.Common.{◌≡◌, ℕ, ◌-◌, ◌*◌, ◌/◌, ◌%◌, ◌<◌, ◌≤◌, ◌&&◌, zero, suc, not, nat_lt, Bool, true, false, Some, None, Option, List, [], ◌∷◌, ◌++◌, map, length, refl, sym, ap, ap₂, ◌∙◌, arith, mod-lt}
+use Rattle.std.proofs.Common.{◌≡◌, ℕ, ◌-◌, ◌*◌, ◌/◌, ◌%◌, ◌<◌, ◌≤◌, ◌&&◌, zero, suc, not, nat_lt, Bool, true, false, Some, Option, List, [], ◌∷◌, ◌++◌, map, length, refl, sym, ap, ap₂, ◌∙◌, arith, mod-lt}
 use Rattle.std.specs.Prelude.{slice_get}
-use Rattle.std.specs.List.{filter_map, cons_option, find, range_with_len, slice_index_or}
+use Rattle.std.specs.List.{filter_map, find, range_with_len, slice_index_or}
 use Rattle.std.specs.Option.{option_map_or}
 use Rattle.std.proofs.lemmas.Option.{same_Some, none-some, slice_get-get_or}
 use Rattle.pblk_model.specs.declared.shape.Shape.{Shape}
@@ -17,32 +17,24 @@ use Rattle.stripe_placer.specs.Entries.{Entries}
 use Rattle.stripe_placer.specs.OpenLines.{OpenLine, width, has_left, next_of, kind_of}
 use Rattle.stripe_placer.specs.Placing.{Program, UnitRow, is_under_way, is_ready, allows, next_positions, program_of, next_in, next_stripe}
 use Rattle.stripe_placer.proofs.Named.{IsProgramIn, its_program}
-use Rattle.stripe_placer.proofs.Among.{IsAmong, later, from_filter, from_map}
-use Rattle.stripe_placer.proofs.Chunks.{le_of as is_above, lt_of as is_below}
+use Rattle.stripe_placer.proofs.Chunks.{lt_of as is_below}
 use Rattle.core_laws.specs.OpenedLines.{open_line, standing, open_lines}
 use Rattle.core_laws.specs.PlacerOf.{entries_of, row_of, placing_of}
-use Rattle.core_laws.proofs.Lists.{all_at}
-use Rattle.core_laws.proofs.Turns.{filtered_is, found_is}
+use Rattle.core_laws.proofs.Turns.{filtered_is}
 use Rattle.placing_laws.proofs.Followed.{IsFollowed}
 use Rattle.placing_laws.proofs.Opened.{its_life}
-use Rattle.placing_laws.proofs.Online.{known_length}
 use Rattle.placing_laws.proofs.KeptLines.{few_units, unit_live}
 use Rattle.placing_laws.proofs.InOrder.{wide, stripe_count, IsAtPlace}
 use Rattle.placing_laws.proofs.Forms.{IsLineOf, line_of, formed}
 use Rattle.placing_laws.proofs.NextStripes.{next_is, none_next}
 use Rattle.placing_laws.proofs.Idle.{no_stopped, is_idle, row_there}
+use Rattle.lemmas.proofs.Lists.{IsAmong}
+use Rattle.lemmas.proofs.Maps.{found_passes, from_filter, from_given, from_map}
+use Rattle.lemmas.proofs.Parts.{all_at}
+use Rattle.lemmas.proofs.Tests.{le_of_lt_false}
+use Rattle.pblk_world.proofs.LinesLemmas.{length_known}
 
 -- ---- lists
-
-from_first : {X Y : Type 0} (give : X → Option Y) (x : X) (xs : List X) (y : Y) (o : Option Y) (i : ℕ) → give x ≡ o → ((k : ℕ) → slice_get (filter_map give xs) k ≡ Some y → (z : X) × IsAmong xs z × (give z ≡ Some y)) → slice_get (cons_option o (filter_map give xs)) i ≡ Some y
-    → (z : X) × IsAmong (x ∷ xs) z × (give z ≡ Some y)
-from_first give x xs y None i is rest e = let r = rest i e in (r.0, later x xs r.0 r.1, r.2)
-from_first give x xs y (Some w) zero is rest e = let same : w ≡ y = same_Some w y e in (x, (0, refl), is ∙ ap (λ v. Some v) same)
-from_first give x xs y (Some w) (suc i) is rest e = let r = rest i e in (r.0, later x xs r.0 r.1, r.2)
-
-from_given : {X Y : Type 0} (give : X → Option Y) (xs : List X) (y : Y) (i : ℕ) → slice_get (filter_map give xs) i ≡ Some y → (x : X) × IsAmong xs x × (give x ≡ Some y)
-from_given give [] y i e = absurd (none-some y e)
-from_given give (x ∷ xs) y i e = from_first give x xs y (give x) i refl (from_given give xs y) e
 
 -- ---- the opened line of an offered program
 
@@ -81,7 +73,7 @@ unit_within i us w line k unit is opened e =
     let few : length (known_image i (log_of w)).units ≤ 64 = few_units i w (log_of w) is.plain in
     let live : is_live (known_image i (log_of w)) line unit ≡ true = unit_live (known_image i (log_of w)) line k unit few (ap (λ (xs : List ℕ). slice_get xs k) (is.keeps line opened) ∙ e) in
     let inside : unit < length (known_image i (log_of w)).units = there (λ (chunks : List Chunk). option_map_or (λ (c : Chunk). is_online_in c.state) (slice_get chunks line) false) (known_image i (log_of w)).units unit live in
-    let same : length (known_image i (log_of w)).units ≡ length i.units = known_length i (log_of w) in
+    let same : length (known_image i (log_of w)).units ≡ length i.units = length_known i (log_of w) in
     let count = is.plain.fit.units in
     omega arith
 
@@ -118,7 +110,7 @@ next_number i us w o j is line e = go (nat_lt (length (stripes_of (log_of w 0) o
               (sym (next_is (open_line i (log_of w) o) (log_of w 0) (stripes_of (log_of w 0) o) (stripe_count i us o.line - length (stripes_of (log_of w 0) o)) is.plain.engine (formed i us w o line) (omega arith)) ∙ e),
         )
     go false f =
-        let outside : stripe_count i us o.line ≤ length (stripes_of (log_of w 0) o) = is_above (length (stripes_of (log_of w 0) o)) (stripe_count i us o.line) f in
+        let outside : stripe_count i us o.line ≤ length (stripes_of (log_of w 0) o) = le_of_lt_false (length (stripes_of (log_of w 0) o)) (stripe_count i us o.line) f in
         absurd (none-some j (sym (none_next (open_line i (log_of w) o) (log_of w 0) (stripes_of (log_of w 0) o) (stripe_count i us o.line - length (stripes_of (log_of w 0) o)) is.plain.engine (formed i us w o line) (omega arith)) ∙ e))
 
 not_true : (a b : Bool) → (not a && not b) ≡ true → b ≡ false
@@ -173,6 +165,6 @@ what_is_offered i us w pad busy of is next =
     let given : List Program = filter_map (next_in i.shape (entries_of i.shape (log_of w 0) pad)) (open_lines i (log_of w)) in
     let only : find (λ (x : Program). is_ready rows busy x.unit) given ≡ Some of =
     ap (λ (ps : List Program). find (λ (x : Program). is_ready rows busy x.unit) (ps ++ given)) (sym (no_stopped i us w 0 (units i.shape) is)) ∙ next in
-    let found = found_is (λ (x : Program). is_ready rows busy x.unit) given of only in
+    let found = found_passes (λ (x : Program). is_ready rows busy x.unit) given of only in
     let by = offered_by i us w pad of is found.1 in
     (by.0, offered i us w pad busy of by.0 is by.1 found.0)

@@ -13,11 +13,13 @@ use Rattle.pblk_world.specs.Opening.{MayOpen}
 use Rattle.pblk_world.proofs.Appending.{life_more, openings_more}
 use Rattle.core_laws.specs.PlainWorlds.{is_plain_event}
 use Rattle.core_laws.proofs.Engine.{openings_before}
-use Rattle.core_laws.proofs.Rows.{other_number, same_number}
 use Rattle.core_laws.specs.OpenedLines.{standing}
-use Rattle.core_laws.proofs.Lists.{with_last as all_and_last}
-use Rattle.stripe_placer.proofs.Among.{IsAmong, before_last, in_filter}
 use Rattle.placing_laws.proofs.Followed.{IsFollowed, IsNextEvent, by_events, units_width}
+use Rattle.lemmas.proofs.Lists.{IsAmong, with_last}
+use Rattle.lemmas.proofs.Maps.{in_filter}
+use Rattle.lemmas.proofs.Parts.{before_last}
+use Rattle.lemmas.proofs.Tests.{other_number, positive, same_number}
+use Rattle.pblk_world.proofs.EngineLogLemmas.{opened_same}
 
 -- ---- an opening of a line
 
@@ -32,9 +34,6 @@ third true true c e = e
 third true false c e = absurd cc
 third false b c e = absurd cc
 
-some : (n : ℕ) → nat_lt 0 n ≡ true → 0 < n
-some n e = grind arith
-
 opens_well : (i : Image) (us : ℕ → List ℕ) (ls : Logs) (begins : Begun) (line number : ℕ) (start : StartRecord) (knows : List ℕ) → line_units (known_image i ls) line ≡ us line → MayOpen i ls begins line start
     → IsOpenedLine i us line (record { number = number; line = line; start = start; knows = knows })
 opens_well i us ls begins line number start knows units may = record {
@@ -42,11 +41,8 @@ opens_well i us ls begins line number start knows units may = record {
   its_line = refl;
   width = may.own_width ∙ units_width i us ls line units;
   has_data = subst (λ g. 0 < data_len i.shape g) (units_width i us ls line units)
-      (some (line_data (known_image i ls) line) (third (not (has_number i ls (life_of (ls 0) line) line)) (are_empty (known_image i ls) line) (nat_lt 0 (line_data (known_image i ls) line)) may.is_free));
+      (positive (line_data (known_image i ls) line) (third (not (has_number i ls (life_of (ls 0) line) line)) (are_empty (known_image i ls) line) (nat_lt 0 (line_data (known_image i ls) line)) may.is_free));
 }
-
-opened_same : (p o : Opening) → Opened p ≡ Opened o → p ≡ o
-opened_same p o e = cc
 
 opened_step : (i : Image) (us : ℕ → List ℕ) (w : World) (knows : List ℕ) (x : Event) (line : ℕ) (o : Opening) → IsNextEvent i us w 0 (record { event = x; knows = knows })
     → ((p : Opening) → life_of (log_of w 0) line ≡ Opened p → IsOpenedLine i us line p) → turned_by line (life_of (log_of w 0) line) (length (log_of w 0)) knows x ≡ Opened o → IsOpenedLine i us line o
@@ -103,7 +99,7 @@ openings_step log knows (Decides (Open line start)) plain all =
     let l : Logged = record { event = Decides (Open line start); knows = knows } in
     let new : Opening = record { number = length log; line = line; start = start; knows = knows } in
     subst (AllByRecursion (IsItsLife (log ++ l ∷ []))) (sym (openings_more log l))
-    (all_and_last (IsItsLife (log ++ l ∷ [])) (openings log) new (lives_step log l (openings log) plain (openings_before log) all)
+    (with_last (IsItsLife (log ++ l ∷ [])) (openings log) new (lives_step log l (openings log) plain (openings_before log) all)
     (λ e. life_more log l line ∙ ap (λ b. if b then Opened new else life_of log line) (same_number line)))
 openings_step log knows x plain all =
     let l : Logged = record { event = x; knows = knows } in

@@ -1,11 +1,10 @@
 -- The stripe for a program that the placer of a plain world offers may be placed.
 use Rattle.std.proofs.Common.{◌≡◌, ◌≢◌, ◌⊎◌, inl, inr, ℕ, ◌+◌, ◌-◌, ◌*◌, ◌/◌, ◌%◌, ◌<◌, ◌≤◌, ◌==◌, ◌&&◌, ◌||◌, zero, suc, nat_lt, Bool, true, false, Some, Option, List, [], ◌∷◌, length, take, drop, refl, sym, subst, ap, ap₂, ◌∙◌, arith, if◌then◌else◌, mul-div_cancel}
 use Rattle.std.specs.Prelude.{slice_get, nat_le}
-use Rattle.std.specs.List.{Contains, filter_map, list_all, list_any}
+use Rattle.std.specs.List.{filter_map, list_all, list_any}
 use Rattle.std.specs.Option.{option_map}
 use Rattle.std.proofs.lemmas.Bool.{eqb-true}
 use Rattle.std.proofs.lemmas.Bool.Decides.{nat_tests}
-use Rattle.std.proofs.lemmas.Option.{slice_get-get_or}
 use Rattle.std.proofs.Math.Nat.{mul-mod_left}
 use Rattle.pblk_model.specs.declared.shape.Shape.{Shape}
 use Rattle.pblk_model.specs.Shape.{units}
@@ -27,25 +26,25 @@ use Rattle.stripe_placer.specs.Entries.{waiting, has_stripe}
 use Rattle.stripe_placer.specs.OpenLines as line
 use Rattle.stripe_placer.specs.OpenLines.{OpenLine, kind_of, start_has_landed}
 use Rattle.stripe_placer.specs.Placing.{Program, allows, next_positions, next_stripe}
-use Rattle.stripe_placer.proofs.Among.{IsAmong}
-use Rattle.stripe_placer.proofs.Rising.{le_true as within_is}
-use Rattle.stripe_placer.proofs.Chunks.{le_of as is_above, lt_of as is_below}
+use Rattle.stripe_placer.proofs.Chunks.{lt_of as is_below}
 use Rattle.core_laws.specs.OpenedLines.{open_line}
 use Rattle.core_laws.specs.PlacerOf.{entries_of, placing_of, IsStripeOf}
 use Rattle.core_laws.proofs.Turns.{filtered_is}
 use Rattle.core_laws.proofs.WaitingEntries.{waiting_alike}
-use Rattle.core_laws.proofs.Tests.{both, and_both as yes_yes}
 use Rattle.core_laws.proofs.PlacedEntries.{length_positions as positions_length}
 use Rattle.placing_laws.proofs.Followed.{IsFollowed, units_width}
 use Rattle.placing_laws.specs.StripeFor.{blocks_for, IsStripeFor, positions_for, IsProgramFor}
 use Rattle.placing_laws.proofs.Lengths.{IsStriped, begins_before, ends_before, begins_after}
-use Rattle.placing_laws.proofs.Answers.{not_failed}
 use Rattle.placing_laws.proofs.InOrder.{wide, stripe_count, IsAtPlace}
 use Rattle.placing_laws.proofs.Forms.{IsLineOf, formed}
 use Rattle.placing_laws.proofs.NextStripes.{unfailed, start_landed, data_landed, all_parts}
 use Rattle.placing_laws.proofs.BlockPositions.{record_positions, data_positions, no_pad_positions}
 use Rattle.placing_laws.proofs.Idle.{all_answered}
 use Rattle.placing_laws.proofs.Offered.{IsOffered, what_is_offered}
+use Rattle.core_laws.proofs.PlainWorldsLemmas.{none_failed as not_failed}
+use Rattle.lemmas.proofs.Lists.{IsAmong, among_contained}
+use Rattle.lemmas.proofs.Tests.{and_both, both, le_of_lt_false, le_true}
+use Rattle.pblk_world.proofs.EngineLogLemmas.{opened_same}
 
 -- ---- the place of a stripe
 
@@ -84,8 +83,8 @@ part_of k c d = go (nat_lt k c) (nat_lt k (c + d)) refl refl
   where
     go : (a b : Bool) → nat_lt k c ≡ a → nat_lt k (c + d) ≡ b → IsPart k c d (if a then kinds.Start else if b then kinds.Data else kinds.End)
     go true b e f = is_below k c e
-    go false true e f = (is_above k c e, is_below k (c + d) f)
-    go false false e f = is_above k (c + d) f
+    go false true e f = (le_of_lt_false k c e, is_below k (c + d) f)
+    go false false e f = le_of_lt_false k (c + d) f
 
 -- ---- entries
 
@@ -173,7 +172,7 @@ may_by_kind i us w pad of o stripe kinds.Data is off parts next part allowed blo
     inr (inl (record {
       next = next;
       within = begins_before s.ws_opt k (c + l.data_count) (end_address s o) some parts.ends_is part.1;
-      start_landed = yes_yes (nat_le c k) (list_all (has_landed log) (take c (stripes_of log o))) (within_is c k part.0)
+      start_landed = and_both (nat_le c k) (list_all (has_landed log) (take c (stripes_of log o))) (le_true c k part.0)
           (sym (start_landed l log (stripes_of log o) (stripe_count i us o.line - k) (formed i us w o off.line_is) part.0) ∙ two.0);
       has_entry = has_some s log pad some two.1;
       blocks = blocks;
@@ -198,13 +197,10 @@ may_by_kind i us w pad of o stripe kinds.End is off parts next part allowed bloc
       from = begins_after s.ws_opt k (c + d) (end_address s o) parts.ends_is beyond;
       within = begins_before s.ws_opt k (stripe_count i us o.line) (line_end s o) some parts.line_is off.inside;
       data_landed = ap (λ m. nat_le m k && list_all (has_landed log) (take m ps)) parts.count_is
-          ∙ yes_yes (nat_le (c + d) k) (list_all (has_landed log) (take (c + d) ps)) (within_is (c + d) k beyond)
-          (all_parts (has_landed log) c d ps ∙ yes_yes (list_all (has_landed log) (take c ps)) (list_all (has_landed log) (take d (drop c ps))) first rest);
+          ∙ and_both (nat_le (c + d) k) (list_all (has_landed log) (take (c + d) ps)) (le_true (c + d) k beyond)
+          (all_parts (has_landed log) c d ps ∙ and_both (list_all (has_landed log) (take c ps)) (list_all (has_landed log) (take d (drop c ps))) first rest);
       blocks = blocks;
     })))
-
-contains : {X : Type 0} (xs : List X) (x : X) → Contains xs x → IsAmong xs x
-contains xs x c = (c.0, slice_get-get_or xs c.0 x c.1 ∙ ap (λ y. Some y) (c.2))
 
 placeable : (i : Image) (us : ℕ → List ℕ) (w : World) (pad : ℕ) (of : Program) (o : Opening) (stripe : Stripe) → IsFollowed i us w → IsOffered i us w pad of o → IsStripeFor i (log_of w) o of stripe → MayPlace i (log_of w) stripe
 placeable i us w pad of o stripe is off for =
@@ -221,8 +217,8 @@ placeable i us w pad of o stripe is off for =
       chunk = for.chunk ∙ sym for.line;
       opening = o;
       is_open = ap (life_of log) line ∙ off.life;
-      idle = λ p there. all_answered log stripe.unit p (subst (λ u. length (answers log u) ≡ length (placed_on log u)) (sym for.unit) off.idle) (contains (placed_on log stripe.unit) p there)
-          (eqb-true p.stripe.unit stripe.unit (let at : IsAmong (placed_on log stripe.unit) p = contains (placed_on log stripe.unit) p there in filtered_is (λ (q : Placed). q.stripe.unit == stripe.unit) (placements log) at.0 p at.1));
+      idle = λ p there. all_answered log stripe.unit p (subst (λ u. length (answers log u) ≡ length (placed_on log u)) (sym for.unit) off.idle) (among_contained (placed_on log stripe.unit) p there)
+          (eqb-true p.stripe.unit stripe.unit (let at : IsAmong (placed_on log stripe.unit) p = among_contained (placed_on log stripe.unit) p there in filtered_is (λ (q : Placed). q.stripe.unit == stripe.unit) (placements log) at.0 p at.1));
       kind = may_by_kind i us w pad of o stripe of.kind is off parts (next_in_line i us w pad of o stripe is off for.line for.unit for.at)
           (subst (IsPart k c l.data_count) kind (part_of k c l.data_count)) off.allowed (for.blocks ∙ ap (λ a. blocks_for i.shape log o a of.kind) off.at);
     }
@@ -254,9 +250,6 @@ is_its i us w pad of o stripe is off for = record {
 }
 
 -- ---- the laws
-
-opened_same : (p o : Opening) → Opened p ≡ Opened o → p ≡ o
-opened_same p o e = cc
 
 offered_here : (i : Image) (us : ℕ → List ℕ) (w : World) (pad busy : ℕ) (of : Program) (o : Opening) → IsFollowed i us w → next_stripe (placing_of i (log_of w) pad []) busy ≡ Some of → life_of (log_of w 0) of.line ≡ Opened o → IsOffered i us w pad of o
 offered_here i us w pad busy of o is next opened =

@@ -1,5 +1,5 @@
 -- A placed stripe has its whole number of blocks, and stands in the chunk of its line.
-use Rattle.std.proofs.Common.{◌≡◌, ◌⊎◌, inl, inr, ℕ, ◌+◌, ◌-◌, ◌*◌, ◌/◌, ◌<◌, ◌≤◌, zero, suc, min, nat_lt, Bool, true, false, cond, Some, List, [], ◌∷◌, ◌++◌, map, length, take, drop, replicate, refl, sym, subst, ap, ◌∙◌, arith, append-nil, length-append, length-drop, length-take}
+use Rattle.std.proofs.Common.{◌≡◌, ◌⊎◌, inl, inr, ℕ, ◌+◌, ◌-◌, ◌*◌, ◌/◌, ◌<◌, ◌≤◌, zero, suc, min, Bool, true, false, cond, Some, List, [], ◌∷◌, ◌++◌, map, length, take, drop, replicate, refl, sym, subst, ap, ◌∙◌, arith, append-nil, length-append, length-drop, length-take}
 use Rattle.std.specs.Prelude.{slice_range}
 use Rattle.std.specs.List.{AllByRecursion}
 use Rattle.std.proofs.lemmas.Bool.{eqb-true}
@@ -21,13 +21,13 @@ use Rattle.pblk_world.specs.Placing.{IsStart, IsData, IsEnd, IsPad, MayPlace, re
 use Rattle.pblk_world.proofs.Appending.{placements_more}
 use Rattle.core_laws.proofs.Numbers.{opens_at, life_at}
 use Rattle.core_laws.proofs.Placing.{new_placed, placements_now}
-use Rattle.core_laws.proofs.Lists.{with_last as all_and_last}
-use Rattle.stripe_placer.proofs.Rows.{length_replicate as new_length}
 use Rattle.placing_laws.proofs.Followed.{IsFollowed, IsNextEvent, by_events}
 use Rattle.placing_laws.proofs.Lengths.{IsStriped, is_before, ends_before}
-use Rattle.placing_laws.proofs.Answers.{not_failed}
 use Rattle.placing_laws.proofs.Opened.{IsOpenedLine, opened_lines}
 use Rattle.placing_laws.proofs.InOrder.{wide, its_stripes}
+use Rattle.core_laws.proofs.PlainWorldsLemmas.{none_failed}
+use Rattle.lemmas.proofs.Lists.{length_replicate, with_last}
+use Rattle.pblk_model.proofs.LineOrderLemmas.{whole_line}
 
 -- ---- how many blocks
 
@@ -44,15 +44,12 @@ part_long bs from w h =
 padded_long : (w : ℕ) (bs : List Block) (b : Block) → w ≤ length (bs ++ replicate (w - length bs) b)
 padded_long w bs b =
     let sum : length (bs ++ replicate (w - length bs) b) ≡ length bs + length (replicate (w - length bs) b) = length-append bs (replicate (w - length bs) b) in
-    let more : length (replicate (w - length bs) b) ≡ w - length bs = new_length (w - length bs) b in
+    let more : length (replicate (w - length bs) b) ≡ w - length bs = length_replicate (w - length bs) b in
     omega arith
 
 whole_by : (start end all w : ℕ) (b : Bool) → 0 < cond b 0 (all - start - end) → start + cond b 0 (all - start - end) + end ≡ all
 whole_by start end all w true h = absurd (omega arith)
 whole_by start end all w false h = omega arith
-
-whole_line : (s : Shape) (g : ℕ) → 0 < data_len s g → start_len s + data_len s g + end_len s g ≡ g * s.clba
-whole_line s g h = whole_by (start_len s) (end_len s g) (g * s.clba) s.ws_opt (nat_lt (g * s.clba - start_len s - end_len s g) s.ws_opt) h
 
 blocks_long : (i : Image) (us : ℕ → List ℕ) (ls : Logs) (stripe : Stripe) (o : Opening) → 0 < i.shape.ws_opt → IsStriped i.shape (wide us stripe.line) → IsOpenedLine i us stripe.line o → has_failed (ls 0) o ≡ false
     → IsStart i ls o stripe ⊎ (IsData i ls o stripe ⊎ (IsEnd i ls o stripe ⊎ IsPad i ls o stripe)) → i.shape.ws_opt ≤ length stripe.blocks
@@ -101,7 +98,7 @@ may_be_whole i us w l stripe life number is own may =
     let some : 0 < i.shape.ws_opt = is.plain.accepted.drive.ws_opt in
     record {
       long = blocks_long i us (prefixes l (log_of w)) stripe may.opening some (its_stripes i us stripe.line may.opening some is.plain.accepted.drive.whole_stripes well) well
-          (ap (λ log. has_failed log may.opening) own ∙ not_failed (log_of w 0) may.opening is.plain.engine) may.kind;
+          (ap (λ log. has_failed log may.opening) own ∙ none_failed (log_of w 0) may.opening is.plain.engine) may.kind;
       chunk = may.chunk;
     }
 
@@ -113,7 +110,7 @@ whole_step i us w knows (Decides (Place stripe)) next all =
     let may = next.allowed.2 in
     let opened : life_of log stripe.line ≡ Opened may.opening = ap (λ (log : List Logged). life_of log stripe.line) (sym next.own) ∙ may.is_open in
     subst (AllByRecursion (IsWhole i)) (sym (placements_now log stripe knows may.opening opened))
-    (all_and_last (IsWhole i) (placements log) (new_placed log stripe may.opening) all (may_be_whole i us w l stripe (Opened may.opening) (length log) next.world next.own may))
+    (with_last (IsWhole i) (placements log) (new_placed log stripe may.opening) all (may_be_whole i us w l stripe (Opened may.opening) (length log) next.world next.own may))
 whole_step i us w knows x next all =
     let l : Logged = record { event = x; knows = knows } in
     subst (AllByRecursion (IsWhole i)) (sym (placements_more (log_of w 0) l ∙ append-nil (placements (log_of w 0)))) all
@@ -146,7 +143,7 @@ lines_step i us w knows (Decides (Place stripe)) next all =
     let o : Opening = may.opening in
     let opened : life_of log stripe.line ≡ Opened o = ap (λ (log : List Logged). life_of log stripe.line) (sym next.own) ∙ may.is_open in
     subst (AllByRecursion (IsInItsLine (log ++ l ∷ []))) (sym (placements_now log stripe knows o opened))
-    (all_and_last (IsInItsLine (log ++ l ∷ [])) (placements log) (new_placed log stripe o) (lines_later log l (placements log) all)
+    (with_last (IsInItsLine (log ++ l ∷ [])) (placements log) (new_placed log stripe o) (lines_later log l (placements log) all)
     (o, refl, opens_later log l o.number stripe.line (life_at log stripe.line o opened).0))
 lines_step i us w knows x next all =
     let log : List Logged = log_of w 0 in

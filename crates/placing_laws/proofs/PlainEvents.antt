@@ -1,18 +1,20 @@
 -- Plain worlds, step by step: a line that was opened stays so, and each stripe stands in one.
-use Rattle.std.proofs.Common.{◌≡◌, ℕ, ◌+◌, ◌<◌, ◌≤◌, ◌==◌, zero, suc, nat_lt, Bool, true, false, Some, List, [], ◌∷◌, ◌++◌, length, take, drop, refl, sym, subst, ap, ◌∙◌, arith, if◌then◌else◌, append-nil, append_assoc, le_refl, take_all, length-append}
+use Rattle.std.proofs.Common.{◌≡◌, ℕ, ◌+◌, ◌<◌, ◌≤◌, ◌==◌, zero, suc, nat_lt, Bool, true, false, Some, List, [], ◌∷◌, ◌++◌, length, take, refl, sym, subst, ap, ◌∙◌, arith, if◌then◌else◌, append-nil, le_refl, take_all, length-append}
 use Rattle.std.specs.List.{AllByRecursion}
-use Rattle.std.proofs.lemmas.List.{take-append-le, take-take as take_take}
-use Rattle.std.proofs.lemmas.Option.{none-some}
+use Rattle.std.proofs.lemmas.List.{take-append-le}
 use Rattle.pblk_model.specs.Image.{Image}
-use Rattle.pblk_world.specs.Events.{Begin, Does, Open, Place, Free, Event, Decides, Logged, Step}
+use Rattle.pblk_world.specs.Events.{Begin, Does, Place, Event, Decides, Logged, Step}
 use Rattle.pblk_world.specs.World.{World, Logs, log_of, prefixes}
-use Rattle.pblk_world.specs.EngineLog.{Begun, begun, LineLife, Opened, is_opened, turned_by, life_of, Placed, placements}
+use Rattle.pblk_world.specs.EngineLog.{Begun, begun, Opened, is_opened, life_of, Placed, placements}
 use Rattle.pblk_world.specs.Legal.{IsLegal, IsLegalStep, IsAllowed, IsKnowledge}
 use Rattle.pblk_world.proofs.Appending.{life_more, placements_more}
 use Rattle.core_laws.specs.PlainWorlds.{is_plain_event, ArePlain, IsPlainWorld}
 use Rattle.core_laws.proofs.Placing.{new_placed, placements_now}
-use Rattle.core_laws.proofs.Lists.{all_dropped as all_drop, all_taken as all_take, with_last as all_and_last}
-use Rattle.placing_laws.proofs.Worlds.{all_but_last, plain_before, are_plain}
+use Rattle.placing_laws.proofs.Worlds.{all_but_last, are_plain}
+use Rattle.core_laws.proofs.PlainWorldsLemmas.{opened_by_one, plain_before}
+use Rattle.lemmas.proofs.Lists.{with_last}
+use Rattle.lemmas.proofs.Tests.{same}
+use Rattle.pblk_world.proofs.EngineLogLemmas.{begun_stays}
 
 -- ---- one more event of an author
 
@@ -26,9 +28,6 @@ pub record IsNextPlain (i : Image) (w : World) (author : ℕ) (l : Logged) : Typ
 last_plain : (log : List Logged) (l : Logged) (b : Bool) → b ≡ true → ArePlain (if b then log ++ l ∷ [] else log) → is_plain_event l.event ≡ true
 last_plain log l true e all = (all_but_last (λ (m : Logged). is_plain_event m.event ≡ true) log l all).1
 last_plain log l false e all = absurd cc
-
-pub same : (m n : ℕ) → (m == n) ≡ true → m ≡ n
-same m n e = grind arith
 
 pub next_plain : (i : Image) (s : Step) (w : World) (author : ℕ) → IsPlainWorld i (s ∷ w) → (s.author == author) ≡ true → IsNextPlain i w author s.logged
 unfolding IsLegal
@@ -59,36 +58,8 @@ by_plain i author P none step (s ∷ w) is =
 
 -- ---- a line that was opened stays so
 
-opened_by_one : (line k : ℕ) (life : LineLife) (knows : List ℕ) (e : Event) → is_plain_event e ≡ true → is_opened life ≡ true → is_opened (turned_by line life k knows e) ≡ true
-opened_by_one line k life knows (Decides (Open other start)) plain is = elim (other == line) as (λ b. is_opened (if b then Opened (record { number = k; line = line; start = start; knows = knows }) else life) ≡ true) [
-  | true ↦ refl
-  | false ↦ is
-]
-opened_by_one line k life knows (Decides (Free other)) plain is = absurd cc
-opened_by_one line k life knows e plain is = is
-
 pub opened_one_more : (log : List Logged) (l : Logged) (line : ℕ) → is_plain_event l.event ≡ true → is_opened (life_of log line) ≡ true → is_opened (life_of (log ++ l ∷ []) line) ≡ true
 opened_one_more log l line plain is = ap is_opened (life_more log l line) ∙ opened_by_one line (length log) (life_of log line) l.knows l.event plain is
-
-opened_many : (log more : List Logged) (line : ℕ) → ArePlain more → is_opened (life_of log line) ≡ true → is_opened (life_of (log ++ more) line) ≡ true
-opened_many log [] line plain is = ap (λ (xs : List Logged). is_opened (life_of xs line)) (append-nil log) ∙ is
-opened_many log (l ∷ more) line plain is =
-    ap (λ (xs : List Logged). is_opened (life_of xs line)) (sym (append_assoc log (l ∷ []) more)) ∙ opened_many (log ++ l ∷ []) more line plain.1 (opened_one_more log l line plain.0 is)
-
-pub take_and_drop : {X : Type 0} (n : ℕ) (xs : List X) → take n xs ++ drop n xs ≡ xs
-take_and_drop zero xs = refl
-take_and_drop (suc n) [] = refl
-take_and_drop (suc n) (x ∷ xs) = ap (λ ys. x ∷ ys) (take_and_drop n xs)
-
-pub opened_later : (m n : ℕ) (log : List Logged) (line : ℕ) → m ≤ n → ArePlain log → is_opened (life_of (take m log) line) ≡ true → is_opened (life_of (take n log) line) ≡ true
-opened_later m n log line h plain is =
-    let whole : take m log ++ drop m (take n log) ≡ take n log = ap (λ xs. xs ++ drop m (take n log)) (sym (take_take m n log h)) ∙ take_and_drop m (take n log) in
-    ap (λ (xs : List Logged). is_opened (life_of xs line)) (sym whole)
-    ∙ opened_many (take m log) (drop m (take n log)) line (all_drop (λ (l : Logged). is_plain_event l.event ≡ true) m (take n log) (all_take (λ (l : Logged). is_plain_event l.event ≡ true) n log plain)) is
-
-pub opened_whole : (n : ℕ) (log : List Logged) (line : ℕ) → ArePlain log → is_opened (life_of (take n log) line) ≡ true → is_opened (life_of log line) ≡ true
-opened_whole n log line plain is =
-    ap (λ (xs : List Logged). is_opened (life_of xs line)) (sym (take_and_drop n log)) ∙ opened_many (take n log) (drop n log) line (all_drop (λ (l : Logged). is_plain_event l.event ≡ true) n log plain) is
 
 -- ---- each stripe stands in a line that was opened
 
@@ -109,7 +80,7 @@ in_opened_step i w knows (Decides (Place stripe)) next all =
     let life : life_of log stripe.line ≡ Opened may.opening = ap (λ (log : List Logged). life_of log stripe.line) (sym next.own) ∙ may.is_open in
     let here : is_opened (life_of log stripe.chunk) ≡ true = ap (λ n. is_opened (life_of log n)) may.chunk ∙ ap is_opened life in
     subst (AllByRecursion (IsInOpened (log ++ l ∷ []))) (sym (placements_now log stripe knows may.opening life))
-    (all_and_last (IsInOpened (log ++ l ∷ [])) (placements log) (new_placed log stripe may.opening) (in_opened_later log l (placements log) next.plain all)
+    (with_last (IsInOpened (log ++ l ∷ [])) (placements log) (new_placed log stripe may.opening) (in_opened_later log l (placements log) next.plain all)
     (record { opened = opened_one_more log l stripe.chunk next.plain here; chunk = may.chunk }))
 in_opened_step i w knows x next all =
     let log : List Logged = log_of w 0 in
@@ -153,10 +124,6 @@ placed_in_opened i w is = by_plain i 0 PlacedInOpened none_placed (each_length i
 HasBegun : List Logged → Type 0
 HasBegun log = 0 < length log → (b : Begun) × (begun log ≡ Some b)
 
-begun_stays : (log : List Logged) (l : Logged) (b : Begun) → begun log ≡ Some b → begun (log ++ l ∷ []) ≡ Some b
-begun_stays [] l b e = absurd (none-some b e)
-begun_stays (m ∷ log) l b e = e
-
 begun_step : (i : Image) (log : List Logged) (ls : Logs) (knows : List ℕ) (x : Event) → ls 0 ≡ log → IsAllowed i 0 x ls → (b : Begun) × (begun (log ++ record { event = x; knows = knows } ∷ []) ≡ Some b)
 begun_step i log ls knows (Decides (Begin b)) own may =
     let none : log ≡ [] = sym own ∙ may.is_first in
@@ -167,8 +134,3 @@ begun_step i log ls knows (Decides e) own may = (may.0, begun_stays log (record 
 pub has_begun_plain : (i : Image) (w : World) → IsPlainWorld i w → 0 < length (log_of w 0) → (b : Begun) × (begun (log_of w 0) ≡ Some b)
 unfolding HasBegun
 has_begun_plain i w is = by_plain i 0 HasBegun (λ h. absurd (omega arith)) (λ v l next before h. begun_step i (log_of v 0) (prefixes l (log_of v)) l.knows l.event next.own next.allowed) w is
-
-pub begun_first : (n : ℕ) (log : List Logged) → 0 < n → begun (take n log) ≡ begun log
-begun_first zero log h = absurd (omega arith)
-begun_first (suc n) [] h = refl
-begun_first (suc n) (l ∷ log) h = refl

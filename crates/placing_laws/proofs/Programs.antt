@@ -1,5 +1,5 @@
 -- The programs of a plain world are those of the stripes that the engine placed, in their order.
-use Rattle.std.proofs.Common.{◌≡◌, ◌⊎◌, inl, inr, ℕ, ◌+◌, ◌<◌, ◌≤◌, ◌==◌, zero, suc, Bool, true, false, cond, Some, List, [], ◌∷◌, ◌++◌, length, take, drop, refl, sym, subst, ap, ap₂, ◌∙◌, arith, if◌then◌else◌, append-nil, append_assoc, le_refl, take_all}
+use Rattle.std.proofs.Common.{◌≡◌, ◌⊎◌, inl, inr, ℕ, ◌+◌, ◌<◌, ◌≤◌, ◌==◌, zero, suc, Bool, true, false, Some, List, [], ◌∷◌, ◌++◌, length, take, drop, refl, sym, subst, ap, ap₂, ◌∙◌, arith, if◌then◌else◌, append-nil, append_assoc, le_refl, take_all}
 use Rattle.std.specs.Prelude.{slice_get}
 use Rattle.std.specs.List.{filter}
 use Rattle.std.specs.Option.{option_and_then, option_to_list}
@@ -18,19 +18,13 @@ use Rattle.pblk_world.specs.Answering.{MayLand}
 use Rattle.pblk_world.proofs.Appending.{placements_more}
 use Rattle.pblk_world.proofs.Growing.{at_end}
 use Rattle.core_laws.specs.PlainWorlds.{IsPlainWorld}
-use Rattle.core_laws.proofs.Lists.{get_more, get_whole}
-use Rattle.placing_laws.proofs.Worlds.{plain_before}
-use Rattle.placing_laws.proofs.PlainEvents.{IsNextPlain, next_plain, has_begun_plain, begun_first}
+use Rattle.placing_laws.proofs.PlainEvents.{IsNextPlain, next_plain, has_begun_plain}
+use Rattle.core_laws.proofs.PlainWorldsLemmas.{plain_before}
+use Rattle.lemmas.proofs.Maps.{filter_both}
+use Rattle.lemmas.proofs.Parts.{get_more, get_whole, take_and_drop}
+use Rattle.pblk_world.proofs.EngineLogLemmas.{begun_taken}
 
 -- ---- stripes of a unit in a longer log
-
-filter_both : {X : Type 0} (test : X → Bool) (xs ys : List X) → filter test (xs ++ ys) ≡ filter test xs ++ filter test ys
-filter_both test [] ys = refl
-filter_both test (x ∷ xs) ys = go (test x) (filter_both test xs ys)
-  where
-    go : (b : Bool) → filter test (xs ++ ys) ≡ filter test xs ++ filter test ys → cond b (x ∷ filter test (xs ++ ys)) (filter test (xs ++ ys)) ≡ cond b (x ∷ filter test xs) (filter test xs) ++ filter test ys
-    go true e = ap (λ zs. x ∷ zs) e
-    go false e = e
 
 pub placed_on_more : (log : List Logged) (l : Logged) (unit : ℕ) → placed_on (log ++ l ∷ []) unit ≡ placed_on log unit ++ filter (λ (p : Placed). p.stripe.unit == unit) (option_to_list (placed_by log (length log) l.event))
 placed_on_more log l unit =
@@ -42,11 +36,6 @@ placed_later log (l ∷ more) unit m p e =
     let one : slice_get (placed_on (log ++ l ∷ []) unit) m ≡ Some p =
     ap (λ (ps : List Placed). slice_get ps m) (placed_on_more log l unit) ∙ get_more (placed_on log unit) (filter (λ (p : Placed). p.stripe.unit == unit) (option_to_list (placed_by log (length log) l.event))) m p e in
     ap (λ (xs : List Logged). slice_get (placed_on xs unit) m) (sym (append_assoc log (l ∷ []) more)) ∙ placed_later (log ++ l ∷ []) more unit m p one
-
-take_and_drop : {X : Type 0} (n : ℕ) (xs : List X) → take n xs ++ drop n xs ≡ xs
-take_and_drop zero xs = refl
-take_and_drop (suc n) [] = refl
-take_and_drop (suc n) (x ∷ xs) = ap (λ ys. x ∷ ys) (take_and_drop n xs)
 
 placed_in_whole : (n : ℕ) (log : List Logged) (unit m : ℕ) (p : Placed) → slice_get (placed_on (take n log) unit) m ≡ Some p → slice_get (placed_on log unit) m ≡ Some p
 placed_in_whole n log unit m p e = ap (λ (xs : List Logged). slice_get (placed_on xs unit) m) (sym (take_and_drop n log)) ∙ placed_later (take n log) (drop n log) unit m p e
@@ -78,7 +67,7 @@ new_stripe i w unit l (Does made maker) is may own within e f program knows =
     let ls : Logs = prefixes l (log_of w) in
     let its : made ≡ e = same_Some made e f in
     let begins = has_begun_plain i w is (omega arith) in
-    let begun_is : begun (ls 0) ≡ Some begins.0 = begun_first (known l 0) (log_of w 0) knows ∙ begins.1 in
+    let begun_is : begun (ls 0) ≡ Some begins.0 = begun_taken (known l 0) (log_of w 0) knows ∙ begins.1 in
     let found = its_stripe i ls unit may.event.found made made.command begins.0 refl (ap (λ (x : UnitEvent). is_program x.command) its ∙ program) (subst (IsCommand i ls unit may.event.found made.chunk made.command) begun_is may.command) in (
       found.0,
       placed_in_whole (known l 0) (log_of w 0) unit (ended_stripes (log_of w (suc unit))) found.0 (ap (λ (xs : List Logged). slice_get (placed_on (ls 0) unit) (ended_stripes xs)) (sym own) ∙ found.1),
@@ -123,13 +112,6 @@ written p = record { chunk = p.stripe.chunk; command = Write p.stripe.at p.strip
 
 same_event : (p : Placed) (e : UnitEvent) → IsProgramOfStripe p e → e.outcome ≡ Answered Done → e ≡ written p
 same_event p e is done = λ k. record { chunk = is.chunk k; command = is.command k; outcome = done k }
-
-pub take_more : {X : Type 0} (xs : List X) (n : ℕ) (x : X) → slice_get xs n ≡ Some x → take (n + 1) xs ≡ take n xs ++ x ∷ []
-take_more [] n x e = absurd (none-some x e)
-take_more (y ∷ ys) zero x e = ap (λ z. z ∷ []) (same_Some y x e)
-take_more (y ∷ ys) (suc n) x e =
-    let next : suc n + 1 ≡ suc (n + 1) = omega arith in
-    ap (λ m. take m (y ∷ ys)) next ∙ ap (λ zs. y ∷ zs) (take_more ys n x e)
 
 take_within : {X : Type 0} (m : ℕ) (xs : List X) (n : ℕ) (x : X) → slice_get (take m xs) n ≡ Some x → take n (take m xs) ≡ take n xs
 take_within zero xs n x e = absurd (none-some x e)

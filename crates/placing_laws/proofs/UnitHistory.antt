@@ -9,29 +9,31 @@ use Rattle.std.proofs.lemmas.List.Elements.{filter_map-append}
 use Rattle.std.proofs.lemmas.List.Sums.{fold-append}
 use Rattle.std.proofs.lemmas.Option.{same_Some, none-some, slice_get_within}
 use Rattle.pblk_model.specs.declared.shape.Shape.{Shape}
-use Rattle.pblk_model.specs.declared.chunk.ChunkState.{ChunkState}
 use Rattle.pblk_model.specs.declared.chunk.ChunkState.TheVariants as states
-use Rattle.pblk_model.specs.Chunk.{Chunk, Block, pointer, free_chunk, offline_chunk}
-use Rattle.pblk_model.specs.ChunkStep.{ChunkCommand, Write, Read, Reset, ChunkAnswer, Done, Gave, Empty, Refused, reset_in, after_reset}
+use Rattle.pblk_model.specs.Chunk.{Chunk, Block}
+use Rattle.pblk_model.specs.ChunkStep.{ChunkCommand, Write, Read, Reset, ChunkAnswer, Done, Gave, Empty, Refused}
 use Rattle.pblk_model.specs.UnitLog.{UnitOutcome, Answered, Failed, Stopped, UnitEvent, IsOutcome, after_outcome, after_event, after_log}
 use Rattle.pblk_model.specs.Found.{IsUsed}
 use Rattle.pblk_model.specs.Image.{Image}
 use Rattle.pblk_world.specs.Events.{Event, Decides, Does, Logged, Step}
 use Rattle.pblk_world.specs.World.{World, Logs, log_of, knows_engine, prefixes, unit_event_of, unit_events}
-use Rattle.pblk_world.specs.EngineLog.{Begun, begun, LineLife, AsFound, Opened, Freed, is_opened, life_of, Placed, placed_by, placements}
-use Rattle.pblk_world.specs.Lines.{is_empty_state, is_given_up_by, strays_of}
+use Rattle.pblk_world.specs.EngineLog.{Begun, begun, is_opened, life_of, Placed, placed_by, placements}
+use Rattle.pblk_world.specs.Lines.{is_empty_state, strays_of}
 use Rattle.pblk_world.specs.Legal.{IsAllowed}
 use Rattle.pblk_world.specs.Commanding.{is_reset, was_stopped, ended_stripes, is_stopped_reset, IsCommand}
 use Rattle.pblk_world.proofs.Appending.{placements_more}
-use Rattle.stripe_placer.proofs.Among.{IsAmong, from_filter, got_here, got_else}
 use Rattle.core_laws.proofs.Turns.{filtered_is}
 use Rattle.pblk_world.proofs.Growing.{at_end, knowledge_rises}
 use Rattle.core_laws.specs.PlainWorlds.{is_plain_outcome, is_plain_event, ArePlain, IsPlainWorld}
-use Rattle.core_laws.proofs.Lists.{all_at, got_within, get_more}
-use Rattle.core_laws.proofs.Removing.{and_no}
-use Rattle.placing_laws.proofs.Worlds.{plain_before}
-use Rattle.placing_laws.proofs.PlainEvents.{take_and_drop, has_begun_plain, begun_first, IsNextPlain, next_plain, opened_later, IsInOpened, placed_in_opened}
-use Rattle.placing_laws.proofs.Online.{get_numbered}
+use Rattle.placing_laws.proofs.PlainEvents.{has_begun_plain, IsNextPlain, next_plain, IsInOpened, placed_in_opened}
+use Rattle.core_laws.proofs.PlainWorldsLemmas.{opened_later, plain_before}
+use Rattle.lemmas.proofs.Lists.{IsAmong}
+use Rattle.lemmas.proofs.Maps.{from_filter, numbered_at}
+use Rattle.lemmas.proofs.Parts.{all_at, get_more, got_within, take_and_drop, take_more}
+use Rattle.lemmas.proofs.Tests.{and_refused, positive}
+use Rattle.pblk_model.proofs.UnitLogLemmas.{event_beside, event_here}
+use Rattle.pblk_world.proofs.EngineLogLemmas.{begun_knows, begun_taken}
+use Rattle.pblk_world.proofs.LinesLemmas.{not_given_up, reset_empty, used_is}
 
 -- ---- lists
 
@@ -67,19 +69,6 @@ last_made log l e is = filter_map-append (λ (m : Logged). unit_event_of m.event
 
 after_last : (s : Shape) (chunks : List Chunk) (log : List Logged) (l : Logged) (e : UnitEvent) → unit_event_of l.event ≡ Some e → after_log s chunks (made (log ++ l ∷ [])) ≡ after_event s (after_log s chunks (made log)) e
 after_last s chunks log l e is = ap (after_log s chunks) (last_made log l e is) ∙ fold-append (after_event s) chunks (made log) (e ∷ [])
-
-event_beside : (s : Shape) (chunks : List Chunk) (e : UnitEvent) (line : ℕ) → e.chunk ≢ line → slice_get (after_event s chunks e) line ≡ slice_get chunks line
-event_beside s chunks e line other = go (slice_get chunks e.chunk)
-  where
-    go : (o : Option Chunk) → slice_get (option_map_or (λ (c : Chunk). slice_set chunks e.chunk (after_outcome s c e.command e.outcome)) o chunks) line ≡ slice_get chunks line
-    go None = refl
-    go (Some c) = got_else chunks e.chunk line (after_outcome s c e.command e.outcome) (λ f. other (sym f))
-
-event_here : (s : Shape) (chunks : List Chunk) (e : UnitEvent) (line : ℕ) (c : Chunk) → e.chunk ≡ line → slice_get chunks line ≡ Some c → slice_get (after_event s chunks e) line ≡ Some (after_outcome s c e.command e.outcome)
-event_here s chunks e line c its there =
-    let here : slice_get chunks e.chunk ≡ Some c = ap (slice_get chunks) its ∙ there in
-    ap₂ (λ (o : Option Chunk) k. slice_get (option_map_or (λ (c : Chunk). slice_set chunks e.chunk (after_outcome s c e.command e.outcome)) o chunks) k) here (sym its)
-    ∙ got_here chunks e.chunk c (after_outcome s c e.command e.outcome) here
 
 -- no event of a unit
 chunk_unmade : (i : Image) (unit : ℕ) (log : List Logged) (l : Logged) (line : ℕ) → unit_event_of l.event ≡ None → chunk_at i unit (log ++ l ∷ []) line ≡ chunk_at i unit log line
@@ -146,17 +135,6 @@ fine_if i log m false unit before l e is = is
 
 -- ---- a unit's next event
 
-not_given_up : (strays : List ℕ) (line : ℕ) (life : LineLife) → is_given_up_by strays line life ≡ true → is_opened life ≡ false
-not_given_up strays line AsFound e = refl
-not_given_up strays line (Opened o) e = absurd cc
-not_given_up strays line (Freed past knows) e = refl
-
-used_is : (state : ChunkState) → IsUsed state → is_empty_state state ≡ false
-used_is states.Free is = absurd is
-used_is states.Open is = refl
-used_is states.Closed is = refl
-used_is states.Offline is = absurd is
-
 -- nothing was stopped
 none_stopped : (chunk : ℕ) (log : List Logged) → ArePlain log → list_any (is_stopped_reset chunk) (made log) ≡ false
 unfolding made
@@ -164,7 +142,7 @@ none_stopped chunk [] plain = refl
 none_stopped chunk (l ∷ log) plain = go l.event plain.0 (none_stopped chunk log plain.1)
   where
     not_stopped : (e : UnitEvent) (outcome : UnitOutcome) → e.outcome ≡ outcome → is_plain_outcome outcome ≡ true → is_stopped_reset chunk e ≡ false
-    not_stopped e (Answered answer) f plain = ap (λ (o : UnitOutcome). (e.chunk == chunk) && is_reset e.command && was_stopped o) f ∙ and_no ((e.chunk == chunk) && is_reset e.command)
+    not_stopped e (Answered answer) f plain = ap (λ (o : UnitOutcome). (e.chunk == chunk) && is_reset e.command && was_stopped o) f ∙ and_refused ((e.chunk == chunk) && is_reset e.command)
     not_stopped e (Failed k) f plain = absurd cc
     not_stopped e (Stopped k) f plain = absurd cc
 
@@ -179,14 +157,10 @@ done_reset i c (Gave b) is = absurd is.1
 done_reset i c Empty is = absurd is.1
 done_reset i c (Refused e) is = absurd is.0
 
-begun_knows : (n : ℕ) (log : List Logged) (b : Begun) → begun (take n log) ≡ Some b → 0 < n
-begun_knows zero log b e = absurd (none-some b e)
-begun_knows (suc n) log b e = omega arith
-
 begun_none : (i : Image) (w : World) (l : Logged) → IsPlainWorld i w → knows_engine l ≤ length (log_of w 0) → 0 < knows_engine l → begun (take (knows_engine l) (log_of w 0)) ≡ None → ⊥
 begun_none i w l is within some none =
     let b = has_begun_plain i w is (omega arith) in
-    none-some b.0 (sym none ∙ begun_first (knows_engine l) (log_of w 0) some ∙ b.1)
+    none-some b.0 (sym none ∙ begun_taken (knows_engine l) (log_of w 0) some ∙ b.1)
 
 fine_command : (i : Image) (w : World) (l : Logged) (unit : ℕ) (found : Chunk) (chunk : ℕ) (command : ChunkCommand) (outcome : UnitOutcome) (b : Option Begun) → IsPlainWorld i w → knows_engine l ≤ length (log_of w 0) → begun (prefixes l (log_of w) 0) ≡ b → prefixes l (log_of w) (suc unit) ≡ log_of w (suc unit)
     → is_plain_outcome outcome ≡ true → IsOutcome i.shape found command outcome → IsCommand i (prefixes l (log_of w)) unit found chunk command b → IsFineBy (log_of w 0) (knows_engine l) unit chunk found command outcome
@@ -235,7 +209,7 @@ new_fine i w l unit (Does event maker) is within own plain may e f =
     let there : option_map (λ (chunks : List Chunk). after_log i.shape chunks (made (log_of w (suc unit)))) (slice_get i.units unit) ≡ Some may.chunks =
     ap₂ (λ (log : List Logged) (o : Option (List Chunk)). option_map (λ (chunks : List Chunk). after_log i.shape chunks (made log)) o) (sym own) refl
     ∙ ap (λ k. option_map (λ (chunks : List Chunk). after_log i.shape chunks (unit_events ls k)) (slice_get i.units unit)) (sym from)
-    ∙ sym (get_numbered (λ unit. after_log i.shape unit.1 (unit_events ls unit.0)) 0 i.units unit) ∙ may.has_chunks in
+    ∙ sym (numbered_at (λ unit. after_log i.shape unit.1 (unit_events ls unit.0)) 0 i.units unit) ∙ may.has_chunks in
     subst (IsFine i (log_of w 0) unit (log_of w (suc unit)) l) (same_Some event e f)
     (record {
       found = may.event.found;
@@ -284,13 +258,6 @@ pub record IsEventAt (w : World) (unit n : ℕ) (l : Logged) (e : UnitEvent) : T
   pub there : slice_get (log_of w (suc unit)) n ≡ Some l
   pub event : unit_event_of l.event ≡ Some e
 
-take_more : {X : Type 0} (xs : List X) (n : ℕ) (x : X) → slice_get xs n ≡ Some x → take (n + 1) xs ≡ take n xs ++ x ∷ []
-take_more [] n x e = absurd (none-some x e)
-take_more (y ∷ ys) zero x e = ap (λ z. z ∷ []) (same_Some y x e)
-take_more (y ∷ ys) (suc n) x e =
-    let next : suc n + 1 ≡ suc (n + 1) = omega arith in
-    ap (λ m. take m (y ∷ ys)) next ∙ ap (λ zs. y ∷ zs) (take_more ys n x e)
-
 take_past : {X : Type 0} (xs : List X) (n : ℕ) → slice_get xs n ≡ None → take (n + 1) xs ≡ take n xs
 take_past [] zero e = refl
 take_past {X} [] (suc n) e = let next : suc n + 1 ≡ suc (n + 1) = omega arith in ap (λ m. take {A = X} m []) next
@@ -314,15 +281,6 @@ no_write_before i w unit m n l k e f at blocks is order first last same write re
   where
     true_false : true ≡ false → ⊥
     true_false e = cc
-
-reset_empty : (s : Shape) (c : Chunk) → is_empty_state (after_reset s c).state ≡ true
-reset_empty s c = go c.state (pointer c)
-  where
-    go : (state : ChunkState) (wp : ℕ) → is_empty_state (reset_in s state wp).state ≡ true
-    go states.Free wp = refl
-    go states.Open wp = refl
-    go states.Closed wp = elim (wp == s.clba) as (λ b. is_empty_state (if b then free_chunk else offline_chunk).state ≡ true) [ true ↦ refl | false ↦ refl ]
-    go states.Offline wp = refl
 
 reset_leaves : (s : Shape) (c : Chunk) (command : ChunkCommand) (outcome : UnitOutcome) → command ≡ Reset → outcome ≡ Answered Done → is_empty_state (after_outcome s c command outcome).state ≡ true
 reset_leaves s c command outcome a b = ap₂ (λ k o. is_empty_state (after_outcome s c k o).state) a b ∙ reset_empty s c
@@ -407,9 +365,6 @@ reset_once i w unit m n l k e f is order first last same resets again =
 true_false : true ≡ false → ⊥
 true_false e = cc
 
-some_of : (n : ℕ) → nat_lt 0 n ≡ true → 0 < n
-some_of n e = grind arith
-
 none_of : (n : ℕ) → nat_lt 0 n ≡ false → n ≡ 0
 none_of n e = grind arith
 
@@ -478,7 +433,7 @@ same_until i w unit b n (suc d) k f c is order last resets there closed =
                 kept (Write at blocks) outcome p r found was fine = absurd (by_knowledge (nat_lt 0 (knows_engine x)) refl)
                   where
                     by_knowledge : (t : Bool) → nat_lt 0 (knows_engine x) ≡ t → ⊥
-                    by_knowledge true v = no_write_before i w unit (b + d) n x k y f at blocks is (omega arith) (record { there = g; event = h }) last (eqb-true y.chunk f.chunk q) p resets (some_of (knows_engine x) v)
+                    by_knowledge true v = no_write_before i w unit (b + d) n x k y f at blocks is (omega arith) (record { there = g; event = h }) last (eqb-true y.chunk f.chunk q) p resets (positive (knows_engine x) v)
                     by_knowledge false v =
                         let written = subst (λ z. IsFineBy (log_of w 0) (knows_engine x) unit y.chunk found z y.outcome) p fine in
                         closed (ap (λ (z : Chunk). z.state) (sym was) ∙ written.1 (none_of (knows_engine x) v))

@@ -12,6 +12,8 @@ use Rattle.pblk_layout.specs.Live.{is_in, units_in, is_live}
 use Rattle.pblk_layout.proofs.Sets.{filter_more}
 use Rattle.pblk_layout.proofs.LineBits.{line_bits}
 use Rattle.core_laws.specs.OpenedLines.{bits_of}
+use Rattle.lemmas.proofs.Maps.{none_kept}
+use Rattle.pblk_model.proofs.ChunkLemmas.{map_cond}
 
 -- ---- bits of the numbers that a test keeps
 
@@ -74,17 +76,6 @@ bit_is p (suc n) u h = go (nat_lt u n) refl (λ inside. bit_is p n u inside)
 -- whether a unit's chunks have one of the line that isn't Offline
 has_chunk : ℕ → List Chunk → Bool
 has_chunk line chunks = option_map_or (λ (c : Chunk). is_online_in c.state) (slice_get chunks line) false
-
-none_kept : (p : ℕ → Bool) (a n : ℕ) → ((k : ℕ) → k < n → p (a + k) ≡ false) → filter p (range_with_len a n) ≡ []
-none_kept p a zero h = refl
-none_kept p a (suc n) h =
-    let first : p a ≡ false = ap p (sym (add-zero a)) ∙ h 0 (omega arith) in
-    let rest : filter p (range_with_len (a + 1) n) ≡ [] = none_kept p (a + 1) n (λ k l. let place : a + 1 + k ≡ a + suc k = omega arith in ap p place ∙ h (suc k) (omega arith)) in
-    ap (λ b. cond b (a ∷ filter p (range_with_len (a + 1) n)) (filter p (range_with_len (a + 1) n))) first ∙ rest
-
-map_cond : (b : Bool) (unit : ℕ × List Chunk) (rest : List (ℕ × List Chunk)) → map (λ (u : ℕ × List Chunk). u.0) (cond b (unit ∷ rest) rest) ≡ cond b (unit.0 ∷ map (λ (u : ℕ × List Chunk). u.0) rest) (map (λ (u : ℕ × List Chunk). u.0) rest)
-map_cond true unit rest = refl
-map_cond false unit rest = refl
 
 -- the numbers from a on for which the test says that the units from the ath on have a chunk of the line
 units_kept : (line : ℕ) (p : ℕ → Bool) (a n : ℕ) (units : List (List Chunk)) → length units ≤ n → ((k : ℕ) → k < n → p (a + k) ≡ option_map_or (has_chunk line) (slice_get units k) false)

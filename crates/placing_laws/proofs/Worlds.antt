@@ -1,10 +1,9 @@
 -- Plain worlds before their last steps.
-use Rattle.std.proofs.Common.{◌≡◌, ℕ, ◌==◌, zero, suc, Bool, true, false, List, [], ◌∷◌, ◌++◌, if◌then◌else◌}
+use Rattle.std.proofs.Common.{◌≡◌, ℕ, zero, suc, Bool, true, false, List, [], ◌∷◌, ◌++◌, if◌then◌else◌}
 use Rattle.std.specs.List.{AllByRecursion}
 use Rattle.pblk_model.specs.Image.{Image}
-use Rattle.pblk_world.specs.Events.{Logged, Step}
+use Rattle.pblk_world.specs.Events.{Logged}
 use Rattle.pblk_world.specs.World.{World, log_of}
-use Rattle.pblk_world.specs.Legal.{IsLegal}
 use Rattle.core_laws.specs.PlainWorlds.{is_plain_event, ArePlain, IsPlainWorld}
 
 -- ---- lists with one more at their end
@@ -18,16 +17,6 @@ all_but_last P (y ∷ ys) x all = let rest = all_but_last P ys x all.1 in ((all.
 plain_by : (log : List Logged) (l : Logged) (b : Bool) → ArePlain (if b then log ++ l ∷ [] else log) → ArePlain log
 plain_by log l true all = (all_but_last (λ (m : Logged). is_plain_event m.event ≡ true) log l all).0
 plain_by log l false all = all
-
-pub plain_before : (i : Image) (s : Step) (w : World) → IsPlainWorld i (s ∷ w) → IsPlainWorld i w
-unfolding IsLegal
-plain_before i s w is = record {
-  accepted = is.accepted;
-  fit = is.fit;
-  legal = is.legal.1;
-  engine = plain_by (log_of w 0) s.logged (s.author == 0) is.engine;
-  units = λ unit. plain_by (log_of w (suc unit)) s.logged (s.author == suc unit) (is.units unit);
-}
 
 pub are_plain : (i : Image) (w : World) (author : ℕ) → IsPlainWorld i w → ArePlain (log_of w author)
 are_plain i w zero is = is.engine

@@ -31,7 +31,7 @@ pub record IsStripeFor (i : Image) (logs : Logs) (o : Opening) (of : Program) (s
   pub at : stripe.at ≡ of.block
   pub blocks : stripe.blocks ≡ blocks_for i.shape (logs 0) o of.at of.kind
 
--- the positions of the entries of a stripe of a kind: the first that wait
+-- the positions of the entries in a stripe of a kind: those of the first entries that wait
 abbrev pub positions_for : Shape → List Logged → StripeKind → List ℕ
 positions_for s log kinds.Start = []
 positions_for s log kinds.Data = take s.ws_opt (positions_of (waiting s log))

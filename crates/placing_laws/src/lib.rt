@@ -1,10 +1,6 @@
-//! Laws on what a placer offers by the logs of a mount: it may be placed.
+//! Laws on what a placer offers, by the logs of a mount.
+//!
+//! - The stripe for a program that the placer offers may be placed.
+//! - Where the placer offers nothing and each placed stripe is answered, no stripe is to be placed.
+//! - At most one line has a stripe left that is neither landed nor lost, and an opened line keeps its units.
 #![tactic(auto)]
-
-mod laws;
-
-pub use laws::{
-    a_next_stripe_may_be_placed, an_idle_placer_has_no_stripe_under_way,
-    an_offered_program_is_of_an_open_line, an_opened_line_keeps_its_units, no_stripe_is_due,
-    one_line_is_open,
-};

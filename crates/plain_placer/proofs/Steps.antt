@@ -10,6 +10,7 @@ use Rattle.std.specs.Prelude.{◌==◌, if◌then◌else◌}
 use Rattle.pblk_model.specs.declared.shape.Shape.{Shape}
 use Rattle.stripe_placer.specs.OpenLines.{Stripe, OpenLine, with_stripe, in_line}
 use Rattle.plain_placer.specs.Fitting.{FitsLine, FitLines}
+use Rattle.lemmas.proofs.Parts.{put_at_end}
 
 -- the first of a list of choices counts not, since it makes none, or since it doesn't pass
 pub none_passes : {X Y : Type 0} (p : Y → Bool) (f : X → Option Y) (x : X) (xs : List X) → f x ≡ None → find p (filter_map f (x ∷ xs)) ≡ find p (filter_map f xs)
@@ -59,10 +60,6 @@ found_then p xs ys r none is = is ∙ sym (find-append p xs ys ∙ ap (λ o. opt
 at_end : {X : Type 0} (a : List X) (o d : X) (rest : List X) → get_or (a ++ o ∷ rest) (length a) d ≡ o
 at_end [] o d rest = refl
 at_end (x ∷ a) o d rest = at_end a o d rest
-
-put_at_end : {X : Type 0} (a : List X) (o y : X) (rest : List X) → slice_set (a ++ o ∷ rest) (length a) y ≡ a ++ y ∷ rest
-put_at_end [] o y rest = refl
-put_at_end (x ∷ a) o y rest = ap (λ zs. x ∷ zs) (put_at_end a o y rest)
 
 -- a list of which each element was changed, and one more
 pub changed_more : {X : Type 0} (f : X → X) (old now : List X) (i : ℕ) (x d : X) → now ≡ map f (take i old) ++ drop i old → i < length old → x ≡ get_or now i d → slice_set now i (f x) ≡ map f (take (i + 1) old) ++ drop (i + 1) old

@@ -1,21 +1,9 @@
 -- What is in lists that are made of others.
 use Rattle.std.proofs.Common.{◌≡◌, ℕ, ◌⊎◌, zero, suc, Some, None, Option, List, [], ◌∷◌, ◌++◌, refl, ap, ◌∙◌, inl, inr}
 use Rattle.std.specs.Prelude.{slice_get}
-use Rattle.std.specs.List.{Contains, filter_map, flat_map, cons_option}
-use Rattle.std.proofs.lemmas.Option.{same_Some, none-some, slice_get-get_or}
-use Rattle.stripe_placer.proofs.Among.{IsAmong, later}
-use Rattle.core_laws.proofs.Lists.{is_in}
-
-pub among_contained : {X : Type 0} (xs : List X) (x : X) → Contains xs x → IsAmong xs x
-among_contained xs x (k, inside, e) = (k, slice_get-get_or xs k x inside ∙ ap (λ y. Some y) e)
-
-pub contained_among : {X : Type 0} (xs : List X) (x : X) → IsAmong xs x → Contains xs x
-contained_among xs x at = is_in xs at.0 x at.1
-
-pub before : {X : Type 0} (xs ys : List X) (x : X) → IsAmong xs x → IsAmong (xs ++ ys) x
-before [] ys x (k, e) = absurd (none-some x e)
-before (y ∷ xs) ys x (zero, e) = (0, e)
-before (y ∷ xs) ys x (suc k, e) = let rest = before xs ys x (k, e) in (suc rest.0, rest.1)
+use Rattle.std.specs.List.{filter_map, flat_map, cons_option}
+use Rattle.std.proofs.lemmas.Option.{same_Some, none-some}
+use Rattle.lemmas.proofs.Lists.{IsAmong, among_more, later}
 
 pub behind : {X : Type 0} (xs ys : List X) (x : X) → IsAmong ys x → IsAmong (xs ++ ys) x
 behind [] ys x at = at
@@ -32,7 +20,7 @@ of_both (y ∷ xs) ys x (suc k, e) = go (of_both xs ys x (k, e))
 
 pub flat_into : {X Y : Type 0} (f : X → List Y) (xs : List X) (k : ℕ) (x : X) (y : Y) → slice_get xs k ≡ Some x → IsAmong (f x) y → IsAmong (flat_map f xs) y
 flat_into f [] k x y there at = absurd (none-some x there)
-flat_into {X} {Y} f (z ∷ xs) zero x y there at = before (f z) (flat_map f xs) y (at.0, ap (λ v. slice_get (f v) at.0) (same_Some z x there) ∙ at.1)
+flat_into {X} {Y} f (z ∷ xs) zero x y there at = among_more (f z) (flat_map f xs) y (at.0, ap (λ v. slice_get (f v) at.0) (same_Some z x there) ∙ at.1)
 flat_into f (z ∷ xs) (suc k) x y there at = behind (f z) (flat_map f xs) y (flat_into f xs k x y there at)
 
 pub flat_from : {X Y : Type 0} (f : X → List Y) (xs : List X) (y : Y) → IsAmong (flat_map f xs) y → (k : ℕ) × (x : X) × (slice_get xs k ≡ Some x) × IsAmong (f x) y

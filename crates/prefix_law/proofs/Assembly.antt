@@ -9,14 +9,12 @@ use Rattle.pblk_model.specs.StartRecord.{StartRecord}
 use Rattle.pblk_model.specs.Records.{Record, records}
 use Rattle.pblk_model.specs.Contents.{end, Bears, IsEnd, IsNewer, IsWinner, counts, counted, counted_after, end_after, winner, sector_of}
 use Rattle.pblk_model.specs.Image.{Image}
-use Rattle.pblk_laws.proofs.Lists.{contains_more, contains_first, contains_cases, contains_none}
 use Rattle.pblk_laws.proofs.Ends.{end_is_end}
 use Rattle.pblk_laws.proofs.Winners.{winner_is_winner, winner_is_only, no_winner_no_record, no_winner}
-use Rattle.core_laws.proofs.Tests.{both, or_left as or_first, or_right as or_second, within_is as le_true}
-use Rattle.stripe_placer.proofs.Chunks.{lt_yes as true_lt, lt_of as lt_true}
-use Rattle.stripe_placer.proofs.Rising.{le_true as true_le}
-use Rattle.placed_laws.proofs.Distinct.{either}
+use Rattle.stripe_placer.proofs.Chunks.{lt_of as lt_true}
 use Rattle.prefix_law.specs.Assembled.{Given, Entries, IsEntry, IsEntryOf, IsLastOf, by_row, CountsOld, HoldsUnder, IsAssembled}
+use Rattle.lemmas.proofs.Lists.{contains_cases, contains_first, contains_more, contains_none}
+use Rattle.lemmas.proofs.Tests.{both, either, le_true as true_le, lt_true as true_lt, or_left, or_right, within_is}
 
 -- ---- what is in a filtered list
 
@@ -49,16 +47,16 @@ CountsBy h p r = ((h.first_seq ≤ r.seq) × (r.position < p)) ⊎ (by_row h r �
 
 pub counts_by : (h : StartRecord) (p : ℕ) (r : Record) → counts h p r ≡ true → CountsBy h p r
 counts_by h p r is = elim (either (nat_le h.first_seq r.seq && nat_lt r.position p) (by_row h r) is) [
-  | inl a ↦ let parts = both (nat_le h.first_seq r.seq) (nat_lt r.position p) a in inl (le_true h.first_seq r.seq parts.0, lt_true r.position p parts.1)
+  | inl a ↦ let parts = both (nat_le h.first_seq r.seq) (nat_lt r.position p) a in inl (within_is h.first_seq r.seq parts.0, lt_true r.position p parts.1)
   | inr b ↦ inr b
 ]
 
 pub counts_young : (h : StartRecord) (p : ℕ) (r : Record) → h.first_seq ≤ r.seq → r.position < p → counts h p r ≡ true
-counts_young h p r mount below = or_first (nat_le h.first_seq r.seq && nat_lt r.position p) (by_row h r)
+counts_young h p r mount below = or_left (nat_le h.first_seq r.seq && nat_lt r.position p) (by_row h r)
     (ap₂ (λ a b. a && b) (true_le h.first_seq r.seq mount) (true_lt r.position p below))
 
 pub counts_row : (h : StartRecord) (p : ℕ) (r : Record) → by_row h r ≡ true → counts h p r ≡ true
-counts_row h p r row = or_second (nat_le h.first_seq r.seq && nat_lt r.position p) (by_row h r) row
+counts_row h p r row = or_right (nat_le h.first_seq r.seq && nat_lt r.position p) (by_row h r) row
 
 module _ (i : Image) (h : StartRecord) (es : Entries) (front : ℕ) (under : ℕ → List ℕ) (is : IsAssembled i h es front under) where
   counted_are : counted i ≡ filter (counts h (end i)) (records i)

@@ -21,9 +21,10 @@ use Rattle.opening_laws.proofs.Lines.{img, same_img, holds_the_same}
 use Rattle.prefix_law.specs.Assembled.{Entries, IsOld, by_row, CountsOld, HoldsUnder, IsAssembled}
 use Rattle.prefix_law.specs.Continued.{given_of, rows_of, IsNextStart, IsContinued}
 use Rattle.prefix_law.proofs.Assembly.{end_above, end_within}
-use Rattle.prefix_law.proofs.Histories.{contents_after, contents_at, contents_count}
+use Rattle.prefix_law.proofs.Histories.{contents_after, contents_at}
 use Rattle.prefix_law.proofs.RecordLines.{IsAt, record_is_at, of_line}
 use Rattle.prefix_law.proofs.OldRows.{IsByRow, by_row_is, is_by_row, old_seq, bound_low, IsRowFound, row_from, counts_still, IsOldCounted, counted_by_row}
+use Rattle.pblk_model.proofs.ContentsLemmas.{contents_count}
 
 module _ (found now : Image) (opened : ℕ → Bool) (es : Entries) (front : ℕ) (c : IsContinued found now opened es front) where
   inside_found : (line : ℕ) → line < now.shape.chunks → line < found.shape.chunks

@@ -15,17 +15,14 @@ use Rattle.pblk_model.specs.LineOrder.{end_len}
 use Rattle.pblk_model.specs.StartRecord.{magic}
 use Rattle.pblk_model.specs.EndRecord.{EndRecord, pair_bytes, end_bytes}
 use Rattle.pblk_model.specs.Sealed.{BeginsNarrower}
+use Rattle.lemmas.proofs.Parts.{take_less}
+use Rattle.pblk_model.proofs.BytesLemmas.{zeros_first}
 
 abbrev head_bytes : List ℕ
 head_bytes = le32 magic ++ le16 1 ++ le16 1
 
 abbrev NoHead : List ℕ → Type 0
 NoHead t = take 8 t ≡ head_bytes → ⊥
-
-zeros_first : (n : ℕ) → get_or (take 8 (zeros n)) 0 0 ≡ 0
-unfolding zeros
-zeros_first zero = refl
-zeros_first (suc n) = refl
 
 zeros_no_head : (n : ℕ) → NoHead (zeros n)
 zeros_no_head n e = let h : get_or (take 8 (zeros n)) 0 0 ≡ 107 = ap (λ xs. get_or xs 0 0) e in omega (arith, zeros_first n)
@@ -68,12 +65,6 @@ no_head (m ∷ pairs) n (suc q) all =
     ∙ ap (λ k. drop k (pair_bytes m ++ pairs_tail pairs n)) far
     ∙ drop-append-add (pair_bytes m) (pairs_tail pairs n) (16 * q) in
     subst NoHead (sym rest) (no_head pairs n q all.1)
-
-take_less : (m n : ℕ) (xs : List ℕ) → m ≤ n → take m (take n xs) ≡ take m xs
-take_less zero n xs h = refl
-take_less (suc m) zero xs h = absurd (omega arith)
-take_less (suc m) (suc n) [] h = refl
-take_less (suc m) (suc n) (x ∷ xs) h = ap (λ ys. x ∷ ys) (take_less m n xs (omega arith))
 
 -- the bytes behind the header
 past_header : (s : Shape) (r : EndRecord) → (n : ℕ) × (drop 32 (end_bytes s r) ≡ pairs_tail r.pairs n)

@@ -1,6 +1,6 @@
 -- A whole end record has the marks of its line's data; and what the blocks of a line are.
-use Rattle.std.proofs.Common.{◌≡◌, ℕ, ◌+◌, ◌-◌, ◌*◌, ◌/◌, ◌%◌, ◌<◌, ◌≤◌, ◌⊎◌, zero, suc, true, Some, None, Option, List, [], ◌∷◌, length, drop, replicate, refl, sym, subst, ap, ap₂, ◌∙◌, arith, inl, inr, lit<}
-use Rattle.std.specs.Prelude.{slice_get, slice_range, map}
+use Rattle.std.proofs.Common.{◌≡◌, ℕ, ◌+◌, ◌-◌, ◌*◌, ◌/◌, ◌%◌, ◌<◌, ◌≤◌, ◌⊎◌, true, Some, None, Option, List, length, drop, replicate, refl, sym, subst, ap, ap₂, ◌∙◌, arith, inl, inr, lit<}
+use Rattle.std.specs.Prelude.{slice_get, slice_range}
 use Rattle.std.specs.List.{AllByRecursion, flat_map}
 use Rattle.std.specs.Int.{div_ceil}
 use Rattle.std.proofs.lemmas.Bool.{cases_order}
@@ -23,26 +23,27 @@ use Rattle.pblk_world.specs.Fronts.{first_position}
 use Rattle.pblk_world.specs.Starts.{start_stripes}
 use Rattle.pblk_world.specs.Placing.{end_address, record_blocks, start_blocks}
 use Rattle.core_laws.specs.PlainWorlds.{IsPlainWorld}
-use Rattle.core_laws.proofs.Lists.{got_within as within_some, all_mapped, none_past as none_left}
 use Rattle.pblk_laws.specs.EndBlocks.{FitsBytes, IsEndRecord, IsEndOf, AreEnd}
-use Rattle.pblk_laws.proofs.Lists.{all_at, all_by_get}
 use Rattle.pblk_laws.proofs.EndSpelling.{read_end_back, end_written, end_bytes_length}
 use Rattle.pblk_laws.proofs.MarkNames.{pad_none, meta_none}
 use Rattle.media_laws.specs.Standing.{stripes_in}
 use Rattle.media_laws.proofs.LineLives.{IsOpenedAs, living}
 use Rattle.media_laws.proofs.OpenedUnits.{opened_wide}
-use Rattle.media_laws.proofs.LinePlaces.{placed_in, record_count, parts_of, stripes_in_chunk}
+use Rattle.media_laws.proofs.LinePlaces.{placed_in, stripes_in_chunk}
 use Rattle.media_laws.proofs.LineColumns.{blocks_count, block_get}
 use Rattle.stripe_placer.proofs.Rows.{length_map as length_mapped}
-use Rattle.prefix_law.proofs.Histories.{by_elements}
 use Rattle.prefix_law.proofs.Filling.{IsFilled, IsOfTaken, filled, start_whole, marks_in, end_with}
 use Rattle.prefix_law.proofs.Taking.{IsUsers, all_users}
 use Rattle.prefix_law.proofs.Media.{length_same, IsWritten, written_there, media_width, get_range, cut_bytes, cut_marks, part_get}
+use Rattle.lemmas.proofs.Maps.{all_mapped, get_mapped}
+use Rattle.lemmas.proofs.Parts.{all_by_get, all_get, got_within, none_past, same_lists}
+use Rattle.pblk_model.proofs.LineOrderLemmas.{whole_line}
+use Rattle.pblk_world.proofs.PlacingLemmas.{length_record}
 
 -- ---- where the end record begins
 
 pub end_begins : (i : Image) (w : World) (line : ℕ) (o : Opening) → IsPlainWorld i w → life_of (log_of w 0) line ≡ Opened o → end_address i.shape o + end_len i.shape (o.start.width) ≡ o.start.width * i.shape.clba
-end_begins i w line o world life = parts_of i.shape o.start.width (opened_wide i w world line o life).some_data
+end_begins i w line o world life = whole_line i.shape o.start.width (opened_wide i w world line o life).some_data
 
 -- it is a whole number of stripes
 pub end_whole : (i : Image) (w : World) (line : ℕ) (o : Opening) → IsPlainWorld i w → life_of (log_of w 0) line ≡ Opened o → end_address i.shape o ≡ end_address i.shape o / i.shape.ws_opt * i.shape.ws_opt
@@ -79,7 +80,7 @@ pub record IsData (i : Image) (w : World) (o : Opening) (j : ℕ) (b : Block) : 
   pub block : b ≡ block_of_taken entry
 
 meta_in : (i : Image) (seq n : ℕ) (bytes : List ℕ) (k : ℕ) (b : Block) → slice_get (record_blocks i.shape seq n bytes) k ≡ Some b → b.mark ≡ meta_mark seq
-meta_in i seq n bytes k b there = all_at (λ (x : Block). x.mark ≡ meta_mark seq) (record_blocks i.shape seq n bytes) k b (cut_marks i.shape.sector n bytes (meta_mark seq)) there
+meta_in i seq n bytes k b there = all_get (λ (x : Block). x.mark ≡ meta_mark seq) (record_blocks i.shape seq n bytes) k b (cut_marks i.shape.sector n bytes (meta_mark seq)) there
 
 nothing : (i : Image) (b : Block) (seq : ℕ) (x : Option ℕ) → IsAccepted i.shape → b.mark ≡ meta_mark seq → named i.shape b.mark ≡ Some x → ⊥
 nothing i b seq x accepted mark is = none-some x (sym (ap (named i.shape) mark ∙ meta_none i.shape seq accepted) ∙ is)
@@ -106,7 +107,7 @@ data_block i w line j r o b x world life inside written is = go (cases_order (j 
 
     middle : start_len i.shape ≤ j * i.shape.ws_opt → (j * i.shape.ws_opt ≡ end_address i.shape o) ⊎ ((j * i.shape.ws_opt < end_address i.shape o) ⊎ (end_address i.shape o < j * i.shape.ws_opt)) → IsData i w o j b
     middle low (inl e) = past (omega arith)
-    middle low (inr (inl less)) = of_taken low less (all_at (IsOfTaken i.shape (takes (log_of w 0))) written.stripe.stripe.blocks r b (fill.middle low less) written.block)
+    middle low (inr (inl less)) = of_taken low less (all_get (IsOfTaken i.shape (takes (log_of w 0))) written.stripe.stripe.blocks r b (fill.middle low less) written.block)
     middle low (inr (inr more)) = past (omega arith)
 
     go : (j * i.shape.ws_opt ≡ start_len i.shape) ⊎ ((j * i.shape.ws_opt < start_len i.shape) ⊎ (start_len i.shape < j * i.shape.ws_opt)) → IsData i w o j b
@@ -129,11 +130,6 @@ line_long i w line world = all_by_get (λ (p : Placed). length p.stripe.blocks �
 block_among : (i : Image) (w : World) (line j r : ℕ) (b : Block) → IsPlainWorld i w → r < i.shape.ws_opt → IsWritten i w line j r b → slice_get (all_blocks w line) (j * i.shape.ws_opt + r) ≡ Some b
 block_among i w line j r b world inside written = block_get i.shape.ws_opt (stripes_in (log_of w 0) line) j r written.stripe (line_long i w line world) written.there inside ∙ written.block
 
-get_mapped : {X Y : Type 0} (f : X → Y) (xs : List X) (k : ℕ) (x : X) → slice_get xs k ≡ Some x → slice_get (map f xs) k ≡ Some (f x)
-get_mapped f [] k x e = absurd (none-some x e)
-get_mapped f (y ∷ xs) zero x e = ap (λ z. Some z) (ap f (same_Some y x e))
-get_mapped f (y ∷ xs) (suc k) x e = get_mapped f xs k x e
-
 range_count : {X : Type 0} (xs : List X) (a b : ℕ) → b ≤ length xs → length (slice_range xs a b) ≡ b - a
 range_count xs a b h = let left : length (drop a xs) ≡ length xs - a = length-drop a xs in length-take-le (b - a) (drop a xs) (omega arith)
 
@@ -147,14 +143,14 @@ data_fits i w line a o b world life low high there =
     let count : length (all_blocks w line) ≡ length (stripes_in (log_of w 0) line) * i.shape.ws_opt = blocks_count i.shape.ws_opt (stripes_in (log_of w 0) line) (line_long i w line world) in
     let within : a < length (all_blocks w line) = slice_get_within (all_blocks w line) a b there in
     let row : a / i.shape.ws_opt < length (stripes_in (log_of w 0) line) = lt_of_mul-lt-mul_right i.shape.ws_opt (omega arith) in
-    let at = within_some (stripes_in (log_of w 0) line) (a / i.shape.ws_opt) row in
+    let at = got_within (stripes_in (log_of w 0) line) (a / i.shape.ws_opt) row in
     let same : a / i.shape.ws_opt * i.shape.ws_opt + a % i.shape.ws_opt ≡ a = omega arith in
     let block : slice_get at.0.stripe.blocks (a % i.shape.ws_opt) ≡ Some b =
     sym (block_get i.shape.ws_opt (stripes_in (log_of w 0) line) (a / i.shape.ws_opt) (a % i.shape.ws_opt) at.0 (line_long i w line world) at.1 inside) ∙ ap (slice_get (all_blocks w line)) same ∙ there in
     let fill : IsFilled i.shape (takes (log_of w 0)) (stripes_in (log_of w 0) line) o (a / i.shape.ws_opt) at.0 = (filled i w world line (a / i.shape.ws_opt) o at.0 life at.1).0 in
     let total : start_len i.shape ≡ start_stripes i.shape * i.shape.ws_opt = start_whole i.shape some in
     let from : start_stripes i.shape * i.shape.ws_opt ≤ a / i.shape.ws_opt * i.shape.ws_opt = row_above i.shape.ws_opt (start_stripes i.shape) a some (omega arith) in
-    by (all_at (IsOfTaken i.shape (takes (log_of w 0))) at.0.stripe.blocks (a % i.shape.ws_opt) b (fill.middle (omega arith) (omega arith)) block)
+    by (all_get (IsOfTaken i.shape (takes (log_of w 0))) at.0.stripe.blocks (a % i.shape.ws_opt) b (fill.middle (omega arith) (omega arith)) block)
   where
     by : IsOfTaken i.shape (takes (log_of w 0)) b → FitsBytes b.mark
     by (inl pad) = subst (λ (x : Block). FitsBytes x.mark) (sym pad) (record { lba = lit< tt; position = lit< tt })
@@ -225,13 +221,13 @@ module _ (i : Image) (w : World) (line : ℕ) (o : Opening) (e : EndRecord) (wor
       ∙ written.block
 
   spelled_count : length spelled ≡ end_len i.shape (o.start.width)
-  spelled_count = record_count i.shape o.start.seq (end_len i.shape o.start.width) _
+  spelled_count = length_record i.shape o.start.seq (end_len i.shape o.start.width) _
 
   blocks_same : stands.1 ≡ spelled
-  blocks_same = by_elements stands.1 spelled (λ k. at k (slice_get stands.1 k) refl)
+  blocks_same = same_lists stands.1 spelled (λ k. at k (slice_get stands.1 k) refl)
     where
       at : (k : ℕ) (x : Option Block) → slice_get stands.1 k ≡ x → slice_get stands.1 k ≡ slice_get spelled k
-      at k None none = none ∙ sym (slice_get_past spelled k (omega (arith, spelled_count, count, none_left stands.1 k none)))
+      at k None none = none ∙ sym (slice_get_past spelled k (omega (arith, spelled_count, count, none_past stands.1 k none)))
       at k (Some b) there = there ∙ sym (block_same k b there)
 
   -- so all the data was placed
@@ -240,7 +236,7 @@ module _ (i : Image) (w : World) (line : ℕ) (o : Opening) (e : EndRecord) (wor
       let sectors : 512 ≤ i.shape.sector = sector_at_least i.shape accepted in
       let least = (end_len_least i.shape (o.start.width) some (omega arith)).multiple in
       let positive : 0 < end_len i.shape (o.start.width) = pos i.shape.ws_opt least.0 (end_len i.shape (o.start.width)) some least.1 least.2 in
-      let first = within_some stands.1 0 (omega (arith, count)) in
+      let first = got_within stands.1 0 (omega (arith, count)) in
       let written = block_written 0 first.0 first.1 in
       let row : (end_address i.shape o + 0) / i.shape.ws_opt < length (stripes_in (log_of w 0) line) = slice_get_within (stripes_in (log_of w 0) line) ((end_address i.shape o + 0) / i.shape.ws_opt) written.stripe written.there in
       let below : (end_address i.shape o + 0) / i.shape.ws_opt * i.shape.ws_opt ≤ length (stripes_in (log_of w 0) line) * i.shape.ws_opt = mul-le-mul_right i.shape.ws_opt (omega arith) in

@@ -24,24 +24,25 @@ use Rattle.pblk_world.specs.Fronts.{waits, was_placed, waiting}
 use Rattle.pblk_world.specs.Starts.{start_stripes, have_landed}
 use Rattle.pblk_world.specs.Placing.{MayPlace, IsStart, IsData, IsEnd, IsPad, next_address, end_address, record_blocks, start_blocks, end_blocks, stripe_at, data_blocks}
 use Rattle.pblk_world.specs.Legal.{IsDecision}
-use Rattle.pblk_world.proofs.Appending.{life_more, takes_more}
+use Rattle.pblk_world.proofs.Appending.{life_more}
 use Rattle.pblk_world.proofs.Growing.{at_end}
 use Rattle.core_laws.specs.PlainWorlds.{is_plain_decision, ArePlain, IsPlainWorld}
-use Rattle.core_laws.proofs.Lists.{got_within as within_some, get_more, all_mapped, get_taken}
-use Rattle.core_laws.proofs.Tests.{first_of as and_left, second_of as and_right, within_is as le_true}
-use Rattle.core_laws.proofs.Placing.{weaker}
-use Rattle.stripe_placer.proofs.Among.{IsAmong, from_filter}
-use Rattle.pblk_laws.proofs.Lists.{all_append, all_replicate, all_by_get}
 use Rattle.media_laws.specs.Standing.{stripes_in}
-use Rattle.media_laws.proofs.Steps.{log_here, log_elsewhere, plain_tail, IsSomeones, whose}
+use Rattle.media_laws.proofs.Steps.{IsSomeones, whose}
 use Rattle.media_laws.proofs.Decisions.{IsFirst, IsLater, decided}
-use Rattle.media_laws.proofs.Growing.{get_whole}
-use Rattle.media_laws.proofs.LineLives.{all_living, stripes_same, none_failed, placed_is, same_logged, opened_by_event, opening_is, free_unopened}
+use Rattle.media_laws.proofs.LineLives.{all_living, stripes_same, placed_is, same_logged, opened_by_event, opening_is}
 use Rattle.media_laws.proofs.LinePlaces.{placed_in, stripe_opened, stripes_more}
 use Rattle.media_laws.proofs.LineColumns.{blocks_count}
 use Rattle.media_laws.proofs.LineOver.{each_true}
-use Rattle.placed_laws.proofs.GoingAll.{opened_is as some_same}
 use Rattle.prefix_law.proofs.Fronts.{landed_stays}
+use Rattle.core_laws.proofs.PlainWorldsLemmas.{none_failed, plain_before}
+use Rattle.lemmas.proofs.Lists.{IsAmong, all_append, all_imply, all_replicated}
+use Rattle.lemmas.proofs.Maps.{all_mapped, from_filter}
+use Rattle.lemmas.proofs.Parts.{all_by_get, get_more, get_taken, get_whole_within, got_within}
+use Rattle.lemmas.proofs.Tests.{first_of, second_of, within_is}
+use Rattle.pblk_world.proofs.EngineLogLemmas.{opened_same, takes_more}
+use Rattle.pblk_world.proofs.LinesLemmas.{free_unopened}
+use Rattle.pblk_world.proofs.WorldLemmas.{log_elsewhere, log_here}
 
 -- ---- the blocks of an end record, by the stripes of its line
 
@@ -114,11 +115,11 @@ waiting_taken s log k t there =
 pub data_taken : (s : Shape) (log : List Logged) → AllByRecursion (IsOfTaken s (takes log)) (data_blocks s log)
 data_taken s log = all_append (IsOfTaken s (takes log)) (map block_of_taken (take s.ws_opt (waiting s log))) (replicate (s.ws_opt - length (map block_of_taken (take s.ws_opt (waiting s log)))) (pad_block s))
     (all_mapped (IsOfTaken s (takes log)) block_of_taken (take s.ws_opt (waiting s log)) (all_by_get (λ t. IsOfTaken s (takes log) (block_of_taken t)) (take s.ws_opt (waiting s log))
-    (λ k t there. let at = waiting_taken s log k t (get_whole s.ws_opt (waiting s log) k t there).0 in inr (at.0, t, at.1, refl))))
-    (all_replicate (IsOfTaken s (takes log)) (s.ws_opt - length (map block_of_taken (take s.ws_opt (waiting s log)))) (pad_block s) (inl refl))
+    (λ k t there. let at = waiting_taken s log k t (get_whole_within s.ws_opt (waiting s log) k t there).0 in inr (at.0, t, at.1, refl))))
+    (all_replicated (IsOfTaken s (takes log)) (s.ws_opt - length (map block_of_taken (take s.ws_opt (waiting s log)))) (pad_block s) (inl refl))
 
 pub taken_more : (s : Shape) (ts more : List Taken) (bs : List Block) → AllByRecursion (IsOfTaken s ts) bs → AllByRecursion (IsOfTaken s (ts ++ more)) bs
-taken_more s ts more bs all = weaker (IsOfTaken s ts) (IsOfTaken s (ts ++ more)) one bs all
+taken_more s ts more bs all = all_imply (IsOfTaken s ts) (IsOfTaken s (ts ++ more)) one bs all
   where
     one : (b : Block) → IsOfTaken s ts b → IsOfTaken s (ts ++ more) b
     one b (inl pad) = inl pad
@@ -127,13 +128,13 @@ taken_more s ts more bs all = weaker (IsOfTaken s ts) (IsOfTaken s (ts ++ more))
 -- ---- the first stripes of an opening that have landed
 
 pub enough_placed : (log : List Logged) (o : Opening) (n : ℕ) → have_landed log o n ≡ true → n ≤ length (stripes_of log o)
-enough_placed log o n h = le_true n (length (stripes_of log o)) (and_left (nat_le n (length (stripes_of log o))) (list_all (has_landed log) (take n (stripes_of log o))) h)
+enough_placed log o n h = within_is n (length (stripes_of log o)) (first_of (nat_le n (length (stripes_of log o))) (list_all (has_landed log) (take n (stripes_of log o))) h)
 
 pub each_landed : (log : List Logged) (line : ℕ) (o : Opening) (n k : ℕ) → stripes_of log o ≡ stripes_in log line → have_landed log o n ≡ true → k < n → LandedAt log line k
 each_landed log line o n k same h below =
     let enough : n ≤ length (stripes_of log o) = enough_placed log o n h in
-    let at = within_some (stripes_of log o) k (omega arith) in
-    let all : list_all (has_landed log) (take n (stripes_of log o)) ≡ true = and_right (nat_le n (length (stripes_of log o))) (list_all (has_landed log) (take n (stripes_of log o))) h in
+    let at = got_within (stripes_of log o) k (omega arith) in
+    let all : list_all (has_landed log) (take n (stripes_of log o)) ≡ true = second_of (nat_le n (length (stripes_of log o))) (list_all (has_landed log) (take n (stripes_of log o))) h in
     (at.0, ap (λ ps. slice_get ps k) (sym same) ∙ at.1, each_true (has_landed log) (take n (stripes_of log o)) k at.0 all (get_taken n (stripes_of log o) k below ∙ at.1))
 
 -- ---- a stripe of the start record's length
@@ -205,7 +206,7 @@ module _ (i : Image) (w : World) (logs : Logs) (b : Begun) (e : EngineEvent) (kn
   new_stripe line o stripe p life is mine place = go place.kind
     where
       same_o : place.opening ≡ o
-      same_o = some_same place.opening o (sym place.is_open ∙ ap (λ (xs : List Logged). life_of xs stripe.line) own ∙ ap (life_of log) mine ∙ life)
+      same_o = opened_same place.opening o (sym place.is_open ∙ ap (λ (xs : List Logged). life_of xs stripe.line) own ∙ ap (life_of log) mine ∙ life)
 
       count : length (stripes_of (logs 0) place.opening) ≡ length (stripes_in log line)
       count = ap₂ (λ (xs : List Logged) (x : Opening). length (stripes_of xs x)) own same_o ∙ ap length (stripes_same log line o (all_living i w world) life)
@@ -327,9 +328,9 @@ filled_by i s w world h (inl e) =
         let empty : log_of w 0 ≡ [] = sym e.own ∙ f.2.is_first in
         subst (λ (log : List Logged). AreFilled i.shape (log ++ record { event = Decides e.event; knows = s.logged.knows } ∷ [])) (sym empty)
         (subst (λ ev. AreFilled i.shape (record { event = Decides ev; knows = s.logged.knows } ∷ [])) (sym f.1) (λ line j o p life there. absurd (none-some p there)))
-    go (inr l) = filled_later i w (prefixes s.logged (log_of w)) l.0 e.event s.logged.knows (plain_tail i s w world) e.own e.plain
+    go (inr l) = filled_later i w (prefixes s.logged (log_of w)) l.0 e.event s.logged.knows (plain_before i s w world) e.own e.plain
         (subst (λ (l : Logged). ArePlain (log_of w 0 ++ l ∷ [])) (same_logged s.logged (Decides e.event) e.is_event) (subst ArePlain (log_here s w 0 e.author) world.engine)) l.2 h
 
 pub filled : (i : Image) (w : World) → IsPlainWorld i w → AreFilled i.shape (log_of w 0)
 filled i [] world = λ line j o p life there. absurd (none-some p there)
-filled i (s ∷ w) world = filled_by i s w world (filled i w (plain_tail i s w world)) (whose i s w world)
+filled i (s ∷ w) world = filled_by i s w world (filled i w (plain_before i s w world)) (whose i s w world)

@@ -9,20 +9,19 @@ use Rattle.pblk_model.specs.Contents.{least_missing}
 use Rattle.pblk_world.specs.Events.{Logged}
 use Rattle.pblk_world.specs.EngineLog.{Placed, placed_by, placements, placed_on, turn, answers, answer_by, has_landed, holds_position, takes, taken_by}
 use Rattle.pblk_world.specs.Fronts.{first_position, taken, has_landed_at, synced}
-use Rattle.pblk_world.proofs.Appending.{placements_more, answers_more, takes_more}
+use Rattle.pblk_world.proofs.Appending.{placements_more}
 use Rattle.pblk_world.proofs.SyncedFront.{synced_is, synced_within, synced_missing}
 use Rattle.core_laws.specs.PlainWorlds.{ArePlain}
-use Rattle.core_laws.proofs.Rows.{same_number}
-use Rattle.stripe_placer.proofs.Among.{IsAmong, in_filter}
-use Rattle.stripe_placer.proofs.Chunks.{lt_yes as is_below, lt_of as lt_true}
-use Rattle.media_laws.proofs.Steps.{first_of}
+use Rattle.stripe_placer.proofs.Chunks.{lt_of as lt_true}
 use Rattle.media_laws.proofs.LineWritten.{landed_is}
-use Rattle.media_laws.proofs.KnownSteps.{any_at as is_any}
-use Rattle.core_laws.proofs.Tests.{both as both_true}
-use Rattle.core_laws.proofs.Lists.{get_more}
 use Rattle.core_laws.proofs.Turns.{its_turn as turn_at}
 use Rattle.placed_laws.proofs.GoingLines.{placed_on_more}
 use Rattle.placed_laws.proofs.Distinct.{passing as any_is}
+use Rattle.lemmas.proofs.Lists.{IsAmong, all_but_last}
+use Rattle.lemmas.proofs.Maps.{any_member, in_filter}
+use Rattle.lemmas.proofs.Parts.{get_more}
+use Rattle.lemmas.proofs.Tests.{both, lt_true as is_below, same_number}
+use Rattle.pblk_world.proofs.EngineLogLemmas.{answers_more, takes_more}
 
 pub landed_stays : (log : List Logged) (l : Logged) (p : Placed) → ArePlain (log ++ l ∷ []) → ArePlain log → IsAmong (placements log) p → has_landed log p ≡ true → has_landed (log ++ l ∷ []) p ≡ true
 landed_stays log l p plain before among landed =
@@ -43,8 +42,8 @@ landed_stays log l p plain before among landed =
 landed_at_stays : (s : Shape) (log : List Logged) (l : Logged) (q : ℕ) → ArePlain (log ++ l ∷ []) → ArePlain log → has_landed_at s log q ≡ true → has_landed_at s (log ++ l ∷ []) q ≡ true
 landed_at_stays s log l q plain before landed =
     let at = any_is (λ p. has_landed log p && holds_position s q p) (placements log) landed in
-    let parts = both_true (has_landed log at.0) (holds_position s q at.0) at.2 in
-    is_any (λ p. has_landed (log ++ l ∷ []) p && holds_position s q p) (placements (log ++ l ∷ [])) at.1.0 at.0
+    let parts = both (has_landed log at.0) (holds_position s q at.0) at.2 in
+    any_member (λ p. has_landed (log ++ l ∷ []) p && holds_position s q p) (placements (log ++ l ∷ [])) at.1.0 at.0
     (ap (λ ps. slice_get ps at.1.0) (placements_more log l) ∙ get_more (placements log) (option_to_list (placed_by log (length log) l.event)) at.1.0 at.0 at.1.1)
     (ap₂ (λ a b. a && b) (landed_stays log l at.0 plain before at.1 parts.0) parts.1)
 
@@ -70,7 +69,7 @@ synced_rises s log l plain first = go (cases_order (synced s log) (synced s (log
     go (inl e) = omega arith
     go (inr (inl less)) = omega arith
     go (inr (inr more)) =
-        let before : ArePlain log = first_of _ log l plain in
+        let before : ArePlain log = all_but_last _ log l plain in
         let q : ℕ = synced s (log ++ l ∷ []) in
         let old : synced s log ≤ taken log = synced_within s log in
         let missing : has_landed_at s (log ++ l ∷ []) (synced s (log ++ l ∷ [])) ≡ false = synced_missing s (log ++ l ∷ []) (omega (arith, few)) in

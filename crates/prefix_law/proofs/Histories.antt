@@ -1,21 +1,20 @@
 -- What the sectors hold after a history, by the last line of each.
-use Rattle.std.proofs.Common.{◌≡◌, ◌≢◌, ℕ, ◌+◌, ◌-◌, ◌<◌, ◌≤◌, ◌⊎◌, nat_eq, zero, suc, Bool, true, false, Some, None, Option, List, [], ◌∷◌, length, take, refl, sym, ap, ap₂, ◌∙◌, arith, inl, inr}
+use Rattle.std.proofs.Common.{◌≡◌, ◌≢◌, ℕ, ◌+◌, ◌-◌, ◌<◌, ◌≤◌, ◌⊎◌, nat_eq, zero, suc, Bool, true, false, Some, None, Option, List, [], ◌∷◌, length, take, refl, sym, ap, ◌∙◌, arith, inl, inr}
 use Rattle.std.specs.Prelude.{slice_get, slice_set, map}
 use Rattle.std.specs.List.{range_with_len}
 use Rattle.std.proofs.lemmas.Bool.{cases_order, eqb-true, eqb-false}
 use Rattle.std.proofs.lemmas.List.{length-set}
-use Rattle.std.proofs.lemmas.List.FromFn.{length-map-range_with_len}
 use Rattle.std.proofs.lemmas.Option.{same_Some, none-some, slice_get_past, slice_get-map}
 use Rattle.pblk_model.specs.StartRecord.{StartRecord}
 use Rattle.pblk_model.specs.Contents.{end, sector_of, contents}
 use Rattle.pblk_model.specs.History.{SectorWrite, after}
 use Rattle.pblk_model.specs.Image.{Image}
-use Rattle.stripe_placer.proofs.Among.{got_here, got_else}
-use Rattle.media_laws.proofs.Growing.{get_whole}
-use Rattle.core_laws.proofs.Lists.{got_within as within_some, get_taken, range_get}
 use Rattle.prefix_law.specs.Assembled.{Given, Entries, IsEntryOf, IsLastOf, IsAssembled}
 use Rattle.prefix_law.specs.Continued.{given_of}
 use Rattle.prefix_law.proofs.Assembly.{last_stands, under_stands}
+use Rattle.lemmas.proofs.Maps.{range_get}
+use Rattle.lemmas.proofs.Parts.{get_taken, get_whole_within, got_else, got_here, got_within, same_lists}
+use Rattle.pblk_model.proofs.ContentsLemmas.{contents_count}
 
 -- ---- the last line of a sector
 
@@ -62,7 +61,7 @@ after_last [] base lba m w is inside = absurd (none-some w is.there)
 after_last (v ∷ ws) base lba zero w is inside =
     let same : v ≡ w = same_Some v w is.there in
     let mine : v.lba ≡ lba = ap (λ (x : SectorWrite). x.lba) same ∙ is.of_it in
-    let old = within_some base lba inside in
+    let old = got_within base lba inside in
     after_none ws (slice_set base v.lba v.sector) lba (λ k x there of_it. (let low : suc k ≤ 0 = is.last (suc k) x there of_it in omega arith))
     ∙ ap (λ n. slice_get (slice_set base n v.sector) lba) mine
     ∙ got_here base lba old.0 v.sector old.1
@@ -81,12 +80,6 @@ after_count (w ∷ ws) base = after_count ws (slice_set base w.lba w.sector) ∙
 
 -- ---- lists by their elements
 
-pub by_elements : {X : Type 0} (xs ys : List X) → ((k : ℕ) → slice_get xs k ≡ slice_get ys k) → xs ≡ ys
-by_elements [] [] h = refl
-by_elements [] (y ∷ ys) h = absurd (none-some y (h 0))
-by_elements (x ∷ xs) [] h = absurd (none-some x (sym (h 0)))
-by_elements (x ∷ xs) (y ∷ ys) h = ap₂ (λ z zs. z ∷ zs) (same_Some x y (h 0)) (by_elements xs ys (λ k. h (suc k)))
-
 pub contents_at : (i : Image) (lba : ℕ) → lba < i.shape.capacity → slice_get (contents i) lba ≡ Some (sector_of i lba)
 contents_at i lba inside =
     slice_get-map (sector_of i) (range_with_len 0 i.shape.capacity) lba
@@ -96,9 +89,6 @@ contents_at i lba inside =
     mapped : Option ℕ → Option (List ℕ)
     mapped None = None
     mapped (Some n) = Some (sector_of i n)
-
-pub contents_count : (i : Image) → length (contents i) ≡ i.shape.capacity
-contents_count i = length-map-range_with_len (sector_of i) 0 i.shape.capacity
 
 -- ---- the contents after a history
 
@@ -141,7 +131,7 @@ module _ (i : Image) (h : StartRecord) (first front : ℕ) (ws : List SectorWrit
     where
       go : ((m : ℕ) × (w : SectorWrite) × IsLast (take (end i - first) ws) lba m w) ⊎ HasNone (take (end i - first) ws) lba → slice_get (after base (take (end i - first) ws)) lba ≡ Some (sector_of i lba)
       go (inl (m, w, last)) =
-          let whole = get_whole (end i - first) ws m w last.there in
+          let whole = get_whole_within (end i - first) ws m w last.there in
           let under_end : m < end i - first = whole.1 in
           let entry : IsEntryOf es lba (first + m) = line_entry lba m w whole.0 last.of_it in
           let is_last : IsLastOf es lba (end i) (first + m) = record {
@@ -164,7 +154,7 @@ module _ (i : Image) (h : StartRecord) (first front : ℕ) (ws : List SectorWrit
           none (p - first) at.0 (get_taken (end i - first) ws (p - first) low ∙ at.1) at.2)))
 
   pub contents_after : contents i ≡ after base (take (end i - first) ws)
-  contents_after = by_elements (contents i) (after base (take (end i - first) ws)) (λ k. at k (cases_order k i.shape.capacity))
+  contents_after = same_lists (contents i) (after base (take (end i - first) ws)) (λ k. at k (cases_order k i.shape.capacity))
     where
       past : (k : ℕ) → i.shape.capacity ≤ k → slice_get (contents i) k ≡ slice_get (after base (take (end i - first) ws)) k
       past k high =

@@ -24,14 +24,12 @@ use Rattle.pblk_world.specs.Starts.{start_stripes}
 use Rattle.pblk_world.specs.Placing.{start_blocks, stripe_at}
 use Rattle.pblk_world.specs.Commanding.{ended_stripes}
 use Rattle.core_laws.specs.PlainWorlds.{IsPlainWorld}
-use Rattle.core_laws.proofs.Lists.{got_within as within_some, get_taken, get_dropped as get_drop, filter_short as fewer_all, none_past as none_left}
 use Rattle.pblk_laws.specs.StartBlocks.{AreStart}
 use Rattle.pblk_laws.proofs.LineUnits.{line_units_count}
 use Rattle.pblk_laws.proofs.Starts.{fields_fit, read_back, start_bytes_length, marked, found, found_is}
 use Rattle.media_laws.specs.Standing.{stripes_in, is_programmed, blocks_of_stripes}
-use Rattle.media_laws.proofs.UnitCounts.{known_units}
 use Rattle.media_laws.proofs.LineLives.{IsOpenedAs, living}
-use Rattle.media_laws.proofs.LinePlaces.{record_count, units_known, stripe_opened}
+use Rattle.media_laws.proofs.LinePlaces.{units_known, stripe_opened}
 use Rattle.media_laws.proofs.Order.{stripes_at}
 use Rattle.media_laws.proofs.LineColumns.{column_stripes}
 use Rattle.media_laws.proofs.LineReadable.{passed_blocks}
@@ -40,11 +38,15 @@ use Rattle.media_laws.proofs.LineWritten.{place_in_units, block_of_place, progra
 use Rattle.placed_laws.proofs.TwoLines.{wide_width as some_width}
 use Rattle.prefix_law.proofs.Starting.{start_fits_line}
 use Rattle.prefix_law.proofs.Filling.{IsFilled, filled, start_whole}
+use Rattle.lemmas.proofs.Maps.{filter_short}
+use Rattle.lemmas.proofs.Parts.{get_dropped, get_taken, got_within, none_past}
+use Rattle.pblk_world.proofs.LinesLemmas.{length_known}
+use Rattle.pblk_world.proofs.PlacingLemmas.{length_record}
 
 -- ---- lists
 
 pub get_range : {X : Type 0} (xs : List X) (a b r : ℕ) → r < b - a → slice_get (slice_range xs a b) r ≡ slice_get xs (a + r)
-get_range xs a b r h = get_taken (b - a) (drop a xs) r h ∙ get_drop a xs r
+get_range xs a b r h = get_taken (b - a) (drop a xs) r h ∙ get_dropped a xs r
 
 -- no line is wider than there are units
 fewer_made : (line : ℕ) (us : List (List Chunk)) → length (filter_map (λ (unit : List Chunk). slice_get unit line) us) ≤ length us
@@ -57,7 +59,7 @@ fewer_made line (u ∷ us) = by (slice_get u line) (fewer_made line us)
 
 width_few : (i : Image) (line : ℕ) → width i line ≤ length i.units
 width_few i line =
-    let online : width i line ≤ length (filter_map (λ (unit : List Chunk). slice_get unit line) i.units) = fewer_all (λ (c : Chunk). is_online_in c.state) (filter_map (λ (unit : List Chunk). slice_get unit line) i.units) in
+    let online : width i line ≤ length (filter_map (λ (unit : List Chunk). slice_get unit line) i.units) = filter_short (λ (c : Chunk). is_online_in c.state) (filter_map (λ (unit : List Chunk). slice_get unit line) i.units) in
     let made = fewer_made line i.units in
     omega arith
 
@@ -118,11 +120,11 @@ unplaced_none i w line j r world opened inside none =
     let here : j % length (units_known i w line) < length (units_known i w line) = mod-lt j some in
     let parts : length (units_known i w line) * (j / length (units_known i w line)) + j % length (units_known i w line) ≡ j = div-add-mod j (length (units_known i w line)) in
     let index : j / length (units_known i w line) * length (units_known i w line) + j % length (units_known i w line) ≡ j = omega arith in
-    let unit = within_some (units_known i w line) (j % length (units_known i w line)) here in
+    let unit = got_within (units_known i w line) (j % length (units_known i w line)) here in
     let its : slice_get (stripes_at (log_of w 0) line unit.0) (j / length (units_known i w line)) ≡ None =
     column_stripes i w line unit.0 (j % length (units_known i w line)) (j / length (units_known i w line)) world unit.1 ∙ ap (slice_get (stripes_in (log_of w 0) line)) index ∙ none in
-    let few : length (stripes_at (log_of w 0) line unit.0) ≤ j / length (units_known i w line) = none_left (stripes_at (log_of w 0) line unit.0) (j / length (units_known i w line)) its in
-    let passed : length (filter (programmed w unit.0) (stripes_at (log_of w 0) line unit.0)) ≤ length (stripes_at (log_of w 0) line unit.0) = fewer_all (programmed w unit.0) (stripes_at (log_of w 0) line unit.0) in
+    let few : length (stripes_at (log_of w 0) line unit.0) ≤ j / length (units_known i w line) = none_past (stripes_at (log_of w 0) line unit.0) (j / length (units_known i w line)) its in
+    let passed : length (filter (programmed w unit.0) (stripes_at (log_of w 0) line unit.0)) ≤ length (stripes_at (log_of w 0) line unit.0) = filter_short (programmed w unit.0) (stripes_at (log_of w 0) line unit.0) in
     let most : length (filter (programmed w unit.0) (stripes_at (log_of w 0) line unit.0)) * i.shape.ws_opt ≤ j / length (units_known i w line) * i.shape.ws_opt = mul-le-mul_right i.shape.ws_opt (omega arith) in
     let count : length (blocks_of_stripes (filter (programmed w unit.0) (stripes_at (log_of w 0) line unit.0))) ≡ length (filter (programmed w unit.0) (stripes_at (log_of w 0) line unit.0)) * i.shape.ws_opt =
     passed_blocks i w line unit.0 (ended_stripes (log_of w (suc unit.0))) world in
@@ -170,7 +172,7 @@ width_low i w line o world life =
     let wide : o.start.width ≡ length (line_units (known_image i (log_of w)) line) = (opened_wide i w world line o life).width in
     let count : length (line_units (known_image i (log_of w)) line) ≡ width (known_image i (log_of w)) line = line_units_count (known_image i (log_of w)) line in
     let few : width (known_image i (log_of w)) line ≤ length (known_image i (log_of w)).units = width_few (known_image i (log_of w)) line in
-    let all : length (known_image i (log_of w)).units ≡ length i.units = known_units i (log_of w) in
+    let all : length (known_image i (log_of w)).units ≡ length i.units = length_known i (log_of w) in
     let fit : length i.units ≡ units i.shape = world.fit.units in
     let most : units i.shape ≤ 64 = world.accepted.drive.few_units in
     omega arith
@@ -206,7 +208,7 @@ start_stands i w line o world life each =
     cut_bytes i.shape.sector (start_bytes i.shape o.start) (replicate (start_len i.shape) (meta_mark o.start.seq)) (long ∙ ap (λ n. n * i.shape.sector) (sym (length_same (start_len i.shape) (meta_mark o.start.seq)))) in
     let low : o.start.width < 2 ^ 32 = width_low i w line o world life in
     let reads = read_back i.shape line o.start.width o.start (fields_fit i.shape line o.start.width o.start accepted is.in_range low fits) fits in
-    found (media i (log_of w)) line o.start (start_blocks i.shape o) (record_count i.shape o.start.seq (start_len i.shape) (start_bytes i.shape o.start))
+    found (media i (log_of w)) line o.start (start_blocks i.shape o) (length_record i.shape o.start.seq (start_len i.shape) (start_bytes i.shape o.start))
     (λ k below. start_block i w line k o world life each below)
     (ap₂ (λ g bs. read_start i.shape line g bs) (media_width i w line o world life) bytes ∙ reads)
     (marked o.start.seq (start_blocks i.shape o) (cut_marks i.shape.sector (start_len i.shape) (start_bytes i.shape o.start) (meta_mark o.start.seq)))
@@ -221,7 +223,7 @@ start_is i w line o r world life whole =
     let count : length from.1 ≡ start_len i.shape = are.count in
     let each : (j : ℕ) → j < start_stripes i.shape → ProgrammedAt w line j = λ j below.
     let low : j * i.shape.ws_opt < start_len i.shape = (let next : (j + 1) * i.shape.ws_opt ≤ start_stripes i.shape * i.shape.ws_opt = mul-le-mul_right i.shape.ws_opt (omega arith) in omega arith) in
-    let at = within_some from.1 (j * i.shape.ws_opt) (omega arith) in
+    let at = got_within from.1 (j * i.shape.ws_opt) (omega arith) in
     let same : j * i.shape.ws_opt ≡ j * i.shape.ws_opt + 0 = omega arith in
     let written : IsWritten i w line j 0 at.0 = written_block i w line j 0 at.0 world (ap is_opened life) stripes (ap (block_at (media i (log_of w)) line) (sym same) ∙ are.written (j * i.shape.ws_opt) low ∙ at.1) in
     (written.stripe, written.there, written.programmed) in

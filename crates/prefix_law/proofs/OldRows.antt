@@ -12,23 +12,19 @@ use Rattle.pblk_model.specs.Records.{Record, records}
 use Rattle.pblk_model.specs.Contents.{head, end, end_after, counts, counted, counted_after}
 use Rattle.pblk_world.specs.Lines.{next_seq}
 use Rattle.pblk_world.specs.Starts.{row_bound, bound_by}
-use Rattle.pblk_laws.proofs.Lists.{contains_none}
 use Rattle.pblk_laws.proofs.Ends.{end_is_end}
 use Rattle.pblk_laws.proofs.Heads.{head_is_head, no_head_no_start}
 use Rattle.pblk_laws.proofs.Starts.{numbers, found_is}
-use Rattle.stripe_placer.proofs.Among.{IsAmong, later}
-use Rattle.stripe_placer.proofs.Chunks.{lt_yes as true_lt}
-use Rattle.stripe_placer.proofs.Rising.{le_true as true_le, le_false as false_le}
-use Rattle.core_laws.proofs.Rows.{same_number}
-use Rattle.core_laws.proofs.Tests.{both as both_true}
-use Rattle.core_laws.proofs.Lists.{range_get}
-use Rattle.media_laws.proofs.KnownSteps.{any_at as is_any}
+use Rattle.stripe_placer.proofs.Rising.{le_false as false_le}
 use Rattle.placed_laws.proofs.Distinct.{passing as any_is}
 use Rattle.prefix_law.specs.Assembled.{by_row}
 use Rattle.prefix_law.specs.Continued.{row_of, rows_of}
 use Rattle.prefix_law.proofs.Among.{made_into, made_from}
 use Rattle.prefix_law.proofs.Assembly.{filtered_from, filtered_into, CountsBy, counts_by, counts_young, counts_row}
 use Rattle.prefix_law.proofs.RecordLines.{range_is, IsAt, record_is_at}
+use Rattle.lemmas.proofs.Lists.{IsAmong, contains_none, later}
+use Rattle.lemmas.proofs.Maps.{any_member, range_get}
+use Rattle.lemmas.proofs.Tests.{both, le_true, lt_true, same_number}
 
 -- ---- the rows of a start record
 
@@ -72,7 +68,7 @@ row_found s r least (x ∷ rows) (suc k) row fits there =
     let after : x.line + 1 ≤ row.line = rest.low in
     by (is_row_for row.line row.seq x) refl after (row_found s r (x.line + 1) rows k row parts.1 there) where
       by : (b : Bool) → is_row_for row.line row.seq x ≡ b → x.line + 1 ≤ row.line → find (is_row_for row.line row.seq) rows ≡ Some row → cond b (Some x) (find (is_row_for row.line row.seq) rows) ≡ Some row
-      by true is after rest = let same : x.line ≡ row.line = eqb-true x.line row.line (both_true (x.line == row.line) (x.seq == row.seq) is).0 in absurd (omega arith)
+      by true is after rest = let same : x.line ≡ row.line = eqb-true x.line row.line (both (x.line == row.line) (x.seq == row.seq) is).0 in absurd (omega arith)
       by false is after rest = rest
 
 -- the row that is found is one
@@ -95,13 +91,13 @@ pub record IsByRow (rows : List Row) (r : Record) (row : Row) : Type 0 where
 pub by_row_is : (h : StartRecord) (r : Record) → by_row h r ≡ true → (row : Row) × IsByRow h.rows r row
 by_row_is h r is =
     let at = any_is (λ (row : Row). (row.line == r.line) && (row.seq == r.seq) && nat_lt r.position row.bound) h.rows is in
-    let p = both_true ((at.0.line == r.line) && (at.0.seq == r.seq)) (nat_lt r.position at.0.bound) at.2 in
-    let q = both_true (at.0.line == r.line) (at.0.seq == r.seq) p.0 in
+    let p = both ((at.0.line == r.line) && (at.0.seq == r.seq)) (nat_lt r.position at.0.bound) at.2 in
+    let q = both (at.0.line == r.line) (at.0.seq == r.seq) p.0 in
     (at.0, record { there = at.1; line = eqb-true at.0.line r.line q.0; seq = eqb-true at.0.seq r.seq q.1; below = ltb-true r.position at.0.bound p.1 })
 
 pub is_by_row : (h : StartRecord) (r : Record) (row : Row) → IsByRow h.rows r row → by_row h r ≡ true
-is_by_row h r row is = is_any (λ (x : Row). (x.line == r.line) && (x.seq == r.seq) && nat_lt r.position x.bound) h.rows is.there.0 row is.there.1
-    (ap₂ (λ a b. a && b) (ap₂ (λ a b. a && b) (ap (λ n. n == r.line) is.line ∙ same_number r.line) (ap (λ n. n == r.seq) is.seq ∙ same_number r.seq)) (true_lt r.position row.bound is.below))
+is_by_row h r row is = any_member (λ (x : Row). (x.line == r.line) && (x.seq == r.seq) && nat_lt r.position x.bound) h.rows is.there.0 row is.there.1
+    (ap₂ (λ a b. a && b) (ap₂ (λ a b. a && b) (ap (λ n. n == r.line) is.line ∙ same_number r.line) (ap (λ n. n == r.seq) is.seq ∙ same_number r.seq)) (lt_true r.position row.bound is.below))
 
 -- ---- the rows of the found image
 
@@ -200,7 +196,7 @@ module _ (b : Image) where
     by_find h None f low = absurd (omega arith)
     by_find h (Some x) f low =
         let at = find_is (is_row_for found.line found.start.seq) h.rows x f in
-        let q = both_true (x.line == found.line) (x.seq == found.start.seq) at.1 in
+        let q = both (x.line == found.line) (x.seq == found.start.seq) at.1 in
         is_by_row h r x (record { there = at.0; line = eqb-true x.line found.line q.0 ∙ lines; seq = eqb-true x.seq found.start.seq q.1 ∙ seqs; below = low })
 
     by_mount : (h : StartRecord) → head b ≡ Some h → (c : Bool) → nat_le h.first_seq found.start.seq ≡ c → r.position < (if c then end b else row_bound h found.line found.start.seq) → Contains (counted b) r
@@ -220,7 +216,7 @@ module _ (b : Image) where
   pub counted_by_row : (r : Record) → Contains (counted b) r → IsOldCounted r
   counted_by_row r there = by (head b) refl where
     mounted : (h : StartRecord) (line seq : ℕ) → h.first_seq ≤ seq → bound_by (Some h) (end b) line seq ≡ end b
-    mounted h line seq mount = ap (λ c. if c then end b else row_bound h line seq) (true_le h.first_seq seq mount)
+    mounted h line seq mount = ap (λ c. if c then end b else row_bound h line seq) (le_true h.first_seq seq mount)
 
     not_mounted : (h : StartRecord) (line seq : ℕ) → seq < h.first_seq → bound_by (Some h) (end b) line seq ≡ row_bound h line seq
     not_mounted h line seq old = ap (λ c. if c then end b else row_bound h line seq) (false_le h.first_seq seq old)

@@ -1,11 +1,10 @@
 -- The contents of the media are those after a prefix of the history.
-use Rattle.std.proofs.Common.{◌≡◌, ℕ, ◌-◌, ◌<◌, ◌≤◌, ◌⊎◌, zero, suc, Bool, false, Some, None, Option, List, [], ◌∷◌, length, take, refl, sym, subst, ap, ap₂, ◌∙◌, arith, inl, inr}
+use Rattle.std.proofs.Common.{◌≡◌, ℕ, ◌-◌, ◌<◌, ◌≤◌, ◌⊎◌, Bool, false, Some, None, Option, List, [], length, take, refl, sym, subst, ap, ap₂, ◌∙◌, arith, inl, inr}
 use Rattle.std.specs.Prelude.{slice_get, map}
 use Rattle.std.specs.List.{AllByRecursion}
 use Rattle.std.specs.Option.{option_and_then, option_map_or}
 use Rattle.std.proofs.Math.Seq.{take-length}
 use Rattle.std.proofs.lemmas.Bool.{cases_lt}
-use Rattle.std.proofs.lemmas.Option.{same_Some, none-some}
 use Rattle.pblk_model.specs.declared.shape.Shape.{Shape}
 use Rattle.pblk_model.specs.Accepted.{IsAccepted}
 use Rattle.pblk_model.specs.Shape.{units}
@@ -23,8 +22,7 @@ use Rattle.pblk_world.specs.Lines.{found_image}
 use Rattle.pblk_world.proofs.SyncedFront.{synced_is, synced_within}
 use Rattle.core_laws.specs.PlainWorlds.{IsPlainWorld}
 use Rattle.pblk_laws.specs.LineBlocks.{chunk_in}
-use Rattle.pblk_laws.proofs.Lists.{all_by_get}
-use Rattle.media_laws.proofs.UnitCounts.{media_units, found_chunks, found_shape, found_units}
+use Rattle.media_laws.proofs.UnitCounts.{found_chunks, found_shape, found_units}
 use Rattle.media_laws.proofs.FoundChunks.{found_is_chunk}
 use Rattle.media_laws.proofs.LineLives.{living}
 use Rattle.media_laws.proofs.OpenedUnits.{opened_in_range}
@@ -42,11 +40,9 @@ use Rattle.prefix_law.proofs.Taking.{line_of, history_is, count_users}
 use Rattle.prefix_law.proofs.Media.{opening_of, start_is}
 use Rattle.prefix_law.proofs.Records.{IsOfEntry, of_entry, landed_borne}
 use Rattle.prefix_law.proofs.Unopened.{kept_or_lost, in_range}
-
-get_mapped : {X Y : Type 0} (f : X → Y) (xs : List X) (k : ℕ) (x : X) → slice_get xs k ≡ Some x → slice_get (map f xs) k ≡ Some (f x)
-get_mapped f [] k x e = absurd (none-some x e)
-get_mapped f (y ∷ xs) zero x e = ap (λ z. Some z) (ap f (same_Some y x e))
-get_mapped f (y ∷ xs) (suc k) x e = get_mapped f xs k x e
+use Rattle.lemmas.proofs.Maps.{get_mapped}
+use Rattle.lemmas.proofs.Parts.{all_by_get, take_nothing}
+use Rattle.pblk_world.proofs.WorldLemmas.{length_media}
 
 pub whole : (w : World) → ArePrefixes w (log_of w)
 whole w author = (length (log_of w author), sym (take-length (log_of w author)))
@@ -78,7 +74,7 @@ pub record IsOld (i : Image) (w : World) (line : ℕ) : Type 0 where
   pub bears : line_records (media i (log_of w)) line ≡ line_records (found_image i (log_of w)) line
 
 pub same_count : (i : Image) (w : World) → length (media i (log_of w)).units ≡ length (found_image i (log_of w)).units
-same_count i w = media_units i (log_of w) ∙ sym (found_units i (log_of w))
+same_count i w = length_media i (log_of w) ∙ sym (found_units i (log_of w))
 
 kept_old : (i : Image) (w : World) (line : ℕ) → ((unit : ℕ) → chunk_in (media i (log_of w)) line unit ≡ chunk_in (found_image i (log_of w)) line unit) → IsOld i w line
 kept_old i w line kept =
@@ -159,10 +155,6 @@ continued i w b world sealed begins = record {
 }
 
 -- ---- the law
-
-take_nothing : {X : Type 0} (n : ℕ) → take {A = X} n [] ≡ []
-take_nothing zero = refl
-take_nothing (suc n) = refl
 
 take_none : {X : Type 0} (n : ℕ) (xs : List X) → xs ≡ [] → take n xs ≡ []
 take_none n xs none = ap (take n) none ∙ take_nothing n

@@ -2,7 +2,7 @@
 use Rattle.std.proofs.Common.{◌≡◌, ℕ, ◌*◌, ◌<◌, Some, None, Option, length, refl, sym, subst, ap, ◌∙◌, arith, zero-add}
 use Rattle.std.specs.Prelude.{slice_get}
 use Rattle.std.specs.List.{Contains, range_with_len}
-use Rattle.std.specs.Option.{option_map, option_and_then}
+use Rattle.std.specs.Option.{option_and_then}
 use Rattle.std.proofs.lemmas.Option.{same_Some, none-some, slice_get_within}
 use Rattle.std.proofs.lemmas.List.FromFn.{length-range_with_len}
 use Rattle.pblk_model.specs.declared.chunk.Mark.{Mark}
@@ -11,16 +11,13 @@ use Rattle.pblk_model.specs.Image.{Image, width, block_at}
 use Rattle.pblk_model.specs.EndRecord.{end_of}
 use Rattle.pblk_model.specs.StartRecord.{StartRecord, start_of}
 use Rattle.pblk_model.specs.Records.{Record, named, mark_at, bears, record_at, records_after, line_records, records}
-use Rattle.stripe_placer.proofs.Among.{IsAmong}
-use Rattle.core_laws.proofs.Lists.{range_get}
-use Rattle.media_laws.proofs.LineChunks.{split_then as then_is}
-use Rattle.prefix_law.proofs.Among.{among_contained, contained_among, flat_into, flat_from, made_into, made_from}
+use Rattle.prefix_law.proofs.Among.{flat_into, flat_from, made_into, made_from}
+use Rattle.lemmas.proofs.Lists.{IsAmong, among_contained}
+use Rattle.lemmas.proofs.Maps.{range_get}
+use Rattle.lemmas.proofs.Options.{map_some, split_then}
+use Rattle.lemmas.proofs.Parts.{contained_among}
 
 -- ---- one record
-
-pub map_is : {X Y : Type 0} (f : X → Y) (o : Option X) (y : Y) → option_map f o ≡ Some y → (x : X) × (o ≡ Some x) × (f x ≡ y)
-map_is f None y e = absurd (none-some y e)
-map_is f (Some x) y e = (x, refl, same_Some (f x) y e)
 
 abbrev pub record_with : ℕ → ℕ → ℕ → Block → Mark → Option ℕ → Record
 record_with line seq a b m lba = record { line = line; seq = seq; at = a; position = m.position; lba = lba; sector = b.sector }
@@ -45,9 +42,9 @@ pub record IsAt (i : Image) (r : Record) : Type 0 where
 
 placed : (i : Image) (r : Record) (line a : ℕ) (start : StartRecord) → record_at i line start a ≡ Some r → (r.line ≡ line) × (r.seq ≡ start.seq)
 placed i r line a start is =
-    let block = then_is (λ b. option_and_then (bears i.shape line start.seq a b) (mark_at i.shape (end_of i line start) a b)) (block_at i line a) r is in
-    let mark = then_is (bears i.shape line start.seq a block.0) (mark_at i.shape (end_of i line start) a block.0) r block.2 in
-    let name = map_is (record_with line start.seq a block.0 mark.0) (named i.shape mark.0) r mark.2 in
+    let block = split_then (λ b. option_and_then (bears i.shape line start.seq a b) (mark_at i.shape (end_of i line start) a b)) (block_at i line a) r is in
+    let mark = split_then (bears i.shape line start.seq a block.0) (mark_at i.shape (end_of i line start) a block.0) r block.2 in
+    let name = map_some (record_with line start.seq a block.0 mark.0) (named i.shape mark.0) r mark.2 in
     (ap (λ (x : Record). x.line) (sym name.2), ap (λ (x : Record). x.seq) (sym name.2))
 
 pub record_is_at : (i : Image) (r : Record) → Contains (records i) r → IsAt i r

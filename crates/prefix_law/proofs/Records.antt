@@ -18,23 +18,22 @@ use Rattle.pblk_world.specs.EngineLog.{Opening, Opened, life_of, is_opened, Plac
 use Rattle.pblk_world.specs.Fronts.{first_position, has_landed_at}
 use Rattle.pblk_world.specs.Placing.{end_address}
 use Rattle.core_laws.specs.PlainWorlds.{IsPlainWorld}
-use Rattle.core_laws.proofs.Rows.{same_number}
 use Rattle.core_laws.proofs.Placing.{not_below}
-use Rattle.core_laws.proofs.Tests.{both as both_true}
-use Rattle.stripe_placer.proofs.Among.{IsAmong, in_filter}
-use Rattle.stripe_placer.proofs.Chunks.{le_of as lt_false}
 use Rattle.pblk_laws.proofs.MarkNames.{named_sector}
 use Rattle.media_laws.specs.Standing.{stripes_in, is_programmed}
 use Rattle.media_laws.proofs.LinePlaces.{IsPlacedIn, placed_in, units_known, next_fits}
 use Rattle.media_laws.proofs.LineWritten.{block_at_address}
 use Rattle.media_laws.proofs.LineStanding.{landed_is_programmed}
-use Rattle.media_laws.proofs.LineChunks.{split_then as then_is}
 use Rattle.placed_laws.proofs.Distinct.{passing as any_is}
-use Rattle.prefix_law.proofs.RecordLines.{map_is, record_with, IsAt, record_is_at, at_is_record}
+use Rattle.prefix_law.proofs.RecordLines.{record_with, IsAt, record_is_at, at_is_record}
 use Rattle.prefix_law.proofs.Filling.{filled}
 use Rattle.prefix_law.proofs.Taking.{IsUsers, all_users}
 use Rattle.prefix_law.proofs.Media.{IsWritten, written_there, media_width, opening_of, line_opened, start_stands, start_is}
 use Rattle.prefix_law.proofs.Ends.{IsData, data_block, end_begins, end_whole, pair_is, pairs_within}
+use Rattle.lemmas.proofs.Lists.{IsAmong}
+use Rattle.lemmas.proofs.Maps.{in_filter}
+use Rattle.lemmas.proofs.Options.{map_some, some_value, split_then}
+use Rattle.lemmas.proofs.Tests.{both, le_of_lt_false, same_number}
 
 -- ---- the mark of a record is its block's own
 
@@ -47,7 +46,7 @@ own_mark i w line a o b m (Some e) world life written ended is = by (nat_lt a (s
     by : (c : Bool) → nat_lt a (start_len i.shape) ≡ c → (if c then None else slice_get e.pairs (a - start_len i.shape)) ≡ Some m → m ≡ b.mark
     by true low is = absurd (none-some m is)
     by false past is =
-        let from : start_len i.shape ≤ a = lt_false a (start_len i.shape) past in
+        let from : start_len i.shape ≤ a = le_of_lt_false a (start_len i.shape) past in
         let inside : a - start_len i.shape < length e.pairs = slice_get_within e.pairs (a - start_len i.shape) m is in
         let count : length e.pairs ≡ end_address i.shape o - start_len i.shape = pairs_within i w line o e world life ended in
         let parts : i.shape.ws_opt * (a / i.shape.ws_opt) + a % i.shape.ws_opt ≡ a = div-add-mod a i.shape.ws_opt in
@@ -81,9 +80,9 @@ of_entry i w r world there opened =
     let o : Opening = open_as.0 in
     let life : life_of (log_of w 0) r.line ≡ Opened open_as.0 = open_as.1 in
     let record_is : open_as.0.start ≡ at.start = start_is i w r.line open_as.0 at.start world open_as.1 at.whole in
-    let block = then_is (λ b. option_and_then (bears i.shape r.line at.start.seq at.address b) (mark_at i.shape (end_of (media i (log_of w)) r.line at.start) at.address b)) (block_at (media i (log_of w)) r.line at.address) r at.bears in
-    let mark = then_is (bears i.shape r.line at.start.seq at.address block.0) (mark_at i.shape (end_of (media i (log_of w)) r.line at.start) at.address block.0) r block.2 in
-    let name = map_is (record_with r.line at.start.seq at.address block.0 mark.0) (named i.shape mark.0) r mark.2 in
+    let block = split_then (λ b. option_and_then (bears i.shape r.line at.start.seq at.address b) (mark_at i.shape (end_of (media i (log_of w)) r.line at.start) at.address b)) (block_at (media i (log_of w)) r.line at.address) r at.bears in
+    let mark = split_then (bears i.shape r.line at.start.seq at.address block.0) (mark_at i.shape (end_of (media i (log_of w)) r.line at.start) at.address block.0) r block.2 in
+    let name = map_some (record_with r.line at.start.seq at.address block.0 mark.0) (named i.shape mark.0) r mark.2 in
     let ended : end_of (media i (log_of w)) r.line open_as.0.start ≡ end_of (media i (log_of w)) r.line at.start = ap (end_of (media i (log_of w)) r.line) record_is in
     let own : mark.0 ≡ block.0.mark = own_mark i w r.line at.address open_as.0 block.0 mark.0 (end_of (media i (log_of w)) r.line at.start) world open_as.1 block.1 ended mark.1 in
     let inside : at.address % i.shape.ws_opt < i.shape.ws_opt = mod-lt at.address world.accepted.drive.ws_opt in
@@ -110,19 +109,15 @@ pub record IsBorne (i : Image) (w : World) (q : ℕ) (r : Record) : Type 0 where
   pub position : r.position ≡ q
   pub opened : is_opened (life_of (log_of w 0) r.line) ≡ true
 
-some_of : {X : Type 0} (o : Option X) → is_some o ≡ true → (x : X) × (o ≡ Some x)
-some_of None e = absurd (cc)
-some_of (Some x) e = (x, refl)
-
 pub landed_borne : (i : Image) (w : World) (q : ℕ) → IsPlainWorld i w → has_landed_at i.shape (log_of w 0) q ≡ true → (r : Record) × IsBorne i w q r
 landed_borne i w q world landed =
     let stripe = any_is (λ p. has_landed (log_of w 0) p && holds_position i.shape q p) (placements (log_of w 0)) landed in
     let p : Placed = stripe.0 in
-    let facts = both_true (has_landed (log_of w 0) stripe.0) (holds_position i.shape q stripe.0) stripe.2 in
+    let facts = both (has_landed (log_of w 0) stripe.0) (holds_position i.shape q stripe.0) stripe.2 in
     let block = any_is (bears_position i.shape q) stripe.0.stripe.blocks facts.1 in
     let b : Block = block.0 in
-    let names = both_true (is_some (named i.shape block.0.mark)) (block.0.mark.position == q) block.2 in
-    let name = some_of (named i.shape block.0.mark) names.0 in
+    let names = both (is_some (named i.shape block.0.mark)) (block.0.mark.position == q) block.2 in
+    let name = some_value (named i.shape block.0.mark) names.0 in
     let line : ℕ = stripe.0.stripe.line in
     let at : IsAmong (stripes_in (log_of w 0) stripe.0.stripe.line) stripe.0 = in_filter (λ (x : Placed). x.stripe.line == stripe.0.stripe.line) (placements (log_of w 0)) stripe.0 stripe.1 (same_number stripe.0.stripe.line) in
     let j : ℕ = at.0 in

@@ -19,23 +19,22 @@ use Rattle.pblk_world.specs.Lines.{found_image, next_seq}
 use Rattle.pblk_world.specs.Space.{placed_front}
 use Rattle.pblk_world.proofs.SyncedFront.{synced_missing}
 use Rattle.core_laws.specs.PlainWorlds.{IsPlainWorld}
-use Rattle.core_laws.proofs.Rows.{same_number}
-use Rattle.stripe_placer.proofs.Among.{IsAmong, from_filter}
-use Rattle.stripe_placer.proofs.Chunks.{lt_yes as is_below}
 use Rattle.pblk_laws.proofs.Ends.{end_is_end}
 use Rattle.media_laws.proofs.LineWritten.{landed_is}
-use Rattle.media_laws.proofs.LineChunks.{split_then as then_is}
-use Rattle.media_laws.proofs.KnownSteps.{any_at as is_any}
 use Rattle.placed_laws.proofs.Ordered.{ordered, some_hold_below, front_within}
 use Rattle.placed_laws.proofs.Distinct.{passing as any_is}
 use Rattle.prefix_law.specs.Continued.{entries_from, IsNextStart}
-use Rattle.prefix_law.proofs.Among.{contained_among}
 use Rattle.prefix_law.proofs.Fronts.{synced_from}
 use Rattle.prefix_law.proofs.Media.{IsWritten, opening_of, written_there, start_is}
-use Rattle.prefix_law.proofs.RecordLines.{IsAt, record_is_at, record_with, map_is}
+use Rattle.prefix_law.proofs.RecordLines.{IsAt, record_is_at, record_with}
 use Rattle.prefix_law.proofs.Records.{own_mark}
 use Rattle.prefix_law.proofs.Continuing.{WhichHead, OfThisMount, AsFound, which, is_new, holds_as_found, none_landed}
 use Rattle.prefix_law.proofs.Prefix.{lines_of, opened_in, continued, end_above}
+use Rattle.lemmas.proofs.Lists.{IsAmong}
+use Rattle.lemmas.proofs.Maps.{any_member, from_filter}
+use Rattle.lemmas.proofs.Options.{map_some, split_then}
+use Rattle.lemmas.proofs.Parts.{contained_among}
+use Rattle.lemmas.proofs.Tests.{lt_true, same_number}
 
 -- ---- the stripe of a record
 
@@ -52,9 +51,9 @@ of_stripe i w r world opened there =
     let at : IsAt (media i (log_of w)) r = record_is_at (media i (log_of w)) r there in
     let open_as = opening_of (log_of w 0) r.line opened in
     let record_is : open_as.0.start ≡ at.start = start_is i w r.line open_as.0 at.start world open_as.1 at.whole in
-    let block = then_is (λ b. option_and_then (bears i.shape r.line at.start.seq at.address b) (mark_at i.shape (end_of (media i (log_of w)) r.line at.start) at.address b)) (block_at (media i (log_of w)) r.line at.address) r at.bears in
-    let mark = then_is (bears i.shape r.line at.start.seq at.address block.0) (mark_at i.shape (end_of (media i (log_of w)) r.line at.start) at.address block.0) r block.2 in
-    let name = map_is (record_with r.line at.start.seq at.address block.0 mark.0) (named i.shape mark.0) r mark.2 in
+    let block = split_then (λ b. option_and_then (bears i.shape r.line at.start.seq at.address b) (mark_at i.shape (end_of (media i (log_of w)) r.line at.start) at.address b)) (block_at (media i (log_of w)) r.line at.address) r at.bears in
+    let mark = split_then (bears i.shape r.line at.start.seq at.address block.0) (mark_at i.shape (end_of (media i (log_of w)) r.line at.start) at.address block.0) r block.2 in
+    let name = map_some (record_with r.line at.start.seq at.address block.0 mark.0) (named i.shape mark.0) r mark.2 in
     let ended : end_of (media i (log_of w)) r.line open_as.0.start ≡ end_of (media i (log_of w)) r.line at.start = ap (end_of (media i (log_of w)) r.line) record_is in
     let own : mark.0 ≡ block.0.mark = own_mark i w r.line at.address open_as.0 block.0 mark.0 (end_of (media i (log_of w)) r.line at.start) world open_as.1 block.1 ended mark.1 in
     let written : IsWritten i w r.line (at.address / i.shape.ws_opt) (at.address % i.shape.ws_opt) block.0 = written_there i w r.line at.address block.0 world opened block.1 in
@@ -64,7 +63,7 @@ of_stripe i w r world opened there =
     record {
       stripe = written.stripe;
       there = from_filter (λ (p : Placed). p.stripe.line == r.line) (placements (log_of w 0)) written.stripe (at.address / i.shape.ws_opt, written.there);
-      holds = is_any (bears_position i.shape r.position) written.stripe.stripe.blocks (at.address % i.shape.ws_opt) block.0 written.block bear;
+      holds = any_member (bears_position i.shape r.position) written.stripe.stripe.blocks (at.address % i.shape.ws_opt) block.0 written.block bear;
     }
 
 -- ---- where each stripe is answered
@@ -82,7 +81,7 @@ within_answers xs n e = go (slice_get xs n) refl e
 landed_all : (i : Image) (w : World) → IsPlainWorld i w → AreAnswered w → (p : Placed) → IsAmong (placements (log_of w 0)) p → has_landed (log_of w 0) p ≡ true
 landed_all i w world all p there =
     landed_is (log_of w 0) p world.engine
-    ∙ is_below (turn (log_of w 0) p) (length (answers (log_of w 0) p.stripe.unit)) (within_answers (answers (log_of w 0) p.stripe.unit) (turn (log_of w 0) p) (all p (contained_among (placements (log_of w 0)) p there)))
+    ∙ lt_true (turn (log_of w 0) p) (length (answers (log_of w 0) p.stripe.unit)) (within_answers (answers (log_of w 0) p.stripe.unit) (turn (log_of w 0) p) (all p (contained_among (placements (log_of w 0)) p there)))
 
 both_below : (a q b : ℕ) → a ≤ q → q < b → (nat_le a q && nat_lt q b) ≡ true
 both_below a q b low high = grind arith
@@ -105,14 +104,14 @@ placed_synced i w world all = go (cases_order (synced i.shape (log_of w 0)) (pla
         some_hold_below i.shape (log_of w 0) (ordered i w world) (synced i.shape (log_of w 0)) ∙ both_below (first_position (log_of w 0)) (synced i.shape (log_of w 0)) (placed_front i.shape (log_of w 0)) (synced_from i.shape (log_of w 0)) less in
         let p = any_is (holds_position i.shape (synced i.shape (log_of w 0))) (placements (log_of w 0)) held in
         let landed : has_landed_at i.shape (log_of w 0) (synced i.shape (log_of w 0)) ≡ true =
-        is_any (λ x. has_landed (log_of w 0) x && holds_position i.shape (synced i.shape (log_of w 0)) x) (placements (log_of w 0)) p.1.0 p.0 p.1.1 (ap₂ (λ a b. a && b) (landed_all i w world all p.0 p.1) p.2) in
+        any_member (λ x. has_landed (log_of w 0) x && holds_position i.shape (synced i.shape (log_of w 0)) x) (placements (log_of w 0)) p.1.0 p.0 p.1.1 (ap₂ (λ a b. a && b) (landed_all i w world all p.0 p.1) p.2) in
         absurd (cc)
 
 -- a record's position is below the front synced
 record_below : (i : Image) (w : World) (r : Record) → IsPlainWorld i w → AreAnswered w → is_opened (life_of (log_of w 0) r.line) ≡ true → Contains (records (media i (log_of w))) r → r.position < synced i.shape (log_of w 0)
 record_below i w r world all opened there =
     let of : IsOfStripe i w r = of_stripe i w r world opened there in
-    let held : list_any (holds_position i.shape r.position) (placements (log_of w 0)) ≡ true = is_any (holds_position i.shape r.position) (placements (log_of w 0)) of.there.0 of.stripe of.there.1 of.holds in
+    let held : list_any (holds_position i.shape r.position) (placements (log_of w 0)) ≡ true = any_member (holds_position i.shape r.position) (placements (log_of w 0)) of.there.0 of.stripe of.there.1 of.holds in
     let below : r.position < placed_front i.shape (log_of w 0) = below_both (first_position (log_of w 0)) r.position (placed_front i.shape (log_of w 0)) (sym (some_hold_below i.shape (log_of w 0) (ordered i w world) r.position) ∙ held) in
     let front : placed_front i.shape (log_of w 0) ≤ synced i.shape (log_of w 0) = placed_synced i w world all in
     omega (arith, below, front)

@@ -29,15 +29,11 @@ use Rattle.pblk_world.specs.Lines.{found_image}
 use Rattle.pblk_world.specs.Placing.{end_address, start_blocks}
 use Rattle.pblk_world.specs.Commanding.{ended_stripes}
 use Rattle.core_laws.specs.PlainWorlds.{IsPlainWorld}
-use Rattle.core_laws.proofs.Rows.{other_number}
 use Rattle.core_laws.proofs.Placing.{not_below}
-use Rattle.core_laws.proofs.Lists.{got_within as within_some, all_mapped}
 use Rattle.pblk_laws.specs.LineBlocks.{chunk_in}
-use Rattle.pblk_laws.proofs.Lists.{all_at, all_by_get}
 use Rattle.pblk_laws.proofs.LineUnits.{line_units_chunks}
 use Rattle.pblk_laws.proofs.StartHeads.{spelled_begins_once}
 use Rattle.media_laws.specs.Standing.{state_at, stripes_in}
-use Rattle.media_laws.proofs.Growing.{get_whole}
 use Rattle.media_laws.proofs.UnitCounts.{found_shape}
 use Rattle.media_laws.proofs.Order.{stripes_at}
 use Rattle.media_laws.proofs.LinePlaces.{units_known, stripes_in_chunk}
@@ -57,6 +53,9 @@ use Rattle.prefix_law.proofs.Ends.{end_begins, end_whole, pair_is, pairs_within,
 use Rattle.prefix_law.proofs.Unopened.{kept_or_lost}
 use Rattle.prefix_law.proofs.Prefix.{whole, found_accepted, found_fit, found_whole, same_count}
 use Rattle.prefix_law.proofs.EndHeads.{IsDataMark, end_begins_none}
+use Rattle.lemmas.proofs.Maps.{all_mapped}
+use Rattle.lemmas.proofs.Parts.{all_by_get, all_get, get_whole_within, got_within}
+use Rattle.lemmas.proofs.Tests.{other_number}
 
 -- ---- a line with a whole end record was programmed whole
 
@@ -85,7 +84,7 @@ every_programmed i w line j o e world life ended inside =
     -- in the end record
     past : end_address i.shape o ≤ j * i.shape.ws_opt → end_address i.shape o + end_len i.shape (o.start.width) ≡ o.start.width * i.shape.clba → j * i.shape.ws_opt < o.start.width * i.shape.clba → ProgrammedAt w line j
     past high all under =
-        let at = within_some (stands i w line o e world life ended).1 (j * i.shape.ws_opt - end_address i.shape o) (omega (arith, size)) in
+        let at = got_within (stands i w line o e world life ended).1 (j * i.shape.ws_opt - end_address i.shape o) (omega (arith, size)) in
         let written : IsWritten i w line ((end_address i.shape o + (j * i.shape.ws_opt - end_address i.shape o)) / i.shape.ws_opt) ((end_address i.shape o + (j * i.shape.ws_opt - end_address i.shape o)) % i.shape.ws_opt) at.0 =
         block_written i w line o e world life ended (j * i.shape.ws_opt - end_address i.shape o) at.0 at.1 in
         let address : end_address i.shape o + (j * i.shape.ws_opt - end_address i.shape o) ≡ j * i.shape.ws_opt = omega arith in
@@ -95,7 +94,7 @@ every_programmed i w line j o e world life ended inside =
     -- before it
     front : j * i.shape.ws_opt < end_address i.shape o → 0 < end_len i.shape (o.start.width) → ProgrammedAt w line j
     front low long =
-        let first = within_some (stands i w line o e world life ended).1 0 (omega (arith, size)) in
+        let first = got_within (stands i w line o e world life ended).1 0 (omega (arith, size)) in
         let written = block_written i w line o e world life ended 0 first.0 first.1 in
         let fill = filled i w world line ((end_address i.shape o + 0) / i.shape.ws_opt) o written.stripe life written.there in
         let whole : end_address i.shape o ≡ end_address i.shape o / i.shape.ws_opt * i.shape.ws_opt = end_whole i w line o world life in
@@ -193,7 +192,7 @@ cut_get size bytes (m ∷ marks) (suc k) b e =
 data_marks : (i : Image) (w : World) (line : ℕ) (o : Opening) → IsPlainWorld i w → life_of (log_of w 0) line ≡ Opened o → AllByRecursion IsDataMark (marks_in i.shape o (stripes_in (log_of w 0) line))
 data_marks i w line o world life = all_mapped IsDataMark (λ (b : Block). b.mark) (slice_range (all_blocks w line) (start_len i.shape) (end_address i.shape o))
     (all_by_get (λ (b : Block). IsDataMark b.mark) (slice_range (all_blocks w line) (start_len i.shape) (end_address i.shape o)) (λ k b there.
-    let low = get_whole (end_address i.shape o - start_len i.shape) (drop (start_len i.shape) (all_blocks w line)) k b there in
+    let low = get_whole_within (end_address i.shape o - start_len i.shape) (drop (start_len i.shape) (all_blocks w line)) k b there in
     let below : k < end_address i.shape o - start_len i.shape = low.1 in
     one (start_len i.shape + k) b (omega arith) (omega arith) (sym (get_range (all_blocks w line) (start_len i.shape) (end_address i.shape o) k below) ∙ there)))
   where
@@ -214,14 +213,14 @@ data_marks i w line o world life = all_mapped IsDataMark (λ (b : Block). b.mark
         let size : length (all_blocks w line) ≡ length (stripes_in (log_of w 0) line) * i.shape.ws_opt = blocks_count i.shape.ws_opt (stripes_in (log_of w 0) line) (line_long i w line world) in
         let within : a < length (all_blocks w line) = slice_get_within (all_blocks w line) a b there in
         let row : a / i.shape.ws_opt < length (stripes_in (log_of w 0) line) = lt_of_mul-lt-mul_right i.shape.ws_opt (omega arith) in
-        let at = within_some (stripes_in (log_of w 0) line) (a / i.shape.ws_opt) row in
+        let at = got_within (stripes_in (log_of w 0) line) (a / i.shape.ws_opt) row in
         let same : a / i.shape.ws_opt * i.shape.ws_opt + a % i.shape.ws_opt ≡ a = omega arith in
         let block : slice_get at.0.stripe.blocks (a % i.shape.ws_opt) ≡ Some b =
         sym (block_get i.shape.ws_opt (stripes_in (log_of w 0) line) (a / i.shape.ws_opt) (a % i.shape.ws_opt) at.0 (line_long i w line world) at.1 inside) ∙ ap (slice_get (all_blocks w line)) same ∙ there in
         let fill = (filled i w world line (a / i.shape.ws_opt) o at.0 life at.1).0 in
         let total : start_len i.shape ≡ start_stripes i.shape * i.shape.ws_opt = start_whole i.shape some in
         let from : start_stripes i.shape * i.shape.ws_opt ≤ a / i.shape.ws_opt * i.shape.ws_opt = row_above i.shape.ws_opt (start_stripes i.shape) a some (omega arith) in
-        mark_of b (all_at (IsOfTaken i.shape (takes (log_of w 0))) at.0.stripe.blocks (a % i.shape.ws_opt) b (fill.middle (omega arith) (omega arith)) block)
+        mark_of b (all_get (IsOfTaken i.shape (takes (log_of w 0))) at.0.stripe.blocks (a % i.shape.ws_opt) b (fill.middle (omega arith) (omega arith)) block)
 
 -- no stripe begins with the header of a narrower line
 stripe_begins : (i : Image) (w : World) (line j : ℕ) (o : Opening) (b : Block) → IsPlainWorld i w → life_of (log_of w 0) line ≡ Opened o → IsWritten i w line j 0 b → BeginsNarrower o.start.width b → ⊥
@@ -255,7 +254,7 @@ stripe_begins i w line j o b world life written begins = go (cases_order (j * i.
 
     middle : start_len i.shape ≤ j * i.shape.ws_opt → (j * i.shape.ws_opt ≡ end_address i.shape o) ⊎ ((j * i.shape.ws_opt < end_address i.shape o) ⊎ (end_address i.shape o < j * i.shape.ws_opt)) → ⊥
     middle low (inl e) = past (omega arith)
-    middle low (inr (inl less)) = of_taken (all_at (IsOfTaken i.shape (takes (log_of w 0))) written.stripe.stripe.blocks 0 b (fill.middle low less) written.block)
+    middle low (inr (inl less)) = of_taken (all_get (IsOfTaken i.shape (takes (log_of w 0))) written.stripe.stripe.blocks 0 b (fill.middle low less) written.block)
     middle low (inr (inr more)) = past (omega arith)
 
     go : (j * i.shape.ws_opt ≡ start_len i.shape) ⊎ ((j * i.shape.ws_opt < start_len i.shape) ⊎ (start_len i.shape < j * i.shape.ws_opt)) → ⊥
@@ -263,7 +262,7 @@ stripe_begins i w line j o b world life written begins = go (cases_order (j * i.
     go (inr (inl less)) =
         let got : slice_get (start_blocks i.shape o) (j * i.shape.ws_opt - 0 + 0) ≡ Some b =
         sym (part_get i.shape (start_blocks i.shape o) 0 (j * i.shape.ws_opt) 0 some (omega arith)) ∙ ap (λ bs. slice_get bs 0) (sym (fill.start less)) ∙ written.block in
-        let mark : b.mark ≡ meta_mark o.start.seq = all_at (λ (x : Block). x.mark ≡ meta_mark o.start.seq) (start_blocks i.shape o) (j * i.shape.ws_opt - 0 + 0) b (cut_marks i.shape.sector (start_len i.shape) (start_bytes i.shape o.start) (meta_mark o.start.seq)) got in
+        let mark : b.mark ≡ meta_mark o.start.seq = all_get (λ (x : Block). x.mark ≡ meta_mark o.start.seq) (start_blocks i.shape o) (j * i.shape.ws_opt - 0 + 0) b (cut_marks i.shape.sector (start_len i.shape) (start_bytes i.shape o.start) (meta_mark o.start.seq)) got in
         spelled_begins_once i.shape line o.start.width o.start.width (j * i.shape.ws_opt - 0 + 0) o.start b accepted (width_low i w line o world life) (omega arith)
         (start_fits_line i w line o world life)
         (cut_get i.shape.sector (start_bytes i.shape o.start) (replicate (start_len i.shape) (meta_mark o.start.seq)) (j * i.shape.ws_opt - 0 + 0) b got) mark begins

@@ -19,10 +19,8 @@ use Rattle.pblk_world.specs.Opening.{MayOpen}
 use Rattle.pblk_world.proofs.Appending.{life_more}
 use Rattle.core_laws.specs.PlainWorlds.{ArePlain, IsPlainWorld}
 use Rattle.core_laws.proofs.Numbering.{first_stays}
-use Rattle.core_laws.proofs.Rows.{same_number, other_number}
-use Rattle.core_laws.proofs.Tests.{first_of as and_left, and_both}
 use Rattle.pblk_laws.proofs.Starts.{numbers, found_is}
-use Rattle.media_laws.proofs.Steps.{log_here, log_elsewhere, plain_tail, IsEngines, IsSomeones, whose}
+use Rattle.media_laws.proofs.Steps.{IsEngines, IsSomeones, whose}
 use Rattle.media_laws.proofs.Decisions.{IsFirst, IsLater, decided, never_freed}
 use Rattle.media_laws.proofs.Beginnings.{found_stays}
 use Rattle.media_laws.proofs.LineLives.{IsOpenedAs, living, opened_by_event, opening_is}
@@ -31,11 +29,12 @@ use Rattle.media_laws.proofs.Named.{found_same}
 use Rattle.media_laws.proofs.UnitCounts.{found_shape}
 use Rattle.media_laws.proofs.OpenedUnits.{still_begun}
 use Rattle.opening_laws.proofs.FoundImages.{found_first, found_seq}
-use Rattle.stripe_placer.proofs.Chunks.{lt_yes as true_lt}
-use Rattle.stripe_placer.proofs.Rising.{le_true as true_le}
 use Rattle.prefix_law.specs.Continued.{row_of, rows_of, IsNextStart}
 use Rattle.prefix_law.proofs.Fronts.{synced_rises, synced_from}
 use Rattle.prefix_law.proofs.OldRows.{old_seq, bound_low}
+use Rattle.core_laws.proofs.PlainWorldsLemmas.{plain_before}
+use Rattle.lemmas.proofs.Tests.{and_both, first_of, le_true, lt_true, other_number, same_number}
+use Rattle.pblk_world.proofs.WorldLemmas.{log_elsewhere, log_here}
 
 true_false : true ≡ false → ⊥
 true_false q = cc
@@ -66,7 +65,7 @@ later_start found front more r up n = record { first_seq = n.first_seq; seq = n.
 
 started_stays : (i : Image) (s : Step) (w : World) (b : Begun) (line : ℕ) (o : Opening) → IsPlainWorld i (s ∷ w) → begun (log_of w 0) ≡ Some b → IsStarted i w line o → IsStarted i (s ∷ w) line o
 started_stays i s w b line o plain is h =
-    let same : found_image i (log_of (s ∷ w)) ≡ found_image i (log_of w) = found_stays i s w b (plain_tail i s w plain) is (still_begun s w b is) in
+    let same : found_image i (log_of (s ∷ w)) ≡ found_image i (log_of w) = found_stays i s w b (plain_before i s w plain) is (still_begun s w b is) in
     record {
       next = subst (λ (found : Image). IsNextStart found (synced i.shape (log_of (s ∷ w) 0)) o.start) (sym same)
           (later_start (found_image i (log_of w)) (synced i.shape (log_of w 0)) (synced i.shape (log_of (s ∷ w) 0)) o.start (rises i s w b plain is) h.next);
@@ -127,7 +126,7 @@ first_is log b is = ap (λ (o : Option Begun). option_map_or (λ (x : Begun). x.
 started_now : (i : Image) (s : Step) (w : World) (line : ℕ) (start : StartRecord) (b : Begun) → IsPlainWorld i (s ∷ w) → AreStarted i w → (e : IsEngines i s w) → begun (log_of w 0) ≡ Some b
     → MayOpen i (prefixes s.logged (log_of w)) b line start → IsStarted i w line (record { number = length (log_of w 0); line = line; start = start; knows = s.logged.knows })
 started_now i s w line start b plain h e is may =
-    let before : IsPlainWorld i w = plain_tail i s w plain in
+    let before : IsPlainWorld i w = plain_before i s w plain in
     let logs : Logs = prefixes s.logged (log_of w) in
     let found : Image = found_image i (log_of w) in
     let same : found_image i (prefixes s.logged (log_of w)) ≡ found_image i (log_of w) = found_same i s w plain e.author in
@@ -146,7 +145,7 @@ started_now i s w line start b plain h e is may =
       seq_number = may.seq_number;
       front_number = may.front_number;
       numberless = ap (λ (j : Image). start_of j line) (sym same) ∙ free_numberless i (prefixes s.logged (log_of w)) line unfreed
-          (and_left (not (has_number i logs (life_of (logs 0) line) line)) (are_empty (known_image i logs) line) (and_left _ _ may.is_free));
+          (first_of (not (has_number i logs (life_of (logs 0) line) line)) (are_empty (known_image i logs) line) (first_of _ _ may.is_free));
     }
 
 -- ---- the induction
@@ -155,7 +154,7 @@ started_by : (i : Image) (s : Step) (w : World) → IsPlainWorld i (s ∷ w) →
 started_by i s w plain h (inr (unit, e)) line o life =
     let same : log_of (s ∷ w) 0 ≡ log_of w 0 = log_elsewhere s w 0 (λ a. let no : suc unit ≡ 0 = sym e.author ∙ a in absurd (omega arith)) in
     let before : life_of (log_of w 0) line ≡ Opened o = ap (λ (log : List Logged). life_of log line) (sym same) ∙ life in
-    let b = begun_with i w line o (plain_tail i s w plain) before in
+    let b = begun_with i w line o (plain_before i s w plain) before in
     started_stays i s w b.0 line o plain b.1 (h line o before)
 started_by i s w plain h (inl e) line o life = by (decided i (prefixes s.logged (log_of w)) e.event e.allowed) (opened_by_event line (life_of (log_of w 0) line) (length (log_of w 0)) s.logged.knows e.event o e.plain turned)
   where
@@ -164,7 +163,7 @@ started_by i s w plain h (inl e) line o life = by (decided i (prefixes s.logged 
 
     by : IsFirst i (prefixes s.logged (log_of w)) e.event ⊎ IsLater i (prefixes s.logged (log_of w)) e.event
         → (life_of (log_of w 0) line ≡ Opened o) ⊎ ((start : StartRecord) × (e.event ≡ Open line start) × (o ≡ record { number = length (log_of w 0); line = line; start = start; knows = s.logged.knows })) → IsStarted i (s ∷ w) line o
-    by d (inl before) = let b = begun_with i w line o (plain_tail i s w plain) before in started_stays i s w b.0 line o plain b.1 (h line o before)
+    by d (inl before) = let b = begun_with i w line o (plain_before i s w plain) before in started_stays i s w b.0 line o plain b.1 (h line o before)
     by (inl f) (inr now) = absurd (apart (sym f.1 ∙ now.1))
       where
         apart : (Begin f.0 ≡ Open line now.0) → ⊥
@@ -179,7 +178,7 @@ started i [] plain = λ line o is. absurd (as_found o is)
   where
     as_found : (o : Opening) → AsFound ≡ Opened o → ⊥
     as_found o is = cc
-started i (s ∷ w) plain = started_by i s w plain (started i w (plain_tail i s w plain)) (whose i s w plain)
+started i (s ∷ w) plain = started_by i s w plain (started i w (plain_before i s w plain)) (whose i s w plain)
 
 -- ---- such a record fits its line
 
@@ -198,11 +197,11 @@ module _ (s : Shape) (found : Image) (front : ℕ) (r : StartRecord) (n : IsNext
       let mount : r.first_seq ≡ next_seq (head found) = n.first_seq in
       let bound : bound_by (head found) (end found) line start.seq ≤ end found = bound_low found line start.seq in
       let from : end found ≤ r.front = n.from in
-      let p1 = and_both (nat_le least line) (nat_lt line s.chunks) (true_le least line low) (true_lt line s.chunks inside) in
+      let p1 = and_both (nat_le least line) (nat_lt line s.chunks) (le_true least line low) (lt_true line s.chunks inside) in
       let p2 = and_both _ (not (line == r.line)) p1 (ap not (other_number line r.line (λ same. none-some start (sym none ∙ ap (start_of found) (sym same) ∙ whole)))) in
-      let p3 = and_both _ (nat_le 1 start.seq) p2 (true_le 1 start.seq (omega arith)) in
-      let p4 = and_both _ (nat_lt start.seq r.first_seq) p3 (true_lt start.seq r.first_seq (omega arith)) in
-      let p5 = and_both _ (nat_le (bound_by (head found) (end found) line start.seq) r.front) p4 (true_le _ r.front (omega arith)) in
+      let p3 = and_both _ (nat_le 1 start.seq) p2 (le_true 1 start.seq (omega arith)) in
+      let p4 = and_both _ (nat_lt start.seq r.first_seq) p3 (lt_true start.seq r.first_seq (omega arith)) in
+      let p5 = and_both _ (nat_le (bound_by (head found) (end found) line start.seq) r.front) p4 (le_true _ r.front (omega arith)) in
       and_both _ (rows_fit s r (line + 1) rows) p5 rest
 
   rows_fit_from : (k a least : ℕ) → least ≤ a → a + k ≤ s.chunks → rows_fit s r least (filter_map (λ line. row_of found line (start_of found line)) (range_with_len a k)) ≡ true
@@ -279,9 +278,9 @@ start_fits_line i w line o plain life =
     let few : length r.rows ≤ s.chunks - 1 = rows_few i.shape (found_image i (log_of w)) (synced i.shape (log_of w 0)) o.start h.next (found_shape i (log_of w)) none (omega arith) in
     let p1 = and_both (r.line == line) (r.width == r.width) (equal r.line line its) (same_number r.width) in
     let p2 = and_both _ (r.capacity == s.capacity) p1 (equal r.capacity s.capacity is.capacity) in
-    let p3 = and_both _ (nat_le 1 r.first_seq) p2 (true_le 1 r.first_seq (omega arith)) in
-    let p4 = and_both _ (nat_le r.first_seq r.seq) p3 (true_le r.first_seq r.seq (omega arith)) in
-    let p5 = and_both _ (nat_lt r.seq (2 ^ 61)) p4 (true_lt r.seq (2 ^ 61) h.seq_number) in
-    let p6 = and_both _ (nat_lt r.front (2 ^ 61)) p5 (true_lt r.front (2 ^ 61) h.front_number) in
-    let p7 = and_both _ (nat_le (length r.rows) (s.chunks - 1)) p6 (true_le (length r.rows) (s.chunks - 1) few) in
+    let p3 = and_both _ (nat_le 1 r.first_seq) p2 (le_true 1 r.first_seq (omega arith)) in
+    let p4 = and_both _ (nat_le r.first_seq r.seq) p3 (le_true r.first_seq r.seq (omega arith)) in
+    let p5 = and_both _ (nat_lt r.seq (2 ^ 61)) p4 (lt_true r.seq (2 ^ 61) h.seq_number) in
+    let p6 = and_both _ (nat_lt r.front (2 ^ 61)) p5 (lt_true r.front (2 ^ 61) h.front_number) in
+    let p7 = and_both _ (nat_le (length r.rows) (s.chunks - 1)) p6 (le_true (length r.rows) (s.chunks - 1) few) in
     and_both _ (rows_fit s r 0 r.rows) p7 (rows_fit_all i.shape (found_image i (log_of w)) (synced i.shape (log_of w 0)) o.start h.next (found_shape i (log_of w)) none)

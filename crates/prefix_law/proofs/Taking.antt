@@ -16,15 +16,17 @@ use Rattle.pblk_world.specs.EngineLog.{Begun, begun, Taken, takes}
 use Rattle.pblk_world.specs.Fronts.{first_position, taken, is_users, user_takes, history, user_positions}
 use Rattle.pblk_world.specs.Taking.{IsMarked}
 use Rattle.pblk_world.specs.Legal.{IsDecision}
-use Rattle.pblk_world.proofs.Appending.{takes_more}
 use Rattle.pblk_world.proofs.Growing.{at_end}
 use Rattle.core_laws.specs.PlainWorlds.{is_plain_decision, IsPlainWorld}
 use Rattle.core_laws.proofs.Numbering.{first_stays}
 use Rattle.core_laws.proofs.Placing.{not_below}
-use Rattle.media_laws.proofs.Steps.{log_here, log_elsewhere, plain_tail, IsSomeones, whose}
+use Rattle.media_laws.proofs.Steps.{IsSomeones, whose}
 use Rattle.media_laws.proofs.Decisions.{IsFirst, IsLater, decided}
 use Rattle.media_laws.proofs.LineLives.{same_logged}
-use Rattle.stripe_placer.proofs.Chunks.{lt_yes as is_below}
+use Rattle.core_laws.proofs.PlainWorldsLemmas.{plain_before}
+use Rattle.lemmas.proofs.Tests.{lt_true}
+use Rattle.pblk_world.proofs.EngineLogLemmas.{takes_more}
+use Rattle.pblk_world.proofs.WorldLemmas.{log_elsewhere, log_here}
 
 -- a user's entry with its mark, at this position
 pub record IsUsers (s : Shape) (k : ℕ) (t : Taken) : Type 0 where
@@ -85,7 +87,7 @@ users_by i s w world h (inl e) =
 
 pub all_users : (i : Image) (w : World) → IsPlainWorld i w → AreUsers i.shape (log_of w 0)
 all_users i [] world = λ k t there. absurd (none-some t there)
-all_users i (s ∷ w) world = users_by i s w world (all_users i w (plain_tail i s w world)) (whose i s w world)
+all_users i (s ∷ w) world = users_by i s w world (all_users i w (plain_before i s w world)) (whose i s w world)
 
 -- ---- the history
 
@@ -130,7 +132,7 @@ count_from a n (t ∷ ts) within from at = go (cases_order a n) (at 0 t refl) (�
     go (inr (inl low)) here rest =
         let more : a + 1 + users (map (λ t. t.entry.position) ts) n ≡ n = rest (omega arith) in
         let first : users (map (λ t. t.entry.position) (t ∷ ts)) n ≡ suc (users (map (λ t. t.entry.position) ts) n) =
-        ap (λ c. length (cond c (t.entry.position ∷ filter (λ q. nat_lt q n) (map (λ u. u.entry.position) ts)) (filter (λ q. nat_lt q n) (map (λ u. u.entry.position) ts)))) (is_below t.entry.position n (omega arith)) in
+        ap (λ c. length (cond c (t.entry.position ∷ filter (λ q. nat_lt q n) (map (λ u. u.entry.position) ts)) (filter (λ q. nat_lt q n) (map (λ u. u.entry.position) ts)))) (lt_true t.entry.position n (omega arith)) in
         omega arith
     go (inr (inr high)) here rest = past (omega arith) here
 

@@ -18,15 +18,16 @@ use Rattle.pblk_world.specs.Lines.{found_image, is_empty_state, are_empty, is_st
 use Rattle.pblk_world.specs.Commanding.{ended_stripes}
 use Rattle.core_laws.specs.PlainWorlds.{IsPlainWorld}
 use Rattle.pblk_laws.specs.LineBlocks.{chunk_in}
-use Rattle.pblk_laws.proofs.Lists.{all_at}
 use Rattle.media_laws.proofs.Order.{stripes_first}
 use Rattle.media_laws.proofs.History.{cleared_by, filled, firsts, was_cleared, is_a_stray}
 use Rattle.media_laws.proofs.OpenedChunks.{standing_now, media_by}
 use Rattle.media_laws.proofs.FoundChunks.{reset_is}
-use Rattle.media_laws.proofs.UnitCounts.{HasChunks, media_chunks, media_units, found_there}
+use Rattle.media_laws.proofs.UnitCounts.{HasChunks, media_chunks, found_there}
 use Rattle.opening_laws.specs.Losing.{IsLostAt, IsLostLine}
 use Rattle.opening_laws.proofs.FoundImages.{found_strays}
 use Rattle.prefix_law.proofs.Filling.{none_in}
+use Rattle.lemmas.proofs.Parts.{all_get}
+use Rattle.pblk_world.proofs.WorldLemmas.{length_media}
 
 true_false : true ≡ false → ⊥
 true_false q = cc
@@ -108,7 +109,7 @@ in_range j n line unit c long is = by (slice_get j.units unit) refl is
     by : (o : Option (List Chunk)) → slice_get j.units unit ≡ o → option_and_then (λ (chunks : List Chunk). slice_get chunks line) o ≡ Some c → (unit < length j.units) × (line < n)
     by None e is = absurd (none-some c is)
     by (Some chunks) e is =
-        let count : length chunks ≡ n = all_at (λ u. length u ≡ n) j.units unit chunks long e in
+        let count : length chunks ≡ n = all_get (λ u. length u ≡ n) j.units unit chunks long e in
         let inside : line < length chunks = slice_get_within chunks line c is in
         (slice_get_within j.units unit chunks e, omega arith)
 
@@ -122,7 +123,7 @@ chunk_stays i w line unit b world begins unopened = by (chunk_in (found_image i 
     by None e None f = inl (f ∙ sym e)
     by None e (Some d) f =
         let at = in_range (media i (log_of w)) i.shape.chunks line unit d (media_chunks i (log_of w) world.fit.chunks) f in
-        let count : length (media i (log_of w)).units ≡ length i.units = media_units i (log_of w) in
+        let count : length (media i (log_of w)).units ≡ length i.units = length_media i (log_of w) in
         let all : length i.units ≡ units i.shape = world.fit.units in
         let low = at.0 in
         let there = found_there i w line unit world (omega arith) at.1 in

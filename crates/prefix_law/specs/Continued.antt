@@ -33,8 +33,8 @@ pub record IsNextStart (found : Image) (front : ℕ) (r : StartRecord) : Type 0 
   pub within : r.front ≤ front
   pub rows : r.rows ≡ rows_of found
 
--- The second image is the found one after a mount in which these lines were opened and these entries were written, of which
--- those below the front have landed.
+-- The second image is the found one after a mount. In that mount these lines were opened and these entries were
+-- written, of which those below the front have landed.
 pub record IsContinued (found now : Image) (opened : ℕ → Bool) (es : Entries) (front : ℕ) : Type 0 where
   pub shape : now.shape ≡ found.shape
   -- the entries have the positions from the end on that was found

@@ -1,4 +1,4 @@
-//! `create`: images that are made, and numbers of which there is none.
+//! `create`: images that are made, and numbers of which no image is made.
 
 use crate::harness::check;
 use std::test::Fail;

@@ -1,7 +1,7 @@
 //! Tables of calls of the program, and the loop that goes over them.
 //!
 //! A table is lines. One that begins with `#` is a comment, and each other a row. A row has parts
-//! `NAME=VALUE`, parted by ` ; `, and for those that it hasn't the usual ones of its table:
+//! `NAME=VALUE`, parted by ` ; `. A part that it lacks is the usual one of its table:
 //!
 //! - `call`: the words of a command line, parted by `|`; or `no words`.
 //! - `images`: what the file `image` may hold before, parted by `, `; or `left`, what the row
@@ -27,8 +27,8 @@ use std::alloc::{AllocError, Global};
 use std::sync::Wait;
 use std::test::Fail;
 
-/// Makes the calls of a table's rows, of which each has the usual parts below its own. Fails with
-/// the first row that goes otherwise than told, and what of it.
+/// Makes the calls of a table's rows, each of which has the usual parts where it lacks its own. Fails with
+/// the first row that doesn't go as told, and names what went otherwise.
 pub(crate) fn check<R: Wait>(rt: &R, alloc: Global, usual: &str, table: &str) -> Result<(), Fail> {
     let mut files = MemoryFiles::new(alloc, &[])?;
     for line in table.split('\n') {
@@ -54,7 +54,7 @@ fn check_row<R: Wait>(
     Err(Fail::new(format!(in alloc; "{wrong}: {line}")?))
 }
 
-// The value of a part of a row, of which the first of this name counts.
+// The value of the first part of this name in a row.
 fn value<'a>(row: &'a str, name: &str, otherwise: &'a str) -> &'a str {
     for part in row.split(" ; ") {
         if let Some((known, value)) = part.split_once('=') {
@@ -87,7 +87,7 @@ fn has_known_names(row: &str) -> bool {
     true
 }
 
-// What of a row goes otherwise than told: nothing, or a name.
+// The name of what of a row doesn't go as told, if any.
 fn wrong_row<R: Wait>(
     rt: &R,
     alloc: Global,
@@ -106,7 +106,7 @@ fn wrong_row<R: Wait>(
     Ok("")
 }
 
-// The same of its call on an image.
+// The same for its call on one image.
 fn wrong_call<R: Wait>(
     rt: &R,
     alloc: Global,
@@ -161,7 +161,7 @@ fn put_all(
     files.put("other", b"other")
 }
 
-// What of the files after a call is otherwise than told.
+// The name of what of the files isn't as told after a call, if any.
 fn wrong_file(
     alloc: Global,
     files: &MemoryFiles,
@@ -177,7 +177,7 @@ fn wrong_file(
     Ok(first_other(files, &told))
 }
 
-// The name of the first file that two have otherwise, if there is one.
+// The name of the first file that differs between the two, if any.
 fn first_other(files: &MemoryFiles, told: &MemoryFiles) -> &'static str {
     for name in ["image", "script", "other"] {
         if files.get(name) != told.get(name) {

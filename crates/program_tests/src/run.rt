@@ -57,8 +57,8 @@ fn a_line_is_filled_but_for_a_stripe(rt: HostRuntime) -> Result<(), Fail> {
     )
 }
 
-// MNR, MCCAP, WIT, MAXOC and MAXOCPU, and the wear indices of two chunks, are kept; of bytes of the
-// geometry and of two descriptors that say nothing zeros are left.
+// MNR, MCCAP, WIT, MAXOC and MAXOCPU are kept, and so are the wear indices of two chunks. Bytes of the
+// geometry and of two descriptors that mean nothing are left as zeros.
 const KEPT: &str = "
 script=thread/r 0 1/ ; text=r 0 0 0 0/kept 0/ ; after=drive small 7@33 1@48 255@51 3@64 4@172 2@176 9@4130 255@4610
 script=thread/w 0 1 6/ ; text=h 0 0 0 6/kept 1/ ; after=drive small 0=6 7@33 1@48 255@51 3@64 4@172 2@176 9@4130 255@4610
@@ -82,7 +82,7 @@ const ROUNDS: [(&str, u64, &str); 3] = [
         192,
         "f 0 12 192/r 0 13 192 3 3 3 3 3 3 3 3 3 3 3 3 3 3 3 3/kept 192/",
     ),
-    // There is no room for the fourth.
+    // There is no room for the fourth round.
     (
         "script=thread/w 0 16 1/w 16 16 1/w 32 16 1/w 48 16 1/w 0 16 2/w 16 16 2/w 32 16 2/w 48 16 2/w 0 16 3/w 16 16 3/w 32 16 3/w 48 16 3/w 0 16 4/w 16 16 4/w 32 16 4/w 48 16 4/f/r 0 16/ ; status=6",
         192,
@@ -96,7 +96,7 @@ const ROUNDS: [(&str, u64, &str); 3] = [
     ),
 ];
 
-// The row of some rounds.
+// The row of so many rounds.
 fn rounds_row(alloc: Global, parts: &str, lines: u64, rest: &str) -> Result<String, AllocError> {
     let mut row = format!(in alloc; "call=run|image|script ; {parts} ; text=")?;
     for number in 0..lines {

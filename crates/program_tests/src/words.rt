@@ -62,7 +62,7 @@ fn no_words_are_no_command(rt: HostRuntime) -> Result<(), Fail> {
     check(&rt, rt.alloc(), "script=absent", row)
 }
 
-// Whether the program ends so on these words, or on none, where there is no file.
+// Whether the program ends as told on these words, or without words, where there is no file.
 fn ends<R: Wait>(
     rt: &R,
     alloc: Global,

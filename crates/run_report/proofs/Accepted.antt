@@ -4,7 +4,6 @@ use Rattle.std.specs.List.{AllByRecursion, sum_by}
 use Rattle.std.proofs.lemmas.Bool.{cases_Bool}
 use Rattle.std.proofs.lemmas.List.{length-append}
 use Rattle.std.proofs.lemmas.List.Sums.{sum_by-cons}
-use Rattle.pblk_laws.proofs.Lists.{all_append}
 use Rattle.pblk_model.specs.declared.script.Command.{Command}
 use Rattle.pblk_model.specs.declared.script.Command.TheVariants.{Write, Read, Flush, Post, Await}
 use Rattle.pblk_model.specs.Script.{CommandFits}
@@ -17,6 +16,7 @@ use Rattle.run_report.specs.declared.rows.Row.{Row}
 use Rattle.run_report.specs.Recorded.{AreAnswered, AreThreads, IsRecorded, IsThread}
 use Rattle.run_report.specs.Rows.{insert, in_order, row_of, rows_from, thread_rows}
 use Rattle.run_report.specs.RowFits.{AreAsMany, AreRows, HasSectors}
+use Rattle.lemmas.proofs.Lists.{all_append}
 
 -- as many answers as commands
 as_many : (commands : List Command) (answers : List Answer) → IsThread commands answers → length answers ≡ length commands
@@ -31,13 +31,15 @@ threads_as_many [] (a ∷ threads) h = absurd h
 threads_as_many (c ∷ script) [] h = absurd h
 threads_as_many (c ∷ script) (a ∷ threads) h = (as_many c a h.0, threads_as_many script threads h.1)
 
-pub are_as_many : (opening : Option Trouble) (script : List (List Command)) (threads : List (List Answer)) → AreAnswered opening script threads → AreAsMany script threads
+pub are_as_many : (opening : Option Trouble) (script : List (List Command)) (threads : List (List Answer)) → AreAnswered opening script threads
+    → AreAsMany script threads
 are_as_many None script threads h = threads_as_many script threads h
 are_as_many (Some (Drive unit event)) script threads h = rw h tt
 are_as_many (Some (Worn wanted have)) script threads h = absurd h
 
 -- a write that fits has sectors
-row_has : (capacity thread : ℕ) (command : Command) (answer : Answer) → capacity < 2 ^ 64 → CommandFits capacity command → AllByRecursion HasSectors (row_of thread command answer)
+row_has : (capacity thread : ℕ) (command : Command) (answer : Answer) → capacity < 2 ^ 64 → CommandFits capacity command
+    → AllByRecursion HasSectors (row_of thread command answer)
 row_has capacity thread (Write lba count tag) (Placed place) small fits = (record { few = fits.0.few; number = omega (arith, small, fits.0.within) }, tt)
 row_has capacity thread (Write lba count tag) (Words front words) small fits = tt
 row_has capacity thread (Write lba count tag) (Synced front) small fits = tt
@@ -54,14 +56,17 @@ thread_has : (capacity thread : ℕ) (commands : List Command) (answers : List A
 thread_has capacity thread [] answers small fits = tt
 thread_has capacity thread (c ∷ commands) [] small fits = tt
 thread_has capacity thread (c ∷ commands) (a ∷ answers) small fits =
-    all_append HasSectors (row_of thread c a) (thread_rows thread commands answers) (row_has capacity thread c a small fits.0) (thread_has capacity thread commands answers small fits.1)
+    all_append HasSectors (row_of thread c a) (thread_rows thread commands answers) (row_has capacity thread c a small fits.0)
+    (thread_has capacity thread commands answers small fits.1)
 
-pub script_has : (capacity thread : ℕ) (script : List (List Command)) (threads : List (List Answer)) → capacity < 2 ^ 64 → AllByRecursion (AllByRecursion (CommandFits capacity)) script
+pub script_has : (capacity thread : ℕ) (script : List (List Command)) (threads : List (List Answer)) → capacity < 2 ^ 64
+    → AllByRecursion (AllByRecursion (CommandFits capacity)) script
     → AllByRecursion HasSectors (rows_from thread script threads)
 script_has capacity thread [] threads small fits = tt
 script_has capacity thread (c ∷ script) [] small fits = tt
 script_has capacity thread (c ∷ script) (a ∷ threads) small fits =
-    all_append HasSectors (thread_rows thread c a) (rows_from (thread + 1) script threads) (thread_has capacity thread c a small fits.0) (script_has capacity (thread + 1) script threads small fits.1)
+    all_append HasSectors (thread_rows thread c a) (rows_from (thread + 1) script threads) (thread_has capacity thread c a small fits.0)
+    (script_has capacity (thread + 1) script threads small fits.1)
 
 -- at most a row for each command
 one_row : (thread : ℕ) (command : Command) (answer : Answer) → length (row_of thread command answer) ≤ 1
@@ -86,7 +91,14 @@ script_few : (thread : ℕ) (script : List (List Command)) (threads : List (List
 script_few thread [] threads = omega arith
 script_few thread (c ∷ script) [] = omega arith
 script_few thread (c ∷ script) (a ∷ threads) =
-    omega (arith, length-append (thread_rows thread c a) (rows_from (thread + 1) script threads), thread_few thread c a, script_few (thread + 1) script threads, sum_by-cons length c script)
+    omega (
+      arith,
+      length-append (thread_rows thread c a) (rows_from (thread + 1) script threads),
+      thread_few thread c a,
+      script_few
+          (thread + 1) script threads,
+      sum_by-cons length c script,
+    )
 
 -- in order they are as many, and of the same kind
 all_insert : (P : Row → Type 0) (row : Row) (rows : List Row) → P row → AllByRecursion P rows → AllByRecursion P (insert row rows)
@@ -107,7 +119,8 @@ length-in_order : (rows : List Row) → length (in_order rows) ≡ length rows
 length-in_order [] = refl
 length-in_order (row ∷ rows) = length-insert row (in_order rows) ∙ ap suc (length-in_order rows)
 
-pub are_rows : (script : List (List Command)) (records : Records) (rows : List Row) → IsRecorded script records → rows ≡ in_order (rows_from 0 script records.threads) → AreRows rows
+pub are_rows : (script : List (List Command)) (records : Records) (rows : List Row) → IsRecorded script records
+    → rows ≡ in_order (rows_from 0 script records.threads) → AreRows rows
 are_rows script records rows h is =
     let few = script_few 0 script records.threads in
     let long = length-in_order (rows_from 0 script records.threads) in

@@ -1,6 +1,5 @@
 -- The sectors that are all zeros are those of tag 0.
 use Rattle.std.proofs.Common.{ℕ, zero, suc, ◌*◌, ◌≡◌, ◌≢◌, inl, inr, Bool, true, false, if◌then◌else◌, List, ◌++◌, length, replicate, refl, sym, ap, ◌∙◌, arith}
-use Rattle.std.proofs.lemmas.Slice.Eq.{bytes_eq-Decides}
 use Rattle.std.specs.List.{repeat}
 use Rattle.std.specs.Str.{bytes_eq}
 use Rattle.std.specs.Int.{w64}
@@ -9,6 +8,7 @@ use Rattle.pblk_model.specs.Bytes.{le64, number_at, zeros}
 use Rattle.pblk_model.specs.History.{tag_sector}
 use Rattle.pblk_model.specs.Text.{Tag, Mixed, word_of}
 use Rattle.run_report.specs.Listing.{is_blank}
+use Rattle.lemmas.proofs.Bytes.{same_bytes}
 
 abbrev eight_more : ℕ → ℕ
 eight_more n = suc (suc (suc (suc (suc (suc (suc (suc n)))))))
@@ -30,9 +30,6 @@ unfolding zeros
 tag_of_zeros n (inl e) = let m : n ≡ eight_more 504 = omega (arith, e) in rw m refl
 tag_of_zeros n (inr e) = let m : n ≡ eight_more 4088 = omega (arith, e) in rw m refl
 
-same_bytes : (xs ys : List ℕ) → bytes_eq xs ys ≡ true → xs ≡ ys
-same_bytes xs ys e = (bytes_eq-Decides xs ys).0 e
-
 word_by : (b : Bool) (t : ℕ) → b ≡ true → t ≡ 0 → (if b then Tag t else Mixed) ≡ Tag 0
 word_by b t e h = rw (e, h) refl
 
@@ -43,7 +40,8 @@ by_word false t e = absurd (cc e)
 pub blank_word : (sector : List ℕ) → IsSectorSize (length sector) → is_blank sector ≡ true → word_of sector ≡ Tag 0
 blank_word sector size blank =
     let zero_tag : number_at w64 0 sector ≡ 0 = ap (number_at w64 0) (same_bytes sector (zeros (length sector)) blank) ∙ tag_of_zeros (length sector) size in
-    word_by _ _ (ap (λ t. bytes_eq sector (tag_sector (length sector) t)) zero_tag ∙ ap (bytes_eq sector) (sector_of_zero (length sector) size) ∙ blank) zero_tag
+    word_by _ _ (ap (λ t. bytes_eq sector (tag_sector (length sector) t)) zero_tag ∙ ap (bytes_eq sector) (sector_of_zero (length sector) size)
+    ∙ blank) zero_tag
 
 pub word_blank : (sector : List ℕ) → IsSectorSize (length sector) → word_of sector ≡ Tag 0 → is_blank sector ≡ true
 word_blank sector size e =

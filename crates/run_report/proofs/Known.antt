@@ -2,7 +2,7 @@
 use Rattle.std.proofs.Common.{ℕ, zero, suc, ◌+◌, ◌≤◌, ◌≡◌, List, [], ◌∷◌, ◌++◌, map, length, replicate, take, Some, slice_get, sym, refl, ap, subst, ◌∙◌, arith}
 use Rattle.std.specs.List.{flat_map, range_with_len, zip}
 use Rattle.std.proofs.lemmas.Bool.{le-ltb}
-use Rattle.std.proofs.lemmas.List.{append_assoc, append-nil, length-map, map-append, take-append-le}
+use Rattle.std.proofs.lemmas.List.{length-map, map-append, take-append-le}
 use Rattle.std.proofs.lemmas.Option.{none-some, same_Some}
 use Rattle.pblk_model.specs.declared.script.Command.{Command}
 use Rattle.pblk_model.specs.declared.script.Command.TheVariants.{Write, Read, Flush, Post, Await}
@@ -14,46 +14,13 @@ use Rattle.block_port.specs.Own.{PlacedSector, OwnWrite, placed_from}
 use Rattle.block_port.specs.Port.{ModelPort, Learns, Rise, positions}
 use Rattle.run_threads.specs.declared.records.Answer.{Answer}
 use Rattle.run_threads.specs.declared.records.Answer.TheVariants.{Placed, Words, Synced, Done, Range, Refused}
-use Rattle.run_threads.specs.Run.{Runs, Says, faults_in, faults_of, own_in, own_of}
+use Rattle.run_threads.specs.Run.{Runs, Says, own_in}
 use Rattle.run_report.specs.Report.{outcome_of}
 use Rattle.run_report.specs.Rows.{lines_of, thread_rows}
 use Rattle.run_report.proofs.Steps.{places, seen_at, users-append}
+use Rattle.run_threads.proofs.RunLemmas.{run_learns, run_own}
 
 -- A port learns by each command.
-
-rise_append : (a b c : ℕ) (xs ys : List PlacedSector) → Rise a b xs → Rise b c ys → Rise a c (xs ++ ys)
-rise_append a b c [] [] h k = omega (arith, h, k)
-rise_append a b c [] (y ∷ ys) h k = (omega (arith, h, k.0), k.1)
-rise_append a b c (x ∷ xs) ys h k = (h.0, rise_append (x.position + 1) b c xs ys h.1 k)
-
-pub learns_more : (old mid new : ModelPort) → Learns old mid → Learns mid new → Learns old new
-learns_more old mid new h k = record {
-  more = h.more ++ k.more;
-  known = k.known ∙ ap (λ xs. xs ++ k.more) h.known ∙ append_assoc old.known h.more k.more;
-  rise = rise_append old.taken mid.taken new.taken h.more k.more h.rise k.rise;
-  flushed = omega (arith, h.flushed, k.flushed);
-}
-
-run_learns : (told : List ℕ → ℕ) (cs : List Command) (rows : List Answer) (old new : ModelPort) → Runs told old cs rows new → Learns old new
-run_learns told [] [] old new h = rw h (record { more = []; known = sym (append-nil old.known); rise = omega arith; flushed = omega arith })
-run_learns told [] (a ∷ rows) old new h = absurd h
-run_learns told (c ∷ cs) [] old new h = absurd h
-run_learns told (c ∷ cs) (a ∷ rows) old new h = learns_more old h.0 new h.1.learns (run_learns told cs rows h.0 new h.2)
-
-pub run_own : (told : List ℕ → ℕ) (cs : List Command) (rows : List Answer) (old new : ModelPort) → Runs told old cs rows new → new.own ≡ old.own ++ own_in old.sector cs rows
-run_own told [] [] old new h = rw h (sym (append-nil old.own))
-run_own told [] (a ∷ rows) old new h = absurd h
-run_own told (c ∷ cs) [] old new h = absurd h
-run_own told (c ∷ cs) (a ∷ rows) old new h =
-    run_own told cs rows h.0 new h.2 ∙ ap (λ (size : ℕ). h.0.own ++ own_in size cs rows) h.1.target.sector ∙ ap (λ xs. xs ++ own_in old.sector cs rows) h.1.own
-    ∙ append_assoc old.own (own_of old.sector c a) (own_in old.sector cs rows)
-
-pub run_faults : (told : List ℕ → ℕ) (cs : List Command) (rows : List Answer) (old new : ModelPort) → Runs told old cs rows new → new.faults ≡ old.faults ++ faults_in rows
-run_faults told [] [] old new h = rw h (sym (append-nil old.faults))
-run_faults told [] (a ∷ rows) old new h = absurd h
-run_faults told (c ∷ cs) [] old new h = absurd h
-run_faults told (c ∷ cs) (a ∷ rows) old new h =
-    run_faults told cs rows h.0 new h.2 ∙ ap (λ xs. xs ++ faults_in rows) h.1.faults ∙ append_assoc old.faults (faults_of a) (faults_in rows)
 
 pub as_many : (told : List ℕ → ℕ) (cs : List Command) (rows : List Answer) (old new : ModelPort) → Runs told old cs rows new → length rows ≡ length cs
 as_many told [] [] old new h = refl
@@ -63,7 +30,8 @@ as_many told (c ∷ cs) (a ∷ rows) old new h = ap suc (as_many told cs rows h.
 
 -- The lines of its own writes are those of the rows.
 
-positions-placed_from : (position lba count : ℕ) (sector : List ℕ) → positions (placed_from position lba (replicate count sector)) ≡ range_with_len position count
+positions-placed_from : (position lba count : ℕ) (sector : List ℕ)
+    → positions (placed_from position lba (replicate count sector)) ≡ range_with_len position count
 positions-placed_from position lba zero sector = refl
 positions-placed_from position lba (suc count) sector = ap (λ ps. position ∷ ps) (positions-placed_from (position + 1) (lba + 1) count sector)
 
@@ -92,13 +60,21 @@ own_positions size (Flush ∷ cs) (a ∷ rows) = own_positions size cs rows
 own_positions size (Post name ∷ cs) (a ∷ rows) = own_positions size cs rows
 own_positions size (Await name ∷ cs) (a ∷ rows) = own_positions size cs rows
 
-own_writes : (size : ℕ) (cs : List Command) (rows : List Answer) → map (λ x. x.write) (lines (own_in size cs rows)) ≡ sector_writes size (flat_map lines_of (thread_rows 0 cs rows))
+own_writes : (size : ℕ) (cs : List Command) (rows : List Answer)
+    → map (λ x. x.write) (lines (own_in size cs rows)) ≡ sector_writes size (flat_map lines_of (thread_rows 0 cs rows))
 own_writes size [] rows = refl
 own_writes size (c ∷ cs) [] = refl
 own_writes size (Write lba count tag ∷ cs) (Placed place ∷ rows) =
     map-append (λ (x : PlacedSector). x.write) (placed_from place.first lba (replicate count (tag_sector size tag))) (lines (own_in size cs rows))
     ∙ rw (writes-placed_from size place.first 0 lba count tag, own_writes size cs rows)
-    (sym (map-append (λ (row : HistoryLine). record { lba = row.lba; sector = tag_sector size row.tag }) (map (λ at. record { thread = 0; lba = at; tag = tag }) (range_with_len lba count)) (flat_map lines_of (thread_rows 0 cs rows))))
+    (sym (map-append (λ (row : HistoryLine). record {
+      lba = row.lba;
+      sector = tag_sector size row.tag;
+    }) (map (λ at. record {
+      thread = 0;
+      lba = at;
+      tag = tag;
+    }) (range_with_len lba count)) (flat_map lines_of (thread_rows 0 cs rows))))
 own_writes size (Write lba count tag ∷ cs) (Words front words ∷ rows) = own_writes size cs rows
 own_writes size (Write lba count tag ∷ cs) (Synced front ∷ rows) = own_writes size cs rows
 own_writes size (Write lba count tag ∷ cs) (Done ∷ rows) = own_writes size cs rows
@@ -110,7 +86,8 @@ own_writes size (Post name ∷ cs) (a ∷ rows) = own_writes size cs rows
 own_writes size (Await name ∷ cs) (a ∷ rows) = own_writes size cs rows
 
 -- what is known where a port began with none and only its own is known
-module _ (told : List ℕ → ℕ) (cs : List Command) (rows : List Answer) (old new : ModelPort) (h : Runs told old cs rows new) (unwritten : old.own ≡ []) (known : List PlacedSector) (alone : known ≡ flat_map own.lines_of new.own) where
+module _ (told : List ℕ → ℕ) (cs : List Command) (rows : List Answer) (old new : ModelPort) (h : Runs told old cs rows new) (unwritten : old.own ≡ [])
+    (known : List PlacedSector) (alone : known ≡ flat_map own.lines_of new.own) where
   known_is : known ≡ lines (own_in old.sector cs rows)
   known_is = alone ∙ ap lines (run_own told cs rows old new h ∙ ap (λ ws. ws ++ own_in old.sector cs rows) unwritten)
 
@@ -133,11 +110,13 @@ users_stay old new h p low =
     let none = none_below old.taken new.taken p h.more h.rise low in
     rw (h.known, all) (omega (arith, both, none))
 
-pub writes_stay : (old new : ModelPort) → Learns old new → (k : ℕ) → k ≤ length old.known → take k (map (λ x. x.write) old.known) ≡ take k (map (λ x. x.write) new.known)
+pub writes_stay : (old new : ModelPort) → Learns old new → (k : ℕ) → k ≤ length old.known
+    → take k (map (λ x. x.write) old.known) ≡ take k (map (λ x. x.write) new.known)
 writes_stay old new h k few =
     let all = map-append (λ (x : PlacedSector). x.write) old.known h.more in
     let long = length-map old.known (λ (x : PlacedSector). x.write) in
-    rw (h.known, all) (sym (take-append-le k (map (λ (x : PlacedSector). x.write) old.known) (map (λ (x : PlacedSector). x.write) h.more) (omega (arith, few, long))))
+    rw (h.known, all) (sym (take-append-le k (map (λ (x : PlacedSector). x.write) old.known) (map (λ (x : PlacedSector). x.write) h.more)
+    (omega (arith, few, long))))
 
 -- A command in its place.
 
@@ -153,12 +132,23 @@ pub record IsAt (told : List ℕ → ℕ) (start : List (List ℕ)) (before afte
   pub now : later.seen ≡ after
 
 pub is_at : (told : List ℕ → ℕ) (cs : List Command) (rows : List Answer) (old new : ModelPort) (h : Runs told old cs rows new) (n : ℕ) (x : Command × Outcome)
-    → slice_get (zip cs (map outcome_of rows)) n ≡ Some x → IsAt told old.start (seen_at told cs rows old new h n) (seen_at told cs rows old new h (suc n)) new x
+    → slice_get (zip cs (map outcome_of rows)) n ≡ Some x
+    → IsAt told old.start (seen_at told cs rows old new h n) (seen_at told cs rows old new h (suc n)) new x
 is_at told [] rows old new h n x e = absurd (none-some x e)
 is_at told (c ∷ cs) [] old new h n x e = absurd (none-some x e)
 is_at told (c ∷ cs) (a ∷ rows) old new h zero x e =
     subst (λ (y : Command × Outcome). IsAt told old.start old.seen h.0.seen new y) (same_Some (c, outcome_of a) x e)
-    (record { answer = a; outcome = refl; earlier = old; later = h.0; says = h.1.says; learns = run_learns told cs rows h.0 new h.2; start_is = h.1.target.start; heard = refl; now = refl })
+    (record {
+      answer = a;
+      outcome = refl;
+      earlier = old;
+      later = h.0;
+      says = h.1.says;
+      learns = run_learns told cs rows h.0 new h.2;
+      start_is = h.1.target.start;
+      heard = refl;
+      now = refl;
+    })
 is_at told (c ∷ cs) (a ∷ rows) old new h (suc n) x e =
     let there = is_at told cs rows h.0 new h.2 n x e in
     record {

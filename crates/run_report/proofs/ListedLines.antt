@@ -1,16 +1,12 @@
 -- The lines of a listing, one after another.
-use Rattle.std.proofs.Common.{ℕ, zero, suc, ◌+◌, ◌≡◌, ◌≢◌, List, [], ◌∷◌, ◌++◌, length, drop, slice_get, Some, refl, sym, ap, ◌∙◌, append_assoc, arith, true, false, codes}
+use Rattle.std.proofs.Common.{ℕ, ◌+◌, ◌≡◌, ◌≢◌, List, [], ◌∷◌, ◌++◌, length, drop, slice_get, Some, refl, sym, ap, ◌∙◌, append_assoc, true, false, codes}
 use Rattle.std.specs.List.{enumerate_from, flat_map}
 use Rattle.std.specs.Fmt.{decimal}
 use Rattle.block_port.specs.Port.{IsSectorSize}
 use Rattle.pblk_model.specs.Text.{Word, Tag, Mixed, newline, word_of, word_text}
 use Rattle.run_report.specs.Listing.{is_blank, sector_line}
 use Rattle.run_report.proofs.Blanks.{word_blank, not_blank}
-
-drop_at : {X : Type 0} (xs : List X) (i : ℕ) (x : X) → slice_get xs i ≡ Some x → drop i xs ≡ x ∷ drop (i + 1) xs
-drop_at [] i x e = absurd (cc e)
-drop_at (y ∷ xs) zero x e = ap (λ z. z ∷ xs) (cc e)
-drop_at (y ∷ xs) (suc i) x e = let n : suc i + 1 ≡ suc (i + 1) = omega arith in rw n (drop_at xs i x e)
+use Rattle.lemmas.proofs.Parts.{drop_at}
 
 abbrev pub lines_from : ℕ → List (List ℕ) → List ℕ
 lines_from lba sectors = flat_map sector_line (enumerate_from lba sectors)
@@ -26,7 +22,8 @@ line_step out new all lba sectors sector there h is =
 pub line_of_blank : (lba : ℕ) (sector : List ℕ) → is_blank sector ≡ true → sector_line (lba, sector) ≡ []
 line_of_blank lba sector e = rw e refl
 
-pub line_of_word : (lba : ℕ) (sector : List ℕ) → is_blank sector ≡ false → sector_line (lba, sector) ≡ decimal lba ++ codes " " ++ word_text (word_of sector) ++ newline
+pub line_of_word : (lba : ℕ) (sector : List ℕ) → is_blank sector ≡ false
+    → sector_line (lba, sector) ≡ decimal lba ++ codes " " ++ word_text (word_of sector) ++ newline
 line_of_word lba sector e = rw e refl
 
 same_tag : (s t : ℕ) → Tag s ≡ Tag t → s ≡ t
@@ -42,12 +39,14 @@ line_of lba w = decimal lba ++ codes " " ++ word_text w ++ newline
 pub line_of_zeros : (lba t : ℕ) (sector : List ℕ) → IsSectorSize (length sector) → Tag t ≡ word_of sector → t ≡ 0 → sector_line (lba, sector) ≡ []
 line_of_zeros lba t sector size word zero_tag = line_of_blank lba sector (word_blank sector size (sym word ∙ ap Tag zero_tag))
 
-pub line_of_tag : (lba t : ℕ) (sector : List ℕ) → IsSectorSize (length sector) → Tag t ≡ word_of sector → t ≢ 0 → decimal lba ++ (32 ∷ (decimal t ++ 10 ∷ [])) ≡ sector_line (lba, sector)
+pub line_of_tag : (lba t : ℕ) (sector : List ℕ) → IsSectorSize (length sector) → Tag t ≡ word_of sector → t ≢ 0
+    → decimal lba ++ (32 ∷ (decimal t ++ 10 ∷ [])) ≡ sector_line (lba, sector)
 line_of_tag lba t sector size word some =
     let spelled : line_of lba (Tag t) ≡ decimal lba ++ (32 ∷ (decimal t ++ 10 ∷ [])) = simp append_assoc in
     sym (line_of_word lba sector (not_blank sector size (λ e. some (same_tag t 0 (word ∙ e)))) ∙ ap (line_of lba) (sym word) ∙ spelled)
 
-pub line_of_mixed : (lba : ℕ) (sector : List ℕ) → IsSectorSize (length sector) → Mixed ≡ word_of sector → decimal lba ++ codes " mixed\n" ≡ sector_line (lba, sector)
+pub line_of_mixed : (lba : ℕ) (sector : List ℕ) → IsSectorSize (length sector) → Mixed ≡ word_of sector
+    → decimal lba ++ codes " mixed\n" ≡ sector_line (lba, sector)
 line_of_mixed lba sector size word =
     let spelled : line_of lba Mixed ≡ decimal lba ++ codes " mixed\n" = simp append_assoc in
     sym (line_of_word lba sector (not_blank sector size (λ e. no_tag 0 (word ∙ e))) ∙ ap (line_of lba) (sym word) ∙ spelled)

@@ -13,6 +13,7 @@ use Rattle.run_threads.specs.declared.records.Answer.{Answer}
 use Rattle.run_report.specs.declared.rows.Row.{Row}
 use Rattle.run_report.specs.Rows.{thread_rows, rows_from, lines_of}
 use Rattle.run_report.specs.RowFits.{HasSectors, AreAsMany}
+use Rattle.lemmas.proofs.Maps.{enumerate_append}
 
 drop_at : {X : Type 0} (xs : List X) (i : ℕ) (d x : X) → i < length xs → x ≡ get_or xs i d → drop i xs ≡ x ∷ drop (i + 1) xs
 drop_at xs i d x below is = drop_more xs i d below ∙ ap (λ y. y ∷ drop (i + 1) xs) (sym is)
@@ -24,14 +25,16 @@ all_at P (y ∷ xs) (suc i) d all below = all_at P xs i d all.1 (omega (arith, b
 
 -- The history.
 
-enumerate_append : {X : Type 0} (n : ℕ) (xs ys : List X) → enumerate_from n (xs ++ ys) ≡ enumerate_from n xs ++ enumerate_from (n + length xs) ys
-enumerate_append n [] ys = let e : n + 0 ≡ n = omega arith in rw e refl
-enumerate_append n (x ∷ xs) ys = let e : n + suc (length xs) ≡ n + 1 + length xs = omega arith in rw e (ap (λ zs. (n, x) ∷ zs) (enumerate_append (n + 1) xs ys))
-
 abbrev pub text_of_lines : ℕ → ℕ → ℕ → ℕ → ℕ → List ℕ
-text_of_lines number thread tag lba count = flat_map history_line (enumerate_from number (rows_of (record { thread = thread; lba = lba; count = count; tag = tag })))
+text_of_lines number thread tag lba count = flat_map history_line (enumerate_from number (rows_of (record {
+  thread = thread;
+  lba = lba;
+  count = count;
+  tag = tag;
+})))
 
-pub line_step : (old out all : List ℕ) (number thread tag lba count k at : ℕ) → k < count → at ≡ k → old ++ text_of_lines (number + k) thread tag (lba + k) (count - k) ≡ all
+pub line_step : (old out all : List ℕ) (number thread tag lba count k at : ℕ) → k < count → at ≡ k
+    → old ++ text_of_lines (number + k) thread tag (lba + k) (count - k) ≡ all
     → out ≡ old ++ history_line (number + at, record { thread = thread; lba = lba + at; tag = tag })
     → out ++ text_of_lines (number + (k + 1)) thread tag (lba + (k + 1)) (count - (k + 1)) ≡ all
 line_step old out all number thread tag lba count k at below same h is =
@@ -40,7 +43,14 @@ line_step old out all number thread tag lba count k at below same h is =
     let n : number + k + 1 ≡ number + (k + 1) = omega arith in
     let l : lba + k + 1 ≡ lba + (k + 1) = omega arith in
     let line : out ≡ old ++ history_line (number + k, record { thread = thread; lba = lba + k; tag = tag }) = rw (← same) is in
-    ap (λ xs. xs ++ rest) line ∙ append_assoc old (history_line (number + k, record { thread = thread; lba = lba + k; tag = tag })) rest ∙ (rw (left, n, l) at h)
+    ap (λ xs. xs ++ rest) line ∙ append_assoc old (history_line (
+      number + k,
+      record {
+        thread = thread;
+        lba = lba + k;
+        tag = tag;
+      },
+    )) rest ∙ (rw (left, n, l) at h)
 
 length-lines_of : (row : Row) → length (lines_of row) ≡ row.count
 length-lines_of row = length-map (range_with_len row.lba row.count) _ ∙ length-range_with_len row.lba row.count
@@ -55,7 +65,8 @@ history_step old out all number n i d rows below fits few h is many =
     let rest = flat_map lines_of (drop (i + 1) rows) in
     let first = flat_map history_line (enumerate_from number (lines_of row)) in
     let count : length (lines_of row) ≡ n = length-lines_of row ∙ sym many in
-    let whole : flat_map history_line (enumerate_from number (flat_map lines_of (drop i rows))) ≡ first ++ flat_map history_line (enumerate_from (number + n) rest) =
+    let whole : flat_map history_line (enumerate_from number (flat_map lines_of (drop i rows))) ≡ first ++ flat_map history_line
+    (enumerate_from (number + n) rest) =
     ap (λ xs. flat_map history_line (enumerate_from number (flat_map lines_of xs))) (drop_more rows i d below)
     ∙ ap (flat_map history_line) (enumerate_append number (lines_of row) rest)
     ∙ ap (λ (k : ℕ). flat_map history_line (enumerate_from number (lines_of row) ++ enumerate_from (number + k) rest)) count
@@ -84,13 +95,15 @@ no_more thread [] = refl
 no_more thread (commands ∷ script) = refl
 
 pub many_at : (script : List (List Command)) (threads : List (List Answer)) (i : ℕ) → AreAsMany script threads → i < length threads
-    → (i < length script) × ((commands e : List Command) (answers d : List Answer) → commands ≡ get_or script i e → answers ≡ get_or threads i d → length answers ≡ length commands)
+    → (i < length script) × ((commands e : List Command) (answers d : List Answer) → commands ≡ get_or script i e → answers ≡ get_or threads i d
+    → length answers ≡ length commands)
 many_at script [] i h below = absurd (omega (arith, below))
 many_at [] (t ∷ threads) i h below = absurd h
 many_at (c ∷ script) (t ∷ threads) zero h below = (omega arith, λ commands e answers d a b. rw (a, b) h.0)
 many_at (c ∷ script) (t ∷ threads) (suc i) h below = let later = many_at script threads i h.1 (omega (arith, below)) in (omega (arith, later.0), later.1)
 
-pub threads_step : (old new all : List Row) (i : ℕ) (commands e : List Command) (answers d : List Answer) (script : List (List Command)) (threads : List (List Answer))
+pub threads_step : (old new all : List Row) (i : ℕ) (commands e : List Command) (answers d : List Answer) (script : List (List Command))
+    (threads : List (List Answer))
     → i < length threads → i < length script → commands ≡ get_or script i e → answers ≡ get_or threads i d
     → old ++ rows_from i (drop i script) (drop i threads) ≡ all → new ≡ old ++ thread_rows i commands answers
     → new ++ rows_from (i + 1) (drop (i + 1) script) (drop (i + 1) threads) ≡ all
@@ -103,4 +116,5 @@ threads_step old new all i commands e answers d script threads below in_script c
 -- at the end
 pub threads_end : (old all : List Row) (i : ℕ) (script : List (List Command)) (threads : List (List Answer)) → length threads ≤ i
     → old ++ rows_from i (drop i script) (drop i threads) ≡ all → old ≡ all
-threads_end old all i script threads past h = sym (append-nil old) ∙ ap (λ xs. old ++ xs) (sym (no_more i (drop i script))) ∙ (rw (drop_all i threads past) at h)
+threads_end old all i script threads past h = sym (append-nil old) ∙ ap (λ xs. old ++ xs) (sym (no_more i (drop i script)))
+    ∙ (rw (drop_all i threads past) at h)

@@ -30,7 +30,9 @@ has_no_float d c = float_with d c c.head
 -- Put one after another, the members stand in the order of their keys.
 pub in_order : (capacity closed counted end free head live offline open_ seq : Data)
     → put (codes "seq") seq (put (codes "open") open_ (put (codes "offline") offline (put (codes "live") live (put (codes "head") head
-    (put (codes "free") free (put (codes "end") end (put (codes "counted") counted (put (codes "closed") closed (put (codes "capacity") capacity no_members)))))))))
+    (put (codes "free") free (put (codes "end") end
+    (put (codes "counted") counted (put (codes "closed") closed (put (codes "capacity") capacity no_members)))))))))
     ≡ member (codes "capacity") capacity (member (codes "closed") closed (member (codes "counted") counted (member (codes "end") end (member (codes "free") free
-    (member (codes "head") head (member (codes "live") live (member (codes "offline") offline (member (codes "open") open_ (member (codes "seq") seq no_members)))))))))
+    (member (codes "head") head (member (codes "live") live
+    (member (codes "offline") offline (member (codes "open") open_ (member (codes "seq") seq no_members)))))))))
 in_order capacity closed counted end free head live offline open_ seq = refl

@@ -1,6 +1,6 @@
 -- A listing stands for one list of words and one end.
-use Rattle.std.proofs.Common.{◌≡◌, ℕ, zero, suc, ◌+◌, ◌/◌, ◌^◌, ◌<◌, Bool, true, false, if◌then◌else◌, List, [], ◌∷◌, ◌++◌, map, length, codes, inl, inr, refl, sym, ap, subst, ◌∙◌, append_assoc, arith, length-append}
-use Rattle.std.specs.List.{AllByRecursion, enumerate_from, flat_map, repeat}
+use Rattle.std.proofs.Common.{◌≡◌, ℕ, ◌+◌, ◌/◌, ◌^◌, ◌<◌, Bool, true, false, if◌then◌else◌, List, [], ◌∷◌, ◌++◌, map, length, codes, inl, inr, refl, sym, ap, subst, ◌∙◌, append_assoc, arith, length-append}
+use Rattle.std.specs.List.{AllByRecursion, enumerate_from, flat_map}
 use Rattle.std.specs.Fmt.{decimal}
 use Rattle.std.specs.Int.{w64}
 use Rattle.std.specs.Str.{bytes_eq}
@@ -8,26 +8,19 @@ use Rattle.std.proofs.lemmas.Bool.{cases_Bool}
 use Rattle.std.proofs.lemmas.Slice.Eq.{bytes_eq-Decides}
 use Rattle.std.proofs.lemmas.Grind.{flat_map-append}
 use Rattle.std.proofs.lemmas.List.{append-nil}
-use Rattle.pblk_model.specs.Bytes.{le64, number_at}
+use Rattle.pblk_model.specs.Bytes.{number_at}
 use Rattle.pblk_model.specs.History.{tag_sector}
 use Rattle.pblk_model.specs.Text.{Word, Tag, Mixed, word_of, word_text}
 use Rattle.pblk_laws.proofs.Fields.{Row, row_text, IsPlain, IsPlainRow, same_rows, plain_decimal, no_number}
 use Rattle.pblk_laws.proofs.OutcomeRows.{WordFits}
-use Rattle.pblk_laws.proofs.Starts.{byte_is}
 use Rattle.pblk_laws.proofs.TextCuts.{same_decimal}
 use Rattle.block_port.specs.Port.{IsSectorSize}
 use Rattle.run_report.specs.Listing.{is_blank, sector_line, end_line, listing_of}
 use Rattle.run_report.proofs.Blanks.{blank_word}
 use Rattle.run_report.proofs.ListedLines.{lines_from}
+use Rattle.pblk_model.proofs.BytesLemmas.{tag_below}
 
 -- Words.
-
-eight_bytes : (n : ℕ) (rest : List ℕ) → number_at w64 0 (le64 n ++ rest) < 2 ^ 64
-eight_bytes n rest = omega (arith, byte_is 0 n, byte_is 1 n, byte_is 2 n, byte_is 3 n, byte_is 4 n, byte_is 5 n, byte_is 6 n, byte_is 7 n)
-
-tag_below : (k n : ℕ) → number_at w64 0 (repeat k (le64 n)) < 2 ^ 64
-tag_below zero n = omega arith
-tag_below (suc k) n = eight_bytes n (repeat k (le64 n))
 
 word_fits : (sector : List ℕ) → WordFits (word_of sector)
 unfolding tag_sector
@@ -71,7 +64,8 @@ end_row end count = record { word = codes "end"; fields = decimal end ∷ codes 
 line_rows : (lba : ℕ) (sector : List ℕ) → sector_line (lba, sector) ≡ flat_map row_text (sector_rows (lba, sector))
 line_rows lba sector = by_test (is_blank sector)
   where
-    by_test : (b : Bool) → (if b then [] else decimal lba ++ codes " " ++ word_text (word_of sector) ++ 10 ∷ []) ≡ flat_map row_text (if b then [] else row_of lba sector ∷ [])
+    by_test : (b : Bool) → (if b then [] else decimal lba ++ codes " " ++ word_text (word_of sector) ++ 10 ∷ []) ≡ flat_map row_text
+        (if b then [] else row_of lba sector ∷ [])
     by_test true = refl
     by_test false = simp append_assoc
 
@@ -102,7 +96,8 @@ all_plain (x ∷ xs) ys h k = (h.0, all_plain xs ys h.1 k)
 
 plain_rows : (lba : ℕ) (sectors : List (List ℕ)) → lba + length sectors < 10 ^ 64 → AllByRecursion IsPlainRow (rows_from lba sectors)
 plain_rows lba [] low = tt
-plain_rows lba (sector ∷ sectors) low = all_plain (sector_rows (lba, sector)) (rows_from (lba + 1) sectors) (by_test (is_blank sector)) (plain_rows (lba + 1) sectors (omega (arith, low)))
+plain_rows lba (sector ∷ sectors) low = all_plain (sector_rows (lba, sector)) (rows_from (lba + 1) sectors) (by_test (is_blank sector))
+    (plain_rows (lba + 1) sectors (omega (arith, low)))
   where
     by_test : (b : Bool) → AllByRecursion IsPlainRow (if b then [] else row_of lba sector ∷ [])
     by_test true = tt
@@ -126,19 +121,27 @@ last_same (z ∷ xs) (v ∷ ys) x y e =
     (cc, rest.1)
 
 -- what equal rows have in common
-same_fields : (a b u v : List ℕ) (x y : Row) (xs ys : List Row) → x ≡ record { word = a; fields = u ∷ [] } → y ≡ record { word = b; fields = v ∷ [] } → x ∷ xs ≡ y ∷ ys → (a ≡ b) × (u ≡ v) × (xs ≡ ys)
+same_fields : (a b u v : List ℕ) (x y : Row) (xs ys : List Row) → x ≡ record {
+  word = a;
+  fields = u ∷ [];
+} → y ≡ record { word = b; fields = v ∷ [] } → x ∷ xs ≡ y ∷ ys → (a ≡ b) × (u ≡ v) × (xs ≡ ys)
 same_fields a b u v x y xs ys ex ey e =
     let rows : x ≡ y = cc in
     let fields : u ∷ [] ≡ v ∷ [] = sym (ap (λ (r : Row). r.fields) ex) ∙ ap (λ (r : Row). r.fields) rows ∙ ap (λ (r : Row). r.fields) ey in
     (sym (ap (λ (r : Row). r.word) ex) ∙ ap (λ (r : Row). r.word) rows ∙ ap (λ (r : Row). r.word) ey, cc fields, cc e)
 
-same_ends : (word middle a b u v : List ℕ) (x y : Row) → x ≡ record { word = word; fields = a ∷ middle ∷ u ∷ [] } → y ≡ record { word = word; fields = b ∷ middle ∷ v ∷ [] } → x ≡ y → (a ≡ b) × (u ≡ v)
+same_ends : (word middle a b u v : List ℕ) (x y : Row) → x ≡ record {
+  word = word;
+  fields = a ∷ middle ∷ u ∷ [];
+} → y ≡ record { word = word; fields = b ∷ middle ∷ v ∷ [] } → x ≡ y → (a ≡ b) × (u ≡ v)
 same_ends word middle a b u v x y ex ey e =
-    let fields : a ∷ middle ∷ u ∷ [] ≡ b ∷ middle ∷ v ∷ [] = sym (ap (λ (r : Row). r.fields) ex) ∙ ap (λ (r : Row). r.fields) e ∙ ap (λ (r : Row). r.fields) ey in
+    let fields : a ∷ middle ∷ u ∷ [] ≡ b ∷ middle ∷ v ∷ [] = sym (ap (λ (r : Row). r.fields) ex) ∙ ap (λ (r : Row). r.fields) e
+    ∙ ap (λ (r : Row). r.fields) ey in
     (cc fields, cc fields)
 
 -- the rows of later sectors don't begin with an earlier one's
-no_earlier : (lba first : ℕ) (sector : List ℕ) (sectors : List (List ℕ)) (rest : List Row) → first < lba → lba + length sectors < 10 ^ 64 → rows_from lba sectors ≡ row_of first sector ∷ rest → ⊥
+no_earlier : (lba first : ℕ) (sector : List ℕ) (sectors : List (List ℕ)) (rest : List Row) → first < lba → lba + length sectors < 10 ^ 64
+    → rows_from lba sectors ≡ row_of first sector ∷ rest → ⊥
 no_earlier lba first sector [] rest less low e = cc e
 no_earlier lba first sector (other ∷ sectors) rest less low e =
     by_test (is_blank other) refl (λ h. no_earlier (lba + 1) first sector sectors rest (omega (arith, less)) (omega (arith, low)) h)
@@ -162,10 +165,12 @@ same_listed lba (x ∷ a) [] ha hb long low e = absurd (omega (arith, long))
 same_listed lba (x ∷ a) (y ∷ b) ha hb long low e =
     by_tests (is_blank x) (is_blank y) refl refl (λ h. same_listed (lba + 1) a b ha.1 hb.1 (omega (arith, long)) (omega (arith, low)) h)
   where
-    by_tests : (p q : Bool) → is_blank x ≡ p → is_blank y ≡ q → (rows_from (lba + 1) a ≡ rows_from (lba + 1) b → map word_of a ≡ map word_of b) → map word_of (x ∷ a) ≡ map word_of (y ∷ b)
+    by_tests : (p q : Bool) → is_blank x ≡ p → is_blank y ≡ q → (rows_from (lba + 1) a ≡ rows_from (lba + 1) b → map word_of a ≡ map word_of b)
+        → map word_of (x ∷ a) ≡ map word_of (y ∷ b)
     by_tests true true px py further = joined _ _ _ _ (blank_word x ha.0 px ∙ sym (blank_word y hb.0 py)) (further (rw (px, py) at e))
     by_tests true false px py further = absurd (no_earlier (lba + 1) lba y a (rows_from (lba + 1) b) (omega arith) (omega (arith, low)) (rw (px, py) at e))
-    by_tests false true px py further = absurd (no_earlier (lba + 1) lba x b (rows_from (lba + 1) a) (omega arith) (omega (arith, low, long)) (sym (rw (px, py) at e)))
+    by_tests false true px py further = absurd (no_earlier (lba + 1) lba x b (rows_from (lba + 1) a) (omega arith) (omega (arith, low, long))
+        (sym (rw (px, py) at e)))
     by_tests false false px py further =
         let there : row_of lba x ∷ rows_from (lba + 1) a ≡ row_of lba y ∷ rows_from (lba + 1) b = rw (px, py) at e in
         let same = same_fields _ _ _ _ _ _ _ _ refl refl there in
@@ -175,7 +180,8 @@ pub one_listing : (a b : List (List ℕ)) (m n : ℕ) → AllByRecursion (λ s. 
     → length a < 2 ^ 64 → length b < 2 ^ 64 → m < 2 ^ 64 → n < 2 ^ 64 → listing_of a m ≡ listing_of b n → (map word_of a ≡ map word_of b) × (m ≡ n)
 one_listing a b m n ha hb la lb lm ln e =
     let plain : (s : List (List ℕ)) (k : ℕ) → length s < 2 ^ 64 → k < 2 ^ 64 → AllByRecursion IsPlainRow (rows_from 0 s ++ end_row k (length s) ∷ []) =
-    λ s k ls lk. all_plain (rows_from 0 s) (end_row k (length s) ∷ []) (plain_rows 0 s (omega (arith, ls))) (plain_end k (length s) (omega (arith, lk)) (omega (arith, ls)), tt) in
+    λ s k ls lk. all_plain (rows_from 0 s) (end_row k (length s) ∷ []) (plain_rows 0 s (omega (arith, ls)))
+    (plain_end k (length s) (omega (arith, lk)) (omega (arith, ls)), tt) in
     let rows = same_rows _ _ (plain a m la lm) (plain b n lb ln) (sym (listing_rows a m) ∙ e ∙ listing_rows b n) in
     let parts = last_same (rows_from 0 a) (rows_from 0 b) (end_row m (length a)) (end_row n (length b)) rows in
     let ends = same_ends _ _ _ _ _ _ _ _ refl refl parts.1 in

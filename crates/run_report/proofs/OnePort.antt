@@ -7,14 +7,13 @@ use Rattle.std.proofs.lemmas.List.{append-nil, length-map, length-take-le, map-a
 use Rattle.std.proofs.lemmas.List.Sums.{sum_by-cons}
 use Rattle.std.proofs.lemmas.Option.{none-some}
 use Rattle.std.proofs.Math.Dec.{eqb-zero-suc}
-use Rattle.pblk_laws.proofs.Lists.{all_append, all_take}
 use Rattle.pblk_model.specs.declared.script.Command.{Command}
 use Rattle.pblk_model.specs.declared.script.Command.TheVariants.{Write, Read, Flush, Post, Await}
 use Rattle.pblk_model.specs.History.{after, users}
 use Rattle.pblk_model.specs.Script.{command_at}
 use Rattle.pblk_model.specs.Text as text
 use Rattle.pblk_model.specs.Text.{Closing, HistoryLine, Outcome, Silent, Transcript}
-use Rattle.pblk_model.specs.Transcript.{Allowed, ClosedAs, IsDistinct, IsRun, Moment, PlacedWrite, answered, closing_event, contents_at, events, heard, lines_of, now, outcome_event, own, own_lines, placed_by, placed_write, rows_of, sector_writes, words_at}
+use Rattle.pblk_model.specs.Transcript.{Allowed, IsClosing, IsDistinct, IsRun, IsTranscript, Moment, PlacedWrite, answered, closing_event, contents_at, events, heard, lines_of, now, outcome_event, own, own_lines, placed_by, placed_write, rows_of, sector_writes, words_at}
 use Rattle.block_port.specs.declared.rows.DriveAnswer.{DriveAnswer}
 use Rattle.block_port.specs.Own as own_writes
 use Rattle.block_port.specs.Port.{Learns, ModelPort, contents_after, positions}
@@ -29,9 +28,14 @@ use Rattle.run_report.specs.OnePort.{AreKept, IsRunOfOnePort, IsTrouble, event_o
 use Rattle.run_report.specs.Report.{closing_of, outcome_of, transcript_of}
 use Rattle.run_report.specs.Rows as rows
 use Rattle.run_report.specs.Rows.{in_order, positions_of, rows_from, thread_rows, write_of}
-use Rattle.run_report.proofs.Known.{as_many, is_at, known_positions, known_writes, learns_more, posted, run_faults, users_stay, writes_stay}
+use Rattle.run_report.proofs.Known.{as_many, is_at, known_positions, known_writes, posted, users_stay, writes_stay}
 use Rattle.run_report.proofs.Sorting.{in_order_already}
-use Rattle.run_report.proofs.Steps.{places, run_climbs, run_placed, run_threads, run_written, seen_at, seen_rises, users_all, users_few, users_more, written_more}
+use Rattle.run_report.proofs.Steps.{places, run_climbs, run_placed, run_threads, run_written, seen_at, seen_rises, users_all, users_more, written_more}
+use Rattle.block_port.proofs.PortLemmas.{learns_more}
+use Rattle.lemmas.proofs.Lists.{all_append}
+use Rattle.lemmas.proofs.Parts.{all_taken}
+use Rattle.pblk_model.proofs.HistoryLemmas.{few_users}
+use Rattle.run_threads.proofs.RunLemmas.{run_faults}
 
 -- The history of a thread's rows.
 
@@ -44,14 +48,20 @@ lines_are (row ∷ thread) = ap (λ xs. rows.lines_of row ++ xs) (lines_are thre
 
 -- all are thread 0's
 
-rows_are_first : (thread lba count tag : ℕ) → thread ≡ 0 → AllByRecursion (λ row. row.thread ≡ 0) (rows_of (record { thread = thread; lba = lba; count = count; tag = tag }))
+rows_are_first : (thread lba count tag : ℕ) → thread ≡ 0 → AllByRecursion (λ row. row.thread ≡ 0) (rows_of (record {
+  thread = thread;
+  lba = lba;
+  count = count;
+  tag = tag;
+}))
 rows_are_first thread lba zero tag h = tt
 rows_are_first thread lba (suc count) tag h = (h, rows_are_first thread (lba + 1) count tag h)
 
 lines_are_first : (thread : List Row) → AllByRecursion (λ row. row.thread ≡ 0) thread → AllByRecursion (λ row. row.thread ≡ 0) (lines thread)
 lines_are_first [] h = tt
 lines_are_first (row ∷ thread) h =
-    all_append (λ (line : HistoryLine). line.thread ≡ 0) (rows.lines_of row) (lines thread) (rows_are_first row.thread row.lba row.count row.tag h.0) (lines_are_first thread h.1)
+    all_append (λ (line : HistoryLine). line.thread ≡ 0) (rows.lines_of row) (lines thread) (rows_are_first row.thread row.lba row.count row.tag h.0)
+    (lines_are_first thread h.1)
 
 abbrev tally : HistoryLine → ℕ
 tally row = if row.thread == 0 then 1 else 0
@@ -91,7 +101,8 @@ answer_events (a ∷ given) =
 abbrev IsNumber : ℕ × ℕ → Type 0
 IsNumber e = (e.0 < 2 ^ 32) × (e.1 < 2 ^ 64)
 
-answer_number : (told : List ℕ → ℕ) (old : ModelPort) (c : Command) (a : Answer) (new : ModelPort) → Says told old c a new → AllByRecursion IsNumber (map event_of (faults_of a))
+answer_number : (told : List ℕ → ℕ) (old : ModelPort) (c : Command) (a : Answer) (new : ModelPort) → Says told old c a new
+    → AllByRecursion IsNumber (map event_of (faults_of a))
 answer_number told old c (answers.Placed place) new h = tt
 answer_number told old c (answers.Words front words) new h = tt
 answer_number told old c (answers.Synced front) new h = tt
@@ -104,25 +115,34 @@ answer_number told old Flush (answers.Refused (Drive unit event)) new h = (h.0, 
 answer_number told old (Post name) (answers.Refused (Drive unit event)) new h = absurd h
 answer_number told old (Await name) (answers.Refused (Drive unit event)) new h = absurd h
 
-answer_numbers : (told : List ℕ → ℕ) (cs : List Command) (given : List Answer) (old new : ModelPort) → Runs told old cs given new → AllByRecursion IsNumber (map event_of (faults_in given))
+answer_numbers : (told : List ℕ → ℕ) (cs : List Command) (given : List Answer) (old new : ModelPort) → Runs told old cs given new
+    → AllByRecursion IsNumber (map event_of (faults_in given))
 answer_numbers told [] [] old new h = tt
 answer_numbers told [] (a ∷ given) old new h = absurd h
 answer_numbers told (c ∷ cs) [] old new h = absurd h
 answer_numbers told (c ∷ cs) (a ∷ given) old new h =
     subst (AllByRecursion IsNumber) (sym (map-append event_of (faults_of a) (faults_in given)))
-    (all_append IsNumber (map event_of (faults_of a)) (map event_of (faults_in given)) (answer_number told old c a h.0 h.1.says) (answer_numbers told cs given h.0 new h.2))
+    (all_append IsNumber (map event_of (faults_of a)) (map event_of (faults_in given)) (answer_number told old c a h.0 h.1.says)
+    (answer_numbers told cs given h.0 new h.2))
 
 closing_number : (closing : Option Trouble) → IsTrouble closing → AllByRecursion IsNumber (closing_event (closing_of closing))
 closing_number None h = tt
 closing_number (Some (Drive unit event)) h = (h, tt)
 closing_number (Some (Worn wanted have)) h = tt
 
-closed_as : (t : Transcript) (closing : Option Trouble) → IsTrouble closing → (closing ≡ None → t.kept ≡ length t.history) → ClosedAs t (closing_of closing)
-closed_as t None h all = all refl
-closed_as t (Some (Drive unit event)) h all = tt
-closed_as t (Some (Worn wanted have)) h all = h
+closing_is : (closing : Option Trouble) → IsTrouble closing → IsClosing (closing_of closing)
+closing_is None h = tt
+closing_is (Some (Drive unit event)) h = tt
+closing_is (Some (Worn wanted have)) h = h
 
-positions_below : (end : ℕ) (known : List own_writes.PlacedSector) → AllByRecursion (λ line. line.position < end) known → AllByRecursion (λ p. p < end) (positions known)
+-- closing answered nothing
+closed_is : (closing : Option Trouble) → closing_of closing ≡ text.Closed → closing ≡ None
+closed_is None e = refl
+closed_is (Some (Drive unit event)) e = absurd (cc)
+closed_is (Some (Worn wanted have)) e = absurd (cc)
+
+positions_below : (end : ℕ) (known : List own_writes.PlacedSector) → AllByRecursion (λ line. line.position < end) known
+    → AllByRecursion (λ p. p < end) (positions known)
 positions_below end [] h = tt
 positions_below end (line ∷ known) h = (h.0, positions_below end known h.1)
 
@@ -142,36 +162,50 @@ record IsMoment (m : Moment) (x : Command × Outcome) : Type 0 where
   later : own_lines m (now m) ≡ own m + sum_by (λ w. w.count) (cons_option (placed_write 0 x) [])
   rises : heard m ≤ now m
 
-allowed_by : (told : List ℕ → ℕ) (old : ModelPort) (c : Command) (a : Answer) (new : ModelPort) (m : Moment) → IsMoment m (c, outcome_of a) → Says told old c a new
-    → ((front : ℕ) → front ≡ users (positions new.known) new.seen → new.seen ≤ new.taken → (front ≡ now m) × ((lba count : ℕ) → words_at (contents_after new front) lba count ≡ words_at (contents_at m front) lba count))
-    → (new.seen ≤ new.flushed → now m ≤ m.transcript.kept)
+allowed_by : (told : List ℕ → ℕ) (old : ModelPort) (c : Command) (a : Answer) (new : ModelPort) (m : Moment) → IsMoment m (c, outcome_of a)
+    → Says told old c a new
+    → ((front : ℕ) → front ≡ users (positions new.known) new.seen → new.seen ≤ new.taken → (front ≡ now m)
+    × ((lba count : ℕ) → words_at (contents_after new front) lba count ≡ words_at (contents_at m front) lba count))
     → ((name : List ℕ) → told name ≤ new.seen → (j d : ℕ) → command_at m.script j d ≡ Some (Post name) → m.seen j d ≤ now m)
     → Allowed m c (outcome_of a)
-allowed_by told old (Write lba count tag) (answers.Placed place) new m is h front kept hears =
+allowed_by told old (Write lba count tag) (answers.Placed place) new m is h front hears =
     let one = sum_by-cons (λ (w : PlacedWrite). w.count) (record { thread = 0; lba = lba; count = count; tag = tag }) [] in
     (is.earlier, omega (arith, is.later, one))
-allowed_by told old (Write lba count tag) (answers.Refused (Drive unit event)) new m is h front kept hears = tt
-allowed_by told old (Write lba count tag) (answers.Refused (Worn wanted have)) new m is h front kept hears = h.0
-allowed_by told old (Write lba count tag) a new m is h front kept hears = absurd h
-allowed_by told old (Read lba count) (answers.Words f words) new m is h front kept hears =
+allowed_by told old (Write lba count tag) (answers.Refused (Drive unit event)) new m is h front hears = tt
+allowed_by told old (Write lba count tag) (answers.Refused (Worn wanted have)) new m is h front hears = h.0
+allowed_by told old (Write lba count tag) a new m is h front hears = absurd h
+allowed_by told old (Read lba count) (answers.Words f words) new m is h front hears =
     let there = front f.users (h.0.is.users ∙ ap (users (positions new.known)) (sym h.0.seen)) (omega (arith, h.0.seen, h.0.is.known)) in
     (omega (arith, there.0, is.rises), omega (arith, there.0), h.1 ∙ there.1 lba count)
-allowed_by told old (Read lba count) (answers.Refused (Drive unit event)) new m is h front kept hears = tt
-allowed_by told old (Read lba count) a new m is h front kept hears = absurd h
-allowed_by told old Flush (answers.Synced f) new m is h front kept hears =
+allowed_by told old (Read lba count) (answers.Refused (Drive unit event)) new m is h front hears = tt
+allowed_by told old (Read lba count) a new m is h front hears = absurd h
+allowed_by told old Flush (answers.Synced f) new m is h front hears =
     let there = front f.users (h.0.is.users ∙ ap (users (positions new.known)) (sym h.0.seen)) (omega (arith, h.0.seen, h.0.is.known)) in
-    let stays = kept (omega (arith, h.0.seen, h.1)) in
-    (omega (arith, there.0, is.rises), omega (arith, there.0), omega (arith, there.0, stays))
-allowed_by told old Flush (answers.Refused (Drive unit event)) new m is h front kept hears = tt
-allowed_by told old Flush (answers.Refused (Worn wanted have)) new m is h front kept hears = h.0
-allowed_by told old Flush a new m is h front kept hears = absurd h
-allowed_by told old (Post name) answers.Done new m is h front kept hears = tt
-allowed_by told old (Post name) a new m is h front kept hears = absurd h
-allowed_by told old (Await name) answers.Done new m is h front kept hears = hears name (let e = ap (λ (p : ModelPort). p.seen) h in omega (arith, e))
-allowed_by told old (Await name) a new m is h front kept hears = absurd h
+    (omega (arith, there.0, is.rises), omega (arith, there.0))
+allowed_by told old Flush (answers.Refused (Drive unit event)) new m is h front hears = tt
+allowed_by told old Flush (answers.Refused (Worn wanted have)) new m is h front hears = h.0
+allowed_by told old Flush a new m is h front hears = absurd h
+allowed_by told old (Post name) answers.Done new m is h front hears = tt
+allowed_by told old (Post name) a new m is h front hears = absurd h
+allowed_by told old (Await name) answers.Done new m is h front hears = hears name (let e = ap (λ (p : ModelPort). p.seen) h in omega (arith, e))
+allowed_by told old (Await name) a new m is h front hears = absurd h
+
+-- The front of a flush: it is what the port had seen then, and all of that is flushed.
+flush_low : (told : List ℕ → ℕ) (old : ModelPort) (a : Answer) (new : ModelPort) (front : ℕ) → text.Flushed front ≡ outcome_of a → Says told old Flush a new
+    → (front ≡ users (positions new.known) new.seen) × (new.seen ≤ new.flushed) × (new.seen ≤ new.taken)
+flush_low told old (answers.Synced f) new front e h =
+    let same : front ≡ f.users = cc in
+    (same ∙ h.0.is.users ∙ ap (users (positions new.known)) (sym h.0.seen), omega (arith, h.0.seen, h.1), omega (arith, h.0.seen, h.0.is.known))
+flush_low told old (answers.Placed place) new front e h = absurd (cc)
+flush_low told old (answers.Words f words) new front e h = absurd (cc)
+flush_low told old answers.Done new front e h = absurd (cc)
+flush_low told old answers.Range new front e h = absurd (cc)
+flush_low told old (answers.Refused (Drive unit event)) new front e h = absurd (cc)
+flush_low told old (answers.Refused (Worn wanted have)) new front e h = absurd (cc)
 
 -- one thread
-module _ (told : List ℕ → ℕ) (cs : List Command) (given : List Answer) (old new : ModelPort) (h : Runs told old cs given new) (closing : Option Trouble) (end : ℕ)
+module _ (told : List ℕ → ℕ) (cs : List Command) (given : List Answer) (old new : ModelPort) (h : Runs told old cs given new) (closing : Option Trouble)
+    (end : ℕ)
     (unwritten : old.own ≡ []) (last : ModelPort) (learned : Learns new last) (alone : last.known ≡ flat_map own_writes.lines_of new.own) where
   abbrev thread : List Row
   thread = thread_rows 0 cs given
@@ -193,11 +227,12 @@ module _ (told : List ℕ → ℕ) (cs : List Command) (given : List Answer) (ol
 
   first_lines : (n : ℕ) → n ≤ length t.history → lines_of t 0 n ≡ n
   first_lines n few =
-      count_first (take n t.history) (all_take (λ (row : HistoryLine). row.thread ≡ 0) n t.history (lines_are_first thread (run_threads told cs given old new h)))
+      count_first (take n t.history) (all_taken (λ (row : HistoryLine). row.thread ≡ 0) n t.history
+      (lines_are_first thread (run_threads told cs given old new h)))
       ∙ length-take-le n t.history few
 
   seen_within : (n : ℕ) → seen n ≤ length t.history
-  seen_within n = omega (arith, users_few (places cs given) (seen_at told cs given old new h n), as_long)
+  seen_within n = omega (arith, few_users (places cs given) (seen_at told cs given old new h n), as_long)
 
   abbrev moment : ℕ → ℕ → Moment
   moment i c = record { size = old.sector; sectors = old.start; script = cs ∷ []; transcript = t; seen = λ i c. seen c; thread = i; command = c }
@@ -215,7 +250,8 @@ module _ (told : List ℕ → ℕ) (cs : List Command) (given : List Answer) (ol
       }
 
   -- the contents at a front of a moment
-  contents_are : (later : ModelPort) → Learns later last → later.start ≡ old.start → (front : ℕ) → front ≤ length later.known → (c : ℕ) → contents_after later front ≡ contents_at (moment 0 c) front
+  contents_are : (later : ModelPort) → Learns later last → later.start ≡ old.start → (front : ℕ) → front ≤ length later.known → (c : ℕ)
+      → contents_after later front ≡ contents_at (moment 0 c) front
   contents_are later learns start front few c =
       let stay = writes_stay later last learns front few in
       let all = known_writes told cs given old new h unwritten last.known alone in
@@ -226,7 +262,7 @@ module _ (told : List ℕ → ℕ) (cs : List Command) (given : List Answer) (ol
       → (front ≡ now (moment 0 c)) × ((lba count : ℕ) → words_at (contents_after later front) lba count ≡ words_at (contents_at (moment 0 c) front) lba count)
   fronts c later learns start is front e taken =
       let stays = users_stay later last learns later.seen taken in
-      let few = users_few (positions later.known) later.seen in
+      let few = few_users (positions later.known) later.seen in
       let long = length-map later.known (λ (x : own_writes.PlacedSector). x.position) in (
         e ∙ stays ∙ known_at later.seen ∙ ap (users (places cs given)) is ∙ rw add-one refl,
         λ lba count. ap (λ (sectors : List (List ℕ)). words_at sectors lba count) (contents_are later learns start front (omega (arith, e, few, long)) c),
@@ -239,20 +275,32 @@ module _ (told : List ℕ → ℕ) (cs : List Command) (given : List Answer) (ol
       rw add-one (users_more (places cs given) _ _ (omega (arith, was, low, is)))
   hears c later is name low (suc j) d e = absurd (none-some (Post name) e)
 
-  allowed_first : new.flushed ≤ end → (c : ℕ) (x : Command × Outcome) → slice_get (zip cs (map outcome_of given)) c ≡ Some x → Allowed (moment 0 c) x.0 x.1
-  allowed_first flushed c x e =
+  allowed_first : (c : ℕ) (x : Command × Outcome) → slice_get (zip cs (map outcome_of given)) c ≡ Some x → Allowed (moment 0 c) x.0 x.1
+  allowed_first c x e =
       let at = is_at told cs given old new h c x e in
       let m = is_moment c x e in
-      let stays = λ (low : at.later.seen ≤ at.later.flushed). users_more (places cs given) at.later.seen end (omega (arith, low, at.learns.flushed, flushed)) in
       subst (Allowed (moment 0 c) x.0) (sym at.outcome)
       (allowed_by told at.earlier x.0 at.answer at.later (moment 0 c) (subst (λ (o : Outcome). IsMoment (moment 0 c) (x.0, o)) at.outcome m) at.says
       (fronts c at.later (learns_more at.later new last at.learns learned) at.start_is at.now)
-      (λ low. rw (add-one, ← at.now) (stays low))
       (hears c at.later at.now))
 
-  allowed_each : new.flushed ≤ end → (i c : ℕ) (x : Command × Outcome) → slice_get (answered (cs ∷ []) t i) c ≡ Some x → Allowed (moment i c) x.0 x.1
-  allowed_each flushed zero c x e = allowed_first flushed c x e
-  allowed_each flushed (suc i) c x e = absurd (none-some x e)
+  allowed_each : (i c : ℕ) (x : Command × Outcome) → slice_get (answered (cs ∷ []) t i) c ≡ Some x → Allowed (moment i c) x.0 x.1
+  allowed_each zero c x e = allowed_first c x e
+  allowed_each (suc i) c x e = absurd (none-some x e)
+
+  -- a front that a flush answered is kept where all that was flushed is
+  flushed_first : new.flushed ≤ end → (c front : ℕ) → slice_get (zip cs (map outcome_of given)) c ≡ Some (Flush, text.Flushed front) → front ≤ t.kept
+  flushed_first flushed c front e =
+      let at = is_at told cs given old new h c (Flush, text.Flushed front) e in
+      let low = flush_low told at.earlier at.answer at.later front at.outcome at.says in
+      let later = learns_more at.later new last at.learns learned in
+      let stays = users_stay at.later last later at.later.seen low.2 in
+      let kept = users_more (places cs given) at.later.seen end (omega (arith, low.1, at.learns.flushed, flushed)) in
+      omega (arith, low.0, stays, known_at at.later.seen, kept)
+
+  flushed_each : new.flushed ≤ end → (i c front : ℕ) → slice_get (answered (cs ∷ []) t i) c ≡ Some (Flush, text.Flushed front) → front ≤ t.kept
+  flushed_each flushed zero c front e = flushed_first flushed c front e
+  flushed_each flushed (suc i) c front e = absurd (none-some (Flush, text.Flushed front) e)
 
   each_own : (i : ℕ) → filter (λ w. w.thread == i) (map write_of thread) ≡ placed_by (cs ∷ []) t i
   each_own zero = filter_first thread (run_threads told cs given old new h) ∙ run_placed told cs given old new h
@@ -264,9 +312,8 @@ module _ (told : List ℕ → ℕ) (cs : List Command) (given : List Answer) (ol
   pub events_are : events t ≡ thread_events ++ closing_event (closing_of closing)
   events_are = ap (λ xs. xs ++ closing_event (closing_of closing)) (append-nil (flat_map outcome_event (map outcome_of given)) ∙ answer_events given)
 
-  pub thread_run : new.flushed ≤ end → IsTrouble closing → (closing ≡ None → AllByRecursion (λ line. line.position < end) last.known) → IsDistinct (thread_events ++ closing_event (closing_of closing))
-      → IsRun old.sector (cs ∷ []) old.start t (after old.start (sector_writes old.sector (take t.kept t.history)))
-  thread_run flushed trouble kept distinct = record {
+  pub thread_told : IsTrouble closing → IsDistinct (thread_events ++ closing_event (closing_of closing)) → IsTranscript old.sector (cs ∷ []) old.start t
+  thread_told trouble distinct = record {
     ran = ap (λ (n : ℕ). n ∷ []) (length-map given outcome_of ∙ as_many told cs given old new h);
     order = map write_of thread;
     history = lines_are thread;
@@ -274,11 +321,22 @@ module _ (told : List ℕ → ℕ) (cs : List Command) (given : List Answer) (ol
     seen = λ i c. seen c;
     rising = λ i c. rw add-one (users_more (places cs given) _ _ (seen_rises told cs given old new h c));
     within = λ i c. seen_within c;
-    allowed = allowed_each flushed;
-    numbers = subst (AllByRecursion IsNumber) (sym events_are) (all_append IsNumber thread_events (closing_event (closing_of closing)) (answer_numbers told cs given old new h) (closing_number closing trouble));
+    allowed = allowed_each;
+    numbers = subst (AllByRecursion IsNumber) (sym events_are)
+        (all_append IsNumber thread_events (closing_event (closing_of closing)) (answer_numbers told cs given old new h) (closing_number closing trouble));
     distinct = subst IsDistinct (sym events_are) distinct;
-    closed = closed_as t closing trouble (λ none. sym (known_at end) ∙ users_all (positions last.known) end (positions_below end last.known (kept none)) ∙ ap length (known_positions told cs given old new h unwritten last.known alone) ∙ as_long);
-    kept_within = omega (arith, users_few (places cs given) end, as_long);
+    closing = closing_is closing trouble;
+    kept_within = omega (arith, few_users (places cs given) end, as_long);
+  }
+
+  pub thread_run : new.flushed ≤ end → IsTrouble closing → (closing ≡ None → AllByRecursion (λ line. line.position < end) last.known)
+      → IsDistinct (thread_events ++ closing_event (closing_of closing))
+      → IsRun old.sector (cs ∷ []) old.start t (after old.start (sector_writes old.sector (take t.kept t.history)))
+  thread_run flushed trouble kept distinct = record {
+    told = thread_told trouble distinct;
+    flushed = flushed_each flushed;
+    closed = λ none. sym (known_at end) ∙ users_all (positions last.known) end (positions_below end last.known (kept (closed_is closing none)))
+        ∙ ap length (known_positions told cs given old new h unwritten last.known alone) ∙ as_long;
     kept = refl;
   }
 
@@ -291,18 +349,34 @@ told_is : (commands : List Command) (records : Records) (old new : ModelPort) (e
     → transcript_of (commands ∷ []) records end ≡ told_by (thread_rows 0 commands h.answers) h.answers records.closing end
 told_is commands records old new end h =
     let thread = thread_rows 0 commands h.answers in
-    let ordered : in_order (thread ++ []) ≡ thread = ap in_order (append-nil thread) ∙ in_order_already old.seen thread (run_climbs h.told commands h.answers old new h.ran) in
+    let ordered : in_order (thread ++ []) ≡ thread = ap in_order (append-nil thread)
+    ∙ in_order_already old.seen thread (run_climbs h.told commands h.answers old new h.ran) in
     rw (h.threads, h.opened) (ap (λ rows. told_by rows h.answers records.closing end) ordered)
 
-faults_are : (commands : List Command) (records : Records) (old new : ModelPort) (end : ℕ) (h : IsRunOfOnePort commands records old new) → new.faults ≡ faults_in h.answers
+faults_are : (commands : List Command) (records : Records) (old new : ModelPort) (end : ℕ) (h : IsRunOfOnePort commands records old new)
+    → new.faults ≡ faults_in h.answers
 faults_are commands records old new end h = run_faults h.told commands h.answers old new h.ran ∙ ap (λ xs. xs ++ faults_in h.answers) h.faultless
 
-pub one_port : (commands : List Command) (records : Records) (old new : ModelPort) (end : ℕ) (h : IsRunOfOnePort commands records old new) → AreKept records new h.last.known end
+distinct_events : (commands : List Command) (records : Records) (old new : ModelPort) (end : ℕ) (h : IsRunOfOnePort commands records old new)
+    → IsDistinct (map event_of (faults_in h.answers) ++ closing_event (closing_of records.closing))
+distinct_events commands records old new end h =
+    subst (λ (xs : List DriveAnswer). IsDistinct (map event_of xs ++ closing_event (closing_of records.closing)))
+    (faults_are commands records old new end h) h.distinct
+
+pub one_told : (commands : List Command) (records : Records) (old new : ModelPort) (end : ℕ) → IsRunOfOnePort commands records old new
+    → IsTranscript old.sector (commands ∷ []) old.start (transcript_of (commands ∷ []) records end)
+one_told commands records old new end h =
+    subst (IsTranscript old.sector (commands ∷ []) old.start) (sym (told_is commands records old new end h))
+    (thread_told h.told commands h.answers old new h.ran records.closing end h.unwritten h.last h.learned h.alone h.trouble
+    (distinct_events commands records old new end h))
+
+pub one_port : (commands : List Command) (records : Records) (old new : ModelPort) (end : ℕ) (h : IsRunOfOnePort commands records old new)
+    → AreKept records new h.last.known end
     → IsRunLeaving old.sector (commands ∷ []) old.start (transcript_of (commands ∷ []) records end)
 one_port commands records old new end h kept =
-    let distinct = subst (λ (xs : List DriveAnswer). IsDistinct (map event_of xs ++ closing_event (closing_of records.closing))) (faults_are commands records old new end h) h.distinct in
     subst (IsRunLeaving old.sector (commands ∷ []) old.start) (sym (told_is commands records old new end h))
-    (thread_run h.told commands h.answers old new h.ran records.closing end h.unwritten h.last h.learned h.alone kept.flushed h.trouble kept.all distinct)
+    (thread_run h.told commands h.answers old new h.ran records.closing end h.unwritten h.last h.learned h.alone kept.flushed h.trouble kept.all
+    (distinct_events commands records old new end h))
 
 pub one_history : (commands : List Command) (records : Records) (old new : ModelPort) (end : ℕ) (h : IsRunOfOnePort commands records old new)
     → sector_writes old.sector (transcript_of (commands ∷ []) records end).history ≡ map (λ x. x.write) h.last.known
@@ -327,20 +401,25 @@ one_events commands records old new end h =
 abbrev empty : Option (ℕ × ℕ) → Closing → Transcript
 empty opening closing = record { history = []; outcomes = []; opening = opening; closing = closing; kept = 0 }
 
-empty_run : (size : ℕ) (start : List (List ℕ)) (closing : Option Trouble) → IsTrouble closing → IsDistinct (closing_event (closing_of closing)) → IsRun size [] start (empty None (closing_of closing)) start
+empty_run : (size : ℕ) (start : List (List ℕ)) (closing : Option Trouble) → IsTrouble closing → IsDistinct (closing_event (closing_of closing))
+    → IsRun size [] start (empty None (closing_of closing)) start
 empty_run size start closing trouble distinct = record {
-  ran = refl;
-  order = [];
-  history = refl;
-  each = λ i. refl;
-  seen = λ i c. 0;
-  rising = λ i c. omega arith;
-  within = λ i c. omega arith;
-  allowed = λ i c x e. absurd (none-some x e);
-  numbers = closing_number closing trouble;
-  distinct = distinct;
-  closed = closed_as (empty None (closing_of closing)) closing trouble (λ none. refl);
-  kept_within = omega arith;
+  told = record {
+    ran = refl;
+    order = [];
+    history = refl;
+    each = λ i. refl;
+    seen = λ i c. 0;
+    rising = λ i c. omega arith;
+    within = λ i c. omega arith;
+    allowed = λ i c x e. absurd (none-some x e);
+    numbers = closing_number closing trouble;
+    distinct = distinct;
+    closing = closing_is closing trouble;
+    kept_within = omega arith;
+  };
+  flushed = λ i c front e. absurd (none-some (Flush, text.Flushed front) e);
+  closed = λ none. refl;
   kept = refl;
 }
 
@@ -368,21 +447,28 @@ none_answered (c ∷ cs) = refl
 unopened_run : (size : ℕ) (script : List (List Command)) (start : List (List ℕ)) (unit event : ℕ) → IsEvent unit event
     → IsRun size script start (empty (Some (unit, event)) text.Closed) start
 unopened_run size script start unit event number = record {
-  ran = (refl, refl);
-  order = [];
-  history = refl;
-  each = λ i. rw (none_answered (unwrap_or (slice_get script i) [])) refl;
-  seen = λ i c. 0;
-  rising = λ i c. omega arith;
-  within = λ i c. omega arith;
-  allowed = λ i c x e. absurd (none-some x (ap (λ xs. slice_get xs c) (sym (none_answered (unwrap_or (slice_get script i) []))) ∙ e));
-  numbers = (number, tt);
-  distinct = (tt, tt);
-  closed = refl;
-  kept_within = omega arith;
+  told = record {
+    ran = (refl, refl);
+    order = [];
+    history = refl;
+    each = λ i. rw (none_answered (unwrap_or (slice_get script i) [])) refl;
+    seen = λ i c. 0;
+    rising = λ i c. omega arith;
+    within = λ i c. omega arith;
+    allowed = λ i c x e. absurd (none-some x (ap (λ xs. slice_get xs c) (sym (none_answered (unwrap_or (slice_get script i) []))) ∙ e));
+    numbers = (number, tt);
+    distinct = (tt, tt);
+    closing = tt;
+    kept_within = omega arith;
+  };
+  flushed = λ i c front e. absurd (none-some (Flush, text.Flushed front) (ap (λ xs. slice_get xs c) (sym (none_answered (unwrap_or (slice_get script i) [])))
+      ∙ e));
+  closed = λ none. refl;
   kept = refl;
 }
 
 pub unopened : (size : ℕ) (script : List (List Command)) (records : Records) (start : List (List ℕ)) (end unit event : ℕ)
-    → records.threads ≡ [] → records.opening ≡ Some (Drive unit event) → records.closing ≡ None → IsEvent unit event → IsRun size script start (transcript_of script records end) start
-unopened size script records start end unit event none opened closed number = rw (none, opened, closed, no_more script) (unopened_run size script start unit event number)
+    → records.threads ≡ [] → records.opening ≡ Some (Drive unit event) → records.closing ≡ None → IsEvent unit event
+    → IsRun size script start (transcript_of script records end) start
+unopened size script records start end unit event none opened closed number = rw (none, opened, closed, no_more script)
+    (unopened_run size script start unit event number)

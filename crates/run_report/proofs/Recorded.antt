@@ -21,7 +21,8 @@ length-words_at sectors lba count within =
     let rest = length-drop lba sectors in
     length-map (slice_range sectors lba (lba + count)) _ ∙ length-take-le (lba + count - lba) (drop lba sectors) (omega (arith, rest, within)) ∙ omega arith
 
-is_answer : (told : List ℕ → ℕ) (capacity : ℕ) (old : ModelPort) (c : Command) (a : Answer) (new : ModelPort) → Says told old c a new → CommandFits capacity c → capacity ≤ length new.start → IsAnswer c a
+is_answer : (told : List ℕ → ℕ) (capacity : ℕ) (old : ModelPort) (c : Command) (a : Answer) (new : ModelPort) → Says told old c a new → CommandFits capacity c
+    → capacity ≤ length new.start → IsAnswer c a
 is_answer told capacity old (Write lba count tag) (Placed place) new h fits wide = h.0
 is_answer told capacity old (Read lba count) (Words front words) new h fits wide =
     let long = after_length new.start (take front.users (map (λ x. x.write) new.known)) in
@@ -32,14 +33,18 @@ is_answer told capacity old (Await name) Done new h fits wide = tt
 is_answer told capacity old c (Refused trouble) new h fits wide = tt
 is_answer told capacity old c a new h fits wide = absurd h
 
-is_thread : (told : List ℕ → ℕ) (capacity : ℕ) (cs : List Command) (given : List Answer) (old new : ModelPort) → Runs told old cs given new → AllByRecursion (CommandFits capacity) cs → capacity ≤ length old.start
+is_thread : (told : List ℕ → ℕ) (capacity : ℕ) (cs : List Command) (given : List Answer) (old new : ModelPort) → Runs told old cs given new
+    → AllByRecursion (CommandFits capacity) cs → capacity ≤ length old.start
     → IsThread cs given
 is_thread told capacity [] [] old new h fits wide = tt
 is_thread told capacity [] (a ∷ given) old new h fits wide = absurd h
 is_thread told capacity (c ∷ cs) [] old new h fits wide = absurd h
 is_thread told capacity (c ∷ cs) (a ∷ given) old new h fits wide =
-    let same = ap length h.1.target.start in
-    (is_answer told capacity old c a h.0 h.1.says fits.0 (omega (arith, same, wide)), is_thread told capacity cs given h.0 new h.2 fits.1 (omega (arith, same, wide)))
+    let same = ap length h.1.target.start in (
+      is_answer told capacity old c a h.0 h.1.says fits.0 (omega (arith, same, wide)),
+      is_thread told capacity cs given h.0 new h.2 fits.1
+          (omega (arith, same, wide)),
+    )
 
 are_threads : (told : List ℕ → ℕ) (capacity : ℕ) (script : List (List Command)) (threads : List (List Answer)) (olds news : List ModelPort)
     → EachThread (λ commands answers before after. Runs told before commands answers after) script threads olds news
@@ -52,7 +57,8 @@ are_threads told capacity (c ∷ script) (t ∷ threads) (o ∷ olds) [] h fits 
 are_threads told capacity (c ∷ script) (t ∷ threads) (o ∷ olds) (n ∷ news) h fits wide =
     (is_thread told capacity c t o n h.0 fits.0 wide.0, are_threads told capacity script threads olds news h.1 fits.1 wide.1)
 
-pub recorded : (told : List ℕ → ℕ) (capacity : ℕ) (script : List (List Command)) (records : Records) (olds news : List ModelPort) → capacity < 2 ^ 64 → ScriptFits capacity script
+pub recorded : (told : List ℕ → ℕ) (capacity : ℕ) (script : List (List Command)) (records : Records) (olds news : List ModelPort) → capacity < 2 ^ 64
+    → ScriptFits capacity script
     → AllByRecursion (λ port. capacity ≤ length port.start) olds → records.opening ≡ None
     → EachThread (λ commands answers before after. Runs told before commands answers after) script records.threads olds news → IsRecorded script records
 recorded told capacity script records olds news small fits wide opened ran = record {

@@ -15,8 +15,11 @@ Climbs low (row ∷ rows) = (low ≤ row.first) × Climbs row.first rows
 
 climbs : (low : ℕ) (rows : List Row) → IsNonDecreasingBy (λ r. r.first) rows → ((d : Row) → 0 < length rows → low ≤ (get_or rows 0 d).first) → Climbs low rows
 climbs low [] h first = tt
-climbs low (row ∷ rows) h first =
-    (first row (omega arith), climbs row.first rows (λ i j d le below. h (suc i) (suc j) d (omega (arith, le)) (omega (arith, below))) (λ d some. h 0 1 d (omega arith) (omega (arith, some))))
+climbs low (row ∷ rows) h first = (
+  first row (omega arith),
+  climbs row.first rows (λ i j d le below. h (suc i) (suc j) d (omega (arith, le)) (omega (arith, below)))
+      (λ d some. h 0 1 d (omega arith) (omega (arith, some))),
+)
 
 insert_climbs : (low : ℕ) (row : Row) (rows : List Row) → low ≤ row.first → Climbs low rows → Climbs low (insert row rows)
 insert_climbs low row [] le h = (le, tt)
@@ -104,7 +107,8 @@ same_rows low (x ∷ xs) (y ∷ ys) h k same =
     λ p. same p ∙ ap (λ (n : ℕ). cond (nat_eq n p) (y ∷ those_at p ys) (those_at p ys)) e in
     let first = same_first (nat_eq x.first x.first) x y (those_at x.first xs) (those_at x.first ys) (eq-eqb x.first x.first refl) (alike x.first) in
     let climb : Climbs x.first ys = subst (λ (n : ℕ). Climbs n ys) e k.1 in
-    ap (λ (row : Row). row ∷ xs) first ∙ ap (λ zs. y ∷ zs) (same_rows x.first xs ys h.1 climb (λ p. same_rest (nat_eq x.first p) x y (those_at p xs) (those_at p ys) (alike p)))
+    ap (λ (row : Row). row ∷ xs) first ∙ ap (λ zs. y ∷ zs)
+    (same_rows x.first xs ys h.1 climb (λ p. same_rest (nat_eq x.first p) x y (those_at p xs) (those_at p ys) (alike p)))
 
 -- A stable sort by position puts rows in order.
 
@@ -113,7 +117,13 @@ ties_are m n =
     elim (cases_lt m n) [
       | inl below ↦ rw (lt-ltb m n below, ne_eqb n m (λ s. absurd (omega (arith, s, below)))) refl
       | inr past ↦ elim (cases_lt n m) [
-        | inl under ↦ rw (le-ltb m n past, ne_eqb m n (λ s. absurd (omega (arith, s, under))), lt-ltb n m under, ne_eqb n m (λ s. absurd (omega (arith, s, under)))) refl
+        | inl under ↦ rw (
+          le-ltb m n past,
+          ne_eqb m n (λ s. absurd (omega (arith, s, under))),
+          lt-ltb n m under,
+          ne_eqb n m
+              (λ s. absurd (omega (arith, s, under))),
+        ) refl
         | inr over ↦ let e : m ≡ n = omega (arith, past, over) in rw (e, le-ltb n n (omega arith), eq-eqb n n refl) refl
       ]
     ]
@@ -122,7 +132,8 @@ filter_alike : (p q : Row → Bool) → ((row : Row) → p row ≡ q row) → (r
 filter_alike p q h [] = refl
 filter_alike p q h (row ∷ rows) = rw (h row) (ap (λ xs. cond (q row) (row ∷ xs) xs) (filter_alike p q h rows))
 
-pub sorted : (rows start all out : List Row) → start ≡ [] → all ≡ start ++ rows → IsNonDecreasingBy (λ r. r.first) out → IsStableByKey (λ (r : Row). r.first) nat_cmp all out → out ≡ in_order rows
+pub sorted : (rows start all out : List Row) → start ≡ [] → all ≡ start ++ rows → IsNonDecreasingBy (λ r. r.first) out
+    → IsStableByKey (λ (r : Row). r.first) nat_cmp all out → out ≡ in_order rows
 sorted rows start all out none made climb stable =
     let is : all ≡ rows = made ∙ ap (λ xs. xs ++ rows) none in
     same_rows 0 out (in_order rows) (climbs 0 out climb (λ d some. omega arith)) (order_climbs rows)

@@ -36,9 +36,23 @@ pub record Writes (command : Command) (answer : Answer) (old new : ModelPort) : 
   pub past : old.seen ≤ row.first
   pub seen : new.seen ≡ row.first + row.count
 
-pub step : (told : List ℕ → ℕ) (old : ModelPort) (command : Command) (answer : Answer) (new : ModelPort) → Says told old command answer new → Quiet command answer old new ⊎ Writes command answer old new
+pub step : (told : List ℕ → ℕ) (old : ModelPort) (command : Command) (answer : Answer) (new : ModelPort) → Says told old command answer new
+    → Quiet command answer old new ⊎ Writes command answer old new
 step told old (Write lba count tag) (Placed place) new h =
-    inr (record { row = record { first = place.first; thread = 0; lba = lba; count = count; tag = tag }; thread = refl; rows = refl; placed = refl; past = h.1; seen = h.2 })
+    inr (record {
+      row = record {
+        first = place.first;
+        thread = 0;
+        lba = lba;
+        count = count;
+        tag = tag;
+      };
+      thread = refl;
+      rows = refl;
+      placed = refl;
+      past = h.1;
+      seen = h.2;
+    })
 step told old (Write lba count tag) (Refused (Drive unit event)) new h = inl (record { rows = refl; placed = refl; grows = omega (arith, h.1) })
 step told old (Write lba count tag) (Refused (Worn wanted have)) new h = inl (record { rows = refl; placed = refl; grows = omega (arith, h.1) })
 step told old (Write lba count tag) answer new h = absurd h
@@ -64,14 +78,16 @@ seen_at told cs rows old new h zero = old.seen
 seen_at told (c ∷ cs) (a ∷ rows) old new h (suc n) = seen_at told cs rows h.0 new h.2 n
 seen_at told cs rows old new h (suc n) = old.seen
 
-pub seen_grows : (told : List ℕ → ℕ) (cs : List Command) (rows : List Answer) (old new : ModelPort) (h : Runs told old cs rows new) (n : ℕ) → old.seen ≤ seen_at told cs rows old new h n
+pub seen_grows : (told : List ℕ → ℕ) (cs : List Command) (rows : List Answer) (old new : ModelPort) (h : Runs told old cs rows new) (n : ℕ)
+    → old.seen ≤ seen_at told cs rows old new h n
 seen_grows told cs rows old new h zero = omega arith
 seen_grows told [] [] old new h (suc n) = omega arith
 seen_grows told [] (a ∷ rows) old new h (suc n) = absurd h
 seen_grows told (c ∷ cs) [] old new h (suc n) = absurd h
 seen_grows told (c ∷ cs) (a ∷ rows) old new h (suc n) = omega (arith, grows told old c a h.0 h.1.says, seen_grows told cs rows h.0 new h.2 n)
 
-pub seen_rises : (told : List ℕ → ℕ) (cs : List Command) (rows : List Answer) (old new : ModelPort) (h : Runs told old cs rows new) (n : ℕ) → seen_at told cs rows old new h n ≤ seen_at told cs rows old new h (suc n)
+pub seen_rises : (told : List ℕ → ℕ) (cs : List Command) (rows : List Answer) (old new : ModelPort) (h : Runs told old cs rows new) (n : ℕ)
+    → seen_at told cs rows old new h n ≤ seen_at told cs rows old new h (suc n)
 seen_rises told cs rows old new h zero = seen_grows told cs rows old new h 1
 seen_rises told [] [] old new h (suc n) = omega arith
 seen_rises told [] (a ∷ rows) old new h (suc n) = absurd h
@@ -100,12 +116,6 @@ users_more (x ∷ xs) p q h =
       ]
     ]
 
-pub users_few : (xs : List ℕ) (p : ℕ) → users xs p ≤ length xs
-users_few [] p = omega arith
-users_few (x ∷ xs) p =
-    let more = users_few xs p in
-    elim (cases_Bool (nat_lt x p)) [ inl e ↦ rw e (omega (arith, more)) | inr e ↦ rw e (omega (arith, more)) ]
-
 pub users_all : (xs : List ℕ) (p : ℕ) → AllByRecursion (λ x. x < p) xs → users xs p ≡ length xs
 users_all [] p h = refl
 users_all (x ∷ xs) p h = rw (lt-ltb x p h.0) (ap suc (users_all xs p h.1))
@@ -120,7 +130,8 @@ one_place : (row : Row) → flat_map positions_of (row ∷ []) ≡ range_with_le
 one_place row = append-nil (range_with_len row.first row.count)
 
 -- none is below what was seen before
-pub none_before : (told : List ℕ → ℕ) (cs : List Command) (rows : List Answer) (old new : ModelPort) → Runs told old cs rows new → (p : ℕ) → p ≤ old.seen → users (places cs rows) p ≡ 0
+pub none_before : (told : List ℕ → ℕ) (cs : List Command) (rows : List Answer) (old new : ModelPort) → Runs told old cs rows new → (p : ℕ) → p ≤ old.seen
+    → users (places cs rows) p ≡ 0
 none_before told [] [] old new h p low = refl
 none_before told [] (a ∷ rows) old new h p low = absurd h
 none_before told (c ∷ cs) [] old new h p low = absurd h
@@ -139,7 +150,8 @@ climb_lower : (low high : ℕ) (rows : List Row) → low ≤ high → Climbs hig
 climb_lower low high [] le h = tt
 climb_lower low high (row ∷ rows) le h = (omega (arith, le, h.0), h.1)
 
-pub run_climbs : (told : List ℕ → ℕ) (cs : List Command) (rows : List Answer) (old new : ModelPort) → Runs told old cs rows new → Climbs old.seen (thread_rows 0 cs rows)
+pub run_climbs : (told : List ℕ → ℕ) (cs : List Command) (rows : List Answer) (old new : ModelPort) → Runs told old cs rows new
+    → Climbs old.seen (thread_rows 0 cs rows)
 run_climbs told [] [] old new h = tt
 run_climbs told [] (a ∷ rows) old new h = absurd h
 run_climbs told (c ∷ cs) [] old new h = absurd h
@@ -163,7 +175,8 @@ run_placed told (c ∷ cs) (a ∷ rows) old new h =
       | inr w ↦ rw (w.rows, w.placed) (ap (λ ws. write_of w.row ∷ ws) rest)
     ]
 
-pub run_threads : (told : List ℕ → ℕ) (cs : List Command) (rows : List Answer) (old new : ModelPort) → Runs told old cs rows new → AllByRecursion (λ row. row.thread ≡ 0) (thread_rows 0 cs rows)
+pub run_threads : (told : List ℕ → ℕ) (cs : List Command) (rows : List Answer) (old new : ModelPort) → Runs told old cs rows new
+    → AllByRecursion (λ row. row.thread ≡ 0) (thread_rows 0 cs rows)
 run_threads told [] [] old new h = tt
 run_threads told [] (a ∷ rows) old new h = absurd h
 run_threads told (c ∷ cs) [] old new h = absurd h
@@ -195,12 +208,14 @@ run_written told (c ∷ cs) (a ∷ rows) old new h (suc n) =
     ]
 
 -- one command more
-counts-cons : (o : Option PlacedWrite) (ws : List PlacedWrite) → sum_by (λ w. w.count) (cons_option o ws) ≡ sum_by (λ w. w.count) (cons_option o []) + sum_by (λ w. w.count) ws
+counts-cons : (o : Option PlacedWrite) (ws : List PlacedWrite)
+    → sum_by (λ w. w.count) (cons_option o ws) ≡ sum_by (λ w. w.count) (cons_option o []) + sum_by (λ w. w.count) ws
 counts-cons None ws = let e : 0 + sum_by (λ (w : PlacedWrite). w.count) ws ≡ sum_by (λ w. w.count) ws = omega arith in sym e
 counts-cons (Some w) ws = omega (arith, sum_by-cons (λ (w : PlacedWrite). w.count) w ws, sum_by-cons (λ (w : PlacedWrite). w.count) w [])
 
 pub written_more : (xs : List (Command × Outcome)) (n : ℕ) (x : Command × Outcome) → slice_get xs n ≡ Some x
-    → sum_by (λ w. w.count) (filter_map (placed_write 0) (take (suc n) xs)) ≡ sum_by (λ w. w.count) (filter_map (placed_write 0) (take n xs)) + sum_by (λ w. w.count) (cons_option (placed_write 0 x) [])
+    → sum_by (λ w. w.count) (filter_map (placed_write 0) (take (suc n) xs)) ≡ sum_by (λ w. w.count) (filter_map (placed_write 0) (take n xs)) + sum_by
+    (λ w. w.count) (cons_option (placed_write 0 x) [])
 written_more [] n x e = absurd (none-some x e)
 written_more (y ∷ xs) zero x e =
     let same : y ≡ x = same_Some y x e in

@@ -6,7 +6,7 @@ ghost use Rattle.block_port.specs.Port.{ModelPort, positions};
 ghost use Rattle.pblk_model.specs.declared.script.Command.{Command};
 ghost use Rattle.pblk_model.specs.History.{after, users};
 ghost use Rattle.pblk_model.specs.Script.{ScriptFits};
-ghost use Rattle.pblk_model.specs.Transcript.{IsRun, closing_event, events, sector_writes};
+ghost use Rattle.pblk_model.specs.Transcript.{IsRun, IsTranscript, closing_event, events, sector_writes};
 ghost use Rattle.run_report.specs.OnePort.{AreKept, IsRunOfOnePort, IsTrouble, event_of};
 ghost use Rattle.run_report.specs.Recorded.{IsRecorded};
 ghost use Rattle.run_report.specs.Report.{closing_of, transcript_of};
@@ -29,10 +29,15 @@ pub fn a_run_is_recorded()
 
 /// Where a script of one thread is run through one port, the history of the transcript of its
 /// records is all that the port knew at last, of which as many lines are kept as stand at positions
-/// below `end`; and it names the events that the port answered, and then that of the close. Where
-/// all positions below `end` are kept, the transcript is one of a run of the script from the port's
-/// contents at the beginning, and leaves them after the lines that are kept.
+/// below `end`; and it names the events that the port answered, and then that of the close. It is
+/// a transcript of the script from the port's contents at the beginning. Where all positions that
+/// were flushed are below `end`, and all that are known where closing met no trouble, it is one of
+/// a run that leaves these contents after the lines that are kept.
 pub fn a_run_through_one_port()
+    ensures told { (commands : List Command) (records : Records) (old new : ModelPort) (end : ℕ)
+        → IsRunOfOnePort commands records old new
+        → let script = commands ∷ [] in
+        IsTranscript old.sector script old.start (transcript_of script records end) }
     ensures run { (commands : List Command) (records : Records) (old new : ModelPort) (end : ℕ)
         → (ran : IsRunOfOnePort commands records old new)
         → AreKept records new ran.last.known end

@@ -9,23 +9,22 @@ use crate::outcomes::{put_closing, put_opening, put_threads};
 use crate::rows::rows;
 use pblk_model::Script;
 use run_threads::Records;
-use scan_recovery::Contents;
 use std::alloc::{AllocError, Global};
 
-/// The text of a run's transcript, by its script, its records, and the contents of the image that the run left. Fails only
-/// for want of memory.
+/// The text of a run's transcript, by its script, its records, and the end of what the image that the run left
+/// holds. Fails only for want of memory.
 ///
-/// The history has a line for each sector of each write that was placed, by rising positions. Kept are its lines below the
-/// end of the contents.
+/// The history has a line for each sector of each write that was placed, by rising positions. Its lines at
+/// positions below the end are kept.
 pub fn transcript(
     alloc: Global,
     script: &Script,
     records: &Records,
-    contents: &Contents,
+    end: u64,
 ) -> Result<Vec<u8>, AllocError>
     requires { IsRecorded script.now records.now }
     ensures { IfOk result (λ bytes.
-        bytes.items ≡ text_of (transcript_of script.now records.now contents.now.end)) }
+        bytes.items ≡ text_of (transcript_of script.now records.now end)) }
 {
     let threads = records.threads.as_slice();
     let rows = rows(alloc, script.as_slice(), threads)?;
@@ -34,7 +33,7 @@ pub fn transcript(
     put_threads(&mut out, threads)?;
     put_opening(&mut out, records.opening)?;
     put_closing(&mut out, records.closing)?;
-    let kept = kept(&rows, contents.end);
+    let kept = kept(&rows, end);
     writeln!(out, "kept {kept}")?;
     Ok(out.into_bytes())
 }

@@ -1,5 +1,5 @@
 -- One more line that was heard.
-use Rattle.std.proofs.Common.{◌≡◌, ◌≢◌, ℕ, ◌+◌, ◌==◌, ◌||◌, ◌&&◌, not, Bool, true, false, List, [], ◌∷◌, ◌++◌, length, Option, Some, None, refl, sym, ap, ◌∙◌, subst}
+use Rattle.std.proofs.Common.{◌≡◌, ◌≢◌, ℕ, ◌+◌, ◌==◌, ◌||◌, not, Bool, true, false, List, [], ◌∷◌, ◌++◌, length, Option, Some, None, refl, sym, ap, ◌∙◌, subst}
 use Rattle.std.specs.List.{list_any}
 use Rattle.std.specs.Option.{option_map, option_to_list}
 use Rattle.std.specs.Str.{bytes_eq}
@@ -13,6 +13,7 @@ use Rattle.run_script.specs.declared.reader.Reader.{Reader}
 use Rattle.run_script.specs.declared.names.Names.{Names}
 use Rattle.run_script.specs.Names.{holds}
 use Rattle.run_script.specs.Heard.{ArePosted, threads_kept, BeginsThread, IsRead, Adds, Hears}
+use Rattle.lemmas.proofs.Tests.{first_of}
 
 -- The threads.
 
@@ -28,13 +29,15 @@ threads_of-thread [] n = refl
 threads_of-thread ((m, Thread) ∷ h) n = rw (leading-thread h n) (ap (λ t. leading h ∷ t) (threads_of-thread h n))
 threads_of-thread ((m, Commands c) ∷ h) n = threads_of-thread h n
 
-no_threads-command : (h : Heard) (n : ℕ) (c : Command) → threads_of h ≡ [] → (threads_of (h ++ (n, Commands c) ∷ []) ≡ []) × (leading (h ++ (n, Commands c) ∷ []) ≡ leading h ++ (n, c) ∷ [])
+no_threads-command : (h : Heard) (n : ℕ) (c : Command) → threads_of h ≡ [] → (threads_of (h ++ (n, Commands c) ∷ []) ≡ [])
+    × (leading (h ++ (n, Commands c) ∷ []) ≡ leading h ++ (n, c) ∷ [])
 unfolding threads_of leading
 no_threads-command [] n c e = (refl, refl)
 no_threads-command ((m, Thread) ∷ h) n c e = absurd (cc)
 no_threads-command ((m, Commands d) ∷ h) n c e = let more = no_threads-command h n c e in (more.0, ap (λ t. (m, d) ∷ t) more.1)
 
-some_threads-command : (h : Heard) (n : ℕ) (c : Command) (t : Numbered) (ts : List Numbered) → threads_of h ≡ t ∷ ts → leading (h ++ (n, Commands c) ∷ []) ≡ leading h
+some_threads-command : (h : Heard) (n : ℕ) (c : Command) (t : Numbered) (ts : List Numbered) → threads_of h ≡ t ∷ ts
+    → leading (h ++ (n, Commands c) ∷ []) ≡ leading h
 unfolding threads_of leading
 some_threads-command [] n c t ts e = absurd (cc)
 some_threads-command ((m, Thread) ∷ h) n c t ts e = refl
@@ -98,12 +101,16 @@ or-swap true false = refl
 or-swap false true = refl
 or-swap false false = refl
 
-posted-other : (names : Names) (before : List Said) (said : Said) → ((name : List ℕ) → posts name said ≡ false) → ArePosted names before → ArePosted names (before ++ said ∷ [])
-posted-other names before said none are = λ name. are name ∙ sym (list_any-append (posts name) before (said ∷ []) ∙ or-false (list_any (posts name) before) (posts name said) (none name))
+posted-other : (names : Names) (before : List Said) (said : Said) → ((name : List ℕ) → posts name said ≡ false) → ArePosted names before
+    → ArePosted names (before ++ said ∷ [])
+posted-other names before said none are = λ name. are name
+    ∙ sym (list_any-append (posts name) before (said ∷ []) ∙ or-false (list_any (posts name) before) (posts name said) (none name))
 
-posted-post : (old new : Names) (before : List Said) (post : List ℕ) → ((other : List ℕ) → holds new other ≡ (bytes_eq post other || holds old other)) → ArePosted old before → ArePosted new (before ++ Commands (Post post) ∷ [])
+posted-post : (old new : Names) (before : List Said) (post : List ℕ) → ((other : List ℕ) → holds new other ≡ (bytes_eq post other || holds old other))
+    → ArePosted old before → ArePosted new (before ++ Commands (Post post) ∷ [])
 posted-post old new before post more are = λ name.
-    more name ∙ ap (λ b. bytes_eq post name || b) (are name) ∙ sym (list_any-append (posts name) before (Commands (Post post) ∷ []) ∙ or-swap (list_any (posts name) before) (bytes_eq post name))
+    more name ∙ ap (λ b. bytes_eq post name || b) (are name)
+    ∙ sym (list_any-append (posts name) before (Commands (Post post) ∷ []) ∙ or-swap (list_any (posts name) before) (bytes_eq post name))
 
 posts_none : (c : Command) → ((post : List ℕ) → c ≢ Post post) → (name : List ℕ) → posts name (Commands c) ≡ false
 posts_none (Write lba count tag) h name = refl
@@ -130,10 +137,12 @@ pub read-thread : (old new : Reader) (h : Heard) (n : ℕ) → IsRead old h → 
 read-thread old new h n r e =
     let kept : threads_kept new ≡ threads_kept old ++ [] ∷ [] = rw e.0 (rw e.1 refl) in record {
       threads = kept ∙ ap (λ ts. ts ++ [] ∷ []) r.threads ∙ sym (threads_of-thread h n);
-      count = ap length kept ∙ length-append (threads_kept old) ([] ∷ []) ∙ ap (λ k. k + 1) r.count ∙ sym (ap threads_in (saids-push h n Thread) ∙ threads_in-thread (saids h));
+      count = ap length kept ∙ length-append (threads_kept old) ([] ∷ []) ∙ ap (λ k. k + 1) r.count
+          ∙ sym (ap threads_in (saids-push h n Thread) ∙ threads_in-thread (saids h));
       opens = λ none. absurd (let both : Some [] ≡ None = sym e.1 ∙ none in cc);
       commands = e.2 ∙ r.commands ∙ sym (ap commands_in (saids-push h n Thread) ∙ commands_in-thread (saids h));
-      names = subst (λ names. ArePosted names (saids (h ++ (n, Thread) ∷ []))) (sym e.3) (subst (ArePosted old.names) (sym (saids-push h n Thread)) (posted-other old.names (saids h) Thread (λ name. refl) r.names));
+      names = subst (λ names. ArePosted names (saids (h ++ (n, Thread) ∷ []))) (sym e.3)
+          (subst (ArePosted old.names) (sym (saids-push h n Thread)) (posted-other old.names (saids h) Thread (λ name. refl) r.names));
       begins = begins-thread h n r.begins;
     }
 
@@ -149,7 +158,8 @@ current_is : (o : Option Numbered) → o ≢ None → (t : Numbered) × (o ≡ S
 current_is None h = absurd (h refl)
 current_is (Some t) h = (t, refl)
 
-read-command : (old new : Reader) (h : Heard) (n : ℕ) (c : Command) → IsRead old h → Adds old new n c → not (threads_in (saids h) == 0) ≡ true → ArePosted new.names (saids h ++ Commands c ∷ []) → IsRead new (h ++ (n, Commands c) ∷ [])
+read-command : (old new : Reader) (h : Heard) (n : ℕ) (c : Command) → IsRead old h → Adds old new n c → not (threads_in (saids h) == 0) ≡ true
+    → ArePosted new.names (saids h ++ Commands c ∷ []) → IsRead new (h ++ (n, Commands c) ∷ [])
 read-command old new h n c r e opened names =
     let some = some_heard h opened in
     let current = current_is old.current (λ none. some (r.opens none)) in
@@ -159,7 +169,8 @@ read-command old new h n c r e opened names =
     let was : threads_kept old ≡ old.ended.items ++ current.0 ∷ [] = ap (λ o. old.ended.items ++ option_to_list o) current.1 in
     record {
       threads = kept ∙ sym (threads_of-command h n c old.ended.items current.0 before);
-      count = ap length kept ∙ length-append old.ended.items ((current.0 ++ (n, c) ∷ []) ∷ []) ∙ sym (ap length was ∙ length-append old.ended.items (current.0 ∷ [])) ∙ r.count
+      count = ap length kept ∙ length-append old.ended.items ((current.0 ++ (n, c) ∷ []) ∷ [])
+          ∙ sym (ap length was ∙ length-append old.ended.items (current.0 ∷ [])) ∙ r.count
           ∙ sym (ap threads_in (saids-push h n (Commands c)) ∙ threads_in-command (saids h) c);
       opens = λ none. absurd (let both : Some (current.0 ++ (n, c) ∷ []) ≡ None = sym now ∙ none in cc);
       commands = e.2 ∙ ap (λ k. k + 1) r.commands ∙ sym (ap commands_in (saids-push h n (Commands c)) ∙ commands_in-command (saids h) c);
@@ -167,17 +178,21 @@ read-command old new h n c r e opened names =
       begins = begins-more h n (Commands c) r.begins some;
     }
 
-first_holds : (a b : Bool) → (a && b) ≡ true → a ≡ true
-first_holds true b e = refl
-first_holds false b e = e
+same_names : (old new : Names) (before : List Said) (c : Command) → ((post : List ℕ) → c ≢ Post post) → new ≡ old → ArePosted old before
+    → ArePosted new (before ++ Commands c ∷ [])
+same_names old new before c other same are = subst (λ names. ArePosted names (before ++ Commands c ∷ [])) (sym same)
+    (posted-other old before (Commands c) (posts_none c other) are)
 
-same_names : (old new : Names) (before : List Said) (c : Command) → ((post : List ℕ) → c ≢ Post post) → new ≡ old → ArePosted old before → ArePosted new (before ++ Commands c ∷ [])
-same_names old new before c other same are = subst (λ names. ArePosted names (before ++ Commands c ∷ [])) (sym same) (posted-other old before (Commands c) (posts_none c other) are)
-
-pub read-said : (old new : Reader) (h : Heard) (n : ℕ) (said : Said) → IsRead old h → Hears old new n said → form_holds (saids h) said ≡ true → IsRead new (h ++ (n, said) ∷ [])
+pub read-said : (old new : Reader) (h : Heard) (n : ℕ) (said : Said) → IsRead old h → Hears old new n said → form_holds (saids h) said ≡ true
+    → IsRead new (h ++ (n, said) ∷ [])
 read-said old new h n Thread r e form = read-thread old new h n r e
-read-said old new h n (Commands (Post name)) r e form = read-command old new h n (Post name) r e.0 (first_holds _ _ form) (posted-post old.names new.names (saids h) name e.1 r.names)
-read-said old new h n (Commands (Write lba count tag)) r e form = read-command old new h n (Write lba count tag) r e.0 form (same_names old.names new.names (saids h) (Write lba count tag) (λ post is. cc) e.1 r.names)
-read-said old new h n (Commands (Read lba count)) r e form = read-command old new h n (Read lba count) r e.0 form (same_names old.names new.names (saids h) (Read lba count) (λ post is. cc) e.1 r.names)
-read-said old new h n (Commands Flush) r e form = read-command old new h n Flush r e.0 form (same_names old.names new.names (saids h) Flush (λ post is. cc) e.1 r.names)
-read-said old new h n (Commands (Await name)) r e form = read-command old new h n (Await name) r e.0 form (same_names old.names new.names (saids h) (Await name) (λ post is. cc) e.1 r.names)
+read-said old new h n (Commands (Post name)) r e form = read-command old new h n (Post name) r e.0 (first_of _ _ form)
+    (posted-post old.names new.names (saids h) name e.1 r.names)
+read-said old new h n (Commands (Write lba count tag)) r e form = read-command old new h n (Write lba count tag) r e.0 form
+    (same_names old.names new.names (saids h) (Write lba count tag) (λ post is. cc) e.1 r.names)
+read-said old new h n (Commands (Read lba count)) r e form = read-command old new h n (Read lba count) r e.0 form
+    (same_names old.names new.names (saids h) (Read lba count) (λ post is. cc) e.1 r.names)
+read-said old new h n (Commands Flush) r e form = read-command old new h n Flush r e.0 form
+    (same_names old.names new.names (saids h) Flush (λ post is. cc) e.1 r.names)
+read-said old new h n (Commands (Await name)) r e form = read-command old new h n (Await name) r e.0 form
+    (same_names old.names new.names (saids h) (Await name) (λ post is. cc) e.1 r.names)

@@ -1,5 +1,5 @@
 -- Which words spell a number.
-use Rattle.std.proofs.Common.{rules, ◌≡◌, ◌≢◌, ℕ, zero, suc, ◌+◌, ◌-◌, ◌*◌, ◌^◌, ◌<◌, ◌==◌, ◌||◌, ◌&&◌, true, false, Some, None, if◌then◌else◌, List, [], ◌∷◌, length, get_or, Bool, Result, Ok, Err, refl, sym, ap, ◌∙◌, arith, inl, inr}
+use Rattle.std.proofs.Common.{rules, ◌≡◌, ◌≢◌, ℕ, ◌+◌, ◌-◌, ◌*◌, ◌^◌, ◌<◌, ◌==◌, ◌||◌, ◌&&◌, true, false, Some, None, if◌then◌else◌, List, [], ◌∷◌, length, get_or, Bool, Result, Ok, Err, refl, sym, ap, ◌∙◌, arith, inl, inr}
 use Rattle.std.specs.Fmt.{decimal}
 use Rattle.std.specs.List.{fold}
 use Rattle.std.specs.Bool.{nat_lt}
@@ -8,7 +8,7 @@ use Rattle.std.specs.Result.{result_ok}
 use Rattle.std.specs.Str.{IsUtf8}
 use Rattle.std.specs.Str.Parse.{AllDigits, digits_value, ParsesUnsigned}
 use Rattle.std.proofs.lemmas.Bool.{eqb-true, eqb-false, eq-eqb, false_from_ne_true, true≢false, cases_Bool}
-use Rattle.std.proofs.lemmas.Fmt.{decimal-digits_value, digits_value-decimal, decimal_digit, digits_decimal, first_decimal, parse-decimal, IsAscii-decimal}
+use Rattle.std.proofs.lemmas.Fmt.{decimal-digits_value, digits_value-decimal, digits_decimal, parse-decimal, IsAscii-decimal}
 use Rattle.std.proofs.lemmas.Slice.Eq.{bytes_eq-Decides}
 use Rattle.std.proofs.lemmas.Bool.Decides.{Decides-ltb}
 use Rattle.std.proofs.lemmas.Str.{IsUtf8-from_ascii}
@@ -16,6 +16,7 @@ use Rattle.std.proofs.lemmas.Str.Parse.{IsNumeralModel, numerals_by_value, numer
 use Rattle.pblk_model.specs.ScriptText as text
 use Rattle.pblk_model.specs.ScriptText.{number_of}
 use Rattle.run_script.specs.Number.{is_padded}
+use Rattle.lemmas.proofs.Bytes.{short_zero}
 
 digits : IsNumeralModel (AllDigits 10) (digits_value 10)
 digits = numerals_by_value (AllDigits 10) tells_digits
@@ -40,10 +41,6 @@ not_padded (x ∷ []) d short = false_from_ne_true (x == 43) (λ k. let r = digi
 not_padded (x ∷ (y ∷ bs)) d short =
     let plus : (x == 43) ≡ false = false_from_ne_true (x == 43) (λ k. let r = digit_from_value x d.0 in omega (arith, r, eqb-true x 43 k)) in
     rw plus (false_from_ne_true (x == 48) (λ k. absurd (omega (arith, short (eqb-true x 48 k)))))
-
-short_zero : (n : ℕ) → n < 2 ^ 64 → get_or (decimal n) 0 0 ≡ 48 → length (decimal n) ≡ 1
-short_zero zero small e = ap length (decimal_digit 0 (omega arith))
-short_zero (suc n) small e = absurd (omega (arith, e, first_decimal (suc n) (omega arith) small))
 
 pub decimal_not_padded : (bs : List ℕ) (n : ℕ) → n < 2 ^ 64 → bs ≡ decimal n → is_padded bs ≡ false
 decimal_not_padded bs n small e = rw e (not_padded (decimal n) (digits_decimal digits n small) (short_zero n small))

@@ -1,8 +1,9 @@
 -- Threads that are run on.
 use Rattle.std.proofs.Common.{◌≡◌, ℕ, zero, suc, ◌+◌, ◌<◌, ◌≤◌, ◌||◌, ◌⊎◌, Bool, true, false, List, [], ◌∷◌, ◌++◌, map, length, get_or, drop, drop-cons, add-one, Option, Some, None, Result, Ok, Err, refl, sym, ap, ◌∙◌, subst, arith, inl, inr}
 use Rattle.std.specs.List.{flat_map, list_any}
-use Rattle.std.specs.Option.{is_some, option_map, option_map_or}
-use Rattle.std.proofs.lemmas.List.{drop_all}
+use Rattle.std.specs.Option.{is_some, option_map, option_map_or, option_to_list}
+use Rattle.std.proofs.lemmas.List.{append-nil, drop_all}
+use Rattle.std.proofs.lemmas.List.Concat.{flat_map-append}
 use Rattle.std.specs.Str.{bytes_eq}
 use Rattle.std.proofs.lemmas.Bool.{cases_Bool, true≢false, false≢true}
 use Rattle.std.proofs.lemmas.Bool.Decides.{same_from_decides}
@@ -16,12 +17,17 @@ use Rattle.pblk_model.specs.ScriptText.{Said, Thread, Commands, Heard, Numbered,
 use Rattle.run_script.specs.declared.names.Names.{Names}
 use Rattle.run_script.specs.Names.{holds}
 use Rattle.run_script.specs.declared.reader.Reader.{Reader}
-use Rattle.run_script.specs.Heard.{ArePosted, BeginsThread, IsRead, threads_kept}
+use Rattle.run_script.specs.Heard.{ArePosted, BeginsThread, IsRead}
 use Rattle.run_script.specs.Turns.{lifted, AreListed, passed, Passes, lesser, line_of}
+use Rattle.lemmas.proofs.Lists.{cases_passed}
+use Rattle.lemmas.proofs.Maps.{map_dropped}
+use Rattle.lemmas.proofs.Parts.{next_item}
+use Rattle.pblk_model.proofs.ScriptTextLemmas.{run_on-end, turn-end, turn-next}
 
 -- A command that a thread goes past, and one that it stands at.
 
-pub run_on-past : (posted more : List (List ℕ)) (n : ℕ) (c : Command) (thread : Numbered) → passed posted c ≡ Some more → run_on posted ((n, c) ∷ thread) ≡ run_on more thread
+pub run_on-past : (posted more : List (List ℕ)) (n : ℕ) (c : Command) (thread : Numbered) → passed posted c ≡ Some more
+    → run_on posted ((n, c) ∷ thread) ≡ run_on more thread
 unfolding run_on
 run_on-past posted more n (Write lba count tag) thread e = let same : posted ≡ more = cc in rw same refl
 run_on-past posted more n (Read lba count) thread e = let same : posted ≡ more = cc in rw same refl
@@ -32,7 +38,8 @@ run_on-past posted more n (Await name) thread e = elim (cases_Bool (list_any (by
   | inr fails_so ↦ let none : None ≡ Some more = (rw fails_so at e) in absurd (cc)
 ]
 
-pub run_on-stands : (posted : List (List ℕ)) (n : ℕ) (c : Command) (thread : Numbered) → passed posted c ≡ None → run_on posted ((n, c) ∷ thread) ≡ (posted, (n, c) ∷ thread)
+pub run_on-stands : (posted : List (List ℕ)) (n : ℕ) (c : Command) (thread : Numbered) → passed posted c ≡ None
+    → run_on posted ((n, c) ∷ thread) ≡ (posted, (n, c) ∷ thread)
 unfolding run_on
 run_on-stands posted n (Write lba count tag) thread e = absurd (cc)
 run_on-stands posted n (Read lba count) thread e = absurd (cc)
@@ -42,15 +49,6 @@ run_on-stands posted n (Await name) thread e = elim (cases_Bool (list_any (bytes
   | inl holds_so ↦ let some : Some posted ≡ None = (rw holds_so at e) in absurd (cc)
   | inr fails_so ↦ rw fails_so refl
 ]
-
-pub run_on-end : (posted : List (List ℕ)) → run_on posted [] ≡ (posted, [])
-unfolding run_on
-run_on-end posted = refl
-
--- by what a command lets through
-cases_passed : (o : Option (List (List ℕ))) → (o ≡ None) ⊎ ((more : List (List ℕ)) × (o ≡ Some more))
-cases_passed None = inl refl
-cases_passed (Some more) = inr (more, refl)
 
 pub run_on-length : (posted : List (List ℕ)) (thread : Numbered) → length (run_on posted thread).1 ≤ length thread
 run_on-length posted [] = rw (run_on-end posted) (omega arith)
@@ -64,24 +62,19 @@ pub run_on-stays : (posted : List (List ℕ)) (thread : Numbered) → length (ru
 run_on-stays posted [] e = run_on-end posted
 run_on-stays posted ((n, c) ∷ thread) e = elim (cases_passed (passed posted c)) [
   | inl none ↦ run_on-stands posted n c thread none
-  | inr some ↦ absurd (let moved : length (run_on some.0 thread).1 ≡ suc (length thread) = sym (ap (λ r. length r.1) (run_on-past posted some.0 n c thread some.1)) ∙ e in omega (arith, run_on-length some.0 thread, moved))
+  | inr some ↦ absurd (let moved : length (run_on some.0 thread).1 ≡ suc (length thread) = sym
+      (ap (λ r. length r.1) (run_on-past posted some.0 n c thread some.1)) ∙ e in omega (arith, run_on-length some.0 thread, moved))
 ]
 
 -- Turns in which nothing moves.
 
-pub turn-end : (posted : List (List ℕ)) → turn posted [] ≡ (posted, [])
-unfolding turn
-turn-end posted = refl
-
-pub turn-next : (posted : List (List ℕ)) (thread : Numbered) (threads : List Numbered) → turn posted (thread ∷ threads) ≡ ((turn (run_on posted thread).0 threads).0, (run_on posted thread).1 ∷ (turn (run_on posted thread).0 threads).1)
-unfolding turn
-turn-next posted thread threads = refl
-
-pub turn-stays : (posted : List (List ℕ)) (threads : List Numbered) → map length (turn posted threads).1 ≡ map length threads → turn posted threads ≡ (posted, threads)
+pub turn-stays : (posted : List (List ℕ)) (threads : List Numbered) → map length (turn posted threads).1 ≡ map length threads
+    → turn posted threads ≡ (posted, threads)
 turn-stays posted [] e = turn-end posted
 turn-stays posted (thread ∷ threads) e =
     let next = turn-next posted thread threads in
-    let lengths : map length ((run_on posted thread).1 ∷ (turn (run_on posted thread).0 threads).1) ≡ map length (thread ∷ threads) = ap (λ r. map length r.1) (sym next) ∙ e in
+    let lengths : map length ((run_on posted thread).1 ∷ (turn (run_on posted thread).0 threads).1) ≡ map length (thread ∷ threads) = ap (λ r. map length r.1)
+    (sym next) ∙ e in
     let first : length (run_on posted thread).1 ≡ length thread = cc in
     let others : map length (turn (run_on posted thread).0 threads).1 ≡ map length threads = cc in
     let stays = run_on-stays posted thread first in
@@ -89,34 +82,39 @@ turn-stays posted (thread ∷ threads) e =
     let rest = turn-stays posted threads others' in
     next ∙ ap (λ r. ((turn r.0 threads).0, r.1 ∷ (turn r.0 threads).1)) stays ∙ ap (λ r. (r.0, thread ∷ r.1)) rest
 
-pub turns-stay : (k : ℕ) (posted : List (List ℕ)) (threads : List Numbered) → turn posted threads ≡ (posted, threads) → turns k posted threads ≡ threads
-unfolding turns
-turns-stay zero posted threads e = refl
-turns-stay (suc k) posted threads e = ap (λ r. turns k r.0 r.1) e ∙ turns-stay k posted threads e
-
-pub turns-next : (k : ℕ) (posted : List (List ℕ)) (threads : List Numbered) → turns (suc k) posted threads ≡ turns k (turn posted threads).0 (turn posted threads).1
-unfolding turns
-turns-next k posted threads = refl
-
 -- Names that are posted.
 
 bytes_eq-sym : (a b : List ℕ) → bytes_eq a b ≡ bytes_eq b a
-bytes_eq-sym a b = let other = bytes_eq-Decides b a in same_from_decides {P = a ≡ b} (bytes_eq a b) (bytes_eq b a) (bytes_eq-Decides a b) (λ e. sym (other.0 e), λ e. other.1 (sym e))
+bytes_eq-sym a b = let other = bytes_eq-Decides b a in
+    same_from_decides {P = a ≡ b} (bytes_eq a b) (bytes_eq b a) (bytes_eq-Decides a b) (λ e. sym (other.0 e), λ e. other.1 (sym e))
 
 pub none_listed : (names : Names) → ((name : List ℕ) → holds names name ≡ false) → AreListed names []
 none_listed names none = none
 
-pub listed_more : (old new : Names) (name : List ℕ) (posted : List (List ℕ)) → AreListed old posted → ((other : List ℕ) → holds new other ≡ (bytes_eq name other || holds old other)) → AreListed new (name ∷ posted)
-listed_more old new name posted are more = λ other. more other ∙ ap (λ b. b || holds old other) (bytes_eq-sym name other) ∙ ap (λ b. bytes_eq other name || b) (are other)
+pub listed_more : (old new : Names) (name : List ℕ) (posted : List (List ℕ)) → AreListed old posted
+    → ((other : List ℕ) → holds new other ≡ (bytes_eq name other || holds old other)) → AreListed new (name ∷ posted)
+listed_more old new name posted are more = λ other. more other ∙ ap (λ b. b || holds old other) (bytes_eq-sym name other)
+    ∙ ap (λ b. bytes_eq other name || b) (are other)
 
-pub passes_post : (old new : Names) (c : Command) (name : List ℕ) → c ≡ Post name → ((other : List ℕ) → holds new other ≡ (bytes_eq name other || holds old other)) → Passes old new c true
+pub passes_post : (old new : Names) (c : Command) (name : List ℕ) → c ≡ Post name
+    → ((other : List ℕ) → holds new other ≡ (bytes_eq name other || holds old other)) → Passes old new c true
 passes_post old new c name is more = λ posted are. (name ∷ posted, ap (passed posted) is, listed_more old new name posted are more)
 
 pub passes_await : (old : Names) (c : Command) (name : List ℕ) (b : Bool) → c ≡ Await name → b ≡ holds old name → Passes old old c b
-passes_await old c name true is e = λ posted are. let holds_so : list_any (bytes_eq name) posted ≡ true = sym (e ∙ are name) in (posted, ap (passed posted) is ∙ rw holds_so refl, are)
-passes_await old c name false is e = λ posted are. let fails_so : list_any (bytes_eq name) posted ≡ false = sym (e ∙ are name) in (ap (passed posted) is ∙ rw fails_so refl, are)
+passes_await old c name true is e = λ posted are. let holds_so : list_any (bytes_eq name) posted ≡ true = sym (e ∙ are name) in (
+  posted,
+  ap (passed posted) is
+      ∙ rw holds_so refl,
+  are,
+)
+passes_await old c name false is e = λ posted are. let fails_so : list_any (bytes_eq name) posted ≡ false = sym (e ∙ are name) in (
+  ap (passed posted) is
+      ∙ rw fails_so refl,
+  are,
+)
 
-pub passes_plain : (old : Names) (c : Command) → ((lba : ℕ) × (count : ℕ) × (tag : ℕ) × (c ≡ Write lba count tag)) ⊎ (((lba : ℕ) × (count : ℕ) × (c ≡ Read lba count)) ⊎ (c ≡ Flush)) → Passes old old c true
+pub passes_plain : (old : Names) (c : Command) → ((lba : ℕ) × (count : ℕ) × (tag : ℕ)
+    × (c ≡ Write lba count tag)) ⊎ (((lba : ℕ) × (count : ℕ) × (c ≡ Read lba count)) ⊎ (c ≡ Flush)) → Passes old old c true
 passes_plain old c (inl w) = λ posted are. (posted, ap (passed posted) w.3, are)
 passes_plain old c (inr (inl r)) = λ posted are. (posted, ap (passed posted) r.2, are)
 passes_plain old c (inr (inr f)) = λ posted are. (posted, ap (passed posted) f, are)
@@ -155,7 +153,8 @@ pub unposted-here : (all : List Said) (n : ℕ) (said : Said) (heard : Heard) �
 unfolding unposted
 unposted-here all n said heard e = rw e refl
 
-pub unposted-past : (all : List Said) (n : ℕ) (said : Said) (heard : Heard) → awaits_unposted all said ≡ false → unposted all ((n, said) ∷ heard) ≡ unposted all heard
+pub unposted-past : (all : List Said) (n : ℕ) (said : Said) (heard : Heard) → awaits_unposted all said ≡ false
+    → unposted all ((n, said) ∷ heard) ≡ unposted all heard
 unfolding unposted
 unposted-past all n said heard e = rw e refl
 
@@ -186,58 +185,91 @@ lesser-assoc (Some x) (Some y) (Some z) = ap Some (omega arith)
 
 -- Loops over threads.
 
-pub next_item : {A : Type 0} (xs : List A) (i : ℕ) (x : A) → i < length xs → x ≡ get_or xs i x → drop i xs ≡ x ∷ drop (i + 1) xs
-next_item xs i x h is = drop-cons xs i x h ∙ ap (λ y. y ∷ drop (suc i) xs) (sym is) ∙ ap (λ m. x ∷ drop m xs) (sym (add-one i))
+pub next_mapped : {A B : Type 0} (f : A → B) (xs : List A) (i : ℕ) (x : A) → i < length xs → x ≡ get_or xs i x
+    → drop i (map f xs) ≡ f x ∷ drop (i + 1) (map f xs)
+next_mapped f xs i x h is = sym (map_dropped f i xs) ∙ ap (map f) (next_item xs i x h is) ∙ ap (λ ys. f x ∷ ys) (map_dropped f (i + 1) xs)
 
-pub map-drop : {A B : Type 0} (f : A → B) (i : ℕ) (xs : List A) → map f (drop i xs) ≡ drop i (map f xs)
-map-drop f zero xs = refl
-map-drop f (suc i) [] = refl
-map-drop f (suc i) (x ∷ xs) = map-drop f i xs
-
-pub next_mapped : {A B : Type 0} (f : A → B) (xs : List A) (i : ℕ) (x : A) → i < length xs → x ≡ get_or xs i x → drop i (map f xs) ≡ f x ∷ drop (i + 1) (map f xs)
-next_mapped f xs i x h is = sym (map-drop f i xs) ∙ ap (map f) (next_item xs i x h is) ∙ ap (λ ys. f x ∷ ys) (map-drop f (i + 1) xs)
-
-pub drop_past : {A : Type 0} (xs : List A) (i : ℕ) → length xs ≤ i → drop i xs ≡ []
-drop_past xs i h = drop_all i xs h
-
-pub least_turn : (least : Option ℕ) (left : List Numbered) (i : ℕ) (thread : Numbered) → drop i left ≡ thread ∷ drop (i + 1) left → lesser least (least_standing (drop i left)) ≡ least_standing left
+pub least_turn : (least : Option ℕ) (left : List Numbered) (i : ℕ) (thread : Numbered) → drop i left ≡ thread ∷ drop (i + 1) left
+    → lesser least (least_standing (drop i left)) ≡ least_standing left
     → lesser (lesser least (line_of thread)) (least_standing (drop (i + 1) left)) ≡ least_standing left
-least_turn least left i thread at h = lesser-assoc least (line_of thread) (least_standing (drop (i + 1) left)) ∙ ap (lesser least) (sym (ap least_standing at ∙ least-next thread (drop (i + 1) left))) ∙ h
+least_turn least left i thread at h = lesser-assoc least (line_of thread) (least_standing (drop (i + 1) left))
+    ∙ ap (lesser least) (sym (ap least_standing at ∙ least-next thread (drop (i + 1) left))) ∙ h
 
-pub least_end : (least : Option ℕ) (left : List Numbered) (i : ℕ) → drop i left ≡ [] → lesser least (least_standing (drop i left)) ≡ least_standing left → least ≡ least_standing left
+pub least_end : (least : Option ℕ) (left : List Numbered) (i : ℕ) → drop i left ≡ [] → lesser least (least_standing (drop i left)) ≡ least_standing left
+    → least ≡ least_standing left
 least_end least left i none h = sym (ap (λ ts. lesser least (least_standing ts)) none ∙ ap (lesser least) least-end ∙ lesser-none least) ∙ h
 
-pub unposted_here : (all : List Said) (thread rest : Numbered) (i : ℕ) (x : ℕ × Command) → drop i thread ≡ x ∷ rest → unposted all (lifted thread) ≡ unposted all (lifted (drop i thread)) → awaits_unposted all (Commands x.1) ≡ true
+pub unposted_here : (all : List Said) (thread rest : Numbered) (i : ℕ) (x : ℕ × Command) → drop i thread ≡ x ∷ rest
+    → unposted all (lifted thread) ≡ unposted all (lifted (drop i thread)) → awaits_unposted all (Commands x.1) ≡ true
     → Some x.0 ≡ unposted all (lifted thread)
 unposted_here all thread rest i x at h so = sym (h ∙ ap (λ t. unposted all (lifted t)) at ∙ unposted-here all x.0 (Commands x.1) (lifted rest) so)
 
-pub unposted_past : (all : List Said) (thread rest : Numbered) (i : ℕ) (x : ℕ × Command) → drop i thread ≡ x ∷ rest → unposted all (lifted thread) ≡ unposted all (lifted (drop i thread)) → awaits_unposted all (Commands x.1) ≡ false
+pub unposted_past : (all : List Said) (thread rest : Numbered) (i : ℕ) (x : ℕ × Command) → drop i thread ≡ x ∷ rest
+    → unposted all (lifted thread) ≡ unposted all (lifted (drop i thread)) → awaits_unposted all (Commands x.1) ≡ false
     → unposted all (lifted thread) ≡ unposted all (lifted rest)
 unposted_past all thread rest i x at h so = h ∙ ap (λ t. unposted all (lifted t)) at ∙ unposted-past all x.0 (Commands x.1) (lifted rest) so
 
-pub unposted_done : (all : List Said) (thread : Numbered) (i : ℕ) → drop i thread ≡ [] → unposted all (lifted thread) ≡ unposted all (lifted (drop i thread)) → None ≡ unposted all (lifted thread)
+pub unposted_done : (all : List Said) (thread : Numbered) (i : ℕ) → drop i thread ≡ [] → unposted all (lifted thread) ≡ unposted all (lifted (drop i thread))
+    → None ≡ unposted all (lifted thread)
 unposted_done all thread i none h = sym (h ∙ ap (λ t. unposted all (lifted t)) none ∙ unposted-end all)
 
-pub found_here : (all : List Said) (threads rest : List Numbered) (i : ℕ) (thread : Numbered) (found : Option ℕ) → drop i threads ≡ thread ∷ rest → unposted all (flat_map lifted threads) ≡ unposted all (flat_map lifted (drop i threads))
+pub found_here : (all : List Said) (threads rest : List Numbered) (i : ℕ) (thread : Numbered) (found : Option ℕ) → drop i threads ≡ thread ∷ rest
+    → unposted all (flat_map lifted threads) ≡ unposted all (flat_map lifted (drop i threads))
     → found ≡ unposted all (lifted thread) → is_some found ≡ true → found ≡ unposted all (flat_map lifted threads)
 found_here all threads rest i thread None at h e some = absurd (false≢true some)
-found_here all threads rest i thread (Some n) at h e some = sym (h ∙ ap (λ ts. unposted all (flat_map lifted ts)) at ∙ unposted-some all (lifted thread) (flat_map lifted rest) n (sym e))
+found_here all threads rest i thread (Some n) at h e some = sym (h ∙ ap (λ ts. unposted all (flat_map lifted ts)) at
+    ∙ unposted-some all (lifted thread) (flat_map lifted rest) n (sym e))
 
-pub found_past : (all : List Said) (threads rest : List Numbered) (i : ℕ) (thread : Numbered) (found : Option ℕ) → drop i threads ≡ thread ∷ rest → unposted all (flat_map lifted threads) ≡ unposted all (flat_map lifted (drop i threads))
+pub found_past : (all : List Said) (threads rest : List Numbered) (i : ℕ) (thread : Numbered) (found : Option ℕ) → drop i threads ≡ thread ∷ rest
+    → unposted all (flat_map lifted threads) ≡ unposted all (flat_map lifted (drop i threads))
     → found ≡ unposted all (lifted thread) → is_some found ≡ false → unposted all (flat_map lifted threads) ≡ unposted all (flat_map lifted rest)
-found_past all threads rest i thread None at h e none = h ∙ ap (λ ts. unposted all (flat_map lifted ts)) at ∙ unposted-none all (lifted thread) (flat_map lifted rest) (sym e)
+found_past all threads rest i thread None at h e none = h ∙ ap (λ ts. unposted all (flat_map lifted ts)) at
+    ∙ unposted-none all (lifted thread) (flat_map lifted rest) (sym e)
 found_past all threads rest i thread (Some n) at h e none = absurd (true≢false none)
 
-pub found_none : (all : List Said) (threads : List Numbered) (i : ℕ) → drop i threads ≡ [] → unposted all (flat_map lifted threads) ≡ unposted all (flat_map lifted (drop i threads)) → None ≡ unposted all (flat_map lifted threads)
+pub found_none : (all : List Said) (threads : List Numbered) (i : ℕ) → drop i threads ≡ []
+    → unposted all (flat_map lifted threads) ≡ unposted all (flat_map lifted (drop i threads)) → None ≡ unposted all (flat_map lifted threads)
 found_none all threads i none h = sym (h ∙ ap (λ ts. unposted all (flat_map lifted ts)) none ∙ unposted-end all)
 
 -- What a reader answers at the end.
 
-pub kept_unposted : (reader : Reader) (heard : Heard) (names : Names) (threads : List Numbered) (found : Option ℕ) → IsRead reader heard → names ≡ reader.names → threads ≡ threads_kept reader
-    → ((all : List Said) → ArePosted names all → found ≡ unposted all (flat_map lifted threads)) → found ≡ unposted (saids heard) heard
-kept_unposted reader heard names threads found r same kept h =
-    let are : ArePosted names (saids heard) = subst (λ names. ArePosted names (saids heard)) (sym same) r.names in
-    h (saids heard) are ∙ ap (λ ts. unposted (saids heard) (flat_map lifted ts)) (kept ∙ r.threads) ∙ sym (unposted-threads (saids heard) heard r.begins)
+parts_unposted : (reader : Reader) (heard : Heard) → IsRead reader heard
+    → unposted (saids heard) heard ≡ unposted (saids heard) (flat_map lifted reader.ended.items ++ flat_map lifted (option_to_list reader.current))
+parts_unposted reader heard r =
+    unposted-threads (saids heard) heard r.begins
+    ∙ ap (λ ts. unposted (saids heard) (flat_map lifted ts)) (sym r.threads)
+    ∙ ap (unposted (saids heard)) (flat_map-append lifted reader.ended.items (option_to_list reader.current))
+
+-- a thread that ended has the line
+pub ended_unposted : (reader : Reader) (heard : Heard) (ended : List Numbered) (found : Option ℕ) (line : ℕ) → IsRead reader heard → ended ≡ reader.ended.items
+    → ((all : List Said) → ArePosted reader.names all → found ≡ unposted all (flat_map lifted ended)) → found ≡ Some line
+    → Some line ≡ unposted (saids heard) heard
+ended_unposted reader heard ended found line r same h is =
+    sym (parts_unposted reader heard r ∙ unposted-some (saids heard) (flat_map lifted reader.ended.items) (flat_map lifted (option_to_list reader.current)) line
+    (ap (λ ts. unposted (saids heard) (flat_map lifted ts)) (sym same) ∙ sym (h (saids heard) r.names) ∙ is))
+
+others_unposted : (reader : Reader) (heard : Heard) (ended : List Numbered) (found : Option ℕ) → IsRead reader heard → ended ≡ reader.ended.items
+    → ((all : List Said) → ArePosted reader.names all → found ≡ unposted all (flat_map lifted ended)) → found ≡ None
+    → unposted (saids heard) heard ≡ unposted (saids heard) (flat_map lifted (option_to_list reader.current))
+others_unposted reader heard ended found r same h none =
+    parts_unposted reader heard r ∙ unposted-none (saids heard) (flat_map lifted reader.ended.items) (flat_map lifted (option_to_list reader.current))
+    (ap (λ ts. unposted (saids heard) (flat_map lifted ts)) (sym same) ∙ sym (h (saids heard) r.names) ∙ none)
+
+-- or none of these does, and the one that is open is looked at
+pub current_unposted : (reader : Reader) (heard : Heard) (ended : List Numbered) (found : Option ℕ) → IsRead reader heard → ended ≡ reader.ended.items
+    → ((all : List Said) → ArePosted reader.names all → found ≡ unposted all (flat_map lifted ended)) → found ≡ None
+    → (thread : Numbered) (last : Option ℕ) → reader.current ≡ Some thread
+    → ((all : List Said) → ArePosted reader.names all → last ≡ unposted all (lifted thread)) → last ≡ unposted (saids heard) heard
+current_unposted reader heard ended found r same h none thread last current is =
+    is (saids heard) r.names ∙ ap (unposted (saids heard)) (sym (append-nil (lifted thread)))
+    ∙ sym (others_unposted reader heard ended found r same h none ∙ ap (λ o. unposted (saids heard) (flat_map lifted (option_to_list o))) current)
+
+pub no_current_unposted : (reader : Reader) (heard : Heard) (ended : List Numbered) (found : Option ℕ) → IsRead reader heard → ended ≡ reader.ended.items
+    → ((all : List Said) → ArePosted reader.names all → found ≡ unposted all (flat_map lifted ended)) → found ≡ None
+    → reader.current ≡ None → None ≡ unposted (saids heard) heard
+no_current_unposted reader heard ended found r same h none current =
+    sym (others_unposted reader heard ended found r same h none ∙ ap (λ o. unposted (saids heard) (flat_map lifted (option_to_list o))) current
+    ∙ unposted-end (saids heard))
 
 abbrev pub told : Heard → Result (List (List Command)) ScriptErr
 told heard = option_map_or Err (posts_refusal heard) (Ok (script_of heard))
@@ -245,16 +277,19 @@ told heard = option_map_or Err (posts_refusal heard) (Ok (script_of heard))
 pub told_unposted : (heard : Heard) (line : ℕ) → unposted (saids heard) heard ≡ Some line → told heard ≡ Err (errors.NeverPosted line)
 told_unposted heard line e = rw e refl
 
-pub told_stuck : (heard : Heard) (line : ℕ) → unposted (saids heard) heard ≡ None → stuck_at (threads_of heard) ≡ Some line → told heard ≡ Err (errors.Stuck line)
+pub told_stuck : (heard : Heard) (line : ℕ) → unposted (saids heard) heard ≡ None → stuck_at (threads_of heard) ≡ Some line
+    → told heard ≡ Err (errors.Stuck line)
 told_stuck heard line e k = by_parts (unposted (saids heard) heard) (stuck_at (threads_of heard)) line e k
   where
-    by_parts : (a b : Option ℕ) (line : ℕ) → a ≡ None → b ≡ Some line → option_map_or Err (first_refusal (option_map errors.NeverPosted a ∷ option_map errors.Stuck b ∷ [])) (Ok (script_of heard)) ≡ Err (errors.Stuck line)
+    by_parts : (a b : Option ℕ) (line : ℕ) → a ≡ None → b ≡ Some line
+        → option_map_or Err (first_refusal (option_map errors.NeverPosted a ∷ option_map errors.Stuck b ∷ [])) (Ok (script_of heard)) ≡ Err (errors.Stuck line)
     by_parts a b line e k = rw e (rw k refl)
 
 pub told_ok : (heard : Heard) → unposted (saids heard) heard ≡ None → stuck_at (threads_of heard) ≡ None → told heard ≡ Ok (script_of heard)
 told_ok heard e k = by_parts (unposted (saids heard) heard) (stuck_at (threads_of heard)) e k
   where
-    by_parts : (a b : Option ℕ) → a ≡ None → b ≡ None → option_map_or Err (first_refusal (option_map errors.NeverPosted a ∷ option_map errors.Stuck b ∷ [])) (Ok (script_of heard)) ≡ Ok (script_of heard)
+    by_parts : (a b : Option ℕ) → a ≡ None → b ≡ None
+        → option_map_or Err (first_refusal (option_map errors.NeverPosted a ∷ option_map errors.Stuck b ∷ [])) (Ok (script_of heard)) ≡ Ok (script_of heard)
     by_parts a b e k = rw e (rw k refl)
 
 pub none_here : {A : Type 0} (o : Option A) → ((x : A) → o ≡ Some x → ⊥) → o ≡ None

@@ -8,7 +8,8 @@ use Rattle.pblk_model.specs.ScriptText.{Numbered, run_on, turn, turns, least_sta
 use Rattle.run_script.specs.declared.names.Names.{Names}
 use Rattle.run_script.specs.Names.{holds}
 use Rattle.run_script.specs.Turns.{AreListed, Passes, RunsOn, TakesTurn}
-use Rattle.run_script.proofs.RunOn.{run_on-past, run_on-stands, run_on-end, turn-end, turn-next, turn-stays, turns-stay, turns-next, none_listed}
+use Rattle.run_script.proofs.RunOn.{run_on-past, run_on-stands, turn-stays, none_listed}
+use Rattle.pblk_model.proofs.ScriptTextLemmas.{run_on-end, turn-end, turn-next, turns-next, turns-stay}
 
 -- A thread was run on to what is left of it.
 pub record IsRunOn (old now : Names) (thread left : Numbered) : Type 0 where
@@ -18,7 +19,8 @@ pub record IsRunOn (old now : Names) (thread left : Numbered) : Type 0 where
 pub run_on-start : (old : Names) (thread : Numbered) → IsRunOn old old thread thread
 run_on-start old thread = record { ran = λ posted are. (posted, are, refl); length = omega arith }
 
-pub run_on-goes : (old now next : Names) (thread left rest : Numbered) (n : ℕ) (c : Command) → IsRunOn old now thread left → left ≡ (n, c) ∷ rest → Passes now next c true → IsRunOn old next thread rest
+pub run_on-goes : (old now next : Names) (thread left rest : Numbered) (n : ℕ) (c : Command) → IsRunOn old now thread left → left ≡ (n, c) ∷ rest
+    → Passes now next c true → IsRunOn old next thread rest
 run_on-goes old now next thread left rest n c h is goes = record {
   ran = λ posted are.
       let here = h.ran posted are in
@@ -27,7 +29,8 @@ run_on-goes old now next thread left rest n c h is goes = record {
   length = omega (arith, h.length, ap length is);
 }
 
-pub run_on-stops : (old now next : Names) (thread left rest : Numbered) (n : ℕ) (c : Command) → IsRunOn old now thread left → left ≡ (n, c) ∷ rest → Passes now next c false → RunsOn old next thread left
+pub run_on-stops : (old now next : Names) (thread left rest : Numbered) (n : ℕ) (c : Command) → IsRunOn old now thread left → left ≡ (n, c) ∷ rest
+    → Passes now next c false → RunsOn old next thread left
 run_on-stops old now next thread left rest n c h is stays = λ posted are.
     let here = h.ran posted are in
     let none = stays here.0 here.1 in
@@ -56,20 +59,24 @@ turned-start old threads = record {
   stands = λ e. refl;
 }
 
-pub turned-next : (old now next : Names) (threads : List Numbered) (index : ℕ) (rests : List Numbered) (moved moved' : Bool) (thread rest : Numbered) → IsTurned old now threads index rests moved
+pub turned-next : (old now next : Names) (threads : List Numbered) (index : ℕ) (rests : List Numbered) (moved moved' : Bool) (thread rest : Numbered)
+    → IsTurned old now threads index rests moved
     → drop index threads ≡ thread ∷ drop (index + 1) threads → RunsOn now next thread rest → length rest ≤ length thread
     → (moved' ≡ true → (moved ≡ true) ⊎ (length rest < length thread)) → (moved' ≡ false → (moved ≡ false) × (length thread ≤ length rest))
     → IsTurned old next threads (index + 1) (rests ++ rest ∷ []) moved'
 turned-next old now next threads index rests moved moved' thread rest h at runs short moves stands =
-    let sums : sum_by length (drop index threads) ≡ length thread + sum_by length (drop (index + 1) threads) = ap (sum_by length) at ∙ sum_by-cons length thread (drop (index + 1) threads) in
-    let more_sums : sum_by length (rests ++ rest ∷ []) ≡ sum_by length rests + length rest = sum_by-append length rests (rest ∷ []) ∙ ap (λ k. sum_by length rests + k) (sum_by-cons length rest [] ∙ omega arith) in
+    let sums : sum_by length (drop index threads) ≡ length thread + sum_by length (drop (index + 1) threads) = ap (sum_by length) at
+    ∙ sum_by-cons length thread (drop (index + 1) threads) in
+    let more_sums : sum_by length (rests ++ rest ∷ []) ≡ sum_by length rests + length rest = sum_by-append length rests (rest ∷ [])
+    ∙ ap (λ k. sum_by length rests + k) (sum_by-cons length rest [] ∙ omega arith) in
     record {
       ran = λ posted are.
           let here = h.ran posted are in
           let ran = runs here.0 here.1 in
           let list = (run_on here.0 thread).0 in
           let later = turn list (drop (index + 1) threads) in
-          let turned : turn here.0 (drop index threads) ≡ (later.0, rest ∷ later.1) = ap (turn here.0) at ∙ turn-next here.0 thread (drop (index + 1) threads) ∙ ap (λ t. (later.0, t ∷ later.1)) (sym ran.1) in
+          let turned : turn here.0 (drop index threads) ≡ (later.0, rest ∷ later.1) = ap (turn here.0) at ∙ turn-next here.0 thread (drop (index + 1) threads)
+          ∙ ap (λ t. (later.0, t ∷ later.1)) (sym ran.1) in
           (list, ran.0, here.2 ∙ ap (λ r. (r.0, rests ++ r.1)) turned ∙ ap (λ t. (later.0, t)) (sym (append_assoc rests (rest ∷ []) later.1)));
       fewer = omega (arith, h.fewer, sums, more_sums, short);
       moves = λ e. elim (moves e) [
@@ -79,16 +86,20 @@ turned-next old now next threads index rests moved moved' thread rest h at runs 
       stands = λ e.
           let both = stands e in
           let same : length rest ≡ length thread = omega (arith, both.1, short) in
-          ap (λ ls. ls ++ map length (drop (index + 1) threads)) (map-append length rests (rest ∷ [])) ∙ append_assoc (map length rests) (length rest ∷ []) (map length (drop (index + 1) threads))
-          ∙ ap (λ k. map length rests ++ k ∷ map length (drop (index + 1) threads)) same ∙ ap (λ ts. map length rests ++ map length ts) (sym at) ∙ h.stands both.0;
+          ap (λ ls. ls ++ map length (drop (index + 1) threads)) (map-append length rests (rest ∷ []))
+          ∙ append_assoc (map length rests) (length rest ∷ []) (map length (drop (index + 1) threads))
+          ∙ ap (λ k. map length rests ++ k ∷ map length (drop (index + 1) threads)) same ∙ ap (λ ts. map length rests ++ map length ts) (sym at)
+          ∙ h.stands both.0;
     }
 
-pub turned-end : (old now : Names) (threads : List Numbered) (index : ℕ) (rests : List Numbered) (moved : Bool) → IsTurned old now threads index rests moved → drop index threads ≡ []
+pub turned-end : (old now : Names) (threads : List Numbered) (index : ℕ) (rests : List Numbered) (moved : Bool) → IsTurned old now threads index rests moved
+    → drop index threads ≡ []
     → TakesTurn old now threads rests × (moved ≡ true → sum_by length rests < sum_by length threads) × (moved ≡ false → map length rests ≡ map length threads)
 turned-end old now threads index rests moved h none = (
   λ posted are.
       let here = h.ran posted are in
-      let turned : turn posted threads ≡ (here.0, rests) = here.2 ∙ ap (λ ts. ((turn here.0 ts).0, rests ++ (turn here.0 ts).1)) none ∙ ap (λ r. (r.0, rests ++ r.1)) (turn-end here.0) ∙ ap (λ t. (here.0, t)) (append-nil rests) in
+      let turned : turn posted threads ≡ (here.0, rests) = here.2 ∙ ap (λ ts. ((turn here.0 ts).0, rests ++ (turn here.0 ts).1)) none
+      ∙ ap (λ r. (r.0, rests ++ r.1)) (turn-end here.0) ∙ ap (λ t. (here.0, t)) (append-nil rests) in
       (subst (AreListed now) (sym (ap (λ r. r.0) turned)) here.1, sym (ap (λ r. r.1) turned)),
   λ e. omega (arith, h.moves e),
   λ e. sym (append-nil (map length rests)) ∙ ap (λ ts. map length rests ++ map length ts) (sym none) ∙ h.stands e,
@@ -111,7 +122,8 @@ turns-start now threads left none is = record {
   same = ap (turns (sum_by length threads) []) is;
 }
 
-next_turn : (now next : Names) (threads left rest : List Numbered) (posted : List (List ℕ)) (more : ℕ) → AreListed now posted → sum_by length left ≤ more → turns more posted left ≡ turns (sum_by length threads) [] threads
+next_turn : (now next : Names) (threads left rest : List Numbered) (posted : List (List ℕ)) (more : ℕ) → AreListed now posted → sum_by length left ≤ more
+    → turns more posted left ≡ turns (sum_by length threads) [] threads
     → TakesTurn now next left rest → sum_by length rest < sum_by length left → AreTurned next threads rest
 next_turn now next threads left rest posted zero are enough same takes fewer = absurd (omega (arith, enough, fewer))
 next_turn now next threads left rest posted (suc more) are enough same takes fewer =
@@ -123,10 +135,12 @@ next_turn now next threads left rest posted (suc more) are enough same takes few
       same = ap (turns more (turn posted left).0) took.1 ∙ sym (turns-next more posted left) ∙ same;
     }
 
-pub turns-next_turn : (now next : Names) (threads left rest : List Numbered) → AreTurned now threads left → TakesTurn now next left rest → sum_by length rest < sum_by length left → AreTurned next threads rest
+pub turns-next_turn : (now next : Names) (threads left rest : List Numbered) → AreTurned now threads left → TakesTurn now next left rest
+    → sum_by length rest < sum_by length left → AreTurned next threads rest
 turns-next_turn now next threads left rest h takes fewer = next_turn now next threads left rest h.posted h.more h.listed h.enough h.same takes fewer
 
-pub turns-end : (now next : Names) (threads left rest : List Numbered) → AreTurned now threads left → TakesTurn now next left rest → map length rest ≡ map length left → least_standing left ≡ stuck_at threads
+pub turns-end : (now next : Names) (threads left rest : List Numbered) → AreTurned now threads left → TakesTurn now next left rest
+    → map length rest ≡ map length left → least_standing left ≡ stuck_at threads
 turns-end now next threads left rest h takes stands =
     let took = takes h.posted h.listed in
     let stays = turn-stays h.posted left (ap (map length) (sym took.1) ∙ stands) in

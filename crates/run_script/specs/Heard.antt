@@ -1,5 +1,5 @@
 -- What was heard of a script so far, as the reader keeps it.
-use Rattle.std.specs.Prelude.{ℕ, ◌≡◌, ◌<◌, ◌&&◌, ◌||◌, ◌+◌, ⊤, Bool, List, [], ◌∷◌, ◌++◌, length, Option, Some, None, Result, Ok, Err}
+use Rattle.std.specs.Prelude.{ℕ, ◌≡◌, ◌<◌, ◌&&◌, ◌||◌, ◌+◌, ⊤, Bool, List, [], ◌∷◌, ◌++◌, length, Option, Some, None, Result, Ok, Err, IsOk}
 use Rattle.std.specs.List.{list_any}
 use Rattle.std.specs.Option.{option_to_list, option_map, option_map_or}
 use Rattle.std.specs.Str.{bytes_eq}
@@ -62,10 +62,10 @@ abbrev pub placed_at : ℕ → List Said → ℕ → Bool → Option Said → Re
 placed_at capacity before n early None = Err (errors.Form n)
 placed_at capacity before n early (Some said) = option_map_or Err (refusal_of capacity before n early said) (Ok (n, said))
 
--- a line was heard after others, or refused
+-- A line was heard after others, or refused. There was no memory for it only where it isn't refused.
 abbrev pub Places : Result Unit ScriptErr → Reader → Heard → Result (ℕ × Said) ScriptErr → Type 0
 Places (Ok done) reader before placed = (x : ℕ × Said) × (placed ≡ Ok x) × IsRead reader (before ++ x ∷ [])
-Places (Err e) reader before placed = Refuses e placed
+Places (Err e) reader before placed = Refuses e placed × (e ≡ errors.Memory → IsOk placed)
 
 -- the thread that is open gets a command
 abbrev pub Adds : Reader → Reader → ℕ → Command → Type 0

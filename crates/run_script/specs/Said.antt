@@ -13,8 +13,8 @@ said_of Thread = text.Thread
 said_of (Write lba count tag) = text.Commands (commands.Write lba count tag)
 said_of (Read lba count) = text.Commands (commands.Read lba count)
 said_of Flush = text.Commands commands.Flush
-said_of (Post name) = text.Commands (commands.Post name)
-said_of (Await name) = text.Commands (commands.Await name)
+said_of (Post name) = text.Commands (commands.Post name.now)
+said_of (Await name) = text.Commands (commands.Await name.now)
 
 -- a count that a command can have
 abbrev pub HasCount : Said → Type 0

@@ -7,7 +7,7 @@ ghost use Rattle.pblk_model.specs.declared.script.Command.{Command};
 ghost use Rattle.pblk_model.specs.Script.{NeverStuck, ScriptFits};
 ghost use Rattle.pblk_model.specs.ScriptText.{IsScript, Heard, heard_after, is_skipped, spoken, read_script};
 ghost use Rattle.run_script.specs.Heard.{IsRead};
-ghost use Rattle.run_script.specs.Reading.{Gives, Refuses};
+ghost use Rattle.run_script.specs.Reading.{BeginsWell, Gives, Refuses};
 
 mod names;
 mod number;
@@ -39,10 +39,13 @@ const MOST_BYTES: u64 = 4_194_304;
 /// to 16, or begins past the first 4,194,304 bytes; `Range` where LBA + COUNT is above the
 /// capacity. Then come `NeverPosted`, with the least line that awaits a name that nobody posts,
 /// and `Stuck`, with the least line at which a thread waits for ever when the threads are run on,
-/// in turns, until nothing moves. `Memory` where there was none.
+/// in turns, until nothing moves. `Memory` where there was none to keep what a line says, which
+/// then isn't refused, or to run the threads on.
 pub fn read_script(alloc: Global, bytes: &[u8], capacity: u64) -> Result<Script, ScriptErr>
     // The answer is what the definition gives, unless memory ran out.
     ensures read { Gives result (read_script capacity bytes.now) }
+    // Memory runs out only after a line that isn't refused.
+    ensures memory { result ≡ Err ScriptErr.Memory → BeginsWell capacity bytes.now }
     ensures script { IfOk result (λ script. IsScript capacity bytes.now script) }
 
     // What is read is spelled so, fits the target, and its threads never get stuck.
@@ -61,7 +64,8 @@ pub fn read_script(alloc: Global, bytes: &[u8], capacity: u64) -> Result<Script,
 
 // The script, or the first refusal.
 fn judge(alloc: Global, bytes: &[u8], capacity: u64) -> Result<Script, ScriptErr>
-    ensures { Gives result (read_script capacity bytes.now) }
+    ensures read { Gives result (read_script capacity bytes.now) }
+    ensures memory { result ≡ Err ScriptErr.Memory → BeginsWell capacity bytes.now }
 {
     read_lines(alloc, bytes, capacity)?.finish(alloc)
 }
@@ -71,6 +75,7 @@ fn read_lines(alloc: Global, bytes: &[u8], capacity: u64) -> Result<Reader, Scri
     ensures read { IfOk result (λ reader. (heard : Heard)
         × IsRead reader heard × (heard_after capacity [] (spoken bytes.now) ≡ Ok heard)) }
     ensures refused { IfErr result (λ e. Refuses e (heard_after capacity [] (spoken bytes.now))) }
+    ensures memory { result ≡ Err ScriptErr.Memory → BeginsWell capacity bytes.now }
 {
     let mut reader = Reader::new(alloc, capacity);
     let mut number: u32 = 1;

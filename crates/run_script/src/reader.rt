@@ -2,7 +2,7 @@
 
 ghost use Rattle.std.specs.Prelude.{◌≡◌, ◌++◌, ◌∷◌, [], ◌<◌, ◌+◌, length, List, ℕ, Bool, Some, None, Ok, Err, IfOk, IfNone, OnOk, IfErr, ◌≤◌, min, ◌^◌, ◌-◌, IsTrue};
 ghost use Rattle.std.specs.Option.{option_map, option_map_or};
-ghost use Rattle.pblk_model.specs.ScriptText.{Heard, saids, form_holds, limit_holds, range_holds, said_in, script_of, posts_refusal};
+ghost use Rattle.pblk_model.specs.ScriptText.{Heard, saids, form_holds, limit_holds, range_holds, said_in, script_of, posts_refusal, unposted};
 ghost use Rattle.run_script.specs.Heard.{IsRead, threads_kept, refusal_of, HasRoom, Hears, placed_at, Places};
 ghost use Rattle.run_script.specs.Reading.{Gives};
 ghost use Rattle.run_script.specs.Said.{said_of};
@@ -10,8 +10,8 @@ ghost use Rattle.run_script.specs.Said.{said_of};
 use crate::names::Names;
 use crate::said::{Said, said_in};
 use crate::thread::{Thread, script_of};
-use crate::turns::{stuck_at, unposted};
-use pblk_model::{Command, Script, ScriptErr};
+use crate::turns::{stuck_at, unposted, unposted_in};
+use pblk_model::{Command, PostName, Script, ScriptErr};
 use std::alloc::{AllocError, Global};
 
 /// How many threads a script may have.
@@ -55,7 +55,8 @@ impl Reader {
     /// Refused, in this order: `Form` where the line has no known form, or is a command before the
     /// first thread, or posts a name a second time; `Limit` where it isn't early, or is a thread
     /// or a command too many, or names too many sectors or none; `Range` where its sectors aren't
-    /// all below the capacity. `Memory` where there was none.
+    /// all below the capacity. `Memory` where there was none to keep what the line says, which then
+    /// isn't refused.
     pub(crate) fn read_line(
         &mut self,
         alloc: Global,
@@ -68,10 +69,7 @@ impl Reader {
             → Places result self.new before
             (placed_at self.old.capacity (saids before) number early (said_in line.now)) }
     {
-        let Ok(said) = said_in(alloc, line) else {
-            return Err(ScriptErr::Memory);
-        };
-        let Some(said) = said else {
+        let Some(said) = said_in(line) else {
             return Err(ScriptErr::Form(number));
         };
         if let Some(refusal) = self.refusal(number, early, &said) {
@@ -84,7 +82,7 @@ impl Reader {
     }
 
     // Why a line is refused.
-    fn refusal(&self, number: u32, early: bool, said: &Said) -> Option<ScriptErr>
+    fn refusal(&self, number: u32, early: bool, said: &Said<'_>) -> Option<ScriptErr>
         ensures refused { (before : Heard) → IsRead self.now before
             → result ≡ refusal_of self.now.capacity (saids before) number early (said_of said.now) }
         ensures room { IfNone result (HasRoom self.now said.now) }
@@ -103,13 +101,13 @@ impl Reader {
 
     // Whether a line stands where it may: a command in a thread, and a post of a name that wasn't
     // posted yet.
-    fn form_holds(&self, said: &Said) -> bool
+    fn form_holds(&self, said: &Said<'_>) -> bool
         ensures { (before : Heard) → IsRead self.now before
             → result ≡ form_holds (saids before) (said_of said.now) }
     {
         match said {
             Said::Thread => true,
-            Said::Post(name) => self.current.is_some() && !self.names.contains(name.as_str()),
+            Said::Post(name) => self.current.is_some() && !self.names.contains(name),
             Said::Write { .. } | Said::Read { .. } | Said::Flush | Said::Await(_) => {
                 self.current.is_some()
             }
@@ -117,7 +115,7 @@ impl Reader {
     }
 
     // Whether a line is within the limits on threads, commands and sectors.
-    fn limit_holds(&self, said: &Said) -> bool
+    fn limit_holds(&self, said: &Said<'_>) -> bool
         ensures limit { (before : Heard) → IsRead self.now before
             → result ≡ limit_holds (saids before) (said_of said.now) }
         ensures room { IsTrue result → HasRoom self.now said.now }
@@ -142,10 +140,10 @@ impl Reader {
     }
 
     // Keeps what a line says.
-    fn hear(&mut self, alloc: Global, number: u32, said: Said) -> Result<(), AllocError>
+    fn hear(&mut self, alloc: Global, number: u32, said: Said<'_>) -> Result<(), AllocError>
         requires { HasRoom self.old said }
         ensures capacity { self.new.capacity ≡ self.old.capacity }
-        ensures heard { OnOk result (Hears self.old self.new number (said_of said)) }
+        ensures heard { OnOk result (Hears self.old self.new number (said_of said.entry)) }
     {
         match said {
             Said::Thread => self.begin(alloc),
@@ -159,10 +157,10 @@ impl Reader {
             }
             Said::Flush => self.add(number, Command::Flush),
             Said::Post(name) => {
-                self.names.insert(alloc, name.as_str())?;
-                self.add(number, Command::Post(name))
+                self.names.insert(alloc, name)?;
+                self.add(number, Command::Post(name_of(alloc, name)?))
             }
-            Said::Await(name) => self.add(number, Command::Await(name)),
+            Said::Await(name) => self.add(number, Command::Await(name_of(alloc, name)?)),
         }
     }
 
@@ -198,18 +196,20 @@ impl Reader {
     }
 
     /// The script whose lines were read. Refused: `NeverPosted` where a line awaits a name that
-    /// nobody posts; `Stuck` where a thread waits for ever; `Memory` where there was none.
+    /// nobody posts; `Stuck` where a thread waits for ever; `Memory` where there was none, which
+    /// comes only where each name that is awaited is posted.
     pub(crate) fn finish(self, alloc: Global) -> Result<Script, ScriptErr>
-        ensures { (heard : Heard) → IsRead self heard
+        ensures answer { (heard : Heard) → IsRead self heard
             → Gives result (option_map_or Err (posts_refusal heard) (Ok (script_of heard))) }
+        ensures memory { (heard : Heard) → IsRead self heard
+            → result ≡ Err ScriptErr.Memory → unposted (saids heard) heard ≡ None }
     {
-        let (threads, names) = match self.into_threads() {
-            Ok(parts) => parts,
-            Err(_) => return Err(ScriptErr::Memory),
-        };
-        if let Some(line) = unposted(&names, threads.as_slice()) {
+        if let Some(line) = self.unposted() {
             return Err(ScriptErr::NeverPosted(line));
         }
+        let Ok(threads) = self.into_threads() else {
+            return Err(ScriptErr::Memory);
+        };
         let Ok(stuck) = stuck_at(alloc, threads.as_slice()) else {
             return Err(ScriptErr::Memory);
         };
@@ -222,27 +222,42 @@ impl Reader {
         }
     }
 
-    // The threads and the names that were posted.
-    fn into_threads(self) -> Result<(Vec<Thread>, Names), AllocError>
-        ensures threads { IfOk result (λ parts. parts.0.items ≡ threads_kept self) }
-        ensures names { IfOk result (λ parts. parts.1 ≡ self.names) }
+    // The least line that awaits a name that nobody posts.
+    fn unposted(&self) -> Option<u32>
+        ensures { (heard : Heard) → IsRead self.now heard
+            → result ≡ unposted (saids heard) heard }
     {
-        let Reader {
-            ended,
-            current,
-            names,
-            ..
-        } = self;
+        match unposted(&self.names, self.ended.as_slice()) {
+            Some(line) => Some(line),
+            None => match &self.current {
+                Some(thread) => unposted_in(&self.names, thread.as_slice()),
+                None => None,
+            },
+        }
+    }
+
+    // The threads.
+    fn into_threads(self) -> Result<Vec<Thread>, AllocError>
+        ensures { IfOk result (λ threads. threads.items ≡ threads_kept self) }
+    {
+        let Reader { ended, current, .. } = self;
         let mut threads = ended;
         if let Some(thread) = current {
             threads.push(thread)?;
         }
-        Ok((threads, names))
+        Ok(threads)
     }
 }
 
+// The name that stands in a line, as a command keeps it.
+fn name_of(alloc: Global, name: &str) -> Result<PostName, AllocError>
+    ensures { IfOk result (λ kept. kept ≡ name.now) }
+{
+    Ok(PostName::new(String::from_str(alloc, name)?))
+}
+
 // Whether the sectors of a line are those of a target of this capacity.
-fn range_holds(capacity: u64, said: &Said) -> bool
+fn range_holds(capacity: u64, said: &Said<'_>) -> bool
     ensures { result ≡ range_holds capacity (said_of said.now) }
 {
     match said {

@@ -1,6 +1,6 @@
 //! What a line of a script says.
 
-ghost use Rattle.std.specs.Prelude.{◌≡◌, [], ◌∷◌, IfOk};
+ghost use Rattle.std.specs.Prelude.{◌≡◌, [], ◌∷◌};
 ghost use Rattle.std.specs.Option.{option_map};
 ghost use Rattle.pblk_model.specs.declared.script.Command.TheVariants as commands;
 ghost use Rattle.pblk_model.specs.ScriptText.{Commands, is_name_byte, name_of, said_by, said_in};
@@ -8,53 +8,50 @@ ghost use Rattle.run_script.specs.Said.{said_of, is_name};
 
 use crate::number::number_of;
 use crate::words::Words;
-use pblk_model::PostName;
-use std::alloc::{AllocError, Global};
 
-/// What a line says. The counts are as the line has them.
-#[derive(Drop)]
-pub(crate) enum Said {
+/// What a line says. The counts are as the line has them, and a name stands in the line: nothing is
+/// copied before the line is accepted.
+#[derive(Clone, Copy)]
+pub(crate) enum Said<'a> {
     /// The next thread begins.
     Thread,
     Write { lba: u64, count: u64, tag: u64 },
     Read { lba: u64, count: u64 },
     Flush,
-    Post(PostName),
-    Await(PostName),
+    Post(&'a str),
+    Await(&'a str),
 }
 
 /// What a line says, if it has a form of a script's lines.
-pub(crate) fn said_in(alloc: Global, line: &[u8]) -> Result<Option<Said>, AllocError>
-    ensures { IfOk result (λ said. option_map said_of said ≡ said_in line.now) }
+pub(crate) fn said_in(line: &[u8]) -> Option<Said<'_>>
+    ensures { option_map said_of result ≡ said_in line.now }
 {
-    said_by(alloc, Words::of(line))
+    said_by(Words::of(line))
 }
 
 // What the words of a line say.
-fn said_by(alloc: Global, words: Words<'_>) -> Result<Option<Said>, AllocError>
-    ensures { IfOk result (λ said. option_map said_of said ≡ said_by words.entry) }
+fn said_by(words: Words<'_>) -> Option<Said<'_>>
+    ensures { option_map said_of result ≡ said_by words.entry }
 {
     let mut words = words;
-    let Some(word) = words.next() else {
-        return Ok(None);
-    };
+    let word = words.next()?;
     let Some(first) = words.next() else {
-        return Ok(said_alone(word));
+        return said_alone(word);
     };
     let Some(second) = words.next() else {
-        return said_of_name(alloc, word, first);
+        return said_of_name(word, first);
     };
     let Some(third) = words.next() else {
-        return Ok(said_of_range(word, first, second));
+        return said_of_range(word, first, second);
     };
     if words.next().is_some() {
-        return Ok(None);
+        return None;
     }
-    Ok(said_of_tag(word, first, second, third))
+    said_of_tag(word, first, second, third)
 }
 
 // What a lone word says.
-fn said_alone(word: &[u8]) -> Option<Said>
+fn said_alone<'a>(word: &[u8]) -> Option<Said<'a>>
     ensures { option_map said_of result ≡ said_by (word.now ∷ []) }
 {
     if word == b"thread".as_slice() {
@@ -67,21 +64,22 @@ fn said_alone(word: &[u8]) -> Option<Said>
 }
 
 // What a word and a name say.
-fn said_of_name(alloc: Global, word: &[u8], name: &[u8]) -> Result<Option<Said>, AllocError>
-    ensures { IfOk result (λ said. option_map said_of said ≡ said_by (word.now ∷ name.now ∷ [])) }
+fn said_of_name<'a>(word: &[u8], name: &'a [u8]) -> Option<Said<'a>>
+    ensures { option_map said_of result ≡ said_by (word.now ∷ name.now ∷ []) }
 {
     if word == b"post".as_slice() {
-        Ok(post_of(name_of(alloc, name)?))
+        post_of(name_of(name))
     } else if word == b"await".as_slice() {
-        Ok(await_of(name_of(alloc, name)?))
+        await_of(name_of(name))
     } else {
-        Ok(None)
+        None
     }
 }
 
 // The post of a name.
-fn post_of(name: Option<PostName>) -> Option<Said>
-    ensures { option_map said_of result ≡ option_map (λ name. Commands (commands.Post name)) name }
+fn post_of(name: Option<&str>) -> Option<Said<'_>>
+    ensures { option_map said_of result
+        ≡ option_map (λ name. Commands (commands.Post name.now)) name.entry }
 {
     match name {
         Some(name) => Some(Said::Post(name)),
@@ -90,8 +88,9 @@ fn post_of(name: Option<PostName>) -> Option<Said>
 }
 
 // The await of a name.
-fn await_of(name: Option<PostName>) -> Option<Said>
-    ensures { option_map said_of result ≡ option_map (λ name. Commands (commands.Await name)) name }
+fn await_of(name: Option<&str>) -> Option<Said<'_>>
+    ensures { option_map said_of result
+        ≡ option_map (λ name. Commands (commands.Await name.now)) name.entry }
 {
     match name {
         Some(name) => Some(Said::Await(name)),
@@ -100,7 +99,7 @@ fn await_of(name: Option<PostName>) -> Option<Said>
 }
 
 // What a word and the two numbers of a range say.
-fn said_of_range(word: &[u8], lba: &[u8], count: &[u8]) -> Option<Said>
+fn said_of_range<'a>(word: &[u8], lba: &[u8], count: &[u8]) -> Option<Said<'a>>
     ensures { option_map said_of result ≡ said_by (word.now ∷ lba.now ∷ count.now ∷ []) }
 {
     if word != b"r".as_slice() {
@@ -112,7 +111,7 @@ fn said_of_range(word: &[u8], lba: &[u8], count: &[u8]) -> Option<Said>
 }
 
 // What a word, a range and a tag say.
-fn said_of_tag(word: &[u8], lba: &[u8], count: &[u8], tag: &[u8]) -> Option<Said>
+fn said_of_tag<'a>(word: &[u8], lba: &[u8], count: &[u8], tag: &[u8]) -> Option<Said<'a>>
     ensures { option_map said_of result ≡ said_by (word.now ∷ lba.now ∷ count.now ∷ tag.now ∷ []) }
 {
     if word != b"w".as_slice() {
@@ -125,16 +124,16 @@ fn said_of_tag(word: &[u8], lba: &[u8], count: &[u8], tag: &[u8]) -> Option<Said
 }
 
 // The name that a word is: 1 to 16 lower-case letters or digits.
-fn name_of(alloc: Global, word: &[u8]) -> Result<Option<PostName>, AllocError>
-    ensures { IfOk result (λ name. name ≡ name_of word.now) }
+fn name_of(word: &[u8]) -> Option<&str>
+    ensures { option_map (λ name. name.now) result ≡ name_of word.now }
 {
     if !is_name(word) {
-        return Ok(None);
+        return None;
     }
-    let Ok(text) = std::str::from_utf8(word) else {
-        return Ok(None);
+    let Ok(name) = std::str::from_utf8(word) else {
+        return None;
     };
-    Ok(Some(PostName::new(String::from_str(alloc, text)?)))
+    Some(name)
 }
 
 // Whether a word is a name.

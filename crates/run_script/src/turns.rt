@@ -25,8 +25,8 @@ pub(crate) fn unposted(names: &Names, threads: &[Thread]) -> Option<u32>
     None
 }
 
-// The least line of a thread that awaits a name that nobody posts.
-fn unposted_in(names: &Names, thread: &[Numbered]) -> Option<u32>
+/// The least line of a thread that awaits a name that nobody posts.
+pub(crate) fn unposted_in(names: &Names, thread: &[Numbered]) -> Option<u32>
     ensures { (all : List Said) → ArePosted names.now all
         → result ≡ unposted all (lifted thread.now) }
 {

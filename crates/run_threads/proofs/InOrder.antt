@@ -1,5 +1,5 @@
 -- The posts and awaits of a script of one thread.
-use Rattle.std.proofs.Common.{ℕ, zero, suc, ◌+◌, ◌-◌, ◌<◌, ◌≤◌, ◌≡◌, ◌≢◌, ◌||◌, Bool, true, false, List, [], ◌∷◌, ◌++◌, length, Some, None, is_some, slice_get, ◌⊎◌, ⊎_elim, inl, inr, sym, refl, ap, ◌∙◌, arith}
+use Rattle.std.proofs.Common.{ℕ, zero, suc, ◌+◌, ◌-◌, ◌<◌, ◌≤◌, ◌≡◌, ◌≢◌, ◌||◌, true, false, List, [], ◌∷◌, ◌++◌, length, Some, None, is_some, slice_get, ◌⊎◌, ⊎_elim, sym, refl, ap, ◌∙◌, arith}
 use Rattle.std.proofs.lemmas.Bool.{cases_Bool, cases_lt, false≢true}
 use Rattle.std.proofs.lemmas.List.{append_assoc}
 use Rattle.std.proofs.lemmas.Option.{same_Some}
@@ -10,6 +10,7 @@ use Rattle.pblk_model.specs.Script.{ScriptFits, NeverStuck, command_at}
 use Rattle.run_threads.specs.Board.{posts, posts_in, IsReady, AreInOrder}
 use Rattle.run_threads.proofs.Running.{order_ext, same_bytes}
 use Rattle.run_threads.proofs.Names.{posts_last}
+use Rattle.lemmas.proofs.Tests.{either, or_true}
 
 get_before : (before rest : List Command) (i : ℕ) → i < length before → slice_get (before ++ rest) i ≡ slice_get before i
 get_before [] rest i below = absurd (omega (arith, below))
@@ -22,10 +23,6 @@ get_next (b ∷ before) c rest = get_next before c rest
 
 none_some : {X : Type 0} {x : X} → None ≢ Some x
 none_some e = false≢true (ap is_some e)
-
-or_true : (b : Bool) → (b || true) ≡ true
-or_true true = refl
-or_true false = refl
 
 -- a command that is found posts the name
 there : (name : List ℕ) (before : List Command) (i : ℕ) → slice_get before i ≡ Some (Post name) → posts_in name before ≡ true
@@ -40,11 +37,6 @@ posts_this name Flush h = absurd (false≢true h)
 posts_this name (Post other) h = ap Post ((bytes_decides other name).0 h)
 posts_this name (Await other) h = absurd (false≢true h)
 
--- a name that is posted is found
-in_or : (a b : Bool) → (a || b) ≡ true → (a ≡ true) ⊎ (b ≡ true)
-in_or true b h = inl refl
-in_or false b h = inr h
-
 abbrev FoundIn : List ℕ → List Command → Type 0
 FoundIn name before = (i : ℕ) × (i < length before) × (slice_get before i ≡ Some (Post name))
 
@@ -56,7 +48,8 @@ found_later name c before f = (suc f.0, omega (arith, f.1), f.2)
 
 found : (name : List ℕ) (before : List Command) → posts_in name before ≡ true → FoundIn name before
 found name [] h = absurd (false≢true h)
-found name (c ∷ before) h = ⊎_elim (λ here. found_here name c before (posts_this name c here)) (λ later. found_later name c before (found name before later)) (in_or (posts name c) (posts_in name before) h)
+found name (c ∷ before) h = ⊎_elim (λ here. found_here name c before (posts_this name c here)) (λ later. found_later name c before (found name before later))
+    (either (posts name c) (posts_in name before) h)
 
 -- what is needed of a thread
 pub record IsOrdered (thread : List Command) : Type 0 where
@@ -80,7 +73,8 @@ is_posted thread before rest name ordered is =
     let f = ordered.first (length before) name (rw is (get_next before (Await name) rest)) in
     there name before f.0 (sym (get_before before (Await name ∷ rest) f.0 f.2) ∙ (rw is at f.1))
 
-ready : (thread before : List Command) (c : Command) (rest : List Command) → IsOrdered thread → thread ≡ before ++ c ∷ rest → IsReady (λ name. posts_in name before) c
+ready : (thread before : List Command) (c : Command) (rest : List Command) → IsOrdered thread → thread ≡ before ++ c ∷ rest
+    → IsReady (λ name. posts_in name before) c
 ready thread before (Write lba count tag) rest ordered is = tt
 ready thread before (Read lba count) rest ordered is = tt
 ready thread before Flush rest ordered is = tt
@@ -90,8 +84,11 @@ ready thread before (Await name) rest ordered is = is_posted thread before rest 
 in_order_from : (thread before rest : List Command) → IsOrdered thread → thread ≡ before ++ rest → AreInOrder (λ name. posts_in name before) rest
 in_order_from thread before [] ordered is = tt
 in_order_from thread before (c ∷ rest) ordered is =
-    let later = in_order_from thread (before ++ c ∷ []) rest ordered (is ∙ sym (append_assoc before (c ∷ []) rest)) in
-    (ready thread before c rest ordered is, order_ext (λ name. posts_in name (before ++ c ∷ [])) (λ name. posts name c || posts_in name before) rest (λ name. posts_last name before c) later)
+    let later = in_order_from thread (before ++ c ∷ []) rest ordered (is ∙ sym (append_assoc before (c ∷ []) rest)) in (
+      ready thread before c rest ordered is,
+      order_ext (λ name. posts_in name (before ++ c ∷ [])) (λ name. posts name c || posts_in name before) rest
+          (λ name. posts_last name before c) later,
+    )
 
 pub in_order : (thread : List Command) → IsOrdered thread → AreInOrder (λ name. false) thread
 in_order thread ordered = in_order_from thread [] thread ordered refl
@@ -100,12 +97,14 @@ in_order thread ordered = in_order_from thread [] thread ordered refl
 
 later_time : (time : ℕ → ℕ) → ((c : ℕ) → time c < time (c + 1)) → (c k : ℕ) → time c ≤ time (c + k)
 later_time time rise c zero = let e : c + 0 ≡ c = omega arith in rw e (omega arith)
-later_time time rise c (suc k) = let e : c + suc k ≡ c + k + 1 = omega arith in let before = later_time time rise c k in let last = rise (c + k) in rw e (omega (arith, before, last))
+later_time time rise c (suc k) = let e : c + suc k ≡ c + k + 1 = omega arith in let before = later_time time rise c k in let last = rise (c + k) in
+    rw e (omega (arith, before, last))
 
 sooner : (time : ℕ → ℕ) → ((c : ℕ) → time c < time (c + 1)) → (c d : ℕ) → time c < time d → c < d
 sooner time rise c d h =
     ⊎_elim (λ below. below)
-    (λ (above : d ≤ c). let e : c ≡ d + (c - d) = omega (arith, above) in let l : time d ≤ time c = rw e (later_time time rise d (c - d)) in absurd (omega (arith, h, l)))
+    (λ (above : d ≤ c). let e : c ≡ d + (c - d) = omega (arith, above) in let l : time d ≤ time c = rw e (later_time time rise d (c - d)) in
+    absurd (omega (arith, h, l)))
     (cases_lt c d)
 
 -- the one thread has all commands

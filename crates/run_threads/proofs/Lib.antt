@@ -4,3 +4,4 @@ mod Running
 mod InOrder
 mod Laws
 mod Whole
+pub mod RunLemmas

@@ -17,7 +17,8 @@ pub some_update : (b : Bool) (n : Option Note) (old : Option (Option Note)) → 
 some_update true n old = refl
 some_update false n old = refl
 
-pub note_update : (b : Bool) (n : Option Note) (old : Option (Option Note)) → position_in (cond b (Some n) old) ≡ cond b (position_in (Some n)) (position_in old)
+pub note_update : (b : Bool) (n : Option Note) (old : Option (Option Note))
+    → position_in (cond b (Some n) old) ≡ cond b (position_in (Some n)) (position_in old)
 note_update true n old = refl
 note_update false n old = refl
 
@@ -45,5 +46,6 @@ pub posts_last : (name : List ℕ) (before : List Command) (c : Command) → pos
 posts_last name [] c = refl
 posts_last name (b ∷ before) c = ap (λ p. posts name b || p) (posts_last name before c) ∙ or_flip (posts name c) (posts name b) (posts_in name before)
 
-pub posts_more : (name : List ℕ) (commands : List Command) (k : ℕ) (d : Command) → k < length commands → posts_in name (take (k + 1) commands) ≡ (posts name (get_or commands k d) || posts_in name (take k commands))
+pub posts_more : (name : List ℕ) (commands : List Command) (k : ℕ) (d : Command) → k < length commands
+    → posts_in name (take (k + 1) commands) ≡ (posts name (get_or commands k d) || posts_in name (take k commands))
 posts_more name commands k d h = rw (take_more commands k d h) (posts_last name (take k commands) (get_or commands k d))

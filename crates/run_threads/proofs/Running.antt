@@ -1,8 +1,7 @@
 -- The commands of a thread, run one after another.
 use Rattle.std.proofs.lemmas.List.{take_more}
 use Rattle.std.specs.Option.{option_map_or}
-use Rattle.std.proofs.Common.{ℕ, zero, suc, take, drop, get_or, ◌+◌, ◌<◌, ◌≡◌, ◌||◌, Bool, true, false, List, [], ◌∷◌, ◌++◌, length, Option, Some, None, is_some, Vec, subst, sym, refl, ap, ◌∙◌, arith}
-use Rattle.std.proofs.lemmas.Bool.{false≢true}
+use Rattle.std.proofs.Common.{ℕ, suc, take, get_or, ◌+◌, ◌<◌, ◌≡◌, ◌||◌, Bool, true, false, List, [], ◌∷◌, ◌++◌, length, None, is_some, Vec, subst, sym, refl, ap, ◌∙◌}
 use Rattle.std.specs.Cmp.Lexicographic.{bytes_decides}
 use Rattle.std.specs.Global.{Global}
 use Rattle.std.specs.List.{AllByRecursion}
@@ -17,10 +16,8 @@ use Rattle.run_threads.specs.declared.records.Word.{Word}
 use Rattle.run_threads.specs.Board.{note_at, has_name, posts, posts_in, IsAgreed, MayRun, AreInOrder}
 use Rattle.run_threads.specs.Rooms.{HasRoom, HaveRoom}
 use Rattle.run_threads.specs.Run.{Answers, Runs}
-
-or_true : (b : Bool) → (b || true) ≡ true
-or_true true = refl
-or_true false = refl
+use Rattle.lemmas.proofs.Options.{not_noted}
+use Rattle.lemmas.proofs.Tests.{or_true}
 
 pub same_bytes : (name : List ℕ) → bytes_eq name name ≡ true
 same_bytes name = (bytes_decides name name).1 refl
@@ -38,11 +35,16 @@ order_ext p q [] same h = tt
 order_ext p q (Write lba count tag ∷ cs) same h = (tt, order_ext p q cs same h.1)
 order_ext p q (Read lba count ∷ cs) same h = (tt, order_ext p q cs same h.1)
 order_ext p q (Flush ∷ cs) same h = (tt, order_ext p q cs same h.1)
-order_ext p q (Post name ∷ cs) same h = (sym (same name) ∙ h.0, order_ext (λ n. bytes_eq name n || p n) (λ n. bytes_eq name n || q n) cs (λ n. ap (λ b. bytes_eq name n || b) (same n)) h.1)
+order_ext p q (Post name ∷ cs) same h = (
+  sym (same name)
+      ∙ h.0,
+  order_ext (λ n. bytes_eq name n || p n) (λ n. bytes_eq name n || q n) cs (λ n. ap (λ b. bytes_eq name n || b) (same n)) h.1,
+)
 order_ext p q (Await name ∷ cs) same h = (sym (same name) ∙ h.0, order_ext p q cs same h.1)
 
 -- what stands when some commands of a thread have been run
-pub record IsRunning (start now : ModelPort) (before rest : List Command) (answers : List Answer) (rooms : List (Vec Word Global)) (board : Board) : Type 0 where
+pub record IsRunning (start now : ModelPort) (before rest : List Command) (answers : List Answer) (rooms : List (Vec Word Global))
+    (board : Board) : Type 0 where
   pub runs : (told : List ℕ → ℕ) → IsAgreed told board → Runs told start before answers now
   pub fits : AllByRecursion (CommandFits now.capacity) rest
   pub rooms_left : HaveRoom rest rooms
@@ -50,7 +52,8 @@ pub record IsRunning (start now : ModelPort) (before rest : List Command) (answe
   pub names : (name : List ℕ) → posts_in name rest ≡ true → has_name board name ≡ true
 
 pub starts : (m : ModelPort) (cs : List Command) (rooms : List (Vec Word Global)) (board : Board)
-    → AllByRecursion (CommandFits m.capacity) cs → HaveRoom cs rooms → AreInOrder (λ name. false) cs → ((name : List ℕ) → posts_in name cs ≡ true → has_name board name ≡ true) → ((name : List ℕ) → note_at board name ≡ None)
+    → AllByRecursion (CommandFits m.capacity) cs → HaveRoom cs rooms → AreInOrder (λ name. false) cs
+    → ((name : List ℕ) → posts_in name cs ≡ true → has_name board name ≡ true) → ((name : List ℕ) → note_at board name ≡ None)
     → IsRunning m m [] cs [] rooms board
 starts m cs rooms board fits room order names blank = record {
   runs = λ told agreed. refl;
@@ -63,12 +66,9 @@ starts m cs rooms board fits room order names blank = record {
 pub posted_either : (name : List ℕ) (c : Command) (rest : List Command) → posts_in name rest ≡ true → posts_in name (c ∷ rest) ≡ true
 posted_either name c rest there = rw there (or_true (posts name c))
 
-not_noted : (o : Option ℕ) → is_some o ≡ false → o ≡ None
-not_noted None h = refl
-not_noted (Some x) h = absurd (false≢true (sym h))
-
 -- a command may be run next
-pub may_run : (start now : ModelPort) (before : List Command) (c : Command) (rest : List Command) (answers : List Answer) (rooms : List (Vec Word Global)) (board : Board)
+pub may_run : (start now : ModelPort) (before : List Command) (c : Command) (rest : List Command) (answers : List Answer) (rooms : List (Vec Word Global))
+    (board : Board)
     → IsRunning start now before (c ∷ rest) answers rooms board → MayRun board c
 may_run start now before (Write lba count tag) rest answers rooms board h = tt
 may_run start now before (Read lba count) rest answers rooms board h = tt
@@ -76,7 +76,8 @@ may_run start now before Flush rest answers rooms board h = tt
 may_run start now before (Post name) rest answers rooms board h = (h.names name (rw (same_bytes name) refl), not_noted (note_at board name) h.order.0)
 may_run start now before (Await name) rest answers rooms board h = h.order.0
 
-pub steps : (start mid new : ModelPort) (before : List Command) (c : Command) (rest : List Command) (answers : List Answer) (a : Answer) (room : Vec Word Global) (rooms : List (Vec Word Global)) (board after : Board)
+pub steps : (start mid new : ModelPort) (before : List Command) (c : Command) (rest : List Command) (answers : List Answer) (a : Answer)
+    (room : Vec Word Global) (rooms : List (Vec Word Global)) (board after : Board)
     → IsRunning start mid before (c ∷ rest) answers (room ∷ rooms) board
     → ((told : List ℕ → ℕ) → IsAgreed told after → Answers told mid c a new)
     → ((told : List ℕ → ℕ) → IsAgreed told after → IsAgreed told board)
@@ -101,23 +102,20 @@ agreed_by board name position h = rw h refl
 
 -- Elements of lists.
 
-pub drop_at : {X : Type 0} (xs : List X) (i : ℕ) (x : X) → i < length xs → x ≡ get_or xs i x → drop i xs ≡ x ∷ drop (i + 1) xs
-drop_at [] i x h is = absurd (omega (arith, h))
-drop_at (y ∷ xs) zero x h is = ap (λ z. z ∷ xs) (sym is)
-drop_at (y ∷ xs) (suc i) x h is = let e : suc i + 1 ≡ suc (i + 1) = omega arith in rw e (drop_at xs i x (omega (arith, h)) is)
-
 pub take_at : {X : Type 0} (xs : List X) (i : ℕ) (x : X) → i < length xs → x ≡ get_or xs i x → take (i + 1) xs ≡ take i xs ++ x ∷ []
 take_at xs i x h is = take_more xs i x h ∙ ap (λ y. take i xs ++ y ∷ []) (sym is)
 
 -- Rooms.
 
-pub rooms_last : (cs : List Command) (rooms : List (Vec Word Global)) (c : Command) (words : Vec Word Global) → HaveRoom cs rooms → HasRoom c words → HaveRoom (cs ++ c ∷ []) (rooms ++ words ∷ [])
+pub rooms_last : (cs : List Command) (rooms : List (Vec Word Global)) (c : Command) (words : Vec Word Global) → HaveRoom cs rooms → HasRoom c words
+    → HaveRoom (cs ++ c ∷ []) (rooms ++ words ∷ [])
 rooms_last [] [] c words h k = (k, tt)
 rooms_last [] (r ∷ rooms) c words h k = absurd h
 rooms_last (d ∷ cs) [] c words h k = absurd h
 rooms_last (d ∷ cs) (r ∷ rooms) c words h k = (h.0, rooms_last cs rooms c words h.1 k)
 
-pub rooms_more : (cs : List Command) (i : ℕ) (rooms : List (Vec Word Global)) (c : Command) (words : Vec Word Global) → i < length cs → c ≡ get_or cs i c → HaveRoom (take i cs) rooms → HasRoom c words
+pub rooms_more : (cs : List Command) (i : ℕ) (rooms : List (Vec Word Global)) (c : Command) (words : Vec Word Global) → i < length cs → c ≡ get_or cs i c
+    → HaveRoom (take i cs) rooms → HasRoom c words
     → HaveRoom (take (i + 1) cs) (rooms ++ words ∷ [])
 rooms_more cs i rooms c words below is h k = rw (take_at cs i c below is) (rooms_last (take i cs) rooms c words h k)
 

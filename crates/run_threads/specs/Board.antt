@@ -40,8 +40,8 @@ MayRun board (Await name) = IsSome (note_at board name)
 abbrev pub IsAgreed : (List ℕ → ℕ) → Board → Type 0
 IsAgreed told board = (name : List ℕ) (position : ℕ) → note_at board name ≡ Some position → told name ≡ position
 
--- The posts and awaits of a thread, by the names that are posted before it: no name is posted again, and each that is
--- awaited is posted before.
+-- The posts and awaits of a thread, by the names that are posted before it: no name is posted again, and
+-- each that is awaited is posted before.
 abbrev pub IsReady : (List ℕ → Bool) → Command → Type 0
 IsReady posted (Write lba count tag) = ⊤
 IsReady posted (Read lba count) = ⊤

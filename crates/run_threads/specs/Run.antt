@@ -1,5 +1,5 @@
 -- What the commands of a script may be answered through ports.
-use Rattle.std.specs.Prelude.{ℕ, ◌+◌, ◌^◌, ◌<◌, ◌≤◌, ◌≡◌, ⊤, List, [], ◌∷◌, ◌++◌, map, max, replicate}
+use Rattle.std.specs.Prelude.{ℕ, ◌+◌, ◌^◌, ◌<◌, ◌≤◌, ◌≡◌, ⊤, List, [], ◌∷◌, ◌++◌, map, max, replicate, None}
 use Rattle.std.specs.List.{AllByRecursion}
 use Rattle.pblk_model.specs.declared.script.Command.{Command}
 use Rattle.pblk_model.specs.declared.script.Command.TheVariants.{Write, Read, Flush, Post, Await}
@@ -12,6 +12,7 @@ use Rattle.block_port.specs.Own.{OwnWrite}
 use Rattle.block_port.specs.Port.{ModelPort, IsSameTarget, IsSeen, Learns, contents_after, positions}
 use Rattle.run_threads.specs.declared.records.Answer.{Answer}
 use Rattle.run_threads.specs.declared.records.Answer.TheVariants.{Placed, Words, Synced, Done, Refused}
+use Rattle.run_threads.specs.declared.records.Records.{Records}
 use Rattle.run_threads.specs.declared.records.Trouble.TheVariants.{Drive, Worn}
 use Rattle.run_threads.specs.Words.{text_word}
 
@@ -37,7 +38,8 @@ worns_of command answer = []
 abbrev pub IsEvent : ℕ → ℕ → Type 0
 IsEvent unit event = (unit < 2 ^ 32) × (event < 2 ^ 64)
 
--- What a command may be answered between two moments of its port. `told` says what was told under each posted name.
+-- What a command may be answered between two moments of its port. `told` says what was told under each
+-- posted name.
 abbrev pub Says : (List ℕ → ℕ) → ModelPort → Command → Answer → ModelPort → Type 0
 -- a write: its place is past all that was seen, and seen now
 Says told old (Write lba count tag) (Placed place) new =
@@ -101,6 +103,27 @@ worns_in cs rest = []
 abbrev pub IsFlushed : ModelPort → Answer → Type 0
 IsFlushed port (Synced front) = (front.position ≤ port.flushed) × (front.users ≤ users (positions port.known) front.position)
 IsFlushed port answer = ⊤
+
+-- A thread's commands were answered one after another, and what that comes to for its port as a whole.
+pub record WasRun (told : List ℕ → ℕ) (commands : List Command) (answers : List Answer) (old new : ModelPort) : Type 0 where
+  pub runs : Runs told old commands answers new
+  -- what the port keeps of its own answers grew by just those of the records, in order
+  pub own : new.own ≡ old.own ++ own_in old.sector commands answers
+  pub faults : new.faults ≡ old.faults ++ faults_in answers
+  pub worns : new.worns ≡ old.worns ++ worns_in commands answers
+  -- each flush's front is on the drive, by what the port says as it comes back
+  pub flushed : AllByRecursion (IsFlushed new) answers
+  -- it knows more, and is of the same target
+  pub learns : Learns old new
+  pub target : IsSameTarget old new
+
+-- The threads of a script were run, each through a port of its own. The opening and the close of the
+-- device are no part of it.
+pub record WereRun (script : List (List Command)) (records : Records) (olds news : List ModelPort) : Type 0 where
+  pub told : List ℕ → ℕ
+  pub threads : EachThread (WasRun told) script records.threads olds news
+  pub opening : records.opening ≡ None
+  pub closing : records.closing ≡ None
 
 -- The script was accepted for a capacity that is at most that of each port.
 pub record IsAcceptedFor (script : List (List Command)) (ports : List ModelPort) : Type 0 where

@@ -2,14 +2,14 @@
 ghost use Rattle.std.specs.Prelude.{ℕ, List, [], ◌∷◌, ◌++◌, ◌≡◌, ◌≤◌, true, false, None, length, map, IfOk, IfErr};
 ghost use Rattle.std.specs.List.{AllByRecursion};
 ghost use Rattle.std.specs.Vec.{vec_capacity};
-ghost use Rattle.block_port.specs.Port.{ModelPort, IsSameTarget, Learns};
+ghost use Rattle.block_port.specs.Port.{ModelPort};
 ghost use Rattle.pblk_model.specs.declared.script.Command.{Command};
 ghost use Rattle.pblk_model.specs.Script.{CommandFits};
 ghost use Rattle.run_threads.specs.declared.records.Answer.{Answer};
 ghost use Rattle.run_threads.specs.Board.{note_at, has_name, posts_in, AreInOrder};
 ghost use Rattle.run_threads.specs.Desk.{IsReadyDesk};
 ghost use Rattle.run_threads.specs.Rooms.{HaveRoom};
-ghost use Rattle.run_threads.specs.Run.{EachThread, IsAcceptedFor, IsFlushed, Runs, faults_in, own_in, worns_in};
+ghost use Rattle.run_threads.specs.Run.{IsAcceptedFor, Runs, WereRun};
 
 use crate::board::Board;
 use crate::records::{Answer, Answers, Records, ThreadRows, Word};
@@ -101,41 +101,6 @@ fn add_thread(threads: &mut Vec<Answers>, answers: Answers)
     threads.push(answers).unwrap();
 }
 
-// Runs the threads of a script, of which there is at most one.
-fn run_script<R: Wait, P: Port>(
-    rt: &R,
-    alloc: Global,
-    script: &Script,
-    ports: Vec<P>,
-) -> Result<(Records, Vec<P>), (AllocError, Vec<P>)>
-    requires one { length script.now ≤ 1 }
-    requires ports { length ports.items ≡ length script.now }
-    requires accepted { IsAcceptedFor script.now (map P.model ports.items) }
-    ensures answers { IfOk result (λ ran. (told : List ℕ → ℕ)
-        × EachThread (λ commands answers before after. Runs told before commands answers after)
-        script.now ran.0.threads (map P.model ports.items) (map P.model ran.1.items)) }
-    ensures opening { IfOk result (λ ran. ran.0.opening ≡ None) }
-    ensures closing { IfOk result (λ ran. ran.0.closing ≡ None) }
-    ensures err { IfErr result (λ e. e.1.items ≡ ports.items) }
-{
-    let thread = match script.as_slice() {
-        [] => {
-            let threads = ThreadRows::new(Vec::new(alloc));
-            return Ok((records(threads), ports));
-        }
-        [thread] => thread.as_slice(),
-        _ => unreachable!(),
-    };
-    match Desk::new(alloc, thread) {
-        Err(e) => Err((e, ports)),
-        Ok(desk) => {
-            let mut ports = ports;
-            let threads = run_alone(rt, alloc, thread, &mut ports[0], desk);
-            Ok((records(threads), ports))
-        }
-    }
-}
-
 // The records of threads that were run.
 fn records(threads: ThreadRows) -> Records
     ensures { result ≡ record { threads = threads; opening = None; closing = None } }
@@ -169,39 +134,24 @@ pub fn run<R: Wait, P: Port>(
     requires one { length script.now ≤ 1 }
     requires ports { length ports.items ≡ length script.now }
     requires accepted { IsAcceptedFor script.now (map P.model ports.items) }
-
-    // Each thread's commands were answered one after another.
-    ensures answers { IfOk result (λ ran. (told : List ℕ → ℕ)
-        × EachThread (λ commands answers before after. Runs told before commands answers after)
-        script.now ran.0.threads (map P.model ports.items) (map P.model ran.1.items)) }
-
-    // What the ports keep of their own answers grew by just those of the records, in order.
-    ensures own { IfOk result (λ ran. EachThread (λ commands answers before after.
-        after.own ≡ before.own ++ own_in before.sector commands answers)
-        script.now ran.0.threads (map P.model ports.items) (map P.model ran.1.items)) }
-    ensures faults { IfOk result (λ ran. EachThread (λ commands answers before after.
-        after.faults ≡ before.faults ++ faults_in answers)
-        script.now ran.0.threads (map P.model ports.items) (map P.model ran.1.items)) }
-    ensures worns { IfOk result (λ ran. EachThread (λ commands answers before after.
-        after.worns ≡ before.worns ++ worns_in commands answers)
-        script.now ran.0.threads (map P.model ports.items) (map P.model ran.1.items)) }
-
-    // Each flush's front is on the drive, by what its port says as it comes back.
-    ensures flushed { IfOk result (λ ran. EachThread (λ commands answers before after.
-        AllByRecursion (IsFlushed after) answers)
-        script.now ran.0.threads (map P.model ports.items) (map P.model ran.1.items)) }
-
-    // The ports know more, and are of the same target.
-    ensures learns { IfOk result (λ ran. EachThread (λ commands answers before after.
-        Learns before after)
-        script.now ran.0.threads (map P.model ports.items) (map P.model ran.1.items)) }
-    ensures target { IfOk result (λ ran. EachThread (λ commands answers before after.
-        IsSameTarget before after)
-        script.now ran.0.threads (map P.model ports.items) (map P.model ran.1.items)) }
-
-    ensures opening { IfOk result (λ ran. ran.0.opening ≡ None) }
-    ensures closing { IfOk result (λ ran. ran.0.closing ≡ None) }
+    ensures run { IfOk result (λ ran.
+        WereRun script.now ran.0 (map P.model ports.items) (map P.model ran.1.items)) }
     ensures err { IfErr result (λ e. e.1.items ≡ ports.items) }
 {
-    run_script(rt, alloc, script, ports)
+    let thread = match script.as_slice() {
+        [] => {
+            let threads = ThreadRows::new(Vec::new(alloc));
+            return Ok((records(threads), ports));
+        }
+        [thread] => thread.as_slice(),
+        _ => unreachable!(),
+    };
+    match Desk::new(alloc, thread) {
+        Err(e) => Err((e, ports)),
+        Ok(desk) => {
+            let mut ports = ports;
+            let threads = run_alone(rt, alloc, thread, &mut ports[0], desk);
+            Ok((records(threads), ports))
+        }
+    }
 }

@@ -43,7 +43,7 @@ pub fn word(sector: &[u8]) -> Word
     ensures { text_word result ≡ word_of sector.now }
 {
     let tag = first_number(sector);
-    if repeats(sector, &tag.to_le_bytes(), sector.len() / 8) {
+    if repeats(sector, &tag.to_le_bytes()) {
         Word::Tag(tag)
     } else {
         Word::Mixed
@@ -60,21 +60,16 @@ fn first_number(bytes: &[u8]) -> u64
     u64::from_le_bytes(first)
 }
 
-// Whether bytes are these eight so many times.
-fn repeats(bytes: &[u8], piece: &[u8], pieces: usize) -> bool
+// Whether bytes are these eight again and again: they begin with them, and each other byte is the one
+// eight before it.
+fn repeats(bytes: &[u8], piece: &[u8]) -> bool
     requires piece { length piece.now ≡ 8 }
-    requires bytes { length bytes.now ≡ pieces * 8 }
-    ensures { result ≡ bytes_eq bytes.now (repeat pieces piece.now) }
+    requires some { 8 ≤ length bytes.now }
+    requires whole { length bytes.now ≡ length bytes.now / 8 * 8 }
+    ensures { result ≡ bytes_eq bytes.now (repeat (length bytes.now / 8) piece.now) }
 {
-    let mut rest = bytes;
-    for _ in 0..pieces {
-        let (first, others) = rest.split_at(8);
-        if first != piece {
-            return false;
-        }
-        rest = others;
-    }
-    true
+    let (first, others) = bytes.split_at(8);
+    first == piece && others == &bytes[..bytes.len() - 8]
 }
 
 /// Adds the words of `count` sectors of this size, for which the list has room.

@@ -1,5 +1,5 @@
 -- The blocks of a line, one after another.
-use Rattle.std.proofs.Common.{◌≡◌, ℕ, ◌+◌, ◌*◌, ◌/◌, ◌%◌, ◌<◌, ◌≤◌, zero, suc, List, [], ◌∷◌, ◌++◌, length, map, get_or, Option, Some, sym, ap, ◌∙◌, subst, arith}
+use Rattle.std.proofs.Common.{◌≡◌, ℕ, ◌+◌, ◌*◌, ◌/◌, ◌%◌, ◌<◌, ◌≤◌, List, [], ◌∷◌, ◌++◌, length, map, get_or, Option, Some, sym, ap, ◌∙◌, subst, arith}
 use Rattle.std.specs.List.{AllByRecursion, range_with_len, slice_get}
 use Rattle.std.specs.Option.{option_and_then}
 use Rattle.std.proofs.lemmas.List.{length-map}
@@ -11,10 +11,7 @@ use Rattle.pblk_model.specs.Shape.{units}
 use Rattle.pblk_model.specs.Chunk.{Chunk, Block}
 use Rattle.pblk_model.specs.LineOrder.{column_of, block_of}
 use Rattle.pblk_model.specs.Image.{Image, line_chunks, line_units, width, block_at}
-use Rattle.pblk_model.proofs.Sizes.{line_is_short}
-use Rattle.pblk_layout.proofs.Orders.{some_wide}
 use Rattle.pblk_laws.specs.LineBlocks.{chunk_in, written_at}
-use Rattle.pblk_laws.proofs.Lists.{all_at, all_filter}
 use Rattle.pblk_laws.proofs.LineUnits.{line_units_count, line_units_chunks}
 use Rattle.pblk_laws.proofs.Widths.{width_within}
 use Rattle.unit_port.specs.Unit.{ModelUnit}
@@ -22,6 +19,10 @@ use Rattle.scan_recovery.specs.Reading.{line_blocks}
 use Rattle.scan_recovery.specs.Units.{image_of, AreFit}
 use Rattle.scan_recovery.proofs.LineStates.{is_on, line_units_range}
 use Rattle.scan_recovery.proofs.PadLoops.{fit_image}
+use Rattle.lemmas.proofs.Maps.{all_filter, all_in_range}
+use Rattle.lemmas.proofs.Numbers.{some_units}
+use Rattle.lemmas.proofs.Parts.{all_get}
+use Rattle.pblk_model.proofs.AcceptedLemmas.{line_is_short}
 
 pub line_few : (s : Shape) (us : List ModelUnit) (line : ℕ) (online : List ℕ) → AreFit s us → online ≡ line_units (image_of s us) line → length online ≤ units s
 line_few s us line online fit is =
@@ -35,20 +36,16 @@ line_short s us line online accepted fit is =
     let units = accepted.drive.few_units in
     (omega arith, line_is_short s (length online) accepted few)
 
-all_range : (a n m : ℕ) → a + n ≤ m → AllByRecursion (λ u. u < m) (range_with_len a n)
-all_range a zero m h = tt
-all_range a (suc n) m h = (omega arith, all_range (a + 1) n m (omega arith))
-
 pub unit_within : (s : Shape) (us : List ModelUnit) (line k d : ℕ) (online : List ℕ) → AreFit s us → online ≡ line_units (image_of s us) line → k < length online → get_or online k d < length us
 unit_within s us line k d online fit is inside =
     let i : Image = image_of s us in
     let count : length i.units ≡ length us = length-map us (λ (u : ModelUnit). u.media) in
     let all : AllByRecursion (λ u. u < length us) online =
-    subst (AllByRecursion (λ u. u < length us)) (sym (is ∙ line_units_range i line)) (all_filter (λ u. u < length us) (is_on i line) (range_with_len 0 (length i.units)) (all_range 0 (length i.units) (length us) (omega arith))) in
-    all_at (λ u. u < length us) online k (get_or online k d) all (slice_get-get_or online k d inside)
+    subst (AllByRecursion (λ u. u < length us)) (sym (is ∙ line_units_range i line)) (all_filter (λ u. u < length us) (is_on i line) (range_with_len 0 (length i.units)) (all_in_range 0 (length i.units) (length us) (omega arith))) in
+    all_get (λ u. u < length us) online k (get_or online k d) all (slice_get-get_or online k d inside)
 
 pub column_within : (at w g c : ℕ) → at < g * c → (at / w) % g < g
-column_within at w g c h = let some = some_wide g c at h in omega arith
+column_within at w g c h = let some = some_units g c at h in omega arith
 
 abbrev by_width : Image → ℕ → ℕ → ℕ → Option Block
 by_width i line g a = option_and_then (λ (c : Chunk). slice_get c.blocks (block_of i.shape g a)) (slice_get (line_chunks i line) (column_of i.shape g a))

@@ -15,17 +15,15 @@ use Rattle.pblk_model.specs.declared.chunk.ChunkState.TheVariants.{Free, Open, C
 use Rattle.pblk_model.specs.declared.chunk.ChunkErr.TheVariants as chunk_errors
 use Rattle.pblk_model.specs.Chunk.{Chunk, Block, IsChunk, PointerFits, ReadableIn, pointer}
 use Rattle.pblk_model.specs.ChunkStep.{ChunkCommand, Read, Gave, Empty, refusal, read_refusal_in}
-use Rattle.pblk_model.specs.UnitLog.{UnitOutcome, UnitEvent, Answered, Failed, Stopped, IsOutcome, after_outcome, after_event}
+use Rattle.pblk_model.specs.UnitLog.{UnitOutcome, UnitEvent, Answered, IsOutcome, after_outcome, after_event}
 use Rattle.pblk_model.specs.Image.{Image}
 use Rattle.pblk_laws.specs.LineBlocks.{chunk_in, written_at}
-use Rattle.pblk_laws.proofs.Lists.{all_append, all_at}
 use Rattle.unit_port.specs.Unit.{ModelUnit, TellsBlock}
 use Rattle.unit_port.specs.declared.unit.UnitErr.{UnitErr}
 use Rattle.unit_port.specs.declared.unit.UnitErr.TheVariants as unit_errors
-use Rattle.vector_io.specs.Commands.{UnitCommand, EventAt, IsNext, IsTaken, AreNext, with_event, after_one, after_all}
-use Rattle.vector_io.specs.Did.{Did, command_at}
-use Rattle.vector_io.specs.Status.{is_lost}
-use Rattle.vector_io.proofs.Units.{get_set_same, set_again, after_one_is}
+use Rattle.unit_port.specs.Commands.{UnitCommand, EventAt, IsNext, IsTaken, AreNext, with_event, after_one, after_all}
+use Rattle.unit_port.specs.Did.{Did, command_at, is_lost}
+use Rattle.unit_port.proofs.Units.{after_one_is}
 use Rattle.found_laws.specs.Finding.{NoneOpen}
 use Rattle.scan_recovery.specs.declared.error.ScanErr.{ScanErr}
 use Rattle.scan_recovery.specs.declared.error.ScanErr.TheVariants as errors
@@ -33,18 +31,16 @@ use Rattle.scan_recovery.specs.Units.{image_of, AreFit}
 use Rattle.scan_recovery.specs.Fetches.{IsFetch, IsGood, FetchEnds, HasFetched, IsReadableAt}
 use Rattle.opening_laws.proofs.Lines.{img}
 use Rattle.scan_recovery.proofs.PadSteps.{unit_at, chunk_of}
+use Rattle.lemmas.proofs.Lists.{all_append}
+use Rattle.lemmas.proofs.Parts.{all_get, get_set_same, set_same}
+use Rattle.pblk_model.proofs.UnitLogLemmas.{read_leaves}
 
 -- An event that is a fetch.
-
-read_leaves : (s : Shape) (c : Chunk) (b : ℕ) (o : UnitOutcome) → after_outcome s c (Read b) o ≡ c
-read_leaves s c b (Answered answer) = refl
-read_leaves s c b (Failed k) = refl
-read_leaves s c b (Stopped k) = refl
 
 media_same : (u : ModelUnit) (e : UnitEvent) (b : ℕ) (c : Chunk) → e.command ≡ Read b → slice_get u.media e.chunk ≡ Some c → after_event u.shape u.media e ≡ u.media
 media_same u e b c is there =
     ap (λ (o : Option Chunk). option_map_or (λ c. slice_set u.media e.chunk (after_outcome u.shape c e.command e.outcome)) o u.media) there
-    ∙ ap (slice_set u.media e.chunk) (ap (λ command. after_outcome u.shape c command e.outcome) is ∙ read_leaves u.shape c b e.outcome) ∙ set_again u.media e.chunk c there
+    ∙ ap (slice_set u.media e.chunk) (ap (λ command. after_outcome u.shape c command e.outcome) is ∙ read_leaves u.shape c b e.outcome) ∙ set_same u.media e.chunk c there
 
 image_same : (s : Shape) (us : List ModelUnit) (e : EventAt) (b : ℕ) (h : IsNext us e) → e.event.command ≡ Read b → image_of s (after_one us e) ≡ image_of s us
 image_same s us e b h is =
@@ -52,7 +48,7 @@ image_same s us e b h is =
     let there : slice_get medias e.unit ≡ Some h.unit.media = slice_get-map (λ (u : ModelUnit). u.media) us e.unit ∙ ap (option_map (λ (u : ModelUnit). u.media)) h.there in
     let same : map (λ u. u.media) (after_one us e) ≡ medias =
     ap (map (λ u. u.media)) (after_one_is us e h.unit h.there) ∙ map-set (λ (u : ModelUnit). u.media) us e.unit (with_event h.unit e.event)
-    ∙ ap (slice_set medias e.unit) (media_same h.unit e.event b h.event.found is h.event.there) ∙ set_again medias e.unit h.unit.media there in
+    ∙ ap (slice_set medias e.unit) (media_same h.unit e.event b h.event.found is h.event.there) ∙ set_same medias e.unit h.unit.media there in
     ap (img s) same
 
 -- A block that is written in a chunk that isn't Open can be read.
@@ -67,7 +63,7 @@ chunk_fits : (s : Shape) (us : List ModelUnit) (line unit : ℕ) (c : Chunk) →
 chunk_fits s us line unit c fit there =
     let w = unit_at s us line unit c there in
     let of = fit.each unit w.of w.there in
-    subst (λ (x : Shape). IsChunk x c) of.shape (all_at (IsChunk w.of.shape) w.of.media line c of.fits.chunks w.chunk)
+    subst (λ (x : Shape). IsChunk x c) of.shape (all_get (IsChunk w.of.shape) w.of.media line c of.fits.chunks w.chunk)
 
 pub readable_here : (s : Shape) (us : List ModelUnit) (line unit block : ℕ) (c : Chunk) → AreFit s us → NoneOpen (image_of s us) → chunk_in (image_of s us) line unit ≡ Some c → block < pointer c → IsReadableAt (image_of s us) line unit block
 readable_here s us line unit block c fit none there below = record {

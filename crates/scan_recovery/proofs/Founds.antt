@@ -19,6 +19,7 @@ use Rattle.scan_recovery.specs.declared.trace.Trace.{Trace}
 use Rattle.scan_recovery.specs.Survey.{seen_line}
 use Rattle.scan_recovery.specs.Traces.{IsTable, bare, without_sector}
 use Rattle.scan_recovery.proofs.Tallies.{row_there}
+use Rattle.pblk_model.proofs.StartRecordLemmas.{some_seq}
 
 abbrev pub thin : List Record → List Record
 thin rs = map without_sector rs
@@ -96,10 +97,6 @@ unwon f best k d front table inside is front-is =
 
 pub there : {X : Type 0} (n : ℕ) (f : ℕ → X) (xs : List X) (k : ℕ) (d : X) → IsTable n f xs → k < length xs → get_or xs k d ≡ f k
 there n f xs k d h inside = same_Some (get_or xs k d) (f k) (sym (slice_get-get_or xs k d inside) ∙ h.each k (omega (arith, h.count)))
-
-some_seq : (o : Option StartRecord) → is_some (option_map (λ r. r.seq) o) ≡ is_some o
-some_seq None = refl
-some_seq (Some r) = refl
 
 stray_is : (i : Image) (k : ℕ) (x : SeenLine) (b : Bool) → x ≡ seen_line i k → (not (is_some x.seq) && x.used) ≡ b → is_stray i k ≡ b
 unfolding seen_line

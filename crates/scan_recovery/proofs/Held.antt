@@ -3,20 +3,19 @@ use Rattle.std.proofs.Common.{◌≡◌, ℕ, ◌+◌, ◌*◌, ◌<◌, ◌≤�
 use Rattle.std.specs.List.{AllByRecursion, filter, flat_map, fold, list_any, range_with_len, slice_get, slice_range}
 use Rattle.std.specs.Option.{is_some, option_and_then, option_map, option_map_or, IfSome}
 use Rattle.std.proofs.Math.Path.{fun_ext}
-use Rattle.std.proofs.lemmas.List.{length-map, length-replicate}
+use Rattle.std.proofs.lemmas.List.{length-map}
 use Rattle.std.proofs.lemmas.List.Elements.{filter-append}
 use Rattle.std.proofs.lemmas.Option.{none-some, same_Some}
 use Rattle.pblk_model.specs.Bytes.{zeros}
 use Rattle.pblk_model.specs.Chunk.{Block, Chunk, IsBlock, IsChunk}
 use Rattle.pblk_model.specs.declared.shape.Shape.{Shape}
 use Rattle.pblk_model.specs.LineOrder.{block_of, column_of}
-use Rattle.pblk_model.specs.Image.{Image, IsFit, is_online_in, line_chunks, width, block_at}
+use Rattle.pblk_model.specs.Image.{Image, IsFit, line_chunks, width, block_at}
 use Rattle.pblk_model.specs.StartRecord.{StartRecord, start_of}
 use Rattle.pblk_model.specs.EndRecord.{end_of}
 use Rattle.pblk_model.specs.Records.{Record, named, mark_at, bears, record_at, records_after, line_records, records}
 use Rattle.pblk_model.specs.Contents.{head, end_after, counts, counted_after, counted, is_newer, newer, is_of, winner, sector_of, contents}
 use Rattle.pblk_laws.proofs.FilledLists.{range_split}
-use Rattle.pblk_laws.proofs.Lists.{all_append, all_at, all_filter, all_filter_map, all_get}
 use Rattle.pblk_meta.specs.Records.{start_numbers}
 use Rattle.scan_recovery.specs.declared.survey.Survey.{Survey}
 use Rattle.scan_recovery.specs.declared.trace.Trace.{Trace}
@@ -29,8 +28,14 @@ use Rattle.scan_recovery.specs.Traces.{IsTable, bare, bares, without_sector}
 use Rattle.scan_recovery.proofs.Founds.{thin, winner_thin}
 use Rattle.scan_recovery.proofs.Results.{counted_are}
 use Rattle.scan_recovery.proofs.ScanSteps.{if_map, if_then, kept_all}
-use Rattle.scan_recovery.proofs.Surveys.{front_of, rest_of, range_one, flat_one}
+use Rattle.scan_recovery.proofs.Surveys.{flat_one}
 use Rattle.scan_recovery.proofs.Tables.{table_list, table_same, take_one}
+use Rattle.lemmas.proofs.Lists.{all_append}
+use Rattle.lemmas.proofs.Maps.{all_filter, range_last}
+use Rattle.lemmas.proofs.Options.{some_mapped}
+use Rattle.lemmas.proofs.Parts.{all_get as all_at, all_get_some, drop_front, take_front}
+use Rattle.pblk_model.proofs.BytesLemmas.{zeros_length}
+use Rattle.pblk_model.proofs.ImageLemmas.{line_fit}
 
 -- Records and their blocks.
 
@@ -103,19 +108,12 @@ in_chunk : (s : Shape) (n : ℕ) (o : Option Chunk) (b : Block) → IfSome o (Is
 in_chunk s n None b h e = absurd (none-some b e)
 in_chunk s n (Some c) b h e = (all_at (IsBlock s) c.blocks n b h.blocks e).size
 
-line_fit : (i : Image) (line : ℕ) → IsFit i → AllByRecursion (IsChunk i.shape) (line_chunks i line)
-line_fit i line fit = all_filter (IsChunk i.shape) (λ c. is_online_in c.state) _ (all_filter_map (IsChunk i.shape) (AllByRecursion (IsChunk i.shape)) (λ unit. slice_get unit line) i.units (λ unit each. all_get (IsChunk i.shape) unit line each) fit.each)
-
 block_size : (i : Image) (line a : ℕ) (b : Block) → IsFit i → block_at i line a ≡ Some b → length b.sector ≡ i.shape.sector
 block_size i line a b fit e =
-    in_chunk i.shape (block_of i.shape (width i line) a) (slice_get (line_chunks i line) (column_of i.shape (width i line) a)) b (all_get (IsChunk i.shape) (line_chunks i line) (column_of i.shape (width i line) a) (line_fit i line fit)) e
-
-zeros_size : (n : ℕ) → length (zeros n) ≡ n
-unfolding zeros
-zeros_size n = length-replicate n 0
+    in_chunk i.shape (block_of i.shape (width i line) a) (slice_get (line_chunks i line) (column_of i.shape (width i line) a)) b (all_get_some (IsChunk i.shape) (line_chunks i line) (column_of i.shape (width i line) a) (line_fit i line fit)) e
 
 size_from : (i : Image) (o : Option Record) → IsFit i → IfSome o (HasBlock i) → length (option_map_or (λ r. r.sector) o (zeros i.shape.sector)) ≡ i.shape.sector
-size_from i None fit h = zeros_size i.shape.sector
+size_from i None fit h = zeros_length i.shape.sector
 size_from i (Some r) fit h = ap length h.sector ∙ block_size i r.line r.at h.block fit h.there
 
 pub sector_size : (i : Image) (lba : ℕ) → IsFit i → length (sector_of i lba) ≡ i.shape.sector
@@ -130,7 +128,7 @@ zeros_are n = refl
 pub bytes_more : (i : Image) (k : ℕ) (front now piece : List ℕ) → now ≡ front ++ piece → piece ≡ sector_of i k → front ≡ flat_map (sector_of i) (range_with_len 0 k) → now ≡ flat_map (sector_of i) (range_with_len 0 (k + 1))
 bytes_more i k front now piece now-is piece-is front-is =
     now-is ∙ ap (λ xs. xs ++ piece) front-is ∙ ap (λ x. flat_map (sector_of i) (range_with_len 0 k) ++ x) piece-is
-    ∙ sym (ap (flat_map (sector_of i)) (range_one 0 k) ∙ flat_one (sector_of i) (range_with_len 0 k) (0 + k) ∙ ap (λ j. flat_map (sector_of i) (range_with_len 0 k) ++ sector_of i j) (zero-add k))
+    ∙ sym (ap (flat_map (sector_of i)) (range_last 0 k) ∙ flat_one (sector_of i) (range_with_len 0 k) (0 + k) ∙ ap (λ j. flat_map (sector_of i) (range_with_len 0 k) ++ sector_of i j) (zero-add k))
 
 flat_size : (f : ℕ → List ℕ) (m a n : ℕ) → ((k : ℕ) → length (f k) ≡ m) → length (flat_map f (range_with_len a n)) ≡ n * m
 flat_size f m a zero h = sym (zero-mul m)
@@ -156,9 +154,9 @@ piece_at f m n k h inside =
     ap (λ j. flat_map f (range_with_len 0 j)) parts ∙ ap (flat_map f) (range_split 0 k (suc (n - (k + 1)))) ∙ flat_both f (range_with_len 0 k) (range_with_len (0 + k) (suc (n - (k + 1)))) in
     let long : k * m + m - k * m ≡ m = omega arith in
     ap (λ bytes. take (k * m + m - k * m) (drop (k * m) bytes)) all
-    ∙ ap (take (k * m + m - k * m)) (rest_of front (f (0 + k) ++ rest) (k * m) (flat_size f m 0 k h))
+    ∙ ap (take (k * m + m - k * m)) (drop_front front (f (0 + k) ++ rest) (k * m) (flat_size f m 0 k h))
     ∙ ap (λ j. take j (f (0 + k) ++ rest)) long
-    ∙ front_of (f (0 + k)) rest m (h (0 + k))
+    ∙ take_front (f (0 + k)) rest m (h (0 + k))
     ∙ ap f (zero-add k)
 
 map_same : {X : Type 0} (f g : ℕ → X) (a n : ℕ) → ((k : ℕ) → a ≤ k → k < a + n → f k ≡ g k) → map f (range_with_len a n) ≡ map g (range_with_len a n)
@@ -172,10 +170,6 @@ sectors_are i size count bytes fit size-is count-is bytes-is =
     (λ k low high. piece_at (sector_of i) i.shape.sector i.shape.capacity k (λ j. sector_size i j fit) (omega arith))
 
 -- How many there are.
-
-some_same : {X Y : Type 0} (f : X → Y) (o : Option X) → is_some (option_map f o) ≡ is_some o
-some_same f None = refl
-some_same f (Some x) = refl
 
 cond_length : {X : Type 0} (b : Bool) (x : X) (xs : List X) → length (cond b (x ∷ xs) xs) ≡ cond b (suc (length xs)) (length xs)
 cond_length true x xs = refl
@@ -198,9 +192,9 @@ some_winner p (r ∷ rs) = elim (p r) as (λ b. is_some (fold newer None (cond b
 
 pub live_is : (i : Image) (ws : List (Option Trace)) → IsTable i.shape.capacity (thin_winner i) (map (option_map bare) ws) → length (filter is_some ws) ≡ length (filter (has_record (counted i)) (range_with_len 0 i.shape.capacity))
 live_is i ws table =
-    sym (count_map is_some is_some (option_map bare) ws (some_same bare)) ∙ ap (λ os. length (filter is_some os)) (table_list i.shape.capacity (thin_winner i) (map (option_map bare) ws) table)
+    sym (count_map is_some is_some (option_map bare) ws (some_mapped bare)) ∙ ap (λ os. length (filter is_some os)) (table_list i.shape.capacity (thin_winner i) (map (option_map bare) ws) table)
     ∙ count_map (has_record (counted i)) is_some (thin_winner i) (range_with_len 0 i.shape.capacity)
-    (λ lba. some_same without_sector (winner (counted i) lba) ∙ some_winner (λ r. is_of lba r.lba) (counted i))
+    (λ lba. some_mapped without_sector (winner (counted i) lba) ∙ some_winner (λ r. is_of lba r.lba) (counted i))
 
 pub named_is : (rs thins : List Record) → thins ≡ thin rs → named_count thins ≡ named_count rs
 named_is rs thins is = ap named_count is ∙ count_map (λ r. is_some r.lba) (λ r. is_some r.lba) without_sector rs (λ r. refl)

@@ -15,3 +15,9 @@ pub mod ScanSteps
 pub mod Held
 pub mod MediaLines
 pub mod Wears
+pub mod Losses
+pub mod HandedBack
+pub mod PackedLines
+pub mod PadsLemmas
+pub mod UnitsLemmas
+pub mod SharedLemmas

@@ -11,6 +11,8 @@ use Rattle.pblk_laws.specs.LineBlocks.{chunk_in}
 use Rattle.pblk_world.specs.Lines.{are_empty, is_empty_state}
 use Rattle.scan_recovery.specs.Units.{IsStateOf}
 use Rattle.scan_recovery.proofs.Founds.{filter_range_one}
+use Rattle.lemmas.proofs.Tests.{and_false}
+use Rattle.pblk_model.proofs.ChunkLemmas.{map_cond}
 
 -- whether a unit's chunk of the line isn't Offline
 abbrev pub is_on : Image → ℕ → ℕ → Bool
@@ -19,16 +21,12 @@ is_on i line unit = option_map_or (λ (c : Chunk). is_online_in c.state) (chunk_
 abbrev on_unit : ℕ → ℕ × List Chunk → Bool
 on_unit line unit = option_map_or (λ (c : Chunk). is_online_in c.state) (slice_get unit.1 line) false
 
-kept : (b : Bool) (unit : ℕ × List Chunk) (rest : List (ℕ × List Chunk)) → map (λ (u : ℕ × List Chunk). u.0) (cond b (unit ∷ rest) rest) ≡ cond b (unit.0 ∷ map (λ (u : ℕ × List Chunk). u.0) rest) (map (λ (u : ℕ × List Chunk). u.0) rest)
-kept true unit rest = refl
-kept false unit rest = refl
-
 from_range : (line a : ℕ) (p : ℕ → Bool) (us : List (List Chunk)) → ((k : ℕ) → k < length us → p (a + k) ≡ option_map_or (λ (c : Chunk). is_online_in c.state) (option_and_then (λ chunks. slice_get chunks line) (slice_get us k)) false)
     → map (λ (u : ℕ × List Chunk). u.0) (filter (on_unit line) (enumerate_from a us)) ≡ filter p (range_with_len a (length us))
 from_range line a p [] h = refl
 from_range line a p (u ∷ us) h =
     let first : p a ≡ on_unit line (a, u) = ap p (sym (add-zero a)) ∙ h 0 (omega arith) in
-    kept (on_unit line (a, u)) (a, u) (filter (on_unit line) (enumerate_from (a + 1) us))
+    map_cond (on_unit line (a, u)) (a, u) (filter (on_unit line) (enumerate_from (a + 1) us))
     ∙ ap (λ xs. cond (on_unit line (a, u)) (a ∷ xs) xs) (from_range line (a + 1) p us (λ k below. (let place : a + 1 + k ≡ a + suc k = omega arith in ap p place ∙ h (suc k) (omega arith))))
     ∙ ap (λ b. cond b (a ∷ filter p (range_with_len (a + 1) (length us))) (filter p (range_with_len (a + 1) (length us)))) (sym first)
 
@@ -59,16 +57,12 @@ pub all_empty : (line : ℕ) (us : List (List Chunk)) → ((k : ℕ) → k < len
 all_empty line [] h = refl
 all_empty line (u ∷ us) h = cons_all (slice_get u line) (filter_map (λ unit. slice_get unit line) us) (h 0 (omega arith)) ∙ all_empty line us (λ k below. h (suc k) (omega arith))
 
-and_no : (a b : Bool) → b ≡ false → a && b ≡ false
-and_no true b h = h
-and_no false b h = refl
-
 cons_some : (o : Option Chunk) (cs : List Chunk) (c : Chunk) → o ≡ Some c → is_empty_state c.state ≡ false → list_all (λ (c : Chunk). is_empty_state c.state) (cons_option o cs) ≡ false
 cons_some o cs c e h = ap (λ x. list_all (λ (c : Chunk). is_empty_state c.state) (cons_option x cs)) e ∙ ap (λ b. b && list_all (λ (c : Chunk). is_empty_state c.state) cs) h
 
 cons_rest : (o : Option Chunk) (cs : List Chunk) → list_all (λ (c : Chunk). is_empty_state c.state) cs ≡ false → list_all (λ (c : Chunk). is_empty_state c.state) (cons_option o cs) ≡ false
 cons_rest None cs h = h
-cons_rest (Some c) cs h = and_no (is_empty_state c.state) (list_all (λ (c : Chunk). is_empty_state c.state) cs) h
+cons_rest (Some c) cs h = and_false (is_empty_state c.state) (list_all (λ (c : Chunk). is_empty_state c.state) cs) h
 
 pub some_used : (line : ℕ) (us : List (List Chunk)) (k : ℕ) (c : Chunk) → option_and_then (λ chunks. slice_get chunks line) (slice_get us k) ≡ Some c → is_empty_state c.state ≡ false → empties line us ≡ false
 some_used line [] k c there h = absurd (none-some c there)

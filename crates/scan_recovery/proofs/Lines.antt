@@ -14,7 +14,8 @@ use Rattle.pblk_model.specs.Records.{Record}
 use Rattle.scan_recovery.specs.declared.trace.Trace.{Trace}
 use Rattle.scan_recovery.specs.Reading.{run_of, sectors_of, have_mark, start_from, start_among, end_from, end_among, record_in, traces_from}
 use Rattle.scan_recovery.specs.Traces.{bare, bares, without_sector}
-use Rattle.scan_recovery.proofs.Tables.{map_one, take_all}
+use Rattle.lemmas.proofs.Maps.{map_last}
+use Rattle.lemmas.proofs.Parts.{drop_past, take_all}
 
 -- Runs of written blocks.
 
@@ -133,12 +134,6 @@ drop_one [] k d h = absurd (omega arith)
 drop_one (x ∷ xs) zero d h = refl
 drop_one (x ∷ xs) (suc k) d h = let e : suc k + 1 ≡ suc (k + 1) = omega arith in drop_one xs k d (omega arith) ∙ ap (λ n. get_or xs k d ∷ drop n (x ∷ xs)) (sym e)
 
-drop_past : {X : Type 0} (xs : List X) (k : ℕ) → length xs ≤ k → drop k xs ≡ []
-drop_past [] zero h = refl
-drop_past [] (suc k) h = refl
-drop_past (x ∷ xs) zero h = absurd (omega arith)
-drop_past (x ∷ xs) (suc k) h = drop_past xs k (omega arith)
-
 some_trace : (front : List Record) (o : Option Record) (rest : List Record) (r : Record) → o ≡ Some r → front ++ cons_option o rest ≡ (front ++ r ∷ []) ++ rest
 some_trace front o rest r is = ap (λ x. front ++ cons_option x rest) is ∙ sym (append_assoc front (r ∷ []) rest)
 
@@ -153,7 +148,7 @@ pub trace_more : (s : Shape) (line seq : ℕ) (e : Option EndRecord) (bs : List 
 trace_more s line seq e bs k d front now t o total inside o-is some now-is so_far =
     let rest : List Record = traces_from s line seq e (k + 1) (drop (k + 1) bs) in
     let r : option_map without_sector (record_in s line seq e k (get_or bs k d)) ≡ Some (bare t) = sym o-is ∙ ap (option_map bare) some in
-    ap (λ ts. bares ts ++ rest) now-is ∙ ap (λ rs. rs ++ rest) (map_one bare front t)
+    ap (λ ts. bares ts ++ rest) now-is ∙ ap (λ rs. rs ++ rest) (map_last bare front t)
     ∙ sym (some_trace (bares front) (option_map without_sector (record_in s line seq e k (get_or bs k d))) rest (bare t) r)
     ∙ ap (λ rs. bares front ++ rs) (sym (traces_one s line seq e bs k d inside)) ∙ so_far
 

@@ -1,6 +1,6 @@
 -- The chunks of a drive, and the lines among them.
 use Rattle.std.proofs.Common.{◌≡◌, ℕ, ◌+◌, ◌*◌, ◌/◌, ◌%◌, ◌<◌, ◌≤◌, zero, suc, Vec, Global, List, [], ◌∷◌, ◌++◌, length, map, get_or, Option, Some, None, refl, sym, ap, ◌∙◌, subst, arith}
-use Rattle.std.specs.List.{AllByRecursion, range_with_len, slice_get, zip}
+use Rattle.std.specs.List.{AllByRecursion, range_with_len, slice_get}
 use Rattle.std.specs.Option.{option_and_then}
 use Rattle.std.proofs.lemmas.List.{length-map}
 use Rattle.std.proofs.lemmas.Option.{none-some, same_Some, slice_get_past}
@@ -12,7 +12,6 @@ use Rattle.pblk_model.specs.LineOrder.{column_of, block_of}
 use Rattle.pblk_model.specs.Image.{Image, IsFit, line_chunks, line_units, width, block_at}
 use Rattle.pblk_model.specs.ImageFile as file
 use Rattle.pblk_model.specs.ImageFile.{StoredChunk}
-use Rattle.pblk_model.proofs.Sizes.{line_is_short}
 use Rattle.pblk_laws.specs.LineBlocks.{written_at}
 use Rattle.pblk_laws.proofs.LineUnits.{line_units_count}
 use Rattle.pblk_laws.proofs.Widths.{width_within}
@@ -29,6 +28,8 @@ use Rattle.scan_recovery.proofs.FetchLines.{block_here, line_few, line_short, un
 use Rattle.scan_recovery.proofs.PadLoops.{fit_image}
 use Rattle.scan_recovery.proofs.Surveys.{blocks_length}
 use Rattle.scan_recovery.proofs.Tallies.{row_there}
+use Rattle.pblk_model.proofs.AcceptedLemmas.{line_is_short}
+use Rattle.pblk_model.proofs.ImageFileLemmas.{kept_chunks}
 
 -- The units of a drive.
 
@@ -44,11 +45,6 @@ pub units_fit : (d : DriveView) (s : Shape) (us : List WornUnit) → IsWhole d �
 units_fit d s us whole shape is = subst (λ (x : Shape). AreFit x (map (λ (u : WornUnit). u.unit) us)) (sym shape) (subst (λ (xs : List WornUnit). AreFit (shape_of d) (map (λ (u : WornUnit). u.unit) xs)) (sym is) (drive_fit d whole))
 
 -- Their image is that of the drive as it is kept in a file.
-
-kept_chunks : (media : List Chunk) (wear : List ℕ) → length media ≡ length wear → map (λ (k : StoredChunk). k.chunk) (map (λ (p : Chunk × ℕ). record { chunk = p.0; wear = p.1 }) (zip media wear)) ≡ media
-kept_chunks [] wear same = refl
-kept_chunks (c ∷ media) [] same = absurd (omega arith)
-kept_chunks (c ∷ media) (w ∷ wear) same = ap (λ cs. c ∷ cs) (kept_chunks media wear (omega arith))
 
 all_media : (s : Shape) (us : List WornUnit) → AllByRecursion (drive.IsUnitOf s) us → map (λ (u : ModelUnit). u.media) (map (λ (u : WornUnit). u.unit) us) ≡ map (map (λ (k : StoredChunk). k.chunk)) (map stored_chunks us)
 all_media s [] h = refl

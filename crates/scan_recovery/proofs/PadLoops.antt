@@ -17,7 +17,6 @@ use Rattle.pblk_model.specs.Image.{Image, IsFit}
 use Rattle.pblk_model.specs.Contents.{contents, end}
 use Rattle.pblk_model.specs.Sealed.{IsSealed}
 use Rattle.pblk_laws.specs.LineBlocks.{chunk_in}
-use Rattle.pblk_laws.proofs.Lists.{all_append, all_at}
 use Rattle.pblk_laws.proofs.UnitChunks.{log_keeps, log_count}
 use Rattle.unit_port.specs.Armed.{is_stop}
 use Rattle.unit_port.specs.declared.unit.UnitErr.{UnitErr}
@@ -26,15 +25,17 @@ use Rattle.unit_port.specs.Unit.{ModelUnit, IsFitUnit, TellsDone}
 use Rattle.opening_laws.specs.Same.{HoldsTheSame}
 use Rattle.opening_laws.specs.Padding.{IsPaddedAt, ArePadded}
 use Rattle.opening_laws.proofs.PaddedImages.{padded_sealed, padded_holds}
-use Rattle.vector_io.specs.Commands.{UnitCommand, EventAt, command_of, IsNext, AreKept, with_event, after_one, after_all}
-use Rattle.vector_io.specs.Did.{Did, command_at}
-use Rattle.vector_io.proofs.Units.{get_set_same, get_set_other, after_one_is}
+use Rattle.unit_port.specs.Commands.{UnitCommand, EventAt, command_of, IsNext, AreKept, with_event, after_one, after_all}
+use Rattle.unit_port.specs.Did.{Did, command_at}
+use Rattle.unit_port.proofs.Units.{after_one_is}
 use Rattle.found_laws.specs.Finding.{NoneOpen}
 use Rattle.scan_recovery.specs.declared.error.ScanErr.{ScanErr}
 use Rattle.scan_recovery.specs.declared.error.ScanErr.TheVariants as errors
 use Rattle.scan_recovery.specs.Units.{image_of, AreFit, IsUnitOf}
 use Rattle.scan_recovery.specs.Pads.{pads_from, room_in, room_at, ArePads, Ends, HasPadded, IsNextPad, IsNotOpen, IsOpenAt, IsQuiet, NoneOpenBefore}
 use Rattle.scan_recovery.proofs.PadSteps.{Leaves, leaves, chunk_of, next_above, event_was, event_is, event_others}
+use Rattle.lemmas.proofs.Lists.{all_append}
+use Rattle.lemmas.proofs.Parts.{all_get, get_set_other, get_set_same}
 
 -- Units of a drive.
 
@@ -85,7 +86,7 @@ event_leaves s us e accepted fit pad h =
     let c : Chunk = h.event.found in
     let same : pad.found ≡ c = same_Some pad.found c (sym pad.there ∙ event_was s us e h) in
     let is_open : c.state ≡ Open = ap (λ (x : Chunk). x.state) (sym same) ∙ pad.is_open in
-    let chunk : IsChunk s c = subst (λ (x : Shape). IsChunk x c) of.shape (all_at (IsChunk h.unit.shape) h.unit.media e.event.chunk c of.fits.chunks h.event.there) in
+    let chunk : IsChunk s c = subst (λ (x : Shape). IsChunk x c) of.shape (all_get (IsChunk h.unit.shape) h.unit.media e.event.chunk c of.fits.chunks h.event.there) in
     let at : ℕ = pointer pad.found in
     let n : ℕ = (at / s.ws_opt + 1) * s.ws_opt - at in
     let some : 0 < n = (let above = next_above at s.ws_opt accepted.drive.ws_opt in omega arith) in
@@ -213,7 +214,7 @@ pub line_within : (i : Image) (l u : ℕ) (c : Chunk) → IsFit i → chunk_in i
 line_within i l u c fit h = by_unit (slice_get i.units u) refl where
   by_unit : (o : Option (List Chunk)) → slice_get i.units u ≡ o → l < i.shape.chunks
   by_unit None e = absurd (none-some c (sym (ap (option_and_then (λ chunks. slice_get chunks l)) e) ∙ h))
-  by_unit (Some chunks) e = omega (arith, slice_get_within chunks l c (sym (ap (option_and_then (λ chunks. slice_get chunks l)) e) ∙ h), all_at (λ unit. length unit ≡ i.shape.chunks) i.units u chunks fit.chunks e)
+  by_unit (Some chunks) e = omega (arith, slice_get_within chunks l c (sym (ap (option_and_then (λ chunks. slice_get chunks l)) e) ∙ h), all_get (λ unit. length unit ≡ i.shape.chunks) i.units u chunks fit.chunks e)
 
 -- past the last line
 pub none_open : (i : Image) → IsFit i → NoneOpenBefore i i.shape.chunks 0 → NoneOpen i

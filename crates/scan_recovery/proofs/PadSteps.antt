@@ -1,7 +1,7 @@
 -- One program of Pad blocks: what it asks, and what it leaves.
-use Rattle.std.proofs.Common.{◌≡◌, ℕ, ◌+◌, ◌-◌, ◌*◌, ◌/◌, ◌%◌, ◌<◌, ◌≤◌, zero, suc, inl, inr, Bool, true, false, cond, Option, Some, None, List, [], ◌∷◌, ◌++◌, length, take, drop, replicate, refl, sym, ap, ◌∙◌, subst, arith, length-append}
-use Rattle.std.specs.List.{slice_get, slice_set}
-use Rattle.std.specs.Option.{option_and_then, option_map, option_map_or}
+use Rattle.std.proofs.Common.{◌≡◌, ℕ, ◌+◌, ◌-◌, ◌*◌, ◌/◌, ◌%◌, ◌<◌, ◌≤◌, zero, suc, inl, inr, Bool, true, false, cond, Option, Some, None, List, ◌∷◌, ◌++◌, length, take, drop, replicate, refl, sym, ap, ◌∙◌, subst, arith, length-append}
+use Rattle.std.specs.List.{slice_get}
+use Rattle.std.specs.Option.{option_and_then, option_map}
 use Rattle.std.proofs.lemmas.Option.{none-some, slice_get-map, slice_get_within}
 use Rattle.std.proofs.lemmas.List.{length-replicate, take-replicate, replicate-append-replicate}
 use Rattle.std.proofs.lemmas.Bool.{cases_lt, eq-eqb, ne_eqb, le-ltb}
@@ -17,20 +17,23 @@ use Rattle.pblk_model.specs.Blocks.{blocks_of}
 use Rattle.pblk_model.specs.Chunk.{Chunk, Block, IsChunk, PointerFits, pointer}
 use Rattle.pblk_model.specs.ChunkStep.{Write, Done, Gave, Empty, Refused, refusal, place_refusal, write_refusal_in}
 use Rattle.pblk_model.specs.Marks.{pad_mark, pad_block}
-use Rattle.pblk_model.specs.UnitLog.{UnitOutcome, UnitEvent, Answered, Failed, Stopped, IsOutcome, after_outcome, after_event}
+use Rattle.pblk_model.specs.UnitLog.{UnitOutcome, Answered, Failed, Stopped, IsOutcome, after_outcome}
 use Rattle.pblk_laws.specs.LineBlocks.{chunk_in}
 use Rattle.unit_port.specs.Armed.{is_stop}
 use Rattle.unit_port.specs.Unit.{ModelUnit}
 use Rattle.pblk_model.specs.Shape.{units}
-use Rattle.pblk_model.proofs.Sizes.{line_is_short}
-use Rattle.pblk_laws.proofs.Lists.{all_at, all_replicate}
 use Rattle.opening_laws.specs.Padding.{IsPadded}
 use Rattle.opening_laws.proofs.PaddedChunks.{program_pads}
-use Rattle.vector_io.specs.Commands.{EventAt, IsNext, IsTaken, with_event, after_one}
-use Rattle.vector_io.specs.Did.{command_at}
-use Rattle.vector_io.proofs.Units.{get_set_same, get_set_other, after_one_is}
+use Rattle.unit_port.specs.Commands.{EventAt, IsNext, IsTaken, with_event, after_one}
+use Rattle.unit_port.specs.Did.{command_at}
+use Rattle.unit_port.proofs.Units.{after_one_is}
 use Rattle.scan_recovery.specs.Units.{image_of, AreFit}
 use Rattle.scan_recovery.specs.Pads.{pads_from, room_in, AreBlank, IsOpenAt}
+use Rattle.lemmas.proofs.Lists.{all_replicated}
+use Rattle.lemmas.proofs.Parts.{all_get, drop_front, get_set_other, get_set_same, take_front}
+use Rattle.pblk_model.proofs.AcceptedLemmas.{line_is_short, sector_within}
+use Rattle.pblk_model.proofs.UnitLogLemmas.{after_event_is}
+use Rattle.scan_recovery.proofs.PadsLemmas.{pads_count}
 
 -- The next multiple of WS_OPT.
 
@@ -61,14 +64,6 @@ whole_pads at w m some wide whole here =
 
 -- The blocks.
 
-take_front : {X : Type 0} (xs ys : List X) (n : ℕ) → length xs ≡ n → take n (xs ++ ys) ≡ xs
-take_front [] ys n e = ap (λ k. take k ys) (sym e)
-take_front (x ∷ xs) ys n e = ap (λ k. take k (x ∷ (xs ++ ys))) (sym e) ∙ ap (λ zs. x ∷ zs) (take_front xs ys (length xs) refl)
-
-drop_front : {X : Type 0} (xs ys : List X) (n : ℕ) → length xs ≡ n → drop n (xs ++ ys) ≡ ys
-drop_front [] ys n e = ap (λ k. drop k ys) (sym e)
-drop_front (x ∷ xs) ys n e = ap (λ k. drop k (x ∷ (xs ++ ys))) (sym e) ∙ drop_front xs ys (length xs) refl
-
 abbrev one_block : ℕ → Mark → Block
 one_block size m = record { sector = replicate size 0; mark = m }
 
@@ -95,9 +90,6 @@ pads_are s at bytes marks n some blank n-is =
     ∙ ap (λ ms. blocks_of s.sector (replicate (n * s.sector) 0) ms) (take-replicate n s.ws_opt pad_mark few)
     ∙ same_blocks s.sector n pad_mark
     ∙ ap (λ k. replicate k (pad_block s)) n-is
-
-pub pads_count : (s : Shape) (at : ℕ) → length (pads_from s at) ≡ (at / s.ws_opt + 1) * s.ws_opt - at
-pads_count s at = length-replicate ((at / s.ws_opt + 1) * s.ws_opt - at) (pad_block s)
 
 -- An Open chunk takes them.
 
@@ -160,14 +152,11 @@ pub record Leaves (s : Shape) (c d : Chunk) (o : UnitOutcome) : Type 0 where
 pub leaves : (s : Shape) (c : Chunk) (at n : ℕ) (o : UnitOutcome) → IsChunk s c → c.state ≡ states.Open → 0 < n → IsOutcome s c (Write at (replicate n (pad_block s))) o
     → Leaves s c (after_outcome s c (Write at (replicate n (pad_block s))) o) o
 leaves s c at n o chunk is some h = record {
-  padded = program_pads s c at (replicate n (pad_block s)) o is (open_fits s c chunk is).0 (all_replicate (λ b. b ≡ pad_block s) n (pad_block s) refl);
+  padded = program_pads s c at (replicate n (pad_block s)) o is (open_fits s c chunk is).0 (all_replicated (λ b. b ≡ pad_block s) n (pad_block s) refl);
   smaller = smaller s c at n o chunk is some h;
 }
 
 -- Where a unit's event shows.
-
-after_event_is : (s : Shape) (media : List Chunk) (e : UnitEvent) (c : Chunk) → slice_get media e.chunk ≡ Some c → after_event s media e ≡ slice_set media e.chunk (after_outcome s c e.command e.outcome)
-after_event_is s media e c there = ap (λ (o : Option Chunk). option_map_or (λ c. slice_set media e.chunk (after_outcome s c e.command e.outcome)) o media) there
 
 pub chunk_of : (s : Shape) (us : List ModelUnit) (l u : ℕ) (v : ModelUnit) → slice_get us u ≡ Some v → chunk_in (image_of s us) l u ≡ slice_get v.media l
 chunk_of s us l u v h = ap (option_and_then (λ chunks. slice_get chunks l)) (slice_get-map (λ (u : ModelUnit). u.media) us u ∙ ap (option_map (λ (u : ModelUnit). u.media)) h)
@@ -215,7 +204,7 @@ pub pads_taken : (s : Shape) (us : List ModelUnit) (line unit at : ℕ) (blocks 
 pads_taken s us line unit at blocks accepted fit opened is =
     let w = unit_at s us line unit opened.found opened.there in
     let of = fit.each unit w.of w.there in
-    let chunk : IsChunk s opened.found = subst (λ (x : Shape). IsChunk x opened.found) of.shape (all_at (IsChunk w.of.shape) w.of.media line opened.found of.fits.chunks w.chunk) in
+    let chunk : IsChunk s opened.found = subst (λ (x : Shape). IsChunk x opened.found) of.shape (all_get (IsChunk w.of.shape) w.of.media line opened.found of.fits.chunks w.chunk) in
     let free : refusal s opened.found (Write at blocks) ≡ None =
     subst (λ bs. refusal s opened.found (Write at bs) ≡ None) (sym is) (subst (λ p. refusal s opened.found (Write p (pads_from s p)) ≡ None) opened.pointer_is (takes_pads s opened.found accepted chunk opened.is_open)) in
     record {
@@ -229,7 +218,7 @@ pub open_below : (s : Shape) (us : List ModelUnit) (line unit at : ℕ) → AreF
 open_below s us line unit at fit opened =
     let w = unit_at s us line unit opened.found opened.there in
     let of = fit.each unit w.of w.there in
-    let chunk : IsChunk s opened.found = subst (λ (x : Shape). IsChunk x opened.found) of.shape (all_at (IsChunk w.of.shape) w.of.media line opened.found of.fits.chunks w.chunk) in
+    let chunk : IsChunk s opened.found = subst (λ (x : Shape). IsChunk x opened.found) of.shape (all_get (IsChunk w.of.shape) w.of.media line opened.found of.fits.chunks w.chunk) in
     let fits = open_fits s opened.found chunk opened.is_open in
     let p = opened.pointer_is in
     (omega arith, slice_get_within us unit w.of w.there)
@@ -237,9 +226,6 @@ open_below s us line unit at fit opened =
 -- the numbers of a stripe fit their types
 units_some : (s : Shape) → IsAccepted s → 1 ≤ units s
 units_some s accepted = let both : 1 * 1 ≤ s.groups * s.pus = mul-le 1 1 s.groups s.pus accepted.drive.groups accepted.drive.pus in omega arith
-
-sector_few : (s : Shape) → IsAccepted s → s.sector ≤ 4096
-sector_few s accepted = elim accepted.target.sector [ inl e ↦ omega arith | inr e ↦ omega arith ]
 
 pub record IsShort (s : Shape) (at : ℕ) : Type 0 where
   pub chunk : s.clba ≤ 65536
@@ -261,7 +247,7 @@ stripe_short s at accepted below =
       row = (let here : s.ws_opt * (at / s.ws_opt) + at % s.ws_opt ≡ at = div-add-mod at s.ws_opt in let one : 1 * (at / s.ws_opt) ≤ s.ws_opt * (at / s.ws_opt) = mul-le-mul_right (at / s.ws_opt) accepted.drive.ws_opt in omega arith);
       count = few;
       bytes = mul-le-mul_right s.sector few;
-      stripe = mul-le s.ws_opt s.sector 64 4096 accepted.drive.short_stripes (sector_few s accepted);
+      stripe = mul-le s.ws_opt s.sector 64 4096 accepted.drive.short_stripes (sector_within s accepted);
     }
 
 pub blank_lengths : (s : Shape) (bytes : List ℕ) (marks : List Mark) → AreBlank s bytes marks → (length bytes ≡ s.ws_opt * s.sector) × (length marks ≡ s.ws_opt)

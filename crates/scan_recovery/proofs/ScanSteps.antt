@@ -11,7 +11,6 @@ use Rattle.pblk_model.specs.Image.{Image, IsFit, width, block_at}
 use Rattle.pblk_model.specs.StartRecord.{StartRecord, start_of}
 use Rattle.pblk_model.specs.EndRecord.{end_of}
 use Rattle.pblk_model.specs.Records.{Record, named, mark_at, bears, record_at, records_after, line_records}
-use Rattle.pblk_laws.proofs.Lists.{all_append, all_at, all_cons_option as kept_one}
 use Rattle.found_laws.specs.Finding.{taken_state}
 use Rattle.found_laws.proofs.Counting.{lines_few}
 use Rattle.scan_recovery.specs.declared.trace.Trace.{Trace}
@@ -19,7 +18,10 @@ use Rattle.scan_recovery.specs.declared.survey.Survey.{Survey}
 use Rattle.scan_recovery.specs.Survey.{IsSurvey}
 use Rattle.scan_recovery.specs.Traces.{bare, bares, without_sector}
 use Rattle.scan_recovery.specs.Units.{IsStateOf}
-use Rattle.scan_recovery.proofs.Tables.{take_one, take_all, map_take_one}
+use Rattle.scan_recovery.proofs.Tables.{take_one, map_take_one}
+use Rattle.lemmas.proofs.Lists.{all_append}
+use Rattle.lemmas.proofs.Maps.{all_cons_option}
+use Rattle.lemmas.proofs.Parts.{all_get, take_all}
 
 -- States.
 
@@ -37,7 +39,7 @@ states_more i line unit media state old front now there (c, chunk, is) now-is fr
 
 pub states_done : (i : Image) (line unit : ℕ) (media : List Chunk) (old now : List ChunkState) → IsFit i → slice_get i.units unit ≡ Some media → i.shape.chunks ≤ line → now ≡ old ++ states_of (take line media) → now ≡ old ++ states_of media
 states_done i line unit media old now fit there past now-is =
-    let count : length media ≡ i.shape.chunks = all_at (λ unit. length unit ≡ i.shape.chunks) i.units unit media fit.chunks there in
+    let count : length media ≡ i.shape.chunks = all_get (λ unit. length unit ≡ i.shape.chunks) i.units unit media fit.chunks there in
     now-is ∙ ap (λ xs. old ++ states_of xs) (take_all media line (omega arith))
 
 flat_last : {X Y : Type 0} (f : X → List Y) (xs : List X) (x : X) → flat_map f (xs ++ x ∷ []) ≡ flat_map f xs ++ f x
@@ -69,7 +71,7 @@ record_line i line start a =
 
 pub kept_all : {X Y : Type 0} (P : Y → Type 0) (f : X → Option Y) (xs : List X) → ((x : X) → IfSome (f x) P) → AllByRecursion P (filter_map f xs)
 kept_all P f [] h = tt
-kept_all P f (x ∷ xs) h = kept_one P (f x) (filter_map f xs) (h x) (kept_all P f xs h)
+kept_all P f (x ∷ xs) h = all_cons_option P (f x) (filter_map f xs) (h x) (kept_all P f xs h)
 
 line_all : (i : Image) (line : ℕ) (o : Option StartRecord) → AllByRecursion (λ r. r.line ≡ line) (records_after i line o)
 line_all i line None = tt

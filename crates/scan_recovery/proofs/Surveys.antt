@@ -28,6 +28,8 @@ use Rattle.scan_recovery.specs.Survey.{is_later, seen_line, head_to, IsLine, IsS
 use Rattle.scan_recovery.specs.Tally.{HasStartFits}
 use Rattle.scan_recovery.specs.Traces.{IsTable, bares, without_sector}
 use Rattle.scan_recovery.proofs.Tables.{table_push}
+use Rattle.lemmas.proofs.Maps.{length_mapped, range_last}
+use Rattle.lemmas.proofs.Parts.{drop_front, take_front}
 
 -- Runs of a line.
 
@@ -44,33 +46,21 @@ map_both : {X Y : Type 0} (f : X → Y) (xs ys : List X) → map f (xs ++ ys) �
 map_both f [] ys = refl
 map_both f (x ∷ xs) ys = ap (λ zs. f x ∷ zs) (map_both f xs ys)
 
-pub front_of : {X : Type 0} (xs ys : List X) (n : ℕ) → length xs ≡ n → take n (xs ++ ys) ≡ xs
-front_of [] ys n e = ap (λ k. take k ys) (sym e)
-front_of (x ∷ xs) ys n e = ap (λ k. take k (x ∷ (xs ++ ys))) (sym e) ∙ ap (λ zs. x ∷ zs) (front_of xs ys (length xs) refl)
-
-pub rest_of : {X : Type 0} (xs ys : List X) (n : ℕ) → length xs ≡ n → drop n (xs ++ ys) ≡ ys
-rest_of [] ys n e = ap (λ k. drop k ys) (sym e)
-rest_of (x ∷ xs) ys n e = ap (λ k. drop k (x ∷ (xs ++ ys))) (sym e) ∙ rest_of xs ys (length xs) refl
-
-made_length : {X : Type 0} (f : ℕ → X) (a n : ℕ) → length (map f (range_with_len a n)) ≡ n
-made_length f a zero = refl
-made_length f a (suc n) = ap suc (made_length f (a + 1) n)
-
 pub blocks_length : (i : Image) (line : ℕ) → length (line_blocks i line) ≡ width i line * i.shape.clba
 unfolding line_blocks
-blocks_length i line = made_length (block_at i line) 0 (width i line * i.shape.clba)
+blocks_length i line = length_mapped (block_at i line) 0 (width i line * i.shape.clba)
 
 made_front : {X : Type 0} (f : ℕ → X) (n m : ℕ) → n ≤ m → take n (map f (range_with_len 0 m)) ≡ map f (range_with_len 0 n)
 made_front f n m h =
     let parts : m ≡ n + (m - n) = omega arith in
     ap (λ k. take n (map f (range_with_len 0 k))) parts ∙ ap (λ xs. take n (map f xs)) (range_split 0 n (m - n)) ∙ ap (take n) (map_both f (range_with_len 0 n) (range_with_len (0 + n) (m - n)))
-    ∙ front_of (map f (range_with_len 0 n)) (map f (range_with_len (0 + n) (m - n))) n (made_length f 0 n)
+    ∙ take_front (map f (range_with_len 0 n)) (map f (range_with_len (0 + n) (m - n))) n (length_mapped f 0 n)
 
 made_rest : {X : Type 0} (f : ℕ → X) (n m : ℕ) → n ≤ m → drop n (map f (range_with_len 0 m)) ≡ map f (range_with_len n (m - n))
 made_rest f n m h =
     let parts : m ≡ n + (m - n) = omega arith in
     ap (λ k. drop n (map f (range_with_len 0 k))) parts ∙ ap (λ xs. drop n (map f xs)) (range_split 0 n (m - n)) ∙ ap (drop n) (map_both f (range_with_len 0 n) (range_with_len (0 + n) (m - n)))
-    ∙ rest_of (map f (range_with_len 0 n)) (map f (range_with_len (0 + n) (m - n))) n (made_length f 0 n)
+    ∙ drop_front (map f (range_with_len 0 n)) (map f (range_with_len (0 + n) (m - n))) n (length_mapped f 0 n)
     ∙ ap (λ a. map f (range_with_len a (m - n))) (zero-add n)
 
 pub past_line : (i : Image) (line a : ℕ) → IsAccepted i.shape → IsFit i → width i line * i.shape.clba ≤ a → block_at i line a ≡ None
@@ -86,7 +76,7 @@ start_of_line i line accepted fit =
     let m : ℕ = width i line * i.shape.clba in
     let n : ℕ = start_len i.shape in
     let bs : List (Option Block) = map (block_at i line) (range_with_len 0 m) in
-    let len : length bs ≡ m = made_length (block_at i line) 0 m in
+    let len : length bs ≡ m = length_mapped (block_at i line) 0 m in
     elim (cases_lt m n) [
       | inl short ↦
           let past : block_at i line (0 + m) ≡ None = past_line i line (0 + m) accepted fit (omega arith) in
@@ -105,7 +95,7 @@ end_of_line i line start accepted fit =
     let m : ℕ = width i line * i.shape.clba in
     let n : ℕ = end_len i.shape (width i line) in
     let bs : List (Option Block) = map (block_at i line) (range_with_len 0 m) in
-    let len : length bs ≡ m = made_length (block_at i line) 0 m in
+    let len : length bs ≡ m = length_mapped (block_at i line) 0 m in
     elim (cases_lt m n) [
       | inl short ↦
           let past : block_at i line ((m - n) + m) ≡ None = past_line i line ((m - n) + m) accepted fit (omega arith) in
@@ -137,16 +127,13 @@ traces_of_line i line start is = traces_range i line start 0 (width i line * i.s
 
 -- One line more.
 
-pub range_one : (a n : ℕ) → range_with_len a (n + 1) ≡ range_with_len a n ++ (a + n) ∷ []
-range_one a n = range_split a n 1
-
 pub flat_one : {X : Type 0} (f : ℕ → List X) (xs : List ℕ) (y : ℕ) → flat_map f (xs ++ y ∷ []) ≡ flat_map f xs ++ f y
 flat_one f [] y = append-nil (f y)
 flat_one f (x ∷ xs) y = ap (λ zs. f x ++ zs) (flat_one f xs y) ∙ sym (append_assoc (f x) (flat_map f xs) (f y))
 
 pub lines_more : (i : Image) (n : ℕ) → map without_sector (flat_map (line_records i) (range_with_len 0 (n + 1))) ≡ map without_sector (flat_map (line_records i) (range_with_len 0 n)) ++ map without_sector (line_records i n)
 lines_more i n =
-    ap (λ xs. map without_sector (flat_map (line_records i) xs)) (range_one 0 n) ∙ ap (map without_sector) (flat_one (line_records i) (range_with_len 0 n) (0 + n))
+    ap (λ xs. map without_sector (flat_map (line_records i) xs)) (range_last 0 n) ∙ ap (map without_sector) (flat_one (line_records i) (range_with_len 0 n) (0 + n))
     ∙ map_both without_sector (flat_map (line_records i) (range_with_len 0 n)) (line_records i (0 + n))
     ∙ ap (λ k. map without_sector (flat_map (line_records i) (range_with_len 0 n)) ++ map without_sector (line_records i k)) (zero-add n)
 
@@ -165,7 +152,7 @@ fold_option rs (Some r) = fold-append later_start None rs (r ∷ [])
 head_one : (i : Image) (n : ℕ) → head_to i (n + 1) ≡ option_map_or (later_start (head_to i n)) (start_of i n) (head_to i n)
 unfolding head_to
 head_one i n =
-    ap (λ xs. fold later_start None (filter_map (start_of i) xs)) (range_one 0 n) ∙ ap (fold later_start None) (starts_one (start_of i) (range_with_len 0 n) (0 + n))
+    ap (λ xs. fold later_start None (filter_map (start_of i) xs)) (range_last 0 n) ∙ ap (fold later_start None) (starts_one (start_of i) (range_with_len 0 n) (0 + n))
     ∙ fold_option (filter_map (start_of i) (range_with_len 0 n)) (start_of i (0 + n))
     ∙ ap (λ k. option_map_or (later_start (head_to i n)) (start_of i k) (head_to i n)) (zero-add n)
 

@@ -1,16 +1,19 @@
 -- Tables, and the positions that records bear.
-use Rattle.std.proofs.Common.{◌≡◌, ◌≢◌, ℕ, ◌+◌, ◌-◌, ◌<◌, ◌≤◌, ◌⊎◌, zero, suc, inl, inr, Bool, true, false, cond, ◌&&◌, ◌||◌, ◌==◌, nat_le, List, [], ◌∷◌, ◌++◌, length, take, drop, get_or, slice_index_or, replicate, map, append-nil, add-zero, Some, refl, sym, ap, ◌∙◌, arith}
+use Rattle.std.proofs.Common.{◌≡◌, ◌≢◌, ℕ, ◌+◌, ◌-◌, ◌<◌, ◌≤◌, ◌⊎◌, zero, suc, inl, inr, Bool, true, false, ◌&&◌, ◌||◌, ◌==◌, nat_le, List, [], ◌∷◌, ◌++◌, length, take, drop, get_or, slice_index_or, replicate, map, append-nil, add-zero, Some, refl, sym, ap, ◌∙◌, arith}
 use Rattle.std.specs.List.{slice_get, slice_set, range_with_len}
 use Rattle.std.proofs.lemmas.List.{length-set}
 use Rattle.std.proofs.lemmas.List.Folds.{list_any-append}
 use Rattle.std.proofs.lemmas.Option.{same_Some, slice_get_within, slice_get-get_or}
 use Rattle.std.proofs.lemmas.Bool.{le-leb, lt-leb, eq-eqb, ne_eqb, cases_lt}
 use native.Mathlib.Decide.{ℕ_discrete}
-use Rattle.vector_io.proofs.Units.{get_set_same, get_set_other}
 use Rattle.pblk_model.specs.StartRecord.{StartRecord}
 use Rattle.pblk_model.specs.Records.{Record}
-use Rattle.pblk_model.specs.Contents.{is_borne, least_missing}
+use Rattle.pblk_model.specs.Contents.{is_borne}
 use Rattle.scan_recovery.specs.Traces.{IsTable, borne_at}
+use Rattle.lemmas.proofs.Lists.{length_replicate}
+use Rattle.lemmas.proofs.Maps.{map_last}
+use Rattle.lemmas.proofs.Parts.{drop_past, get_last, get_set_other, get_set_same, take_all}
+use Rattle.lemmas.proofs.Tests.{and_false}
 
 -- one entry changes
 pub table_set : {X : Type 0} (n : ℕ) (f g : ℕ → X) (xs : List X) (k : ℕ) (x : X) → IsTable n f xs → k < n → g k ≡ x → ((j : ℕ) → j ≢ k → g j ≡ f j) → IsTable n g (slice_set xs k x)
@@ -30,10 +33,6 @@ get_replicate : {X : Type 0} (n : ℕ) (x : X) (k : ℕ) → k < n → slice_get
 get_replicate zero x k h = absurd (omega arith)
 get_replicate (suc n) x zero h = refl
 get_replicate (suc n) x (suc k) h = get_replicate n x k (omega arith)
-
-length_replicate : {X : Type 0} (n : ℕ) (x : X) → length (replicate n x) ≡ n
-length_replicate zero x = refl
-length_replicate (suc n) x = ap suc (length_replicate n x)
 
 pub table_new : {X : Type 0} (n : ℕ) (f : ℕ → X) (x : X) → ((k : ℕ) → k < n → f k ≡ x) → IsTable n f (replicate n x)
 table_new n f x h = record { count = length_replicate n x; each = λ k below. get_replicate n x k below ∙ ap Some (sym (h k below)) }
@@ -68,10 +67,6 @@ unborne : (rs : List Record) (b : Bool) (x : Bool) → b ≡ false → x || (b |
 unborne rs true x e = absurd cc
 unborne rs false x e = or_false x
 
-and_false : (a b : Bool) → b ≡ false → a && b ≡ false
-and_false true b e = e
-and_false false b e = refl
-
 pub still_borne_other : (rs : List Record) (r : Record) (h : StartRecord) (k : ℕ) → r.position ≢ h.front + k → borne_at (rs ++ r ∷ []) h k ≡ borne_at rs h k
 still_borne_other rs r h k other = borne_more rs r h (h.front + k) ∙ unborne rs (bears_at h (h.front + k) r) (is_borne rs h (h.front + k)) (and_false (nat_le h.first_seq r.seq) (r.position == h.front + k) (ne_eqb r.position (h.front + k) other))
 
@@ -103,41 +98,13 @@ note_below n rs r h xs table below = table_same n (borne_at rs h) (borne_at (rs 
 
 -- The first that is missing.
 
-pub missing_stops : (borne : ℕ → Bool) (n i p total : ℕ) → i < n → borne p ≡ false → least_missing borne (n - i) p ≡ total → p ≡ total
-unfolding least_missing
-missing_stops borne n i p total lt free so_far =
-    let k : n - i ≡ suc (n - (i + 1)) = omega arith in
-    sym (ap (λ m. least_missing borne m p) k ∙ ap (λ b. cond b (least_missing borne (n - (i + 1)) (p + 1)) p) free) ∙ so_far
-
-pub missing_goes_on : (borne : ℕ → Bool) (n i p total : ℕ) → i < n → borne p ≡ true → least_missing borne (n - i) p ≡ total → least_missing borne (n - (i + 1)) (p + 1) ≡ total
-unfolding least_missing
-missing_goes_on borne n i p total lt taken so_far =
-    let k : n - i ≡ suc (n - (i + 1)) = omega arith in
-    sym (ap (λ m. least_missing borne m p) k ∙ ap (λ b. cond b (least_missing borne (n - (i + 1)) (p + 1)) p) taken) ∙ so_far
-
-pub missing_is : (borne : ℕ → Bool) (n i p total : ℕ) → n ≤ i → least_missing borne (n - i) p ≡ total → p ≡ total
-unfolding least_missing
-missing_is borne n i p total le so_far = let k : n - i ≡ 0 = omega arith in sym (ap (λ m. least_missing borne m p) k) ∙ so_far
-
 -- What a flag says, and what a vector holds whose slice was written.
 
 pub flag_at : (n : ℕ) (f : ℕ → Bool) (xs : List Bool) (k : ℕ) (b : Bool) → IsTable n f xs → k < length xs → slice_index_or xs k false ≡ b → f k ≡ b
 flag_at n f xs k b h inside is = get_table n f xs k b h (slice_get-get_or xs k false inside ∙ ap Some is)
 
-drop_all : {X : Type 0} (xs : List X) (n : ℕ) → length xs ≤ n → drop n xs ≡ []
-drop_all [] zero h = refl
-drop_all [] (suc n) h = refl
-drop_all (x ∷ xs) zero h = absurd (omega arith)
-drop_all (x ∷ xs) (suc n) h = drop_all xs n (omega arith)
-
-pub take_all : {X : Type 0} (xs : List X) (n : ℕ) → length xs ≤ n → take n xs ≡ xs
-take_all [] zero h = refl
-take_all [] (suc n) h = refl
-take_all (x ∷ xs) zero h = absurd (omega arith)
-take_all (x ∷ xs) (suc n) h = ap (λ ys. x ∷ ys) (take_all xs n (omega arith))
-
 pub vec_written : {X : Type 0} (len : ℕ) (xs items : List X) → length xs ≡ len → length items ≡ len → take len (xs ++ drop (length xs) items) ≡ xs
-vec_written len xs items a b = ap (λ ys. take len (xs ++ ys)) (drop_all items (length xs) (omega arith)) ∙ ap (take len) (append-nil xs) ∙ take_all xs len (omega arith)
+vec_written len xs items a b = ap (λ ys. take len (xs ++ ys)) (drop_past items (length xs) (omega arith)) ∙ ap (take len) (append-nil xs) ∙ take_all xs len (omega arith)
 
 -- one more element of what was passed
 pub take_one : {X : Type 0} (xs : List X) (k : ℕ) (d : X) → k < length xs → take (k + 1) xs ≡ take k xs ++ get_or xs k d ∷ []
@@ -145,12 +112,8 @@ take_one [] k d h = absurd (omega arith)
 take_one (x ∷ xs) zero d h = refl
 take_one (x ∷ xs) (suc k) d h = let e : suc k + 1 ≡ suc (k + 1) = omega arith in ap (λ n. take n (x ∷ xs)) e ∙ ap (λ ys. x ∷ ys) (take_one xs k d (omega arith))
 
-pub map_one : {X Y : Type 0} (f : X → Y) (xs : List X) (y : X) → map f (xs ++ y ∷ []) ≡ map f xs ++ f y ∷ []
-map_one f [] y = refl
-map_one f (x ∷ xs) y = ap (λ ys. f x ∷ ys) (map_one f xs y)
-
 pub map_take_one : {X Y : Type 0} (f : X → Y) (xs : List X) (k : ℕ) (d : X) → k < length xs → map f (take (k + 1) xs) ≡ map f (take k xs) ++ f (get_or xs k d) ∷ []
-map_take_one f xs k d h = ap (map f) (take_one xs k d h) ∙ map_one f (take k xs) (get_or xs k d)
+map_take_one f xs k d h = ap (map f) (take_one xs k d h) ∙ map_last f (take k xs) (get_or xs k d)
 
 -- one entry more at the end
 
@@ -158,10 +121,6 @@ get_before : {X : Type 0} (xs : List X) (x : X) (k : ℕ) → k < length xs → 
 get_before [] x k h = absurd (omega arith)
 get_before (y ∷ xs) x zero h = refl
 get_before (y ∷ xs) x (suc k) h = get_before xs x k (omega arith)
-
-get_last : {X : Type 0} (xs : List X) (x : X) → slice_get (xs ++ x ∷ []) (length xs) ≡ Some x
-get_last [] x = refl
-get_last (y ∷ xs) x = get_last xs x
 
 length_one : {X : Type 0} (xs : List X) (x : X) → length (xs ++ x ∷ []) ≡ length xs + 1
 length_one [] x = refl

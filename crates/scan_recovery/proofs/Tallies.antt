@@ -16,8 +16,9 @@ use Rattle.scan_recovery.specs.declared.trace.Trace.{Trace}
 use Rattle.scan_recovery.specs.declared.counting.Tally.{Tally}
 use Rattle.scan_recovery.specs.Tally.{IsTally}
 use Rattle.scan_recovery.specs.Traces.{IsTable, bare, bares, is_below_row, row_of}
-use Rattle.pblk_laws.proofs.Lists.{all_at}
 use Rattle.scan_recovery.proofs.Tables.{table_set, table_same, table_new, map_take_one}
+use Rattle.lemmas.proofs.Parts.{all_get}
+use Rattle.pblk_model.proofs.ContentsLemmas.{of_same}
 
 and_left : (a b : Bool) → a && b ≡ true → a ≡ true
 and_left true b h = refl
@@ -121,9 +122,6 @@ seen ws = map (option_map bare) ws
 of_other : (lba j : ℕ) (o : Option ℕ) → o ≡ Some lba → j ≢ lba → is_of j o ≡ false
 of_other lba j o e other = ap (is_of j) e ∙ ne_eqb lba j (λ x. other (sym x))
 
-of_same : (lba : ℕ) (o : Option ℕ) → o ≡ Some lba → is_of lba o ≡ true
-of_same lba o e = ap (is_of lba) e ∙ eq-eqb lba lba refl
-
 other_winner : (rs : List Record) (r : Record) (j lba : ℕ) → r.lba ≡ Some lba → j ≢ lba → winner (rs ++ r ∷ []) j ≡ winner rs j
 other_winner rs r j lba e other = winner_more rs r j ∙ ap (λ b. cond b (newer (winner rs j) r) (winner rs j)) (of_other lba j r.lba e other)
 
@@ -162,7 +160,7 @@ row_there n f g xs k d h inside =
     same_Some (g (get_or xs k d)) (f k) (sym (slice_get-map g xs k ∙ ap (option_map g) (slice_get-get_or xs k d inside)) ∙ h.each k (omega (arith, h.count, length-map xs g)))
 
 pub line_there : (n : ℕ) (ts : List Trace) (k : ℕ) (d : Trace) → AllByRecursion (λ t. t.line < n) ts → k < length ts → (get_or ts k d).line < n
-line_there n ts k d h inside = all_at (λ (t : Trace). t.line < n) ts k (get_or ts k d) h (slice_get-get_or ts k d inside)
+line_there n ts k d h inside = all_get (λ (t : Trace). t.line < n) ts k (get_or ts k d) h (slice_get-get_or ts k d inside)
 
 pub no_winners : (sectors : ℕ) → IsTable sectors (winner []) (seen (replicate sectors None))
 no_winners sectors = rw (map_replicate sectors) (table_new sectors (winner []) None (λ k below. refl)) where

@@ -8,8 +8,8 @@ use Rattle.pblk_model.specs.ChunkStep.{Read}
 use Rattle.pblk_model.specs.Image.{Image}
 use Rattle.pblk_laws.specs.LineBlocks.{chunk_in}
 use Rattle.unit_port.specs.Unit.{ModelUnit}
-use Rattle.vector_io.specs.Commands.{EventAt, AreNext, after_all}
-use Rattle.vector_io.specs.Status.{is_lost}
+use Rattle.unit_port.specs.Commands.{EventAt, AreNext, after_all}
+use Rattle.unit_port.specs.Did.{is_lost}
 use Rattle.scan_recovery.specs.declared.error.ScanErr.{ScanErr}
 use Rattle.scan_recovery.specs.declared.error.ScanErr.TheVariants as errors
 use Rattle.scan_recovery.specs.Units.{image_of, IsLastEvent}
@@ -44,6 +44,10 @@ pub record HasFetched (s : Shape) (old new : List ModelUnit) (events : List Even
   pub units : new ≡ after_all old events
   pub ends : FetchEnds new events error
   pub image : image_of s new ≡ image_of s old
+
+-- some fetches were made, which left the chunks as they were, and they ended so
+abbrev pub WereFetched : Shape → List ModelUnit → List ModelUnit → Option ScanErr → Type 0
+WereFetched s old new error = (events : List EventAt) × HasFetched s old new events error
 
 -- a block of a chunk that is written and can be read
 pub record IsReadableAt (i : Image) (line unit block : ℕ) : Type 0 where

@@ -8,6 +8,7 @@ use Rattle.pblk_model.specs.Records.{Record}
 use Rattle.pblk_model.specs.Contents as model
 use Rattle.scan_recovery.specs.declared.sectors.Contents.{Contents}
 use Rattle.scan_recovery.specs.declared.sectors.Head.{Head}
+use Rattle.scan_recovery.specs.declared.sectors.Summary.{Summary}
 
 -- the line and the sequence number of a start record
 abbrev pub head_of : StartRecord → Head
@@ -25,6 +26,15 @@ counted_count i = length (filter (λ r. is_some r.lba) (model.counted i))
 abbrev pub live_count : Image → ℕ
 live_count i = length (filter (has_record (model.counted i)) (range_with_len 0 i.shape.capacity))
 
+-- what the image holds, but for the sectors
+abbrev pub summary_in : Image → Summary
+summary_in i = record {
+  end = model.end i;
+  counted = counted_count i;
+  live = live_count i;
+  head = option_map head_of (model.head i);
+}
+
 -- what the image holds
 abbrev pub contents_in : Image → Contents
 contents_in i = record {
@@ -34,6 +44,13 @@ contents_in i = record {
   live = live_count i;
   head = option_map head_of (model.head i);
 }
+
+-- this is the summary of the image
+pub record IsSummaryOf (i : Image) (s : Summary) : Type 0 where
+  pub end : s.end ≡ model.end i
+  pub counted : s.counted ≡ counted_count i
+  pub live : s.live ≡ live_count i
+  pub head : s.head ≡ option_map head_of (model.head i)
 
 -- these contents are those of the image
 pub record IsContentsOf (i : Image) (c : Contents) : Type 0 where

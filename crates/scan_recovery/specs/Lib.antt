@@ -10,3 +10,6 @@ pub mod Find
 pub mod Fetches
 pub mod Media
 pub mod Held
+pub mod Packed
+pub mod LineBuffer
+pub mod Readying

@@ -14,7 +14,7 @@ use Rattle.pblk_model.specs.Image.{Image}
 use Rattle.pblk_laws.specs.LineBlocks.{chunk_in}
 use Rattle.unit_port.specs.Armed.{is_stop}
 use Rattle.unit_port.specs.Unit.{ModelUnit}
-use Rattle.vector_io.specs.Commands.{UnitCommand, EventAt, command_of, IsNext, after_one, after_all}
+use Rattle.unit_port.specs.Commands.{UnitCommand, EventAt, command_of, IsNext, after_one, after_all}
 use Rattle.scan_recovery.specs.declared.error.ScanErr.{ScanErr}
 use Rattle.scan_recovery.specs.declared.error.ScanErr.TheVariants as errors
 use Rattle.scan_recovery.specs.Units.{image_of, IsLastEvent}
@@ -79,6 +79,10 @@ pub record HasPadded (s : Shape) (old new : List ModelUnit) (events : List Event
   pub pads : ArePads s old events
   pub units : new ≡ after_all old events
   pub ends : Ends new events result
+
+-- they were padded by some events, and the padding ended so
+abbrev pub WerePadded : Shape → List ModelUnit → List ModelUnit → Result (Unit {0}) ScanErr → Type 0
+WerePadded s old new result = (events : List EventAt) × HasPadded s old new events result
 
 -- a stripe of Pad blocks, as bytes and marks
 pub record AreBlank (s : Shape) (bytes : List ℕ) (marks : List Mark) : Type 0 where

@@ -1,16 +1,21 @@
 -- The newest counted records, and the tops of lines.
-use Rattle.std.specs.Prelude.{ℕ, ◌≡◌, true, List, length, map}
+use Rattle.std.specs.Prelude.{ℕ, ◌≡◌, true, List, length, map, Option}
 use Rattle.std.specs.List.{filter}
 use Rattle.std.specs.Option.{is_some, option_map}
 use Rattle.pblk_model.specs.declared.shape.Shape.{Shape}
-use Rattle.pblk_model.specs.StartRecord.{start_fits}
+use Rattle.pblk_model.specs.StartRecord.{StartRecord as HeadRecord, start_fits}
 use Rattle.pblk_model.specs.Records.{Record}
 use Rattle.pblk_model.specs.Contents.{winner}
 use Rattle.pblk_meta.specs.declared.start_record.StartRecord.{StartRecord}
-use Rattle.pblk_meta.specs.Records.{start_numbers}
+use Rattle.pblk_meta.specs.declared.rows.Row.{Row}
+use Rattle.pblk_meta.specs.Records.{row_numbers, start_numbers}
 use Rattle.found_laws.specs.Finding.{top_of}
 use Rattle.scan_recovery.specs.declared.counting.Tally.{Tally}
-use Rattle.scan_recovery.specs.Traces.{IsTable, bare}
+use Rattle.scan_recovery.specs.Traces.{IsTable, bare, row_of}
+
+-- the head's row of each line
+abbrev pub AreRows : Option HeadRecord → List (Option Row) → Type 0
+AreRows head rows = IsTable (length rows) (row_of head) (map (option_map row_numbers) rows)
 
 -- the winner of each sector, and the top of each line, of these records
 pub record IsTally (sectors lines : ℕ) (rs : List Record) (t : Tally) : Type 0 where

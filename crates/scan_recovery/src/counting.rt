@@ -10,7 +10,7 @@ ghost use Rattle.pblk_model.specs.Records.{Record};
 ghost use Rattle.pblk_model.specs.Contents.{counts, counted_after, end_after, newer};
 ghost use Rattle.pblk_meta.specs.Records.{row_numbers, start_numbers};
 ghost use Rattle.scan_recovery.specs.Traces.{IsTable, bare, bares, is_below_row, row_of};
-ghost use Rattle.scan_recovery.specs.Tally.{HasStartFits, IsTally, named_count};
+ghost use Rattle.scan_recovery.specs.Tally.{AreRows, HasStartFits, IsTally, named_count};
 
 use crate::trace::{Trace, is_newer};
 use pblk_meta::{Row, StartRecord};
@@ -22,7 +22,8 @@ pub(crate) fn rows_by_line(
     head: &Option<StartRecord>,
     lines: u32,
 ) -> Result<Vec<Option<Row>>, AllocError>
-    ensures { IfOk result (λ rows. IsTable lines (row_of (option_map start_numbers head.now)) (map (option_map row_numbers) rows.items)) }
+    ensures { let of = row_of (option_map start_numbers head.now)
+        in IfOk result (λ rows. IsTable lines of (map (option_map row_numbers) rows.items)) }
 {
     let mut rows = Vec::new(alloc);
     for line in 0..lines {
@@ -42,7 +43,8 @@ fn row_in(head: &Option<StartRecord>, line: u32) -> Option<Row>
 }
 
 fn row_of(rows: &[Row], line: u32) -> Option<Row>
-    ensures { option_map row_numbers result ≡ find (λ row. row.line == line) (map row_numbers rows.now) }
+    ensures { option_map row_numbers result
+        ≡ find (λ row. row.line == line) (map row_numbers rows.now) }
 {
     for row in rows {
         if row.line == line {
@@ -52,8 +54,9 @@ fn row_of(rows: &[Row], line: u32) -> Option<Row>
     None
 }
 
-// Whether a record counts: its line is of the head's mount and its position below the end, or its line has a row for its
-// sequence number and its position is below that row's bound. `row` is the head's row of its line.
+// Whether a record counts: its line is of the head's mount and its position below the end, or its line has
+// a row for its sequence number and its position is below that row's bound. `row` is the head's row of its
+// line.
 fn counts(head: &StartRecord, end: u64, row: &Option<Row>, t: &Trace) -> bool
     ensures counts { (s : Shape) (line g : ℕ) → start_fits s line g (start_numbers head.now) ≡ true
         → option_map row_numbers row.now ≡ row_of (Some (start_numbers head.now)) t.now.line
@@ -82,14 +85,16 @@ fn is_below(row: &Option<Row>, t: &Trace) -> bool
     }
 }
 
-/// The newest counted record of each sector, and for each line one past the greatest position of its counted records.
+/// The newest counted record of each sector, and for each line one past the greatest position of its
+/// counted records.
 #[derive(Debug, Drop)]
 pub(crate) struct Tally {
     pub winners: Vec<Option<Trace>>,
     pub tops: Vec<u64>,
 }
 
-/// The winner of each sector below the capacity, and the top of each line. `rows` has the head's row of each line.
+/// The winner of each sector below the capacity, and the top of each line. `rows` has the head's row of
+/// each line.
 pub(crate) fn tally_of(
     alloc: Global,
     traces: &[Trace],
@@ -100,9 +105,10 @@ pub(crate) fn tally_of(
 ) -> Result<Tally, AllocError>
     requires head { IfSome head.now HasStartFits }
     requires end { end ≡ end_after (bares traces.now) (option_map start_numbers head.now) }
-    requires rows { IsTable (length rows.now) (row_of (option_map start_numbers head.now)) (map (option_map row_numbers) rows.now) }
+    requires rows { AreRows (option_map start_numbers head.now) rows.now }
     requires lines { AllByRecursion (λ t. t.line < length rows.now) traces.now }
-    ensures { IfOk result (IsTally sectors (length rows.now) (counted_after (bares traces.now) (option_map start_numbers head.now))) }
+    ensures { let counted = counted_after (bares traces.now) (option_map start_numbers head.now)
+        in IfOk result (IsTally sectors (length rows.now) counted) }
 {
     let mut tally = Tally::new(alloc, sectors, rows.len())?;
     match head {
@@ -122,11 +128,12 @@ fn count_all(
     rows: &[Option<Row>],
 )
     requires head { HasStartFits head.now }
-    requires rows { IsTable (length rows.now) (row_of (Some (start_numbers head.now))) (map (option_map row_numbers) rows.now) }
+    requires rows { AreRows (Some (start_numbers head.now)) rows.now }
     requires lines { AllByRecursion (λ t. t.line < length rows.now) traces.now }
     requires tops { length tally.old.tops.items ≡ length rows.now }
     ensures { (sectors : ℕ) → IsTally sectors (length rows.now) [] tally.old
-        → IsTally sectors (length rows.now) (filter (counts (start_numbers head.now) end) (bares traces.now)) tally.new }
+        → IsTally sectors (length rows.now)
+        (filter (counts (start_numbers head.now) end) (bares traces.now)) tally.new }
 {
     for t in traces {
         if counts(head, end, &rows[t.line as usize], t) {
@@ -144,9 +151,10 @@ pub(crate) fn named_in(
 ) -> u64
     requires head { IfSome head.now HasStartFits }
     requires end { end ≡ end_after (bares traces.now) (option_map start_numbers head.now) }
-    requires rows { IsTable (length rows.now) (row_of (option_map start_numbers head.now)) (map (option_map row_numbers) rows.now) }
+    requires rows { AreRows (option_map start_numbers head.now) rows.now }
     requires lines { AllByRecursion (λ t. t.line < length rows.now) traces.now }
-    ensures { result ≡ named_count (counted_after (bares traces.now) (option_map start_numbers head.now)) }
+    ensures { let counted = counted_after (bares traces.now) (option_map start_numbers head.now)
+        in result ≡ named_count counted }
 {
     match head {
         None => 0,
@@ -156,9 +164,10 @@ pub(crate) fn named_in(
 
 fn named_by(traces: &[Trace], head: &StartRecord, end: u64, rows: &[Option<Row>]) -> u64
     requires head { HasStartFits head.now }
-    requires rows { IsTable (length rows.now) (row_of (Some (start_numbers head.now))) (map (option_map row_numbers) rows.now) }
+    requires rows { AreRows (Some (start_numbers head.now)) rows.now }
     requires lines { AllByRecursion (λ t. t.line < length rows.now) traces.now }
-    ensures { result ≡ named_count (filter (counts (start_numbers head.now) end) (bares traces.now)) }
+    ensures { let counted = filter (counts (start_numbers head.now) end) (bares traces.now)
+        in result ≡ named_count counted }
 {
     let mut named = 0;
     for t in traces {
@@ -192,7 +201,8 @@ impl Tally {
     fn note(&mut self, t: &Trace)
         requires line { t.now.line < length self.old.tops.items }
         requires low { t.now.position + 1 < 2 ^ 64 }
-        ensures tally { (sectors lines : ℕ) (rs : List Record) → IsTally sectors lines rs self.old → IsTally sectors lines (rs ++ bare t.now ∷ []) self.new }
+        ensures tally { (sectors lines : ℕ) (rs : List Record) → IsTally sectors lines rs self.old
+            → IsTally sectors lines (rs ++ bare t.now ∷ []) self.new }
         ensures tops { length self.new.tops.items ≡ length self.old.tops.items }
     {
         let line = t.line as usize;

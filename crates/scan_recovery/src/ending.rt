@@ -11,8 +11,8 @@ use crate::trace::Trace;
 use pblk_meta::StartRecord;
 use std::alloc::{AllocError, Global};
 
-/// The least position from the head's front on that no record bears in a line of the head's mount, and 0 without a head.
-/// It takes memory for a flag for each record.
+/// The least position from the head's front on that no record bears in a line of the head's mount, and 0
+/// without a head. It takes memory for a flag for each record.
 pub(crate) fn end_after(
     alloc: Global,
     traces: &[Trace],
@@ -20,7 +20,8 @@ pub(crate) fn end_after(
 ) -> Result<u64, AllocError>
     requires low { IfSome head.now (λ h. h.front < 2 ^ 61) }
     requires few { length traces.now ≤ 2 ^ 26 }
-    ensures { IfOk result (λ p. p ≡ end_after (bares traces.now) (option_map start_numbers head.now)) }
+    ensures { IfOk result (λ p. p
+        ≡ end_after (bares traces.now) (option_map start_numbers head.now)) }
 {
     match head {
         None => Ok(0),
@@ -35,7 +36,8 @@ pub(crate) fn end_after(
 fn first_missing(borne: &[bool], front: u64) -> u64
     requires low { front < 2 ^ 61 }
     requires few { length borne.now ≤ 2 ^ 26 }
-    ensures { (f : ℕ → Bool) → IsTable (length borne.now) (λ k. f (front + k)) borne.now → result ≡ least_missing f (length borne.now) front }
+    ensures { (f : ℕ → Bool) → IsTable (length borne.now) (λ k. f (front + k)) borne.now
+        → result ≡ least_missing f (length borne.now) front }
 {
     let mut position = front;
     for seen in borne {
@@ -49,7 +51,9 @@ fn first_missing(borne: &[bool], front: u64) -> u64
 
 // A flag for each position from the head's front on, for as many as there are records: whether one bears it.
 fn borne_from(alloc: Global, traces: &[Trace], head: &StartRecord) -> Result<Vec<bool>, AllocError>
-    ensures { IfOk result (λ v. IsTable (length traces.now) (borne_at (bares traces.now) (start_numbers head.now)) v.items) }
+    ensures { IfOk result
+        (λ v. IsTable (length traces.now) (borne_at (bares traces.now) (start_numbers head.now))
+        v.items) }
 {
     let mut borne = vec![in alloc; false; traces.len()]?;
     for t in traces {
@@ -60,7 +64,8 @@ fn borne_from(alloc: Global, traces: &[Trace], head: &StartRecord) -> Result<Vec
 
 // Sets the flag of a record's position, if there is one.
 fn note_position(borne: &mut [bool], head: &StartRecord, t: &Trace)
-    ensures { (n : ℕ) (rs : List Record) → IsTable n (borne_at rs (start_numbers head.now)) borne.old
+    ensures { (n : ℕ) (rs : List Record)
+        → IsTable n (borne_at rs (start_numbers head.now)) borne.old
         → IsTable n (borne_at (rs ++ bare t.now ∷ []) (start_numbers head.now)) borne.new }
 {
     if head.first_seq <= t.seq && head.front <= t.position {

@@ -21,7 +21,8 @@ use pblk_meta::{Row, StartRecord};
 use pblk_model::{ChunkState, Found, Items, LineRow, Shape, Winner};
 use std::alloc::{AllocError, Global};
 
-/// What is found of an image whose lines were surveyed and whose chunks have these states, by unit and then by chunk.
+/// What is found of an image whose lines were surveyed and whose chunks have these states, by unit and then
+/// by chunk.
 pub(crate) fn found_of(
     alloc: Global,
     shape: &Shape,
@@ -32,7 +33,8 @@ pub(crate) fn found_of(
     requires few { length survey.now.traces.items ≤ 2 ^ 26 }
     requires lines { length survey.now.lines.items ≡ shape.now.chunks }
     requires within { AllByRecursion (λ t. t.line < shape.now.chunks) survey.now.traces.items }
-    ensures { (i : Image) → i.shape ≡ shape.now → IsSurvey i shape.now.chunks survey.now → chunks.items ≡ taken_states i
+    ensures { (i : Image) → i.shape ≡ shape.now → IsSurvey i shape.now.chunks survey.now
+        → chunks.items ≡ taken_states i
         → IfOk result (IsFoundOf i) }
 {
     let head = &survey.head;
@@ -74,7 +76,9 @@ fn front_of(head: &Option<StartRecord>) -> u64
 // The winners of a table by sector, by rising lba.
 fn winners_in(alloc: Global, best: &[Option<Trace>]) -> Result<Vec<Winner>, AllocError>
     ensures { (f : ℕ → Option Record) → IsTable (length best.now) f (map (option_map bare) best.now)
-        → IfOk result (λ v. v.items ≡ filter_map (λ lba. option_map (winner_with lba) (f lba)) (range_with_len 0 (length best.now))) }
+        → IfOk result (λ v. v.items
+        ≡ filter_map (λ lba. option_map (winner_with lba) (f lba))
+        (range_with_len 0 (length best.now))) }
 {
     let mut winners = Vec::new(alloc);
     for (lba, best) in best.iter().enumerate() {
@@ -121,7 +125,10 @@ fn line_rows(
 ) -> Result<Vec<LineRow>, AllocError>
     requires rows { length rows.now ≡ length lines.now }
     requires tops { length tops.now ≡ length lines.now }
-    ensures { IfOk result (λ v. IsTable (length lines.now) (λ k. row_from lines.now (option_map start_numbers head.now) (map (option_map row_numbers) rows.now) tops.now k) v.items) }
+    ensures { let h = option_map start_numbers head.now
+        in let rs = map (option_map row_numbers) rows.now
+        in IfOk result
+        (λ v. IsTable (length lines.now) (λ k. row_from lines.now h rs tops.now k) v.items) }
 {
     let mut found = Vec::new(alloc);
     for line in 0..lines.len() {

@@ -9,8 +9,8 @@ ghost use Rattle.pblk_model.specs.Image.{IsFit};
 ghost use Rattle.pblk_model.specs.ImageFile.{image_of};
 ghost use Rattle.pblk_meta.specs.Records.{row_numbers, start_numbers};
 ghost use Rattle.ocssd_drive.specs.Drive.{stored};
-ghost use Rattle.scan_recovery.specs.Held.{held_by, thin_winner};
-ghost use Rattle.scan_recovery.specs.Holding.{IsContentsOf, head_of};
+ghost use Rattle.scan_recovery.specs.Held.{IsHeld, held_by, thin_winner};
+ghost use Rattle.scan_recovery.specs.Holding.{IsContentsOf, IsSummaryOf, head_of};
 ghost use Rattle.scan_recovery.specs.Survey.{IsSurvey};
 ghost use Rattle.scan_recovery.specs.Tally.{HasStartFits};
 ghost use Rattle.scan_recovery.specs.Traces.{IsTable, bare, bares, row_of};
@@ -18,7 +18,7 @@ ghost use Rattle.scan_recovery.specs.Traces.{IsTable, bare, bares, row_of};
 use crate::counting::{named_in, rows_by_line, tally_of};
 use crate::ending::end_after;
 use crate::media::Media;
-use crate::sectors::{Contents, Head, Sectors};
+use crate::sectors::{Contents, Head, Sectors, Summary};
 use crate::survey::Survey;
 use crate::trace::Trace;
 use ocssd_drive::Drive;
@@ -26,18 +26,40 @@ use pblk_layout::Layout;
 use pblk_meta::StartRecord;
 use std::alloc::{AllocError, Global};
 
-/// What the image of a drive holds: the user sectors, each the newest of its records that count, and where the mount of its
-/// newest start record ends (Bjørling, González, Bonnet, FAST 2017, recovery).
+/// What the image of a drive holds: the user sectors, each the newest of its records that count, and where
+/// the mount of its newest start record ends (Bjørling, González, Bonnet, FAST 2017, recovery).
 ///
-/// All written blocks are looked at where they lie, those of Open chunks too, which can't all be fetched. No unit is
-/// commanded, and the drive stays as it is. Fails only for want of memory: beside the sectors, each of which is copied once,
-/// it takes a few dozen bytes for a block.
+/// All written blocks are looked at where they lie, those of Open chunks too, which can't all be fetched.
+/// No unit is commanded, and the drive stays as it is. Fails only for want of memory: beside the sectors,
+/// each of which is copied once, it takes a few dozen bytes for a block.
 pub fn contents(alloc: Global, drive: &Drive) -> Result<Contents, AllocError>
     ensures { IfOk result (IsContentsOf (image_of (stored drive.now))) }
 {
     let media = Media::new(alloc, drive)?;
     let survey = survey_of(alloc, &media)?;
-    contents_of(alloc, &media, &survey)
+    let held = held_in(alloc, &media, &survey)?;
+    let shape = media.shape();
+    let bytes = sector_bytes(alloc, &media, &held.winners)?;
+    let summary = held.summary;
+    Ok(Contents {
+        sectors: Sectors::new(bytes, shape.sector, shape.capacity),
+        end: summary.end,
+        counted: summary.counted,
+        live: summary.live,
+        head: summary.head,
+    })
+}
+
+/// What the image of a drive holds, but for the user sectors: `contents` without them. No sector is copied.
+///
+/// Fails only for want of memory, of which it takes a few dozen bytes for a block.
+pub fn summary(alloc: Global, drive: &Drive) -> Result<Summary, AllocError>
+    ensures { IfOk result (IsSummaryOf (image_of (stored drive.now))) }
+{
+    let media = Media::new(alloc, drive)?;
+    let survey = survey_of(alloc, &media)?;
+    let held = held_in(alloc, &media, &survey)?;
+    Ok(held.summary)
 }
 
 // What the lines bear.
@@ -76,28 +98,38 @@ fn add_line(
     survey.add(alloc, layout, line, width, used, &blocks)
 }
 
-// What an image holds whose lines were surveyed.
-fn contents_of(alloc: Global, media: &Media<'_>, survey: &Survey) -> Result<Contents, AllocError>
+// The newest of the records that count of each sector, and the rest of what an image holds.
+#[derive(Debug, Drop)]
+pub(crate) struct Held {
+    pub winners: Vec<Option<Trace>>,
+    pub summary: Summary,
+}
+
+// What an image holds whose lines were surveyed, but for the sectors' bytes.
+fn held_in(alloc: Global, media: &Media<'_>, survey: &Survey) -> Result<Held, AllocError>
     requires accepted { IsAccepted media.now.shape }
     requires fit { IsFit media.now }
     requires survey { IsSurvey media.now media.now.shape.chunks survey.now }
     requires head { IfSome survey.now.head HasStartFits }
     requires few { length survey.now.traces.items ≤ 2 ^ 26 }
-    requires within { AllByRecursion (λ t. t.line < media.now.shape.chunks) survey.now.traces.items }
-    ensures { IfOk result (IsContentsOf media.now) }
+    requires within { let inside = media.now.shape.chunks
+        in AllByRecursion (λ t. t.line < inside) survey.now.traces.items }
+    ensures { IfOk result (IsHeld media.now) }
 {
     let shape = media.shape();
     let head = &survey.head;
     let end = end_after(alloc, &survey.traces, head)?;
     let rows = rows_by_line(alloc, head, shape.chunks)?;
     let tally = tally_of(alloc, &survey.traces, head, end, &rows, shape.capacity)?;
-    let bytes = sector_bytes(alloc, media, &tally.winners)?;
-    Ok(Contents {
-        sectors: Sectors::new(bytes, shape.sector, shape.capacity),
+    let summary = Summary {
         end,
         counted: named_in(&survey.traces, head, end, &rows),
         live: live_in(&tally.winners),
         head: head_in(head),
+    };
+    Ok(Held {
+        winners: tally.winners,
+        summary,
     })
 }
 
@@ -126,7 +158,8 @@ fn live_in(winners: &[Option<Trace>]) -> u64
     live
 }
 
-// The bytes of the user sectors, one after another: each is copied from the block of its newest record that counts.
+// The bytes of the user sectors, one after another: each is copied from the block of its newest record that
+// counts.
 fn sector_bytes(
     alloc: Global,
     media: &Media<'_>,
@@ -134,9 +167,12 @@ fn sector_bytes(
 ) -> Result<Vec<u8>, AllocError>
     requires accepted { IsAccepted media.now.shape }
     requires fit { IsFit media.now }
-    requires winners { IsTable media.now.shape.capacity (thin_winner media.now) (map (option_map bare) winners.now) }
-    ensures bytes { IfOk result (λ v. v.items ≡ flat_map (sector_of media.now) (range_with_len 0 media.now.shape.capacity)) }
-    ensures size { IfOk result (λ v. length v.items ≡ media.now.shape.capacity * media.now.shape.sector) }
+    requires winners { IsTable media.now.shape.capacity (thin_winner media.now)
+        (map (option_map bare) winners.now) }
+    ensures bytes { let capacity = media.now.shape.capacity
+        in IfOk result (λ v. v.items ≡ flat_map (sector_of media.now) (range_with_len 0 capacity)) }
+    ensures size { let size = media.now.shape.capacity * media.now.shape.sector
+        in IfOk result (λ v. length v.items ≡ size) }
 {
     let size = media.shape().sector as usize;
     let zeros = vec![in alloc; 0; size]?;

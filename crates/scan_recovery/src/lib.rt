@@ -1,7 +1,9 @@
-//! Recovery by scanning: what a drive holds when a mount begins (Bjørling, González, Bonnet, FAST 2017, recovery).
+//! Recovery by scanning: what a drive holds when a mount begins (Bjørling, González, Bonnet, FAST 2017,
+//! recovery).
 //!
-//! `pad` closes the chunks that a mount left Open, and `scan` tells what a mount begins with on a drive without Open chunks.
-//! `contents` tells what the image of any drive holds for its user.
+//! `pad` closes the chunks that a mount left Open, and `scan` tells what a mount begins with on a drive
+//! without Open chunks. `make_ready` does both. `contents` tells what the image of any drive holds for its
+//! user, and `summary` all of that but the sectors.
 #![tactic(auto)]
 
 mod counting;
@@ -10,10 +12,12 @@ mod error;
 mod fetching;
 mod finding;
 mod holding;
+mod line_buffer;
 mod line_records;
 mod media;
 mod padding;
 mod reading;
+mod readying;
 mod scanning;
 mod sectors;
 mod survey;
@@ -21,7 +25,8 @@ mod trace;
 mod unit_calls;
 
 pub use error::ScanErr;
-pub use holding::contents;
+pub use holding::{contents, summary};
 pub use padding::pad;
+pub use readying::make_ready;
 pub use scanning::scan;
-pub use sectors::{Contents, Head, Sectors};
+pub use sectors::{Contents, Head, Sectors, Summary};

@@ -18,12 +18,6 @@ use pblk_model::{Mark, Shape};
 use std::alloc::{AllocError, Global};
 use std::marker::Model;
 
-/// The address in the mark of a record's blocks.
-const META: u64 = u64::MAX - 2;
-
-/// The address in the mark of a position that was given up.
-const VOID: u64 = u64::MAX - 1;
-
 /// A written block, wherever it lies: a sector with its mark. Contracts see the model's `Block`.
 #[derive(Debug, Drop)]
 pub(crate) struct Block<'a> {
@@ -55,11 +49,13 @@ fn sectors_of(alloc: Global, run: &[Option<Block<'_>>]) -> Result<Option<Vec<u8>
 
 // Whether a block is written and has the mark of a record of this sequence number.
 fn has_mark(seq: u64, block: &Option<Block<'_>>) -> bool
-    ensures { result ≡ option_map_or (λ b. (b.mark.lba == meta_lba) && (b.mark.position == seq)) block.now false }
+    ensures { result
+        ≡ option_map_or (λ b. (b.mark.lba == meta_lba)
+        && (b.mark.position == seq)) block.now false }
 {
     match block {
         None => false,
-        Some(block) => block.mark.lba == META && block.mark.position == seq,
+        Some(block) => block.mark.lba == Mark::META_LBA && block.mark.position == seq,
     }
 }
 
@@ -85,7 +81,8 @@ pub(crate) fn start_in(
 ) -> Result<Option<StartRecord>, AllocError>
     requires line { line < layout.now.chunks }
     requires width { width ≤ units layout.now }
-    ensures start { IfOk result (λ o. option_map start_numbers o ≡ start_among layout.now line width blocks.now) }
+    ensures start { IfOk result (λ o. option_map start_numbers o
+        ≡ start_among layout.now line width blocks.now) }
     ensures fits { IfOk result (λ o. IfSome o HasStartFits) }
 {
     let len = layout.start_len() as usize;
@@ -115,7 +112,8 @@ pub(crate) fn end_in(
     blocks: &[Option<Block<'_>>],
 ) -> Result<Option<EndRecord>, AllocError>
     requires width { width ≤ units layout.now }
-    ensures end { IfOk result (λ o. option_map end_numbers o ≡ end_among layout.now line width seq blocks.now) }
+    ensures end { IfOk result (λ o. option_map end_numbers o
+        ≡ end_among layout.now line width seq blocks.now) }
 {
     let len = layout.end_len(width) as usize;
     if blocks.len() < len {
@@ -155,7 +153,7 @@ fn named(shape: &Shape, mark: Mark) -> Option<Option<u64>>
 {
     if mark.lba < shape.capacity {
         Some(Some(mark.lba))
-    } else if mark.lba == VOID {
+    } else if mark.lba == Mark::VOID_LBA {
         Some(None)
     } else {
         None
@@ -172,7 +170,9 @@ fn trace_at(
     block: &Option<Block<'_>>,
 ) -> Option<Trace>
     requires { IsAccepted shape.now }
-    ensures { option_map bare result ≡ option_map without_sector (record_in shape.now line seq (option_map end_numbers end.now) at block.now) }
+    ensures { option_map bare result
+        ≡ option_map without_sector
+        (record_in shape.now line seq (option_map end_numbers end.now) at block.now) }
 {
     let block = block.as_ref()?;
     let mark = mark_at(shape, end, at, block)?;
@@ -198,7 +198,8 @@ pub(crate) fn trace_all(
     requires accepted { IsAccepted shape.now }
     requires few { length blocks.now ≤ 65536 }
     ensures traces { OnOk result (bares traces.new.items
-        ≡ bares traces.old.items ++ traces_from shape.now line seq (option_map end_numbers end.now) 0 blocks.now) }
+        ≡ bares traces.old.items ++ traces_from shape.now line seq (option_map end_numbers end.now)
+        0 blocks.now) }
 {
     for (at, block) in blocks.iter().enumerate() {
         if let Some(trace) = trace_at(shape, line, seq, end, at as u32, block) {

@@ -19,8 +19,8 @@ use pblk_model::Shape;
 use std::alloc::{AllocError, Global};
 use std::marker::Model;
 
-/// The chunks of a drive, whose written blocks are read where they lie, whether they can be fetched or not. Contracts see the
-/// image that they are.
+/// The chunks of a drive, whose written blocks are read where they lie, whether they can be fetched or not.
+/// Contracts see the image that they are.
 #[derive(Drop)]
 pub(crate) struct Media<'a> {
     units: &'a [MemoryUnit],
@@ -124,7 +124,8 @@ fn online_by_line(
 ) -> Result<Vec<Vec<u32>>, AllocError>
     requires fit { AreFit shape.now (map (λ u. u.unit) units.now) }
     ensures { IfOk result (λ v. IsTable shape.now.chunks
-        (line_units (image_of shape.now (map (λ u. u.unit) units.now))) (map (λ xs. xs.items) v.items)) }
+        (line_units (image_of shape.now (map (λ u. u.unit) units.now)))
+        (map (λ xs. xs.items) v.items)) }
 {
     let mut online = Vec::with_capacity(alloc, shape.chunks as usize)?;
     for line in 0..shape.chunks {
@@ -144,7 +145,8 @@ fn written_in<'a>(
     requires fit { AreFit shape.now (map (λ u. u.unit) units.now) }
     requires unit { unit < length units.now }
     requires line { line < shape.now.chunks }
-    ensures { result ≡ written_at (image_of shape.now (map (λ u. u.unit) units.now)) line (unit, block) }
+    ensures { let i = image_of shape.now (map (λ u. u.unit) units.now)
+        in result ≡ written_at i line (unit, block) }
 {
     // the shape says which chunks there are
     let _ = shape;

@@ -1,13 +1,13 @@
 //! Closing the chunks that a mount left Open.
 
-ghost use Rattle.std.specs.Prelude.{List, ◌≡◌, ◌≢◌, ◌+◌, ◌<◌, length, map, IfOk, IfSome, IsNone, OnOk};
+ghost use Rattle.std.specs.Prelude.{◌≡◌, ◌≢◌, ◌+◌, ◌<◌, length, map, IfOk, IfSome, IsNone, OnOk};
 ghost use Rattle.pblk_model.specs.Accepted.{IsAccepted};
 ghost use Rattle.pblk_model.specs.Contents.{contents, end};
 ghost use Rattle.pblk_model.specs.Sealed.{IsSealed};
-ghost use Rattle.vector_io.specs.Commands.{AreKept, EventAt};
+ghost use Rattle.unit_port.specs.Commands.{AreKept};
 ghost use Rattle.found_laws.specs.Finding.{NoneOpen};
 ghost use Rattle.scan_recovery.specs.Units.{AreFit, image_of};
-ghost use Rattle.scan_recovery.specs.Pads.{AreBlank, HasPadded, IsNotOpen, IsOpenAt, NoneOpenBefore, room_at};
+ghost use Rattle.scan_recovery.specs.Pads.{AreBlank, WerePadded, IsNotOpen, IsOpenAt, NoneOpenBefore, room_at};
 
 use crate::error::ScanErr;
 use crate::unit_calls::program_at;
@@ -15,40 +15,35 @@ use pblk_model::{ChunkState, Mark, Shape};
 use std::alloc::{AllocError, Global};
 use unit_port::{Unit, UnitErr};
 
-const PAD: Mark = Mark {
-    lba: u64::MAX,
-    position: 0,
-};
-
-/// Closes every Open chunk of a drive (Open-Channel SSD Specification 2.0, Chunk states): by line, and then by unit, each
-/// is programmed with Pad blocks to its end, in programs that end at multiples of WS_OPT.
+/// Closes every Open chunk of a drive (Open-Channel SSD Specification 2.0, Chunk states): by line, and then
+/// by unit, each is programmed with Pad blocks to its end, in programs that end at multiples of WS_OPT.
 ///
-/// The shape is accepted, and the units are those of a drive of it. A program that fails leaves its chunk Closed, and is
-/// no error. A sealed drive stays sealed and holds what it held, also where it stops.
+/// The shape is accepted, and the units are those of a drive of it. A program that fails leaves its chunk
+/// Closed, and is no error. A sealed drive stays sealed and holds what it held, also where it stops.
 ///
-/// Refused: `Drive` where a unit answered Stopped, which ends the padding; it names that event. `Memory` where there
-/// isn't as much as a stripe takes; then nothing was programmed.
+/// Refused: `Drive` where a unit answered Stopped, which ends the padding; it names that event. `Memory`
+/// where there isn't as much as a stripe takes; then nothing was programmed.
 pub fn pad<U: Unit>(alloc: Global, units: &mut [U], shape: &Shape) -> Result<(), ScanErr>
     requires accepted { IsAccepted shape.now }
     requires fit { AreFit shape.now (map U.model units.old) }
     ensures padded { result ≢ Err ScanErr.Memory
-        → (events : List EventAt) × HasPadded shape.now (map U.model units.old) (map U.model units.new) events result }
+        → WerePadded shape.now (map U.model units.old) (map U.model units.new) result }
     ensures memory { result ≡ Err ScanErr.Memory → map U.model units.new ≡ map U.model units.old }
     ensures closed { OnOk result (NoneOpen (image_of shape.now (map U.model units.new))) }
     ensures sealed { IsSealed (image_of shape.now (map U.model units.old))
         → IsSealed (image_of shape.now (map U.model units.new)) }
-    ensures contents { IsSealed (image_of shape.now (map U.model units.old))
-        → contents (image_of shape.now (map U.model units.new)) ≡ contents (image_of shape.now (map U.model units.old)) }
-    ensures end { IsSealed (image_of shape.now (map U.model units.old))
-        → end (image_of shape.now (map U.model units.new)) ≡ end (image_of shape.now (map U.model units.old)) }
+    ensures contents { let old = image_of shape.now (map U.model units.old)
+        in let new = image_of shape.now (map U.model units.new)
+        in IsSealed old → contents new ≡ contents old }
+    ensures end { let old = image_of shape.now (map U.model units.old)
+        in let new = image_of shape.now (map U.model units.new)
+        in IsSealed old → end new ≡ end old }
     ensures fit { AreFit shape.now (map U.model units.new) }
     ensures kept { AreKept (map U.model units.old) (map U.model units.new) }
     ensures wear { map U.wear units.new ≡ map U.wear units.old }
 {
-    match blank_stripe(alloc, shape) {
-        Ok((bytes, marks)) => pad_lines(units, shape, &bytes, &marks),
-        Err(_) => Err(ScanErr::Memory),
-    }
+    let (bytes, marks) = blank_stripe(alloc, shape)?;
+    pad_lines(units, shape, &bytes, &marks)
 }
 
 // A stripe of Pad blocks.
@@ -57,7 +52,7 @@ fn blank_stripe(alloc: Global, shape: &Shape) -> Result<(Vec<u8>, Vec<Mark>), Al
     ensures { IfOk result (λ stripe. AreBlank shape.now stripe.0.items stripe.1.items) }
 {
     let bytes = vec![in alloc; 0; shape.ws_opt as usize * shape.sector as usize]?;
-    let marks = vec![in alloc; PAD; shape.ws_opt as usize]?;
+    let marks = vec![in alloc; Mark::PAD; shape.ws_opt as usize]?;
     Ok((bytes, marks))
 }
 
@@ -70,8 +65,9 @@ fn pad_lines<U: Unit>(
     requires accepted { IsAccepted shape.now }
     requires fit { AreFit shape.now (map U.model units.old) }
     requires blank { AreBlank shape.now bytes.now marks.now }
-    ensures padded { (events : List EventAt) × HasPadded shape.now (map U.model units.old) (map U.model units.new) events result }
-    ensures closed { OnOk result (NoneOpenBefore (image_of shape.now (map U.model units.new)) shape.now.chunks 0) }
+    ensures padded { WerePadded shape.now (map U.model units.old) (map U.model units.new) result }
+    ensures closed { let new = image_of shape.now (map U.model units.new)
+        in OnOk result (NoneOpenBefore new shape.now.chunks 0) }
     ensures kept { AreKept (map U.model units.old) (map U.model units.new) }
     ensures wear { map U.wear units.new ≡ map U.wear units.old }
 {
@@ -94,8 +90,9 @@ fn pad_line<U: Unit>(
     requires blank { AreBlank shape.now bytes.now marks.now }
     requires line { line < shape.now.chunks }
     requires before { NoneOpenBefore (image_of shape.now (map U.model units.old)) line 0 }
-    ensures padded { (events : List EventAt) × HasPadded shape.now (map U.model units.old) (map U.model units.new) events result }
-    ensures closed { OnOk result (NoneOpenBefore (image_of shape.now (map U.model units.new)) (line + 1) 0) }
+    ensures padded { WerePadded shape.now (map U.model units.old) (map U.model units.new) result }
+    ensures closed { let new = image_of shape.now (map U.model units.new)
+        in OnOk result (NoneOpenBefore new (line + 1) 0) }
     ensures kept { AreKept (map U.model units.old) (map U.model units.new) }
     ensures wear { map U.wear units.new ≡ map U.wear units.old }
 {
@@ -120,8 +117,9 @@ fn pad_chunk<U: Unit>(
     requires line { line < shape.now.chunks }
     requires unit { unit < length units.old }
     requires before { NoneOpenBefore (image_of shape.now (map U.model units.old)) line unit }
-    ensures padded { (events : List EventAt) × HasPadded shape.now (map U.model units.old) (map U.model units.new) events result }
-    ensures closed { OnOk result (NoneOpenBefore (image_of shape.now (map U.model units.new)) line (unit + 1)) }
+    ensures padded { WerePadded shape.now (map U.model units.old) (map U.model units.new) result }
+    ensures closed { let new = image_of shape.now (map U.model units.new)
+        in OnOk result (NoneOpenBefore new line (unit + 1)) }
     ensures kept { AreKept (map U.model units.old) (map U.model units.new) }
     ensures wear { map U.wear units.new ≡ map U.wear units.old }
 {
@@ -137,7 +135,8 @@ fn open_at<U: Unit>(units: &[U], shape: &Shape, line: u32, unit: u32) -> Option<
     requires line { line < shape.now.chunks }
     requires unit { unit < length units.now }
     ensures some { IfSome result (IsOpenAt (image_of shape.now (map U.model units.now)) line unit) }
-    ensures none { IsNone result → IsNotOpen (image_of shape.now (map U.model units.now)) line unit }
+    ensures none { IsNone result
+        → IsNotOpen (image_of shape.now (map U.model units.now)) line unit }
 {
     // the shape says which chunks there are
     let _ = shape;
@@ -148,7 +147,8 @@ fn open_at<U: Unit>(units: &[U], shape: &Shape, line: u32, unit: u32) -> Option<
     }
 }
 
-// Programs the first Open chunk from its write pointer to the next multiple of WS_OPT. Ok also where that failed.
+// Programs the first Open chunk from its write pointer to the next multiple of WS_OPT. Ok also where that
+// failed.
 fn pad_stripe<U: Unit>(
     units: &mut [U],
     shape: &Shape,
@@ -164,9 +164,10 @@ fn pad_stripe<U: Unit>(
     requires unit { unit < length units.old }
     requires found { IsOpenAt (image_of shape.now (map U.model units.old)) line unit at }
     requires before { NoneOpenBefore (image_of shape.now (map U.model units.old)) line unit }
-    ensures padded { (events : List EventAt) × HasPadded shape.now (map U.model units.old) (map U.model units.new) events result }
-    ensures smaller { OnOk result (room_at shape.now (image_of shape.now (map U.model units.new)) line unit
-        < room_at shape.now (image_of shape.now (map U.model units.old)) line unit) }
+    ensures padded { WerePadded shape.now (map U.model units.old) (map U.model units.new) result }
+    ensures smaller { let old = image_of shape.now (map U.model units.old)
+        in let new = image_of shape.now (map U.model units.new)
+        in OnOk result (room_at shape.now new line unit < room_at shape.now old line unit) }
     ensures before { NoneOpenBefore (image_of shape.now (map U.model units.new)) line unit }
     ensures kept { AreKept (map U.model units.old) (map U.model units.new) }
     ensures wear { map U.wear units.new ≡ map U.wear units.old }

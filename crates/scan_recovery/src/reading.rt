@@ -20,7 +20,8 @@ pub(crate) fn online_units<U: Unit>(
 ) -> Result<Vec<u32>, AllocError>
     requires fit { AreFit shape.now (map U.model units.now) }
     requires line { line < shape.now.chunks }
-    ensures { IfOk result (λ v. v.items ≡ line_units (image_of shape.now (map U.model units.now)) line) }
+    ensures { let i = image_of shape.now (map U.model units.now)
+        in IfOk result (λ v. v.items ≡ line_units i line) }
 {
     let mut online = Vec::new(alloc);
     for unit in 0..shape.units() {
@@ -83,7 +84,8 @@ pub(crate) fn chunk_states<U: Unit>(
     shape: &Shape,
 ) -> Result<Vec<ChunkState>, AllocError>
     requires fit { AreFit shape.now (map U.model units.now) }
-    ensures { IfOk result (λ v. v.items ≡ taken_states (image_of shape.now (map U.model units.now))) }
+    ensures { let i = image_of shape.now (map U.model units.now)
+        in IfOk result (λ v. v.items ≡ taken_states i) }
 {
     let mut states = Vec::new(alloc);
     for unit in 0..shape.units() {
@@ -101,8 +103,10 @@ fn unit_states<U: Unit>(
 ) -> Result<(), AllocError>
     requires fit { AreFit shape.now (map U.model units.now) }
     requires unit { unit < length units.now }
-    ensures { (media : List Chunk) → slice_get (image_of shape.now (map U.model units.now)).units unit ≡ Some media
-        → OnOk result (states.new.items ≡ states.old.items ++ map (λ c. taken_state c.state) media) }
+    ensures { let i = image_of shape.now (map U.model units.now)
+        in (media : List Chunk) → slice_get i.units unit ≡ Some media
+        → OnOk result (states.new.items
+        ≡ states.old.items ++ map (λ c. taken_state c.state) media) }
 {
     for line in 0..shape.chunks {
         states.push(taken(state_of(units, shape, unit, line)))?;

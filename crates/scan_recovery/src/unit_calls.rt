@@ -4,8 +4,8 @@ ghost use Rattle.std.specs.Prelude.{◌≡◌, ◌*◌, length, map};
 ghost use Rattle.pblk_model.specs.Blocks.{blocks_of};
 ghost use Rattle.pblk_model.specs.ChunkStep.{Read, Write};
 ghost use Rattle.unit_port.specs.Unit.{TellsBlock, TellsDone};
-ghost use Rattle.vector_io.specs.Commands.{AreKept, EventAt, IsTaken};
-ghost use Rattle.vector_io.specs.Did.{AreOfSize, Did, command_at};
+ghost use Rattle.unit_port.specs.Commands.{AreKept, IsTaken};
+ghost use Rattle.unit_port.specs.Did.{AreOfSize, DidAt, command_at};
 
 use pblk_model::{Got, Mark};
 use unit_port::{Unit, UnitErr};
@@ -24,8 +24,9 @@ pub(crate) fn program_at<U: Unit>(
     requires whole { length bytes.now ≡ length marks.now * size }
     requires taken { let blocks = blocks_of size bytes.now marks.now
         in IsTaken (map U.model units.old) (command_at unit chunk (Write at blocks)) }
-    ensures did { let command = command_at unit chunk (Write at (blocks_of size bytes.now marks.now))
-        in (e : EventAt) × Did (map U.model units.old) command e (map U.model units.new) × TellsDone result e.event.outcome }
+    ensures did { let blocks = blocks_of size bytes.now marks.now
+        in DidAt (map U.model units.old) (command_at unit chunk (Write at blocks))
+        (TellsDone result) (map U.model units.new) }
     ensures kept { AreKept (map U.model units.old) (map U.model units.new) }
     ensures wear { map U.wear units.new ≡ map U.wear units.old }
 {
@@ -43,8 +44,8 @@ pub(crate) fn fetch_at<U: Unit>(
 ) -> Result<Got, UnitErr>
     requires sector { AreOfSize (length out.old) (map U.model units.old) }
     requires taken { IsTaken (map U.model units.old) (command_at unit chunk (Read block)) }
-    ensures did { (e : EventAt) × Did (map U.model units.old) (command_at unit chunk (Read block)) e (map U.model units.new)
-        × TellsBlock out.old out.new result e.event.outcome }
+    ensures did { DidAt (map U.model units.old) (command_at unit chunk (Read block))
+        (TellsBlock out.old out.new result) (map U.model units.new) }
     ensures kept { AreKept (map U.model units.old) (map U.model units.new) }
     ensures wear { map U.wear units.new ≡ map U.wear units.old }
 {

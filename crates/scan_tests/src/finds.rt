@@ -1,8 +1,9 @@
 //! What a scan finds on a drive.
 
 use crate::harness::{Case, compare};
-use crate::image::{Step, VOID};
+use crate::image::Step;
 use ocssd_drive::{ChunkState, CommandKind};
+use pblk_model::Mark;
 use std::test::Fail;
 
 // A start record and a stripe on the same unit, whose positions leave out the first four.
@@ -161,7 +162,7 @@ static IMAGES: [Case; 10] = [
         steps: &[
             Step::First(0, 1),
             Step::One(0, 4, 6, 0),
-            Step::One(0, 5, VOID, 1),
+            Step::One(0, 5, Mark::VOID_LBA, 1),
             Step::One(0, 6, 7, 2),
             Step::One(0, 7, 64, 3),
         ],
@@ -224,8 +225,8 @@ static IMAGES: [Case; 10] = [
     },
 ];
 
-// The newest record of a sector: by position, then by sequence number, then by line address, and of two that are alike
-// in these that of the lesser line.
+// The newest record of a sector: by position, then by sequence number, then by line address, and of two that
+// are alike in these that of the lesser line.
 static NEWEST: [Case; 7] = [
     // A later position in an older line.
     Case {

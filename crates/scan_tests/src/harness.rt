@@ -5,11 +5,12 @@ ghost use Rattle.pblk_model.specs.Chunk.{PointerFits};
 ghost use Rattle.found_laws.specs.Finding.{NoneOpen};
 ghost use Rattle.scan_recovery.specs.Units.{AreFit, image_of};
 
-use crate::image::{Image, PAD, Plain, Step, made};
+use crate::image::{Step, Units, made};
 use ocssd_drive::{
     Chunk, ChunkState, CommandKind, Drive, FaultPlan, Fuse, Geometry, MemoryUnit, Unit,
 };
 use pblk_model::{Found, LineRow, Mark, Shape, Winner};
+use pblk_reference::Chunk as Written;
 use scan_recovery::{ScanErr, pad, scan};
 use std::alloc::{AllocError, Global};
 use std::process::Abort;
@@ -18,9 +19,10 @@ use std::process::Abort;
 #[derive(Clone, Copy)]
 pub(crate) struct Case {
     pub(crate) steps: &'static [Step],
-    /// The unit whose nth command of this kind fails; a program lands so many multiples of two blocks.
+    /// The unit whose nth command of this kind fails. A program that fails lands so many multiples of two
+    /// blocks.
     pub(crate) fails: Option<(u32, CommandKind, u32, u32)>,
-    /// The unit at whose nth program the drive stops, after as many.
+    /// The unit at whose nth program the drive stops, and how many multiples of two blocks that program lands.
     pub(crate) stops: Option<(u32, u32, u32)>,
     pub(crate) told: &'static [&'static str],
 }
@@ -51,8 +53,8 @@ fn told(alloc: Global, case: &Case) -> Result<String, AllocError> {
     Ok(text)
 }
 
-// What is told: a line for the padding and one for each unit after it; and where that ended well, the lines of what
-// is found, and how many events each unit then had.
+// What is told: a line for the padding and one for each unit after it; and where that ended well, the lines
+// of what is found, and how many events each unit then had.
 fn put_all(
     alloc: Global,
     text: &mut String,
@@ -101,7 +103,7 @@ fn armed(alloc: Global, case: &Case) -> Result<Drive, AllocError> {
     let image = made(alloc, case.steps)?;
     let mut drive = Drive::new(alloc, Geometry::small(), 512, 64, 64)?;
     for unit in 0..2u32 {
-        restore_unit(&mut drive, unit, &image);
+        restore_unit(alloc, &mut drive, unit, &image)?;
     }
     let fuse = match case.stops {
         Some((unit, nth, cut)) => Some(Fuse { unit, nth, cut }),
@@ -122,30 +124,55 @@ fn armed(alloc: Global, case: &Case) -> Result<Drive, AllocError> {
     Ok(drive)
 }
 
-fn restore_unit(drive: &mut Drive, unit: u32, image: &Image) {
+fn restore_unit(
+    alloc: Global,
+    drive: &mut Drive,
+    unit: u32,
+    image: &Units,
+) -> Result<(), AllocError> {
     if let Some(chunks) = image.get(unit as usize) {
         for line in 0..8u32 {
-            if let Some(plain) = chunks.get(line as usize) {
-                restore(drive, unit, line, plain);
+            if let Some(chunk) = chunks.get(line as usize) {
+                let (bytes, marks) = blocks_of(alloc, chunk)?;
+                restore(drive, unit, line, chunk.state, &bytes, &marks);
             }
         }
     }
+    Ok(())
+}
+
+// The bytes of a chunk's blocks, one after another, and their marks.
+fn blocks_of(alloc: Global, chunk: &Written) -> Result<(Vec<u8>, Vec<Mark>), AllocError> {
+    let mut bytes = Vec::new(alloc);
+    let mut marks = Vec::new(alloc);
+    for block in &chunk.blocks {
+        bytes.extend_from_slice(&block.sector)?;
+        marks.push(block.mark)?;
+    }
+    Ok((bytes, marks))
 }
 
 // Writes a chunk of the small drive, if there is such a chunk.
-fn restore(drive: &mut Drive, unit: u32, chunk: u32, plain: &Plain) {
+fn restore(
+    drive: &mut Drive,
+    unit: u32,
+    chunk: u32,
+    state: ChunkState,
+    bytes: &[u8],
+    marks: &[Mark],
+) {
     let shape = drive.shape();
-    let count = plain.marks.len();
+    let count = marks.len();
     if unit < shape.units()
         && chunk < shape.chunks
         && shape.sector == 512
         && shape.ws_min == 2
         && count <= 24
         && count % 2 == 0
-        && plain.bytes.len() == count * 512
-        && fits(plain.state, shape.clba, count)
+        && bytes.len() == count * 512
+        && fits(state, shape.clba, count)
     {
-        drive.restore(unit, chunk, 0, plain.state, &plain.bytes, &plain.marks);
+        drive.restore(unit, chunk, 0, state, bytes, marks);
     }
 }
 
@@ -207,7 +234,7 @@ fn pads_in(chunk: &Chunk, pointer: u32) -> u32 {
 }
 
 fn is_pad(sector: &[u8], mark: Mark) -> bool {
-    mark.lba == PAD && mark.position == 0 && sector.iter().all(|byte| *byte == 0)
+    mark == Mark::PAD && sector.iter().all(|byte| *byte == 0)
 }
 
 fn put_found(text: &mut String, found: &Found) -> Result<(), AllocError> {

@@ -5,52 +5,45 @@ ghost use Rattle.pblk_model.specs.Accepted.{IsAccepted};
 ghost use Rattle.pblk_model.specs.Shape.{units};
 
 use pblk_model::{ChunkState, Mark, Shape};
-use pblk_reference::{EndRecord, Row, StartRecord, end_bytes, start_bytes};
+use pblk_reference::{Block, Chunk, EndRecord, Row, StartRecord, end_bytes, start_bytes};
 use std::alloc::{AllocError, Global};
 
-/// The address in the mark of a record's blocks.
-pub(crate) const META: u64 = u64::MAX - 2;
-
-/// The address in the mark of a position that was given up.
-pub(crate) const VOID: u64 = u64::MAX - 1;
-
-/// The address in the mark of a block that fills up a stripe.
-pub(crate) const PAD: u64 = u64::MAX;
-
-// The small drive: a line has 4 blocks of start record, 40 of data and 4 of end record.
-fn small() -> Shape
+/// The small drive: two units of eight chunks of 24 blocks. A line of both units has 4 blocks of start record,
+/// 40 of data and 4 of end record.
+pub(crate) fn small() -> Shape
     ensures accepted { IsAccepted result }
     ensures two { units result ≡ 2 }
 {
     Shape::small()
 }
 
-/// A chunk: its state, and the sectors of its blocks and their marks, one after another.
-#[derive(Drop)]
-pub(crate) struct Plain {
-    pub(crate) state: ChunkState,
-    pub(crate) bytes: Vec<u8>,
-    pub(crate) marks: Vec<Mark>,
-}
+// The tag of a sector of which the bytes don't matter.
+const PLAIN: u64 = 7;
 
-/// The chunks of a drive, by unit and then by line.
-pub(crate) type Image = Vec<Vec<Plain>>;
+/// The chunks of an image, by unit and then by line.
+pub(crate) type Units = Vec<Vec<Chunk>>;
 
 /// What is done to an image.
 #[derive(Clone, Copy)]
 pub(crate) enum Step {
     /// The start record of a line of the first mount, with the front 0: the line and its sequence number.
     First(u32, u64),
-    /// The start record of a line: its sequence number, the first one of its mount, the front, and a row of an older
-    /// line, its sequence number and its bound, or none.
+    /// The start record of a line: its sequence number, the first one of its mount, the front, and a row of
+    /// an older line, its sequence number and its bound, or none.
     Start(u32, u64, u64, u64, Option<(u32, u64, u64)>),
     /// A block at a line address, of a sector and at a position.
     One(u32, u32, u64, u64),
     /// Blocks from a line address on, so many, of sectors and at positions that rise.
     Sectors(u32, u32, u32, u64, u64),
+    /// The same with this tag as their bytes: the line, the line address, how many, the tag, and the first
+    /// sector and position.
+    Tagged(u32, u32, u32, u64, u64, u64),
     /// Pad blocks from a line address on, so many.
     Pads(u32, u32, u32),
-    /// The end record of a line: its sequence number, and pairs of the sectors from 0 on at positions from here on.
+    /// Pad blocks whose bytes have a tag that rises, with the first tag.
+    TaggedPads(u32, u32, u32, u64),
+    /// The end record of a line: its sequence number, and pairs of the sectors from 0 on at positions from
+    /// here on.
     End(u32, u64, u64),
     /// The chunk of a unit in a line is Closed as it is.
     Close(usize, u32),
@@ -59,7 +52,7 @@ pub(crate) enum Step {
 }
 
 /// The image after these steps from a blank one.
-pub(crate) fn made(alloc: Global, steps: &[Step]) -> Result<Image, AllocError> {
+pub(crate) fn made(alloc: Global, steps: &[Step]) -> Result<Units, AllocError> {
     let mut image = blank(alloc)?;
     for step in steps {
         take_step(alloc, &mut image, *step)?;
@@ -67,7 +60,7 @@ pub(crate) fn made(alloc: Global, steps: &[Step]) -> Result<Image, AllocError> {
     Ok(image)
 }
 
-fn blank(alloc: Global) -> Result<Image, AllocError> {
+fn blank(alloc: Global) -> Result<Units, AllocError> {
     let mut image = Vec::new(alloc);
     for _ in 0..2 {
         image.push(blank_unit(alloc)?)?;
@@ -75,29 +68,36 @@ fn blank(alloc: Global) -> Result<Image, AllocError> {
     Ok(image)
 }
 
-fn blank_unit(alloc: Global) -> Result<Vec<Plain>, AllocError> {
+fn blank_unit(alloc: Global) -> Result<Vec<Chunk>, AllocError> {
     let mut chunks = Vec::new(alloc);
     for _ in 0..8 {
-        chunks.push(Plain {
+        chunks.push(Chunk {
             state: ChunkState::Free,
-            bytes: Vec::new(alloc),
-            marks: Vec::new(alloc),
+            blocks: Vec::new(alloc),
         })?;
     }
     Ok(chunks)
 }
 
-fn take_step(alloc: Global, image: &mut Image, step: Step) -> Result<(), AllocError> {
+fn take_step(alloc: Global, image: &mut Units, step: Step) -> Result<(), AllocError> {
     match step {
         Step::First(line, seq) => write_start(alloc, image, line, seq, 1, 0, None),
         Step::Start(line, seq, first_seq, front, row) => {
             write_start(alloc, image, line, seq, first_seq, front, row)
         }
-        Step::One(line, at, lba, position) => write_sectors(image, line, at, 1, lba, position),
-        Step::Sectors(line, at, count, lba, position) => {
-            write_sectors(image, line, at, count, lba, position)
+        Step::One(line, at, lba, position) => {
+            write_sectors(alloc, image, line, at, 1, PLAIN, Mark { lba, position })
         }
-        Step::Pads(line, at, count) => write_pads(image, line, at, count),
+        Step::Sectors(line, at, count, lba, position) => {
+            write_sectors(alloc, image, line, at, count, PLAIN, Mark { lba, position })
+        }
+        Step::Tagged(line, at, count, tag, lba, position) => {
+            write_sectors(alloc, image, line, at, count, tag, Mark { lba, position })
+        }
+        Step::Pads(line, at, count) => write_pads(alloc, image, line, at, count, 0, 0),
+        Step::TaggedPads(line, at, count, tag) => {
+            write_pads(alloc, image, line, at, count, tag, 1)
+        }
         Step::End(line, seq, position) => write_end(alloc, image, line, seq, position),
         Step::Close(unit, line) => {
             turn(image, unit, line, ChunkState::Closed);
@@ -111,7 +111,7 @@ fn take_step(alloc: Global, image: &mut Image, step: Step) -> Result<(), AllocEr
     }
 }
 
-fn turn(image: &mut Image, unit: usize, line: u32, state: ChunkState) {
+fn turn(image: &mut Units, unit: usize, line: u32, state: ChunkState) {
     if let Some(chunks) = image.get_mut(unit)
         && let Some(chunk) = chunks.get_mut(line as usize)
     {
@@ -119,16 +119,15 @@ fn turn(image: &mut Image, unit: usize, line: u32, state: ChunkState) {
     }
 }
 
-fn clear(image: &mut Image, unit: usize, line: u32) {
+fn clear(image: &mut Units, unit: usize, line: u32) {
     if let Some(chunks) = image.get_mut(unit)
         && let Some(chunk) = chunks.get_mut(line as usize)
     {
-        chunk.bytes.clear();
-        chunk.marks.clear();
+        chunk.blocks.clear();
     }
 }
 
-fn is_online(chunks: &[Plain], line: u32) -> bool {
+fn is_online(chunks: &[Chunk], line: u32) -> bool {
     match chunks.get(line as usize) {
         Some(chunk) => chunk.state != ChunkState::Offline,
         None => false,
@@ -136,7 +135,7 @@ fn is_online(chunks: &[Plain], line: u32) -> bool {
 }
 
 // How many chunks of a line aren't Offline.
-fn width(image: &[Vec<Plain>], line: u32) -> u32 {
+fn width(image: &[Vec<Chunk>], line: u32) -> u32 {
     let mut width = 0u32;
     for chunks in image {
         if is_online(chunks, line) {
@@ -147,7 +146,7 @@ fn width(image: &[Vec<Plain>], line: u32) -> u32 {
 }
 
 // The unit that has a line address.
-fn unit_at(image: &[Vec<Plain>], line: u32, at: u32) -> Option<usize> {
+fn unit_at(image: &[Vec<Chunk>], line: u32, at: u32) -> Option<usize> {
     let width = width(image, line);
     if width == 0 {
         return None;
@@ -165,22 +164,15 @@ fn unit_at(image: &[Vec<Plain>], line: u32, at: u32) -> Option<usize> {
 }
 
 // Writes the next block of the chunk that has a line address.
-fn place(
-    image: &mut Image,
-    line: u32,
-    at: u32,
-    mark: Mark,
-    sector: &[u8],
-) -> Result<(), AllocError> {
+fn place(image: &mut Units, line: u32, at: u32, block: Block) -> Result<(), AllocError> {
     let Some(unit) = unit_at(image, line, at) else {
         return Ok(());
     };
     if let Some(chunks) = image.get_mut(unit)
         && let Some(chunk) = chunks.get_mut(line as usize)
     {
-        chunk.bytes.extend_from_slice(sector)?;
-        chunk.marks.push(mark)?;
-        chunk.state = if chunk.marks.len() < 24 {
+        chunk.blocks.push(block)?;
+        chunk.state = if chunk.blocks.len() < 24 {
             ChunkState::Open
         } else {
             ChunkState::Closed
@@ -189,49 +181,74 @@ fn place(
     Ok(())
 }
 
+/// The sector of a tag: the tag as eight bytes, 64 times.
+pub(crate) fn sector(alloc: Global, tag: u64) -> Result<Vec<u8>, AllocError> {
+    let mut bytes = Vec::new(alloc);
+    for _ in 0..64 {
+        bytes.extend_from_slice(&tag.to_le_bytes())?;
+    }
+    Ok(bytes)
+}
+
+// The mark of the first block is given.
 fn write_sectors(
-    image: &mut Image,
+    alloc: Global,
+    image: &mut Units,
     line: u32,
     at: u32,
     count: u32,
-    lba: u64,
-    position: u64,
+    tag: u64,
+    first: Mark,
 ) -> Result<(), AllocError> {
     for index in 0..count {
         let mark = Mark {
-            lba: lba.wrapping_add(u64::from(index)),
-            position: position.wrapping_add(u64::from(index)),
+            lba: first.lba.wrapping_add(u64::from(index)),
+            position: first.position.wrapping_add(u64::from(index)),
         };
-        place(image, line, at.wrapping_add(index), mark, &[7; 512])?;
+        let sector = sector(alloc, tag)?;
+        place(image, line, at.wrapping_add(index), Block { sector, mark })?;
     }
     Ok(())
 }
 
-fn write_pads(image: &mut Image, line: u32, at: u32, count: u32) -> Result<(), AllocError> {
-    let mark = Mark {
-        lba: PAD,
-        position: 0,
-    };
+// The first tag is given, and how much each tag is above the one before.
+fn write_pads(
+    alloc: Global,
+    image: &mut Units,
+    line: u32,
+    at: u32,
+    count: u32,
+    tag: u64,
+    step: u64,
+) -> Result<(), AllocError> {
     for index in 0..count {
-        place(image, line, at.wrapping_add(index), mark, &[0; 512])?;
+        let tag = tag.wrapping_add(step.wrapping_mul(u64::from(index)));
+        let sector = sector(alloc, tag)?;
+        let block = Block {
+            sector,
+            mark: Mark::PAD,
+        };
+        place(image, line, at.wrapping_add(index), block)?;
     }
     Ok(())
 }
 
 fn write_record(
-    image: &mut Image,
+    alloc: Global,
+    image: &mut Units,
     line: u32,
     at: u32,
     seq: u64,
     bytes: &[u8],
 ) -> Result<(), AllocError> {
     let mark = Mark {
-        lba: META,
+        lba: Mark::META_LBA,
         position: seq,
     };
     let mut at = at;
-    for sector in bytes.chunks(512) {
-        place(image, line, at, mark, sector)?;
+    for bytes in bytes.chunks(512) {
+        let sector = Vec::from_slice(alloc, bytes)?;
+        place(image, line, at, Block { sector, mark })?;
         at = at.wrapping_add(1);
     }
     Ok(())
@@ -247,7 +264,7 @@ fn rows_of(alloc: Global, row: Option<(u32, u64, u64)>) -> Result<Vec<Row>, Allo
 
 fn write_start(
     alloc: Global,
-    image: &mut Image,
+    image: &mut Units,
     line: u32,
     seq: u64,
     first_seq: u64,
@@ -267,7 +284,7 @@ fn write_start(
         return Ok(());
     }
     let bytes = start_bytes(alloc, &small(), &start)?;
-    write_record(image, line, 0, seq, &bytes)
+    write_record(alloc, image, line, 0, seq, &bytes)
 }
 
 fn pairs_from(alloc: Global, count: u64, position: u64) -> Result<Vec<Mark>, AllocError> {
@@ -282,7 +299,7 @@ fn pairs_from(alloc: Global, count: u64, position: u64) -> Result<Vec<Mark>, All
 // A line of both units has 40 addresses of data, and one of a single unit has 16.
 fn write_end(
     alloc: Global,
-    image: &mut Image,
+    image: &mut Units,
     line: u32,
     seq: u64,
     position: u64,
@@ -302,5 +319,5 @@ fn write_end(
         pairs,
     };
     let bytes = end_bytes(alloc, &small(), &end)?;
-    write_record(image, line, width * 24 - 4, seq, &bytes)
+    write_record(alloc, image, line, width * 24 - 4, seq, &bytes)
 }

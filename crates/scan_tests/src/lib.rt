@@ -1,4 +1,5 @@
-//! Tests of recovery by scanning on drives in memory whose images were written by hand, through its public calls.
+//! Tests of recovery on images made by hand, through its public calls: of padding and scans of drives in
+//! memory, and of the plain recovery.
 #![tactic(auto)]
 
 #[cfg(test)]
@@ -9,3 +10,5 @@ mod harness;
 mod image;
 #[cfg(test)]
 mod pads;
+#[cfg(test)]
+mod recovery;

@@ -16,13 +16,13 @@ use Rattle.pblk_world.specs.Commanding.{ends_program, ends_stripe, ended_stripes
 use Rattle.pblk_world.specs.Opening.{MayBegin}
 use Rattle.pblk_world.specs.Legal.{IsLegal}
 use Rattle.core_laws.specs.PlainWorlds.{IsPlainWorld}
-use Rattle.core_laws.proofs.Lists.{fun_same}
-use Rattle.placing_laws.proofs.Online.{get_numbered}
 use Rattle.step_laws.specs.Whole.{knows_all, engine_step, after_begin, IsLevel, IsKnown}
 use Rattle.step_laws.proofs.ChunkEvents.{same_images}
 use Rattle.step_laws.proofs.EngineSteps.{engine_logs, media_still}
 use Rattle.step_laws.proofs.Knowing.{next_step, still_plain, known_whole, known_before}
 use Rattle.step_laws.proofs.Levels.{level_by}
+use Rattle.lemmas.proofs.Maps.{numbered_at}
+use Rattle.lemmas.proofs.Numbers.{fun_same}
 
 pub mount_begins : (i : Image) (w : World) (b : Beginning) → IsPlainWorld i w → MayBegin i (log_of w) b → IsPlainWorld i (after_begin i.shape b w)
 mount_begins i w b plain may = still_plain i (engine_step i.shape (Begin b) w) w plain (next_step i w 0 (Decides (Begin b)) plain.legal (omega arith) may) refl
@@ -70,7 +70,7 @@ known_is i w b legal none =
     one unit =
         let new : Logs = log_of (after_begin i.shape b w) in
         let none_told : told_events new (0 + unit) ≡ [] = ap (λ (log : List Logged). filter_map (λ (l : Logged). told_by new (0 + unit) l.event) log) (first_log i.shape w b none) in
-        get_numbered (λ unit. after_log i.shape unit.1 (told_events new unit.0)) 0 (found_image i new).units unit
+        numbered_at (λ unit. after_log i.shape unit.1 (told_events new unit.0)) 0 (found_image i new).units unit
         ∙ ap (λ (es : List UnitEvent). option_map (λ cs. after_log i.shape cs es) (slice_get (found_image i new).units unit)) none_told
         ∙ untold i.shape (slice_get (found_image i new).units unit)
 

@@ -1,22 +1,16 @@
 -- A chunk of a unit after an event, and images by their units.
-use Rattle.std.proofs.Common.{◌≡◌, ◌≢◌, ℕ, suc, Some, None, Option, List, [], ◌∷◌, refl, sym, ap, ◌∙◌}
+use Rattle.std.proofs.Common.{◌≡◌, ◌≢◌, ℕ, Some, None, Option, List, refl, ap, ◌∙◌}
 use Rattle.std.specs.Prelude.{slice_get, slice_set}
 use Rattle.std.specs.Option.{option_map, option_map_or, option_and_then}
-use Rattle.std.proofs.lemmas.Option.{same_Some, none-some}
+use Rattle.std.proofs.lemmas.Option.{none-some}
 use Rattle.pblk_model.specs.declared.shape.Shape.{Shape}
 use Rattle.pblk_model.specs.Chunk.{Chunk}
 use Rattle.pblk_model.specs.UnitLog.{UnitEvent, after_outcome, after_event}
 use Rattle.pblk_model.specs.Image.{Image}
-use Rattle.stripe_placer.proofs.Among.{got_here}
 use Rattle.line_laws.proofs.LandedRows.{event_beside as beside_in}
+use Rattle.lemmas.proofs.Parts.{got_here, same_lists}
 
 -- ---- lists
-
-pub same_lists : {X : Type 0} (xs ys : List X) → ((k : ℕ) → slice_get xs k ≡ slice_get ys k) → xs ≡ ys
-same_lists [] [] same = refl
-same_lists [] (y ∷ ys) same = absurd (none-some y (same 0))
-same_lists (x ∷ xs) [] same = absurd (none-some x (sym (same 0)))
-same_lists (x ∷ xs) (y ∷ ys) same = ap (λ z. z ∷ xs) (same_Some x y (same 0)) ∙ ap (λ zs. y ∷ zs) (same_lists xs ys (λ k. same (suc k)))
 
 pub same_images : (s : Shape) (us vs : List (List Chunk)) → ((unit : ℕ) → slice_get us unit ≡ slice_get vs unit) → ◌≡◌ {A = Image} (record { shape = s; units = us }) (record { shape = s; units = vs })
 same_images s us vs same = ap (λ (xs : List (List Chunk)). record { shape = s; units = xs }) (same_lists us vs same)

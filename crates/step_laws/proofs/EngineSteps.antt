@@ -8,11 +8,11 @@ use Rattle.pblk_world.specs.EngineLog.{Begun, begun}
 use Rattle.pblk_world.specs.Legal.{MayDecide, IsDecision}
 use Rattle.core_laws.specs.PlainWorlds.{is_plain_decision, IsPlainWorld}
 use Rattle.core_laws.specs.Stepping.{after}
-use Rattle.core_laws.proofs.Lists.{fun_same}
-use Rattle.media_laws.proofs.Steps.{log_here, log_elsewhere}
-use Rattle.placing_laws.proofs.Beginnings.{begun_stays}
 use Rattle.step_laws.specs.Whole.{knows_all, engine_step}
 use Rattle.step_laws.proofs.Knowing.{next_step, still_plain}
+use Rattle.lemmas.proofs.Numbers.{fun_same}
+use Rattle.pblk_world.proofs.EngineLogLemmas.{begun_stays}
+use Rattle.pblk_world.proofs.WorldLemmas.{log_elsewhere, log_here}
 
 decides : (i : Image) (logs : Logs) (b : Begun) (e : EngineEvent) → begun (logs 0) ≡ Some b → IsDecision i logs b e → MayDecide i logs e
 decides i logs b (Begin x) begins may = absurd may

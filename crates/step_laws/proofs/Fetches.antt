@@ -15,11 +15,11 @@ use Rattle.pblk_world.specs.EngineLog.{Begun, begun}
 use Rattle.pblk_world.specs.Commanding.{has_stopped, IsCommand, MayDo}
 use Rattle.pblk_laws.specs.LineBlocks.{chunk_in}
 use Rattle.core_laws.specs.PlainWorlds.{IsPlainWorld}
-use Rattle.core_laws.proofs.Lists.{set_same}
 use Rattle.step_laws.specs.Whole.{unit_step, fetch_of}
 use Rattle.step_laws.proofs.ChunkEvents.{same_images}
 use Rattle.step_laws.proofs.Knowing.{next_step, still_plain}
 use Rattle.step_laws.proofs.UnitSteps.{none_stopped, has_chunks, media_now, media_elsewhere}
+use Rattle.lemmas.proofs.Parts.{set_same}
 
 may_read : (i : Image) (w : World) (unit chunk block : ℕ) (c : Chunk) (o : Option Begun) → IsCommand i (log_of w) unit c chunk (Read block) o
 may_read i w unit chunk block c None = tt

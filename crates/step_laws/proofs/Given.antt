@@ -19,12 +19,12 @@ use Rattle.media_laws.proofs.LineReadable.{stripes_on_are}
 use Rattle.media_laws.proofs.LineStanding.{landed_is_programmed, is_read}
 use Rattle.media_laws.proofs.LineWritten.{programmed, on_unit, standing_chunk, block_in_stripe, written_chunk}
 use Rattle.media_laws.proofs.Order.{stripes_at}
-use Rattle.stripe_placer.proofs.Chunks.{lt_yes as is_below}
+use Rattle.lemmas.proofs.Tests.{lt_true}
 
 read_taken : (s : Shape) (state : ChunkState) (wp b : ℕ) → ReadableIn state s.mw_cunits wp b → b < s.clba → read_refusal_in s state b ≡ None
 read_taken s states.Free wp b h within = absurd h
-read_taken s states.Open wp b h within = ap (λ t. if t then None else Some errors.PastEnd) (is_below b s.clba within)
-read_taken s states.Closed wp b h within = ap (λ t. if t then None else Some errors.PastEnd) (is_below b s.clba within)
+read_taken s states.Open wp b h within = ap (λ t. if t then None else Some errors.PastEnd) (lt_true b s.clba within)
+read_taken s states.Closed wp b h within = ap (λ t. if t then None else Some errors.PastEnd) (lt_true b s.clba within)
 read_taken s states.Offline wp b h within = absurd h
 
 pub given : (i : Image) (w : World) (line unit k r : ℕ) (o : Opening) (p : Placed) (block : Block) → IsPlainWorld i w → life_of (log_of w 0) line ≡ Opened o → slice_get (stripes_on (log_of w 0) o unit) k ≡ Some p

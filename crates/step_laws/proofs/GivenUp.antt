@@ -19,13 +19,11 @@ use Rattle.pblk_world.specs.Lines.{is_empty_state, is_given_up}
 use Rattle.pblk_world.specs.Commanding.{has_stopped, IsGivenUp, IsCommand, MayDo}
 use Rattle.pblk_world.specs.Answering.{MayNoteReset}
 use Rattle.pblk_world.specs.Legal.{IsLegal}
-use Rattle.pblk_world.proofs.Appending.{answers_more, placements_more}
+use Rattle.pblk_world.proofs.Appending.{placements_more}
 use Rattle.pblk_laws.specs.LineBlocks.{chunk_in}
-use Rattle.pblk_laws.proofs.Lists.{all_contains}
 use Rattle.core_laws.specs.PlainWorlds.{IsPlainWorld}
 use Rattle.core_laws.specs.PlacerOf.{unanswered_on}
 use Rattle.media_laws.proofs.Growing.{get_after}
-use Rattle.media_laws.proofs.Steps.{log_here}
 use Rattle.placing_laws.proofs.PlainEvents.{has_begun_plain}
 use Rattle.step_laws.specs.Whole.{engine_step, unit_step, reset_of, after_reset_of, after_noted_reset, IsLevel, IsKnown}
 use Rattle.step_laws.proofs.ChunkEvents.{chunk_beside, chunk_here}
@@ -34,6 +32,9 @@ use Rattle.step_laws.proofs.Knowing.{next_step, still_plain}
 use Rattle.step_laws.proofs.Known.{known_told}
 use Rattle.step_laws.proofs.Levels.{level_by, level_unit}
 use Rattle.step_laws.proofs.UnitSteps.{unit_log, engine_log, media_now, media_elsewhere, none_stopped, named_within, has_chunks}
+use Rattle.lemmas.proofs.Lists.{all_contains}
+use Rattle.pblk_world.proofs.EngineLogLemmas.{answers_more}
+use Rattle.pblk_world.proofs.WorldLemmas.{log_here}
 
 -- ---- it may be done
 

@@ -12,11 +12,12 @@ use Rattle.pblk_world.specs.Events.{Event, Logged, Step}
 use Rattle.pblk_world.specs.World.{World, Logs, log_of, known, cut_logs}
 use Rattle.pblk_world.specs.Legal.{IsAllowed, IsKnowledge, IsLegalStep, IsLegal}
 use Rattle.core_laws.specs.PlainWorlds.{is_plain_event, ArePlain, IsPlainWorld}
-use Rattle.core_laws.proofs.Lists.{fun_same, with_last}
-use Rattle.media_laws.proofs.Steps.{log_elsewhere}
 use Rattle.placed_laws.specs.StripePrograms.{HasHappened}
 use Rattle.placed_laws.proofs.Happened.{happened}
 use Rattle.step_laws.specs.Whole.{knows_all}
+use Rattle.lemmas.proofs.Lists.{with_last}
+use Rattle.lemmas.proofs.Numbers.{fun_same}
+use Rattle.pblk_world.proofs.WorldLemmas.{log_elsewhere}
 
 -- there are no authors beyond the last unit
 pub none_beyond : (i : Image) (w : World) → IsLegal i w → (author : ℕ) → units i.shape < author → log_of w author ≡ []

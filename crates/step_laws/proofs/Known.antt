@@ -12,10 +12,8 @@ use Rattle.pblk_world.specs.World.{World, Logs, log_of, media, unit_event_of, un
 use Rattle.pblk_world.specs.EngineLog.{begun_by}
 use Rattle.pblk_world.specs.Lines.{told_by, known_image}
 use Rattle.core_laws.specs.PlainWorlds.{IsPlainWorld}
-use Rattle.core_laws.proofs.Rows.{same_number, other_number}
 use Rattle.line_laws.proofs.KeptRows.{known_kept}
 use Rattle.media_laws.proofs.Growing.{get_after}
-use Rattle.media_laws.proofs.Steps.{log_elsewhere}
 use Rattle.placing_laws.proofs.KnownImages.{known_one_more}
 use Rattle.step_laws.specs.Whole.{knows_all, engine_step, unit_step, fetch_of, noted, IsKnown}
 use Rattle.step_laws.proofs.ChunkEvents.{same_images}
@@ -23,6 +21,8 @@ use Rattle.step_laws.proofs.EngineSteps.{engine_logs, media_still}
 use Rattle.step_laws.proofs.Fetches.{media_stays}
 use Rattle.step_laws.proofs.UnitSteps.{unit_log, engine_log, media_now, media_elsewhere}
 use Rattle.step_laws.proofs.UnitStays.{known_stays}
+use Rattle.lemmas.proofs.Tests.{other_number, same_number}
+use Rattle.pblk_world.proofs.WorldLemmas.{log_elsewhere}
 
 -- an event that tells of no unit's
 pub known_still : (i : Image) (w : World) (e : EngineEvent) → begun_by (knows_all i.shape w) (Decides e) ≡ None → ((unit : ℕ) → told_by (log_of w) unit (Decides e) ≡ None) → IsKnown i w → IsKnown i (engine_step i.shape e w ∷ w)

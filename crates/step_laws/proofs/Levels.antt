@@ -12,18 +12,18 @@ use Rattle.pblk_world.specs.Events.{EngineEvent, Landed, Decides, Maker, Logged}
 use Rattle.pblk_world.specs.World.{World, log_of, known, knows_engine}
 use Rattle.pblk_world.specs.EngineLog.{Begun, begun, Placed, placed_on, placements, Answer, answers, answer_by, DidLand}
 use Rattle.pblk_world.specs.Commanding.{is_program, was_stopped, ends_stripe, ended_stripes}
-use Rattle.pblk_world.proofs.Appending.{answers_more, placements_more}
+use Rattle.pblk_world.proofs.Appending.{placements_more}
 use Rattle.core_laws.specs.PlainWorlds.{IsPlainWorld}
 use Rattle.core_laws.specs.PlacerOf.{unanswered_on}
-use Rattle.core_laws.proofs.Rows.{same_number, other_number}
-use Rattle.media_laws.proofs.Steps.{log_here, log_elsewhere}
-use Rattle.stripe_placer.proofs.Chunks.{lt_yes as is_below}
 use Rattle.step_laws.specs.Whole.{engine_step, unit_step, program_of, IsLevel, IsKnown, after_program, after_landing}
 use Rattle.step_laws.proofs.Knowing.{known_whole}
 use Rattle.step_laws.proofs.Known.{known_told}
 use Rattle.step_laws.proofs.EngineSteps.{engine_next}
 use Rattle.step_laws.proofs.UnitSteps.{unit_log, other_log, engine_log, may_land, has_begun, engine_longer}
 use Rattle.step_laws.proofs.Programs.{program_legal}
+use Rattle.lemmas.proofs.Tests.{lt_true, other_number, same_number}
+use Rattle.pblk_world.proofs.EngineLogLemmas.{answers_more}
+use Rattle.pblk_world.proofs.WorldLemmas.{log_elsewhere, log_here}
 
 -- ---- one event more
 
@@ -53,13 +53,13 @@ level_by s e w none level unit =
 pub ended_still : (s : Shape) (unit : ℕ) (e : UnitEvent) (maker : Maker) (w : World) → is_program e.command ≡ false → ended_stripes (log_of (unit_step s unit e maker w ∷ w) (suc unit)) ≡ ended_stripes (log_of w (suc unit))
 ended_still s unit e maker w other =
     let l : Logged = (unit_step s unit e maker w).logged in
-    let ends : ends_stripe l ≡ false = ap (λ b. nat_lt 0 (knows_engine l) && (b && not (was_stopped e.outcome))) other ∙ and_no (nat_lt 0 (knows_engine l)) in
+    let ends : ends_stripe l ≡ false = ap (λ b. nat_lt 0 (knows_engine l) && (b && not (was_stopped e.outcome))) other ∙ and_false (nat_lt 0 (knows_engine l)) in
     let none : length (filter ends_stripe (l ∷ [])) ≡ 0 = none_ended l ends in
     ap ended_stripes (unit_log s unit e maker w) ∙ ended_more (log_of w (suc unit)) l ∙ ap (λ n. ended_stripes (log_of w (suc unit)) + n) none ∙ omega arith
   where
-    and_no : (b : Bool) → (b && false) ≡ false
-    and_no true = refl
-    and_no false = refl
+    and_false : (b : Bool) → (b && false) ≡ false
+    and_false true = refl
+    and_false false = refl
 
 pub level_unit : (s : Shape) (unit : ℕ) (e : UnitEvent) (maker : Maker) (w : World) → is_program e.command ≡ false → IsLevel w → IsLevel (unit_step s unit e maker w ∷ w)
 level_unit s unit e maker w other level u = go (cases_order u unit)
@@ -124,7 +124,7 @@ module _ (i : Image) (w : World) (unit : ℕ) (p : Placed) (maker : Maker) (plai
       let l : Logged = (unit_step i.shape unit (program_of p.stripe) maker w).logged in
       let some : 0 < length (log_of w 0) = engine_longer w begins.0 begins.1 in
       let knows : known l 0 ≡ length (log_of w 0) = known_whole i w plain.legal 0 in
-      let ends : ends_stripe l ≡ true = ap (λ b. b && true) (is_below 0 (known l 0) (omega arith)) in
+      let ends : ends_stripe l ≡ true = ap (λ b. b && true) (lt_true 0 (known l 0) (omega arith)) in
       ap ended_stripes (unit_log i.shape unit (program_of p.stripe) maker w) ∙ ended_more (log_of w (suc unit)) l ∙ ap (λ n. ended_stripes (log_of w (suc unit)) + n) (one_ended l ends)
 
   level_own : ended_stripes (log_of (after_landing i.shape unit p.stripe maker w) (suc unit)) ≡ length (answers (log_of (after_landing i.shape unit p.stripe maker w) 0) unit)

@@ -13,3 +13,6 @@ pub mod Pads
 pub mod Beginning
 pub mod GivenUp
 pub mod Given
+pub mod UnitEvents
+pub mod Readied
+pub mod Worlds

@@ -14,15 +14,16 @@ use Rattle.pblk_world.specs.Lines.{known_image}
 use Rattle.pblk_world.specs.Commanding.{ended_stripes}
 use Rattle.core_laws.specs.PlainWorlds.{IsPlainWorld}
 use Rattle.core_laws.specs.PlacerOf.{unanswered_on}
-use Rattle.core_laws.proofs.Lists.{all_at, all_filter}
 use Rattle.core_laws.proofs.Turns.{filtered_is}
-use Rattle.stripe_placer.proofs.Among.{IsAmong, from_filter}
 use Rattle.placing_laws.proofs.KeptLines.{all_online}
-use Rattle.placing_laws.proofs.Online.{known_length}
 use Rattle.placing_laws.proofs.Offered.{live_inside as live_within}
 use Rattle.step_laws.specs.Whole.{unit_step, program_of}
 use Rattle.step_laws.proofs.StripeBlocks.{placed_are_blocks}
 use Rattle.step_laws.proofs.UnitSteps.{program_next}
+use Rattle.lemmas.proofs.Lists.{IsAmong}
+use Rattle.lemmas.proofs.Maps.{all_filter, from_filter}
+use Rattle.lemmas.proofs.Parts.{all_at}
+use Rattle.pblk_world.proofs.LinesLemmas.{length_known}
 
 pub unit_in_range : (i : Image) (w : World) (unit k : ℕ) (p : Placed) → IsPlainWorld i w → slice_get (placed_on (log_of w 0) unit) k ≡ Some p → unit < units i.shape
 unit_in_range i w unit k p plain there =
@@ -31,7 +32,7 @@ unit_in_range i w unit k p plain there =
     all_at (λ (p : Placed). is_live (known_image i (log_of w)) p.stripe.line p.stripe.unit ≡ true) (placements (log_of w 0)) among.0 p among.1 (all_online i w plain) in
     let on : p.stripe.unit ≡ unit = eqb-true p.stripe.unit unit (filtered_is (λ (q : Placed). q.stripe.unit == unit) (placements (log_of w 0)) k p there) in
     let within : p.stripe.unit < length (known_image i (log_of w)).units = live_within (known_image i (log_of w)) p.stripe.line p.stripe.unit live in
-    let count : length (known_image i (log_of w)).units ≡ length i.units = known_length i (log_of w) in
+    let count : length (known_image i (log_of w)).units ≡ length i.units = length_known i (log_of w) in
     let fit : length i.units ≡ units i.shape = plain.fit.units in
     omega arith
 

@@ -19,14 +19,16 @@ use Rattle.pblk_world.specs.EngineLog.{Begun, takes, block_of_taken, Opening, Op
 use Rattle.pblk_world.specs.Fronts.{waiting}
 use Rattle.pblk_world.specs.Legal.{IsDecision}
 use Rattle.pblk_world.specs.Placing.{IsStart, IsData, IsEnd, IsPad, start_blocks, end_blocks, end_record, end_address, next_address}
-use Rattle.pblk_world.proofs.Appending.{takes_more, life_more, placements_more}
+use Rattle.pblk_world.proofs.Appending.{life_more, placements_more}
 use Rattle.pblk_laws.proofs.EndSpelling.{end_spelled, end_bytes_are}
-use Rattle.pblk_laws.proofs.Lists.{all_append, all_take, all_replicate, all_filter}
 use Rattle.pblk_laws.proofs.Starts.{spelled, start_bytes_are}
 use Rattle.core_laws.specs.PlainWorlds.{is_plain_event, IsPlainWorld}
-use Rattle.core_laws.proofs.Lists.{all_dropped as all_drop, all_mapped as all_map, with_last}
 use Rattle.landing_laws.proofs.Keeping.{IsKept, kept}
-use Rattle.placed_laws.proofs.GoingAll.{opened_is as opened_same}
+use Rattle.lemmas.proofs.Lists.{all_append, all_replicated, with_last}
+use Rattle.lemmas.proofs.Maps.{all_filter, all_mapped}
+use Rattle.lemmas.proofs.Parts.{all_dropped, all_taken}
+use Rattle.pblk_model.proofs.BytesLemmas.{zeros_length}
+use Rattle.pblk_world.proofs.EngineLogLemmas.{opened_same, takes_more}
 
 abbrev AreBlocks : Shape → List Block → Type 0
 AreBlocks s blocks = AllByRecursion (IsBlock s) blocks
@@ -39,7 +41,7 @@ AreBytes bytes = AllByRecursion (λ x. x < 256) bytes
 meta_is : (s : Shape) (seq : ℕ) (bytes : List ℕ) → seq < 2 ^ 61 → s.sector ≤ length bytes → AreBytes bytes → IsBlock s (record { sector = take s.sector bytes; mark = meta_mark seq })
 meta_is s seq bytes number long each = record {
   size = length-take-le s.sector bytes long;
-  bytes = all_take (λ x. x < 256) s.sector bytes each;
+  bytes = all_taken (λ x. x < 256) s.sector bytes each;
   lba = lit< tt;
   position = omega arith;
 }
@@ -49,24 +51,20 @@ record_are s seq zero bytes number long each = tt
 record_are s seq (suc n) bytes number long each =
     let parts : suc n * s.sector ≡ n * s.sector + s.sector = suc-mul n s.sector in
     let rest : length (drop s.sector bytes) ≡ length bytes - s.sector = length-drop s.sector bytes in
-    (meta_is s seq bytes number (omega arith) each, record_are s seq n (drop s.sector bytes) number (omega arith) (all_drop (λ x. x < 256) s.sector bytes each))
-
-zeros_long : (n : ℕ) → length (zeros n) ≡ n
-unfolding zeros
-zeros_long n = length-replicate n 0
+    (meta_is s seq bytes number (omega arith) each, record_are s seq n (drop s.sector bytes) number (omega arith) (all_dropped (λ x. x < 256) s.sector bytes each))
 
 padded_long : (n : ℕ) (bytes : List ℕ) → n ≤ length (bytes ++ zeros (n - length bytes))
 padded_long n bytes =
     let sum : length (bytes ++ zeros (n - length bytes)) ≡ length bytes + length (zeros (n - length bytes)) = length-append bytes (zeros (n - length bytes)) in
-    let more : length (zeros (n - length bytes)) ≡ n - length bytes = zeros_long (n - length bytes) in
+    let more : length (zeros (n - length bytes)) ≡ n - length bytes = zeros_length (n - length bytes) in
     omega arith
 
 pub pad_is : (s : Shape) → IsBlock s (pad_block s)
 unfolding zeros
-pad_is s = record { size = length-replicate s.sector 0; bytes = all_replicate (λ x. x < 256) s.sector 0 (lit< tt); lba = lit< tt; position = lit< tt }
+pad_is s = record { size = length-replicate s.sector 0; bytes = all_replicated (λ x. x < 256) s.sector 0 (lit< tt); lba = lit< tt; position = lit< tt }
 
 range_are : (s : Shape) (blocks : List Block) (from to : ℕ) → AreBlocks s blocks → AreBlocks s (slice_range blocks from to)
-range_are s blocks from to all = all_take (IsBlock s) (to - from) (drop from blocks) (all_drop (IsBlock s) from blocks all)
+range_are s blocks from to all = all_taken (IsBlock s) (to - from) (drop from blocks) (all_dropped (IsBlock s) from blocks all)
 
 -- ---- a stripe
 
@@ -88,16 +86,16 @@ stripe_are i logs stripe o number all (inr (inl is)) =
     let first : List Block = map block_of_taken (take i.shape.ws_opt (waiting i.shape (logs 0))) in
     subst (AreBlocks i.shape) (sym is.blocks)
     (all_append (IsBlock i.shape) first (replicate (i.shape.ws_opt - length first) (pad_block i.shape))
-    (all_map (IsBlock i.shape) block_of_taken (take i.shape.ws_opt (waiting i.shape (logs 0)))
-    (all_take (λ t. IsBlock i.shape (block_of_taken t)) i.shape.ws_opt (waiting i.shape (logs 0)) (waiting_are i.shape (logs 0) all)))
-    (all_replicate (IsBlock i.shape) (i.shape.ws_opt - length first) (pad_block i.shape) (pad_is i.shape)))
+    (all_mapped (IsBlock i.shape) block_of_taken (take i.shape.ws_opt (waiting i.shape (logs 0)))
+    (all_taken (λ t. IsBlock i.shape (block_of_taken t)) i.shape.ws_opt (waiting i.shape (logs 0)) (waiting_are i.shape (logs 0) all)))
+    (all_replicated (IsBlock i.shape) (i.shape.ws_opt - length first) (pad_block i.shape) (pad_is i.shape)))
 stripe_are i logs stripe o number all (inr (inr (inl is))) =
     subst (AreBlocks i.shape) (sym is.blocks)
     (range_are i.shape (end_blocks i.shape (logs 0) o) (next_address i.shape (logs 0) o - end_address i.shape o) (next_address i.shape (logs 0) o - end_address i.shape o + i.shape.ws_opt)
     (record_are i.shape o.start.seq (end_len i.shape o.start.width) (end_bytes i.shape (end_record i.shape (logs 0) o)) number (padded_long (end_len i.shape o.start.width * i.shape.sector) (end_spelled (end_record i.shape (logs 0) o)))
     (end_bytes_are i.shape (end_record i.shape (logs 0) o))))
 stripe_are i logs stripe o number all (inr (inr (inr is))) =
-    subst (AreBlocks i.shape) (sym is.blocks) (all_replicate (IsBlock i.shape) i.shape.ws_opt (pad_block i.shape) (pad_is i.shape))
+    subst (AreBlocks i.shape) (sym is.blocks) (all_replicated (IsBlock i.shape) i.shape.ws_opt (pad_block i.shape) (pad_is i.shape))
 
 -- ---- the engine's log
 

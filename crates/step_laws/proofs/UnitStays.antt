@@ -17,14 +17,15 @@ use Rattle.core_laws.specs.PlainWorlds.{IsPlainWorld}
 use Rattle.core_laws.specs.RowsOf.{rows_of}
 use Rattle.core_laws.specs.SlotOf.{slot_of}
 use Rattle.core_laws.specs.WindowOf.{window_from}
-use Rattle.core_laws.proofs.Lists.{fun_same}
 use Rattle.line_laws.proofs.PlainLogs.{none_freed}
 use Rattle.placed_laws.specs.LeftOpenings.{left_openings}
-use Rattle.placing_laws.proofs.Beginnings.{BeginsWell, begins_well, taken_by}
+use Rattle.placing_laws.proofs.Beginnings.{BeginsWell, begins_well}
 use Rattle.placing_laws.proofs.KnownImages.{known_longer}
 use Rattle.step_laws.specs.Whole.{unit_step}
 use Rattle.step_laws.proofs.OtherUnits.{with_units, AreAlike, prefix_past, room_beside, rows_beside, live_beside, line_beside, left_beside, lines_beside, older_rows_beside, slot_beside, placing_beside}
 use Rattle.step_laws.proofs.UnitSteps.{engine_log}
+use Rattle.lemmas.proofs.Numbers.{fun_same}
+use Rattle.pblk_world.proofs.EventsLemmas.{still_first}
 
 module _ (i : Image) (w : World) (unit : ℕ) (e : UnitEvent) (maker : Maker) where
   abbrev step : Step
@@ -77,7 +78,7 @@ module _ (i : Image) (w : World) (unit : ℕ) (e : UnitEvent) (maker : Maker) wh
           cut zero = refl
           cut (suc u) =
               let well : BeginsWell i w u b = begins_well i w u plain b f in
-              taken_by (log_of w (suc u)) step.logged (step.author == suc u) (slice_index b.knows (suc u)) well.within
+              still_first (log_of w (suc u)) step.logged (step.author == suc u) (slice_index b.knows (suc u)) well.within
 
   alike : IsPlainWorld i w → AreAlike i us (log_of w)
   alike plain = record { found = found plain; image = whole plain; images = images plain }

@@ -20,19 +20,20 @@ use Rattle.pblk_world.specs.Commanding.{was_stopped, has_stopped, ended_stripes,
 use Rattle.pblk_world.specs.Answering.{IsNew, MayLand}
 use Rattle.pblk_world.specs.Legal.{IsAllowed, IsLegal}
 use Rattle.pblk_laws.specs.LineBlocks.{chunk_in}
-use Rattle.pblk_laws.proofs.Lists.{all_by_get, all_filter_map, all_contains}
 use Rattle.core_laws.specs.PlainWorlds.{is_plain_event, is_plain_outcome, ArePlain, IsPlainWorld}
 use Rattle.core_laws.specs.PlacerOf.{unanswered_on}
-use Rattle.core_laws.proofs.Rows.{same_number, other_number}
-use Rattle.media_laws.proofs.Images.{media_at}
-use Rattle.media_laws.proofs.Growing.{get_after, get_whole, more}
-use Rattle.media_laws.proofs.Steps.{log_here, log_elsewhere}
+use Rattle.media_laws.proofs.Growing.{get_after}
 use Rattle.placing_laws.proofs.PlainEvents.{has_begun_plain}
 use Rattle.placed_laws.specs.StripePrograms.{HasHappened}
 use Rattle.placed_laws.proofs.Happened.{happened}
 use Rattle.step_laws.specs.Whole.{engine_step, unit_step, is_made_by, commands_of, program_of}
 use Rattle.step_laws.proofs.Knowing.{known_whole, next_step, still_plain}
 use Rattle.media_laws.proofs.LineWritten.{program_is_taken}
+use Rattle.lemmas.proofs.Lists.{all_contains}
+use Rattle.lemmas.proofs.Maps.{all_filter_map, more}
+use Rattle.lemmas.proofs.Parts.{all_by_get, get_whole_within}
+use Rattle.lemmas.proofs.Tests.{other_number, same_number}
+use Rattle.pblk_world.proofs.WorldLemmas.{log_elsewhere, log_here, media_at}
 
 -- ---- the logs
 
@@ -114,7 +115,7 @@ none_stopped (l ∷ log) plain = stopped_by l.event (filter_map (λ m. unit_even
 
 named_here : (logs : Logs) (l : Logged) (other event unit n : ℕ) (e : UnitEvent) → IsNew (prefixes l logs) other event e → (b : Bool) → (other == unit) ≡ b → IfSome (if b then Some event else None) (λ n. n < length (logs (suc unit)))
 named_here logs l other event unit n e new true same =
-    subst (λ u. event < length (logs (suc u))) (eqb-true other unit same) (slice_get_within (logs (suc other)) event new.logged (get_whole (known l (suc other)) (logs (suc other)) event new.logged new.is_known).0)
+    subst (λ u. event < length (logs (suc u))) (eqb-true other unit same) (slice_get_within (logs (suc other)) event new.logged (get_whole_within (known l (suc other)) (logs (suc other)) event new.logged new.is_known).0)
 named_here logs l other event unit n e new false same = tt
 
 named_by_event : (i : Image) (logs : Logs) (l : Logged) (unit : ℕ) (e : Event) → IsAllowed i 0 e (prefixes l logs) → IfSome (named_by unit e) (λ n. n < length (logs (suc unit)))

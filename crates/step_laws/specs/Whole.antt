@@ -1,4 +1,4 @@
--- Steps of an author who knows all logs whole, made one after another.
+-- Steps that are made one after another. The author of each knows every log to its end.
 use Rattle.std.specs.Prelude.{ℕ, suc, ◌+◌, ◌≡◌, ◌==◌, Bool, false, List, ◌∷◌, map, length}
 use Rattle.std.specs.List.{filter, range_with_len}
 use Rattle.pblk_model.specs.declared.shape.Shape.{Shape}
@@ -13,7 +13,7 @@ use Rattle.pblk_world.specs.EngineLog.{answers}
 use Rattle.pblk_world.specs.Lines.{known_image}
 use Rattle.pblk_world.specs.Commanding.{ended_stripes}
 
--- the lengths of all logs, by their authors' numbers
+-- the lengths of all logs, in the order of their authors' numbers
 abbrev pub knows_all : Shape → World → List ℕ
 knows_all s w = map (λ author. length (log_of w author)) (range_with_len 0 (units s + 1))
 
@@ -21,7 +21,7 @@ knows_all s w = map (λ author. length (log_of w author)) (range_with_len 0 (uni
 abbrev pub engine_step : Shape → EngineEvent → World → Step
 engine_step s e w = record { author = 0; logged = record { event = Decides e; knows = knows_all s w } }
 
--- the next step of a unit, and who made its command
+-- the next step of a unit, with the maker of its command
 abbrev pub unit_step : Shape → ℕ → UnitEvent → Maker → World → Step
 unit_step s unit e maker w = record {
   author = suc unit;
@@ -30,7 +30,7 @@ unit_step s unit e maker w = record {
 
 -- Makers.
 
--- how many commands of units a worker made
+-- how many commands a worker made, of all units
 abbrev pub is_made_by : ℕ → Event → Bool
 is_made_by worker (Decides e) = false
 is_made_by worker (Does e maker) = maker.worker == worker
@@ -42,7 +42,7 @@ commands_of worker w = length (filter (λ step. is_made_by worker step.logged.ev
 abbrev pub maker_of : ℕ → World → Maker
 maker_of worker w = record { worker = worker; made = commands_of worker w }
 
--- One worker makes all commands of a session. The opening has a number of its own.
+-- One worker makes all commands of a session. The opening is a worker of its own.
 abbrev pub next_maker : World → Maker
 next_maker w = maker_of 0 w
 
@@ -51,29 +51,29 @@ opening_maker w = maker_of 1 w
 
 -- What a unit does.
 
--- a program of these blocks, as it ended
+-- a program of these blocks, with its outcome
 abbrev pub write_of : ℕ → ℕ → List Block → UnitOutcome → UnitEvent
 write_of chunk at blocks outcome = record { chunk = chunk; command = Write at blocks; outcome = outcome }
 
--- the program of a stripe, when it was done
+-- the program of a stripe that was done
 abbrev pub program_of : Stripe → UnitEvent
 program_of stripe = write_of stripe.chunk stripe.at stripe.blocks (Answered Done)
 
--- the reset of a chunk, when it was done
+-- the reset of a chunk that was done
 abbrev pub reset_of : ℕ → UnitEvent
 reset_of chunk = record { chunk = chunk; command = Reset; outcome = Answered Done }
 
--- a fetch of a block
+-- the fetch of a block, with its answer
 abbrev pub fetch_of : ℕ → ℕ → ChunkAnswer → UnitEvent
 fetch_of chunk block answer = record { chunk = chunk; command = Read block; outcome = Answered answer }
 
 -- The world after a step, or two.
 
--- once a mount has begun
+-- after a mount began
 abbrev pub after_begin : Shape → Beginning → World → World
 after_begin s b w = engine_step s (Begin b) w ∷ w
 
--- once a unit has done the program of a stripe, and once the engine has noted that
+-- after a unit programmed a stripe, and after the engine noted that
 abbrev pub after_program : Shape → ℕ → Stripe → Maker → World → World
 after_program s unit stripe maker w = unit_step s unit (program_of stripe) maker w ∷ w
 
@@ -84,7 +84,7 @@ abbrev pub after_landing : Shape → ℕ → Stripe → Maker → World → Worl
 after_landing s unit stripe maker w =
     noted s (Landed unit (length (log_of w (suc unit)))) (after_program s unit stripe maker w)
 
--- once a unit has reset a chunk, and once the engine has noted that
+-- after a unit reset a chunk, and after the engine noted that
 abbrev pub after_reset_of : Shape → ℕ → ℕ → Maker → World → World
 after_reset_of s unit chunk maker w = unit_step s unit (reset_of chunk) maker w ∷ w
 
@@ -92,7 +92,7 @@ abbrev pub after_noted_reset : Shape → ℕ → ℕ → Maker → World → Wor
 after_noted_reset s unit chunk maker w =
     noted s (ResetDone unit (length (log_of w (suc unit)))) (after_reset_of s unit chunk maker w)
 
--- What is so while the engine notes each answer before anything else is done.
+-- What holds where the engine notes each answer before anything else is done.
 
 -- each unit has ended as many stripes as the engine noted answers
 abbrev pub IsLevel : World → Type 0

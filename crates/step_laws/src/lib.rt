@@ -1,18 +1,11 @@
-//! Laws on the next step of a world whose authors know all logs whole.
+//! Laws on one more step of a world: what a mount for one session may do next, and what stays as it was.
 //!
-//! The steps stand in `specs/`.
+//! Each step is made by the engine or by a unit. Its author knows every log to its end, as it does where all
+//! work is done in one thread. The steps themselves are defined in `specs/Whole.antt`.
 #![tactic(auto)]
 
-mod beside;
 mod laws;
-mod opening;
-mod resets;
+mod openings;
 
-pub use beside::{a_unit_step_leaves_entries, a_unit_step_leaves_lines};
-pub use laws::{
-    a_fetch_gives_what_landed, a_fetch_is_legal, a_landing_is_level, a_program_is_legal,
-    a_stripe_has_blocks_of_the_drive, a_unit_step_changes_its_unit, a_unit_step_is_counted,
-    an_engine_step_is_legal, other_steps_are_level, other_steps_leave_chunks_known,
-};
-pub use opening::{a_mount_begins, a_pad_is_legal};
-pub use resets::{a_reset_is_legal, a_reset_is_noted};
+pub use laws::a_fetch_gives_what_landed;
+pub use openings::{an_opening_is_a_plain_world, an_unarmed_drive_loses_nothing};

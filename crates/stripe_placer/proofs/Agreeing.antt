@@ -9,7 +9,7 @@ use Rattle.stripe_placer.specs.OpenLines.Stripe.{Unanswered}
 use Rattle.stripe_placer.specs.Inside.{IsAmongLines, IsUnanswered, AreApart}
 use Rattle.stripe_placer.proofs.Chunks.{same_eq, other_eq}
 use Rattle.stripe_placer.proofs.Rows.{get_is}
-use Rattle.stripe_placer.proofs.Among.{got_here, got_else}
+use Rattle.lemmas.proofs.Parts.{got_else, got_here}
 
 -- ---- a line with another outcome of one stripe
 

@@ -12,7 +12,9 @@ use Rattle.stripe_placer.specs.OpenLines.Stripe.{Unplaced, Unanswered, Landed, L
 use Rattle.stripe_placer.specs.Slots.{outcome, outcome_in, outcomes, FitsChunk, is_closed_chunk, KeepsLine}
 use Rattle.stripe_placer.specs.declared.slot.Chunk.{Chunk}
 use Rattle.stripe_placer.specs.declared.slot.Chunk.TheVariants as chunk
-use Rattle.stripe_placer.proofs.Numbered.{get_mapped, length_mapped, set_mapped, found_in_range, none_in_range, IsFirst, first_is, some_in_range, no_in_range}
+use Rattle.stripe_placer.proofs.Numbered.{get_mapped, set_mapped, found_in_range, none_in_range, IsFirst, first_is, some_in_range, no_in_range}
+use Rattle.lemmas.proofs.Maps.{length_mapped}
+use Rattle.lemmas.proofs.Tests.{and_both, and_false, le_of_lt_false, lt_true, not_before, not_true as not_not}
 
 abbrev pub chunk_of : List Chunk → ℕ → ℕ → Chunk
 chunk_of chunks w j = slice_index_or chunks (j % w) chunk.Open
@@ -35,12 +37,6 @@ same_eq i = grind (arith, nat_tests)
 pub other_eq : (i j : ℕ) → i ≢ j → nat_eq i j ≡ false
 other_eq i j h = grind (arith, nat_tests)
 
-pub lt_yes : (i j : ℕ) → i < j → nat_lt i j ≡ true
-lt_yes i j h = grind (arith, nat_tests)
-
-pub lt_no : (i j : ℕ) → j ≤ i → nat_lt i j ≡ false
-lt_no i j h = grind (arith, nat_tests)
-
 not_less : (i b : ℕ) → (i < b → ⊥) → b ≤ i
 not_less i b h = elim (nat_lt i b) as (λ t. nat_lt i b ≡ t → b ≤ i) [
   | true ↦ λ e. absurd (h (grind (arith, nat_tests)))
@@ -49,17 +45,9 @@ not_less i b h = elim (nat_lt i b) as (λ t. nat_lt i b ≡ t → b ≤ i) [
 
 pub lt_both : (i a b : ℕ) → (i < a → i < b) → (i < b → i < a) → nat_lt i a ≡ nat_lt i b
 lt_both i a b f g = elim (nat_lt i a) as (λ t. nat_lt i a ≡ t → t ≡ nat_lt i b) [
-  | true ↦ λ e. let h : i < a = grind (arith, nat_tests) in sym (lt_yes i b (f h))
-  | false ↦ λ e. let h : a ≤ i = grind (arith, nat_tests) in sym (lt_no i b (not_less i b (λ below. absurd (omega (arith, g below)))))
+  | true ↦ λ e. let h : i < a = grind (arith, nat_tests) in sym (lt_true i b (f h))
+  | false ↦ λ e. let h : a ≤ i = grind (arith, nat_tests) in sym (not_before i b (not_less i b (λ below. absurd (omega (arith, g below)))))
 ] refl
-
-and_false : (a b : Bool) → b ≡ false → (a && b) ≡ false
-and_false true b e = e
-and_false false b e = refl
-
-and_true : (a b : Bool) → a ≡ true → b ≡ true → (a && b) ≡ true
-and_true true b e f = f
-and_true false b e f = absurd cc
 
 not_true : (b : Bool) → b ≡ true → not b ≡ false
 not_true true e = refl
@@ -140,22 +128,22 @@ lost_only_closed (chunk.Unanswered k) next i clear = elim (nat_eq i k) as (λ b.
 lost_only_closed (chunk.Closed k) next i clear = absurd cc
 
 lost_in_closed : (k next : ℕ) → outcome (chunk.Closed k) next k ≡ Lost
-lost_in_closed k next = ap (λ b. cond b Landed (cond (nat_eq k k) Lost Unplaced)) (lt_no k k (omega arith)) ∙ ap (λ b. cond b Lost Unplaced) (same_eq k)
+lost_in_closed k next = ap (λ b. cond b Landed (cond (nat_eq k k) Lost Unplaced)) (not_before k k (omega arith)) ∙ ap (λ b. cond b Lost Unplaced) (same_eq k)
 
 -- of stripes that were placed none is unplaced, but where its chunk is closed
 placed_before : (c : Chunk) (next j : ℕ) → is_closed_chunk c ≡ false → j < next → is_unplaced (outcome c next j) ≡ false
-placed_before chunk.Open next j clear h = ap (λ b. is_unplaced (cond b Landed Unplaced)) (lt_yes j next h)
+placed_before chunk.Open next j clear h = ap (λ b. is_unplaced (cond b Landed Unplaced)) (lt_true j next h)
 placed_before (chunk.Unanswered k) next j clear h = elim (nat_eq j k) as (λ b. is_unplaced (cond b Unanswered (cond (nat_lt j next) Landed Unplaced)) ≡ false) [
   | true ↦ refl
-  | false ↦ ap (λ b. is_unplaced (cond b Landed Unplaced)) (lt_yes j next h)
+  | false ↦ ap (λ b. is_unplaced (cond b Landed Unplaced)) (lt_true j next h)
 ]
 placed_before (chunk.Closed k) next j clear h = absurd cc
 
 unplaced_from : (c : Chunk) (k w next j : ℕ) → is_closed_chunk c ≡ false → FitsChunk c k w next → next ≤ j → is_unplaced (outcome c next j) ≡ true
-unplaced_from chunk.Open k w next j clear fit h = ap (λ b. is_unplaced (cond b Landed Unplaced)) (lt_no j next h)
+unplaced_from chunk.Open k w next j clear fit h = ap (λ b. is_unplaced (cond b Landed Unplaced)) (not_before j next h)
 unplaced_from (chunk.Unanswered i) k w next j clear fit h =
     let other : j ≢ i = omega (arith, fit.1) in
-    ap (λ b. is_unplaced (cond b Unanswered (cond (nat_lt j next) Landed Unplaced))) (other_eq j i other) ∙ ap (λ b. is_unplaced (cond b Landed Unplaced)) (lt_no j next h)
+    ap (λ b. is_unplaced (cond b Unanswered (cond (nat_lt j next) Landed Unplaced))) (other_eq j i other) ∙ ap (λ b. is_unplaced (cond b Landed Unplaced)) (not_before j next h)
 unplaced_from (chunk.Closed i) k w next j clear fit h = absurd cc
 
 -- ---- a line
@@ -179,7 +167,7 @@ closed_yes l chunks w next n i j d is fit =
     let lost : stripe_is l is_lost i ≡ true = stripe_test l chunks w next n i is_lost d inside ∙ ap (λ c. is_lost (outcome c next i)) chunk-is ∙ ap is_lost (lost_in_closed i next) in
     let together : in_one_chunk l i j ≡ true = one_chunk_test l chunks w next n i j d ∙ ap (λ k. nat_eq k (j % w)) fit.0 ∙ same_eq (j % w) in
     some_in_range (λ k. stripe_is l is_lost k && in_one_chunk l k j) 0 (length l.stripes) i (omega arith) (omega (arith, stripe_count l chunks w next n d))
-    (and_true (stripe_is l is_lost i) (in_one_chunk l i j) lost together)
+    (and_both (stripe_is l is_lost i) (in_one_chunk l i j) lost together)
 
 closed_no : (l : OpenLine) (chunks : List Chunk) (w next n j : ℕ) → Describes l chunks w next n → is_closed_chunk (chunk_of chunks w j) ≡ false → is_closed l j ≡ false
 closed_no l chunks w next n j d clear = no_in_range (λ k. stripe_is l is_lost k && in_one_chunk l k j) 0 (length l.stripes) (λ i from inside.
@@ -208,7 +196,7 @@ to_place_from l chunks w next n j d from h = elim (is_closed_chunk (chunk_of chu
   | true ↦ λ e. and_false (stripe_is l is_unplaced j) (not (is_closed l j)) (not_true (is_closed l j) (closed_is l chunks w next n j d ∙ e))
   | false ↦ λ e.
       let unplaced : stripe_is l is_unplaced j ≡ true = stripe_test l chunks w next n j is_unplaced d h ∙ unplaced_from (chunk_of chunks w j) (j % w) w next j e (d.fit (j % w) (column w j d.some)) from in
-      and_true (stripe_is l is_unplaced j) (not (is_closed l j)) unplaced (not_false (is_closed l j) (closed_is l chunks w next n j d ∙ e))
+      and_both (stripe_is l is_unplaced j) (not (is_closed l j)) unplaced (not_false (is_closed l j) (closed_is l chunks w next n j d ∙ e))
 ] refl
 
 pub to_place_before : (l : OpenLine) (chunks : List Chunk) (w next n j : ℕ) → Describes l chunks w next n → j < next → is_to_place l j ≡ false
@@ -226,14 +214,11 @@ ClosedBetween chunks w a b = (i : ℕ) → a ≤ i → i < b → is_closed_chunk
 pub lt_of : (a b : ℕ) → nat_lt a b ≡ true → a < b
 lt_of a b e = grind (arith, nat_tests)
 
-pub le_of : (a b : ℕ) → nat_lt a b ≡ false → b ≤ a
-le_of a b e = grind (arith, nat_tests)
-
 not_to_place : (l : OpenLine) (chunks : List Chunk) (w next n b i : ℕ) → Describes l chunks w next n → ClosedBetween chunks w next b → i < b → b ≤ n → is_to_place l i ≡ false
 not_to_place l chunks w next n b i d closed h inside = elim (nat_lt i next) as (λ t. nat_lt i next ≡ t → is_to_place l i ≡ false) [
   | true ↦ λ e. to_place_before l chunks w next n i d (lt_of i next e)
   | false ↦ λ e.
-      let from : next ≤ i = le_of i next e in
+      let from : next ≤ i = le_of_lt_false i next e in
       to_place_from l chunks w next n i d from (omega arith) ∙ not_true (is_closed_chunk (chunk_of chunks w i)) (closed i from h)
 ] refl
 
@@ -272,7 +257,7 @@ described line live w sc dc n next chunks keeps = record {
 pub one_of_two : (a b m : ℕ) → m ≡ min a b → (m ≡ a) ⊎ (m ≡ b)
 one_of_two a b m e = elim (nat_lt a b) as (λ t. nat_lt a b ≡ t → (m ≡ a) ⊎ (m ≡ b)) [
   | true ↦ λ less. let h : a < b = lt_of a b less in inl (omega (arith, e))
-  | false ↦ λ less. let h : b ≤ a = le_of a b less in inr (omega (arith, e))
+  | false ↦ λ less. let h : b ≤ a = le_of_lt_false a b less in inr (omega (arith, e))
 ] refl
 
 -- ---- a stripe is placed
@@ -291,10 +276,6 @@ placeable_chunk chunks w next n j (chunk.Closed i) from inside fit is clear alon
 
 unanswered_is : (k next : ℕ) → outcome (chunk.Unanswered k) next k ≡ Unanswered
 unanswered_is k next = ap (λ b. cond b Unanswered (cond (nat_lt k next) Landed Unplaced)) (same_eq k)
-
-not_not : (b : Bool) → not b ≡ true → b ≡ false
-not_not true e = absurd cc
-not_not false e = refl
 
 not_not_true : (b : Bool) → not b ≡ false → b ≡ true
 not_not_true true e = refl
@@ -327,7 +308,7 @@ false_true e = absurd cc
 not_between : (next j i : ℕ) → i ≢ j → i < j + 1 → (next ≤ i → i < j → ⊥) → i < next
 not_between next j i apart h none = elim (nat_lt i next) as (λ t. nat_lt i next ≡ t → i < next) [
   | true ↦ λ e. lt_of i next e
-  | false ↦ λ e. absurd (none (le_of i next e) (omega arith))
+  | false ↦ λ e. absurd (none (le_of_lt_false i next e) (omega arith))
 ] refl
 
 -- where none of a chunk is between, it is the same whether `next` is at one end or the other
@@ -444,7 +425,7 @@ answered_outcomes chunks w next n j c to h p here others = set_mapped (outcome_i
     (λ i inside apart. ap (outcome_in chunks w next) (omega arith) ∙ answered_other chunks w next n j i c h p apart (others i apart) ∙ ap (outcome_in (slice_set chunks (j % w) c) w next) (omega arith))
 
 pub landed_outcomes : (chunks : List Chunk) (w next n j : ℕ) → j % w < length chunks → IsWaiting chunks w next n j → slice_set (outcomes chunks w next n) j Landed ≡ outcomes (slice_set chunks (j % w) chunk.Open) w next n
-landed_outcomes chunks w next n j h p = answered_outcomes chunks w next n j chunk.Open Landed h p (ap (λ b. cond b Landed Unplaced) (lt_yes j next p.from))
+landed_outcomes chunks w next n j h p = answered_outcomes chunks w next n j chunk.Open Landed h p (ap (λ b. cond b Landed Unplaced) (lt_true j next p.from))
     (λ i apart same. ap (λ b. cond b Unanswered (cond (nat_lt i next) Landed Unplaced)) (other_eq i j apart))
 
 before_it : (w next i j : ℕ) → 0 < w → i % w ≡ j % w → i ≢ j → i < next → next ≤ j + w → i < j
@@ -452,7 +433,7 @@ before_it w next i j some same apart below last = elim (nat_lt j i) as (λ t. na
   | true ↦ λ e.
       let above : j < i = lt_of j i e in
       absurd (omega (arith, next_in_chunk w i j some same above))
-  | false ↦ λ e. let h : i ≤ j = le_of j i e in omega arith
+  | false ↦ λ e. let h : i ≤ j = le_of_lt_false j i e in omega arith
 ] refl
 
 pub lost_outcomes : (chunks : List Chunk) (w next n j : ℕ) → 0 < w → j % w < length chunks → IsWaiting chunks w next n j → slice_set (outcomes chunks w next n) j Lost ≡ outcomes (slice_set chunks (j % w) (chunk.Closed j)) w next n
@@ -477,4 +458,4 @@ answered_keeps live w sc dc n next j chunks c keeps fit =
 
 -- a stripe that can be placed wasn't
 pub unplaced_is : (chunks : List Chunk) (w next n j : ℕ) → IsPlaceable chunks w next n j → slice_get (outcomes chunks w next n) j ≡ Some Unplaced
-unplaced_is chunks w next n j p = outcome_at chunks w next n j p.inside ∙ ap (λ c. Some (outcome c next j)) p.clear ∙ ap (λ b. Some (cond b Landed Unplaced)) (lt_no j next p.from)
+unplaced_is chunks w next n j p = outcome_at chunks w next n j p.inside ∙ ap (λ c. Some (outcome c next j)) p.clear ∙ ap (λ b. Some (cond b Landed Unplaced)) (not_before j next p.from)

@@ -5,8 +5,9 @@ use Rattle.std.specs.List.{slice_get, slice_set}
 use Rattle.stripe_placer.specs.OpenLines.{Stripe, is_landed, is_unanswered, is_lost}
 use Rattle.stripe_placer.specs.OpenLines.Stripe.{Unplaced, Unanswered, Landed, Lost}
 use Rattle.stripe_placer.specs.Slots.{tally, KeepsCounts}
-use Rattle.stripe_placer.proofs.Chunks.{lt_of, le_of}
+use Rattle.stripe_placer.proofs.Chunks.{lt_of}
 use Rattle.stripe_placer.proofs.Tallies.{one, tally_set, tally_first, tally_part, tally_part_before, tally_part_after, take_set, tally_same, tally_some, tally_at_most, get_take, get_drop}
+use Rattle.lemmas.proofs.Tests.{le_of_lt_false}
 
 abbrev pub is_left : Stripe → Bool
 is_left s = not (is_landed s)
@@ -16,15 +17,15 @@ part_same : (test : Stripe → Bool) (xs : List Stripe) (s d j : ℕ) (old new :
 part_same test xs s d j old new is same = elim (nat_lt j s) as (λ t. nat_lt j s ≡ t → tally test (take d (drop s (slice_set xs j new))) ≡ tally test (take d (drop s xs))) [
   | true ↦ λ e. tally_part_before test xs s d j new (lt_of j s e)
   | false ↦ λ e. elim (nat_lt j (s + d)) as (λ t. nat_lt j (s + d) ≡ t → tally test (take d (drop s (slice_set xs j new))) ≡ tally test (take d (drop s xs))) [
-    | true ↦ λ f. omega (arith, tally_part test xs s d j old new (le_of j s e) (lt_of j (s + d) f) is, ap one same)
-    | false ↦ λ f. tally_part_after test xs s d j new (le_of j (s + d) f)
+    | true ↦ λ f. omega (arith, tally_part test xs s d j old new (le_of_lt_false j s e) (lt_of j (s + d) f) is, ap one same)
+    | false ↦ λ f. tally_part_after test xs s d j new (le_of_lt_false j (s + d) f)
   ] refl
 ] refl
 
 first_same : (test : Stripe → Bool) (xs : List Stripe) (n j : ℕ) (old new : Stripe) → slice_get xs j ≡ Some old → test old ≡ test new → tally test (take n (slice_set xs j new)) ≡ tally test (take n xs)
 first_same test xs n j old new is same = elim (nat_lt j n) as (λ t. nat_lt j n ≡ t → tally test (take n (slice_set xs j new)) ≡ tally test (take n xs)) [
   | true ↦ λ e. omega (arith, tally_first test xs n j old new (lt_of j n e) is, ap one same)
-  | false ↦ λ e. ap (tally test) (take_set xs n j new (le_of j n e))
+  | false ↦ λ e. ap (tally test) (take_set xs n j new (le_of_lt_false j n e))
 ] refl
 
 pub placed_counts : (xs : List Stripe) (j sc dc a b u l : ℕ) → KeepsCounts xs sc dc a b u l → slice_get xs j ≡ Some Unplaced → KeepsCounts (slice_set xs j Unanswered) sc dc a b (u + 1) l
@@ -49,7 +50,7 @@ landed_start xs j sc a more was is here other = elim (nat_lt j sc) as (λ t. nat
       let below : j < sc = lt_of j sc e in
       omega (arith, was, here below, tally_first is_left xs sc j Unanswered Landed below is)
   | false ↦ λ e.
-      let above : sc ≤ j = le_of j sc e in
+      let above : sc ≤ j = le_of_lt_false j sc e in
       omega (arith, was, other above, ap (tally is_left) (take_set xs sc j Landed above))
 ] refl
 
@@ -60,13 +61,13 @@ landed_part xs j sc dc b more was is here before after = elim (nat_lt j sc) as (
       let below : j < sc = lt_of j sc e in
       omega (arith, was, before below, tally_part_before is_left xs sc dc j Landed below)
   | false ↦ λ e.
-      let from : sc ≤ j = le_of j sc e in
+      let from : sc ≤ j = le_of_lt_false j sc e in
       elim (nat_lt j (sc + dc)) as (λ t. nat_lt j (sc + dc) ≡ t → b ≡ tally is_left (take dc (drop sc (slice_set xs j Landed)))) [
         | true ↦ λ f.
             let below : j < sc + dc = lt_of j (sc + dc) f in
             omega (arith, was, here from below, tally_part is_left xs sc dc j Unanswered Landed from below is)
         | false ↦ λ f.
-            let past : sc + dc ≤ j = le_of j (sc + dc) f in
+            let past : sc + dc ≤ j = le_of_lt_false j (sc + dc) f in
             omega (arith, was, after past, tally_part_after is_left xs sc dc j Landed past)
       ] refl
 ] refl

@@ -7,8 +7,9 @@ pub mod Slotted
 pub mod Opening
 pub mod Rows
 pub mod Places
-pub mod Among
 pub mod Agreeing
 pub mod Steps
 pub mod Placers
 pub mod Named
+pub mod OpenLinesLemmas
+pub mod PlacingLemmas

@@ -1,7 +1,7 @@
 -- What is known of the stripe that comes next.
 use Rattle.std.proofs.Common.{◌≡◌, ◌≢◌, ◌⊎◌, inl, inr, ℕ, zero, suc, ◌+◌, ◌/◌, ◌%◌, ◌<◌, Bool, true, false, cond, not, ◌&&◌, Option, Some, None, List, [], ◌∷◌, ◌++◌, length, take, refl, sym, ap, subst, ◌∙◌, arith}
 use Rattle.std.specs.Prelude.{nat_eq, nat_lt}
-use Rattle.std.specs.List.{slice_get, slice_index_or, filter_map, cons_option, find}
+use Rattle.std.specs.List.{slice_get, slice_index_or, filter_map, find}
 use Rattle.std.specs.Option.{option_map_or}
 use Rattle.std.proofs.lemmas.Bool.{eqb-true}
 use Rattle.std.proofs.lemmas.Option.{same_Some, slice_get-get_or}
@@ -17,22 +17,17 @@ use Rattle.stripe_placer.specs.Placing.{Program, UnitRow, Placing, stopped_in, i
 use Rattle.stripe_placer.specs.Placing.UnitRow.{Idle, UnderWay, Stopped}
 use Rattle.stripe_placer.specs.Inside.{IsAmongLines, IsUnanswered, HasStripe, Agree}
 use Rattle.stripe_placer.proofs.Numbered.{IsFirst, first_is}
-use Rattle.stripe_placer.proofs.Among.{IsAmong, later}
 use Rattle.stripe_placer.proofs.Agreeing.{one_among}
 use Rattle.stripe_placer.proofs.Places.{stripe_of, its_unit_below}
 use Rattle.stripe_placer.proofs.Rows.{find_first, find_second}
+use Rattle.lemmas.proofs.Maps.{found_passes, from_given, given_at}
+use Rattle.lemmas.proofs.Tests.{and_refused, first_of, second_of}
+use Rattle.stripe_placer.proofs.PlacingLemmas.{cond_true}
 
 -- ---- the first that passes
 
 true_false : true ≡ false → ⊥
 true_false e = absurd cc
-
-found_passes : {X : Type 0} (test : X → Bool) (xs : List X) (x : X) → find test xs ≡ Some x → (test x ≡ true) × IsAmong xs x
-found_passes test [] x e = absurd cc
-found_passes test (y ∷ ys) x e = elim (test y) as (λ b. test y ≡ b → cond b (Some y) (find test ys) ≡ Some x → (test x ≡ true) × IsAmong (y ∷ ys) x) [
-  | true ↦ λ passes is. let same : y ≡ x = cc in (ap test (sym same) ∙ passes, (0, is))
-  | false ↦ λ passes is. let r = found_passes test ys x is in (r.0, later y ys x r.1)
-] refl e
 
 none_at : {X : Type 0} (test : X → Bool) (y : X) (ys : List X) (x : X) (i : ℕ) → test y ≡ false → ((k : ℕ) → find test ys ≡ None → slice_get ys k ≡ Some x → test x ≡ false) → find test ys ≡ None → slice_get (y ∷ ys) i ≡ Some x → test x ≡ false
 none_at test y ys x zero passes rest is at = let same : y ≡ x = cc in ap test (sym same) ∙ passes
@@ -44,26 +39,6 @@ none_passes test (y ∷ ys) x i e at = elim (test y) as (λ b. test y ≡ b → 
   | true ↦ λ passes is. absurd cc
   | false ↦ λ passes is. none_at test y ys x i passes (none_passes test ys x) is at
 ] refl e
-
-given_later : {X Y : Type 0} (give : X → Option Y) (x : X) (xs : List X) (y : Y) → IsAmong (filter_map give xs) y → IsAmong (filter_map give (x ∷ xs)) y
-given_later give x xs y at = elim (give x) as (λ o. IsAmong (cons_option o (filter_map give xs)) y) [ None ↦ at | Some z ↦ later z (filter_map give xs) y at ]
-
-given_at : {X Y : Type 0} (give : X → Option Y) (xs : List X) (x : X) (y : Y) (i : ℕ) → slice_get xs i ≡ Some x → give x ≡ Some y → IsAmong (filter_map give xs) y
-given_at give [] x y i at is = absurd cc
-given_at give (z ∷ zs) x y zero at is =
-    let same : z ≡ x = cc in
-    (0, ap (λ o. slice_get (cons_option o (filter_map give zs)) 0) (ap give same ∙ is))
-given_at give (z ∷ zs) x y (suc i) at is = given_later give z zs y (given_at give zs x y i at is)
-
-from_first : {X Y : Type 0} (give : X → Option Y) (x : X) (xs : List X) (y : Y) (o : Option Y) (i : ℕ) → give x ≡ o → ((k : ℕ) → slice_get (filter_map give xs) k ≡ Some y → (z : X) × IsAmong xs z × (give z ≡ Some y)) → slice_get (cons_option o (filter_map give xs)) i ≡ Some y
-    → (z : X) × IsAmong (x ∷ xs) z × (give z ≡ Some y)
-from_first give x xs y None i is rest e = let r = rest i e in (r.0, later x xs r.0 r.1, r.2)
-from_first give x xs y (Some w) zero is rest e = let same : w ≡ y = cc in (x, (0, refl), is ∙ ap (λ v. Some v) same)
-from_first give x xs y (Some w) (suc i) is rest e = let r = rest i e in (r.0, later x xs r.0 r.1, r.2)
-
-from_given : {X Y : Type 0} (give : X → Option Y) (xs : List X) (y : Y) (i : ℕ) → slice_get (filter_map give xs) i ≡ Some y → (x : X) × IsAmong xs x × (give x ≡ Some y)
-from_given give [] y i e = absurd cc
-from_given give (x ∷ xs) y i e = from_first give x xs y (give x) i refl (from_given give xs y) e
 
 stopped_row : (r : UnitRow) (of : Program) → stopped_in r ≡ Some of → r ≡ Stopped of
 stopped_row Idle of e = absurd cc
@@ -77,13 +52,9 @@ pub record IsNew (s : Shape) (e : Entries) (rows : List UnitRow) (lines : List O
   pub row : slice_get rows of.unit ≡ Some Idle
   pub line : (l : OpenLine) × IsAmongLines lines l × (next_in s e l ≡ Some of)
 
-and_no : (b : Bool) → (b && false) ≡ false
-and_no true = refl
-and_no false = refl
-
 idle_here : (rows : List UnitRow) (busy unit : ℕ) (r : UnitRow) → slice_get rows unit ≡ Some r → is_ready rows busy unit ≡ true → ((q : Program) → r ≡ Stopped q → ⊥) → r ≡ Idle
 idle_here rows busy unit Idle at ready none = refl
-idle_here rows busy unit (UnderWay q) at ready none = absurd (true_false (sym ready ∙ ap (λ o. not (is_in busy unit) && not (option_map_or is_under_way o false)) at ∙ and_no (not (is_in busy unit))))
+idle_here rows busy unit (UnderWay q) at ready none = absurd (true_false (sym ready ∙ ap (λ o. not (is_in busy unit) && not (option_map_or is_under_way o false)) at ∙ and_refused (not (is_in busy unit))))
 idle_here rows busy unit (Stopped q) at ready none = absurd (none q refl)
 
 row_there : (rows : List UnitRow) (n unit : ℕ) → length rows ≡ n → unit < n → (r : UnitRow) × (slice_get rows unit ≡ Some r)
@@ -98,10 +69,6 @@ pub record IsProgramIn (s : Shape) (e : Entries) (l : OpenLine) (of : Program) (
 cond_some : (b : Bool) (p of : Program) → cond b (Some p) None ≡ Some of → p ≡ of
 cond_some true p of e = cc
 cond_some false p of e = absurd cc
-
-cond_true : (b : Bool) (p of : Program) → cond b (Some p) None ≡ Some of → b ≡ true
-cond_true true p of e = refl
-cond_true false p of e = absurd cc
 
 allowed_program : (s : Shape) (e : Entries) (l : OpenLine) (of : Program) (o : Option ℕ) → next_of l ≡ o → allowed_at s e l o ≡ Some of → (j : ℕ) × IsProgramIn s e l of j
 allowed_program s e l of None is given = absurd cc
@@ -153,14 +120,10 @@ unplaced_at (Some Unanswered) e = absurd cc
 unplaced_at (Some Landed) e = absurd cc
 unplaced_at (Some Lost) e = absurd cc
 
-and_first : (a b : Bool) → (a && b) ≡ true → a ≡ true
-and_first true b e = refl
-and_first false b e = absurd cc
-
 pub next_unplaced : (l : OpenLine) (j : ℕ) → next_of l ≡ Some j → slice_get l.stripes j ≡ Some Unplaced
 next_unplaced l j is =
     let first : IsFirst (is_to_place l) 0 (length l.stripes) j = first_is (is_to_place l) 0 (length l.stripes) j is in
-    unplaced_at (slice_get l.stripes j) (and_first (stripe_is l is_unplaced j) (not (is_closed l j)) first.passes)
+    unplaced_at (slice_get l.stripes j) (first_of (stripe_is l is_unplaced j) (not (is_closed l j)) first.passes)
 
 pub its_stripe_is : (s : Shape) (e : Entries) (l : OpenLine) (of : Program) (j : ℕ) → 0 < s.ws_opt → IsProgramIn s e l of j → of.at / s.ws_opt ≡ j
 its_stripe_is s e l of j some is = ap (λ (x : Program). x.at / s.ws_opt) (sym is.is) ∙ stripe_of s.ws_opt j some
@@ -210,15 +173,11 @@ allowed_kind s e l of kind given is =
     let its = its_program s e l of given in
     ap (allows s e l) (sym (its_kind s e l of its.0 its.1 ∙ is)) ∙ its.1.allowed
 
-and_second : (a b : Bool) → (a && b) ≡ true → b ≡ true
-and_second true b e = e
-and_second false b e = absurd cc
-
 pub data_after_start : (s : Shape) (e : Entries) (l : OpenLine) (of : Program) → next_in s e l ≡ Some of → of.kind ≡ kinds.Data → start_has_landed l ≡ true
-data_after_start s e l of given is = and_first (start_has_landed l) (has_stripe s.ws_opt e) (allowed_kind s e l of kinds.Data given is)
+data_after_start s e l of given is = first_of (start_has_landed l) (has_stripe s.ws_opt e) (allowed_kind s e l of kinds.Data given is)
 
 pub data_with_entries : (s : Shape) (e : Entries) (l : OpenLine) (of : Program) → next_in s e l ≡ Some of → of.kind ≡ kinds.Data → has_stripe s.ws_opt e ≡ true
-data_with_entries s e l of given is = and_second (start_has_landed l) (has_stripe s.ws_opt e) (allowed_kind s e l of kinds.Data given is)
+data_with_entries s e l of given is = second_of (start_has_landed l) (has_stripe s.ws_opt e) (allowed_kind s e l of kinds.Data given is)
 
 its_positions : (s : Shape) (e : Entries) (l : OpenLine) (of : Program) → next_in s e l ≡ Some of → of.positions ≡ next_positions s e of.kind
 its_positions s e l of given =

@@ -1,8 +1,9 @@
 -- Lists of what a function gives of the numbers from one on, and the first number that passes a test.
-use Rattle.std.proofs.Common.{◌≡◌, ◌≢◌, ℕ, zero, suc, ◌+◌, ◌<◌, ◌≤◌, Bool, true, false, cond, ◌||◌, Option, Some, None, List, ◌∷◌, length, refl, sym, ap, ◌∙◌, arith}
+use Rattle.std.proofs.Common.{◌≡◌, ◌≢◌, ℕ, zero, suc, ◌+◌, ◌<◌, ◌≤◌, Bool, true, false, cond, ◌||◌, Option, Some, None, List, ◌∷◌, refl, sym, ap, ◌∙◌, arith}
 use Rattle.std.specs.Prelude.{map, nat_eq, is_some}
 use Rattle.std.proofs.lemmas.Bool.{eqb-true, eqb-false}
 use Rattle.std.specs.List.{slice_get, slice_set, range_with_len, find, list_any}
+use Rattle.lemmas.proofs.Tests.{or_right}
 
 shift : (a i : ℕ) → (a + 1) + i ≡ a + suc i
 shift a i = omega arith
@@ -14,10 +15,6 @@ pub get_mapped : {X : Type 0} (f : ℕ → X) (a n j : ℕ) → j < n → slice_
 get_mapped f a zero j h = absurd (omega arith)
 get_mapped f a (suc n) zero h = ap (λ k. Some (f k)) (sym (first_of a))
 get_mapped f a (suc n) (suc j) h = get_mapped f (a + 1) n j (omega arith) ∙ ap (λ k. Some (f k)) (shift a j)
-
-pub length_mapped : {X : Type 0} (f : ℕ → X) (a n : ℕ) → length (map f (range_with_len a n)) ≡ n
-length_mapped f a zero = refl
-length_mapped f a (suc n) = omega (arith, length_mapped f (a + 1) n)
 
 pub same_mapped : {X : Type 0} (f g : ℕ → X) (a n : ℕ) → ((i : ℕ) → i < n → f (a + i) ≡ g (a + i)) → map f (range_with_len a n) ≡ map g (range_with_len a n)
 same_mapped f g a zero h = refl
@@ -96,10 +93,6 @@ first_is test a (suc n) j is = elim (test a) as (λ b. test a ≡ b → IsFirst 
       }
 ] refl
 
-or_last : (a b : Bool) → b ≡ true → (a || b) ≡ true
-or_last true b e = refl
-or_last false b e = e
-
 -- some number passes
 pub some_in_range : (test : ℕ → Bool) (a n j : ℕ) → a ≤ j → j < a + n → test j ≡ true → list_any test (range_with_len a n) ≡ true
 some_in_range test a zero j from inside here = absurd (omega arith)
@@ -107,7 +100,7 @@ some_in_range test a (suc n) j from inside here = elim (nat_eq j a) as (λ b. na
   | true ↦ λ e. ap (λ b. b || list_any test (range_with_len (a + 1) n)) (ap test (sym (eqb-true j a e)) ∙ here)
   | false ↦ λ e.
       let apart : j ≢ a = eqb-false j a e in
-      or_last (test a) (list_any test (range_with_len (a + 1) n)) (some_in_range test (a + 1) n j (omega arith) (omega arith) here)
+      or_right (test a) (list_any test (range_with_len (a + 1) n)) (some_in_range test (a + 1) n j (omega arith) (omega arith) here)
 ] refl
 
 pub no_in_range : (test : ℕ → Bool) (a n : ℕ) → ((i : ℕ) → a ≤ i → i < a + n → test i ≡ false) → list_any test (range_with_len a n) ≡ false

@@ -3,7 +3,6 @@ use Rattle.std.proofs.Common.{◌≡◌, ◌≢◌, ℕ, zero, suc, ◌+◌, ◌
 use Rattle.std.specs.Prelude.{nat_lt, map, replicate}
 use Rattle.std.specs.List.{slice_index_or, range_with_len}
 use Rattle.std.proofs.Math.Nat.{mul-le-mul_right, mul-le-mul_left}
-use Rattle.std.proofs.lemmas.Bool.Decides.{nat_tests}
 use Rattle.pblk_model.specs.declared.shape.Shape.{Shape}
 use Rattle.pblk_model.specs.Accepted.{IsAccepted}
 use Rattle.pblk_model.specs.Shape.{units}
@@ -15,9 +14,11 @@ use Rattle.stripe_placer.specs.Slots.{outcome, outcome_in, outcomes, tally, Fits
 use Rattle.stripe_placer.specs.Inside.{FitsShape}
 use Rattle.stripe_placer.specs.declared.slot.Chunk.{Chunk}
 use Rattle.stripe_placer.specs.declared.slot.Chunk.TheVariants as chunk
-use Rattle.stripe_placer.proofs.Chunks.{lt_no, lt_of, le_of}
+use Rattle.stripe_placer.proofs.Chunks.{lt_of}
 use Rattle.stripe_placer.proofs.Tallies.{none_of_new, all_of_new}
 use Rattle.stripe_placer.proofs.Counted.{is_left}
+use Rattle.lemmas.proofs.Tests.{le_of_lt_false, lt_true, not_before}
+use Rattle.stripe_placer.proofs.OpenLinesLemmas.{length_new}
 
 pub open_at : (n k : ℕ) → slice_index_or (replicate n chunk.Open) k chunk.Open ≡ chunk.Open
 open_at zero k = refl
@@ -35,7 +36,7 @@ abbrev unplaced_by : Bool → Stripe
 unplaced_by b = cond b Landed Unplaced
 
 pub nothing_placed : (m w n : ℕ) → outcomes (replicate m chunk.Open) w 0 n ≡ replicate n Unplaced
-nothing_placed m w n = all_same (outcome_in (replicate m chunk.Open) w 0) Unplaced 0 n (λ i. ap (λ (c : Chunk). outcome_by c i) (open_at m (i % w)) ∙ ap (λ b. unplaced_by b) (lt_no i 0 (omega arith)))
+nothing_placed m w n = all_same (outcome_in (replicate m chunk.Open) w 0) Unplaced 0 n (λ i. ap (λ (c : Chunk). outcome_by c i) (open_at m (i % w)) ∙ ap (λ b. unplaced_by b) (not_before i 0 (omega arith)))
 
 by_room : (start end all w : ℕ) → cond (nat_lt (all - start - end) w) 0 (all - start - end) ≢ 0 → start + cond (nat_lt (all - start - end) w) 0 (all - start - end) ≤ all
 by_room start end all w some = elim (nat_lt (all - start - end) w) as (λ b. cond b 0 (all - start - end) ≢ 0 → start + cond b 0 (all - start - end) ≤ all) [
@@ -43,14 +44,11 @@ by_room start end all w some = elim (nat_lt (all - start - end) w) as (λ b. con
   | false ↦ λ h. omega (arith, h)
 ] some
 
-less : (a b : ℕ) → a < b → nat_lt a b ≡ true
-less a b h = grind (arith, nat_tests)
-
 pub data_and_start : (s : Shape) (g : ℕ) → data_len s g ≢ 0 → start_len s + data_len s g ≤ g * s.clba
 data_and_start s g some = by_room (start_len s) (end_len s g) (g * s.clba) s.ws_opt some
 
 pub no_data : (s : Shape) → 0 < s.ws_opt → data_len s 0 ≡ 0
-no_data s h = ap (λ b. cond b 0 (0 * s.clba - start_len s - end_len s 0)) (less (0 * s.clba - start_len s - end_len s 0) s.ws_opt (omega arith))
+no_data s h = ap (λ b. cond b 0 (0 * s.clba - start_len s - end_len s 0)) (lt_true (0 * s.clba - start_len s - end_len s 0) s.ws_opt (omega arith))
 
 pub width_some : (s : Shape) (g : ℕ) → 0 < s.ws_opt → data_len s g ≢ 0 → 0 < g
 width_some s zero h some = absurd (some (no_data s h))
@@ -63,7 +61,7 @@ below_rows w a b some h = elim (nat_lt b a) as (λ t. nat_lt b a ≡ t → a ≤
       let more : b + 1 ≤ a = omega arith in
       let rows : (b + 1) * w ≤ a * w = mul-le-mul_right w more in
       absurd (omega (arith, rows))
-  | false ↦ λ e. le_of b a e
+  | false ↦ λ e. le_of_lt_false b a e
 ] refl
 
 -- as many stripes as blocks
@@ -146,10 +144,6 @@ opened_line s line live w a b n chunks o =
     ap (λ x. make x b (outcomes chunks w 0 n)) o.start_is
     ∙ ap (λ y. make (start_len s / s.ws_opt) y (outcomes chunks w 0 n)) (o.data_is ∙ ap (λ g. data_len s g / s.ws_opt) o.width_is)
     ∙ ap (make (start_len s / s.ws_opt) (data_len s (length (units_in live)) / s.ws_opt)) (opened_stripes s live w a b n chunks o ∙ ap (λ k. replicate k Unplaced) (o.count_is ∙ ap (λ g. g * (s.clba / s.ws_opt)) o.width_is))
-
-length_new : (n : ℕ) → length (replicate n Unplaced) ≡ n
-length_new zero = refl
-length_new (suc n) = omega (arith, length_new n)
 
 pub opened_fits : (s : Shape) (line live w a b n : ℕ) (chunks : List Chunk) → Opens s live w a b n chunks → live < 2 ^ units s → FitsShape s (opened s line live)
 opened_fits s line live w a b n chunks o h = record {

@@ -12,10 +12,11 @@ use Rattle.stripe_placer.specs.Entries.{Entries}
 use Rattle.stripe_placer.specs.declared.placement.StripeKind.{StripeKind}
 use Rattle.stripe_placer.specs.OpenLines.{OpenLine, width, unit_of, next_of, kind_of}
 use Rattle.stripe_placer.specs.Placing.{Program, allows, next_positions, program_of, allowed_at, next_in}
-use Rattle.stripe_placer.proofs.Chunks.{column, lt_of, le_of}
+use Rattle.stripe_placer.proofs.Chunks.{column, lt_of}
 use Rattle.stripe_placer.proofs.Opening.{line_rows}
 use Rattle.stripe_placer.specs.Inside.{FitsShape}
 use Rattle.std.proofs.lemmas.Option.{same_Some, slice_get-get_or}
+use Rattle.lemmas.proofs.Tests.{le_of_lt_false}
 
 pub stripe_of : (w j : ℕ) → 0 < w → (j * w) / w ≡ j
 stripe_of w j h = mul-div_cancel j h
@@ -40,7 +41,7 @@ unfolding units_in
 unit_below live n k u h is = elim (nat_lt u n) as (λ t. nat_lt u n ≡ t → u < n) [
   | true ↦ λ e. lt_of u n e
   | false ↦ λ e.
-      let none : is_in live u ≡ false = ap (λ b. eqb b 1) (bit_at_above live n u h (le_of u n e)) in
+      let none : is_in live u ≡ false = ap (λ b. eqb b 1) (bit_at_above live n u h (le_of_lt_false u n e)) in
       let some : is_in live u ≡ true = filtered (is_in live) (range_with_len 0 64) u k is in
       absurd cc
 ] refl

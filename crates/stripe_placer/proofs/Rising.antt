@@ -4,15 +4,7 @@ use Rattle.std.specs.Prelude.{nat_lt, nat_le}
 use Rattle.std.specs.List.{All, AllByRecursion, filter, list_any}
 use Rattle.std.proofs.lemmas.Bool.Decides.{nat_tests}
 use Rattle.stripe_placer.specs.Entries.{Rises}
-
-pub lt_true : (a b : ℕ) → a < b → nat_lt a b ≡ true
-lt_true a b h = grind (arith, nat_tests)
-
-pub lt_false : (a b : ℕ) → b ≤ a → nat_lt a b ≡ false
-lt_false a b h = grind (arith, nat_tests)
-
-pub le_true : (a b : ℕ) → a ≤ b → nat_le a b ≡ true
-le_true a b h = grind (arith, nat_tests)
+use Rattle.lemmas.proofs.Tests.{le_of_lt_false, le_true, lt_true, not_before}
 
 pub le_false : (a b : ℕ) → b < a → nat_le a b ≡ false
 le_false a b h = grind (arith, nat_tests)
@@ -32,14 +24,11 @@ from_at a (suc k) (x ∷ xs) all h = from_at a k xs all.1 (omega arith)
 
 none_below : (p x : ℕ) (xs : List ℕ) → AreFrom x xs → p ≤ x → list_any (λ q. nat_lt q p) xs ≡ false
 none_below p x [] h e = refl
-none_below p x (y ∷ ys) h e = rw (lt_false y p (omega (arith, h.0))) (none_below p x ys h.1 e)
+none_below p x (y ∷ ys) h e = rw (not_before y p (omega (arith, h.0))) (none_below p x ys h.1 e)
 
 or_decided : (b rest : Bool) → (b ≡ false → rest ≡ false) → b ≡ b || rest
 or_decided true rest h = refl
 or_decided false rest h = sym (h refl)
-
-pub le_of_lt_false : (a b : ℕ) → nat_lt a b ≡ false → b ≤ a
-le_of_lt_false a b h = grind (arith, nat_tests)
 
 -- the first decides whether one lies below
 pub first_below : (p f : ℕ) (xs : List ℕ) → Rises xs → 0 < length xs → f ≡ get_or xs 0 f → nat_lt f p ≡ list_any (λ q. nat_lt q p) xs
@@ -55,7 +44,7 @@ pub record IsPlace (xs : List ℕ) (i p : ℕ) : Type 0 where
 
 pub none_under : (p x : ℕ) (xs : List ℕ) → AreFrom x xs → p ≤ x → filter (λ q. nat_lt q p) xs ≡ []
 none_under p x [] h e = refl
-none_under p x (y ∷ ys) h e = rw (lt_false y p (omega (arith, h.0))) (none_under p x ys h.1 e)
+none_under p x (y ∷ ys) h e = rw (not_before y p (omega (arith, h.0))) (none_under p x ys h.1 e)
 
 pub all_over : (p x : ℕ) (xs : List ℕ) → AreFrom x xs → p ≤ x → filter (λ q. nat_le p q) xs ≡ xs
 all_over p x [] h e = refl
@@ -80,7 +69,7 @@ place_below [] zero p rise at = refl
 place_below [] (suc i) p rise at = absurd (omega (arith, at.inside))
 place_below (x ∷ xs) zero p rise at =
     let up : p ≤ x = at.above (omega arith) in
-    rw (lt_false x p up) (sym (none_under p x xs rise.0 up))
+    rw (not_before x p up) (sym (none_under p x xs rise.0 up))
 place_below (x ∷ xs) (suc i) p rise at =
     rw (lt_true x p (first_is_below x i p xs rise at)) (ap (λ ys. x ∷ ys) (place_below xs i p rise.1 (later_place x i p xs at)))
 

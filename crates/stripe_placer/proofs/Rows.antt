@@ -1,5 +1,5 @@
 -- The rows of the units.
-use Rattle.std.proofs.Common.{◌≡◌, ℕ, zero, suc, ◌+◌, ◌<◌, ◌≤◌, Bool, true, false, cond, not, ◌&&◌, Option, Some, None, List, [], ◌∷◌, ◌++◌, length, drop, refl, sym, ap, ◌∙◌, arith}
+use Rattle.std.proofs.Common.{◌≡◌, ℕ, zero, suc, ◌+◌, ◌<◌, Bool, true, false, cond, not, ◌&&◌, Option, Some, None, List, [], ◌∷◌, ◌++◌, length, refl, sym, ap, ◌∙◌, arith}
 use Rattle.std.specs.Prelude.{map, replicate}
 use Rattle.std.specs.List.{slice_get, slice_set, slice_index_or, find, filter_map, cons_option}
 use Rattle.std.specs.Option.{option_map, option_map_or}
@@ -8,6 +8,7 @@ use Rattle.stripe_placer.specs.Placing.{Program, UnitRow, stopped_in, is_under_w
 use Rattle.stripe_placer.specs.Placing.UnitRow.{Idle, UnderWay, Stopped}
 use Rattle.stripe_placer.specs.Inside.{unit_row, OwnUnits, first_given}
 use Rattle.stripe_placer.specs.declared.unit_state.UnitState.{UnitState}
+use Rattle.stripe_placer.proofs.PlacingLemmas.{cond_true}
 
 pub given_none : {X Y : Type 0} (test : Y → Bool) (give : X → Option Y) (x : X) (xs : List X) → give x ≡ None → first_given test give (x ∷ xs) ≡ first_given test give xs
 given_none test give x xs e = ap (λ o. find test (cons_option o (filter_map give xs))) e
@@ -54,19 +55,6 @@ find_second test (z ∷ zs) ys e = elim (test z) as (λ b. cond b (Some z) (find
   | false ↦ λ h. find_second test zs ys h
 ] e
 
-pub drop_at : {X : Type 0} (xs : List X) (i : ℕ) (x : X) → slice_get xs i ≡ Some x → drop i xs ≡ x ∷ drop (i + 1) xs
-drop_at [] i x e = absurd cc
-drop_at (y ∷ ys) zero x e = let same : y ≡ x = cc in ap (λ z. z ∷ ys) same
-drop_at (y ∷ ys) (suc i) x e =
-    let more : suc (i + 1) ≡ suc i + 1 = omega arith in
-    drop_at ys i x e ∙ ap (λ k. x ∷ drop k (y ∷ ys)) more
-
-pub drop_all : {X : Type 0} (xs : List X) (i : ℕ) → length xs ≤ i → drop i xs ≡ []
-drop_all [] zero h = refl
-drop_all [] (suc i) h = refl
-drop_all (x ∷ xs) zero h = absurd (omega arith)
-drop_all (x ∷ xs) (suc i) h = drop_all xs i (omega arith)
-
 pub get_map : {X Y : Type 0} (f : X → Y) (xs : List X) (i : ℕ) → slice_get (map f xs) i ≡ option_map f (slice_get xs i)
 get_map f [] i = refl
 get_map f (x ∷ xs) zero = refl
@@ -80,10 +68,6 @@ set_map f (y ∷ ys) (suc i) x = ap (λ zs. f y ∷ zs) (set_map f ys i x)
 pub length_map : {X Y : Type 0} (f : X → Y) (xs : List X) → length (map f xs) ≡ length xs
 length_map f [] = refl
 length_map f (x ∷ xs) = omega (arith, length_map f xs)
-
-pub map_last : {X Y : Type 0} (f : X → Y) (xs : List X) (x : X) → map f (xs ++ x ∷ []) ≡ map f xs ++ f x ∷ []
-map_last f [] x = refl
-map_last f (y ∷ ys) x = ap (λ zs. f y ∷ zs) (map_last f ys x)
 
 pub one_more : {X : Type 0} (n : ℕ) (x : X) → replicate n x ++ x ∷ [] ≡ replicate (n + 1) x
 one_more zero x = refl
@@ -101,10 +85,6 @@ failing : (b : Bool) (of : Program) → cond b (Some of) None ≡ None → b ≡
 failing true of e = absurd cc
 failing false of e = refl
 
-passing : (b : Bool) (of o : Program) → cond b (Some of) None ≡ Some o → b ≡ true
-passing true of o e = refl
-passing false of o e = absurd cc
-
 passed : (b : Bool) (of o : Program) → cond b (Some of) None ≡ Some o → ◌≡◌ {A = Option Program} (Some of) (Some o)
 passed true of o e = e
 passed false of o e = absurd cc
@@ -120,7 +100,7 @@ stopped_skip test ready (Stopped of) rest same none = given_failing ready stoppe
 pub stopped_hit : (test ready : Program → Bool) (r : UnitRow) (rest : List UnitRow) (o : Program) → ((of : Program) → r ≡ Stopped of → ready of ≡ test of) → first_given test stopped_in (r ∷ []) ≡ Some o → first_given ready stopped_in (r ∷ rest) ≡ Some o
 stopped_hit test ready Idle rest o same some = absurd cc
 stopped_hit test ready (UnderWay of) rest o same some = absurd cc
-stopped_hit test ready (Stopped of) rest o same some = given_first ready stopped_in (Stopped of) of rest refl (same of refl ∙ passing (test of) of o some) ∙ passed (test of) of o some
+stopped_hit test ready (Stopped of) rest o same some = given_first ready stopped_in (Stopped of) of rest refl (same of refl ∙ cond_true (test of) of o some) ∙ passed (test of) of o some
 
 -- the readiness of a stopped program's unit is that it isn't busy
 pub stopped_ready : (states : List UnitState) (busy i : ℕ) (of : Program) → OwnUnits states → slice_get (map unit_row states) i ≡ Some (Stopped of) → is_ready (map unit_row states) busy of.unit ≡ not (is_in busy of.unit)
@@ -135,7 +115,3 @@ pub get_is : {X : Type 0} (xs : List X) (i : ℕ) (x : X) → i < length xs → 
 get_is [] i x h e = absurd (omega arith)
 get_is (y ∷ ys) zero x h e = ap (λ z. Some z) (sym e)
 get_is (y ∷ ys) (suc i) x h e = get_is ys i x (omega arith) e
-
-pub length_replicate : {X : Type 0} (n : ℕ) (x : X) → length (replicate n x) ≡ n
-length_replicate zero x = refl
-length_replicate (suc n) x = omega (arith, length_replicate n x)

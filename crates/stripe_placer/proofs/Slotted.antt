@@ -8,10 +8,11 @@ use Rattle.stripe_placer.specs.Slots.{open_line, outcomes, outcome_in, KeepsLine
 use Rattle.stripe_placer.specs.declared.placement.StripeKind.TheVariants as kinds
 use Rattle.stripe_placer.specs.declared.slot.Chunk.TheVariants as chunk
 use Rattle.stripe_placer.specs.declared.slot.Slot.TheInside.{Inside}
-use Rattle.stripe_placer.proofs.Numbered.{length_mapped}
-use Rattle.stripe_placer.proofs.Chunks.{Describes, described, column, IsPlaceable, placeable, IsWaiting, is_waiting, lt_yes, lt_no, landed_outcomes, answered_keeps}
+use Rattle.stripe_placer.proofs.Chunks.{Describes, described, column, IsPlaceable, placeable, IsWaiting, is_waiting, landed_outcomes, answered_keeps}
 use Rattle.stripe_placer.proofs.Counted.{few_unanswered, few_lost, some_unanswered, LandsIn, landed_counts}
 use Rattle.stripe_placer.proofs.Tallies.{some_counted}
+use Rattle.lemmas.proofs.Maps.{length_mapped}
+use Rattle.lemmas.proofs.Tests.{lt_true, not_before}
 
 pub its_chunks : (s : Inside) → IsSlot s → Describes (open_line s) s.chunks s.width s.next s.stripe_count
 its_chunks s is = described s.line s.live s.width s.start_count s.data_count s.stripe_count s.next s.chunks is.keeps
@@ -55,21 +56,21 @@ kind_other l j failed = ap (λ b. cond b kinds.Pad (cond (nat_lt j l.start_count
 
 -- the kind of a slot's stripe, by what was lost and by where it lies
 pub slot_pad : (s : Inside) (l : OpenLine) (j : ℕ) → IsSlot s → open_line s ≡ l → 0 < s.lost → kinds.Pad ≡ kind_of l j
-slot_pad s l j is same some = kind_pad l j (failed_is s l is same ∙ lt_yes 0 s.lost some)
+slot_pad s l j is same some = kind_pad l j (failed_is s l is same ∙ lt_true 0 s.lost some)
 
 slot_other : (s : Inside) (l : OpenLine) (j : ℕ) → IsSlot s → open_line s ≡ l → s.lost ≤ 0 → cond (nat_lt j s.start_count) kinds.Start (cond (nat_lt j (s.start_count + s.data_count)) kinds.Data kinds.End) ≡ kind_of l j
-slot_other s l j is same none = sym (kind_other (open_line s) j (failed_is s (open_line s) is refl ∙ lt_no 0 s.lost none)) ∙ ap (λ (v : OpenLine). kind_of v j) same
+slot_other s l j is same none = sym (kind_other (open_line s) j (failed_is s (open_line s) is refl ∙ not_before 0 s.lost none)) ∙ ap (λ (v : OpenLine). kind_of v j) same
 
 pub slot_start : (s : Inside) (l : OpenLine) (j : ℕ) → IsSlot s → open_line s ≡ l → s.lost ≤ 0 → j < s.start_count → kinds.Start ≡ kind_of l j
-slot_start s l j is same none below = sym (ap (λ b. cond b kinds.Start (cond (nat_lt j (s.start_count + s.data_count)) kinds.Data kinds.End)) (lt_yes j s.start_count below)) ∙ slot_other s l j is same none
+slot_start s l j is same none below = sym (ap (λ b. cond b kinds.Start (cond (nat_lt j (s.start_count + s.data_count)) kinds.Data kinds.End)) (lt_true j s.start_count below)) ∙ slot_other s l j is same none
 
 pub slot_data : (s : Inside) (l : OpenLine) (j : ℕ) → IsSlot s → open_line s ≡ l → s.lost ≤ 0 → s.start_count ≤ j → j < s.start_count + s.data_count → kinds.Data ≡ kind_of l j
-slot_data s l j is same none from below = sym (ap (λ b. cond b kinds.Data kinds.End) (lt_yes j (s.start_count + s.data_count) below))
-    ∙ sym (ap (λ b. cond b kinds.Start (cond (nat_lt j (s.start_count + s.data_count)) kinds.Data kinds.End)) (lt_no j s.start_count from)) ∙ slot_other s l j is same none
+slot_data s l j is same none from below = sym (ap (λ b. cond b kinds.Data kinds.End) (lt_true j (s.start_count + s.data_count) below))
+    ∙ sym (ap (λ b. cond b kinds.Start (cond (nat_lt j (s.start_count + s.data_count)) kinds.Data kinds.End)) (not_before j s.start_count from)) ∙ slot_other s l j is same none
 
 pub slot_end : (s : Inside) (l : OpenLine) (j : ℕ) → IsSlot s → open_line s ≡ l → s.lost ≤ 0 → s.start_count + s.data_count ≤ j → kinds.End ≡ kind_of l j
-slot_end s l j is same none past = sym (ap (λ b. cond b kinds.Data kinds.End) (lt_no j (s.start_count + s.data_count) past))
-    ∙ sym (ap (λ b. cond b kinds.Start (cond (nat_lt j (s.start_count + s.data_count)) kinds.Data kinds.End)) (lt_no j s.start_count (omega arith))) ∙ slot_other s l j is same none
+slot_end s l j is same none past = sym (ap (λ b. cond b kinds.Data kinds.End) (not_before j (s.start_count + s.data_count) past))
+    ∙ sym (ap (λ b. cond b kinds.Start (cond (nat_lt j (s.start_count + s.data_count)) kinds.Data kinds.End)) (not_before j s.start_count (omega arith))) ∙ slot_other s l j is same none
 
 -- a stripe has landed, which leaves fewer
 pub landed_slot : (s : Inside) (l : OpenLine) (j a b : ℕ) → IsSlot s → open_line s ≡ l → slice_get l.stripes j ≡ Some Unanswered → LandsIn j s.start_count s.data_count a b s.start_left s.data_left

@@ -12,8 +12,10 @@ use Rattle.stripe_placer.specs.OpenLines.Stripe.{Unplaced, Unanswered}
 use Rattle.stripe_placer.specs.Placing.{Program, UnitRow}
 use Rattle.stripe_placer.specs.Placing.UnitRow.{Idle, UnderWay, Stopped}
 use Rattle.stripe_placer.specs.Inside.{IsAmongLines, IsUnanswered, FitsShape, IsProgramOf, IsRowOf, HasStripe, Agree}
-use Rattle.stripe_placer.proofs.Among.{from_map, in_map, from_filter, in_filter, from_last, before_last, got_here, got_else}
 use Rattle.stripe_placer.proofs.Agreeing.{in_line_keeps, in_line_unanswered, in_line_waits, in_line_same, apart_mapped, apart_filtered, apart_last, one_among}
+use Rattle.lemmas.proofs.Maps.{from_filter, from_map, in_filter, in_map}
+use Rattle.lemmas.proofs.Parts.{before_last, from_last, got_else, got_here}
+use Rattle.lemmas.proofs.Tests.{or_right}
 
 -- ---- rows
 
@@ -75,19 +77,15 @@ row_changed s rows lines unit old new of agree at was has = record {
 
 -- ---- lines without a stripe left
 
-or_last : (a b : Bool) → b ≡ true → (a || b) ≡ true
-or_last true b e = refl
-or_last false b e = e
-
 some_passes : (test : Stripe → Bool) (xs : List Stripe) (j : ℕ) (s : Stripe) → slice_get xs j ≡ Some s → test s ≡ true → list_any test xs ≡ true
 some_passes test [] j s e passes = absurd cc
 some_passes test (x ∷ xs) zero s e passes =
     let same : x ≡ s = cc in
     ap (λ b. b || list_any test xs) (ap test same ∙ passes)
-some_passes test (x ∷ xs) (suc j) s e passes = or_last (test x) (list_any test xs) (some_passes test xs j s e passes)
+some_passes test (x ∷ xs) (suc j) s e passes = or_right (test x) (list_any test xs) (some_passes test xs j s e passes)
 
 pub unanswered_left : (l : OpenLine) (j : ℕ) → IsUnanswered l j → has_left l ≡ true
-unanswered_left l j waits = or_last (list_any (is_to_place l) (numbers l)) (list_any is_unanswered l.stripes) (some_passes is_unanswered l.stripes j Unanswered waits refl)
+unanswered_left l j waits = or_right (list_any (is_to_place l) (numbers l)) (list_any is_unanswered l.stripes) (some_passes is_unanswered l.stripes j Unanswered waits refl)
 
 filtered_program : (s : Shape) (lines : List OpenLine) (unit : ℕ) (of : Program) → IsProgramOf s lines unit of → IsProgramOf s (filter has_left lines) unit of
 filtered_program s lines unit of is = record {

@@ -48,7 +48,8 @@ blank_fits s = record {
 }
 
 -- whatever lists are equal to these
-pub fits_as : (s : Shape) (winners : List Winner) (strays : List ℕ) (chunks : List ChunkState) (lines : List LineRow) → winners ≡ [] → strays ≡ [] → chunks ≡ replicate (units s * s.chunks) Free → lines ≡ replicate s.chunks unused → IsFitFound s (found winners strays chunks lines)
+pub fits_as : (s : Shape) (winners : List Winner) (strays : List ℕ) (chunks : List ChunkState) (lines : List LineRow) → winners ≡ [] → strays ≡ []
+    → chunks ≡ replicate (units s * s.chunks) Free → lines ≡ replicate s.chunks unused → IsFitFound s (found winners strays chunks lines)
 fits_as s winners strays chunks lines p q r t =
     subst (λ ws. IsFitFound s (found ws strays chunks lines)) (sym p)
     (subst (λ ss. IsFitFound s (found [] ss chunks lines)) (sym q)

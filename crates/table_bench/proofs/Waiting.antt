@@ -1,5 +1,5 @@
 -- Positions that wait one after another from 0 on.
-use Rattle.std.proofs.Common.{◌≡◌, ℕ, ◌+◌, ◌<◌, zero, suc, List, [], ◌∷◌, ◌++◌, length, replicate, refl, ap, ◌∙◌, arith}
+use Rattle.std.proofs.Common.{◌≡◌, ℕ, ◌+◌, ◌<◌, zero, suc, List, [], ◌∷◌, ◌++◌, length, replicate, refl, ap, arith}
 use Rattle.std.specs.List.{All, Contains, flat_map, range_with_len}
 use Rattle.std.proofs.lemmas.List.FromFn.{length-range_with_len, get_or-range_with_len}
 use Rattle.stripe_placer.specs.Placing.{Placing, held, positions_in}
@@ -22,15 +22,6 @@ pub range_lacks : (n : ℕ) → Contains (range_with_len 0 n) n → ⊥
 range_lacks n (k, within, at) =
     let inside : k < n = omega (arith, length-range_with_len 0 n, within) in
     absurd (omega (arith, get_or-range_with_len 0 n k n inside, at, inside))
-
-pub range_more : (a n : ℕ) → range_with_len a (suc n) ≡ range_with_len a n ++ (a + n) ∷ []
-range_more a zero = ap (λ x. x ∷ []) (omega arith)
-range_more a (suc n) = ap (λ xs. a ∷ xs) (range_more (a + 1) n ∙ ap (λ x. range_with_len (a + 1) n ++ x ∷ []) (omega arith))
-
-pub range_from_0 : (n : ℕ) → range_with_len 0 (n + 1) ≡ range_with_len 0 n ++ n ∷ []
-range_from_0 n =
-    let next : n + 1 ≡ suc n = omega arith in
-    ap (range_with_len 0) next ∙ range_more 0 n ∙ ap (λ x. range_with_len 0 n ++ x ∷ []) (omega arith)
 
 pub idle_units : (n : ℕ) → flat_map positions_in (replicate n Idle) ≡ []
 idle_units zero = refl

@@ -15,8 +15,8 @@ impl Drive {
     }
 }
 
-/// Two groups of four units of 64 chunks of 96 blocks, with sectors of 4096 bytes, and on it a target of 24000 sectors with
-/// a write buffer of 2048 entries.
+/// Two groups of four units of 64 chunks of 96 blocks, with sectors of 4096 bytes, and on it a target of
+/// 24000 sectors with a write buffer of 2048 entries.
 const REALISTIC: Shape = Shape {
     groups: 2,
     pus: 4,

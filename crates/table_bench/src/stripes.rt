@@ -104,7 +104,8 @@ impl Stripes {
         }
     }
 
-    // Places the next stripe, which gets this answer. Each of the two calls is measured by itself, under its name.
+    // Places the next stripe, which gets this answer. Each of the two calls is measured by itself, under its
+    // name.
     fn step<C: Clock>(
         &mut self,
         clock: &C,

@@ -48,7 +48,8 @@ used = record {
 }
 
 -- a line whose chunks are Free or Offline has none that is used
-not_used : (line : ℕ) (a b : ChunkState) → state_at small used line 0 ≡ Some a → state_at small used line 1 ≡ Some b → (IsUsed a → ⊥) → (IsUsed b → ⊥) → HasUsed small used line → ⊥
+not_used : (line : ℕ) (a b : ChunkState) → state_at small used line 0 ≡ Some a → state_at small used line 1 ≡ Some b → (IsUsed a → ⊥) → (IsUsed b → ⊥)
+    → HasUsed small used line → ⊥
 not_used line a b a-is b-is a-not b-not has = by_unit has.0 has.1 has.2 has.3 has.4 where
   by_unit : (unit : ℕ) (state : ChunkState) → unit < units small → state_at small used line unit ≡ Some state → IsUsed state → ⊥
   by_unit zero state inside is u = a-not (subst IsUsed (same_Some state a (sym is ∙ a-is)) u)
@@ -74,10 +75,32 @@ has_stray : HasUsed small used 2
 has_stray = (0, Closed, omega arith, refl, tt)
 
 earlier_fits : WinnerFits small used earlier
-earlier_fits = record { sector = omega arith; row = first; row_is = refl; seq = 1; seq_is = refl; below_top = omega arith; at = omega arith; unit = 1; unit_is = refl; closed = refl }
+earlier_fits = record {
+  sector = omega arith;
+  row = first;
+  row_is = refl;
+  seq = 1;
+  seq_is = refl;
+  below_top = omega arith;
+  at = omega arith;
+  unit = 1;
+  unit_is = refl;
+  closed = refl;
+}
 
 later_fits : WinnerFits small used later
-later_fits = record { sector = omega arith; row = first; row_is = refl; seq = 1; seq_is = refl; below_top = omega arith; at = omega arith; unit = 0; unit_is = refl; closed = refl }
+later_fits = record {
+  sector = omega arith;
+  row = first;
+  row_is = refl;
+  seq = 1;
+  seq_is = refl;
+  below_top = omega arith;
+  at = omega arith;
+  unit = 0;
+  unit_is = refl;
+  closed = refl;
+}
 
 -- the head's line is the second
 abbrev BeforeHead : ℕ → LineRow → Type 0
@@ -93,16 +116,70 @@ abbrev IsApart : ℕ → Winner → Type 0
 IsApart j v = (k : ℕ) (w : Winner) → slice_get used.winners k ≡ Some w → v.line ≡ w.line → v.at ≡ w.at → j ≡ k
 
 no_open : Each (λ _ state. state ≢ Open) used.chunks
-no_open = (λ p. cc, (λ p. cc, (λ p. cc, (λ p. cc, (λ p. cc, (λ p. cc, (λ p. cc, (λ p. cc, (λ p. cc, (λ p. cc, (λ p. cc, (λ p. cc, (λ p. cc, (λ p. cc, (λ p. cc, (λ p. cc, tt))))))))))))))))
+no_open = (
+  λ p. cc,
+  (
+    λ p. cc,
+    (
+      λ p. cc,
+      (
+        λ p. cc,
+        (
+          λ p. cc,
+          (
+            λ p. cc,
+            (
+              λ p. cc,
+              (
+                λ p. cc,
+                (λ p. cc, (λ p. cc, (λ p. cc, (λ p. cc, (λ p. cc, (λ p. cc, (λ p. cc, (λ p. cc, tt)))))))),
+              ),
+            ),
+          ),
+        ),
+      ),
+    ),
+  ),
+)
 
 rows_fit : Each (λ line row. RowFits small used line row row.seq) used.lines
-rows_fit = ((omega arith, omega arith, has_first, omega arith, omega arith), ((omega arith, omega arith, has_second, omega arith, omega arith), ((refl, refl), ((refl, refl), ((refl, refl), ((refl, refl), ((refl, refl), ((refl, refl), tt))))))))
+rows_fit = (
+  (omega arith, omega arith, has_first, omega arith, omega arith),
+  (
+    (omega arith, omega arith, has_second, omega arith, omega arith),
+    ((refl, refl), ((refl, refl), ((refl, refl), ((refl, refl), ((refl, refl), ((refl, refl), tt)))))),
+  ),
+)
 
 before_head : Each BeforeHead used.lines
-before_head = (λ n e. inl (omega (arith, same_Some 1 n e)), (λ n e. inr (omega (arith, same_Some 2 n e), omega arith), (λ n e. absurd cc, (λ n e. absurd cc, (λ n e. absurd cc, (λ n e. absurd cc, (λ n e. absurd cc, (λ n e. absurd cc, tt))))))))
+before_head = (
+  λ n e. inl (omega (arith, same_Some 1 n e)),
+  (
+    λ n e. inr (omega (arith, same_Some 2 n e), omega arith),
+    (λ n e. absurd cc, (λ n e. absurd cc, (λ n e. absurd cc, (λ n e. absurd cc, (λ n e. absurd cc, (λ n e. absurd cc, tt)))))),
+  ),
+)
 
 the_strays : Each IsStray used.lines
-the_strays = (λ e has. absurd cc, (λ e has. absurd cc, (λ e has. (0, omega arith, refl), (no_stray 3 (not_used 3 Offline Offline refl refl offline offline), (no_stray 4 (not_used 4 Free Offline refl refl free offline), (no_stray 5 (not_used 5 Free Free refl refl free free), (no_stray 6 (not_used 6 Free Free refl refl free free), (no_stray 7 (not_used 7 Free Free refl refl free free), tt))))))))
+the_strays = (
+  λ e has. absurd cc,
+  (
+    λ e has. absurd cc,
+    (
+      λ e has. (0, omega arith, refl),
+      (
+        no_stray 3 (not_used 3 Offline Offline refl refl offline offline),
+        (
+          no_stray 4 (not_used 4 Free Offline refl refl free offline),
+          (
+            no_stray 5 (not_used 5 Free Free refl refl free free),
+            (no_stray 6 (not_used 6 Free Free refl refl free free), (no_stray 7 (not_used 7 Free Free refl refl free free), tt)),
+          ),
+        ),
+      ),
+    ),
+  ),
+)
 
 after_earlier : Each (λ k w. 0 < k → 3 < w.lba) used.winners
 after_earlier = (λ b. absurd (omega arith), (λ b. omega arith, tt))
@@ -132,18 +209,26 @@ used_fits = record {
   rows = each (λ line row. RowFits small used line row row.seq) used.lines rows_fit;
   head = (second, 2, refl, refl, λ line other n there is. each BeforeHead used.lines before_head line other there n is);
   strays_rise = tt;
-  strays = λ line has. subst (λ l. (row : LineRow) × (slice_get used.lines l ≡ Some row) × (row.seq ≡ None) × HasUsed small used l) (only_stray line has) (unused, refl, refl, has_stray);
+  strays = λ line has. subst (λ l. (row : LineRow) × (slice_get used.lines l ≡ Some row) × (row.seq ≡ None) × HasUsed small used l) (only_stray line has)
+      (unused, refl, refl, has_stray);
   all_strays = each IsStray used.lines the_strays;
-  winners_rise = λ j k v w below v-is w-is. each IsAfter used.winners (each (λ k w. 0 < k → 3 < w.lba) used.winners after_earlier, (each (λ k w. 1 < k → 5 < w.lba) used.winners after_later, tt)) j v v-is k w w-is below;
+  winners_rise = λ j k v w below v-is w-is. each IsAfter used.winners (
+    each (λ k w. 0 < k → 3 < w.lba) used.winners after_earlier,
+    (each (λ k w. 1 < k → 5 < w.lba) used.winners after_later, tt),
+  ) j v v-is k w w-is below;
   winners = each (λ k w. WinnerFits small used w) used.winners (earlier_fits, (later_fits, tt));
-  apart = λ j k v w v-is w-is. each IsApart used.winners (each (λ k w. 0 ≡ w.line → 4 ≡ w.at → 0 ≡ k) used.winners at_earlier, (each (λ k w. 0 ≡ w.line → 8 ≡ w.at → 1 ≡ k) used.winners at_later, tt)) j v v-is k w w-is;
+  apart = λ j k v w v-is w-is. each IsApart used.winners (
+    each (λ k w. 0 ≡ w.line → 4 ≡ w.at → 0 ≡ k) used.winners at_earlier,
+    (each (λ k w. 0 ≡ w.line → 8 ≡ w.at → 1 ≡ k) used.winners at_later, tt),
+  ) j v v-is k w w-is;
 }
 
 -- whatever lists are equal to these
 abbrev pub found : List Winner → List ℕ → List ChunkState → List LineRow → Found
 found winners strays chunks lines = record { winners = winners; head = Some 1; front = 0; end = 3; strays = strays; chunks = chunks; lines = lines }
 
-pub fits_as : (winners : List Winner) (strays : List ℕ) (chunks : List ChunkState) (lines : List LineRow) → winners ≡ used.winners → strays ≡ used.strays → chunks ≡ used.chunks → lines ≡ used.lines → IsFitFound small (found winners strays chunks lines)
+pub fits_as : (winners : List Winner) (strays : List ℕ) (chunks : List ChunkState) (lines : List LineRow) → winners ≡ used.winners → strays ≡ used.strays
+    → chunks ≡ used.chunks → lines ≡ used.lines → IsFitFound small (found winners strays chunks lines)
 fits_as winners strays chunks lines p q r t =
     subst (λ ws. IsFitFound small (found ws strays chunks lines)) (sym p)
     (subst (λ ss. IsFitFound small (found used.winners ss chunks lines)) (sym q)

@@ -1,13 +1,14 @@
-//! Tests of `l2p_map` and `line_table` on their public calls.
+//! Tests of the tables on their public calls: the map, the lines, the window, the pool, and the placer
+//! beside the plain one.
 #![tactic(auto)]
 
 #[cfg(test)]
-mod blank;
-#[cfg(test)]
-mod harness;
-#[cfg(test)]
-mod lines;
+mod line;
 #[cfg(test)]
 mod map;
 #[cfg(test)]
-mod used;
+mod placer;
+#[cfg(test)]
+mod pool;
+#[cfg(test)]
+mod window;

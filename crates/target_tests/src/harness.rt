@@ -2,7 +2,7 @@
 ghost use Rattle.std.specs.Prelude.{◌≡◌, [], ◌∷◌, map, IfOk};
 ghost use Rattle.pblk_model.specs.Accepted.{IsAccepted};
 ghost use Rattle.scan_recovery.specs.Units.{AreFit};
-ghost use Rattle.opening_steps.specs.Opened.{AreUnarmed};
+ghost use Rattle.unit_port.specs.Commands.{AreUnarmed};
 ghost use Rattle.block_target.specs.Serial.{SerialView};
 
 use block_target::{Refused, Serial, SettleErr};
@@ -92,8 +92,8 @@ fn new_units(alloc: Global, shape: &Shape) -> Result<Vec<MemoryUnit>, AllocError
     Ok(made)
 }
 
-// The answers of records, a line each.
-fn lines(alloc: Global, records: &Records) -> Result<String, AllocError> {
+/// The answers of records, a line each.
+pub(crate) fn lines(alloc: Global, records: &Records) -> Result<String, AllocError> {
     let mut text = String::new(alloc);
     for answers in records.threads.as_slice() {
         for answer in answers.as_slice() {
@@ -182,17 +182,15 @@ fn put_chunk(text: &mut String, chunk: &Chunk, marks: bool) -> Result<(), AllocE
     Ok(())
 }
 
-const PAD: u64 = u64::MAX;
-
-const META: u64 = u64::MAX - 2;
-
-// Of a sector its lba, the first byte of its tag and its position, of a record its sequence number.
-// A block of Pad has zeros.
+// A sector's lba, the first byte of its tag and its position; a record's sequence number; or a Pad block,
+// which has zeros.
 fn put_block(text: &mut String, sector: &[u8], mark: Mark) -> Result<(), AllocError> {
     let Mark { lba, position } = mark;
     match sector.first() {
-        Some(_) if lba == META => write!(text, ", meta {position}"),
-        Some(0) if lba == PAD && position == 0 && is_zeros(sector) => text.push_str(", pad"),
+        Some(_) if lba == Mark::META_LBA => write!(text, ", meta {position}"),
+        Some(0) if lba == Mark::PAD_LBA && position == 0 && is_zeros(sector) => text.push_str(
+            ", pad",
+        ),
         Some(tag) => write!(text, ", {lba} of {tag} at {position}"),
         None => text.push_str(", none"),
     }

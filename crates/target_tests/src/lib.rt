@@ -1,4 +1,5 @@
-//! Tests of the target for one session over units in memory.
+//! Tests of the target for one session over units in memory, of the stripes of its core, and of the plain
+//! port.
 #![tactic(auto)]
 
 #[cfg(test)]
@@ -7,5 +8,9 @@ mod answers;
 mod calls;
 #[cfg(test)]
 mod harness;
+#[cfg(test)]
+mod port;
+#[cfg(test)]
+mod records;
 #[cfg(test)]
 mod shapes;

@@ -3,18 +3,7 @@
 use pblk_model::Shape;
 
 /// The small drive: a line has 4 blocks of start record, 40 of data and 4 of end record.
-pub(crate) const SMALL: Shape = Shape {
-    groups: 1,
-    pus: 2,
-    chunks: 8,
-    clba: 24,
-    ws_min: 2,
-    ws_opt: 4,
-    mw_cunits: 8,
-    sector: 512,
-    capacity: 64,
-    ring: 64,
-};
+pub(crate) const SMALL: Shape = Shape::SMALL;
 
 /// Two groups of four units. Of the 192 blocks of a line 4 are start record and 8 end record.
 pub(crate) const EIGHT_UNITS: Shape = Shape {

@@ -1,1 +1,2 @@
 mod LogSteps
+pub mod Units

@@ -6,9 +6,7 @@ use mathlib.Core.Option.{some, some-ne-none}
 use lib.ListN.{get_elem?}
 use Rattle.atomic_table.specs.Table.{Me, Allows, keeps}
 use Rattle.unit_port.specs.Log.{IsLogWord}
-
-word_set : (words : List ℕ) (n m : ℕ) → words ≡ n ∷ [] → slice_set words 0 m ≡ m ∷ []
-word_set words n m is = ap (λ (l : List ℕ). slice_set l 0 m) is
+use Rattle.lemmas.proofs.Parts.{store_sets}
 
 module _ {E : Type 0} where
   -- a seat that has a view where there is one view is seat 0
@@ -36,7 +34,7 @@ module _ {E : Type 0} where
     record {
       rows = me.0 ++ more;
       views = view_set s.views holds.rows me.0 (me.0 ++ more) id holds.views here;
-      words = word_set s.words (length holds.rows % 2 ^ 64) next holds.words ∙ ap (λ (n : ℕ). n ∷ []) (next_len me.0 more next one is);
+      words = store_sets s.words (length holds.rows % 2 ^ 64) next holds.words ∙ ap (λ (n : ℕ). n ∷ []) (next_len me.0 more next one is);
     },
     refl,
   )

@@ -1,3 +1,5 @@
 pub mod Armed
 pub mod Log
 pub mod Unit
+pub mod Commands
+pub mod Did

@@ -4,8 +4,10 @@ use Rattle.std.specs.List.{AllByRecursion}
 use Rattle.pblk_model.specs.declared.shape.Shape.{Shape}
 use Rattle.pblk_model.specs.declared.chunk.Got.{Got}
 use Rattle.pblk_model.specs.declared.chunk.Got.TheVariants as got
+use Rattle.pblk_model.specs.declared.chunk.Mark.{Mark}
+use Rattle.pblk_model.specs.Blocks.{blocks_of}
 use Rattle.pblk_model.specs.Chunk.{Chunk, IsChunk}
-use Rattle.pblk_model.specs.ChunkStep.{ChunkCommand, Done, Gave, Empty, refusal}
+use Rattle.pblk_model.specs.ChunkStep.{ChunkCommand, Write, Read, Reset, Done, Gave, Empty, refusal}
 use Rattle.pblk_model.specs.UnitLog.{UnitEvent, UnitOutcome, Answered, Failed, Stopped, IsEvent, after_event}
 use Rattle.unit_port.specs.declared.unit.UnitErr.{UnitErr}
 use Rattle.unit_port.specs.declared.unit.UnitErr.TheVariants as errors
@@ -66,3 +68,17 @@ TellsBlock old new (Ok (got.Sector mark)) outcome = outcome ≡ Answered (Gave (
 TellsBlock old new (Ok got.Empty) outcome = (outcome ≡ Answered Empty) × (new ≡ old)
 TellsBlock old new (Err errors.Failed) outcome = (outcome ≡ Failed 0) × (new ≡ old)
 TellsBlock old new (Err errors.Stopped) outcome = (outcome ≡ Stopped 0) × (new ≡ old)
+
+-- A program of these bytes and marks told this result: it had some outcome, and took the unit from old to new.
+abbrev pub DidProgram : ModelUnit → ℕ → ℕ → List ℕ → List Mark → Result (Unit {0}) UnitErr → ModelUnit → Type 0
+DidProgram old chunk at bytes marks result new = (outcome : UnitOutcome) × TellsDone result outcome
+    × Steps old chunk (Write at (blocks_of old.shape.sector bytes marks)) outcome new
+
+-- The same of a fetch, which found these bytes in the caller's buffer and left those.
+abbrev pub DidFetch : ModelUnit → ℕ → ℕ → List ℕ → List ℕ → Result Got UnitErr → ModelUnit → Type 0
+DidFetch old chunk block before after result new = (outcome : UnitOutcome) × TellsBlock before after result outcome
+    × Steps old chunk (Read block) outcome new
+
+-- The same of a reset.
+abbrev pub DidReset : ModelUnit → ℕ → Result (Unit {0}) UnitErr → ModelUnit → Type 0
+DidReset old chunk result new = (outcome : UnitOutcome) × TellsDone result outcome × Steps old chunk Reset outcome new

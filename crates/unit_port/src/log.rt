@@ -27,7 +27,8 @@ impl<E> Model for Log<E> {
 
     ghost view = { λ l. l.seat.me.0 };
 
-    ghost invariant = { λ l. (l.seat.table_id ≡ l.table.shared.table_id) × (l.table.shared.table_id.words ≡ 1) × (l.len ≡ length l.seat.me.0 % 2 ^ 64) };
+    ghost invariant = { λ l. (l.seat.table_id ≡ l.table.shared.table_id)
+        × (l.table.shared.table_id.words ≡ 1) × (l.len ≡ length l.seat.me.0 % 2 ^ 64) };
 }
 
 // The view is the list, and the word its length modulo 2^64.

@@ -3,9 +3,8 @@ ghost use Rattle.std.specs.Prelude.{ℕ, List, ◌≡◌, ◌*◌, ◌-◌, ◌^
 ghost use Rattle.pblk_model.specs.Blocks.{blocks_of};
 ghost use Rattle.pblk_model.specs.Chunk.{pointer};
 ghost use Rattle.pblk_model.specs.ChunkStep.{Write, Read, Reset};
-ghost use Rattle.pblk_model.specs.UnitLog.{UnitOutcome};
 ghost use Rattle.unit_port.specs.Armed.{IsUnarmed};
-ghost use Rattle.unit_port.specs.Unit.{ModelUnit, Takes, Steps, IsChunkOf, IsFitUnit, TellsDone, TellsBlock};
+ghost use Rattle.unit_port.specs.Unit.{ModelUnit, Takes, IsChunkOf, IsFitUnit, DidProgram, DidFetch, DidReset};
 
 use pblk_model::{ChunkState, Got, Mark};
 use thiserror::Error;
@@ -48,8 +47,8 @@ pub trait Unit {
         requires whole { length bytes.now ≡ length marks.now * (model self.old).shape.sector }
         requires taken { let blocks = blocks_of (model self.old).shape.sector bytes.now marks.now
             in Takes (model self.old) chunk (Write at blocks) }
-        ensures event { let blocks = blocks_of (model self.old).shape.sector bytes.now marks.now
-            in (outcome : UnitOutcome) × TellsDone result outcome × Steps (model self.old) chunk (Write at blocks) outcome (model self.new) }
+        ensures event { DidProgram (model self.old) chunk at bytes.now marks.now result
+            (model self.new) }
         ensures fits { IsFitUnit (model self.old) → IsFitUnit (model self.new) }
         ensures wear { wear self.new ≡ wear self.old }
         ensures quiet { IsUnarmed (model self.old).armed → IsOk result };
@@ -61,7 +60,8 @@ pub trait Unit {
     fn fetch(&mut self, chunk: u32, block: u32, out: &mut [u8]) -> Result<Got, UnitErr>
         requires whole { length out.old ≡ (model self.old).shape.sector }
         requires taken { Takes (model self.old) chunk (Read block) }
-        ensures event { (outcome : UnitOutcome) × TellsBlock out.old out.new result outcome × Steps (model self.old) chunk (Read block) outcome (model self.new) }
+        ensures event { DidFetch (model self.old) chunk block out.old out.new result
+            (model self.new) }
         ensures fits { IsFitUnit (model self.old) → IsFitUnit (model self.new) }
         ensures wear { wear self.new ≡ wear self.old }
         ensures quiet { IsUnarmed (model self.old).armed → IsOk result };
@@ -72,7 +72,7 @@ pub trait Unit {
     /// that fails leaves the chunk Offline. One that is stopped may have been done; the log's event says so.
     fn reset(&mut self, chunk: u32) -> Result<(), UnitErr>
         requires { Takes (model self.old) chunk Reset }
-        ensures event { (outcome : UnitOutcome) × TellsDone result outcome × Steps (model self.old) chunk Reset outcome (model self.new) }
+        ensures event { DidReset (model self.old) chunk result (model self.new) }
         ensures fits { IsFitUnit (model self.old) → IsFitUnit (model self.new) }
         ensures wear { wear self.new ≡ wear self.old }
         ensures quiet { IsUnarmed (model self.old).armed → IsOk result };
@@ -80,7 +80,8 @@ pub trait Unit {
     /// The state of a chunk of the unit, and its write pointer, from 0 to CLBA. It isn't logged.
     fn state(&self, chunk: u32) -> (ChunkState, u32)
         requires { chunk < length (model self.now).media }
-        ensures { (found : _) × IsChunkOf (model self.now) chunk found × (result.0 ≡ found.state) × (result.1 ≡ pointer found) };
+        ensures { (found : _) × IsChunkOf (model self.now) chunk found × (result.0 ≡ found.state)
+            × (result.1 ≡ pointer found) };
 
     /// How many events the log has, or 2^64 - 1 where that is less.
     fn events(&self) -> u64

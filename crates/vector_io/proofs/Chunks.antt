@@ -6,9 +6,9 @@ use Rattle.std.proofs.lemmas.Option.{slice_get-map, slice_get-get_or, same_Some,
 use Rattle.pblk_model.specs.declared.shape.Address.{Address}
 use Rattle.pblk_model.specs.Geometry.{Geometry, IsAddress}
 use Rattle.vector_io.specs.Addresses.{IsVector}
-use Rattle.vector_io.specs.Commands.{UnitCommand, EventAt, command_of}
+use Rattle.unit_port.specs.Commands.{UnitCommand, EventAt, command_of}
 use Rattle.vector_io.specs.Plans.{unit_of, reset_of, resets, AreFirstBlocks}
-use Rattle.vector_io.proofs.Units.{Spares, apart}
+use Rattle.unit_port.proofs.Units.{Spares, apart}
 
 pub map_back : {A B : Type 0} (f : A → B) (xs : List A) (n : ℕ) (c : B) → slice_get (map f xs) n ≡ Some c → (a : A) × (slice_get xs n ≡ Some a) × (f a ≡ c)
 map_back f [] n c there = absurd (none-some c there)

@@ -1,6 +1,5 @@
 pub mod Refusals
 pub mod Bits
-pub mod Units
 pub mod UnderWay
 pub mod Chunks
 pub mod ResetSteps
@@ -9,3 +8,4 @@ pub mod WriteSteps
 pub mod Sizes
 pub mod ReadSteps
 pub mod UnitLogs
+pub mod AddressesLemmas

@@ -11,13 +11,14 @@ use Rattle.pblk_model.specs.Blocks.{blocks_of}
 use Rattle.pblk_model.specs.Chunk.{Block}
 use Rattle.pblk_model.specs.Geometry.{Geometry}
 use Rattle.unit_port.specs.Unit.{ModelUnit}
-use Rattle.vector_io.specs.Commands.{UnitCommand, EventAt, command_of, AreKept, AreTaken}
-use Rattle.vector_io.specs.Did.{Did}
+use Rattle.unit_port.specs.Commands.{UnitCommand, EventAt, command_of, AreKept, AreTaken}
+use Rattle.unit_port.specs.Did.{Did, is_lost, is_empty}
 use Rattle.vector_io.specs.Plans.{read_of, reads}
-use Rattle.vector_io.specs.Status.{is_lost, is_empty, HasBits, got_block, got_blocks, Reads}
+use Rattle.vector_io.specs.Status.{HasBits, got_block, got_blocks, Reads}
 use Rattle.vector_io.proofs.Chunks.{map_there}
 use Rattle.vector_io.proofs.UnderWay.{IsUnderWayBy, none_done_by, one_done_by, all_ran, one_bit_more}
-use Rattle.vector_io.proofs.Units.{only_reads}
+use Rattle.unit_port.proofs.Units.{only_reads}
+use Rattle.lemmas.proofs.Numbers.{suc-times}
 
 -- the first n addresses are read, and the blocks that were there before have become these
 pub record IsReading (g : Geometry) (xs : List Address) (old : List ModelUnit) (n failed empty : ℕ) (units : List ModelUnit) (before after : List Block) : Type 0 where
@@ -26,9 +27,6 @@ pub record IsReading (g : Geometry) (xs : List Address) (old : List ModelUnit) (
   pub blocks : after ≡ got_blocks events before
 
 -- A block that is put in its place among others.
-
-suc-times : (n size : ℕ) → suc n * size ≡ size + n * size
-suc-times n size = grind arith
 
 pub one_size : (i size : ℕ) → (i + 1) * size - i * size ≡ size
 one_size i size = let e : (i + 1) * size ≡ size + i * size = grind arith in omega arith

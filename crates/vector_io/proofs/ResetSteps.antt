@@ -5,10 +5,10 @@ use Rattle.pblk_model.specs.ChunkStep.{Reset}
 use Rattle.pblk_model.specs.Geometry.{Geometry}
 use Rattle.unit_port.specs.Unit.{ModelUnit}
 use Rattle.vector_io.specs.Addresses.{IsVector}
-use Rattle.vector_io.specs.Commands.{EventAt, AreKept}
-use Rattle.vector_io.specs.Did.{Did}
+use Rattle.unit_port.specs.Commands.{EventAt, AreKept}
+use Rattle.unit_port.specs.Did.{Did, is_lost, is_empty}
 use Rattle.vector_io.specs.Plans.{unit_of, reset_of, resets, AreFirstBlocks}
-use Rattle.vector_io.specs.Status.{is_lost, is_empty, HasBits}
+use Rattle.vector_io.specs.Status.{HasBits}
 use Rattle.vector_io.proofs.Chunks.{map_there, resets_spare}
 use Rattle.vector_io.proofs.UnderWay.{IsUnderWay, one_done, one_bit_more, no_bit_more}
 

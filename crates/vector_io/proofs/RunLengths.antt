@@ -2,7 +2,7 @@
 use Rattle.std.proofs.Common.{ℕ, zero, suc, ◌+◌, ◌*◌, ◌<◌, ◌≤◌, ◌≡◌, ◌++◌, ◌==◌, ◌&&◌, Bool, true, false, cond, List, [], ◌∷◌, length, take, drop, refl, sym, ap, ◌∙◌, arith}
 use Rattle.std.proofs.lemmas.List.{drop-drop, drop-take, take-take}
 use Rattle.std.specs.List.{flat_map}
-use Rattle.std.proofs.lemmas.Bool.{false≢true, eqb-true}
+use Rattle.std.proofs.lemmas.Bool.{eqb-true}
 use Rattle.std.proofs.lemmas.List.Concat.{flat_map-cons}
 use Rattle.pblk_model.specs.declared.shape.Address.{Address}
 use Rattle.pblk_model.specs.declared.chunk.Mark.{Mark}
@@ -11,15 +11,10 @@ use Rattle.pblk_model.specs.Chunk.{Block}
 use Rattle.pblk_model.specs.Geometry.{Geometry}
 use Rattle.vector_io.specs.Plans.{unit_of, goes_on, placed_from, placed_by, placed_at, Program, program_of, with_first, programs}
 use Rattle.vector_io.specs.Runs.{is_next_block, run_behind, run_len}
+use Rattle.lemmas.proofs.Numbers.{suc-times}
+use Rattle.lemmas.proofs.Tests.{both}
 
 -- Blocks of parts of two lists.
-
-suc-times : (n size : ℕ) → suc n * size ≡ size + n * size
-suc-times n size = grind arith
-
-pub length-blocks_of : (size : ℕ) (bytes : List ℕ) (marks : List Mark) → length (blocks_of size bytes marks) ≡ length marks
-length-blocks_of size bytes [] = refl
-length-blocks_of size bytes (m ∷ marks) = ap suc (length-blocks_of size (drop size bytes) marks)
 
 pub blocks_of-drop : (size : ℕ) (bytes : List ℕ) (marks : List Mark) (k : ℕ) → blocks_of size (drop (k * size) bytes) (drop k marks) ≡ drop k (blocks_of size bytes marks)
 blocks_of-drop size bytes marks zero = let e : 0 * size ≡ 0 = omega arith in rw e refl
@@ -82,10 +77,6 @@ run_at_end g xs at last h end = omega (arith, h.run, run_one g xs last h.within 
 
 -- The programs have each address with its block.
 
-both_true : (x y : Bool) → (x && y) ≡ true → (x ≡ true) × (y ≡ true)
-both_true true y h = (refl, h)
-both_true false y h = absurd (false≢true h)
-
 placed_on : (unit unit' chunk chunk' number number' : ℕ) (blocks : List Block) → unit ≡ unit' → chunk ≡ chunk' → number ≡ number' → placed_from unit chunk number blocks ≡ placed_from unit' chunk' number' blocks
 placed_on unit unit' chunk chunk' number number' blocks u c n = rw (u, c, n) refl
 
@@ -93,8 +84,8 @@ joined : (g : Geometry) (a : Address) (block : Block) (p : Program) (ps : List P
     → flat_map placed_by (cond test (program_of g a (block ∷ p.blocks) ∷ ps) (program_of g a (block ∷ []) ∷ p ∷ ps))
     ≡ record { unit = unit_of g a; chunk = a.chunk; number = a.block; block = block } ∷ flat_map placed_by (p ∷ ps)
 joined g a block p ps true is =
-    let parts = both_true ((unit_of g a == p.unit) && (a.chunk == p.chunk)) (a.block + 1 == p.at) is in
-    let places = both_true (unit_of g a == p.unit) (a.chunk == p.chunk) parts.0 in
+    let parts = both ((unit_of g a == p.unit) && (a.chunk == p.chunk)) (a.block + 1 == p.at) is in
+    let places = both (unit_of g a == p.unit) (a.chunk == p.chunk) parts.0 in
     flat_map-cons placed_by (program_of g a (block ∷ p.blocks)) ps
     ∙ ap (λ bs. record { unit = unit_of g a; chunk = a.chunk; number = a.block; block = block } ∷ (bs ++ flat_map placed_by ps))
     (placed_on (unit_of g a) p.unit a.chunk p.chunk (a.block + 1) p.at p.blocks (eqb-true (unit_of g a) p.unit places.0) (eqb-true a.chunk p.chunk places.1) (eqb-true (a.block + 1) p.at parts.1))

@@ -5,8 +5,8 @@ use Rattle.std.proofs.Math.Nat.{mul_comm}
 use Rattle.pblk_model.specs.declared.shape.Address.{Address}
 use Rattle.pblk_model.specs.Geometry.{Geometry}
 use Rattle.unit_port.specs.Unit.{ModelUnit}
-use Rattle.vector_io.specs.Addresses.{IsVector, IsCount, AreInside}
-use Rattle.vector_io.specs.Commands.{AreUnitsOf}
+use Rattle.vector_io.specs.Addresses.{IsVector, AreInside}
+use Rattle.unit_port.specs.Commands.{AreUnitsOf}
 use Rattle.vector_io.specs.Plans.{HaveSectors}
 
 quotient : (size count s : ℕ) → 0 < count → size ≡ count * s → size / count ≡ s
@@ -32,6 +32,3 @@ pub whole_sectors : (g : Geometry) (xs : List Address) (units : List ModelUnit) 
 whole_sectors g xs units size count v fits some h =
     let u = some_unit units (g.groups * g.pus) fits.count (first_address g xs v.count.0 v.inside) in
     h 0 u.0 u.1 ∙ ap (λ n. count * n) (sym (quotient size count u.0.shape.sector some (h 0 u.0 u.1)))
-
-pub some_marks : (n m : ℕ) → n ≡ m → IsCount m → 0 < n
-some_marks n m same h = let some : 0 < m = h.0 in omega arith

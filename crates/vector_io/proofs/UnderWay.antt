@@ -1,16 +1,16 @@
 -- Commands of a plan that are given one after another.
-use Rattle.std.proofs.Common.{ℕ, zero, suc, ◌+◌, ◌<◌, ◌≤◌, ◌≡◌, Bool, false, List, [], ◌∷◌, ◌++◌, length, take, replicate, slice_get, Some, refl, sym, ap, ◌∙◌, subst, arith, add-one, append-nil}
+use Rattle.std.proofs.Common.{ℕ, ◌+◌, ◌<◌, ◌≤◌, ◌≡◌, Bool, false, List, [], ◌∷◌, ◌++◌, length, take, replicate, slice_get, Some, refl, sym, ap, ◌∙◌, subst, arith, add-one, append-nil}
 use Rattle.std.proofs.lemmas.Grind.{flat_map-append}
 use Rattle.std.proofs.lemmas.List.{map-append, length-append, length-replicate}
 use Rattle.std.proofs.lemmas.List.Sums.{fold-append}
-use Rattle.std.proofs.lemmas.Option.{same_Some, none-some}
 use Rattle.pblk_model.specs.UnitLog.{UnitOutcome}
 use Rattle.unit_port.specs.Unit.{ModelUnit}
-use Rattle.vector_io.specs.Commands.{UnitCommand, EventAt, command_of, after_one, after_all, IsNext, AreNext, Ran, AreKept, IsTaken, AreTaken}
-use Rattle.vector_io.specs.Did.{Did}
-use Rattle.vector_io.specs.Status.{width, is_lost, is_empty, flags, HasBits, Answers}
+use Rattle.unit_port.specs.Commands.{UnitCommand, EventAt, command_of, after_one, after_all, IsNext, AreNext, Ran, AreKept, IsTaken, AreTaken}
+use Rattle.unit_port.specs.Did.{Did, is_lost, is_empty}
+use Rattle.vector_io.specs.Status.{width, flags, HasBits, Answers}
 use Rattle.vector_io.proofs.Bits.{no_bits, bit_unset}
-use Rattle.vector_io.proofs.Units.{kept_none, kept_more, Spares, still_taken}
+use Rattle.unit_port.proofs.Units.{kept_none, kept_more, Spares, still_taken}
+use Rattle.lemmas.proofs.Parts.{take_all, take_next}
 
 -- The first n commands of a plan are done, which were of so many addresses, and became these events; these bits tell of
 -- them, and the rest of the plan can be done.
@@ -39,11 +39,6 @@ none_done_by old plan taken = record {
 
 pub none_done : (old : List ModelUnit) (plan : List UnitCommand) → AreTaken old plan → IsUnderWay old plan 0 0 0 0 old
 none_done old plan taken = record { events = []; by = none_done_by old plan taken }
-
-take_next : {A : Type 0} (xs : List A) (n : ℕ) (x : A) → slice_get xs n ≡ Some x → take (suc n) xs ≡ take n xs ++ x ∷ []
-take_next [] n x there = absurd (none-some x there)
-take_next (y ∷ ys) zero x there = ap (λ z. z ∷ []) (same_Some y x there)
-take_next (y ∷ ys) (suc n) x there = ap (λ zs. y ∷ zs) (take_next ys n x there)
 
 next_more : (units : List ModelUnit) (events : List EventAt) (e : EventAt) → AreNext units events → IsNext (after_all units events) e → AreNext units (events ++ e ∷ [])
 next_more units [] e h n = (n, tt)
@@ -94,12 +89,6 @@ one_done old plan n at failed empty units c e new failed' empty' count h there d
   events = h.events ++ e ∷ [];
   by = one_done_by old plan n at failed empty h.events units c e new failed' empty' count h.by there did kept spares wide lost unreadable;
 }
-
-take_all : {A : Type 0} (xs : List A) (n : ℕ) → length xs ≤ n → take n xs ≡ xs
-take_all [] zero h = refl
-take_all [] (suc n) h = refl
-take_all (x ∷ xs) zero h = absurd (omega arith)
-take_all (x ∷ xs) (suc n) h = ap (λ ys. x ∷ ys) (take_all xs n (omega arith))
 
 pub all_ran : (old : List ModelUnit) (plan : List UnitCommand) (n at failed empty : ℕ) (events : List EventAt) (units : List ModelUnit) → IsUnderWayBy old plan n at failed empty events units → length plan ≤ n → Ran old plan events units
 all_ran old plan n at failed empty events units h all = record { same = h.ran.same ∙ take_all plan n all; next = h.ran.next; units = h.ran.units }

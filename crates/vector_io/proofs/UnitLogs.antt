@@ -5,8 +5,9 @@ use Rattle.std.proofs.lemmas.Option.{same_Some, slice_get_within}
 use native.Mathlib.Decide.{ℕ_discrete}
 use Rattle.pblk_model.specs.UnitLog.{UnitEvent, IsEvent, IsUnitLog}
 use Rattle.unit_port.specs.Unit.{ModelUnit}
-use Rattle.vector_io.specs.Commands.{UnitCommand, EventAt, with_event, after_one, after_all, IsNext, AreNext, Ran, HadEvents, events_of}
-use Rattle.vector_io.proofs.Units.{get_set_same, get_set_other, after_one_is}
+use Rattle.unit_port.specs.Commands.{UnitCommand, EventAt, with_event, after_one, after_all, IsNext, AreNext, Ran, HadEvents, events_of}
+use Rattle.unit_port.proofs.Units.{after_one_is}
+use Rattle.lemmas.proofs.Parts.{get_set_other, get_set_same}
 
 no_events : (u : ModelUnit) → HadEvents u [] u
 unfolding IsUnitLog

@@ -12,15 +12,16 @@ use Rattle.pblk_model.specs.Chunk.{Block}
 use Rattle.pblk_model.specs.ChunkStep.{Write}
 use Rattle.pblk_model.specs.Geometry.{Geometry}
 use Rattle.unit_port.specs.Unit.{ModelUnit}
-use Rattle.vector_io.specs.Commands.{UnitCommand, EventAt, AreKept, IsTaken, AreTaken}
-use Rattle.vector_io.specs.Did.{Did}
+use Rattle.unit_port.specs.Commands.{UnitCommand, EventAt, AreKept, IsTaken, AreTaken}
+use Rattle.unit_port.specs.Did.{Did, is_lost, is_empty}
 use Rattle.vector_io.specs.Plans.{unit_of, program_of, write_of, writes, AreOfChunksApart}
 use Rattle.vector_io.specs.Runs.{run_len}
-use Rattle.vector_io.specs.Status.{is_lost, is_empty, HasBits, Answers}
+use Rattle.vector_io.specs.Status.{HasBits, Answers}
 use Rattle.vector_io.proofs.RunLengths.{first_program}
 use Rattle.vector_io.proofs.UnderWay.{IsUnderWay, none_done, one_done, all_done, BitsMore}
 use Rattle.vector_io.proofs.Bits.{bit_unset}
-use Rattle.vector_io.proofs.Units.{apart}
+use Rattle.unit_port.proofs.Units.{apart}
+use Rattle.lemmas.proofs.Lists.{nil_cons}
 
 -- The addresses before `at` are written, and the rest of the plan are the programs of the other addresses.
 pub record IsWriting (g : Geometry) (xs : List Address) (blocks : List Block) (old : List ModelUnit) (at failed : ℕ) (units : List ModelUnit) : Type 0 where
@@ -41,9 +42,6 @@ split_at g [] blocks at d len within = absurd (omega arith)
 split_at g (x ∷ xs) [] at d len within = absurd (omega arith)
 split_at g (x ∷ xs) (b ∷ blocks) zero d len within = ap (map write_of) (first_program g x xs b blocks (omega arith))
 split_at g (x ∷ xs) (b ∷ blocks) (suc at) d len within = split_at g xs blocks at d (omega arith) (omega arith)
-
-nil_cons : {A : Type 0} (x : A) (rest : List A) → [] ≡ x ∷ rest → ⊥
-nil_cons x rest h = cc
 
 same_head : {A : Type 0} (x y : A) (xs ys : List A) → x ∷ xs ≡ y ∷ ys → x ≡ y
 same_head x y xs ys h = cc

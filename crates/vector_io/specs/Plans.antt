@@ -7,7 +7,7 @@ use Rattle.pblk_model.specs.Chunk.{Block}
 use Rattle.pblk_model.specs.ChunkStep.{Write, Read, Reset}
 use Rattle.pblk_model.specs.Geometry.{Geometry}
 use Rattle.unit_port.specs.Unit.{ModelUnit}
-use Rattle.vector_io.specs.Commands.{UnitCommand}
+use Rattle.unit_port.specs.Commands.{UnitCommand}
 
 -- the number of an address's unit
 abbrev pub unit_of : Geometry → Address → ℕ

@@ -1,37 +1,22 @@
 -- The status of a vector's addresses, by the events that their commands became.
-use Rattle.std.specs.Prelude.{ℕ, ◌≡◌, if◌then◌else◌, Bool, true, false, List, [], ◌∷◌, length, replicate, slice_index_or}
+use Rattle.std.specs.Prelude.{ℕ, ◌≡◌, if◌then◌else◌, Bool, false, List, [], ◌∷◌, length, replicate, slice_index_or, Result}
 use Rattle.std.specs.Int.{bit_at}
 use Rattle.std.specs.List.{flat_map}
+use Rattle.pblk_model.specs.declared.chunk.Got.{Got}
 use Rattle.pblk_model.specs.Chunk.{Block}
 use Rattle.pblk_model.specs.ChunkStep.{ChunkCommand, Write, Read, Reset, ChunkAnswer, Done, Gave, Empty, Refused}
 use Rattle.pblk_model.specs.UnitLog.{UnitOutcome, Answered, Failed, Stopped}
-use Rattle.unit_port.specs.Unit.{ModelUnit}
+use Rattle.unit_port.specs.declared.unit.UnitErr.{UnitErr}
+use Rattle.unit_port.specs.Unit.{ModelUnit, TellsBlock}
+use Rattle.unit_port.specs.Commands.{UnitCommand, EventAt, Ran}
+use Rattle.unit_port.specs.Did.{Did, is_lost, is_empty}
 use Rattle.vector_io.specs.declared.status.Status.{Status}
-use Rattle.vector_io.specs.Commands.{UnitCommand, EventAt, Ran}
 
 -- how many addresses a command has: a write has one for each block
 abbrev pub width : ChunkCommand → ℕ
 width (Write at blocks) = length blocks
 width (Read b) = 1
 width Reset = 1
-
--- the command failed or was stopped
-abbrev pub is_lost : UnitOutcome → Bool
-is_lost (Answered answer) = false
-is_lost (Failed k) = true
-is_lost (Stopped k) = true
-
-abbrev pub is_empty_answer : ChunkAnswer → Bool
-is_empty_answer Done = false
-is_empty_answer (Gave block) = false
-is_empty_answer Empty = true
-is_empty_answer (Refused e) = false
-
--- the command answered Empty
-abbrev pub is_empty : UnitOutcome → Bool
-is_empty (Answered answer) = is_empty_answer answer
-is_empty (Failed k) = false
-is_empty (Stopped k) = false
 
 -- a test of what became of its command, for each address
 abbrev pub flags : (UnitOutcome → Bool) → List EventAt → List Bool
@@ -72,3 +57,22 @@ got_blocks (e ∷ events) (block ∷ blocks) = got_block e.event.outcome block �
 abbrev pub Reads : List UnitCommand → List ModelUnit → Status → List ModelUnit → List Block → List Block → Type 0
 Reads commands old status new before after = (events : List EventAt) × Ran old commands events new
     × Tells status events × (after ≡ got_blocks events before)
+
+-- What one command of a vector became.
+
+-- some event was what a program or a reset became, and says whether it failed or was stopped
+abbrev pub WasDone : List ModelUnit → UnitCommand → Bool → List ModelUnit → Type 0
+WasDone old c lost new = (e : EventAt) × Did old c e new
+    × (lost ≡ is_lost e.event.outcome) × (is_empty e.event.outcome ≡ false)
+
+-- the same of a fetch, which found these bytes in the caller's buffer and left those
+abbrev pub WasFetched : List ModelUnit → UnitCommand → List ℕ → List ℕ → Result Got UnitErr → List ModelUnit
+    → Type 0
+WasFetched old c before after result new = (e : EventAt) × Did old c e new
+    × TellsBlock before after result e.event.outcome
+
+-- the same of a fetch, in whose place stood a block before and stands another after it
+abbrev pub WasRead : List ModelUnit → UnitCommand → Bool → Bool → Block → Block → List ModelUnit → Type 0
+WasRead old c lost empty before after new = (e : EventAt) × Did old c e new
+    × (lost ≡ is_lost e.event.outcome) × (empty ≡ is_empty e.event.outcome)
+    × (after ≡ got_block e.event.outcome before)

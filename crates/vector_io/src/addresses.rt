@@ -3,8 +3,7 @@ ghost use Rattle.std.specs.Prelude.{◌≡◌, ◌↔◌, ◌<◌, length, IfSom
 ghost use Rattle.pblk_model.specs.Geometry.{IsAddress};
 ghost use Rattle.ocssd_geometry.specs.Numbers.{numbers_of};
 ghost use Rattle.vector_io.specs.Plans.{unit_of};
-ghost use Rattle.vector_io.specs.Addresses.{AreApart, AreInside, IsRefused, IsRepeated, IsVector};
-ghost use Rattle.vector_io.specs.Addresses.{IsFirstOutside, IsFirstRepeated};
+ghost use Rattle.vector_io.specs.Addresses.{AreApart, AreInside, IsRefused, IsRepeated, IsVector, IsFirstOutside, IsFirstRepeated};
 
 use crate::vector::VectorErr;
 use ocssd_geometry::Geometry;

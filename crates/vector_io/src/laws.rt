@@ -5,7 +5,7 @@ ghost use Rattle.pblk_model.specs.declared.shape.Address.{Address};
 ghost use Rattle.pblk_model.specs.Chunk.{Block};
 ghost use Rattle.pblk_model.specs.Geometry.{Geometry};
 ghost use Rattle.unit_port.specs.Unit.{ModelUnit};
-ghost use Rattle.vector_io.specs.Commands.{EventAt, HadEvents, Ran, UnitCommand, events_of};
+ghost use Rattle.unit_port.specs.Commands.{EventAt, HadEvents, Ran, UnitCommand, events_of};
 ghost use Rattle.vector_io.specs.Plans.{placed_at, placed_by, programs};
 
 /// Of units that were given commands one after another, each has the events of its own commands at the end

@@ -3,10 +3,10 @@ ghost use Rattle.std.specs.Prelude.{◌≡◌, ◌*◌, length, map};
 ghost use Rattle.pblk_model.specs.Blocks.{blocks_of};
 ghost use Rattle.ocssd_geometry.specs.Numbers.{numbers_of};
 ghost use Rattle.vector_io.specs.Addresses.{IsVector};
-ghost use Rattle.vector_io.specs.Commands.{AreKept, AreTaken, IsTaken};
-ghost use Rattle.vector_io.specs.Did.{AreOfSize, WasRead};
+ghost use Rattle.unit_port.specs.Commands.{AreKept, AreTaken, IsTaken};
+ghost use Rattle.unit_port.specs.Did.{AreOfSize};
+ghost use Rattle.vector_io.specs.Status.{WasRead, Reads};
 ghost use Rattle.vector_io.specs.Plans.{read_of, reads};
-ghost use Rattle.vector_io.specs.Status.{Reads};
 
 use crate::addresses::unit_of;
 use crate::status::{Status, with_bit};
@@ -28,7 +28,8 @@ pub(crate) fn read_all<U: Unit>(
     requires sector { AreOfSize size (map U.model units.old) }
     requires marks { length marks.old ≡ length addresses.now }
     requires whole { length out.old ≡ length marks.old * size }
-    requires taken { AreTaken (map U.model units.old) (reads (numbers_of geometry.now) addresses.now) }
+    requires taken { AreTaken (map U.model units.old)
+        (reads (numbers_of geometry.now) addresses.now) }
     ensures reads { let plan = reads (numbers_of geometry.now) addresses.now
         in Reads plan (map U.model units.old) result (map U.model units.new)
         (blocks_of size out.old marks.old) (blocks_of size out.new marks.new) }
@@ -55,7 +56,8 @@ fn read_one<U: Unit>(
     mark: &mut Mark,
 ) -> (bool, bool)
     requires sector { AreOfSize (length out.old) (map U.model units.old) }
-    requires taken { IsTaken (map U.model units.old) (read_of (numbers_of geometry.now) address.now) }
+    requires taken { IsTaken (map U.model units.old)
+        (read_of (numbers_of geometry.now) address.now) }
     ensures did { let command = read_of (numbers_of geometry.now) address.now
         in WasRead (map U.model units.old) command result.0 result.1
         (record { sector = out.old; mark = mark.old })

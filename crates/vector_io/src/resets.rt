@@ -2,7 +2,7 @@
 ghost use Rattle.std.specs.Prelude.{◌≡◌, map};
 ghost use Rattle.ocssd_geometry.specs.Numbers.{numbers_of};
 ghost use Rattle.vector_io.specs.Addresses.{IsVector};
-ghost use Rattle.vector_io.specs.Commands.{AreKept, AreTaken};
+ghost use Rattle.unit_port.specs.Commands.{AreKept, AreTaken};
 ghost use Rattle.vector_io.specs.Plans.{AreFirstBlocks, resets};
 ghost use Rattle.vector_io.specs.Status.{Answers};
 
@@ -21,7 +21,8 @@ pub(crate) fn reset_all<U: Unit>(
 ) -> Status
     requires vector { IsVector (numbers_of geometry.now) addresses.now }
     requires blocks { AreFirstBlocks addresses.now }
-    requires taken { AreTaken (map U.model units.old) (resets (numbers_of geometry.now) addresses.now) }
+    requires taken { AreTaken (map U.model units.old)
+        (resets (numbers_of geometry.now) addresses.now) }
     ensures answers { let plan = resets (numbers_of geometry.now) addresses.now
         in Answers plan (map U.model units.old) result (map U.model units.new) }
     ensures empty { result.empty ≡ 0 }

@@ -2,8 +2,9 @@
 ghost use Rattle.std.specs.Prelude.{◌≡◌, ◌*◌, length, map};
 ghost use Rattle.pblk_model.specs.Blocks.{blocks_of};
 ghost use Rattle.pblk_model.specs.ChunkStep.{Write, Read, Reset};
-ghost use Rattle.vector_io.specs.Commands.{AreKept, IsTaken};
-ghost use Rattle.vector_io.specs.Did.{AreOfSize, WasDone, WasFetched, command_at};
+ghost use Rattle.unit_port.specs.Commands.{AreKept, IsTaken};
+ghost use Rattle.unit_port.specs.Did.{AreOfSize, command_at};
+ghost use Rattle.vector_io.specs.Status.{WasDone, WasFetched};
 
 use pblk_model::{Got, Mark};
 use unit_port::{Unit, UnitErr};
@@ -11,7 +12,8 @@ use unit_port::{Unit, UnitErr};
 /// Resets a chunk of a unit, and says whether that failed or was stopped.
 pub(crate) fn reset_at<U: Unit>(units: &mut [U], unit: usize, chunk: u32) -> bool
     requires { IsTaken (map U.model units.old) (command_at unit chunk Reset) }
-    ensures did { WasDone (map U.model units.old) (command_at unit chunk Reset) result (map U.model units.new) }
+    ensures did { WasDone (map U.model units.old) (command_at unit chunk Reset) result
+        (map U.model units.new) }
     ensures kept { AreKept (map U.model units.old) (map U.model units.new) }
 {
     let found = &mut units[unit];
@@ -33,7 +35,8 @@ pub(crate) fn program_at<U: Unit>(
     requires whole { length bytes.now ≡ length marks.now * size }
     requires taken { let blocks = blocks_of size bytes.now marks.now
         in IsTaken (map U.model units.old) (command_at unit chunk (Write at blocks)) }
-    ensures did { let command = command_at unit chunk (Write at (blocks_of size bytes.now marks.now))
+    ensures did { let command = command_at unit chunk
+        (Write at (blocks_of size bytes.now marks.now))
         in WasDone (map U.model units.old) command result (map U.model units.new) }
     ensures kept { AreKept (map U.model units.old) (map U.model units.new) }
 {
@@ -52,7 +55,8 @@ pub(crate) fn fetch_at<U: Unit>(
     requires sector { AreOfSize (length out.old) (map U.model units.old) }
     requires taken { IsTaken (map U.model units.old) (command_at unit chunk (Read block)) }
     ensures did { let command = command_at unit chunk (Read block)
-        in WasFetched (map U.model units.old) command out.old out.new result (map U.model units.new) }
+        in WasFetched (map U.model units.old) command out.old out.new result
+        (map U.model units.new) }
     ensures kept { AreKept (map U.model units.old) (map U.model units.new) }
 {
     let found = &mut units[unit];

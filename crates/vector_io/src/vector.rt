@@ -2,11 +2,9 @@
 ghost use Rattle.std.specs.Prelude.{ℕ, ◌≡◌, ◌↔◌, ◌/◌, length, IfOk, IsErrOf, map};
 ghost use Rattle.pblk_model.specs.Blocks.{blocks_of};
 ghost use Rattle.ocssd_geometry.specs.Numbers.{numbers_of};
-ghost use Rattle.vector_io.specs.Addresses.{AreInside, IsCount, IsVector, ModelVector};
-ghost use Rattle.vector_io.specs.Addresses.{IsFirstOutside, IsFirstRepeated};
-ghost use Rattle.vector_io.specs.Commands.{AreKept, AreTaken, AreUnitsOf};
-ghost use Rattle.vector_io.specs.Plans.{AreFirstBlocks, AreOfChunksApart, HaveSectors};
-ghost use Rattle.vector_io.specs.Plans.{blocks_in, reads, resets, writes};
+ghost use Rattle.vector_io.specs.Addresses.{AreInside, IsCount, IsVector, ModelVector, IsFirstOutside, IsFirstRepeated};
+ghost use Rattle.unit_port.specs.Commands.{AreKept, AreTaken, AreUnitsOf};
+ghost use Rattle.vector_io.specs.Plans.{AreFirstBlocks, AreOfChunksApart, HaveSectors, blocks_in, reads, resets, writes};
 ghost use Rattle.vector_io.specs.Status.{Answers, Reads};
 
 use crate::addresses::refusal;
@@ -21,7 +19,8 @@ use std::marker::Model;
 use thiserror::Error;
 use unit_port::Unit;
 
-/// Why addresses are no vector: the first reason in this order. An index is a place among the addresses, from 0.
+/// Why addresses are no vector: the first reason in this order. An index is a place among the addresses,
+/// from 0.
 #[derive(Clone, Copy, Debug, PartialEq, Eq, Error)]
 pub enum VectorErr {
     /// There is none, or there are more than 64.
@@ -38,8 +37,8 @@ pub enum VectorErr {
     Memory,
 }
 
-/// From 1 to 64 addresses of blocks of a drive, no two of them equal, and the drive's geometry (Open-Channel SSD
-/// Specification 2.0, Vector read, write and reset).
+/// From 1 to 64 addresses of blocks of a drive, no two of them equal, and the drive's geometry
+/// (Open-Channel SSD Specification 2.0, Vector read, write and reset).
 #[derive(Debug, Drop)]
 pub struct Vector {
     geometry: Geometry,
@@ -71,7 +70,8 @@ impl Vector {
     ) -> Result<Vector, VectorErr>
         ensures count { IsErrOf result VectorErr.Count ↔ ¬ IsCount (length addresses.now) }
         ensures address { (i : ℕ) → IsErrOf result (VectorErr.Address i)
-            ↔ (IsCount (length addresses.now) × IsFirstOutside (numbers_of geometry.now) addresses.now i) }
+            ↔ (IsCount (length addresses.now)
+            × IsFirstOutside (numbers_of geometry.now) addresses.now i) }
         ensures repeated { (i : ℕ) → IsErrOf result (VectorErr.Repeated i)
             ↔ (IsCount (length addresses.now) × AreInside (numbers_of geometry.now) addresses.now
             × IsFirstRepeated addresses.now i) }
@@ -106,7 +106,8 @@ impl Vector {
         requires units { AreUnitsOf self.now.geometry (map U.model units.old) }
         requires marks { length marks.old ≡ length self.now.addresses }
         requires sectors { HaveSectors (length out.old) (length marks.old) (map U.model units.old) }
-        requires taken { AreTaken (map U.model units.old) (reads self.now.geometry self.now.addresses) }
+        requires taken { AreTaken (map U.model units.old)
+            (reads self.now.geometry self.now.addresses) }
         ensures reads { let size = length out.old / length marks.old
             in let plan = reads self.now.geometry self.now.addresses
             in Reads plan (map U.model units.old) result (map U.model units.new)
@@ -131,11 +132,13 @@ impl Vector {
     pub fn write<U: Unit>(&self, units: &mut [U], bytes: &[u8], marks: &[Mark]) -> Status
         requires units { AreUnitsOf self.now.geometry (map U.model units.old) }
         requires marks { length marks.now ≡ length self.now.addresses }
-        requires sectors { HaveSectors (length bytes.now) (length marks.now) (map U.model units.old) }
+        requires sectors { HaveSectors (length bytes.now) (length marks.now)
+            (map U.model units.old) }
         requires apart { let blocks = blocks_in bytes.now marks.now
             in AreOfChunksApart (writes self.now.geometry self.now.addresses blocks) }
         requires taken { let blocks = blocks_in bytes.now marks.now
-            in AreTaken (map U.model units.old) (writes self.now.geometry self.now.addresses blocks) }
+            in AreTaken (map U.model units.old)
+            (writes self.now.geometry self.now.addresses blocks) }
         ensures answers { let blocks = blocks_in bytes.now marks.now
             in let plan = writes self.now.geometry self.now.addresses blocks
             in Answers plan (map U.model units.old) result (map U.model units.new) }
@@ -158,7 +161,8 @@ impl Vector {
     pub fn reset<U: Unit>(&self, units: &mut [U]) -> Status
         requires units { AreUnitsOf self.now.geometry (map U.model units.old) }
         requires blocks { AreFirstBlocks self.now.addresses }
-        requires taken { AreTaken (map U.model units.old) (resets self.now.geometry self.now.addresses) }
+        requires taken { AreTaken (map U.model units.old)
+            (resets self.now.geometry self.now.addresses) }
         ensures answers { let plan = resets self.now.geometry self.now.addresses
             in Answers plan (map U.model units.old) result (map U.model units.new) }
         ensures empty { result.empty ≡ 0 }

@@ -3,8 +3,8 @@ ghost use Rattle.std.specs.Prelude.{◌≡◌, ◌*◌, length, map};
 ghost use Rattle.pblk_model.specs.Blocks.{blocks_of};
 ghost use Rattle.ocssd_geometry.specs.Numbers.{numbers_of};
 ghost use Rattle.vector_io.specs.Addresses.{IsVector};
-ghost use Rattle.vector_io.specs.Commands.{AreKept, AreTaken};
-ghost use Rattle.vector_io.specs.Did.{AreOfSize};
+ghost use Rattle.unit_port.specs.Commands.{AreKept, AreTaken};
+ghost use Rattle.unit_port.specs.Did.{AreOfSize};
 ghost use Rattle.vector_io.specs.Plans.{AreOfChunksApart, writes};
 ghost use Rattle.vector_io.specs.Status.{Answers};
 
@@ -32,7 +32,8 @@ pub(crate) fn write_all<U: Unit>(
     requires apart { let blocks = blocks_of size bytes.now marks.now
         in AreOfChunksApart (writes (numbers_of geometry.now) addresses.now blocks) }
     requires taken { let blocks = blocks_of size bytes.now marks.now
-        in AreTaken (map U.model units.old) (writes (numbers_of geometry.now) addresses.now blocks) }
+        in AreTaken (map U.model units.old)
+        (writes (numbers_of geometry.now) addresses.now blocks) }
     ensures answers { let blocks = blocks_of size bytes.now marks.now
         in let plan = writes (numbers_of geometry.now) addresses.now blocks
         in Answers plan (map U.model units.old) result (map U.model units.new) }

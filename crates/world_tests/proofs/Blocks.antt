@@ -8,20 +8,8 @@ use Rattle.pblk_model.specs.Bytes.{zeros}
 use Rattle.pblk_model.specs.Chunk.{IsBlock}
 use Rattle.pblk_model.specs.Marks.{pad_block}
 use Rattle.world_tests.specs.Steps.{meta_block, meta_blocks, sector, sector_block}
-
-pub all_replicate : {X : Type 0} (P : X → Type 0) (n : ℕ) (x : X) → P x → AllByRecursion P (replicate n x)
-all_replicate P zero x h = tt
-all_replicate P (suc n) x h = (h, all_replicate P n x h)
-
-pub all_take : {X : Type 0} (P : X → Type 0) (n : ℕ) (xs : List X) → AllByRecursion P xs → AllByRecursion P (take n xs)
-all_take P zero xs h = tt
-all_take P (suc n) [] h = tt
-all_take P (suc n) (x ∷ xs) h = (h.0, all_take P n xs h.1)
-
-pub all_drop : {X : Type 0} (P : X → Type 0) (n : ℕ) (xs : List X) → AllByRecursion P xs → AllByRecursion P (drop n xs)
-all_drop P zero xs h = h
-all_drop P (suc n) [] h = tt
-all_drop P (suc n) (x ∷ xs) h = all_drop P n xs h.1
+use Rattle.lemmas.proofs.Lists.{all_replicated}
+use Rattle.lemmas.proofs.Parts.{all_dropped, all_taken}
 
 pub free_not_open : states.Free ≢ states.Open
 free_not_open e = grind arith
@@ -33,21 +21,32 @@ none_in x h = absurd (let past : h.0 < 0 = h.1 in omega arith)
 
 pub sector_is : (position : ℕ) → position < 2 ^ 64 → IsBlock small (sector_block position)
 unfolding sector
-sector_is position small_number = record { size = length-replicate {A = ℕ} 512 7; bytes = all_replicate (λ x. x < 256) 512 7 (lit< tt); lba = lit< tt; position = small_number }
+sector_is position small_number = record {
+  size = length-replicate {A = ℕ} 512 7;
+  bytes = all_replicated (λ x. x < 256) 512 7 (lit< tt);
+  lba = lit< tt;
+  position = small_number;
+}
 
 pub pad_is : IsBlock small (pad_block small)
 unfolding zeros
-pad_is = record { size = length-replicate {A = ℕ} 512 0; bytes = all_replicate (λ x. x < 256) 512 0 (lit< tt); lba = lit< tt; position = lit< tt }
+pad_is = record { size = length-replicate {A = ℕ} 512 0; bytes = all_replicated (λ x. x < 256) 512 0 (lit< tt); lba = lit< tt; position = lit< tt }
 
 meta_is : (seq : ℕ) → seq < 2 ^ 64 → (bytes : List ℕ) → 512 ≤ length bytes → AllByRecursion (λ x. x < 256) bytes → IsBlock small (meta_block seq bytes)
-meta_is seq number bytes long each = record { size = simp (length-take) (omega arith); bytes = all_take (λ x. x < 256) 512 bytes each; lba = lit< tt; position = number }
+meta_is seq number bytes long each = record {
+  size = simp (length-take) (omega arith);
+  bytes = all_taken (λ x. x < 256) 512 bytes each;
+  lba = lit< tt;
+  position = number;
+}
 
-pub metas_are : (seq : ℕ) → seq < 2 ^ 64 → (bytes : List ℕ) → length bytes ≡ 2048 → AllByRecursion (λ x. x < 256) bytes → AllByRecursion (IsBlock small) (meta_blocks seq bytes)
+pub metas_are : (seq : ℕ) → seq < 2 ^ 64 → (bytes : List ℕ) → length bytes ≡ 2048 → AllByRecursion (λ x. x < 256) bytes → AllByRecursion (IsBlock small)
+    (meta_blocks seq bytes)
 metas_are seq number bytes long each =
     let P : ℕ → Type 0 = λ x. x < 256 in
-    let each1 : AllByRecursion P (drop 512 bytes) = all_drop P 512 bytes each in
-    let each2 : AllByRecursion P (drop 512 (drop 512 bytes)) = all_drop P 512 (drop 512 bytes) each1 in
-    let each3 : AllByRecursion P (drop 512 (drop 512 (drop 512 bytes))) = all_drop P 512 (drop 512 (drop 512 bytes)) each2 in (
+    let each1 : AllByRecursion P (drop 512 bytes) = all_dropped P 512 bytes each in
+    let each2 : AllByRecursion P (drop 512 (drop 512 bytes)) = all_dropped P 512 (drop 512 bytes) each1 in
+    let each3 : AllByRecursion P (drop 512 (drop 512 (drop 512 bytes))) = all_dropped P 512 (drop 512 (drop 512 bytes)) each2 in (
       meta_is seq number bytes (omega arith) each,
       (
         meta_is seq number (drop 512 bytes) (simp (length-drop) (omega arith)) each1,

@@ -26,10 +26,11 @@ use Rattle.pblk_world.specs.Legal.{IsLegal}
 use Rattle.world_tests.specs.Steps.{image, meta_blocks, program_of, sector, sector_block}
 use Rattle.world_tests.specs.Simple.{start, spelling}
 use Rattle.world_tests.specs.Collected.{pad_lost, second_start, second_spelling, open_second, second_opened, second_stripe, place_second, second_placed, write_second, second_written, land_second, second_landed, free_first, first_freed, second_data, place_sector, sector_placed, write_sector, sector_written, land_sector, sector_landed, reset_event, reset_chunk, chunk_reset, note_reset, reset_noted, source, copy, take_copy, copy_taken, take_stale, collected_world}
-use Rattle.world_tests.proofs.Knowing.{no_truth, no_both, isnt_true, named, step_legal, all_in, all_below}
+use Rattle.world_tests.proofs.Knowing.{no_truth, no_both, named, step_legal, all_in, all_below}
 use Rattle.world_tests.proofs.Blocks.{sector_is, pad_is, metas_are}
 use Rattle.world_tests.proofs.SimpleWorld.{beginning, metas_written}
 use Rattle.world_tests.proofs.FailedWorld.{first_opening, pad_lost_legal}
+use Rattle.lemmas.proofs.Tests.{not_true}
 
 first_isnt_free : (line : ℕ) → line < 1 → is_free_line image (named open_second pad_lost) line ≡ false
 unfolding written_run
@@ -37,7 +38,8 @@ first_isnt_free zero h = refl
 first_isnt_free (suc line) h = absurd (omega arith)
 
 none_left : (line : ℕ) → line < 8 → has_stripe_left image (named open_second pad_lost) line ≡ false
-none_left line h = isnt_true (has_stripe_left image (named open_second pad_lost) line) (all_below (λ n. not (has_stripe_left image (named open_second pad_lost) n)) 8 refl line h)
+none_left line h = not_true (has_stripe_left image (named open_second pad_lost) line)
+    (all_below (λ n. not (has_stripe_left image (named open_second pad_lost) n)) 8 refl line h)
 
 isnt : (n : ℕ) → not (n == n) ≡ true → ⊥
 isnt n e = grind arith
@@ -74,7 +76,8 @@ places_second = record {
   kind = inl (record { next = record { not_failed = refl; in_order = refl }; within = lit< tt; blocks = refl });
 }
 
-writes_second : AllByRecursion (IsBlock small) (meta_blocks 2 second_spelling) → MayDo image (named write_second second_placed) 0 (program_of second_stripe (Answered Done))
+writes_second : AllByRecursion (IsBlock small) (meta_blocks 2 second_spelling) → MayDo image (named write_second second_placed) 0
+    (program_of second_stripe (Answered Done))
 writes_second metas = record {
   chunks = _;
   has_chunks = refl;
@@ -103,7 +106,9 @@ lands_second = record {
 abbrev freeing : Logs
 freeing = named free_first second_landed
 
-pads_of : (column block : ℕ) (b : Block) → option_and_then (λ (c : Chunk). slice_get c.blocks block) (slice_get (record { state = states.Closed; blocks = [] } ∷ record { state = states.Closed; blocks = pad_block small ∷ pad_block small ∷ [] } ∷ []) column) ≡ Some b
+pads_of : (column block : ℕ) (b : Block) → option_and_then (λ (c : Chunk). slice_get c.blocks block)
+    (slice_get (record { state = states.Closed; blocks = [] } ∷ record { state = states.Closed; blocks = pad_block small ∷ pad_block small ∷ [] } ∷ [])
+    column) ≡ Some b
     → pad_block small ≡ b
 pads_of zero block b e = absurd (none-some b e)
 pads_of (suc zero) zero b e = same_Some (pad_block small) b e
@@ -118,7 +123,7 @@ none_counts : {X : Type 0} (r : Record) → IsCountedRecord image freeing 0 r �
 none_counts r (inl h) = no_both (has_landed (freeing 0) h.placed) (none_lands h.placed h.of_opening) h.landed
   where
     none_lands : (p : Placed) → Contains (stripes_of (freeing 0) first_opening) p → has_landed (freeing 0) p ≡ false
-    none_lands p there = isnt_true (has_landed (freeing 0) p) (all_in (λ q. not (has_landed (freeing 0) q)) (stripes_of (freeing 0) first_opening) refl p there)
+    none_lands p there = not_true (has_landed (freeing 0) p) (all_in (λ q. not (has_landed (freeing 0) q)) (stripes_of (freeing 0) first_opening) refl p there)
 none_counts r (inr h) = absurd (pads_bear_nothing 1 r.at r (subst (λ b. bears small 0 1 r.at b b.mark ≡ Some r) (sym (pads_of _ _ h.block h.written)) h.bears))
 
 frees_first : MayFree image freeing 0
@@ -182,7 +187,17 @@ notes_reset = record {
 
 pub copy_is_latest : IsLatest image (named take_copy reset_noted) 5 source (sector_block 0)
 copy_is_latest = record {
-  place = record { position = refl; placed = _; is_placed = (3, lit< tt, refl); landed = refl; line = refl; not_freed = refl; block = 0; entry = refl; place = refl };
+  place = record {
+    position = refl;
+    placed = _;
+    is_placed = (3, lit< tt, refl);
+    landed = refl;
+    line = refl;
+    not_freed = refl;
+    block = 0;
+    entry = refl;
+    place = refl;
+  };
   there = refl;
   bears = refl;
 }
@@ -210,7 +225,8 @@ takes_stale = record {
 
 -- They are legal by the prefixes that they name.
 
-first_freed_legal : AllByRecursion (IsBlock small) (meta_blocks 1 spelling) → AllByRecursion (IsBlock small) (meta_blocks 2 second_spelling) → IsLegal image first_freed
+first_freed_legal : AllByRecursion (IsBlock small) (meta_blocks 1 spelling) → AllByRecursion (IsBlock small) (meta_blocks 2 second_spelling)
+    → IsLegal image first_freed
 unfolding IsLegal
 first_freed_legal metas seconds = (
   step_legal second_landed free_first (lit≤ tt) refl refl refl refl (beginning, refl, frees_first),
@@ -229,7 +245,8 @@ first_freed_legal metas seconds = (
   ),
 )
 
-collected_legal : AllByRecursion (IsBlock small) (meta_blocks 1 spelling) → AllByRecursion (IsBlock small) (meta_blocks 2 second_spelling) → IsLegal image collected_world
+collected_legal : AllByRecursion (IsBlock small) (meta_blocks 1 spelling) → AllByRecursion (IsBlock small) (meta_blocks 2 second_spelling)
+    → IsLegal image collected_world
 unfolding IsLegal
 collected_legal metas seconds = (
   step_legal copy_taken take_stale (lit≤ tt) refl refl refl refl (beginning, refl, takes_stale),

@@ -48,7 +48,8 @@ unfolding unit_of
 same_unit a b u v e = ap unit_of e
 
 -- the chunk of unit 0, whose address is below 4, is done with
-before_pad : (a unit : ℕ) → a < 4 → place_of (known_image image (named place_pad start_lost)) 0 a ≡ Some (unit, next_block small (named place_pad start_lost 0) first_opening unit)
+before_pad : (a unit : ℕ) → a < 4 → place_of (known_image image (named place_pad start_lost)) 0 a ≡ Some
+    (unit, next_block small (named place_pad start_lost 0) first_opening unit)
     → is_done_with small (named place_pad start_lost 0) first_opening unit ≡ true
 before_pad zero unit h e = subst (λ u. is_done_with small (named place_pad start_lost 0) first_opening u ≡ true) (same_unit 0 0 unit _ e) refl
 before_pad (suc zero) unit h e = subst (λ u. is_done_with small (named place_pad start_lost 0) first_opening u ≡ true) (same_unit 0 1 unit _ e) refl

@@ -25,7 +25,8 @@ use Rattle.world_tests.proofs.Knowing.{no_truth, differ, named, legal_on, all_in
 use Rattle.world_tests.proofs.Blocks.{sector_is, pad_is, metas_are}
 use Rattle.world_tests.proofs.CollectedWorld.{isnt_named}
 use Rattle.world_tests.proofs.FillingWorld.{beginning, opening, half_legal}
-use Rattle.world_tests.proofs.WrongStripes.{Kind, same_opening, too_high}
+use Rattle.world_tests.proofs.WrongStripes.{Kind, too_high}
+use Rattle.pblk_world.proofs.EngineLogLemmas.{opened_same}
 
 takes_two : MayTake narrow_image (named take_two after_land_one) (entry_at 2) (sector_mark 5 2)
 takes_two = record { position = refl; position_number = lit< tt; lba = lit< tt; marked = refl; block = sector_is 2 (lit< tt) }
@@ -98,7 +99,8 @@ places_end = record {
   kind = inr (inr (inl (record { next = record { not_failed = refl; in_order = refl }; from = lit≤ tt; within = lit< tt; data_landed = refl; blocks = refl })));
 }
 
-writes_end : AllByRecursion (IsBlock small) (meta_blocks 1 end_spelling) → MayDo narrow_image (named write_end after_place_end) 0 (program_of (stripe_from 20 (meta_blocks 1 end_spelling)) (Answered Done))
+writes_end : AllByRecursion (IsBlock small) (meta_blocks 1 end_spelling) → MayDo narrow_image (named write_end after_place_end) 0
+    (program_of (stripe_from 20 (meta_blocks 1 end_spelling)) (Answered Done))
 writes_end ends = record {
   chunks = _;
   has_chunks = refl;
@@ -115,7 +117,8 @@ lands_end = record {
   done = refl;
 }
 
-filled_legal : AllByRecursion (IsBlock small) (meta_blocks 1 narrow_spelling) → AllByRecursion (IsBlock small) (meta_blocks 1 end_spelling) → IsLegal narrow_image after_land_end
+filled_legal : AllByRecursion (IsBlock small) (meta_blocks 1 narrow_spelling) → AllByRecursion (IsBlock small) (meta_blocks 1 end_spelling)
+    → IsLegal narrow_image after_land_end
 unfolding IsLegal
 filled_legal metas ends = (
   legal_on narrow_image.units after_write_end land_end (lit≤ tt) refl refl refl refl (beginning, refl, lands_end),
@@ -152,11 +155,13 @@ filled_legal metas ends = (
   ),
 )
 
-metas_written : length (start_bytes small narrow_start) ≡ 2048 → AllByRecursion (λ x. x < 256) (start_bytes small narrow_start) → AllByRecursion (IsBlock small) (meta_blocks 1 narrow_spelling)
+metas_written : length (start_bytes small narrow_start) ≡ 2048 → AllByRecursion (λ x. x < 256) (start_bytes small narrow_start) → AllByRecursion
+    (IsBlock small) (meta_blocks 1 narrow_spelling)
 unfolding narrow_spelling
 metas_written long each = metas_are 1 (lit< tt) (start_bytes small narrow_start) long each
 
-ends_written : length (end_bytes small narrow_end) ≡ 2048 → AllByRecursion (λ x. x < 256) (end_bytes small narrow_end) → AllByRecursion (IsBlock small) (meta_blocks 1 end_spelling)
+ends_written : length (end_bytes small narrow_end) ≡ 2048 → AllByRecursion (λ x. x < 256) (end_bytes small narrow_end) → AllByRecursion (IsBlock small)
+    (meta_blocks 1 end_spelling)
 unfolding end_spelling
 ends_written long each = metas_are 1 (lit< tt) (end_bytes small narrow_end) long each
 
@@ -187,7 +192,7 @@ no_data_there (inr (inr (inr s))) = no_truth s.failed
 pub no_data_at_end : ¬ IsLegal narrow_image data_at_the_end
 unfolding IsLegal
 no_data_at_end h = no_data_there (subst (λ o. Kind narrow_image (named place_data_at_end after_late_take) late o)
-    (sym (same_opening opening h.0.allowed.2.opening h.0.allowed.2.is_open)) h.0.allowed.2.kind)
+    (sym (opened_same opening h.0.allowed.2.opening h.0.allowed.2.is_open)) h.0.allowed.2.kind)
 
 pub is_end_record : IsEndRecord small narrow_end
 is_end_record =
@@ -210,7 +215,13 @@ is_end_record =
                     pad,
                     (
                       pad,
-                      (record { lba = lit< tt; position = lit< tt }, (pad, (pad, (pad, (record { lba = lit< tt; position = lit< tt }, (pad, (pad, (pad, tt)))))))),
+                      (
+                        record { lba = lit< tt; position = lit< tt },
+                        (
+                          pad,
+                          (pad, (pad, (record { lba = lit< tt; position = lit< tt }, (pad, (pad, (pad, tt)))))),
+                        ),
+                      ),
                     ),
                   ),
                 ),

@@ -19,8 +19,9 @@ use Rattle.pblk_world.specs.Legal.{IsLegal}
 use Rattle.world_tests.specs.Steps.{meta_blocks, program_of}
 use Rattle.world_tests.specs.Filled.{narrow_image, narrow_start, narrow_spelling, stripe_from, entry_at, entry_blocks, begin_mount, open_line, place_first, write_first, land_first, take_zero, place_zero, write_zero, land_zero, take_one, place_one, write_one, land_one, after_begin, after_open, after_place_first, after_write_first, after_land_first, after_take_zero, after_place_zero, after_write_zero, after_land_zero, after_take_one, after_place_one, after_write_one, after_land_one}
 use Rattle.world_tests.proofs.Knowing.{no_truth, named, legal_on, all_in}
-use Rattle.world_tests.proofs.Blocks.{all_replicate, free_not_open, sector_is, pad_is}
+use Rattle.world_tests.proofs.Blocks.{free_not_open, sector_is, pad_is}
 use Rattle.world_tests.proofs.CollectedWorld.{isnt_named}
+use Rattle.lemmas.proofs.Lists.{all_replicated}
 
 offline_not_open : states.Offline ≡ states.Open → ⊥
 offline_not_open e = grind arith
@@ -29,7 +30,10 @@ begins : MayBegin narrow_image (named begin_mount []) (record { first = 0; seq =
 unfolding written_run
 begins = record {
   is_first = refl;
-  no_open_chunk = (all_replicate (λ (c : Chunk). c.state ≡ states.Open → ⊥) 8 free_chunk free_not_open, (all_replicate (λ (c : Chunk). c.state ≡ states.Open → ⊥) 8 offline_chunk offline_not_open, tt));
+  no_open_chunk = (
+    all_replicated (λ (c : Chunk). c.state ≡ states.Open → ⊥) 8 free_chunk free_not_open,
+    (all_replicated (λ (c : Chunk). c.state ≡ states.Open → ⊥) 8 offline_chunk offline_not_open, tt),
+  );
   first = refl;
   seq = refl;
   strays = refl;
@@ -70,7 +74,8 @@ places_first = record {
   kind = inl (record { next = record { not_failed = refl; in_order = refl }; within = lit< tt; blocks = refl });
 }
 
-writes_first : AllByRecursion (IsBlock small) (meta_blocks 1 narrow_spelling) → MayDo narrow_image (named write_first after_place_first) 0 (program_of (stripe_from 0 (meta_blocks 1 narrow_spelling)) (Answered Done))
+writes_first : AllByRecursion (IsBlock small) (meta_blocks 1 narrow_spelling) → MayDo narrow_image (named write_first after_place_first) 0
+    (program_of (stripe_from 0 (meta_blocks 1 narrow_spelling)) (Answered Done))
 writes_first metas = record {
   chunks = _;
   has_chunks = refl;

@@ -1,5 +1,5 @@
 -- What the events of a world with two units know.
-use Rattle.std.proofs.Common.{◌≡◌, ℕ, ◌+◌, ◌<◌, ◌≤◌, ◌⊎◌, ◌&&◌, ◌==◌, not, zero, suc, Bool, true, false, List, [], ◌∷◌, length, refl, subst, arith, nat_le, inl, inr}
+use Rattle.std.proofs.Common.{◌≡◌, ℕ, ◌+◌, ◌<◌, ◌≤◌, ◌⊎◌, ◌&&◌, ◌==◌, zero, suc, Bool, true, false, List, [], ◌∷◌, length, subst, arith, nat_le, inl, inr}
 use Rattle.std.specs.Prelude.{slice_index}
 use Rattle.std.specs.List.{Contains, list_all, range_with_len}
 use Rattle.std.proofs.lemmas.Bool.{cases_order}
@@ -10,6 +10,7 @@ use Rattle.pblk_world.specs.Events.{Logged, Step}
 use Rattle.pblk_world.specs.World.{World, Logs, known, log_of, prefixes}
 use Rattle.pblk_world.specs.Legal.{IsKnowledge, IsAllowed, IsLegalStep}
 use Rattle.world_tests.specs.Steps.{image}
+use Rattle.lemmas.proofs.Tests.{first_of, second_of, within_is}
 
 pub no_truth : {X : Type 0} → false ≡ true → X
 no_truth e = absurd (grind arith)
@@ -23,27 +24,16 @@ is_below [] ys = true
 is_below (x ∷ xs) [] = false
 is_below (x ∷ xs) (y ∷ ys) = nat_le x y && is_below xs ys
 
-and_left : (a b : Bool) → (a && b) ≡ true → a ≡ true
-and_left true b e = refl
-and_left false b e = no_truth e
-
-and_right : (a b : Bool) → (a && b) ≡ true → b ≡ true
-and_right true b e = e
-and_right false b e = no_truth e
-
-le_of : (x y : ℕ) → nat_le x y ≡ true → x ≤ y
-le_of x y e = grind arith
-
 pub below_at : (xs ys : List ℕ) → is_below xs ys ≡ true → (a : ℕ) → slice_index xs a ≤ slice_index ys a
 below_at [] ys e a = omega arith
 below_at (x ∷ xs) [] e a = no_truth e
-below_at (x ∷ xs) (y ∷ ys) e zero = le_of x y (and_left (nat_le x y) (is_below xs ys) e)
-below_at (x ∷ xs) (y ∷ ys) e (suc a) = below_at xs ys (and_right (nat_le x y) (is_below xs ys) e) a
+below_at (x ∷ xs) (y ∷ ys) e zero = within_is x y (first_of (nat_le x y) (is_below xs ys) e)
+below_at (x ∷ xs) (y ∷ ys) e (suc a) = below_at xs ys (second_of (nat_le x y) (is_below xs ys) e) a
 
 pub all_in : {X : Type 0} (P : X → Bool) (xs : List X) → list_all P xs ≡ true → (x : X) → Contains xs x → P x ≡ true
 all_in P [] e x h = absurd (let past : h.0 < 0 = h.1 in omega arith)
-all_in P (y ∷ ys) e x (zero, h, is) = subst (λ z. P z ≡ true) is (and_left (P y) (list_all P ys) e)
-all_in P (y ∷ ys) e x (suc k, h, is) = all_in P ys (and_right (P y) (list_all P ys) e) x (k, omega arith, is)
+all_in P (y ∷ ys) e x (zero, h, is) = subst (λ z. P z ≡ true) is (first_of (P y) (list_all P ys) e)
+all_in P (y ∷ ys) e x (suc k, h, is) = all_in P ys (second_of (P y) (list_all P ys) e) x (k, omega arith, is)
 
 -- what holds of each number from a on holds of those below its end
 range_by : (P : ℕ → Bool) (a n k : ℕ) → P a ≡ true → ((j : ℕ) → a + 1 ≤ j → j < a + 1 + n → P j ≡ true) → a ≤ k → k < a + suc n → P k ≡ true
@@ -56,15 +46,11 @@ range_by P a n k here above h b = go (cases_order a k)
 
 all_of_range : (P : ℕ → Bool) (a n : ℕ) → list_all P (range_with_len a n) ≡ true → (k : ℕ) → a ≤ k → k < a + n → P k ≡ true
 all_of_range P a zero e k h b = absurd (omega arith)
-all_of_range P a (suc n) e k h b = range_by P a n k (and_left (P a) (list_all P (range_with_len (a + 1) n)) e)
-    (all_of_range P (a + 1) n (and_right (P a) (list_all P (range_with_len (a + 1) n)) e)) h b
+all_of_range P a (suc n) e k h b = range_by P a n k (first_of (P a) (list_all P (range_with_len (a + 1) n)) e)
+    (all_of_range P (a + 1) n (second_of (P a) (list_all P (range_with_len (a + 1) n)) e)) h b
 
 pub all_below : (P : ℕ → Bool) (n : ℕ) → list_all P (range_with_len 0 n) ≡ true → (k : ℕ) → k < n → P k ≡ true
 all_below P n e k h = all_of_range P 0 n e k (omega arith) (omega arith)
-
-pub isnt_true : (b : Bool) → not b ≡ true → b ≡ false
-isnt_true true e = no_truth e
-isnt_true false e = refl
 
 pub no_both : {X : Type 0} (b : Bool) → b ≡ false → b ≡ true → X
 no_both b e f = absurd (grind arith)

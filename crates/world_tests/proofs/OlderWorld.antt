@@ -26,8 +26,9 @@ use Rattle.world_tests.specs.Steps.{meta_blocks, program_of, sector, sector_bloc
 use Rattle.world_tests.specs.Simple.{spelling}
 use Rattle.world_tests.specs.Older.{older_image, begin_older, older_begun, copy_of_found, take_found, found_taken, start_with, rows, younger_spelling, open_with, younger_opened, younger_stripe, place_younger, younger_placed, write_younger, younger_written, land_younger, younger_landed, copied_stripe, place_copied, copied_placed, write_copied, copied_written, land_copied, copied_landed, free_older, older_world, older_line_has_no_row, bound_isnt_the_end}
 use Rattle.world_tests.proofs.Knowing.{no_truth, named, legal_on, differ}
-use Rattle.world_tests.proofs.Blocks.{all_replicate, none_in, free_not_open, sector_is, pad_is, metas_are}
+use Rattle.world_tests.proofs.Blocks.{none_in, free_not_open, sector_is, pad_is, metas_are}
 use Rattle.world_tests.proofs.OverwrittenWorld.{each_in}
+use Rattle.lemmas.proofs.Lists.{all_replicated, nil_cons}
 
 closed_not_open : (c : Chunk) → c.state ≡ states.Closed → c.state ≡ states.Open → ⊥
 closed_not_open c e f = closed (sym e ∙ f)
@@ -36,13 +37,16 @@ closed_not_open c e f = closed (sym e ∙ f)
     closed g = grind arith
 
 frees_all : AllByRecursion (λ (c : Chunk). c.state ≡ states.Open → ⊥) (replicate 7 free_chunk)
-frees_all = all_replicate (λ (c : Chunk). c.state ≡ states.Open → ⊥) 7 free_chunk free_not_open
+frees_all = all_replicated (λ (c : Chunk). c.state ≡ states.Open → ⊥) 7 free_chunk free_not_open
 
 begins : MayBegin older_image (named begin_older []) (record { first = 1; seq = 2; strays = [] })
 unfolding zeros rows_in written_run spelling least_missing
 begins = record {
   is_first = refl;
-  no_open_chunk = ((λ e. closed_not_open (record { state = states.Closed; blocks = [] }) refl e, frees_all), ((λ e. closed_not_open (record { state = states.Closed; blocks = [] }) refl e, frees_all), tt));
+  no_open_chunk = (
+    (λ e. closed_not_open (record { state = states.Closed; blocks = [] }) refl e, frees_all),
+    ((λ e. closed_not_open (record { state = states.Closed; blocks = [] }) refl e, frees_all), tt),
+  );
   first = refl;
   seq = refl;
   strays = refl;
@@ -108,7 +112,8 @@ places_younger = record {
   kind = inl (record { next = record { not_failed = refl; in_order = refl }; within = lit< tt; blocks = refl });
 }
 
-writes_younger : AllByRecursion (IsBlock small) (meta_blocks 2 younger_spelling) → MayDo older_image (named write_younger younger_placed) 0 (program_of younger_stripe (Answered Done))
+writes_younger : AllByRecursion (IsBlock small) (meta_blocks 2 younger_spelling) → MayDo older_image (named write_younger younger_placed) 0
+    (program_of younger_stripe (Answered Done))
 writes_younger metas = record {
   chunks = _;
   has_chunks = refl;
@@ -248,12 +253,9 @@ legal_by long each = older_legal (younger_written_whole (long (start_with rows) 
 
 -- Wrong rows.
 
-no_row : {X : Type 0} (x : X) (xs : List X) → [] ≡ x ∷ xs → ⊥
-no_row x xs e = let wrong : 0 ≡ suc (length xs) = ap length e in omega arith
-
 pub no_missing_row : ¬ IsLegal older_image older_line_has_no_row
 unfolding IsLegal zeros rows_in written_run spelling
-no_missing_row h = no_row _ _ h.0.allowed.2.rows
+no_missing_row h = nil_cons _ _ h.0.allowed.2.rows
 
 first_bound : List Row → ℕ
 first_bound [] = 0

@@ -23,8 +23,9 @@ use Rattle.world_tests.specs.Simple.{entry, start, start_stripe, start_placed, s
 use Rattle.world_tests.specs.Stray.{stray_image, pad_event, pad_to_end, padded_world, begin_with, begun_stray, reset_of, reset_stray, stray_reset, note_stray, stray_noted, take_after, taken_after, open_after, stray_world, pads_part_of_a_stripe, pads_with_a_sector, leaves_a_stray_out, blank_line_is_reset, stray_is_reset_twice, stray_is_opened_before_its_reset}
 use Rattle.world_tests.specs.Halted.{stop_start, start_stopped, offer_again, offered_again, stop_again, halted_world, stopped_program_lands_more, stripe_beside_a_stopped_one}
 use Rattle.world_tests.proofs.Knowing.{no_truth, named, step_legal, legal_on, differ}
-use Rattle.world_tests.proofs.Blocks.{all_replicate, none_in, free_not_open, sector_is, pad_is}
+use Rattle.world_tests.proofs.Blocks.{none_in, free_not_open, sector_is, pad_is}
 use Rattle.world_tests.proofs.SimpleWorld.{start_placed_legal, beginning as simple_beginning}
+use Rattle.lemmas.proofs.Lists.{all_replicated, nil_cons}
 
 -- A stray line.
 
@@ -44,7 +45,10 @@ begins : MayBegin stray_image (named (begin_with (0 ∷ [])) padded_world) (reco
 unfolding written_run zeros
 begins = record {
   is_first = refl;
-  no_open_chunk = ((closed_not_open, all_replicate (λ c. c.state ≢ states.Open) 7 free_chunk free_not_open), (all_replicate (λ c. c.state ≢ states.Open) 8 free_chunk free_not_open, tt));
+  no_open_chunk = (
+    (closed_not_open, all_replicated (λ c. c.state ≢ states.Open) 7 free_chunk free_not_open),
+    (all_replicated (λ c. c.state ≢ states.Open) 8 free_chunk free_not_open, tt),
+  );
   first = refl;
   seq = refl;
   strays = refl;
@@ -121,12 +125,9 @@ no_sector_pad h = differ 5 (2 ^ 64 - 1) refl (ap (λ (b : Block). b.mark.lba) h.
 unused : IsUsed states.Free → ⊥
 unused h = h
 
-no_nil : {X : Type 0} (x : X) (xs : List X) → [] ≡ x ∷ xs → ⊥
-no_nil x xs e = let wrong : 0 ≡ suc (length xs) = ap length e in omega arith
-
 pub no_missing_stray : ¬ IsLegal stray_image leaves_a_stray_out
 unfolding IsLegal written_run zeros
-no_missing_stray h = no_nil 0 [] h.0.allowed.strays
+no_missing_stray h = nil_cons 0 [] h.0.allowed.strays
 
 pub no_reset_of_blank : ¬ IsLegal stray_image blank_line_is_reset
 unfolding IsLegal
@@ -136,8 +137,10 @@ pub no_second_reset : ¬ IsLegal stray_image stray_is_reset_twice
 unfolding IsLegal
 no_second_reset h = go h.0.allowed.chunks h.0.allowed.event.found h.0.allowed.has_chunks h.0.allowed.event.there h.0.allowed.command.used
   where
-    go : (chunks : List Chunk) (found : Chunk) → Some (replicate 8 free_chunk) ≡ Some chunks → slice_get chunks 0 ≡ Some found → IsUsed found.state ⊎ (false ≡ true) → ⊥
-    go chunks found e f (inl used) = unused (subst (λ (c : Chunk). IsUsed c.state) (sym (same_Some free_chunk found (ap (λ cs. slice_get cs 0) (same_Some (replicate 8 free_chunk) chunks e) ∙ f))) used)
+    go : (chunks : List Chunk) (found : Chunk) → Some (replicate 8 free_chunk) ≡ Some chunks → slice_get chunks 0 ≡ Some found → IsUsed found.state ⊎
+        (false ≡ true) → ⊥
+    go chunks found e f (inl used) = unused (subst (λ (c : Chunk). IsUsed c.state)
+        (sym (same_Some free_chunk found (ap (λ cs. slice_get cs 0) (same_Some (replicate 8 free_chunk) chunks e) ∙ f))) used)
     go chunks found e f (inr stopped) = no_truth stopped
 
 pub no_open_of_used : ¬ IsLegal stray_image stray_is_opened_before_its_reset

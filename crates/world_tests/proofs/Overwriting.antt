@@ -19,15 +19,17 @@ use Rattle.pblk_world.specs.Answering.{MayLand, MayLose}
 use Rattle.world_tests.specs.Steps.{image, meta_blocks, program_of}
 use Rattle.world_tests.specs.Simple.{simple_world}
 use Rattle.world_tests.specs.Overwritten.{newer_sector, newer_entry, newer_block, take_newer, newer_taken, newer_stripe, place_newer, newer_placed, fail_newer, newer_failed, lose_newer, newer_lost, last_pad, place_last, last_placed, fail_last, last_failed, lose_last, last_lost, next_start, next_spelling, open_next, next_opened, next_stripe, place_next, next_placed, write_next, next_written, land_next, next_landed, again_stripe, place_again, again_placed, write_again, again_written, land_again, again_landed, third_start, third_spelling, open_third, third_opened, third_stripe, place_third, third_placed, write_third, third_written, land_third}
-use Rattle.world_tests.proofs.Knowing.{no_truth, no_both, isnt_true, named, all_in, all_below}
-use Rattle.world_tests.proofs.Blocks.{all_replicate, pad_is}
+use Rattle.world_tests.proofs.Knowing.{no_truth, no_both, named, all_in, all_below}
+use Rattle.world_tests.proofs.Blocks.{pad_is}
 use Rattle.world_tests.proofs.SimpleWorld.{beginning}
 use Rattle.world_tests.proofs.FailedWorld.{first_opening}
 use Rattle.world_tests.proofs.CollectedWorld.{isnt_named}
+use Rattle.lemmas.proofs.Lists.{all_replicated}
+use Rattle.lemmas.proofs.Tests.{not_true}
 
 pub newer_is : IsBlock small (newer_block 5)
 unfolding newer_sector
-newer_is = record { size = length-replicate {A = ℕ} 512 8; bytes = all_replicate (λ x. x < 256) 512 8 (lit< tt); lba = lit< tt; position = lit< tt }
+newer_is = record { size = length-replicate {A = ℕ} 512 8; bytes = all_replicated (λ x. x < 256) 512 8 (lit< tt); lba = lit< tt; position = lit< tt }
 
 pub takes_newer : MayTake image (named (take_newer 5) simple_world) (newer_entry 5) (sector_mark 5 1)
 takes_newer = record { position = refl; position_number = lit< tt; lba = lit< tt; marked = refl; block = newer_is }
@@ -63,15 +65,18 @@ loses_newer = record {
 -- at an address there isn't the next block of a chunk in which more may be placed
 abbrev is_past_by : Option (ℕ × ℕ) → Bool
 is_past_by None = true
-is_past_by (Some p) = not (p.1 == next_block small (named place_last (newer_lost 5) 0) first_opening p.0) || is_done_with small (named place_last (newer_lost 5) 0) first_opening p.0
+is_past_by (Some p) = not (p.1 == next_block small (named place_last (newer_lost 5) 0) first_opening p.0) || is_done_with small
+    (named place_last (newer_lost 5) 0) first_opening p.0
 
 same_or : (n : ℕ) (b : Bool) → (not (n == n) || b) ≡ true → b ≡ true
 same_or n true e = refl
 same_or n false e = grind arith
 
-before_last : (a unit : ℕ) → a < 12 → place_of (known_image image (named place_last (newer_lost 5))) 0 a ≡ Some (unit, next_block small (named place_last (newer_lost 5) 0) first_opening unit)
+before_last : (a unit : ℕ) → a < 12 → place_of (known_image image (named place_last (newer_lost 5))) 0 a ≡ Some
+    (unit, next_block small (named place_last (newer_lost 5) 0) first_opening unit)
     → is_done_with small (named place_last (newer_lost 5) 0) first_opening unit ≡ true
-before_last a unit h e = same_or (next_block small (named place_last (newer_lost 5) 0) first_opening unit) (is_done_with small (named place_last (newer_lost 5) 0) first_opening unit)
+before_last a unit h e = same_or (next_block small (named place_last (newer_lost 5) 0) first_opening unit)
+    (is_done_with small (named place_last (newer_lost 5) 0) first_opening unit)
     (subst (λ o. is_past_by o ≡ true) e (all_below (λ n. is_past_by (place_of (known_image image (named place_last (newer_lost 5))) 0 n)) 12 refl a h))
 
 pub places_last : MayPlace image (named place_last (newer_lost 5)) last_pad
@@ -103,14 +108,16 @@ loses_last = record {
 }
 
 none_left : (line : ℕ) → line < 8 → has_stripe_left image (named open_next (last_lost 5)) line ≡ false
-none_left line h = isnt_true (has_stripe_left image (named open_next (last_lost 5)) line) (all_below (λ n. not (has_stripe_left image (named open_next (last_lost 5)) n)) 8 refl line h)
+none_left line h = not_true (has_stripe_left image (named open_next (last_lost 5)) line)
+    (all_below (λ n. not (has_stripe_left image (named open_next (last_lost 5)) n)) 8 refl line h)
 
 pub opens_next : MayOpen image (named open_next (last_lost 5)) beginning 1 next_start
 unfolding written_run least_missing
 opens_next = record {
   in_range = lit< tt;
   is_free = refl;
-  is_first = λ other h. isnt_true (is_free_line image (named open_next (last_lost 5)) other) (all_below (λ n. not (is_free_line image (named open_next (last_lost 5)) n)) 1 refl other h);
+  is_first = λ other h. not_true (is_free_line image (named open_next (last_lost 5)) other)
+      (all_below (λ n. not (is_free_line image (named open_next (last_lost 5)) n)) 1 refl other h);
   one_other = λ m n h _ e _. no_both (has_stripe_left image (named open_next (last_lost 5)) m) (none_left m h) e;
   own_line = refl;
   own_width = refl;
@@ -137,7 +144,8 @@ places_next = record {
   kind = inl (record { next = record { not_failed = refl; in_order = refl }; within = lit< tt; blocks = refl });
 }
 
-pub writes_next : AllByRecursion (IsBlock small) (meta_blocks 2 next_spelling) → MayDo image (named write_next (next_placed 5)) 0 (program_of next_stripe (Answered Done))
+pub writes_next : AllByRecursion (IsBlock small) (meta_blocks 2 next_spelling) → MayDo image (named write_next (next_placed 5)) 0
+    (program_of next_stripe (Answered Done))
 writes_next metas = record {
   chunks = _;
   has_chunks = refl;
@@ -194,7 +202,8 @@ unfolding written_run least_missing
 opens_third = record {
   in_range = lit< tt;
   is_free = refl;
-  is_first = λ other h. isnt_true (is_free_line image (named open_third (again_landed 5)) other) (all_below (λ n. not (is_free_line image (named open_third (again_landed 5)) n)) 2 refl other h);
+  is_first = λ other h. not_true (is_free_line image (named open_third (again_landed 5)) other)
+      (all_below (λ n. not (is_free_line image (named open_third (again_landed 5)) n)) 2 refl other h);
   one_other = λ m n h g e f. next_is_left m h e ∙ sym (next_is_left n g f);
   own_line = refl;
   own_width = refl;
@@ -221,7 +230,8 @@ places_third = record {
   kind = inl (record { next = record { not_failed = refl; in_order = refl }; within = lit< tt; blocks = refl });
 }
 
-pub writes_third : AllByRecursion (IsBlock small) (meta_blocks 3 third_spelling) → MayDo image (named write_third (third_placed 5)) 0 (program_of third_stripe (Answered Done))
+pub writes_third : AllByRecursion (IsBlock small) (meta_blocks 3 third_spelling) → MayDo image (named write_third (third_placed 5)) 0
+    (program_of third_stripe (Answered Done))
 writes_third metas = record {
   chunks = _;
   has_chunks = refl;

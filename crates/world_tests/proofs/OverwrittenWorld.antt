@@ -56,7 +56,8 @@ nothing r e = absurd (none-some r e)
 
 something : (seq position : ℕ) (sector : List ℕ) (a : ℕ) (r : Record) → (seq ≡ 1) → (position ≡ 0) ⊎ (position ≡ 1)
     → Some (record { line = 0; seq = seq; at = a; position = position; lba = Some 5; sector = sector }) ≡ Some r → IsOfSector r
-something seq position sector a r is_one is_low e = subst IsOfSector (same_Some (record { line = 0; seq = seq; at = a; position = position; lba = Some 5; sector = sector }) r e)
+something seq position sector a r is_one is_low e = subst IsOfSector (same_Some
+    (record { line = 0; seq = seq; at = a; position = position; lba = Some 5; sector = sector }) r e)
     (record { lba = refl; seq = is_one; position = is_low })
 
 landed_blocks : AllByRecursion (λ (p : Placed). AllByRecursion BearsSector p.stripe.blocks) (stripes_of (freeing 0) first_opening)
@@ -170,7 +171,8 @@ last_lost_legal metas = (
   ),
 )
 
-again_landed_legal : AllByRecursion (IsBlock small) (meta_blocks 1 spelling) → AllByRecursion (IsBlock small) (meta_blocks 2 next_spelling) → IsLegal image (again_landed 5)
+again_landed_legal : AllByRecursion (IsBlock small) (meta_blocks 1 spelling) → AllByRecursion (IsBlock small) (meta_blocks 2 next_spelling)
+    → IsLegal image (again_landed 5)
 unfolding IsLegal
 again_landed_legal metas seconds = (
   step_legal (again_written 5) land_again (lit≤ tt) refl refl refl refl (beginning, refl, lands_again),

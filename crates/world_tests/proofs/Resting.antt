@@ -17,8 +17,10 @@ use Rattle.pblk_world.specs.Victims.{victim}
 use Rattle.pblk_world.specs.AtRest.{logs_at, IsUrgent, IsDue, IsUnnotedReset, IsAtRest}
 use Rattle.world_tests.specs.Steps.{image, program_of}
 use Rattle.world_tests.specs.Simple.{start, start_stripe, start_landed, data_stripe}
-use Rattle.world_tests.proofs.Knowing.{no_truth, no_both, isnt_true, differ, all_in, all_below}
-use Rattle.world_tests.proofs.WrongStripes.{same_opening, too_low, too_high}
+use Rattle.world_tests.proofs.Knowing.{no_truth, no_both, differ, all_in, all_below}
+use Rattle.world_tests.proofs.WrongStripes.{too_low, too_high}
+use Rattle.lemmas.proofs.Tests.{not_true}
+use Rattle.pblk_world.proofs.EngineLogLemmas.{opened_same}
 
 abbrev logs : Logs
 logs = logs_at 5 (log_of start_landed)
@@ -40,11 +42,12 @@ is_found (Opened o) = false
 is_found (Freed was knows) = false
 
 its_opening : (line : ℕ) (b : Bool) (o : Opening) → life_by line b ≡ Opened o → opening_of line ≡ o
-its_opening line true o e = same_opening (opening_of line) o e
+its_opening line true o e = opened_same (opening_of line) o e
 its_opening line false o e = no_truth (sym (ap is_found e))
 
 abbrev Kind : Stripe → Opening → Type 0
-Kind stripe o = IsStart image logs o stripe ⊎ (IsEnd image logs o stripe ⊎ (IsPad image logs o stripe ⊎ (IsData image logs o stripe × IsUrgent small (logs 0) 0)))
+Kind stripe o = IsStart image logs o stripe ⊎ (IsEnd image logs o stripe ⊎
+    (IsPad image logs o stripe ⊎ (IsData image logs o stripe × IsUrgent small (logs 0) 0)))
 
 none_due : (line : ℕ) (stripe : Stripe) → Kind stripe (opening_of line) → ⊥
 none_due line stripe (inl s) = too_high 4 4 refl s.within
@@ -60,7 +63,7 @@ no_stripe : (stripe : Stripe) → IsDue image logs 0 stripe → ⊥
 no_stripe stripe d = none_due stripe.line stripe (subst (λ o. Kind stripe o) (sym (its_opening stripe.line (0 == stripe.line) d.opening d.is_open)) d.kind)
 
 none_given_up : (line : ℕ) → line < 8 → is_given_up (logs 0) line ≡ false
-none_given_up line h = isnt_true (is_given_up (logs 0) line) (all_below (λ n. not (is_given_up (logs 0) n)) 8 refl line h)
+none_given_up line h = not_true (is_given_up (logs 0) line) (all_below (λ n. not (is_given_up (logs 0) n)) 8 refl line h)
 
 no_reset : (unit number : ℕ) → ¬ IsUnnotedReset logs unit number
 no_reset zero zero r = no_truth (ap (λ (e : UnitEvent). is_reset e.command) (same_Some (program_of start_stripe (Answered Done)) r.event r.is_known) ∙ r.reset)
@@ -76,14 +79,15 @@ is_old (Some seq) = nat_lt seq 1
 
 none_old : (line : ℕ) → line < 8 → is_old (seq_of image logs line) ≡ false
 unfolding written_run
-none_old line h = isnt_true (is_old (seq_of image logs line)) (all_below (λ n. not (is_old (seq_of image logs n))) 8 refl line h)
+none_old line h = not_true (is_old (seq_of image logs line)) (all_below (λ n. not (is_old (seq_of image logs n))) 8 refl line h)
 
 below_one : (a b : ℕ) → 1 ≡ b → nat_lt a 1 ≡ false → a < b → ⊥
 below_one a b e f h = grind arith
 
 none_free : (line : ℕ) → ¬ MayFree image logs line
 unfolding written_run
-none_free line f = below_one f.seq f.newest.seq (ap (λ (r : StartRecord). r.seq) (same_Some start f.newest f.is_newest)) (ap is_old (sym f.has_seq) ∙ none_old line f.in_range) f.older
+none_free line f = below_one f.seq f.newest.seq (ap (λ (r : StartRecord). r.seq) (same_Some start f.newest f.is_newest))
+    (ap is_old (sym f.has_seq) ∙ none_old line f.in_range) f.older
 
 pub rests : IsAtRest image (log_of start_landed) 0 5
 unfolding written_run victim
@@ -108,5 +112,14 @@ unfolding written_run victim
 asked_for h = h.resting.no_work.no_program data_stripe (record {
   opening = opening_of 0;
   is_open = refl;
-  kind = inr (inr (inr (record { next = record { not_failed = refl; in_order = refl }; within = lit< tt; start_landed = refl; has_entry = lit< tt; blocks = refl }, inr (_, (0, lit< tt, refl), lit< tt))));
+  kind = inr (inr (inr (
+    record {
+      next = record { not_failed = refl; in_order = refl };
+      within = lit< tt;
+      start_landed = refl;
+      has_entry = lit< tt;
+      blocks = refl;
+    },
+    inr (_, (0, lit< tt, refl), lit< tt),
+  )));
 })

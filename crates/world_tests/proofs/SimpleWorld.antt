@@ -15,11 +15,12 @@ use Rattle.pblk_world.specs.Commanding.{MayDo}
 use Rattle.pblk_world.specs.Answering.{MayLand}
 use Rattle.pblk_world.specs.Legal.{IsLegal}
 use Rattle.world_tests.proofs.Knowing.{no_truth, named, step_legal}
-use Rattle.world_tests.proofs.Blocks.{all_replicate, none_in, free_not_open, sector_is, pad_is, metas_are}
+use Rattle.world_tests.proofs.Blocks.{none_in, free_not_open, sector_is, pad_is, metas_are}
 use Rattle.pblk_model.specs.ChunkStep.{Done}
 use Rattle.pblk_model.specs.UnitLog.{Answered}
 use Rattle.world_tests.specs.Simple.{begin_step, begun_world, take_step, taken_world, open_step, opened_world, place_start, start_placed, write_start, start_written, land_start, start_landed, place_data, data_placed, write_data, data_written, land_data, simple_world, start, spelling, start_stripe, entry, data_stripe}
 use Rattle.world_tests.specs.Steps.{image, meta_blocks, program_of}
+use Rattle.lemmas.proofs.Lists.{all_replicated}
 
 -- Steps.
 
@@ -27,7 +28,10 @@ begins : MayBegin image (named begin_step []) (record { first = 0; seq = 1; stra
 unfolding written_run
 begins = record {
   is_first = refl;
-  no_open_chunk = (all_replicate (λ c. c.state ≢ states.Open) 8 free_chunk free_not_open, (all_replicate (λ c. c.state ≢ states.Open) 8 free_chunk free_not_open, tt));
+  no_open_chunk = (
+    all_replicated (λ c. c.state ≢ states.Open) 8 free_chunk free_not_open,
+    (all_replicated (λ c. c.state ≢ states.Open) 8 free_chunk free_not_open, tt),
+  );
   first = refl;
   seq = refl;
   strays = refl;
@@ -71,7 +75,8 @@ places_start = record {
   kind = inl (record { next = record { not_failed = refl; in_order = refl }; within = lit< tt; blocks = refl });
 }
 
-writes_start : AllByRecursion (IsBlock small) (meta_blocks 1 spelling) → MayDo image (named write_start start_placed) 0 (program_of start_stripe (Answered Done))
+writes_start : AllByRecursion (IsBlock small) (meta_blocks 1 spelling) → MayDo image (named write_start start_placed) 0
+    (program_of start_stripe (Answered Done))
 writes_start metas = record {
   chunks = replicate 8 free_chunk;
   has_chunks = refl;
@@ -150,7 +155,8 @@ is_legal metas = (
   ),
 )
 
-pub metas_written : length (start_bytes small start) ≡ 2048 → AllByRecursion (λ x. x < 256) (start_bytes small start) → AllByRecursion (IsBlock small) (meta_blocks 1 spelling)
+pub metas_written : length (start_bytes small start) ≡ 2048 → AllByRecursion (λ x. x < 256) (start_bytes small start) → AllByRecursion (IsBlock small)
+    (meta_blocks 1 spelling)
 unfolding spelling
 metas_written long each = metas_are 1 (lit< tt) (start_bytes small start) long each
 

@@ -1,5 +1,5 @@
 -- The wrong steps of the engine that no stripe is placed in are refused.
-use Rattle.std.proofs.Common.{◌≡◌, ◌+◌, ◌-◌, ◌^◌, ◌<◌, ◌⊎◌, suc, Some, List, [], ◌∷◌, length, replicate, refl, sym, ap, ◌∙◌, arith, lit<, inl, inr}
+use Rattle.std.proofs.Common.{◌≡◌, ◌+◌, ◌-◌, ◌^◌, ◌<◌, ◌⊎◌, Some, List, [], ◌∷◌, replicate, refl, sym, ap, ◌∙◌, arith, lit<, inl, inr}
 use Rattle.std.specs.Prelude.{slice_index}
 use Rattle.std.proofs.lemmas.Option.{none-some, same_Some}
 use Rattle.pblk_model.specs.declared.chunk.Mark.{Mark}
@@ -17,14 +17,12 @@ use Rattle.world_tests.specs.Wrong.{first_is_taken, seq_is_skipped, blank_line_i
 use Rattle.world_tests.specs.Simple.{begun_world}
 use Rattle.world_tests.proofs.Knowing.{no_truth, named, differ}
 use Rattle.world_tests.proofs.CollectedWorld.{copy_is_latest}
+use Rattle.lemmas.proofs.Lists.{nil_cons}
 
 -- unequal things
 
-no_item : {X : Type 0} (x : X) (xs : List X) → [] ≡ x ∷ xs → ⊥
-no_item x xs e = let wrong : 0 ≡ suc (length xs) = ap length e in omega arith
-
 some_item : {X : Type 0} (x : X) (xs : List X) → x ∷ xs ≡ [] → ⊥
-some_item x xs e = no_item x xs (sym e)
+some_item x xs e = nil_cons x xs (sym e)
 
 other_lba : (a b : Mark) → a ≡ b → a.lba ≡ b.lba
 other_lba a b e = ap (λ (m : Mark). m.lba) e
@@ -69,7 +67,8 @@ pub no_others_mark : ¬ IsLegal image mark_is_anothers
 unfolding IsLegal
 no_others_mark h = differ 6 5 refl (other_lba (sector_mark 6 0) (sector_mark 5 0) h.0.allowed.2.marked)
 
-no_winner : Copies image (named stale_copy (copy_taken)) (copy 2) (sector_mark 5 2) source ⊎ CopiesStale image (named stale_copy copy_taken) (copy 2) (sector_mark 5 2) source → ⊥
+no_winner : Copies image (named stale_copy (copy_taken)) (copy 2) (sector_mark 5 2) source ⊎ CopiesStale image (named stale_copy copy_taken) (copy 2)
+    (sector_mark 5 2) source → ⊥
 no_winner (inl c) = differ 0 1 refl c.latest.place.position
 no_winner (inr c) = differ 5 (2 ^ 64 - 2) refl (other_lba (sector_mark 5 2) (void_mark 2) c.names_none)
 
@@ -77,7 +76,8 @@ pub no_stale_winner : ¬ IsLegal image stale_copy_wins
 unfolding IsLegal
 no_stale_winner h = no_winner h.0.allowed.2.marked
 
-no_void : Copies image (named void_copy reset_noted) (copy 1) (void_mark 1) source ⊎ CopiesStale image (named void_copy reset_noted) (copy 1) (void_mark 1) source → ⊥
+no_void : Copies image (named void_copy reset_noted) (copy 1) (void_mark 1) source ⊎ CopiesStale image (named void_copy reset_noted) (copy 1)
+    (void_mark 1) source → ⊥
 no_void (inl c) = differ (2 ^ 64 - 2) 5 refl (other_lba (void_mark 1) (sector_mark 5 1) c.names_sector)
 no_void (inr c) = c.stale (sector_block 0) copy_is_latest
 
@@ -85,10 +85,13 @@ pub no_void_latest : ¬ IsLegal image latest_copy_is_void
 unfolding IsLegal
 no_void_latest h = no_void h.0.allowed.2.marked
 
-no_other : Copies image (named changed_copy reset_noted) (record { position = 1; lba = 5; source = Some source; sector = replicate 512 8 }) (sector_mark 5 1) source
-    ⊎ CopiesStale image (named changed_copy reset_noted) (record { position = 1; lba = 5; source = Some source; sector = replicate 512 8 }) (sector_mark 5 1) source → ⊥
+no_other : Copies image (named changed_copy reset_noted) (record { position = 1; lba = 5; source = Some source; sector = replicate 512 8 })
+    (sector_mark 5 1) source
+    ⊎ CopiesStale image (named changed_copy reset_noted) (record { position = 1; lba = 5; source = Some source; sector = replicate 512 8 })
+    (sector_mark 5 1) source → ⊥
 unfolding sector
-no_other (inl c) = differ 8 7 refl (ap (λ xs. slice_index xs 0) (c.sector ∙ ap (λ (b : Block). b.sector) (sym (same_Some (sector_block 0) c.block c.latest.there))))
+no_other (inl c) = differ 8 7 refl (ap (λ xs. slice_index xs 0) (c.sector ∙ ap (λ (b : Block). b.sector)
+    (sym (same_Some (sector_block 0) c.block c.latest.there))))
 no_other (inr c) = differ 5 (2 ^ 64 - 2) refl (other_lba (sector_mark 5 1) (void_mark 1) c.names_none)
 
 pub no_other_sector : ¬ IsLegal image copy_holds_another_sector

@@ -83,7 +83,8 @@ none_of o r each l e = each_get BearsAnother l.placed.stripe.blocks
     (each_in (λ (p : Placed). AllByRecursion BearsAnother p.stripe.blocks) (stripes_of (late 0) o) each l.placed l.of_opening)
     l.index l.block l.is_block o.line o.start.seq r.at r l.bears e
 
-none_landed : (line : ℕ) (first next third : Bool) (r : Record) → (0 == line) ≡ first → line ≢ 0 → HasLandedIn image late (life_by line first next third) line r → r.lba ≡ Some 5 → ⊥
+none_landed : (line : ℕ) (first next third : Bool) (r : Record) → (0 == line) ≡ first → line ≢ 0 → HasLandedIn image late
+    (life_by line first next third) line r → r.lba ≡ Some 5 → ⊥
 unfolding written_run
 none_landed line first next true r b isnt l e = none_of _ r (third_stripes line) l e
 none_landed line first true false r b isnt l e = none_of _ r (next_stripes line) l e

@@ -15,21 +15,19 @@ use Rattle.world_tests.specs.Collected.{start_lost}
 use Rattle.world_tests.specs.Wrong.{early_data, data_before_start, unit_is_busy, unordered_data, order_is_broken, dropped_data, entry_is_dropped, line_isnt_open, failed_data, data_in_failed_line, chunk_is_anothers}
 use Rattle.world_tests.proofs.Knowing.{no_truth, named, differ}
 use Rattle.world_tests.proofs.FailedWorld.{first_opening}
+use Rattle.pblk_world.proofs.EngineLogLemmas.{opened_same}
 
 abbrev pub opening_or : Opening → LineLife → Opening
 opening_or d AsFound = d
 opening_or d (Opened o) = o
 opening_or d (Freed was knows) = d
 
-pub same_opening : (a b : Opening) → Opened a ≡ Opened b → a ≡ b
-same_opening a b e = ap (opening_or a) e
-
 -- one of the four kinds of stripe, in this opening
 abbrev pub Kind : Image → Logs → Stripe → Opening → Type 0
 Kind i logs stripe o = IsStart i logs o stripe ⊎ (IsData i logs o stripe ⊎ (IsEnd i logs o stripe ⊎ IsPad i logs o stripe))
 
 kind_of : (logs : Logs) (stripe : Stripe) (p : MayPlace image logs stripe) → Opened first_opening ≡ Opened p.opening → Kind image logs stripe first_opening
-kind_of logs stripe p e = subst (λ o. Kind image logs stripe o) (sym (same_opening first_opening p.opening e)) p.kind
+kind_of logs stripe p e = subst (λ o. Kind image logs stripe o) (sym (opened_same first_opening p.opening e)) p.kind
 
 pub too_low : (a b : ℕ) → nat_lt b a ≡ true → a ≤ b → ⊥
 too_low a b e h = grind arith

@@ -56,14 +56,16 @@ unfolding IsLegal
 no_unknown_answer h = none-some h.0.allowed.2.new.logged h.0.allowed.2.new.is_known
 
 -- the event that is known is this one
-is_event : (logs : Logs) (unit number : ℕ) (e known : UnitEvent) (l : Logged) → Some l ≡ slice_get (logs (suc unit)) number → Some known ≡ unit_event_of l.event → (n : IsNew logs unit number e) → known ≡ e
+is_event : (logs : Logs) (unit number : ℕ) (e known : UnitEvent) (l : Logged) → Some l ≡ slice_get (logs (suc unit)) number
+    → Some known ≡ unit_event_of l.event → (n : IsNew logs unit number e) → known ≡ e
 is_event logs unit number e known l at event n =
     same_Some known e (event ∙ ap (λ (m : Logged). unit_event_of m.event) (same_Some l n.logged (at ∙ n.is_known)) ∙ n.event)
 
 pub no_failed_lands : ¬ IsLegal image failed_program_lands
 unfolding IsLegal kind_of
 no_failed_lands h = let a = h.0.allowed.2 in
-    differ 1 0 refl (ap (λ (e : UnitEvent). kind_of e.outcome) (is_event _ 0 0 a.program (program_of start_stripe (Failed 0)) _ refl refl a.new) ∙ ap kind_of a.done)
+    differ 1 0 refl (ap (λ (e : UnitEvent). kind_of e.outcome) (is_event _ 0 0 a.program (program_of start_stripe (Failed 0)) _ refl refl a.new) ∙ ap
+    kind_of a.done)
 
 pub no_second_landing : ¬ IsLegal image program_lands_twice
 unfolding IsLegal
@@ -72,17 +74,20 @@ no_second_landing h = h.0.allowed.2.new.once (0, lit< tt, refl)
 pub no_lost_done : ¬ IsLegal image done_program_is_lost
 unfolding IsLegal kind_of
 no_lost_done h = let a = h.0.allowed.2 in
-    differ 0 1 refl (ap (λ (e : UnitEvent). kind_of e.outcome) (is_event _ 0 0 a.program (program_of start_stripe (Answered Done)) _ refl refl a.new) ∙ ap kind_of a.failed)
+    differ 0 1 refl (ap (λ (e : UnitEvent). kind_of e.outcome) (is_event _ 0 0 a.program (program_of start_stripe (Answered Done)) _ refl refl a.new) ∙ ap
+    kind_of a.failed)
 
 pub no_done_again : ¬ IsLegal image done_program_is_offered_again
 unfolding IsLegal kind_of
 no_done_again h = let a = h.0.allowed.2 in
-    differ 0 2 refl (ap (λ (e : UnitEvent). kind_of e.outcome) (is_event _ 0 0 a.program (program_of start_stripe (Answered Done)) _ refl refl a.new) ∙ ap kind_of a.stopped)
+    differ 0 2 refl (ap (λ (e : UnitEvent). kind_of e.outcome) (is_event _ 0 0 a.program (program_of start_stripe (Answered Done)) _ refl refl a.new) ∙ ap
+    kind_of a.stopped)
 
 pub no_program_as_reset : ¬ IsLegal image program_is_noted_as_reset
 unfolding IsLegal
 no_program_as_reset h = let a = h.0.allowed.2 in
-    no_truth (ap (λ (e : UnitEvent). is_reset e.command) (is_event _ 0 0 a.reset (program_of start_stripe (Answered Done)) _ refl refl a.new) ∙ ap is_reset a.is_reset)
+    no_truth (ap (λ (e : UnitEvent). is_reset e.command) (is_event _ 0 0 a.reset (program_of start_stripe (Answered Done)) _ refl refl a.new) ∙ ap
+    is_reset a.is_reset)
 
 -- Knowledge.
 

@@ -1,3 +1,4 @@
 pub mod Runs
 pub mod Looks
 pub mod Owners
+pub mod EntriesLemmas

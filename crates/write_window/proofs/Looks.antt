@@ -1,9 +1,8 @@
 -- What the window has at a position, and its synced front.
 use Rattle.std.proofs.Common.{◌≡◌, ℕ, zero, suc, ◌+◌, ◌-◌, ◌<◌, ◌≤◌, Bool, true, false, cond, None, List, [], ◌∷◌, ◌++◌, length, get_or, slice_get, refl, ap, ◌∙◌, arith}
-use Rattle.std.proofs.lemmas.Bool.Decides.{nat_tests}
 use Rattle.std.proofs.lemmas.Option.{slice_get_read}
 use Rattle.std.specs.Option.{option_map_or}
-use Rattle.std.specs.Prelude.{nat_lt, Option}
+use Rattle.std.specs.Prelude.{Option}
 use Rattle.pblk_model.specs.declared.run.Front.{Front}
 use Rattle.write_window.specs.declared.held.Progress.{Progress}
 use Rattle.write_window.specs.declared.held.Progress.TheVariants.{Waiting, Landed, Readable}
@@ -11,14 +10,12 @@ use Rattle.write_window.specs.declared.held.Held.{Held}
 use Rattle.write_window.specs.Entries.{has_landed, is_readable, user_count, users_in, landed_first, with_progress}
 use Rattle.write_window.specs.Window.{WindowView, IsHeld, held_at, has_landed_at, synced}
 use Rattle.write_window.proofs.Runs.{first_landed, first_waits, same_run, run_of_more}
+use Rattle.lemmas.proofs.Tests.{not_before}
 
 pub element : (xs : List Held) (k : ℕ) → k < length xs → (h : Held) × (h ≡ get_or xs k h)
 element [] k inside = absurd (omega arith)
 element (x ∷ xs) zero inside = (x, refl)
 element (x ∷ xs) (suc k) inside = element xs k (omega arith)
-
-not_before : (a b : ℕ) → b ≤ a → nat_lt a b ≡ false
-not_before a b h = grind (arith, nat_tests)
 
 pub held_is : (w : WindowView) (position : ℕ) → IsHeld w position → held_at w position ≡ slice_get w.entries (position - w.freed)
 held_is w position held = ap (λ b. cond b None (slice_get w.entries (position - w.freed))) (not_before position w.freed held.0)

@@ -8,6 +8,7 @@ use Rattle.write_window.specs.declared.held.Progress.{Progress}
 use Rattle.write_window.specs.declared.held.Held.{Held}
 use Rattle.write_window.specs.Entries.{has_landed, user_count, users_in, landed_first, AreFrom, with_progress}
 use Rattle.write_window.specs.Inside.{Keeps}
+use Rattle.write_window.proofs.EntriesLemmas.{turned_length}
 
 -- the first has landed
 pub first_landed : (h : Held) (hs : List Held) → has_landed h.progress ≡ true → landed_first (h ∷ hs) ≡ h ∷ landed_first hs
@@ -31,11 +32,6 @@ pub with_is_set : (xs : List Held) (k : ℕ) (h : Held) (to : Progress) → k < 
 with_is_set [] k h to inside is = absurd (omega arith)
 with_is_set (x ∷ xs) zero h to inside is = ap (λ (y : Held). record y { progress = to } ∷ xs) is
 with_is_set (x ∷ xs) (suc k) h to inside is = ap (λ ys. x ∷ ys) (with_is_set xs k h to (omega arith) is)
-
-pub length_with : (xs : List Held) (k : ℕ) (to : Progress) → length (with_progress xs k to) ≡ length xs
-length_with [] k to = refl
-length_with (x ∷ xs) zero to = refl
-length_with (x ∷ xs) (suc k) to = ap suc (length_with xs k to)
 
 pub numbered_with : (p : ℕ) (xs : List Held) (k : ℕ) (to : Progress) → AreFrom p xs → AreFrom p (with_progress xs k to)
 numbered_with p [] k to are = are
@@ -123,7 +119,7 @@ turned_keeps f u c r xs k h to is inside here e to_lands =
       landed = is.landed ∙ sym same.0;
       landed_users = is.landed_users ∙ sym same.1;
       fits = is.fits;
-      short = omega (arith, is.short, length_with xs k to);
+      short = omega (arith, is.short, turned_length xs k to);
     }
 
 -- where an entry lands that hadn't, the run is as it was, with what has landed behind it
@@ -155,7 +151,7 @@ landed_keeps f u c r xs k h to c' r' is inside here e count users =
       landed = count ∙ ap (λ n. n + length (landed_first (drop c ys))) is.landed ∙ sym (ap length grows ∙ length-append (landed_first xs) (landed_first (drop c ys)));
       landed_users = users ∙ ap (λ n. n + users_in (landed_first (drop c ys))) is.landed_users ∙ sym (ap users_in grows ∙ users_append (landed_first xs) (landed_first (drop c ys)));
       fits = is.fits;
-      short = omega (arith, is.short, length_with xs k to);
+      short = omega (arith, is.short, turned_length xs k to);
     }
 
 -- the run is inside, and has as many users' writes at most

@@ -3,7 +3,8 @@ use Rattle.write_window.specs.Window as view
 use Rattle.pblk_model.specs.Frames.{count_out}
 use Rattle.pblk_core.specs.Named.{pad_of}
 use Rattle.pblk_core.specs.declared.target_core.Core.{Core}
-use Rattle.block_target.proofs.PumpedFrames.{IsFirstFrame, first_frame, front_is_freed}
+use Rattle.pblk_core.proofs.FreedWindow.{front_is_freed}
+use Rattle.block_target.proofs.PumpedFrames.{IsFirstFrame, first_frame}
 use Rattle.block_target.proofs.mount.free_frames.Goals as goal
 
 pub loop-frame-smaller : goal.loop-frame-smaller
@@ -39,3 +40,6 @@ returns-clause-drained c = λ i w plain st.
     let same : c.pop_free.new.self ≡ c.loop-frame.core = c.in_default.ensures.unchanged in
     let front = front_is_freed i w c.loop-frame.core plain (c.loop-frame.invariant.stands i w plain st) (c.in_default.ensures.none.0 refl) in
     ap (λ (x : Core). x.window.freed) same ∙ front
+
+pub returns-clause-unread : goal.returns-clause-unread
+returns-clause-unread c = ap (λ (x : Core). view.is_readable_at x.window x.window.freed) c.in_default.ensures.unchanged ∙ c.in_default.ensures.none.0 refl

@@ -4,7 +4,8 @@ use Rattle.block_target.proofs.mount.make_parts.Goals as goal
 
 pub returns-in-Ok : goal.returns-in-Ok
 returns-in-Ok c = record {
-  core = c.in-Ok.ensures;
+  core = c.in-Ok.ensures.stands;
+  pad = c.in-Ok.ensures.pad;
   out = c.in_ok-pool.ensures.none_out;
   count = c.in_ok-pool.ensures.count;
   size = c.in_ok-pool.ensures.size;

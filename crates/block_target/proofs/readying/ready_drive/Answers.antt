@@ -1,5 +1,5 @@
 use Rattle.std.specs.Prelude.{map}
-use Rattle.opening_steps.proofs.HandedBack.{back_as_they_were}
+use Rattle.scan_recovery.proofs.HandedBack.{back_as_they_were}
 use Rattle.block_target.proofs.Readied.{ready_lists}
 use Rattle.block_target.proofs.readying.ready_drive.Goals as goal
 

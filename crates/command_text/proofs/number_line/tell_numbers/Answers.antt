@@ -5,5 +5,6 @@ use Rattle.command_text.proofs.number_line.tell_numbers.Goals as goal
 pub returns-clause-said : goal.returns-clause-said
 returns-clause-said g c = said_as _ _ (g.O.Sink.view c.args.out.now) (g.O.Sink.view c.tell.new.out)
     (numbers_line_text c.args.word.now c.as_bytes.result.now c.as_bytes-2.result.now c.as_bytes-3.result.now c.args.first c.args.second c.args.third
-    (c.as_bytes.ensures.value ∙ c.format.ensures.text) (c.as_bytes-2.ensures.value ∙ c.format-2.ensures.text) (c.as_bytes-3.ensures.value ∙ c.format-3.ensures.text))
+    (c.as_bytes.ensures.value ∙ c.format.ensures.text) (c.as_bytes-2.ensures.value ∙ c.format-2.ensures.text) (c.as_bytes-3.ensures.value
+    ∙ c.format-3.ensures.text))
     c.tell.ensures.said

@@ -6,6 +6,7 @@ use Rattle.command_text.proofs.numbers.chunks_in.Given as goal
 
 abbrev pub invariant-loop-unit : goal.invariant-loop-unit
 invariant-loop-unit l = record {
-  counted : l.count ≡ length (filter (λ k. state_code k.chunk.state == state_code l.state) (flat_map (λ unit. unit) (map stored_chunks (take l.unit l.drive.units))));
+  counted : l.count ≡ length (filter (λ k. state_code k.chunk.state == state_code l.state)
+      (flat_map (λ unit. unit) (map stored_chunks (take l.unit l.drive.units))));
   few : l.count ≤ l.unit * 2 ^ 32;
 }

@@ -8,16 +8,19 @@ use Rattle.command_words.proofs.create.read_create.Goals as goal
 pub returns-in_err-item-clause-only : goal.returns-in_err-item-clause-only
 returns-in_err-item-clause-only c = λ image numbers h.
     let some = some_words c.loop-rest.rest.now (eqb-false _ _ (sym c.loop-rest-test.ensures)) in
-    absurd (no_item (map string_bytes c.args.words.now) (map string_bytes c.loop-rest.rest.now) c.loop-rest.read image numbers c.loop-rest.invariant some c.in_err-item.ensures.only h)
+    absurd (no_item (map string_bytes c.args.words.now)
+    (map string_bytes c.loop-rest.rest.now) c.loop-rest.read image numbers c.loop-rest.invariant some c.in_err-item.ensures.only h)
 
 pub returns-in_err-read-clause-only : goal.returns-in_err-read-clause-only
 returns-in_err-read-clause-only c = λ image numbers h.
-    absurd (no_more (map string_bytes c.args.words.now) (map string_bytes c.loop-rest.rest.now) (map string_bytes c.in_ok-item.others.now) (item_of c.in_ok-item.item) c.loop-rest.read image numbers c.loop-rest.invariant
+    absurd (no_more (map string_bytes c.args.words.now) (map string_bytes c.loop-rest.rest.now) (map string_bytes c.in_ok-item.others.now)
+    (item_of c.in_ok-item.item) c.loop-rest.read image numbers c.loop-rest.invariant
     c.in_ok-item.ensures.found c.in_ok-item.ensures.only c.in_err-read.ensures.refused h)
 
 pub loop-rest-preserved : goal.loop-rest-preserved
 loop-rest-preserved c =
-    read_on (map string_bytes c.args.words.now) (map string_bytes c.loop-rest.rest.now) (map string_bytes c.in_ok-item.others.now) (item_of c.in_ok-item.item) c.loop-rest.read c.in_ok-read.read c.loop-rest.invariant
+    read_on (map string_bytes c.args.words.now) (map string_bytes c.loop-rest.rest.now) (map string_bytes c.in_ok-item.others.now)
+    (item_of c.in_ok-item.item) c.loop-rest.read c.in_ok-read.read c.loop-rest.invariant
     c.in_ok-item.ensures.found c.in_ok-item.ensures.only c.in_ok-read.ensures.taken
 
 pub returns-in_err-read-2-clause-only : goal.returns-in_err-read-2-clause-only
@@ -30,10 +33,12 @@ pub returns-clause-found : goal.returns-clause-found
 returns-clause-found c =
     let none = no_words c.loop-rest.rest.now (eqb-true _ _ (sym c.loop-rest-test.ensures)) in
     let reading = subst (λ ws. IsReading (map string_bytes c.args.words.now) ws c.loop-rest.read) none c.loop-rest.invariant in
-    end_reading (map string_bytes c.args.words.now) c.loop-rest.read c.in_ok-read-2.field-0 (numbers_seen c.numbers.result) reading c.in_ok-read-2.was (c.numbers.ensures reading.items reading.has)
+    end_reading (map string_bytes c.args.words.now) c.loop-rest.read c.in_ok-read-2.field-0 (numbers_seen c.numbers.result) reading c.in_ok-read-2.was
+    (c.numbers.ensures reading.items reading.has)
 
 pub returns-clause-only : goal.returns-clause-only
 returns-clause-only c = λ image numbers h.
     let none = no_words c.loop-rest.rest.now (eqb-true _ _ (sym c.loop-rest-test.ensures)) in
     let reading = subst (λ ws. IsReading (map string_bytes c.args.words.now) ws c.loop-rest.read) none c.loop-rest.invariant in
-    same_create (map string_bytes c.args.words.now) c.loop-rest.read c.in_ok-read-2.field-0 image (numbers_seen c.numbers.result) numbers reading c.in_ok-read-2.was (c.numbers.ensures reading.items reading.has) h
+    same_create (map string_bytes c.args.words.now) c.loop-rest.read c.in_ok-read-2.field-0 image
+    (numbers_seen c.numbers.result) numbers reading c.in_ok-read-2.was (c.numbers.ensures reading.items reading.has) h

@@ -16,7 +16,8 @@ pub returns-in-Some-clause-only : goal.returns-in-Some-clause-only
 returns-in-Some-clause-only c = λ item others plain h.
     let parts = split_parts 61 c.args.option.now c.split_once.result c.split_once.ensures.cases (omega arith) in
     let at = rw c.in-Some.is at parts in
-    let found = with_equals c.args.option.now c.in-Some.name.now c.in-Some.value.now (map string_bytes c.args.rest.now) others item at.0 (lacks_by_place 61 c.in-Some.name.now at.1) plain h in
+    let found = with_equals c.args.option.now c.in-Some.name.now c.in-Some.value.now (map string_bytes c.args.rest.now) others item at.0
+    (lacks_by_place 61 c.in-Some.name.now at.1) plain h in
     some_and c.named.result _ _ c.named.ensures.found (c.named.ensures.plain.1 found.2)
     (λ r k. (k.0 ∙ found.0, ap (λ ws. map string_bytes ws) k.1 ∙ found.1))
 
@@ -25,7 +26,8 @@ returns-in-len1-up-clause-only c = λ item others plain h.
     let parts = split_parts 61 c.args.option.now c.split_once.result c.split_once.ensures.cases (omega arith) in
     let lacks = lacks_by_place 61 c.args.option.now (rw c.in-None.is at parts) in
     let words = first_of c.args.rest.now c.value-item.result c.in-len1-up.len_at_least c.value-item.is in
-    let left = ap (λ ws. map string_bytes ws) words ∙ ap (λ w. w ∷ map string_bytes (take (length c.args.rest.now - 1) (drop 1 c.args.rest.now))) (sym c.as_str.ensures.value) in
+    let left = ap (λ ws. map string_bytes ws) words
+    ∙ ap (λ w. w ∷ map string_bytes (take (length c.args.rest.now - 1) (drop 1 c.args.rest.now))) (sym c.as_str.ensures.value) in
     let found = with_next c.args.option.now c.as_str.result.now (map string_bytes c.args.rest.now) _ others item left lacks plain h in
     some_and c.named-in-None.result _ _ c.named-in-None.ensures.found (c.named-in-None.ensures.plain.1 found.2)
     (λ r k. (k.0 ∙ found.0, ap (λ ws. map string_bytes ws) k.1 ∙ found.1))

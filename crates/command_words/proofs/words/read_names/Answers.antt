@@ -17,7 +17,8 @@ returns-in_default-clause-only c = λ image script h.
 pub returns-then-is_plain-2-clause-found : goal.returns-then-is_plain-2-clause-found
 returns-then-is_plain-2-clause-found c =
     let words = two_words c.args.words.now c.image-item.result c.script-item.result c.as_str-image.result.now c.as_str-script.result.now c.in-len2.len_at_least c.in-len2.len_below c.image-item.is c.script-item.is c.as_str-image.ensures.value c.as_str-script.ensures.value in
-    are_two_names (map string_bytes c.args.words.now) c.as_str-image.result.now c.as_str-script.result.now words (c.if-is_plain.ensures.0 refl) (c.if-is_plain-2.ensures.0 refl)
+    are_two_names (map string_bytes c.args.words.now) c.as_str-image.result.now c.as_str-script.result.now words (c.if-is_plain.ensures.0 refl)
+    (c.if-is_plain-2.ensures.0 refl)
 
 pub returns-then-is_plain-2-clause-only : goal.returns-then-is_plain-2-clause-only
 returns-then-is_plain-2-clause-only c = λ image script h.

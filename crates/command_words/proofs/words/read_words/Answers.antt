@@ -9,63 +9,80 @@ use Rattle.command_words.proofs.words.read_words.Goals as goal
 pub returns-in_err-image-in-create-clause-none : goal.returns-in_err-image-in-create-clause-none
 returns-in_err-image-in-create-clause-none c =
     let first = first_word_of c.args.words.now c.first-item.result c.as_str.result.now c.in-len1-up.len_at_least c.first-item.is c.as_str.ensures.value in
-    rw c.from_residual.ensures (as_create (map string_bytes c.args.words.now) _ c.as_str.result.now (λ x. ⊥) first c.in-create.is (λ image numbers h. c.in_err-image-in-create.ensures.only image numbers h))
+    rw c.from_residual.ensures (as_create (map string_bytes c.args.words.now) _ c.as_str.result.now (λ x. ⊥) first c.in-create.is
+    (λ image numbers h. c.in_err-image-in-create.ensures.only image numbers h))
 
 pub returns-in_err-image-in-create-clause-only : goal.returns-in_err-image-in-create-clause-only
 returns-in_err-image-in-create-clause-only c = λ line h.
     let first = first_word_of c.args.words.now c.first-item.result c.as_str.result.now c.in-len1-up.len_at_least c.first-item.is c.as_str.ensures.value in
-    absurd (as_create (map string_bytes c.args.words.now) _ c.as_str.result.now (λ x. ⊥) first c.in-create.is (λ image numbers h. c.in_err-image-in-create.ensures.only image numbers h) line h)
+    absurd (as_create (map string_bytes c.args.words.now) _ c.as_str.result.now (λ x. ⊥) first c.in-create.is
+    (λ image numbers h. c.in_err-image-in-create.ensures.only image numbers h) line h)
 
 pub returns-in_err-image-in-geometry-clause-none : goal.returns-in_err-image-in-geometry-clause-none
 returns-in_err-image-in-geometry-clause-none c =
     let first = first_word_of c.args.words.now c.first-item.result c.as_str.result.now c.in-len1-up.len_at_least c.first-item.is c.as_str.ensures.value in
-    rw c.from_residual-in_err-image-in-geometry.ensures (as_geometry (map string_bytes c.args.words.now) _ c.as_str.result.now (λ x. ⊥) first c.in-geometry.is (λ image h. c.in_err-image-in-geometry.ensures.only image (name_of_geometry _ image h)))
+    rw c.from_residual-in_err-image-in-geometry.ensures
+    (as_geometry (map string_bytes c.args.words.now) _ c.as_str.result.now (λ x. ⊥) first c.in-geometry.is
+    (λ image h. c.in_err-image-in-geometry.ensures.only image (name_of_geometry _ image h)))
 
 pub returns-in_err-image-in-show-clause-none : goal.returns-in_err-image-in-show-clause-none
 returns-in_err-image-in-show-clause-none c =
     let first = first_word_of c.args.words.now c.first-item.result c.as_str.result.now c.in-len1-up.len_at_least c.first-item.is c.as_str.ensures.value in
-    rw c.from_residual-in_err-image-in-show.ensures (as_show (map string_bytes c.args.words.now) _ c.as_str.result.now (λ x. ⊥) first c.in-show.is (λ image h. c.in_err-image-in-show.ensures.only image (name_of_show _ image h)))
+    rw c.from_residual-in_err-image-in-show.ensures
+    (as_show (map string_bytes c.args.words.now) _ c.as_str.result.now (λ x. ⊥) first c.in-show.is
+    (λ image h. c.in_err-image-in-show.ensures.only image (name_of_show _ image h)))
 
 pub returns-in_err-image-in-report-clause-none : goal.returns-in_err-image-in-report-clause-none
 returns-in_err-image-in-report-clause-none c =
     let first = first_word_of c.args.words.now c.first-item.result c.as_str.result.now c.in-len1-up.len_at_least c.first-item.is c.as_str.ensures.value in
-    rw c.from_residual-in_err-image-in-report.ensures (as_report (map string_bytes c.args.words.now) _ c.as_str.result.now (λ x. ⊥) first c.in-report.is (λ image h. c.in_err-image-in-report.ensures.only image (name_of_report _ image h)))
+    rw c.from_residual-in_err-image-in-report.ensures
+    (as_report (map string_bytes c.args.words.now) _ c.as_str.result.now (λ x. ⊥) first c.in-report.is
+    (λ image h. c.in_err-image-in-report.ensures.only image (name_of_report _ image h)))
 
 pub returns-in_err-image-in-geometry-clause-only : goal.returns-in_err-image-in-geometry-clause-only
 returns-in_err-image-in-geometry-clause-only c = λ line h.
     let first = first_word_of c.args.words.now c.first-item.result c.as_str.result.now c.in-len1-up.len_at_least c.first-item.is c.as_str.ensures.value in
-    absurd (as_geometry (map string_bytes c.args.words.now) _ c.as_str.result.now (λ x. ⊥) first c.in-geometry.is (λ image h. c.in_err-image-in-geometry.ensures.only image (name_of_geometry _ image h)) line h)
+    absurd (as_geometry (map string_bytes c.args.words.now) _ c.as_str.result.now (λ x. ⊥) first c.in-geometry.is
+    (λ image h. c.in_err-image-in-geometry.ensures.only image (name_of_geometry _ image h)) line h)
 
 pub returns-in_err-image-in-show-clause-only : goal.returns-in_err-image-in-show-clause-only
 returns-in_err-image-in-show-clause-only c = λ line h.
     let first = first_word_of c.args.words.now c.first-item.result c.as_str.result.now c.in-len1-up.len_at_least c.first-item.is c.as_str.ensures.value in
-    absurd (as_show (map string_bytes c.args.words.now) _ c.as_str.result.now (λ x. ⊥) first c.in-show.is (λ image h. c.in_err-image-in-show.ensures.only image (name_of_show _ image h)) line h)
+    absurd (as_show (map string_bytes c.args.words.now) _ c.as_str.result.now (λ x. ⊥) first c.in-show.is
+    (λ image h. c.in_err-image-in-show.ensures.only image (name_of_show _ image h)) line h)
 
 pub returns-in_err-image-in-report-clause-only : goal.returns-in_err-image-in-report-clause-only
 returns-in_err-image-in-report-clause-only c = λ line h.
     let first = first_word_of c.args.words.now c.first-item.result c.as_str.result.now c.in-len1-up.len_at_least c.first-item.is c.as_str.ensures.value in
-    absurd (as_report (map string_bytes c.args.words.now) _ c.as_str.result.now (λ x. ⊥) first c.in-report.is (λ image h. c.in_err-image-in-report.ensures.only image (name_of_report _ image h)) line h)
+    absurd (as_report (map string_bytes c.args.words.now) _ c.as_str.result.now (λ x. ⊥) first c.in-report.is
+    (λ image h. c.in_err-image-in-report.ensures.only image (name_of_report _ image h)) line h)
 
 pub returns-in_err-image-in-run-clause-none : goal.returns-in_err-image-in-run-clause-none
 returns-in_err-image-in-run-clause-none c =
     let first = first_word_of c.args.words.now c.first-item.result c.as_str.result.now c.in-len1-up.len_at_least c.first-item.is c.as_str.ensures.value in
-    rw c.from_residual-in_err-image-in-run.ensures (as_run (map string_bytes c.args.words.now) _ c.as_str.result.now (λ x. ⊥) first c.in-run.is (λ image script h. c.in_err-image-in-run.ensures.only image script h))
+    rw c.from_residual-in_err-image-in-run.ensures
+    (as_run (map string_bytes c.args.words.now) _ c.as_str.result.now (λ x. ⊥) first c.in-run.is
+    (λ image script h. c.in_err-image-in-run.ensures.only image script h))
 
 pub returns-in_err-image-in-run-clause-only : goal.returns-in_err-image-in-run-clause-only
 returns-in_err-image-in-run-clause-only c = λ line h.
     let first = first_word_of c.args.words.now c.first-item.result c.as_str.result.now c.in-len1-up.len_at_least c.first-item.is c.as_str.ensures.value in
-    absurd (as_run (map string_bytes c.args.words.now) _ c.as_str.result.now (λ x. ⊥) first c.in-run.is (λ image script h. c.in_err-image-in-run.ensures.only image script h) line h)
+    absurd (as_run (map string_bytes c.args.words.now) _ c.as_str.result.now (λ x. ⊥) first c.in-run.is
+    (λ image script h. c.in_err-image-in-run.ensures.only image script h) line h)
 
 pub returns-in_ok-image-in-create-clause-only : goal.returns-in_ok-image-in-create-clause-only
 returns-in_ok-image-in-create-clause-only c =
     let first = first_word_of c.args.words.now c.first-item.result c.as_str.result.now c.in-len1-up.len_at_least c.first-item.is c.as_str.ensures.value in
-    as_create (map string_bytes c.args.words.now) _ c.as_str.result.now (λ line. Some (model.Create c.in_ok-image-in-create.image.now (numbers_seen c.in_ok-image-in-create.numbers)) ≡ Some line) first c.in-create.is
-    (λ image numbers h. let same = c.in_ok-image-in-create.ensures.only image numbers h in ap (λ x. Some (model.Create x (numbers_seen c.in_ok-image-in-create.numbers))) same.0 ∙ ap (λ x. Some (model.Create image x)) same.1)
+    as_create (map string_bytes c.args.words.now) _ c.as_str.result.now
+    (λ line. Some (model.Create c.in_ok-image-in-create.image.now (numbers_seen c.in_ok-image-in-create.numbers)) ≡ Some line) first c.in-create.is
+    (λ image numbers h. let same = c.in_ok-image-in-create.ensures.only image numbers h in
+    ap (λ x. Some (model.Create x (numbers_seen c.in_ok-image-in-create.numbers))) same.0 ∙ ap (λ x. Some (model.Create image x)) same.1)
 
 pub returns-in_ok-image-in-geometry-clause-only : goal.returns-in_ok-image-in-geometry-clause-only
 returns-in_ok-image-in-geometry-clause-only c =
     let first = first_word_of c.args.words.now c.first-item.result c.as_str.result.now c.in-len1-up.len_at_least c.first-item.is c.as_str.ensures.value in
-    as_geometry (map string_bytes c.args.words.now) _ c.as_str.result.now (λ line. Some (model.Geometry c.in_ok-image-in-geometry.image.now) ≡ Some line) first c.in-geometry.is
+    as_geometry (map string_bytes c.args.words.now) _ c.as_str.result.now
+    (λ line. Some (model.Geometry c.in_ok-image-in-geometry.image.now) ≡ Some line) first c.in-geometry.is
     (λ image h. ap (λ x. Some (model.Geometry x)) (c.in_ok-image-in-geometry.ensures.only image (name_of_geometry _ image h)))
 
 pub returns-in_ok-image-in-show-clause-only : goal.returns-in_ok-image-in-show-clause-only
@@ -77,26 +94,32 @@ returns-in_ok-image-in-show-clause-only c =
 pub returns-in_ok-image-in-report-clause-only : goal.returns-in_ok-image-in-report-clause-only
 returns-in_ok-image-in-report-clause-only c =
     let first = first_word_of c.args.words.now c.first-item.result c.as_str.result.now c.in-len1-up.len_at_least c.first-item.is c.as_str.ensures.value in
-    as_report (map string_bytes c.args.words.now) _ c.as_str.result.now (λ line. Some (model.Report c.in_ok-image-in-report.image.now) ≡ Some line) first c.in-report.is
+    as_report (map string_bytes c.args.words.now) _ c.as_str.result.now
+    (λ line. Some (model.Report c.in_ok-image-in-report.image.now) ≡ Some line) first c.in-report.is
     (λ image h. ap (λ x. Some (model.Report x)) (c.in_ok-image-in-report.ensures.only image (name_of_report _ image h)))
 
 pub returns-in_ok-image-in-run-clause-only : goal.returns-in_ok-image-in-run-clause-only
 returns-in_ok-image-in-run-clause-only c =
     let first = first_word_of c.args.words.now c.first-item.result c.as_str.result.now c.in-len1-up.len_at_least c.first-item.is c.as_str.ensures.value in
-    as_run (map string_bytes c.args.words.now) _ c.as_str.result.now (λ line. Some (model.Run c.in_ok-image-in-run.image.now c.in_ok-image-in-run.script.now) ≡ Some line) first c.in-run.is
-    (λ image script h. let same = c.in_ok-image-in-run.ensures.only image script h in ap (λ x. Some (model.Run x c.in_ok-image-in-run.script.now)) same.0 ∙ ap (λ x. Some (model.Run image x)) same.1)
+    as_run (map string_bytes c.args.words.now) _ c.as_str.result.now
+    (λ line. Some (model.Run c.in_ok-image-in-run.image.now c.in_ok-image-in-run.script.now) ≡ Some line) first c.in-run.is
+    (λ image script h. let same = c.in_ok-image-in-run.ensures.only image script h in ap (λ x. Some (model.Run x c.in_ok-image-in-run.script.now)) same.0
+    ∙ ap (λ x. Some (model.Run image x)) same.1)
 
 pub returns-in_ok-image-in-geometry-clause-found : goal.returns-in_ok-image-in-geometry-clause-found
 returns-in_ok-image-in-geometry-clause-found c =
     let first = first_word_of c.args.words.now c.first-item.result c.as_str.result.now c.in-len1-up.len_at_least c.first-item.is c.as_str.ensures.value in
-    command_of (map string_bytes c.args.words.now) _ (model.Geometry c.in_ok-image-in-geometry.image.now) (rw c.in-geometry.is at first) (words_of_geometry _ c.in_ok-image-in-geometry.image.now c.in_ok-image-in-geometry.ensures.found)
+    command_of (map string_bytes c.args.words.now) _ (model.Geometry c.in_ok-image-in-geometry.image.now) (rw c.in-geometry.is at first)
+    (words_of_geometry _ c.in_ok-image-in-geometry.image.now c.in_ok-image-in-geometry.ensures.found)
 
 pub returns-in_ok-image-in-show-clause-found : goal.returns-in_ok-image-in-show-clause-found
 returns-in_ok-image-in-show-clause-found c =
     let first = first_word_of c.args.words.now c.first-item.result c.as_str.result.now c.in-len1-up.len_at_least c.first-item.is c.as_str.ensures.value in
-    command_of (map string_bytes c.args.words.now) _ (model.Show c.in_ok-image-in-show.image.now) (rw c.in-show.is at first) (words_of_show _ c.in_ok-image-in-show.image.now c.in_ok-image-in-show.ensures.found)
+    command_of (map string_bytes c.args.words.now) _ (model.Show c.in_ok-image-in-show.image.now) (rw c.in-show.is at first)
+    (words_of_show _ c.in_ok-image-in-show.image.now c.in_ok-image-in-show.ensures.found)
 
 pub returns-in_ok-image-in-report-clause-found : goal.returns-in_ok-image-in-report-clause-found
 returns-in_ok-image-in-report-clause-found c =
     let first = first_word_of c.args.words.now c.first-item.result c.as_str.result.now c.in-len1-up.len_at_least c.first-item.is c.as_str.ensures.value in
-    command_of (map string_bytes c.args.words.now) _ (model.Report c.in_ok-image-in-report.image.now) (rw c.in-report.is at first) (words_of_report _ c.in_ok-image-in-report.image.now c.in_ok-image-in-report.ensures.found)
+    command_of (map string_bytes c.args.words.now) _ (model.Report c.in_ok-image-in-report.image.now) (rw c.in-report.is at first)
+    (words_of_report _ c.in_ok-image-in-report.image.now c.in_ok-image-in-report.ensures.found)

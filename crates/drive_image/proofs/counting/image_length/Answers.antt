@@ -19,7 +19,8 @@ overflow_add-result-3 c =
     let bytes : (s.sector + 16) * c.written_blocks-blocks.result ≤ 1103806595072 = bytes_few s c.written_blocks-blocks.result accepted c.written_blocks-blocks.ensures.few in
     omega arith
 
-long_is : (s t : Shape) (count blocks many sum : ℕ) → s ≡ t → count ≡ many → blocks ≡ sum → 4128 + 32 * (count * s.chunks) + (s.sector + 16) * blocks ≡ 4128 + 32 * (many * t.chunks) + (t.sector + 16) * sum
+long_is : (s t : Shape) (count blocks many sum : ℕ) → s ≡ t → count ≡ many → blocks ≡ sum
+    → 4128 + 32 * (count * s.chunks) + (s.sector + 16) * blocks ≡ 4128 + 32 * (many * t.chunks) + (t.sector + 16) * sum
 long_is s t count blocks many sum p q r = rw (p, q, r) refl
 
 pub returns-clause-length : goal.returns-clause-length
@@ -27,5 +28,6 @@ returns-clause-length c =
     let d = c.args.drive.now in
     let whole = c.shape-shape.ensures.whole in
     let count = c.units.ensures ∙ (ap units c.shape-shape.ensures.shape ∙ sym (units_count d whole)) in
-    long_is c.shape-shape.result (shape_of d) c.units.result c.written_blocks-blocks.result (length (stored d).units) (sum_by written_in (stored d).units) c.shape-shape.ensures.shape count c.written_blocks-blocks.ensures.sum
+    long_is c.shape-shape.result (shape_of d) c.units.result c.written_blocks-blocks.result (length (stored d).units)
+    (sum_by written_in (stored d).units) c.shape-shape.ensures.shape count c.written_blocks-blocks.ensures.sum
     ∙ sym (image_long (stored d) (shape_of d).chunks (is_even d whole))

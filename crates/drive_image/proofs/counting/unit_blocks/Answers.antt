@@ -5,18 +5,19 @@ use Rattle.pblk_model.specs.ImageFile.{StoredChunk}
 use Rattle.ocssd_drive.specs.Units.{stored_chunks}
 use Rattle.drive_image.specs.Storing.{written_in}
 use Rattle.drive_image.proofs.Adding.{sum_all, sum_take}
-use Rattle.drive_image.proofs.ChunkRules.{pointer_within}
 use Rattle.drive_image.proofs.Ends.{one_more, unit_few}
 use Rattle.drive_image.proofs.Wholes.{unit_length}
 use Rattle.drive_image.proofs.counting.unit_blocks.Goals as goal
 use Rattle.drive_image.proofs.counting.unit_blocks.Goals.{After-state-state}
+use Rattle.pblk_model.proofs.ChunkLemmas.{pointer_within}
 
 -- the pointer that was found is within the chunk
 within : (c : After-state-state) → c.state-state.result.1 ≤ c.args.kept.now.unit.shape.clba
 within c =
     let found = c.kept_chunk-wear.result.0.now in
     let place = pointer_within found.chunk.state found.shape.clba (pointer found.chunk) c.state-state.ensures.fits.place in
-    subst (λ (s : Shape). c.state-state.result.1 ≤ s.clba) c.kept_chunk-wear.ensures.shape (subst (λ n. n ≤ found.shape.clba) (sym c.state-state.ensures.pointer) place)
+    subst (λ (s : Shape). c.state-state.result.1 ≤ s.clba) c.kept_chunk-wear.ensures.shape
+    (subst (λ n. n ≤ found.shape.clba) (sym c.state-state.ensures.pointer) place)
 
 pub overflow_add-blocks : goal.overflow_add-blocks
 overflow_add-blocks c =
@@ -36,7 +37,8 @@ loop-chunk-preserved c =
       counted = ap (λ m. m + c.state-state.result.1) c.loop-chunk.invariant.counted
           ∙ (ap (λ m. written_in (take n ks) + m) c.state-state.ensures.pointer
           ∙ sym (sum_take (λ (k : StoredChunk). pointer k.chunk) ks n _ c.kept_chunk-wear.ensures.kept));
-      few = one_more (n + 1) n s.clba c.loop-chunk.blocks c.state-state.result.1 (omega arith) c.loop-chunk.invariant.few (within (goal.at.loop-chunk-preserved c).After-state-state);
+      few = one_more (n + 1) n s.clba c.loop-chunk.blocks c.state-state.result.1 (omega arith) c.loop-chunk.invariant.few
+          (within (goal.at.loop-chunk-preserved c).After-state-state);
     }
 
 pub returns-clause-sum : goal.returns-clause-sum

@@ -19,7 +19,8 @@ overflow_add-blocks c =
     let more = one_more (n + 1) n (s.chunks * s.clba) c.loop-unit.blocks c.unit_blocks-blocks.result (omega arith) c.loop-unit.invariant.few one in
     let count : c.units-unit-end.result ≡ units s = c.units-unit-end.ensures ∙ ap units c.requires.shape in
     let within : n + 1 ≤ units s = omega arith in
-    let few : c.loop-unit.blocks + c.unit_blocks-blocks.result ≤ 268435456 = units_few s (n + 1) (c.loop-unit.blocks + c.unit_blocks-blocks.result) c.requires.whole.accepted within more in
+    let few : c.loop-unit.blocks + c.unit_blocks-blocks.result ≤ 268435456 = units_few s (n + 1)
+    (c.loop-unit.blocks + c.unit_blocks-blocks.result) c.requires.whole.accepted within more in
     omega arith
 
 pub loop-unit-preserved : goal.loop-unit-preserved

@@ -20,17 +20,20 @@ last : (b : List ℕ) (t : Bool) → Passes b → leb (length b) (blocks_end b) 
 last b true passes is = rw (passes.descriptors, passes.each, passes.blocks, is) refl
 last b false passes is = rw (passes.descriptors, passes.each, passes.blocks, is) refl
 
-at_descriptors : (c : After-check_reaches-2) → 4128 + 32 * (c.from.result * c.from-2.result * c.args.numbers.now.geometry.chunks) ≡ descriptors_end c.args.bytes.now
+at_descriptors : (c : After-check_reaches-2) → 4128 + 32 *
+    (c.from.result * c.from-2.result * c.args.numbers.now.geometry.chunks) ≡ descriptors_end c.args.bytes.now
 at_descriptors c = rw (c.from.ensures, c.from-2.ensures) (descriptors_end_is c.args.bytes.now (numbers_of c.args.numbers.now.geometry) c.requires.geometry)
 
 at_count : (c : After-check_reaches-2) → c.from.result * c.from-2.result * c.args.numbers.now.geometry.chunks ≡ chunks_at c.args.bytes.now
 at_count c = rw (c.from.ensures, c.from-2.ensures) (count_is c.args.bytes.now (numbers_of c.args.numbers.now.geometry) c.requires.geometry)
 
 at_blocks : (c : After-check_reaches-2)
-    → 4128 + 32 * (c.from.result * c.from-2.result * c.args.numbers.now.geometry.chunks) + (c.args.numbers.now.settings.sector + 16) * c.in_ok-blocks.blocks ≡ blocks_end c.args.bytes.now
+    → 4128 + 32 * (c.from.result * c.from-2.result * c.args.numbers.now.geometry.chunks) +
+    (c.args.numbers.now.settings.sector + 16) * c.in_ok-blocks.blocks ≡ blocks_end c.args.bytes.now
 at_blocks c =
     let sum = c.in_ok-blocks.ensures.blocks in
-    rw (c.from.ensures, c.from-2.ensures) (blocks_end_is c.args.bytes.now (numbers_of c.args.numbers.now.geometry) c.args.numbers.now.settings.sector c.in_ok-blocks.blocks c.requires.geometry c.requires.sector
+    rw (c.from.ensures, c.from-2.ensures) (blocks_end_is c.args.bytes.now
+    (numbers_of c.args.numbers.now.geometry) c.args.numbers.now.settings.sector c.in_ok-blocks.blocks c.requires.geometry c.requires.sector
     (rw (c.from.ensures, c.from-2.ensures) at sum))
 
 passes_of : (c : In_ok-check_reaches-2) → Passes c.args.bytes.now

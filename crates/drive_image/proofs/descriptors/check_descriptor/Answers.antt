@@ -1,9 +1,11 @@
 use Rattle.std.proofs.Common.{◌+◌, ◌*◌, ◌/◌, ◌%◌, ◌≤◌, ℕ, refl, sym, subst}
 use Rattle.std.specs.List.{slice_range}
 use Rattle.ocssd_geometry.specs.Numbers.{numbers_of}
-use Rattle.drive_image.proofs.ChunkRules.{descriptor_is, pointer_within}
-use Rattle.drive_image.proofs.Ends.{slice_length, unit_below, refused_by}
+use Rattle.drive_image.proofs.ChunkRules.{descriptor_is}
+use Rattle.drive_image.proofs.Ends.{unit_below, refused_by}
 use Rattle.drive_image.proofs.descriptors.check_descriptor.Goals as goal
+use Rattle.lemmas.proofs.Parts.{slice_length}
+use Rattle.pblk_model.proofs.ChunkLemmas.{pointer_within}
 
 pub broken_rule-requires-clause-unit : goal.broken_rule-requires-clause-unit
 broken_rule-requires-clause-unit c = unit_below c.args.bytes.now (numbers_of c.args.geometry.now) c.args.n c.requires.numbers c.requires.shape c.requires.index
@@ -20,5 +22,6 @@ returns-in-None-clause-within c =
     let n = c.args.n in
     let at : ℕ = 4128 + 32 * n in
     let d = slice_range c.args.bytes.now at (at + 32) in
-    let is = descriptor_is g (n / g.chunks) (n % g.chunks) d (slice_length c.args.bytes.now at (at + 32) 32 refl c.requires.reaches) (sym c.in-None.ensures.first) in
+    let is = descriptor_is g (n / g.chunks) (n % g.chunks) d (slice_length c.args.bytes.now at (at + 32) 32 refl c.requires.reaches)
+    (sym c.in-None.ensures.first) in
     subst (λ wp. wp ≤ g.clba) (sym c.u64_at.ensures) (pointer_within is.state g.clba _ is.place)

@@ -4,9 +4,10 @@ use Rattle.std.proofs.lemmas.Result.{err_from_is_err_and}
 use Rattle.pblk_model.specs.ImageFile.{chunk_refusal, pointer_at}
 use Rattle.ocssd_geometry.specs.Numbers.{numbers_of}
 use Rattle.drive_image.specs.Parts.{descriptor_refusal}
-use Rattle.drive_image.proofs.Sums.{none_more, some_first, sum_more}
+use Rattle.drive_image.proofs.Sums.{none_more, some_first}
 use Rattle.drive_image.proofs.Ends.{few_blocks, one_more}
 use Rattle.drive_image.proofs.descriptors.check_descriptors.Goals as goal
+use Rattle.lemmas.proofs.Maps.{sum_more}
 
 pub returns-in_err-blocks-clause-refused : goal.returns-in_err-blocks-clause-refused
 returns-in_err-blocks-clause-refused c =
@@ -18,7 +19,8 @@ overflow_add-blocks c =
     let clba = c.args.geometry.now.clba in
     let sum : c.loop-n.blocks + c.in_ok-blocks.field-0 ≤ c.args.count * clba =
     one_more c.args.count c.loop-n.n clba c.loop-n.blocks c.in_ok-blocks.field-0 c.loop-n-test.true c.loop-n.invariant.few c.in_ok-blocks.ensures.within in
-    let few : c.args.count * clba ≤ 268435456 = few_blocks c.args.bytes.now (numbers_of c.args.geometry.now) c.args.count c.requires.numbers c.requires.shape c.requires.count in
+    let few : c.args.count * clba ≤ 268435456 = few_blocks c.args.bytes.now
+    (numbers_of c.args.geometry.now) c.args.count c.requires.numbers c.requires.shape c.requires.count in
     omega arith
 
 pub loop-n-preserved : goal.loop-n-preserved
@@ -31,7 +33,8 @@ loop-n-preserved c =
     record {
       passed = none_more (chunk_refusal b) n c.loop-n.invariant.passed (sym c.in_ok-blocks.ensures.refused);
       counted = ap (λ m. m + c.in_ok-blocks.field-0) before ∙ (ap (λ m. sum_by (pointer_at b) (range_with_len 0 n) + m) here ∙ sym sum);
-      few = one_more (n + 1) n c.args.geometry.now.clba c.loop-n.blocks c.in_ok-blocks.field-0 (omega arith) c.loop-n.invariant.few c.in_ok-blocks.ensures.within;
+      few = one_more (n + 1) n c.args.geometry.now.clba c.loop-n.blocks c.in_ok-blocks.field-0
+          (omega arith) c.loop-n.invariant.few c.in_ok-blocks.ensures.within;
     }
 
 pub returns-clause-refused : goal.returns-clause-refused

@@ -16,7 +16,8 @@ count_is : (c : After-units) → c.units.result * c.shape-shape.result.chunks �
 count_is c = counted c.args.bytes.now c.units.result c.shape-shape.result c.units.ensures (c.shape-shape.ensures.shape ∙ ap image.shape_of c.requires.blank)
 
 pub loop-n-init : goal.loop-n-init
-loop-n-init c = begun c.args.bytes.now _ c.args.drive.now c.requires.geometry c.requires.blank c.requires.whole c.requires.quiet (ap (λ n. 4128 + 32 * n) (count_is c))
+loop-n-init c = begun c.args.bytes.now _ c.args.drive.now c.requires.geometry c.requires.blank c.requires.whole c.requires.quiet
+    (ap (λ n. 4128 + 32 * n) (count_is c))
 
 pub restore_chunk-at-requires-clause-numbers : goal.restore_chunk-at-requires-clause-numbers
 restore_chunk-at-requires-clause-numbers c = c.loop-n.invariant.numbers
@@ -25,16 +26,19 @@ pub restore_chunk-at-requires-clause-whole : goal.restore_chunk-at-requires-clau
 restore_chunk-at-requires-clause-whole c = c.loop-n.invariant.whole
 
 pub restore_chunk-at-requires-clause-index : goal.restore_chunk-at-requires-clause-index
-restore_chunk-at-requires-clause-index c = subst (λ m. c.loop-n.n < m) (count_is (goal.at.restore_chunk-at-requires-clause-index c).After-units) c.loop-n-test.true
+restore_chunk-at-requires-clause-index c = subst (λ m. c.loop-n.n < m)
+    (count_is (goal.at.restore_chunk-at-requires-clause-index c).After-units) c.loop-n-test.true
 
 pub restore_chunk-at-requires-clause-within : goal.restore_chunk-at-requires-clause-within
-restore_chunk-at-requires-clause-within c = within_image c.args.bytes.now c.loop-n.n c.loop-n.at _ (taken_of c.args.bytes.now c.requires.accepted) c.loop-n.invariant.filled (restore_chunk-at-requires-clause-index c)
+restore_chunk-at-requires-clause-within c = within_image c.args.bytes.now c.loop-n.n c.loop-n.at _
+    (taken_of c.args.bytes.now c.requires.accepted) c.loop-n.invariant.filled (restore_chunk-at-requires-clause-index c)
 
 pub overflow_add-at-in-loop-n : goal.overflow_add-at-in-loop-n
 overflow_add-at-in-loop-n c =
     let b = c.args.bytes.now in
     let inside = subst (λ m. c.loop-n.n < m) (count_is (goal.at.overflow_add-at-in-loop-n c).After-units) c.loop-n-test.true in
-    let within : c.loop-n.at + bytes_of b c.loop-n.n ≤ length b = within_image b c.loop-n.n c.loop-n.at _ (taken_of b c.requires.accepted) c.loop-n.invariant.filled inside in
+    let within : c.loop-n.at + bytes_of b c.loop-n.n ≤ length b = within_image b c.loop-n.n c.loop-n.at _
+    (taken_of b c.requires.accepted) c.loop-n.invariant.filled inside in
     let same : c.restore_chunk-at.result ≡ bytes_of b c.loop-n.n = c.restore_chunk-at.ensures.length in
     omega arith
 

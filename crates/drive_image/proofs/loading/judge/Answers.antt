@@ -15,7 +15,8 @@ returns-in_err-check_chunks-clause-refused c =
     let b = c.args.bytes.now in
     let r = c.from_residual-in_err-check_chunks in
     let p = err_from_is_err_and r.result r.ensures.1 in
-    rw (p.1, p.2) (sym (append_none (header_refusals b ++ number_refusals b) (chunk_refusals b) (sym c.in_ok-numbers.ensures.refused) ∙ sym c.in_err-check_chunks.ensures))
+    rw (p.1, p.2) (sym (append_none (header_refusals b ++ number_refusals b) (chunk_refusals b) (sym c.in_ok-numbers.ensures.refused)
+    ∙ sym c.in_err-check_chunks.ensures))
 
 pub returns-clause-refused : goal.returns-clause-refused
 returns-clause-refused c =

@@ -11,7 +11,8 @@ use Rattle.drive_image.proofs.loading.load.Goals as goal
 
 blank_same : (b : List ℕ) (g : Geometry) (sector capacity ring : ℕ) → g ≡ geometry_at b → shape_with g sector capacity ring ≡ shape_at b
     → blank_drive g sector capacity ring ≡ blank_drive (geometry_at b) (shape_at b).sector (shape_at b).capacity (shape_at b).ring
-blank_same b g sector capacity ring is same = ap (λ g. blank_drive g sector capacity ring) is ∙ ap (λ (s : Shape). blank_drive (geometry_at b) s.sector s.capacity s.ring) same
+blank_same b g sector capacity ring is same = ap (λ g. blank_drive g sector capacity ring) is
+    ∙ ap (λ (s : Shape). blank_drive (geometry_at b) s.sector s.capacity s.ring) same
 
 pub returns-in_err-geometry-clause-refused : goal.returns-in_err-geometry-clause-refused
 returns-in_err-geometry-clause-refused c =
@@ -40,7 +41,8 @@ pub fill-requires-clause-geometry : goal.fill-requires-clause-geometry
 fill-requires-clause-geometry c = ap (λ (d : DriveView). numbers_of d.geometry) c.in_ok-drive.ensures.new ∙ c.in_ok-geometry.ensures.geometry
 
 pub fill-requires-clause-blank : goal.fill-requires-clause-blank
-fill-requires-clause-blank c = c.in_ok-drive.ensures.blank ∙ blank_same c.args.bytes.now _ _ _ _ c.in_ok-geometry.ensures.geometry c.in_ok-geometry.ensures.shape
+fill-requires-clause-blank c = c.in_ok-drive.ensures.blank
+    ∙ blank_same c.args.bytes.now _ _ _ _ c.in_ok-geometry.ensures.geometry c.in_ok-geometry.ensures.shape
 
 pub returns-clause-refused : goal.returns-clause-refused
 returns-clause-refused c = λ e is. absurd (none-some e (c.in_ok-geometry.ensures.refused ∙ is))

@@ -37,4 +37,5 @@ unreachable-requires c =
     err_is_not_ok _ _ (c.in_default.ensures ∙ row.read)
 
 pub returns : goal.returns
-returns c = row_of c.args.bytes.now c.args.n _ c.in-Ok.ensures (row_is c.args.bytes.now c.args.n (taken_of c.args.bytes.now c.requires.accepted) c.requires.index)
+returns c = row_of c.args.bytes.now c.args.n _ c.in-Ok.ensures
+    (row_is c.args.bytes.now c.args.n (taken_of c.args.bytes.now c.requires.accepted) c.requires.index)

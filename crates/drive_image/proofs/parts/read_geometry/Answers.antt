@@ -15,4 +15,5 @@ pub returns-in-Ok-clause-numbers : goal.returns-in-Ok-clause-numbers
 returns-in-Ok-clause-numbers c = (read_ok _ _ (part_length c.args.bytes.now c.requires) c.in-Ok.ensures.read).1
 
 pub returns-in-Err-clause-refused : goal.returns-in-Err-clause-refused
-returns-in-Err-clause-refused c = sym (ap (option_map errors.Geometry) (read_err _ c.in-Err.refusal (part_length c.args.bytes.now c.requires) c.in-Err.ensures.read))
+returns-in-Err-clause-refused c = sym (ap (option_map errors.Geometry)
+    (read_err _ c.in-Err.refusal (part_length c.args.bytes.now c.requires) c.in-Err.ensures.read))

@@ -37,7 +37,8 @@ returns-in_err-geometry-clause-refused c =
     ∙ first_some _ _ _ (sym c.in_err-geometry.ensures.refused))))
 
 -- the shape that is judged is that of the image
-same : (c : After-settings_of) → shape_with (numbers_of c.in_ok-geometry.geometry) c.u32_at-sector.result c.u64_at-capacity.result c.u64_at-ring.result ≡ shape_at c.args.bytes.now
+same : (c : After-settings_of) → shape_with
+    (numbers_of c.in_ok-geometry.geometry) c.u32_at-sector.result c.u64_at-capacity.result c.u64_at-ring.result ≡ shape_at c.args.bytes.now
 same c = shape_same c.args.bytes.now _ _ _ _ (record {
   geometry = c.in_ok-geometry.ensures.numbers;
   sector_is = c.u32_at-sector.ensures;
@@ -50,7 +51,8 @@ returns-in_err-settings-clause-refused c =
     let r = c.from_residual-in_err-settings in
     let p = err_from_is_err_and r.result r.ensures.1 in
     let b = c.args.bytes.now in
-    let is = c.in_err-settings.ensures.refused ∙ ap (λ s. option_map errors.Settings (first_failing (settings_checks s))) (same (goal.at.returns-in_err-settings-clause-refused c).After-settings_of) in
+    let is = c.in_err-settings.ensures.refused ∙ ap (λ s. option_map errors.Settings (first_failing (settings_checks s)))
+    (same (goal.at.returns-in_err-settings-clause-refused c).After-settings_of) in
     rw (p.1, p.2) (sym (append_none (header_refusals b) (number_refusals b) (sym c.in_ok-check_header.ensures.refused)
     ∙ (first_none (short_of b 4128) _ (sym c.in_ok-check_reaches.ensures.refused)
     ∙ (first_none _ _ (sym c.in_ok-geometry.ensures.refused)
@@ -59,7 +61,8 @@ returns-in_err-settings-clause-refused c =
 pub returns-clause-refused : goal.returns-clause-refused
 returns-clause-refused c =
     let b = c.args.bytes.now in
-    let is = c.in_ok-settings.ensures.refused ∙ ap (λ s. option_map errors.Settings (first_failing (settings_checks s))) (same (goal.at.returns-clause-refused c).After-settings_of) in
+    let is = c.in_ok-settings.ensures.refused ∙ ap (λ s. option_map errors.Settings (first_failing (settings_checks s)))
+    (same (goal.at.returns-clause-refused c).After-settings_of) in
     sym (append_none (header_refusals b) (number_refusals b) (sym c.in_ok-check_header.ensures.refused)
     ∙ (first_none (short_of b 4128) _ (sym c.in_ok-check_reaches.ensures.refused)
     ∙ (first_none _ _ (sym c.in_ok-geometry.ensures.refused)

@@ -18,7 +18,8 @@ returns-clause-ring c = accepted_ring (numbers_of c.args.geometry.now) c.args.se
     (record { fits = c.ring_of.ensures.fits; large = c.ring_of.ensures.large }) c.in_ok-check_settings.ensures.accepted
 
 pub returns-clause-accepted : goal.returns-clause-accepted
-returns-clause-accepted c = subst (λ r. IsAccepted (shape_with (numbers_of c.args.geometry.now) c.args.sector c.args.capacity r)) (returns-clause-ring c) c.in_ok-check_settings.ensures.accepted
+returns-clause-accepted c = subst (λ r. IsAccepted (shape_with (numbers_of c.args.geometry.now) c.args.sector c.args.capacity r))
+    (returns-clause-ring c) c.in_ok-check_settings.ensures.accepted
 
 pub returns-in_err-check_settings-clause-refused : goal.returns-in_err-check_settings-clause-refused
 returns-in_err-check_settings-clause-refused c =

@@ -14,8 +14,11 @@ there c = slice_get-map stored_chunks c.args.drive.now.units c.loop-unit.unit âˆ
 
 pub put_unit_blocks-requires-clause-room : goal.put_unit_blocks-requires-clause-room
 put_unit_blocks-requires-clause-room c =
-    room_left (flat_map chunk_bytes) (stored c.args.drive.now).units c.loop-unit.unit _ c.args.out.now c.loop-unit.out c.requires.room c.loop-unit.invariant (there (goal.at.put_unit_blocks-requires-clause-room c).After-unit)
+    room_left (flat_map chunk_bytes) (stored c.args.drive.now).units c.loop-unit.unit _ c.args.out.now c.loop-unit.out c.requires.room c.loop-unit.invariant
+    (there (goal.at.put_unit_blocks-requires-clause-room c).After-unit)
 
 pub loop-unit-preserved : goal.loop-unit-preserved
 loop-unit-preserved c =
-    one_added (flat_map chunk_bytes) (stored c.args.drive.now).units c.loop-unit.unit _ c.args.out.now c.loop-unit.out c.put_unit_blocks.new.out c.loop-unit.invariant (there (goal.at.loop-unit-preserved c).After-unit) c.put_unit_blocks.ensures
+    one_added (flat_map chunk_bytes)
+    (stored c.args.drive.now).units c.loop-unit.unit _ c.args.out.now c.loop-unit.out c.put_unit_blocks.new.out c.loop-unit.invariant
+    (there (goal.at.loop-unit-preserved c).After-unit) c.put_unit_blocks.ensures

@@ -8,4 +8,5 @@ put_block-requires c = room_left block_bytes c.args.chunk.now.chunk.blocks c.loo
 
 pub loop-block-preserved : goal.loop-block-preserved
 loop-block-preserved c =
-    one_added block_bytes c.args.chunk.now.chunk.blocks c.loop-block.block _ c.args.out.now c.loop-block.out c.put_block.new.out c.loop-block.invariant (sym c.in-Some.ensures.block) c.put_block.ensures
+    one_added block_bytes c.args.chunk.now.chunk.blocks c.loop-block.block _ c.args.out.now c.loop-block.out c.put_block.new.out c.loop-block.invariant
+    (sym c.in-Some.ensures.block) c.put_block.ensures

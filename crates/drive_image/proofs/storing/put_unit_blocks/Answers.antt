@@ -6,7 +6,8 @@ use Rattle.drive_image.proofs.Wholes.{unit_length}
 use Rattle.drive_image.proofs.storing.put_unit_blocks.Goals as goal
 
 pub put_chunk-requires : goal.put_chunk-requires
-put_chunk-requires c = room_left chunk_bytes (stored_chunks c.args.kept.now) c.loop-chunk.chunk _ c.args.out.now c.loop-chunk.out c.requires.room c.loop-chunk.invariant c.kept_chunk-wear.ensures.kept
+put_chunk-requires c = room_left chunk_bytes
+    (stored_chunks c.args.kept.now) c.loop-chunk.chunk _ c.args.out.now c.loop-chunk.out c.requires.room c.loop-chunk.invariant c.kept_chunk-wear.ensures.kept
 
 pub loop-chunk-preserved : goal.loop-chunk-preserved
 loop-chunk-preserved c =

@@ -7,4 +7,5 @@ use Rattle.drive_image.proofs.Adding.{FirstAdded}
 use Rattle.drive_image.proofs.storing.put_unit_descriptors.Given as goal
 
 abbrev pub invariant-loop-chunk : goal.invariant-loop-chunk
-invariant-loop-chunk l = FirstAdded (λ (k : ℕ × StoredChunk). descriptor_bytes (numbers_of l.geometry) l.unit k.0 k.1) (enumerate_from 0 (stored_chunks l.kept)) l.chunk l.fn.out l.out
+invariant-loop-chunk l = FirstAdded (λ (k : ℕ × StoredChunk). descriptor_bytes (numbers_of l.geometry) l.unit k.0 k.1)
+    (enumerate_from 0 (stored_chunks l.kept)) l.chunk l.fn.out l.out

@@ -1,7 +1,8 @@
 use Rattle.std.proofs.Common.{◌≡◌, ◌+◌, ◌-◌, ◌*◌, ◌++◌, [], ◌∷◌, length, take, sym, ap, ◌∙◌, length-append, arith}
 use Rattle.std.proofs.lemmas.List.{take-append-drop, length-take-le}
-use Rattle.ocssd_chunks.proofs.Spelling.{spelling_goes_on, next-mul, room_for_next, room_for_more}
+use Rattle.ocssd_chunks.proofs.Spelling.{spelling_goes_on, room_for_next, room_for_more}
 use Rattle.ocssd_chunks.proofs.blocks.append_spelled.Goals as goal
+use Rattle.lemmas.proofs.Numbers.{next_at}
 
 pub overflow_add-size : goal.overflow_add-size
 overflow_add-size c =
@@ -32,8 +33,8 @@ loop-block-preserved c =
     let added_marks : length c.append_marks.new.list.items ≡ length l.marks.items + 1 = ap length c.append_marks.ensures.items ∙ length-append l.marks.items (c.mark_at.result ∷ []) in
     record {
       so_far = spelling_goes_on size l._block c.args.spelled.now rest c.split_at.result.0.now c.split_at.result.1.now _ _ _ _ _ _ c.mark_at.result l.invariant.so_far split c.split_at.ensures.front_len c.mark_at.ensures.lba c.mark_at.ensures.position c.append_bytes.ensures.items c.append_marks.ensures.items;
-      left = omega (arith, l.invariant.left, ap (λ n. n * (size + 16)) more, next-mul k (size + 16), c.split_at.ensures.back_len);
-      room_for_bytes = omega (arith, l.invariant.room_for_bytes, ap (λ n. n * size) more, next-mul k size, added_bytes, l.bytes.ok.0, c.append_bytes.new.list.ok.0, c.append_bytes.ensures.room);
+      left = omega (arith, l.invariant.left, ap (λ n. n * (size + 16)) more, next_at k (size + 16), c.split_at.ensures.back_len);
+      room_for_bytes = omega (arith, l.invariant.room_for_bytes, ap (λ n. n * size) more, next_at k size, added_bytes, l.bytes.ok.0, c.append_bytes.new.list.ok.0, c.append_bytes.ensures.room);
       room_for_marks = omega (arith, l.invariant.room_for_marks, more, added_marks, l.marks.ok.0, c.append_marks.new.list.ok.0, c.append_marks.ensures.room);
       kept_bytes = omega (arith, l.invariant.kept_bytes, c.append_bytes.ensures.room);
       kept_marks = omega (arith, l.invariant.kept_marks, c.append_marks.ensures.room);

@@ -2,8 +2,9 @@ use Rattle.std.proofs.Common.{◌≡◌, ◌*◌, ◌<◌, ◌≤◌, length, No
 use Rattle.pblk_model.specs.declared.shape.Shape.{Shape}
 use Rattle.pblk_model.specs.Blocks.{blocks_of}
 use Rattle.pblk_model.specs.ChunkStep.{Write, refusal}
-use Rattle.ocssd_drive.proofs.UnitWrites.{length-blocks_of, write_of, fewer_land, most_land, fails, stops}
+use Rattle.ocssd_drive.proofs.UnitWrites.{write_of, fewer_land, most_land, fails, stops}
 use Rattle.ocssd_drive.proofs.memory_unit.write_chunk.Goals as goal
+use Rattle.pblk_model.proofs.BlocksLemmas.{length-blocks_of}
 
 pub multiples_of-requires : goal.multiples_of-requires
 multiples_of-requires c = write_of c.args.shape.now c.args.chunk.now.chunk c.args.at c.args.bytes.now c.args.marks.now (rw c.in-Fails.is at c.requires.taken)

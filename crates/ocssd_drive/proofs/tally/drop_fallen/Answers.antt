@@ -1,8 +1,9 @@
 use Rattle.std.proofs.Common.{◌≡◌, ◌≤◌, ◌-◌, vec_len, arith}
 use Rattle.ocssd_drive.specs.declared.tally.Fall.{Fall}
-use Rattle.ocssd_drive.proofs.FallingOrder.{IsLast, last_from_read, all_at, all_after, before_later, IsFalling-take, cut_of-front}
+use Rattle.ocssd_drive.proofs.FallingOrder.{IsLast, last_from_read, all_after, before_later, IsFalling-take, cut_of-front}
 use Rattle.ocssd_drive.proofs.tally.drop_fallen.Goals as goal
 use Rattle.ocssd_drive.proofs.tally.drop_fallen.Goals.{In-Some}
+use Rattle.lemmas.proofs.Parts.{all_get}
 
 -- the fault that was read is the vector's last
 last : (c : In-Some) → IsLast c.args.falls.now.items (vec_len c.args.falls.now - 1) c.in-Some.fall.now
@@ -25,5 +26,5 @@ pub returns-else-from-count-clause-ahead : goal.returns-else-from-count-clause-a
 returns-else-from-count-clause-ahead c all =
     let fall = c.in-Some.fall.now in
     let is_last = last (goal.at.returns-else-from-count-clause-ahead c).In-Some in
-    let at_least : c.args.count ≤ fall.nth = all_at (λ (f : Fall). c.args.count ≤ f.nth) _ _ fall all is_last.at in
+    let at_least : c.args.count ≤ fall.nth = all_get (λ (f : Fall). c.args.count ≤ f.nth) _ _ fall all is_last.at in
     all_after _ _ c.args.count fall c.requires is_last (omega arith)

@@ -12,8 +12,10 @@ overflow_add-bits c = omega (arith, c.loop-power.invariant, few c.args.count c.l
 pub loop-power-preserved : goal.loop-power-preserved
 loop-power-preserved c = let s = shifted c.loop-power.power c.loop-power-test.true in
     elim c.if-power-from.branch [
-      | then-power-from w ↦ w.bits-is ∙ ap (λ b. b + 1) c.loop-power.invariant ∙ sym (one_more c.args.count c.loop-power.power (omega (arith, s, w.if-power-from.true, c.from.ensures)))
-      | else-power-from w ↦ w.bits-is ∙ c.loop-power.invariant ∙ sym (none_more c.args.count c.loop-power.power (omega (arith, s, w.if-power-from.false, c.from.ensures)))
+      | then-power-from w ↦ w.bits-is ∙ ap (λ b. b + 1) c.loop-power.invariant
+          ∙ sym (one_more c.args.count c.loop-power.power (omega (arith, s, w.if-power-from.true, c.from.ensures)))
+      | else-power-from w ↦ w.bits-is ∙ c.loop-power.invariant
+          ∙ sym (none_more c.args.count c.loop-power.power (omega (arith, s, w.if-power-from.false, c.from.ensures)))
     ]
 
 pub returns : goal.returns

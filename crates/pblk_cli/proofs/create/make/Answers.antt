@@ -15,12 +15,15 @@ use Rattle.pblk_cli.proofs.create.make.Goals as goal
 pub returns-in_err-drive-clause-refused : goal.returns-in_err-drive-clause-refused
 returns-in_err-drive-clause-refused c = let n = numbers_seen c.args.numbers.now in
     let e = c.in_err-drive.field-0.0 in
-    let said = of_error (blank_refusal (numbers_of c.geometry_of-geometry.result) n.sector n.capacity n.ring) c.blank.result e c.in_err-drive.was c.blank.ensures.refused c.blank.ensures.taken in
-    error_holds (MakesNothing n) e c.from_residual.result c.from_residual.ensures.1 (makes_nothing n e (subst (λ g. (e ≡ errors.Memory) ⊎ (blank_refusal g n.sector n.capacity n.ring ≡ Some e)) c.geometry_of-geometry.ensures said))
+    let said = of_error (blank_refusal
+    (numbers_of c.geometry_of-geometry.result) n.sector n.capacity n.ring) c.blank.result e c.in_err-drive.was c.blank.ensures.refused c.blank.ensures.taken in
+    error_holds (MakesNothing n) e c.from_residual.result c.from_residual.ensures.1
+    (makes_nothing n e (subst (λ g. ((e ≡ errors.Memory) × (blank_refusal g n.sector n.capacity n.ring ≡ None)) ⊎ (blank_refusal g n.sector n.capacity n.ring ≡ Some e)) c.geometry_of-geometry.ensures said))
 
 pub returns-in-Ok-clause-accepted : goal.returns-in-Ok-clause-accepted
 returns-in-Ok-clause-accepted c = let n = numbers_seen c.args.numbers.now in
-    subst (λ g. blank_refusal g n.sector n.capacity n.ring ≡ None) c.geometry_of-geometry.ensures (of_value (blank_refusal (numbers_of c.geometry_of-geometry.result) n.sector n.capacity n.ring) c.blank.result c.in_ok-drive.drive c.in_ok-drive.was c.blank.ensures.refused)
+    subst (λ g. blank_refusal g n.sector n.capacity n.ring ≡ None) c.geometry_of-geometry.ensures
+    (of_value (blank_refusal (numbers_of c.geometry_of-geometry.result) n.sector n.capacity n.ring) c.blank.result c.in_ok-drive.drive c.in_ok-drive.was c.blank.ensures.refused)
 
 pub returns-in-Ok-clause-made : goal.returns-in-Ok-clause-made
 returns-in-Ok-clause-made c = let n = numbers_seen c.args.numbers.now in
@@ -32,3 +35,10 @@ pub returns-in-Ok-clause-sealed : goal.returns-in-Ok-clause-sealed
 returns-in-Ok-clause-sealed c = let n = numbers_seen c.args.numbers.now in
     let is = blank_drive_is_sealed (numbers_of c.geometry_of-geometry.result) n.sector n.capacity n.ring c.in_ok-drive.drive c.in_ok-drive.ensures.blank c.in_ok-drive.ensures.whole c.blank_is_sealed.ensures in
     subst (λ g. IsSealed (image_of (blank_drive g n.sector n.capacity n.ring))) c.geometry_of-geometry.ensures is
+
+-- there was no memory for the bytes of a drive that was made
+pub returns-clause-refused : goal.returns-clause-refused
+returns-clause-refused c = let n = numbers_seen c.args.numbers.now in
+    subst (λ g. blank_refusal g n.sector n.capacity n.ring ≡ None) c.geometry_of-geometry.ensures
+    (of_value (blank_refusal (numbers_of c.geometry_of-geometry.result) n.sector n.capacity n.ring) c.blank.result c.in_ok-drive.drive c.in_ok-drive.was
+    c.blank.ensures.refused)

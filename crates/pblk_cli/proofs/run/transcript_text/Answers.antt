@@ -6,4 +6,5 @@ use Rattle.pblk_cli.proofs.run.transcript_text.Goals as goal
 
 pub returns : goal.returns
 returns c =
-    IfOk-weaker c.transcript.result _ _ (λ text h. h ∙ ap (λ e. text_of (transcript_of c.args.script.now c.args.ran.now.records e)) c.in_ok-held.ensures.end) c.transcript.ensures
+    IfOk-weaker c.transcript.result _ _ (λ text h. h
+    ∙ ap (λ e. text_of (transcript_of c.args.script.now c.args.ran.now.records e)) c.in_ok-held.ensures.end) c.transcript.ensures

@@ -13,7 +13,8 @@ returns g c =
           (subst (λ r. Settles r c.close-units.ensures.closed.0) w.in-Ok.is c.close-units.ensures.closed.5).0 c.close-units.ensures.closed.6
           _ refl (ap (records_with c.args.records) w.closing-is)
       | in-Err-Worn w ↦
-          let e : c.close-units.result.1 ≡ Err (settle.Worn w.in-Err-Worn.wanted w.in-Err-Worn.have) = w.in-Err-Worn.is ∙ ap (λ x. Err x) (rw w.in-Err-Worn.is at w.in-Err-Worn.field-0-is) in
+          let e : c.close-units.result.1 ≡ Err (settle.Worn w.in-Err-Worn.wanted w.in-Err-Worn.have) = w.in-Err-Worn.is
+          ∙ ap (λ x. Err x) (rw w.in-Err-Worn.is at w.in-Err-Worn.field-0-is) in
           let s = subst (λ r. Settles r c.close-units.ensures.closed.0) e c.close-units.ensures.closed.5 in
           closed_worn c.args.target c.args.records c.close-units.result.0 w.in-Err-Worn.wanted w.in-Err-Worn.have c.close-units.ensures.closed.0
           (c.close-units.ensures.closed.1, c.close-units.ensures.closed.2, c.close-units.ensures.closed.3, c.close-units.ensures.closed.4) c.close-units.ensures.alone

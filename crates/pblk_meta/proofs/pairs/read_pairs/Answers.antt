@@ -1,7 +1,7 @@
 use Rattle.std.proofs.Common.{arith, length-drop}
 use Rattle.pblk_model.specs.EndRecord.{pairs_in}
-use Rattle.pblk_meta.proofs.Loops.{pairs_go_on, pairs_are_read}
 use Rattle.pblk_meta.proofs.pairs.read_pairs.Goals as goal
+use Rattle.pblk_model.proofs.EndRecordLemmas.{pairs_are_read, pairs_go_on}
 
 pub loop-preserved : goal.loop-preserved
 loop-preserved c = record {

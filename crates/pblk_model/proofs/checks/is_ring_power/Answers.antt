@@ -1,6 +1,6 @@
 use Rattle.std.proofs.Common.{sym, ◌∙◌}
-use Rattle.pblk_model.proofs.Powers.{ring_power_is, power_is_ring}
 use Rattle.pblk_model.proofs.checks.is_ring_power.Goals as goal
+use Rattle.pblk_model.proofs.AcceptedLemmas.{power_is_ring, ring_power_is}
 
 pub returns-clause-power : goal.returns-clause-power
 returns-clause-power c =

@@ -1,7 +1,7 @@
 use Rattle.std.proofs.Common.{arith}
-use Rattle.pblk_reference.proofs.Ends.{pairs_go_on, pairs_are_read}
 use Rattle.pblk_model.specs.EndRecord.{pairs_in}
 use Rattle.pblk_reference.proofs.end_record.pairs_in.Goals as goal
+use Rattle.pblk_model.proofs.EndRecordLemmas.{pairs_are_read, pairs_go_on}
 
 pub loop-preserved : goal.loop-preserved
 loop-preserved c = record {

@@ -1,7 +1,7 @@
 use Rattle.std.proofs.Common.{length, sym, ◌∙◌, arith}
 use Rattle.pblk_model.specs.Contents.{is_borne, least_missing}
-use Rattle.pblk_reference.proofs.Newest.{missing_stops, missing_goes_on, missing_is}
 use Rattle.pblk_reference.proofs.recovery.least_missing.Goals as goal
+use Rattle.pblk_model.proofs.ContentsLemmas.{missing_goes_on, missing_is, missing_stops}
 
 pub loop-preserved : goal.loop-preserved
 loop-preserved c =

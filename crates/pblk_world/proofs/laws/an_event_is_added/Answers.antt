@@ -1,5 +1,6 @@
-use Rattle.pblk_world.proofs.Appending.{takes_more, answers_more, named_more, life_more, openings_more, placements_more}
+use Rattle.pblk_world.proofs.Appending.{named_more, life_more, openings_more, placements_more}
 use Rattle.pblk_world.proofs.laws.an_event_is_added.Goals as goal
+use Rattle.pblk_world.proofs.EngineLogLemmas.{answers_more, takes_more}
 
 pub returns : goal.returns
 returns c = record {

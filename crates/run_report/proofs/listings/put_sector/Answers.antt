@@ -7,7 +7,8 @@ use Rattle.run_report.proofs.listings.put_sector.Goals as goal
 pub returns-in-Tag-eq0 : goal.returns-in-Tag-eq0
 returns-in-Tag-eq0 c =
     let out = string_bytes c.args.out.now in
-    sym (ap (λ line. out ++ line) (line_of_zeros c.args.lba c.in-Tag-eq0.field-0 c.args.sector.now c.requires c.in-Tag-eq0.ensures c.in-Tag-eq0.field-0-test) ∙ append-nil out)
+    sym (ap (λ line. out ++ line) (line_of_zeros c.args.lba c.in-Tag-eq0.field-0 c.args.sector.now c.requires c.in-Tag-eq0.ensures c.in-Tag-eq0.field-0-test)
+    ∙ append-nil out)
 
 pub returns-in-Tag : goal.returns-in-Tag
 returns-in-Tag c =

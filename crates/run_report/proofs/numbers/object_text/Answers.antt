@@ -10,4 +10,5 @@ returns c =
     let drive = stored c.args.drive.now in
     let contents = c.args.contents.now in
     let is = c.in_ok-object.ensures in
-    IfOk-weaker c.to_string.result _ _ (λ text written. written (ap has_float is ∙ has_no_float drive contents) ∙ ap compact_text is ∙ text_of_data drive contents) c.to_string.ensures.text
+    IfOk-weaker c.to_string.result _ _ (λ text written. written (ap has_float is ∙ has_no_float drive contents) ∙ ap compact_text is
+    ∙ text_of_data drive contents) c.to_string.ensures.text

@@ -8,6 +8,7 @@ use Rattle.run_script.proofs.said.is_name.Goals as goal
 
 pub returns-then-word-le16 : goal.returns-then-word-le16
 returns-then-word-le16 c =
-    let all : c.all.result ≡ list_all is_name_byte c.args.word.now = all_from_yields_List is_name_byte _ _ _ c.all.ensures.ran (YieldsList-from_slice c.args.word.now cc) (λ x b q k. search (rules, tests)) in
+    let all : c.all.result ≡ list_all is_name_byte c.args.word.now = all_from_yields_List is_name_byte _ _ _ c.all.ensures.ran
+    (YieldsList-from_slice c.args.word.now cc) (λ x b q k. search (rules, tests)) in
     let small = c.if-word-le16.true in
     grind (arith, nat_tests)

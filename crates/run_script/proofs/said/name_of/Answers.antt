@@ -6,7 +6,4 @@ pub returns-in_default : goal.returns-in_default
 returns-in_default c = let fault = c.in_default.ensures.cases in absurd (fault.0 (name_utf8 c.args.word.now (sym c.is_name.ensures ∙ c.if-not-is_name.false)))
 
 pub returns : goal.returns
-returns c =
-    let text = c.in-Ok.ensures.cases in
-    let copied = c.in_ok-from_str.ensures in
-    ap Some (c.new.ensures ∙ copied.ok ∙ text.0) ∙ sym (name_some c.args.word.now (sym c.is_name.ensures ∙ c.if-not-is_name.false))
+returns c = ap Some c.in-Ok.ensures.cases.0 ∙ sym (name_some c.args.word.now (sym c.is_name.ensures ∙ c.if-not-is_name.false))

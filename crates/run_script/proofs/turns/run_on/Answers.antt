@@ -24,6 +24,7 @@ returns-clause-rest c =
       | in_default w ↦
           let ended = w.in_default.ensures in
           subst (λ posted. RunsOn c.args.posted.now posted c.args.thread.now c.loop-numbered.left.now) (sym w.posted-is)
-          (run_on-ends c.args.posted.now c.loop-numbered.posted c.args.thread.now c.loop-numbered.left.now c.loop-numbered.invariant (no_items c.loop-numbered.left.now ended.cases))
+          (run_on-ends c.args.posted.now c.loop-numbered.posted c.args.thread.now c.loop-numbered.left.now c.loop-numbered.invariant
+          (no_items c.loop-numbered.left.now ended.cases))
     ] in
     runs

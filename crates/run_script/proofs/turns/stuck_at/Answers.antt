@@ -14,7 +14,8 @@ returns-then-not-moved c =
     let same = ap (map (λ x. x.now)) c.as_slice.ensures.value in
     let takes = subst (λ left. TakesTurn c.loop-left.posted c.turn.new.posted left (map (λ x. x.now) c.in_ok-rest.rest.items)) same took.rest in
     c.least_standing.ensures ∙ ap (λ left. least_standing (map (λ x. x.now) left)) c.as_slice-then-not-moved.ensures.value
-    ∙ turns-end c.loop-left.posted c.turn.new.posted c.args.threads.now (map (λ x. x.now) c.loop-left.left.items) (map (λ x. x.now) c.in_ok-rest.rest.items) c.loop-left.invariant takes (took.stands c.if-not-moved.true ∙ ap (λ left. map length left) same)
+    ∙ turns-end c.loop-left.posted c.turn.new.posted c.args.threads.now (map (λ x. x.now) c.loop-left.left.items)
+    (map (λ x. x.now) c.in_ok-rest.rest.items) c.loop-left.invariant takes (took.stands c.if-not-moved.true ∙ ap (λ left. map length left) same)
 
 pub loop-left-preserved : goal.loop-left-preserved
 loop-left-preserved c =
@@ -22,4 +23,5 @@ loop-left-preserved c =
     let same = ap (map (λ x. x.now)) c.as_slice.ensures.value in
     let takes = subst (λ left. TakesTurn c.loop-left.posted c.turn.new.posted left (map (λ x. x.now) c.in_ok-rest.rest.items)) same took.rest in
     let fewer = subst (λ left. sum_by length (map (λ x. x.now) c.in_ok-rest.rest.items) < sum_by length left) same (took.moves c.if-not-moved.false) in
-    turns-next_turn c.loop-left.posted c.turn.new.posted c.args.threads.now (map (λ x. x.now) c.loop-left.left.items) (map (λ x. x.now) c.in_ok-rest.rest.items) c.loop-left.invariant takes fewer
+    turns-next_turn c.loop-left.posted c.turn.new.posted c.args.threads.now (map (λ x. x.now) c.loop-left.left.items)
+    (map (λ x. x.now) c.in_ok-rest.rest.items) c.loop-left.invariant takes fewer

@@ -6,4 +6,5 @@ use Rattle.run_script.specs.Turns.{lifted}
 use Rattle.run_script.proofs.turns.unposted.Given as goal
 
 abbrev pub invariant-loop-thread : goal.invariant-loop-thread
-invariant-loop-thread l = (all : List Said) → ArePosted l.names all → unposted all (flat_map lifted l.threads) ≡ unposted all (flat_map lifted (drop l.thread-index l.threads))
+invariant-loop-thread l = (all : List Said) → ArePosted l.names all
+    → unposted all (flat_map lifted l.threads) ≡ unposted all (flat_map lifted (drop l.thread-index l.threads))

@@ -1,21 +1,41 @@
-use Rattle.std.proofs.lemmas.Result.{IfOk-weaker}
-use Rattle.run_threads.proofs.Laws.{each_weaker, run_faults, run_flushed, run_learns, run_own, run_target, run_worns}
+use Rattle.std.proofs.Common.{◌<◌, length, ap, ◌∙◌}
+use Rattle.run_threads.specs.Run.{WasRun}
+use Rattle.run_threads.proofs.Laws.{was_run}
+use Rattle.run_threads.proofs.Whole.{fits_whole, its_port, no_threads, one_run, one_thread, order_whole}
 use Rattle.run_threads.proofs.runner.run.Goals as goal
 
-pub returns-clause-own : goal.returns-clause-own
-returns-clause-own g c = IfOk-weaker c.run_script.result _ _ (λ ran h. each_weaker _ _ (run_own h.0) _ _ _ _ h.1) c.run_script.ensures.answers
+pub returns-in-empty-clause-run : goal.returns-in-empty-clause-run
+returns-in-empty-clause-run g c =
+    let few : length c.args.script.now < 1 = rw c.as_slice.ensures at c.in-empty.len_below in
+    let none = ap (λ records. records.threads) c.records.ensures ∙ c.new-threads.ensures ∙ c.new.ensures.items in
+    record {
+      told = λ name. 0;
+      threads = no_threads g.P.Port.model (WasRun (λ name. 0)) c.args.script.now c.records.result.threads c.args.ports.items few c.requires.ports none;
+      opening = ap (λ records. records.opening) c.records.ensures;
+      closing = ap (λ records. records.closing) c.records.ensures;
+    }
 
-pub returns-clause-faults : goal.returns-clause-faults
-returns-clause-faults g c = IfOk-weaker c.run_script.result _ _ (λ ran h. each_weaker _ _ (run_faults h.0) _ _ _ _ h.1) c.run_script.ensures.answers
+pub run_alone-threads-requires-clause-fits : goal.run_alone-threads-requires-clause-fits
+run_alone-threads-requires-clause-fits g c =
+    let alone = one_thread c.args.script.now c.as_slice.result.now c.thread-item.result c.as_slice-thread.result.now c.as_slice.ensures c.in-len1.len_at_least c.in-len1.len_below c.thread-item.is c.as_slice-thread.ensures in
+    fits_whole g.P.Port.model c.args.script.now c.as_slice-thread.result.now c.args.ports.items c.index_mut.result.now alone
+    (its_port c.args.script.now c.as_slice-thread.result.now c.args.ports.items c.index_mut.result.now alone c.requires.ports c.index_mut.ensures.value) c.requires.accepted
 
-pub returns-clause-worns : goal.returns-clause-worns
-returns-clause-worns g c = IfOk-weaker c.run_script.result _ _ (λ ran h. each_weaker _ _ (run_worns h.0) _ _ _ _ h.1) c.run_script.ensures.answers
+pub run_alone-threads-requires-clause-order : goal.run_alone-threads-requires-clause-order
+run_alone-threads-requires-clause-order g c =
+    let alone = one_thread c.args.script.now c.as_slice.result.now c.thread-item.result c.as_slice-thread.result.now c.as_slice.ensures c.in-len1.len_at_least c.in-len1.len_below c.thread-item.is c.as_slice-thread.ensures in
+    order_whole c.args.script.now c.as_slice-thread.result.now _ alone c.requires.accepted
 
-pub returns-clause-flushed : goal.returns-clause-flushed
-returns-clause-flushed g c = IfOk-weaker c.run_script.result _ _ (λ ran h. each_weaker _ _ (run_flushed h.0) _ _ _ _ h.1) c.run_script.ensures.answers
-
-pub returns-clause-learns : goal.returns-clause-learns
-returns-clause-learns g c = IfOk-weaker c.run_script.result _ _ (λ ran h. each_weaker _ _ (run_learns h.0) _ _ _ _ h.1) c.run_script.ensures.answers
-
-pub returns-clause-target : goal.returns-clause-target
-returns-clause-target g c = IfOk-weaker c.run_script.result _ _ (λ ran h. each_weaker _ _ (run_target h.0) _ _ _ _ h.1) c.run_script.ensures.answers
+pub returns-in-Ok-clause-run : goal.returns-in-Ok-clause-run
+returns-in-Ok-clause-run g c =
+    let alone = one_thread c.args.script.now c.as_slice.result.now c.thread-item.result c.as_slice-thread.result.now c.as_slice.ensures c.in-len1.len_at_least c.in-len1.len_below c.thread-item.is c.as_slice-thread.ensures in
+    let port = its_port c.args.script.now c.as_slice-thread.result.now c.args.ports.items c.index_mut.result.now alone c.requires.ports c.index_mut.ensures.value in
+    let ran = c.run_alone-threads.ensures in
+    record {
+      told = ran.0;
+      threads =
+          one_run g.P.Port.model (WasRun ran.0) c.args.script.now c.as_slice-thread.result.now c.records-in-Ok.result.threads ran.1 c.args.ports.items c.index_mut.result.now c.run_alone-threads.new.port
+          alone port (ap (λ records. records.threads) c.records-in-Ok.ensures ∙ ran.2) (was_run ran.0 c.as_slice-thread.result.now ran.1 _ _ ran.3);
+      opening = ap (λ records. records.opening) c.records-in-Ok.ensures;
+      closing = ap (λ records. records.closing) c.records-in-Ok.ensures;
+    }

@@ -1,23 +1,16 @@
-use Rattle.std.proofs.Common.{◌≡◌, ◌∙◌, true, false, Bool, not, sym, ap, refl}
-use Rattle.run_threads.proofs.Tags.{compare_step, differs, same_first}
-use Rattle.std.proofs.lemmas.Bool.{false≢true}
+use Rattle.std.proofs.Common.{◌-◌, length, take, sym, ap, ◌∙◌}
 use Rattle.std.specs.Str.{bytes_eq}
+use Rattle.run_threads.proofs.Tags.{repeats_first, repeats_not}
 use Rattle.run_threads.proofs.sectors.repeats.Goals as goal
 
-not_true : (b : Bool) → true ≡ not b → b ≡ false
-not_true true h = absurd (false≢true (sym h))
-not_true false h = refl
+pub returns-then-eq : goal.returns-then-eq
+returns-then-eq c =
+    let xs = c.args.bytes.now in
+    repeats_first xs c.args.piece.now c.requires.piece c.requires.some c.requires.whole c.eq-then-eq.result
+    (ap (λ ys. bytes_eq ys c.args.piece.now) (sym c.split_at.ensures.front) ∙ sym c.eq.ensures ∙ c.if-eq.true)
+    (c.eq-then-eq.ensures ∙ ap (λ ys. bytes_eq ys (take (length xs - 8) xs)) c.split_at.ensures.back)
 
-not_false : (b : Bool) → false ≡ not b → b ≡ true
-not_false true h = refl
-not_false false h = absurd (false≢true h)
-
-pub returns-then-ne : goal.returns-then-ne
-returns-then-ne c =
-    let step = compare_step c.args.pieces c.loop.counter c.args.piece.now c.loop.rest.now c.loop-test.true c.requires.piece c.loop.invariant.0 in
-    differs _ _ _ (c.loop.invariant.1 ∙ step.0) (ap (λ x. bytes_eq x c.args.piece.now) (sym c.split_at.ensures.front) ∙ not_true _ c.if-ne.ensures)
-
-pub loop-preserved : goal.loop-preserved
-loop-preserved c =
-    let step = compare_step c.args.pieces c.loop.counter c.args.piece.now c.loop.rest.now c.loop-test.true c.requires.piece c.loop.invariant.0 in
-    (rw c.split_at.ensures.back step.1, same_first _ _ _ (rw c.split_at.ensures.back (c.loop.invariant.1 ∙ step.0)) (ap (λ x. bytes_eq x c.args.piece.now) (sym c.split_at.ensures.front) ∙ not_false _ c.if-ne.ensures))
+pub returns-else-eq : goal.returns-else-eq
+returns-else-eq c =
+    repeats_not c.args.bytes.now c.args.piece.now c.requires.piece c.requires.some c.requires.whole c.eq.result
+    (ap (λ ys. bytes_eq ys c.args.piece.now) (sym c.split_at.ensures.front) ∙ sym c.eq.ensures ∙ c.if-eq.false) c.if-eq.false

@@ -1,7 +1,8 @@
 use Rattle.std.proofs.Common.{◌+◌, ◌<◌, take, drop, length, ap, ◌∙◌, arith}
 use Rattle.std.proofs.lemmas.List.{take_all, drop-set-lt, length-set}
-use Rattle.run_threads.proofs.Running.{starts, steps, may_run, told_by, agreed_by, drop_at, take_at, as_many_rooms}
+use Rattle.run_threads.proofs.Running.{starts, steps, may_run, told_by, agreed_by, take_at, as_many_rooms}
 use Rattle.run_threads.proofs.thread.run_thread.Goals as goal
+use Rattle.lemmas.proofs.Parts.{next_item}
 
 pub loop-index-init : goal.loop-index-init
 loop-index-init g c =
@@ -13,8 +14,9 @@ run_command-answer-requires-clause-board g c =
     let l = c.loop-index in
     let now = c.args.commands.now in
     let command = c.index-commands-index.result in
-    may_run (g.P.Port.model c.args.port.now) (g.P.Port.model l.port) (take l.index now) command (drop (l.index + 1) now) l.answers.items (drop l.index l.rooms) l.board
-    (rw (drop_at now l.index command c.loop-index-test.true c.index-commands-index.is) at l.invariant.0)
+    may_run (g.P.Port.model c.args.port.now) (g.P.Port.model l.port) (take l.index now) command (drop (l.index + 1) now) l.answers.items
+    (drop l.index l.rooms) l.board
+    (rw (next_item now l.index command c.loop-index-test.true c.index-commands-index.is) at l.invariant.0)
 
 pub loop-index-preserved : goal.loop-index-preserved
 loop-index-preserved g c =
@@ -25,11 +27,17 @@ loop-index-preserved g c =
     let told = told_by ran.new.board in
     let as_many = l.invariant.4 in
     let below : l.index < length l.rooms = omega (arith, as_many, c.loop-index-test.true) in
-    let running = rw (drop_at now l.index command c.loop-index-test.true c.index-commands-index.is, drop_at l.rooms l.index c.index-rooms-index.result below c.index-rooms-index.is) at l.invariant.0 in
+    let running = rw (next_item now l.index command c.loop-index-test.true c.index-commands-index.is, next_item l.rooms l.index c.index-rooms-index.result below c.index-rooms-index.is) at l.invariant.0 in
     let same = (ran.ensures.answer told (agreed_by ran.new.board)).target.capacity in
-    let stepped = steps (g.P.Port.model c.args.port.now) (g.P.Port.model l.port) (g.P.Port.model ran.new.port) (take l.index now) command (drop (l.index + 1) now) l.answers.items ran.result c.index-rooms-index.result (drop (l.index + 1) l.rooms) l.board ran.new.board
+    let stepped = steps (g.P.Port.model c.args.port.now) (g.P.Port.model l.port) (g.P.Port.model ran.new.port) (take l.index now) command
+    (drop (l.index + 1) now) l.answers.items ran.result c.index-rooms-index.result (drop (l.index + 1) l.rooms) l.board ran.new.board
     running ran.ensures.answer ran.ensures.agreed ran.ensures.posted ran.ensures.names same in (
-      rw (take_at now l.index command c.loop-index-test.true c.index-commands-index.is, c.append.ensures.items, drop-set-lt (l.index + 1) l.rooms l.index c.replace-words.new.dest (omega arith)) stepped,
+      rw (
+        take_at now l.index command c.loop-index-test.true c.index-commands-index.is,
+        c.append.ensures.items,
+        drop-set-lt
+            (l.index + 1) l.rooms l.index c.replace-words.new.dest (omega arith),
+      ) stepped,
       ran.ensures.bytes,
       omega (arith, c.append.ensures.len, l.invariant.2),
       omega (arith, c.append.ensures.room, l.invariant.3),

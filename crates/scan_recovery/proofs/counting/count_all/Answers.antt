@@ -4,10 +4,10 @@ use Rattle.std.specs.Option.{option_map}
 use Rattle.pblk_model.specs.Contents.{counts}
 use Rattle.pblk_meta.specs.Records.{row_numbers, start_numbers}
 use Rattle.scan_recovery.specs.Traces.{bares, row_of}
-use Rattle.scan_recovery.proofs.Tables.{take_all}
 use Rattle.scan_recovery.proofs.Tallies.{counted_yes, counted_no, row_there, line_there}
 use Rattle.scan_recovery.proofs.counting.count_all.Goals as goal
 use Rattle.scan_recovery.proofs.counting.count_all.Goals.{then-counts, else-counts}
+use Rattle.lemmas.proofs.Parts.{take_all}
 
 pub loop-t-preserved : goal.loop-t-preserved
 loop-t-preserved c =

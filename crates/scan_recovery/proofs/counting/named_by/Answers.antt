@@ -6,10 +6,10 @@ use Rattle.pblk_meta.specs.Records.{row_numbers, start_numbers}
 use Rattle.scan_recovery.specs.Tally.{named_count}
 use Rattle.scan_recovery.specs.Traces.{bare, bares, row_of}
 use Rattle.scan_recovery.proofs.Held.{named_both}
-use Rattle.scan_recovery.proofs.Tables.{take_all}
 use Rattle.scan_recovery.proofs.Tallies.{counted_yes, counted_no, row_there, line_there}
 use Rattle.scan_recovery.proofs.counting.named_by.Goals as goal
 use Rattle.scan_recovery.proofs.counting.named_by.Goals.{then-counts, else-counts}
+use Rattle.lemmas.proofs.Parts.{take_all}
 
 pub loop-t-preserved : goal.loop-t-preserved
 loop-t-preserved c =

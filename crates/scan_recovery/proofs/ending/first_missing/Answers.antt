@@ -1,6 +1,7 @@
 use Rattle.std.proofs.Common.{◌+◌, true, false, length, ap, ◌∙◌, arith}
-use Rattle.scan_recovery.proofs.Tables.{missing_stops, missing_goes_on, missing_is, flag_at}
+use Rattle.scan_recovery.proofs.Tables.{flag_at}
 use Rattle.scan_recovery.proofs.ending.first_missing.Goals as goal
+use Rattle.pblk_model.proofs.ContentsLemmas.{missing_goes_on, missing_is, missing_stops}
 
 pub returns-then-not-seen : goal.returns-then-not-seen
 returns-then-not-seen c = λ f table.

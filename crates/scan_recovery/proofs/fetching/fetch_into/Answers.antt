@@ -1,8 +1,8 @@
 use Rattle.std.proofs.Common.{◌<◌, Ok, map, length, sym, ap, ◌∙◌, arith}
-use Rattle.vector_io.specs.Status.{is_lost}
+use Rattle.unit_port.specs.Did.{is_lost}
 use Rattle.pblk_model.specs.declared.shape.Shape.{Shape}
 use Rattle.scan_recovery.proofs.FetchSteps.{fetch_taken, good_fetch, lost_fetch, told_lost, told_sector}
-use Rattle.vector_io.proofs.Units.{model_there}
+use Rattle.unit_port.proofs.Units.{model_there}
 use Rattle.scan_recovery.proofs.fetching.fetch_into.Goals as goal
 
 pub fetch_at-requires-clause-sector : goal.fetch_at-requires-clause-sector

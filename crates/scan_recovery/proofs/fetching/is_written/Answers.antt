@@ -1,6 +1,6 @@
 use Rattle.std.proofs.Common.{map, Some, sym, ap, ◌∙◌, arith}
 use Rattle.std.proofs.lemmas.Bool.{ltb-true, ltb-false}
-use Rattle.vector_io.proofs.Units.{model_there}
+use Rattle.unit_port.proofs.Units.{model_there}
 use Rattle.scan_recovery.specs.Units.{image_of}
 use Rattle.scan_recovery.proofs.PadLoops.{chunk_here}
 use Rattle.scan_recovery.proofs.PadSteps.{chunk_of}

@@ -1,7 +1,7 @@
 use Rattle.std.proofs.Common.{◌≡◌, map, Some, None, sym, ap, ◌∙◌}
 use Rattle.std.specs.List.{slice_get}
 use Rattle.std.specs.Option.{option_and_then}
-use Rattle.vector_io.proofs.Units.{model_there}
+use Rattle.unit_port.proofs.Units.{model_there}
 use Rattle.pblk_model.specs.Chunk.{Chunk}
 use Rattle.ocssd_drive.specs.Units.{WornUnit}
 use Rattle.scan_recovery.proofs.PadLoops.{chunk_here}

@@ -1,5 +1,5 @@
 use Rattle.std.proofs.Common.{map, Some, sym, ap, ◌∙◌}
-use Rattle.vector_io.proofs.Units.{model_there}
+use Rattle.unit_port.proofs.Units.{model_there}
 use Rattle.scan_recovery.proofs.PadLoops.{chunk_here, open_here, not_open_here}
 use Rattle.scan_recovery.proofs.padding.open_at.Goals as goal
 

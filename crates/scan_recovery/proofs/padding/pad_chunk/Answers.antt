@@ -1,6 +1,6 @@
 use Rattle.std.proofs.Common.{map, Ok, Err, refl, ◌∙◌}
 use Rattle.std.proofs.lemmas.Result.{err_from_is_err_and}
-use Rattle.vector_io.proofs.Units.{kept_more}
+use Rattle.unit_port.proofs.Units.{kept_more}
 use Rattle.scan_recovery.proofs.PadLoops.{fit_kept, run_joined, next_unit}
 use Rattle.scan_recovery.specs.Units.{image_of}
 use Rattle.scan_recovery.proofs.padding.pad_chunk.Goals as goal

@@ -2,7 +2,7 @@ use Rattle.std.proofs.Common.{◌≤◌, map, length, Ok, Err, arith, ◌∙◌}
 use Rattle.std.proofs.lemmas.List.{length-map}
 use Rattle.std.proofs.lemmas.Result.{err_from_is_err_and}
 use Rattle.unit_port.specs.Unit.{ModelUnit}
-use Rattle.vector_io.proofs.Units.{kept_more}
+use Rattle.unit_port.proofs.Units.{kept_more}
 use Rattle.scan_recovery.proofs.PadLoops.{fit_kept, run_joined, next_line}
 use Rattle.scan_recovery.specs.Units.{image_of}
 use Rattle.scan_recovery.proofs.padding.pad_line.Goals as goal

@@ -1,6 +1,6 @@
 use Rattle.std.proofs.Common.{◌≡◌, map, Ok, Err, subst, arith, ◌∙◌}
 use Rattle.std.proofs.lemmas.Result.{err_from_is_err_and}
-use Rattle.vector_io.proofs.Units.{kept_more}
+use Rattle.unit_port.proofs.Units.{kept_more}
 use Rattle.scan_recovery.proofs.PadLoops.{fit_kept, run_joined}
 use Rattle.scan_recovery.specs.Pads.{NoneOpenBefore}
 use Rattle.scan_recovery.specs.Units.{image_of}

@@ -1,5 +1,5 @@
 use Rattle.std.proofs.Common.{◌≡◌, map, Ok}
-use Rattle.vector_io.specs.Commands.{AreKept}
+use Rattle.unit_port.specs.Commands.{AreKept}
 use Rattle.scan_recovery.specs.Units.{image_of}
 use Rattle.scan_recovery.specs.Pads.{NoneOpenBefore}
 use Rattle.scan_recovery.proofs.PadLoops.{HasRun}

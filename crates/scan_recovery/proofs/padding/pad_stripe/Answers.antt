@@ -1,5 +1,5 @@
 use Rattle.std.proofs.Common.{◌<◌, ◌+◌, ◌-◌, ◌*◌, ◌/◌, map, length, Err, refl, ap, ◌∙◌, arith}
-use Rattle.vector_io.proofs.Units.{model_there}
+use Rattle.unit_port.proofs.Units.{model_there}
 use Rattle.pblk_model.specs.declared.shape.Shape.{Shape}
 use Rattle.scan_recovery.proofs.PadSteps.{open_below, pads_taken, pads_are, stripe_short}
 use Rattle.scan_recovery.proofs.PadLoops.{done_stripe, failed_stripe, stopped_stripe}

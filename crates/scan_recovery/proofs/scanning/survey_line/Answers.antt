@@ -9,31 +9,31 @@ use Rattle.scan_recovery.proofs.Surveys.{blocks_length}
 use Rattle.scan_recovery.proofs.scanning.survey_line.Goals as goal
 
 pub overflow_cast-width : goal.overflow_cast-width
-overflow_cast-width g c = let short = line_short c.args.shape.now (map g.U.Unit.model c.args.units.now) c.args.line c.in-Ok.online.items c.requires.accepted c.requires.fit c.in-Ok.ensures in let few = short.0 in omega (arith, c.in-Ok.online.ok.0, c.len-width.ensures)
+overflow_cast-width g c = let short = line_short c.args.shape.now (map g.U.Unit.model c.args.units.now) c.args.line c.in_ok-online.online.items c.requires.accepted c.requires.fit c.in_ok-online.ensures in let few = short.0 in omega (arith, c.in_ok-online.online.ok.0, c.len-width.ensures)
 
 pub add-requires-clause-width : goal.add-requires-clause-width
 add-requires-clause-width g c =
-    let few = line_few c.args.shape.now (map g.U.Unit.model c.args.units.now) c.args.line c.in-Ok.online.items c.requires.fit c.in-Ok.ensures in
-    subst (λ x. c.len-width.result ≤ units x) (sym c.new-layout.ensures) (omega (arith, few, c.len-width.ensures, c.in-Ok.online.ok.0))
+    let few = line_few c.args.shape.now (map g.U.Unit.model c.args.units.now) c.args.line c.in_ok-online.online.items c.requires.fit c.in_ok-online.ensures in
+    subst (λ x. c.len-width.result ≤ units x) (sym c.new-layout.ensures) (omega (arith, few, c.len-width.ensures, c.in_ok-online.online.ok.0))
 
 pub add-requires-clause-few : goal.add-requires-clause-few
 add-requires-clause-few g c =
     let us = map g.U.Unit.model c.args.units.now in
     let i = image_of c.args.shape.now us in
-    let short = line_short c.args.shape.now us c.args.line c.in-Ok.online.items c.requires.accepted c.requires.fit c.in-Ok.ensures in
-    let count : length c.in-Ok.online.items ≡ width i c.args.line = ap length c.in-Ok.ensures ∙ line_units_count i c.args.line in
-    let long : length c.deref-3.result.now ≡ width i c.args.line * c.args.shape.now.clba = ap length (c.deref-3.ensures.value ∙ c.in-Ok-as_blocks.ensures ∙ c.deref-2.ensures.value ∙ c.in_ok-fetched.ensures.blocks) ∙ blocks_length i c.args.line in
+    let short = line_short c.args.shape.now us c.args.line c.in_ok-online.online.items c.requires.accepted c.requires.fit c.in_ok-online.ensures in
+    let count : length c.in_ok-online.online.items ≡ width i c.args.line = ap length c.in_ok-online.ensures ∙ line_units_count i c.args.line in
+    let long : length c.deref-2.result.now ≡ width i c.args.line * c.args.shape.now.clba = ap length (c.deref-2.ensures.value ∙ c.in_ok-blocks.ensures ∙ c.in_ok-fetch_line.ensures.blocks) ∙ blocks_length i c.args.line in
     let all : width i c.args.line * c.args.shape.now.clba ≤ 65536 = subst (λ n. n * c.args.shape.now.clba ≤ 65536) count short.1 in
     omega arith
 
-pub returns-in-Ok-add-clause-survey : goal.returns-in-Ok-add-clause-survey
-returns-in-Ok-add-clause-survey g c =
+pub returns-clause-survey : goal.returns-clause-survey
+returns-clause-survey g c =
     let us = map g.U.Unit.model c.args.units.now in
     let i = image_of c.args.shape.now us in
-    let count : length c.in-Ok.online.items ≡ width i c.args.line = ap length c.in-Ok.ensures ∙ line_units_count i c.args.line in
-    let wide : c.len-width.result ≡ width i c.args.line = omega (arith, c.len-width.ensures, c.in-Ok.online.ok.0, count) in
-    c.in-Ok-add.ensures i (sym c.new-layout.ensures) (fit_image c.args.shape.now us c.requires.fit) (record {
-      blocks_are = c.deref-3.ensures.value ∙ c.in-Ok-as_blocks.ensures ∙ c.deref-2.ensures.value ∙ c.in_ok-fetched.ensures.blocks;
+    let count : length c.in_ok-online.online.items ≡ width i c.args.line = ap length c.in_ok-online.ensures ∙ line_units_count i c.args.line in
+    let wide : c.len-width.result ≡ width i c.args.line = omega (arith, c.len-width.ensures, c.in_ok-online.online.ok.0, count) in
+    c.in_ok-add.ensures i (sym c.new-layout.ensures) (fit_image c.args.shape.now us c.requires.fit) (record {
+      blocks_are = c.deref-2.ensures.value ∙ c.in_ok-blocks.ensures ∙ c.in_ok-fetch_line.ensures.blocks;
       width_is = wide;
       used_is = c.is_used-used.ensures;
     }) c.requires.survey

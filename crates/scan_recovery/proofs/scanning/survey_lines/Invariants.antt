@@ -1,5 +1,5 @@
 use Rattle.std.proofs.Common.{◌≡◌, map, None}
-use Rattle.vector_io.specs.Commands.{AreKept}
+use Rattle.unit_port.specs.Commands.{AreKept}
 use Rattle.scan_recovery.specs.Survey.{IsSurvey}
 use Rattle.scan_recovery.specs.Units.{image_of}
 use Rattle.scan_recovery.proofs.FetchSteps.{Fetched}
@@ -9,6 +9,7 @@ abbrev pub invariant-loop-line : goal.invariant-loop-line
 invariant-loop-line g l = record {
   ran : Fetched l.shape (map g.U.Unit.model l.fn.units) (map g.U.Unit.model l.units) None;
   survey : IsSurvey (image_of l.shape (map g.U.Unit.model l.fn.units)) l.line l.survey;
+  size : l.buffer.size ≡ l.shape.sector;
   kept : AreKept (map g.U.Unit.model l.fn.units) (map g.U.Unit.model l.units);
   wear : map g.U.Unit.wear l.units ≡ map g.U.Unit.wear l.fn.units;
 }

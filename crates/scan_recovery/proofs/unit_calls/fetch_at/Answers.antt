@@ -1,6 +1,6 @@
 use Rattle.pblk_model.specs.ChunkStep.{Read}
-use Rattle.vector_io.specs.Did.{command_at}
-use Rattle.vector_io.proofs.Units.{at_unit, block_quiet, did_step, kept_step, taken_within}
+use Rattle.unit_port.specs.Did.{command_at}
+use Rattle.unit_port.proofs.Units.{at_unit, block_quiet, did_step, kept_step, taken_within}
 use Rattle.scan_recovery.proofs.Wears.{wear_same}
 use Rattle.scan_recovery.proofs.unit_calls.fetch_at.Goals as goal
 

@@ -1,8 +1,8 @@
 use Rattle.std.proofs.Common.{refl}
 use Rattle.pblk_model.specs.Blocks.{blocks_of}
 use Rattle.pblk_model.specs.ChunkStep.{Write}
-use Rattle.vector_io.specs.Did.{command_at}
-use Rattle.vector_io.proofs.Units.{at_unit, did_step, kept_step, taken_within, sized_step, told_quiet}
+use Rattle.unit_port.specs.Did.{command_at}
+use Rattle.unit_port.proofs.Units.{at_unit, did_step, kept_step, taken_within, sized_step, told_quiet}
 use Rattle.scan_recovery.proofs.Wears.{wear_same}
 use Rattle.scan_recovery.proofs.unit_calls.program_at.Goals as goal
 

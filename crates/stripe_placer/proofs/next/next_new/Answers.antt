@@ -5,8 +5,9 @@ use Rattle.std.specs.Option.{option_map}
 use Rattle.stripe_placer.specs.OpenLines.{OpenLine}
 use Rattle.stripe_placer.specs.Placing.{Program, program, is_ready, next_in}
 use Rattle.stripe_placer.specs.Inside.{unit_row, first_given}
-use Rattle.stripe_placer.proofs.Rows.{one_fails, one_passes, drop_at, get_is}
+use Rattle.stripe_placer.proofs.Rows.{one_fails, one_passes, get_is}
 use Rattle.stripe_placer.proofs.next.next_new.Goals as goal
+use Rattle.lemmas.proofs.Parts.{drop_at}
 
 pub ready_in-requires : goal.ready_in-requires
 ready_in-requires c = record {

@@ -7,8 +7,9 @@ use Rattle.stripe_placer.specs.Placing.{Program, program, UnitRow, stopped_in, i
 use Rattle.stripe_placer.specs.Placing.UnitRow.{Stopped}
 use Rattle.stripe_placer.specs.Inside.{unit_row, first_given}
 use Rattle.stripe_placer.specs.declared.unit_state.UnitState.TheVariants as state
-use Rattle.stripe_placer.proofs.Rows.{stopped_skip, stopped_hit, stopped_ready, row_at, drop_at}
+use Rattle.stripe_placer.proofs.Rows.{stopped_skip, stopped_hit, stopped_ready, row_at}
 use Rattle.stripe_placer.proofs.unit_state.stopped_stripe.Goals as goal
+use Rattle.lemmas.proofs.Parts.{drop_at}
 
 pub stopped_at-requires : goal.stopped_at-requires
 stopped_at-requires c = λ of e.

@@ -5,13 +5,13 @@ use Rattle.std.proofs.lemmas.Option.{none-some, same_Some}
 use Rattle.pblk_model.specs.declared.shape.Shape.{Shape}
 use Rattle.pblk_model.specs.Shape.{units}
 use Rattle.pblk_model.specs.Chunk.{IsChunk, free_chunk}
-use Rattle.pblk_laws.proofs.ChunkStep.{free_is_chunk}
-use Rattle.pblk_laws.proofs.Lists.{all_replicate}
 use Rattle.unit_port.specs.Unit.{ModelUnit}
 use Rattle.ocssd_drive.specs.Units.{WornUnit, new_unit}
 use Rattle.scan_recovery.specs.Units.{AreFit, IsUnitOf}
-use Rattle.opening_steps.specs.Opened.{AreUnarmed}
+use Rattle.unit_port.specs.Commands.{AreUnarmed}
 use Rattle.target_tests.proofs.harness.new_units.Goals as goal
+use Rattle.lemmas.proofs.Lists.{all_replicated}
+use Rattle.pblk_model.proofs.ChunkLemmas.{free_is_chunk}
 
 -- each unit of as many that are the same
 each_new : (s : Shape) (n k : ℕ) (u : ModelUnit) → slice_get (map (λ (v : WornUnit). v.unit) (replicate n (new_unit s))) k ≡ Some u → u ≡ (new_unit s).unit
@@ -26,7 +26,7 @@ count_new s (suc n) = ap suc (count_new s n)
 is_fit : (s : Shape) → IsUnitOf s (new_unit s).unit
 is_fit s = record {
   shape = refl;
-  fits = record { count = length-replicate s.chunks free_chunk; chunks = all_replicate (IsChunk s) s.chunks free_chunk (free_is_chunk s) };
+  fits = record { count = length-replicate s.chunks free_chunk; chunks = all_replicated (IsChunk s) s.chunks free_chunk (free_is_chunk s) };
 }
 
 are_fit : (s : Shape) (us : List WornUnit) → us ≡ replicate (units s) (new_unit s) → AreFit s (map (λ (v : WornUnit). v.unit) us)

@@ -1,5 +1,5 @@
 use Rattle.pblk_model.specs.ChunkStep.{Read}
-use Rattle.vector_io.proofs.Units.{at_unit, block_quiet, did_step, kept_step}
+use Rattle.unit_port.proofs.Units.{at_unit, block_quiet, did_step, kept_step}
 use Rattle.vector_io.proofs.unit_calls.fetch_at.Goals as goal
 
 pub returns-clause-did : goal.returns-clause-did

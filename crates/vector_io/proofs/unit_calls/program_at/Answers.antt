@@ -1,7 +1,7 @@
 use Rattle.std.proofs.Common.{refl, ◌∙◌}
 use Rattle.pblk_model.specs.Blocks.{blocks_of}
 use Rattle.pblk_model.specs.ChunkStep.{Write}
-use Rattle.vector_io.proofs.Units.{at_unit, did_step, kept_step, sized_step, told_lost, told_not_empty, told_quiet}
+use Rattle.unit_port.proofs.Units.{at_unit, did_step, kept_step, sized_step, told_lost, told_not_empty, told_quiet}
 use Rattle.vector_io.proofs.unit_calls.program_at.Goals as goal
 
 pub returns-clause-did : goal.returns-clause-did

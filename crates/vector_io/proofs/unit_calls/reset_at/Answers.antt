@@ -1,6 +1,6 @@
 use Rattle.std.proofs.Common.{◌∙◌}
 use Rattle.pblk_model.specs.ChunkStep.{Reset}
-use Rattle.vector_io.proofs.Units.{at_unit, did_step, kept_step, told_lost, told_not_empty, told_quiet}
+use Rattle.unit_port.proofs.Units.{at_unit, did_step, kept_step, told_lost, told_not_empty, told_quiet}
 use Rattle.vector_io.proofs.unit_calls.reset_at.Goals as goal
 
 pub returns-clause-did : goal.returns-clause-did

@@ -1,9 +1,10 @@
 use Rattle.std.proofs.Common.{◌*◌, ◌-◌, map, ◌∙◌, arith}
 use Rattle.pblk_model.specs.Blocks.{blocks_of}
 use Rattle.ocssd_geometry.specs.Numbers.{numbers_of}
-use Rattle.vector_io.proofs.RunLengths.{length-blocks_of, part_blocks}
+use Rattle.vector_io.proofs.RunLengths.{part_blocks}
 use Rattle.vector_io.proofs.WriteSteps.{none_written, next_taken, write_more, all_written, sizes_kept, part_whole, times_apart}
 use Rattle.vector_io.proofs.writes.write_all.Goals as goal
+use Rattle.pblk_model.proofs.BlocksLemmas.{length-blocks_of}
 
 pub loop-at-init : goal.loop-at-init
 loop-at-init g c = none_written (numbers_of c.args.geometry.now) c.args.addresses.now (blocks_of c.args.size c.args.bytes.now c.args.marks.now) (map g.U.Unit.model c.args.units.now) c.requires.taken

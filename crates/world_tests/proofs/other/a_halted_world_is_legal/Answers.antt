@@ -9,4 +9,5 @@ use Rattle.world_tests.proofs.other.a_halted_world_is_legal.Goals as goal
 pub returns : goal.returns
 returns c =
     let accepted : IsAccepted small = subst IsAccepted c.small-shape.ensures.numbers c.small-shape.ensures.accepted in
-    halted_legal (metas_written (c.spelling_fills_its_blocks.ensures.size small 0 2 start accepted refl) (c.spelling_fills_its_blocks.ensures.bytes small start))
+    halted_legal (metas_written (c.spelling_fills_its_blocks.ensures.size small 0 2 start accepted refl)
+    (c.spelling_fills_its_blocks.ensures.bytes small start))

@@ -1,5 +1,5 @@
-use Rattle.block_target.specs.Mount.{IsSameMount}
+use Rattle.block_target.proofs.SameMounts.{IsWorked}
 use Rattle.block_target.proofs.mount.Mount.claim.Given as goal
 
 abbrev pub invariant-loop : goal.invariant-loop
-invariant-loop g l = IsSameMount l.fn.self l.self
+invariant-loop g l = IsWorked l.fn.self l.self l.fn.self.pad

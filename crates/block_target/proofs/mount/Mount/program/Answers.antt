@@ -17,9 +17,9 @@ use Rattle.pblk_core.specs.Stands.{Stands}
 use Rattle.pblk_core.proofs.WorkOf.{work_is}
 use Rattle.scan_recovery.specs.Units.{image_of}
 use Rattle.block_target.specs.Deeds.{Deed, Does, Lands, world_of, drive_before, drive_found}
-use Rattle.block_target.specs.Mount.{MountView, IsMount, IsSameMount, IsUnitIn, work_in, world_in, logs_in}
+use Rattle.block_target.specs.Mount.{MountView, IsMount, IsSameMount, IsUnitIn, work_in, world_in, logs_in, engine_log}
 use Rattle.block_target.proofs.PumpedProgram.{landed_deeds}
-use Rattle.block_target.proofs.PumpedMount.{mount_programmed, same_programmed}
+use Rattle.block_target.proofs.PumpedMount.{mount_programmed, same_programmed, more_programmed}
 use Rattle.block_target.proofs.PumpedCall.{unit_there, unit_within, takes_program, placed_standing, end_legal, end_stands, end_sound}
 use Rattle.block_target.proofs.KeptWear.{wear_kept, at_same, unit_inside_all}
 use Rattle.block_target.proofs.mount.Mount.program.Goals as goal
@@ -92,8 +92,8 @@ free_frames-requires g c =
     let own : view.AreOf c.self.inside.pool.region c.place.new.self.window.entries → view.AreOf c.self.inside.pool.region c.landed.new.self.window.entries = c.landed.ensures.own c.self.inside.pool.region in
     own (subst (λ (w : view.WindowView). view.AreOf c.self.inside.pool.region w.entries) (sym window) m.own)
 
-pub grant-requires : goal.grant-requires
-grant-requires g c =
+pub grant-requires-clause-standing : goal.grant-requires-clause-standing
+grant-requires-clause-standing g c =
     let m = c.self.invariant in
     let v : MountView = record { image = image_of c.self.inside.shape (drive_before c.self.inside.drives); found = image_of c.self.inside.shape (drive_found c.self.inside.drives); deeds = c.self.inside.deeds; units = map g.U.Unit.model c.self.inside.units.items; wear = map g.U.Unit.wear c.self.inside.units.items; granted = c.self.inside.granted; pad = pad_of c.self.inside.core } in
     let may : MayPlace v.image (logs_in v) c.place.new.into.stripe = c.place.ensures.legal v.image (world_in v) m.sound.legal m.stands in
@@ -131,7 +131,7 @@ invariant_of-self g c =
     let drained : c.free_frames.new.core.window.freed ≡ freed v.image.shape (log_of (world_of v.image.shape (landed_deeds v.image v.deeds c.place.new.into.stripe)) 0) =
     c.free_frames.ensures.drained v.image (world_of v.image.shape (landed_deeds v.image v.deeds c.place.new.into.stripe)) legal stood in
     let granted : c.max-self-inside.result ≡ max v.granted (room v.image (log_of (world_of v.image.shape (landed_deeds v.image v.deeds c.place.new.into.stripe)))) =
-    c.max-self-inside.ensures ∙ ap (max v.granted) (c.grant.ensures v.image (world_of v.image.shape (landed_deeds v.image v.deeds c.place.new.into.stripe)) legal stands drained) in
+    c.max-self-inside.ensures ∙ ap (max v.granted) (c.grant.ensures v.image (world_of v.image.shape (landed_deeds v.image v.deeds c.place.new.into.stripe)) legal stands) in
     let was_out : count_out c.self.inside.pool.left ≡ length c.self.inside.core.window.entries = m.out in
     let kept_out : length c.place.new.self.window.entries ≡ length c.self.inside.core.window.entries = ap (λ (w : view.WindowView). length w.entries) window in
     let moved_out : count_out c.self.inside.pool.left + length c.free_frames.new.core.window.entries ≡ count_out c.free_frames.new.pool.left + length c.landed.new.self.window.entries = c.free_frames.ensures.out in
@@ -141,8 +141,8 @@ invariant_of-self g c =
     (mount_programmed v c.self.inside.core c.self.inside.pool c.self.inside.stripe m c.place.new.into.stripe may c.free_frames.new.core c.free_frames.new.pool c.place.new.into (map g.U.Unit.model (slice_set c.self.inside.units.items c.unit-unit.result c.program.new.self)) (map g.U.Unit.wear (slice_set c.self.inside.units.items c.unit-unit.result c.program.new.self)) c.max-self-inside.result
     sound stands drained c.free_frames.ensures.own out c.free_frames.ensures.region shapes granted)
 
-pub returns : goal.returns
-returns g c =
+pub returns-clause-same : goal.returns-clause-same
+returns-clause-same g c =
     let m = c.self.invariant in
     let v : MountView = record { image = image_of c.self.inside.shape (drive_before c.self.inside.drives); found = image_of c.self.inside.shape (drive_found c.self.inside.drives); deeds = c.self.inside.deeds; units = map g.U.Unit.model c.self.inside.units.items; wear = map g.U.Unit.wear c.self.inside.units.items; granted = c.self.inside.granted; pad = pad_of c.self.inside.core } in
     let may : MayPlace v.image (logs_in v) c.place.new.into.stripe = c.place.ensures.legal v.image (world_in v) m.sound.legal m.stands in
@@ -157,3 +157,17 @@ returns g c =
     (subst (λ (ds : List Deed). IsSameMount v (record { image = v.image; found = v.found; deeds = ds; units = map g.U.Unit.model (slice_set c.self.inside.units.items c.unit-unit.result c.program.new.self); wear = map g.U.Unit.wear (slice_set c.self.inside.units.items c.unit-unit.result c.program.new.self); granted = c.max-self-inside.result; pad = pad_of c.free_frames.new.core })) (sym deeds)
     (same_programmed v c.self.inside.core c.self.inside.pool c.self.inside.stripe m c.place.new.into.stripe may (map g.U.Unit.model (slice_set c.self.inside.units.items c.unit-unit.result c.program.new.self)) (map g.U.Unit.wear (slice_set c.self.inside.units.items c.unit-unit.result c.program.new.self)) c.max-self-inside.result (pad_of c.free_frames.new.core)
     (wear_kept g.U.Unit.wear c.self.inside.units.items c.unit-unit.result c.index_mut-to.result.now c.program.new.self (at_same c.unit-unit.ensures (unit_inside_all g.U.Unit.model c.self.inside.units.items c.place.new.into.stripe.unit (unit_within v c.self.inside.core c.self.inside.pool c.self.inside.stripe m c.place.new.into.stripe may))) c.index_mut-to.ensures.value c.program.ensures.wear) more least))
+
+pub returns-clause-pad : goal.returns-clause-pad
+returns-clause-pad g c = c.free_frames.ensures.pad ∙ c.landed.ensures.pad ∙ c.place.ensures.pad ∙ ap (λ (v : MountView). v.pad) c.self.view_is
+
+pub returns-clause-more : goal.returns-clause-more
+returns-clause-more g c =
+    let m = c.self.invariant in
+    let v : MountView = record { image = image_of c.self.inside.shape (drive_before c.self.inside.drives); found = image_of c.self.inside.shape (drive_found c.self.inside.drives); deeds = c.self.inside.deeds; units = map g.U.Unit.model c.self.inside.units.items; wear = map g.U.Unit.wear c.self.inside.units.items; granted = c.self.inside.granted; pad = pad_of c.self.inside.core } in
+    let may : MayPlace v.image (logs_in v) c.place.new.into.stripe = c.place.ensures.legal v.image (world_in v) m.sound.legal m.stands in
+    let deeds : c.add-3.new.self ≡ landed_deeds v.image v.deeds c.place.new.into.stripe =
+    c.add-3.ensures ∙ ap₂ (λ (ds : List Deed) n. ds ++ Lands n ∷ []) (c.add-2.ensures ∙ ap (λ (ds : List Deed). ds ++ Does c.place.new.into.stripe.unit (program_of c.place.new.into.stripe) ∷ []) c.add.ensures) c.unit-unit.ensures in
+    subst (λ (old : MountView). length (engine_log old) < length (log_of (world_of v.image.shape c.add-3.new.self) 0)) c.self.view_is
+    (subst (λ (ds : List Deed). length (engine_log v) < length (log_of (world_of v.image.shape ds) 0)) (sym deeds)
+    (more_programmed v c.self.inside.core c.self.inside.pool c.self.inside.stripe m c.place.new.into.stripe may))

@@ -3,9 +3,9 @@ use Rattle.pblk_core.specs.Resets.{IsToReset}
 use Rattle.scan_recovery.specs.Units.{image_of}
 use Rattle.block_target.specs.Deeds.{world_of, drive_before}
 use Rattle.block_target.specs.Mount.{MountView, IsSpent, logs_in, work_in}
-use Rattle.block_target.proofs.PumpedOpen.{same_self}
 use Rattle.block_target.proofs.Spent.{spent}
 use Rattle.block_target.proofs.mount.Mount.pump.Goals as goal
+use Rattle.block_target.proofs.MountLemmas.{same_mount}
 
 pub reset-requires : goal.reset-requires
 reset-requires g c = record {
@@ -26,7 +26,7 @@ open_line-requires g c =
     ∙ sym (c.next_work.ensures.work (image_of c.self.inside.shape (drive_before c.self.inside.drives)) (world_of c.self.inside.shape c.self.inside.deeds) c.self.invariant.sound.legal c.self.invariant.stands) ∙ c.in-Open.is
 
 pub returns-in-Nothing-clause-same : goal.returns-in-Nothing-clause-same
-returns-in-Nothing-clause-same g c = same_self c.args.self.now
+returns-in-Nothing-clause-same g c = same_mount c.args.self.now
 
 pub returns-in-Nothing-clause-rest : goal.returns-in-Nothing-clause-rest
 returns-in-Nothing-clause-rest g c = λ none. (

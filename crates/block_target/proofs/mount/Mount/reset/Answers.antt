@@ -12,10 +12,10 @@ use Rattle.pblk_core.specs.Resets.{IsToReset}
 use Rattle.pblk_core.specs.Stands.{Stands}
 use Rattle.pblk_core.proofs.WorkOf.{work_is}
 use Rattle.block_target.specs.Deeds.{Deed, NotesReset, world_of, drive_before, drive_found}
-use Rattle.block_target.specs.Mount.{MountView, IsMount, IsSameMount, IsUnitIn, work_in, logs_in}
+use Rattle.block_target.specs.Mount.{MountView, IsMount, IsSameMount, IsUnitIn, work_in, logs_in, engine_log}
 use Rattle.block_target.proofs.KeptWear.{wear_kept, unit_inside_all}
 use Rattle.block_target.proofs.PumpedCall.{unit_there}
-use Rattle.block_target.proofs.PumpedReset.{end_world, reset_deeds, unit_within, takes_reset, end_legal, end_stands, end_sound, chunk_after, has_line, mount_reset, same_reset}
+use Rattle.block_target.proofs.PumpedReset.{end_world, reset_deeds, unit_within, takes_reset, end_legal, end_stands, end_sound, chunk_after, has_line, mount_reset, more_reset, same_reset}
 use Rattle.block_target.proofs.mount.Mount.reset.Goals as goal
 
 pub index_mut-of-requires : goal.index_mut-of-requires
@@ -81,8 +81,8 @@ reset_done-requires-clause-named g c =
 pub free_frames-requires : goal.free_frames-requires
 free_frames-requires g c = subst (λ (w : view.WindowView). view.AreOf c.self.inside.pool.region w.entries) (sym c.reset_done.ensures.window) c.self.invariant.own
 
-pub grant-requires : goal.grant-requires
-grant-requires g c =
+pub grant-requires-clause-standing : goal.grant-requires-clause-standing
+grant-requires-clause-standing g c =
     let m = c.self.invariant in
     let core = c.self.inside.core in
     let p = c.self.inside.pool in
@@ -126,7 +126,7 @@ invariant_of-self g c =
     let drained : c.free_frames.new.core.window.freed ≡ freed v.image.shape (log_of (end_world v core p f m c.args.line c.args.unit is) 0) =
     c.free_frames.ensures.drained v.image (end_world v core p f m c.args.line c.args.unit is) legal stood in
     let granted : c.max-self-inside.result ≡ max v.granted (room v.image (log_of (end_world v core p f m c.args.line c.args.unit is))) =
-    c.max-self-inside.ensures ∙ ap (max v.granted) (c.grant.ensures v.image (end_world v core p f m c.args.line c.args.unit is) legal stands drained) in
+    c.max-self-inside.ensures ∙ ap (max v.granted) (c.grant.ensures v.image (end_world v core p f m c.args.line c.args.unit is) legal stands) in
     let was_out : count_out c.self.inside.pool.left ≡ length c.self.inside.core.window.entries = m.out in
     let kept_out : length c.reset_done.new.self.window.entries ≡ length c.self.inside.core.window.entries = ap (λ (w : view.WindowView). length w.entries) window in
     let moved_out : count_out c.self.inside.pool.left + length c.free_frames.new.core.window.entries ≡ count_out c.free_frames.new.pool.left + length c.reset_done.new.self.window.entries = c.free_frames.ensures.out in
@@ -134,8 +134,8 @@ invariant_of-self g c =
     subst (λ (ds : List Deed). IsMount (record { image = v.image; found = v.found; deeds = ds; units = us; wear = wear; granted = c.max-self-inside.result; pad = pad_of c.free_frames.new.core }) c.free_frames.new.core c.free_frames.new.pool f) (sym deeds)
     (mount_reset v core p f m c.args.line c.args.unit is c.free_frames.new.core c.free_frames.new.pool us wear c.max-self-inside.result sound stands drained c.free_frames.ensures.own out c.free_frames.ensures.region granted)
 
-pub returns : goal.returns
-returns g c =
+pub returns-clause-same : goal.returns-clause-same
+returns-clause-same g c =
     let m = c.self.invariant in
     let core = c.self.inside.core in
     let p = c.self.inside.pool in
@@ -157,3 +157,16 @@ returns g c =
     (subst (λ (ds : List Deed). IsSameMount v (record { image = v.image; found = v.found; deeds = ds; units = us; wear = wear; granted = c.max-self-inside.result; pad = pad_of c.free_frames.new.core })) (sym deeds)
     (same_reset v core p f m c.args.line c.args.unit is us wear c.max-self-inside.result (pad_of c.free_frames.new.core)
     (wear_kept g.U.Unit.wear c.self.inside.units.items c.args.unit c.index_mut-of.result.now c.reset.new.self within c.index_mut-of.ensures.value c.reset.ensures.wear) more least))
+
+pub returns-clause-pad : goal.returns-clause-pad
+returns-clause-pad g c = c.free_frames.ensures.pad ∙ c.reset_done.ensures.pad ∙ ap (λ (v : MountView). v.pad) c.self.view_is
+
+pub returns-clause-more : goal.returns-clause-more
+returns-clause-more g c =
+    let m = c.self.invariant in
+    let v : MountView = record { image = image_of c.self.inside.shape (drive_before c.self.inside.drives); found = image_of c.self.inside.shape (drive_found c.self.inside.drives); deeds = c.self.inside.deeds; units = map g.U.Unit.model c.self.inside.units.items; wear = map g.U.Unit.wear c.self.inside.units.items; granted = c.self.inside.granted; pad = pad_of c.self.inside.core } in
+    let is : IsToReset v.image (logs_in v) c.args.line c.args.unit = subst (λ (x : MountView). IsToReset x.image (logs_in x) c.args.line c.args.unit) (sym c.self.view_is) c.requires.given_up in
+    let deeds : c.add-2.new.self ≡ reset_deeds v.deeds c.args.line c.args.unit = c.add-2.ensures ∙ ap (λ (ds : List Deed). ds ++ NotesReset c.args.unit ∷ []) c.add.ensures in
+    subst (λ (old : MountView). length (engine_log old) < length (log_of (world_of v.image.shape c.add-2.new.self) 0)) c.self.view_is
+    (subst (λ (ds : List Deed). length (engine_log v) < length (log_of (world_of v.image.shape ds) 0)) (sym deeds)
+    (more_reset v c.self.inside.core c.self.inside.pool c.self.inside.stripe m c.args.line c.args.unit is))

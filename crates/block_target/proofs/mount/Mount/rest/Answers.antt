@@ -5,14 +5,15 @@ use Rattle.scan_recovery.specs.Units.{image_of}
 use Rattle.block_target.specs.Deeds.{world_of, drive_before}
 use Rattle.block_target.specs.Mount.{MountView, engine_log, logs_in}
 use Rattle.block_target.specs.NothingLeft.{HasNothingLeftAt}
-use Rattle.block_target.proofs.SameMounts.{same_then, same_mount}
+use Rattle.block_target.proofs.SameMounts.{worked_none, worked_more}
 use Rattle.block_target.proofs.mount.Mount.rest.Goals as goal
+use Rattle.block_target.proofs.MountLemmas.{same_then}
 
 pub loop-init : goal.loop-init
-loop-init g c = same_mount c.args.self.now
+loop-init g c = worked_none c.args.self.now
 
 pub returns-then-not-is_due-clause-same : goal.returns-then-not-is_due-clause-same
-returns-then-not-is_due-clause-same g c = c.loop.invariant
+returns-then-not-is_due-clause-same g c = c.loop.invariant.same
 
 pub returns-then-not-is_due-clause-resting : goal.returns-then-not-is_due-clause-resting
 returns-then-not-is_due-clause-resting g c =
@@ -22,7 +23,10 @@ returns-then-not-is_due-clause-resting g c =
     inl (subst (λ (v : MountView). is_due v.image (logs_in v) ≡ false) c.self.view_is at)
 
 pub returns-then-not-pump-clause-same : goal.returns-then-not-pump-clause-same
-returns-then-not-pump-clause-same g c = same_then c.args.self.now c.loop.self c.pump.new.self c.loop.invariant c.pump.ensures.same
+returns-then-not-pump-clause-same g c = same_then c.args.self.now c.loop.self c.pump.new.self c.loop.invariant.same c.pump.ensures.same
+
+pub returns-then-not-pump-clause-pad : goal.returns-then-not-pump-clause-pad
+returns-then-not-pump-clause-pad g c = c.pump.ensures.pad ∙ c.loop.invariant.pad
 
 pub returns-then-not-pump-clause-resting : goal.returns-then-not-pump-clause-resting
 returns-then-not-pump-clause-resting g c =
@@ -30,4 +34,4 @@ returns-then-not-pump-clause-resting g c =
     inr (subst (λ (v : MountView). HasNothingLeftAt v.image (logs_in v) 0 (length (engine_log v))) (sym rest.0) (rest.1.nothing_left 0 (omega arith)))
 
 pub loop-preserved : goal.loop-preserved
-loop-preserved g c = same_then c.args.self.now c.loop.self c.pump.new.self c.loop.invariant c.pump.ensures.same
+loop-preserved g c = worked_more c.args.self.now c.loop.self c.pump.new.self c.args.self.now.pad c.loop.invariant c.pump.ensures.same c.pump.ensures.pad

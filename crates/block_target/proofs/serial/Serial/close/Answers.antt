@@ -1,4 +1,4 @@
-use Rattle.std.proofs.Common.{◌≡◌, List, refl, ap, sym, subst, ◌∙◌}
+use Rattle.std.proofs.Common.{◌≡◌, List, max, refl, ap, ap₂, sym, subst, ◌∙◌}
 use Rattle.std.specs.List.{flat_map}
 use Rattle.block_port.specs.Own.{lines_of}
 use Rattle.block_port.specs.declared.rows.WornAnswer.{WornAnswer}
@@ -6,6 +6,7 @@ use Rattle.block_target.specs.NothingLeft.{AreRefusals}
 use Rattle.block_target.specs.Mount.{IsSameMount, front_synced, logs_in, taken_in}
 use Rattle.block_target.specs.Serial.{SerialView, Settles, lines_in}
 use Rattle.block_target.proofs.DeviceFronts.{all_synced, all_taken, taken_same}
+use Rattle.block_target.proofs.GrantedTakes.{granted_same}
 use Rattle.block_target.proofs.Refusals.{refusals_grown, flush_refused}
 use Rattle.block_target.proofs.serial.Serial.close.Goals.{in-Ok, in-Err}
 use Rattle.block_target.proofs.serial.Serial.close.Goals as goal
@@ -35,6 +36,8 @@ returns-clause-closed g c =
           (refusals_grown c.self.inside.mount c.settle.new.self c.settle.ensures.same.more c.self.inside.worns c.is_sound.ensures c.settle.ensures.same.image c.settle.ensures.same.deeds c.self.invariant.worns),
       taken_same c.self.inside.mount c.settle.new.self c.is_sound.ensures c.is_sound-2.ensures c.settle.ensures.same ∙ ap taken_in mount,
       c.ends_synced.ensures,
+      granted_same c.self.inside.mount c.settle.new.self c.is_sound.ensures c.settle.ensures.same c.self.invariant.granted,
+      c.settle.ensures.pad ∙ ap₂ (λ m n. max m n) (ap (λ v. v.pad) mount) (wanted ∙ ap taken_in mount),
     )
 
 pub returns-clause-alone : goal.returns-clause-alone

@@ -1,7 +1,7 @@
-use Rattle.std.proofs.Common.{length, refl, ap, sym, subst}
+use Rattle.std.proofs.Common.{length, max, refl, ap, ap₂, sym, subst, ◌∙◌}
 use Rattle.block_port.specs.Port.{Learns}
 use Rattle.block_target.specs.NothingLeft.{IsFlushRefusal}
-use Rattle.block_target.specs.Mount.{logs_in, engine_log}
+use Rattle.block_target.specs.Mount.{logs_in, engine_log, taken_in}
 use Rattle.block_target.specs.Serial.{SerialView, device}
 use Rattle.block_target.proofs.DeviceFronts.{same_serial, all_taken, synced_small, flush_front, learns_from}
 use Rattle.block_target.proofs.Refusals.{flush_refused}
@@ -37,3 +37,13 @@ pub returns-in-Err-clause-learns : goal.returns-in-Err-clause-learns
 returns-in-Err-clause-learns g c =
     subst (λ n. Learns (device c.args.self.now) (device n)) (sym c.add_worn.ensures)
     (learns_from _ c.args.self.now _ c.self.view_is c.is_sound.ensures c.is_sound-2.ensures c.sync-synced.ensures.same)
+
+pub returns-in-Ok-clause-pad : goal.returns-in-Ok-clause-pad
+returns-in-Ok-clause-pad g c =
+    c.sync-synced.ensures.pad
+    ∙ ap₂ (λ m n. max m n) (ap (λ (s : SerialView). s.mount.pad) c.self.view_is) (ap (λ f. f.position) c.front-wanted.ensures ∙ ap (λ (s : SerialView). taken_in s.mount) c.self.view_is)
+
+pub returns-in-Err-clause-pad : goal.returns-in-Err-clause-pad
+returns-in-Err-clause-pad g c =
+    ap (λ (s : SerialView). s.mount.pad) c.add_worn.ensures ∙ c.sync-synced.ensures.pad
+    ∙ ap₂ (λ m n. max m n) (ap (λ (s : SerialView). s.mount.pad) c.self.view_is) (ap (λ f. f.position) c.front-wanted.ensures ∙ ap (λ (s : SerialView). taken_in s.mount) c.self.view_is)

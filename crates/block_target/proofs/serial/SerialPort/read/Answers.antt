@@ -1,4 +1,5 @@
-use Rattle.std.proofs.Common.{length, refl, ap}
+use Rattle.std.proofs.Common.{length, refl, ap, ◌∙◌}
+use Rattle.block_target.specs.Serial.{SerialView}
 use Rattle.block_target.proofs.DeviceFronts.{same_serial, taken_front_small, read_front, learns_from}
 use Rattle.block_target.proofs.ReadSectors.{read_words}
 use Rattle.block_target.proofs.serial.SerialPort.read.Goals as goal
@@ -19,3 +20,6 @@ returns-clause-words g c =
 
 pub returns-clause-learns : goal.returns-clause-learns
 returns-clause-learns g c = learns_from _ c.args.self.now _ c.self.view_is c.is_sound.ensures c.is_sound-2.ensures c.read_all.ensures.same
+
+pub returns-clause-pad : goal.returns-clause-pad
+returns-clause-pad g c = c.read_all.ensures.pad ∙ ap (λ (s : SerialView). s.mount.pad) c.self.view_is

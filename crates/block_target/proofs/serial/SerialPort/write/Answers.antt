@@ -5,11 +5,12 @@ use Rattle.pblk_model.specs.declared.shape.Shape.{Shape}
 use Rattle.block_port.specs.Own.{sectors_of}
 use Rattle.block_port.specs.Port.{AreSectors}
 use Rattle.block_target.specs.NothingLeft.{IsWriteRefusal}
-use Rattle.block_target.specs.Mount.{logs_in, engine_log, taken_in}
+use Rattle.block_target.specs.Mount.{MountView, logs_in, engine_log, taken_in}
 use Rattle.block_target.specs.Serial.{SerialView}
 use Rattle.block_target.proofs.DeviceFronts.{same_serial}
+use Rattle.block_target.proofs.GrantedTakes.{granted_write, granted_place}
 use Rattle.block_target.proofs.Refusals.{refusal_of_write}
-use Rattle.block_target.proofs.Written.{some_sectors, write_cause, worns_write, learns_none, learns_write, target_write, alone_write, end_low, granted_room, learns_at, target_at}
+use Rattle.block_target.proofs.Written.{some_sectors, write_cause, worns_write, learns_none, learns_write, target_write, alone_write, end_low, granted_room, learns_at, target_at, pad_all}
 use Rattle.block_target.proofs.serial.SerialPort.write.Goals as goal
 
 pub overflow_add-wanted : goal.overflow_add-wanted
@@ -72,6 +73,10 @@ invariant_of-self-2 g c =
       small = end_low c.self.inside.mount c.shape.result.now c.front-first.result.position c.from.result (length c.args.bytes.now) c.is_sound.ensures first c.shape.ensures c.from.ensures sectors;
       worns = worns_write was new c.claim-claimed.new.self c.args.lba (sectors_of c.shape.result.now.sector (length c.args.bytes.now / c.shape.result.now.sector) c.args.bytes.now)
           (record { was = c.is_sound.ensures; between = c.is_sound-2.ensures; same = c.claim-claimed.ensures.same; mount = c.take_all.ensures }) c.self.invariant refl;
+      granted = granted_write was new c.claim-claimed.new.self c.args.lba c.shape.result.now.sector (length c.args.bytes.now / c.shape.result.now.sector) c.args.bytes.now
+          (record { was = c.is_sound.ensures; between = c.is_sound-2.ensures; same = c.claim-claimed.ensures.same; mount = c.take_all.ensures })
+          (granted_room c.self.inside.mount c.claim-claimed.new.self c.front-first.result.position c.from.result (length c.args.bytes.now / c.shape.result.now.sector)
+          c.is_sound.ensures c.is_sound-2.ensures c.claim-claimed.ensures.same first c.from.ensures (c.in_default.ensures.granted refl)) c.claim-claimed.ensures.once c.self.invariant;
     }
 
 pub returns-clause-learns : goal.returns-clause-learns
@@ -87,3 +92,22 @@ returns-clause-target g c =
     let new : SerialView = record { mount = c.take_all.new.mount; seen = c.front-first.result.position + c.from.result; own = c.add.new.self; worns = c.self.inside.worns } in
     target_at was c.args.self.now new c.self.view_is (target_write was new c.claim-claimed.new.self c.args.lba (sectors_of c.shape.result.now.sector (length c.args.bytes.now / c.shape.result.now.sector) c.args.bytes.now)
     (record { was = c.is_sound.ensures; between = c.is_sound-2.ensures; same = c.claim-claimed.ensures.same; mount = c.take_all.ensures }))
+
+pub returns-clause-granted : goal.returns-clause-granted
+returns-clause-granted g c =
+    let was : SerialView = record { mount = c.self.inside.mount; seen = c.self.inside.seen; own = c.self.inside.own; worns = c.self.inside.worns } in
+    let new : SerialView = record { mount = c.take_all.new.mount; seen = c.front-first.result.position + c.from.result; own = c.add.new.self; worns = c.self.inside.worns } in
+    let first : c.front-first.result.position ≡ taken_in c.self.inside.mount = ap (λ (f : Front). f.position) c.front-first.ensures in
+    granted_place was new c.claim-claimed.new.self c.args.lba c.shape.result.now.sector (length c.args.bytes.now / c.shape.result.now.sector) c.args.bytes.now
+    (record { was = c.is_sound.ensures; between = c.is_sound-2.ensures; same = c.claim-claimed.ensures.same; mount = c.take_all.ensures })
+    (granted_room c.self.inside.mount c.claim-claimed.new.self c.front-first.result.position c.from.result (length c.args.bytes.now / c.shape.result.now.sector)
+    c.is_sound.ensures c.is_sound-2.ensures c.claim-claimed.ensures.same first c.from.ensures (c.in_default.ensures.granted refl)) c.claim-claimed.ensures.once c.front-first.result.position first
+
+pub returns-clause-pad : goal.returns-clause-pad
+returns-clause-pad g c =
+    ap (λ (v : MountView). v.pad) c.take_all.ensures
+    ∙ pad_all c.claim-claimed.new.self c.args.lba (sectors_of c.shape.result.now.sector (length c.args.bytes.now / c.shape.result.now.sector) c.args.bytes.now)
+    ∙ c.claim-claimed.ensures.pad ∙ ap (λ (s : SerialView). s.mount.pad) c.self.view_is
+
+pub returns-in-Err-clause-pad : goal.returns-in-Err-clause-pad
+returns-in-Err-clause-pad g c = ap (λ (s : SerialView). s.mount.pad) c.add_worn.ensures ∙ c.claim-claimed.ensures.pad ∙ ap (λ (s : SerialView). s.mount.pad) c.self.view_is

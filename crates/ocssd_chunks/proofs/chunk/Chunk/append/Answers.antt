@@ -1,9 +1,9 @@
 use Rattle.std.proofs.Common.{length, refl, ap, ◌∙◌, arith, length-append}
 use Rattle.std.proofs.Math.Nat.{mul-le-mul_right}
 use Rattle.pblk_model.specs.Blocks.{blocks_of}
-use Rattle.ocssd_chunks.proofs.BlockList.{length-blocks_of, blocks_of-append}
 use Rattle.ocssd_chunks.proofs.Writes.{room, chunk_of, IsChunk-joined}
 use Rattle.ocssd_chunks.proofs.chunk.Chunk.append.Goals as goal
+use Rattle.pblk_model.proofs.BlocksLemmas.{blocks_of-append, length-blocks_of}
 
 pub append_bytes-requires : goal.append_bytes-requires
 append_bytes-requires c =

@@ -2,9 +2,9 @@ use Rattle.std.proofs.Common.{◌≡◌, ◌*◌, ◌<◌, length, refl, arith, 
 use Rattle.std.proofs.Math.Nat.{mul-mod_left, pos_of_ne-zero}
 use Rattle.std.proofs.lemmas.List.{length-take-le}
 use Rattle.pblk_model.specs.Blocks.{blocks_of}
-use Rattle.ocssd_chunks.proofs.BlockList.{length-blocks_of}
 use Rattle.ocssd_chunks.proofs.Writes.{taken, placed, some_blocks}
 use Rattle.ocssd_chunks.proofs.chunk.Chunk.cut_write.Goals as goal
+use Rattle.pblk_model.proofs.BlocksLemmas.{length-blocks_of}
 
 pub append-requires-clause-place : goal.append-requires-clause-place
 append-requires-clause-place c =

@@ -1,8 +1,8 @@
 use Rattle.std.proofs.Common.{refl, arith}
 use Rattle.std.proofs.Math.Nat.{mul-mod_left}
-use Rattle.ocssd_chunks.proofs.BlockList.{length-blocks_of}
 use Rattle.ocssd_chunks.proofs.Writes.{taken}
 use Rattle.ocssd_chunks.proofs.chunk.Chunk.fail_write.Goals as goal
+use Rattle.pblk_model.proofs.BlocksLemmas.{length-blocks_of}
 
 pub append-requires-clause-place : goal.append-requires-clause-place
 append-requires-clause-place c =

@@ -1,7 +1,7 @@
 use Rattle.std.proofs.Common.{◌≡◌, length, refl, sym, arith}
 use Rattle.pblk_model.specs.Blocks.{blocks_of}
-use Rattle.ocssd_chunks.proofs.BlockList.{length-blocks_of}
 use Rattle.ocssd_chunks.proofs.chunk.Chunk.read.Goals as goal
+use Rattle.pblk_model.proofs.BlocksLemmas.{length-blocks_of}
 
 -- the fields' write pointer is that of the chunk that contracts see
 pub returns-then-not-is_readable-clause-step : goal.returns-then-not-is_readable-clause-step

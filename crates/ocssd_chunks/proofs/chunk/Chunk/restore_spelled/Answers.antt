@@ -1,9 +1,9 @@
 use Rattle.std.proofs.Common.{◌∙◌, arith}
-use Rattle.ocssd_chunks.proofs.BlockList.{length-blocks_of}
 use Rattle.ocssd_chunks.proofs.Spelling.{IsSpelled, added_alone, spelled_chunk}
-use Rattle.ocssd_chunks.proofs.Writes.{pointer_within}
 use Rattle.ocssd_chunks.proofs.chunk.Chunk.restore_spelled.Goals as goal
 use Rattle.ocssd_chunks.proofs.chunk.Chunk.restore_spelled.Goals.{After-are_blocks}
+use Rattle.pblk_model.proofs.BlocksLemmas.{length-blocks_of}
+use Rattle.pblk_model.proofs.ChunkLemmas.{pointer_within}
 
 -- the blocks that are there
 spelled : (c : After-are_blocks) → IsSpelled c.self.inside.shape.sector c.args.count c.args.bytes.now c.append_spelled.new.bytes.items c.append_spelled.new.marks.items

@@ -1,9 +1,9 @@
 use Rattle.std.proofs.Common.{◌≡◌, length, refl, sym, arith}
 use Rattle.std.proofs.lemmas.Result.{err_from_is_err_and}
 use Rattle.pblk_model.specs.Blocks.{blocks_of}
-use Rattle.ocssd_chunks.proofs.BlockList.{length-blocks_of}
 use Rattle.ocssd_chunks.proofs.Writes.{refusal-blocks_of, taken, placed}
 use Rattle.ocssd_chunks.proofs.chunk.Chunk.write.Goals as goal
+use Rattle.pblk_model.proofs.BlocksLemmas.{length-blocks_of}
 
 -- a refusal: what `check_write` answers, at the blocks
 pub returns-in_err-check_write-clause-step : goal.returns-in_err-check_write-clause-step

@@ -1,8 +1,8 @@
 use Rattle.std.proofs.Common.{◌≤◌, length, refl, sym, arith}
 use Rattle.std.proofs.lemmas.Option.{slice_get_past}
 use Rattle.pblk_model.specs.Blocks.{blocks_of}
-use Rattle.ocssd_chunks.proofs.BlockList.{length-blocks_of}
 use Rattle.ocssd_chunks.proofs.chunk.Chunk.written.Goals as goal
+use Rattle.pblk_model.proofs.BlocksLemmas.{length-blocks_of}
 
 pub returns-then-block-len-clause-block : goal.returns-then-block-len-clause-block
 returns-then-block-len-clause-block c =

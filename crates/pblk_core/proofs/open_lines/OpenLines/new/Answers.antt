@@ -1,9 +1,10 @@
 use Rattle.std.proofs.Common.{◌≡◌, ◌+◌, sym, subst, ap, ◌∙◌, arith, length, length-append, ◌∷◌, [], List}
 use Rattle.std.specs.List.{AllByRecursion}
-use Rattle.core_laws.proofs.Lists.{all_at, with_last as all_and_last}
 use Rattle.pblk_core.specs.LineRecords.{Records}
 use Rattle.pblk_core.specs.declared.open_lines.OpenLine.{OpenLine}
 use Rattle.pblk_core.proofs.open_lines.OpenLines.new.Goals as goal
+use Rattle.lemmas.proofs.Lists.{with_last}
+use Rattle.lemmas.proofs.Parts.{all_at}
 
 pub loop-init : goal.loop-init
 loop-init c = record {
@@ -17,7 +18,7 @@ loop-preserved c =
     record {
       count = ap length c.in_ok-push.ensures.items ∙ length-append c.loop.slots.items (made ∷ []) ∙ ap (λ n. n + 1) c.loop.invariant.count;
       shapes = subst (AllByRecursion (λ (l : OpenLine). l.records.shape ≡ c.args.layout.now)) (sym {A = List OpenLine} c.in_ok-push.ensures.items)
-          (all_and_last (λ (l : OpenLine). l.records.shape ≡ c.args.layout.now) c.loop.slots.items made c.loop.invariant.shapes (ap (λ (r : Records). r.shape) c.in_ok-new.ensures));
+          (with_last (λ (l : OpenLine). l.records.shape ≡ c.args.layout.now) c.loop.slots.items made c.loop.invariant.shapes (ap (λ (r : Records). r.shape) c.in_ok-new.ensures));
     }
 
 pub returns-clause-two : goal.returns-clause-two

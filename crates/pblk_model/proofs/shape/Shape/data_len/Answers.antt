@@ -1,6 +1,6 @@
 use Rattle.std.proofs.Common.{arith}
-use Rattle.pblk_model.proofs.Sizes.{line_is_short}
 use Rattle.pblk_model.proofs.shape.Shape.data_len.Goals as goal
+use Rattle.pblk_model.proofs.AcceptedLemmas.{line_is_short}
 
 pub overflow_cast-result : goal.overflow_cast-result
 overflow_cast-result c =

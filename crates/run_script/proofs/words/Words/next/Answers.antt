@@ -8,7 +8,8 @@ use Rattle.run_script.proofs.words.Words.next.Goals as goal
 pub returns-in-Some-clause-word : goal.returns-in-Some-clause-word
 returns-in-Some-clause-word c =
     let found = c.in-Some.ensures in
-    sym c.self.view_is ∙ ap (λ left. words_of (option_map (λ bytes. bytes.now) left)) c.in_ok-line.was ∙ ap (slice_split (λ byte. byte == 32)) found.found ∙ cut c.in-Some.word.now c.in-Some.rest.now found.first
+    sym c.self.view_is ∙ ap (λ left. words_of (option_map (λ bytes. bytes.now) left)) c.in_ok-line.was ∙ ap (slice_split (λ byte. byte == 32)) found.found
+    ∙ cut c.in-Some.word.now c.in-Some.rest.now found.first
 
 pub returns-in-None-clause-word : goal.returns-in-None-clause-word
 returns-in-None-clause-word c =

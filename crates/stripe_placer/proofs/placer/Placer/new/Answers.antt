@@ -6,9 +6,10 @@ use Rattle.stripe_placer.specs.OpenLines.{OpenLine}
 use Rattle.stripe_placer.specs.Placing.{UnitRow}
 use Rattle.stripe_placer.specs.Placing.UnitRow.{Idle}
 use Rattle.stripe_placer.specs.Inside.{unit_row, Agree}
-use Rattle.stripe_placer.proofs.Rows.{length_map, length_replicate}
+use Rattle.stripe_placer.proofs.Rows.{length_map}
 use Rattle.stripe_placer.proofs.Steps.{nothing_agrees}
 use Rattle.stripe_placer.proofs.placer.Placer.new.Goals as goal
+use Rattle.lemmas.proofs.Lists.{length_replicate}
 
 pub invariant_of-result : goal.invariant_of-result
 invariant_of-result c =

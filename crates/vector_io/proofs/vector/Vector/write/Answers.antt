@@ -1,9 +1,10 @@
 use Rattle.std.proofs.Common.{map, length, sym, ap, subst, ◌∙◌}
 use Rattle.ocssd_geometry.specs.Numbers.{numbers_of}
 use Rattle.vector_io.specs.Addresses.{ModelVector}
-use Rattle.vector_io.specs.Commands.{AreUnitsOf}
-use Rattle.vector_io.proofs.Sizes.{sector_is, whole_sectors, some_marks}
+use Rattle.unit_port.specs.Commands.{AreUnitsOf}
+use Rattle.vector_io.proofs.Sizes.{sector_is, whole_sectors}
 use Rattle.vector_io.proofs.vector.Vector.write.Goals as goal
+use Rattle.vector_io.proofs.AddressesLemmas.{some_marks}
 
 pub write_all-requires-clause-sector : goal.write_all-requires-clause-sector
 write_all-requires-clause-sector g c =

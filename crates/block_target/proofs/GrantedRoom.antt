@@ -1,0 +1,91 @@
+-- What was granted there was room for once, and that stays so as the world grows.
+use Rattle.std.proofs.Common.{◌≡◌, ◌⊎◌, inl, inr, ℕ, ◌+◌, ◌<◌, ◌≤◌, max, Some, List, ◌++◌, length, length-append, sym, subst, ap, ap₂, ◌∙◌, arith, le_trans, le_refl}
+use Rattle.std.proofs.lemmas.Bool.{cases_order}
+use Rattle.pblk_model.specs.Image.{Image}
+use Rattle.pblk_world.specs.Events.{Logged}
+use Rattle.pblk_world.specs.World.{World, Logs, log_of}
+use Rattle.pblk_world.specs.Legal.{IsLegal}
+use Rattle.pblk_world.specs.Space.{room}
+use Rattle.pblk_world.specs.AtRest.{logs_at}
+use Rattle.pblk_world.specs.EngineLog.{Begun, begun}
+use Rattle.pblk_world.proofs.Growing.{grows}
+use Rattle.core_laws.specs.PlainWorlds.{IsPlainWorld}
+use Rattle.step_laws.proofs.UnitSteps.{engine_longer}
+use Rattle.block_target.specs.Deeds.{Deed, world_of}
+use Rattle.block_target.specs.Granted.{WasRoom}
+use Rattle.block_target.specs.Mount.{MountView, world_in, logs_in, engine_log}
+use Rattle.block_target.proofs.Beginnings.{world_grown}
+use Rattle.block_target.proofs.EngineLengths.{IsLeft, deeds_left, same_lengths}
+
+-- there was room for less
+pub room_less : (i : Image) (logs : Logs) (n m upto less : ℕ) → WasRoom i logs n upto → n ≤ m → less ≤ upto → WasRoom i logs m less
+room_less i logs n m upto less was later low = record {
+  at = was.at;
+  has_begun = was.has_begun;
+  within = le_trans was.within later;
+  room = le_trans low was.room;
+}
+
+-- a longer world
+pub room_later : (i : Image) (later w : World) (n upto : ℕ) → IsLegal i w → n ≤ length (log_of w 0) → WasRoom i (log_of w) n upto → WasRoom i (log_of (later ++ w)) n upto
+room_later i later w n upto legal long was = record {
+  at = was.at;
+  has_begun = was.has_begun;
+  within = was.within;
+  room = subst (λ (logs : Logs). upto ≤ room i logs) (sym (same_lengths i later w was.at legal was.has_begun (le_trans was.within long))) was.room;
+}
+
+-- there is room now
+pub room_now : (i : Image) (deeds : List Deed) (b : Begun) → IsPlainWorld i (world_of i.shape deeds) → begun (log_of (world_of i.shape deeds) 0) ≡ Some b
+    → WasRoom i (log_of (world_of i.shape deeds)) (length (log_of (world_of i.shape deeds) 0)) (room i (log_of (world_of i.shape deeds)))
+room_now i deeds b plain has =
+    let is : IsLeft i (world_of i.shape deeds) = deeds_left i deeds plain in
+    let same : room i (logs_at (length (log_of (world_of i.shape deeds) 0)) (log_of (world_of i.shape deeds))) ≡ room i (log_of (world_of i.shape deeds)) = ap (room i) is.logs ∙ is.room in
+    record {
+      at = length (log_of (world_of i.shape deeds) 0);
+      has_begun = engine_longer (world_of i.shape deeds) b has;
+      within = le_refl (length (log_of (world_of i.shape deeds) 0));
+      room = omega (arith, same);
+    }
+
+-- of mounts, by what was done since
+pub log_longer : (old new : MountView) (more : List Deed) → new.image ≡ old.image → new.deeds ≡ old.deeds ++ more → (later : List Logged) × (engine_log new ≡ engine_log old ++ later)
+log_longer old new more image deeds =
+    let grown : (later : World) × (world_of old.image.shape (old.deeds ++ more) ≡ later ++ world_in old) = world_grown old.image old.deeds more in
+    let longer : (later : List Logged) × (log_of (grown.0 ++ world_in old) 0 ≡ engine_log old ++ later) = grows grown.0 (world_in old) 0 in
+    (longer.0, ap₂ (λ (i : Image) (ds : List Deed). log_of (world_of i.shape ds) 0) image deeds ∙ ap (λ (w : World). log_of w 0) grown.1 ∙ longer.1)
+
+pub room_at : (old new : MountView) (more : List Deed) (upto n less : ℕ) → IsPlainWorld old.image (world_in old) → new.image ≡ old.image → new.deeds ≡ old.deeds ++ more
+    → length (engine_log old) ≤ n → less ≤ upto → WasRoom old.image (logs_in old) (length (engine_log old)) upto → WasRoom new.image (logs_in new) n less
+room_at old new more upto n less plain image deeds long low was =
+    subst (λ (i : Image). WasRoom i (log_of (world_of i.shape new.deeds)) n less) (sym image)
+    (subst (λ (ds : List Deed). WasRoom old.image (log_of (world_of old.image.shape ds)) n less) (sym deeds)
+    (subst (λ (w : World). WasRoom old.image (log_of w) n less) (sym grown.1)
+    (room_less old.image (log_of (grown.0 ++ world_in old)) (length (engine_log old)) n upto less
+    (room_later old.image grown.0 (world_in old) (length (engine_log old)) upto plain.legal (le_refl (length (engine_log old))) was) long low)))
+  where
+    grown : (later : World) × (world_of old.image.shape (old.deeds ++ more) ≡ later ++ world_in old)
+    grown = world_grown old.image old.deeds more
+
+pub room_grown : (old new : MountView) (more : List Deed) (upto : ℕ) → IsPlainWorld old.image (world_in old) → new.image ≡ old.image → new.deeds ≡ old.deeds ++ more
+    → WasRoom old.image (logs_in old) (length (engine_log old)) upto → WasRoom new.image (logs_in new) (length (engine_log new)) upto
+room_grown old new more upto plain image deeds was =
+    let longer : (later : List Logged) × (engine_log new ≡ engine_log old ++ later) = log_longer old new more image deeds in
+    let long : length (engine_log new) ≡ length (engine_log old) + length longer.0 = ap (λ (log : List Logged). length log) longer.1 ∙ length-append (engine_log old) longer.0 in
+    room_at old new more upto (length (engine_log new)) upto plain image deeds (omega arith) (le_refl upto) was
+
+greater : (i : Image) (logs : Logs) (n a b : ℕ) → WasRoom i logs n a → WasRoom i logs n b → WasRoom i logs n (max a b)
+greater i logs n a b x y = go (cases_order a b)
+  where
+    go : (a ≡ b) ⊎ ((a < b) ⊎ (b < a)) → WasRoom i logs n (max a b)
+    go (inl same) = room_less i logs n n a (max a b) x (le_refl n) (omega (arith, same))
+    go (inr (inl less)) = room_less i logs n n b (max a b) y (le_refl n) (omega arith)
+    go (inr (inr more)) = room_less i logs n n a (max a b) x (le_refl n) (omega arith)
+
+-- the greater of what was granted and of the room there is
+pub once_granted : (old new : MountView) (more : List Deed) (b : Begun) → IsPlainWorld old.image (world_in old) → IsPlainWorld new.image (world_in new) → begun (engine_log new) ≡ Some b
+    → new.image ≡ old.image → new.deeds ≡ old.deeds ++ more → new.granted ≡ max old.granted (room new.image (logs_in new))
+    → WasRoom old.image (logs_in old) (length (engine_log old)) old.granted → WasRoom new.image (logs_in new) (length (engine_log new)) new.granted
+once_granted old new more b was plain has image deeds is once =
+    subst (λ g. WasRoom new.image (logs_in new) (length (engine_log new)) g) (sym is)
+    (greater new.image (logs_in new) (length (engine_log new)) old.granted (room new.image (logs_in new)) (room_grown old new more old.granted was image deeds once) (room_now new.image new.deeds b plain has))

@@ -1,5 +1,0 @@
-//! Tests of `pblk_core` on its public calls.
-#![tactic(auto)]
-
-#[cfg(test)]
-mod records;

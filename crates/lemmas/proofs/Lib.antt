@@ -1,0 +1,7 @@
+pub mod Numbers
+pub mod Tests
+pub mod Parts
+pub mod Options
+pub mod Bytes
+pub mod Lists
+pub mod Maps

@@ -1,6 +1,0 @@
-use Rattle.std.proofs.Common.{drop}
-use Rattle.run_report.specs.Recorded.{AreThreads}
-use Rattle.report_tests.proofs.fitting.are_threads.Given as goal
-
-abbrev pub invariant-loop-thread : goal.invariant-loop-thread
-invariant-loop-thread l = AreThreads (drop l.thread l.script) (drop l.thread l.threads) → AreThreads l.script l.threads

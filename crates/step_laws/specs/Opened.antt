@@ -1,0 +1,26 @@
+-- What the units of a drive did while it was made ready for a mount, and the world that these steps make.
+use Rattle.std.specs.Prelude.{ℕ, suc, List, [], ◌∷◌, drop, length}
+use Rattle.std.specs.List.{fold}
+use Rattle.pblk_model.specs.declared.shape.Shape.{Shape}
+use Rattle.pblk_model.specs.UnitLog.{UnitEvent}
+use Rattle.pblk_world.specs.World.{World}
+use Rattle.unit_port.specs.Unit.{ModelUnit}
+use Rattle.step_laws.specs.Whole.{unit_step, opening_maker}
+
+-- what each unit did, in the order of the units: what its log grew by
+abbrev pub grown_by : ModelUnit → ModelUnit → List UnitEvent
+grown_by old new = drop (length old.log) new.log
+
+abbrev pub new_events : List ModelUnit → List ModelUnit → List (List UnitEvent)
+new_events [] new = []
+new_events (u ∷ old) [] = []
+new_events (u ∷ old) (v ∷ new) = grown_by u v ∷ new_events old new
+
+-- The world: the steps of one unit, one after another, and those of all units from a number on. The command of each was made
+-- by the opening.
+abbrev pub after_events : Shape → ℕ → World → List UnitEvent → World
+after_events s unit w events = fold (λ w e. unit_step s unit e (opening_maker w) w ∷ w) w events
+
+abbrev pub after_units : Shape → ℕ → World → List (List UnitEvent) → World
+after_units s unit w [] = w
+after_units s unit w (events ∷ others) = after_units s (suc unit) (after_events s unit w events) others

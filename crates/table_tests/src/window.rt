@@ -1,0 +1,4 @@
+//! Tests of `write_window`.
+
+mod harness;
+mod windows;

@@ -1,0 +1,5 @@
+//! Tests of `run_script`: scripts that are read and refused.
+
+mod harness;
+mod limits;
+mod lines;

@@ -1,0 +1,154 @@
+//! Which words are which command.
+
+use crate::words::harness::told;
+use command_words::{CreateNumbers, read_words};
+use std::test::Fail;
+
+// Words, and what they say.
+const ACCEPTED: &[(&str, &str)] = &[
+    ("create|a", "create [a] 1 2 8 24 2 4 8 512 64 64"),
+    ("geometry|a", "geometry [a]"),
+    ("show|a", "show [a]"),
+    ("report|a", "report [a]"),
+    ("run|a|b", "run [a] [b]"),
+    ("create|a|--groups|3", "create [a] 3 2 8 24 2 4 8 512 64 64"),
+    ("create|--groups|3|a", "create [a] 3 2 8 24 2 4 8 512 64 64"),
+    ("create|--groups=3|a", "create [a] 3 2 8 24 2 4 8 512 64 64"),
+    (
+        "create|--mw|16|a|--ring=0",
+        "create [a] 1 2 8 24 2 4 16 512 64 0",
+    ),
+    (
+        "create|--ring|10|--capacity|9|--sector|8|--mw|7|--ws-opt|6|--ws-min|5|--blocks|4|--chunks|3|--units|2|--groups|1|a",
+        "create [a] 1 2 3 4 5 6 7 8 9 10",
+    ),
+    (
+        "create|a|--units|65535",
+        "create [a] 1 65535 8 24 2 4 8 512 64 64",
+    ),
+    (
+        "create|a|--groups|65535",
+        "create [a] 65535 2 8 24 2 4 8 512 64 64",
+    ),
+    (
+        "create|a|--chunks|4294967295",
+        "create [a] 1 2 4294967295 24 2 4 8 512 64 64",
+    ),
+    (
+        "create|a|--ring|4294967295",
+        "create [a] 1 2 8 24 2 4 8 512 64 4294967295",
+    ),
+    (
+        "create|a|--capacity|18446744073709551615",
+        "create [a] 1 2 8 24 2 4 8 512 18446744073709551615 64",
+    ),
+    ("create|7", "create [7] 1 2 8 24 2 4 8 512 64 64"),
+    ("create|create", "create [create] 1 2 8 24 2 4 8 512 64 64"),
+    (
+        "create|é\u{1f600}",
+        "create [é\u{1f600}] 1 2 8 24 2 4 8 512 64 64",
+    ),
+    (
+        "create|groups=3",
+        "create [groups=3] 1 2 8 24 2 4 8 512 64 64",
+    ),
+    ("run|=|a=b", "run [=] [a=b]"),
+    ("run|a|a", "run [a] [a]"),
+    ("run|a b|c-", "run [a b] [c-]"),
+    ("geometry| -", "geometry [ -]"),
+];
+
+#[test]
+fn commands_are_read(rt: HostRuntime) -> Result<(), Fail> {
+    for &(words, says) in ACCEPTED {
+        assert_eq!(rt; told(rt.alloc(), words)?.as_str(), says, "{words}");
+    }
+    Ok(())
+}
+
+// Words that are no command.
+const REFUSED: &[&str] = &[
+    "",
+    "Create|a",
+    "creat|a",
+    "a",
+    "--groups|1|create|a",
+    "create",
+    "create|",
+    "create|a|b",
+    "create|--groups|1",
+    "create|a|--groups",
+    "create|a|--groups=",
+    "create|a|--groups|",
+    "create|a|--groups|-1",
+    "create|a|--groups=-1",
+    "create|a|--groups|--units|1",
+    "create|a|--groups|1|--groups|1",
+    "create|a|--groups=1|--units|2|--groups|1",
+    "create|a|--mw|8|--mw=8",
+    "create|a|--group|1",
+    "create|a|--groupsx|1",
+    "create|a|--Groups|1",
+    "create|a|-groups|1",
+    "create|a|groups|1",
+    "create|a|--ws_min|2",
+    "create|a|--=1",
+    "create|a|-",
+    "create|a|--",
+    "create|--help",
+    "create|-|a",
+    "create|a|--capacity=5=6",
+    "create|a|--capacity==5",
+    "create|a|--groups|65536",
+    "create|a|--units|65536",
+    "create|a|--chunks|4294967296",
+    "create|a|--sector|4294967296",
+    "create|a|--capacity|18446744073709551616",
+    "create|a|--ring|01",
+    "create|a|--ring|007",
+    "create|a|--ring|00",
+    "create|a|--ring|+1",
+    "create|a|--ring| 1",
+    "create|a|--ring|1 ",
+    "create|a|--ring|0x1",
+    "create|a|--ring|1.0",
+    "geometry",
+    "geometry|a|b",
+    "geometry|--groups|1|a",
+    "geometry|-a",
+    "show",
+    "show|a|b",
+    "show|--help",
+    "report|",
+    "report|a|--lanes|0",
+    "run|a",
+    "run|a|b|c",
+    "run|a|",
+    "run|a|--ring=1|b",
+];
+
+#[test]
+fn other_words_are_refused(rt: HostRuntime) -> Result<(), Fail> {
+    for words in REFUSED {
+        assert_eq!(rt; told(rt.alloc(), words)?.as_str(), "refused", "{words}");
+    }
+    assert_eq!(rt; read_words(&[]), None);
+    Ok(())
+}
+
+#[test]
+fn without_options_the_numbers_are_the_small_drives(rt: HostRuntime) {
+    let small = CreateNumbers {
+        groups: 1,
+        units: 2,
+        chunks: 8,
+        blocks: 24,
+        ws_min: 2,
+        ws_opt: 4,
+        mw: 8,
+        sector: 512,
+        capacity: 64,
+        ring: 64,
+    };
+    assert_eq!(rt; CreateNumbers::small(), small);
+}

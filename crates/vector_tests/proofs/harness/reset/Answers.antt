@@ -1,7 +1,0 @@
-use Rattle.ocssd_geometry.specs.Numbers.{numbers_of}
-use Rattle.vector_tests.specs.Fits.{models}
-use Rattle.vector_tests.proofs.Checks.{fit_units}
-use Rattle.vector_tests.proofs.harness.reset.Goals as goal
-
-pub reset-requires-clause-units : goal.reset-requires-clause-units
-reset-requires-clause-units c = rw c.in_ok-vector.ensures.vector (fit_units (numbers_of c.args.geometry.now) (models c.args.units.now) (c.fit.ensures c.if-not-fit.false))

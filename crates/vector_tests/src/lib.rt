@@ -1,7 +1,0 @@
-//! Tests of vectors on the units of a drive in memory.
-#![tactic(auto)]
-
-#[cfg(test)]
-mod harness;
-#[cfg(test)]
-mod vectors;

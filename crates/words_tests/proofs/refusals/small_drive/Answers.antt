@@ -1,6 +1,0 @@
-use Rattle.std.proofs.Common.{subst, refl}
-use Rattle.pblk_model.specs.Accepted.{IsAccepted}
-use Rattle.words_tests.proofs.refusals.small_drive.Goals as goal
-
-pub new-requires-clause-shape : goal.new-requires-clause-shape
-new-requires-clause-shape c = subst (λ s. IsAccepted s) c.shape.ensures (c.in-None.ensures.accepted.0 refl)
