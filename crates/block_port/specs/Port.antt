@@ -1,5 +1,6 @@
 -- What a port has answered and come to know, and what its calls leave of it.
 use Rattle.std.specs.Prelude.{ℕ, ◌+◌, ◌*◌, ◌/◌, ◌<◌, ◌≤◌, ◌≡◌, ◌⊎◌, ⊤, List, [], ◌∷◌, ◌++◌, map, length, take, slice_range, Option, Result, Ok, Err}
+use Rattle.std.specs.List.{flat_map}
 use Rattle.pblk_model.specs.declared.run.Front.{Front}
 use Rattle.pblk_model.specs.declared.run.Place.{Place}
 use Rattle.pblk_model.specs.History.{after, users}
@@ -12,7 +13,7 @@ use Rattle.block_port.specs.declared.port.FlushErr.{FlushErr}
 use Rattle.block_port.specs.declared.port.FlushErr.TheVariants as flush
 use Rattle.block_port.specs.declared.rows.DriveAnswer.{DriveAnswer}
 use Rattle.block_port.specs.declared.rows.WornAnswer.{WornAnswer}
-use Rattle.block_port.specs.Own.{PlacedSector, OwnWrite, sectors_of}
+use Rattle.block_port.specs.Own.{PlacedSector, OwnWrite, lines_of, sectors_of}
 
 -- What no call changes of the drive under a target: the image that it had when it was handed in, with its numbers and those
 -- of the target on it, and the wear level index of each chunk, by unit.
@@ -55,6 +56,10 @@ pub record AreSectors (size len : ℕ) : Type 0 where
 -- how many sectors have so many bytes
 abbrev pub count_in : ModelPort → ℕ → ℕ
 count_in p len = len / p.sector
+
+-- how many sectors the port has written
+abbrev pub written_by : ModelPort → ℕ
+written_by p = length (flat_map lines_of p.own)
 
 -- these sectors aren't all below the capacity
 abbrev pub IsPastEnd : ModelPort → ℕ → ℕ → Type 0
@@ -124,11 +129,13 @@ write_faults (Err write.Range) = []
 write_faults (Err (write.Drive unit event)) = record { unit = unit; event = event } ∷ []
 write_faults (Err (write.Worn wanted have)) = []
 
-abbrev pub write_worns : ℕ → Result Place WriteErr → List WornAnswer
-write_worns count (Ok place) = []
-write_worns count (Err write.Range) = []
-write_worns count (Err (write.Drive unit event)) = []
-write_worns count (Err (write.Worn wanted have)) = record { count = count; wanted = wanted; have = have } ∷ []
+-- of a port that had written so many sectors before, and asked for so many
+abbrev pub write_worns : ℕ → ℕ → Result Place WriteErr → List WornAnswer
+write_worns written count (Ok place) = []
+write_worns written count (Err write.Range) = []
+write_worns written count (Err (write.Drive unit event)) = []
+write_worns written count (Err (write.Worn wanted have)) =
+    record { written = written; count = count; wanted = wanted; have = have } ∷ []
 
 abbrev pub read_faults : Result Front ReadErr → List DriveAnswer
 read_faults (Ok front) = []
@@ -140,10 +147,11 @@ flush_faults (Ok front) = []
 flush_faults (Err (flush.Drive unit event)) = record { unit = unit; event = event } ∷ []
 flush_faults (Err (flush.Worn wanted have)) = []
 
-abbrev pub flush_worns : Result Front FlushErr → List WornAnswer
-flush_worns (Ok front) = []
-flush_worns (Err (flush.Drive unit event)) = []
-flush_worns (Err (flush.Worn wanted have)) = record { count = 0; wanted = wanted; have = have } ∷ []
+abbrev pub flush_worns : ℕ → Result Front FlushErr → List WornAnswer
+flush_worns written (Ok front) = []
+flush_worns written (Err (flush.Drive unit event)) = []
+flush_worns written (Err (flush.Worn wanted have)) =
+    record { written = written; count = 0; wanted = wanted; have = have } ∷ []
 
 -- a Worn wanted more than there was
 abbrev pub AreShort : List WornAnswer → Type 0

@@ -1,7 +1,7 @@
 //! A port, as the layers above write, read and flush through it.
 ghost use Rattle.std.specs.Prelude.{◌≡◌, ◌↔◌, ◌++◌, ◌<◌, ◌≤◌, ◌^◌, length, max, IfOk, OnErr, IsErrOf};
 ghost use Rattle.block_port.specs.Own.{sectors_of};
-ghost use Rattle.block_port.specs.Port.{ModelPort, IsSectorSize, AreSectors, IsPastEnd, count_in, sectors_at};
+ghost use Rattle.block_port.specs.Port.{ModelPort, IsSectorSize, AreSectors, IsPastEnd, count_in, sectors_at, written_by};
 ghost use Rattle.block_port.specs.Port.{IsSameTarget, Learns, IsWritten, IsSeen, AreShort};
 ghost use Rattle.block_port.specs.Port.{write_faults, write_worns, read_faults, flush_faults, flush_worns};
 
@@ -89,9 +89,10 @@ pub trait Port {
 
         ensures faults { (model self.new).faults ≡ (model self.old).faults ++ write_faults result }
         ensures worns { let count = count_in (model self.old) (length bytes.now) in
-            (model self.new).worns ≡ (model self.old).worns ++ write_worns count result }
+            (model self.new).worns ≡ (model self.old).worns
+            ++ write_worns (written_by (model self.old)) count result }
         ensures short { let count = count_in (model self.old) (length bytes.now) in
-            AreShort (write_worns count result) }
+            AreShort (write_worns (written_by (model self.old)) count result) }
 
         ensures learns { Learns (model self.old) (model self.new) }
         ensures target { IsSameTarget (model self.old) (model self.new) };
@@ -133,8 +134,9 @@ pub trait Port {
 
         ensures own { (model self.new).own ≡ (model self.old).own }
         ensures faults { (model self.new).faults ≡ (model self.old).faults ++ flush_faults result }
-        ensures worns { (model self.new).worns ≡ (model self.old).worns ++ flush_worns result }
-        ensures short { AreShort (flush_worns result) }
+        ensures worns { (model self.new).worns ≡ (model self.old).worns
+            ++ flush_worns (written_by (model self.old)) result }
+        ensures short { AreShort (flush_worns (written_by (model self.old)) result) }
 
         ensures learns { Learns (model self.old) (model self.new) }
         ensures target { IsSameTarget (model self.old) (model self.new) };

@@ -57,10 +57,11 @@ impl Shows for DriveAnswer {
     ghost shown = { λ a. a };
 }
 
-/// A call that answered Worn: how many sectors it asked for, 0 where it was a flush; what was
-/// wanted, and what there was.
+/// A call that answered Worn: how many sectors its port had written before it; how many it asked
+/// for, 0 where it was a flush; what was wanted, and what there was.
 #[derive(Clone, Copy, Debug, PartialEq, Eq)]
 pub struct WornAnswer {
+    pub written: u64,
     pub count: u32,
     pub wanted: u64,
     pub have: u64,

@@ -221,15 +221,16 @@ module _ (s : Shape) (us new : List ModelUnit) (f : Found) (accepted : IsAccepte
 
 -- and nothing else was done
 pub opened_view : (s : Shape) (us new : List ModelUnit) (f : Found) (drives : List (List ModelUnit)) (deeds : List Deed) (wear : List (List ℕ)) (granted pad : ℕ) → IsFoundAfter s us new f → drives ≡ us ∷ new ∷ [] → deeds ≡ first_deeds us new f
-    → granted ≡ room (image_of s us) (log_of (world_of s (first_deeds us new f)))
+    → granted ≡ room (image_of s us) (log_of (world_of s (first_deeds us new f))) → pad ≡ 0
     → IsOpened s us (record { image = image_of s (drive_before drives); found = image_of s (drive_found drives); deeds = deeds; units = new; wear = wear; granted = granted; pad = pad })
-opened_view s us new f drives deeds wear granted pad is rows done grants = record {
+opened_view s us new f drives deeds wear granted pad is rows done grants none = record {
   image = ap (λ (rs : List (List ModelUnit)). image_of s (drive_before rs)) rows;
   found_is = ap (λ (rs : List (List ModelUnit)). image_of s (drive_found rs)) rows;
   found = f;
   is = is;
   deeds = done;
   granted = grants ∙ ap₂ (λ (rs : List (List ModelUnit)) (ds : List Deed). room (image_of s (drive_before rs)) (log_of (world_of s ds))) (sym rows) (sym done);
+  pad = none;
 }
 
 -- a list whose elements were all written over
@@ -249,12 +250,13 @@ nothing_taken s us v is = ap (λ (ds : List Deed). takes (log_of (world_of v.ima
         ∙ ap (λ (log : List Logged). takes (log ++ first_log (beginning_of is.found) (knows_all t before))) (units_quiet t 0 [] (new_events us v.units))
 
 -- and the port over it is new
-pub new_serial : (s : Shape) (us : List ModelUnit) (v : MountView) (own : List OwnWrite) (worns : List WornAnswer) → IsOpened s us v → own ≡ [] → worns ≡ [] → IsSerial (record { mount = v; seen = 0; own = own; worns = worns })
-new_serial s us v own worns is a b = record {
+pub new_serial : (s : Shape) (us : List ModelUnit) (v : MountView) (own : List OwnWrite) (worns : List WornAnswer) → IsOpened s us v → IsSound v → own ≡ [] → worns ≡ [] → IsSerial (record { mount = v; seen = 0; own = own; worns = worns })
+new_serial s us v own worns is sound a b = record {
+  sound = sound;
   alone =
       ap (λ (ts : List Taken). map (λ (t : Taken). record { position = t.entry.position; write = record { lba = t.entry.lba; sector = t.entry.sector } }) (filter (λ (t : Taken). is_users t.entry.source) ts)) (nothing_taken s us v is)
       ∙ sym (ap (flat_map lines_of) a);
   small = omega arith;
-  worns = subst (λ (ws : List WornAnswer). AreRefusals v.image (logs_in v) ws) (sym b) tt;
+  worns = subst (λ (ws : List WornAnswer). AreRefusals v.image (logs_in v) 0 ws) (sym b) tt;
   granted = record { each = λ k knows entry mark at users. absurd (none_taken (engine_log v) k knows entry mark (nothing_taken s us v is) at) };
 }

@@ -21,6 +21,7 @@ use Rattle.block_target.proofs.GrantedTakes.{granted_same}
 use Rattle.block_target.proofs.Refusals.{refusals_grown}
 use Rattle.block_target.proofs.MountLemmas.{taken_small}
 use Rattle.lemmas.proofs.Tests.{lt_true}
+use Rattle.block_target.proofs.Written.{lines_kept, taken_kept, learns_none}
 
 -- ---- the lines
 
@@ -86,31 +87,15 @@ front_synced_is s =
       users = sym (below_same (synced_in s.mount) (user_takes log)) ∙ ap (λ ps. users ps (synced_in s.mount)) (sym (positions_in s.mount));
     }
 
--- ---- nothing more was taken
-
-pub lines_same : (old new : MountView) → IsSameMount old new → lines_in new ≡ lines_in old
-lines_same old new same = ap (λ ts. map placed_line (filter (λ t. is_users t.entry.source) ts)) same.takes
-
-pub taken_same : (old new : MountView) → IsSound old → IsSound new → IsSameMount old new → taken_in new ≡ taken_in old
-taken_same old new a b same =
-    ap₂ (λ f ts. f + length ts) (first_same old new a same) same.takes
-
-pub same_learns : (old new : SerialView) → IsSound old.mount → IsSound new.mount → IsSameMount old.mount new.mount → Learns (device old) (device new)
-same_learns old new a b same = record {
-  more = [];
-  known = lines_same old.mount new.mount same ∙ sym (append-nil (lines_in old.mount));
-  rise = let e = taken_same old.mount new.mount a b same in omega arith;
-  flushed = same.synced;
-}
-
 -- the session's own writes are the history still, where what it has seen is small
-pub same_serial : (old new : SerialView) → IsSound old.mount → IsSerial old → IsSameMount old.mount new.mount → new.own ≡ old.own → new.worns ≡ old.worns → new.seen < 2 ^ 63 → IsSerial new
+pub same_serial : (old new : SerialView) → IsSound new.mount → IsSerial old → IsSameMount old.mount new.mount → new.own ≡ old.own → new.worns ≡ old.worns → new.seen < 2 ^ 63 → IsSerial new
 same_serial old new sound is same own worns small = record {
-  alone = lines_same old.mount new.mount same ∙ is.alone ∙ ap (flat_map lines_of) (sym own);
+  sound = sound;
+  alone = lines_kept old.mount new.mount same ∙ is.alone ∙ ap (flat_map lines_of) (sym own);
   small = small;
-  worns = subst (λ (ws : List WornAnswer). AreRefusals new.mount.image (logs_in new.mount) ws) (sym worns)
-      (refusals_grown old.mount new.mount same.more old.worns sound same.image same.deeds is.worns);
-  granted = granted_same old.mount new.mount sound same is.granted;
+  worns = subst (λ (ws : List WornAnswer). AreRefusals new.mount.image (logs_in new.mount) 0 ws) (sym worns)
+      (refusals_grown old.mount new.mount same.more 0 old.worns is.sound same.image same.deeds is.worns);
+  granted = granted_same old.mount new.mount is.sound same is.granted;
 }
 
 -- ---- what a call answers
@@ -134,14 +119,12 @@ pub all_synced : (old new : MountView) (f : Front) (wanted : ℕ) → IsSound ol
 all_synced old new f wanted a b same all is enough =
     let at : f.position ≡ synced_in new = ap (λ x. x.position) is in
     let below : synced_in new ≤ taken_in new = synced_within new.image.shape (engine_log new) in
-    let still : taken_in new ≡ taken_in old = taken_same old new a b same in
+    let still : taken_in new ≡ taken_in old = taken_kept old new a b same in
     omega arith
 
 -- all that a flush wants is taken
-pub all_taken : (old new : MountView) (wanted : ℕ) → IsSound old → IsSound new → IsSameMount old new → wanted ≡ taken_in old → wanted ≤ taken_in new
-all_taken old new wanted a b same all =
-    let still : taken_in new ≡ taken_in old = taken_same old new a b same in
-    omega arith
+pub all_taken : (old new : MountView) (wanted : ℕ) → IsSound old → IsSound new → IsSameMount old new → wanted ≡ taken_in old → wanted ≡ taken_in new
+all_taken old new wanted a b same all = all ∙ sym (taken_kept old new a b same)
 
 pub flush_front : (v old new : SerialView) (f : Front) (wanted : ℕ) → v ≡ old → old.seen ≤ taken_in old.mount → wanted ≡ taken_in v.mount → f ≡ front_synced new.mount → wanted ≤ f.position → new.seen ≡ f.position → IsSeen f (device old) (device new)
 flush_front v old new f wanted is holds all at enough seen =
@@ -150,14 +133,14 @@ flush_front v old new f wanted is holds all at enough seen =
     subst (λ x. IsSeen x (device old) (device new)) (sym at) (seen_synced old new (omega arith) (seen ∙ to))
 
 pub learns_from : (v old new : SerialView) → v ≡ old → IsSound v.mount → IsSound new.mount → IsSameMount v.mount new.mount → Learns (device old) (device new)
-learns_from v old new is a b same = subst (λ o. Learns (device o) (device new)) is (same_learns v new a b same)
+learns_from v old new is a b same = subst (λ o. Learns (device o) (device new)) is (learns_none v new a b same)
 
 -- ---- what a read answers
 
 pub front_same : (old new : MountView) → IsSound old → IsSound new → IsSameMount old new → front_taken new ≡ front_taken old
 front_same old new a b same =
     let front : ℕ → ℕ → Front = λ users position. record { users = users; position = position } in
-    ap₂ front (ap (λ ts. length (filter (λ t. is_users t.entry.source) ts)) same.takes) (taken_same old new a b same)
+    ap₂ front (ap (λ ts. length (filter (λ t. is_users t.entry.source) ts)) same.takes) (taken_kept old new a b same)
 
 pub taken_front_small : (v : MountView) (f : Front) → IsSound v → f ≡ front_taken v → f.position < 2 ^ 63
 taken_front_small v f sound is =
@@ -171,5 +154,5 @@ read_front v old new f is holds at a b same seen =
     let was : taken_in old.mount ≡ taken_in v.mount = ap (λ s. taken_in s.mount) (sym is) in
     let now : f ≡ front_taken new.mount = at ∙ sym (front_same v.mount new.mount a b same) in
     let to : f.position ≡ taken_in new.mount = ap (λ x. x.position) now in
-    let still : taken_in new.mount ≡ taken_in v.mount = taken_same v.mount new.mount a b same in
+    let still : taken_in new.mount ≡ taken_in v.mount = taken_kept v.mount new.mount a b same in
     subst (λ x. IsSeen x (device old) (device new)) (sym now) (seen_taken old new b (omega arith) (seen ∙ to))

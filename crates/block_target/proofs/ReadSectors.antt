@@ -15,7 +15,7 @@ use Rattle.pblk_world.specs.EngineLog.{Taken}
 use Rattle.pblk_world.specs.Fronts.{is_users, user_takes}
 use Rattle.block_port.specs.Own.{PlacedSector, sectors_of}
 use Rattle.block_port.specs.Port.{contents_after, count_in, sectors_at}
-use Rattle.block_target.specs.Mount.{MountView, IsSameMount, engine_log, front_taken, latest}
+use Rattle.block_target.specs.Mount.{MountView, IsSound, IsSameMount, engine_log, front_taken, latest}
 use Rattle.block_target.specs.Serial.{SerialView, device}
 use Rattle.block_port.proofs.OwnLemmas.{cut_none, sectors_append}
 use Rattle.block_target.proofs.MountLemmas.{same_mount, same_then}
@@ -73,10 +73,11 @@ latest_stays a b same =
 pub record IsReading (old now : MountView) (lba size count index : ℕ) (out : List ℕ) : Type 0 where
   pub same : IsSameMount old now
   pub pad : now.pad ≡ old.pad
+  pub sound : IsSound now
   pub read : sectors_of size index out ≡ slice_range (latest old) lba (lba + index)
 
-pub reading_begins : (v : MountView) (lba size count : ℕ) (out : List ℕ) → IsReading v v lba size count 0 out
-reading_begins v lba size count out = record { same = same_mount v; pad = refl; read = cut_none size out ∙ sym (range_none (latest v) lba) }
+pub reading_begins : (v : MountView) (lba size count : ℕ) (out : List ℕ) → IsSound v → IsReading v v lba size count 0 out
+reading_begins v lba size count out sound = record { same = same_mount v; pad = refl; sound = sound; read = cut_none size out ∙ sym (range_none (latest v) lba) }
 
 pub part_inside : (index count size : ℕ) → index < count → index * size + size ≤ count * size
 part_inside index count size less =
@@ -85,15 +86,16 @@ part_inside index count size less =
     omega arith
 
 pub reading_more : (old now new : MountView) (lba size count index n : ℕ) (out sector : List ℕ) → IsReading old now lba size count index out → index < count → length out ≡ count * size
-    → IsSameMount now new → new.pad ≡ now.pad → slice_get (latest now) (lba + index) ≡ Some sector → length sector ≡ length (slice_range out (index * size) (index * size + size)) → n ≡ size
+    → IsSameMount now new → new.pad ≡ now.pad → IsSound new → slice_get (latest now) (lba + index) ≡ Some sector → length sector ≡ length (slice_range out (index * size) (index * size + size)) → n ≡ size
     → IsReading old new lba size count (index + 1) (put_mid (index * size) n out sector)
-reading_more old now new lba size count index n out sector is less whole same padded there kept wide =
+reading_more old now new lba size count index n out sector is less whole same padded sound there kept wide =
     let inside : index * size + size ≤ count * size = part_inside index count size less in
     let long : length sector ≡ size = kept ∙ part_length (index * size) size out (omega arith) in
     let at : slice_get (latest old) (lba + index) ≡ Some sector = ap (λ (xs : List (List ℕ)). slice_get xs (lba + index)) (sym (latest_stays old now is.same)) ∙ there in
     record {
       same = same_then old now new is.same same;
       pad = padded ∙ is.pad;
+      sound = sound;
       read =
           ap (λ k. sectors_of size (index + 1) (put_mid (index * size) k out sector)) wide ∙ one_more_read size index out sector long (omega arith)
           ∙ ap (λ ss. ss ++ sector ∷ []) is.read ∙ sym (range_next (latest old) lba index sector at);

@@ -1,22 +1,29 @@
 -- What is refused where there is nothing left to do, and that it stays so as the world grows.
-use Rattle.std.proofs.Common.{◌≡◌, ℕ, ◌+◌, ◌≤◌, zero, suc, List, [], ◌∷◌, ◌++◌, length, sym, subst, ap, ◌∙◌, arith, le_trans, append-nil, append_assoc}
+use Rattle.std.proofs.Common.{◌≡◌, ℕ, ◌+◌, ◌<◌, ◌≤◌, zero, suc, List, [], ◌∷◌, ◌++◌, length, sym, subst, ap, ◌∙◌, arith, le_trans, append-nil, append_assoc}
 use Rattle.std.proofs.lemmas.List.Sums.{fold-append}
 use Rattle.std.proofs.Math.Seq.{take-length}
 use Rattle.pblk_model.specs.Image.{Image}
 use Rattle.pblk_model.specs.Marks.{sector_mark}
 use Rattle.pblk_world.specs.Events.{Take, Logged}
 use Rattle.pblk_world.specs.World.{World, Logs, log_of}
+use Rattle.pblk_world.specs.EngineLog.{takes}
 use Rattle.pblk_world.specs.Fronts.{taken, synced}
 use Rattle.pblk_world.specs.Legal.{IsLegal}
 use Rattle.pblk_world.specs.Space.{room}
 use Rattle.pblk_world.specs.AtRest.{logs_at}
 use Rattle.block_port.specs.declared.rows.WornAnswer.{WornAnswer}
 use Rattle.block_target.specs.Deeds.{Deed, Decides, after_deed, world_of}
-use Rattle.block_target.specs.NothingLeft.{HasNothingLeft, HasNothingLeftAt, IsFlushRefusal, IsWriteRefusal, IsRefusal, AreRefusals}
+use Rattle.block_target.specs.Granted.{WasRoom}
+use Rattle.block_target.specs.NothingLeft.{HasNothingLeft, HasNothingLeftAt, IsFlushRefusal, IsWriteRefusal, IsRefusal, IsRefusedAt, AreRefusals}
 use Rattle.block_target.specs.Mount.{MountView, IsSound, IsStuckAt, logs_in, engine_log, taken_in, synced_in, next_entry, with_entry, with_entries}
 use Rattle.block_target.proofs.EngineLengths.{same_lengths, no_shorter, with_deeds, deeds_later}
+use Rattle.block_target.proofs.GrantedRoom.{room_later}
 
 -- ---- one refusal
+
+refused_within : (i : Image) (logs : Logs) (n count wanted have : ℕ) → IsRefusal i logs n count wanted have → (0 < n) × (n ≤ length (logs 0))
+refused_within i logs n zero wanted have is = (is.nothing_left.has_begun, is.nothing_left.within)
+refused_within i logs n (suc others) wanted have is = (is.nothing_left.has_begun, is.nothing_left.within)
 
 module _ (i : Image) (later w : World) (n : ℕ) (legal : IsLegal i w) where
   same : (asked : ℕ) → HasNothingLeftAt i (log_of w) asked n → logs_at n (log_of (later ++ w)) ≡ logs_at n (log_of w)
@@ -34,7 +41,7 @@ module _ (i : Image) (later w : World) (n : ℕ) (legal : IsLegal i w) where
     nothing_left = nothing_left_later wanted is.nothing_left;
     above = is.above;
     is_synced = is.is_synced ∙ ap (λ (logs : Logs). synced i.shape (logs 0)) (sym (same wanted is.nothing_left));
-    all_taken = subst (λ (logs : Logs). wanted ≤ taken (logs 0)) (sym (same wanted is.nothing_left)) is.all_taken;
+    all_taken = is.all_taken ∙ ap (λ (logs : Logs). taken (logs 0)) (sym (same wanted is.nothing_left));
   }
 
   write_later : (count wanted have : ℕ) → IsWriteRefusal i (log_of w) n count wanted have → IsWriteRefusal i (log_of (later ++ w)) n count wanted have
@@ -42,6 +49,7 @@ module _ (i : Image) (later w : World) (n : ℕ) (legal : IsLegal i w) where
     nothing_left = nothing_left_later 0 is.nothing_left;
     above = is.above;
     room = subst (λ (logs : Logs). room i logs ≤ have) (sym (same 0 is.nothing_left)) is.room;
+    granted = room_later i later w n have legal is.nothing_left.within is.granted;
     own_count = is.own_count ∙ ap (λ (logs : Logs). taken (logs 0) + count) (sym (same 0 is.nothing_left));
   }
 
@@ -49,27 +57,40 @@ module _ (i : Image) (later w : World) (n : ℕ) (legal : IsLegal i w) where
   refusal_later zero wanted have is = flush_later wanted have is
   refusal_later (suc others) wanted have is = write_later (suc others) wanted have is
 
+  refused_later : (a : WornAnswer) → IsRefusedAt i (log_of w) n a → IsRefusedAt i (log_of (later ++ w)) n a
+  refused_later a is = record { written = ap (λ (logs : Logs). length (takes (logs 0))) (same_lengths i later w n legal at.0 at.1) ∙ is.written; cause = refusal_later a.count a.wanted a.have is.cause }
+    where
+      at : (0 < n) × (n ≤ length (log_of w 0))
+      at = refused_within i (log_of w) n a.count a.wanted a.have is.cause
+
 -- ---- all of them
 
-refusals_later : (i : Image) (later w : World) (worns : List WornAnswer) → IsLegal i w → AreRefusals i (log_of w) worns → AreRefusals i (log_of (later ++ w)) worns
-refusals_later i later w [] legal are = tt
-refusals_later i later w (a ∷ worns) legal are = ((are.0.0, refusal_later i later w are.0.0 legal a.count a.wanted a.have are.0.1), refusals_later i later w worns legal are.1)
+refusals_later : (i : Image) (later w : World) (from : ℕ) (worns : List WornAnswer) → IsLegal i w → AreRefusals i (log_of w) from worns → AreRefusals i (log_of (later ++ w)) from worns
+refusals_later i later w from [] legal are = tt
+refusals_later i later w from (a ∷ worns) legal are = (are.0, are.1, refused_later i later w are.0 legal a are.2, refusals_later i later w are.0 worns legal are.3)
 
-refusals_with : (i : Image) (deeds more : List Deed) (worns : List WornAnswer) → IsLegal i (world_of i.shape deeds) → AreRefusals i (log_of (world_of i.shape deeds)) worns
-    → AreRefusals i (log_of (world_of i.shape (deeds ++ more))) worns
-refusals_with i deeds more worns legal are =
+refusals_with : (i : Image) (deeds more : List Deed) (from : ℕ) (worns : List WornAnswer) → IsLegal i (world_of i.shape deeds) → AreRefusals i (log_of (world_of i.shape deeds)) from worns
+    → AreRefusals i (log_of (world_of i.shape (deeds ++ more))) from worns
+refusals_with i deeds more from worns legal are =
     let later : (later : World) × (with_deeds i (world_of i.shape deeds) more ≡ later ++ world_of i.shape deeds) = deeds_later i (world_of i.shape deeds) more in
-    subst (λ (w : World). AreRefusals i (log_of w) worns)
+    subst (λ (w : World). AreRefusals i (log_of w) from worns)
     (sym (fold-append (after_deed i.shape) [] deeds more ∙ later.1))
-    (refusals_later i later.0 (world_of i.shape deeds) worns legal are)
+    (refusals_later i later.0 (world_of i.shape deeds) from worns legal are)
 
 -- by what was done since
-pub refusals_grown : (old new : MountView) (more : List Deed) (worns : List WornAnswer) → IsSound old → new.image ≡ old.image → new.deeds ≡ old.deeds ++ more
-    → AreRefusals old.image (logs_in old) worns → AreRefusals new.image (logs_in new) worns
-refusals_grown old new more worns sound image deeds are =
-    subst (λ (i : Image). AreRefusals i (log_of (world_of i.shape new.deeds)) worns) (sym image)
-    (subst (λ (ds : List Deed). AreRefusals old.image (log_of (world_of old.image.shape ds)) worns) (sym deeds)
-    (refusals_with old.image old.deeds more worns sound.legal.legal are))
+pub refusals_grown : (old new : MountView) (more : List Deed) (from : ℕ) (worns : List WornAnswer) → IsSound old → new.image ≡ old.image → new.deeds ≡ old.deeds ++ more
+    → AreRefusals old.image (logs_in old) from worns → AreRefusals new.image (logs_in new) from worns
+refusals_grown old new more from worns sound image deeds are =
+    subst (λ (i : Image). AreRefusals i (log_of (world_of i.shape new.deeds)) from worns) (sym image)
+    (subst (λ (ds : List Deed). AreRefusals old.image (log_of (world_of old.image.shape ds)) from worns) (sym deeds)
+    (refusals_with old.image old.deeds more from worns sound.legal.legal are))
+
+-- and one more, now
+pub refusals_more : (i : Image) (logs : Logs) (from : ℕ) (worns : List WornAnswer) (a : WornAnswer) → from ≤ length (logs 0) → AreRefusals i logs from worns → IsRefusedAt i logs (length (logs 0)) a
+    → AreRefusals i logs from (worns ++ a ∷ [])
+refusals_more i logs from [] a low are is = (length (logs 0), low, is, tt)
+refusals_more i logs from (b ∷ worns) a low are is =
+    (are.0, are.1, are.2, refusals_more i logs are.0 worns a (refused_within i logs are.0 b.count b.wanted b.have are.2.cause).1 are.3 is)
 
 -- once sectors are taken
 pub entries_more : (v : MountView) (lba : ℕ) (sectors : List (List ℕ)) → (more : List Deed) × ((with_entries v lba sectors).deeds ≡ v.deeds ++ more)
@@ -81,21 +102,22 @@ entries_more v lba (sector ∷ sectors) =
 
 -- ---- what is refused
 
-pub flush_refused : (v : MountView) (wanted have : ℕ) → IsStuckAt v wanted have → have ≡ synced_in v → wanted ≤ v.pad → wanted ≤ taken_in v
+pub flush_refused : (v : MountView) (wanted have : ℕ) → IsStuckAt v wanted have → have ≡ synced_in v → wanted ≤ v.pad → wanted ≡ taken_in v
     → IsFlushRefusal v.image (logs_in v) (length (engine_log v)) wanted have
 flush_refused v wanted have stuck at padded low = record {
   nothing_left = stuck.spent.nothing_left wanted padded;
   above = stuck.short;
   is_synced = at ∙ ap (synced v.image.shape) (sym (take-length (engine_log v)));
-  all_taken = subst (λ (log : List Logged). wanted ≤ taken log) (sym (take-length (engine_log v))) low;
+  all_taken = low ∙ ap taken (sym (take-length (engine_log v)));
 }
 
-pub write_refused : (v : MountView) (count wanted have : ℕ) → IsStuckAt v wanted have → have ≡ v.granted → wanted ≡ taken_in v + count
+pub write_refused : (v : MountView) (count wanted have : ℕ) → IsStuckAt v wanted have → have ≡ v.granted → WasRoom v.image (logs_in v) (length (engine_log v)) v.granted → wanted ≡ taken_in v + count
     → IsWriteRefusal v.image (logs_in v) (length (engine_log v)) count wanted have
-write_refused v count wanted have stuck at own = record {
+write_refused v count wanted have stuck at once own = record {
   nothing_left = stuck.spent.nothing_left 0 (omega arith);
   above = stuck.short;
   room = subst (λ n. room v.image (logs_at (length (engine_log v)) (logs_in v)) ≤ n) (sym at) stuck.spent.no_room;
+  granted = subst (λ n. WasRoom v.image (logs_in v) (length (engine_log v)) n) (sym at) once;
   own_count = own ∙ ap (λ (log : List Logged). taken log + count) (sym (take-length (engine_log v)));
 }
 

@@ -9,7 +9,7 @@ use Rattle.landing_laws.proofs.Slots.{first_kept}
 use Rattle.core_laws.proofs.Taking.{with_take}
 use Rattle.step_laws.specs.Whole.{knows_all}
 use Rattle.block_port.specs.Own.{sectors_of}
-use Rattle.block_target.specs.Mount.{MountView, world_in, engine_log, taken_in, next_entry, with_entry, with_entries}
+use Rattle.block_target.specs.Mount.{MountView, IsSound, world_in, engine_log, taken_in, next_entry, with_entry, with_entries}
 use Rattle.block_port.proofs.OwnLemmas.{cut_none}
 use Rattle.block_target.proofs.DeedsLemmas.{logs_decided}
 use Rattle.lemmas.proofs.Numbers.{next_at}
@@ -36,6 +36,7 @@ pub record IsTaking (old now : MountView) (lba size count index : ℕ) (bytes : 
   pub rest : with_entries now (lba + index) (sectors_of size (count - index) (drop (index * size) bytes)) ≡ with_entries old lba (sectors_of size count bytes)
   pub image : now.image ≡ old.image
   pub room : taken_in now + (count - index) ≤ now.granted
+  pub sound : IsSound now
 
 cut_one : (size n : ℕ) (bytes : List ℕ) → sectors_of size (suc n) bytes ≡ take size bytes ∷ sectors_of size n (drop size bytes)
 unfolding sectors_of
@@ -51,8 +52,9 @@ pub slice_is : (at size : ℕ) (bytes : List ℕ) → slice_range bytes at (at +
 slice_is at size bytes = let e : at + size - at ≡ size = omega arith in ap (λ n. take n (drop at bytes)) e
 
 pub taking_more : (old now new : MountView) (lba size count index : ℕ) (bytes : List ℕ) → IsTaking old now lba size count index bytes → index < count
-    → new ≡ with_entry now (lba + index) (slice_range bytes (index * size) (index * size + size)) → IsTaking old new lba size count (index + 1) bytes
-taking_more old now new lba size count index bytes is less done = record {
+    → new ≡ with_entry now (lba + index) (slice_range bytes (index * size) (index * size + size)) → IsSound new → IsTaking old new lba size count (index + 1) bytes
+taking_more old now new lba size count index bytes is less done sound = record {
+  sound = sound;
   rest = ap₂ (λ (v : MountView) a. with_entries v a (sectors_of size k (drop ((index + 1) * size) bytes))) done next
       ∙ ap₂ (λ s (ss : List (List ℕ)). with_entries (with_entry now (lba + index) s) (lba + index + 1) ss) (slice_is (index * size) size bytes) (ap (λ (xs : List ℕ). sectors_of size k xs) dropped)
       ∙ ap (λ (ss : List (List ℕ)). with_entries now (lba + index) ss) (sym (ap (λ n. sectors_of size n (drop (index * size) bytes)) one ∙ cut_one size k (drop (index * size) bytes)))

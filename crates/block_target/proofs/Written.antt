@@ -1,10 +1,12 @@
 -- What a port is once its sectors are taken.
-use Rattle.std.proofs.Common.{◌≡◌, ◌⊎◌, inl, inr, Some, ℕ, ◌+◌, ◌*◌, ◌/◌, ◌^◌, ◌<◌, ◌≤◌, true, List, [], ◌∷◌, ◌++◌, length, refl, sym, subst, ap, ap₂, ◌∙◌, arith, append-nil, append_assoc, le_trans}
+use Rattle.std.proofs.Common.{◌≡◌, ◌⊎◌, inl, inr, Some, ℕ, ◌+◌, ◌*◌, ◌/◌, ◌^◌, ◌<◌, ◌≤◌, true, List, [], ◌∷◌, ◌++◌, length, take, refl, sym, subst, ap, ap₂, ◌∙◌, arith, append-nil, append_assoc, le_trans}
 use Rattle.std.specs.Prelude.{map}
 use Rattle.std.specs.List.{filter, flat_map}
-use Rattle.std.proofs.lemmas.List.{map-append}
+use Rattle.std.proofs.Math.Seq.{take-length}
+use Rattle.std.proofs.lemmas.List.{map-append, length-map}
 use Rattle.std.proofs.lemmas.Grind.{flat_map-append}
 use Rattle.std.proofs.lemmas.Nat.{div-mul-add}
+use Rattle.pblk_model.specs.declared.run.Front.{Front}
 use Rattle.pblk_model.specs.declared.run.Place.{Place}
 use Rattle.pblk_model.specs.declared.shape.Shape.{Shape}
 use Rattle.pblk_model.specs.Contents.{contents}
@@ -19,9 +21,11 @@ use Rattle.step_laws.specs.Whole.{knows_all}
 use Rattle.block_port.specs.declared.rows.WornAnswer.{WornAnswer}
 use Rattle.block_port.specs.Own.{PlacedSector, OwnWrite, placed_from, lines_of}
 use Rattle.block_port.specs.Port.{AreSectors, Learns, IsSameTarget, Rise}
+use Rattle.prefix_law.proofs.Taking.{users_all}
 use Rattle.block_target.specs.Deeds.{Deed}
-use Rattle.block_target.specs.Mount.{MountView, IsSound, IsSameMount, IsStuckAt, logs_in, world_in, engine_log, taken_in, synced_in, next_entry, with_entry, with_entries}
-use Rattle.block_target.specs.NothingLeft.{IsWriteRefusal, AreRefusals}
+use Rattle.block_target.specs.Mount.{MountView, IsSound, IsSameMount, IsStuckAt, logs_in, world_in, engine_log, taken_in, synced_in, front_taken, next_entry, with_entry, with_entries}
+use Rattle.block_target.specs.Granted.{WasRoom}
+use Rattle.block_target.specs.NothingLeft.{IsWriteRefusal, IsRefusal, IsRefusedAt, AreRefusals}
 use Rattle.block_target.specs.Serial.{SerialView, IsSerial, lines_in, device}
 use Rattle.block_target.proofs.Beginnings.{first_same}
 use Rattle.block_target.proofs.Refusals.{refusals_grown, entries_more, write_refused}
@@ -47,6 +51,28 @@ learns_none old new was is same = record {
   known = lines_kept old.mount new.mount same ∙ sym (append-nil (lines_in old.mount));
   rise = let e : taken_in new.mount ≡ taken_in old.mount = taken_kept old.mount new.mount was is same in omega arith;
   flushed = same.synced;
+}
+
+-- ---- what a port has written: all that was taken, since none is copied
+
+pub users_written : (s : SerialView) (front : Front) → IsSerial s → front ≡ front_taken s.mount → front.users ≡ length (flat_map lines_of s.own)
+users_written s front is at = ap (λ (f : Front). f.users) at ∙ sym (length-map (user_takes (engine_log s.mount)) line_of_take) ∙ ap (λ (ls : List PlacedSector). length ls) is.alone
+
+pub takes_written : (s : SerialView) → IsSound s.mount → IsSerial s → length (takes (engine_log s.mount)) ≡ length (flat_map lines_of s.own)
+takes_written s sound is =
+    ap (λ (ts : List Taken). length ts) (sym (users_all s.mount.image (world_in s.mount) sound.legal))
+    ∙ sym (length-map (user_takes (engine_log s.mount)) line_of_take) ∙ ap (λ (ls : List PlacedSector). length ls) is.alone
+
+-- and so it stays
+pub takes_later : (s : SerialView) (v : MountView) → IsSound s.mount → IsSerial s → IsSameMount s.mount v → length (takes (take (length (engine_log v)) (engine_log v))) ≡ length (flat_map lines_of s.own)
+takes_later s v sound is same = ap (λ (log : List Logged). length (takes log)) (take-length (engine_log v)) ∙ ap (λ (ts : List Taken). length ts) same.takes ∙ takes_written s sound is
+
+-- a refusal now
+pub refused_now : (s : SerialView) (a : WornAnswer) → IsSound s.mount → IsSerial s → a.written ≡ length (flat_map lines_of s.own)
+    → IsRefusal s.mount.image (logs_in s.mount) (length (engine_log s.mount)) a.count a.wanted a.have → IsRefusedAt s.mount.image (logs_in s.mount) (length (engine_log s.mount)) a
+refused_now s a sound is written cause = record {
+  written = ap (λ (log : List Logged). length (takes log)) (take-length (engine_log s.mount)) ∙ takes_written s sound is ∙ sym written;
+  cause = cause;
 }
 
 -- ---- sectors that are taken
@@ -149,11 +175,11 @@ alone_write old new mid lba sectors place is serial first own =
     w = record { place = place; lba = lba; sectors = sectors }
 
 pub worns_write : (old new : SerialView) (mid : MountView) (lba : ℕ) (sectors : List (List ℕ)) → IsWrite old new mid lba sectors → IsSerial old → new.worns ≡ old.worns
-    → AreRefusals new.mount.image (logs_in new.mount) new.worns
+    → AreRefusals new.mount.image (logs_in new.mount) 0 new.worns
 worns_write old new mid lba sectors is serial worns =
     let rest : (more : List Deed) × ((with_entries mid lba sectors).deeds ≡ mid.deeds ++ more) = entries_more mid lba sectors in
-    subst (λ (ws : List WornAnswer). AreRefusals new.mount.image (logs_in new.mount) ws) (sym worns)
-    (refusals_grown old.mount new.mount (is.same.more ++ rest.0) old.worns is.was
+    subst (λ (ws : List WornAnswer). AreRefusals new.mount.image (logs_in new.mount) 0 ws) (sym worns)
+    (refusals_grown old.mount new.mount (is.same.more ++ rest.0) 0 old.worns is.was
     (ap (λ (v : MountView). v.image) is.mount ∙ image_all mid lba sectors ∙ is.same.image)
     (ap (λ (v : MountView). v.deeds) is.mount ∙ rest.1 ∙ ap (λ (ds : List Deed). ds ++ rest.0) is.same.deeds ∙ append_assoc old.mount.deeds is.same.more rest.0)
     serial.worns)
@@ -186,6 +212,12 @@ end_low v s first count len sound from same is sectors =
     let few : sectors.count ≤ 16 = sectors.few in
     omega arith
 
+-- the bytes are those of whole sectors
+pub whole_sectors : (v : MountView) (s : Shape) (len : ℕ) → IsSound v → s ≡ v.image.shape → AreSectors v.image.shape.sector len → len ≡ len / s.sector * s.sector
+whole_sectors v s len sound same sectors =
+    let n : len / v.image.shape.sector ≡ sectors.count = count_is sectors.count v.image.shape.sector len (sector_some v sound) sectors.whole in
+    subst (λ (t : Shape). len ≡ len / t.sector * t.sector) (sym same) (sectors.whole ∙ ap (λ k. k * v.image.shape.sector) (sym n))
+
 pub granted_room : (old mid : MountView) (first count n : ℕ) → IsSound old → IsSound mid → IsSameMount old mid → first ≡ taken_in old → count ≡ n → first + count ≤ mid.granted → taken_in mid + n ≤ mid.granted
 granted_room old mid first count n was is same from long granted =
     let stays : taken_in mid ≡ taken_in old = taken_kept old mid was is same in
@@ -200,12 +232,12 @@ some_sectors v s len sound same sectors =
     let some : 1 ≤ sectors.count = sectors.some in
     omega arith
 
-pub write_cause : (old mid : MountView) (first count n have : ℕ) → IsSound old → IsSound mid → IsSameMount old mid → first ≡ taken_in old → count ≡ n → have ≡ mid.granted → IsStuckAt mid (first + count) have
+pub write_cause : (old mid : MountView) (first count n have : ℕ) → IsSound old → IsSound mid → IsSameMount old mid → first ≡ taken_in old → count ≡ n → have ≡ mid.granted → WasRoom mid.image (logs_in mid) (length (engine_log mid)) mid.granted → IsStuckAt mid (first + count) have
     → IsWriteRefusal mid.image (logs_in mid) (length (engine_log mid)) n (first + count) have
-write_cause old mid first count n have was is same from long at stuck =
+write_cause old mid first count n have was is same from long at once stuck =
     let stays : taken_in mid ≡ taken_in old = taken_kept old mid was is same in
     let own : first + count ≡ taken_in mid + n = omega arith in
-    write_refused mid n (first + count) have stuck at own
+    write_refused mid n (first + count) have stuck at once own
 
 -- the same of equal views
 pub learns_at : (a b c d : SerialView) → a ≡ b → d ≡ c → Learns (device a) (device c) → Learns (device b) (device d)

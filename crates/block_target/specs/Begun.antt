@@ -1,4 +1,4 @@
--- The parts of a mount that begins on a drive of which recovery found this.
+-- The parts of a mount that begins with what recovery found on its drive.
 use Rattle.std.specs.Prelude.{ℕ, ◌≡◌, List, []}
 use Rattle.pblk_model.specs.declared.shape.Shape.{Shape}
 use Rattle.pblk_model.specs.declared.found.Found.{Found}

@@ -1,5 +1,5 @@
--- What a target for one session does, one thing after another, and the world that these make: each step's author knows
--- all logs whole.
+-- What a target for one session does, one thing after another, and the world that these make. The author of
+-- each step knows every log to its end.
 use Rattle.std.specs.Prelude.{ℕ, suc, ◌-◌, List, [], ◌∷◌, length, slice_index_or}
 use Rattle.std.specs.List.{fold}
 use Rattle.pblk_model.specs.declared.shape.Shape.{Shape}
@@ -11,17 +11,17 @@ use Rattle.step_laws.specs.Opened.{after_units}
 use Rattle.step_laws.specs.Whole.{engine_step, unit_step, next_maker}
 
 pub data Deed : Type 0 where
-  -- the drive is made ready before the mount begins: what each unit does, by the units' numbers
+  -- the drive is made ready before the mount begins: what each unit does then, by the units' numbers
   Readies : List (List UnitEvent) → Deed
   -- the engine decides
   Decides : EngineEvent → Deed
   -- a unit does a command
   Does : ℕ → UnitEvent → Deed
-  -- the engine notes a unit's last event: as the program of its stripe, and as a reset
+  -- the engine notes a unit's last event: as the program of its stripe, or as a reset
   Lands : ℕ → Deed
   NotesReset : ℕ → Deed
 
--- The units as they were before, and as the mount found them: the rows of a list of their own.
+-- The units as they were before, and as the mount found them: the two rows of a list.
 abbrev pub drive_before : List (List ModelUnit) → List ModelUnit
 drive_before rows = slice_index_or rows 0 []
 

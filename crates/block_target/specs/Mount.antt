@@ -1,6 +1,7 @@
--- A mount for one session: what contracts see of it.
+-- What contracts see of a mount for one session.
 use Rattle.std.specs.Prelude.{ℕ, ◌+◌, ◌*◌, ◌^◌, ◌-◌, ◌<◌, ◌≤◌, ◌≡◌, List, [], ◌∷◌, ◌++◌, length, max, slice_get, Some, None, ◌⊎◌, false}
 use Rattle.pblk_model.specs.declared.run.Front.{Front}
+use Rattle.pblk_model.specs.declared.shape.Shape.{Shape}
 use Rattle.pblk_model.specs.Shape.{units}
 use Rattle.pblk_model.specs.Contents.{contents}
 use Rattle.pblk_model.specs.Frames.{PoolView, count_out}
@@ -20,6 +21,7 @@ use Rattle.core_laws.specs.PlacerOf.{unanswered_on}
 use Rattle.core_laws.specs.PlainWorlds.{IsPlainWorld}
 use Rattle.core_laws.specs.WindowOf.{users_below}
 use Rattle.step_laws.specs.Whole.{IsLevel, IsKnown}
+use Rattle.scan_recovery.specs.Units.{image_of}
 use Rattle.write_window.specs.Window as window
 use Rattle.pblk_core.specs.Filling.{Filling}
 use Rattle.pblk_core.specs.Named.{pad_of, work_of}
@@ -27,16 +29,16 @@ use Rattle.pblk_core.specs.Stands.{Stands}
 use Rattle.pblk_core.specs.declared.target_core.Core.{Core}
 use Rattle.pblk_core.specs.declared.work.Work.{Work}
 use Rattle.look_laws.specs.SlotBlocks.{IsBlockOfSlot}
-use Rattle.block_target.specs.Deeds.{Deed, Decides, world_of}
+use Rattle.block_target.specs.Deeds.{Deed, Decides, drive_before, drive_found, world_of}
 use Rattle.block_target.specs.Granted.{WasRoom}
 use Rattle.block_target.specs.NothingLeft.{HasNothingLeftAt}
 
 pub record MountView : Type 0 where
   -- the drive as it was handed in
   pub image : Image
-  -- the drive as the mount found it, once it was made ready
+  -- the drive as the mount found it, after it was made ready
   pub found : Image
-  -- what was done since, oldest first
+  -- what was done since it was handed in, oldest first
   pub deeds : List Deed
   -- the drive's units
   pub units : List ModelUnit
@@ -46,6 +48,19 @@ pub record MountView : Type 0 where
   pub granted : ℕ
   -- the pad target
   pub pad : ℕ
+
+-- by what a mount keeps: the drive's shape, its units as they were and as they were found, what was done, the
+-- units with the wear of their chunks, the grant and the pad target
+abbrev pub mount_view : Shape → List (List ModelUnit) → List Deed → List ModelUnit → List (List ℕ) → ℕ → ℕ → MountView
+mount_view s drives deeds units wear granted pad = record {
+  image = image_of s (drive_before drives);
+  found = image_of s (drive_found drives);
+  deeds = deeds;
+  units = units;
+  wear = wear;
+  granted = granted;
+  pad = pad;
+}
 
 abbrev pub world_in : MountView → World
 world_in v = world_of v.image.shape v.deeds
@@ -90,8 +105,9 @@ pub record IsSound (v : MountView) : Type 0 where
   pub count : length v.units ≡ units v.image.shape
   pub each : (number : ℕ) (u : ModelUnit) → slice_get v.units number ≡ Some u → IsUnitIn v number u
 
--- Besides, the core stands for it, each stripe has landed, what the units did is noted, and the window holds just what isn't
--- given back; the pool's frames are left or in the window.
+-- Besides, the core stands for what was done. Each stripe has landed, and the engine has noted all that the
+-- units did. The window holds just what isn't given back, and each frame of the pool is left there or in the
+-- window.
 pub record IsMount (v : MountView) (c : Core) (p : PoolView) (filling : Filling) : Type 0 where
   pub sound : IsSound v
   pub stands : Stands v.image (logs_in v) c
@@ -115,8 +131,8 @@ pub record IsMount (v : MountView) (c : Core) (p : PoolView) (filling : Filling)
 
 -- What calls leave.
 
--- Nothing more was taken; what was done stays done, what is on the drive is there, no chunk's wear level index is changed,
--- and no grant is taken back.
+-- Nothing more was taken. What was done stays done, what was on the drive is still there, no chunk's wear level
+-- index has changed, and no grant is taken back.
 pub record IsSameMount (old new : MountView) : Type 0 where
   pub image : new.image ≡ old.image
   pub found : new.found ≡ old.found
@@ -156,13 +172,13 @@ with_entries v lba (sector ∷ sectors) = with_entries (with_entry v lba sector)
 abbrev pub work_in : MountView → Work
 work_in v = work_of v.image (logs_in v) v.pad
 
--- There is nothing left to do, whatever the pad target up to the mount's own is, and no room that isn't granted.
+-- There is nothing left to do with any pad target up to the mount's own, and no room that isn't granted.
 pub record IsSpent (v : MountView) : Type 0 where
   pub nothing_left : (asked : ℕ) → asked ≤ v.pad
       → HasNothingLeftAt v.image (logs_in v) asked (length (engine_log v))
   pub no_room : room v.image (logs_at (length (engine_log v)) (logs_in v)) ≤ v.granted
 
--- Collection isn't due, or there is nothing left to do.
+-- Collection isn't due, or nothing is left to do.
 abbrev pub IsCollectionOver : MountView → Type 0
 IsCollectionOver v = (is_due v.image (logs_in v) ≡ false)
     ⊎ HasNothingLeftAt v.image (logs_in v) 0 (length (engine_log v))

@@ -1,19 +1,20 @@
--- When a target that neither collects nor frees has nothing left that it could do, and which refusals for want of room
--- are said there. Such a target copies no sector and frees no line, however few lines are Free. So nothing is said here of
--- a copy that is due or of a line that may be freed.
-use Rattle.std.specs.Prelude.{ℕ, zero, suc, ◌+◌, ◌<◌, ◌≤◌, ◌≡◌, true, List, take, length, Some}
-use Rattle.std.specs.List.{Contains, AllByRecursion}
+-- When a target that neither collects nor frees has nothing left to do, and which calls may then answer Worn.
+-- Such a target copies no sector and frees no line, however few lines are Free. So nothing is said here of a
+-- copy that is due or of a line that may be freed.
+use Rattle.std.specs.Prelude.{ℕ, zero, suc, ◌+◌, ◌<◌, ◌≤◌, ◌≡◌, true, ⊤, List, [], ◌∷◌, take, length, Some}
+use Rattle.std.specs.List.{Contains}
 use Rattle.pblk_model.specs.Image.{Image}
 use Rattle.pblk_model.specs.StartRecord.{StartRecord}
 use Rattle.pblk_world.specs.Events.{Stripe}
 use Rattle.pblk_world.specs.World.{Logs}
-use Rattle.pblk_world.specs.EngineLog.{Begun, begun, Placed, placements, is_answered}
+use Rattle.pblk_world.specs.EngineLog.{Begun, begun, takes, Placed, placements, is_answered}
 use Rattle.pblk_world.specs.Fronts.{taken, synced, waiting}
 use Rattle.pblk_world.specs.Lines.{known_image, are_empty, is_given_up}
 use Rattle.pblk_world.specs.Opening.{MayOpen}
 use Rattle.pblk_world.specs.Space.{open_addresses, room}
 use Rattle.pblk_world.specs.AtRest.{logs_at, IsDue}
 use Rattle.block_port.specs.declared.rows.WornAnswer.{WornAnswer}
+use Rattle.block_target.specs.Granted.{WasRoom}
 
 -- There is nothing left to do with this pad target.
 pub record HasNothingLeft (i : Image) (logs : Logs) (asked : ℕ) : Type 0 where
@@ -34,18 +35,20 @@ pub record HasNothingLeftAt (i : Image) (logs : Logs) (asked n : ℕ) : Type 0 w
   pub within : n ≤ length (logs 0)
   pub nothing_left : HasNothingLeft i (logs_at n logs) asked
 
--- A refusal of a flush, or of the close, there: all that it wants is taken, and can't land.
+-- A refusal of a flush, or of the close, there: all that was taken is wanted, and not all of it can land.
 pub record IsFlushRefusal (i : Image) (logs : Logs) (n wanted have : ℕ) : Type 0 where
   pub nothing_left : HasNothingLeftAt i logs wanted n
   pub above : have < wanted
   pub is_synced : have ≡ synced i.shape (take n (logs 0))
-  pub all_taken : wanted ≤ taken (take n (logs 0))
+  pub all_taken : wanted ≡ taken (take n (logs 0))
 
--- A refusal of a write of so many sectors there: there is no room for them.
+-- A refusal of a write of so many sectors there: there is no room for them. What there is was granted: it is no
+-- less than the room now, and no more than the room was once.
 pub record IsWriteRefusal (i : Image) (logs : Logs) (n count wanted have : ℕ) : Type 0 where
   pub nothing_left : HasNothingLeftAt i logs 0 n
   pub above : have < wanted
   pub room : room i (logs_at n logs) ≤ have
+  pub granted : WasRoom i logs n have
   pub own_count : wanted ≡ taken (take n (logs 0)) + count
 
 -- by the count of sectors, which is 0 for a flush
@@ -53,6 +56,14 @@ abbrev pub IsRefusal : Image → Logs → ℕ → ℕ → ℕ → ℕ → Type 0
 IsRefusal i logs n zero wanted have = IsFlushRefusal i logs n wanted have
 IsRefusal i logs n (suc others) wanted have = IsWriteRefusal i logs n (suc others) wanted have
 
--- each of these answers is one, at some length
-abbrev pub AreRefusals : Image → Logs → List WornAnswer → Type 0
-AreRefusals i logs worns = AllByRecursion (λ a. (n : ℕ) × IsRefusal i logs n a.count a.wanted a.have) worns
+-- An answer is one there, and its port's sectors are all that was taken by then.
+pub record IsRefusedAt (i : Image) (logs : Logs) (n : ℕ) (a : WornAnswer) : Type 0 where
+  pub written : length (takes (take n (logs 0))) ≡ a.written
+  pub cause : IsRefusal i logs n a.count a.wanted a.have
+
+-- Each of these answers is one, in their order: each at a length that isn't below the one before it, nor below
+-- the one given.
+abbrev pub AreRefusals : Image → Logs → ℕ → List WornAnswer → Type 0
+AreRefusals i logs from [] = ⊤
+AreRefusals i logs from (a ∷ worns) =
+    (n : ℕ) × (from ≤ n) × IsRefusedAt i logs n a × AreRefusals i logs n worns

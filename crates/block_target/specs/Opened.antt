@@ -1,4 +1,4 @@
--- How a mount is opened on the units of a drive: what they do before it begins, and what is found then.
+-- How a mount is opened on the units of a drive: what these do before it begins, and what is then found.
 use Rattle.std.specs.Prelude.{◌≡◌, List, [], ◌∷◌}
 use Rattle.pblk_model.specs.declared.shape.Shape.{Shape}
 use Rattle.pblk_model.specs.declared.found.Found.{Found}
@@ -22,7 +22,8 @@ pub record IsReady (s : Shape) (old new : List ModelUnit) (ready : Ready) : Type
   pub drives : ready.drives ≡ old ∷ new ∷ []
   pub deeds : ready.deeds ≡ first_deeds old new ready.found
 
--- A mount of these units has begun, and that is all. It found the drive as that now is. It is granted what there is room for.
+-- A mount of these units has begun, and that is all. It found the drive as that now is. It is granted what there is room for,
+-- and asks for no pads.
 pub record IsOpened (s : Shape) (us : List ModelUnit) (v : MountView) : Type 0 where
   pub image : v.image ≡ image_of s us
   pub found_is : v.found ≡ image_of s v.units
@@ -30,3 +31,4 @@ pub record IsOpened (s : Shape) (us : List ModelUnit) (v : MountView) : Type 0 w
   pub is : IsFoundAfter s us v.units found
   pub deeds : v.deeds ≡ first_deeds us v.units found
   pub granted : v.granted ≡ room v.image (logs_in v)
+  pub pad : v.pad ≡ 0

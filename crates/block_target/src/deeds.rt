@@ -1,4 +1,4 @@
-//! What a target for one session does, as rows of lists that contracts see.
+//! What a target for one session does, as rows of lists that only contracts see.
 ghost use Rattle.std.specs.Prelude.{Some, map};
 ghost use Rattle.pblk_model.specs.ChunkStep.{Gave};
 ghost use Rattle.pblk_world.specs.Events.{Begin, Take, Open, Place};
@@ -32,7 +32,7 @@ impl Model for Deed {
     ghost view = { λ d. elim d.unmade as (λ _. Deed) [ ] };
 }
 
-/// The units of a drive, as they are at some moment. Such rows exist in contracts alone, too.
+/// The units of a drive, as they are at one moment. Such rows exist in contracts alone, too.
 pub(crate) struct DriveRow {
     unmade: Unmade,
 }
@@ -46,7 +46,7 @@ impl Model for DriveRow {
     ghost view = { λ d. elim d.unmade as (λ _. List ModelUnit) [ ] };
 }
 
-/// These are the units.
+/// Shows the units as they are now.
 #[derive(Drop)]
 pub(crate) struct Stand<'a, U: Unit> {
     pub(crate) units: &'a [U],
@@ -58,7 +58,8 @@ impl<U: Unit> Shows for Stand<'_, U> {
     ghost shown = { λ s. map U.model s.units.now };
 }
 
-/// The drive was made ready, whose units stand in the list's first row as they were before.
+/// Shows that the drive was made ready. These are its units as they are now; the list's first row has them as
+/// they were before.
 #[derive(Drop)]
 pub(crate) struct Readies<'a, U: Unit> {
     pub(crate) drives: &'a Log<DriveRow>,
@@ -71,7 +72,7 @@ impl<U: Unit> Shows for Readies<'_, U> {
     ghost shown = { λ r. deeds.Readies (new_events (drive_before r.drives.now) (map U.model r.units.now)) };
 }
 
-/// The mount begins with what was found.
+/// Shows that the mount begins, with what was found.
 #[derive(Drop)]
 pub(crate) struct Begins<'a> {
     pub(crate) found: &'a Found,
@@ -83,7 +84,7 @@ impl Shows for Begins<'_> {
     ghost shown = { λ b. Decides (Begin (beginning_of b.found.now)) };
 }
 
-/// An entry is taken.
+/// Shows that an entry is taken.
 #[derive(Drop)]
 pub(crate) struct Takes<'a> {
     pub(crate) entry: &'a Entry,
@@ -95,7 +96,7 @@ impl Shows for Takes<'_> {
     ghost shown = { λ t. Decides (Take (entry_of t.entry.now) (mark_of t.entry.now)) };
 }
 
-/// The line is opened that the core names.
+/// Shows that the engine opens the line that the core names.
 #[derive(Drop)]
 pub(crate) struct Opens<'a> {
     pub(crate) core: &'a Core,
@@ -107,7 +108,7 @@ impl Shows for Opens<'_> {
     ghost shown = { λ o. Decides (Open (next_start o.core.now).line (next_start o.core.now)) };
 }
 
-/// A stripe is placed.
+/// Shows that the engine places this stripe.
 #[derive(Drop)]
 pub(crate) struct Places<'a> {
     pub(crate) stripe: &'a Stripe,
@@ -119,7 +120,7 @@ impl Shows for Places<'_> {
     ghost shown = { λ p. Decides (Place p.stripe.now.stripe) };
 }
 
-/// Its unit programs it.
+/// Shows that the stripe's unit programs it.
 #[derive(Drop)]
 pub(crate) struct Programs<'a> {
     pub(crate) stripe: &'a Stripe,
@@ -131,7 +132,7 @@ impl Shows for Programs<'_> {
     ghost shown = { λ p. Does p.stripe.now.stripe.unit (program_of p.stripe.now.stripe) };
 }
 
-/// The program of a unit is noted as landed.
+/// Shows that the engine notes the unit's last program as landed.
 #[derive(Drop)]
 pub(crate) struct Landing {
     pub(crate) unit: u32,
@@ -143,7 +144,7 @@ impl Shows for Landing {
     ghost shown = { λ l. Lands l.unit };
 }
 
-/// A unit resets a chunk.
+/// Shows that a unit resets its chunk of a line.
 #[derive(Drop)]
 pub(crate) struct Resets {
     pub(crate) unit: u32,
@@ -156,7 +157,7 @@ impl Shows for Resets {
     ghost shown = { λ r. Does r.unit (reset_of r.line) };
 }
 
-/// The reset of a unit is noted.
+/// Shows that the engine notes the unit's last reset.
 #[derive(Drop)]
 pub(crate) struct NotesReset {
     pub(crate) unit: u32,
@@ -168,7 +169,7 @@ impl Shows for NotesReset {
     ghost shown = { λ n. deeds.NotesReset n.unit };
 }
 
-/// A unit gives a block.
+/// Shows that a unit gives a block that is fetched.
 #[derive(Drop)]
 pub(crate) struct Fetches<'a> {
     pub(crate) unit: u32,

@@ -6,6 +6,7 @@ mod mount;
 mod opening;
 mod readying;
 mod serial;
+mod waiting;
 
 pub use block_port::{FlushErr, Front, Note, Place, Port, ReadErr, WriteErr};
 pub use opening::{OpenErr, Refused, SettleErr};

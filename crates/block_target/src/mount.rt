@@ -1,5 +1,5 @@
-//! A mount of a drive for one session: the core, its pool and the drive's units.
-ghost use Rattle.std.specs.Prelude.{◌≡◌, ◌<◌, ◌≤◌, ◌++◌, [], ◌∷◌, map, max, length, slice_get, true, false, Some, IfOk, IfErr, IsOk, ◌+◌};
+//! A mount of a drive for one session: the core, its pool of frames and the drive's units.
+ghost use Rattle.std.specs.Prelude.{◌≡◌, ◌<◌, map, max, length, slice_get, true, false, Some, IfOk, IfErr, ◌+◌};
 ghost use Rattle.pblk_model.specs.Accepted.{IsAccepted};
 ghost use Rattle.pblk_model.specs.Found.{IsFitFound};
 ghost use Rattle.pblk_model.specs.Frames.{count_out};
@@ -15,8 +15,7 @@ ghost use Rattle.pblk_core.specs.Named.{pad_of};
 ghost use Rattle.pblk_core.specs.Stands.{Stands};
 ghost use Rattle.scan_recovery.specs.Units.{AreFit};
 ghost use Rattle.unit_port.specs.Commands.{AreUnarmed};
-ghost use Rattle.block_target.specs.Granted.{WasRoom};
-ghost use Rattle.block_target.specs.Mount.{MountView, IsMount, IsSound, IsSameMount, IsStuckAt, IsSpent, IsCollectionOver, IsFetchable, engine_log, logs_in, with_entry, work_in, with_pad, taken_in, synced_in, front_taken, front_synced, latest};
+ghost use Rattle.block_target.specs.Mount.{MountView, IsMount, IsSound, IsSameMount, IsSpent, IsFetchable, engine_log, logs_in, with_entry, work_in, taken_in, synced_in, front_taken, latest};
 ghost use Rattle.pblk_core.specs.Resets.{IsToReset};
 ghost use Rattle.scan_recovery.specs.Readying.{AreHandedBack};
 ghost use Rattle.block_target.specs.Opened.{IsOpened};
@@ -27,43 +26,43 @@ use crate::deeds::{
 };
 use crate::opening::{OpenErr, Refused};
 use crate::readying::{Ready, cause_of, ready_drive};
-use pblk_core::{Core, Look, Stripe, Work};
+use l2p_map::Slot;
+use pblk_core::{Core, Stripe, Work};
 use pblk_model::{Found, Front, Got, Shape};
 use sector_pool::{Class, Entry, Pool};
 use std::alloc::{AllocError, Global};
 use std::marker::Model;
-use std::sync::Wait;
 use unit_port::{Log, Unit};
 
-/// A mount for one session, which does all work in its own calls: entries are taken as they are claimed, and a
-/// stripe is programmed as it is placed.
+/// A mount for one session. It does all work in its own calls: an entry is taken as it is claimed, and a stripe
+/// is programmed as it is placed.
 pub(crate) struct Mount<U: Unit> {
     shape: Shape,
-    core: Core,
+    pub(crate) core: Core,
     pool: Pool,
     units: Vec<U>,
     stripe: Stripe,
-    granted: u64,
-    // the units as they were handed in, and as they were found
+    pub(crate) granted: u64,
+    // the units as they were handed in, and as the mount found them
     drives: Log<DriveRow>,
     deeds: Log<Deed>,
 }
 
 impl<U: Unit> Model for Mount<U> {
     ghost use Rattle.std.specs.Prelude.{map};
-    ghost use Rattle.scan_recovery.specs.Units.{image_of};
     ghost use Rattle.pblk_core.specs.Named.{pad_of};
-    ghost use Rattle.block_target.specs.Mount.{MountView, IsMount};
-    ghost use Rattle.block_target.specs.Deeds.{drive_before, drive_found};
+    ghost use Rattle.block_target.specs.Mount.{MountView, IsMount, mount_view};
 
     ghost Value = { MountView };
 
-    ghost view = { λ m. record { image = image_of m.shape (drive_before m.drives); found = image_of m.shape (drive_found m.drives); deeds = m.deeds; units = map U.model m.units.items; wear = map U.wear m.units.items; granted = m.granted; pad = pad_of m.core } };
+    ghost view = { λ m. mount_view m.shape m.drives m.deeds (map U.model m.units.items)
+        (map U.wear m.units.items) m.granted (pad_of m.core) };
 
-    ghost invariant = { λ m. IsMount (record { image = image_of m.shape (drive_before m.drives); found = image_of m.shape (drive_found m.drives); deeds = m.deeds; units = map U.model m.units.items; wear = map U.wear m.units.items; granted = m.granted; pad = pad_of m.core }) m.core m.pool m.stripe };
+    ghost invariant = { λ m. IsMount (mount_view m.shape m.drives m.deeds (map U.model m.units.items)
+        (map U.wear m.units.items) m.granted (pad_of m.core)) m.core m.pool m.stripe };
 }
 
-// What a mount keeps beside its units and what was done.
+// What a mount has beside its units and the lists of what was done.
 struct Parts {
     core: Core,
     pool: Pool,
@@ -86,7 +85,7 @@ fn make_parts(alloc: Global, shape: &Shape, found: Found) -> Result<Parts, Alloc
     }
 }
 
-// Ends a pool whose frames are all left.
+// Ends a pool that has all its frames back.
 fn end_pool(pool: Pool)
     requires { count_out pool.left ≡ 0 }
 {
@@ -96,8 +95,8 @@ fn end_pool(pool: Pool)
     }
 }
 
-// Gives the frames of all that can be read on the drive back. The core stands for what it did, and its window begins
-// at the front freed.
+// Gives back the frames of all entries that can be read on the drive. The core stands for the same log as
+// before, and its window then begins at the front freed.
 fn free_frames(core: &mut Core, pool: &mut Pool)
     requires { view.AreOf pool.old.region core.old.window.entries }
     ensures stands { (i : Image) (w : World) → IsPlainWorld i w → Stands i (log_of w) core.old
@@ -117,8 +116,8 @@ fn free_frames(core: &mut Core, pool: &mut Pool)
 }
 
 impl<U: Unit> Mount<U> {
-    /// A mount of units that are armed with nothing: their drive is made ready, and the mount begins with what is found
-    /// of it.
+    /// Opens a mount on the units of a drive, which are armed with nothing. The drive is made ready, and the
+    /// mount begins with what is found on it. It is granted what there is room for, and its pad target is 0.
     pub(crate) fn open(
         alloc: Global,
         mut units: Vec<U>,
@@ -128,9 +127,12 @@ impl<U: Unit> Mount<U> {
         requires fit { AreFit shape.now (map U.model units.items) }
         requires unarmed { AreUnarmed (map U.model units.items) }
         ensures opened { IfOk result (IsOpened shape.now (map U.model units.items)) }
+        ensures sound { IfOk result IsSound }
         ensures wear { IfOk result (λ m. m.wear ≡ map U.wear units.items) }
-        ensures refused { IfErr result (λ r. AreHandedBack shape.now (map U.model units.items) (map U.model r.units.items)) }
-        ensures refused_wear { IfErr result (λ r. map U.wear r.units.items ≡ map U.wear units.items) }
+        ensures refused { IfErr result (λ r.
+            AreHandedBack shape.now (map U.model units.items) (map U.model r.units.items)) }
+        ensures refused_wear { IfErr result (λ r.
+            map U.wear r.units.items ≡ map U.wear units.items) }
         ensures quiet { IfErr result (λ r. r.cause ≡ OpenErr.Memory) }
     {
         let Ready {
@@ -168,16 +170,11 @@ impl<U: Unit> Mount<U> {
         }
     }
 
-    /// What was done is a legal world, and the units are as it leaves them.
-    pub(crate) fn is_sound(&self)
-        ensures { IsSound self.now }
-    {
-        let _ = &self.shape;
-    }
-
-    /// What is found on the drive, if that was sealed, ends at the front synced, since each stripe has landed.
+    /// Where the drive was sealed when it was handed in, what is found on it now ends at the front synced: each
+    /// stripe has landed.
     pub(crate) fn ends_synced(&self)
-        ensures { IsSealed self.now.image → end (media self.now.image (logs_in self.now)) ≡ synced_in self.now }
+        ensures { IsSealed self.now.image
+            → end (media self.now.image (logs_in self.now)) ≡ synced_in self.now }
     {
         let _ = &self.shape;
     }
@@ -196,8 +193,8 @@ impl<U: Unit> Mount<U> {
         self.core.front()
     }
 
-    /// Looks what comes next, and does it, so that the engine's log grows; false where there is nothing to do.
-    fn pump(&mut self) -> bool
+    /// Does what comes next, so that the engine's log grows. It answers false where there is nothing to do.
+    pub(crate) fn pump(&mut self) -> bool
         ensures same { IsSameMount self.old self.new }
         ensures pad { self.new.pad ≡ self.old.pad }
         ensures more { result ≡ true → length (engine_log self.old) < length (engine_log self.new) }
@@ -212,7 +209,7 @@ impl<U: Unit> Mount<U> {
         true
     }
 
-    // Resets a chunk of a line that was given up. The core names it.
+    // Resets the chunk that the core names, of a line that was given up, and notes that.
     fn reset(&mut self, line: u32, unit: u32)
         requires named { work_in self.old ≡ works.Reset line unit }
         requires given_up { IsToReset self.old.image (logs_in self.old) line unit }
@@ -233,7 +230,7 @@ impl<U: Unit> Mount<U> {
         self.granted = self.granted.max(self.core.grant());
     }
 
-    // Opens the next line. The core names it.
+    // Opens the line that the core names.
     fn open_line(&mut self)
         requires { work_in self.old ≡ works.Open }
         ensures same { IsSameMount self.old self.new }
@@ -245,7 +242,7 @@ impl<U: Unit> Mount<U> {
         self.granted = self.granted.max(self.core.grant());
     }
 
-    // Places the next stripe, which the core names, and programs it.
+    // Places the stripe that the core names, has its unit program it, and notes that it landed.
     fn program(&mut self)
         requires { work_in self.old ≡ works.Program }
         ensures same { IsSameMount self.old self.new }
@@ -272,12 +269,13 @@ impl<U: Unit> Mount<U> {
         self.granted = self.granted.max(self.core.grant());
     }
 
-    /// Takes a sector at the next position.
+    /// Takes a sector at the next position, which was granted.
     pub(crate) fn take(&mut self, lba: u64, sector: &[u8])
         requires lba { lba < self.old.image.shape.capacity }
         requires size { length sector.now ≡ self.old.image.shape.sector }
         requires room { taken_in self.old < self.old.granted }
-        ensures { self.new ≡ with_entry self.old lba sector.now }
+        ensures taken { self.new ≡ with_entry self.old lba sector.now }
+        ensures sound { IsSound self.new }
     {
         // a frame is left, since those that are out are fewer than the ring has
         self.pool.left();
@@ -297,120 +295,37 @@ impl<U: Unit> Mount<U> {
         self.core.take(entry);
     }
 
-    /// Works until positions up to `wanted` are granted. Else there is nothing more to do, and those below what is
-    /// answered are granted. No more is granted than there once was room for.
-    pub(crate) fn claim<R: Wait>(&mut self, rt: &R, wanted: u64) -> Result<(), u64>
-        ensures same { IsSameMount self.old self.new }
-        ensures pad { self.new.pad ≡ self.old.pad }
-        ensures granted { IsOk result → wanted ≤ self.new.granted }
-        ensures once { let length_now = length (engine_log self.new) in
-            WasRoom self.new.image (logs_in self.new) length_now self.new.granted }
-        ensures stuck { IfErr result (λ have. (have ≡ self.new.granted) × IsStuckAt self.new wanted have) }
-    {
-        for _ in rt.forever() {
-            if wanted <= self.granted {
-                return Ok(());
-            }
-            if !self.pump() {
-                return Err(self.granted);
-            }
-        }
-        unreachable!()
-    }
-
-    // Raises the pad target.
-    fn ask_pad(&mut self, to: u64)
-        ensures { self.new ≡ with_pad self.old (max self.old.pad to) }
-    {
-        self.core.ask_pad(to);
-    }
-
-    /// Asks for pads up to a position, and works until all below it is on the drive: gives the front synced. Else
-    /// there is nothing more to do, and all below what is answered is there.
-    pub(crate) fn sync<R: Wait>(&mut self, rt: &R, wanted: u64) -> Result<Front, u64>
-        ensures same { IsSameMount self.old self.new }
-        ensures pad { self.new.pad ≡ max self.old.pad wanted }
-        ensures synced { IfOk result (λ front.
-            (front ≡ front_synced self.new) × (wanted ≤ front.position)) }
-        ensures stuck { IfErr result (λ have.
-            (have ≡ synced_in self.new) × (wanted ≤ self.new.pad) × IsStuckAt self.new wanted have) }
-    {
-        self.ask_pad(wanted);
-        for _ in rt.forever() {
-            let synced = self.core.synced();
-            if wanted <= synced.position {
-                return Ok(synced);
-            }
-            if !self.pump() {
-                return Err(synced.position);
-            }
-        }
-        unreachable!()
-    }
-
-    /// Works until collection isn't due, or nothing is left to do.
-    fn rest<R: Wait>(&mut self, rt: &R)
-        ensures same { IsSameMount self.old self.new }
-        ensures pad { self.new.pad ≡ self.old.pad }
-        ensures resting { IsCollectionOver self.new }
-    {
-        for _ in rt.forever() {
-            if !self.core.is_due() {
-                return;
-            }
-            if !self.pump() {
-                return;
-            }
-        }
-        unreachable!()
-    }
-
-    /// Works until all below a position is on the drive, and then until collection isn't due, or nothing is left to
-    /// do. Else not all of it is there and there is nothing more to do, and all below what is answered is there.
-    pub(crate) fn settle<R: Wait>(&mut self, rt: &R, wanted: u64) -> Result<(), u64>
-        ensures same { IsSameMount self.old self.new }
-        ensures pad { self.new.pad ≡ max self.old.pad wanted }
-        ensures synced { IsOk result → wanted ≤ synced_in self.new }
-        ensures resting { IsOk result → IsCollectionOver self.new }
-        ensures stuck { IfErr result (λ have.
-            (have ≡ synced_in self.new) × (wanted ≤ self.new.pad) × IsStuckAt self.new wanted have) }
-    {
-        match self.sync(rt, wanted) {
-            Ok(_) => (),
-            Err(have) => return Err(have),
-        }
-        self.rest(rt);
-        Ok(())
-    }
-
-    /// Copies the latest content of a sector.
+    /// Copies the latest content of a sector to `out`.
     pub(crate) fn read(&mut self, lba: u64, out: &mut [u8])
         requires lba { lba < self.old.image.shape.capacity }
         requires size { length out.old ≡ self.old.image.shape.sector }
         ensures same { IsSameMount self.old self.new }
         ensures pad { self.new.pad ≡ self.old.pad }
+        ensures sound { IsSound self.new }
         ensures latest { slice_get (latest self.old) lba ≡ Some out.new }
     {
         match self.core.look(lba) {
-            Look::Unwritten => out.fill(0),
-            Look::Cached(position) => match self.core.bytes(position) {
+            Slot::Unwritten => out.fill(0),
+            Slot::Cached(position) => match self.core.bytes(position) {
                 Some(sector) => out.copy_from_slice(sector),
                 None => unreachable!(),
             },
-            Look::Media { line, at, .. } => {
+            Slot::Media { line, at, .. } => {
                 let (unit, block) = self.core.address(line, at);
                 self.fetch(unit, line, block, out);
             }
         }
     }
 
-    // Fetches a block that can be read.
+    // Fetches the block to which a sector's slot leads. It can be read.
     fn fetch(&mut self, unit: u32, chunk: u32, block: u32, out: &mut [u8])
         requires size { length out.old ≡ self.old.image.shape.sector }
         requires there { (sector : _) × IsFetchable self.old unit chunk block sector }
         ensures same { IsSameMount self.old self.new }
         ensures pad { self.new.pad ≡ self.old.pad }
-        ensures sector { (sector : _) → IsFetchable self.old unit chunk block sector → out.new ≡ sector }
+        ensures sound { IsSound self.new }
+        ensures sector { (sector : _) → IsFetchable self.old unit chunk block sector
+            → out.new ≡ sector }
     {
         let from = &mut self.units[unit as usize];
         match from.fetch(chunk, block, out) {
@@ -426,7 +341,7 @@ impl<U: Unit> Mount<U> {
         }
     }
 
-    /// Ends the mount, and hands the units back.
+    /// Ends the mount, and hands back the units as they are.
     pub(crate) fn end(self) -> Vec<U>
         ensures units { map U.model result.items ≡ self.units }
         ensures wear { map U.wear result.items ≡ self.wear }

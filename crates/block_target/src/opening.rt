@@ -5,8 +5,8 @@ use thiserror::Error;
 /// Why a target wasn't opened.
 #[derive(Clone, Copy, Debug, PartialEq, Eq, Error)]
 pub enum OpenErr {
-    /// This event of this unit, made in this call, was a stopped command or a fetch of a written block that failed. Units
-    /// are numbered from 0, and the events of a unit's log from 1. It doesn't come so far.
+    /// This event of this unit, made in this call, was a stopped command, or a fetch of a written block that
+    /// failed. Units are numbered from 0, and the events of a unit's log from 1. It doesn't come yet.
     #[error("event {event} of unit {unit} failed or was stopped")]
     Drive { unit: u32, event: u64 },
     /// There isn't the memory for it.
@@ -14,9 +14,9 @@ pub enum OpenErr {
     Memory,
 }
 
-/// A target that wasn't opened: its units, and why. The drive holds what it held where that was sealed.
+/// A target that wasn't opened: its units, and why. A drive that was sealed holds what it held before.
 pub struct Refused<U> {
-    /// All of them, in their order.
+    /// All units, in their order.
     pub units: Vec<U>,
     /// Why the target wasn't opened.
     pub cause: OpenErr,
@@ -25,10 +25,11 @@ pub struct Refused<U> {
 /// Why not all that was written is on the drive as a target closes.
 #[derive(Clone, Copy, Debug, PartialEq, Eq, Error)]
 pub enum SettleErr {
-    /// This event of this unit, numbered from 1, was a failed fetch or a stopped command. It doesn't come so far.
+    /// This event of this unit, numbered from 1, was a failed fetch or a stopped command. It doesn't come yet.
     #[error("event {event} of unit {unit} failed or was stopped")]
     Drive { unit: u32, event: u64 },
-    /// All positions below `wanted` were asked for, those below `have` are on the drive, and nothing is left to do.
+    /// All positions below `wanted` were asked for, those below `have` are on the drive, and nothing is left to
+    /// do.
     #[error("{wanted} is wanted, and there is {have}")]
     Worn { wanted: u64, have: u64 },
 }

@@ -1,4 +1,4 @@
-//! A drive is made ready for a mount: chunks that were left Open are padded, and then it is scanned.
+//! How a drive is made ready for a mount: chunks that were left Open are padded, and then the drive is scanned.
 
 ghost use Rattle.std.specs.Prelude.{◌≡◌, ℕ, [], map, IfOk, IfErr, OnErr};
 ghost use Rattle.pblk_model.specs.Accepted.{IsAccepted};
@@ -14,8 +14,8 @@ use scan_recovery::{ScanErr, make_ready};
 use std::alloc::{AllocError, Global};
 use unit_port::{Log, Unit};
 
-/// A drive that is ready: what was found of it, its units as they were before and as they were found,
-/// and what was done since.
+/// A drive that is ready: what was found on it, its units as they were before and as they are now, and what was
+/// done meanwhile.
 #[derive(Drop)]
 pub(crate) struct Ready {
     pub(crate) drives: Log<DriveRow>,
@@ -23,7 +23,7 @@ pub(crate) struct Ready {
     pub(crate) deeds: Log<Deed>,
 }
 
-// The lists of a mount of which nothing was done.
+// The lists of a mount that has done nothing yet.
 #[derive(Drop)]
 struct Rows {
     drives: Log<DriveRow>,
@@ -39,8 +39,8 @@ fn make_rows(alloc: Global) -> Result<Rows, AllocError>
     })
 }
 
-/// Makes a drive ready whose units are armed with nothing, and lets a mount begin with what is found of it. After an
-/// error the drive holds what it held.
+/// Makes a drive ready whose units are armed with nothing, and notes that a mount begins with what was found on
+/// it. After an error the drive holds what it held before.
 pub(crate) fn ready_drive<U: Unit>(
     alloc: Global,
     units: &mut [U],
@@ -49,8 +49,10 @@ pub(crate) fn ready_drive<U: Unit>(
     requires accepted { IsAccepted shape.now }
     requires fit { AreFit shape.now (map U.model units.old) }
     requires unarmed { AreUnarmed (map U.model units.old) }
-    ensures ready { IfOk result (IsReady shape.now (map U.model units.old) (map U.model units.new)) }
-    ensures handed_back { OnErr result (AreHandedBack shape.now (map U.model units.old) (map U.model units.new)) }
+    ensures ready { IfOk result
+        (IsReady shape.now (map U.model units.old) (map U.model units.new)) }
+    ensures handed_back { OnErr result
+        (AreHandedBack shape.now (map U.model units.old) (map U.model units.new)) }
     ensures quiet { IfErr result (λ e. e ≡ ScanErr.Memory) }
     ensures wear { map U.wear units.new ≡ map U.wear units.old }
 {
@@ -82,9 +84,10 @@ pub(crate) fn ready_drive<U: Unit>(
     }
 }
 
-/// Why a target isn't opened on a drive that couldn't be made ready.
+/// Why a target isn't opened where its drive couldn't be made ready.
 pub(crate) fn cause_of(e: ScanErr) -> OpenErr
-    ensures drive { (unit event : ℕ) → e ≡ ScanErr.Drive unit event → result ≡ OpenErr.Drive unit event }
+    ensures drive { (unit event : ℕ) → e ≡ ScanErr.Drive unit event
+        → result ≡ OpenErr.Drive unit event }
     ensures memory { e ≡ ScanErr.Memory → result ≡ OpenErr.Memory }
 {
     match e {

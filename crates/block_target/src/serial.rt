@@ -1,21 +1,17 @@
 //! A target for one session.
-ghost use Rattle.std.specs.Prelude.{ℕ, OnErr, IsErrOf, ◌≡◌, ◌<◌, ◌≤◌, [], ◌∷◌, ◌++◌, map, length, max, slice_range, ◌↔◌, IsTrue, IfOk, IfErr, ◌+◌, ◌*◌, ◌^◌};
+ghost use Rattle.std.specs.Prelude.{OnErr, IsErrOf, ◌≡◌, ◌<◌, ◌≤◌, [], ◌∷◌, ◌++◌, map, length, max, slice_range, ◌↔◌, IsTrue, IfOk, IfErr, ◌+◌, ◌*◌, ◌^◌};
 ghost use Rattle.std.specs.List.{flat_map};
 ghost use Rattle.pblk_model.specs.Accepted.{IsAccepted};
-ghost use Rattle.pblk_model.specs.Contents.{end};
-ghost use Rattle.pblk_model.specs.Sealed.{IsSealed};
-ghost use Rattle.pblk_world.specs.World.{media};
 ghost use Rattle.block_port.specs.Own.{lines_of, sectors_of};
-ghost use Rattle.block_port.specs.Port.{AreSectors, IsPastEnd, IsSameTarget, Learns, IsWritten, IsSeen, AreShort, count_in, sectors_at};
+ghost use Rattle.block_port.specs.Port.{AreSectors, IsPastEnd, IsSameTarget, Learns, IsWritten, IsSeen, AreShort, count_in, sectors_at, written_by};
 ghost use Rattle.block_port.specs.Port.{write_faults, write_worns, read_faults, flush_faults, flush_worns};
 ghost use Rattle.scan_recovery.specs.Units.{AreFit};
+ghost use Rattle.block_target.specs.NothingLeft.{IsRefusal};
 ghost use Rattle.unit_port.specs.Commands.{AreUnarmed};
-ghost use Rattle.block_target.specs.Granted.{AreGranted};
-ghost use Rattle.block_target.specs.NothingLeft.{IsRefusal, AreRefusals};
 ghost use Rattle.scan_recovery.specs.Readying.{AreHandedBack};
 ghost use Rattle.block_target.specs.Opened.{IsOpened};
-ghost use Rattle.block_target.specs.Mount.{MountView, IsSameMount, IsSound, front_taken, latest, logs_in, synced_in, taken_in, with_entries};
-ghost use Rattle.block_target.specs.Serial.{SerialView, Settles, WriteCause, FlushCause, IsGrantedPlace, device, lines_in};
+ghost use Rattle.block_target.specs.Mount.{MountView, IsSameMount, IsSound, engine_log, front_taken, latest, logs_in, taken_in, with_entries};
+ghost use Rattle.block_target.specs.Serial.{SerialView, IsClosed, WriteCause, FlushCause, IsGrantedPlace, device, lines_in};
 
 use crate::mount::Mount;
 use crate::opening::{OpenErr, Refused, SettleErr};
@@ -28,11 +24,11 @@ use std::marker::Model;
 use std::sync::Wait;
 use unit_port::{Log, Unit};
 
-/// A target for one session over real units: it does all work in its own calls (Bjørling, González, Bonnet, FAST
-/// 2017, write buffering).
+/// A target for one session over real units. It does all work in its own calls (Bjørling, González, Bonnet,
+/// FAST 2017, write buffering).
 ///
-/// Contracts see what was done, in order, as the steps of a legal world, with what the session has seen and
-/// was answered.
+/// Contracts see what was done, in order, as the steps of a legal world. They see what the session has seen as
+/// a position, its writes, and its calls that answered Worn.
 pub struct Serial<U: Unit> {
     mount: Mount<U>,
     seen: u64,
@@ -50,7 +46,7 @@ impl<U: Unit> Model for Serial<U> {
     ghost invariant = { λ s. IsSerial (record { mount = s.mount; seen = s.seen; own = s.own; worns = s.worns }) };
 }
 
-// The lists of a port that has answered nothing.
+// The lists of a port that has answered nothing yet.
 #[derive(Drop)]
 struct Lists {
     own: Log<OwnWrite>,
@@ -67,13 +63,15 @@ fn make_lists(alloc: Global) -> Result<Lists, AllocError>
 }
 
 impl<U: Unit> Serial<U> {
-    /// Opens a target over units of a drive of an accepted shape, as many as it has, that are armed with nothing. Chunks
-    /// that were left Open are padded to their ends, then the drive is scanned, and the mount begins with what is found
-    /// (Bjørling, González, Bonnet, FAST 2017, recovery). It takes all memory of the mount.
+    /// Opens a target over the units of a drive. The shape is accepted, there are as many units as it has, and
+    /// they are armed with nothing. Chunks that were left Open are padded to their ends. Then the drive is
+    /// scanned, and the mount begins with what is found (Bjørling, González, Bonnet, FAST 2017, recovery). It
+    /// is granted what there is room for, and its pad target is 0. The call takes all memory of the mount.
     ///
-    /// Refused: `Drive` where a program of the padding was stopped, or a fetch of a written block failed or was stopped,
-    /// which doesn't come while all are armed with nothing; then `Memory`. The units are handed back. What a sealed drive
-    /// held it holds still, whatever is answered.
+    /// `Drive` would come where a program of the padding was stopped, or where a fetch of a written block
+    /// failed or was stopped; it doesn't come while the units are armed with nothing. `Memory` comes where
+    /// there isn't the memory. After an error the units are handed back. What a sealed drive held it holds
+    /// still, whatever is answered.
     pub fn open(alloc: Global, units: Vec<U>, shape: &Shape) -> Result<Serial<U>, Refused<U>>
         requires accepted { IsAccepted shape.now }
         requires fit { AreFit shape.now (map U.model units.items) }
@@ -81,8 +79,10 @@ impl<U: Unit> Serial<U> {
         ensures opened { IfOk result (λ s. IsOpened shape.now (map U.model units.items) s.mount) }
         ensures wear { IfOk result (λ s. s.mount.wear ≡ map U.wear units.items) }
         ensures new_port { IfOk result (λ s. (s.seen ≡ 0) × (s.own ≡ []) × (s.worns ≡ [])) }
-        ensures refused { IfErr result (λ r. AreHandedBack shape.now (map U.model units.items) (map U.model r.units.items)) }
-        ensures refused_wear { IfErr result (λ r. map U.wear r.units.items ≡ map U.wear units.items) }
+        ensures refused { IfErr result (λ r.
+            AreHandedBack shape.now (map U.model units.items) (map U.model r.units.items)) }
+        ensures refused_wear { IfErr result (λ r.
+            map U.wear r.units.items ≡ map U.wear units.items) }
         ensures quiet { IfErr result (λ r. r.cause ≡ OpenErr.Memory) }
     {
         let Ok(Lists { own, worns }) = make_lists(alloc) else {
@@ -109,28 +109,23 @@ impl<U: Unit> Serial<U> {
         self.mount.front()
     }
 
-    /// Brings all that was taken to the drive, and then, while the Free lines are few, does what is left to do. Hands
-    /// the units back. What is then found on a drive that was sealed ends at the front synced. All that was taken are
-    /// the session's own writes.
+    /// Brings all that was taken to the drive, and then, while the Free lines are few, does what is left to do.
+    /// It hands the units back. What is then found on a drive that was sealed ends at the front synced. All
+    /// that was taken are the session's own writes, and each was granted before it was taken.
     ///
-    /// `Worn` comes where not all of it is there and nothing is left to do: `wanted` is the front taken, and `have`
-    /// the front synced. `Drive` doesn't come, since no command fails or is stopped. Each call that answered `Worn`
-    /// had its cause, at some length of the engine's log.
+    /// `Worn` comes where not all of it is there and nothing is left to do: `wanted` is the front taken, and
+    /// `have` is the front synced. `Drive` doesn't come, since no command fails or is stopped. Each call that
+    /// answered `Worn` had its cause at a length of the engine's log, and these lengths rise with the calls.
     pub fn close<R: Wait>(mut self, rt: &R) -> (Vec<U>, Result<(), SettleErr>)
-        ensures closed { (v : MountView) × IsSameMount self.mount v × IsSound v
-            × (map U.model result.0.items ≡ v.units) × (map U.wear result.0.items ≡ v.wear) × Settles result.1 v
-            × AreRefusals v.image (logs_in v) self.worns × (taken_in v ≡ taken_in self.mount)
-            × (IsSealed v.image → end (media v.image (logs_in v)) ≡ synced_in v)
-            × AreGranted v.image (logs_in v) × (v.pad ≡ max self.mount.pad (taken_in self.mount)) }
+        ensures closed { (v : MountView) × IsClosed self result.1 v
+            × (map U.model result.0.items ≡ v.units) × (map U.wear result.0.items ≡ v.wear) }
         ensures alone { lines_in self.mount ≡ flat_map lines_of self.own }
     {
-        self.mount.is_sound();
         let wanted = self.mount.front().position;
         let settled = match self.mount.settle(rt, wanted) {
             Ok(()) => Ok(()),
             Err(have) => Err(SettleErr::Worn { wanted, have }),
         };
-        self.mount.is_sound();
         self.mount.ends_synced();
         let Serial {
             mount,
@@ -141,7 +136,7 @@ impl<U: Unit> Serial<U> {
         (mount.end(), settled)
     }
 
-    // Waits until all that the session has seen is taken.
+    // Waits until all that the session has seen is taken here.
     fn catch_up<R: Wait>(&self, rt: &R)
         ensures { self.now.seen ≤ taken_in self.now.mount }
     {
@@ -153,11 +148,10 @@ impl<U: Unit> Serial<U> {
         unreachable!()
     }
 
-    // Whether the sectors from `lba` on that so many bytes are aren't all below the capacity.
+    // Whether so many bytes are too many sectors from `lba` on: not all of these are below the capacity.
     fn is_past_end(&self, lba: u64, len: usize) -> bool
         ensures { IsTrue result ↔ IsPastEnd (device self.now) lba len }
     {
-        self.mount.is_sound();
         let shape = self.mount.shape();
         match lba.checked_add((len / shape.sector as usize) as u64) {
             None => true,
@@ -165,17 +159,22 @@ impl<U: Unit> Serial<U> {
         }
     }
 
-    // Notes a call that is refused for want of room.
+    // Notes a call that answers Worn. Its cause stands at the end of the engine's log.
     fn add_worn(&mut self, count: u32, wanted: u64, have: u64)
-        requires { (n : ℕ) × IsRefusal self.old.mount.image (logs_in self.old.mount) n count wanted have }
-        ensures { self.new ≡ record {
-          mount = self.old.mount;
-          seen = self.old.seen;
-          own = self.old.own;
-          worns = self.old.worns ++ record { count = count; wanted = wanted; have = have } ∷ [];
+        requires { let length_now = length (engine_log self.old.mount) in
+            IsRefusal self.old.mount.image (logs_in self.old.mount) length_now count wanted have }
+        ensures { self.new ≡ record self.old {
+          worns = self.old.worns ++ record {
+            written = written_by (device self.old);
+            count = count;
+            wanted = wanted;
+            have = have;
+          } ∷ [];
         } }
     {
+        let written = self.mount.front().users;
         self.worns.add(&WornAnswer {
+            written,
             count,
             wanted,
             have,
@@ -190,7 +189,9 @@ fn take_all<U: Unit>(mount: &mut Mount<U>, lba: u64, bytes: &[u8], count: u32, s
     requires inside { lba + count ≤ mount.old.image.shape.capacity }
     requires small { lba + count < 2 ^ 64 }
     requires room { taken_in mount.old + count ≤ mount.old.granted }
-    ensures { mount.new ≡ with_entries mount.old lba (sectors_of size count bytes.now) }
+    requires sound { IsSound mount.old }
+    ensures taken { mount.new ≡ with_entries mount.old lba (sectors_of size count bytes.now) }
+    ensures sound { IsSound mount.new }
 {
     for index in 0..count {
         let at = index as usize * size;
@@ -204,9 +205,12 @@ fn read_all<U: Unit>(mount: &mut Mount<U>, lba: u64, out: &mut [u8], count: u32,
     requires whole { length out.old ≡ count * size }
     requires inside { lba + count ≤ mount.old.image.shape.capacity }
     requires end { lba + count < 2 ^ 64 }
+    requires sound { IsSound mount.old }
     ensures same { IsSameMount mount.old mount.new }
     ensures pad { mount.new.pad ≡ mount.old.pad }
-    ensures latest { sectors_of size count out.new ≡ slice_range (latest mount.old) lba (lba + count) }
+    ensures sound { IsSound mount.new }
+    ensures latest { sectors_of size count out.new
+        ≡ slice_range (latest mount.old) lba (lba + count) }
 {
     for index in 0..count {
         let at = index as usize * size;
@@ -225,16 +229,20 @@ impl<U: Unit> Port for Serial<U> {
         ensures pad { self.new.mount.pad ≡ self.old.mount.pad }
 
         // What each `Port` ensures.
-        ensures range { IsErrOf result WriteErr.Range ↔ IsPastEnd (device self.old) lba (length bytes.now) }
+        ensures range { IsErrOf result WriteErr.Range
+            ↔ IsPastEnd (device self.old) lba (length bytes.now) }
         ensures untouched { IsErrOf result WriteErr.Range → device self.new ≡ device self.old }
-        ensures written { IfOk result (λ place. IsWritten lba bytes.now place (device self.old) (device self.new)) }
+        ensures written { IfOk result (λ place.
+            IsWritten lba bytes.now place (device self.old) (device self.new)) }
         ensures refused_own { OnErr result ((device self.new).own ≡ (device self.old).own) }
         ensures refused_seen { OnErr result ((device self.new).seen ≡ (device self.old).seen) }
-        ensures faults { (device self.new).faults ≡ (device self.old).faults ++ write_faults result }
+        ensures faults { (device self.new).faults
+            ≡ (device self.old).faults ++ write_faults result }
         ensures worns { let count = count_in (device self.old) (length bytes.now) in
-            (device self.new).worns ≡ (device self.old).worns ++ write_worns count result }
+            (device self.new).worns ≡ (device self.old).worns
+            ++ write_worns (written_by (device self.old)) count result }
         ensures short { let count = count_in (device self.old) (length bytes.now) in
-            AreShort (write_worns count result) }
+            AreShort (write_worns (written_by (device self.old)) count result) }
         ensures learns { Learns (device self.old) (device self.new) }
         ensures target { IsSameTarget (device self.old) (device self.new) }
     {
@@ -242,13 +250,11 @@ impl<U: Unit> Port for Serial<U> {
             return Err(WriteErr::Range);
         }
         self.catch_up(rt);
-        self.mount.is_sound();
         let size = self.mount.shape().sector as usize;
         let count = (bytes.len() / size) as u32;
         let first = self.mount.front().position;
         let wanted = first + u64::from(count);
         let claimed = self.mount.claim(rt, wanted);
-        self.mount.is_sound();
         if let Err(have) = claimed {
             self.add_worn(count, wanted, have);
             return Err(WriteErr::Worn { wanted, have });
@@ -270,7 +276,8 @@ impl<U: Unit> Port for Serial<U> {
         ensures pad { self.new.mount.pad ≡ self.old.mount.pad }
 
         // What each `Port` ensures.
-        ensures range { IsErrOf result ReadErr.Range ↔ IsPastEnd (device self.old) lba (length out.old) }
+        ensures range { IsErrOf result ReadErr.Range
+            ↔ IsPastEnd (device self.old) lba (length out.old) }
         ensures untouched { IsErrOf result ReadErr.Range → device self.new ≡ device self.old }
         ensures front { IfOk result (λ front. IsSeen front (device self.old) (device self.new)) }
         ensures words { let count = count_in (device self.old) (length out.old) in
@@ -283,7 +290,6 @@ impl<U: Unit> Port for Serial<U> {
         ensures learns { Learns (device self.old) (device self.new) }
         ensures target { IsSameTarget (device self.old) (device self.new) }
     {
-        self.mount.is_sound();
         if self.is_past_end(lba, out.len()) {
             return Err(ReadErr::Range);
         }
@@ -292,7 +298,6 @@ impl<U: Unit> Port for Serial<U> {
         let count = (out.len() / size) as u32;
         let front = self.mount.front();
         read_all(&mut self.mount, lba, out, count, size);
-        self.mount.is_sound();
         self.seen = front.position;
         Ok(front)
     }
@@ -306,17 +311,17 @@ impl<U: Unit> Port for Serial<U> {
         ensures flushed { IfOk result (λ front. front.position ≤ (device self.new).flushed) }
         ensures refused_seen { OnErr result ((device self.new).seen ≡ (device self.old).seen) }
         ensures own { (device self.new).own ≡ (device self.old).own }
-        ensures faults { (device self.new).faults ≡ (device self.old).faults ++ flush_faults result }
-        ensures worns { (device self.new).worns ≡ (device self.old).worns ++ flush_worns result }
-        ensures short { AreShort (flush_worns result) }
+        ensures faults { (device self.new).faults
+            ≡ (device self.old).faults ++ flush_faults result }
+        ensures worns { (device self.new).worns ≡ (device self.old).worns
+            ++ flush_worns (written_by (device self.old)) result }
+        ensures short { AreShort (flush_worns (written_by (device self.old)) result) }
         ensures learns { Learns (device self.old) (device self.new) }
         ensures target { IsSameTarget (device self.old) (device self.new) }
     {
-        self.mount.is_sound();
         self.catch_up(rt);
         let wanted = self.mount.front().position;
         let synced = self.mount.sync(rt, wanted);
-        self.mount.is_sound();
         match synced {
             Ok(front) => {
                 self.seen = front.position;
@@ -340,7 +345,6 @@ impl<U: Unit> Port for Serial<U> {
     }
 
     fn sector(&self) -> u32 {
-        self.mount.is_sound();
         self.mount.shape().sector
     }
 }

@@ -1,5 +1,5 @@
-//! Where the latest content of each user sector is (Bjørling, González, Bonnet, FAST 2017, the mapping table from
-//! logical to physical addresses).
+//! Where the latest content of each user sector is (Bjørling, González, Bonnet, FAST 2017, the mapping table
+//! from logical to physical addresses).
 #![tactic(auto)]
 
 mod sectors;

@@ -11,8 +11,8 @@ use std::marker::Model;
 
 /// The map from the user sectors, numbered from 0 to below the capacity, to their slots.
 ///
-/// Contracts see a finite map that has a slot for each sector below the capacity and for no other, so that its length is
-/// the capacity.
+/// Contracts see a finite map that has a slot for each sector below the capacity and for no other, so that its
+/// length is the capacity.
 #[derive(Debug, Drop)]
 pub struct Map {
     slots: Vec<Slot>,
@@ -64,7 +64,8 @@ impl Map {
         self.slots[lba as usize] = to;
     }
 
-    /// Sets the slot of a sector exactly where it is `old`, and tells whether it was. The sector is below the capacity.
+    /// Sets the slot of a sector exactly where it is `old`, and tells whether it was. The sector is below the
+    /// capacity.
     pub fn set_if(&mut self, lba: u64, old: Slot, to: Slot) -> bool
         requires { lba < map.len self.old }
         ensures was { IsTrue result ↔ (map.get self.old lba ≡ Some old) }

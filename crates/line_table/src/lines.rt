@@ -17,11 +17,11 @@ use pblk_model::Found;
 use std::alloc::{AllocError, Global};
 use std::marker::Model;
 
-/// The table of a target's lines: of each its state, its width, how many live sectors it has, and the greatest position
-/// that took one from it.
+/// The table of a target's lines: of each its state, its width, how many live sectors it has, and the greatest
+/// position that took one from it.
 ///
-/// Lines are what a target opens, fills and frees as a whole (Bjørling, González, Bonnet, FAST 2017). Each call but `new`
-/// takes the same few steps, whatever the number of lines.
+/// Lines are what a target opens, fills and frees as a whole (Bjørling, González, Bonnet, FAST 2017). Each call
+/// but `new` takes the same few steps, whatever the number of lines.
 ///
 /// Contracts see the drive's shape and a list of rows, by the lines' numbers.
 #[derive(Drop)]
@@ -48,9 +48,9 @@ impl Model for Lines {
 impl Lines {
     /// The table of a target that opens on a drive of which this is found.
     ///
-    /// A line with a sequence number is Full where its end record is whole, and Failed elsewhere. A line without one is
-    /// Freed where it has a chunk that is neither Free nor Offline, and Free or Dead elsewhere. The live sectors of a line
-    /// are those whose winning record is in it.
+    /// A line with a sequence number is Full where its end record is whole, and Failed elsewhere. A line
+    /// without one is Freed where it has a chunk that is neither Free nor Offline, and Free or Dead elsewhere.
+    /// The live sectors of a line are those whose winning record is in it.
     ///
     /// The findings fit the layout's shape. Fails only where there isn't the memory, which no later call takes.
     pub fn new(alloc: Global, layout: &Layout, found: &Found) -> Result<Lines, AllocError>
@@ -93,8 +93,8 @@ impl Lines {
         self.rows[line as usize].live
     }
 
-    /// The greatest position that took a sector from a line of the drive. None exactly where none did since the table was
-    /// made or the line was last opened.
+    /// The greatest position that took a sector from a line of the drive. None exactly where none did since the
+    /// table was made or the line was last opened.
     pub fn taker(&self, line: u32) -> Option<u64>
         requires { line < length self.now.rows }
         ensures { (row : Row) → IsRow self.now line row → result ≡ row.taker }
@@ -104,7 +104,7 @@ impl Lines {
 
     /// The data addresses of all Free lines together, each line's by its width.
     ///
-    /// It is answered from a count that is kept.
+    /// The table keeps this count, and doesn't add it up here.
     pub fn free_addresses(&self) -> u64
         ensures { result ≡ free_addresses self.now }
     {
@@ -113,7 +113,7 @@ impl Lines {
 
     /// The Free line of least number. None exactly where no line is Free.
     ///
-    /// It is answered from an index of 16 words.
+    /// The table keeps an index of 16 words for it.
     pub fn least_free(&self) -> Option<u32>
         ensures least { result ≡ position is_free self.now.rows }
         ensures free { IfSome result (λ line. IsFreeLine self.now line) }
@@ -121,7 +121,7 @@ impl Lines {
         self.free.least()
     }
 
-    /// A line of the drive has one more live sector. It had fewer than 2^32 - 1.
+    /// Counts one more live sector in a line of the drive, which had fewer than 2^32 - 1.
     pub fn gain(&mut self, line: u32)
         requires inside { line < length self.old.rows }
         requires room { (row : Row) → IsRow self.old line row → row.live < 2 ^ 32 - 1 }
@@ -130,7 +130,8 @@ impl Lines {
         self.rows[line as usize].live += 1;
     }
 
-    /// The entry at position `by` took a sector from a line of the drive, which has one live sector less. It had some.
+    /// The entry at position `by` took a sector from a line of the drive, which has one live sector less. It
+    /// had some.
     pub fn lose(&mut self, line: u32, by: u64)
         requires inside { line < length self.old.rows }
         requires some { (row : Row) → IsRow self.old line row → 0 < row.live }
@@ -143,8 +144,8 @@ impl Lines {
 
     /// A line of the drive has a new state and a new width, which is at most the number of units.
     ///
-    /// A line goes from Free to Open, from there to Full or Failed, then to Freed, and to Free again, or to Dead where a
-    /// line of the new width has no data.
+    /// A line goes from Free to Open, from there to Full or Failed, then to Freed, and to Free again, or to
+    /// Dead where a line of the new width has no data.
     pub fn turn(&mut self, line: u32, to: LineState, width: u32)
         requires inside { line < length self.old.rows }
         requires width { width ≤ units self.old.shape }

@@ -31,10 +31,6 @@ positions_placed (t ∷ ts) = ap (λ ps. t.entry.position ∷ ps) (positions_pla
 pub line_positions : (v : MountView) → positions (lines_in v) ≡ user_positions (engine_log v)
 line_positions v = positions_placed (user_takes (engine_log v))
 
--- where nothing more is taken the lines stay
-pub lines_stay : (old new : MountView) → IsSameMount old new → lines_in new ≡ lines_in old
-lines_stay old new same = ap (λ (ts : List Taken). map line_of (filter (λ t. is_users t.entry.source) ts)) same.takes
-
 -- each line is below the front taken
 low_lines : (from : ℕ) (ts : List Taken) → ((k : ℕ) (t : Taken) → slice_get ts k ≡ Some t → t.entry.position ≡ from + k)
     → AllByRecursion (λ (x : PlacedSector). x.position < from + length ts) (map line_of ts)

@@ -172,6 +172,7 @@ run_to found script ran text bytes status is said status_is bytes_are spelled =
           media_are = left;
           history_is = serving.history_is;
           worn = serving.worn;
+          granted = serving.granted;
         };
         kept_is = kept;
         told = serving.told;

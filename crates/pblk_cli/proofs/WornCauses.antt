@@ -1,49 +1,74 @@
--- The `worn` lines of a transcript are what its port answered for want of room.
-use Rattle.std.proofs.Common.{◌≡◌, ℕ, List, [], ◌∷◌, ◌++◌, map, refl, sym, subst, ap, ap₂, ◌∙◌, append_assoc}
+-- The `worn` lines of a transcript are what its port answered for want of room, and what its close answered.
+use Rattle.std.proofs.Common.{◌≡◌, ℕ, ◌+◌, List, [], ◌∷◌, ◌++◌, length, map, Result, Ok, Err, refl, sym, ap, ap₂, ◌∙◌}
+use Rattle.std.specs.List.{flat_map}
 use Rattle.std.proofs.lemmas.List.{append-nil}
 use Rattle.pblk_model.specs.declared.script.Command.{Command}
 use Rattle.pblk_model.specs.declared.script.Command.TheVariants.{Write, Read, Flush, Post, Await}
-use Rattle.pblk_model.specs.Image.{Image}
-use Rattle.pblk_world.specs.World.{Logs}
+use Rattle.pblk_model.specs.Text.{Outcome}
 use Rattle.block_port.specs.declared.rows.WornAnswer.{WornAnswer}
+use Rattle.block_port.specs.Own.{OwnWrite, lines_of}
 use Rattle.block_port.specs.Port.{ModelPort}
-use Rattle.block_target.specs.NothingLeft.{AreRefusals, IsRefusal}
+use Rattle.block_target.specs.Serial.{settle_worns}
+use Rattle.block_target.specs.declared.opening.SettleErr.{SettleErr}
+use Rattle.block_target.specs.declared.opening.SettleErr.TheVariants as settle
 use Rattle.run_threads.specs.declared.records.Answer.{Answer}
-use Rattle.run_threads.specs.declared.records.Answer.TheVariants.{Refused}
-use Rattle.run_threads.specs.declared.records.Records.{Records}
-use Rattle.run_threads.specs.declared.records.Trouble.TheVariants.{Worn}
+use Rattle.run_threads.specs.declared.records.Answer.TheVariants.{Placed, Words, Synced, Done, Range, Refused}
+use Rattle.run_threads.specs.declared.records.Trouble.TheVariants.{Drive, Worn}
 use Rattle.run_threads.specs.Run as run
 use Rattle.run_threads.specs.Run.{Runs, Says, worns_in}
-use Rattle.run_report.specs.Report.{closing_of, outcome_of, transcript_of}
-use Rattle.pblk_cli.specs.Worn.{asked_by, closing_worn, thread_worns, worn_of, worns_of}
-use Rattle.lemmas.proofs.Lists.{all_append}
 use Rattle.run_threads.proofs.RunLemmas.{run_worns}
+use Rattle.run_report.specs.Report.{closing_of, outcome_of}
+use Rattle.pblk_cli.specs.Serving.{trouble_of}
+use Rattle.pblk_cli.specs.Worn.{asked_by, closing_worn, thread_worns, worn_of, written_of}
 
-one_worn : (told : List ℕ → ℕ) (old : ModelPort) (c : Command) (a : Answer) (new : ModelPort) → Says told old c a new
-    → worn_of (asked_by c) (outcome_of a) ≡ run.worns_of c a
-one_worn told old (Write lba count tag) (Refused (Worn wanted have)) new h = refl
-one_worn told old (Read lba count) (Refused (Worn wanted have)) new h = absurd h
-one_worn told old Flush (Refused (Worn wanted have)) new h = refl
-one_worn told old (Post name) (Refused (Worn wanted have)) new h = absurd h
-one_worn told old (Await name) (Refused (Worn wanted have)) new h = absurd h
-one_worn told old c a new h = refl
+one_worn : (told : List ℕ → ℕ) (old : ModelPort) (written : ℕ) (c : Command) (a : Answer) (new : ModelPort) → Says told old c a new
+    → worn_of written (asked_by c) (outcome_of a) ≡ run.worns_of written c a
+one_worn told old written (Write lba count tag) (Refused (Worn wanted have)) new h = refl
+one_worn told old written (Read lba count) (Refused (Worn wanted have)) new h = absurd h
+one_worn told old written Flush (Refused (Worn wanted have)) new h = refl
+one_worn told old written (Post name) (Refused (Worn wanted have)) new h = absurd h
+one_worn told old written (Await name) (Refused (Worn wanted have)) new h = absurd h
+one_worn told old written c a new h = refl
 
-thread_worn : (told : List ℕ → ℕ) (cs : List Command) (rows : List Answer) (old new : ModelPort) → Runs told old cs rows new
-    → thread_worns cs (map outcome_of rows) ≡ worns_in cs rows
-thread_worn told [] [] old new h = refl
-thread_worn told [] (a ∷ rows) old new h = absurd h
-thread_worn told (c ∷ cs) [] old new h = refl
-thread_worn told (c ∷ cs) (a ∷ rows) old new h = ap₂ (λ xs ys. xs ++ ys) (one_worn told old c a h.0 h.1.says) (thread_worn told cs rows h.0 new h.2)
+one_written : (told : List ℕ → ℕ) (old : ModelPort) (c : Command) (a : Answer) (new : ModelPort) → Says told old c a new
+    → written_of c (outcome_of a) ≡ run.written_of c a
+one_written told old (Write lba count tag) (Placed place) new h = refl
+one_written told old (Write lba count tag) (Words front words) new h = absurd h
+one_written told old (Write lba count tag) (Synced front) new h = absurd h
+one_written told old (Write lba count tag) Done new h = absurd h
+one_written told old (Write lba count tag) Range new h = absurd h
+one_written told old (Write lba count tag) (Refused (Drive unit event)) new h = refl
+one_written told old (Write lba count tag) (Refused (Worn wanted have)) new h = refl
+one_written told old c a new h = refl
 
--- of one thread through one port
-pub one_worns : (i : Image) (logs : Logs) (told : List ℕ
-    → ℕ) (commands : List Command) (answers : List Answer) (old new : ModelPort) (records : Records) (end : ℕ) → Runs told old commands answers new
-    → old.worns ≡ []
-    → records.threads ≡ answers ∷ [] → AreRefusals i logs new.worns → AreRefusals i logs (closing_worn (closing_of records.closing))
-    → AreRefusals i logs (worns_of (commands ∷ []) (transcript_of (commands ∷ []) records end))
-one_worns i logs told commands answers old new records end ran calm threads refusals worn =
-    let are : new.worns ≡ thread_worns commands (map outcome_of answers) = run_worns told commands answers old new ran
-    ∙ ap (λ xs. xs ++ worns_in commands answers) calm ∙ sym (thread_worn told commands answers old new ran) in
-    rw threads (all_append (λ (a : WornAnswer). (n : ℕ)
-    × IsRefusal i logs n a.count a.wanted a.have) (thread_worns commands (map outcome_of answers) ++ []) (closing_worn (closing_of records.closing))
-    (subst (AreRefusals i logs) (are ∙ sym (append-nil (thread_worns commands (map outcome_of answers)))) refusals) worn)
+thread_worn : (told : List ℕ → ℕ) (written : ℕ) (cs : List Command) (rows : List Answer) (old new : ModelPort) → Runs told old cs rows new
+    → thread_worns written cs (map outcome_of rows) ≡ worns_in written cs rows
+thread_worn told written [] [] old new h = refl
+thread_worn told written [] (a ∷ rows) old new h = absurd h
+thread_worn told written (c ∷ cs) [] old new h = refl
+thread_worn told written (c ∷ cs) (a ∷ rows) old new h =
+    ap₂ (λ xs ys. xs ++ ys) (one_worn told old written c a h.0 h.1.says)
+    (ap (λ n. thread_worns (written + n) cs (map outcome_of rows)) (one_written told old c a h.0 h.1.says)
+    ∙ thread_worn told (written + run.written_of c a) cs rows h.0 new h.2)
+
+close_worn : (written : ℕ) (settled : Result Unit SettleErr) → settle_worns written settled ≡ closing_worn written (closing_of (trouble_of settled))
+close_worn written (Ok x) = refl
+close_worn written (Err (settle.Drive unit event)) = refl
+close_worn written (Err (settle.Worn wanted have)) = refl
+
+-- of one thread through one port that had written nothing, and of its close, after so many sectors
+pub one_worns : (told : List ℕ → ℕ) (commands : List Command) (answers : List Answer) (old new : ModelPort) (settled : Result Unit SettleErr) (written : ℕ)
+    → Runs told old commands answers new → old.worns ≡ [] → old.own ≡ [] → written ≡ length (flat_map lines_of new.own)
+    → new.worns ++ settle_worns (length (flat_map lines_of new.own)) settled
+    ≡ (thread_worns 0 commands (map outcome_of answers) ++ []) ++ closing_worn written (closing_of (trouble_of settled))
+one_worns told commands answers old new settled written ran calm unwritten same =
+    let none : length (flat_map lines_of old.own) ≡ 0 = ap (λ (ws : List OwnWrite). length (flat_map lines_of ws)) unwritten in
+    ap₂ (λ xs ys. xs ++ ys)
+    (run_worns told commands answers old new ran ∙ ap₂ (λ xs n. xs ++ worns_in n commands answers) calm none
+    ∙ sym (thread_worn told 0 commands answers old new ran) ∙ sym (append-nil (thread_worns 0 commands (map outcome_of answers))))
+    (ap (λ n. settle_worns n settled) (sym same) ∙ close_worn written settled)
+
+-- and of no thread
+pub no_worns : (worns : List WornAnswer) (own : List OwnWrite) (settled : Result Unit SettleErr) → worns ≡ [] → own ≡ []
+    → worns ++ settle_worns (length (flat_map lines_of own)) settled ≡ closing_worn 0 (closing_of (trouble_of settled))
+no_worns worns own settled calm unwritten = rw (calm, unwritten) (close_worn 0 settled)

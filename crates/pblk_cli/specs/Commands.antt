@@ -18,6 +18,7 @@ use Rattle.pblk_world.specs.Fronts.{history, user_positions}
 use Rattle.pblk_world.specs.Lines.{found_image}
 use Rattle.core_laws.specs.PlainWorlds.{IsPlainWorld}
 use Rattle.block_port.specs.declared.rows.WornAnswer.{WornAnswer}
+use Rattle.block_target.specs.Granted.{AreGranted}
 use Rattle.block_target.specs.NothingLeft.{AreRefusals}
 use Rattle.command_text.specs.Says.{Says}
 use Rattle.pblk_cli.specs.Contents.{numbers_text, show_text}
@@ -87,7 +88,8 @@ pub record SameNumbers (old new : Drive) : Type 0 where
 -- What was done on a drive: a legal world over the image found, in which nothing failed and nothing was
 -- stopped, copied or freed. The mount has begun there; the media are the image left, and the history is
 -- this one. Each of these answers for want of room was given at a length of its engine's log at which
--- nothing was left to do.
+-- nothing was left to do: the lengths rise with the answers, and what was taken by then is what the
+-- thread had written. And no sector was taken but where there had been room for it.
 pub record IsWorldBetween (found left : Drive) (writes : List SectorWrite) (worns : List WornAnswer) : Type 0 where
   pub world : World
   pub legal : IsPlainWorld (image_of found) world
@@ -95,7 +97,8 @@ pub record IsWorldBetween (found left : Drive) (writes : List SectorWrite) (worn
   pub has_begun : begun (log_of world 0) ≡ Some beginning
   pub media_are : image_of left ≡ media (image_of found) (log_of world)
   pub history_is : history (log_of world 0) ≡ writes
-  pub worn : AreRefusals (image_of found) (log_of world) worns
+  pub worn : AreRefusals (image_of found) (log_of world) 0 worns
+  pub granted : AreGranted (image_of found) (log_of world)
 
 -- A run of these commands from one drive to another, with this text.
 pub record IsRunBetween (found : Drive) (commands : List (List Command)) (text : List ℕ) (left : Drive) : Type 0 where

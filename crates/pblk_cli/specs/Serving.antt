@@ -1,5 +1,5 @@
 -- What running a script on a target over the units of a drive comes to.
-use Rattle.std.specs.Prelude.{ℕ, ◌≡◌, List, [], ◌∷◌, map, take, None}
+use Rattle.std.specs.Prelude.{ℕ, ◌≡◌, List, [], ◌∷◌, map, take, Option, Some, None, Result, Ok, Err}
 use Rattle.std.specs.List.{flat_map}
 use Rattle.pblk_model.specs.declared.shape.Shape.{Shape}
 use Rattle.pblk_model.specs.declared.script.Command.{Command}
@@ -9,7 +9,7 @@ use Rattle.pblk_model.specs.Image.{Image}
 use Rattle.pblk_model.specs.ImageFile as image_file
 use Rattle.pblk_model.specs.Sealed.{IsSealed}
 use Rattle.pblk_model.specs.Text.{Transcript}
-use Rattle.pblk_model.specs.Transcript.{IsRun, IsTranscript, closing_event, events, sector_writes}
+use Rattle.pblk_model.specs.Transcript.{IsRun, IsTranscript, events, sector_writes}
 use Rattle.pblk_world.specs.World.{media}
 use Rattle.pblk_world.specs.Fronts.{history, user_positions}
 use Rattle.pblk_world.specs.Lines.{found_image}
@@ -18,18 +18,24 @@ use Rattle.ocssd_drive.specs.Units.{WornUnit}
 use Rattle.scan_recovery.specs.Units.{image_of}
 use Rattle.block_port.specs.Own.{lines_of}
 use Rattle.block_port.specs.Port.{IsSameTarget, ModelPort}
-use Rattle.block_target.specs.Mount.{MountView, IsSameMount, IsSound, engine_log, logs_in, synced_in, taken_in}
+use Rattle.block_target.specs.Granted.{AreGranted}
+use Rattle.block_target.specs.Mount.{MountView, IsSound, engine_log, logs_in}
 use Rattle.block_target.specs.NothingLeft.{AreRefusals}
 use Rattle.block_target.specs.Opened.{IsOpened}
+use Rattle.block_target.specs.Serial as target_port
 use Rattle.block_target.specs.Serial.{SerialView, device, lines_in}
+use Rattle.block_target.specs.declared.opening.SettleErr.{SettleErr}
+use Rattle.block_target.specs.declared.opening.SettleErr.TheVariants as settle
 use Rattle.run_threads.specs.declared.records.Answer.{Answer}
 use Rattle.run_threads.specs.declared.records.Records.{Records}
+use Rattle.run_threads.specs.declared.records.Trouble.{Trouble}
+use Rattle.run_threads.specs.declared.records.Trouble.TheVariants.{Drive, Worn}
 use Rattle.run_threads.specs.Run.{Runs}
 use Rattle.run_report.specs.OnePort.{IsTrouble}
 use Rattle.run_report.specs.Recorded.{IsRecorded}
-use Rattle.run_report.specs.Report.{closing_of, transcript_of}
+use Rattle.run_report.specs.Report.{transcript_of}
 use Rattle.pblk_cli.specs.declared.serve.Served.{Served}
-use Rattle.pblk_cli.specs.Worn.{closing_worn, worns_of}
+use Rattle.pblk_cli.specs.Worn.{worns_of}
 use Rattle.pblk_cli.specs.declared.run.Ran.{Ran}
 
 -- the image on the units of a mount, by what was done
@@ -54,23 +60,23 @@ pub record IsSession (script : List (List Command)) (old : SerialView) (records 
   pub opened : records.opening ≡ None
   pub target : IsSameTarget (device old) (device new)
 
--- A target was closed after a run: what was done on its drive is the world of a mount, in which nothing
--- more was taken.
+-- the trouble that a close met, by its answer
+abbrev pub trouble_of : Result Unit SettleErr → Option Trouble
+trouble_of (Ok x) = None
+trouble_of (Err (settle.Worn wanted have)) = Some (Worn wanted have)
+trouble_of (Err (settle.Drive unit event)) = Some (Drive unit event)
+
+-- A target was closed after a run, and what that met was recorded.
 pub record IsClosed (target : SerialView) (records : Records) (served : Served) : Type 0 where
   pub mount : MountView
-  pub same : IsSameMount target.mount mount
-  pub sound : IsSound mount
+  pub settled : Result Unit SettleErr
+  pub closed : target_port.IsClosed target settled mount
   pub units : map (λ u. u.unit) served.units.items ≡ mount.units
   pub wear : map (λ u. u.wear) served.units.items ≡ mount.wear
   -- the port knew of its own writes alone
   pub alone : lines_in target.mount ≡ flat_map lines_of target.own
-  -- where the close met no trouble all that was taken is on the drive
-  pub all : served.records.closing ≡ None → synced_in mount ≡ taken_in mount
-  -- each answer for want of room had its cause
-  pub refusals : AreRefusals mount.image (logs_in mount) target.worns
-  pub worn : AreRefusals mount.image (logs_in mount) (closing_worn (closing_of served.records.closing))
-  pub trouble : IsTrouble served.records.closing
-  pub quiet : closing_event (closing_of served.records.closing) ≡ []
+  pub closing : served.records.closing ≡ trouble_of settled
+  pub trouble : IsTrouble (trouble_of settled)
   pub threads : served.records.threads ≡ records.threads
   pub opening : served.records.opening ≡ records.opening
 
@@ -87,7 +93,8 @@ pub record IsServing (i : Image) (script : List (List Command)) (records : Recor
   pub recorded : IsRecorded script records
   pub faultless : events (transcript_in script records mount) ≡ []
   pub history_is : history (engine_log mount) ≡ sector_writes i.shape.sector (transcript_in script records mount).history
-  pub worn : AreRefusals i (logs_in mount) (worns_of script (transcript_in script records mount))
+  pub worn : AreRefusals i (logs_in mount) 0 (worns_of script (transcript_in script records mount))
+  pub granted : AreGranted i (logs_in mount)
   pub kept : (transcript_in script records mount).kept ≡ users (user_positions (engine_log mount)) (end (media_in mount))
   pub told : IsTranscript i.shape.sector script (contents (found_image i (logs_in mount))) (transcript_in script records mount)
   pub run : IsSealed i → let t = transcript_in script records mount in let start = contents i in

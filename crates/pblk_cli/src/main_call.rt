@@ -30,7 +30,7 @@ use std::sync::Wait;
 /// | 3 | the image is refused, or what `create` is to make |
 /// | 4 | a file could not be read or written, or isn't there |
 /// | 6 | a script was run, and there was no room for all that it writes; the text was written |
-/// | 7 | there was no memory |
+/// | 7 | there was no memory: of `create`, only for numbers that aren't refused |
 /// | 8 | the command did its work, and its text could not be written whole |
 ///
 /// With each status but 0, 6 and 8 one line says why. The words are judged first; then files are read,

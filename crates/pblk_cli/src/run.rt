@@ -27,7 +27,7 @@ use pblk_outside::Files;
 use run_report::transcript;
 use run_script::read_script;
 use run_threads::Records;
-use scan_recovery::contents;
+use scan_recovery::summary;
 use std::alloc::{AllocError, Global};
 use std::sync::Wait;
 
@@ -78,7 +78,8 @@ fn read_both<'a, F: Files>(
     ensures script { IfOk result (λ read. ReadsFile script.now read.1.items
         (F.view files.old) (F.view files.new)) }
     ensures refused { IfErr result (λ refusal.
-        CannotReadBoth image.now script.now (reason_of refusal) (F.view files.old) (F.view files.new)) }
+        CannotReadBoth image.now script.now (reason_of refusal)
+        (F.view files.old) (F.view files.new)) }
     ensures told { (F.view files.new).told ≡ (F.view files.old).told }
 {
     let image_bytes = match read_file(alloc, image, files) {
@@ -152,13 +153,14 @@ fn run_and_store<R: Wait>(
     Ok((bytes, Output { status, text }))
 }
 
-// The text of a run's transcript, by what the drive then holds. The contents are let go with it.
+// The text of a run's transcript, by what the drive then holds.
 fn transcript_text(alloc: Global, script: &Script, ran: &Ran) -> Result<Vec<u8>, AllocError>
     requires { IsRecorded script.now ran.now.records }
     ensures { let left = image_of (stored ran.now.drive) in
-        IfOk result (λ text. text.items ≡ text_of (transcript_of script.now ran.now.records (end left))) }
+        IfOk result (λ text. text.items
+        ≡ text_of (transcript_of script.now ran.now.records (end left))) }
 {
-    let held = contents(alloc, &ran.drive)?;
+    let held = summary(alloc, &ran.drive)?;
     transcript(alloc, script, &ran.records, held.end)
 }
 

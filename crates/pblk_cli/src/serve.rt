@@ -1,12 +1,12 @@
 //! Runs a script on a target over the units of a drive.
 
-ghost use Rattle.std.specs.Prelude.{◌≡◌, ◌≤◌, ◌<◌, ◌^◌, ◌∷◌, [], length, map, IfOk};
+ghost use Rattle.std.specs.Prelude.{ℕ, ◌≡◌, ◌≤◌, ◌<◌, ◌^◌, ◌∷◌, [], length, map, Err, IfOk};
 ghost use Rattle.pblk_model.specs.Accepted.{IsAccepted};
 ghost use Rattle.pblk_model.specs.Script.{NeverStuck, ScriptFits};
 ghost use Rattle.block_target.specs.Serial.{SerialView};
 ghost use Rattle.unit_port.specs.Commands.{AreUnarmed};
 ghost use Rattle.scan_recovery.specs.Units.{AreFit};
-ghost use Rattle.pblk_cli.specs.Serving.{IsNewTarget, IsSession, IsClosed, IsServed};
+ghost use Rattle.pblk_cli.specs.Serving.{IsNewTarget, IsSession, IsClosed, IsServed, trouble_of};
 
 use block_target::{Refused, Serial, SettleErr};
 use ocssd_drive::MemoryUnit;
@@ -131,11 +131,7 @@ fn close<R: Wait>(rt: &R, target: Serial<MemoryUnit>, records: Records) -> Serve
     ensures { IsClosed target records result }
 {
     let (units, settled) = target.close(rt);
-    let closing = match settled {
-        Ok(()) => None,
-        Err(SettleErr::Worn { wanted, have }) => Some(worn(wanted, have)),
-        Err(SettleErr::Drive { .. }) => unreachable!(),
-    };
+    let closing = trouble_of(settled);
     let Records {
         threads,
         opening,
@@ -151,10 +147,14 @@ fn close<R: Wait>(rt: &R, target: Serial<MemoryUnit>, records: Records) -> Serve
     }
 }
 
-// The trouble of a close that had no room.
-fn worn(wanted: u64, have: u64) -> Trouble
-    ensures is { result ≡ Trouble.Worn wanted have }
-    ensures number { wanted < 2 ^ 64 }
+// The trouble that a close met.
+fn trouble_of(settled: Result<(), SettleErr>) -> Option<Trouble>
+    ensures is { result ≡ trouble_of settled }
+    ensures number { (wanted have : ℕ) → settled ≡ Err (SettleErr.Worn wanted have) → wanted < 2 ^ 64 }
 {
-    Trouble::Worn { wanted, have }
+    match settled {
+        Ok(()) => None,
+        Err(SettleErr::Worn { wanted, have }) => Some(Trouble::Worn { wanted, have }),
+        Err(SettleErr::Drive { unit, event }) => Some(Trouble::Drive { unit, event }),
+    }
 }

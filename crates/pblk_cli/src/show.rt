@@ -13,7 +13,7 @@ use crate::refusal::Refusal;
 use ocssd_drive::Drive;
 use pblk_outside::Files;
 use run_report::{listing, report};
-use scan_recovery::contents;
+use scan_recovery::{contents, summary};
 use std::alloc::{AllocError, Global};
 
 /// Reads an image and lists the sectors that it holds.
@@ -90,6 +90,6 @@ fn sectors_text(alloc: Global, drive: Drive) -> Result<Vec<u8>, AllocError>
 fn numbers_text(alloc: Global, drive: &Drive) -> Result<String, AllocError>
     ensures { IfOk result (λ text. string_bytes text ≡ numbers_text (stored drive.now)) }
 {
-    let held = contents(alloc, drive)?;
+    let held = summary(alloc, drive)?;
     report(alloc, drive, &held)
 }

@@ -5,6 +5,7 @@ pub mod StripeFields
 pub mod Holds
 pub mod Taken
 pub mod Stands
+pub mod Mounts
 pub mod Made
 pub mod Slots
 pub mod Entries

@@ -19,7 +19,8 @@ use write_window::Window;
 pub(crate) fn fill(window: &Window, holds: &Holds, of: &Placement, into: &mut Stripe)
     requires rows { 0 < length holds.now.rows.items }
     requires whole { length (positions_placed of.now) ≡ of.now.count }
-    requires held { (k q : ℕ) → slice_get (positions_placed of.now) k ≡ Some q → IsHeld window.now q }
+    requires held { (k q : ℕ) → slice_get (positions_placed of.now) k ≡ Some q
+        → IsHeld window.now q }
     requires size { (q : ℕ) (sector : List ℕ) → sector_at window.now q ≡ Some sector
         → length sector ≡ into.old.shape.sector }
     requires empty { into.old.stripe.blocks ≡ [] }
@@ -49,13 +50,15 @@ fn add_entry(window: &Window, holds: &Holds, position: u64, into: &mut Stripe)
     }
 }
 
-/// The entries of a placement are in its line: each is a live sector there, which a later entry of the sector
-/// takes at once. The line has room for their number.
+/// Notes that the entries of a placement are in its line: each is a live sector there, until a later entry of
+/// the sector takes it. Where such an entry was taken already, it does so at once. The line has room for their
+/// number.
 pub(crate) fn settle_lines(lines: &mut Lines, holds: &Holds, of: &Placement)
     requires rows { 0 < length holds.now.rows.items }
     requires whole { length (positions_placed of.now) ≡ of.now.count }
     requires inside { of.now.line < length lines.old.rows }
-    requires room { (row : Row) → IsRow lines.old of.now.line row → row.live + of.now.count < 2 ^ 32 }
+    requires room { (row : Row) → IsRow lines.old of.now.line row
+        → row.live + of.now.count < 2 ^ 32 }
     ensures { lines.new
         ≡ placed_lines holds.now.rows.items of.now.line lines.old (positions_placed of.now) }
 {
@@ -65,7 +68,7 @@ pub(crate) fn settle_lines(lines: &mut Lines, holds: &Holds, of: &Placement)
     }
 }
 
-// An entry is in a line.
+// Notes that an entry is in a line.
 fn settle_line(lines: &mut Lines, line: u32, hold: &Hold)
     requires inside { line < length lines.old.rows }
     requires room { (row : Row) → IsRow lines.old line row → row.live + 1 < 2 ^ 32 }
@@ -77,7 +80,7 @@ fn settle_line(lines: &mut Lines, line: u32, hold: &Hold)
     }
 }
 
-/// The rows of the entries of a placement tell its line.
+/// Notes in the rows of the entries of a placement in which line they are.
 pub(crate) fn settle_holds(holds: &mut Holds, of: &Placement)
     requires rows { 0 < length holds.old.rows.items }
     requires whole { length (positions_placed of.now) ≡ of.now.count }

@@ -1,6 +1,8 @@
 //! What is kept beside each entry of the window.
 
 ghost use Rattle.std.specs.Prelude.{◌≡◌, ◌%◌, ◌<◌, length, IfOk, Some, slice_get, slice_set};
+ghost use Rattle.l2p_map.specs.declared.slot.Slot.TheVariants.{Cached};
+ghost use Rattle.pblk_core.specs.Holds.{rows_with_taker};
 
 use pblk_model::Mark;
 use std::alloc::{AllocError, Global};
@@ -56,6 +58,21 @@ impl Holds {
     {
         let index = self.index(position);
         self.rows[index] = to;
+    }
+
+    /// Notes in the row of an entry that a later entry of its sector was taken.
+    pub(crate) fn set_taker(&mut self, position: u64, by: u64)
+        requires { 0 < length self.old.rows.items }
+        ensures { self.new.rows.items ≡ rows_with_taker (Cached position) by self.old.rows.items }
+    {
+        let hold = self.get(position);
+        self.set(
+            position,
+            Hold {
+                taker: Some(by),
+                ..hold
+            },
+        );
     }
 
     fn index(&self, position: u64) -> usize

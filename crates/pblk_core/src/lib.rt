@@ -3,18 +3,21 @@
 
 mod filling;
 mod hold;
+mod line_turns;
+mod naming;
 mod open_lines;
 mod opening;
 mod reading;
 mod records;
 mod resets;
+mod space;
 mod stripe;
+mod stripes;
+mod taking;
 mod target_core;
 mod work;
 
 pub use records::{LineRecords, records_are_an_openings};
 pub use stripe::Stripe;
-pub use target_core::{
-    Core, Look, a_line_is_empty_once_it_was_reset, a_world_of_no_events_is_plain,
-};
+pub use target_core::{Core, a_line_is_empty_once_it_was_reset, a_world_of_no_events_is_plain};
 pub use work::{Why, Work};

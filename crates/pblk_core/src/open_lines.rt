@@ -37,11 +37,11 @@ pub(crate) struct OpenLines {
 }
 
 impl OpenLines {
-    /// No line. Takes the memory of both. Fails only where there isn't that memory.
+    /// No open line. It takes the memory for two. Fails only where there isn't that memory.
     pub(crate) fn new(alloc: Global, layout: &Layout) -> Result<OpenLines, AllocError>
         ensures two { IfOk result (λ o. length o.slots.items ≡ 2) }
-        ensures shapes { IfOk result (λ o. (k : ℕ) (line : _) → slice_get o.slots.items k ≡ Some line
-            → line.records.shape ≡ layout.now) }
+        ensures shapes { IfOk result (λ o. (k : ℕ) (line : _)
+            → slice_get o.slots.items k ≡ Some line → line.records.shape ≡ layout.now) }
         ensures none { IfOk result (λ o. o.count ≡ 0) }
     {
         let mut slots = Vec::with_capacity(alloc, 2)?;
@@ -62,13 +62,14 @@ impl OpenLines {
         self.count
     }
 
-    /// A line is opened with this start record, behind the other one. At most one is open.
+    /// Opens a line with this start record, behind the other one. At most one is open before.
     pub(crate) fn begin(&mut self, start: &StartRecord, live: u64, stripes_left: u32)
         requires room { self.old.count < length self.old.slots.items }
         requires width { (line : _) → IsSlot self.old self.old.count line
             → start.now.width ≤ units line.records.shape }
         requires fits { (line : _) → IsSlot self.old self.old.count line
-            → IsTrue (start_fits line.records.shape start.now.line start.now.width (start_numbers start.now)) }
+            → IsTrue (start_fits line.records.shape start.now.line start.now.width
+            (start_numbers start.now)) }
         ensures count { self.new.count ≡ self.old.count + 1 }
         ensures slots { (line : _) → IsSlot self.old self.old.count line
             → self.new.slots.items ≡ slice_set self.old.slots.items self.old.count
@@ -84,10 +85,12 @@ impl OpenLines {
     /// Where the line of this number stands among the open ones.
     pub(crate) fn find(&self, line: u32) -> usize
         requires two { length self.now.slots.items ≡ 2 }
-        requires there { (k : ℕ) × (slot : _) × (k < 2) × IsSlot self.now k slot × (slot.records.line ≡ line) }
+        requires there { (k : ℕ) × (slot : _) × (k < 2) × IsSlot self.now k slot
+            × (slot.records.line ≡ line) }
         ensures inside { result < 2 }
         ensures line { (slot : _) → IsSlot self.now result slot → slot.records.line ≡ line }
-        ensures first { (slot : _) → IsSlot self.now 0 slot → slot.records.line ≡ line → result ≡ 0 }
+        ensures first { (slot : _) → IsSlot self.now 0 slot
+            → slot.records.line ≡ line → result ≡ 0 }
     {
         let first = &self.slots[0];
         if first.records.line() == line { 0 } else { 1 }
@@ -101,10 +104,11 @@ impl OpenLines {
         &self.slots[index]
     }
 
-    /// Adds a stripe of the start record of one of the two to an empty stripe, from a line address on.
+    /// Fills an empty stripe with the blocks of one line's start record, from the line address `at` on.
     pub(crate) fn start_stripe(&self, index: usize, at: u32, into: &mut Stripe)
         requires inside { index < length self.now.slots.items }
-        requires shape { (slot : _) → IsSlot self.now index slot → into.old.shape ≡ slot.records.shape }
+        requires shape { (slot : _) → IsSlot self.now index slot
+            → into.old.shape ≡ slot.records.shape }
         requires empty { into.old.stripe.blocks ≡ [] }
         requires within { at + into.old.shape.ws_opt ≤ start_len into.old.shape }
         ensures { (slot : _) → IsSlot self.now index slot → into.new ≡ followed_by into.old
@@ -114,23 +118,26 @@ impl OpenLines {
         slot.records.start_stripe(at, into);
     }
 
-    /// Tells the marks of a stripe of data of one of the two.
+    /// Keeps the marks of a stripe of data of one of the two lines, for its end record.
     pub(crate) fn mark_data(&mut self, index: usize, marks: &[Mark])
         requires inside { index < length self.old.slots.items }
-        requires room { (slot : _) → IsSlot self.old index slot → length slot.records.marks + length marks.now
+        requires room { (slot : _) → IsSlot self.old index slot
+            → length slot.records.marks + length marks.now
             ≤ data_len slot.records.shape slot.records.width }
         ensures count { self.new.count ≡ self.old.count }
         ensures slots { (slot : _) → IsSlot self.old index slot
-            → self.new.slots.items ≡ slice_set self.old.slots.items index (with_marks slot marks.now) }
+            → self.new.slots.items
+            ≡ slice_set self.old.slots.items index (with_marks slot marks.now) }
     {
         let slot = &mut self.slots[index];
         slot.records.mark_data(marks);
     }
 
-    /// Adds a stripe of the end record of one of the two to an empty stripe, from a line address on.
+    /// Fills an empty stripe with the blocks of one line's end record, from the line address `at` on.
     pub(crate) fn end_stripe(&mut self, index: usize, at: u32, into: &mut Stripe)
         requires inside { index < length self.old.slots.items }
-        requires shape { (slot : _) → IsSlot self.old index slot → into.old.shape ≡ slot.records.shape }
+        requires shape { (slot : _) → IsSlot self.old index slot
+            → into.old.shape ≡ slot.records.shape }
         requires empty { into.old.stripe.blocks ≡ [] }
         requires told { (slot : _) → IsSlot self.old index slot
             → length slot.records.marks ≡ data_len slot.records.shape slot.records.width }
@@ -146,7 +153,7 @@ impl OpenLines {
         slot.records.end_stripe(at, into);
     }
 
-    /// A stripe more of one of the two has landed, and how many haven't yet.
+    /// Notes that one more stripe of a line has landed, and gives how many haven't yet.
     pub(crate) fn land(&mut self, index: usize) -> u32
         requires inside { index < length self.old.slots.items }
         requires some { (slot : _) → IsSlot self.old index slot → 0 < slot.stripes_left }
@@ -160,7 +167,7 @@ impl OpenLines {
         slot.stripes_left
     }
 
-    /// One of the two is no longer open.
+    /// Takes out one of the two, which has no stripe left.
     pub(crate) fn remove(&mut self, index: usize)
         requires two { length self.old.slots.items ≡ 2 }
         requires inside { index < self.old.count }

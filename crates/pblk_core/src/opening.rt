@@ -41,8 +41,8 @@ fn live_units(shape: &Shape, chunks: &[ChunkState], line: u32) -> u64
     live
 }
 
-/// Of each line the units whose chunks of it aren't Offline, by the states of all chunks. Fails only where there
-/// isn't the memory.
+/// Of each line the units whose chunks of it aren't Offline, by the states of all chunks. Fails only where
+/// there isn't the memory.
 pub(crate) fn all_live_units(
     alloc: Global,
     shape: &Shape,

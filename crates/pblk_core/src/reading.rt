@@ -12,13 +12,11 @@ ghost use Rattle.pblk_core.specs.Readable.{ReadBlock, reads_of, all_moved, all_r
 use crate::open_lines::OpenLine;
 use l2p_map::{Map, Slot};
 use pblk_layout::Layout;
+use pblk_model::Mark;
 use write_window::Window;
 
-/// The lba of a mark that names no sector and no position: that of a block which fills up a stripe.
-const PAD: u64 = u64::MAX;
-
-/// The blocks of a unit's chunk of an open line from one to before another can be read from now on: their
-/// entries can be given back, and their sectors, where they are still the latest, are looked up there.
+/// Notes that the blocks `from` to before `to` of a unit's chunk of an open line can be read from now on: their
+/// entries can be given back, and their sectors, where they are still the latest, are looked up on the drive.
 ///
 /// The entries of these blocks are in the window and have landed.
 pub(crate) fn make_readable(
@@ -36,8 +34,8 @@ pub(crate) fn make_readable(
     requires held { (b : ReadBlock) → Contains (reads_of slot.now unit from to) b
         → IsHeld window.old b.mark.position × (has_landed_at window.old b.mark.position ≡ true) }
     ensures window { window.new ≡ all_readable window.old (reads_of slot.now unit from to) }
-    ensures map { map.new
-        ≡ all_moved layout.now.capacity slot.now.records.line map.old (reads_of slot.now unit from to) }
+    ensures map { map.new ≡ all_moved layout.now.capacity slot.now.records.line map.old
+        (reads_of slot.now unit from to) }
     ensures capacity { fin.len map.new ≡ fin.len map.old }
 {
     for block in from..to {
@@ -45,7 +43,7 @@ pub(crate) fn make_readable(
     }
 }
 
-// A block can be read from now on.
+// Notes that a block can be read from now on.
 fn make_block_readable(
     layout: &Layout,
     slot: &OpenLine,
@@ -59,7 +57,8 @@ fn make_block_readable(
     requires capacity { fin.len map.old ≡ layout.now.capacity }
     requires held { (b : ReadBlock) → block_reads slot.now unit block ≡ Some b
         → IsHeld window.old b.mark.position × (has_landed_at window.old b.mark.position ≡ true) }
-    ensures window { window.new ≡ all_readable window.old (option_to_list (block_reads slot.now unit block)) }
+    ensures window { window.new
+        ≡ all_readable window.old (option_to_list (block_reads slot.now unit block)) }
     ensures map { map.new ≡ all_moved layout.now.capacity slot.now.records.line map.old
         (option_to_list (block_reads slot.now unit block)) }
     ensures capacity { fin.len map.new ≡ fin.len map.old }
@@ -72,7 +71,7 @@ fn make_block_readable(
         Some(mark) => mark,
         None => return,
     };
-    if mark.lba == PAD {
+    if mark.lba == Mark::PAD_LBA {
         return;
     }
     let position = mark.position;

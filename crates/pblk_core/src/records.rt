@@ -23,9 +23,6 @@ use pblk_model::{Mark, a_line_is_short, end_len_is_least};
 use std::alloc::{AllocError, Global};
 use std::marker::Model;
 
-/// The address beside the sectors of a record's blocks.
-const META: u64 = u64::MAX - 2;
-
 /// What the start record and the end record of an open line are made of (formats of this project).
 ///
 /// All memory is taken when it is made, for any line of the layout, and it is used again for each line that
@@ -94,7 +91,8 @@ impl LineRecords {
     /// The record's numbers fit a line of the layout.
     pub fn open(&mut self, start: &StartRecord)
         requires width { start.now.width ≤ units self.old.shape }
-        requires fits { IsTrue (start_fits self.old.shape start.now.line start.now.width (start_numbers start.now)) }
+        requires fits { IsTrue (start_fits self.old.shape start.now.line start.now.width
+            (start_numbers start.now)) }
         ensures { self.new ≡ record {
           shape = self.old.shape;
           line = start.now.line;
@@ -113,9 +111,10 @@ impl LineRecords {
         self.has_end = false;
     }
 
-    /// Tells the marks of a stripe of data, which come next in line order. The line has room for them.
+    /// Keeps the marks of the stripe of data that comes next in line order. The line has room for them.
     pub fn mark_data(&mut self, marks: &[Mark])
-        requires { length self.old.marks + length marks.now ≤ data_len self.old.shape self.old.width }
+        requires { length self.old.marks + length marks.now
+            ≤ data_len self.old.shape self.old.width }
         ensures { self.new ≡ record {
           shape = self.old.shape;
           line = self.old.line;
@@ -145,9 +144,9 @@ impl LineRecords {
         self.marks.get(index as usize).copied()
     }
 
-    /// Adds the start record's blocks from the line address `at` on to an empty stripe, as many as it has.
+    /// Fills an empty stripe with the start record's blocks from the line address `at` on.
     ///
-    /// They lie in the start record, and the stripe is of a drive of the layout's shape.
+    /// These blocks lie in the start record, and the stripe is of a drive of the layout's shape.
     pub fn start_stripe(&self, at: u32, into: &mut Stripe)
         requires shape { into.old.shape ≡ self.now.shape }
         requires empty { into.old.stripe.blocks ≡ [] }
@@ -158,10 +157,10 @@ impl LineRecords {
         add_run(self.layout, self.seq, &self.start, at, into);
     }
 
-    /// Adds the end record's blocks from the line address `at` on to an empty stripe, as many as it has.
+    /// Fills an empty stripe with the end record's blocks from the line address `at` on.
     ///
-    /// All data are told, the blocks lie in the end record, and the stripe is of a drive of the layout's
-    /// shape.
+    /// The marks of all data are kept, these blocks lie in the end record, and the stripe is of a drive of the
+    /// layout's shape.
     pub fn end_stripe(&mut self, at: u32, into: &mut Stripe)
         requires shape { into.old.shape ≡ self.old.shape }
         requires empty { into.old.stripe.blocks ≡ [] }
@@ -190,18 +189,20 @@ impl LineRecords {
     }
 }
 
-/// The records of an opening in the engine's log are those that these numbers say: their blocks are the same
-/// in each stripe.
+/// Records that are made of the numbers of an opening in the engine's log have the blocks that the log's
+/// records have, in each stripe.
 pub fn records_are_an_openings()
-    ensures start { (s : Shape) (log : List Logged) (o : Opening) (r : Records) (a : ℕ) → AreOf s log o r
+    ensures start { (s : Shape) (log : List Logged) (o : Opening) (r : Records) (a : ℕ)
+        → AreOf s log o r
         → stripe_at r.shape (blocks_at_start r) 0 a ≡ stripe_at s (start_blocks s o) 0 a }
-    ensures end { (s : Shape) (log : List Logged) (o : Opening) (r : Records) (a : ℕ) → AreOf s log o r
+    ensures end { (s : Shape) (log : List Logged) (o : Opening) (r : Records) (a : ℕ)
+        → AreOf s log o r
         → stripe_at r.shape (blocks_at_end r) (end_begins r) a
         ≡ stripe_at s (end_blocks s log o) (end_address s o) a }
 {}
 
-// Writes the end record of a line whose data are all told to the first bytes of its blocks, if it doesn't
-// stand there.
+// Writes the end record of a line, of which the marks of all data are kept, to the first bytes of its blocks,
+// unless it stands there already.
 fn write_once(
     stands: bool,
     layout: Layout,
@@ -228,8 +229,7 @@ fn write_once(
     write_end(&mut out[..size], line, width, seq, marks);
 }
 
-// Adds the blocks of a record of this sequence number from a block of it on to an empty stripe, as many as it
-// has.
+// Fills an empty stripe with the blocks of a record of this sequence number, from the record's block `from` on.
 fn add_run(layout: Layout, seq: u64, bytes: &[u8], from: u32, into: &mut Stripe)
     requires shape { into.old.shape ≡ layout }
     requires empty { into.old.stripe.blocks ≡ [] }
@@ -243,7 +243,7 @@ fn add_run(layout: Layout, seq: u64, bytes: &[u8], from: u32, into: &mut Stripe)
     let start = from as usize * size;
     let end = start + shape.ws_opt as usize * size;
     let mark = Mark {
-        lba: META,
+        lba: Mark::META_LBA,
         position: seq,
     };
     into.append_run(mark, shape.ws_opt, &bytes[start..end]);

@@ -16,8 +16,8 @@ pub(crate) struct LineChunk {
     pub(crate) unit: u32,
 }
 
-/// The chunks of the strays that were neither Free nor Offline, by line and then by unit, and how many of them were
-/// reset: the first ones.
+/// The chunks of the strays that were neither Free nor Offline, by line and then by unit. The first `done` of
+/// them were reset.
 #[derive(Debug, Drop)]
 pub(crate) struct Resets {
     chunks: Vec<LineChunk>,
@@ -25,8 +25,8 @@ pub(crate) struct Resets {
 }
 
 impl Resets {
-    /// The chunks of these lines that are neither Free nor Offline, by the states of all chunks. None was reset.
-    /// Fails only where there isn't the memory.
+    /// The chunks of these lines that are neither Free nor Offline, by the states of all chunks. None was
+    /// reset. Fails only where there isn't the memory.
     pub(crate) fn new(
         alloc: Global,
         shape: &Shape,
@@ -34,7 +34,8 @@ impl Resets {
         strays: &[u32],
     ) -> Result<Resets, AllocError>
         requires accepted { IsAccepted shape.now }
-        requires lines { (k line : ℕ) → slice_get strays.now k ≡ Some line → line < shape.now.chunks }
+        requires lines { (k line : ℕ) → slice_get strays.now k ≡ Some line
+            → line < shape.now.chunks }
         requires chunks { length states.now ≡ units shape.now * shape.now.chunks }
         ensures { IfOk result (λ r. resets_left r ≡ resets_found shape.now states.now strays.now) }
     {
@@ -45,7 +46,7 @@ impl Resets {
         Ok(Resets { chunks, done: 0 })
     }
 
-    /// The first that is left.
+    /// The first chunk that is left, if one is.
     pub(crate) fn first(&self) -> Option<LineChunk>
         ensures { result ≡ slice_get (resets_left self.now) 0 }
     {
@@ -56,7 +57,7 @@ impl Resets {
         }
     }
 
-    /// The first that was left is reset.
+    /// Notes that the first chunk that was left is reset.
     pub(crate) fn advance(&mut self)
         requires { IsSome (slice_get (resets_left self.old) 0) }
         ensures { resets_left self.new ≡ drop 1 (resets_left self.old) }
@@ -64,7 +65,7 @@ impl Resets {
         self.done += 1;
     }
 
-    /// Whether the first that is left is of a line.
+    /// Whether the first chunk that is left is of this line.
     pub(crate) fn is_at(&self, line: u32) -> bool
         ensures { result ≡ is_of_line line (slice_get (resets_left self.now) 0) }
     {
@@ -92,8 +93,8 @@ fn add_line(
     requires accepted { IsAccepted shape.now }
     requires line { line < shape.now.chunks }
     requires chunks { length states.now ≡ units shape.now * shape.now.chunks }
-    ensures { OnOk result (chunks.new.items
-        ≡ chunks.old.items ++ in_line line (used_below shape.now states.now line (units shape.now))) }
+    ensures { OnOk result (chunks.new.items ≡ chunks.old.items
+        ++ in_line line (used_below shape.now states.now line (units shape.now))) }
 {
     for unit in 0..shape.units() {
         if is_used(states[unit as usize * shape.chunks as usize + line as usize]) {

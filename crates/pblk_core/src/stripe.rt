@@ -10,12 +10,6 @@ use pblk_model::{Mark, Shape};
 use std::alloc::{AllocError, Global};
 use std::marker::Model;
 
-/// The mark of a block that fills up a stripe.
-const PAD: Mark = Mark {
-    lba: u64::MAX,
-    position: 0,
-};
-
 /// A stripe: up to WS_OPT consecutive blocks of one chunk, which go to its unit in one program (Open-Channel
 /// SSD Specification 2.0, Vector write; Bjørling, González, Bonnet, FAST 2017, write buffering).
 ///
@@ -79,7 +73,8 @@ impl Stripe {
     pub fn append(&mut self, mark: Mark, sector: &[u8])
         requires room { length self.old.stripe.blocks < self.old.shape.ws_opt }
         requires size { length sector.now ≡ self.old.shape.sector }
-        ensures { self.new ≡ followed_by self.old (record { sector = sector.now; mark = mark } ∷ []) }
+        ensures { self.new
+            ≡ followed_by self.old (record { sector = sector.now; mark = mark } ∷ []) }
     {
         self.append_run(mark, 1, sector);
     }
@@ -89,8 +84,8 @@ impl Stripe {
     pub fn append_run(&mut self, mark: Mark, count: u32, bytes: &[u8])
         requires room { length self.old.stripe.blocks + count ≤ self.old.shape.ws_opt }
         requires size { length bytes.now ≡ count * self.old.shape.sector }
-        ensures { self.new
-            ≡ followed_by self.old (blocks_of self.old.shape.sector bytes.now (replicate count mark)) }
+        ensures { self.new ≡ followed_by self.old
+            (blocks_of self.old.shape.sector bytes.now (replicate count mark)) }
     {
         let end = self.marks.len() + count as usize;
         append_bytes(&mut self.bytes, bytes);
@@ -99,19 +94,13 @@ impl Stripe {
 
     /// Fills the stripe up to WS_OPT blocks with Pad blocks, whose sectors are zeros.
     pub fn pad(&mut self)
-        ensures { self.new ≡ followed_by self.old
-            (replicate (self.old.shape.ws_opt - length self.old.stripe.blocks) (pad_block self.old.shape)) }
+        ensures { let s = self.old.shape
+            in let more = s.ws_opt - length self.old.stripe.blocks
+            in self.new ≡ followed_by self.old (replicate more (pad_block s)) }
     {
         let blocks = self.shape.ws_opt as usize;
         fill_zeros(&mut self.bytes, blocks * self.shape.sector as usize);
-        fill_marks(&mut self.marks, blocks, PAD);
-    }
-
-    /// The line's number, from 0.
-    pub fn line(&self) -> u32
-        ensures { result ≡ self.now.stripe.line }
-    {
-        self.line
+        fill_marks(&mut self.marks, blocks, Mark::PAD);
     }
 
     /// The unit's number, from 0.
@@ -121,7 +110,7 @@ impl Stripe {
         self.unit
     }
 
-    /// The chunk's number in its unit, which is the line's.
+    /// The chunk's number in its unit, from 0, which is the line's number.
     pub fn chunk(&self) -> u32
         ensures chunk { result ≡ self.now.stripe.chunk }
         ensures line { result ≡ self.now.stripe.line }
@@ -138,7 +127,8 @@ impl Stripe {
 
     /// The blocks as a program takes them: their sectors one after another, and their marks.
     pub fn parts(&self) -> (&[u8], &[Mark])
-        ensures blocks { blocks_of self.now.shape.sector result.0.now result.1.now ≡ self.now.stripe.blocks }
+        ensures blocks { blocks_of self.now.shape.sector result.0.now result.1.now
+            ≡ self.now.stripe.blocks }
         ensures whole { length result.0.now ≡ length result.1.now * self.now.shape.sector }
         ensures few { length result.1.now ≤ self.now.shape.ws_opt }
     {
@@ -169,7 +159,8 @@ fn fill_zeros(list: &mut Vec<u8>, end: usize)
 fn fill_marks(list: &mut Vec<Mark>, end: usize, mark: Mark)
     requires order { vec_len list.old ≤ end }
     requires room { end ≤ vec_capacity list.old }
-    ensures items { list.new.items ≡ list.old.items ++ replicate (end - length list.old.items) mark }
+    ensures items { list.new.items
+        ≡ list.old.items ++ replicate (end - length list.old.items) mark }
     ensures room { vec_capacity list.old ≤ vec_capacity list.new }
 {
     list.resize(end, mark).unwrap();

@@ -3,8 +3,8 @@
 /// What a target does next.
 #[derive(Clone, Copy, Debug, PartialEq, Eq)]
 pub enum Work {
-    /// A chunk of a line that was given up is reset: the one of this unit, which is neither Free nor Offline. Both
-    /// numbers count from 0.
+    /// A chunk of a line that was given up is reset: the one of this unit, which is neither Free nor Offline.
+    /// Both numbers count from 0.
     Reset { line: u32, unit: u32 },
     /// A stripe is placed and programmed.
     Program,

@@ -254,8 +254,8 @@ impl PlainPlacer {
         Ok(positions)
     }
 
-    /// Whether an entry can wait: fewer entries wait or stand in stripes than the ring has slots, this one isn't among them,
-    /// and a new one is above all that wait and weren't lost.
+    /// Whether an entry can wait: fewer entries wait or stand in stripes than the ring has slots, this one
+    /// isn't among them, and a new one is above all that wait and weren't lost.
     pub fn can_wait(&self, alloc: Global, position: u64, lost: bool) -> Result<bool, AllocError>
         ensures room { IfOk result (λ b. OnTrue b (length (held self.now) < self.now.shape.ring)) }
         ensures another { IfOk result (λ b. OnTrue b (Contains (held self.now) position → ⊥)) }
@@ -270,8 +270,8 @@ impl PlainPlacer {
         )
     }
 
-    /// Whether a line can be begun: it is one of the drive's and isn't open, its units are some of the drive's and leave
-    /// room for data, and at most one line is open.
+    /// Whether a line can be begun: it is one of the drive's and isn't open, its units are some of the drive's
+    /// and leave room for data, and at most one line is open.
     pub fn can_begin(&self, line: u32, live: u64) -> bool
         ensures line { OnTrue result (line < self.now.shape.chunks) }
         ensures another { OnTrue result (All (λ l. l.line ≢ line) self.now.lines) }
@@ -297,7 +297,7 @@ impl PlainPlacer {
         }
     }
 
-    /// An entry waits for a stripe: a new one, or one that was lost with its stripe.
+    /// Lets an entry wait for a stripe: a new one, or one that was lost with its stripe.
     pub fn wait(&mut self, alloc: Global, position: u64, lost: bool) -> Result<(), AllocError>
         ensures ok { OnOk result (self.new ≡ waits self.old position lost) }
         ensures err { OnErr result (self.new ≡ self.old) }
@@ -312,7 +312,8 @@ impl PlainPlacer {
         self.entries.pad_to(position);
     }
 
-    /// A line of the drive was opened. It has data. Bit `u` of `live` is set for each unit `u` whose chunk isn't Offline.
+    /// Notes that a line of the drive was opened. It has data. Bit `u` of `live` is set for each unit `u` whose
+    /// chunk isn't Offline.
     pub fn begin(&mut self, alloc: Global, line: u32, live: u64) -> Result<(), AllocError>
         requires units { live < 2 ^ units self.old.shape }
         requires data { data_len self.old.shape (length (units_in live)) ≢ 0 }
@@ -324,7 +325,8 @@ impl PlainPlacer {
         Ok(())
     }
 
-    /// The next stripe. Bit `u` of `busy` is set for each unit `u` that takes none. None exactly where there is none.
+    /// The next stripe. Bit `u` of `busy` is set for each unit `u` that takes none. None exactly where there is
+    /// none.
     pub fn next_stripe(&self, busy: u64) -> Option<Placement>
         ensures { option_map program result ≡ next_stripe self.now busy }
     {
@@ -350,7 +352,7 @@ impl PlainPlacer {
         close_lines(&mut self.lines);
     }
 
-    /// The program of a stripe is under way.
+    /// Notes that the program of a stripe is under way.
     pub fn placed(&mut self, of: &Placement)
         ensures { self.new ≡ placed self.old (program of.now) }
     {
@@ -362,21 +364,21 @@ impl PlainPlacer {
         put(&mut self.units, of.unit, PlainRow::under_way(of));
     }
 
-    /// All blocks of a stripe have landed.
+    /// Notes that all blocks of a stripe have landed.
     pub fn landed(&mut self, of: &Placement)
         ensures { self.new ≡ landed self.old (program of.now) }
     {
         self.answer(of, Fate::Landed);
     }
 
-    /// The program of a stripe failed.
+    /// Notes that the program of a stripe failed.
     pub fn lost(&mut self, of: &Placement)
         ensures { self.new ≡ lost self.old (program of.now) }
     {
         self.answer(of, Fate::Lost);
     }
 
-    /// The program of a stripe was stopped.
+    /// Notes that the program of a stripe was stopped.
     pub fn stopped(&mut self, of: &Placement)
         ensures { self.new ≡ stopped self.old (program of.now) }
     {

@@ -3,7 +3,7 @@ ghost use Rattle.std.specs.Prelude.{◌≡◌, ◌↔◌, ◌+◌, ◌*◌, ◌<
 ghost use Rattle.pblk_model.specs.Bytes.{zeros};
 ghost use Rattle.block_port.specs.Own.{sectors_of};
 ghost use Rattle.plain_port.specs.Plain.{with_write};
-ghost use Rattle.block_port.specs.Port.{IsFront, IsPastEnd, IsSectorSize};
+ghost use Rattle.block_port.specs.Port.{IsFront, IsPastEnd, IsSectorSize, written_by};
 
 use crate::sectors::{blank, get, put};
 use block_port::{
@@ -132,11 +132,16 @@ impl PlainPort {
 
     fn add_worn(&mut self, count: u32, wanted: u64, have: u64)
         ensures { self.new ≡ record self.old {
-          worns = self.old.worns
-              ++ record { count = count; wanted = wanted; have = have } ∷ [];
+          worns = self.old.worns ++ record {
+            written = written_by self.old;
+            count = count;
+            wanted = wanted;
+            have = have;
+          } ∷ [];
         } }
     {
         self.worns.add(&WornAnswer {
+            written: self.lines,
             count,
             wanted,
             have,

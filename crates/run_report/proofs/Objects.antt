@@ -4,27 +4,27 @@ use Rattle.serde_json.specs.Data.{Data, member, no_members, put}
 use Rattle.serde_json.specs.Written.{compact_text, has_float}
 use Rattle.serde_json.proofs.OnLiterals.{serde_json_on_literals}
 use Rattle.pblk_model.specs.ImageFile.{Drive}
-use Rattle.scan_recovery.specs.declared.sectors.Contents.{Contents}
+use Rattle.scan_recovery.specs.declared.sectors.Summary.{Summary}
 use Rattle.scan_recovery.specs.declared.sectors.Head.{Head}
 use Rattle.run_report.specs.Numbers.{report_object}
 use Rattle.run_report.specs.Objects.{report_data}
 
-abbrev with_head : Contents → Option Head → Contents
-with_head c head = record { sectors = c.sectors; end = c.end; counted = c.counted; live = c.live; head = head }
+abbrev with_head : Summary → Option Head → Summary
+with_head c head = record { end = c.end; counted = c.counted; live = c.live; head = head }
 
-text_with : (d : Drive) (c : Contents) (head : Option Head) → compact_text (report_data d (with_head c head)) ≡ report_object d (with_head c head)
+text_with : (d : Drive) (c : Summary) (head : Option Head) → compact_text (report_data d (with_head c head)) ≡ report_object d (with_head c head)
 unfolding serde_json_on_literals
 text_with d c None = simp append_assoc
 text_with d c (Some h) = simp append_assoc
 
-pub text_of_data : (d : Drive) (c : Contents) → compact_text (report_data d c) ≡ report_object d c
+pub text_of_data : (d : Drive) (c : Summary) → compact_text (report_data d c) ≡ report_object d c
 text_of_data d c = text_with d c c.head
 
-float_with : (d : Drive) (c : Contents) (head : Option Head) → has_float (report_data d (with_head c head)) ≡ false
+float_with : (d : Drive) (c : Summary) (head : Option Head) → has_float (report_data d (with_head c head)) ≡ false
 float_with d c None = refl
 float_with d c (Some h) = refl
 
-pub has_no_float : (d : Drive) (c : Contents) → has_float (report_data d c) ≡ false
+pub has_no_float : (d : Drive) (c : Summary) → has_float (report_data d c) ≡ false
 has_no_float d c = float_with d c c.head
 
 -- Put one after another, the members stand in the order of their keys.

@@ -5,7 +5,7 @@ use Rattle.serde_json.specs.Data.{Data, null, number, unsigned, object, Members,
 use Rattle.pblk_model.specs.declared.chunk.ChunkState.TheVariants as states
 use Rattle.pblk_model.specs.CommandText.{chunks_in}
 use Rattle.pblk_model.specs.ImageFile.{Drive}
-use Rattle.scan_recovery.specs.declared.sectors.Contents.{Contents}
+use Rattle.scan_recovery.specs.declared.sectors.Summary.{Summary}
 use Rattle.scan_recovery.specs.declared.sectors.Head.{Head}
 use Rattle.run_report.specs.Numbers.{seq_of}
 
@@ -16,7 +16,7 @@ line_data head = option_map_or (λ h. number (unsigned h.line)) head null
 abbrev pub with_number : List ℕ → ℕ → Members → Members
 with_number key n others = member key (number (unsigned n)) others
 
-abbrev pub report_data : Drive → Contents → Data
+abbrev pub report_data : Drive → Summary → Data
 report_data d c = object (with_number (codes "capacity") d.capacity
     (with_number (codes "closed") (chunks_in states.Closed d)
     (with_number (codes "counted") c.counted

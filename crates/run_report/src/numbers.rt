@@ -7,44 +7,44 @@ ghost use Rattle.run_report.specs.Objects.{line_data, report_data};
 
 use command_text::chunks_in;
 use ocssd_drive::{ChunkState, Drive};
-use scan_recovery::{Contents, Head};
+use scan_recovery::{Head, Summary};
 use serde_json::{Value, json};
 use std::alloc::{AllocError, Global};
 
 /// What `report` prints: the drive's capacity in sectors, how many of its chunks are in each state, and what its image
 /// holds, as one object of JSON and a newline. Fails only for want of memory.
-pub fn report(alloc: Global, drive: &Drive, contents: &Contents) -> Result<String, AllocError>
-    ensures { IfOk result (λ text. string_bytes text ≡ report_text (stored drive.now) contents.now) }
+pub fn report(alloc: Global, drive: &Drive, summary: &Summary) -> Result<String, AllocError>
+    ensures { IfOk result (λ text. string_bytes text ≡ report_text (stored drive.now) summary.now) }
 {
-    let mut text = object_text(alloc, drive, contents)?;
+    let mut text = object_text(alloc, drive, summary)?;
     text.push('\n')?;
     Ok(text)
 }
 
 // The object's text.
-fn object_text(alloc: Global, drive: &Drive, contents: &Contents) -> Result<String, AllocError>
+fn object_text(alloc: Global, drive: &Drive, summary: &Summary) -> Result<String, AllocError>
     ensures { IfOk result
-        (λ text. string_bytes text ≡ report_object (stored drive.now) contents.now) }
+        (λ text. string_bytes text ≡ report_object (stored drive.now) summary.now) }
 {
-    let object = object(alloc, drive, contents)?;
+    let object = object(alloc, drive, summary)?;
     object.to_string(alloc)
 }
 
 // The object.
-fn object(alloc: Global, drive: &Drive, contents: &Contents) -> Result<Value, AllocError>
-    ensures { IfOk result (λ value. view value ≡ report_data (stored drive.now) contents.now) }
+fn object(alloc: Global, drive: &Drive, summary: &Summary) -> Result<Value, AllocError>
+    ensures { IfOk result (λ value. view value ≡ report_data (stored drive.now) summary.now) }
 {
     json!(in alloc; {
         "capacity": drive.capacity,
         "closed": chunks_in(drive, ChunkState::Closed),
-        "counted": contents.counted,
-        "end": contents.end,
+        "counted": summary.counted,
+        "end": summary.end,
         "free": chunks_in(drive, ChunkState::Free),
-        "head": line_of(contents.head),
-        "live": contents.live,
+        "head": line_of(summary.head),
+        "live": summary.live,
         "offline": chunks_in(drive, ChunkState::Offline),
         "open": chunks_in(drive, ChunkState::Open),
-        "seq": seq_of(contents.head)
+        "seq": seq_of(summary.head)
     })
 }
 

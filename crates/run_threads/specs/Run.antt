@@ -9,7 +9,7 @@ use Rattle.pblk_model.specs.Transcript.{IsWorn, words_at}
 use Rattle.block_port.specs.declared.rows.DriveAnswer.{DriveAnswer}
 use Rattle.block_port.specs.declared.rows.WornAnswer.{WornAnswer}
 use Rattle.block_port.specs.Own.{OwnWrite}
-use Rattle.block_port.specs.Port.{ModelPort, IsSameTarget, IsSeen, Learns, contents_after, positions}
+use Rattle.block_port.specs.Port.{ModelPort, IsSameTarget, IsSeen, Learns, contents_after, positions, written_by}
 use Rattle.run_threads.specs.declared.records.Answer.{Answer}
 use Rattle.run_threads.specs.declared.records.Answer.TheVariants.{Placed, Words, Synced, Done, Refused}
 use Rattle.run_threads.specs.declared.records.Records.{Records}
@@ -28,11 +28,18 @@ abbrev pub faults_of : Answer → List DriveAnswer
 faults_of (Refused (Drive unit event)) = record { unit = unit; event = event } ∷ []
 faults_of answer = []
 
--- a write asked for its count, a flush for none
-abbrev pub worns_of : Command → Answer → List WornAnswer
-worns_of (Write lba count tag) (Refused (Worn wanted have)) = record { count = count; wanted = wanted; have = have } ∷ []
-worns_of Flush (Refused (Worn wanted have)) = record { count = 0; wanted = wanted; have = have } ∷ []
-worns_of command answer = []
+-- how many sectors it wrote
+abbrev pub written_of : Command → Answer → ℕ
+written_of (Write lba count tag) (Placed place) = count
+written_of command answer = 0
+
+-- Of a port that had written so many sectors before. A write asked for its count, a flush for none.
+abbrev pub worns_of : ℕ → Command → Answer → List WornAnswer
+worns_of written (Write lba count tag) (Refused (Worn wanted have)) =
+    record { written = written; count = count; wanted = wanted; have = have } ∷ []
+worns_of written Flush (Refused (Worn wanted have)) =
+    record { written = written; count = 0; wanted = wanted; have = have } ∷ []
+worns_of written command answer = []
 
 -- numbers of a unit and of its event, as they are printed
 abbrev pub IsEvent : ℕ → ℕ → Type 0
@@ -65,7 +72,7 @@ pub record Answers (told : List ℕ → ℕ) (old : ModelPort) (command : Comman
   pub says : Says told old command answer new
   pub own : new.own ≡ old.own ++ own_of old.sector command answer
   pub faults : new.faults ≡ old.faults ++ faults_of answer
-  pub worns : new.worns ≡ old.worns ++ worns_of command answer
+  pub worns : new.worns ≡ old.worns ++ worns_of (written_by old) command answer
   pub learns : Learns old new
   pub target : IsSameTarget old new
 
@@ -95,9 +102,10 @@ abbrev pub faults_in : List Answer → List DriveAnswer
 faults_in [] = []
 faults_in (a ∷ rest) = faults_of a ++ faults_in rest
 
-abbrev pub worns_in : List Command → List Answer → List WornAnswer
-worns_in (c ∷ cs) (a ∷ rest) = worns_of c a ++ worns_in cs rest
-worns_in cs rest = []
+-- of a port that had written so many sectors before them
+abbrev pub worns_in : ℕ → List Command → List Answer → List WornAnswer
+worns_in written (c ∷ cs) (a ∷ rest) = worns_of written c a ++ worns_in (written + written_of c a) cs rest
+worns_in written cs rest = []
 
 -- a flush's front is on the drive, and counts no more lines than are known below it
 abbrev pub IsFlushed : ModelPort → Answer → Type 0
@@ -110,7 +118,7 @@ pub record WasRun (told : List ℕ → ℕ) (commands : List Command) (answers :
   -- what the port keeps of its own answers grew by just those of the records, in order
   pub own : new.own ≡ old.own ++ own_in old.sector commands answers
   pub faults : new.faults ≡ old.faults ++ faults_in answers
-  pub worns : new.worns ≡ old.worns ++ worns_in commands answers
+  pub worns : new.worns ≡ old.worns ++ worns_in (written_by old) commands answers
   -- each flush's front is on the drive, by what the port says as it comes back
   pub flushed : AllByRecursion (IsFlushed new) answers
   -- it knows more, and is of the same target

@@ -35,16 +35,6 @@ summary_in i = record {
   head = option_map head_of (model.head i);
 }
 
--- what the image holds
-abbrev pub contents_in : Image → Contents
-contents_in i = record {
-  sectors = model.contents i;
-  end = model.end i;
-  counted = counted_count i;
-  live = live_count i;
-  head = option_map head_of (model.head i);
-}
-
 -- this is the summary of the image
 pub record IsSummaryOf (i : Image) (s : Summary) : Type 0 where
   pub end : s.end ≡ model.end i
@@ -56,6 +46,3 @@ pub record IsSummaryOf (i : Image) (s : Summary) : Type 0 where
 pub record IsContentsOf (i : Image) (c : Contents) : Type 0 where
   pub sectors : c.sectors ≡ model.contents i
   pub end : c.end ≡ model.end i
-  pub counted : c.counted ≡ counted_count i
-  pub live : c.live ≡ live_count i
-  pub head : c.head ≡ option_map head_of (model.head i)

@@ -40,13 +40,9 @@ pub fn contents(alloc: Global, drive: &Drive) -> Result<Contents, AllocError>
     let held = held_in(alloc, &media, &survey)?;
     let shape = media.shape();
     let bytes = sector_bytes(alloc, &media, &held.winners)?;
-    let summary = held.summary;
     Ok(Contents {
         sectors: Sectors::new(bytes, shape.sector, shape.capacity),
-        end: summary.end,
-        counted: summary.counted,
-        live: summary.live,
-        head: summary.head,
+        end: held.summary.end,
     })
 }
 

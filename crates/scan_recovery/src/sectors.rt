@@ -92,13 +92,7 @@ pub struct Summary {
 pub struct Contents {
     /// The user sectors, as many as the capacity.
     pub sectors: Sectors,
-    /// The least position from the head's front on that no record of a line of the head's mount bears, and
-    /// 0 without a head.
+    /// The least position from the head's front on that no record of a line of the head's mount bears, and 0
+    /// without a head.
     pub end: u64,
-    /// How many of the records that count have a sector.
-    pub counted: u64,
-    /// How many sectors have a record that counts.
-    pub live: u64,
-    /// None where no start record is whole.
-    pub head: Option<Head>,
 }

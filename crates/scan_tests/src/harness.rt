@@ -98,13 +98,19 @@ fn put_scan(
     }
 }
 
-// The drive of a case, armed.
-fn armed(alloc: Global, case: &Case) -> Result<Drive, AllocError> {
-    let image = made(alloc, case.steps)?;
+/// The small drive after these steps from a blank image.
+pub(crate) fn restored(alloc: Global, steps: &[Step]) -> Result<Drive, AllocError> {
+    let image = made(alloc, steps)?;
     let mut drive = Drive::new(alloc, Geometry::small(), 512, 64, 64)?;
     for unit in 0..2u32 {
         restore_unit(alloc, &mut drive, unit, &image)?;
     }
+    Ok(drive)
+}
+
+// The drive of a case, armed.
+fn armed(alloc: Global, case: &Case) -> Result<Drive, AllocError> {
+    let mut drive = restored(alloc, case.steps)?;
     let fuse = match case.stops {
         Some((unit, nth, cut)) => Some(Fuse { unit, nth, cut }),
         None => None,

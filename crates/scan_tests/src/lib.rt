@@ -12,3 +12,5 @@ mod image;
 mod pads;
 #[cfg(test)]
 mod recovery;
+#[cfg(test)]
+mod sums;

@@ -152,7 +152,7 @@ impl Placer {
         })
     }
 
-    /// An entry waits for a stripe: a new one, or one that was lost with its stripe.
+    /// Lets an entry wait for a stripe: a new one, or one that was lost with its stripe.
     ///
     /// Fewer entries wait or stand in stripes that are neither landed nor lost than the ring has
     /// slots, this one isn't among them, and a new one is above all that wait and weren't lost.
@@ -173,7 +173,7 @@ impl Placer {
         self.queue.pad_to(position);
     }
 
-    /// A line of the drive was opened. Bit `u` of `live` is set for each unit `u` whose chunk of it
+    /// Notes that a line of the drive was opened. Bit `u` of `live` is set for each unit `u` whose chunk of it
     /// isn't Offline (Open-Channel SSD Specification 2.0, Chunk states).
     ///
     /// It has no stripe left itself, its width leaves room for data, and at most one other line has
@@ -227,7 +227,7 @@ impl Placer {
         self.queue.pad_target()
     }
 
-    /// The program of a stripe is under way. `next_stripe` names it.
+    /// Notes that the program of a stripe is under way. `next_stripe` names it.
     pub fn placed(&mut self, of: &Placement)
         requires { IsNext self.old (program of.now) }
         ensures { self.new ≡ placed self.old (program of.now) }
@@ -243,7 +243,7 @@ impl Placer {
         self.units[unit] = UnitState::UnderWay(*of);
     }
 
-    /// All blocks of a stripe have landed. It was placed and hasn't been answered.
+    /// Notes that all blocks of a stripe have landed. It was placed and hasn't been answered.
     pub fn landed(&mut self, of: &Placement)
         requires { IsUnderWay self.old (program of.now) }
         ensures { self.new ≡ landed self.old (program of.now) }
@@ -253,11 +253,11 @@ impl Placer {
         self.units[of.unit as usize] = UnitState::Idle;
     }
 
-    /// The program of a stripe failed, and its chunk is closed (Open-Channel SSD Specification 2.0,
-    /// Chunk states and write pointer). It was placed and hasn't been answered.
+    /// Notes that the program of a stripe failed, and that its chunk is closed (Open-Channel SSD Specification
+    /// 2.0, Chunk states and write pointer). It was placed and hasn't been answered.
     ///
-    /// From then on its line has pads for its other chunks, and no data or end stripe. Its entries
-    /// wait again once `wait` names them.
+    /// From then on its line has pads for its other chunks, and no data or end stripe. Its entries wait again
+    /// once `wait` names them.
     pub fn lost(&mut self, of: &Placement)
         requires { IsUnderWay self.old (program of.now) }
         ensures { self.new ≡ lost self.old (program of.now) }
@@ -267,7 +267,7 @@ impl Placer {
         self.units[of.unit as usize] = UnitState::Idle;
     }
 
-    /// The program of a stripe was stopped. It was placed and hasn't been answered. It stays placed,
+    /// Notes that the program of a stripe was stopped. It was placed and hasn't been answered. It stays placed,
     /// and is offered again.
     pub fn stopped(&mut self, of: &Placement)
         requires { IsUnderWay self.old (program of.now) }

@@ -84,6 +84,6 @@ fn a_short_stripe_is_padded(rt: HostRuntime) -> Result<(), AllocError> {
             Mark::PAD
         ][..]
     );
-    assert_eq!(rt; (stripe.line(), stripe.unit(), stripe.at()), (3, 1, 8));
+    assert_eq!(rt; (stripe.chunk(), stripe.unit(), stripe.at()), (3, 1, 8));
     Ok(())
 }

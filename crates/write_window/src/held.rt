@@ -4,14 +4,14 @@ ghost use Rattle.write_window.specs.Entries.{has_landed, is_readable, user_count
 
 use sector_pool::{Class, Entry};
 
-/// How far a taken entry has come on its way to the drive. It is answered from the window until it is readable (Bjørling,
-/// González, Bonnet, FAST 2017, write buffering).
+/// How far a taken entry has come on its way to the drive. It is answered from the window until it is readable
+/// (Bjørling, González, Bonnet, FAST 2017, write buffering).
 #[derive(Clone, Copy, Debug, PartialEq, Eq)]
 pub enum Progress {
     /// No block on the drive holds it yet.
     Waiting,
-    /// It has landed in a block that can't be read yet: one of the last MW_CUNITS of an Open chunk (Open-Channel SSD
-    /// Specification 2.0, Chunk states and write pointer).
+    /// It has landed in a block that can't be read yet: one of the last MW_CUNITS of an Open chunk
+    /// (Open-Channel SSD Specification 2.0, Chunk states and write pointer).
     Landed,
     /// Its block can be read.
     Readable,

@@ -18,8 +18,9 @@ use std::marker::Model;
 
 /// The entries from the front `freed` to the last that was taken, each with how far it has come.
 ///
-/// A ring of slots: each call but `new` and `close` takes a few steps, whatever its size, and no memory. `landed` also moves
-/// the synced front on over what has landed, which passes each position once: so it is a few steps a position on the whole.
+/// A ring of slots: each call but `new` and `close` takes a few steps, whatever its size, and no memory.
+/// `landed` also moves the synced front on over what has landed, which passes each position once: so it is a
+/// few steps a position on the whole.
 ///
 /// A window can't be dropped or copied: it ends by `close`, which gives its frames back.
 pub struct Window {
@@ -32,8 +33,8 @@ pub struct Window {
     run: Run,
 }
 
-// Contracts see for how many entries there is room, the front `freed` with the users' writes below it, and a list of the
-// entries. The synced front is a function of these.
+// Contracts see for how many entries there is room, the front `freed` with the users' writes below it, and a
+// list of the entries. The synced front is a function of these.
 impl Model for Window {
     ghost use Rattle.write_window.specs.Window.{WindowView};
 
@@ -108,8 +109,8 @@ impl Window {
         })
     }
 
-    /// Takes an entry in, behind the others. Its position is the next and below 2^63, and fewer entries are held than there
-    /// is room for.
+    /// Takes an entry in, behind the others. Its position is the next and below 2^63, and fewer entries are
+    /// held than there is room for.
     pub fn push(&mut self, entry: Entry)
         requires next { entry.position ≡ taken self.old }
         requires position { entry.position < 2 ^ 63 }
@@ -155,7 +156,7 @@ impl Window {
         }
     }
 
-    /// The block of a held position has landed. Where it had before, nothing changes.
+    /// Notes that a block of a held position has landed. Where one had before, nothing changes.
     pub fn landed(&mut self, position: u64)
         requires held { IsHeld self.old position }
         ensures landed { has_landed_at self.old position ≡ false
@@ -174,7 +175,7 @@ impl Window {
         self.run = extended(&self.entries, self.run);
     }
 
-    /// The block of a held position, which has landed, can be read.
+    /// Notes that the block of a held position, which has landed, can be read.
     pub fn readable(&mut self, position: u64)
         requires held { IsHeld self.old position }
         requires landed { has_landed_at self.old position ≡ true }
@@ -225,8 +226,8 @@ impl Window {
         Some(frame)
     }
 
-    /// The synced front: all positions below it have landed, and its own hasn't. It names the users' writes among those
-    /// since the first.
+    /// The synced front: all positions below it have landed, and its own hasn't. It names the users' writes
+    /// among those since the first.
     pub fn synced(&self) -> Front
         ensures synced { result ≡ synced self.now }
         ensures below { (p : ℕ) → self.now.freed ≤ p → p < result.position

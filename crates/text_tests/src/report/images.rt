@@ -1,7 +1,7 @@
 //! Images and contents by hand, and what is printed of them.
 use drive_image::{ImageErr, load};
 use run_report::{listing, report};
-use scan_recovery::{Contents, Head, Sectors};
+use scan_recovery::{Contents, Head, Sectors, Summary};
 use std::alloc::{AllocError, Global};
 
 /// What a sector holds: the eight bytes of a tag again and again, or the same with another last byte.
@@ -39,11 +39,14 @@ pub(crate) fn listed(alloc: Global, held: &Held) -> Result<String, AllocError> {
 
 /// The report of the small drive with these chunks, and of what its image holds.
 pub(crate) fn reported(alloc: Global, used: &[Used], held: &Held) -> Result<String, AllocError> {
-    let Some(contents) = contents(alloc, held)? else {
-        return format!(in alloc; "no contents");
+    let summary = Summary {
+        end: held.end,
+        counted: held.counted,
+        live: held.live,
+        head: held.head,
     };
     match load(alloc, &image(alloc, used)?) {
-        Ok(drive) => report(alloc, &drive, &contents),
+        Ok(drive) => report(alloc, &drive, &summary),
         Err(ImageErr::Memory) => Err(AllocError),
         Err(_) => format!(in alloc; "no image"),
     }
@@ -68,9 +71,6 @@ fn contents(alloc: Global, held: &Held) -> Result<Option<Contents>, AllocError> 
     Ok(Some(Contents {
         sectors: Sectors::new(bytes, size, count),
         end: held.end,
-        counted: held.counted,
-        live: held.live,
-        head: held.head,
     }))
 }
 

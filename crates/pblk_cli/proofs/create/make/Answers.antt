@@ -18,7 +18,8 @@ returns-in_err-drive-clause-refused c = let n = numbers_seen c.args.numbers.now 
     let said = of_error (blank_refusal
     (numbers_of c.geometry_of-geometry.result) n.sector n.capacity n.ring) c.blank.result e c.in_err-drive.was c.blank.ensures.refused c.blank.ensures.taken in
     error_holds (MakesNothing n) e c.from_residual.result c.from_residual.ensures.1
-    (makes_nothing n e (subst (λ g. ((e ≡ errors.Memory) × (blank_refusal g n.sector n.capacity n.ring ≡ None)) ⊎ (blank_refusal g n.sector n.capacity n.ring ≡ Some e)) c.geometry_of-geometry.ensures said))
+    (makes_nothing n e (subst (λ g. ((e ≡ errors.Memory)
+    × (blank_refusal g n.sector n.capacity n.ring ≡ None)) ⊎ (blank_refusal g n.sector n.capacity n.ring ≡ Some e)) c.geometry_of-geometry.ensures said))
 
 pub returns-in-Ok-clause-accepted : goal.returns-in-Ok-clause-accepted
 returns-in-Ok-clause-accepted c = let n = numbers_seen c.args.numbers.now in

@@ -23,12 +23,8 @@ pub returns : goal.returns
 returns c =
     let i = c.in_ok-media.media in
     let shape = c.shape-shape.ensures.shape in
-    let held = c.in_ok-held.ensures.summary in
-    let now : Contents = record { sectors = c.new-2.result; end = c.in_ok-held.held.summary.end; counted = c.in_ok-held.held.summary.counted; live = c.in_ok-held.held.summary.live; head = c.in_ok-held.held.summary.head } in
+    let now : Contents = record { sectors = c.new-2.result; end = c.in_ok-held.held.summary.end } in
     subst (λ (j : Image). IsContentsOf j now) c.in_ok-media.ensures.image (record {
       sectors = c.new-2.ensures ∙ sectors_are i c.shape-shape.result.sector c.shape-shape.result.capacity c.in_ok-bytes.bytes.items c.in_ok-media.ensures.fit (ap (λ (s : Shape). s.sector) shape) (ap (λ (s : Shape). s.capacity) shape) c.in_ok-bytes.ensures.bytes;
-      end = held.end;
-      counted = held.counted;
-      live = held.live;
-      head = held.head;
+      end = c.in_ok-held.ensures.summary.end;
     })

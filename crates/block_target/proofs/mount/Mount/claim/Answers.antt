@@ -1,6 +1,6 @@
 use Rattle.std.proofs.Common.{length, subst, ap, arith, ◌∙◌}
 use Rattle.block_target.specs.Granted.{WasRoom}
-use Rattle.block_target.specs.Mount.{MountView, engine_log, logs_in}
+use Rattle.block_target.specs.Mount.{MountView, IsSound, engine_log, logs_in}
 use Rattle.block_target.proofs.SameMounts.{worked_none, worked_more, stuck_claimed}
 use Rattle.block_target.proofs.mount.Mount.claim.Goals as goal
 use Rattle.block_target.proofs.MountLemmas.{same_then}
@@ -30,3 +30,9 @@ pub returns-then-not-pump-clause-stuck : goal.returns-then-not-pump-clause-stuck
 returns-then-not-pump-clause-stuck g c =
     stuck_claimed c.loop.self c.pump.new.self c.self.inside.granted c.self-in-loop.inside.granted c.args.wanted (ap (λ (v : MountView). v.granted) c.self.view_is) (ap (λ (v : MountView). v.granted) c.self-in-loop.view_is)
     (omega (arith, c.if-wanted-self.false)) (c.pump.ensures.rest c.if-not-pump.true)
+
+pub returns-then-wanted-self-clause-sound : goal.returns-then-wanted-self-clause-sound
+returns-then-wanted-self-clause-sound g c = subst IsSound c.self.view_is c.self.invariant.sound
+
+pub returns-then-not-pump-clause-sound : goal.returns-then-not-pump-clause-sound
+returns-then-not-pump-clause-sound g c = subst IsSound c.self-in-loop.view_is c.self-in-loop.invariant.sound

@@ -2,9 +2,7 @@ use Rattle.std.proofs.Common.{ℕ, List, map, refl, sym, ap, subst, ◌∙◌}
 use Rattle.std.proofs.lemmas.List.{map-set}
 use Rattle.pblk_model.specs.Chunk.{Block}
 use Rattle.pblk_core.specs.Named.{pad_of}
-use Rattle.scan_recovery.specs.Units.{image_of}
-use Rattle.block_target.specs.Deeds.{drive_before, drive_found}
-use Rattle.block_target.specs.Mount.{MountView, IsMount, IsFetchable}
+use Rattle.block_target.specs.Mount.{MountView, IsMount, IsFetchable, mount_view}
 use Rattle.block_target.proofs.ReadFetch.{is_in, may_take, fetched_mount, fetched_same, gave, gives, gave_step, is_fetched, same_from, unit_read, unit_inside}
 use Rattle.block_target.proofs.KeptWear.{wear_kept}
 use Rattle.block_target.proofs.mount.Mount.fetch.Goals as goal
@@ -70,10 +68,13 @@ returns-clause-same g c =
 
 pub returns-clause-sector : goal.returns-clause-sector
 returns-clause-sector g c = λ sector is.
-    let v : MountView = record { image = image_of c.self.inside.shape (drive_before c.self.inside.drives); found = image_of c.self.inside.shape (drive_found c.self.inside.drives); deeds = c.self.inside.deeds; units = map g.U.Unit.model c.self.inside.units.items; wear = map g.U.Unit.wear c.self.inside.units.items; granted = c.self.inside.granted; pad = pad_of c.self.inside.core } in
+    let v : MountView = mount_view c.self.inside.shape c.self.inside.drives c.self.inside.deeds (map g.U.Unit.model c.self.inside.units.items) (map g.U.Unit.wear c.self.inside.units.items) c.self.inside.granted (pad_of c.self.inside.core) in
     let there : (sector : List ℕ) × IsFetchable _ c.args.unit c.args.chunk c.args.block sector = subst (λ (v : MountView). (sector : List ℕ) × IsFetchable v c.args.unit c.args.chunk c.args.block sector) (sym c.self.view_is) c.requires.there in
     let inside = unit_inside g.U.Unit.model _ c.self.inside.units.items c.args.unit c.args.chunk c.args.block there.0 c.self.invariant.sound refl there.1 in
     let here = unit_read g.U.Unit.model c.self.inside.units.items c.args.unit c.index_mut-from.result.now inside c.index_mut-from.ensures.value in
     let b : Block = record { sector = c.fetch.new.out; mark = c.in-Ok-Sector.mark } in
     let step = gave_step (g.U.Unit.model c.index_mut-from.result.now) (g.U.Unit.model c.fetch.new.self) c.args.chunk c.args.block c.args.out.now c.fetch.new.out c.fetch.result c.in-Ok-Sector.field-0 c.in-Ok-Sector.mark c.fetch.ensures.event.0 c.in-Ok-Sector.is c.in-Ok-Sector.field-0-is c.fetch.ensures.event.1 c.fetch.ensures.event.2 in
     gave v c.args.unit c.args.chunk c.args.block _ _ b c.self.invariant.sound here step c.fetch.ensures.fits sector (subst (λ (v : MountView). IsFetchable v c.args.unit c.args.chunk c.args.block sector) (sym c.self.view_is) is)
+
+pub returns-clause-sound : goal.returns-clause-sound
+returns-clause-sound g c = (invariant_of-self g c).sound

@@ -84,4 +84,7 @@ returns-in-Ok-make_parts-clause-opened g c =
     (first_legal s old new f c.requires.accepted c.requires.fit c.requires.unarmed ready.found)
     (core_stands s old new f c.requires.accepted c.requires.fit c.requires.unarmed ready.found parts.core begun.core) in
     subst (λ xs. IsOpened s old (record { image = image_of s (drive_before c.in-Ok.ready.drives); found = image_of s (drive_found c.in-Ok.ready.drives); deeds = c.in-Ok.ready.deeds; units = map g.U.Unit.model xs; wear = map g.U.Unit.wear xs; granted = c.grant-granted.result; pad = pad_of c.in-Ok-make_parts.parts.core })) (sym back)
-    (opened_view s old new c.in-Ok.ready.found c.in-Ok.ready.drives c.in-Ok.ready.deeds (map g.U.Unit.wear made) c.grant-granted.result (pad_of c.in-Ok-make_parts.parts.core) ready.found ready.drives ready.deeds grants)
+    (opened_view s old new c.in-Ok.ready.found c.in-Ok.ready.drives c.in-Ok.ready.deeds (map g.U.Unit.wear made) c.grant-granted.result (pad_of c.in-Ok-make_parts.parts.core) ready.found ready.drives ready.deeds grants begun.pad)
+
+pub returns-in-Ok-make_parts-clause-sound : goal.returns-in-Ok-make_parts-clause-sound
+returns-in-Ok-make_parts-clause-sound g c = (invariant_of-result g c).sound

@@ -11,8 +11,8 @@ use Rattle.write_window.specs.Window as view
 use Rattle.pblk_core.proofs.FreedWindow.{unread_at_front}
 use Rattle.pblk_core.proofs.WorkOf.{work_is}
 use Rattle.scan_recovery.specs.Units.{image_of}
-use Rattle.block_target.specs.Deeds.{Deed, Decides, world_of, drive_before, drive_found}
-use Rattle.block_target.specs.Mount.{MountView, IsMount, IsSameMount, work_in, world_in, logs_in, engine_log}
+use Rattle.block_target.specs.Deeds.{Deed, Decides, world_of, drive_before}
+use Rattle.block_target.specs.Mount.{MountView, IsMount, IsSameMount, work_in, world_in, logs_in, engine_log, mount_view}
 use Rattle.block_target.proofs.PumpedSteps.{moved}
 use Rattle.block_target.proofs.PumpedOpen.{more_opened, open_stands, open_sound, mount_opened, same_opened}
 use Rattle.block_target.proofs.mount.Mount.open_line.Goals as goal
@@ -29,7 +29,7 @@ pub grant-requires-clause-standing : goal.grant-requires-clause-standing
 grant-requires-clause-standing g c =
     let m = c.self.invariant in
     let start = next_start c.self.inside.core in
-    let v : MountView = record { image = image_of c.self.inside.shape (drive_before c.self.inside.drives); found = image_of c.self.inside.shape (drive_found c.self.inside.drives); deeds = c.self.inside.deeds; units = map g.U.Unit.model c.self.inside.units.items; wear = map g.U.Unit.wear c.self.inside.units.items; granted = c.self.inside.granted; pad = pad_of c.self.inside.core } in
+    let v : MountView = mount_view c.self.inside.shape c.self.inside.drives c.self.inside.deeds (map g.U.Unit.model c.self.inside.units.items) (map g.U.Unit.wear c.self.inside.units.items) c.self.inside.granted (pad_of c.self.inside.core) in
     record {
       image = v.image;
       world = world_of v.image.shape (v.deeds ++ Decides (Open start.line start) ∷ []);
@@ -50,7 +50,7 @@ pub invariant_of-self : goal.invariant_of-self
 invariant_of-self g c =
     let m = c.self.invariant in
     let start = next_start c.self.inside.core in
-    let v : MountView = record { image = image_of c.self.inside.shape (drive_before c.self.inside.drives); found = image_of c.self.inside.shape (drive_found c.self.inside.drives); deeds = c.self.inside.deeds; units = map g.U.Unit.model c.self.inside.units.items; wear = map g.U.Unit.wear c.self.inside.units.items; granted = c.self.inside.granted; pad = pad_of c.self.inside.core } in
+    let v : MountView = mount_view c.self.inside.shape c.self.inside.drives c.self.inside.deeds (map g.U.Unit.model c.self.inside.units.items) (map g.U.Unit.wear c.self.inside.units.items) c.self.inside.granted (pad_of c.self.inside.core) in
     let may : (b : Begun) → begun (engine_log v) ≡ Some b → MayOpen v.image (logs_in v) b start.line start = λ b has. c.open_line.ensures.legal v.image (world_in v) b m.sound.legal m.stands has in
     let stands : (knows : List ℕ) → Stands v.image (after (logs_in v) (Open start.line start) knows) c.open_line.new.self = λ knows. c.open_line.ensures.stands v.image (world_in v) knows m.sound.legal m.stands in
     let same : c.open_line.new.self.window ≡ c.self.inside.core.window = c.open_line.ensures.window in
@@ -65,7 +65,7 @@ pub returns-clause-same : goal.returns-clause-same
 returns-clause-same g c =
     let m = c.self.invariant in
     let start = next_start c.self.inside.core in
-    let v : MountView = record { image = image_of c.self.inside.shape (drive_before c.self.inside.drives); found = image_of c.self.inside.shape (drive_found c.self.inside.drives); deeds = c.self.inside.deeds; units = map g.U.Unit.model c.self.inside.units.items; wear = map g.U.Unit.wear c.self.inside.units.items; granted = c.self.inside.granted; pad = pad_of c.self.inside.core } in
+    let v : MountView = mount_view c.self.inside.shape c.self.inside.drives c.self.inside.deeds (map g.U.Unit.model c.self.inside.units.items) (map g.U.Unit.wear c.self.inside.units.items) c.self.inside.granted (pad_of c.self.inside.core) in
     let may : (b : Begun) → begun (engine_log v) ≡ Some b → MayOpen v.image (logs_in v) b start.line start = λ b has. c.open_line.ensures.legal v.image (world_in v) b m.sound.legal m.stands has in
     let pad : pad_of c.open_line.new.self ≡ pad_of c.self.inside.core = c.open_line.ensures.pad in
     let is : c.max-self-inside.result ≡ max v.granted c.grant.result = c.max-self-inside.ensures in
@@ -81,6 +81,6 @@ returns-clause-pad g c = c.open_line.ensures.pad ∙ ap (λ (v : MountView). v.p
 pub returns-clause-more : goal.returns-clause-more
 returns-clause-more g c =
     let start = next_start c.self.inside.core in
-    let v : MountView = record { image = image_of c.self.inside.shape (drive_before c.self.inside.drives); found = image_of c.self.inside.shape (drive_found c.self.inside.drives); deeds = c.self.inside.deeds; units = map g.U.Unit.model c.self.inside.units.items; wear = map g.U.Unit.wear c.self.inside.units.items; granted = c.self.inside.granted; pad = pad_of c.self.inside.core } in
+    let v : MountView = mount_view c.self.inside.shape c.self.inside.drives c.self.inside.deeds (map g.U.Unit.model c.self.inside.units.items) (map g.U.Unit.wear c.self.inside.units.items) c.self.inside.granted (pad_of c.self.inside.core) in
     subst (λ (old : MountView). length (engine_log old) < length (log_of (world_of v.image.shape c.add.new.self) 0)) c.self.view_is
     (subst (λ (deeds : List Deed). length (engine_log v) < length (log_of (world_of v.image.shape deeds) 0)) (sym c.add.ensures) (more_opened v start.line start))

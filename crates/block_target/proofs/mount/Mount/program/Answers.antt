@@ -16,8 +16,8 @@ use Rattle.pblk_core.specs.Named.{pad_of}
 use Rattle.pblk_core.specs.Stands.{Stands}
 use Rattle.pblk_core.proofs.WorkOf.{work_is}
 use Rattle.scan_recovery.specs.Units.{image_of}
-use Rattle.block_target.specs.Deeds.{Deed, Does, Lands, world_of, drive_before, drive_found}
-use Rattle.block_target.specs.Mount.{MountView, IsMount, IsSameMount, IsUnitIn, work_in, world_in, logs_in, engine_log}
+use Rattle.block_target.specs.Deeds.{Deed, Does, Lands, world_of, drive_before}
+use Rattle.block_target.specs.Mount.{MountView, IsMount, IsSameMount, IsUnitIn, work_in, world_in, logs_in, engine_log, mount_view}
 use Rattle.block_target.proofs.PumpedProgram.{landed_deeds}
 use Rattle.block_target.proofs.PumpedMount.{mount_programmed, same_programmed, more_programmed}
 use Rattle.block_target.proofs.PumpedCall.{unit_there, unit_within, takes_program, placed_standing, end_legal, end_stands, end_sound}
@@ -32,7 +32,7 @@ place-requires-clause-named g c =
 pub index_mut-to-requires : goal.index_mut-to-requires
 index_mut-to-requires g c =
     let m = c.self.invariant in
-    let v : MountView = record { image = image_of c.self.inside.shape (drive_before c.self.inside.drives); found = image_of c.self.inside.shape (drive_found c.self.inside.drives); deeds = c.self.inside.deeds; units = map g.U.Unit.model c.self.inside.units.items; wear = map g.U.Unit.wear c.self.inside.units.items; granted = c.self.inside.granted; pad = pad_of c.self.inside.core } in
+    let v : MountView = mount_view c.self.inside.shape c.self.inside.drives c.self.inside.deeds (map g.U.Unit.model c.self.inside.units.items) (map g.U.Unit.wear c.self.inside.units.items) c.self.inside.granted (pad_of c.self.inside.core) in
     let may : MayPlace v.image (logs_in v) c.place.new.into.stripe = c.place.ensures.legal v.image (world_in v) m.sound.legal m.stands in
     let low : c.place.new.into.stripe.unit < length (map g.U.Unit.model c.self.inside.units.items) = unit_within v c.self.inside.core c.self.inside.pool c.self.inside.stripe m c.place.new.into.stripe may in
     let many : length (map g.U.Unit.model c.self.inside.units.items) ≡ length c.self.inside.units.items = length-map c.self.inside.units.items g.U.Unit.model in
@@ -44,7 +44,7 @@ index_mut-to-requires g c =
 pub program-requires-clause-whole : goal.program-requires-clause-whole
 program-requires-clause-whole g c =
     let m = c.self.invariant in
-    let v : MountView = record { image = image_of c.self.inside.shape (drive_before c.self.inside.drives); found = image_of c.self.inside.shape (drive_found c.self.inside.drives); deeds = c.self.inside.deeds; units = map g.U.Unit.model c.self.inside.units.items; wear = map g.U.Unit.wear c.self.inside.units.items; granted = c.self.inside.granted; pad = pad_of c.self.inside.core } in
+    let v : MountView = mount_view c.self.inside.shape c.self.inside.drives c.self.inside.deeds (map g.U.Unit.model c.self.inside.units.items) (map g.U.Unit.wear c.self.inside.units.items) c.self.inside.granted (pad_of c.self.inside.core) in
     let may : MayPlace v.image (logs_in v) c.place.new.into.stripe = c.place.ensures.legal v.image (world_in v) m.sound.legal m.stands in
     let there : slice_get v.units c.place.new.into.stripe.unit ≡ Some (g.U.Unit.model c.index_mut-to.result.now) =
     unit_there g.U.Unit.model c.self.inside.units.items c.unit-unit.result c.place.new.into.stripe.unit c.index_mut-to.result.now c.unit-unit.ensures (unit_within v c.self.inside.core c.self.inside.pool c.self.inside.stripe m c.place.new.into.stripe may) c.index_mut-to.ensures.value in
@@ -55,7 +55,7 @@ program-requires-clause-whole g c =
 pub program-requires-clause-taken : goal.program-requires-clause-taken
 program-requires-clause-taken g c =
     let m = c.self.invariant in
-    let v : MountView = record { image = image_of c.self.inside.shape (drive_before c.self.inside.drives); found = image_of c.self.inside.shape (drive_found c.self.inside.drives); deeds = c.self.inside.deeds; units = map g.U.Unit.model c.self.inside.units.items; wear = map g.U.Unit.wear c.self.inside.units.items; granted = c.self.inside.granted; pad = pad_of c.self.inside.core } in
+    let v : MountView = mount_view c.self.inside.shape c.self.inside.drives c.self.inside.deeds (map g.U.Unit.model c.self.inside.units.items) (map g.U.Unit.wear c.self.inside.units.items) c.self.inside.granted (pad_of c.self.inside.core) in
     let may : MayPlace v.image (logs_in v) c.place.new.into.stripe = c.place.ensures.legal v.image (world_in v) m.sound.legal m.stands in
     let there : slice_get v.units c.place.new.into.stripe.unit ≡ Some (g.U.Unit.model c.index_mut-to.result.now) =
     unit_there g.U.Unit.model c.self.inside.units.items c.unit-unit.result c.place.new.into.stripe.unit c.index_mut-to.result.now c.unit-unit.ensures (unit_within v c.self.inside.core c.self.inside.pool c.self.inside.stripe m c.place.new.into.stripe may) c.index_mut-to.ensures.value in
@@ -69,7 +69,7 @@ program-requires-clause-taken g c =
 pub unreachable-requires : goal.unreachable-requires
 unreachable-requires g c =
     let m = c.self.invariant in
-    let v : MountView = record { image = image_of c.self.inside.shape (drive_before c.self.inside.drives); found = image_of c.self.inside.shape (drive_found c.self.inside.drives); deeds = c.self.inside.deeds; units = map g.U.Unit.model c.self.inside.units.items; wear = map g.U.Unit.wear c.self.inside.units.items; granted = c.self.inside.granted; pad = pad_of c.self.inside.core } in
+    let v : MountView = mount_view c.self.inside.shape c.self.inside.drives c.self.inside.deeds (map g.U.Unit.model c.self.inside.units.items) (map g.U.Unit.wear c.self.inside.units.items) c.self.inside.granted (pad_of c.self.inside.core) in
     let may : MayPlace v.image (logs_in v) c.place.new.into.stripe = c.place.ensures.legal v.image (world_in v) m.sound.legal m.stands in
     let there : slice_get v.units c.place.new.into.stripe.unit ≡ Some (g.U.Unit.model c.index_mut-to.result.now) =
     unit_there g.U.Unit.model c.self.inside.units.items c.unit-unit.result c.place.new.into.stripe.unit c.index_mut-to.result.now c.unit-unit.ensures (unit_within v c.self.inside.core c.self.inside.pool c.self.inside.stripe m c.place.new.into.stripe may) c.index_mut-to.ensures.value in
@@ -80,7 +80,7 @@ unreachable-requires g c =
 pub landed-requires-clause-standing : goal.landed-requires-clause-standing
 landed-requires-clause-standing g c =
     let m = c.self.invariant in
-    let v : MountView = record { image = image_of c.self.inside.shape (drive_before c.self.inside.drives); found = image_of c.self.inside.shape (drive_found c.self.inside.drives); deeds = c.self.inside.deeds; units = map g.U.Unit.model c.self.inside.units.items; wear = map g.U.Unit.wear c.self.inside.units.items; granted = c.self.inside.granted; pad = pad_of c.self.inside.core } in
+    let v : MountView = mount_view c.self.inside.shape c.self.inside.drives c.self.inside.deeds (map g.U.Unit.model c.self.inside.units.items) (map g.U.Unit.wear c.self.inside.units.items) c.self.inside.granted (pad_of c.self.inside.core) in
     let may : MayPlace v.image (logs_in v) c.place.new.into.stripe = c.place.ensures.legal v.image (world_in v) m.sound.legal m.stands in
     let placed : (knows : List ℕ) → Stands v.image (after (logs_in v) (Place c.place.new.into.stripe) knows) c.place.new.self = λ knows. c.place.ensures.stands v.image (world_in v) knows m.sound.legal m.stands in
     placed_standing v c.self.inside.core c.self.inside.pool c.self.inside.stripe m c.place.new.into.stripe may c.place.new.self placed
@@ -95,7 +95,7 @@ free_frames-requires g c =
 pub grant-requires-clause-standing : goal.grant-requires-clause-standing
 grant-requires-clause-standing g c =
     let m = c.self.invariant in
-    let v : MountView = record { image = image_of c.self.inside.shape (drive_before c.self.inside.drives); found = image_of c.self.inside.shape (drive_found c.self.inside.drives); deeds = c.self.inside.deeds; units = map g.U.Unit.model c.self.inside.units.items; wear = map g.U.Unit.wear c.self.inside.units.items; granted = c.self.inside.granted; pad = pad_of c.self.inside.core } in
+    let v : MountView = mount_view c.self.inside.shape c.self.inside.drives c.self.inside.deeds (map g.U.Unit.model c.self.inside.units.items) (map g.U.Unit.wear c.self.inside.units.items) c.self.inside.granted (pad_of c.self.inside.core) in
     let may : MayPlace v.image (logs_in v) c.place.new.into.stripe = c.place.ensures.legal v.image (world_in v) m.sound.legal m.stands in
     let placed : (knows : List ℕ) → Stands v.image (after (logs_in v) (Place c.place.new.into.stripe) knows) c.place.new.self = λ knows. c.place.ensures.stands v.image (world_in v) knows m.sound.legal m.stands in
     let legal = end_legal v c.self.inside.core c.self.inside.pool c.self.inside.stripe m c.place.new.into.stripe may in
@@ -107,7 +107,7 @@ grant-requires-clause-standing g c =
 pub invariant_of-self : goal.invariant_of-self
 invariant_of-self g c =
     let m = c.self.invariant in
-    let v : MountView = record { image = image_of c.self.inside.shape (drive_before c.self.inside.drives); found = image_of c.self.inside.shape (drive_found c.self.inside.drives); deeds = c.self.inside.deeds; units = map g.U.Unit.model c.self.inside.units.items; wear = map g.U.Unit.wear c.self.inside.units.items; granted = c.self.inside.granted; pad = pad_of c.self.inside.core } in
+    let v : MountView = mount_view c.self.inside.shape c.self.inside.drives c.self.inside.deeds (map g.U.Unit.model c.self.inside.units.items) (map g.U.Unit.wear c.self.inside.units.items) c.self.inside.granted (pad_of c.self.inside.core) in
     let may : MayPlace v.image (logs_in v) c.place.new.into.stripe = c.place.ensures.legal v.image (world_in v) m.sound.legal m.stands in
     let there : slice_get v.units c.place.new.into.stripe.unit ≡ Some (g.U.Unit.model c.index_mut-to.result.now) =
     unit_there g.U.Unit.model c.self.inside.units.items c.unit-unit.result c.place.new.into.stripe.unit c.index_mut-to.result.now c.unit-unit.ensures (unit_within v c.self.inside.core c.self.inside.pool c.self.inside.stripe m c.place.new.into.stripe may) c.index_mut-to.ensures.value in
@@ -144,7 +144,7 @@ invariant_of-self g c =
 pub returns-clause-same : goal.returns-clause-same
 returns-clause-same g c =
     let m = c.self.invariant in
-    let v : MountView = record { image = image_of c.self.inside.shape (drive_before c.self.inside.drives); found = image_of c.self.inside.shape (drive_found c.self.inside.drives); deeds = c.self.inside.deeds; units = map g.U.Unit.model c.self.inside.units.items; wear = map g.U.Unit.wear c.self.inside.units.items; granted = c.self.inside.granted; pad = pad_of c.self.inside.core } in
+    let v : MountView = mount_view c.self.inside.shape c.self.inside.drives c.self.inside.deeds (map g.U.Unit.model c.self.inside.units.items) (map g.U.Unit.wear c.self.inside.units.items) c.self.inside.granted (pad_of c.self.inside.core) in
     let may : MayPlace v.image (logs_in v) c.place.new.into.stripe = c.place.ensures.legal v.image (world_in v) m.sound.legal m.stands in
     let deeds : c.add-3.new.self ≡ landed_deeds v.image v.deeds c.place.new.into.stripe =
     c.add-3.ensures ∙ ap₂ (λ (ds : List Deed) n. ds ++ Lands n ∷ []) (c.add-2.ensures ∙ ap (λ (ds : List Deed). ds ++ Does c.place.new.into.stripe.unit (program_of c.place.new.into.stripe) ∷ []) c.add.ensures) c.unit-unit.ensures in
@@ -164,7 +164,7 @@ returns-clause-pad g c = c.free_frames.ensures.pad ∙ c.landed.ensures.pad ∙ 
 pub returns-clause-more : goal.returns-clause-more
 returns-clause-more g c =
     let m = c.self.invariant in
-    let v : MountView = record { image = image_of c.self.inside.shape (drive_before c.self.inside.drives); found = image_of c.self.inside.shape (drive_found c.self.inside.drives); deeds = c.self.inside.deeds; units = map g.U.Unit.model c.self.inside.units.items; wear = map g.U.Unit.wear c.self.inside.units.items; granted = c.self.inside.granted; pad = pad_of c.self.inside.core } in
+    let v : MountView = mount_view c.self.inside.shape c.self.inside.drives c.self.inside.deeds (map g.U.Unit.model c.self.inside.units.items) (map g.U.Unit.wear c.self.inside.units.items) c.self.inside.granted (pad_of c.self.inside.core) in
     let may : MayPlace v.image (logs_in v) c.place.new.into.stripe = c.place.ensures.legal v.image (world_in v) m.sound.legal m.stands in
     let deeds : c.add-3.new.self ≡ landed_deeds v.image v.deeds c.place.new.into.stripe =
     c.add-3.ensures ∙ ap₂ (λ (ds : List Deed) n. ds ++ Lands n ∷ []) (c.add-2.ensures ∙ ap (λ (ds : List Deed). ds ++ Does c.place.new.into.stripe.unit (program_of c.place.new.into.stripe) ∷ []) c.add.ensures) c.unit-unit.ensures in

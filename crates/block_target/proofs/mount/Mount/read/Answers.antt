@@ -6,15 +6,13 @@ use Rattle.core_laws.specs.SlotOf.{slot_of}
 use Rattle.look_laws.specs.SlotBlocks.{IsBlockOfSlot}
 use Rattle.look_laws.proofs.SlotBlocks.{on_the_drive}
 use Rattle.look_laws.proofs.LatestSectors.{unwritten_zeros, media_latest}
-use Rattle.scan_recovery.specs.Units.{image_of}
-use Rattle.block_target.specs.Deeds.{drive_before, drive_found}
-use Rattle.block_target.specs.Mount.{MountView, IsFetchable, logs_in, world_in, latest}
+use Rattle.block_target.specs.Mount.{MountView, IsSound, IsFetchable, logs_in, world_in, latest, mount_view}
 use Rattle.block_target.proofs.ReadLook.{latest_at, cached_sector, cached_is_held, line_inside, line_live, at_inside, fetchable, zeros_are}
 use Rattle.block_target.proofs.mount.Mount.read.Goals as goal
 
 pub copy_from_slice-requires : goal.copy_from_slice-requires
 copy_from_slice-requires g c =
-    let v : MountView = record { image = image_of c.self.inside.shape (drive_before c.self.inside.drives); found = image_of c.self.inside.shape (drive_found c.self.inside.drives); deeds = c.self.inside.deeds; units = map g.U.Unit.model c.self.inside.units.items; wear = map g.U.Unit.wear c.self.inside.units.items; granted = c.self.inside.granted; pad = pad_of c.self.inside.core } in
+    let v : MountView = mount_view c.self.inside.shape c.self.inside.drives c.self.inside.deeds (map g.U.Unit.model c.self.inside.units.items) (map g.U.Unit.wear c.self.inside.units.items) c.self.inside.granted (pad_of c.self.inside.core) in
     let core = c.self.inside.core in
     let legal = c.self.invariant.sound.legal in
     let st = c.self.invariant.stands in
@@ -25,7 +23,7 @@ copy_from_slice-requires g c =
 
 pub unreachable-requires : goal.unreachable-requires
 unreachable-requires g c =
-    let v : MountView = record { image = image_of c.self.inside.shape (drive_before c.self.inside.drives); found = image_of c.self.inside.shape (drive_found c.self.inside.drives); deeds = c.self.inside.deeds; units = map g.U.Unit.model c.self.inside.units.items; wear = map g.U.Unit.wear c.self.inside.units.items; granted = c.self.inside.granted; pad = pad_of c.self.inside.core } in
+    let v : MountView = mount_view c.self.inside.shape c.self.inside.drives c.self.inside.deeds (map g.U.Unit.model c.self.inside.units.items) (map g.U.Unit.wear c.self.inside.units.items) c.self.inside.granted (pad_of c.self.inside.core) in
     let core = c.self.inside.core in
     let legal = c.self.invariant.sound.legal in
     let st = c.self.invariant.stands in
@@ -35,7 +33,7 @@ unreachable-requires g c =
 
 pub address-unit-requires-clause-line : goal.address-unit-requires-clause-line
 address-unit-requires-clause-line g c =
-    let v : MountView = record { image = image_of c.self.inside.shape (drive_before c.self.inside.drives); found = image_of c.self.inside.shape (drive_found c.self.inside.drives); deeds = c.self.inside.deeds; units = map g.U.Unit.model c.self.inside.units.items; wear = map g.U.Unit.wear c.self.inside.units.items; granted = c.self.inside.granted; pad = pad_of c.self.inside.core } in
+    let v : MountView = mount_view c.self.inside.shape c.self.inside.drives c.self.inside.deeds (map g.U.Unit.model c.self.inside.units.items) (map g.U.Unit.wear c.self.inside.units.items) c.self.inside.granted (pad_of c.self.inside.core) in
     let core = c.self.inside.core in
     let legal = c.self.invariant.sound.legal in
     let st = c.self.invariant.stands in
@@ -46,7 +44,7 @@ address-unit-requires-clause-line g c =
 
 pub address-unit-requires-clause-live : goal.address-unit-requires-clause-live
 address-unit-requires-clause-live g c =
-    let v : MountView = record { image = image_of c.self.inside.shape (drive_before c.self.inside.drives); found = image_of c.self.inside.shape (drive_found c.self.inside.drives); deeds = c.self.inside.deeds; units = map g.U.Unit.model c.self.inside.units.items; wear = map g.U.Unit.wear c.self.inside.units.items; granted = c.self.inside.granted; pad = pad_of c.self.inside.core } in
+    let v : MountView = mount_view c.self.inside.shape c.self.inside.drives c.self.inside.deeds (map g.U.Unit.model c.self.inside.units.items) (map g.U.Unit.wear c.self.inside.units.items) c.self.inside.granted (pad_of c.self.inside.core) in
     let core = c.self.inside.core in
     let legal = c.self.invariant.sound.legal in
     let st = c.self.invariant.stands in
@@ -57,7 +55,7 @@ address-unit-requires-clause-live g c =
 
 pub address-unit-requires-clause-inside : goal.address-unit-requires-clause-inside
 address-unit-requires-clause-inside g c =
-    let v : MountView = record { image = image_of c.self.inside.shape (drive_before c.self.inside.drives); found = image_of c.self.inside.shape (drive_found c.self.inside.drives); deeds = c.self.inside.deeds; units = map g.U.Unit.model c.self.inside.units.items; wear = map g.U.Unit.wear c.self.inside.units.items; granted = c.self.inside.granted; pad = pad_of c.self.inside.core } in
+    let v : MountView = mount_view c.self.inside.shape c.self.inside.drives c.self.inside.deeds (map g.U.Unit.model c.self.inside.units.items) (map g.U.Unit.wear c.self.inside.units.items) c.self.inside.granted (pad_of c.self.inside.core) in
     let core = c.self.inside.core in
     let legal = c.self.invariant.sound.legal in
     let st = c.self.invariant.stands in
@@ -68,7 +66,7 @@ address-unit-requires-clause-inside g c =
 
 pub fetch-requires-clause-there : goal.fetch-requires-clause-there
 fetch-requires-clause-there g c =
-    let v : MountView = record { image = image_of c.self.inside.shape (drive_before c.self.inside.drives); found = image_of c.self.inside.shape (drive_found c.self.inside.drives); deeds = c.self.inside.deeds; units = map g.U.Unit.model c.self.inside.units.items; wear = map g.U.Unit.wear c.self.inside.units.items; granted = c.self.inside.granted; pad = pad_of c.self.inside.core } in
+    let v : MountView = mount_view c.self.inside.shape c.self.inside.drives c.self.inside.deeds (map g.U.Unit.model c.self.inside.units.items) (map g.U.Unit.wear c.self.inside.units.items) c.self.inside.granted (pad_of c.self.inside.core) in
     let core = c.self.inside.core in
     let legal = c.self.invariant.sound.legal in
     let st = c.self.invariant.stands in
@@ -81,7 +79,7 @@ fetch-requires-clause-there g c =
 
 pub returns-in-Unwritten-clause-latest : goal.returns-in-Unwritten-clause-latest
 returns-in-Unwritten-clause-latest g c =
-    let v : MountView = record { image = image_of c.self.inside.shape (drive_before c.self.inside.drives); found = image_of c.self.inside.shape (drive_found c.self.inside.drives); deeds = c.self.inside.deeds; units = map g.U.Unit.model c.self.inside.units.items; wear = map g.U.Unit.wear c.self.inside.units.items; granted = c.self.inside.granted; pad = pad_of c.self.inside.core } in
+    let v : MountView = mount_view c.self.inside.shape c.self.inside.drives c.self.inside.deeds (map g.U.Unit.model c.self.inside.units.items) (map g.U.Unit.wear c.self.inside.units.items) c.self.inside.granted (pad_of c.self.inside.core) in
     let core = c.self.inside.core in
     let legal = c.self.invariant.sound.legal in
     let st = c.self.invariant.stands in
@@ -93,7 +91,7 @@ returns-in-Unwritten-clause-latest g c =
 
 pub returns-in-Some-clause-latest : goal.returns-in-Some-clause-latest
 returns-in-Some-clause-latest g c =
-    let v : MountView = record { image = image_of c.self.inside.shape (drive_before c.self.inside.drives); found = image_of c.self.inside.shape (drive_found c.self.inside.drives); deeds = c.self.inside.deeds; units = map g.U.Unit.model c.self.inside.units.items; wear = map g.U.Unit.wear c.self.inside.units.items; granted = c.self.inside.granted; pad = pad_of c.self.inside.core } in
+    let v : MountView = mount_view c.self.inside.shape c.self.inside.drives c.self.inside.deeds (map g.U.Unit.model c.self.inside.units.items) (map g.U.Unit.wear c.self.inside.units.items) c.self.inside.granted (pad_of c.self.inside.core) in
     let core = c.self.inside.core in
     let legal = c.self.invariant.sound.legal in
     let st = c.self.invariant.stands in
@@ -105,7 +103,7 @@ returns-in-Some-clause-latest g c =
 
 pub returns-in-Media-clause-latest : goal.returns-in-Media-clause-latest
 returns-in-Media-clause-latest g c =
-    let v : MountView = record { image = image_of c.self.inside.shape (drive_before c.self.inside.drives); found = image_of c.self.inside.shape (drive_found c.self.inside.drives); deeds = c.self.inside.deeds; units = map g.U.Unit.model c.self.inside.units.items; wear = map g.U.Unit.wear c.self.inside.units.items; granted = c.self.inside.granted; pad = pad_of c.self.inside.core } in
+    let v : MountView = mount_view c.self.inside.shape c.self.inside.drives c.self.inside.deeds (map g.U.Unit.model c.self.inside.units.items) (map g.U.Unit.wear c.self.inside.units.items) c.self.inside.granted (pad_of c.self.inside.core) in
     let core = c.self.inside.core in
     let legal = c.self.invariant.sound.legal in
     let st = c.self.invariant.stands in
@@ -115,3 +113,9 @@ returns-in-Media-clause-latest g c =
     let there : IsFetchable v c.address-unit.result.0 c.in-Media.line c.address-unit.result.1 is.block.sector = fetchable v core c.args.lba c.in-Media.line c.in-Media.at c.in-Media.position legal st is c.address-unit.result c.address-unit.ensures in
     let same : IsFetchable c.args.self.now c.address-unit.result.0 c.in-Media.line c.address-unit.result.1 is.block.sector = subst (λ (x : MountView). IsFetchable x c.address-unit.result.0 c.in-Media.line c.address-unit.result.1 is.block.sector) c.self.view_is there in
     subst (λ (x : MountView). slice_get (latest x) c.args.lba ≡ Some c.fetch.new.out) c.self.view_is (latest_at v c.args.lba c.self.invariant.sound ∙ media_latest v.image (world_in v) c.args.lba c.in-Media.line c.in-Media.at c.in-Media.position legal inside is ∙ ap (λ (b : List ℕ). Some b) (sym (c.fetch.ensures.sector is.block.sector same)))
+
+pub returns-in-Unwritten-clause-sound : goal.returns-in-Unwritten-clause-sound
+returns-in-Unwritten-clause-sound g c = subst IsSound c.self.view_is c.self.invariant.sound
+
+pub returns-in-Some-clause-sound : goal.returns-in-Some-clause-sound
+returns-in-Some-clause-sound g c = subst IsSound c.self.view_is c.self.invariant.sound

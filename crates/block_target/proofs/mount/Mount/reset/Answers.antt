@@ -11,8 +11,8 @@ use Rattle.pblk_core.specs.Named.{pad_of}
 use Rattle.pblk_core.specs.Resets.{IsToReset}
 use Rattle.pblk_core.specs.Stands.{Stands}
 use Rattle.pblk_core.proofs.WorkOf.{work_is}
-use Rattle.block_target.specs.Deeds.{Deed, NotesReset, world_of, drive_before, drive_found}
-use Rattle.block_target.specs.Mount.{MountView, IsMount, IsSameMount, IsUnitIn, work_in, logs_in, engine_log}
+use Rattle.block_target.specs.Deeds.{Deed, NotesReset, world_of, drive_before}
+use Rattle.block_target.specs.Mount.{MountView, IsMount, IsSameMount, IsUnitIn, work_in, logs_in, engine_log, mount_view}
 use Rattle.block_target.proofs.KeptWear.{wear_kept, unit_inside_all}
 use Rattle.block_target.proofs.PumpedCall.{unit_there}
 use Rattle.block_target.proofs.PumpedReset.{end_world, reset_deeds, unit_within, takes_reset, end_legal, end_stands, end_sound, chunk_after, has_line, mount_reset, more_reset, same_reset}
@@ -24,7 +24,7 @@ index_mut-of-requires g c =
     let core = c.self.inside.core in
     let p = c.self.inside.pool in
     let f = c.self.inside.stripe in
-    let v : MountView = record { image = image_of c.self.inside.shape (drive_before c.self.inside.drives); found = image_of c.self.inside.shape (drive_found c.self.inside.drives); deeds = c.self.inside.deeds; units = map g.U.Unit.model c.self.inside.units.items; wear = map g.U.Unit.wear c.self.inside.units.items; granted = c.self.inside.granted; pad = pad_of c.self.inside.core } in
+    let v : MountView = mount_view c.self.inside.shape c.self.inside.drives c.self.inside.deeds (map g.U.Unit.model c.self.inside.units.items) (map g.U.Unit.wear c.self.inside.units.items) c.self.inside.granted (pad_of c.self.inside.core) in
     let is : IsToReset v.image (logs_in v) c.args.line c.args.unit = subst (λ (x : MountView). IsToReset x.image (logs_in x) c.args.line c.args.unit) (sym c.self.view_is) c.requires.given_up in
     let low : c.args.unit < length (map g.U.Unit.model c.self.inside.units.items) = unit_within v core p f m c.args.line c.args.unit is in
     let many : length (map g.U.Unit.model c.self.inside.units.items) ≡ length c.self.inside.units.items = length-map c.self.inside.units.items g.U.Unit.model in
@@ -38,7 +38,7 @@ reset-requires g c =
     let core = c.self.inside.core in
     let p = c.self.inside.pool in
     let f = c.self.inside.stripe in
-    let v : MountView = record { image = image_of c.self.inside.shape (drive_before c.self.inside.drives); found = image_of c.self.inside.shape (drive_found c.self.inside.drives); deeds = c.self.inside.deeds; units = map g.U.Unit.model c.self.inside.units.items; wear = map g.U.Unit.wear c.self.inside.units.items; granted = c.self.inside.granted; pad = pad_of c.self.inside.core } in
+    let v : MountView = mount_view c.self.inside.shape c.self.inside.drives c.self.inside.deeds (map g.U.Unit.model c.self.inside.units.items) (map g.U.Unit.wear c.self.inside.units.items) c.self.inside.granted (pad_of c.self.inside.core) in
     let is : IsToReset v.image (logs_in v) c.args.line c.args.unit = subst (λ (x : MountView). IsToReset x.image (logs_in x) c.args.line c.args.unit) (sym c.self.view_is) c.requires.given_up in
     let here : slice_get v.units c.args.unit ≡ Some (g.U.Unit.model c.index_mut-of.result.now) =
     unit_there g.U.Unit.model c.self.inside.units.items c.args.unit c.args.unit c.index_mut-of.result.now refl (unit_within v core p f m c.args.line c.args.unit is) c.index_mut-of.ensures.value in
@@ -50,7 +50,7 @@ unreachable-requires g c =
     let core = c.self.inside.core in
     let p = c.self.inside.pool in
     let f = c.self.inside.stripe in
-    let v : MountView = record { image = image_of c.self.inside.shape (drive_before c.self.inside.drives); found = image_of c.self.inside.shape (drive_found c.self.inside.drives); deeds = c.self.inside.deeds; units = map g.U.Unit.model c.self.inside.units.items; wear = map g.U.Unit.wear c.self.inside.units.items; granted = c.self.inside.granted; pad = pad_of c.self.inside.core } in
+    let v : MountView = mount_view c.self.inside.shape c.self.inside.drives c.self.inside.deeds (map g.U.Unit.model c.self.inside.units.items) (map g.U.Unit.wear c.self.inside.units.items) c.self.inside.granted (pad_of c.self.inside.core) in
     let is : IsToReset v.image (logs_in v) c.args.line c.args.unit = subst (λ (x : MountView). IsToReset x.image (logs_in x) c.args.line c.args.unit) (sym c.self.view_is) c.requires.given_up in
     let here : slice_get v.units c.args.unit ≡ Some (g.U.Unit.model c.index_mut-of.result.now) =
     unit_there g.U.Unit.model c.self.inside.units.items c.args.unit c.args.unit c.index_mut-of.result.now refl (unit_within v core p f m c.args.line c.args.unit is) c.index_mut-of.ensures.value in
@@ -64,7 +64,7 @@ state-state-requires g c =
     let core = c.self.inside.core in
     let p = c.self.inside.pool in
     let f = c.self.inside.stripe in
-    let v : MountView = record { image = image_of c.self.inside.shape (drive_before c.self.inside.drives); found = image_of c.self.inside.shape (drive_found c.self.inside.drives); deeds = c.self.inside.deeds; units = map g.U.Unit.model c.self.inside.units.items; wear = map g.U.Unit.wear c.self.inside.units.items; granted = c.self.inside.granted; pad = pad_of c.self.inside.core } in
+    let v : MountView = mount_view c.self.inside.shape c.self.inside.drives c.self.inside.deeds (map g.U.Unit.model c.self.inside.units.items) (map g.U.Unit.wear c.self.inside.units.items) c.self.inside.granted (pad_of c.self.inside.core) in
     let is : IsToReset v.image (logs_in v) c.args.line c.args.unit = subst (λ (x : MountView). IsToReset x.image (logs_in x) c.args.line c.args.unit) (sym c.self.view_is) c.requires.given_up in
     let here : slice_get v.units c.args.unit ≡ Some (g.U.Unit.model c.index_mut-of.result.now) =
     unit_there g.U.Unit.model c.self.inside.units.items c.args.unit c.args.unit c.index_mut-of.result.now refl (unit_within v core p f m c.args.line c.args.unit is) c.index_mut-of.ensures.value in
@@ -87,7 +87,7 @@ grant-requires-clause-standing g c =
     let core = c.self.inside.core in
     let p = c.self.inside.pool in
     let f = c.self.inside.stripe in
-    let v : MountView = record { image = image_of c.self.inside.shape (drive_before c.self.inside.drives); found = image_of c.self.inside.shape (drive_found c.self.inside.drives); deeds = c.self.inside.deeds; units = map g.U.Unit.model c.self.inside.units.items; wear = map g.U.Unit.wear c.self.inside.units.items; granted = c.self.inside.granted; pad = pad_of c.self.inside.core } in
+    let v : MountView = mount_view c.self.inside.shape c.self.inside.drives c.self.inside.deeds (map g.U.Unit.model c.self.inside.units.items) (map g.U.Unit.wear c.self.inside.units.items) c.self.inside.granted (pad_of c.self.inside.core) in
     let is : IsToReset v.image (logs_in v) c.args.line c.args.unit = subst (λ (x : MountView). IsToReset x.image (logs_in x) c.args.line c.args.unit) (sym c.self.view_is) c.requires.given_up in
     let here : slice_get v.units c.args.unit ≡ Some (g.U.Unit.model c.index_mut-of.result.now) =
     unit_there g.U.Unit.model c.self.inside.units.items c.args.unit c.args.unit c.index_mut-of.result.now refl (unit_within v core p f m c.args.line c.args.unit is) c.index_mut-of.ensures.value in
@@ -105,7 +105,7 @@ invariant_of-self g c =
     let core = c.self.inside.core in
     let p = c.self.inside.pool in
     let f = c.self.inside.stripe in
-    let v : MountView = record { image = image_of c.self.inside.shape (drive_before c.self.inside.drives); found = image_of c.self.inside.shape (drive_found c.self.inside.drives); deeds = c.self.inside.deeds; units = map g.U.Unit.model c.self.inside.units.items; wear = map g.U.Unit.wear c.self.inside.units.items; granted = c.self.inside.granted; pad = pad_of c.self.inside.core } in
+    let v : MountView = mount_view c.self.inside.shape c.self.inside.drives c.self.inside.deeds (map g.U.Unit.model c.self.inside.units.items) (map g.U.Unit.wear c.self.inside.units.items) c.self.inside.granted (pad_of c.self.inside.core) in
     let is : IsToReset v.image (logs_in v) c.args.line c.args.unit = subst (λ (x : MountView). IsToReset x.image (logs_in x) c.args.line c.args.unit) (sym c.self.view_is) c.requires.given_up in
     let here : slice_get v.units c.args.unit ≡ Some (g.U.Unit.model c.index_mut-of.result.now) =
     unit_there g.U.Unit.model c.self.inside.units.items c.args.unit c.args.unit c.index_mut-of.result.now refl (unit_within v core p f m c.args.line c.args.unit is) c.index_mut-of.ensures.value in
@@ -140,7 +140,7 @@ returns-clause-same g c =
     let core = c.self.inside.core in
     let p = c.self.inside.pool in
     let f = c.self.inside.stripe in
-    let v : MountView = record { image = image_of c.self.inside.shape (drive_before c.self.inside.drives); found = image_of c.self.inside.shape (drive_found c.self.inside.drives); deeds = c.self.inside.deeds; units = map g.U.Unit.model c.self.inside.units.items; wear = map g.U.Unit.wear c.self.inside.units.items; granted = c.self.inside.granted; pad = pad_of c.self.inside.core } in
+    let v : MountView = mount_view c.self.inside.shape c.self.inside.drives c.self.inside.deeds (map g.U.Unit.model c.self.inside.units.items) (map g.U.Unit.wear c.self.inside.units.items) c.self.inside.granted (pad_of c.self.inside.core) in
     let is : IsToReset v.image (logs_in v) c.args.line c.args.unit = subst (λ (x : MountView). IsToReset x.image (logs_in x) c.args.line c.args.unit) (sym c.self.view_is) c.requires.given_up in
     let here : slice_get v.units c.args.unit ≡ Some (g.U.Unit.model c.index_mut-of.result.now) =
     unit_there g.U.Unit.model c.self.inside.units.items c.args.unit c.args.unit c.index_mut-of.result.now refl (unit_within v core p f m c.args.line c.args.unit is) c.index_mut-of.ensures.value in
@@ -164,7 +164,7 @@ returns-clause-pad g c = c.free_frames.ensures.pad ∙ c.reset_done.ensures.pad 
 pub returns-clause-more : goal.returns-clause-more
 returns-clause-more g c =
     let m = c.self.invariant in
-    let v : MountView = record { image = image_of c.self.inside.shape (drive_before c.self.inside.drives); found = image_of c.self.inside.shape (drive_found c.self.inside.drives); deeds = c.self.inside.deeds; units = map g.U.Unit.model c.self.inside.units.items; wear = map g.U.Unit.wear c.self.inside.units.items; granted = c.self.inside.granted; pad = pad_of c.self.inside.core } in
+    let v : MountView = mount_view c.self.inside.shape c.self.inside.drives c.self.inside.deeds (map g.U.Unit.model c.self.inside.units.items) (map g.U.Unit.wear c.self.inside.units.items) c.self.inside.granted (pad_of c.self.inside.core) in
     let is : IsToReset v.image (logs_in v) c.args.line c.args.unit = subst (λ (x : MountView). IsToReset x.image (logs_in x) c.args.line c.args.unit) (sym c.self.view_is) c.requires.given_up in
     let deeds : c.add-2.new.self ≡ reset_deeds v.deeds c.args.line c.args.unit = c.add-2.ensures ∙ ap (λ (ds : List Deed). ds ++ NotesReset c.args.unit ∷ []) c.add.ensures in
     subst (λ (old : MountView). length (engine_log old) < length (log_of (world_of v.image.shape c.add-2.new.self) 0)) c.self.view_is

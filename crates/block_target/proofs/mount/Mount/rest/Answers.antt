@@ -3,7 +3,7 @@ use Rattle.pblk_world.specs.Space.{is_due}
 use Rattle.pblk_world.specs.World.{log_of}
 use Rattle.scan_recovery.specs.Units.{image_of}
 use Rattle.block_target.specs.Deeds.{world_of, drive_before}
-use Rattle.block_target.specs.Mount.{MountView, engine_log, logs_in}
+use Rattle.block_target.specs.Mount.{MountView, IsSound, engine_log, logs_in}
 use Rattle.block_target.specs.NothingLeft.{HasNothingLeftAt}
 use Rattle.block_target.proofs.SameMounts.{worked_none, worked_more}
 use Rattle.block_target.proofs.mount.Mount.rest.Goals as goal
@@ -35,3 +35,9 @@ returns-then-not-pump-clause-resting g c =
 
 pub loop-preserved : goal.loop-preserved
 loop-preserved g c = worked_more c.args.self.now c.loop.self c.pump.new.self c.args.self.now.pad c.loop.invariant c.pump.ensures.same c.pump.ensures.pad
+
+pub returns-then-not-is_due-clause-sound : goal.returns-then-not-is_due-clause-sound
+returns-then-not-is_due-clause-sound g c = subst IsSound c.self.view_is c.self.invariant.sound
+
+pub returns-then-not-pump-clause-sound : goal.returns-then-not-pump-clause-sound
+returns-then-not-pump-clause-sound g c = subst IsSound (c.self.view_is ∙ sym (c.pump.ensures.rest c.if-not-pump.true).0) c.self.invariant.sound

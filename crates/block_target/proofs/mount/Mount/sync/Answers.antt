@@ -1,7 +1,7 @@
-use Rattle.std.proofs.Common.{◌≡◌, ◌≤◌, max, ap, ◌∙◌, arith}
+use Rattle.std.proofs.Common.{◌≡◌, ◌≤◌, max, ap, sym, subst, ◌∙◌, arith}
 use Rattle.scan_recovery.specs.Units.{image_of}
 use Rattle.block_target.specs.Deeds.{world_of, drive_before}
-use Rattle.block_target.specs.Mount.{synced_in}
+use Rattle.block_target.specs.Mount.{IsSound, synced_in}
 use Rattle.block_target.proofs.SameMounts.{worked_asked, worked_more, stuck_synced}
 use Rattle.block_target.proofs.mount.Mount.sync.Goals as goal
 use Rattle.block_target.proofs.MountLemmas.{same_then}
@@ -29,3 +29,9 @@ returns-then-not-pump-clause-stuck g c =
     let pad : c.loop.self.pad ≡ max c.args.self.now.pad c.args.wanted = c.loop.invariant.pad in
     let padded : c.args.wanted ≤ c.loop.self.pad = omega arith in
     stuck_synced c.loop.self c.pump.new.self c.args.wanted c.synced-synced.result.position at c.if-wanted-synced.false padded (c.pump.ensures.rest c.if-not-pump.true)
+
+pub returns-then-wanted-synced-clause-sound : goal.returns-then-wanted-synced-clause-sound
+returns-then-wanted-synced-clause-sound g c = subst IsSound c.self.view_is c.self.invariant.sound
+
+pub returns-then-not-pump-clause-sound : goal.returns-then-not-pump-clause-sound
+returns-then-not-pump-clause-sound g c = subst IsSound (c.self.view_is ∙ sym (c.pump.ensures.rest c.if-not-pump.true).0) c.self.invariant.sound

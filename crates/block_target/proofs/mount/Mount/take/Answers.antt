@@ -4,9 +4,7 @@ use Rattle.pblk_model.specs.Frames.{count_left}
 use Rattle.sector_pool.specs.declared.entry.Class.TheVariants.{User}
 use Rattle.sector_pool.specs.declared.entry.Entry.{Entry as FramedEntry}
 use Rattle.pblk_core.specs.Named.{pad_of}
-use Rattle.scan_recovery.specs.Units.{image_of}
-use Rattle.block_target.specs.Deeds.{drive_before, drive_found}
-use Rattle.block_target.specs.Mount.{MountView, taken_in, world_in, with_entry}
+use Rattle.block_target.specs.Mount.{MountView, taken_in, world_in, with_entry, mount_view}
 use Rattle.pblk_core.proofs.StandsFacts.{window_taken_is}
 use Rattle.block_target.proofs.TakenMount.{room_left, frame_left, sector_is_block, mount_with, view_taken, low_position}
 use Rattle.block_target.proofs.mount.Mount.take.Goals as goal
@@ -29,7 +27,7 @@ take-requires-2-clause-room g c =
 
 pub invariant_of-self : goal.invariant_of-self
 invariant_of-self g c =
-    let v : MountView = record { image = image_of c.self.inside.shape (drive_before c.self.inside.drives); found = image_of c.self.inside.shape (drive_found c.self.inside.drives); deeds = c.self.inside.deeds; units = map g.U.Unit.model c.self.inside.units.items; wear = map g.U.Unit.wear c.self.inside.units.items; granted = c.self.inside.granted; pad = pad_of c.self.inside.core } in
+    let v : MountView = mount_view c.self.inside.shape c.self.inside.drives c.self.inside.deeds (map g.U.Unit.model c.self.inside.units.items) (map g.U.Unit.wear c.self.inside.units.items) c.self.inside.granted (pad_of c.self.inside.core) in
     let e : FramedEntry = record { position = c.front.result.position; class = User; lba = c.args.lba; source = None; frame = c.fill.new.self } in
     let room : taken_in v < v.granted = subst (λ (v : MountView). taken_in v < v.granted) (sym c.self.view_is) c.requires.room in
     let inside : c.args.lba < v.image.shape.capacity = subst (λ (v : MountView). c.args.lba < v.image.shape.capacity) (sym c.self.view_is) c.requires.lba in
@@ -46,9 +44,12 @@ invariant_of-self g c =
       own = c.fill.ensures.region ∙ c.in-Some.ensures.region;
     }) c.add.ensures
 
-pub returns : goal.returns
-returns g c =
-    let v : MountView = record { image = image_of c.self.inside.shape (drive_before c.self.inside.drives); found = image_of c.self.inside.shape (drive_found c.self.inside.drives); deeds = c.self.inside.deeds; units = map g.U.Unit.model c.self.inside.units.items; wear = map g.U.Unit.wear c.self.inside.units.items; granted = c.self.inside.granted; pad = pad_of c.self.inside.core } in
+pub returns-clause-sound : goal.returns-clause-sound
+returns-clause-sound g c = (invariant_of-self g c).sound
+
+pub returns-clause-taken : goal.returns-clause-taken
+returns-clause-taken g c =
+    let v : MountView = mount_view c.self.inside.shape c.self.inside.drives c.self.inside.deeds (map g.U.Unit.model c.self.inside.units.items) (map g.U.Unit.wear c.self.inside.units.items) c.self.inside.granted (pad_of c.self.inside.core) in
     view_taken v c.front.result.position c.args.lba (pad_of c.take-2.new.self) c.fill.new.self.bytes c.args.sector.now c.add.new.self c.add.ensures
     (c.front.ensures.position ∙ window_taken_is v.image (world_in v) c.self.inside.core c.self.invariant.stands) c.fill.ensures.bytes c.take-2.ensures.pad
     ∙ ap (λ (v : MountView). with_entry v c.args.lba c.args.sector.now) c.self.view_is

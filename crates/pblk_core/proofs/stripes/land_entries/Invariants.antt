@@ -1,7 +1,7 @@
 use Rattle.std.proofs.Common.{◌≡◌, length, take}
 use Rattle.pblk_core.specs.Entries.{positions_placed}
 use Rattle.pblk_core.specs.Landing.{all_landed}
-use Rattle.pblk_core.proofs.target_core.land_entries.Given as goal
+use Rattle.pblk_core.proofs.stripes.land_entries.Given as goal
 
 abbrev pub invariant-loop-index : goal.invariant-loop-index
 invariant-loop-index l = record {

@@ -1,0 +1,135 @@
+//! Stripes that a core places, and stripes that have landed.
+
+ghost use Rattle.std.specs.Prelude.{ℕ, ◌≡◌, ◌+◌, ◌-◌, ◌≤◌, ◌==◌, if◌then◌else◌, List, length, Some, slice_get};
+ghost use Rattle.pblk_model.specs.Frames.{Region};
+ghost use Rattle.pblk_model.specs.Image.{Image};
+ghost use Rattle.pblk_world.specs.Answering.{MayLand};
+ghost use Rattle.pblk_world.specs.Events.{Place, Landed};
+ghost use Rattle.pblk_world.specs.Placing.{MayPlace};
+ghost use Rattle.pblk_world.specs.World.{World, log_of};
+ghost use Rattle.write_window.specs.Window as view;
+ghost use Rattle.core_laws.specs.PlainWorlds.{IsPlainWorld};
+ghost use Rattle.core_laws.specs.Stepping.{after};
+ghost use Rattle.pblk_core.specs.Entries.{positions_placed};
+ghost use Rattle.pblk_core.specs.Landing.{IsUnderWayOn, all_landed};
+ghost use Rattle.pblk_core.specs.Named.{named, pad_of};
+ghost use Rattle.pblk_core.specs.Mounts.{InItsMount, StandsAfter};
+ghost use Rattle.pblk_core.specs.Stands.{Stands, IsStanding};
+ghost use Rattle.pblk_core.specs.declared.work.Work.TheVariants as works;
+
+use crate::filling::{fill, settle_holds, settle_lines};
+use crate::reading::make_readable;
+use crate::stripe::Stripe;
+use crate::target_core::Core;
+use line_table::LineState;
+use pblk_model::Shape;
+use stripe_placer::{Placement, StripeKind};
+use write_window::Window;
+
+impl Core {
+    /// Places the next stripe, and fills `into` with it. `next_work` names it, and `into` is a stripe of the
+    /// same drive.
+    pub fn place(&mut self, into: &mut Stripe)
+        requires standing { IsStanding self.old }
+        requires named { named self.old ≡ works.Program }
+        requires shape { into.old.shape ≡ self.old.layout }
+        ensures legal { InItsMount self.old (λ i w. MayPlace i (log_of w) into.new.stripe) }
+        ensures stands { StandsAfter self.old (Place into.new.stripe) self.new }
+        ensures window { self.new.window ≡ self.old.window }
+        ensures pad { pad_of self.new ≡ pad_of self.old }
+        ensures under_way { IsUnderWayOn self.new into.new.stripe.unit }
+        ensures shape { into.new.shape ≡ into.old.shape }
+    {
+        let of = match self.placer.next_stripe(0) {
+            Some(of) => of,
+            None => unreachable!(),
+        };
+        into.begin(of.line, of.unit, of.block);
+        let index = self.open.find(of.line);
+        match of.kind {
+            StripeKind::Start => self.open.start_stripe(index, of.at, into),
+            StripeKind::Data => {
+                fill(&self.window, &self.holds, &of, into);
+                into.pad();
+                settle_lines(&mut self.lines, &self.holds, &of);
+                settle_holds(&mut self.holds, &of);
+                let (_, marks) = into.parts();
+                self.open.mark_data(index, marks);
+                self.left -= u64::from(self.layout.shape().ws_opt);
+                self.placed += u64::from(of.count);
+            }
+            StripeKind::Pad => into.pad(),
+            StripeKind::End => self.open.end_stripe(index, of.at, into),
+        }
+        self.under_way += 1;
+        self.placer.placed(&of);
+    }
+
+    /// Notes that all blocks of a placed stripe have landed. The stripe hasn't been answered before.
+    pub fn landed(&mut self, stripe: &Stripe)
+        requires standing { IsStanding self.old }
+        requires under_way { IsUnderWayOn self.old stripe.now.stripe.unit }
+        ensures stands { (i : Image) (w : World) (event : ℕ) (knows : List ℕ) → IsPlainWorld i w
+            → Stands i (log_of w) self.old → MayLand (log_of w) stripe.now.stripe.unit event
+            → Stands i (after (log_of w) (Landed stripe.now.stripe.unit event) knows) self.new }
+        ensures own { (r : Region) → view.AreOf r self.old.window.entries
+            → view.AreOf r self.new.window.entries }
+        ensures count { length self.new.window.entries ≡ length self.old.window.entries }
+        ensures pad { pad_of self.new ≡ pad_of self.old }
+    {
+        let of = match self.placer.under_way(stripe.unit()) {
+            Some(of) => of,
+            None => unreachable!(),
+        };
+        land_entries(&mut self.window, &of);
+        let index = self.open.find(of.line);
+        let shape = self.layout.shape();
+        let (from, to) = readable_range(shape, of.block);
+        make_readable(
+            &self.layout,
+            self.open.get(index),
+            of.unit,
+            from,
+            to,
+            &mut self.map,
+            &mut self.window,
+        );
+        self.placer.landed(&of);
+        self.under_way -= 1;
+        if self.open.land(index) == 0 {
+            let width = self.layout.width(self.open.get(index).live);
+            self.lines.turn(of.line, LineState::Full, width);
+            self.open.remove(index);
+        }
+    }
+}
+
+// Notes in the window that the entries of a stripe have landed.
+fn land_entries(window: &mut Window, of: &Placement)
+    requires whole { length (positions_placed of.now) ≡ of.now.count }
+    requires held { (k q : ℕ) → slice_get (positions_placed of.now) k ≡ Some q
+        → view.IsHeld window.old q }
+    ensures { window.new ≡ all_landed window.old (positions_placed of.now) }
+{
+    for index in 0..of.count {
+        window.landed(of.positions[index as usize]);
+    }
+}
+
+// The blocks of a chunk that can be read once the stripe that begins at block `at` has landed, and couldn't be
+// read before. They go from the first result to before the second.
+fn readable_range(shape: &Shape, at: u32) -> (u32, u32)
+    requires inside { at + shape.now.ws_opt ≤ shape.now.clba }
+    ensures from { result.0 ≡ at - shape.now.mw_cunits }
+    ensures to { result.1 ≡ (if at + shape.now.ws_opt == shape.now.clba then shape.now.clba
+        else at + shape.now.ws_opt - shape.now.mw_cunits) }
+    ensures within { result.1 ≤ shape.now.clba }
+{
+    let end = at + shape.ws_opt;
+    let from = at.saturating_sub(shape.mw_cunits);
+    if end == shape.clba {
+        (from, end)
+    } else {
+        (from, end.saturating_sub(shape.mw_cunits))
+    }
+}
