@@ -1,0 +1,13 @@
+pub mod KnownCut
+pub mod ToldImages
+pub mod ToldTables
+pub mod ToldDecisions
+pub mod Engine
+pub mod Made
+pub mod ToldSince
+pub mod Beginnings
+pub mod Later
+pub mod Fronts
+pub mod Positions
+pub mod Openings
+pub mod Lives

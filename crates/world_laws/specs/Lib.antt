@@ -1,0 +1,4 @@
+-- The definitions, lowest first.
+pub mod LegalMounts
+pub mod KnownCut
+pub mod SameTold
