@@ -1,0 +1,13 @@
+pub mod Made
+pub mod UnitChunks
+pub mod Deeds
+pub mod Placements
+pub mod Beginning
+pub mod Programs
+pub mod Stops
+pub mod Turns
+pub mod Lives
+pub mod Tellings
+pub mod StripeLines
+pub mod Resets
+pub mod Pending

@@ -1,0 +1,3 @@
+-- The definitions, lowest first.
+pub mod UnitChunks
+pub mod UnitPrograms
