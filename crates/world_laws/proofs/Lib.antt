@@ -11,3 +11,13 @@ pub mod Fronts
 pub mod Positions
 pub mod Openings
 pub mod Lives
+pub mod Stripes
+pub mod Freeing
+pub mod Begun
+pub mod StartRecords
+pub mod Newest
+pub mod Entries
+pub mod LandedRecords
+pub mod CountedLow
+pub mod Latest
+pub mod WinnerLines

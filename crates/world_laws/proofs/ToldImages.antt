@@ -49,7 +49,7 @@ told_back i a b h = record {
 
 -- ---- at earlier lengths of the engine's log
 
-found_then : (i : Image) (logs : Logs) (n : ℕ) → found_image i (engine_prefix (suc n) logs) ≡ found_image i logs
+pub found_then : (i : Image) (logs : Logs) (n : ℕ) → found_image i (engine_prefix (suc n) logs) ≡ found_image i logs
 found_then i logs n = ap (λ o. found_by i logs o) (begun_taken (suc n) (logs 0) (omega arith))
 
 taken_there : (n : ℕ) (log : List Logged) (l : Logged) → Contains (take n log) l → Contains log l
