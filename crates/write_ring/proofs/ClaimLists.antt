@@ -1,0 +1,28 @@
+-- Lists of claims, by the positions that they have.
+use Rattle.std.proofs.Common.{◌≡◌, ℕ, ◌+◌, ◌≤◌, List, [], ◌∷◌, ◌++◌, arith}
+use Rattle.std.proofs.lemmas.Bool.Decides.{nat_tests}
+use Rattle.std.specs.List.{AllByRecursion}
+use Rattle.lemmas.proofs.Lists.{all_weaker}
+use Rattle.write_ring.specs.declared.view.Claim.{Claim}
+use Rattle.write_ring.specs.Rule.{between, covers, covers_copy, IsGranted}
+
+pub covers_both : (x : ℕ) (cs ds : List Claim) → covers x (cs ++ ds) ≡ covers x cs + covers x ds
+covers_both x [] ds = omega arith
+covers_both x (c ∷ cs) ds = let later = covers_both x cs ds in omega arith
+
+pub copies_both : (x : ℕ) (cs ds : List Claim) → covers_copy x (cs ++ ds) ≡ covers_copy x cs + covers_copy x ds
+copies_both x [] ds = omega arith
+copies_both x (c ∷ cs) ds = let later = copies_both x cs ds in omega arith
+
+-- a claim behind all others
+pub grown : (x low old new : ℕ) → low ≤ old → old ≤ new → between low old x + between old new x ≡ between low new x
+grown x low old new le rises = grind (arith, nat_tests)
+
+pub empty : (x low : ℕ) → between low low x ≡ 0
+empty x low = grind (arith, nat_tests)
+
+pub none_above : (x low high : ℕ) → high ≤ x → between low high x ≡ 0
+none_above x low high above = grind (arith, nat_tests)
+
+pub granted_more : (g h : ℕ) (cs : List Claim) → g ≤ h → AllByRecursion (IsGranted g) cs → AllByRecursion (IsGranted h) cs
+granted_more g h cs le all = all_weaker (IsGranted g) (IsGranted h) cs (λ c is user. let was = is user in omega arith) all

@@ -1,0 +1,68 @@
+//! What the ring is made with, and what each of its seats knows. No value of a view is ever made: it is
+//! there in contracts alone.
+use std::collections::LinkedList;
+
+/// What a ring is made with. It never changes.
+#[derive(Drop)]
+pub struct Key {
+    /// The ring's first position.
+    pub first: u64,
+    /// How many positions the ring has room for.
+    pub size: u64,
+    /// How many of these are kept for copies.
+    pub reserve: u64,
+}
+
+/// Positions that one step claimed: `count` of them, from `first` on.
+pub struct Claim {
+    /// The first of them.
+    pub first: u64,
+    /// How many they are.
+    pub count: u64,
+    /// Whether they were claimed for copies.
+    pub copy: bool,
+}
+
+/// What a seat's last loads and exchanges found.
+pub struct Found {
+    /// How many loads and exchanges of words there were.
+    pub steps: u64,
+    /// What the last load of `claimed` found.
+    pub claimed: u64,
+    /// What the last exchange of `claimed` found.
+    pub met: u64,
+    /// What the last load of `freed` found.
+    pub freed: u64,
+    /// What the last load of `granted` found.
+    pub granted: u64,
+}
+
+/// What a seat knows as a pass.
+pub struct Part {
+    /// Its shares, of the 128 that all passes have together.
+    pub shares: u64,
+    /// 1 where it may claim for copies, and else 0.
+    pub copier: u64,
+    /// What it claimed, the oldest first.
+    pub claims: LinkedList<Claim>,
+}
+
+/// What a seat knows as the intake.
+pub struct Desk {
+    /// 1 where it is the intake, and else 0.
+    pub on: u64,
+    /// The word `freed`, which the intake alone stores.
+    pub freed: u64,
+    /// The word `granted`, which the intake alone stores.
+    pub granted: u64,
+}
+
+/// What a seat knows.
+pub struct View {
+    /// What its last loads and exchanges found.
+    pub found: Found,
+    /// What it knows as a pass.
+    pub pass: Part,
+    /// What it knows as the intake.
+    pub intake: Desk,
+}
