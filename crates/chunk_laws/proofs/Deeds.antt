@@ -1,12 +1,12 @@
--- What each event of a unit was: a command that the unit might make by what it knew of the engine's log, with
--- an outcome that the chunk allowed. After a stop it is a stop that leaves nothing.
+-- What each event of a unit was: a command that the unit might make by what it knew of the engine's log, with an
+-- outcome that the chunk allowed, after a stop only a stop that leaves nothing.
 use Rattle.std.proofs.Common.{◌≡◌, ◌≢◌, ℕ, suc, true, false, Bool, nat_eq, Some, List, take, refl, sym, subst, ap, ◌∙◌}
 use Rattle.std.specs.Prelude.{slice_get}
 use Rattle.std.specs.List.{filter_map}
 use Rattle.std.specs.Option.{option_and_then}
 use Rattle.std.proofs.lemmas.Bool.{eqb-true, eqb-false}
 use Rattle.pblk_model.specs.Chunk.{Chunk}
-use Rattle.pblk_model.specs.ChunkStep.{ChunkCommand, Write, Read, Reset}
+use Rattle.pblk_model.specs.ChunkStep.{ChunkCommand, Write, Read, Reset, WritesBlocks}
 use Rattle.pblk_model.specs.UnitLog.{UnitEvent, Stopped, IsOutcome, after_outcome}
 use Rattle.pblk_model.specs.Image.{Image}
 use Rattle.pblk_model.proofs.UnitLogLemmas.{read_leaves}
@@ -24,6 +24,7 @@ pub record IsDeed (i : Image) (w : World) (unit n : ℕ) (l : Logged) : Type 0 w
   pub is_event : unit_event_of l.event ≡ Some event
   pub found : Chunk
   pub there : chunk_after i (log_of w) event.chunk unit n ≡ Some found
+  pub writes : WritesBlocks i.shape event.command
   pub outcome : IsOutcome i.shape found event.command event.outcome
   pub stopped : has_stopped (first_events (log_of w) unit n) ≡ true → event.outcome ≡ Stopped 0
   pub command : IsCommand i (prefixes l (log_of w)) unit found event.chunk event.command (begun (take (knows_engine l) (log_of w 0)))
@@ -48,6 +49,7 @@ module _ (i : Image) (w : World) (unit n : ℕ) (l : Logged) (there : slice_get 
         is_event = is;
         found = may.event.found;
         there = found;
+        writes = may.event.blocks;
         outcome = may.event.outcome;
         stopped = λ was. may.stopped (ap has_stopped same_events ∙ was);
         command = may.command;

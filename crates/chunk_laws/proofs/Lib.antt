@@ -11,3 +11,13 @@ pub mod Tellings
 pub mod StripeLines
 pub mod Resets
 pub mod Pending
+pub mod LastUses
+pub mod KnownEmpty
+pub mod FoundEmpty
+pub mod ToldBefore
+pub mod OpenedEmpty
+pub mod Appending
+pub mod OpenedChunks
+pub mod UnitLogs
+pub mod LifeBlocks
+pub mod KeptChunks

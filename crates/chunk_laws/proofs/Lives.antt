@@ -53,7 +53,7 @@ module _ (i : Image) (w : World) (legal : IsLegal i w) where
       × MayOpen i (prefixes l (log_of w)) b line start
   may_open number line start l d = (d.allowed.0, d.allowed.2)
 
-  unopened : (number line : ℕ) (start : StartRecord) (l : Logged) → slice_get (log_of w 0) number ≡ Some l → l.event ≡ Decides (Open line start)
+  pub unopened : (number line : ℕ) (start : StartRecord) (l : Logged) → slice_get (log_of w 0) number ≡ Some l → l.event ≡ Decides (Open line start)
       → is_opened (life_of (take number (log_of w 0)) line) ≡ false
   unopened number line start l there is =
       let d : IsDecided number (Open line start) l = decided number (Open line start) l there is in

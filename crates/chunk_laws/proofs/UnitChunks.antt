@@ -1,5 +1,5 @@
 -- A chunk of a unit after one event more of the unit's log.
-use Rattle.std.proofs.Common.{◌≡◌, ◌≢◌, ℕ, suc, take, Some, None, Option, List, [], ◌∷◌, ◌++◌, refl, ap, ◌∙◌}
+use Rattle.std.proofs.Common.{◌≡◌, ◌≢◌, ℕ, ◌<◌, suc, length, arith, take, Some, None, Option, List, [], ◌∷◌, ◌++◌, refl, ap, ◌∙◌}
 use Rattle.std.specs.Prelude.{slice_get}
 use Rattle.std.specs.List.{filter_map}
 use Rattle.std.specs.Option.{option_map, option_and_then, option_to_list}
@@ -9,11 +9,13 @@ use Rattle.pblk_model.specs.Chunk.{Chunk}
 use Rattle.pblk_model.specs.UnitLog.{UnitEvent, after_event, after_outcome, after_log}
 use Rattle.pblk_model.specs.Image.{Image}
 use Rattle.pblk_model.proofs.UnitLogLemmas.{event_beside, event_here}
+use Rattle.pblk_laws.proofs.UnitChunks.{log_count}
 use Rattle.pblk_world.specs.Events.{Logged}
 use Rattle.pblk_world.specs.World.{Logs, unit_event_of, unit_events, media, known, prefixes}
 use Rattle.pblk_world.proofs.WorldLemmas.{media_at}
 use Rattle.lemmas.proofs.Maps.{more}
-use Rattle.lemmas.proofs.Parts.{take_next}
+use Rattle.lemmas.proofs.Options.{split_then}
+use Rattle.lemmas.proofs.Parts.{get_below, got_within, take_next}
 use Rattle.chunk_laws.specs.UnitChunks.{chunk_after, first_events}
 
 events_of : List Logged → List UnitEvent
@@ -67,3 +69,16 @@ module _ (i : Image) (logs : Logs) (unit n : ℕ) (l : Logged) (e : UnitEvent) (
       go None f = absurd (none-some c f)
       go (Some cs) f = ap (λ (ds : List Chunk). slice_get ds e.chunk) (next_chunks cs)
           ∙ event_here i.shape (after_log i.shape cs (first_events logs unit n)) e e.chunk c refl f
+
+-- a chunk of a unit is there after each of its prefixes, or after none
+pub still_there : (i : Image) (logs : Logs) (line unit n m : ℕ) (c : Chunk) → chunk_after i logs line unit n ≡ Some c → (d : Chunk)
+    × (chunk_after i logs line unit m ≡ Some d)
+unfolding chunk_after
+still_there i logs line unit n m c there =
+    let its = split_then (λ (cs : List Chunk). slice_get (after_log i.shape cs (first_events logs unit n)) line) (slice_get i.units unit) c there in
+    let long : length (after_log i.shape its.0 (first_events logs unit n)) ≡ length its.0 = log_count i.shape its.0 (first_events logs unit n) in
+    let same : length (after_log i.shape its.0 (first_events logs unit m)) ≡ length its.0 = log_count i.shape its.0 (first_events logs unit m) in
+    let inside : line < length (after_log i.shape its.0 (first_events logs unit n)) = get_below
+    (after_log i.shape its.0 (first_events logs unit n)) line c its.2 in
+    let at = got_within (after_log i.shape its.0 (first_events logs unit m)) line (omega arith) in
+    (at.0, ap (option_and_then (λ (cs : List Chunk). slice_get (after_log i.shape cs (first_events logs unit m)) line)) its.1 ∙ at.1)

@@ -1,3 +1,4 @@
 -- The definitions, lowest first.
 pub mod UnitChunks
 pub mod UnitPrograms
+pub mod LifeBlocks

@@ -15,8 +15,8 @@ first_events logs unit n = filter_map (λ l. unit_event_of l.event) (take n (log
 
 -- the unit's chunk of a line after them
 unfoldable pub chunk_after : Image → Logs → ℕ → ℕ → ℕ → Option Chunk
-chunk_after i logs line unit n = option_and_then (λ chunks. slice_get (after_log i.shape chunks (first_events logs unit n)) line)
-    (slice_get i.units unit)
+chunk_after i logs line unit n =
+    option_and_then (λ chunks. slice_get (after_log i.shape chunks (first_events logs unit n)) line) (slice_get i.units unit)
 
 -- no event of the unit from one number up to another is a program of this chunk
 abbrev pub NoProgram : Logs → ℕ → ℕ → ℕ → ℕ → Type 0

@@ -11,7 +11,8 @@ use Rattle.pblk_world.specs.Commanding.{ended_stripes}
 -- failed before it, of the k-th one placed there. The unit knew of the placing.
 pub record IsProgramOfStripe (logs : Logs) (unit number : ℕ) (l : Logged) (e : UnitEvent) : Type 0 where
   pub placed : Placed
-  pub in_order : slice_get (placed_on (logs 0) unit) (ended_stripes (take number (logs (suc unit)))) ≡ Some placed
+  pub in_order : slice_get (placed_on (logs 0) unit) (ended_stripes (take number (logs (suc unit))))
+      ≡ Some placed
   pub was_known : placed.number < knows_engine l
   pub chunk : e.chunk ≡ placed.stripe.chunk
   pub command : e.command ≡ Write placed.stripe.at placed.stripe.blocks

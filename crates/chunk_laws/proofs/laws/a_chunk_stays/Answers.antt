@@ -1,6 +1,14 @@
+use Rattle.chunk_laws.proofs.KeptChunks.{found_stays, kept_or_emptied, none_after_freeing, none_in_found}
 use Rattle.chunk_laws.proofs.Resets.{empty_until}
 use Rattle.chunk_laws.proofs.Stops.{stays_after_stop}
 use Rattle.chunk_laws.proofs.laws.a_chunk_stays.Goals as goal
 
 pub returns : goal.returns
-returns c = record { stopped = stays_after_stop; empty = empty_until }
+returns c = record {
+  stopped = stays_after_stop;
+  empty = empty_until;
+  emptied = kept_or_emptied;
+  found = none_in_found;
+  freed = none_after_freeing;
+  kept = found_stays;
+}
