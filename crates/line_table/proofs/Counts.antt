@@ -13,7 +13,8 @@ use Rattle.line_table.proofs.Places.{get_set_same, get_set_other, get_within, eq
 -- With some of the records left to count, what was counted and what is left are all.
 pub record CountedSoFar (winners left : List Winner) (old now : List Row) : Type 0 where
   pub lines : length now ≡ length old
-  pub each : (line : ℕ) (row : Row) → slice_get old line ≡ Some row → (n : ℕ) × (slice_get now line ≡ Some (with_live n row)) × (n + live_count left line ≡ live_count winners line)
+  pub each : (line : ℕ) (row : Row) → slice_get old line ≡ Some row
+      → (n : ℕ) × (slice_get now line ≡ Some (with_live n row)) × (n + live_count left line ≡ live_count winners line)
 
 length_kept : (b : Bool) (w : Winner) (ws : List Winner) → length (cond b (w ∷ ws) ws) ≡ cond b (length ws + 1) (length ws)
 length_kept true w ws = omega arith
@@ -44,13 +45,16 @@ unfolding live_count
 none_left line = refl
 
 -- a record is counted
-pub counted_more : (winners left : List Winner) (old now : List Row) (w : Winner) (row : Row) → CountedSoFar winners (w ∷ left) old now → slice_get now w.line ≡ Some row
+pub counted_more : (winners left : List Winner) (old now : List Row) (w : Winner) (row : Row) → CountedSoFar winners (w ∷ left) old now
+    → slice_get now w.line ≡ Some row
     → CountedSoFar winners left old (slice_set now w.line (with_live (row.live + 1) row))
 counted_more winners left old now w row so_far here = record {
   lines = length-set now w.line (with_live (row.live + 1) row) ∙ so_far.lines;
   each = λ line r h.
       let was : (n : ℕ) × (slice_get now line ≡ Some (with_live n r)) × (n + live_count (w ∷ left) line ≡ live_count winners line) = so_far.each line r h in
-      elim (eqb w.line line) as (λ b. eqb w.line line ≡ b → (n : ℕ) × (slice_get (slice_set now w.line (with_live (row.live + 1) row)) line ≡ Some (with_live n r)) × (n + live_count left line ≡ live_count winners line)) [
+      elim (eqb w.line line) as (λ b. eqb w.line line ≡ b
+      → (n : ℕ) × (slice_get (slice_set now w.line (with_live (row.live + 1) row)) line ≡ Some (with_live n r))
+      × (n + live_count left line ≡ live_count winners line)) [
         | true ↦ λ e.
             let same : w.line ≡ line = eqb-true w.line line e in
             let row-is : row ≡ with_live was.0 r = same_Some row (with_live was.0 r) (sym here ∙ ap (slice_get now) same ∙ was.1) in
@@ -64,10 +68,12 @@ counted_more winners left old now w row so_far here = record {
 }
 
 -- and there is room for it
-pub counted_room : (winners left : List Winner) (old now : List Row) (w : Winner) (row r : Row) → CountedSoFar winners (w ∷ left) old now → slice_get old w.line ≡ Some r → slice_get now w.line ≡ Some row
+pub counted_room : (winners left : List Winner) (old now : List Row) (w : Winner) (row r : Row) → CountedSoFar winners (w ∷ left) old now
+    → slice_get old w.line ≡ Some r → slice_get now w.line ≡ Some row
     → row.live + 1 ≤ length winners
 counted_room winners left old now w row r so_far before here =
-    let was : (n : ℕ) × (slice_get now w.line ≡ Some (with_live n r)) × (n + live_count (w ∷ left) w.line ≡ live_count winners w.line) = so_far.each w.line r before in
+    let was : (n : ℕ) × (slice_get now w.line ≡ Some (with_live n r)) × (n + live_count (w ∷ left) w.line ≡ live_count winners w.line) =
+    so_far.each w.line r before in
     let row-is : row ≡ with_live was.0 r = same_Some row (with_live was.0 r) (sym here ∙ was.1) in
     let live-is : row.live ≡ was.0 = ap (λ (x : Row). x.live) row-is in
     let one : live_count (w ∷ left) w.line ≡ live_count left w.line + 1 = live_here w left w.line (eqb-same w.line) in
@@ -121,7 +127,8 @@ at_next : (winners : List Winner) (old now : List Row) (k : ℕ) (d : Winner) �
     → CountedSoFar winners (slice_index_or winners k d ∷ drop (suc k) winners) old now
 at_next winners old now k d so_far h = subst (λ left. CountedSoFar winners left old now) (drop-cons winners k d h) so_far
 
-pub counted_fits : (winners : List Winner) (old now : List Row) (k : ℕ) (d : Winner) (r : Row) → CountedSoFar winners (drop k winners) old now → k < length winners
+pub counted_fits : (winners : List Winner) (old now : List Row) (k : ℕ) (d : Winner) (r : Row) → CountedSoFar winners (drop k winners) old now
+    → k < length winners
     → ((i : ℕ) (w : Winner) → slice_get winners i ≡ Some w → w.line < length old)
     → (slice_index_or now (slice_index_or winners k d).line r).live + 1 ≤ length winners
 counted_fits winners old now k d r so_far h lines =
@@ -131,14 +138,17 @@ counted_fits winners old now k d r so_far h lines =
     let here : slice_get now w.line ≡ Some (slice_index_or now w.line r) = slice_get-get_or now w.line r (omega (arith, so_far.lines)) in
     counted_room winners (drop (suc k) winners) old now w (slice_index_or now w.line r) before.0 (at_next winners old now k d so_far h) before.1 here
 
-pub counted_next : (winners : List Winner) (old now : List Row) (k : ℕ) (d : Winner) (r : Row) → CountedSoFar winners (drop k winners) old now → k < length winners
+pub counted_next : (winners : List Winner) (old now : List Row) (k : ℕ) (d : Winner) (r : Row) → CountedSoFar winners (drop k winners) old now
+    → k < length winners
     → ((i : ℕ) (w : Winner) → slice_get winners i ≡ Some w → w.line < length old)
     → CountedSoFar winners (drop (k + 1) winners) old
-    (slice_set now (slice_index_or winners k d).line (with_live ((slice_index_or now (slice_index_or winners k d).line r).live + 1) (slice_index_or now (slice_index_or winners k d).line r)))
+    (slice_set now (slice_index_or winners k d).line
+    (with_live ((slice_index_or now (slice_index_or winners k d).line r).live + 1) (slice_index_or now (slice_index_or winners k d).line r)))
 counted_next winners old now k d r so_far h lines =
     let w = slice_index_or winners k d in
     let inside : w.line < length old = lines k w (slice_get-get_or winners k d h) in
     let here : slice_get now w.line ≡ Some (slice_index_or now w.line r) = slice_get-get_or now w.line r (omega (arith, so_far.lines)) in
     let one : suc k ≡ k + 1 = omega arith in
-    subst (λ n. CountedSoFar winners (drop n winners) old (slice_set now w.line (with_live ((slice_index_or now w.line r).live + 1) (slice_index_or now w.line r)))) one
+    subst (λ n. CountedSoFar winners (drop n winners) old
+    (slice_set now w.line (with_live ((slice_index_or now w.line r).live + 1) (slice_index_or now w.line r)))) one
     (counted_more winners (drop (suc k) winners) old now w (slice_index_or now w.line r) (at_next winners old now k d so_far h) here)

@@ -1,7 +1,6 @@
 pub mod Places
 pub mod Sets
 pub mod Counts
-pub mod Widths
 pub mod Tables
 pub mod Sizes
 pub mod Opened

@@ -38,7 +38,8 @@ unfolding has
 empty_has_none k n = ap (λ w. is_set w (n % 64)) (zeros k (n / 64)) ∙ none_in_zero (n % 64)
 
 -- a word was put at the place of a line
-pub has_set : (words : List ℕ) (line word : ℕ) (to : Bool) → line / 64 < length words → is_set word (line % 64) ≡ to → has (slice_set words (line / 64) word) line ≡ to
+pub has_set : (words : List ℕ) (line word : ℕ) (to : Bool) → line / 64 < length words → is_set word (line % 64) ≡ to
+    → has (slice_set words (line / 64) word) line ≡ to
 unfolding has
 has_set words line word to inside e = ap (λ w. is_set w (line % 64)) (get_or-set_same words (line / 64) word 0 inside) ∙ e
 
@@ -47,7 +48,9 @@ pub has_other : (words : List ℕ) (line word n : ℕ) → line / 64 < length wo
     → has (slice_set words (line / 64) word) n ≡ has words n
 unfolding has
 has_other words line word n inside other others =
-    elim (eqb (n / 64) (line / 64)) as (λ b. eqb (n / 64) (line / 64) ≡ b → is_set (slice_index_or (slice_set words (line / 64) word) (n / 64) 0) (n % 64) ≡ is_set (slice_index_or words (n / 64) 0) (n % 64)) [
+    elim (eqb (n / 64) (line / 64)) as
+    (λ b. eqb (n / 64) (line / 64) ≡ b
+    → is_set (slice_index_or (slice_set words (line / 64) word) (n / 64) 0) (n % 64) ≡ is_set (slice_index_or words (n / 64) 0) (n % 64)) [
       | true ↦ λ e.
           let same : n / 64 ≡ line / 64 = eqb-true (n / 64) (line / 64) e in
           let apart : n % 64 ≢ line % 64 = λ r. other (omega arith) in
@@ -76,21 +79,25 @@ unfolding has
 zero_word words n i e z = ap (λ k. is_set (slice_index_or words k 0) (n % 64)) e ∙ ap (λ w. is_set w (n % 64)) z ∙ none_in_zero (n % 64)
 
 -- the least bit of a word that has one
-pub least_is_set : (words : List ℕ) (i word n : ℕ) → slice_index_or words i 0 ≡ word → 0 < word → word < 2 ^ 64 → n ≡ i * 64 + trailing_zeros w64 word → has words n ≡ true
+pub least_is_set : (words : List ℕ) (i word n : ℕ) → slice_index_or words i 0 ≡ word → 0 < word → word < 2 ^ 64 → n ≡ i * 64 + trailing_zeros w64 word
+    → has words n ≡ true
 unfolding has is_set
 least_is_set words i word n e some fits n-is =
     let t : trailing_zeros w64 word < 64 = (bit_at-trailing_zeros w64 word some fits).0 in
     let index : n / 64 ≡ i = omega arith in
     let bit : n % 64 ≡ trailing_zeros w64 word = omega arith in
-    ap (λ k. is_set (slice_index_or words k 0) (n % 64)) index ∙ ap (λ w. is_set w (n % 64)) e ∙ ap (is_set word) bit ∙ ap (λ b. eqb b 1) (bit_at-trailing_zeros w64 word some fits).1
+    ap (λ k. is_set (slice_index_or words k 0) (n % 64)) index ∙ ap (λ w. is_set w (n % 64)) e ∙ ap (is_set word) bit
+    ∙ ap (λ b. eqb b 1) (bit_at-trailing_zeros w64 word some fits).1
 
-pub below_least : (words : List ℕ) (i word n m : ℕ) → slice_index_or words i 0 ≡ word → 0 < word → word < 2 ^ 64 → n ≡ i * 64 + trailing_zeros w64 word → m < n → i * 64 ≤ m → has words m ≡ false
+pub below_least : (words : List ℕ) (i word n m : ℕ) → slice_index_or words i 0 ≡ word → 0 < word → word < 2 ^ 64 → n ≡ i * 64 + trailing_zeros w64 word → m < n
+    → i * 64 ≤ m → has words m ≡ false
 unfolding has is_set
 below_least words i word n m e some fits n-is below from =
     let t : trailing_zeros w64 word < 64 = (bit_at-trailing_zeros w64 word some fits).0 in
     let index : m / 64 ≡ i = omega arith in
     let bit : m % 64 < trailing_zeros w64 word = omega arith in
-    ap (λ k. is_set (slice_index_or words k 0) (m % 64)) index ∙ ap (λ w. is_set w (m % 64)) e ∙ ap (λ b. eqb b 1) ((bit_at-trailing_zeros w64 word some fits).2 (m % 64) bit)
+    ap (λ k. is_set (slice_index_or words k 0) (m % 64)) index ∙ ap (λ w. is_set w (m % 64)) e
+    ∙ ap (λ b. eqb b 1) ((bit_at-trailing_zeros w64 word some fits).2 (m % 64) bit)
 
 below_or_not : (a b : ℕ) → (a < b) ⊎ (b ≤ a)
 below_or_not zero zero = inr (omega arith)

@@ -20,7 +20,8 @@ use Rattle.line_table.proofs.Places.{get_set_same, get_set_other}
 use Rattle.line_table.proofs.RowsLemmas.{free_state}
 
 -- a sum with one term changed
-pub sum_changed : (f : Row → ℕ) (rows : List Row) (i : ℕ) (old new : Row) → slice_get rows i ≡ Some old → sum_by f (slice_set rows i new) + f old ≡ sum_by f rows + f new
+pub sum_changed : (f : Row → ℕ) (rows : List Row) (i : ℕ) (old new : Row) → slice_get rows i ≡ Some old
+    → sum_by f (slice_set rows i new) + f old ≡ sum_by f rows + f new
 sum_changed f rows i old new h =
     let old-is : f (slice_index_or rows i old) ≡ f old = ap f (get_or_from_slice_get rows i old old h) in
     omega (arith, sum_by-set f rows i new old (slice_get_within rows i old h))
@@ -45,17 +46,20 @@ term_within f [] i row h = absurd cc
 
 same_len : (s : Shape) (old new : Row) → new.state ≡ old.state → new.width ≡ old.width → free_len s new ≡ free_len s old
 unfolding free_len
-same_len s old new state width = ap (λ st. cond (is_free_state st) (data_len s new.width) 0) state ∙ ap (λ w. cond (is_free_state old.state) (data_len s w) 0) width
+same_len s old new state width = ap (λ st. cond (is_free_state st) (data_len s new.width) 0) state
+    ∙ ap (λ w. cond (is_free_state old.state) (data_len s w) 0) width
 
 -- by whether a place is that of the changed row
-by_place : (rows : List Row) (i n : ℕ) (new row : Row) (P : Row → Type 0) → i < length rows → slice_get (slice_set rows i new) n ≡ Some row → P new → (slice_get rows n ≡ Some row → P row) → P row
+by_place : (rows : List Row) (i n : ℕ) (new row : Row) (P : Row → Type 0) → i < length rows → slice_get (slice_set rows i new) n ≡ Some row → P new
+    → (slice_get rows n ≡ Some row → P row) → P row
 by_place rows i n new row P inside h here there =
     elim (eqb n i) as (λ b. eqb n i ≡ b → P row) [
       | true ↦ λ e. subst P (same_Some new row (sym (get_set_same rows i n new (eqb-true n i e) inside) ∙ h)) here
       | false ↦ λ e. there (sym (get_set_other rows i n new (eqb-false n i e)) ∙ h)
     ] refl
 
-free_changed : (rows : List Row) (i n : ℕ) (new : Row) (before after : List ℕ) → i < length rows → has after i ≡ is_free new → ((m : ℕ) → m ≢ i → has after m ≡ has before m) → ((m : ℕ) → has before m ≡ is_free_at rows m)
+free_changed : (rows : List Row) (i n : ℕ) (new : Row) (before after : List ℕ) → i < length rows → has after i ≡ is_free new
+    → ((m : ℕ) → m ≢ i → has after m ≡ has before m) → ((m : ℕ) → has before m ≡ is_free_at rows m)
     → has after n ≡ is_free_at (slice_set rows i new) n
 free_changed rows i n new before after inside here others free =
     elim (eqb n i) as (λ b. eqb n i ≡ b → has after n ≡ is_free_at (slice_set rows i new) n) [
@@ -68,8 +72,10 @@ free_changed rows i n new before after inside here others free =
     ] refl
 
 -- with a row changed
-pub keeps_changed : (s : Shape) (before after : List ℕ) (addresses new_addresses : ℕ) (rows : List Row) (i : ℕ) (old new : Row) → Keeps s before addresses rows → slice_get rows i ≡ Some old
-    → new.width ≤ units s → free_len s new < 2 ^ 32 → has after i ≡ is_free new → ((m : ℕ) → m ≢ i → has after m ≡ has before m) → new_addresses + free_len s old ≡ addresses + free_len s new
+pub keeps_changed : (s : Shape) (before after : List ℕ) (addresses new_addresses : ℕ) (rows : List Row) (i : ℕ) (old new : Row) → Keeps s before addresses rows
+    → slice_get rows i ≡ Some old
+    → new.width ≤ units s → free_len s new < 2 ^ 32 → has after i ≡ is_free new → ((m : ℕ) → m ≢ i → has after m ≡ has before m)
+    → new_addresses + free_len s old ≡ addresses + free_len s new
     → Keeps s after new_addresses (slice_set rows i new)
 keeps_changed s before after addresses new_addresses rows i old new keeps h width short here others sum =
     let inside : i < length rows = slice_get_within rows i old h in
@@ -82,7 +88,8 @@ keeps_changed s before after addresses new_addresses rows i old new keeps h widt
     }
 
 -- with a row changed that keeps its state and width
-pub keeps_same : (s : Shape) (words : List ℕ) (addresses : ℕ) (rows : List Row) (i : ℕ) (old new : Row) → Keeps s words addresses rows → slice_get rows i ≡ Some old → new.state ≡ old.state → new.width ≡ old.width
+pub keeps_same : (s : Shape) (words : List ℕ) (addresses : ℕ) (rows : List Row) (i : ℕ) (old new : Row) → Keeps s words addresses rows
+    → slice_get rows i ≡ Some old → new.state ≡ old.state → new.width ≡ old.width
     → Keeps s words addresses (slice_set rows i new)
 keeps_same s words addresses rows i old new keeps h state width =
     let len : free_len s new ≡ free_len s old = same_len s old new state width in
@@ -93,7 +100,8 @@ keeps_same s words addresses rows i old new keeps h state width =
 
 -- ---- the least Free line
 
-first_at : (rows : List Row) (n : ℕ) → is_free_at rows n ≡ true → ((m : ℕ) → m < n → is_free_at rows m ≡ false) → (prefix_len (λ r. not (is_free r)) rows ≡ n) × (n < length rows)
+first_at : (rows : List Row) (n : ℕ) → is_free_at rows n ≡ true → ((m : ℕ) → m < n → is_free_at rows m ≡ false)
+    → (prefix_len (λ r. not (is_free r)) rows ≡ n) × (n < length rows)
 first_at [] n h before = absurd cc
 first_at (r ∷ rows) zero h before = (ap (λ b. cond (not b) (1 + prefix_len (λ r. not (is_free r)) rows) 0) h, omega arith)
 first_at (r ∷ rows) (suc n) h before =
@@ -113,14 +121,17 @@ free_row [] n e = absurd cc
 free_row (r ∷ rows) zero e = (r, refl, free_state r.state e)
 free_row (r ∷ rows) (suc n) e = free_row rows n e
 
-pub least_is_free : (t : Table) (rows : List Row) (words : List ℕ) (r : Option ℕ) → rows ≡ t.rows → ((n : ℕ) → has words n ≡ is_free_at rows n) → IfSome r (λ n. has words n ≡ true) → IfSome r (IsFreeLine t)
+pub least_is_free : (t : Table) (rows : List Row) (words : List ℕ) (r : Option ℕ) → rows ≡ t.rows → ((n : ℕ) → has words n ≡ is_free_at rows n)
+    → IfSome r (λ n. has words n ≡ true) → IfSome r (IsFreeLine t)
 least_is_free t rows words None same free found = tt
 least_is_free t rows words (Some n) same free found = free_row t.rows n (ap (λ (xs : List Row). is_free_at xs n) (sym same) ∙ sym (free n) ∙ found)
 
 pub least_is_position : (rows : List Row) (words : List ℕ) (r : Option ℕ) → ((n : ℕ) → has words n ≡ is_free_at rows n)
-    → IfSome r (λ n. has words n ≡ true) → IfSome r (λ n. (m : ℕ) → m < n → has words m ≡ false) → IfNone r ((m : ℕ) → has words m ≡ false) → r ≡ position is_free rows
+    → IfSome r (λ n. has words n ≡ true) → IfSome r (λ n. (m : ℕ) → m < n → has words m ≡ false) → IfNone r ((m : ℕ) → has words m ≡ false)
+    → r ≡ position is_free rows
 least_is_position rows words (Some n) free found least none =
-    let first : (prefix_len (λ r. not (is_free r)) rows ≡ n) × (n < length rows) = first_at rows n (sym (free n) ∙ found) (λ m below. sym (free m) ∙ least m below) in
+    let first : (prefix_len (λ r. not (is_free r)) rows ≡ n) × (n < length rows) =
+    first_at rows n (sym (free n) ∙ found) (λ m below. sym (free m) ∙ least m below) in
     let inside : nat_lt n (length rows) ≡ true = grind (arith, nat_tests, first.1) in
     sym (ap (λ k. cond (nat_lt k (length rows)) (Some k) None) first.0 ∙ ap (λ b. cond b (Some n) None) inside)
 least_is_position rows words None free found least none =
@@ -130,7 +141,8 @@ least_is_position rows words None free found least none =
 
 -- ---- one change
 
-pub changes_row : (t : Table) (s : Shape) (rows : List Row) (i : ℕ) (old new : Row) (change : Row → Row) → ◌≡◌ {A = Table} (record { shape = s; rows = rows }) t → slice_get rows i ≡ Some old → new ≡ change old
+pub changes_row : (t : Table) (s : Shape) (rows : List Row) (i : ℕ) (old new : Row) (change : Row → Row) → ◌≡◌ {A = Table} (record { shape = s; rows = rows }) t
+    → slice_get rows i ≡ Some old → new ≡ change old
     → Changes t (record { shape = s; rows = slice_set rows i new }) i change
 changes_row t s rows i old new change same here new-is = record {
   shape = ap (λ (u : Table). u.shape) same;
@@ -163,7 +175,8 @@ pub turned_is : (to : LineState) (width : ℕ) (row : Row) (taker : Option ℕ) 
 turned_is to width row taker e = ap (turn_to to width row) e
 
 -- one more row is short
-pub short_more : (s : Shape) (rows : List Row) (k : ℕ) (d : Row) → free_len s (slice_index_or rows k d) < 2 ^ 32 → ((n : ℕ) (row : Row) → n < k → slice_get rows n ≡ Some row → free_len s row < 2 ^ 32)
+pub short_more : (s : Shape) (rows : List Row) (k : ℕ) (d : Row) → free_len s (slice_index_or rows k d) < 2 ^ 32
+    → ((n : ℕ) (row : Row) → n < k → slice_get rows n ≡ Some row → free_len s row < 2 ^ 32)
     → (n : ℕ) (row : Row) → n < k + 1 → slice_get rows n ≡ Some row → free_len s row < 2 ^ 32
 short_more s rows k d here before n row below h =
     elim (eqb n k) as (λ b. eqb n k ≡ b → free_len s row < 2 ^ 32) [

@@ -5,7 +5,6 @@ ghost use Rattle.pblk_model.specs.declared.found.Winner.{Winner};
 ghost use Rattle.pblk_model.specs.declared.found.LineRow.{LineRow};
 ghost use Rattle.pblk_model.specs.Accepted.{IsAccepted};
 ghost use Rattle.pblk_model.specs.Found.{IsFitFound};
-ghost use Rattle.pblk_model.specs.Image.{is_online_in};
 ghost use Rattle.pblk_model.specs.Shape.{units};
 ghost use Rattle.line_table.specs.declared.row.Row.{Row};
 ghost use Rattle.line_table.specs.Opening.{width_of, live_count, opening_state};
@@ -16,31 +15,8 @@ ghost use Rattle.line_table.specs.Counting.{AreOpened, AreCounted, AreOpening};
 use crate::line_set::LineSet;
 use crate::row::{LineState, Row};
 use pblk_layout::Layout;
-use pblk_model::{ChunkState, Found, LineRow, Winner};
+use pblk_model::{Found, LineRow, Winner};
 use std::alloc::{AllocError, Global};
-
-fn is_online(state: ChunkState) -> bool
-    ensures { result ≡ is_online_in state }
-{
-    !matches!(state, ChunkState::Offline)
-}
-
-/// How many chunks of a line aren't Offline.
-fn width(layout: &Layout, found: &Found, line: u32) -> u32
-    requires fit { IsFitFound layout.now found.now }
-    requires line { line < layout.now.chunks }
-    ensures width { result ≡ width_of layout.now found.now line }
-    ensures few { result ≤ units layout.now }
-{
-    let shape = layout.shape();
-    let chunks = found.chunks.as_slice();
-    let mut width = 0;
-    for unit in 0..shape.units() {
-        let place = unit as usize * shape.chunks as usize + line as usize;
-        width += u32::from(is_online(chunks[place]));
-    }
-    width
-}
 
 /// The state of a line of which this is found.
 fn state(layout: &Layout, found: &Found, line: u32, row: &LineRow, width: u32) -> LineState
@@ -73,7 +49,7 @@ fn uncounted_rows(alloc: Global, layout: &Layout, found: &Found) -> Result<Vec<R
     let lines = found.lines.as_slice();
     let mut rows = Vec::with_capacity(alloc, lines.len())?;
     for line in 0..shape.chunks {
-        let width = width(layout, found, line);
+        let width = layout.online_units(found, line).width();
         let state = state(layout, found, line, &lines[line as usize], width);
         rows.push(Row {
             state,

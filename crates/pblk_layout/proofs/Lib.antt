@@ -3,3 +3,4 @@ pub mod Orders
 pub mod Sets
 pub mod Sizes
 pub mod LiveLemmas
+pub mod UnitSets

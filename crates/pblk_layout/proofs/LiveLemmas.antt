@@ -9,4 +9,5 @@ use Rattle.pblk_model.specs.Image.{Image, is_online_in}
 
 pub none_past : (i : Image) (line unit : ℕ) → length i.units ≤ unit → is_live i line unit ≡ false
 none_past i line unit past =
-    ap (λ o. option_map_or (λ (cs : List Chunk). option_map_or (λ (c : Chunk). is_online_in c.state) (slice_get cs line) false) o false) (slice_get_past i.units unit past)
+    ap (λ o. option_map_or (λ (cs : List Chunk). option_map_or (λ (c : Chunk). is_online_in c.state) (slice_get cs line) false) o false)
+    (slice_get_past i.units unit past)

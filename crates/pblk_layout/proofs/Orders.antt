@@ -15,7 +15,8 @@ use Rattle.lemmas.proofs.Numbers.{some_units}
 -- what the line order has at an address
 abbrev pub OrderLaw : Type 0
 OrderLaw = (s : Shape) (us : List ℕ) (a unit : ℕ) → 0 < s.ws_opt → s.clba % s.ws_opt ≡ 0
-    → ((slice_get (line_order s us) a ≡ Some (unit, block_of s (length us) a)) ↔ ((slice_get us (column_of s (length us) a) ≡ Some unit) × (a < length us * s.clba)))
+    → ((slice_get (line_order s us) a ≡ Some (unit, block_of s (length us) a))
+    ↔ ((slice_get us (column_of s (length us) a) ≡ Some unit) × (a < length us * s.clba)))
 
 abbrev pub LengthLaw : Type 0
 LengthLaw = (s : Shape) (us : List ℕ) → 0 < s.ws_opt → s.clba % s.ws_opt ≡ 0 → length (line_order s us) ≡ length us * s.clba
@@ -29,14 +30,16 @@ BlockLaw = (s : Shape) (g k b : ℕ) → 0 < s.ws_opt → s.clba % s.ws_opt ≡ 
     → (address_of s g k b < g * s.clba) × (column_of s g (address_of s g k b) ≡ k) × (block_of s g (address_of s g k b) ≡ b)
 
 -- what `place` gives
-pub placed : (s : Shape) (us : List ℕ) (a g unit : ℕ) → OrderLaw → 0 < s.ws_opt → s.clba % s.ws_opt ≡ 0 → g ≡ length us → slice_get us (column_of s g a) ≡ Some unit → a < length us * s.clba
+pub placed : (s : Shape) (us : List ℕ) (a g unit : ℕ) → OrderLaw → 0 < s.ws_opt → s.clba % s.ws_opt ≡ 0 → g ≡ length us
+    → slice_get us (column_of s g a) ≡ Some unit → a < length us * s.clba
     → slice_get (line_order s us) a ≡ Some (unit, block_of s g a)
 placed s us a g unit law ws whole g-is there inside =
     let column : slice_get us (column_of s (length us) a) ≡ Some unit = subst (λ n. slice_get us (column_of s n a) ≡ Some unit) g-is there in
     subst (λ n. slice_get (line_order s us) a ≡ Some (unit, block_of s n a)) (sym g-is) ((law s us a unit ws whole).1 (column, inside))
 
 -- what `addr_of` gives
-pub found : (s : Shape) (us : List ℕ) (g k unit b : ℕ) → OrderLaw → BlockLaw → 0 < s.ws_opt → s.clba % s.ws_opt ≡ 0 → g ≡ length us → slice_get us k ≡ Some unit → b < s.clba
+pub found : (s : Shape) (us : List ℕ) (g k unit b : ℕ) → OrderLaw → BlockLaw → 0 < s.ws_opt → s.clba % s.ws_opt ≡ 0 → g ≡ length us → slice_get us k ≡ Some unit
+    → b < s.clba
     → (address_of s g k b < g * s.clba) × (slice_get (line_order s us) (address_of s g k b) ≡ Some (unit, b))
 found s us g k unit b law blocks ws whole g-is there inside =
     let in_row : k < g = omega (arith, slice_get_within us k unit there) in
@@ -51,7 +54,8 @@ pub record IsAt (s : Shape) (us : List ℕ) (a unit b : ℕ) : Type 0 where
   pub block : b < s.clba
   pub address : address_of s (length us) (column_of s (length us) a) b ≡ a
 
-pub at : (s : Shape) (us : List ℕ) (a unit b : ℕ) → OrderLaw → LengthLaw → AddressLaw → 0 < s.ws_opt → s.clba % s.ws_opt ≡ 0 → slice_get (line_order s us) a ≡ Some (unit, b) → IsAt s us a unit b
+pub at : (s : Shape) (us : List ℕ) (a unit b : ℕ) → OrderLaw → LengthLaw → AddressLaw → 0 < s.ws_opt → s.clba % s.ws_opt ≡ 0
+    → slice_get (line_order s us) a ≡ Some (unit, b) → IsAt s us a unit b
 at s us a unit b law long addresses ws whole h =
     let inside : a < length us * s.clba = omega (arith, slice_get_within (line_order s us) a (unit, b) h, long s us ws whole) in
     let is = addresses s (length us) a ws whole (some_units (length us) s.clba a inside) inside in
@@ -66,11 +70,13 @@ at s us a unit b law long addresses ws whole h =
       address = ap (λ x. address_of s (length us) (column_of s (length us) a) x) (sym block_is) ∙ is.2;
     }
 
-pub only : (s : Shape) (live g unit b a : ℕ) → OrderLaw → LengthLaw → AddressLaw → 0 < s.ws_opt → s.clba % s.ws_opt ≡ 0 → g ≡ length (units_in live) → slice_get (line_order s (units_in live)) a ≡ Some (unit, b)
+pub only : (s : Shape) (live g unit b a : ℕ) → OrderLaw → LengthLaw → AddressLaw → 0 < s.ws_opt → s.clba % s.ws_opt ≡ 0 → g ≡ length (units_in live)
+    → slice_get (line_order s (units_in live)) a ≡ Some (unit, b)
     → address_of s g (length (units_below live unit)) b ≡ a
 only s live g unit b a law long addresses ws whole g-is h =
     let is : IsAt s (units_in live) a unit b = at s (units_in live) a unit b law long addresses ws whole h in
-    let rank : column_of s (length (units_in live)) a ≡ length (units_below live unit) = (member live unit (column_of s (length (units_in live)) a) is.unit_is).2 in
+    let rank : column_of s (length (units_in live)) a ≡ length (units_below live unit) =
+    (member live unit (column_of s (length (units_in live)) a) is.unit_is).2 in
     ap (λ n. address_of s n (length (units_below live unit)) b) g-is ∙ ap (λ k. address_of s (length (units_in live)) k b) (sym rank) ∙ is.address
 
 -- the numbers in between are no greater than the address
@@ -80,8 +86,10 @@ address_parts q g k w r some =
     (omega arith, omega arith, omega arith)
 
 -- the address that `addr_of` gives is below 2 ^ 17, and so are the numbers in between
-pub found_short : (s : Shape) (live g k unit b : ℕ) → OrderLaw → BlockLaw → ShortLaw → IsAccepted s → g ≡ length (units_in live) → g ≤ units s → k ≡ length (units_below live unit) → unit < 64 → is_in live unit ≡ true → b < s.clba
-    → (address_of s g k b < 131072) × (b / s.ws_opt * g ≤ address_of s g k b) × (slice_get (line_order s (units_in live)) (address_of s g k b) ≡ Some (unit, b)) × (b / s.ws_opt * g + k ≤ address_of s g k b) × ((b / s.ws_opt * g + k) * s.ws_opt ≤ address_of s g k b)
+pub found_short : (s : Shape) (live g k unit b : ℕ) → OrderLaw → BlockLaw → ShortLaw → IsAccepted s → g ≡ length (units_in live) → g ≤ units s
+    → k ≡ length (units_below live unit) → unit < 64 → is_in live unit ≡ true → b < s.clba
+    → (address_of s g k b < 131072) × (b / s.ws_opt * g ≤ address_of s g k b) × (slice_get (line_order s (units_in live)) (address_of s g k b) ≡ Some (unit, b))
+    × (b / s.ws_opt * g + k ≤ address_of s g k b) × ((b / s.ws_opt * g + k) * s.ws_opt ≤ address_of s g k b)
 found_short s live g k unit b law blocks lines accepted g-is few k-is inside is below =
     let there : slice_get (units_in live) k ≡ Some unit = ap (slice_get (units_in live)) k-is ∙ rank_is live unit inside is in
     let f = found s (units_in live) g k unit b law blocks accepted.drive.ws_opt accepted.drive.whole_stripes g-is there below in

@@ -1,5 +1,5 @@
 -- Sets of units as bits.
-use Rattle.std.proofs.Common.{◌≡◌, ℕ, ◌+◌, ◌-◌, ◌*◌, ◌/◌, ◌%◌, ◌^◌, ◌<◌, ◌≤◌, zero, suc, Bool, true, false, cond, eqb, Option, Some, None, List, [], ◌∷◌, ◌++◌, length, refl, sym, ap, ◌∙◌, arith, length-append, add-zero}
+use Rattle.std.proofs.Common.{◌≡◌, ℕ, ◌+◌, ◌-◌, ◌*◌, ◌/◌, ◌%◌, ◌^◌, ◌<◌, ◌≤◌, zero, suc, Bool, true, false, cond, eqb, Option, Some, None, List, [], ◌∷◌, ◌++◌, length, refl, sym, ap, ◌∙◌, arith, length-append, add-zero, append-nil}
 use Rattle.std.specs.List.{slice_get, filter, range_with_len}
 use Rattle.std.specs.Int.{bit_at}
 use Rattle.std.specs.Prelude.{count_ones}
@@ -29,6 +29,16 @@ filter_more p a (suc n) =
     filter_more p (a + 1) n ∙ ap (λ x. filter p (range_with_len (a + 1) n) ++ cond (p x) (x ∷ []) []) place in
     ap (λ xs. cond (p a) (a ∷ xs) xs) rest ∙ append_kept (p a) a (filter p (range_with_len (a + 1) n)) (cond (p (a + suc n)) ((a + suc n) ∷ []) [])
 
+-- a test that nothing passes from n on
+pub shorter : (p : ℕ → Bool) (n m : ℕ) → ((k : ℕ) → n ≤ k → p k ≡ false) → filter p (range_with_len 0 (n + m)) ≡ filter p (range_with_len 0 n)
+shorter p n zero none = let same : n + 0 ≡ n = omega arith in ap (λ k. filter p (range_with_len 0 k)) same
+shorter p n (suc m) none =
+    let next : n + suc m ≡ suc (n + m) = omega arith in
+    let from : 0 + (n + m) ≡ n + m = omega arith in
+    ap (λ k. filter p (range_with_len 0 k)) next ∙ filter_more p 0 (n + m)
+    ∙ ap (λ b. filter p (range_with_len 0 (n + m)) ++ cond b ((0 + (n + m)) ∷ []) []) (ap p from ∙ none (n + m) (omega arith))
+    ∙ append-nil (filter p (range_with_len 0 (n + m))) ∙ shorter p n m none
+
 both_kept : (b : Bool) (x : ℕ) (xs ys : List ℕ) (r : Option ℕ) → slice_get xs (length ys) ≡ r → slice_get (cond b (x ∷ xs) xs) (length (cond b (x ∷ ys) ys)) ≡ r
 both_kept true x xs ys r h = h
 both_kept false x xs ys r h = h
@@ -38,7 +48,8 @@ kept_first true x xs h = refl
 kept_first false x xs h = absurd cc
 
 -- a number that is kept stands behind those below it that are
-pub at_rank : (p : ℕ → Bool) (a n k : ℕ) → k < n → p (a + k) ≡ true → slice_get (filter p (range_with_len a n)) (length (filter p (range_with_len a k))) ≡ Some (a + k)
+pub at_rank : (p : ℕ → Bool) (a n k : ℕ) → k < n → p (a + k) ≡ true
+    → slice_get (filter p (range_with_len a n)) (length (filter p (range_with_len a k))) ≡ Some (a + k)
 at_rank p a zero k below h = absurd (omega arith)
 at_rank p a (suc n) zero below h = kept_first (p a) a (filter p (range_with_len (a + 1) n)) (ap p (sym (add-zero a)) ∙ h) ∙ ap Some (sym (add-zero a))
 at_rank p a (suc n) (suc k) below h =
@@ -54,7 +65,8 @@ pub record IsKept (p : ℕ → Bool) (a n u j : ℕ) : Type 0 where
   pub kept : p u ≡ true
   pub rank : j ≡ length (filter p (range_with_len a k))
 
-kept_case : (p : ℕ → Bool) (a n u j : ℕ) (b : Bool) → b ≡ p a → slice_get (cond b (a ∷ filter p (range_with_len (a + 1) n)) (filter p (range_with_len (a + 1) n))) j ≡ Some u
+kept_case : (p : ℕ → Bool) (a n u j : ℕ) (b : Bool) → b ≡ p a
+    → slice_get (cond b (a ∷ filter p (range_with_len (a + 1) n)) (filter p (range_with_len (a + 1) n))) j ≡ Some u
     → ((i : ℕ) → slice_get (filter p (range_with_len (a + 1) n)) i ≡ Some u → IsKept p (a + 1) n u i) → IsKept p a (suc n) u j
 kept_case p a n u zero true e h later = record {
   k = 0;
@@ -110,10 +122,13 @@ ones_below m (suc d) =
     let parts : m % 2 ^ (1 + d) ≡ (m / 2 ^ d % 2 ^ 1) * 2 ^ d + m % 2 ^ d = mod-pow-add m 1 d in
     let one : suc d ≡ 1 + d = omega arith in
     let whole : m % 2 ^ suc d ≡ bit_at m d * 2 ^ d + m % 2 ^ d = ap (λ k. m % 2 ^ k) one ∙ parts in
-    let split : count_ones (bit_at m d * 2 ^ d + m % 2 ^ d) ≡ count_ones (bit_at m d) + count_ones (m % 2 ^ d) = ones_cat d (bit_at m d) (m % 2 ^ d) (mod_below (m) (2 ^ d) (pow_pos d)) in
+    let split : count_ones (bit_at m d * 2 ^ d + m % 2 ^ d) ≡ count_ones (bit_at m d) + count_ones (m % 2 ^ d) =
+    ones_cat d (bit_at m d) (m % 2 ^ d) (mod_below (m) (2 ^ d) (pow_pos d)) in
     let zero_first : 0 + d ≡ d = omega arith in
     let more : length (units_below m (suc d)) ≡ length (units_below m d) + cond (is_in m d) 1 0 =
-    ap length (filter_more (is_in m) 0 d) ∙ length-append (units_below m d) (cond (is_in m (0 + d)) ((0 + d) ∷ []) []) ∙ ap (λ n. length (units_below m d) + n) (length_kept (is_in m (0 + d)) (0 + d)) ∙ ap (λ x. length (units_below m d) + cond (is_in m x) 1 0) zero_first in
+    ap length (filter_more (is_in m) 0 d) ∙ length-append (units_below m d) (cond (is_in m (0 + d)) ((0 + d) ∷ []) [])
+    ∙ ap (λ n. length (units_below m d) + n) (length_kept (is_in m (0 + d)) (0 + d))
+    ∙ ap (λ x. length (units_below m d) + cond (is_in m x) 1 0) zero_first in
     let bit : count_ones (bit_at m d) ≡ cond (is_in m d) 1 0 = ones_bit (bit_at m d) (bit_at-lt m d) in
     let below : count_ones (m % 2 ^ d) ≡ length (units_below m d) = ones_below m d in
     ap count_ones whole ∙ split ∙ omega arith
@@ -133,22 +148,28 @@ one_on live unit h =
     let k : 64 - unit ≡ suc (64 - (unit + 1)) = omega arith in
     ap (λ n. filter (is_in live) (range_with_len unit n)) k
 
-pub here : (live unit left n : ℕ) → unit < 64 → is_in live unit ≡ true → left ≡ 0 → slice_get (units_from live unit) left ≡ slice_get (units_in live) n → slice_get (units_in live) n ≡ Some unit
+pub here : (live unit left n : ℕ) → unit < 64 → is_in live unit ≡ true → left ≡ 0 → slice_get (units_from live unit) left ≡ slice_get (units_in live) n
+    → slice_get (units_in live) n ≡ Some unit
 unfolding units_in
 here live unit left n inside is none so_far =
-    sym so_far ∙ ap (slice_get (units_from live unit)) none ∙ ap (λ xs. slice_get xs 0) (one_on live unit inside) ∙ kept_first (is_in live unit) unit (units_from live (unit + 1)) is
+    sym so_far ∙ ap (slice_get (units_from live unit)) none ∙ ap (λ xs. slice_get xs 0) (one_on live unit inside)
+    ∙ kept_first (is_in live unit) unit (units_from live (unit + 1)) is
 
-pub behind : (live unit left n : ℕ) → unit < 64 → is_in live unit ≡ true → 0 < left → slice_get (units_from live unit) left ≡ slice_get (units_in live) n → slice_get (units_from live (unit + 1)) (left - 1) ≡ slice_get (units_in live) n
+pub behind : (live unit left n : ℕ) → unit < 64 → is_in live unit ≡ true → 0 < left → slice_get (units_from live unit) left ≡ slice_get (units_in live) n
+    → slice_get (units_from live (unit + 1)) (left - 1) ≡ slice_get (units_in live) n
 behind live unit left n inside is some so_far =
     let k : left ≡ suc (left - 1) = omega arith in
     let now : slice_get (units_from live unit) left ≡ slice_get (units_from live (unit + 1)) (left - 1) =
-    ap (slice_get (units_from live unit)) k ∙ ap (λ xs. slice_get xs (suc (left - 1))) (one_on live unit inside) ∙ ap (λ b. slice_get (cond b (unit ∷ units_from live (unit + 1)) (units_from live (unit + 1))) (suc (left - 1))) is in
+    ap (slice_get (units_from live unit)) k ∙ ap (λ xs. slice_get xs (suc (left - 1))) (one_on live unit inside)
+    ∙ ap (λ b. slice_get (cond b (unit ∷ units_from live (unit + 1)) (units_from live (unit + 1))) (suc (left - 1))) is in
     sym now ∙ so_far
 
-pub without : (live unit left n : ℕ) → unit < 64 → is_in live unit ≡ false → slice_get (units_from live unit) left ≡ slice_get (units_in live) n → slice_get (units_from live (unit + 1)) left ≡ slice_get (units_in live) n
+pub without : (live unit left n : ℕ) → unit < 64 → is_in live unit ≡ false → slice_get (units_from live unit) left ≡ slice_get (units_in live) n
+    → slice_get (units_from live (unit + 1)) left ≡ slice_get (units_in live) n
 without live unit left n inside is so_far =
     let now : slice_get (units_from live unit) left ≡ slice_get (units_from live (unit + 1)) left =
-    ap (λ xs. slice_get xs left) (one_on live unit inside) ∙ ap (λ b. slice_get (cond b (unit ∷ units_from live (unit + 1)) (units_from live (unit + 1))) left) is in
+    ap (λ xs. slice_get xs left) (one_on live unit inside)
+    ∙ ap (λ b. slice_get (cond b (unit ∷ units_from live (unit + 1)) (units_from live (unit + 1))) left) is in
     sym now ∙ so_far
 
 pub from_first : (live n : ℕ) → slice_get (units_from live 0) n ≡ slice_get (units_in live) n

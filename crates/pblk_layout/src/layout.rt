@@ -3,12 +3,14 @@
 ghost use Rattle.std.specs.Prelude.{◌≡◌, ◌*◌, ◌<◌, ◌≤◌, ◌^◌, ◌↔◌, ◌⊎◌, ℕ, length, slice_get, Some, IfSome, IsNone};
 ghost use Rattle.std.specs.Int.{bit_at};
 ghost use Rattle.pblk_model.specs.Accepted.{IsAccepted};
+ghost use Rattle.pblk_model.specs.Found.{live_units};
 ghost use Rattle.pblk_model.specs.Shape.{units};
 ghost use Rattle.pblk_model.specs.LineOrder.{line_order, start_len, end_len, data_len, HoldsStart, HoldsEnd};
 ghost use Rattle.pblk_layout.specs.Live.{units_in};
 
+use crate::line_units::{LineUnits, found_units};
 use crate::{live, places};
-use pblk_model::Shape;
+use pblk_model::{Found, Shape};
 use std::marker::Model;
 
 /// Where the blocks of each line lie on the drives of one shape, and how many of them are the line's start
@@ -97,6 +99,17 @@ impl Layout {
         ensures short { result ≤ width * self.now.clba }
     {
         self.shape.data_len(width)
+    }
+
+    /// The online units of a line, by what recovery found on a drive of this shape: those whose chunks of the line
+    /// aren't Offline.
+    pub fn online_units(&self, found: &Found, line: u32) -> LineUnits
+        requires chunks { length found.now.chunks ≡ units self.now * self.now.chunks }
+        requires line { line < self.now.chunks }
+        ensures units { units_in result ≡ live_units self.now found.now line }
+        ensures below { result < 2 ^ units self.now }
+    {
+        found_units(&self.shape, found, line)
     }
 
     /// The width of a line: how many units are in `live`. Bit `u` of `live` is that of unit `u`.

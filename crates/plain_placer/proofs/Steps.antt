@@ -1,26 +1,41 @@
 -- Steps of the loops, over plain lists.
 use Rattle.std.proofs.Common.{◌≡◌, ℕ, ◌+◌, ◌*◌, ◌<◌, Bool, true, false, cond, Option, Some, None, List, [], ◌∷◌, ◌++◌, length, ◌≤◌, ◌/◌, ◌^◌, get_or, map, take, drop, refl, sym, subst, ap, ◌∙◌, append_assoc, arith}
-use Rattle.std.proofs.lemmas.List.{length-set, take_more, take_more_set, drop_more, map_more, length-take-le, length-map}
+use Rattle.std.proofs.lemmas.List.{length-set, drop_more, map_more, length-take-le, length-map}
 use Rattle.std.proofs.Math.Nat.{pow-le-pow_right, div-le_self, div-mul-le_self, mul-le-mul_left, mul-le-mul_right, mul_assoc}
-use Rattle.std.specs.Option.{option_or}
-use Rattle.std.proofs.lemmas.Option.{slice_get_within, get_or_from_slice_get}
+use Rattle.std.specs.Option.{option_map, option_or}
 use Rattle.std.proofs.lemmas.List.Folds.{list_any-append, find-append}
-use Rattle.std.specs.List.{filter, filter_map, find, slice_get, slice_set}
+use Rattle.std.specs.List.{filter, filter_map, find, slice_set}
 use Rattle.std.specs.Prelude.{◌==◌, if◌then◌else◌}
 use Rattle.pblk_model.specs.declared.shape.Shape.{Shape}
 use Rattle.stripe_placer.specs.OpenLines.{Stripe, OpenLine, with_stripe, in_line}
+use Rattle.stripe_placer.specs.Placing.{Program, placement}
+use Rattle.stripe_placer.specs.declared.placement.Placement.{Placement}
+use Rattle.stripe_placer.proofs.Rows.{named_by, none_named}
 use Rattle.plain_placer.specs.Fitting.{FitsLine, FitLines}
 use Rattle.lemmas.proofs.Parts.{put_at_end}
 
--- the first of a list of choices counts not, since it makes none, or since it doesn't pass
-pub none_passes : {X Y : Type 0} (p : Y → Bool) (f : X → Option Y) (x : X) (xs : List X) → f x ≡ None → find p (filter_map f (x ∷ xs)) ≡ find p (filter_map f xs)
-none_passes p f x xs is = rw is refl
+-- The first of a list of choices makes none, or it doesn't pass; else it is the one.
+pub no_choice : {X : Type 0} (p : Program → Bool) (f : X → Option Program) (x : X) (xs : List X) → option_map placement (f x) ≡ None
+    → find p (filter_map f (x ∷ xs)) ≡ find p (filter_map f xs)
+no_choice p f x xs is = rw (none_named (f x) is) refl
 
-pub one_fails : {X Y : Type 0} (p : Y → Bool) (f : X → Option Y) (x : X) (xs : List X) (y : Y) → f x ≡ Some y → p y ≡ false → find p (filter_map f (x ∷ xs)) ≡ find p (filter_map f xs)
-one_fails p f x xs y is fails = rw is (rw fails refl)
+pub failing_choice : {X : Type 0} (p : Program → Bool) (f : X → Option Program) (x : X) (xs : List X) (of : Placement) → option_map placement (f x) ≡ Some of
+    → ((q : Program) → placement q ≡ of → p q ≡ false)
+    → find p (filter_map f (x ∷ xs)) ≡ find p (filter_map f xs)
+failing_choice p f x xs of is fails =
+    let hit = named_by (f x) of is in
+    rw hit.1 (rw (fails hit.0 hit.2) refl)
 
-pub one_passes : {X Y : Type 0} (p : Y → Bool) (f : X → Option Y) (x : X) (xs : List X) (y : Y) → f x ≡ Some y → p y ≡ true → find p (filter_map f (x ∷ xs)) ≡ Some y
-one_passes p f x xs y is passes = rw is (rw passes refl)
+pub passing_choice : {X : Type 0} (p : Program → Bool) (f : X → Option Program) (x : X) (xs : List X) (of : Placement) → option_map placement (f x) ≡ Some of
+    → ((q : Program) → placement q ≡ of → p q ≡ true)
+    → ◌≡◌ {A = Option Placement} (Some of) (option_map placement (find p (filter_map f (x ∷ xs))))
+passing_choice p f x xs of is passes =
+    let hit = named_by (f x) of is in
+    rw hit.1 (rw (passes hit.0 hit.2) (ap (λ o. Some o) (sym hit.2)))
+
+-- by the unit alone
+pub of_unit : (test : ℕ → Bool) (of : Placement) (b : Bool) → test of.unit ≡ b → (q : Program) → placement q ≡ of → test q.unit ≡ b
+of_unit test of b is q same = ap (λ (x : Placement). test x.unit) same ∙ is
 
 pub same_len : (line j : ℕ) (to : Stripe) (l : OpenLine) → length (in_line line j to l).stripes ≡ length l.stripes
 same_len line j to l = on (l.line == line) where
@@ -43,18 +58,16 @@ pub fit_more : (s : Shape) (ls : List OpenLine) (l : OpenLine) → FitLines s ls
 fit_more s [] l fit fits = (fits, tt)
 fit_more s (m ∷ ls) l fit fits = (fit.0, fit_more s ls l fit.1 fits)
 
--- the first places of a list, and one more
-pub copied_more : (xs ys : List ℕ) (i y : ℕ) → take i xs ≡ take i ys → i < length xs → slice_get ys i ≡ Some y → take (i + 1) (slice_set xs i y) ≡ take (i + 1) ys
-copied_more xs ys i y same inside is =
-    take_more_set xs i y inside ∙ ap (λ zs. zs ++ y ∷ []) same
-    ∙ sym (take_more ys i y (slice_get_within ys i y is) ∙ ap (λ z. take i ys ++ z ∷ []) (get_or_from_slice_get ys i y y is))
-
 -- one of a list and then another that passes
-pub found_first : {X : Type 0} (p : X → Bool) (xs ys : List X) (x : X) → Some x ≡ find p xs → Some x ≡ find p (xs ++ ys)
-found_first p xs ys x is = sym (find-append p xs ys ∙ ap (λ o. option_or o (find p ys)) (sym is))
+pub found_first : (p : Program → Bool) (xs ys : List Program) (of : Placement) → option_map placement (find p xs) ≡ Some of
+    → ◌≡◌ {A = Option Placement} (Some of) (option_map placement (find p (xs ++ ys)))
+found_first p xs ys of is =
+    let hit = named_by (find p xs) of is in
+    ap (λ o. Some o) (sym hit.2) ∙ sym (ap (option_map placement) (find-append p xs ys ∙ ap (λ o. option_or o (find p ys)) hit.1))
 
-pub found_then : {X : Type 0} (p : X → Bool) (xs ys : List X) (r : Option X) → None ≡ find p xs → r ≡ find p ys → r ≡ find p (xs ++ ys)
-found_then p xs ys r none is = is ∙ sym (find-append p xs ys ∙ ap (λ o. option_or o (find p ys)) (sym none))
+pub found_then : (p : Program → Bool) (xs ys : List Program) (r : Option Placement) → option_map placement (find p xs) ≡ None
+    → r ≡ option_map placement (find p ys) → r ≡ option_map placement (find p (xs ++ ys))
+found_then p xs ys r none is = is ∙ sym (ap (option_map placement) (find-append p xs ys ∙ ap (λ o. option_or o (find p ys)) (none_named (find p xs) none)))
 
 -- the element behind others, and another in its place
 at_end : {X : Type 0} (a : List X) (o d : X) (rest : List X) → get_or (a ++ o ∷ rest) (length a) d ≡ o

@@ -1,10 +1,16 @@
 -- What a unit has, as the definitions have it.
-use Rattle.stripe_placer.specs.Placing.{UnitRow, program}
+use Rattle.std.specs.Prelude.{ℕ, Bool, true, false, List}
+use Rattle.stripe_placer.specs.Placing.{UnitRow, program_with}
 use Rattle.stripe_placer.specs.Placing.UnitRow.{Idle, UnderWay, Stopped}
 use Rattle.plain_placer.specs.declared.row.State.{State}
 use Rattle.plain_placer.specs.declared.row.State.TheVariants as state
 
-abbrev pub row_of : State → UnitRow
-row_of state.Idle = Idle
-row_of (state.UnderWay of) = UnderWay (program of)
-row_of (state.Stopped of) = Stopped (program of)
+abbrev pub row_of : State → List ℕ → UnitRow
+row_of state.Idle positions = Idle
+row_of (state.UnderWay of) positions = UnderWay (program_with of positions)
+row_of (state.Stopped of) positions = Stopped (program_with of positions)
+
+abbrev pub is_idle : UnitRow → Bool
+is_idle Idle = true
+is_idle (UnderWay of) = false
+is_idle (Stopped of) = false

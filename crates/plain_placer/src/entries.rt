@@ -131,16 +131,6 @@ impl PlainEntries {
         self.lost.len() + self.fresh.len()
     }
 
-    /// The one behind so many others.
-    pub(crate) fn at(&self, index: usize) -> Option<u64>
-        ensures { result ≡ slice_get (waiting self.now) index }
-    {
-        if index < self.lost.len() {
-            return self.lost.get(index).copied();
-        }
-        self.fresh.get(index - self.lost.len()).copied()
-    }
-
     /// Whether there are entries for a stripe of so many blocks.
     #[tactic(auto, using(crate::proofs::Steps::any_append))]
     pub(crate) fn has_stripe(&self, blocks: usize) -> bool
@@ -151,20 +141,20 @@ impl PlainEntries {
             || has_below(&self.fresh, self.pad)
     }
 
-    /// How many the next stripe of so many blocks takes, and their positions.
-    pub(crate) fn first(&self, blocks: u32) -> (u32, [u64; 64])
-        requires { blocks ≤ 64 }
-        ensures count { result.0 ≡ length (take blocks (waiting self.now)) }
-        ensures positions { take result.0 result.1 ≡ take blocks (waiting self.now) }
+    /// How many the next stripe of so many blocks takes.
+    pub(crate) fn count_first(&self, blocks: u32) -> u32
+        ensures { result ≡ length (take blocks (waiting self.now)) }
     {
-        let mut positions = [0; 64];
-        for index in 0..blocks {
-            match self.at(index as usize) {
-                None => return (index, positions),
-                Some(position) => positions[index as usize] = position,
-            }
-        }
-        (blocks, positions)
+        self.count().min(blocks as usize) as u32
+    }
+
+    /// The positions of so many of them.
+    pub(crate) fn first(&self, alloc: Global, count: usize) -> Result<Vec<u64>, AllocError>
+        ensures { IfOk result (λ v. v.items ≡ take count (waiting self.now)) }
+    {
+        let mut positions = self.all(alloc)?;
+        positions.truncate(count);
+        Ok(positions)
     }
 
     /// So many of them wait no more.

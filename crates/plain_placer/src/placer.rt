@@ -1,6 +1,6 @@
 //! The plain placer.
 
-ghost use Rattle.std.specs.Prelude.{◌≡◌, ◌≢◌, ◌<◌, ◌≤◌, ◌^◌, ◌++◌, length, take, map, replicate, slice_get, slice_set, false, IfOk, OnOk, OnErr};
+ghost use Rattle.std.specs.Prelude.{◌≡◌, ◌≢◌, ◌<◌, ◌≤◌, ◌^◌, ◌++◌, length, map, replicate, slice_get, slice_set, false, IfOk, OnOk, OnErr};
 ghost use Rattle.std.specs.List.{All, Contains, filter, filter_map, find, flat_map};
 ghost use Rattle.std.specs.Option.{option_map, option_map_or};
 ghost use Rattle.std.specs.Bool.{OnTrue};
@@ -9,7 +9,7 @@ ghost use Rattle.pblk_model.specs.LineOrder.{data_len};
 ghost use Rattle.pblk_layout.specs.Live.{units_in};
 ghost use Rattle.stripe_placer.specs.OpenLines.{has_left, in_line};
 ghost use Rattle.stripe_placer.specs.Placing.{nothing_placed, held, waits, padded_to, begun};
-ghost use Rattle.stripe_placer.specs.Placing.{program, next_stripe, IsUnderWay};
+ghost use Rattle.stripe_placer.specs.Placing.{Program, placement, program, next_stripe, IsUnderWay};
 ghost use Rattle.stripe_placer.specs.Placing.{placed, answered, landed, lost, stopped, is_stopped};
 ghost use Rattle.stripe_placer.specs.Placing.{is_ready, stopped_in, allows, next_positions, next_in, positions_in};
 ghost use Rattle.stripe_placer.specs.Placing.UnitRow.{Idle};
@@ -54,7 +54,7 @@ fn idle_rows(alloc: Global, count: u32) -> Result<Vec<PlainRow>, AllocError>
 {
     let mut rows = Vec::new(alloc);
     for _ in 0..count {
-        rows.push(PlainRow::idle())?;
+        rows.push(PlainRow::idle(alloc))?;
     }
     Ok(rows)
 }
@@ -74,8 +74,8 @@ fn is_ready(rows: &[PlainRow], busy: u64, unit: u32) -> bool
 
 // The first stripe that was stopped, by unit, and whose unit is ready.
 fn next_stopped(rows: &[PlainRow], busy: u64) -> Option<Placement>
-    ensures { option_map program result
-        ≡ find (λ of. is_ready rows.now busy of.unit) (filter_map stopped_in rows.now) }
+    ensures { result ≡ option_map placement
+        (find (λ of. is_ready rows.now busy of.unit) (filter_map stopped_in rows.now)) }
 {
     for row in rows {
         if let Some(of) = row.stopped_in() {
@@ -101,22 +101,20 @@ fn allows(layout: &Layout, entries: &PlainEntries, line: &PlainLine, kind: Strip
     }
 }
 
-// The entries of the next stripe of a kind.
-fn next_positions(layout: &Layout, entries: &PlainEntries, kind: StripeKind) -> (u32, [u64; 64])
-    ensures count { result.0 ≡ length (next_positions layout.now entries.now kind) }
-    ensures positions { take result.0 result.1
-        ≡ next_positions layout.now entries.now kind }
+// How many entries the next stripe of a kind takes.
+fn next_count(layout: &Layout, entries: &PlainEntries, kind: StripeKind) -> u32
+    ensures { result ≡ length (next_positions layout.now entries.now kind) }
 {
     match kind {
-        StripeKind::Data => entries.first(layout.shape().ws_opt),
-        _ => (0, [0; 64]),
+        StripeKind::Data => entries.count_first(layout.shape().ws_opt),
+        _ => 0,
     }
 }
 
 // The next stripe of a line, where it may be placed.
 fn next_in(layout: &Layout, entries: &PlainEntries, line: &PlainLine) -> Option<Placement>
     requires { FitsLine layout.now line.now }
-    ensures { option_map program result ≡ next_in layout.now entries.now line.now }
+    ensures { result ≡ option_map placement (next_in layout.now entries.now line.now) }
 {
     let stripe = line.next()?;
     let kind = line.kind(stripe);
@@ -124,7 +122,7 @@ fn next_in(layout: &Layout, entries: &PlainEntries, line: &PlainLine) -> Option<
         return None;
     }
     let blocks = layout.shape().ws_opt as usize;
-    let (count, positions) = next_positions(layout, entries, kind);
+    let count = next_count(layout, entries, kind);
     Some(Placement {
         line: line.line(),
         at: (stripe * blocks) as u32,
@@ -132,7 +130,6 @@ fn next_in(layout: &Layout, entries: &PlainEntries, line: &PlainLine) -> Option<
         block: (stripe / line.width() * blocks) as u32,
         kind,
         count,
-        positions,
     })
 }
 
@@ -145,8 +142,8 @@ fn next_new(
     busy: u64,
 ) -> Option<Placement>
     requires { FitLines layout.now lines.now }
-    ensures { option_map program result ≡ find (λ of. is_ready rows.now busy of.unit)
-        (filter_map (next_in layout.now entries.now) lines.now) }
+    ensures { result ≡ option_map placement (find (λ of. is_ready rows.now busy of.unit)
+        (filter_map (next_in layout.now entries.now) lines.now)) }
 {
     for line in lines {
         if let Some(of) = next_in(layout, entries, line) {
@@ -167,8 +164,8 @@ fn next_offer(
     busy: u64,
 ) -> Option<Placement>
     requires { FitLines layout.now lines.now }
-    ensures { option_map program result ≡ find (λ of. is_ready rows.now busy of.unit)
-        (filter_map stopped_in rows.now ++ filter_map (next_in layout.now entries.now) lines.now) }
+    ensures { result ≡ option_map placement (find (λ of. is_ready rows.now busy of.unit)
+        (filter_map stopped_in rows.now ++ filter_map (next_in layout.now entries.now) lines.now)) }
 {
     match next_stopped(rows, busy) {
         Some(of) => Some(of),
@@ -232,6 +229,16 @@ fn put(rows: &mut [PlainRow], unit: u32, row: PlainRow)
     }
 }
 
+// The stripe of a unit is answered.
+fn end(rows: &mut [PlainRow], unit: u32)
+    ensures { rows.new ≡ slice_set rows.old unit Idle }
+{
+    let index = unit as usize;
+    if index < rows.len() {
+        rows[index].end();
+    }
+}
+
 impl PlainPlacer {
     /// Nothing waits, no line is open, and the pad target is 0.
     pub fn new(alloc: Global, layout: &Layout) -> Result<PlainPlacer, AllocError>
@@ -289,7 +296,7 @@ impl PlainPlacer {
 
     /// Whether this stripe's program is under way.
     pub fn is_under_way(&self, of: &Placement) -> bool
-        ensures { OnTrue result (IsUnderWay self.now (program of.now)) }
+        ensures { OnTrue result (IsUnderWay self.now (program self.now of.now)) }
     {
         match self.units.get(of.unit as usize) {
             None => false,
@@ -328,9 +335,25 @@ impl PlainPlacer {
     /// The next stripe. Bit `u` of `busy` is set for each unit `u` that takes none. None exactly where there is
     /// none.
     pub fn next_stripe(&self, busy: u64) -> Option<Placement>
-        ensures { option_map program result ≡ next_stripe self.now busy }
+        ensures { result ≡ option_map placement (next_stripe self.now busy) }
     {
         next_offer(&self.layout, &self.entries, &self.units, &self.lines, busy)
+    }
+
+    /// The positions of the entries of a stripe: of the one that its unit has, and else the first that wait.
+    pub fn positions_of(&self, alloc: Global, of: &Placement) -> Result<Vec<u64>, AllocError>
+        ensures { IfOk result (λ v. v.items ≡ Program.positions (program self.now of.now)) }
+    {
+        match self.units.get(of.unit as usize) {
+            None => self.entries.first(alloc, of.count as usize),
+            Some(row) => {
+                if row.is_idle() {
+                    self.entries.first(alloc, of.count as usize)
+                } else {
+                    row.positions(alloc)
+                }
+            }
+        }
     }
 
     fn is_stopped(&self, unit: u32) -> bool
@@ -344,44 +367,49 @@ impl PlainPlacer {
 
     // A program is answered.
     fn answer(&mut self, of: &Placement, to: Fate)
-        ensures { self.new ≡ answered self.old (program of.now) (stripe_of to) }
+        ensures { self.new ≡ answered self.old (program self.old of.now) (stripe_of to) }
     {
-        put(&mut self.units, of.unit, PlainRow::idle());
+        end(&mut self.units, of.unit);
         let stripe = of.at / self.layout.shape().ws_opt;
         turn_lines(&mut self.lines, of.line, stripe, to);
         close_lines(&mut self.lines);
     }
 
     /// Notes that the program of a stripe is under way.
-    pub fn placed(&mut self, of: &Placement)
-        ensures { self.new ≡ placed self.old (program of.now) }
+    pub fn placed(&mut self, alloc: Global, of: &Placement) -> Result<(), AllocError>
+        ensures ok { OnOk result (self.new ≡ placed self.old (program self.old of.now)) }
+        ensures err { OnErr result (self.new ≡ self.old) }
     {
+        let positions = self.positions_of(alloc, of)?;
         if !self.is_stopped(of.unit) {
             self.entries.remove_first(of.count as usize);
             let stripe = of.at / self.layout.shape().ws_opt;
             turn_lines(&mut self.lines, of.line, stripe, Fate::Unanswered);
         }
-        put(&mut self.units, of.unit, PlainRow::under_way(of));
+        let row = PlainRow::under_way(of, positions);
+        put(&mut self.units, of.unit, row);
+        Ok(())
     }
 
     /// Notes that all blocks of a stripe have landed.
     pub fn landed(&mut self, of: &Placement)
-        ensures { self.new ≡ landed self.old (program of.now) }
+        ensures { self.new ≡ landed self.old (program self.old of.now) }
     {
         self.answer(of, Fate::Landed);
     }
 
     /// Notes that the program of a stripe failed.
     pub fn lost(&mut self, of: &Placement)
-        ensures { self.new ≡ lost self.old (program of.now) }
+        ensures { self.new ≡ lost self.old (program self.old of.now) }
     {
         self.answer(of, Fate::Lost);
     }
 
     /// Notes that the program of a stripe was stopped.
     pub fn stopped(&mut self, of: &Placement)
-        ensures { self.new ≡ stopped self.old (program of.now) }
+        requires { IsUnderWay self.old (program self.old of.now) }
+        ensures { self.new ≡ stopped self.old (program self.old of.now) }
     {
-        put(&mut self.units, of.unit, PlainRow::stopped(of));
+        self.units[of.unit as usize].stop();
     }
 }

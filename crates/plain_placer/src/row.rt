@@ -1,16 +1,18 @@
 //! What a unit has.
 
-ghost use Rattle.std.specs.Prelude.{◌≡◌, ◌++◌, take, OnOk};
+ghost use Rattle.std.specs.Prelude.{◌≡◌, ◌++◌, ℕ, List, Some, false, IfOk, OnOk};
 ghost use Rattle.std.specs.Option.{option_map};
 ghost use Rattle.std.specs.Bool.{OnTrue};
-ghost use Rattle.stripe_placer.specs.Placing.{program, stopped_in, is_under_way, is_stopped, positions_in};
+ghost use Rattle.stripe_placer.specs.Placing.{Program, placement, program_with, or_first, stopped_in};
+ghost use Rattle.stripe_placer.specs.Placing.{is_under_way, is_stopped, positions_in};
 ghost use Rattle.stripe_placer.specs.Placing.UnitRow.{Idle, UnderWay, Stopped};
+ghost use Rattle.plain_placer.specs.Rows.{is_idle};
 
-use std::alloc::AllocError;
+use std::alloc::{AllocError, Global};
 use std::marker::Model;
 use stripe_placer::Placement;
 
-/// What a unit has.
+/// What became of the stripe that a unit has.
 #[derive(Clone, Copy, Debug, PartialEq, Eq)]
 pub(crate) enum State {
     Idle,
@@ -22,6 +24,8 @@ pub(crate) enum State {
 #[derive(Drop)]
 pub(crate) struct PlainRow {
     state: State,
+    // those of the entries of its stripe
+    positions: Vec<u64>,
 }
 
 impl Model for PlainRow {
@@ -30,49 +34,60 @@ impl Model for PlainRow {
 
     ghost Value = { UnitRow };
 
-    ghost view = { λ r. row_of r.state };
-}
-
-// Adds the positions of a stripe's entries.
-fn append_entries(of: &Placement, positions: &mut Vec<u64>) -> Result<(), AllocError>
-    ensures { OnOk result (positions.new.items ≡ positions.old.items
-        ++ take of.now.count of.now.positions) }
-{
-    let count = (of.count as usize).min(64);
-    positions.extend_from_slice(&of.positions[..count])
+    ghost view = { λ r. row_of r.state r.positions.items };
 }
 
 impl PlainRow {
-    pub(crate) fn idle() -> PlainRow
+    pub(crate) fn idle(alloc: Global) -> PlainRow
         ensures { result ≡ Idle }
     {
-        PlainRow { state: State::Idle }
-    }
-
-    pub(crate) fn under_way(of: &Placement) -> PlainRow
-        ensures { result ≡ UnderWay (program of.now) }
-    {
         PlainRow {
-            state: State::UnderWay(*of),
+            state: State::Idle,
+            positions: Vec::new(alloc),
         }
     }
 
-    pub(crate) fn stopped(of: &Placement) -> PlainRow
-        ensures { result ≡ Stopped (program of.now) }
+    /// The program of a stripe with these entries is under way.
+    pub(crate) fn under_way(of: &Placement, positions: Vec<u64>) -> PlainRow
+        ensures { result ≡ UnderWay (program_with of.now positions.items) }
     {
         PlainRow {
-            state: State::Stopped(*of),
+            state: State::UnderWay(*of),
+            positions,
+        }
+    }
+
+    /// Its stripe is answered.
+    pub(crate) fn end(&mut self)
+        ensures { self.new ≡ Idle }
+    {
+        self.state = State::Idle;
+    }
+
+    /// The program that is under way was stopped.
+    pub(crate) fn stop(&mut self)
+        ensures { (of : Program) → self.old ≡ UnderWay of → self.new ≡ Stopped of }
+    {
+        if let State::UnderWay(of) = self.state {
+            self.state = State::Stopped(of);
         }
     }
 
     /// The stripe that was stopped.
     pub(crate) fn stopped_in(&self) -> Option<Placement>
-        ensures { option_map program result ≡ stopped_in self.now }
+        ensures { result ≡ option_map placement (stopped_in self.now) }
     {
         match self.state {
+            State::Idle => None,
+            State::UnderWay(_) => None,
             State::Stopped(of) => Some(of),
-            _ => None,
         }
+    }
+
+    pub(crate) fn is_idle(&self) -> bool
+        ensures { result ≡ is_idle self.now }
+    {
+        matches!(self.state, State::Idle)
     }
 
     pub(crate) fn is_under_way(&self) -> bool
@@ -89,7 +104,8 @@ impl PlainRow {
 
     /// Whether the program of this stripe is under way.
     pub(crate) fn has(&self, of: &Placement) -> bool
-        ensures { OnTrue result (self.now ≡ UnderWay (program of.now)) }
+        ensures { OnTrue result ((first : List ℕ)
+            → self.now ≡ UnderWay (program_with of.now (or_first (Some self.now) first))) }
     {
         match self.state {
             State::UnderWay(other) => other == *of,
@@ -97,15 +113,23 @@ impl PlainRow {
         }
     }
 
-    /// Adds the positions of its entries.
+    /// The positions of the entries of its stripe, where it has one.
+    pub(crate) fn positions(&self, alloc: Global) -> Result<Vec<u64>, AllocError>
+        ensures { IfOk result (λ v. (first : List ℕ) → is_idle self.now ≡ false
+            → v.items ≡ or_first (Some self.now) first) }
+    {
+        self.positions.as_slice().to_vec(alloc)
+    }
+
+    /// Adds the positions of the entries of its stripe.
     pub(crate) fn append_to(&self, positions: &mut Vec<u64>) -> Result<(), AllocError>
         ensures { OnOk result (positions.new.items ≡ positions.old.items
             ++ positions_in self.now) }
     {
         match self.state {
             State::Idle => Ok(()),
-            State::UnderWay(of) => append_entries(&of, positions),
-            State::Stopped(of) => append_entries(&of, positions),
+            State::UnderWay(_) => positions.extend_from_slice(&self.positions),
+            State::Stopped(_) => positions.extend_from_slice(&self.positions),
         }
     }
 }

@@ -37,15 +37,18 @@ use Rattle.pblk_model.proofs.UnitLogLemmas.{read_leaves}
 
 -- An event that is a fetch.
 
-media_same : (u : ModelUnit) (e : UnitEvent) (b : ℕ) (c : Chunk) → e.command ≡ Read b → slice_get u.media e.chunk ≡ Some c → after_event u.shape u.media e ≡ u.media
+media_same : (u : ModelUnit) (e : UnitEvent) (b : ℕ) (c : Chunk) → e.command ≡ Read b → slice_get u.media e.chunk ≡ Some c
+    → after_event u.shape u.media e ≡ u.media
 media_same u e b c is there =
     ap (λ (o : Option Chunk). option_map_or (λ c. slice_set u.media e.chunk (after_outcome u.shape c e.command e.outcome)) o u.media) there
-    ∙ ap (slice_set u.media e.chunk) (ap (λ command. after_outcome u.shape c command e.outcome) is ∙ read_leaves u.shape c b e.outcome) ∙ set_same u.media e.chunk c there
+    ∙ ap (slice_set u.media e.chunk) (ap (λ command. after_outcome u.shape c command e.outcome) is ∙ read_leaves u.shape c b e.outcome)
+    ∙ set_same u.media e.chunk c there
 
 image_same : (s : Shape) (us : List ModelUnit) (e : EventAt) (b : ℕ) (h : IsNext us e) → e.event.command ≡ Read b → image_of s (after_one us e) ≡ image_of s us
 image_same s us e b h is =
     let medias : List (List Chunk) = map (λ u. u.media) us in
-    let there : slice_get medias e.unit ≡ Some h.unit.media = slice_get-map (λ (u : ModelUnit). u.media) us e.unit ∙ ap (option_map (λ (u : ModelUnit). u.media)) h.there in
+    let there : slice_get medias e.unit ≡ Some h.unit.media = slice_get-map (λ (u : ModelUnit). u.media) us e.unit
+    ∙ ap (option_map (λ (u : ModelUnit). u.media)) h.there in
     let same : map (λ u. u.media) (after_one us e) ≡ medias =
     ap (map (λ u. u.media)) (after_one_is us e h.unit h.there) ∙ map-set (λ (u : ModelUnit). u.media) us e.unit (with_event h.unit e.event)
     ∙ ap (slice_set medias e.unit) (media_same h.unit e.event b h.event.found is h.event.there) ∙ set_same medias e.unit h.unit.media there in
@@ -65,7 +68,8 @@ chunk_fits s us line unit c fit there =
     let of = fit.each unit w.of w.there in
     subst (λ (x : Shape). IsChunk x c) of.shape (all_get (IsChunk w.of.shape) w.of.media line c of.fits.chunks w.chunk)
 
-pub readable_here : (s : Shape) (us : List ModelUnit) (line unit block : ℕ) (c : Chunk) → AreFit s us → NoneOpen (image_of s us) → chunk_in (image_of s us) line unit ≡ Some c → block < pointer c → IsReadableAt (image_of s us) line unit block
+pub readable_here : (s : Shape) (us : List ModelUnit) (line unit block : ℕ) (c : Chunk) → AreFit s us → NoneOpen (image_of s us)
+    → chunk_in (image_of s us) line unit ≡ Some c → block < pointer c → IsReadableAt (image_of s us) line unit block
 readable_here s us line unit block c fit none there below = record {
   found = c;
   there = there;
@@ -76,7 +80,8 @@ readable_here s us line unit block c fit none there below = record {
 pub unwritten_here : (i : Image) (line unit block : ℕ) (c : Chunk) → chunk_in i line unit ≡ Some c → pointer c ≤ block → written_at i line (unit, block) ≡ None
 unwritten_here i line unit block c there past = ap (option_and_then (λ c. slice_get c.blocks block)) there ∙ slice_get_past c.blocks block past
 
-pub fetch_taken : (s : Shape) (us : List ModelUnit) (line unit block : ℕ) → AreFit s us → IsReadableAt (image_of s us) line unit block → IsTaken us (command_at unit line (Read block))
+pub fetch_taken : (s : Shape) (us : List ModelUnit) (line unit block : ℕ) → AreFit s us → IsReadableAt (image_of s us) line unit block
+    → IsTaken us (command_at unit line (Read block))
 fetch_taken s us line unit block fit r =
     let w = unit_at s us line unit r.found r.there in
     let of = fit.each unit w.of w.there in
@@ -84,12 +89,14 @@ fetch_taken s us line unit block fit r =
     let within : pointer r.found ≤ s.clba = subst (λ st. PointerFits st s.clba (pointer r.found)) r.closed chunk.place in
     let written = r.written in
     let below : block < w.of.shape.clba = subst (λ (x : Shape). block < x.clba) (sym of.shape) (omega arith) in
-    let free : refusal w.of.shape r.found (Read block) ≡ None = ap (λ st. read_refusal_in w.of.shape st block) r.closed ∙ ap (λ b. cond b None (Some chunk_errors.PastEnd)) (lt-ltb block w.of.shape.clba below) in
+    let free : refusal w.of.shape r.found (Read block) ≡ None = ap (λ st. read_refusal_in w.of.shape st block) r.closed
+    ∙ ap (λ b. cond b None (Some chunk_errors.PastEnd)) (lt-ltb block w.of.shape.clba below) in
     record { unit = w.of; there = w.there; takes = record { found = r.found; there = w.chunk; taken = inl free } }
 
 -- What a fetch told.
 
-event_is : (s : Shape) (us : List ModelUnit) (line unit block : ℕ) (e : EventAt) (new : List ModelUnit) → AreFit s us → (r : IsReadableAt (image_of s us) line unit block) → Did us (command_at unit line (Read block)) e new → IsOutcome s r.found (Read block) e.event.outcome
+event_is : (s : Shape) (us : List ModelUnit) (line unit block : ℕ) (e : EventAt) (new : List ModelUnit) → AreFit s us
+    → (r : IsReadableAt (image_of s us) line unit block) → Did us (command_at unit line (Read block)) e new → IsOutcome s r.found (Read block) e.event.outcome
 event_is s us line unit block e new fit r did =
     let unit_is : e.unit ≡ unit = ap (λ (x : UnitCommand). x.unit) did.command in
     let line_is : e.event.chunk ≡ line = ap (λ (x : UnitCommand). x.chunk) did.command in
@@ -97,18 +104,22 @@ event_is s us line unit block e new fit r did =
     let h : IsNext us e = did.next in
     let of = fit.each e.unit h.unit h.there in
     let here : chunk_in (image_of s us) line unit ≡ Some h.event.found =
-    ap (λ l. chunk_in (image_of s us) l unit) (sym line_is) ∙ ap (chunk_in (image_of s us) e.event.chunk) (sym unit_is) ∙ chunk_of s us e.event.chunk e.unit h.unit h.there ∙ h.event.there in
+    ap (λ l. chunk_in (image_of s us) l unit) (sym line_is) ∙ ap (chunk_in (image_of s us) e.event.chunk) (sym unit_is)
+    ∙ chunk_of s us e.event.chunk e.unit h.unit h.there ∙ h.event.there in
     let same : h.event.found ≡ r.found = same_Some h.event.found r.found (sym here ∙ r.there) in
     subst (λ (command : ChunkCommand). IsOutcome s r.found command e.event.outcome) command_is
-    (subst (λ (c : Chunk). IsOutcome s c e.event.command e.event.outcome) same (subst (λ (x : Shape). IsOutcome x h.event.found e.event.command e.event.outcome) of.shape h.event.outcome))
+    (subst (λ (c : Chunk). IsOutcome s c e.event.command e.event.outcome) same
+    (subst (λ (x : Shape). IsOutcome x h.event.found e.event.command e.event.outcome) of.shape h.event.outcome))
 
-pub gave_block : (s : Shape) (us new : List ModelUnit) (line unit block : ℕ) (e : EventAt) (b : Block) → AreFit s us → (r : IsReadableAt (image_of s us) line unit block) → Did us (command_at unit line (Read block)) e new
+pub gave_block : (s : Shape) (us new : List ModelUnit) (line unit block : ℕ) (e : EventAt) (b : Block) → AreFit s us
+    → (r : IsReadableAt (image_of s us) line unit block) → Did us (command_at unit line (Read block)) e new
     → e.event.outcome ≡ Answered (Gave b) → written_at (image_of s us) line (unit, block) ≡ Some b
 gave_block s us new line unit block e b fit r did is =
     let o = subst (λ (o : UnitOutcome). IsOutcome s r.found (Read block) o) is (event_is s us line unit block e new fit r did) in
     ap (option_and_then (λ c. slice_get c.blocks block)) r.there ∙ o.1.2
 
-pub never_empty : (s : Shape) (us new : List ModelUnit) (line unit block : ℕ) (e : EventAt) → AreFit s us → (r : IsReadableAt (image_of s us) line unit block) → Did us (command_at unit line (Read block)) e new → e.event.outcome ≡ Answered Empty → ⊥
+pub never_empty : (s : Shape) (us new : List ModelUnit) (line unit block : ℕ) (e : EventAt) → AreFit s us → (r : IsReadableAt (image_of s us) line unit block)
+    → Did us (command_at unit line (Read block)) e new → e.event.outcome ≡ Answered Empty → ⊥
 never_empty s us new line unit block e fit r did is =
     let o = subst (λ (o : UnitOutcome). IsOutcome s r.found (Read block) o) is (event_is s us line unit block e new fit r did) in
     o.1.1 (subst (λ st. ReadableIn st s.mw_cunits (pointer r.found) block) (sym r.closed) r.written)
@@ -121,7 +132,8 @@ next_append us (e ∷ xs) ys h k = (h.0, next_append (after_one us e) xs ys h.1 
 
 ends_append : (new : List ModelUnit) (xs ys : List EventAt) (o : Option ScanErr) → AllByRecursion IsGood xs → FetchEnds new ys o → FetchEnds new (xs ++ ys) o
 ends_append new xs ys None h k = all_append IsGood xs ys h k
-ends_append new xs ys (Some (errors.Drive unit number)) h (front, last, is, good, unit_is, lost, named) = (xs ++ front, last, ap (λ zs. xs ++ zs) is ∙ sym (append_assoc xs front (last ∷ [])), all_append IsGood xs front h good, unit_is, lost, named)
+ends_append new xs ys (Some (errors.Drive unit number)) h (front, last, is, good, unit_is, lost, named) =
+    (xs ++ front, last, ap (λ zs. xs ++ zs) is ∙ sym (append_assoc xs front (last ∷ [])), all_append IsGood xs front h good, unit_is, lost, named)
 ends_append new xs ys (Some errors.Memory) h k = all_append IsGood xs ys h k
 
 abbrev pub Fetched : Shape → List ModelUnit → List ModelUnit → Option ScanErr → Type 0
@@ -145,7 +157,8 @@ fetched_joined s a b c o (xs, h) (ys, k) = (
   },
 )
 
-is_fetch : (s : Shape) (us new : List ModelUnit) (line unit block : ℕ) (e : EventAt) → IsReadableAt (image_of s us) line unit block → Did us (command_at unit line (Read block)) e new → IsFetch (image_of s us) e
+is_fetch : (s : Shape) (us new : List ModelUnit) (line unit block : ℕ) (e : EventAt) → IsReadableAt (image_of s us) line unit block
+    → Did us (command_at unit line (Read block)) e new → IsFetch (image_of s us) e
 is_fetch s us new line unit block e r did =
     let unit_is : e.unit ≡ unit = ap (λ (x : UnitCommand). x.unit) did.command in
     let line_is : e.event.chunk ≡ line = ap (λ (x : UnitCommand). x.chunk) did.command in
@@ -157,10 +170,12 @@ is_fetch s us new line unit block e r did =
       written = r.written;
     }
 
-did_image : (s : Shape) (us new : List ModelUnit) (line unit block : ℕ) (e : EventAt) → Did us (command_at unit line (Read block)) e new → image_of s new ≡ image_of s us
+did_image : (s : Shape) (us new : List ModelUnit) (line unit block : ℕ) (e : EventAt) → Did us (command_at unit line (Read block)) e new
+    → image_of s new ≡ image_of s us
 did_image s us new line unit block e did = ap (image_of s) did.units ∙ image_same s us e block did.next (ap (λ (x : UnitCommand). x.command) did.command)
 
-pub good_fetch : (s : Shape) (us new : List ModelUnit) (line unit block : ℕ) (e : EventAt) → IsReadableAt (image_of s us) line unit block → Did us (command_at unit line (Read block)) e new → is_lost e.event.outcome ≡ false → Fetched s us new None
+pub good_fetch : (s : Shape) (us new : List ModelUnit) (line unit block : ℕ) (e : EventAt) → IsReadableAt (image_of s us) line unit block
+    → Did us (command_at unit line (Read block)) e new → is_lost e.event.outcome ≡ false → Fetched s us new None
 good_fetch s us new line unit block e r did good = (
   e ∷ [],
   record {
@@ -172,18 +187,30 @@ good_fetch s us new line unit block e r did good = (
   },
 )
 
-pub lost_fetch : (s : Shape) (us new : List ModelUnit) (line unit block number : ℕ) (e : EventAt) (v : ModelUnit) → IsReadableAt (image_of s us) line unit block → Did us (command_at unit line (Read block)) e new → is_lost e.event.outcome ≡ true
+pub lost_fetch : (s : Shape) (us new : List ModelUnit) (line unit block number : ℕ) (e : EventAt) (v : ModelUnit) → IsReadableAt (image_of s us) line unit block
+    → Did us (command_at unit line (Read block)) e new → is_lost e.event.outcome ≡ true
     → slice_get new unit ≡ Some v → number ≡ min (length v.log) (2 ^ 64 - 1) → Fetched s us new (Some (errors.Drive unit number))
 lost_fetch s us new line unit block number e v r did lost there number-is =
     let unit_is : e.unit ≡ unit = ap (λ (x : UnitCommand). x.unit) did.command in
     let h : IsNext us e = did.next in
-    let is_v : with_event h.unit e.event ≡ v = same_Some (with_event h.unit e.event) v (sym (get_set_same us e.unit (with_event h.unit e.event) (slice_get_within us e.unit h.unit h.there)) ∙ ap (λ xs. slice_get xs e.unit) (sym (after_one_is us e h.unit h.there) ∙ sym did.units) ∙ ap (slice_get new) unit_is ∙ there) in (
+    let is_v : with_event h.unit e.event ≡ v =
+    same_Some (with_event h.unit e.event) v
+    (sym (get_set_same us e.unit (with_event h.unit e.event) (slice_get_within us e.unit h.unit h.there))
+    ∙ ap (λ xs. slice_get xs e.unit) (sym (after_one_is us e h.unit h.there) ∙ sym did.units) ∙ ap (slice_get new) unit_is ∙ there) in (
       e ∷ [],
       record {
         fetches = (is_fetch s us new line unit block e r did, tt);
         next = (did.next, tt);
         units = did.units;
-        ends = ([], e, refl, tt, unit_is, lost, record { of = v; there = there; front = h.unit.log; log = ap (λ (x : ModelUnit). x.log) (sym is_v); number_is = number-is });
+        ends = (
+          [],
+          e,
+          refl,
+          tt,
+          unit_is,
+          lost,
+          record { of = v; there = there; front = h.unit.log; log = ap (λ (x : ModelUnit). x.log) (sym is_v); number_is = number-is },
+        );
         image = did_image s us new line unit block e did;
       },
     )
@@ -192,7 +219,8 @@ pub told_lost : (before after : List ℕ) (r : Result Got UnitErr) (e : UnitErr)
 told_lost before after r unit_errors.Failed o is h = let t = subst (λ (x : Result Got UnitErr). TellsBlock before after x o) is h in ap is_lost t.0
 told_lost before after r unit_errors.Stopped o is h = let t = subst (λ (x : Result Got UnitErr). TellsBlock before after x o) is h in ap is_lost t.0
 
-pub told_sector : (before after : List ℕ) (r : Result Got UnitErr) (mark : Mark) (o : UnitOutcome) → r ≡ Ok (got.Sector mark) → TellsBlock before after r o → o ≡ Answered (Gave (record { sector = after; mark = mark }))
+pub told_sector : (before after : List ℕ) (r : Result Got UnitErr) (mark : Mark) (o : UnitOutcome) → r ≡ Ok (got.Sector mark) → TellsBlock before after r o
+    → o ≡ Answered (Gave (record { sector = after; mark = mark }))
 told_sector before after r mark o is h = subst (λ (x : Result Got UnitErr). TellsBlock before after x o) is h
 
 pub told_empty : (before after : List ℕ) (r : Result Got UnitErr) (o : UnitOutcome) → r ≡ Ok got.Empty → TellsBlock before after r o → o ≡ Answered Empty

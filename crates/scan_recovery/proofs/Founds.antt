@@ -32,14 +32,16 @@ borne_thin (r ∷ rs) h p = ap (λ b. (nat_le h.first_seq r.seq && (r.position =
 
 pub end_thin : (rs : List Record) (o : Option StartRecord) → end_after (thin rs) o ≡ end_after rs o
 end_thin rs None = refl
-end_thin rs (Some h) = ap (λ f. least_missing f (length (thin rs)) h.front) (fun_ext (λ p. borne_thin rs h p)) ∙ ap (λ n. least_missing (is_borne rs h) n h.front) (length-map rs without_sector)
+end_thin rs (Some h) = ap (λ f. least_missing f (length (thin rs)) h.front) (fun_ext (λ p. borne_thin rs h p))
+    ∙ ap (λ n. least_missing (is_borne rs h) n h.front) (length-map rs without_sector)
 
 filter_thin : (p : Record → Bool) (rs : List Record) → ((r : Record) → p (without_sector r) ≡ p r) → filter p (thin rs) ≡ thin (filter p rs)
 filter_thin p [] same = refl
-filter_thin p (r ∷ rs) same = ap (λ b. cond b (without_sector r ∷ filter p (thin rs)) (filter p (thin rs))) (same r) ∙ ap (λ xs. cond (p r) (without_sector r ∷ xs) xs) (filter_thin p rs same) ∙ by (p r) where
-  by : (b : Bool) → cond b (without_sector r ∷ thin (filter p rs)) (thin (filter p rs)) ≡ thin (cond b (r ∷ filter p rs) (filter p rs))
-  by true = refl
-  by false = refl
+filter_thin p (r ∷ rs) same = ap (λ b. cond b (without_sector r ∷ filter p (thin rs)) (filter p (thin rs))) (same r)
+    ∙ ap (λ xs. cond (p r) (without_sector r ∷ xs) xs) (filter_thin p rs same) ∙ by (p r) where
+      by : (b : Bool) → cond b (without_sector r ∷ thin (filter p rs)) (thin (filter p rs)) ≡ thin (cond b (r ∷ filter p rs) (filter p rs))
+      by true = refl
+      by false = refl
 
 pub counted_thin : (rs : List Record) (o : Option StartRecord) → counted_after (thin rs) o ≡ thin (counted_after rs o)
 counted_thin rs None = refl
@@ -64,7 +66,8 @@ tops_thin top [] = refl
 tops_thin top (r ∷ rs) = tops_thin (max top (r.position + 1)) rs
 
 pub top_thin : (rs : List Record) (line : ℕ) → top_of (thin rs) line ≡ top_of rs line
-top_thin rs line = ap (fold (λ top r. max top (r.position + 1)) 0) (filter_thin (λ r. r.line == line) rs (λ r. refl)) ∙ tops_thin 0 (filter (λ r. r.line == line) rs)
+top_thin rs line = ap (fold (λ top r. max top (r.position + 1)) 0) (filter_thin (λ r. r.line == line) rs (λ r. refl))
+    ∙ tops_thin 0 (filter (λ r. r.line == line) rs)
 
 -- Loops.
 
@@ -76,24 +79,34 @@ one_both : {X : Type 0} (f : ℕ → Option X) (ks : List ℕ) (k : ℕ) → fil
 one_both f [] k = refl
 one_both f (j ∷ ks) k = one_first (f j) (filter_map f ks) (cons_option (f k) []) (filter_map f (ks ++ k ∷ [])) (one_both f ks k)
 
-pub filter_map_one : {X : Type 0} (f : ℕ → Option X) (n : ℕ) → filter_map f (range_with_len 0 (n + 1)) ≡ filter_map f (range_with_len 0 n) ++ cons_option (f n) []
-filter_map_one f n = ap (filter_map f) (range_split 0 n 1) ∙ one_both f (range_with_len 0 n) (0 + n) ∙ ap (λ k. filter_map f (range_with_len 0 n) ++ cons_option (f k) []) (zero-add n)
+pub filter_map_one : {X : Type 0} (f : ℕ → Option X) (n : ℕ)
+    → filter_map f (range_with_len 0 (n + 1)) ≡ filter_map f (range_with_len 0 n) ++ cons_option (f n) []
+filter_map_one f n = ap (filter_map f) (range_split 0 n 1) ∙ one_both f (range_with_len 0 n) (0 + n)
+    ∙ ap (λ k. filter_map f (range_with_len 0 n) ++ cons_option (f k) []) (zero-add n)
 
 pub filter_range_one : (p : ℕ → Bool) (n : ℕ) → filter p (range_with_len 0 (n + 1)) ≡ filter p (range_with_len 0 n) ++ cond (p n) (n ∷ []) []
-filter_range_one p n = ap (filter p) (range_split 0 n 1) ∙ filter-append p (range_with_len 0 n) ((0 + n) ∷ []) ∙ ap (λ k. filter p (range_with_len 0 n) ++ cond (p k) (k ∷ []) []) (zero-add n)
+filter_range_one p n = ap (filter p) (range_split 0 n 1) ∙ filter-append p (range_with_len 0 n) ((0 + n) ∷ [])
+    ∙ ap (λ k. filter p (range_with_len 0 n) ++ cond (p k) (k ∷ []) []) (zero-add n)
 
-pub won : (f : ℕ → Option Record) (best : List (Option Trace)) (k : ℕ) (d : Option Trace) (t : Trace) (front now : List Winner) → IsTable (length best) f (map (option_map bare) best) → k < length best → get_or best k d ≡ Some t
-    → now ≡ front ++ winner_with k (bare t) ∷ [] → front ≡ filter_map (λ lba. option_map (winner_with lba) (f lba)) (range_with_len 0 k) → now ≡ filter_map (λ lba. option_map (winner_with lba) (f lba)) (range_with_len 0 (k + 1))
+pub won : (f : ℕ → Option Record) (best : List (Option Trace)) (k : ℕ) (d : Option Trace) (t : Trace) (front now : List Winner)
+    → IsTable (length best) f (map (option_map bare) best) → k < length best → get_or best k d ≡ Some t
+    → now ≡ front ++ winner_with k (bare t) ∷ [] → front ≡ filter_map (λ lba. option_map (winner_with lba) (f lba)) (range_with_len 0 k)
+    → now ≡ filter_map (λ lba. option_map (winner_with lba) (f lba)) (range_with_len 0 (k + 1))
 won f best k d t front now table inside is now-is front-is =
     let here : f k ≡ Some (bare t) = sym (row_there (length best) f (option_map bare) best k d table inside) ∙ ap (option_map bare) is in
     now-is ∙ ap (λ ws. ws ++ winner_with k (bare t) ∷ []) front-is
-    ∙ sym (filter_map_one (λ lba. option_map (winner_with lba) (f lba)) k ∙ ap (λ o. filter_map (λ lba. option_map (winner_with lba) (f lba)) (range_with_len 0 k) ++ cons_option (option_map (winner_with k) o) []) here)
+    ∙ sym (filter_map_one (λ lba. option_map (winner_with lba) (f lba)) k
+    ∙ ap (λ o. filter_map (λ lba. option_map (winner_with lba) (f lba)) (range_with_len 0 k) ++ cons_option (option_map (winner_with k) o) []) here)
 
-pub unwon : (f : ℕ → Option Record) (best : List (Option Trace)) (k : ℕ) (d : Option Trace) (front : List Winner) → IsTable (length best) f (map (option_map bare) best) → k < length best → get_or best k d ≡ None
-    → front ≡ filter_map (λ lba. option_map (winner_with lba) (f lba)) (range_with_len 0 k) → front ≡ filter_map (λ lba. option_map (winner_with lba) (f lba)) (range_with_len 0 (k + 1))
+pub unwon : (f : ℕ → Option Record) (best : List (Option Trace)) (k : ℕ) (d : Option Trace) (front : List Winner)
+    → IsTable (length best) f (map (option_map bare) best) → k < length best → get_or best k d ≡ None
+    → front ≡ filter_map (λ lba. option_map (winner_with lba) (f lba)) (range_with_len 0 k)
+    → front ≡ filter_map (λ lba. option_map (winner_with lba) (f lba)) (range_with_len 0 (k + 1))
 unwon f best k d front table inside is front-is =
     let here : f k ≡ None = sym (row_there (length best) f (option_map bare) best k d table inside) ∙ ap (option_map bare) is in
-    front-is ∙ sym (filter_map_one (λ lba. option_map (winner_with lba) (f lba)) k ∙ ap (λ o. filter_map (λ lba. option_map (winner_with lba) (f lba)) (range_with_len 0 k) ++ cons_option (option_map (winner_with k) o) []) here ∙ append-nil (filter_map (λ lba. option_map (winner_with lba) (f lba)) (range_with_len 0 k)))
+    front-is ∙ sym (filter_map_one (λ lba. option_map (winner_with lba) (f lba)) k
+    ∙ ap (λ o. filter_map (λ lba. option_map (winner_with lba) (f lba)) (range_with_len 0 k) ++ cons_option (option_map (winner_with k) o) []) here
+    ∙ append-nil (filter_map (λ lba. option_map (winner_with lba) (f lba)) (range_with_len 0 k)))
 
 pub there : {X : Type 0} (n : ℕ) (f : ℕ → X) (xs : List X) (k : ℕ) (d : X) → IsTable n f xs → k < length xs → get_or xs k d ≡ f k
 there n f xs k d h inside = same_Some (get_or xs k d) (f k) (sym (slice_get-get_or xs k d inside) ∙ h.each k (omega (arith, h.count)))
@@ -103,14 +116,18 @@ unfolding seen_line
 stray_is i k x b is h =
     sym (sym h ∙ ap (λ (y : SeenLine). not (is_some y.seq) && y.used) is ∙ ap (λ c. not c && not (are_empty i k)) (some_seq (start_of i k)))
 
-pub stray_more : (i : Image) (lines : List SeenLine) (k : ℕ) (d : SeenLine) (front now : List ℕ) → IsTable (length lines) (seen_line i) lines → k < length lines → (not (is_some (get_or lines k d).seq) && (get_or lines k d).used) ≡ true
+pub stray_more : (i : Image) (lines : List SeenLine) (k : ℕ) (d : SeenLine) (front now : List ℕ) → IsTable (length lines) (seen_line i) lines → k < length lines
+    → (not (is_some (get_or lines k d).seq) && (get_or lines k d).used) ≡ true
     → now ≡ front ++ k ∷ [] → front ≡ filter (is_stray i) (range_with_len 0 k) → now ≡ filter (is_stray i) (range_with_len 0 (k + 1))
 stray_more i lines k d front now table inside is now-is front-is =
     let here = stray_is i k (get_or lines k d) true (there (length lines) (seen_line i) lines k d table inside) is in
-    now-is ∙ ap (λ xs. xs ++ k ∷ []) front-is ∙ sym (filter_range_one (is_stray i) k ∙ ap (λ b. filter (is_stray i) (range_with_len 0 k) ++ cond b (k ∷ []) []) here)
+    now-is ∙ ap (λ xs. xs ++ k ∷ []) front-is
+    ∙ sym (filter_range_one (is_stray i) k ∙ ap (λ b. filter (is_stray i) (range_with_len 0 k) ++ cond b (k ∷ []) []) here)
 
-pub stray_none : (i : Image) (lines : List SeenLine) (k : ℕ) (d : SeenLine) (front : List ℕ) → IsTable (length lines) (seen_line i) lines → k < length lines → (not (is_some (get_or lines k d).seq) && (get_or lines k d).used) ≡ false
+pub stray_none : (i : Image) (lines : List SeenLine) (k : ℕ) (d : SeenLine) (front : List ℕ) → IsTable (length lines) (seen_line i) lines → k < length lines
+    → (not (is_some (get_or lines k d).seq) && (get_or lines k d).used) ≡ false
     → front ≡ filter (is_stray i) (range_with_len 0 k) → front ≡ filter (is_stray i) (range_with_len 0 (k + 1))
 stray_none i lines k d front table inside is front-is =
     let here = stray_is i k (get_or lines k d) false (there (length lines) (seen_line i) lines k d table inside) is in
-    front-is ∙ sym (filter_range_one (is_stray i) k ∙ ap (λ b. filter (is_stray i) (range_with_len 0 k) ++ cond b (k ∷ []) []) here ∙ append-nil (filter (is_stray i) (range_with_len 0 k)))
+    front-is ∙ sym (filter_range_one (is_stray i) k ∙ ap (λ b. filter (is_stray i) (range_with_len 0 k) ++ cond b (k ∷ []) []) here
+    ∙ append-nil (filter (is_stray i) (range_with_len 0 k)))

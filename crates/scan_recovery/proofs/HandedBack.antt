@@ -36,25 +36,29 @@ back_same s old new same = subst (AreHandedBack s old) (sym same) (back_as_they_
 
 -- ---- how a padding ends
 
-pub pad_quiet : (s : Shape) (old new : List ModelUnit) (r : Result (Unit {0}) ScanErr) (e : ScanErr) → r ≡ Err e → AreUnarmed old → (r ≢ Err errors.Memory → (events : List EventAt) × HasPadded s old new events r) → e ≡ errors.Memory
+pub pad_quiet : (s : Shape) (old new : List ModelUnit) (r : Result (Unit {0}) ScanErr) (e : ScanErr) → r ≡ Err e → AreUnarmed old
+    → (r ≢ Err errors.Memory → (events : List EventAt) × HasPadded s old new events r) → e ≡ errors.Memory
 pad_quiet s old new (Ok x) e is unarmed padded = absurd cc
 pad_quiet s old new (Err (errors.Drive unit event)) e is unarmed padded =
     let h = padded (λ same. absurd cc) in
     absurd (none_stopped s old new h.0 unit event unarmed h.1)
 pad_quiet s old new (Err errors.Memory) e is unarmed padded = cc
 
-pub pad_done : (s : Shape) (old new : List ModelUnit) (r : Result (Unit {0}) ScanErr) (x : Unit {0}) → r ≡ Ok x → (r ≢ Err errors.Memory → (events : List EventAt) × HasPadded s old new events r) → (events : List EventAt) × HasPadded s old new events (Ok x)
+pub pad_done : (s : Shape) (old new : List ModelUnit) (r : Result (Unit {0}) ScanErr) (x : Unit {0}) → r ≡ Ok x
+    → (r ≢ Err errors.Memory → (events : List EventAt) × HasPadded s old new events r) → (events : List EventAt) × HasPadded s old new events (Ok x)
 pad_done s old new r x is padded =
     let h = padded (λ same. let no : Ok x ≡ Err errors.Memory = sym is ∙ same in absurd cc) in
     (h.0, subst (HasPadded s old new h.0) is h.1)
 
 -- ---- padded, and then scanned
 
-scan_quiet : (s : Shape) (old new : List ModelUnit) (e : ScanErr) → AreUnarmed old → (events : List EventAt) × HasFetched s old new events (Some e) → e ≡ errors.Memory
+scan_quiet : (s : Shape) (old new : List ModelUnit) (e : ScanErr) → AreUnarmed old → (events : List EventAt) × HasFetched s old new events (Some e)
+    → e ≡ errors.Memory
 scan_quiet s old new (errors.Drive unit event) unarmed h = absurd (none_lost s old new h.0 unit event unarmed h.1)
 scan_quiet s old new errors.Memory unarmed h = refl
 
-module _ (s : Shape) (old mid new : List ModelUnit) (x : Unit {0}) (unarmed : AreUnarmed old) (padded : (events : List EventAt) × HasPadded s old mid events (Ok x)) (kept : AreKept old mid)
+module _ (s : Shape) (old mid new : List ModelUnit) (x : Unit {0}) (unarmed : AreUnarmed old)
+    (padded : (events : List EventAt) × HasPadded s old mid events (Ok x)) (kept : AreKept old mid)
     (holds : HoldsSame (image_of s old) (image_of s mid)) (closed : NoneOpen (image_of s mid)) (after : AreKept mid new) where
   handed_back : (e : Option ScanErr) → (events : List EventAt) × HasFetched s mid new events e → AreHandedBack s old new
   handed_back e fetched = record {
@@ -82,4 +86,5 @@ module _ (s : Shape) (old mid new : List ModelUnit) (x : Unit {0}) (unarmed : Ar
     tt,
     tt,
   )
-  scanned (Err e) found fetched = (tt, handed_back (Some e) fetched, inr (subst NoneOpen (sym fetched.1.image) closed), scan_quiet s mid new e (unarmed_kept old mid unarmed kept) fetched)
+  scanned (Err e) found fetched =
+      (tt, handed_back (Some e) fetched, inr (subst NoneOpen (sym fetched.1.image) closed), scan_quiet s mid new e (unarmed_kept old mid unarmed kept) fetched)

@@ -2,8 +2,6 @@
 use Rattle.std.proofs.Common.{◌≡◌, ℕ, ◌+◌, ◌*◌, ◌<◌, ◌≤◌, ◌||◌, zero, suc, Bool, true, false, cond, List, [], ◌∷◌, ◌++◌, ◌-◌, length, map, get_or, replicate, take, drop, Option, Some, None, refl, sym, ap, ◌∙◌, subst, arith, length-append, append_assoc, zero-add, zero-mul}
 use Rattle.std.specs.List.{AllByRecursion, filter, flat_map, fold, list_any, range_with_len, slice_get, slice_range}
 use Rattle.std.specs.Option.{is_some, option_and_then, option_map, option_map_or, IfSome}
-use Rattle.std.proofs.Math.Path.{fun_ext}
-use Rattle.std.proofs.lemmas.List.{length-map}
 use Rattle.std.proofs.lemmas.List.Elements.{filter-append}
 use Rattle.std.proofs.lemmas.Option.{none-some, same_Some}
 use Rattle.pblk_model.specs.Bytes.{zeros}
@@ -56,11 +54,13 @@ block_has i line start a (Some b) inside is =
 
 line_has : (i : Image) (line : ℕ) (o : Option StartRecord) → line < i.shape.chunks → AllByRecursion (HasBlock i) (records_after i line o)
 line_has i line None inside = tt
-line_has i line (Some start) inside = kept_all (HasBlock i) (record_at i line start) (range_with_len 0 _) (λ a. block_has i line start a (block_at i line a) inside refl)
+line_has i line (Some start) inside =
+    kept_all (HasBlock i) (record_at i line start) (range_with_len 0 _) (λ a. block_has i line start a (block_at i line a) inside refl)
 
 lines_have : (i : Image) (a n : ℕ) → a + n ≤ i.shape.chunks → AllByRecursion (HasBlock i) (flat_map (line_records i) (range_with_len a n))
 lines_have i a zero h = tt
-lines_have i a (suc n) h = all_append (HasBlock i) (line_records i a) (flat_map (line_records i) (range_with_len (a + 1) n)) (line_has i a (start_of i a) (omega arith)) (lines_have i (a + 1) n (omega arith))
+lines_have i a (suc n) h = all_append (HasBlock i) (line_records i a) (flat_map (line_records i) (range_with_len (a + 1) n))
+    (line_has i a (start_of i a) (omega arith)) (lines_have i (a + 1) n (omega arith))
 
 counted_by : (i : Image) (rs : List Record) (o : Option StartRecord) → AllByRecursion (HasBlock i) rs → AllByRecursion (HasBlock i) (counted_after rs o)
 counted_by i rs None h = tt
@@ -79,22 +79,27 @@ fold_has P None (r ∷ rs) h k = fold_has P (Some r) rs k.0 k.1
 fold_has P (Some best) (r ∷ rs) h k = fold_has P (newer (Some best) r) rs (newer_has P best r (is_newer best r) h k.0) k.1
 
 winner_has : (i : Image) (lba : ℕ) → IfSome (winner (counted i) lba) (HasBlock i)
-winner_has i lba = fold_has (HasBlock i) None (filter (λ r. is_of lba r.lba) (counted i)) tt (all_filter (HasBlock i) (λ r. is_of lba r.lba) (counted i) (counted_have i))
+winner_has i lba = fold_has (HasBlock i) None (filter (λ r. is_of lba r.lba) (counted i)) tt
+    (all_filter (HasBlock i) (λ r. is_of lba r.lba) (counted i) (counted_have i))
 
 -- What is held.
 
-held_from : (i : Image) (zs none : List ℕ) (o : Option Record) (w : Option Trace) → zs ≡ none → IfSome o (HasBlock i) → option_map bare w ≡ option_map without_sector o → held_by i zs w ≡ option_map_or (λ r. r.sector) o none
+held_from : (i : Image) (zs none : List ℕ) (o : Option Record) (w : Option Trace) → zs ≡ none → IfSome o (HasBlock i)
+    → option_map bare w ≡ option_map without_sector o → held_by i zs w ≡ option_map_or (λ r. r.sector) o none
 held_from i zs none None None zs-is h e = zs-is
 held_from i zs none None (Some t) zs-is h e = absurd (none-some (bare t) (sym e))
 held_from i zs none (Some r) None zs-is h e = absurd (none-some (without_sector r) e)
 held_from i zs none (Some r) (Some t) zs-is h e =
     let same : bare t ≡ without_sector r = same_Some (bare t) (without_sector r) e in
-    ap (λ (x : Record). option_map_or (λ (b : Block). b.sector) (block_at i x.line x.at) zs) same ∙ ap (λ o. option_map_or (λ (b : Block). b.sector) o zs) h.there ∙ sym h.sector
+    ap (λ (x : Record). option_map_or (λ (b : Block). b.sector) (block_at i x.line x.at) zs) same
+    ∙ ap (λ o. option_map_or (λ (b : Block). b.sector) o zs) h.there ∙ sym h.sector
 
-pub held_is : (i : Image) (lba : ℕ) (zs : List ℕ) (w : Option Trace) → zs ≡ zeros i.shape.sector → option_map bare w ≡ thin_winner i lba → held_by i zs w ≡ sector_of i lba
+pub held_is : (i : Image) (lba : ℕ) (zs : List ℕ) (w : Option Trace) → zs ≡ zeros i.shape.sector → option_map bare w ≡ thin_winner i lba
+    → held_by i zs w ≡ sector_of i lba
 held_is i lba zs w zs-is w-is = held_from i zs (zeros i.shape.sector) (winner (counted i) lba) w zs-is (winner_has i lba) w-is
 
-inside_from : (i : Image) (o : Option Record) (w : Option Trace) → IfSome o (HasBlock i) → option_map bare w ≡ option_map without_sector o → IfSome w (λ t. t.line < i.shape.chunks)
+inside_from : (i : Image) (o : Option Record) (w : Option Trace) → IfSome o (HasBlock i) → option_map bare w ≡ option_map without_sector o
+    → IfSome w (λ t. t.line < i.shape.chunks)
 inside_from i o None h e = tt
 inside_from i None (Some t) h e = absurd (none-some (bare t) (sym e))
 inside_from i (Some r) (Some t) h e = subst (λ (x : Record). x.line < i.shape.chunks) (sym (same_Some (bare t) (without_sector r) e)) h.inside
@@ -104,13 +109,15 @@ winner_inside i lba w is = inside_from i (winner (counted i) lba) w (winner_has 
 
 -- Its length.
 
-in_chunk : (s : Shape) (n : ℕ) (o : Option Chunk) (b : Block) → IfSome o (IsChunk s) → option_and_then (λ c. slice_get c.blocks n) o ≡ Some b → length b.sector ≡ s.sector
+in_chunk : (s : Shape) (n : ℕ) (o : Option Chunk) (b : Block) → IfSome o (IsChunk s) → option_and_then (λ c. slice_get c.blocks n) o ≡ Some b
+    → length b.sector ≡ s.sector
 in_chunk s n None b h e = absurd (none-some b e)
 in_chunk s n (Some c) b h e = (all_at (IsBlock s) c.blocks n b h.blocks e).size
 
 block_size : (i : Image) (line a : ℕ) (b : Block) → IsFit i → block_at i line a ≡ Some b → length b.sector ≡ i.shape.sector
 block_size i line a b fit e =
-    in_chunk i.shape (block_of i.shape (width i line) a) (slice_get (line_chunks i line) (column_of i.shape (width i line) a)) b (all_get_some (IsChunk i.shape) (line_chunks i line) (column_of i.shape (width i line) a) (line_fit i line fit)) e
+    in_chunk i.shape (block_of i.shape (width i line) a) (slice_get (line_chunks i line) (column_of i.shape (width i line) a)) b
+    (all_get_some (IsChunk i.shape) (line_chunks i line) (column_of i.shape (width i line) a) (line_fit i line fit)) e
 
 size_from : (i : Image) (o : Option Record) → IsFit i → IfSome o (HasBlock i) → length (option_map_or (λ r. r.sector) o (zeros i.shape.sector)) ≡ i.shape.sector
 size_from i None fit h = zeros_length i.shape.sector
@@ -125,10 +132,12 @@ zeros_are n = refl
 
 -- All of them, one after another.
 
-pub bytes_more : (i : Image) (k : ℕ) (front now piece : List ℕ) → now ≡ front ++ piece → piece ≡ sector_of i k → front ≡ flat_map (sector_of i) (range_with_len 0 k) → now ≡ flat_map (sector_of i) (range_with_len 0 (k + 1))
+pub bytes_more : (i : Image) (k : ℕ) (front now piece : List ℕ) → now ≡ front ++ piece → piece ≡ sector_of i k
+    → front ≡ flat_map (sector_of i) (range_with_len 0 k) → now ≡ flat_map (sector_of i) (range_with_len 0 (k + 1))
 bytes_more i k front now piece now-is piece-is front-is =
     now-is ∙ ap (λ xs. xs ++ piece) front-is ∙ ap (λ x. flat_map (sector_of i) (range_with_len 0 k) ++ x) piece-is
-    ∙ sym (ap (flat_map (sector_of i)) (range_last 0 k) ∙ flat_one (sector_of i) (range_with_len 0 k) (0 + k) ∙ ap (λ j. flat_map (sector_of i) (range_with_len 0 k) ++ sector_of i j) (zero-add k))
+    ∙ sym (ap (flat_map (sector_of i)) (range_last 0 k) ∙ flat_one (sector_of i) (range_with_len 0 k) (0 + k)
+    ∙ ap (λ j. flat_map (sector_of i) (range_with_len 0 k) ++ sector_of i j) (zero-add k))
 
 flat_size : (f : ℕ → List ℕ) (m a n : ℕ) → ((k : ℕ) → length (f k) ≡ m) → length (flat_map f (range_with_len a n)) ≡ n * m
 flat_size f m a zero h = sym (zero-mul m)
@@ -137,7 +146,8 @@ flat_size f m a (suc n) h =
     let rest = flat_size f m (a + 1) n h in
     length-append (f a) (flat_map f (range_with_len (a + 1) n)) ∙ omega arith
 
-pub bytes_size : (i : Image) (bytes : List ℕ) → IsFit i → bytes ≡ flat_map (sector_of i) (range_with_len 0 i.shape.capacity) → length bytes ≡ i.shape.capacity * i.shape.sector
+pub bytes_size : (i : Image) (bytes : List ℕ) → IsFit i → bytes ≡ flat_map (sector_of i) (range_with_len 0 i.shape.capacity)
+    → length bytes ≡ i.shape.capacity * i.shape.sector
 bytes_size i bytes fit is = ap length is ∙ flat_size (sector_of i) i.shape.sector 0 i.shape.capacity (λ k. sector_size i k fit)
 
 flat_both : (f : ℕ → List ℕ) (xs ys : List ℕ) → flat_map f (xs ++ ys) ≡ flat_map f xs ++ flat_map f ys
@@ -151,7 +161,8 @@ piece_at f m n k h inside =
     let front : List ℕ = flat_map f (range_with_len 0 k) in
     let rest : List ℕ = flat_map f (range_with_len (0 + k + 1) (n - (k + 1))) in
     let all : flat_map f (range_with_len 0 n) ≡ front ++ (f (0 + k) ++ rest) =
-    ap (λ j. flat_map f (range_with_len 0 j)) parts ∙ ap (flat_map f) (range_split 0 k (suc (n - (k + 1)))) ∙ flat_both f (range_with_len 0 k) (range_with_len (0 + k) (suc (n - (k + 1)))) in
+    ap (λ j. flat_map f (range_with_len 0 j)) parts ∙ ap (flat_map f) (range_split 0 k (suc (n - (k + 1))))
+    ∙ flat_both f (range_with_len 0 k) (range_with_len (0 + k) (suc (n - (k + 1)))) in
     let long : k * m + m - k * m ≡ m = omega arith in
     ap (λ bytes. take (k * m + m - k * m) (drop (k * m) bytes)) all
     ∙ ap (take (k * m + m - k * m)) (drop_front front (f (0 + k) ++ rest) (k * m) (flat_size f m 0 k h))
@@ -161,12 +172,15 @@ piece_at f m n k h inside =
 
 map_same : {X : Type 0} (f g : ℕ → X) (a n : ℕ) → ((k : ℕ) → a ≤ k → k < a + n → f k ≡ g k) → map f (range_with_len a n) ≡ map g (range_with_len a n)
 map_same f g a zero h = refl
-map_same f g a (suc n) h = ap (λ y. y ∷ map f (range_with_len (a + 1) n)) (h a (omega arith) (omega arith)) ∙ ap (λ ys. g a ∷ ys) (map_same f g (a + 1) n (λ k low high. h k (omega arith) (omega arith)))
+map_same f g a (suc n) h = ap (λ y. y ∷ map f (range_with_len (a + 1) n)) (h a (omega arith) (omega arith))
+    ∙ ap (λ ys. g a ∷ ys) (map_same f g (a + 1) n (λ k low high. h k (omega arith) (omega arith)))
 
-pub sectors_are : (i : Image) (size count : ℕ) (bytes : List ℕ) → IsFit i → size ≡ i.shape.sector → count ≡ i.shape.capacity → bytes ≡ flat_map (sector_of i) (range_with_len 0 i.shape.capacity) → sectors_in size count bytes ≡ contents i
+pub sectors_are : (i : Image) (size count : ℕ) (bytes : List ℕ) → IsFit i → size ≡ i.shape.sector → count ≡ i.shape.capacity
+    → bytes ≡ flat_map (sector_of i) (range_with_len 0 i.shape.capacity) → sectors_in size count bytes ≡ contents i
 sectors_are i size count bytes fit size-is count-is bytes-is =
     ap (λ n. sectors_in n count bytes) size-is ∙ ap (λ n. sectors_in i.shape.sector n bytes) count-is ∙ ap (sectors_in i.shape.sector i.shape.capacity) bytes-is
-    ∙ map_same (λ lba. slice_range (flat_map (sector_of i) (range_with_len 0 i.shape.capacity)) (lba * i.shape.sector) (lba * i.shape.sector + i.shape.sector)) (sector_of i) 0 i.shape.capacity
+    ∙ map_same (λ lba. slice_range (flat_map (sector_of i) (range_with_len 0 i.shape.capacity)) (lba * i.shape.sector) (lba * i.shape.sector + i.shape.sector))
+    (sector_of i) 0 i.shape.capacity
     (λ k low high. piece_at (sector_of i) i.shape.sector i.shape.capacity k (λ j. sector_size i j fit) (omega arith))
 
 -- How many there are.
@@ -176,7 +190,8 @@ cond_length true x xs = refl
 cond_length false x xs = refl
 
 -- two lists have as many elements of a kind, where one is made of the other
-count_map : {X Y : Type 0} (p : X → Bool) (q : Y → Bool) (f : X → Y) (xs : List X) → ((x : X) → q (f x) ≡ p x) → length (filter q (map f xs)) ≡ length (filter p xs)
+count_map : {X Y : Type 0} (p : X → Bool) (q : Y → Bool) (f : X → Y) (xs : List X) → ((x : X) → q (f x) ≡ p x)
+    → length (filter q (map f xs)) ≡ length (filter p xs)
 count_map p q f [] h = refl
 count_map p q f (x ∷ xs) h =
     cond_length (q (f x)) (f x) (filter q (map f xs)) ∙ ap (λ b. cond b (suc (length (filter q (map f xs)))) (length (filter q (map f xs)))) (h x)
@@ -184,15 +199,20 @@ count_map p q f (x ∷ xs) h =
 
 stays_some : (best : Record) (rs : List Record) → is_some (fold newer (Some best) rs) ≡ true
 stays_some best [] = refl
-stays_some best (r ∷ rs) = elim (is_newer best r) as (λ b. is_some (fold newer (cond b (Some r) (Some best)) rs) ≡ true) [ true ↦ stays_some r rs | false ↦ stays_some best rs ]
+stays_some best (r ∷ rs) = elim (is_newer best r) as
+    (λ b. is_some (fold newer (cond b (Some r) (Some best)) rs) ≡ true) [ true ↦ stays_some r rs | false ↦ stays_some best rs ]
 
 some_winner : (p : Record → Bool) (rs : List Record) → is_some (fold newer None (filter p rs)) ≡ list_any p rs
 some_winner p [] = refl
-some_winner p (r ∷ rs) = elim (p r) as (λ b. is_some (fold newer None (cond b (r ∷ filter p rs) (filter p rs))) ≡ b || list_any p rs) [ true ↦ stays_some r (filter p rs) | false ↦ some_winner p rs ]
+some_winner p (r ∷ rs) = elim (p r) as
+    (λ b. is_some (fold newer None (cond b (r ∷ filter p rs) (filter p rs))) ≡ b || list_any p rs)
+    [ true ↦ stays_some r (filter p rs) | false ↦ some_winner p rs ]
 
-pub live_is : (i : Image) (ws : List (Option Trace)) → IsTable i.shape.capacity (thin_winner i) (map (option_map bare) ws) → length (filter is_some ws) ≡ length (filter (has_record (counted i)) (range_with_len 0 i.shape.capacity))
+pub live_is : (i : Image) (ws : List (Option Trace)) → IsTable i.shape.capacity (thin_winner i) (map (option_map bare) ws)
+    → length (filter is_some ws) ≡ length (filter (has_record (counted i)) (range_with_len 0 i.shape.capacity))
 live_is i ws table =
-    sym (count_map is_some is_some (option_map bare) ws (some_mapped bare)) ∙ ap (λ os. length (filter is_some os)) (table_list i.shape.capacity (thin_winner i) (map (option_map bare) ws) table)
+    sym (count_map is_some is_some (option_map bare) ws (some_mapped bare))
+    ∙ ap (λ os. length (filter is_some os)) (table_list i.shape.capacity (thin_winner i) (map (option_map bare) ws) table)
     ∙ count_map (has_record (counted i)) is_some (thin_winner i) (range_with_len 0 i.shape.capacity)
     (λ lba. some_mapped without_sector (winner (counted i) lba) ∙ some_winner (λ r. is_of lba r.lba) (counted i))
 
@@ -200,27 +220,38 @@ pub named_is : (rs thins : List Record) → thins ≡ thin rs → named_count th
 named_is rs thins is = ap named_count is ∙ count_map (λ r. is_some r.lba) (λ r. is_some r.lba) without_sector rs (λ r. refl)
 
 -- one element more
-pub count_one : {X : Type 0} (p : X → Bool) (xs : List X) (k : ℕ) (d : X) (b : Bool) → k < length xs → p (get_or xs k d) ≡ b → length (filter p (take (k + 1) xs)) ≡ length (filter p (take k xs)) + cond b 1 0
+pub count_one : {X : Type 0} (p : X → Bool) (xs : List X) (k : ℕ) (d : X) (b : Bool) → k < length xs → p (get_or xs k d) ≡ b
+    → length (filter p (take (k + 1) xs)) ≡ length (filter p (take k xs)) + cond b 1 0
 count_one p xs k d b inside is =
-    ap (λ ys. length (filter p ys)) (take_one xs k d inside) ∙ ap length (filter-append p (take k xs) (get_or xs k d ∷ [])) ∙ length-append (filter p (take k xs)) (filter p (get_or xs k d ∷ []))
+    ap (λ ys. length (filter p ys)) (take_one xs k d inside) ∙ ap length (filter-append p (take k xs) (get_or xs k d ∷ []))
+    ∙ length-append (filter p (take k xs)) (filter p (get_or xs k d ∷ []))
     ∙ ap (λ n. length (filter p (take k xs)) + n) (cond_length (p (get_or xs k d)) (get_or xs k d) [] ∙ ap (λ c. cond c 1 0) is)
 
 pub named_both : (rs qs : List Record) → named_count (rs ++ qs) ≡ named_count rs + named_count qs
 named_both rs qs = ap length (filter-append (λ r. is_some r.lba) rs qs) ∙ length-append (filter (λ r. is_some r.lba) rs) (filter (λ r. is_some r.lba) qs)
 
-pub winners_are : (i : Image) (v : Survey) (ws : List (Option Record)) → IsSurvey i i.shape.chunks v → IsTable i.shape.capacity (winner (counted_after (bares v.traces.items) (option_map start_numbers v.head))) ws → IsTable i.shape.capacity (thin_winner i) ws
+pub winners_are : (i : Image) (v : Survey) (ws : List (Option Record)) → IsSurvey i i.shape.chunks v
+    → IsTable i.shape.capacity (winner (counted_after (bares v.traces.items) (option_map start_numbers v.head))) ws
+    → IsTable i.shape.capacity (thin_winner i) ws
 winners_are i v ws S table =
     table_same i.shape.capacity (winner (counted_after (bares v.traces.items) (option_map start_numbers v.head))) (thin_winner i) ws table
     (λ j below. sym (ap (λ x. winner x j) (counted_are i i.shape v refl S) ∙ winner_thin (counted i) j))
 
 -- through the slices that are passed
 
-pub winners_here : (i : Image) (v : Survey) (size : ℕ) (ts : List Trace) (best ws : List (Option Trace)) → IsSurvey i i.shape.chunks v → size ≡ i.shape.capacity → ts ≡ v.traces.items → ws ≡ best
-    → IsTable size (winner (counted_after (bares ts) (option_map start_numbers v.head))) (map (option_map bare) best) → IsTable i.shape.capacity (thin_winner i) (map (option_map bare) ws)
+pub winners_here : (i : Image) (v : Survey) (size : ℕ) (ts : List Trace) (best ws : List (Option Trace)) → IsSurvey i i.shape.chunks v → size ≡ i.shape.capacity
+    → ts ≡ v.traces.items → ws ≡ best
+    → IsTable size (winner (counted_after (bares ts) (option_map start_numbers v.head))) (map (option_map bare) best)
+    → IsTable i.shape.capacity (thin_winner i) (map (option_map bare) ws)
 winners_here i v size ts best ws S size-is ts-is ws-is table =
-    let here = subst (λ (xs : List Trace). IsTable size (winner (counted_after (bares xs) (option_map start_numbers v.head))) (map (option_map bare) best)) ts-is table in
-    let all = subst (λ n. IsTable n (winner (counted_after (bares v.traces.items) (option_map start_numbers v.head))) (map (option_map bare) best)) size-is here in
-    subst (λ (xs : List (Option Trace)). IsTable i.shape.capacity (thin_winner i) (map (option_map bare) xs)) (sym ws-is) (winners_are i v (map (option_map bare) best) S all)
+    let here = subst (λ (xs : List Trace). IsTable size (winner (counted_after (bares xs) (option_map start_numbers v.head))) (map (option_map bare) best))
+    ts-is table in
+    let all = subst (λ n. IsTable n (winner (counted_after (bares v.traces.items) (option_map start_numbers v.head))) (map (option_map bare) best)) size-is
+    here in
+    subst (λ (xs : List (Option Trace)). IsTable i.shape.capacity (thin_winner i) (map (option_map bare) xs)) (sym ws-is)
+    (winners_are i v (map (option_map bare) best) S all)
 
 pub lines_here : (n m : ℕ) (ts us : List Trace) → n ≡ m → us ≡ ts → AllByRecursion (λ t. t.line < m) ts → AllByRecursion (λ t. t.line < n) us
-lines_here n m ts us n-is us-is h = subst (λ k. AllByRecursion (λ (t : Trace). t.line < k) us) (sym n-is) (subst (λ (xs : List Trace). AllByRecursion (λ (t : Trace). t.line < m) xs) (sym us-is) h)
+lines_here n m ts us n-is us-is h =
+    subst (λ k. AllByRecursion (λ (t : Trace). t.line < k) us) (sym n-is)
+    (subst (λ (xs : List Trace). AllByRecursion (λ (t : Trace). t.line < m) xs) (sym us-is) h)

@@ -1,8 +1,7 @@
 -- The chunks of a line, unit by unit.
-use Rattle.std.proofs.Common.{◌≡◌, ℕ, ◌+◌, ◌<◌, ◌≤◌, zero, suc, inl, inr, Bool, true, false, cond, ◌&&◌, List, [], ◌∷◌, ◌++◌, length, map, Option, Some, None, refl, sym, ap, ◌∙◌, arith, add-zero, zero-add, append-nil}
+use Rattle.std.proofs.Common.{◌≡◌, ℕ, ◌+◌, ◌<◌, ◌≤◌, suc, inl, inr, Bool, true, false, cond, ◌&&◌, List, [], ◌∷◌, length, map, Option, Some, None, refl, sym, ap, ◌∙◌, arith, add-zero, zero-add}
 use Rattle.std.specs.List.{cons_option, filter, filter_map, enumerate_from, list_all, range_with_len, slice_get}
 use Rattle.std.specs.Option.{option_and_then, option_map_or}
-use Rattle.std.proofs.lemmas.Option.{none-some}
 use Rattle.std.proofs.lemmas.Bool.{cases_lt}
 use Rattle.pblk_model.specs.Chunk.{Chunk}
 use Rattle.pblk_model.specs.declared.chunk.ChunkState.{ChunkState}
@@ -10,9 +9,8 @@ use Rattle.pblk_model.specs.Image.{Image, is_online_in, line_units}
 use Rattle.pblk_laws.specs.LineBlocks.{chunk_in}
 use Rattle.pblk_world.specs.Lines.{are_empty, is_empty_state}
 use Rattle.scan_recovery.specs.Units.{IsStateOf}
-use Rattle.scan_recovery.proofs.Founds.{filter_range_one}
-use Rattle.lemmas.proofs.Tests.{and_false}
 use Rattle.pblk_model.proofs.ChunkLemmas.{map_cond}
+use Rattle.found_laws.proofs.States.{some_used}
 
 -- whether a unit's chunk of the line isn't Offline
 abbrev pub is_on : Image → ℕ → ℕ → Bool
@@ -21,62 +19,51 @@ is_on i line unit = option_map_or (λ (c : Chunk). is_online_in c.state) (chunk_
 abbrev on_unit : ℕ → ℕ × List Chunk → Bool
 on_unit line unit = option_map_or (λ (c : Chunk). is_online_in c.state) (slice_get unit.1 line) false
 
-from_range : (line a : ℕ) (p : ℕ → Bool) (us : List (List Chunk)) → ((k : ℕ) → k < length us → p (a + k) ≡ option_map_or (λ (c : Chunk). is_online_in c.state) (option_and_then (λ chunks. slice_get chunks line) (slice_get us k)) false)
+from_range : (line a : ℕ) (p : ℕ → Bool) (us : List (List Chunk))
+    → ((k : ℕ) → k < length us → p (a + k) ≡ option_map_or (λ (c : Chunk). is_online_in c.state)
+    (option_and_then (λ chunks. slice_get chunks line) (slice_get us k)) false)
     → map (λ (u : ℕ × List Chunk). u.0) (filter (on_unit line) (enumerate_from a us)) ≡ filter p (range_with_len a (length us))
 from_range line a p [] h = refl
 from_range line a p (u ∷ us) h =
     let first : p a ≡ on_unit line (a, u) = ap p (sym (add-zero a)) ∙ h 0 (omega arith) in
     map_cond (on_unit line (a, u)) (a, u) (filter (on_unit line) (enumerate_from (a + 1) us))
-    ∙ ap (λ xs. cond (on_unit line (a, u)) (a ∷ xs) xs) (from_range line (a + 1) p us (λ k below. (let place : a + 1 + k ≡ a + suc k = omega arith in ap p place ∙ h (suc k) (omega arith))))
+    ∙ ap (λ xs. cond (on_unit line (a, u)) (a ∷ xs) xs)
+    (from_range line (a + 1) p us (λ k below. (let place : a + 1 + k ≡ a + suc k = omega arith in ap p place ∙ h (suc k) (omega arith))))
     ∙ ap (λ b. cond b (a ∷ filter p (range_with_len (a + 1) (length us))) (filter p (range_with_len (a + 1) (length us)))) (sym first)
 
 pub line_units_range : (i : Image) (line : ℕ) → line_units i line ≡ filter (is_on i line) (range_with_len 0 (length i.units))
 line_units_range i line = from_range line 0 (is_on i line) i.units (λ k below. ap (is_on i line) (zero-add k))
 
-pub online_more : (i : Image) (line unit : ℕ) (state : ChunkState) (front now : List ℕ) → IsStateOf i line unit state → is_online_in state ≡ true → now ≡ front ++ unit ∷ [] → front ≡ filter (is_on i line) (range_with_len 0 unit)
-    → now ≡ filter (is_on i line) (range_with_len 0 (unit + 1))
-online_more i line unit state front now (c, there, is) on now-is front-is =
-    let here : is_on i line unit ≡ true = ap (λ o. option_map_or (λ (c : Chunk). is_online_in c.state) o false) there ∙ ap is_online_in (sym is) ∙ on in
-    now-is ∙ ap (λ xs. xs ++ unit ∷ []) front-is ∙ sym (filter_range_one (is_on i line) unit ∙ ap (λ b. filter (is_on i line) (range_with_len 0 unit) ++ cond b (unit ∷ []) []) here)
-
-pub online_none : (i : Image) (line unit : ℕ) (state : ChunkState) (front : List ℕ) → IsStateOf i line unit state → is_online_in state ≡ false → front ≡ filter (is_on i line) (range_with_len 0 unit) → front ≡ filter (is_on i line) (range_with_len 0 (unit + 1))
-online_none i line unit state front (c, there, is) off front-is =
-    let here : is_on i line unit ≡ false = ap (λ o. option_map_or (λ (c : Chunk). is_online_in c.state) o false) there ∙ ap is_online_in (sym is) ∙ off in
-    front-is ∙ sym (filter_range_one (is_on i line) unit ∙ ap (λ b. filter (is_on i line) (range_with_len 0 unit) ++ cond b (unit ∷ []) []) here ∙ append-nil (filter (is_on i line) (range_with_len 0 unit)))
+pub on_is : (i : Image) (line unit : ℕ) (state : ChunkState) → IsStateOf i line unit state → is_on i line unit ≡ is_online_in state
+on_is i line unit state (c, there, is) = ap (λ o. option_map_or (λ (c : Chunk). is_online_in c.state) o false) there ∙ ap is_online_in (sym is)
 
 -- Whether a line is empty.
 
 abbrev empties : ℕ → List (List Chunk) → Bool
 empties line us = list_all (λ (c : Chunk). is_empty_state c.state) (filter_map (λ unit. slice_get unit line) us)
 
-cons_all : (o : Option Chunk) (cs : List Chunk) → option_map_or (λ (c : Chunk). is_empty_state c.state) o true ≡ true → list_all (λ (c : Chunk). is_empty_state c.state) (cons_option o cs) ≡ list_all (λ (c : Chunk). is_empty_state c.state) cs
+cons_all : (o : Option Chunk) (cs : List Chunk) → option_map_or (λ (c : Chunk). is_empty_state c.state) o true ≡ true
+    → list_all (λ (c : Chunk). is_empty_state c.state) (cons_option o cs) ≡ list_all (λ (c : Chunk). is_empty_state c.state) cs
 cons_all None cs h = refl
 cons_all (Some c) cs h = ap (λ b. b && list_all (λ (c : Chunk). is_empty_state c.state) cs) h
 
-pub all_empty : (line : ℕ) (us : List (List Chunk)) → ((k : ℕ) → k < length us → option_map_or (λ (c : Chunk). is_empty_state c.state) (option_and_then (λ chunks. slice_get chunks line) (slice_get us k)) true ≡ true) → empties line us ≡ true
+pub all_empty : (line : ℕ) (us : List (List Chunk))
+    → ((k : ℕ) → k < length us → option_map_or (λ (c : Chunk). is_empty_state c.state)
+    (option_and_then (λ chunks. slice_get chunks line) (slice_get us k)) true ≡ true) → empties line us ≡ true
 all_empty line [] h = refl
-all_empty line (u ∷ us) h = cons_all (slice_get u line) (filter_map (λ unit. slice_get unit line) us) (h 0 (omega arith)) ∙ all_empty line us (λ k below. h (suc k) (omega arith))
-
-cons_some : (o : Option Chunk) (cs : List Chunk) (c : Chunk) → o ≡ Some c → is_empty_state c.state ≡ false → list_all (λ (c : Chunk). is_empty_state c.state) (cons_option o cs) ≡ false
-cons_some o cs c e h = ap (λ x. list_all (λ (c : Chunk). is_empty_state c.state) (cons_option x cs)) e ∙ ap (λ b. b && list_all (λ (c : Chunk). is_empty_state c.state) cs) h
-
-cons_rest : (o : Option Chunk) (cs : List Chunk) → list_all (λ (c : Chunk). is_empty_state c.state) cs ≡ false → list_all (λ (c : Chunk). is_empty_state c.state) (cons_option o cs) ≡ false
-cons_rest None cs h = h
-cons_rest (Some c) cs h = and_false (is_empty_state c.state) (list_all (λ (c : Chunk). is_empty_state c.state) cs) h
-
-pub some_used : (line : ℕ) (us : List (List Chunk)) (k : ℕ) (c : Chunk) → option_and_then (λ chunks. slice_get chunks line) (slice_get us k) ≡ Some c → is_empty_state c.state ≡ false → empties line us ≡ false
-some_used line [] k c there h = absurd (none-some c there)
-some_used line (u ∷ us) zero c there h = cons_some (slice_get u line) (filter_map (λ unit. slice_get unit line) us) c there h
-some_used line (u ∷ us) (suc k) c there h = cons_rest (slice_get u line) (filter_map (λ unit. slice_get unit line) us) (some_used line us k c there h)
+all_empty line (u ∷ us) h = cons_all (slice_get u line) (filter_map (λ unit. slice_get unit line) us) (h 0 (omega arith))
+    ∙ all_empty line us (λ k below. h (suc k) (omega arith))
 
 -- the first n units have no used chunk of the line
 abbrev pub AreEmptyTo : Image → ℕ → ℕ → Type 0
 AreEmptyTo i line n = (k : ℕ) → k < n → option_map_or (λ (c : Chunk). is_empty_state c.state) (chunk_in i line k) true ≡ true
 
-pub empty_more : (i : Image) (line unit : ℕ) (state : ChunkState) → IsStateOf i line unit state → is_empty_state state ≡ true → AreEmptyTo i line unit → AreEmptyTo i line (unit + 1)
+pub empty_more : (i : Image) (line unit : ℕ) (state : ChunkState) → IsStateOf i line unit state → is_empty_state state ≡ true → AreEmptyTo i line unit
+    → AreEmptyTo i line (unit + 1)
 empty_more i line unit state (c, there, is) empty before k below = elim (cases_lt k unit) [
   | inl less ↦ before k less
-  | inr most ↦ let same : k ≡ unit = omega arith in ap (λ n. option_map_or (λ (c : Chunk). is_empty_state c.state) (chunk_in i line n) true) same ∙ ap (λ o. option_map_or (λ (c : Chunk). is_empty_state c.state) o true) there ∙ ap is_empty_state (sym is) ∙ empty
+  | inr most ↦ let same : k ≡ unit = omega arith in ap (λ n. option_map_or (λ (c : Chunk). is_empty_state c.state) (chunk_in i line n) true) same
+      ∙ ap (λ o. option_map_or (λ (c : Chunk). is_empty_state c.state) o true) there ∙ ap is_empty_state (sym is) ∙ empty
 ]
 
 pub is_empty_line : (i : Image) (line n : ℕ) → length i.units ≤ n → AreEmptyTo i line n → are_empty i line ≡ true

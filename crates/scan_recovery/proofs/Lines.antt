@@ -14,6 +14,7 @@ use Rattle.pblk_model.specs.Records.{Record}
 use Rattle.scan_recovery.specs.declared.trace.Trace.{Trace}
 use Rattle.scan_recovery.specs.Reading.{run_of, sectors_of, have_mark, start_from, start_among, end_from, end_among, record_in, traces_from}
 use Rattle.scan_recovery.specs.Traces.{bare, bares, without_sector}
+use Rattle.scan_recovery.proofs.PackedLines.{drop_one}
 use Rattle.lemmas.proofs.Maps.{map_last}
 use Rattle.lemmas.proofs.Parts.{drop_past, take_all}
 
@@ -22,7 +23,8 @@ use Rattle.lemmas.proofs.Parts.{drop_past, take_all}
 abbrev bytes_of : List Block → List ℕ
 bytes_of blocks = flat_map (λ b. b.sector) blocks
 
-map_twice : (b : Block) (o : Option (List Block)) → option_map (λ rest. b.sector ++ rest) (option_map bytes_of o) ≡ option_map bytes_of (option_map (λ rest. b ∷ rest) o)
+map_twice : (b : Block) (o : Option (List Block))
+    → option_map (λ rest. b.sector ++ rest) (option_map bytes_of o) ≡ option_map bytes_of (option_map (λ rest. b ∷ rest) o)
 map_twice b None = refl
 map_twice b (Some blocks) = refl
 
@@ -36,7 +38,8 @@ record IsWritten (bs : List (Option Block)) (bytes : List ℕ) : Type 0 where
   run : run_of bs ≡ Some blocks
   bytes_are : bytes_of blocks ≡ bytes
 
-written_by : (o : Option (List Block)) (bytes : List ℕ) → option_map bytes_of o ≡ Some bytes → (blocks : List Block) × (o ≡ Some blocks) × (bytes_of blocks ≡ bytes)
+written_by : (o : Option (List Block)) (bytes : List ℕ) → option_map bytes_of o ≡ Some bytes
+    → (blocks : List Block) × (o ≡ Some blocks) × (bytes_of blocks ≡ bytes)
 written_by None bytes h = absurd (none-some bytes h)
 written_by (Some blocks) bytes h = (blocks, refl, same_Some (bytes_of blocks) bytes h)
 
@@ -50,7 +53,8 @@ none_by (Some blocks) h = absurd (none-some (bytes_of blocks) (sym h))
 unwritten : (bs : List (Option Block)) → sectors_of bs ≡ None → run_of bs ≡ None
 unwritten bs h = none_by (run_of bs) (sym (sectors_run bs) ∙ h)
 
-cons_by : (b : Block) (o : Option (List Block)) (blocks : List Block) → option_map (λ rest. b ∷ rest) o ≡ Some blocks → (rest : List Block) × (o ≡ Some rest) × (b ∷ rest ≡ blocks)
+cons_by : (b : Block) (o : Option (List Block)) (blocks : List Block) → option_map (λ rest. b ∷ rest) o ≡ Some blocks
+    → (rest : List Block) × (o ≡ Some rest) × (b ∷ rest ≡ blocks)
 cons_by b None blocks h = absurd (none-some blocks h)
 cons_by b (Some rest) blocks h = (rest, refl, same_Some (b ∷ rest) blocks h)
 
@@ -69,10 +73,12 @@ mark_run seq (Some b ∷ bs) blocks h =
 marked_by : (blocks : List Block) (r : StartRecord) (b : Bool) → have_meta r.seq blocks ≡ b → marked_start blocks (Some r) ≡ cond b (Some r) None
 marked_by blocks r b h = ap (λ x. cond x (Some r) None) h
 
-start_run : (s : Shape) (line g : ℕ) (bs : List (Option Block)) (bytes : List ℕ) (w : IsWritten bs bytes) → start_from s line g (run_of bs) ≡ marked_start w.blocks (read_start s line g bytes)
+start_run : (s : Shape) (line g : ℕ) (bs : List (Option Block)) (bytes : List ℕ) (w : IsWritten bs bytes)
+    → start_from s line g (run_of bs) ≡ marked_start w.blocks (read_start s line g bytes)
 start_run s line g bs bytes w = ap (start_from s line g) w.run ∙ ap (λ x. marked_start w.blocks (read_start s line g x)) w.bytes_are
 
-start_long : (s : Shape) (line g n : ℕ) (bs : List (Option Block)) → n ≡ start_len s → n ≤ length bs → start_among s line g bs ≡ start_from s line g (run_of (take n bs))
+start_long : (s : Shape) (line g n : ℕ) (bs : List (Option Block)) → n ≡ start_len s → n ≤ length bs
+    → start_among s line g bs ≡ start_from s line g (run_of (take n bs))
 unfolding start_among
 start_long s line g n bs n-is long =
     ap (λ b. cond b None (start_from s line g (run_of (take (start_len s) bs)))) (le-ltb (length bs) (start_len s) (omega arith))
@@ -80,25 +86,31 @@ start_long s line g n bs n-is long =
 
 pub start_short : (s : Shape) (line g n : ℕ) (bs : List (Option Block)) → n ≡ start_len s → length bs < n → None ≡ start_among s line g bs
 unfolding start_among
-start_short s line g n bs n-is short = sym (ap (λ b. cond b None (start_from s line g (run_of (take (start_len s) bs)))) (lt-ltb (length bs) (start_len s) (omega arith)))
+start_short s line g n bs n-is short =
+    sym (ap (λ b. cond b None (start_from s line g (run_of (take (start_len s) bs)))) (lt-ltb (length bs) (start_len s) (omega arith)))
 
-pub start_unwritten : (s : Shape) (line g n : ℕ) (bs : List (Option Block)) → n ≡ start_len s → n ≤ length bs → sectors_of (take n bs) ≡ None → None ≡ start_among s line g bs
+pub start_unwritten : (s : Shape) (line g n : ℕ) (bs : List (Option Block)) → n ≡ start_len s → n ≤ length bs → sectors_of (take n bs) ≡ None
+    → None ≡ start_among s line g bs
 start_unwritten s line g n bs n-is long none = sym (start_long s line g n bs n-is long ∙ ap (start_from s line g) (unwritten (take n bs) none))
 
-pub start_unread : (s : Shape) (line g n : ℕ) (bs : List (Option Block)) (bytes : List ℕ) → n ≡ start_len s → n ≤ length bs → sectors_of (take n bs) ≡ Some bytes → read_start s line g bytes ≡ None → None ≡ start_among s line g bs
+pub start_unread : (s : Shape) (line g n : ℕ) (bs : List (Option Block)) (bytes : List ℕ) → n ≡ start_len s → n ≤ length bs
+    → sectors_of (take n bs) ≡ Some bytes → read_start s line g bytes ≡ None → None ≡ start_among s line g bs
 start_unread s line g n bs bytes n-is long some none =
     let w = written (take n bs) bytes some in
     sym (start_long s line g n bs n-is long ∙ start_run s line g (take n bs) bytes w ∙ ap (marked_start w.blocks) none)
 
-pub start_read : (s : Shape) (line g n : ℕ) (bs : List (Option Block)) (bytes : List ℕ) (r : StartRecord) (b : Bool) → n ≡ start_len s → n ≤ length bs → sectors_of (take n bs) ≡ Some bytes → read_start s line g bytes ≡ Some r
+pub start_read : (s : Shape) (line g n : ℕ) (bs : List (Option Block)) (bytes : List ℕ) (r : StartRecord) (b : Bool) → n ≡ start_len s → n ≤ length bs
+    → sectors_of (take n bs) ≡ Some bytes → read_start s line g bytes ≡ Some r
     → have_mark r.seq (take n bs) ≡ b → cond b (Some r) None ≡ start_among s line g bs
 start_read s line g n bs bytes r b n-is long some read mark =
     let w = written (take n bs) bytes some in
-    sym (start_long s line g n bs n-is long ∙ start_run s line g (take n bs) bytes w ∙ ap (marked_start w.blocks) read ∙ marked_by w.blocks r b (sym (mark_run r.seq (take n bs) w.blocks w.run) ∙ mark))
+    sym (start_long s line g n bs n-is long ∙ start_run s line g (take n bs) bytes w ∙ ap (marked_start w.blocks) read
+    ∙ marked_by w.blocks r b (sym (mark_run r.seq (take n bs) w.blocks w.run) ∙ mark))
 
 -- The end record.
 
-end_long : (s : Shape) (line g seq n : ℕ) (bs : List (Option Block)) → n ≡ end_len s g → n ≤ length bs → end_among s line g seq bs ≡ end_from s line g seq (run_of (drop (length bs - n) bs))
+end_long : (s : Shape) (line g seq n : ℕ) (bs : List (Option Block)) → n ≡ end_len s g → n ≤ length bs
+    → end_among s line g seq bs ≡ end_from s line g seq (run_of (drop (length bs - n) bs))
 unfolding end_among
 end_long s line g seq n bs n-is long =
     ap (λ b. cond b None (end_from s line g seq (run_of (drop (length bs - end_len s g) bs)))) (le-ltb (length bs) (end_len s g) (omega arith))
@@ -106,43 +118,48 @@ end_long s line g seq n bs n-is long =
 
 pub end_short : (s : Shape) (line g seq n : ℕ) (bs : List (Option Block)) → n ≡ end_len s g → length bs < n → None ≡ end_among s line g seq bs
 unfolding end_among
-end_short s line g seq n bs n-is short = sym (ap (λ b. cond b None (end_from s line g seq (run_of (drop (length bs - end_len s g) bs)))) (lt-ltb (length bs) (end_len s g) (omega arith)))
+end_short s line g seq n bs n-is short =
+    sym (ap (λ b. cond b None (end_from s line g seq (run_of (drop (length bs - end_len s g) bs)))) (lt-ltb (length bs) (end_len s g) (omega arith)))
 
-end_none : (s : Shape) (line g seq : ℕ) (bs : List (Option Block)) (o : Option (List Block)) → run_of bs ≡ o → have_mark seq bs ≡ false → end_from s line g seq o ≡ None
+end_none : (s : Shape) (line g seq : ℕ) (bs : List (Option Block)) (o : Option (List Block)) → run_of bs ≡ o → have_mark seq bs ≡ false
+    → end_from s line g seq o ≡ None
 end_none s line g seq bs None is h = refl
 end_none s line g seq bs (Some blocks) is h = ap (λ b. cond b (read_end s line g seq (bytes_of blocks)) None) (sym (mark_run seq bs blocks is) ∙ h)
 
-pub end_unmarked : (s : Shape) (line g seq n : ℕ) (bs : List (Option Block)) → n ≡ end_len s g → n ≤ length bs → have_mark seq (drop (length bs - n) bs) ≡ false → None ≡ end_among s line g seq bs
-end_unmarked s line g seq n bs n-is long mark = sym (end_long s line g seq n bs n-is long ∙ end_none s line g seq (drop (length bs - n) bs) (run_of (drop (length bs - n) bs)) refl mark)
+pub end_unmarked : (s : Shape) (line g seq n : ℕ) (bs : List (Option Block)) → n ≡ end_len s g → n ≤ length bs → have_mark seq (drop (length bs - n) bs) ≡ false
+    → None ≡ end_among s line g seq bs
+end_unmarked s line g seq n bs n-is long mark =
+    sym (end_long s line g seq n bs n-is long ∙ end_none s line g seq (drop (length bs - n) bs) (run_of (drop (length bs - n) bs)) refl mark)
 
-pub end_unwritten : (s : Shape) (line g seq n : ℕ) (bs : List (Option Block)) → n ≡ end_len s g → n ≤ length bs → sectors_of (drop (length bs - n) bs) ≡ None → None ≡ end_among s line g seq bs
-end_unwritten s line g seq n bs n-is long none = sym (end_long s line g seq n bs n-is long ∙ ap (end_from s line g seq) (unwritten (drop (length bs - n) bs) none))
+pub end_unwritten : (s : Shape) (line g seq n : ℕ) (bs : List (Option Block)) → n ≡ end_len s g → n ≤ length bs → sectors_of (drop (length bs - n) bs) ≡ None
+    → None ≡ end_among s line g seq bs
+end_unwritten s line g seq n bs n-is long none =
+    sym (end_long s line g seq n bs n-is long ∙ ap (end_from s line g seq) (unwritten (drop (length bs - n) bs) none))
 
-pub end_reads : (s : Shape) (line g seq n : ℕ) (bs : List (Option Block)) (bytes : List ℕ) (o : Option EndRecord) → n ≡ end_len s g → n ≤ length bs → have_mark seq (drop (length bs - n) bs) ≡ true
+pub end_reads : (s : Shape) (line g seq n : ℕ) (bs : List (Option Block)) (bytes : List ℕ) (o : Option EndRecord) → n ≡ end_len s g → n ≤ length bs
+    → have_mark seq (drop (length bs - n) bs) ≡ true
     → sectors_of (drop (length bs - n) bs) ≡ Some bytes → o ≡ read_end s line g seq bytes → o ≡ end_among s line g seq bs
 end_reads s line g seq n bs bytes o n-is long mark some o-is =
     let run : List (Option Block) = drop (length bs - n) bs in
     let w = written run bytes some in
     let read : end_from s line g seq (run_of run) ≡ read_end s line g seq bytes =
-    ap (end_from s line g seq) w.run ∙ ap (λ b. cond b (read_end s line g seq (bytes_of w.blocks)) None) (sym (mark_run seq run w.blocks w.run) ∙ mark) ∙ ap (read_end s line g seq) w.bytes_are in
+    ap (end_from s line g seq) w.run ∙ ap (λ b. cond b (read_end s line g seq (bytes_of w.blocks)) None) (sym (mark_run seq run w.blocks w.run) ∙ mark)
+    ∙ ap (read_end s line g seq) w.bytes_are in
     o-is ∙ sym (end_long s line g seq n bs n-is long ∙ read)
 
 -- The records.
-
-drop_one : {X : Type 0} (xs : List X) (k : ℕ) (d : X) → k < length xs → drop k xs ≡ get_or xs k d ∷ drop (k + 1) xs
-drop_one [] k d h = absurd (omega arith)
-drop_one (x ∷ xs) zero d h = refl
-drop_one (x ∷ xs) (suc k) d h = let e : suc k + 1 ≡ suc (k + 1) = omega arith in drop_one xs k d (omega arith) ∙ ap (λ n. get_or xs k d ∷ drop n (x ∷ xs)) (sym e)
 
 some_trace : (front : List Record) (o : Option Record) (rest : List Record) (r : Record) → o ≡ Some r → front ++ cons_option o rest ≡ (front ++ r ∷ []) ++ rest
 some_trace front o rest r is = ap (λ x. front ++ cons_option x rest) is ∙ sym (append_assoc front (r ∷ []) rest)
 
 traces_one : (s : Shape) (line seq : ℕ) (e : Option EndRecord) (bs : List (Option Block)) (k : ℕ) (d : Option Block) → k < length bs
-    → traces_from s line seq e k (drop k bs) ≡ cons_option (option_map without_sector (record_in s line seq e k (get_or bs k d))) (traces_from s line seq e (k + 1) (drop (k + 1) bs))
+    → traces_from s line seq e k (drop k bs) ≡ cons_option (option_map without_sector (record_in s line seq e k (get_or bs k d)))
+    (traces_from s line seq e (k + 1) (drop (k + 1) bs))
 unfolding traces_from
 traces_one s line seq e bs k d inside = ap (traces_from s line seq e k) (drop_one bs k d inside)
 
-pub trace_more : (s : Shape) (line seq : ℕ) (e : Option EndRecord) (bs : List (Option Block)) (k : ℕ) (d : Option Block) (front now : List Trace) (t : Trace) (o : Option Trace) (total : List Record) → k < length bs
+pub trace_more : (s : Shape) (line seq : ℕ) (e : Option EndRecord) (bs : List (Option Block)) (k : ℕ) (d : Option Block) (front now : List Trace) (t : Trace)
+    (o : Option Trace) (total : List Record) → k < length bs
     → option_map bare o ≡ option_map without_sector (record_in s line seq e k (get_or bs k d)) → o ≡ Some t → now ≡ front ++ t ∷ []
     → bares front ++ traces_from s line seq e k (drop k bs) ≡ total → bares now ++ traces_from s line seq e (k + 1) (drop (k + 1) bs) ≡ total
 trace_more s line seq e bs k d front now t o total inside o-is some now-is so_far =
@@ -152,7 +169,8 @@ trace_more s line seq e bs k d front now t o total inside o-is some now-is so_fa
     ∙ sym (some_trace (bares front) (option_map without_sector (record_in s line seq e k (get_or bs k d))) rest (bare t) r)
     ∙ ap (λ rs. bares front ++ rs) (sym (traces_one s line seq e bs k d inside)) ∙ so_far
 
-pub trace_none : (s : Shape) (line seq : ℕ) (e : Option EndRecord) (bs : List (Option Block)) (k : ℕ) (d : Option Block) (front : List Trace) (o : Option Trace) (total : List Record) → k < length bs
+pub trace_none : (s : Shape) (line seq : ℕ) (e : Option EndRecord) (bs : List (Option Block)) (k : ℕ) (d : Option Block) (front : List Trace) (o : Option Trace)
+    (total : List Record) → k < length bs
     → option_map bare o ≡ option_map without_sector (record_in s line seq e k (get_or bs k d)) → o ≡ None
     → bares front ++ traces_from s line seq e k (drop k bs) ≡ total → bares front ++ traces_from s line seq e (k + 1) (drop (k + 1) bs) ≡ total
 trace_none s line seq e bs k d front o total inside o-is none so_far =
@@ -160,10 +178,12 @@ trace_none s line seq e bs k d front o total inside o-is none so_far =
     let r : option_map without_sector (record_in s line seq e k (get_or bs k d)) ≡ None = sym o-is ∙ ap (option_map bare) none in
     ap (λ x. bares front ++ cons_option x rest) (sym r) ∙ ap (λ rs. bares front ++ rs) (sym (traces_one s line seq e bs k d inside)) ∙ so_far
 
-pub traces_done : (s : Shape) (line seq : ℕ) (e : Option EndRecord) (bs : List (Option Block)) (k : ℕ) (front : List Trace) (total : List Record) → length bs ≤ k
+pub traces_done : (s : Shape) (line seq : ℕ) (e : Option EndRecord) (bs : List (Option Block)) (k : ℕ) (front : List Trace) (total : List Record)
+    → length bs ≤ k
     → bares front ++ traces_from s line seq e k (drop k bs) ≡ total → bares front ≡ total
 unfolding traces_from
-traces_done s line seq e bs k front total past so_far = sym (append-nil (bares front)) ∙ sym (ap (λ x. bares front ++ traces_from s line seq e k x) (drop_past bs k past)) ∙ so_far
+traces_done s line seq e bs k front total past so_far = sym (append-nil (bares front))
+    ∙ sym (ap (λ x. bares front ++ traces_from s line seq e k x) (drop_past bs k past)) ∙ so_far
 
 -- the blocks behind a place
 pub tail_is : {X : Type 0} (bs : List X) (k : ℕ) → take (length bs - k) (drop k bs) ≡ drop k bs

@@ -23,7 +23,10 @@ unarmed_after us e next calm = subst AreUnarmed (sym (after_one_is us e next.uni
   where
     go : (k : ℕ) (u : ModelUnit) → slice_get (slice_set us e.unit (with_event next.unit e.event)) k ≡ Some u → Dec (k ≡ e.unit) → IsUnarmed u.armed
     go k u there (yes same) =
-        let is : with_event next.unit e.event ≡ u = same_Some (with_event next.unit e.event) u (sym (get_set_same us e.unit (with_event next.unit e.event) (slice_get_within us e.unit next.unit next.there)) ∙ ap (slice_get (slice_set us e.unit (with_event next.unit e.event))) (sym same) ∙ there) in
+        let is : with_event next.unit e.event ≡ u =
+        same_Some (with_event next.unit e.event) u
+        (sym (get_set_same us e.unit (with_event next.unit e.event) (slice_get_within us e.unit next.unit next.there))
+        ∙ ap (slice_get (slice_set us e.unit (with_event next.unit e.event))) (sym same) ∙ there) in
         subst (λ (x : ModelUnit). IsUnarmed x.armed) is (calm e.unit next.unit next.there)
     go k u there (no apart) = calm k u (sym (get_set_other us e.unit k (with_event next.unit e.event) apart) ∙ there)
 
@@ -33,11 +36,13 @@ IsKept e = (is_fail e.event.outcome ≡ false) × (is_stop e.event.outcome ≡ f
 
 pads_kept : (s : Shape) (us : List ModelUnit) (events : List EventAt) → AreUnarmed us → ArePads s us events → AllByRecursion IsKept events
 pads_kept s us [] calm pads = tt
-pads_kept s us (e ∷ events) calm pads = (pads.1.quiet (calm e.unit pads.1.unit pads.1.there), pads_kept s (after_one us e) events (unarmed_after us e pads.1 calm) pads.2)
+pads_kept s us (e ∷ events) calm pads =
+    (pads.1.quiet (calm e.unit pads.1.unit pads.1.there), pads_kept s (after_one us e) events (unarmed_after us e pads.1 calm) pads.2)
 
 next_kept : (us : List ModelUnit) (events : List EventAt) → AreUnarmed us → AreNext us events → AllByRecursion IsKept events
 next_kept us [] calm next = tt
-next_kept us (e ∷ events) calm next = (next.0.quiet (calm e.unit next.0.unit next.0.there), next_kept (after_one us e) events (unarmed_after us e next.0 calm) next.1)
+next_kept us (e ∷ events) calm next =
+    (next.0.quiet (calm e.unit next.0.unit next.0.there), next_kept (after_one us e) events (unarmed_after us e next.0 calm) next.1)
 
 last_kept : (front : List EventAt) (last : EventAt) → AllByRecursion IsKept (front ++ last ∷ []) → IsKept last
 last_kept [] last all = all.0
@@ -48,13 +53,17 @@ not_lost (Answered answer) f g = refl
 not_lost (Failed k) f g = absurd cc
 not_lost (Stopped k) f g = absurd cc
 
-pub none_stopped : (s : Shape) (old new : List ModelUnit) (events : List EventAt) (unit event : ℕ) → AreUnarmed old → HasPadded s old new events (Err (errors.Drive unit event)) → ⊥
+pub none_stopped : (s : Shape) (old new : List ModelUnit) (events : List EventAt) (unit event : ℕ) → AreUnarmed old
+    → HasPadded s old new events (Err (errors.Drive unit event)) → ⊥
 none_stopped s old new events unit event calm padded =
-    let all : AllByRecursion IsKept (padded.ends.0 ++ padded.ends.1 ∷ []) = subst (AllByRecursion IsKept) padded.ends.2 (pads_kept s old events calm padded.pads) in
+    let all : AllByRecursion IsKept (padded.ends.0 ++ padded.ends.1 ∷ []) =
+    subst (AllByRecursion IsKept) padded.ends.2 (pads_kept s old events calm padded.pads) in
     not_both (is_stop padded.ends.1.event.outcome) padded.ends.5 (last_kept padded.ends.0 padded.ends.1 all).1
 
-pub none_lost : (s : Shape) (old new : List ModelUnit) (events : List EventAt) (unit event : ℕ) → AreUnarmed old → HasFetched s old new events (Some (errors.Drive unit event)) → ⊥
+pub none_lost : (s : Shape) (old new : List ModelUnit) (events : List EventAt) (unit event : ℕ) → AreUnarmed old
+    → HasFetched s old new events (Some (errors.Drive unit event)) → ⊥
 none_lost s old new events unit event calm fetched =
-    let all : AllByRecursion IsKept (fetched.ends.0 ++ fetched.ends.1 ∷ []) = subst (AllByRecursion IsKept) fetched.ends.2 (next_kept old events calm fetched.next) in
+    let all : AllByRecursion IsKept (fetched.ends.0 ++ fetched.ends.1 ∷ []) =
+    subst (AllByRecursion IsKept) fetched.ends.2 (next_kept old events calm fetched.next) in
     let kept : IsKept fetched.ends.1 = last_kept fetched.ends.0 fetched.ends.1 all in
     not_both (is_lost fetched.ends.1.event.outcome) fetched.ends.5 (not_lost fetched.ends.1.event.outcome kept.0 kept.1)

@@ -42,10 +42,13 @@ use Rattle.lemmas.proofs.Parts.{all_get, get_set_other, get_set_same}
 pub fit_image : (s : Shape) (us : List ModelUnit) → AreFit s us → IsFit (image_of s us)
 fit_image s us fit = record {
   units = length-map us (λ (u : ModelUnit). u.media) ∙ fit.count;
-  chunks = each_unit (λ unit. length unit ≡ s.chunks) (λ u. u.media) us (λ k u h. let of = fit.each k u h in of.fits.count ∙ ap (λ (x : Shape). x.chunks) of.shape);
-  each = each_unit (AllByRecursion (IsChunk s)) (λ u. u.media) us (λ k u h. let of = fit.each k u h in subst (λ (x : Shape). AllByRecursion (IsChunk x) u.media) of.shape of.fits.chunks);
+  chunks = each_unit (λ unit. length unit ≡ s.chunks) (λ u. u.media) us
+      (λ k u h. let of = fit.each k u h in of.fits.count ∙ ap (λ (x : Shape). x.chunks) of.shape);
+  each = each_unit (AllByRecursion (IsChunk s)) (λ u. u.media) us
+      (λ k u h. let of = fit.each k u h in subst (λ (x : Shape). AllByRecursion (IsChunk x) u.media) of.shape of.fits.chunks);
 } where
-  each_unit : {X : Type 0} (P : X → Type 0) (f : ModelUnit → X) (us : List ModelUnit) → ((k : ℕ) (u : ModelUnit) → slice_get us k ≡ Some u → P (f u)) → AllByRecursion P (map f us)
+  each_unit : {X : Type 0} (P : X → Type 0) (f : ModelUnit → X) (us : List ModelUnit) → ((k : ℕ) (u : ModelUnit) → slice_get us k ≡ Some u → P (f u))
+      → AllByRecursion P (map f us)
   each_unit P f [] h = tt
   each_unit P f (u ∷ us) h = (h 0 u refl, each_unit P f us (λ k. h (suc k)))
 
@@ -73,7 +76,10 @@ fit_after s us e accepted fit h = subst (AreFit s) (sym (after_one_is us e h.uni
   at_place k v there (yes same) =
       let of = fit.each e.unit h.unit h.there in
       let some : 0 < h.unit.shape.ws_min = subst (λ (x : Shape). 0 < x.ws_min) (sym of.shape) accepted.drive.ws_min in
-      let is : with_event h.unit e.event ≡ v = same_Some (with_event h.unit e.event) v (sym (get_set_same us e.unit (with_event h.unit e.event) (slice_get_within us e.unit h.unit h.there)) ∙ ap (slice_get (slice_set us e.unit (with_event h.unit e.event))) (sym same) ∙ there) in
+      let is : with_event h.unit e.event ≡ v =
+      same_Some (with_event h.unit e.event) v
+      (sym (get_set_same us e.unit (with_event h.unit e.event) (slice_get_within us e.unit h.unit h.there))
+      ∙ ap (slice_get (slice_set us e.unit (with_event h.unit e.event))) (sym same) ∙ there) in
       subst (IsUnitOf s) is (record { shape = of.shape; fits = event_fits h.unit e.event some of.fits h.event })
   at_place k v there (no other) = fit.each k v (sym (get_set_other us e.unit k (with_event h.unit e.event) other) ∙ there)
 
@@ -86,26 +92,33 @@ event_leaves s us e accepted fit pad h =
     let c : Chunk = h.event.found in
     let same : pad.found ≡ c = same_Some pad.found c (sym pad.there ∙ event_was s us e h) in
     let is_open : c.state ≡ Open = ap (λ (x : Chunk). x.state) (sym same) ∙ pad.is_open in
-    let chunk : IsChunk s c = subst (λ (x : Shape). IsChunk x c) of.shape (all_get (IsChunk h.unit.shape) h.unit.media e.event.chunk c of.fits.chunks h.event.there) in
+    let chunk : IsChunk s c = subst (λ (x : Shape). IsChunk x c) of.shape
+    (all_get (IsChunk h.unit.shape) h.unit.media e.event.chunk c of.fits.chunks h.event.there) in
     let at : ℕ = pointer pad.found in
     let n : ℕ = (at / s.ws_opt + 1) * s.ws_opt - at in
     let some : 0 < n = (let above = next_above at s.ws_opt accepted.drive.ws_opt in omega arith) in
     let outcome : IsOutcome s c (Write at (pads_from s at)) e.event.outcome =
-    subst (λ (command : ChunkCommand). IsOutcome s c command e.event.outcome) pad.command (subst (λ (x : Shape). IsOutcome x c e.event.command e.event.outcome) of.shape h.event.outcome) in
-    subst (λ (command : ChunkCommand). Leaves s c (after_outcome s c command e.event.outcome) e.event.outcome) (sym pad.command) (leaves s c at n e.event.outcome chunk is_open some outcome)
+    subst (λ (command : ChunkCommand). IsOutcome s c command e.event.outcome) pad.command
+    (subst (λ (x : Shape). IsOutcome x c e.event.command e.event.outcome) of.shape h.event.outcome) in
+    subst (λ (command : ChunkCommand). Leaves s c (after_outcome s c command e.event.outcome) e.event.outcome) (sym pad.command)
+    (leaves s c at n e.event.outcome chunk is_open some outcome)
 
-event_pads : (s : Shape) (us : List ModelUnit) (e : EventAt) → IsAccepted s → AreFit s us → IsNextPad s us (command_of e) → IsNext us e → ArePadded (image_of s us) (image_of s (after_one us e))
+event_pads : (s : Shape) (us : List ModelUnit) (e : EventAt) → IsAccepted s → AreFit s us → IsNextPad s us (command_of e) → IsNext us e
+    → ArePadded (image_of s us) (image_of s (after_one us e))
 event_pads s us e accepted fit pad h = record {
   shape = refl;
-  count = length-map (after_one us e) (λ (u : ModelUnit). u.media) ∙ (fit_after s us e accepted fit h).count ∙ sym fit.count ∙ sym (length-map us (λ (u : ModelUnit). u.media));
+  count = length-map (after_one us e) (λ (u : ModelUnit). u.media) ∙ (fit_after s us e accepted fit h).count ∙ sym fit.count
+      ∙ sym (length-map us (λ (u : ModelUnit). u.media));
   chunks = λ l u. at_place l u (ℕ_discrete l e.event.chunk) (ℕ_discrete u e.unit);
 } where
-  at_place : (l u : ℕ) → Dec (l ≡ e.event.chunk) → Dec (u ≡ e.unit) → (chunk_in (image_of s (after_one us e)) l u ≡ chunk_in (image_of s us) l u) ⊎ IsPaddedAt (image_of s us) (image_of s (after_one us e)) l u
+  at_place : (l u : ℕ) → Dec (l ≡ e.event.chunk) → Dec (u ≡ e.unit)
+      → (chunk_in (image_of s (after_one us e)) l u ≡ chunk_in (image_of s us) l u) ⊎ IsPaddedAt (image_of s us) (image_of s (after_one us e)) l u
   at_place l u (yes a) (yes b) = inr (record {
     old = h.event.found;
     new = after_outcome s h.event.found e.event.command e.event.outcome;
     was = ap (λ n. chunk_in (image_of s us) n u) a ∙ ap (chunk_in (image_of s us) e.event.chunk) b ∙ event_was s us e h;
-    is = ap (λ n. chunk_in (image_of s (after_one us e)) n u) a ∙ ap (chunk_in (image_of s (after_one us e)) e.event.chunk) b ∙ event_is s us e h (fit.each e.unit h.unit h.there).shape;
+    is = ap (λ n. chunk_in (image_of s (after_one us e)) n u) a ∙ ap (chunk_in (image_of s (after_one us e)) e.event.chunk) b
+        ∙ event_is s us e h (fit.each e.unit h.unit h.there).shape;
     padded = (event_leaves s us e accepted fit pad h).padded;
   })
   at_place l u (yes a) (no n) = inl (event_others s us e h l u (λ x y. n y))
@@ -118,7 +131,8 @@ pub record Holds (s : Shape) (old new : List ModelUnit) : Type 0 where
   pub contents_are : contents (image_of s new) ≡ contents (image_of s old)
   pub end_is : end (image_of s new) ≡ end (image_of s old)
 
-pub all_hold : (s : Shape) (us : List ModelUnit) (events : List EventAt) → IsAccepted s → AreFit s us → ArePads s us events → IsSealed (image_of s us) → Holds s us (after_all us events)
+pub all_hold : (s : Shape) (us : List ModelUnit) (events : List EventAt) → IsAccepted s → AreFit s us → ArePads s us events → IsSealed (image_of s us)
+    → Holds s us (after_all us events)
 all_hold s us [] accepted fit pads whole = record { sealed = whole; contents_are = refl; end_is = refl }
 all_hold s us (e ∷ events) accepted fit pads whole =
     let h : IsNext us e = pads.1 in
@@ -136,13 +150,15 @@ pads_append s us (e ∷ xs) ys h k = (h.0, h.1, pads_append s (after_one us e) x
 
 ends_append : (new : List ModelUnit) (xs ys : List EventAt) (r : Result (Unit {0}) ScanErr) → AllByRecursion IsQuiet xs → Ends new ys r → Ends new (xs ++ ys) r
 ends_append new xs ys (Ok done) h k = all_append IsQuiet xs ys h k
-ends_append new xs ys (Err (errors.Drive unit number)) h (front, last, is, quiet, unit_is, stop, named) = (xs ++ front, last, ap (λ zs. xs ++ zs) is ∙ sym (append_assoc xs front (last ∷ [])), all_append IsQuiet xs front h quiet, unit_is, stop, named)
+ends_append new xs ys (Err (errors.Drive unit number)) h (front, last, is, quiet, unit_is, stop, named) =
+    (xs ++ front, last, ap (λ zs. xs ++ zs) is ∙ sym (append_assoc xs front (last ∷ [])), all_append IsQuiet xs front h quiet, unit_is, stop, named)
 ends_append new xs ys (Err errors.Memory) h k = k
 
 pub none_padded : (s : Shape) (us : List ModelUnit) → HasPadded s us us [] (Ok tt)
 none_padded s us = record { pads = tt; units = refl; ends = tt }
 
-pub joined : (s : Shape) (a b c : List ModelUnit) (xs ys : List EventAt) (r : Result (Unit {0}) ScanErr) → HasPadded s a b xs (Ok tt) → HasPadded s b c ys r → HasPadded s a c (xs ++ ys) r
+pub joined : (s : Shape) (a b c : List ModelUnit) (xs ys : List EventAt) (r : Result (Unit {0}) ScanErr) → HasPadded s a b xs (Ok tt) → HasPadded s b c ys r
+    → HasPadded s a c (xs ++ ys) r
 joined s a b c xs ys r h k = record {
   pads = pads_append s a xs ys h.pads (subst (λ us. ArePads s us ys) h.units k.pads);
   units = k.units ∙ ap (λ us. after_all us ys) h.units ∙ sym (fold-append after_one a xs ys);
@@ -157,7 +173,8 @@ run_joined s a b c r h k = (h.0 ++ k.0, joined s a b c h.0 k.0 r h.1 k.1)
 
 -- The first Open chunk.
 
-pub one_pad : (s : Shape) (old new : List ModelUnit) (line unit at : ℕ) (e : EventAt) → IsOpenAt (image_of s old) line unit at → NoneOpenBefore (image_of s old) line unit → Did old (command_at unit line (Write at (pads_from s at))) e new → ArePads s old (e ∷ [])
+pub one_pad : (s : Shape) (old new : List ModelUnit) (line unit at : ℕ) (e : EventAt) → IsOpenAt (image_of s old) line unit at
+    → NoneOpenBefore (image_of s old) line unit → Did old (command_at unit line (Write at (pads_from s at))) e new → ArePads s old (e ∷ [])
 one_pad s old new line unit at e found before did = (
   subst (IsNextPad s old) (sym did.command) (record {
     found = found.found;
@@ -170,18 +187,22 @@ one_pad s old new line unit at e found before did = (
   tt,
 )
 
-pub still_before : (s : Shape) (old new : List ModelUnit) (line unit : ℕ) (command : ChunkCommand) (e : EventAt) → NoneOpenBefore (image_of s old) line unit → Did old (command_at unit line command) e new → NoneOpenBefore (image_of s new) line unit
+pub still_before : (s : Shape) (old new : List ModelUnit) (line unit : ℕ) (command : ChunkCommand) (e : EventAt) → NoneOpenBefore (image_of s old) line unit
+    → Did old (command_at unit line command) e new → NoneOpenBefore (image_of s new) line unit
 still_before s old new line unit command e before did l u c first h =
     let unit_is : e.unit ≡ unit = ap (λ (x : UnitCommand). x.unit) did.command in
     let line_is : e.event.chunk ≡ line = ap (λ (x : UnitCommand). x.chunk) did.command in
-    before l u c first (sym (event_others s old e did.next l u (λ a b. elim first [ inl less ↦ absurd (omega arith) | inr same ↦ (let m = same.1 in absurd (omega arith)) ]))
+    before l u c first (sym (event_others s old e did.next l u
+    (λ a b. elim first [ inl less ↦ absurd (omega arith) | inr same ↦ (let m = same.1 in absurd (omega arith)) ]))
     ∙ ap (λ us. chunk_in (image_of s us) l u) (sym did.units) ∙ h)
 
 room_there : (s : Shape) (i : Image) (line unit : ℕ) (c : Chunk) → chunk_in i line unit ≡ Some c → room_at s i line unit ≡ room_in s c.state (pointer c)
 room_there s i line unit c h = ap (λ o. option_map_or (λ c. room_in s c.state (pointer c)) o 0) h
 
-pub less_room : (s : Shape) (old new : List ModelUnit) (line unit at : ℕ) (e : EventAt) → IsAccepted s → AreFit s old → IsOpenAt (image_of s old) line unit at → NoneOpenBefore (image_of s old) line unit
-    → Did old (command_at unit line (Write at (pads_from s at))) e new → is_stop e.event.outcome ≡ false → room_at s (image_of s new) line unit < room_at s (image_of s old) line unit
+pub less_room : (s : Shape) (old new : List ModelUnit) (line unit at : ℕ) (e : EventAt) → IsAccepted s → AreFit s old → IsOpenAt (image_of s old) line unit at
+    → NoneOpenBefore (image_of s old) line unit
+    → Did old (command_at unit line (Write at (pads_from s at))) e new → is_stop e.event.outcome ≡ false
+    → room_at s (image_of s new) line unit < room_at s (image_of s old) line unit
 less_room s old new line unit at e accepted fit found before did quiet =
     let unit_is : e.unit ≡ unit = ap (λ (x : UnitCommand). x.unit) did.command in
     let line_is : e.event.chunk ≡ line = ap (λ (x : UnitCommand). x.chunk) did.command in
@@ -190,14 +211,17 @@ less_room s old new line unit at e accepted fit found before did quiet =
     let c : Chunk = h.event.found in
     let d : Chunk = after_outcome s c e.event.command e.event.outcome in
     let smaller = (event_leaves s old e accepted fit pads.0 h).smaller quiet in
-    let was : room_at s (image_of s old) e.event.chunk e.unit ≡ room_in s c.state (pointer c) = room_there s (image_of s old) e.event.chunk e.unit c (event_was s old e h) in
-    let is : room_at s (image_of s (after_one old e)) e.event.chunk e.unit ≡ room_in s d.state (pointer d) = room_there s (image_of s (after_one old e)) e.event.chunk e.unit d (event_is s old e h (fit.each e.unit h.unit h.there).shape) in
+    let was : room_at s (image_of s old) e.event.chunk e.unit ≡ room_in s c.state (pointer c) =
+    room_there s (image_of s old) e.event.chunk e.unit c (event_was s old e h) in
+    let is : room_at s (image_of s (after_one old e)) e.event.chunk e.unit ≡ room_in s d.state (pointer d) =
+    room_there s (image_of s (after_one old e)) e.event.chunk e.unit d (event_is s old e h (fit.each e.unit h.unit h.there).shape) in
     let less : room_at s (image_of s (after_one old e)) e.event.chunk e.unit < room_at s (image_of s old) e.event.chunk e.unit = omega arith in
     subst (λ us. room_at s (image_of s us) line unit < room_at s (image_of s old) line unit) (sym did.units)
     (subst (λ l. room_at s (image_of s (after_one old e)) l unit < room_at s (image_of s old) l unit) line_is
     (subst (λ u. room_at s (image_of s (after_one old e)) e.event.chunk u < room_at s (image_of s old) e.event.chunk u) unit_is less))
 
-pub next_unit : (i : Image) (line unit : ℕ) → NoneOpenBefore i line unit → ((c : Chunk) → chunk_in i line unit ≡ Some c → c.state ≢ Open) → NoneOpenBefore i line (unit + 1)
+pub next_unit : (i : Image) (line unit : ℕ) → NoneOpenBefore i line unit → ((c : Chunk) → chunk_in i line unit ≡ Some c → c.state ≢ Open)
+    → NoneOpenBefore i line (unit + 1)
 next_unit i line unit before here l u c (inl less) h = before l u c (inl less) h
 next_unit i line unit before here l u c (inr (same, below)) h = at_place (ℕ_discrete u unit) where
   at_place : Dec (u ≡ unit) → c.state ≢ Open
@@ -214,7 +238,11 @@ pub line_within : (i : Image) (l u : ℕ) (c : Chunk) → IsFit i → chunk_in i
 line_within i l u c fit h = by_unit (slice_get i.units u) refl where
   by_unit : (o : Option (List Chunk)) → slice_get i.units u ≡ o → l < i.shape.chunks
   by_unit None e = absurd (none-some c (sym (ap (option_and_then (λ chunks. slice_get chunks l)) e) ∙ h))
-  by_unit (Some chunks) e = omega (arith, slice_get_within chunks l c (sym (ap (option_and_then (λ chunks. slice_get chunks l)) e) ∙ h), all_get (λ unit. length unit ≡ i.shape.chunks) i.units u chunks fit.chunks e)
+  by_unit (Some chunks) e = omega (
+    arith,
+    slice_get_within chunks l c (sym (ap (option_and_then (λ chunks. slice_get chunks l)) e) ∙ h),
+    all_get (λ unit. length unit ≡ i.shape.chunks) i.units u chunks fit.chunks e,
+  )
 
 -- past the last line
 pub none_open : (i : Image) → IsFit i → NoneOpenBefore i i.shape.chunks 0 → NoneOpen i
@@ -241,52 +269,76 @@ told_stopped r o is h = let t = subst (λ (x : Result (Unit {0}) UnitErr). Tells
 abbrev pub DidPads : Shape → List ModelUnit → ℕ → ℕ → ℕ → List Block → Result (Unit {0}) UnitErr → List ModelUnit → Type 0
 DidPads s old line unit at blocks r new = (e : EventAt) × Did old (command_at unit line (Write at blocks)) e new × TellsDone r e.event.outcome
 
-of_pads : (s : Shape) (old new : List ModelUnit) (line unit at : ℕ) (blocks : List Block) (e : EventAt) → blocks ≡ pads_from s at → Did old (command_at unit line (Write at blocks)) e new → Did old (command_at unit line (Write at (pads_from s at))) e new
+of_pads : (s : Shape) (old new : List ModelUnit) (line unit at : ℕ) (blocks : List Block) (e : EventAt) → blocks ≡ pads_from s at
+    → Did old (command_at unit line (Write at blocks)) e new → Did old (command_at unit line (Write at (pads_from s at))) e new
 of_pads s old new line unit at blocks e is h = subst (λ bs. Did old (command_at unit line (Write at bs)) e new) is h
 
-module _ (s : Shape) (old new : List ModelUnit) (line unit at : ℕ) (blocks : List Block) (accepted : IsAccepted s) (fit : AreFit s old) (opened : IsOpenAt (image_of s old) line unit at) (first : NoneOpenBefore (image_of s old) line unit) (is : blocks ≡ pads_from s at) where
+module _ (s : Shape) (old new : List ModelUnit) (line unit at : ℕ) (blocks : List Block) (accepted : IsAccepted s) (fit : AreFit s old)
+    (opened : IsOpenAt (image_of s old) line unit at) (first : NoneOpenBefore (image_of s old) line unit) (is : blocks ≡ pads_from s at) where
   quiet_run : (e : EventAt) → Did old (command_at unit line (Write at blocks)) e new → is_stop e.event.outcome ≡ false → HasRun s old new (Ok tt)
   quiet_run e did quiet =
       let d = of_pads s old new line unit at blocks e is did in
       (e ∷ [], record { pads = one_pad s old new line unit at e opened first d; units = d.units; ends = (quiet, tt) })
 
-  pub done_stripe : (r : Result (Unit {0}) UnitErr) (done : Unit {0}) → r ≡ Ok done → DidPads s old line unit at blocks r new → HasRun s old new (Ok tt) × (room_at s (image_of s new) line unit < room_at s (image_of s old) line unit) × NoneOpenBefore (image_of s new) line unit
+  pub done_stripe : (r : Result (Unit {0}) UnitErr) (done : Unit {0}) → r ≡ Ok done → DidPads s old line unit at blocks r new
+      → HasRun s old new (Ok tt) × (room_at s (image_of s new) line unit < room_at s (image_of s old) line unit) × NoneOpenBefore (image_of s new) line unit
   done_stripe r done r-is (e, did, told) =
       let d = of_pads s old new line unit at blocks e is did in
-      let quiet = told_ok r done e.event.outcome r-is told in
-      (quiet_run e did quiet, less_room s old new line unit at e accepted fit opened first d quiet, still_before s old new line unit (Write at (pads_from s at)) e first d)
+      let quiet = told_ok r done e.event.outcome r-is told in (
+        quiet_run e did quiet,
+        less_room s old new line unit at e accepted fit opened first d quiet,
+        still_before s old new line unit (Write at (pads_from s at)) e first d,
+      )
 
-  pub failed_stripe : (r : Result (Unit {0}) UnitErr) → r ≡ Err unit_errors.Failed → DidPads s old line unit at blocks r new → HasRun s old new (Ok tt) × (room_at s (image_of s new) line unit < room_at s (image_of s old) line unit) × NoneOpenBefore (image_of s new) line unit
+  pub failed_stripe : (r : Result (Unit {0}) UnitErr) → r ≡ Err unit_errors.Failed → DidPads s old line unit at blocks r new
+      → HasRun s old new (Ok tt) × (room_at s (image_of s new) line unit < room_at s (image_of s old) line unit) × NoneOpenBefore (image_of s new) line unit
   failed_stripe r r-is (e, did, told) =
       let d = of_pads s old new line unit at blocks e is did in
-      let quiet = told_failed r e.event.outcome r-is told in
-      (quiet_run e did quiet, less_room s old new line unit at e accepted fit opened first d quiet, still_before s old new line unit (Write at (pads_from s at)) e first d)
+      let quiet = told_failed r e.event.outcome r-is told in (
+        quiet_run e did quiet,
+        less_room s old new line unit at e accepted fit opened first d quiet,
+        still_before s old new line unit (Write at (pads_from s at)) e first d,
+      )
 
-  pub stopped_stripe : (r : Result (Unit {0}) UnitErr) (v : ModelUnit) (number : ℕ) → r ≡ Err unit_errors.Stopped → DidPads s old line unit at blocks r new → slice_get new unit ≡ Some v → number ≡ min (length v.log) (2 ^ 64 - 1)
+  pub stopped_stripe : (r : Result (Unit {0}) UnitErr) (v : ModelUnit) (number : ℕ) → r ≡ Err unit_errors.Stopped → DidPads s old line unit at blocks r new
+      → slice_get new unit ≡ Some v → number ≡ min (length v.log) (2 ^ 64 - 1)
       → HasRun s old new (Err (errors.Drive unit number)) × NoneOpenBefore (image_of s new) line unit
   stopped_stripe r v number r-is (e, did, told) there number-is =
       let d = of_pads s old new line unit at blocks e is did in
       let stop = told_stopped r e.event.outcome r-is told in
       let unit_is : e.unit ≡ unit = ap (λ (x : UnitCommand). x.unit) d.command in
       let h : IsNext old e = d.next in
-      let is_v : with_event h.unit e.event ≡ v = same_Some (with_event h.unit e.event) v (sym (get_set_same old e.unit (with_event h.unit e.event) (slice_get_within old e.unit h.unit h.there)) ∙ ap (λ us. slice_get us e.unit) (sym (after_one_is old e h.unit h.there) ∙ sym d.units) ∙ ap (slice_get new) unit_is ∙ there) in (
+      let is_v : with_event h.unit e.event ≡ v =
+      same_Some (with_event h.unit e.event) v
+      (sym (get_set_same old e.unit (with_event h.unit e.event) (slice_get_within old e.unit h.unit h.there))
+      ∙ ap (λ us. slice_get us e.unit) (sym (after_one_is old e h.unit h.there) ∙ sym d.units) ∙ ap (slice_get new) unit_is ∙ there) in (
         (
           e ∷ [],
           record {
             pads = one_pad s old new line unit at e opened first d;
             units = d.units;
-            ends = ([], e, refl, tt, unit_is, stop, record { of = v; there = there; front = h.unit.log; log = ap (λ (x : ModelUnit). x.log) (sym is_v); number_is = number-is });
+            ends = (
+              [],
+              e,
+              refl,
+              tt,
+              unit_is,
+              stop,
+              record { of = v; there = there; front = h.unit.log; log = ap (λ (x : ModelUnit). x.log) (sym is_v); number_is = number-is },
+            );
           },
         ),
         still_before s old new line unit (Write at (pads_from s at)) e first d,
       )
 
-pub kept_holds : (s : Shape) (old new : List ModelUnit) (r : Result (Unit {0}) ScanErr) → IsAccepted s → AreFit s old → HasRun s old new r → IsSealed (image_of s old) → Holds s old new
+pub kept_holds : (s : Shape) (old new : List ModelUnit) (r : Result (Unit {0}) ScanErr) → IsAccepted s → AreFit s old → HasRun s old new r
+    → IsSealed (image_of s old) → Holds s old new
 kept_holds s old new r accepted fit (events, h) whole = subst (Holds s old) (sym h.units) (all_hold s old events accepted fit h.pads whole)
 
 -- What a unit says of a chunk.
 
-pub open_here : (s : Shape) (us : List ModelUnit) (line unit wp : ℕ) (v : ModelUnit) (state : ChunkState) → slice_get us unit ≡ Some v → (found : Chunk) × (slice_get v.media line ≡ Some found) × (state ≡ found.state) × (wp ≡ pointer found)
+pub open_here : (s : Shape) (us : List ModelUnit) (line unit wp : ℕ) (v : ModelUnit) (state : ChunkState) → slice_get us unit ≡ Some v
+    → (found : Chunk) × (slice_get v.media line ≡ Some found) × (state ≡ found.state) × (wp ≡ pointer found)
     → state ≡ Open → IsOpenAt (image_of s us) line unit wp
 open_here s us line unit wp v state there (found, chunk, state_is, wp_is) is = record {
   found = found;
@@ -295,11 +347,14 @@ open_here s us line unit wp v state there (found, chunk, state_is, wp_is) is = r
   pointer_is = sym wp_is;
 }
 
-pub not_open_here : (s : Shape) (us : List ModelUnit) (line unit wp : ℕ) (v : ModelUnit) (state : ChunkState) → slice_get us unit ≡ Some v → (found : Chunk) × (slice_get v.media line ≡ Some found) × (state ≡ found.state) × (wp ≡ pointer found)
+pub not_open_here : (s : Shape) (us : List ModelUnit) (line unit wp : ℕ) (v : ModelUnit) (state : ChunkState) → slice_get us unit ≡ Some v
+    → (found : Chunk) × (slice_get v.media line ≡ Some found) × (state ≡ found.state) × (wp ≡ pointer found)
     → (state ≡ Open → ⊥) → IsNotOpen (image_of s us) line unit
 not_open_here s us line unit wp v state there (found, chunk, state_is, wp_is) is c h opened =
     let same : found ≡ c = same_Some found c (sym (chunk_of s us line unit v there ∙ chunk) ∙ h) in
     is (state_is ∙ ap (λ (x : Chunk). x.state) same ∙ opened)
 
-pub chunk_here : (s : Shape) (us : List ModelUnit) (line unit : ℕ) (v : ModelUnit) → AreFit s us → slice_get us unit ≡ Some v → line < s.chunks → line < length v.media
-chunk_here s us line unit v fit there inside = let of = fit.each unit v there in let count : length v.media ≡ s.chunks = of.fits.count ∙ ap (λ (x : Shape). x.chunks) of.shape in omega arith
+pub chunk_here : (s : Shape) (us : List ModelUnit) (line unit : ℕ) (v : ModelUnit) → AreFit s us → slice_get us unit ≡ Some v → line < s.chunks
+    → line < length v.media
+chunk_here s us line unit v fit there inside = let of = fit.each unit v there in let count : length v.media ≡ s.chunks = of.fits.count
+    ∙ ap (λ (x : Shape). x.chunks) of.shape in omega arith

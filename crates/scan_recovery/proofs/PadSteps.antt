@@ -74,11 +74,13 @@ same_blocks size (suc n) m =
     (let e : suc n * size ≡ size + n * size = omega arith in ap (λ k. replicate k 0) e) ∙ sym (replicate-append-replicate size (n * size) 0) in
     let len : length (replicate size 0) ≡ size = length-replicate size 0 in
     ap (λ bytes. blocks_of size bytes (m ∷ replicate n m)) parts
-    ∙ ap (λ sector. record { sector = sector; mark = m } ∷ blocks_of size (drop size (replicate size 0 ++ replicate (n * size) 0)) (replicate n m)) (take_front (replicate size 0) (replicate (n * size) 0) size len)
+    ∙ ap (λ sector. record { sector = sector; mark = m } ∷ blocks_of size (drop size (replicate size 0 ++ replicate (n * size) 0)) (replicate n m))
+    (take_front (replicate size 0) (replicate (n * size) 0) size len)
     ∙ ap (λ rest. one_block size m ∷ blocks_of size rest (replicate n m)) (drop_front (replicate size 0) (replicate (n * size) 0) size len)
     ∙ ap (λ blocks. one_block size m ∷ blocks) (same_blocks size n m)
 
-pub pads_are : (s : Shape) (at : ℕ) (bytes : List ℕ) (marks : List Mark) (n : ℕ) → 0 < s.ws_opt → AreBlank s bytes marks → n ≡ (at / s.ws_opt + 1) * s.ws_opt - at
+pub pads_are : (s : Shape) (at : ℕ) (bytes : List ℕ) (marks : List Mark) (n : ℕ) → 0 < s.ws_opt → AreBlank s bytes marks
+    → n ≡ (at / s.ws_opt + 1) * s.ws_opt - at
     → blocks_of s.sector (take (n * s.sector) bytes) (take n marks) ≡ pads_from s at
 unfolding zeros
 pads_are s at bytes marks n some blank n-is =
@@ -108,7 +110,8 @@ takes_pads s c accepted chunk is =
     let n-is : n ≡ (at / s.ws_opt + 1) * s.ws_opt - at = pads_count s at in
     let above = next_above at s.ws_opt accepted.drive.ws_opt in
     let within = next_within at s.ws_opt s.clba accepted.drive.ws_opt accepted.drive.whole_stripes fits.1 in
-    let whole : n % s.ws_min ≡ 0 = ap (λ k. k % s.ws_min) n-is ∙ whole_pads at s.ws_opt s.ws_min accepted.drive.ws_min accepted.drive.ws_opt accepted.drive.whole_writes chunk.multiple in
+    let whole : n % s.ws_min ≡ 0 = ap (λ k. k % s.ws_min) n-is
+    ∙ whole_pads at s.ws_opt s.ws_min accepted.drive.ws_min accepted.drive.ws_opt accepted.drive.whole_writes chunk.multiple in
     ap (λ st. write_refusal_in s st at at n) is ∙ placed_none s at at n refl (omega arith) whole (omega arith)
 
 -- What is left.
@@ -126,7 +129,8 @@ state_room s false n = omega arith
 room_open : (s : Shape) (c : Chunk) → c.state ≡ states.Open → room_left s c ≡ s.clba - pointer c
 room_open s c is = ap (λ st. room_in s st (pointer c)) is
 
-less_room : (s : Shape) (c : Chunk) (b : Bool) (n m : ℕ) → IsChunk s c → c.state ≡ states.Open → m ≡ pointer c + n → 0 < n → room_in s (cond b states.Open states.Closed) m < room_left s c
+less_room : (s : Shape) (c : Chunk) (b : Bool) (n m : ℕ) → IsChunk s c → c.state ≡ states.Open → m ≡ pointer c + n → 0 < n
+    → room_in s (cond b states.Open states.Closed) m < room_left s c
 less_room s c b n m chunk is m-is some =
     let fits = open_fits s c chunk is in
     let here = room_open s c is in
@@ -134,10 +138,12 @@ less_room s c b n m chunk is m-is some =
     omega arith
 
 -- less is left, unless it was stopped
-smaller : (s : Shape) (c : Chunk) (at n : ℕ) (o : UnitOutcome) → IsChunk s c → c.state ≡ states.Open → 0 < n → IsOutcome s c (Write at (replicate n (pad_block s))) o → is_stop o ≡ false
+smaller : (s : Shape) (c : Chunk) (at n : ℕ) (o : UnitOutcome) → IsChunk s c → c.state ≡ states.Open → 0 < n
+    → IsOutcome s c (Write at (replicate n (pad_block s))) o → is_stop o ≡ false
     → room_left s (after_outcome s c (Write at (replicate n (pad_block s))) o) < room_left s c
 smaller s c at n (Answered Done) chunk is some h quiet =
-    less_room s c _ n (length (c.blocks ++ replicate n (pad_block s))) chunk is (length-append c.blocks (replicate n (pad_block s)) ∙ ap (λ k. length c.blocks + k) (length-replicate n (pad_block s))) some
+    less_room s c _ n (length (c.blocks ++ replicate n (pad_block s))) chunk is
+    (length-append c.blocks (replicate n (pad_block s)) ∙ ap (λ k. length c.blocks + k) (length-replicate n (pad_block s))) some
 smaller s c at n (Answered (Gave block)) chunk is some h quiet = absurd h.1
 smaller s c at n (Answered Empty) chunk is some h quiet = absurd h.1
 smaller s c at n (Answered (Refused e)) chunk is some h quiet = absurd h.0
@@ -149,7 +155,8 @@ pub record Leaves (s : Shape) (c d : Chunk) (o : UnitOutcome) : Type 0 where
   pub padded : IsPadded s c d
   pub smaller : is_stop o ≡ false → room_left s d < room_left s c
 
-pub leaves : (s : Shape) (c : Chunk) (at n : ℕ) (o : UnitOutcome) → IsChunk s c → c.state ≡ states.Open → 0 < n → IsOutcome s c (Write at (replicate n (pad_block s))) o
+pub leaves : (s : Shape) (c : Chunk) (at n : ℕ) (o : UnitOutcome) → IsChunk s c → c.state ≡ states.Open → 0 < n
+    → IsOutcome s c (Write at (replicate n (pad_block s))) o
     → Leaves s c (after_outcome s c (Write at (replicate n (pad_block s))) o) o
 leaves s c at n o chunk is some h = record {
   padded = program_pads s c at (replicate n (pad_block s)) o is (open_fits s c chunk is).0 (all_replicated (λ b. b ≡ pad_block s) n (pad_block s) refl);
@@ -159,33 +166,42 @@ leaves s c at n o chunk is some h = record {
 -- Where a unit's event shows.
 
 pub chunk_of : (s : Shape) (us : List ModelUnit) (l u : ℕ) (v : ModelUnit) → slice_get us u ≡ Some v → chunk_in (image_of s us) l u ≡ slice_get v.media l
-chunk_of s us l u v h = ap (option_and_then (λ chunks. slice_get chunks l)) (slice_get-map (λ (u : ModelUnit). u.media) us u ∙ ap (option_map (λ (u : ModelUnit). u.media)) h)
+chunk_of s us l u v h = ap (option_and_then (λ chunks. slice_get chunks l))
+    (slice_get-map (λ (u : ModelUnit). u.media) us u ∙ ap (option_map (λ (u : ModelUnit). u.media)) h)
 
 pub event_was : (s : Shape) (us : List ModelUnit) (e : EventAt) (h : IsNext us e) → chunk_in (image_of s us) e.event.chunk e.unit ≡ Some h.event.found
 event_was s us e h = chunk_of s us e.event.chunk e.unit h.unit h.there ∙ h.event.there
 
-pub event_is : (s : Shape) (us : List ModelUnit) (e : EventAt) (h : IsNext us e) → h.unit.shape ≡ s → chunk_in (image_of s (after_one us e)) e.event.chunk e.unit ≡ Some (after_outcome s h.event.found e.event.command e.event.outcome)
+pub event_is : (s : Shape) (us : List ModelUnit) (e : EventAt) (h : IsNext us e) → h.unit.shape ≡ s
+    → chunk_in (image_of s (after_one us e)) e.event.chunk e.unit ≡ Some (after_outcome s h.event.found e.event.command e.event.outcome)
 event_is s us e h same =
-    let there : slice_get (after_one us e) e.unit ≡ Some (with_event h.unit e.event) = ap (λ xs. slice_get xs e.unit) (after_one_is us e h.unit h.there) ∙ get_set_same us e.unit (with_event h.unit e.event) (slice_get_within us e.unit h.unit h.there) in
+    let there : slice_get (after_one us e) e.unit ≡ Some (with_event h.unit e.event) = ap (λ xs. slice_get xs e.unit) (after_one_is us e h.unit h.there)
+    ∙ get_set_same us e.unit (with_event h.unit e.event) (slice_get_within us e.unit h.unit h.there) in
     chunk_of s (after_one us e) e.event.chunk e.unit (with_event h.unit e.event) there
     ∙ ap (λ m. slice_get m e.event.chunk) (after_event_is h.unit.shape h.unit.media e.event h.event.found h.event.there)
-    ∙ get_set_same h.unit.media e.event.chunk (after_outcome h.unit.shape h.event.found e.event.command e.event.outcome) (slice_get_within h.unit.media e.event.chunk h.event.found h.event.there)
+    ∙ get_set_same h.unit.media e.event.chunk (after_outcome h.unit.shape h.event.found e.event.command e.event.outcome)
+    (slice_get_within h.unit.media e.event.chunk h.event.found h.event.there)
     ∙ ap (λ x. Some (after_outcome x h.event.found e.event.command e.event.outcome)) same
 
-pub event_others : (s : Shape) (us : List ModelUnit) (e : EventAt) (h : IsNext us e) (l u : ℕ) → (l ≡ e.event.chunk → u ≡ e.unit → ⊥) → chunk_in (image_of s (after_one us e)) l u ≡ chunk_in (image_of s us) l u
+pub event_others : (s : Shape) (us : List ModelUnit) (e : EventAt) (h : IsNext us e) (l u : ℕ) → (l ≡ e.event.chunk → u ≡ e.unit → ⊥)
+    → chunk_in (image_of s (after_one us e)) l u ≡ chunk_in (image_of s us) l u
 event_others s us e h l u other = by_unit (ℕ_discrete u e.unit) where
   by_unit : Dec (u ≡ e.unit) → chunk_in (image_of s (after_one us e)) l u ≡ chunk_in (image_of s us) l u
   by_unit (yes same) =
       let there : slice_get (after_one us e) u ≡ Some (with_event h.unit e.event) =
-      ap (slice_get (after_one us e)) same ∙ ap (λ xs. slice_get xs e.unit) (after_one_is us e h.unit h.there) ∙ get_set_same us e.unit (with_event h.unit e.event) (slice_get_within us e.unit h.unit h.there) in
+      ap (slice_get (after_one us e)) same ∙ ap (λ xs. slice_get xs e.unit) (after_one_is us e h.unit h.there)
+      ∙ get_set_same us e.unit (with_event h.unit e.event) (slice_get_within us e.unit h.unit h.there) in
       let before : slice_get us u ≡ Some h.unit = ap (slice_get us) same ∙ h.there in
       chunk_of s (after_one us e) l u (with_event h.unit e.event) there
       ∙ ap (λ m. slice_get m l) (after_event_is h.unit.shape h.unit.media e.event h.event.found h.event.there)
       ∙ get_set_other h.unit.media e.event.chunk l (after_outcome h.unit.shape h.event.found e.event.command e.event.outcome) (λ l-is. other l-is same)
       ∙ sym (chunk_of s us l u h.unit before)
   by_unit (no apart) =
-      let here : slice_get (after_one us e) u ≡ slice_get us u = ap (λ xs. slice_get xs u) (after_one_is us e h.unit h.there) ∙ get_set_other us e.unit u (with_event h.unit e.event) apart in
-      ap (option_and_then (λ chunks. slice_get chunks l)) (slice_get-map (λ (u : ModelUnit). u.media) (after_one us e) u ∙ ap (option_map (λ (u : ModelUnit). u.media)) here ∙ sym (slice_get-map (λ (u : ModelUnit). u.media) us u))
+      let here : slice_get (after_one us e) u ≡ slice_get us u = ap (λ xs. slice_get xs u) (after_one_is us e h.unit h.there)
+      ∙ get_set_other us e.unit u (with_event h.unit e.event) apart in
+      ap (option_and_then (λ chunks. slice_get chunks l))
+      (slice_get-map (λ (u : ModelUnit). u.media) (after_one us e) u ∙ ap (option_map (λ (u : ModelUnit). u.media)) here
+      ∙ sym (slice_get-map (λ (u : ModelUnit). u.media) us u))
 
 -- the unit of a chunk
 pub record IsUnitAt (us : List ModelUnit) (l u : ℕ) (c : Chunk) : Type 0 where
@@ -196,17 +212,22 @@ pub record IsUnitAt (us : List ModelUnit) (l u : ℕ) (c : Chunk) : Type 0 where
 pub unit_at : (s : Shape) (us : List ModelUnit) (l u : ℕ) (c : Chunk) → chunk_in (image_of s us) l u ≡ Some c → IsUnitAt us l u c
 unit_at s us l u c h = by_unit (slice_get us u) refl where
   by_unit : (o : Option ModelUnit) → slice_get us u ≡ o → IsUnitAt us l u c
-  by_unit None e = absurd (none-some c (sym (ap (option_and_then (λ chunks. slice_get chunks l)) (slice_get-map (λ (u : ModelUnit). u.media) us u ∙ ap (option_map (λ (u : ModelUnit). u.media)) e)) ∙ h))
+  by_unit None e = absurd (none-some c
+      (sym (ap (option_and_then (λ chunks. slice_get chunks l))
+      (slice_get-map (λ (u : ModelUnit). u.media) us u ∙ ap (option_map (λ (u : ModelUnit). u.media)) e)) ∙ h))
   by_unit (Some v) e = record { of = v; there = e; chunk = sym (chunk_of s us l u v e) ∙ h }
 
-pub pads_taken : (s : Shape) (us : List ModelUnit) (line unit at : ℕ) (blocks : List Block) → IsAccepted s → AreFit s us → IsOpenAt (image_of s us) line unit at → blocks ≡ pads_from s at
+pub pads_taken : (s : Shape) (us : List ModelUnit) (line unit at : ℕ) (blocks : List Block) → IsAccepted s → AreFit s us → IsOpenAt (image_of s us) line unit at
+    → blocks ≡ pads_from s at
     → IsTaken us (command_at unit line (Write at blocks))
 pads_taken s us line unit at blocks accepted fit opened is =
     let w = unit_at s us line unit opened.found opened.there in
     let of = fit.each unit w.of w.there in
-    let chunk : IsChunk s opened.found = subst (λ (x : Shape). IsChunk x opened.found) of.shape (all_get (IsChunk w.of.shape) w.of.media line opened.found of.fits.chunks w.chunk) in
+    let chunk : IsChunk s opened.found =
+    subst (λ (x : Shape). IsChunk x opened.found) of.shape (all_get (IsChunk w.of.shape) w.of.media line opened.found of.fits.chunks w.chunk) in
     let free : refusal s opened.found (Write at blocks) ≡ None =
-    subst (λ bs. refusal s opened.found (Write at bs) ≡ None) (sym is) (subst (λ p. refusal s opened.found (Write p (pads_from s p)) ≡ None) opened.pointer_is (takes_pads s opened.found accepted chunk opened.is_open)) in
+    subst (λ bs. refusal s opened.found (Write at bs) ≡ None) (sym is)
+    (subst (λ p. refusal s opened.found (Write p (pads_from s p)) ≡ None) opened.pointer_is (takes_pads s opened.found accepted chunk opened.is_open)) in
     record {
       unit = w.of;
       there = w.there;
@@ -218,7 +239,8 @@ pub open_below : (s : Shape) (us : List ModelUnit) (line unit at : ℕ) → AreF
 open_below s us line unit at fit opened =
     let w = unit_at s us line unit opened.found opened.there in
     let of = fit.each unit w.of w.there in
-    let chunk : IsChunk s opened.found = subst (λ (x : Shape). IsChunk x opened.found) of.shape (all_get (IsChunk w.of.shape) w.of.media line opened.found of.fits.chunks w.chunk) in
+    let chunk : IsChunk s opened.found =
+    subst (λ (x : Shape). IsChunk x opened.found) of.shape (all_get (IsChunk w.of.shape) w.of.media line opened.found of.fits.chunks w.chunk) in
     let fits = open_fits s opened.found chunk opened.is_open in
     let p = opened.pointer_is in
     (omega arith, slice_get_within us unit w.of w.there)
@@ -244,11 +266,14 @@ stripe_short s at accepted below =
       chunk = omega arith;
       end = next_within at s.ws_opt s.clba accepted.drive.ws_opt accepted.drive.whole_stripes below;
       above = next_above at s.ws_opt accepted.drive.ws_opt;
-      row = (let here : s.ws_opt * (at / s.ws_opt) + at % s.ws_opt ≡ at = div-add-mod at s.ws_opt in let one : 1 * (at / s.ws_opt) ≤ s.ws_opt * (at / s.ws_opt) = mul-le-mul_right (at / s.ws_opt) accepted.drive.ws_opt in omega arith);
+      row = (let here : s.ws_opt * (at / s.ws_opt) + at % s.ws_opt ≡ at =
+          div-add-mod at s.ws_opt in let one : 1 * (at / s.ws_opt) ≤ s.ws_opt * (at / s.ws_opt) =
+          mul-le-mul_right (at / s.ws_opt) accepted.drive.ws_opt in omega arith);
       count = few;
       bytes = mul-le-mul_right s.sector few;
       stripe = mul-le s.ws_opt s.sector 64 4096 accepted.drive.short_stripes (sector_within s accepted);
     }
 
 pub blank_lengths : (s : Shape) (bytes : List ℕ) (marks : List Mark) → AreBlank s bytes marks → (length bytes ≡ s.ws_opt * s.sector) × (length marks ≡ s.ws_opt)
-blank_lengths s bytes marks blank = (ap length blank.bytes_are ∙ length-replicate (s.ws_opt * s.sector) 0, ap length blank.marks_are ∙ length-replicate s.ws_opt pad_mark)
+blank_lengths s bytes marks blank =
+    (ap length blank.bytes_are ∙ length-replicate (s.ws_opt * s.sector) 0, ap length blank.marks_are ∙ length-replicate s.ws_opt pad_mark)

@@ -42,7 +42,8 @@ of_both line seq row = (row.line == line) && (row.seq == seq)
 abbrev bound_or : Option Row → ℕ
 bound_or o = option_map_or (λ row. row.bound) o 0
 
-none_find : (s : Shape) (r : StartRecord) (least : ℕ) (rows : List Row) (line seq : ℕ) → rows_fit s r least rows ≡ true → line < least → find (of_both line seq) rows ≡ None
+none_find : (s : Shape) (r : StartRecord) (least : ℕ) (rows : List Row) (line seq : ℕ) → rows_fit s r least rows ≡ true → line < least
+    → find (of_both line seq) rows ≡ None
 none_find s r least [] line seq h below = refl
 none_find s r least (row ∷ rows) line seq h below =
     let f = row_facts s r least row rows h in
@@ -54,7 +55,8 @@ by_seq : (b : Bool) (row : Row) (rest : Option Row) → rest ≡ None → cond b
 by_seq true row rest e = refl
 by_seq false row rest e = sym (ap bound_or e)
 
-find_bound : (s : Shape) (r : StartRecord) (least : ℕ) (rows : List Row) (line seq : ℕ) → rows_fit s r least rows ≡ true → bound_from (find (of_line line) rows) (Some seq) ≡ bound_or (find (of_both line seq) rows)
+find_bound : (s : Shape) (r : StartRecord) (least : ℕ) (rows : List Row) (line seq : ℕ) → rows_fit s r least rows ≡ true
+    → bound_from (find (of_line line) rows) (Some seq) ≡ bound_or (find (of_both line seq) rows)
 find_bound s r least [] line seq h = refl
 find_bound s r least (row ∷ rows) line seq h =
     let f = row_facts s r least row rows h in
@@ -74,10 +76,12 @@ from_none : (o : Option Row) → bound_from o None ≡ 0
 from_none None = refl
 from_none (Some row) = refl
 
-bound_is : (o : Option Start) (line : ℕ) (seq : Option ℕ) → IfSome o HasStartFits → bound_from (row_of (option_map start_numbers o) line) seq ≡ bound_with (option_map start_numbers o) line seq
+bound_is : (o : Option Start) (line : ℕ) (seq : Option ℕ) → IfSome o HasStartFits
+    → bound_from (row_of (option_map start_numbers o) line) seq ≡ bound_with (option_map start_numbers o) line seq
 bound_is None line seq h = refl
 bound_is (Some r) line None h = from_none (row_of (Some (start_numbers r)) line)
-bound_is (Some r) line (Some seq) h = find_bound h.shape (start_numbers r) 0 (start_numbers r).rows line seq (and_right _ (rows_fit h.shape (start_numbers r) 0 (start_numbers r).rows) h.fits)
+bound_is (Some r) line (Some seq) h =
+    find_bound h.shape (start_numbers r) 0 (start_numbers r).rows line seq (and_right _ (rows_fit h.shape (start_numbers r) 0 (start_numbers r).rows) h.fits)
 
 -- The whole.
 
@@ -103,73 +107,101 @@ module _ (i : Image) (s : Shape) (v : Survey) (shape : i.shape ≡ s) (S : IsSur
   traces_are = S.traces ∙ ap (λ n. thin (flat_map (line_records i) (range_with_len 0 n))) chunks_are
 
   pub found_end : (n : ℕ) → n ≡ end_after (bares v.traces.items) (option_map start_numbers v.head) → n ≡ end i
-  found_end n is = is ∙ ap (λ x. end_after x (option_map start_numbers v.head)) traces_are ∙ ap (end_after (thin (records i))) head_is ∙ end_thin (records i) (head i)
+  found_end n is = is ∙ ap (λ x. end_after x (option_map start_numbers v.head)) traces_are ∙ ap (end_after (thin (records i))) head_is
+      ∙ end_thin (records i) (head i)
 
   pub counted_are : counted_after (bares v.traces.items) (option_map start_numbers v.head) ≡ thin (counted i)
-  counted_are = ap (λ x. counted_after x (option_map start_numbers v.head)) traces_are ∙ ap (counted_after (thin (records i))) head_is ∙ counted_thin (records i) (head i)
+  counted_are = ap (λ x. counted_after x (option_map start_numbers v.head)) traces_are ∙ ap (counted_after (thin (records i))) head_is
+      ∙ counted_thin (records i) (head i)
 
-  pub found_winners : (t : Tally) (lines : ℕ) (ws : List Winner) → IsTally s.capacity lines (counted_after (bares v.traces.items) (option_map start_numbers v.head)) t
-      → ((f : ℕ → Option Record) → IsTable (length t.winners.items) f (map (option_map bare) t.winners.items) → ws ≡ filter_map (λ lba. option_map (winner_with lba) (f lba)) (range_with_len 0 (length t.winners.items)))
+  pub found_winners : (t : Tally) (lines : ℕ) (ws : List Winner)
+      → IsTally s.capacity lines (counted_after (bares v.traces.items) (option_map start_numbers v.head)) t
+      → ((f : ℕ → Option Record) → IsTable (length t.winners.items) f (map (option_map bare) t.winners.items)
+      → ws ≡ filter_map (λ lba. option_map (winner_with lba) (f lba)) (range_with_len 0 (length t.winners.items)))
       → ws ≡ filter_map (winner_of i) (range_with_len 0 i.shape.capacity)
   found_winners t lines ws tally are =
       let count : length t.winners.items ≡ s.capacity = sym (length-map t.winners.items (option_map bare)) ∙ tally.winners.count in
       let cs : List Record = counted_after (bares v.traces.items) (option_map start_numbers v.head) in
       are (winner cs) (subst (λ n. IsTable n (winner cs) (map (option_map bare) t.winners.items)) (sym count) tally.winners)
       ∙ ap (λ n. filter_map (λ lba. option_map (winner_with lba) (winner cs lba)) (range_with_len 0 n)) (count ∙ ap (λ x. x.capacity) (sym shape))
-      ∙ ap (λ f. filter_map f (range_with_len 0 i.shape.capacity)) (fun_ext (λ lba. ap (λ x. option_map (winner_with lba) (winner x lba)) counted_are ∙ ap (option_map (winner_with lba)) (winner_thin (counted i) lba) ∙ option_twice lba (winner (counted i) lba)))
+      ∙ ap (λ f. filter_map f (range_with_len 0 i.shape.capacity))
+      (fun_ext (λ lba. ap (λ x. option_map (winner_with lba) (winner x lba)) counted_are ∙ ap (option_map (winner_with lba)) (winner_thin (counted i) lba)
+      ∙ option_twice lba (winner (counted i) lba)))
 
-  pub found_strays : (strays : List ℕ) → length v.lines.items ≡ s.chunks → ((j : Image) → IsTable (length v.lines.items) (seen_line j) v.lines.items → strays ≡ filter (is_stray j) (range_with_len 0 (length v.lines.items))) → strays ≡ stray_lines i
-  found_strays strays count are = are i (subst (λ n. IsTable n (seen_line i) v.lines.items) (sym count) S.lines) ∙ ap (λ n. filter (is_stray i) (range_with_len 0 n)) (count ∙ chunks_are)
+  pub found_strays : (strays : List ℕ) → length v.lines.items ≡ s.chunks
+      → ((j : Image) → IsTable (length v.lines.items) (seen_line j) v.lines.items → strays ≡ filter (is_stray j) (range_with_len 0 (length v.lines.items)))
+      → strays ≡ stray_lines i
+  found_strays strays count are = are i (subst (λ n. IsTable n (seen_line i) v.lines.items) (sym count) S.lines)
+      ∙ ap (λ n. filter (is_stray i) (range_with_len 0 n)) (count ∙ chunks_are)
 
-  one_row : (rows : List (Option Row)) (tops : List ℕ) (k : ℕ) → k < s.chunks → length v.lines.items ≡ s.chunks → IsTable s.chunks (row_of (option_map start_numbers v.head)) rows
-      → IsTable s.chunks (top_of (counted_after (bares v.traces.items) (option_map start_numbers v.head))) tops → line_row i k ≡ row_from v.lines.items (option_map start_numbers v.head) rows tops k
+  one_row : (rows : List (Option Row)) (tops : List ℕ) (k : ℕ) → k < s.chunks → length v.lines.items ≡ s.chunks
+      → IsTable s.chunks (row_of (option_map start_numbers v.head)) rows
+      → IsTable s.chunks (top_of (counted_after (bares v.traces.items) (option_map start_numbers v.head))) tops
+      → line_row i k ≡ row_from v.lines.items (option_map start_numbers v.head) rows tops k
   unfolding seen_line
   one_row rows tops k inside count rows_are tops_are =
-      let seen : get_or v.lines.items k (record { seq = None; full = false; used = false }) ≡ seen_line i k = there s.chunks (seen_line i) v.lines.items k _ S.lines (omega arith) in
-      let row : get_or rows k None ≡ row_of (option_map start_numbers v.head) k = there s.chunks (row_of (option_map start_numbers v.head)) rows k None rows_are (omega (arith, rows_are.count)) in
+      let seen : get_or v.lines.items k (record { seq = None; full = false; used = false }) ≡ seen_line i k =
+      there s.chunks (seen_line i) v.lines.items k _ S.lines (omega arith) in
+      let row : get_or rows k None ≡ row_of (option_map start_numbers v.head) k =
+      there s.chunks (row_of (option_map start_numbers v.head)) rows k None rows_are (omega (arith, rows_are.count)) in
       let top : get_or tops k 0 ≡ top_of (counted i) k =
-      there s.chunks (top_of (counted_after (bares v.traces.items) (option_map start_numbers v.head))) tops k 0 tops_are (omega (arith, tops_are.count)) ∙ ap (λ x. top_of x k) counted_are ∙ top_thin (counted i) k in
+      there s.chunks (top_of (counted_after (bares v.traces.items) (option_map start_numbers v.head))) tops k 0 tops_are (omega (arith, tops_are.count))
+      ∙ ap (λ x. top_of x k) counted_are ∙ top_thin (counted i) k in
       let bound : bound_from (get_or rows k None) (seen_line i k).seq ≡ bound_with (head i) k (seen_line i k).seq =
       ap (λ o. bound_from o (seen_line i k).seq) row ∙ bound_is v.head k (seen_line i k).seq S.fits ∙ ap (λ o. bound_with o k (seen_line i k).seq) head_is in
       rw (seen, bound, top, head_is) refl
 
-  pub found_rows : (rows : List (Option Row)) (tops : List ℕ) (found : List LineRow) → length v.lines.items ≡ s.chunks → IsTable s.chunks (row_of (option_map start_numbers v.head)) rows
+  pub found_rows : (rows : List (Option Row)) (tops : List ℕ) (found : List LineRow) → length v.lines.items ≡ s.chunks
+      → IsTable s.chunks (row_of (option_map start_numbers v.head)) rows
       → IsTable s.chunks (top_of (counted_after (bares v.traces.items) (option_map start_numbers v.head))) tops
-      → IsTable (length v.lines.items) (λ k. row_from v.lines.items (option_map start_numbers v.head) rows tops k) found → found ≡ map (line_row i) (range_with_len 0 i.shape.chunks)
+      → IsTable (length v.lines.items) (λ k. row_from v.lines.items (option_map start_numbers v.head) rows tops k) found
+      → found ≡ map (line_row i) (range_with_len 0 i.shape.chunks)
   found_rows rows tops found count rows_are tops_are table =
-      let t : IsTable s.chunks (λ k. row_from v.lines.items (option_map start_numbers v.head) rows tops k) found = subst (λ n. IsTable n (λ k. row_from v.lines.items (option_map start_numbers v.head) rows tops k) found) count table in
-      table_list s.chunks (line_row i) found (table_same s.chunks (λ k. row_from v.lines.items (option_map start_numbers v.head) rows tops k) (line_row i) found t (λ k below. one_row rows tops k below count rows_are tops_are))
+      let t : IsTable s.chunks (λ k. row_from v.lines.items (option_map start_numbers v.head) rows tops k) found =
+      subst (λ n. IsTable n (λ k. row_from v.lines.items (option_map start_numbers v.head) rows tops k) found) count table in
+      table_list s.chunks (line_row i) found
+      (table_same s.chunks (λ k. row_from v.lines.items (option_map start_numbers v.head) rows tops k) (line_row i) found t
+      (λ k below. one_row rows tops k below count rows_are tops_are))
       ∙ ap (λ n. map (line_row i) (range_with_len 0 n)) chunks_are
 
 -- As the code comes to it, through the slices that it passes.
 pub found_all : (i : Image) (s : Shape) (v : Survey) (shape : i.shape ≡ s) (S : IsSurvey i s.chunks v) (count : length v.lines.items ≡ s.chunks)
     (f : Found) (e : ℕ) (rows : List (Option MetaRow)) (t : Tally) (ws : List Winner) (strays : List ℕ) (found : List LineRow) (chunks : List ChunkState)
     (traces1 traces2 : List Trace) (rows3 rows7 : List (Option MetaRow)) (best : List (Option Trace)) (lines5 lines6 : List SeenLine) (tops : List ℕ)
-    → traces1 ≡ v.traces.items → traces2 ≡ v.traces.items → rows3 ≡ rows → rows7 ≡ rows → best ≡ t.winners.items → lines5 ≡ v.lines.items → lines6 ≡ v.lines.items → tops ≡ t.tops.items
+    → traces1 ≡ v.traces.items → traces2 ≡ v.traces.items → rows3 ≡ rows → rows7 ≡ rows → best ≡ t.winners.items → lines5 ≡ v.lines.items
+    → lines6 ≡ v.lines.items → tops ≡ t.tops.items
     → e ≡ end_after (bares traces1) (option_map start_numbers v.head)
     → IsTable s.chunks (row_of (option_map start_numbers v.head)) (map (option_map row_numbers) rows)
     → IsTally s.capacity (length rows3) (counted_after (bares traces2) (option_map start_numbers v.head)) t
-    → ((g : ℕ → Option Record) → IsTable (length best) g (map (option_map bare) best) → ws ≡ filter_map (λ lba. option_map (winner_with lba) (g lba)) (range_with_len 0 (length best)))
+    → ((g : ℕ → Option Record) → IsTable (length best) g (map (option_map bare) best)
+    → ws ≡ filter_map (λ lba. option_map (winner_with lba) (g lba)) (range_with_len 0 (length best)))
     → ((j : Image) → IsTable (length lines5) (seen_line j) lines5 → strays ≡ filter (is_stray j) (range_with_len 0 (length lines5)))
     → IsTable (length lines6) (λ k. row_from lines6 (option_map start_numbers v.head) (map (option_map row_numbers) rows7) tops k) found
     → chunks ≡ taken_states i
-    → f.winners ≡ ws → f.head ≡ option_map (λ h. h.line) (option_map start_numbers v.head) → f.front ≡ option_map_or (λ h. h.front) (option_map start_numbers v.head) 0 → f.end ≡ e → f.strays ≡ strays → f.chunks ≡ chunks → f.lines ≡ found
+    → f.winners ≡ ws → f.head ≡ option_map (λ h. h.line) (option_map start_numbers v.head)
+    → f.front ≡ option_map_or (λ h. h.front) (option_map start_numbers v.head) 0 → f.end ≡ e → f.strays ≡ strays → f.chunks ≡ chunks → f.lines ≡ found
     → IsFoundOf i f
-found_all i s v shape S count f e rows t ws strays found chunks traces1 traces2 rows3 rows7 best lines5 lines6 tops d1 d2 d3 d7 d4 d5 d6 d8 e-is rows-is tally winners strays-is rows-found chunks-is f1 f2 f3 f4 f5 f6 f7 =
+found_all i s v shape S count f e rows t ws strays found chunks traces1 traces2 rows3 rows7 best lines5 lines6 tops d1 d2 d3 d7 d4 d5 d6 d8 e-is rows-is tally
+    winners strays-is rows-found chunks-is f1 f2 f3 f4 f5 f6 f7 =
     let h : Option StartRecord = option_map start_numbers v.head in
     let lines3 : length rows3 ≡ s.chunks = ap length d3 ∙ sym (length-map rows (option_map row_numbers)) ∙ rows-is.count in
-    let tally' : IsTally s.capacity (length rows3) (counted_after (bares v.traces.items) h) t = subst (λ ts. IsTally s.capacity (length rows3) (counted_after (bares ts) h) t) d2 tally in
-    let tops' : IsTable s.chunks (top_of (counted_after (bares v.traces.items) h)) t.tops.items = subst (λ n. IsTable n (top_of (counted_after (bares v.traces.items) h)) t.tops.items) lines3 tally'.tops in
+    let tally' : IsTally s.capacity (length rows3) (counted_after (bares v.traces.items) h) t =
+    subst (λ ts. IsTally s.capacity (length rows3) (counted_after (bares ts) h) t) d2 tally in
+    let tops' : IsTable s.chunks (top_of (counted_after (bares v.traces.items) h)) t.tops.items =
+    subst (λ n. IsTable n (top_of (counted_after (bares v.traces.items) h)) t.tops.items) lines3 tally'.tops in
     let table : IsTable (length v.lines.items) (λ k. row_from v.lines.items h (map (option_map row_numbers) rows) t.tops.items k) found =
     subst (λ xs. IsTable (length v.lines.items) (λ k. row_from v.lines.items h (map (option_map row_numbers) rows) xs k) found) d8
     (subst (λ xs. IsTable (length v.lines.items) (λ k. row_from v.lines.items h (map (option_map row_numbers) xs) tops k) found) d7
     (subst (λ xs. IsTable (length xs) (λ k. row_from xs h (map (option_map row_numbers) rows7) tops k) found) d6 rows-found)) in
     record {
-      winners_are = f1 ∙ found_winners i s v shape S t (length rows3) ws tally' (subst (λ xs. (g : ℕ → Option Record) → IsTable (length xs) g (map (option_map bare) xs) → ws ≡ filter_map (λ lba. option_map (winner_with lba) (g lba)) (range_with_len 0 (length xs))) d4 winners);
+      winners_are = f1 ∙ found_winners i s v shape S t (length rows3) ws tally'
+          (subst (λ xs. (g : ℕ → Option Record) → IsTable (length xs) g (map (option_map bare) xs)
+          → ws ≡ filter_map (λ lba. option_map (winner_with lba) (g lba)) (range_with_len 0 (length xs))) d4 winners);
       head_is = f2 ∙ ap (option_map (λ h. h.line)) (head_is i s v shape S);
       front_is = f3 ∙ ap (λ o. option_map_or (λ h. h.front) o 0) (head_is i s v shape S);
       end_is = f4 ∙ found_end i s v shape S e (e-is ∙ ap (λ ts. end_after (bares ts) h) d1);
-      strays_are = f5 ∙ found_strays i s v shape S strays count (subst (λ xs. (j : Image) → IsTable (length xs) (seen_line j) xs → strays ≡ filter (is_stray j) (range_with_len 0 (length xs))) d5 strays-is);
+      strays_are = f5 ∙ found_strays i s v shape S strays count
+          (subst (λ xs. (j : Image) → IsTable (length xs) (seen_line j) xs → strays ≡ filter (is_stray j) (range_with_len 0 (length xs))) d5 strays-is);
       chunks_are = f6 ∙ chunks-is;
       lines_are = f7 ∙ found_rows i s v shape S (map (option_map row_numbers) rows) t.tops.items found count rows-is tops' table;
     }

@@ -17,5 +17,6 @@ get_map f a zero i j below e = absurd (omega (arith, below))
 get_map f a (suc n) zero j below e = ap (λ k. Some (f k)) (omega (arith, e))
 get_map f a (suc n) (suc i) j below e = get_map f (a + 1) n i j (omega (arith, below)) (omega (arith, e))
 
-pub get-sectors_in : (size count lba : ℕ) (bytes : List ℕ) → lba < count → slice_get (sectors_in size count bytes) lba ≡ Some (slice_range bytes (lba * size) (lba * size + size))
+pub get-sectors_in : (size count lba : ℕ) (bytes : List ℕ) → lba < count
+    → slice_get (sectors_in size count bytes) lba ≡ Some (slice_range bytes (lba * size) (lba * size + size))
 get-sectors_in size count lba bytes below = get_map (λ k. slice_range bytes (k * size) (k * size + size)) 0 count lba lba below (omega arith)

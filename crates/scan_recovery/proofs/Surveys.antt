@@ -33,14 +33,16 @@ use Rattle.lemmas.proofs.Parts.{drop_front, take_front}
 
 -- Runs of a line.
 
-run_by : (o : Option Block) (bs : List (Option Block)) (r : Option (List Block)) → run_of bs ≡ r → run_of (o ∷ bs) ≡ option_and_then (λ b. option_map (λ rest. b ∷ rest) r) o
+run_by : (o : Option Block) (bs : List (Option Block)) (r : Option (List Block)) → run_of bs ≡ r
+    → run_of (o ∷ bs) ≡ option_and_then (λ b. option_map (λ rest. b ∷ rest) r) o
 run_by None bs r e = refl
 run_by (Some b) bs r e = ap (option_map (λ rest. b ∷ rest)) e
 
 run_range : (i : Image) (line a n : ℕ) → run_of (map (block_at i line) (range_with_len a n)) ≡ written_run i line a n
 unfolding written_run
 run_range i line a zero = refl
-run_range i line a (suc n) = run_by (block_at i line a) (map (block_at i line) (range_with_len (a + 1) n)) (written_run i line (a + 1) n) (run_range i line (a + 1) n)
+run_range i line a (suc n) = run_by (block_at i line a) (map (block_at i line) (range_with_len (a + 1) n)) (written_run i line (a + 1) n)
+    (run_range i line (a + 1) n)
 
 map_both : {X Y : Type 0} (f : X → Y) (xs ys : List X) → map f (xs ++ ys) ≡ map f xs ++ map f ys
 map_both f [] ys = refl
@@ -53,20 +55,27 @@ blocks_length i line = length_mapped (block_at i line) 0 (width i line * i.shape
 made_front : {X : Type 0} (f : ℕ → X) (n m : ℕ) → n ≤ m → take n (map f (range_with_len 0 m)) ≡ map f (range_with_len 0 n)
 made_front f n m h =
     let parts : m ≡ n + (m - n) = omega arith in
-    ap (λ k. take n (map f (range_with_len 0 k))) parts ∙ ap (λ xs. take n (map f xs)) (range_split 0 n (m - n)) ∙ ap (take n) (map_both f (range_with_len 0 n) (range_with_len (0 + n) (m - n)))
+    ap (λ k. take n (map f (range_with_len 0 k))) parts ∙ ap (λ xs. take n (map f xs)) (range_split 0 n (m - n))
+    ∙ ap (take n) (map_both f (range_with_len 0 n) (range_with_len (0 + n) (m - n)))
     ∙ take_front (map f (range_with_len 0 n)) (map f (range_with_len (0 + n) (m - n))) n (length_mapped f 0 n)
 
 made_rest : {X : Type 0} (f : ℕ → X) (n m : ℕ) → n ≤ m → drop n (map f (range_with_len 0 m)) ≡ map f (range_with_len n (m - n))
 made_rest f n m h =
     let parts : m ≡ n + (m - n) = omega arith in
-    ap (λ k. drop n (map f (range_with_len 0 k))) parts ∙ ap (λ xs. drop n (map f xs)) (range_split 0 n (m - n)) ∙ ap (drop n) (map_both f (range_with_len 0 n) (range_with_len (0 + n) (m - n)))
+    ap (λ k. drop n (map f (range_with_len 0 k))) parts ∙ ap (λ xs. drop n (map f xs)) (range_split 0 n (m - n))
+    ∙ ap (drop n) (map_both f (range_with_len 0 n) (range_with_len (0 + n) (m - n)))
     ∙ drop_front (map f (range_with_len 0 n)) (map f (range_with_len (0 + n) (m - n))) n (length_mapped f 0 n)
     ∙ ap (λ a. map f (range_with_len a (m - n))) (zero-add n)
 
 pub past_line : (i : Image) (line a : ℕ) → IsAccepted i.shape → IsFit i → width i line * i.shape.clba ≤ a → block_at i line a ≡ None
 past_line i line a accepted fit past =
     no_block_past i line a fit accepted.drive.ws_opt accepted.drive.whole_stripes
-    (slice_get_past (line_order i.shape (line_units i line)) a (omega (arith, order_length i.shape (line_units i line) accepted.drive.ws_opt accepted.drive.whole_stripes, ap (λ n. n * i.shape.clba) (line_units_count i line))))
+    (slice_get_past (line_order i.shape (line_units i line)) a
+    (omega (
+      arith,
+      order_length i.shape (line_units i line) accepted.drive.ws_opt accepted.drive.whole_stripes,
+      ap (λ n. n * i.shape.clba) (line_units_count i line),
+    )))
 
 -- The start record.
 
@@ -89,7 +98,8 @@ start_of_line i line accepted fit =
 
 -- The end record.
 
-pub end_of_line : (i : Image) (line : ℕ) (start : StartRecord) → IsAccepted i.shape → IsFit i → end_among i.shape line (width i line) start.seq (line_blocks i line) ≡ end_of i line start
+pub end_of_line : (i : Image) (line : ℕ) (start : StartRecord) → IsAccepted i.shape → IsFit i
+    → end_among i.shape line (width i line) start.seq (line_blocks i line) ≡ end_of i line start
 unfolding end_among line_blocks
 end_of_line i line start accepted fit =
     let m : ℕ = width i line * i.shape.clba in
@@ -105,7 +115,9 @@ end_of_line i line start accepted fit =
           let rest : m - (m - n) ≡ n = omega arith in
           ap (λ b. cond b None (end_from i.shape line (width i line) start.seq (run_of (drop (length bs - n) bs)))) (le-ltb (length bs) n (omega arith))
           ∙ ap (λ k. end_from i.shape line (width i line) start.seq (run_of (drop (k - n) bs))) len
-          ∙ ap (end_from i.shape line (width i line) start.seq) (ap run_of (made_rest (block_at i line) (m - n) m (omega arith) ∙ ap (λ k. map (block_at i line) (range_with_len (m - n) k)) rest) ∙ run_range i line (m - n) n)
+          ∙ ap (end_from i.shape line (width i line) start.seq)
+          (ap run_of (made_rest (block_at i line) (m - n) m (omega arith) ∙ ap (λ k. map (block_at i line) (range_with_len (m - n) k)) rest)
+          ∙ run_range i line (m - n) n)
     ]
 
 -- The records.
@@ -114,14 +126,18 @@ map_option : (o : Option Record) (rs : List Record) → cons_option (option_map 
 map_option None rs = refl
 map_option (Some r) rs = refl
 
-traces_range : (i : Image) (line : ℕ) (start : StartRecord) (a n : ℕ) → traces_from i.shape line start.seq (end_of i line start) a (map (block_at i line) (range_with_len a n)) ≡ map without_sector (filter_map (record_at i line start) (range_with_len a n))
+traces_range : (i : Image) (line : ℕ) (start : StartRecord) (a n : ℕ)
+    → traces_from i.shape line start.seq (end_of i line start) a (map (block_at i line) (range_with_len a n)) ≡ map without_sector
+    (filter_map (record_at i line start) (range_with_len a n))
 unfolding traces_from
 traces_range i line start a zero = refl
 traces_range i line start a (suc n) =
-    ap (cons_option (option_map without_sector (record_in i.shape line start.seq (end_of i line start) a (block_at i line a)))) (traces_range i line start (a + 1) n)
+    ap (cons_option (option_map without_sector (record_in i.shape line start.seq (end_of i line start) a (block_at i line a))))
+    (traces_range i line start (a + 1) n)
     ∙ map_option (record_at i line start a) (filter_map (record_at i line start) (range_with_len (a + 1) n))
 
-pub traces_of_line : (i : Image) (line : ℕ) (start : StartRecord) → start_of i line ≡ Some start → traces_from i.shape line start.seq (end_of i line start) 0 (line_blocks i line) ≡ map without_sector (line_records i line)
+pub traces_of_line : (i : Image) (line : ℕ) (start : StartRecord) → start_of i line ≡ Some start
+    → traces_from i.shape line start.seq (end_of i line start) 0 (line_blocks i line) ≡ map without_sector (line_records i line)
 unfolding line_blocks
 traces_of_line i line start is = traces_range i line start 0 (width i line * i.shape.clba) ∙ sym (ap (λ o. map without_sector (records_after i line o)) is)
 
@@ -131,9 +147,12 @@ pub flat_one : {X : Type 0} (f : ℕ → List X) (xs : List ℕ) (y : ℕ) → f
 flat_one f [] y = append-nil (f y)
 flat_one f (x ∷ xs) y = ap (λ zs. f x ++ zs) (flat_one f xs y) ∙ sym (append_assoc (f x) (flat_map f xs) (f y))
 
-pub lines_more : (i : Image) (n : ℕ) → map without_sector (flat_map (line_records i) (range_with_len 0 (n + 1))) ≡ map without_sector (flat_map (line_records i) (range_with_len 0 n)) ++ map without_sector (line_records i n)
+pub lines_more : (i : Image) (n : ℕ)
+    → map without_sector (flat_map (line_records i) (range_with_len 0 (n + 1))) ≡ map without_sector (flat_map (line_records i) (range_with_len 0 n))
+    ++ map without_sector (line_records i n)
 lines_more i n =
-    ap (λ xs. map without_sector (flat_map (line_records i) xs)) (range_last 0 n) ∙ ap (map without_sector) (flat_one (line_records i) (range_with_len 0 n) (0 + n))
+    ap (λ xs. map without_sector (flat_map (line_records i) xs)) (range_last 0 n)
+    ∙ ap (map without_sector) (flat_one (line_records i) (range_with_len 0 n) (0 + n))
     ∙ map_both without_sector (flat_map (line_records i) (range_with_len 0 n)) (line_records i (0 + n))
     ∙ ap (λ k. map without_sector (flat_map (line_records i) (range_with_len 0 n)) ++ map without_sector (line_records i k)) (zero-add n)
 
@@ -145,14 +164,16 @@ starts_one : (f : ℕ → Option StartRecord) (xs : List ℕ) (y : ℕ) → filt
 starts_one f [] y = refl
 starts_one f (x ∷ xs) y = starts_by (f x) (filter_map f xs) (cons_option (f y) []) (filter_map f (xs ++ y ∷ [])) (starts_one f xs y)
 
-fold_option : (rs : List StartRecord) (o : Option StartRecord) → fold later_start None (rs ++ cons_option o []) ≡ option_map_or (later_start (fold later_start None rs)) o (fold later_start None rs)
+fold_option : (rs : List StartRecord) (o : Option StartRecord)
+    → fold later_start None (rs ++ cons_option o []) ≡ option_map_or (later_start (fold later_start None rs)) o (fold later_start None rs)
 fold_option rs None = ap (fold later_start None) (append-nil rs)
 fold_option rs (Some r) = fold-append later_start None rs (r ∷ [])
 
 head_one : (i : Image) (n : ℕ) → head_to i (n + 1) ≡ option_map_or (later_start (head_to i n)) (start_of i n) (head_to i n)
 unfolding head_to
 head_one i n =
-    ap (λ xs. fold later_start None (filter_map (start_of i) xs)) (range_last 0 n) ∙ ap (fold later_start None) (starts_one (start_of i) (range_with_len 0 n) (0 + n))
+    ap (λ xs. fold later_start None (filter_map (start_of i) xs)) (range_last 0 n)
+    ∙ ap (fold later_start None) (starts_one (start_of i) (range_with_len 0 n) (0 + n))
     ∙ fold_option (filter_map (start_of i) (range_with_len 0 n)) (start_of i (0 + n))
     ∙ ap (λ k. option_map_or (later_start (head_to i n)) (start_of i k) (head_to i n)) (zero-add n)
 
@@ -163,8 +184,10 @@ by_later : (o : Option StartRecord) (r : StartRecord) → later_start o r ≡ co
 by_later None r = refl
 by_later (Some best) r = refl
 
-pub head_some : (i : Image) (n : ℕ) (r : StartRecord) (b : Bool) → start_of i n ≡ Some r → is_later (head_to i n) r.seq ≡ b → head_to i (n + 1) ≡ cond b (Some r) (head_to i n)
-head_some i n r b some later = head_one i n ∙ ap (λ o. option_map_or (later_start (head_to i n)) o (head_to i n)) some ∙ by_later (head_to i n) r ∙ ap (λ x. cond x (Some r) (head_to i n)) later
+pub head_some : (i : Image) (n : ℕ) (r : StartRecord) (b : Bool) → start_of i n ≡ Some r → is_later (head_to i n) r.seq ≡ b
+    → head_to i (n + 1) ≡ cond b (Some r) (head_to i n)
+head_some i n r b some later = head_one i n ∙ ap (λ o. option_map_or (later_start (head_to i n)) o (head_to i n)) some ∙ by_later (head_to i n) r
+    ∙ ap (λ x. cond x (Some r) (head_to i n)) later
 
 pub no_head : (i : Image) → None ≡ head_to i 0
 unfolding head_to
@@ -176,7 +199,8 @@ some_map : (e : Option End) → is_some e ≡ is_some (option_map end_numbers e)
 some_map None = refl
 some_map (Some x) = refl
 
-head_by : (b : Bool) (start : Start) (o : Option Start) → option_map start_numbers (cond b (Some start) o) ≡ cond b (Some (start_numbers start)) (option_map start_numbers o)
+head_by : (b : Bool) (start : Start) (o : Option Start)
+    → option_map start_numbers (cond b (Some start) o) ≡ cond b (Some (start_numbers start)) (option_map start_numbers o)
 head_by true start o = refl
 head_by false start o = refl
 
@@ -184,30 +208,37 @@ fits_by : (b : Bool) (start : Start) (o : Option Start) → HasStartFits start �
 fits_by true start o h k = h
 fits_by false start o h k = k
 
-module _ (i : Image) (s : Shape) (line g : ℕ) (used : Bool) (bs : List (Option Block)) (shape : i.shape ≡ s) (accepted : IsAccepted s) (fit : IsFit i) (is : IsLine i line g used bs) where
+module _ (i : Image) (s : Shape) (line g : ℕ) (used : Bool) (bs : List (Option Block)) (shape : i.shape ≡ s) (accepted : IsAccepted s) (fit : IsFit i)
+    (is : IsLine i line g used bs) where
   accepted' : IsAccepted i.shape
   accepted' = subst IsAccepted (sym shape) accepted
 
   start_is : (o : Option StartRecord) → o ≡ start_among s line g bs → start_of i line ≡ o
   start_is o h =
-      sym (h ∙ ap (λ x. start_among x line g bs) (sym shape) ∙ ap (λ x. start_among i.shape line x bs) is.width_is ∙ ap (start_among i.shape line (width i line)) is.blocks_are ∙ start_of_line i line accepted' fit)
+      sym (h ∙ ap (λ x. start_among x line g bs) (sym shape) ∙ ap (λ x. start_among i.shape line x bs) is.width_is
+      ∙ ap (start_among i.shape line (width i line)) is.blocks_are ∙ start_of_line i line accepted' fit)
 
   end_is : (start : StartRecord) (seq : ℕ) (o : Option EndRecord) → seq ≡ start.seq → o ≡ end_among s line g seq bs → end_of i line start ≡ o
   end_is start seq o seq-is h =
-      sym (h ∙ ap (λ x. end_among x line g seq bs) (sym shape) ∙ ap (λ x. end_among i.shape line x seq bs) is.width_is ∙ ap (λ x. end_among i.shape line (width i line) x bs) seq-is
+      sym (h ∙ ap (λ x. end_among x line g seq bs) (sym shape) ∙ ap (λ x. end_among i.shape line x seq bs) is.width_is
+      ∙ ap (λ x. end_among i.shape line (width i line) x bs) seq-is
       ∙ ap (end_among i.shape line (width i line) start.seq) is.blocks_are ∙ end_of_line i line start accepted' fit)
 
   row_none : start_of i line ≡ None → ◌≡◌ {A = SeenLine} (record { seq = None; full = false; used = used }) (seen_line i line)
   unfolding seen_line
   row_none none = rw (none, is.used_is) refl
 
-  pub survey_none : (old new : Survey) → None ≡ start_among s line g bs → IsSurvey i line old → new.lines.items ≡ old.lines.items ++ record { seq = None; full = false; used = used } ∷ [] → new.traces ≡ old.traces → new.head ≡ old.head
+  pub survey_none : (old new : Survey) → None ≡ start_among s line g bs → IsSurvey i line old
+      → new.lines.items ≡ old.lines.items ++ record { seq = None; full = false; used = used } ∷ [] → new.traces ≡ old.traces → new.head ≡ old.head
       → IsSurvey i (line + 1) new
   survey_none old new h was lines traces head =
       let none : start_of i line ≡ None = start_is None h in
       record {
-        lines = subst (IsTable (line + 1) (seen_line i)) (sym lines) (table_push line (seen_line i) old.lines.items (record { seq = None; full = false; used = used }) was.lines (row_none none));
-        traces = ap (λ ts. bares ts.items) traces ∙ was.traces ∙ sym (append-nil (map without_sector (flat_map (line_records i) (range_with_len 0 line)))) ∙ sym (lines_more i line ∙ ap (λ o. map without_sector (flat_map (line_records i) (range_with_len 0 line)) ++ map without_sector (records_after i line o)) none);
+        lines = subst (IsTable (line + 1) (seen_line i)) (sym lines)
+            (table_push line (seen_line i) old.lines.items (record { seq = None; full = false; used = used }) was.lines (row_none none));
+        traces = ap (λ ts. bares ts.items) traces ∙ was.traces ∙ sym (append-nil (map without_sector (flat_map (line_records i) (range_with_len 0 line))))
+            ∙ sym (lines_more i line ∙ ap (λ o. map without_sector (flat_map (line_records i) (range_with_len 0 line))
+            ++ map without_sector (records_after i line o)) none);
         head = ap (option_map start_numbers) head ∙ was.head ∙ sym (head_none i line none);
         fits = subst (λ o. IfSome o HasStartFits) (sym head) was.fits;
       }
@@ -217,7 +248,8 @@ module _ (i : Image) (s : Shape) (line g : ℕ) (used : Bool) (bs : List (Option
   unfolding seen_line
   row_some start e some ended = rw (some, ended, is.used_is, some_map e) refl
 
-  pub survey_some : (old new : Survey) (start : Start) (e : Option End) (b : Bool) → Some (start_numbers start) ≡ start_among s line g bs → HasStartFits start → option_map end_numbers e ≡ end_among s line g start.seq bs → IsSurvey i line old
+  pub survey_some : (old new : Survey) (start : Start) (e : Option End) (b : Bool) → Some (start_numbers start) ≡ start_among s line g bs → HasStartFits start
+      → option_map end_numbers e ≡ end_among s line g start.seq bs → IsSurvey i line old
       → new.lines.items ≡ old.lines.items ++ record { seq = Some start.seq; full = is_some e; used = used } ∷ []
       → bares new.traces.items ≡ bares old.traces.items ++ traces_from s line start.seq (option_map end_numbers e) 0 bs
       → is_later (option_map start_numbers old.head) start.seq ≡ b → new.head ≡ cond b (Some start) old.head
@@ -226,11 +258,15 @@ module _ (i : Image) (s : Shape) (line g : ℕ) (used : Bool) (bs : List (Option
       let some : start_of i line ≡ Some (start_numbers start) = start_is (Some (start_numbers start)) h in
       let ended : end_of i line (start_numbers start) ≡ option_map end_numbers e = end_is (start_numbers start) start.seq (option_map end_numbers e) refl h' in
       let more : traces_from s line start.seq (option_map end_numbers e) 0 bs ≡ map without_sector (line_records i line) =
-      ap (λ x. traces_from x line start.seq (option_map end_numbers e) 0 bs) (sym shape) ∙ ap (λ x. traces_from i.shape line start.seq x 0 bs) (sym ended) ∙ ap (traces_from i.shape line start.seq (end_of i line (start_numbers start)) 0) is.blocks_are
+      ap (λ x. traces_from x line start.seq (option_map end_numbers e) 0 bs) (sym shape) ∙ ap (λ x. traces_from i.shape line start.seq x 0 bs) (sym ended)
+      ∙ ap (traces_from i.shape line start.seq (end_of i line (start_numbers start)) 0) is.blocks_are
       ∙ traces_of_line i line (start_numbers start) some in
       record {
-        lines = subst (IsTable (line + 1) (seen_line i)) (sym lines) (table_push line (seen_line i) old.lines.items (record { seq = Some start.seq; full = is_some e; used = used }) was.lines (row_some start e some ended));
-        traces = traces ∙ ap (λ xs. xs ++ traces_from s line start.seq (option_map end_numbers e) 0 bs) was.traces ∙ ap (λ xs. map without_sector (flat_map (line_records i) (range_with_len 0 line)) ++ xs) more ∙ sym (lines_more i line);
+        lines = subst (IsTable (line + 1) (seen_line i)) (sym lines)
+            (table_push line (seen_line i) old.lines.items (record { seq = Some start.seq; full = is_some e; used = used }) was.lines
+            (row_some start e some ended));
+        traces = traces ∙ ap (λ xs. xs ++ traces_from s line start.seq (option_map end_numbers e) 0 bs) was.traces
+            ∙ ap (λ xs. map without_sector (flat_map (line_records i) (range_with_len 0 line)) ++ xs) more ∙ sym (lines_more i line);
         head = ap (option_map start_numbers) head ∙ head_by b start old.head ∙ ap (λ o. cond b (Some (start_numbers start)) o) was.head
             ∙ sym (head_some i line (start_numbers start) b some (ap (λ o. is_later o start.seq) (sym was.head) ∙ later));
         fits = subst (λ o. IfSome o HasStartFits) (sym head) (fits_by b start old.head fits was.fits);

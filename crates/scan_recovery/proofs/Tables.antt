@@ -16,7 +16,8 @@ use Rattle.lemmas.proofs.Parts.{drop_past, get_last, get_set_other, get_set_same
 use Rattle.lemmas.proofs.Tests.{and_false}
 
 -- one entry changes
-pub table_set : {X : Type 0} (n : ℕ) (f g : ℕ → X) (xs : List X) (k : ℕ) (x : X) → IsTable n f xs → k < n → g k ≡ x → ((j : ℕ) → j ≢ k → g j ≡ f j) → IsTable n g (slice_set xs k x)
+pub table_set : {X : Type 0} (n : ℕ) (f g : ℕ → X) (xs : List X) (k : ℕ) (x : X) → IsTable n f xs → k < n → g k ≡ x → ((j : ℕ) → j ≢ k → g j ≡ f j)
+    → IsTable n g (slice_set xs k x)
 table_set n f g xs k x h inside here others = record {
   count = length-set xs k x ∙ h.count;
   each = λ j below. at_place j below (ℕ_discrete j k);
@@ -68,33 +69,42 @@ unborne rs true x e = absurd cc
 unborne rs false x e = or_false x
 
 pub still_borne_other : (rs : List Record) (r : Record) (h : StartRecord) (k : ℕ) → r.position ≢ h.front + k → borne_at (rs ++ r ∷ []) h k ≡ borne_at rs h k
-still_borne_other rs r h k other = borne_more rs r h (h.front + k) ∙ unborne rs (bears_at h (h.front + k) r) (is_borne rs h (h.front + k)) (and_false (nat_le h.first_seq r.seq) (r.position == h.front + k) (ne_eqb r.position (h.front + k) other))
+still_borne_other rs r h k other = borne_more rs r h (h.front + k)
+    ∙ unborne rs (bears_at h (h.front + k) r) (is_borne rs h (h.front + k))
+    (and_false (nat_le h.first_seq r.seq) (r.position == h.front + k) (ne_eqb r.position (h.front + k) other))
 
 first_false : (a b : Bool) → a ≡ false → a && b ≡ false
 first_false true b e = absurd cc
 first_false false b e = refl
 
 pub still_borne_older : (rs : List Record) (r : Record) (h : StartRecord) (k : ℕ) → r.seq < h.first_seq → borne_at (rs ++ r ∷ []) h k ≡ borne_at rs h k
-still_borne_older rs r h k older = borne_more rs r h (h.front + k) ∙ unborne rs (bears_at h (h.front + k) r) (is_borne rs h (h.front + k)) (first_false (nat_le h.first_seq r.seq) (r.position == h.front + k) (lt-leb h.first_seq r.seq older))
+still_borne_older rs r h k older = borne_more rs r h (h.front + k)
+    ∙ unborne rs (bears_at h (h.front + k) r) (is_borne rs h (h.front + k))
+    (first_false (nat_le h.first_seq r.seq) (r.position == h.front + k) (lt-leb h.first_seq r.seq older))
 
 -- The record is noted in the table.
-pub note_set : (n : ℕ) (rs : List Record) (r : Record) (h : StartRecord) (xs : List Bool) → IsTable n (borne_at rs h) xs → h.first_seq ≤ r.seq → h.front ≤ r.position → r.position - h.front < length xs
+pub note_set : (n : ℕ) (rs : List Record) (r : Record) (h : StartRecord) (xs : List Bool) → IsTable n (borne_at rs h) xs → h.first_seq ≤ r.seq
+    → h.front ≤ r.position → r.position - h.front < length xs
     → IsTable n (borne_at (rs ++ r ∷ []) h) (slice_set xs (r.position - h.front) true)
 note_set n rs r h xs table mount above inside =
     table_set n (borne_at rs h) (borne_at (rs ++ r ∷ []) h) xs (r.position - h.front) true table (omega (arith, table.count))
     (now_borne rs r h (r.position - h.front) mount (omega arith))
     (λ j other. still_borne_other rs r h j (λ e. other (omega arith)))
 
-pub note_past : (n : ℕ) (rs : List Record) (r : Record) (h : StartRecord) (xs : List Bool) → IsTable n (borne_at rs h) xs → h.front ≤ r.position → length xs ≤ r.position - h.front
+pub note_past : (n : ℕ) (rs : List Record) (r : Record) (h : StartRecord) (xs : List Bool) → IsTable n (borne_at rs h) xs → h.front ≤ r.position
+    → length xs ≤ r.position - h.front
     → IsTable n (borne_at (rs ++ r ∷ []) h) xs
 note_past n rs r h xs table above past =
     table_same n (borne_at rs h) (borne_at (rs ++ r ∷ []) h) xs table (λ j below. still_borne_other rs r h j (λ e. omega (arith, table.count)))
 
-pub note_older : (n : ℕ) (rs : List Record) (r : Record) (h : StartRecord) (xs : List Bool) → IsTable n (borne_at rs h) xs → r.seq < h.first_seq → IsTable n (borne_at (rs ++ r ∷ []) h) xs
+pub note_older : (n : ℕ) (rs : List Record) (r : Record) (h : StartRecord) (xs : List Bool) → IsTable n (borne_at rs h) xs → r.seq < h.first_seq
+    → IsTable n (borne_at (rs ++ r ∷ []) h) xs
 note_older n rs r h xs table older = table_same n (borne_at rs h) (borne_at (rs ++ r ∷ []) h) xs table (λ j below. still_borne_older rs r h j older)
 
-pub note_below : (n : ℕ) (rs : List Record) (r : Record) (h : StartRecord) (xs : List Bool) → IsTable n (borne_at rs h) xs → r.position < h.front → IsTable n (borne_at (rs ++ r ∷ []) h) xs
-note_below n rs r h xs table below = table_same n (borne_at rs h) (borne_at (rs ++ r ∷ []) h) xs table (λ j inside. still_borne_other rs r h j (λ e. omega arith))
+pub note_below : (n : ℕ) (rs : List Record) (r : Record) (h : StartRecord) (xs : List Bool) → IsTable n (borne_at rs h) xs → r.position < h.front
+    → IsTable n (borne_at (rs ++ r ∷ []) h) xs
+note_below n rs r h xs table below =
+    table_same n (borne_at rs h) (borne_at (rs ++ r ∷ []) h) xs table (λ j inside. still_borne_other rs r h j (λ e. omega arith))
 
 -- The first that is missing.
 
@@ -104,7 +114,8 @@ pub flag_at : (n : ℕ) (f : ℕ → Bool) (xs : List Bool) (k : ℕ) (b : Bool)
 flag_at n f xs k b h inside is = get_table n f xs k b h (slice_get-get_or xs k false inside ∙ ap Some is)
 
 pub vec_written : {X : Type 0} (len : ℕ) (xs items : List X) → length xs ≡ len → length items ≡ len → take len (xs ++ drop (length xs) items) ≡ xs
-vec_written len xs items a b = ap (λ ys. take len (xs ++ ys)) (drop_past items (length xs) (omega arith)) ∙ ap (take len) (append-nil xs) ∙ take_all xs len (omega arith)
+vec_written len xs items a b = ap (λ ys. take len (xs ++ ys)) (drop_past items (length xs) (omega arith)) ∙ ap (take len) (append-nil xs)
+    ∙ take_all xs len (omega arith)
 
 -- one more element of what was passed
 pub take_one : {X : Type 0} (xs : List X) (k : ℕ) (d : X) → k < length xs → take (k + 1) xs ≡ take k xs ++ get_or xs k d ∷ []
@@ -112,7 +123,8 @@ take_one [] k d h = absurd (omega arith)
 take_one (x ∷ xs) zero d h = refl
 take_one (x ∷ xs) (suc k) d h = let e : suc k + 1 ≡ suc (k + 1) = omega arith in ap (λ n. take n (x ∷ xs)) e ∙ ap (λ ys. x ∷ ys) (take_one xs k d (omega arith))
 
-pub map_take_one : {X Y : Type 0} (f : X → Y) (xs : List X) (k : ℕ) (d : X) → k < length xs → map f (take (k + 1) xs) ≡ map f (take k xs) ++ f (get_or xs k d) ∷ []
+pub map_take_one : {X Y : Type 0} (f : X → Y) (xs : List X) (k : ℕ) (d : X) → k < length xs
+    → map f (take (k + 1) xs) ≡ map f (take k xs) ++ f (get_or xs k d) ∷ []
 map_take_one f xs k d h = ap (map f) (take_one xs k d h) ∙ map_last f (take k xs) (get_or xs k d)
 
 -- one entry more at the end
@@ -130,18 +142,22 @@ pub table_push : {X : Type 0} (n : ℕ) (f : ℕ → X) (xs : List X) (x : X) �
 table_push n f xs x h is = record { count = length_one xs x ∙ ap (λ k. k + 1) h.count; each = λ k below. at_place k below (cases_lt k n) } where
   at_place : (k : ℕ) → k < n + 1 → (k < n) ⊎ (n ≤ k) → slice_get (xs ++ x ∷ []) k ≡ Some (f k)
   at_place k below (inl less) = get_before xs x k (omega (arith, h.count)) ∙ h.each k less
-  at_place k below (inr most) = let here : k ≡ length xs = omega (arith, h.count) in let at : k ≡ n = omega arith in ap (slice_get (xs ++ x ∷ [])) here ∙ get_last xs x ∙ ap Some (is ∙ ap f (sym at))
+  at_place k below (inr most) = let here : k ≡ length xs = omega (arith, h.count) in let at : k ≡ n = omega arith in ap (slice_get (xs ++ x ∷ [])) here
+      ∙ get_last xs x ∙ ap Some (is ∙ ap f (sym at))
 
 -- a table as a list
 pub table_list : {X : Type 0} (n : ℕ) (f : ℕ → X) (xs : List X) → IsTable n f xs → xs ≡ map f (range_with_len 0 n)
 table_list n f xs h = from 0 n xs f h.count (λ k below. (let place : k ≡ 0 + k = omega arith in h.each k below ∙ ap (λ j. Some (f j)) place)) where
-  from : {X : Type 0} (a n : ℕ) (xs : List X) (f : ℕ → X) → length xs ≡ n → ((k : ℕ) → k < n → slice_get xs k ≡ Some (f (a + k))) → xs ≡ map f (range_with_len a n)
+  from : {X : Type 0} (a n : ℕ) (xs : List X) (f : ℕ → X) → length xs ≡ n → ((k : ℕ) → k < n → slice_get xs k ≡ Some (f (a + k)))
+      → xs ≡ map f (range_with_len a n)
   from a zero [] f count each = refl
   from a zero (x ∷ xs) f count each = absurd (omega arith)
   from a (suc n) [] f count each = absurd (omega arith)
   from a (suc n) (x ∷ xs) f count each =
       let first : x ≡ f a = same_Some x (f a) (each 0 (omega arith) ∙ ap (λ k. Some (f k)) (add-zero a)) in
-      ap (λ y. y ∷ xs) first ∙ ap (λ ys. f a ∷ ys) (from (a + 1) n xs f (omega arith) (λ k below. (let place : a + suc k ≡ a + 1 + k = omega arith in each (suc k) (omega arith) ∙ ap (λ j. Some (f j)) place)))
+      ap (λ y. y ∷ xs) first ∙ ap (λ ys. f a ∷ ys)
+      (from (a + 1) n xs f (omega arith)
+      (λ k below. (let place : a + suc k ≡ a + 1 + k = omega arith in each (suc k) (omega arith) ∙ ap (λ j. Some (f j)) place)))
 
 -- what stands at an index, whatever the default
 pub get_default : {X : Type 0} (xs : List X) (k : ℕ) (d e : X) → k < length xs → get_or xs k d ≡ get_or xs k e

@@ -50,7 +50,8 @@ row_facts s r least row rows h =
     let f : nat_le least row.line ≡ true = and_left _ _ e in
     record { low = leb-true least row.line f; rest = and_right _ (rows_fit s r (row.line + 1) rows) h }
 
-none_match : (s : Shape) (r : StartRecord) (least : ℕ) (rows : List Row) (x : Record) → rows_fit s r least rows ≡ true → x.line < least → list_any (bounds x) rows ≡ false
+none_match : (s : Shape) (r : StartRecord) (least : ℕ) (rows : List Row) (x : Record) → rows_fit s r least rows ≡ true → x.line < least
+    → list_any (bounds x) rows ≡ false
 none_match s r least [] x h below = refl
 none_match s r least (row ∷ rows) x h below =
     let f = row_facts s r least row rows h in
@@ -61,7 +62,8 @@ or_none : (a b : Bool) → b ≡ false → a || b ≡ a
 or_none true b h = refl
 or_none false b h = h
 
-any_is_row : (s : Shape) (r : StartRecord) (least : ℕ) (rows : List Row) (x : Record) → rows_fit s r least rows ≡ true → list_any (bounds x) rows ≡ is_below_row (find (λ row. row.line == x.line) rows) x
+any_is_row : (s : Shape) (r : StartRecord) (least : ℕ) (rows : List Row) (x : Record) → rows_fit s r least rows ≡ true
+    → list_any (bounds x) rows ≡ is_below_row (find (λ row. row.line == x.line) rows) x
 any_is_row s r least [] x h = refl
 any_is_row s r least (row ∷ rows) x h =
     let f = row_facts s r least row rows h in
@@ -78,7 +80,8 @@ any_is_row s r least (row ∷ rows) x h =
           ∙ sym (ap (λ b. is_below_row (cond b (Some row) (find (λ row. row.line == x.line) rows)) x) miss)
     ]
 
-pub counts_by_row : (s : Shape) (line g end : ℕ) (h : StartRecord) (row : Option Row) (x : Record) (below : Bool) → start_fits s line g h ≡ true → row ≡ row_of (Some h) x.line
+pub counts_by_row : (s : Shape) (line g end : ℕ) (h : StartRecord) (row : Option Row) (x : Record) (below : Bool) → start_fits s line g h ≡ true
+    → row ≡ row_of (Some h) x.line
     → (nat_le h.first_seq x.seq && nat_lt x.position end) ≡ false → below ≡ is_below_row row x → below ≡ counts h end x
 counts_by_row s line g end h row x below fits row-is older below-is =
     let rows : rows_fit s h 0 h.rows ≡ true = and_right _ (rows_fit s h 0 h.rows) fits in
@@ -104,16 +107,20 @@ top_one : (rs : List Record) (b : Bool) (r : Record) → fold higher 0 (rs ++ co
 top_one rs true r = fold-append higher 0 rs (r ∷ [])
 top_one rs false r = fold-append higher 0 rs []
 
-pub top_more : (rs : List Record) (r : Record) (line : ℕ) → top_of (rs ++ r ∷ []) line ≡ cond (r.line == line) (max (top_of rs line) (r.position + 1)) (top_of rs line)
+pub top_more : (rs : List Record) (r : Record) (line : ℕ)
+    → top_of (rs ++ r ∷ []) line ≡ cond (r.line == line) (max (top_of rs line) (r.position + 1)) (top_of rs line)
 top_more rs r line = ap (fold higher 0) (filter_one (λ r. r.line == line) rs r) ∙ top_one (filter (λ r. r.line == line) rs) (r.line == line) r
 
-pub tops_noted : (lines : ℕ) (rs : List Record) (tops : List ℕ) (r : Record) (top : ℕ) → IsTable lines (top_of rs) tops → r.line < length tops → top ≡ max (get_or tops r.line 0) (r.position + 1)
+pub tops_noted : (lines : ℕ) (rs : List Record) (tops : List ℕ) (r : Record) (top : ℕ) → IsTable lines (top_of rs) tops → r.line < length tops
+    → top ≡ max (get_or tops r.line 0) (r.position + 1)
     → IsTable lines (top_of (rs ++ r ∷ [])) (slice_set tops r.line top)
 tops_noted lines rs tops r top h inside top-is =
     let within : r.line < lines = omega (arith, h.count) in
-    let old : get_or tops r.line 0 ≡ top_of rs r.line = same_Some (get_or tops r.line 0) (top_of rs r.line) (sym (slice_get-get_or tops r.line 0 inside) ∙ h.each r.line within) in
+    let old : get_or tops r.line 0 ≡ top_of rs r.line =
+    same_Some (get_or tops r.line 0) (top_of rs r.line) (sym (slice_get-get_or tops r.line 0 inside) ∙ h.each r.line within) in
     table_set lines (top_of rs) (top_of (rs ++ r ∷ [])) tops r.line top h within
-    (top_more rs r r.line ∙ ap (λ b. cond b (max (top_of rs r.line) (r.position + 1)) (top_of rs r.line)) (eq-eqb r.line r.line refl) ∙ ap (λ n. max n (r.position + 1)) (sym old) ∙ sym top-is)
+    (top_more rs r r.line ∙ ap (λ b. cond b (max (top_of rs r.line) (r.position + 1)) (top_of rs r.line)) (eq-eqb r.line r.line refl)
+    ∙ ap (λ n. max n (r.position + 1)) (sym old) ∙ sym top-is)
     (λ j other. top_more rs r j ∙ ap (λ b. cond b (max (top_of rs j) (r.position + 1)) (top_of rs j)) (ne_eqb r.line j (λ e. other (sym e))))
 
 abbrev seen : List (Option Trace) → List (Option Record)
@@ -125,39 +132,51 @@ of_other lba j o e other = ap (is_of j) e ∙ ne_eqb lba j (λ x. other (sym x))
 other_winner : (rs : List Record) (r : Record) (j lba : ℕ) → r.lba ≡ Some lba → j ≢ lba → winner (rs ++ r ∷ []) j ≡ winner rs j
 other_winner rs r j lba e other = winner_more rs r j ∙ ap (λ b. cond b (newer (winner rs j) r) (winner rs j)) (of_other lba j r.lba e other)
 
-pub winners_noted : (sectors : ℕ) (rs : List Record) (ws : List (Option Trace)) (t best : Trace) (was : Option Trace) (lba : ℕ) → IsTable sectors (winner rs) (seen ws) → lba < length ws → t.lba ≡ Some lba
+pub winners_noted : (sectors : ℕ) (rs : List Record) (ws : List (Option Trace)) (t best : Trace) (was : Option Trace) (lba : ℕ)
+    → IsTable sectors (winner rs) (seen ws) → lba < length ws → t.lba ≡ Some lba
     → slice_get ws lba ≡ Some was → Some (bare best) ≡ newer (option_map bare was) (bare t)
     → IsTable sectors (winner (rs ++ bare t ∷ [])) (seen (slice_set ws lba (Some best)))
 winners_noted sectors rs ws t best was lba h inside lba-is there best-is =
     let within : lba < sectors = omega (arith, h.count, length-map ws (option_map bare)) in
-    let old : option_map bare was ≡ winner rs lba = same_Some (option_map bare was) (winner rs lba) (sym (slice_get-map (option_map bare) ws lba ∙ ap (option_map (option_map bare)) there) ∙ h.each lba within) in
+    let old : option_map bare was ≡ winner rs lba =
+    same_Some (option_map bare was) (winner rs lba)
+    (sym (slice_get-map (option_map bare) ws lba ∙ ap (option_map (option_map bare)) there) ∙ h.each lba within) in
     rw (map-set (option_map bare) ws lba (Some best))
     (table_set sectors (winner rs) (winner (rs ++ bare t ∷ [])) (seen ws) lba (Some (bare best)) h within
-    (winner_more rs (bare t) lba ∙ ap (λ b. cond b (newer (winner rs lba) (bare t)) (winner rs lba)) (of_same lba t.lba lba-is) ∙ ap (λ o. newer o (bare t)) (sym old) ∙ sym best-is)
+    (winner_more rs (bare t) lba ∙ ap (λ b. cond b (newer (winner rs lba) (bare t)) (winner rs lba)) (of_same lba t.lba lba-is)
+    ∙ ap (λ o. newer o (bare t)) (sym old) ∙ sym best-is)
     (λ j other. other_winner rs (bare t) j lba lba-is other))
 
-pub winners_past : (sectors : ℕ) (rs : List Record) (ws : List (Option Trace)) (t : Trace) (lba : ℕ) → IsTable sectors (winner rs) (seen ws) → length ws ≤ lba → t.lba ≡ Some lba → IsTable sectors (winner (rs ++ bare t ∷ [])) (seen ws)
+pub winners_past : (sectors : ℕ) (rs : List Record) (ws : List (Option Trace)) (t : Trace) (lba : ℕ) → IsTable sectors (winner rs) (seen ws) → length ws ≤ lba
+    → t.lba ≡ Some lba → IsTable sectors (winner (rs ++ bare t ∷ [])) (seen ws)
 winners_past sectors rs ws t lba h past lba-is =
-    table_same sectors (winner rs) (winner (rs ++ bare t ∷ [])) (seen ws) h (λ j below. other_winner rs (bare t) j lba lba-is (λ e. omega (arith, h.count, length-map ws (option_map bare))))
+    table_same sectors (winner rs) (winner (rs ++ bare t ∷ [])) (seen ws) h
+    (λ j below. other_winner rs (bare t) j lba lba-is (λ e. omega (arith, h.count, length-map ws (option_map bare))))
 
-pub winners_void : (sectors : ℕ) (rs : List Record) (ws : List (Option Trace)) (t : Trace) → IsTable sectors (winner rs) (seen ws) → t.lba ≡ None → IsTable sectors (winner (rs ++ bare t ∷ [])) (seen ws)
+pub winners_void : (sectors : ℕ) (rs : List Record) (ws : List (Option Trace)) (t : Trace) → IsTable sectors (winner rs) (seen ws) → t.lba ≡ None
+    → IsTable sectors (winner (rs ++ bare t ∷ [])) (seen ws)
 winners_void sectors rs ws t h void =
-    table_same sectors (winner rs) (winner (rs ++ bare t ∷ [])) (seen ws) h (λ j below. winner_more rs (bare t) j ∙ ap (λ o. cond (is_of j o) (newer (winner rs j) (bare t)) (winner rs j)) void)
+    table_same sectors (winner rs) (winner (rs ++ bare t ∷ [])) (seen ws) h
+    (λ j below. winner_more rs (bare t) j ∙ ap (λ o. cond (is_of j o) (newer (winner rs j) (bare t)) (winner rs j)) void)
 
 -- The records that count, one more.
 
 filter_by : (p : Record → Bool) (rs : List Record) (r : Record) (b : Bool) → p r ≡ b → filter p (rs ++ r ∷ []) ≡ filter p rs ++ cond b (r ∷ []) []
 filter_by p rs r b is = filter_one p rs r ∙ ap (λ x. filter p rs ++ cond x (r ∷ []) []) is
 
-pub counted_yes : (p : Record → Bool) (ts : List Trace) (k : ℕ) (d : Trace) → k < length ts → p (bare (get_or ts k d)) ≡ true → filter p (bares (take (k + 1) ts)) ≡ filter p (bares (take k ts)) ++ bare (get_or ts k d) ∷ []
+pub counted_yes : (p : Record → Bool) (ts : List Trace) (k : ℕ) (d : Trace) → k < length ts → p (bare (get_or ts k d)) ≡ true
+    → filter p (bares (take (k + 1) ts)) ≡ filter p (bares (take k ts)) ++ bare (get_or ts k d) ∷ []
 counted_yes p ts k d inside is = ap (filter p) (map_take_one bare ts k d inside) ∙ filter_by p (bares (take k ts)) (bare (get_or ts k d)) true is
 
-pub counted_no : (p : Record → Bool) (ts : List Trace) (k : ℕ) (d : Trace) → k < length ts → p (bare (get_or ts k d)) ≡ false → filter p (bares (take (k + 1) ts)) ≡ filter p (bares (take k ts))
-counted_no p ts k d inside is = ap (filter p) (map_take_one bare ts k d inside) ∙ filter_by p (bares (take k ts)) (bare (get_or ts k d)) false is ∙ append-nil (filter p (bares (take k ts)))
+pub counted_no : (p : Record → Bool) (ts : List Trace) (k : ℕ) (d : Trace) → k < length ts → p (bare (get_or ts k d)) ≡ false
+    → filter p (bares (take (k + 1) ts)) ≡ filter p (bares (take k ts))
+counted_no p ts k d inside is = ap (filter p) (map_take_one bare ts k d inside) ∙ filter_by p (bares (take k ts)) (bare (get_or ts k d)) false is
+    ∙ append-nil (filter p (bares (take k ts)))
 
 pub row_there : {X Y : Type 0} (n : ℕ) (f : ℕ → Y) (g : X → Y) (xs : List X) (k : ℕ) (d : X) → IsTable n f (map g xs) → k < length xs → g (get_or xs k d) ≡ f k
 row_there n f g xs k d h inside =
-    same_Some (g (get_or xs k d)) (f k) (sym (slice_get-map g xs k ∙ ap (option_map g) (slice_get-get_or xs k d inside)) ∙ h.each k (omega (arith, h.count, length-map xs g)))
+    same_Some (g (get_or xs k d)) (f k)
+    (sym (slice_get-map g xs k ∙ ap (option_map g) (slice_get-get_or xs k d inside)) ∙ h.each k (omega (arith, h.count, length-map xs g)))
 
 pub line_there : (n : ℕ) (ts : List Trace) (k : ℕ) (d : Trace) → AllByRecursion (λ t. t.line < n) ts → k < length ts → (get_or ts k d).line < n
 line_there n ts k d h inside = all_get (λ (t : Trace). t.line < n) ts k (get_or ts k d) h (slice_get-get_or ts k d inside)

@@ -9,7 +9,8 @@ use Rattle.pblk_meta.specs.Records.{start_numbers}
 use Rattle.scan_recovery.specs.declared.counting.Tally.{Tally}
 use Rattle.scan_recovery.specs.Tally.{IsTally}
 
-pub tally_all : (sectors lines : ℕ) (rs : List Record) (o : Option StartRecord) (h : StartRecord) (end : ℕ) (t : Tally) → o ≡ Some h → end ≡ end_after rs (option_map start_numbers o)
+pub tally_all : (sectors lines : ℕ) (rs : List Record) (o : Option StartRecord) (h : StartRecord) (end : ℕ) (t : Tally) → o ≡ Some h
+    → end ≡ end_after rs (option_map start_numbers o)
     → IsTally sectors lines (filter (counts (start_numbers h) end) rs) t → IsTally sectors lines (counted_after rs (option_map start_numbers o)) t
 tally_all sectors lines rs o h end t is end-is tally =
     let end' : end ≡ end_after rs (Some (start_numbers h)) = end-is ∙ ap (λ x. end_after rs (option_map start_numbers x)) is in

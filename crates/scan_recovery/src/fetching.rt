@@ -1,8 +1,10 @@
 //! Fetching the blocks of a line.
 
-ghost use Rattle.std.specs.Prelude.{◌≡◌, ◌<◌, true, false, Some, None, length, map, IfOk, OnOk};
+ghost use Rattle.std.specs.Prelude.{◌≡◌, ◌<◌, ◌^◌, true, false, Some, None, length, map, IfOk, OnOk};
 ghost use Rattle.pblk_model.specs.Accepted.{IsAccepted};
 ghost use Rattle.pblk_model.specs.Image.{line_units};
+ghost use Rattle.pblk_model.specs.Shape.{units as unit_count};
+ghost use Rattle.pblk_layout.specs.Live.{units_in};
 ghost use Rattle.pblk_laws.specs.LineBlocks.{written_at};
 ghost use Rattle.unit_port.specs.Commands.{AreKept};
 ghost use Rattle.found_laws.specs.Finding.{NoneOpen};
@@ -13,24 +15,26 @@ ghost use Rattle.scan_recovery.specs.Units.{AreFit, image_of};
 use crate::error::ScanErr;
 use crate::line_buffer::LineBuffer;
 use crate::unit_calls::fetch_at;
+use pblk_layout::{Layout, LineUnits};
 use pblk_model::{Got, Mark, Shape};
 use unit_port::Unit;
 
-/// Fetches the written blocks of a line, by line address. `online` are the units whose chunk of it isn't
-/// Offline.
+/// Fetches the written blocks of a line, by line address. `online` are its online units.
 pub(crate) fn fetch_line<U: Unit>(
     buffer: &mut LineBuffer,
     units: &mut [U],
     shape: &Shape,
     line: u32,
-    online: &[u32],
+    online: LineUnits,
 ) -> Result<(), ScanErr>
     requires size { buffer.old.size ≡ shape.now.sector }
     requires accepted { IsAccepted shape.now }
     requires fit { AreFit shape.now (map U.model units.old) }
     requires closed { NoneOpen (image_of shape.now (map U.model units.old)) }
     requires line { line < shape.now.chunks }
-    requires online { online.now ≡ line_units (image_of shape.now (map U.model units.old)) line }
+    requires online { let i = image_of shape.now (map U.model units.old)
+        in units_in online ≡ line_units i line }
+    requires below { online < 2 ^ unit_count shape.now }
     ensures blocks { let i = image_of shape.now (map U.model units.old)
         in OnOk result (buffer.new.blocks ≡ line_blocks i line) }
     ensures size { buffer.new.size ≡ buffer.old.size }
@@ -40,11 +44,9 @@ pub(crate) fn fetch_line<U: Unit>(
     ensures wear { map U.wear units.new ≡ map U.wear units.old }
 {
     buffer.clear();
-    let width = online.len() as u32;
-    for at in 0..width * shape.clba {
-        let stripe = at / shape.ws_opt;
-        let unit = online[(stripe % width) as usize];
-        let block = stripe / width * shape.ws_opt + at % shape.ws_opt;
+    let layout = Layout::new(shape);
+    for at in 0..online.width() * shape.clba {
+        let (unit, block) = layout.place(online.bits(), at);
         buffer.fetch(units, shape, line, unit, block)?;
     }
     Ok(())

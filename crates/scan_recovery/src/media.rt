@@ -1,10 +1,12 @@
 //! The chunks of a drive, read where they lie.
 
-ghost use Rattle.std.specs.Prelude.{◌≡◌, ◌<◌, ◌≤◌, ℕ, not, length, map, slice_get, Some, IfOk};
+ghost use Rattle.std.specs.Prelude.{◌≡◌, ◌<◌, ◌≤◌, ◌^◌, ℕ, not, length, map, slice_get, Some, IfOk};
+ghost use Rattle.std.specs.List.{AllByRecursion};
 ghost use Rattle.pblk_model.specs.Accepted.{IsAccepted};
 ghost use Rattle.pblk_model.specs.Image.{IsFit, block_at, line_units, width};
 ghost use Rattle.pblk_model.specs.ImageFile as file;
-ghost use Rattle.pblk_model.specs.Shape.{units};
+ghost use Rattle.pblk_model.specs.Shape.{units as unit_count};
+ghost use Rattle.pblk_layout.specs.Live.{units_in};
 ghost use Rattle.pblk_laws.specs.LineBlocks.{written_at};
 ghost use Rattle.pblk_world.specs.Lines.{are_empty};
 ghost use Rattle.ocssd_drive.specs.Drive.{stored};
@@ -15,6 +17,7 @@ ghost use Rattle.scan_recovery.specs.Units.{AreFit, image_of};
 use crate::line_records::Block;
 use crate::reading::{is_used, online_units};
 use ocssd_drive::{Drive, MemoryUnit};
+use pblk_layout::{Layout, LineUnits};
 use pblk_model::Shape;
 use std::alloc::{AllocError, Global};
 use std::marker::Model;
@@ -24,9 +27,9 @@ use std::marker::Model;
 #[derive(Drop)]
 pub(crate) struct Media<'a> {
     units: &'a [MemoryUnit],
-    shape: Shape,
-    // by line, the units whose chunk of it isn't Offline, rising
-    online: Vec<Vec<u32>>,
+    layout: Layout,
+    // the online units of each line, by its number
+    online: Vec<LineUnits>,
 }
 
 impl<'a> Model for Media<'a> {
@@ -52,7 +55,7 @@ impl<'a> Media<'a> {
         let online = online_by_line(alloc, units, &shape)?;
         Ok(Media {
             units,
-            shape,
+            layout: Layout::new(&shape),
             online,
         })
     }
@@ -61,16 +64,16 @@ impl<'a> Media<'a> {
     pub(crate) fn shape(&self) -> Shape
         ensures shape { result ≡ self.now.shape }
     {
-        self.shape
+        *self.layout.shape()
     }
 
-    /// How many chunks of a line aren't Offline.
+    /// How many online units a line has.
     pub(crate) fn width(&self, line: u32) -> u32
         requires { line < self.now.shape.chunks }
         ensures width { result ≡ width self.now line }
-        ensures few { result ≤ units self.now.shape }
+        ensures few { result ≤ unit_count self.now.shape }
     {
-        self.online[line as usize].len() as u32
+        self.online[line as usize].width()
     }
 
     /// Whether a line has a chunk that is neither Free nor Offline.
@@ -78,7 +81,7 @@ impl<'a> Media<'a> {
         requires { line < self.now.shape.chunks }
         ensures { result ≡ not (are_empty self.now line) }
     {
-        is_used(self.units, &self.shape, line)
+        is_used(self.units, self.layout.shape(), line)
     }
 
     /// The block at a line address, where it is written.
@@ -86,15 +89,13 @@ impl<'a> Media<'a> {
         requires { line < self.now.shape.chunks }
         ensures { result ≡ block_at self.now line at }
     {
-        let online = self.online[line as usize].as_slice();
-        let width = online.len() as u32;
-        if width == 0 {
+        let shape = self.layout.shape();
+        let online = self.online[line as usize];
+        if at >= online.width() * shape.clba {
             return None;
         }
-        let stripe = at / self.shape.ws_opt;
-        let unit = online[(stripe % width) as usize];
-        let block = stripe / width * self.shape.ws_opt + at % self.shape.ws_opt;
-        written_in(self.units, &self.shape, line, unit, block)
+        let (unit, block) = self.layout.place(online.bits(), at);
+        written_in(self.units, shape, line, unit, block)
     }
 
     /// The blocks of a line, by line address, each where it is written.
@@ -107,7 +108,7 @@ impl<'a> Media<'a> {
         ensures blocks { IfOk result (λ v. v.items ≡ line_blocks self.now line) }
         ensures few { IfOk result (λ v. length v.items ≤ 65536) }
     {
-        let count = self.width(line) * self.shape.clba;
+        let count = self.width(line) * self.layout.shape().clba;
         let mut blocks = Vec::with_capacity(alloc, count as usize)?;
         for at in 0..count {
             blocks.push(self.block(line, at))?;
@@ -116,20 +117,22 @@ impl<'a> Media<'a> {
     }
 }
 
-// By line, the units whose chunk of it isn't Offline.
+// The online units of each line, by its number.
 fn online_by_line(
     alloc: Global,
     units: &[MemoryUnit],
     shape: &Shape,
-) -> Result<Vec<Vec<u32>>, AllocError>
+) -> Result<Vec<LineUnits>, AllocError>
+    requires accepted { IsAccepted shape.now }
     requires fit { AreFit shape.now (map (λ u. u.unit) units.now) }
-    ensures { IfOk result (λ v. IsTable shape.now.chunks
-        (line_units (image_of shape.now (map (λ u. u.unit) units.now)))
-        (map (λ xs. xs.items) v.items)) }
+    ensures units { IfOk result (λ v. IsTable shape.now.chunks
+        (line_units (image_of shape.now (map (λ u. u.unit) units.now))) (map units_in v.items)) }
+    ensures below { let n = unit_count shape.now
+        in IfOk result (λ v. AllByRecursion (λ live. live < 2 ^ n) v.items) }
 {
     let mut online = Vec::with_capacity(alloc, shape.chunks as usize)?;
     for line in 0..shape.chunks {
-        online.push(online_units(alloc, units, shape, line)?)?;
+        online.push(online_units(units, shape, line))?;
     }
     Ok(online)
 }

@@ -1,35 +1,35 @@
 //! Reading the lines of a drive, block by block.
 
-ghost use Rattle.std.specs.Prelude.{List, Some, ◌≡◌, ◌++◌, ◌<◌, not, length, map, slice_get, IfOk, OnOk};
+ghost use Rattle.std.specs.Prelude.{List, Some, ◌≡◌, ◌++◌, ◌<◌, ◌^◌, not, length, map, slice_get, IfOk, OnOk};
+ghost use Rattle.pblk_model.specs.Accepted.{IsAccepted};
 ghost use Rattle.pblk_model.specs.Chunk.{Chunk};
-ghost use Rattle.pblk_model.specs.Image.{is_online_in, line_units};
+ghost use Rattle.pblk_model.specs.Image.{line_units};
+ghost use Rattle.pblk_model.specs.Shape.{units as unit_count};
+ghost use Rattle.pblk_layout.specs.Live.{units_in};
 ghost use Rattle.pblk_world.specs.Lines.{are_empty, is_empty_state};
 ghost use Rattle.found_laws.specs.Finding.{taken_state, taken_states};
 ghost use Rattle.scan_recovery.specs.Units.{AreFit, IsStateOf, image_of};
 
+use pblk_layout::{LineUnits, is_online};
 use pblk_model::{ChunkState, Shape};
 use std::alloc::{AllocError, Global};
 use unit_port::Unit;
 
-/// The units whose chunk of a line isn't Offline, rising.
-pub(crate) fn online_units<U: Unit>(
-    alloc: Global,
-    units: &[U],
-    shape: &Shape,
-    line: u32,
-) -> Result<Vec<u32>, AllocError>
+/// The online units of a line: those whose chunk of it isn't Offline.
+pub(crate) fn online_units<U: Unit>(units: &[U], shape: &Shape, line: u32) -> LineUnits
+    requires accepted { IsAccepted shape.now }
     requires fit { AreFit shape.now (map U.model units.now) }
     requires line { line < shape.now.chunks }
-    ensures { let i = image_of shape.now (map U.model units.now)
-        in IfOk result (λ v. v.items ≡ line_units i line) }
+    ensures units { units_in result ≡ line_units (image_of shape.now (map U.model units.now)) line }
+    ensures below { result < 2 ^ unit_count shape.now }
 {
-    let mut online = Vec::new(alloc);
+    let mut online = LineUnits::none();
     for unit in 0..shape.units() {
         if is_online(state_of(units, shape, unit, line)) {
-            online.push(unit)?;
+            online.add(unit);
         }
     }
-    Ok(online)
+    online
 }
 
 /// Whether a line has a chunk that is neither Free nor Offline.
@@ -57,15 +57,6 @@ fn state_of<U: Unit>(units: &[U], shape: &Shape, unit: u32, line: u32) -> ChunkS
     let _ = shape;
     let (state, _) = units[unit as usize].state(line);
     state
-}
-
-fn is_online(state: ChunkState) -> bool
-    ensures { result ≡ is_online_in state }
-{
-    match state {
-        ChunkState::Offline => false,
-        ChunkState::Free | ChunkState::Open | ChunkState::Closed => true,
-    }
 }
 
 fn is_empty(state: ChunkState) -> bool

@@ -94,10 +94,9 @@ fn survey_line<U: Unit>(
 {
     let layout = Layout::new(shape);
     let used = is_used(units, shape, line);
-    let online = online_units(alloc, units, shape, line)?;
-    let width = online.len() as u32;
-    fetch_line(buffer, units, shape, line, &online)?;
+    let online = online_units(units, shape, line);
+    fetch_line(buffer, units, shape, line, online)?;
     let blocks = buffer.blocks(alloc)?;
-    survey.add(alloc, &layout, line, width, used, &blocks)?;
+    survey.add(alloc, &layout, line, online.width(), used, &blocks)?;
     Ok(())
 }

@@ -3,11 +3,12 @@ use Rattle.std.proofs.Common.{◌≡◌, ℕ, zero, suc, ◌+◌, ◌<◌, Bool,
 use Rattle.std.specs.Prelude.{map, replicate}
 use Rattle.std.specs.List.{slice_get, slice_set, slice_index_or, find, filter_map, cons_option}
 use Rattle.std.specs.Option.{option_map, option_map_or}
+use Rattle.std.proofs.lemmas.Option.{same_Some}
 use Rattle.pblk_layout.specs.Live.{is_in}
-use Rattle.stripe_placer.specs.Placing.{Program, UnitRow, stopped_in, is_under_way, is_ready}
+use Rattle.stripe_placer.specs.Placing.{Program, placement, UnitRow, stopped_in, is_under_way, is_ready}
 use Rattle.stripe_placer.specs.Placing.UnitRow.{Idle, UnderWay, Stopped}
-use Rattle.stripe_placer.specs.Inside.{unit_row, OwnUnits, first_given}
-use Rattle.stripe_placer.specs.declared.unit_state.UnitState.{UnitState}
+use Rattle.stripe_placer.specs.Inside.{OwnUnits, first_given}
+use Rattle.stripe_placer.specs.declared.placement.Placement.{Placement}
 use Rattle.stripe_placer.proofs.PlacingLemmas.{cond_true}
 
 pub given_none : {X Y : Type 0} (test : Y → Bool) (give : X → Option Y) (x : X) (xs : List X) → give x ≡ None → first_given test give (x ∷ xs) ≡ first_given test give xs
@@ -103,13 +104,20 @@ stopped_hit test ready (UnderWay of) rest o same some = absurd cc
 stopped_hit test ready (Stopped of) rest o same some = given_first ready stopped_in (Stopped of) of rest refl (same of refl ∙ cond_true (test of) of o some) ∙ passed (test of) of o some
 
 -- the readiness of a stopped program's unit is that it isn't busy
-pub stopped_ready : (states : List UnitState) (busy i : ℕ) (of : Program) → OwnUnits states → slice_get (map unit_row states) i ≡ Some (Stopped of) → is_ready (map unit_row states) busy of.unit ≡ not (is_in busy of.unit)
-stopped_ready states busy i of own e = ready_is (map unit_row states) busy of.unit of (ap (slice_get (map unit_row states)) (own i of e) ∙ e)
+pub stopped_ready : (rows : List UnitRow) (busy i : ℕ) (of : Program) → OwnUnits rows → slice_get rows i ≡ Some (Stopped of)
+    → is_ready rows busy of.unit ≡ not (is_in busy of.unit)
+stopped_ready rows busy i of own e = ready_is rows busy of.unit of (ap (slice_get rows) (own i of e) ∙ e)
 
-pub row_at : (states : List UnitState) (i : ℕ) (d : UnitState) → i < length states → slice_get (map unit_row states) i ≡ Some (unit_row (slice_index_or states i d))
-row_at [] i d h = absurd (omega arith)
-row_at (x ∷ xs) zero d h = refl
-row_at (x ∷ xs) (suc i) d h = row_at xs i d (omega arith)
+-- ---- placements
+
+-- what is named by a placement that was found
+pub named_by : (o : Option Program) (of : Placement) → option_map placement o ≡ Some of → (q : Program) × (o ≡ Some q) × (placement q ≡ of)
+named_by None of e = absurd cc
+named_by (Some q) of e = (q, refl, (let same : placement q ≡ of = same_Some (placement q) of e in same))
+
+pub none_named : (o : Option Program) → option_map placement o ≡ None → o ≡ None
+none_named None e = refl
+none_named (Some q) e = absurd cc
 
 pub get_is : {X : Type 0} (xs : List X) (i : ℕ) (x : X) → i < length xs → x ≡ slice_index_or xs i x → slice_get xs i ≡ Some x
 get_is [] i x h e = absurd (omega arith)

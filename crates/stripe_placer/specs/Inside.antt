@@ -1,5 +1,5 @@
 -- What the fields of a placer stand for, and what they keep.
-use Rattle.std.specs.Prelude.{ℕ, ◌≡◌, ◌≢◌, ◌*◌, ◌/◌, ◌<◌, ◌≤◌, ◌^◌, ⊤, Bool, List, [], ◌∷◌, map, length, slice_get, Option, Some}
+use Rattle.std.specs.Prelude.{ℕ, ◌≡◌, ◌≢◌, ◌*◌, ◌/◌, ◌<◌, ◌≤◌, ◌^◌, ⊤, Bool, List, [], ◌∷◌, length, slice_get, Option, Some}
 use Rattle.std.specs.List.{AllByRecursion, find, filter_map}
 use Rattle.std.specs.Vec.{vec_capacity}
 use Rattle.pblk_model.specs.declared.shape.Shape.{Shape}
@@ -7,19 +7,12 @@ use Rattle.pblk_model.specs.Accepted.{IsAccepted}
 use Rattle.pblk_model.specs.Shape.{units}
 use Rattle.stripe_placer.specs.OpenLines.{OpenLine, width, unit_of}
 use Rattle.stripe_placer.specs.OpenLines.Stripe.{Unanswered}
-use Rattle.stripe_placer.specs.Placing.{Program, program, UnitRow, Placing}
+use Rattle.stripe_placer.specs.Placing.{Program, UnitRow, Placing}
 use Rattle.stripe_placer.specs.Placing.UnitRow.{Idle, UnderWay, Stopped}
-use Rattle.stripe_placer.specs.declared.unit_state.UnitState.{UnitState}
-use Rattle.stripe_placer.specs.declared.unit_state.UnitState.TheVariants as state
 use Rattle.stripe_placer.specs.declared.placer.Placer.TheInside as inside
 
-abbrev pub unit_row : UnitState → UnitRow
-unit_row state.Idle = Idle
-unit_row (state.UnderWay of) = UnderWay (program of)
-unit_row (state.Stopped of) = Stopped (program of)
-
 abbrev pub placing : inside.Inside → Placing
-placing p = record { shape = p.layout; entries = p.queue.entries; units = map unit_row p.units.items; lines = p.slots.items }
+placing p = record { shape = p.layout; entries = p.queue.entries; units = p.units.items; lines = p.slots.items }
 
 -- a line is one of these
 abbrev pub IsAmongLines : List OpenLine → OpenLine → Type 0
@@ -73,11 +66,11 @@ pub record IsPlacer (p : inside.Inside) : Type 0 where
   pub rows : length p.units.items ≡ units p.layout
   pub few : length p.slots.items ≤ 2
   pub room : 2 ≤ vec_capacity p.slots
-  pub agree : Agree p.layout (map unit_row p.units.items) p.slots.items
+  pub agree : Agree p.layout p.units.items p.slots.items
 
 -- the program of each stopped unit is one of its own
-abbrev pub OwnUnits : List UnitState → Type 0
-OwnUnits states = (unit : ℕ) (of : Program) → slice_get (map unit_row states) unit ≡ Some (Stopped of) → of.unit ≡ unit
+abbrev pub OwnUnits : List UnitRow → Type 0
+OwnUnits rows = (unit : ℕ) (of : Program) → slice_get rows unit ≡ Some (Stopped of) → of.unit ≡ unit
 
 -- the first of what a function gives that passes a test
 abbrev pub first_given : {X Y : Type 0} → (Y → Bool) → (X → Option Y) → List X → Option Y

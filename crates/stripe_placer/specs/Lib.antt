@@ -1,6 +1,7 @@
 pub mod Entries
 pub mod OpenLines
 pub mod Placing
+pub mod Units
 pub mod Queues
 pub mod Slots
 pub mod Inside

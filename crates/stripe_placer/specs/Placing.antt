@@ -24,16 +24,19 @@ pub record Program : Type 0 where
   pub count : ℕ
   pub positions : List ℕ
 
--- A placement names the program with the first of its positions.
-abbrev pub program : Placement → Program
-program o = record {
+-- what a placement says of a program: all but the positions
+abbrev pub placement : Program → Placement
+placement o = record { line = o.line; at = o.at; unit = o.unit; block = o.block; kind = o.kind; count = o.count }
+
+abbrev pub program_with : Placement → List ℕ → Program
+program_with o positions = record {
   line = o.line;
   at = o.at;
   unit = o.unit;
   block = o.block;
   kind = o.kind;
   count = o.count;
-  positions = take o.count o.positions;
+  positions = positions;
 }
 
 -- What a unit has of the target.
@@ -134,11 +137,24 @@ IsNext p of = (busy : ℕ) × (next_stripe p busy ≡ Some of)
 abbrev pub IsUnderWay : Placing → Program → Type 0
 IsUnderWay p of = slice_get p.units of.unit ≡ Some (UnderWay of)
 
--- The positions of all entries that wait or stand in a stripe that is neither landed nor lost.
+-- the positions of the entries of a unit's stripe
 abbrev pub positions_in : UnitRow → List ℕ
 positions_in Idle = []
 positions_in (UnderWay of) = of.positions
 positions_in (Stopped of) = of.positions
+
+-- The program that a placement names: that of the stripe that its unit has; else that of a new stripe, which takes the first
+-- entries that wait.
+abbrev pub or_first : Option UnitRow → List ℕ → List ℕ
+or_first None first = first
+or_first (Some Idle) first = first
+or_first (Some (UnderWay of)) first = of.positions
+or_first (Some (Stopped of)) first = of.positions
+
+abbrev pub program : Placing → Placement → Program
+program p of = program_with of (or_first (slice_get p.units of.unit) (take of.count (waiting p.entries)))
+
+-- The positions of all entries that wait or stand in a stripe that is neither landed nor lost.
 
 abbrev pub held : Placing → List ℕ
 held p = waiting p.entries ++ flat_map positions_in p.units

@@ -1,11 +1,11 @@
 //! The next stripe of a line.
 
-ghost use Rattle.std.specs.Prelude.{◌≡◌, ◌<◌, ◌≤◌, [], ◌∷◌, take, map, length, IfSome};
+ghost use Rattle.std.specs.Prelude.{◌≡◌, ◌<◌, ◌≤◌, [], ◌∷◌, length, IfSome};
 ghost use Rattle.std.specs.Option.{option_map};
 ghost use Rattle.pblk_model.specs.Shape.{units};
 ghost use Rattle.stripe_placer.specs.OpenLines.{OpenLine};
-ghost use Rattle.stripe_placer.specs.Placing.{program, allows, next_positions, next_in, is_ready};
-ghost use Rattle.stripe_placer.specs.Inside.{IsAmongLines, FitsShape, unit_row, first_given};
+ghost use Rattle.stripe_placer.specs.Placing.{placement, allows, next_positions, next_in, is_ready};
+ghost use Rattle.stripe_placer.specs.Inside.{IsAmongLines, FitsShape, first_given};
 
 use crate::placement::{Placement, StripeKind};
 use crate::queue::Queue;
@@ -26,22 +26,21 @@ fn allows(layout: &Layout, queue: &Queue, slot: &Slot, kind: StripeKind) -> bool
     }
 }
 
-// The entries of the next stripe of a kind.
-fn next_positions(layout: &Layout, queue: &Queue, kind: StripeKind) -> (u32, [u64; 64])
-    ensures count { result.0 ≡ length (next_positions layout.now queue.now.entries kind) }
-    ensures positions { take result.0 result.1
-        ≡ next_positions layout.now queue.now.entries kind }
+// How many entries the next stripe of a kind takes.
+fn next_count(layout: &Layout, queue: &Queue, kind: StripeKind) -> u32
+    ensures { result ≡ length (next_positions layout.now queue.now.entries kind) }
 {
     match kind {
-        StripeKind::Data => queue.first(layout.shape().ws_opt),
-        _ => (0, [0; 64]),
+        StripeKind::Data => queue.count_first(layout.shape().ws_opt),
+        _ => 0,
     }
 }
 
 // The next stripe of a line, where it may be placed.
 fn next_in(layout: &Layout, queue: &Queue, slot: &Slot) -> Option<Placement>
     requires { FitsShape layout.now slot.now }
-    ensures next { option_map program result ≡ next_in layout.now queue.now.entries slot.now }
+    ensures next { result
+        ≡ option_map placement (next_in layout.now queue.now.entries slot.now) }
     ensures unit { IfSome result (λ of. of.unit < units layout.now) }
 {
     a_line_is_short();
@@ -53,7 +52,7 @@ fn next_in(layout: &Layout, queue: &Queue, slot: &Slot) -> Option<Placement>
     }
     let at = stripe * layout.shape().ws_opt;
     let (unit, block) = layout.place(slot.live(), at);
-    let (count, positions) = next_positions(layout, queue, kind);
+    let count = next_count(layout, queue, kind);
     Some(Placement {
         line: slot.line(),
         at,
@@ -61,7 +60,6 @@ fn next_in(layout: &Layout, queue: &Queue, slot: &Slot) -> Option<Placement>
         block,
         kind,
         count,
-        positions,
     })
 }
 
@@ -76,9 +74,8 @@ fn ready_in(
     requires units { length states.now ≡ units layout.now }
     requires few { length states.now ≤ 64 }
     requires fits { FitsShape layout.now slot.now }
-    ensures { option_map program result
-        ≡ first_given (λ of. is_ready (map unit_row states.now) busy of.unit)
-        (next_in layout.now queue.now.entries) (slot.now ∷ []) }
+    ensures { result ≡ option_map placement (first_given (λ of. is_ready states.now busy of.unit)
+        (next_in layout.now queue.now.entries) (slot.now ∷ [])) }
 {
     let of = next_in(layout, queue, slot)?;
     if is_ready(states, busy, of.unit) {
@@ -99,9 +96,8 @@ pub(crate) fn next_new(
     requires units { length states.now ≡ units layout.now }
     requires few { length states.now ≤ 64 }
     requires fit { (l : OpenLine) → IsAmongLines slots.now l → FitsShape layout.now l }
-    ensures { option_map program result
-        ≡ first_given (λ of. is_ready (map unit_row states.now) busy of.unit)
-        (next_in layout.now queue.now.entries) slots.now }
+    ensures { result ≡ option_map placement (first_given (λ of. is_ready states.now busy of.unit)
+        (next_in layout.now queue.now.entries) slots.now) }
 {
     for index in 0..slots.len() {
         if let Some(of) = ready_in(layout, queue, states, &slots[index], busy) {

@@ -15,6 +15,8 @@ pub enum StripeKind {
 
 /// The place of a stripe, and what it holds: WS_OPT consecutive blocks of one chunk, which one
 /// program writes (Open-Channel SSD Specification 2.0, Geometry).
+///
+/// Once the stripe is placed, [`crate::Placer::positions`] gives the positions of its entries.
 #[derive(Clone, Copy, Debug, PartialEq, Eq)]
 pub struct Placement {
     /// The line.
@@ -29,6 +31,4 @@ pub struct Placement {
     pub kind: StripeKind,
     /// How many entries it holds, at most WS_OPT. Only a data stripe holds any.
     pub count: u32,
-    /// The first `count` are the positions of its entries, in their order.
-    pub positions: [u64; 64],
 }

@@ -12,7 +12,7 @@ ghost use Rattle.stripe_placer.specs.Entries.{Rises};
 ghost use Rattle.stripe_placer.specs.OpenLines.{OpenLine, next_of, in_one_chunk, in_line, has_left};
 ghost use Rattle.stripe_placer.specs.OpenLines.Stripe.{Unanswered, Landed, Lost};
 ghost use Rattle.stripe_placer.specs.Placing.{nothing_placed, held, waits, padded_to, begun};
-ghost use Rattle.stripe_placer.specs.Placing.{program, next_stripe, under_way_in, IsNext, IsUnderWay};
+ghost use Rattle.stripe_placer.specs.Placing.{UnitRow, program, next_stripe, under_way_in, positions_in, IsNext, IsUnderWay};
 ghost use Rattle.stripe_placer.specs.Placing.{placed, landed, lost, stopped};
 ghost use Rattle.stripe_placer.specs.Inside.{IsAmongLines, IsUnanswered, AreApart};
 
@@ -195,9 +195,9 @@ impl Placer {
     /// that of the line that was opened first before the other. It is the first of these whose unit
     /// isn't in `busy` and has no stripe under way. None exactly where there is none.
     pub fn next_stripe(&self, busy: u64) -> Option<Placement>
-        ensures next { option_map program result ≡ next_stripe self.now busy }
+        ensures next { option_map (program self.now) result ≡ next_stripe self.now busy }
         ensures none { IsNone result ↔ (next_stripe self.now busy ≡ None) }
-        ensures placeable { IfSome result (λ of. IsNext self.now (program of)) }
+        ensures placeable { IfSome result (λ of. IsNext self.now (program self.now of)) }
         ensures unit { IfSome result (λ of. of.unit < units self.now.shape) }
 
         // Entries are placed in the order of their positions, those that were lost first.
@@ -214,10 +214,20 @@ impl Placer {
     /// The program that is under way on a unit of the drive, if there is one.
     pub fn under_way(&self, unit: u32) -> Option<Placement>
         requires { unit < units self.now.shape }
-        ensures { option_map program result
+        ensures { option_map (program self.now) result
             ≡ option_and_then under_way_in (slice_get self.now.units unit) }
     {
         self.units[unit as usize].under_way()
+    }
+
+    /// The positions of the entries of the stripe that a unit of the drive has, in their order: of one whose
+    /// program is under way or was stopped. There are none where it has no stripe.
+    pub fn positions(&self, unit: u32) -> &[u64]
+        requires { unit < units self.now.shape }
+        ensures { (row : UnitRow) → slice_get self.now.units unit ≡ Some row
+            → result.now ≡ positions_in row }
+    {
+        self.units[unit as usize].positions()
     }
 
     /// The pad target.
@@ -229,28 +239,29 @@ impl Placer {
 
     /// Notes that the program of a stripe is under way. `next_stripe` names it.
     pub fn placed(&mut self, of: &Placement)
-        requires { IsNext self.old (program of.now) }
-        ensures { self.new ≡ placed self.old (program of.now) }
+        requires { IsNext self.old (program self.old of.now) }
+        ensures placed { self.new ≡ placed self.old (program self.old of.now) }
+        ensures under_way { IsUnderWay self.new (program self.new of.now) }
     {
         let unit = of.unit as usize;
         if self.units[unit].is_stopped() {
-            self.units[unit] = UnitState::UnderWay(*of);
+            self.units[unit].again();
             return;
         }
         let stripe = of.at / self.layout.shape().ws_opt;
+        self.units[unit].begin(of, &self.queue);
         self.queue.remove_first(of.count);
         place_in(&mut self.slots, of.line, stripe);
-        self.units[unit] = UnitState::UnderWay(*of);
     }
 
     /// Notes that all blocks of a stripe have landed. It was placed and hasn't been answered.
     pub fn landed(&mut self, of: &Placement)
-        requires { IsUnderWay self.old (program of.now) }
-        ensures { self.new ≡ landed self.old (program of.now) }
+        requires { IsUnderWay self.old (program self.old of.now) }
+        ensures { self.new ≡ landed self.old (program self.old of.now) }
     {
         let stripe = of.at / self.layout.shape().ws_opt;
         land_in(&mut self.slots, of.line, stripe);
-        self.units[of.unit as usize] = UnitState::Idle;
+        self.units[of.unit as usize].end();
     }
 
     /// Notes that the program of a stripe failed, and that its chunk is closed (Open-Channel SSD Specification
@@ -259,20 +270,20 @@ impl Placer {
     /// From then on its line has pads for its other chunks, and no data or end stripe. Its entries wait again
     /// once `wait` names them.
     pub fn lost(&mut self, of: &Placement)
-        requires { IsUnderWay self.old (program of.now) }
-        ensures { self.new ≡ lost self.old (program of.now) }
+        requires { IsUnderWay self.old (program self.old of.now) }
+        ensures { self.new ≡ lost self.old (program self.old of.now) }
     {
         let stripe = of.at / self.layout.shape().ws_opt;
         lose_in(&mut self.slots, of.line, stripe);
-        self.units[of.unit as usize] = UnitState::Idle;
+        self.units[of.unit as usize].end();
     }
 
     /// Notes that the program of a stripe was stopped. It was placed and hasn't been answered. It stays placed,
     /// and is offered again.
     pub fn stopped(&mut self, of: &Placement)
-        requires { IsUnderWay self.old (program of.now) }
-        ensures { self.new ≡ stopped self.old (program of.now) }
+        requires { IsUnderWay self.old (program self.old of.now) }
+        ensures { self.new ≡ stopped self.old (program self.old of.now) }
     {
-        self.units[of.unit as usize] = UnitState::Stopped(*of);
+        self.units[of.unit as usize].stop();
     }
 }

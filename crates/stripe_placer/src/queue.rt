@@ -175,16 +175,21 @@ impl Queue {
             || is_first_below(&self.fresh, self.pad)
     }
 
-    /// How many entries the next stripe of so many blocks takes, and their positions.
-    pub(crate) fn first(&self, blocks: u32) -> (u32, [u64; 64])
-        requires { blocks ≤ 64 }
-        ensures count { result.0 ≡ length (take blocks (waiting self.now.entries)) }
-        ensures positions { take result.0 result.1 ≡ take blocks (waiting self.now.entries) }
+    /// How many entries the next stripe of so many blocks takes.
+    pub(crate) fn count_first(&self, blocks: u32) -> u32
+        ensures { result ≡ length (take blocks (waiting self.now.entries)) }
     {
-        let mut positions = [0; 64];
-        let lost = copy_first(&self.lost, &mut positions, 0, blocks);
-        let count = copy_first(&self.fresh, &mut positions, lost, blocks);
-        (count, positions)
+        (self.lost.len() + self.fresh.len()).min(blocks as usize) as u32
+    }
+
+    /// Copies the positions of the entries that the next stripe of so many blocks takes.
+    pub(crate) fn copy_to(&self, into: &mut [u64; 64], blocks: u32)
+        requires few { blocks ≤ 64 }
+        requires waiting { blocks ≤ length (waiting self.now.entries) }
+        ensures { take blocks into.new ≡ take blocks (waiting self.now.entries) }
+    {
+        let lost = copy_first(&self.lost, into, 0, blocks);
+        copy_first(&self.fresh, into, lost, blocks);
     }
 
     /// So many of them wait no more.

@@ -88,14 +88,14 @@ impl Stripes {
 
     fn place(&mut self, of: &Placement)
         requires unit { of.now.unit < self.old.units }
-        requires next { IsNext self.old.placer (program of.now) }
-        ensures under_way { IsUnderWay self.new.placer (program of.now) }
+        requires next { IsNext self.old.placer (program self.old.placer of.now) }
+        ensures under_way { IsUnderWay self.new.placer (program self.new.placer of.now) }
     {
         self.placer.placed(of);
     }
 
     fn answer(&mut self, of: &Placement, answer: Answer)
-        requires { IsUnderWay self.old.placer (program of.now) }
+        requires { IsUnderWay self.old.placer (program self.old.placer of.now) }
     {
         match answer {
             Answer::Landed => self.placer.landed(of),

@@ -52,7 +52,7 @@ pub(crate) struct Pair {
     ghost same: { fast ≡ plain },
 }
 
-fn told_of(of: &Placement) -> Told {
+fn told_of(of: &Placement, entries: &[u64]) -> Told {
     match of.kind {
         StripeKind::Start => Told::Start(of.line, of.at, of.unit, of.block),
         StripeKind::Data => Told::Data(
@@ -61,28 +61,11 @@ fn told_of(of: &Placement) -> Told {
             of.unit,
             of.block,
             of.count,
-            of.positions[0],
+            entries.first().copied().unwrap_or(0),
         ),
         StripeKind::Pad => Told::Pad(of.line, of.at, of.unit, of.block),
         StripeKind::End => Told::End(of.line, of.at, of.unit, of.block),
     }
-}
-
-// Whether two stripes have the same entries.
-fn have_same_entries(a: &Placement, b: &Placement) -> bool {
-    if a.count != b.count {
-        return false;
-    }
-    for index in 0..a.count.min(64) {
-        if a.positions[index as usize] != b.positions[index as usize] {
-            return false;
-        }
-    }
-    true
-}
-
-fn are_same(a: &Placement, b: &Placement) -> bool {
-    told_of(a) == told_of(b) && have_same_entries(a, b)
 }
 
 impl Pair {
@@ -119,46 +102,48 @@ impl Pair {
         Ok(Told::Done)
     }
 
-    fn next(&self, busy: u64) -> Told {
+    fn next(&self, alloc: Global, busy: u64) -> Result<Told, AllocError> {
         match (self.fast.next_stripe(busy), self.plain.next_stripe(busy)) {
-            (None, None) => Told::Nothing,
-            (Some(fast), Some(plain)) if are_same(&fast, &plain) => told_of(&plain),
-            _ => Told::Differ,
+            (None, None) => Ok(Told::Nothing),
+            (Some(fast), Some(plain)) if fast == plain => {
+                let entries = self.plain.positions_of(alloc, &plain)?;
+                Ok(told_of(&plain, &entries))
+            }
+            _ => Ok(Told::Differ),
         }
     }
 
-    fn place(&mut self, busy: u64) -> Told {
+    fn place(&mut self, alloc: Global, busy: u64) -> Result<Told, AllocError> {
         match self.fast.next_stripe(busy) {
-            None => Told::Nothing,
+            None => Ok(Told::Nothing),
             Some(of) => {
-                self.plain.placed(&of);
+                let entries = self.plain.positions_of(alloc, &of)?;
+                self.plain.placed(alloc, &of)?;
                 self.fast.placed(&of);
                 if let Some(last) = self.last.get_mut(of.unit as usize) {
                     *last = Some(of);
                 }
-                told_of(&of)
+                Ok(told_of(&of, &entries))
             }
         }
     }
 
     /// The positions of the entries that this unit has under way.
     pub(crate) fn entries(&self, alloc: Global, unit: u32) -> Result<Vec<u64>, AllocError> {
-        let mut positions = Vec::new(alloc);
-        if let Some(of) = self.last.get(unit as usize).copied().flatten() {
-            for index in 0..of.count.min(64) {
-                positions.push(of.positions[index as usize])?;
-            }
+        match self.last.get(unit as usize).copied().flatten() {
+            None => Ok(Vec::new(alloc)),
+            Some(of) => self.plain.positions_of(alloc, &of),
         }
-        Ok(positions)
     }
 
-    fn answer(&mut self, unit: u32, asked: Asked) -> Told {
+    fn answer(&mut self, alloc: Global, unit: u32, asked: Asked) -> Result<Told, AllocError> {
         let Some(of) = self.last.get(unit as usize).copied().flatten() else {
-            return Told::Refused;
+            return Ok(Told::Refused);
         };
         if !self.plain.is_under_way(&of) {
-            return Told::Refused;
+            return Ok(Told::Refused);
         }
+        let entries = self.plain.positions_of(alloc, &of)?;
         match asked {
             Asked::Landed(_) => {
                 self.plain.landed(&of);
@@ -173,7 +158,7 @@ impl Pair {
                 self.fast.stopped(&of);
             }
         }
-        told_of(&of)
+        Ok(told_of(&of, &entries))
     }
 
     /// Asks both, unless the call's condition doesn't hold.
@@ -183,10 +168,10 @@ impl Pair {
             Asked::WaitLost(position) => self.wait(alloc, position, true),
             Asked::PadTo(position) => Ok(self.pad_to(position)),
             Asked::Begin(line, live) => self.begin(alloc, line, live),
-            Asked::Next(busy) => Ok(self.next(busy)),
-            Asked::Place(busy) => Ok(self.place(busy)),
+            Asked::Next(busy) => self.next(alloc, busy),
+            Asked::Place(busy) => self.place(alloc, busy),
             Asked::Landed(unit) | Asked::Lost(unit) | Asked::Stopped(unit) => {
-                Ok(self.answer(unit, asked))
+                self.answer(alloc, unit, asked)
             }
         }
     }

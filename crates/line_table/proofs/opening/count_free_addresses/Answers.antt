@@ -12,10 +12,16 @@ no_row = record { state = Free; width = 0; live = 0; taker = None }
 
 pub loop-row-preserved : goal.loop-row-preserved
 loop-row-preserved c =
-    let len : c.free_addresses_of-addresses.result ≡ free_len c.args.layout.now (slice_index_or c.args.rows.now c.loop-row.row-index no_row) = c.free_addresses_of-addresses.ensures.addresses in
+    let len : c.free_addresses_of-addresses.result ≡ free_len c.args.layout.now (slice_index_or c.args.rows.now c.loop-row.row-index no_row) =
+    c.free_addresses_of-addresses.ensures.addresses in
     let short : c.free_addresses_of-addresses.result < 2 ^ 32 = c.free_addresses_of-addresses.ensures.short in
     record {
-      sum = omega (arith, len, c.loop-row.invariant.sum, sum_by_more (free_len c.args.layout.now) c.args.rows.now c.loop-row.row-index no_row c.loop-row-test.true);
+      sum = omega (
+        arith,
+        len,
+        c.loop-row.invariant.sum,
+        sum_by_more (free_len c.args.layout.now) c.args.rows.now c.loop-row.row-index no_row c.loop-row-test.true,
+      );
       below = omega (arith, short, c.loop-row.invariant.below);
       short = short_more c.args.layout.now c.args.rows.now c.loop-row.row-index no_row (omega (arith, len, short)) c.loop-row.invariant.short;
     }

@@ -30,10 +30,13 @@ count_live-requires-clause-few c =
 pub returns : goal.returns
 returns c =
     let are : AreOpened c.args.layout.now c.args.found.now c.in_ok-rows.rows.items = c.in_ok-rows.ensures.rows in
-    let from : AreOpened c.args.layout.now c.args.found.now c.deref_mut.result.now = subst (AreOpened c.args.layout.now c.args.found.now) (sym c.deref_mut.ensures.value) are in
-    let counted : AreCounted c.args.found.now.winners c.deref_mut.result.now c.count_live.new.rows = subst (λ (ws : List Winner). AreCounted ws c.deref_mut.result.now c.count_live.new.rows) c.as_slice.ensures c.count_live.ensures in
+    let from : AreOpened c.args.layout.now c.args.found.now c.deref_mut.result.now =
+    subst (AreOpened c.args.layout.now c.args.found.now) (sym c.deref_mut.ensures.value) are in
+    let counted : AreCounted c.args.found.now.winners c.deref_mut.result.now c.count_live.new.rows =
+    subst (λ (ws : List Winner). AreCounted ws c.deref_mut.result.now c.count_live.new.rows) c.as_slice.ensures c.count_live.ensures in
     let accepted : IsAccepted c.args.layout.now = c.uncounted_rows.ensures.accepted in
     let new : AreOpening c.args.layout.now c.args.found.now c.count_live.new.rows =
     opening_from c.args.layout.now c.args.found.now c.deref_mut.result.now c.count_live.new.rows c.requires.fit.lines accepted.drive.lines_high from counted in
-    let len : c.in_ok-rows.rows.len ≡ length c.count_live.new.rows = omega (arith, counted.lines, ap length c.deref_mut.ensures.value, c.in_ok-rows.rows.ok.0) in
+    let len : c.in_ok-rows.rows.len ≡ length c.count_live.new.rows =
+    omega (arith, counted.lines, ap length c.deref_mut.ensures.value, c.in_ok-rows.rows.ok.0) in
     subst (AreOpening c.args.layout.now c.args.found.now) (sym (taken_whole c.in_ok-rows.rows.len c.count_live.new.rows c.in_ok-rows.rows.items len)) new

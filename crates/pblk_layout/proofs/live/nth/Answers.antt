@@ -7,13 +7,17 @@ pub loop-unit-init : goal.loop-unit-init
 loop-unit-init c = from_first c.args.live c.args.n
 
 pub returns-then-left-eq0 : goal.returns-then-left-eq0
-returns-then-left-eq0 c = here c.args.live c.loop-unit.unit c.loop-unit.left c.args.n c.loop-unit-test.true (sym c.is_in.ensures.is ∙ c.if-is_in.true) c.if-left-eq0.true c.loop-unit.invariant
+returns-then-left-eq0 c = here c.args.live c.loop-unit.unit c.loop-unit.left c.args.n c.loop-unit-test.true
+    (sym c.is_in.ensures.is ∙ c.if-is_in.true) c.if-left-eq0.true c.loop-unit.invariant
 
 pub loop-unit-preserved : goal.loop-unit-preserved
 loop-unit-preserved c =
     elim c.if-is_in.branch [
-      | then-is_in+else-left-eq0 w ↦ rw w.left-is (behind c.args.live c.loop-unit.unit c.loop-unit.left c.args.n c.loop-unit-test.true (sym c.is_in.ensures.is ∙ w.if-is_in.true) (omega (arith, w.if-left-eq0.false)) c.loop-unit.invariant)
-      | else-is_in w ↦ rw w.left-is (without c.args.live c.loop-unit.unit c.loop-unit.left c.args.n c.loop-unit-test.true (sym c.is_in.ensures.is ∙ w.if-is_in.false) c.loop-unit.invariant)
+      | then-is_in+else-left-eq0 w ↦ rw w.left-is
+          (behind c.args.live c.loop-unit.unit c.loop-unit.left c.args.n c.loop-unit-test.true (sym c.is_in.ensures.is ∙ w.if-is_in.true)
+          (omega (arith, w.if-left-eq0.false)) c.loop-unit.invariant)
+      | else-is_in w ↦ rw w.left-is (without c.args.live c.loop-unit.unit c.loop-unit.left c.args.n c.loop-unit-test.true
+          (sym c.is_in.ensures.is ∙ w.if-is_in.false) c.loop-unit.invariant)
     ]
 
 pub unreachable-requires : goal.unreachable-requires

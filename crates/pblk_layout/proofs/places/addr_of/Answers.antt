@@ -11,7 +11,8 @@ use Rattle.pblk_layout.proofs.places.addr_of.Goals.{then-not-is_in-via-then-not-
 -- no address is that of a block that isn't there
 pub returns-then-not-is_in-clause-only : goal.returns-then-not-is_in-clause-only
 returns-then-not-is_in-clause-only c = λ a h.
-    let is = at c.args.shape.now (units_in c.args.live) a c.args.unit c.args.block c.line_order_is.ensures.block c.line_order_is.ensures.length c.one_to_one.ensures c.requires.accepted.drive.ws_opt c.requires.accepted.drive.whole_stripes h in
+    let is = at c.args.shape.now (units_in c.args.live) a c.args.unit c.args.block c.line_order_is.ensures.block c.line_order_is.ensures.length
+    c.one_to_one.ensures c.requires.accepted.drive.ws_opt c.requires.accepted.drive.whole_stripes h in
     let there = member c.args.live c.args.unit _ is.unit_is in
     let inside : c.args.block < c.args.shape.now.clba = is.block in
     elim c.then-not-is_in.branch [
@@ -30,36 +31,46 @@ pub overflow_mul-stripe : goal.overflow_mul-stripe
 overflow_mul-stripe c =
     let few : c.width.result ≤ 64 = omega (arith, c.width.ensures.few 64 (omega arith)) in
     let row : c.args.block / c.args.shape.now.ws_opt ≤ c.args.block = div-le_self c.args.block c.args.shape.now.ws_opt in
-    let product : c.args.block / c.args.shape.now.ws_opt * c.width.result ≤ c.args.block / c.args.shape.now.ws_opt * 64 = mul-le-mul_left (c.args.block / c.args.shape.now.ws_opt) few in
+    let product : c.args.block / c.args.shape.now.ws_opt * c.width.result ≤ c.args.block / c.args.shape.now.ws_opt * 64 =
+    mul-le-mul_left (c.args.block / c.args.shape.now.ws_opt) few in
     let short : c.args.shape.now.clba ≤ 65536 = clba_is_short c.a_line_is_short.ensures c.args.shape.now c.requires.accepted in
     omega arith
 
 pub overflow_add-stripe : goal.overflow_add-stripe
 overflow_add-stripe c =
     let is : is_in c.args.live c.args.unit ≡ true = sym c.is_in.ensures.is ∙ c.if-not-is_in.false in
-    let f = found_short c.args.shape.now c.args.live c.width.result c.rank.result c.args.unit c.args.block c.line_order_is.ensures.block c.address_is_of.ensures c.a_line_is_short.ensures c.requires.accepted c.width.ensures.width (c.width.ensures.few _ c.requires.live) c.rank.ensures (rw c.if-not-is_in.false at c.is_in.ensures.below) is c.if-block-shape.false in
+    let f = found_short c.args.shape.now c.args.live c.width.result c.rank.result c.args.unit c.args.block c.line_order_is.ensures.block c.address_is_of.ensures
+    c.a_line_is_short.ensures c.requires.accepted c.width.ensures.width (c.width.ensures.few _ c.requires.live) c.rank.ensures
+    (rw c.if-not-is_in.false at c.is_in.ensures.below) is c.if-block-shape.false in
     omega (arith, f.0, f.1, f.3, f.4)
 
 pub overflow_mul-result : goal.overflow_mul-result
 overflow_mul-result c =
     let is : is_in c.args.live c.args.unit ≡ true = sym c.is_in.ensures.is ∙ c.if-not-is_in.false in
-    let f = found_short c.args.shape.now c.args.live c.width.result c.rank.result c.args.unit c.args.block c.line_order_is.ensures.block c.address_is_of.ensures c.a_line_is_short.ensures c.requires.accepted c.width.ensures.width (c.width.ensures.few _ c.requires.live) c.rank.ensures (rw c.if-not-is_in.false at c.is_in.ensures.below) is c.if-block-shape.false in
+    let f = found_short c.args.shape.now c.args.live c.width.result c.rank.result c.args.unit c.args.block c.line_order_is.ensures.block c.address_is_of.ensures
+    c.a_line_is_short.ensures c.requires.accepted c.width.ensures.width (c.width.ensures.few _ c.requires.live) c.rank.ensures
+    (rw c.if-not-is_in.false at c.is_in.ensures.below) is c.if-block-shape.false in
     omega (arith, f.0, f.1, f.3, f.4)
 
 pub overflow_add-result : goal.overflow_add-result
 overflow_add-result c =
     let is : is_in c.args.live c.args.unit ≡ true = sym c.is_in.ensures.is ∙ c.if-not-is_in.false in
-    let f = found_short c.args.shape.now c.args.live c.width.result c.rank.result c.args.unit c.args.block c.line_order_is.ensures.block c.address_is_of.ensures c.a_line_is_short.ensures c.requires.accepted c.width.ensures.width (c.width.ensures.few _ c.requires.live) c.rank.ensures (rw c.if-not-is_in.false at c.is_in.ensures.below) is c.if-block-shape.false in
+    let f = found_short c.args.shape.now c.args.live c.width.result c.rank.result c.args.unit c.args.block c.line_order_is.ensures.block c.address_is_of.ensures
+    c.a_line_is_short.ensures c.requires.accepted c.width.ensures.width (c.width.ensures.few _ c.requires.live) c.rank.ensures
+    (rw c.if-not-is_in.false at c.is_in.ensures.below) is c.if-block-shape.false in
     omega (arith, f.0, f.1, f.3, f.4)
 
 pub returns-clause-found : goal.returns-clause-found
 returns-clause-found c =
     let is : is_in c.args.live c.args.unit ≡ true = sym c.is_in.ensures.is ∙ c.if-not-is_in.false in
-    (found_short c.args.shape.now c.args.live c.width.result c.rank.result c.args.unit c.args.block c.line_order_is.ensures.block c.address_is_of.ensures c.a_line_is_short.ensures c.requires.accepted c.width.ensures.width (c.width.ensures.few _ c.requires.live) c.rank.ensures (rw c.if-not-is_in.false at c.is_in.ensures.below) is c.if-block-shape.false).2
+    (found_short c.args.shape.now c.args.live c.width.result c.rank.result c.args.unit c.args.block c.line_order_is.ensures.block c.address_is_of.ensures
+    c.a_line_is_short.ensures c.requires.accepted c.width.ensures.width (c.width.ensures.few _ c.requires.live) c.rank.ensures
+    (rw c.if-not-is_in.false at c.is_in.ensures.below) is c.if-block-shape.false).2
 
 pub returns-clause-only : goal.returns-clause-only
 returns-clause-only c = λ a h.
-    let is = only c.args.shape.now c.args.live c.width.result c.args.unit c.args.block a c.line_order_is.ensures.block c.line_order_is.ensures.length c.one_to_one.ensures c.requires.accepted.drive.ws_opt c.requires.accepted.drive.whole_stripes c.width.ensures.width h in
+    let is = only c.args.shape.now c.args.live c.width.result c.args.unit c.args.block a c.line_order_is.ensures.block c.line_order_is.ensures.length
+    c.one_to_one.ensures c.requires.accepted.drive.ws_opt c.requires.accepted.drive.whole_stripes c.width.ensures.width h in
     ap (λ k. Some (address_of c.args.shape.now c.width.result k c.args.block)) c.rank.ensures ∙ ap (λ x. Some x) is
 
 pub returns-clause-none : goal.returns-clause-none

@@ -15,14 +15,17 @@ loop-t-preserved c =
     let n = length c.args.rows.now in
     let h = c.requires.head in
     let inside = line_there n c.args.traces.now c.loop-t.t-index _ c.requires.lines c.loop-t-test.true in
-    let is = c.counts.ensures.counts h.shape h.line h.width h.fits (row_there n (row_of (Some (start_numbers c.args.head.now))) (option_map row_numbers) c.args.rows.now _ _ c.requires.rows inside) in
+    let is = c.counts.ensures.counts h.shape h.line h.width h.fits
+    (row_there n (row_of (Some (start_numbers c.args.head.now))) (option_map row_numbers) c.args.rows.now _ _ c.requires.rows inside) in
     elim c.if-counts.branch [
       | then-counts w ↦ rw w.tally-is (record {
-        tally = λ sectors first. rw (counted_yes p c.args.traces.now c.loop-t.t-index _ c.loop-t-test.true (sym is ∙ w.if-counts.true)) (w.note.ensures.tally sectors n (filter p (bares (take c.loop-t.t-index c.args.traces.now))) (c.loop-t.invariant.tally sectors first));
+        tally = λ sectors first. rw (counted_yes p c.args.traces.now c.loop-t.t-index _ c.loop-t-test.true (sym is ∙ w.if-counts.true))
+            (w.note.ensures.tally sectors n (filter p (bares (take c.loop-t.t-index c.args.traces.now))) (c.loop-t.invariant.tally sectors first));
         tops = w.note.ensures.tops ∙ c.loop-t.invariant.tops;
       })
       | else-counts w ↦ rw w.tally-is (record {
-        tally = λ sectors first. rw (counted_no p c.args.traces.now c.loop-t.t-index _ c.loop-t-test.true (sym is ∙ w.if-counts.false)) (c.loop-t.invariant.tally sectors first);
+        tally = λ sectors first. rw (counted_no p c.args.traces.now c.loop-t.t-index _ c.loop-t-test.true (sym is ∙ w.if-counts.false))
+            (c.loop-t.invariant.tally sectors first);
         tops = c.loop-t.invariant.tops;
       })
     ]

@@ -8,6 +8,7 @@ use Rattle.scan_recovery.proofs.counting.count_all.Given as goal
 
 abbrev pub invariant-loop-t : goal.invariant-loop-t
 invariant-loop-t l = record {
-  tally : (sectors : ℕ) → IsTally sectors (length l.rows) [] l.initial.tally → IsTally sectors (length l.rows) (filter (counts (start_numbers l.head) l.end) (bares (take l.t-index l.traces))) l.tally;
+  tally : (sectors : ℕ) → IsTally sectors (length l.rows) [] l.initial.tally
+      → IsTally sectors (length l.rows) (filter (counts (start_numbers l.head) l.end) (bares (take l.t-index l.traces))) l.tally;
   tops : length l.tally.tops.items ≡ length l.rows;
 }

@@ -17,18 +17,24 @@ loop-t-preserved c =
     let n = length c.args.rows.now in
     let h = c.requires.head in
     let inside = line_there n c.args.traces.now c.loop-t.t-index _ c.requires.lines c.loop-t-test.true in
-    let is = c.counts.ensures.counts h.shape h.line h.width h.fits (row_there n (row_of (Some (start_numbers c.args.head.now))) (option_map row_numbers) c.args.rows.now _ _ c.requires.rows inside) in
+    let is = c.counts.ensures.counts h.shape h.line h.width h.fits
+    (row_there n (row_of (Some (start_numbers c.args.head.now))) (option_map row_numbers) c.args.rows.now _ _ c.requires.rows inside) in
     elim c.if-counts.branch [
       | then-counts w ↦ rw w.named-is (record {
-        count = ap (λ k. k + w.named_one-named.result) c.loop-t.invariant.count ∙ ap (λ k. named_count (filter p (bares (take c.loop-t.t-index c.args.traces.now))) + k) w.named_one-named.ensures.one
-            ∙ sym (ap named_count (counted_yes p c.args.traces.now c.loop-t.t-index _ c.loop-t-test.true (sym is ∙ w.if-counts.true)) ∙ named_both (filter p (bares (take c.loop-t.t-index c.args.traces.now))) (bare _ ∷ []));
+        count = ap (λ k. k + w.named_one-named.result) c.loop-t.invariant.count
+            ∙ ap (λ k. named_count (filter p (bares (take c.loop-t.t-index c.args.traces.now))) + k) w.named_one-named.ensures.one
+            ∙ sym (ap named_count (counted_yes p c.args.traces.now c.loop-t.t-index _ c.loop-t-test.true (sym is ∙ w.if-counts.true))
+            ∙ named_both (filter p (bares (take c.loop-t.t-index c.args.traces.now))) (bare _ ∷ []));
         few = omega (arith, c.loop-t.invariant.few, w.named_one-named.ensures.few);
       })
       | else-counts w ↦ rw w.named-is (record {
-        count = c.loop-t.invariant.count ∙ sym (ap named_count (counted_no p c.args.traces.now c.loop-t.t-index _ c.loop-t-test.true (sym is ∙ w.if-counts.false)));
+        count = c.loop-t.invariant.count
+            ∙ sym (ap named_count (counted_no p c.args.traces.now c.loop-t.t-index _ c.loop-t-test.true (sym is ∙ w.if-counts.false)));
         few = omega (arith, c.loop-t.invariant.few);
       })
     ]
 
 pub returns : goal.returns
-returns c = c.loop-t.invariant.count ∙ ap (λ ts. named_count (filter (counts (start_numbers c.args.head.now) c.args.end) (bares ts))) (take_all c.args.traces.now c.loop-t.t-index c.loop-t-test.false)
+returns c = c.loop-t.invariant.count
+    ∙ ap (λ ts. named_count (filter (counts (start_numbers c.args.head.now) c.args.end) (bares ts)))
+    (take_all c.args.traces.now c.loop-t.t-index c.loop-t-test.false)

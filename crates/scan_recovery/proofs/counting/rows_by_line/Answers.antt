@@ -9,4 +9,5 @@ use Rattle.lemmas.proofs.Maps.{map_last}
 pub loop-line-preserved : goal.loop-line-preserved
 loop-line-preserved c =
     rw (c.in_ok-push.ensures.items, map_last (option_map row_numbers) c.loop-line.rows.items c.row_in.result)
-    (table_push c.loop-line.line (row_of (option_map start_numbers c.args.head.now)) (map (option_map row_numbers) c.loop-line.rows.items) (option_map row_numbers c.row_in.result) c.loop-line.invariant c.row_in.ensures)
+    (table_push c.loop-line.line (row_of (option_map start_numbers c.args.head.now)) (map (option_map row_numbers) c.loop-line.rows.items)
+    (option_map row_numbers c.row_in.result) c.loop-line.invariant c.row_in.ensures)

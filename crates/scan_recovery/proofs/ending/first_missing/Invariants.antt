@@ -6,5 +6,6 @@ use Rattle.scan_recovery.proofs.ending.first_missing.Given as goal
 abbrev pub invariant-loop-seen : goal.invariant-loop-seen
 invariant-loop-seen l = record {
   low : l.position ≡ l.front + l.seen-index;
-  rest : (f : ℕ → Bool) → IsTable (length l.borne) (λ k. f (l.front + k)) l.borne → least_missing f (length l.borne - l.seen-index) l.position ≡ least_missing f (length l.borne) l.front;
+  rest : (f : ℕ → Bool) → IsTable (length l.borne) (λ k. f (l.front + k)) l.borne
+      → least_missing f (length l.borne - l.seen-index) l.position ≡ least_missing f (length l.borne) l.front;
 }

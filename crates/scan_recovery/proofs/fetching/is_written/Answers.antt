@@ -10,7 +10,8 @@ use Rattle.scan_recovery.proofs.fetching.is_written.Goals as goal
 pub state-pointer-requires : goal.state-pointer-requires
 state-pointer-requires g c =
     chunk_here c.args.shape.now (map g.U.Unit.model c.args.units.now) c.args.line c.args.unit (g.U.Unit.model c.index-units-unit.result) c.requires.fit
-    (model_there g.U.Unit.model c.args.units.now c.args.unit c.index-units-unit.result c.requires.unit ∙ ap (λ x. Some (g.U.Unit.model x)) (sym c.index-units-unit.is)) c.requires.line
+    (model_there g.U.Unit.model c.args.units.now c.args.unit c.index-units-unit.result c.requires.unit
+    ∙ ap (λ x. Some (g.U.Unit.model x)) (sym c.index-units-unit.is)) c.requires.line
 
 pub returns-clause-written : goal.returns-clause-written
 returns-clause-written g c = λ is.
@@ -19,7 +20,8 @@ returns-clause-written g c = λ is.
     let p = h.3 in
     readable_here c.args.shape.now (map g.U.Unit.model c.args.units.now) c.args.line c.args.unit c.args.block h.0 c.requires.fit c.requires.closed
     (chunk_of c.args.shape.now (map g.U.Unit.model c.args.units.now) c.args.line c.args.unit (g.U.Unit.model c.index-units-unit.result)
-    (model_there g.U.Unit.model c.args.units.now c.args.unit c.index-units-unit.result c.requires.unit ∙ ap (λ x. Some (g.U.Unit.model x)) (sym c.index-units-unit.is)) ∙ h.1) (omega arith)
+    (model_there g.U.Unit.model c.args.units.now c.args.unit c.index-units-unit.result c.requires.unit
+    ∙ ap (λ x. Some (g.U.Unit.model x)) (sym c.index-units-unit.is)) ∙ h.1) (omega arith)
 
 pub returns-clause-unwritten : goal.returns-clause-unwritten
 returns-clause-unwritten g c = λ is.
@@ -28,4 +30,5 @@ returns-clause-unwritten g c = λ is.
     let p = h.3 in
     unwritten_here (image_of c.args.shape.now (map g.U.Unit.model c.args.units.now)) c.args.line c.args.unit c.args.block h.0
     (chunk_of c.args.shape.now (map g.U.Unit.model c.args.units.now) c.args.line c.args.unit (g.U.Unit.model c.index-units-unit.result)
-    (model_there g.U.Unit.model c.args.units.now c.args.unit c.index-units-unit.result c.requires.unit ∙ ap (λ x. Some (g.U.Unit.model x)) (sym c.index-units-unit.is)) ∙ h.1) (omega arith)
+    (model_there g.U.Unit.model c.args.units.now c.args.unit c.index-units-unit.result c.requires.unit
+    ∙ ap (λ x. Some (g.U.Unit.model x)) (sym c.index-units-unit.is)) ∙ h.1) (omega arith)

@@ -6,6 +6,10 @@ use Rattle.scan_recovery.proofs.finding.strays_in.Goals.{then-is_stray+in_ok-pus
 pub loop-line-preserved : goal.loop-line-preserved
 loop-line-preserved c = λ i table.
     elim c.if-is_stray.branch [
-      | then-is_stray+in_ok-push w ↦ rw w.strays-is (stray_more i c.args.lines.now c.loop-line.line _ c.loop-line.strays.items w.push.new.self.items table c.loop-line-test.true (sym c.is_stray.ensures ∙ w.if-is_stray.true) w.in_ok-push.ensures.items (c.loop-line.invariant i table))
-      | else-is_stray w ↦ rw w.strays-is (stray_none i c.args.lines.now c.loop-line.line _ c.loop-line.strays.items table c.loop-line-test.true (sym c.is_stray.ensures ∙ w.if-is_stray.false) (c.loop-line.invariant i table))
+      | then-is_stray+in_ok-push w ↦ rw w.strays-is
+          (stray_more i c.args.lines.now c.loop-line.line _ c.loop-line.strays.items w.push.new.self.items table c.loop-line-test.true
+          (sym c.is_stray.ensures ∙ w.if-is_stray.true) w.in_ok-push.ensures.items (c.loop-line.invariant i table))
+      | else-is_stray w ↦ rw w.strays-is
+          (stray_none i c.args.lines.now c.loop-line.line _ c.loop-line.strays.items table c.loop-line-test.true (sym c.is_stray.ensures ∙ w.if-is_stray.false)
+          (c.loop-line.invariant i table))
     ]

@@ -7,21 +7,27 @@ use Rattle.scan_recovery.specs.Units.{image_of}
 use Rattle.scan_recovery.proofs.padding.pad_lines.Goals as goal
 
 pub pad_line-requires-clause-fit : goal.pad_line-requires-clause-fit
-pad_line-requires-clause-fit g c = fit_kept c.args.shape.now (map g.U.Unit.model c.args.units.now) (map g.U.Unit.model c.loop-line.units) c.requires.fit c.loop-line.invariant.kept
+pad_line-requires-clause-fit g c =
+    fit_kept c.args.shape.now (map g.U.Unit.model c.args.units.now) (map g.U.Unit.model c.loop-line.units) c.requires.fit c.loop-line.invariant.kept
 
 pub returns-in_err-pad_line-clause-padded : goal.returns-in_err-pad_line-clause-padded
 returns-in_err-pad_line-clause-padded g c =
     let p = err_from_is_err_and c.from_residual.result c.from_residual.ensures.1 in
-    rw (p.1, p.2) (run_joined c.args.shape.now (map g.U.Unit.model c.args.units.now) (map g.U.Unit.model c.loop-line.units) (map g.U.Unit.model c.pad_line.new.units) (Err c.in_err-pad_line.field-0.0) c.loop-line.invariant.ran c.in_err-pad_line.ensures.padded)
+    rw (p.1, p.2) (run_joined c.args.shape.now (map g.U.Unit.model c.args.units.now) (map g.U.Unit.model c.loop-line.units)
+    (map g.U.Unit.model c.pad_line.new.units) (Err c.in_err-pad_line.field-0.0) c.loop-line.invariant.ran c.in_err-pad_line.ensures.padded)
 
 pub returns-in_err-pad_line-clause-kept : goal.returns-in_err-pad_line-clause-kept
-returns-in_err-pad_line-clause-kept g c = kept_more (map g.U.Unit.model c.args.units.now) (map g.U.Unit.model c.loop-line.units) (map g.U.Unit.model c.pad_line.new.units) c.loop-line.invariant.kept c.pad_line.ensures.kept
+returns-in_err-pad_line-clause-kept g c =
+    kept_more (map g.U.Unit.model c.args.units.now) (map g.U.Unit.model c.loop-line.units)
+    (map g.U.Unit.model c.pad_line.new.units) c.loop-line.invariant.kept c.pad_line.ensures.kept
 
 pub loop-line-preserved : goal.loop-line-preserved
 loop-line-preserved g c = record {
-  ran = run_joined c.args.shape.now (map g.U.Unit.model c.args.units.now) (map g.U.Unit.model c.loop-line.units) (map g.U.Unit.model c.pad_line.new.units) (Ok tt) c.loop-line.invariant.ran c.in_ok-pad_line.ensures.padded;
+  ran = run_joined c.args.shape.now (map g.U.Unit.model c.args.units.now) (map g.U.Unit.model c.loop-line.units) (map g.U.Unit.model c.pad_line.new.units)
+      (Ok tt) c.loop-line.invariant.ran c.in_ok-pad_line.ensures.padded;
   before = c.in_ok-pad_line.ensures.closed;
-  kept = kept_more (map g.U.Unit.model c.args.units.now) (map g.U.Unit.model c.loop-line.units) (map g.U.Unit.model c.pad_line.new.units) c.loop-line.invariant.kept c.pad_line.ensures.kept;
+  kept = kept_more (map g.U.Unit.model c.args.units.now) (map g.U.Unit.model c.loop-line.units)
+      (map g.U.Unit.model c.pad_line.new.units) c.loop-line.invariant.kept c.pad_line.ensures.kept;
   wear = c.pad_line.ensures.wear ∙ c.loop-line.invariant.wear;
 }
 

@@ -31,16 +31,20 @@ pub returns-in-Ok : goal.returns-in-Ok
 returns-in-Ok g c =
     let s = c.args.shape.now in
     let n = (c.args.at / s.ws_opt + 1) * s.ws_opt - c.args.at in
-    let done = done_stripe s (map g.U.Unit.model c.args.units.now) (map g.U.Unit.model c.program_at.new.units) c.args.line c.args.unit c.args.at _ c.requires.accepted c.requires.fit c.requires.found c.requires.before
-    (pads_are s c.args.at c.args.bytes.now c.args.marks.now n c.requires.accepted.drive.ws_opt c.requires.blank refl) c.program_at.result c.in-Ok.field-0 c.in-Ok.is c.program_at.ensures.did in
+    let done = done_stripe s (map g.U.Unit.model c.args.units.now)
+    (map g.U.Unit.model c.program_at.new.units) c.args.line c.args.unit c.args.at _ c.requires.accepted c.requires.fit c.requires.found c.requires.before
+    (pads_are s c.args.at c.args.bytes.now c.args.marks.now n c.requires.accepted.drive.ws_opt c.requires.blank refl) c.program_at.result c.in-Ok.field-0
+    c.in-Ok.is c.program_at.ensures.did in
     record { padded = done.0; smaller = done.1; before = done.2; kept = c.program_at.ensures.kept; wear = c.program_at.ensures.wear }
 
 pub returns-in-Err-Failed : goal.returns-in-Err-Failed
 returns-in-Err-Failed g c =
     let s = c.args.shape.now in
     let n = (c.args.at / s.ws_opt + 1) * s.ws_opt - c.args.at in
-    let done = failed_stripe s (map g.U.Unit.model c.args.units.now) (map g.U.Unit.model c.program_at.new.units) c.args.line c.args.unit c.args.at _ c.requires.accepted c.requires.fit c.requires.found c.requires.before
-    (pads_are s c.args.at c.args.bytes.now c.args.marks.now n c.requires.accepted.drive.ws_opt c.requires.blank refl) c.program_at.result (c.in-Err-Failed.is ∙ ap Err c.in-Err-Failed.field-0-is) c.program_at.ensures.did in
+    let done = failed_stripe s (map g.U.Unit.model c.args.units.now)
+    (map g.U.Unit.model c.program_at.new.units) c.args.line c.args.unit c.args.at _ c.requires.accepted c.requires.fit c.requires.found c.requires.before
+    (pads_are s c.args.at c.args.bytes.now c.args.marks.now n c.requires.accepted.drive.ws_opt c.requires.blank refl) c.program_at.result
+    (c.in-Err-Failed.is ∙ ap Err c.in-Err-Failed.field-0-is) c.program_at.ensures.did in
     record { padded = done.0; smaller = done.1; before = done.2; kept = c.program_at.ensures.kept; wear = c.program_at.ensures.wear }
 
 pub returns-in-Err-Stopped : goal.returns-in-Err-Stopped
@@ -48,7 +52,9 @@ returns-in-Err-Stopped g c =
     let s = c.args.shape.now in
     let n = (c.args.at / s.ws_opt + 1) * s.ws_opt - c.args.at in
     let inside : c.args.unit < length c.program_at.new.units = omega arith in
-    let done = stopped_stripe s (map g.U.Unit.model c.args.units.now) (map g.U.Unit.model c.program_at.new.units) c.args.line c.args.unit c.args.at _ c.requires.accepted c.requires.fit c.requires.found c.requires.before
-    (pads_are s c.args.at c.args.bytes.now c.args.marks.now n c.requires.accepted.drive.ws_opt c.requires.blank refl) c.program_at.result _ c.events.result (c.in-Err-Stopped.is ∙ ap Err c.in-Err-Stopped.field-0-is) c.program_at.ensures.did
+    let done = stopped_stripe s (map g.U.Unit.model c.args.units.now)
+    (map g.U.Unit.model c.program_at.new.units) c.args.line c.args.unit c.args.at _ c.requires.accepted c.requires.fit c.requires.found c.requires.before
+    (pads_are s c.args.at c.args.bytes.now c.args.marks.now n c.requires.accepted.drive.ws_opt c.requires.blank refl) c.program_at.result _ c.events.result
+    (c.in-Err-Stopped.is ∙ ap Err c.in-Err-Stopped.field-0-is) c.program_at.ensures.did
     (model_there g.U.Unit.model c.program_at.new.units c.args.unit c.index-units-unit.result inside) c.events.ensures.count in
     record { padded = done.0; smaller = tt; before = done.1; kept = c.program_at.ensures.kept; wear = c.program_at.ensures.wear }

@@ -8,7 +8,8 @@ returns-in-Ok g c =
     let s = c.args.shape.now in
     let old = map g.U.Unit.model c.args.units.now in
     let mid = map g.U.Unit.model c.pad.new.units in
-    let is = scanned s old mid (map g.U.Unit.model c.scan.new.units) c.in-Ok.field-0 c.requires.unarmed (pad_done s old mid c.pad.result c.in-Ok.field-0 c.in-Ok.is c.pad.ensures.padded) c.pad.ensures.kept
+    let is = scanned s old mid (map g.U.Unit.model c.scan.new.units) c.in-Ok.field-0 c.requires.unarmed
+    (pad_done s old mid c.pad.result c.in-Ok.field-0 c.in-Ok.is c.pad.ensures.padded) c.pad.ensures.kept
     (record { is_sealed = c.pad.ensures.sealed; contents_are = c.pad.ensures.contents; end_is = c.pad.ensures.end }) c.in-Ok.ensures.closed c.scan.ensures.kept
     c.scan.result c.scan.ensures.found c.scan.ensures.fetched in
     record { found = is.0; handed_back = is.1; memory = is.2; quiet = is.3; wear = c.scan.ensures.wear ∙ c.pad.ensures.wear }

@@ -1,5 +1,6 @@
 use Rattle.std.proofs.Common.{◌≡◌, ◌≤◌, ◌*◌, map, length, sym, ap, subst, ◌∙◌, arith}
 use Rattle.pblk_laws.proofs.LineUnits.{line_units_count}
+use Rattle.pblk_layout.specs.Live.{units_in}
 use Rattle.pblk_model.specs.Image.{width}
 use Rattle.pblk_model.specs.Shape.{units}
 use Rattle.scan_recovery.specs.Units.{image_of}
@@ -8,21 +9,22 @@ use Rattle.scan_recovery.proofs.PadLoops.{fit_image}
 use Rattle.scan_recovery.proofs.Surveys.{blocks_length}
 use Rattle.scan_recovery.proofs.scanning.survey_line.Goals as goal
 
-pub overflow_cast-width : goal.overflow_cast-width
-overflow_cast-width g c = let short = line_short c.args.shape.now (map g.U.Unit.model c.args.units.now) c.args.line c.in_ok-online.online.items c.requires.accepted c.requires.fit c.in_ok-online.ensures in let few = short.0 in omega (arith, c.in_ok-online.online.ok.0, c.len-width.ensures)
-
 pub add-requires-clause-width : goal.add-requires-clause-width
 add-requires-clause-width g c =
-    let few = line_few c.args.shape.now (map g.U.Unit.model c.args.units.now) c.args.line c.in_ok-online.online.items c.requires.fit c.in_ok-online.ensures in
-    subst (λ x. c.len-width.result ≤ units x) (sym c.new-layout.ensures) (omega (arith, few, c.len-width.ensures, c.in_ok-online.online.ok.0))
+    let few = line_few c.args.shape.now (map g.U.Unit.model c.args.units.now) c.args.line
+    (units_in c.online_units-online.result) c.requires.fit c.online_units-online.ensures.units in
+    subst (λ x. c.width.result ≤ units x) (sym c.new-layout.ensures) (omega (arith, few, c.width.ensures.width))
 
 pub add-requires-clause-few : goal.add-requires-clause-few
 add-requires-clause-few g c =
     let us = map g.U.Unit.model c.args.units.now in
     let i = image_of c.args.shape.now us in
-    let short = line_short c.args.shape.now us c.args.line c.in_ok-online.online.items c.requires.accepted c.requires.fit c.in_ok-online.ensures in
-    let count : length c.in_ok-online.online.items ≡ width i c.args.line = ap length c.in_ok-online.ensures ∙ line_units_count i c.args.line in
-    let long : length c.deref-2.result.now ≡ width i c.args.line * c.args.shape.now.clba = ap length (c.deref-2.ensures.value ∙ c.in_ok-blocks.ensures ∙ c.in_ok-fetch_line.ensures.blocks) ∙ blocks_length i c.args.line in
+    let short = line_short c.args.shape.now us c.args.line
+    (units_in c.online_units-online.result) c.requires.accepted c.requires.fit c.online_units-online.ensures.units in
+    let count : length (units_in c.online_units-online.result) ≡ width i c.args.line = ap length c.online_units-online.ensures.units
+    ∙ line_units_count i c.args.line in
+    let long : length c.deref.result.now ≡ width i c.args.line * c.args.shape.now.clba =
+    ap length (c.deref.ensures.value ∙ c.in_ok-blocks.ensures ∙ c.in_ok-fetch_line.ensures.blocks) ∙ blocks_length i c.args.line in
     let all : width i c.args.line * c.args.shape.now.clba ≤ 65536 = subst (λ n. n * c.args.shape.now.clba ≤ 65536) count short.1 in
     omega arith
 
@@ -30,10 +32,10 @@ pub returns-clause-survey : goal.returns-clause-survey
 returns-clause-survey g c =
     let us = map g.U.Unit.model c.args.units.now in
     let i = image_of c.args.shape.now us in
-    let count : length c.in_ok-online.online.items ≡ width i c.args.line = ap length c.in_ok-online.ensures ∙ line_units_count i c.args.line in
-    let wide : c.len-width.result ≡ width i c.args.line = omega (arith, c.len-width.ensures, c.in_ok-online.online.ok.0, count) in
+    let count : length (units_in c.online_units-online.result) ≡ width i c.args.line = ap length c.online_units-online.ensures.units
+    ∙ line_units_count i c.args.line in
     c.in_ok-add.ensures i (sym c.new-layout.ensures) (fit_image c.args.shape.now us c.requires.fit) (record {
-      blocks_are = c.deref-2.ensures.value ∙ c.in_ok-blocks.ensures ∙ c.in_ok-fetch_line.ensures.blocks;
-      width_is = wide;
+      blocks_are = c.deref.ensures.value ∙ c.in_ok-blocks.ensures ∙ c.in_ok-fetch_line.ensures.blocks;
+      width_is = c.width.ensures.width ∙ count;
       used_is = c.is_used-used.ensures;
     }) c.requires.survey

@@ -1,9 +1,11 @@
-use Rattle.std.proofs.Common.{◌≡◌, ◌*◌, ◌/◌, ◌<◌, ℕ, Some, length, sym, ap, ◌∙◌, arith}
+use Rattle.std.proofs.Common.{◌≡◌, ◌*◌, ◌/◌, ◌<◌, ℕ, Some, length, refl, sym, ap, ◌∙◌, arith}
 use Rattle.std.specs.List.{slice_get}
+use Rattle.std.specs.Option.{option_map}
 use Rattle.pblk_model.specs.declared.shape.Shape.{Shape}
 use Rattle.pblk_model.specs.LineOrder.{line_order}
 use Rattle.pblk_layout.specs.Live.{units_in}
 use Rattle.stripe_placer.specs.OpenLines.{OpenLine, width, unit_of}
+use Rattle.stripe_placer.specs.Placing.{placement, next_positions}
 use Rattle.stripe_placer.proofs.Places.{stripe_inside, place_is, its_unit_below, next_program}
 use Rattle.stripe_placer.proofs.next.next_in.Goals as goal
 
@@ -45,8 +47,11 @@ returns-clause-next c =
     let e = c.args.queue.now.entries in
     let at : j * c.shape.result.now.ws_opt ≡ j * s.ws_opt = ap (λ (t : Shape). j * t.ws_opt) c.shape.ensures.shape in
     let place = placed_at c in
-    next_program s e l c.line.result (j * c.shape.result.now.ws_opt) c.place-unit.result.0 c.place-unit.result.1 c.next_positions-count.result.0 j c.kind-kind.result _ c.in_ok-stripe.ensures.next c.kind-kind.ensures
-    (sym c.allows.ensures ∙ c.if-not-allows.false) c.line.ensures at place.0 place.1 c.next_positions-count.ensures.count c.next_positions-count.ensures.positions
+    let of = next_positions s e c.kind-kind.result in
+    ap (option_map placement)
+    (next_program s e l c.line.result (j * c.shape.result.now.ws_opt) c.place-unit.result.0 c.place-unit.result.1 c.next_count-count.result j
+    c.kind-kind.result of c.in_ok-stripe.ensures.next c.kind-kind.ensures
+    (sym c.allows.ensures ∙ c.if-not-allows.false) c.line.ensures at place.0 place.1 c.next_count-count.ensures refl)
 
 pub returns-clause-unit : goal.returns-clause-unit
 returns-clause-unit c =

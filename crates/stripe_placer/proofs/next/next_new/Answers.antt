@@ -1,11 +1,10 @@
-use Rattle.std.proofs.Common.{◌≡◌, ◌+◌, Bool, Option, Some, None, List, [], ◌∷◌, drop, sym, ap, ◌∙◌}
-use Rattle.std.specs.Prelude.{map}
+use Rattle.std.proofs.Common.{◌≡◌, ◌+◌, Bool, Some, List, [], ◌∷◌, drop, sym, ap, ◌∙◌}
 use Rattle.std.specs.List.{slice_get}
 use Rattle.std.specs.Option.{option_map}
 use Rattle.stripe_placer.specs.OpenLines.{OpenLine}
-use Rattle.stripe_placer.specs.Placing.{Program, program, is_ready, next_in}
-use Rattle.stripe_placer.specs.Inside.{unit_row, first_given}
-use Rattle.stripe_placer.proofs.Rows.{one_fails, one_passes, get_is}
+use Rattle.stripe_placer.specs.Placing.{Program, placement, is_ready, next_in}
+use Rattle.stripe_placer.specs.Inside.{first_given}
+use Rattle.stripe_placer.proofs.Rows.{one_fails, one_passes, get_is, named_by, none_named}
 use Rattle.stripe_placer.proofs.next.next_new.Goals as goal
 use Rattle.lemmas.proofs.Parts.{drop_at}
 
@@ -23,9 +22,11 @@ returns-in-Some c =
     let l : OpenLine = c.index-slots-index.result in
     let at : slice_get xs i ≡ Some l = get_is xs i l c.loop-index-test.true c.index-slots-index.is in
     let give = next_in c.args.layout.now c.args.queue.now.entries in
-    let test : Program → Bool = λ of. is_ready (map unit_row c.args.states.now) c.args.busy of.unit in
-    let hit : first_given test give (l ∷ []) ≡ Some (program c.in-Some.of) = sym c.ready_in.ensures ∙ ap (option_map program) c.in-Some.is in
-    sym (one_passes test give l (drop (i + 1) xs) (program c.in-Some.of) hit) ∙ sym (ap (first_given test give) (drop_at xs i l at)) ∙ c.loop-index.invariant
+    let test : Program → Bool = λ of. is_ready c.args.states.now c.args.busy of.unit in
+    let hit = named_by (first_given test give (l ∷ [])) c.in-Some.of (sym c.ready_in.ensures ∙ c.in-Some.is) in
+    ap (λ o. Some o) (sym hit.2)
+    ∙ ap (option_map placement)
+    (sym (one_passes test give l (drop (i + 1) xs) hit.0 hit.1) ∙ sym (ap (first_given test give) (drop_at xs i l at)) ∙ c.loop-index.invariant)
 
 pub loop-index-preserved : goal.loop-index-preserved
 loop-index-preserved c =
@@ -34,6 +35,6 @@ loop-index-preserved c =
     let l : OpenLine = c.index-slots-index.result in
     let at : slice_get xs i ≡ Some l = get_is xs i l c.loop-index-test.true c.index-slots-index.is in
     let give = next_in c.args.layout.now c.args.queue.now.entries in
-    let test : Program → Bool = λ of. is_ready (map unit_row c.args.states.now) c.args.busy of.unit in
-    let none : ◌≡◌ {A = Option Program} (first_given test give (l ∷ [])) None = sym c.ready_in.ensures ∙ ap (option_map program) c.in_default.is in
+    let test : Program → Bool = λ of. is_ready c.args.states.now c.args.busy of.unit in
+    let none = none_named (first_given test give (l ∷ [])) (sym c.ready_in.ensures ∙ c.in_default.is) in
     sym (one_fails test give l (drop (i + 1) xs) none) ∙ sym (ap (first_given test give) (drop_at xs i l at)) ∙ c.loop-index.invariant

@@ -3,7 +3,8 @@ use Rattle.scan_recovery.specs.Sectors.{AreSectors, sectors_in}
 use Rattle.scan_recovery.proofs.SectorLists.{length-sectors_in, sector_within, get-sectors_in}
 use Rattle.scan_recovery.proofs.sectors.Sectors.get.Goals as goal
 
-module _ (size count lba : ℕ) (bytes all : List ℕ) (sectors : List (List ℕ)) (are : AreSectors size count all) (view : sectors_in size count all ≡ sectors) (same : bytes ≡ all) (below : lba < length sectors) where
+module _ (size count lba : ℕ) (bytes all : List ℕ) (sectors : List (List ℕ)) (are : AreSectors size count all) (view : sectors_in size count all ≡ sectors)
+    (same : bytes ≡ all) (below : lba < length sectors) where
   counted : lba < count
   counted = omega (arith, below, ap length view, length-sectors_in size count all)
 
@@ -11,7 +12,8 @@ module _ (size count lba : ℕ) (bytes all : List ℕ) (sectors : List (List ℕ
   ends = omega (arith, sector_within size count lba are.sized counted, are.whole, ap length same)
 
   found : slice_get sectors lba ≡ Some (slice_range bytes (lba * size) (lba * size + size))
-  found = ap (λ s. slice_get s lba) (sym view) ∙ get-sectors_in size count lba all counted ∙ ap (λ xs. Some (slice_range xs (lba * size) (lba * size + size))) (sym same)
+  found = ap (λ s. slice_get s lba) (sym view) ∙ get-sectors_in size count lba all counted
+      ∙ ap (λ xs. Some (slice_range xs (lba * size) (lba * size + size))) (sym same)
 
 pub overflow_mul-at : goal.overflow_mul-at
 overflow_mul-at c = omega (arith, ends _ _ _ _ _ _ c.self.invariant c.self.view_is c.as_slice-bytes.ensures.value c.requires, c.as_slice-bytes.type_inv.1)

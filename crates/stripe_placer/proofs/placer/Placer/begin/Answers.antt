@@ -1,9 +1,8 @@
 use Rattle.std.proofs.Common.{◌≡◌, ◌≢◌, ◌≤◌, ◌++◌, ◌∷◌, [], List, length, sym, ap, subst, ◌∙◌, arith, length-append}
-use Rattle.std.specs.Prelude.{map}
 use Rattle.std.specs.List.{All}
 use Rattle.stripe_placer.specs.OpenLines.{OpenLine, opened}
 use Rattle.stripe_placer.specs.Placing.{Placing}
-use Rattle.stripe_placer.specs.Inside.{unit_row, FitsShape, Agree}
+use Rattle.stripe_placer.specs.Inside.{FitsShape, Agree}
 use Rattle.stripe_placer.proofs.Steps.{begun_agree}
 use Rattle.stripe_placer.proofs.placer.Placer.begin.Goals as goal
 
@@ -21,6 +20,6 @@ invariant_of-self c =
       rows = c.self.invariant.rows;
       few = omega (arith, few, ap (λ xs. length xs) lines, length-append p.slots.items (new ∷ []));
       room = omega (arith, c.self.invariant.room, c.open_slot.ensures.capacity);
-      agree = subst (λ (xs : List OpenLine). Agree p.layout (map unit_row p.units.items) xs) (sym lines)
-          (begun_agree p.layout (map unit_row p.units.items) p.slots.items c.args.line c.args.live c.self.invariant.agree other fits);
+      agree = subst (λ (xs : List OpenLine). Agree p.layout p.units.items xs) (sym lines)
+          (begun_agree p.layout p.units.items p.slots.items c.args.line c.args.live c.self.invariant.agree other fits);
     }

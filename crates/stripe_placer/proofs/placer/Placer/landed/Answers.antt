@@ -1,16 +1,17 @@
-use Rattle.std.proofs.Common.{◌≡◌, ◌/◌, ap, arith}
+use Rattle.std.proofs.Common.{◌≡◌, ◌/◌, sym, subst, ap, ◌∙◌, arith, length-set}
 use Rattle.std.specs.Prelude.{map}
-use Rattle.std.specs.List.{filter}
+use Rattle.std.specs.List.{filter, slice_set}
 use Rattle.pblk_model.specs.declared.shape.Shape.{Shape}
 use Rattle.stripe_placer.specs.OpenLines.{in_line, has_left}
 use Rattle.stripe_placer.specs.OpenLines.Stripe.{Landed}
-use Rattle.stripe_placer.specs.Placing.{Program, program}
-use Rattle.stripe_placer.proofs.Placers.{its_line, its_waits, unit_inside, answered_slots, answered_view, AfterAnswer, after_answer, landed_other}
+use Rattle.stripe_placer.specs.Placing.{Program, program, UnitRow}
+use Rattle.stripe_placer.specs.Inside.{Agree}
+use Rattle.stripe_placer.proofs.Placers.{its_line, its_waits, unit_inside, with_units, answered_slots, answered_view, AfterAnswer, after_answer, landed_other}
 use Rattle.stripe_placer.proofs.placer.Placer.landed.Goals as goal
 
 pub land_in-requires : goal.land_in-requires
 land_in-requires c =
-    let of : Program = program c.args.of.now in
+    let of : Program = program c.args.self.now c.args.of.now in
     record {
       few = c.self.invariant.few;
       apart = c.self.invariant.agree.apart;
@@ -19,27 +20,30 @@ land_in-requires c =
     }
 
 pub index_mut-requires : goal.index_mut-requires
-index_mut-requires c = omega (arith, unit_inside c.self.inside c.args.self.now (program c.args.of.now) c.self.view_is c.requires, c.self.inside.units.ok.0)
+index_mut-requires c =
+    let of : Program = program c.args.self.now c.args.of.now in
+    omega (arith, unit_inside c.self.inside c.args.self.now of c.self.view_is c.requires, c.self.inside.units.ok.0)
 
 pub invariant_of-self : goal.invariant_of-self
 invariant_of-self c =
     let p = c.self.inside in
-    let of : Program = program c.args.of.now in
+    let of : Program = program c.args.self.now c.args.of.now in
     let lines : c.land_in.new.slots.items ≡ filter has_left (map (in_line of.line (of.at / p.layout.ws_opt) Landed) p.slots.items) =
     answered_slots p of Landed c.shape.result.now.ws_opt c.land_in.new.slots.items (ap (λ (s : Shape). s.ws_opt) c.shape.ensures.shape) c.land_in.ensures.items in
     let after : AfterAnswer p of c.land_in.new.slots.items = after_answer p c.args.self.now of Landed c.land_in.new.slots.items c.self.invariant c.self.view_is c.requires landed_other lines in
     record {
       accepted = c.self.invariant.accepted;
       ring = c.self.invariant.ring;
-      rows = after.rows;
+      rows = length-set p.units.items of.unit c.end.new.self ∙ c.self.invariant.rows;
       few = after.few;
       room = omega (arith, c.self.invariant.room, c.land_in.ensures.capacity);
-      agree = after.agree;
+      agree = subst (λ (r : UnitRow). Agree p.layout (slice_set p.units.items of.unit r) c.land_in.new.slots.items) (sym c.end.ensures) after.agree;
     }
 
 pub returns : goal.returns
 returns c =
     let p = c.self.inside in
-    let of : Program = program c.args.of.now in
-    answered_view p c.args.self.now of Landed c.land_in.new.slots.items c.self.view_is
+    let of : Program = program c.args.self.now c.args.of.now in
+    ap (λ (r : UnitRow). with_units p.layout p.queue.entries c.land_in.new.slots.items (slice_set p.units.items of.unit r)) c.end.ensures
+    ∙ answered_view p c.args.self.now of Landed c.land_in.new.slots.items c.self.view_is
     (answered_slots p of Landed c.shape.result.now.ws_opt c.land_in.new.slots.items (ap (λ (s : Shape). s.ws_opt) c.shape.ensures.shape) c.land_in.ensures.items)
