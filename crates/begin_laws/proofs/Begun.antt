@@ -17,7 +17,7 @@ use Rattle.pblk_world.specs.Legal.{IsLegal}
 use Rattle.core_laws.specs.Stepping.{after}
 use Rattle.found_laws.specs.Finding.{IsFoundOf}
 use Rattle.found_laws.specs.Beginnings.{beginning_of}
-use Rattle.found_laws.proofs.Media.{prefixes_fit}
+use Rattle.opening_laws.proofs.FitMedia.{prefixes_fit}
 use Rattle.begin_laws.specs.JustBegun.{HasJustBegun}
 use Rattle.begin_laws.proofs.Lists.{numbered_same, numbered_agree}
 

@@ -12,26 +12,15 @@ use Rattle.pblk_world.specs.World.{Logs}
 use Rattle.core_laws.specs.OpenedLines.{bits_of, live_now}
 use Rattle.found_laws.proofs.States.{live_are}
 use Rattle.begin_laws.specs.JustBegun.{HasJustBegun}
-use Rattle.begin_laws.specs.OnlineUnits.{is_online_at, online_bits, all_online}
+use Rattle.begin_laws.specs.OnlineUnits.{online_bits, all_online}
 use Rattle.begin_laws.proofs.Begun.{named_image, known_at, named_fit, named_found}
 use Rattle.begin_laws.proofs.Lists.{mapped_agree}
 
-by_state : (o : Option ChunkState) (unit : ℕ) (rest : List ℕ) → cond (is_online_at o) (unit ∷ rest) rest ≡ cons_option (live_unit o unit) rest
-by_state None unit rest = refl
-by_state (Some Free) unit rest = refl
-by_state (Some Open) unit rest = refl
-by_state (Some Closed) unit rest = refl
-by_state (Some Offline) unit rest = refl
-
-online_are : (g : ℕ → Option ChunkState) (xs : List ℕ) → filter (λ unit. is_online_at (g unit)) xs ≡ filter_map (λ unit. live_unit (g unit) unit) xs
-online_are g [] = refl
-online_are g (x ∷ xs) = by_state (g x) x (filter (λ unit. is_online_at (g unit)) xs) ∙ ap (cons_option (live_unit (g x) x)) (online_are g xs)
-
-pub line_online : (i : Image) (f : Found) (logs : Logs) (line : ℕ) → HasJustBegun i f logs → line < i.shape.chunks → live_now i logs line ≡ online_bits i.shape f.chunks line
+pub line_online : (i : Image) (f : Found) (logs : Logs) (line : ℕ) → HasJustBegun i f logs → line < i.shape.chunks → live_now i logs line ≡ online_bits i.shape f line
 line_online i f logs line is inside =
     ap (λ (j : Image). bits_of (line_units j line)) (known_at i f logs is)
-    ∙ ap bits_of (sym (live_are (named_image i logs is.knows) f line (named_fit i f logs is) (named_found i f logs is) inside)
-    ∙ sym (online_are (state_at i.shape f line) (range_with_len 0 (units i.shape))))
+    ∙ ap bits_of (sym (live_are (named_image i logs is.knows) f line (named_fit i f logs is) (named_found i f logs is) inside))
 
-pub lines_online : (i : Image) (f : Found) (logs : Logs) → HasJustBegun i f logs → map (live_now i logs) (range_with_len 0 i.shape.chunks) ≡ all_online i.shape f.chunks i.shape.chunks
-lines_online i f logs is = mapped_agree (live_now i logs) (online_bits i.shape f.chunks) 0 i.shape.chunks (λ line below. line_online i f logs line is (omega arith))
+pub lines_online : (i : Image) (f : Found) (logs : Logs) → HasJustBegun i f logs
+    → map (live_now i logs) (range_with_len 0 i.shape.chunks) ≡ all_online i.shape f i.shape.chunks
+lines_online i f logs is = mapped_agree (live_now i logs) (online_bits i.shape f) 0 i.shape.chunks (λ line below. line_online i f logs line is (omega arith))

@@ -30,7 +30,7 @@ use Rattle.chunk_laws.proofs.KnownEmpty.{IsEmptySince, IsToldReset, known_empty,
 use Rattle.chunk_laws.proofs.Lives.{IsDecided}
 use Rattle.chunk_laws.proofs.Tellings.{named_known}
 
-all_pass : {X : Type 0} (f : X → Bool) (xs : List X) (k : ℕ) (x : X) → list_all f xs ≡ true → slice_get xs k ≡ Some x → f x ≡ true
+pub all_pass : {X : Type 0} (f : X → Bool) (xs : List X) (k : ℕ) (x : X) → list_all f xs ≡ true → slice_get xs k ≡ Some x → f x ≡ true
 all_pass f [] k x all there = absurd (none-some x there)
 all_pass f (y ∷ ys) zero x all there = ap f (sym (same_Some y x there)) ∙ first_of (f y) (list_all f ys) all
 all_pass f (y ∷ ys) (suc k) x all there = all_pass f ys k x (second_of (f y) (list_all f ys) all) there
@@ -117,7 +117,7 @@ module _ (i : Image) (w : World) (legal : IsLegal i w) (b : Begun) (begins : beg
           ∙ ap₂ (λ (o : Option (List Chunk)) n. option_map (λ (xs : List Chunk). after_log i.shape xs (told_events named n)) o) found_chunks same
           ∙ ap (λ es. Some (after_log i.shape cs es)) all_told
 
-      known_is_empty : (c : Chunk) → told_chunk i.shape (log_of w) cs line unit k ≡ Some c → is_empty_state c.state ≡ true
+      pub known_is_empty : (c : Chunk) → told_chunk i.shape (log_of w) cs line unit k ≡ Some c → is_empty_state c.state ≡ true
       unfolding told_chunk
       known_is_empty c there =
           let may : MayOpen i named d.allowed.0 line start = d.allowed.2 in

@@ -1,11 +1,11 @@
 -- Chunks of lines that aren't opened: nothing is programmed in them. A chunk of a line as it was found that is no
 -- stray stays as it was; one of a stray, or of a line that was freed, stays or is emptied.
-use Rattle.std.proofs.Common.{◌≡◌, ℕ, ◌+◌, ◌-◌, ◌<◌, ◌≤◌, ◌⊎◌, inl, inr, ◌==◌, suc, zero, nat_eq, Bool, true, false, Some, Option, List, [], length, take, refl, sym, subst, ap, ap₂, ◌∙◌, arith, if◌then◌else◌}
+use Rattle.std.proofs.Common.{◌≡◌, ℕ, ◌+◌, ◌-◌, ◌<◌, ◌≤◌, ◌⊎◌, inl, inr, ◌==◌, suc, zero, nat_eq, Bool, true, false, None, Some, Option, List, [], length, take, refl, sym, subst, ap, ap₂, ◌∙◌, arith, if◌then◌else◌}
 use Rattle.std.specs.Prelude.{slice_get, slice_index}
 use Rattle.std.specs.List.{list_any}
 use Rattle.std.specs.Option.{option_map_or}
 use Rattle.std.proofs.lemmas.Bool.{cases_lt, eqb-true, eqb-false}
-use Rattle.std.proofs.lemmas.Option.{same_Some}
+use Rattle.std.proofs.lemmas.Option.{none-some, same_Some}
 use Rattle.std.proofs.Math.Seq.{take-length}
 use Rattle.pblk_model.specs.Chunk.{Chunk}
 use Rattle.pblk_model.specs.ChunkStep.{ChunkCommand, Write, Read, Reset}
@@ -57,6 +57,31 @@ found_before log line k (suc d) inside is =
     found_before log line k d (omega arith)
     (found_one line (k + d) (life_of (take (k + d) log) line) at.0.knows at.0.event (sym (life_next log (k + d) line at.0 at.1)
     ∙ ap (λ n. life_of (take n log) line) next ∙ is))
+
+-- a line that was never opened wasn't opened before
+never_one : (line n : ℕ) (life : LineLife) (knows : List ℕ) (e : Event) → last_opening (turned_by line life n knows e) ≡ None → last_opening life ≡ None
+never_one line n life knows (Decides (Open other start)) is = by (other == line) is
+  where
+    by : (b : Bool) → last_opening (if b then Opened (record { number = n; line = line; start = start; knows = knows }) else life) ≡ None
+        → last_opening life ≡ None
+    by true e = absurd cc
+    by false e = e
+never_one line n life knows (Decides (Free other)) is = by (other == line) is
+  where
+    by : (b : Bool) → last_opening (if b then Freed (last_opening life) knows else life) ≡ None → last_opening life ≡ None
+    by true e = e
+    by false e = e
+never_one line n life knows e is = is
+
+never_before : (log : List Logged) (line k d : ℕ) → k + d ≤ length log → last_opening (life_of (take (k + d) log) line) ≡ None
+    → last_opening (life_of (take k log) line) ≡ None
+never_before log line k zero inside is = let same : k ≡ k + 0 = omega arith in ap (λ n. last_opening (life_of (take n log) line)) same ∙ is
+never_before log line k (suc d) inside is =
+    let next : suc (k + d) ≡ k + suc d = omega arith in
+    let at = got_within log (k + d) (omega arith) in
+    never_before log line k d (omega arith)
+    (never_one line (k + d) (life_of (take (k + d) log) line) at.0.knows at.0.event (ap last_opening (sym (life_next log (k + d) line at.0 at.1))
+    ∙ ap (λ n. last_opening (life_of (take n log) line)) next ∙ is))
 
 -- a freed line, since the event that freed it
 pub record IsFreedSince (log : List Logged) (line n : ℕ) (was : Option Opening) (knows : List ℕ) : Type 0 where
@@ -192,9 +217,9 @@ module _ (i : Image) (w : World) (legal : IsLegal i w) (b : Begun) (begins : beg
       go false f = f
       go true f = absurd (refuses f)
 
-  -- nothing is programmed in a line as it was found
-  pub none_in_found : (to : ℕ) → life_of log line ≡ AsFound → NoProgram (log_of w) line unit (slice_index b.knows (suc unit)) to
-  none_in_found to found y x e low high at is on = decide e (λ passes. by (program i w legal b begins unit line y x e low (record {
+  -- nothing is programmed in a line that was never opened
+  pub none_in_unopened : (to : ℕ) → last_opening (life_of log line) ≡ None → NoProgram (log_of w) line unit (slice_index b.knows (suc unit)) to
+  none_in_unopened to never y x e low high at is on = decide e (λ passes. by (program i w legal b begins unit line y x e low (record {
     there = at;
     is_event = is;
     its_chunk = on;
@@ -205,10 +230,15 @@ module _ (i : Image) (w : World) (legal : IsLegal i w) (b : Begun) (begins : beg
       by p =
           let inside : p.stripe.placed.number < length log = get_below log p.stripe.placed.number p.placed.logged p.placed.decided.there in
           let far : p.stripe.placed.number + (length log - p.stripe.placed.number) ≡ length log = omega arith in
-          let was : life_of (take p.stripe.placed.number log) line ≡ AsFound =
-          found_before log line p.stripe.placed.number (length log - p.stripe.placed.number) (omega arith) (ap (λ n. life_of (take n log) line) far
-          ∙ ap (λ (xs : List Logged). life_of xs line) (take-length log) ∙ found) in
-          no_both (ap (λ k. is_opened (life_of (take p.stripe.placed.number log) k)) (sym p.its_line) ∙ ap is_opened p.placed.is_open) (ap is_opened was)
+          let was : last_opening (life_of (take p.stripe.placed.number log) line) ≡ None =
+          never_before log line p.stripe.placed.number (length log - p.stripe.placed.number) (omega arith)
+          (ap (λ n. last_opening (life_of (take n log) line)) far ∙ ap (λ (xs : List Logged). last_opening (life_of xs line)) (take-length log) ∙ never) in
+          none-some p.placed.opening (sym was ∙ ap (λ k. last_opening (life_of (take p.stripe.placed.number log) k)) (sym p.its_line)
+          ∙ ap last_opening p.placed.is_open)
+
+  -- so it is in a line as it was found
+  pub none_in_found : (to : ℕ) → life_of log line ≡ AsFound → NoProgram (log_of w) line unit (slice_index b.knows (suc unit)) to
+  none_in_found to found = none_in_unopened to (ap last_opening found)
 
   -- nothing is programmed in a freed line, from the prefix on that its freeing names
   none_in_freed : (to : ℕ) (was : Option Opening) (knows : List ℕ) → life_of log line ≡ Freed was knows

@@ -14,16 +14,16 @@ use Rattle.pblk_model.specs.UnitLog.{UnitOutcome, Answered, Failed, Stopped, Uni
 use Rattle.pblk_model.specs.Image.{Image}
 use Rattle.pblk_model.proofs.UnitLogLemmas.{event_beside, event_here}
 use Rattle.pblk_world.specs.Events.{Event, Decides, Landed, Lost, ResetDone, Again, Logged}
-use Rattle.pblk_world.specs.World.{World, Logs, log_of, known, prefixes, unit_event_of, unit_event_at}
+use Rattle.pblk_world.specs.World.{World, Logs, log_of, known, knows_engine, prefixes, unit_event_of, unit_event_at}
 use Rattle.pblk_world.specs.EngineLog.{named_by}
 use Rattle.pblk_world.specs.Lines.{is_empty_state, told_by}
 use Rattle.pblk_world.specs.Commanding.{is_program, was_stopped}
-use Rattle.pblk_world.specs.Answering.{IsDoneReset, IsNew, MayLand, MayLose, MayNoteReset, MayOfferAgain}
+use Rattle.pblk_world.specs.Answering.{IsDoneReset, IsNew, IsOfStripe, MayLand, MayLose, MayNoteReset, MayOfferAgain}
 use Rattle.pblk_world.specs.Legal.{IsLegal}
 use Rattle.lemmas.proofs.Maps.{more}
 use Rattle.lemmas.proofs.Options.{split_then}
 use Rattle.lemmas.proofs.Parts.{get_whole_within, got_within, take_next}
-use Rattle.lemmas.proofs.Tests.{same_number}
+use Rattle.lemmas.proofs.Tests.{not_both, same_number}
 use Rattle.chunk_laws.proofs.LastUses.{IsOfChunk}
 use Rattle.chunk_laws.proofs.Lives.{IsDecided, decided}
 use Rattle.chunk_laws.proofs.Tellings.{IsNamedAt}
@@ -60,14 +60,16 @@ module _ (i : Image) (w : World) (legal : IsLegal i w) (unit : ℕ) where
     pub logged : Logged
     pub there : slice_get (log_of w (suc unit)) n ≡ Some logged
     pub is_event : unit_event_of logged.event ≡ Some e
+    -- a program was made once its unit knew that the mount had begun
+    pub knew : is_program e.command ≡ true → 0 < knows_engine logged
     pub kind : ((is_program e.command ≡ true) × ((e.outcome ≡ Answered Done) ⊎ ((k : ℕ) × (e.outcome ≡ Failed k)))) ⊎ ((e.command ≡ Reset)
         × (was_stopped e.outcome ≡ false))
 
   telling_of : (q n : ℕ) (l : Logged) (e f : UnitEvent) → slice_get log q ≡ Some l → named_by unit l.event ≡ Some n → unit_event_at (log_of w) unit n ≡ Some e
-      → IsNew (prefixes l (log_of w)) unit n f
+      → (new : IsNew (prefixes l (log_of w)) unit n f) → (is_program f.command ≡ true → 0 < knows_engine new.logged)
       → ((is_program f.command ≡ true) × ((f.outcome ≡ Answered Done) ⊎ ((k : ℕ) × (f.outcome ≡ Failed k)))) ⊎ ((f.command ≡ Reset)
       × (was_stopped f.outcome ≡ false)) → IsTelling q n e
-  telling_of q n l e f there names at new kind =
+  telling_of q n l e f there names at new knew kind =
       let its = split_then (λ (x : Logged). unit_event_of x.event) (slice_get (log_of w (suc unit)) n) e at in
       let whole = get_whole_within (known l (suc unit)) (log_of w (suc unit)) n new.logged new.is_known in
       let same : new.logged ≡ its.0 = same_Some new.logged its.0 (sym whole.0 ∙ its.1) in
@@ -77,11 +79,17 @@ module _ (i : Image) (w : World) (legal : IsLegal i w) (unit : ℕ) where
         logged = its.0;
         there = its.1;
         is_event = its.2;
+        knew = λ p. subst (λ (x : Logged). 0 < knows_engine x) same (knew (ap (λ (x : UnitEvent). is_program x.command) one ∙ p));
         kind = subst (λ (x : UnitEvent). ((is_program x.command ≡ true)
             × ((x.outcome ≡ Answered Done) ⊎ ((k : ℕ) × (x.outcome ≡ Failed k)))) ⊎ ((x.command ≡ Reset) × (was_stopped x.outcome ≡ false))) one kind;
       }
 
-  IsTellingSome : ℕ → UnitEvent → Type 0
+  stripe_knew : (l : Logged) (n : ℕ) (f : UnitEvent) (new : IsNew (prefixes l (log_of w)) unit n f) → IsOfStripe (prefixes l (log_of w)) unit n f
+      → 0 < knows_engine new.logged
+  stripe_knew l n f new stripe = subst (λ (x : Logged). 0 < knows_engine x)
+      (same_Some stripe.logged new.logged (sym stripe.is_logged ∙ new.is_known)) stripe.after_begin
+
+  abbrev pub IsTellingSome : ℕ → UnitEvent → Type 0
   IsTellingSome q e = (n : ℕ) × IsTelling q n e
 
   done_reset : (o : UnitOutcome) → IsDoneReset o → was_stopped o ≡ false
@@ -92,9 +100,8 @@ module _ (i : Image) (w : World) (legal : IsLegal i w) (unit : ℕ) where
   names_it : (n : ℕ) → (if unit == unit then Some n else None) ≡ Some n
   names_it n = ap (λ b. if b then Some n else None) (same_number unit)
 
-  telling : (q : ℕ) (l : Logged) (event : Event) (e : UnitEvent) → slice_get log q ≡ Some l → l.event ≡ event → told_by (log_of w) unit event ≡ Some e
+  pub telling : (q : ℕ) (l : Logged) (event : Event) (e : UnitEvent) → slice_get log q ≡ Some l → l.event ≡ event → told_by (log_of w) unit event ≡ Some e
       → IsTellingSome q e
-  unfolding IsTellingSome
   telling q l (Decides (Landed other m)) e there is tells = by (nat_eq other unit) refl tells
     where
       by : (b : Bool) → nat_eq other unit ≡ b → (if b then unit_event_at (log_of w) unit m else None) ≡ Some e → (n : ℕ) × IsTelling q n e
@@ -102,8 +109,11 @@ module _ (i : Image) (w : World) (legal : IsLegal i w) (unit : ℕ) where
       by true same f =
           let event : l.event ≡ Decides (Landed unit m) = is ∙ ap (λ u. Decides (Landed u m)) (eqb-true other unit same) in
           let d : IsDecided i w legal q (Landed unit m) l = decided i w legal q (Landed unit m) l there event in
-          let may : MayLand (prefixes l (log_of w)) unit m = d.allowed.2 in
-          (m, telling_of q m l e may.program there (ap (named_by unit) event ∙ names_it m) f may.new (inl (may.stripe.program, inl may.done)))
+          let may : MayLand (prefixes l (log_of w)) unit m = d.allowed.2 in (
+            m,
+            telling_of q m l e may.program there (ap (named_by unit) event ∙ names_it m) f may.new (λ p. stripe_knew l m may.program may.new may.stripe)
+                (inl (may.stripe.program, inl may.done)),
+          )
   telling q l (Decides (Lost other m)) e there is tells = by (nat_eq other unit) refl tells
     where
       by : (b : Bool) → nat_eq other unit ≡ b → (if b then unit_event_at (log_of w) unit m else None) ≡ Some e → (n : ℕ) × IsTelling q n e
@@ -114,7 +124,8 @@ module _ (i : Image) (w : World) (legal : IsLegal i w) (unit : ℕ) where
           let may : MayLose (prefixes l (log_of w)) unit m = d.allowed.2 in (
             m,
             telling_of q m l e may.program there (ap (named_by unit) event
-                ∙ names_it m) f may.new (inl (may.stripe.program, inr (may.landed_before, may.failed))),
+                ∙ names_it m) f may.new (λ p. stripe_knew l m may.program may.new may.stripe)
+                (inl (may.stripe.program, inr (may.landed_before, may.failed))),
           )
   telling q l (Decides (ResetDone other m)) e there is tells = by (nat_eq other unit) refl tells
     where
@@ -126,7 +137,9 @@ module _ (i : Image) (w : World) (legal : IsLegal i w) (unit : ℕ) where
           let may : MayNoteReset (prefixes l (log_of w)) unit m = d.allowed.2 in (
             m,
             telling_of q m l e may.reset there (ap (named_by unit) event
-                ∙ names_it m) f may.new (inr (may.is_reset, done_reset may.reset.outcome may.not_stopped)),
+                ∙ names_it m) f may.new
+                (λ p. absurd (not_both (is_program may.reset.command) p (ap is_program may.is_reset)))
+                (inr (may.is_reset, done_reset may.reset.outcome may.not_stopped)),
           )
   telling q l event e there is tells = absurd (none-some e tells)
 
@@ -138,13 +151,13 @@ module _ (i : Image) (w : World) (legal : IsLegal i w) (unit : ℕ) where
     told_next k l there = ap (λ (xs : List Logged). filter_map (λ (l : Logged). told_by (log_of w) unit l.event) xs) (take_next log k l there)
         ∙ more (λ (l : Logged). told_by (log_of w) unit l.event) (take k log) l
 
-    told_none : (k : ℕ) (l : Logged) → slice_get log k ≡ Some l → told_by (log_of w) unit l.event ≡ None
+    pub told_none : (k : ℕ) (l : Logged) → slice_get log k ≡ Some l → told_by (log_of w) unit l.event ≡ None
         → told_chunk i.shape (log_of w) cs line unit (suc k) ≡ told_chunk i.shape (log_of w) cs line unit k
     unfolding told_chunk
     told_none k l there none = ap (λ es. slice_get (after_log i.shape cs es) line)
         (told_next k l there ∙ ap (λ o. told_first (log_of w) unit k ++ option_to_list o) none ∙ append-nil (told_first (log_of w) unit k))
 
-    told_one : (k : ℕ) (l : Logged) (e : UnitEvent) → slice_get log k ≡ Some l → told_by (log_of w) unit l.event ≡ Some e
+    pub told_one : (k : ℕ) (l : Logged) (e : UnitEvent) → slice_get log k ≡ Some l → told_by (log_of w) unit l.event ≡ Some e
         → after_log i.shape cs (told_first (log_of w) unit (suc k)) ≡ after_event i.shape (after_log i.shape cs (told_first (log_of w) unit k)) e
     told_one k l e there one = ap (after_log i.shape cs) (told_next k l there ∙ ap (λ o. told_first (log_of w) unit k ++ option_to_list o) one)
         ∙ fold-append (after_event i.shape) cs (told_first (log_of w) unit k) (e ∷ [])
@@ -184,7 +197,7 @@ module _ (i : Image) (w : World) (legal : IsLegal i w) (unit : ℕ) where
         let one : may.program ≡ e = same_Some may.program e (sym may.new.event ∙ ap (λ (x : Logged). unit_event_of x.event) same ∙ is) in
         ap (λ (x : UnitEvent). was_stopped x.outcome) (sym one) ∙ ap was_stopped may.stopped
 
-    told_or_stopped : (q n : ℕ) (l k : Logged) (event : Event) (e : UnitEvent) → slice_get log q ≡ Some l → l.event ≡ event → named_by unit event ≡ Some n
+    pub told_or_stopped : (q n : ℕ) (l k : Logged) (event : Event) (e : UnitEvent) → slice_get log q ≡ Some l → l.event ≡ event → named_by unit event ≡ Some n
         → slice_get (log_of w (suc unit)) n ≡ Some k → unit_event_of k.event ≡ Some e
         → (told_by (log_of w) unit event ≡ Some e) ⊎ (was_stopped e.outcome ≡ true)
     told_or_stopped q n l k (Decides (Landed other m)) e there is names at its = inl (by (other == unit) names)
@@ -290,7 +303,6 @@ module _ (i : Image) (w : World) (legal : IsLegal i w) (unit : ℕ) where
           (one_of k l there (λ f told. subst (λ (x : UnitEvent). x.chunk ≢ line) (same_Some e f (sym tells ∙ told)) other))
 
       by_telling : (o : Option UnitEvent) → told_by (log_of w) unit l.event ≡ o → Known (suc k)
-      unfolding IsTellingSome
       by_telling None none = known_longer k (before c (sym (told_none k l there none) ∙ now) empty)
           (one_of k l there (λ f told. absurd (none-some f (sym none ∙ told))))
       by_telling (Some e) tells = go (nat_eq e.chunk line) refl (telling k l l.event e there refl tells)

@@ -24,7 +24,7 @@ use Rattle.chunk_laws.proofs.OpenedChunks.{IsLonger, IsNext, empty_at_base, grow
 use Rattle.chunk_laws.proofs.UnitChunks.{still_there}
 use Rattle.chunk_laws.proofs.UnitLogs.{chunk_fits}
 
-no_blocks : (state : ChunkState) (clba k : ℕ) (bs : List Block) (block : Block) → is_empty_state state ≡ true → PointerFits state clba (length bs)
+pub no_blocks : (state : ChunkState) (clba k : ℕ) (bs : List Block) (block : Block) → is_empty_state state ≡ true → PointerFits state clba (length bs)
     → slice_get bs k ≡ Some block → ⊥
 no_blocks states.Free clba k bs block empty fits at = let inside : k < length bs = get_below bs k block at in omega arith
 no_blocks states.Open clba k bs block empty fits at = absurd cc

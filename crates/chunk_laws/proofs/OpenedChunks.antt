@@ -16,6 +16,7 @@ use Rattle.pblk_world.specs.EngineLog.{Begun, begun, Opened, Opening, is_opened,
 use Rattle.pblk_world.specs.Lines.{is_empty_state}
 use Rattle.pblk_world.specs.Commanding.{is_program, ended_stripes}
 use Rattle.pblk_world.specs.Legal.{IsLegal}
+use Rattle.pblk_world.proofs.EngineLogLemmas.{opened_same}
 use Rattle.pblk_world.proofs.Growing.{knowledge_rises}
 use Rattle.lemmas.proofs.Parts.{get_below, get_whole, got_within}
 use Rattle.chunk_laws.specs.LifeBlocks.{IsBlockOfLife}
@@ -33,9 +34,6 @@ use Rattle.chunk_laws.proofs.Tellings.{last_program, named_known}
 use Rattle.chunk_laws.proofs.UnitChunks.{still_there}
 use Rattle.chunk_laws.proofs.ToldBefore.{IsProgram, no_both, program}
 
-same_opening : (o p : Opening) → Opened o ≡ Opened p → o ≡ p
-same_opening o p e = cc
-
 module _ (i : Image) (w : World) (legal : IsLegal i w) (b : Begun) (begins : begun (log_of w 0) ≡ Some b) (unit line : ℕ)
     (o : Opening) (is_open : life_of (log_of w 0) line ≡ Opened o) where
   abbrev log : List Logged
@@ -44,20 +42,20 @@ module _ (i : Image) (w : World) (legal : IsLegal i w) (b : Begun) (begins : beg
   abbrev own : List Logged
   own = log_of w (suc unit)
 
-  since : IsOpenSince i w legal line (length log) o
+  pub since : IsOpenSince i w legal line (length log) o
   since = open_since i w legal (length log) line o (omega arith) (ap (λ (xs : List Logged). life_of xs line) (take-length log) ∙ is_open)
 
-  opening : IsDecided i w legal o.number (Open line o.start) since.logged
+  pub opening : IsDecided i w legal o.number (Open line o.start) since.logged
   opening = decided i w legal o.number (Open line o.start) since.logged since.there since.event
 
   -- the prefix that the opening names
   abbrev pub base : ℕ
   base = slice_index o.knows (suc unit)
 
-  named : known since.logged (suc unit) ≡ base
+  pub named : known since.logged (suc unit) ≡ base
   named = ap (λ ks. slice_index ks (suc unit)) since.knows
 
-  from_start : slice_index b.knows (suc unit) ≤ base
+  pub from_start : slice_index b.knows (suc unit) ≤ base
   from_start = let less : slice_index b.knows (suc unit) ≤ known since.logged
       (suc unit) = low i w legal b begins unit line o.number o.start since.logged opening (suc unit) in omega (arith, named)
 
@@ -68,7 +66,7 @@ module _ (i : Image) (w : World) (legal : IsLegal i w) (b : Begun) (begins : beg
     pub later : o.number < of_line.stripe.placed.number
     pub life : of_line.stripe.placed.life ≡ Opened o
 
-  lifes : (y : ℕ) (x : Logged) (e : UnitEvent) → base ≤ y → IsOfChunk i w legal unit line is_program y x e → IsLifes y x e
+  pub lifes : (y : ℕ) (x : Logged) (e : UnitEvent) → base ≤ y → IsOfChunk i w legal unit line is_program y x e → IsLifes y x e
   lifes y x e from at = go (cases_order o.number p.stripe.placed.number)
     where
       p : IsProgram i w legal b begins unit line y x e
@@ -85,7 +83,7 @@ module _ (i : Image) (w : World) (legal : IsLegal i w) (b : Begun) (begins : beg
           let inside : p.stripe.placed.number < length log = get_below log p.stripe.placed.number p.placed.logged p.placed.decided.there in
           let its : life_of (take p.stripe.placed.number log) line ≡ Opened p.placed.opening = ap (life_of (take p.stripe.placed.number log)) (sym p.its_line)
           ∙ p.placed.is_open in
-          let same : p.placed.opening ≡ o = same_opening p.placed.opening o (sym its ∙ since.since p.stripe.placed.number later (omega arith)) in
+          let same : p.placed.opening ≡ o = opened_same p.placed.opening o (sym its ∙ since.since p.stripe.placed.number later (omega arith)) in
           record { of_line = p; later = later; life = p.placed.its_life ∙ ap Opened same }
       go (inr (inr early)) =
           let gone : IsGone i w legal unit (ended_stripes
@@ -124,7 +122,7 @@ module _ (i : Image) (w : World) (legal : IsLegal i w) (b : Begun) (begins : beg
     stays same = record { chunk = c; next = same ∙ now; step = same_step n c c refl }
 
     -- a reset that the unit might make found the chunk empty
-    empty_at_reset : IsReset i w legal unit n l there d → d.event.chunk ≡ line → is_empty_state c.state ≡ true
+    pub empty_at_reset : IsReset i w legal unit n l there d → d.event.chunk ≡ line → is_empty_state c.state ≡ true
     empty_at_reset r its = go (cases_lt o.number (knows_engine l))
       where
         closed : is_opened (life_of (take (knows_engine l) log) line) ≡ false

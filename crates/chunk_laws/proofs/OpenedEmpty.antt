@@ -56,7 +56,7 @@ module _ (i : Image) (w : World) (legal : IsLegal i w) (b : Begun) (begins : beg
       let placed : p.stripe.placed.number < knows_engine x = p.stripe.was_known in
       omega arith
 
-  early_going : (y : ℕ) (x : Logged) (e : UnitEvent) → slice_index b.knows (suc unit) ≤ y → y < known l (suc unit)
+  pub early_going : (y : ℕ) (x : Logged) (e : UnitEvent) → slice_index b.knows (suc unit) ≤ y → y < known l (suc unit)
       → IsOfChunk i w legal unit line is_program y x e → was_stopped e.outcome ≡ false
   early_going y x e from below at =
       let p : IsProgram i w legal b begins unit line y x e = program i w legal b begins unit line y x e from at in
@@ -77,7 +77,7 @@ module _ (i : Image) (w : World) (legal : IsLegal i w) (b : Begun) (begins : beg
               which (inr (inl later)) = going_before i w legal b begins unit line y t.number x t.logged e t.event later at.there at.is_event t.there t.is_event t.going
               which (inr (inr above)) = absurd (omega arith)
 
-  early_named : (y : ℕ) (x : Logged) (e : UnitEvent) → y < known l (suc unit) → IsCommandOf i w legal b begins unit line is_program y x e → (q : ℕ) × (q < k)
+  pub early_named : (y : ℕ) (x : Logged) (e : UnitEvent) → y < known l (suc unit) → IsCommandOf i w legal b begins unit line is_program y x e → (q : ℕ) × (q < k)
       × IsNamedAt i w legal unit q y
   early_named y x e below h =
       let p : IsProgram i w legal b begins unit line y x e = program i w legal b begins unit line y x e h.from h.at in

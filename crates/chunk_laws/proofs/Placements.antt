@@ -1,37 +1,23 @@
 -- The stripes that the engine's log places: where each stands. A longer log has them at the same places.
-use Rattle.std.proofs.Common.{◌≡◌, ℕ, ◌+◌, ◌<◌, ◌==◌, suc, zero, Bool, Some, List, [], ◌∷◌, ◌++◌, length, take, drop, refl, sym, subst, ap, ◌∙◌, arith, append-nil, append_assoc}
+use Rattle.std.proofs.Common.{◌≡◌, ℕ, ◌+◌, ◌<◌, ◌==◌, suc, zero, Bool, Some, List, [], ◌∷◌, length, take, drop, refl, sym, subst, ap, ◌∙◌, arith}
 use Rattle.std.specs.Prelude.{slice_get}
 use Rattle.std.specs.List.{filter, enumerate_from}
-use Rattle.std.specs.Option.{option_to_list}
 use Rattle.std.proofs.lemmas.List.{take-append-drop}
 use Rattle.std.proofs.lemmas.List.Elements.{filter-append}
 use Rattle.std.proofs.lemmas.Option.{none-some, same_Some}
 use Rattle.pblk_world.specs.Events.{Event, Decides, Place, Logged}
 use Rattle.pblk_world.specs.EngineLog.{Placed, placed_by, placements, placed_on, life_of}
-use Rattle.pblk_world.proofs.Appending.{placements_more}
 use Rattle.lemmas.proofs.Lists.{IsAmong}
 use Rattle.lemmas.proofs.Maps.{from_given, from_filter}
 use Rattle.lemmas.proofs.Parts.{get_more, get_below}
-
-on_unit : ℕ → Placed → Bool
-on_unit unit p = p.stripe.unit == unit
+use Rattle.world_laws.proofs.Later.{placements_joined}
 
 -- ---- in a longer log
-
-all_of_more : (xs ys : List Logged) → (more : List Placed) × (placements (xs ++ ys) ≡ placements xs ++ more)
-all_of_more xs [] = ([], ap placements (append-nil xs) ∙ sym (append-nil (placements xs)))
-all_of_more xs (y ∷ ys) =
-    let rest = all_of_more (xs ++ y ∷ []) ys in
-    let new : List Placed = option_to_list (placed_by xs (length xs) y.event) in (
-      new ++ rest.0,
-      ap placements (sym (append_assoc xs (y ∷ []) ys)) ∙ rest.1 ∙ ap (λ ps. ps ++ rest.0) (placements_more xs y)
-          ∙ append_assoc (placements xs) new rest.0,
-    )
 
 pub still_placed : (n : ℕ) (log : List Logged) (unit k : ℕ) (p : Placed) → slice_get (placed_on (take n log) unit) k ≡ Some p
     → slice_get (placed_on log unit) k ≡ Some p
 still_placed n log unit k p there =
-    let more = all_of_more (take n log) (drop n log) in
+    let more = placements_joined (take n log) (drop n log) in
     let test : Placed → Bool = λ p. p.stripe.unit == unit in
     ap (λ (xs : List Logged). slice_get (placed_on xs unit) k) (sym (take-append-drop n log))
     ∙ ap (λ ps. slice_get (filter (λ (p : Placed). p.stripe.unit == unit) ps) k) more.1

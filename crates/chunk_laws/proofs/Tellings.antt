@@ -25,14 +25,14 @@ use Rattle.chunk_laws.proofs.Turns.{unit_is, turn_is}
 
 -- ---- where an element that was made comes from
 
-record IsFrom {X Y : Type 0} (f : X → Option Y) (xs : List X) (j : ℕ) (y : Y) : Type 0 where
-  at : ℕ
-  from : X
-  there : slice_get xs at ≡ Some from
-  gives : f from ≡ Some y
-  count : length (filter_map f (take at xs)) ≡ j
+pub record IsFrom {X Y : Type 0} (f : X → Option Y) (xs : List X) (j : ℕ) (y : Y) : Type 0 where
+  pub at : ℕ
+  pub from : X
+  pub there : slice_get xs at ≡ Some from
+  pub gives : f from ≡ Some y
+  pub count : length (filter_map f (take at xs)) ≡ j
 
-source : {X Y : Type 0} (f : X → Option Y) (xs : List X) (j : ℕ) (y : Y) → slice_get (filter_map f xs) j ≡ Some y → IsFrom f xs j y
+pub source : {X Y : Type 0} (f : X → Option Y) (xs : List X) (j : ℕ) (y : Y) → slice_get (filter_map f xs) j ≡ Some y → IsFrom f xs j y
 source f [] j y e = absurd (none-some y e)
 source {X} {Y} f (x ∷ xs) j y e = go (f x) refl j e (λ k h. source f xs k y h)
   where

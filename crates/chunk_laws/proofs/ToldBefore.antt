@@ -294,7 +294,7 @@ module _ (i : Image) (w : World) (legal : IsLegal i w) (b : Begun) (begins : beg
           omega arith
 
   -- a naming knows what it names
-  names_later : (q n : ℕ) (l : Logged) → slice_get own n ≡ Some l → (at : IsNamedAt i w legal unit q n) → knows_engine l ≤ q
+  pub names_later : (q n : ℕ) (l : Logged) → slice_get own n ≡ Some l → (at : IsNamedAt i w legal unit q n) → knows_engine l ≤ q
   names_later q n l there at = (was_made i w 0 q at.logged legal at.there).knew (suc unit) n l (named_known i w legal unit q n at) there
 
   -- A chunk that the engine knew as empty holds something, by programs that were all named. Then the engine was

@@ -1,23 +1,18 @@
 -- The order of the stripes of a unit: their numbers rise, and the turn of each is its place among them.
-use Rattle.std.proofs.Common.{◌≡◌, ℕ, ◌+◌, ◌<◌, ◌≤◌, ◌⊎◌, inl, inr, ◌==◌, suc, zero, nat_lt, Bool, true, false, cond, Some, None, Option, List, [], ◌∷◌, ◌++◌, length, take, drop, refl, sym, subst, ap, ◌∙◌, arith, append-nil, append_assoc, length-append, length-take}
+use Rattle.std.proofs.Common.{◌≡◌, ℕ, ◌+◌, ◌<◌, ◌≤◌, ◌⊎◌, inl, inr, ◌==◌, suc, zero, nat_lt, Bool, true, false, cond, Some, None, Option, List, [], ◌∷◌, ◌++◌, length, take, drop, refl, sym, subst, ap, ◌∙◌, arith, length-take}
 use Rattle.std.specs.Prelude.{slice_get, ⊤}
 use Rattle.std.specs.List.{AllByRecursion, filter, filter_map, cons_option, enumerate_from}
-use Rattle.std.specs.Option.{option_to_list}
 use Rattle.std.proofs.lemmas.Bool.{eqb-true}
 use Rattle.std.proofs.lemmas.List.{take-append-drop}
 use Rattle.std.proofs.lemmas.List.Elements.{filter-append}
 use Rattle.std.proofs.lemmas.Option.{none-some, same_Some}
-use Rattle.pblk_world.specs.Events.{Event, Decides, Place, Logged}
+use Rattle.pblk_world.specs.Events.{Logged}
 use Rattle.pblk_world.specs.EngineLog.{Placed, placed_by, placements, placed_on, turn}
-use Rattle.pblk_world.proofs.Appending.{placements_more}
-use Rattle.lemmas.proofs.Lists.{IsAmong, all_imply, all_append}
+use Rattle.lemmas.proofs.Lists.{IsAmong, all_imply}
 use Rattle.lemmas.proofs.Maps.{all_filter, all_passed, filter_none}
 use Rattle.lemmas.proofs.Parts.{all_at}
 use Rattle.lemmas.proofs.Tests.{lt_true, not_before}
-
-number_is : (log : List Logged) (n : ℕ) (e : Event) (p : Placed) → placed_by log n e ≡ Some p → p.number ≡ n
-number_is log n (Decides (Place stripe)) p by = ap (λ (q : Placed). q.number) (sym (same_Some _ p by))
-number_is log n e p by = absurd (none-some p by)
+use Rattle.world_laws.proofs.Later.{its_number, placements_joined}
 
 -- ---- the numbers rise
 
@@ -36,7 +31,7 @@ numbers_above log m n (x ∷ xs) below = go (placed_by log n x.event) refl (numb
     go : (o : Option Placed) → placed_by log n x.event ≡ o → AllByRecursion (λ (q : Placed). m < q.number) (made_of log (n + 1) xs)
         → AllByRecursion (λ (q : Placed). m < q.number) (cons_option o (made_of log (n + 1) xs))
     go None e rest = rest
-    go (Some p) e rest = let number : p.number ≡ n = number_is log n x.event p e in (omega arith, rest)
+    go (Some p) e rest = let number : p.number ≡ n = its_number log n x.event p e in (omega arith, rest)
 
 all_rise : (log : List Logged) (n : ℕ) (xs : List Logged) → Rises (made_of log n xs)
 unfolding made_of
@@ -46,10 +41,10 @@ all_rise log n (x ∷ xs) = go (placed_by log n x.event) refl (all_rise log (n +
     go : (o : Option Placed) → placed_by log n x.event ≡ o → Rises (made_of log (n + 1) xs) → Rises (cons_option o (made_of log (n + 1) xs))
     go None e rest = rest
     go (Some p) e rest =
-        let number : p.number ≡ n = number_is log n x.event p e in
+        let number : p.number ≡ n = its_number log n x.event p e in
         let below : p.number < n + 1 = omega arith in (numbers_above log p.number (n + 1) xs below, rest)
 
-some_rise : (test : Placed → Bool) (ps : List Placed) → Rises ps → Rises (filter test ps)
+pub some_rise : (test : Placed → Bool) (ps : List Placed) → Rises ps → Rises (filter test ps)
 some_rise test [] rise = tt
 some_rise test (p ∷ ps) rise = go (test p) (some_rise test ps rise.1)
   where
@@ -57,11 +52,14 @@ some_rise test (p ∷ ps) rise = go (test p) (some_rise test ps rise.1)
     go true rest = (all_filter (λ (q : Placed). p.number < q.number) test ps rise.0, rest)
     go false rest = rest
 
-pub rise_on : (log : List Logged) (unit : ℕ) → Rises (placed_on log unit)
+pub rise_all : (log : List Logged) → Rises (placements log)
 unfolding made_of
-rise_on log unit = some_rise (λ (p : Placed). p.stripe.unit == unit) (placements log) (all_rise log 0 log)
+rise_all log = all_rise log 0 log
 
-rise_between : (ps : List Placed) (j k : ℕ) (p q : Placed) → Rises ps → j < k → slice_get ps j ≡ Some p → slice_get ps k ≡ Some q → p.number < q.number
+pub rise_on : (log : List Logged) (unit : ℕ) → Rises (placed_on log unit)
+rise_on log unit = some_rise (λ (p : Placed). p.stripe.unit == unit) (placements log) (rise_all log)
+
+pub rise_between : (ps : List Placed) (j k : ℕ) (p q : Placed) → Rises ps → j < k → slice_get ps j ≡ Some p → slice_get ps k ≡ Some q → p.number < q.number
 rise_between [] j k p q rise below there at = absurd (none-some p there)
 rise_between (x ∷ ps) zero zero p q rise below there at = absurd (omega arith)
 rise_between (x ∷ ps) zero (suc k) p q rise below there at =
@@ -75,7 +73,7 @@ earlier_placed log unit j k p q below there at = rise_between (placed_on log uni
 
 -- ---- turns
 
-lesser : (ps : List Placed) (m : ℕ) (q : Placed) → Rises ps → slice_get ps m ≡ Some q → length (filter (λ (r : Placed). nat_lt r.number q.number) ps) ≡ m
+pub lesser : (ps : List Placed) (m : ℕ) (q : Placed) → Rises ps → slice_get ps m ≡ Some q → length (filter (λ (r : Placed). nat_lt r.number q.number) ps) ≡ m
 lesser [] m q rise e = absurd (none-some q e)
 lesser (p ∷ ps) zero q rise e =
     let same : p.number ≡ q.number = ap (λ (x : Placed). x.number) (same_Some p q e) in
@@ -102,23 +100,6 @@ turn_is log unit k p there =
 
 -- ---- what an earlier log had placed
 
-later_numbers : (xs ys : List Logged) → (more : List Placed) × (placements (xs ++ ys) ≡ placements xs ++ more)
-    × AllByRecursion (λ (p : Placed). length xs ≤ p.number) more
-later_numbers xs [] = ([], ap placements (append-nil xs) ∙ sym (append-nil (placements xs)), tt)
-later_numbers xs (y ∷ ys) =
-    let rest = later_numbers (xs ++ y ∷ []) ys in
-    let long : length (xs ++ y ∷ []) ≡ length xs + 1 = length-append xs (y ∷ []) in
-    let new : List Placed = option_to_list (placed_by xs (length xs) y.event) in (
-      new ++ rest.0,
-      ap placements (sym (append_assoc xs (y ∷ []) ys)) ∙ rest.1 ∙ ap (λ ps. ps ++ rest.0) (placements_more xs y) ∙ append_assoc (placements xs) new rest.0,
-      all_append (λ (p : Placed). length xs ≤ p.number) new rest.0 (one (placed_by xs (length xs) y.event) refl)
-          (all_imply (λ (p : Placed). length (xs ++ y ∷ []) ≤ p.number) (λ (p : Placed). length xs ≤ p.number) (λ p above. omega arith) rest.0 rest.2),
-    )
-  where
-    one : (o : Option Placed) → placed_by xs (length xs) y.event ≡ o → AllByRecursion (λ (p : Placed). length xs ≤ p.number) (option_to_list o)
-    one None e = tt
-    one (Some p) e = let number : p.number ≡ length xs = number_is xs (length xs) y.event p e in (omega arith, tt)
-
 pub either_part : {X : Type 0} (xs ys : List X) (k : ℕ) (x : X) → slice_get (xs ++ ys) k ≡ Some x → (slice_get xs k ≡ Some x) ⊎ IsAmong ys x
 either_part [] ys k x there = inr (k, there)
 either_part (y ∷ xs) ys zero x there = inl there
@@ -127,7 +108,7 @@ either_part (y ∷ xs) ys (suc k) x there = either_part xs ys k x there
 pub placed_then : (log : List Logged) (unit k n : ℕ) (p : Placed) → slice_get (placed_on log unit) k ≡ Some p → p.number < n → n ≤ length log
     → slice_get (placed_on (take n log) unit) k ≡ Some p
 placed_then log unit k n p there before inside =
-    let more = later_numbers (take n log) (drop n log) in
+    let more = placements_joined (take n log) (drop n log) in
     let long : length (take n log) ≡ n = length-take-is in
     go (filter (λ (q : Placed). q.stripe.unit == unit) more.0)
     (either_part (placed_on (take n log) unit) (filter (λ (q : Placed). q.stripe.unit == unit) more.0) k p

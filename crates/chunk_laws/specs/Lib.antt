@@ -2,3 +2,4 @@
 pub mod UnitChunks
 pub mod UnitPrograms
 pub mod LifeBlocks
+pub mod KnownChunks

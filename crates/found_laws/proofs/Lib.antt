@@ -6,6 +6,5 @@ pub mod Rows
 pub mod Winners
 pub mod Fits
 pub mod Beginning
-pub mod Media
 pub mod Began
 pub mod OlderRows

@@ -115,7 +115,7 @@ rest_used : (o : Option Chunk) (rest : Bool) → rest ≡ false → with_one o r
 rest_used None rest e = e
 rest_used (Some c) rest e = and_right (is_empty_state c.state) rest e
 
-some_used : (line : ℕ) (us : List (List Chunk)) (k : ℕ) (c : Chunk) → option_and_then (λ u. slice_get u line) (slice_get us k) ≡ Some c → is_empty_state c.state ≡ false → empties line us ≡ false
+pub some_used : (line : ℕ) (us : List (List Chunk)) (k : ℕ) (c : Chunk) → option_and_then (λ u. slice_get u line) (slice_get us k) ≡ Some c → is_empty_state c.state ≡ false → empties line us ≡ false
 some_used line [] k c there used = absurd (none-some c there)
 some_used line (u ∷ us) zero c there used = one_more (slice_get u line) (filter_map (λ unit. slice_get unit line) us) ∙ one_used (slice_get u line) c (empties line us) there used
 some_used line (u ∷ us) (suc k) c there used = one_more (slice_get u line) (filter_map (λ unit. slice_get unit line) us) ∙ rest_used (slice_get u line) (empties line us) (some_used line us k c there used)

@@ -4,3 +4,4 @@ pub mod Same
 pub mod Padding
 pub mod Losing
 pub mod Early
+pub mod SealedLines

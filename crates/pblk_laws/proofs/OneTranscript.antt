@@ -59,7 +59,7 @@ closing_not c d (ClosedWorn wanted have) kept hc = (λ k. no_number 99 _ c (omeg
 no_mixed : (n : ℕ) → n < 10 ^ 64 → decimal n ≡ codes "mixed" → ⊥
 no_mixed n h e = no_number 109 _ n (omega arith) h (sym e)
 
-same_word : (a b : Word) → WordFits a → WordFits b → word_text a ≡ word_text b → a ≡ b
+pub same_word : (a b : Word) → WordFits a → WordFits b → word_text a ≡ word_text b → a ≡ b
 same_word (Tag a) (Tag b) ha hb e = ap Tag (same_decimal a b ha hb e)
 same_word (Tag a) Mixed ha hb e = absurd (no_mixed a ha e)
 same_word Mixed (Tag b) ha hb e = absurd (no_mixed b hb (sym e))

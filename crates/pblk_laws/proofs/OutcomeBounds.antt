@@ -24,7 +24,7 @@ use Rattle.pblk_model.proofs.BytesLemmas.{tag_below}
 
 -- The tag of a sector has 64 bits.
 
-word_fits : (sector : List ℕ) → WordFits (word_of sector)
+pub word_fits : (sector : List ℕ) → WordFits (word_of sector)
 unfolding tag_sector
 word_fits sector =
     let tag = number_at w64 0 sector in

@@ -14,7 +14,7 @@ option_length : {X : Type 0} (o : Option X) (xs : List X) (n : ℕ) → length x
 option_length None xs n h = omega arith
 option_length (Some x) xs n h = omega arith
 
-filter_map_length : {X Y : Type 0} (f : X → Option Y) (xs : List X) → length (filter_map f xs) ≤ length xs
+pub filter_map_length : {X Y : Type 0} (f : X → Option Y) (xs : List X) → length (filter_map f xs) ≤ length xs
 filter_map_length f [] = omega arith
 filter_map_length f (x ∷ xs) = let kept : length (filter_map f (x ∷ xs)) ≤ length xs + 1 = option_length (f x) (filter_map f xs) (length xs) (filter_map_length f xs) in omega arith
 

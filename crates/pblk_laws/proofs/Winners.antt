@@ -101,7 +101,7 @@ newest_more Seen (Some b) x is = elim (cases_Bool (is_newer b x)) [
       (inl is.0, λ r h. elim h [ inl seen ↦ is.1 r seen | inr same ↦ subst (λ y. is_newer b y ≡ false) same e ])
 ]
 
-lba_is : (lba : ℕ) (o : Option ℕ) → is_of lba o ≡ true → o ≡ Some lba
+pub lba_is : (lba : ℕ) (o : Option ℕ) → is_of lba o ≡ true → o ≡ Some lba
 lba_is lba None e = absurd (true≢false (sym e))
 lba_is lba (Some other) e = ap Some (eqb-true other lba e)
 

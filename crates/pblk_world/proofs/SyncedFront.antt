@@ -6,14 +6,14 @@ use Rattle.pblk_model.specs.Contents.{least_missing}
 use Rattle.pblk_world.specs.Events.{Logged}
 use Rattle.pblk_world.specs.EngineLog.{takes}
 use Rattle.pblk_world.specs.Fronts.{IsSynced, first_position, has_landed_at, synced, taken}
-use Rattle.lemmas.proofs.Tests.{below_by}
+use Rattle.lemmas.proofs.Tests.{below_by, no_both}
 
 -- all from p on up to the least missing one are borne, and it is missing or the turns are over
-record IsLeast (borne : ℕ → Bool) (turns p m : ℕ) : Type 0 where
-  from : p ≤ m
-  within : m ≤ p + turns
-  below : (q : ℕ) → p ≤ q → q < m → borne q ≡ true
-  missing : m < p + turns → borne m ≡ false
+pub record IsLeast (borne : ℕ → Bool) (turns p m : ℕ) : Type 0 where
+  pub from : p ≤ m
+  pub within : m ≤ p + turns
+  pub below : (q : ℕ) → p ≤ q → q < m → borne q ≡ true
+  pub missing : m < p + turns → borne m ≡ false
 
 least_by : (borne : ℕ → Bool) (turns p : ℕ) (b : Bool) → borne p ≡ b → IsLeast borne turns (p + 1) (least_missing borne turns (p + 1))
     → IsLeast borne (suc turns) p (if b then least_missing borne turns (p + 1) else p)
@@ -25,7 +25,7 @@ least_by borne turns p true e h = record {
 }
 least_by borne turns p false e h = record { from = omega arith; within = omega arith; below = λ q a b. absurd (omega arith); missing = λ a. e }
 
-least : (borne : ℕ → Bool) (turns p : ℕ) → IsLeast borne turns p (least_missing borne turns p)
+pub least : (borne : ℕ → Bool) (turns p : ℕ) → IsLeast borne turns p (least_missing borne turns p)
 unfolding least_missing
 least borne zero p = record { from = omega arith; within = omega arith; below = λ q a b. absurd (omega arith); missing = λ a. absurd (omega arith) }
 least borne (suc turns) p = least_by borne turns p (borne p) refl (least borne turns (p + 1))
@@ -38,9 +38,6 @@ synced_within s log = (least (has_landed_at s log) (length (takes log)) (first_p
 
 pub synced_missing : (s : Shape) (log : List Logged) → synced s log < taken log → has_landed_at s log (synced s log) ≡ false
 synced_missing s log h = (least (has_landed_at s log) (length (takes log)) (first_position log)).missing h
-
-no_both : {X : Type 0} (b : Bool) → b ≡ true → b ≡ false → X
-no_both b e f = absurd (grind arith)
 
 pub one_synced : (s : Shape) (log : List Logged) (p q : ℕ) → IsSynced s log p → IsSynced s log q → p ≡ q
 one_synced s log p q a b = go (cases_order p q)

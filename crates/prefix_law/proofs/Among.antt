@@ -18,20 +18,25 @@ of_both (y ∷ xs) ys x (suc k, e) = go (of_both xs ys x (k, e))
     go (inl at) = inl (suc at.0, at.1)
     go (inr at) = inr at
 
-pub flat_into : {X Y : Type 0} (f : X → List Y) (xs : List X) (k : ℕ) (x : X) (y : Y) → slice_get xs k ≡ Some x → IsAmong (f x) y → IsAmong (flat_map f xs) y
+pub flat_into : {X Y : Type 0} (f : X → List Y) (xs : List X) (k : ℕ) (x : X) (y : Y) → slice_get xs k ≡ Some x → IsAmong (f x) y
+    → IsAmong (flat_map f xs) y
 flat_into f [] k x y there at = absurd (none-some x there)
 flat_into {X} {Y} f (z ∷ xs) zero x y there at = among_more (f z) (flat_map f xs) y (at.0, ap (λ v. slice_get (f v) at.0) (same_Some z x there) ∙ at.1)
 flat_into f (z ∷ xs) (suc k) x y there at = behind (f z) (flat_map f xs) y (flat_into f xs k x y there at)
 
-pub flat_from : {X Y : Type 0} (f : X → List Y) (xs : List X) (y : Y) → IsAmong (flat_map f xs) y → (k : ℕ) × (x : X) × (slice_get xs k ≡ Some x) × IsAmong (f x) y
+pub flat_from : {X Y : Type 0} (f : X → List Y) (xs : List X) (y : Y) → IsAmong (flat_map f xs) y
+    → (k : ℕ) × (x : X) × (slice_get xs k ≡ Some x) × IsAmong (f x) y
 flat_from f [] y at = absurd (none-some y at.1)
 flat_from {X} {Y} f (z ∷ xs) y at = go (of_both (f z) (flat_map f xs) y at) (λ h. flat_from f xs y h)
   where
-    go : IsAmong (f z) y ⊎ IsAmong (flat_map f xs) y → (IsAmong (flat_map f xs) y → (k : ℕ) × (x : X) × (slice_get xs k ≡ Some x) × IsAmong (f x) y) → (k : ℕ) × (x : X) × (slice_get (z ∷ xs) k ≡ Some x) × IsAmong (f x) y
+    go : IsAmong (f z) y ⊎ IsAmong (flat_map f xs) y
+        → (IsAmong (flat_map f xs) y → (k : ℕ) × (x : X) × (slice_get xs k ≡ Some x) × IsAmong (f x) y)
+        → (k : ℕ) × (x : X) × (slice_get (z ∷ xs) k ≡ Some x) × IsAmong (f x) y
     go (inl here) rest = (0, z, refl, here)
     go (inr there) rest = let r = rest there in (suc r.0, r.1, r.2, r.3)
 
-pub made_into : {X Y : Type 0} (f : X → Option Y) (xs : List X) (k : ℕ) (x : X) (y : Y) → slice_get xs k ≡ Some x → f x ≡ Some y → IsAmong (filter_map f xs) y
+pub made_into : {X Y : Type 0} (f : X → Option Y) (xs : List X) (k : ℕ) (x : X) (y : Y) → slice_get xs k ≡ Some x → f x ≡ Some y
+    → IsAmong (filter_map f xs) y
 made_into f [] k x y there is = absurd (none-some x there)
 made_into {X} {Y} f (z ∷ xs) zero x y there is = by (f z) (ap f (same_Some z x there) ∙ is)
   where
@@ -44,11 +49,14 @@ made_into {X} {Y} f (z ∷ xs) (suc k) x y there is = by (f z) (made_into f xs k
     by None at = at
     by (Some v) at = later v (filter_map f xs) y at
 
-pub made_from : {X Y : Type 0} (f : X → Option Y) (xs : List X) (y : Y) → IsAmong (filter_map f xs) y → (k : ℕ) × (x : X) × (slice_get xs k ≡ Some x) × (f x ≡ Some y)
+pub made_from : {X Y : Type 0} (f : X → Option Y) (xs : List X) (y : Y) → IsAmong (filter_map f xs) y
+    → (k : ℕ) × (x : X) × (slice_get xs k ≡ Some x) × (f x ≡ Some y)
 made_from f [] y at = absurd (none-some y at.1)
 made_from {X} {Y} f (z ∷ xs) y at = by (f z) refl at (λ h. made_from f xs y h)
   where
-    by : (o : Option Y) → f z ≡ o → IsAmong (cons_option o (filter_map f xs)) y → (IsAmong (filter_map f xs) y → (k : ℕ) × (x : X) × (slice_get xs k ≡ Some x) × (f x ≡ Some y)) → (k : ℕ) × (x : X) × (slice_get (z ∷ xs) k ≡ Some x) × (f x ≡ Some y)
+    by : (o : Option Y) → f z ≡ o → IsAmong (cons_option o (filter_map f xs)) y
+        → (IsAmong (filter_map f xs) y → (k : ℕ) × (x : X) × (slice_get xs k ≡ Some x) × (f x ≡ Some y))
+        → (k : ℕ) × (x : X) × (slice_get (z ∷ xs) k ≡ Some x) × (f x ≡ Some y)
     by None e at rest = let r = rest at in (suc r.0, r.1, r.2, r.3)
     by (Some v) e (zero, got) rest = (0, z, refl, e ∙ got)
     by (Some v) e (suc k, got) rest = let r = rest (k, got) in (suc r.0, r.1, r.2, r.3)

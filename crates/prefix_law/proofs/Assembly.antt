@@ -2,7 +2,7 @@
 use Rattle.std.proofs.Common.{◌≡◌, ℕ, ◌+◌, ◌-◌, ◌<◌, ◌≤◌, ◌⊎◌, ◌&&◌, nat_lt, nat_le, Bool, true, false, cond, Some, None, Option, List, [], ◌∷◌, length, refl, sym, subst, ap, ap₂, ◌∙◌, arith, inl, inr}
 use Rattle.std.specs.List.{Contains, filter}
 use Rattle.std.specs.Option.{option_map_or}
-use Rattle.std.proofs.lemmas.Bool.{cases_order}
+use Rattle.std.proofs.lemmas.Bool.{cases_order, ltb-true}
 use Rattle.std.proofs.lemmas.Option.{same_Some, slice_get_within}
 use Rattle.pblk_model.specs.Bytes.{zeros}
 use Rattle.pblk_model.specs.StartRecord.{StartRecord}
@@ -11,7 +11,6 @@ use Rattle.pblk_model.specs.Contents.{end, Bears, IsEnd, IsNewer, IsWinner, coun
 use Rattle.pblk_model.specs.Image.{Image}
 use Rattle.pblk_laws.proofs.Ends.{end_is_end}
 use Rattle.pblk_laws.proofs.Winners.{winner_is_winner, winner_is_only, no_winner_no_record, no_winner}
-use Rattle.stripe_placer.proofs.Chunks.{lt_of as lt_true}
 use Rattle.prefix_law.specs.Assembled.{Given, Entries, IsEntry, IsEntryOf, IsLastOf, by_row, CountsOld, HoldsUnder, IsAssembled}
 use Rattle.lemmas.proofs.Lists.{contains_cases, contains_first, contains_more, contains_none}
 use Rattle.lemmas.proofs.Tests.{both, either, le_true as true_le, lt_true as true_lt, or_left, or_right, within_is}
@@ -22,7 +21,8 @@ pub filtered_from : {X : Type 0} (f : X → Bool) (xs : List X) (r : X) → Cont
 filtered_from f [] r there = absurd (contains_none r there)
 filtered_from {X} f (x ∷ xs) r there = by (f x) refl there (λ h. filtered_from f xs r h)
   where
-    by : (b : Bool) → f x ≡ b → Contains (cond b (x ∷ filter f xs) (filter f xs)) r → (Contains (filter f xs) r → Contains xs r × (f r ≡ true)) → Contains (x ∷ xs) r × (f r ≡ true)
+    by : (b : Bool) → f x ≡ b → Contains (cond b (x ∷ filter f xs) (filter f xs)) r → (Contains (filter f xs) r → Contains xs r × (f r ≡ true))
+        → Contains (x ∷ xs) r × (f r ≡ true)
     by true e h rest = elim (contains_cases x r (filter f xs) h) [
       | inl same ↦ (subst (Contains (x ∷ xs)) same (contains_first x xs), ap f (sym same) ∙ e)
       | inr later ↦ (contains_more x r xs (rest later).0, (rest later).1)
@@ -33,7 +33,8 @@ pub filtered_into : {X : Type 0} (f : X → Bool) (xs : List X) (r : X) → Cont
 filtered_into f [] r there is = absurd (contains_none r there)
 filtered_into {X} f (x ∷ xs) r there is = by (f x) refl (contains_cases x r xs there) (λ h. filtered_into f xs r h is)
   where
-    by : (b : Bool) → f x ≡ b → (x ≡ r) ⊎ Contains xs r → (Contains xs r → Contains (filter f xs) r) → Contains (cond b (x ∷ filter f xs) (filter f xs)) r
+    by : (b : Bool) → f x ≡ b → (x ≡ r) ⊎ Contains xs r → (Contains xs r → Contains (filter f xs) r)
+        → Contains (cond b (x ∷ filter f xs) (filter f xs)) r
     by true e (inl same) rest = subst (Contains (x ∷ filter f xs)) same (contains_first x (filter f xs))
     by true e (inr later) rest = contains_more x r (filter f xs) (rest later)
     by false e (inl same) rest = let no : f x ≡ true = ap f same ∙ is in absurd (cc)
@@ -47,7 +48,7 @@ CountsBy h p r = ((h.first_seq ≤ r.seq) × (r.position < p)) ⊎ (by_row h r �
 
 pub counts_by : (h : StartRecord) (p : ℕ) (r : Record) → counts h p r ≡ true → CountsBy h p r
 counts_by h p r is = elim (either (nat_le h.first_seq r.seq && nat_lt r.position p) (by_row h r) is) [
-  | inl a ↦ let parts = both (nat_le h.first_seq r.seq) (nat_lt r.position p) a in inl (within_is h.first_seq r.seq parts.0, lt_true r.position p parts.1)
+  | inl a ↦ let parts = both (nat_le h.first_seq r.seq) (nat_lt r.position p) a in inl (within_is h.first_seq r.seq parts.0, ltb-true r.position p parts.1)
   | inr b ↦ inr b
 ]
 
@@ -142,7 +143,9 @@ module _ (i : Image) (h : StartRecord) (es : Entries) (front : ℕ) (under : ℕ
 
       go : (p ≡ front) ⊎ ((p < front) ⊎ (front < p)) → (r : Record) × Contains (records i) r × Bears h p r
       go (inl e) = past (omega arith)
-      go (inr (inl less)) = is.kept lba p (record { entry = last.entry; under = less; last = λ q entry below. last.last q entry (let high : front ≤ end i = end_above in omega arith) })
+      go (inr (inl less)) =
+          let high : front ≤ end i = end_above in
+          is.kept lba p (record { entry = last.entry; under = less; last = λ q entry below. last.last q entry (omega arith) })
       go (inr (inr more)) = past (omega arith)
 
   not_older : (a b : Record) → (a ≡ b) ⊎ IsNewer a b → a.position ≤ b.position
@@ -156,7 +159,8 @@ module _ (i : Image) (h : StartRecord) (es : Entries) (front : ℕ) (under : ℕ
       bear : (r : Record) × Contains (records i) r × Bears h p r
       bear = bearing lba p last
 
-      go : (o : Option Record) → winner (counted i) lba ≡ o → option_map_or (λ (r : Record). r.sector) (winner (counted i) lba) (zeros i.shape.sector) ≡ last.entry.given.sector
+      go : (o : Option Record) → winner (counted i) lba ≡ o
+          → option_map_or (λ (r : Record). r.sector) (winner (counted i) lba) (zeros i.shape.sector) ≡ last.entry.given.sector
       go o e =
           let b = bearing lba p last in
           let r : Record = b.0 in
@@ -209,4 +213,5 @@ module _ (i : Image) (h : StartRecord) (es : Entries) (front : ℕ) (under : ℕ
           } in
           ap (λ o. option_map_or (λ (x : Record). x.sector) o (zeros i.shape.sector)) (winner_is_only (counted i) lba r wins) ∙ stands.sector
       go (inr (never, blank)) =
-          ap (λ o. option_map_or (λ (x : Record). x.sector) o (zeros i.shape.sector)) ((no_winner (counted i) lba).1 (λ r there of_it. never r (old_only r there of_it))) ∙ sym blank
+          ap (λ o. option_map_or (λ (x : Record). x.sector) o (zeros i.shape.sector))
+          ((no_winner (counted i) lba).1 (λ r there of_it. never r (old_only r there of_it))) ∙ sym blank

@@ -10,21 +10,18 @@ use Rattle.pblk_model.specs.Image.{Image, width}
 use Rattle.pblk_model.specs.StartRecord.{Row, StartRecord, start_of, rows_fit}
 use Rattle.pblk_model.specs.Records.{Record, records}
 use Rattle.pblk_model.specs.Contents.{head, end, end_after, counts, counted, counted_after}
-use Rattle.pblk_world.specs.Lines.{next_seq}
 use Rattle.pblk_world.specs.Starts.{row_bound, bound_by}
-use Rattle.pblk_laws.proofs.Ends.{end_is_end}
-use Rattle.pblk_laws.proofs.Heads.{head_is_head, no_head_no_start}
+use Rattle.pblk_laws.proofs.Heads.{head_is_head}
 use Rattle.pblk_laws.proofs.Starts.{numbers, found_is}
-use Rattle.stripe_placer.proofs.Rising.{le_false as false_le}
-use Rattle.placed_laws.proofs.Distinct.{passing as any_is}
 use Rattle.prefix_law.specs.Assembled.{by_row}
-use Rattle.prefix_law.specs.Continued.{row_of, rows_of}
+use Rattle.prefix_law.specs.AfterMount.{row_of, rows_of}
 use Rattle.prefix_law.proofs.Among.{made_into, made_from}
 use Rattle.prefix_law.proofs.Assembly.{filtered_from, filtered_into, CountsBy, counts_by, counts_young, counts_row}
 use Rattle.prefix_law.proofs.RecordLines.{range_is, IsAt, record_is_at}
 use Rattle.lemmas.proofs.Lists.{IsAmong, contains_none, later}
-use Rattle.lemmas.proofs.Maps.{any_member, range_get}
-use Rattle.lemmas.proofs.Tests.{both, le_true, lt_true, same_number}
+use Rattle.lemmas.proofs.Maps.{any_found, any_member, found_passes, range_get}
+use Rattle.lemmas.proofs.Options.{some_value}
+use Rattle.lemmas.proofs.Tests.{and_both, both, le_true, lt_true, same_number}
 
 -- ---- the rows of a start record
 
@@ -34,7 +31,8 @@ pub record IsRowOf (r : StartRecord) (least : ℕ) (row : Row) : Type 0 where
   pub older : row.seq < r.first_seq
   pub bound : row.bound ≤ r.front
 
-row_parts : (s : Shape) (r : StartRecord) (least : ℕ) (row : Row) (rows : List Row) → rows_fit s r least (row ∷ rows) ≡ true → IsRowOf r least row × (rows_fit s r (row.line + 1) rows ≡ true)
+row_parts : (s : Shape) (r : StartRecord) (least : ℕ) (row : Row) (rows : List Row) → rows_fit s r least (row ∷ rows) ≡ true
+    → IsRowOf r least row × (rows_fit s r (row.line + 1) rows ≡ true)
 row_parts s r least row rows h =
     let p6 = and_parts _ (rows_fit s r (row.line + 1) rows) h in
     let p5 = and_parts _ (nat_le row.bound r.front) p6.0 in
@@ -44,7 +42,8 @@ row_parts s r least row rows h =
     let p1 = and_parts (nat_le least row.line) (nat_lt row.line s.chunks) p2.0 in
     (record { low = leb-true least row.line p1.0; older = ltb-true row.seq r.first_seq p4.1; bound = leb-true row.bound r.front p5.1 }, p6.1)
 
-pub row_is : (s : Shape) (r : StartRecord) (least : ℕ) (rows : List Row) (k : ℕ) (row : Row) → rows_fit s r least rows ≡ true → slice_get rows k ≡ Some row → IsRowOf r least row
+pub row_is : (s : Shape) (r : StartRecord) (least : ℕ) (rows : List Row) (k : ℕ) (row : Row) → rows_fit s r least rows ≡ true
+    → slice_get rows k ≡ Some row → IsRowOf r least row
 row_is s r least [] k row fits there = absurd (none-some row there)
 row_is s r least (x ∷ rows) zero row fits there = subst (IsRowOf r least) (same_Some x row there) (row_parts s r least x rows fits).0
 row_is s r least (x ∷ rows) (suc k) row fits there =
@@ -56,26 +55,31 @@ abbrev pub is_row_for : ℕ → ℕ → Row → Bool
 is_row_for line seq row = (row.line == line) && (row.seq == seq)
 
 -- no two rows are of one line
-row_found : (s : Shape) (r : StartRecord) (least : ℕ) (rows : List Row) (k : ℕ) (row : Row) → rows_fit s r least rows ≡ true → slice_get rows k ≡ Some row → find (is_row_for row.line row.seq) rows ≡ Some row
+row_found : (s : Shape) (r : StartRecord) (least : ℕ) (rows : List Row) (k : ℕ) (row : Row) → rows_fit s r least rows ≡ true
+    → slice_get rows k ≡ Some row → find (is_row_for row.line row.seq) rows ≡ Some row
 row_found s r least [] k row fits there = absurd (none-some row there)
 row_found s r least (x ∷ rows) zero row fits there =
     let same : x ≡ row = same_Some x row there in
-    let is : is_row_for row.line row.seq x ≡ true = ap (is_row_for row.line row.seq) same ∙ ap₂ (λ a b. a && b) (same_number row.line) (same_number row.seq) in
+    let is : is_row_for row.line row.seq x ≡ true =
+    ap (is_row_for row.line row.seq) same ∙ ap₂ (λ a b. a && b) (same_number row.line) (same_number row.seq) in
     ap (λ b. cond b (Some x) (find (is_row_for row.line row.seq) rows)) is ∙ ap Some same
 row_found s r least (x ∷ rows) (suc k) row fits there =
     let parts = row_parts s r least x rows fits in
     let rest : IsRowOf r (x.line + 1) row = row_is s r (x.line + 1) rows k row parts.1 there in
     let after : x.line + 1 ≤ row.line = rest.low in
     by (is_row_for row.line row.seq x) refl after (row_found s r (x.line + 1) rows k row parts.1 there) where
-      by : (b : Bool) → is_row_for row.line row.seq x ≡ b → x.line + 1 ≤ row.line → find (is_row_for row.line row.seq) rows ≡ Some row → cond b (Some x) (find (is_row_for row.line row.seq) rows) ≡ Some row
-      by true is after rest = let same : x.line ≡ row.line = eqb-true x.line row.line (both (x.line == row.line) (x.seq == row.seq) is).0 in absurd (omega arith)
+      by : (b : Bool) → is_row_for row.line row.seq x ≡ b → x.line + 1 ≤ row.line → find (is_row_for row.line row.seq) rows ≡ Some row
+          → cond b (Some x) (find (is_row_for row.line row.seq) rows) ≡ Some row
+      by true is after rest =
+          let same : x.line ≡ row.line = eqb-true x.line row.line (both (x.line == row.line) (x.seq == row.seq) is).0 in absurd (omega arith)
       by false is after rest = rest
 
 -- the row that is found is one
 find_is : (f : Row → Bool) (rows : List Row) (row : Row) → find f rows ≡ Some row → IsAmong rows row × (f row ≡ true)
 find_is f [] row e = absurd (none-some row e)
 find_is f (x ∷ rows) row e = by (f x) refl e (λ h. find_is f rows row h) where
-  by : (b : Bool) → f x ≡ b → cond b (Some x) (find f rows) ≡ Some row → (find f rows ≡ Some row → IsAmong rows row × (f row ≡ true)) → IsAmong (x ∷ rows) row × (f row ≡ true)
+  by : (b : Bool) → f x ≡ b → cond b (Some x) (find f rows) ≡ Some row → (find f rows ≡ Some row → IsAmong rows row × (f row ≡ true))
+      → IsAmong (x ∷ rows) row × (f row ≡ true)
   by true is h rest = let same : x ≡ row = same_Some x row h in ((0, h), ap f (sym same) ∙ is)
   by false is h rest = let r = rest h in (later x rows row r.0, r.1)
 
@@ -90,24 +94,27 @@ pub record IsByRow (rows : List Row) (r : Record) (row : Row) : Type 0 where
 
 pub by_row_is : (h : StartRecord) (r : Record) → by_row h r ≡ true → (row : Row) × IsByRow h.rows r row
 by_row_is h r is =
-    let at = any_is (λ (row : Row). (row.line == r.line) && (row.seq == r.seq) && nat_lt r.position row.bound) h.rows is in
-    let p = both ((at.0.line == r.line) && (at.0.seq == r.seq)) (nat_lt r.position at.0.bound) at.2 in
+    let test : Row → Bool = λ row. (row.line == r.line) && (row.seq == r.seq) && nat_lt r.position row.bound in
+    let at = some_value (find test h.rows) (sym (any_found test h.rows) ∙ is) in
+    let its = found_passes test h.rows at.0 at.1 in
+    let p = both ((at.0.line == r.line) && (at.0.seq == r.seq)) (nat_lt r.position at.0.bound) its.0 in
     let q = both (at.0.line == r.line) (at.0.seq == r.seq) p.0 in
-    (at.0, record { there = at.1; line = eqb-true at.0.line r.line q.0; seq = eqb-true at.0.seq r.seq q.1; below = ltb-true r.position at.0.bound p.1 })
+    (at.0, record { there = its.1; line = eqb-true at.0.line r.line q.0; seq = eqb-true at.0.seq r.seq q.1; below = ltb-true r.position at.0.bound p.1 })
 
 pub is_by_row : (h : StartRecord) (r : Record) (row : Row) → IsByRow h.rows r row → by_row h r ≡ true
-is_by_row h r row is = any_member (λ (x : Row). (x.line == r.line) && (x.seq == r.seq) && nat_lt r.position x.bound) h.rows is.there.0 row is.there.1
-    (ap₂ (λ a b. a && b) (ap₂ (λ a b. a && b) (ap (λ n. n == r.line) is.line ∙ same_number r.line) (ap (λ n. n == r.seq) is.seq ∙ same_number r.seq)) (lt_true r.position row.bound is.below))
+is_by_row h r row is =
+    let line = ap (λ n. n == r.line) is.line ∙ same_number r.line in
+    let seq = ap (λ n. n == r.seq) is.seq ∙ same_number r.seq in
+    any_member (λ (x : Row). (x.line == r.line) && (x.seq == r.seq) && nat_lt r.position x.bound) h.rows is.there.0 row is.there.1
+    (and_both ((row.line == r.line) && (row.seq == r.seq)) (nat_lt r.position row.bound) (and_both (row.line == r.line) (row.seq == r.seq) line seq)
+    (lt_true r.position row.bound is.below))
+
+false_le : (a b : ℕ) → b < a → nat_le a b ≡ false
+false_le a b less = grind arith
 
 -- ---- the rows of the found image
 
 module _ (b : Image) where
-  pub old_seq : (line : ℕ) (r : StartRecord) → line < b.shape.chunks → start_of b line ≡ Some r → r.seq < next_seq (head b)
-  old_seq line r inside whole = by (head b) refl where
-    by : (o : Option StartRecord) → head b ≡ o → r.seq < next_seq o
-    by None e = absurd (none-some r (sym (no_head_no_start b line e inside) ∙ whole))
-    by (Some h) e = let is = head_is_head b h e in elim (is.1.greatest line r inside whole) [ inl less ↦ omega arith | inr same ↦ (let seqs = same.0 in omega arith) ]
-
   -- the head's rows
   head_rows : (h : StartRecord) (k : ℕ) (row : Row) → head b ≡ Some h → slice_get h.rows k ≡ Some row → IsRowOf h 0 row
   head_rows h k row e there =
@@ -115,33 +122,12 @@ module _ (b : Image) where
       let n = numbers b.shape is.0 (width b is.0) h (found_is b is.0 h is.1.whole).0 in
       row_is b.shape h 0 h.rows k row n.rows there
 
-  head_row_found : (h : StartRecord) (k : ℕ) (row : Row) → head b ≡ Some h → slice_get h.rows k ≡ Some row → find (is_row_for row.line row.seq) h.rows ≡ Some row
+  head_row_found : (h : StartRecord) (k : ℕ) (row : Row) → head b ≡ Some h → slice_get h.rows k ≡ Some row
+      → find (is_row_for row.line row.seq) h.rows ≡ Some row
   head_row_found h k row e there =
       let is = head_is_head b h e in
       let n = numbers b.shape is.0 (width b is.0) h (found_is b is.0 h is.1.whole).0 in
       row_found b.shape h 0 h.rows k row n.rows there
-
-  front_low : (h : StartRecord) → head b ≡ Some h → h.front ≤ end b
-  front_low h e = (end_is_end b h e).from_front
-
-  -- no bound is above the end
-  pub bound_low : (line seq : ℕ) → bound_by (head b) (end b) line seq ≤ end b
-  bound_low line seq = by (head b) refl where
-    found_low : (h : StartRecord) → head b ≡ Some h → (o : Option Row) → find (is_row_for line seq) h.rows ≡ o → option_map_or (λ (row : Row). row.bound) o 0 ≤ end b
-    found_low h e None f = omega arith
-    found_low h e (Some row) f =
-        let at = find_is (is_row_for line seq) h.rows row f in
-        let low = (head_rows h at.0.0 row e at.0.1).bound in
-        let front = front_low h e in
-        omega arith
-
-    by_mount : (h : StartRecord) → head b ≡ Some h → (c : Bool) → (if c then end b else row_bound h line seq) ≤ end b
-    by_mount h e true = omega arith
-    by_mount h e false = found_low h e (find (is_row_for line seq) h.rows) refl
-
-    by : (o : Option StartRecord) → head b ≡ o → bound_by o (end b) line seq ≤ end b
-    by None e = omega arith
-    by (Some h) e = by_mount h e (nat_le h.first_seq seq)
 
   -- a row is of a line with a start record, and each such line has one
 
@@ -168,7 +154,8 @@ module _ (b : Image) where
 
   row_into : (line : ℕ) (start : StartRecord) → line < b.shape.chunks → start_of b line ≡ Some start → IsAmong (rows_of b) (row_with line start)
   row_into line start range e =
-      made_into (λ l. row_of b l (start_of b l)) (range_with_len 0 b.shape.chunks) line line (row_with line start) (range_get 0 b.shape.chunks line range ∙ ap (λ m. Some m) (zero-add line)) (ap (row_of b line) e)
+      made_into (λ l. row_of b l (start_of b l)) (range_with_len 0 b.shape.chunks) line line (row_with line start)
+      (range_get 0 b.shape.chunks line range ∙ ap (λ m. Some m) (zero-add line)) (ap (row_of b line) e)
 
   -- ---- what counts by a row counts in the found image, and the other way round
 
@@ -192,15 +179,23 @@ module _ (b : Image) where
     is_counted : (h : StartRecord) → head b ≡ Some h → counts h (end b) r ≡ true → Contains (counted b) r
     is_counted h e c = subst (λ rs. Contains rs r) (sym (counted_are h e)) (filtered_into (counts h (end b)) (records b) r there c)
 
-    by_find : (h : StartRecord) → (o : Option Row) → find (is_row_for found.line found.start.seq) h.rows ≡ o → r.position < option_map_or (λ (x : Row). x.bound) o 0 → by_row h r ≡ true
+    by_find : (h : StartRecord) → (o : Option Row) → find (is_row_for found.line found.start.seq) h.rows ≡ o
+        → r.position < option_map_or (λ (x : Row). x.bound) o 0 → by_row h r ≡ true
     by_find h None f low = absurd (omega arith)
     by_find h (Some x) f low =
         let at = find_is (is_row_for found.line found.start.seq) h.rows x f in
         let q = both (x.line == found.line) (x.seq == found.start.seq) at.1 in
-        is_by_row h r x (record { there = at.0; line = eqb-true x.line found.line q.0 ∙ lines; seq = eqb-true x.seq found.start.seq q.1 ∙ seqs; below = low })
+        is_by_row h r x (record {
+          there = at.0;
+          line = eqb-true x.line found.line q.0 ∙ lines;
+          seq = eqb-true x.seq found.start.seq q.1 ∙ seqs;
+          below = low;
+        })
 
-    by_mount : (h : StartRecord) → head b ≡ Some h → (c : Bool) → nat_le h.first_seq found.start.seq ≡ c → r.position < (if c then end b else row_bound h found.line found.start.seq) → Contains (counted b) r
-    by_mount h e true mount low = is_counted h e (counts_young h (end b) r (let old = leb-true h.first_seq found.start.seq mount in let same = seqs in omega arith) low)
+    by_mount : (h : StartRecord) → head b ≡ Some h → (c : Bool) → nat_le h.first_seq found.start.seq ≡ c
+        → r.position < (if c then end b else row_bound h found.line found.start.seq) → Contains (counted b) r
+    by_mount h e true mount low =
+        is_counted h e (counts_young h (end b) r (let old = leb-true h.first_seq found.start.seq mount in let same = seqs in omega arith) low)
     by_mount h e false mount low = is_counted h e (counts_row h (end b) r (by_find h (find (is_row_for found.line found.start.seq) h.rows) refl low))
 
     by : (o : Option StartRecord) → head b ≡ o → r.position < bound_by o (end b) found.line found.start.seq → Contains (counted b) r
@@ -221,7 +216,8 @@ module _ (b : Image) where
     not_mounted : (h : StartRecord) (line seq : ℕ) → seq < h.first_seq → bound_by (Some h) (end b) line seq ≡ row_bound h line seq
     not_mounted h line seq old = ap (λ c. if c then end b else row_bound h line seq) (false_le h.first_seq seq old)
 
-    bound_of : (h : StartRecord) (line seq : ℕ) → head b ≡ Some h → line ≡ r.line → seq ≡ r.seq → CountsBy h (end b) r → r.position < bound_by (Some h) (end b) line seq
+    bound_of : (h : StartRecord) (line seq : ℕ) → head b ≡ Some h → line ≡ r.line → seq ≡ r.seq → CountsBy h (end b) r
+        → r.position < bound_by (Some h) (end b) line seq
     bound_of h line seq e lines seqs (inl (mount, low)) = let is = mounted h line seq (omega arith) in omega arith
     bound_of h line seq e lines seqs (inr row) =
         let x = by_row_is h r row in
@@ -231,7 +227,8 @@ module _ (b : Image) where
         let same_line : x.0.line ≡ line = x.1.line ∙ sym lines in
         let same_seq : x.0.seq ≡ seq = x.1.seq ∙ sym seqs in
         let found : find (is_row_for line seq) h.rows ≡ Some x.0 =
-        ap (λ l. find (is_row_for l seq) h.rows) (sym same_line) ∙ ap (λ q. find (is_row_for x.0.line q) h.rows) (sym same_seq) ∙ head_row_found h at.0 x.0 e at.1 in
+        ap (λ l. find (is_row_for l seq) h.rows) (sym same_line) ∙ ap (λ q. find (is_row_for x.0.line q) h.rows) (sym same_seq)
+        ∙ head_row_found h at.0 x.0 e at.1 in
         let bound : row_bound h line seq ≡ x.0.bound = ap (λ (o : Option Row). option_map_or (λ (y : Row). y.bound) o 0) found in
         let is = not_mounted h line seq (omega arith) in
         let low : r.position < x.0.bound = x.1.below in
@@ -249,6 +246,8 @@ module _ (b : Image) where
             there = row_into r.line at.start at.in_range at.whole;
             line = refl;
             seq = sym at.seq;
-            below = subst (λ o. r.position < bound_by o (end b) r.line at.start.seq) (sym e) (bound_of h r.line at.start.seq e refl (sym at.seq) (counts_by h (end b) r parts.1));
+            below =
+                subst (λ o. r.position < bound_by o (end b) r.line at.start.seq) (sym e)
+                (bound_of h r.line at.start.seq e refl (sym at.seq) (counts_by h (end b) r parts.1));
           };
         }

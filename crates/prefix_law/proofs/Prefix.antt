@@ -1,205 +1,256 @@
--- The contents of the media are those after a prefix of the history.
-use Rattle.std.proofs.Common.{◌≡◌, ℕ, ◌-◌, ◌<◌, ◌≤◌, ◌⊎◌, Bool, false, Some, None, Option, List, [], length, take, refl, sym, subst, ap, ap₂, ◌∙◌, arith, inl, inr}
-use Rattle.std.specs.Prelude.{slice_get, map}
-use Rattle.std.specs.List.{AllByRecursion}
-use Rattle.std.specs.Option.{option_and_then, option_map_or}
+-- The contents of the media after a legal mount are those after a prefix of the history.
+use Rattle.std.proofs.Common.{◌≡◌, ◌⊎◌, inl, inr, ℕ, ◌<◌, ◌≤◌, true, Some, None, Option, List, [], ◌∷◌, ◌++◌, map, take, length, refl, sym, subst, ap, ◌∙◌, arith}
+use Rattle.std.specs.Prelude.{slice_get}
+use Rattle.std.specs.List.{Contains}
 use Rattle.std.proofs.Math.Seq.{take-length}
-use Rattle.std.proofs.lemmas.Bool.{cases_lt}
+use Rattle.std.proofs.lemmas.Bool.{cases_lt, cases_order}
+use Rattle.std.proofs.lemmas.List.{length-map}
+use Rattle.std.proofs.lemmas.Option.{none-some, slice_get_past}
 use Rattle.pblk_model.specs.declared.shape.Shape.{Shape}
-use Rattle.pblk_model.specs.Accepted.{IsAccepted}
-use Rattle.pblk_model.specs.Shape.{units}
-use Rattle.pblk_model.specs.Chunk.{Chunk, IsChunk}
-use Rattle.pblk_model.specs.StartRecord.{start_of}
-use Rattle.pblk_model.specs.Records.{line_records, records_after}
-use Rattle.pblk_model.specs.Contents.{end, contents}
-use Rattle.pblk_model.specs.History.{SectorWrite, after, users}
-use Rattle.pblk_model.specs.Image.{Image, IsFit}
+use Rattle.pblk_model.specs.Image.{Image}
+use Rattle.pblk_model.specs.StartRecord.{StartRecord}
+use Rattle.pblk_model.specs.Records.{Record, line_records, records}
+use Rattle.pblk_model.specs.Contents.{head, end, sector_of, contents}
+use Rattle.pblk_model.specs.History.{after, users}
 use Rattle.pblk_model.specs.Sealed.{IsSealed}
+use Rattle.pblk_model.proofs.ContentsLemmas.{contents_count}
+use Rattle.pblk_world.specs.Events.{Logged, Step}
 use Rattle.pblk_world.specs.World.{World, log_of, media}
-use Rattle.pblk_world.specs.EngineLog.{Begun, begun, life_of, is_opened, takes}
-use Rattle.pblk_world.specs.Fronts.{first_position, taken, synced, history, user_positions}
-use Rattle.pblk_world.specs.Lines.{found_image}
-use Rattle.pblk_world.proofs.SyncedFront.{synced_is, synced_within}
-use Rattle.core_laws.specs.PlainWorlds.{IsPlainWorld}
-use Rattle.pblk_laws.specs.LineBlocks.{chunk_in}
-use Rattle.media_laws.proofs.UnitCounts.{found_chunks, found_shape, found_units}
-use Rattle.media_laws.proofs.FoundChunks.{found_is_chunk}
-use Rattle.media_laws.proofs.LineLives.{living}
-use Rattle.media_laws.proofs.OpenedUnits.{opened_in_range}
-use Rattle.opening_laws.specs.Same.{IsSameLine, HoldsTheSame}
-use Rattle.opening_laws.specs.Losing.{IsLostLine}
+use Rattle.pblk_world.specs.EngineLog.{Begun, begun, life_of, Placed, placements, stripes_of, is_life, takes, is_answered, holds_position}
+use Rattle.pblk_world.specs.Fronts.{taken, synced, has_landed_at, history, user_positions}
+use Rattle.pblk_world.specs.Lines.{found_image, next_seq}
+use Rattle.pblk_world.proofs.SyncedFront.{synced_within, synced_missing}
+use Rattle.pblk_laws.proofs.Ends.{end_is_end}
+use Rattle.pblk_laws.proofs.FilledLists.{after_length}
 use Rattle.opening_laws.specs.Early.{ArePrefixes}
-use Rattle.opening_laws.proofs.LostImages.{line_kept, line_lost}
-use Rattle.opening_laws.proofs.FoundImages.{found_first, found_sealed, found_holds, early_before, early_holds}
-use Rattle.stripe_placer.proofs.Rows.{length_map as length_mapped}
-use Rattle.prefix_law.specs.Continued.{given_of, entries_from, IsNextStart, IsContinued}
-use Rattle.prefix_law.proofs.Continuing.{front_above, end_among, contents_are}
-use Rattle.prefix_law.proofs.Fronts.{synced_from}
-use Rattle.prefix_law.proofs.Starting.{started}
-use Rattle.prefix_law.proofs.Taking.{line_of, history_is, count_users}
-use Rattle.prefix_law.proofs.Media.{opening_of, start_is}
-use Rattle.prefix_law.proofs.Records.{IsOfEntry, of_entry, landed_borne}
-use Rattle.prefix_law.proofs.Unopened.{kept_or_lost, in_range}
-use Rattle.lemmas.proofs.Maps.{get_mapped}
-use Rattle.lemmas.proofs.Parts.{all_by_get, take_nothing}
-use Rattle.pblk_world.proofs.WorldLemmas.{length_media}
+use Rattle.opening_laws.specs.Same.{HoldsTheSame}
+use Rattle.opening_laws.proofs.FoundImages.{found_holds, early_before, early_holds}
+use Rattle.lemmas.proofs.Lists.{among_contained}
+use Rattle.lemmas.proofs.Maps.{from_filter}
+use Rattle.lemmas.proofs.Parts.{contained_among, same_lists, take_nothing}
+use Rattle.lemmas.proofs.Tests.{no_both}
+use Rattle.world_laws.specs.LegalMounts.{NoneLost, IsLegalMount}
+use Rattle.world_laws.proofs.Beginnings.{has_begun}
+use Rattle.world_laws.proofs.WinnerBlocks.{contents_at}
+use Rattle.chunk_laws.proofs.SectorValues.{latest_is_held, found_is_held}
+use Rattle.prefix_law.specs.Assembled.{IsAssembled}
+use Rattle.prefix_law.specs.AfterMount.{HasNewHead}
+use Rattle.prefix_law.specs.Cuts.{AreCuts}
+use Rattle.prefix_law.proofs.Answered.{placed_have_landed}
+use Rattle.prefix_law.proofs.Assembly as assembly
+use Rattle.prefix_law.proofs.CutUnits.{cut_mount, engine_uncut}
+use Rattle.prefix_law.proofs.LineFacts.{HasFacts, facts, sectors_below}
+use Rattle.prefix_law.proofs.Mounted.{given_of, entries, after_mount, unopened_or_opened, old_line}
+use Rattle.prefix_law.proofs.MountHead.{WhichHead, OfMount, AsBefore, which, AllOld, latest_entry, none_taken, none_landed, reduced}
+use Rattle.prefix_law.proofs.NewHead.{assembled, old_below}
+use Rattle.prefix_law.proofs.OpeningStarts.{first_found, found_shape}
+use Rattle.prefix_law.proofs.RecordLines.{IsAt, record_is_at}
+use Rattle.prefix_law.proofs.Reduced.{end_same, contents_same}
+use Rattle.prefix_law.proofs.SectorValues.{AreSectors, contents_are_sectors}
 
-pub whole : (w : World) → ArePrefixes w (log_of w)
+whole : (w : World) → ArePrefixes w (log_of w)
 whole w author = (length (log_of w author), sym (take-length (log_of w author)))
 
--- ---- the image that was found
+module _ (i : Image) (w : World) (b : Begun) (mount : IsLegalMount i w) (sealed : IsSealed i) (begins : begun (log_of w 0) ≡ Some b) where
+  abbrev has : HasFacts i w
+  has = facts i w b mount sealed begins
 
-pub found_accepted : (i : Image) (w : World) → IsPlainWorld i w → IsAccepted (found_image i (log_of w)).shape
-found_accepted i w world = subst IsAccepted (found_shape i (log_of w)) world.accepted
+  abbrev now : Image
+  now = media i (log_of w)
 
-unit_chunks : (i : Image) (w : World) (b : Begun) (unit : ℕ) (chunks : List Chunk) → IsPlainWorld i w → begun (log_of w 0) ≡ Some b → slice_get (found_image i (log_of w)).units unit ≡ Some chunks → AllByRecursion (IsChunk i.shape) chunks
-unit_chunks i w b unit chunks world begins there = all_by_get (IsChunk i.shape) chunks
-    (λ line c at. found_is_chunk i w unit line b c world begins (ap (option_and_then (λ (cs : List Chunk). slice_get cs line)) there ∙ at))
+  abbrev found : Image
+  found = found_image i (log_of w)
 
-pub found_fit : (i : Image) (w : World) (b : Begun) → IsPlainWorld i w → begun (log_of w 0) ≡ Some b → IsFit (found_image i (log_of w))
-found_fit i w b world begins = record {
-  units = found_units i (log_of w) ∙ world.fit.units ∙ ap units (found_shape i (log_of w));
-  chunks = subst (λ (s : Shape). AllByRecursion (λ (unit : List Chunk). length unit ≡ s.chunks) (found_image i (log_of w)).units) (found_shape i (log_of w)) (found_chunks i (log_of w) world.fit.chunks);
-  each = subst (λ (s : Shape). AllByRecursion (AllByRecursion (IsChunk s)) (found_image i (log_of w)).units) (found_shape i (log_of w))
-      (all_by_get (AllByRecursion (IsChunk i.shape)) (found_image i (log_of w)).units (λ unit chunks there. unit_chunks i w b unit chunks world begins there));
-}
+  abbrev front : ℕ
+  front = synced i.shape (log_of w 0)
 
-pub found_whole : (i : Image) (w : World) → IsPlainWorld i w → IsSealed i → IsSealed (found_image i (log_of w))
-found_whole i w world sealed = found_sealed i w (log_of w) world.accepted world.fit sealed world.legal (whole w)
+  made : (h : StartRecord) → HasNewHead found now (entries i w) front h → IsAssembled now h (entries i w) front (sector_of found)
+  made h n = assembled found now (entries i w) front (after_mount i w b mount has begins) h n
 
--- ---- a line that wasn't opened
+  end_before : AllOld i w b mount has begins → end now ≡ front
+  end_before all = end_same found now (reduced i w b mount has begins all) ∙ sym (none_landed i w b mount has begins all)
 
-pub record IsOld (i : Image) (w : World) (line : ℕ) : Type 0 where
-  pub start : start_of (media i (log_of w)) line ≡ start_of (found_image i (log_of w)) line
-  pub bears : line_records (media i (log_of w)) line ≡ line_records (found_image i (log_of w)) line
+  -- ---- the end is between the fronts
 
-pub same_count : (i : Image) (w : World) → length (media i (log_of w)).units ≡ length (found_image i (log_of w)).units
-same_count i w = length_media i (log_of w) ∙ sym (found_units i (log_of w))
+  pub end_above : front ≤ end now
+  end_above = go (which i w b mount has begins)
+    where
+      go : WhichHead i w b mount has begins → front ≤ end now
+      go (OfMount h n) = assembly.end_above now h (entries i w) front (sector_of found) (made h n)
+      go (AsBefore all) = let same : end now ≡ front = end_before all in omega arith
 
-kept_old : (i : Image) (w : World) (line : ℕ) → ((unit : ℕ) → chunk_in (media i (log_of w)) line unit ≡ chunk_in (found_image i (log_of w)) line unit) → IsOld i w line
-kept_old i w line kept =
-    let same : IsSameLine (found_image i (log_of w)) (media i (log_of w)) line = line_kept (found_image i (log_of w)) (media i (log_of w)) line (found_shape i (log_of w)) (same_count i w) kept in
-    record { start = same.start; bears = same.records }
+  pub end_within : end now ≤ taken (log_of w 0)
+  end_within = go (which i w b mount has begins)
+    where
+      go : WhichHead i w b mount has begins → end now ≤ taken (log_of w 0)
+      go (AsBefore all) =
+          let same : end now ≡ front = end_before all in
+          let most : front ≤ taken (log_of w 0) = synced_within i.shape (log_of w 0) in
+          omega arith
+      go (OfMount h n) =
+          let most = assembly.end_within now h (entries i w) front (sector_of found) (made h n) in
+          let count : length (map (given_of i.shape) (takes (log_of w 0))) ≡ length (takes (log_of w 0)) =
+          length-map (takes (log_of w 0)) (given_of i.shape) in
+          omega arith
 
--- past the last line there is no chunk to be lost
-pub past_kept : (i : Image) (w : World) (line : ℕ) → IsPlainWorld i w → (line < (found_image i (log_of w)).shape.chunks → ⊥) → IsLostLine (found_image i (log_of w)) (media i (log_of w)) line
-    → (unit : ℕ) → chunk_in (media i (log_of w)) line unit ≡ chunk_in (found_image i (log_of w)) line unit
-past_kept i w line world past lost unit = elim (lost.chunks unit) [
-  | inl same ↦ same
-  | inr at ↦
-      let inside = in_range (found_image i (log_of w)) i.shape.chunks line unit at.old (found_chunks i (log_of w) world.fit.chunks) at.was in
-      absurd (past (subst (λ (s : Shape). line < s.chunks) (found_shape i (log_of w)) inside.1))
-]
+  -- ---- the contents
 
-pub in_or_past : (n m : ℕ) → (n < m) ⊎ ((n < m) → ⊥)
-in_or_past n m = elim (cases_lt n m) [ inl less ↦ inl less | inr past ↦ inr (λ less. omega arith) ]
+  sector_count : (s : ℕ) → length (sectors_below i w s) ≡ i.shape.capacity
+  sector_count s =
+      after_length (contents found) (take (users (user_positions (log_of w 0)) s) (history (log_of w 0))) ∙ contents_count found
+      ∙ ap (λ (x : Shape). x.capacity) (sym (found_shape i (log_of w)))
 
-lost_old : (i : Image) (w : World) (line : ℕ) (b : Begun) → IsPlainWorld i w → IsSealed i → begun (log_of w 0) ≡ Some b → IsLostLine (found_image i (log_of w)) (media i (log_of w)) line → IsOld i w line
-lost_old i w line b world sealed begins lost = elim (in_or_past line (found_image i (log_of w)).shape.chunks) [
-  | inr past ↦ kept_old i w line (past_kept i w line world past lost)
-  | inl inside ↦
-      let none : start_of (media i (log_of w)) line ≡ None =
-      line_lost (found_image i (log_of w)) (media i (log_of w)) line (found_accepted i w world) (found_fit i w b world begins) (found_whole i w world sealed) (found_shape i (log_of w)) (same_count i w) inside lost in
-      record {
-        start = none ∙ sym lost.no_start;
-        bears = ap (records_after (media i (log_of w)) line) none ∙ sym (ap (records_after (found_image i (log_of w)) line) lost.no_start);
-      }
-]
+  found_at : (lba : ℕ) → lba < i.shape.capacity → slice_get (contents found) lba ≡ Some (sector_of found lba)
+  found_at lba inside = contents_at found lba (subst (λ (s : Shape). lba < s.capacity) (found_shape i (log_of w)) inside)
 
-old_line : (i : Image) (w : World) (line : ℕ) (b : Begun) → IsPlainWorld i w → IsSealed i → begun (log_of w 0) ≡ Some b → is_opened (life_of (log_of w 0) line) ≡ false → IsOld i w line
-old_line i w line b world sealed begins unopened = elim (kept_or_lost i w line b world begins unopened) [
-  | inl kept ↦ kept_old i w line kept
-  | inr lost ↦ lost_old i w line b world sealed begins lost
-]
+  are_sectors : AreSectors (entries i w) (end now) (sector_of found) i.shape.capacity (sectors_below i w (end now))
+  are_sectors = record {
+    count = sector_count (end now);
+    last = λ lba p inside last.
+        let t = latest_entry i w b mount has begins lba (end now) p last in
+        latest_is_held i w mount lba (end now) inside t.0 t.1 ∙ ap Some (sym t.3);
+    none = λ lba inside none.
+        found_is_held i w mount lba (end now) inside (none_taken i w b mount has begins lba (end now) inside none) ∙ found_at lba inside;
+  }
 
--- ---- the media after the mount began
+  -- nothing was taken below the end that was found
+  none_below : AllOld i w b mount has begins → contents found ≡ sectors_below i w (end now)
+  none_below all = same_lists (contents found) (sectors_below i w (end now)) (λ k. at k (cases_lt k i.shape.capacity))
+    where
+      at : (k : ℕ) → (k < i.shape.capacity) ⊎ (i.shape.capacity ≤ k) → slice_get (contents found) k ≡ slice_get (sectors_below i w (end now)) k
+      at k (inl inside) = sym (found_is_held i w mount k (end now) inside (none_taken i w b mount has begins k (end now) inside (λ p e low.
+          let from : (entries i w).first ≤ p = e.entry.from in
+          let first : (entries i w).first ≡ end found = first_found i w b mount.legal begins in
+          let same : end now ≡ front = end_before all in
+          let landed : front ≡ end found = none_landed i w b mount has begins all in
+          omega arith)))
+      at k (inr past) =
+          let count : length (sectors_below i w (end now)) ≡ i.shape.capacity = sector_count (end now) in
+          let was : length (contents found) ≡ i.shape.capacity = contents_count found ∙ ap (λ (x : Shape). x.capacity) (sym (found_shape i (log_of w))) in
+          slice_get_past (contents found) k (omega arith) ∙ sym (slice_get_past (sectors_below i w (end now)) k (omega arith))
 
-abbrev pub lines_of : World → List SectorWrite
-lines_of w = map line_of (takes (log_of w 0))
+  contents_below : contents now ≡ sectors_below i w (end now)
+  contents_below = go (which i w b mount has begins)
+    where
+      go : WhichHead i w b mount has begins → contents now ≡ sectors_below i w (end now)
+      go (OfMount h n) = contents_are_sectors now h (entries i w) front (sector_of found) (sectors_below i w (end now)) (made h n) are_sectors
+      go (AsBefore all) = contents_same found now (reduced i w b mount has begins all) ∙ none_below all
 
-abbrev pub opened_in : World → ℕ → Bool
-opened_in w line = is_opened (life_of (log_of w 0) line)
+  pub begun_contents : contents now ≡ after (contents i) (take (users (user_positions (log_of w 0)) (end now)) (history (log_of w 0)))
+  begun_contents =
+      let held : HoldsTheSame i found = found_holds i w (log_of w) mount.accepted mount.fit sealed mount.legal (whole w) in
+      contents_below ∙ ap (λ base. after base (take (users (user_positions (log_of w 0)) (end now)) (history (log_of w 0)))) held.contents
 
-pub given_count : (w : World) → length (map given_of (lines_of w)) ≡ length (takes (log_of w 0))
-given_count w = length_mapped given_of (lines_of w) ∙ length_mapped line_of (takes (log_of w 0))
+  -- ---- the end where all that was placed has landed
 
-first_is : (i : Image) (w : World) (b : Begun) → IsPlainWorld i w → begun (log_of w 0) ≡ Some b → first_position (log_of w 0) ≡ end (found_image i (log_of w))
-first_is i w b world begins = ap (λ (o : Option Begun). option_map_or (λ (x : Begun). x.beginning.first) o 0) begins ∙ found_first i w b world.legal begins
+  abbrev pub PlacedHaveLanded : Type 0
+  PlacedHaveLanded =
+      (p : Placed) (q : ℕ) → Contains (placements (log_of w 0)) p → holds_position i.shape q p ≡ true → has_landed_at i.shape (log_of w 0) q ≡ true
 
-pub continued : (i : Image) (w : World) (b : Begun) → IsPlainWorld i w → IsSealed i → begun (log_of w 0) ≡ Some b
-    → IsContinued (found_image i (log_of w)) (media i (log_of w)) (opened_in w) (entries_from (first_position (log_of w 0)) (lines_of w)) (synced i.shape (log_of w 0))
-continued i w b world sealed begins = record {
-  shape = found_shape i (log_of w);
-  first = first_is i w b world begins;
-  from = synced_from i.shape (log_of w 0);
-  within = (let most = synced_within i.shape (log_of w 0) in let count = given_count w in omega arith);
-  starts = λ line other. (old_line i w line b world sealed begins other).start;
-  bears = λ line other. (old_line i w line b world sealed begins other).bears;
-  in_range = λ line mine. subst (λ (s : Shape). line < s.chunks) (found_shape i (log_of w)) (opened_in_range i w line world mine);
-  numberless = λ line mine. (let o = opening_of (log_of w 0) line mine in (started i w world line o.0 o.1).numberless);
-  numbered = λ line r mine stands. (let o = opening_of (log_of w 0) line mine in
-      subst (IsNextStart (found_image i (log_of w)) (synced i.shape (log_of w 0))) (start_is i w line o.0 r world o.1 stands) (started i w world line o.0 o.1).next);
-  entries = λ r there mine.
-      let e : IsOfEntry w r = of_entry i w r world there mine in (
-        given_of (line_of e.entry),
-        record {
-          from = e.from;
-          there = get_mapped given_of (lines_of w) (r.position - first_position (log_of w 0)) (line_of e.entry) (get_mapped line_of (takes (log_of w 0)) (r.position - first_position (log_of w 0)) e.entry e.there);
-        },
-        e.lba,
-        e.sector,
-      );
-  landed = λ p from below.
-      let borne = landed_borne i w p world (synced_is i.shape (log_of w 0) p from below) in
-      (borne.0, borne.1.there, borne.1.opened, borne.1.position);
-}
+  -- a record of a line of the mount stands in a position that was placed
+  record_placed : (x : Record) → Contains (records now) x → next_seq (head found) ≤ x.seq
+      → (p : Placed) × Contains (placements (log_of w 0)) p × (holds_position i.shape x.position p ≡ true)
+  record_placed x there high =
+      let at : IsAt now x = record_is_at now x there in
+      elim (unopened_or_opened (life_of (log_of w 0) x.line)) [
+        | inl unopened ↦
+            let low : at.start.seq < next_seq (head found) =
+            old_below found now (entries i w) front (after_mount i w b mount has begins) x.line at.start at.in_range
+            (old_line i w x.line at.start has.old unopened at.whole) in
+            let seq : x.seq ≡ at.start.seq = at.seq in
+            absurd (omega arith)
+        | inr opened ↦
+            let p = has.new.placed x.line opened.0 x opened.1 (contained_among (line_records now x.line) x at.there) in
+            let among = from_filter (λ (q : Placed). is_life opened.0.number q.life) (placements (log_of w 0)) p.0
+            (among_contained (stripes_of (log_of w 0) opened.0) p.0 p.1) in
+            (p.0, contained_among (placements (log_of w 0)) p.0 among, p.2)
+      ]
 
--- ---- the law
+  pub end_is_synced : PlacedHaveLanded → end now ≡ front
+  end_is_synced all = go (which i w b mount has begins)
+    where
+      none_more : (h : StartRecord) → HasNewHead found now (entries i w) front h → front < end now → ⊥
+      none_more h n more =
+          let from : h.front ≤ front = n.start.within in
+          let x = (end_is_end now h n.head).least front from more in
+          let mount_seq : h.first_seq ≤ x.0.seq = x.2.mount in
+          let first : h.first_seq ≡ next_seq (head found) = n.start.first_seq in
+          let p = record_placed x.0 x.1 (omega arith) in
+          let landed : has_landed_at i.shape (log_of w 0) x.0.position ≡ true = all p.0 x.0.position p.1 p.2 in
+          let within : end now ≤ taken (log_of w 0) = end_within in
+          no_both (has_landed_at i.shape (log_of w 0) front) (ap (has_landed_at i.shape (log_of w 0)) (sym x.2.position) ∙ landed)
+          (synced_missing i.shape (log_of w 0) (omega arith))
 
-take_none : {X : Type 0} (n : ℕ) (xs : List X) → xs ≡ [] → take n xs ≡ []
-take_none n xs none = ap (take n) none ∙ take_nothing n
+      go : WhichHead i w b mount has begins → end now ≡ front
+      go (AsBefore old) = end_before old
+      go (OfMount h n) = elim (cases_order front (end now)) [
+        | inl e ↦ sym e
+        | inr (inl less) ↦ absurd (none_more h n less)
+        | inr (inr more) ↦ (let above : front ≤ end now = end_above in absurd (omega arith))
+      ]
 
--- once the mount has begun the end is between the fronts
-pub end_above : (i : Image) (w : World) (b : Begun) → IsPlainWorld i w → IsSealed i → begun (log_of w 0) ≡ Some b → synced i.shape (log_of w 0) ≤ end (media i (log_of w))
-end_above i w b world sealed begins =
-    front_above (found_image i (log_of w)) (media i (log_of w)) (opened_in w) (entries_from (first_position (log_of w 0)) (lines_of w)) (synced i.shape (log_of w 0)) (continued i w b world sealed begins)
-
-pub end_within : (i : Image) (w : World) (b : Begun) → IsPlainWorld i w → IsSealed i → begun (log_of w 0) ≡ Some b → end (media i (log_of w)) ≤ taken (log_of w 0)
-end_within i w b world sealed begins =
-    let most = end_among (found_image i (log_of w)) (media i (log_of w)) (opened_in w) (entries_from (first_position (log_of w 0)) (lines_of w)) (synced i.shape (log_of w 0)) (continued i w b world sealed begins) in
-    let count = given_count w in
-    omega arith
-
-begun_contents : (i : Image) (w : World) (b : Begun) → IsPlainWorld i w → IsSealed i → begun (log_of w 0) ≡ Some b
-    → contents (media i (log_of w)) ≡ after (contents i) (take (users (user_positions (log_of w 0)) (end (media i (log_of w)))) (history (log_of w 0)))
-begun_contents i w b world sealed begins =
-    let held : HoldsTheSame i (found_image i (log_of w)) = found_holds i w (log_of w) world.accepted world.fit sealed world.legal (whole w) in
-    let low : first_position (log_of w 0) ≤ end (media i (log_of w)) = (let a = synced_from i.shape (log_of w 0) in let c = end_above i w b world sealed begins in omega arith) in
-    let number : users (user_positions (log_of w 0)) (end (media i (log_of w))) ≡ end (media i (log_of w)) - first_position (log_of w 0) = count_users i w (end (media i (log_of w))) world low (end_within i w b world sealed begins) in
-    contents_are (found_image i (log_of w)) (media i (log_of w)) (opened_in w) (first_position (log_of w 0)) (synced i.shape (log_of w 0)) (lines_of w) (continued i w b world sealed begins)
-    ∙ ap (λ base. after base (take (end (media i (log_of w)) - first_position (log_of w 0)) (lines_of w))) held.contents
-    ∙ ap₂ (λ n ws. after (contents i) (take n ws)) (sym number) (sym (history_is i w world))
+-- ---- with a beginning or without
 
 -- a mount that didn't begin changes nothing
-pub without_beginning : (i : Image) (w : World) → IsPlainWorld i w → IsSealed i → begun (log_of w 0) ≡ None → HoldsTheSame i (media i (log_of w))
-without_beginning i w world sealed none = early_holds i w (log_of w) world.accepted world.fit sealed world.legal (whole w) (early_before i w world.legal none)
+pub without_beginning : (i : Image) (w : World) → IsLegalMount i w → IsSealed i → begun (log_of w 0) ≡ None → HoldsTheSame i (media i (log_of w))
+without_beginning i w mount sealed none =
+    early_holds i w (log_of w) mount.accepted mount.fit sealed mount.legal (whole w) (early_before i w mount.legal none)
 
-pub prefix_contents : (i : Image) (w : World) → IsPlainWorld i w → IsSealed i
-    → contents (media i (log_of w)) ≡ after (contents i) (take (users (user_positions (log_of w 0)) (end (media i (log_of w)))) (history (log_of w 0)))
-prefix_contents i w world sealed = go (begun (log_of w 0)) refl
+nothing_logged : (i : Image) (w : World) → IsLegalMount i w → begun (log_of w 0) ≡ None → log_of w 0 ≡ []
+nothing_logged i w mount none = go (log_of w 0) refl
   where
-    go : (o : Option Begun) → begun (log_of w 0) ≡ o → contents (media i (log_of w)) ≡ after (contents i) (take (users (user_positions (log_of w 0)) (end (media i (log_of w)))) (history (log_of w 0)))
-    go (Some b) e = begun_contents i w b world sealed e
-    go None e =
-        let empty : log_of w 0 ≡ [] = (living i w world).begins e in
-        (without_beginning i w world sealed e).contents ∙ ap (after (contents i)) (sym (take_none (users (user_positions (log_of w 0)) (end (media i (log_of w)))) (history (log_of w 0)) (ap history empty)))
+    go : (log : List Logged) → log_of w 0 ≡ log → log ≡ []
+    go [] e = refl
+    go (l ∷ log) e = let begins = has_begun i w l log mount.legal e in absurd (none-some begins.0 (sym none ∙ begins.1))
 
-pub prefix_above : (i : Image) (w : World) → IsPlainWorld i w → IsSealed i → synced i.shape (log_of w 0) ≤ end (media i (log_of w))
-prefix_above i w world sealed = go (begun (log_of w 0)) refl
+pub prefix_contents : (i : Image) (w : World) → IsLegalMount i w → IsSealed i
+    → contents (media i (log_of w)) ≡ after (contents i) (take (users (user_positions (log_of w 0)) (end (media i (log_of w)))) (history (log_of w 0)))
+prefix_contents i w mount sealed = go (begun (log_of w 0)) refl
+  where
+    go : (o : Option Begun) → begun (log_of w 0) ≡ o
+        → contents (media i (log_of w)) ≡ after (contents i) (take (users (user_positions (log_of w 0)) (end (media i (log_of w)))) (history (log_of w 0)))
+    go (Some b) e = begun_contents i w b mount sealed e
+    go None e =
+        let count : ℕ = users (user_positions (log_of w 0)) (end (media i (log_of w))) in
+        (without_beginning i w mount sealed e).contents
+        ∙ sym (ap (after (contents i)) (ap (λ (log : List Logged). take count (history log)) (nothing_logged i w mount e) ∙ take_nothing count))
+
+pub prefix_above : (i : Image) (w : World) → IsLegalMount i w → IsSealed i → synced i.shape (log_of w 0) ≤ end (media i (log_of w))
+prefix_above i w mount sealed = go (begun (log_of w 0)) refl
   where
     go : (o : Option Begun) → begun (log_of w 0) ≡ o → synced i.shape (log_of w 0) ≤ end (media i (log_of w))
-    go (Some b) e = end_above i w b world sealed e
+    go (Some b) e = end_above i w b mount sealed e
     go None e =
-        let empty : taken (log_of w 0) ≡ 0 = ap taken ((living i w world).begins e) in
-        let most = synced_within i.shape (log_of w 0) in
+        let empty : taken (log_of w 0) ≡ 0 = ap taken (nothing_logged i w mount e) in
+        let most : synced i.shape (log_of w 0) ≤ taken (log_of w 0) = synced_within i.shape (log_of w 0) in
         omega arith
+
+-- where each placed stripe is answered and none was lost
+pub end_where_answered : (i : Image) (w : World) (b : Begun) (mount : IsLegalMount i w) (sealed : IsSealed i) (begins : begun (log_of w 0) ≡ Some b)
+    → NoneLost (log_of w 0) → ((p : Placed) → Contains (placements (log_of w 0)) p → is_answered (log_of w 0) p ≡ true)
+    → end (media i (log_of w)) ≡ synced i.shape (log_of w 0)
+end_where_answered i w b mount sealed begins none answered =
+    end_is_synced i w b mount sealed begins (placed_have_landed i.shape (log_of w 0) none answered)
+
+-- ---- with cuts of units
+
+-- the history and the fronts are those of the world that was cut
+pub cut_contents : (i : Image) (w : World) (steps : List Step) → IsLegalMount i w → AreCuts i w steps → IsSealed i
+    → contents (media i (log_of (steps ++ w)))
+    ≡ after (contents i) (take (users (user_positions (log_of w 0)) (end (media i (log_of (steps ++ w))))) (history (log_of w 0)))
+cut_contents i w steps mount cuts sealed =
+    prefix_contents i (steps ++ w) (cut_mount i w steps mount cuts) sealed
+    ∙ ap (λ (log : List Logged). after (contents i) (take (users (user_positions log) (end (media i (log_of (steps ++ w))))) (history log)))
+    (engine_uncut i w steps cuts)
+
+pub cut_above : (i : Image) (w : World) (steps : List Step) → IsLegalMount i w → AreCuts i w steps → IsSealed i
+    → synced i.shape (log_of w 0) ≤ end (media i (log_of (steps ++ w)))
+cut_above i w steps mount cuts sealed =
+    subst (λ (log : List Logged). synced i.shape log ≤ end (media i (log_of (steps ++ w)))) (engine_uncut i w steps cuts)
+    (prefix_above i (steps ++ w) (cut_mount i w steps mount cuts) sealed)
+
+pub cut_within : (i : Image) (w : World) (steps : List Step) (b : Begun) → IsLegalMount i w → AreCuts i w steps → IsSealed i
+    → begun (log_of w 0) ≡ Some b → end (media i (log_of (steps ++ w))) ≤ taken (log_of w 0)
+cut_within i w steps b mount cuts sealed begins =
+    subst (λ (log : List Logged). end (media i (log_of (steps ++ w))) ≤ taken log) (engine_uncut i w steps cuts)
+    (end_within i (steps ++ w) b (cut_mount i w steps mount cuts) sealed (ap begun (engine_uncut i w steps cuts) ∙ begins))

@@ -11,7 +11,8 @@ use Rattle.pblk_model.specs.Image.{Image, width, block_at}
 use Rattle.pblk_model.specs.EndRecord.{end_of}
 use Rattle.pblk_model.specs.StartRecord.{StartRecord, start_of}
 use Rattle.pblk_model.specs.Records.{Record, named, mark_at, bears, record_at, records_after, line_records, records}
-use Rattle.prefix_law.proofs.Among.{flat_into, flat_from, made_into, made_from}
+use Rattle.pblk_laws.proofs.MarkNames.{sector_exactly}
+use Rattle.prefix_law.proofs.Among.{flat_into, flat_from, made_from}
 use Rattle.lemmas.proofs.Lists.{IsAmong, among_contained}
 use Rattle.lemmas.proofs.Maps.{range_get}
 use Rattle.lemmas.proofs.Options.{map_some, split_then}
@@ -55,7 +56,8 @@ record_is_at i r there =
     let below : line.0 < i.shape.chunks = which.1 in
     by line.1 (omega arith) (start_of i line.1) refl line.3 line.3
   where
-    by : (line : ℕ) → line < i.shape.chunks → (o : Option StartRecord) → start_of i line ≡ o → IsAmong (records_after i line o) r → IsAmong (line_records i line) r → IsAt i r
+    by : (line : ℕ) → line < i.shape.chunks → (o : Option StartRecord) → start_of i line ≡ o → IsAmong (records_after i line o) r
+        → IsAmong (line_records i line) r → IsAt i r
     by line range None e at mine = absurd (none-some r at.1)
     by line range (Some start) e at mine =
         let made = made_from (record_at i line start) (range_with_len 0 (width i line * i.shape.clba)) r at in
@@ -71,17 +73,29 @@ record_is_at i r there =
           there = subst (λ l. IsAmong (line_records i l) r) (sym is.0) mine;
         }
 
-pub at_is_record : (i : Image) (line a : ℕ) (start : StartRecord) (r : Record) → line < i.shape.chunks → a < width i line * i.shape.clba → start_of i line ≡ Some start → record_at i line start a ≡ Some r → Contains (records i) r
-at_is_record i line a start r range inside whole bears =
-    contained_among (records i) r (flat_into (line_records i) (range_with_len 0 i.shape.chunks) line line r (range_get 0 i.shape.chunks line range ∙ ap (λ m. Some m) (zero-add line))
-    (at (start_of i line) whole))
-  where
-    at : (o : Option StartRecord) → o ≡ Some start → IsAmong (records_after i line o) r
-    at None e = absurd (none-some start e)
-    at (Some x) e = made_into (record_at i line x) (range_with_len 0 (width i line * i.shape.clba)) a a r (range_get 0 (width i line * i.shape.clba) a inside ∙ ap (λ m. Some m) (zero-add a))
-        (ap (λ y. record_at i line y a) (same_Some x start e) ∙ bears)
-
 -- a record of a line's
 pub of_line : (i : Image) (line : ℕ) (r : Record) → line < i.shape.chunks → IsAmong (line_records i line) r → Contains (records i) r
 of_line i line r range at =
-    contained_among (records i) r (flat_into (line_records i) (range_with_len 0 i.shape.chunks) line line r (range_get 0 i.shape.chunks line range ∙ ap (λ m. Some m) (zero-add line)) at)
+    contained_among (records i) r (flat_into (line_records i) (range_with_len 0 i.shape.chunks) line line r
+    (range_get 0 i.shape.chunks line range ∙ ap (λ m. Some m) (zero-add line)) at)
+
+-- a record of a line's names that line
+pub names_line : (i : Image) (line : ℕ) (r : Record) → IsAmong (line_records i line) r → r.line ≡ line
+names_line i line r at = by (start_of i line) at
+  where
+    by : (o : Option StartRecord) → IsAmong (records_after i line o) r → r.line ≡ line
+    by None at = absurd (none-some r at.1)
+    by (Some start) at =
+        let made = made_from (record_at i line start) (range_with_len 0 (width i line * i.shape.clba)) r at in
+        (placed i r line made.1 start made.3).0
+
+-- a record of a sector names one of the user sectors
+pub lba_inside : (i : Image) (lba : ℕ) (r : Record) → Contains (records i) r → r.lba ≡ Some lba → lba < i.shape.capacity
+lba_inside i lba r there of_it =
+    let at : IsAt i r = record_is_at i r there in
+    let block =
+    split_then (λ b. option_and_then (bears i.shape r.line at.start.seq at.address b) (mark_at i.shape (end_of i r.line at.start) at.address b))
+    (block_at i r.line at.address) r at.bears in
+    let mark = split_then (bears i.shape r.line at.start.seq at.address block.0) (mark_at i.shape (end_of i r.line at.start) at.address block.0) r block.2 in
+    let name = map_some (record_with r.line at.start.seq at.address block.0 mark.0) (named i.shape mark.0) r mark.2 in
+    ((sector_exactly i.shape mark.0 lba).0 (name.1 ∙ ap Some (ap (λ (x : Record). x.lba) name.2 ∙ of_it))).1

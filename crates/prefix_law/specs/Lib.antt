@@ -1,2 +1,3 @@
 pub mod Assembled
-pub mod Continued
+pub mod AfterMount
+pub mod Cuts

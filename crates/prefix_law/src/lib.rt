@@ -1,18 +1,19 @@
-//! The law that a drive's contents are those after a prefix of the history, in a plain world over a sealed
-//! drive.
+//! The law that a drive's contents are those after a prefix of the history, in every legal world over a sealed
+//! drive: units may fail and stop, and the engine may copy sectors and free lines.
 //!
 //! - The contents that recovery defines are those before, changed by the lines of the history below the end.
 //!   The end is at the front synced or above it, and once the mount has begun at most the front taken.
-//! - Where each placed stripe is answered, the end is the front synced.
+//! - The same holds after a stop that cuts any of the units.
+//! - Where each placed stripe is answered and none was lost, the end is the front synced.
 //! - A world in which no mount has begun leaves the contents as they were.
 //! - The drive stays sealed.
 //!
-//! `specs/` says, without logs, what the contents of an image are assembled from.
+//! `specs/` says, without logs, what an image is after a mount, and what its contents are assembled from.
 #![tactic(auto)]
 
 mod laws;
 
 pub use laws::{
-    contents_are_after_a_prefix, no_mount_changes_nothing, the_end_is_the_front_synced,
-    the_media_are_sealed,
+    a_cut_of_each_unit_leaves_a_prefix, contents_are_after_a_prefix, no_mount_changes_nothing,
+    the_end_is_the_front_synced, the_end_is_where_what_was_placed_has_landed, the_media_are_sealed,
 };

@@ -1,6 +1,7 @@
 -- What a mount began with: the end and the next sequence number of the image that it found.
-use Rattle.std.proofs.Common.{◌≡◌, ℕ, suc, Some, List, [], ◌∷◌, take, sym, ap, ◌∙◌}
+use Rattle.std.proofs.Common.{◌≡◌, ℕ, suc, Some, Option, List, [], ◌∷◌, take, sym, ap, ◌∙◌}
 use Rattle.std.specs.Prelude.{slice_get}
+use Rattle.std.specs.Option.{option_map_or}
 use Rattle.std.proofs.lemmas.List.{take-append-le}
 use Rattle.std.proofs.lemmas.Option.{none-some, same_Some}
 use Rattle.pblk_model.specs.Image.{Image}
@@ -8,6 +9,7 @@ use Rattle.pblk_model.specs.Contents.{head, end}
 use Rattle.pblk_world.specs.Events.{Beginning, Begin, Decides, Logged}
 use Rattle.pblk_world.specs.World.{World, log_of, known, prefixes, cut_logs, media}
 use Rattle.pblk_world.specs.EngineLog.{Begun, begun_by, begun}
+use Rattle.pblk_world.specs.Fronts.{first_position}
 use Rattle.pblk_world.specs.Legal.{IsLegal}
 use Rattle.pblk_world.specs.Lines.{found_by, found_image, next_seq}
 use Rattle.pblk_world.proofs.EngineLogLemmas.{begun_first}
@@ -15,6 +17,10 @@ use Rattle.pblk_world.proofs.WorldLemmas.{media_same}
 use Rattle.world_laws.proofs.Beginnings.{first_begins}
 use Rattle.world_laws.proofs.Made.{IsMade, made, log_then}
 use Rattle.world_laws.proofs.Openings.{allowed_by}
+
+-- the first position is what the beginning names
+pub first_is : (log : List Logged) (g : Begun) → begun log ≡ Some g → first_position log ≡ g.beginning.first
+first_is log g is = ap (λ (o : Option Begun). option_map_or (λ (b : Begun). b.beginning.first) o 0) is
 
 pub record IsBegunWith (i : Image) (w : World) (g : Begun) : Type 0 where
   pub first : g.beginning.first ≡ end (found_image i (log_of w))

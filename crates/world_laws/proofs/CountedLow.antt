@@ -23,7 +23,7 @@ rows_low s r least (row ∷ rows) fits = (
   rows_low s r (row.line + 1) rows (second_of _ (rows_fit s r (row.line + 1) rows) fits),
 )
 
-head_rows_low : (j : Image) (h : StartRecord) → head j ≡ Some h → AllByRecursion (λ (row : Row). row.bound ≤ h.front) h.rows
+pub head_rows_low : (j : Image) (h : StartRecord) → head j ≡ Some h → AllByRecursion (λ (row : Row). row.bound ≤ h.front) h.rows
 head_rows_low j h is_head =
     let at = head_is_head j h is_head in
     let is : IsHead j at.0 h = at.1 in

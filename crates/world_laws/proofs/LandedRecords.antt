@@ -27,7 +27,7 @@ use Rattle.world_laws.proofs.Stripes.{opening_then, placed_before_freed, stripe_
 
 -- Each block of a stripe has an address in its line, by the image that the engine knows while the stripe's life
 -- stands.
-pub HavePlaces : Image → World → Type 0
+unfoldable pub HavePlaces : Image → World → Type 0
 HavePlaces i w = (o : Opening) (p : Placed) (k index : ℕ) → Contains (stripes_of (log_of w 0) o) p → life_of (take k (log_of w 0)) o.line ≡ Opened o
     → p.number < k → index < length p.stripe.blocks
     → (a : ℕ) × (place_of (known_image i (engine_prefix k (log_of w))) o.line a ≡ Some (p.stripe.unit, p.stripe.at + index))

@@ -41,7 +41,7 @@ placements_joined log (l ∷ more) =
           (all_imply (λ (p : Placed). length (log ++ l ∷ []) ≤ p.number) (λ (p : Placed). length log ≤ p.number) (λ p is. omega arith) rest.0 rest.2),
     )
 
-its_number : (log : List Logged) (n : ℕ) (e : Event) (p : Placed) → placed_by log n e ≡ Some p → p.number ≡ n
+pub its_number : (log : List Logged) (n : ℕ) (e : Event) (p : Placed) → placed_by log n e ≡ Some p → p.number ≡ n
 its_number log n (Decides (Place stripe)) p h = ap (λ (x : Placed). x.number) (sym (same_Some _ p h))
 its_number log n e p h = absurd (none-some p h)
 

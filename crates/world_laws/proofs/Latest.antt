@@ -58,7 +58,7 @@ pub record IsStandingAt (s : Shape) (log : List Logged) (position : ℕ) : Type 
 
 -- ---- entries by their positions
 
-one_entry : (i : Image) (w : World) (t u : Taken) → IsLegal i w → IsAmong (takes (log_of w 0)) t → IsAmong (takes (log_of w 0)) u
+pub one_entry : (i : Image) (w : World) (t u : Taken) → IsLegal i w → IsAmong (takes (log_of w 0)) t → IsAmong (takes (log_of w 0)) u
     → t.entry.position ≡ u.entry.position → t ≡ u
 one_entry i w t u legal a b positions =
     let first : t.entry.position ≡ first_position (log_of w 0) + a.0 = position_of i w a.0 t legal a.1 in

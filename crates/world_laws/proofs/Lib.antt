@@ -21,3 +21,9 @@ pub mod LandedRecords
 pub mod CountedLow
 pub mod Latest
 pub mod WinnerLines
+pub mod StartFits
+pub mod EndHeads
+pub mod StripeBlocks
+pub mod HeldSectors
+pub mod WinnerBlocks
+pub mod TakenEvents

@@ -166,7 +166,7 @@ newer_than_head i w h o legal is_head at =
     (omega arith, omega arith)
 
 -- of two openings one with a greater number is later
-later_front : (i : Image) (w : World) (o p : Opening) → IsLegal i w → IsAmong (openings (log_of w 0)) o → IsAmong (openings (log_of w 0)) p
+pub later_front : (i : Image) (w : World) (o p : Opening) → IsLegal i w → IsAmong (openings (log_of w 0)) o → IsAmong (openings (log_of w 0)) p
     → o.start.seq ≤ p.start.seq → o.start.front ≤ p.start.front
 later_front i w o p legal a b h =
     let is : IsNthOpening i w a.0 o = nth_opening i w a.0 o legal a.1 in

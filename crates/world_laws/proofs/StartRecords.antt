@@ -110,8 +110,8 @@ front_synced i w n o legal at =
     omega arith
 
 -- an opening isn't the first event
-not_first : (i : Image) (w : World) (n : ℕ) (o : Opening) → IsLegal i w → slice_get (openings (log_of w 0)) n ≡ Some o → 0 < o.number
-not_first i w n o legal at =
+pub opened_later : (i : Image) (w : World) (n : ℕ) (o : Opening) → IsLegal i w → slice_get (openings (log_of w 0)) n ≡ Some o → 0 < o.number
+opened_later i w n o legal at =
     let is : IsOpening (log_of w 0) n o = opening_is (log_of w 0) n o at in
     let turn : (g : Begun) × (begun (take o.number (log_of w 0)) ≡ Some g) =
     subst (λ (e : Event). IsInTurn (take o.number (log_of w 0)) e) is.event (turn_of i w o.number is.logged legal is.there) in
@@ -121,7 +121,7 @@ not_first i w n o legal at =
 pub front_from_first : (i : Image) (w : World) (n : ℕ) (o : Opening) → IsLegal i w → slice_get (openings (log_of w 0)) n ≡ Some o
     → first_position (log_of w 0) ≤ o.start.front
 front_from_first i w n o legal at =
-    let later : 0 < o.number = not_first i w n o legal at in
+    let later : 0 < o.number = opened_later i w n o legal at in
     let front : o.start.front ≡ synced i.shape (take o.number (log_of w 0)) = (nth_opening i w n o legal at).may.front in
     let from : first_position (take o.number (log_of w 0)) ≤ synced i.shape (take o.number (log_of w 0)) = synced_from i.shape (take o.number (log_of w 0)) in
     let first : first_position (take o.number (log_of w 0)) ≡ first_position (log_of w 0) =

@@ -1,5 +1,5 @@
 -- The image that the engine knows, by what it was told.
-use Rattle.std.proofs.Common.{◌≡◌, ℕ, zero, suc, Option, List, [], ◌∷◌, take, refl, sym, subst, ap, ap₂, ◌∙◌, arith}
+use Rattle.std.proofs.Common.{◌≡◌, ℕ, ◌<◌, zero, suc, Option, List, [], ◌∷◌, take, refl, sym, subst, ap, ap₂, ◌∙◌, arith}
 use Rattle.std.specs.Prelude.{map}
 use Rattle.std.specs.List.{Contains, filter_map, cons_option, enumerate_from}
 use Rattle.pblk_model.specs.Chunk.{Chunk}
@@ -51,6 +51,10 @@ told_back i a b h = record {
 
 pub found_then : (i : Image) (logs : Logs) (n : ℕ) → found_image i (engine_prefix (suc n) logs) ≡ found_image i logs
 found_then i logs n = ap (λ o. found_by i logs o) (begun_taken (suc n) (logs 0) (omega arith))
+
+pub found_at : (i : Image) (logs : Logs) (n : ℕ) → 0 < n → found_image i (engine_prefix n logs) ≡ found_image i logs
+found_at i logs zero some = absurd (omega arith)
+found_at i logs (suc n) some = found_then i logs n
 
 taken_there : (n : ℕ) (log : List Logged) (l : Logged) → Contains (take n log) l → Contains log l
 taken_there n log l there = let at = among_contained (take n log) l there in is_in log at.0 l (get_whole n log at.0 l at.1)

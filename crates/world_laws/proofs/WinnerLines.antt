@@ -35,11 +35,11 @@ use Rattle.world_laws.proofs.ToldImages.{found_then}
 
 -- ---- a line with a record that counts has a start record
 
-if_then : {X Y : Type 0} (P : Y → Type 0) (f : X → Option Y) (o : Option X) → ((x : X) → IfSome (f x) P) → IfSome (option_and_then f o) P
+pub if_then : {X Y : Type 0} (P : Y → Type 0) (f : X → Option Y) (o : Option X) → ((x : X) → IfSome (f x) P) → IfSome (option_and_then f o) P
 if_then P f None h = tt
 if_then P f (Some x) h = h x
 
-if_map : {X Y : Type 0} (P : Y → Type 0) (f : X → Y) (o : Option X) → ((x : X) → P (f x)) → IfSome (option_map f o) P
+pub if_map : {X Y : Type 0} (P : Y → Type 0) (f : X → Y) (o : Option X) → ((x : X) → P (f x)) → IfSome (option_map f o) P
 if_map P f None h = tt
 if_map P f (Some x) h = h x
 
@@ -57,7 +57,7 @@ start_of_record j line (Some start) e =
 records_have_start : (j : Image) → AllByRecursion (HasStart j) (records j)
 records_have_start j = all_flat_map (HasStart j) (line_records j) (range_with_len 0 j.shape.chunks) (λ line. start_of_record j line (start_of j line) refl)
 
-counted_has_start : (j : Image) (r : Record) → Contains (counted j) r → is_some (start_of j r.line) ≡ true
+pub counted_has_start : (j : Image) (r : Record) → Contains (counted j) r → is_some (start_of j r.line) ≡ true
 counted_has_start j r there = go (head j) there
   where
     go : (o : Option StartRecord) → Contains (counted_after (records j) o) r → is_some (start_of j r.line) ≡ true
@@ -67,7 +67,7 @@ counted_has_start j r there = go (head j) there
 
 -- ---- the first event that turns a line
 
-data FirstTurn (log : List Logged) (line : ℕ) : Type 0 where
+pub data FirstTurn (log : List Logged) (line : ℕ) : Type 0 where
   NoTurn : life_of log line ≡ AsFound → FirstTurn log line
   TurnAt : (k : ℕ) (l : Logged) → slice_get log k ≡ Some l → life_of (take k log) line ≡ AsFound
       → ((start : StartRecord) × (l.event ≡ Decides (Open line start))) ⊎ (l.event ≡ Decides (Free line)) → FirstTurn log line
@@ -92,7 +92,7 @@ one_turn line log l (NoTurn was) = go (turns line (length log) l.knows l.event)
     go (IsFree is) = turn_now log l line was (inr is)
     go (IsNeither none) = NoTurn (life_stays log l line none ∙ was)
 
-first_turn : (line : ℕ) (log : List Logged) → FirstTurn log line
+pub first_turn : (line : ℕ) (log : List Logged) → FirstTurn log line
 first_turn line log = by_last (λ log. FirstTurn log line) (NoTurn refl) (one_turn line) log
 
 -- ---- no two records are newer than each other
@@ -117,18 +117,28 @@ begin_open b line start e = cc
 begin_free : (b : Beginning) (line : ℕ) → Decides (Begin b) ≡ Decides (Free line) → ⊥
 begin_free b line e = cc
 
-not_opened : (i : Image) (w : World) (k : ℕ) (r : Record) (l : Logged) (start : StartRecord) → IsLegal i w → Contains (counted (found_image i (log_of w))) r
-    → slice_get (log_of w 0) (suc k) ≡ Some l → l.event ≡ Decides (Open r.line start) → life_of (take (suc k) (log_of w 0)) r.line ≡ AsFound → ⊥
-not_opened i w k r l start legal there at is was =
-    let may = opened_at i w (suc k) r.line start l legal at is in
+-- no line turns by the first event
+pub none_turns_first : (i : Image) (w : World) (line : ℕ) (l : Logged) → IsLegal i w → slice_get (log_of w 0) 0 ≡ Some l
+    → ((start : StartRecord) × (l.event ≡ Decides (Open line start))) ⊎ (l.event ≡ Decides (Free line)) → ⊥
+none_turns_first i w line l legal at is = let first = first_begins i w l legal at in elim is [
+  | inl opens ↦ begin_open first.0 line opens.0 (sym first.1 ∙ opens.1)
+  | inr frees ↦ begin_free first.0 line (sym first.1 ∙ frees)
+]
+
+-- a line that was found with a start record isn't opened before it is freed
+pub not_opened : (i : Image) (w : World) (k line : ℕ) (l : Logged) (start : StartRecord) → IsLegal i w
+    → is_some (start_of (found_image i (log_of w)) line) ≡ true → slice_get (log_of w 0) (suc k) ≡ Some l
+    → l.event ≡ Decides (Open line start) → life_of (take (suc k) (log_of w 0)) line ≡ AsFound → ⊥
+not_opened i w k line l start legal numbered at is was =
+    let may = opened_at i w (suc k) line start l legal at is in
     let known : Image = known_image i (engine_prefix (suc k) (log_of w)) in
-    let number : Bool = has_number i (engine_prefix (suc k) (log_of w)) (life_of (take (suc k) (log_of w 0)) r.line) r.line in
+    let number : Bool = has_number i (engine_prefix (suc k) (log_of w)) (life_of (take (suc k) (log_of w 0)) line) line in
     let free : not number ≡ true =
-    first_of (not number) (are_empty known r.line) (first_of (not number && are_empty known r.line) (nat_lt 0 (line_data known r.line)) may.2.is_free) in
-    let none : is_some (start_of (found_image i (log_of w)) r.line) ≡ false =
-    ap (λ (j : Image). is_some (start_of j r.line)) (sym (found_then i (log_of w) k))
-    ∙ ap (λ life. has_number i (engine_prefix (suc k) (log_of w)) life r.line) (sym was) ∙ not_true number free in
-    not_both (is_some (start_of (found_image i (log_of w)) r.line)) (counted_has_start (found_image i (log_of w)) r there) none
+    first_of (not number) (are_empty known line) (first_of (not number && are_empty known line) (nat_lt 0 (line_data known line)) may.2.is_free) in
+    let none : is_some (start_of (found_image i (log_of w)) line) ≡ false =
+    ap (λ (j : Image). is_some (start_of j line)) (sym (found_then i (log_of w) k))
+    ∙ ap (λ life. has_number i (engine_prefix (suc k) (log_of w)) life line) (sym was) ∙ not_true number free in
+    not_both (is_some (start_of (found_image i (log_of w)) line)) numbered none
 
 not_freed : (i : Image) (w : World) (lba k : ℕ) (r : Record) (l : Logged) → IsAccepted i.shape → IsLegal i w
     → IsWinner (counted (found_image i (log_of w))) lba r
@@ -168,11 +178,9 @@ winner_stands i w lba r accepted legal wins none = go (first_turn r.line (log_of
   where
     go : FirstTurn (log_of w 0) r.line → life_of (log_of w 0) r.line ≡ AsFound
     go (NoTurn stands) = stands
-    go (TurnAt zero l at was (inl opens)) =
-        let first = first_begins i w l legal at in absurd (begin_open first.0 r.line opens.0 (sym first.1 ∙ opens.1))
-    go (TurnAt zero l at was (inr frees)) =
-        let first = first_begins i w l legal at in absurd (begin_free first.0 r.line (sym first.1 ∙ frees))
+    go (TurnAt zero l at was is) = absurd (none_turns_first i w r.line l legal at is)
     go (TurnAt (suc k) l at was (inl opens)) =
-        absurd (not_opened i w k r l opens.0 legal (winner_is_winner (found_image i (log_of w)) lba r wins).there at opens.1 was)
+        let there = (winner_is_winner (found_image i (log_of w)) lba r wins).there in
+        absurd (not_opened i w k r.line l opens.0 legal (counted_has_start (found_image i (log_of w)) r there) at opens.1 was)
     go (TurnAt (suc k) l at was (inr frees)) =
         absurd (not_freed i w lba k r l accepted legal (winner_is_winner (found_image i (log_of w)) lba r wins) none at frees was)

@@ -1,12 +1,16 @@
 //! Laws over legal worlds: each is the contract of a function that does nothing.
 
-ghost use Rattle.std.specs.Prelude.{◌≡◌, ◌≤◌, ◌↔◌, ℕ, take, length};
+ghost use Rattle.std.specs.Prelude.{◌≡◌, ◌≤◌, ◌↔◌, ℕ, take, length, IsTrue};
+ghost use Rattle.std.specs.List.{Contains};
+ghost use Rattle.pblk_model.specs.Chunk.{Block};
 ghost use Rattle.pblk_model.specs.Image.{Image};
-ghost use Rattle.pblk_model.specs.StartRecord.{StartRecord};
+ghost use Rattle.pblk_model.specs.Sealed.{BeginsNarrower};
+ghost use Rattle.pblk_model.specs.Shape.{units};
+ghost use Rattle.pblk_model.specs.StartRecord.{StartRecord, start_fits};
 ghost use Rattle.pblk_world.specs.Events.{Step, Stripe};
 ghost use Rattle.pblk_world.specs.World.{World, Logs, log_of, known};
 ghost use Rattle.pblk_world.specs.Legal.{IsLegal, IsLegalStep};
-ghost use Rattle.pblk_world.specs.EngineLog.{Begun};
+ghost use Rattle.pblk_world.specs.EngineLog.{Begun, Opened, Opening, openings, Placed, placements};
 ghost use Rattle.pblk_world.specs.Lines.{known_image, is_free_line};
 ghost use Rattle.pblk_world.specs.Starts.{newest_start, seq_of};
 ghost use Rattle.pblk_world.specs.Opening.{MayOpen};
@@ -14,6 +18,7 @@ ghost use Rattle.pblk_world.specs.Placing.{MayPlace};
 ghost use Rattle.pblk_world.specs.Space.{is_due, room};
 ghost use Rattle.pblk_world.specs.Victims.{live, taken_up_to, victim};
 ghost use Rattle.world_laws.specs.KnownCut.{cut, IsClosed};
+ghost use Rattle.world_laws.specs.LegalMounts.{IsLegalMount};
 ghost use Rattle.world_laws.specs.SameTold.{AreSameNamed, AreSameTold};
 
 /// Let a prefix of each log of a legal world be known, and let no event of these prefixes name more than
@@ -65,4 +70,22 @@ pub fn tables_are_by_what_was_told()
         → MayOpen i logs begun line start ↔ MayOpen i other begun line start }
     ensures stripe { (i : Image) (logs other : Logs) → AreSameTold i logs other → (stripe : Stripe)
         → MayPlace i logs stripe ↔ MayPlace i other stripe }
+{}
+
+/// Each line is opened with a start record that fits it, so that its spelling reads back as this record. The
+/// line is at most as wide as there are units.
+pub fn a_line_is_opened_with_a_record_of_it()
+    ensures fits { (i : Image) (w : World) (o : Opening) → IsLegalMount i w
+        → Contains (openings (log_of w 0)) o
+        → IsTrue (start_fits i.shape o.line o.start.width o.start) }
+    ensures width { (i : Image) (w : World) (o : Opening) → IsLegalMount i w
+        → Contains (openings (log_of w 0)) o → o.start.width ≤ units i.shape }
+{}
+
+/// No block of a stripe looks like the first block of a start record of a width below that of its line's
+/// opening. So what a mount writes never becomes a start record when chunks of its line go Offline.
+pub fn no_stripe_begins_a_narrower_line()
+    ensures { (i : Image) (w : World) (p : Placed) (o : Opening) (width : ℕ) (b : Block)
+        → IsLegalMount i w → Contains (placements (log_of w 0)) p → p.life ≡ Opened o
+        → width ≤ o.start.width → Contains p.stripe.blocks b → ¬ BeginsNarrower width b }
 {}

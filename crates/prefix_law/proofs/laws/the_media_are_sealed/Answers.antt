@@ -1,5 +1,5 @@
-use Rattle.prefix_law.proofs.Sealed.{sealed}
+use Rattle.chunk_laws.proofs.SealedMedia.{media_sealed}
 use Rattle.prefix_law.proofs.laws.the_media_are_sealed.Goals as goal
 
 pub returns : goal.returns
-returns c = sealed
+returns c = media_sealed
