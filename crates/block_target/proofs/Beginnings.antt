@@ -8,7 +8,7 @@ use Rattle.pblk_world.specs.World.{World, log_of}
 use Rattle.pblk_world.specs.EngineLog.{Begun, begun}
 use Rattle.pblk_world.specs.Fronts.{first_position}
 use Rattle.pblk_world.proofs.Growing.{grows}
-use Rattle.prefix_law.proofs.Starting.{first_is as first_of}
+use Rattle.world_laws.proofs.Begun.{first_is as first_of}
 use Rattle.block_target.specs.Deeds.{Deed, after_deed, world_of}
 use Rattle.block_target.specs.Mount.{MountView, IsSound, IsSameMount, engine_log}
 use Rattle.block_target.proofs.EngineLengths.{deeds_later}

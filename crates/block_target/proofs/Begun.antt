@@ -1,4 +1,5 @@
 -- A mount that begins with what was found of its drive.
+use Rattle.core_laws.proofs.SimpleMounts.{simple_of}
 use Rattle.std.proofs.Common.{◌≡◌, ℕ, ◌+◌, ◌-◌, ◌*◌, ◌^◌, ◌≤◌, min, max, Some, List, [], ◌∷◌, ◌++◌, drop, take, length, refl, sym, subst, ap, ap₂, ◌∙◌, arith, false}
 use Rattle.std.specs.Prelude.{map, slice_get}
 use Rattle.std.specs.List.{filter, flat_map}
@@ -139,11 +140,11 @@ module _ (s : Shape) (us new : List ModelUnit) (f : Found) (accepted : IsAccepte
   pub core_stands : (c : Core) → HasBegun s f c → Stands i (log_of first_world) c
   core_stands c has =
       subst (λ (logs : Logs). Stands i logs c) (sym (engine_logs s (Begin b) before))
-      (has i before (knows_all s before) refl plain_before none_before
+      (has i before (knows_all s before) refl (simple_of i before plain_before).mount none_before
       (subst (λ (j : Image). IsFoundOf j f) (sym (ap (found_image i) (sym (engine_logs s (Begin b) before)) ∙ found_now)) is.found_is))
 
   pub core_standing : (c : Core) → HasBegun s f c → IsStanding c
-  core_standing c has = record { image = i; world = first_world; legal = first_legal; stands = core_stands c has }
+  core_standing c has = record { image = i; world = first_world; legal = (simple_of i first_world first_legal).mount; stands = core_stands c has }
 
   pub first_freed : (c : Core) → HasBegun s f c → c.window.freed ≡ freed s (log_of first_world 0)
   first_freed c has =
@@ -151,7 +152,7 @@ module _ (s : Shape) (us new : List ModelUnit) (f : Found) (accepted : IsAccepte
       (ap first_position log_is) (ap (freed s) log_is ∙ nothing_freed s b (knows_all s before))
 
   pub first_unread : (c : Core) → HasBegun s f c → window.is_readable_at c.window c.window.freed ≡ false
-  first_unread c has = unread_at_front i first_world c first_legal (core_stands c has) (first_freed c has)
+  first_unread c has = unread_at_front i first_world c (simple_of i first_world first_legal) (core_stands c has) (first_freed c has)
 
   no_entries : (c : Core) → HasBegun s f c → c.window.entries ≡ []
   no_entries c has = nothing_held c.window.entries

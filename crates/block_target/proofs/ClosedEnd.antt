@@ -11,7 +11,8 @@ use Rattle.pblk_world.specs.World.{media}
 use Rattle.pblk_world.specs.EngineLog.{Placed, answers, is_answered, placed_on, placements, turn}
 use Rattle.core_laws.specs.PlacerOf.{unanswered_on}
 use Rattle.core_laws.proofs.Turns.{its_turn as turn_at}
-use Rattle.prefix_law.proofs.Resting.{end_is_synced}
+use Rattle.prefix_law.proofs.Prefix.{end_where_answered}
+use Rattle.core_laws.proofs.SimpleMounts.{simple_of}
 use Rattle.pblk_core.specs.Filling.{Filling}
 use Rattle.pblk_core.specs.declared.target_core.Core.{Core}
 use Rattle.block_target.specs.Mount.{MountView, IsMount, engine_log, logs_in, synced_in, world_in}
@@ -30,4 +31,5 @@ answered log idle p there =
     ap is_some (got_within (answers log p.stripe.unit) (turn log p) within).1
 
 pub end_closed : (v : MountView) (c : Core) (p : PoolView) (f : Filling) → IsMount v c p f → IsSealed v.image → end (media v.image (logs_in v)) ≡ synced_in v
-end_closed v c p f m sealed = end_is_synced v.image (world_in v) m.sound.beginning m.sound.legal sealed m.sound.has_begun (answered (engine_log v) m.idle)
+end_closed v c p f m sealed = end_where_answered v.image (world_in v) m.sound.beginning (simple_of v.image (world_in v) m.sound.legal).mount sealed m.sound.has_begun
+    (simple_of v.image (world_in v) m.sound.legal).lost (answered (engine_log v) m.idle)

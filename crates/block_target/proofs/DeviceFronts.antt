@@ -1,4 +1,5 @@
 -- The device that a port for one session is: what it learns where nothing more was taken, and its fronts.
+use Rattle.core_laws.proofs.SimpleMounts.{simple_of}
 use Rattle.std.proofs.Common.{◌≡◌, ℕ, ◌+◌, ◌<◌, ◌≤◌, ◌^◌, nat_lt, suc, Some, Bool, true, false, cond, List, [], ◌∷◌, length, refl, sym, ap, ap₂, subst, ◌∙◌, arith, append-nil}
 use Rattle.std.specs.Prelude.{map, slice_get}
 use Rattle.std.proofs.lemmas.Option.{slice_get_within}
@@ -75,7 +76,7 @@ front_taken_is s sound =
     within : (k : ℕ) (t : Taken) → slice_get (takes (engine_log s.mount)) k ≡ Some t → t.entry.position < taken_in s.mount
     within k t there =
         let at : t.entry.position ≡ first_position (engine_log s.mount) + k =
-        numbered_at (first_position (engine_log s.mount)) (length (takes (engine_log s.mount))) (takes (engine_log s.mount)) k t (numbered_in s.mount.image (world_in s.mount) sound.legal) there in
+        numbered_at (first_position (engine_log s.mount)) (length (takes (engine_log s.mount))) (takes (engine_log s.mount)) k t (numbered_in s.mount.image (world_in s.mount) (simple_of s.mount.image (world_in s.mount) sound.legal)) there in
         let low : k < length (takes (engine_log s.mount)) = slice_get_within (takes (engine_log s.mount)) k t there in
         omega arith
 

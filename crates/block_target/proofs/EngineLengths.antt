@@ -94,7 +94,7 @@ deeds_later i w [] = ([], refl)
 deeds_later i w (d ∷ deeds) = followed w (after_deed i.shape w d) (with_deeds i w (d ∷ deeds)) (deed_later i.shape w d) (deeds_later i (after_deed i.shape w d) deeds)
 
 -- an earlier world is as plain
-plain_earlier : (i : Image) (later w : World) → IsPlainWorld i (later ++ w) → IsPlainWorld i w
+pub plain_earlier : (i : Image) (later w : World) → IsPlainWorld i (later ++ w) → IsPlainWorld i w
 plain_earlier i [] w plain = plain
 plain_earlier i (step ∷ later) w plain = plain_earlier i later w (plain_tail i step (later ++ w) plain)
 

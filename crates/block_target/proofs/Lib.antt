@@ -7,6 +7,7 @@ pub mod EngineLengths
 pub mod GrantedRoom
 pub mod GrantedTakes
 pub mod KeptWear
+pub mod Moments
 pub mod NothingLeft
 pub mod PumpedCall
 pub mod PumpedFrames

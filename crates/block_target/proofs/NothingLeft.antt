@@ -23,7 +23,9 @@ use Rattle.stripe_placer.specs.Placing.UnitRow.{Idle}
 use Rattle.core_laws.specs.OpenedLines.{open_line, open_lines, standing}
 use Rattle.core_laws.specs.PlacerOf.{placing_of, row_in, unanswered_on, waits_again}
 use Rattle.core_laws.specs.PlainWorlds.{IsPlainWorld}
+use Rattle.core_laws.proofs.SimpleMounts.{simple_of}
 use Rattle.core_laws.specs.RowsOf.{rows_of}
+use Rattle.core_laws.proofs.SimpleMounts.{simple_of}
 use Rattle.core_laws.proofs.Turns.{filtered_is}
 use Rattle.line_laws.proofs.NextLine.{none_free}
 use Rattle.placed_laws.specs.LeftOpenings.{left_openings}
@@ -77,7 +79,7 @@ module _ (i : Image) (w : World) (pad : ℕ) (reason : Why) (legal : IsPlainWorl
   named = no_reset_named (slice_get (resets_of i (log_of w)) 0) otherwise reason none
 
   none_reset : (line : ℕ) → line < i.shape.chunks → is_given_up (log_of w 0) line ≡ true → are_empty (known_image i (log_of w)) line ≡ true
-  none_reset line range given = reset_empty i w line legal (none_first (resets_of i (log_of w)) named.0) range given
+  none_reset line range given = reset_empty i w line (simple_of i w legal) (none_first (resets_of i (log_of w)) named.0) range given
 
   chosen : (is_some (next_stripe (placing_of i (log_of w) pad []) 0) ≡ false)
       × ((nat_lt 0 (length (waiting i.shape (log_of w 0))) && (open_addresses i (log_of w) == 0)) ≡ true → (is_some (position is_free (rows_of i (log_of w)).rows) ≡ false)
@@ -90,11 +92,11 @@ module _ (i : Image) (w : World) (pad : ℕ) (reason : Why) (legal : IsPlainWorl
       ∙ ap (λ (o : Option Placed). Some (option_map_or (λ (p : Placed). row_in i (log_of w) (waits_again (log_of w 0) [] unit) p.life p) o Idle)) (idle unit)
 
   answered : (p : Placed) → Contains (placements (log_of w 0)) p → is_answered (log_of w 0) p ≡ true
-  answered p there = idle_answered i (line_units (known_image i (log_of w))) w pad p (follow i w legal) row_idle there
+  answered p there = idle_answered i (line_units (known_image i (log_of w))) w pad p (follow i w (simple_of i w legal)) row_idle there
 
   none_due_now : (asked : ℕ) (stripe : Stripe) → asked ≤ pad → ¬ IsDue i (log_of w) asked stripe
   none_due_now asked stripe within =
-      none_due i (line_units (known_image i (log_of w))) w pad asked stripe (follow i w legal) (none_there (next_stripe (placing_of i (log_of w) pad []) 0) chosen.0) answered within
+      none_due i (line_units (known_image i (log_of w))) w pad asked stripe (follow i w (simple_of i w legal)) (none_there (next_stripe (placing_of i (log_of w) pad []) 0) chosen.0) answered within
 
   -- where a line may be opened, at most one has a stripe left
   one_line : (b : Begun) (line : ℕ) (start : StartRecord) → MayOpen i (log_of w) b line start → length (open_lines i (log_of w)) < 2
@@ -110,10 +112,10 @@ module _ (i : Image) (w : World) (pad : ℕ) (reason : Why) (legal : IsPlainWorl
       left_at k o e = filtered_is (λ o. has_left (open_line i (log_of w) o)) (standing (log_of w 0)) k o e
 
       has_at : (k : ℕ) (o : Opening) → slice_get (left_openings i (log_of w)) k ≡ Some o → has_stripe_left i (log_of w) o.line ≡ true
-      has_at k o e = chunks_left i w o.line o legal (opened_at k o e) (left_at k o e)
+      has_at k o e = chunks_left i w o.line o (simple_of i w legal) (opened_at k o e) (left_at k o e)
 
       range_of : (line : ℕ) (o : Opening) → life_of (log_of w 0) line ≡ Opened o → line < i.shape.chunks
-      range_of line o life = (opened_lines i (line_units (known_image i (log_of w))) w (follow i w legal) line o life).in_range
+      range_of line o life = (opened_lines i (line_units (known_image i (log_of w))) w (follow i w (simple_of i w legal)) line o life).in_range
 
       two : (a c : Opening) → slice_get (left_openings i (log_of w)) 0 ≡ Some a → slice_get (left_openings i (log_of w)) 1 ≡ Some c → ⊥
       two a c e f =

@@ -1,4 +1,6 @@
 -- A call that places the next stripe and has its unit program it: what each step in it needs, and the mount that it leaves.
+use Rattle.world_laws.specs.LegalMounts.{IsLegalMount}
+use Rattle.core_laws.proofs.SimpleMounts.{simple_of}
 use Rattle.std.proofs.Common.{◌≡◌, ◌≢◌, ◌⊎◌, ℕ, ◌<◌, zero, suc, Some, List, [], ◌∷◌, length, get_or, sym, subst, ap, ◌∙◌, arith, inl}
 use Rattle.std.specs.Prelude.{map, slice_get, slice_set}
 use Rattle.pblk_model.specs.Chunk.{Block}
@@ -48,7 +50,7 @@ module _ (v : MountView) (c : Core) (p : PoolView) (f : Filling) (m : IsMount v 
   placed_standing new st = record {
     image = v.image;
     world = world_of v.image.shape (done_deeds v.image v.deeds stripe);
-    legal = done_legal v.image v.deeds stripe m.stands.beginning m.sound.legal m.stands.has_begun may m.level m.idle;
+    legal = (simple_of v.image (world_of v.image.shape (done_deeds v.image v.deeds stripe)) (done_legal v.image v.deeds stripe m.stands.beginning m.sound.legal m.stands.has_begun may m.level m.idle)).mount;
     stands = done_now new st;
   }
     where
@@ -64,12 +66,13 @@ module _ (v : MountView) (c : Core) (p : PoolView) (f : Filling) (m : IsMount v 
   end_found = landed_found v.image v.deeds stripe m.stands.beginning m.sound.legal m.stands.has_begun may m.level m.idle
 
   pub end_stands : (mid new : Core) → ((knows : List ℕ) → Stands v.image (after (logs_in v) (Place stripe) knows) mid)
-      → ((i : Image) (w : World) (event : ℕ) (knows : List ℕ) → IsPlainWorld i w → Stands i (log_of w) mid → MayLand (log_of w) stripe.unit event → Stands i (after (log_of w) (Landed stripe.unit event) knows) new)
+      → ((i : Image) (w : World) (event : ℕ) (knows : List ℕ) → IsLegalMount i w → Stands i (log_of w) mid → MayLand (log_of w) stripe.unit event → Stands i (after (log_of w) (Landed stripe.unit event) knows) new)
       → Stands v.image (log_of (world_of v.image.shape (landed_deeds v.image v.deeds stripe))) new
   end_stands mid new st landed =
       landed_stands v.image v.deeds stripe m.stands.beginning m.sound.legal m.stands.has_begun may m.level m.idle new
       (λ event knows note. landed v.image (world_of v.image.shape (done_deeds v.image v.deeds stripe)) event knows
-      (done_legal v.image v.deeds stripe m.stands.beginning m.sound.legal m.stands.has_begun may m.level m.idle)
+      (simple_of v.image (world_of v.image.shape (done_deeds v.image v.deeds stripe))
+      (done_legal v.image v.deeds stripe m.stands.beginning m.sound.legal m.stands.has_begun may m.level m.idle)).mount
       (done_stands v.image v.deeds stripe m.stands.beginning m.sound.legal m.stands.has_begun may m.level m.idle mid
       (placed_stands v.image v.deeds stripe m.stands.beginning m.sound.legal m.stands.has_begun may m.level m.idle mid st)) note)
 

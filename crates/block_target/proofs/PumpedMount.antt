@@ -10,10 +10,11 @@ use Rattle.pblk_world.specs.Fronts.{first_position, synced}
 use Rattle.pblk_world.specs.Placing.{MayPlace}
 use Rattle.pblk_world.specs.Space.{freed, room}
 use Rattle.core_laws.specs.PlainWorlds.{IsPlainWorld, ArePlain}
+use Rattle.core_laws.proofs.SimpleMounts.{simple_of}
 use Rattle.core_laws.specs.PlacerOf.{unanswered_on}
 use Rattle.core_laws.proofs.Numbering.{first_stays}
-use Rattle.prefix_law.proofs.Fronts.{synced_rises}
-use Rattle.prefix_law.proofs.Starting.{first_is as first_of}
+use Rattle.world_laws.proofs.Fronts.{synced_later}
+use Rattle.world_laws.proofs.Begun.{first_is as first_of}
 use Rattle.landing_laws.proofs.FreedFront.{freed_rises}
 use Rattle.write_window.specs.Window as window
 use Rattle.unit_port.specs.Unit.{ModelUnit}
@@ -85,20 +86,19 @@ module _ (i : Image) (deeds : List Deed) (stripe : Stripe) (b : Begun) (legal : 
   synced_stays =
       let first : synced i.shape old_log ≤ synced i.shape mid_log = subst (λ (log : List Logged). synced i.shape old_log ≤ synced i.shape log) mid_is (synced_next i deeds (Place stripe) b has mid_legal) in
       let second : synced i.shape mid_log ≤ synced i.shape end_log =
-      synced_rises i.shape mid_log (record { event = Event (Landed stripe.unit event); knows = knows_all i.shape done_ }) (subst ArePlain end_is end_legal.engine)
-      (first_stays mid_log (record { event = Event (Landed stripe.unit event); knows = knows_all i.shape done_ }) b has_mid) in
+      synced_later i.shape mid_log (record { event = Event (Landed stripe.unit event); knows = knows_all i.shape done_ } ∷ []) in
       subst (λ (log : List Logged). synced i.shape old_log ≤ synced i.shape log) (sym end_is) (le_trans first second)
 
   pub freed_grows : freed i.shape old_log ≤ freed i.shape (log_of (world_of i.shape (landed_deeds i deeds stripe)) 0)
   freed_grows =
       let first : freed i.shape old_log ≤ freed i.shape mid_log =
-      freed_rises i (log_of (world_of i.shape deeds)) (world_of i.shape deeds) b (Place stripe) (knows_all i.shape (world_of i.shape deeds)) legal (λ o u. rows_of_chunks i (world_of i.shape deeds) o u legal) refl refl may in
+      freed_rises i (log_of (world_of i.shape deeds)) (world_of i.shape deeds) b (Place stripe) (knows_all i.shape (world_of i.shape deeds)) (simple_of i (world_of i.shape deeds) legal) (λ o u. rows_of_chunks i (world_of i.shape deeds) o u (simple_of i (world_of i.shape deeds) legal)) refl refl may in
       let landing = may_land i mid stripe.unit (placed i deeds stripe b legal has may level idle) (next_maker mid) mid_legal (waits i deeds stripe b legal has may level idle)
       (placed_level i deeds stripe b legal has may level idle stripe.unit) in
       let done_legal : IsPlainWorld i done_ = subst (IsPlainWorld i) (done_is i deeds stripe) (done_legal_of i deeds stripe b legal has may level idle) in
       let same : log_of done_ 0 ≡ mid_log = engine_beside i.shape stripe.unit (program_of stripe) (next_maker mid) mid ∙ mid_is in
       let second : freed i.shape (log_of done_ 0) ≤ freed i.shape (log_of done_ 0 ++ record { event = Event (Landed stripe.unit event); knows = knows_all i.shape done_ } ∷ []) =
-      freed_landed i done_ b stripe.unit event (knows_all i.shape done_) done_legal landing in
+      freed_landed i done_ b stripe.unit event (knows_all i.shape done_) (simple_of i done_ done_legal) landing in
       let third : freed i.shape mid_log ≤ freed i.shape end_log =
       subst (λ (log : List Logged). freed i.shape log ≤ freed i.shape (log ++ record { event = Event (Landed stripe.unit event); knows = knows_all i.shape done_ } ∷ [])) same second in
       subst (λ (log : List Logged). freed i.shape old_log ≤ freed i.shape log) (sym end_is) (le_trans first third)

@@ -18,16 +18,17 @@ use Rattle.core_laws.specs.PlacerOf.{unanswered_on}
 use Rattle.core_laws.specs.Stepping.{after}
 use Rattle.core_laws.proofs.Placing.{IsPlacing, new_placed, placed_on_now, answers_now}
 use Rattle.core_laws.proofs.PlacedLines.{get_last as got_end}
+use Rattle.core_laws.proofs.SimpleMounts.{simple_of}
 use Rattle.landing_laws.proofs.PlainStripes.{one_unanswered}
 use Rattle.pblk_laws.specs.LineBlocks.{chunk_in}
-use Rattle.media_laws.proofs.LineWritten.{program_is_taken}
 use Rattle.step_laws.specs.Whole.{IsLevel, IsKnown, knows_all, engine_step, unit_step, next_maker, program_of, after_program, after_landing}
 use Rattle.step_laws.proofs.EngineSteps.{engine_next, engine_logs}
 use Rattle.step_laws.proofs.Known.{known_still}
+use Rattle.step_laws.proofs.NextProgram.{program_is_taken}
 use Rattle.step_laws.proofs.Levels.{level_by, landing_legal, landing_level, landing_known, own_waits, others_wait}
 use Rattle.step_laws.proofs.Programs.{program_legal, unit_in_range}
 use Rattle.step_laws.proofs.UnitStays.{found_stays}
-use Rattle.step_laws.proofs.UnitSteps.{unit_log, may_land}
+use Rattle.step_laws.proofs.UnitSteps.{unit_log, may_land, none_stopped}
 use Rattle.pblk_core.specs.Stands.{Stands}
 use Rattle.pblk_core.specs.declared.target_core.Core.{Core}
 use Rattle.block_target.specs.Deeds.{Deed, Decides, Does, Lands, after_deed, world_of}
@@ -114,7 +115,10 @@ module _ (i : Image) (deeds : List Deed) (stripe : Stripe) where
 
     -- the chunk doesn't refuse it
     pub program_fits : (c : Chunk) × (chunk_in (media i (log_of placed_world)) stripe.chunk stripe.unit ≡ Some c) × (refusal i.shape c (Write stripe.at stripe.blocks) ≡ None)
-    program_fits = program_is_taken i placed_world stripe.unit placed placed_legal (ap (slice_get (placed_on (log_of placed_world 0) stripe.unit)) (placed_level stripe.unit) ∙ waits)
+    program_fits = program_is_taken i placed_world stripe.unit placed (simple_of i placed_world placed_legal).mount
+        (unit_in_range i placed_world stripe.unit (length (answers (log_of placed_world 0) stripe.unit)) placed placed_legal waits)
+        (ap (slice_get (placed_on (log_of placed_world 0) stripe.unit)) (placed_level stripe.unit) ∙ waits)
+        (none_stopped (log_of placed_world (suc stripe.unit)) (placed_legal.units stripe.unit))
 
     pub done_legal : IsPlainWorld i (world_of i.shape done_deeds)
     done_legal = subst (IsPlainWorld i) (sym done_is) (program_legal i placed_world stripe.unit placed (next_maker placed_world) placed_legal waits (placed_level stripe.unit))

@@ -1,4 +1,5 @@
 -- A unit resets a chunk of a line that was given up, and that is noted: the world that these make, and the mount then.
+use Rattle.world_laws.specs.LegalMounts.{IsLegalMount}
 use Rattle.std.proofs.Common.{◌≡◌, ◌≢◌, ◌⊎◌, inl, inr, ℕ, ◌+◌, ◌-◌, ◌*◌, ◌^◌, ◌<◌, ◌≤◌, max, suc, true, Some, List, [], ◌∷◌, ◌++◌, length, refl, sym, subst, ap, ap₂, ◌∙◌, arith, append_assoc, append-nil, length-append}
 use Rattle.std.specs.Prelude.{map, slice_get, slice_set}
 use Rattle.std.specs.Option.{option_map, option_and_then}
@@ -22,11 +23,12 @@ use Rattle.pblk_world.specs.Lines.{found_image, known_image}
 use Rattle.pblk_world.specs.Space.{freed, room}
 use Rattle.pblk_world.specs.Answering.{MayNoteReset}
 use Rattle.core_laws.specs.PlainWorlds.{IsPlainWorld, ArePlain}
+use Rattle.core_laws.proofs.SimpleMounts.{simple_of}
 use Rattle.core_laws.specs.PlacerOf.{unanswered_on}
 use Rattle.core_laws.specs.Stepping.{after}
 use Rattle.core_laws.proofs.Numbering.{first_stays}
 use Rattle.landing_laws.proofs.FreedFront.{freed_rises}
-use Rattle.prefix_law.proofs.Fronts.{synced_rises}
+use Rattle.world_laws.proofs.Fronts.{synced_later}
 use Rattle.write_window.specs.Window as window
 use Rattle.unit_port.specs.Armed.{IsUnarmed}
 use Rattle.unit_port.specs.Unit.{ModelUnit, IsFitUnit, Steps, Takes}
@@ -42,7 +44,7 @@ use Rattle.pblk_core.specs.Resets.{is_used_state, IsToReset, IsResetTo}
 use Rattle.pblk_core.specs.Stands.{Stands}
 use Rattle.pblk_core.specs.declared.target_core.Core.{Core}
 use Rattle.pblk_core.proofs.ChunkRows.{rows_of_chunks}
-use Rattle.placing_laws.proofs.UnitHistory.{event_length as event_count}
+use Rattle.pblk_laws.proofs.UnitChunks.{log_count}
 use Rattle.block_target.specs.Deeds.{Deed, Does, NotesReset, after_deed, world_of}
 use Rattle.block_target.specs.Mount.{MountView, IsMount, IsSound, IsUnitIn, IsSameMount, world_in, logs_in, engine_log}
 use Rattle.block_target.proofs.Beginnings.{begun_in}
@@ -140,12 +142,12 @@ module _ (v : MountView) (c : Core) (p : PoolView) (f : Filling) (m : IsMount v 
       }
 
   pub end_stands : (new : Core) (state : ChunkState) → state ≡ (after_reset v.image.shape is.chunk).state
-      → ((i : Image) (w : World) (event : ℕ) (knows : List ℕ) → IsPlainWorld i w → Stands i (log_of w) c → IsResetTo i (log_of w) unit event line state → Stands i (after (log_of w) (ResetDone unit event) knows) new)
+      → ((i : Image) (w : World) (event : ℕ) (knows : List ℕ) → IsLegalMount i w → Stands i (log_of w) c → IsResetTo i (log_of w) unit event line state → Stands i (after (log_of w) (ResetDone unit event) knows) new)
       → Stands i (log_of end_world) new
   end_stands new state same ends =
       subst (λ (x : World). Stands i (log_of x) new) (sym end_is)
       (subst (λ (logs : Logs). Stands i logs new) (sym (engine_logs v.image.shape (ResetDone unit event) mid))
-      (ends i mid event (knows_all v.image.shape mid) mid_legal mid_stands (is_reset state same)))
+      (ends i mid event (knows_all v.image.shape mid) (simple_of i mid mid_legal).mount mid_stands (is_reset state same)))
 
   -- ---- the logs
 
@@ -172,14 +174,14 @@ module _ (v : MountView) (c : Core) (p : PoolView) (f : Filling) (m : IsMount v 
   pub synced_stays : synced v.image.shape (engine_log v) ≤ synced v.image.shape (log_of end_world 0)
   synced_stays =
       subst (λ (log : List Logged). synced v.image.shape (engine_log v) ≤ synced v.image.shape log) (sym end_log)
-      (synced_rises v.image.shape (engine_log v) end_logged (subst ArePlain end_log end_legal.engine) (first_stays (engine_log v) end_logged m.sound.beginning m.sound.has_begun))
+      (synced_later v.image.shape (engine_log v) (end_logged ∷ []))
 
   freed_grows : freed v.image.shape (engine_log v) ≤ freed v.image.shape (log_of end_world 0)
   freed_grows =
       let note = may_note i w unit line (next_maker w) m.sound.legal.legal in
       let same : log_of mid 0 ≡ engine_log v = engine_beside v.image.shape unit (reset_of line) (next_maker w) w in
       let rise : freed v.image.shape (log_of mid 0) ≤ freed v.image.shape (log_of mid 0 ++ end_logged ∷ []) =
-      freed_rises i (log_of mid) mid m.sound.beginning (ResetDone unit event) (knows_all v.image.shape mid) mid_legal (λ o u. rows_of_chunks i mid o u mid_legal) refl refl note.0 in
+      freed_rises i (log_of mid) mid m.sound.beginning (ResetDone unit event) (knows_all v.image.shape mid) (simple_of i mid mid_legal) (λ o u. rows_of_chunks i mid o u (simple_of i mid mid_legal)) refl refl note.0 in
       subst (λ (log : List Logged). freed v.image.shape (engine_log v) ≤ freed v.image.shape log) (sym end_log)
       (subst (λ (log : List Logged). freed v.image.shape log ≤ freed v.image.shape (log ++ end_logged ∷ [])) same rise)
 
@@ -214,7 +216,7 @@ module _ (v : MountView) (c : Core) (p : PoolView) (f : Filling) (m : IsMount v 
 
   pub has_line : (old new : ModelUnit) → slice_get v.units unit ≡ Some old → (outcome : UnitOutcome) → Steps old line Reset outcome new → line < length new.media
   has_line old new here outcome steps =
-      let many : length new.media ≡ length old.media = ap (λ (cs : List Chunk). length cs) steps.media ∙ event_count old.shape old.media (record { chunk = line; command = Reset; outcome = outcome }) in
+      let many : length new.media ≡ length old.media = ap (λ (cs : List Chunk). length cs) steps.media ∙ log_count old.shape old.media (record { chunk = line; command = Reset; outcome = outcome } ∷ []) in
       let low : line < length old.media = slice_get_within old.media line is.chunk (has_chunk old here) in
       omega arith
 

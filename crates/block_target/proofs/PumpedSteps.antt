@@ -12,7 +12,7 @@ use Rattle.pblk_world.specs.Space.{freed, room, ring_limit, space_limit, positio
 use Rattle.pblk_world.specs.Legal.{IsDecision}
 use Rattle.core_laws.specs.PlainWorlds.{IsPlainWorld, ArePlain, is_plain_decision}
 use Rattle.core_laws.proofs.Numbering.{first_stays}
-use Rattle.prefix_law.proofs.Fronts.{synced_rises}
+use Rattle.world_laws.proofs.Fronts.{synced_later}
 use Rattle.step_laws.specs.Whole.{knows_all}
 use Rattle.step_laws.proofs.EngineSteps.{engine_next, media_still}
 use Rattle.pblk_core.proofs.SmallGrant.{ring_kept}
@@ -73,7 +73,7 @@ synced_next i deeds e b has plain =
     let l : Logged = record { event = Event e; knows = knows_all i.shape (world_of i.shape deeds) } in
     let is : log_of (world_of i.shape (deeds ++ Decides e ∷ [])) 0 ≡ log ++ l ∷ [] = ap (λ (logs : Logs). logs 0) (logs_decided i.shape deeds e) in
     subst (λ (new : List Logged). synced i.shape log ≤ synced i.shape new) (sym is)
-    (synced_rises i.shape log l (subst ArePlain is plain.engine) (first_stays log l b has))
+    (synced_later i.shape log (l ∷ []))
 
 -- ---- grants
 

@@ -23,6 +23,7 @@ use Rattle.core_laws.specs.OpenedLines.{live_now}
 use Rattle.core_laws.specs.PlainWorlds.{IsPlainWorld}
 use Rattle.core_laws.specs.SlotOf.{slot_of}
 use Rattle.core_laws.proofs.Placing.{not_below}
+use Rattle.core_laws.proofs.SimpleMounts.{simple_of}
 use Rattle.look_laws.specs.SlotBlocks.{IsBlockOfSlot}
 use Rattle.look_laws.proofs.LiveUnits.{live_small}
 use Rattle.look_laws.proofs.LatestSectors.{cached_latest, window_latest}
@@ -62,11 +63,11 @@ latest_at v lba sound = ap (λ (f : Image). slice_get (after_history (contents f
 
 module _ (v : MountView) (c : Core) (lba : ℕ) (sound : IsSound v) (st : Stands v.image (logs_in v) c) (inside : lba < v.image.shape.capacity) where
   pub cached_sector : (q : ℕ) → slot_of v.image (logs_in v) lba ≡ Cached q → sector_at c.window q ≡ slice_get (latest v) lba
-  cached_sector q slot = window_latest v.image (world_in v) lba q c.window.freed c.window sound.legal inside st.window st.from_first st.to_freed slot ∙ sym (latest_at v lba sound)
+  cached_sector q slot = window_latest v.image (world_in v) lba q c.window.freed c.window (simple_of v.image (world_in v) sound.legal) inside st.window st.from_first st.to_freed slot ∙ sym (latest_at v lba sound)
 
   pub cached_is_held : (q : ℕ) → slot_of v.image (logs_in v) lba ≡ Cached q → IsHeld c.window q
   cached_is_held q slot =
-      let is = cached_latest v.image (world_in v) lba q sound.legal inside slot in
+      let is = cached_latest v.image (world_in v) lba q (simple_of v.image (world_in v) sound.legal) inside slot in
       held_at_sector c.window q is.0.entry.sector (cached_sector q slot ∙ latest_at v lba sound ∙ is.5)
 
 -- ---- the drive
@@ -88,7 +89,7 @@ module _ (v : MountView) (c : Core) (lba line at q : ℕ) (legal : IsPlainWorld 
 
   pub line_live : (live : ℕ) → slice_get c.live.items line ≡ Some live → live < 2 ^ units c.layout
   line_live live there =
-      subst (λ (s : Shape). live < 2 ^ units s) (sym st.layout) (subst (λ n. n < 2 ^ units v.image.shape) (its_live live there) (live_small v.image (world_in v) line legal))
+      subst (λ (s : Shape). live < 2 ^ units s) (sym st.layout) (subst (λ n. n < 2 ^ units v.image.shape) (its_live live there) (live_small v.image (world_in v) line (simple_of v.image (world_in v) legal).mount))
 
   pub at_inside : (live : ℕ) → slice_get c.live.items line ≡ Some live → at < length (units_in live) * c.layout.clba
   at_inside live there =

@@ -1,4 +1,6 @@
 -- A mount that took an entry.
+use Rattle.world_laws.specs.LegalMounts.{IsLegalMount}
+use Rattle.core_laws.proofs.SimpleMounts.{simple_of}
 use Rattle.std.proofs.Common.{◌≡◌, ℕ, ◌+◌, ◌-◌, ◌*◌, ◌^◌, ◌<◌, ◌≤◌, max, suc, true, None, Some, List, [], ◌∷◌, ◌++◌, length, refl, sym, subst, ap, ap₂, ◌∙◌, arith, length-append}
 use Rattle.std.specs.Prelude.{slice_get, slice_index}
 use Rattle.std.specs.List.{AllByRecursion}
@@ -87,7 +89,7 @@ low_position v c p f position m room is =
 
 -- what is so of a core and a pool once the core took an entry, in a frame of the pool
 pub record IsTakenBy (v : MountView) (old new : Core) (p q : PoolView) (e : FramedEntry) : Type 0 where
-  pub stands : (i : Image) (w : World) (knows : List ℕ) → IsPlainWorld i w → Stands i (log_of w) old → Stands i (after (log_of w) (Take (entry_of e) (mark_of e)) knows) new
+  pub stands : (i : Image) (w : World) (knows : List ℕ) → IsLegalMount i w → Stands i (log_of w) old → Stands i (after (log_of w) (Take (entry_of e) (mark_of e)) knows) new
   pub legal : MayTake v.image (logs_in v) (entry_of e) (mark_of e)
   pub user : e.source ≡ None
   pub pushed : new.window ≡ record old.window { entries = old.window.entries ++ record { entry = e; progress = Waiting } ∷ [] }
@@ -116,12 +118,12 @@ mount_taken v old new p q f e m is = record {
       fit = was.fit;
     };
   };
-  stands = subst (λ (logs : Logs). Stands i logs new) (sym logs) (is.stands i w knows plain_before m.stands);
+  stands = subst (λ (logs : Logs). Stands i logs new) (sym logs) (is.stands i w knows (simple_of i w plain_before).mount m.stands);
   pad = refl;
   level = subst IsLevel (sym more) (level_by v.image.shape event w (λ unit. refl) m.level);
   known = subst (IsKnown i) (sym more) (known_still i w event refl (λ unit. refl) m.known);
   idle = λ unit. ap (λ (log : List Logged). unanswered_on log unit) log_is ∙ still_idle unit ∙ m.idle unit;
-  drained = freed_stays ∙ m.drained ∙ sym (ap (freed v.image.shape) log_is ∙ freed_same v.image.shape (engine_log v) (entry_of e) (mark_of e) knows b begins (next_is_unplaced i w plain_before));
+  drained = freed_stays ∙ m.drained ∙ sym (ap (freed v.image.shape) log_is ∙ freed_same v.image.shape (engine_log v) (entry_of e) (mark_of e) knows b begins (next_is_unplaced i w (simple_of i w plain_before)));
   own = subst (λ (r : Region). window.AreOf r new.window.entries) (sym is.region)
       (subst (λ (hs : List Held). window.AreOf p.region hs) (sym entries_are) (with_last (λ (h : Held). h.entry.frame.region ≡ p.region) old.window.entries (record { entry = e; progress = Waiting }) m.own is.own));
   out = is.out ∙ ap (λ n. n + 1) m.out ∙ sym (ap (λ (hs : List Held). length hs) entries_are ∙ length-append old.window.entries (record { entry = e; progress = Waiting } ∷ []));
@@ -178,7 +180,7 @@ mount_taken v old new p q f e m is = record {
     room_stays : room i (log_of (world_of v.image.shape (taken_deeds v e))) ≤ v.granted
     room_stays =
         let same : room i (log_of (world_of v.image.shape (taken_deeds v e))) ≡ room i (log_of w) =
-        ap (room i) logs ∙ room_taken i (log_of w) (entry_of e) (mark_of e) knows b begins is.legal.position (next_is_unplaced i w plain_before) in
+        ap (room i) logs ∙ room_taken i (log_of w) (entry_of e) (mark_of e) knows b begins is.legal.position (next_is_unplaced i w (simple_of i w plain_before)) in
         let low : room i (log_of w) ≤ v.granted = m.room in
         omega (arith, same, low)
 

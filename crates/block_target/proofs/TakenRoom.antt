@@ -22,7 +22,7 @@ use Rattle.core_laws.proofs.Taking.{with_take}
 use Rattle.core_laws.proofs.TakenWindow.{not_landed as no_landed}
 use Rattle.landing_laws.proofs.FreedFront.{freed_here}
 use Rattle.landing_laws.proofs.Growing.{given_landed}
-use Rattle.landing_laws.proofs.Least.{IsLeast, least}
+use Rattle.pblk_world.proofs.SyncedFront.{IsLeast, least}
 use Rattle.line_laws.proofs.Kept.{lives_kept}
 use Rattle.line_laws.proofs.KeptRows.{known_kept}
 use Rattle.line_laws.proofs.OpenAddresses.{addresses_kept}

@@ -20,7 +20,7 @@ use Rattle.step_laws.proofs.UnitSteps.{engine_log}
 use Rattle.step_laws.proofs.UnitStays.{known_stays, rows_stay, lines_stay, older_stay, live_stays, line_stays, left_stay, slot_stays, window_stays, placing_stays, addresses_stay}
 use Rattle.pblk_core.specs.Named.{choice, reset_or, work_of}
 use Rattle.pblk_core.specs.Resets.{in_line, resets_of, used_units}
-use Rattle.pblk_core.specs.Stands.{Stands, AreHolds, AreOpenLines, IsOpenLine, left_openings, under_way, unlanded}
+use Rattle.pblk_core.specs.Stands.{IsSimpleLog, Stands, AreHolds, AreOpenLines, IsOpenLine, left_openings, under_way, unlanded}
 use Rattle.pblk_core.specs.LineRecords.{AreOf}
 use Rattle.pblk_core.specs.declared.open_lines.OpenLine.{OpenLine}
 use Rattle.pblk_core.specs.declared.open_lines.OpenLines.{OpenLines}
@@ -61,6 +61,7 @@ module _ (i : Image) (w : World) (unit : ℕ) (e : UnitEvent) (maker : Maker) wh
 
   pub stands_beside : (c : Core) → IsPlainWorld i w → Stands i (log_of w) c → Stands i after_ c
   stands_beside c plain st = record {
+    simple = subst IsSimpleLog (sym engine) st.simple;
     layout = st.layout;
     beginning = st.beginning;
     has_begun = ap begun engine ∙ st.has_begun;

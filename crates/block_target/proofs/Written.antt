@@ -13,6 +13,7 @@ use Rattle.pblk_model.specs.Contents.{contents}
 use Rattle.pblk_model.specs.Image.{Image}
 use Rattle.pblk_model.specs.Marks.{sector_mark}
 use Rattle.pblk_world.specs.Events.{Take, Logged, Decides as Did}
+use Rattle.pblk_world.specs.World.{World, log_of}
 use Rattle.pblk_world.specs.EngineLog.{Taken, takes}
 use Rattle.pblk_world.specs.Fronts.{synced, is_users, user_takes}
 use Rattle.core_laws.proofs.Taking.{filter_last}
@@ -21,7 +22,11 @@ use Rattle.step_laws.specs.Whole.{knows_all}
 use Rattle.block_port.specs.declared.rows.WornAnswer.{WornAnswer}
 use Rattle.block_port.specs.Own.{PlacedSector, OwnWrite, placed_from, lines_of}
 use Rattle.block_port.specs.Port.{AreSectors, Learns, IsSameTarget, Rise}
-use Rattle.prefix_law.proofs.Taking.{users_all}
+use Rattle.core_laws.specs.PlainWorlds.{IsPlainWorld}
+use Rattle.core_laws.proofs.SimpleMounts.{simple_of}
+use Rattle.lemmas.proofs.Lists.{all_imply}
+use Rattle.core_laws.proofs.Placing.{all_pass}
+use Rattle.landing_laws.proofs.Entries.{IsUsers, users_entries}
 use Rattle.block_target.specs.Deeds.{Deed}
 use Rattle.block_target.specs.Mount.{MountView, IsSound, IsSameMount, IsStuckAt, logs_in, world_in, engine_log, taken_in, synced_in, front_taken, next_entry, with_entry, with_entries}
 use Rattle.block_target.specs.Granted.{WasRoom}
@@ -57,6 +62,10 @@ learns_none old new was is same = record {
 
 pub users_written : (s : SerialView) (front : Front) → IsSerial s → front ≡ front_taken s.mount → front.users ≡ length (flat_map lines_of s.own)
 users_written s front is at = ap (λ (f : Front). f.users) at ∙ sym (length-map (user_takes (engine_log s.mount)) line_of_take) ∙ ap (λ (ls : List PlacedSector). length ls) is.alone
+
+users_all : (i : Image) (w : World) → IsPlainWorld i w → user_takes (log_of w 0) ≡ takes (log_of w 0)
+users_all i w plain = all_pass (λ t. is_users t.entry.source) (takes (log_of w 0))
+    (all_imply (IsUsers i.shape) (λ t. is_users t.entry.source ≡ true) (λ t is. is.users) (takes (log_of w 0)) (users_entries i w (simple_of i w plain)))
 
 pub takes_written : (s : SerialView) → IsSound s.mount → IsSerial s → length (takes (engine_log s.mount)) ≡ length (flat_map lines_of s.own)
 takes_written s sound is =

@@ -7,7 +7,7 @@ use Rattle.pblk_model.specs.Image.{Image}
 use Rattle.pblk_world.specs.Events.{Begin}
 use Rattle.pblk_world.specs.Lines.{found_image}
 use Rattle.pblk_world.specs.World.{World, log_of}
-use Rattle.core_laws.specs.PlainWorlds.{IsPlainWorld}
+use Rattle.world_laws.specs.LegalMounts.{IsLegalMount}
 use Rattle.core_laws.specs.Stepping.{after}
 use Rattle.found_laws.specs.Beginnings.{beginning_of}
 use Rattle.found_laws.specs.Finding.{IsFoundOf}
@@ -18,7 +18,7 @@ use Rattle.block_target.specs.declared.mount.Parts.{Parts}
 
 -- the core stands for a log in which the mount has begun with what was found, and that is all
 abbrev pub HasBegun : Shape → Found → Core → Type 0
-HasBegun s f c = (i : Image) (w : World) (knows : List ℕ) → i.shape ≡ s → IsPlainWorld i w → log_of w 0 ≡ []
+HasBegun s f c = (i : Image) (w : World) (knows : List ℕ) → i.shape ≡ s → IsLegalMount i w → log_of w 0 ≡ []
     → IsFoundOf (found_image i (after (log_of w) (Begin (beginning_of f)) knows)) f
     → Stands i (after (log_of w) (Begin (beginning_of f)) knows) c
 

@@ -2,6 +2,7 @@
 #![tactic(auto)]
 
 mod deeds;
+mod laws;
 mod mount;
 mod opening;
 mod readying;
@@ -9,5 +10,6 @@ mod serial;
 mod waiting;
 
 pub use block_port::{FlushErr, Front, Note, Place, Port, ReadErr, WriteErr};
+pub use laws::{a_refused_flush_tells_the_end, a_refused_write_has_no_room};
 pub use opening::{OpenErr, Refused, SettleErr};
 pub use serial::Serial;

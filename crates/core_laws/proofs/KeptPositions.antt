@@ -1,15 +1,14 @@
 -- Each event that is allowed keeps what is known of marks and of placed positions.
-use Rattle.std.proofs.Common.{◌≡◌, inl, inr, ℕ, ◌+◌, ◌<◌, ◌≤◌, true, Some, None, Option, List, [], ◌∷◌, ◌++◌, length, sym, subst, ap, ◌∙◌, arith, append-nil, length-append}
+use Rattle.std.proofs.Common.{◌≡◌, ℕ, ◌+◌, ◌<◌, ◌≤◌, true, Some, List, [], ◌∷◌, ◌++◌, length, sym, subst, ap, ◌∙◌, arith, append-nil, length-append}
 use Rattle.std.specs.List.{AllByRecursion}
 use Rattle.std.specs.Option.{option_to_list}
-use Rattle.pblk_model.specs.declared.chunk.Mark.{Mark}
 use Rattle.pblk_model.specs.Image.{Image}
 use Rattle.pblk_model.specs.Marks.{meta_lba}
-use Rattle.pblk_world.specs.Events.{EngineEvent, Source, Entry, Take, Place, Decides, Logged}
+use Rattle.world_laws.proofs.Entries.{marked}
+use Rattle.pblk_world.specs.Events.{EngineEvent, Take, Place, Decides, Logged}
 use Rattle.pblk_world.specs.World.{Logs}
 use Rattle.pblk_world.specs.EngineLog.{Begun, begun, Taken, taken_by, takes, Placed, placed_by, placements, holds_position}
 use Rattle.pblk_world.specs.Fronts.{first_position, taken}
-use Rattle.pblk_world.specs.Taking.{IsMarked}
 use Rattle.pblk_world.specs.Legal.{IsDecision}
 use Rattle.pblk_world.proofs.Appending.{placements_more}
 use Rattle.core_laws.specs.Positions.{AreNumbered, AreMarked, AreTaken}
@@ -18,17 +17,12 @@ use Rattle.core_laws.proofs.PlacedPositions.{placed_taken}
 use Rattle.lemmas.proofs.Lists.{all_append, all_imply}
 use Rattle.pblk_world.proofs.EngineLogLemmas.{takes_more}
 
-mark_position : (i : Image) (logs : Logs) (entry : Entry) (mark : Mark) (source : Option Source) → IsMarked i logs entry mark source → mark.position ≡ entry.position
-mark_position i logs entry mark None is = ap (λ (m : Mark). m.position) is
-mark_position i logs entry mark (Some source) (inl is) = ap (λ (m : Mark). m.position) is.names_sector
-mark_position i logs entry mark (Some source) (inr is) = ap (λ (m : Mark). m.position) is.names_none
-
 pub marked_after : (i : Image) (known : Logs) (log : List Logged) (beginning : Begun) (e : EngineEvent) (knows : List ℕ) → IsDecision i known beginning e
     → AreMarked log → AreMarked (log ++ record { event = Decides e; knows = knows } ∷ [])
 marked_after i known log beginning (Take entry mark) knows may is =
     let l : Logged = record { event = Decides (Take entry mark); knows = knows } in
     subst (AllByRecursion (λ (t : Taken). t.mark.position ≡ t.entry.position)) (sym (takes_more log l))
-    (all_append (λ (t : Taken). t.mark.position ≡ t.entry.position) (takes log) (record { entry = entry; mark = mark } ∷ []) is (mark_position i known entry mark entry.source may.marked, tt))
+    (all_append (λ (t : Taken). t.mark.position ≡ t.entry.position) (takes log) (record { entry = entry; mark = mark } ∷ []) is (marked i known entry mark entry.source may.marked, tt))
 marked_after i known log beginning e knows may is =
     let l : Logged = record { event = Decides e; knows = knows } in
     subst (AllByRecursion (λ (t : Taken). t.mark.position ≡ t.entry.position)) (sym (takes_more log l ∙ append-nil (takes log))) is

@@ -21,6 +21,9 @@ pub mod PlacedPositions
 pub mod KeptPositions
 pub mod PoppedWindow
 pub mod PlainWorldsLemmas
+pub mod SimpleMounts
 pub mod PlacerOfLemmas
 pub mod SteppingLemmas
 pub mod WindowOfLemmas
+pub mod UnitBits
+pub mod IdleUnits

@@ -97,7 +97,7 @@ became_now log stripe knows o (Some q) opened before = ap by_answer (answer_now 
 pub stripes_before : (log : List Logged) (o : Opening) → AllByRecursion (λ p. p.number < length log) (stripes_of log o)
 stripes_before log o = all_filter (λ (p : Placed). p.number < length log) (λ (p : Placed). is_life o.number p.life) (placements log) (placements_before log)
 
-stripes_now : (log : List Logged) (stripe : Stripe) (knows : List ℕ) (o other : Opening) (b : Bool) → life_of log stripe.line ≡ Opened o → is_life other.number (Opened o) ≡ b
+pub stripes_now : (log : List Logged) (stripe : Stripe) (knows : List ℕ) (o other : Opening) (b : Bool) → life_of log stripe.line ≡ Opened o → is_life other.number (Opened o) ≡ b
     → stripes_of (with_place log stripe knows) other ≡ stripes_of log other ++ cond b (new_placed log stripe o ∷ []) []
 stripes_now log stripe knows o other b opened is =
     ap (filter (λ (p : Placed). is_life other.number p.life)) (placements_now log stripe knows o opened)

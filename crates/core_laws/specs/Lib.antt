@@ -6,3 +6,4 @@ pub mod RowsOf
 pub mod Stepping
 pub mod Positions
 pub mod PlainWorlds
+pub mod SimpleMounts

@@ -1,4 +1,4 @@
--- In a plain world no stripe bears a position twice.
+-- In a simple mount no stripe bears a position twice.
 use Rattle.std.proofs.Common.{◌≡◌, ◌⊎◌, inl, inr, ℕ, ◌+◌, ◌-◌, ◌≤◌, ◌==◌, ◌&&◌, zero, suc, not, nat_eq, Bool, true, false, cond, List, [], ◌∷◌, ◌++◌, length, take, drop, replicate, refl, sym, subst, ap, ◌∙◌, arith, append-nil, length-append}
 use Rattle.std.specs.Prelude.{map, slice_range, is_some}
 use Rattle.std.specs.List.{AllByRecursion, filter, range_with_len}
@@ -22,7 +22,9 @@ use Rattle.pblk_world.specs.Legal.{IsDecision}
 use Rattle.pblk_world.proofs.Appending.{placements_more}
 use Rattle.core_laws.specs.PlacerOf.{positions_of}
 use Rattle.core_laws.specs.Positions.{AreNumbered, AreMarked}
-use Rattle.core_laws.specs.PlainWorlds.{is_plain_event, ArePlain, IsPlainWorld}
+use Rattle.core_laws.specs.PlainWorlds.{is_plain_event, ArePlain}
+use Rattle.core_laws.specs.SimpleMounts.{IsSimpleMount}
+use Rattle.core_laws.proofs.SimpleMounts.{engine_plain}
 use Rattle.core_laws.proofs.Placing.{not_below}
 use Rattle.core_laws.proofs.Numbering.{numbered_after}
 use Rattle.core_laws.proofs.KeptPositions.{marked_after}
@@ -202,5 +204,6 @@ once_kept i small = record {
   };
 }
 
-pub borne_once : (i : Image) (w : World) → IsPlainWorld i w → AllByRecursion (λ (p : Placed). BearsOnce i.shape p.stripe.blocks) (placements (log_of w 0))
-borne_once i w plain = (kept i is_plain_event (IsBorne i.shape) (once_kept i (accepted_small i.shape plain.accepted)) w plain.legal plain.engine).once
+pub borne_once : (i : Image) (w : World) → IsSimpleMount i w → AllByRecursion (λ (p : Placed). BearsOnce i.shape p.stripe.blocks) (placements (log_of w 0))
+borne_once i w simple =
+    (kept i is_plain_event (IsBorne i.shape) (once_kept i (accepted_small i.shape simple.mount.accepted)) w simple.mount.legal (engine_plain i w simple)).once

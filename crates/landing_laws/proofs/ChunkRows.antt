@@ -1,5 +1,5 @@
 -- The stripes of a chunk, of those of its line: every so many is one, and each is a stripe further.
-use Rattle.std.proofs.Common.{◌≡◌, ◌⊎◌, inl, inr, ℕ, ◌+◌, ◌*◌, ◌-◌, ◌/◌, ◌%◌, ◌<◌, ◌==◌, zero, suc, nat_eq, nat_lt, Bool, true, false, cond, Some, List, [], ◌∷◌, length, refl, sym, subst, ap, ap₂, ◌∙◌, arith, mod-lt, div-add-mod'}
+use Rattle.std.proofs.Common.{◌≡◌, ◌⊎◌, inl, inr, ℕ, ◌+◌, ◌*◌, ◌/◌, ◌%◌, ◌<◌, ◌==◌, zero, suc, nat_eq, nat_lt, Bool, true, false, cond, Some, List, [], ◌∷◌, length, refl, sym, subst, ap, ap₂, ◌∙◌, arith, mod-lt, div-add-mod'}
 use Rattle.std.specs.Prelude.{slice_get}
 use Rattle.std.specs.List.{filter}
 use Rattle.std.specs.List.Sorted.{IsStrictlyIncreasing}

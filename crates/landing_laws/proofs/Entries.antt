@@ -1,4 +1,4 @@
--- What a plain world took: users' entries, each with the mark of its sector, their positions in order.
+-- What a simple mount took: users' entries, each with the mark of its sector, their positions in order.
 use Rattle.std.proofs.Common.{◌≡◌, ℕ, ◌<◌, ◌≤◌, true, List, [], ◌∷◌, ◌++◌, refl, sym, subst, ◌∙◌, append-nil}
 use Rattle.std.specs.List.{AllByRecursion}
 use Rattle.pblk_model.specs.declared.shape.Shape.{Shape}
@@ -10,7 +10,9 @@ use Rattle.pblk_world.specs.EngineLog.{Begun, Taken, takes}
 use Rattle.pblk_world.specs.Fronts.{is_users}
 use Rattle.pblk_world.specs.Legal.{IsLegal, IsDecision}
 use Rattle.core_laws.specs.Positions.{AreNumbered, AreMarked, AreTaken}
-use Rattle.core_laws.specs.PlainWorlds.{is_plain_event, is_plain_decision, IsPlainWorld}
+use Rattle.core_laws.specs.PlainWorlds.{is_plain_event, is_plain_decision}
+use Rattle.core_laws.specs.SimpleMounts.{IsSimpleMount}
+use Rattle.core_laws.proofs.SimpleMounts.{engine_plain}
 use Rattle.core_laws.proofs.Numbering.{numbered_after}
 use Rattle.core_laws.proofs.KeptPositions.{marked_after, taken_after}
 use Rattle.landing_laws.proofs.Keeping.{IsKept, kept}
@@ -65,5 +67,6 @@ users_kept i = record {
   next = λ known log beginning e knows begins own passes may was. users_next i known log beginning e knows passes may was;
 }
 
-pub users_entries : (i : Image) (w : World) → IsPlainWorld i w → AllByRecursion (IsUsers i.shape) (takes (log_of w 0))
-users_entries i w plain = kept i is_plain_event (λ log. AllByRecursion (IsUsers i.shape) (takes log)) (users_kept i) w plain.legal plain.engine
+pub users_entries : (i : Image) (w : World) → IsSimpleMount i w → AllByRecursion (IsUsers i.shape) (takes (log_of w 0))
+users_entries i w simple =
+    kept i is_plain_event (λ log. AllByRecursion (IsUsers i.shape) (takes log)) (users_kept i) w simple.mount.legal (engine_plain i w simple)

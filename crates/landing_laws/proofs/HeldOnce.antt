@@ -1,4 +1,4 @@
--- In a plain world each position is in one stripe at most.
+-- In a simple mount each position is in one stripe at most.
 use Rattle.std.proofs.Common.{◌≡◌, ◌⊎◌, inl, inr, ℕ, ◌+◌, ◌-◌, ◌<◌, ◌≤◌, ◌==◌, ◌&&◌, ◌||◌, zero, suc, not, nat_lt, Bool, true, false, cond, List, [], ◌∷◌, ◌++◌, length, take, drop, replicate, refl, sym, subst, ap, ◌∙◌, arith, length-append}
 use Rattle.std.specs.Prelude.{map, slice_get, slice_range, is_some}
 use Rattle.std.specs.List.{AllByRecursion, filter, list_any}
@@ -23,7 +23,9 @@ use Rattle.pblk_world.specs.Placing.{next_address, end_address, end_record, IsSt
 use Rattle.pblk_world.specs.Legal.{IsDecision}
 use Rattle.pblk_world.proofs.Appending.{placements_more}
 use Rattle.core_laws.specs.Positions.{AreMarked}
-use Rattle.core_laws.specs.PlainWorlds.{is_plain_event, ArePlain, IsPlainWorld}
+use Rattle.core_laws.specs.PlainWorlds.{is_plain_event, ArePlain}
+use Rattle.core_laws.specs.SimpleMounts.{IsSimpleMount}
+use Rattle.core_laws.proofs.SimpleMounts.{engine_plain}
 use Rattle.core_laws.proofs.KeptPositions.{marked_after}
 use Rattle.core_laws.proofs.PlacedPositions.{unnamed}
 use Rattle.landing_laws.proofs.Keeping.{IsKept, kept}
@@ -178,8 +180,9 @@ once_kept i small = record {
   };
 }
 
-pub held_once : (i : Image) (w : World) → IsPlainWorld i w → HeldOnce i.shape (log_of w 0)
-held_once i w plain = (kept i is_plain_event (IsOnce i.shape) (once_kept i (accepted_small i.shape plain.accepted)) w plain.legal plain.engine).once
+pub held_once : (i : Image) (w : World) → IsSimpleMount i w → HeldOnce i.shape (log_of w 0)
+held_once i w simple =
+    (kept i is_plain_event (IsOnce i.shape) (once_kept i (accepted_small i.shape simple.mount.accepted)) w simple.mount.legal (engine_plain i w simple)).once
 
 -- two stripes that hold a position are one
 pub one_holder : (s : Shape) (log : List Logged) (q : ℕ) (r t : Placed) → HeldOnce s log → IsAmong (placements log) r → IsAmong (placements log) t → holds_position s q r ≡ true → holds_position s q t ≡ true → r ≡ t

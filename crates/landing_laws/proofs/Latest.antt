@@ -11,7 +11,7 @@ use Rattle.pblk_world.specs.Events.{Logged}
 use Rattle.pblk_world.specs.World.{World, log_of}
 use Rattle.pblk_world.specs.EngineLog.{Taken, takes}
 use Rattle.pblk_world.specs.Fronts.{first_position, taken, is_users, user_takes, history, user_positions, last_take}
-use Rattle.core_laws.specs.PlainWorlds.{IsPlainWorld}
+use Rattle.core_laws.specs.SimpleMounts.{IsSimpleMount}
 use Rattle.core_laws.proofs.Placing.{all_pass}
 use Rattle.core_laws.proofs.PlacedPositions.{numbered_below}
 use Rattle.landing_laws.proofs.Entries.{IsUsers, AreInOrder, in_order, users_entries}
@@ -58,21 +58,24 @@ all_users : (s : Shape) (log : List Logged) → AllByRecursion (IsUsers s) (take
 all_users s log all = all_pass (λ (t : Taken). is_users t.entry.source) (takes log)
     (all_imply (IsUsers s) (λ (t : Taken). is_users t.entry.source ≡ true) (λ t is. is.users) (takes log) all)
 
-history_holds : (i : Image) (w : World) (before : List (List ℕ)) (lba : ℕ) → IsPlainWorld i w → lba < length before
+history_holds : (i : Image) (w : World) (before : List (List ℕ)) (lba : ℕ) → IsSimpleMount i w → lba < length before
     → Holds (slice_get before lba) (histories.after before (history (log_of w 0))) lba (last_take (log_of w 0) lba)
-history_holds i w before lba plain inside =
+history_holds i w before lba simple inside =
     let log : List Logged = log_of w 0 in
-    let all : AllByRecursion (IsUsers i.shape) (takes log) = users_entries i w plain in
+    let all : AllByRecursion (IsUsers i.shape) (takes log) = users_entries i w simple in
     subst (λ (ts : List Taken). Holds (slice_get before lba) (fold after_write before (map write_of ts)) lba (last_take (log_of w 0) lba)) (sym (all_users i.shape log all))
     (latest_holds i.shape (slice_get before lba) (takes log) before lba None all inside refl)
 
-pub latest_sector : (i : Image) (w : World) (before : List (List ℕ)) (lba : ℕ) (t : Taken) → IsPlainWorld i w → lba < length before → last_take (log_of w 0) lba ≡ Some t
+pub latest_sector : (i : Image) (w : World) (before : List (List ℕ)) (lba : ℕ) (t : Taken) → IsSimpleMount i w → lba < length before
+    → last_take (log_of w 0) lba ≡ Some t
     → slice_get (histories.after before (history (log_of w 0))) lba ≡ Some t.entry.sector
-latest_sector i w before lba t plain inside last = subst (Holds (slice_get before lba) (histories.after before (history (log_of w 0))) lba) last (history_holds i w before lba plain inside)
+latest_sector i w before lba t simple inside last =
+    subst (Holds (slice_get before lba) (histories.after before (history (log_of w 0))) lba) last (history_holds i w before lba simple inside)
 
-pub first_sector : (i : Image) (w : World) (before : List (List ℕ)) (lba : ℕ) → IsPlainWorld i w → lba < length before → last_take (log_of w 0) lba ≡ None
+pub first_sector : (i : Image) (w : World) (before : List (List ℕ)) (lba : ℕ) → IsSimpleMount i w → lba < length before → last_take (log_of w 0) lba ≡ None
     → slice_get (histories.after before (history (log_of w 0))) lba ≡ slice_get before lba
-first_sector i w before lba plain inside last = subst (Holds (slice_get before lba) (histories.after before (history (log_of w 0))) lba) last (history_holds i w before lba plain inside)
+first_sector i w before lba simple inside last =
+    subst (Holds (slice_get before lba) (histories.after before (history (log_of w 0))) lba) last (history_holds i w before lba simple inside)
 
 -- ---- how many there are
 
@@ -82,11 +85,11 @@ count_all n (t ∷ ts) all =
     ap (λ b. length (cond b (t.entry.position ∷ filter (λ q. nat_lt q n) (map (λ (t : Taken). t.entry.position) ts)) (filter (λ q. nat_lt q n) (map (λ (t : Taken). t.entry.position) ts)))) (lt_true t.entry.position n all.0)
     ∙ ap suc (count_all n ts all.1)
 
-pub history_count : (i : Image) (w : World) → IsPlainWorld i w → users (user_positions (log_of w 0)) (taken (log_of w 0)) ≡ length (history (log_of w 0))
-history_count i w plain =
+pub history_count : (i : Image) (w : World) → IsSimpleMount i w → users (user_positions (log_of w 0)) (taken (log_of w 0)) ≡ length (history (log_of w 0))
+history_count i w simple =
     let log : List Logged = log_of w 0 in
-    let same : user_takes log ≡ takes log = all_users i.shape log (users_entries i w plain) in
-    let order : AreInOrder i.shape log = in_order i w (accepted_small i.shape plain.accepted) plain.legal in
+    let same : user_takes log ≡ takes log = all_users i.shape log (users_entries i w simple) in
+    let order : AreInOrder i.shape log = in_order i w (accepted_small i.shape simple.mount.accepted) simple.mount.legal in
     ap (λ (ts : List Taken). users (map (λ (t : Taken). t.entry.position) ts) (taken (log_of w 0))) same
     ∙ count_all (taken log) (takes log) (numbered_below (first_position log) (length (takes log)) (takes log) order.numbered)
     ∙ ap (λ (ts : List Taken). length (map write_of ts)) (sym same)

@@ -12,13 +12,14 @@ use Rattle.pblk_world.specs.Events.{Landed, Decides, Logged}
 use Rattle.pblk_world.specs.World.{World, log_of}
 use Rattle.pblk_world.specs.EngineLog.{Opened, Opening, Taken, takes, Placed, placed_on, answers, bears_position, holds_position}
 use Rattle.pblk_world.specs.Fronts.{first_position, has_landed_at, is_users}
+use Rattle.pblk_world.specs.Legal.{IsLegal}
 use Rattle.pblk_world.specs.Space.{landed_blocks, is_readable_in}
 use Rattle.l2p_map.specs.declared.slot.Slot.{Slot}
 use Rattle.l2p_map.specs.declared.slot.Slot.TheVariants.{Unwritten, Cached, Media}
 use Rattle.write_window.specs.declared.held.Progress.{Progress}
 use Rattle.core_laws.specs.Stepping.{after}
 use Rattle.core_laws.specs.PlacerOf.{unanswered_on}
-use Rattle.core_laws.specs.PlainWorlds.{IsPlainWorld}
+use Rattle.core_laws.specs.SimpleMounts.{IsSimpleMount}
 use Rattle.core_laws.specs.SlotOf.{slot_of}
 use Rattle.core_laws.specs.WindowOf.{HeldSector, class_of, source_of, is_given_back, progress_by, held_of, users_below, window_from}
 use Rattle.core_laws.proofs.Answered.{first_unanswered}
@@ -119,42 +120,45 @@ window_newly s log new p o from is newest same first = same_window from (users_b
     (ap₂ (λ n (ts : List Taken). map (held_of s new) (drop (from - n) ts)) first same
     ∙ each_newly s log new p o (drop (from - first_position log) (takes log)) is newest)
 
--- ---- in a plain world
+-- ---- in a simple mount
 
-pub newest_in : (i : Image) (w : World) (unit : ℕ) (p : Placed) → IsPlainWorld i w → unanswered_on (log_of w 0) unit ≡ Some p → IsNewest (log_of w 0) p
-newest_in i w unit p plain waits =
+pub newest_in : (i : Image) (w : World) (unit : ℕ) (p : Placed) → IsLegal i w → unanswered_on (log_of w 0) unit ≡ Some p → IsNewest (log_of w 0) p
+newest_in i w unit p legal waits =
     let its : p.stripe.unit ≡ unit = (first_unanswered (log_of w 0) unit p waits).of_unit in
-    let one : length (placed_on (log_of w 0) unit) ≤ length (answers (log_of w 0) unit) + 1 = one_unanswered i w plain.legal unit in
+    let one : length (placed_on (log_of w 0) unit) ≤ length (answers (log_of w 0) unit) + 1 = one_unanswered i w legal unit in
     record {
       index = length (answers (log_of w 0) unit);
       at = ap (λ u. slice_get (placed_on (log_of w 0) u) (length (answers (log_of w 0) unit))) its ∙ waits;
       last = subst (λ u. length (placed_on (log_of w 0) u) ≤ length (answers (log_of w 0) unit) + 1) (sym its) one;
     }
 
-pub window_by_new : (i : Image) (w : World) (unit event : ℕ) (knows : List ℕ) (p : Placed) (o : Opening) (from : ℕ) → IsPlainWorld i w → unanswered_on (log_of w 0) unit ≡ Some p → p.life ≡ Opened o → AreInRows i.shape (log_of w 0) o unit
+pub window_by_new : (i : Image) (w : World) (unit event : ℕ) (knows : List ℕ) (p : Placed) (o : Opening) (from : ℕ) → IsSimpleMount i w
+    → unanswered_on (log_of w 0) unit ≡ Some p → p.life ≡ Opened o → AreInRows i.shape (log_of w 0) o unit
     → window_from i.shape (after (log_of w) (Landed unit event) knows 0) from
     ≡ advanced_window (λ q. holds_position i.shape q p) (λ q. list_any (bears_position i.shape q) (newly_readable i.shape (log_of w 0) o unit)) (window_from i.shape (log_of w 0) from)
-window_by_new i w unit event knows p o from plain waits life rows =
+window_by_new i w unit event knows p o from simple waits life rows =
     let l : Logged = record { event = Decides (Landed unit event); knows = knows } in
     subst (λ u. window_from i.shape (with_landing (log_of w 0) unit event knows) from ≡ advanced_window (λ q. holds_position i.shape q p) (λ q. list_any (bears_position i.shape q) (newly_readable i.shape (log_of w 0) o u)) (window_from i.shape (log_of w 0) from))
     (first_unanswered (log_of w 0) unit p waits).of_unit
-    (window_newly i.shape (log_of w 0) (with_landing (log_of w 0) unit event knows) p o from (landed_now i w unit event knows p o plain waits life rows) (newest_in i w unit p plain waits)
+    (window_newly i.shape (log_of w 0) (with_landing (log_of w 0) unit event knows) p o from (landed_now i w unit event knows p o simple waits life rows) (newest_in i w unit p simple.mount.legal waits)
     (takes_more (log_of w 0) l ∙ append-nil (takes (log_of w 0))) (first_kept (log_of w 0) (Landed unit event) knows refl))
 
-among_in : (i : Image) (w : World) (unit event : ℕ) (knows : List ℕ) (p : Placed) (o : Opening) (q : ℕ) → IsPlainWorld i w → unanswered_on (log_of w 0) unit ≡ Some p → p.life ≡ Opened o → AreInRows i.shape (log_of w 0) o unit → is_given_back i.shape (log_of w 0) q ≡ false
+among_in : (i : Image) (w : World) (unit event : ℕ) (knows : List ℕ) (p : Placed) (o : Opening) (q : ℕ) → IsSimpleMount i w
+    → unanswered_on (log_of w 0) unit ≡ Some p → p.life ≡ Opened o → AreInRows i.shape (log_of w 0) o unit → is_given_back i.shape (log_of w 0) q ≡ false
     → block_read i.shape (with_landing (log_of w 0) unit event knows) o unit q ≡ block_among i.shape (log_of w 0) o unit q
-among_in i w unit event knows p o q plain waits life rows kept =
+among_in i w unit event knows p o q simple waits life rows kept =
     subst (λ u. block_read i.shape (with_landing (log_of w 0) unit event knows) o u q ≡ block_among i.shape (log_of w 0) o u q) (first_unanswered (log_of w 0) unit p waits).of_unit
-    (found_among i.shape (log_of w 0) (with_landing (log_of w 0) unit event knows) p o q (landed_now i w unit event knows p o plain waits life rows) (newest_in i w unit p plain waits) kept)
+    (found_among i.shape (log_of w 0) (with_landing (log_of w 0) unit event knows) p o q (landed_now i w unit event knows p o simple waits life rows) (newest_in i w unit p simple.mount.legal waits) kept)
 
-pub slot_by_new : (i : Image) (w : World) (unit event : ℕ) (knows : List ℕ) (p : Placed) (o : Opening) (lba : ℕ) → IsPlainWorld i w → unanswered_on (log_of w 0) unit ≡ Some p → p.life ≡ Opened o → AreInRows i.shape (log_of w 0) o unit
+pub slot_by_new : (i : Image) (w : World) (unit event : ℕ) (knows : List ℕ) (p : Placed) (o : Opening) (lba : ℕ) → IsSimpleMount i w
+    → unanswered_on (log_of w 0) unit ≡ Some p → p.life ≡ Opened o → AreInRows i.shape (log_of w 0) o unit
     → slot_of i (after (log_of w) (Landed unit event) knows) lba ≡ read_slot i (log_of w) o unit (block_among i.shape (log_of w 0) o unit) (slot_of i (log_of w) lba)
-slot_by_new i w unit event knows p o lba plain waits life rows =
-    slot_landed i w unit event knows p o lba plain waits life rows ∙ go (slot_of i (log_of w) lba) refl
+slot_by_new i w unit event knows p o lba simple waits life rows =
+    slot_landed i w unit event knows p o lba simple waits life rows ∙ go (slot_of i (log_of w) lba) refl
   where
     go : (x : Slot) → slot_of i (log_of w) lba ≡ x
         → read_slot i (log_of w) o unit (block_read i.shape (with_landing (log_of w 0) unit event knows) o unit) x ≡ read_slot i (log_of w) o unit (block_among i.shape (log_of w 0) o unit) x
     go Unwritten e = refl
     go (Cached q) e = ap (λ b. option_map_or (λ block. Media o.line (address_of_block i (log_of w) o unit block) q) b (Cached q))
-        (among_in i w unit event knows p o q plain waits life rows (cached_kept i (log_of w) lba q e))
+        (among_in i w unit event knows p o q simple waits life rows (cached_kept i (log_of w) lba q e))
     go (Media line at q) e = refl

@@ -1,7 +1,7 @@
 -- Stripes in a plain world: none is lost, and at most one of a unit isn't answered.
-use Rattle.std.proofs.Common.{◌≡◌, ℕ, ◌+◌, ◌<◌, ◌≤◌, ◌==◌, zero, suc, nat_eq, Bool, true, false, cond, Some, None, Option, List, [], ◌∷◌, ◌++◌, length, take, refl, sym, subst, ap, ap₂, ◌∙◌, arith, length-append}
+use Rattle.std.proofs.Common.{◌≡◌, ℕ, ◌+◌, ◌<◌, ◌≤◌, ◌==◌, nat_eq, Bool, true, false, cond, Some, None, Option, List, [], ◌∷◌, ◌++◌, length, take, refl, subst, ap, ap₂, ◌∙◌, arith, length-append}
 use Rattle.std.specs.Prelude.{slice_get, is_some}
-use Rattle.std.specs.List.{AllByRecursion, Contains, filter}
+use Rattle.std.specs.List.{AllByRecursion, filter}
 use Rattle.std.specs.Option.{option_to_list}
 use Rattle.std.proofs.lemmas.Bool.{eqb-true}
 use Rattle.std.proofs.lemmas.List.Elements.{filter-append}
@@ -9,33 +9,21 @@ use Rattle.std.proofs.lemmas.Option.{slice_get_within}
 use Rattle.pblk_model.specs.Image.{Image}
 use Rattle.pblk_world.specs.Events.{EngineEvent, Place, Decides, Logged}
 use Rattle.pblk_world.specs.World.{World, Logs, log_of}
-use Rattle.pblk_world.specs.EngineLog.{Begun, life_of, Placed, placed_by, placements, placed_on, Answer, DidLand, WasLost, answers, answer_of, is_land, is_loss, has_landed, is_answered}
+use Rattle.pblk_world.specs.EngineLog.{Begun, life_of, Placed, placed_by, placements, placed_on, Answer, DidLand, WasLost, answers, answer_of, is_land, is_loss, has_landed}
 use Rattle.pblk_world.specs.Legal.{IsLegal, IsDecision}
 use Rattle.pblk_world.proofs.Appending.{placements_more}
 use Rattle.core_laws.specs.PlainWorlds.{ArePlain}
 use Rattle.landing_laws.proofs.Keeping.{IsKept, kept}
 use Rattle.landing_laws.proofs.Turns.{turn_at}
 use Rattle.core_laws.proofs.PlainWorldsLemmas.{not_lost}
+use Rattle.core_laws.proofs.IdleUnits.{idle_fits}
 use Rattle.lemmas.proofs.Lists.{all_true}
-use Rattle.lemmas.proofs.Parts.{all_by_get, got_within, is_in, some_within, within_some}
+use Rattle.lemmas.proofs.Parts.{all_by_get, within_some}
 use Rattle.pblk_world.proofs.EngineLogLemmas.{answer_count}
 
 -- ---- no stripe is lost
 
 -- ---- one stripe of a unit
-
--- where all stripes of a unit are answered there are as many answers
-pub idle_fits : (log : List Logged) (unit : ℕ) → ((p : Placed) → Contains (placed_on log unit) p → is_answered log p ≡ true) → length (placed_on log unit) ≤ length (answers log unit)
-idle_fits log unit idle = go (length (placed_on log unit)) refl
-  where
-    go : (n : ℕ) → length (placed_on log unit) ≡ n → length (placed_on log unit) ≤ length (answers log unit)
-    go zero e = omega arith
-    go (suc m) e =
-        let last : (p : Placed) × (slice_get (placed_on log unit) m ≡ Some p) = got_within (placed_on log unit) m (omega arith) in
-        let at = turn_at log unit m last.0 last.1 in
-        let inside : m < length (answers log unit) = some_within (answers log unit) m
-        (ap₂ (λ u n. is_some (slice_get (answers log u) n)) (sym at.0) (sym at.1) ∙ idle last.0 (is_in (placed_on log unit) m last.0 last.1)) in
-        omega arith
 
 abbrev pub HasOne : List Logged → Type 0
 HasOne log = (unit : ℕ) → length (placed_on log unit) ≤ length (answers log unit) + 1

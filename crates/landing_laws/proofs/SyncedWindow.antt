@@ -12,7 +12,7 @@ use Rattle.pblk_model.specs.History.{users}
 use Rattle.pblk_world.specs.Events.{Source, Logged}
 use Rattle.pblk_world.specs.EngineLog.{Taken, takes}
 use Rattle.pblk_world.specs.Fronts.{first_position, taken, has_landed_at, synced, is_users, user_takes, user_positions}
-use Rattle.pblk_world.proofs.SyncedFront.{synced_is, synced_within}
+use Rattle.pblk_world.proofs.SyncedFront.{synced_is, synced_within, IsLeast, least}
 use Rattle.write_window.specs.declared.held.Held.{Held}
 use Rattle.write_window.specs.Entries.{has_landed, user_count, users_in, landed_first}
 use Rattle.write_window.specs.Window.{WindowView}
@@ -21,7 +21,6 @@ use Rattle.core_laws.specs.PlacerOf.{positions_of}
 use Rattle.core_laws.specs.Positions.{AreNumbered}
 use Rattle.core_laws.specs.WindowOf.{HeldSector, HeldSectors, without_frame, sectors_in, class_of, progress_by, is_given_back, held_of, users_below, window_from}
 use Rattle.core_laws.proofs.Placing.{not_below}
-use Rattle.landing_laws.proofs.Least.{IsLeast, least}
 use Rattle.lemmas.proofs.Lists.{all_imply}
 use Rattle.lemmas.proofs.Maps.{all_filter, filter_none}
 use Rattle.lemmas.proofs.Tests.{below_by, lt_true, no_both}

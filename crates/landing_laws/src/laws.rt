@@ -13,19 +13,19 @@ ghost use Rattle.pblk_world.specs.EngineLog.{Taken, takes};
 ghost use Rattle.pblk_world.specs.Fronts.{taken, has_landed_at, synced};
 ghost use Rattle.pblk_world.specs.Fronts.{history, user_positions, last_take};
 ghost use Rattle.pblk_world.specs.Space.{freed};
-ghost use Rattle.core_laws.specs.PlainWorlds.{IsPlainWorld};
+ghost use Rattle.core_laws.specs.SimpleMounts.{IsSimpleMount};
 ghost use Rattle.core_laws.specs.Stepping.{after};
 
-/// In a plain world a sector holds after the history what its last entry has. A sector without an entry holds
+/// In a simple mount a sector holds after the history what its last entry has. A sector without an entry holds
 /// what it held before. The history has as many lines as users' writes were taken.
 pub fn the_history_is_the_latest()
     ensures written { (i : Image) (w : World) (before : List (List ℕ)) (lba : ℕ) (t : Taken)
-        → IsPlainWorld i w → lba < length before → last_take (log_of w 0) lba ≡ Some t
+        → IsSimpleMount i w → lba < length before → last_take (log_of w 0) lba ≡ Some t
         → slice_get (after_history before (history (log_of w 0))) lba ≡ Some t.entry.sector }
     ensures unwritten { (i : Image) (w : World) (before : List (List ℕ)) (lba : ℕ)
-        → IsPlainWorld i w → lba < length before → last_take (log_of w 0) lba ≡ None
+        → IsSimpleMount i w → lba < length before → last_take (log_of w 0) lba ≡ None
         → slice_get (after_history before (history (log_of w 0))) lba ≡ slice_get before lba }
-    ensures count { (i : Image) (w : World) → IsPlainWorld i w
+    ensures count { (i : Image) (w : World) → IsSimpleMount i w
         → users (user_positions (log_of w 0)) (taken (log_of w 0))
         ≡ length (history (log_of w 0)) }
 {}

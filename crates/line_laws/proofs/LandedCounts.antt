@@ -15,7 +15,7 @@ use Rattle.pblk_model.specs.StartRecord.{StartRecord}
 use Rattle.core_laws.proofs.Answered.{IsAnswer, IsFirst, its_answer, others_answer, first_unanswered}
 use Rattle.core_laws.proofs.Engine.{placements_before}
 use Rattle.core_laws.proofs.Opening.{placed_before}
-use Rattle.core_laws.proofs.Placing.{with_place, new_placed, IsPlacing, answer_now, new_unanswered}
+use Rattle.core_laws.proofs.Placing.{with_place, new_placed, IsPlacing, answer_now, new_unanswered, stripes_now}
 use Rattle.core_laws.proofs.Steady.{AreAlike}
 use Rattle.core_laws.proofs.Taking.{filter_last}
 use Rattle.core_laws.proofs.TakenSlots.{landed_same}
@@ -29,7 +29,6 @@ use Rattle.line_laws.proofs.IdleUnits.{first_answer}
 use Rattle.line_laws.proofs.Kept.{with_event, placements_kept, alike_kept}
 use Rattle.line_laws.proofs.LineRoom.{few_stripes}
 use Rattle.line_laws.proofs.OpenedRows.{new_opening}
-use Rattle.line_laws.proofs.PlacedAddresses.{stripes_now}
 use Rattle.lemmas.proofs.Lists.{IsAmong, among_all, zipped}
 use Rattle.lemmas.proofs.Maps.{all_filter, filter_agree, filter_none, filter_same, filter_short, in_filter}
 use Rattle.lemmas.proofs.Tests.{other_number, same_number}

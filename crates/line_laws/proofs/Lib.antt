@@ -20,11 +20,8 @@ pub mod PlacedPlaces
 pub mod PlacedRows
 pub mod LiveCounts
 pub mod Orders
-pub mod Programs
 pub mod IdleUnits
-pub mod Knowledge
 pub mod KnownLines
 pub mod LinesInRange
 pub mod LineRoom
 pub mod LandedCounts
-pub mod AwaitedStripes

@@ -20,12 +20,14 @@ use Rattle.pblk_world.specs.Legal.{IsDecision, MayDecide, IsAllowed, IsLegal}
 use Rattle.pblk_world.proofs.Appending.{life_more}
 use Rattle.line_table.specs.declared.row.LineState.TheVariants as states
 use Rattle.core_laws.specs.PlacerOf.{unanswered_on}
-use Rattle.core_laws.specs.PlainWorlds.{is_plain_event, ArePlain, IsPlainWorld}
+use Rattle.core_laws.specs.PlainWorlds.{is_plain_event, ArePlain}
 use Rattle.core_laws.specs.RowsOf.{state_in, row_of_line}
+use Rattle.core_laws.specs.SimpleMounts.{IsSimpleMount}
 use Rattle.core_laws.proofs.Answered.{IsFirst, first_unanswered}
 use Rattle.core_laws.proofs.Numbers.{opens_at, life_at}
 use Rattle.core_laws.proofs.Opening.{placed_before}
-use Rattle.core_laws.proofs.Placing.{with_place, new_placed}
+use Rattle.core_laws.proofs.Placing.{with_place, new_placed, stripes_now}
+use Rattle.core_laws.proofs.SimpleMounts.{engine_plain}
 use Rattle.line_laws.specs.InOrder.{HasRoom}
 use Rattle.line_laws.specs.OpenAddresses.{keeps_addresses}
 use Rattle.line_laws.specs.Plain.{NoneFailed}
@@ -33,7 +35,7 @@ use Rattle.line_laws.proofs.IdleUnits.{first_answer}
 use Rattle.line_laws.proofs.Kept.{with_event, placements_kept, lives_kept, also_stripes}
 use Rattle.line_laws.proofs.OpenedRows.{new_opening, life_now, life_elsewhere}
 use Rattle.line_laws.proofs.Orders.{plain_before}
-use Rattle.line_laws.proofs.PlacedAddresses.{stripe_within, whole_start, whole_line, whole_to_end, stripes_now}
+use Rattle.line_laws.proofs.PlacedAddresses.{stripe_within, whole_start, whole_line, whole_to_end}
 use Rattle.line_laws.proofs.PlainLogs.{none_failed}
 use Rattle.lemmas.proofs.Lists.{IsAmong}
 use Rattle.lemmas.proofs.Maps.{filter_none, in_filter}
@@ -173,9 +175,9 @@ all_room i (s ∷ w) drive legal plain =
         (subst (λ a. IsAllowed i a s.logged.event (prefixes s.logged (log_of w))) engine legal.0.allowed)
         (ap (λ n. take n (log_of w 0)) whole ∙ take_all (length (log_of w 0)) (log_of w 0) (le_refl (length (log_of w 0)))) is
 
-pub has_room : (i : Image) (w : World) (line : ℕ) (o : Opening) → IsPlainWorld i w → life_of (log_of w 0) line ≡ Opened o → HasRoom i.shape (log_of w 0) o
+pub has_room : (i : Image) (w : World) (line : ℕ) (o : Opening) → IsSimpleMount i w → life_of (log_of w 0) line ≡ Opened o → HasRoom i.shape (log_of w 0) o
 unfolding AllRoom
-has_room i w line o is opened = all_room i w is.accepted.drive is.legal is.engine line o opened
+has_room i w line o m opened = all_room i w m.mount.accepted.drive m.mount.legal (engine_plain i w m) line o opened
 
 -- ---- the state of the line of a stripe that isn't answered
 

@@ -1,4 +1,4 @@
--- The logs of a plain world are in order.
+-- The logs of a simple mount are in order.
 use Rattle.std.proofs.Common.{◌≡◌, ℕ, ◌<◌, ◌≤◌, ◌^◌, ◌==◌, nat_eq, Bool, true, false, Some, List, [], ◌∷◌, ◌++◌, length, take, refl, sym, subst, ap, ◌∙◌, arith, append-nil, take_all, le_refl, if◌then◌else◌}
 use Rattle.std.specs.List.{AllByRecursion}
 use Rattle.std.proofs.lemmas.Bool.{eqb-true}
@@ -11,11 +11,13 @@ use Rattle.pblk_world.specs.EngineLog.{Begun, begun, Opened, is_opened, life_of,
 use Rattle.pblk_world.specs.Legal.{IsDecision, MayDecide, IsAllowed, IsLegal}
 use Rattle.pblk_world.proofs.Appending.{life_more}
 use Rattle.pblk_world.proofs.Answered.{answers_fit}
-use Rattle.core_laws.specs.PlainWorlds.{is_plain_event, ArePlain, IsPlainWorld}
+use Rattle.core_laws.specs.PlainWorlds.{is_plain_event, ArePlain}
+use Rattle.core_laws.specs.SimpleMounts.{IsSimpleMount}
 use Rattle.core_laws.specs.Positions.{AreNumbered, AreMarked, AreTaken}
 use Rattle.core_laws.proofs.KeptPositions.{marked_after, taken_after}
 use Rattle.core_laws.proofs.Numbering.{numbered_after}
 use Rattle.core_laws.proofs.Placing.{new_placed, placements_now}
+use Rattle.core_laws.proofs.SimpleMounts.{engine_plain}
 use Rattle.core_laws.proofs.Removing.{all_first as all_left, all_second as all_right}
 use Rattle.line_laws.specs.InOrder.{IsInPlace, IsInOrder}
 use Rattle.line_laws.specs.PlacedEntries.{AreOfSectors}
@@ -140,10 +142,11 @@ ordered i (s ∷ w) small legal plain =
 pub small_capacity : (i : Image) → IsAccepted i.shape → i.shape.capacity ≤ meta_lba
 small_capacity i accepted = let few : i.shape.capacity < 2 ^ 40 = accepted.target.capacity_number in omega arith
 
-pub in_order : (i : Image) (w : World) → IsPlainWorld i w → IsInOrder i (log_of w)
-in_order i w is =
-    let small : i.shape.capacity ≤ meta_lba = small_capacity i is.accepted in
-    let now : IsOrdered i (log_of w 0) = ordered i w small is.legal is.engine in
+pub in_order : (i : Image) (w : World) → IsSimpleMount i w → IsInOrder i (log_of w)
+in_order i w m =
+    let small : i.shape.capacity ≤ meta_lba = small_capacity i m.mount.accepted in
+    let plain : ArePlain (log_of w 0) = engine_plain i w m in
+    let now : IsOrdered i (log_of w 0) = ordered i w small m.mount.legal plain in
     record {
       small = small;
       numbered = now.numbered;
@@ -151,8 +154,8 @@ in_order i w is =
       sectors = now.sectors;
       taken = now.taken;
       placed = now.placed;
-      answered = λ unit. answers_fit i w unit is.legal;
-      freed = none_freed (log_of w 0) is.engine;
-      lost = none_lost (log_of w 0) is.engine;
-      failed = none_failed (log_of w 0) is.engine;
+      answered = λ unit. answers_fit i w unit m.mount.legal;
+      freed = none_freed (log_of w 0) plain;
+      lost = none_lost (log_of w 0) plain;
+      failed = none_failed (log_of w 0) plain;
     }

@@ -1,7 +1,7 @@
 -- How the data addresses of the opened lines change with a stripe that is placed.
-use Rattle.std.proofs.Common.{◌≡◌, ◌≢◌, ℕ, ◌+◌, ◌-◌, ◌*◌, ◌/◌, ◌%◌, ◌<◌, ◌≤◌, ◌||◌, nat_lt, nat_le, max, Bool, true, false, cond, List, [], ◌∷◌, ◌++◌, length, take, refl, sym, subst, ap, ap₂, ◌∙◌, arith, append-nil, length-append, div-add-mod', le_of_lt, add-zero, inl, inr, ◌⊎◌}
+use Rattle.std.proofs.Common.{◌≡◌, ◌≢◌, ℕ, ◌+◌, ◌-◌, ◌*◌, ◌/◌, ◌%◌, ◌<◌, ◌≤◌, ◌||◌, nat_lt, nat_le, max, Bool, true, false, List, [], ◌∷◌, ◌++◌, length, take, refl, sym, subst, ap, ap₂, ◌∙◌, arith, append-nil, length-append, div-add-mod', le_of_lt, add-zero, inl, inr, ◌⊎◌}
 use Rattle.std.specs.Prelude.{if◌then◌else◌}
-use Rattle.std.specs.List.{AllByRecursion, filter, list_any, list_all}
+use Rattle.std.specs.List.{AllByRecursion, list_any, list_all}
 use Rattle.std.specs.Int.{div_ceil}
 use Rattle.std.proofs.Math.Nat.{mul-le-mul_right, mul-sub, mul-add, mul_comm, mul_left_comm, mul-div_cancel_left}
 use Rattle.std.proofs.lemmas.List.Folds.{list_any-append}
@@ -20,8 +20,7 @@ use Rattle.pblk_world.proofs.Appending.{life_more}
 use Rattle.core_laws.specs.Stepping.{after}
 use Rattle.core_laws.proofs.Engine.{placements_before}
 use Rattle.core_laws.proofs.Numbers.{opens_at, life_at}
-use Rattle.core_laws.proofs.Placing.{with_place, new_placed, IsPlacing, placements_now, answer_now, new_unanswered}
-use Rattle.core_laws.proofs.Taking.{filter_last}
+use Rattle.core_laws.proofs.Placing.{with_place, new_placed, IsPlacing, answer_now, new_unanswered, stripes_now}
 use Rattle.line_laws.proofs.Ranges.{sum_more}
 use Rattle.lemmas.proofs.Maps.{all_filter}
 use Rattle.lemmas.proofs.Tests.{both, or_no, other_number, same_number}
@@ -85,12 +84,6 @@ stripe_within n w e (k, is) below =
     omega (arith, is)
 
 -- ---- the stripes and losses of each opening
-
-pub stripes_now : (log : List Logged) (stripe : Stripe) (knows : List ℕ) (o other : Opening) (b : Bool) → life_of log stripe.line ≡ Opened o → is_life other.number (Opened o) ≡ b
-    → stripes_of (with_place log stripe knows) other ≡ stripes_of log other ++ cond b (new_placed log stripe o ∷ []) []
-stripes_now log stripe knows o other b opened is =
-    ap (filter (λ (p : Placed). is_life other.number p.life)) (placements_now log stripe knows o opened)
-    ∙ filter_last (λ (p : Placed). is_life other.number p.life) (placements log) (new_placed log stripe o) b is
 
 any_agree : {X : Type 0} (P : X → Type 0) (f g : X → Bool) → ((x : X) → P x → f x ≡ g x) → (xs : List X) → AllByRecursion P xs → list_any f xs ≡ list_any g xs
 any_agree P f g same [] all = refl

@@ -27,16 +27,13 @@ use Rattle.core_laws.proofs.Taking.{filter_last}
 use Rattle.core_laws.proofs.Taking as taking
 use Rattle.line_laws.specs.OpenAddresses.{keeps_placed}
 use Rattle.line_laws.proofs.Kept.{with_event}
+use Rattle.line_laws.proofs.KeptRows.{begun_kept}
 use Rattle.lemmas.proofs.Maps.{filter_none, filter_same}
 use Rattle.pblk_world.proofs.EngineLogLemmas.{takes_more}
 
 begun_by_none : (e : EngineEvent) (knows : List ℕ) → keeps_placed e ≡ true → begun_by knows (Decides e) ≡ None
 begun_by_none (Begin b) knows keeps = absurd cc
 begun_by_none e knows keeps = refl
-
-begun_kept : (log : List Logged) (e : EngineEvent) (knows : List ℕ) → begun_by knows (Decides e) ≡ None → begun (with_event log e knows) ≡ begun log
-begun_kept [] e knows none = none
-begun_kept (l ∷ log) e knows none = refl
 
 none_placed : (log : List Logged) (n : ℕ) (e : EngineEvent) → keeps_placed e ≡ true → placed_by log n (Decides e) ≡ None
 none_placed log n (Place stripe) keeps = absurd cc

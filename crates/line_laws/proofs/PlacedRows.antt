@@ -24,13 +24,13 @@ use Rattle.core_laws.specs.Stepping.{after}
 use Rattle.core_laws.specs.Positions.{IsUnplaced, AreNumbered, AreMarked}
 use Rattle.core_laws.specs.RowsOf.{state_in, state_of, width_in, taker_by, taker_in, row_of_line, rows_of}
 use Rattle.core_laws.proofs.Engine.{placements_before}
-use Rattle.core_laws.proofs.Placing.{with_place, new_placed, IsPlacing, answer_now, new_unanswered}
+use Rattle.core_laws.proofs.Placing.{with_place, new_placed, IsPlacing, answer_now, new_unanswered, stripes_now}
 use Rattle.line_laws.specs.Plain.{NoneFreed, NoneLost}
 use Rattle.line_laws.specs.PlacedEntries.{place_entries, AreOfSectors}
 use Rattle.line_laws.proofs.KeptRows.{known_kept, KeepsChunks, state_same, width_same, same_row}
 use Rattle.line_laws.proofs.NextTakes.{IsRising, rising_by}
 use Rattle.line_laws.proofs.EntryRows.{Places, last_of, live_with, taker_with, IsNowhere}
-use Rattle.line_laws.proofs.PlacedAddresses.{stripes_now, losses_now}
+use Rattle.line_laws.proofs.PlacedAddresses.{losses_now}
 use Rattle.line_laws.proofs.PlacedEntryRows.{row_with, IsEntry, with_entries, entries_placed, entry_at}
 use Rattle.line_laws.proofs.PlacedPlaces.{BearsThese, IsNamed, data_bears, others_bear, places_now}
 use Rattle.line_laws.proofs.Tables.{table_of, tables_agree}

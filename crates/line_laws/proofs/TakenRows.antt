@@ -32,6 +32,7 @@ use Rattle.line_laws.proofs.KeptRows.{known_kept, KeepsChunks, state_same, width
 use Rattle.line_laws.proofs.LandedRows.{line_of_kept}
 use Rattle.line_laws.proofs.OpenAddresses.{failed_kept}
 use Rattle.line_laws.proofs.Tables.{row_changes_any, rows_stay}
+use Rattle.line_laws.proofs.NextTakes.{latest_is}
 use Rattle.core_laws.proofs.SteppingLemmas.{found_kept}
 use Rattle.lemmas.proofs.Lists.{all_imply, last_in}
 use Rattle.lemmas.proofs.Maps.{all_filter, filter_agree, find_none}
@@ -185,10 +186,6 @@ takers_now i logs entry mark knows line b numbered next inside is =
     ∙ filter_last (took_from i new line) (takes (logs 0)) (new_taken entry mark) b (took_new i logs entry mark knows line numbered next inside ∙ is)
     ∙ ap (λ xs. xs ++ cond b (new_taken entry mark ∷ []) [])
     (filter_agree (λ (t : Taken). t.entry.position < taken (logs 0)) (took_from i new line) (took_from i logs line) (λ t below. took_old i logs entry mark knows line t (omega arith)) (takes (logs 0)) (all_below (logs 0) numbered))
-
-latest_is : (by : ℕ) (o : Option Taken) → ((t : Taken) → o ≡ Some t → t.entry.position < by) → latest (option_map (λ (t : Taken). t.entry.position) o) by ≡ by
-latest_is by None below = refl
-latest_is by (Some t) below = let before : t.entry.position < by = below t refl in omega arith
 
 taker_lost : (i : Image) (logs : Logs) (entry : Entry) (mark : Mark) (knows : List ℕ) (line : ℕ) → AreNumbered (logs 0) → entry.position ≡ taken (logs 0) → mark.lba < i.shape.capacity
     → is_live_in i logs line mark.lba ≡ true → taker_by i (after logs (Take entry mark) knows) line ≡ Some (latest (taker_by i logs line) entry.position)

@@ -1,17 +1,14 @@
--- What holds of the logs of each plain world.
-use Rattle.std.specs.Prelude.{ℕ, ◌*◌, ◌<◌, ◌≤◌, ◌≡◌, List, length, Some}
+-- What holds of the logs of each simple mount.
+use Rattle.std.specs.Prelude.{ℕ, ◌*◌, ◌<◌, ◌≤◌, ◌≡◌, List, length}
 use Rattle.std.specs.List.{AllByRecursion}
 use Rattle.pblk_model.specs.declared.shape.Shape.{Shape}
 use Rattle.pblk_model.specs.LineOrder.{data_len}
-use Rattle.pblk_model.specs.UnitLog.{UnitEvent}
 use Rattle.pblk_model.specs.Marks.{meta_lba}
 use Rattle.pblk_model.specs.Image.{Image}
 use Rattle.pblk_world.specs.Events.{Logged}
-use Rattle.pblk_world.specs.World.{Logs, unit_event_at}
+use Rattle.pblk_world.specs.World.{Logs}
 use Rattle.pblk_world.specs.EngineLog.{Opening, Opened, life_of, Placed, placements, placed_on, stripes_of, answers}
 use Rattle.pblk_world.specs.Placing.{line_end}
-use Rattle.stripe_placer.specs.Placing.{Program}
-use Rattle.core_laws.specs.PlacerOf.{unanswered_on}
 use Rattle.core_laws.specs.Positions.{AreNumbered, AreMarked, AreTaken}
 use Rattle.line_laws.specs.Plain.{NoneFreed, NoneLost, NoneFailed}
 use Rattle.line_laws.specs.PlacedEntries.{AreOfSectors}
@@ -41,17 +38,3 @@ pub record IsInOrder (i : Image) (logs : Logs) : Type 0 where
 pub record HasRoom (s : Shape) (log : List Logged) (o : Opening) : Type 0 where
   pub some : 0 < data_len s o.start.width
   pub within : length (stripes_of log o) * s.ws_opt ≤ line_end s o
-
--- the stripe whose program an event of a unit was, when its answer is noted
-pub record IsLanding (i : Image) (logs : Logs) (unit event : ℕ) : Type 0 where
-  pub stripe : Placed
-  pub is_first : unanswered_on (logs 0) unit ≡ Some stripe
-  pub place : IsInPlace i (logs 0) stripe
-  pub chunk : (e : UnitEvent) → unit_event_at logs unit event ≡ Some e → e.chunk ≡ stripe.stripe.line
-
--- the stripe of a program that is under way
-pub record IsStripeUnderWay (i : Image) (logs : Logs) (of : Program) : Type 0 where
-  pub stripe : Placed
-  pub is_first : unanswered_on (logs 0) of.unit ≡ Some stripe
-  pub place : IsInPlace i (logs 0) stripe
-  pub line : stripe.stripe.line ≡ of.line

@@ -1,164 +1,113 @@
--- Lines with a sequence number in the image that a mount found: they are never opened, and aren't among its strays.
-use Rattle.std.proofs.Common.{◌≡◌, ◌⊎◌, inl, inr, ℕ, ◌<◌, ◌==◌, ◌&&◌, ◌||◌, not, nat_lt, suc, Bool, true, false, cond, Some, Option, List, [], ◌∷◌, ◌++◌, length, refl, sym, subst, ap, ◌∙◌, arith}
-use Rattle.std.specs.Prelude.{is_some}
-use Rattle.std.specs.List.{filter, list_any, range_with_len}
-use Rattle.std.specs.Option.{option_map_or}
+-- Lines as the mount found them: one with a start record is no stray, and a line that is no stray keeps its chunks,
+-- on the media and as the engine knows them.
+use Rattle.std.proofs.Common.{◌≡◌, ℕ, ◌+◌, ◌-◌, ◌<◌, ◌≤◌, ◌==◌, not, suc, Bool, true, false, Some, None, List, [], ◌∷◌, length, refl, sym, subst, ap, ◌∙◌, arith}
+use Rattle.std.specs.Prelude.{is_some, slice_get, slice_index}
+use Rattle.std.specs.List.{filter, last_or, list_any, range_with_len}
+use Rattle.std.proofs.Math.Seq.{take-length}
 use Rattle.std.proofs.lemmas.Bool.{eqb-true}
-use Rattle.std.proofs.lemmas.Option.{same_Some, none-some}
-use Rattle.pblk_model.specs.Image.{Image}
-use Rattle.pblk_model.specs.StartRecord.{StartRecord, start_of}
-use Rattle.pblk_world.specs.Events.{Open, Decides, Logged, Step}
-use Rattle.pblk_world.specs.World.{World, Logs, log_of, prefixes, cut_logs}
-use Rattle.pblk_world.specs.EngineLog.{Begun, begun, LineLife, AsFound, Opened, Freed, Opening, life_of, turned_by}
-use Rattle.pblk_world.specs.Lines.{found_by, found_image, known_image, are_empty, line_data, has_number, is_free_line, is_stray, stray_lines, strays_of, is_given_up_by, is_given_up}
-use Rattle.pblk_world.specs.Victims.{is_freed}
-use Rattle.pblk_world.specs.Legal.{IsLegal, IsKnowledge, IsLegalStep}
-use Rattle.pblk_world.proofs.Appending.{life_more}
-use Rattle.core_laws.specs.PlainWorlds.{IsPlainWorld}
-use Rattle.core_laws.proofs.Numbering.{begun_stays}
-use Rattle.line_laws.proofs.Knowledge.{are_known}
-use Rattle.media_laws.proofs.Beginnings.{found_stays}
-use Rattle.media_laws.proofs.Decisions.{IsFirst, IsLater, decided, never_freed}
-use Rattle.media_laws.proofs.LineLives.{opened_by_event, opening_is}
-use Rattle.media_laws.proofs.Steps.{IsSomeones, whose}
-use Rattle.placing_laws.proofs.PlainEvents.{has_begun_plain}
-use Rattle.core_laws.proofs.PlainWorldsLemmas.{plain_before}
-use Rattle.lemmas.proofs.Tests.{first_of}
-use Rattle.pblk_world.proofs.EngineLogLemmas.{first_begins}
-use Rattle.pblk_world.proofs.WorldLemmas.{log_elsewhere, log_here, media_same}
+use Rattle.std.proofs.lemmas.Option.{none-some}
+use Rattle.pblk_model.specs.Chunk.{Chunk}
+use Rattle.pblk_model.specs.Contents.{counted, winner}
+use Rattle.pblk_model.specs.Image.{Image, line_units}
+use Rattle.pblk_model.specs.Records.{Record}
+use Rattle.pblk_model.specs.StartRecord.{start_of}
+use Rattle.pblk_laws.specs.LineBlocks.{chunk_in}
+use Rattle.pblk_world.specs.Events.{Logged}
+use Rattle.pblk_world.specs.World.{World, Logs, log_of, media}
+use Rattle.pblk_world.specs.EngineLog.{Begun, begun, AsFound, life_of, Taken, takes}
+use Rattle.pblk_world.specs.Fronts.{last_take}
+use Rattle.pblk_world.specs.Legal.{IsLegal}
+use Rattle.pblk_world.specs.Lines.{are_empty, found_image, known_image, is_stray, stray_lines}
+use Rattle.pblk_world.proofs.EngineLogLemmas.{begun_knows}
+use Rattle.pblk_world.proofs.LinesLemmas.{length_found, length_known}
+use Rattle.pblk_world.proofs.VictimsLemmas.{whole_prefix}
+use Rattle.lemmas.proofs.Lists.{IsAmong, all_imply}
+use Rattle.lemmas.proofs.Maps.{all_passed, any_fail, in_filter}
+use Rattle.lemmas.proofs.Parts.{got_within}
+use Rattle.lemmas.proofs.Tests.{first_of, not_both, not_true, same_number}
+use Rattle.opening_laws.proofs.FoundImages.{found_strays}
+use Rattle.world_laws.specs.LegalMounts.{IsLegalMount}
+use Rattle.world_laws.proofs.WinnerLines.{winner_stands}
+use Rattle.chunk_laws.specs.UnitChunks.{chunk_after}
+use Rattle.chunk_laws.proofs.KeptChunks.{found_stays}
+use Rattle.chunk_laws.proofs.KnownChunks.{IsKnownTo, known_first, known_later}
+use Rattle.chunk_laws.proofs.LifeUnits.{begun_within, chunk_known}
+use Rattle.chunk_laws.proofs.MediaChunks.{chunk_of_found, chunk_of_media}
+use Rattle.chunk_laws.proofs.OnlineUnits.{is_on, same_units}
 
--- ---- the strays
+-- ---- a line with a start record is no stray
 
-abbrev AreStrays : Image → World → Begun → Type 0
-AreStrays i w b = b.beginning.strays ≡ stray_lines (found_image i (log_of w))
-
-strays_by : (i : Image) (s : Step) (w : World) → IsPlainWorld i (s ∷ w) → ((b : Begun) → begun (log_of w 0) ≡ Some b → AreStrays i w b) → IsSomeones i s w → (b : Begun) → begun (log_of (s ∷ w) 0) ≡ Some b → AreStrays i (s ∷ w) b
-strays_by i s w plain before (inr (unit, e)) b is =
-    let same : log_of (s ∷ w) 0 ≡ log_of w 0 = log_elsewhere s w 0 (λ a. let no : suc unit ≡ 0 = sym e.author ∙ a in absurd (omega arith)) in
-    let was : begun (log_of w 0) ≡ Some b = ap begun (sym same) ∙ is in
-    before b was ∙ ap stray_lines (sym (found_stays i s w b (plain_before i s w plain) was is))
-strays_by i s w plain before (inl e) b is = go (decided i (prefixes s.logged (log_of w)) e.event e.allowed)
+pub no_stray : (i : Image) (w : World) (b : Begun) (line : ℕ) → IsLegal i w → begun (log_of w 0) ≡ Some b
+    → is_some (start_of (found_image i (log_of w)) line) ≡ true → list_any (λ stray. stray == line) b.beginning.strays ≡ false
+no_stray i w b line legal begins numbered =
+    let found : Image = found_image i (log_of w) in
+    ap (list_any (λ stray. stray == line)) (found_strays i w b legal begins) ∙ any_fail (λ stray. stray == line) (stray_lines found)
+    (all_imply (λ x. is_stray found x ≡ true) (λ x. (x == line) ≡ false) (λ x stray. other x stray (x == line) refl) (stray_lines found)
+    (all_passed (is_stray found) (range_with_len 0 found.shape.chunks)))
   where
-    here : log_of (s ∷ w) 0 ≡ log_of w 0 ++ s.logged ∷ []
-    here = log_here s w 0 e.author
+    other : (x : ℕ) → is_stray (found_image i (log_of w)) x ≡ true → (b : Bool) → (x == line) ≡ b → b ≡ false
+    other x stray false e = refl
+    other x stray true e =
+        let found : Image = found_image i (log_of w) in
+        let none : is_some (start_of found x) ≡ false =
+        not_true (is_some (start_of found x)) (first_of (not (is_some (start_of found x))) (not (are_empty found x)) stray) in
+        absurd (not_both (is_some (start_of found line)) numbered (ap (λ n. is_some (start_of found n)) (sym (eqb-true x line e)) ∙ none))
 
-    units_same : (unit : ℕ) → cut_logs s.logged.knows (log_of (s ∷ w)) (suc unit) ≡ prefixes s.logged (log_of w) (suc unit)
-    units_same unit = ap (λ (log : List Logged). cut_logs s.logged.knows (λ author. log) (suc unit)) (log_elsewhere s w (suc unit) (λ a. let no : 0 ≡ suc unit = sym e.author ∙ a in absurd (omega arith)))
+-- ---- the line of a winner whose sector wasn't taken since
 
-    go : IsFirst i (prefixes s.logged (log_of w)) e.event ⊎ IsLater i (prefixes s.logged (log_of w)) e.event → AreStrays i (s ∷ w) b
-    go (inl f) =
-        let empty : log_of w 0 ≡ [] = sym e.own ∙ f.2.is_first in
-        let first : Begun = record { beginning = f.0; knows = s.logged.knows } in
-        let now : begun (log_of (s ∷ w) 0) ≡ Some first = ap begun here ∙ ap (λ (log : List Logged). begun (log ++ s.logged ∷ [])) empty ∙ first_begins s.logged f.0 (e.is_event ∙ ap Decides f.1) in
-        subst (AreStrays i (s ∷ w)) (same_Some first b (sym now ∙ is))
-        (f.2.strays ∙ ap stray_lines (sym (ap (found_by i (log_of (s ∷ w))) now ∙ media_same i (cut_logs s.logged.knows (log_of (s ∷ w))) (prefixes s.logged (log_of w)) units_same)))
-    go (inr l) =
-        let begins : begun (log_of w 0) ≡ Some l.0 = ap begun (sym e.own) ∙ l.1 in
-        let was : begun (log_of w 0) ≡ Some b = sym (begun_stays (log_of w 0) s.logged l.0 begins) ∙ ap begun (sym here) ∙ is in
-        before b was ∙ ap stray_lines (sym (found_stays i s w b (plain_before i s w plain) was is))
+some_last : {X : Type 0} (x : X) (xs : List X) → last_or (Some x) xs ≡ None → ⊥
+some_last x [] e = cc
+some_last x (y ∷ xs) e = some_last y xs e
 
--- the mount's strays are those of the image that it found
-begun_strays : (i : Image) (w : World) → IsPlainWorld i w → (b : Begun) → begun (log_of w 0) ≡ Some b → b.beginning.strays ≡ stray_lines (found_image i (log_of w))
-begun_strays i [] plain b is = absurd (none-some b is)
-begun_strays i (s ∷ w) plain b is = strays_by i s w plain (begun_strays i w (plain_before i s w plain)) (whose i s w plain) b is
+no_last : {X : Type 0} (xs : List X) → last_or None xs ≡ None → xs ≡ []
+no_last [] e = refl
+no_last (x ∷ xs) e = absurd (some_last x xs e)
 
-not_among : (test : ℕ → Bool) (line : ℕ) (xs : List ℕ) → test line ≡ false → list_any (λ stray. stray == line) (filter test xs) ≡ false
-not_among test line [] none = refl
-not_among test line (x ∷ xs) none = go (test x) refl (not_among test line xs none)
-  where
-    go : (b : Bool) → test x ≡ b → list_any (λ stray. stray == line) (filter test xs) ≡ false → list_any (λ stray. stray == line) (cond b (x ∷ filter test xs) (filter test xs)) ≡ false
-    go false e rest = rest
-    go true e rest = by (x == line) refl
-      where
-        by : (c : Bool) → (x == line) ≡ c → (c || list_any (λ stray. stray == line) (filter test xs)) ≡ false
-        by false f = rest
-        by true f = let same : test line ≡ true = ap test (sym (eqb-true x line f)) ∙ e in absurd (cc)
+none_taken : (log : List Logged) (lba : ℕ) (t : Taken) → last_take log lba ≡ None → IsAmong (takes log) t → t.mark.lba ≡ lba → ⊥
+none_taken log lba t last among its =
+    let at : IsAmong (filter (λ (u : Taken). u.mark.lba == lba) (takes log)) t =
+    in_filter (λ (u : Taken). u.mark.lba == lba) (takes log) t among (ap (λ n. n == lba) its ∙ same_number lba) in
+    none-some t (ap (λ (xs : List Taken). slice_get xs at.0) (sym (no_last (filter (λ (u : Taken). u.mark.lba == lba) (takes log)) last)) ∙ at.1)
 
--- ---- lines that are opened
+pub winners_line : (i : Image) (w : World) (lba : ℕ) (r : Record) → IsLegalMount i w → last_take (log_of w 0) lba ≡ None
+    → winner (counted (found_image i (log_of w))) lba ≡ Some r → life_of (log_of w 0) r.line ≡ AsFound
+winners_line i w lba r mount last wins =
+    winner_stands i w lba r mount.accepted mount.legal wins (λ t among its. absurd (none_taken (log_of w 0) lba t last among its))
 
-free_unnumbered : (i : Image) (logs : Logs) (line : ℕ) → is_freed (life_of (logs 0) line) ≡ false → is_free_line i logs line ≡ true → is_some (start_of (found_image i logs) line) ≡ false
-free_unnumbered i logs line unfreed free = go (life_of (logs 0) line) unfreed (first_of (not (has_number i logs (life_of (logs 0) line) line)) (are_empty (known_image i logs) line) (first_of _ (nat_lt 0 (line_data (known_image i logs) line)) free))
-  where
-    by : (b : Bool) → not b ≡ true → b ≡ false
-    by true e = absurd (cc)
-    by false e = refl
+-- ---- its chunks
 
-    go : (life : LineLife) → is_freed life ≡ false → not (has_number i logs life line) ≡ true → is_some (start_of (found_image i logs) line) ≡ false
-    go AsFound unfreed e = by (is_some (start_of (found_image i logs) line)) e
-    go (Opened o) unfreed e = absurd (cc)
-    go (Freed was knows) unfreed e = absurd (cc)
+module _ (i : Image) (w : World) (legal : IsLegal i w) (b : Begun) (begins : begun (log_of w 0) ≡ Some b) (line : ℕ)
+    (life : life_of (log_of w 0) line ≡ AsFound) (none : list_any (λ stray. stray == line) b.beginning.strays ≡ false) where
+  -- after each prefix of its unit's log from the one on that the mount began with
+  kept : (unit n : ℕ) → slice_index b.knows (suc unit) ≤ n → n ≤ length (log_of w (suc unit))
+      → chunk_after i (log_of w) line unit n ≡ chunk_in (found_image i (log_of w)) line unit
+  kept unit n low inside =
+      let far : slice_index b.knows (suc unit) + (n - slice_index b.knows (suc unit)) ≡ n = omega arith in
+      ap (chunk_after i (log_of w) line unit) (sym far)
+      ∙ found_stays i w legal b begins unit line life none (n - slice_index b.knows (suc unit)) (omega arith)
+      ∙ sym (chunk_of_found i (log_of w) b line unit begins)
 
-unnumbered_by : (i : Image) (s : Step) (w : World) (line : ℕ) (o : Opening) → IsPlainWorld i (s ∷ w) → (life_of (log_of w 0) line ≡ Opened o → is_some (start_of (found_image i (log_of w)) line) ≡ false) → IsSomeones i s w
-    → life_of (log_of (s ∷ w) 0) line ≡ Opened o → is_some (start_of (found_image i (log_of (s ∷ w))) line) ≡ false
-unfolding IsLegal
-unnumbered_by i s w line o plain before whose is = go whose
-  where
-    earlier : IsPlainWorld i w
-    earlier = plain_before i s w plain
+  pub media_kept : (unit : ℕ) → chunk_in (media i (log_of w)) line unit ≡ chunk_in (found_image i (log_of w)) line unit
+  media_kept unit = chunk_of_media i (log_of w) line unit
+      ∙ kept unit (length (log_of w (suc unit))) (begun_within i w legal b begins unit) (omega arith)
 
-    -- the image that was found stays
-    stays : (b : Begun) → begun (log_of w 0) ≡ Some b → is_some (start_of (found_image i (log_of w)) line) ≡ false → is_some (start_of (found_image i (log_of (s ∷ w))) line) ≡ false
-    stays b begins none =
-        let now : begun (log_of (s ∷ w) 0) ≡ Some b = grown (s.author == 0) in
-        ap (λ (j : Image). is_some (start_of j line)) (found_stays i s w b earlier begins now) ∙ none
-      where
-        grown : (c : Bool) → begun (cond c (log_of w 0 ++ s.logged ∷ []) (log_of w 0)) ≡ Some b
-        grown true = begun_stays (log_of w 0) s.logged b begins ∙ begins
-        grown false = begins
+  known_kept : (unit : ℕ) (chunks : List Chunk) → slice_get i.units unit ≡ Some chunks
+      → chunk_in (known_image i (log_of w)) line unit ≡ chunk_in (found_image i (log_of w)) line unit
+  known_kept unit chunks has =
+      let log : List Logged = log_of w 0 in
+      let some : 0 < length log = begun_knows (length log) log b (ap begun (take-length log) ∙ begins) in
+      let all : 0 + length log ≡ length log = omega arith in
+      let at = known_later i w legal b begins unit line chunks has 0 (length log) (slice_index b.knows (suc unit)) (omega arith)
+      (known_first i w legal b begins unit line chunks has (begun_within i w legal b begins unit)) in
+      let k : IsKnownTo i w legal b begins unit line chunks has (length log) at.0 =
+      subst (λ x. IsKnownTo i w legal b begins unit line chunks has x at.0) all at.2 in
+      ap (λ (logs : Logs). chunk_in (known_image i logs) line unit) (sym (whole_prefix (log_of w)))
+      ∙ chunk_known i w legal b begins unit line chunks has (length log) some ∙ k.same ∙ kept unit at.0 k.from k.inside
 
-    some_log : (log : List Logged) (p : Opening) → life_of log line ≡ Opened p → 0 < length log
-    some_log [] p e = absurd (cc)
-    some_log (l ∷ log) p e = omega arith
-
-    old : life_of (log_of w 0) line ≡ Opened o → is_some (start_of (found_image i (log_of (s ∷ w))) line) ≡ false
-    old life = let begins = has_begun_plain i w earlier (some_log (log_of w 0) o life) in stays begins.0 begins.1 (before life)
-
-    go : IsSomeones i s w → is_some (start_of (found_image i (log_of (s ∷ w))) line) ≡ false
-    go (inr (unit, e)) = old (ap (λ (log : List Logged). life_of log line) (sym (log_elsewhere s w 0 (λ a. let no : suc unit ≡ 0 = sym e.author ∙ a in absurd (omega arith)))) ∙ is)
-    go (inl e) = by (opened_by_event line (life_of (log_of w 0) line) (length (log_of w 0)) s.logged.knows e.event o e.plain turned)
-      where
-        turned : turned_by line (life_of (log_of w 0) line) (length (log_of w 0)) s.logged.knows (Decides e.event) ≡ Opened o
-        turned =
-            ap (turned_by line (life_of (log_of w 0) line) (length (log_of w 0)) s.logged.knows) (sym e.is_event)
-            ∙ sym (life_more (log_of w 0) s.logged line) ∙ ap (λ (log : List Logged). life_of log line) (sym (log_here s w 0 e.author)) ∙ is
-
-        known : Logs
-        known = prefixes s.logged (log_of w)
-
-        opens : (start : StartRecord) → e.event ≡ Open line start → IsFirst i (prefixes s.logged (log_of w)) e.event ⊎ IsLater i (prefixes s.logged (log_of w)) e.event → is_some (start_of (found_image i (log_of (s ∷ w))) line) ≡ false
-        opens start its (inl f) = let no : Open line start ≡ _ = sym its ∙ f.1 in absurd (cc)
-        opens start its (inr l) =
-            let step : IsLegalStep i (log_of w) s = plain.legal.0 in
-            let knowledge : IsKnowledge i (log_of w) 0 s.logged = subst (λ a. IsKnowledge i (log_of w) a s.logged) e.author step.knowledge in
-            let same = are_known i w s.logged earlier.legal knowledge in
-            let unfreed : is_freed (life_of (prefixes s.logged (log_of w) 0) line) ≡ false = ap (λ (log : List Logged). is_freed (life_of log line)) e.own ∙ never_freed (log_of w 0) line earlier.engine in
-            let none : is_some (start_of (found_image i (prefixes s.logged (log_of w))) line) ≡ false =
-            free_unnumbered i (prefixes s.logged (log_of w)) line unfreed (opening_is i (prefixes s.logged (log_of w)) l.0 e.event line start l.2 its).is_free in
-            stays l.0 (ap begun (sym e.own) ∙ l.1) (ap (λ (j : Image). is_some (start_of j line)) (sym same.found) ∙ none)
-
-        by : (life_of (log_of w 0) line ≡ Opened o) ⊎ ((start : StartRecord) × (e.event ≡ Open line start) × (o ≡ record { number = length (log_of w 0); line = line; start = start; knows = s.logged.knows })) → is_some (start_of (found_image i (log_of (s ∷ w))) line) ≡ false
-        by (inl life) = old life
-        by (inr new) = opens new.0 new.1 (decided i (prefixes s.logged (log_of w)) e.event e.allowed)
-
-opened_unnumbered : (i : Image) (w : World) (line : ℕ) (o : Opening) → IsPlainWorld i w → life_of (log_of w 0) line ≡ Opened o → is_some (start_of (found_image i (log_of w)) line) ≡ false
-opened_unnumbered i [] line o plain is = absurd (cc)
-opened_unnumbered i (s ∷ w) line o plain is = unnumbered_by i s w line o plain (opened_unnumbered i w line o (plain_before i s w plain)) (whose i s w plain) is
-
--- ---- so a line with a sequence number stays as it was found
-
-pub numbered_as_found : (i : Image) (w : World) (line : ℕ) → IsPlainWorld i w → is_some (start_of (found_image i (log_of w)) line) ≡ true → life_of (log_of w 0) line ≡ AsFound
-numbered_as_found i w line plain some = go (life_of (log_of w 0) line) refl (never_freed (log_of w 0) line plain.engine)
-  where
-    go : (life : LineLife) → life_of (log_of w 0) line ≡ life → is_freed life ≡ false → life ≡ AsFound
-    go AsFound e unfreed = refl
-    go (Opened o) e unfreed = let none : is_some (start_of (found_image i (log_of w)) line) ≡ false = opened_unnumbered i w line o plain e in absurd (cc)
-    go (Freed was knows) e unfreed = absurd (cc)
-
-pub numbered_kept : (i : Image) (w : World) (b : Begun) (line : ℕ) → IsPlainWorld i w → begun (log_of w 0) ≡ Some b → is_some (start_of (found_image i (log_of w)) line) ≡ true → is_given_up (log_of w 0) line ≡ false
-numbered_kept i w b line plain begins some =
-    let life : life_of (log_of w 0) line ≡ AsFound = numbered_as_found i w line plain some in
-    let strays : strays_of (log_of w 0) ≡ stray_lines (found_image i (log_of w)) = ap (λ (o : Option Begun). option_map_or (λ b. b.beginning.strays) o []) begins ∙ begun_strays i w plain b begins in
-    let no_stray : is_stray (found_image i (log_of w)) line ≡ false = ap (λ b. not b && not (are_empty (found_image i (log_of w)) line)) some in
-    ap (is_given_up_by (strays_of (log_of w 0)) line) life
-    ∙ ap (λ (xs : List ℕ). list_any (λ stray. stray == line) xs) strays
-    ∙ not_among (is_stray (found_image i (log_of w))) line (range_with_len 0 (found_image i (log_of w)).shape.chunks) no_stray
+  -- and its units
+  pub units_kept : line_units (known_image i (log_of w)) line ≡ line_units (found_image i (log_of w)) line
+  units_kept =
+      let known : length (known_image i (log_of w)).units ≡ length i.units = length_known i (log_of w) in
+      let found : length (found_image i (log_of w)).units ≡ length i.units = length_found i (log_of w) (begun (log_of w 0)) in
+      same_units (known_image i (log_of w)) (found_image i (log_of w)) line (known ∙ sym found)
+      (λ unit below. let has = got_within i.units unit (omega arith) in ap is_on (known_kept unit has.0 has.1))

@@ -1,8 +1,7 @@
 -- The block of a sector that wasn't written in this mount, and stands where it was found.
-use Rattle.std.proofs.Common.{◌≡◌, ◌≢◌, ◌⊎◌, inl, inr, ℕ, ◌*◌, ◌%◌, ◌<◌, ◌≤◌, true, false, Some, None, Option, List, length, refl, sym, subst, ap, ap₂, ◌∙◌, arith}
-use Rattle.std.specs.Prelude.{is_some, slice_get}
-use Rattle.std.specs.Option.{option_map_or, option_and_then}
-use Rattle.std.proofs.lemmas.Bool.{cases_order}
+use Rattle.std.proofs.Common.{◌≡◌, ◌≢◌, ℕ, ◌*◌, ◌%◌, ◌<◌, ◌==◌, suc, true, false, Some, None, Option, List, length, refl, sym, subst, ap, ap₂, ◌∙◌, arith}
+use Rattle.std.specs.Prelude.{is_some, slice_get, slice_index}
+use Rattle.std.specs.List.{list_any}
 use Rattle.std.proofs.lemmas.Option.{slice_get_within}
 use Rattle.pblk_model.specs.declared.shape.Shape.{Shape}
 use Rattle.pblk_model.specs.declared.chunk.ChunkState.{ChunkState}
@@ -11,32 +10,31 @@ use Rattle.pblk_model.specs.Shape.{units}
 use Rattle.pblk_model.specs.Chunk.{Chunk, Block, IsChunk, PointerFits, ReadableIn, IsReadable}
 use Rattle.pblk_model.specs.Contents.{counted, winner}
 use Rattle.pblk_model.specs.LineOrder.{line_order}
-use Rattle.pblk_model.specs.Image.{Image, line_units, is_online_in}
+use Rattle.pblk_model.specs.Image.{Image, line_units}
 use Rattle.pblk_model.specs.Records.{Record}
 use Rattle.pblk_model.specs.StartRecord.{StartRecord, start_of}
-use Rattle.pblk_layout.specs.Live.{units_in, is_live}
+use Rattle.pblk_layout.specs.Live.{units_in}
 use Rattle.pblk_world.specs.World.{World, log_of, media}
-use Rattle.pblk_world.specs.EngineLog.{Begun, begun, AsFound, is_opened, life_of, Taken}
+use Rattle.pblk_world.specs.EngineLog.{Begun, begun, AsFound, life_of, Taken}
 use Rattle.pblk_world.specs.Fronts.{last_take}
-use Rattle.pblk_world.specs.Lines.{found_by, found_image, known_image, is_given_up}
+use Rattle.pblk_world.specs.Lines.{found_by, found_image}
 use Rattle.pblk_laws.specs.LineBlocks.{chunk_in}
 use Rattle.pblk_laws.proofs.LineUnits.{line_units_count}
 use Rattle.pblk_laws.proofs.Winners.{winner_is_winner}
 use Rattle.core_laws.specs.OpenedLines.{live_now}
-use Rattle.core_laws.specs.PlainWorlds.{IsPlainWorld}
-use Rattle.media_laws.proofs.Beginnings.{begins, found_chunk_after}
-use Rattle.media_laws.proofs.FoundChunks.{found_is_chunk}
-use Rattle.media_laws.proofs.LineStanding.{media_stays, known_stays}
-use Rattle.media_laws.proofs.UnitCounts.{found_units}
-use Rattle.placing_laws.proofs.KeptLines.{same_units}
 use Rattle.look_laws.specs.SlotBlocks.{IsOfWinner, IsOfLatest, IsBlockOfSlot}
 use Rattle.look_laws.proofs.EntryBlocks.{unit_within}
-use Rattle.look_laws.proofs.FoundLines.{numbered_as_found, numbered_kept}
+use Rattle.look_laws.proofs.FoundLines.{media_kept, no_stray, units_kept, winners_line}
 use Rattle.look_laws.proofs.FoundRecords.{IsFoundRecord, winner_found, IsPlaced, block_placed, sealed_mark}
 use Rattle.look_laws.proofs.LiveUnits.{live_units}
 use Rattle.look_laws.proofs.ReadBlocks.{IsWinnersSlot}
-use Rattle.pblk_layout.proofs.LiveLemmas.{none_past}
-use Rattle.pblk_world.proofs.LinesLemmas.{length_known}
+use Rattle.pblk_world.proofs.LinesLemmas.{length_found}
+use Rattle.world_laws.specs.LegalMounts.{IsLegalMount}
+use Rattle.chunk_laws.specs.UnitChunks.{chunk_after}
+use Rattle.chunk_laws.proofs.Beginning.{none_open}
+use Rattle.chunk_laws.proofs.LifeUnits.{begun_within}
+use Rattle.chunk_laws.proofs.MediaChunks.{chunk_of_found}
+use Rattle.chunk_laws.proofs.UnitLogs.{chunk_fits}
 
 -- ---- the image that the mount found
 
@@ -54,67 +52,36 @@ read_by s states.Open n at closed fits within = absurd (closed refl)
 read_by s states.Closed n at closed fits within = within
 read_by s states.Offline n at closed fits within = absurd (let none : n ≡ 0 = fits in omega arith)
 
-readable_found : (i : Image) (w : World) (b : Begun) (line unit number : ℕ) (c : Chunk) (block : Block) → IsPlainWorld i w → begun (log_of w 0) ≡ Some b → chunk_in (found_image i (log_of w)) line unit ≡ Some c → slice_get c.blocks number ≡ Some block
-    → IsReadable i.shape c number
-readable_found i w b line unit number c block plain begin there written =
-    let is : IsChunk i.shape c = found_is_chunk i w unit line b c plain begin there in
-    let closed : c.state ≢ states.Open = (begins i w plain b begin).closed unit line c (sym (found_chunk_after i w b unit line begin) ∙ there) in
+readable_found : (i : Image) (w : World) (b : Begun) (line unit number : ℕ) (c : Chunk) (block : Block) → IsLegalMount i w → begun (log_of w 0) ≡ Some b
+    → chunk_in (found_image i (log_of w)) line unit ≡ Some c → slice_get c.blocks number ≡ Some block → IsReadable i.shape c number
+readable_found i w b line unit number c block mount begins there written =
+    let then_ : chunk_after i (log_of w) line unit (slice_index b.knows (suc unit)) ≡ Some c = sym (chunk_of_found i (log_of w) b line unit begins) ∙ there in
+    let is : IsChunk i.shape c = chunk_fits i w mount.legal unit line (slice_index b.knows (suc unit)) c mount.fit mount.accepted.drive.ws_min
+    (begun_within i w mount.legal b begins unit) then_ in
+    let closed : c.state ≢ states.Open = none_open i w mount.legal b begins unit line c then_ in
     read_by i.shape c.state (length c.blocks) number closed is.place (slice_get_within c.blocks number block written)
-
--- ---- a line that stays as it was found
-
--- has its units
-online_is : (j : Image) (line unit : ℕ) → is_live j line unit ≡ option_map_or (λ c. is_online_in c.state) (chunk_in j line unit) false
-online_is j line unit = go (slice_get j.units unit)
-  where
-    go : (o : Option (List Chunk)) → option_map_or (λ chunks. option_map_or (λ c. is_online_in c.state) (slice_get chunks line) false) o false ≡ option_map_or (λ c. is_online_in c.state) (option_and_then (λ chunks. slice_get chunks line) o) false
-    go None = refl
-    go (Some chunks) = refl
-
-pub units_as_found : (i : Image) (w : World) (b : Begun) (line : ℕ) → IsPlainWorld i w → line < i.shape.chunks → begun (log_of w 0) ≡ Some b → is_opened (life_of (log_of w 0) line) ≡ false → is_given_up (log_of w 0) line ≡ false
-    → line_units (known_image i (log_of w)) line ≡ line_units (found_image i (log_of w)) line
-units_as_found i w b line plain range begin unopened kept =
-    let found : length (found_image i (log_of w)).units ≡ length i.units = found_units i (log_of w) in
-    let known : length (known_image i (log_of w)).units ≡ length i.units = length_known i (log_of w) in
-    let all : length i.units ≡ units i.shape = plain.fit.units in
-    let few : units i.shape ≤ 64 = plain.accepted.drive.few_units in
-    same_units (known_image i (log_of w)) (found_image i (log_of w)) line (omega arith) (omega arith) (λ unit. go unit (cases_order unit (units i.shape)))
-  where
-    past : (unit : ℕ) → units i.shape ≤ unit → is_live (known_image i (log_of w)) line unit ≡ is_live (found_image i (log_of w)) line unit
-    past unit far =
-        let found : length (found_image i (log_of w)).units ≡ length i.units = found_units i (log_of w) in
-        let known : length (known_image i (log_of w)).units ≡ length i.units = length_known i (log_of w) in
-        let all : length i.units ≡ units i.shape = plain.fit.units in
-        none_past (known_image i (log_of w)) line unit (omega arith) ∙ sym (none_past (found_image i (log_of w)) line unit (omega arith))
-
-    go : (unit : ℕ) → (unit ≡ units i.shape) ⊎ ((unit < units i.shape) ⊎ (units i.shape < unit)) → is_live (known_image i (log_of w)) line unit ≡ is_live (found_image i (log_of w)) line unit
-    go unit (inl same) = past unit (omega arith)
-    go unit (inr (inr above)) = past unit (omega arith)
-    go unit (inr (inl below)) =
-        online_is (known_image i (log_of w)) line unit
-        ∙ ap (λ (o : Option Chunk). option_map_or (λ c. is_online_in c.state) o false) (known_stays i w plain b begin line unit range below unopened kept)
-        ∙ sym (online_is (found_image i (log_of w)) line unit)
 
 -- ---- the block
 
-pub block_of_winner : (i : Image) (w : World) (b : Begun) (lba line at q : ℕ) (r : Record) → IsPlainWorld i w → begun (log_of w 0) ≡ Some b → last_take (log_of w 0) lba ≡ None → winner (counted (found_image i (log_of w))) lba ≡ Some r → IsWinnersSlot r line at q
+pub block_of_winner : (i : Image) (w : World) (b : Begun) (lba line at q : ℕ) (r : Record) → IsLegalMount i w → begun (log_of w 0) ≡ Some b
+    → last_take (log_of w 0) lba ≡ None → winner (counted (found_image i (log_of w))) lba ≡ Some r → IsWinnersSlot r line at q
     → IsBlockOfSlot i (log_of w) lba line at q
-block_of_winner i w b lba line at q r plain begin last wins slot =
+block_of_winner i w b lba line at q r mount begins last wins slot =
     let found : Image = found_image i (log_of w) in
     let shape : (found_image i (log_of w)).shape ≡ i.shape = found_shape i w in
     let is : IsFoundRecord (found_image i (log_of w)) r = winner_found (found_image i (log_of w)) lba r wins in
     let its : r.lba ≡ Some lba = (winner_is_winner (found_image i (log_of w)) lba r wins).of_it in
-    let some : 0 < (found_image i (log_of w)).shape.ws_opt = subst (λ (s : Shape). 0 < s.ws_opt) (sym shape) plain.accepted.drive.ws_opt in
-    let whole = subst (λ (s : Shape). s.clba % s.ws_opt ≡ 0) (sym shape) plain.accepted.drive.whole_stripes in
+    let some : 0 < (found_image i (log_of w)).shape.ws_opt = subst (λ (s : Shape). 0 < s.ws_opt) (sym shape) mount.accepted.drive.ws_opt in
+    let whole = subst (λ (s : Shape). s.clba % s.ws_opt ≡ 0) (sym shape) mount.accepted.drive.whole_stripes in
     let placed : IsPlaced (found_image i (log_of w)) r.line r.at is.block = block_placed (found_image i (log_of w)) r.line r.at is.block some whole is.within is.there in
     let numbered : is_some (start_of (found_image i (log_of w)) r.line) ≡ true = ap (λ (o : Option StartRecord). is_some o) is.starts in
-    let life : life_of (log_of w 0) r.line ≡ AsFound = numbered_as_found i w r.line plain numbered in
-    let unopened : is_opened (life_of (log_of w 0) r.line) ≡ false = ap is_opened life in
-    let kept : is_given_up (log_of w 0) r.line ≡ false = numbered_kept i w b r.line plain begin numbered in
+    let life : life_of (log_of w 0) r.line ≡ AsFound = winners_line i w lba r mount last wins in
+    let kept : list_any (λ stray. stray == r.line) b.beginning.strays ≡ false = no_stray i w b r.line mount.legal begins numbered in
     let range : r.line < i.shape.chunks = subst (λ (s : Shape). r.line < s.chunks) shape is.in_range in
-    let drive : placed.unit < units i.shape = subst (λ n. placed.unit < n) (found_units i (log_of w) ∙ plain.fit.units) (unit_within (found_image i (log_of w)) r.line placed.unit placed.chunk placed.there) in
-    let stands : chunk_in (media i (log_of w)) r.line placed.unit ≡ Some placed.chunk = media_stays i w plain b begin r.line placed.unit range drive unopened kept ∙ placed.there in
-    let us : units_in (live_now i (log_of w) r.line) ≡ line_units (found_image i (log_of w)) r.line = live_units i w r.line plain ∙ units_as_found i w b r.line plain range begin unopened kept in
+    let drive : placed.unit < units i.shape = subst (λ n. placed.unit < n) (length_found i (log_of w) (begun (log_of w 0)) ∙ mount.fit.units) (unit_within (found_image i (log_of w)) r.line placed.unit placed.chunk placed.there) in
+    let stands : chunk_in (media i (log_of w)) r.line placed.unit ≡ Some placed.chunk = media_kept i w mount.legal b begins r.line life kept placed.unit ∙ placed.there in
+    let us : units_in (live_now i (log_of w) r.line) ≡ line_units (found_image i (log_of w)) r.line = live_units i w r.line mount
+    ∙ units_kept i w mount.legal b begins r.line life kept in
     let count : length (line_units (found_image i (log_of w)) r.line) * (found_image i (log_of w)).shape.clba ≡ _ * (found_image i (log_of w)).shape.clba = ap (λ n. n * (found_image i (log_of w)).shape.clba) (line_units_count (found_image i (log_of w)) r.line) in
     let inside : r.at < length (line_units (found_image i (log_of w)) r.line) * (found_image i (log_of w)).shape.clba = subst (λ n. r.at < n) (sym count) is.within in
     let its_own : IsOfWinner i (log_of w) lba r.line r.at r.position is.block = record {
@@ -137,7 +104,7 @@ block_of_winner i w b lba line at q r plain begin last wins slot =
       of_drive = drive;
       chunk = placed.chunk;
       there = stands;
-      readable = readable_found i w b r.line placed.unit placed.number placed.chunk is.block plain begin placed.there placed.written;
+      readable = readable_found i w b r.line placed.unit placed.number placed.chunk is.block mount begins placed.there placed.written;
       block = is.block;
       written = placed.written;
       latest = subst (λ (o : Option Taken). IsOfLatest i (log_of w) lba r.line r.at r.position is.block o) (sym last) its_own;

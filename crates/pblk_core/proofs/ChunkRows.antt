@@ -10,7 +10,7 @@ use Rattle.pblk_laws.proofs.LineUnits.{line_units_rise}
 use Rattle.pblk_world.specs.World.{World, log_of}
 use Rattle.pblk_world.specs.EngineLog.{Opening, Opened, life_of, is_life, Placed, placements, stripes_of}
 use Rattle.pblk_world.specs.Lines.{known_image}
-use Rattle.core_laws.specs.PlainWorlds.{IsPlainWorld}
+use Rattle.core_laws.specs.SimpleMounts.{IsSimpleMount}
 use Rattle.core_laws.proofs.Turns.{filtered_is}
 use Rattle.line_laws.specs.InOrder.{IsInPlace}
 use Rattle.line_laws.proofs.Orders.{in_order}
@@ -49,11 +49,11 @@ pub record IsStripeIn (i : Image) (w : World) (o : Opening) (p : Placed) : Type 
   pub its_line : opening.line ≡ p.stripe.line
   pub line_is : IsLineOf i (now_units i w) w opening
 
-pub stripe_in : (i : Image) (w : World) (o : Opening) (k : ℕ) (p : Placed) → IsPlainWorld i w → slice_get (stripes_of (log_of w 0) o) k ≡ Some p → IsStripeIn i w o p
-stripe_in i w o k p plain there =
+pub stripe_in : (i : Image) (w : World) (o : Opening) (k : ℕ) (p : Placed) → IsSimpleMount i w → slice_get (stripes_of (log_of w 0) o) k ≡ Some p → IsStripeIn i w o p
+stripe_in i w o k p simple there =
     let among : IsAmong (placements (log_of w 0)) p = from_filter (λ (q : Placed). is_life o.number q.life) (placements (log_of w 0)) p (k, there) in
-    let place : IsInPlace i (log_of w 0) p = all_at (IsInPlace i (log_of w 0)) (placements (log_of w 0)) among.0 p among.1 (in_order i w plain).placed in
-    let steady : IsFollowed i (now_units i w) w = follow i w plain in
+    let place : IsInPlace i (log_of w 0) p = all_at (IsInPlace i (log_of w 0)) (placements (log_of w 0)) among.0 p among.1 (in_order i w simple).placed in
+    let steady : IsFollowed i (now_units i w) w = follow i w simple in
     let line : place.opening.line ≡ p.stripe.line = (opened_lines i (now_units i w) w steady p.stripe.line place.opening place.stands).its_line in
     record {
       opening = place.opening;
@@ -64,11 +64,11 @@ stripe_in i w o k p plain there =
       line_is = line_of i (now_units i w) w place.opening steady (ap (life_of (log_of w 0)) line ∙ place.stands);
     }
 
-pub rows_of_chunks : (i : Image) (w : World) (o : Opening) (unit : ℕ) → IsPlainWorld i w → AreInRows i.shape (log_of w 0) o unit
-rows_of_chunks i w o unit plain = λ k p e.
+pub rows_of_chunks : (i : Image) (w : World) (o : Opening) (unit : ℕ) → IsSimpleMount i w → AreInRows i.shape (log_of w 0) o unit
+rows_of_chunks i w o unit simple = λ k p e.
     let among : IsAmong (stripes_of (log_of w 0) o) p = from_filter (λ (r : Placed). r.stripe.unit == unit) (stripes_of (log_of w 0) o) p (k, e) in
     let its : p.stripe.unit ≡ unit = eqb-true p.stripe.unit unit (filtered_is (λ (r : Placed). r.stripe.unit == unit) (stripes_of (log_of w 0) o) k p e) in
-    let is : IsStripeIn i w o p = stripe_in i w o among.0 p plain among.1 in
+    let is : IsStripeIn i w o p = stripe_in i w o among.0 p simple among.1 in
     let us : List ℕ = now_units i w is.opening.line in
     let same : stripes_of (log_of w 0) is.opening ≡ stripes_of (log_of w 0) o = ap (λ n. filter (λ (q : Placed). is_life n q.life) (placements (log_of w 0))) is.number in
     let at : slice_get (stripes_of (log_of w 0) is.opening) among.0 ≡ Some p = ap (λ ps. slice_get ps among.0) same ∙ among.1 in
@@ -83,7 +83,7 @@ rows_of_chunks i w o unit plain = λ k p e.
           (λ m q h. let there : IsAtPlace i (now_units i w) is.opening.line m q.stripe.unit q.stripe.at = is.line_is.order.places m q h in record { unit = there.its_unit; at = there.its_block }) k p
           (ap (λ ps. slice_get (filter (λ (r : Placed). r.stripe.unit == unit) ps) k) same ∙ e);
       blocks = all_at (λ (q : Placed). length q.stripe.blocks ≡ i.shape.ws_opt) (stripes_of (log_of w 0) o) among.0 p among.1
-          (all_filter (λ (q : Placed). length q.stripe.blocks ≡ i.shape.ws_opt) (λ (q : Placed). is_life o.number q.life) (placements (log_of w 0)) (have_blocks i w plain.accepted plain.legal).blocks);
+          (all_filter (λ (q : Placed). length q.stripe.blocks ≡ i.shape.ws_opt) (λ (q : Placed). is_life o.number q.life) (placements (log_of w 0)) (have_blocks i w simple.mount.accepted simple.mount.legal).blocks);
       within = subst (λ a. a + i.shape.ws_opt ≤ i.shape.clba) (sym place.its_block)
-          (ends_before i.shape.ws_opt (among.0 / length (now_units i w is.opening.line)) (i.shape.clba / i.shape.ws_opt) i.shape.clba (chunk_whole i.shape.clba i.shape.ws_opt plain.accepted.drive.whole_stripes) row);
+          (ends_before i.shape.ws_opt (among.0 / length (now_units i w is.opening.line)) (i.shape.clba / i.shape.ws_opt) i.shape.clba (chunk_whole i.shape.clba i.shape.ws_opt simple.mount.accepted.drive.whole_stripes) row);
     }

@@ -7,7 +7,7 @@ use Rattle.std.proofs.lemmas.Option.{same_Some, none-some}
 use Rattle.core_laws.specs.OpenedLines.{bits_of}
 use Rattle.pblk_core.specs.declared.resets.LineChunk.{LineChunk}
 use Rattle.pblk_core.specs.Resets.{in_line, is_of_line}
-use Rattle.pblk_core.proofs.OpeningBits.{bits_kept}
+use Rattle.core_laws.proofs.UnitBits.{bits_kept}
 use Rattle.lemmas.proofs.Tests.{same_number}
 
 abbrev pub chunk_of : ℕ → ℕ → LineChunk
@@ -189,20 +189,3 @@ bits_less p q (suc n) u inside passes fails other = go (cases_order u n) (λ low
         let before : bits_of (filter p (range_with_len 0 n)) ≡ bits_of (filter q (range_with_len 0 n)) + 2 ^ u = rest less in
         omega arith
     go (inr (inr more)) rest = absurd (omega arith)
-
--- a number that passes has its bit
-pub bit_in : (p : ℕ → Bool) (n u : ℕ) → u < n → p u ≡ true → 2 ^ u ≤ bits_of (filter p (range_with_len 0 n))
-bit_in p zero u inside passes = absurd (omega arith)
-bit_in p (suc n) u inside passes = go (cases_order u n) (λ low. bit_in p n u low passes)
-  where
-    go : (u ≡ n) ⊎ ((u < n) ⊎ (n < u)) → (u < n → 2 ^ u ≤ bits_of (filter p (range_with_len 0 n))) → 2 ^ u ≤ bits_of (filter p (range_with_len 0 (suc n)))
-    go (inl same) rest =
-        let more : bits_of (filter p (range_with_len 0 (suc n))) ≡ bits_of (filter p (range_with_len 0 n)) + cond (p n) (2 ^ n) 0 = bits_kept p n in
-        let a : cond (p n) (2 ^ n) 0 ≡ 2 ^ n = bit_is n (p n) true (ap p (sym same) ∙ passes) in
-        let power : 2 ^ u ≡ 2 ^ n = ap (λ k. 2 ^ k) same in
-        omega arith
-    go (inr (inl less)) rest =
-        let more : bits_of (filter p (range_with_len 0 (suc n))) ≡ bits_of (filter p (range_with_len 0 n)) + cond (p n) (2 ^ n) 0 = bits_kept p n in
-        let below : 2 ^ u ≤ bits_of (filter p (range_with_len 0 n)) = rest less in
-        omega arith
-    go (inr (inr above)) rest = absurd (omega arith)

@@ -17,14 +17,17 @@ use Rattle.pblk_world.specs.Fronts.{first_position}
 use Rattle.pblk_world.specs.Starts.{bound_by, found_row, older_row, older_rows}
 use Rattle.pblk_world.specs.Victims.{is_freed}
 use Rattle.pblk_world.proofs.Growing.{knowledge_rises}
-use Rattle.core_laws.specs.PlainWorlds.{is_plain_event, ArePlain, IsPlainWorld}
+use Rattle.core_laws.proofs.SimpleMounts.{engine_plain}
+use Rattle.core_laws.specs.PlainWorlds.{is_plain_event, ArePlain}
+use Rattle.core_laws.specs.SimpleMounts.{IsSimpleMount}
 use Rattle.core_laws.specs.Stepping.{after}
 use Rattle.core_laws.proofs.Numbers.{opens, opens_at, life_at}
 use Rattle.core_laws.proofs.Numbering.{first_stays}
 use Rattle.line_laws.proofs.PlainLogs.{none_freed}
 use Rattle.placed_laws.specs.StripePrograms.{HasHappened}
 use Rattle.placed_laws.proofs.Happened.{happened}
-use Rattle.prefix_law.proofs.Starting.{none_of as no_some}
+use Rattle.lemmas.proofs.Options.{none_there}
+use Rattle.lemmas.proofs.Tests.{not_true}
 use Rattle.core_laws.proofs.SteppingLemmas.{found_kept}
 use Rattle.lemmas.proofs.Maps.{made_same}
 use Rattle.lemmas.proofs.Parts.{all_taken}
@@ -63,36 +66,36 @@ event_at log n line is = go (slice_get log n) refl is
     go (Some l) e f = (l, e, f)
 
 unnumbered : (i : Image) (ls : Logs) (life : LineLife) (line : ℕ) → is_freed life ≡ false → not (has_number i ls life line) ≡ true → start_of (found_image i ls) line ≡ None
-unnumbered i ls AsFound line freed e = no_some (start_of (found_image i ls) line) e
+unnumbered i ls AsFound line freed e = none_there (start_of (found_image i ls) line) (not_true (is_some (start_of (found_image i ls) line)) e)
 unnumbered i ls (Opened o) line freed e = absurd cc
 unnumbered i ls (Freed was knows) line freed e = absurd cc
 
 pub free_unstarted : (i : Image) (logs : Logs) (line : ℕ) → ArePlain (logs 0) → is_free_line i logs line ≡ true → start_of (found_image i logs) line ≡ None
-free_unstarted i logs line plain free = unnumbered i logs (life_of (logs 0) line) line (none_freed (logs 0) plain line)
+free_unstarted i logs line simple free = unnumbered i logs (life_of (logs 0) line) line (none_freed (logs 0) simple line)
     (first_of (not (has_number i logs (life_of (logs 0) line) line)) (are_empty (known_image i logs) line) (first_of _ _ free))
 
-pub opened_unstarted : (i : Image) (w : World) (line : ℕ) (o : Opening) → IsPlainWorld i w → life_of (log_of w 0) line ≡ Opened o → start_of (found_image i (log_of w)) line ≡ None
-opened_unstarted i w line o plain life =
+pub opened_unstarted : (i : Image) (w : World) (line : ℕ) (o : Opening) → IsSimpleMount i w → life_of (log_of w 0) line ≡ Opened o → start_of (found_image i (log_of w)) line ≡ None
+opened_unstarted i w line o simple life =
     let at = event_at (log_of w 0) o.number line ((life_at (log_of w 0) line o life).0) in
-    let is : HasHappened i (log_of w) 0 o.number at.0 = happened i w 0 plain.legal o.number at.0 at.1 in
+    let is : HasHappened i (log_of w) 0 o.number at.0 = happened i w 0 simple.mount.legal o.number at.0 at.1 in
     let opening = opens_line at.0.event line at.2 in
     let allowed : IsAllowed i 0 (Decides (Open line opening.0)) (prefixes at.0 (log_of w)) = subst (λ e. IsAllowed i 0 e (prefixes at.0 (log_of w))) opening.1 is.allowed in
     let begins : begun (take o.number (log_of w 0)) ≡ Some allowed.0 = ap (λ n. begun (take n (log_of w 0))) (sym is.own) ∙ allowed.1 in
     let free : is_free_line i (prefixes at.0 (log_of w)) line ≡ true = allowed.2.is_free in
-    ap (λ (j : Image). start_of j line) (sym (found_then i w o.number at.0 plain.legal at.1 (later o.number allowed.0 begins)))
-    ∙ free_unstarted i (prefixes at.0 (log_of w)) line (all_taken (λ (l : Logged). is_plain_event l.event ≡ true) (known at.0 0) (log_of w 0) plain.engine) free
+    ap (λ (j : Image). start_of j line) (sym (found_then i w o.number at.0 simple.mount.legal at.1 (later o.number allowed.0 begins)))
+    ∙ free_unstarted i (prefixes at.0 (log_of w)) line (all_taken (λ (l : Logged). is_plain_event l.event ≡ true) (known at.0 0) (log_of w 0) (engine_plain i w simple)) free
   where
     later : (n : ℕ) (b : Begun) → begun (take n (log_of w 0)) ≡ Some b → 0 < n
     later zero b e = absurd (none-some b e)
     later (suc n) b e = omega arith
 
-pub started_as_found : (i : Image) (w : World) (line : ℕ) → IsPlainWorld i w → is_some (start_of (found_image i (log_of w)) line) ≡ true → is_as_found (life_of (log_of w 0) line) ≡ true
-started_as_found i w line plain starts = go (life_of (log_of w 0) line) refl
+pub started_as_found : (i : Image) (w : World) (line : ℕ) → IsSimpleMount i w → is_some (start_of (found_image i (log_of w)) line) ≡ true → is_as_found (life_of (log_of w 0) line) ≡ true
+started_as_found i w line simple starts = go (life_of (log_of w 0) line) refl
   where
     go : (life : LineLife) → life_of (log_of w 0) line ≡ life → is_as_found life ≡ true
     go AsFound e = refl
-    go (Opened o) e = let none : is_some (start_of (found_image i (log_of w)) line) ≡ false = ap is_some (opened_unstarted i w line o plain e) in absurd cc
-    go (Freed was knows) e = let no : is_freed (life_of (log_of w 0) line) ≡ false = none_freed (log_of w 0) plain.engine line in let yes : is_freed (life_of (log_of w 0) line) ≡ true = ap is_freed e in absurd cc
+    go (Opened o) e = let none : is_some (start_of (found_image i (log_of w)) line) ≡ false = ap is_some (opened_unstarted i w line o simple e) in absurd cc
+    go (Freed was knows) e = let no : is_freed (life_of (log_of w 0) line) ≡ false = none_freed (log_of w 0) (engine_plain i w simple) line in let yes : is_freed (life_of (log_of w 0) line) ≡ true = ap is_freed e in absurd cc
 
 -- ---- the rows of older lines stay
 

@@ -17,7 +17,7 @@ use Rattle.pblk_world.specs.EngineLog.{Begun, begun_by, begun, LineLife, AsFound
 use Rattle.pblk_world.specs.Lines.{known_image, told_by, is_empty_state, are_empty, has_number, is_free_line, is_given_up_by, strays_of, is_given_up}
 use Rattle.pblk_world.proofs.Appending.{life_more}
 use Rattle.core_laws.specs.PlacerOf.{unanswered_on}
-use Rattle.core_laws.specs.PlainWorlds.{IsPlainWorld}
+use Rattle.core_laws.specs.SimpleMounts.{IsSimpleMount}
 use Rattle.core_laws.specs.Stepping.{after}
 use Rattle.line_laws.proofs.KeptRows.{begun_kept, known_kept}
 use Rattle.pblk_core.specs.Resets.{is_used_state, is_used_in, used_units, in_line, units_to_reset, resets_of}
@@ -90,12 +90,12 @@ empty_none j line all = filter_none (is_used_in j line) (range_with_len 0 (units
 
 -- ---- a program that has landed
 
-pub resets_landed : (i : Image) (w : World) (unit event : ℕ) (knows : List ℕ) (p : Placed) (b : Begun) → IsPlainWorld i w → MayLand (log_of w) unit event → unanswered_on (log_of w 0) unit ≡ Some p → begun (log_of w 0) ≡ Some b
+pub resets_landed : (i : Image) (w : World) (unit event : ℕ) (knows : List ℕ) (p : Placed) (b : Begun) → IsSimpleMount i w → MayLand (log_of w) unit event → unanswered_on (log_of w 0) unit ≡ Some p → begun (log_of w 0) ≡ Some b
     → is_opened (life_of (log_of w 0) p.stripe.line) ≡ true → resets_of i (after (log_of w) (Landed unit event) knows) ≡ resets_of i (log_of w)
-resets_landed i w unit event knows p b plain may waits begins opened = resets_same i (log_of w) (after (log_of w) (Landed unit event) knows) (λ line inside. go line (is_given_up (log_of w 0) line) refl)
+resets_landed i w unit event knows p b simple may waits begins opened = resets_same i (log_of w) (after (log_of w) (Landed unit event) knows) (λ line inside. go line (is_given_up (log_of w 0) line) refl)
   where
     is : IsItsProgram w unit event p
-    is = landed_program i w unit event p plain may waits
+    is = landed_program i w unit event p simple may waits
 
     same : (line : ℕ) → is_given_up (after (log_of w) (Landed unit event) knows 0) line ≡ is_given_up (log_of w 0) line
     same line = given_up_kept (log_of w) (Landed unit event) knows line refl (life_more (log_of w 0) (record { event = Decides (Landed unit event); knows = knows }) line)

@@ -2,7 +2,7 @@
 use Rattle.std.proofs.Common.{◌≡◌, ◌≢◌, ◌⊎◌, ℕ, ◌+◌, ◌-◌, ◌*◌, ◌/◌, ◌%◌, ◌<◌, ◌≤◌, ◌==◌, zero, suc, nat_lt, nat_le, if◌then◌else◌, Bool, true, false, Some, None, Option, List, [], ◌∷◌, length, take, drop, refl, sym, subst, ap, ap₂, ◌∙◌, arith, inl, inr, mul-div_cancel, div-add-mod'}
 use Rattle.std.specs.Prelude.{slice_get, slice_range, is_some}
 use Rattle.std.specs.List.{AllByRecursion, flat_map}
-use Rattle.std.specs.Option.{option_map}
+use Rattle.std.specs.Option.{option_and_then, option_map}
 use Rattle.std.proofs.lemmas.Bool.{cases_order, eqb-true}
 use Rattle.std.proofs.lemmas.Option.{none-some, slice_get-map, slice_get_past, slice_get_within}
 use Rattle.std.specs.List.Sorted.{IsStrictlyIncreasing}
@@ -24,12 +24,12 @@ use Rattle.pblk_world.specs.Placing.{data_marks, end_address}
 use Rattle.stripe_placer.specs.OpenLines.{width}
 use Rattle.core_laws.specs.OpenedLines.{as_opened, is_stripe_at}
 use Rattle.core_laws.proofs.Turns.{filtered_is}
+use Rattle.found_laws.proofs.Lists.{joined_at}
 use Rattle.landing_laws.specs.ChunkBlocks.{chunk_blocks}
 use Rattle.landing_laws.specs.ReadSlots.{address_of_block}
 use Rattle.landing_laws.proofs.SlotsInWorlds.{address_at}
-use Rattle.media_laws.proofs.LineColumns.{block_get, blocks_count}
 use Rattle.pblk_world.specs.Lines.{known_image}
-use Rattle.placed_laws.proofs.StripeBlocks.{have_blocks}
+use Rattle.placed_laws.proofs.StripeBlocks.{have_blocks, length_joined}
 use Rattle.pblk_core.proofs.LandedEntries.{read_of}
 use Rattle.placing_laws.proofs.Lengths.{is_before, ends_before}
 use Rattle.pblk_core.proofs.ChunkRows.{row_below, rows_of_chunks}
@@ -37,7 +37,7 @@ use Rattle.stripe_placer.specs.Placing.{Program}
 use Rattle.stripe_placer.proofs.Chunks.{lt_of as lt_yes}
 use Rattle.pblk_laws.proofs.LineUnits.{line_units_rise}
 use Rattle.placing_laws.proofs.InOrder.{IsAtPlace}
-use Rattle.core_laws.specs.PlainWorlds.{IsPlainWorld}
+use Rattle.core_laws.specs.SimpleMounts.{IsSimpleMount}
 use Rattle.pblk_core.specs.Stands.{IsOpenLine}
 use Rattle.pblk_core.specs.Readable.{ReadBlock, block_reads, data_mark, position_of}
 use Rattle.pblk_core.specs.declared.open_lines.OpenLine.{OpenLine}
@@ -75,13 +75,13 @@ long_all : (n : ℕ) (ps : List Placed) → ((k : ℕ) (r : Placed) → slice_ge
 long_all n [] each = tt
 long_all n (r ∷ ps) each = (each 0 r refl, long_all n ps (λ k x e. each (suc k) x e))
 
-pub in_line : (i : Image) (w : World) (unit : ℕ) (of : Program) (slot : OpenLine) (n : ℕ) (b : Block) → IsPlainWorld i w → (is : IsOnWay i w unit of) → IsOpenLine i (log_of w) is.row.opening slot
+pub in_line : (i : Image) (w : World) (unit : ℕ) (of : Program) (slot : OpenLine) (n : ℕ) (b : Block) → IsSimpleMount i w → (is : IsOnWay i w unit of) → IsOpenLine i (log_of w) is.row.opening slot
     → slice_get (chunk_blocks (log_of w 0) is.row.opening unit) n ≡ Some b → IsInLine i w unit is.row.opening slot n b
-in_line i w unit of slot n b plain is kept there =
+in_line i w unit of slot n b simple is kept there =
     let ws : 0 < i.shape.ws_opt = is.line_is.striped.some in
-    let rows = rows_of_chunks i w is.row.opening unit plain in
+    let rows = rows_of_chunks i w is.row.opening unit simple in
     let long = long_all i.shape.ws_opt (stripes_on (log_of w 0) is.row.opening unit) (λ k r at. (rows k r at).blocks) in
-    let count : length (chunk_blocks (log_of w 0) is.row.opening unit) ≡ length (stripes_on (log_of w 0) is.row.opening unit) * i.shape.ws_opt = blocks_count i.shape.ws_opt (stripes_on (log_of w 0) is.row.opening unit) long in
+    let count : length (chunk_blocks (log_of w 0) is.row.opening unit) ≡ length (stripes_on (log_of w 0) is.row.opening unit) * i.shape.ws_opt = length_joined i.shape.ws_opt (stripes_on (log_of w 0) is.row.opening unit) long in
     let within : n < length (chunk_blocks (log_of w 0) is.row.opening unit) = slice_get_within (chunk_blocks (log_of w 0) is.row.opening unit) n b there in
     let row : n / i.shape.ws_opt < length (stripes_on (log_of w 0) is.row.opening unit) = row_below i.shape.ws_opt n (length (stripes_on (log_of w 0) is.row.opening unit)) (omega arith) in
     let p = got_within (stripes_on (log_of w 0) is.row.opening unit) (n / i.shape.ws_opt) row in
@@ -106,11 +106,12 @@ in_line i w unit of slot n b plain is kept there =
       number = among.0;
       stripe = p.0;
       there = among.1;
-      block = sym (block_get i.shape.ws_opt (stripes_on (log_of w 0) is.row.opening unit) (n / i.shape.ws_opt) (n % i.shape.ws_opt) p.0 long p.1 rest) ∙ ap (slice_get (chunk_blocks (log_of w 0) is.row.opening unit)) parts ∙ there;
+      block = sym (joined_at (λ (q : Placed). q.stripe.blocks) i.shape.ws_opt (stripes_on (log_of w 0) is.row.opening unit) (n / i.shape.ws_opt) (n % i.shape.ws_opt) long rest
+          ∙ ap (option_and_then (λ (q : Placed). slice_get q.stripe.blocks (n % i.shape.ws_opt))) p.1) ∙ ap (slice_get (chunk_blocks (log_of w 0) is.row.opening unit)) parts ∙ there;
       address = address_at i (log_of w) is.row.opening unit n among.0 ws wide (omega arith)
           (ap₂ (λ u m. is_stripe_at i.shape (as_opened i (log_of w) is.row.opening) u m among.0) (sym own) (sym its.at) ∙ here);
       place = ap₂ (λ s us. position_of (unit, n) (line_order s us)) kept.records.shape (ap units_in kept.live ∙ is.line_is.units)
-          ∙ place_found i.shape (now_units i w is.row.opening.line) unit (among.0 % length (now_units i w is.row.opening.line)) n (line_units_rise (known_image i (log_of w)) is.row.opening.line) ws plain.accepted.drive.whole_stripes column below
+          ∙ place_found i.shape (now_units i w is.row.opening.line) unit (among.0 % length (now_units i w is.row.opening.line)) n (line_units_rise (known_image i (log_of w)) is.row.opening.line) ws simple.mount.accepted.drive.whole_stripes column below
           ∙ ap (λ m. Some (m * i.shape.ws_opt + n % i.shape.ws_opt)) number;
     }
 
@@ -170,8 +171,8 @@ told_none i w unit o slot n b none unnamed = record {
     both : {c : Bool} → c ≡ true → c ≡ false → ⊥
     both p q = cc
 
-told_block : (i : Image) (w : World) (unit : ℕ) (of : Program) (slot : OpenLine) (n : ℕ) (b : Block) → IsPlainWorld i w → (is : IsOnWay i w unit of) → IsOpenLine i (log_of w) is.row.opening slot → IsInLine i w unit is.row.opening slot n b → AreKinds i w is.row.opening → IsTold i w unit is.row.opening slot n b
-told_block i w unit of slot n b plain is kept l kinds = by (nat_le (start_len i.shape) at) refl
+told_block : (i : Image) (w : World) (unit : ℕ) (of : Program) (slot : OpenLine) (n : ℕ) (b : Block) → IsSimpleMount i w → (is : IsOnWay i w unit of) → IsOpenLine i (log_of w) is.row.opening slot → IsInLine i w unit is.row.opening slot n b → AreKinds i w is.row.opening → IsTold i w unit is.row.opening slot n b
+told_block i w unit of slot n b simple is kept l kinds = by (nat_le (start_len i.shape) at) refl
   where
     at : ℕ
     at = l.number * i.shape.ws_opt + n % i.shape.ws_opt
@@ -186,9 +187,10 @@ told_block i w unit of slot n b plain is kept l kinds = by (nat_le (start_len i.
     flat = flat_map (λ (p : Placed). p.stripe.blocks) (stripes_of (log_of w 0) is.row.opening)
 
     line_get : slice_get (flat_map (λ (p : Placed). p.stripe.blocks) (stripes_of (log_of w 0) is.row.opening)) (l.number * i.shape.ws_opt + n % i.shape.ws_opt) ≡ Some b
-    line_get = block_get i.shape.ws_opt (stripes_of (log_of w 0) is.row.opening) l.number (n % i.shape.ws_opt) l.stripe
-        (all_filter (λ (p : Placed). length p.stripe.blocks ≡ i.shape.ws_opt) (λ (p : Placed). is_life is.row.opening.number p.life) (placements (log_of w 0)) (have_blocks i w plain.accepted plain.legal).blocks)
-        l.there (mod-lt n is.line_is.striped.some) ∙ l.block
+    line_get = joined_at (λ (p : Placed). p.stripe.blocks) i.shape.ws_opt (stripes_of (log_of w 0) is.row.opening) l.number (n % i.shape.ws_opt)
+        (all_filter (λ (p : Placed). length p.stripe.blocks ≡ i.shape.ws_opt) (λ (p : Placed). is_life is.row.opening.number p.life)
+        (placements (log_of w 0)) (have_blocks i w simple.mount.accepted simple.mount.legal).blocks) (mod-lt n is.line_is.striped.some)
+        ∙ ap (option_and_then (λ (p : Placed). slice_get p.stripe.blocks (n % i.shape.ws_opt))) l.there ∙ l.block
 
     kind : HasKind i.shape (takes (log_of w 0)) is.row.opening l.number l.stripe.stripe.blocks
     kind = kinds l.number l.stripe l.there
@@ -248,8 +250,8 @@ told_block i w unit of slot n b plain is kept l kinds = by (nat_le (start_len i.
         (kind.outside b among (inl (omega arith)))
     by true e = after_start e (nat_lt (l.number * i.shape.ws_opt + n % i.shape.ws_opt) (end_address i.shape is.row.opening)) refl
 
-pub chunk_read : (i : Image) (w : World) (unit : ℕ) (of : Program) (slot : OpenLine) → IsPlainWorld i w → (is : IsOnWay i w unit of) → IsOpenLine i (log_of w) is.row.opening slot → AreKinds i w is.row.opening → IsChunkRead i w unit is.row.opening slot
-chunk_read i w unit of slot plain is kept kinds = record {
-  reads = λ n b there. (told_block i w unit of slot n b plain is kept (in_line i w unit of slot n b plain is kept there) kinds).reads;
-  marks = λ n b there. (told_block i w unit of slot n b plain is kept (in_line i w unit of slot n b plain is kept there) kinds).marks;
+pub chunk_read : (i : Image) (w : World) (unit : ℕ) (of : Program) (slot : OpenLine) → IsSimpleMount i w → (is : IsOnWay i w unit of) → IsOpenLine i (log_of w) is.row.opening slot → AreKinds i w is.row.opening → IsChunkRead i w unit is.row.opening slot
+chunk_read i w unit of slot simple is kept kinds = record {
+  reads = λ n b there. (told_block i w unit of slot n b simple is kept (in_line i w unit of slot n b simple is kept there) kinds).reads;
+  marks = λ n b there. (told_block i w unit of slot n b simple is kept (in_line i w unit of slot n b simple is kept there) kinds).marks;
 }

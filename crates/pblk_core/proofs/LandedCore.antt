@@ -18,11 +18,11 @@ use Rattle.line_table.specs.declared.row.Row.{Row}
 use Rattle.line_table.specs.declared.row.LineState.TheVariants.{Open, Full}
 use Rattle.line_table.specs.Rows.{Table, IsRow, IsChange, Changes, turned}
 use Rattle.stripe_placer.specs.declared.placement.Placement.{Placement}
-use Rattle.stripe_placer.specs.Placing.{Program, UnitRow, program, under_way_in}
+use Rattle.stripe_placer.specs.Placing.{Program, Placing, UnitRow, program, positions_in, under_way_in}
 use Rattle.stripe_placer.specs.Placing.UnitRow.{UnderWay}
 use Rattle.write_window.specs.Window as view
 use Rattle.core_laws.specs.PlacerOf.{IsAwaited, placing_of, positions_in_stripe}
-use Rattle.core_laws.specs.PlainWorlds.{IsPlainWorld}
+use Rattle.core_laws.specs.SimpleMounts.{IsSimpleMount}
 use Rattle.core_laws.specs.RowsOf.{row_of_line, rows_of, width_in}
 use Rattle.landing_laws.specs.ChunkBlocks.{IsInRow}
 use Rattle.landing_laws.proofs.HeldInWorlds.{own_in_window}
@@ -47,22 +47,29 @@ use Rattle.lemmas.proofs.Tests.{same_number}
 
 -- ---- the row that the placer tells
 
-pub told_row : (rows : List UnitRow) (unit u : ℕ) (r : Option Placement) (of : Placement) (is : Program) → r ≡ Some of → u ≡ unit → option_map program r ≡ option_and_then under_way_in (slice_get rows u)
-    → slice_get rows unit ≡ Some (UnderWay is) → slice_get rows unit ≡ Some (UnderWay (program of))
-told_row rows unit u r of is found at told there =
-    there ∙ ap (λ (x : Program). Some (UnderWay x))
-    (same_Some is (program of) (sym (ap (option_map program) (sym found) ∙ told ∙ ap (λ n. option_and_then under_way_in (slice_get rows n)) at ∙ ap (option_and_then under_way_in) there)))
+pub told_row : (p : Placing) (unit u : ℕ) (r : Option Placement) (of : Placement) (is : Program) → r ≡ Some of → u ≡ unit
+    → option_map (program p) r ≡ option_and_then under_way_in (slice_get p.units u)
+    → slice_get p.units unit ≡ Some (UnderWay is) → slice_get p.units unit ≡ Some (UnderWay (program p of))
+told_row p unit u r of is found at told there =
+    let row = ap (λ n. option_and_then under_way_in (slice_get p.units n)) at ∙ ap (option_and_then under_way_in) there in
+    let same = same_Some is (program p of) (sym (ap (option_map (program p)) (sym found) ∙ told ∙ row)) in
+    there ∙ ap (λ (x : Program). Some (UnderWay x)) same
+
+-- the positions that it tells of that unit
+pub told_under_way : (p : Placing) (unit u : ℕ) (of : Program) (told : List ℕ) → u ≡ unit → slice_get p.units unit ≡ Some (UnderWay of)
+    → ((row : UnitRow) → slice_get p.units u ≡ Some row → told ≡ positions_in row) → told ≡ of.positions
+told_under_way p unit u of told at there tells = tells (UnderWay of) (ap (slice_get p.units) at ∙ there)
 
 pub record IsOfCore (i : Image) (w : World) (c : Core) (unit : ℕ) (of : Program) : Type 0 where
   pub is : IsOnWay i w unit of
   pub waits : IsAwaited i (log_of w) c.placer.entries.pad [] of
   pub has : HasSlot i (log_of w) c.open is.row.opening
 
-pub of_core : (i : Image) (w : World) (c : Core) (unit : ℕ) (of : Program) → IsPlainWorld i w → Stands i (log_of w) c → slice_get c.placer.units unit ≡ Some (UnderWay of) → IsOfCore i w c unit of
-of_core i w c unit of plain st there =
+pub of_core : (i : Image) (w : World) (c : Core) (unit : ℕ) (of : Program) → IsSimpleMount i w → Stands i (log_of w) c → slice_get c.placer.units unit ≡ Some (UnderWay of) → IsOfCore i w c unit of
+of_core i w c unit of simple st there =
     let row : slice_get (placing_of i (log_of w) c.placer.entries.pad []).units unit ≡ Some (UnderWay of) = ap (λ p. slice_get p.units unit) (sym st.placing) ∙ there in
-    let is : IsOnWay i w unit of = on_way i w unit of plain (of_row i (log_of w) c.placer.entries.pad unit of row) in
-    record { is = is; waits = awaited i w c.placer.entries.pad unit of plain is row; has = has_slot i w c unit of plain is st }
+    let is : IsOnWay i w unit of = on_way i w unit of simple (of_row i (log_of w) c.placer.entries.pad unit of row) in
+    record { is = is; waits = awaited i w c.placer.entries.pad unit of simple is row; has = has_slot i w c unit of simple is st }
 
 -- ---- its entries
 
@@ -82,29 +89,29 @@ in_window i w c q st low high =
     let from : c.window.freed ≤ freed i.shape (log_of w 0) = st.to_freed in
     (omega arith, subst (λ n. q < n) (sym (window_taken_is i w c st)) high)
 
-pub entry_held : (i : Image) (w : World) (c : Core) (unit : ℕ) (of : Program) (k q : ℕ) → IsPlainWorld i w → Stands i (log_of w) c → IsOnWay i w unit of → slice_get of.positions k ≡ Some q → view.IsHeld c.window q
-entry_held i w c unit of k q plain st is at =
-    let own = own_in_window i w unit is.row.stripe q plain is.row.waits (holds_it i w unit of k q is at) in
+pub entry_held : (i : Image) (w : World) (c : Core) (unit : ℕ) (of : Program) (k q : ℕ) → IsSimpleMount i w → Stands i (log_of w) c → IsOnWay i w unit of → slice_get of.positions k ≡ Some q → view.IsHeld c.window q
+entry_held i w c unit of k q simple st is at =
+    let own = own_in_window i w unit is.row.stripe q simple is.row.waits (holds_it i w unit of k q is at) in
     in_window i w c q st own.1 own.2
 
 -- ---- its place in the chunk
 
-pub in_row : (i : Image) (w : World) (unit : ℕ) (of : Program) → IsPlainWorld i w → (is : IsOnWay i w unit of) → (n : ℕ) × (slice_get (stripes_on (log_of w 0) is.row.opening unit) n ≡ Some is.row.stripe) × IsInRow i.shape n is.row.stripe
-in_row i w unit of plain is =
+pub in_row : (i : Image) (w : World) (unit : ℕ) (of : Program) → IsSimpleMount i w → (is : IsOnWay i w unit of) → (n : ℕ) × (slice_get (stripes_on (log_of w 0) is.row.opening unit) n ≡ Some is.row.stripe) × IsInRow i.shape n is.row.stripe
+in_row i w unit of simple is =
     let among : IsAmong (stripes_on (log_of w 0) is.row.opening unit) is.row.stripe =
     in_filter (λ (p : Placed). p.stripe.unit == unit) (stripes_of (log_of w 0) is.row.opening) is.row.stripe (is.number, is.there) (ap (λ u. u == unit) is.its_unit ∙ same_number unit) in
-    (among.0, among.1, rows_of_chunks i w is.row.opening unit plain among.0 is.row.stripe among.1)
+    (among.0, among.1, rows_of_chunks i w is.row.opening unit simple among.0 is.row.stripe among.1)
 
 pub block_is : (i : Image) (w : World) (unit : ℕ) (of : Program) → (is : IsOnWay i w unit of) → of.block ≡ is.row.stripe.stripe.at
 block_is i w unit of is = sym (ap (λ (x : Program). x.block) is.row.is)
 
-pub block_within : (i : Image) (w : World) (unit : ℕ) (of : Program) → IsPlainWorld i w → IsOnWay i w unit of → of.block + i.shape.ws_opt ≤ i.shape.clba
-block_within i w unit of plain is = subst (λ n. n + i.shape.ws_opt ≤ i.shape.clba) (sym (block_is i w unit of is)) (in_row i w unit of plain is).2.within
+pub block_within : (i : Image) (w : World) (unit : ℕ) (of : Program) → IsSimpleMount i w → IsOnWay i w unit of → of.block + i.shape.ws_opt ≤ i.shape.clba
+block_within i w unit of simple is = subst (λ n. n + i.shape.ws_opt ≤ i.shape.clba) (sym (block_is i w unit of is)) (in_row i w unit of simple is).2.within
 
 -- ---- the units of its line
 
-pub live_few : (i : Image) (w : World) (c : Core) (unit : ℕ) (of : Program) → IsPlainWorld i w → (is : IsOnWay i w unit of) → (has : HasSlot i (log_of w) c.open is.row.opening) → has.slot.live < 2 ^ units i.shape
-live_few i w c unit of plain is has = subst (λ n. n < 2 ^ units i.shape) (sym has.is.live) (known_bits i w (engine_prefix is.row.opening.number (log_of w)) is.row.opening.line plain)
+pub live_few : (i : Image) (w : World) (c : Core) (unit : ℕ) (of : Program) → IsSimpleMount i w → (is : IsOnWay i w unit of) → (has : HasSlot i (log_of w) c.open is.row.opening) → has.slot.live < 2 ^ units i.shape
+live_few i w c unit of simple is has = subst (λ n. n < 2 ^ units i.shape) (sym has.is.live) (known_bits i w (engine_prefix is.row.opening.number (log_of w)) is.row.opening.line simple)
 
 pub left_some : (i : Image) (w : World) (c : Core) (unit : ℕ) (of : Program) → (is : IsOnWay i w unit of) → (has : HasSlot i (log_of w) c.open is.row.opening) → 0 < has.slot.stripes_left
 left_some i w c unit of is has =
@@ -121,13 +128,13 @@ line_within i w c unit of st is =
     let count : length (rows_of i (log_of w)).rows ≡ i.shape.chunks = length-map (range_with_len 0 i.shape.chunks) (row_of_line i (log_of w)) ∙ length-range_with_len 0 i.shape.chunks in
     subst (λ t. is.row.opening.line < length t.rows) (sym st.table) (omega arith)
 
-pub may_fill : (i : Image) (w : World) (c : Core) (unit : ℕ) (of : Program) (row : Row) (addresses : ℕ) → IsPlainWorld i w → Stands i (log_of w) c → (is : IsOnWay i w unit of) → IsRow c.lines is.row.opening.line row → IsChange row.state Full addresses
-may_fill i w c unit of row addresses plain st is there =
+pub may_fill : (i : Image) (w : World) (c : Core) (unit : ℕ) (of : Program) (row : Row) (addresses : ℕ) → IsSimpleMount i w → Stands i (log_of w) c → (is : IsOnWay i w unit of) → IsRow c.lines is.row.opening.line row → IsChange row.state Full addresses
+may_fill i w c unit of row addresses simple st is there =
     let ln : ℕ = is.row.opening.line in
     let at = row_at (row_of_line i (log_of w)) i.shape.chunks 0 is.row.opening.line row (ap (λ t. slice_get t.rows is.row.opening.line) (sym st.table) ∙ there) in
     let from : 0 + is.row.opening.line ≡ is.row.stripe.stripe.line = (let z : 0 + is.row.opening.line ≡ is.row.opening.line = omega arith in z) ∙ is.its_line in
     let state : Open ≡ row.state =
-    sym (state_open i (log_of w) unit is.row.stripe is.row.opening is.line_is.striped.some (in_order i w plain).failed is.row.waits is.row.life is.stands (has_room i w is.row.stripe.stripe.line is.row.opening plain is.stands))
+    sym (state_open i (log_of w) unit is.row.stripe is.row.opening is.line_is.striped.some (in_order i w simple).failed is.row.waits is.row.life is.stands (has_room i w is.row.stripe.stripe.line is.row.opening simple is.stands))
     ∙ ap (λ n. (row_of_line i (log_of w) n).state) (sym from) ∙ ap (λ (r : Row). r.state) at.1 in
     subst (λ s. IsChange s Full addresses) state (inl refl)
 

@@ -2,6 +2,7 @@
 use Rattle.std.proofs.Common.{◌≡◌, ◌≢◌, ◌⊎◌, ℕ, ◌+◌, ◌-◌, ◌*◌, ◌/◌, ◌<◌, ◌≤◌, ◌==◌, nat_lt, nat_eq, true, false, zero, suc, Bool, Some, None, List, [], ◌∷◌, ◌++◌, length, drop, refl, sym, subst, ap, ap₂, ◌∙◌, arith, inl, inr, if◌then◌else◌, append-nil, le_refl}
 use Rattle.std.specs.Prelude.{slice_get, slice_range, is_some, nat_le}
 use Rattle.std.specs.List.{AllByRecursion, filter}
+use Rattle.std.specs.Option.{option_to_list}
 use Rattle.std.proofs.Math.Nat.{mul-le-mul_right}
 use Rattle.std.proofs.lemmas.Bool.{eqb-true}
 use Rattle.std.proofs.lemmas.Option.{same_Some, none-some}
@@ -16,24 +17,23 @@ use Rattle.pblk_model.specs.LineOrder.{start_len, end_len}
 use Rattle.pblk_model.specs.StartRecord.{StartRecord, start_bytes}
 use Rattle.pblk_world.specs.Events.{Stripe, Open, Place, Free, Event, Decides, Logged}
 use Rattle.pblk_world.specs.World.{World, Logs, log_of, prefixes}
-use Rattle.pblk_world.specs.EngineLog.{Opening, Opened, life_of, is_life, Taken, takes, Placed, placements, stripes_of, has_failed}
+use Rattle.pblk_world.specs.EngineLog.{Opening, Opened, life_of, is_life, Taken, taken_by, takes, Placed, placements, stripes_of, has_failed}
 use Rattle.pblk_world.specs.Placing.{MayPlace, IsStart, IsData, IsEnd, IsPad, record_blocks, data_blocks, end_address}
 use Rattle.pblk_world.proofs.Appending.{life_more, placements_more}
 use Rattle.pblk_world.proofs.Growing.{at_end}
 use Rattle.stripe_placer.specs.Placing.{Program}
-use Rattle.core_laws.specs.PlainWorlds.{IsPlainWorld}
+use Rattle.core_laws.specs.SimpleMounts.{IsSimpleMount}
 use Rattle.core_laws.proofs.Numbers.{opens_at, life_at}
 use Rattle.core_laws.proofs.Opening.{placed_before}
 use Rattle.core_laws.proofs.Placing.{new_placed, with_place}
 use Rattle.line_laws.specs.PlacedEntries.{AreOfSectors}
 use Rattle.line_laws.proofs.Orders.{in_order}
-use Rattle.placing_laws.proofs.Followed.{IsNextEvent, by_events, follow}
+use Rattle.placing_laws.proofs.Followed.{IsNextEvent, by_events, follow, plain_of}
 use Rattle.placing_laws.proofs.InOrder.{its_stripes, stripes_now as stripe_behind}
 use Rattle.placing_laws.proofs.Lengths.{IsStriped}
 use Rattle.placing_laws.proofs.Opened.{IsOpenedLine, opened_lines}
 use Rattle.pblk_laws.proofs.MarkNames.{pad_none, meta_none}
-use Rattle.prefix_law.proofs.Filling.{IsOfTaken, data_taken}
-use Rattle.prefix_law.proofs.Media.{cut_marks}
+use Rattle.pblk_core.proofs.DataBlocks.{IsOfTaken, data_taken, cut_marks}
 use Rattle.pblk_core.specs.Stands.{IsOpenLine}
 use Rattle.pblk_core.specs.declared.open_lines.OpenLine.{OpenLine}
 use Rattle.pblk_core.proofs.LineUnits.{now_units}
@@ -41,7 +41,7 @@ use Rattle.pblk_core.proofs.LandedReads.{IsChunkRead}
 use Rattle.pblk_core.proofs.LandedWay.{IsOnWay}
 use Rattle.pblk_core.proofs.LandedChunk.{HasKind, AreKinds, chunk_read}
 use Rattle.core_laws.proofs.PlainWorldsLemmas.{none_failed}
-use Rattle.lemmas.proofs.Lists.{IsAmong}
+use Rattle.lemmas.proofs.Lists.{IsAmong, all_front}
 use Rattle.lemmas.proofs.Maps.{filter_none}
 use Rattle.lemmas.proofs.Parts.{all_at, all_dropped, all_taken}
 use Rattle.lemmas.proofs.Tests.{first_of, lt_true, within_is}
@@ -147,11 +147,12 @@ kinds_stay s log l line o j p was same (inr number) there =
     absurd (none-some p (sym (ap₂ (λ (ps : List Placed) n. slice_get (filter (λ (q : Placed). is_life n q.life) ps) j) same number
     ∙ ap (λ (ps : List Placed). slice_get ps j) (filter_none (λ (q : Placed). is_life (length log) q.life) (placements log) (placed_before log (length log) (le_refl (length log))))) ∙ there))
 
-kinds_placed : (i : Image) (us : ℕ → List ℕ) (w : World) (knows : List ℕ) (stripe : Stripe) → IsNextEvent i us w 0 (record { event = Decides (Place stripe); knows = knows }) → HaveKinds i.shape (log_of w 0)
+kinds_placed : (i : Image) (us : ℕ → List ℕ) (w : World) (knows : List ℕ) (stripe : Stripe) → IsNextEvent i us w (record { event = Decides (Place stripe); knows = knows })
+    → AreOfSectors i.shape (log_of w 0) → HaveKinds i.shape (log_of w 0)
     → (line : ℕ) (o : Opening) → life_of (log_of w 0) line ≡ Opened o → (j : ℕ) (p : Placed) → slice_get (stripes_of (with_place (log_of w 0) stripe knows) o) j ≡ Some p
     → HasKind i.shape (takes (with_place (log_of w 0) stripe knows)) o j p.stripe.blocks
 unfolding HaveKinds
-kinds_placed i us w knows stripe next was line o life j p there = go (is_life o.number (Opened may.opening)) refl
+kinds_placed i us w knows stripe next sectors was line o life j p there = go (is_life o.number (Opened may.opening)) refl
   where
     l : Logged
     l = record { event = Decides (Place stripe); knows = knows }
@@ -159,8 +160,8 @@ kinds_placed i us w knows stripe next was line o life j p there = go (is_life o.
     ls : Logs
     ls = prefixes (record { event = Decides (Place stripe); knows = knows }) (log_of w)
 
-    plain : IsPlainWorld i w
-    plain = next.world.plain
+    accepted : IsAccepted i.shape
+    accepted = next.world.simple.mount.accepted
 
     may : MayPlace i (prefixes (record { event = Decides (Place stripe); knows = knows }) (log_of w)) stripe
     may = next.allowed.2
@@ -176,10 +177,10 @@ kinds_placed i us w knows stripe next was line o life j p there = go (is_life o.
 
     now : HasKind i.shape (takes (log_of w 0)) may.opening (length (stripes_of (log_of w 0) may.opening)) stripe.blocks
     now = subst (λ (xs : List Logged). HasKind i.shape (takes xs) may.opening (length (stripes_of xs may.opening)) stripe.blocks) next.own
-        (kind_of i ls may.opening stripe plain.accepted
-        (subst (AreOfSectors i.shape) (sym next.own) (in_order i w plain).sectors)
-        (subst (IsStriped i.shape) (sym well.width) (its_stripes i us stripe.line may.opening plain.accepted.drive.ws_opt plain.accepted.drive.whole_stripes well))
-        (own (λ xs. has_failed xs may.opening) ∙ none_failed (log_of w 0) may.opening plain.engine) may.kind)
+        (kind_of i ls may.opening stripe accepted
+        (subst (AreOfSectors i.shape) (sym next.own) sectors)
+        (subst (IsStriped i.shape) (sym well.width) (its_stripes i us stripe.line may.opening accepted.drive.ws_opt accepted.drive.whole_stripes well))
+        (own (λ xs. has_failed xs may.opening) ∙ none_failed (log_of w 0) may.opening (plain_of i us w next.world)) may.kind)
 
     by : may.opening ≡ o → (slice_get (stripes_of (log_of w 0) o) j ≡ Some p) ⊎ ((j ≡ length (stripes_of (log_of w 0) o)) × (new_placed (log_of w 0) stripe may.opening ≡ p)) → HasKind i.shape (takes (log_of w 0)) o j p.stripe.blocks
     by same (inl old) = was line o life j p old
@@ -206,26 +207,39 @@ kinds_opened s log knows other line start o = go (nat_eq other line)
     go true e = inr (ap (λ (x : Opening). x.number) (sym (opened_same (record { number = length log; line = line; start = start; knows = knows }) o e)))
     go false e = inl e
 
-kinds_next : (i : Image) (us : ℕ → List ℕ) (w : World) (knows : List ℕ) (x : Event) → IsNextEvent i us w 0 (record { event = x; knows = knows }) → HaveKinds i.shape (log_of w 0) → HaveKinds i.shape (log_of w 0 ++ record { event = x; knows = knows } ∷ [])
+kinds_next : (i : Image) (us : ℕ → List ℕ) (w : World) (knows : List ℕ) (x : Event) → IsNextEvent i us w (record { event = x; knows = knows })
+    → AreOfSectors i.shape (log_of w 0) → HaveKinds i.shape (log_of w 0) → HaveKinds i.shape (log_of w 0 ++ record { event = x; knows = knows } ∷ [])
 unfolding HaveKinds
-kinds_next i us w knows (Decides (Place stripe)) next was line o life j p there =
-    kinds_placed i us w knows stripe next was line o (sym (life_more (log_of w 0) (record { event = Decides (Place stripe); knows = knows }) line) ∙ life) j p there
-kinds_next i us w knows (Decides (Open other start)) next was line o life j p there =
+kinds_next i us w knows (Decides (Place stripe)) next sectors was line o life j p there =
+    kinds_placed i us w knows stripe next sectors was line o (sym (life_more (log_of w 0) (record { event = Decides (Place stripe); knows = knows }) line) ∙ life) j p there
+kinds_next i us w knows (Decides (Open other start)) next sectors was line o life j p there =
     let l : Logged = record { event = Decides (Open other start); knows = knows } in
     kinds_stay i.shape (log_of w 0) l line o j p was (placements_more (log_of w 0) l ∙ append-nil (placements (log_of w 0)))
     (kinds_opened i.shape (log_of w 0) knows other line start o (sym (life_more (log_of w 0) l line) ∙ life)) there
-kinds_next i us w knows (Decides (Free other)) next was line o life j p there = let plain = next.plain in absurd cc
-kinds_next i us w knows x next was line o life j p there =
+kinds_next i us w knows (Decides (Free other)) next sectors was line o life j p there = let plain = next.plain in absurd cc
+kinds_next i us w knows x next sectors was line o life j p there =
     let l : Logged = record { event = x; knows = knows } in
     kinds_stay i.shape (log_of w 0) l line o j p was (placements_more (log_of w 0) l ∙ append-nil (placements (log_of w 0))) (inl (sym (life_more (log_of w 0) l line) ∙ life)) there
 
-all_kinds : (i : Image) (w : World) → IsPlainWorld i w → HaveKinds i.shape (log_of w 0)
-unfolding HaveKinds
-all_kinds i w plain = by_events i (now_units i w) 0 (HaveKinds i.shape) (λ line o life. absurd cc) (λ v l next before. kinds_next i (now_units i w) v l.knows l.event next before) w (follow i w plain)
+-- of a log whose entries are of sectors
+KindsOfSectors : Shape → List Logged → Type 0
+KindsOfSectors s log = AreOfSectors s log → HaveKinds s log
 
-pub are_kinds : (i : Image) (w : World) (unit : ℕ) (of : Program) → IsPlainWorld i w → (is : IsOnWay i w unit of) → AreKinds i w is.row.opening
-unfolding HaveKinds
-are_kinds i w unit of plain is j p there = all_kinds i w plain is.row.stripe.stripe.line is.row.opening is.stands j p there
+sectors_before : (s : Shape) (log : List Logged) (l : Logged) → AreOfSectors s (log ++ l ∷ []) → AreOfSectors s log
+sectors_before s log l sectors =
+    (all_front (λ (t : Taken). t.mark.lba < s.capacity) (takes log) (option_to_list (taken_by l.event))
+    (subst (AllByRecursion (λ (t : Taken). t.mark.lba < s.capacity)) (takes_more log l) sectors)).0
 
-pub chunk_is_read : (i : Image) (w : World) (unit : ℕ) (of : Program) (slot : OpenLine) → IsPlainWorld i w → (is : IsOnWay i w unit of) → IsOpenLine i (log_of w) is.row.opening slot → IsChunkRead i w unit is.row.opening slot
-chunk_is_read i w unit of slot plain is kept = chunk_read i w unit of slot plain is kept (are_kinds i w unit of plain is)
+all_kinds : (i : Image) (w : World) → IsSimpleMount i w → HaveKinds i.shape (log_of w 0)
+unfolding HaveKinds KindsOfSectors
+all_kinds i w simple = by_events i (now_units i w) (KindsOfSectors i.shape) (λ sectors line o life. absurd cc)
+    (λ v l next before sectors.
+    let earlier : AreOfSectors i.shape (log_of v 0) = sectors_before i.shape (log_of v 0) l sectors in
+    kinds_next i (now_units i w) v l.knows l.event next earlier (before earlier)) w (follow i w simple) (in_order i w simple).sectors
+
+pub are_kinds : (i : Image) (w : World) (unit : ℕ) (of : Program) → IsSimpleMount i w → (is : IsOnWay i w unit of) → AreKinds i w is.row.opening
+unfolding HaveKinds
+are_kinds i w unit of simple is j p there = all_kinds i w simple is.row.stripe.stripe.line is.row.opening is.stands j p there
+
+pub chunk_is_read : (i : Image) (w : World) (unit : ℕ) (of : Program) (slot : OpenLine) → IsSimpleMount i w → (is : IsOnWay i w unit of) → IsOpenLine i (log_of w) is.row.opening slot → IsChunkRead i w unit is.row.opening slot
+chunk_is_read i w unit of slot simple is kept = chunk_read i w unit of slot simple is kept (are_kinds i w unit of simple is)

@@ -15,7 +15,7 @@ use Rattle.stripe_placer.specs.OpenLines.Stripe.{Unplaced, Unanswered}
 use Rattle.stripe_placer.specs.OpenLines.Stripe.{Landed as HasLanded}
 use Rattle.stripe_placer.specs.Placing.{Program}
 use Rattle.core_laws.specs.OpenedLines.{open_line}
-use Rattle.core_laws.specs.PlainWorlds.{IsPlainWorld}
+use Rattle.core_laws.specs.SimpleMounts.{IsSimpleMount}
 use Rattle.line_laws.specs.LandedStripes.{landed_count}
 use Rattle.placed_laws.specs.LeftOpenings.{left_openings}
 use Rattle.placed_laws.proofs.LeftLines.{left_apart}
@@ -45,9 +45,9 @@ pub record HasSlot (i : Image) (logs : Logs) (kept : OpenLines) (o : Opening) : 
   pub opening : slice_get (left_openings i logs) k ≡ Some o
   pub is : IsOpenLine i logs o slot
 
-pub has_slot : (i : Image) (w : World) (c : Core) (unit : ℕ) (of : Program) → IsPlainWorld i w → (is : IsOnWay i w unit of) → Stands i (log_of w) c → HasSlot i (log_of w) c.open is.row.opening
-has_slot i w c unit of plain is st =
-    let among : IsAmong (left_openings i (log_of w)) is.row.opening = left_there i w unit of plain is in
+pub has_slot : (i : Image) (w : World) (c : Core) (unit : ℕ) (of : Program) → IsSimpleMount i w → (is : IsOnWay i w unit of) → Stands i (log_of w) c → HasSlot i (log_of w) c.open is.row.opening
+has_slot i w c unit of simple is st =
+    let among : IsAmong (left_openings i (log_of w)) is.row.opening = left_there i w unit of simple is in
     let within : among.0 < length (left_openings i (log_of w)) = slice_get_within (left_openings i (log_of w)) among.0 is.row.opening among.1 in
     let count : c.open.count ≡ length (left_openings i (log_of w)) = st.open_lines.count in
     let few : c.open.count ≤ 2 = st.open_lines.few in

@@ -24,7 +24,7 @@ use Rattle.pblk_world.proofs.Appending.{openings_more}
 use Rattle.core_laws.specs.Stepping.{after}
 use Rattle.core_laws.specs.OpenedLines.{bits_of, live_now, opened_units}
 use Rattle.core_laws.specs.PlacerOf.{unanswered_on}
-use Rattle.core_laws.specs.PlainWorlds.{IsPlainWorld}
+use Rattle.core_laws.specs.SimpleMounts.{IsSimpleMount}
 use Rattle.core_laws.proofs.Answered.{IsAnswer}
 use Rattle.core_laws.proofs.Engine.{prefix_same}
 use Rattle.landing_laws.proofs.FreedFront.{freed_rises}
@@ -65,18 +65,18 @@ written_online s (Some c) x at blocks writes done on =
     ∙ sym on
 
 -- whether a unit has a chunk of a line that isn't Offline
-same_live_unit : (i : Image) (w : World) (unit event : ℕ) (knows : List ℕ) (p : Placed) (b : Begun) (line u : ℕ) → IsPlainWorld i w → MayLand (log_of w) unit event → unanswered_on (log_of w 0) unit ≡ Some p → begun (log_of w 0) ≡ Some b
+same_live_unit : (i : Image) (w : World) (unit event : ℕ) (knows : List ℕ) (p : Placed) (b : Begun) (line u : ℕ) → IsSimpleMount i w → MayLand (log_of w) unit event → unanswered_on (log_of w 0) unit ≡ Some p → begun (log_of w 0) ≡ Some b
     → is_live (known_image i (after (log_of w) (Landed unit event) knows)) line u ≡ is_live (known_image i (log_of w)) line u
-same_live_unit i w unit event knows p b line u plain may waits begins =
+same_live_unit i w unit event knows p b line u simple may waits begins =
     live_chunk (known_image i (after (log_of w) (Landed unit event) knows)) line u ∙ by_unit (nat_eq unit u) refl ∙ sym (live_chunk (known_image i (log_of w)) line u)
   where
     is : IsItsProgram w unit event p
-    is = landed_program i w unit event p plain may waits
+    is = landed_program i w unit event p simple may waits
 
     online : is_live (known_image i (log_of w)) p.stripe.line p.stripe.unit ≡ true
     online =
         let among : IsAmong (placements (log_of w 0)) p = from_filter (λ (q : Placed). q.stripe.unit == unit) (placements (log_of w 0)) p (length (answers (log_of w 0) unit), waits) in
-        all_at (λ (q : Placed). is_live (known_image i (log_of w)) q.stripe.line q.stripe.unit ≡ true) (placements (log_of w 0)) among.0 p among.1 (all_online i w plain)
+        all_at (λ (q : Placed). is_live (known_image i (log_of w)) q.stripe.line q.stripe.unit ≡ true) (placements (log_of w 0)) among.0 p among.1 (all_online i w simple)
 
     own : p.stripe.unit ≡ unit
     own = eqb-true p.stripe.unit unit (filtered_is (λ (q : Placed). q.stripe.unit == unit) (placements (log_of w 0)) (length (answers (log_of w 0) unit)) p waits)
@@ -101,24 +101,24 @@ same_live_unit i w unit event knows p b line u plain may waits begins =
     by_unit true e = by_chunk e (nat_eq is.done.event.chunk line) refl
     by_unit false e = ap is_on (untold_after i (log_of w) (Landed unit event) knows u line b begins (told false e))
 
-pub live_landed : (i : Image) (w : World) (unit event : ℕ) (knows : List ℕ) (p : Placed) (b : Begun) (line : ℕ) → IsPlainWorld i w → MayLand (log_of w) unit event → unanswered_on (log_of w 0) unit ≡ Some p → begun (log_of w 0) ≡ Some b
+pub live_landed : (i : Image) (w : World) (unit event : ℕ) (knows : List ℕ) (p : Placed) (b : Begun) (line : ℕ) → IsSimpleMount i w → MayLand (log_of w) unit event → unanswered_on (log_of w 0) unit ≡ Some p → begun (log_of w 0) ≡ Some b
     → live_now i (after (log_of w) (Landed unit event) knows) line ≡ live_now i (log_of w) line
-live_landed i w unit event knows p b line plain may waits begins =
+live_landed i w unit event knows p b line simple may waits begins =
     ap bits_of (same_units (known_image i (after (log_of w) (Landed unit event) knows)) (known_image i (log_of w)) line
-    (few_units i w (after (log_of w) (Landed unit event) knows) plain) (few_units i w (log_of w) plain) (λ u. same_live_unit i w unit event knows p b line u plain may waits begins))
+    (few_units i w (after (log_of w) (Landed unit event) knows) simple.mount) (few_units i w (log_of w) simple.mount) (λ u. same_live_unit i w unit event knows p b line u simple may waits begins))
 
 pub units_landed : (i : Image) (logs : Logs) (unit event : ℕ) (knows : List ℕ) (o : Opening) → o.number ≤ length (logs 0) → opened_units i (after logs (Landed unit event) knows) o ≡ opened_units i logs o
 units_landed i logs unit event knows o before = ap (λ (ls : Logs). line_units (known_image i ls) o.line) (prefix_same logs (Landed unit event) knows o.number before)
 
 -- ---- fronts
 
-pub freed_landed : (i : Image) (w : World) (b : Begun) (unit event : ℕ) (knows : List ℕ) → IsPlainWorld i w → MayLand (log_of w) unit event → freed i.shape (log_of w 0) ≤ freed i.shape (after (log_of w) (Landed unit event) knows 0)
-freed_landed i w b unit event knows plain may = freed_rises i (log_of w) w b (Landed unit event) knows plain (λ o u. rows_of_chunks i w o u plain) refl refl may
+pub freed_landed : (i : Image) (w : World) (b : Begun) (unit event : ℕ) (knows : List ℕ) → IsSimpleMount i w → MayLand (log_of w) unit event → freed i.shape (log_of w 0) ≤ freed i.shape (after (log_of w) (Landed unit event) knows 0)
+freed_landed i w b unit event knows simple may = freed_rises i (log_of w) w b (Landed unit event) knows simple (λ o u. rows_of_chunks i w o u simple) refl refl may
 
-pub chunk_landed : (i : Image) (w : World) (unit event : ℕ) (p : Placed) → IsPlainWorld i w → MayLand (log_of w) unit event → unanswered_on (log_of w 0) unit ≡ Some p
+pub chunk_landed : (i : Image) (w : World) (unit event : ℕ) (p : Placed) → IsSimpleMount i w → MayLand (log_of w) unit event → unanswered_on (log_of w 0) unit ≡ Some p
     → (e : UnitEvent) → unit_event_at (log_of w) unit event ≡ Some e → e.chunk ≡ p.stripe.line
-chunk_landed i w unit event p plain may waits e is =
-    let its : IsItsProgram w unit event p = landed_program i w unit event p plain may waits in
+chunk_landed i w unit event p simple may waits e is =
+    let its : IsItsProgram w unit event p = landed_program i w unit event p simple may waits in
     ap (λ (x : UnitEvent). x.chunk) (same_Some e its.done.event (sym is ∙ its.done.is_event)) ∙ its.chunk
 
 -- ---- one stripe less is under way
@@ -151,14 +151,14 @@ fewer_pass f g a (suc n) (suc k) inside passes fails others =
     go true h = omega arith
     go false h = h
 
-pub one_less_under_way : (i : Image) (w : World) (unit event : ℕ) (knows : List ℕ) (p : Placed) → IsPlainWorld i w → unit < units i.shape → unanswered_on (log_of w 0) unit ≡ Some p
+pub one_less_under_way : (i : Image) (w : World) (unit event : ℕ) (knows : List ℕ) (p : Placed) → IsSimpleMount i w → unit < units i.shape → unanswered_on (log_of w 0) unit ≡ Some p
     → under_way i.shape (log_of w 0) ≡ under_way i.shape (after (log_of w) (Landed unit event) knows 0) + 1
-one_less_under_way i w unit event knows p plain inside waits =
+one_less_under_way i w unit event knows p simple inside waits =
     let old : List Logged = log_of w 0 in
     let new : List Logged = after (log_of w) (Landed unit event) knows 0 in
     let is : IsAnswer (log_of w 0) (after (log_of w) (Landed unit event) knows 0) unit (DidLand event) = is_answer (log_of w 0) unit event knows in
     let from : 0 + unit ≡ unit = omega arith in
-    let few : length (placed_on (log_of w 0) unit) ≤ length (answers (log_of w 0) unit) + 1 = one_stripe i w unit plain.legal in
+    let few : length (placed_on (log_of w 0) unit) ≤ length (answers (log_of w 0) unit) + 1 = one_stripe i w unit simple.mount.legal in
     let count : length (answers (after (log_of w) (Landed unit event) knows 0) unit) ≡ length (answers (log_of w 0) unit) + 1 = ap length is.here ∙ length-append (answers (log_of w 0) unit) (DidLand event ∷ []) in
     let none : unanswered_on (after (log_of w) (Landed unit event) knows 0) unit ≡ None =
     ap (λ ps. slice_get (filter (λ (q : Placed). q.stripe.unit == unit) ps) (length (answers (after (log_of w) (Landed unit event) knows 0) unit))) is.placements

@@ -17,7 +17,7 @@ use Rattle.stripe_placer.specs.OpenLines.Stripe.{Landed as HasLanded}
 use Rattle.stripe_placer.specs.Placing.{Program}
 use Rattle.core_laws.specs.OpenedLines.{open_line, standing, bits_of}
 use Rattle.core_laws.specs.PlacerOf.{IsAwaited}
-use Rattle.core_laws.specs.PlainWorlds.{IsPlainWorld}
+use Rattle.core_laws.specs.SimpleMounts.{IsSimpleMount}
 use Rattle.core_laws.specs.Stepping.{after}
 use Rattle.core_laws.proofs.Steady.{standing_before}
 use Rattle.core_laws.proofs.Turns.{filtered_is}
@@ -29,7 +29,7 @@ use Rattle.placed_laws.proofs.LandedLines.{left_until_landed, left_after_landing
 use Rattle.placed_laws.proofs.StandingOpenings.{life_there, opening_at}
 use Rattle.placing_laws.proofs.InOrder.{stripe_count}
 use Rattle.landing_laws.proofs.Latest.{set_length}
-use Rattle.prefix_law.proofs.Taking.{all_pass as keeps_all}
+use Rattle.core_laws.proofs.Placing.{all_pass as keeps_all}
 use Rattle.pblk_core.specs.LineRecords.{AreOf}
 use Rattle.pblk_core.specs.Slots.{IsSlot, landed_slot}
 use Rattle.pblk_core.specs.Stands.{IsOpenLine, AreOpenLines, unlanded}
@@ -41,7 +41,7 @@ use Rattle.pblk_core.proofs.LandedLines.{HasSlot, not_all_pass, one_more_passes,
 use Rattle.pblk_core.proofs.LineUnits.{now_units}
 use Rattle.lemmas.proofs.Maps.{all_filter}
 use Rattle.lemmas.proofs.Numbers.{le_before}
-use Rattle.lemmas.proofs.Parts.{all_at, got_else, got_here, got_within}
+use Rattle.lemmas.proofs.Parts.{all_at, all_by_get, got_else, got_here, got_within}
 use Rattle.lemmas.proofs.Tests.{other_number, same_number}
 
 -- ---- which openings are left
@@ -50,17 +50,17 @@ use Rattle.lemmas.proofs.Tests.{other_number, same_number}
 abbrev pub has_more : Image → World → Program → Opening → Bool
 has_more i w of o = not (list_all is_landed (in_line of.line (of.at / i.shape.ws_opt) HasLanded (open_line i (log_of w) o)).stripes)
 
-pub left_now : (i : Image) (w : World) (unit event : ℕ) (knows : List ℕ) (pad : ℕ) (of : Program) → IsPlainWorld i w → IsOnWay i w unit of → IsAwaited i (log_of w) pad [] of
+pub left_now : (i : Image) (w : World) (unit event : ℕ) (knows : List ℕ) (pad : ℕ) (of : Program) → IsSimpleMount i w → IsOnWay i w unit of → IsAwaited i (log_of w) pad [] of
     → left_openings i (after (log_of w) (Landed unit event) knows) ≡ filter (has_more i w of) (left_openings i (log_of w))
-left_now i w unit event knows pad of plain is waits =
-    ap (λ u. left_openings i (after (log_of w) (Landed u event) knows)) (sym (unit_is i w unit of is)) ∙ left_after_landing i w event knows pad [] of plain waits
+left_now i w unit event knows pad of simple is waits =
+    ap (λ u. left_openings i (after (log_of w) (Landed u event) knows)) (sym (unit_is i w unit of is)) ∙ left_after_landing i w event knows pad [] of simple waits
 
-more_beside : (i : Image) (w : World) (unit : ℕ) (of : Program) (k m : ℕ) (other : Opening) → IsPlainWorld i w → (is : IsOnWay i w unit of) → slice_get (left_openings i (log_of w)) k ≡ Some is.row.opening
+more_beside : (i : Image) (w : World) (unit : ℕ) (of : Program) (k m : ℕ) (other : Opening) → IsSimpleMount i w → (is : IsOnWay i w unit of) → slice_get (left_openings i (log_of w)) k ≡ Some is.row.opening
     → slice_get (left_openings i (log_of w)) m ≡ Some other → m ≢ k → has_more i w of other ≡ true
-more_beside i w unit of k m other plain is here there apart =
+more_beside i w unit of k m other simple is here there apart =
     let differ : other.line ≢ of.line = λ e. apart (left_apart i (log_of w) m k other is.row.opening there here (e ∙ sym (line_of_way i w unit of is))) in
     ap (λ b. not (list_all is_landed (if b then with_stripe (open_line i (log_of w) other) (of.at / i.shape.ws_opt) HasLanded else open_line i (log_of w) other).stripes)) (other_number other.line of.line differ)
-    ∙ sym (left_until_landed i w other plain)
+    ∙ sym (left_until_landed i w other simple)
     ∙ filtered_is (λ (o : Opening). has_left (open_line i (log_of w) o)) (standing (log_of w 0)) m other there
 
 own_line : (i : Image) (w : World) (unit : ℕ) (of : Program) → (is : IsOnWay i w unit of)
@@ -214,12 +214,13 @@ shapes_of_mid s old mid k slot is there all m x at = go (nat_eq m k) refl
     go false e = all m x (other_of_mid old mid k m slot x is (eqb-false m k e) at)
 
 -- where a stripe of the line hasn't landed yet
-pub lines_stay : (i : Image) (w : World) (unit event : ℕ) (knows : List ℕ) (pad : ℕ) (of : Program) (old mid : OpenLines) → IsPlainWorld i w → (is : IsOnWay i w unit of) → IsAwaited i (log_of w) pad [] of
+pub lines_stay : (i : Image) (w : World) (unit event : ℕ) (knows : List ℕ) (pad : ℕ) (of : Program) (old mid : OpenLines) → IsSimpleMount i w → (is : IsOnWay i w unit of) → IsAwaited i (log_of w) pad [] of
     → AreOpenLines i (log_of w) old → (has : HasSlot i (log_of w) old is.row.opening) → IsLandedIn old mid has.k has.slot
     → landed_count (log_of w 0) is.row.opening + 1 < stripe_count i (now_units i w) is.row.opening.line → AreOpenLines i (after (log_of w) (Landed unit event) knows) mid
-lines_stay i w unit event knows pad of old mid plain is waits are has landed few =
+lines_stay i w unit event knows pad of old mid simple is waits are has landed few =
     let left : left_openings i (after (log_of w) (Landed unit event) knows) ≡ left_openings i (log_of w) =
-    left_now i w unit event knows pad of plain is waits ∙ keeps_all (has_more i w of) (left_openings i (log_of w)) (λ m x e. more m x e (nat_eq m has.k) refl) in
+    left_now i w unit event knows pad of simple is waits ∙ keeps_all (has_more i w of) (left_openings i (log_of w))
+    (all_by_get (λ (x : Opening). has_more i w of x ≡ true) (left_openings i (log_of w)) (λ m x e. more m x e (nat_eq m has.k) refl)) in
     record {
       two = ap length landed.slots ∙ set_length old.slots.items has.k (landed_slot has.slot) ∙ are.two;
       few = subst (λ n. n ≤ 2) (sym landed.count) are.few;
@@ -232,7 +233,7 @@ lines_stay i w unit event knows pad of old mid plain is waits are has landed few
     more m x e true f =
         let same : x ≡ is.row.opening = same_Some x is.row.opening (sym e ∙ ap (slice_get (left_openings i (log_of w))) (eqb-true m has.k f) ∙ has.opening) in
         ap (has_more i w of) same ∙ own_more i w unit of is few
-    more m x e false f = more_beside i w unit of has.k m x plain is has.opening e (eqb-false m has.k f)
+    more m x e false f = more_beside i w unit of has.k m x simple is has.opening e (eqb-false m has.k f)
 
     each : (k : ℕ) (o : Opening) (x : KeptLine) → slice_get (left_openings i (log_of w)) k ≡ Some o → IsSlot mid k x → (b : Bool) → nat_eq k has.k ≡ b → IsOpenLine i (after (log_of w) (Landed unit event) knows) o x
     each k o x there at true f =
@@ -252,15 +253,15 @@ pub record IsRemoved (mid new : OpenLines) (k : ℕ) : Type 0 where
   pub same : (m : ℕ) (slot : KeptLine) → IsSlot new m slot → (j : ℕ) × IsSlot mid j slot
 
 -- where all stripes of the line have landed
-pub line_leaves : (i : Image) (w : World) (unit event : ℕ) (knows : List ℕ) (pad : ℕ) (of : Program) (old mid new : OpenLines) → IsPlainWorld i w → (is : IsOnWay i w unit of) → IsAwaited i (log_of w) pad [] of
+pub line_leaves : (i : Image) (w : World) (unit event : ℕ) (knows : List ℕ) (pad : ℕ) (of : Program) (old mid new : OpenLines) → IsSimpleMount i w → (is : IsOnWay i w unit of) → IsAwaited i (log_of w) pad [] of
     → AreOpenLines i (log_of w) old → (has : HasSlot i (log_of w) old is.row.opening) → IsLandedIn old mid has.k has.slot → IsRemoved mid new has.k
     → landed_count (log_of w 0) is.row.opening + 1 ≡ stripe_count i (now_units i w) is.row.opening.line → AreOpenLines i (after (log_of w) (Landed unit event) knows) new
-line_leaves i w unit event knows pad of old mid new plain is waits are has landed gone full =
-    let left = left_now i w unit event knows pad of plain is waits in
+line_leaves i w unit event knows pad of old mid new simple is waits are has landed gone full =
+    let left = left_now i w unit event knows pad of simple is waits in
     let few : old.count ≤ 2 = are.few in
     let count : old.count ≡ length (left_openings i (log_of w)) = are.count in
     let drops : DropsOne (has_more i w of) (left_openings i (log_of w)) has.k =
-    drops_one (has_more i w of) (left_openings i (log_of w)) has.k is.row.opening has.opening (own_full i w unit of is full) (λ m y e apart. more_beside i w unit of has.k m y plain is has.opening e apart) (omega arith) in
+    drops_one (has_more i w of) (left_openings i (log_of w)) has.k is.row.opening has.opening (own_full i w unit of is full) (λ m y e apart. more_beside i w unit of has.k m y simple is has.opening e apart) (omega arith) in
     let shorter : length (filter (has_more i w of) (left_openings i (log_of w))) + 1 ≡ length (left_openings i (log_of w)) = drops.count in
     let less : new.count + 1 ≡ mid.count = gone.count in
     let kept : mid.count ≡ old.count = landed.count in

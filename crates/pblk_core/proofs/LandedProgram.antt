@@ -13,12 +13,12 @@ use Rattle.pblk_world.specs.EngineLog.{Begun, begun, Placed, placements, placed_
 use Rattle.pblk_world.specs.Commanding.{ended_stripes}
 use Rattle.pblk_world.specs.Answering.{MayLand}
 use Rattle.core_laws.specs.PlacerOf.{unanswered_on}
-use Rattle.core_laws.specs.PlainWorlds.{IsPlainWorld}
+use Rattle.core_laws.specs.SimpleMounts.{IsSimpleMount}
 use Rattle.line_laws.specs.InOrder.{IsInPlace}
 use Rattle.line_laws.proofs.Orders.{in_order}
 use Rattle.placed_laws.specs.StripePrograms.{HasHappened, IsProgramDone}
 use Rattle.placed_laws.proofs.Happened.{landed_at}
-use Rattle.placing_laws.proofs.PlainEvents.{has_begun_plain}
+use Rattle.placing_laws.proofs.Begun.{begun_once}
 use Rattle.lemmas.proofs.Lists.{IsAmong}
 use Rattle.lemmas.proofs.Maps.{from_filter}
 use Rattle.lemmas.proofs.Parts.{all_at}
@@ -79,19 +79,19 @@ pub record IsItsProgram (w : World) (unit event : ℕ) (p : Placed) : Type 0 whe
   pub done : IsProgramDone (log_of w) unit event p
   pub chunk : done.event.chunk ≡ p.stripe.line
 
-begun_at : (i : Image) (w : World) (unit event : ℕ) → IsPlainWorld i w → MayLand (log_of w) unit event → (b : Begun) × (begun (log_of w 0) ≡ Some b)
-begun_at i w unit event plain may = go (log_of w 0) refl
+begun_at : (i : Image) (w : World) (unit event : ℕ) → IsSimpleMount i w → MayLand (log_of w) unit event → (b : Begun) × (begun (log_of w 0) ≡ Some b)
+begun_at i w unit event simple may = go (log_of w 0) refl
   where
     go : (log : List Logged) → log_of w 0 ≡ log → (b : Begun) × (begun (log_of w 0) ≡ Some b)
     go [] is = let some : length (answers (log_of w 0) unit) < length (placed_on (log_of w 0) unit) = may.stripe.placed in
         let none : length (placed_on (log_of w 0) unit) ≡ 0 = ap (λ (xs : List Logged). length (placed_on xs unit)) is in absurd (omega arith)
-    go (l ∷ log) is = has_begun_plain i w plain (let count : length (log_of w 0) ≡ suc (length log) = ap (λ (xs : List Logged). length xs) is in omega arith)
+    go (l ∷ log) is = begun_once i w simple.mount.legal (let count : length (log_of w 0) ≡ suc (length log) = ap (λ (xs : List Logged). length xs) is in omega arith)
 
-pub landed_program : (i : Image) (w : World) (unit event : ℕ) (p : Placed) → IsPlainWorld i w → MayLand (log_of w) unit event → unanswered_on (log_of w 0) unit ≡ Some p → IsItsProgram w unit event p
-landed_program i w unit event p plain may waits =
+pub landed_program : (i : Image) (w : World) (unit event : ℕ) (p : Placed) → IsSimpleMount i w → MayLand (log_of w) unit event → unanswered_on (log_of w 0) unit ≡ Some p → IsItsProgram w unit event p
+landed_program i w unit event p simple may waits =
     let n : ℕ = suc (suc unit) in
     let l : Logged = record { event = Decides (Landed unit event); knows = whole_to (log_of w) (suc (suc unit)) } in
-    let begins = begun_at i w unit event plain may in
+    let begins = begun_at i w unit event simple may in
     let engine : prefixes l (log_of w) 0 ≡ log_of w 0 = cut_whole (log_of w) (suc (suc unit)) 0 (omega arith) in
     let own : prefixes l (log_of w) (suc unit) ≡ log_of w (suc unit) = cut_whole (log_of w) (suc (suc unit)) (suc unit) (omega arith) in
     let may_then : MayLand (prefixes l (log_of w)) unit event = by_others (log_of w) (prefixes l (log_of w)) unit event engine own may in
@@ -101,10 +101,10 @@ landed_program i w unit event p plain may waits =
       within = whole_within (log_of w) (suc (suc unit));
       allowed = (begins.0, begun_then, may_then);
     } in
-    let at = landed_at i w plain.legal (length (log_of w 0)) unit event l begins.0 made begun_then may_then in
+    let at = landed_at i w simple.mount.legal (length (log_of w 0)) unit event l begins.0 made begun_then may_then in
     let all : take (length (log_of w 0)) (log_of w 0) ≡ log_of w 0 = take_all (length (log_of w 0)) (log_of w 0) (le_refl (length (log_of w 0))) in
     let same : at.0 ≡ p = same_Some at.0 p (sym at.1 ∙ ap (λ (xs : List Logged). slice_get (placed_on (log_of w 0) unit) (length (answers xs unit))) all ∙ waits) in
     let among : IsAmong (placements (log_of w 0)) p = from_filter (λ (q : Placed). q.stripe.unit == unit) (placements (log_of w 0)) p (length (answers (log_of w 0) unit), waits) in
-    let place : IsInPlace i (log_of w 0) p = all_at (IsInPlace i (log_of w 0)) (placements (log_of w 0)) among.0 p among.1 (in_order i w plain).placed in
+    let place : IsInPlace i (log_of w 0) p = all_at (IsInPlace i (log_of w 0)) (placements (log_of w 0)) among.0 p among.1 (in_order i w simple).placed in
     let is : IsProgramDone (log_of w) unit event p = subst (IsProgramDone (log_of w) unit event) same at.2 in
     record { done = is; chunk = is.chunk ∙ place.chunk }

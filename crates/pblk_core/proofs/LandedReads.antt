@@ -14,7 +14,7 @@ use Rattle.pblk_world.specs.EngineLog.{Opening, Taken, takes, Placed, stripes_on
 use Rattle.pblk_world.specs.Space.{landed_blocks}
 use Rattle.stripe_placer.specs.Placing.{Program}
 use Rattle.core_laws.specs.Stepping.{after}
-use Rattle.core_laws.specs.PlainWorlds.{IsPlainWorld}
+use Rattle.core_laws.specs.SimpleMounts.{IsSimpleMount}
 use Rattle.landing_laws.specs.ChunkBlocks.{chunk_blocks, newly_readable, readable_blocks}
 use Rattle.landing_laws.specs.ReadSlots.{address_of_block}
 use Rattle.landing_laws.proofs.LandedBlocks.{on_new, blocks_more}
@@ -23,7 +23,7 @@ use Rattle.landing_laws.proofs.GivenBack.{IsLandedNow, of_unit_landed}
 use Rattle.landing_laws.proofs.GivenNow.{chunk_unit, IsOfChunk, chunk_members}
 use Rattle.landing_laws.proofs.NewBlocks.{last_in_chunk}
 use Rattle.landing_laws.proofs.NewWindow.{newest_in}
-use Rattle.media_laws.proofs.LineColumns.{blocks_count}
+use Rattle.placed_laws.proofs.StripeBlocks.{length_joined}
 use Rattle.pblk_core.specs.Readable.{block_reads, reads_of}
 use Rattle.pblk_core.specs.declared.open_lines.OpenLine.{OpenLine}
 use Rattle.pblk_core.proofs.LandedCore.{in_row, block_is}
@@ -44,17 +44,17 @@ pub record IsChunkNow (i : Image) (w : World) (unit : ℕ) (of : Program) (is : 
   pub landed : landed_blocks i.shape (log_of w 0) is.row.opening unit ≡ of.block
   pub long : length (chunk_blocks (log_of w 0) is.row.opening unit) ≡ of.block + i.shape.ws_opt
 
-pub chunk_now : (i : Image) (w : World) (unit : ℕ) (of : Program) → IsPlainWorld i w → (is : IsOnWay i w unit of) → IsChunkNow i w unit of is
-chunk_now i w unit of plain is =
+pub chunk_now : (i : Image) (w : World) (unit : ℕ) (of : Program) → IsSimpleMount i w → (is : IsOnWay i w unit of) → IsChunkNow i w unit of is
+chunk_now i w unit of simple is =
     let log : List Logged = log_of w 0 in
     let new : List Logged = after (log_of w) (Landed unit 0) [] 0 in
     let p : Placed = is.row.stripe in
     let o : Opening = is.row.opening in
-    let now : IsLandedNow i.shape (log_of w 0) (after (log_of w) (Landed unit 0) [] 0) is.row.stripe is.row.opening = landed_now i w unit 0 [] is.row.stripe is.row.opening plain is.row.waits is.row.life (rows_of_chunks i w is.row.opening unit plain) in
+    let now : IsLandedNow i.shape (log_of w 0) (after (log_of w) (Landed unit 0) [] 0) is.row.stripe is.row.opening = landed_now i w unit 0 [] is.row.stripe is.row.opening simple is.row.waits is.row.life (rows_of_chunks i w is.row.opening unit simple) in
     let u : is.row.stripe.stripe.unit ≡ unit = is.its_unit in
-    let here = in_row i w unit of plain is in
+    let here = in_row i w unit of simple is in
     let at_own : slice_get (stripes_on (log_of w 0) is.row.opening is.row.stripe.stripe.unit) here.0 ≡ Some is.row.stripe = ap (λ v. slice_get (stripes_on (log_of w 0) is.row.opening v) here.0) u ∙ here.1 in
-    let last : length (stripes_on (log_of w 0) is.row.opening is.row.stripe.stripe.unit) ≤ here.0 + 1 = last_in_chunk (log_of w 0) is.row.stripe is.row.opening here.0 (newest_in i w unit is.row.stripe plain is.row.waits) at_own in
+    let last : length (stripes_on (log_of w 0) is.row.opening is.row.stripe.stripe.unit) ≤ here.0 + 1 = last_in_chunk (log_of w 0) is.row.stripe is.row.opening here.0 (newest_in i w unit is.row.stripe simple.mount.legal is.row.waits) at_own in
     let inside : here.0 < length (stripes_on (log_of w 0) is.row.opening is.row.stripe.stripe.unit) = slice_get_within (stripes_on (log_of w 0) is.row.opening is.row.stripe.stripe.unit) here.0 is.row.stripe at_own in
     let whole : length (stripes_on (log_of w 0) is.row.opening is.row.stripe.stripe.unit) ≡ here.0 + 1 = omega arith in
     let count : length (filter (has_landed (after (log_of w) (Landed unit 0) [] 0)) (stripes_on (log_of w 0) is.row.opening is.row.stripe.stripe.unit)) ≡ length (stripes_on (log_of w 0) is.row.opening is.row.stripe.stripe.unit) =
@@ -71,7 +71,7 @@ chunk_now i w unit of plain is =
     let block : of.block ≡ is.row.stripe.stripe.at = block_is i w unit of is in
     let landed : landed_blocks i.shape (log_of w 0) is.row.opening is.row.stripe.stripe.unit ≡ of.block = omega arith in
     let long : length (chunk_blocks (log_of w 0) is.row.opening is.row.stripe.stripe.unit) ≡ length (stripes_on (log_of w 0) is.row.opening is.row.stripe.stripe.unit) * i.shape.ws_opt =
-    blocks_count i.shape.ws_opt (stripes_on (log_of w 0) is.row.opening is.row.stripe.stripe.unit) (all_long i.shape.ws_opt (stripes_on (log_of w 0) is.row.opening is.row.stripe.stripe.unit) (λ k r at. (now.rows k r at).blocks)) in
+    length_joined i.shape.ws_opt (stripes_on (log_of w 0) is.row.opening is.row.stripe.stripe.unit) (all_long i.shape.ws_opt (stripes_on (log_of w 0) is.row.opening is.row.stripe.stripe.unit) (λ k r at. (now.rows k r at).blocks)) in
     let product : length (stripes_on (log_of w 0) is.row.opening is.row.stripe.stripe.unit) * i.shape.ws_opt ≡ (here.0 + 1) * i.shape.ws_opt = ap (λ n. n * i.shape.ws_opt) whole in
     let blocks : length (chunk_blocks (log_of w 0) is.row.opening is.row.stripe.stripe.unit) ≡ of.block + i.shape.ws_opt = omega arith in
     record {
@@ -108,10 +108,10 @@ few_readable s n within = go (nat_eq n s.clba) refl
     go true e = let same : n ≡ s.clba = grind arith in omega arith
     go false e = omega arith
 
-pub reads_are : (i : Image) (w : World) (unit : ℕ) (of : Program) (slot : OpenLine) (low high : ℕ) → IsPlainWorld i w → (is : IsOnWay i w unit of) → of.block + i.shape.ws_opt ≤ i.shape.clba → IsRange i.shape of.block low high → IsChunkRead i w unit is.row.opening slot
+pub reads_are : (i : Image) (w : World) (unit : ℕ) (of : Program) (slot : OpenLine) (low high : ℕ) → IsSimpleMount i w → (is : IsOnWay i w unit of) → of.block + i.shape.ws_opt ≤ i.shape.clba → IsRange i.shape of.block low high → IsChunkRead i w unit is.row.opening slot
     → reads_of slot unit low high ≡ filter_map (read_of i.shape (address_of_block i (log_of w) is.row.opening unit)) (enumerate_from low (newly_readable i.shape (log_of w 0) is.row.opening unit))
-reads_are i w unit of slot low high plain is within range chunk =
-    let now : IsChunkNow i w unit of is = chunk_now i w unit of plain is in
+reads_are i w unit of slot low high simple is within range chunk =
+    let now : IsChunkNow i w unit of is = chunk_now i w unit of simple is in
     let cs : List Block = chunk_blocks (log_of w 0) is.row.opening unit in
     let long : length (chunk_blocks (log_of w 0) is.row.opening unit) ≡ of.block + i.shape.ws_opt = now.long in
     let few : readable_blocks i.shape (of.block + i.shape.ws_opt) ≤ of.block + i.shape.ws_opt = few_readable i.shape (of.block + i.shape.ws_opt) within in

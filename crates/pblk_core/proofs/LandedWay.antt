@@ -23,7 +23,7 @@ use Rattle.stripe_placer.specs.Placing.{Program}
 use Rattle.stripe_placer.specs.Placing.UnitRow.{Idle, UnderWay}
 use Rattle.core_laws.specs.OpenedLines.{as_opened, by_answer, is_stripe_at, outcome, open_line, open_lines, standing}
 use Rattle.core_laws.specs.PlacerOf.{IsAwaited, number_of, placing_of, program_of_placed, row_in, row_of, unanswered_on, waits_again}
-use Rattle.core_laws.specs.PlainWorlds.{IsPlainWorld}
+use Rattle.core_laws.specs.SimpleMounts.{IsSimpleMount}
 use Rattle.core_laws.proofs.Rows.{under_way_is}
 use Rattle.core_laws.proofs.Stripes.{at_its_place, find_only, not_at}
 use Rattle.core_laws.proofs.Answered.{first_unanswered}
@@ -66,8 +66,8 @@ of_stripe i logs stopped (Some p) of e = go p.life refl e
 pub of_row : (i : Image) (logs : Logs) (pad unit : ℕ) (of : Program) → slice_get (placing_of i logs pad []).units unit ≡ Some (UnderWay of) → IsOfRow i logs unit of
 of_row i logs pad unit of there =
     let row : (unit < units i.shape) × (row_of i logs [] (0 + unit) ≡ UnderWay of) = row_at (row_of i logs []) (units i.shape) 0 unit (UnderWay of) there in
-    let plain : 0 + unit ≡ unit = zero-add unit in
-    let its = of_stripe i logs (waits_again (logs 0) [] unit) (unanswered_on (logs 0) unit) of (ap (row_of i logs []) (sym plain) ∙ row.1) in
+    let simple : 0 + unit ≡ unit = zero-add unit in
+    let its = of_stripe i logs (waits_again (logs 0) [] unit) (unanswered_on (logs 0) unit) of (ap (row_of i logs []) (sym simple) ∙ row.1) in
     record { inside = row.0; stripe = its.0; opening = its.1; waits = its.2; life = its.3; is = its.4 }
 
 -- ---- its number in its line
@@ -111,14 +111,14 @@ long i w o n later =
     ∙ length-range_with_len 0 (length (as_opened i (engine_prefix n (log_of w)) o).stripes)
     ∙ ap (λ live. length (opened i.shape o.line live).stripes) (same_live i (log_of w) o n later)
 
-pub on_way : (i : Image) (w : World) (unit : ℕ) (of : Program) → IsPlainWorld i w → IsOfRow i (log_of w) unit of → IsOnWay i w unit of
-on_way i w unit of plain row =
+pub on_way : (i : Image) (w : World) (unit : ℕ) (of : Program) → IsSimpleMount i w → IsOfRow i (log_of w) unit of → IsOnWay i w unit of
+on_way i w unit of simple row =
     let log : List Logged = log_of w 0 in
     let o : Opening = row.opening in
     let p : Placed = row.stripe in
-    let steady : IsFollowed i (now_units i w) w = follow i w plain in
+    let steady : IsFollowed i (now_units i w) w = follow i w simple in
     let first = first_unanswered (log_of w 0) unit p row.waits in
-    let place : IsInPlace i (log_of w 0) p = all_at (IsInPlace i (log_of w 0)) (placements (log_of w 0)) first.among.0 p first.among.1 (in_order i w plain).placed in
+    let place : IsInPlace i (log_of w 0) p = all_at (IsInPlace i (log_of w 0)) (placements (log_of w 0)) first.among.0 p first.among.1 (in_order i w simple).placed in
     let opened_is : Opened place.opening ≡ Opened row.opening = sym place.life ∙ row.life in
     let stands : life_of (log_of w 0) row.stripe.stripe.line ≡ Opened row.opening = place.stands ∙ opened_is in
     let its_line : row.opening.line ≡ row.stripe.stripe.line = (opened_lines i (now_units i w) w steady row.stripe.stripe.line row.opening stands).its_line in
@@ -162,11 +162,11 @@ waits_there i w unit of is =
     ∙ ap (option_map (answered_as (log_of w 0))) is.there
     ∙ ap (λ a. Some (by_answer a)) (one_more (log_of w 0) unit 0 [] is.row.stripe is.row.waits).before
 
-pub left_there : (i : Image) (w : World) (unit : ℕ) (of : Program) → IsPlainWorld i w → (is : IsOnWay i w unit of) → IsAmong (left_openings i (log_of w)) is.row.opening
-left_there i w unit of plain is =
+pub left_there : (i : Image) (w : World) (unit : ℕ) (of : Program) → IsSimpleMount i w → (is : IsOnWay i w unit of) → IsAmong (left_openings i (log_of w)) is.row.opening
+left_there i w unit of simple is =
     let l : OpenLine = open_line i (log_of w) is.row.opening in
     in_filter (λ (o : Opening). has_left (open_line i (log_of w) o)) (standing (log_of w 0)) is.row.opening
-    (life_stands i (now_units i w) w (follow i w plain) is.row.opening.line is.row.opening (ap (life_of (log_of w 0)) is.its_line ∙ is.stands))
+    (life_stands i (now_units i w) w (follow i w simple) is.row.opening.line is.row.opening (ap (life_of (log_of w 0)) is.its_line ∙ is.stands))
     (or_right (list_any (is_to_place l) (numbers l)) (list_any is_unanswered l.stripes) (any_member is_unanswered l.stripes is.number Unanswered (waits_there i w unit of is) refl))
 
 pub unit_is : (i : Image) (w : World) (unit : ℕ) (of : Program) → IsOnWay i w unit of → of.unit ≡ unit
@@ -179,21 +179,21 @@ pub stripe_number : (i : Image) (w : World) (unit : ℕ) (of : Program) → (is 
 stripe_number i w unit of is = ap (λ n. n / i.shape.ws_opt) is.number_is ∙ mul-div_cancel is.number is.line_is.striped.some
 
 -- no other open line is of its line
-only_line : (i : Image) (w : World) (unit : ℕ) (of : Program) → IsPlainWorld i w → (is : IsOnWay i w unit of) → (l : OpenLine) → IsAmong (open_lines i (log_of w)) l → l.line ≡ of.line → open_line i (log_of w) is.row.opening ≡ l
-only_line i w unit of plain is l among same =
+only_line : (i : Image) (w : World) (unit : ℕ) (of : Program) → IsSimpleMount i w → (is : IsOnWay i w unit of) → (l : OpenLine) → IsAmong (open_lines i (log_of w)) l → l.line ≡ of.line → open_line i (log_of w) is.row.opening ≡ l
+only_line i w unit of simple is l among same =
     let from : (o : Opening) × IsAmong (left_openings i (log_of w)) o × (open_line i (log_of w) o ≡ l) = from_map (open_line i (log_of w)) (left_openings i (log_of w)) l (subst (λ ls. IsAmong ls l) (lines_of_left i (log_of w)) among) in
-    let own : IsAmong (left_openings i (log_of w)) is.row.opening = left_there i w unit of plain is in
+    let own : IsAmong (left_openings i (log_of w)) is.row.opening = left_there i w unit of simple is in
     let line : is.row.opening.line ≡ from.0.line = line_of_way i w unit of is ∙ sym same ∙ ap (λ (x : OpenLine). x.line) (sym from.2) in
     let at : own.0 ≡ from.1.0 = left_apart i (log_of w) own.0 from.1.0 is.row.opening from.0 own.1 from.1.1 line in
     ap (open_line i (log_of w)) (same_Some is.row.opening from.0 (sym own.1 ∙ ap (slice_get (left_openings i (log_of w))) at ∙ from.1.1)) ∙ from.2
 
-pub awaited : (i : Image) (w : World) (pad unit : ℕ) (of : Program) → IsPlainWorld i w → IsOnWay i w unit of → slice_get (placing_of i (log_of w) pad []).units unit ≡ Some (UnderWay of) → IsAwaited i (log_of w) pad [] of
-awaited i w pad unit of plain is row =
+pub awaited : (i : Image) (w : World) (pad unit : ℕ) (of : Program) → IsSimpleMount i w → IsOnWay i w unit of → slice_get (placing_of i (log_of w) pad []).units unit ≡ Some (UnderWay of) → IsAwaited i (log_of w) pad [] of
+awaited i w pad unit of simple is row =
     let u : of.unit ≡ unit = unit_is i w unit of is in
     let j : of.at / i.shape.ws_opt ≡ is.number = stripe_number i w unit of is in
-    let own : IsAmong (left_openings i (log_of w)) is.row.opening = left_there i w unit of plain is in
+    let own : IsAmong (left_openings i (log_of w)) is.row.opening = left_there i w unit of simple is in
     let among : IsAmong (open_lines i (log_of w)) (open_line i (log_of w) is.row.opening) = subst (λ ls. IsAmong ls (open_line i (log_of w) is.row.opening)) (sym (lines_of_left i (log_of w))) (in_map (open_line i (log_of w)) (left_openings i (log_of w)) is.row.opening own) in
-    let few : length (placed_on (log_of w 0) unit) ≤ length (answers (log_of w 0) unit) + 1 = one_stripe i w unit plain.legal in
+    let few : length (placed_on (log_of w 0) unit) ≤ length (answers (log_of w 0) unit) + 1 = one_stripe i w unit simple.mount.legal in
     let some : length (answers (log_of w 0) unit) < length (placed_on (log_of w 0) unit) = slice_get_within (placed_on (log_of w 0) unit) (length (answers (log_of w 0) unit)) is.row.stripe is.row.waits in
     let one : length (placed_on (log_of w 0) unit) ≡ length (answers (log_of w 0) unit) + 1 = omega arith in
     let here : unit_of (open_line i (log_of w) is.row.opening) is.number ≡ unit =
@@ -204,7 +204,7 @@ awaited i w pad unit of plain is row =
         unit_is = refl;
         line = (open_line i (log_of w) is.row.opening, among, line_of_way i w unit of is);
         stripe = λ l at same.
-            subst (λ (m : OpenLine). IsUnanswered m (of.at / i.shape.ws_opt) × (unit_of m (of.at / i.shape.ws_opt) ≡ of.unit)) (only_line i w unit of plain is l at same)
+            subst (λ (m : OpenLine). IsUnanswered m (of.at / i.shape.ws_opt) × (unit_of m (of.at / i.shape.ws_opt) ≡ of.unit)) (only_line i w unit of simple is l at same)
             (ap (slice_get (open_line i (log_of w) is.row.opening).stripes) j ∙ waits_there i w unit of is, ap (unit_of (open_line i (log_of w) is.row.opening)) j ∙ here ∙ sym u);
       };
       one = subst (λ v. length (placed_on (log_of w 0) v) ≡ length (answers (log_of w 0) v) + 1) (sym u) one;

@@ -1,3 +1,4 @@
+pub mod DataBlocks
 pub mod Filled
 pub mod Runs
 pub mod FillingRows
@@ -7,7 +8,6 @@ pub mod LineUnits
 pub mod ChunkRows
 pub mod KnownAfter
 pub mod LandedProgram
-pub mod OpeningBits
 pub mod ResetLists
 pub mod LineBits
 pub mod FoundLines
@@ -60,3 +60,4 @@ pub mod LandedNow
 pub mod LandedChunk
 pub mod LandedKinds
 pub mod StandsLemmas
+pub mod SimpleLogs

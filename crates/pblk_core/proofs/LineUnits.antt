@@ -1,5 +1,5 @@
 -- The units of the lines that a mount opened, as they are known: those of each opened line stay as they were when it was opened.
-use Rattle.std.proofs.Common.{◌≡◌, ℕ, ◌<◌, ◌≤◌, true, Some, List, length, take, sym, ap, ◌∙◌, arith}
+use Rattle.std.proofs.Common.{◌≡◌, ℕ, ◌<◌, ◌≤◌, true, Some, List, length, length-take, take, sym, ap, ◌∙◌, arith}
 use Rattle.std.specs.Prelude.{slice_get}
 use Rattle.std.specs.List.{AllByRecursion, enumerate_from}
 use Rattle.std.proofs.lemmas.Option.{same_Some, none-some}
@@ -10,13 +10,12 @@ use Rattle.pblk_world.specs.EngineLog.{Opening, Opened, life_of, is_opened, Plac
 use Rattle.pblk_world.specs.Victims.{engine_prefix}
 use Rattle.pblk_world.specs.Lines.{known_image}
 use Rattle.core_laws.specs.OpenedLines.{as_opened, bits_of}
-use Rattle.core_laws.specs.PlainWorlds.{IsPlainWorld}
+use Rattle.core_laws.specs.SimpleMounts.{IsSimpleMount}
 use Rattle.core_laws.proofs.Opening.{all_made}
 use Rattle.core_laws.proofs.PlacedLines.{life_is_before as opened_before}
 use Rattle.line_laws.specs.InOrder.{IsInPlace}
 use Rattle.line_laws.proofs.Orders.{in_order}
 use Rattle.placed_laws.proofs.TwoLines.{prefix_prefix as prefix_twice}
-use Rattle.media_laws.proofs.LinePlaces.{take_few as short_take}
 use Rattle.lemmas.proofs.Lists.{all_imply}
 use Rattle.lemmas.proofs.Parts.{all_at}
 
@@ -40,7 +39,7 @@ pub opened_earlier : (log : List Logged) (k : ℕ) (p : Placed) (o : Opening) �
 opened_earlier log k p o there life =
     let then_ : p.life ≡ life_of (take p.number log) p.stripe.line = all_at (λ (q : Placed). q.life ≡ life_of (take q.number log) q.stripe.line) (placements log) k p there (placed_then log) in
     let before : o.number < length (take p.number log) = opened_before (take p.number log) p.stripe.line o (sym then_ ∙ life) in
-    let short : length (take p.number log) ≤ p.number = short_take p.number log in
+    let short : length (take p.number log) ≤ p.number = omega (arith, length-take p.number log) in
     omega arith
 
 -- ---- the line as it was opened, by a later prefix
@@ -54,5 +53,5 @@ same_live i logs o n within = ap (λ (ls : Logs). bits_of (line_units (known_ima
 abbrev pub IsLiving : List Logged → Placed → Type 0
 IsLiving log p = (life_of log p.stripe.line ≡ p.life) × (is_opened p.life ≡ true)
 
-pub living : (i : Image) (w : World) → IsPlainWorld i w → AllByRecursion (IsLiving (log_of w 0)) (placements (log_of w 0))
-living i w plain = all_imply (IsInPlace i (log_of w 0)) (IsLiving (log_of w 0)) (λ p is. (is.stands ∙ sym is.life, ap is_opened is.life)) (placements (log_of w 0)) (in_order i w plain).placed
+pub living : (i : Image) (w : World) → IsSimpleMount i w → AllByRecursion (IsLiving (log_of w 0)) (placements (log_of w 0))
+living i w simple = all_imply (IsInPlace i (log_of w 0)) (IsLiving (log_of w 0)) (λ p is. (is.stands ∙ sym is.life, ap is_opened is.life)) (placements (log_of w 0)) (in_order i w simple).placed

@@ -15,7 +15,8 @@ use Rattle.pblk_world.specs.Lines.{found_image}
 use Rattle.pblk_world.specs.Space.{gives_back}
 use Rattle.pblk_world.specs.Victims.{is_in_force, line_of_position, line_of}
 use Rattle.l2p_map.specs.declared.slot.Slot.TheVariants.{Cached}
-use Rattle.core_laws.specs.PlainWorlds.{IsPlainWorld}
+use Rattle.core_laws.specs.SimpleMounts.{IsSimpleMount}
+use Rattle.core_laws.proofs.SimpleMounts.{engine_plain}
 use Rattle.core_laws.specs.SlotOf.{slot_of, slot_by, slot_of_entry, slot_of_winner, media_of}
 use Rattle.core_laws.specs.WindowOf.{is_given_back}
 use Rattle.line_laws.proofs.Winners.{winner_starts}
@@ -74,11 +75,11 @@ in_force log p (Freed was knows) is now opened = absurd cc
 in_force log p (Opened o) is now opened =
     ap (λ l. is_in_force log l p.stripe.line) is ∙ ap (λ (l : LineLife). is_life o.number l) now ∙ same_number o.number
 
-pub position_line : (i : Image) (w : World) (q : ℕ) → IsPlainWorld i w → line_of_position i.shape (log_of w 0) q ≡ placed_line i.shape (log_of w 0) q
-position_line i w q plain =
+pub position_line : (i : Image) (w : World) (q : ℕ) → IsSimpleMount i w → line_of_position i.shape (log_of w 0) q ≡ placed_line i.shape (log_of w 0) q
+position_line i w q simple =
     ap (option_map (λ (p : Placed). p.stripe.line))
     (find_agree (IsLiving (log_of w 0)) (λ p. holds_position i.shape q p && not (was_lost (log_of w 0) p) && is_in_force (log_of w 0) p.life p.stripe.line) (holds_position i.shape q)
-    (λ p living. same p (none_lost (log_of w 0) plain.engine p) (in_force (log_of w 0) p p.life refl living.0 living.1)) (placements (log_of w 0)) (living i w plain))
+    (λ p living. same p (none_lost (log_of w 0) (engine_plain i w simple) p) (in_force (log_of w 0) p p.life refl living.0 living.1)) (placements (log_of w 0)) (living i w simple))
   where
     both : (b : Bool) → (b && true && true) ≡ b
     both true = refl
@@ -90,9 +91,9 @@ position_line i w q plain =
 
 -- ---- the line of a slot
 
-entry_line : (i : Image) (w : World) (holds : Holds) (t : Taken) → IsPlainWorld i w → AreHolds i.shape (log_of w 0) holds → IsAmong (takes (log_of w 0)) t
+entry_line : (i : Image) (w : World) (holds : Holds) (t : Taken) → IsSimpleMount i w → AreHolds i.shape (log_of w 0) holds → IsAmong (takes (log_of w 0)) t
     → line_of_slot holds.rows.items (slot_of_entry i (log_of w) t.entry.position) ≡ placed_line i.shape (log_of w 0) t.entry.position
-entry_line i w holds t plain are among = go (find (gives_back i.shape (log_of w 0) t.entry.position) (placements (log_of w 0))) refl
+entry_line i w holds t simple are among = go (find (gives_back i.shape (log_of w 0) t.entry.position) (placements (log_of w 0))) refl
   where
     go : (o : Option Placed) → find (gives_back i.shape (log_of w 0) t.entry.position) (placements (log_of w 0)) ≡ o
         → line_of_slot holds.rows.items (option_map_or (media_of i (log_of w) t.entry.position) o (Cached t.entry.position)) ≡ placed_line i.shape (log_of w 0) t.entry.position
@@ -103,17 +104,17 @@ entry_line i w holds t plain are among = go (find (gives_back i.shape (log_of w 
     go (Some p) e =
         let found : (gives_back i.shape (log_of w 0) t.entry.position p ≡ true) × IsAmong (placements (log_of w 0)) p = found_passes (gives_back i.shape (log_of w 0) t.entry.position) (placements (log_of w 0)) p e in
         let held : holds_position i.shape t.entry.position p ≡ true = second_of (has_landed (log_of w 0) p) (holds_position i.shape t.entry.position p) (given_holds i.shape (log_of w 0) t.entry.position p found.0) in
-        sym (ap (option_map (λ (p : Placed). p.stripe.line)) (single_found (holds_position i.shape t.entry.position) (placements (log_of w 0)) p found.1.0 (held_once i w plain t.entry.position) found.1.1 held))
+        sym (ap (option_map (λ (p : Placed). p.stripe.line)) (single_found (holds_position i.shape t.entry.position) (placements (log_of w 0)) p found.1.0 (held_once i w simple t.entry.position) found.1.1 held))
 
-pub line_is : (i : Image) (w : World) (holds : Holds) (lba : ℕ) → IsPlainWorld i w → AreHolds i.shape (log_of w 0) holds
+pub line_is : (i : Image) (w : World) (holds : Holds) (lba : ℕ) → IsSimpleMount i w → AreHolds i.shape (log_of w 0) holds
     → line_of_slot holds.rows.items (slot_of i (log_of w) lba) ≡ line_of i (log_of w) lba (last_take (log_of w 0) lba)
-line_is i w holds lba plain are = go (last_take (log_of w 0) lba) refl
+line_is i w holds lba simple are = go (last_take (log_of w 0) lba) refl
   where
     found_line : (o : Option Record) → winner (counted (found_image i (log_of w))) lba ≡ o
         → line_of_slot holds.rows.items (slot_of_winner o) ≡ option_and_then (λ (r : Record). if is_as_found (life_of (log_of w 0) r.line) then Some r.line else None) o
     found_line None e = refl
-    found_line (Some r) e = sym (ap (λ b. cond b (Some r.line) None) (started_as_found i w r.line plain (winner_starts (found_image i (log_of w)) lba r e)))
+    found_line (Some r) e = sym (ap (λ b. cond b (Some r.line) None) (started_as_found i w r.line simple (winner_starts (found_image i (log_of w)) lba r e)))
 
     go : (o : Option Taken) → last_take (log_of w 0) lba ≡ o → line_of_slot holds.rows.items (slot_by i (log_of w) lba o) ≡ line_of i (log_of w) lba o
     go None e = found_line (winner (counted (found_image i (log_of w))) lba) refl
-    go (Some t) e = entry_line i w holds t plain are (last_is_among (log_of w 0) lba t e).0 ∙ sym (position_line i w t.entry.position plain)
+    go (Some t) e = entry_line i w holds t simple are (last_is_among (log_of w 0) lba t e).0 ∙ sym (position_line i w t.entry.position simple)

@@ -15,12 +15,14 @@ use Rattle.pblk_world.specs.World.{World, Logs, log_of}
 use Rattle.pblk_world.specs.EngineLog.{Begun, begun, LineLife, AsFound, Opened, Freed, life_of}
 use Rattle.pblk_world.specs.Lines.{found_by, found_image, known_image, is_stray, stray_lines, is_given_up_by, strays_of, is_given_up}
 use Rattle.pblk_world.specs.Victims.{is_freed}
-use Rattle.core_laws.specs.PlainWorlds.{IsPlainWorld}
+use Rattle.core_laws.proofs.SimpleMounts.{engine_plain}
+use Rattle.core_laws.specs.SimpleMounts.{IsSimpleMount}
 use Rattle.line_laws.proofs.PlainLogs.{none_freed}
 use Rattle.opening_laws.proofs.FoundImages.{found_strays}
 use Rattle.begin_laws.proofs.Lists.{any_passed}
 use Rattle.stripe_placer.specs.Placing.{next_stripe}
-use Rattle.prefix_law.proofs.Starting.{none_of as no_some}
+use Rattle.lemmas.proofs.Options.{none_there}
+use Rattle.lemmas.proofs.Tests.{not_true}
 use Rattle.pblk_core.specs.Named.{reset_or, choice, asks_line, has_free, may_open, named}
 use Rattle.pblk_core.specs.Resets.{is_used_state, is_used_in, used_units, units_to_reset, resets_of, resets_left, IsToReset}
 use Rattle.pblk_core.specs.declared.resets.LineChunk.{LineChunk}
@@ -114,7 +116,7 @@ to_reset i logs line unit is = record {
   used = is.used;
 }
 
--- ---- a line that a plain world gave up is a stray of its beginning
+-- ---- a line that was given up, where none was freed, is a stray of its beginning
 
 pub given_as_found : (log : List Logged) (line : ℕ) → is_freed (life_of log line) ≡ false → is_given_up log line ≡ true → (life_of log line ≡ AsFound) × (list_any (λ stray. stray == line) (strays_of log) ≡ true)
 given_as_found log line freed given = go (life_of log line) refl freed given
@@ -124,17 +126,17 @@ given_as_found log line freed given = go (life_of log line) refl freed given
     go (Opened o) is kept e = absurd cc
     go (Freed was knows) is kept e = absurd cc
 
-pub given_unstarted : (i : Image) (w : World) (line : ℕ) (b : Begun) → IsPlainWorld i w → begun (log_of w 0) ≡ Some b → line < i.shape.chunks → is_given_up (log_of w 0) line ≡ true → start_of (found_image i (log_of w)) line ≡ None
-given_unstarted i w line b plain begins inside given =
+pub given_unstarted : (i : Image) (w : World) (line : ℕ) (b : Begun) → IsSimpleMount i w → begun (log_of w 0) ≡ Some b → line < i.shape.chunks → is_given_up (log_of w 0) line ≡ true → start_of (found_image i (log_of w)) line ≡ None
+given_unstarted i w line b simple begins inside given =
     let strays : strays_of (log_of w 0) ≡ stray_lines (found_image i (log_of w)) =
-    ap (λ (o : Option Begun). option_map_or (λ (x : Begun). x.beginning.strays) o []) begins ∙ found_strays i w b plain.legal begins in
-    let among = (given_as_found (log_of w 0) line (none_freed (log_of w 0) plain.engine line) given).1 in
+    ap (λ (o : Option Begun). option_map_or (λ (x : Begun). x.beginning.strays) o []) begins ∙ found_strays i w b simple.mount.legal begins in
+    let among = (given_as_found (log_of w 0) line (none_freed (log_of w 0) (engine_plain i w simple) line) given).1 in
     let shape : (found_image i (log_of w)).shape ≡ i.shape = found_shape i (log_of w) in
     let stray : is_stray (found_image i (log_of w)) line ≡ true =
     sym (any_passed (is_stray (found_image i (log_of w))) 0 i.shape.chunks line (omega arith) (omega arith))
     ∙ ap (λ (s : Shape). list_any (λ stray. stray == line) (filter (is_stray (found_image i (log_of w))) (range_with_len 0 s.chunks))) (sym shape)
     ∙ sym (ap (list_any (λ stray. stray == line)) strays) ∙ among in
-    no_some (start_of (found_image i (log_of w)) line) (first_of _ _ stray)
+    none_there (start_of (found_image i (log_of w)) line) (not_true (is_some (start_of (found_image i (log_of w)) line)) (first_of _ _ stray))
   where
     found_shape : (j : Image) (ls : Logs) → (found_image j ls).shape ≡ j.shape
     found_shape j ls = go (begun (ls 0))

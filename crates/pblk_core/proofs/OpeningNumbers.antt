@@ -12,16 +12,17 @@ use Rattle.pblk_world.specs.World.{World, Logs, log_of, prefixes}
 use Rattle.pblk_world.specs.EngineLog.{Begun, begun_by, begun, openings, is_as_found, life_of}
 use Rattle.pblk_world.specs.Fronts.{first_position, synced}
 use Rattle.pblk_world.specs.Legal.{IsLegal, IsAllowed}
-use Rattle.pblk_world.specs.Lines.{found_image, next_seq}
+use Rattle.pblk_world.specs.Lines.{found_image}
 use Rattle.pblk_world.specs.Space.{freed}
 use Rattle.pblk_world.specs.Starts.{found_row, older_row, older_rows}
 use Rattle.write_window.specs.Window as view
-use Rattle.core_laws.specs.PlainWorlds.{IsPlainWorld}
+use Rattle.core_laws.proofs.SimpleMounts.{engine_plain}
+use Rattle.core_laws.specs.SimpleMounts.{IsSimpleMount}
 use Rattle.line_table.proofs.Places.{eqb-same}
 use Rattle.landing_laws.proofs.Growing.{freed_within}
 use Rattle.placed_laws.proofs.Happened.{happened}
 use Rattle.found_laws.proofs.Counting.{kept_few as few_made}
-use Rattle.prefix_law.proofs.Starting.{next_positive as some_next}
+use Rattle.world_laws.proofs.StartFits.{next_positive as some_next}
 use Rattle.pblk_core.specs.declared.target_core.Core.{Core}
 use Rattle.pblk_core.specs.Named.{next_line, next_start}
 use Rattle.pblk_core.specs.Stands.{Stands, IsOlder}
@@ -100,19 +101,19 @@ record_fits s r capacity some rises seq front few rows =
     (eqb-same r.line) (eqb-same r.width)) (ap (λ n. n == s.capacity) capacity ∙ eqb-same s.capacity)) (le_true 1 r.first_seq some)) (le_true r.first_seq r.seq rises))
     (lt_true r.seq (2 ^ 61) seq)) (lt_true r.front (2 ^ 61) front)) (le_true (length r.rows) (s.chunks - 1) few)) rows
 
-pub next_fits : (i : Image) (w : World) (c : Core) → IsPlainWorld i w → Stands i (log_of w) c → MayOpenNext c → IsTrue (start_fits i.shape (next_start c).line (next_start c).width (next_start c))
-next_fits i w c plain st may =
-    let is : IsNextLine i w c = next_line_is i w c plain st may in
+pub next_fits : (i : Image) (w : World) (c : Core) → IsSimpleMount i w → Stands i (log_of w) c → MayOpenNext c → IsTrue (start_fits i.shape (next_start c).line (next_start c).width (next_start c))
+next_fits i w c simple st may =
+    let is : IsNextLine i w c = next_line_is i w c simple st may in
     let first : c.start.first_seq ≡ st.beginning.beginning.seq = st.first_seq in
     let next : c.start.seq ≡ st.beginning.beginning.seq + length (openings (log_of w 0)) = st.next_seq in
-    let some : 1 ≤ st.beginning.beginning.seq = begin_seq i w st.beginning plain.legal st.has_begun in
-    let none : older_row i (log_of w) (next_line c) ≡ None = unstarted_row i (log_of w) (next_line c) (free_unstarted i (log_of w) (next_line c) plain.engine is.least.is_free) in
+    let some : 1 ≤ st.beginning.beginning.seq = begin_seq i w st.beginning simple.mount.legal st.has_begun in
+    let none : older_row i (log_of w) (next_line c) ≡ None = unstarted_row i (log_of w) (next_line c) (free_unstarted i (log_of w) (next_line c) (engine_plain i w simple) is.least.is_free) in
     let from : 0 + next_line c ≡ next_line c = omega arith in
     let fewer : length (older_rows i (log_of w)) + 1 ≤ i.shape.chunks = fewer_made (older_row i (log_of w)) 0 i.shape.chunks (next_line c) (ap (older_row i (log_of w)) from ∙ none) is.least.in_range in
     let count : length (start_numbers c.start).rows ≡ length (older_rows i (log_of w)) = ap (λ (rs : List Row). length rs) st.older in
     record_fits i.shape (next_start c) st.own_capacity (omega arith) (omega arith) may.seq may.front (omega arith)
     (subst (λ (rs : List Row). rows_fit i.shape (next_start c) 0 rs ≡ true) (sym st.older)
-    (rows_are_fit i (log_of w) (next_start c) c.first 0 0 i.shape.chunks none (front_above i w c plain st) (omega arith) (omega arith)
+    (rows_are_fit i (log_of w) (next_start c) c.first 0 0 i.shape.chunks none (front_above i w c simple st) (omega arith) (omega arith)
     (subst (AllByRecursion (IsOlder c.start.first_seq c.first)) st.older st.fits.rows)))
   where
     unstarted_row : (i : Image) (logs : Logs) (line : ℕ) → start_of (found_image i logs) line ≡ None → older_row i logs line ≡ None
@@ -122,11 +123,11 @@ next_fits i w c plain st may =
         either true = refl
         either false = refl
 
-    front_above : (i : Image) (w : World) (c : Core) → IsPlainWorld i w → Stands i (log_of w) c → c.first ≤ (view.synced c.window).position
-    front_above i w c plain st =
+    front_above : (i : Image) (w : World) (c : Core) → IsSimpleMount i w → Stands i (log_of w) c → c.first ≤ (view.synced c.window).position
+    front_above i w c simple st =
         let a : first_position (log_of w 0) ≤ c.window.freed = st.from_first in
         let b : c.window.freed ≤ freed i.shape (log_of w 0) = st.to_freed in
         let d : freed i.shape (log_of w 0) ≤ synced i.shape (log_of w 0) = freed_within i.shape (log_of w 0) in
-        let e : (view.synced c.window).position ≡ synced i.shape (log_of w 0) = synced_at i w c plain st in
+        let e : (view.synced c.window).position ≡ synced i.shape (log_of w 0) = synced_at i w c simple st in
         let f : c.first ≡ first_position (log_of w 0) = st.first in
         omega arith

@@ -17,7 +17,7 @@ use Rattle.line_laws.specs.PlacedEntries.{next_take, placed_row, place_entry, pl
 use Rattle.core_laws.specs.PlacerOf.{positions_of, positions_in_stripe}
 use Rattle.pblk_world.specs.Fronts.{waiting}
 use Rattle.std.proofs.lemmas.Option.{slice_get-get_or}
-use Rattle.core_laws.specs.PlainWorlds.{IsPlainWorld}
+use Rattle.core_laws.specs.SimpleMounts.{IsSimpleMount}
 use Rattle.core_laws.specs.WindowOf.{is_given_back}
 use Rattle.core_laws.proofs.Placing.{with_place}
 use Rattle.placed_laws.proofs.Ordered.{ordered}
@@ -128,11 +128,11 @@ unplaced_among s log p (t ∷ ts) all e = go (t.entry.position == p) refl e (unp
     go false f g rest = rest g
 
 -- two entries whose rows stand at one place are one
-one_row : (i : Image) (w : World) (c : Core) (t u : Taken) (j k : ℕ) → IsPlainWorld i w → slice_get (takes (log_of w 0)) j ≡ Some t → slice_get (takes (log_of w 0)) k ≡ Some u
+one_row : (i : Image) (w : World) (c : Core) (t u : Taken) (j k : ℕ) → IsSimpleMount i w → slice_get (takes (log_of w 0)) j ≡ Some t → slice_get (takes (log_of w 0)) k ≡ Some u
     → row_at c.holds.rows.items t.entry.position ≡ Some (hold_of i.shape (log_of w 0) t) → row_at c.holds.rows.items u.entry.position ≡ Some (hold_of i.shape (log_of w 0) u)
     → t.entry.position % length c.holds.rows.items ≡ u.entry.position % length c.holds.rows.items → t.entry.position ≡ u.entry.position
-one_row i w c t u j k plain at bt a b same =
-    let marked = (ordered i w plain).marked in
+one_row i w c t u j k simple at bt a b same =
+    let marked = (ordered i w simple).marked in
     let hold : hold_of i.shape (log_of w 0) t ≡ hold_of i.shape (log_of w 0) u =
     same_Some (hold_of i.shape (log_of w 0) t) (hold_of i.shape (log_of w 0) u) (sym a ∙ ap (slice_get c.holds.rows.items) same ∙ b) in
     sym (all_at (λ (t : Taken). t.mark.position ≡ t.entry.position) (takes (log_of w 0)) j t at marked)
@@ -144,11 +144,11 @@ all_mapped f P [] all = tt
 all_mapped f P (x ∷ xs) all = (all.0, all_mapped f P xs all.1)
 
 -- the row of each entry that isn't given back, once the first that wait are placed
-pub row_placed_is : (i : Image) (w : World) (c : Core) (stripe : Stripe) (knows : List ℕ) (n : ℕ) (t : Taken) → IsPlainWorld i w → Stands i (log_of w) c
+pub row_placed_is : (i : Image) (w : World) (c : Core) (stripe : Stripe) (knows : List ℕ) (n : ℕ) (t : Taken) → IsSimpleMount i w → Stands i (log_of w) c
     → positions_in_stripe i.shape stripe ≡ positions_of (take n (waiting i.shape (log_of w 0))) → Contains (takes (log_of w 0)) t → is_given_back i.shape (log_of w 0) t.entry.position ≡ false
     → slice_get (placed_rows stripe.line c.holds.rows.items (positions_of (take n (waiting i.shape (log_of w 0))))) (t.entry.position % i.shape.ring) ≡ Some (hold_of i.shape (with_place (log_of w 0) stripe knows) t)
-row_placed_is i w c stripe knows n t plain st positions among kept =
-    row_after stripe.line i.shape.ring t.entry.position (positions_of ts) c.holds.rows.items (hold_of s log t) (ring_some s plain.accepted) st.holds.room apart row
+row_placed_is i w c stripe knows n t simple st positions among kept =
+    row_after stripe.line i.shape.ring t.entry.position (positions_of ts) c.holds.rows.items (hold_of s log t) (ring_some s simple.mount.accepted) st.holds.room apart row
     ∙ ap Some (go (list_any (λ q. q == t.entry.position) (positions_of ts)) refl)
   where
     s : Shape
@@ -167,14 +167,14 @@ row_placed_is i w c stripe knows n t plain st positions among kept =
     row = st.holds.each t among kept
 
     wait : (k : ℕ) (u : Taken) → slice_get (take n (waiting i.shape (log_of w 0))) k ≡ Some u → IsWaiting i w c u k
-    wait k u e = waiting_at i w c k u plain st (get_whole n (waiting i.shape (log_of w 0)) k u e)
+    wait k u e = waiting_at i w c k u simple st (get_whole n (waiting i.shape (log_of w 0)) k u e)
 
     apart : AreApart i.shape.ring t.entry.position (positions_of (take n (waiting i.shape (log_of w 0))))
     apart = all_mapped (λ (u : Taken). u.entry.position) (λ q. q ≢ t.entry.position → q % i.shape.ring ≢ t.entry.position % i.shape.ring) (take n (waiting i.shape (log_of w 0)))
         (all_by_get (λ (u : Taken). u.entry.position ≢ t.entry.position → u.entry.position % i.shape.ring ≢ t.entry.position % i.shape.ring) (take n (waiting i.shape (log_of w 0)))
         (λ k u e other same.
         let is : IsWaiting i w c u k = wait k u e in
-        other (one_row i w c u t is.number among.0 plain is.there there is.row (row_of_entry i w c t among.0 st there kept)
+        other (one_row i w c u t is.number among.0 simple is.there there is.row (row_of_entry i w c t among.0 st there kept)
         (ap (λ m. u.entry.position % m) st.holds.room ∙ same ∙ sym (ap (λ m. t.entry.position % m) st.holds.room)))))
 
     bears : list_any (bears_position i.shape t.entry.position) stripe.blocks ≡ list_any (λ q. q == t.entry.position) (positions_of (take n (waiting i.shape (log_of w 0))))

@@ -23,7 +23,8 @@ use Rattle.placed_laws.proofs.LeftLines.{left_apart}
 use Rattle.stripe_placer.specs.Placing.{Program, next_in, next_stripe}
 use Rattle.core_laws.specs.OpenedLines.{open_line, standing}
 use Rattle.core_laws.specs.PlacerOf.{entries_of, placing_of, IsStripeOf}
-use Rattle.core_laws.specs.PlainWorlds.{IsPlainWorld}
+use Rattle.core_laws.specs.SimpleMounts.{IsSimpleMount}
+use Rattle.core_laws.proofs.SimpleMounts.{engine_plain}
 use Rattle.placing_laws.specs.StripeFor.{IsStripeFor, IsProgramFor, positions_for}
 use Rattle.placing_laws.proofs.Opened.{life_stands}
 use Rattle.placing_laws.proofs.Followed.{IsFollowed, follow}
@@ -81,10 +82,10 @@ in_part s o k c d kinds.End a b part = begins_after s.ws_opt k (c + d) (end_addr
 has_one : {s : Shape} {e : Entries} {of : Program} (l : OpenLine) → (j : ℕ) × IsProgramIn s e l of j → has_left l ≡ true
 has_one l its = ap (λ b. b || list_any is_unanswered l.stripes) (found_some (is_to_place l) (numbers l) its.0 its.1.next)
 
-pub offered_now : (i : Image) (w : World) (pad busy : ℕ) (of : Program) → IsPlainWorld i w → next_stripe (placing_of i (log_of w) pad []) busy ≡ Some of → (o : Opening) × IsOfferedNow i w pad o of
-offered_now i w pad busy of plain next =
+pub offered_now : (i : Image) (w : World) (pad busy : ℕ) (of : Program) → IsSimpleMount i w → next_stripe (placing_of i (log_of w) pad []) busy ≡ Some of → (o : Opening) × IsOfferedNow i w pad o of
+offered_now i w pad busy of simple next =
     let us : ℕ → List ℕ = line_units (known_image i (log_of w)) in
-    let is : IsFollowed i (line_units (known_image i (log_of w))) w = follow i w plain in
+    let is : IsFollowed i (line_units (known_image i (log_of w))) w = follow i w simple in
     let its = what_is_offered i us w pad busy of is next in
     let o : Opening = its.0 in
     let off : IsOffered i us w pad of o = its.1 in
@@ -93,7 +94,7 @@ offered_now i w pad busy of plain next =
     let k : ℕ = length (stripes_of log o) in
     let c : ℕ = start_len i.shape / i.shape.ws_opt in
     let parts : HasParts i us w o = parts_of i us w o off.line_is in
-    let kind : kind_in k c l.data_count ≡ of.kind = sym (kind_by l k (unfailed l log (stripes_of log o) (stripe_count i us o.line - k) is.plain.engine (formed i us w o off.line_is))) ∙ off.kind in
+    let kind : kind_in k c l.data_count ≡ of.kind = sym (kind_by l k (unfailed l log (stripes_of log o) (stripe_count i us o.line - k) (engine_plain i w simple) (formed i us w o off.line_is))) ∙ off.kind in
     let life : life_of log of.line ≡ Opened o = ap (life_of log) off.its_line ∙ off.life in
     let for = offered_is_for i us w pad busy of is next in
     let same : for.0 ≡ o = opened_same for.0 o (sym for.1.opened ∙ life) in
@@ -160,11 +161,11 @@ one_kind i logs o stripe kinds.End some whole fine part (inr (inl is)) = let b :
 one_kind i logs o stripe kinds.End some whole fine part (inr (inr (inl is))) = is
 one_kind i logs o stripe kinds.End some whole fine part (inr (inr (inr is))) = let failed : has_failed (logs 0) o ≡ true = is.failed in absurd cc
 
-pub of_kind : (i : Image) (w : World) (pad : ℕ) (o : Opening) (of : Program) (stripe : Stripe) → IsPlainWorld i w → IsOfferedNow i w pad o of → IsStripeFor i (log_of w) o of stripe → IsOfKind i (log_of w) o stripe of.kind
-of_kind i w pad o of stripe plain now for =
+pub of_kind : (i : Image) (w : World) (pad : ℕ) (o : Opening) (of : Program) (stripe : Stripe) → IsSimpleMount i w → IsOfferedNow i w pad o of → IsStripeFor i (log_of w) o of stripe → IsOfKind i (log_of w) o stripe of.kind
+of_kind i w pad o of stripe simple now for =
     let may : MayPlace i (log_of w) stripe = now.may stripe for in
     let same : may.opening ≡ o = opened_same may.opening o (sym may.is_open ∙ ap (life_of (log_of w 0)) for.line ∙ now.opened) in
-    one_kind i (log_of w) o stripe of.kind plain.accepted.drive.ws_opt now.start_is (none_failed (log_of w 0) o plain.engine)
+    one_kind i (log_of w) o stripe of.kind simple.mount.accepted.drive.ws_opt now.start_is (none_failed (log_of w 0) o (engine_plain i w simple))
     (subst (λ a. IsInPart i.shape o a of.kind) now.at now.part) (subst (λ p. Kinds i (log_of w) p stripe) same may.kind)
 
 -- ---- the open line

@@ -2,7 +2,7 @@
 use Rattle.std.proofs.Math.Nat.{mul-le-mul_right}
 use Rattle.std.proofs.Common.{◌≡◌, ◌⊎◌, inl, inr, ℕ, ◌+◌, ◌-◌, ◌*◌, ◌<◌, ◌≤◌, ◌^◌, Bool, true, false, Some, None, Option, List, [], ◌++◌, length, take, replicate, min, refl, sym, subst, ap, ap₂, ◌∙◌, arith, length-take, nat_lt, if◌then◌else◌}
 use Rattle.std.specs.Prelude.{map, slice_get}
-use Rattle.std.specs.Option.{option_map, option_map_or}
+use Rattle.std.specs.Option.{option_map}
 use Rattle.std.proofs.lemmas.List.{length-map}
 use Rattle.std.proofs.lemmas.List.FromFn.{length-map-range_with_len}
 use Rattle.std.proofs.lemmas.Option.{same_Some, none-some}
@@ -23,23 +23,22 @@ use Rattle.pblk_world.specs.Placing.{IsData, next_address, end_address, data_mar
 use Rattle.pblk_world.specs.Space.{open_addresses, placed_front}
 use Rattle.stripe_placer.specs.declared.placement.StripeKind.{StripeKind}
 use Rattle.stripe_placer.specs.declared.placement.StripeKind.TheVariants as kinds
-use Rattle.stripe_placer.specs.declared.placement.Placement.{Placement}
-use Rattle.stripe_placer.specs.Placing.{Program, Placing, program, next_stripe, placed, placed_again, placed_first, is_stopped}
+use Rattle.stripe_placer.specs.Placing.{Program, Placing, UnitRow, positions_in, next_stripe, placed}
 use Rattle.stripe_placer.specs.Placing.UnitRow.{UnderWay}
+use Rattle.stripe_placer.proofs.PlacingLemmas.{placed_has}
 use Rattle.stripe_placer.proofs.Rows.{get_map as get_mapped}
 use Rattle.line_table.specs.declared.row.Row.{Row}
 use Rattle.line_table.specs.Rows.{Table, IsRow}
-use Rattle.line_table.proofs.Places.{get_set_same}
 use Rattle.line_laws.proofs.LiveCounts.{live_few}
 use Rattle.write_window.specs.Window as view
 use Rattle.core_laws.specs.PlacerOf.{positions_of, row_of}
-use Rattle.core_laws.specs.PlainWorlds.{IsPlainWorld}
+use Rattle.core_laws.specs.SimpleMounts.{IsSimpleMount}
 use Rattle.core_laws.specs.Stepping.{after}
 use Rattle.pblk_model.specs.EndRecord.{end_bytes}
 use Rattle.core_laws.specs.RowsOf.{row_of_line}
 use Rattle.placed_laws.proofs.StripeBlocks.{HaveBlocks, have_blocks, marks_counted, marks_whole}
 use Rattle.placing_laws.specs.StripeFor.{IsStripeFor, blocks_for, positions_for}
-use Rattle.pblk_core.specs.Entries.{positions_placed, entry_blocks, placed_lines, placed_rows}
+use Rattle.pblk_core.specs.Entries.{entry_blocks, placed_lines, placed_rows}
 use Rattle.pblk_core.specs.Filling.{Filling, followed_by, empty_stripe}
 use Rattle.pblk_core.specs.LineRecords.{Records, AreOf, blocks_at_start, blocks_at_end, end_begins}
 use Rattle.pblk_core.specs.Slots.{IsSlot}
@@ -57,37 +56,40 @@ use Rattle.lemmas.proofs.Parts.{all_at, get_whole, got_within}
 
 -- ---- the program
 
-pub offer : (i : Image) (w : World) (c : Core) (of : Placement) → IsPlainWorld i w → Stands i (log_of w) c → Some (program of) ≡ next_stripe c.placer 0 → (o : Opening) × IsOfferedNow i w c.placer.entries.pad o (program of)
-offer i w c of plain st next = offered_now i w c.placer.entries.pad 0 (program of) plain (ap (λ p. next_stripe p 0) (sym st.placing) ∙ sym next)
+pub offer : (i : Image) (w : World) (c : Core) (of : Program) → IsSimpleMount i w → Stands i (log_of w) c → Some of ≡ next_stripe c.placer 0
+    → (o : Opening) × IsOfferedNow i w c.placer.entries.pad o of
+offer i w c of simple st next = offered_now i w c.placer.entries.pad 0 of simple (ap (λ p. next_stripe p 0) (sym st.placing) ∙ sym next)
 
 -- the opening of the program, and its place among the open lines
-pub record IsFound (i : Image) (w : World) (c : Core) (of : Placement) (result : ℕ) : Type 0 where
+pub record IsFound (i : Image) (w : World) (c : Core) (of : Program) (result : ℕ) : Type 0 where
   pub o : Opening
-  pub now : IsOfferedNow i w c.placer.entries.pad o (program of)
+  pub now : IsOfferedNow i w c.placer.entries.pad o of
   pub has : HasSlot i (log_of w) c.open o
   pub at : result ≡ has.k
 
-pub found : (i : Image) (w : World) (c : Core) (of : Placement) (result : ℕ) → IsPlainWorld i w → Stands i (log_of w) c → Some (program of) ≡ next_stripe c.placer 0 → result < 2
+pub found : (i : Image) (w : World) (c : Core) (of : Program) (result : ℕ) → IsSimpleMount i w → Stands i (log_of w) c → Some of ≡ next_stripe c.placer 0
+    → result < 2
     → ((slot : KeptLine) → IsSlot c.open result slot → slot.records.line ≡ of.line) → ((slot : KeptLine) → IsSlot c.open 0 slot → slot.records.line ≡ of.line → result ≡ 0) → IsFound i w c of result
-found i w c of result plain st next inside line first =
-    let its = offer i w c of plain st next in
-    let has : HasSlot i (log_of w) c.open its.0 = has_slot i w c c.placer.entries.pad its.0 (program of) its.1 st in
+found i w c of result simple st next inside line first =
+    let its = offer i w c of simple st next in
+    let has : HasSlot i (log_of w) c.open its.0 = has_slot i w c c.placer.entries.pad its.0 of its.1 st in
     record {
       o = its.0;
       now = its.1;
       has = has;
-      at = found_slot i w c c.placer.entries.pad its.0 (program of) result its.1 st has inside line first;
+      at = found_slot i w c c.placer.entries.pad its.0 of result its.1 st has inside line first;
     }
 
-pub found_there : (i : Image) (w : World) (c : Core) (of : Placement) → IsPlainWorld i w → Stands i (log_of w) c → Some (program of) ≡ next_stripe c.placer 0
+pub found_there : (i : Image) (w : World) (c : Core) (of : Program) → IsSimpleMount i w → Stands i (log_of w) c → Some of ≡ next_stripe c.placer 0
     → (k : ℕ) × (slot : KeptLine) × (k < 2) × IsSlot c.open k slot × (slot.records.line ≡ of.line)
-found_there i w c of plain st next =
-    let its = offer i w c of plain st next in
-    let has : HasSlot i (log_of w) c.open its.0 = has_slot i w c c.placer.entries.pad its.0 (program of) its.1 st in
+found_there i w c of simple st next =
+    let its = offer i w c of simple st next in
+    let has : HasSlot i (log_of w) c.open its.0 = has_slot i w c c.placer.entries.pad its.0 of its.1 st in
     (has.k, has.slot, has.inside, has.there, has.is.records.line ∙ sym its.1.own)
 
 -- the line that stands there
-pub slot_is : (i : Image) (w : World) (c : Core) (of : Placement) (result : ℕ) (slot : KeptLine) → (f : IsFound i w c of result) → IsSlot c.open result slot → IsOpenLine i (log_of w) f.o slot
+pub slot_is : (i : Image) (w : World) (c : Core) (of : Program) (result : ℕ) (slot : KeptLine) → (f : IsFound i w c of result) → IsSlot c.open result slot
+    → IsOpenLine i (log_of w) f.o slot
 slot_is i w c of result slot f there =
     let same : f.has.slot ≡ slot = same_Some f.has.slot slot (sym f.has.there ∙ ap (slice_get c.open.slots.items) (sym f.at) ∙ there) in
     subst (IsOpenLine i (log_of w) f.o) same f.has.is
@@ -101,12 +103,12 @@ entry_at ts k q e = go (slice_get ts k) refl (sym (get_mapped (λ (t : Taken). t
     go None f g = absurd (none-some q g)
     go (Some t) f g = (t, f, same_Some t.entry.position q g)
 
-pub in_the_window : (i : Image) (w : World) (c : Core) (o : Opening) (of : Program) (k q : ℕ) → IsPlainWorld i w → Stands i (log_of w) c → IsOfferedNow i w c.placer.entries.pad o of
+pub in_the_window : (i : Image) (w : World) (c : Core) (o : Opening) (of : Program) (k q : ℕ) → IsSimpleMount i w → Stands i (log_of w) c → IsOfferedNow i w c.placer.entries.pad o of
     → slice_get of.positions k ≡ Some q → view.IsHeld c.window q
-in_the_window i w c o of k q plain st now e =
+in_the_window i w c o of k q simple st now e =
     let n : ℕ = entries_for of.kind i.shape.ws_opt in
     let at = entry_at (take n (waiting i.shape (log_of w 0))) k q (ap (λ (qs : List ℕ). slice_get qs k) (sym (now.positions ∙ positions_are i.shape (log_of w 0) of.kind)) ∙ e) in
-    let is : IsWaiting i w c at.0 k = waiting_at i w c k at.0 plain st (get_whole n (waiting i.shape (log_of w 0)) k at.0 at.1) in
+    let is : IsWaiting i w c at.0 k = waiting_at i w c k at.0 simple st (get_whole n (waiting i.shape (log_of w 0)) k at.0 at.1) in
     let end : view.taken c.window ≡ taken (log_of w 0) = window_taken_is i w c st in
     let low : c.window.freed ≤ at.0.entry.position = is.low in
     let high : at.0.entry.position < taken (log_of w 0) = is.high in
@@ -162,25 +164,25 @@ small_capacity s is =
     blocks_few (inl e) = let size : units s * s.chunks * s.clba * 512 ≤ 268435456 = subst (λ n. units s * s.chunks * s.clba * n ≤ 268435456) e is.target.size in omega arith
     blocks_few (inr e) = let size : units s * s.chunks * s.clba * 4096 ≤ 268435456 = subst (λ n. units s * s.chunks * s.clba * n ≤ 268435456) e is.target.size in omega arith
 
-pub live_room : (i : Image) (w : World) (c : Core) (line count : ℕ) (row : Row) → IsPlainWorld i w → Stands i (log_of w) c → IsRow c.lines line row → count ≤ i.shape.ws_opt → row.live + count < 2 ^ 32
-live_room i w c line count row plain st there few =
+pub live_room : (i : Image) (w : World) (c : Core) (line count : ℕ) (row : Row) → IsSimpleMount i w → Stands i (log_of w) c → IsRow c.lines line row → count ≤ i.shape.ws_opt → row.live + count < 2 ^ 32
+live_room i w c line count row simple st there few =
     let its = row_at (row_of_line i (log_of w)) i.shape.chunks 0 line row (ap (λ (t : Table). slice_get t.rows line) (sym st.table) ∙ there) in
     let from : 0 + line ≡ line = omega arith in
     let live : row.live ≡ (row_of_line i (log_of w) line).live = ap (λ (r : Row). r.live) (sym its.1) ∙ ap (λ n. (row_of_line i (log_of w) n).live) from in
     let most : (row_of_line i (log_of w) line).live ≤ i.shape.capacity = live_few i (log_of w) line in
-    let small : i.shape.capacity < 2 ^ 30 = small_capacity i.shape plain.accepted in
-    let stripe : i.shape.ws_opt ≤ 64 = plain.accepted.drive.short_stripes in
+    let small : i.shape.capacity < 2 ^ 30 = small_capacity i.shape simple.mount.accepted in
+    let stripe : i.shape.ws_opt ≤ 64 = simple.mount.accepted.drive.short_stripes in
     omega arith
 
 -- ---- marks
 
-pub marks_room : (i : Image) (w : World) (o : Opening) (of : Program) (pad : ℕ) (slot : KeptLine) (more : ℕ) → IsPlainWorld i w → IsOfferedNow i w pad o of → of.kind ≡ kinds.Data → IsOpenLine i (log_of w) o slot → more ≤ i.shape.ws_opt
+pub marks_room : (i : Image) (w : World) (o : Opening) (of : Program) (pad : ℕ) (slot : KeptLine) (more : ℕ) → IsSimpleMount i w → IsOfferedNow i w pad o of → of.kind ≡ kinds.Data → IsOpenLine i (log_of w) o slot → more ≤ i.shape.ws_opt
     → length slot.records.marks + more ≤ data_len slot.records.shape slot.records.width
-marks_room i w o of pad slot more plain now kind is few =
+marks_room i w o of pad slot more simple now kind is few =
     let s : Shape = i.shape in
     let part = subst (IsInPart i.shape o of.at) kind now.part in
     let count : length (data_marks s (log_of w 0) o) ≡ min (data_len s o.start.width) (next_address s (log_of w 0) o - start_len s) =
-    marks_counted s (log_of w 0) o (have_blocks i w plain.accepted plain.legal) in
+    marks_counted s (log_of w 0) o (have_blocks i w simple.mount.accepted simple.mount.legal) in
     let own : length slot.records.marks ≡ length (data_marks s (log_of w 0) o) = ap (λ (ms : List Mark). length ms) is.records.marks in
     let long : data_len slot.records.shape slot.records.width ≡ data_len s o.start.width = ap₂ data_len is.records.shape is.records.width in
     let at : of.at ≡ next_address s (log_of w 0) o = now.at in
@@ -188,12 +190,12 @@ marks_room i w o of pad slot more plain now kind is few =
     let b : of.at + s.ws_opt ≤ start_len s + data_len s o.start.width = part.1 in
     omega arith
 
-pub marks_told : (i : Image) (w : World) (o : Opening) (of : Program) (pad : ℕ) (slot : KeptLine) → IsPlainWorld i w → IsOfferedNow i w pad o of → of.kind ≡ kinds.End → IsOpenLine i (log_of w) o slot
+pub marks_told : (i : Image) (w : World) (o : Opening) (of : Program) (pad : ℕ) (slot : KeptLine) → IsSimpleMount i w → IsOfferedNow i w pad o of → of.kind ≡ kinds.End → IsOpenLine i (log_of w) o slot
     → length slot.records.marks ≡ data_len slot.records.shape slot.records.width
-marks_told i w o of pad slot plain now kind is =
+marks_told i w o of pad slot simple now kind is =
     let part = subst (IsInPart i.shape o of.at) kind now.part in
     ap (λ (ms : List Mark). length ms) is.records.marks
-    ∙ marks_whole i.shape (log_of w 0) o (have_blocks i w plain.accepted plain.legal) (subst (λ a. end_address i.shape o ≤ a) now.at part)
+    ∙ marks_whole i.shape (log_of w 0) o (have_blocks i w simple.mount.accepted simple.mount.legal) (subst (λ a. end_address i.shape o ≤ a) now.at part)
     ∙ sym (ap₂ data_len is.records.shape is.records.width)
 
 pub end_from : (i : Image) (w : World) (o : Opening) (of : Program) (pad : ℕ) (slot : KeptLine) → IsOfferedNow i w pad o of → of.kind ≡ kinds.End → IsOpenLine i (log_of w) o slot → end_begins slot.records ≤ of.at
@@ -205,12 +207,12 @@ data_by : (t : Bool) (between n : ℕ) → n ≡ (if t then 0 else between) → 
 data_by true between n e some = absurd (omega arith)
 data_by false between n e some = e
 
-pub end_within : (i : Image) (w : World) (o : Opening) (of : Program) (pad : ℕ) (slot : KeptLine) → IsPlainWorld i w → IsOfferedNow i w pad o of → IsOpenLine i (log_of w) o slot
+pub end_within : (i : Image) (w : World) (o : Opening) (of : Program) (pad : ℕ) (slot : KeptLine) → IsSimpleMount i w → IsOfferedNow i w pad o of → IsOpenLine i (log_of w) o slot
     → of.at + slot.records.shape.ws_opt ≤ end_begins slot.records + end_len slot.records.shape slot.records.width
-end_within i w o of pad slot plain now is =
+end_within i w o of pad slot simple now is =
     let s : Shape = i.shape in
     let g : ℕ = o.start.width in
-    let wide : 0 < data_len s g = HaveBlocks.wide (have_blocks i w plain.accepted plain.legal) of.line o now.opened in
+    let wide : 0 < data_len s g = HaveBlocks.wide (have_blocks i w simple.mount.accepted simple.mount.legal) of.line o now.opened in
     let between : data_len s g ≡ g * s.clba - start_len s - end_len s g = data_by (nat_lt (g * s.clba - start_len s - end_len s g) s.ws_opt) (g * s.clba - start_len s - end_len s g) (data_len s g) refl wide in
     let whole : of.at + s.ws_opt ≤ g * s.clba = now.whole in
     let own : of.at + s.ws_opt ≤ start_len s + data_len s g + end_len s g = omega arith in
@@ -229,11 +231,12 @@ end_of_line s log o r shape a of same = λ j. stripe_at (same j)
     (start_len (of.shape j) + data_len (of.shape j) (of.width j)) a
 
 -- a stripe at the program's place, with these blocks
-abbrev pub stripe_of : Placement → List Block → Stripe
+abbrev pub stripe_of : Program → List Block → Stripe
 stripe_of of blocks = record { line = of.line; unit = of.unit; chunk = of.line; at = of.block; blocks = blocks }
 
-pub stripe_for : (i : Image) (w : World) (pad : ℕ) (o : Opening) (of : Placement) (kind : StripeKind) (blocks : List Block) → IsOfferedNow i w pad o (program of) → of.kind ≡ kind → blocks ≡ blocks_for i.shape (log_of w 0) o of.at kind
-    → IsStripeFor i (log_of w) o (program of) (stripe_of of blocks)
+pub stripe_for : (i : Image) (w : World) (pad : ℕ) (o : Opening) (of : Program) (kind : StripeKind) (blocks : List Block) → IsOfferedNow i w pad o of
+    → of.kind ≡ kind → blocks ≡ blocks_for i.shape (log_of w 0) o of.at kind
+    → IsStripeFor i (log_of w) o of (stripe_of of blocks)
 stripe_for i w pad o of kind blocks now same is = record {
   opened = now.opened;
   line = refl;
@@ -243,30 +246,35 @@ stripe_for i w pad o of kind blocks now same is = record {
   blocks = is ∙ ap (blocks_for i.shape (log_of w 0) o of.at) (sym same);
 }
 
-pub start_stripe_is : (i : Image) (w : World) (pad : ℕ) (o : Opening) (of : Placement) (slot : KeptLine) (shape : Shape) → IsOfferedNow i w pad o (program of) → of.kind ≡ kinds.Start → IsOpenLine i (log_of w) o slot → shape ≡ i.shape
-    → IsStripeFor i (log_of w) o (program of) (stripe_of of (stripe_at shape (blocks_at_start slot.records) 0 of.at))
+pub start_stripe_is : (i : Image) (w : World) (pad : ℕ) (o : Opening) (of : Program) (slot : KeptLine) (shape : Shape) → IsOfferedNow i w pad o of
+    → of.kind ≡ kinds.Start → IsOpenLine i (log_of w) o slot → shape ≡ i.shape
+    → IsStripeFor i (log_of w) o of (stripe_of of (stripe_at shape (blocks_at_start slot.records) 0 of.at))
 start_stripe_is i w pad o of slot shape now kind is same =
     stripe_for i w pad o of kinds.Start (stripe_at shape (blocks_at_start slot.records) 0 of.at) now kind (start_of_line i.shape (log_of w 0) o slot.records shape of.at is.records same)
 
-pub end_stripe_is : (i : Image) (w : World) (pad : ℕ) (o : Opening) (of : Placement) (slot : KeptLine) (shape : Shape) → IsOfferedNow i w pad o (program of) → of.kind ≡ kinds.End → IsOpenLine i (log_of w) o slot → shape ≡ i.shape
-    → IsStripeFor i (log_of w) o (program of) (stripe_of of (stripe_at shape (blocks_at_end slot.records) (end_begins slot.records) of.at))
+pub end_stripe_is : (i : Image) (w : World) (pad : ℕ) (o : Opening) (of : Program) (slot : KeptLine) (shape : Shape) → IsOfferedNow i w pad o of
+    → of.kind ≡ kinds.End → IsOpenLine i (log_of w) o slot → shape ≡ i.shape
+    → IsStripeFor i (log_of w) o of (stripe_of of (stripe_at shape (blocks_at_end slot.records) (end_begins slot.records) of.at))
 end_stripe_is i w pad o of slot shape now kind is same =
     stripe_for i w pad o of kinds.End (stripe_at shape (blocks_at_end slot.records) (end_begins slot.records) of.at) now kind (end_of_line i.shape (log_of w 0) o slot.records shape of.at is.records same)
 
 abbrev pub padded_to_stripe : Shape → List Block → List Block
 padded_to_stripe s blocks = blocks ++ replicate (s.ws_opt - length blocks) (pad_block s)
 
-pub data_stripe_is : (i : Image) (w : World) (c : Core) (o : Opening) (of : Placement) (shape : Shape) → IsPlainWorld i w → Stands i (log_of w) c → IsOfferedNow i w c.placer.entries.pad o (program of) → of.kind ≡ kinds.Data → shape ≡ i.shape
-    → IsStripeFor i (log_of w) o (program of) (stripe_of of (padded_to_stripe shape (entry_blocks c.window c.holds.rows.items (positions_placed of))))
-data_stripe_is i w c o of shape plain st now kind same =
-    stripe_for i w c.placer.entries.pad o of kinds.Data (padded_to_stripe shape (entry_blocks c.window c.holds.rows.items (positions_placed of))) now kind
+pub data_stripe_is : (i : Image) (w : World) (c : Core) (o : Opening) (of : Program) (shape : Shape) → IsSimpleMount i w → Stands i (log_of w) c
+    → IsOfferedNow i w c.placer.entries.pad o of → of.kind ≡ kinds.Data → shape ≡ i.shape
+    → IsStripeFor i (log_of w) o of (stripe_of of (padded_to_stripe shape (entry_blocks c.window c.holds.rows.items of.positions)))
+data_stripe_is i w c o of shape simple st now kind same =
+    stripe_for i w c.placer.entries.pad o of kinds.Data (padded_to_stripe shape (entry_blocks c.window c.holds.rows.items of.positions)) now kind
     (ap₂ padded_to_stripe same
     (ap (entry_blocks c.window c.holds.rows.items) (now.positions ∙ ap (positions_for i.shape (log_of w 0)) kind ∙ positions_are i.shape (log_of w 0) kinds.Data)
-    ∙ waiting_blocks i w c i.shape.ws_opt plain st))
+    ∙ waiting_blocks i w c i.shape.ws_opt simple st))
 
 -- a stripe that was begun, filled with entries and padded
-pub padded_is : (of : Placement) (shape : Shape) (blocks : List Block) (begun filled padded : Filling) → begun ≡ record { shape = shape; stripe = empty_stripe of.line of.unit of.block } → filled ≡ followed_by begun blocks
-    → padded ≡ followed_by filled (replicate (filled.shape.ws_opt - length filled.stripe.blocks) (pad_block filled.shape)) → padded.stripe ≡ stripe_of of (padded_to_stripe shape blocks)
+pub padded_is : (of : Program) (shape : Shape) (blocks : List Block) (begun filled padded : Filling)
+    → begun ≡ record { shape = shape; stripe = empty_stripe of.line of.unit of.block } → filled ≡ followed_by begun blocks
+    → padded ≡ followed_by filled (replicate (filled.shape.ws_opt - length filled.stripe.blocks) (pad_block filled.shape))
+    → padded.stripe ≡ stripe_of of (padded_to_stripe shape blocks)
 padded_is of shape blocks begun filled padded a b d =
     ap (λ (f : Filling). f.stripe) d
     ∙ ap (λ (f : Filling). (followed_by f (replicate (f.shape.ws_opt - length f.stripe.blocks) (pad_block f.shape))).stripe) b
@@ -279,68 +287,74 @@ told_marks size bytes marks into padded whole same =
 -- ---- counters
 
 -- some stripe of the program, for what is known of all of them
-any_stripe : (i : Image) (w : World) (pad : ℕ) (o : Opening) (of : Placement) → IsOfferedNow i w pad o (program of) → IsStripeFor i (log_of w) o (program of) (stripe_of of (blocks_for i.shape (log_of w 0) o of.at of.kind))
+any_stripe : (i : Image) (w : World) (pad : ℕ) (o : Opening) (of : Program) → IsOfferedNow i w pad o of
+    → IsStripeFor i (log_of w) o of (stripe_of of (blocks_for i.shape (log_of w 0) o of.at of.kind))
 any_stripe i w pad o of now = stripe_for i w pad o of of.kind (blocks_for i.shape (log_of w 0) o of.at of.kind) now refl refl
 
-pub left_room : (i : Image) (w : World) (c : Core) (o : Opening) (of : Placement) → IsPlainWorld i w → Stands i (log_of w) c → IsOfferedNow i w c.placer.entries.pad o (program of) → of.kind ≡ kinds.Data → i.shape.ws_opt ≤ c.left
-left_room i w c o of plain st now kind =
+pub left_room : (i : Image) (w : World) (c : Core) (o : Opening) (of : Program) → IsSimpleMount i w → Stands i (log_of w) c
+    → IsOfferedNow i w c.placer.entries.pad o of → of.kind ≡ kinds.Data → i.shape.ws_opt ≤ c.left
+left_room i w c o of simple st now kind =
     let stripe : Stripe = stripe_of of (blocks_for i.shape (log_of w 0) o of.at of.kind) in
-    let for : IsStripeFor i (log_of w) o (program of) stripe = any_stripe i w c.placer.entries.pad o of now in
+    let for : IsStripeFor i (log_of w) o of stripe = any_stripe i w c.placer.entries.pad o of now in
     let its = now.its stripe for in
-    let is : IsOfKind i (log_of w) o stripe of.kind = of_kind i w c.placer.entries.pad o (program of) stripe plain now for in
+    let is : IsOfKind i (log_of w) o stripe of.kind = of_kind i w c.placer.entries.pad o of stripe simple now for in
     let less : open_addresses i (log_of w) ≡ open_addresses i (after (log_of w) (Place stripe) []) + entries_for of.kind i.shape.ws_opt =
-    left_by_kind i (log_of w) stripe [] o of.kind plain.accepted (record { opened = its.opened; idle = its.idle }) now.line is in
+    left_by_kind i (log_of w) stripe [] o of.kind simple.mount.accepted (record { opened = its.opened; idle = its.idle }) now.line is in
     let count : entries_for of.kind i.shape.ws_opt ≡ i.shape.ws_opt = ap (λ k. entries_for k i.shape.ws_opt) kind in
     let left : c.left ≡ open_addresses i (log_of w) = st.left in
     omega arith
 
-pub placed_short : (i : Image) (w : World) (c : Core) (o : Opening) (of : Placement) → IsPlainWorld i w → Stands i (log_of w) c → IsOfferedNow i w c.placer.entries.pad o (program of) → of.kind ≡ kinds.Data → c.placed + of.count < 2 ^ 64
-placed_short i w c o of plain st now kind =
+pub placed_short : (i : Image) (w : World) (c : Core) (o : Opening) (of : Program) → IsSimpleMount i w → Stands i (log_of w) c
+    → IsOfferedNow i w c.placer.entries.pad o of → of.kind ≡ kinds.Data → c.placed + of.count < 2 ^ 64
+placed_short i w c o of simple st now kind =
     let s : Shape = i.shape in
     let log : List Logged = log_of w 0 in
     let stripe : Stripe = stripe_of of (blocks_for s log o of.at of.kind) in
-    let entries : IsData i (log_of w) o stripe = subst (IsOfKind i (log_of w) o stripe) kind (of_kind i w c.placer.entries.pad o (program of) stripe plain now (any_stripe i w c.placer.entries.pad o of now)) in
+    let for : IsStripeFor i (log_of w) o of stripe = any_stripe i w c.placer.entries.pad o of now in
+    let entries : IsData i (log_of w) o stripe =
+    subst (IsOfKind i (log_of w) o stripe) kind (of_kind i w c.placer.entries.pad o of stripe simple now for) in
     let ts : List Taken = take s.ws_opt (waiting s log) in
-    let long : length (positions_placed of) ≡ length ts =
+    let long : length of.positions ≡ length ts =
     ap (λ (qs : List ℕ). length qs) (now.positions ∙ ap (positions_for s log) kind ∙ positions_are s log kinds.Data) ∙ length-map ts (λ (t : Taken). t.entry.position) in
-    let count : of.count ≡ length (positions_placed of) = now.count in
+    let count : of.count ≡ length of.positions = now.count in
     let first : length ts ≡ min s.ws_opt (length (waiting s log)) = length-take s.ws_opt (waiting s log) in
     let some : 0 < length (waiting s log) = entries.has_entry in
-    let wide : 0 < s.ws_opt = plain.accepted.drive.ws_opt in
+    let wide : 0 < s.ws_opt = simple.mount.accepted.drive.ws_opt in
     let last = got_within ts (length ts - 1) (omega arith) in
-    let is : IsWaiting i w c last.0 (length ts - 1) = waiting_at i w c (length ts - 1) last.0 plain st (get_whole s.ws_opt (waiting s log) (length ts - 1) last.0 last.1) in
-    let sized : last.0.entry.position < 2 ^ 62 = IsSized.position (all_at (IsSized s) (takes log) is.number last.0 is.there (are_sized i w plain)) in
+    let is : IsWaiting i w c last.0 (length ts - 1) = waiting_at i w c (length ts - 1) last.0 simple st (get_whole s.ws_opt (waiting s log) (length ts - 1) last.0 last.1) in
+    let sized : last.0.entry.position < 2 ^ 62 = IsSized.position (all_at (IsSized s) (takes log) is.number last.0 is.there (are_sized i w simple)) in
     let at : last.0.entry.position ≡ placed_front s log + (length ts - 1) = is.position in
     let front : c.first + c.placed ≡ placed_front s log = st.placed in
     omega arith
 
-pub under_way_short : (i : Image) (w : World) (c : Core) → IsPlainWorld i w → Stands i (log_of w) c → c.under_way + 1 < 2 ^ 32
-under_way_short i w c plain st =
+pub under_way_short : (i : Image) (w : World) (c : Core) → IsSimpleMount i w → Stands i (log_of w) c → c.under_way + 1 < 2 ^ 32
+under_way_short i w c simple st =
     let few : c.under_way ≤ units i.shape = subst (λ n. n ≤ units i.shape) (sym st.in_flight) (few_under_way i.shape (log_of w 0)) in
-    let most : units i.shape ≤ 64 = plain.accepted.drive.few_units in
+    let most : units i.shape ≤ 64 = simple.mount.accepted.drive.few_units in
     omega arith
 
 -- ---- the unit
-
-pub unit_busy : (p : Placing) (of : Program) → of.unit < length p.units → (x : Program) × (slice_get (placed p of).units of.unit ≡ Some (UnderWay x))
-unit_busy p of inside = go (option_map_or is_stopped (slice_get p.units of.unit) false)
-  where
-    go : (b : Bool) → (x : Program) × (slice_get (Placing.units (if b then placed_again p of else placed_first p of)) of.unit ≡ Some (UnderWay x))
-    go true = (of, get_set_same p.units of.unit of.unit (UnderWay of) refl inside)
-    go false = (of, get_set_same p.units of.unit of.unit (UnderWay of) refl inside)
 
 pub unit_inside : (i : Image) (w : World) (c : Core) (unit : ℕ) → Stands i (log_of w) c → unit < units i.shape → unit < length c.placer.units
 unit_inside i w c unit st inside =
     subst (λ (p : Placing). unit < length p.units) (sym st.placing) (subst (λ n. unit < n) (sym (length-map-range_with_len (row_of i (log_of w) []) 0 (units i.shape))) inside)
 
--- ---- what the stripe's kind makes of a core, but for its placer and its count of stripes under way
+-- the positions that a placer tells of the unit of the next program, once that is placed
+pub told_entries : (i : Image) (w : World) (c : Core) (new : Placing) (o : Opening) (of : Program) (told : List ℕ) → Stands i (log_of w) c
+    → IsOfferedNow i w c.placer.entries.pad o of → new ≡ placed c.placer of
+    → ((row : UnitRow) → slice_get new.units of.unit ≡ Some row → told ≡ positions_in row) → told ≡ of.positions
+told_entries i w c new o of told st now is tells =
+    let has = placed_has c.placer of (unit_inside i w c of.unit st now.unit) in
+    tells (UnderWay of) (ap (λ (p : Placing). slice_get p.units of.unit) is ∙ has)
+
+-- ---- what a stripe that is placed makes of a core, but for its count of stripes under way
 
 pub record IsSettledInto (old mid : Core) (k : ℕ) (slot : KeptLine) (of : Program) (stripe : Stripe) : Type 0 where
   pub layout : mid.layout ≡ old.layout
   pub map : mid.map ≡ old.map
   pub lines : mid.lines ≡ placed_lines old.holds.rows.items of.line old.lines of.positions
   pub window : mid.window ≡ old.window
-  pub placer : mid.placer ≡ old.placer
+  pub placer : mid.placer ≡ placed old.placer of
   pub holds : mid.holds.rows.items ≡ placed_rows of.line old.holds.rows.items of.positions
   pub open_count : mid.open.count ≡ old.open.count
   pub open_slots : mid.open.slots.items ≡ slots_for of.kind old.open.slots.items k slot stripe
@@ -354,14 +368,17 @@ pub record IsSettledInto (old mid : Core) (k : ℕ) (slot : KeptLine) (of : Prog
   pub users : mid.users ≡ old.users
 
 -- a stripe of a record changes none of it
-pub settled_same : (old mid : Core) (kept : OpenLines) (k : ℕ) (slot : KeptLine) (of : Program) (stripe : Stripe) → mid ≡ record old { «open» = kept } → kept.count ≡ old.open.count → kept.slots.items ≡ old.open.slots.items
-    → of.positions ≡ [] → slots_for of.kind old.open.slots.items k slot stripe ≡ old.open.slots.items → entries_for of.kind old.layout.ws_opt ≡ 0 → IsSettledInto old mid k slot of stripe
-settled_same old mid kept k slot of stripe same count slots none quiet all = record {
+pub settled_same : (old mid : Core) (p : Placing) (kept : OpenLines) (k : ℕ) (slot : KeptLine) (of : Program) (stripe : Stripe)
+    → mid ≡ record old { placer = p; «open» = kept } → p ≡ placed old.placer of
+    → kept.count ≡ old.open.count → kept.slots.items ≡ old.open.slots.items → of.positions ≡ []
+    → slots_for of.kind old.open.slots.items k slot stripe ≡ old.open.slots.items → entries_for of.kind old.layout.ws_opt ≡ 0
+    → IsSettledInto old mid k slot of stripe
+settled_same old mid p kept k slot of stripe same is count slots none quiet all = record {
   layout = ap (λ (c : Core). c.layout) same;
   map = ap (λ (c : Core). c.map) same;
   lines = ap (λ (c : Core). c.lines) same ∙ sym (ap (placed_lines old.holds.rows.items of.line old.lines) none);
   window = ap (λ (c : Core). c.window) same;
-  placer = ap (λ (c : Core). c.placer) same;
+  placer = ap (λ (c : Core). c.placer) same ∙ is;
   holds = ap (λ (c : Core). c.holds.rows.items) same ∙ sym (ap (placed_rows of.line old.holds.rows.items) none);
   open_count = ap (λ (c : Core). c.open.count) same ∙ count;
   open_slots = ap (λ (c : Core). c.open.slots.items) same ∙ slots ∙ sym quiet;
@@ -382,7 +399,7 @@ pub left_back : (left less blocks n : ℕ) → less ≡ blocks → n ≡ blocks 
 left_back left less blocks n a b h = omega arith
 
 -- the place of the line that was found
-pub slot_there : (i : Image) (w : World) (c : Core) (of : Placement) (result : ℕ) → (f : IsFound i w c of result) → IsSlot c.open result f.has.slot
+pub slot_there : (i : Image) (w : World) (c : Core) (of : Program) (result : ℕ) → (f : IsFound i w c of result) → IsSlot c.open result f.has.slot
 slot_there i w c of result f = ap (slice_get c.open.slots.items) f.at ∙ f.has.there
 
 pub no_positions : (i : Image) (w : World) (pad : ℕ) (o : Opening) (of : Program) (kind : StripeKind) → IsOfferedNow i w pad o of → of.kind ≡ kind → positions_for i.shape (log_of w 0) kind ≡ [] → of.positions ≡ []

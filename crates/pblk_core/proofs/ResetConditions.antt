@@ -3,12 +3,13 @@ use Rattle.std.proofs.Common.{◌≡◌, ◌⊎◌, ℕ, ◌+◌, ◌-◌, ◌^�
 use Rattle.std.specs.Prelude.{slice_get, slice_set}
 use Rattle.std.specs.List.{slice_index_or}
 use Rattle.std.specs.Option.{option_map_or}
-use Rattle.std.proofs.lemmas.Option.{same_Some, slice_get_within, slice_get-get_or}
+use Rattle.std.proofs.lemmas.Option.{get_or_from_slice_get, same_Some, slice_get_within, slice_get-get_or}
 use Rattle.pblk_model.specs.declared.shape.Shape.{Shape}
 use Rattle.pblk_model.specs.declared.chunk.ChunkState.{ChunkState}
 use Rattle.pblk_model.specs.Shape.{units}
 use Rattle.pblk_model.specs.LineOrder.{data_len}
 use Rattle.pblk_model.specs.Image.{Image, is_online_in}
+use Rattle.pblk_layout.specs.Live.{is_in}
 use Rattle.pblk_world.specs.World.{World, log_of}
 use Rattle.line_table.specs.declared.row.LineState.TheVariants.{Free, Dead, Freed}
 use Rattle.line_table.specs.declared.row.Row.{Row}
@@ -22,6 +23,7 @@ use Rattle.pblk_core.specs.declared.work.Work.TheVariants.{Reset}
 use Rattle.pblk_core.specs.Named.{named}
 use Rattle.pblk_core.specs.Resets.{kept_units, emptied}
 use Rattle.pblk_core.specs.Stands.{Stands, IsStanding}
+use Rattle.pblk_core.proofs.SimpleLogs.{its_simple}
 use Rattle.pblk_core.proofs.LineBits.{known_bits}
 use Rattle.pblk_core.proofs.NamedReset.{IsNamedReset}
 use Rattle.pblk_core.proofs.ResetRows.{state_before}
@@ -31,7 +33,7 @@ use Rattle.pblk_core.proofs.StandsReset.{named_in}
 pub record MayReset (c : Core) (line unit : ℕ) : Type 0 where
   pub line_units : line < length c.live.items
   pub small : unit < 64
-  pub unit_in : (us : ℕ) → slice_get c.live.items line ≡ Some us → 2 ^ unit ≤ us
+  pub unit_in : (us : ℕ) → slice_get c.live.items line ≡ Some us → is_in us unit ≡ true
   pub below : (us : ℕ) → slice_get c.live.items line ≡ Some us → us < 2 ^ units c.layout
   pub line_row : line < length c.lines.rows
   pub freed : (row : Row) → IsRow c.lines line row → row.state ≡ Freed
@@ -40,11 +42,11 @@ pub reset_next : (c : Core) (line unit : ℕ) → IsStanding c → named c ≡ R
 reset_next c line unit standing names = record {
   line_units = slice_get_within c.live.items line (live_now i (log_of w) line) units_there;
   small = let few : units i.shape ≤ 64 = standing.legal.accepted.drive.few_units in let inside : unit < units i.shape = named_is.unit_in_range in omega arith;
-  unit_in = λ us there. subst (λ n. 2 ^ unit ≤ n) (same_Some (live_now i (log_of w) line) us (sym units_there ∙ there)) (unit_was_in i w line unit standing.legal named_is);
+  unit_in = λ us there. subst (λ n. is_in n unit ≡ true) (same_Some (live_now i (log_of w) line) us (sym units_there ∙ there)) (unit_was_in i w line unit (its_simple standing) named_is);
   below = λ us there. subst (λ n. n < 2 ^ units c.layout) (same_Some (live_now i (log_of w) line) us (sym units_there ∙ there))
-      (subst (λ (s : Shape). live_now i (log_of w) line < 2 ^ units s) (sym st.layout) (known_bits i w (log_of w) line standing.legal));
+      (subst (λ (s : Shape). live_now i (log_of w) line < 2 ^ units s) (sym st.layout) (known_bits i w (log_of w) line (its_simple standing)));
   line_row = slice_get_within c.lines.rows line (row_of_line i (log_of w) line) row_is;
-  freed = λ row there. ap (λ (r : Row). r.state) (sym (same_Some (row_of_line i (log_of w) line) row (sym row_is ∙ there))) ∙ state_before i w line unit st.beginning standing.legal st.has_begun named_is;
+  freed = λ row there. ap (λ (r : Row). r.state) (sym (same_Some (row_of_line i (log_of w) line) row (sym row_is ∙ there))) ∙ state_before i w line unit st.beginning (its_simple standing) st.has_begun named_is;
 }
   where
     i : Image
@@ -99,5 +101,12 @@ kept_there c line unit state standing names =
     (kept.0, kept.1, omega arith)
 
 -- the table is of the drive's shape
+-- their number is at most that of all units
+pub kept_few : (c : Core) (line unit us d width : ℕ) (state : ChunkState) → IsStanding c → named c ≡ Reset line unit → us ≡ slice_index_or (kept_units c.live.items line unit state) line d
+    → ((n : ℕ) → us < 2 ^ n → width ≤ n) → width ≤ units c.layout
+kept_few c line unit us d width state standing names is few =
+    let kept = kept_there c line unit state standing names in
+    few (units c.layout) (subst (λ n. n < 2 ^ units c.layout) (sym (is ∙ get_or_from_slice_get (kept_units c.live.items line unit state) line kept.0 d kept.1)) kept.2)
+
 pub table_shape : (c : Core) → IsStanding c → c.layout ≡ c.lines.shape
 table_shape c standing = standing.stands.layout ∙ sym (ap (λ (t : Table). t.shape) standing.stands.table)

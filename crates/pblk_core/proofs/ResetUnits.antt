@@ -10,20 +10,21 @@ use Rattle.pblk_model.specs.Shape.{units}
 use Rattle.pblk_model.specs.Chunk.{Chunk}
 use Rattle.pblk_model.specs.Image.{Image, is_online_in}
 use Rattle.pblk_laws.specs.LineBlocks.{chunk_in}
-use Rattle.pblk_layout.specs.Live.{is_live}
+use Rattle.pblk_layout.specs.Live.{is_in, is_live}
 use Rattle.pblk_world.specs.Events.{ResetDone, Decides}
 use Rattle.pblk_world.specs.World.{World, Logs, log_of}
 use Rattle.pblk_world.specs.Lines.{known_image, is_empty_state, are_empty, is_given_up}
 use Rattle.pblk_world.proofs.Appending.{life_more}
 use Rattle.core_laws.specs.OpenedLines.{bits_of, live_now}
-use Rattle.core_laws.specs.PlainWorlds.{IsPlainWorld}
+use Rattle.core_laws.specs.SimpleMounts.{IsSimpleMount}
 use Rattle.core_laws.specs.Stepping.{after}
+use Rattle.core_laws.proofs.UnitBits.{bit_is, units_below}
 use Rattle.core_laws.proofs.PlacedLines.{get_row as row_there}
 use Rattle.placing_laws.proofs.KeptLines.{few_units}
 use Rattle.pblk_core.specs.Resets.{is_used_state, is_used_in, used_units, units_to_reset, resets_of, kept_units}
-use Rattle.pblk_core.proofs.FirstReset.{others_are, bits_less, bit_in}
+use Rattle.pblk_core.proofs.FirstReset.{others_are, bits_less}
 use Rattle.pblk_core.proofs.KeptResets.{given_up_kept, empty_none}
-use Rattle.pblk_core.proofs.LineBits.{units_below, known_count}
+use Rattle.pblk_core.proofs.LineBits.{known_count}
 use Rattle.pblk_core.proofs.NamedReset.{IsNamedReset}
 use Rattle.pblk_core.proofs.ResetChunks.{IsNoted, test_chunk, tested_else, tested_now, tested_before, used_online, live_is}
 use Rattle.lemmas.proofs.Maps.{filter_same, map_same, rows_set}
@@ -60,8 +61,8 @@ resets_less i logs unit event line knows state named is =
 -- ---- units
 
 -- the units of a line as bits
-pub live_bits : (i : Image) (w : World) (ls : Logs) (line : ℕ) → IsPlainWorld i w → live_now i ls line ≡ bits_of (filter (is_live (known_image i ls) line) (range_with_len 0 (units i.shape)))
-live_bits i w ls line plain = ap bits_of (units_below (known_image i ls) line (few_units i w ls plain) ∙ ap (λ n. filter (is_live (known_image i ls) line) (range_with_len 0 n)) (known_count i w ls plain))
+pub live_bits : (i : Image) (w : World) (ls : Logs) (line : ℕ) → IsSimpleMount i w → live_now i ls line ≡ bits_of (filter (is_live (known_image i ls) line) (range_with_len 0 (units i.shape)))
+live_bits i w ls line simple = ap bits_of (units_below (known_image i ls) line (few_units i w ls simple.mount) ∙ ap (λ n. filter (is_live (known_image i ls) line) (range_with_len 0 n)) (known_count i w ls simple))
 
 pub was_live : (i : Image) (logs : Logs) (unit event line : ℕ) (knows : List ℕ) (state : ChunkState) → IsNoted i logs unit event line knows state → is_live (known_image i logs) line unit ≡ true
 was_live i logs unit event line knows state is = live_is (known_image i logs) line unit ∙ tested_before is_online_in i logs unit event line knows state is ∙ used_online is.chunk.state is.used
@@ -74,13 +75,13 @@ live_else i logs unit event line knows state is l u other =
 live_here : (i : Image) (logs : Logs) (unit event line : ℕ) (knows : List ℕ) (state : ChunkState) → IsNoted i logs unit event line knows state → is_live (known_image i (after logs (ResetDone unit event) knows)) line unit ≡ is_online_in state
 live_here i logs unit event line knows state is = live_is (known_image i (after logs (ResetDone unit event) knows)) line unit ∙ tested_now is_online_in i logs unit event line knows state is
 
-bits_same : (i : Image) (w : World) (ls new : Logs) (l : ℕ) → IsPlainWorld i w → ((u : ℕ) → is_live (known_image i new) l u ≡ is_live (known_image i ls) l u) → live_now i new l ≡ live_now i ls l
-bits_same i w ls new l plain same =
-    live_bits i w new l plain ∙ ap bits_of (filter_same (is_live (known_image i new) l) (is_live (known_image i ls) l) same (range_with_len 0 (units i.shape))) ∙ sym (live_bits i w ls l plain)
+bits_same : (i : Image) (w : World) (ls new : Logs) (l : ℕ) → IsSimpleMount i w → ((u : ℕ) → is_live (known_image i new) l u ≡ is_live (known_image i ls) l u) → live_now i new l ≡ live_now i ls l
+bits_same i w ls new l simple same =
+    live_bits i w new l simple ∙ ap bits_of (filter_same (is_live (known_image i new) l) (is_live (known_image i ls) l) same (range_with_len 0 (units i.shape))) ∙ sym (live_bits i w ls l simple)
 
-pub units_kept : (i : Image) (w : World) (unit event line : ℕ) (knows : List ℕ) (state : ChunkState) → IsPlainWorld i w → IsNamedReset i (log_of w) line unit → IsNoted i (log_of w) unit event line knows state
+pub units_kept : (i : Image) (w : World) (unit event line : ℕ) (knows : List ℕ) (state : ChunkState) → IsSimpleMount i w → IsNamedReset i (log_of w) line unit → IsNoted i (log_of w) unit event line knows state
     → kept_units (map (live_now i (log_of w)) (range_with_len 0 i.shape.chunks)) line unit state ≡ map (live_now i (after (log_of w) (ResetDone unit event) knows)) (range_with_len 0 i.shape.chunks)
-units_kept i w unit event line knows state plain named is = go (is_online_in state) refl
+units_kept i w unit event line knows state simple named is = go (is_online_in state) refl
   where
     logs : Logs
     logs = log_of w
@@ -92,10 +93,10 @@ units_kept i w unit event line knows state plain named is = go (is_online_in sta
     old_list = map (live_now i logs) (range_with_len 0 i.shape.chunks)
 
     other_line : (l : ℕ) → l ≢ line → live_now i new l ≡ live_now i logs l
-    other_line l other = bits_same i w logs new l plain (λ u. live_else i logs unit event line knows state is l u (inl other))
+    other_line l other = bits_same i w logs new l simple (λ u. live_else i logs unit event line knows state is l u (inl other))
 
     online_line : is_online_in state ≡ true → live_now i new line ≡ live_now i logs line
-    online_line online = bits_same i w logs new line plain (λ u. by u (nat_eq u unit) refl)
+    online_line online = bits_same i w logs new line simple (λ u. by u (nat_eq u unit) refl)
       where
         by : (u : ℕ) (b : Bool) → nat_eq u unit ≡ b → is_live (known_image i new) line u ≡ is_live (known_image i logs) line u
         by u true e =
@@ -106,8 +107,8 @@ units_kept i w unit event line knows state plain named is = go (is_online_in sta
 
     less : is_online_in state ≡ false → live_now i new line ≡ live_now i logs line - 2 ^ unit
     less offline =
-        let old : live_now i logs line ≡ bits_of (filter (is_live (known_image i logs) line) (range_with_len 0 (units i.shape))) = live_bits i w logs line plain in
-        let now : live_now i new line ≡ bits_of (filter (is_live (known_image i new) line) (range_with_len 0 (units i.shape))) = live_bits i w new line plain in
+        let old : live_now i logs line ≡ bits_of (filter (is_live (known_image i logs) line) (range_with_len 0 (units i.shape))) = live_bits i w logs line simple in
+        let now : live_now i new line ≡ bits_of (filter (is_live (known_image i new) line) (range_with_len 0 (units i.shape))) = live_bits i w new line simple in
         let fewer : bits_of (filter (is_live (known_image i logs) line) (range_with_len 0 (units i.shape))) ≡ bits_of (filter (is_live (known_image i new) line) (range_with_len 0 (units i.shape))) + 2 ^ unit =
         bits_less (is_live (known_image i logs) line) (is_live (known_image i new) line) (units i.shape) unit named.unit_in_range (was_live i logs unit event line knows state is)
         (live_here i logs unit event line knows state is ∙ offline) (λ u other. live_else i logs unit event line knows state is line u (inr other)) in
@@ -131,10 +132,10 @@ units_kept i w unit event line knows state plain named is = go (is_online_in sta
         (λ l other. other_line l (λ same. other (same ∙ sym from))))
 
 -- its unit was one of the line's
-pub unit_was_in : (i : Image) (w : World) (line unit : ℕ) → IsPlainWorld i w → IsNamedReset i (log_of w) line unit → 2 ^ unit ≤ live_now i (log_of w) line
-unit_was_in i w line unit plain named = subst (λ n. 2 ^ unit ≤ n) (sym (live_bits i w (log_of w) line plain))
-    (bit_in (is_live (known_image i (log_of w)) line) (units i.shape) unit named.unit_in_range
-    (live_is (known_image i (log_of w)) line unit ∙ ap (test_chunk is_online_in) named.is_chunk ∙ used_online named.chunk.state named.used))
+pub unit_was_in : (i : Image) (w : World) (line unit : ℕ) → IsSimpleMount i w → IsNamedReset i (log_of w) line unit → is_in (live_now i (log_of w) line) unit ≡ true
+unit_was_in i w line unit simple named = ap (λ n. is_in n unit) (live_bits i w (log_of w) line simple)
+    ∙ bit_is (is_live (known_image i (log_of w)) line) (units i.shape) unit named.unit_in_range
+    ∙ (live_is (known_image i (log_of w)) line unit ∙ ap (test_chunk is_online_in) named.is_chunk ∙ used_online named.chunk.state named.used)
 
 -- ---- a line of which no chunk is used is empty
 

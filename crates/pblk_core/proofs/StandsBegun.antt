@@ -16,7 +16,7 @@ use Rattle.pblk_model.specs.Image.{Image, IsFit}
 use Rattle.pblk_model.specs.StartRecord.{Row}
 use Rattle.pblk_meta.specs.Records.{start_numbers}
 use Rattle.pblk_laws.specs.LineBlocks.{chunk_in}
-use Rattle.pblk_world.specs.Events.{Begin}
+use Rattle.pblk_world.specs.Events.{Begin, Decides}
 use Rattle.pblk_world.specs.World.{World, Logs, log_of}
 use Rattle.pblk_world.specs.EngineLog.{Opening, Taken}
 use Rattle.pblk_world.specs.Lines.{found_image, known_image, is_stray, is_given_up}
@@ -25,7 +25,7 @@ use Rattle.stripe_placer.specs.Placing.{Placing}
 use Rattle.core_laws.specs.Stepping.{after}
 use Rattle.core_laws.specs.OpenedLines.{open_line}
 use Rattle.core_laws.specs.PlacerOf.{placing_of, unanswered_on}
-use Rattle.core_laws.specs.PlainWorlds.{IsPlainWorld}
+use Rattle.core_laws.specs.SimpleMounts.{IsSimpleMount}
 use Rattle.core_laws.specs.WindowOf.{sectors_in, window_from, HeldSectors, HeldSector, without_frame}
 use Rattle.found_laws.specs.Finding.{IsFoundOf, taken_state}
 use Rattle.found_laws.specs.Beginnings.{seq_after, beginning_of}
@@ -44,6 +44,7 @@ use Rattle.pblk_core.specs.OlderLines.{older_found}
 use Rattle.pblk_core.specs.Resets.{is_used_state, is_used_in, is_used_at, used_units, used_below, in_line, resets_found, resets_of}
 use Rattle.pblk_core.specs.Stands.{Stands, IsOlder, left_openings}
 use Rattle.pblk_core.specs.declared.target_core.Core.{Core}
+use Rattle.pblk_core.proofs.SimpleLogs.{simple_after, simple_none}
 use Rattle.pblk_core.proofs.KeptResets.{flat_same}
 use Rattle.lemmas.proofs.Lists.{all_of}
 use Rattle.lemmas.proofs.Maps.{filter_none, filter_same}
@@ -135,9 +136,10 @@ resets_begun j f fit found =
 
 -- ---- the core
 
-pub made_stands : (i : Image) (w : World) (knows : List ℕ) (f : Found) (c : Core) → IsPlainWorld i w → log_of w 0 ≡ [] → IsFitFound i.shape f → IsFoundOf (found_image i (after (log_of w) (Begin (beginning_of f)) knows)) f → IsMadeOn i.shape f c
+pub made_stands : (i : Image) (w : World) (knows : List ℕ) (f : Found) (c : Core) → IsSimpleMount i w → log_of w 0 ≡ [] → IsFitFound i.shape f → IsFoundOf (found_image i (after (log_of w) (Begin (beginning_of f)) knows)) f → IsMadeOn i.shape f c
     → Stands i (after (log_of w) (Begin (beginning_of f)) knows) c
-made_stands i w knows f c plain none fit found is = record {
+made_stands i w knows f c simple none fit found is = record {
+  simple = simple_after (log_of w 0) (record { event = Decides (Begin (beginning_of f)); knows = knows }) (simple_none (log_of w 0) none) refl refl refl refl;
   layout = is.layout;
   beginning = record { beginning = beginning_of f; knows = begins.knows };
   has_begun = begun_is i f new begins;
@@ -181,7 +183,7 @@ made_stands i w knows f c plain none fit found is = record {
     new = after (log_of w) (Begin (beginning_of f)) knows
 
     begins : HasJustBegun i f new
-    begins = just_begun i w f knows plain.accepted plain.fit plain.legal none found
+    begins = just_begun i w f knows simple.mount.accepted simple.mount.fit simple.mount.legal none found
 
     shape_is : (found_image i new).shape ≡ i.shape
     shape_is = ap (λ (j : Image). j.shape) (sym (knows_found i f new begins))
@@ -203,10 +205,10 @@ made_stands i w knows f c plain none fit found is = record {
     window_empty = same_window c.window.users 0 (map without_frame c.window.entries) [] is.no_users (ap (map without_frame) is.entries) ∙ sym (window_is i f new c.window.freed begins)
 
 -- for a drive of this shape
-pub made_on : (i : Image) (w : World) (knows : List ℕ) (s : Shape) (f : Found) (c : Core) → i.shape ≡ s → IsPlainWorld i w → log_of w 0 ≡ [] → IsFitFound s f → IsFoundOf (found_image i (after (log_of w) (Begin (beginning_of f)) knows)) f → IsMadeOn s f c
+pub made_on : (i : Image) (w : World) (knows : List ℕ) (s : Shape) (f : Found) (c : Core) → i.shape ≡ s → IsSimpleMount i w → log_of w 0 ≡ [] → IsFitFound s f → IsFoundOf (found_image i (after (log_of w) (Begin (beginning_of f)) knows)) f → IsMadeOn s f c
     → Stands i (after (log_of w) (Begin (beginning_of f)) knows) c
-made_on i w knows s f c same plain none fit found is =
-    made_stands i w knows f c plain none (subst (λ (x : Shape). IsFitFound x f) (sym same) fit) found (subst (λ (x : Shape). IsMadeOn x f c) (sym same) is)
+made_on i w knows s f c same simple none fit found is =
+    made_stands i w knows f c simple none (subst (λ (x : Shape). IsFitFound x f) (sym same) fit) found (subst (λ (x : Shape). IsMadeOn x f c) (sym same) is)
 
 -- what holds of each core that was made
 pub if_made : {E : Type 0} (r : Result Core E) (P Q : Core → Type 0) → ((c : Core) → P c → Q c) → IfOk r P → IfOk r Q

@@ -13,7 +13,7 @@ use Rattle.pblk_world.specs.Fronts.{first_position, taken, synced, is_users, use
 use Rattle.pblk_world.specs.Space.{freed}
 use Rattle.pblk_world.proofs.SyncedFront.{synced_within}
 use Rattle.write_window.specs.Window as view
-use Rattle.core_laws.specs.PlainWorlds.{IsPlainWorld}
+use Rattle.core_laws.specs.SimpleMounts.{IsSimpleMount}
 use Rattle.core_laws.specs.Positions.{IsUnplaced}
 use Rattle.core_laws.specs.WindowOf.{without_frame, held_of, HeldSectors}
 use Rattle.core_laws.proofs.PlacedPositions.{taken_is_unplaced}
@@ -45,8 +45,8 @@ window_taken_is i w c st =
     let high : c.window.freed ≤ first_position (log_of w 0) + length (takes (log_of w 0)) = freed_taken_within i w c st in
     omega arith
 
-pub next_is_unplaced : (i : Image) (w : World) → IsPlainWorld i w → IsUnplaced i.shape (log_of w 0) (taken (log_of w 0))
-next_is_unplaced i w plain = taken_is_unplaced i.shape (log_of w 0) (in_order i w (accepted_small i.shape plain.accepted) plain.legal).taken
+pub next_is_unplaced : (i : Image) (w : World) → IsSimpleMount i w → IsUnplaced i.shape (log_of w 0) (taken (log_of w 0))
+next_is_unplaced i w simple = taken_is_unplaced i.shape (log_of w 0) (in_order i w (accepted_small i.shape simple.mount.accepted) simple.mount.legal).taken
 
 -- how many users' writes were taken
 pub users_few : (i : Image) (w : World) (c : Core) → Stands i (log_of w) c → c.users ≤ taken (log_of w 0)

@@ -20,7 +20,7 @@ use Rattle.stripe_placer.specs.Placing.{Program, landed}
 use Rattle.core_laws.specs.Stepping.{after}
 use Rattle.core_laws.specs.OpenedLines.{live_now}
 use Rattle.core_laws.specs.PlacerOf.{IsAwaited, placing_of}
-use Rattle.core_laws.specs.PlainWorlds.{IsPlainWorld}
+use Rattle.core_laws.specs.SimpleMounts.{IsSimpleMount}
 use Rattle.core_laws.specs.RowsOf.{rows_of}
 use Rattle.core_laws.specs.SlotOf.{slot_of}
 use Rattle.core_laws.specs.WindowOf.{is_given_back, sectors_in, window_from}
@@ -49,6 +49,7 @@ use Rattle.pblk_core.specs.declared.hold.Hold.{Hold}
 use Rattle.pblk_core.specs.declared.hold.Holds.{Holds}
 use Rattle.pblk_core.specs.declared.open_lines.OpenLine.{OpenLine}
 use Rattle.pblk_core.specs.declared.open_lines.OpenLines.{OpenLines}
+use Rattle.pblk_core.proofs.SimpleLogs.{simple_after}
 use Rattle.pblk_core.proofs.LandedLines.{HasSlot, fewer_landed}
 use Rattle.pblk_core.proofs.ChunkRows.{rows_of_chunks}
 use Rattle.pblk_core.proofs.LandedLogs.{takes_landed, openings_landed, users_landed, stripes_landed, live_landed, freed_landed, chunk_landed, one_less_under_way}
@@ -91,20 +92,20 @@ end_is i w unit of is =
 
 -- ---- the table
 
-pub whole_now : (i : Image) (w : World) (unit event : ℕ) (knows : List ℕ) (of : Program) → IsPlainWorld i w → (is : IsOnWay i w unit of)
+pub whole_now : (i : Image) (w : World) (unit event : ℕ) (knows : List ℕ) (of : Program) → IsSimpleMount i w → (is : IsOnWay i w unit of)
     → have_landed (after (log_of w) (Landed unit event) knows 0) is.row.opening (line_end i.shape is.row.opening / i.shape.ws_opt) ≡ (landed_count (log_of w 0) is.row.opening + 1 == stripe_count i (now_units i w) is.row.opening.line)
-whole_now i w unit event knows of plain is =
-    let room : HasRoom i.shape (log_of w 0) is.row.opening = has_room i w is.row.stripe.stripe.line is.row.opening plain is.stands in
+whole_now i w unit event knows of simple is =
+    let room : HasRoom i.shape (log_of w 0) is.row.opening = has_room i w is.row.stripe.stripe.line is.row.opening simple is.stands in
     landed_whole i.shape (after (log_of w) (Landed unit event) knows 0) is.row.opening is.line_is.striped.some
     (record { some = room.some; within = subst (λ (ps : List Placed). length ps * i.shape.ws_opt ≤ line_end i.shape is.row.opening) (sym (stripes_landed (log_of w) unit event knows is.row.opening)) room.within })
     ∙ ap₂ (λ m n. m == n) (one_landed (log_of w 0) unit event knows is.row.stripe is.row.opening is.row.waits (ap (is_life is.row.opening.number) is.row.life ∙ same_number is.row.opening.number)) (end_is i w unit of is)
 
-pub table_now : (i : Image) (w : World) (unit event : ℕ) (knows : List ℕ) (of : Program) (full : Bool) → IsPlainWorld i w → (is : IsOnWay i w unit of) → MayLand (log_of w) unit event
+pub table_now : (i : Image) (w : World) (unit event : ℕ) (knows : List ℕ) (of : Program) (full : Bool) → IsSimpleMount i w → (is : IsOnWay i w unit of) → MayLand (log_of w) unit event
     → (landed_count (log_of w 0) is.row.opening + 1 == stripe_count i (now_units i w) is.row.opening.line) ≡ full → rows_of i (after (log_of w) (Landed unit event) knows) ≡ with_row of.line (full_if full) (rows_of i (log_of w))
-table_now i w unit event knows of full plain is may e =
-    let order = in_order i w plain in
-    rows_landed i (log_of w) unit event knows is.row.stripe is.row.opening order.freed order.failed is.row.waits is.row.life is.stands (chunk_landed i w unit event is.row.stripe plain may is.row.waits)
-    ∙ ap₂ (λ ln b. with_row ln (full_if b) (rows_of i (log_of w))) (sym is.its_line ∙ line_of_way i w unit of is) (whole_now i w unit event knows of plain is ∙ e)
+table_now i w unit event knows of full simple is may e =
+    let order = in_order i w simple in
+    rows_landed i (log_of w) unit event knows is.row.stripe is.row.opening order.freed order.failed is.row.waits is.row.life is.stands (chunk_landed i w unit event is.row.stripe simple may is.row.waits)
+    ∙ ap₂ (λ ln b. with_row ln (full_if b) (rows_of i (log_of w))) (sym is.its_line ∙ line_of_way i w unit of is) (whole_now i w unit event knows of simple is ∙ e)
 
 -- ---- the rows beside the entries
 
@@ -115,14 +116,14 @@ given_before false b e = refl
 abbrev told_hold : Taken → Option ℕ → Option Taken → Option Hold
 told_hold t ln u = Some (record { mark = t.mark; line = ln; taker = option_map (λ (v : Taken). v.entry.position) u })
 
-holds_now : (i : Image) (w : World) (unit event : ℕ) (knows : List ℕ) (of : Program) (kept : Holds) → IsPlainWorld i w → (is : IsOnWay i w unit of) → AreHolds i.shape (log_of w 0) kept → AreHolds i.shape (after (log_of w) (Landed unit event) knows 0) kept
-holds_now i w unit event knows of kept plain is are = record {
+holds_now : (i : Image) (w : World) (unit event : ℕ) (knows : List ℕ) (of : Program) (kept : Holds) → IsSimpleMount i w → (is : IsOnWay i w unit of) → AreHolds i.shape (log_of w 0) kept → AreHolds i.shape (after (log_of w) (Landed unit event) knows 0) kept
+holds_now i w unit event knows of kept simple is are = record {
   room = are.room;
   each = λ t there given.
       let l : Logged = record { event = Decides (Landed unit event); knows = knows } in
       let before : is_given_back i.shape (log_of w 0) t.entry.position ≡ false =
       given_before (is_given_back i.shape (log_of w 0) t.entry.position) (can_be_read i.shape (after (log_of w) (Landed unit event) knows 0) is.row.opening unit t.entry.position)
-      (sym (given_back_landed i w unit event knows is.row.stripe is.row.opening t.entry.position plain is.row.waits is.row.life (rows_of_chunks i w is.row.opening unit plain)) ∙ given) in
+      (sym (given_back_landed i w unit event knows is.row.stripe is.row.opening t.entry.position simple is.row.waits is.row.life (rows_of_chunks i w is.row.opening unit simple)) ∙ given) in
       are.each t (subst (λ (ts : List Taken). Contains ts t) (takes_landed (log_of w) unit event knows) there) before
       ∙ ap₂ (λ ln (u : Option Taken). told_hold t ln u)
       (sym (line_same i.shape (log_of w 0) l t.entry.position refl)) (sym (later_same (log_of w 0) l t refl));
@@ -177,23 +178,24 @@ full_by i w unit of left false is e last none =
 number_less : (m n : ℕ) → m ≤ n → (m == n) ≡ false → m < n
 number_less m n h e = grind arith
 
-pub landed_stands : (i : Image) (w : World) (unit event : ℕ) (knows : List ℕ) (old new : Core) (of : Program) (mid : OpenLines) (full : Bool) (from to : ℕ) → IsPlainWorld i w → (st : Stands i (log_of w) old)
+pub landed_stands : (i : Image) (w : World) (unit event : ℕ) (knows : List ℕ) (old new : Core) (of : Program) (mid : OpenLines) (full : Bool) (from to : ℕ) → IsSimpleMount i w → (st : Stands i (log_of w) old)
     → (is : IsOnWay i w unit of) → IsAwaited i (log_of w) old.placer.entries.pad [] of → MayLand (log_of w) unit event → (has : HasSlot i (log_of w) old.open is.row.opening)
     → IsLandedInto old new of has.k has.slot mid full from to → AreReadNow i w unit event knows old new → Stands i (after (log_of w) (Landed unit event) knows) new
-landed_stands i w unit event knows old new of mid full from to plain st is waits may has into reads = record {
+landed_stands i w unit event knows old new of mid full from to simple st is waits may has into reads = record {
+  simple = simple_after (log_of w 0) (record { event = Decides (Landed unit event); knows = knows }) st.simple refl refl refl refl;
   layout = into.layout ∙ st.layout;
   beginning = st.beginning;
   has_begun = begun_kept (log_of w 0) (Landed unit event) knows refl ∙ st.has_begun;
   capacity = into.capacity ∙ st.capacity;
   slots = reads.slots;
-  table = into.lines ∙ ap (with_row of.line (full_if full)) st.table ∙ sym (table_now i w unit event knows of full plain is may full_is);
-  units = ap (λ l. l.items) into.live ∙ st.units ∙ same_in_range (live_now i (log_of w)) (live_now i new_logs) 0 i.shape.chunks (λ line inside. sym (live_landed i w unit event knows is.row.stripe st.beginning line plain may is.row.waits st.has_begun));
-  resets = ap resets_left into.resets ∙ st.resets ∙ sym (resets_landed i w unit event knows is.row.stripe st.beginning plain may is.row.waits st.has_begun (ap is_opened is.stands));
+  table = into.lines ∙ ap (with_row of.line (full_if full)) st.table ∙ sym (table_now i w unit event knows of full simple is may full_is);
+  units = ap (λ l. l.items) into.live ∙ st.units ∙ same_in_range (live_now i (log_of w)) (live_now i new_logs) 0 i.shape.chunks (λ line inside. sym (live_landed i w unit event knows is.row.stripe st.beginning line simple may is.row.waits st.has_begun));
+  resets = ap resets_left into.resets ∙ st.resets ∙ sym (resets_landed i w unit event knows is.row.stripe st.beginning simple may is.row.waits st.has_begun (ap is_opened is.stands));
   size = ap (λ v. v.size) into.window ∙ (reads_keep (all_landed old.window of.positions) (reads_of has.slot of.unit from to)).1 ∙ (landed_keeps old.window of.positions).1 ∙ st.size;
   window = reads.window;
   from_first = subst (λ n. first_position (new_logs 0) ≤ n) (sym same_freed) (subst (λ p. p ≤ old.window.freed) (sym first_is) st.from_first);
-  to_freed = subst (λ n. n ≤ freed i.shape (new_logs 0)) (sym same_freed) (le_trans st.to_freed (freed_landed i w st.beginning unit event knows plain may));
-  holds = subst (AreHolds i.shape (new_logs 0)) (sym into.holds) (holds_now i w unit event knows of old.holds plain is st.holds);
+  to_freed = subst (λ n. n ≤ freed i.shape (new_logs 0)) (sym same_freed) (le_trans st.to_freed (freed_landed i w st.beginning unit event knows simple may));
+  holds = subst (AreHolds i.shape (new_logs 0)) (sym into.holds) (holds_now i w unit event knows of old.holds simple is st.holds);
   placing = placing_is;
   open_lines = open_is full refl;
   next_seq = ap (λ r. r.seq) into.start ∙ st.next_seq ∙ ap (λ os. st.beginning.beginning.seq + length os) (sym (openings_landed (log_of w) unit event knows));
@@ -224,15 +226,15 @@ landed_stands i w unit event knows old new of mid full from to plain st is waits
     few = fewer_landed i w unit of is
 
     open_is : (b : Bool) → full ≡ b → AreOpenLines i (after (log_of w) (Landed unit event) knows) new.open
-    open_is true e = line_leaves i w unit event knows old.placer.entries.pad of old.open mid new.open plain is waits st.open_lines has into.in_slot (into.gone e)
+    open_is true e = line_leaves i w unit event knows old.placer.entries.pad of old.open mid new.open simple is waits st.open_lines has into.in_slot (into.gone e)
         (number_same (landed_count (log_of w 0) is.row.opening + 1) (stripe_count i (now_units i w) is.row.opening.line) (full_is ∙ e))
     open_is false e = subst (AreOpenLines i (after (log_of w) (Landed unit event) knows)) (sym (into.stay e))
-        (lines_stay i w unit event knows old.placer.entries.pad of old.open mid plain is waits st.open_lines has into.in_slot
+        (lines_stay i w unit event knows old.placer.entries.pad of old.open mid simple is waits st.open_lines has into.in_slot
         (number_less (landed_count (log_of w 0) is.row.opening + 1) (stripe_count i (now_units i w) is.row.opening.line) few (full_is ∙ e)))
 
     flight : new.under_way ≡ under_way i.shape (new_logs 0)
     flight =
-        let less : under_way i.shape (log_of w 0) ≡ under_way i.shape (new_logs 0) + 1 = one_less_under_way i w unit event knows is.row.stripe plain is.row.inside is.row.waits in
+        let less : under_way i.shape (log_of w 0) ≡ under_way i.shape (new_logs 0) + 1 = one_less_under_way i w unit event knows is.row.stripe simple is.row.inside is.row.waits in
         let was : old.under_way ≡ under_way i.shape (log_of w 0) = st.in_flight in
         into.under_way ∙ (let n : old.under_way - 1 ≡ under_way i.shape (new_logs 0) = omega arith in n)
 

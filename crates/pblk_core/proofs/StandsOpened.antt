@@ -25,10 +25,11 @@ use Rattle.line_table.specs.Rows.{Changes, turned}
 use Rattle.line_table.proofs.Places.{get_within, get_set_same, get_set_other, each_more}
 use Rattle.stripe_placer.specs.Placing.{begun as line_begun}
 use Rattle.write_window.specs.Window as view
+use Rattle.core_laws.proofs.SimpleMounts.{engine_plain}
 use Rattle.core_laws.specs.Stepping.{after}
 use Rattle.core_laws.specs.OpenedLines.{bits_of, live_now, open_line, standing}
 use Rattle.core_laws.specs.PlacerOf.{placing_of}
-use Rattle.core_laws.specs.PlainWorlds.{IsPlainWorld}
+use Rattle.core_laws.specs.SimpleMounts.{IsSimpleMount}
 use Rattle.core_laws.specs.RowsOf.{rows_of, row_of_line}
 use Rattle.core_laws.specs.WindowOf.{is_given_back, sectors_in, window_from}
 use Rattle.core_laws.proofs.Engine.{prefix_whole}
@@ -58,6 +59,7 @@ use Rattle.pblk_core.specs.Stands.{Stands, AreHolds, AreOpenLines, IsOpenLine, l
 use Rattle.pblk_core.specs.Named.{next_line, next_units, next_start}
 use Rattle.stripe_placer.specs.OpenLines.{has_left}
 use Rattle.std.proofs.lemmas.Bool.Decides.{eqb_tells}
+use Rattle.pblk_core.proofs.SimpleLogs.{simple_after}
 use Rattle.pblk_core.proofs.OpeningFacts.{MayOpenNext, IsNextLine, next_line_is, next_may_open}
 use Rattle.pblk_core.proofs.SteadyLines.{open_same, under_way_same}
 use Rattle.pblk_core.proofs.FoundLines.{HasOldRow, free_unstarted, older_kept}
@@ -153,9 +155,9 @@ set_at lines n k x line inside there = go (eqb_tells k n)
 one_more : (n : ℕ) → n < 2 → n + 1 ≤ 2
 one_more n h = omega arith
 
-pub lines_opened : (i : Image) (w : World) (knows : List ℕ) (old new : Core) → IsPlainWorld i w → Stands i (log_of w) old → MayOpenNext old → IsOpenedInto old new
+pub lines_opened : (i : Image) (w : World) (knows : List ℕ) (old new : Core) → IsSimpleMount i w → Stands i (log_of w) old → MayOpenNext old → IsOpenedInto old new
     → AreOpenLines i (after (log_of w) (Open (next_line old) (next_start old)) knows) new.open
-lines_opened i w knows old new plain st may is = record {
+lines_opened i w knows old new simple st may is = record {
   two = ap length slots_are ∙ length-set old.open.slots.items old.open.count x ∙ st.open_lines.two;
   shapes = λ k line there. go k line (set_at old.open.slots.items old.open.count k x line inside (ap (λ ls. slice_get ls k) (sym slots_are) ∙ there));
   few = subst (λ n. n ≤ 2) (sym is.open_count) (one_more old.open.count may.few);
@@ -177,7 +179,7 @@ lines_opened i w knows old new plain st may is = record {
     alike = quiet_alike (log_of w 0) e knows quiet
 
     line_is : IsNextLine i w old
-    line_is = next_line_is i w old plain st may
+    line_is = next_line_is i w old simple st may
 
     inside : old.open.count < length old.open.slots.items
     inside = let two : length old.open.slots.items ≡ 2 = st.open_lines.two in let few : old.open.count < 2 = may.few in omega arith
@@ -232,9 +234,10 @@ lines_opened i w knows old new plain st may is = record {
               ∙ sym (ap (λ (ps : List Placed). (next_start old).width * (i.shape.clba / i.shape.ws_opt) - length (filter (has_landed (new_logs 0)) ps)) none);
         })
 
-pub opened_stands : (i : Image) (w : World) (knows : List ℕ) (old new : Core) → IsPlainWorld i w → Stands i (log_of w) old → MayOpenNext old → IsOpenedInto old new
+pub opened_stands : (i : Image) (w : World) (knows : List ℕ) (old new : Core) → IsSimpleMount i w → Stands i (log_of w) old → MayOpenNext old → IsOpenedInto old new
     → Stands i (after (log_of w) (Open (next_line old) (next_start old)) knows) new
-opened_stands i w knows old new plain st may is = record {
+opened_stands i w knows old new simple st may is = record {
+  simple = simple_after (log_of w 0) (record { event = Decides (Open (next_line old) (next_start old)); knows = knows }) st.simple refl refl refl refl;
   layout = is.layout ∙ st.layout;
   beginning = st.beginning;
   has_begun = begun_kept (log_of w 0) e knows refl ∙ st.has_begun;
@@ -252,7 +255,7 @@ opened_stands i w knows old new plain st may is = record {
       subst (λ v. v.freed ≤ freed i.shape (new_logs 0)) (sym is.window) (omega arith);
   holds = subst (AreHolds i.shape (new_logs 0)) (sym is.holds) (quiet_holds i.shape (log_of w 0) e knows old.holds quiet st.holds);
   placing = placing_is;
-  open_lines = lines_opened i w knows old new plain st may is;
+  open_lines = lines_opened i w knows old new simple st may is;
   next_seq = is.seq ∙ seq_is;
   first_seq = is.first_seq ∙ st.first_seq;
   own_capacity = is.own_capacity ∙ st.own_capacity;
@@ -278,16 +281,16 @@ opened_stands i w knows old new plain st may is = record {
     alike = quiet_alike (log_of w 0) e knows quiet
 
     line_is : IsNextLine i w old
-    line_is = next_line_is i w old plain st may
+    line_is = next_line_is i w old simple st may
 
     allowed : MayOpen i (log_of w) st.beginning (next_line old) (next_start old)
-    allowed = next_may_open i w old st.beginning plain st may st.has_begun
+    allowed = next_may_open i w old st.beginning simple st may st.has_begun
 
     first_is : first_position (new_logs 0) ≡ first_position (log_of w 0)
     first_is = first_stays (log_of w 0) (record { event = Decides e; knows = knows }) st.beginning st.has_begun
 
     old_row : (line : ℕ) (c : Bool) → nat_eq (next_line old) line ≡ c → HasOldRow i (log_of w) (after (log_of w) (Open (next_line old) (next_start old)) knows) line
-    old_row line true f = inr (ap (λ n. start_of (found_image i (log_of w)) n) (sym (eqb-true (next_line old) line f)) ∙ free_unstarted i (log_of w) (next_line old) plain.engine line_is.least.is_free)
+    old_row line true f = inr (ap (λ n. start_of (found_image i (log_of w)) n) (sym (eqb-true (next_line old) line f)) ∙ free_unstarted i (log_of w) (next_line old) (engine_plain i w simple) line_is.least.is_free)
     old_row line false f = inl (ap is_as_found (life_more (log_of w 0) (record { event = Decides (Open (next_line old) (next_start old)); knows = knows }) line
         ∙ ap (λ c. if c then Opened (record { number = length (log_of w 0); line = line; start = next_start old; knows = knows }) else life_of (log_of w 0) line) f))
 
@@ -298,7 +301,7 @@ opened_stands i w knows old new plain st may is = record {
     table_is =
         changed_is old.lines new.lines (next_line old) (turned states.Open (next_start old).width) (row_of_line i (log_of w) (0 + next_line old)) there is.lines
         ∙ ap (with_row (next_line old) (turned states.Open (next_start old).width)) st.table
-        ∙ sym (rows_opened i (log_of w) st.beginning (next_line old) (next_start old) knows plain.accepted.drive (none_freed (log_of w 0) plain.engine) allowed)
+        ∙ sym (rows_opened i (log_of w) st.beginning (next_line old) (next_start old) knows simple.mount.accepted.drive (none_freed (log_of w 0) (engine_plain i w simple)) allowed)
 
     placing_is : new.placer ≡ placing_of i new_logs new.placer.entries.pad []
     placing_is =

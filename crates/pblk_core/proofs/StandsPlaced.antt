@@ -38,7 +38,7 @@ use Rattle.landing_laws.proofs.QuietEvents.{place_kept, place_window, place_slot
 use Rattle.landing_laws.proofs.Untouched.{AreKept, given_kept}
 use Rattle.core_laws.specs.OpenedLines.{bits_of, live_now, open_line, standing}
 use Rattle.core_laws.specs.PlacerOf.{placing_of, positions_of, positions_in_stripe, entries_of, IsStripeOf}
-use Rattle.core_laws.specs.PlainWorlds.{IsPlainWorld}
+use Rattle.core_laws.specs.SimpleMounts.{IsSimpleMount}
 use Rattle.core_laws.specs.RowsOf.{rows_of}
 use Rattle.core_laws.specs.Stepping.{after}
 use Rattle.core_laws.specs.WindowOf.{is_given_back, sectors_in, window_from}
@@ -59,6 +59,7 @@ use Rattle.pblk_core.specs.Holds.{hold_of, row_at}
 use Rattle.pblk_core.specs.declared.hold.Hold.{Hold}
 use Rattle.pblk_core.specs.declared.target_core.Core.{Core}
 use Rattle.pblk_core.specs.declared.open_lines.OpenLine.{OpenLine as KeptLine}
+use Rattle.pblk_core.proofs.SimpleLogs.{simple_after}
 use Rattle.pblk_core.proofs.PlacedEntries.{rows_length, row_placed_is, lines_placed_are}
 use Rattle.pblk_core.proofs.PlacedMarks.{line_blocks, marks_before, marks_more, marks_beyond, marks_elsewhere, unlanded_placed, one_more_under_way}
 use Rattle.pblk_core.proofs.PlacedStripe.{IsOfferedNow, IsInPart, IsOfKind, of_kind, HasSlot}
@@ -163,25 +164,25 @@ blocks_short s log o at kinds.Data other =
 blocks_short s log o at kinds.Pad other = absurd (other refl)
 blocks_short s log o at kinds.End other = short_range _ (at - end_address s o) s.ws_opt
 
-placed_blocks : (i : Image) (w : World) (o : Opening) → IsPlainWorld i w → length (line_blocks (log_of w 0) o) ≡ next_address i.shape (log_of w 0) o
-placed_blocks i w o plain =
+placed_blocks : (i : Image) (w : World) (o : Opening) → IsSimpleMount i w → length (line_blocks (log_of w 0) o) ≡ next_address i.shape (log_of w 0) o
+placed_blocks i w o simple =
     blocks_length i.shape.ws_opt (stripes_of (log_of w 0) o)
-    (all_filter (λ (p : Placed). length p.stripe.blocks ≡ i.shape.ws_opt) (λ (p : Placed). is_life o.number p.life) (placements (log_of w 0)) (have_blocks i w plain.accepted plain.legal).blocks)
+    (all_filter (λ (p : Placed). length p.stripe.blocks ≡ i.shape.ws_opt) (λ (p : Placed). is_life o.number p.life) (placements (log_of w 0)) (have_blocks i w simple.mount.accepted simple.mount.legal).blocks)
 
-marks_by_kind : (i : Image) (w : World) (stripe : Stripe) (knows : List ℕ) (o : Opening) (at : ℕ) (kind : StripeKind) → IsPlainWorld i w → life_of (log_of w 0) stripe.line ≡ Opened o
+marks_by_kind : (i : Image) (w : World) (stripe : Stripe) (knows : List ℕ) (o : Opening) (at : ℕ) (kind : StripeKind) → IsSimpleMount i w → life_of (log_of w 0) stripe.line ≡ Opened o
     → at ≡ next_address i.shape (log_of w 0) o → IsInPart i.shape o at kind → length stripe.blocks ≤ i.shape.ws_opt
     → data_marks i.shape (with_place (log_of w 0) stripe knows) o ≡ data_marks i.shape (log_of w 0) o ++ marks_for kind stripe
-marks_by_kind i w stripe knows o at kinds.Start plain opened is part short =
-    let long : length (line_blocks (log_of w 0) o) ≡ next_address i.shape (log_of w 0) o = placed_blocks i w o plain in
+marks_by_kind i w stripe knows o at kinds.Start simple opened is part short =
+    let long : length (line_blocks (log_of w 0) o) ≡ next_address i.shape (log_of w 0) o = placed_blocks i w o simple in
     marks_before i.shape (log_of w 0) stripe knows o opened (omega arith) ∙ sym (append-nil (data_marks i.shape (log_of w 0) o))
-marks_by_kind i w stripe knows o at kinds.Data plain opened is part short =
-    let long : length (line_blocks (log_of w 0) o) ≡ next_address i.shape (log_of w 0) o = placed_blocks i w o plain in
+marks_by_kind i w stripe knows o at kinds.Data simple opened is part short =
+    let long : length (line_blocks (log_of w 0) o) ≡ next_address i.shape (log_of w 0) o = placed_blocks i w o simple in
     let a = part.0 in
     let b = part.1 in
     marks_more i.shape (log_of w 0) stripe knows o opened (omega arith) (omega arith)
-marks_by_kind i w stripe knows o at kinds.Pad plain opened is part short = absurd part
-marks_by_kind i w stripe knows o at kinds.End plain opened is part short =
-    let long : length (line_blocks (log_of w 0) o) ≡ next_address i.shape (log_of w 0) o = placed_blocks i w o plain in
+marks_by_kind i w stripe knows o at kinds.Pad simple opened is part short = absurd part
+marks_by_kind i w stripe knows o at kinds.End simple opened is part short =
+    let long : length (line_blocks (log_of w 0) o) ≡ next_address i.shape (log_of w 0) o = placed_blocks i w o simple in
     marks_beyond i.shape (log_of w 0) stripe knows o opened (omega arith) ∙ sym (append-nil (data_marks i.shape (log_of w 0) o))
 
 -- ---- the open lines
@@ -232,17 +233,17 @@ left_number : (i : Image) (logs : Logs) (k : ℕ) (o : Opening) → slice_get (l
 left_number i logs k o e = all_at (λ (x : Opening). x.number < length (logs 0)) (left_openings i logs) k o e
     (all_filter (λ (x : Opening). x.number < length (logs 0)) (λ x. has_left (open_line i logs x)) (standing (logs 0)) (standing_before (logs 0)))
 
-line_of_it : (i : Image) (w : World) (stripe : Stripe) (knows : List ℕ) (o : Opening) (at : ℕ) (kind : StripeKind) (slot : KeptLine) → IsPlainWorld i w → IsPlacing (log_of w 0) stripe o
+line_of_it : (i : Image) (w : World) (stripe : Stripe) (knows : List ℕ) (o : Opening) (at : ℕ) (kind : StripeKind) (slot : KeptLine) → IsSimpleMount i w → IsPlacing (log_of w 0) stripe o
     → o.number < length (log_of w 0) → at ≡ next_address i.shape (log_of w 0) o → IsInPart i.shape o at kind → length stripe.blocks ≤ i.shape.ws_opt → IsOpenLine i (log_of w) o slot
     → IsOpenLine i (after (log_of w) (Place stripe) knows) o (slot_now kind slot stripe)
-line_of_it i w stripe knows o at kind slot plain placing before begins part short is = record {
+line_of_it i w stripe knows o at kind slot simple placing before begins part short is = record {
   records = record {
     shape = is.records.shape;
     line = is.records.line;
     width = is.records.width;
     seq = is.records.seq;
     start = is.records.start;
-    marks = ap (λ ms. ms ++ marks_for kind stripe) is.records.marks ∙ sym (marks_by_kind i w stripe knows o at kind plain placing.opened begins part short);
+    marks = ap (λ ms. ms ++ marks_for kind stripe) is.records.marks ∙ sym (marks_by_kind i w stripe knows o at kind simple placing.opened begins part short);
   };
   live = is.live ∙ ap bits_of (sym (units_same i (log_of w) (Place stripe) knows o before));
   left = is.left ∙ sym (unlanded_placed i.shape (log_of w 0) stripe knows o o placing);
@@ -275,10 +276,10 @@ record IsHere (i : Image) (w : World) (c : Core) (pad : ℕ) (o : Opening) (of :
   count : of.count ≡ length of.positions
   positions : of.positions ≡ positions_of (take (entries_for of.kind i.shape.ws_opt) (waiting i.shape (log_of w 0)))
 
-is_here : (i : Image) (w : World) (c : Core) (pad : ℕ) (o : Opening) (of : Program) (stripe : Stripe) → IsPlainWorld i w → IsOfferedNow i w pad o of → IsStripeFor i (log_of w) o of stripe → of.count ≡ length of.positions → IsHere i w c pad o of stripe
-is_here i w c pad o of stripe plain now for count =
+is_here : (i : Image) (w : World) (c : Core) (pad : ℕ) (o : Opening) (of : Program) (stripe : Stripe) → IsSimpleMount i w → IsOfferedNow i w pad o of → IsStripeFor i (log_of w) o of stripe → of.count ≡ length of.positions → IsHere i w c pad o of stripe
+is_here i w c pad o of stripe simple now for count =
     let its : IsStripeOf i (log_of w) pad o stripe of = now.its stripe for in
-    let kind : IsOfKind i (log_of w) o stripe of.kind = of_kind i w pad o of stripe plain now for in
+    let kind : IsOfKind i (log_of w) o stripe of.kind = of_kind i w pad o of stripe simple now for in
     record {
       now = now;
       for = for;
@@ -297,9 +298,9 @@ is_here i w c pad o of stripe plain now for count =
     no_pad kinds.Pad its e = its
     no_pad kinds.End its e = absurd cc
 
-lines_stand : (i : Image) (w : World) (knows : List ℕ) (old new : Core) (o : Opening) (of : Program) (stripe : Stripe) → IsPlainWorld i w → Stands i (log_of w) old → (has : HasSlot i (log_of w) old.open o)
+lines_stand : (i : Image) (w : World) (knows : List ℕ) (old new : Core) (o : Opening) (of : Program) (stripe : Stripe) → IsSimpleMount i w → Stands i (log_of w) old → (has : HasSlot i (log_of w) old.open o)
     → IsHere i w old old.placer.entries.pad o of stripe → IsPlacedInto old new has.k has.slot of stripe → AreOpenLines i (after (log_of w) (Place stripe) knows) new.open
-lines_stand i w knows old new o of stripe plain st has here is = record {
+lines_stand i w knows old new o of stripe simple st has here is = record {
   two = ap (λ (ls : List KeptLine). length ls) is.open_slots ∙ slots_count of.kind old.open.slots.items has.k has.slot stripe ∙ st.open_lines.two;
   shapes = λ k line there. shape_of k line there;
   count = is.open_count ∙ st.open_lines.count ∙ ap (λ (os : List Opening). length os) (sym left);
@@ -312,7 +313,7 @@ lines_stand i w knows old new o of stripe plain st has here is = record {
     new_logs = after (log_of w) (Place stripe) knows
 
     left : left_openings i (after (log_of w) (Place stripe) knows) ≡ left_openings i (log_of w)
-    left = left_placed i (log_of w) knows old.placer.entries.pad o stripe of plain.accepted.drive.ws_opt here.its
+    left = left_placed i (log_of w) knows old.placer.entries.pad o stripe of simple.mount.accepted.drive.ws_opt here.its
 
     apart : (k : ℕ) → nat_eq k has.k ≡ false → k ≢ has.k
     apart k e f = absurd (true_false (sym (ap (λ m. nat_eq m has.k) f ∙ same_number has.k) ∙ e))
@@ -342,7 +343,7 @@ lines_stand i w knows old new o of stripe plain st has here is = record {
         here_now of.kind old.open.slots.items has.k has.slot line stripe has.there (ap (slice_get (slots_for of.kind old.open.slots.items has.k has.slot stripe)) (sym same) ∙ there) in
         subst (λ (p : Opening). IsOpenLine i (after (log_of w) (Place stripe) knows) p line) own
         (subst (IsOpenLine i (after (log_of w) (Place stripe) knows) o) (sym slot)
-        (line_of_it i w stripe knows o of.at of.kind has.slot plain here.placing (left_number i (log_of w) has.k o has.opening) here.now.at here.now.part here.short has.is))
+        (line_of_it i w stripe knows o of.at of.kind has.slot simple here.placing (left_number i (log_of w) has.k o has.opening) here.now.at here.now.part here.short has.is))
     by_place k other line at there false e =
         let before : slice_get old.open.slots.items k ≡ Some line = sym (else_now of.kind old.open.slots.items has.k k has.slot stripe (apart k e)) ∙ there in
         line_of_other i w stripe knows o other line here.placing (left_number i (log_of w) k other at)
@@ -360,27 +361,28 @@ freed_placed s log stripe knows o is first =
     subst (λ p. freed s log ≤ least_missing (is_given_back s new) (length (takes new)) p) (sym first)
     (least_rises (is_given_back s log) (is_given_back s new) (length (takes log)) (length (takes new)) (first_position log) (λ q e. given_kept s log new kept q ∙ e) more)
 
-pub placed_stands : (i : Image) (w : World) (knows : List ℕ) (old new : Core) (o : Opening) (of : Program) (stripe : Stripe) → IsPlainWorld i w → Stands i (log_of w) old → (has : HasSlot i (log_of w) old.open o)
+pub placed_stands : (i : Image) (w : World) (knows : List ℕ) (old new : Core) (o : Opening) (of : Program) (stripe : Stripe) → IsSimpleMount i w → Stands i (log_of w) old → (has : HasSlot i (log_of w) old.open o)
     → IsOfferedNow i w old.placer.entries.pad o of → IsStripeFor i (log_of w) o of stripe → of.count ≡ length of.positions → IsPlacedInto old new has.k has.slot of stripe
     → Stands i (after (log_of w) (Place stripe) knows) new
-placed_stands i w knows old new o of stripe plain st has now for count is = record {
+placed_stands i w knows old new o of stripe simple st has now for count is = record {
+  simple = simple_after (log_of w 0) (record { event = Decides (Place stripe); knows = knows }) st.simple refl refl refl refl;
   layout = is.layout ∙ st.layout;
   beginning = st.beginning;
   has_begun = begun_kept (log_of w 0) (Place stripe) knows refl ∙ st.has_begun;
   capacity = ap (λ m. fin.len m) is.map ∙ st.capacity;
-  slots = λ lba within. ap (λ m. fin.get m lba) is.map ∙ st.slots lba within ∙ ap Some (sym (place_slot i (log_of w) w stripe knows lba plain.legal refl here.may));
+  slots = λ lba within. ap (λ m. fin.get m lba) is.map ∙ st.slots lba within ∙ ap Some (sym (place_slot i (log_of w) w stripe knows lba simple.mount.legal refl here.may));
   table = table_is;
   units = ap (λ l. l.items) is.live ∙ st.units ∙ map_same (live_now i (log_of w)) (live_now i new_logs)
       (λ line. sym (ap (λ (j : Image). bits_of (line_units j line)) (known_kept i (log_of w) (Place stripe) knows refl (λ unit. refl)))) (range_with_len 0 i.shape.chunks);
   resets = ap resets_left is.resets ∙ st.resets ∙ sym (resets_quiet i (log_of w) (Place stripe) knows refl (λ unit. refl) (λ line. life_more (log_of w 0) (record { event = Decides (Place stripe); knows = knows }) line));
   size = ap (λ v. v.size) is.window ∙ st.size;
-  window = ap sectors_in is.window ∙ st.window ∙ sym (place_window i (log_of w) w stripe knows old.window.freed plain.legal refl here.may)
+  window = ap sectors_in is.window ∙ st.window ∙ sym (place_window i (log_of w) w stripe knows old.window.freed simple.mount.legal refl here.may)
       ∙ ap (window_from i.shape (new_logs 0)) (sym (ap (λ v. v.freed) is.window));
   from_first = subst (λ v. first_position (new_logs 0) ≤ v.freed) (sym is.window) (subst (λ p. p ≤ old.window.freed) (sym first_is) st.from_first);
   to_freed = subst (λ v. v.freed ≤ freed i.shape (new_logs 0)) (sym is.window) (le_trans st.to_freed (freed_placed i.shape (log_of w 0) stripe knows o here.placing first_is));
   holds = holds_are;
   placing = placing_is ∙ ap (λ p. placing_of i new_logs p []) (sym (ap (λ (p : Placing). p.entries.pad) placing_is));
-  open_lines = lines_stand i w knows old new o of stripe plain st has here is;
+  open_lines = lines_stand i w knows old new o of stripe simple st has here is;
   next_seq = ap (λ r. r.seq) is.start ∙ st.next_seq ∙ ap (λ os. st.beginning.beginning.seq + length os) (sym openings_are);
   first_seq = ap (λ r. r.first_seq) is.start ∙ st.first_seq;
   own_capacity = ap (λ r. r.capacity) is.start ∙ st.own_capacity;
@@ -394,13 +396,13 @@ placed_stands i w knows old new o of stripe plain st has now for count is = reco
 }
   where
     here : IsHere i w old old.placer.entries.pad o of stripe
-    here = is_here i w old old.placer.entries.pad o of stripe plain now for count
+    here = is_here i w old old.placer.entries.pad o of stripe simple now for count
 
     new_logs : Logs
     new_logs = after (log_of w) (Place stripe) knows
 
     order : IsInOrder i (log_of w)
-    order = in_order i w plain
+    order = in_order i w simple
 
     ts : List Taken
     ts = take (entries_for of.kind i.shape.ws_opt) (waiting i.shape (log_of w 0))
@@ -416,7 +418,7 @@ placed_stands i w knows old new o of stripe plain st has now for count is = reco
 
     rows : AllByRecursion (λ (t : Taken). row_at old.holds.rows.items t.entry.position ≡ Some (hold_of i.shape (log_of w 0) t)) ts
     rows = all_by_get (λ (t : Taken). row_at old.holds.rows.items t.entry.position ≡ Some (hold_of i.shape (log_of w 0) t)) ts
-        (λ k t e. IsWaiting.row (waiting_at i w old k t plain st (get_whole (entries_for of.kind i.shape.ws_opt) (waiting i.shape (log_of w 0)) k t e)))
+        (λ k t e. IsWaiting.row (waiting_at i w old k t simple st (get_whole (entries_for of.kind i.shape.ws_opt) (waiting i.shape (log_of w 0)) k t e)))
 
     table_is : new.lines ≡ rows_of i new_logs
     table_is =
@@ -434,7 +436,7 @@ placed_stands i w knows old new o of stripe plain st has now for count is = reco
       room = ap (λ (hs : List Hold). length hs) is.holds ∙ rows_length of.line of.positions old.holds.rows.items ∙ st.holds.room;
       each = λ t among kept.
           ap (λ (hs : List Hold). slice_get hs (t.entry.position % i.shape.ring)) (is.holds ∙ ap₂ (λ line (qs : List ℕ). placed_rows line old.holds.rows.items qs) (sym for.line) here.positions)
-          ∙ row_placed_is i w old stripe knows (entries_for of.kind i.shape.ws_opt) t plain st in_stripe
+          ∙ row_placed_is i w old stripe knows (entries_for of.kind i.shape.ws_opt) t simple st in_stripe
           (subst (λ (xs : List Taken). Contains xs t) takes_are among)
           (sym (given_kept i.shape (log_of w 0) (new_logs 0) (place_kept (log_of w 0) stripe knows o here.placing.opened (omega (arith, here.placing.idle))) t.entry.position) ∙ kept);
     }
@@ -442,13 +444,13 @@ placed_stands i w knows old new o of stripe plain st has now for count is = reco
     placing_is : new.placer ≡ placing_of i new_logs old.placer.entries.pad []
     placing_is =
         is.placer ∙ ap (λ p. placed p of) st.placing
-        ∙ sym (placing_placed i (log_of w) knows old.placer.entries.pad [] o stripe of plain.accepted.drive.ws_opt here.its order.numbered)
+        ∙ sym (placing_placed i (log_of w) knows old.placer.entries.pad [] o stripe of simple.mount.accepted.drive.ws_opt here.its order.numbered)
 
     placed_is : new.first + new.placed ≡ placed_front i.shape (new_logs 0)
     placed_is =
         let front : placed_front i.shape (new_logs 0) ≡ placed_front i.shape (log_of w 0) + (of.count - length (entries_of i.shape (log_of w 0) old.placer.entries.pad).lost) =
         front_placed i (log_of w) knows old.placer.entries.pad o stripe of here.its order.numbered in
-        let none : length (entries_of i.shape (log_of w 0) old.placer.entries.pad).lost ≡ 0 = ap (λ (us : List Taken). length (positions_of us)) (lost_are_none i.shape (log_of w 0) (ordered i w plain)) in
+        let none : length (entries_of i.shape (log_of w 0) old.placer.entries.pad).lost ≡ 0 = ap (λ (us : List Taken). length (positions_of us)) (lost_are_none i.shape (log_of w 0) (ordered i w simple)) in
         let before : old.first + old.placed ≡ placed_front i.shape (log_of w 0) = st.placed in
         let a : new.first ≡ old.first = is.first in
         let b : new.placed ≡ old.placed + length of.positions = is.placed in
@@ -460,5 +462,5 @@ placed_stands i w knows old new o of stripe plain st has now for count is = reco
         let less : new.left + entries_for of.kind old.layout.ws_opt ≡ old.left = is.left in
         let same : entries_for of.kind old.layout.ws_opt ≡ entries_for of.kind i.shape.ws_opt = ap (λ (s : Shape). entries_for of.kind s.ws_opt) st.layout in
         let before_it : open_addresses i (log_of w) ≡ open_addresses i new_logs + entries_for of.kind i.shape.ws_opt =
-        left_by_kind i (log_of w) stripe knows o of.kind plain.accepted here.placing here.may.in_range here.kind in
+        left_by_kind i (log_of w) stripe knows o of.kind simple.mount.accepted here.placing here.may.in_range here.kind in
         omega arith

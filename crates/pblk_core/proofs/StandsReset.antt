@@ -20,7 +20,7 @@ use Rattle.write_window.specs.Window as view
 use Rattle.core_laws.specs.Stepping.{after}
 use Rattle.core_laws.specs.OpenedLines.{live_now, open_lines, standing}
 use Rattle.core_laws.specs.PlacerOf.{placing_of, entries_of, row_of}
-use Rattle.core_laws.specs.PlainWorlds.{IsPlainWorld}
+use Rattle.core_laws.specs.SimpleMounts.{IsSimpleMount}
 use Rattle.core_laws.specs.RowsOf.{row_of_line, rows_of}
 use Rattle.core_laws.specs.WindowOf.{sectors_in, window_from}
 use Rattle.core_laws.proofs.Engine.{stopped_more}
@@ -40,6 +40,7 @@ use Rattle.pblk_core.specs.declared.work.Work.TheVariants.{Reset}
 use Rattle.pblk_core.specs.Named.{named}
 use Rattle.pblk_core.specs.Resets.{resets_left, resets_of, units_to_reset, is_of_line, kept_units, emptied, IsResetTo}
 use Rattle.pblk_core.specs.Stands.{Stands, AreHolds, AreOpenLines}
+use Rattle.pblk_core.proofs.SimpleLogs.{simple_after}
 use Rattle.pblk_core.proofs.FirstReset.{is_there, none_there}
 use Rattle.pblk_core.proofs.FoundLines.{HasOldRow, older_kept}
 use Rattle.pblk_core.proofs.KeptResets.{fits_same}
@@ -75,9 +76,10 @@ pub record IsResetInto (old new : Core) (line unit : ℕ) (state : ChunkState) :
 pub named_in : (i : Image) (logs : Logs) (c : Core) (line unit : ℕ) → Stands i logs c → named c ≡ Reset line unit → IsNamedReset i logs line unit
 named_in i logs c line unit st is = reset_named i logs line unit (ap (λ rs. slice_get rs 0) (sym st.resets) ∙ named_first c line unit is)
 
-pub reset_stands : (i : Image) (w : World) (line unit event : ℕ) (knows : List ℕ) (state : ChunkState) (old new : Core) → IsPlainWorld i w → Stands i (log_of w) old → named old ≡ Reset line unit
+pub reset_stands : (i : Image) (w : World) (line unit event : ℕ) (knows : List ℕ) (state : ChunkState) (old new : Core) → IsSimpleMount i w → Stands i (log_of w) old → named old ≡ Reset line unit
     → IsResetTo i (log_of w) unit event line state → IsResetInto old new line unit state → Stands i (after (log_of w) (ResetDone unit event) knows) new
-reset_stands i w line unit event knows state old new plain st names to is = record {
+reset_stands i w line unit event knows state old new simple st names to is = record {
+  simple = simple_after (log_of w 0) (record { event = Decides (ResetDone unit event); knows = knows }) st.simple refl refl refl refl;
   layout = is.layout ∙ st.layout;
   beginning = st.beginning;
   has_begun = begun_kept (log_of w 0) e knows refl ∙ st.has_begun;
@@ -145,7 +147,7 @@ reset_stands i w line unit event knows state old new plain st names to is = reco
     resets_are = is.resets ∙ ap (drop 1) st.resets ∙ sym (resets_less i (log_of w) unit event line knows state named_is seen)
 
     units_are : new.live.items ≡ map (live_now i new_logs) (range_with_len 0 i.shape.chunks)
-    units_are = is.live ∙ ap (λ us. kept_units us line unit state) st.units ∙ units_kept i w unit event line knows state plain named_is seen
+    units_are = is.live ∙ ap (λ us. kept_units us line unit state) st.units ∙ units_kept i w unit event line knows state simple named_is seen
 
     from : 0 + line ≡ line
     from = omega arith
@@ -163,16 +165,16 @@ reset_stands i w line unit event knows state old new plain st names to is = reco
     table_is true at =
         let more = is_there (units_to_reset i new_logs) i.shape.chunks line (ap (λ rs. is_of_line line (slice_get rs 0)) (sym resets_are) ∙ at) in
         is.lines_stay at ∙ st.table
-        ∙ sym (table_stays i w unit event line knows state st.beginning more.0 more.1 plain st.has_begun named_is seen (sym (units_left i (log_of w) unit event line knows state named_is seen) ∙ more.2))
+        ∙ sym (table_stays i w unit event line knows state st.beginning more.0 more.1 simple st.has_begun named_is seen (sym (units_left i (log_of w) unit event line knows state named_is seen) ∙ more.2))
     table_is false at =
         let none : units_to_reset i new_logs line ≡ [] =
         none_there (units_to_reset i new_logs) i.shape.chunks line named_is.in_range others_before (ap (λ rs. is_of_line line (slice_get rs 0)) (sym resets_are) ∙ at) in
-        let wide : length (units_in (live_now i new_logs line)) ≡ width (known_image i new_logs) line = bits_width i w new_logs line plain in
+        let wide : length (units_in (live_now i new_logs line)) ≡ width (known_image i new_logs) line = bits_width i w new_logs line simple in
         changed_is old.lines new.lines line (turned (emptied old.layout (length (units_in (live_now i new_logs line)))) (length (units_in (live_now i new_logs line)))) (row_of_line i (log_of w) (0 + line)) there
         (is.lines_turn (live_now i new_logs line) at live_there)
         ∙ ap₂ (λ s n. with_row line (turned (emptied s n) n) old.lines) st.layout wide
         ∙ ap (with_row line (turned (emptied i.shape (width (known_image i new_logs) line)) (width (known_image i new_logs) line))) st.table
-        ∙ sym (table_turns i w unit event line knows state st.beginning plain st.has_begun named_is seen (sym (units_left i (log_of w) unit event line knows state named_is seen) ∙ none))
+        ∙ sym (table_turns i w unit event line knows state st.beginning simple st.has_begun named_is seen (sym (units_left i (log_of w) unit event line knows state named_is seen) ∙ none))
 
     placing_is : placing_of i new_logs old.placer.entries.pad [] ≡ placing_of i (log_of w) old.placer.entries.pad []
     placing_is =

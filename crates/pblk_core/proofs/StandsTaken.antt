@@ -1,6 +1,6 @@
 -- A core that took an entry stands for the log with it.
 use Rattle.std.proofs.Common.{◌≡◌, ◌≢◌, ◌⊎◌, eqb, ℕ, ◌+◌, ◌<◌, ◌≤◌, ◌==◌, ◌^◌, if◌then◌else◌, true, false, cond, Some, None, Option, List, [], ◌∷◌, ◌++◌, length, refl, sym, subst, ap, ap₂, ◌∙◌, arith, inl, inr, length-append, append-nil, le_trans, zero-add}
-use Rattle.std.specs.Prelude.{map}
+use Rattle.std.specs.Prelude.{map, not}
 use Rattle.std.specs.List.{filter, range_with_len}
 use Rattle.std.specs.Ordering.{nat_cmp, eq_by_cmp}
 use Rattle.std.specs.FinMap.{FinMap, get-insert}
@@ -32,6 +32,7 @@ use Rattle.core_laws.proofs.Numbering.{first_stays}
 use Rattle.line_laws.proofs.KeptRows.{begun_kept, known_kept}
 use Rattle.landing_laws.proofs.Least.{least_rises}
 use Rattle.pblk_core.specs.Stands.{Stands, AreOpenLines}
+use Rattle.pblk_core.proofs.SimpleLogs.{simple_after}
 use Rattle.pblk_core.proofs.SteadyLines.{open_lines_same, under_way_same}
 use Rattle.pblk_world.specs.Starts.{older_rows}
 use Rattle.line_laws.proofs.OpenAddresses.{addresses_kept}
@@ -72,7 +73,8 @@ use Rattle.sector_pool.specs.declared.entry.Entry.{Entry as FramedEntry}
 use Rattle.write_window.specs.declared.held.Progress.TheVariants.{Waiting}
 use Rattle.write_window.specs.Window as view
 use Rattle.stripe_placer.specs.Placing.{waits}
-use Rattle.core_laws.specs.PlainWorlds.{IsPlainWorld}
+use Rattle.core_laws.specs.SimpleMounts.{IsSimpleMount}
+use Rattle.core_laws.proofs.SimpleMounts.{engine_plain}
 use Rattle.pblk_model.specs.Contents.{least_missing}
 use Rattle.pblk_world.specs.EngineLog.{placements}
 use Rattle.pblk_world.specs.Space.{gives_back}
@@ -183,29 +185,30 @@ waiting_is e none user = λ k. record {
     from (Some at) = refl
 
 -- the line of a slot is one of the drive, and has a live sector
-slot_line : (i : Image) (w : World) (c : Core) (lba : ℕ) (slot : Slot) (line : ℕ) → IsPlainWorld i w → Stands i (log_of w) c → fin.get c.map lba ≡ Some slot → lba < i.shape.capacity
+slot_line : (i : Image) (w : World) (c : Core) (lba : ℕ) (slot : Slot) (line : ℕ) → IsSimpleMount i w → Stands i (log_of w) c → fin.get c.map lba ≡ Some slot → lba < i.shape.capacity
     → line_of_slot c.holds.rows.items slot ≡ Some line → line_of i (log_of w) lba (last_take (log_of w 0) lba) ≡ Some line
-slot_line i w c lba slot line plain st found inside is =
+slot_line i w c lba slot line simple st found inside is =
     let now : slot ≡ slot_of i (log_of w) lba = same_Some slot (slot_of i (log_of w) lba) (sym found ∙ st.slots lba inside) in
-    sym (line_is i w c.holds lba plain st.holds) ∙ sym (ap (line_of_slot c.holds.rows.items) now) ∙ is
+    sym (line_is i w c.holds lba simple st.holds) ∙ sym (ap (line_of_slot c.holds.rows.items) now) ∙ is
 
-pub live_there : (i : Image) (w : World) (c : Core) (lba : ℕ) (slot : Slot) (line : ℕ) (row : Row) → IsPlainWorld i w → Stands i (log_of w) c → fin.get c.map lba ≡ Some slot → lba < i.shape.capacity
+pub live_there : (i : Image) (w : World) (c : Core) (lba : ℕ) (slot : Slot) (line : ℕ) (row : Row) → IsSimpleMount i w → Stands i (log_of w) c → fin.get c.map lba ≡ Some slot → lba < i.shape.capacity
     → line_of_slot c.holds.rows.items slot ≡ Some line → IsRow c.lines line row → 0 < row.live
-live_there i w c lba slot line row plain st found inside is there =
-    let some : 0 < live i (log_of w) line = live_some i (log_of w) line lba inside (slot_line i w c lba slot line plain st found inside is) in
+live_there i w c lba slot line row simple st found inside is there =
+    let some : 0 < live i (log_of w) line = live_some i (log_of w) line lba inside (slot_line i w c lba slot line simple st found inside is) in
     let at : slice_get (map (row_of_line i (log_of w)) (range_with_len 0 i.shape.chunks)) line ≡ Some row = sym (ap (λ (t : Table). slice_get t.rows line) st.table) ∙ there in
     subst (λ (r : Row). 0 < r.live) ((row_at (row_of_line i (log_of w)) i.shape.chunks 0 line row at).1) (subst (λ n. 0 < live i (log_of w) n) (sym (zero-add line)) some)
 
-pub live_inside : (i : Image) (w : World) (c : Core) (lba : ℕ) (slot : Slot) (line : ℕ) → IsPlainWorld i w → Stands i (log_of w) c → fin.get c.map lba ≡ Some slot → lba < i.shape.capacity
+pub live_inside : (i : Image) (w : World) (c : Core) (lba : ℕ) (slot : Slot) (line : ℕ) → IsSimpleMount i w → Stands i (log_of w) c → fin.get c.map lba ≡ Some slot → lba < i.shape.capacity
     → line_of_slot c.holds.rows.items slot ≡ Some line → line < length c.lines.rows
-live_inside i w c lba slot line plain st found inside is =
-    let low : line < i.shape.chunks = line_in_range i (log_of w) lba (last_take (log_of w 0) lba) line (plain_in_order i w plain).placed (slot_line i w c lba slot line plain st found inside is) in
+live_inside i w c lba slot line simple st found inside is =
+    let low : line < i.shape.chunks = line_in_range i (log_of w) lba (last_take (log_of w 0) lba) line (plain_in_order i w simple).placed (slot_line i w c lba slot line simple st found inside is) in
     subst (λ n. line < n) (sym (ap (λ (t : Table). length t.rows) st.table ∙ length-map-range_with_len (row_of_line i (log_of w)) 0 i.shape.chunks)) low
 
-pub taken_stands : (i : Image) (w : World) (knows : List ℕ) (old new : Core) (e : FramedEntry) → IsPlainWorld i w → Stands i (log_of w) old → IsTakenInto old new e
+pub taken_stands : (i : Image) (w : World) (knows : List ℕ) (old new : Core) (e : FramedEntry) → IsSimpleMount i w → Stands i (log_of w) old → IsTakenInto old new e
     → e.position ≡ view.taken old.window → length old.window.entries < old.window.size → e.class ≡ User → e.source ≡ None → e.lba < i.shape.capacity
     → Stands i (after (log_of w) (Take (entry_of e) (mark_of e)) knows) new
-taken_stands i w knows old new e plain st is position room class user inside = record {
+taken_stands i w knows old new e simple st is position room class user inside = record {
+  simple = simple_after (log_of w 0) (record { event = Decides (Take (entry_of e) (mark_of e)); knows = knows }) st.simple refl (ap (λ source. not (is_users (option_map (λ (at : EntrySource). record { line = at.line; at = at.at; position = at.position }) source))) user) refl refl;
   layout = is.layout ∙ st.layout;
   beginning = st.beginning;
   has_begun = begun_kept (log_of w 0) (Take (entry_of e) (mark_of e)) knows refl ∙ st.has_begun;
@@ -218,7 +221,7 @@ taken_stands i w knows old new e plain st is position room class user inside = r
   window = window_is;
   from_first = subst (λ v. first_position (new_logs 0) ≤ v.freed) (sym is.window) (subst (λ p. p ≤ old.window.freed) (sym first_is) st.from_first);
   to_freed = subst (λ v. v.freed ≤ freed i.shape (new_logs 0)) (sym is.window) (le_trans st.to_freed (freed_taken i.shape (log_of w 0) (entry_of e) (mark_of e) knows st.beginning st.has_begun));
-  holds = holds_taken i (log_of w) knows (entry_of e) (mark_of e) old.holds new.holds old.window.freed (in_order i w (accepted_small i.shape plain.accepted) plain.legal).numbered
+  holds = holds_taken i (log_of w) knows (entry_of e) (mark_of e) old.holds new.holds old.window.freed (in_order i w (accepted_small i.shape simple.mount.accepted) simple.mount.legal).numbered
       unplaced st.holds refl taken_is st.to_freed within holds_are;
   placing = placing_is;
   open_lines = subst (AreOpenLines i new_logs) (sym is.open_lines) (open_lines_same i (log_of w) (Take (entry_of e) (mark_of e)) knows old.open (alike (log_of w 0) (entry_of e) (mark_of e) knows) (standing_taken (log_of w 0) (entry_of e) (mark_of e) knows) st.open_lines);
@@ -241,7 +244,7 @@ taken_stands i w knows old new e plain st is position room class user inside = r
     slot_now = same_Some is.slot (slot_of i (log_of w) e.lba) (sym is.found ∙ st.slots e.lba inside)
 
     line_now : line_of_slot old.holds.rows.items is.slot ≡ line_of i (log_of w) e.lba (last_take (log_of w 0) e.lba)
-    line_now = ap (line_of_slot old.holds.rows.items) slot_now ∙ line_is i w old.holds e.lba plain st.holds
+    line_now = ap (line_of_slot old.holds.rows.items) slot_now ∙ line_is i w old.holds e.lba simple st.holds
 
     older_is : older_rows i (log_of w) ≡ older_rows i new_logs
     older_is = older_kept i (log_of w) (Take (entry_of e) (mark_of e)) knows st.beginning st.has_begun refl (λ line. inl (ap is_as_found (life_more (log_of w 0) (record { event = Decides (Take (entry_of e) (mark_of e)); knows = knows }) line)))
@@ -250,7 +253,7 @@ taken_stands i w knows old new e plain st is position room class user inside = r
     taken_is = position ∙ window_taken_is i w old st
 
     unplaced : IsUnplaced i.shape (log_of w 0) e.position
-    unplaced = subst (IsUnplaced i.shape (log_of w 0)) (sym taken_is) (next_is_unplaced i w plain)
+    unplaced = subst (IsUnplaced i.shape (log_of w 0)) (sym taken_is) (next_is_unplaced i w simple)
 
     within : taken (log_of w 0) < old.window.freed + i.shape.ring
     within =
@@ -285,7 +288,7 @@ taken_stands i w knows old new e plain st is position room class user inside = r
         ∙ ap (window_from i.shape (new_logs 0)) (sym (ap (λ v. v.freed) is.window))
 
     table_now : rows_of i new_logs ≡ lose_in (line_of i (log_of w) e.lba (last_take (log_of w 0) e.lba)) e.position (rows_of i (log_of w))
-    table_now = rows_taken i (log_of w) (entry_of e) (mark_of e) knows (none_freed (log_of w 0) plain.engine) (in_order i w (accepted_small i.shape plain.accepted) plain.legal).numbered unplaced taken_is inside
+    table_now = rows_taken i (log_of w) (entry_of e) (mark_of e) knows (none_freed (log_of w 0) (engine_plain i w simple)) (in_order i w (accepted_small i.shape simple.mount.accepted) simple.mount.legal).numbered unplaced taken_is inside
 
     placing_is : new.placer ≡ placing_of i new_logs new.placer.entries.pad []
     placing_is =

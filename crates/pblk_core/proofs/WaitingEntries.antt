@@ -15,7 +15,7 @@ use Rattle.pblk_world.specs.Legal.{MayDecide}
 use Rattle.pblk_world.specs.Space.{freed, placed_front}
 use Rattle.write_window.specs.Window.{WindowView, sector_at}
 use Rattle.write_window.specs.declared.held.Held.{Held}
-use Rattle.core_laws.specs.PlainWorlds.{IsPlainWorld, IsPlainWorld}
+use Rattle.core_laws.specs.SimpleMounts.{IsSimpleMount}
 use Rattle.core_laws.specs.PlacerOf.{positions_of, placing_of}
 use Rattle.core_laws.specs.Positions.{AreNumbered}
 use Rattle.core_laws.specs.WindowOf.{HeldSector, HeldSectors, without_frame, held_of, is_given_back}
@@ -68,8 +68,8 @@ sized_after i log known (Take entry mark) knows own may is =
 sized_after i log known e knows own may is =
     subst (AllByRecursion (IsSized i.shape)) (sym (takes_more log (record { event = Decides e; knows = knows }) ∙ append-nil (takes log))) is
 
-pub are_sized : (i : Image) (w : World) → IsPlainWorld i w → AllByRecursion (IsSized i.shape) (takes (log_of w 0))
-are_sized i w is = of_legal_log i (λ log. AllByRecursion (IsSized i.shape) (takes log)) tt (λ log known e knows own may kept. sized_after i log known e knows own may kept) w is.legal
+pub are_sized : (i : Image) (w : World) → IsSimpleMount i w → AllByRecursion (IsSized i.shape) (takes (log_of w 0))
+are_sized i w is = of_legal_log i (λ log. AllByRecursion (IsSized i.shape) (takes log)) tt (λ log known e knows own may kept. sized_after i log known e knows own may kept) w is.mount.legal
 
 -- ---- what waits
 
@@ -90,11 +90,11 @@ row_of_entry i w c t number st there kept =
     ap (λ n. slice_get c.holds.rows.items (t.entry.position % n)) st.holds.room
     ∙ st.holds.each t (is_in (takes (log_of w 0)) number t there) kept
 
-pub waiting_at : (i : Image) (w : World) (c : Core) (k : ℕ) (t : Taken) → IsPlainWorld i w → Stands i (log_of w) c → slice_get (waiting i.shape (log_of w 0)) k ≡ Some t → IsWaiting i w c t k
-waiting_at i w c k t plain st e =
+pub waiting_at : (i : Image) (w : World) (c : Core) (k : ℕ) (t : Taken) → IsSimpleMount i w → Stands i (log_of w) c → slice_get (waiting i.shape (log_of w 0)) k ≡ Some t → IsWaiting i w c t k
+waiting_at i w c k t simple st e =
     let s : Shape = i.shape in
     let log : List Logged = log_of w 0 in
-    let is : IsOrdered s log = ordered i w plain in
+    let is : IsOrdered s log = ordered i w simple in
     let n : ℕ = is.order.count in
     let there : slice_get (takes log) (n + k) ≡ Some t = sym (get_dropped n (takes log) k) ∙ ap (λ (ts : List Taken). slice_get ts k) (sym (waiting_are_last s log is.numbered is.no_loss is.order)) ∙ e in
     let at : t.entry.position ≡ first_position log + (n + k) = numbered_at log (n + k) t is.numbered there in
@@ -161,14 +161,14 @@ sector_there i w c t number st there is low =
     ∙ ap (option_map (λ (t : Taken). t.entry.sector)) (ap (slice_get (takes (log_of w 0))) at ∙ there)
 
 -- each sector in the window has the size of the drive's
-pub sectors_sized : (i : Image) (w : World) (c : Core) (q : ℕ) (sector : List ℕ) → IsPlainWorld i w → Stands i (log_of w) c → sector_at c.window q ≡ Some sector → length sector ≡ i.shape.sector
-sectors_sized i w c q sector plain st e = go (nat_lt q c.window.freed) e
+pub sectors_sized : (i : Image) (w : World) (c : Core) (q : ℕ) (sector : List ℕ) → IsSimpleMount i w → Stands i (log_of w) c → sector_at c.window q ≡ Some sector → length sector ≡ i.shape.sector
+sectors_sized i w c q sector simple st e = go (nat_lt q c.window.freed) e
   where
     at : (o : Option Taken) → slice_get (takes (log_of w 0)) (c.window.freed - first_position (log_of w 0) + (q - c.window.freed)) ≡ o → option_map (λ (t : Taken). t.entry.sector) o ≡ Some sector → length sector ≡ i.shape.sector
     at None f g = absurd (none-some sector g)
     at (Some t) f g =
         ap (λ (xs : List ℕ). length xs) (sym (same_Some t.entry.sector sector g))
-        ∙ IsSized.sector (all_at (IsSized i.shape) (takes (log_of w 0)) (c.window.freed - first_position (log_of w 0) + (q - c.window.freed)) t f (are_sized i w plain))
+        ∙ IsSized.sector (all_at (IsSized i.shape) (takes (log_of w 0)) (c.window.freed - first_position (log_of w 0) + (q - c.window.freed)) t f (are_sized i w simple))
 
     go : (b : Bool) → option_map (λ (h : Held). h.entry.frame.bytes) (if b then None else slice_get c.window.entries (q - c.window.freed)) ≡ Some sector → length sector ≡ i.shape.sector
     go true f = absurd (none-some sector f)
@@ -189,9 +189,9 @@ block_is i w c t k st is =
       mark = option_map_or (λ (h : Hold). h.mark) (is.row j) pad_mark;
     }
 
-pub waiting_blocks : (i : Image) (w : World) (c : Core) (n : ℕ) → IsPlainWorld i w → Stands i (log_of w) c
+pub waiting_blocks : (i : Image) (w : World) (c : Core) (n : ℕ) → IsSimpleMount i w → Stands i (log_of w) c
     → entry_blocks c.window c.holds.rows.items (positions_of (take n (waiting i.shape (log_of w 0)))) ≡ map block_of_taken (take n (waiting i.shape (log_of w 0)))
-waiting_blocks i w c n plain st =
+waiting_blocks i w c n simple st =
     blocks_are c.window c.holds.rows.items (take n (waiting i.shape (log_of w 0)))
     (all_by_get (λ (t : Taken). entry_block c.window c.holds.rows.items t.entry.position ≡ block_of_taken t) (take n (waiting i.shape (log_of w 0)))
-    (λ k t e. block_is i w c t k st (waiting_at i w c k t plain st (get_whole n (waiting i.shape (log_of w 0)) k t e))))
+    (λ k t e. block_is i w c t k st (waiting_at i w c k t simple st (get_whole n (waiting i.shape (log_of w 0)) k t e))))

@@ -14,10 +14,10 @@ use Rattle.line_table.specs.Rows.{is_free}
 use Rattle.stripe_placer.specs.Placing.{next_stripe}
 use Rattle.write_window.specs.Window as view
 use Rattle.core_laws.specs.OpenedLines.{open_line, open_lines}
-use Rattle.core_laws.specs.PlainWorlds.{IsPlainWorld}
+use Rattle.core_laws.specs.SimpleMounts.{IsSimpleMount}
 use Rattle.core_laws.specs.PlacerOf.{lost_entries, fresh_entries}
 use Rattle.placed_laws.proofs.LeftLines.{lines_of_left}
-use Rattle.placed_laws.proofs.Ordered.{ordered, front_within, fresh_in_order, lost_are_none}
+use Rattle.placed_laws.proofs.Ordered.{ordered, fresh_in_order, lost_are_none}
 use Rattle.pblk_core.specs.declared.target_core.Core.{Core}
 use Rattle.pblk_core.specs.Stands.{Stands, left_openings}
 use Rattle.pblk_core.specs.Named.{choice, reset_or, asks_line, has_free, may_open, named_beside, named, pad_of, work_beside, work_of, first_seq_of}
@@ -28,17 +28,17 @@ use Rattle.pblk_core.specs.declared.work.Work.TheVariants.{Program}
 use Rattle.pblk_core.proofs.StandsFacts.{window_taken_is}
 use Rattle.pblk_core.proofs.StandsLemmas.{synced_stands}
 
-pub synced_at : (i : Image) (w : World) (c : Core) → IsPlainWorld i w → Stands i (log_of w) c → (view.synced c.window).position ≡ synced i.shape (log_of w 0)
-synced_at i w c plain st = ap (λ (f : Front). f.position) (synced_stands i w c plain st)
+pub synced_at : (i : Image) (w : World) (c : Core) → IsSimpleMount i w → Stands i (log_of w) c → (view.synced c.window).position ≡ synced i.shape (log_of w 0)
+synced_at i w c simple st = ap (λ (f : Front). f.position) (synced_stands i w c simple st)
 
 -- how many entries wait
-waiting_count : (i : Image) (w : World) → IsPlainWorld i w → length (waiting i.shape (log_of w 0)) ≡ taken (log_of w 0) - placed_front i.shape (log_of w 0)
-waiting_count i w plain =
+waiting_count : (i : Image) (w : World) → IsSimpleMount i w → length (waiting i.shape (log_of w 0)) ≡ taken (log_of w 0) - placed_front i.shape (log_of w 0)
+waiting_count i w simple =
     let both : length (waiting i.shape (log_of w 0)) ≡ length (lost_entries i.shape (log_of w 0)) + length (fresh_entries i.shape (log_of w 0)) =
     length-append (lost_entries i.shape (log_of w 0)) (fresh_entries i.shape (log_of w 0)) in
-    let none : length (lost_entries i.shape (log_of w 0)) ≡ 0 = ap (λ (ts : List Taken). length ts) (lost_are_none i.shape (log_of w 0) (ordered i w plain)) in
+    let none : length (lost_entries i.shape (log_of w 0)) ≡ 0 = ap (λ (ts : List Taken). length ts) (lost_are_none i.shape (log_of w 0) (ordered i w simple)) in
     let fresh : length (fresh_entries i.shape (log_of w 0)) ≡ taken (log_of w 0) - placed_front i.shape (log_of w 0) =
-    sym (length-map (fresh_entries i.shape (log_of w 0)) (λ (t : Taken). t.entry.position)) ∙ ap (λ (qs : List ℕ). length qs) (fresh_in_order i.shape (log_of w 0) (ordered i w plain))
+    sym (length-map (fresh_entries i.shape (log_of w 0)) (λ (t : Taken). t.entry.position)) ∙ ap (λ (qs : List ℕ). length qs) (fresh_in_order i.shape (log_of w 0) (ordered i w simple))
     ∙ length-range_with_len (placed_front i.shape (log_of w 0)) (taken (log_of w 0) - placed_front i.shape (log_of w 0)) in
     omega arith
 
@@ -64,22 +64,22 @@ open_count i w c st = st.open_lines.count ∙ sym (length-map (left_openings i (
 same_choice : (a b : Bool) (m n : Bool) (p q : Bool) (s t : Bool) (x y : Bool) → a ≡ b → m ≡ n → p ≡ q → s ≡ t → x ≡ y → choice a m p s x ≡ choice b n q t y
 same_choice a b m n p q s t x y e f g h k = λ j. choice (e j) (f j) (g j) (h j) (k j)
 
-beside_is : (i : Image) (w : World) (c : Core) → IsPlainWorld i w → Stands i (log_of w) c → named_beside c ≡ work_beside i (log_of w) (pad_of c)
-beside_is i w c plain st = same_choice _ _ _ _ _ _ _ _ _ _
+beside_is : (i : Image) (w : World) (c : Core) → IsSimpleMount i w → Stands i (log_of w) c → named_beside c ≡ work_beside i (log_of w) (pad_of c)
+beside_is i w c simple st = same_choice _ _ _ _ _ _ _ _ _ _
     (ap (λ p. is_some (next_stripe p 0)) st.placing)
     (ap₂ (λ a n. a && (n == 0)) waits st.left)
     (ap (λ t. is_some (position is_free t.rows)) st.table)
-    (ap₂ (λ a b. nat_lt a 2 && b) (open_count i w c st) (ap₂ (λ m n. nat_lt m (2 ^ 61) && nat_lt n (2 ^ 61)) seq (synced_at i w c plain st)))
+    (ap₂ (λ a b. nat_lt a 2 && b) (open_count i w c st) (ap₂ (λ m n. nat_lt m (2 ^ 61) && nat_lt n (2 ^ 61)) seq (synced_at i w c simple st)))
     (ap (nat_lt 0) st.in_flight)
   where
     waits : nat_lt (c.first + c.placed) (view.taken c.window) ≡ nat_lt 0 (length (waiting i.shape (log_of w 0)))
-    waits = ap₂ nat_lt st.placed (window_taken_is i w c st) ∙ later (placed_front i.shape (log_of w 0)) (taken (log_of w 0)) ∙ ap (nat_lt 0) (sym (waiting_count i w plain))
+    waits = ap₂ nat_lt st.placed (window_taken_is i w c st) ∙ later (placed_front i.shape (log_of w 0)) (taken (log_of w 0)) ∙ ap (nat_lt 0) (sym (waiting_count i w simple))
 
     seq : c.start.seq ≡ first_seq_of (log_of w) + length (openings (log_of w 0))
     seq = st.next_seq ∙ ap (λ n. n + length (openings (log_of w 0))) (sym (ap (λ o. option_map_or (λ (b : Begun). b.beginning.seq) o 0) st.has_begun))
 
-pub work_is : (i : Image) (w : World) (c : Core) → IsPlainWorld i w → Stands i (log_of w) c → named c ≡ work_of i (log_of w) (pad_of c)
-work_is i w c plain st = ap₂ (λ rs otherwise. reset_or (slice_get rs 0) otherwise) st.resets (beside_is i w c plain st)
+pub work_is : (i : Image) (w : World) (c : Core) → IsSimpleMount i w → Stands i (log_of w) c → named c ≡ work_of i (log_of w) (pad_of c)
+work_is i w c simple st = ap₂ (λ rs otherwise. reset_or (slice_get rs 0) otherwise) st.resets (beside_is i w c simple st)
 
 -- what a program that is named tells
 some_stripe : (a b c d e : Bool) → choice a b c d e ≡ Program → a ≡ true

@@ -1,5 +1,5 @@
 -- The entries of a stripe that is placed: their blocks, and what they change in the table of lines.
-use Rattle.std.specs.Prelude.{ℕ, ◌%◌, List, [], map, take, length, slice_set, Option, Some, None}
+use Rattle.std.specs.Prelude.{ℕ, ◌%◌, List, [], map, length, slice_set, Option, Some, None}
 use Rattle.std.specs.List.{fold}
 use Rattle.std.specs.Option.{option_map_or, unwrap_or}
 use Rattle.pblk_model.specs.Chunk.{Block}
@@ -8,14 +8,9 @@ use Rattle.line_table.specs.declared.row.Row.{Row}
 use Rattle.line_table.specs.Rows.{Table, lost}
 use Rattle.line_laws.specs.Changes.{with_row}
 use Rattle.line_laws.specs.PlacedEntries.{gained}
-use Rattle.stripe_placer.specs.declared.placement.Placement.{Placement}
 use Rattle.write_window.specs.Window.{WindowView, sector_at}
 use Rattle.pblk_core.specs.Holds.{row_at}
 use Rattle.pblk_core.specs.declared.hold.Hold.{Hold}
-
--- the positions of a placement's entries
-abbrev pub positions_placed : Placement → List ℕ
-positions_placed of = take of.count of.positions
 
 -- the block of an entry: its sector in the window, with the mark that is kept of it
 abbrev pub entry_block : WindowView → List Hold → ℕ → Block

@@ -19,7 +19,7 @@ pub record IsMadeOn (s : Shape) (f : Found) (c : Core) : Type 0 where
   pub capacity : fin.len c.map ≡ s.capacity
   pub slots : (lba : ℕ) → lba < s.capacity → fin.get c.map lba ≡ Some (slot_found f.winners lba)
   pub lines : IsOpeningTable s f c.lines
-  pub live : c.live.items ≡ all_online s f.chunks s.chunks
+  pub live : c.live.items ≡ all_online s f s.chunks
   pub resets : resets_left c.resets ≡ resets_found s f.chunks f.strays
   -- positions from the end on, of which none was taken
   pub size : c.window.size ≡ s.ring

@@ -20,7 +20,8 @@ use Rattle.core_laws.specs.PlacerOf.{placing_of, unanswered_on}
 use Rattle.core_laws.specs.RowsOf.{rows_of}
 use Rattle.core_laws.specs.SlotOf.{slot_of}
 use Rattle.core_laws.specs.WindowOf.{is_given_back, sectors_in, window_from}
-use Rattle.core_laws.specs.PlainWorlds.{IsPlainWorld}
+use Rattle.core_laws.specs.SimpleMounts.{NoneAgain}
+use Rattle.world_laws.specs.LegalMounts.{IsLegalMount, NoneCopied, NoneFreed, NoneLost}
 use Rattle.pblk_core.specs.Holds.{hold_of}
 use Rattle.pblk_core.specs.LineRecords.{AreOf}
 use Rattle.pblk_core.specs.Resets.{resets_left, resets_of}
@@ -69,7 +70,15 @@ pub record HasFitNumbers (c : Core) : Type 0 where
   pub first : c.first ≤ 2 ^ 62
   pub rows : AllByRecursion (IsOlder c.start.first_seq c.first) (start_numbers c.start).rows
 
+-- The engine freed no line, took no copy, and heard of no lost and no stopped stripe: no step of a core does so yet.
+pub record IsSimpleLog (log : List Logged) : Type 0 where
+  pub freed : NoneFreed log
+  pub copied : NoneCopied log
+  pub lost : NoneLost log
+  pub again : NoneAgain log
+
 pub record Stands (i : Image) (logs : Logs) (c : Core) : Type 0 where
+  pub simple : IsSimpleLog (logs 0)
   pub layout : c.layout ≡ i.shape
   pub beginning : Begun
   pub has_begun : begun (logs 0) ≡ Some beginning
@@ -102,9 +111,9 @@ pub record Stands (i : Image) (logs : Logs) (c : Core) : Type 0 where
   pub in_flight : c.under_way ≡ under_way i.shape (logs 0)
   pub users : c.users ≡ length (user_takes (logs 0))
 
--- It stands for the logs of some legal world in which nothing failed, was stopped, copied or freed.
+-- It stands for the logs of some legal mount.
 pub record IsStanding (c : Core) : Type 0 where
   pub image : Image
   pub world : World
-  pub legal : IsPlainWorld image world
+  pub legal : IsLegalMount image world
   pub stands : Stands image (log_of world) c

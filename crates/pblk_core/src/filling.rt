@@ -5,31 +5,29 @@ ghost use Rattle.line_table.specs.declared.row.Row.{Row};
 ghost use Rattle.line_table.specs.Rows.{IsRow};
 ghost use Rattle.write_window.specs.Window.{IsHeld, sector_at};
 ghost use Rattle.pblk_core.specs.Filling.{followed_by};
-ghost use Rattle.pblk_core.specs.Entries.{positions_placed, entry_blocks, place_hold, placed_lines, placed_rows};
+ghost use Rattle.pblk_core.specs.Entries.{entry_blocks, place_hold, placed_lines, placed_rows};
 
 use crate::hold::{Hold, Holds};
 use crate::stripe::Stripe;
 use line_table::Lines;
-use stripe_placer::Placement;
 use write_window::Window;
 
-/// Adds the entries of a placement to an empty stripe, in their order, each with the mark that is kept of it.
+/// Adds the entries of these positions to an empty stripe, in their order, each with the mark that is kept of it.
 ///
 /// The window holds them, each of the size of a sector, and the stripe has room for them.
-pub(crate) fn fill(window: &Window, holds: &Holds, of: &Placement, into: &mut Stripe)
+pub(crate) fn fill(window: &Window, holds: &Holds, positions: &[u64], into: &mut Stripe)
     requires rows { 0 < length holds.now.rows.items }
-    requires whole { length (positions_placed of.now) ≡ of.now.count }
-    requires held { (k q : ℕ) → slice_get (positions_placed of.now) k ≡ Some q
+    requires held { (k q : ℕ) → slice_get positions.now k ≡ Some q
         → IsHeld window.now q }
     requires size { (q : ℕ) (sector : List ℕ) → sector_at window.now q ≡ Some sector
         → length sector ≡ into.old.shape.sector }
     requires empty { into.old.stripe.blocks ≡ [] }
-    requires room { of.now.count ≤ into.old.shape.ws_opt }
+    requires room { length positions.now ≤ into.old.shape.ws_opt }
     ensures { into.new ≡ followed_by into.old
-        (entry_blocks window.now holds.now.rows.items (positions_placed of.now)) }
+        (entry_blocks window.now holds.now.rows.items positions.now) }
 {
-    for index in 0..of.count {
-        add_entry(window, holds, of.positions[index as usize], into);
+    for index in 0..positions.len() {
+        add_entry(window, holds, positions[index], into);
     }
 }
 
@@ -53,18 +51,16 @@ fn add_entry(window: &Window, holds: &Holds, position: u64, into: &mut Stripe)
 /// Notes that the entries of a placement are in its line: each is a live sector there, until a later entry of
 /// the sector takes it. Where such an entry was taken already, it does so at once. The line has room for their
 /// number.
-pub(crate) fn settle_lines(lines: &mut Lines, holds: &Holds, of: &Placement)
+pub(crate) fn settle_lines(lines: &mut Lines, holds: &Holds, line: u32, positions: &[u64])
     requires rows { 0 < length holds.now.rows.items }
-    requires whole { length (positions_placed of.now) ≡ of.now.count }
-    requires inside { of.now.line < length lines.old.rows }
-    requires room { (row : Row) → IsRow lines.old of.now.line row
-        → row.live + of.now.count < 2 ^ 32 }
-    ensures { lines.new
-        ≡ placed_lines holds.now.rows.items of.now.line lines.old (positions_placed of.now) }
+    requires inside { line < length lines.old.rows }
+    requires room { (row : Row) → IsRow lines.old line row
+        → row.live + length positions.now < 2 ^ 32 }
+    ensures { lines.new ≡ placed_lines holds.now.rows.items line lines.old positions.now }
 {
-    for index in 0..of.count {
-        let hold = holds.get(of.positions[index as usize]);
-        settle_line(lines, of.line, &hold);
+    for index in 0..positions.len() {
+        let hold = holds.get(positions[index]);
+        settle_line(lines, line, &hold);
     }
 }
 
@@ -80,21 +76,19 @@ fn settle_line(lines: &mut Lines, line: u32, hold: &Hold)
     }
 }
 
-/// Notes in the rows of the entries of a placement in which line they are.
-pub(crate) fn settle_holds(holds: &mut Holds, of: &Placement)
+/// Notes in the rows of the entries of these positions in which line they are.
+pub(crate) fn settle_holds(holds: &mut Holds, line: u32, positions: &[u64])
     requires rows { 0 < length holds.old.rows.items }
-    requires whole { length (positions_placed of.now) ≡ of.now.count }
-    ensures { holds.new.rows.items
-        ≡ placed_rows of.now.line holds.old.rows.items (positions_placed of.now) }
+    ensures { holds.new.rows.items ≡ placed_rows line holds.old.rows.items positions.now }
 {
-    for index in 0..of.count {
-        let position = of.positions[index as usize];
+    for index in 0..positions.len() {
+        let position = positions[index];
         let hold = holds.get(position);
         holds.set(
             position,
             Hold {
                 mark: hold.mark,
-                line: Some(of.line),
+                line: Some(line),
                 taker: hold.taker,
             },
         );

@@ -1,13 +1,14 @@
 //! Lines that a core opens, and lines that it empties.
 
-ghost use Rattle.std.specs.Prelude.{ℕ, ◌≡◌, ◌<◌, ◌≤◌, ◌^◌, List, length, Some, slice_get};
+ghost use Rattle.std.specs.Prelude.{ℕ, ◌≡◌, ◌<◌, ◌≤◌, List, true, length, Some, slice_get};
 ghost use Rattle.pblk_model.specs.Image.{Image};
 ghost use Rattle.pblk_model.specs.Shape.{units};
+ghost use Rattle.pblk_layout.specs.Live.{is_in};
 ghost use Rattle.pblk_world.specs.EngineLog.{Begun, begun as begun_of};
 ghost use Rattle.pblk_world.specs.Events.{Open, ResetDone};
 ghost use Rattle.pblk_world.specs.Opening.{MayOpen};
 ghost use Rattle.pblk_world.specs.World.{World, log_of};
-ghost use Rattle.core_laws.specs.PlainWorlds.{IsPlainWorld};
+ghost use Rattle.world_laws.specs.LegalMounts.{IsLegalMount};
 ghost use Rattle.core_laws.specs.Stepping.{after};
 ghost use Rattle.pblk_core.specs.Named.{named, pad_of, next_start};
 ghost use Rattle.pblk_core.specs.Resets.{IsResetTo, kept_units, emptied};
@@ -15,21 +16,20 @@ ghost use Rattle.pblk_core.specs.Mounts.{StandsAfter};
 ghost use Rattle.pblk_core.specs.Stands.{Stands, IsStanding};
 ghost use Rattle.pblk_core.specs.declared.work.Work.TheVariants as works;
 
-use crate::opening::is_online;
 use crate::target_core::Core;
 use line_table::LineState;
-use pblk_layout::Layout;
+use pblk_layout::{Layout, LineUnits, is_online};
 use pblk_model::ChunkState;
 
 // Notes the new state of a chunk of a line: if it is Offline, its unit is no longer one of the line's.
-fn keep_unit(live: &mut Vec<u64>, line: u32, unit: u32, state: ChunkState)
+fn keep_unit(live: &mut Vec<LineUnits>, line: u32, unit: u32, state: ChunkState)
     requires line { line < length live.old.items }
     requires unit { unit < 64 }
-    requires there { (units : ℕ) → slice_get live.old.items line ≡ Some units → 2 ^ unit ≤ units }
+    requires there { (units : ℕ) → slice_get live.old.items line ≡ Some units → is_in units unit ≡ true }
     ensures { live.new.items ≡ kept_units live.old.items line unit state }
 {
     if !is_online(state) {
-        live[line as usize] -= 1 << unit;
+        live[line as usize].remove(unit);
     }
 }
 
@@ -51,7 +51,7 @@ impl Core {
     pub fn open_line(&mut self)
         requires standing { IsStanding self.old }
         requires named { named self.old ≡ works.Open }
-        ensures legal { (i : Image) (w : World) (begun : Begun) → IsPlainWorld i w
+        ensures legal { (i : Image) (w : World) (begun : Begun) → IsLegalMount i w
             → Stands i (log_of w) self.old → begun_of (log_of w 0) ≡ Some begun
             → MayOpen i (log_of w) begun (next_start self.old).line (next_start self.old) }
         ensures stands { let start = next_start self.old
@@ -64,16 +64,16 @@ impl Core {
             None => unreachable!(),
         };
         let live = self.live[line as usize];
-        let width = self.layout.width(live);
+        let width = live.width();
         let shape = self.layout.shape();
         let stripes = width * (shape.clba / shape.ws_opt);
         self.start.line = line;
         self.start.width = width;
         self.start.front = self.window.synced().position;
-        self.open.begin(&self.start, live, stripes);
+        self.open.begin(&self.start, live.bits(), stripes);
         self.start.seq += 1;
         self.lines.turn(line, LineState::Open, width);
-        self.placer.begin(line, live);
+        self.placer.begin(line, live.bits());
         self.left += u64::from(self.layout.data_len(width));
     }
 
@@ -84,7 +84,7 @@ impl Core {
     pub fn reset_done(&mut self, line: u32, unit: u32, state: ChunkState)
         requires standing { IsStanding self.old }
         requires named { named self.old ≡ works.Reset line unit }
-        ensures stands { (i : Image) (w : World) (event : ℕ) (knows : List ℕ) → IsPlainWorld i w
+        ensures stands { (i : Image) (w : World) (event : ℕ) (knows : List ℕ) → IsLegalMount i w
             → Stands i (log_of w) self.old
             → IsResetTo i (log_of w) unit event line state
             → Stands i (after (log_of w) (ResetDone unit event) knows) self.new }
@@ -94,7 +94,7 @@ impl Core {
         self.resets.advance();
         keep_unit(&mut self.live, line, unit, state);
         if !self.resets.is_at(line) {
-            let width = self.layout.width(self.live[line as usize]);
+            let width = self.live[line as usize].width();
             self.lines.turn(line, emptied(&self.layout, width), width);
         }
     }

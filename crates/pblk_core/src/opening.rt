@@ -5,58 +5,35 @@ ghost use Rattle.std.specs.FinMap as fin;
 ghost use Rattle.pblk_model.specs.declared.found.LineRow.{LineRow};
 ghost use Rattle.pblk_model.specs.declared.found.Winner.{Winner};
 ghost use Rattle.pblk_model.specs.Accepted.{IsAccepted};
-ghost use Rattle.pblk_model.specs.Image.{is_online_in};
 ghost use Rattle.pblk_model.specs.Shape.{units};
 ghost use Rattle.pblk_meta.specs.Records.{row_numbers};
 ghost use Rattle.found_laws.specs.Beginnings.{seq_after};
-ghost use Rattle.begin_laws.specs.OnlineUnits.{online_bits, all_online};
+ghost use Rattle.begin_laws.specs.OnlineUnits.{all_online};
 ghost use Rattle.begin_laws.specs.OpeningTables.{slot_found};
 ghost use Rattle.pblk_core.specs.OlderLines.{older_found};
 
 use l2p_map::{Map, Slot};
+use pblk_layout::{Layout, LineUnits};
 use pblk_meta::{Row, Rows};
-use pblk_model::{ChunkState, LineRow, Shape, Winner};
+use pblk_model::{Found, LineRow, Winner};
 use std::alloc::{AllocError, Global};
 
-/// Whether a chunk isn't Offline.
-pub(crate) fn is_online(state: ChunkState) -> bool
-    ensures { result ≡ is_online_in state }
-{
-    !matches!(state, ChunkState::Offline)
-}
-
-// The units whose chunks of a line aren't Offline.
-fn live_units(shape: &Shape, chunks: &[ChunkState], line: u32) -> u64
-    requires accepted { IsAccepted shape.now }
-    requires line { line < shape.now.chunks }
-    requires chunks { length chunks.now ≡ units shape.now * shape.now.chunks }
-    ensures { result ≡ online_bits shape.now chunks.now line }
-{
-    let mut live = 0;
-    for unit in 0..shape.units() {
-        if is_online(chunks[unit as usize * shape.chunks as usize + line as usize]) {
-            live |= 1 << unit;
-        }
-    }
-    live
-}
-
-/// Of each line the units whose chunks of it aren't Offline, by the states of all chunks. Fails only where
-/// there isn't the memory.
-pub(crate) fn all_live_units(
+/// The online units of each line, by what recovery found. Fails only where there isn't the memory.
+pub(crate) fn all_online_units(
     alloc: Global,
-    shape: &Shape,
-    chunks: &[ChunkState],
-) -> Result<Vec<u64>, AllocError>
-    requires accepted { IsAccepted shape.now }
-    requires chunks { length chunks.now ≡ units shape.now * shape.now.chunks }
-    ensures { IfOk result (λ v. v.items ≡ all_online shape.now chunks.now shape.now.chunks) }
+    layout: &Layout,
+    found: &Found,
+) -> Result<Vec<LineUnits>, AllocError>
+    requires accepted { IsAccepted layout.now }
+    requires chunks { length found.now.chunks ≡ units layout.now * layout.now.chunks }
+    ensures { IfOk result (λ v. v.items ≡ all_online layout.now found.now layout.now.chunks) }
 {
-    let mut live = Vec::with_capacity(alloc, shape.chunks as usize)?;
-    for line in 0..shape.chunks {
-        live.push(live_units(shape, chunks, line))?;
+    let lines = layout.shape().chunks;
+    let mut online = Vec::with_capacity(alloc, lines as usize)?;
+    for line in 0..lines {
+        online.push(layout.online_units(found, line))?;
     }
-    Ok(live)
+    Ok(online)
 }
 
 /// The map of a drive on which these are the winning records: each sector is where its record is. They are of

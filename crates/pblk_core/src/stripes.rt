@@ -8,9 +8,8 @@ ghost use Rattle.pblk_world.specs.Events.{Place, Landed};
 ghost use Rattle.pblk_world.specs.Placing.{MayPlace};
 ghost use Rattle.pblk_world.specs.World.{World, log_of};
 ghost use Rattle.write_window.specs.Window as view;
-ghost use Rattle.core_laws.specs.PlainWorlds.{IsPlainWorld};
+ghost use Rattle.world_laws.specs.LegalMounts.{IsLegalMount};
 ghost use Rattle.core_laws.specs.Stepping.{after};
-ghost use Rattle.pblk_core.specs.Entries.{positions_placed};
 ghost use Rattle.pblk_core.specs.Landing.{IsUnderWayOn, all_landed};
 ghost use Rattle.pblk_core.specs.Named.{named, pad_of};
 ghost use Rattle.pblk_core.specs.Mounts.{InItsMount, StandsAfter};
@@ -23,7 +22,7 @@ use crate::stripe::Stripe;
 use crate::target_core::Core;
 use line_table::LineState;
 use pblk_model::Shape;
-use stripe_placer::{Placement, StripeKind};
+use stripe_placer::StripeKind;
 use write_window::Window;
 
 impl Core {
@@ -44,15 +43,17 @@ impl Core {
             Some(of) => of,
             None => unreachable!(),
         };
+        self.placer.placed(&of);
         into.begin(of.line, of.unit, of.block);
         let index = self.open.find(of.line);
         match of.kind {
             StripeKind::Start => self.open.start_stripe(index, of.at, into),
             StripeKind::Data => {
-                fill(&self.window, &self.holds, &of, into);
+                let positions = self.placer.positions(of.unit);
+                fill(&self.window, &self.holds, positions, into);
                 into.pad();
-                settle_lines(&mut self.lines, &self.holds, &of);
-                settle_holds(&mut self.holds, &of);
+                settle_lines(&mut self.lines, &self.holds, of.line, positions);
+                settle_holds(&mut self.holds, of.line, positions);
                 let (_, marks) = into.parts();
                 self.open.mark_data(index, marks);
                 self.left -= u64::from(self.layout.shape().ws_opt);
@@ -62,14 +63,13 @@ impl Core {
             StripeKind::End => self.open.end_stripe(index, of.at, into),
         }
         self.under_way += 1;
-        self.placer.placed(&of);
     }
 
     /// Notes that all blocks of a placed stripe have landed. The stripe hasn't been answered before.
     pub fn landed(&mut self, stripe: &Stripe)
         requires standing { IsStanding self.old }
         requires under_way { IsUnderWayOn self.old stripe.now.stripe.unit }
-        ensures stands { (i : Image) (w : World) (event : ℕ) (knows : List ℕ) → IsPlainWorld i w
+        ensures stands { (i : Image) (w : World) (event : ℕ) (knows : List ℕ) → IsLegalMount i w
             → Stands i (log_of w) self.old → MayLand (log_of w) stripe.now.stripe.unit event
             → Stands i (after (log_of w) (Landed stripe.now.stripe.unit event) knows) self.new }
         ensures own { (r : Region) → view.AreOf r self.old.window.entries
@@ -77,11 +77,12 @@ impl Core {
         ensures count { length self.new.window.entries ≡ length self.old.window.entries }
         ensures pad { pad_of self.new ≡ pad_of self.old }
     {
-        let of = match self.placer.under_way(stripe.unit()) {
+        let unit = stripe.unit();
+        let of = match self.placer.under_way(unit) {
             Some(of) => of,
             None => unreachable!(),
         };
-        land_entries(&mut self.window, &of);
+        land_entries(&mut self.window, self.placer.positions(unit));
         let index = self.open.find(of.line);
         let shape = self.layout.shape();
         let (from, to) = readable_range(shape, of.block);
@@ -104,15 +105,13 @@ impl Core {
     }
 }
 
-// Notes in the window that the entries of a stripe have landed.
-fn land_entries(window: &mut Window, of: &Placement)
-    requires whole { length (positions_placed of.now) ≡ of.now.count }
-    requires held { (k q : ℕ) → slice_get (positions_placed of.now) k ≡ Some q
-        → view.IsHeld window.old q }
-    ensures { window.new ≡ all_landed window.old (positions_placed of.now) }
+// Notes in the window that the entries of these positions have landed.
+fn land_entries(window: &mut Window, positions: &[u64])
+    requires { (k q : ℕ) → slice_get positions.now k ≡ Some q → view.IsHeld window.old q }
+    ensures { window.new ≡ all_landed window.old positions.now }
 {
-    for index in 0..of.count {
-        window.landed(of.positions[index as usize]);
+    for index in 0..positions.len() {
+        window.landed(positions[index]);
     }
 }
 

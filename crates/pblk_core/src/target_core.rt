@@ -13,7 +13,8 @@ ghost use Rattle.found_laws.specs.Finding.{IsFoundOf};
 ghost use Rattle.found_laws.specs.Beginnings.{beginning_of};
 ghost use Rattle.pblk_world.specs.Fronts.{taken, synced, user_takes};
 ghost use Rattle.write_window.specs.Window as view;
-ghost use Rattle.core_laws.specs.PlainWorlds.{IsPlainWorld};
+ghost use Rattle.core_laws.specs.SimpleMounts.{IsSimpleMount};
+ghost use Rattle.world_laws.specs.LegalMounts.{IsLegalMount};
 ghost use Rattle.core_laws.specs.SlotOf.{slot_of};
 ghost use Rattle.core_laws.specs.Stepping.{after};
 ghost use Rattle.pblk_core.specs.Resets.{resets_of};
@@ -28,11 +29,11 @@ ghost use Rattle.pblk_core.specs.Stands.{Stands};
 
 use crate::hold::Holds;
 use crate::open_lines::OpenLines;
-use crate::opening::{all_live_units, found_map, next_seq, older_rows};
+use crate::opening::{all_online_units, found_map, next_seq, older_rows};
 use crate::resets::Resets;
 use l2p_map::{Map, Slot};
 use line_table::Lines;
-use pblk_layout::Layout;
+use pblk_layout::{Layout, LineUnits};
 use pblk_meta::StartRecord;
 use pblk_model::{Found, Front, Shape};
 use sector_pool::{Frame, Pool};
@@ -52,8 +53,8 @@ pub struct Core {
     pub(crate) placer: Placer,
     pub(crate) holds: Holds,
     pub(crate) open: OpenLines,
-    // of each line a bit for each unit whose chunk of it isn't Offline
-    pub(crate) live: Vec<u64>,
+    // the online units of each line
+    pub(crate) live: Vec<LineUnits>,
     // the chunks of the strays that are still to be reset
     pub(crate) resets: Resets,
     // what the start record of the next line says, but for the line and the front
@@ -79,7 +80,7 @@ impl Core {
         requires accepted { IsAccepted shape.now }
         requires fit { IsFitFound shape.now found }
         ensures stands { IfOk result (λ core. (i : Image) (w : World) (knows : List ℕ)
-            → i.shape ≡ shape.now → IsPlainWorld i w → log_of w 0 ≡ []
+            → i.shape ≡ shape.now → IsLegalMount i w → log_of w 0 ≡ []
             → IsFoundOf (found_image i (after (log_of w) (Begin (beginning_of found)) knows)) found
             → Stands i (after (log_of w) (Begin (beginning_of found)) knows) core) }
         ensures pad { IfOk result (λ core. pad_of core ≡ 0) }
@@ -100,7 +101,7 @@ impl Core {
         let placer = Placer::new(alloc, &layout)?;
         let holds = Holds::new(alloc, shape.ring)?;
         let open = OpenLines::new(alloc, &layout)?;
-        let live = all_live_units(alloc, shape, states)?;
+        let live = all_online_units(alloc, &layout, found)?;
         let resets = Resets::new(alloc, shape, states, found.strays.as_slice())?;
         let seq = next_seq(found.lines.as_slice(), found.head);
         let start = StartRecord {
@@ -196,7 +197,7 @@ impl Core {
         ensures { (live : ℕ) → slice_get self.now.live.items line ≡ Some live
             → slice_get (line_order self.now.layout (units_in live)) at ≡ Some result }
     {
-        self.layout.place(self.live[line as usize], at)
+        self.layout.place(self.live[line as usize].bits(), at)
     }
 
     /// A frame that the window gives back: that of the position at its front `freed`. None exactly where no
@@ -243,16 +244,16 @@ impl Core {
     }
 }
 
-/// A world of no events, over an image of an accepted shape, is one in which nothing failed, was stopped,
-/// copied or freed.
-pub fn a_world_of_no_events_is_plain()
+/// A world of no events, over a fit image of an accepted shape, is a legal mount in which the engine freed and
+/// copied nothing and heard of no loss and no stop.
+pub fn a_world_of_no_events_is_simple()
     ensures { (i : Image) (w : World) → IsAccepted i.shape → IsFit i
-        → ((author : ℕ) → log_of w author ≡ []) → IsPlainWorld i w }
+        → ((author : ℕ) → log_of w author ≡ []) → IsSimpleMount i w }
 {}
 
 /// Where no reset is named, each chunk of a line that was given up is Free or Offline.
 pub fn a_line_is_empty_once_it_was_reset()
-    ensures { (i : Image) (w : World) (line : ℕ) → IsPlainWorld i w → resets_of i (log_of w) ≡ []
+    ensures { (i : Image) (w : World) (line : ℕ) → IsSimpleMount i w → resets_of i (log_of w) ≡ []
         → line < i.shape.chunks → is_given_up (log_of w 0) line ≡ true
         → are_empty (known_image i (log_of w)) line ≡ true }
 {}

@@ -1,4 +1,4 @@
--- What holds of the engine's log of a plain world, event by event.
+-- What holds of the engine's log of a simple mount, event by event.
 use Rattle.std.proofs.Common.{◌≡◌, ℕ, ◌==◌, Bool, true, false, List, [], ◌∷◌, ◌++◌, length, take, refl, subst, ap, ◌∙◌, if◌then◌else◌}
 use Rattle.std.specs.List.{AllByRecursion}
 use Rattle.std.proofs.lemmas.Bool.{eqb-true}
@@ -7,7 +7,9 @@ use Rattle.pblk_model.specs.Image.{Image}
 use Rattle.pblk_world.specs.Events.{EngineEvent, Event, Decides, Does, Logged, Step}
 use Rattle.pblk_world.specs.World.{World, Logs, log_of, known, prefixes}
 use Rattle.pblk_world.specs.Legal.{MayDecide, IsAllowed, IsLegalStep, IsLegal}
-use Rattle.core_laws.specs.PlainWorlds.{is_plain_event, IsPlainWorld}
+use Rattle.core_laws.specs.PlainWorlds.{is_plain_event}
+use Rattle.core_laws.specs.SimpleMounts.{IsSimpleMount}
+use Rattle.core_laws.proofs.SimpleMounts.{engine_plain}
 use Rattle.core_laws.proofs.Removing.{all_first as all_front, all_second as all_back}
 
 -- something is kept by each event that the engine may decide, of those that pass a test
@@ -43,8 +45,8 @@ unfolding IsLegal
 by_events i test P none kept [] legal passes = none
 by_events i test P none kept (s ∷ w) legal passes = one_step i test P kept s w legal.0 (s.author == 0) refl passes (by_events i test P none kept w legal.1)
 
-pub of_plain_log : (i : Image) (P : List Logged → Type 0) → P [] → IsKept i P → (w : World) → IsPlainWorld i w → P (log_of w 0)
-of_plain_log i P none kept w is = by_events i is_plain_event P none kept w is.legal is.engine
+pub of_plain_log : (i : Image) (P : List Logged → Type 0) → P [] → IsKept i P → (w : World) → IsSimpleMount i w → P (log_of w 0)
+of_plain_log i P none kept w simple = by_events i is_plain_event P none kept w simple.mount.legal (engine_plain i w simple)
 
 every_event : Event → Bool
 every_event e = true

@@ -1,4 +1,4 @@
--- In a plain world all open lines go on so.
+-- In a simple mount all open lines go on so.
 use Rattle.std.proofs.Common.{◌≡◌, ℕ, ◌+◌, ◌*◌, ◌/◌, ◌%◌, ◌<◌, ◌≤◌, ◌==◌, ◌&&◌, suc, not, nat_eq, nat_lt, Bool, true, false, cond, Some, None, List, [], ◌∷◌, ◌++◌, length, take, refl, sym, subst, ap, ap₂, ◌∙◌, arith, append-nil, take_all, le_refl, length-take-le, if◌then◌else◌}
 use Rattle.std.specs.Prelude.{slice_get}
 use Rattle.std.specs.List.{AllByRecursion, filter}
@@ -10,21 +10,21 @@ use Rattle.pblk_model.specs.declared.chunk.ChunkState.{ChunkState}
 use Rattle.pblk_model.specs.declared.chunk.ChunkState.TheVariants as states
 use Rattle.pblk_model.specs.Accepted.{IsAccepted}
 use Rattle.pblk_model.specs.Chunk.{Chunk}
-use Rattle.pblk_model.specs.ChunkStep.{ChunkAnswer, Done}
-use Rattle.pblk_model.specs.UnitLog.{UnitOutcome, UnitEvent, Answered, Failed, Stopped}
 use Rattle.pblk_model.specs.LineOrder.{data_len}
 use Rattle.pblk_model.specs.StartRecord.{StartRecord}
 use Rattle.pblk_model.specs.Image.{Image, IsFit, is_online_in, line_units, width}
+use Rattle.pblk_laws.proofs.LineUnits.{line_units_count}
 use Rattle.pblk_layout.specs.Live.{is_live}
 use Rattle.pblk_world.specs.Events.{EngineEvent, Stripe, Begin, Take, Open, Place, Landed, Lost, Again, ResetDone, Free, Event, Decides, Does, Logged}
 use Rattle.pblk_world.specs.World.{World, Logs, log_of, known, prefixes, unit_event_of, unit_event_at}
 use Rattle.pblk_world.specs.EngineLog.{Begun, begun, LineLife, AsFound, Opened, Freed, is_life, is_opened, life_of, turned_by, Opening, Placed, placed_by, placements, placed_on, stripes_of, answers}
 use Rattle.pblk_world.specs.Lines.{told_by, known_image, has_number, is_empty_state, are_empty, line_data, is_free_line}
 use Rattle.pblk_world.specs.Placing.{MayPlace}
-use Rattle.pblk_world.specs.Answering.{IsDoneReset}
 use Rattle.pblk_world.specs.Victims.{engine_prefix}
 use Rattle.pblk_world.proofs.Appending.{life_more, placements_more}
-use Rattle.core_laws.specs.PlainWorlds.{is_plain_event, is_plain_outcome, IsPlainWorld}
+use Rattle.core_laws.specs.PlainWorlds.{is_plain_event}
+use Rattle.core_laws.specs.SimpleMounts.{IsSimpleMount}
+use Rattle.core_laws.proofs.SimpleMounts.{engine_plain}
 use Rattle.core_laws.proofs.Numbers.{life_at}
 use Rattle.core_laws.proofs.Opening.{placed_before}
 use Rattle.core_laws.proofs.Turns.{its_unit}
@@ -34,10 +34,11 @@ use Rattle.placed_laws.proofs.StandingOpenings.{opening_at, life_there}
 use Rattle.placed_laws.proofs.StripeBlocks.{have_blocks, wide_after}
 use Rattle.placed_laws.proofs.Happened.{happened, landed_at, placed_by_prefix}
 use Rattle.placed_laws.proofs.KnownImages.{known_by_prefix}
+use Rattle.placed_laws.proofs.LiveChunks.{live_next}
 use Rattle.placed_laws.proofs.KnownChunks.{by_prefixes, units_by_live, chunk_in, is_on, live_chunk, chunk_untold, each_chunk, known_empty}
 use Rattle.placed_laws.specs.StripeTurns.{IsAtTurn}
 use Rattle.placed_laws.proofs.GoingLines.{IsFilling, IsGoing, IsNewer, going_on, going_further, untouched}
-use Rattle.placed_laws.proofs.GoingSteps.{AreGoing, keeps_lives, landed_chunk, reset_chunk, place_at, place_room, width_counts}
+use Rattle.placed_laws.proofs.GoingSteps.{AreGoing, keeps_lives, landed_chunk, reset_chunk, place_at, place_room}
 use Rattle.lemmas.proofs.Lists.{IsAmong, all_append, all_imply}
 use Rattle.lemmas.proofs.Maps.{filter_none, from_filter}
 use Rattle.lemmas.proofs.Parts.{all_at, get_whole, got_within, take_next}
@@ -120,7 +121,8 @@ open_step i logs k line start knows b fit inside there begins closed empty own_w
     begins_going o number last same = record {
       live = λ u. live_chunk (known_image i (engine_prefix (suc k) logs)) line u ∙ ap is_on (chunk u line) ∙ sym (live_chunk (known_image i (engine_prefix k logs)) line u)
           ∙ ap (λ n. is_live (known_image i (engine_prefix n logs)) line u) (sym number);
-      width_is = ap (λ (x : StartRecord). x.width) same ∙ own_width ∙ width_counts (known_image i (engine_prefix k logs)) line ∙ ap (λ n. length (line_units (known_image i (engine_prefix n logs)) line)) (sym number);
+      width_is = ap (λ (x : StartRecord). x.width) same ∙ own_width ∙ sym (line_units_count (known_image i (engine_prefix k logs)) line)
+          ∙ ap (λ n. length (line_units (known_image i (engine_prefix n logs)) line)) (sym number);
       placed = λ n p e. absurd (none-some p (sym (ap (λ ps. slice_get ps n) (no_stripes o last)) ∙ e));
       few = subst (λ (ps : List Placed). length ps * i.shape.ws_opt ≤ o.start.width * i.shape.clba) (sym (no_stripes o last)) (let z : 0 * i.shape.ws_opt ≡ 0 = zero-mul i.shape.ws_opt in omega arith);
       filling = λ u c e on. first_filling o u c e on;
@@ -222,19 +224,6 @@ pub record IsWell (i : Image) (logs : Logs) (k : ℕ) : Type 0 where
   pub wide : (line : ℕ) (o : Opening) → life_of (take k (logs 0)) line ≡ Opened o → 0 < data_len i.shape o.start.width
   pub no_loss : HaveNoLoss (take k (logs 0))
 
--- an event of a unit, as it is in a plain world
-plain_reset : (w : World) (i : Image) (u n : ℕ) (l : Logged) (r : UnitEvent) → IsPlainWorld i w → slice_get (log_of w (suc u)) n ≡ Some l → unit_event_of l.event ≡ Some r → IsDoneReset r.outcome → r.outcome ≡ Answered Done
-plain_reset w i u n l r is there event done = by_event l.event event (all_at (λ (l : Logged). is_plain_event l.event ≡ true) (log_of w (suc u)) n l there (is.units u))
-  where
-    by_outcome : (o : UnitOutcome) → IsDoneReset o → is_plain_outcome o ≡ true → o ≡ Answered Done
-    by_outcome (Answered a) d p = ap (λ (x : ChunkAnswer). Answered x) d
-    by_outcome (Failed k) d p = absurd cc
-    by_outcome (Stopped k) d p = absurd d
-
-    by_event : (e : Event) → unit_event_of e ≡ Some r → is_plain_event e ≡ true → r.outcome ≡ Answered Done
-    by_event (Decides d) f p = absurd (none-some r f)
-    by_event (Does d maker) f p = let same : d ≡ r = same_Some d r f in by_outcome r.outcome done (ap (λ (x : UnitEvent). is_plain_outcome x.outcome) (sym same) ∙ p)
-
 begin_step : (i : Image) (logs : Logs) (k : ℕ) (l : Logged) → slice_get (logs 0) k ≡ Some l → take k (logs 0) ≡ [] → ((line : ℕ) → turned_by line AsFound 0 l.knows l.event ≡ AsFound) → placed_by [] 0 l.event ≡ None → AreGoing i logs (suc k)
 begin_step i logs k l there empty found none = record {
   going = λ line o e. let never : AsFound ≡ Opened o = sym (life line) ∙ e in absurd cc;
@@ -258,14 +247,15 @@ same_step : (i : Image) (logs : Logs) (k : ℕ) (l : Logged) (b : Begun) → sli
 same_step i logs k l b there begins is same none untold =
     keeps_lives i logs k l there is same none (λ line o e before. untouched i logs k line o l before (λ u. chunk_untold i logs k u line l b there begins (untold u)))
 
-landed_step : (i : Image) (w : World) → IsPlainWorld i w → (k u n : ℕ) (knows : List ℕ) → slice_get (log_of w 0) k ≡ Some (record { event = Decides (Landed u n); knows = knows })
+landed_step : (i : Image) (w : World) → IsSimpleMount i w → (k u n : ℕ) (knows : List ℕ)
+    → slice_get (log_of w 0) k ≡ Some (record { event = Decides (Landed u n); knows = knows })
     → HasHappened i (log_of w) 0 k (record { event = Decides (Landed u n); knows = knows }) → AreGoing i (log_of w) k → AreGoing i (log_of w) (suc k)
-landed_step i w plain k u n knows there is lines =
+landed_step i w simple k u n knows there is lines =
     let may = is.allowed in
     let own : take (known (record { event = Decides (Landed u n); knows = knows }) 0) (log_of w 0) ≡ take k (log_of w 0) = ap (λ m. take m (log_of w 0)) is.own in
     let begins : begun (take k (log_of w 0)) ≡ Some may.0 = ap (λ (xs : List Logged). begun xs) (sym own) ∙ may.1 in
     let at : (p : Placed) × (slice_get (placed_on (log_of w 0) u) (length (answers (take k (log_of w 0)) u)) ≡ Some p) × IsProgramDone (log_of w) u n p =
-    landed_at i w plain.legal k u n (record { event = Decides (Landed u n); knows = knows }) may.0 is may.1 may.2 in
+    landed_at i w simple.mount.legal k u n (record { event = Decides (Landed u n); knows = knows }) may.0 is may.1 may.2 in
     let room : length (answers (take k (log_of w 0)) u) < length (placed_on (take k (log_of w 0)) u) = subst (λ (xs : List Logged). length (answers xs u) < length (placed_on xs u)) own may.2.stripe.placed in
     let q : (p : Placed) × (slice_get (placed_on (take k (log_of w 0)) u) (length (answers (take k (log_of w 0)) u)) ≡ Some p) = got_within (placed_on (take k (log_of w 0)) u) (length (answers (take k (log_of w 0)) u)) room in
     let final : slice_get (placed_on (log_of w 0) u) (length (answers (take k (log_of w 0)) u)) ≡ Some q.0 = placed_by_prefix (log_of w 0) k u (length (answers (take k (log_of w 0)) u)) q.0 q.1 in
@@ -273,7 +263,9 @@ landed_step i w plain k u n knows there is lines =
     let done : IsProgramDone (log_of w) u n q.0 = subst (IsProgramDone (log_of w) u n) one at.2 in
     let among : IsAmong (placements (take k (log_of w 0))) q.0 = from_filter (λ (p : Placed). p.stripe.unit == u) (placements (take k (log_of w 0))) q.0 (length (answers (take k (log_of w 0)) u), q.1) in
     let there_too : IsAmong (placements (log_of w 0)) q.0 = from_filter (λ (p : Placed). p.stripe.unit == u) (placements (log_of w 0)) q.0 (length (answers (take k (log_of w 0)) u), final) in
-    let whole : length q.0.stripe.blocks ≡ i.shape.ws_opt = all_at (λ (p : Placed). length p.stripe.blocks ≡ i.shape.ws_opt) (placements (log_of w 0)) there_too.0 q.0 there_too.1 (have_blocks i w plain.accepted plain.legal).blocks in
+    let whole : length q.0.stripe.blocks ≡ i.shape.ws_opt =
+    all_at (λ (p : Placed). length p.stripe.blocks ≡ i.shape.ws_opt) (placements (log_of w 0)) there_too.0 q.0 there_too.1
+    (have_blocks i w simple.mount.accepted simple.mount.legal).blocks in
     let its : q.0.stripe.unit ≡ u = its_unit (take k (log_of w 0)) u (length (answers (take k (log_of w 0)) u)) q.0 q.1 in
     let chunk : q.0.stripe.chunk ≡ q.0.stripe.line = all_at (λ (p : Placed). p.stripe.chunk ≡ p.stripe.line) (placements (take k (log_of w 0))) among.0 q.0 among.1 lines.chunks in
     let alive : life_of (take k (log_of w 0)) q.0.stripe.line ≡ q.0.life = all_at (λ (p : Placed). life_of (take k (log_of w 0)) p.stripe.line ≡ p.life) (placements (take k (log_of w 0))) among.0 q.0 among.1 lines.lives in
@@ -283,60 +275,64 @@ landed_step i w plain k u n knows there is lines =
       filling = λ v. (landed_chunk i (log_of w) k u n v line knows may.0 o q.0 there begins q.1 done whole among its chunk alive e before).1;
     })
 
-reset_step : (i : Image) (w : World) → IsPlainWorld i w → (k u n : ℕ) (knows : List ℕ) → slice_get (log_of w 0) k ≡ Some (record { event = Decides (ResetDone u n); knows = knows })
+reset_step : (i : Image) (w : World) → IsSimpleMount i w → (k u n : ℕ) (knows : List ℕ)
+    → slice_get (log_of w 0) k ≡ Some (record { event = Decides (ResetDone u n); knows = knows })
     → HasHappened i (log_of w) 0 k (record { event = Decides (ResetDone u n); knows = knows }) → AreGoing i (log_of w) k → AreGoing i (log_of w) (suc k)
-reset_step i w plain k u n knows there is lines =
+reset_step i w simple k u n knows there is lines =
     let may = is.allowed in
     let own : take (known (record { event = Decides (ResetDone u n); knows = knows }) 0) (log_of w 0) ≡ take k (log_of w 0) = ap (λ m. take m (log_of w 0)) is.own in
     let begins : begun (take k (log_of w 0)) ≡ Some may.0 = ap (λ (xs : List Logged). begun xs) (sym own) ∙ may.1 in
     let at : slice_get (log_of w (suc u)) n ≡ Some may.2.new.logged = get_whole (known (record { event = Decides (ResetDone u n); knows = knows }) (suc u)) (log_of w (suc u)) n may.2.new.logged may.2.new.is_known in
     let event : unit_event_at (log_of w) u n ≡ Some may.2.reset = ap (option_and_then (λ (x : Logged). unit_event_of x.event)) at ∙ may.2.new.event in
-    let outcome : may.2.reset.outcome ≡ Answered Done = plain_reset w i u n may.2.new.logged may.2.reset plain at may.2.new.event may.2.not_stopped in
+    let inside : k < length (log_of w 0) = slice_get_within (log_of w 0) k (record { event = Decides (ResetDone u n); knows = knows }) there in
     keeps_lives i (log_of w) k (record { event = Decides (ResetDone u n); knows = knows }) there lines (λ line. refl) refl
     (λ line o e before. record {
-      live = λ v. (reset_chunk i (log_of w) k u n v line knows may.0 o may.2.reset plain.accepted there begins event may.2.is_reset outcome before).0;
-      filling = λ v. (reset_chunk i (log_of w) k u n v line knows may.0 o may.2.reset plain.accepted there begins event may.2.is_reset outcome before).1;
+      live = live_next i w simple.mount.legal simple.freed k line o inside e;
+      filling = λ v. reset_chunk i (log_of w) k u n v line knows may.0 o may.2.reset there begins event may.2.is_reset may.2.not_stopped before;
     })
 
-lines_after : (i : Image) (w : World) → IsPlainWorld i w → (k : ℕ) (e : EngineEvent) (knows : List ℕ) → slice_get (log_of w 0) k ≡ Some (record { event = Decides e; knows = knows })
+lines_after : (i : Image) (w : World) → IsSimpleMount i w → (k : ℕ) (e : EngineEvent) (knows : List ℕ)
+    → slice_get (log_of w 0) k ≡ Some (record { event = Decides e; knows = knows })
     → HasHappened i (log_of w) 0 k (record { event = Decides e; knows = knows }) → is_plain_event (Decides e) ≡ true → IsWell i (log_of w) k → AreGoing i (log_of w) (suc k)
-lines_after i w plain k (Begin beginning) knows there is ok well =
+lines_after i w simple k (Begin beginning) knows there is ok well =
     begin_step i (log_of w) k (record { event = Decides (Begin beginning); knows = knows }) there (ap (λ m. take m (log_of w 0)) (sym is.own) ∙ is.allowed.is_first) (λ line. refl) refl
-lines_after i w plain k (Take entry mark) knows there is ok well =
+lines_after i w simple k (Take entry mark) knows there is ok well =
     same_step i (log_of w) k (record { event = Decides (Take entry mark); knows = knows }) is.allowed.0 there (ap (λ m. begun (take m (log_of w 0))) (sym is.own) ∙ is.allowed.1) well.lines (λ line. refl) refl (λ u. refl)
-lines_after i w plain k (Open line start) knows there is ok well =
+lines_after i w simple k (Open line start) knows there is ok well =
     let ls : Logs = prefixes (record { event = Decides (Open line start); knows = knows }) (log_of w) in
     let own : ls 0 ≡ take k (log_of w 0) = ap (λ m. take m (log_of w 0)) is.own in
-    let image : known_image i ls ≡ known_image i (engine_prefix k (log_of w)) = known_by_prefix i w k (record { event = Decides (Open line start); knows = knows }) plain.legal there in
+    let image : known_image i ls ≡ known_image i (engine_prefix k (log_of w)) =
+    known_by_prefix i w k (record { event = Decides (Open line start); knows = knows }) simple.mount.legal there in
     let free = free_parts i ls line is.allowed.2.is_free in
     let inside : k < length (log_of w 0) = slice_get_within (log_of w 0) k (record { event = Decides (Open line start); knows = knows }) there in
-    open_step i (log_of w) k line start knows is.allowed.0 plain.fit (omega arith) there (ap (λ (xs : List Logged). begun xs) (sym own) ∙ is.allowed.1)
+    open_step i (log_of w) k line start knows is.allowed.0 simple.mount.fit (omega arith) there (ap (λ (xs : List Logged). begun xs) (sym own) ∙ is.allowed.1)
     (ap (λ (xs : List Logged). is_opened (life_of xs line)) (sym own) ∙ not_numbered i ls line (life_of (ls 0) line) free.0)
     (ap (λ (im : Image). are_empty im line) (sym image) ∙ free.1)
     (is.allowed.2.own_width ∙ ap (λ (im : Image). width im line) image) well.lines
-lines_after i w plain k (Place stripe) knows there is ok well =
+lines_after i w simple k (Place stripe) knows there is ok well =
     let ls : Logs = prefixes (record { event = Decides (Place stripe); knows = knows }) (log_of w) in
     let own : ls 0 ≡ take k (log_of w 0) = ap (λ m. take m (log_of w 0)) is.own in
-    place_step i (log_of w) k stripe knows is.allowed.0 ls plain.accepted there (ap (λ (xs : List Logged). begun xs) (sym own) ∙ is.allowed.1) own
-    (known_by_prefix i w k (record { event = Decides (Place stripe); knows = knows }) plain.legal there) is.allowed.2 well.wide well.no_loss well.lines
-lines_after i w plain k (Landed u n) knows there is ok well = landed_step i w plain k u n knows there is well.lines
-lines_after i w plain k (Lost u n) knows there is ok well = absurd cc
-lines_after i w plain k (Again u n) knows there is ok well = absurd cc
-lines_after i w plain k (ResetDone u n) knows there is ok well = reset_step i w plain k u n knows there is well.lines
-lines_after i w plain k (Free line) knows there is ok well = absurd cc
+    place_step i (log_of w) k stripe knows is.allowed.0 ls simple.mount.accepted there (ap (λ (xs : List Logged). begun xs) (sym own) ∙ is.allowed.1) own
+    (known_by_prefix i w k (record { event = Decides (Place stripe); knows = knows }) simple.mount.legal there) is.allowed.2 well.wide well.no_loss well.lines
+lines_after i w simple k (Landed u n) knows there is ok well = landed_step i w simple k u n knows there is well.lines
+lines_after i w simple k (Lost u n) knows there is ok well = absurd cc
+lines_after i w simple k (Again u n) knows there is ok well = absurd cc
+lines_after i w simple k (ResetDone u n) knows there is ok well = reset_step i w simple k u n knows there is well.lines
+lines_after i w simple k (Free line) knows there is ok well = absurd cc
 
-well_after : (i : Image) (w : World) → IsPlainWorld i w → (k : ℕ) (event : Event) (knows : List ℕ) → slice_get (log_of w 0) k ≡ Some (record { event = event; knows = knows })
+well_after : (i : Image) (w : World) → IsSimpleMount i w → (k : ℕ) (event : Event) (knows : List ℕ)
+    → slice_get (log_of w 0) k ≡ Some (record { event = event; knows = knows })
     → HasHappened i (log_of w) 0 k (record { event = event; knows = knows }) → is_plain_event event ≡ true → IsWell i (log_of w) k → IsWell i (log_of w) (suc k)
-well_after i w plain k (Does e maker) knows there is ok well = absurd is.allowed
-well_after i w plain k (Decides e) knows there is ok well =
+well_after i w simple k (Does e maker) knows there is ok well = absurd is.allowed
+well_after i w simple k (Decides e) knows there is ok well =
     let next : take (suc k) (log_of w 0) ≡ take k (log_of w 0) ++ record { event = Decides e; knows = knows } ∷ [] = take_next (log_of w 0) k (record { event = Decides e; knows = knows }) there in
     record {
-      lines = lines_after i w plain k e knows there is ok well;
+      lines = lines_after i w simple k e knows there is ok well;
       wide = λ line o f. wide_after i (prefixes (record { event = Decides e; knows = knows }) (log_of w)) (take k (log_of w 0)) e knows is.allowed well.wide line o (ap (λ (xs : List Logged). life_of xs line) (sym next) ∙ f);
       no_loss = subst HaveNoLoss (sym next) (no_loss_after (take k (log_of w 0)) e knows ok well.no_loss);
     }
 
-pub all_well : (i : Image) (w : World) → IsPlainWorld i w → (k : ℕ) → k ≤ length (log_of w 0) → IsWell i (log_of w) k
-all_well i w plain = by_prefixes (log_of w 0) (IsWell i (log_of w))
+pub all_well : (i : Image) (w : World) → IsSimpleMount i w → (k : ℕ) → k ≤ length (log_of w 0) → IsWell i (log_of w) k
+all_well i w simple = by_prefixes (log_of w 0) (IsWell i (log_of w))
     (record { lines = record { going = λ line o e. absurd cc; lives = tt; opened = tt; chunks = tt }; wide = λ line o e. absurd cc; no_loss = λ unit. tt })
-    (λ k l there well. well_after i w plain k l.event l.knows there (happened i w 0 plain.legal k l there) (all_at (λ (l : Logged). is_plain_event l.event ≡ true) (log_of w 0) k l there plain.engine) well)
+    (λ k l there well. well_after i w simple k l.event l.knows there (happened i w 0 simple.mount.legal k l there) (all_at (λ (l : Logged). is_plain_event l.event ≡ true) (log_of w 0) k l there (engine_plain i w simple)) well)

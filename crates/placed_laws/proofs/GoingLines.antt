@@ -26,7 +26,6 @@ use Rattle.placed_laws.proofs.Columns.{few_in_column}
 use Rattle.placed_laws.proofs.KnownChunks.{one_column, chunk_in, is_on, live_chunk}
 use Rattle.lemmas.proofs.Maps.{fewer_taken, filters_swap}
 use Rattle.lemmas.proofs.Parts.{take_next}
-use Rattle.lemmas.proofs.Tests.{same_number}
 use Rattle.pblk_world.proofs.EngineLogLemmas.{answers_more}
 
 -- the stripes of an opening on a unit that have landed, where none was lost: as many of the unit's first stripes as it answered
@@ -105,16 +104,6 @@ column_is_few i logs k line o u some even is =
     let below : n < i.shape.clba / i.shape.ws_opt * length (line_units (known_image i (engine_prefix o.number logs)) line) = omega arith in
     (div-lt_iff_lt-mul wide).1 below)
 
-pub landed_is_few : (i : Image) (logs : Logs) (k line : ℕ) (o : Opening) (u : ℕ) → 0 < i.shape.ws_opt → i.shape.clba % i.shape.ws_opt ≡ 0 → IsGoing i logs k line o
-    → length (landed_on (take k (logs 0)) o u) * i.shape.ws_opt ≤ i.shape.clba
-landed_is_few i logs k line o u some even is =
-    let few : length (filter (λ (p : Placed). p.stripe.unit == u) (stripes_of (take k (logs 0)) o)) ≤ i.shape.clba / i.shape.ws_opt = column_is_few i logs k line o u some even is in
-    let part : length (landed_on (take k (logs 0)) o u) ≤ length (filter (λ (p : Placed). p.stripe.unit == u) (stripes_of (take k (logs 0)) o)) = landed_in_stripes (take k (logs 0)) o u in
-    let less : length (landed_on (take k (logs 0)) o u) ≤ i.shape.clba / i.shape.ws_opt = omega arith in
-    let rows : length (landed_on (take k (logs 0)) o u) * i.shape.ws_opt ≤ i.shape.clba / i.shape.ws_opt * i.shape.ws_opt = mul-le-mul_right i.shape.ws_opt less in
-    let whole : i.shape.clba / i.shape.ws_opt * i.shape.ws_opt + i.shape.clba % i.shape.ws_opt ≡ i.shape.clba = div-add-mod' i.shape.clba i.shape.ws_opt in
-    omega arith
-
 -- ---- one more event
 
 pub filling_later : (s : Shape) (log : List Logged) (l : Logged) (o : Opening) (u : ℕ) (c : Chunk) → IsFilling s log o u c → IsFilling s (log ++ l ∷ []) o u c
@@ -183,15 +172,6 @@ untouched i logs k line o l is same = record {
 }
 
 -- a chunk of the line is reset
-pub reset_state : (s : Shape) (c : Chunk) → (c.state ≡ states.Closed → pointer c ≡ s.clba) → is_online_in (after_reset s c).state ≡ is_online_in c.state
-reset_state s c full = go c.state refl
-  where
-    go : (state : ChunkState) → c.state ≡ state → is_online_in (reset_in s state (pointer c)).state ≡ is_online_in state
-    go states.Free e = refl
-    go states.Open e = refl
-    go states.Closed e = ap (λ b. is_online_in (if b then free_chunk else offline_chunk).state) (ap (λ n. n == s.clba) (full e) ∙ same_number s.clba)
-    go states.Offline e = refl
-
 pub reset_filling : (s : Shape) (log : List Logged) (o : Opening) (u : ℕ) (c : Chunk) → is_online_in (after_reset s c).state ≡ true → IsFilling s log o u (after_reset s c)
 reset_filling s log o u c on = go c.state on
   where

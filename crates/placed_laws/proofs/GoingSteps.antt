@@ -1,24 +1,25 @@
 -- What each event of the engine leaves of the lines that are open.
 use Rattle.std.proofs.Common.{◌≡◌, ◌⊎◌, inl, inr, ℕ, ◌+◌, ◌*◌, ◌/◌, ◌%◌, ◌<◌, ◌≤◌, ◌==◌, ◌||◌, zero, suc, nat_eq, Bool, true, false, cond, Some, None, Option, List, [], ◌∷◌, ◌++◌, length, take, refl, sym, subst, ap, ap₂, ◌∙◌, arith, append-nil, length-append, if◌then◌else◌}
-use Rattle.std.specs.Prelude.{slice_get, map}
-use Rattle.std.specs.List.{AllByRecursion, filter, filter_map, cons_option, enumerate_from, list_any}
-use Rattle.std.specs.Option.{option_map, option_map_or, option_to_list}
+use Rattle.std.specs.Prelude.{slice_get}
+use Rattle.std.specs.List.{AllByRecursion, filter, list_any}
+use Rattle.std.specs.Option.{option_map, option_to_list}
 use Rattle.std.proofs.lemmas.Bool.{eqb-true, eqb-false}
 use Rattle.std.proofs.lemmas.Option.{same_Some, none-some}
 use Rattle.std.proofs.Math.Nat.{mul-div_cancel, mul-mod_left}
-use Rattle.pblk_model.specs.declared.chunk.ChunkState.TheVariants as states
 use Rattle.pblk_model.specs.Accepted.{IsAccepted}
-use Rattle.pblk_model.specs.Chunk.{Chunk, pointer}
-use Rattle.pblk_model.specs.ChunkStep.{Reset, Done, appended, after_reset}
-use Rattle.pblk_model.specs.UnitLog.{UnitEvent, Answered, after_outcome}
+use Rattle.pblk_model.specs.Chunk.{Chunk}
+use Rattle.pblk_model.specs.ChunkStep.{Reset, appended, after_reset}
+use Rattle.pblk_model.specs.UnitLog.{UnitOutcome, UnitEvent, Answered, Failed, Stopped, after_outcome}
 use Rattle.pblk_model.specs.LineOrder.{start_len, end_len, data_len}
 use Rattle.pblk_model.specs.Image.{Image, is_online_in, line_units, width}
+use Rattle.pblk_laws.proofs.LineUnits.{line_units_count}
 use Rattle.pblk_layout.specs.Live.{is_live}
 use Rattle.pblk_world.specs.Events.{Stripe, Landed, ResetDone, Decides, Logged}
 use Rattle.pblk_world.specs.World.{Logs, unit_event_at}
 use Rattle.pblk_world.specs.EngineLog.{Begun, begun, Opened, is_life, is_opened, life_of, turned_by, Opening, Placed, placed_by, placements, placed_on, stripes_of, Answer, DidLand, answers, was_lost, has_failed}
 use Rattle.pblk_world.specs.Lines.{told_by, known_image}
 use Rattle.pblk_world.specs.Placing.{IsNext, IsStart, IsData, IsEnd, IsPad}
+use Rattle.pblk_world.specs.Answering.{IsDoneReset}
 use Rattle.pblk_world.specs.Victims.{engine_prefix}
 use Rattle.pblk_world.proofs.Appending.{life_more, placements_more}
 use Rattle.placed_laws.specs.StripePrograms.{IsProgramDone}
@@ -26,7 +27,7 @@ use Rattle.placed_laws.proofs.Ordered.{HaveNoLoss, never_lost}
 use Rattle.placed_laws.proofs.StripeBlocks.{whole_step, whole_chunks}
 use Rattle.placed_laws.proofs.KnownChunks.{unit_is_live, chunk_in, is_on, live_chunk, chunk_of_live, chunk_untold, chunk_told, chunk_beside}
 use Rattle.placed_laws.specs.StripeTurns.{IsAtTurn}
-use Rattle.placed_laws.proofs.GoingLines.{landed_on, IsFilling, IsGoing, IsNewer, going_on, landed_is_few, reset_state, reset_filling, append_filling, filling_later}
+use Rattle.placed_laws.proofs.GoingLines.{landed_on, IsFilling, IsGoing, IsNewer, going_on, reset_filling, append_filling, filling_later}
 use Rattle.lemmas.proofs.Lists.{IsAmong, all_imply}
 use Rattle.lemmas.proofs.Maps.{in_filter}
 use Rattle.lemmas.proofs.Parts.{take_next}
@@ -35,36 +36,12 @@ use Rattle.pblk_model.proofs.ImageLemmas.{appended_online}
 use Rattle.pblk_model.proofs.LineOrderLemmas.{whole_line}
 use Rattle.pblk_world.proofs.EngineLogLemmas.{answers_more}
 
--- ---- how wide a line is
-
-width_from : (line n : ℕ) (units : List (List Chunk)) → length (filter (λ (c : Chunk). is_online_in c.state) (filter_map (λ (unit : List Chunk). slice_get unit line) units))
-    ≡ length (map (λ (e : ℕ × List Chunk). e.0) (filter (λ (e : ℕ × List Chunk). option_map_or (λ (c : Chunk). is_online_in c.state) (slice_get e.1 line) false) (enumerate_from n units)))
-width_from line n [] = refl
-width_from line n (cs ∷ units) = go (slice_get cs line) (width_from line (n + 1) units)
-  where
-    by_state : (b : Bool) (c : Chunk) → length (filter (λ (c : Chunk). is_online_in c.state) (filter_map (λ (unit : List Chunk). slice_get unit line) units))
-        ≡ length (map (λ (e : ℕ × List Chunk). e.0) (filter (λ (e : ℕ × List Chunk). option_map_or (λ (c : Chunk). is_online_in c.state) (slice_get e.1 line) false) (enumerate_from (n + 1) units)))
-        → length (cond b (c ∷ filter (λ (c : Chunk). is_online_in c.state) (filter_map (λ (unit : List Chunk). slice_get unit line) units)) (filter (λ (c : Chunk). is_online_in c.state) (filter_map (λ (unit : List Chunk). slice_get unit line) units)))
-        ≡ length (map (λ (e : ℕ × List Chunk). e.0) (cond b ((n, cs) ∷ filter (λ (e : ℕ × List Chunk). option_map_or (λ (c : Chunk). is_online_in c.state) (slice_get e.1 line) false) (enumerate_from (n + 1) units)) (filter (λ (e : ℕ × List Chunk). option_map_or (λ (c : Chunk). is_online_in c.state) (slice_get e.1 line) false) (enumerate_from (n + 1) units))))
-    by_state true c rest = ap suc rest
-    by_state false c rest = rest
-
-    go : (o : Option Chunk) → length (filter (λ (c : Chunk). is_online_in c.state) (filter_map (λ (unit : List Chunk). slice_get unit line) units))
-        ≡ length (map (λ (e : ℕ × List Chunk). e.0) (filter (λ (e : ℕ × List Chunk). option_map_or (λ (c : Chunk). is_online_in c.state) (slice_get e.1 line) false) (enumerate_from (n + 1) units)))
-        → length (filter (λ (c : Chunk). is_online_in c.state) (cons_option o (filter_map (λ (unit : List Chunk). slice_get unit line) units)))
-        ≡ length (map (λ (e : ℕ × List Chunk). e.0) (cond (option_map_or (λ (c : Chunk). is_online_in c.state) o false) ((n, cs) ∷ filter (λ (e : ℕ × List Chunk). option_map_or (λ (c : Chunk). is_online_in c.state) (slice_get e.1 line) false) (enumerate_from (n + 1) units)) (filter (λ (e : ℕ × List Chunk). option_map_or (λ (c : Chunk). is_online_in c.state) (slice_get e.1 line) false) (enumerate_from (n + 1) units))))
-    go None rest = rest
-    go (Some c) rest = by_state (is_online_in c.state) c rest
-
-pub width_counts : (i : Image) (line : ℕ) → width i line ≡ length (line_units i line)
-width_counts i line = width_from line 0 i.units
-
 -- ---- a stripe that is placed next
 
 pub place_at : (i : Image) (ls : Logs) (o : Opening) (stripe : Stripe) → 0 < i.shape.ws_opt → IsNext i ls o stripe
     → (slice_get (line_units (known_image i ls) stripe.line) (length (stripes_of (ls 0) o) % length (line_units (known_image i ls) stripe.line)) ≡ Some stripe.unit)
     × (stripe.at ≡ length (stripes_of (ls 0) o) / length (line_units (known_image i ls) stripe.line) * i.shape.ws_opt)
-place_at i ls o stripe some is = go (width (known_image i ls) stripe.line) (width_counts (known_image i ls) stripe.line) is.in_order
+place_at i ls o stripe some is = go (width (known_image i ls) stripe.line) (sym (line_units_count (known_image i ls) stripe.line)) is.in_order
   where
     first : (a b c d : ℕ) → ◌≡◌ {A = Option (ℕ × ℕ)} (Some (a, b)) (Some (c, d)) → (a ≡ c) × (b ≡ d)
     first a b c d e = let same : ◌≡◌ {A = ℕ × ℕ} (a, b) (c, d) = same_Some (a, b) (c, d) e in (ap (λ (x : ℕ × ℕ). x.0) same, ap (λ (x : ℕ × ℕ). x.1) same)
@@ -228,55 +205,50 @@ landed_chunk i logs k u n v line knows b o p there begins at done whole among it
     by_unit true e = by_line e (nat_eq p.stripe.line line) refl
     by_unit false e = kept (chunk_untold i logs k v line (record { event = Decides (Landed u n); knows = knows }) b there begins (ap (λ b. if b then unit_event_at (engine_prefix (suc k) logs) v n else None) e))
 
--- a chunk that was reset
-pub reset_chunk : (i : Image) (logs : Logs) (k u n v line : ℕ) (knows : List ℕ) (b : Begun) (o : Opening) (r : UnitEvent) → IsAccepted i.shape
+-- how full the chunk of a line is as it is known after one more event
+abbrev AreFilling : Image → Logs → ℕ → ℕ → ℕ → Opening → Logged → Type 0
+AreFilling i logs k v line o l =
+    (c : Chunk) → chunk_in (known_image i (engine_prefix (suc k) logs)) v line ≡ Some c → is_online_in c.state ≡ true → IsFilling i.shape
+    (take k (logs 0) ++ l ∷ []) o v c
+
+-- a chunk that was reset, or went Offline by a reset that failed
+pub reset_chunk : (i : Image) (logs : Logs) (k u n v line : ℕ) (knows : List ℕ) (b : Begun) (o : Opening) (r : UnitEvent)
     → slice_get (logs 0) k ≡ Some (record { event = Decides (ResetDone u n); knows = knows }) → begun (take k (logs 0)) ≡ Some b
-    → unit_event_at logs u n ≡ Some r → r.command ≡ Reset → r.outcome ≡ Answered Done → IsGoing i logs k line o
-    → (is_live (known_image i (engine_prefix (suc k) logs)) line v ≡ is_live (known_image i (engine_prefix k logs)) line v)
-    × ((c : Chunk) → chunk_in (known_image i (engine_prefix (suc k) logs)) v line ≡ Some c → is_online_in c.state ≡ true → IsFilling i.shape (take k (logs 0) ++ record { event = Decides (ResetDone u n); knows = knows } ∷ []) o v c)
-reset_chunk i logs k u n v line knows b o r accepted there begins event command outcome is = by_unit (nat_eq u v) refl
+    → unit_event_at logs u n ≡ Some r → r.command ≡ Reset → IsDoneReset r.outcome → IsGoing i logs k line o
+    → AreFilling i logs k v line o (record { event = Decides (ResetDone u n); knows = knows })
+reset_chunk i logs k u n v line knows b o r there begins event command outcome is = by_unit (nat_eq u v) refl
   where
     kept : chunk_in (known_image i (engine_prefix (suc k) logs)) v line ≡ chunk_in (known_image i (engine_prefix k logs)) v line
-        → (is_live (known_image i (engine_prefix (suc k) logs)) line v ≡ is_live (known_image i (engine_prefix k logs)) line v)
-        × ((c : Chunk) → chunk_in (known_image i (engine_prefix (suc k) logs)) v line ≡ Some c → is_online_in c.state ≡ true → IsFilling i.shape (take k (logs 0) ++ record { event = Decides (ResetDone u n); knows = knows } ∷ []) o v c)
-    kept same = (
-      live_chunk (known_image i (engine_prefix (suc k) logs)) line v ∙ ap is_on same ∙ sym (live_chunk (known_image i (engine_prefix k logs)) line v),
-      λ c e on. filling_later i.shape (take k (logs 0)) (record { event = Decides (ResetDone u n); knows = knows }) o v c (is.filling v c (sym same ∙ e) on),
-    )
+        → AreFilling i logs k v line o (record { event = Decides (ResetDone u n); knows = knows })
+    kept same c e on =
+        filling_later i.shape (take k (logs 0)) (record { event = Decides (ResetDone u n); knows = knows }) o v c (is.filling v c (sym same ∙ e) on)
 
     told : nat_eq u v ≡ true → told_by (engine_prefix (suc k) logs) v (Decides (ResetDone u n)) ≡ Some r
     told e = ap (λ b. if b then unit_event_at (engine_prefix (suc k) logs) v n else None) e ∙ ap (λ m. unit_event_at logs m n) (sym (eqb-true u v e)) ∙ event
 
-    full : (c : Chunk) → chunk_in (known_image i (engine_prefix k logs)) v line ≡ Some c → c.state ≡ states.Closed → pointer c ≡ i.shape.clba
-    full c at closed =
-        let filled : IsFilling i.shape (take k (logs 0)) o v c = is.filling v c at (ap is_online_in closed) in
-        let low : i.shape.clba ≤ length c.blocks = filled.closed closed in
-        let high : length c.blocks ≤ length (landed_on (take k (logs 0)) o v) * i.shape.ws_opt = filled.blocks in
-        let few : length (landed_on (take k (logs 0)) o v) * i.shape.ws_opt ≤ i.shape.clba = landed_is_few i logs k line o v accepted.drive.ws_opt accepted.drive.whole_stripes is in
-        omega arith
+    by_outcome : (d c : Chunk) (out : UnitOutcome) → IsDoneReset out → after_outcome i.shape d Reset out ≡ c → is_online_in c.state ≡ true
+        → IsFilling i.shape (take k (logs 0) ++ record { event = Decides (ResetDone u n); knows = knows } ∷ []) o v c
+    by_outcome d c (Answered answer) done now on =
+        let same : after_reset i.shape d ≡ c = ap (λ a. after_outcome i.shape d Reset (Answered a)) (sym done) ∙ now in
+        subst (IsFilling i.shape (take k (logs 0) ++ record { event = Decides (ResetDone u n); knows = knows } ∷ []) o v) same
+        (reset_filling i.shape (take k (logs 0) ++ record { event = Decides (ResetDone u n); knows = knows } ∷ []) o v d (ap (λ (x : Chunk). is_online_in x.state) same ∙ on))
+    by_outcome d c (Failed j) done now on = absurd (cc (ap (λ (x : Chunk). is_online_in x.state) now ∙ on))
+    by_outcome d c (Stopped j) done now on = absurd done
 
-    by_chunk : (x : Option Chunk) → chunk_in (known_image i (engine_prefix k logs)) v line ≡ x → chunk_in (known_image i (engine_prefix (suc k) logs)) v line ≡ option_map (λ (c : Chunk). after_reset i.shape c) x
-        → (is_live (known_image i (engine_prefix (suc k) logs)) line v ≡ is_live (known_image i (engine_prefix k logs)) line v)
-        × ((c : Chunk) → chunk_in (known_image i (engine_prefix (suc k) logs)) v line ≡ Some c → is_online_in c.state ≡ true → IsFilling i.shape (take k (logs 0) ++ record { event = Decides (ResetDone u n); knows = knows } ∷ []) o v c)
+    by_chunk : (x : Option Chunk) → chunk_in (known_image i (engine_prefix k logs)) v line ≡ x
+        → chunk_in (known_image i (engine_prefix (suc k) logs)) v line ≡ option_map (λ (c : Chunk). after_outcome i.shape c Reset r.outcome) x
+        → AreFilling i logs k v line o (record { event = Decides (ResetDone u n); knows = knows })
     by_chunk None at now = kept (now ∙ sym at)
-    by_chunk (Some d) at now = (
-      live_chunk (known_image i (engine_prefix (suc k) logs)) line v ∙ ap is_on now ∙ reset_state i.shape d (full d at) ∙ ap is_on (sym at) ∙ sym (live_chunk (known_image i (engine_prefix k logs)) line v),
-      λ c e on.
-          let same : after_reset i.shape d ≡ c = same_Some (after_reset i.shape d) c (sym now ∙ e) in
-          subst (IsFilling i.shape (take k (logs 0) ++ record { event = Decides (ResetDone u n); knows = knows } ∷ []) o v) same
-          (reset_filling i.shape (take k (logs 0) ++ record { event = Decides (ResetDone u n); knows = knows } ∷ []) o v d (ap (λ (x : Chunk). is_online_in x.state) same ∙ on)),
-    )
+    by_chunk (Some d) at now = λ c e on. by_outcome d c r.outcome outcome (same_Some (after_outcome i.shape d Reset r.outcome) c (sym now ∙ e)) on
 
     by_line : nat_eq u v ≡ true → (d : Bool) → nat_eq r.chunk line ≡ d
-        → (is_live (known_image i (engine_prefix (suc k) logs)) line v ≡ is_live (known_image i (engine_prefix k logs)) line v)
-        × ((c : Chunk) → chunk_in (known_image i (engine_prefix (suc k) logs)) v line ≡ Some c → is_online_in c.state ≡ true → IsFilling i.shape (take k (logs 0) ++ record { event = Decides (ResetDone u n); knows = knows } ∷ []) o v c)
+        → AreFilling i logs k v line o (record { event = Decides (ResetDone u n); knows = knows })
     by_line e true f = by_chunk (chunk_in (known_image i (engine_prefix k logs)) v line) refl
         (chunk_told i logs k v line (record { event = Decides (ResetDone u n); knows = knows }) b r there begins (told e) (eqb-true r.chunk line f)
-        ∙ ap₂ (λ command outcome. option_map (λ (c : Chunk). after_outcome i.shape c command outcome) (chunk_in (known_image i (engine_prefix k logs)) v line)) command outcome)
+        ∙ ap
+        (λ command. option_map (λ (c : Chunk). after_outcome i.shape c command r.outcome) (chunk_in (known_image i (engine_prefix k logs)) v line)) command)
     by_line e false f = kept (chunk_beside i logs k v line (record { event = Decides (ResetDone u n); knows = knows }) b r there begins (told e) (eqb-false r.chunk line f))
 
-    by_unit : (d : Bool) → nat_eq u v ≡ d
-        → (is_live (known_image i (engine_prefix (suc k) logs)) line v ≡ is_live (known_image i (engine_prefix k logs)) line v)
-        × ((c : Chunk) → chunk_in (known_image i (engine_prefix (suc k) logs)) v line ≡ Some c → is_online_in c.state ≡ true → IsFilling i.shape (take k (logs 0) ++ record { event = Decides (ResetDone u n); knows = knows } ∷ []) o v c)
+    by_unit : (d : Bool) → nat_eq u v ≡ d → AreFilling i logs k v line o (record { event = Decides (ResetDone u n); knows = knows })
     by_unit true e = by_line e (nat_eq r.chunk line) refl
     by_unit false e = kept (chunk_untold i logs k v line (record { event = Decides (ResetDone u n); knows = knows }) b there begins (ap (λ b. if b then unit_event_at (engine_prefix (suc k) logs) v n else None) e))

@@ -11,7 +11,7 @@ use Rattle.stripe_placer.specs.OpenLines.{Stripe, OpenLine, numbers, is_lost, is
 use Rattle.stripe_placer.specs.OpenLines.Stripe.{Unplaced, Unanswered, Landed as HasLanded, Lost as WasIt}
 use Rattle.stripe_placer.specs.Placing.{Program}
 use Rattle.core_laws.specs.Stepping.{after}
-use Rattle.core_laws.specs.PlainWorlds.{IsPlainWorld}
+use Rattle.core_laws.specs.SimpleMounts.{IsSimpleMount}
 use Rattle.core_laws.specs.OpenedLines.{as_opened, by_answer, became, placed_as, outcome, open_line}
 use Rattle.core_laws.specs.PlacerOf.{IsAwaited}
 use Rattle.core_laws.proofs.TakenSlots.{any_same}
@@ -60,7 +60,7 @@ left_by_landing l all =
     ∙ any_numbered is_unplaced l.stripes)
     ∙ left_parts l.stripes all
 
--- ---- no stripe of a plain world was lost
+-- ---- no stripe of a simple mount was lost
 
 answer_not_lost : (a : Option Answer) → is_loss a ≡ false → is_lost (by_answer a) ≡ false
 answer_not_lost None e = refl
@@ -91,13 +91,15 @@ none_lost_line l line j all = go (nat_eq l.line line)
     go true = none_lost_set l.stripes j HasLanded refl all
     go false = all
 
-pub left_until_landed : (i : Image) (w : World) (o : Opening) → IsPlainWorld i w → has_left (open_line i (log_of w) o) ≡ not (list_all is_landed (open_line i (log_of w) o).stripes)
-left_until_landed i w o is = left_by_landing (open_line i (log_of w) o) (none_lost_in i (log_of w) (ordered i w is).no_loss o)
+pub left_until_landed : (i : Image) (w : World) (o : Opening) → IsSimpleMount i w
+    → has_left (open_line i (log_of w) o) ≡ not (list_all is_landed (open_line i (log_of w) o).stripes)
+left_until_landed i w o simple = left_by_landing (open_line i (log_of w) o) (none_lost_in i (log_of w) (ordered i w simple).no_loss o)
 
-pub left_after_landing : (i : Image) (w : World) (event : ℕ) (knows : List ℕ) (pad : ℕ) (again : List ℕ) (of : Program) → IsPlainWorld i w → IsAwaited i (log_of w) pad again of
+pub left_after_landing : (i : Image) (w : World) (event : ℕ) (knows : List ℕ) (pad : ℕ) (again : List ℕ) (of : Program) → IsSimpleMount i w
+    → IsAwaited i (log_of w) pad again of
     → left_openings i (after (log_of w) (Landed of.unit event) knows) ≡ filter (λ o. not (list_all is_landed (in_line of.line (of.at / i.shape.ws_opt) HasLanded (open_line i (log_of w) o)).stripes)) (left_openings i (log_of w))
-left_after_landing i w event knows pad again of is awaited =
-    left_landed i (log_of w) event knows pad again of is.accepted.drive.ws_opt awaited
+left_after_landing i w event knows pad again of simple awaited =
+    left_landed i (log_of w) event knows pad again of simple.mount.accepted.drive.ws_opt awaited
     ∙ filter_same (λ o. has_left (in_line of.line (of.at / i.shape.ws_opt) HasLanded (open_line i (log_of w) o))) (λ o. not (list_all is_landed (in_line of.line (of.at / i.shape.ws_opt) HasLanded (open_line i (log_of w) o)).stripes))
-    (λ o. left_by_landing (in_line of.line (of.at / i.shape.ws_opt) HasLanded (open_line i (log_of w) o)) (none_lost_line (open_line i (log_of w) o) of.line (of.at / i.shape.ws_opt) (none_lost_in i (log_of w) (ordered i w is).no_loss o)))
+    (λ o. left_by_landing (in_line of.line (of.at / i.shape.ws_opt) HasLanded (open_line i (log_of w) o)) (none_lost_line (open_line i (log_of w) o) of.line (of.at / i.shape.ws_opt) (none_lost_in i (log_of w) (ordered i w simple).no_loss o)))
     (left_openings i (log_of w))

@@ -13,6 +13,7 @@ pub mod Happened
 pub mod KnownImages
 pub mod KnownChunks
 pub mod Columns
+pub mod LiveChunks
 pub mod GoingLines
 pub mod GoingSteps
 pub mod GoingAll

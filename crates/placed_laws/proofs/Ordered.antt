@@ -1,4 +1,4 @@
--- The engine's log of a plain world: what was taken, and that it is placed in order.
+-- The engine's log of a simple mount: what was taken, and that it is placed in order.
 use Rattle.std.proofs.Common.{◌≡◌, ◌⊎◌, inl, inr, ℕ, ◌+◌, ◌-◌, ◌<◌, ◌≤◌, ◌==◌, ◌&&◌, zero, suc, not, nat_lt, nat_le, min, Bool, true, false, cond, Some, None, Option, List, [], ◌∷◌, ◌++◌, length, take, drop, replicate, refl, sym, subst, ap, ap₂, ◌∙◌, arith, append-nil}
 use Rattle.std.specs.Prelude.{is_some, if◌then◌else◌, map, slice_range}
 use Rattle.std.specs.List.{AllByRecursion, filter, filter_map, flat_map, list_any, range_with_len, cons_option}
@@ -24,7 +24,8 @@ use Rattle.pblk_world.specs.Victims.{position_in}
 use Rattle.pblk_world.specs.Placing.{next_address, end_address, end_record, IsStart, IsData, IsEnd, IsPad, MayPlace, data_blocks, record_blocks}
 use Rattle.pblk_world.specs.Legal.{IsDecision}
 use Rattle.pblk_world.proofs.Appending.{placements_more}
-use Rattle.core_laws.specs.PlainWorlds.{is_plain_decision, IsPlainWorld}
+use Rattle.core_laws.specs.PlainWorlds.{is_plain_decision}
+use Rattle.core_laws.specs.SimpleMounts.{IsSimpleMount}
 use Rattle.core_laws.specs.PlacerOf.{positions_of, positions_in_stripe, lost_entries, fresh_entries}
 use Rattle.core_laws.specs.Positions.{AreNumbered, AreMarked}
 use Rattle.core_laws.proofs.Numbering.{first_stays, numbered_after}
@@ -63,7 +64,7 @@ part_bears_none s seq count bytes from to small =
     none_in s (slice_range (record_blocks s seq count bytes) from to)
     (all_taken (BearsNone s) (to - from) (drop from (record_blocks s seq count bytes)) (all_dropped (BearsNone s) from (record_blocks s seq count bytes) (records_bear_none s s.sector seq count bytes small)))
 
--- ---- what a plain log has
+-- ---- what the log of a simple mount has
 
 abbrev pub AreNamed : Shape → List Logged → Type 0
 AreNamed s log = AllByRecursion (λ (t : Taken). t.mark.lba < s.capacity) (takes log)
@@ -246,10 +247,10 @@ kept i small log known (Begin b) knows own may plain is =
     subst (λ (xs : List Logged). IsOrdered i.shape (xs ++ record { event = Decides (Begin b); knows = knows } ∷ [])) (sym may.is_first ∙ own) (begins_ordered i.shape b knows)
 kept i small log known e knows own may plain is = kept_after i known log may.0 e knows small (ap begun (sym own) ∙ may.1) own may.2 plain is
 
-pub ordered : (i : Image) (w : World) → IsPlainWorld i w → IsOrdered i.shape (log_of w 0)
-ordered i w is = of_plain_log i (IsOrdered i.shape)
+pub ordered : (i : Image) (w : World) → IsSimpleMount i w → IsOrdered i.shape (log_of w 0)
+ordered i w simple = of_plain_log i (IsOrdered i.shape)
     (record { numbered = refl; marked = tt; named = tt; no_loss = λ unit. tt; order = record { count = 0; within = omega arith; placed = refl } })
-    (kept i (accepted_small i.shape is.accepted)) w is
+    (kept i (accepted_small i.shape simple.mount.accepted)) w simple
 
 -- ---- what that says
 

@@ -13,10 +13,11 @@ use Rattle.pblk_model.specs.Accepted.{IsAccepted}
 use Rattle.pblk_model.specs.Chunk.{Chunk}
 use Rattle.pblk_model.specs.LineOrder.{start_len, end_len, data_len}
 use Rattle.pblk_model.specs.Image.{Image, is_online_in, line_units}
+use Rattle.pblk_laws.proofs.LineUnits.{line_units_count}
 use Rattle.pblk_layout.specs.Live.{units_in}
 use Rattle.pblk_world.specs.Events.{Open, Free, Event, Decides, Logged}
-use Rattle.pblk_world.specs.World.{World, Logs, log_of, known, prefixes}
-use Rattle.pblk_world.specs.EngineLog.{Begun, LineLife, Opened, Freed, is_as_found, is_opened, last_opening, life_of, turned_by, opened_by, Opening, Placed, stripes_of, Answer, DidLand, WasLost, answer_of, is_land}
+use Rattle.pblk_world.specs.World.{World, Logs, log_of, known, media, prefixes}
+use Rattle.pblk_world.specs.EngineLog.{Begun, begun, LineLife, Opened, Freed, is_as_found, is_opened, last_opening, life_of, turned_by, opened_by, Opening, Placed, stripes_of, Answer, DidLand, WasLost, answer_of, is_land}
 use Rattle.pblk_world.specs.Lines.{known_image, chunks_of, is_over_state, are_over, has_stripe_left}
 use Rattle.pblk_world.specs.Opening.{MayOpen}
 use Rattle.pblk_world.specs.Legal.{IsAllowed, IsLegal}
@@ -25,7 +26,10 @@ use Rattle.pblk_world.proofs.Appending.{life_more}
 use Rattle.stripe_placer.specs.OpenLines.{Stripe, OpenLine, width, unit_of, is_landed, has_left}
 use Rattle.stripe_placer.specs.OpenLines.Stripe.{Unplaced}
 use Rattle.stripe_placer.proofs.Rows.{length_map as length_mapped}
-use Rattle.core_laws.specs.PlainWorlds.{IsPlainWorld}
+use Rattle.world_laws.specs.LegalMounts.{IsLegalMount}
+use Rattle.chunk_laws.proofs.LifePlaces.{began}
+use Rattle.chunk_laws.proofs.LifeUnits.{units_of_life, width_of_life}
+use Rattle.core_laws.specs.SimpleMounts.{IsSimpleMount}
 use Rattle.core_laws.specs.OpenedLines.{bits_of, opened_units, as_opened, is_stripe_at, by_answer, became, placed_as, outcome, open_line, open_lines, standing}
 use Rattle.core_laws.proofs.Numbers.{life_at}
 use Rattle.core_laws.proofs.Stripes.{at_its_place}
@@ -40,7 +44,6 @@ use Rattle.placed_laws.proofs.LeftLines.{lines_of_left, left_opened, left_apart}
 use Rattle.placed_laws.proofs.StandingOpenings.{opening_at, life_there, NumbersRise, rise_filtered, standing_rise}
 use Rattle.placed_laws.proofs.Happened.{happened}
 use Rattle.placed_laws.proofs.KnownImages.{known_by_prefix}
-use Rattle.placed_laws.proofs.KnownChunks.{units_by_live}
 use Rattle.placed_laws.specs.StripeTurns.{IsAtTurn}
 use Rattle.placed_laws.proofs.GoingLines.{landed_on, IsGoing}
 use Rattle.placed_laws.proofs.GoingAll.{IsWell, all_well}
@@ -156,25 +159,28 @@ opening_before log o e = go (slice_get log o.number) refl e
     go None f e = absurd (none-some o e)
     go (Some l) f e = slice_get_within log o.number l f
 
-over_none_left : (i : Image) (w : World) → IsPlainWorld i w → (early line : ℕ) (o : Opening) → early ≤ length (log_of w 0) → life_of (take early (log_of w 0)) line ≡ Opened o → life_of (log_of w 0) line ≡ Opened o
+over_none_left : (i : Image) (w : World) → IsSimpleMount i w → (early line : ℕ) (o : Opening) → early ≤ length (log_of w 0)
+    → life_of (take early (log_of w 0)) line ≡ Opened o → life_of (log_of w 0) line ≡ Opened o
     → are_over i (engine_prefix early (log_of w)) line ≡ true → has_left (open_line i (log_of w) o) ≡ false
-over_none_left i w plain early line o before was now over =
+over_none_left i w simple early line o before was now over =
     let last : take (length (log_of w 0)) (log_of w 0) ≡ log_of w 0 = take_all (length (log_of w 0)) (log_of w 0) (le_refl (length (log_of w 0))) in
-    let well_then : IsWell i (log_of w) early = all_well i w plain early before in
-    let well_now : IsWell i (log_of w) (length (log_of w 0)) = all_well i w plain (length (log_of w 0)) (le_refl (length (log_of w 0))) in
+    let well_then : IsWell i (log_of w) early = all_well i w simple early before in
+    let well_now : IsWell i (log_of w) (length (log_of w 0)) = all_well i w simple (length (log_of w 0)) (le_refl (length (log_of w 0))) in
     let life : life_of (take (length (log_of w 0)) (log_of w 0)) line ≡ Opened o = ap (λ (xs : List Logged). life_of xs line) last ∙ now in
     let going : IsGoing i (log_of w) (length (log_of w 0)) line o = well_now.lines.going line o life in
-    let whole_then : IsLandedWhole i (log_of w) early line o = λ x u at. over_landed i (log_of w) early line o x u plain.accepted.drive.ws_opt plain.accepted.drive.whole_stripes (well_then.lines.going line o was) was over at in
+    let whole_then : IsLandedWhole i (log_of w) early line o =
+    λ x u at. over_landed i (log_of w) early line o x u simple.mount.accepted.drive.ws_opt simple.mount.accepted.drive.whole_stripes
+    (well_then.lines.going line o was) was over at in
     let whole_now : IsLandedWhole i (log_of w) (length (log_of w 0)) line o = λ x u at.
     let a : i.shape.clba / i.shape.ws_opt ≤ length (landed_on (take early (log_of w 0)) o u) = whole_then x u at in
     let b : length (landed_on (take early (log_of w 0)) o u) ≤ length (landed_on (take (length (log_of w 0)) (log_of w 0)) o u) = landed_stays (log_of w) o u early (length (log_of w 0)) before (le_refl (length (log_of w 0))) in
     omega (arith, a, b) in
     let wide : 0 < o.start.width = wide_width i.shape o.start.width (well_now.wide line o life) in
     let number : o.number < length (log_of w 0) = opening_before (log_of w 0) o (life_there (log_of w 0) line o now) in
-    let few : units i.shape ≤ 64 = plain.accepted.drive.few_units in
-    let count : length i.units ≡ units i.shape = plain.fit.units in
+    let few : units i.shape ≤ 64 = simple.mount.accepted.drive.few_units in
+    let count : length i.units ≡ units i.shape = simple.mount.fit.units in
     subst (λ (ls : Logs). has_left (open_line i ls o) ≡ false) (whole_prefix (log_of w))
-    (full_line i (log_of w) (length (log_of w 0)) line o plain.accepted (omega (arith, few, count)) (life_at (log_of w 0) line o now).1 (omega (arith, number)) (subst (λ n. 0 < n) going.width_is wide) going well_now.no_loss whole_now)
+    (full_line i (log_of w) (length (log_of w 0)) line o simple.mount.accepted (omega (arith, few, count)) (life_at (log_of w 0) line o now).1 (omega (arith, number)) (subst (λ n. 0 < n) going.width_is wide) going well_now.no_loss whole_now)
 
 -- ---- the life of a line, earlier
 
@@ -237,21 +243,24 @@ was_opened i w o legal e =
     record { logged = at.0; there = at.1; own = is.own; beginning = allowed.0; may = allowed.2 }
 
 -- a line that has a stripe left now had one left when a later line was opened
-left_then : (i : Image) (w : World) (o later : Opening) → IsPlainWorld i w → (was : WasOpened i w later) → o.number < later.number → later.number < length (log_of w 0) → life_of (log_of w 0) o.line ≡ Opened o → has_left (open_line i (log_of w) o) ≡ true
+left_then : (i : Image) (w : World) (o later : Opening) → IsSimpleMount i w → (was : WasOpened i w later) → o.number < later.number
+    → later.number < length (log_of w 0) → life_of (log_of w 0) o.line ≡ Opened o → has_left (open_line i (log_of w) o) ≡ true
     → has_stripe_left i (prefixes was.logged (log_of w)) o.line ≡ true
-left_then i w o later plain was after before now left =
+left_then i w o later simple was after before now left =
     let gap : later.number + (length (log_of w 0) - later.number) ≡ length (log_of w 0) = omega (arith, before) in
     let last : take (later.number + (length (log_of w 0) - later.number)) (log_of w 0) ≡ log_of w 0 = ap (λ n. take n (log_of w 0)) gap ∙ take_all (length (log_of w 0)) (log_of w 0) (le_refl (length (log_of w 0))) in
     let life : life_of (take later.number (log_of w 0)) o.line ≡ Opened o = life_back (log_of w 0) o.line o later.number (length (log_of w 0) - later.number) (omega (arith, gap)) after (ap (λ (xs : List Logged). life_of xs o.line) last ∙ now) in
     let own : take (known was.logged 0) (log_of w 0) ≡ take later.number (log_of w 0) = ap (λ n. take n (log_of w 0)) was.own in
-    let image : known_image i (prefixes was.logged (log_of w)) ≡ known_image i (engine_prefix later.number (log_of w)) = known_by_prefix i w later.number was.logged plain.legal was.there in
+    let image : known_image i (prefixes was.logged (log_of w)) ≡ known_image i (engine_prefix later.number (log_of w)) =
+    known_by_prefix i w later.number was.logged simple.mount.legal was.there in
     let same : are_over i (prefixes was.logged (log_of w)) o.line ≡ are_over i (engine_prefix later.number (log_of w)) o.line =
     ap₂ (λ (xs : List Logged) (im : Image). list_all (λ (c : Chunk). is_over_state (is_as_found (life_of xs o.line)) c.state) (chunks_of im o.line)) own image in
     ap₂ (λ (l : LineLife) b. is_opened l && not b) (ap (λ (xs : List Logged). life_of xs o.line) own ∙ life) (same ∙ not_over life (are_over i (engine_prefix later.number (log_of w)) o.line) refl)
   where
     not_over : life_of (take later.number (log_of w 0)) o.line ≡ Opened o → (b : Bool) → are_over i (engine_prefix later.number (log_of w)) o.line ≡ b → are_over i (engine_prefix later.number (log_of w)) o.line ≡ false
     not_over life false e = e
-    not_over life true e = no_both (has_left (open_line i (log_of w) o)) left (over_none_left i w plain later.number o.line o (omega (arith, before)) life now e)
+    not_over life true e =
+        no_both (has_left (open_line i (log_of w) o)) left (over_none_left i w simple later.number o.line o (omega (arith, before)) life now e)
 
 -- ---- three of them
 
@@ -265,8 +274,8 @@ later_number (o ∷ os) zero (suc k) a b rise h e f =
 later_number (o ∷ os) (suc j) zero a b rise h e f = absurd (omega arith)
 later_number (o ∷ os) (suc j) (suc k) a b rise h e f = later_number os j k a b rise.1 (omega arith) e f
 
-pub at_most_two : (i : Image) (w : World) → IsPlainWorld i w → length (left_openings i (log_of w)) ≤ 2
-at_most_two i w plain = go (cases_order 2 (length (left_openings i (log_of w))))
+pub at_most_two : (i : Image) (w : World) → IsSimpleMount i w → length (left_openings i (log_of w)) ≤ 2
+at_most_two i w simple = go (cases_order 2 (length (left_openings i (log_of w))))
   where
     rise : NumbersRise (left_openings i (log_of w))
     rise = rise_filtered (λ o. has_left (open_line i (log_of w) o)) (standing (log_of w 0)) (standing_rise (log_of w 0))
@@ -285,11 +294,15 @@ at_most_two i w plain = go (cases_order 2 (length (left_openings i (log_of w))))
         let there_a : opening_at (log_of w 0) a.number ≡ Some a = life_there (log_of w 0) a.line a alive_a in
         let there_b : opening_at (log_of w 0) b.number ≡ Some b = life_there (log_of w 0) b.line b alive_b in
         let there_c : opening_at (log_of w 0) c.number ≡ Some c = life_there (log_of w 0) c.line c alive_c in
-        let last : WasOpened i w c = was_opened i w c plain.legal there_c in
+        let last : WasOpened i w c = was_opened i w c simple.mount.legal there_c in
         let before : c.number < length (log_of w 0) = opening_before (log_of w 0) c there_c in
-        let first : has_stripe_left i (prefixes last.logged (log_of w)) a.line ≡ true = left_then i w a c plain last (later_number (left_openings i (log_of w)) 0 2 a c rise (omega arith) e g) before alive_a (left_at 0 a e) in
-        let second : has_stripe_left i (prefixes last.logged (log_of w)) b.line ≡ true = left_then i w b c plain last (later_number (left_openings i (log_of w)) 1 2 b c rise (omega arith) f g) before alive_b (left_at 1 b f) in
-        let one : a.line ≡ b.line = last.may.one_other a.line b.line (was_opened i w a plain.legal there_a).may.in_range (was_opened i w b plain.legal there_b).may.in_range first second in
+        let first : has_stripe_left i (prefixes last.logged (log_of w)) a.line ≡ true =
+        left_then i w a c simple last (later_number (left_openings i (log_of w)) 0 2 a c rise (omega arith) e g) before alive_a (left_at 0 a e) in
+        let second : has_stripe_left i (prefixes last.logged (log_of w)) b.line ≡ true =
+        left_then i w b c simple last (later_number (left_openings i (log_of w)) 1 2 b c rise (omega arith) f g) before alive_b (left_at 1 b f) in
+        let one : a.line ≡ b.line =
+        last.may.one_other a.line b.line (was_opened i w a simple.mount.legal there_a).may.in_range
+        (was_opened i w b simple.mount.legal there_b).may.in_range first second in
         let same : 0 ≡ 1 = left_apart i (log_of w) 0 1 a b e f one in
         absurd (omega (arith, same))
 
@@ -302,51 +315,65 @@ at_most_two i w plain = go (cases_order 2 (length (left_openings i (log_of w))))
         let c = got_within (left_openings i (log_of w)) 2 many in
         absurd (three a.0 b.0 c.0 a.1 b.1 c.1)
 
-pub two_lines : (i : Image) (w : World) → IsPlainWorld i w → length (open_lines i (log_of w)) ≤ 2
-two_lines i w plain =
+pub two_lines : (i : Image) (w : World) → IsSimpleMount i w → length (open_lines i (log_of w)) ≤ 2
+two_lines i w simple =
     let count : length (open_lines i (log_of w)) ≡ length (left_openings i (log_of w)) = ap (λ (ls : List OpenLine). length ls) (lines_of_left i (log_of w)) ∙ length_mapped (open_line i (log_of w)) (left_openings i (log_of w)) in
-    let few : length (left_openings i (log_of w)) ≤ 2 = at_most_two i w plain in
+    let few : length (left_openings i (log_of w)) ≤ 2 = at_most_two i w simple in
     omega (arith, count, few)
 
 -- ---- now
 
-pub going_now : (i : Image) (w : World) → IsPlainWorld i w → (line : ℕ) (o : Opening) → life_of (log_of w 0) line ≡ Opened o → IsGoing i (log_of w) (length (log_of w 0)) line o
-going_now i w plain line o now =
-    (all_well i w plain (length (log_of w 0)) (le_refl (length (log_of w 0)))).lines.going line o
+pub going_now : (i : Image) (w : World) → IsSimpleMount i w → (line : ℕ) (o : Opening) → life_of (log_of w 0) line ≡ Opened o
+    → IsGoing i (log_of w) (length (log_of w 0)) line o
+going_now i w simple line o now =
+    (all_well i w simple (length (log_of w 0)) (le_refl (length (log_of w 0)))).lines.going line o
     (ap (λ (xs : List Logged). life_of xs line) (take_all (length (log_of w 0)) (log_of w 0) (le_refl (length (log_of w 0)))) ∙ now)
 
 units_then : (i : Image) (w : World) (line : ℕ) (o : Opening) → life_of (log_of w 0) line ≡ Opened o → line_units (known_image i (engine_prefix o.number (log_of w))) line ≡ opened_units i (log_of w) o
 units_then i w line o now = ap (λ n. line_units (known_image i (engine_prefix o.number (log_of w))) n) (sym (life_at (log_of w 0) line o now).1)
 
-pub units_stay : (i : Image) (w : World) (line : ℕ) (o : Opening) → IsPlainWorld i w → life_of (log_of w 0) line ≡ Opened o → line_units (known_image i (log_of w)) line ≡ opened_units i (log_of w) o
-units_stay i w line o plain now =
+pub units_stay : (i : Image) (w : World) (line : ℕ) (o : Opening) → IsLegal i w → life_of (log_of w 0) line ≡ Opened o
+    → line_units (known_image i (log_of w)) line ≡ opened_units i (log_of w) o
+units_stay i w line o legal now =
+    let mount : (b : Begun) × (begun (log_of w 0) ≡ Some b) = began i w line o legal now in
+    let before : o.number < length (log_of w 0) = opening_before (log_of w 0) o (life_there (log_of w 0) line o now) in
     ap (λ (ls : Logs). line_units (known_image i ls) line) (sym (whole_prefix (log_of w)))
-    ∙ units_by_live (known_image i (engine_prefix (length (log_of w 0)) (log_of w))) (known_image i (engine_prefix o.number (log_of w))) line
-    (length_known i (engine_prefix (length (log_of w 0)) (log_of w)) ∙ sym (length_known i (engine_prefix o.number (log_of w)))) (going_now i w plain line o now).live
+    ∙ units_of_life i w legal mount.0 mount.1 line o now (length (log_of w 0)) (omega (arith, before)) (le_refl (length (log_of w 0)))
+    ∙ sym (units_of_life i w legal mount.0 mount.1 line o now o.number (le_refl o.number) (omega (arith, before)))
     ∙ units_then i w line o now
 
-pub width_stays : (i : Image) (w : World) (line : ℕ) (o : Opening) → IsPlainWorld i w → life_of (log_of w 0) line ≡ Opened o → o.start.width ≡ length (opened_units i (log_of w) o)
-width_stays i w line o plain now = (going_now i w plain line o now).width_is ∙ ap (λ (us : List ℕ). length us) (units_then i w line o now)
+pub width_stays : (i : Image) (w : World) (line : ℕ) (o : Opening) → IsLegal i w → life_of (log_of w 0) line ≡ Opened o
+    → o.start.width ≡ length (opened_units i (log_of w) o)
+width_stays i w line o legal now =
+    let mount : (b : Begun) × (begun (log_of w 0) ≡ Some b) = began i w line o legal now in
+    let before : o.number < length (log_of w 0) = opening_before (log_of w 0) o (life_there (log_of w 0) line o now) in
+    width_of_life i w legal mount.0 mount.1 line o now ∙ sym (line_units_count (media i (log_of w)) line)
+    ∙ ap (λ (us : List ℕ). length us)
+    (sym (units_of_life i w legal mount.0 mount.1 line o now o.number (le_refl o.number) (omega (arith, before))) ∙ units_then i w line o now)
 
-pub bits_are_units : (i : Image) (w : World) (o : Opening) → IsPlainWorld i w → units_in (bits_of (opened_units i (log_of w) o)) ≡ opened_units i (log_of w) o
-bits_are_units i w o plain =
-    let few : units i.shape ≤ 64 = plain.accepted.drive.few_units in
-    let count : length i.units ≡ units i.shape = plain.fit.units in
+pub bits_are_units : (i : Image) (w : World) (o : Opening) → IsLegalMount i w → units_in (bits_of (opened_units i (log_of w) o)) ≡ opened_units i (log_of w) o
+bits_are_units i w o mount =
+    let few : units i.shape ≤ 64 = mount.accepted.drive.few_units in
+    let count : length i.units ≡ units i.shape = mount.fit.units in
     let known : length (known_image i (engine_prefix o.number (log_of w))).units ≡ length i.units = length_known i (engine_prefix o.number (log_of w)) in
     line_units_of_bits (known_image i (engine_prefix o.number (log_of w))) o.line (omega (arith, few, count, known))
 
-pub turns_are : (i : Image) (w : World) (line : ℕ) (o : Opening) (n : ℕ) (p : Placed) → IsPlainWorld i w → life_of (log_of w 0) line ≡ Opened o → slice_get (stripes_of (log_of w 0) o) n ≡ Some p
+pub turns_are : (i : Image) (w : World) (line : ℕ) (o : Opening) (n : ℕ) (p : Placed) → IsSimpleMount i w → life_of (log_of w 0) line ≡ Opened o
+    → slice_get (stripes_of (log_of w 0) o) n ≡ Some p
     → IsAtTurn i.shape (opened_units i (log_of w) o) line n p
-turns_are i w line o n p plain now e =
+turns_are i w line o n p simple now e =
     subst (λ (us : List ℕ). IsAtTurn i.shape us line n p) (units_then i w line o now)
-    ((going_now i w plain line o now).placed n p (ap (λ (xs : List Logged). slice_get (stripes_of xs o) n) (take_all (length (log_of w 0)) (log_of w 0) (le_refl (length (log_of w 0)))) ∙ e))
+    ((going_now i w simple line o now).placed n p (ap (λ (xs : List Logged). slice_get (stripes_of xs o) n) (take_all (length (log_of w 0)) (log_of w 0) (le_refl (length (log_of w 0)))) ∙ e))
 
-pub room_is : (i : Image) (w : World) (line : ℕ) (o : Opening) → IsPlainWorld i w → life_of (log_of w 0) line ≡ Opened o → length (stripes_of (log_of w 0) o) * i.shape.ws_opt ≤ o.start.width * i.shape.clba
-room_is i w line o plain now =
-    subst (λ (xs : List Logged). length (stripes_of xs o) * i.shape.ws_opt ≤ o.start.width * i.shape.clba) (take_all (length (log_of w 0)) (log_of w 0) (le_refl (length (log_of w 0)))) (going_now i w plain line o now).few
+pub room_is : (i : Image) (w : World) (line : ℕ) (o : Opening) → IsSimpleMount i w → life_of (log_of w 0) line ≡ Opened o
+    → length (stripes_of (log_of w 0) o) * i.shape.ws_opt ≤ o.start.width * i.shape.clba
+room_is i w line o simple now =
+    subst (λ (xs : List Logged). length (stripes_of xs o) * i.shape.ws_opt ≤ o.start.width * i.shape.clba)
+    (take_all (length (log_of w 0)) (log_of w 0) (le_refl (length (log_of w 0)))) (going_now i w simple line o now).few
 
-pub chunks_left : (i : Image) (w : World) (line : ℕ) (o : Opening) → IsPlainWorld i w → life_of (log_of w 0) line ≡ Opened o → has_left (open_line i (log_of w) o) ≡ true → has_stripe_left i (log_of w) line ≡ true
-chunks_left i w line o plain now left = ap₂ (λ (l : LineLife) b. is_opened l && not b) now (go (are_over i (log_of w) line) refl)
+pub chunks_left : (i : Image) (w : World) (line : ℕ) (o : Opening) → IsSimpleMount i w → life_of (log_of w 0) line ≡ Opened o
+    → has_left (open_line i (log_of w) o) ≡ true → has_stripe_left i (log_of w) line ≡ true
+chunks_left i w line o simple now left = ap₂ (λ (l : LineLife) b. is_opened l && not b) now (go (are_over i (log_of w) line) refl)
   where
     last : take (length (log_of w 0)) (log_of w 0) ≡ log_of w 0
     last = take_all (length (log_of w 0)) (log_of w 0) (le_refl (length (log_of w 0)))
@@ -354,5 +381,5 @@ chunks_left i w line o plain now left = ap₂ (λ (l : LineLife) b. is_opened l 
     go : (b : Bool) → are_over i (log_of w) line ≡ b → are_over i (log_of w) line ≡ false
     go false e = e
     go true e = no_both (has_left (open_line i (log_of w) o)) left
-        (over_none_left i w plain (length (log_of w 0)) line o (le_refl (length (log_of w 0))) (ap (λ (xs : List Logged). life_of xs line) last ∙ now) now
+        (over_none_left i w simple (length (log_of w 0)) line o (le_refl (length (log_of w 0))) (ap (λ (xs : List Logged). life_of xs line) last ∙ now) now
         (ap (λ (ls : Logs). are_over i ls line) (whole_prefix (log_of w)) ∙ e))

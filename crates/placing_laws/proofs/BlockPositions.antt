@@ -64,7 +64,7 @@ bears_own i ls entry mark None users low is =
     ∙ ap (λ a. if is_some (if a then Some (Some entry.lba) else (if entry.lba == void_lba then Some None else None)) then Some entry.position else None) (lt_true entry.lba i.shape.capacity low)
 bears_own i ls entry mark (Some source) users low is = absurd cc
 
-bears_step : (i : Image) (us : ℕ → List ℕ) (w : World) (knows : List ℕ) (x : Event) → IsNextEvent i us w 0 (record { event = x; knows = knows }) → AllByRecursion (Bears i.shape) (takes (log_of w 0))
+bears_step : (i : Image) (us : ℕ → List ℕ) (w : World) (knows : List ℕ) (x : Event) → IsNextEvent i us w (record { event = x; knows = knows }) → AllByRecursion (Bears i.shape) (takes (log_of w 0))
     → AllByRecursion (Bears i.shape) (takes (log_of w 0 ++ record { event = x; knows = knows } ∷ []))
 bears_step i us w knows (Decides (Take entry mark)) next all =
     let l : Logged = record { event = Decides (Take entry mark); knows = knows } in
@@ -76,7 +76,7 @@ bears_step i us w knows x next all =
     subst (AllByRecursion (Bears i.shape)) (sym (takes_more (log_of w 0) l ∙ append-nil (takes (log_of w 0)))) all
 
 all_bear : (i : Image) (us : ℕ → List ℕ) (w : World) → IsFollowed i us w → AllByRecursion (Bears i.shape) (takes (log_of w 0))
-all_bear i us w is = by_events i us 0 (λ log. AllByRecursion (Bears i.shape) (takes log)) tt (λ v l next all. bears_step i us v l.knows l.event next all) w is
+all_bear i us w is = by_events i us (λ log. AllByRecursion (Bears i.shape) (takes log)) tt (λ v l next all. bears_step i us v l.knows l.event next all) w is
 
 entries_made : (s : Shape) (ts : List Taken) (bs : List Block) → AllByRecursion (Bears s) ts → AllByRecursion (λ b. position_in s b ≡ None) bs → filter_map (position_in s) (map block_of_taken ts ++ bs) ≡ positions_of ts
 entries_made s [] bs all none = none_made (position_in s) bs none

@@ -31,7 +31,7 @@ use Rattle.core_laws.proofs.WaitingEntries.{waiting_alike}
 use Rattle.core_laws.proofs.PlacedEntries.{length_positions as positions_length}
 use Rattle.core_laws.proofs.PlacedLines.{found_any}
 use Rattle.pblk_world.proofs.Answered.{answers_fit}
-use Rattle.placing_laws.proofs.Followed.{IsFollowed}
+use Rattle.placing_laws.proofs.Followed.{IsFollowed, plain_of}
 use Rattle.placing_laws.proofs.Lengths.{is_before, is_after}
 use Rattle.placing_laws.proofs.Opened.{opened_lines, IsOpenedLine, life_stands}
 use Rattle.placing_laws.proofs.InOrder.{stripe_count, wide}
@@ -54,7 +54,7 @@ pub AreAnswered : List Logged → Type 0
 AreAnswered log = (p : Placed) → Contains (placements log) p → is_answered log p ≡ true
 
 -- a stripe of a unit that is answered
-pub its_turn : (log : List Logged) (unit : ℕ) (p : Placed) (m : ℕ) → slice_get (placed_on log unit) m ≡ Some p → is_answered log p ≡ true → (turn log p ≡ m) × (turn log p < length (answers log unit))
+its_turn : (log : List Logged) (unit : ℕ) (p : Placed) (m : ℕ) → slice_get (placed_on log unit) m ≡ Some p → is_answered log p ≡ true → (turn log p ≡ m) × (turn log p < length (answers log unit))
 its_turn log unit p m e answered =
     let its : p.stripe.unit ≡ unit = unit_at log unit m p e in
     let below : turn log p < length (answers log p.stripe.unit) = some_within (answers log p.stripe.unit) (turn log p) answered in
@@ -67,7 +67,7 @@ idle_unit i us w unit is all = go (slice_get (placed_on (log_of w 0) unit) (leng
   where
     go : (o : Option Placed) → slice_get (placed_on (log_of w 0) unit) (length (answers (log_of w 0) unit)) ≡ o → length (answers (log_of w 0) unit) ≡ length (placed_on (log_of w 0) unit)
     go None e =
-        let most : length (answers (log_of w 0) unit) ≤ length (placed_on (log_of w 0) unit) = answers_fit i w unit is.plain.legal in
+        let most : length (answers (log_of w 0) unit) ≤ length (placed_on (log_of w 0) unit) = answers_fit i w unit is.simple.mount.legal in
         let least : length (placed_on (log_of w 0) unit) ≤ length (answers (log_of w 0) unit) = none_past (placed_on (log_of w 0) unit) (length (answers (log_of w 0) unit)) e in
         omega arith
     go (Some p) e =
@@ -116,7 +116,7 @@ due_next : (i : Image) (us : ℕ → List ℕ) (w : World) (pad target : ℕ) (o
 unfolding IsPart
 due_next i us w pad target o stripe is line parts within (inl start) =
     let k : ℕ = length (stripes_of (log_of w 0) o) in
-    let before : k < start_len i.shape / i.shape.ws_opt = is_before i.shape.ws_opt k (start_len i.shape / i.shape.ws_opt) (start_len i.shape) is.plain.accepted.drive.ws_opt parts.start_is start.within in
+    let before : k < start_len i.shape / i.shape.ws_opt = is_before i.shape.ws_opt k (start_len i.shape / i.shape.ws_opt) (start_len i.shape) is.simple.mount.accepted.drive.ws_opt parts.start_is start.within in
     let fits = parts.fits in
     (kinds.Start, record { inside = omega arith; part = before; allowed = refl })
 due_next i us w pad target o stripe is line parts within (inr (inl ends)) =
@@ -127,7 +127,7 @@ due_next i us w pad target o stripe is line parts within (inr (inl ends)) =
     let k : ℕ = length ps in
     let c : ℕ = start_len s / s.ws_opt in
     let d : ℕ = l.data_count in
-    let some : 0 < s.ws_opt = is.plain.accepted.drive.ws_opt in
+    let some : 0 < s.ws_opt = is.simple.mount.accepted.drive.ws_opt in
     let beyond : c + d ≤ k = is_after s.ws_opt k (c + d) (end_address s o) some parts.ends_is ends.from in
     let landed : list_all (has_landed log) (take (c + d) ps) ≡ true =
     (both (nat_le (c + d) k) (list_all (has_landed log) (take (c + d) ps)) (ap (λ m. nat_le m k && list_all (has_landed log) (take m ps)) (sym parts.count_is) ∙ ends.data_landed)).1 in
@@ -141,7 +141,7 @@ due_next i us w pad target o stripe is line parts within (inr (inl ends)) =
     )
 due_next i us w pad target o stripe is line parts within (inr (inr (inl pads))) =
     let fails : has_failed (log_of w 0) o ≡ true = pads.failed in
-    let never : has_failed (log_of w 0) o ≡ false = none_failed (log_of w 0) o is.plain.engine in
+    let never : has_failed (log_of w 0) o ≡ false = none_failed (log_of w 0) o (plain_of i us w is) in
     absurd cc
 due_next i us w pad target o stripe is line parts within (inr (inr (inr its))) =
     let s : Shape = i.shape in
@@ -151,7 +151,7 @@ due_next i us w pad target o stripe is line parts within (inr (inr (inr its))) =
     let k : ℕ = length ps in
     let c : ℕ = start_len s / s.ws_opt in
     let d : ℕ = l.data_count in
-    let some : 0 < s.ws_opt = is.plain.accepted.drive.ws_opt in
+    let some : 0 < s.ws_opt = is.simple.mount.accepted.drive.ws_opt in
     let before : k < c + d = is_before s.ws_opt k (c + d) (end_address s o) some parts.ends_is its.0.within in
     let started = both (nat_le c k) (list_all (has_landed log) (take c ps)) its.0.start_landed in
     let above : c ≤ k = is_within c k started.0 in
@@ -185,9 +185,9 @@ offered_next i us w pad o kind is life line next =
     let l : OpenLine = open_line i (log_of w) o in
     let k : ℕ = length (stripes_of log o) in
     let inside : k < stripe_count i us o.line = next.inside in
-    let number : next_of l ≡ Some k = next_is l log (stripes_of log o) (stripe_count i us o.line - k) is.plain.engine (formed i us w o line) (omega arith) in
+    let number : next_of l ≡ Some k = next_is l log (stripes_of log o) (stripe_count i us o.line - k) (plain_of i us w is) (formed i us w o line) (omega arith) in
     let kind_is : kind_of l k ≡ kind =
-    kind_by l k (unfailed l log (stripes_of log o) (stripe_count i us o.line - k) is.plain.engine (formed i us w o line)) ∙ part_is k (start_len s / s.ws_opt) l.data_count kind next.part in
+    kind_by l k (unfailed l log (stripes_of log o) (stripe_count i us o.line - k) (plain_of i us w is) (formed i us w o line)) ∙ part_is k (start_len s / s.ws_opt) l.data_count kind next.part in
     let given : next_in s e l ≡ Some (program_of s l k kind (next_positions s e kind)) =
     ap (allowed_at s e l) number
     ∙ ap (λ (t : StripeKind). if allows s e l t then Some (program_of s l k t (next_positions s e t)) else None) kind_is
@@ -240,9 +240,9 @@ idle_answered i us w pad p is idle there =
     let unit : ℕ = p.stripe.unit in
     let among : IsAmong (placements log) p = (there.0, slice_get-get_or (placements log) there.0 p there.1 ∙ ap (λ (q : Placed). Some q) there.2) in
     let live : is_live (known_image i (log_of w)) p.stripe.line p.stripe.unit ≡ true =
-    all_at (λ (q : Placed). is_live (known_image i (log_of w)) q.stripe.line q.stripe.unit ≡ true) (placements log) among.0 p among.1 (all_online i w is.plain) in
+    all_at (λ (q : Placed). is_live (known_image i (log_of w)) q.stripe.line q.stripe.unit ≡ true) (placements log) among.0 p among.1 (all_online i w is.simple) in
     let few : length (known_image i (log_of w)).units ≡ length i.units = length_known i (log_of w) in
-    let count = is.plain.fit.units in
+    let count = is.simple.mount.fit.units in
     let low : p.stripe.unit < length (known_image i (log_of w)).units = live_inside (known_image i (log_of w)) p.stripe.line p.stripe.unit live in
     let inside : p.stripe.unit < units i.shape = omega arith in
     let row : row_of i (log_of w) [] p.stripe.unit ≡ Idle = same_Some (row_of i (log_of w) [] p.stripe.unit) Idle (sym (row_there i (log_of w) p.stripe.unit inside) ∙ idle p.stripe.unit inside) in

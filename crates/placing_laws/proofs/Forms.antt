@@ -14,7 +14,7 @@ use Rattle.stripe_placer.specs.OpenLines.Stripe.{Unplaced}
 use Rattle.core_laws.specs.OpenedLines.{bits_of, as_opened, is_stripe_at, by_answer, became, outcome, open_line}
 use Rattle.core_laws.proofs.Stripes.{at_its_place, not_at}
 use Rattle.placing_laws.proofs.Followed.{IsFollowed}
-use Rattle.placing_laws.proofs.Units.{bits_back}
+use Rattle.core_laws.proofs.UnitBits.{bits_back}
 use Rattle.placing_laws.proofs.KeptLines.{few_units, keeps_units}
 use Rattle.placing_laws.proofs.Lengths.{IsStriped}
 use Rattle.placing_laws.proofs.Opened.{IsOpenedLine, opened_lines}
@@ -59,7 +59,7 @@ found_at test (y ∷ ys) (suc j) x e passes others =
 
 pub units_back : (i : Image) (us : ℕ → List ℕ) (w : World) (o : Opening) → IsFollowed i us w → life_of (log_of w 0) o.line ≡ Opened o → units_in (as_opened i (log_of w) o).live ≡ us o.line
 units_back i us w o is life =
-    ap (λ xs. units_in (bits_of xs)) (sym (keeps_units i w o.line o is.plain life)) ∙ bits_back (known_image i (log_of w)) o.line (few_units i w (log_of w) is.plain) ∙ is.keeps o.line (ap is_opened life)
+    ap (λ xs. units_in (bits_of xs)) (sym (keeps_units i w o.line o is.simple.mount life)) ∙ bits_back (known_image i (log_of w)) o.line (few_units i w (log_of w) is.simple.mount) ∙ is.keeps o.line (ap is_opened life)
 
 -- the line without stripes
 pub record IsLineOf (i : Image) (us : ℕ → List ℕ) (w : World) (o : Opening) : Type 0 where
@@ -80,7 +80,7 @@ line_of i us w o is life =
       wide_is = wide_is;
       count = length_replicate (width (as_opened i (log_of w) o) * (i.shape.clba / i.shape.ws_opt)) Unplaced ∙ ap (λ g. g * (i.shape.clba / i.shape.ws_opt)) wide_is;
       well = well;
-      striped = its_stripes i us o.line o is.plain.accepted.drive.ws_opt is.plain.accepted.drive.whole_stripes well;
+      striped = its_stripes i us o.line o is.simple.mount.accepted.drive.ws_opt is.simple.mount.accepted.drive.whole_stripes well;
       order = in_order i us w is o.line o life;
     }
 

@@ -18,7 +18,7 @@ use Rattle.core_laws.specs.PlacerOf.{stopped_by, was_stopped_on, contains_unit, 
 use Rattle.core_laws.specs.PlainWorlds.{is_plain_event, ArePlain}
 use Rattle.core_laws.proofs.Placing.{placements_now}
 use Rattle.core_laws.proofs.Turns.{stands_at_turn}
-use Rattle.placing_laws.proofs.Followed.{IsFollowed, IsNextEvent, by_events}
+use Rattle.placing_laws.proofs.Followed.{IsFollowed, IsNextEvent, by_events, plain_of}
 use Rattle.lemmas.proofs.Lists.{IsAmong, with_last}
 use Rattle.lemmas.proofs.Maps.{all_filter, from_filter}
 use Rattle.lemmas.proofs.Parts.{all_at, within_some}
@@ -42,7 +42,7 @@ not_again log unit plain = ap (λ b. b && not (contains_unit [] unit)) (unstoppe
 
 -- ---- each stripe was placed in an opened line
 
-lives_step : (i : Image) (us : ℕ → List ℕ) (w : World) (knows : List ℕ) (x : Event) → IsNextEvent i us w 0 (record { event = x; knows = knows }) → AllByRecursion (λ p. is_opened p.life ≡ true) (placements (log_of w 0))
+lives_step : (i : Image) (us : ℕ → List ℕ) (w : World) (knows : List ℕ) (x : Event) → IsNextEvent i us w (record { event = x; knows = knows }) → AllByRecursion (λ p. is_opened p.life ≡ true) (placements (log_of w 0))
     → AllByRecursion (λ p. is_opened p.life ≡ true) (placements (log_of w 0 ++ record { event = x; knows = knows } ∷ []))
 lives_step i us w knows (Decides (Place stripe)) next all =
     let log : List Logged = log_of w 0 in
@@ -55,7 +55,7 @@ lives_step i us w knows x next all =
     subst (AllByRecursion (λ (p : Placed). is_opened p.life ≡ true)) (sym (placements_more (log_of w 0) l ∙ append-nil (placements (log_of w 0)))) all
 
 pub placed_in_opened : (i : Image) (us : ℕ → List ℕ) (w : World) → IsFollowed i us w → AllByRecursion (λ p. is_opened p.life ≡ true) (placements (log_of w 0))
-placed_in_opened i us w is = by_events i us 0 (λ log. AllByRecursion (λ (p : Placed). is_opened p.life ≡ true) (placements log)) tt (λ v l next all. lives_step i us v l.knows l.event next all) w is
+placed_in_opened i us w is = by_events i us (λ log. AllByRecursion (λ (p : Placed). is_opened p.life ≡ true) (placements log)) tt (λ v l next all. lives_step i us v l.knows l.event next all) w is
 
 -- ---- rows
 
@@ -76,7 +76,7 @@ none_stopped i us w unit is = go (unanswered_on (log_of w 0) unit)
   where
     go : (o : Option Placed) → stopped_in (option_map_or (λ p. row_in i (log_of w) (waits_again (log_of w 0) [] unit) p.life p) o Idle) ≡ None
     go None = refl
-    go (Some p) = row_unstopped i (log_of w) (waits_again (log_of w 0) [] unit) p.life p (not_again (log_of w 0) unit is.plain.engine)
+    go (Some p) = row_unstopped i (log_of w) (waits_again (log_of w 0) [] unit) p.life p (not_again (log_of w 0) unit (plain_of i us w is))
 
 pub no_stopped : (i : Image) (us : ℕ → List ℕ) (w : World) (a n : ℕ) → IsFollowed i us w → filter_map stopped_in (map (row_of i (log_of w) []) (range_with_len a n)) ≡ []
 no_stopped i us w a zero is = refl
@@ -90,7 +90,7 @@ is_idle i us w unit is idle = go (unanswered_on (log_of w 0) unit) refl idle
     go : (o : Option Placed) → unanswered_on (log_of w 0) unit ≡ o → is_under_way (option_map_or (λ p. row_in i (log_of w) (waits_again (log_of w 0) [] unit) p.life p) o Idle) ≡ false
         → length (answers (log_of w 0) unit) ≡ length (placed_on (log_of w 0) unit)
     go None e f =
-        let most : length (answers (log_of w 0) unit) ≤ length (placed_on (log_of w 0) unit) = answers_fit i w unit is.plain.legal in
+        let most : length (answers (log_of w 0) unit) ≤ length (placed_on (log_of w 0) unit) = answers_fit i w unit is.simple.mount.legal in
         let least : length (placed_on (log_of w 0) unit) ≤ length (answers (log_of w 0) unit) = none_past (placed_on (log_of w 0) unit) (length (answers (log_of w 0) unit)) e in
         omega arith
       where
@@ -101,7 +101,7 @@ is_idle i us w unit is idle = go (unanswered_on (log_of w 0) unit) refl idle
     go (Some p) e f =
         let opened : is_opened p.life ≡ true = all_at (λ (p : Placed). is_opened p.life ≡ true) (placed_on (log_of w 0) unit) (length (answers (log_of w 0) unit)) p e
         (all_filter (λ (p : Placed). is_opened p.life ≡ true) (λ (p : Placed). p.stripe.unit == unit) (placements (log_of w 0)) (placed_in_opened i us w is)) in
-        let under : is_under_way (row_in i (log_of w) (waits_again (log_of w 0) [] unit) p.life p) ≡ true = row_under_way i (log_of w) (waits_again (log_of w 0) [] unit) p.life p (not_again (log_of w 0) unit is.plain.engine) opened in
+        let under : is_under_way (row_in i (log_of w) (waits_again (log_of w 0) [] unit) p.life p) ≡ true = row_under_way i (log_of w) (waits_again (log_of w 0) [] unit) p.life p (not_again (log_of w 0) unit (plain_of i us w is)) opened in
         absurd cc
 
 pub idle_row : (i : Image) (logs : Logs) (unit : ℕ) → length (answers (logs 0) unit) ≡ length (placed_on (logs 0) unit) → row_of i logs [] unit ≡ Idle

@@ -21,7 +21,7 @@ use Rattle.core_laws.proofs.Taking.{filter_last}
 use Rattle.stripe_placer.proofs.Opening.{width_some}
 use Rattle.pblk_world.specs.EngineLog.{is_land}
 use Rattle.pblk_world.proofs.Growing.{at_end}
-use Rattle.placing_laws.proofs.Followed.{IsFollowed, IsNextEvent, by_events, then_units, units_width}
+use Rattle.placing_laws.proofs.Followed.{IsFollowed, IsNextEvent, by_events, then_units, units_width, plain_of}
 use Rattle.placing_laws.proofs.Lengths.{IsStriped, striped, is_before}
 use Rattle.placing_laws.proofs.Answers.{landed_more, all_landed}
 use Rattle.placing_laws.proofs.Opened.{IsOpenedLine, opened_lines}
@@ -119,17 +119,17 @@ next_by_kind i us ls stripe o units some striped well whole opened (inr (inr (in
     }
 next_by_kind i us ls stripe o units some striped well whole opened (inr (inr (inr is))) = let fails : has_failed (ls 0) o ≡ true = is.failed in absurd cc
 
-pub may_be_next : (i : Image) (us : ℕ → List ℕ) (w : World) (l : Logged) (stripe : Stripe) → IsNextEvent i us w 0 l → (may : MayPlace i (prefixes l (log_of w)) stripe) → IsPlacedNext i us (log_of w 0) stripe may.opening
+pub may_be_next : (i : Image) (us : ℕ → List ℕ) (w : World) (l : Logged) (stripe : Stripe) → IsNextEvent i us w l → (may : MayPlace i (prefixes l (log_of w)) stripe) → IsPlacedNext i us (log_of w 0) stripe may.opening
 may_be_next i us w l stripe next may =
     let is : IsFollowed i us w = next.world in
     let own : prefixes l (log_of w) 0 ≡ log_of w 0 = next.own in
     let ls : Logs = prefixes l (log_of w) in
     let opened : life_of (log_of w 0) stripe.line ≡ Opened may.opening = ap (λ (log : List Logged). life_of log stripe.line) (sym own) ∙ may.is_open in
     let well : IsOpenedLine i us stripe.line may.opening = opened_lines i us w is stripe.line may.opening opened in
-    let some : 0 < i.shape.ws_opt = is.plain.accepted.drive.ws_opt in
+    let some : 0 < i.shape.ws_opt = is.simple.mount.accepted.drive.ws_opt in
     subst (λ log. IsPlacedNext i us log stripe may.opening) own
-    (next_by_kind i us ls stripe may.opening (then_units i us w l stripe.line next (ap is_opened opened)) some (its_stripes i us stripe.line may.opening some is.plain.accepted.drive.whole_stripes well) well
-    (ap (λ log. has_failed log may.opening) own ∙ none_failed (log_of w 0) may.opening is.plain.engine) may.is_open may.kind)
+    (next_by_kind i us ls stripe may.opening (then_units i us w l stripe.line next (ap is_opened opened)) some (its_stripes i us stripe.line may.opening some is.simple.mount.accepted.drive.whole_stripes well) well
+    (ap (λ log. has_failed log may.opening) own ∙ none_failed (log_of w 0) may.opening (plain_of i us w is)) may.is_open may.kind)
 
 -- ---- the stripes of an opened line
 
@@ -226,7 +226,7 @@ order_placed i us log stripe knows o next before line other life = go (nat_eq o.
         subst₂ (λ n q. IsInOrder i us (with_place log stripe knows) n q) its one (one_more i us log stripe knows o next (before stripe.line o next.opened))
     go false e = elsewhere i us log stripe knows o line other next.opened e (before line other life)
 
-order_step : (i : Image) (us : ℕ → List ℕ) (w : World) (knows : List ℕ) (x : Event) (line : ℕ) (o : Opening) → IsNextEvent i us w 0 (record { event = x; knows = knows }) → HasOrder i us (log_of w 0)
+order_step : (i : Image) (us : ℕ → List ℕ) (w : World) (knows : List ℕ) (x : Event) (line : ℕ) (o : Opening) → IsNextEvent i us w (record { event = x; knows = knows }) → HasOrder i us (log_of w 0)
     → turned_by line (life_of (log_of w 0) line) (length (log_of w 0)) knows x ≡ Opened o → IsInOrder i us (log_of w 0 ++ record { event = x; knows = knows } ∷ []) line o
 order_step i us w knows (Decides (Open other start)) line o next before is = go (nat_eq other line) is
   where
@@ -247,5 +247,5 @@ order_step i us w knows x line o next before is =
     stays i us (log_of w 0) l line o (placements_more (log_of w 0) l ∙ append-nil (placements (log_of w 0))) (before line o is)
 
 pub in_order : (i : Image) (us : ℕ → List ℕ) (w : World) → IsFollowed i us w → (line : ℕ) (o : Opening) → life_of (log_of w 0) line ≡ Opened o → IsInOrder i us (log_of w 0) line o
-in_order i us w is = by_events i us 0 (HasOrder i us) (λ line o e. absurd cc)
+in_order i us w is = by_events i us (HasOrder i us) (λ line o e. absurd cc)
     (λ v l next before line o e. order_step i us v l.knows l.event line o next before (sym (life_more (log_of v 0) l line) ∙ e)) w is

@@ -1,35 +1,40 @@
--- The units of an opened line of a plain world, from its opening on.
-use Rattle.std.proofs.Common.{◌≡◌, ◌⊎◌, inl, inr, ℕ, ◌<◌, ◌≤◌, ◌==◌, nat_eq, Bool, true, false, Some, None, Option, List, [], ◌∷◌, ◌++◌, length, refl, sym, subst, ap, ◌∙◌, arith, if◌then◌else◌, append-nil, le_refl, take_all, le_of_lt}
+-- The units of an opened line: they stay from its opening on, and each stripe is on one of them.
+use Rattle.std.proofs.Common.{◌≡◌, ◌⊎◌, inl, inr, ℕ, ◌+◌, ◌-◌, ◌<◌, ◌≤◌, ◌==◌, Bool, true, false, Some, List, [], ◌∷◌, ◌++◌, length, take, refl, sym, subst, ap, ◌∙◌, arith, if◌then◌else◌, length-append}
 use Rattle.std.specs.Prelude.{slice_get}
 use Rattle.std.specs.List.{AllByRecursion, range_with_len}
-use Rattle.std.specs.Option.{option_map, option_and_then}
-use Rattle.std.proofs.lemmas.Option.{same_Some, none-some, slice_get_within}
 use Rattle.pblk_model.specs.LineOrder.{column_of, block_of}
 use Rattle.pblk_model.specs.Image.{Image, line_units, width}
 use Rattle.pblk_layout.specs.Live.{is_live}
-use Rattle.pblk_world.specs.Events.{Stripe, Open, Place, Free, Event, Decides, Logged, Step}
-use Rattle.pblk_world.specs.World.{World, Logs, log_of, prefixes}
-use Rattle.pblk_world.specs.EngineLog.{begun, Opening, Opened, is_opened, turned_by, life_of, Placed, placements}
-use Rattle.pblk_world.specs.Lines.{told_by, known_image, place_of}
-use Rattle.pblk_world.specs.Placing.{next_address, IsStart, IsData, IsEnd, IsPad}
-use Rattle.pblk_world.proofs.Appending.{life_more, placements_more}
+use Rattle.pblk_world.specs.Events.{Stripe, Logged, Step}
+use Rattle.pblk_world.specs.World.{World, Logs, log_of}
+use Rattle.pblk_world.specs.EngineLog.{LineLife, AsFound, Freed, Opening, Opened, is_opened, life_of, Placed, placements}
+use Rattle.pblk_world.specs.Legal.{IsLegal}
+use Rattle.pblk_world.specs.Lines.{known_image, place_of}
+use Rattle.pblk_world.specs.Placing.{next_address, IsStart, IsData, IsEnd, IsPad, MayPlace}
+use Rattle.pblk_world.specs.Victims.{engine_prefix}
+use Rattle.world_laws.specs.LegalMounts.{IsLegalMount, NoneFreed, decides, is_freeing}
+use Rattle.world_laws.proofs.Later.{placed_within}
+use Rattle.world_laws.proofs.Openings.{placed_at}
+use Rattle.world_laws.proofs.Stripes.{IsPlaced, opening_then, placed_is}
+use Rattle.chunk_laws.proofs.LifePlaces.{began}
+use Rattle.chunk_laws.proofs.LifeUnits.{units_of_life}
+use Rattle.chunk_laws.proofs.Lives.{IsFreedAt, open_or_freed}
 use Rattle.core_laws.specs.OpenedLines.{opened_units}
-use Rattle.core_laws.specs.PlainWorlds.{IsPlainWorld}
-use Rattle.core_laws.proofs.Numbers.{opens, life_at}
-use Rattle.core_laws.proofs.Placing.{new_placed, placements_now}
+use Rattle.core_laws.specs.SimpleMounts.{IsSimpleMount}
+use Rattle.core_laws.proofs.Numbers.{life_at}
+use Rattle.core_laws.proofs.PlacedLines.{life_is_before}
 use Rattle.core_laws.proofs.Turns.{filtered_is}
-use Rattle.placing_laws.proofs.Units.{units_are}
-use Rattle.placing_laws.proofs.PlainEvents.{IsNextPlain, next_plain, IsInOpened, placed_in_opened}
-use Rattle.placing_laws.proofs.KnownImages.{known_then, known_longer, known_before, live_one_more}
-use Rattle.placing_laws.proofs.KeptUnits.{AreOnline, live_stays, some_begun}
-use Rattle.core_laws.proofs.PlainWorldsLemmas.{plain_before}
-use Rattle.lemmas.proofs.Lists.{with_last}
-use Rattle.pblk_world.proofs.EngineLogLemmas.{opened_same}
+use Rattle.placing_laws.proofs.KnownImages.{known_before}
+use Rattle.core_laws.proofs.UnitBits.{units_are}
+use Rattle.lemmas.proofs.Lists.{IsAmong, all_imply, among_all}
+use Rattle.lemmas.proofs.Options.{mapped_some}
+use Rattle.lemmas.proofs.Parts.{all_at, contained_among, take_all}
 use Rattle.pblk_world.proofs.LinesLemmas.{length_known}
+use Rattle.pblk_world.proofs.VictimsLemmas.{whole_prefix}
 
--- ---- each stripe stands on a chunk that isn't Offline
+-- ---- units and images
 
-pub few_units : (i : Image) (w : World) (ls : Logs) → IsPlainWorld i w → length (known_image i ls).units ≤ 64
+pub few_units : (i : Image) (w : World) (ls : Logs) → IsLegalMount i w → length (known_image i ls).units ≤ 64
 few_units i w ls is =
     let count : length (known_image i ls).units ≡ length i.units = length_known i ls in
     let all = is.fit.units in
@@ -38,112 +43,112 @@ few_units i w ls is =
 
 pub unit_live : (j : Image) (line k unit : ℕ) → length j.units ≤ 64 → slice_get (line_units j line) k ≡ Some unit → is_live j line unit ≡ true
 unit_live j line k unit few e =
-    filtered_is (is_live j line) (range_with_len 0 64) k unit (ap (λ (us : List ℕ). slice_get us k) (sym (units_are j line (is_live j line) few (λ u. refl))) ∙ e)
+    filtered_is (is_live j line) (range_with_len 0 64) k unit
+    (ap (λ (us : List ℕ). slice_get us k) (sym (units_are j line (is_live j line) few (λ u. refl))) ∙ e)
 
-mapped_some : (o : Option ℕ) (block unit at : ℕ) → option_map {U = ℕ × ℕ} (λ u. (u, block)) o ≡ Some (unit, at) → o ≡ Some unit
-mapped_some None block unit at e = absurd (none-some (unit, at) e)
-mapped_some (Some u) block unit at e = ap (λ (x : ℕ × ℕ). Some x.0) (same_Some (u, block) (unit, at) e)
+pub same_units : (j k : Image) (line : ℕ) → length j.units ≤ 64 → length k.units ≤ 64 → ((unit : ℕ) → is_live j line unit ≡ is_live k line unit)
+    → line_units j line ≡ line_units k line
+same_units j k line few many same = units_are j line (is_live k line) few (λ unit. sym (same unit))
+    ∙ sym (units_are k line (is_live k line) many (λ unit. refl))
 
-place_live : (j : Image) (line a unit at : ℕ) → length j.units ≤ 64 → place_of j line a ≡ Some (unit, at) → is_live j line unit ≡ true
-place_live j line a unit at few e =
-    unit_live j line (column_of j.shape (width j line) a) unit few (mapped_some (slice_get (line_units j line) (column_of j.shape (width j line) a)) (block_of j.shape (width j line) a) unit at e)
+-- ---- an opened line keeps its units
 
-kind_live : (i : Image) (ls : Logs) (o : Opening) (stripe : Stripe) → length (known_image i ls).units ≤ 64 → IsStart i ls o stripe ⊎ (IsData i ls o stripe ⊎ (IsEnd i ls o stripe ⊎ IsPad i ls o stripe)) → is_live (known_image i ls) stripe.line stripe.unit ≡ true
-kind_live i ls o stripe few (inl is) = place_live (known_image i ls) stripe.line (next_address i.shape (ls 0) o) stripe.unit stripe.at few is.next.in_order
-kind_live i ls o stripe few (inr (inl is)) = place_live (known_image i ls) stripe.line (next_address i.shape (ls 0) o) stripe.unit stripe.at few is.next.in_order
-kind_live i ls o stripe few (inr (inr (inl is))) = place_live (known_image i ls) stripe.line (next_address i.shape (ls 0) o) stripe.unit stripe.at few is.next.in_order
-kind_live i ls o stripe few (inr (inr (inr is))) = place_live (known_image i ls) stripe.line is.address stripe.unit stripe.at few is.place
-
-olds_online : (i : Image) (s : Step) (w : World) (ps : List Placed) → IsPlainWorld i (s ∷ w) → AreOnline i w (placements (log_of w 0)) → AllByRecursion (IsInOpened (log_of w 0)) ps → AreOnline i w ps → AreOnline i (s ∷ w) ps
-olds_online i s w [] is all opened online = tt
-olds_online i s w (p ∷ ps) is all opened online =
-    let here : is_opened (life_of (log_of w 0) p.stripe.line) ≡ true = ap (λ n. is_opened (life_of (log_of w 0) n)) (sym opened.0.chunk) ∙ opened.0.opened in
-    (live_stays i s w p.stripe.line p.stripe.unit is here all ∙ online.0, olds_online i s w ps is all opened.1 online.1)
-
-pub all_in_opened : (i : Image) (w : World) → IsPlainWorld i w → AllByRecursion (IsInOpened (log_of w 0)) (placements (log_of w 0))
-all_in_opened i w is =
-    subst (λ (xs : List Logged). AllByRecursion (IsInOpened xs) (placements xs)) (take_all (length (log_of w 0)) (log_of w 0) (le_refl (length (log_of w 0)))) (placed_in_opened i w is (length (log_of w 0)))
-
-online_by : (i : Image) (s : Step) (w : World) (knows : List ℕ) (x : Event) → IsPlainWorld i (s ∷ w) → IsNextPlain i w 0 (record { event = x; knows = knows }) → AreOnline i w (placements (log_of w 0)) → AreOnline i (s ∷ w) (placements (log_of w 0))
-    → AreOnline i (s ∷ w) (placements (log_of w 0 ++ record { event = x; knows = knows } ∷ []))
-online_by i s w knows (Decides (Place stripe)) is next before olds =
+-- from the opening on, by what the engine knew
+units_since : (i : Image) (w : World) (line : ℕ) (o : Opening) → IsLegal i w → life_of (log_of w 0) line ≡ Opened o → (k : ℕ) → o.number ≤ k
+    → k ≤ length (log_of w 0)
+    → line_units (known_image i (engine_prefix k (log_of w))) line ≡ line_units (known_image i (log_of w)) line
+units_since i w line o legal life k from inside =
     let log : List Logged = log_of w 0 in
-    let l : Logged = record { event = Decides (Place stripe); knows = knows } in
-    let may = next.allowed.2 in
-    let o : Opening = may.opening in
-    let life : life_of log stripe.line ≡ Opened o = ap (λ (log : List Logged). life_of log stripe.line) (sym next.own) ∙ may.is_open in
-    let live : is_live (known_image i (log_of w)) stripe.line stripe.unit ≡ true =
-    ap (λ (j : Image). is_live j stripe.line stripe.unit) (sym (known_then i w l next)) ∙ kind_live i (prefixes l (log_of w)) o stripe (few_units i w (prefixes l (log_of w)) next.world) may.kind in
-    subst (AreOnline i (s ∷ w)) (sym (placements_now log stripe knows o life))
-    (with_last (λ (p : Placed). is_live (known_image i (log_of (s ∷ w))) p.stripe.line p.stripe.unit ≡ true) (placements log) (new_placed log stripe o) olds
-    (live_stays i s w stripe.line stripe.unit is (ap is_opened life) before ∙ live))
-online_by i s w knows x is next before olds =
-    let l : Logged = record { event = x; knows = knows } in
-    subst (AreOnline i (s ∷ w)) (sym (placements_more (log_of w 0) l ∙ append-nil (placements (log_of w 0)))) olds
+    let at : o.number < length log = life_is_before log line o life in
+    let b = began i w line o legal life in
+    units_of_life i w legal b.0 b.1 line o life k from inside
+    ∙ sym (units_of_life i w legal b.0 b.1 line o life (length log) (omega arith) (omega arith))
+    ∙ ap (λ (ls : Logs). line_units (known_image i ls) line) (whole_prefix (log_of w))
 
-online_if : (i : Image) (s : Step) (w : World) → IsPlainWorld i (s ∷ w) → AreOnline i w (placements (log_of w 0)) → (b : Bool) → (s.author == 0) ≡ b → AreOnline i (s ∷ w) (placements (if b then log_of w 0 ++ s.logged ∷ [] else log_of w 0))
-online_if i s w is before true e =
-    online_by i s w s.logged.knows s.logged.event is (next_plain i s w 0 is e) before (olds_online i s w (placements (log_of w 0)) is before (all_in_opened i w (plain_before i s w is)) before)
-online_if i s w is before false e = olds_online i s w (placements (log_of w 0)) is before (all_in_opened i w (plain_before i s w is)) before
+pub keeps_units : (i : Image) (w : World) (line : ℕ) (o : Opening) → IsLegalMount i w → life_of (log_of w 0) line ≡ Opened o
+    → line_units (known_image i (log_of w)) line ≡ opened_units i (log_of w) o
+keeps_units i w line o is life =
+    let at : o.number < length (log_of w 0) = life_is_before (log_of w 0) line o life in
+    sym (units_since i w line o is.legal life o.number (omega arith) (omega arith))
+    ∙ ap (line_units (known_image i (engine_prefix o.number (log_of w)))) (sym (life_at (log_of w 0) line o life).1)
 
-pub all_online : (i : Image) (w : World) → IsPlainWorld i w → AreOnline i w (placements (log_of w 0))
-all_online i [] is = tt
-all_online i (s ∷ w) is = online_if i s w is (all_online i w (plain_before i s w is)) (s.author == 0) refl
-
--- ---- so an opened line keeps its units
-
-pub same_units : (j k : Image) (line : ℕ) → length j.units ≤ 64 → length k.units ≤ 64 → ((unit : ℕ) → is_live j line unit ≡ is_live k line unit) → line_units j line ≡ line_units k line
-same_units j k line few many same = units_are j line (is_live k line) few (λ unit. sym (same unit)) ∙ sym (units_are k line (is_live k line) many (λ unit. refl))
-
--- the line in the image as the engine knows it, after one more event
-pub units_stay : (i : Image) (s : Step) (w : World) (line : ℕ) → IsPlainWorld i (s ∷ w) → is_opened (life_of (log_of w 0) line) ≡ true → line_units (known_image i (log_of (s ∷ w))) line ≡ line_units (known_image i (log_of w)) line
-units_stay i s w line is opened =
-    same_units (known_image i (log_of (s ∷ w))) (known_image i (log_of w)) line (few_units i (s ∷ w) (log_of (s ∷ w)) is) (few_units i (s ∷ w) (log_of w) is)
-    (λ unit. live_stays i s w line unit is opened (all_online i w (plain_before i s w is)))
-
-AreKept : Image → World → Type 0
-AreKept i w = (line : ℕ) (o : Opening) → life_of (log_of w 0) line ≡ Opened o → line_units (known_image i (log_of w)) line ≡ opened_units i (log_of w) o
-
-opening_before : (log : List Logged) (line : ℕ) (o : Opening) → life_of log line ≡ Opened o → o.number ≤ length log
-opening_before log line o e = go (slice_get log o.number) refl (life_at log line o e).0
+-- the line in the image as the engine knows it, before and after one more event
+pub units_stay : (i : Image) (s : Step) (w : World) (line : ℕ) → IsLegal i (s ∷ w) → is_opened (life_of (log_of (s ∷ w) 0) line) ≡ true
+    → line_units (known_image i (log_of (s ∷ w))) line ≡ line_units (known_image i (log_of w)) line
+unfolding IsLegal
+units_stay i s w line legal opened = go (life_of (log_of (s ∷ w) 0) line) refl opened
   where
-    go : (x : Option Logged) → slice_get log o.number ≡ x → option_and_then (λ (l : Logged). opens l.event) x ≡ Some line → o.number ≤ length log
-    go None f g = absurd (none-some line g)
-    go (Some l) f g = le_of_lt (slice_get_within log o.number l f)
+    long : (b : Bool) → (length (log_of w 0) ≤ length (if b then log_of w 0 ++ s.logged ∷ [] else log_of w 0))
+        × (length (if b then log_of w 0 ++ s.logged ∷ [] else log_of w 0) ≤ length (log_of w 0) + 1)
+    long true = let more : length (log_of w 0 ++ s.logged ∷ []) ≡ length (log_of w 0) + 1 = length-append (log_of w 0) (s.logged ∷ []) in
+        (omega arith, omega arith)
+    long false = (omega arith, omega arith)
 
-still_kept : (i : Image) (s : Step) (w : World) (line : ℕ) (o : Opening) → IsPlainWorld i (s ∷ w) → AreKept i w → life_of (log_of w 0) line ≡ Opened o → line_units (known_image i (log_of (s ∷ w))) line ≡ opened_units i (log_of (s ∷ w)) o
-unfolding AreKept
-still_kept i s w line o is before life =
-    units_stay i s w line is (ap is_opened life) ∙ before line o life
-    ∙ ap (λ (j : Image). line_units j o.line) (sym (known_longer i s w o.number (plain_before i s w is) (opening_before (log_of w 0) line o life)))
+    go : (life : LineLife) → life_of (log_of (s ∷ w) 0) line ≡ life → is_opened life ≡ true
+        → line_units (known_image i (log_of (s ∷ w))) line ≡ line_units (known_image i (log_of w)) line
+    go AsFound e f = absurd cc
+    go (Freed past knows) e f = absurd cc
+    go (Opened o) e f =
+        let at : o.number < length (log_of (s ∷ w) 0) = life_is_before (log_of (s ∷ w) 0) line o e in
+        let more = long (s.author == 0) in
+        sym (units_since i (s ∷ w) line o legal e (length (log_of w 0)) (omega (arith, more)) (omega (arith, more)))
+        ∙ ap (λ (j : Image). line_units j line) (known_before i s w legal.1)
 
-kept_by : (i : Image) (s : Step) (w : World) (knows : List ℕ) (x : Event) (line : ℕ) (o : Opening) → s.logged ≡ record { event = x; knows = knows } → IsPlainWorld i (s ∷ w) → AreKept i w → (s.author == 0) ≡ true → IsNextPlain i w 0 (record { event = x; knows = knows })
-    → turned_by line (life_of (log_of w 0) line) (length (log_of w 0)) knows x ≡ Opened o → line_units (known_image i (log_of (s ∷ w))) line ≡ opened_units i (log_of (s ∷ w)) o
-kept_by i s w knows (Decides (Open other start)) line o its is before e next life = go (nat_eq other line) life
+-- ---- each stripe stands on a chunk that isn't Offline
+
+-- the unit of a place is one of the line's
+unit_of_place : (j : Image) (line a unit at : ℕ) → place_of j line a ≡ Some (unit, at) → IsAmong (line_units j line) unit
+unit_of_place j line a unit at e =
+    let k : ℕ = column_of j.shape (width j line) a in (k, (mapped_some (slice_get (line_units j line) k) (block_of j.shape (width j line) a) unit at e).0)
+
+unit_of_kind : (i : Image) (ls : Logs) (o : Opening) (stripe : Stripe)
+    → IsStart i ls o stripe ⊎ (IsData i ls o stripe ⊎ (IsEnd i ls o stripe ⊎ IsPad i ls o stripe))
+    → IsAmong (line_units (known_image i ls) stripe.line) stripe.unit
+unit_of_kind i ls o stripe (inl is) = unit_of_place (known_image i ls) stripe.line (next_address i.shape (ls 0) o) stripe.unit stripe.at is.next.in_order
+unit_of_kind i ls o stripe (inr (inl is)) = unit_of_place (known_image i ls) stripe.line (next_address i.shape (ls 0) o) stripe.unit stripe.at is.next.in_order
+unit_of_kind i ls o stripe (inr (inr (inl is))) = unit_of_place (known_image i ls) stripe.line
+    (next_address i.shape (ls 0) o) stripe.unit stripe.at is.next.in_order
+unit_of_kind i ls o stripe (inr (inr (inr is))) = unit_of_place (known_image i ls) stripe.line is.address stripe.unit stripe.at is.place
+
+-- a line that was opened stays so where nothing is freed
+stays_open : (i : Image) (w : World) (line n : ℕ) (o : Opening) → IsLegal i w → NoneFreed (log_of w 0) → n ≤ length (log_of w 0)
+    → life_of (take n (log_of w 0)) line ≡ Opened o → life_of (log_of w 0) line ≡ Opened o
+stays_open i w line n o legal none within life = go (open_or_freed i w legal line n (length (log_of w 0) - n) o (omega arith) life)
   where
-    go : (t : Bool) → (if t then Opened (record { number = length (log_of w 0); line = line; start = start; knows = knows }) else life_of (log_of w 0) line) ≡ Opened o → line_units (known_image i (log_of (s ∷ w))) line ≡ opened_units i (log_of (s ∷ w)) o
-    go true f =
-        let new : Opening = record { number = length (log_of w 0); line = line; start = start; knows = knows } in
-        let some : 0 < length (log_of w 0) = some_begun (log_of w 0) next.allowed.0 (ap begun (sym next.own) ∙ next.allowed.1) in
-        same_units (known_image i (log_of (s ∷ w))) (known_image i (log_of w)) line (few_units i (s ∷ w) (log_of (s ∷ w)) is) (few_units i (s ∷ w) (log_of w) is)
-        (λ unit. live_one_more i s w line unit (plain_before i s w is) e some
-        (λ chunks y tells at. absurd (none-some y (ap (λ (l : Logged). told_by (log_of (s ∷ w)) unit l.event) (sym its) ∙ tells))))
-        ∙ ap (λ (j : Image). line_units j line) (sym (known_before i s w (plain_before i s w is)))
-        ∙ ap (opened_units i (log_of (s ∷ w))) (opened_same new o f)
-    go false f = still_kept i s w line o is before f
-kept_by i s w knows (Decides (Free other)) line o its is before e next life = let plain = next.plain in absurd cc
-kept_by i s w knows x line o its is before e next life = still_kept i s w line o is before life
+    go : (life_of (take (n + (length (log_of w 0) - n)) (log_of w 0)) line ≡ Opened o) ⊎ IsFreedAt i w legal line o n (n + (length (log_of w 0) - n))
+        → life_of (log_of w 0) line ≡ Opened o
+    go (inl now) =
+        let whole : length (log_of w 0) ≤ n + (length (log_of w 0) - n) = omega arith in
+        ap (λ (log : List Logged). life_of log line) (sym (take_all (log_of w 0) (n + (length (log_of w 0) - n)) whole)) ∙ now
+    go (inr freed) =
+        let no : decides is_freeing freed.logged.event ≡ false =
+        all_at (λ (l : Logged). decides is_freeing l.event ≡ false) (log_of w 0) freed.number freed.logged freed.decided.there none in
+        let yes_ : decides is_freeing freed.logged.event ≡ true = ap (decides is_freeing) freed.decided.event in
+        absurd (true_false (sym yes_ ∙ no))
+      where
+        true_false : true ≡ false → ⊥
+        true_false e = cc
 
-kept_if : (i : Image) (s : Step) (w : World) (line : ℕ) (o : Opening) → IsPlainWorld i (s ∷ w) → AreKept i w → (b : Bool) → (s.author == 0) ≡ b → life_of (if b then log_of w 0 ++ s.logged ∷ [] else log_of w 0) line ≡ Opened o
-    → line_units (known_image i (log_of (s ∷ w))) line ≡ opened_units i (log_of (s ∷ w)) o
-kept_if i s w line o is before true e life = kept_by i s w s.logged.knows s.logged.event line o refl is before e (next_plain i s w 0 is e) (sym (life_more (log_of w 0) s.logged line) ∙ life)
-kept_if i s w line o is before false e life = still_kept i s w line o is before life
-
-all_kept : (i : Image) (w : World) → IsPlainWorld i w → AreKept i w
-unfolding AreKept
-all_kept i [] is = λ line o life. absurd cc
-all_kept i (s ∷ w) is = λ line o life. kept_if i s w line o is (all_kept i w (plain_before i s w is)) (s.author == 0) refl life
-
-pub keeps_units : (i : Image) (w : World) (line : ℕ) (o : Opening) → IsPlainWorld i w → life_of (log_of w 0) line ≡ Opened o → line_units (known_image i (log_of w)) line ≡ opened_units i (log_of w) o
-unfolding AreKept
-keeps_units i w line o is life = all_kept i w is line o life
+pub all_online : (i : Image) (w : World) → IsSimpleMount i w
+    → AllByRecursion (λ p. is_live (known_image i (log_of w)) p.stripe.line p.stripe.unit ≡ true) (placements (log_of w 0))
+all_online i w m =
+    let log : List Logged = log_of w 0 in
+    all_imply (IsAmong (placements log)) (λ (p : Placed). is_live (known_image i (log_of w)) p.stripe.line p.stripe.unit ≡ true) (λ p at. online p at)
+    (placements log) (among_all (placements log))
+  where
+    online : (p : Placed) → IsAmong (placements (log_of w 0)) p → is_live (known_image i (log_of w)) p.stripe.line p.stripe.unit ≡ true
+    online p at =
+        let log : List Logged = log_of w 0 in
+        let there = contained_among (placements log) p at in
+        let placed : IsPlaced log p = placed_is log p there in
+        let may : MayPlace i (engine_prefix p.number (log_of w)) p.stripe =
+        placed_at i w p.number p.stripe placed.logged m.mount.legal placed.there placed.event in
+        let inside : p.number < length log = placed_within log p there in
+        let later : may.opening.number < p.number = (opening_then log p.number p.stripe.line may.opening may.is_open).2 in
+        let life : life_of log p.stripe.line ≡ Opened may.opening =
+        stays_open i w p.stripe.line p.number may.opening m.mount.legal m.freed (omega arith) may.is_open in
+        let units : line_units (known_image i (engine_prefix p.number (log_of w))) p.stripe.line ≡ line_units (known_image i (log_of w)) p.stripe.line =
+        units_since i w p.stripe.line may.opening m.mount.legal life p.number (omega arith) (omega arith) in
+        let among : IsAmong (line_units (known_image i (log_of w)) p.stripe.line) p.stripe.unit =
+        subst (λ us. IsAmong us p.stripe.unit) units (unit_of_kind i (engine_prefix p.number (log_of w)) may.opening p.stripe may.kind) in
+        unit_live (known_image i (log_of w)) p.stripe.line among.0 p.stripe.unit (few_units i w (log_of w) m.mount) among.1

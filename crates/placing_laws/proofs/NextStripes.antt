@@ -46,11 +46,6 @@ unfolding answered_as
 unlost log [] m plain = new_unlost m
 unlost log (p ∷ ps) m plain = (lost_is (answer_of log p) ∙ not_lost log p plain, unlost log ps m plain)
 
-all_got : {X : Type 0} (test : X → Bool) (xs : List X) (k : ℕ) → AllByRecursion (λ x. test x ≡ false) xs → option_map_or test (slice_get xs k) false ≡ false
-all_got test [] k all = refl
-all_got test (x ∷ xs) zero all = all.0
-all_got test (x ∷ xs) (suc k) all = all_got test xs k all.1
-
 pub never_failed : (l : OpenLine) → AllByRecursion (λ x. is_lost x ≡ false) l.stripes → has_failed l ≡ false
 never_failed l all = any_fail is_lost l.stripes all
 

@@ -21,7 +21,7 @@ use Rattle.stripe_placer.proofs.Chunks.{lt_of as is_below}
 use Rattle.core_laws.specs.OpenedLines.{open_line, standing, open_lines}
 use Rattle.core_laws.specs.PlacerOf.{entries_of, row_of, placing_of}
 use Rattle.core_laws.proofs.Turns.{filtered_is}
-use Rattle.placing_laws.proofs.Followed.{IsFollowed}
+use Rattle.placing_laws.proofs.Followed.{IsFollowed, plain_of}
 use Rattle.placing_laws.proofs.Opened.{its_life}
 use Rattle.placing_laws.proofs.KeptLines.{few_units, unit_live}
 use Rattle.placing_laws.proofs.InOrder.{wide, stripe_count, IsAtPlace}
@@ -70,11 +70,11 @@ live_inside j line unit live = there (λ (chunks : List Chunk). option_map_or (�
 pub unit_within : (i : Image) (us : ℕ → List ℕ) (w : World) (line k unit : ℕ) → IsFollowed i us w → is_opened (life_of (log_of w 0) line) ≡ true → slice_get (us line) k ≡ Some unit → unit < units i.shape
 unit_within i us w line k unit is opened e =
     let j : Image = known_image i (log_of w) in
-    let few : length (known_image i (log_of w)).units ≤ 64 = few_units i w (log_of w) is.plain in
+    let few : length (known_image i (log_of w)).units ≤ 64 = few_units i w (log_of w) is.simple.mount in
     let live : is_live (known_image i (log_of w)) line unit ≡ true = unit_live (known_image i (log_of w)) line k unit few (ap (λ (xs : List ℕ). slice_get xs k) (is.keeps line opened) ∙ e) in
     let inside : unit < length (known_image i (log_of w)).units = there (λ (chunks : List Chunk). option_map_or (λ (c : Chunk). is_online_in c.state) (slice_get chunks line) false) (known_image i (log_of w)).units unit live in
     let same : length (known_image i (log_of w)).units ≡ length i.units = length_known i (log_of w) in
-    let count = is.plain.fit.units in
+    let count = is.simple.mount.fit.units in
     omega arith
 
 get_at : (us : List ℕ) (k u : ℕ) → k < length us → slice_index_or us k 0 ≡ u → slice_get us k ≡ Some u
@@ -107,11 +107,11 @@ next_number i us w o j is line e = go (nat_lt (length (stripes_of (log_of w 0) o
         let inside : length (stripes_of (log_of w 0) o) < stripe_count i us o.line = is_below (length (stripes_of (log_of w 0) o)) (stripe_count i us o.line) f in (
           inside,
           same_Some (length (stripes_of (log_of w 0) o)) j
-              (sym (next_is (open_line i (log_of w) o) (log_of w 0) (stripes_of (log_of w 0) o) (stripe_count i us o.line - length (stripes_of (log_of w 0) o)) is.plain.engine (formed i us w o line) (omega arith)) ∙ e),
+              (sym (next_is (open_line i (log_of w) o) (log_of w 0) (stripes_of (log_of w 0) o) (stripe_count i us o.line - length (stripes_of (log_of w 0) o)) (plain_of i us w is) (formed i us w o line) (omega arith)) ∙ e),
         )
     go false f =
         let outside : stripe_count i us o.line ≤ length (stripes_of (log_of w 0) o) = le_of_lt_false (length (stripes_of (log_of w 0) o)) (stripe_count i us o.line) f in
-        absurd (none-some j (sym (none_next (open_line i (log_of w) o) (log_of w 0) (stripes_of (log_of w 0) o) (stripe_count i us o.line - length (stripes_of (log_of w 0) o)) is.plain.engine (formed i us w o line) (omega arith)) ∙ e))
+        absurd (none-some j (sym (none_next (open_line i (log_of w) o) (log_of w 0) (stripes_of (log_of w 0) o) (stripe_count i us o.line - length (stripes_of (log_of w 0) o)) (plain_of i us w is) (formed i us w o line) (omega arith)) ∙ e))
 
 not_true : (a b : Bool) → (not a && not b) ≡ true → b ≡ false
 not_true true b e = absurd cc

@@ -44,7 +44,7 @@ opens_well i us ls begins line number start knows units may = record {
       (positive (line_data (known_image i ls) line) (third (not (has_number i ls (life_of (ls 0) line) line)) (are_empty (known_image i ls) line) (nat_lt 0 (line_data (known_image i ls) line)) may.is_free));
 }
 
-opened_step : (i : Image) (us : ℕ → List ℕ) (w : World) (knows : List ℕ) (x : Event) (line : ℕ) (o : Opening) → IsNextEvent i us w 0 (record { event = x; knows = knows })
+opened_step : (i : Image) (us : ℕ → List ℕ) (w : World) (knows : List ℕ) (x : Event) (line : ℕ) (o : Opening) → IsNextEvent i us w (record { event = x; knows = knows })
     → ((p : Opening) → life_of (log_of w 0) line ≡ Opened p → IsOpenedLine i us line p) → turned_by line (life_of (log_of w 0) line) (length (log_of w 0)) knows x ≡ Opened o → IsOpenedLine i us line o
 opened_step i us w knows (Decides (Open other start)) line o next before is = go (nat_eq other line) refl is
   where
@@ -54,13 +54,13 @@ opened_step i us w knows (Decides (Open other start)) line o next before is = go
         let same : other ≡ line = eqb-true other line e in
         subst (IsOpenedLine i us line) (opened_same (record { number = length (log_of w 0); line = line; start = start; knows = knows }) o f)
         (subst (λ n. IsOpenedLine i us n (record { number = length (log_of w 0); line = n; start = start; knows = knows })) same
-        (opens_well i us (prefixes l (log_of w)) next.allowed.0 other (length (log_of w 0)) start knows (next.knows_units refl other (ap is_opened (life_more (log_of w 0) l other ∙ ap (λ b. if b then Opened (record { number = length (log_of w 0); line = other; start = start; knows = knows }) else life_of (log_of w 0) other) (same_number other)))) next.allowed.2))
+        (opens_well i us (prefixes l (log_of w)) next.allowed.0 other (length (log_of w 0)) start knows (next.knows_units other (ap is_opened (life_more (log_of w 0) l other ∙ ap (λ b. if b then Opened (record { number = length (log_of w 0); line = other; start = start; knows = knows }) else life_of (log_of w 0) other) (same_number other)))) next.allowed.2))
     go false e f = before o f
 opened_step i us w knows (Decides (Free other)) line o next before is = let plain = next.plain in absurd cc
 opened_step i us w knows x line o next before is = before o is
 
 pub opened_lines : (i : Image) (us : ℕ → List ℕ) (w : World) → IsFollowed i us w → (line : ℕ) (o : Opening) → life_of (log_of w 0) line ≡ Opened o → IsOpenedLine i us line o
-opened_lines i us w is = by_events i us 0 (λ log. (line : ℕ) (o : Opening) → life_of log line ≡ Opened o → IsOpenedLine i us line o) (λ line o e. absurd cc)
+opened_lines i us w is = by_events i us (λ log. (line : ℕ) (o : Opening) → life_of log line ≡ Opened o → IsOpenedLine i us line o) (λ line o e. absurd cc)
     (λ v l next before line o e. opened_step i us v l.knows l.event line o next (before line) (sym (life_more (log_of v 0) l line) ∙ e)) w is
 
 -- ---- openings and lives
@@ -109,7 +109,7 @@ openings_step log knows x plain all =
 -- the opening that stands is that of its line's life
 pub its_life : (i : Image) (us : ℕ → List ℕ) (w : World) → IsFollowed i us w → AllByRecursion (λ o. is_life o.number (life_of (log_of w 0) o.line) ≡ true → life_of (log_of w 0) o.line ≡ Opened o) (openings (log_of w 0))
 unfolding IsItsLife
-its_life i us w is = by_events i us 0 (λ log. AllByRecursion (IsItsLife log) (openings log)) tt (λ v l next all. openings_step (log_of v 0) l.knows l.event next.plain all) w is
+its_life i us w is = by_events i us (λ log. AllByRecursion (IsItsLife log) (openings log)) tt (λ v l next all. openings_step (log_of v 0) l.knows l.event next.plain all) w is
 
 -- ---- a line's life is by one of the openings
 
@@ -141,7 +141,7 @@ among_step log knows x line o plain before is =
     subst (λ os. IsAmong os o) (sym (openings_more log l ∙ append-nil (openings log))) was
 
 pub life_among : (i : Image) (us : ℕ → List ℕ) (w : World) → IsFollowed i us w → (line : ℕ) (o : Opening) → life_of (log_of w 0) line ≡ Opened o → IsAmong (openings (log_of w 0)) o
-life_among i us w is = by_events i us 0 (λ log. (line : ℕ) (o : Opening) → life_of log line ≡ Opened o → IsAmong (openings log) o) (λ line o e. absurd cc)
+life_among i us w is = by_events i us (λ log. (line : ℕ) (o : Opening) → life_of log line ≡ Opened o → IsAmong (openings log) o) (λ line o e. absurd cc)
     (λ v l next before line o e. among_step (log_of v 0) l.knows l.event line o next.plain (before line) (sym (life_more (log_of v 0) l line) ∙ e)) w is
 
 -- so it stands

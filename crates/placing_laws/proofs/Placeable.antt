@@ -32,7 +32,7 @@ use Rattle.core_laws.specs.PlacerOf.{entries_of, placing_of, IsStripeOf}
 use Rattle.core_laws.proofs.Turns.{filtered_is}
 use Rattle.core_laws.proofs.WaitingEntries.{waiting_alike}
 use Rattle.core_laws.proofs.PlacedEntries.{length_positions as positions_length}
-use Rattle.placing_laws.proofs.Followed.{IsFollowed, units_width}
+use Rattle.placing_laws.proofs.Followed.{IsFollowed, units_width, plain_of}
 use Rattle.placing_laws.specs.StripeFor.{blocks_for, IsStripeFor, positions_for, IsProgramFor}
 use Rattle.placing_laws.proofs.Lengths.{IsStriped, begins_before, ends_before, begins_after}
 use Rattle.placing_laws.proofs.InOrder.{wide, stripe_count, IsAtPlace}
@@ -108,9 +108,9 @@ has_some s log pad some e =
 pub next_in_line : (i : Image) (us : ℕ → List ℕ) (w : World) (pad : ℕ) (of : Program) (o : Opening) (stripe : Stripe) → IsFollowed i us w → IsOffered i us w pad of o → stripe.line ≡ of.line → stripe.unit ≡ of.unit → stripe.at ≡ of.block
     → IsNext i (log_of w) o stripe
 next_in_line i us w pad of o stripe is off line unit at = record {
-  not_failed = not_failed (log_of w 0) o is.plain.engine;
+  not_failed = not_failed (log_of w 0) o (plain_of i us w is);
   in_order = ap (λ n. place_of (known_image i (log_of w)) n (length (stripes_of (log_of w 0) o) * i.shape.ws_opt)) (line ∙ off.its_line)
-      ∙ place_at i us (log_of w) o.line (length (stripes_of (log_of w 0) o)) of.unit of.block (is.keeps o.line (ap is_opened off.life)) is.plain.accepted.drive.ws_opt off.place
+      ∙ place_at i us (log_of w) o.line (length (stripes_of (log_of w 0) o)) of.unit of.block (is.keeps o.line (ap is_opened off.life)) is.simple.mount.accepted.drive.ws_opt off.place
       ∙ ap₂ (λ u b. Some (u, b)) (sym unit) (sym at);
 }
 
@@ -158,7 +158,7 @@ unfolding IsPart
 may_by_kind i us w pad of o stripe kinds.Start is off parts next part allowed blocks =
     inl (record {
       next = next;
-      within = begins_before i.shape.ws_opt (length (stripes_of (log_of w 0) o)) (start_len i.shape / i.shape.ws_opt) (start_len i.shape) is.plain.accepted.drive.ws_opt parts.start_is part;
+      within = begins_before i.shape.ws_opt (length (stripes_of (log_of w 0) o)) (start_len i.shape / i.shape.ws_opt) (start_len i.shape) is.simple.mount.accepted.drive.ws_opt parts.start_is part;
       blocks = blocks;
     })
 may_by_kind i us w pad of o stripe kinds.Data is off parts next part allowed blocks =
@@ -167,7 +167,7 @@ may_by_kind i us w pad of o stripe kinds.Data is off parts next part allowed blo
     let l : OpenLine = open_line i (log_of w) o in
     let k : ℕ = length (stripes_of log o) in
     let c : ℕ = start_len s / s.ws_opt in
-    let some : 0 < s.ws_opt = is.plain.accepted.drive.ws_opt in
+    let some : 0 < s.ws_opt = is.simple.mount.accepted.drive.ws_opt in
     let two = both (start_has_landed l) (has_stripe s.ws_opt (entries_of s log pad)) allowed in
     inr (inl (record {
       next = next;
@@ -187,7 +187,7 @@ may_by_kind i us w pad of o stripe kinds.End is off parts next part allowed bloc
     let c : ℕ = start_len s / s.ws_opt in
     let d : ℕ = l.data_count in
     let n : ℕ = end_address s o / s.ws_opt in
-    let some : 0 < s.ws_opt = is.plain.accepted.drive.ws_opt in
+    let some : 0 < s.ws_opt = is.simple.mount.accepted.drive.ws_opt in
     let beyond : c + d ≤ k = part in
     let has : 0 < d = parts.has_data in
     let first : list_all (has_landed log) (take c ps) ≡ true = off.line_is.order.started (omega arith) in
@@ -210,7 +210,7 @@ placeable i us w pad of o stripe is off for =
     let c : ℕ = start_len i.shape / i.shape.ws_opt in
     let parts : HasParts i us w o = parts_of i us w o off.line_is in
     let kind : kind_in k c l.data_count ≡ of.kind =
-    sym (kind_by l k (unfailed l log (stripes_of log o) (stripe_count i us o.line - k) is.plain.engine (formed i us w o off.line_is))) ∙ off.kind in
+    sym (kind_by l k (unfailed l log (stripes_of log o) (stripe_count i us o.line - k) (plain_of i us w is) (formed i us w o off.line_is))) ∙ off.kind in
     let line : stripe.line ≡ o.line = for.line ∙ off.its_line in
     record {
       in_range = subst (λ n. n < i.shape.chunks) (sym line) off.line_is.well.in_range;
@@ -230,7 +230,7 @@ kind_positions : (i : Image) (us : ℕ → List ℕ) (w : World) (pad : ℕ) (o 
 kind_positions i us w pad o at kind is = go kind
   where
     small : i.shape.capacity ≤ meta_lba
-    small = let low = is.plain.accepted.target.capacity_number in omega arith
+    small = let low = is.simple.mount.accepted.target.capacity_number in omega arith
 
     go : (kind : StripeKind) → filter_map (position_in i.shape) (blocks_for i.shape (log_of w 0) o at kind) ≡ next_positions i.shape (entries_of i.shape (log_of w 0) pad) kind
     go kinds.Start = record_positions i.shape o.start.seq (start_len i.shape) (start_bytes i.shape o.start) (at - 0) (at - 0 + i.shape.ws_opt) small
@@ -285,7 +285,7 @@ offered_is_for i us w pad busy of is next =
     let k : ℕ = length (stripes_of log o) in
     let parts : HasParts i us w o = parts_of i us w o off.line_is in
     let kind : kind_in k (start_len i.shape / i.shape.ws_opt) l.data_count ≡ of.kind =
-    sym (kind_by l k (unfailed l log (stripes_of log o) (stripe_count i us o.line - k) is.plain.engine (formed i us w o off.line_is))) ∙ off.kind in (
+    sym (kind_by l k (unfailed l log (stripes_of log o) (stripe_count i us o.line - k) (plain_of i us w is) (formed i us w o off.line_is))) ∙ off.kind in (
       o,
       record {
         opened = ap (life_of log) off.its_line ∙ off.life;

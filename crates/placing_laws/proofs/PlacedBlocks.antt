@@ -1,9 +1,7 @@
 -- A placed stripe has its whole number of blocks, and stands in the chunk of its line.
-use Rattle.std.proofs.Common.{◌≡◌, ◌⊎◌, inl, inr, ℕ, ◌+◌, ◌-◌, ◌*◌, ◌/◌, ◌<◌, ◌≤◌, zero, suc, min, Bool, true, false, cond, Some, List, [], ◌∷◌, ◌++◌, map, length, take, drop, replicate, refl, sym, subst, ap, ◌∙◌, arith, append-nil, length-append, length-drop, length-take}
+use Rattle.std.proofs.Common.{◌≡◌, ◌⊎◌, inl, inr, ℕ, ◌+◌, ◌-◌, ◌*◌, ◌/◌, ◌<◌, ◌≤◌, zero, suc, min, true, false, List, [], ◌∷◌, ◌++◌, map, length, take, drop, replicate, refl, sym, subst, ap, ◌∙◌, arith, append-nil, length-append, length-drop, length-take}
 use Rattle.std.specs.Prelude.{slice_range}
 use Rattle.std.specs.List.{AllByRecursion}
-use Rattle.std.proofs.lemmas.Bool.{eqb-true}
-use Rattle.std.proofs.lemmas.Option.{same_Some, none-some}
 use Rattle.pblk_model.specs.declared.shape.Shape.{Shape}
 use Rattle.pblk_model.specs.declared.chunk.Mark.{Mark}
 use Rattle.pblk_model.specs.Chunk.{Block}
@@ -15,13 +13,12 @@ use Rattle.pblk_model.specs.EndRecord.{end_bytes}
 use Rattle.pblk_model.specs.Image.{Image}
 use Rattle.pblk_world.specs.Events.{Stripe, Place, Event, Decides, Logged}
 use Rattle.pblk_world.specs.World.{World, Logs, log_of, prefixes}
-use Rattle.pblk_world.specs.EngineLog.{Opening, Opened, LineLife, life_of, is_life, Placed, placements, stripes_of, has_failed, block_of_taken}
+use Rattle.pblk_world.specs.EngineLog.{Opening, Opened, LineLife, life_of, Placed, placements, stripes_of, has_failed, block_of_taken}
 use Rattle.pblk_world.specs.Fronts.{waiting}
 use Rattle.pblk_world.specs.Placing.{IsStart, IsData, IsEnd, IsPad, MayPlace, record_blocks, end_address, line_end, end_record}
 use Rattle.pblk_world.proofs.Appending.{placements_more}
-use Rattle.core_laws.proofs.Numbers.{opens_at, life_at}
 use Rattle.core_laws.proofs.Placing.{new_placed, placements_now}
-use Rattle.placing_laws.proofs.Followed.{IsFollowed, IsNextEvent, by_events}
+use Rattle.placing_laws.proofs.Followed.{IsFollowed, IsNextEvent, by_events, plain_of}
 use Rattle.placing_laws.proofs.Lengths.{IsStriped, is_before, ends_before}
 use Rattle.placing_laws.proofs.Opened.{IsOpenedLine, opened_lines}
 use Rattle.placing_laws.proofs.InOrder.{wide, its_stripes}
@@ -46,10 +43,6 @@ padded_long w bs b =
     let sum : length (bs ++ replicate (w - length bs) b) ≡ length bs + length (replicate (w - length bs) b) = length-append bs (replicate (w - length bs) b) in
     let more : length (replicate (w - length bs) b) ≡ w - length bs = length_replicate (w - length bs) b in
     omega arith
-
-whole_by : (start end all w : ℕ) (b : Bool) → 0 < cond b 0 (all - start - end) → start + cond b 0 (all - start - end) + end ≡ all
-whole_by start end all w true h = absurd (omega arith)
-whole_by start end all w false h = omega arith
 
 blocks_long : (i : Image) (us : ℕ → List ℕ) (ls : Logs) (stripe : Stripe) (o : Opening) → 0 < i.shape.ws_opt → IsStriped i.shape (wide us stripe.line) → IsOpenedLine i us stripe.line o → has_failed (ls 0) o ≡ false
     → IsStart i ls o stripe ⊎ (IsData i ls o stripe ⊎ (IsEnd i ls o stripe ⊎ IsPad i ls o stripe)) → i.shape.ws_opt ≤ length stripe.blocks
@@ -95,14 +88,14 @@ may_be_whole : (i : Image) (us : ℕ → List ℕ) (w : World) (l : Logged) (str
 may_be_whole i us w l stripe life number is own may =
     let opened : life_of (log_of w 0) stripe.line ≡ Opened may.opening = ap (λ (log : List Logged). life_of log stripe.line) (sym own) ∙ may.is_open in
     let well : IsOpenedLine i us stripe.line may.opening = opened_lines i us w is stripe.line may.opening opened in
-    let some : 0 < i.shape.ws_opt = is.plain.accepted.drive.ws_opt in
+    let some : 0 < i.shape.ws_opt = is.simple.mount.accepted.drive.ws_opt in
     record {
-      long = blocks_long i us (prefixes l (log_of w)) stripe may.opening some (its_stripes i us stripe.line may.opening some is.plain.accepted.drive.whole_stripes well) well
-          (ap (λ log. has_failed log may.opening) own ∙ none_failed (log_of w 0) may.opening is.plain.engine) may.kind;
+      long = blocks_long i us (prefixes l (log_of w)) stripe may.opening some (its_stripes i us stripe.line may.opening some is.simple.mount.accepted.drive.whole_stripes well) well
+          (ap (λ log. has_failed log may.opening) own ∙ none_failed (log_of w 0) may.opening (plain_of i us w is)) may.kind;
       chunk = may.chunk;
     }
 
-whole_step : (i : Image) (us : ℕ → List ℕ) (w : World) (knows : List ℕ) (x : Event) → IsNextEvent i us w 0 (record { event = x; knows = knows }) → AllByRecursion (IsWhole i) (placements (log_of w 0))
+whole_step : (i : Image) (us : ℕ → List ℕ) (w : World) (knows : List ℕ) (x : Event) → IsNextEvent i us w (record { event = x; knows = knows }) → AllByRecursion (IsWhole i) (placements (log_of w 0))
     → AllByRecursion (IsWhole i) (placements (log_of w 0 ++ record { event = x; knows = knows } ∷ []))
 whole_step i us w knows (Decides (Place stripe)) next all =
     let log : List Logged = log_of w 0 in
@@ -116,56 +109,4 @@ whole_step i us w knows x next all =
     subst (AllByRecursion (IsWhole i)) (sym (placements_more (log_of w 0) l ∙ append-nil (placements (log_of w 0)))) all
 
 pub all_whole : (i : Image) (us : ℕ → List ℕ) (w : World) → IsFollowed i us w → AllByRecursion (IsWhole i) (placements (log_of w 0))
-all_whole i us w is = by_events i us 0 (λ log. AllByRecursion (IsWhole i) (placements log)) tt (λ v l next all. whole_step i us v l.knows l.event next all) w is
-
--- ---- and its line is that of its life
-
-IsInItsLine : List Logged → Placed → Type 0
-IsInItsLine log p = (o : Opening) × (p.life ≡ Opened o) × (opens_at log o.number ≡ Some p.stripe.line)
-
-opens_later : (log : List Logged) (l : Logged) (n line : ℕ) → opens_at log n ≡ Some line → opens_at (log ++ l ∷ []) n ≡ Some line
-opens_later [] l n line e = absurd (none-some line e)
-opens_later (m ∷ log) l zero line e = e
-opens_later (m ∷ log) l (suc n) line e = opens_later log l n line e
-
-lines_later : (log : List Logged) (l : Logged) (ps : List Placed) → AllByRecursion (IsInItsLine log) ps → AllByRecursion (IsInItsLine (log ++ l ∷ [])) ps
-unfolding IsInItsLine
-lines_later log l [] all = tt
-lines_later log l (p ∷ ps) all = ((all.0.0, all.0.1, opens_later log l all.0.0.number p.stripe.line all.0.2), lines_later log l ps all.1)
-
-lines_step : (i : Image) (us : ℕ → List ℕ) (w : World) (knows : List ℕ) (x : Event) → IsNextEvent i us w 0 (record { event = x; knows = knows }) → AllByRecursion (IsInItsLine (log_of w 0)) (placements (log_of w 0))
-    → AllByRecursion (IsInItsLine (log_of w 0 ++ record { event = x; knows = knows } ∷ [])) (placements (log_of w 0 ++ record { event = x; knows = knows } ∷ []))
-unfolding IsInItsLine
-lines_step i us w knows (Decides (Place stripe)) next all =
-    let log : List Logged = log_of w 0 in
-    let l : Logged = record { event = Decides (Place stripe); knows = knows } in
-    let may = next.allowed.2 in
-    let o : Opening = may.opening in
-    let opened : life_of log stripe.line ≡ Opened o = ap (λ (log : List Logged). life_of log stripe.line) (sym next.own) ∙ may.is_open in
-    subst (AllByRecursion (IsInItsLine (log ++ l ∷ []))) (sym (placements_now log stripe knows o opened))
-    (with_last (IsInItsLine (log ++ l ∷ [])) (placements log) (new_placed log stripe o) (lines_later log l (placements log) all)
-    (o, refl, opens_later log l o.number stripe.line (life_at log stripe.line o opened).0))
-lines_step i us w knows x next all =
-    let log : List Logged = log_of w 0 in
-    let l : Logged = record { event = x; knows = knows } in
-    let rest : AllByRecursion (IsInItsLine (log ++ l ∷ [])) (placements log) = lines_later log l (placements log) all in
-    subst (AllByRecursion (IsInItsLine (log ++ l ∷ []))) (sym (placements_more log l ∙ append-nil (placements log))) rest
-
-all_in_lines : (i : Image) (us : ℕ → List ℕ) (w : World) → IsFollowed i us w → AllByRecursion (IsInItsLine (log_of w 0)) (placements (log_of w 0))
-unfolding IsInItsLine
-all_in_lines i us w is = by_events i us 0 (λ log. AllByRecursion (IsInItsLine log) (placements log)) tt (λ v l next all. lines_step i us v l.knows l.event next all) w is
-
-its_line : (log : List Logged) (o : Opening) (p : Placed) → life_of log o.line ≡ Opened o → IsInItsLine log p → is_life o.number p.life ≡ true → p.stripe.line ≡ o.line
-unfolding IsInItsLine
-its_line log o p life is e =
-    let number : is.0.number ≡ o.number = eqb-true is.0.number o.number (ap (is_life o.number) (sym is.1) ∙ e) in
-    same_Some p.stripe.line o.line (sym is.2 ∙ ap (opens_at log) number ∙ (life_at log o.line o life).0)
-
--- a stripe of an opening stands in the opening's line
-pub lines_are : (i : Image) (us : ℕ → List ℕ) (w : World) (o : Opening) → IsFollowed i us w → life_of (log_of w 0) o.line ≡ Opened o → AllByRecursion (λ p. is_life o.number p.life ≡ true → p.stripe.line ≡ o.line) (placements (log_of w 0))
-unfolding IsInItsLine
-lines_are i us w o is life = go (placements (log_of w 0)) (all_in_lines i us w is)
-  where
-    go : (ps : List Placed) → AllByRecursion (IsInItsLine (log_of w 0)) ps → AllByRecursion (λ (p : Placed). is_life o.number p.life ≡ true → p.stripe.line ≡ o.line) ps
-    go [] all = tt
-    go (p ∷ ps) all = (its_line (log_of w 0) o p life all.0, go ps all.1)
+all_whole i us w is = by_events i us (λ log. AllByRecursion (IsWhole i) (placements log)) tt (λ v l next all. whole_step i us v l.knows l.event next all) w is

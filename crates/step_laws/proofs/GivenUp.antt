@@ -23,8 +23,7 @@ use Rattle.pblk_world.proofs.Appending.{placements_more}
 use Rattle.pblk_laws.specs.LineBlocks.{chunk_in}
 use Rattle.core_laws.specs.PlainWorlds.{IsPlainWorld}
 use Rattle.core_laws.specs.PlacerOf.{unanswered_on}
-use Rattle.media_laws.proofs.Growing.{get_after}
-use Rattle.placing_laws.proofs.PlainEvents.{has_begun_plain}
+use Rattle.placing_laws.proofs.Begun.{begun_once}
 use Rattle.step_laws.specs.Whole.{engine_step, unit_step, reset_of, after_reset_of, after_noted_reset, IsLevel, IsKnown}
 use Rattle.step_laws.proofs.ChunkEvents.{chunk_beside, chunk_here}
 use Rattle.step_laws.proofs.EngineSteps.{engine_next}
@@ -33,6 +32,7 @@ use Rattle.step_laws.proofs.Known.{known_told}
 use Rattle.step_laws.proofs.Levels.{level_by, level_unit}
 use Rattle.step_laws.proofs.UnitSteps.{unit_log, engine_log, media_now, media_elsewhere, none_stopped, named_within, has_chunks}
 use Rattle.lemmas.proofs.Lists.{all_contains}
+use Rattle.lemmas.proofs.Parts.{get_last}
 use Rattle.pblk_world.proofs.EngineLogLemmas.{answers_more}
 use Rattle.pblk_world.proofs.WorldLemmas.{log_here}
 
@@ -49,7 +49,7 @@ some_given [] line e = absurd (cc)
 some_given (l ∷ log) line e = omega arith
 
 given_begun : (i : Image) (w : World) (line : ℕ) → IsPlainWorld i w → is_given_up (log_of w 0) line ≡ true → (b : Begun) × (begun (log_of w 0) ≡ Some b)
-given_begun i w line plain given = has_begun_plain i w plain (some_given (log_of w 0) line given)
+given_begun i w line plain given = begun_once i w plain.legal (some_given (log_of w 0) line given)
 
 may_reset : (i : Image) (w : World) (unit chunk : ℕ) (c : Chunk) → IsPlainWorld i w → is_given_up (log_of w 0) chunk ≡ true → chunk_in (media i (log_of w)) chunk unit ≡ Some c → IsUsed c.state → MayDo i (log_of w) unit (reset_of chunk)
 may_reset i w unit chunk c plain given there used =
@@ -114,7 +114,7 @@ may_note i w unit chunk maker legal =
     let s : Step = unit_step i.shape unit (reset_of chunk) maker w in
     let own : log_of (s ∷ w) 0 ≡ log_of w 0 = engine_log i.shape unit (reset_of chunk) maker w in
     let last : slice_get (log_of (s ∷ w) (suc unit)) (length (log_of w (suc unit))) ≡ Some s.logged =
-    ap (λ (log : List Logged). slice_get log (length (log_of w (suc unit)))) (unit_log i.shape unit (reset_of chunk) maker w) ∙ get_after (log_of w (suc unit)) (s.logged ∷ []) in (
+    ap (λ (log : List Logged). slice_get log (length (log_of w (suc unit)))) (unit_log i.shape unit (reset_of chunk) maker w) ∙ get_last (log_of w (suc unit)) s.logged in (
       record {
         reset = reset_of chunk;
         new = record {

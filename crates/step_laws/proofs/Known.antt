@@ -13,7 +13,6 @@ use Rattle.pblk_world.specs.EngineLog.{begun_by}
 use Rattle.pblk_world.specs.Lines.{told_by, known_image}
 use Rattle.core_laws.specs.PlainWorlds.{IsPlainWorld}
 use Rattle.line_laws.proofs.KeptRows.{known_kept}
-use Rattle.media_laws.proofs.Growing.{get_after}
 use Rattle.placing_laws.proofs.KnownImages.{known_one_more}
 use Rattle.step_laws.specs.Whole.{knows_all, engine_step, unit_step, fetch_of, noted, IsKnown}
 use Rattle.step_laws.proofs.ChunkEvents.{same_images}
@@ -21,6 +20,7 @@ use Rattle.step_laws.proofs.EngineSteps.{engine_logs, media_still}
 use Rattle.step_laws.proofs.Fetches.{media_stays}
 use Rattle.step_laws.proofs.UnitSteps.{unit_log, engine_log, media_now, media_elsewhere}
 use Rattle.step_laws.proofs.UnitStays.{known_stays}
+use Rattle.lemmas.proofs.Parts.{get_last}
 use Rattle.lemmas.proofs.Tests.{other_number, same_number}
 use Rattle.pblk_world.proofs.WorldLemmas.{log_elsewhere}
 
@@ -49,12 +49,12 @@ module _ (i : Image) (w : World) (unit : ℕ) (e : UnitEvent) (maker : Maker) (t
       let own : log_of end_ (suc unit) ≡ log_of w (suc unit) ++ (unit_step i.shape unit e maker w).logged ∷ [] =
       log_elsewhere (engine_step i.shape tells mid) mid (suc unit) (λ same. let no : 0 ≡ suc unit = same in absurd (omega arith)) ∙ unit_log i.shape unit e maker w in
       ap (λ (log : List Logged). option_and_then (λ (l : Logged). unit_event_of l.event) (slice_get log (length (log_of w (suc unit))))) own
-      ∙ ap (option_and_then (λ (l : Logged). unit_event_of l.event)) (get_after (log_of w (suc unit)) ((unit_step i.shape unit e maker w).logged ∷ []))
+      ∙ ap (option_and_then (λ (l : Logged). unit_event_of l.event)) (get_last (log_of w (suc unit)) (unit_step i.shape unit e maker w).logged)
 
   known_now : (u : ℕ) → slice_get (known_image i (log_of end_)).units u ≡ told_chunks u (told_by (log_of end_) u (Decides tells))
   known_now u =
       let some_mid : 0 < length (log_of mid 0) = subst (λ (log : List Logged). 0 < length log) (sym (engine_log i.shape unit e maker w)) some in
-      known_one_more i (engine_step i.shape tells mid) mid u plain refl some_mid
+      known_one_more i (engine_step i.shape tells mid) mid u plain.legal refl some_mid
 
   known_was : IsKnown i w → known_image i (log_of mid) ≡ media i (log_of w)
   known_was is = known_stays i w unit e maker before ∙ is

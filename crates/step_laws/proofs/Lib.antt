@@ -1,6 +1,7 @@
 pub mod Knowing
 pub mod ChunkEvents
 pub mod EngineSteps
+pub mod NextProgram
 pub mod UnitSteps
 pub mod StripeBlocks
 pub mod Programs

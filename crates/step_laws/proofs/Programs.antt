@@ -14,6 +14,7 @@ use Rattle.pblk_world.specs.Lines.{known_image}
 use Rattle.pblk_world.specs.Commanding.{ended_stripes}
 use Rattle.core_laws.specs.PlainWorlds.{IsPlainWorld}
 use Rattle.core_laws.specs.PlacerOf.{unanswered_on}
+use Rattle.core_laws.proofs.SimpleMounts.{simple_of}
 use Rattle.core_laws.proofs.Turns.{filtered_is}
 use Rattle.placing_laws.proofs.KeptLines.{all_online}
 use Rattle.placing_laws.proofs.Offered.{live_inside as live_within}
@@ -29,7 +30,7 @@ pub unit_in_range : (i : Image) (w : World) (unit k : ℕ) (p : Placed) → IsPl
 unit_in_range i w unit k p plain there =
     let among : IsAmong (placements (log_of w 0)) p = from_filter (λ (q : Placed). q.stripe.unit == unit) (placements (log_of w 0)) p (k, there) in
     let live : is_live (known_image i (log_of w)) p.stripe.line p.stripe.unit ≡ true =
-    all_at (λ (p : Placed). is_live (known_image i (log_of w)) p.stripe.line p.stripe.unit ≡ true) (placements (log_of w 0)) among.0 p among.1 (all_online i w plain) in
+    all_at (λ (p : Placed). is_live (known_image i (log_of w)) p.stripe.line p.stripe.unit ≡ true) (placements (log_of w 0)) among.0 p among.1 (all_online i w (simple_of i w plain)) in
     let on : p.stripe.unit ≡ unit = eqb-true p.stripe.unit unit (filtered_is (λ (q : Placed). q.stripe.unit == unit) (placements (log_of w 0)) k p there) in
     let within : p.stripe.unit < length (known_image i (log_of w)).units = live_within (known_image i (log_of w)) p.stripe.line p.stripe.unit live in
     let count : length (known_image i (log_of w)).units ≡ length i.units = length_known i (log_of w) in

@@ -1,16 +1,18 @@
 -- What a step of a unit leaves as it was.
-use Rattle.std.proofs.Common.{◌≡◌, ◌⊎◌, inl, inr, ℕ, ◌<◌, ◌≤◌, ◌==◌, zero, suc, Some, None, Option, List, ◌∷◌, length, refl, sym, ap, ◌∙◌, arith, le_refl}
-use Rattle.std.specs.Prelude.{slice_index}
-use Rattle.std.proofs.lemmas.Bool.{cases_order}
+use Rattle.std.proofs.Common.{◌≡◌, ℕ, ◌==◌, zero, suc, List, ◌∷◌, refl, ap, ◌∙◌}
 use Rattle.pblk_model.specs.Image.{Image}
 use Rattle.pblk_model.specs.UnitLog.{UnitEvent}
 use Rattle.pblk_world.specs.Events.{Maker, Logged, Step}
-use Rattle.pblk_world.specs.World.{World, Logs, log_of, cut_logs, media}
-use Rattle.pblk_world.specs.EngineLog.{Begun, begun, Opening}
-use Rattle.pblk_world.specs.Lines.{found_by, found_image, known_image}
+use Rattle.pblk_world.specs.World.{World, Logs, log_of, known}
+use Rattle.pblk_world.specs.EngineLog.{Opening}
+use Rattle.pblk_world.specs.Lines.{found_image, known_image}
 use Rattle.pblk_world.specs.Starts.{older_rows}
 use Rattle.pblk_world.specs.Space.{open_addresses, room}
 use Rattle.pblk_world.specs.Victims.{engine_prefix}
+use Rattle.world_laws.specs.SameTold.{AreSameTold}
+use Rattle.world_laws.proofs.Made.{known_within}
+use Rattle.world_laws.proofs.ToldImages.{image_same, told_then}
+use Rattle.world_laws.proofs.ToldSince.{same_told}
 use Rattle.core_laws.specs.OpenedLines.{live_now, open_line, open_lines}
 use Rattle.core_laws.specs.PlacerOf.{placing_of}
 use Rattle.core_laws.specs.PlainWorlds.{IsPlainWorld}
@@ -19,10 +21,8 @@ use Rattle.core_laws.specs.SlotOf.{slot_of}
 use Rattle.core_laws.specs.WindowOf.{window_from}
 use Rattle.line_laws.proofs.PlainLogs.{none_freed}
 use Rattle.placed_laws.specs.LeftOpenings.{left_openings}
-use Rattle.placing_laws.proofs.Beginnings.{BeginsWell, begins_well}
-use Rattle.placing_laws.proofs.KnownImages.{known_longer}
 use Rattle.step_laws.specs.Whole.{unit_step}
-use Rattle.step_laws.proofs.OtherUnits.{with_units, AreAlike, prefix_past, room_beside, rows_beside, live_beside, line_beside, left_beside, lines_beside, older_rows_beside, slot_beside, placing_beside}
+use Rattle.step_laws.proofs.OtherUnits.{with_units, AreAlike, room_beside, rows_beside, live_beside, line_beside, left_beside, lines_beside, older_rows_beside, slot_beside, placing_beside}
 use Rattle.step_laws.proofs.UnitSteps.{engine_log}
 use Rattle.lemmas.proofs.Numbers.{fun_same}
 use Rattle.pblk_world.proofs.EventsLemmas.{still_first}
@@ -47,47 +47,28 @@ module _ (i : Image) (w : World) (unit : ℕ) (e : UnitEvent) (maker : Maker) wh
       go zero = engine_log i.shape unit e maker w
       go (suc u) = refl
 
-  longer : (n : ℕ) → IsPlainWorld i w → n ≤ length (log_of w 0) → known_image i (engine_prefix n swapped) ≡ known_image i (engine_prefix n (log_of w))
-  longer n plain within = ap (λ (ls : Logs). known_image i (engine_prefix n ls)) (sym is_swapped) ∙ known_longer i step w n plain within
+  -- the engine was told the same
+  told : IsPlainWorld i w → AreSameTold i (log_of w) swapped
+  told plain = same_told i w swapped plain.legal (record {
+    own = refl;
+    named = λ u l there. still_first (log_of w (suc u)) step.logged (step.author == suc u) (known l (suc u)) (known_within i w 0 (suc u) l plain.legal there);
+  })
 
   whole : IsPlainWorld i w → known_image i swapped ≡ known_image i (log_of w)
-  whole plain =
-      ap (known_image i) (sym (prefix_past swapped (length (log_of w 0)) (le_refl (length (log_of w 0)))))
-      ∙ longer (length (log_of w 0)) plain (le_refl (length (log_of w 0)))
-      ∙ ap (known_image i) (prefix_past (log_of w) (length (log_of w 0)) (le_refl (length (log_of w 0))))
-
-  images : IsPlainWorld i w → (n : ℕ) → known_image i (engine_prefix n swapped) ≡ known_image i (engine_prefix n (log_of w))
-  images plain n = go (cases_order n (length (log_of w 0)))
-    where
-      past : length (log_of w 0) ≤ n → known_image i (engine_prefix n swapped) ≡ known_image i (engine_prefix n (log_of w))
-      past far = ap (known_image i) (prefix_past swapped n far) ∙ whole plain ∙ ap (known_image i) (sym (prefix_past (log_of w) n far))
-
-      go : (n ≡ length (log_of w 0)) ⊎ ((n < length (log_of w 0)) ⊎ (length (log_of w 0) < n)) → known_image i (engine_prefix n swapped) ≡ known_image i (engine_prefix n (log_of w))
-      go (inl same) = past (omega arith)
-      go (inr (inl below)) = longer n plain (omega arith)
-      go (inr (inr above)) = past (omega arith)
-
-  found : IsPlainWorld i w → found_image i swapped ≡ found_image i (log_of w)
-  found plain = go (begun (log_of w 0)) refl
-    where
-      go : (o : Option Begun) → begun (log_of w 0) ≡ o → found_by i swapped o ≡ found_by i (log_of w) o
-      go None f = refl
-      go (Some b) f = ap (media i) (fun_same (cut_logs b.knows swapped) (cut_logs b.knows (log_of w)) cut)
-        where
-          cut : (author : ℕ) → cut_logs b.knows swapped author ≡ cut_logs b.knows (log_of w) author
-          cut zero = refl
-          cut (suc u) =
-              let well : BeginsWell i w u b = begins_well i w u plain b f in
-              still_first (log_of w (suc u)) step.logged (step.author == suc u) (slice_index b.knows (suc u)) well.within
+  whole plain = image_same i (log_of w) swapped (told plain)
 
   alike : IsPlainWorld i w → AreAlike i us (log_of w)
-  alike plain = record { found = found plain; image = whole plain; images = images plain }
+  alike plain = record {
+    found = (told plain).found;
+    image = whole plain;
+    images = λ n. image_same i (engine_prefix n (log_of w)) (engine_prefix n swapped) (told_then i (log_of w) swapped n (told plain));
+  }
 
   pub known_stays : IsPlainWorld i w → known_image i after_ ≡ known_image i (log_of w)
   known_stays plain = ap (known_image i) is_swapped ∙ whole plain
 
   pub found_stays : IsPlainWorld i w → found_image i after_ ≡ found_image i (log_of w)
-  found_stays plain = ap (found_image i) is_swapped ∙ found plain
+  found_stays plain = ap (found_image i) is_swapped ∙ (told plain).found
 
   pub room_stays : IsPlainWorld i w → room i after_ ≡ room i (log_of w)
   room_stays plain = ap (room i) is_swapped ∙ room_beside i us (log_of w) (alike plain)

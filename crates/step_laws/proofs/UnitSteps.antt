@@ -22,16 +22,16 @@ use Rattle.pblk_world.specs.Legal.{IsAllowed, IsLegal}
 use Rattle.pblk_laws.specs.LineBlocks.{chunk_in}
 use Rattle.core_laws.specs.PlainWorlds.{is_plain_event, is_plain_outcome, ArePlain, IsPlainWorld}
 use Rattle.core_laws.specs.PlacerOf.{unanswered_on}
-use Rattle.media_laws.proofs.Growing.{get_after}
-use Rattle.placing_laws.proofs.PlainEvents.{has_begun_plain}
+use Rattle.core_laws.proofs.SimpleMounts.{simple_of}
+use Rattle.placing_laws.proofs.Begun.{begun_once}
 use Rattle.placed_laws.specs.StripePrograms.{HasHappened}
 use Rattle.placed_laws.proofs.Happened.{happened}
 use Rattle.step_laws.specs.Whole.{engine_step, unit_step, is_made_by, commands_of, program_of}
 use Rattle.step_laws.proofs.Knowing.{known_whole, next_step, still_plain}
-use Rattle.media_laws.proofs.LineWritten.{program_is_taken}
+use Rattle.step_laws.proofs.NextProgram.{program_is_taken}
 use Rattle.lemmas.proofs.Lists.{all_contains}
 use Rattle.lemmas.proofs.Maps.{all_filter_map, more}
-use Rattle.lemmas.proofs.Parts.{all_by_get, get_whole_within}
+use Rattle.lemmas.proofs.Parts.{all_by_get, get_last, get_whole_within}
 use Rattle.lemmas.proofs.Tests.{other_number, same_number}
 use Rattle.pblk_world.proofs.WorldLemmas.{log_elsewhere, log_here, media_at}
 
@@ -135,7 +135,7 @@ named_within i w unit legal =
 -- ---- a program
 
 pub has_begun : (i : Image) (w : World) (unit k : ℕ) (p : Placed) → IsPlainWorld i w → slice_get (placed_on (log_of w 0) unit) k ≡ Some p → (b : Begun) × (begun (log_of w 0) ≡ Some b)
-has_begun i w unit k p plain there = has_begun_plain i w plain (some (log_of w 0) there)
+has_begun i w unit k p plain there = begun_once i w plain.legal (some (log_of w 0) there)
   where
     some : (log : List Logged) → slice_get (placed_on log unit) k ≡ Some p → 0 < length log
     some [] e = absurd (none-some p e)
@@ -155,7 +155,8 @@ has_chunks (Some chunks) chunk c e = (chunks, refl, e)
 pub may_program : (i : Image) (w : World) (unit : ℕ) (p : Placed) → IsPlainWorld i w → unit < units i.shape → slice_get (placed_on (log_of w 0) unit) (ended_stripes (log_of w (suc unit))) ≡ Some p
     → AllByRecursion (IsBlock i.shape) p.stripe.blocks → MayDo i (log_of w) unit (program_of p.stripe)
 may_program i w unit p plain range there blocks =
-    let taken : (c : Chunk) × (chunk_in (media i (log_of w)) p.stripe.chunk unit ≡ Some c) × (refusal i.shape c (Write p.stripe.at p.stripe.blocks) ≡ None) = program_is_taken i w unit p plain there in
+    let taken : (c : Chunk) × (chunk_in (media i (log_of w)) p.stripe.chunk unit ≡ Some c) × (refusal i.shape c (Write p.stripe.at p.stripe.blocks) ≡ None) =
+    program_is_taken i w unit p (simple_of i w plain).mount range there (none_stopped (log_of w (suc unit)) (plain.units unit)) in
     let chunks = has_chunks (slice_get (media i (log_of w)).units unit) p.stripe.chunk taken.0 taken.1 in
     let begins = has_begun i w unit (ended_stripes (log_of w (suc unit))) p plain there in
     let stripe : IsStripe (log_of w) unit p.stripe.chunk p.stripe.at p.stripe.blocks = record { placed = p; earliest = there; its_chunk = refl; its_place = refl; its_blocks = refl } in record {
@@ -179,7 +180,7 @@ may_land i w unit p maker plain waits level =
     let here : log_of (s ∷ w) (suc unit) ≡ log_of w (suc unit) ++ s.logged ∷ [] = unit_log i.shape unit (program_of p.stripe) maker w in
     let own : log_of (s ∷ w) 0 ≡ log_of w 0 = engine_log i.shape unit (program_of p.stripe) maker w in
     let last : slice_get (log_of (s ∷ w) (suc unit)) (length (log_of w (suc unit))) ≡ Some s.logged =
-    ap (λ (log : List Logged). slice_get log (length (log_of w (suc unit)))) here ∙ get_after (log_of w (suc unit)) (s.logged ∷ []) in
+    ap (λ (log : List Logged). slice_get log (length (log_of w (suc unit)))) here ∙ get_last (log_of w (suc unit)) s.logged in
     let before : take (length (log_of w (suc unit))) (log_of (s ∷ w) (suc unit)) ≡ log_of w (suc unit) =
     ap (λ (log : List Logged). take (length (log_of w (suc unit))) log) here ∙ take-append_seam (log_of w (suc unit)) (s.logged ∷ []) in
     let begins = has_begun i w unit (length (answers (log_of w 0) unit)) p plain waits in

@@ -1,3 +1,4 @@
+use Rattle.core_laws.proofs.SimpleMounts.{simple_of}
 use Rattle.std.proofs.Common.{◌≡◌, ◌+◌, ◌<◌, drop, length, sym, subst, ap, ◌∙◌, refl, arith}
 use Rattle.write_window.specs.Window as view
 use Rattle.pblk_model.specs.Frames.{count_out}
@@ -22,7 +23,7 @@ loop-frame-preserved c =
     let pad : pad_of c.pop_free.new.self ≡ pad_of c.loop-frame.core = c.pop_free.ensures.pad in
     let is : IsFirstFrame c.loop-frame.pool.region c.loop-frame.core.window.entries c.in-Some.frame = first_frame c.loop-frame.core.window c.in-Some.frame c.loop-frame.pool.region c.loop-frame.invariant.own c.in-Some.ensures.frame in
     record {
-      stands = λ i w plain st. c.pop_free.ensures.stands i w plain (c.loop-frame.invariant.stands i w plain st);
+      stands = λ i w plain st. c.pop_free.ensures.stands i w (simple_of i w plain).mount (c.loop-frame.invariant.stands i w plain st);
       own = subst (λ held. view.AreOf c.give.new.self.region held) (sym entries) (subst (λ r. view.AreOf r (drop 1 c.loop-frame.core.window.entries)) (sym c.give.ensures.same_region) is.rest);
       out =
           let less : length (drop 1 c.loop-frame.core.window.entries) + 1 ≡ length c.loop-frame.core.window.entries = is.one_less in
@@ -38,7 +39,7 @@ loop-frame-preserved c =
 pub returns-clause-drained : goal.returns-clause-drained
 returns-clause-drained c = λ i w plain st.
     let same : c.pop_free.new.self ≡ c.loop-frame.core = c.in_default.ensures.unchanged in
-    let front = front_is_freed i w c.loop-frame.core plain (c.loop-frame.invariant.stands i w plain st) (c.in_default.ensures.none.0 refl) in
+    let front = front_is_freed i w c.loop-frame.core (simple_of i w plain) (c.loop-frame.invariant.stands i w plain st) (c.in_default.ensures.none.0 refl) in
     ap (λ (x : Core). x.window.freed) same ∙ front
 
 pub returns-clause-unread : goal.returns-clause-unread

@@ -4,6 +4,6 @@ use Rattle.pblk_core.proofs.filling.settle_holds.Given as goal
 
 abbrev pub invariant-loop-index : goal.invariant-loop-index
 invariant-loop-index l = record {
-  rows : l.holds.rows.items ≡ placed_rows l.of.line l.initial.holds.rows.items (take l.index l.of.positions);
+  rows : l.holds.rows.items ≡ placed_rows l.line l.initial.holds.rows.items (take l.index l.positions);
   count : length l.holds.rows.items ≡ length l.initial.holds.rows.items;
 }

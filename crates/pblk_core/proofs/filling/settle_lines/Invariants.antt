@@ -6,7 +6,7 @@ use Rattle.pblk_core.proofs.filling.settle_lines.Given as goal
 
 abbrev pub invariant-loop-index : goal.invariant-loop-index
 invariant-loop-index l = record {
-  lines : l.lines ≡ placed_lines l.holds.rows.items l.of.line l.initial.lines (take l.index l.of.positions);
-  inside : l.of.line < length l.lines.rows;
-  room : (row : Row) → IsRow l.lines l.of.line row → row.live + (l.of.count - l.index) < 2 ^ 32;
+  lines : l.lines ≡ placed_lines l.holds.rows.items l.line l.initial.lines (take l.index l.positions);
+  inside : l.line < length l.lines.rows;
+  room : (row : Row) → IsRow l.lines l.line row → row.live + (length l.positions - l.index) < 2 ^ 32;
 }

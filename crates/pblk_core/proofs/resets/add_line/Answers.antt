@@ -2,7 +2,7 @@ use Rattle.std.proofs.Common.{◌≡◌, ◌+◌, ◌*◌, ◌<◌, ◌++◌, le
 use Rattle.std.proofs.lemmas.Option.{slice_get-get_or}
 use Rattle.pblk_model.specs.Shape.{units}
 use Rattle.pblk_core.specs.Resets.{in_line, used_below, is_used_at}
-use Rattle.pblk_core.proofs.OpeningBits.{place_inside}
+use Rattle.pblk_layout.proofs.UnitSets.{place_inside}
 use Rattle.pblk_core.proofs.ResetLists.{used_more, none_used}
 use Rattle.pblk_core.proofs.resets.add_line.Goals.{then-is_used+in_ok-push, else-is_used}
 use Rattle.pblk_core.proofs.resets.add_line.Goals as goal

@@ -1,3 +1,4 @@
+use Rattle.core_laws.proofs.SimpleMounts.{simple_of}
 use Rattle.std.proofs.Common.{◌≡◌, ◌++◌, take, drop, length, map, sym, subst}
 use Rattle.scan_recovery.specs.Units.{image_of}
 use Rattle.scan_recovery.specs.Readying.{AreHandedBack}
@@ -50,7 +51,7 @@ invariant_of-result g c =
     let begun = c.in-Ok-make_parts.ensures in
     let f = c.in-Ok.ready.found in
     let grants = c.grant-granted.ensures (image_of s old) (first_world s old new f c.requires.accepted c.requires.fit c.requires.unarmed ready.found)
-    (first_legal s old new f c.requires.accepted c.requires.fit c.requires.unarmed ready.found)
+    (simple_of (image_of s old) (first_world s old new f c.requires.accepted c.requires.fit c.requires.unarmed ready.found) (first_legal s old new f c.requires.accepted c.requires.fit c.requires.unarmed ready.found)).mount
     (core_stands s old new f c.requires.accepted c.requires.fit c.requires.unarmed ready.found parts.core begun.core) in
     subst (λ xs. IsMount (record { image = image_of s (drive_before c.in-Ok.ready.drives); found = image_of s (drive_found c.in-Ok.ready.drives); deeds = c.in-Ok.ready.deeds; units = map g.U.Unit.model xs; wear = map g.U.Unit.wear xs; granted = c.grant-granted.result; pad = pad_of parts.core }) parts.core parts.pool parts.stripe) (sym back)
     (mount_opens s old new f c.requires.accepted c.requires.fit c.requires.unarmed ready.found c.in-Ok.ready.drives c.in-Ok.ready.deeds (map g.U.Unit.wear made) c.grant-granted.result parts ready.drives ready.deeds begun grants)
@@ -81,7 +82,7 @@ returns-in-Ok-make_parts-clause-opened g c =
     let begun = c.in-Ok-make_parts.ensures in
     let f = c.in-Ok.ready.found in
     let grants = c.grant-granted.ensures (image_of s old) (first_world s old new f c.requires.accepted c.requires.fit c.requires.unarmed ready.found)
-    (first_legal s old new f c.requires.accepted c.requires.fit c.requires.unarmed ready.found)
+    (simple_of (image_of s old) (first_world s old new f c.requires.accepted c.requires.fit c.requires.unarmed ready.found) (first_legal s old new f c.requires.accepted c.requires.fit c.requires.unarmed ready.found)).mount
     (core_stands s old new f c.requires.accepted c.requires.fit c.requires.unarmed ready.found parts.core begun.core) in
     subst (λ xs. IsOpened s old (record { image = image_of s (drive_before c.in-Ok.ready.drives); found = image_of s (drive_found c.in-Ok.ready.drives); deeds = c.in-Ok.ready.deeds; units = map g.U.Unit.model xs; wear = map g.U.Unit.wear xs; granted = c.grant-granted.result; pad = pad_of c.in-Ok-make_parts.parts.core })) (sym back)
     (opened_view s old new c.in-Ok.ready.found c.in-Ok.ready.drives c.in-Ok.ready.deeds (map g.U.Unit.wear made) c.grant-granted.result (pad_of c.in-Ok-make_parts.parts.core) ready.found ready.drives ready.deeds grants begun.pad)

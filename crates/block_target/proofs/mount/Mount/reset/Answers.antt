@@ -1,3 +1,4 @@
+use Rattle.core_laws.proofs.SimpleMounts.{simple_of}
 use Rattle.std.proofs.Common.{◌≡◌, ◌≤◌, ◌<◌, ◌+◌, ◌++◌, [], ◌∷◌, false, true, max, length, Some, List, map, refl, sym, subst, ap, ◌∙◌, arith}
 use Rattle.std.specs.Prelude.{slice_get, slice_set}
 use Rattle.std.proofs.lemmas.List.{length-map}
@@ -71,11 +72,11 @@ state-state-requires g c =
     has_line v core p f m c.args.line c.args.unit is (g.U.Unit.model c.index_mut-of.result.now) (g.U.Unit.model c.reset.new.self) here c.reset.ensures.event.0 c.reset.ensures.event.2
 
 pub reset_done-requires-clause-standing : goal.reset_done-requires-clause-standing
-reset_done-requires-clause-standing g c = record { image = image_of c.self.inside.shape (drive_before c.self.inside.drives); world = world_of c.self.inside.shape c.self.inside.deeds; legal = c.self.invariant.sound.legal; stands = c.self.invariant.stands }
+reset_done-requires-clause-standing g c = record { image = image_of c.self.inside.shape (drive_before c.self.inside.drives); world = world_of c.self.inside.shape c.self.inside.deeds; legal = (simple_of (image_of c.self.inside.shape (drive_before c.self.inside.drives)) (world_of c.self.inside.shape c.self.inside.deeds) c.self.invariant.sound.legal).mount; stands = c.self.invariant.stands }
 
 pub reset_done-requires-clause-named : goal.reset_done-requires-clause-named
 reset_done-requires-clause-named g c =
-    work_is (image_of c.self.inside.shape (drive_before c.self.inside.drives)) (world_of c.self.inside.shape c.self.inside.deeds) c.self.inside.core c.self.invariant.sound.legal c.self.invariant.stands
+    work_is (image_of c.self.inside.shape (drive_before c.self.inside.drives)) (world_of c.self.inside.shape c.self.inside.deeds) c.self.inside.core (simple_of (image_of c.self.inside.shape (drive_before c.self.inside.drives)) (world_of c.self.inside.shape c.self.inside.deeds) c.self.invariant.sound.legal) c.self.invariant.stands
     ∙ ap work_in c.self.view_is ∙ c.requires.named
 
 pub free_frames-requires : goal.free_frames-requires
@@ -97,7 +98,7 @@ grant-requires-clause-standing g c =
     let legal = end_legal v core p f m c.args.line c.args.unit is in
     let stood : Stands v.image (log_of (end_world v core p f m c.args.line c.args.unit is)) c.reset_done.new.self = end_stands v core p f m c.args.line c.args.unit is c.reset_done.new.self c.state-state.result.0 state c.reset_done.ensures.stands in
     let stands : Stands v.image (log_of (end_world v core p f m c.args.line c.args.unit is)) c.free_frames.new.core = c.free_frames.ensures.stands v.image (end_world v core p f m c.args.line c.args.unit is) legal stood in
-    record { image = v.image; world = end_world v core p f m c.args.line c.args.unit is; legal = legal; stands = stands }
+    record { image = v.image; world = end_world v core p f m c.args.line c.args.unit is; legal = (simple_of v.image (end_world v core p f m c.args.line c.args.unit is) legal).mount; stands = stands }
 
 pub invariant_of-self : goal.invariant_of-self
 invariant_of-self g c =
@@ -126,7 +127,7 @@ invariant_of-self g c =
     let drained : c.free_frames.new.core.window.freed ≡ freed v.image.shape (log_of (end_world v core p f m c.args.line c.args.unit is) 0) =
     c.free_frames.ensures.drained v.image (end_world v core p f m c.args.line c.args.unit is) legal stood in
     let granted : c.max-self-inside.result ≡ max v.granted (room v.image (log_of (end_world v core p f m c.args.line c.args.unit is))) =
-    c.max-self-inside.ensures ∙ ap (max v.granted) (c.grant.ensures v.image (end_world v core p f m c.args.line c.args.unit is) legal stands) in
+    c.max-self-inside.ensures ∙ ap (max v.granted) (c.grant.ensures v.image (end_world v core p f m c.args.line c.args.unit is) (simple_of v.image (end_world v core p f m c.args.line c.args.unit is) legal).mount stands) in
     let was_out : count_out c.self.inside.pool.left ≡ length c.self.inside.core.window.entries = m.out in
     let kept_out : length c.reset_done.new.self.window.entries ≡ length c.self.inside.core.window.entries = ap (λ (w : view.WindowView). length w.entries) window in
     let moved_out : count_out c.self.inside.pool.left + length c.free_frames.new.core.window.entries ≡ count_out c.free_frames.new.pool.left + length c.reset_done.new.self.window.entries = c.free_frames.ensures.out in

@@ -1,3 +1,4 @@
+use Rattle.core_laws.proofs.SimpleMounts.{simple_of}
 use Rattle.std.proofs.Common.{◌≡◌, ◌<◌, ◌^◌, None, refl, sym, subst, ap, ◌∙◌, length, arith}
 use Rattle.std.specs.Prelude.{map}
 use Rattle.pblk_model.specs.Frames.{count_left}
@@ -6,6 +7,7 @@ use Rattle.sector_pool.specs.declared.entry.Entry.{Entry as FramedEntry}
 use Rattle.pblk_core.specs.Named.{pad_of}
 use Rattle.block_target.specs.Mount.{MountView, taken_in, world_in, with_entry, mount_view}
 use Rattle.pblk_core.proofs.StandsFacts.{window_taken_is}
+use Rattle.block_target.proofs.MountLemmas.{stands_in_mount}
 use Rattle.block_target.proofs.TakenMount.{room_left, frame_left, sector_is_block, mount_with, view_taken, low_position}
 use Rattle.block_target.proofs.mount.Mount.take.Goals as goal
 
@@ -35,7 +37,7 @@ invariant_of-self g c =
     let low : c.front.result.position < 2 ^ 62 = low_position v c.self.inside.core c.self.inside.pool c.self.inside.stripe c.front.result.position c.self.invariant room c.front.ensures.position in
     mount_with v c.self.inside.core c.take-2.new.self c.self.inside.pool c.take.new.self c.self.inside.stripe e c.add.new.self c.self.invariant (record {
       stands = c.take-2.ensures.stands;
-      legal = c.take-2.ensures.legal v.image (world_in v) c.self.invariant.sound.legal c.self.invariant.stands
+      legal = c.take-2.ensures.legal v.image (world_in v) (simple_of v.image (world_in v) c.self.invariant.sound.legal).mount c.self.invariant.stands
           (sector_is_block v c.self.inside.core c.self.inside.pool c.self.inside.stripe e c.self.invariant inside low c.args.sector.now c.fill.ensures.bytes size (λ k. omega (arith, c.type_inv.sector k)));
       user = refl;
       pushed = c.take-2.ensures.pushed;
@@ -53,3 +55,6 @@ returns-clause-taken g c =
     view_taken v c.front.result.position c.args.lba (pad_of c.take-2.new.self) c.fill.new.self.bytes c.args.sector.now c.add.new.self c.add.ensures
     (c.front.ensures.position ∙ window_taken_is v.image (world_in v) c.self.inside.core c.self.invariant.stands) c.fill.ensures.bytes c.take-2.ensures.pad
     ∙ ap (λ (v : MountView). with_entry v c.args.lba c.args.sector.now) c.self.view_is
+
+pub take-requires-2-clause-standing : goal.take-requires-2-clause-standing
+take-requires-2-clause-standing g c = stands_in_mount _ c.self.inside.core c.self.inside.pool c.self.inside.stripe c.self.invariant

@@ -1,6 +1,7 @@
 use Rattle.std.proofs.Common.{◌<◌, Some, length, refl, sym, subst, ap, ap₂, ◌∙◌}
 use Rattle.std.specs.Prelude.{slice_get}
 use Rattle.std.specs.FinMap as fin
+use Rattle.pblk_model.specs.declared.shape.Shape.{Shape}
 use Rattle.stripe_placer.specs.Placing.{nothing_placed}
 use Rattle.found_laws.specs.Beginnings.{seq_after}
 use Rattle.begin_laws.specs.OnlineUnits.{all_online}
@@ -35,7 +36,7 @@ returns c = record {
     live = c.in_ok-lines.ensures.live;
     taker = c.in_ok-lines.ensures.taker;
   }));
-  live = c.in_ok-live.ensures ∙ ap (λ chunks. all_online c.args.shape.now chunks c.args.shape.now.chunks) c.as_slice-states.ensures;
+  live = c.in_ok-live.ensures ∙ ap (λ (s : Shape). all_online s c.args.found.now s.chunks) c.new-layout.ensures;
   resets = c.in_ok-resets.ensures ∙ ap₂ (λ chunks strays. resets_found c.args.shape.now chunks strays) c.as_slice-states.ensures c.as_slice-2.ensures;
   size = c.in_ok-new.ensures.size;
   freed = c.in_ok-new.ensures.first;

@@ -1,13 +1,16 @@
-use Rattle.std.proofs.Common.{◌≡◌, ◌<◌, ◌^◌, true, false, length, refl, sym, subst, ap, ◌∙◌, rules}
+use Rattle.std.proofs.Common.{◌≡◌, ◌<◌, ◌≤◌, ◌^◌, true, false, length, refl, sym, subst, ap, ◌∙◌, rules}
 use Rattle.std.specs.Prelude.{slice_get}
+use Rattle.std.specs.List.{slice_index_or}
 use Rattle.std.proofs.lemmas.Option.{get_or_from_slice_get, slice_get_within}
+use Rattle.pblk_model.specs.declared.shape.Shape.{Shape}
 use Rattle.pblk_model.specs.Shape.{units}
 use Rattle.pblk_model.specs.LineOrder.{data_len}
 use Rattle.pblk_layout.specs.Live.{units_in}
 use Rattle.line_table.specs.declared.row.LineState.TheVariants.{Freed}
 use Rattle.line_table.specs.Rows.{Changes, IsChange, turned}
 use Rattle.pblk_core.specs.Resets.{emptied}
-use Rattle.pblk_core.proofs.ResetConditions.{reset_next, kept_there, emptied_change, table_shape}
+use Rattle.pblk_core.proofs.SimpleLogs.{simple_in}
+use Rattle.pblk_core.proofs.ResetConditions.{reset_next, kept_few, kept_there, emptied_change, table_shape}
 use Rattle.pblk_core.proofs.StandsReset.{reset_stands}
 use Rattle.pblk_core.proofs.target_core.Core.reset_done.Goals as goal
 
@@ -26,11 +29,16 @@ index-requires c =
     let low : c.args.line < length c.keep_unit.new.live.items = slice_get_within c.keep_unit.new.live.items c.args.line kept.0 (ap (λ us. slice_get us c.args.line) c.keep_unit.ensures ∙ kept.1) in
     search rules
 
-pub width-width-requires : goal.width-width-requires
-width-width-requires c =
-    let kept = kept_there c.args.self.now c.args.line c.args.unit c.args.state c.requires.standing c.requires.named in
-    subst (λ n. n < 2 ^ units c.args.self.now.layout)
-    (sym (c.index.ensures ∙ get_or_from_slice_get c.keep_unit.new.live.items c.args.line kept.0 _ (ap (λ us. slice_get us c.args.line) c.keep_unit.ensures ∙ kept.1))) kept.2
+pub emptied-requires : goal.emptied-requires
+emptied-requires c =
+    kept_few c.args.self.now c.args.line c.args.unit c.index.result.now c.index.result.now c.width-width.result c.args.state c.requires.standing c.requires.named
+    (c.index.ensures ∙ ap (λ us. slice_index_or us c.args.line c.index.result.now) c.keep_unit.ensures) c.width-width.ensures.few
+
+pub turn-requires-clause-width : goal.turn-requires-clause-width
+turn-requires-clause-width c =
+    let few = kept_few c.args.self.now c.args.line c.args.unit c.index.result.now c.index.result.now c.width-width.result c.args.state c.requires.standing c.requires.named
+    (c.index.ensures ∙ ap (λ us. slice_index_or us c.args.line c.index.result.now) c.keep_unit.ensures) c.width-width.ensures.few in
+    subst (λ (s : Shape). c.width-width.result ≤ units s) (table_shape c.args.self.now c.requires.standing) few
 
 pub turn-requires-clause-inside : goal.turn-requires-clause-inside
 turn-requires-clause-inside c = (reset_next c.args.self.now c.args.line c.args.unit c.requires.standing c.requires.named).line_row
@@ -43,8 +51,8 @@ turn-requires-clause-change c = λ row there.
     (emptied_change c.args.self.now.layout c.width-width.result)))
 
 pub returns-then-not-is_at-clause-stands : goal.returns-then-not-is_at-clause-stands
-returns-then-not-is_at-clause-stands c = λ i w event knows plain st to.
-    reset_stands i w c.args.line c.args.unit event knows c.args.state c.args.self.now _ plain st c.requires.named to (record {
+returns-then-not-is_at-clause-stands c = λ i w event knows mount st to. let simple = simple_in i w mount st in
+    reset_stands i w c.args.line c.args.unit event knows c.args.state c.args.self.now _ simple st c.requires.named to (record {
       layout = refl;
       map = refl;
       window = refl;
@@ -68,8 +76,8 @@ returns-then-not-is_at-clause-stands c = λ i w event knows plain st to.
     })
 
 pub returns-else-not-is_at-clause-stands : goal.returns-else-not-is_at-clause-stands
-returns-else-not-is_at-clause-stands c = λ i w event knows plain st to.
-    reset_stands i w c.args.line c.args.unit event knows c.args.state c.args.self.now _ plain st c.requires.named to (record {
+returns-else-not-is_at-clause-stands c = λ i w event knows mount st to. let simple = simple_in i w mount st in
+    reset_stands i w c.args.line c.args.unit event knows c.args.state c.args.self.now _ simple st c.requires.named to (record {
       layout = refl;
       map = refl;
       window = refl;

@@ -1,5 +1,6 @@
 use Rattle.std.proofs.Common.{◌≡◌, refl, sym, subst, ap, ◌∙◌, ◌%◌, ◌<◌, ◌≤◌, ◌^◌, None, length, arith}
 use Rattle.pblk_world.specs.Fronts.{taken}
+use Rattle.pblk_core.proofs.SimpleLogs.{its_simple, simple_in}
 use Rattle.pblk_core.proofs.HeldPositions.{held_room, held_another, held_rises}
 use Rattle.pblk_core.proofs.StandsFacts.{users_few, window_taken_is, ring_some}
 use Rattle.pblk_core.proofs.HoldRows.{taker_length}
@@ -11,7 +12,7 @@ use Rattle.pblk_core.proofs.target_core.Core.take.Goals as goal
 
 pub returns : goal.returns
 returns c = record {
-  stands = λ i w knows plain st. taken_stands i w knows c.args.self.now _ c.args.entry plain st (record {
+  stands = λ i w knows mount st. let simple = simple_in i w mount st in taken_stands i w knows c.args.self.now _ c.args.entry simple st (record {
     slot = c.get.result;
     found = c.get.ensures;
     layout = refl;
@@ -33,7 +34,7 @@ returns c = record {
   }) c.requires.next c.requires.room c.requires.user.0 c.requires.user.1 (subst (λ s. c.args.entry.lba < s.capacity) st.layout c.requires.lba);
   pushed = c.push.ensures.pushed;
   pad = ap (λ p. p.entries.pad) c.wait.ensures;
-  legal = λ i w plain st block. may_take i w c.args.self.now c.args.entry st c.requires.next c.requires.position c.requires.user.1 (subst (λ s. c.args.entry.lba < s.capacity) st.layout c.requires.lba) block;
+  legal = λ i w mount st block. let simple = simple_in i w mount st in may_take i w c.args.self.now c.args.entry st c.requires.next c.requires.position c.requires.user.1 (subst (λ s. c.args.entry.lba < s.capacity) st.layout c.requires.lba) block;
 }
 
 pub get-requires : goal.get-requires
@@ -49,12 +50,12 @@ supersede-requires-clause-room c =
 pub supersede-requires-clause-inside : goal.supersede-requires-clause-inside
 supersede-requires-clause-inside c = λ line is.
     let st = c.requires.standing in
-    live_inside st.image st.world c.args.self.now c.args.entry.lba c.get.result line st.legal st.stands c.get.ensures (subst (λ s. c.args.entry.lba < s.capacity) st.stands.layout c.requires.lba) is
+    live_inside st.image st.world c.args.self.now c.args.entry.lba c.get.result line (its_simple st) st.stands c.get.ensures (subst (λ s. c.args.entry.lba < s.capacity) st.stands.layout c.requires.lba) is
 
 pub supersede-requires-clause-live : goal.supersede-requires-clause-live
 supersede-requires-clause-live c = λ line row is there.
     let st = c.requires.standing in
-    live_there st.image st.world c.args.self.now c.args.entry.lba c.get.result line row st.legal st.stands c.get.ensures (subst (λ s. c.args.entry.lba < s.capacity) st.stands.layout c.requires.lba) is there
+    live_there st.image st.world c.args.self.now c.args.entry.lba c.get.result line row (its_simple st) st.stands c.get.ensures (subst (λ s. c.args.entry.lba < s.capacity) st.stands.layout c.requires.lba) is there
 
 pub set-requires : goal.set-requires
 set-requires c =
@@ -70,17 +71,17 @@ set-requires-2 c =
 pub wait-requires-clause-room : goal.wait-requires-clause-room
 wait-requires-clause-room c =
     let st = c.requires.standing in
-    held_room st.image st.world c.args.self.now st.legal st.stands c.requires.room
+    held_room st.image st.world c.args.self.now (its_simple st) st.stands c.requires.room
 
 pub wait-requires-clause-another : goal.wait-requires-clause-another
 wait-requires-clause-another c =
     let st = c.requires.standing in
-    held_another st.image st.world c.args.self.now c.args.entry.position st.legal st.stands c.requires.next
+    held_another st.image st.world c.args.self.now c.args.entry.position (its_simple st) st.stands c.requires.next
 
 pub wait-requires-clause-rises : goal.wait-requires-clause-rises
 wait-requires-clause-rises c = λ new.
     let st = c.requires.standing in
-    held_rises st.image st.world c.args.self.now c.args.entry.position st.legal st.stands c.requires.next
+    held_rises st.image st.world c.args.self.now c.args.entry.position (its_simple st) st.stands c.requires.next
 
 pub overflow_add-self : goal.overflow_add-self
 overflow_add-self c =

@@ -1,0 +1,25 @@
+-- The legal mounts that a core makes so far.
+use Rattle.std.specs.Prelude.{Bool, true, false, List}
+use Rattle.pblk_model.specs.Image.{Image}
+use Rattle.pblk_world.specs.Events.{EngineEvent, Again, Logged}
+use Rattle.pblk_world.specs.World.{World, log_of}
+use Rattle.world_laws.specs.LegalMounts.{HasNone, IsLegalMount, NoneCopied, NoneFreed, NoneLost}
+
+-- the engine heard that a program was stopped, so that it is offered again
+abbrev pub is_stopping : EngineEvent → Bool
+is_stopping (Again unit event) = true
+is_stopping e = false
+
+-- no stripe is offered again
+abbrev pub NoneAgain : List Logged → Type 0
+NoneAgain log = HasNone is_stopping log
+
+-- A legal mount in which the engine freed nothing, took no copy, and heard of no lost and no stopped stripe: a
+-- core's steps append none of these events so far. What units did may be anything: of what isn't told the
+-- engine knows nothing.
+pub record IsSimpleMount (i : Image) (w : World) : Type 0 where
+  pub mount : IsLegalMount i w
+  pub freed : NoneFreed (log_of w 0)
+  pub copied : NoneCopied (log_of w 0)
+  pub lost : NoneLost (log_of w 0)
+  pub again : NoneAgain (log_of w 0)

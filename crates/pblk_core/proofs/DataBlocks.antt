@@ -1,0 +1,57 @@
+-- The blocks of a stripe: those of entries that were taken, and those of a record, each with the record's mark.
+use Rattle.std.proofs.Common.{◌≡◌, ◌⊎◌, inl, inr, ℕ, ◌-◌, ◌≤◌, ◌&&◌, not, zero, suc, Some, List, [], ◌∷◌, ◌++◌, length, take, drop, replicate, refl, ap, ◌∙◌, arith}
+use Rattle.std.specs.Prelude.{slice_get, slice_range, map}
+use Rattle.std.specs.List.{AllByRecursion, filter}
+use Rattle.std.proofs.lemmas.List.{take-append-le, length-drop}
+use Rattle.pblk_model.specs.declared.shape.Shape.{Shape}
+use Rattle.pblk_model.specs.declared.chunk.Mark.{Mark}
+use Rattle.pblk_model.specs.Blocks.{blocks_of}
+use Rattle.pblk_model.specs.Chunk.{Block}
+use Rattle.pblk_model.specs.Marks.{pad_block}
+use Rattle.pblk_world.specs.Events.{Logged}
+use Rattle.pblk_world.specs.EngineLog.{Taken, takes, block_of_taken}
+use Rattle.pblk_world.specs.Fronts.{waits, was_placed, waiting}
+use Rattle.pblk_world.specs.Placing.{data_blocks}
+use Rattle.lemmas.proofs.Lists.{IsAmong, all_append, all_replicated}
+use Rattle.lemmas.proofs.Maps.{all_mapped, from_filter}
+use Rattle.lemmas.proofs.Parts.{all_by_get, get_whole_within}
+use Rattle.prefix_law.proofs.Among.{of_both}
+
+-- ---- parts of longer lists
+
+drop_more : {X : Type 0} (n : ℕ) (xs ys : List X) → n ≤ length xs → drop n (xs ++ ys) ≡ drop n xs ++ ys
+drop_more zero xs ys h = refl
+drop_more (suc n) [] ys h = absurd (omega arith)
+drop_more (suc n) (x ∷ xs) ys h = drop_more n xs ys (omega arith)
+
+pub range_more : {X : Type 0} (xs ys : List X) (a b : ℕ) → a ≤ b → b ≤ length xs → slice_range (xs ++ ys) a b ≡ slice_range xs a b
+range_more xs ys a b h k =
+    ap (take (b - a)) (drop_more a xs ys (omega arith))
+    ∙ take-append-le (b - a) (drop a xs) ys (omega (arith, length-drop a xs))
+
+-- ---- blocks of entries
+
+abbrev pub IsOfTaken : Shape → List Taken → Block → Type 0
+IsOfTaken s ts b = (b ≡ pad_block s) ⊎ ((k : ℕ) × (t : Taken) × (slice_get ts k ≡ Some t) × (b ≡ block_of_taken t))
+
+waiting_taken : (s : Shape) (log : List Logged) (k : ℕ) (t : Taken) → slice_get (waiting s log) k ≡ Some t → IsAmong (takes log) t
+waiting_taken s log k t there = elim (of_both (filter (λ u. waits s log u && was_placed s log u) (takes log)) (filter (λ u. not (was_placed s log u)) (takes log)) t (k, there)) [
+  | inl at ↦ from_filter (λ u. waits s log u && was_placed s log u) (takes log) t at
+  | inr at ↦ from_filter (λ u. not (was_placed s log u)) (takes log) t at
+]
+
+pub data_taken : (s : Shape) (log : List Logged) → AllByRecursion (IsOfTaken s (takes log)) (data_blocks s log)
+data_taken s log =
+    let blocks : List Block = map block_of_taken (take s.ws_opt (waiting s log)) in
+    all_append (IsOfTaken s (takes log)) blocks (replicate (s.ws_opt - length blocks) (pad_block s))
+    (all_mapped (IsOfTaken s (takes log)) block_of_taken (take s.ws_opt (waiting s log))
+    (all_by_get (λ t. IsOfTaken s (takes log) (block_of_taken t)) (take s.ws_opt (waiting s log)) (λ k t there.
+    let at = waiting_taken s log k t (get_whole_within s.ws_opt (waiting s log) k t there).0 in
+    inr (at.0, t, at.1, refl))))
+    (all_replicated (IsOfTaken s (takes log)) (s.ws_opt - length blocks) (pad_block s) (inl refl))
+
+-- ---- blocks of a record
+
+pub cut_marks : (size n : ℕ) (bytes : List ℕ) (m : Mark) → AllByRecursion (λ (b : Block). b.mark ≡ m) (blocks_of size bytes (replicate n m))
+cut_marks size zero bytes m = tt
+cut_marks size (suc n) bytes m = (refl, cut_marks size n (drop size bytes) m)
