@@ -1,5 +1,5 @@
 -- Bytes that are added to a list piece by piece.
-use Rattle.std.proofs.Common.{◌≡◌, ℕ, ◌+◌, ◌≤◌, zero, suc, Some, List, [], ◌∷◌, ◌++◌, length, length-append, take, slice_get, refl, sym, ap, ◌∙◌, arith, append_assoc, append-nil}
+use Rattle.std.proofs.Common.{◌≡◌, ℕ, ◌+◌, ◌≤◌, zero, suc, Some, List, [], ◌∷◌, ◌++◌, length, length-append, map, take, slice_get, refl, sym, ap, ◌∙◌, subst, arith, append_assoc, append-nil}
 use Rattle.std.specs.Prelude.{Vec, vec_capacity}
 use Rattle.std.specs.List.{enumerate_from, flat_map, sum_by}
 use Rattle.std.proofs.lemmas.List.Sums.{sum_by-cons}
@@ -120,3 +120,23 @@ pub five_added : {Z : Type 0} (v0 v1 v2 v3 v4 v5 : Vec ℕ Z) (a b c d e : List 
     → WasAdded v0 v5 (a ++ b ++ c ++ d ++ e)
 five_added v0 v1 v2 v3 v4 v5 a b c d e p q r s t =
     added_both v0 v4 v5 (a ++ b ++ c ++ d) e (added_both v0 v3 v4 (a ++ b ++ c) d (added_both v0 v2 v3 (a ++ b) c (added_both v0 v1 v2 a b p q) r) s) t
+
+-- The pieces of elements as they are seen, and those of one more.
+
+pub flat_both : {X Y : Type 0} (f : Y → List ℕ) (g : X → Y) (xs ys : List X)
+    → flat_map f (map g (xs ++ ys)) ≡ flat_map f (map g xs) ++ flat_map f (map g ys)
+flat_both f g [] ys = refl
+flat_both f g (x ∷ xs) ys =
+    ap (λ zs. f (g x) ++ zs) (flat_both f g xs ys) ∙ sym (append_assoc (f (g x)) (flat_map f (map g xs)) (flat_map f (map g ys)))
+
+pub next_added : {X Y Z : Type 0} (f : Y → List ℕ) (g : X → Y) (xs : List X) (x : X) (old now new : Vec ℕ Z) → WasAdded old now (flat_map f (map g xs))
+    → WasAdded now new (f (g x)) → WasAdded old new (flat_map f (map g (xs ++ x ∷ [])))
+next_added f g xs x old now new before added =
+    let both : WasAdded old new (flat_map f (map g xs) ++ f (g x)) = added_both old now new (flat_map f (map g xs)) (f (g x)) before added in
+    subst (WasAdded old new) (sym (flat_both f g xs (x ∷ []) ∙ ap (λ zs. flat_map f (map g xs) ++ zs) (append-nil (f (g x))))) both
+
+pub room_next : {X Y Z : Type 0} (f : Y → List ℕ) (g : X → Y) (xs : List X) (x : X) (ys : List X) (old now : Vec ℕ Z)
+    → HasRoom old (flat_map f (map g (xs ++ x ∷ ys))) → WasAdded old now (flat_map f (map g xs)) → HasRoom now (f (g x))
+room_next f g xs x ys old now room before =
+    let parts : HasRoom old (flat_map f (map g xs) ++ flat_map f (map g (x ∷ ys))) = subst (HasRoom old) (flat_both f g xs (x ∷ ys)) room in
+    room_here now (f (g x)) (flat_map f (map g ys)) (room_then old now (flat_map f (map g xs)) (flat_map f (map g (x ∷ ys))) parts before)

@@ -12,7 +12,8 @@ use Rattle.pblk_model.specs.Chunk.{PointerFits}
 use Rattle.pblk_model.specs.Descriptor.{Descriptor, pointer_holds, read_descriptor, state_in}
 use Rattle.pblk_model.specs.Geometry.{Geometry, packed}
 use Rattle.pblk_model.specs.ImageFile.{chunk_checks, first_address}
-use Rattle.drive_image.proofs.DriveShapes.{all_pass, equal_of}
+use Rattle.ocssd_geometry.proofs.Acceptance.{all_pass}
+use Rattle.lemmas.proofs.Tests.{same}
 use Rattle.pblk_model.proofs.DescriptorLemmas.{pointer_fits, reads}
 
 -- the fields that a descriptor of this chunk has, by its state
@@ -41,9 +42,9 @@ pub descriptor_is : (g : Geometry) (unit chunk : ℕ) (d : List ℕ) → length 
 descriptor_is g unit chunk d size passes =
     let checks = all_pass (chunk_checks g unit chunk d) passes in
     let state = known (state_in (slice_index d 0)) checks.0 in
-    let kind = equal_of (slice_index d 1) 1 checks.1.0 in
-    let slba = equal_of (number_at w64 8 d) (packed g (first_address g unit chunk)) checks.1.1.0 in
-    let cnlb = equal_of (number_at w64 16 d) g.clba checks.1.1.1.0 in
+    let kind = same (slice_index d 1) 1 checks.1.0 in
+    let slba = same (number_at w64 8 d) (packed g (first_address g unit chunk)) checks.1.1.0 in
+    let cnlb = same (number_at w64 16 d) g.clba checks.1.1.1.0 in
     let wp = number_at w64 24 d in
     let last = and_parts (eqb (wp % g.ws_min) 0) (option_map_or (λ state. pointer_holds state g.clba wp) (state_in (slice_index d 0)) true) checks.1.1.1.1.0 in
     let holds : pointer_holds state.0 g.clba wp ≡ true = sym (ap (λ o. option_map_or (λ state. pointer_holds state g.clba wp) o true) state.1) ∙ last.1 in
@@ -53,5 +54,5 @@ descriptor_is g unit chunk d size passes =
       read = reads d state.0 g.clba size state.1 kind cnlb holds
           ∙ (ap (λ n. Ok (made n (number_at w64 16 d))) slba ∙ ap (λ n. Ok (made (packed g (first_address g unit chunk)) n)) cnlb);
       place = pointer_fits state.0 g.clba wp holds;
-      multiple = equal_of (wp % g.ws_min) 0 last.0;
+      multiple = same (wp % g.ws_min) 0 last.0;
     }

@@ -9,10 +9,11 @@ use Rattle.pblk_model.specs.Descriptor.{read_descriptor}
 use Rattle.pblk_model.specs.ImageFile.{StoredChunk, block_bytes, descriptor_at, descriptor_of, descriptors_end, geometry_at, pointer_at, shape_at}
 use Rattle.pblk_model.specs.Chunk.{free_chunk}
 use Rattle.pblk_model.specs.Shape.{units}
+use Rattle.pblk_laws.proofs.ImageBytesFlat.{all_flat, flat, length_of_flat}
 use Rattle.ocssd_drive.specs.Drive.{changed_at}
 use Rattle.drive_image.specs.Filling.{IsNth, bytes_of}
-use Rattle.drive_image.proofs.Flat.{flat, flat_length, flat_changed, all_changed, AreEmptyFrom, spelled_more, empty_all, get_same, get_other}
-use Rattle.drive_image.proofs.ListFacts.{all_flat, length_changed}
+use Rattle.drive_image.proofs.Flat.{flat_changed, all_changed, AreEmptyFrom, spelled_more, empty_all, get_same, get_other}
+use Rattle.drive_image.proofs.ListFacts.{length_changed}
 use Rattle.lemmas.proofs.Lists.{all_replicated}
 use Rattle.lemmas.proofs.Maps.{sum_more}
 use Rattle.lemmas.proofs.Parts.{all_get, joined}
@@ -89,7 +90,7 @@ one_filled b n at more us k filled nth inside some is =
     let new = changed_at (λ chunks. slice_set chunks (n % c) k) (n / c) us in
     let place : n / c * c + n % c ≡ n = div-add-mod' n c in
     let flatly : flat new ≡ slice_set (flat us) n k = flat_changed c us (n / c) (n % c) k filled.each low ∙ ap (λ i. slice_set (flat us) i k) place in
-    let whole : length (flat us) ≡ length us * c = flat_length c us filled.each in
+    let whole : length (flat us) ≡ length us * c = length_of_flat c us filled.each in
     let within : n < length (flat us) = subst (λ m. n < m) (sym (whole ∙ ap (λ m. m * c) filled.count)) inside in
     let begins : descriptors_end b ≤ at = omega (arith, filled.ends) in
     record {

@@ -1,44 +1,11 @@
 -- Lists of lists of one length as one list, of which one element is changed.
-use Rattle.std.proofs.Common.{◌≡◌, ℕ, ◌+◌, ◌-◌, ◌*◌, zero, suc, ◌<◌, ◌≤◌, Option, Some, None, List, [], ◌∷◌, ◌++◌, length, length-append, slice_get, slice_set, refl, sym, ap, ◌∙◌, subst, arith, append_assoc, append-nil}
+use Rattle.std.proofs.Common.{◌≡◌, ℕ, ◌+◌, ◌-◌, ◌*◌, zero, suc, ◌<◌, ◌≤◌, Option, Some, None, List, [], ◌∷◌, ◌++◌, length, slice_get, slice_set, refl, sym, ap, ◌∙◌, subst, arith, append_assoc, append-nil}
 use Rattle.std.specs.List.{AllByRecursion, flat_map}
 use Rattle.std.specs.Option.{option_map_or}
-use Rattle.std.proofs.lemmas.Grind.{flat_map-append}
 use Rattle.std.proofs.lemmas.List.{set-append_left, set-append_right}
 use Rattle.std.proofs.lemmas.Option.{none-some, same_Some}
+use Rattle.pblk_laws.proofs.ImageBytesFlat.{flat}
 use Rattle.ocssd_drive.specs.Drive.{changed_at}
-use Rattle.lemmas.proofs.Parts.{get_more, get_right}
-
--- Pieces of a list that stand side by side.
-
--- One list.
-
-abbrev pub flat : {X : Type 0} → List (List X) → List X
-flat xss = flat_map (λ xs. xs) xss
-
-pub flat_of_flat : {X Y : Type 0} (f : X → List Y) (xss : List (List X)) → flat_map (flat_map f) xss ≡ flat_map f (flat xss)
-flat_of_flat f [] = refl
-flat_of_flat f (xs ∷ xss) = ap (λ ys. flat_map f xs ++ ys) (flat_of_flat f xss) ∙ sym (flat_map-append f xs (flat xss))
-
-pub flat_length : {X : Type 0} (n : ℕ) (xss : List (List X)) → AllByRecursion (λ xs. length xs ≡ n) xss → length (flat xss) ≡ length xss * n
-flat_length n [] all = omega arith
-flat_length n (xs ∷ xss) all =
-    let first : length xs ≡ n = all.0 in
-    let rest : length (flat xss) ≡ length xss * n = flat_length n xss all.1 in
-    omega (arith, length-append xs (flat xss))
-
--- what stands at a place of one of the lists stands in the one list
-pub flat_get : {X : Type 0} (n : ℕ) (xss : List (List X)) (u j : ℕ) (xs : List X) (x : X) → AllByRecursion (λ xs. length xs ≡ n) xss → slice_get xss u ≡ Some xs
-    → slice_get xs j ≡ Some x
-    → slice_get (flat xss) (u * n + j) ≡ Some x
-flat_get n [] u j xs x all list is = absurd (none-some xs list)
-flat_get n (ys ∷ xss) zero j xs x all list is =
-    let same : ys ≡ xs = same_Some ys xs list in
-    let place : zero * n + j ≡ j = omega arith in
-    ap (slice_get (ys ++ flat xss)) place ∙ get_more ys (flat xss) j x (ap (λ zs. slice_get zs j) same ∙ is)
-flat_get n (ys ∷ xss) (suc u) j xs x all list is =
-    let first : length ys ≡ n = all.0 in
-    let place : suc u * n + j ≡ length ys + (u * n + j) = omega arith in
-    ap (slice_get (ys ++ flat xss)) place ∙ (get_right ys (flat xss) (u * n + j) ∙ flat_get n xss u j xs x all.1 list is)
 
 changed_cons : {X : Type 0} (change : X → X) (y : X) (o : Option X) (xs : List X) (u : ℕ)
     → option_map_or (λ x. slice_set (y ∷ xs) (suc u) (change x)) o (y ∷ xs) ≡ y ∷ option_map_or (λ x. slice_set xs u (change x)) o xs

@@ -6,27 +6,13 @@ use Rattle.pblk_model.specs.Bytes.{le16, le32, zeros}
 use Rattle.pblk_model.specs.Chunk.{Block, pointer}
 use Rattle.pblk_model.specs.Geometry.{Geometry, geometry_bytes}
 use Rattle.pblk_model.specs.ImageFile.{StoredChunk, Drive, block_bytes, blocks_bytes, descriptor_bytes, descriptor_of, descriptors_bytes, header_bytes, image_bytes, unit_descriptors}
+use Rattle.ocssd_geometry.proofs.Spelling.{length-geometry_bytes}
 use Rattle.drive_image.specs.Storing.{chunk_bytes, written_in}
 use Rattle.lemmas.proofs.Lists.{all_everywhere, all_weaker}
 use Rattle.lemmas.proofs.Maps.{all_enumerate, flat_length, length_of_sum}
 use Rattle.pblk_model.proofs.BytesLemmas.{with_zeros}
 use Rattle.pblk_model.proofs.DescriptorLemmas.{descriptor_length}
 use Rattle.pblk_model.proofs.ImageFileLemmas.{block_length, header_length}
-
-abbrev front : Geometry → List ℕ
-front g = (g.mjr ∷ g.mnr ∷ zeros 6)
-    ++ (g.group_bits ∷ g.pu_bits ∷ g.chunk_bits ∷ g.block_bits ∷ zeros 4)
-    ++ le32 g.mccap ++ zeros 12
-    ++ (g.wit ∷ zeros 31)
-    ++ le16 g.groups ++ le16 g.pus ++ le32 g.chunks ++ le32 g.clba ++ zeros 52
-    ++ le32 g.ws_min ++ le32 g.ws_opt ++ le32 g.mw_cunits ++ le32 g.maxoc ++ le32 g.maxocpu
-
-front_length : (g : Geometry) → length (front g) ≡ 148
-unfolding zeros
-front_length g = refl
-
-pub geometry_length : (g : Geometry) → length (geometry_bytes g) ≡ 4096
-geometry_length g = with_zeros (front g) 148 3948 (front_length g)
 
 unit_length : (g : Geometry) (unit : ℕ) (ks : List StoredChunk) → length (unit_descriptors g (unit, ks)) ≡ 32 * length ks
 unit_length g unit ks =
@@ -64,7 +50,7 @@ pub image_long : (d : Drive) (n : ℕ) → IsEven d n → length (image_bytes d)
 image_long d n even =
     let h = header_bytes 1 d in
     let g = geometry_bytes d.geometry in
-    let head : length (h ++ g) ≡ 4128 = omega (arith, length-append h g, header_length d, geometry_length d.geometry) in
+    let head : length (h ++ g) ≡ 4128 = omega (arith, length-append h g, header_length d, length-geometry_bytes d.geometry) in
     let rows : length (descriptors_bytes d) ≡ 32 * n * length d.units = descriptors_length d n even in
     let same : 32 * n * length d.units ≡ 32 * (length d.units * n) = omega arith in
     let blocks : length (blocks_bytes d) ≡ (d.sector + 16) * sum_by written_in d.units = blocks_length d n even in

@@ -2,7 +2,6 @@ pub mod Accepting
 pub mod Adding
 pub mod ChunkRules
 pub mod Sums
-pub mod DriveShapes
 pub mod Ends
 pub mod FillingSteps
 pub mod Finishing

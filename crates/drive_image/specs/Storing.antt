@@ -1,9 +1,9 @@
 -- Bytes that are added to a list in whose memory they have room.
 use Rattle.std.specs.Prelude.{ℕ, ◌+◌, ◌≤◌, ◌≡◌, List, ◌++◌, Vec, codes, length, slice_get, Some, vec_capacity}
-use Rattle.pblk_model.specs.ImageFile.{StoredChunk, block_bytes, descriptor_bytes}
+use Rattle.pblk_model.specs.ImageFile.{Drive, StoredChunk, block_bytes, descriptor_bytes, descriptors_bytes, header_bytes}
 use Rattle.std.specs.List.{flat_map, sum_by}
 use Rattle.pblk_model.specs.Chunk.{pointer}
-use Rattle.pblk_model.specs.Geometry.{Geometry}
+use Rattle.pblk_model.specs.Geometry.{Geometry, geometry_bytes}
 use Rattle.pblk_model.specs.declared.shape.Shape.{Shape}
 use Rattle.pblk_model.specs.Bytes.{le32, le64}
 
@@ -33,3 +33,7 @@ pub record IsDescriptorAdded {Z : Type 0} (g : Geometry) (unit chunk : ℕ) (ks 
 -- the header of an image of this shape
 abbrev pub numbers_bytes : Shape → List ℕ
 numbers_bytes s = codes "PBLKOCSD" ++ le32 1 ++ le32 s.sector ++ le64 s.capacity ++ le64 s.ring
+
+-- what stands before the blocks in an image
+abbrev pub front_bytes : Drive → List ℕ
+front_bytes d = header_bytes 1 d ++ geometry_bytes d.geometry ++ descriptors_bytes d

@@ -20,4 +20,4 @@ pub use making::blank;
 pub use numbers::Settings;
 pub use ocssd_drive::{Drive, Geometry, GeometryErr};
 pub use pblk_model::ImageErr;
-pub use storing::store;
+pub use storing::{into_image, store};

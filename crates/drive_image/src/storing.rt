@@ -1,7 +1,7 @@
 //! The image of a drive.
 
-ghost use Rattle.std.specs.Prelude.{◌≡◌, ◌+◌, ◌*◌, ◌<◌, ◌≤◌, ◌++◌, length, slice_get, OnOk, OnErr, Some, Vec, vec_capacity};
-ghost use Rattle.std.specs.List.{enumerate_from, flat_map, sum_by};
+ghost use Rattle.std.specs.Prelude.{◌≡◌, ◌+◌, ◌*◌, ◌<◌, ◌≤◌, ◌++◌, length, map, slice_get, IfOk, OnOk, OnErr, Some, Vec, vec_capacity};
+ghost use Rattle.std.specs.List.{AllByRecursion, enumerate_from, flat_map, sum_by};
 ghost use Rattle.pblk_model.specs.Chunk.{pointer};
 ghost use Rattle.pblk_model.specs.Geometry.{geometry_bytes};
 ghost use Rattle.pblk_model.specs.ImageFile.{IsImage, block_bytes, blocks_bytes, descriptor_bytes, descriptors_bytes, header_bytes, image_bytes, unit_descriptors};
@@ -10,7 +10,7 @@ ghost use Rattle.pblk_laws.specs.GeometryFields.{FitsFields};
 ghost use Rattle.ocssd_geometry.specs.Numbers.{numbers_of, IsGeometry};
 ghost use Rattle.ocssd_drive.specs.Drive.{IsWhole, shape_of, stored};
 ghost use Rattle.ocssd_drive.specs.Units.{IsUnitOf, stored_chunks};
-ghost use Rattle.drive_image.specs.Storing.{HasRoom, IsDescriptorAdded, WasAdded, chunk_bytes, numbers_bytes};
+ghost use Rattle.drive_image.specs.Storing.{HasRoom, IsDescriptorAdded, WasAdded, chunk_bytes, front_bytes, numbers_bytes};
 
 use crate::bytes::put;
 use crate::counting::image_length;
@@ -19,7 +19,7 @@ use ocssd_chunks::{Chunk, Descriptor};
 use ocssd_drive::{Drive, Geometry, MemoryUnit, Shape};
 use pblk_laws::spelled_image_is_read;
 use pblk_model::{DESCRIPTOR_LEN, Mark};
-use std::alloc::AllocError;
+use std::alloc::{AllocError, Global};
 
 /// Adds a drive's image to `out`: the header with the settings, the geometry, a descriptor for each
 /// chunk, and the written blocks, each with its mark (Open-Channel SSD Specification 2.0, Geometry,
@@ -42,6 +42,26 @@ pub fn store(drive: &Drive, out: &mut Vec<u8>) -> Result<(), AllocError>
     Ok(())
 }
 
+/// The drive's image, by itself: what `store` adds. Each unit's chunks are let go once their blocks stand in
+/// the image, so that no more than one unit is held beside it.
+///
+/// Memory for all of it is taken once, before any unit is let go.
+pub fn into_image(alloc: Global, drive: Drive) -> Result<Vec<u8>, AllocError>
+    ensures image { IfOk result (λ v. v.items ≡ image_bytes (stored drive)) }
+
+    // So it is loaded as this drive.
+    ensures read_back { IsImage (image_bytes (stored drive)) (stored drive) }
+{
+    spelled_image_is_read();
+    has_fields(&drive.geometry);
+    let length = image_length(&drive);
+    let mut out = Vec::with_capacity(alloc, length)?;
+    put_numbers(&drive, &mut out);
+    let shape = drive.shape();
+    put_units(drive.units, &shape, &mut out);
+    Ok(out)
+}
+
 // The numbers of a geometry fit their places in its bytes.
 fn has_fields(geometry: &Geometry)
     ensures { FitsFields (numbers_of geometry.now) }
@@ -56,11 +76,20 @@ fn put_image(drive: &Drive, out: &mut Vec<u8>)
     requires room { HasRoom out.old (image_bytes (stored drive.now)) }
     ensures { WasAdded out.old out.new (image_bytes (stored drive.now)) }
 {
+    put_numbers(drive, out);
+    put_blocks(drive, out);
+}
+
+// Adds the parts of an image that stand before the blocks.
+fn put_numbers(drive: &Drive, out: &mut Vec<u8>)
+    requires whole { IsWhole drive.now }
+    requires room { HasRoom out.old (front_bytes (stored drive.now)) }
+    ensures { WasAdded out.old out.new (front_bytes (stored drive.now)) }
+{
     let shape = drive.shape();
     put_header(&shape, out);
     put_geometry(&drive.geometry, out);
     put_descriptors(drive, out);
-    put_blocks(drive, out);
 }
 
 // Adds the magic, the version 1 and the settings.
@@ -149,6 +178,18 @@ fn put_blocks(drive: &Drive, out: &mut Vec<u8>)
     let shape = drive.shape();
     for unit in 0..shape.units() {
         put_unit_blocks(drive.unit(unit), shape.chunks, out);
+    }
+}
+
+// Adds the written blocks of units of a drive, and lets go each unit after its own.
+fn put_units(units: Vec<MemoryUnit>, shape: &Shape, out: &mut Vec<u8>)
+    requires fit { AllByRecursion (IsUnitOf shape.now) units.items }
+    requires room { HasRoom out.old (flat_map (flat_map chunk_bytes) (map stored_chunks units.items)) }
+    ensures { WasAdded out.old out.new
+        (flat_map (flat_map chunk_bytes) (map stored_chunks units.items)) }
+{
+    for kept in units {
+        put_unit_blocks(&kept, shape.chunks, out);
     }
 }
 

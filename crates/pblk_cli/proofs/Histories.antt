@@ -5,7 +5,9 @@ use Rattle.std.specs.List.{AllByRecursion, filter}
 use Rattle.pblk_model.specs.History.{SectorWrite}
 use Rattle.pblk_world.specs.EngineLog.{Taken, takes}
 use Rattle.pblk_world.specs.Fronts.{first_position, history, is_users, user_positions, user_takes}
-use Rattle.prefix_law.proofs.Taking.{all_users, users_all}
+use Rattle.lemmas.proofs.Maps.{all_filter, all_mapped}
+use Rattle.lemmas.proofs.Parts.{all_by_get}
+use Rattle.world_laws.proofs.Positions.{position_below}
 use Rattle.block_port.specs.Own.{PlacedSector}
 use Rattle.block_port.specs.Port.{positions}
 use Rattle.block_target.specs.Mount.{IsSameMount, IsSound, MountView, engine_log, taken_in, world_in}
@@ -32,18 +34,9 @@ pub line_positions : (v : MountView) → positions (lines_in v) ≡ user_positio
 line_positions v = positions_placed (user_takes (engine_log v))
 
 -- each line is below the front taken
-low_lines : (from : ℕ) (ts : List Taken) → ((k : ℕ) (t : Taken) → slice_get ts k ≡ Some t → t.entry.position ≡ from + k)
-    → AllByRecursion (λ (x : PlacedSector). x.position < from + length ts) (map line_of ts)
-low_lines from [] at = tt
-low_lines from (t ∷ ts) at = (
-  (let here : t.entry.position ≡ from + 0 = at 0 t refl in omega arith),
-  (let more : from + suc (length ts) ≡ suc from + length ts = omega arith in
-      subst (λ n. AllByRecursion (λ (x : PlacedSector). x.position < n) (map line_of ts)) (sym more)
-      (low_lines (suc from) ts (λ k u there. at (suc k) u there ∙ (let same : from + suc k ≡ suc from + k = omega arith in same)))),
-)
-
 pub lines_taken : (v : MountView) → IsSound v → AllByRecursion (λ (x : PlacedSector). x.position < taken_in v) (lines_in v)
 lines_taken v sound =
-    subst (λ (ts : List Taken). AllByRecursion (λ (x : PlacedSector). x.position < taken_in v) (map line_of ts))
-    (sym (users_all v.image (world_in v) sound.legal))
-    (low_lines (first_position (engine_log v)) (takes (engine_log v)) (λ k t there. (all_users v.image (world_in v) sound.legal k t there).position))
+    all_mapped (λ (x : PlacedSector). x.position < taken_in v) line_of (user_takes (engine_log v))
+    (all_filter (λ (t : Taken). t.entry.position < taken_in v) (λ t. is_users t.entry.source) (takes (engine_log v))
+    (all_by_get (λ (t : Taken). t.entry.position < taken_in v) (takes (engine_log v)) (λ k t there.
+    position_below v.image (world_in v) k t sound.legal.legal there)))

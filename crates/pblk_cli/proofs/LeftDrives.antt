@@ -22,8 +22,9 @@ use Rattle.pblk_world.specs.World.{media, unit_events}
 use Rattle.pblk_world.specs.Fronts.{history, user_positions}
 use Rattle.core_laws.specs.PlainWorlds.{IsPlainWorld}
 use Rattle.unit_port.specs.Unit.{IsFitUnit, ModelUnit}
+use Rattle.chunk_laws.proofs.SealedMedia.{media_sealed}
 use Rattle.prefix_law.proofs.Prefix.{prefix_contents}
-use Rattle.prefix_law.proofs.Sealed as sealing
+use Rattle.core_laws.proofs.SimpleMounts.{simple_of}
 use Rattle.ocssd_drive.specs.Drive.{DriveView, IsWhole, shape_of, stored, with_units}
 use Rattle.ocssd_drive.specs.Units.{IsUnitOf, WornUnit}
 use Rattle.block_target.specs.Mount.{IsSound, IsUnitIn, MountView, engine_log, logs_in, world_in}
@@ -128,7 +129,7 @@ kept_contents : (i : Image) (v : MountView) → IsPlainWorld i (world_in v) → 
     → t.kept ≡ users (user_positions (engine_log v)) (end (media i (logs_in v)))
     → history (engine_log v) ≡ sector_writes size t.history → contents (media i (logs_in v)) ≡ after (contents i) (sector_writes size (take t.kept t.history))
 kept_contents i v legal sealed t size kept history_is =
-    prefix_contents i (world_in v) legal sealed
+    prefix_contents i (world_in v) (simple_of i (world_in v) legal).mount sealed
     ∙ ap₂ (λ n (ws : List SectorWrite). after (contents i) (take n ws)) (sym kept) history_is
     ∙ ap (after (contents i)) (take-map (λ (row : HistoryLine). record { lba = row.lba; sector = tag_sector size row.tag }) t.kept t.history)
 
@@ -181,7 +182,7 @@ run_to found script ran text bytes status is said status_is bytes_are spelled =
             (sym (ap contents left ∙ kept_contents (image_of (stored found)) is.mount legal sealed t found.sector (kept
             ∙ ap (λ (x : Image). users (user_positions (engine_log is.mount)) (end x)) left) serving.history_is))
             (serving.run sealed);
-        sealed = λ sealed. subst IsSealed (sym left) (sealing.sealed (image_of (stored found)) (world_in is.mount) legal sealed);
+        sealed = λ sealed. subst IsSealed (sym left) (media_sealed (image_of (stored found)) (world_in is.mount) (simple_of (image_of (stored found)) (world_in is.mount) legal).mount sealed);
         spelled = spelled;
       };
       status_is = status_is ∙ ap status_of_run told;

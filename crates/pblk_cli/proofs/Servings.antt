@@ -19,6 +19,7 @@ use Rattle.pblk_world.specs.Lines.{found_image}
 use Rattle.unit_port.specs.Unit.{ModelUnit}
 use Rattle.ocssd_drive.specs.Units.{WornUnit}
 use Rattle.prefix_law.proofs.Prefix.{prefix_above}
+use Rattle.core_laws.proofs.SimpleMounts.{simple_of}
 use Rattle.scan_recovery.specs.Units.{image_of}
 use Rattle.block_port.specs.declared.rows.WornAnswer.{WornAnswer}
 use Rattle.block_port.specs.Own.{PlacedSector, lines_of}
@@ -155,7 +156,8 @@ module _ (s : Shape) (us : List ModelUnit) (first last : SerialView) (records : 
 
   -- on a sealed drive all that is synced is below the end
   above : IsSealed (image_of s us) → synced_in closed.mount ≤ end (media_in closed.mount)
-  above sealed = prefix_above closed.mount.image (world_in closed.mount) closed.closed.sound.legal (subst IsSealed (sym mount_image) sealed)
+  above sealed = prefix_above closed.mount.image (world_in closed.mount)
+      (simple_of closed.mount.image (world_in closed.mount) closed.closed.sound.legal).mount (subst IsSealed (sym mount_image) sealed)
 
   are_kept : IsSealed (image_of s us) → AreKept served.records (device last) (lines_in last.mount) (end (media_in closed.mount))
   are_kept sealed = let high : synced_in closed.mount ≤ end (media_in closed.mount) = above sealed in record {

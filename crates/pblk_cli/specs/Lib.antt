@@ -3,6 +3,7 @@ pub mod Worn
 pub mod Serving
 pub mod Telling
 pub mod Commands
+pub mod Laws
 pub mod Endings
 pub mod Creating
 pub mod Reading

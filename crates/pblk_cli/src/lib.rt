@@ -6,6 +6,7 @@
 
 mod create;
 mod geometry;
+mod laws;
 mod main_call;
 mod output;
 mod refusal;
@@ -14,4 +15,5 @@ mod serve;
 mod show;
 mod status;
 
+pub use laws::{a_run_keeps_the_numbers, a_worn_flush_tells_the_end, the_drive_left_is_found};
 pub use main_call::{pblk_main, pblk_program};

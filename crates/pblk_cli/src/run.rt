@@ -20,7 +20,7 @@ use crate::output::Output;
 use crate::refusal::Refusal;
 use crate::serve::serve;
 use crate::status::has_worn;
-use drive_image::store;
+use drive_image::into_image;
 use ocssd_drive::Drive;
 use pblk_model::{Script, ScriptErr};
 use pblk_outside::Files;
@@ -148,8 +148,9 @@ fn run_and_store<R: Wait>(
     let ran = run_on(rt, alloc, drive, script)?;
     let text = transcript_text(alloc, script, &ran)?;
     let status = if has_worn(&ran.records) { WORN } else { 0 };
-    let mut bytes = Vec::new(alloc);
-    store(&ran.drive, &mut bytes)?;
+    // The drive is let go unit by unit, so that it and its image aren't held whole beside each other.
+    let Ran { drive, .. } = ran;
+    let bytes = into_image(alloc, drive)?;
     Ok((bytes, Output { status, text }))
 }
 

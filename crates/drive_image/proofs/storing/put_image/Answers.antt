@@ -1,71 +1,20 @@
-use Rattle.std.proofs.Common.{◌++◌, sym, ap, subst}
-use Rattle.pblk_model.specs.Geometry.{geometry_bytes}
-use Rattle.pblk_model.specs.ImageFile.{blocks_bytes, descriptors_bytes, header_bytes}
-use Rattle.ocssd_geometry.specs.Numbers.{numbers_of}
-use Rattle.ocssd_drive.specs.Drive.{DriveView, stored}
-use Rattle.drive_image.specs.Storing.{HasRoom, WasAdded, numbers_bytes}
+use Rattle.pblk_model.specs.ImageFile.{blocks_bytes}
+use Rattle.ocssd_drive.specs.Drive.{stored}
+use Rattle.drive_image.specs.Storing.{front_bytes}
 use Rattle.drive_image.proofs.Adding.{room_here, room_then, added_both}
 use Rattle.drive_image.proofs.storing.put_image.Goals as goal
-use Rattle.drive_image.proofs.storing.put_image.Goals.{After-put_header, After-put_geometry, After-put_descriptors}
 
-added_header : (c : After-put_header) → WasAdded c.args.out.now c.put_header.new.out (header_bytes 1 (stored c.args.drive.now))
-added_header c = subst (WasAdded c.args.out.now c.put_header.new.out) (ap numbers_bytes c.shape-shape.ensures.shape) c.put_header.ensures
-
-added_geometry : (c : After-put_geometry) → WasAdded c.args.out.now c.put_geometry.new.out
-    (header_bytes 1 (stored c.args.drive.now) ++ geometry_bytes (numbers_of c.args.drive.now.geometry))
-added_geometry c =
+pub put_numbers-requires-clause-room : goal.put_numbers-requires-clause-room
+put_numbers-requires-clause-room c =
     let d = stored c.args.drive.now in
-    let added = subst (λ (v : DriveView). WasAdded c.put_header.new.out c.put_geometry.new.out
-    (geometry_bytes (numbers_of v.geometry))) c.drive.view_is c.put_geometry.ensures in
-    added_both c.args.out.now c.put_header.new.out c.put_geometry.new.out (header_bytes 1 d) (geometry_bytes d.geometry)
-    (added_header (goal.at.After-put_geometry c).After-put_header) added
-
-added_descriptors : (c : After-put_descriptors)
-    → WasAdded c.args.out.now c.put_descriptors.new.out
-    (header_bytes 1 (stored c.args.drive.now) ++ geometry_bytes (numbers_of c.args.drive.now.geometry) ++ descriptors_bytes (stored c.args.drive.now))
-added_descriptors c =
-    let d = stored c.args.drive.now in
-    added_both c.args.out.now c.put_geometry.new.out c.put_descriptors.new.out (header_bytes 1 d ++ geometry_bytes d.geometry) (descriptors_bytes d)
-    (added_geometry (goal.at.After-put_descriptors c).After-put_geometry) c.put_descriptors.ensures
-
-pub put_header-requires : goal.put_header-requires
-put_header-requires c =
-    let d = stored c.args.drive.now in
-    let v = c.args.out.now in
-    let h = header_bytes 1 d in
-    let g = geometry_bytes d.geometry in
-    subst (HasRoom v) (sym (ap numbers_bytes c.shape-shape.ensures.shape))
-    (room_here v h g (room_here v (h ++ g) (descriptors_bytes d) (room_here v (h ++ g ++ descriptors_bytes d) (blocks_bytes d) c.requires.room)))
-
-pub put_geometry-requires-clause-room : goal.put_geometry-requires-clause-room
-put_geometry-requires-clause-room c =
-    let d = stored c.args.drive.now in
-    let v = c.args.out.now in
-    let h = header_bytes 1 d in
-    let g = geometry_bytes d.geometry in
-    subst (λ (v : DriveView). HasRoom c.put_header.new.out (geometry_bytes (numbers_of v.geometry))) (sym c.drive.view_is)
-    (room_then v c.put_header.new.out h g (room_here v (h ++ g) (descriptors_bytes d)
-    (room_here v (h ++ g ++ descriptors_bytes d) (blocks_bytes d) c.requires.room))
-    (added_header (goal.at.put_geometry-requires-clause-room c).After-put_header))
-
-pub put_descriptors-requires-clause-room : goal.put_descriptors-requires-clause-room
-put_descriptors-requires-clause-room c =
-    let d = stored c.args.drive.now in
-    let v = c.args.out.now in
-    let h = header_bytes 1 d in
-    let g = geometry_bytes d.geometry in
-    room_then v c.put_geometry.new.out (h ++ g) (descriptors_bytes d) (room_here v (h ++ g ++ descriptors_bytes d) (blocks_bytes d) c.requires.room)
-    (added_geometry (goal.at.put_descriptors-requires-clause-room c).After-put_geometry)
+    room_here c.args.out.now (front_bytes d) (blocks_bytes d) c.requires.room
 
 pub put_blocks-requires-clause-room : goal.put_blocks-requires-clause-room
 put_blocks-requires-clause-room c =
     let d = stored c.args.drive.now in
-    room_then c.args.out.now c.put_descriptors.new.out (header_bytes 1 d ++ geometry_bytes d.geometry ++ descriptors_bytes d) (blocks_bytes d) c.requires.room
-    (added_descriptors (goal.at.put_blocks-requires-clause-room c).After-put_descriptors)
+    room_then c.args.out.now c.put_numbers.new.out (front_bytes d) (blocks_bytes d) c.requires.room c.put_numbers.ensures
 
 pub returns : goal.returns
 returns c =
     let d = stored c.args.drive.now in
-    added_both c.args.out.now c.put_descriptors.new.out c.put_blocks.new.out (header_bytes 1 d ++ geometry_bytes d.geometry ++ descriptors_bytes d)
-    (blocks_bytes d)
-    (added_descriptors (goal.at.returns c).After-put_descriptors) c.put_blocks.ensures
+    added_both c.args.out.now c.put_numbers.new.out c.put_blocks.new.out (front_bytes d) (blocks_bytes d) c.put_numbers.ensures c.put_blocks.ensures

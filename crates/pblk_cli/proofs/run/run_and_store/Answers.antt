@@ -1,6 +1,6 @@
-use Rattle.std.proofs.Common.{◌≡◌, [], ◌++◌, ap, sym, ◌∙◌}
+use Rattle.std.proofs.Common.{◌≡◌, [], sym, ◌∙◌}
 use Rattle.pblk_model.specs.Contents.{end}
-use Rattle.pblk_model.specs.ImageFile.{image_bytes, image_of}
+use Rattle.pblk_model.specs.ImageFile.{image_of}
 use Rattle.pblk_model.specs.Transcript.{events}
 use Rattle.ocssd_drive.specs.Drive.{stored}
 use Rattle.pblk_cli.specs.Status.{status_of_run}
@@ -23,5 +23,5 @@ returns g c =
       | then-has_worn w ↦ w.status-is ∙ worn_is (transcript_left c.args.script.now c.in_ok-ran.ran) none (sym worn ∙ w.if-has_worn.true)
       | else-has_worn w ↦ w.status-is ∙ calm_is (transcript_left c.args.script.now c.in_ok-ran.ran) none (sym worn ∙ w.if-has_worn.false)
     ] in
-    run_to c.args.drive c.args.script.now c.in_ok-ran.ran c.in_ok-text.text.items c.store.new.out.items c.if-has_worn.status is c.in_ok-text.ensures status
-    (c.in_ok-store.ensures.added ∙ ap (λ xs. xs ++ image_bytes (stored c.in_ok-ran.ran.drive)) c.new-bytes.ensures.items) c.in_ok-store.ensures.read_back
+    run_to c.args.drive c.args.script.now c.in_ok-ran.ran c.in_ok-text.text.items c.in_ok-bytes.bytes.items c.if-has_worn.status is c.in_ok-text.ensures status
+    c.in_ok-bytes.ensures.image c.in_ok-bytes.ensures.read_back
