@@ -1,5 +1,5 @@
 -- One more line that was heard.
-use Rattle.std.proofs.Common.{◌≡◌, ◌≢◌, ℕ, ◌+◌, ◌==◌, ◌||◌, not, Bool, true, false, List, [], ◌∷◌, ◌++◌, length, Option, Some, None, refl, sym, ap, ◌∙◌, subst}
+use Rattle.std.proofs.Common.{◌≡◌, ◌≢◌, ℕ, ◌+◌, ◌<◌, ◌≤◌, ◌==◌, ◌||◌, not, Bool, true, false, List, [], ◌∷◌, ◌++◌, length, Option, Some, None, refl, sym, ap, ◌∙◌, subst, arith}
 use Rattle.std.specs.List.{list_any}
 use Rattle.std.specs.Option.{option_map, option_to_list}
 use Rattle.std.specs.Str.{bytes_eq}
@@ -8,12 +8,12 @@ use Rattle.std.proofs.lemmas.List.{map-append, length-append}
 use Rattle.std.proofs.lemmas.List.Folds.{list_any-append}
 use Rattle.pblk_model.specs.declared.script.Command.{Command}
 use Rattle.pblk_model.specs.declared.script.Command.TheVariants.{Write, Read, Flush, Post, Await}
-use Rattle.pblk_model.specs.ScriptText.{Said, Thread, Commands, Heard, Numbered, saids, leading, threads_of, threads_in, commands_in, posts, form_holds}
+use Rattle.pblk_model.specs.ScriptText.{Said, Thread, Commands, Heard, Numbered, saids, leading, threads_of, threads_in, commands_in, posts, form_holds, limit_holds}
 use Rattle.run_script.specs.declared.reader.Reader.{Reader}
 use Rattle.run_script.specs.declared.names.Names.{Names}
 use Rattle.run_script.specs.Names.{holds}
 use Rattle.run_script.specs.Heard.{ArePosted, threads_kept, BeginsThread, IsRead, Adds, Hears}
-use Rattle.lemmas.proofs.Tests.{first_of}
+use Rattle.lemmas.proofs.Tests.{below_of, first_of}
 
 -- The threads.
 
@@ -133,12 +133,15 @@ begins-thread ((m, Commands c) ∷ h) n b = absurd b
 
 -- A reader that heard a thread.
 
-pub read-thread : (old new : Reader) (h : Heard) (n : ℕ) → IsRead old h → Hears old new n Thread → IsRead new (h ++ (n, Thread) ∷ [])
-read-thread old new h n r e =
+pub read-thread : (old new : Reader) (h : Heard) (n : ℕ) → IsRead old h → Hears old new n Thread → threads_in (saids h) < 16
+    → IsRead new (h ++ (n, Thread) ∷ [])
+read-thread old new h n r e room =
+    let more : threads_in (saids (h ++ (n, Thread) ∷ [])) ≡ threads_in (saids h) + 1 = ap threads_in (saids-push h n Thread) ∙ threads_in-thread (saids h) in
     let kept : threads_kept new ≡ threads_kept old ++ [] ∷ [] = rw e.0 (rw e.1 refl) in record {
       threads = kept ∙ ap (λ ts. ts ++ [] ∷ []) r.threads ∙ sym (threads_of-thread h n);
       count = ap length kept ∙ length-append (threads_kept old) ([] ∷ []) ∙ ap (λ k. k + 1) r.count
-          ∙ sym (ap threads_in (saids-push h n Thread) ∙ threads_in-thread (saids h));
+          ∙ sym more;
+      few = omega (arith, more, room);
       opens = λ none. absurd (let both : Some [] ≡ None = sym e.1 ∙ none in cc);
       commands = e.2 ∙ r.commands ∙ sym (ap commands_in (saids-push h n Thread) ∙ commands_in-thread (saids h));
       names = subst (λ names. ArePosted names (saids (h ++ (n, Thread) ∷ []))) (sym e.3)
@@ -172,6 +175,7 @@ read-command old new h n c r e opened names =
       count = ap length kept ∙ length-append old.ended.items ((current.0 ++ (n, c) ∷ []) ∷ [])
           ∙ sym (ap length was ∙ length-append old.ended.items (current.0 ∷ [])) ∙ r.count
           ∙ sym (ap threads_in (saids-push h n (Commands c)) ∙ threads_in-command (saids h) c);
+      few = subst (λ k. k ≤ 16) (sym (ap threads_in (saids-push h n (Commands c)) ∙ threads_in-command (saids h) c)) r.few;
       opens = λ none. absurd (let both : Some (current.0 ++ (n, c) ∷ []) ≡ None = sym now ∙ none in cc);
       commands = e.2 ∙ ap (λ k. k + 1) r.commands ∙ sym (ap commands_in (saids-push h n (Commands c)) ∙ commands_in-command (saids h) c);
       names = subst (ArePosted new.names) (sym (saids-push h n (Commands c))) names;
@@ -184,15 +188,15 @@ same_names old new before c other same are = subst (λ names. ArePosted names (b
     (posted-other old before (Commands c) (posts_none c other) are)
 
 pub read-said : (old new : Reader) (h : Heard) (n : ℕ) (said : Said) → IsRead old h → Hears old new n said → form_holds (saids h) said ≡ true
-    → IsRead new (h ++ (n, said) ∷ [])
-read-said old new h n Thread r e form = read-thread old new h n r e
-read-said old new h n (Commands (Post name)) r e form = read-command old new h n (Post name) r e.0 (first_of _ _ form)
+    → limit_holds (saids h) said ≡ true → IsRead new (h ++ (n, said) ∷ [])
+read-said old new h n Thread r e form limit = read-thread old new h n r e (below_of (threads_in (saids h)) 16 limit)
+read-said old new h n (Commands (Post name)) r e form limit = read-command old new h n (Post name) r e.0 (first_of _ _ form)
     (posted-post old.names new.names (saids h) name e.1 r.names)
-read-said old new h n (Commands (Write lba count tag)) r e form = read-command old new h n (Write lba count tag) r e.0 form
+read-said old new h n (Commands (Write lba count tag)) r e form limit = read-command old new h n (Write lba count tag) r e.0 form
     (same_names old.names new.names (saids h) (Write lba count tag) (λ post is. cc) e.1 r.names)
-read-said old new h n (Commands (Read lba count)) r e form = read-command old new h n (Read lba count) r e.0 form
+read-said old new h n (Commands (Read lba count)) r e form limit = read-command old new h n (Read lba count) r e.0 form
     (same_names old.names new.names (saids h) (Read lba count) (λ post is. cc) e.1 r.names)
-read-said old new h n (Commands Flush) r e form = read-command old new h n Flush r e.0 form
+read-said old new h n (Commands Flush) r e form limit = read-command old new h n Flush r e.0 form
     (same_names old.names new.names (saids h) Flush (λ post is. cc) e.1 r.names)
-read-said old new h n (Commands (Await name)) r e form = read-command old new h n (Await name) r e.0 form
+read-said old new h n (Commands (Await name)) r e form limit = read-command old new h n (Await name) r e.0 form
     (same_names old.names new.names (saids h) (Await name) (λ post is. cc) e.1 r.names)

@@ -7,6 +7,7 @@ use Rattle.pblk_model.specs.declared.script.ScriptErr.{ScriptErr}
 use Rattle.pblk_model.specs.declared.script.ScriptErr.TheVariants.{Form, Limit, Range, NeverPosted, Stuck, Memory}
 use Rattle.pblk_model.specs.Checks.{first_refusal, unless}
 use Rattle.pblk_model.specs.ScriptText.{Said, Heard, saids, form_holds, limit_holds, range_holds}
+use Rattle.lemmas.proofs.Tests.{second_of}
 use Rattle.run_script.specs.Heard.{placed_at, refusal_of}
 use Rattle.run_script.specs.Reading.{Refuses}
 
@@ -21,6 +22,15 @@ form_of capacity before n early said none = elim (cases_Bool (form_holds (saids 
   | inl holds ↦ holds
   | inr fails ↦ absurd (let both : Some (Form n) ≡ None = (rw fails at none) in cc)
 ]
+
+pub limit_of : (capacity : ℕ) (before : Heard) (n : ℕ) (early : Bool) (said : Said) → refusal_of capacity (saids before) n early said ≡ None
+    → limit_holds (saids before) said ≡ true
+limit_of capacity before n early said none =
+    let form = form_of capacity before n early said none in
+    elim (cases_Bool (early && limit_holds (saids before) said)) [
+      | inl holds ↦ second_of early (limit_holds (saids before) said) holds
+      | inr fails ↦ absurd (let both : Some (Limit n) ≡ None = (rw fails at (rw form at none)) in cc)
+    ]
 
 pub placed_ok : (capacity : ℕ) (before : Heard) (n : ℕ) (early : Bool) (says : Option Said) (said : Said) → says ≡ Some said
     → refusal_of capacity (saids before) n early said ≡ None

@@ -1,8 +1,8 @@
 -- Threads that are run on.
-use Rattle.std.proofs.Common.{◌≡◌, ℕ, zero, suc, ◌+◌, ◌<◌, ◌≤◌, ◌||◌, ◌⊎◌, Bool, true, false, List, [], ◌∷◌, ◌++◌, map, length, get_or, drop, drop-cons, add-one, Option, Some, None, Result, Ok, Err, refl, sym, ap, ◌∙◌, subst, arith, inl, inr}
+use Rattle.std.proofs.Common.{◌≡◌, ℕ, ◌+◌, ◌<◌, ◌||◌, ◌&&◌, not, ◌⊎◌, Bool, true, false, List, [], ◌∷◌, ◌++◌, map, length, get_or, drop, Option, Some, None, Result, Ok, Err, refl, sym, ap, ◌∙◌, subst, arith, inl, inr}
 use Rattle.std.specs.List.{flat_map, list_any}
-use Rattle.std.specs.Option.{is_some, option_map, option_map_or, option_to_list}
-use Rattle.std.proofs.lemmas.List.{append-nil, drop_all}
+use Rattle.std.specs.Option.{is_some, option_map_or, option_to_list}
+use Rattle.std.proofs.lemmas.List.{append-nil, length-append}
 use Rattle.std.proofs.lemmas.List.Concat.{flat_map-append}
 use Rattle.std.specs.Str.{bytes_eq}
 use Rattle.std.proofs.lemmas.Bool.{cases_Bool, true≢false, false≢true}
@@ -12,112 +12,67 @@ use Rattle.pblk_model.specs.declared.script.Command.{Command}
 use Rattle.pblk_model.specs.declared.script.Command.TheVariants.{Write, Read, Flush, Post, Await}
 use Rattle.pblk_model.specs.declared.script.ScriptErr.{ScriptErr}
 use Rattle.pblk_model.specs.declared.script.ScriptErr.TheVariants as errors
-use Rattle.pblk_model.specs.Checks.{first_refusal}
-use Rattle.pblk_model.specs.ScriptText.{Said, Thread, Commands, Heard, Numbered, saids, script_of, stuck_at, posts_refusal, leading, threads_of, unposted, awaits_unposted, run_on, turn, turns, least_standing}
+use Rattle.pblk_model.specs.ScriptText.{Said, Thread, Commands, Heard, Numbered, saids, threads_in, script_of, stuck_at, posts_refusal, leading, threads_of, unposted, awaits_unposted, posts, turns, least_standing}
 use Rattle.run_script.specs.declared.names.Names.{Names}
 use Rattle.run_script.specs.Names.{holds}
 use Rattle.run_script.specs.declared.reader.Reader.{Reader}
 use Rattle.run_script.specs.Heard.{ArePosted, BeginsThread, IsRead}
-use Rattle.run_script.specs.Turns.{lifted, AreListed, passed, Passes, lesser, line_of}
-use Rattle.lemmas.proofs.Lists.{cases_passed}
+use Rattle.run_script.specs.Turns.{lifted, AreLeft, passed, Passes, lesser, line_of}
 use Rattle.lemmas.proofs.Maps.{map_dropped}
 use Rattle.lemmas.proofs.Parts.{next_item}
-use Rattle.pblk_model.proofs.ScriptTextLemmas.{run_on-end, turn-end, turn-next}
 
--- A command that a thread goes past, and one that it stands at.
-
-pub run_on-past : (posted more : List (List ℕ)) (n : ℕ) (c : Command) (thread : Numbered) → passed posted c ≡ Some more
-    → run_on posted ((n, c) ∷ thread) ≡ run_on more thread
-unfolding run_on
-run_on-past posted more n (Write lba count tag) thread e = let same : posted ≡ more = cc in rw same refl
-run_on-past posted more n (Read lba count) thread e = let same : posted ≡ more = cc in rw same refl
-run_on-past posted more n Flush thread e = let same : posted ≡ more = cc in rw same refl
-run_on-past posted more n (Post name) thread e = let same : name ∷ posted ≡ more = cc in rw same refl
-run_on-past posted more n (Await name) thread e = elim (cases_Bool (list_any (bytes_eq name) posted)) [
-  | inl holds_so ↦ let same : Some posted ≡ Some more = (rw holds_so at e) in let same' : posted ≡ more = cc in rw holds_so (rw same' refl)
-  | inr fails_so ↦ let none : None ≡ Some more = (rw fails_so at e) in absurd (cc)
-]
-
-pub run_on-stands : (posted : List (List ℕ)) (n : ℕ) (c : Command) (thread : Numbered) → passed posted c ≡ None
-    → run_on posted ((n, c) ∷ thread) ≡ (posted, (n, c) ∷ thread)
-unfolding run_on
-run_on-stands posted n (Write lba count tag) thread e = absurd (cc)
-run_on-stands posted n (Read lba count) thread e = absurd (cc)
-run_on-stands posted n Flush thread e = absurd (cc)
-run_on-stands posted n (Post name) thread e = absurd (cc)
-run_on-stands posted n (Await name) thread e = elim (cases_Bool (list_any (bytes_eq name) posted)) [
-  | inl holds_so ↦ let some : Some posted ≡ None = (rw holds_so at e) in absurd (cc)
-  | inr fails_so ↦ rw fails_so refl
-]
-
-pub run_on-length : (posted : List (List ℕ)) (thread : Numbered) → length (run_on posted thread).1 ≤ length thread
-run_on-length posted [] = rw (run_on-end posted) (omega arith)
-run_on-length posted ((n, c) ∷ thread) = elim (cases_passed (passed posted c)) [
-  | inl none ↦ rw (run_on-stands posted n c thread none) (omega arith)
-  | inr some ↦ rw (run_on-past posted some.0 n c thread some.1) (omega (arith, run_on-length some.0 thread))
-]
-
--- a thread that doesn't move posts nothing
-pub run_on-stays : (posted : List (List ℕ)) (thread : Numbered) → length (run_on posted thread).1 ≡ length thread → run_on posted thread ≡ (posted, thread)
-run_on-stays posted [] e = run_on-end posted
-run_on-stays posted ((n, c) ∷ thread) e = elim (cases_passed (passed posted c)) [
-  | inl none ↦ run_on-stands posted n c thread none
-  | inr some ↦ absurd (let moved : length (run_on some.0 thread).1 ≡ suc (length thread) = sym
-      (ap (λ r. length r.1) (run_on-past posted some.0 n c thread some.1)) ∙ e in omega (arith, run_on-length some.0 thread, moved))
-]
-
--- Turns in which nothing moves.
-
-pub turn-stays : (posted : List (List ℕ)) (threads : List Numbered) → map length (turn posted threads).1 ≡ map length threads
-    → turn posted threads ≡ (posted, threads)
-turn-stays posted [] e = turn-end posted
-turn-stays posted (thread ∷ threads) e =
-    let next = turn-next posted thread threads in
-    let lengths : map length ((run_on posted thread).1 ∷ (turn (run_on posted thread).0 threads).1) ≡ map length (thread ∷ threads) = ap (λ r. map length r.1)
-    (sym next) ∙ e in
-    let first : length (run_on posted thread).1 ≡ length thread = cc in
-    let others : map length (turn (run_on posted thread).0 threads).1 ≡ map length threads = cc in
-    let stays = run_on-stays posted thread first in
-    let others' : map length (turn posted threads).1 ≡ map length threads = ap (λ r. map length (turn r.0 threads).1) (sym stays) ∙ others in
-    let rest = turn-stays posted threads others' in
-    next ∙ ap (λ r. ((turn r.0 threads).0, r.1 ∷ (turn r.0 threads).1)) stays ∙ ap (λ r. (r.0, thread ∷ r.1)) rest
-
--- Names that are posted.
+-- Names that are left.
 
 bytes_eq-sym : (a b : List ℕ) → bytes_eq a b ≡ bytes_eq b a
 bytes_eq-sym a b = let other = bytes_eq-Decides b a in
     same_from_decides {P = a ≡ b} (bytes_eq a b) (bytes_eq b a) (bytes_eq-Decides a b) (λ e. sym (other.0 e), λ e. other.1 (sym e))
 
-pub none_listed : (names : Names) → ((name : List ℕ) → holds names name ≡ false) → AreListed names []
-none_listed names none = none
+not_either : (a b : Bool) → (not a && not b) ≡ not (a || b)
+not_either true b = refl
+not_either false b = refl
 
-pub listed_more : (old new : Names) (name : List ℕ) (posted : List (List ℕ)) → AreListed old posted
-    → ((other : List ℕ) → holds new other ≡ (bytes_eq name other || holds old other)) → AreListed new (name ∷ posted)
-listed_more old new name posted are more = λ other. more other ∙ ap (λ b. b || holds old other) (bytes_eq-sym name other)
-    ∙ ap (λ b. bytes_eq other name || b) (are other)
+not_not : (b : Bool) → not (not b) ≡ b
+not_not true = refl
+not_not false = refl
+
+pub left_all : (all : List Said) (names : Names) → ArePosted names all → AreLeft all names []
+left_all all names are = λ name so. are name ∙ so
+
+pub left_less : (all : List Said) (old new : Names) (name : List ℕ) (posted : List (List ℕ)) → AreLeft all old posted
+    → ((other : List ℕ) → holds new other ≡ (not (bytes_eq name other) && holds old other)) → AreLeft all new (name ∷ posted)
+left_less all old new name posted are less = λ other so. less other ∙ ap (λ b. not b && holds old other) (bytes_eq-sym name other)
+    ∙ ap (λ b. not (bytes_eq other name) && b) (are other so) ∙ not_either (bytes_eq other name) (list_any (bytes_eq other) posted)
 
 pub passes_post : (old new : Names) (c : Command) (name : List ℕ) → c ≡ Post name
-    → ((other : List ℕ) → holds new other ≡ (bytes_eq name other || holds old other)) → Passes old new c true
-passes_post old new c name is more = λ posted are. (name ∷ posted, ap (passed posted) is, listed_more old new name posted are more)
+    → ((other : List ℕ) → holds new other ≡ (not (bytes_eq name other) && holds old other)) → Passes old new c true
+passes_post old new c name is less = λ all posted are known. (name ∷ posted, ap (passed posted) is, left_less all old new name posted are less)
 
-pub passes_await : (old : Names) (c : Command) (name : List ℕ) (b : Bool) → c ≡ Await name → b ≡ holds old name → Passes old old c b
-passes_await old c name true is e = λ posted are. let holds_so : list_any (bytes_eq name) posted ≡ true = sym (e ∙ are name) in (
+-- an awaited name is posted just where it isn't left
+awaited : (all : List Said) (names : Names) (c : Command) (name : List ℕ) (b : Bool) (posted : List (List ℕ)) → c ≡ Await name → b ≡ not (holds names name)
+    → AreLeft all names posted → awaits_unposted all (Commands c) ≡ false → list_any (bytes_eq name) posted ≡ b
+awaited all names c name b posted is e are known =
+    let none : not (list_any (posts name) all) ≡ false = ap (λ d. awaits_unposted all (Commands d)) (sym is) ∙ known in
+    let so : list_any (posts name) all ≡ true = sym (not_not (list_any (posts name) all)) ∙ ap not none in
+    sym (e ∙ ap not (are name so) ∙ not_not (list_any (bytes_eq name) posted))
+
+pub passes_await : (old : Names) (c : Command) (name : List ℕ) (b : Bool) → c ≡ Await name → b ≡ not (holds old name) → Passes old old c b
+passes_await old c name true is e = λ all posted are known. (
   posted,
   ap (passed posted) is
-      ∙ rw holds_so refl,
+      ∙ rw (awaited all old c name true posted is e are known) refl,
   are,
 )
-passes_await old c name false is e = λ posted are. let fails_so : list_any (bytes_eq name) posted ≡ false = sym (e ∙ are name) in (
+passes_await old c name false is e = λ all posted are known. (
   ap (passed posted) is
-      ∙ rw fails_so refl,
+      ∙ rw (awaited all old c name false posted is e are known) refl,
   are,
 )
 
 pub passes_plain : (old : Names) (c : Command) → ((lba : ℕ) × (count : ℕ) × (tag : ℕ)
     × (c ≡ Write lba count tag)) ⊎ (((lba : ℕ) × (count : ℕ) × (c ≡ Read lba count)) ⊎ (c ≡ Flush)) → Passes old old c true
-passes_plain old c (inl w) = λ posted are. (posted, ap (passed posted) w.3, are)
-passes_plain old c (inr (inl r)) = λ posted are. (posted, ap (passed posted) r.2, are)
-passes_plain old c (inr (inr f)) = λ posted are. (posted, ap (passed posted) f, are)
+passes_plain old c (inl w) = λ all posted are known. (posted, ap (passed posted) w.3, are)
+passes_plain old c (inr (inl r)) = λ all posted are known. (posted, ap (passed posted) r.2, are)
+passes_plain old c (inr (inr f)) = λ all posted are known. (posted, ap (passed posted) f, are)
 
 -- What nobody posts.
 
@@ -161,6 +116,27 @@ unposted-past all n said heard e = rw e refl
 pub unposted-end : (all : List Said) → unposted all [] ≡ None
 unfolding unposted
 unposted-end all = refl
+
+-- a thread that awaits no such name, by its first command and the others
+pub known_next : (all : List Said) (x : ℕ × Command) (rest : Numbered) → unposted all (lifted (x ∷ rest)) ≡ None
+    → (awaits_unposted all (Commands x.1) ≡ false) × (unposted all (lifted rest) ≡ None)
+known_next all x rest e = elim (cases_Bool (awaits_unposted all (Commands x.1))) [
+  | inl holds_so ↦ let some : Some x.0 ≡ None = sym (unposted-here all x.0 (Commands x.1) (lifted rest) holds_so) ∙ e in absurd (cc)
+  | inr fails_so ↦ (fails_so, sym (unposted-past all x.0 (Commands x.1) (lifted rest) fails_so) ∙ e)
+]
+
+pub known_parts : (all : List Said) (a b : Heard) → unposted all (a ++ b) ≡ None → (unposted all a ≡ None) × (unposted all b ≡ None)
+known_parts all a b e = by_first (unposted all a) refl
+  where
+    by_first : (o : Option ℕ) → unposted all a ≡ o → (unposted all a ≡ None) × (unposted all b ≡ None)
+    by_first None is = (is, sym (unposted-none all a b is) ∙ e)
+    by_first (Some n) is = absurd (let some : Some n ≡ None = sym (unposted-some all a b n is) ∙ e in cc)
+
+pub known_more : (all : List Said) (threads : List Numbered) (thread : Numbered) → unposted all (flat_map lifted threads) ≡ None
+    → unposted all (lifted thread) ≡ None → unposted all (flat_map lifted (threads ++ thread ∷ [])) ≡ None
+known_more all threads thread before last =
+    ap (unposted all) (flat_map-append lifted threads (thread ∷ []) ∙ ap (λ h. flat_map lifted threads ++ h) (append-nil (lifted thread)))
+    ∙ unposted-none all (flat_map lifted threads) (lifted thread) before ∙ last
 
 -- The least line at which a thread stands.
 
@@ -271,26 +247,33 @@ no_current_unposted reader heard ended found r same h none current =
     sym (others_unposted reader heard ended found r same h none ∙ ap (λ o. unposted (saids heard) (flat_map lifted (option_to_list o))) current
     ∙ unposted-end (saids heard))
 
+-- Whether a thread of a reader is stuck.
+
+pub last_stuck : (reader : Reader) (heard : Heard) (ended : List Numbered) (last : Numbered) (line : Option ℕ) → IsRead reader heard
+    → unposted (saids heard) heard ≡ None → ended ≡ reader.ended.items → reader.current ≡ Some last
+    → ((all : List Said) → ArePosted reader.names all → length ended < 16 → unposted all (flat_map lifted (ended ++ last ∷ [])) ≡ None
+    → line ≡ stuck_at (ended ++ last ∷ []))
+    → line ≡ stuck_at (threads_of heard)
+last_stuck reader heard ended last line r known same current judged =
+    let threads : ended ++ last ∷ [] ≡ threads_of heard = ap (λ ts. ts ++ last ∷ []) same ∙ sym (ap (λ o. reader.ended.items ++ option_to_list o) current)
+    ∙ r.threads in
+    let count : length ended + 1 ≡ threads_in (saids heard) = sym (length-append ended (last ∷ [])) ∙ ap length (threads ∙ sym r.threads) ∙ r.count in
+    judged (saids heard) r.names (omega (arith, count, r.few)) (ap (λ ts. unposted (saids heard) (flat_map lifted ts)) threads
+    ∙ sym (unposted-threads (saids heard) heard r.begins) ∙ known)
+    ∙ ap stuck_at threads
+
+no_threads : None ≡ stuck_at (threads_of [])
+unfolding threads_of turns least_standing
+no_threads = refl
+
+pub none_stuck : (reader : Reader) (heard : Heard) → IsRead reader heard → reader.current ≡ None → None ≡ stuck_at (threads_of heard)
+none_stuck reader heard r none = no_threads ∙ ap (λ h. stuck_at (threads_of h)) (sym (r.opens none))
+
 abbrev pub told : Heard → Result (List (List Command)) ScriptErr
 told heard = option_map_or Err (posts_refusal heard) (Ok (script_of heard))
 
 pub told_unposted : (heard : Heard) (line : ℕ) → unposted (saids heard) heard ≡ Some line → told heard ≡ Err (errors.NeverPosted line)
 told_unposted heard line e = rw e refl
-
-pub told_stuck : (heard : Heard) (line : ℕ) → unposted (saids heard) heard ≡ None → stuck_at (threads_of heard) ≡ Some line
-    → told heard ≡ Err (errors.Stuck line)
-told_stuck heard line e k = by_parts (unposted (saids heard) heard) (stuck_at (threads_of heard)) line e k
-  where
-    by_parts : (a b : Option ℕ) (line : ℕ) → a ≡ None → b ≡ Some line
-        → option_map_or Err (first_refusal (option_map errors.NeverPosted a ∷ option_map errors.Stuck b ∷ [])) (Ok (script_of heard)) ≡ Err (errors.Stuck line)
-    by_parts a b line e k = rw e (rw k refl)
-
-pub told_ok : (heard : Heard) → unposted (saids heard) heard ≡ None → stuck_at (threads_of heard) ≡ None → told heard ≡ Ok (script_of heard)
-told_ok heard e k = by_parts (unposted (saids heard) heard) (stuck_at (threads_of heard)) e k
-  where
-    by_parts : (a b : Option ℕ) → a ≡ None → b ≡ None
-        → option_map_or Err (first_refusal (option_map errors.NeverPosted a ∷ option_map errors.Stuck b ∷ [])) (Ok (script_of heard)) ≡ Ok (script_of heard)
-    by_parts a b e k = rw e (rw k refl)
 
 pub none_here : {A : Type 0} (o : Option A) → ((x : A) → o ≡ Some x → ⊥) → o ≡ None
 none_here None h = refl

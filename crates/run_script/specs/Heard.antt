@@ -1,5 +1,5 @@
 -- What was heard of a script so far, as the reader keeps it.
-use Rattle.std.specs.Prelude.{ℕ, ◌≡◌, ◌<◌, ◌&&◌, ◌||◌, ◌+◌, ⊤, Bool, List, [], ◌∷◌, ◌++◌, length, Option, Some, None, Result, Ok, Err, IsOk}
+use Rattle.std.specs.Prelude.{ℕ, ◌≡◌, ◌<◌, ◌≤◌, ◌&&◌, ◌||◌, ◌+◌, ⊤, Bool, List, [], ◌∷◌, ◌++◌, length, Option, Some, None, Result, Ok, Err, IsOk}
 use Rattle.std.specs.List.{list_any}
 use Rattle.std.specs.Option.{option_to_list, option_map, option_map_or}
 use Rattle.std.specs.Str.{bytes_eq}
@@ -35,6 +35,7 @@ BeginsThread ((n, Commands c) ∷ heard) = ⊥
 pub record IsRead (reader : Reader) (heard : Heard) : Type 0 where
   pub threads : threads_kept reader ≡ threads_of heard
   pub count : length (threads_kept reader) ≡ threads_in (saids heard)
+  pub few : threads_in (saids heard) ≤ 16
   pub opens : reader.current ≡ None → heard ≡ []
   pub commands : reader.commands ≡ commands_in (saids heard)
   pub names : ArePosted reader.names (saids heard)

@@ -40,7 +40,8 @@ const MOST_BYTES: u64 = 4_194_304;
 /// capacity. Then come `NeverPosted`, with the least line that awaits a name that nobody posts,
 /// and `Stuck`, with the least line at which a thread waits for ever when the threads are run on,
 /// in turns, until nothing moves. `Memory` where there was none to keep what a line says, which
-/// then isn't refused, or to run the threads on.
+/// then isn't refused, or for a script that isn't refused. Once all lines are kept, no memory is
+/// taken to judge the awaits and to run the threads on.
 pub fn read_script(alloc: Global, bytes: &[u8], capacity: u64) -> Result<Script, ScriptErr>
     // The answer is what the definition gives, unless memory ran out.
     ensures read { Gives result (read_script capacity bytes.now) }

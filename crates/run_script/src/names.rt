@@ -1,6 +1,6 @@
 //! Sets of names.
 
-ghost use Rattle.std.specs.Prelude.{◌≡◌, ◌||◌, ℕ, List, false, OnOk};
+ghost use Rattle.std.specs.Prelude.{◌≡◌, ◌||◌, ◌&&◌, not, ℕ, List, false, OnOk};
 ghost use Rattle.std.specs.Str.{bytes_eq};
 ghost use Rattle.run_script.specs.Names.{holds};
 
@@ -37,5 +37,13 @@ impl Names {
         let name = String::from_str(alloc, name)?;
         self.set.insert(name)?;
         Ok(())
+    }
+
+    /// Takes a name out.
+    pub(crate) fn remove(&mut self, name: &str)
+        ensures { (other : List ℕ)
+            → holds self.new other ≡ (not (bytes_eq name.now other) && holds self.old other) }
+    {
+        self.set.remove(name);
     }
 }

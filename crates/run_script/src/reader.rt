@@ -1,8 +1,8 @@
 //! Scripts, line by line.
 
-ghost use Rattle.std.specs.Prelude.{◌≡◌, ◌++◌, ◌∷◌, [], ◌<◌, ◌+◌, length, List, ℕ, Bool, Some, None, Ok, Err, IfOk, IfNone, OnOk, IfErr, ◌≤◌, min, ◌^◌, ◌-◌, IsTrue};
+ghost use Rattle.std.specs.Prelude.{◌≡◌, ◌++◌, ◌∷◌, [], ◌<◌, ◌+◌, length, List, ℕ, Bool, Some, None, Ok, Err, IfOk, IfNone, OnOk, IfErr, ◌≤◌, map, min, ◌^◌, ◌-◌, IsTrue};
 ghost use Rattle.std.specs.Option.{option_map, option_map_or};
-ghost use Rattle.pblk_model.specs.ScriptText.{Heard, saids, form_holds, limit_holds, range_holds, said_in, script_of, posts_refusal, unposted};
+ghost use Rattle.pblk_model.specs.ScriptText.{Heard, saids, form_holds, limit_holds, range_holds, said_in, script_of, posts_refusal, stuck_at, threads_of, unposted};
 ghost use Rattle.run_script.specs.Heard.{IsRead, threads_kept, refusal_of, HasRoom, Hears, placed_at, Places};
 ghost use Rattle.run_script.specs.Reading.{Gives};
 ghost use Rattle.run_script.specs.Said.{said_of};
@@ -10,12 +10,9 @@ ghost use Rattle.run_script.specs.Said.{said_of};
 use crate::names::Names;
 use crate::said::{Said, said_in};
 use crate::thread::{Thread, script_of};
-use crate::turns::{stuck_at, unposted, unposted_in};
+use crate::turns::{MOST_THREADS, stuck_among, unposted, unposted_in};
 use pblk_model::{Command, PostName, Script, ScriptErr};
 use std::alloc::{AllocError, Global};
-
-/// How many threads a script may have.
-const MOST_THREADS: usize = 16;
 
 /// How many commands a script may have.
 const MOST_COMMANDS: u32 = 200_000;
@@ -196,27 +193,22 @@ impl Reader {
     }
 
     /// The script whose lines were read. Refused: `NeverPosted` where a line awaits a name that
-    /// nobody posts; `Stuck` where a thread waits for ever; `Memory` where there was none, which
-    /// comes only where each name that is awaited is posted.
+    /// nobody posts; `Stuck` where a thread waits for ever; `Memory` where there was none for the
+    /// script, which then isn't refused.
     pub(crate) fn finish(self, alloc: Global) -> Result<Script, ScriptErr>
         ensures answer { (heard : Heard) → IsRead self heard
             → Gives result (option_map_or Err (posts_refusal heard) (Ok (script_of heard))) }
         ensures memory { (heard : Heard) → IsRead self heard
-            → result ≡ Err ScriptErr.Memory → unposted (saids heard) heard ≡ None }
+            → result ≡ Err ScriptErr.Memory → posts_refusal heard ≡ None }
     {
-        if let Some(line) = self.unposted() {
+        let mut reader = self;
+        if let Some(line) = reader.unposted() {
             return Err(ScriptErr::NeverPosted(line));
         }
-        let Ok(threads) = self.into_threads() else {
-            return Err(ScriptErr::Memory);
-        };
-        let Ok(stuck) = stuck_at(alloc, threads.as_slice()) else {
-            return Err(ScriptErr::Memory);
-        };
-        if let Some(line) = stuck {
+        if let Some(line) = reader.stuck() {
             return Err(ScriptErr::Stuck(line));
         }
-        match script_of(alloc, threads) {
+        match reader.into_script(alloc) {
             Ok(script) => Ok(script),
             Err(_) => Err(ScriptErr::Memory),
         }
@@ -234,6 +226,26 @@ impl Reader {
                 None => None,
             },
         }
+    }
+
+    // The least line at which a thread is stuck, if one is, where no name is awaited that nobody
+    // posts. The names that the threads come to post are taken out.
+    fn stuck(&mut self) -> Option<u32>
+        ensures threads { threads_kept self.new ≡ threads_kept self.old }
+        ensures stuck { (heard : Heard) → IsRead self.old heard
+            → unposted (saids heard) heard ≡ None → result ≡ stuck_at (threads_of heard) }
+    {
+        match &self.current {
+            Some(last) => stuck_among(&mut self.names, self.ended.as_slice(), last.as_slice()),
+            None => None,
+        }
+    }
+
+    // The script of the threads.
+    fn into_script(self, alloc: Global) -> Result<Script, AllocError>
+        ensures { IfOk result (λ script. script ≡ map (map (λ x. x.1)) (threads_kept self)) }
+    {
+        script_of(alloc, self.into_threads()?)
     }
 
     // The threads.

@@ -1,15 +1,17 @@
 //! How far the threads of a script come.
 
-ghost use Rattle.std.specs.Prelude.{◌≡◌, ◌<◌, ◌≤◌, ℕ, length, List, map, true, false, IfOk, OnOk};
+ghost use Rattle.std.specs.Prelude.{◌≡◌, ◌<◌, ◌≤◌, ◌++◌, ◌∷◌, [], length, List, map, true, false, None};
 ghost use Rattle.std.specs.List.{flat_map, sum_by};
 ghost use Rattle.pblk_model.specs.ScriptText.{Said, Commands, awaits_unposted, unposted, stuck_at, least_standing};
 ghost use Rattle.run_script.specs.Heard.{ArePosted};
-ghost use Rattle.run_script.specs.Turns.{lifted, lesser, line_of, Passes, RunsOn, TakesTurn};
+ghost use Rattle.run_script.specs.Turns.{lifted, lesser, line_of, AreLeft, Passes, RunsOn, TakesTurn};
 
 use crate::names::Names;
 use crate::thread::{Numbered, Thread};
 use pblk_model::Command;
-use std::alloc::{AllocError, Global};
+
+/// How many threads a script may have.
+pub(crate) const MOST_THREADS: usize = 16;
 
 /// The least line that awaits a name that nobody posts.
 pub(crate) fn unposted(names: &Names, threads: &[Thread]) -> Option<u32>
@@ -49,89 +51,90 @@ fn is_unposted(names: &Names, command: &Command) -> bool
     }
 }
 
-/// The least line at which a thread is stuck, if one is: the threads are run on, one after another
-/// and again and again, until nothing moves.
-pub(crate) fn stuck_at(alloc: Global, threads: &[Thread]) -> Result<Option<u32>, AllocError>
-    ensures { IfOk result (λ line. line ≡ stuck_at threads.now) }
+/// The least line at which a thread is stuck, if one is: one of those that ended, or the last. The
+/// names are those that anybody posts, and those that the threads come to post are taken out.
+///
+/// It takes no memory: names are only taken out, and what is left of each thread has its place.
+pub(crate) fn stuck_among<'a>(
+    names: &mut Names,
+    ended: &'a [Thread],
+    last: &'a [Numbered],
+) -> Option<u32>
+    ensures { (all : List Said) → ArePosted names.old all → length ended.now < 16
+        → unposted all (flat_map lifted (ended.now ++ last.now ∷ [])) ≡ None
+        → result ≡ stuck_at (ended.now ++ last.now ∷ []) }
 {
-    let mut posted = Names::new(alloc);
-    let mut left = whole(alloc, threads)?;
+    let mut left = [last; MOST_THREADS];
+    let count = ended.len().min(MOST_THREADS - 1);
+    for index in 0..count {
+        left[index] = ended[index].as_slice();
+    }
+    stuck_at(names, &mut left[..count + 1])
+}
+
+// The least line at which a thread is stuck, if one is: the threads are run on, one after another
+// and again and again, until nothing moves.
+fn stuck_at(names: &mut Names, left: &mut [&[Numbered]]) -> Option<u32>
+    ensures { (all : List Said) → AreLeft all names.old []
+        → unposted all (flat_map lifted (map (λ x. x.now) left.old)) ≡ None
+        → result ≡ stuck_at (map (λ x. x.now) left.old) }
+{
     loop {
-        let (rest, moved) = turn(alloc, &mut posted, left.as_slice())?;
-        if !moved {
-            return Ok(least_standing(left.as_slice()));
+        if !turn(names, left) {
+            return least_standing(left);
         }
-        left = rest;
     }
 }
 
-// All commands of each thread.
-fn whole(alloc: Global, threads: &[Thread]) -> Result<Vec<&[Numbered]>, AllocError>
-    ensures { IfOk result (λ left. map (λ x. x.now) left.items ≡ threads.now) }
+// Runs each thread on, in their order, to what is left of it. Answers whether one of them moved.
+fn turn(names: &mut Names, left: &mut [&[Numbered]]) -> bool
+    ensures rest { TakesTurn names.old names.new
+        (map (λ x. x.now) left.old) (map (λ x. x.now) left.new) }
+    ensures moves { result ≡ true → sum_by length (map (λ x. x.now) left.new)
+        < sum_by length (map (λ x. x.now) left.old) }
+    ensures stands { result ≡ false → map length (map (λ x. x.now) left.new)
+        ≡ map length (map (λ x. x.now) left.old) }
 {
-    let mut left = Vec::new(alloc);
-    for thread in threads {
-        left.push(thread.as_slice())?;
-    }
-    Ok(left)
-}
-
-// Runs each thread on, in their order. Gives what is left of them, and whether one of them moved.
-fn turn<'a>(
-    alloc: Global,
-    posted: &mut Names,
-    left: &[&'a [Numbered]],
-) -> Result<(Vec<&'a [Numbered]>, bool), AllocError>
-    ensures rest { IfOk result (λ r. TakesTurn posted.old posted.new
-        (map (λ x. x.now) left.now) (map (λ x. x.now) r.0.items)) }
-    ensures moves { IfOk result (λ r. r.1 ≡ true
-        → sum_by length (map (λ x. x.now) r.0.items) < sum_by length (map (λ x. x.now) left.now)) }
-    ensures stands { IfOk result (λ r. r.1 ≡ false
-        → map length (map (λ x. x.now) r.0.items) ≡ map length (map (λ x. x.now) left.now)) }
-{
-    let mut rests = Vec::new(alloc);
     let mut moved = false;
-    for thread in left {
-        let rest = run_on(alloc, posted, thread)?;
+    for index in 0..left.len() {
+        let thread = left[index];
+        let rest = run_on(names, thread);
         if rest.len() < thread.len() {
             moved = true;
         }
-        rests.push(rest)?;
+        left[index] = rest;
     }
-    Ok((rests, moved))
+    moved
 }
 
-// Runs a thread on until it comes to an await of a name that isn't posted. Gives what is left of
-// it.
-fn run_on<'a>(
-    alloc: Global,
-    posted: &mut Names,
-    thread: &'a [Numbered],
-) -> Result<&'a [Numbered], AllocError>
-    ensures rest { IfOk result (λ rest. RunsOn posted.old posted.new thread.now rest.now) }
-    ensures length { IfOk result (λ rest. length rest.now ≤ length thread.now) }
+// Runs a thread on until it comes to an await of a name that is still to be posted. Gives what is
+// left of it.
+fn run_on<'a>(names: &mut Names, thread: &'a [Numbered]) -> &'a [Numbered]
+    ensures rest { RunsOn names.old names.new thread.now result.now }
+    ensures length { length result.now ≤ length thread.now }
 {
     let mut left = thread;
     while let Some((numbered, rest)) = left.split_first() {
-        if !passes(alloc, posted, &numbered.1)? {
+        if !passes(names, &numbered.1) {
             break;
         }
         left = rest;
     }
-    Ok(left)
+    left
 }
 
-// Whether a thread goes past a command. A post is noted.
-fn passes(alloc: Global, posted: &mut Names, command: &Command) -> Result<bool, AllocError>
-    ensures { IfOk result (λ goes. Passes posted.old posted.new command.now goes) }
+// Whether a thread goes past a command. The name of a post is taken out of those that are still to
+// be posted.
+fn passes(names: &mut Names, command: &Command) -> bool
+    ensures { Passes names.old names.new command.now result }
 {
     match command {
-        Command::Post(name) => {
-            posted.insert(alloc, name.as_str())?;
-            Ok(true)
+        Command::Post(posted) => {
+            names.remove(posted.as_str());
+            true
         }
-        Command::Await(name) => Ok(posted.contains(name.as_str())),
-        Command::Write { .. } | Command::Read { .. } | Command::Flush => Ok(true),
+        Command::Await(awaited) => !names.contains(awaited.as_str()),
+        Command::Write { .. } | Command::Read { .. } | Command::Flush => true,
     }
 }
 

@@ -1,56 +1,40 @@
-use Rattle.std.proofs.Common.{◌≡◌, ◌≤◌, ◌+◌, ◌∷◌, [], true, false, sym, ap, ◌∙◌, subst, map, length, inl, inr}
-use Rattle.std.proofs.lemmas.List.{length-map, map-append}
-use Rattle.run_script.proofs.RunOn.{next_mapped}
-use Rattle.run_script.proofs.RunOnLoops.{IsTurned, turned-start, turned-next, turned-end}
+use Rattle.std.proofs.Common.{◌≡◌, ◌≤◌, ◌<◌, ◌+◌, ◌++◌, ◌∷◌, [], true, false, refl, sym, ap, ◌∙◌, subst, map, length, inl, inr, arith}
+use Rattle.std.proofs.lemmas.List.{append-nil, length-append, length-map, length-set}
+use Rattle.run_script.specs.Turns.{TakesTurn}
+use Rattle.run_script.proofs.RunOnLoops.{turned-start, turned-next, turned-end, turn_at, turn_put}
 use Rattle.run_script.proofs.turns.turn.Goals as goal
 use Rattle.run_script.proofs.turns.turn.Goals.{then-rest-thread, else-rest-thread}
 use Rattle.lemmas.proofs.Parts.{drop_past}
 
-pub loop-thread-init : goal.loop-thread-init
-loop-thread-init c =
-    let left = map (λ x. x.now) c.args.left.now in
-    let start = turned-start c.args.posted.now left in
-    subst (λ rests. IsTurned c.args.posted.now c.args.posted.now left 0 (map (λ x. x.now) rests) false) (sym c.new-rests.ensures.items) start
+pub loop-index-init : goal.loop-index-init
+loop-index-init c = (refl, [], refl, refl, turned-start c.args.names.now (map (λ x. x.now) c.args.left.now))
 
-pub loop-thread-preserved : goal.loop-thread-preserved
-loop-thread-preserved c =
-    let left = map (λ x. x.now) c.args.left.now in
-    let rests = map (λ x. x.now) c.loop-thread.rests.items in
-    let rest = c.in_ok-rest.rest in
-    let ran = c.in_ok-rest.ensures in
-    let pushed = c.in_ok-push.ensures in
-    let next = next_mapped (λ x. x.now) c.args.left.now c.loop-thread.thread-index c.thread-item.result c.loop-thread-test.true c.thread-item.is in
-    let turned = turned-next c.args.posted.now c.loop-thread.posted c.run_on.new.posted left c.loop-thread.thread-index rests c.loop-thread.moved c.if-rest-thread.moved c.thread-item.result.now rest.now
-    c.loop-thread.invariant next ran.rest ran.length
-    (λ e. elim c.if-rest-thread.branch [ then-rest-thread w ↦ inr w.if-rest-thread.true | else-rest-thread w ↦ inl (sym w.moved-is ∙ e) ])
-    (λ e. elim c.if-rest-thread.branch [
-      | then-rest-thread w ↦ absurd (let both : true ≡ false = sym w.moved-is ∙ e in cc)
-      | else-rest-thread w ↦ (
-        sym w.moved-is
-            ∙ e,
-        w.if-rest-thread.false,
-      )
-    ]) in
-    subst (λ rests. IsTurned c.args.posted.now c.run_on.new.posted left (c.loop-thread.thread-index + 1) rests c.if-rest-thread.moved)
-    (sym (ap (map (λ x. x.now)) pushed.items ∙ map-append (λ x. x.now) c.loop-thread.rests.items (rest ∷ []))) turned
+pub loop-index-preserved : goal.loop-index-preserved
+loop-index-preserved c =
+    let all = map (λ x. x.now) c.args.left.now in
+    let inv = c.loop-index.invariant in
+    let thread = c.index-left-index.result in
+    let rest = c.run_on-rest.result in
+    let within : c.loop-index.index < length c.loop-index.left = omega (arith, inv.0, c.loop-index-test.true) in
+    let at = turn_at (λ x. x.now) c.loop-index.left inv.1 all c.loop-index.index thread inv.3 inv.2 within c.index-left-index.is in (
+      length-set c.loop-index.left c.loop-index.index rest ∙ inv.0,
+      inv.1 ++ rest.now ∷ [],
+      length-append inv.1 (rest.now ∷ []) ∙ ap (λ k. k + 1) inv.2,
+      turn_put (λ x. x.now) c.loop-index.left inv.1 all c.loop-index.index rest thread.now inv.3 inv.2 at,
+      turned-next c.args.names.now c.loop-index.names c.run_on-rest.new.names all c.loop-index.index inv.1 c.loop-index.moved c.if-rest-thread.moved
+          thread.now rest.now inv.4 at c.run_on-rest.ensures.rest c.run_on-rest.ensures.length
+          (λ e. elim c.if-rest-thread.branch [ then-rest-thread w ↦ inr w.if-rest-thread.true | else-rest-thread w ↦ inl (sym w.moved-is ∙ e) ])
+          (λ e. elim c.if-rest-thread.branch [
+            | then-rest-thread w ↦ absurd (let both : true ≡ false = sym w.moved-is ∙ e in cc)
+            | else-rest-thread w ↦ (sym w.moved-is ∙ e, w.if-rest-thread.false)
+          ]),
+    )
 
 pub returns-clause-rest : goal.returns-clause-rest
 returns-clause-rest c =
-    let left = map (λ x. x.now) c.args.left.now in
-    let past : length left ≤ c.loop-thread.thread-index = rw (length-map) (c.loop-thread-test.false) in
-    (turned-end c.args.posted.now c.loop-thread.posted left c.loop-thread.thread-index
-    (map (λ x. x.now) c.loop-thread.rests.items) c.loop-thread.moved c.loop-thread.invariant (drop_past left c.loop-thread.thread-index past)).0
-
-pub returns-clause-moves : goal.returns-clause-moves
-returns-clause-moves c =
-    let left = map (λ x. x.now) c.args.left.now in
-    let past : length left ≤ c.loop-thread.thread-index = rw (length-map) (c.loop-thread-test.false) in
-    (turned-end c.args.posted.now c.loop-thread.posted left c.loop-thread.thread-index
-    (map (λ x. x.now) c.loop-thread.rests.items) c.loop-thread.moved c.loop-thread.invariant (drop_past left c.loop-thread.thread-index past)).1
-
-pub returns-clause-stands : goal.returns-clause-stands
-returns-clause-stands c =
-    let left = map (λ x. x.now) c.args.left.now in
-    let past : length left ≤ c.loop-thread.thread-index = rw (length-map) (c.loop-thread-test.false) in
-    (turned-end c.args.posted.now c.loop-thread.posted left c.loop-thread.thread-index
-    (map (λ x. x.now) c.loop-thread.rests.items) c.loop-thread.moved c.loop-thread.invariant (drop_past left c.loop-thread.thread-index past)).2
+    let all = map (λ x. x.now) c.args.left.now in
+    let inv = c.loop-index.invariant in
+    let past : length all ≤ c.loop-index.index = rw (length-map) (c.loop-index-test.false) in
+    let none = drop_past all c.loop-index.index past in
+    subst (TakesTurn c.args.names.now c.loop-index.names all) (sym (inv.3 ∙ ap (λ ts. inv.1 ++ ts) none ∙ append-nil inv.1))
+    (turned-end c.args.names.now c.loop-index.names all c.loop-index.index inv.1 c.loop-index.moved inv.4 none).0

@@ -6,7 +6,7 @@ use Rattle.run_script.specs.Said.{said_of}
 use Rattle.run_script.specs.Heard.{refusal_of}
 use Rattle.run_script.proofs.HeardMore.{read-said}
 use Rattle.run_script.proofs.RunOn.{none_here}
-use Rattle.run_script.proofs.PlacedLine.{form_of, placed_not, placed_ok, done_of}
+use Rattle.run_script.proofs.PlacedLine.{form_of, limit_of, placed_not, placed_ok, done_of}
 use Rattle.run_script.proofs.reader.Reader.read_line.Goals as goal
 
 pub returns-in-Some-refusal-clause-placed : goal.returns-in-Some-refusal-clause-placed
@@ -34,5 +34,6 @@ returns-clause-placed c = λ before read.
       (c.args.number, said),
       placed_ok c.args.self.now.capacity before c.args.number c.args.early (said_in c.args.line.now) said says none,
       read-said c.args.self.now c.hear.new.self before c.args.number said read heard
-          (form_of c.args.self.now.capacity before c.args.number c.args.early said none),
+          (form_of c.args.self.now.capacity before c.args.number c.args.early said none)
+          (limit_of c.args.self.now.capacity before c.args.number c.args.early said none),
     )
