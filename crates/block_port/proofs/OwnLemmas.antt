@@ -1,7 +1,7 @@
 -- Lemmas on the words of Own.
 use Rattle.std.proofs.Common.{List, [], ap, arith, drop, length, refl, suc, take, zero, ℕ, ◌*◌, ◌++◌, ◌+◌, ◌-◌, ◌∙◌, ◌∷◌, ◌≡◌, ◌≤◌}
 use Rattle.std.proofs.lemmas.List.{drop-append-le, length-drop, take-append-le}
-use Rattle.block_port.specs.Own.{sectors_of}
+use Rattle.block_port.specs.Own.{placed_from, sectors_of}
 use Rattle.lemmas.proofs.Numbers.{suc-times}
 
 -- two runs of sectors, one after the other
@@ -19,3 +19,12 @@ sectors_append size (suc k) n front rest h =
 pub cut_none : (size : ℕ) (bytes : List ℕ) → sectors_of size 0 bytes ≡ []
 unfolding sectors_of
 cut_none size bytes = refl
+
+pub length_sectors : (size n : ℕ) (bytes : List ℕ) → length (sectors_of size n bytes) ≡ n
+unfolding sectors_of
+length_sectors size zero bytes = refl
+length_sectors size (suc n) bytes = ap suc (length_sectors size n (drop size bytes))
+
+pub length_placed : (position lba : ℕ) (sectors : List (List ℕ)) → length (placed_from position lba sectors) ≡ length sectors
+length_placed position lba [] = refl
+length_placed position lba (s ∷ sectors) = ap suc (length_placed (position + 1) (lba + 1) sectors)

@@ -12,11 +12,11 @@ use Rattle.pblk_model.proofs.GeometryLemmas.{holds, none_refused}
 
 -- ---- a geometry that isn't refused
 
-abbrev AllPass : List (ℕ × Bool) → Type 0
+abbrev pub AllPass : List (ℕ × Bool) → Type 0
 AllPass [] = Unit {0}
 AllPass (check ∷ checks) = (check.1 ≡ true) × AllPass checks
 
-all_pass : (checks : List (ℕ × Bool)) → first_failing checks ≡ None → AllPass checks
+pub all_pass : (checks : List (ℕ × Bool)) → first_failing checks ≡ None → AllPass checks
 all_pass [] e = tt
 all_pass (check ∷ checks) e =
     let first = first_passes check.1 (first_failing checks) check.0 e in

@@ -6,14 +6,9 @@ use Rattle.std.proofs.lemmas.List.{append_assoc, length-append, length-take-le, 
 use Rattle.pblk_model.specs.Bytes.{zeros}
 use Rattle.block_port.specs.Own.{sectors_of}
 use Rattle.plain_port.specs.Sectors.{put_from}
-use Rattle.block_port.proofs.OwnLemmas.{sectors_append}
+use Rattle.block_port.proofs.OwnLemmas.{length_sectors, sectors_append}
 use Rattle.lemmas.proofs.Numbers.{suc-times}
 use Rattle.lemmas.proofs.Parts.{part_length, put_at_end}
-
-pub length_sectors : (size n : ℕ) (bytes : List ℕ) → length (sectors_of size n bytes) ≡ n
-unfolding sectors_of
-length_sectors size zero bytes = refl
-length_sectors size (suc n) bytes = ap suc (length_sectors size n (drop size bytes))
 
 pub sectors_of_zeros : (size n : ℕ) → sectors_of size n (replicate (n * size) 0) ≡ replicate n (zeros size)
 unfolding sectors_of zeros

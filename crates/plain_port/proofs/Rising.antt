@@ -9,7 +9,7 @@ use Rattle.block_port.specs.Own.{OwnWrite, PlacedSector, placed_from, lines_of, 
 use Rattle.block_port.specs.Port.{ModelPort, Learns, Rise, positions}
 use Rattle.plain_port.specs.Sectors.{put_from}
 use Rattle.plain_port.specs.Plain.{lines_in, with_write}
-use Rattle.plain_port.proofs.Cutting.{length_sectors}
+use Rattle.block_port.proofs.OwnLemmas.{length_sectors}
 use Rattle.block_port.proofs.PortLemmas.{rise_append, rise_placed}
 
 pub rise_ends : (a b : ℕ) (xs : List PlacedSector) → Rise a b xs → a ≤ b
@@ -19,10 +19,6 @@ rise_ends a b (x ∷ xs) h = let later = rise_ends (x.position + 1) b xs h.1 in 
 pub rise_later : (a b c : ℕ) (xs : List PlacedSector) → Rise a b xs → b ≤ c → Rise a c xs
 rise_later a b c [] h le = omega (arith, h, le)
 rise_later a b c (x ∷ xs) h le = (h.0, rise_later (x.position + 1) b c xs h.1 le)
-
-pub length_placed : (p lba : ℕ) (sectors : List (List ℕ)) → length (placed_from p lba sectors) ≡ length sectors
-length_placed p lba [] = refl
-length_placed p lba (s ∷ sectors) = ap suc (length_placed (p + 1) (lba + 1) sectors)
 
 -- all lines are below where they end
 pub users_all : (a b c : ℕ) (xs : List PlacedSector) → Rise a b xs → b ≤ c → users (positions xs) c ≡ length xs

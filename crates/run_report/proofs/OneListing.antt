@@ -1,47 +1,21 @@
 -- A listing stands for one list of words and one end.
-use Rattle.std.proofs.Common.{◌≡◌, ℕ, ◌+◌, ◌/◌, ◌^◌, ◌<◌, Bool, true, false, if◌then◌else◌, List, [], ◌∷◌, ◌++◌, map, length, codes, inl, inr, refl, sym, ap, subst, ◌∙◌, append_assoc, arith, length-append}
+use Rattle.std.proofs.Common.{◌≡◌, ℕ, ◌+◌, ◌^◌, ◌<◌, Bool, true, false, if◌then◌else◌, List, [], ◌∷◌, ◌++◌, map, length, codes, refl, sym, ap, ◌∙◌, append_assoc, arith, length-append}
 use Rattle.std.specs.List.{AllByRecursion, enumerate_from, flat_map}
 use Rattle.std.specs.Fmt.{decimal}
-use Rattle.std.specs.Int.{w64}
-use Rattle.std.specs.Str.{bytes_eq}
-use Rattle.std.proofs.lemmas.Bool.{cases_Bool}
-use Rattle.std.proofs.lemmas.Slice.Eq.{bytes_eq-Decides}
 use Rattle.std.proofs.lemmas.Grind.{flat_map-append}
 use Rattle.std.proofs.lemmas.List.{append-nil}
-use Rattle.pblk_model.specs.Bytes.{number_at}
-use Rattle.pblk_model.specs.History.{tag_sector}
 use Rattle.pblk_model.specs.Text.{Word, Tag, Mixed, word_of, word_text}
-use Rattle.pblk_laws.proofs.Fields.{Row, row_text, IsPlain, IsPlainRow, same_rows, plain_decimal, no_number}
+use Rattle.pblk_laws.proofs.Fields.{Row, row_text, IsPlain, IsPlainRow, same_rows, plain_decimal}
 use Rattle.pblk_laws.proofs.OutcomeRows.{WordFits}
 use Rattle.pblk_laws.proofs.TextCuts.{same_decimal}
+use Rattle.pblk_laws.proofs.OneTranscript.{same_word}
+use Rattle.pblk_laws.proofs.OutcomeBounds.{word_fits}
 use Rattle.block_port.specs.Port.{IsSectorSize}
 use Rattle.run_report.specs.Listing.{is_blank, sector_line, end_line, listing_of}
 use Rattle.run_report.proofs.Blanks.{blank_word}
 use Rattle.run_report.proofs.ListedLines.{lines_from}
-use Rattle.pblk_model.proofs.BytesLemmas.{tag_below}
 
 -- Words.
-
-word_fits : (sector : List ℕ) → WordFits (word_of sector)
-unfolding tag_sector
-word_fits sector =
-    let tag = number_at w64 0 sector in
-    elim (cases_Bool (bytes_eq sector (tag_sector (length sector) tag))) [
-      | inl e ↦
-          let same : sector ≡ tag_sector (length sector) tag = (bytes_eq-Decides sector (tag_sector (length sector) tag)).0 e in
-          let low : tag < 2 ^ 64 = subst (λ xs. number_at w64 0 xs < 2 ^ 64) (sym same) (tag_below (length sector / 8) tag) in
-          rw e (omega arith)
-      | inr e ↦ rw e tt
-    ]
-
-no_mixed : (n : ℕ) → n < 10 ^ 64 → decimal n ≡ codes "mixed" → ⊥
-no_mixed n h e = no_number 109 _ n (omega arith) h (sym e)
-
-same_word : (a b : Word) → WordFits a → WordFits b → word_text a ≡ word_text b → a ≡ b
-same_word (Tag a) (Tag b) ha hb e = ap Tag (same_decimal a b ha hb e)
-same_word (Tag a) Mixed ha hb e = absurd (no_mixed a ha e)
-same_word Mixed (Tag b) ha hb e = absurd (no_mixed b hb (sym e))
-same_word Mixed Mixed ha hb e = refl
 
 plain_word : (w : Word) → WordFits w → IsPlain (word_text w)
 plain_word (Tag t) h = plain_decimal t h

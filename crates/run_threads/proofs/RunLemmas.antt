@@ -3,6 +3,7 @@ use Rattle.std.proofs.Common.{List, [], ap, arith, length, refl, replicate, suc,
 use Rattle.std.specs.List.{flat_map}
 use Rattle.std.proofs.lemmas.List.{append-nil, append_assoc, length-append, length-replicate}
 use Rattle.std.proofs.lemmas.List.Concat.{flat_map-append}
+use Rattle.block_port.proofs.OwnLemmas.{length_placed}
 use Rattle.block_port.proofs.PortLemmas.{learns_more}
 use Rattle.block_port.specs.Own.{lines_of, placed_from}
 use Rattle.block_port.specs.Port.{Learns, ModelPort, written_by}
@@ -29,14 +30,10 @@ run_faults told (c ∷ cs) (a ∷ rows) old new h = run_faults told cs rows h.0 
 
 -- What a port has written.
 
-length-placed : (position lba : ℕ) (sectors : List (List ℕ)) → length (placed_from position lba sectors) ≡ length sectors
-length-placed position lba [] = refl
-length-placed position lba (sector ∷ sectors) = ap suc (length-placed (position + 1) (lba + 1) sectors)
-
 own_written : (size : ℕ) (c : Command) (a : Answer) → length (flat_map lines_of (own_of size c a)) ≡ written_of c a
 own_written size (Write lba count tag) (Placed place) =
     ap length (append-nil (placed_from place.first lba (replicate count (tag_sector size tag))))
-    ∙ length-placed place.first lba (replicate count (tag_sector size tag)) ∙ length-replicate count (tag_sector size tag)
+    ∙ length_placed place.first lba (replicate count (tag_sector size tag)) ∙ length-replicate count (tag_sector size tag)
 own_written size c a = refl
 
 written_more : (told : List ℕ → ℕ) (old : ModelPort) (c : Command) (a : Answer) (new : ModelPort) → Answers told old c a new

@@ -4,8 +4,8 @@ use Rattle.pblk_model.specs.Bytes.{zeros}
 use Rattle.block_port.specs.Own.{OwnWrite, lines_of, sectors_of}
 use Rattle.block_port.specs.Port.{ModelPort}
 use Rattle.plain_port.specs.Plain.{lines_in}
-use Rattle.plain_port.proofs.Cutting.{length_sectors}
-use Rattle.plain_port.proofs.Rising.{contents_more, length_placed, lines_more, rise_length, rise_more, written_over}
+use Rattle.block_port.proofs.OwnLemmas.{length_placed, length_sectors}
+use Rattle.plain_port.proofs.Rising.{contents_more, lines_more, rise_length, rise_more, written_over}
 use Rattle.plain_port.proofs.plain.PlainPort.append.Goals as goal
 
 pub overflow_add-self : goal.overflow_add-self
