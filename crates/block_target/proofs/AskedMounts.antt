@@ -12,7 +12,17 @@ use Rattle.block_target.specs.Mount.{MountView, IsMount, with_pad, logs_in}
 pub mount_asked : (v : MountView) (c d : Core) (p : PoolView) (filling : Filling) → IsMount v c p filling → Stands v.image (logs_in v) d → d.window ≡ c.window
     → IsMount (with_pad v (pad_of d)) d p filling
 mount_asked v c d p filling m stands same = record {
-  sound = record { legal = m.sound.legal; beginning = m.sound.beginning; has_begun = m.sound.has_begun; first_low = m.sound.first_low; found_is = m.sound.found_is; count = m.sound.count; each = λ number u there. let of = m.sound.each number u there in record { shape = of.shape; media = of.media; unarmed = of.unarmed; fit = of.fit } };
+  sound = record {
+    legal = m.sound.legal;
+    beginning = m.sound.beginning;
+    has_begun = m.sound.has_begun;
+    first_low = m.sound.first_low;
+    found_is =
+        m.sound.found_is;
+    count = m.sound.count;
+    each = λ number u there. let of =
+        m.sound.each number u there in record { shape = of.shape; media = of.media; unarmed = of.unarmed; fit = of.fit };
+  };
   stands = stands;
   pad = refl;
   level = m.level;

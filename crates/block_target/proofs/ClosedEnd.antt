@@ -12,7 +12,6 @@ use Rattle.pblk_world.specs.EngineLog.{Placed, answers, is_answered, placed_on, 
 use Rattle.core_laws.specs.PlacerOf.{unanswered_on}
 use Rattle.core_laws.proofs.Turns.{its_turn as turn_at}
 use Rattle.prefix_law.proofs.Prefix.{end_where_answered}
-use Rattle.core_laws.proofs.SimpleMounts.{simple_of}
 use Rattle.pblk_core.specs.Filling.{Filling}
 use Rattle.pblk_core.specs.declared.target_core.Core.{Core}
 use Rattle.block_target.specs.Mount.{MountView, IsMount, engine_log, logs_in, synced_in, world_in}
@@ -23,13 +22,15 @@ use Rattle.lemmas.proofs.Tests.{same_number}
 
 answered : (log : List Logged) → ((unit : ℕ) → unanswered_on log unit ≡ None) → (p : Placed) → Contains (placements log) p → is_answered log p ≡ true
 answered log idle p there =
-    let at : IsAmong (placed_on log p.stripe.unit) p = in_filter (λ (q : Placed). q.stripe.unit == p.stripe.unit) (placements log) p (among_contained (placements log) p there) (same_number p.stripe.unit) in
-    let few : length (placed_on log p.stripe.unit) ≤ length (answers log p.stripe.unit) = none_past (placed_on log p.stripe.unit) (length (answers log p.stripe.unit)) (idle p.stripe.unit) in
+    let at : IsAmong (placed_on log p.stripe.unit) p =
+    in_filter (λ (q : Placed). q.stripe.unit == p.stripe.unit) (placements log) p (among_contained (placements log) p there) (same_number p.stripe.unit) in
+    let few : length (placed_on log p.stripe.unit) ≤ length (answers log p.stripe.unit) =
+    none_past (placed_on log p.stripe.unit) (length (answers log p.stripe.unit)) (idle p.stripe.unit) in
     let low : at.0 < length (placed_on log p.stripe.unit) = slice_get_within (placed_on log p.stripe.unit) at.0 p at.1 in
     let its : turn log p ≡ at.0 = turn_at log p.stripe.unit at.0 p at.1 in
     let within : turn log p < length (answers log p.stripe.unit) = omega arith in
     ap is_some (got_within (answers log p.stripe.unit) (turn log p) within).1
 
 pub end_closed : (v : MountView) (c : Core) (p : PoolView) (f : Filling) → IsMount v c p f → IsSealed v.image → end (media v.image (logs_in v)) ≡ synced_in v
-end_closed v c p f m sealed = end_where_answered v.image (world_in v) m.sound.beginning (simple_of v.image (world_in v) m.sound.legal).mount sealed m.sound.has_begun
-    (simple_of v.image (world_in v) m.sound.legal).lost (answered (engine_log v) m.idle)
+end_closed v c p f m sealed = end_where_answered v.image (world_in v) m.sound.beginning m.sound.legal.simple.mount sealed m.sound.has_begun
+    m.sound.legal.simple.engine.lost (answered (engine_log v) m.idle)

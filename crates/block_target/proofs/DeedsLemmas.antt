@@ -14,5 +14,6 @@ pub world_more : (s : Shape) (deeds : List Deed) (d : Deed) → world_of s (deed
 world_more s deeds d = fold-append (after_deed s) [] deeds (d ∷ [])
 
 -- the logs once the engine decided
-pub logs_decided : (s : Shape) (deeds : List Deed) (e : EngineEvent) → log_of (world_of s (deeds ++ Decides e ∷ [])) ≡ after (log_of (world_of s deeds)) e (knows_all s (world_of s deeds))
+pub logs_decided : (s : Shape) (deeds : List Deed) (e : EngineEvent)
+    → log_of (world_of s (deeds ++ Decides e ∷ [])) ≡ after (log_of (world_of s deeds)) e (knows_all s (world_of s deeds))
 logs_decided s deeds e = ap log_of (world_more s deeds (Decides e)) ∙ engine_logs s e (world_of s deeds)

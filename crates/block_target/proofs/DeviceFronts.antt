@@ -1,5 +1,4 @@
 -- The device that a port for one session is: what it learns where nothing more was taken, and its fronts.
-use Rattle.core_laws.proofs.SimpleMounts.{simple_of}
 use Rattle.std.proofs.Common.{◌≡◌, ℕ, ◌+◌, ◌<◌, ◌≤◌, ◌^◌, nat_lt, suc, Some, Bool, true, false, cond, List, [], ◌∷◌, length, refl, sym, ap, ap₂, subst, ◌∙◌, arith, append-nil}
 use Rattle.std.specs.Prelude.{map, slice_get}
 use Rattle.std.proofs.lemmas.Option.{slice_get_within}
@@ -41,7 +40,8 @@ below_same n [] = refl
 below_same n (t ∷ ts) = go (below_same n ts) (nat_lt t.entry.position n)
   where
     go : users (map (λ t. t.entry.position) ts) n ≡ length (filter (λ t. nat_lt t.entry.position n) ts) → (b : Bool)
-        → length (cond b (t.entry.position ∷ filter (λ q. nat_lt q n) (map (λ t. t.entry.position) ts)) (filter (λ q. nat_lt q n) (map (λ t. t.entry.position) ts)))
+        → length (cond b (t.entry.position ∷ filter (λ q. nat_lt q n) (map (λ t. t.entry.position) ts))
+        (filter (λ q. nat_lt q n) (map (λ t. t.entry.position) ts)))
         ≡ length (cond b (t ∷ filter (λ t. nat_lt t.entry.position n) ts) (filter (λ t. nat_lt t.entry.position n) ts))
     go rest true = ap (λ k. suc k) rest
     go rest false = rest
@@ -55,9 +55,13 @@ all_pass n (t ∷ ts) low = go (is_users t.entry.source) (all_pass n ts (λ k u 
     here : nat_lt t.entry.position n ≡ true
     here = lt_true t.entry.position n (low 0 t refl)
 
-    go : (b : Bool) → length (filter (λ t. nat_lt t.entry.position n) (filter (λ t. is_users t.entry.source) ts)) ≡ length (filter (λ t. is_users t.entry.source) ts)
-        → length (filter (λ t. nat_lt t.entry.position n) (cond b (t ∷ filter (λ t. is_users t.entry.source) ts) (filter (λ t. is_users t.entry.source) ts))) ≡ length (cond b (t ∷ filter (λ t. is_users t.entry.source) ts) (filter (λ t. is_users t.entry.source) ts))
-    go true rest = ap (λ c. length (cond c (t ∷ filter (λ t. nat_lt t.entry.position n) (filter (λ t. is_users t.entry.source) ts)) (filter (λ t. nat_lt t.entry.position n) (filter (λ t. is_users t.entry.source) ts)))) here ∙ ap (λ k. suc k) rest
+    go : (b : Bool) → length (filter (λ t. nat_lt t.entry.position n) (filter (λ t. is_users t.entry.source) ts)) ≡ length
+        (filter (λ t. is_users t.entry.source) ts)
+        → length (filter (λ t. nat_lt t.entry.position n) (cond b (t ∷ filter (λ t. is_users t.entry.source) ts) (filter (λ t. is_users t.entry.source) ts))) ≡
+        length (cond b (t ∷ filter (λ t. is_users t.entry.source) ts) (filter (λ t. is_users t.entry.source) ts))
+    go true rest = ap (λ c. length
+        (cond c (t ∷ filter (λ t. nat_lt t.entry.position n) (filter (λ t. is_users t.entry.source) ts))
+        (filter (λ t. nat_lt t.entry.position n) (filter (λ t. is_users t.entry.source) ts)))) here ∙ ap (λ k. suc k) rest
     go false rest = rest
 
 -- ---- the fronts
@@ -76,7 +80,8 @@ front_taken_is s sound =
     within : (k : ℕ) (t : Taken) → slice_get (takes (engine_log s.mount)) k ≡ Some t → t.entry.position < taken_in s.mount
     within k t there =
         let at : t.entry.position ≡ first_position (engine_log s.mount) + k =
-        numbered_at (first_position (engine_log s.mount)) (length (takes (engine_log s.mount))) (takes (engine_log s.mount)) k t (numbered_in s.mount.image (world_in s.mount) (simple_of s.mount.image (world_in s.mount) sound.legal)) there in
+        numbered_at (first_position (engine_log s.mount)) (length (takes (engine_log s.mount))) (takes (engine_log s.mount)) k t
+        (numbered_in s.mount.image (world_in s.mount) sound.legal.simple) there in
         let low : k < length (takes (engine_log s.mount)) = slice_get_within (takes (engine_log s.mount)) k t there in
         omega arith
 
@@ -89,7 +94,8 @@ front_synced_is s =
     }
 
 -- the session's own writes are the history still, where what it has seen is small
-pub same_serial : (old new : SerialView) → IsSound new.mount → IsSerial old → IsSameMount old.mount new.mount → new.own ≡ old.own → new.worns ≡ old.worns → new.seen < 2 ^ 63 → IsSerial new
+pub same_serial : (old new : SerialView) → IsSound new.mount → IsSerial old → IsSameMount old.mount new.mount → new.own ≡ old.own → new.worns ≡ old.worns
+    → new.seen < 2 ^ 63 → IsSerial new
 same_serial old new sound is same own worns small = record {
   sound = sound;
   alone = lines_kept old.mount new.mount same ∙ is.alone ∙ ap (flat_map lines_of) (sym own);
@@ -101,10 +107,12 @@ same_serial old new sound is same own worns small = record {
 
 -- ---- what a call answers
 
-pub seen_taken : (old new : SerialView) → IsSound new.mount → old.seen ≤ taken_in new.mount → new.seen ≡ taken_in new.mount → IsSeen (front_taken new.mount) (device old) (device new)
+pub seen_taken : (old new : SerialView) → IsSound new.mount → old.seen ≤ taken_in new.mount → new.seen ≡ taken_in new.mount
+    → IsSeen (front_taken new.mount) (device old) (device new)
 seen_taken old new sound holds seen = record { is = front_taken_is new sound; holds = holds; seen = seen }
 
-pub seen_synced : (old new : SerialView) → old.seen ≤ synced_in new.mount → new.seen ≡ synced_in new.mount → IsSeen (front_synced new.mount) (device old) (device new)
+pub seen_synced : (old new : SerialView) → old.seen ≤ synced_in new.mount → new.seen ≡ synced_in new.mount
+    → IsSeen (front_synced new.mount) (device old) (device new)
 seen_synced old new holds seen = record { is = front_synced_is new; holds = holds; seen = seen }
 
 -- ---- what a flush answers
@@ -116,7 +124,8 @@ synced_small v f sound is =
     let small : taken_in v ≤ 2 ^ 62 = taken_small v sound in
     omega arith
 
-pub all_synced : (old new : MountView) (f : Front) (wanted : ℕ) → IsSound old → IsSound new → IsSameMount old new → wanted ≡ taken_in old → f ≡ front_synced new → wanted ≤ f.position → synced_in new ≡ taken_in new
+pub all_synced : (old new : MountView) (f : Front) (wanted : ℕ) → IsSound old → IsSound new → IsSameMount old new → wanted ≡ taken_in old → f ≡ front_synced new
+    → wanted ≤ f.position → synced_in new ≡ taken_in new
 all_synced old new f wanted a b same all is enough =
     let at : f.position ≡ synced_in new = ap (λ x. x.position) is in
     let below : synced_in new ≤ taken_in new = synced_within new.image.shape (engine_log new) in
@@ -127,7 +136,8 @@ all_synced old new f wanted a b same all is enough =
 pub all_taken : (old new : MountView) (wanted : ℕ) → IsSound old → IsSound new → IsSameMount old new → wanted ≡ taken_in old → wanted ≡ taken_in new
 all_taken old new wanted a b same all = all ∙ sym (taken_kept old new a b same)
 
-pub flush_front : (v old new : SerialView) (f : Front) (wanted : ℕ) → v ≡ old → old.seen ≤ taken_in old.mount → wanted ≡ taken_in v.mount → f ≡ front_synced new.mount → wanted ≤ f.position → new.seen ≡ f.position → IsSeen f (device old) (device new)
+pub flush_front : (v old new : SerialView) (f : Front) (wanted : ℕ) → v ≡ old → old.seen ≤ taken_in old.mount → wanted ≡ taken_in v.mount
+    → f ≡ front_synced new.mount → wanted ≤ f.position → new.seen ≡ f.position → IsSeen f (device old) (device new)
 flush_front v old new f wanted is holds all at enough seen =
     let was : taken_in old.mount ≡ taken_in v.mount = ap (λ s. taken_in s.mount) (sym is) in
     let to : f.position ≡ synced_in new.mount = ap (λ x. x.position) at in
@@ -149,7 +159,8 @@ taken_front_small v f sound is =
     let small : taken_in v ≤ 2 ^ 62 = taken_small v sound in
     omega arith
 
-pub read_front : (v old new : SerialView) (f : Front) → v ≡ old → old.seen ≤ taken_in old.mount → f ≡ front_taken v.mount → IsSound v.mount → IsSound new.mount → IsSameMount v.mount new.mount → new.seen ≡ f.position
+pub read_front : (v old new : SerialView) (f : Front) → v ≡ old → old.seen ≤ taken_in old.mount → f ≡ front_taken v.mount → IsSound v.mount → IsSound new.mount
+    → IsSameMount v.mount new.mount → new.seen ≡ f.position
     → IsSeen f (device old) (device new)
 read_front v old new f is holds at a b same seen =
     let was : taken_in old.mount ≡ taken_in v.mount = ap (λ s. taken_in s.mount) (sym is) in

@@ -14,7 +14,7 @@ use Rattle.pblk_world.specs.Legal.{IsLegal}
 use Rattle.pblk_world.specs.AtRest.{knows_last, logs_at}
 use Rattle.pblk_world.specs.Space.{room}
 use Rattle.pblk_world.proofs.Growing.{grows}
-use Rattle.core_laws.specs.PlainWorlds.{IsPlainWorld}
+use Rattle.core_laws.specs.SimpleMounts.{IsSimpleMount}
 use Rattle.placed_laws.specs.StripePrograms.{HasHappened}
 use Rattle.placed_laws.proofs.Happened.{happened}
 use Rattle.step_laws.specs.Whole.{engine_step, unit_step, next_maker, opening_maker}
@@ -25,7 +25,7 @@ use Rattle.step_laws.specs.Opened.{after_events, after_units}
 use Rattle.pblk_core.specs.Named.{work_of}
 use Rattle.block_target.specs.Deeds.{Deed, Readies, Decides, Does, Lands, NotesReset, after_deed, world_of, last_event}
 use Rattle.block_target.proofs.UnitStands.{work_beside}
-use Rattle.core_laws.proofs.PlainWorldsLemmas.{plain_before as plain_tail}
+use Rattle.core_laws.proofs.SimpleMounts.{simple_before as simple_tail}
 use Rattle.lemmas.proofs.Numbers.{fun_same}
 use Rattle.lemmas.proofs.Parts.{get_first, get_last}
 use Rattle.pblk_world.proofs.WorldLemmas.{log_elsewhere, log_here}
@@ -41,7 +41,8 @@ last_within i w n author legal = go (slice_get (log_of w 0) n) refl
 
 -- ---- a longer world
 
-pub same_lengths : (i : Image) (later w : World) (n : ℕ) → IsLegal i w → 0 < n → n ≤ length (log_of w 0) → logs_at n (log_of (later ++ w)) ≡ logs_at n (log_of w)
+pub same_lengths : (i : Image) (later w : World) (n : ℕ) → IsLegal i w → 0 < n → n ≤ length (log_of w 0)
+    → logs_at n (log_of (later ++ w)) ≡ logs_at n (log_of w)
 same_lengths i later w n legal some within = fun_same (logs_at n (log_of (later ++ w))) (logs_at n (log_of w)) each
   where
     engine : (more : List Logged) × (log_of (later ++ w) 0 ≡ log_of w 0 ++ more)
@@ -60,7 +61,8 @@ same_lengths i later w n legal some within = fun_same (logs_at n (log_of (later 
 pub no_shorter : (later w : World) (author : ℕ) → length (log_of w author) ≤ length (log_of (later ++ w) author)
 no_shorter later w author =
     let more : (more : List Logged) × (log_of (later ++ w) author ≡ log_of w author ++ more) = grows later w author in
-    let long : length (log_of (later ++ w) author) ≡ length (log_of w author) + length more.0 = ap (λ (log : List Logged). length log) more.1 ∙ length-append (log_of w author) more.0 in
+    let long : length (log_of (later ++ w) author) ≡ length (log_of w author) + length more.0 = ap (λ (log : List Logged). length log) more.1
+    ∙ length-append (log_of w author) more.0 in
     omega arith
 
 -- the world of what was done, as it was before the last things
@@ -80,7 +82,8 @@ events_later s unit w (e ∷ events) =
 units_later : (s : Shape) (unit : ℕ) (w : World) (all : List (List UnitEvent)) → (later : World) × (after_units s unit w all ≡ later ++ w)
 units_later s unit w [] = ([], refl)
 units_later s unit w (events ∷ all) =
-    followed w (after_events s unit w events) (after_units s unit w (events ∷ all)) (events_later s unit w events) (units_later s (suc unit) (after_events s unit w events) all)
+    followed w (after_events s unit w events) (after_units s unit w (events ∷ all)) (events_later s unit w events)
+    (units_later s (suc unit) (after_events s unit w events) all)
 
 deed_later : (s : Shape) (w : World) (d : Deed) → (later : World) × (after_deed s w d ≡ later ++ w)
 deed_later s w (Readies all) = units_later s 0 w all
@@ -91,34 +94,35 @@ deed_later s w (NotesReset unit) = (engine_step s (ResetDone unit (last_event w 
 
 pub deeds_later : (i : Image) (w : World) (deeds : List Deed) → (later : World) × (with_deeds i w deeds ≡ later ++ w)
 deeds_later i w [] = ([], refl)
-deeds_later i w (d ∷ deeds) = followed w (after_deed i.shape w d) (with_deeds i w (d ∷ deeds)) (deed_later i.shape w d) (deeds_later i (after_deed i.shape w d) deeds)
+deeds_later i w (d ∷ deeds) = followed w (after_deed i.shape w d) (with_deeds i w (d ∷ deeds)) (deed_later i.shape w d)
+    (deeds_later i (after_deed i.shape w d) deeds)
 
--- an earlier world is as plain
-pub plain_earlier : (i : Image) (later w : World) → IsPlainWorld i (later ++ w) → IsPlainWorld i w
-plain_earlier i [] w plain = plain
-plain_earlier i (step ∷ later) w plain = plain_earlier i later w (plain_tail i step (later ++ w) plain)
+-- an earlier mount is as simple
+pub simple_earlier : (i : Image) (later w : World) → IsSimpleMount i (later ++ w) → IsSimpleMount i w
+simple_earlier i [] w simple = simple
+simple_earlier i (step ∷ later) w simple = simple_earlier i later w (simple_tail i step (later ++ w) simple)
 
-plain_then : (i : Image) (w new : World) → (later : World) × (new ≡ later ++ w) → IsPlainWorld i new → IsPlainWorld i w
-plain_then i w new is plain = plain_earlier i is.0 w (subst (IsPlainWorld i) is.1 plain)
+simple_then : (i : Image) (w new : World) → (later : World) × (new ≡ later ++ w) → IsSimpleMount i new → IsSimpleMount i w
+simple_then i w new is simple = simple_earlier i is.0 w (subst (IsSimpleMount i) is.1 simple)
 
-pub plain_before : (i : Image) (w : World) (deeds : List Deed) → IsPlainWorld i (with_deeds i w deeds) → IsPlainWorld i w
-plain_before i w deeds plain = plain_then i w (with_deeds i w deeds) (deeds_later i w deeds) plain
+pub simple_before : (i : Image) (w : World) (deeds : List Deed) → IsSimpleMount i (with_deeds i w deeds) → IsSimpleMount i w
+simple_before i w deeds simple = simple_then i w (with_deeds i w deeds) (deeds_later i w deeds) simple
 
 -- ---- as the engine's last event left the world
 
 -- The world as it was then: after it units alone made steps, which changed nothing of what is to be done.
 pub record IsLeft (i : Image) (w : World) : Type 0 where
   pub left : World
-  pub legal : IsPlainWorld i left
+  pub simple : IsSimpleMount i left
   pub own : log_of left 0 ≡ log_of w 0
   pub logs : logs_at (length (log_of w 0)) (log_of w) ≡ log_of left
   pub work : (pad : ℕ) → work_of i (log_of left) pad ≡ work_of i (log_of w) pad
   pub room : room i (log_of left) ≡ room i (log_of w)
 
-none_left : (i : Image) → IsPlainWorld i [] → IsLeft i []
-none_left i plain = record {
+none_left : (i : Image) → IsSimpleMount i [] → IsLeft i []
+none_left i simple = record {
   left = [];
-  legal = plain;
+  simple = simple;
   own = refl;
   logs = fun_same (logs_at 0 (log_of [])) (log_of []) each;
   work = λ pad. refl;
@@ -129,10 +133,10 @@ none_left i plain = record {
     each zero = refl
     each (suc unit) = refl
 
-engine_left : (i : Image) (w : World) (e : EngineEvent) → IsPlainWorld i (engine_step i.shape e w ∷ w) → IsLeft i (engine_step i.shape e w ∷ w)
-engine_left i w e plain = record {
+engine_left : (i : Image) (w : World) (e : EngineEvent) → IsSimpleMount i (engine_step i.shape e w ∷ w) → IsLeft i (engine_step i.shape e w ∷ w)
+engine_left i w e simple = record {
   left = next;
-  legal = plain;
+  simple = simple;
   own = refl;
   logs = fun_same (logs_at (length (log_of next 0)) (log_of next)) (log_of next) each;
   work = λ pad. refl;
@@ -142,35 +146,39 @@ engine_left i w e plain = record {
     next : World
     next = engine_step i.shape e w ∷ w
 
-    before : IsPlainWorld i w
-    before = plain_tail i (engine_step i.shape e w) w plain
+    before : IsSimpleMount i w
+    before = simple_tail i (engine_step i.shape e w) w simple
 
     log_now : log_of next 0 ≡ log_of w 0 ++ (engine_step i.shape e w).logged ∷ []
     log_now = log_here (engine_step i.shape e w) w 0 refl
 
     last : slice_get (log_of next 0) (length (log_of next 0) - 1) ≡ Some (engine_step i.shape e w).logged
     last =
-        let long : length (log_of next 0) ≡ length (log_of w 0) + 1 = ap (λ (log : List Logged). length log) log_now ∙ length-append (log_of w 0) ((engine_step i.shape e w).logged ∷ []) in
+        let long : length (log_of next 0) ≡ length (log_of w 0) + 1 = ap (λ (log : List Logged). length log) log_now
+        ∙ length-append (log_of w 0) ((engine_step i.shape e w).logged ∷ []) in
         let at : length (log_of next 0) - 1 ≡ length (log_of w 0) = omega arith in
         ap₂ (λ (log : List Logged) k. slice_get log k) log_now at ∙ get_last (log_of w 0) (engine_step i.shape e w).logged
 
     each : (author : ℕ) → logs_at (length (log_of next 0)) (log_of next) author ≡ log_of next author
     each zero = take-length (log_of next 0)
     each (suc unit) =
-        let still : log_of next (suc unit) ≡ log_of w (suc unit) = log_elsewhere (engine_step i.shape e w) w (suc unit) (λ same. let no : 0 ≡ suc unit = same in absurd (omega arith)) in
-        let all : known (engine_step i.shape e w).logged (suc unit) ≡ length (log_of w (suc unit)) = known_whole i w before.legal (suc unit) in
+        let still : log_of next (suc unit) ≡ log_of w (suc unit) =
+        log_elsewhere (engine_step i.shape e w) w (suc unit) (λ same. let no : 0 ≡ suc unit = same in absurd (omega arith)) in
+        let all : known (engine_step i.shape e w).logged (suc unit) ≡ length (log_of w (suc unit)) = known_whole i w before.mount.legal (suc unit) in
         ap (λ (o : Option Logged). take (knows_last o (suc unit)) (log_of next (suc unit))) last
         ∙ ap₂ (λ k (log : List Logged). take k log) all still
         ∙ take-length (log_of w (suc unit)) ∙ sym still
 
-unit_left : (i : Image) (w : World) (unit : ℕ) (e : UnitEvent) (maker : Maker) → IsPlainWorld i w → IsLeft i w → IsLeft i (unit_step i.shape unit e maker w ∷ w)
-unit_left i w unit e maker plain was = record {
+unit_left : (i : Image) (w : World) (unit : ℕ) (e : UnitEvent) (maker : Maker) → IsSimpleMount i w → IsLeft i w
+    → IsLeft i (unit_step i.shape unit e maker w ∷ w)
+unit_left i w unit e maker simple was = record {
   left = was.left;
-  legal = was.legal;
+  simple = was.simple;
   own = was.own ∙ sym engine;
-  logs = ap (λ n. logs_at n (log_of next)) (ap (λ (log : List Logged). length log) engine) ∙ fun_same (logs_at (length (log_of w 0)) (log_of next)) (logs_at (length (log_of w 0)) (log_of w)) each ∙ was.logs;
-  work = λ pad. was.work pad ∙ sym (work_beside i w unit e maker pad plain);
-  room = was.room ∙ sym (room_stays i w unit e maker plain);
+  logs = ap (λ n. logs_at n (log_of next)) (ap (λ (log : List Logged). length log) engine)
+      ∙ fun_same (logs_at (length (log_of w 0)) (log_of next)) (logs_at (length (log_of w 0)) (log_of w)) each ∙ was.logs;
+  work = λ pad. was.work pad ∙ sym (work_beside i w unit e maker pad simple);
+  room = was.room ∙ sym (room_stays i w unit e maker simple.mount.legal);
 }
   where
     next : World
@@ -184,32 +192,36 @@ unit_left i w unit e maker plain was = record {
     each (suc u) =
         let more : (more : List Logged) × (log_of next (suc u) ≡ log_of w (suc u) ++ more) = grows (unit_step i.shape unit e maker w ∷ []) w (suc u) in
         ap₂ (λ (own log : List Logged). take (knows_last (slice_get own (length (log_of w 0) - 1)) (suc u)) log) engine more.1
-        ∙ take-append-le (knows_last (slice_get (log_of w 0) (length (log_of w 0) - 1)) (suc u)) (log_of w (suc u)) more.0 (last_within i w (length (log_of w 0) - 1) (suc u) plain.legal)
+        ∙ take-append-le (knows_last (slice_get (log_of w 0) (length (log_of w 0) - 1)) (suc u)) (log_of w (suc u)) more.0
+        (last_within i w (length (log_of w 0) - 1) (suc u) simple.mount.legal)
 
-events_left : (i : Image) (unit : ℕ) (w : World) (events : List UnitEvent) → IsPlainWorld i (after_events i.shape unit w events) → IsLeft i w → IsLeft i (after_events i.shape unit w events)
-events_left i unit w [] plain was = was
-events_left i unit w (e ∷ events) plain was =
+events_left : (i : Image) (unit : ℕ) (w : World) (events : List UnitEvent) → IsSimpleMount i (after_events i.shape unit w events) → IsLeft i w
+    → IsLeft i (after_events i.shape unit w events)
+events_left i unit w [] simple was = was
+events_left i unit w (e ∷ events) simple was =
     let next : World = unit_step i.shape unit e (opening_maker w) w ∷ w in
-    let before : IsPlainWorld i w = plain_then i w (after_events i.shape unit w (e ∷ events)) (events_later i.shape unit w (e ∷ events)) plain in
-    events_left i unit next events plain (unit_left i w unit e (opening_maker w) before was)
+    let before : IsSimpleMount i w = simple_then i w (after_events i.shape unit w (e ∷ events)) (events_later i.shape unit w (e ∷ events)) simple in
+    events_left i unit next events simple (unit_left i w unit e (opening_maker w) before was)
 
-units_left : (i : Image) (unit : ℕ) (w : World) (all : List (List UnitEvent)) → IsPlainWorld i (after_units i.shape unit w all) → IsLeft i w → IsLeft i (after_units i.shape unit w all)
-units_left i unit w [] plain was = was
-units_left i unit w (events ∷ all) plain was =
+units_left : (i : Image) (unit : ℕ) (w : World) (all : List (List UnitEvent)) → IsSimpleMount i (after_units i.shape unit w all) → IsLeft i w
+    → IsLeft i (after_units i.shape unit w all)
+units_left i unit w [] simple was = was
+units_left i unit w (events ∷ all) simple was =
     let mid : World = after_events i.shape unit w events in
-    let before : IsPlainWorld i mid = plain_then i mid (after_units i.shape (suc unit) mid all) (units_later i.shape (suc unit) mid all) plain in
-    units_left i (suc unit) mid all plain (events_left i unit w events before was)
+    let before : IsSimpleMount i mid = simple_then i mid (after_units i.shape (suc unit) mid all) (units_later i.shape (suc unit) mid all) simple in
+    units_left i (suc unit) mid all simple (events_left i unit w events before was)
 
-one_left : (i : Image) (w : World) (d : Deed) → IsPlainWorld i (after_deed i.shape w d) → IsLeft i w → IsLeft i (after_deed i.shape w d)
-one_left i w (Readies all) plain was = units_left i 0 w all plain was
-one_left i w (Decides e) plain was = engine_left i w e plain
-one_left i w (Does unit e) plain was = unit_left i w unit e (next_maker w) (plain_tail i (unit_step i.shape unit e (next_maker w) w) w plain) was
-one_left i w (Lands unit) plain was = engine_left i w (Landed unit (last_event w unit)) plain
-one_left i w (NotesReset unit) plain was = engine_left i w (ResetDone unit (last_event w unit)) plain
+one_left : (i : Image) (w : World) (d : Deed) → IsSimpleMount i (after_deed i.shape w d) → IsLeft i w → IsLeft i (after_deed i.shape w d)
+one_left i w (Readies all) simple was = units_left i 0 w all simple was
+one_left i w (Decides e) simple was = engine_left i w e simple
+one_left i w (Does unit e) simple was = unit_left i w unit e (next_maker w) (simple_tail i (unit_step i.shape unit e (next_maker w) w) w simple) was
+one_left i w (Lands unit) simple was = engine_left i w (Landed unit (last_event w unit)) simple
+one_left i w (NotesReset unit) simple was = engine_left i w (ResetDone unit (last_event w unit)) simple
 
-all_left : (i : Image) (w : World) (deeds : List Deed) → IsPlainWorld i (with_deeds i w deeds) → IsLeft i w → IsLeft i (with_deeds i w deeds)
-all_left i w [] plain was = was
-all_left i w (d ∷ deeds) plain was = all_left i (after_deed i.shape w d) deeds plain (one_left i w d (plain_before i (after_deed i.shape w d) deeds plain) was)
+all_left : (i : Image) (w : World) (deeds : List Deed) → IsSimpleMount i (with_deeds i w deeds) → IsLeft i w → IsLeft i (with_deeds i w deeds)
+all_left i w [] simple was = was
+all_left i w (d ∷ deeds) simple was =
+    all_left i (after_deed i.shape w d) deeds simple (one_left i w d (simple_before i (after_deed i.shape w d) deeds simple) was)
 
-pub deeds_left : (i : Image) (deeds : List Deed) → IsPlainWorld i (world_of i.shape deeds) → IsLeft i (world_of i.shape deeds)
-deeds_left i deeds plain = all_left i [] deeds plain (none_left i (plain_before i [] deeds plain))
+pub deeds_left : (i : Image) (deeds : List Deed) → IsSimpleMount i (world_of i.shape deeds) → IsLeft i (world_of i.shape deeds)
+deeds_left i deeds simple = all_left i [] deeds simple (none_left i (simple_before i [] deeds simple))

@@ -9,7 +9,7 @@ use Rattle.pblk_world.specs.Space.{room}
 use Rattle.pblk_world.specs.AtRest.{logs_at}
 use Rattle.pblk_world.specs.EngineLog.{Begun, begun}
 use Rattle.pblk_world.proofs.Growing.{grows}
-use Rattle.core_laws.specs.PlainWorlds.{IsPlainWorld}
+use Rattle.core_laws.specs.SimpleMounts.{IsSimpleMount}
 use Rattle.step_laws.proofs.UnitSteps.{engine_longer}
 use Rattle.block_target.specs.Deeds.{Deed, world_of}
 use Rattle.block_target.specs.Granted.{WasRoom}
@@ -27,7 +27,8 @@ room_less i logs n m upto less was later low = record {
 }
 
 -- a longer world
-pub room_later : (i : Image) (later w : World) (n upto : ℕ) → IsLegal i w → n ≤ length (log_of w 0) → WasRoom i (log_of w) n upto → WasRoom i (log_of (later ++ w)) n upto
+pub room_later : (i : Image) (later w : World) (n upto : ℕ) → IsLegal i w → n ≤ length (log_of w 0) → WasRoom i (log_of w) n upto
+    → WasRoom i (log_of (later ++ w)) n upto
 room_later i later w n upto legal long was = record {
   at = was.at;
   has_begun = was.has_begun;
@@ -36,11 +37,12 @@ room_later i later w n upto legal long was = record {
 }
 
 -- there is room now
-pub room_now : (i : Image) (deeds : List Deed) (b : Begun) → IsPlainWorld i (world_of i.shape deeds) → begun (log_of (world_of i.shape deeds) 0) ≡ Some b
+pub room_now : (i : Image) (deeds : List Deed) (b : Begun) → IsSimpleMount i (world_of i.shape deeds) → begun (log_of (world_of i.shape deeds) 0) ≡ Some b
     → WasRoom i (log_of (world_of i.shape deeds)) (length (log_of (world_of i.shape deeds) 0)) (room i (log_of (world_of i.shape deeds)))
-room_now i deeds b plain has =
-    let is : IsLeft i (world_of i.shape deeds) = deeds_left i deeds plain in
-    let same : room i (logs_at (length (log_of (world_of i.shape deeds) 0)) (log_of (world_of i.shape deeds))) ≡ room i (log_of (world_of i.shape deeds)) = ap (room i) is.logs ∙ is.room in
+room_now i deeds b simple has =
+    let is : IsLeft i (world_of i.shape deeds) = deeds_left i deeds simple in
+    let same : room i (logs_at (length (log_of (world_of i.shape deeds) 0)) (log_of (world_of i.shape deeds))) ≡ room i (log_of (world_of i.shape deeds)) =
+    ap (room i) is.logs ∙ is.room in
     record {
       at = length (log_of (world_of i.shape deeds) 0);
       has_begun = engine_longer (world_of i.shape deeds) b has;
@@ -49,30 +51,33 @@ room_now i deeds b plain has =
     }
 
 -- of mounts, by what was done since
-pub log_longer : (old new : MountView) (more : List Deed) → new.image ≡ old.image → new.deeds ≡ old.deeds ++ more → (later : List Logged) × (engine_log new ≡ engine_log old ++ later)
+pub log_longer : (old new : MountView) (more : List Deed) → new.image ≡ old.image → new.deeds ≡ old.deeds ++ more
+    → (later : List Logged) × (engine_log new ≡ engine_log old ++ later)
 log_longer old new more image deeds =
     let grown : (later : World) × (world_of old.image.shape (old.deeds ++ more) ≡ later ++ world_in old) = world_grown old.image old.deeds more in
     let longer : (later : List Logged) × (log_of (grown.0 ++ world_in old) 0 ≡ engine_log old ++ later) = grows grown.0 (world_in old) 0 in
     (longer.0, ap₂ (λ (i : Image) (ds : List Deed). log_of (world_of i.shape ds) 0) image deeds ∙ ap (λ (w : World). log_of w 0) grown.1 ∙ longer.1)
 
-pub room_at : (old new : MountView) (more : List Deed) (upto n less : ℕ) → IsPlainWorld old.image (world_in old) → new.image ≡ old.image → new.deeds ≡ old.deeds ++ more
+pub room_at : (old new : MountView) (more : List Deed) (upto n less : ℕ) → IsLegal old.image (world_in old) → new.image ≡ old.image
+    → new.deeds ≡ old.deeds ++ more
     → length (engine_log old) ≤ n → less ≤ upto → WasRoom old.image (logs_in old) (length (engine_log old)) upto → WasRoom new.image (logs_in new) n less
-room_at old new more upto n less plain image deeds long low was =
+room_at old new more upto n less legal image deeds long low was =
     subst (λ (i : Image). WasRoom i (log_of (world_of i.shape new.deeds)) n less) (sym image)
     (subst (λ (ds : List Deed). WasRoom old.image (log_of (world_of old.image.shape ds)) n less) (sym deeds)
     (subst (λ (w : World). WasRoom old.image (log_of w) n less) (sym grown.1)
     (room_less old.image (log_of (grown.0 ++ world_in old)) (length (engine_log old)) n upto less
-    (room_later old.image grown.0 (world_in old) (length (engine_log old)) upto plain.legal (le_refl (length (engine_log old))) was) long low)))
+    (room_later old.image grown.0 (world_in old) (length (engine_log old)) upto legal (le_refl (length (engine_log old))) was) long low)))
   where
     grown : (later : World) × (world_of old.image.shape (old.deeds ++ more) ≡ later ++ world_in old)
     grown = world_grown old.image old.deeds more
 
-pub room_grown : (old new : MountView) (more : List Deed) (upto : ℕ) → IsPlainWorld old.image (world_in old) → new.image ≡ old.image → new.deeds ≡ old.deeds ++ more
+pub room_grown : (old new : MountView) (more : List Deed) (upto : ℕ) → IsLegal old.image (world_in old) → new.image ≡ old.image → new.deeds ≡ old.deeds ++ more
     → WasRoom old.image (logs_in old) (length (engine_log old)) upto → WasRoom new.image (logs_in new) (length (engine_log new)) upto
-room_grown old new more upto plain image deeds was =
+room_grown old new more upto legal image deeds was =
     let longer : (later : List Logged) × (engine_log new ≡ engine_log old ++ later) = log_longer old new more image deeds in
-    let long : length (engine_log new) ≡ length (engine_log old) + length longer.0 = ap (λ (log : List Logged). length log) longer.1 ∙ length-append (engine_log old) longer.0 in
-    room_at old new more upto (length (engine_log new)) upto plain image deeds (omega arith) (le_refl upto) was
+    let long : length (engine_log new) ≡ length (engine_log old) + length longer.0 = ap (λ (log : List Logged). length log) longer.1
+    ∙ length-append (engine_log old) longer.0 in
+    room_at old new more upto (length (engine_log new)) upto legal image deeds (omega arith) (le_refl upto) was
 
 greater : (i : Image) (logs : Logs) (n a b : ℕ) → WasRoom i logs n a → WasRoom i logs n b → WasRoom i logs n (max a b)
 greater i logs n a b x y = go (cases_order a b)
@@ -83,9 +88,11 @@ greater i logs n a b x y = go (cases_order a b)
     go (inr (inr more)) = room_less i logs n n a (max a b) x (le_refl n) (omega arith)
 
 -- the greater of what was granted and of the room there is
-pub once_granted : (old new : MountView) (more : List Deed) (b : Begun) → IsPlainWorld old.image (world_in old) → IsPlainWorld new.image (world_in new) → begun (engine_log new) ≡ Some b
+pub once_granted : (old new : MountView) (more : List Deed) (b : Begun) → IsLegal old.image (world_in old) → IsSimpleMount new.image (world_in new)
+    → begun (engine_log new) ≡ Some b
     → new.image ≡ old.image → new.deeds ≡ old.deeds ++ more → new.granted ≡ max old.granted (room new.image (logs_in new))
     → WasRoom old.image (logs_in old) (length (engine_log old)) old.granted → WasRoom new.image (logs_in new) (length (engine_log new)) new.granted
-once_granted old new more b was plain has image deeds is once =
+once_granted old new more b was simple has image deeds is once =
     subst (λ g. WasRoom new.image (logs_in new) (length (engine_log new)) g) (sym is)
-    (greater new.image (logs_in new) (length (engine_log new)) old.granted (room new.image (logs_in new)) (room_grown old new more old.granted was image deeds once) (room_now new.image new.deeds b plain has))
+    (greater new.image (logs_in new) (length (engine_log new)) old.granted (room new.image (logs_in new))
+    (room_grown old new more old.granted was image deeds once) (room_now new.image new.deeds b simple has))

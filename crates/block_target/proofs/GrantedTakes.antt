@@ -24,30 +24,35 @@ use Rattle.block_target.specs.Serial.{SerialView, IsSerial}
 use Rattle.block_target.proofs.Beginnings.{world_grown}
 use Rattle.block_target.proofs.GrantedRoom.{room_less, room_later, room_at, log_longer}
 use Rattle.block_target.proofs.Refusals.{entries_more}
-use Rattle.block_target.proofs.TakenSectors.{log_taken, taken_more, sectors_many}
+use Rattle.block_target.proofs.TakenSectors.{log_taken, taken_more}
 use Rattle.block_target.proofs.Written.{IsWrite, image_all, taken_kept}
+use Rattle.block_port.proofs.OwnLemmas.{length_sectors}
 
 -- ---- a longer log
 
 -- each of these events takes nothing, or an entry below a position
 abbrev pub TakeBelow : ℕ → List Logged → Type 0
-TakeBelow upto more = (j : ℕ) (knows : List ℕ) (entry : Entry) (mark : Mark) → slice_get more j ≡ Some (record { event = Did (Take entry mark); knows = knows }) → entry.position < upto
+TakeBelow upto more = (j : ℕ) (knows : List ℕ) (entry : Entry) (mark : Mark) → slice_get more j ≡ Some (record { event = Did (Take entry mark); knows = knows })
+    → entry.position < upto
 
 module _ (i : Image) (later w : World) (more : List Logged) (upto : ℕ) (legal : IsLegal i w) (longer : log_of (later ++ w) 0 ≡ log_of w 0 ++ more) where
   pub granted_later : AreGranted i (log_of w) → WasRoom i (log_of w) (length (log_of w 0)) upto → TakeBelow upto more → AreGranted i (log_of (later ++ w))
   granted_later were once below = record { each = λ k knows entry mark at users. go k knows entry mark at users (cases_order k (length (log_of w 0))) }
     where
-      new_one : (k : ℕ) (knows : List ℕ) (entry : Entry) (mark : Mark) → slice_get (log_of (later ++ w) 0) k ≡ Some (record { event = Did (Take entry mark); knows = knows }) → length (log_of w 0) ≤ k
+      new_one : (k : ℕ) (knows : List ℕ) (entry : Entry) (mark : Mark)
+          → slice_get (log_of (later ++ w) 0) k ≡ Some (record { event = Did (Take entry mark); knows = knows }) → length (log_of w 0) ≤ k
           → WasRoom i (log_of (later ++ w)) k (entry.position + 1)
       new_one k knows entry mark at long =
           let sum : length (log_of w 0) + (k - length (log_of w 0)) ≡ k = omega arith in
           let there : slice_get more (k - length (log_of w 0)) ≡ Some (record { event = Did (Take entry mark); knows = knows }) =
-          sym (get_rest (log_of w 0) more (length (log_of w 0)) (k - length (log_of w 0)) refl) ∙ ap₂ (λ (log : List Logged) n. slice_get log n) (sym longer) sum ∙ at in
+          sym (get_rest (log_of w 0) more (length (log_of w 0)) (k - length (log_of w 0)) refl)
+          ∙ ap₂ (λ (log : List Logged) n. slice_get log n) (sym longer) sum ∙ at in
           let low : entry.position < upto = below (k - length (log_of w 0)) knows entry mark there in
           room_less i (log_of (later ++ w)) (length (log_of w 0)) k upto (entry.position + 1)
           (room_later i later w (length (log_of w 0)) upto legal (le_refl (length (log_of w 0))) once) long (omega arith)
 
-      go : (k : ℕ) (knows : List ℕ) (entry : Entry) (mark : Mark) → slice_get (log_of (later ++ w) 0) k ≡ Some (record { event = Did (Take entry mark); knows = knows }) → entry.source ≡ None
+      go : (k : ℕ) (knows : List ℕ) (entry : Entry) (mark : Mark)
+          → slice_get (log_of (later ++ w) 0) k ≡ Some (record { event = Did (Take entry mark); knows = knows }) → entry.source ≡ None
           → (k ≡ length (log_of w 0)) ⊎ ((k < length (log_of w 0)) ⊎ (length (log_of w 0) < k)) → WasRoom i (log_of (later ++ w)) k (entry.position + 1)
       go k knows entry mark at users (inl same) = new_one k knows entry mark at (omega (arith, same))
       go k knows entry mark at users (inr (inl less)) =
@@ -56,13 +61,15 @@ module _ (i : Image) (later w : World) (more : List Logged) (upto : ℕ) (legal 
       go k knows entry mark at users (inr (inr far)) = new_one k knows entry mark at (omega arith)
 
 -- of mounts, by what was done since
-pub granted_grown : (old new : MountView) (deeds : List Deed) (more : List Logged) (upto : ℕ) → IsSound old → new.image ≡ old.image → new.deeds ≡ old.deeds ++ deeds → engine_log new ≡ engine_log old ++ more
-    → AreGranted old.image (logs_in old) → WasRoom old.image (logs_in old) (length (engine_log old)) upto → TakeBelow upto more → AreGranted new.image (logs_in new)
+pub granted_grown : (old new : MountView) (deeds : List Deed) (more : List Logged) (upto : ℕ) → IsSound old → new.image ≡ old.image
+    → new.deeds ≡ old.deeds ++ deeds → engine_log new ≡ engine_log old ++ more
+    → AreGranted old.image (logs_in old) → WasRoom old.image (logs_in old) (length (engine_log old)) upto → TakeBelow upto more
+    → AreGranted new.image (logs_in new)
 granted_grown old new deeds more upto sound image done longer were once below =
     subst (λ (i : Image). AreGranted i (log_of (world_of i.shape new.deeds))) (sym image)
     (subst (λ (ds : List Deed). AreGranted old.image (log_of (world_of old.image.shape ds))) (sym done)
     (subst (λ (w : World). AreGranted old.image (log_of w)) (sym grown.1)
-    (granted_later old.image grown.0 (world_in old) more upto sound.legal.legal log_is were once below)))
+    (granted_later old.image grown.0 (world_in old) more upto sound.legal.simple.mount.legal log_is were once below)))
   where
     grown : (later : World) × (world_of old.image.shape (old.deeds ++ deeds) ≡ later ++ world_in old)
     grown = world_grown old.image old.deeds deeds
@@ -83,7 +90,8 @@ none_further : (o : Option Taken) (rest : List Taken) → cons_option o rest ≡
 none_further None rest none = none
 none_further (Some u) rest none = absurd cc
 
-pub none_taken : (more : List Logged) (j : ℕ) (knows : List ℕ) (entry : Entry) (mark : Mark) → takes more ≡ [] → slice_get more j ≡ Some (record { event = Did (Take entry mark); knows = knows }) → ⊥
+pub none_taken : (more : List Logged) (j : ℕ) (knows : List ℕ) (entry : Entry) (mark : Mark) → takes more ≡ []
+    → slice_get more j ≡ Some (record { event = Did (Take entry mark); knows = knows }) → ⊥
 none_taken [] j knows entry mark none at = cc
 none_taken (l ∷ more) zero knows entry mark none at =
     none_here (taken_by l.event) (takes more) (record { entry = entry; mark = mark }) none
@@ -92,14 +100,16 @@ none_taken (l ∷ more) (suc j) knows entry mark none at = none_taken more j kno
 
 pub granted_same : (old new : MountView) → IsSound old → IsSameMount old new → AreGranted old.image (logs_in old) → AreGranted new.image (logs_in new)
 granted_same old new sound same were =
-    granted_grown old new same.more longer.0 0 sound same.image same.deeds longer.1 were nothing (λ j knows entry mark at. absurd (none_taken longer.0 j knows entry mark none at))
+    granted_grown old new same.more longer.0 0 sound same.image same.deeds longer.1 were nothing
+    (λ j knows entry mark at. absurd (none_taken longer.0 j knows entry mark none at))
   where
     longer : (more : List Logged) × (engine_log new ≡ engine_log old ++ more)
     longer = log_longer old new same.more same.image same.deeds
 
     none : takes longer.0 ≡ []
     none = append_cancel_left (takes (engine_log old)) (takes longer.0) []
-        (sym (filter_map-append (λ (l : Logged). taken_by l.event) (engine_log old) longer.0) ∙ ap takes (sym longer.1) ∙ same.takes ∙ sym (append-nil (takes (engine_log old))))
+        (sym (filter_map-append (λ (l : Logged). taken_by l.event) (engine_log old) longer.0) ∙ ap takes (sym longer.1) ∙ same.takes
+        ∙ sym (append-nil (takes (engine_log old))))
 
     nothing : WasRoom old.image (logs_in old) (length (engine_log old)) 0
     nothing = record {
@@ -114,9 +124,11 @@ granted_same old new sound same were =
 abbrev entry_logged : MountView → ℕ → List ℕ → Logged
 entry_logged v lba sector = record { event = Did (Take (next_entry v lba sector) (sector_mark lba (taken_in v))); knows = knows_all v.image.shape (world_in v) }
 
-below_more : (v : MountView) (lba upto : ℕ) (sector : List ℕ) (more : List Logged) → taken_in v < upto → TakeBelow upto more → TakeBelow upto (entry_logged v lba sector ∷ more)
+below_more : (v : MountView) (lba upto : ℕ) (sector : List ℕ) (more : List Logged) → taken_in v < upto → TakeBelow upto more
+    → TakeBelow upto (entry_logged v lba sector ∷ more)
 below_more v lba upto sector more low rest zero knows entry mark at =
-    let here : entry_logged v lba sector ≡ record { event = Did (Take entry mark); knows = knows } = same_Some (entry_logged v lba sector) (record { event = Did (Take entry mark); knows = knows }) at in
+    let here : entry_logged v lba sector ≡ record { event = Did (Take entry mark); knows = knows } =
+    same_Some (entry_logged v lba sector) (record { event = Did (Take entry mark); knows = knows }) at in
     let events : Did (Take (next_entry v lba sector) (sector_mark lba (taken_in v))) ≡ Did (Take entry mark) = ap (λ (x : Logged). x.event) here in
     let same : next_entry v lba sector ≡ entry = cc in
     let position : taken_in v ≡ entry.position = ap (λ (e : Entry). e.position) same in
@@ -129,7 +141,8 @@ entries_log : (v : MountView) (lba upto : ℕ) (sectors : List (List ℕ)) → t
 entries_log v lba upto [] room = ([], sym (append-nil (engine_log v)), refl, λ j knows entry mark at. absurd cc)
 entries_log v lba upto (sector ∷ sectors) room =
     let one : taken_in (with_entry v lba sector) ≡ taken_in v + 1 = taken_more v lba sector in
-    let rest : (more : List Logged) × (engine_log (with_entries (with_entry v lba sector) (lba + 1) sectors) ≡ engine_log (with_entry v lba sector) ++ more) × (length more ≡ length sectors) × TakeBelow upto more =
+    let rest : (more : List Logged) × (engine_log (with_entries (with_entry v lba sector) (lba + 1) sectors) ≡ engine_log (with_entry v lba sector) ++ more)
+    × (length more ≡ length sectors) × TakeBelow upto more =
     entries_log (with_entry v lba sector) (lba + 1) upto sectors (omega arith) in (
       entry_logged v lba sector ∷ rest.0,
       rest.1 ∙ ap (λ (log : List Logged). log ++ rest.0) (log_taken v lba sector) ∙ append_assoc (engine_log v) (entry_logged v lba sector ∷ []) rest.0,
@@ -138,7 +151,8 @@ entries_log v lba upto (sector ∷ sectors) room =
     )
 
 -- where there was room for them
-pub granted_entries : (v new : MountView) (lba : ℕ) (sectors : List (List ℕ)) → IsSound v → new ≡ with_entries v lba sectors → taken_in v + length sectors ≤ v.granted
+pub granted_entries : (v new : MountView) (lba : ℕ) (sectors : List (List ℕ)) → IsSound v → new ≡ with_entries v lba sectors
+    → taken_in v + length sectors ≤ v.granted
     → WasRoom v.image (logs_in v) (length (engine_log v)) v.granted → AreGranted v.image (logs_in v) → AreGranted new.image (logs_in new)
 granted_entries v new lba sectors sound is room once were =
     let log = entries_log v lba v.granted sectors room in
@@ -147,27 +161,33 @@ granted_entries v new lba sectors sound is room once were =
     (granted_grown v (with_entries v lba sectors) deeds.0 log.0 v.granted sound (image_all v lba sectors) deeds.1 log.1 were once log.3)
 
 -- and so there was before the first of them
-pub place_granted : (v new : MountView) (lba first : ℕ) (sectors : List (List ℕ)) → IsSound v → new ≡ with_entries v lba sectors → first ≡ taken_in v → taken_in v + length sectors ≤ v.granted
-    → WasRoom v.image (logs_in v) (length (engine_log v)) v.granted → WasRoom new.image (logs_in new) (length (engine_log new) - length sectors) (first + length sectors)
+pub place_granted : (v new : MountView) (lba first : ℕ) (sectors : List (List ℕ)) → IsSound v → new ≡ with_entries v lba sectors → first ≡ taken_in v
+    → taken_in v + length sectors ≤ v.granted
+    → WasRoom v.image (logs_in v) (length (engine_log v)) v.granted
+    → WasRoom new.image (logs_in new) (length (engine_log new) - length sectors) (first + length sectors)
 place_granted v new lba first sectors sound is from room once =
     let log = entries_log v lba v.granted sectors room in
     let deeds = entries_more v lba sectors in
     subst (λ (x : MountView). WasRoom x.image (logs_in x) (length (engine_log x) - length sectors) (first + length sectors)) (sym is)
-    (room_at v (with_entries v lba sectors) deeds.0 v.granted (length (engine_log (with_entries v lba sectors)) - length sectors) (first + length sectors) sound.legal (image_all v lba sectors) deeds.1
-    (let long : length (engine_log (with_entries v lba sectors)) ≡ length (engine_log v) + length log.0 = ap (λ (x : List Logged). length x) log.1 ∙ length-append (engine_log v) log.0 in
+    (room_at v (with_entries v lba sectors) deeds.0 v.granted (length (engine_log (with_entries v lba sectors)) - length sectors)
+    (first + length sectors) sound.legal.simple.mount.legal (image_all v lba sectors) deeds.1
+    (let long : length (engine_log (with_entries v lba sectors)) ≡ length (engine_log v) + length log.0 = ap (λ (x : List Logged). length x) log.1
+    ∙ length-append (engine_log v) log.0 in
     let many : length log.0 ≡ length sectors = log.2 in omega arith)
     (omega arith) once)
 
 -- ---- a write
 
-module _ (old new : SerialView) (mid : MountView) (lba size n : ℕ) (bytes : List ℕ) (is : IsWrite old new mid lba (sectors_of size n bytes)) (room : taken_in mid + n ≤ mid.granted)
+module _ (old new : SerialView) (mid : MountView) (lba size n : ℕ) (bytes : List ℕ) (is : IsWrite old new mid lba (sectors_of size n bytes))
+    (room : taken_in mid + n ≤ mid.granted)
     (once : WasRoom mid.image (logs_in mid) (length (engine_log mid)) mid.granted) where
   many : length (sectors_of size n bytes) ≡ n
-  many = sectors_many size n bytes
+  many = length_sectors size n bytes
 
   pub granted_write : IsSerial old → AreGranted new.mount.image (logs_in new.mount)
   granted_write serial =
-      granted_entries mid new.mount lba (sectors_of size n bytes) is.between is.mount (subst (λ k. taken_in mid + k ≤ mid.granted) (sym many) room) once (granted_same old.mount mid is.was is.same serial.granted)
+      granted_entries mid new.mount lba (sectors_of size n bytes) is.between is.mount (subst (λ k. taken_in mid + k ≤ mid.granted) (sym many) room) once
+      (granted_same old.mount mid is.was is.same serial.granted)
 
   pub granted_place : (first : ℕ) → first ≡ taken_in old.mount → WasRoom new.mount.image (logs_in new.mount) (length (engine_log new.mount) - n) (first + n)
   granted_place first from =

@@ -4,7 +4,8 @@ use Rattle.std.specs.Prelude.{map, slice_set}
 use Rattle.std.proofs.lemmas.List.{length-map}
 use Rattle.unit_port.specs.Unit.{ModelUnit}
 
-pub wear_kept : {X : Type 0} (wear : X → List ℕ) (xs : List X) (i : ℕ) (old new : X) → i < length xs → old ≡ get_or xs i old → wear new ≡ wear old → map wear (slice_set xs i new) ≡ map wear xs
+pub wear_kept : {X : Type 0} (wear : X → List ℕ) (xs : List X) (i : ℕ) (old new : X) → i < length xs → old ≡ get_or xs i old → wear new ≡ wear old
+    → map wear (slice_set xs i new) ≡ map wear xs
 wear_kept wear [] i old new within is same = absurd (omega arith)
 wear_kept wear (x ∷ xs) zero old new within is same = ap (λ w. w ∷ map wear xs) (same ∙ ap wear is)
 wear_kept wear (x ∷ xs) (suc i) old new within is same = ap (λ ws. wear x ∷ ws) (wear_kept wear xs i old new (omega arith) is same)

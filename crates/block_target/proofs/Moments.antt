@@ -12,10 +12,10 @@ use Rattle.pblk_world.specs.EngineLog.{Begun, begun, Placed, placements, is_answ
 use Rattle.pblk_world.specs.Fronts.{taken, synced}
 use Rattle.pblk_world.proofs.EngineLogLemmas.{begun_taken}
 use Rattle.pblk_world.proofs.Growing.{grows}
-use Rattle.core_laws.specs.PlainWorlds.{IsPlainWorld}
+use Rattle.core_laws.specs.SimpleMounts.{IsSimpleMount}
 use Rattle.block_target.specs.Moments.{IsMoment}
 use Rattle.block_target.specs.NothingLeft.{IsFlushRefusal}
-use Rattle.block_target.proofs.EngineLengths.{plain_earlier}
+use Rattle.block_target.proofs.EngineLengths.{simple_earlier}
 
 one_more : (s : Step) (w : World) → length (log_of (s ∷ w) 0) ≤ length (log_of w 0) + 1
 one_more s w = go (s.author == 0)
@@ -48,21 +48,21 @@ log_then w n past m =
 -- what is known of the moment of a refused flush
 pub record IsRefusedThen (i : Image) (w : World) (b : Begun) (n wanted have : ℕ) (past : World) : Type 0 where
   pub moment : IsMoment w n past
-  pub plain : IsPlainWorld i past
+  pub simple : IsSimpleMount i past
   pub begins : begun (log_of past 0) ≡ Some b
   pub answered : (p : Placed) → Contains (placements (log_of past 0)) p → is_answered (log_of past 0) p ≡ true
   pub all_taken : taken (log_of past 0) ≡ wanted
   pub is_synced : have ≡ synced i.shape (log_of past 0)
 
-pub refused_then : (i : Image) (w : World) (b : Begun) (n wanted have : ℕ) → IsPlainWorld i w → begun (log_of w 0) ≡ Some b
+pub refused_then : (i : Image) (w : World) (b : Begun) (n wanted have : ℕ) → IsSimpleMount i w → begun (log_of w 0) ≡ Some b
     → IsFlushRefusal i (log_of w) n wanted have → (past : World) × IsRefusedThen i w b n wanted have past
-refused_then i w b n wanted have plain begins is =
+refused_then i w b n wanted have simple begins is =
     let m = moment w n is.nothing_left.within in
     let log : take n (log_of w 0) ≡ log_of m.0 0 = log_then w n m.0 m.1 in (
       m.0,
       record {
         moment = m.1;
-        plain = plain_earlier i m.1.later m.0 (subst (IsPlainWorld i) m.1.whole plain);
+        simple = simple_earlier i m.1.later m.0 (subst (IsSimpleMount i) m.1.whole simple);
         begins = sym (ap begun log) ∙ begun_taken n (log_of w 0) is.nothing_left.has_begun ∙ begins;
         answered = subst (λ ls. (p : Placed) → Contains (placements ls) p → is_answered ls p ≡ true) log is.nothing_left.nothing_left.stripes;
         all_taken = sym (is.all_taken ∙ ap taken log);

@@ -22,10 +22,8 @@ use Rattle.stripe_placer.specs.Placing.{next_stripe}
 use Rattle.stripe_placer.specs.Placing.UnitRow.{Idle}
 use Rattle.core_laws.specs.OpenedLines.{open_line, open_lines, standing}
 use Rattle.core_laws.specs.PlacerOf.{placing_of, row_in, unanswered_on, waits_again}
-use Rattle.core_laws.specs.PlainWorlds.{IsPlainWorld}
-use Rattle.core_laws.proofs.SimpleMounts.{simple_of}
+use Rattle.core_laws.specs.SimpleMounts.{IsSimpleMount}
 use Rattle.core_laws.specs.RowsOf.{rows_of}
-use Rattle.core_laws.proofs.SimpleMounts.{simple_of}
 use Rattle.core_laws.proofs.Turns.{filtered_is}
 use Rattle.line_laws.proofs.NextLine.{none_free}
 use Rattle.placed_laws.specs.LeftOpenings.{left_openings}
@@ -50,7 +48,8 @@ use Rattle.lemmas.proofs.Tests.{lt_true, not_both}
 
 -- ---- what is chosen
 
-not_chosen : (has_stripe asks_line has_free may_open in_flight : Bool) (reason : Why) → choice has_stripe asks_line has_free may_open in_flight ≡ works.Nothing reason
+not_chosen : (has_stripe asks_line has_free may_open in_flight : Bool) (reason : Why)
+    → choice has_stripe asks_line has_free may_open in_flight ≡ works.Nothing reason
     → (has_stripe ≡ false) × (asks_line ≡ true → (has_free ≡ false) ⊎ (may_open ≡ false))
 not_chosen true a h m f reason e = absurd cc
 not_chosen false false h m f reason e = (refl, λ asks. absurd cc)
@@ -58,7 +57,8 @@ not_chosen false true false m f reason e = (refl, λ asks. inl refl)
 not_chosen false true true false f reason e = (refl, λ asks. inr refl)
 not_chosen false true true true f reason e = absurd cc
 
-no_reset_named : (o : Option LineChunk) (otherwise : Work) (reason : Why) → reset_or o otherwise ≡ works.Nothing reason → (o ≡ None) × (otherwise ≡ works.Nothing reason)
+no_reset_named : (o : Option LineChunk) (otherwise : Work) (reason : Why) → reset_or o otherwise ≡ works.Nothing reason
+    → (o ≡ None) × (otherwise ≡ works.Nothing reason)
 no_reset_named None otherwise reason e = (refl, e)
 no_reset_named (Some chunk) otherwise reason e = absurd cc
 
@@ -66,24 +66,28 @@ none_first : {X : Type 0} (xs : List X) → slice_get xs 0 ≡ None → xs ≡ [
 none_first [] e = refl
 none_first (x ∷ xs) e = absurd cc
 
-module _ (i : Image) (w : World) (pad : ℕ) (reason : Why) (legal : IsPlainWorld i w) (idle : (unit : ℕ) → unanswered_on (log_of w 0) unit ≡ None) (none : work_of i (log_of w) pad ≡ works.Nothing reason) where
+module _ (i : Image) (w : World) (pad : ℕ) (reason : Why) (simple : IsSimpleMount i w) (idle : (unit : ℕ) → unanswered_on (log_of w 0) unit ≡ None)
+    (none : work_of i (log_of w) pad ≡ works.Nothing reason) where
   abbrev otherwise : Work
   otherwise = choice
       (is_some (next_stripe (placing_of i (log_of w) pad []) 0))
       (nat_lt 0 (length (waiting i.shape (log_of w 0))) && (open_addresses i (log_of w) == 0))
       (is_some (position is_free (rows_of i (log_of w)).rows))
-      (nat_lt (length (open_lines i (log_of w))) 2 && (nat_lt (first_seq_of (log_of w) + length (openings (log_of w 0))) (2 ^ 61) && nat_lt (synced i.shape (log_of w 0)) (2 ^ 61)))
+      (nat_lt (length (open_lines i (log_of w))) 2 &&
+      (nat_lt (first_seq_of (log_of w) + length (openings (log_of w 0))) (2 ^ 61) && nat_lt (synced i.shape (log_of w 0)) (2 ^ 61)))
       (nat_lt 0 (under_way i.shape (log_of w 0)))
 
   named : (slice_get (resets_of i (log_of w)) 0 ≡ None) × (otherwise ≡ works.Nothing reason)
   named = no_reset_named (slice_get (resets_of i (log_of w)) 0) otherwise reason none
 
   none_reset : (line : ℕ) → line < i.shape.chunks → is_given_up (log_of w 0) line ≡ true → are_empty (known_image i (log_of w)) line ≡ true
-  none_reset line range given = reset_empty i w line (simple_of i w legal) (none_first (resets_of i (log_of w)) named.0) range given
+  none_reset line range given = reset_empty i w line simple.mount (none_first (resets_of i (log_of w)) named.0) range given
 
   chosen : (is_some (next_stripe (placing_of i (log_of w) pad []) 0) ≡ false)
-      × ((nat_lt 0 (length (waiting i.shape (log_of w 0))) && (open_addresses i (log_of w) == 0)) ≡ true → (is_some (position is_free (rows_of i (log_of w)).rows) ≡ false)
-      ⊎ ((nat_lt (length (open_lines i (log_of w))) 2 && (nat_lt (first_seq_of (log_of w) + length (openings (log_of w 0))) (2 ^ 61) && nat_lt (synced i.shape (log_of w 0)) (2 ^ 61))) ≡ false))
+      × ((nat_lt 0 (length (waiting i.shape (log_of w 0))) && (open_addresses i (log_of w) == 0)) ≡ true
+      → (is_some (position is_free (rows_of i (log_of w)).rows) ≡ false)
+      ⊎ ((nat_lt (length (open_lines i (log_of w))) 2 &&
+      (nat_lt (first_seq_of (log_of w) + length (openings (log_of w 0))) (2 ^ 61) && nat_lt (synced i.shape (log_of w 0)) (2 ^ 61))) ≡ false))
   chosen = not_chosen _ _ _ _ _ reason named.1
 
   row_idle : (unit : ℕ) → unit < units i.shape → slice_get (placing_of i (log_of w) pad []).units unit ≡ Some Idle
@@ -92,11 +96,12 @@ module _ (i : Image) (w : World) (pad : ℕ) (reason : Why) (legal : IsPlainWorl
       ∙ ap (λ (o : Option Placed). Some (option_map_or (λ (p : Placed). row_in i (log_of w) (waits_again (log_of w 0) [] unit) p.life p) o Idle)) (idle unit)
 
   answered : (p : Placed) → Contains (placements (log_of w 0)) p → is_answered (log_of w 0) p ≡ true
-  answered p there = idle_answered i (line_units (known_image i (log_of w))) w pad p (follow i w (simple_of i w legal)) row_idle there
+  answered p there = idle_answered i (line_units (known_image i (log_of w))) w pad p (follow i w simple) row_idle there
 
   none_due_now : (asked : ℕ) (stripe : Stripe) → asked ≤ pad → ¬ IsDue i (log_of w) asked stripe
   none_due_now asked stripe within =
-      none_due i (line_units (known_image i (log_of w))) w pad asked stripe (follow i w (simple_of i w legal)) (none_there (next_stripe (placing_of i (log_of w) pad []) 0) chosen.0) answered within
+      none_due i (line_units (known_image i (log_of w))) w pad asked stripe (follow i w simple)
+      (none_there (next_stripe (placing_of i (log_of w) pad []) 0) chosen.0) answered within
 
   -- where a line may be opened, at most one has a stripe left
   one_line : (b : Begun) (line : ℕ) (start : StartRecord) → MayOpen i (log_of w) b line start → length (open_lines i (log_of w)) < 2
@@ -112,18 +117,20 @@ module _ (i : Image) (w : World) (pad : ℕ) (reason : Why) (legal : IsPlainWorl
       left_at k o e = filtered_is (λ o. has_left (open_line i (log_of w) o)) (standing (log_of w 0)) k o e
 
       has_at : (k : ℕ) (o : Opening) → slice_get (left_openings i (log_of w)) k ≡ Some o → has_stripe_left i (log_of w) o.line ≡ true
-      has_at k o e = chunks_left i w o.line o (simple_of i w legal) (opened_at k o e) (left_at k o e)
+      has_at k o e = chunks_left i w o.line o simple (opened_at k o e) (left_at k o e)
 
       range_of : (line : ℕ) (o : Opening) → life_of (log_of w 0) line ≡ Opened o → line < i.shape.chunks
-      range_of line o life = (opened_lines i (line_units (known_image i (log_of w))) w (follow i w (simple_of i w legal)) line o life).in_range
+      range_of line o life = (opened_lines i (line_units (known_image i (log_of w))) w (follow i w simple) line o life).in_range
 
       two : (a c : Opening) → slice_get (left_openings i (log_of w)) 0 ≡ Some a → slice_get (left_openings i (log_of w)) 1 ≡ Some c → ⊥
       two a c e f =
-          let one : a.line ≡ c.line = may.one_other a.line c.line (range_of a.line a (opened_at 0 a e)) (range_of c.line c (opened_at 1 c f)) (has_at 0 a e) (has_at 1 c f) in
+          let one : a.line ≡ c.line = may.one_other a.line c.line (range_of a.line a (opened_at 0 a e)) (range_of c.line c (opened_at 1 c f)) (has_at 0 a e)
+          (has_at 1 c f) in
           let same : 0 ≡ 1 = left_apart i (log_of w) 0 1 a c e f one in
           absurd (omega (arith, same))
 
-      go : (length (left_openings i (log_of w)) ≡ 1) ⊎ ((length (left_openings i (log_of w)) < 1) ⊎ (1 < length (left_openings i (log_of w)))) → length (open_lines i (log_of w)) < 2
+      go : (length (left_openings i (log_of w)) ≡ 1) ⊎ ((length (left_openings i (log_of w)) < 1) ⊎ (1 < length (left_openings i (log_of w))))
+          → length (open_lines i (log_of w)) < 2
       go (inl same) = omega (arith, count, same)
       go (inr (inl few)) = omega (arith, count, few)
       go (inr (inr many)) =
@@ -131,7 +138,8 @@ module _ (i : Image) (w : World) (pad : ℕ) (reason : Why) (legal : IsPlainWorl
           let c : (o : Opening) × (slice_get (left_openings i (log_of w)) 1 ≡ Some o) = got_within (left_openings i (log_of w)) 1 many in
           absurd (two a.0 c.0 a.1 c.1)
 
-  none_opened : (b : Begun) (line : ℕ) (start : StartRecord) → begun (log_of w 0) ≡ Some b → 0 < length (waiting i.shape (log_of w 0)) → open_addresses i (log_of w) ≡ 0 → ¬ MayOpen i (log_of w) b line start
+  none_opened : (b : Begun) (line : ℕ) (start : StartRecord) → begun (log_of w 0) ≡ Some b → 0 < length (waiting i.shape (log_of w 0))
+      → open_addresses i (log_of w) ≡ 0 → ¬ MayOpen i (log_of w) b line start
   none_opened b line start has waits full may = go (chosen.1 asks)
     where
       asks : (nat_lt 0 (length (waiting i.shape (log_of w 0))) && (open_addresses i (log_of w) == 0)) ≡ true
@@ -144,15 +152,20 @@ module _ (i : Image) (w : World) (pad : ℕ) (reason : Why) (legal : IsPlainWorl
       low = let number : start.seq < 2 ^ 61 = may.seq_number in omega (arith, seq, number)
 
       front : synced i.shape (log_of w 0) < 2 ^ 61
-      front = let number : start.front < 2 ^ 61 = may.front_number in let is : start.front ≡ synced i.shape (log_of w 0) = may.front in omega (arith, is, number)
+      front = let number : start.front < 2 ^ 61 = may.front_number in let is : start.front ≡ synced i.shape (log_of w 0) =
+          may.front in omega (arith, is, number)
 
-      opens : (nat_lt (length (open_lines i (log_of w))) 2 && (nat_lt (first_seq_of (log_of w) + length (openings (log_of w 0))) (2 ^ 61) && nat_lt (synced i.shape (log_of w 0)) (2 ^ 61))) ≡ true
+      opens : (nat_lt (length (open_lines i (log_of w))) 2 &&
+          (nat_lt (first_seq_of (log_of w) + length (openings (log_of w 0))) (2 ^ 61) && nat_lt (synced i.shape (log_of w 0)) (2 ^ 61))) ≡ true
       opens = ap₂ (λ x y. x && y) (lt_true (length (open_lines i (log_of w))) 2 (one_line b line start may))
-          (ap₂ (λ x y. x && y) (lt_true (first_seq_of (log_of w) + length (openings (log_of w 0))) (2 ^ 61) low) (lt_true (synced i.shape (log_of w 0)) (2 ^ 61) front))
+          (ap₂ (λ x y. x && y) (lt_true (first_seq_of (log_of w) + length (openings (log_of w 0))) (2 ^ 61) low)
+          (lt_true (synced i.shape (log_of w 0)) (2 ^ 61) front))
 
       go : (is_some (position is_free (rows_of i (log_of w)).rows) ≡ false)
-          ⊎ ((nat_lt (length (open_lines i (log_of w))) 2 && (nat_lt (first_seq_of (log_of w) + length (openings (log_of w 0))) (2 ^ 61) && nat_lt (synced i.shape (log_of w 0)) (2 ^ 61))) ≡ false) → ⊥
-      go (inl no_free) = not_both (is_free_line i (log_of w) line) may.is_free (none_free i (log_of w) line (none_there (position is_free (rows_of i (log_of w)).rows) no_free) may.in_range)
+          ⊎ ((nat_lt (length (open_lines i (log_of w))) 2 &&
+          (nat_lt (first_seq_of (log_of w) + length (openings (log_of w 0))) (2 ^ 61) && nat_lt (synced i.shape (log_of w 0)) (2 ^ 61))) ≡ false) → ⊥
+      go (inl no_free) = not_both (is_free_line i (log_of w) line) may.is_free
+          (none_free i (log_of w) line (none_there (position is_free (rows_of i (log_of w)).rows) no_free) may.in_range)
       go (inr not_open) = not_both _ opens not_open
 
   pub nothing_left : (asked : ℕ) → asked ≤ pad → HasNothingLeft i (log_of w) asked

@@ -22,8 +22,7 @@ use Rattle.pblk_world.specs.Fronts.{first_position, synced}
 use Rattle.pblk_world.specs.Lines.{found_image, known_image}
 use Rattle.pblk_world.specs.Space.{freed, room}
 use Rattle.pblk_world.specs.Answering.{MayNoteReset}
-use Rattle.core_laws.specs.PlainWorlds.{IsPlainWorld, ArePlain}
-use Rattle.core_laws.proofs.SimpleMounts.{simple_of}
+use Rattle.core_laws.specs.FaultlessMounts.{IsFaultlessMount}
 use Rattle.core_laws.specs.PlacerOf.{unanswered_on}
 use Rattle.core_laws.specs.Stepping.{after}
 use Rattle.core_laws.proofs.Numbering.{first_stays}
@@ -109,11 +108,11 @@ module _ (v : MountView) (c : Core) (p : PoolView) (f : Filling) (m : IsMount v 
   pub unit_within : unit < length v.units
   unit_within = subst (λ n. unit < n) (sym m.sound.count) is.unit_in_range
 
-  mid_legal : IsPlainWorld i mid
+  mid_legal : IsFaultlessMount i mid
   mid_legal = reset_legal i w unit line is.chunk (next_maker w) m.sound.legal is.given_up is.unit_in_range there used
 
-  pub end_legal : IsPlainWorld i end_world
-  end_legal = subst (IsPlainWorld i) (sym end_is) (noted_legal i w unit line is.chunk (next_maker w) m.sound.legal is.given_up is.unit_in_range there used)
+  pub end_legal : IsFaultlessMount i end_world
+  end_legal = subst (IsFaultlessMount i) (sym end_is) (noted_legal i w unit line is.chunk (next_maker w) m.sound.legal is.given_up is.unit_in_range there used)
 
   -- what its unit has of it
   pub has_chunk : (u : ModelUnit) → slice_get v.units unit ≡ Some u → slice_get u.media line ≡ Some is.chunk
@@ -125,29 +124,31 @@ module _ (v : MountView) (c : Core) (p : PoolView) (f : Filling) (m : IsMount v 
   -- ---- the core
 
   mid_stands : Stands i (log_of mid) c
-  mid_stands = stands_beside i w unit (reset_of line) (next_maker w) c m.sound.legal m.stands
+  mid_stands = stands_beside i w unit (reset_of line) (next_maker w) c m.sound.legal.simple.mount.legal m.stands
 
   is_reset : (state : ChunkState) → state ≡ (after_reset v.image.shape is.chunk).state → IsResetTo i (log_of mid) unit event line state
   is_reset state same =
-      let note : (may : MayNoteReset (log_of mid) unit event) × (may.reset ≡ reset_of line) = may_note i w unit line (next_maker w) m.sound.legal.legal in
+      let note : (may : MayNoteReset (log_of mid) unit event) × (may.reset ≡ reset_of line) =
+      may_note i w unit line (next_maker w) m.sound.legal.simple.mount.legal in
       record {
         may = note.0;
         chunk = ap (λ e. e.chunk) note.1;
         leaves = λ c2 at.
             let known : chunk_in (known_image i (log_of mid)) line unit ≡ Some is.chunk =
-            ap (λ (j : Image). chunk_in j line unit) (known_stays i w unit (reset_of line) (next_maker w) m.sound.legal) ∙ is.is_chunk in
+            ap (λ (j : Image). chunk_in j line unit) (known_stays i w unit (reset_of line) (next_maker w) m.sound.legal.simple.mount.legal) ∙ is.is_chunk in
             let it : c2 ≡ is.chunk = same_Some c2 is.chunk (sym at ∙ known) in
             ap (λ (o : UnitOutcome). (after_outcome v.image.shape c2 Reset o).state) (ap (λ e. e.outcome) note.1)
             ∙ ap (λ (x : Chunk). (after_reset v.image.shape x).state) it ∙ sym same;
       }
 
   pub end_stands : (new : Core) (state : ChunkState) → state ≡ (after_reset v.image.shape is.chunk).state
-      → ((i : Image) (w : World) (event : ℕ) (knows : List ℕ) → IsLegalMount i w → Stands i (log_of w) c → IsResetTo i (log_of w) unit event line state → Stands i (after (log_of w) (ResetDone unit event) knows) new)
+      → ((i : Image) (w : World) (event : ℕ) (knows : List ℕ) → IsLegalMount i w → Stands i (log_of w) c → IsResetTo i (log_of w) unit event line state
+      → Stands i (after (log_of w) (ResetDone unit event) knows) new)
       → Stands i (log_of end_world) new
   end_stands new state same ends =
       subst (λ (x : World). Stands i (log_of x) new) (sym end_is)
       (subst (λ (logs : Logs). Stands i logs new) (sym (engine_logs v.image.shape (ResetDone unit event) mid))
-      (ends i mid event (knows_all v.image.shape mid) (simple_of i mid mid_legal).mount mid_stands (is_reset state same)))
+      (ends i mid event (knows_all v.image.shape mid) mid_legal.simple.mount mid_stands (is_reset state same)))
 
   -- ---- the logs
 
@@ -165,7 +166,8 @@ module _ (v : MountView) (c : Core) (p : PoolView) (f : Filling) (m : IsMount v 
   -- the log is longer
   pub more_reset : length (engine_log v) < length (log_of end_world 0)
   more_reset =
-      let long : length (log_of end_world 0) ≡ length (engine_log v) + 1 = ap (λ (log : List Logged). length log) end_log ∙ length-append (engine_log v) (end_logged ∷ []) in
+      let long : length (log_of end_world 0) ≡ length (engine_log v) + 1 = ap (λ (log : List Logged). length log) end_log
+      ∙ length-append (engine_log v) (end_logged ∷ []) in
       omega arith
 
   first_at : first_position (log_of end_world 0) ≡ first_position (engine_log v)
@@ -178,10 +180,11 @@ module _ (v : MountView) (c : Core) (p : PoolView) (f : Filling) (m : IsMount v 
 
   freed_grows : freed v.image.shape (engine_log v) ≤ freed v.image.shape (log_of end_world 0)
   freed_grows =
-      let note = may_note i w unit line (next_maker w) m.sound.legal.legal in
+      let note = may_note i w unit line (next_maker w) m.sound.legal.simple.mount.legal in
       let same : log_of mid 0 ≡ engine_log v = engine_beside v.image.shape unit (reset_of line) (next_maker w) w in
       let rise : freed v.image.shape (log_of mid 0) ≤ freed v.image.shape (log_of mid 0 ++ end_logged ∷ []) =
-      freed_rises i (log_of mid) mid m.sound.beginning (ResetDone unit event) (knows_all v.image.shape mid) (simple_of i mid mid_legal) (λ o u. rows_of_chunks i mid o u (simple_of i mid mid_legal)) refl refl note.0 in
+      freed_rises i (log_of mid) mid m.sound.beginning (ResetDone unit event) (knows_all v.image.shape mid) mid_legal.simple
+      (λ o u. rows_of_chunks i mid o u mid_legal.simple) refl refl note.0 in
       subst (λ (log : List Logged). freed v.image.shape (engine_log v) ≤ freed v.image.shape log) (sym end_log)
       (subst (λ (log : List Logged). freed v.image.shape log ≤ freed v.image.shape (log ++ end_logged ∷ [])) same rise)
 
@@ -190,7 +193,7 @@ module _ (v : MountView) (c : Core) (p : PoolView) (f : Filling) (m : IsMount v 
       ap (λ (x : World). found_image i (log_of x)) end_is
       ∙ ap (found_image i) (engine_logs v.image.shape (ResetDone unit event) mid)
       ∙ found_kept i (log_of mid) (ResetDone unit event) (knows_all v.image.shape mid) refl
-      ∙ found_stays i w unit (reset_of line) (next_maker w) m.sound.legal
+      ∙ found_stays i w unit (reset_of line) (next_maker w) m.sound.legal.simple.mount.legal
 
   end_media : media i (log_of end_world) ≡ media i (log_of mid)
   end_media = ap (λ (x : World). media i (log_of x)) end_is ∙ media_still i v.image.shape (ResetDone unit event) mid
@@ -198,35 +201,45 @@ module _ (v : MountView) (c : Core) (p : PoolView) (f : Filling) (m : IsMount v 
   -- ---- the units
 
   abbrev pub reset_view : List ModelUnit → List (List ℕ) → ℕ → ℕ → MountView
-  reset_view us wear granted pad = record { image = v.image; found = v.found; deeds = reset_deeds v.deeds line unit; units = us; wear = wear; granted = granted; pad = pad }
+  reset_view us wear granted pad =
+      record { image = v.image; found = v.found; deeds = reset_deeds v.deeds line unit; units = us; wear = wear; granted = granted; pad = pad }
 
   -- what the unit has of the chunk then
-  left : (old new : ModelUnit) → slice_get v.units unit ≡ Some old → (outcome : UnitOutcome) → outcome ≡ Answered Done → Steps old line Reset outcome new → new.media ≡ after_event v.image.shape old.media (reset_of line)
+  left : (old new : ModelUnit) → slice_get v.units unit ≡ Some old → (outcome : UnitOutcome) → outcome ≡ Answered Done → Steps old line Reset outcome new
+      → new.media ≡ after_event v.image.shape old.media (reset_of line)
   left old new here outcome done steps =
-      steps.media ∙ ap₂ (λ (s : Shape) (o : UnitOutcome). after_event s old.media (record { chunk = line; command = Reset; outcome = o })) (m.sound.each unit old here).shape done
+      steps.media ∙ ap₂ (λ (s : Shape) (o : UnitOutcome). after_event s old.media (record { chunk = line; command = Reset; outcome = o }))
+      (m.sound.each unit old here).shape done
 
-  now_has : (old new : ModelUnit) → slice_get v.units unit ≡ Some old → (outcome : UnitOutcome) → outcome ≡ Answered Done → Steps old line Reset outcome new → slice_get new.media line ≡ Some (after_reset v.image.shape is.chunk)
+  now_has : (old new : ModelUnit) → slice_get v.units unit ≡ Some old → (outcome : UnitOutcome) → outcome ≡ Answered Done → Steps old line Reset outcome new
+      → slice_get new.media line ≡ Some (after_reset v.image.shape is.chunk)
   now_has old new here outcome done steps =
-      ap (λ (cs : List Chunk). slice_get cs line) (left old new here outcome done steps) ∙ chunk_here v.image.shape (Some old.media) (reset_of line) is.chunk (has_chunk old here)
+      ap (λ (cs : List Chunk). slice_get cs line) (left old new here outcome done steps)
+      ∙ chunk_here v.image.shape (Some old.media) (reset_of line) is.chunk (has_chunk old here)
 
-  pub chunk_after : (old new : ModelUnit) (found : Chunk) → slice_get v.units unit ≡ Some old → (outcome : UnitOutcome) → outcome ≡ Answered Done → Steps old line Reset outcome new → slice_get new.media line ≡ Some found
+  pub chunk_after : (old new : ModelUnit) (found : Chunk) → slice_get v.units unit ≡ Some old → (outcome : UnitOutcome) → outcome ≡ Answered Done
+      → Steps old line Reset outcome new → slice_get new.media line ≡ Some found
       → found.state ≡ (after_reset v.image.shape is.chunk).state
   chunk_after old new found here outcome done steps at =
       ap (λ (x : Chunk). x.state) (same_Some found (after_reset v.image.shape is.chunk) (sym at ∙ now_has old new here outcome done steps))
 
-  pub has_line : (old new : ModelUnit) → slice_get v.units unit ≡ Some old → (outcome : UnitOutcome) → Steps old line Reset outcome new → line < length new.media
+  pub has_line : (old new : ModelUnit) → slice_get v.units unit ≡ Some old → (outcome : UnitOutcome) → Steps old line Reset outcome new
+      → line < length new.media
   has_line old new here outcome steps =
-      let many : length new.media ≡ length old.media = ap (λ (cs : List Chunk). length cs) steps.media ∙ log_count old.shape old.media (record { chunk = line; command = Reset; outcome = outcome } ∷ []) in
+      let many : length new.media ≡ length old.media = ap (λ (cs : List Chunk). length cs) steps.media
+      ∙ log_count old.shape old.media (record { chunk = line; command = Reset; outcome = outcome } ∷ []) in
       let low : line < length old.media = slice_get_within old.media line is.chunk (has_chunk old here) in
       omega arith
 
-  pub end_sound : {X : Type 0} (model : X → ModelUnit) (xs : List X) (k : ℕ) (old new : X) (wear : List (List ℕ)) (granted pad : ℕ) → v.units ≡ map model xs → k ≡ unit → slice_get v.units unit ≡ Some (model old)
+  pub end_sound : {X : Type 0} (model : X → ModelUnit) (xs : List X) (k : ℕ) (old new : X) (wear : List (List ℕ)) (granted pad : ℕ) → v.units ≡ map model xs
+      → k ≡ unit → slice_get v.units unit ≡ Some (model old)
       → (outcome : UnitOutcome) → outcome ≡ Answered Done → Steps (model old) line Reset outcome (model new) → IsFitUnit (model new)
       → IsSound (reset_view (map model (slice_set xs k new)) wear granted pad)
   end_sound model xs k old new wear granted pad are same here outcome done steps fit = record {
     legal = end_legal;
     beginning = m.sound.beginning;
-    has_begun = begun_in v (reset_view (map model (slice_set xs k new)) wear granted pad) (reset_more line unit) m.sound.beginning refl (reset_grown v.deeds line unit) m.sound.has_begun;
+    has_begun = begun_in v (reset_view (map model (slice_set xs k new)) wear granted pad) (reset_more line unit) m.sound.beginning refl
+        (reset_grown v.deeds line unit) m.sound.has_begun;
     first_low = m.sound.first_low;
     found_is = end_found ∙ m.sound.found_is;
     count = as_many model xs k new ∙ ap (λ (us : List ModelUnit). length us) (sym are) ∙ m.sound.count;
@@ -239,7 +252,8 @@ module _ (v : MountView) (c : Core) (p : PoolView) (f : Filling) (m : IsMount v 
       was : IsUnitIn v unit (model old)
       was = m.sound.each unit (model old) here
 
-      at_place : (n : ℕ) (u : ModelUnit) → slice_get (map model (slice_set xs k new)) n ≡ Some u → ((n ≡ unit) × (model new ≡ u)) ⊎ ((n ≢ unit) × (slice_get v.units n ≡ Some u))
+      at_place : (n : ℕ) (u : ModelUnit) → slice_get (map model (slice_set xs k new)) n ≡ Some u
+          → ((n ≡ unit) × (model new ≡ u)) ⊎ ((n ≢ unit) × (slice_get v.units n ≡ Some u))
       at_place n u at =
           subst (λ j. ((n ≡ j) × (model new ≡ u)) ⊎ ((n ≢ j) × (slice_get v.units n ≡ Some u))) same
           (subst (λ (us : List ModelUnit). ((n ≡ k) × (model new ≡ u)) ⊎ ((n ≢ k) × (slice_get us n ≡ Some u))) (sym are) (one_changed model xs k new n u at))
@@ -269,23 +283,28 @@ module _ (v : MountView) (c : Core) (p : PoolView) (f : Filling) (m : IsMount v 
 
   -- ---- the mount
 
-  pub mount_reset : (new : Core) (pool : PoolView) (us : List ModelUnit) (wear : List (List ℕ)) (granted : ℕ) → IsSound (reset_view us wear granted (pad_of new)) → Stands i (log_of end_world) new
-      → new.window.freed ≡ freed v.image.shape (log_of end_world 0) → window.AreOf pool.region new.window.entries → count_out pool.left ≡ length new.window.entries
+  pub mount_reset : (new : Core) (pool : PoolView) (us : List ModelUnit) (wear : List (List ℕ)) (granted : ℕ)
+      → IsSound (reset_view us wear granted (pad_of new)) → Stands i (log_of end_world) new
+      → new.window.freed ≡ freed v.image.shape (log_of end_world 0) → window.AreOf pool.region new.window.entries
+      → count_out pool.left ≡ length new.window.entries
       → pool.region ≡ p.region → granted ≡ max v.granted (room i (log_of end_world))
       → IsMount (reset_view us wear granted (pad_of new)) new pool f
   mount_reset new pool us wear granted sound stands drained own out region is_granted =
       let grows : freed v.image.shape (engine_log v) ≤ freed v.image.shape (log_of end_world 0) = freed_grows in
       let was : c.window.freed ≡ freed v.image.shape (engine_log v) = m.drained in
       let old : v.granted + units v.image.shape * v.image.shape.ws_opt ≤ c.window.freed + v.image.shape.ring = m.granted in
-      let low : v.granted + units v.image.shape * v.image.shape.ws_opt ≤ new.window.freed + v.image.shape.ring = further (v.granted + units v.image.shape * v.image.shape.ws_opt) c.window.freed new.window.freed v.image.shape.ring
+      let low : v.granted + units v.image.shape * v.image.shape.ws_opt ≤ new.window.freed + v.image.shape.ring =
+      further (v.granted + units v.image.shape * v.image.shape.ws_opt) c.window.freed new.window.freed v.image.shape.ring
       (freed v.image.shape (engine_log v)) (freed v.image.shape (log_of end_world 0)) old was drained grows in
-      let kept = grant_kept i end_world v.granted new.window.freed (first_position (engine_log v)) sound.legal drained first_at low m.last in
+      let kept = grant_kept i end_world v.granted new.window.freed
+      (first_position (engine_log v)) sound.legal.simple.mount.accepted drained first_at low m.last in
       record {
         sound = sound;
         stands = stands;
         pad = refl;
         level = subst IsLevel (sym end_is) (noted_level v.image.shape w unit line (next_maker w) m.level);
-        known = subst (IsKnown i) (sym end_is) (noted_known i w unit line is.chunk (next_maker w) m.sound.legal is.given_up is.unit_in_range there used m.known);
+        known = subst (IsKnown i) (sym end_is)
+            (noted_known i w unit line is.chunk (next_maker w) m.sound.legal is.given_up is.unit_in_range there used m.known);
         idle = λ other. ap (λ (x : World). unanswered_on (log_of x 0) other) end_is ∙ noted_waits v.image.shape w unit line other (next_maker w) ∙ m.idle other;
         drained = drained;
         own = own;
@@ -296,13 +315,16 @@ module _ (v : MountView) (c : Core) (p : PoolView) (f : Filling) (m : IsMount v 
         granted = subst (λ n. n + units v.image.shape * v.image.shape.ws_opt ≤ new.window.freed + v.image.shape.ring) (sym is_granted) kept.0;
         last = subst (λ n. n ≤ max (2 ^ 61 - 2) (first_position (log_of end_world 0))) (sym is_granted) kept.1;
         room = all_granted granted v.granted (room i (log_of end_world)) is_granted;
-        once = once_granted v (reset_view us wear granted (pad_of new)) (reset_more line unit) sound.beginning m.sound.legal sound.legal sound.has_begun refl (reset_grown v.deeds line unit) is_granted m.once;
+        once = once_granted v (reset_view us wear granted (pad_of new))
+            (reset_more line unit) sound.beginning m.sound.legal.simple.mount.legal sound.legal.simple sound.has_begun refl
+            (reset_grown v.deeds line unit) is_granted m.once;
       }
     where
       further : (a x y r g h : ℕ) → a ≤ x + r → x ≡ g → y ≡ h → g ≤ h → a ≤ y + r
       further a x y r g h low e f grows = omega arith
 
-  pub same_reset : (us : List ModelUnit) (wear : List (List ℕ)) (granted pad : ℕ) → wear ≡ v.wear → v.granted ≤ granted → v.pad ≤ pad → IsSameMount v (reset_view us wear granted pad)
+  pub same_reset : (us : List ModelUnit) (wear : List (List ℕ)) (granted pad : ℕ) → wear ≡ v.wear → v.granted ≤ granted → v.pad ≤ pad
+      → IsSameMount v (reset_view us wear granted pad)
   same_reset us wear granted pad same_wear more_granted more_pad = record {
     image = refl;
     found = refl;

@@ -9,8 +9,10 @@ use Rattle.pblk_world.specs.EngineLog.{Begun, begun, begun_by}
 use Rattle.pblk_world.specs.Fronts.{first_position, synced}
 use Rattle.pblk_world.specs.Lines.{found_image}
 use Rattle.pblk_world.specs.Space.{freed, room, ring_limit, space_limit, position_limit}
+use Rattle.pblk_model.specs.Accepted.{IsAccepted}
 use Rattle.pblk_world.specs.Legal.{IsDecision}
-use Rattle.core_laws.specs.PlainWorlds.{IsPlainWorld, ArePlain, is_plain_decision}
+use Rattle.core_laws.specs.FaultlessMounts.{IsFaultlessMount}
+use Rattle.core_laws.specs.PlainWorlds.{is_plain_decision}
 use Rattle.core_laws.proofs.Numbering.{first_stays}
 use Rattle.world_laws.proofs.Fronts.{synced_later}
 use Rattle.step_laws.specs.Whole.{knows_all}
@@ -39,16 +41,19 @@ pub found_next : (i : Image) (deeds : List Deed) (e : EngineEvent) (b : Begun) �
     → found_image i (log_of (world_of i.shape (deeds ++ Decides e ∷ []))) ≡ found_image i (log_of (world_of i.shape deeds))
 found_next i deeds e b may =
     ap (found_image i) (logs_decided i.shape deeds e)
-    ∙ found_kept i (log_of (world_of i.shape deeds)) e (knows_all i.shape (world_of i.shape deeds)) (begins_not i (log_of (world_of i.shape deeds)) b e (knows_all i.shape (world_of i.shape deeds)) may)
+    ∙ found_kept i (log_of (world_of i.shape deeds)) e (knows_all i.shape (world_of i.shape deeds))
+    (begins_not i (log_of (world_of i.shape deeds)) b e (knows_all i.shape (world_of i.shape deeds)) may)
 
 -- a mount whose deeds and units are these
 abbrev pub moved : MountView → List Deed → ℕ → ℕ → MountView
 moved v deeds granted pad = record { image = v.image; found = v.found; deeds = deeds; units = v.units; wear = v.wear; granted = granted; pad = pad }
 
-pub sound_next : (v : MountView) (e : EngineEvent) (b : Begun) (granted pad : ℕ) → IsSound v → begun (engine_log v) ≡ Some b → IsDecision v.image (logs_in v) b e → is_plain_decision e ≡ true
+pub sound_next : (v : MountView) (e : EngineEvent) (b : Begun) (granted pad : ℕ) → IsSound v → begun (engine_log v) ≡ Some b
+    → IsDecision v.image (logs_in v) b e → is_plain_decision e ≡ true
     → IsSound (moved v (v.deeds ++ Decides e ∷ []) granted pad)
 sound_next v e b granted pad sound has may plain = record {
-  legal = subst (IsPlainWorld v.image) (sym (world_more v.image.shape v.deeds (Decides e))) (engine_next v.image (world_in v) b e sound.legal has may plain);
+  legal = subst (IsFaultlessMount v.image) (sym (world_more v.image.shape v.deeds (Decides e)))
+      (engine_next v.image (world_in v) b e sound.legal has may plain);
   beginning = sound.beginning;
   has_begun = begun_grown v.image v.deeds (Decides e ∷ []) sound.beginning sound.has_begun;
   first_low = sound.first_low;
@@ -66,9 +71,9 @@ sound_next v e b granted pad sound has may plain = record {
 }
 
 -- the front synced doesn't fall
-pub synced_next : (i : Image) (deeds : List Deed) (e : EngineEvent) (b : Begun) → begun (log_of (world_of i.shape deeds) 0) ≡ Some b → IsPlainWorld i (world_of i.shape (deeds ++ Decides e ∷ []))
+pub synced_next : (i : Image) (deeds : List Deed) (e : EngineEvent)
     → synced i.shape (log_of (world_of i.shape deeds) 0) ≤ synced i.shape (log_of (world_of i.shape (deeds ++ Decides e ∷ [])) 0)
-synced_next i deeds e b has plain =
+synced_next i deeds e =
     let log : List Logged = log_of (world_of i.shape deeds) 0 in
     let l : Logged = record { event = Event e; knows = knows_all i.shape (world_of i.shape deeds) } in
     let is : log_of (world_of i.shape (deeds ++ Decides e ∷ [])) 0 ≡ log ++ l ∷ [] = ap (λ (logs : Logs). logs 0) (logs_decided i.shape deeds e) in
@@ -91,13 +96,15 @@ pub all_granted : (granted before free : ℕ) → granted ≡ max before free �
 all_granted granted before free is = omega arith
 
 -- what a grant by these logs keeps
-pub grant_kept : (i : Image) (w : World) (granted front first : ℕ) → IsPlainWorld i w → front ≡ freed i.shape (log_of w 0) → first_position (log_of w 0) ≡ first
+pub grant_kept : (i : Image) (w : World) (granted front first : ℕ) → IsAccepted i.shape → front ≡ freed i.shape (log_of w 0)
+    → first_position (log_of w 0) ≡ first
     → granted + units i.shape * i.shape.ws_opt ≤ front + i.shape.ring → granted ≤ max (2 ^ 61 - 2) first
-    → (max granted (room i (log_of w)) + units i.shape * i.shape.ws_opt ≤ front + i.shape.ring) × (max granted (room i (log_of w)) ≤ max (2 ^ 61 - 2) (first_position (log_of w 0)))
-grant_kept i w granted front first plain drained same was low =
+    → (max granted (room i (log_of w)) + units i.shape * i.shape.ws_opt ≤ front + i.shape.ring)
+    × (max granted (room i (log_of w)) ≤ max (2 ^ 61 - 2) (first_position (log_of w 0)))
+grant_kept i w granted front first accepted drained same was low =
     let both = least_of (ring_limit i.shape (log_of w 0)) (space_limit i (log_of w)) (position_limit (log_of w 0)) in
     let within : room i (log_of w) ≤ front + i.shape.ring - units i.shape * i.shape.ws_opt =
     subst (λ n. room i (log_of w) ≤ n + i.shape.ring - units i.shape * i.shape.ws_opt) (sym drained) both.0 in (
-      fits granted (room i (log_of w)) (units i.shape * i.shape.ws_opt) front i.shape.ring was within (ring_kept i.shape plain.accepted),
+      fits granted (room i (log_of w)) (units i.shape * i.shape.ws_opt) front i.shape.ring was within (ring_kept i.shape accepted),
       below_both granted (room i (log_of w)) (max (2 ^ 61 - 2) (first_position (log_of w 0))) (subst (λ n. granted ≤ max (2 ^ 61 - 2) n) (sym same) low) both.1,
     )

@@ -28,7 +28,7 @@ use Rattle.pblk_world.specs.Fronts.{first_position, synced}
 use Rattle.pblk_world.specs.Lines.{found_image}
 use Rattle.pblk_world.specs.Space.{freed, room}
 use Rattle.pblk_laws.specs.LineBlocks.{chunk_in}
-use Rattle.core_laws.specs.PlainWorlds.{IsPlainWorld}
+use Rattle.core_laws.specs.FaultlessMounts.{IsFaultlessMount}
 use Rattle.core_laws.specs.PlacerOf.{unanswered_on}
 use Rattle.step_laws.specs.Whole.{unit_step, fetch_of, next_maker, IsLevel, IsKnown}
 use Rattle.step_laws.proofs.UnitSteps.{engine_log as engine_log_stays, media_now, media_elsewhere}
@@ -57,7 +57,8 @@ read_taken s states.Open wp b fits h = let below : wp < s.clba = fits.1 in ap (�
 read_taken s states.Closed wp b fits h = ap (λ t. if t then None else Some errors.PastEnd) (lt_true b s.clba (omega arith))
 read_taken s states.Offline wp b fits h = absurd h
 
-chunk_of : (all : List (List Chunk)) (unit line : ℕ) (chunks : List Chunk) (o : Option Chunk) → slice_get all unit ≡ Some chunks → option_and_then (λ cs. slice_get cs line) (slice_get all unit) ≡ o → slice_get chunks line ≡ o
+chunk_of : (all : List (List Chunk)) (unit line : ℕ) (chunks : List Chunk) (o : Option Chunk) → slice_get all unit ≡ Some chunks
+    → option_and_then (λ cs. slice_get cs line) (slice_get all unit) ≡ o → slice_get chunks line ≡ o
 chunk_of all unit line chunks o there is = ap (option_and_then (λ (cs : List Chunk). slice_get cs line)) (sym there) ∙ is
 
 -- a block that can be fetched stands in its unit's chunk
@@ -69,15 +70,18 @@ pub record IsIn (u : ModelUnit) (chunk number : ℕ) (sector : List ℕ) : Type 
   pub written : slice_get found.blocks number ≡ Some block
   pub has : block.sector ≡ sector
 
-pub is_in : (v : MountView) (unit chunk number : ℕ) (sector : List ℕ) (u : ModelUnit) → IsSound v → slice_get v.units unit ≡ Some u → IsFetchable v unit chunk number sector → IsIn u chunk number sector
+pub is_in : (v : MountView) (unit chunk number : ℕ) (sector : List ℕ) (u : ModelUnit) → IsSound v → slice_get v.units unit ≡ Some u
+    → IsFetchable v unit chunk number sector → IsIn u chunk number sector
 is_in v unit chunk number sector u sound here is =
     let its : IsUnitIn v unit u = sound.each unit u here in
     let slot = is.slot in
-    let there : chunk_in (media v.image (logs_in v)) chunk unit ≡ Some slot.chunk = ap (chunk_in (media v.image (logs_in v)) chunk) (sym is.of_unit) ∙ slot.there in
+    let there : chunk_in (media v.image (logs_in v)) chunk unit ≡ Some slot.chunk = ap (chunk_in (media v.image (logs_in v)) chunk) (sym is.of_unit)
+    ∙ slot.there in
     record {
       found = slot.chunk;
       there = chunk_of (media v.image (logs_in v)).units unit chunk u.media (Some slot.chunk) its.media there;
-      readable = subst (λ (s : Shape). IsReadable s slot.chunk number) (sym its.shape) (subst (λ n. IsReadable v.image.shape slot.chunk n) is.of_number slot.readable);
+      readable = subst (λ (s : Shape). IsReadable s slot.chunk number) (sym its.shape)
+          (subst (λ n. IsReadable v.image.shape slot.chunk n) is.of_number slot.readable);
       block = slot.block;
       written = ap (slice_get slot.chunk.blocks) (sym is.of_number) ∙ slot.written;
       has = is.has;
@@ -101,7 +105,8 @@ fetched v unit chunk number b new = record {
   pad = v.pad;
 }
 
-module _ (v : MountView) (unit chunk number : ℕ) (u new : ModelUnit) (b : Block) (sound : IsSound v) (here : slice_get v.units unit ≡ Some u) (step : Steps u chunk (Read number) (Answered (Gave b)) new)
+module _ (v : MountView) (unit chunk number : ℕ) (u new : ModelUnit) (b : Block) (sound : IsSound v) (here : slice_get v.units unit ≡ Some u)
+    (step : Steps u chunk (Read number) (Answered (Gave b)) new)
     (fits : IsFitUnit u → IsFitUnit new) where
   abbrev w : World
   w = world_in v
@@ -127,7 +132,7 @@ module _ (v : MountView) (unit chunk number : ℕ) (u new : ModelUnit) (b : Bloc
   in_range : unit < units_of v.image.shape
   in_range = subst (λ n. unit < n) sound.count (slice_get_within v.units unit u here)
 
-  legal : IsPlainWorld v.image next
+  legal : IsFaultlessMount v.image next
   legal =
       fetch_next v.image w unit chunk number step.event.found (Gave b) (next_maker w) sound.legal in_range
       (ap (option_and_then (λ (cs : List Chunk). slice_get cs chunk)) its.media ∙ step.event.there)
@@ -171,11 +176,12 @@ module _ (v : MountView) (unit chunk number : ℕ) (u new : ModelUnit) (b : Bloc
 
   pub fetched_sound : IsSound left
   fetched_sound = record {
-    legal = subst (λ (x : World). IsPlainWorld v.image x) (sym now) legal;
+    legal = subst (λ (x : World). IsFaultlessMount v.image x) (sym now) legal;
     beginning = sound.beginning;
     has_begun = ap begun log_now ∙ sound.has_begun;
     first_low = sound.first_low;
-    found_is = ap (λ (x : World). found_image v.image (log_of x)) now ∙ found_stays v.image w unit e (next_maker w) sound.legal ∙ sound.found_is;
+    found_is = ap (λ (x : World). found_image v.image (log_of x)) now ∙ found_stays v.image w unit e (next_maker w) sound.legal.simple.mount.legal
+        ∙ sound.found_is;
     count = length-set v.units unit new ∙ sound.count;
     each = λ n x there. each n x (cases_order n unit) there;
   }
@@ -197,9 +203,11 @@ module _ (v : MountView) (unit chunk number : ℕ) (u new : ModelUnit) (b : Bloc
   pub fetched_mount : (c : Core) (p : PoolView) (filling : Filling) → IsMount v c p filling → IsMount left c p filling
   fetched_mount c p filling is = record {
     sound = fetched_sound;
-    stands = subst (λ (x : World). Stands v.image (log_of x) c) (sym now) (stands_beside v.image w unit e (next_maker w) c sound.legal is.stands);
+    stands = subst (λ (x : World). Stands v.image (log_of x) c) (sym now)
+        (stands_beside v.image w unit e (next_maker w) c sound.legal.simple.mount.legal is.stands);
     pad = is.pad;
-    known = subst (λ (x : World). IsKnown v.image x) (sym now) (known_at_fetch v.image w unit chunk number (Gave b) (next_maker w) sound.legal is.known);
+    known = subst (λ (x : World). IsKnown v.image x) (sym now)
+        (known_at_fetch v.image w unit chunk number (Gave b) (next_maker w) sound.legal.simple.mount.legal is.known);
     level = subst (λ (x : World). IsLevel x) (sym now) (level_unit v.image.shape unit e (next_maker w) w refl is.level);
     idle = λ n. ap (λ (log : List Logged). unanswered_on log n) log_now ∙ is.idle n;
     drained = is.drained ∙ ap (freed v.image.shape) (sym log_now);
@@ -211,10 +219,11 @@ module _ (v : MountView) (unit chunk number : ℕ) (u new : ModelUnit) (b : Bloc
     granted = is.granted;
     last = subst (λ n. v.granted ≤ max (2 ^ 61 - 2) n) (sym (ap first_position log_now)) is.last;
     room =
-        let same : room v.image (logs_in left) ≡ room v.image (logs_in v) = ap (λ (x : World). room v.image (log_of x)) now ∙ room_stays v.image w unit e (next_maker w) sound.legal in
+        let same : room v.image (logs_in left) ≡ room v.image (logs_in v) = ap (λ (x : World). room v.image (log_of x)) now
+        ∙ room_stays v.image w unit e (next_maker w) sound.legal.simple.mount.legal in
         let low : room v.image (logs_in v) ≤ v.granted = is.room in
         omega (arith, same, low);
-    once = room_grown v left (Does unit e ∷ []) v.granted sound.legal refl refl is.once;
+    once = room_grown v left (Does unit e ∷ []) v.granted sound.legal.simple.mount.legal refl refl is.once;
   }
 
   -- what was given is what stands there
@@ -227,7 +236,8 @@ module _ (v : MountView) (unit chunk number : ℕ) (u new : ModelUnit) (b : Bloc
       ap (λ (x : Block). x.sector) has ∙ at.has
 
 -- it gives a block
-pub gives : (u new : ModelUnit) (chunk number : ℕ) (sector before out : List ℕ) (result : Result Got UnitErr) (outcome : UnitOutcome) → IsIn u chunk number sector → IsOk result → TellsBlock before out result outcome
+pub gives : (u new : ModelUnit) (chunk number : ℕ) (sector before out : List ℕ) (result : Result Got UnitErr) (outcome : UnitOutcome)
+    → IsIn u chunk number sector → IsOk result → TellsBlock before out result outcome
     → Steps u chunk (Read number) outcome new → (mark : Mark) × (result ≡ Ok (got.Sector mark))
 gives u new chunk number sector before out (Ok (got.Sector mark)) outcome is ok tells step = (mark, refl)
 gives u new chunk number sector before out (Ok got.Empty) outcome is ok tells step =
@@ -237,27 +247,36 @@ gives u new chunk number sector before out (Ok got.Empty) outcome is ok tells st
 gives u new chunk number sector before out (Err x) outcome is ok tells step = cc
 
 -- a unit that is borrowed out of a list
-pub unit_read : {A : Type 0} (model : A → ModelUnit) (units : List A) (unit : ℕ) (x : A) → unit < length units → x ≡ slice_index_or units unit x → slice_get (map model units) unit ≡ Some (model x)
+pub unit_read : {A : Type 0} (model : A → ModelUnit) (units : List A) (unit : ℕ) (x : A) → unit < length units → x ≡ slice_index_or units unit x
+    → slice_get (map model units) unit ≡ Some (model x)
 unit_read model units unit x within is = slice_get-map model units unit ∙ ap (option_map model) (slice_get_read units (length units) unit x refl within is)
 
-pub unit_inside : {A : Type 0} (model : A → ModelUnit) (v : MountView) (units : List A) (unit chunk number : ℕ) (sector : List ℕ) → IsSound v → v.units ≡ map model units → IsFetchable v unit chunk number sector → unit < length units
+pub unit_inside : {A : Type 0} (model : A → ModelUnit) (v : MountView) (units : List A) (unit chunk number : ℕ) (sector : List ℕ) → IsSound v
+    → v.units ≡ map model units → IsFetchable v unit chunk number sector → unit < length units
 unit_inside model v units unit chunk number sector sound same is =
     let count : length v.units ≡ length units = ap (λ (us : List ModelUnit). length us) same ∙ length-map units model in
     let whole : length v.units ≡ units_of v.image.shape = sound.count in
     let range : unit < units_of v.image.shape = subst (λ n. n < units_of v.image.shape) is.of_unit is.slot.of_drive in
     omega arith
 
-pub gave_step : (u new : ModelUnit) (chunk number : ℕ) (before out : List ℕ) (result : Result Got UnitErr) (field : Got) (mark : Mark) (outcome : UnitOutcome) → result ≡ Ok field → field ≡ got.Sector mark
-    → TellsBlock before out result outcome → Steps u chunk (Read number) outcome new → Steps u chunk (Read number) (Answered (Gave (record { sector = out; mark = mark }))) new
+pub gave_step : (u new : ModelUnit) (chunk number : ℕ) (before out : List ℕ) (result : Result Got UnitErr) (field : Got) (mark : Mark) (outcome : UnitOutcome)
+    → result ≡ Ok field → field ≡ got.Sector mark
+    → TellsBlock before out result outcome → Steps u chunk (Read number) outcome new
+    → Steps u chunk (Read number) (Answered (Gave (record { sector = out; mark = mark }))) new
 gave_step u new chunk number before out result field mark outcome is has tells step =
-    subst (λ (o : UnitOutcome). Steps u chunk (Read number) o new) (subst (λ (r : Result Got UnitErr). TellsBlock before out r outcome) (is ∙ ap (λ (x : Got). Ok x) has) tells) step
+    subst (λ (o : UnitOutcome). Steps u chunk (Read number) o new)
+    (subst (λ (r : Result Got UnitErr). TellsBlock before out r outcome) (is ∙ ap (λ (x : Got). Ok x) has) tells) step
 
 -- the mount's view, by its parts
-pub is_fetched : (v : MountView) (unit chunk number : ℕ) (b : Block) (new : ModelUnit) (deeds : List Deed) (us : List ModelUnit) (wear : List (List ℕ)) → deeds ≡ v.deeds ++ Does unit (fetch_of chunk number (Gave b)) ∷ [] → us ≡ slice_set v.units unit new → wear ≡ v.wear
-    → ◌≡◌ {A = MountView} (fetched v unit chunk number b new) (record { image = v.image; found = v.found; deeds = deeds; units = us; wear = wear; granted = v.granted; pad = v.pad })
+pub is_fetched : (v : MountView) (unit chunk number : ℕ) (b : Block) (new : ModelUnit) (deeds : List Deed) (us : List ModelUnit) (wear : List (List ℕ))
+    → deeds ≡ v.deeds ++ Does unit (fetch_of chunk number (Gave b)) ∷ [] → us ≡ slice_set v.units unit new → wear ≡ v.wear
+    → ◌≡◌ {A = MountView} (fetched v unit chunk number b new)
+    (record { image = v.image; found = v.found; deeds = deeds; units = us; wear = wear; granted = v.granted; pad = v.pad })
 is_fetched v unit chunk number b new deeds us wear e f same =
-    ap₂ (λ (ds : List Deed) (xs : List ModelUnit). record { image = v.image; found = v.found; deeds = ds; units = xs; wear = v.wear; granted = v.granted; pad = v.pad }) (sym e) (sym f)
-    ∙ ap (λ (ws : List (List ℕ)). record { image = v.image; found = v.found; deeds = deeds; units = us; wear = ws; granted = v.granted; pad = v.pad }) (sym same)
+    ap₂ (λ (ds : List Deed) (xs : List ModelUnit). record
+    { image = v.image; found = v.found; deeds = ds; units = xs; wear = v.wear; granted = v.granted; pad = v.pad }) (sym e) (sym f)
+    ∙ ap (λ (ws : List (List ℕ)). record { image = v.image; found = v.found; deeds = deeds; units = us; wear = ws; granted = v.granted; pad = v.pad })
+    (sym same)
 
 pub same_from : (old v mid new : MountView) → v ≡ old → mid ≡ new → IsSameMount v mid → IsSameMount old new
 same_from old v mid new e f same = subst (λ (x : MountView). IsSameMount x new) e (subst (λ (x : MountView). IsSameMount v x) f same)

@@ -33,7 +33,8 @@ first_of_more size k bytes enough =
     let e : k + 0 ≡ k = omega arith in
     ap (sectors_of size k) (sym (take-append-drop (k * size) bytes)) ∙ ap (λ n. sectors_of size n (take (k * size) bytes ++ drop (k * size) bytes)) (sym e)
     ∙ sectors_append size k 0 (take (k * size) bytes) (drop (k * size) bytes) (length-take-le (k * size) bytes enough)
-    ∙ ap (λ ss. sectors_of size k (take (k * size) bytes) ++ ss) (cut_none size (drop (k * size) bytes)) ∙ append-nil (sectors_of size k (take (k * size) bytes))
+    ∙ ap (λ ss. sectors_of size k (take (k * size) bytes) ++ ss) (cut_none size (drop (k * size) bytes))
+    ∙ append-nil (sectors_of size k (take (k * size) bytes))
 
 pub one_more_read : (size index : ℕ) (bytes sector : List ℕ) → length sector ≡ size → index * size + size ≤ length bytes
     → sectors_of size (index + 1) (put_mid (index * size) size bytes sector) ≡ sectors_of size index bytes ++ sector ∷ []
@@ -41,7 +42,8 @@ one_more_read size index bytes sector long fits =
     let before : length (take (index * size) bytes) ≡ index * size = length-take-le (index * size) bytes (omega arith) in
     ap (sectors_of size (index + 1)) (put_part (index * size) size bytes sector sector refl (sym long) (omega (arith, long)))
     ∙ sectors_append size index 1 (take (index * size) bytes) (sector ++ drop (index * size + length sector) bytes) before
-    ∙ ap₂ (λ (a b : List (List ℕ)). a ++ b) (sym (first_of_more size index bytes (omega arith))) (one_of size sector (drop (index * size + length sector) bytes) long)
+    ∙ ap₂ (λ (a b : List (List ℕ)). a ++ b) (sym (first_of_more size index bytes (omega arith)))
+    (one_of size sector (drop (index * size + length sector) bytes) long)
 
 -- ---- a range of sectors, and one more
 
@@ -54,7 +56,8 @@ take_next (suc n) (y ∷ xs) x there = let e : suc n + 1 ≡ suc (n + 1) = omega
 pub range_none : {X : Type 0} (xs : List X) (at : ℕ) → slice_range xs at (at + 0) ≡ []
 range_none xs at = let e : at + 0 - at ≡ 0 = omega arith in ap (λ n. take n (drop at xs)) e
 
-pub range_next : {X : Type 0} (xs : List X) (at n : ℕ) (x : X) → slice_get xs (at + n) ≡ Some x → slice_range xs at (at + (n + 1)) ≡ slice_range xs at (at + n) ++ x ∷ []
+pub range_next : {X : Type 0} (xs : List X) (at n : ℕ) (x : X) → slice_get xs (at + n) ≡ Some x
+    → slice_range xs at (at + (n + 1)) ≡ slice_range xs at (at + n) ++ x ∷ []
 range_next xs at n x there =
     let long : at + (n + 1) - at ≡ n + 1 = omega arith in
     let short : at + n - at ≡ n = omega arith in
@@ -65,7 +68,8 @@ range_next xs at n x there =
 -- all sectors are as they were
 pub latest_stays : (a b : MountView) → IsSameMount a b → latest b ≡ latest a
 latest_stays a b same =
-    ap₂ (λ (found : Image) (ts : List Taken). after_history (contents found) (map (λ t. record { lba = t.entry.lba; sector = t.entry.sector }) (filter (λ t. is_users t.entry.source) ts))) same.found same.takes
+    ap₂ (λ (found : Image) (ts : List Taken). after_history (contents found)
+    (map (λ t. record { lba = t.entry.lba; sector = t.entry.sector }) (filter (λ t. is_users t.entry.source) ts))) same.found same.takes
 
 -- ---- the loop
 
@@ -77,7 +81,8 @@ pub record IsReading (old now : MountView) (lba size count index : ℕ) (out : L
   pub read : sectors_of size index out ≡ slice_range (latest old) lba (lba + index)
 
 pub reading_begins : (v : MountView) (lba size count : ℕ) (out : List ℕ) → IsSound v → IsReading v v lba size count 0 out
-reading_begins v lba size count out sound = record { same = same_mount v; pad = refl; sound = sound; read = cut_none size out ∙ sym (range_none (latest v) lba) }
+reading_begins v lba size count out sound =
+    record { same = same_mount v; pad = refl; sound = sound; read = cut_none size out ∙ sym (range_none (latest v) lba) }
 
 pub part_inside : (index count size : ℕ) → index < count → index * size + size ≤ count * size
 part_inside index count size less =
@@ -85,13 +90,16 @@ part_inside index count size less =
     let le : (index + 1) * size ≤ count * size = mul-le-mul_right size (let h : index + 1 ≤ count = omega arith in h) in
     omega arith
 
-pub reading_more : (old now new : MountView) (lba size count index n : ℕ) (out sector : List ℕ) → IsReading old now lba size count index out → index < count → length out ≡ count * size
-    → IsSameMount now new → new.pad ≡ now.pad → IsSound new → slice_get (latest now) (lba + index) ≡ Some sector → length sector ≡ length (slice_range out (index * size) (index * size + size)) → n ≡ size
+pub reading_more : (old now new : MountView) (lba size count index n : ℕ) (out sector : List ℕ) → IsReading old now lba size count index out → index < count
+    → length out ≡ count * size
+    → IsSameMount now new → new.pad ≡ now.pad → IsSound new → slice_get (latest now) (lba + index) ≡ Some sector
+    → length sector ≡ length (slice_range out (index * size) (index * size + size)) → n ≡ size
     → IsReading old new lba size count (index + 1) (put_mid (index * size) n out sector)
 reading_more old now new lba size count index n out sector is less whole same padded sound there kept wide =
     let inside : index * size + size ≤ count * size = part_inside index count size less in
     let long : length sector ≡ size = kept ∙ part_length (index * size) size out (omega arith) in
-    let at : slice_get (latest old) (lba + index) ≡ Some sector = ap (λ (xs : List (List ℕ)). slice_get xs (lba + index)) (sym (latest_stays old now is.same)) ∙ there in
+    let at : slice_get (latest old) (lba + index) ≡ Some sector = ap (λ (xs : List (List ℕ)). slice_get xs (lba + index)) (sym (latest_stays old now is.same))
+    ∙ there in
     record {
       same = same_then old now new is.same same;
       pad = padded ∙ is.pad;
@@ -103,10 +111,13 @@ reading_more old now new lba size count index n out sector is less whole same pa
 
 -- ---- what a read answers: all that was taken
 
-pub words_at : (s : SerialView) (n lba count : ℕ) → n ≡ length (user_takes (engine_log s.mount)) → slice_range (latest s.mount) lba (lba + count) ≡ slice_range (contents_after (device s) n) lba (lba + count)
+pub words_at : (s : SerialView) (n lba count : ℕ) → n ≡ length (user_takes (engine_log s.mount))
+    → slice_range (latest s.mount) lba (lba + count) ≡ slice_range (contents_after (device s) n) lba (lba + count)
 words_at s n lba count all = ap (λ (xs : List (List ℕ)). slice_range xs lba (lba + count)) (sym held)
   where
-    lines : (ts : List Taken) → take (length ts) (map (λ (x : PlacedSector). x.write) (map (λ (t : Taken). record { position = t.entry.position; write = record { lba = t.entry.lba; sector = t.entry.sector } }) ts))
+    lines : (ts : List Taken) → take (length ts)
+        (map (λ (x : PlacedSector). x.write)
+        (map (λ (t : Taken). record { position = t.entry.position; write = record { lba = t.entry.lba; sector = t.entry.sector } }) ts))
         ≡ map (λ (t : Taken). record { lba = t.entry.lba; sector = t.entry.sector }) ts
     lines [] = refl
     lines (t ∷ ts) = ap (λ (xs : List SectorWrite). record { lba = t.entry.lba; sector = t.entry.sector } ∷ xs) (lines ts)
@@ -118,14 +129,19 @@ words_at s n lba count all = ap (λ (xs : List (List ℕ)). slice_range xs lba (
 
 -- the sectors that a read of a port gave
 pub told_words : (old new : SerialView) (front : Front) (lba count : ℕ) (out : List ℕ) → IsSameMount old.mount new.mount → front ≡ front_taken old.mount
-    → sectors_of old.mount.image.shape.sector count out ≡ slice_range (latest old.mount) lba (lba + count) → sectors_of (device old).sector count out ≡ sectors_at (device new) front lba count
+    → sectors_of old.mount.image.shape.sector count out ≡ slice_range (latest old.mount) lba (lba + count)
+    → sectors_of (device old).sector count out ≡ sectors_at (device new) front lba count
 told_words old new front lba count out same at read =
     let users : front.users ≡ length (user_takes (engine_log new.mount)) =
     ap (λ (f : Front). f.users) at ∙ ap (λ (ts : List Taken). length (filter (λ t. is_users t.entry.source) ts)) (sym same.takes) in
-    read ∙ ap (λ (xs : List (List ℕ)). slice_range xs lba (lba + count)) (sym (latest_stays old.mount new.mount same)) ∙ words_at new front.users lba count users
+    read ∙ ap (λ (xs : List (List ℕ)). slice_range xs lba (lba + count)) (sym (latest_stays old.mount new.mount same))
+    ∙ words_at new front.users lba count users
 
-pub read_words : (v old new : SerialView) (front : Front) (lba size len : ℕ) (out : List ℕ) → v ≡ old → IsSameMount v.mount new.mount → front ≡ front_taken v.mount → size ≡ v.mount.image.shape.sector
-    → sectors_of size (len / size) out ≡ slice_range (latest v.mount) lba (lba + len / size) → sectors_of (device old).sector (count_in (device old) len) out ≡ sectors_at (device new) front lba (count_in (device old) len)
+pub read_words : (v old new : SerialView) (front : Front) (lba size len : ℕ) (out : List ℕ) → v ≡ old → IsSameMount v.mount new.mount
+    → front ≡ front_taken v.mount → size ≡ v.mount.image.shape.sector
+    → sectors_of size (len / size) out ≡ slice_range (latest v.mount) lba (lba + len / size)
+    → sectors_of (device old).sector (count_in (device old) len) out ≡ sectors_at (device new) front lba (count_in (device old) len)
 read_words v old new front lba size len out is same at wide read =
     subst (λ (o : SerialView). sectors_of (device o).sector (count_in (device o) len) out ≡ sectors_at (device new) front lba (count_in (device o) len)) is
-    (told_words v new front lba (len / v.mount.image.shape.sector) out same at (subst (λ s. sectors_of s (len / s) out ≡ slice_range (latest v.mount) lba (lba + len / s)) wide read))
+    (told_words v new front lba (len / v.mount.image.shape.sector) out same at
+    (subst (λ s. sectors_of s (len / s) out ≡ slice_range (latest v.mount) lba (lba + len / s)) wide read))

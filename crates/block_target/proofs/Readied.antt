@@ -8,7 +8,8 @@ use Rattle.step_laws.specs.Opened.{new_events}
 use Rattle.block_target.specs.Deeds.{Deed, Readies, Decides, drive_before}
 use Rattle.block_target.specs.Opened.{first_deeds}
 
-pub ready_lists : (old new : List ModelUnit) (found : Found) (rows one two : List (List ModelUnit)) (none first second : List Deed) → rows ≡ [] → none ≡ [] → one ≡ rows ++ old ∷ []
+pub ready_lists : (old new : List ModelUnit) (found : Found) (rows one two : List (List ModelUnit)) (none first second : List Deed) → rows ≡ [] → none ≡ []
+    → one ≡ rows ++ old ∷ []
     → first ≡ none ++ Readies (new_events (drive_before one) new) ∷ [] → two ≡ one ++ new ∷ [] → second ≡ first ++ Decides (Begin (beginning_of found)) ∷ []
     → (two ≡ old ∷ new ∷ []) × (second ≡ first_deeds old new found)
 ready_lists old new found rows one two none first second a b c d e f =

@@ -58,35 +58,45 @@ module _ (i : Image) (later w : World) (n : ℕ) (legal : IsLegal i w) where
   refusal_later (suc others) wanted have is = write_later (suc others) wanted have is
 
   refused_later : (a : WornAnswer) → IsRefusedAt i (log_of w) n a → IsRefusedAt i (log_of (later ++ w)) n a
-  refused_later a is = record { written = ap (λ (logs : Logs). length (takes (logs 0))) (same_lengths i later w n legal at.0 at.1) ∙ is.written; cause = refusal_later a.count a.wanted a.have is.cause }
+  refused_later a is = record {
+    written = ap (λ (logs : Logs). length (takes (logs 0))) (same_lengths i later w n legal at.0 at.1) ∙ is.written;
+    cause =
+        refusal_later a.count a.wanted a.have is.cause;
+  }
     where
       at : (0 < n) × (n ≤ length (log_of w 0))
       at = refused_within i (log_of w) n a.count a.wanted a.have is.cause
 
 -- ---- all of them
 
-refusals_later : (i : Image) (later w : World) (from : ℕ) (worns : List WornAnswer) → IsLegal i w → AreRefusals i (log_of w) from worns → AreRefusals i (log_of (later ++ w)) from worns
+refusals_later : (i : Image) (later w : World) (from : ℕ) (worns : List WornAnswer) → IsLegal i w → AreRefusals i (log_of w) from worns
+    → AreRefusals i (log_of (later ++ w)) from worns
 refusals_later i later w from [] legal are = tt
-refusals_later i later w from (a ∷ worns) legal are = (are.0, are.1, refused_later i later w are.0 legal a are.2, refusals_later i later w are.0 worns legal are.3)
+refusals_later i later w from (a ∷ worns) legal are =
+    (are.0, are.1, refused_later i later w are.0 legal a are.2, refusals_later i later w are.0 worns legal are.3)
 
-refusals_with : (i : Image) (deeds more : List Deed) (from : ℕ) (worns : List WornAnswer) → IsLegal i (world_of i.shape deeds) → AreRefusals i (log_of (world_of i.shape deeds)) from worns
+refusals_with : (i : Image) (deeds more : List Deed) (from : ℕ) (worns : List WornAnswer) → IsLegal i (world_of i.shape deeds)
+    → AreRefusals i (log_of (world_of i.shape deeds)) from worns
     → AreRefusals i (log_of (world_of i.shape (deeds ++ more))) from worns
 refusals_with i deeds more from worns legal are =
-    let later : (later : World) × (with_deeds i (world_of i.shape deeds) more ≡ later ++ world_of i.shape deeds) = deeds_later i (world_of i.shape deeds) more in
+    let later : (later : World) × (with_deeds i (world_of i.shape deeds) more ≡ later ++ world_of i.shape deeds) =
+    deeds_later i (world_of i.shape deeds) more in
     subst (λ (w : World). AreRefusals i (log_of w) from worns)
     (sym (fold-append (after_deed i.shape) [] deeds more ∙ later.1))
     (refusals_later i later.0 (world_of i.shape deeds) from worns legal are)
 
 -- by what was done since
-pub refusals_grown : (old new : MountView) (more : List Deed) (from : ℕ) (worns : List WornAnswer) → IsSound old → new.image ≡ old.image → new.deeds ≡ old.deeds ++ more
+pub refusals_grown : (old new : MountView) (more : List Deed) (from : ℕ) (worns : List WornAnswer) → IsSound old → new.image ≡ old.image
+    → new.deeds ≡ old.deeds ++ more
     → AreRefusals old.image (logs_in old) from worns → AreRefusals new.image (logs_in new) from worns
 refusals_grown old new more from worns sound image deeds are =
     subst (λ (i : Image). AreRefusals i (log_of (world_of i.shape new.deeds)) from worns) (sym image)
     (subst (λ (ds : List Deed). AreRefusals old.image (log_of (world_of old.image.shape ds)) from worns) (sym deeds)
-    (refusals_with old.image old.deeds more from worns sound.legal.legal are))
+    (refusals_with old.image old.deeds more from worns sound.legal.simple.mount.legal are))
 
 -- and one more, now
-pub refusals_more : (i : Image) (logs : Logs) (from : ℕ) (worns : List WornAnswer) (a : WornAnswer) → from ≤ length (logs 0) → AreRefusals i logs from worns → IsRefusedAt i logs (length (logs 0)) a
+pub refusals_more : (i : Image) (logs : Logs) (from : ℕ) (worns : List WornAnswer) (a : WornAnswer) → from ≤ length (logs 0) → AreRefusals i logs from worns
+    → IsRefusedAt i logs (length (logs 0)) a
     → AreRefusals i logs from (worns ++ a ∷ [])
 refusals_more i logs from [] a low are is = (length (logs 0), low, is, tt)
 refusals_more i logs from (b ∷ worns) a low are is =
@@ -97,7 +107,8 @@ pub entries_more : (v : MountView) (lba : ℕ) (sectors : List (List ℕ)) → (
 entries_more v lba [] = ([], sym (append-nil v.deeds))
 entries_more v lba (sector ∷ sectors) =
     let one : List Deed = Decides (Take (next_entry v lba sector) (sector_mark lba (taken_in v))) ∷ [] in
-    let rest : (more : List Deed) × ((with_entries (with_entry v lba sector) (lba + 1) sectors).deeds ≡ (v.deeds ++ one) ++ more) = entries_more (with_entry v lba sector) (lba + 1) sectors in
+    let rest : (more : List Deed) × ((with_entries (with_entry v lba sector) (lba + 1) sectors).deeds ≡ (v.deeds ++ one) ++ more) =
+    entries_more (with_entry v lba sector) (lba + 1) sectors in
     (one ++ rest.0, rest.1 ∙ append_assoc v.deeds one rest.0)
 
 -- ---- what is refused
@@ -111,7 +122,8 @@ flush_refused v wanted have stuck at padded low = record {
   all_taken = low ∙ ap taken (sym (take-length (engine_log v)));
 }
 
-pub write_refused : (v : MountView) (count wanted have : ℕ) → IsStuckAt v wanted have → have ≡ v.granted → WasRoom v.image (logs_in v) (length (engine_log v)) v.granted → wanted ≡ taken_in v + count
+pub write_refused : (v : MountView) (count wanted have : ℕ) → IsStuckAt v wanted have → have ≡ v.granted
+    → WasRoom v.image (logs_in v) (length (engine_log v)) v.granted → wanted ≡ taken_in v + count
     → IsWriteRefusal v.image (logs_in v) (length (engine_log v)) count wanted have
 write_refused v count wanted have stuck at once own = record {
   nothing_left = stuck.spent.nothing_left 0 (omega arith);
@@ -122,6 +134,7 @@ write_refused v count wanted have stuck at once own = record {
 }
 
 -- a write is of one sector at least
-pub refusal_of_write : (i : Image) (logs : Logs) (n count wanted have : ℕ) → 1 ≤ count → IsWriteRefusal i logs n count wanted have → IsRefusal i logs n count wanted have
+pub refusal_of_write : (i : Image) (logs : Logs) (n count wanted have : ℕ) → 1 ≤ count → IsWriteRefusal i logs n count wanted have
+    → IsRefusal i logs n count wanted have
 refusal_of_write i logs n zero wanted have some is = absurd (omega arith)
 refusal_of_write i logs n (suc others) wanted have some is = is

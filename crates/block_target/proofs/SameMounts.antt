@@ -9,7 +9,8 @@ use Rattle.block_target.specs.Mount.{MountView, IsSameMount, IsStuckAt, IsSpent,
 use Rattle.block_target.proofs.MountLemmas.{same_mount, same_then}
 
 -- as much was done, and the grant and the pad target haven't fallen
-pub same_deeds : (old new : MountView) → new.image ≡ old.image → new.found ≡ old.found → new.wear ≡ old.wear → new.deeds ≡ old.deeds → old.granted ≤ new.granted → old.pad ≤ new.pad → IsSameMount old new
+pub same_deeds : (old new : MountView) → new.image ≡ old.image → new.found ≡ old.found → new.wear ≡ old.wear → new.deeds ≡ old.deeds → old.granted ≤ new.granted
+    → old.pad ≤ new.pad → IsSameMount old new
 same_deeds old new image found wear deeds granted pad =
     let logs : engine_log new ≡ engine_log old = ap₂ (λ (i : Image) (ds : List Deed). log_of (world_of i.shape ds) 0) image deeds in
     let fronts : synced_in new ≡ synced_in old = ap₂ (λ (i : Image) log. synced i.shape log) image logs in
@@ -47,11 +48,13 @@ worked_asked v p to is = record {
 pub worked_more : (a v new : MountView) (pad : ℕ) → IsWorked a v pad → IsSameMount v new → new.pad ≡ v.pad → IsWorked a new pad
 worked_more a v new pad is same still = record { same = same_then a v new is.same same; pad = still ∙ is.pad }
 
-pub stuck_synced : (v new : MountView) (to have : ℕ) → have ≡ synced_in v → have < to → to ≤ v.pad → (new ≡ v) × IsSpent v → (have ≡ synced_in new) × (to ≤ new.pad) × IsStuckAt new to have
+pub stuck_synced : (v new : MountView) (to have : ℕ) → have ≡ synced_in v → have < to → to ≤ v.pad → (new ≡ v) × IsSpent v
+    → (have ≡ synced_in new) × (to ≤ new.pad) × IsStuckAt new to have
 stuck_synced v new to have at short padded rest =
     subst (λ n. (have ≡ synced_in n) × (to ≤ n.pad) × IsStuckAt n to have) (sym rest.0) (at, padded, record { spent = rest.1; short = short })
 
-pub stuck_claimed : (v new : MountView) (before have wanted : ℕ) → before ≡ v.granted → have ≡ new.granted → before < wanted → (new ≡ v) × IsSpent v → (have ≡ new.granted) × IsStuckAt new wanted have
+pub stuck_claimed : (v new : MountView) (before have wanted : ℕ) → before ≡ v.granted → have ≡ new.granted → before < wanted → (new ≡ v) × IsSpent v
+    → (have ≡ new.granted) × IsStuckAt new wanted have
 stuck_claimed v new before have wanted was at short rest =
     let same : new.granted ≡ v.granted = ap (λ (x : MountView). x.granted) rest.0 in
     (at, record { spent = subst IsSpent (sym rest.0) rest.1; short = omega arith })

@@ -22,7 +22,8 @@ spent v c p f reason m none = record {
     has_begun = engine_longer (world_in v) m.stands.beginning m.stands.has_begun;
     within = le_refl (length (engine_log v));
     nothing_left = subst (λ (logs : Logs). HasNothingLeft v.image logs asked) (sym is.logs)
-        (nothing_left v.image is.left v.pad reason is.legal (λ unit. ap (λ (log : List Logged). unanswered_on log unit) is.own ∙ m.idle unit) (is.work v.pad ∙ none) asked within);
+        (nothing_left v.image is.left v.pad reason is.simple (λ unit. ap (λ (log : List Logged). unanswered_on log unit) is.own ∙ m.idle unit)
+        (is.work v.pad ∙ none) asked within);
   };
   no_room =
       let same : room v.image (logs_at (length (engine_log v)) (logs_in v)) ≡ room v.image (logs_in v) = ap (room v.image) is.logs ∙ is.room in
@@ -31,4 +32,4 @@ spent v c p f reason m none = record {
 }
   where
     is : IsLeft v.image (world_in v)
-    is = deeds_left v.image v.deeds m.sound.legal
+    is = deeds_left v.image v.deeds m.sound.legal.simple

@@ -44,7 +44,8 @@ given_none s log q none = go (is_given_back s log q) refl
 given_at_freed : (s : Shape) (log : List Logged) → IsUnplaced s log (taken log) → is_given_back s log (freed s log) ≡ false
 given_at_freed s log none = go (cases_order (freed s log) (taken log)) (least (is_given_back s log) (length (takes log)) (first_position log))
   where
-    go : (freed s log ≡ taken log) ⊎ ((freed s log < taken log) ⊎ (taken log < freed s log)) → IsLeast (is_given_back s log) (length (takes log)) (first_position log) (freed s log)
+    go : (freed s log ≡ taken log) ⊎ ((freed s log < taken log) ⊎ (taken log < freed s log))
+        → IsLeast (is_given_back s log) (length (takes log)) (first_position log) (freed s log)
         → is_given_back s log (freed s log) ≡ false
     go (inl same) is = ap (is_given_back s log) same ∙ given_none s log (taken log) none
     go (inr (inl less)) is = is.missing less
@@ -57,7 +58,8 @@ pub freed_same : (s : Shape) (log : List Logged) (entry : Entry) (mark : Mark) (
     → freed s (with_take log entry mark knows) ≡ freed s log
 freed_same s log entry mark knows b has none =
     let from : first_position log ≤ freed s log = IsLeast.from (least (is_given_back s log) (length (takes log)) (first_position log)) in
-    let first : first_position (with_take log entry mark knows) ≡ first_position log = first_stays log (record { event = Did (Take entry mark); knows = knows }) b has in
+    let first : first_position (with_take log entry mark knows) ≡ first_position log =
+    first_stays log (record { event = Did (Take entry mark); knows = knows }) b has in
     freed_here s (with_take log entry mark knows) (freed s log) (subst (λ p. p ≤ freed s log) (sym first) from) (freed_taken s log entry mark knows b has)
     (given_same s log entry mark knows (freed s log) ∙ given_at_freed s log none)
 
@@ -77,19 +79,24 @@ module _ (i : Image) (logs : Logs) (entry : Entry) (mark : Mark) (knows : List �
 
   free_same : (line : ℕ) → is_free_line i next line ≡ is_free_line i logs line
   free_same line =
-      ap₂ (λ life (j : Image). not (has_number i next life line) && are_empty j line && nat_lt 0 (line_data j line)) (lives_kept (logs 0) (Take entry mark) knows line refl) image
+      ap₂ (λ life (j : Image). not (has_number i next life line) && are_empty j line && nat_lt 0 (line_data j line))
+      (lives_kept (logs 0) (Take entry mark) knows line refl) image
       ∙ ap (λ b. not b && are_empty (known_image i logs) line && nat_lt 0 (line_data (known_image i logs) line)) (number_same (life_of (logs 0) line) line)
 
   free_addresses_same : free_addresses i next ≡ free_addresses i logs
   free_addresses_same =
-      sum_same (λ line. if is_free_line i next line then line_data (known_image i next) line else 0) (λ line. if is_free_line i logs line then line_data (known_image i logs) line else 0)
+      sum_same (λ line. if is_free_line i next line then line_data (known_image i next) line else 0)
+      (λ line. if is_free_line i logs line then line_data (known_image i logs) line else 0)
       (λ line. ap₂ (λ b (j : Image). if b then line_data j line else 0) (free_same line) image) (range_with_len 0 i.shape.chunks)
 
   -- the entry's is the next position, which no stripe has yet
-  pub room_taken : (b : Begun) → begun (logs 0) ≡ Some b → entry.position ≡ taken (logs 0) → IsUnplaced i.shape (logs 0) (taken (logs 0)) → room i next ≡ room i logs
+  pub room_taken : (b : Begun) → begun (logs 0) ≡ Some b → entry.position ≡ taken (logs 0) → IsUnplaced i.shape (logs 0) (taken (logs 0))
+      → room i next ≡ room i logs
   room_taken b has at none =
       let first : first_position (next 0) ≡ first_position (logs 0) = first_stays (logs 0) _ b has in
       let front : freed i.shape (next 0) ≡ freed i.shape (logs 0) = freed_same i.shape (logs 0) entry mark knows b has none in
-      let placed : placed_front i.shape (next 0) ≡ placed_front i.shape (logs 0) = front_taken i.shape (logs 0) entry mark knows (subst (IsUnplaced i.shape (logs 0)) (sym at) none) in
+      let placed : placed_front i.shape (next 0) ≡ placed_front i.shape (logs 0) =
+      front_taken i.shape (logs 0) entry mark knows (subst (IsUnplaced i.shape (logs 0)) (sym at) none) in
       let opened : open_addresses i next ≡ open_addresses i logs = addresses_kept i logs (Take entry mark) knows refl in
-      λ j. min (min (front j + i.shape.ring - units i.shape * i.shape.ws_opt) (placed j + (opened j + free_addresses_same j - 2 * full_data i.shape) / i.shape.ws_opt)) (max (2 ^ 61 - 2) (first j))
+      λ j. min (min (front j + i.shape.ring - units i.shape * i.shape.ws_opt)
+      (placed j + (opened j + free_addresses_same j - 2 * full_data i.shape) / i.shape.ws_opt)) (max (2 ^ 61 - 2) (first j))

@@ -17,7 +17,9 @@ use Rattle.pblk_world.proofs.EngineLogLemmas.{takes_more}
 
 -- ---- the log after one
 
-pub log_taken : (v : MountView) (lba : ℕ) (sector : List ℕ) → engine_log (with_entry v lba sector) ≡ with_take (engine_log v) (next_entry v lba sector) (sector_mark lba (taken_in v)) (knows_all v.image.shape (world_in v))
+pub log_taken : (v : MountView) (lba : ℕ) (sector : List ℕ)
+    → engine_log (with_entry v lba sector) ≡ with_take (engine_log v) (next_entry v lba sector) (sector_mark lba (taken_in v))
+    (knows_all v.image.shape (world_in v))
 log_taken v lba sector = ap (λ ls. ls 0) (logs_decided v.image.shape v.deeds (Take (next_entry v lba sector) (sector_mark lba (taken_in v))))
 
 pub taken_more : (v : MountView) (lba : ℕ) (sector : List ℕ) → taken_in (with_entry v lba sector) ≡ taken_in v + 1
@@ -25,8 +27,11 @@ taken_more v lba sector =
     let log : List Logged = engine_log v in
     let event : EngineEvent = Take (next_entry v lba sector) (sector_mark lba (taken_in v)) in
     let knows : List ℕ = knows_all v.image.shape (world_in v) in
-    let more : takes (log ++ record { event = Did event; knows = knows } ∷ []) ≡ takes log ++ record { entry = next_entry v lba sector; mark = sector_mark lba (taken_in v) } ∷ [] = takes_more log (record { event = Did event; knows = knows }) in
-    let long : length (takes (log ++ record { event = Did event; knows = knows } ∷ [])) ≡ length (takes log) + 1 = ap (λ (ts : List Taken). length ts) more ∙ length-append (takes log) (record { entry = next_entry v lba sector; mark = sector_mark lba (taken_in v) } ∷ []) in
+    let more : takes (log ++ record { event = Did event; knows = knows } ∷ []) ≡ takes log
+    ++ record { entry = next_entry v lba sector; mark = sector_mark lba (taken_in v) } ∷ [] =
+    takes_more log (record { event = Did event; knows = knows }) in
+    let long : length (takes (log ++ record { event = Did event; knows = knows } ∷ [])) ≡ length (takes log) + 1 = ap (λ (ts : List Taken). length ts) more
+    ∙ length-append (takes log) (record { entry = next_entry v lba sector; mark = sector_mark lba (taken_in v) } ∷ []) in
     ap taken (log_taken v lba sector) ∙ ap₂ (λ a b. a + b) (first_kept log event knows refl) long ∙ omega arith
 
 -- ---- the loop
@@ -42,22 +47,19 @@ cut_one : (size n : ℕ) (bytes : List ℕ) → sectors_of size (suc n) bytes �
 unfolding sectors_of
 cut_one size n bytes = refl
 
--- there are as many
-pub sectors_many : (size n : ℕ) (bytes : List ℕ) → length (sectors_of size n bytes) ≡ n
-unfolding sectors_of
-sectors_many size zero bytes = refl
-sectors_many size (suc n) bytes = ap (λ k. suc k) (sectors_many size n (drop size bytes))
-
 pub slice_is : (at size : ℕ) (bytes : List ℕ) → slice_range bytes at (at + size) ≡ take size (drop at bytes)
 slice_is at size bytes = let e : at + size - at ≡ size = omega arith in ap (λ n. take n (drop at bytes)) e
 
 pub taking_more : (old now new : MountView) (lba size count index : ℕ) (bytes : List ℕ) → IsTaking old now lba size count index bytes → index < count
-    → new ≡ with_entry now (lba + index) (slice_range bytes (index * size) (index * size + size)) → IsSound new → IsTaking old new lba size count (index + 1) bytes
+    → new ≡ with_entry now (lba + index) (slice_range bytes (index * size) (index * size + size)) → IsSound new
+    → IsTaking old new lba size count (index + 1) bytes
 taking_more old now new lba size count index bytes is less done sound = record {
   sound = sound;
   rest = ap₂ (λ (v : MountView) a. with_entries v a (sectors_of size k (drop ((index + 1) * size) bytes))) done next
-      ∙ ap₂ (λ s (ss : List (List ℕ)). with_entries (with_entry now (lba + index) s) (lba + index + 1) ss) (slice_is (index * size) size bytes) (ap (λ (xs : List ℕ). sectors_of size k xs) dropped)
-      ∙ ap (λ (ss : List (List ℕ)). with_entries now (lba + index) ss) (sym (ap (λ n. sectors_of size n (drop (index * size) bytes)) one ∙ cut_one size k (drop (index * size) bytes)))
+      ∙ ap₂ (λ s (ss : List (List ℕ)). with_entries (with_entry now (lba + index) s) (lba + index + 1) ss) (slice_is (index * size) size bytes)
+      (ap (λ (xs : List ℕ). sectors_of size k xs) dropped)
+      ∙ ap (λ (ss : List (List ℕ)). with_entries now (lba + index) ss)
+      (sym (ap (λ n. sectors_of size n (drop (index * size) bytes)) one ∙ cut_one size k (drop (index * size) bytes)))
       ∙ is.rest;
   image = ap (λ (v : MountView). v.image) done ∙ is.image;
   room =
@@ -79,9 +81,11 @@ taking_more old now new lba size count index bytes is less done sound = record {
     dropped : drop ((index + 1) * size) bytes ≡ drop size (drop (index * size) bytes)
     dropped = ap (λ n. drop n bytes) (next_at index size) ∙ sym (drop-drop size (index * size) bytes)
 
-pub taking_ends : (old now : MountView) (lba size count : ℕ) (bytes : List ℕ) (index : ℕ) → IsTaking old now lba size count index bytes → index ≡ count → now ≡ with_entries old lba (sectors_of size count bytes)
+pub taking_ends : (old now : MountView) (lba size count : ℕ) (bytes : List ℕ) (index : ℕ) → IsTaking old now lba size count index bytes → index ≡ count
+    → now ≡ with_entries old lba (sectors_of size count bytes)
 taking_ends old now lba size count bytes index is end =
-    sym (ap (λ (ss : List (List ℕ)). with_entries now (lba + index) ss) (ap (λ n. sectors_of size n (drop (index * size) bytes)) none ∙ cut_none size (drop (index * size) bytes))) ∙ is.rest
+    sym (ap (λ (ss : List (List ℕ)). with_entries now (lba + index) ss)
+    (ap (λ n. sectors_of size n (drop (index * size) bytes)) none ∙ cut_none size (drop (index * size) bytes))) ∙ is.rest
   where
     none : count - index ≡ 0
     none = omega arith

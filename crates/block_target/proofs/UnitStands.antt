@@ -10,17 +10,18 @@ use Rattle.pblk_world.specs.World.{World, Logs, log_of}
 use Rattle.pblk_world.specs.EngineLog.{Begun, begun, Opening, openings}
 use Rattle.pblk_world.specs.Lines.{is_given_up}
 use Rattle.pblk_world.specs.Fronts.{first_position, synced, waiting, user_takes}
+use Rattle.pblk_world.specs.Legal.{IsLegal}
 use Rattle.pblk_world.specs.Space.{freed, placed_front}
 use Rattle.line_table.specs.Rows.{is_free}
 use Rattle.stripe_placer.specs.Placing.{next_stripe}
 use Rattle.core_laws.specs.OpenedLines.{live_now, open_line}
-use Rattle.core_laws.specs.PlainWorlds.{IsPlainWorld, IsPlainWorld}
+use Rattle.core_laws.specs.SimpleMounts.{IsSimpleLog, IsSimpleMount}
 use Rattle.step_laws.specs.Whole.{unit_step}
 use Rattle.step_laws.proofs.UnitSteps.{engine_log}
 use Rattle.step_laws.proofs.UnitStays.{known_stays, rows_stay, lines_stay, older_stay, live_stays, line_stays, left_stay, slot_stays, window_stays, placing_stays, addresses_stay}
 use Rattle.pblk_core.specs.Named.{choice, reset_or, work_of}
 use Rattle.pblk_core.specs.Resets.{in_line, resets_of, used_units}
-use Rattle.pblk_core.specs.Stands.{IsSimpleLog, Stands, AreHolds, AreOpenLines, IsOpenLine, left_openings, under_way, unlanded}
+use Rattle.pblk_core.specs.Stands.{Stands, AreHolds, AreOpenLines, IsOpenLine, left_openings, under_way, unlanded}
 use Rattle.pblk_core.specs.LineRecords.{AreOf}
 use Rattle.pblk_core.specs.declared.open_lines.OpenLine.{OpenLine}
 use Rattle.pblk_core.specs.declared.open_lines.OpenLines.{OpenLines}
@@ -34,53 +35,56 @@ module _ (i : Image) (w : World) (unit : ℕ) (e : UnitEvent) (maker : Maker) wh
   engine : after_ 0 ≡ log_of w 0
   engine = engine_log i.shape unit e maker w
 
-  line_stays_back : (o : Opening) → IsPlainWorld i w → open_line i (log_of w) o ≡ open_line i after_ o
-  line_stays_back o plain = sym (line_stays i w unit e maker o plain)
+  line_stays_back : (o : Opening) → IsLegal i w → open_line i (log_of w) o ≡ open_line i after_ o
+  line_stays_back o legal = sym (line_stays i w unit e maker o legal)
 
-  open_beside : (o : Opening) (kept : OpenLine) → IsPlainWorld i w → IsOpenLine i (log_of w) o kept → IsOpenLine i after_ o kept
-  open_beside o kept plain is = record {
+  open_beside : (o : Opening) (kept : OpenLine) → IsLegal i w → IsOpenLine i (log_of w) o kept → IsOpenLine i after_ o kept
+  open_beside o kept legal is = record {
     records = subst (λ log. AreOf i.shape log o kept.records) (sym engine) is.records;
-    live = is.live ∙ (λ k. (line_stays_back o plain k).live);
+    live = is.live ∙ (λ k. (line_stays_back o legal k).live);
     left = is.left ∙ ap (λ log. unlanded i.shape log o) (sym engine);
   }
 
-  lines_beside : (kept : OpenLines) → IsPlainWorld i w → AreOpenLines i (log_of w) kept → AreOpenLines i after_ kept
-  lines_beside kept plain are =
-      let left : left_openings i after_ ≡ left_openings i (log_of w) = left_stay i w unit e maker plain in
+  lines_beside : (kept : OpenLines) → IsLegal i w → AreOpenLines i (log_of w) kept → AreOpenLines i after_ kept
+  lines_beside kept legal are =
+      let left : left_openings i after_ ≡ left_openings i (log_of w) = left_stay i w unit e maker legal in
       record {
         two = are.two;
         shapes = are.shapes;
         count = are.count ∙ ap length (sym left);
         few = are.few;
-        each = λ k o line there held. open_beside o line plain (are.each k o line (ap (λ os. slice_get os k) (sym left) ∙ there) held);
+        each = λ k o line there held. open_beside o line legal (are.each k o line (ap (λ os. slice_get os k) (sym left) ∙ there) held);
       }
 
   -- the same chunks are still to be reset
-  resets_stay : IsPlainWorld i w → resets_of i after_ ≡ resets_of i (log_of w)
-  resets_stay plain = ap₂ (λ (log : List Logged) (j : Image). flat_map (λ line. in_line line (if is_given_up log line then used_units j line else [])) (range_with_len 0 i.shape.chunks)) engine (known_stays i w unit e maker plain)
+  resets_stay : IsLegal i w → resets_of i after_ ≡ resets_of i (log_of w)
+  resets_stay legal = ap₂ (λ (log : List Logged) (j : Image). flat_map (λ line. in_line line (if is_given_up log line then used_units j line else []))
+      (range_with_len 0 i.shape.chunks)) engine (known_stays i w unit e maker legal)
 
-  pub stands_beside : (c : Core) → IsPlainWorld i w → Stands i (log_of w) c → Stands i after_ c
-  stands_beside c plain st = record {
+  pub stands_beside : (c : Core) → IsLegal i w → Stands i (log_of w) c → Stands i after_ c
+  stands_beside c legal st = record {
     simple = subst IsSimpleLog (sym engine) st.simple;
     layout = st.layout;
     beginning = st.beginning;
     has_begun = ap begun engine ∙ st.has_begun;
     capacity = st.capacity;
-    slots = λ lba within. st.slots lba within ∙ ap Some (sym (slot_stays i w unit e maker lba plain));
-    table = st.table ∙ sym (rows_stay i w unit e maker plain);
-    units = st.units ∙ map_same (live_now i (log_of w)) (live_now i after_) (λ line. sym (live_stays i w unit e maker line plain)) (range_with_len 0 i.shape.chunks);
-    resets = st.resets ∙ sym (resets_stay plain);
+    slots = λ lba within. st.slots lba within ∙ ap Some (sym (slot_stays i w unit e maker lba legal));
+    table = st.table ∙ sym (rows_stay i w unit e maker legal st.simple.freed);
+    units = st.units ∙ map_same (live_now i (log_of w)) (live_now i after_) (λ line. sym (live_stays i w unit e maker line legal))
+        (range_with_len 0 i.shape.chunks);
+    resets = st.resets ∙ sym (resets_stay legal);
     size = st.size;
     window = st.window ∙ sym (window_stays i w unit e maker c.window.freed);
     from_first = subst (λ log. first_position log ≤ c.window.freed) (sym engine) st.from_first;
     to_freed = subst (λ log. c.window.freed ≤ freed i.shape log) (sym engine) st.to_freed;
     holds = subst (λ log. AreHolds i.shape log c.holds) (sym engine) st.holds;
-    placing = st.placing ∙ sym (placing_stays i w unit e maker c.placer.entries.pad [] plain);
-    open_lines = lines_beside c.open plain st.open_lines;
+    again = st.again;
+    placing = st.placing ∙ sym (placing_stays i w unit e maker c.placer.entries.pad st.again legal);
+    open_lines = lines_beside c.open legal st.open_lines;
     next_seq = st.next_seq ∙ ap (λ log. st.beginning.beginning.seq + length (openings log)) (sym engine);
     first_seq = st.first_seq;
     own_capacity = st.own_capacity;
-    older = st.older ∙ sym (older_stay i w unit e maker plain);
+    older = st.older ∙ sym (older_stay i w unit e maker legal);
     fits = st.fits;
     first = st.first ∙ ap first_position (sym engine);
     placed = st.placed ∙ ap (placed_front i.shape) (sym engine);
@@ -90,11 +94,12 @@ module _ (i : Image) (w : World) (unit : ℕ) (e : UnitEvent) (maker : Maker) wh
   }
 
   -- what is to be done next is the same
-  pub work_beside : (pad : ℕ) → IsPlainWorld i w → work_of i after_ pad ≡ work_of i (log_of w) pad
-  work_beside pad plain = λ j. reset_or (slice_get (resets_stay plain j) 0) (choice
-      (is_some (next_stripe (placing_stays i w unit e maker pad [] plain j) 0))
+  pub work_beside : (pad : ℕ) → IsSimpleMount i w → work_of i after_ pad ≡ work_of i (log_of w) pad
+  work_beside pad simple = λ j. reset_or (slice_get (resets_stay simple.mount.legal j) 0) (choice
+      (is_some (next_stripe (placing_stays i w unit e maker pad [] simple.mount.legal j) 0))
       (nat_lt 0 (length (waiting i.shape (engine j))) && (addresses_stay i w unit e maker j == 0))
-      (is_some (position is_free (rows_stay i w unit e maker plain j).rows))
-      (nat_lt (length (lines_stay i w unit e maker plain j)) 2
-      && (nat_lt (option_map_or (λ (b : Begun). b.beginning.seq) (begun (engine j)) 0 + length (openings (engine j))) (2 ^ 61) && nat_lt (synced i.shape (engine j)) (2 ^ 61)))
+      (is_some (position is_free (rows_stay i w unit e maker simple.mount.legal simple.engine.freed j).rows))
+      (nat_lt (length (lines_stay i w unit e maker simple.mount.legal j)) 2
+      && (nat_lt (option_map_or (λ (b : Begun). b.beginning.seq) (begun (engine j)) 0 + length (openings (engine j))) (2 ^ 61) && nat_lt
+      (synced i.shape (engine j)) (2 ^ 61)))
       (nat_lt 0 (under_way i.shape (engine j))))

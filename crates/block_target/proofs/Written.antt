@@ -22,8 +22,7 @@ use Rattle.step_laws.specs.Whole.{knows_all}
 use Rattle.block_port.specs.declared.rows.WornAnswer.{WornAnswer}
 use Rattle.block_port.specs.Own.{PlacedSector, OwnWrite, placed_from, lines_of}
 use Rattle.block_port.specs.Port.{AreSectors, Learns, IsSameTarget, Rise}
-use Rattle.core_laws.specs.PlainWorlds.{IsPlainWorld}
-use Rattle.core_laws.proofs.SimpleMounts.{simple_of}
+use Rattle.core_laws.specs.SimpleMounts.{IsSimpleMount}
 use Rattle.lemmas.proofs.Lists.{all_imply}
 use Rattle.core_laws.proofs.Placing.{all_pass}
 use Rattle.landing_laws.proofs.Entries.{IsUsers, users_entries}
@@ -61,24 +60,28 @@ learns_none old new was is same = record {
 -- ---- what a port has written: all that was taken, since none is copied
 
 pub users_written : (s : SerialView) (front : Front) → IsSerial s → front ≡ front_taken s.mount → front.users ≡ length (flat_map lines_of s.own)
-users_written s front is at = ap (λ (f : Front). f.users) at ∙ sym (length-map (user_takes (engine_log s.mount)) line_of_take) ∙ ap (λ (ls : List PlacedSector). length ls) is.alone
+users_written s front is at = ap (λ (f : Front). f.users) at ∙ sym (length-map (user_takes (engine_log s.mount)) line_of_take)
+    ∙ ap (λ (ls : List PlacedSector). length ls) is.alone
 
-users_all : (i : Image) (w : World) → IsPlainWorld i w → user_takes (log_of w 0) ≡ takes (log_of w 0)
-users_all i w plain = all_pass (λ t. is_users t.entry.source) (takes (log_of w 0))
-    (all_imply (IsUsers i.shape) (λ t. is_users t.entry.source ≡ true) (λ t is. is.users) (takes (log_of w 0)) (users_entries i w (simple_of i w plain)))
+users_all : (i : Image) (w : World) → IsSimpleMount i w → user_takes (log_of w 0) ≡ takes (log_of w 0)
+users_all i w simple = all_pass (λ t. is_users t.entry.source) (takes (log_of w 0))
+    (all_imply (IsUsers i.shape) (λ t. is_users t.entry.source ≡ true) (λ t is. is.users) (takes (log_of w 0)) (users_entries i w simple))
 
 pub takes_written : (s : SerialView) → IsSound s.mount → IsSerial s → length (takes (engine_log s.mount)) ≡ length (flat_map lines_of s.own)
 takes_written s sound is =
-    ap (λ (ts : List Taken). length ts) (sym (users_all s.mount.image (world_in s.mount) sound.legal))
+    ap (λ (ts : List Taken). length ts) (sym (users_all s.mount.image (world_in s.mount) sound.legal.simple))
     ∙ sym (length-map (user_takes (engine_log s.mount)) line_of_take) ∙ ap (λ (ls : List PlacedSector). length ls) is.alone
 
 -- and so it stays
-pub takes_later : (s : SerialView) (v : MountView) → IsSound s.mount → IsSerial s → IsSameMount s.mount v → length (takes (take (length (engine_log v)) (engine_log v))) ≡ length (flat_map lines_of s.own)
-takes_later s v sound is same = ap (λ (log : List Logged). length (takes log)) (take-length (engine_log v)) ∙ ap (λ (ts : List Taken). length ts) same.takes ∙ takes_written s sound is
+pub takes_later : (s : SerialView) (v : MountView) → IsSound s.mount → IsSerial s → IsSameMount s.mount v
+    → length (takes (take (length (engine_log v)) (engine_log v))) ≡ length (flat_map lines_of s.own)
+takes_later s v sound is same = ap (λ (log : List Logged). length (takes log)) (take-length (engine_log v)) ∙ ap (λ (ts : List Taken). length ts) same.takes
+    ∙ takes_written s sound is
 
 -- a refusal now
 pub refused_now : (s : SerialView) (a : WornAnswer) → IsSound s.mount → IsSerial s → a.written ≡ length (flat_map lines_of s.own)
-    → IsRefusal s.mount.image (logs_in s.mount) (length (engine_log s.mount)) a.count a.wanted a.have → IsRefusedAt s.mount.image (logs_in s.mount) (length (engine_log s.mount)) a
+    → IsRefusal s.mount.image (logs_in s.mount) (length (engine_log s.mount)) a.count a.wanted a.have
+    → IsRefusedAt s.mount.image (logs_in s.mount) (length (engine_log s.mount)) a
 refused_now s a sound is written cause = record {
   written = ap (λ (log : List Logged). length (takes log)) (take-length (engine_log s.mount)) ∙ takes_written s sound is ∙ sym written;
   cause = cause;
@@ -86,7 +89,8 @@ refused_now s a sound is written cause = record {
 
 -- ---- sectors that are taken
 
-one_line : (v : MountView) (lba : ℕ) (sector : List ℕ) → lines_in (with_entry v lba sector) ≡ lines_in v ++ record { position = taken_in v; write = record { lba = lba; sector = sector } } ∷ []
+one_line : (v : MountView) (lba : ℕ) (sector : List ℕ)
+    → lines_in (with_entry v lba sector) ≡ lines_in v ++ record { position = taken_in v; write = record { lba = lba; sector = sector } } ∷ []
 one_line v lba sector =
     let t : Taken = record { entry = next_entry v lba sector; mark = sector_mark lba (taken_in v) } in
     let l : Logged = record { event = Did (Take (next_entry v lba sector) (sector_mark lba (taken_in v))); knows = knows_all v.image.shape (world_in v) } in
@@ -101,12 +105,14 @@ lines_all v lba [] = sym (append-nil (lines_in v))
 lines_all v lba (sector ∷ sectors) =
     lines_all (with_entry v lba sector) (lba + 1) sectors
     ∙ ap₂ (λ (ls : List PlacedSector) n. ls ++ placed_from n (lba + 1) sectors) (one_line v lba sector) (taken_more v lba sector)
-    ∙ append_assoc (lines_in v) (record { position = taken_in v; write = record { lba = lba; sector = sector } } ∷ []) (placed_from (taken_in v + 1) (lba + 1) sectors)
+    ∙ append_assoc (lines_in v) (record { position = taken_in v; write = record { lba = lba; sector = sector } } ∷ [])
+    (placed_from (taken_in v + 1) (lba + 1) sectors)
 
 pub taken_all : (v : MountView) (lba : ℕ) (sectors : List (List ℕ)) → taken_in (with_entries v lba sectors) ≡ taken_in v + length sectors
 taken_all v lba [] = omega arith
 taken_all v lba (sector ∷ sectors) =
-    let rest : taken_in (with_entries (with_entry v lba sector) (lba + 1) sectors) ≡ taken_in (with_entry v lba sector) + length sectors = taken_all (with_entry v lba sector) (lba + 1) sectors in
+    let rest : taken_in (with_entries (with_entry v lba sector) (lba + 1) sectors) ≡ taken_in (with_entry v lba sector) + length sectors =
+    taken_all (with_entry v lba sector) (lba + 1) sectors in
     let one : taken_in (with_entry v lba sector) ≡ taken_in v + 1 = taken_more v lba sector in
     omega arith
 
@@ -114,8 +120,10 @@ pub synced_all : (v : MountView) (lba : ℕ) (sectors : List (List ℕ)) → syn
 synced_all v lba [] = omega arith
 synced_all v lba (sector ∷ sectors) =
     let l : Logged = record { event = Did (Take (next_entry v lba sector) (sector_mark lba (taken_in v))); knows = knows_all v.image.shape (world_in v) } in
-    let one : synced_in v ≤ synced_in (with_entry v lba sector) = subst (λ (log : List Logged). synced_in v ≤ synced v.image.shape log) (sym (log_taken v lba sector)) (synced_grown v.image.shape (engine_log v) l) in
-    let rest : synced_in (with_entry v lba sector) ≤ synced_in (with_entries (with_entry v lba sector) (lba + 1) sectors) = synced_all (with_entry v lba sector) (lba + 1) sectors in
+    let one : synced_in v ≤ synced_in (with_entry v lba sector) =
+    subst (λ (log : List Logged). synced_in v ≤ synced v.image.shape log) (sym (log_taken v lba sector)) (synced_grown v.image.shape (engine_log v) l) in
+    let rest : synced_in (with_entry v lba sector) ≤ synced_in (with_entries (with_entry v lba sector) (lba + 1) sectors) =
+    synced_all (with_entry v lba sector) (lba + 1) sectors in
     omega arith
 
 pub image_all : (v : MountView) (lba : ℕ) (sectors : List (List ℕ)) → (with_entries v lba sectors).image ≡ v.image
@@ -139,10 +147,12 @@ pub record IsWrite (old new : SerialView) (mid : MountView) (lba : ℕ) (sectors
   pub same : IsSameMount old.mount mid
   pub mount : new.mount ≡ with_entries mid lba sectors
 
-pub learns_write : (old new : SerialView) (mid : MountView) (lba : ℕ) (sectors : List (List ℕ)) → IsWrite old new mid lba sectors → Learns (device old) (device new)
+pub learns_write : (old new : SerialView) (mid : MountView) (lba : ℕ) (sectors : List (List ℕ)) → IsWrite old new mid lba sectors
+    → Learns (device old) (device new)
 learns_write old new mid lba sectors is = record {
   more = placed_from (taken_in old.mount) lba sectors;
-  known = ap lines_in is.mount ∙ lines_all mid lba sectors ∙ ap₂ (λ (ls : List PlacedSector) n. ls ++ placed_from n lba sectors) (lines_kept old.mount mid is.same) stays;
+  known = ap lines_in is.mount ∙ lines_all mid lba sectors
+      ∙ ap₂ (λ (ls : List PlacedSector) n. ls ++ placed_from n lba sectors) (lines_kept old.mount mid is.same) stays;
   rise = subst (λ n. Rise (taken_in old.mount) n (placed_from (taken_in old.mount) lba sectors)) (sym ends) (rise_placed (taken_in old.mount) lba sectors);
   flushed =
       let a : synced_in old.mount ≤ synced_in mid = is.same.synced in
@@ -156,7 +166,8 @@ learns_write old new mid lba sectors is = record {
     ends : taken_in new.mount ≡ taken_in old.mount + length sectors
     ends = ap taken_in is.mount ∙ taken_all mid lba sectors ∙ ap (λ n. n + length sectors) stays
 
-pub target_write : (old new : SerialView) (mid : MountView) (lba : ℕ) (sectors : List (List ℕ)) → IsWrite old new mid lba sectors → IsSameTarget (device old) (device new)
+pub target_write : (old new : SerialView) (mid : MountView) (lba : ℕ) (sectors : List (List ℕ)) → IsWrite old new mid lba sectors
+    → IsSameTarget (device old) (device new)
 target_write old new mid lba sectors is = record {
   start = ap (λ (i : Image). contents i) found;
   capacity = ap (λ (i : Image). i.shape.capacity) image;
@@ -173,17 +184,21 @@ target_write old new mid lba sectors is = record {
     wear : new.mount.wear ≡ old.mount.wear
     wear = ap (λ (v : MountView). v.wear) is.mount ∙ wear_all mid lba sectors ∙ is.same.wear
 
-pub alone_write : (old new : SerialView) (mid : MountView) (lba : ℕ) (sectors : List (List ℕ)) (place : Place) → IsWrite old new mid lba sectors → IsSerial old → place.first ≡ taken_in old.mount
+pub alone_write : (old new : SerialView) (mid : MountView) (lba : ℕ) (sectors : List (List ℕ)) (place : Place) → IsWrite old new mid lba sectors → IsSerial old
+    → place.first ≡ taken_in old.mount
     → new.own ≡ old.own ++ record { place = place; lba = lba; sectors = sectors } ∷ [] → lines_in new.mount ≡ flat_map lines_of new.own
 alone_write old new mid lba sectors place is serial first own =
     ap lines_in is.mount ∙ lines_all mid lba sectors
-    ∙ ap₂ (λ (ls : List PlacedSector) n. ls ++ placed_from n lba sectors) (lines_kept old.mount mid is.same ∙ serial.alone) (taken_kept old.mount mid is.was is.between is.same ∙ sym first)
-    ∙ sym (ap (λ (ws : List OwnWrite). flat_map lines_of ws) own ∙ flat_map-append lines_of old.own (w ∷ []) ∙ ap (λ (ls : List PlacedSector). flat_map lines_of old.own ++ ls) (append-nil (lines_of w)))
+    ∙ ap₂ (λ (ls : List PlacedSector) n. ls ++ placed_from n lba sectors) (lines_kept old.mount mid is.same ∙ serial.alone)
+    (taken_kept old.mount mid is.was is.between is.same ∙ sym first)
+    ∙ sym (ap (λ (ws : List OwnWrite). flat_map lines_of ws) own ∙ flat_map-append lines_of old.own (w ∷ [])
+    ∙ ap (λ (ls : List PlacedSector). flat_map lines_of old.own ++ ls) (append-nil (lines_of w)))
   where
     w : OwnWrite
     w = record { place = place; lba = lba; sectors = sectors }
 
-pub worns_write : (old new : SerialView) (mid : MountView) (lba : ℕ) (sectors : List (List ℕ)) → IsWrite old new mid lba sectors → IsSerial old → new.worns ≡ old.worns
+pub worns_write : (old new : SerialView) (mid : MountView) (lba : ℕ) (sectors : List (List ℕ)) → IsWrite old new mid lba sectors → IsSerial old
+    → new.worns ≡ old.worns
     → AreRefusals new.mount.image (logs_in new.mount) 0 new.worns
 worns_write old new mid lba sectors is serial worns =
     let rest : (more : List Deed) × ((with_entries mid lba sectors).deeds ≡ mid.deeds ++ more) = entries_more mid lba sectors in
@@ -206,14 +221,15 @@ count_is n size len some is =
     ap (λ k. k / size) (is ∙ e) ∙ div-mul-add n size 0 some
 
 pub sector_some : (v : MountView) → IsSound v → 0 < v.image.shape.sector
-sector_some v sound = go sound.legal.accepted.target.sector
+sector_some v sound = go sound.legal.simple.mount.accepted.target.sector
   where
     go : (v.image.shape.sector ≡ 512) ⊎ (v.image.shape.sector ≡ 4096) → 0 < v.image.shape.sector
     go (inl e) = omega arith
     go (inr e) = omega arith
 
 -- a write's end is far below the last position
-pub end_low : (v : MountView) (s : Shape) (first count len : ℕ) → IsSound v → first ≡ taken_in v → s ≡ v.image.shape → count ≡ len / s.sector → AreSectors v.image.shape.sector len → first + count < 2 ^ 63
+pub end_low : (v : MountView) (s : Shape) (first count len : ℕ) → IsSound v → first ≡ taken_in v → s ≡ v.image.shape → count ≡ len / s.sector
+    → AreSectors v.image.shape.sector len → first + count < 2 ^ 63
 end_low v s first count len sound from same is sectors =
     let n : len / v.image.shape.sector ≡ sectors.count = count_is sectors.count v.image.shape.sector len (sector_some v sound) sectors.whole in
     let here : count ≡ sectors.count = is ∙ ap (λ (s : Shape). len / s.sector) same ∙ n in
@@ -222,12 +238,14 @@ end_low v s first count len sound from same is sectors =
     omega arith
 
 -- the bytes are those of whole sectors
-pub whole_sectors : (v : MountView) (s : Shape) (len : ℕ) → IsSound v → s ≡ v.image.shape → AreSectors v.image.shape.sector len → len ≡ len / s.sector * s.sector
+pub whole_sectors : (v : MountView) (s : Shape) (len : ℕ) → IsSound v → s ≡ v.image.shape → AreSectors v.image.shape.sector len
+    → len ≡ len / s.sector * s.sector
 whole_sectors v s len sound same sectors =
     let n : len / v.image.shape.sector ≡ sectors.count = count_is sectors.count v.image.shape.sector len (sector_some v sound) sectors.whole in
     subst (λ (t : Shape). len ≡ len / t.sector * t.sector) (sym same) (sectors.whole ∙ ap (λ k. k * v.image.shape.sector) (sym n))
 
-pub granted_room : (old mid : MountView) (first count n : ℕ) → IsSound old → IsSound mid → IsSameMount old mid → first ≡ taken_in old → count ≡ n → first + count ≤ mid.granted → taken_in mid + n ≤ mid.granted
+pub granted_room : (old mid : MountView) (first count n : ℕ) → IsSound old → IsSound mid → IsSameMount old mid → first ≡ taken_in old → count ≡ n
+    → first + count ≤ mid.granted → taken_in mid + n ≤ mid.granted
 granted_room old mid first count n was is same from long granted =
     let stays : taken_in mid ≡ taken_in old = taken_kept old mid was is same in
     omega arith
@@ -241,7 +259,8 @@ some_sectors v s len sound same sectors =
     let some : 1 ≤ sectors.count = sectors.some in
     omega arith
 
-pub write_cause : (old mid : MountView) (first count n have : ℕ) → IsSound old → IsSound mid → IsSameMount old mid → first ≡ taken_in old → count ≡ n → have ≡ mid.granted → WasRoom mid.image (logs_in mid) (length (engine_log mid)) mid.granted → IsStuckAt mid (first + count) have
+pub write_cause : (old mid : MountView) (first count n have : ℕ) → IsSound old → IsSound mid → IsSameMount old mid → first ≡ taken_in old → count ≡ n
+    → have ≡ mid.granted → WasRoom mid.image (logs_in mid) (length (engine_log mid)) mid.granted → IsStuckAt mid (first + count) have
     → IsWriteRefusal mid.image (logs_in mid) (length (engine_log mid)) n (first + count) have
 write_cause old mid first count n have was is same from long at once stuck =
     let stays : taken_in mid ≡ taken_in old = taken_kept old mid was is same in

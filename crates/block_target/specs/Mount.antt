@@ -18,7 +18,7 @@ use Rattle.pblk_world.specs.Lines.{found_image}
 use Rattle.pblk_world.specs.Space.{freed, is_due, room}
 use Rattle.pblk_world.specs.AtRest.{logs_at}
 use Rattle.core_laws.specs.PlacerOf.{unanswered_on}
-use Rattle.core_laws.specs.PlainWorlds.{IsPlainWorld}
+use Rattle.core_laws.specs.FaultlessMounts.{IsFaultlessMount}
 use Rattle.core_laws.specs.WindowOf.{users_below}
 use Rattle.step_laws.specs.Whole.{IsLevel, IsKnown}
 use Rattle.scan_recovery.specs.Units.{image_of}
@@ -95,9 +95,9 @@ pub record IsUnitIn (v : MountView) (number : ℕ) (u : ModelUnit) : Type 0 wher
   pub unarmed : IsUnarmed u.armed
   pub fit : IsFitUnit u
 
--- What was done is a legal world of a mount that has begun, and the units are as it leaves them.
+-- What was done is a faultless mount that has begun, and the units are as it leaves them.
 pub record IsSound (v : MountView) : Type 0 where
-  pub legal : IsPlainWorld v.image (world_in v)
+  pub legal : IsFaultlessMount v.image (world_in v)
   pub beginning : Begun
   pub has_begun : begun (engine_log v) ≡ Some beginning
   pub first_low : beginning.beginning.first ≤ 2 ^ 62

@@ -9,7 +9,7 @@ ghost use Rattle.pblk_world.specs.EngineLog.{Begun, begun};
 ghost use Rattle.pblk_world.specs.Fronts.{taken};
 ghost use Rattle.pblk_world.specs.Space.{room};
 ghost use Rattle.pblk_world.specs.World.{World, Logs, log_of, media};
-ghost use Rattle.core_laws.specs.PlainWorlds.{IsPlainWorld};
+ghost use Rattle.core_laws.specs.SimpleMounts.{IsSimpleMount};
 ghost use Rattle.block_target.specs.Moments.{IsMoment};
 ghost use Rattle.block_target.specs.NothingLeft.{IsFlushRefusal, IsWriteRefusal};
 
@@ -26,7 +26,7 @@ pub fn a_refused_write_has_no_room()
 /// at which all that it wanted was taken, and what recovery would have found ended at what it has.
 pub fn a_refused_flush_tells_the_end()
     ensures { (i : Image) (w : World) (b : Begun) (n wanted have : ℕ)
-        → IsPlainWorld i w → IsSealed i → begun (log_of w 0) ≡ Some b
+        → IsSimpleMount i w → IsSealed i → begun (log_of w 0) ≡ Some b
         → IsFlushRefusal i (log_of w) n wanted have
         → (past : World) × IsMoment w n past × (taken (log_of past 0) ≡ wanted)
         × (end (media i (log_of past)) ≡ have) }

@@ -9,7 +9,7 @@ ghost use Rattle.pblk_model.specs.Image.{Image};
 ghost use Rattle.pblk_model.specs.Sealed.{IsSealed};
 ghost use Rattle.pblk_world.specs.Space.{freed};
 ghost use Rattle.pblk_world.specs.World.{World, log_of, media};
-ghost use Rattle.core_laws.specs.PlainWorlds.{IsPlainWorld};
+ghost use Rattle.world_laws.specs.LegalMounts.{IsLegalMount};
 ghost use Rattle.write_window.specs.Window as view;
 ghost use Rattle.pblk_core.specs.Named.{pad_of};
 ghost use Rattle.pblk_core.specs.Stands.{Stands};
@@ -99,9 +99,9 @@ fn end_pool(pool: Pool)
 // before, and its window then begins at the front freed.
 fn free_frames(core: &mut Core, pool: &mut Pool)
     requires { view.AreOf pool.old.region core.old.window.entries }
-    ensures stands { (i : Image) (w : World) → IsPlainWorld i w → Stands i (log_of w) core.old
+    ensures stands { (i : Image) (w : World) → IsLegalMount i w → Stands i (log_of w) core.old
         → Stands i (log_of w) core.new }
-    ensures drained { (i : Image) (w : World) → IsPlainWorld i w → Stands i (log_of w) core.old
+    ensures drained { (i : Image) (w : World) → IsLegalMount i w → Stands i (log_of w) core.old
         → core.new.window.freed ≡ freed i.shape (log_of w 0) }
     ensures unread { view.is_readable_at core.new.window core.new.window.freed ≡ false }
     ensures own { view.AreOf pool.new.region core.new.window.entries }

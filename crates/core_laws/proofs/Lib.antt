@@ -22,6 +22,7 @@ pub mod KeptPositions
 pub mod PoppedWindow
 pub mod PlainWorldsLemmas
 pub mod SimpleMounts
+pub mod FaultlessMounts
 pub mod PlacerOfLemmas
 pub mod SteppingLemmas
 pub mod WindowOfLemmas

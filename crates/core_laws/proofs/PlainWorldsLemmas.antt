@@ -1,9 +1,9 @@
--- Lemmas on the words of PlainWorlds.
+-- Lemmas on plain logs.
 use Rattle.std.proofs.Common.{Bool, List, None, Option, Some, [], ap, append-nil, append_assoc, ap₂, drop, false, if◌then◌else◌, length, nat_eq, refl, suc, sym, take, true, ℕ, ◌++◌, ◌+◌, ◌==◌, ◌||◌, ◌∙◌, ◌∷◌, ◌≡◌, ◌≤◌}
 use Rattle.std.proofs.lemmas.List.{take-take as take_first}
 use Rattle.std.proofs.lemmas.Option.{none-some}
 use Rattle.std.specs.List.{AllByRecursion, cons_option, enumerate_from, fold, list_any}
-use Rattle.core_laws.specs.PlainWorlds.{ArePlain, IsPlainWorld, is_plain_event}
+use Rattle.core_laws.specs.PlainWorlds.{ArePlain, is_plain_event}
 use Rattle.lemmas.proofs.Lists.{all_but_last}
 use Rattle.lemmas.proofs.Parts.{all_at, all_dropped, all_taken, take_and_drop}
 use Rattle.pblk_model.specs.Image.{Image}
@@ -56,34 +56,6 @@ opened_by_one line k life knows (Decides (Open other start)) plain is =
     elim (other == line) as (λ b. is_opened (if b then Opened (record { number = k; line = line; start = start; knows = knows }) else life) ≡ true) [ true ↦ refl | false ↦ is ]
 opened_by_one line k life knows (Decides (Free other)) plain is = absurd (cc)
 opened_by_one line k life knows e plain is = is
-
-pub opened_many : (log more : List Logged) (line : ℕ) → ArePlain more → is_opened (life_of log line) ≡ true → is_opened (life_of (log ++ more) line) ≡ true
-opened_many log [] line plain is = ap (λ (xs : List Logged). is_opened (life_of xs line)) (append-nil log) ∙ is
-opened_many log (l ∷ more) line plain is =
-    ap (λ (xs : List Logged). is_opened (life_of xs line)) (sym (append_assoc log (l ∷ []) more))
-    ∙ opened_many (log ++ l ∷ []) more line plain.1 (ap is_opened (life_more log l line) ∙ opened_by_one line (length log) (life_of log line) l.knows l.event plain.0 is)
-
-pub opened_whole : (n : ℕ) (log : List Logged) (line : ℕ) → ArePlain log → is_opened (life_of (take n log) line) ≡ true → is_opened (life_of log line) ≡ true
-opened_whole n log line plain is =
-    ap (λ (xs : List Logged). is_opened (life_of xs line)) (sym (take_and_drop n log)) ∙ opened_many (take n log) (drop n log) line (all_dropped (λ (l : Logged). is_plain_event l.event ≡ true) n log plain) is
-
-pub opened_later : (m n : ℕ) (log : List Logged) (line : ℕ) → m ≤ n → ArePlain log → is_opened (life_of (take m log) line) ≡ true → is_opened (life_of (take n log) line) ≡ true
-opened_later m n log line few plain is =
-    opened_whole m (take n log) line (all_taken (λ (l : Logged). is_plain_event l.event ≡ true) n log plain) (ap (λ (xs : List Logged). is_opened (life_of xs line)) (take_first m n log few) ∙ is)
-
-pub tail_plain : (s : Step) (log : List Logged) (b : Bool) → ArePlain (if b then log ++ s.logged ∷ [] else log) → ArePlain log
-tail_plain s log true h = all_but_last (λ (l : Logged). is_plain_event l.event ≡ true) log s.logged h
-tail_plain s log false h = h
-
-pub plain_before : (i : Image) (s : Step) (w : World) → IsPlainWorld i (s ∷ w) → IsPlainWorld i w
-unfolding IsLegal
-plain_before i s w h = record {
-  accepted = h.accepted;
-  fit = h.fit;
-  legal = h.legal.1;
-  engine = tail_plain s (log_of w 0) (s.author == 0) h.engine;
-  units = λ unit. tail_plain s (log_of w (suc unit)) (s.author == suc unit) (h.units unit);
-}
 
 pub none_of_lost : (log : List Logged) (ps : List Placed) → ArePlain log → list_any (was_lost log) ps ≡ false
 none_of_lost log [] plain = refl

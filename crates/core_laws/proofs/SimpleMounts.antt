@@ -1,80 +1,18 @@
--- A plain world is a simple mount, and the engine's log of a simple mount is plain.
-use Rattle.std.proofs.Common.{◌≡◌, Bool, true, false, not, ◌==◌, List, [], ◌∷◌, ◌++◌, take, if◌then◌else◌, refl, ap}
+-- The engine's log of a simple mount is plain, the mounts before it are simple, and a log stays simple.
+use Rattle.std.proofs.Common.{◌≡◌, Bool, true, false, not, ◌==◌, List, [], ◌∷◌, ◌++◌, take, if◌then◌else◌, refl, sym, subst, ap}
 use Rattle.pblk_model.specs.Image.{Image}
 use Rattle.pblk_world.specs.Events.{EngineEvent, Begin, Take, Open, Place, Landed, Lost, Again, ResetDone, Free, Event, Decides, Does, Logged, Step}
 use Rattle.pblk_world.specs.Fronts.{is_users}
 use Rattle.pblk_world.specs.World.{World, log_of}
 use Rattle.pblk_world.specs.Legal.{IsLegal}
-use Rattle.world_laws.specs.LegalMounts.{HasNone, decides, is_copying, is_freeing, is_losing}
+use Rattle.world_laws.specs.LegalMounts.{HasNone, IsLegalMount, decides, is_copying, is_freeing, is_losing}
 use Rattle.world_laws.proofs.Beginnings.{IsInTurn, turn_of}
-use Rattle.core_laws.specs.PlainWorlds.{ArePlain, IsPlainWorld, is_plain_event}
-use Rattle.core_laws.specs.SimpleMounts.{IsSimpleMount, is_stopping}
-use Rattle.lemmas.proofs.Lists.{IsAmong, all_but_last, all_imply, among_all}
+use Rattle.core_laws.specs.PlainWorlds.{ArePlain, is_plain_event}
+use Rattle.core_laws.specs.SimpleMounts.{IsSimpleLog, IsSimpleMount, is_stopping}
+use Rattle.lemmas.proofs.Lists.{IsAmong, all_but_last, all_imply, among_all, with_last}
 use Rattle.lemmas.proofs.Parts.{all_at}
 
--- a test that fails for each plain event fails for all of a plain log
-none_of : (test : EngineEvent → Bool) → ((e : Event) → is_plain_event e ≡ true → decides test e ≡ false) → (log : List Logged) → ArePlain log → HasNone test log
-none_of test fails [] plain = tt
-none_of test fails (l ∷ log) plain = (fails l.event plain.0, none_of test fails log plain.1)
-
-not_freeing : (e : Event) → is_plain_event e ≡ true → decides is_freeing e ≡ false
-not_freeing (Decides (Begin b)) plain = refl
-not_freeing (Decides (Take entry mark)) plain = refl
-not_freeing (Decides (Open line start)) plain = refl
-not_freeing (Decides (Place stripe)) plain = refl
-not_freeing (Decides (Landed unit event)) plain = refl
-not_freeing (Decides (Lost unit event)) plain = refl
-not_freeing (Decides (Again unit event)) plain = refl
-not_freeing (Decides (ResetDone unit event)) plain = refl
-not_freeing (Decides (Free line)) plain = absurd cc
-not_freeing (Does e maker) plain = refl
-
-not_copying : (e : Event) → is_plain_event e ≡ true → decides is_copying e ≡ false
-not_copying (Decides (Begin b)) plain = refl
-not_copying (Decides (Take entry mark)) plain = ap not plain
-not_copying (Decides (Open line start)) plain = refl
-not_copying (Decides (Place stripe)) plain = refl
-not_copying (Decides (Landed unit event)) plain = refl
-not_copying (Decides (Lost unit event)) plain = refl
-not_copying (Decides (Again unit event)) plain = refl
-not_copying (Decides (ResetDone unit event)) plain = refl
-not_copying (Decides (Free line)) plain = refl
-not_copying (Does e maker) plain = refl
-
-not_losing : (e : Event) → is_plain_event e ≡ true → decides is_losing e ≡ false
-not_losing (Decides (Begin b)) plain = refl
-not_losing (Decides (Take entry mark)) plain = refl
-not_losing (Decides (Open line start)) plain = refl
-not_losing (Decides (Place stripe)) plain = refl
-not_losing (Decides (Landed unit event)) plain = refl
-not_losing (Decides (Again unit event)) plain = refl
-not_losing (Decides (ResetDone unit event)) plain = refl
-not_losing (Decides (Free line)) plain = refl
-not_losing (Decides (Lost unit event)) plain = absurd cc
-not_losing (Does e maker) plain = refl
-
-not_stopping : (e : Event) → is_plain_event e ≡ true → decides is_stopping e ≡ false
-not_stopping (Decides (Begin b)) plain = refl
-not_stopping (Decides (Take entry mark)) plain = refl
-not_stopping (Decides (Open line start)) plain = refl
-not_stopping (Decides (Place stripe)) plain = refl
-not_stopping (Decides (Landed unit event)) plain = refl
-not_stopping (Decides (Lost unit event)) plain = refl
-not_stopping (Decides (ResetDone unit event)) plain = refl
-not_stopping (Decides (Free line)) plain = refl
-not_stopping (Decides (Again unit event)) plain = absurd cc
-not_stopping (Does e maker) plain = refl
-
-pub simple_of : (i : Image) (w : World) → IsPlainWorld i w → IsSimpleMount i w
-simple_of i w plain = record {
-  mount = record { accepted = plain.accepted; fit = plain.fit; legal = plain.legal };
-  freed = none_of is_freeing not_freeing (log_of w 0) plain.engine;
-  copied = none_of is_copying not_copying (log_of w 0) plain.engine;
-  lost = none_of is_losing not_losing (log_of w 0) plain.engine;
-  again = none_of is_stopping not_stopping (log_of w 0) plain.engine;
-}
-
--- ---- the engine's events of a simple mount
+-- ---- the engine's events
 
 plain_event : (before : List Logged) (e : Event) → IsInTurn before e → decides is_freeing e ≡ false → decides is_copying e ≡ false
     → decides is_losing e ≡ false → decides is_stopping e ≡ false → is_plain_event e ≡ true
@@ -98,10 +36,10 @@ engine_plain i w m =
     let log : List Logged = log_of w 0 in
     all_imply (IsAmong log) (λ (l : Logged). is_plain_event l.event ≡ true)
     (λ l at. plain_event (take at.0 log) l.event (turn_of i w at.0 l m.mount.legal at.1)
-    (all_at (λ (x : Logged). decides is_freeing x.event ≡ false) log at.0 l at.1 m.freed)
-    (all_at (λ (x : Logged). decides is_copying x.event ≡ false) log at.0 l at.1 m.copied)
-    (all_at (λ (x : Logged). decides is_losing x.event ≡ false) log at.0 l at.1 m.lost)
-    (all_at (λ (x : Logged). decides is_stopping x.event ≡ false) log at.0 l at.1 m.again))
+    (all_at (λ (x : Logged). decides is_freeing x.event ≡ false) log at.0 l at.1 m.engine.freed)
+    (all_at (λ (x : Logged). decides is_copying x.event ≡ false) log at.0 l at.1 m.engine.copied)
+    (all_at (λ (x : Logged). decides is_losing x.event ≡ false) log at.0 l at.1 m.engine.lost)
+    (all_at (λ (x : Logged). decides is_stopping x.event ≡ false) log at.0 l at.1 m.engine.again))
     log (among_all log)
 
 -- ---- before the last step
@@ -114,8 +52,29 @@ pub simple_before : (i : Image) (s : Step) (w : World) → IsSimpleMount i (s �
 unfolding IsLegal
 simple_before i s w m = record {
   mount = record { accepted = m.mount.accepted; fit = m.mount.fit; legal = m.mount.legal.1 };
-  freed = none_before is_freeing s (log_of w 0) (s.author == 0) m.freed;
-  copied = none_before is_copying s (log_of w 0) (s.author == 0) m.copied;
-  lost = none_before is_losing s (log_of w 0) (s.author == 0) m.lost;
-  again = none_before is_stopping s (log_of w 0) (s.author == 0) m.again;
+  engine = record {
+    freed = none_before is_freeing s (log_of w 0) (s.author == 0) m.engine.freed;
+    copied = none_before is_copying s (log_of w 0) (s.author == 0) m.engine.copied;
+    lost = none_before is_losing s (log_of w 0) (s.author == 0) m.engine.lost;
+    again = none_before is_stopping s (log_of w 0) (s.author == 0) m.engine.again;
+  };
+}
+
+-- ---- simple logs
+
+-- nothing was decided yet
+pub simple_none : (log : List Logged) → log ≡ [] → IsSimpleLog log
+simple_none log none = subst IsSimpleLog (sym none) (record { freed = tt; copied = tt; lost = tt; again = tt })
+
+pub simple_unbegun : (i : Image) (w : World) → IsLegalMount i w → log_of w 0 ≡ [] → IsSimpleMount i w
+simple_unbegun i w mount none = record { mount = mount; engine = simple_none (log_of w 0) none }
+
+-- one more event that is none of these
+pub simple_after : (log : List Logged) (l : Logged) → IsSimpleLog log → decides is_freeing l.event ≡ false → decides is_copying l.event ≡ false
+    → decides is_losing l.event ≡ false → decides is_stopping l.event ≡ false → IsSimpleLog (log ++ l ∷ [])
+simple_after log l is freeing copying losing stopping = record {
+  freed = with_last (λ (k : Logged). decides is_freeing k.event ≡ false) log l is.freed freeing;
+  copied = with_last (λ (k : Logged). decides is_copying k.event ≡ false) log l is.copied copying;
+  lost = with_last (λ (k : Logged). decides is_losing k.event ≡ false) log l is.lost losing;
+  again = with_last (λ (k : Logged). decides is_stopping k.event ≡ false) log l is.again stopping;
 }

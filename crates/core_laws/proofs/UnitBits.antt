@@ -1,16 +1,14 @@
 -- The units of a line as bits, and back.
-use Rattle.std.proofs.Common.{◌≡◌, ℕ, ◌+◌, ◌-◌, ◌*◌, ◌^◌, ◌<◌, ◌≤◌, ◌%◌, zero, suc, nat_lt, Bool, true, false, cond, List, [], ◌∷◌, map, length, refl, sym, subst, ap, ap₂, ◌∙◌, arith, add-zero}
-use Rattle.std.specs.List.{slice_get, filter, range_with_len, enumerate_from}
+use Rattle.std.proofs.Common.{◌≡◌, ℕ, ◌+◌, ◌-◌, ◌*◌, ◌^◌, ◌<◌, ◌≤◌, ◌%◌, zero, suc, nat_lt, Bool, true, false, cond, List, [], ◌∷◌, length, refl, sym, subst, ap, ap₂, ◌∙◌, arith}
+use Rattle.std.specs.List.{filter, range_with_len}
 use Rattle.std.specs.Int.{bit_at}
-use Rattle.std.specs.Option.{option_map_or}
 use Rattle.std.specs.Prelude.{nat_eq}
 use lib.Pow.{pow_mono}
 use Rattle.std.proofs.Math.Nat.{mod-eq_of_lt}
 use Rattle.std.proofs.lemmas.Nat.{mod_below, mod-pow-add, pow_pos}
 use Rattle.std.proofs.lemmas.List.Sums.{sum_by-append}
 use Rattle.std.proofs.lemmas.Nat.Bits.{bit_at-lt, bit_at_lowest, bit_at_cat_low, bit_at_cat_high}
-use Rattle.pblk_model.specs.Chunk.{Chunk}
-use Rattle.pblk_model.specs.Image.{Image, is_online_in, line_units}
+use Rattle.pblk_model.specs.Image.{Image, line_units}
 use Rattle.pblk_layout.specs.Live.{is_in, units_in, is_live}
 use Rattle.pblk_layout.proofs.Sets.{filter_more, shorter}
 use Rattle.pblk_layout.proofs.LineBits.{has_chunk, line_bits, units_kept}

@@ -5,5 +5,6 @@ pub mod WindowOf
 pub mod RowsOf
 pub mod Stepping
 pub mod Positions
-pub mod PlainWorlds
 pub mod SimpleMounts
+pub mod FaultlessMounts
+pub mod PlainWorlds

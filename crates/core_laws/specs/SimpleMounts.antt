@@ -14,12 +14,16 @@ is_stopping e = false
 abbrev pub NoneAgain : List Logged → Type 0
 NoneAgain log = HasNone is_stopping log
 
--- A legal mount in which the engine freed nothing, took no copy, and heard of no lost and no stopped stripe: a
--- core's steps append none of these events so far. What units did may be anything: of what isn't told the
--- engine knows nothing.
+-- The engine freed no line, took no copy, and heard of no lost and no stopped stripe: a core's steps append none of
+-- these events so far.
+pub record IsSimpleLog (log : List Logged) : Type 0 where
+  pub freed : NoneFreed log
+  pub copied : NoneCopied log
+  pub lost : NoneLost log
+  pub again : NoneAgain log
+
+-- A legal mount whose engine's log is such a one. What units did may be anything: of what isn't told the engine
+-- knows nothing.
 pub record IsSimpleMount (i : Image) (w : World) : Type 0 where
   pub mount : IsLegalMount i w
-  pub freed : NoneFreed (log_of w 0)
-  pub copied : NoneCopied (log_of w 0)
-  pub lost : NoneLost (log_of w 0)
-  pub again : NoneAgain (log_of w 0)
+  pub engine : IsSimpleLog (log_of w 0)

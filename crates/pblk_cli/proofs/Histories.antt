@@ -25,18 +25,10 @@ writes_placed (t ∷ ts) = ap (λ (ws : List SectorWrite). record { lba = t.entr
 pub history_lines : (v : MountView) → history (engine_log v) ≡ map (λ (x : PlacedSector). x.write) (lines_in v)
 history_lines v = sym (writes_placed (user_takes (engine_log v)))
 
-positions_placed : (ts : List Taken) → positions (map line_of ts) ≡ map (λ t. t.entry.position) ts
-positions_placed [] = refl
-positions_placed (t ∷ ts) = ap (λ ps. t.entry.position ∷ ps) (positions_placed ts)
-
--- and their positions are those of the users' entries
-pub line_positions : (v : MountView) → positions (lines_in v) ≡ user_positions (engine_log v)
-line_positions v = positions_placed (user_takes (engine_log v))
-
 -- each line is below the front taken
 pub lines_taken : (v : MountView) → IsSound v → AllByRecursion (λ (x : PlacedSector). x.position < taken_in v) (lines_in v)
 lines_taken v sound =
     all_mapped (λ (x : PlacedSector). x.position < taken_in v) line_of (user_takes (engine_log v))
     (all_filter (λ (t : Taken). t.entry.position < taken_in v) (λ t. is_users t.entry.source) (takes (engine_log v))
     (all_by_get (λ (t : Taken). t.entry.position < taken_in v) (takes (engine_log v)) (λ k t there.
-    position_below v.image (world_in v) k t sound.legal.legal there)))
+    position_below v.image (world_in v) k t sound.legal.simple.mount.legal there)))

@@ -20,11 +20,11 @@ use Rattle.pblk_model.specs.UnitLog.{after_log}
 use Rattle.pblk_model.specs.Transcript.{IsRun, sector_writes}
 use Rattle.pblk_world.specs.World.{media, unit_events}
 use Rattle.pblk_world.specs.Fronts.{history, user_positions}
-use Rattle.core_laws.specs.PlainWorlds.{IsPlainWorld}
+use Rattle.world_laws.specs.LegalMounts.{IsLegalMount}
+use Rattle.core_laws.specs.FaultlessMounts.{IsFaultlessMount}
 use Rattle.unit_port.specs.Unit.{IsFitUnit, ModelUnit}
 use Rattle.chunk_laws.proofs.SealedMedia.{media_sealed}
 use Rattle.prefix_law.proofs.Prefix.{prefix_contents}
-use Rattle.core_laws.proofs.SimpleMounts.{simple_of}
 use Rattle.ocssd_drive.specs.Drive.{DriveView, IsWhole, shape_of, stored, with_units}
 use Rattle.ocssd_drive.specs.Units.{IsUnitOf, WornUnit}
 use Rattle.block_target.specs.Mount.{IsSound, IsUnitIn, MountView, engine_log, logs_in, world_in}
@@ -45,7 +45,7 @@ use Rattle.lemmas.proofs.Parts.{got_within, same_lists}
 media_count : (v : MountView) → IsSound v → length (media_in v).units ≡ units v.image.shape
 media_count v sound =
     length-map (enumerate_from 0 v.image.units) (λ (unit : ℕ × List Chunk). after_log v.image.shape unit.1 (unit_events (logs_in v) unit.0))
-    ∙ length-enumerate_from 0 v.image.units ∙ sound.legal.fit.units
+    ∙ length-enumerate_from 0 v.image.units ∙ sound.legal.simple.mount.fit.units
 
 pub units_media : (v : MountView) → IsSound v → map (λ (u : ModelUnit). u.media) v.units ≡ (media_in v).units
 units_media v sound = same_lists (map (λ (u : ModelUnit). u.media) v.units) (media_in v).units (λ k. at k (cases_order k (length v.units)))
@@ -125,11 +125,11 @@ left_is d v i whole image shape sound are =
 
 -- The contents left.
 
-kept_contents : (i : Image) (v : MountView) → IsPlainWorld i (world_in v) → IsSealed i → (t : Transcript) (size : ℕ)
+kept_contents : (i : Image) (v : MountView) → IsLegalMount i (world_in v) → IsSealed i → (t : Transcript) (size : ℕ)
     → t.kept ≡ users (user_positions (engine_log v)) (end (media i (logs_in v)))
     → history (engine_log v) ≡ sector_writes size t.history → contents (media i (logs_in v)) ≡ after (contents i) (sector_writes size (take t.kept t.history))
-kept_contents i v legal sealed t size kept history_is =
-    prefix_contents i (world_in v) (simple_of i (world_in v) legal).mount sealed
+kept_contents i v mount sealed t size kept history_is =
+    prefix_contents i (world_in v) mount sealed
     ∙ ap₂ (λ n (ws : List SectorWrite). after (contents i) (take n ws)) (sym kept) history_is
     ∙ ap (after (contents i)) (take-map (λ (row : HistoryLine). record { lba = row.lba; sector = tag_sector size row.tag }) t.kept t.history)
 
@@ -150,8 +150,8 @@ run_to found script ran text bytes status is said status_is bytes_are spelled =
     let serving : IsServing (image_of (stored found)) script ran.records is.mount = is.serving in
     let left : image_of (stored ran.drive) ≡ media (image_of (stored found)) (logs_in is.mount) =
     left_is ran.drive is.mount (image_of (stored found)) is.whole serving.image (ap shape_of is.numbers) serving.sound is.units_are in
-    let legal : IsPlainWorld (image_of (stored found)) (world_in is.mount) = subst
-    (λ (x : Image). IsPlainWorld x (world_in is.mount)) serving.image serving.sound.legal in
+    let legal : IsFaultlessMount (image_of (stored found)) (world_in is.mount) = subst
+    (λ (x : Image). IsFaultlessMount x (world_in is.mount)) serving.image serving.sound.legal in
     -- the end that was found is that of the mount's media
     let same_end : end (image_of (stored ran.drive)) ≡ end (media_in is.mount) = ap end left
     ∙ ap (λ (x : Image). end (media x (logs_in is.mount))) (sym serving.image) in
@@ -179,10 +179,10 @@ run_to found script ran text bytes status is said status_is bytes_are spelled =
         told = serving.told;
         relation = λ sealed.
             subst (IsRun found.sector script (contents (image_of (stored found))) t)
-            (sym (ap contents left ∙ kept_contents (image_of (stored found)) is.mount legal sealed t found.sector (kept
+            (sym (ap contents left ∙ kept_contents (image_of (stored found)) is.mount legal.simple.mount sealed t found.sector (kept
             ∙ ap (λ (x : Image). users (user_positions (engine_log is.mount)) (end x)) left) serving.history_is))
             (serving.run sealed);
-        sealed = λ sealed. subst IsSealed (sym left) (media_sealed (image_of (stored found)) (world_in is.mount) (simple_of (image_of (stored found)) (world_in is.mount) legal).mount sealed);
+        sealed = λ sealed. subst IsSealed (sym left) (media_sealed (image_of (stored found)) (world_in is.mount) legal.simple.mount sealed);
         spelled = spelled;
       };
       status_is = status_is ∙ ap status_of_run told;

@@ -19,7 +19,6 @@ use Rattle.pblk_world.specs.Lines.{found_image}
 use Rattle.unit_port.specs.Unit.{ModelUnit}
 use Rattle.ocssd_drive.specs.Units.{WornUnit}
 use Rattle.prefix_law.proofs.Prefix.{prefix_above}
-use Rattle.core_laws.proofs.SimpleMounts.{simple_of}
 use Rattle.scan_recovery.specs.Units.{image_of}
 use Rattle.block_port.specs.declared.rows.WornAnswer.{WornAnswer}
 use Rattle.block_port.specs.Own.{PlacedSector, lines_of}
@@ -41,8 +40,9 @@ use Rattle.run_report.proofs.Recorded.{recorded}
 use Rattle.pblk_cli.specs.declared.serve.Served.{Served}
 use Rattle.pblk_cli.specs.Serving.{HasRun, IsClosed, IsNewTarget, IsServed, IsServing, IsSession, media_in, transcript_in, trouble_of}
 use Rattle.pblk_cli.specs.Worn.{worns_of}
-use Rattle.pblk_cli.proofs.Histories.{history_lines, line_positions, lines_taken}
+use Rattle.pblk_cli.proofs.Histories.{history_lines, lines_taken}
 use Rattle.pblk_cli.proofs.WornCauses.{no_worns, one_worns}
+use Rattle.block_target.proofs.DeviceFronts.{positions_in}
 use Rattle.block_target.proofs.Written.{lines_kept}
 
 -- what no call changes of a target
@@ -152,12 +152,12 @@ module _ (s : Shape) (us : List ModelUnit) (first last : SerialView) (records : 
   lines_are = lines_kept last.mount closed.mount closed.closed.same
 
   positions_are : positions (lines_in last.mount) ≡ user_positions (engine_log closed.mount)
-  positions_are = ap positions (sym lines_are) ∙ line_positions closed.mount
+  positions_are = ap positions (sym lines_are) ∙ positions_in closed.mount
 
   -- on a sealed drive all that is synced is below the end
   above : IsSealed (image_of s us) → synced_in closed.mount ≤ end (media_in closed.mount)
   above sealed = prefix_above closed.mount.image (world_in closed.mount)
-      (simple_of closed.mount.image (world_in closed.mount) closed.closed.sound.legal).mount (subst IsSealed (sym mount_image) sealed)
+      closed.closed.sound.legal.simple.mount (subst IsSealed (sym mount_image) sealed)
 
   are_kept : IsSealed (image_of s us) → AreKept served.records (device last) (lines_in last.mount) (end (media_in closed.mount))
   are_kept sealed = let high : synced_in closed.mount ≤ end (media_in closed.mount) = above sealed in record {

@@ -16,7 +16,7 @@ use Rattle.pblk_world.specs.World.{World, log_of, media}
 use Rattle.pblk_world.specs.EngineLog.{Begun, begun}
 use Rattle.pblk_world.specs.Fronts.{history, user_positions}
 use Rattle.pblk_world.specs.Lines.{found_image}
-use Rattle.core_laws.specs.PlainWorlds.{IsPlainWorld}
+use Rattle.core_laws.specs.FaultlessMounts.{IsFaultlessMount}
 use Rattle.block_port.specs.declared.rows.WornAnswer.{WornAnswer}
 use Rattle.block_target.specs.Granted.{AreGranted}
 use Rattle.block_target.specs.NothingLeft.{AreRefusals}
@@ -92,7 +92,7 @@ pub record SameNumbers (old new : Drive) : Type 0 where
 -- thread had written. And no sector was taken but where there had been room for it.
 pub record IsWorldBetween (found left : Drive) (writes : List SectorWrite) (worns : List WornAnswer) : Type 0 where
   pub world : World
-  pub legal : IsPlainWorld (image_of found) world
+  pub legal : IsFaultlessMount (image_of found) world
   pub beginning : Begun
   pub has_begun : begun (log_of world 0) ≡ Some beginning
   pub media_are : image_of left ≡ media (image_of found) (log_of world)

@@ -4,8 +4,6 @@ use Rattle.std.specs.Prelude.{slice_get, slice_range, map}
 use Rattle.std.specs.List.{AllByRecursion, filter}
 use Rattle.std.proofs.lemmas.List.{take-append-le, length-drop}
 use Rattle.pblk_model.specs.declared.shape.Shape.{Shape}
-use Rattle.pblk_model.specs.declared.chunk.Mark.{Mark}
-use Rattle.pblk_model.specs.Blocks.{blocks_of}
 use Rattle.pblk_model.specs.Chunk.{Block}
 use Rattle.pblk_model.specs.Marks.{pad_block}
 use Rattle.pblk_world.specs.Events.{Logged}
@@ -49,9 +47,3 @@ data_taken s log =
     let at = waiting_taken s log k t (get_whole_within s.ws_opt (waiting s log) k t there).0 in
     inr (at.0, t, at.1, refl))))
     (all_replicated (IsOfTaken s (takes log)) (s.ws_opt - length blocks) (pad_block s) (inl refl))
-
--- ---- blocks of a record
-
-pub cut_marks : (size n : ℕ) (bytes : List ℕ) (m : Mark) → AllByRecursion (λ (b : Block). b.mark ≡ m) (blocks_of size bytes (replicate n m))
-cut_marks size zero bytes m = tt
-cut_marks size (suc n) bytes m = (refl, cut_marks size n (drop size bytes) m)

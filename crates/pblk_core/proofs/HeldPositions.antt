@@ -1,5 +1,5 @@
 -- The positions that the placer of a core holds.
-use Rattle.std.proofs.Common.{◌≡◌, ℕ, ◌+◌, ◌-◌, ◌<◌, ◌≤◌, Some, List, [], length, refl, sym, subst, ap, ◌∙◌, arith}
+use Rattle.std.proofs.Common.{◌≡◌, ℕ, ◌+◌, ◌-◌, ◌<◌, ◌≤◌, Some, List, length, refl, sym, subst, ap, ◌∙◌, arith}
 use Rattle.std.specs.Prelude.{slice_get}
 use Rattle.std.specs.List.{All, Contains}
 use Rattle.std.proofs.lemmas.List.Elements.{All-from_recursion}
@@ -20,9 +20,9 @@ use Rattle.pblk_core.proofs.StandsFacts.{window_taken_is}
 
 pub held_room : (i : Image) (w : World) (c : Core) → IsSimpleMount i w → Stands i (log_of w) c → length c.window.entries < c.window.size → length (held c.placer) < c.placer.shape.ring
 held_room i w c simple st some =
-    let few : length (held (placing_of i (log_of w) c.placer.entries.pad [])) ≤ taken (log_of w 0) - c.window.freed =
-    held_few i (log_of w) c.placer.entries.pad [] c.window.freed (ordered i w simple) st.to_freed in
-    let count : length (held c.placer) ≡ length (held (placing_of i (log_of w) c.placer.entries.pad [])) = ap (λ p. length (held p)) st.placing in
+    let few : length (held (placing_of i (log_of w) c.placer.entries.pad st.again)) ≤ taken (log_of w 0) - c.window.freed =
+    held_few i (log_of w) c.placer.entries.pad st.again c.window.freed (ordered i w simple) st.to_freed in
+    let count : length (held c.placer) ≡ length (held (placing_of i (log_of w) c.placer.entries.pad st.again)) = ap (λ p. length (held p)) st.placing in
     let end : c.window.freed + length c.window.entries ≡ taken (log_of w 0) = window_taken_is i w c st in
     let size : c.window.size ≡ i.shape.ring = st.size in
     let ring : c.placer.shape.ring ≡ i.shape.ring = ap (λ (p : Placing). p.shape.ring) st.placing in
@@ -32,7 +32,7 @@ pub held_another : (i : Image) (w : World) (c : Core) (position : ℕ) → IsSim
 held_another i w c position simple st is there =
     let at : (k : ℕ) × (slice_get (held c.placer) k ≡ Some position) = is_at (held c.placer) position there in
     let inside : IsInWindow i.shape (log_of w 0) position =
-    in_window i (log_of w) c.placer.entries.pad [] at.0 position (ordered i w simple) (ap (λ p. slice_get (held p) at.0) (sym st.placing) ∙ at.1) in
+    in_window i (log_of w) c.placer.entries.pad st.again at.0 position (ordered i w simple) (ap (λ p. slice_get (held p) at.0) (sym st.placing) ∙ at.1) in
     let below : position < taken (log_of w 0) = inside.below_taken in
     let end : view.taken c.window ≡ taken (log_of w 0) = window_taken_is i w c st in
     omega arith

@@ -1,5 +1,5 @@
 -- What a core keeps of a program that is under way.
-use Rattle.std.proofs.Common.{◌≡◌, ℕ, ◌+◌, ◌*◌, ◌/◌, ◌^◌, ◌<◌, ◌≤◌, ◌==◌, true, false, Some, Option, List, [], length, refl, sym, subst, ap, ◌∙◌, arith, inl}
+use Rattle.std.proofs.Common.{◌≡◌, ℕ, ◌+◌, ◌*◌, ◌/◌, ◌^◌, ◌<◌, ◌≤◌, ◌==◌, true, false, Some, Option, List, length, refl, sym, subst, ap, ◌∙◌, arith, inl}
 use Rattle.std.specs.Prelude.{slice_get, slice_set}
 use Rattle.std.specs.List.{range_with_len}
 use Rattle.std.specs.Option.{option_map, option_map_or, option_and_then}
@@ -62,14 +62,17 @@ told_under_way p unit u of told at there tells = tells (UnderWay of) (ap (slice_
 
 pub record IsOfCore (i : Image) (w : World) (c : Core) (unit : ℕ) (of : Program) : Type 0 where
   pub is : IsOnWay i w unit of
-  pub waits : IsAwaited i (log_of w) c.placer.entries.pad [] of
+  pub waits : (again : List ℕ) → c.placer ≡ placing_of i (log_of w) c.placer.entries.pad again → IsAwaited i (log_of w) c.placer.entries.pad again of
   pub has : HasSlot i (log_of w) c.open is.row.opening
 
 pub of_core : (i : Image) (w : World) (c : Core) (unit : ℕ) (of : Program) → IsSimpleMount i w → Stands i (log_of w) c → slice_get c.placer.units unit ≡ Some (UnderWay of) → IsOfCore i w c unit of
 of_core i w c unit of simple st there =
-    let row : slice_get (placing_of i (log_of w) c.placer.entries.pad []).units unit ≡ Some (UnderWay of) = ap (λ p. slice_get p.units unit) (sym st.placing) ∙ there in
-    let is : IsOnWay i w unit of = on_way i w unit of simple (of_row i (log_of w) c.placer.entries.pad unit of row) in
-    record { is = is; waits = awaited i w c.placer.entries.pad unit of simple is row; has = has_slot i w c unit of simple is st }
+    let is : IsOnWay i w unit of = on_way i w unit of simple (of_row i (log_of w) c.placer.entries.pad st.again unit of (ap (λ p. slice_get p.units unit) (sym st.placing) ∙ there)) in
+    record {
+      is = is;
+      waits = λ again placing. awaited i w c.placer.entries.pad again unit of simple is (ap (λ p. slice_get p.units unit) (sym placing) ∙ there);
+      has = has_slot i w c unit of simple is st;
+    }
 
 -- ---- its entries
 
@@ -111,7 +114,7 @@ block_within i w unit of simple is = subst (λ n. n + i.shape.ws_opt ≤ i.shape
 -- ---- the units of its line
 
 pub live_few : (i : Image) (w : World) (c : Core) (unit : ℕ) (of : Program) → IsSimpleMount i w → (is : IsOnWay i w unit of) → (has : HasSlot i (log_of w) c.open is.row.opening) → has.slot.live < 2 ^ units i.shape
-live_few i w c unit of simple is has = subst (λ n. n < 2 ^ units i.shape) (sym has.is.live) (known_bits i w (engine_prefix is.row.opening.number (log_of w)) is.row.opening.line simple)
+live_few i w c unit of simple is has = subst (λ n. n < 2 ^ units i.shape) (sym has.is.live) (known_bits i w (engine_prefix is.row.opening.number (log_of w)) is.row.opening.line simple.mount)
 
 pub left_some : (i : Image) (w : World) (c : Core) (unit : ℕ) (of : Program) → (is : IsOnWay i w unit of) → (has : HasSlot i (log_of w) c.open is.row.opening) → 0 < has.slot.stripes_left
 left_some i w c unit of is has =

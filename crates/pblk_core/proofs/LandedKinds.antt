@@ -33,7 +33,8 @@ use Rattle.placing_laws.proofs.InOrder.{its_stripes, stripes_now as stripe_behin
 use Rattle.placing_laws.proofs.Lengths.{IsStriped}
 use Rattle.placing_laws.proofs.Opened.{IsOpenedLine, opened_lines}
 use Rattle.pblk_laws.proofs.MarkNames.{pad_none, meta_none}
-use Rattle.pblk_core.proofs.DataBlocks.{IsOfTaken, data_taken, cut_marks}
+use Rattle.chunk_laws.proofs.LineStarts.{cut_marks}
+use Rattle.pblk_core.proofs.DataBlocks.{IsOfTaken, data_taken}
 use Rattle.pblk_core.specs.Stands.{IsOpenLine}
 use Rattle.pblk_core.specs.declared.open_lines.OpenLine.{OpenLine}
 use Rattle.pblk_core.proofs.LineUnits.{now_units}

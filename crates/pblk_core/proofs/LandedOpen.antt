@@ -19,12 +19,11 @@ use Rattle.core_laws.specs.OpenedLines.{open_line, standing, bits_of}
 use Rattle.core_laws.specs.PlacerOf.{IsAwaited}
 use Rattle.core_laws.specs.SimpleMounts.{IsSimpleMount}
 use Rattle.core_laws.specs.Stepping.{after}
-use Rattle.core_laws.proofs.Steady.{standing_before}
 use Rattle.core_laws.proofs.Turns.{filtered_is}
 use Rattle.line_laws.specs.LandedStripes.{landed_count}
 use Rattle.line_laws.proofs.LandedCounts.{one_landed, count_beside, count_all as all_pass}
 use Rattle.placed_laws.specs.LeftOpenings.{left_openings}
-use Rattle.placed_laws.proofs.LeftLines.{left_apart, left_opened}
+use Rattle.placed_laws.proofs.LeftLines.{left_apart, left_before, left_opened}
 use Rattle.placed_laws.proofs.LandedLines.{left_until_landed, left_after_landing}
 use Rattle.placed_laws.proofs.StandingOpenings.{life_there, opening_at}
 use Rattle.placing_laws.proofs.InOrder.{stripe_count}
@@ -39,7 +38,6 @@ use Rattle.pblk_core.proofs.LandedLogs.{stripes_landed, units_landed}
 use Rattle.pblk_core.proofs.LandedWay.{IsOnWay, waits_there, line_of_way, stripe_number, unit_is}
 use Rattle.pblk_core.proofs.LandedLines.{HasSlot, not_all_pass, one_more_passes, landed_are, stripes_are}
 use Rattle.pblk_core.proofs.LineUnits.{now_units}
-use Rattle.lemmas.proofs.Maps.{all_filter}
 use Rattle.lemmas.proofs.Numbers.{le_before}
 use Rattle.lemmas.proofs.Parts.{all_at, all_by_get, got_else, got_here, got_within}
 use Rattle.lemmas.proofs.Tests.{other_number, same_number}
@@ -50,10 +48,10 @@ use Rattle.lemmas.proofs.Tests.{other_number, same_number}
 abbrev pub has_more : Image → World → Program → Opening → Bool
 has_more i w of o = not (list_all is_landed (in_line of.line (of.at / i.shape.ws_opt) HasLanded (open_line i (log_of w) o)).stripes)
 
-pub left_now : (i : Image) (w : World) (unit event : ℕ) (knows : List ℕ) (pad : ℕ) (of : Program) → IsSimpleMount i w → IsOnWay i w unit of → IsAwaited i (log_of w) pad [] of
+pub left_now : (i : Image) (w : World) (unit event : ℕ) (knows : List ℕ) (pad : ℕ) (again : List ℕ) (of : Program) → IsSimpleMount i w → IsOnWay i w unit of → IsAwaited i (log_of w) pad again of
     → left_openings i (after (log_of w) (Landed unit event) knows) ≡ filter (has_more i w of) (left_openings i (log_of w))
-left_now i w unit event knows pad of simple is waits =
-    ap (λ u. left_openings i (after (log_of w) (Landed u event) knows)) (sym (unit_is i w unit of is)) ∙ left_after_landing i w event knows pad [] of simple waits
+left_now i w unit event knows pad again of simple is waits =
+    ap (λ u. left_openings i (after (log_of w) (Landed u event) knows)) (sym (unit_is i w unit of is)) ∙ left_after_landing i w event knows pad again of simple waits
 
 more_beside : (i : Image) (w : World) (unit : ℕ) (of : Program) (k m : ℕ) (other : Opening) → IsSimpleMount i w → (is : IsOnWay i w unit of) → slice_get (left_openings i (log_of w)) k ≡ Some is.row.opening
     → slice_get (left_openings i (log_of w)) m ≡ Some other → m ≢ k → has_more i w of other ≡ true
@@ -156,10 +154,6 @@ records_landed i logs unit event knows o r of = record {
   marks = of.marks ∙ sym (marks_landed i logs unit event knows o);
 }
 
-left_before : (i : Image) (logs : Logs) (k : ℕ) (o : Opening) → slice_get (left_openings i logs) k ≡ Some o → o.number < length (logs 0)
-left_before i logs k o e = all_at (λ (x : Opening). x.number < length (logs 0)) (left_openings i logs) k o e
-    (all_filter (λ (x : Opening). x.number < length (logs 0)) (λ x. has_left (open_line i logs x)) (standing (logs 0)) (standing_before (logs 0)))
-
 pub own_open : (i : Image) (w : World) (unit event : ℕ) (knows : List ℕ) (of : Program) (k : ℕ) (kept : KeptLine) → (is : IsOnWay i w unit of) → slice_get (left_openings i (log_of w)) k ≡ Some is.row.opening
     → IsOpenLine i (log_of w) is.row.opening kept → IsOpenLine i (after (log_of w) (Landed unit event) knows) is.row.opening (landed_slot kept)
 own_open i w unit event knows of k kept is here old =
@@ -214,12 +208,12 @@ shapes_of_mid s old mid k slot is there all m x at = go (nat_eq m k) refl
     go false e = all m x (other_of_mid old mid k m slot x is (eqb-false m k e) at)
 
 -- where a stripe of the line hasn't landed yet
-pub lines_stay : (i : Image) (w : World) (unit event : ℕ) (knows : List ℕ) (pad : ℕ) (of : Program) (old mid : OpenLines) → IsSimpleMount i w → (is : IsOnWay i w unit of) → IsAwaited i (log_of w) pad [] of
+pub lines_stay : (i : Image) (w : World) (unit event : ℕ) (knows : List ℕ) (pad : ℕ) (again : List ℕ) (of : Program) (old mid : OpenLines) → IsSimpleMount i w → (is : IsOnWay i w unit of) → IsAwaited i (log_of w) pad again of
     → AreOpenLines i (log_of w) old → (has : HasSlot i (log_of w) old is.row.opening) → IsLandedIn old mid has.k has.slot
     → landed_count (log_of w 0) is.row.opening + 1 < stripe_count i (now_units i w) is.row.opening.line → AreOpenLines i (after (log_of w) (Landed unit event) knows) mid
-lines_stay i w unit event knows pad of old mid simple is waits are has landed few =
+lines_stay i w unit event knows pad again of old mid simple is waits are has landed few =
     let left : left_openings i (after (log_of w) (Landed unit event) knows) ≡ left_openings i (log_of w) =
-    left_now i w unit event knows pad of simple is waits ∙ keeps_all (has_more i w of) (left_openings i (log_of w))
+    left_now i w unit event knows pad again of simple is waits ∙ keeps_all (has_more i w of) (left_openings i (log_of w))
     (all_by_get (λ (x : Opening). has_more i w of x ≡ true) (left_openings i (log_of w)) (λ m x e. more m x e (nat_eq m has.k) refl)) in
     record {
       two = ap length landed.slots ∙ set_length old.slots.items has.k (landed_slot has.slot) ∙ are.two;
@@ -253,11 +247,11 @@ pub record IsRemoved (mid new : OpenLines) (k : ℕ) : Type 0 where
   pub same : (m : ℕ) (slot : KeptLine) → IsSlot new m slot → (j : ℕ) × IsSlot mid j slot
 
 -- where all stripes of the line have landed
-pub line_leaves : (i : Image) (w : World) (unit event : ℕ) (knows : List ℕ) (pad : ℕ) (of : Program) (old mid new : OpenLines) → IsSimpleMount i w → (is : IsOnWay i w unit of) → IsAwaited i (log_of w) pad [] of
+pub line_leaves : (i : Image) (w : World) (unit event : ℕ) (knows : List ℕ) (pad : ℕ) (again : List ℕ) (of : Program) (old mid new : OpenLines) → IsSimpleMount i w → (is : IsOnWay i w unit of) → IsAwaited i (log_of w) pad again of
     → AreOpenLines i (log_of w) old → (has : HasSlot i (log_of w) old is.row.opening) → IsLandedIn old mid has.k has.slot → IsRemoved mid new has.k
     → landed_count (log_of w 0) is.row.opening + 1 ≡ stripe_count i (now_units i w) is.row.opening.line → AreOpenLines i (after (log_of w) (Landed unit event) knows) new
-line_leaves i w unit event knows pad of old mid new simple is waits are has landed gone full =
-    let left = left_now i w unit event knows pad of simple is waits in
+line_leaves i w unit event knows pad again of old mid new simple is waits are has landed gone full =
+    let left = left_now i w unit event knows pad again of simple is waits in
     let few : old.count ≤ 2 = are.few in
     let count : old.count ≡ length (left_openings i (log_of w)) = are.count in
     let drops : DropsOne (has_more i w of) (left_openings i (log_of w)) has.k =

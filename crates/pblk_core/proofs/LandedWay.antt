@@ -63,11 +63,11 @@ of_stripe i logs stopped (Some p) of e = go p.life refl e
     go (Opened o) is e = (p, o, refl, is, under_way_is stopped (program_of_placed i logs o p) of e)
     go (Freed past knows) is e = absurd cc
 
-pub of_row : (i : Image) (logs : Logs) (pad unit : ℕ) (of : Program) → slice_get (placing_of i logs pad []).units unit ≡ Some (UnderWay of) → IsOfRow i logs unit of
-of_row i logs pad unit of there =
-    let row : (unit < units i.shape) × (row_of i logs [] (0 + unit) ≡ UnderWay of) = row_at (row_of i logs []) (units i.shape) 0 unit (UnderWay of) there in
+pub of_row : (i : Image) (logs : Logs) (pad : ℕ) (again : List ℕ) (unit : ℕ) (of : Program) → slice_get (placing_of i logs pad again).units unit ≡ Some (UnderWay of) → IsOfRow i logs unit of
+of_row i logs pad again unit of there =
+    let row : (unit < units i.shape) × (row_of i logs again (0 + unit) ≡ UnderWay of) = row_at (row_of i logs again) (units i.shape) 0 unit (UnderWay of) there in
     let simple : 0 + unit ≡ unit = zero-add unit in
-    let its = of_stripe i logs (waits_again (logs 0) [] unit) (unanswered_on (logs 0) unit) of (ap (row_of i logs []) (sym simple) ∙ row.1) in
+    let its = of_stripe i logs (waits_again (logs 0) again unit) (unanswered_on (logs 0) unit) of (ap (row_of i logs again) (sym simple) ∙ row.1) in
     record { inside = row.0; stripe = its.0; opening = its.1; waits = its.2; life = its.3; is = its.4 }
 
 -- ---- its number in its line
@@ -187,8 +187,9 @@ only_line i w unit of simple is l among same =
     let at : own.0 ≡ from.1.0 = left_apart i (log_of w) own.0 from.1.0 is.row.opening from.0 own.1 from.1.1 line in
     ap (open_line i (log_of w)) (same_Some is.row.opening from.0 (sym own.1 ∙ ap (slice_get (left_openings i (log_of w))) at ∙ from.1.1)) ∙ from.2
 
-pub awaited : (i : Image) (w : World) (pad unit : ℕ) (of : Program) → IsSimpleMount i w → IsOnWay i w unit of → slice_get (placing_of i (log_of w) pad []).units unit ≡ Some (UnderWay of) → IsAwaited i (log_of w) pad [] of
-awaited i w pad unit of simple is row =
+pub awaited : (i : Image) (w : World) (pad : ℕ) (again : List ℕ) (unit : ℕ) (of : Program) → IsSimpleMount i w → IsOnWay i w unit of → slice_get (placing_of i (log_of w) pad again).units unit ≡ Some (UnderWay of)
+    → IsAwaited i (log_of w) pad again of
+awaited i w pad again unit of simple is row =
     let u : of.unit ≡ unit = unit_is i w unit of is in
     let j : of.at / i.shape.ws_opt ≡ is.number = stripe_number i w unit of is in
     let own : IsAmong (left_openings i (log_of w)) is.row.opening = left_there i w unit of simple is in
@@ -199,7 +200,7 @@ awaited i w pad unit of simple is row =
     let here : unit_of (open_line i (log_of w) is.row.opening) is.number ≡ unit =
     eqb-true (unit_of (as_opened i (log_of w) is.row.opening) is.number) is.row.stripe.stripe.unit (first_of (unit_of (as_opened i (log_of w) is.row.opening) is.number == is.row.stripe.stripe.unit) (is.number / width (as_opened i (log_of w) is.row.opening) * i.shape.ws_opt == is.row.stripe.stripe.at) is.here) ∙ is.its_unit in
     record {
-      under_way = ap (slice_get (placing_of i (log_of w) pad []).units) u ∙ row;
+      under_way = ap (slice_get (placing_of i (log_of w) pad again).units) u ∙ row;
       stripe = record {
         unit_is = refl;
         line = (open_line i (log_of w) is.row.opening, among, line_of_way i w unit of is);

@@ -149,9 +149,9 @@ next_line_is i w c simple st may = record {
   closed = free_unopened i (log_of w) line least.is_free;
   live = there;
   units_are = is;
-  small = subst (λ m. m < 2 ^ units i.shape) (sym is) (known_bits i w (log_of w) (next_line c) simple);
+  small = subst (λ m. m < 2 ^ units i.shape) (sym is) (known_bits i w (log_of w) (next_line c) simple.mount);
   wide = ap (λ m. length (units_in m)) is ∙ count;
-  few = known_width i w (log_of w) (next_line c) simple;
+  few = known_width i w (log_of w) (next_line c) simple.mount;
   data_some = data_is;
   stripes = subst (λ k. 0 < k) (sym (length_replicate (length (units_in (live_now i (log_of w) line)) * (i.shape.clba / i.shape.ws_opt)) Unplaced))
       (subst (λ g. 0 < g * (i.shape.clba / i.shape.ws_opt)) (sym count) (has_stripes i.shape (width (known_image i (log_of w)) (next_line c)) simple.mount.accepted data_is));
@@ -168,7 +168,7 @@ next_line_is i w c simple st may = record {
         (third (not (has_number i (log_of w) (life_of (log_of w 0) (next_line c)) (next_line c))) (are_empty (known_image i (log_of w)) (next_line c)) (nat_lt 0 (line_data (known_image i (log_of w)) (next_line c))) least.is_free)
 
     count : length (units_in (live_now i (log_of w) (next_line c))) ≡ width (known_image i (log_of w)) (next_line c)
-    count = bits_width i w (log_of w) (next_line c) simple
+    count = bits_width i w (log_of w) (next_line c) simple.mount
 
     there : slice_get c.live.items (next_line c) ≡ Some (live_now i (log_of w) (next_line c))
     there =

@@ -121,7 +121,7 @@ row_emptied i w unit event line knows state b simple begins named is none =
     let wide : ℕ = width (known_image i new) line in
     let old_stray : IsStray i w logs line = stray_before i w line unit b simple begins named in
     let stray : IsStray i w new line = stray_after i w unit event line knows old_stray in
-    let now : are_empty (known_image i new) line ≡ true = unused_empty (known_image i new) line (known_count i w new simple) (line_left i logs unit event line knows state named is ∙ none) in
+    let now : are_empty (known_image i new) line ≡ true = unused_empty (known_image i new) line (known_count i w new simple.mount) (line_left i logs unit event line knows state named is ∙ none) in
     let lines : KeepsLines i logs new = lines_kept i logs (ResetDone unit event) knows refl refl refl in
     same_row (state_in i new line (life_of (new 0) line)) (emptied i.shape wide) (width_in i new line (life_of (new 0) line)) wide
     (live i new line) (live i logs line) (taker_in i new line (life_of (new 0) line)) (kept (emptied i.shape wide) (taker_in i logs line (life_of (logs 0) line)))

@@ -1,5 +1,5 @@
 -- The units of lines and the chunks that are still to be reset, once a reset is noted.
-use Rattle.std.proofs.Common.{◌≡◌, ◌≢◌, ◌⊎◌, ℕ, ◌+◌, ◌-◌, ◌^◌, ◌<◌, ◌≤◌, not, nat_eq, ◌&&◌, zero, suc, cond, if◌then◌else◌, Bool, true, false, Some, None, Option, List, [], ◌∷◌, length, drop, refl, sym, subst, ap, ap₂, ◌∙◌, arith, inl, inr}
+use Rattle.std.proofs.Common.{◌≡◌, ◌≢◌, ◌⊎◌, ℕ, ◌+◌, ◌-◌, ◌^◌, ◌<◌, ◌≤◌, not, nat_eq, ◌&&◌, zero, suc, cond, if◌then◌else◌, Bool, true, false, Some, None, Option, List, [], ◌∷◌, length, drop, refl, sym, ap, ap₂, ◌∙◌, arith, inl, inr}
 use Rattle.std.specs.Prelude.{map, slice_get, slice_set}
 use Rattle.std.specs.List.{filter, filter_map, cons_option, list_all, range_with_len}
 use Rattle.std.specs.Option.{option_map_or, option_and_then}
@@ -62,7 +62,7 @@ resets_less i logs unit event line knows state named is =
 
 -- the units of a line as bits
 pub live_bits : (i : Image) (w : World) (ls : Logs) (line : ℕ) → IsSimpleMount i w → live_now i ls line ≡ bits_of (filter (is_live (known_image i ls) line) (range_with_len 0 (units i.shape)))
-live_bits i w ls line simple = ap bits_of (units_below (known_image i ls) line (few_units i w ls simple.mount) ∙ ap (λ n. filter (is_live (known_image i ls) line) (range_with_len 0 n)) (known_count i w ls simple))
+live_bits i w ls line simple = ap bits_of (units_below (known_image i ls) line (few_units i w ls simple.mount) ∙ ap (λ n. filter (is_live (known_image i ls) line) (range_with_len 0 n)) (known_count i w ls simple.mount))
 
 pub was_live : (i : Image) (logs : Logs) (unit event line : ℕ) (knows : List ℕ) (state : ChunkState) → IsNoted i logs unit event line knows state → is_live (known_image i logs) line unit ≡ true
 was_live i logs unit event line knows state is = live_is (known_image i logs) line unit ∙ tested_before is_online_in i logs unit event line knows state is ∙ used_online is.chunk.state is.used

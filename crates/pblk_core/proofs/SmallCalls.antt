@@ -197,6 +197,7 @@ popped_stands i w c new simple st is =
       from_first = let low : first_position (log_of w 0) ≤ c.window.freed = st.from_first in let more : new.freed ≡ c.window.freed + 1 = is.freed in omega arith;
       to_freed = has.1;
       holds = st.holds;
+      again = st.again;
       placing = st.placing;
       open_lines = st.open_lines;
       next_seq = st.next_seq;
@@ -238,7 +239,8 @@ padded_stands i logs c new to st is = record {
   from_first = st.from_first;
   to_freed = st.to_freed;
   holds = st.holds;
-  placing = is ∙ ap (λ (p : Placing). padded_to p to) st.placing ∙ ap (λ n. placing_of i logs n []) (sym (ap (λ (p : Placing). p.entries.pad) is));
+  again = st.again;
+  placing = is ∙ ap (λ (p : Placing). padded_to p to) st.placing ∙ ap (λ n. placing_of i logs n st.again) (sym (ap (λ (p : Placing). p.entries.pad) is));
   open_lines = st.open_lines;
   next_seq = st.next_seq;
   first_seq = st.first_seq;

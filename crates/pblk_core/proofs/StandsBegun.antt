@@ -44,7 +44,7 @@ use Rattle.pblk_core.specs.OlderLines.{older_found}
 use Rattle.pblk_core.specs.Resets.{is_used_state, is_used_in, is_used_at, used_units, used_below, in_line, resets_found, resets_of}
 use Rattle.pblk_core.specs.Stands.{Stands, IsOlder, left_openings}
 use Rattle.pblk_core.specs.declared.target_core.Core.{Core}
-use Rattle.pblk_core.proofs.SimpleLogs.{simple_after, simple_none}
+use Rattle.core_laws.proofs.SimpleMounts.{simple_after, simple_none}
 use Rattle.pblk_core.proofs.KeptResets.{flat_same}
 use Rattle.lemmas.proofs.Lists.{all_of}
 use Rattle.lemmas.proofs.Maps.{filter_none, filter_same}
@@ -153,6 +153,7 @@ made_stands i w knows f c simple none fit found is = record {
   from_first = subst (λ n. n ≤ c.window.freed) (sym (first_is i f new begins)) (subst (λ n. f.end ≤ n) (sym is.freed) (le_refl f.end));
   to_freed = subst (λ n. c.window.freed ≤ n) (sym (freed_is i f new begins)) (subst (λ n. n ≤ f.end) (sym is.freed) (le_refl f.end));
   holds = record { room = is.holds; each = λ t among waits. absurd (nowhere t (subst (λ ts. Contains ts t) (no_takes i f new begins) among)) };
+  again = [];
   placing = is.placer ∙ sym (placing_is i f new 0 [] begins) ∙ ap (λ n. placing_of i new n []) (sym (ap (λ (p : Placing). p.entries.pad) is.placer));
   open_lines = record {
     two = is.two;

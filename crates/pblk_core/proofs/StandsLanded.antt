@@ -49,7 +49,7 @@ use Rattle.pblk_core.specs.declared.hold.Hold.{Hold}
 use Rattle.pblk_core.specs.declared.hold.Holds.{Holds}
 use Rattle.pblk_core.specs.declared.open_lines.OpenLine.{OpenLine}
 use Rattle.pblk_core.specs.declared.open_lines.OpenLines.{OpenLines}
-use Rattle.pblk_core.proofs.SimpleLogs.{simple_after}
+use Rattle.core_laws.proofs.SimpleMounts.{simple_after}
 use Rattle.pblk_core.proofs.LandedLines.{HasSlot, fewer_landed}
 use Rattle.pblk_core.proofs.ChunkRows.{rows_of_chunks}
 use Rattle.pblk_core.proofs.LandedLogs.{takes_landed, openings_landed, users_landed, stripes_landed, live_landed, freed_landed, chunk_landed, one_less_under_way}
@@ -179,7 +179,7 @@ number_less : (m n : ℕ) → m ≤ n → (m == n) ≡ false → m < n
 number_less m n h e = grind arith
 
 pub landed_stands : (i : Image) (w : World) (unit event : ℕ) (knows : List ℕ) (old new : Core) (of : Program) (mid : OpenLines) (full : Bool) (from to : ℕ) → IsSimpleMount i w → (st : Stands i (log_of w) old)
-    → (is : IsOnWay i w unit of) → IsAwaited i (log_of w) old.placer.entries.pad [] of → MayLand (log_of w) unit event → (has : HasSlot i (log_of w) old.open is.row.opening)
+    → (is : IsOnWay i w unit of) → IsAwaited i (log_of w) old.placer.entries.pad st.again of → MayLand (log_of w) unit event → (has : HasSlot i (log_of w) old.open is.row.opening)
     → IsLandedInto old new of has.k has.slot mid full from to → AreReadNow i w unit event knows old new → Stands i (after (log_of w) (Landed unit event) knows) new
 landed_stands i w unit event knows old new of mid full from to simple st is waits may has into reads = record {
   simple = simple_after (log_of w 0) (record { event = Decides (Landed unit event); knows = knows }) st.simple refl refl refl refl;
@@ -196,6 +196,7 @@ landed_stands i w unit event knows old new of mid full from to simple st is wait
   from_first = subst (λ n. first_position (new_logs 0) ≤ n) (sym same_freed) (subst (λ p. p ≤ old.window.freed) (sym first_is) st.from_first);
   to_freed = subst (λ n. n ≤ freed i.shape (new_logs 0)) (sym same_freed) (le_trans st.to_freed (freed_landed i w st.beginning unit event knows simple may));
   holds = subst (AreHolds i.shape (new_logs 0)) (sym into.holds) (holds_now i w unit event knows of old.holds simple is st.holds);
+  again = st.again;
   placing = placing_is;
   open_lines = open_is full refl;
   next_seq = ap (λ r. r.seq) into.start ∙ st.next_seq ∙ ap (λ os. st.beginning.beginning.seq + length os) (sym (openings_landed (log_of w) unit event knows));
@@ -226,10 +227,10 @@ landed_stands i w unit event knows old new of mid full from to simple st is wait
     few = fewer_landed i w unit of is
 
     open_is : (b : Bool) → full ≡ b → AreOpenLines i (after (log_of w) (Landed unit event) knows) new.open
-    open_is true e = line_leaves i w unit event knows old.placer.entries.pad of old.open mid new.open simple is waits st.open_lines has into.in_slot (into.gone e)
+    open_is true e = line_leaves i w unit event knows old.placer.entries.pad st.again of old.open mid new.open simple is waits st.open_lines has into.in_slot (into.gone e)
         (number_same (landed_count (log_of w 0) is.row.opening + 1) (stripe_count i (now_units i w) is.row.opening.line) (full_is ∙ e))
     open_is false e = subst (AreOpenLines i (after (log_of w) (Landed unit event) knows)) (sym (into.stay e))
-        (lines_stay i w unit event knows old.placer.entries.pad of old.open mid simple is waits st.open_lines has into.in_slot
+        (lines_stay i w unit event knows old.placer.entries.pad st.again of old.open mid simple is waits st.open_lines has into.in_slot
         (number_less (landed_count (log_of w 0) is.row.opening + 1) (stripe_count i (now_units i w) is.row.opening.line) few (full_is ∙ e)))
 
     flight : new.under_way ≡ under_way i.shape (new_logs 0)
@@ -238,9 +239,9 @@ landed_stands i w unit event knows old new of mid full from to simple st is wait
         let was : old.under_way ≡ under_way i.shape (log_of w 0) = st.in_flight in
         into.under_way ∙ (let n : old.under_way - 1 ≡ under_way i.shape (new_logs 0) = omega arith in n)
 
-    placing_is : new.placer ≡ placing_of i new_logs new.placer.entries.pad []
+    placing_is : new.placer ≡ placing_of i new_logs new.placer.entries.pad st.again
     placing_is =
         into.placer ∙ ap (λ p. landed p of) st.placing
-        ∙ sym (ap (λ u. placing_of i (after (log_of w) (Landed u event) knows) old.placer.entries.pad []) (sym (unit_is i w unit of is))
-        ∙ placing_landed i (log_of w) event knows old.placer.entries.pad [] of is.line_is.striped.some waits)
-        ∙ ap (λ n. placing_of i new_logs n []) (sym (ap (λ p. p.entries.pad) into.placer))
+        ∙ sym (ap (λ u. placing_of i (after (log_of w) (Landed u event) knows) old.placer.entries.pad st.again) (sym (unit_is i w unit of is))
+        ∙ placing_landed i (log_of w) event knows old.placer.entries.pad st.again of is.line_is.striped.some waits)
+        ∙ ap (λ n. placing_of i new_logs n st.again) (sym (ap (λ p. p.entries.pad) into.placer))

@@ -25,9 +25,9 @@ use Rattle.line_table.specs.Rows.{Changes, turned}
 use Rattle.line_table.proofs.Places.{get_within, get_set_same, get_set_other, each_more}
 use Rattle.stripe_placer.specs.Placing.{begun as line_begun}
 use Rattle.write_window.specs.Window as view
-use Rattle.core_laws.proofs.SimpleMounts.{engine_plain}
+use Rattle.core_laws.proofs.SimpleMounts.{engine_plain, simple_after}
 use Rattle.core_laws.specs.Stepping.{after}
-use Rattle.core_laws.specs.OpenedLines.{bits_of, live_now, open_line, standing}
+use Rattle.core_laws.specs.OpenedLines.{bits_of, live_now}
 use Rattle.core_laws.specs.PlacerOf.{placing_of}
 use Rattle.core_laws.specs.SimpleMounts.{IsSimpleMount}
 use Rattle.core_laws.specs.RowsOf.{rows_of, row_of_line}
@@ -35,7 +35,7 @@ use Rattle.core_laws.specs.WindowOf.{is_given_back, sectors_in, window_from}
 use Rattle.core_laws.proofs.Engine.{prefix_whole}
 use Rattle.core_laws.proofs.Numbering.{first_stays}
 use Rattle.core_laws.proofs.Opening.{placing_opened, placed_before}
-use Rattle.core_laws.proofs.Steady.{AreAlike, standing_before}
+use Rattle.core_laws.proofs.Steady.{AreAlike}
 use Rattle.core_laws.proofs.PlacedLines.{get_row as row_there}
 use Rattle.core_laws.proofs.TakenWindow.{given_same}
 use Rattle.landing_laws.proofs.QuietEvents.{IsQuiet, quiet_alike, quiet_window, quiet_slot, open_is_quiet}
@@ -48,7 +48,7 @@ use Rattle.line_laws.proofs.PlacedFront.{front_kept}
 use Rattle.line_laws.proofs.PlainLogs.{none_freed}
 use Rattle.line_laws.proofs.Tables.{changed_is}
 use Rattle.placed_laws.proofs.EntryHolds.{later_same, line_same}
-use Rattle.placed_laws.proofs.LeftLines.{left_more}
+use Rattle.placed_laws.proofs.LeftLines.{left_before, left_more}
 use Rattle.pblk_model.specs.Contents.{least_missing}
 use Rattle.pblk_core.specs.declared.target_core.Core.{Core}
 use Rattle.pblk_core.specs.declared.hold.Holds.{Holds}
@@ -57,17 +57,14 @@ use Rattle.pblk_core.specs.Holds.{hold_of}
 use Rattle.pblk_core.specs.Slots.{IsSlot, opened_slot}
 use Rattle.pblk_core.specs.Stands.{Stands, AreHolds, AreOpenLines, IsOpenLine, left_openings}
 use Rattle.pblk_core.specs.Named.{next_line, next_units, next_start}
-use Rattle.stripe_placer.specs.OpenLines.{has_left}
 use Rattle.std.proofs.lemmas.Bool.Decides.{eqb_tells}
-use Rattle.pblk_core.proofs.SimpleLogs.{simple_after}
 use Rattle.pblk_core.proofs.OpeningFacts.{MayOpenNext, IsNextLine, next_line_is, next_may_open}
 use Rattle.pblk_core.proofs.SteadyLines.{open_same, under_way_same}
 use Rattle.pblk_core.proofs.FoundLines.{HasOldRow, free_unstarted, older_kept}
 use Rattle.pblk_core.proofs.KeptResets.{resets_opened, fits_same}
 use Rattle.pblk_core.specs.Resets.{resets_left}
 use Rattle.std.proofs.lemmas.Bool.{eqb-true}
-use Rattle.lemmas.proofs.Maps.{all_filter, filter_none, map_same}
-use Rattle.lemmas.proofs.Parts.{all_at}
+use Rattle.lemmas.proofs.Maps.{filter_none, map_same}
 use Rattle.pblk_world.proofs.EngineLogLemmas.{takes_more}
 
 -- ---- entries and their rows
@@ -140,10 +137,6 @@ pub record IsOpenedInto (old new : Core) : Type 0 where
   pub under_way : new.under_way ≡ old.under_way
   pub users : new.users ≡ old.users
 
-left_number : (i : Image) (logs : Logs) (k : ℕ) (o : Opening) → slice_get (left_openings i logs) k ≡ Some o → o.number < length (logs 0)
-left_number i logs k o e = all_at (λ (x : Opening). x.number < length (logs 0)) (left_openings i logs) k o e
-    (all_filter (λ (x : Opening). x.number < length (logs 0)) (λ x. has_left (open_line i logs x)) (standing (logs 0)) (standing_before (logs 0)))
-
 -- the line of a place is the one that was set there, or stands there as it did
 set_at : (lines : List OpenLine) (n k : ℕ) (x line : OpenLine) → n < length lines → slice_get (slice_set lines n x) k ≡ Some line → ((k ≡ n) × (x ≡ line)) ⊎ ((k ≢ n) × (slice_get lines k ≡ Some line))
 set_at lines n k x line inside there = go (eqb_tells k n)
@@ -211,7 +204,7 @@ lines_opened i w knows old new simple st may is = record {
         let low : k < length (left_openings i (log_of w)) = slice_get_within (left_openings i (log_of w)) k o there in
         let count : old.open.count ≡ length (left_openings i (log_of w)) = st.open_lines.count in
         let other : k ≢ old.open.count = λ same. absurd (omega arith) in
-        open_same i (log_of w) e knows o line alike (left_number i (log_of w) k o there)
+        open_same i (log_of w) e knows o line alike (left_before i (log_of w) k o there)
         (st.open_lines.each k o line there (sym (get_set_other old.open.slots.items old.open.count k x other) ∙ held))
 
     last : IsKept (length (left_openings i (log_of w))) (opening_next (log_of w 0) old knows)
@@ -254,6 +247,7 @@ opened_stands i w knows old new simple st may is = record {
       let low : old.window.freed ≤ freed i.shape (log_of w 0) = st.to_freed in
       subst (λ v. v.freed ≤ freed i.shape (new_logs 0)) (sym is.window) (omega arith);
   holds = subst (AreHolds i.shape (new_logs 0)) (sym is.holds) (quiet_holds i.shape (log_of w 0) e knows old.holds quiet st.holds);
+  again = st.again;
   placing = placing_is;
   open_lines = lines_opened i w knows old new simple st may is;
   next_seq = is.seq ∙ seq_is;
@@ -303,11 +297,11 @@ opened_stands i w knows old new simple st may is = record {
         ∙ ap (with_row (next_line old) (turned states.Open (next_start old).width)) st.table
         ∙ sym (rows_opened i (log_of w) st.beginning (next_line old) (next_start old) knows simple.mount.accepted.drive (none_freed (log_of w 0) (engine_plain i w simple)) allowed)
 
-    placing_is : new.placer ≡ placing_of i new_logs new.placer.entries.pad []
+    placing_is : new.placer ≡ placing_of i new_logs new.placer.entries.pad st.again
     placing_is =
-        is.placer ∙ ap (λ p. line_begun p (next_line old) (next_units old)) st.placing ∙ ap (line_begun (placing_of i (log_of w) old.placer.entries.pad []) (next_line old)) line_is.units_are
-        ∙ sym (placing_opened i (log_of w) (next_line old) (next_start old) knows old.placer.entries.pad [] line_is.closed line_is.stripes)
-        ∙ ap (λ n. placing_of i new_logs n []) (sym (ap (λ p. p.entries.pad) is.placer))
+        is.placer ∙ ap (λ p. line_begun p (next_line old) (next_units old)) st.placing ∙ ap (line_begun (placing_of i (log_of w) old.placer.entries.pad st.again) (next_line old)) line_is.units_are
+        ∙ sym (placing_opened i (log_of w) (next_line old) (next_start old) knows old.placer.entries.pad st.again line_is.closed line_is.stripes)
+        ∙ ap (λ n. placing_of i new_logs n st.again) (sym (ap (λ p. p.entries.pad) is.placer))
 
     seq_is : old.start.seq + 1 ≡ st.beginning.beginning.seq + length (openings (new_logs 0))
     seq_is =

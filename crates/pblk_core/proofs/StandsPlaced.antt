@@ -45,8 +45,7 @@ use Rattle.core_laws.specs.WindowOf.{is_given_back, sectors_in, window_from}
 use Rattle.core_laws.proofs.Numbering.{first_stays}
 use Rattle.core_laws.proofs.PlacedLines.{placing_placed}
 use Rattle.core_laws.proofs.Placing.{IsPlacing, with_place}
-use Rattle.core_laws.proofs.Steady.{standing_before}
-use Rattle.placed_laws.proofs.LeftLines.{left_placed}
+use Rattle.placed_laws.proofs.LeftLines.{left_before, left_placed}
 use Rattle.placed_laws.proofs.Ordered.{ordered, lost_are_none}
 use Rattle.placed_laws.proofs.StandingOpenings.{rise_filtered, standing_rise, one_place}
 use Rattle.placed_laws.proofs.StripeBlocks.{have_blocks, length_joined as blocks_length}
@@ -59,7 +58,7 @@ use Rattle.pblk_core.specs.Holds.{hold_of, row_at}
 use Rattle.pblk_core.specs.declared.hold.Hold.{Hold}
 use Rattle.pblk_core.specs.declared.target_core.Core.{Core}
 use Rattle.pblk_core.specs.declared.open_lines.OpenLine.{OpenLine as KeptLine}
-use Rattle.pblk_core.proofs.SimpleLogs.{simple_after}
+use Rattle.core_laws.proofs.SimpleMounts.{simple_after}
 use Rattle.pblk_core.proofs.PlacedEntries.{rows_length, row_placed_is, lines_placed_are}
 use Rattle.pblk_core.proofs.PlacedMarks.{line_blocks, marks_before, marks_more, marks_beyond, marks_elsewhere, unlanded_placed, one_more_under_way}
 use Rattle.pblk_core.proofs.PlacedStripe.{IsOfferedNow, IsInPart, IsOfKind, of_kind, HasSlot}
@@ -69,7 +68,7 @@ use Rattle.pblk_core.proofs.FoundLines.{older_kept}
 use Rattle.pblk_core.proofs.KeptResets.{resets_quiet, fits_same}
 use Rattle.pblk_core.specs.Resets.{resets_left}
 use Rattle.lemmas.proofs.Maps.{all_filter, map_same}
-use Rattle.lemmas.proofs.Parts.{all_at, all_by_get, get_whole}
+use Rattle.lemmas.proofs.Parts.{all_by_get, get_whole}
 use Rattle.lemmas.proofs.Tests.{other_number, same_number}
 use Rattle.pblk_world.proofs.EngineLogLemmas.{takes_more}
 
@@ -229,10 +228,6 @@ slots_count kinds.Data slots k slot stripe = length-set slots k (with_marks slot
 slots_count kinds.Pad slots k slot stripe = refl
 slots_count kinds.End slots k slot stripe = refl
 
-left_number : (i : Image) (logs : Logs) (k : ℕ) (o : Opening) → slice_get (left_openings i logs) k ≡ Some o → o.number < length (logs 0)
-left_number i logs k o e = all_at (λ (x : Opening). x.number < length (logs 0)) (left_openings i logs) k o e
-    (all_filter (λ (x : Opening). x.number < length (logs 0)) (λ x. has_left (open_line i logs x)) (standing (logs 0)) (standing_before (logs 0)))
-
 line_of_it : (i : Image) (w : World) (stripe : Stripe) (knows : List ℕ) (o : Opening) (at : ℕ) (kind : StripeKind) (slot : KeptLine) → IsSimpleMount i w → IsPlacing (log_of w 0) stripe o
     → o.number < length (log_of w 0) → at ≡ next_address i.shape (log_of w 0) o → IsInPart i.shape o at kind → length stripe.blocks ≤ i.shape.ws_opt → IsOpenLine i (log_of w) o slot
     → IsOpenLine i (after (log_of w) (Place stripe) knows) o (slot_now kind slot stripe)
@@ -343,10 +338,10 @@ lines_stand i w knows old new o of stripe simple st has here is = record {
         here_now of.kind old.open.slots.items has.k has.slot line stripe has.there (ap (slice_get (slots_for of.kind old.open.slots.items has.k has.slot stripe)) (sym same) ∙ there) in
         subst (λ (p : Opening). IsOpenLine i (after (log_of w) (Place stripe) knows) p line) own
         (subst (IsOpenLine i (after (log_of w) (Place stripe) knows) o) (sym slot)
-        (line_of_it i w stripe knows o of.at of.kind has.slot simple here.placing (left_number i (log_of w) has.k o has.opening) here.now.at here.now.part here.short has.is))
+        (line_of_it i w stripe knows o of.at of.kind has.slot simple here.placing (left_before i (log_of w) has.k o has.opening) here.now.at here.now.part here.short has.is))
     by_place k other line at there false e =
         let before : slice_get old.open.slots.items k ≡ Some line = sym (else_now of.kind old.open.slots.items has.k k has.slot stripe (apart k e)) ∙ there in
-        line_of_other i w stripe knows o other line here.placing (left_number i (log_of w) k other at)
+        line_of_other i w stripe knows o other line here.placing (left_before i (log_of w) k other at)
         (other_number o.number other.number (λ f. apart k e (one_place (left_openings i (log_of w)) k has.k other o (rise_filtered (λ p. has_left (open_line i (log_of w) p)) (standing (log_of w 0)) (standing_rise (log_of w 0))) at has.opening (sym f))))
         (st.open_lines.each k other line at before)
 
@@ -381,7 +376,8 @@ placed_stands i w knows old new o of stripe simple st has now for count is = rec
   from_first = subst (λ v. first_position (new_logs 0) ≤ v.freed) (sym is.window) (subst (λ p. p ≤ old.window.freed) (sym first_is) st.from_first);
   to_freed = subst (λ v. v.freed ≤ freed i.shape (new_logs 0)) (sym is.window) (le_trans st.to_freed (freed_placed i.shape (log_of w 0) stripe knows o here.placing first_is));
   holds = holds_are;
-  placing = placing_is ∙ ap (λ p. placing_of i new_logs p []) (sym (ap (λ (p : Placing). p.entries.pad) placing_is));
+  again = st.again;
+  placing = placing_is ∙ ap (λ p. placing_of i new_logs p st.again) (sym (ap (λ (p : Placing). p.entries.pad) placing_is));
   open_lines = lines_stand i w knows old new o of stripe simple st has here is;
   next_seq = ap (λ r. r.seq) is.start ∙ st.next_seq ∙ ap (λ os. st.beginning.beginning.seq + length os) (sym openings_are);
   first_seq = ap (λ r. r.first_seq) is.start ∙ st.first_seq;
@@ -441,10 +437,10 @@ placed_stands i w knows old new o of stripe simple st has now for count is = rec
           (sym (given_kept i.shape (log_of w 0) (new_logs 0) (place_kept (log_of w 0) stripe knows o here.placing.opened (omega (arith, here.placing.idle))) t.entry.position) ∙ kept);
     }
 
-    placing_is : new.placer ≡ placing_of i new_logs old.placer.entries.pad []
+    placing_is : new.placer ≡ placing_of i new_logs old.placer.entries.pad st.again
     placing_is =
         is.placer ∙ ap (λ p. placed p of) st.placing
-        ∙ sym (placing_placed i (log_of w) knows old.placer.entries.pad [] o stripe of simple.mount.accepted.drive.ws_opt here.its order.numbered)
+        ∙ sym (placing_placed i (log_of w) knows old.placer.entries.pad st.again o stripe of simple.mount.accepted.drive.ws_opt here.its order.numbered)
 
     placed_is : new.first + new.placed ≡ placed_front i.shape (new_logs 0)
     placed_is =

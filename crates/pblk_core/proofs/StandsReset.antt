@@ -1,5 +1,5 @@
 -- A core that noted a reset stands for the log with it.
-use Rattle.std.proofs.Common.{◌≡◌, ℕ, ◌+◌, ◌<◌, ◌≤◌, Bool, true, false, Some, List, [], length, drop, refl, sym, subst, ap, ap₂, ◌∙◌, arith, append-nil, inl, ◌&&◌}
+use Rattle.std.proofs.Common.{◌≡◌, ℕ, ◌+◌, ◌<◌, ◌≤◌, Bool, true, false, Some, List, [], length, drop, refl, sym, subst, ap, ap₂, ◌∙◌, arith, append-nil, inl, not, ◌&&◌}
 use Rattle.std.specs.Prelude.{map, slice_get}
 use Rattle.std.specs.List.{filter, range_with_len}
 use Rattle.std.specs.FinMap as fin
@@ -19,7 +19,7 @@ use Rattle.line_table.specs.Rows.{Changes, turned}
 use Rattle.write_window.specs.Window as view
 use Rattle.core_laws.specs.Stepping.{after}
 use Rattle.core_laws.specs.OpenedLines.{live_now, open_lines, standing}
-use Rattle.core_laws.specs.PlacerOf.{placing_of, entries_of, row_of}
+use Rattle.core_laws.specs.PlacerOf.{contains_unit, placing_of, entries_of, row_of}
 use Rattle.core_laws.specs.SimpleMounts.{IsSimpleMount}
 use Rattle.core_laws.specs.RowsOf.{row_of_line, rows_of}
 use Rattle.core_laws.specs.WindowOf.{sectors_in, window_from}
@@ -40,7 +40,7 @@ use Rattle.pblk_core.specs.declared.work.Work.TheVariants.{Reset}
 use Rattle.pblk_core.specs.Named.{named}
 use Rattle.pblk_core.specs.Resets.{resets_left, resets_of, units_to_reset, is_of_line, kept_units, emptied, IsResetTo}
 use Rattle.pblk_core.specs.Stands.{Stands, AreHolds, AreOpenLines}
-use Rattle.pblk_core.proofs.SimpleLogs.{simple_after}
+use Rattle.core_laws.proofs.SimpleMounts.{simple_after}
 use Rattle.pblk_core.proofs.FirstReset.{is_there, none_there}
 use Rattle.pblk_core.proofs.FoundLines.{HasOldRow, older_kept}
 use Rattle.pblk_core.proofs.KeptResets.{fits_same}
@@ -96,7 +96,8 @@ reset_stands i w line unit event knows state old new simple st names to is = rec
       let low : old.window.freed ≤ freed i.shape (log_of w 0) = st.to_freed in
       subst (λ v. v.freed ≤ freed i.shape (new_logs 0)) (sym is.window) (omega arith);
   holds = subst (AreHolds i.shape (new_logs 0)) (sym is.holds) (quiet_holds i.shape (log_of w 0) e knows old.holds quiet st.holds);
-  placing = is.placer ∙ st.placing ∙ sym placing_is ∙ ap (λ p. placing_of i new_logs p.entries.pad []) (sym is.placer);
+  again = st.again;
+  placing = is.placer ∙ st.placing ∙ sym placing_is ∙ ap (λ p. placing_of i new_logs p.entries.pad st.again) (sym is.placer);
   open_lines = subst (AreOpenLines i new_logs) (sym is.open_same) (open_lines_same i (log_of w) e knows old.open alike same_standing st.open_lines);
   next_seq = ap (λ s. s.seq) is.start ∙ st.next_seq ∙ ap (λ n. st.beginning.beginning.seq + n) (sym (ap length same_openings));
   first_seq = ap (λ s. s.first_seq) is.start ∙ st.first_seq;
@@ -169,18 +170,18 @@ reset_stands i w line unit event knows state old new simple st names to is = rec
     table_is false at =
         let none : units_to_reset i new_logs line ≡ [] =
         none_there (units_to_reset i new_logs) i.shape.chunks line named_is.in_range others_before (ap (λ rs. is_of_line line (slice_get rs 0)) (sym resets_are) ∙ at) in
-        let wide : length (units_in (live_now i new_logs line)) ≡ width (known_image i new_logs) line = bits_width i w new_logs line simple in
+        let wide : length (units_in (live_now i new_logs line)) ≡ width (known_image i new_logs) line = bits_width i w new_logs line simple.mount in
         changed_is old.lines new.lines line (turned (emptied old.layout (length (units_in (live_now i new_logs line)))) (length (units_in (live_now i new_logs line)))) (row_of_line i (log_of w) (0 + line)) there
         (is.lines_turn (live_now i new_logs line) at live_there)
         ∙ ap₂ (λ s n. with_row line (turned (emptied s n) n) old.lines) st.layout wide
         ∙ ap (with_row line (turned (emptied i.shape (width (known_image i new_logs) line)) (width (known_image i new_logs) line))) st.table
         ∙ sym (table_turns i w unit event line knows state st.beginning simple st.has_begun named_is seen (sym (units_left i (log_of w) unit event line knows state named_is seen) ∙ none))
 
-    placing_is : placing_of i new_logs old.placer.entries.pad [] ≡ placing_of i (log_of w) old.placer.entries.pad []
+    placing_is : placing_of i new_logs old.placer.entries.pad st.again ≡ placing_of i (log_of w) old.placer.entries.pad st.again
     placing_is =
         same_placing i.shape (entries_of i.shape (new_logs 0) old.placer.entries.pad) (entries_of i.shape (log_of w 0) old.placer.entries.pad)
-        (map (row_of i new_logs []) (range_with_len 0 (units i.shape))) (map (row_of i (log_of w) []) (range_with_len 0 (units i.shape))) (open_lines i new_logs) (open_lines i (log_of w))
+        (map (row_of i new_logs st.again) (range_with_len 0 (units i.shape))) (map (row_of i (log_of w) st.again) (range_with_len 0 (units i.shape))) (open_lines i new_logs) (open_lines i (log_of w))
         (entries_same i.shape (log_of w 0) (new_logs 0) old.placer.entries.pad alike (takes_same (log_of w 0) e knows quiet))
-        (map_same (row_of i new_logs []) (row_of i (log_of w) []) (λ u. row_same i (log_of w) e knows [] [] u (ap₂ (λ ps ns. unanswered_in ps ns u) alike.placements alike.answers)
-        (ap (λ b. b && true) (stopped_more (log_of w 0) l u))) (range_with_len 0 (units i.shape)))
+        (map_same (row_of i new_logs st.again) (row_of i (log_of w) st.again) (λ u. row_same i (log_of w) e knows st.again st.again u (ap₂ (λ ps ns. unanswered_in ps ns u) alike.placements alike.answers)
+        (ap (λ b. b && not (contains_unit st.again u)) (stopped_more (log_of w 0) l u))) (range_with_len 0 (units i.shape)))
         (lines_same i (log_of w) e knows alike same_standing)

@@ -32,7 +32,6 @@ use Rattle.core_laws.proofs.Numbering.{first_stays}
 use Rattle.line_laws.proofs.KeptRows.{begun_kept, known_kept}
 use Rattle.landing_laws.proofs.Least.{least_rises}
 use Rattle.pblk_core.specs.Stands.{Stands, AreOpenLines}
-use Rattle.pblk_core.proofs.SimpleLogs.{simple_after}
 use Rattle.pblk_core.proofs.SteadyLines.{open_lines_same, under_way_same}
 use Rattle.pblk_world.specs.Starts.{older_rows}
 use Rattle.line_laws.proofs.OpenAddresses.{addresses_kept}
@@ -74,7 +73,7 @@ use Rattle.write_window.specs.declared.held.Progress.TheVariants.{Waiting}
 use Rattle.write_window.specs.Window as view
 use Rattle.stripe_placer.specs.Placing.{waits}
 use Rattle.core_laws.specs.SimpleMounts.{IsSimpleMount}
-use Rattle.core_laws.proofs.SimpleMounts.{engine_plain}
+use Rattle.core_laws.proofs.SimpleMounts.{engine_plain, simple_after}
 use Rattle.pblk_model.specs.Contents.{least_missing}
 use Rattle.pblk_world.specs.EngineLog.{placements}
 use Rattle.pblk_world.specs.Space.{gives_back}
@@ -223,6 +222,7 @@ taken_stands i w knows old new e simple st is position room class user inside = 
   to_freed = subst (λ v. v.freed ≤ freed i.shape (new_logs 0)) (sym is.window) (le_trans st.to_freed (freed_taken i.shape (log_of w 0) (entry_of e) (mark_of e) knows st.beginning st.has_begun));
   holds = holds_taken i (log_of w) knows (entry_of e) (mark_of e) old.holds new.holds old.window.freed (in_order i w (accepted_small i.shape simple.mount.accepted) simple.mount.legal).numbered
       unplaced st.holds refl taken_is st.to_freed within holds_are;
+  again = st.again;
   placing = placing_is;
   open_lines = subst (AreOpenLines i new_logs) (sym is.open_lines) (open_lines_same i (log_of w) (Take (entry_of e) (mark_of e)) knows old.open (alike (log_of w 0) (entry_of e) (mark_of e) knows) (standing_taken (log_of w 0) (entry_of e) (mark_of e) knows) st.open_lines);
   next_seq = ap (λ r. r.seq) is.start ∙ st.next_seq ∙ ap (λ os. st.beginning.beginning.seq + length os) (sym (openings_taken (log_of w 0) (entry_of e) (mark_of e) knows));
@@ -290,11 +290,11 @@ taken_stands i w knows old new e simple st is position room class user inside = 
     table_now : rows_of i new_logs ≡ lose_in (line_of i (log_of w) e.lba (last_take (log_of w 0) e.lba)) e.position (rows_of i (log_of w))
     table_now = rows_taken i (log_of w) (entry_of e) (mark_of e) knows (none_freed (log_of w 0) (engine_plain i w simple)) (in_order i w (accepted_small i.shape simple.mount.accepted) simple.mount.legal).numbered unplaced taken_is inside
 
-    placing_is : new.placer ≡ placing_of i new_logs new.placer.entries.pad []
+    placing_is : new.placer ≡ placing_of i new_logs new.placer.entries.pad st.again
     placing_is =
         is.placer ∙ ap (λ p. waits p e.position false) st.placing
-        ∙ sym (placing_taken i (log_of w) (entry_of e) (mark_of e) knows old.placer.entries.pad [] unplaced)
-        ∙ ap (λ n. placing_of i new_logs n []) (sym (ap (λ p. p.entries.pad) is.placer))
+        ∙ sym (placing_taken i (log_of w) (entry_of e) (mark_of e) knows old.placer.entries.pad st.again unplaced)
+        ∙ ap (λ n. placing_of i new_logs n st.again) (sym (ap (λ p. p.entries.pad) is.placer))
 
 -- ---- and the log may take it
 

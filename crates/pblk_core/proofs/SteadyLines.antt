@@ -17,12 +17,12 @@ use Rattle.core_laws.specs.Stepping.{after}
 use Rattle.core_laws.specs.OpenedLines.{opened_units, bits_of, open_line, standing}
 use Rattle.core_laws.proofs.Engine.{prefix_same}
 use Rattle.core_laws.proofs.Steady.{AreAlike, unanswered_in, answer_same, open_line_same, standing_before}
+use Rattle.placed_laws.proofs.LeftLines.{left_before}
 use Rattle.pblk_core.specs.declared.open_lines.OpenLine.{OpenLine}
 use Rattle.pblk_core.specs.declared.open_lines.OpenLines.{OpenLines}
 use Rattle.pblk_core.specs.LineRecords.{AreOf}
 use Rattle.pblk_core.specs.Stands.{left_openings, unlanded, under_way, IsOpenLine, AreOpenLines}
-use Rattle.lemmas.proofs.Maps.{all_filter, filter_agree, filter_same}
-use Rattle.lemmas.proofs.Parts.{all_at}
+use Rattle.lemmas.proofs.Maps.{filter_agree, filter_same}
 
 pub stripes_same : (old new : List Logged) → AreAlike old new → (o : Opening) → stripes_of new o ≡ stripes_of old o
 stripes_same old new alike o = ap (λ ps. filter (λ (p : Placed). is_life o.number p.life) ps) alike.placements
@@ -62,10 +62,6 @@ open_same i logs e knows o kept alike before is = record {
   live = is.live ∙ ap bits_of (sym (units_same i logs e knows o before));
   left = is.left ∙ sym (unlanded_same i.shape (logs 0) (after logs e knows 0) alike o);
 }
-
-left_before : (i : Image) (logs : Logs) (k : ℕ) (o : Opening) → slice_get (left_openings i logs) k ≡ Some o → o.number < length (logs 0)
-left_before i logs k o e = all_at (λ (x : Opening). x.number < length (logs 0)) (left_openings i logs) k o e
-    (all_filter (λ (x : Opening). x.number < length (logs 0)) (λ x. has_left (open_line i logs x)) (standing (logs 0)) (standing_before (logs 0)))
 
 pub open_lines_same : (i : Image) (logs : Logs) (e : EngineEvent) (knows : List ℕ) (kept : OpenLines) → AreAlike (logs 0) (after logs e knows 0) → standing (after logs e knows 0) ≡ standing (logs 0)
     → AreOpenLines i logs kept → AreOpenLines i (after logs e knows) kept

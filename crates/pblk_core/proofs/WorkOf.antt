@@ -18,6 +18,7 @@ use Rattle.core_laws.specs.SimpleMounts.{IsSimpleMount}
 use Rattle.core_laws.specs.PlacerOf.{lost_entries, fresh_entries}
 use Rattle.placed_laws.proofs.LeftLines.{lines_of_left}
 use Rattle.placed_laws.proofs.Ordered.{ordered, fresh_in_order, lost_are_none}
+use Rattle.pblk_core.proofs.SimpleLogs.{its_placer}
 use Rattle.pblk_core.specs.declared.target_core.Core.{Core}
 use Rattle.pblk_core.specs.Stands.{Stands, left_openings}
 use Rattle.pblk_core.specs.Named.{choice, reset_or, asks_line, has_free, may_open, named_beside, named, pad_of, work_beside, work_of, first_seq_of}
@@ -66,7 +67,7 @@ same_choice a b m n p q s t x y e f g h k = λ j. choice (e j) (f j) (g j) (h j)
 
 beside_is : (i : Image) (w : World) (c : Core) → IsSimpleMount i w → Stands i (log_of w) c → named_beside c ≡ work_beside i (log_of w) (pad_of c)
 beside_is i w c simple st = same_choice _ _ _ _ _ _ _ _ _ _
-    (ap (λ p. is_some (next_stripe p 0)) st.placing)
+    (ap (λ p. is_some (next_stripe p 0)) (its_placer st))
     (ap₂ (λ a n. a && (n == 0)) waits st.left)
     (ap (λ t. is_some (position is_free t.rows)) st.table)
     (ap₂ (λ a b. nat_lt a 2 && b) (open_count i w c st) (ap₂ (λ m n. nat_lt m (2 ^ 61) && nat_lt n (2 ^ 61)) seq (synced_at i w c simple st)))

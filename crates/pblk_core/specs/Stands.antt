@@ -1,5 +1,5 @@
 -- A core stands for the logs of a mount: each of its tables holds what the logs say.
-use Rattle.std.specs.Prelude.{ℕ, false, ◌+◌, ◌-◌, ◌*◌, ◌/◌, ◌%◌, ◌^◌, ◌<◌, ◌≤◌, ◌≡◌, List, [], map, length, slice_get, Some}
+use Rattle.std.specs.Prelude.{ℕ, false, ◌+◌, ◌-◌, ◌*◌, ◌/◌, ◌%◌, ◌^◌, ◌<◌, ◌≤◌, ◌≡◌, List, map, length, slice_get, Some}
 use Rattle.std.specs.List.{AllByRecursion, Contains, filter, range_with_len}
 use Rattle.std.specs.Option.{is_some}
 use Rattle.std.specs.FinMap as map
@@ -20,8 +20,8 @@ use Rattle.core_laws.specs.PlacerOf.{placing_of, unanswered_on}
 use Rattle.core_laws.specs.RowsOf.{rows_of}
 use Rattle.core_laws.specs.SlotOf.{slot_of}
 use Rattle.core_laws.specs.WindowOf.{is_given_back, sectors_in, window_from}
-use Rattle.core_laws.specs.SimpleMounts.{NoneAgain}
-use Rattle.world_laws.specs.LegalMounts.{IsLegalMount, NoneCopied, NoneFreed, NoneLost}
+use Rattle.core_laws.specs.SimpleMounts.{IsSimpleLog}
+use Rattle.world_laws.specs.LegalMounts.{IsLegalMount}
 use Rattle.pblk_core.specs.Holds.{hold_of}
 use Rattle.pblk_core.specs.LineRecords.{AreOf}
 use Rattle.pblk_core.specs.Resets.{resets_left, resets_of}
@@ -70,13 +70,6 @@ pub record HasFitNumbers (c : Core) : Type 0 where
   pub first : c.first ≤ 2 ^ 62
   pub rows : AllByRecursion (IsOlder c.start.first_seq c.first) (start_numbers c.start).rows
 
--- The engine freed no line, took no copy, and heard of no lost and no stopped stripe: no step of a core does so yet.
-pub record IsSimpleLog (log : List Logged) : Type 0 where
-  pub freed : NoneFreed log
-  pub copied : NoneCopied log
-  pub lost : NoneLost log
-  pub again : NoneAgain log
-
 pub record Stands (i : Image) (logs : Logs) (c : Core) : Type 0 where
   pub simple : IsSimpleLog (logs 0)
   pub layout : c.layout ≡ i.shape
@@ -95,8 +88,9 @@ pub record Stands (i : Image) (logs : Logs) (c : Core) : Type 0 where
   pub from_first : first_position (logs 0) ≤ c.window.freed
   pub to_freed : c.window.freed ≤ freed i.shape (logs 0)
   pub holds : AreHolds i.shape (logs 0) c.holds
-  -- the placer, and the records of the open lines
-  pub placing : c.placer ≡ placing_of i logs c.placer.entries.pad []
+  -- the placer, where the stopped stripes of these units are under way again, and the records of the open lines
+  pub again : List ℕ
+  pub placing : c.placer ≡ placing_of i logs c.placer.entries.pad again
   pub open_lines : AreOpenLines i logs c.open
   -- what the next start record says
   pub next_seq : c.start.seq ≡ beginning.beginning.seq + length (openings (logs 0))

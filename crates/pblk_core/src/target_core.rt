@@ -13,7 +13,6 @@ ghost use Rattle.found_laws.specs.Finding.{IsFoundOf};
 ghost use Rattle.found_laws.specs.Beginnings.{beginning_of};
 ghost use Rattle.pblk_world.specs.Fronts.{taken, synced, user_takes};
 ghost use Rattle.write_window.specs.Window as view;
-ghost use Rattle.core_laws.specs.SimpleMounts.{IsSimpleMount};
 ghost use Rattle.world_laws.specs.LegalMounts.{IsLegalMount};
 ghost use Rattle.core_laws.specs.SlotOf.{slot_of};
 ghost use Rattle.core_laws.specs.Stepping.{after};
@@ -244,16 +243,15 @@ impl Core {
     }
 }
 
-/// A world of no events, over a fit image of an accepted shape, is a legal mount in which the engine freed and
-/// copied nothing and heard of no loss and no stop.
-pub fn a_world_of_no_events_is_simple()
+/// A world of no events, over a fit image of an accepted shape, is a legal mount.
+pub fn a_world_of_no_events_is_legal()
     ensures { (i : Image) (w : World) → IsAccepted i.shape → IsFit i
-        → ((author : ℕ) → log_of w author ≡ []) → IsSimpleMount i w }
+        → ((author : ℕ) → log_of w author ≡ []) → IsLegalMount i w }
 {}
 
 /// Where no reset is named, each chunk of a line that was given up is Free or Offline.
 pub fn a_line_is_empty_once_it_was_reset()
-    ensures { (i : Image) (w : World) (line : ℕ) → IsSimpleMount i w → resets_of i (log_of w) ≡ []
+    ensures { (i : Image) (w : World) (line : ℕ) → IsLegalMount i w → resets_of i (log_of w) ≡ []
         → line < i.shape.chunks → is_given_up (log_of w 0) line ≡ true
         → are_empty (known_image i (log_of w)) line ≡ true }
 {}

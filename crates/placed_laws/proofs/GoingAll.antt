@@ -287,7 +287,7 @@ reset_step i w simple k u n knows there is lines =
     let inside : k < length (log_of w 0) = slice_get_within (log_of w 0) k (record { event = Decides (ResetDone u n); knows = knows }) there in
     keeps_lives i (log_of w) k (record { event = Decides (ResetDone u n); knows = knows }) there lines (λ line. refl) refl
     (λ line o e before. record {
-      live = live_next i w simple.mount.legal simple.freed k line o inside e;
+      live = live_next i w simple.mount.legal simple.engine.freed k line o inside e;
       filling = λ v. reset_chunk i (log_of w) k u n v line knows may.0 o may.2.reset there begins event may.2.is_reset may.2.not_stopped before;
     })
 

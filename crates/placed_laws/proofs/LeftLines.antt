@@ -21,7 +21,7 @@ use Rattle.stripe_placer.specs.Inside.{AreApart}
 use Rattle.core_laws.specs.Stepping.{after}
 use Rattle.core_laws.specs.OpenedLines.{open_line, standing, open_lines, live_now}
 use Rattle.core_laws.specs.PlacerOf.{IsStripeOf, IsAwaited}
-use Rattle.core_laws.proofs.Steady.{AreAlike, standing_same, lines_same}
+use Rattle.core_laws.proofs.Steady.{AreAlike, standing_before, standing_same, lines_same}
 use Rattle.core_laws.proofs.Placing.{IsPlacing}
 use Rattle.core_laws.proofs.PlacedLines.{IsPlacedAt, placed_at, lines_placed}
 use Rattle.core_laws.proofs.Opening.{placing_opened}
@@ -55,6 +55,10 @@ left_apart i logs j k a b e f same =
     let two : life_of (logs 0) b.line ≡ Opened b = all_at (λ (o : Opening). life_of (logs 0) o.line ≡ Opened o) (left_openings i logs) k b f (left_opened i logs) in
     let is : opened_as (Opened a) ≡ opened_as (Opened b) = ap opened_as (sym one ∙ ap (life_of (logs 0)) same ∙ two) in
     one_place (left_openings i logs) j k a b (rise_filtered (λ o. has_left (open_line i logs o)) (standing (logs 0)) (standing_rise (logs 0))) e f (ap (λ (x : Opening). x.number) (same_Some a b is))
+
+pub left_before : (i : Image) (logs : Logs) (k : ℕ) (o : Opening) → slice_get (left_openings i logs) k ≡ Some o → o.number < length (logs 0)
+left_before i logs k o e = all_at (λ (x : Opening). x.number < length (logs 0)) (left_openings i logs) k o e
+    (all_filter (λ (x : Opening). x.number < length (logs 0)) (λ x. has_left (open_line i logs x)) (standing (logs 0)) (standing_before (logs 0)))
 
 -- ---- the openings by the lines
 

@@ -1,12 +1,12 @@
 -- The rows of a placer in a plain world: a unit's row is idle exactly where its stripes are answered, and nothing was stopped.
-use Rattle.std.proofs.Common.{◌≡◌, ℕ, ◌+◌, ◌<◌, ◌≤◌, ◌==◌, ◌&&◌, zero, suc, not, Bool, true, false, Some, None, Option, List, [], ◌∷◌, ◌++◌, map, length, refl, sym, subst, ap, ◌∙◌, arith, if◌then◌else◌, append-nil}
+use Rattle.std.proofs.Common.{◌≡◌, ℕ, ◌+◌, ◌<◌, ◌≤◌, ◌==◌, zero, suc, Bool, true, false, Some, None, Option, List, [], ◌∷◌, ◌++◌, map, length, refl, sym, subst, ap, ◌∙◌, arith, append-nil}
 use Rattle.std.specs.Prelude.{slice_get}
-use Rattle.std.specs.List.{AllByRecursion, filter_map, cons_option, fold, range_with_len}
+use Rattle.std.specs.List.{AllByRecursion, filter_map, cons_option, range_with_len}
 use Rattle.std.specs.Option.{option_map_or}
 use Rattle.std.proofs.lemmas.Option.{slice_get_within, slice_get_past}
 use Rattle.pblk_model.specs.Image.{Image}
 use Rattle.pblk_model.specs.Shape.{units}
-use Rattle.pblk_world.specs.Events.{Place, Again, Event, Decides, Logged}
+use Rattle.pblk_world.specs.Events.{Place, Event, Decides, Logged}
 use Rattle.pblk_world.specs.World.{World, Logs, log_of}
 use Rattle.pblk_world.specs.EngineLog.{LineLife, AsFound, Opened, Freed, is_opened, life_of, Placed, placements, placed_on, answers, is_answered, turn}
 use Rattle.pblk_world.proofs.Answered.{answers_fit}
@@ -14,31 +14,14 @@ use Rattle.pblk_world.proofs.Appending.{placements_more}
 use Rattle.stripe_placer.specs.Placing.{stopped_in, is_under_way}
 use Rattle.stripe_placer.specs.Placing.UnitRow.{Idle}
 use Rattle.stripe_placer.proofs.Numbered.{get_mapped}
-use Rattle.core_laws.specs.PlacerOf.{stopped_by, was_stopped_on, contains_unit, waits_again, row_in, row_of, unanswered_on}
-use Rattle.core_laws.specs.PlainWorlds.{is_plain_event, ArePlain}
+use Rattle.core_laws.specs.PlacerOf.{waits_again, row_in, row_of, unanswered_on}
+use Rattle.core_laws.proofs.PlacerOfLemmas.{none_waits_again}
 use Rattle.core_laws.proofs.Placing.{placements_now}
 use Rattle.core_laws.proofs.Turns.{stands_at_turn}
-use Rattle.placing_laws.proofs.Followed.{IsFollowed, IsNextEvent, by_events, plain_of}
+use Rattle.placing_laws.proofs.Followed.{IsFollowed, IsNextEvent, by_events}
 use Rattle.lemmas.proofs.Lists.{IsAmong, with_last}
 use Rattle.lemmas.proofs.Maps.{all_filter, from_filter}
 use Rattle.lemmas.proofs.Parts.{all_at, within_some}
-
--- ---- nothing was stopped
-
-unstopped_by : (unit : ℕ) (was : Bool) (e : Event) → is_plain_event e ≡ true → was ≡ false → stopped_by unit was e ≡ false
-unstopped_by unit was (Decides (Place stripe)) plain none = elim (stripe.unit == unit) as (λ b. (if b then false else was) ≡ false) [ true ↦ refl | false ↦ none ]
-unstopped_by unit was (Decides (Again other n)) plain none = absurd cc
-unstopped_by unit was e plain none = none
-
-unstopped_from : (unit : ℕ) (was : Bool) (log : List Logged) → ArePlain log → was ≡ false → fold (λ was (l : Logged). stopped_by unit was l.event) was log ≡ false
-unstopped_from unit was [] plain none = none
-unstopped_from unit was (l ∷ log) plain none = unstopped_from unit (stopped_by unit was l.event) log plain.1 (unstopped_by unit was l.event plain.0 none)
-
-pub unstopped : (log : List Logged) (unit : ℕ) → ArePlain log → was_stopped_on log unit ≡ false
-unstopped log unit plain = unstopped_from unit false log plain refl
-
-not_again : (log : List Logged) (unit : ℕ) → ArePlain log → waits_again log [] unit ≡ false
-not_again log unit plain = ap (λ b. b && not (contains_unit [] unit)) (unstopped log unit plain)
 
 -- ---- each stripe was placed in an opened line
 
@@ -76,7 +59,7 @@ none_stopped i us w unit is = go (unanswered_on (log_of w 0) unit)
   where
     go : (o : Option Placed) → stopped_in (option_map_or (λ p. row_in i (log_of w) (waits_again (log_of w 0) [] unit) p.life p) o Idle) ≡ None
     go None = refl
-    go (Some p) = row_unstopped i (log_of w) (waits_again (log_of w 0) [] unit) p.life p (not_again (log_of w 0) unit (plain_of i us w is))
+    go (Some p) = row_unstopped i (log_of w) (waits_again (log_of w 0) [] unit) p.life p (none_waits_again (log_of w 0) [] unit is.simple.engine.again)
 
 pub no_stopped : (i : Image) (us : ℕ → List ℕ) (w : World) (a n : ℕ) → IsFollowed i us w → filter_map stopped_in (map (row_of i (log_of w) []) (range_with_len a n)) ≡ []
 no_stopped i us w a zero is = refl
@@ -101,7 +84,7 @@ is_idle i us w unit is idle = go (unanswered_on (log_of w 0) unit) refl idle
     go (Some p) e f =
         let opened : is_opened p.life ≡ true = all_at (λ (p : Placed). is_opened p.life ≡ true) (placed_on (log_of w 0) unit) (length (answers (log_of w 0) unit)) p e
         (all_filter (λ (p : Placed). is_opened p.life ≡ true) (λ (p : Placed). p.stripe.unit == unit) (placements (log_of w 0)) (placed_in_opened i us w is)) in
-        let under : is_under_way (row_in i (log_of w) (waits_again (log_of w 0) [] unit) p.life p) ≡ true = row_under_way i (log_of w) (waits_again (log_of w 0) [] unit) p.life p (not_again (log_of w 0) unit (plain_of i us w is)) opened in
+        let under : is_under_way (row_in i (log_of w) (waits_again (log_of w 0) [] unit) p.life p) ≡ true = row_under_way i (log_of w) (waits_again (log_of w 0) [] unit) p.life p (none_waits_again (log_of w 0) [] unit is.simple.engine.again) opened in
         absurd cc
 
 pub idle_row : (i : Image) (logs : Logs) (unit : ℕ) → length (answers (logs 0) unit) ≡ length (placed_on (logs 0) unit) → row_of i logs [] unit ≡ Idle

@@ -146,7 +146,7 @@ all_online i w m =
         let inside : p.number < length log = placed_within log p there in
         let later : may.opening.number < p.number = (opening_then log p.number p.stripe.line may.opening may.is_open).2 in
         let life : life_of log p.stripe.line ≡ Opened may.opening =
-        stays_open i w p.stripe.line p.number may.opening m.mount.legal m.freed (omega arith) may.is_open in
+        stays_open i w p.stripe.line p.number may.opening m.mount.legal m.engine.freed (omega arith) may.is_open in
         let units : line_units (known_image i (engine_prefix p.number (log_of w))) p.stripe.line ≡ line_units (known_image i (log_of w)) p.stripe.line =
         units_since i w p.stripe.line may.opening m.mount.legal life p.number (omega arith) (omega arith) in
         let among : IsAmong (line_units (known_image i (log_of w)) p.stripe.line) p.stripe.unit =

@@ -15,17 +15,18 @@ use Rattle.pblk_world.specs.Lines.{found_by, found_image, told_by, told_events, 
 use Rattle.pblk_world.specs.Commanding.{ends_program, ends_stripe, ended_stripes}
 use Rattle.pblk_world.specs.Opening.{MayBegin}
 use Rattle.pblk_world.specs.Legal.{IsLegal}
-use Rattle.core_laws.specs.PlainWorlds.{IsPlainWorld}
+use Rattle.core_laws.specs.FaultlessMounts.{IsFaultlessMount}
+use Rattle.core_laws.proofs.FaultlessMounts.{still_faultless}
 use Rattle.step_laws.specs.Whole.{knows_all, engine_step, after_begin, IsLevel, IsKnown}
 use Rattle.step_laws.proofs.ChunkEvents.{same_images}
 use Rattle.step_laws.proofs.EngineSteps.{engine_logs, media_still}
-use Rattle.step_laws.proofs.Knowing.{next_step, still_plain, known_whole, known_before}
+use Rattle.step_laws.proofs.Knowing.{next_step, known_whole, known_before}
 use Rattle.step_laws.proofs.Levels.{level_by}
 use Rattle.lemmas.proofs.Maps.{numbered_at}
 use Rattle.lemmas.proofs.Numbers.{fun_same}
 
-pub mount_begins : (i : Image) (w : World) (b : Beginning) → IsPlainWorld i w → MayBegin i (log_of w) b → IsPlainWorld i (after_begin i.shape b w)
-mount_begins i w b plain may = still_plain i (engine_step i.shape (Begin b) w) w plain (next_step i w 0 (Decides (Begin b)) plain.legal (omega arith) may) refl
+pub mount_begins : (i : Image) (w : World) (b : Beginning) → IsFaultlessMount i w → MayBegin i (log_of w) b → IsFaultlessMount i (after_begin i.shape b w)
+mount_begins i w b faultless may = still_faultless i (engine_step i.shape (Begin b) w) w faultless (next_step i w 0 (Decides (Begin b)) faultless.simple.mount.legal (omega arith) may) refl
 
 -- ---- the engine's log
 

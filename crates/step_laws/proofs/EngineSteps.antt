@@ -6,10 +6,12 @@ use Rattle.pblk_world.specs.Events.{EngineEvent, Begin, Decides, Logged}
 use Rattle.pblk_world.specs.World.{World, Logs, log_of, media}
 use Rattle.pblk_world.specs.EngineLog.{Begun, begun}
 use Rattle.pblk_world.specs.Legal.{MayDecide, IsDecision}
-use Rattle.core_laws.specs.PlainWorlds.{is_plain_decision, IsPlainWorld}
+use Rattle.core_laws.specs.FaultlessMounts.{IsFaultlessMount}
+use Rattle.core_laws.specs.PlainWorlds.{is_plain_decision}
 use Rattle.core_laws.specs.Stepping.{after}
+use Rattle.core_laws.proofs.FaultlessMounts.{still_faultless}
 use Rattle.step_laws.specs.Whole.{knows_all, engine_step}
-use Rattle.step_laws.proofs.Knowing.{next_step, still_plain}
+use Rattle.step_laws.proofs.Knowing.{next_step}
 use Rattle.lemmas.proofs.Numbers.{fun_same}
 use Rattle.pblk_world.proofs.EngineLogLemmas.{begun_stays}
 use Rattle.pblk_world.proofs.WorldLemmas.{log_elsewhere, log_here}
@@ -18,10 +20,10 @@ decides : (i : Image) (logs : Logs) (b : Begun) (e : EngineEvent) → begun (log
 decides i logs b (Begin x) begins may = absurd may
 decides i logs b e begins may = (b, begins, may)
 
-pub engine_next : (i : Image) (w : World) (b : Begun) (e : EngineEvent) → IsPlainWorld i w → begun (log_of w 0) ≡ Some b → IsDecision i (log_of w) b e → is_plain_decision e ≡ true
-    → IsPlainWorld i (engine_step i.shape e w ∷ w)
+pub engine_next : (i : Image) (w : World) (b : Begun) (e : EngineEvent) → IsFaultlessMount i w → begun (log_of w 0) ≡ Some b → IsDecision i (log_of w) b e → is_plain_decision e ≡ true
+    → IsFaultlessMount i (engine_step i.shape e w ∷ w)
 engine_next i w b e is begins may plain =
-    still_plain i (engine_step i.shape e w) w is (next_step i w 0 (Decides e) is.legal (omega arith) (decides i (log_of w) b e begins may)) plain
+    still_faultless i (engine_step i.shape e w) w is (next_step i w 0 (Decides e) is.simple.mount.legal (omega arith) (decides i (log_of w) b e begins may)) plain
 
 pub engine_logs : (s : Shape) (e : EngineEvent) (w : World) → log_of (engine_step s e w ∷ w) ≡ after (log_of w) e (knows_all s w)
 engine_logs s e w = fun_same (log_of (engine_step s e w ∷ w)) (after (log_of w) e (knows_all s w)) go

@@ -14,10 +14,11 @@ use Rattle.pblk_world.specs.World.{World, log_of, media, unit_events}
 use Rattle.pblk_world.specs.EngineLog.{Begun, begun}
 use Rattle.pblk_world.specs.Commanding.{has_stopped, IsCommand, MayDo}
 use Rattle.pblk_laws.specs.LineBlocks.{chunk_in}
-use Rattle.core_laws.specs.PlainWorlds.{IsPlainWorld}
+use Rattle.core_laws.specs.FaultlessMounts.{IsFaultlessMount}
+use Rattle.core_laws.proofs.FaultlessMounts.{still_faultless}
 use Rattle.step_laws.specs.Whole.{unit_step, fetch_of}
 use Rattle.step_laws.proofs.ChunkEvents.{same_images}
-use Rattle.step_laws.proofs.Knowing.{next_step, still_plain}
+use Rattle.step_laws.proofs.Knowing.{next_step}
 use Rattle.step_laws.proofs.UnitSteps.{none_stopped, has_chunks, media_now, media_elsewhere}
 use Rattle.lemmas.proofs.Parts.{set_same}
 
@@ -25,22 +26,22 @@ may_read : (i : Image) (w : World) (unit chunk block : ℕ) (c : Chunk) (o : Opt
 may_read i w unit chunk block c None = tt
 may_read i w unit chunk block c (Some b) = tt
 
-pub may_fetch : (i : Image) (w : World) (unit chunk block : ℕ) (c : Chunk) (answer : ChunkAnswer) → IsPlainWorld i w → chunk_in (media i (log_of w)) chunk unit ≡ Some c
+pub may_fetch : (i : Image) (w : World) (unit chunk block : ℕ) (c : Chunk) (answer : ChunkAnswer) → IsFaultlessMount i w → chunk_in (media i (log_of w)) chunk unit ≡ Some c
     → NotRefused answer → ChunkStep i.shape c (Read block) answer c → MayDo i (log_of w) unit (fetch_of chunk block answer)
-may_fetch i w unit chunk block c answer plain there given step =
+may_fetch i w unit chunk block c answer faultless there given step =
     let chunks = has_chunks (slice_get (media i (log_of w)).units unit) chunk c there in record {
       chunks = chunks.0;
       has_chunks = chunks.1;
       event = record { found = c; there = chunks.2; blocks = tt; outcome = (given, step) };
-      stopped = λ was. let none : has_stopped (unit_events (log_of w) unit) ≡ false = none_stopped (log_of w (suc unit)) (plain.units unit) in absurd (cc);
+      stopped = λ was. let none : has_stopped (unit_events (log_of w) unit) ≡ false = none_stopped (unit_events (log_of w) unit) (faultless.answered unit) in absurd (cc);
       command = may_read i w unit chunk block c (begun (log_of w 0));
     }
 
-pub fetch_next : (i : Image) (w : World) (unit chunk block : ℕ) (c : Chunk) (answer : ChunkAnswer) (maker : Maker) → IsPlainWorld i w → unit < units i.shape → chunk_in (media i (log_of w)) chunk unit ≡ Some c
-    → NotRefused answer → ChunkStep i.shape c (Read block) answer c → IsPlainWorld i (unit_step i.shape unit (fetch_of chunk block answer) maker w ∷ w)
-fetch_next i w unit chunk block c answer maker plain range there given step =
-    still_plain i (unit_step i.shape unit (fetch_of chunk block answer) maker w) w plain
-    (next_step i w (suc unit) (Does (fetch_of chunk block answer) maker) plain.legal (omega arith) (may_fetch i w unit chunk block c answer plain there given step)) refl
+pub fetch_next : (i : Image) (w : World) (unit chunk block : ℕ) (c : Chunk) (answer : ChunkAnswer) (maker : Maker) → IsFaultlessMount i w → unit < units i.shape → chunk_in (media i (log_of w)) chunk unit ≡ Some c
+    → NotRefused answer → ChunkStep i.shape c (Read block) answer c → IsFaultlessMount i (unit_step i.shape unit (fetch_of chunk block answer) maker w ∷ w)
+fetch_next i w unit chunk block c answer maker faultless range there given step =
+    still_faultless i (unit_step i.shape unit (fetch_of chunk block answer) maker w) w faultless
+    (next_step i w (suc unit) (Does (fetch_of chunk block answer) maker) faultless.simple.mount.legal (omega arith) (may_fetch i w unit chunk block c answer faultless there given step)) refl
 
 -- ---- the media
 

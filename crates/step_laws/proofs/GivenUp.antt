@@ -21,13 +21,14 @@ use Rattle.pblk_world.specs.Answering.{MayNoteReset}
 use Rattle.pblk_world.specs.Legal.{IsLegal}
 use Rattle.pblk_world.proofs.Appending.{placements_more}
 use Rattle.pblk_laws.specs.LineBlocks.{chunk_in}
-use Rattle.core_laws.specs.PlainWorlds.{IsPlainWorld}
+use Rattle.core_laws.specs.FaultlessMounts.{IsFaultlessMount}
 use Rattle.core_laws.specs.PlacerOf.{unanswered_on}
+use Rattle.core_laws.proofs.FaultlessMounts.{still_faultless}
 use Rattle.placing_laws.proofs.Begun.{begun_once}
 use Rattle.step_laws.specs.Whole.{engine_step, unit_step, reset_of, after_reset_of, after_noted_reset, IsLevel, IsKnown}
 use Rattle.step_laws.proofs.ChunkEvents.{chunk_beside, chunk_here}
 use Rattle.step_laws.proofs.EngineSteps.{engine_next}
-use Rattle.step_laws.proofs.Knowing.{next_step, still_plain}
+use Rattle.step_laws.proofs.Knowing.{next_step}
 use Rattle.step_laws.proofs.Known.{known_told}
 use Rattle.step_laws.proofs.Levels.{level_by, level_unit}
 use Rattle.step_laws.proofs.UnitSteps.{unit_log, engine_log, media_now, media_elsewhere, none_stopped, named_within, has_chunks}
@@ -48,26 +49,26 @@ some_given : (log : List Logged) (line : ℕ) → is_given_up log line ≡ true 
 some_given [] line e = absurd (cc)
 some_given (l ∷ log) line e = omega arith
 
-given_begun : (i : Image) (w : World) (line : ℕ) → IsPlainWorld i w → is_given_up (log_of w 0) line ≡ true → (b : Begun) × (begun (log_of w 0) ≡ Some b)
-given_begun i w line plain given = begun_once i w plain.legal (some_given (log_of w 0) line given)
+given_begun : (i : Image) (w : World) (line : ℕ) → IsFaultlessMount i w → is_given_up (log_of w 0) line ≡ true → (b : Begun) × (begun (log_of w 0) ≡ Some b)
+given_begun i w line faultless given = begun_once i w faultless.simple.mount.legal (some_given (log_of w 0) line given)
 
-may_reset : (i : Image) (w : World) (unit chunk : ℕ) (c : Chunk) → IsPlainWorld i w → is_given_up (log_of w 0) chunk ≡ true → chunk_in (media i (log_of w)) chunk unit ≡ Some c → IsUsed c.state → MayDo i (log_of w) unit (reset_of chunk)
-may_reset i w unit chunk c plain given there used =
+may_reset : (i : Image) (w : World) (unit chunk : ℕ) (c : Chunk) → IsFaultlessMount i w → is_given_up (log_of w 0) chunk ≡ true → chunk_in (media i (log_of w)) chunk unit ≡ Some c → IsUsed c.state → MayDo i (log_of w) unit (reset_of chunk)
+may_reset i w unit chunk c faultless given there used =
     let chunks = has_chunks (slice_get (media i (log_of w)).units unit) chunk c there in
-    let begins = given_begun i w chunk plain given in
+    let begins = given_begun i w chunk faultless given in
     let its : IsGivenUp (log_of w) unit c chunk = record { line = given; used = inl used } in record {
       chunks = chunks.0;
       has_chunks = chunks.1;
       event = record { found = c; there = chunks.2; blocks = tt; outcome = (tt, (reset_taken c.state used, refl)) };
-      stopped = λ was. let none : has_stopped (unit_events (log_of w) unit) ≡ false = none_stopped (log_of w (suc unit)) (plain.units unit) in absurd (cc);
+      stopped = λ was. let none : has_stopped (unit_events (log_of w) unit) ≡ false = none_stopped (unit_events (log_of w) unit) (faultless.answered unit) in absurd (cc);
       command = subst (λ (o : Option Begun). IsCommand i (log_of w) unit c chunk Reset o) (sym begins.1) its;
     }
 
-pub reset_legal : (i : Image) (w : World) (unit chunk : ℕ) (c : Chunk) (maker : Maker) → IsPlainWorld i w → is_given_up (log_of w 0) chunk ≡ true → unit < units i.shape → chunk_in (media i (log_of w)) chunk unit ≡ Some c → IsUsed c.state
-    → IsPlainWorld i (after_reset_of i.shape unit chunk maker w)
-reset_legal i w unit chunk c maker plain given range there used =
-    still_plain i (unit_step i.shape unit (reset_of chunk) maker w) w plain
-    (next_step i w (suc unit) (Does (reset_of chunk) maker) plain.legal (omega arith) (may_reset i w unit chunk c plain given there used)) refl
+pub reset_legal : (i : Image) (w : World) (unit chunk : ℕ) (c : Chunk) (maker : Maker) → IsFaultlessMount i w → is_given_up (log_of w 0) chunk ≡ true → unit < units i.shape → chunk_in (media i (log_of w)) chunk unit ≡ Some c → IsUsed c.state
+    → IsFaultlessMount i (after_reset_of i.shape unit chunk maker w)
+reset_legal i w unit chunk c maker faultless given range there used =
+    still_faultless i (unit_step i.shape unit (reset_of chunk) maker w) w faultless
+    (next_step i w (suc unit) (Does (reset_of chunk) maker) faultless.simple.mount.legal (omega arith) (may_reset i w unit chunk c faultless given there used)) refl
 
 -- ---- what it leaves
 
@@ -132,16 +133,16 @@ may_note i w unit chunk maker legal =
       refl,
     )
 
-module _ (i : Image) (w : World) (unit chunk : ℕ) (c : Chunk) (maker : Maker) (plain : IsPlainWorld i w) (given : is_given_up (log_of w 0) chunk ≡ true) (range : unit < units i.shape) (there : chunk_in (media i (log_of w)) chunk unit ≡ Some c)
+module _ (i : Image) (w : World) (unit chunk : ℕ) (c : Chunk) (maker : Maker) (faultless : IsFaultlessMount i w) (given : is_given_up (log_of w 0) chunk ≡ true) (range : unit < units i.shape) (there : chunk_in (media i (log_of w)) chunk unit ≡ Some c)
     (used : IsUsed c.state) where
-  pub noted_legal : IsPlainWorld i (after_noted_reset i.shape unit chunk maker w)
+  pub noted_legal : IsFaultlessMount i (after_noted_reset i.shape unit chunk maker w)
   noted_legal =
-      let begins = given_begun i w chunk plain given in
-      engine_next i (after_reset_of i.shape unit chunk maker w) begins.0 (ResetDone unit (length (log_of w (suc unit)))) (reset_legal i w unit chunk c maker plain given range there used)
-      (ap begun (engine_log i.shape unit (reset_of chunk) maker w) ∙ begins.1) (may_note i w unit chunk maker plain.legal).0 refl
+      let begins = given_begun i w chunk faultless given in
+      engine_next i (after_reset_of i.shape unit chunk maker w) begins.0 (ResetDone unit (length (log_of w (suc unit)))) (reset_legal i w unit chunk c maker faultless given range there used)
+      (ap begun (engine_log i.shape unit (reset_of chunk) maker w) ∙ begins.1) (may_note i w unit chunk maker faultless.simple.mount.legal).0 refl
 
   pub noted_known : IsKnown i w → IsKnown i (after_noted_reset i.shape unit chunk maker w)
-  noted_known = known_told i w unit (reset_of chunk) maker (ResetDone unit (length (log_of w (suc unit)))) plain (reset_legal i w unit chunk c maker plain given range there used) (some_given (log_of w 0) chunk given) (λ logs u. refl)
+  noted_known = known_told i w unit (reset_of chunk) maker (ResetDone unit (length (log_of w (suc unit)))) faultless.simple.mount.legal (reset_legal i w unit chunk c maker faultless given range there used).simple.mount.legal (some_given (log_of w 0) chunk given) (λ logs u. refl)
 
 pub noted_level : (s : Shape) (w : World) (unit chunk : ℕ) (maker : Maker) → IsLevel w → IsLevel (after_noted_reset s unit chunk maker w)
 noted_level s w unit chunk maker level = level_by s (ResetDone unit (length (log_of w (suc unit)))) (after_reset_of s unit chunk maker w) (λ u. refl) (reset_level s w unit chunk maker level)

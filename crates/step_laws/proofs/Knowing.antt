@@ -11,11 +11,9 @@ use Rattle.pblk_model.specs.Image.{Image}
 use Rattle.pblk_world.specs.Events.{Event, Logged, Step}
 use Rattle.pblk_world.specs.World.{World, Logs, log_of, known, cut_logs}
 use Rattle.pblk_world.specs.Legal.{IsAllowed, IsKnowledge, IsLegalStep, IsLegal}
-use Rattle.core_laws.specs.PlainWorlds.{is_plain_event, ArePlain, IsPlainWorld}
 use Rattle.placed_laws.specs.StripePrograms.{HasHappened}
 use Rattle.placed_laws.proofs.Happened.{happened}
 use Rattle.step_laws.specs.Whole.{knows_all}
-use Rattle.lemmas.proofs.Lists.{with_last}
 use Rattle.lemmas.proofs.Numbers.{fun_same}
 use Rattle.pblk_world.proofs.WorldLemmas.{log_elsewhere}
 
@@ -74,22 +72,8 @@ next_step i w author e legal range may = record {
   allowed = subst (λ (logs : Logs). IsAllowed i author e logs) (sym (whole_prefixes i w legal)) may;
 }
 
-plain_log : (s : Step) (log : List Logged) (b : Bool) → is_plain_event s.logged.event ≡ true → ArePlain log → ArePlain (if b then log ++ s.logged ∷ [] else log)
-plain_log s log true plain all = with_last (λ (l : Logged). is_plain_event l.event ≡ true) log s.logged all plain
-plain_log s log false plain all = all
-
 -- such a world has only events that are allowed by what they name
 pub next_legal : (i : Image) (w : World) (author : ℕ) (e : Event) → IsLegal i w → author ≤ units i.shape → IsAllowed i author e (log_of w)
     → IsLegal i (record { author = author; logged = record { event = e; knows = knows_all i.shape w } } ∷ w)
 unfolding IsLegal
 next_legal i w author e legal range may = (next_step i w author e legal range may, legal)
-
-pub still_plain : (i : Image) (s : Step) (w : World) → IsPlainWorld i w → IsLegalStep i (log_of w) s → is_plain_event s.logged.event ≡ true → IsPlainWorld i (s ∷ w)
-unfolding IsLegal
-still_plain i s w is step plain = record {
-  accepted = is.accepted;
-  fit = is.fit;
-  legal = (step, is.legal);
-  engine = plain_log s (log_of w 0) (s.author == 0) plain is.engine;
-  units = λ unit. plain_log s (log_of w (suc unit)) (s.author == suc unit) plain (is.units unit);
-}

@@ -10,8 +10,8 @@ use Rattle.pblk_model.specs.Image.{Image}
 use Rattle.pblk_world.specs.Events.{EngineEvent, Decides, Maker, Logged}
 use Rattle.pblk_world.specs.World.{World, Logs, log_of, media, unit_event_of, unit_event_at}
 use Rattle.pblk_world.specs.EngineLog.{begun_by}
+use Rattle.pblk_world.specs.Legal.{IsLegal}
 use Rattle.pblk_world.specs.Lines.{told_by, known_image}
-use Rattle.core_laws.specs.PlainWorlds.{IsPlainWorld}
 use Rattle.line_laws.proofs.KeptRows.{known_kept}
 use Rattle.placing_laws.proofs.KnownImages.{known_one_more}
 use Rattle.step_laws.specs.Whole.{knows_all, engine_step, unit_step, fetch_of, noted, IsKnown}
@@ -28,12 +28,12 @@ use Rattle.pblk_world.proofs.WorldLemmas.{log_elsewhere}
 pub known_still : (i : Image) (w : World) (e : EngineEvent) → begun_by (knows_all i.shape w) (Decides e) ≡ None → ((unit : ℕ) → told_by (log_of w) unit (Decides e) ≡ None) → IsKnown i w → IsKnown i (engine_step i.shape e w ∷ w)
 known_still i w e later untold is = ap (known_image i) (engine_logs i.shape e w) ∙ known_kept i (log_of w) e (knows_all i.shape w) later untold ∙ is ∙ sym (media_still i i.shape e w)
 
-pub known_at_fetch : (i : Image) (w : World) (unit chunk block : ℕ) (answer : ChunkAnswer) (maker : Maker) → IsPlainWorld i w → IsKnown i w → IsKnown i (unit_step i.shape unit (fetch_of chunk block answer) maker w ∷ w)
-known_at_fetch i w unit chunk block answer maker plain is =
-    known_stays i w unit (fetch_of chunk block answer) maker plain ∙ is ∙ sym (media_stays i w unit chunk block answer maker)
+pub known_at_fetch : (i : Image) (w : World) (unit chunk block : ℕ) (answer : ChunkAnswer) (maker : Maker) → IsLegal i w → IsKnown i w → IsKnown i (unit_step i.shape unit (fetch_of chunk block answer) maker w ∷ w)
+known_at_fetch i w unit chunk block answer maker legal is =
+    known_stays i w unit (fetch_of chunk block answer) maker legal ∙ is ∙ sym (media_stays i w unit chunk block answer maker)
 
 -- an event of a unit, and that which tells of it
-module _ (i : Image) (w : World) (unit : ℕ) (e : UnitEvent) (maker : Maker) (tells : EngineEvent) (before : IsPlainWorld i w) (plain : IsPlainWorld i (unit_step i.shape unit e maker w ∷ w)) (some : 0 < length (log_of w 0))
+module _ (i : Image) (w : World) (unit : ℕ) (e : UnitEvent) (maker : Maker) (tells : EngineEvent) (before : IsLegal i w) (legal : IsLegal i (unit_step i.shape unit e maker w ∷ w)) (some : 0 < length (log_of w 0))
     (told : (logs : Logs) (u : ℕ) → told_by logs u (Decides tells) ≡ (if unit == u then unit_event_at logs u (length (log_of w (suc unit))) else None)) where
   abbrev mid : World
   mid = unit_step i.shape unit e maker w ∷ w
@@ -54,7 +54,7 @@ module _ (i : Image) (w : World) (unit : ℕ) (e : UnitEvent) (maker : Maker) (t
   known_now : (u : ℕ) → slice_get (known_image i (log_of end_)).units u ≡ told_chunks u (told_by (log_of end_) u (Decides tells))
   known_now u =
       let some_mid : 0 < length (log_of mid 0) = subst (λ (log : List Logged). 0 < length log) (sym (engine_log i.shape unit e maker w)) some in
-      known_one_more i (engine_step i.shape tells mid) mid u plain.legal refl some_mid
+      known_one_more i (engine_step i.shape tells mid) mid u legal refl some_mid
 
   known_was : IsKnown i w → known_image i (log_of mid) ≡ media i (log_of w)
   known_was is = known_stays i w unit e maker before ∙ is

@@ -13,7 +13,7 @@ use Rattle.pblk_world.specs.World.{World, log_of, known, knows_engine}
 use Rattle.pblk_world.specs.EngineLog.{Begun, begun, Placed, placed_on, placements, Answer, answers, answer_by, DidLand}
 use Rattle.pblk_world.specs.Commanding.{is_program, was_stopped, ends_stripe, ended_stripes}
 use Rattle.pblk_world.proofs.Appending.{placements_more}
-use Rattle.core_laws.specs.PlainWorlds.{IsPlainWorld}
+use Rattle.core_laws.specs.FaultlessMounts.{IsFaultlessMount}
 use Rattle.core_laws.specs.PlacerOf.{unanswered_on}
 use Rattle.step_laws.specs.Whole.{engine_step, unit_step, program_of, IsLevel, IsKnown, after_program, after_landing}
 use Rattle.step_laws.proofs.Knowing.{known_whole}
@@ -79,7 +79,7 @@ level_unit s unit e maker w other level u = go (cases_order u unit)
 
 -- ---- a program and its answer
 
-module _ (i : Image) (w : World) (unit : ℕ) (p : Placed) (maker : Maker) (plain : IsPlainWorld i w) (waits : unanswered_on (log_of w 0) unit ≡ Some p)
+module _ (i : Image) (w : World) (unit : ℕ) (p : Placed) (maker : Maker) (faultless : IsFaultlessMount i w) (waits : unanswered_on (log_of w 0) unit ≡ Some p)
     (level : ended_stripes (log_of w (suc unit)) ≡ length (answers (log_of w 0) unit)) where
   abbrev mid : World
   mid = after_program i.shape unit p.stripe maker w
@@ -88,13 +88,13 @@ module _ (i : Image) (w : World) (unit : ℕ) (p : Placed) (maker : Maker) (plai
   event = Landed unit (length (log_of w (suc unit)))
 
   begins : (b : Begun) × (begun (log_of w 0) ≡ Some b)
-  begins = has_begun i w unit (length (answers (log_of w 0) unit)) p plain waits
+  begins = has_begun i w unit (length (answers (log_of w 0) unit)) p faultless waits
 
-  pub landing_legal : IsPlainWorld i (after_landing i.shape unit p.stripe maker w)
+  pub landing_legal : IsFaultlessMount i (after_landing i.shape unit p.stripe maker w)
   landing_legal =
-      engine_next i mid begins.0 event (program_legal i w unit p maker plain waits level)
+      engine_next i mid begins.0 event (program_legal i w unit p maker faultless waits level)
       (ap begun (engine_log i.shape unit (program_of p.stripe) maker w) ∙ begins.1)
-      (may_land i w unit p maker plain waits level) refl
+      (may_land i w unit p maker faultless waits level) refl
 
   pub landing_log : log_of (after_landing i.shape unit p.stripe maker w) 0 ≡ log_of w 0 ++ (engine_step i.shape event mid).logged ∷ []
   landing_log = log_here (engine_step i.shape event mid) mid 0 refl ∙ ap (λ (log : List Logged). log ++ (engine_step i.shape event mid).logged ∷ []) (engine_log i.shape unit (program_of p.stripe) maker w)
@@ -123,7 +123,7 @@ module _ (i : Image) (w : World) (unit : ℕ) (p : Placed) (maker : Maker) (plai
   ends_now =
       let l : Logged = (unit_step i.shape unit (program_of p.stripe) maker w).logged in
       let some : 0 < length (log_of w 0) = engine_longer w begins.0 begins.1 in
-      let knows : known l 0 ≡ length (log_of w 0) = known_whole i w plain.legal 0 in
+      let knows : known l 0 ≡ length (log_of w 0) = known_whole i w faultless.simple.mount.legal 0 in
       let ends : ends_stripe l ≡ true = ap (λ b. b && true) (lt_true 0 (known l 0) (omega arith)) in
       ap ended_stripes (unit_log i.shape unit (program_of p.stripe) maker w) ∙ ended_more (log_of w (suc unit)) l ∙ ap (λ n. ended_stripes (log_of w (suc unit)) + n) (one_ended l ends)
 
@@ -145,7 +145,7 @@ module _ (i : Image) (w : World) (unit : ℕ) (p : Placed) (maker : Maker) (plai
       go (inr (inr over)) = level_other u (λ same. absurd (omega arith)) (all u)
 
   pub landing_known : IsKnown i w → IsKnown i (after_landing i.shape unit p.stripe maker w)
-  landing_known = known_told i w unit (program_of p.stripe) maker event plain (program_legal i w unit p maker plain waits level) (engine_longer w begins.0 begins.1) (λ logs u. refl)
+  landing_known = known_told i w unit (program_of p.stripe) maker event faultless.simple.mount.legal (program_legal i w unit p maker faultless waits level).simple.mount.legal (engine_longer w begins.0 begins.1) (λ logs u. refl)
 
   -- the same stripes are placed
   placed_still : (u : ℕ) → placed_on (log_of (after_landing i.shape unit p.stripe maker w) 0) u ≡ placed_on (log_of w 0) u

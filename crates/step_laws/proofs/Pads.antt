@@ -15,9 +15,10 @@ use Rattle.pblk_world.specs.EngineLog.{Begun, begun}
 use Rattle.pblk_world.specs.Commanding.{has_stopped, IsPadding, IsCommand, MayDo}
 use Rattle.pblk_world.specs.Legal.{IsLegal}
 use Rattle.pblk_laws.specs.LineBlocks.{chunk_in}
-use Rattle.core_laws.specs.PlainWorlds.{IsPlainWorld}
+use Rattle.core_laws.specs.FaultlessMounts.{IsFaultlessMount}
+use Rattle.core_laws.proofs.FaultlessMounts.{still_faultless}
 use Rattle.step_laws.specs.Whole.{unit_step, write_of}
-use Rattle.step_laws.proofs.Knowing.{next_step, next_legal, still_plain}
+use Rattle.step_laws.proofs.Knowing.{next_step, next_legal}
 use Rattle.step_laws.proofs.StripeBlocks.{pad_is}
 use Rattle.step_laws.proofs.UnitSteps.{none_stopped, has_chunks}
 
@@ -44,10 +45,10 @@ pub pad_legal : (i : Image) (w : World) (unit chunk at : ℕ) (blocks : List Blo
 pad_legal i w unit chunk at blocks c outcome maker legal none range goes_on there padding ends =
     next_legal i w (suc unit) (Does (write_of chunk at blocks outcome) maker) legal (omega arith) (may_pad i w unit chunk at blocks c outcome none goes_on there padding ends)
 
-pub pad_done : (i : Image) (w : World) (unit chunk at : ℕ) (blocks : List Block) (c : Chunk) (maker : Maker) → IsPlainWorld i w → log_of w 0 ≡ [] → unit < units i.shape
+pub pad_done : (i : Image) (w : World) (unit chunk at : ℕ) (blocks : List Block) (c : Chunk) (maker : Maker) → IsFaultlessMount i w → log_of w 0 ≡ [] → unit < units i.shape
     → chunk_in (media i (log_of w)) chunk unit ≡ Some c → IsPadding i c at blocks → refusal i.shape c (Write at blocks) ≡ None
-    → IsPlainWorld i (unit_step i.shape unit (write_of chunk at blocks (Answered Done)) maker w ∷ w)
-pad_done i w unit chunk at blocks c maker plain none range there padding taken =
-    still_plain i (unit_step i.shape unit (write_of chunk at blocks (Answered Done)) maker w) w plain
-    (next_step i w (suc unit) (Does (write_of chunk at blocks (Answered Done)) maker) plain.legal (omega arith)
-    (may_pad i w unit chunk at blocks c (Answered Done) none (none_stopped (log_of w (suc unit)) (plain.units unit)) there padding (tt, (taken, refl)))) refl
+    → IsFaultlessMount i (unit_step i.shape unit (write_of chunk at blocks (Answered Done)) maker w ∷ w)
+pad_done i w unit chunk at blocks c maker faultless none range there padding taken =
+    still_faultless i (unit_step i.shape unit (write_of chunk at blocks (Answered Done)) maker w) w faultless
+    (next_step i w (suc unit) (Does (write_of chunk at blocks (Answered Done)) maker) faultless.simple.mount.legal (omega arith)
+    (may_pad i w unit chunk at blocks c (Answered Done) none (none_stopped (unit_events (log_of w) unit) (faultless.answered unit)) there padding (tt, (taken, refl)))) refl

@@ -22,7 +22,9 @@ use Rattle.pblk_world.specs.Placing.{IsStart, IsData, IsEnd, IsPad, start_blocks
 use Rattle.pblk_world.proofs.Appending.{life_more, placements_more}
 use Rattle.pblk_laws.proofs.EndSpelling.{end_spelled, end_bytes_are}
 use Rattle.pblk_laws.proofs.Starts.{spelled, start_bytes_are}
-use Rattle.core_laws.specs.PlainWorlds.{is_plain_event, IsPlainWorld}
+use Rattle.core_laws.specs.PlainWorlds.{is_plain_event}
+use Rattle.core_laws.specs.SimpleMounts.{IsSimpleMount}
+use Rattle.core_laws.proofs.SimpleMounts.{engine_plain}
 use Rattle.landing_laws.proofs.Keeping.{IsKept, kept}
 use Rattle.lemmas.proofs.Lists.{all_append, all_replicated, with_last}
 use Rattle.lemmas.proofs.Maps.{all_filter, all_mapped}
@@ -150,6 +152,6 @@ blocks_kept i = record {
   );
 }
 
-pub placed_are_blocks : (i : Image) (w : World) → IsPlainWorld i w → AllByRecursion (λ p. AllByRecursion (IsBlock i.shape) p.stripe.blocks) (placements (log_of w 0))
+pub placed_are_blocks : (i : Image) (w : World) → IsSimpleMount i w → AllByRecursion (λ p. AllByRecursion (IsBlock i.shape) p.stripe.blocks) (placements (log_of w 0))
 unfolding HasBlocks
-placed_are_blocks i w plain = (kept i is_plain_event (HasBlocks i.shape) (blocks_kept i) w plain.legal plain.engine).2
+placed_are_blocks i w simple = (kept i is_plain_event (HasBlocks i.shape) (blocks_kept i) w simple.mount.legal (engine_plain i w simple)).2

@@ -12,7 +12,7 @@ use Rattle.pblk_world.specs.Events.{Maker}
 use Rattle.pblk_world.specs.World.{World, log_of, media}
 use Rattle.pblk_world.specs.Commanding.{IsPadding}
 use Rattle.pblk_laws.specs.LineBlocks.{chunk_in}
-use Rattle.core_laws.specs.PlainWorlds.{IsPlainWorld}
+use Rattle.core_laws.specs.FaultlessMounts.{IsFaultlessMount}
 use Rattle.step_laws.specs.Whole.{unit_step, write_of, opening_maker}
 use Rattle.step_laws.proofs.Fetches.{fetch_next}
 use Rattle.step_laws.proofs.Pads.{pad_done}
@@ -34,41 +34,41 @@ abbrev pub AreReadying : Image → List Chunk → List UnitEvent → Type 0
 AreReadying i chunks [] = ⊤
 AreReadying i chunks (e ∷ events) = IsReadying i chunks e × AreReadying i (after_event i.shape chunks e) events
 
-pub one_step : (i : Image) (w : World) (unit : ℕ) (chunks : List Chunk) (e : UnitEvent) (maker : Maker) → IsPlainWorld i w → log_of w 0 ≡ [] → unit < units i.shape
-    → slice_get (media i (log_of w)).units unit ≡ Some chunks → IsReadying i chunks e → IsPlainWorld i (unit_step i.shape unit e maker w ∷ w)
-one_step i w unit chunks e maker plain none range has is = go e.command e.outcome is.does
+pub one_step : (i : Image) (w : World) (unit : ℕ) (chunks : List Chunk) (e : UnitEvent) (maker : Maker) → IsFaultlessMount i w → log_of w 0 ≡ [] → unit < units i.shape
+    → slice_get (media i (log_of w)).units unit ≡ Some chunks → IsReadying i chunks e → IsFaultlessMount i (unit_step i.shape unit e maker w ∷ w)
+one_step i w unit chunks e maker faultless none range has is = go e.command e.outcome is.does
   where
     there : chunk_in (media i (log_of w)) e.chunk unit ≡ Some is.found
     there = ap (option_and_then (λ (cs : List Chunk). slice_get cs e.chunk)) has ∙ is.there
 
     go : (command : ChunkCommand) (outcome : UnitOutcome) → IsPadOrFetch i is.found command outcome
-        → IsPlainWorld i (unit_step i.shape unit (record { chunk = e.chunk; command = command; outcome = outcome }) maker w ∷ w)
+        → IsFaultlessMount i (unit_step i.shape unit (record { chunk = e.chunk; command = command; outcome = outcome }) maker w ∷ w)
     go (Write at blocks) outcome does =
-        subst (λ (o : UnitOutcome). IsPlainWorld i (unit_step i.shape unit (write_of e.chunk at blocks o) maker w ∷ w)) (sym does.2)
-        (pad_done i w unit e.chunk at blocks is.found maker plain none range there does.0 does.1)
+        subst (λ (o : UnitOutcome). IsFaultlessMount i (unit_step i.shape unit (write_of e.chunk at blocks o) maker w ∷ w)) (sym does.2)
+        (pad_done i w unit e.chunk at blocks is.found maker faultless none range there does.0 does.1)
     go (Read b) outcome does =
-        subst (λ (o : UnitOutcome). IsPlainWorld i (unit_step i.shape unit (record { chunk = e.chunk; command = Read b; outcome = o }) maker w ∷ w)) (sym does.3)
-        (fetch_next i w unit e.chunk b is.found does.0 maker plain range there does.1 does.2)
+        subst (λ (o : UnitOutcome). IsFaultlessMount i (unit_step i.shape unit (record { chunk = e.chunk; command = Read b; outcome = o }) maker w ∷ w)) (sym does.3)
+        (fetch_next i w unit e.chunk b is.found does.0 maker faultless range there does.1 does.2)
     go Reset outcome does = absurd does
 
 -- the world then: the engine did nothing still, and the other units have the chunks that they had
 pub record HasReadied (i : Image) (w : World) (unit : ℕ) (chunks : List Chunk) (events : List UnitEvent) : Type 0 where
-  pub plain : IsPlainWorld i (after_events i.shape unit w events)
+  pub faultless : IsFaultlessMount i (after_events i.shape unit w events)
   pub none : log_of (after_events i.shape unit w events) 0 ≡ []
   pub own : slice_get (media i (log_of (after_events i.shape unit w events))).units unit ≡ Some (after_log i.shape chunks events)
   pub elsewhere : (other : ℕ) → other ≢ unit → slice_get (media i (log_of (after_events i.shape unit w events))).units other ≡ slice_get (media i (log_of w)).units other
 
-pub all_steps : (i : Image) (w : World) (unit : ℕ) (chunks : List Chunk) (events : List UnitEvent) → IsPlainWorld i w → log_of w 0 ≡ [] → unit < units i.shape
+pub all_steps : (i : Image) (w : World) (unit : ℕ) (chunks : List Chunk) (events : List UnitEvent) → IsFaultlessMount i w → log_of w 0 ≡ [] → unit < units i.shape
     → slice_get (media i (log_of w)).units unit ≡ Some chunks → AreReadying i chunks events → HasReadied i w unit chunks events
-all_steps i w unit chunks [] plain none range has are = record { plain = plain; none = none; own = has; elsewhere = λ other apart. refl }
-all_steps i w unit chunks (e ∷ events) plain none range has are =
+all_steps i w unit chunks [] faultless none range has are = record { faultless = faultless; none = none; own = has; elsewhere = λ other apart. refl }
+all_steps i w unit chunks (e ∷ events) faultless none range has are =
     let rest : HasReadied i (unit_step i.shape unit e (opening_maker w) w ∷ w) unit (after_event i.shape chunks e) events =
     all_steps i (unit_step i.shape unit e (opening_maker w) w ∷ w) unit (after_event i.shape chunks e) events
-    (one_step i w unit chunks e (opening_maker w) plain none range has are.0)
+    (one_step i w unit chunks e (opening_maker w) faultless none range has are.0)
     (engine_log i.shape unit e (opening_maker w) w ∙ none) range
     (media_now i unit e (opening_maker w) w ∙ ap (option_map (λ (cs : List Chunk). after_event i.shape cs e)) has) are.1 in
     record {
-      plain = rest.plain;
+      faultless = rest.faultless;
       none = rest.none;
       own = rest.own;
       elsewhere = λ other apart. rest.elsewhere other apart ∙ media_elsewhere i unit e (opening_maker w) w other apart;

@@ -20,14 +20,14 @@ use Rattle.pblk_world.specs.Commanding.{was_stopped, has_stopped, ended_stripes,
 use Rattle.pblk_world.specs.Answering.{IsNew, MayLand}
 use Rattle.pblk_world.specs.Legal.{IsAllowed, IsLegal}
 use Rattle.pblk_laws.specs.LineBlocks.{chunk_in}
-use Rattle.core_laws.specs.PlainWorlds.{is_plain_event, is_plain_outcome, ArePlain, IsPlainWorld}
+use Rattle.core_laws.specs.FaultlessMounts.{AreAnswered, IsFaultlessMount, is_answered}
 use Rattle.core_laws.specs.PlacerOf.{unanswered_on}
-use Rattle.core_laws.proofs.SimpleMounts.{simple_of}
+use Rattle.core_laws.proofs.FaultlessMounts.{still_faultless}
 use Rattle.placing_laws.proofs.Begun.{begun_once}
 use Rattle.placed_laws.specs.StripePrograms.{HasHappened}
 use Rattle.placed_laws.proofs.Happened.{happened}
 use Rattle.step_laws.specs.Whole.{engine_step, unit_step, is_made_by, commands_of, program_of}
-use Rattle.step_laws.proofs.Knowing.{known_whole, next_step, still_plain}
+use Rattle.step_laws.proofs.Knowing.{known_whole, next_step}
 use Rattle.step_laws.proofs.NextProgram.{program_is_taken}
 use Rattle.lemmas.proofs.Lists.{all_contains}
 use Rattle.lemmas.proofs.Maps.{all_filter_map, more}
@@ -96,20 +96,16 @@ media_elsewhere i unit e maker w other apart =
     (other_log i.shape unit e maker w (suc other) (λ same. let is : suc other ≡ suc unit = same in apart (omega arith)))
     ∙ sym (media_at i (log_of w) other)
 
--- ---- what a plain log lacks
+-- ---- a faultless unit was not stopped
 
-never : (o : UnitOutcome) (b : Bool) → is_plain_outcome o ≡ true → b ≡ false → (was_stopped o || b) ≡ false
-never (Answered a) b plain rest = rest
-never (Failed k) b plain rest = rest
-never (Stopped k) b plain rest = absurd (cc)
+never : (o : UnitOutcome) (b : Bool) → is_answered o ≡ true → b ≡ false → (was_stopped o || b) ≡ false
+never (Answered a) b answered rest = rest
+never (Failed k) b answered rest = rest
+never (Stopped k) b answered rest = absurd (cc)
 
-stopped_by : (e : Event) (es : List UnitEvent) → is_plain_event e ≡ true → has_stopped es ≡ false → has_stopped (cons_option (unit_event_of e) es) ≡ false
-stopped_by (Decides e) es plain rest = rest
-stopped_by (Does e maker) es plain rest = never e.outcome (has_stopped es) plain rest
-
-pub none_stopped : (log : List Logged) → ArePlain log → has_stopped (filter_map (λ l. unit_event_of l.event) log) ≡ false
-none_stopped [] plain = refl
-none_stopped (l ∷ log) plain = stopped_by l.event (filter_map (λ m. unit_event_of m.event) log) plain.0 (none_stopped log plain.1)
+pub none_stopped : (es : List UnitEvent) → AreAnswered es → has_stopped es ≡ false
+none_stopped [] answered = refl
+none_stopped (e ∷ es) answered = never e.outcome (has_stopped es) answered.0 (none_stopped es answered.1)
 
 -- ---- what the engine named is in the unit's log
 
@@ -134,8 +130,8 @@ named_within i w unit legal =
 
 -- ---- a program
 
-pub has_begun : (i : Image) (w : World) (unit k : ℕ) (p : Placed) → IsPlainWorld i w → slice_get (placed_on (log_of w 0) unit) k ≡ Some p → (b : Begun) × (begun (log_of w 0) ≡ Some b)
-has_begun i w unit k p plain there = begun_once i w plain.legal (some (log_of w 0) there)
+pub has_begun : (i : Image) (w : World) (unit k : ℕ) (p : Placed) → IsFaultlessMount i w → slice_get (placed_on (log_of w 0) unit) k ≡ Some p → (b : Begun) × (begun (log_of w 0) ≡ Some b)
+has_begun i w unit k p faultless there = begun_once i w faultless.simple.mount.legal (some (log_of w 0) there)
   where
     some : (log : List Logged) → slice_get (placed_on log unit) k ≡ Some p → 0 < length log
     some [] e = absurd (none-some p e)
@@ -152,30 +148,30 @@ pub has_chunks : (o : Option (List Chunk)) (chunk : ℕ) (c : Chunk) → option_
 has_chunks None chunk c e = absurd (none-some c e)
 has_chunks (Some chunks) chunk c e = (chunks, refl, e)
 
-pub may_program : (i : Image) (w : World) (unit : ℕ) (p : Placed) → IsPlainWorld i w → unit < units i.shape → slice_get (placed_on (log_of w 0) unit) (ended_stripes (log_of w (suc unit))) ≡ Some p
+pub may_program : (i : Image) (w : World) (unit : ℕ) (p : Placed) → IsFaultlessMount i w → unit < units i.shape → slice_get (placed_on (log_of w 0) unit) (ended_stripes (log_of w (suc unit))) ≡ Some p
     → AllByRecursion (IsBlock i.shape) p.stripe.blocks → MayDo i (log_of w) unit (program_of p.stripe)
-may_program i w unit p plain range there blocks =
+may_program i w unit p faultless range there blocks =
     let taken : (c : Chunk) × (chunk_in (media i (log_of w)) p.stripe.chunk unit ≡ Some c) × (refusal i.shape c (Write p.stripe.at p.stripe.blocks) ≡ None) =
-    program_is_taken i w unit p (simple_of i w plain).mount range there (none_stopped (log_of w (suc unit)) (plain.units unit)) in
+    program_is_taken i w unit p faultless.simple.mount range there (none_stopped (unit_events (log_of w) unit) (faultless.answered unit)) in
     let chunks = has_chunks (slice_get (media i (log_of w)).units unit) p.stripe.chunk taken.0 taken.1 in
-    let begins = has_begun i w unit (ended_stripes (log_of w (suc unit))) p plain there in
+    let begins = has_begun i w unit (ended_stripes (log_of w (suc unit))) p faultless there in
     let stripe : IsStripe (log_of w) unit p.stripe.chunk p.stripe.at p.stripe.blocks = record { placed = p; earliest = there; its_chunk = refl; its_place = refl; its_blocks = refl } in record {
       chunks = chunks.0;
       has_chunks = chunks.1;
       event = record { found = taken.0; there = chunks.2; blocks = blocks; outcome = (tt, (taken.2, refl)) };
-      stopped = λ was. let none : has_stopped (unit_events (log_of w) unit) ≡ false = none_stopped (log_of w (suc unit)) (plain.units unit) in absurd (cc);
+      stopped = λ was. let none : has_stopped (unit_events (log_of w) unit) ≡ false = none_stopped (unit_events (log_of w) unit) (faultless.answered unit) in absurd (cc);
       command = subst (λ o. IsCommand i (log_of w) unit taken.0 p.stripe.chunk (Write p.stripe.at p.stripe.blocks) o) (sym begins.1) stripe;
     }
 
-pub program_next : (i : Image) (w : World) (unit : ℕ) (p : Placed) (maker : Maker) → IsPlainWorld i w → unit < units i.shape → slice_get (placed_on (log_of w 0) unit) (ended_stripes (log_of w (suc unit))) ≡ Some p
-    → AllByRecursion (IsBlock i.shape) p.stripe.blocks → IsPlainWorld i (unit_step i.shape unit (program_of p.stripe) maker w ∷ w)
-program_next i w unit p maker plain range there blocks =
-    still_plain i (unit_step i.shape unit (program_of p.stripe) maker w) w plain
-    (next_step i w (suc unit) (Does (program_of p.stripe) maker) plain.legal (omega arith) (may_program i w unit p plain range there blocks)) refl
+pub program_next : (i : Image) (w : World) (unit : ℕ) (p : Placed) (maker : Maker) → IsFaultlessMount i w → unit < units i.shape → slice_get (placed_on (log_of w 0) unit) (ended_stripes (log_of w (suc unit))) ≡ Some p
+    → AllByRecursion (IsBlock i.shape) p.stripe.blocks → IsFaultlessMount i (unit_step i.shape unit (program_of p.stripe) maker w ∷ w)
+program_next i w unit p maker faultless range there blocks =
+    still_faultless i (unit_step i.shape unit (program_of p.stripe) maker w) w faultless
+    (next_step i w (suc unit) (Does (program_of p.stripe) maker) faultless.simple.mount.legal (omega arith) (may_program i w unit p faultless range there blocks)) refl
 
-pub may_land : (i : Image) (w : World) (unit : ℕ) (p : Placed) (maker : Maker) → IsPlainWorld i w → unanswered_on (log_of w 0) unit ≡ Some p → ended_stripes (log_of w (suc unit)) ≡ length (answers (log_of w 0) unit)
+pub may_land : (i : Image) (w : World) (unit : ℕ) (p : Placed) (maker : Maker) → IsFaultlessMount i w → unanswered_on (log_of w 0) unit ≡ Some p → ended_stripes (log_of w (suc unit)) ≡ length (answers (log_of w 0) unit)
     → MayLand (log_of (unit_step i.shape unit (program_of p.stripe) maker w ∷ w)) unit (length (log_of w (suc unit)))
-may_land i w unit p maker plain waits level =
+may_land i w unit p maker faultless waits level =
     let s : Step = unit_step i.shape unit (program_of p.stripe) maker w in
     let here : log_of (s ∷ w) (suc unit) ≡ log_of w (suc unit) ++ s.logged ∷ [] = unit_log i.shape unit (program_of p.stripe) maker w in
     let own : log_of (s ∷ w) 0 ≡ log_of w 0 = engine_log i.shape unit (program_of p.stripe) maker w in
@@ -183,9 +179,9 @@ may_land i w unit p maker plain waits level =
     ap (λ (log : List Logged). slice_get log (length (log_of w (suc unit)))) here ∙ get_last (log_of w (suc unit)) s.logged in
     let before : take (length (log_of w (suc unit))) (log_of (s ∷ w) (suc unit)) ≡ log_of w (suc unit) =
     ap (λ (log : List Logged). take (length (log_of w (suc unit))) log) here ∙ take-append_seam (log_of w (suc unit)) (s.logged ∷ []) in
-    let begins = has_begun i w unit (length (answers (log_of w 0) unit)) p plain waits in
+    let begins = has_begun i w unit (length (answers (log_of w 0) unit)) p faultless waits in
     let some : 0 < length (log_of w 0) = engine_longer w begins.0 begins.1 in
-    let knows : known s.logged 0 ≡ length (log_of w 0) = known_whole i w plain.legal 0 in
+    let knows : known s.logged 0 ≡ length (log_of w 0) = known_whole i w faultless.simple.mount.legal 0 in
     let fewer : length (answers (log_of w 0) unit) < length (placed_on (log_of w 0) unit) = slice_get_within (placed_on (log_of w 0) unit) (length (answers (log_of w 0) unit)) p waits in record {
       program = program_of p.stripe;
       new = record {
@@ -194,7 +190,7 @@ may_land i w unit p maker plain waits level =
         event = refl;
         once = λ named.
             let within : length (log_of w (suc unit)) < length (log_of w (suc unit)) =
-            all_contains (λ n. n < length (log_of w (suc unit))) (named_events (log_of w 0) unit) (length (log_of w (suc unit))) (named_within i w unit plain.legal)
+            all_contains (λ n. n < length (log_of w (suc unit))) (named_events (log_of w 0) unit) (length (log_of w (suc unit))) (named_within i w unit faultless.simple.mount.legal)
             (subst (λ (log : List Logged). Contains (named_events log unit) (length (log_of w (suc unit)))) own named) in absurd (omega arith);
       };
       stripe = record {

@@ -13,7 +13,7 @@ use Rattle.pblk_model.specs.UnitLog.{UnitEvent, after_log}
 use Rattle.pblk_model.specs.Image.{Image}
 use Rattle.pblk_world.specs.World.{World, Logs, log_of, media, unit_events}
 use Rattle.pblk_world.specs.Legal.{IsLegal}
-use Rattle.core_laws.specs.PlainWorlds.{IsPlainWorld}
+use Rattle.core_laws.specs.FaultlessMounts.{IsFaultlessMount}
 use Rattle.step_laws.specs.Whole.{unit_step, opening_maker}
 use Rattle.step_laws.proofs.ChunkEvents.{same_images}
 use Rattle.step_laws.proofs.UnitSteps.{engine_log}
@@ -34,7 +34,7 @@ abbrev HasReady : Image → World → ℕ → List UnitEvent → Type 0
 HasReady i w n events = (chunks : List Chunk) × (slice_get (media i (log_of w)).units n ≡ Some chunks) × AreReadying i chunks events
 
 record HaveReadied (i : Image) (w : World) (unit : ℕ) (all : List (List UnitEvent)) : Type 0 where
-  plain : IsPlainWorld i (after_units i.shape unit w all)
+  faultless : IsFaultlessMount i (after_units i.shape unit w all)
   none : log_of (after_units i.shape unit w all) 0 ≡ []
   own : (n k : ℕ) (events : List UnitEvent) (chunks : List Chunk) → n ≡ unit + k → slice_get all k ≡ Some events → slice_get (media i (log_of w)).units n ≡ Some chunks
       → slice_get (media i (log_of (after_units i.shape unit w all))).units n ≡ Some (after_log i.shape chunks events)
@@ -43,7 +43,7 @@ record HaveReadied (i : Image) (w : World) (unit : ℕ) (all : List (List UnitEv
 joined : (i : Image) (w : World) (unit : ℕ) (first : List UnitEvent) (all : List (List UnitEvent)) (its : HasReady i w unit first) (step : HasReadied i w unit its.0 first)
     → HaveReadied i (after_events i.shape unit w first) (suc unit) all → HaveReadied i w unit (first ∷ all)
 joined i w unit first all its step rest = record {
-  plain = rest.plain;
+  faultless = rest.faultless;
   none = rest.none;
   own = own;
   below = λ n low. rest.below n (omega arith) ∙ step.elsewhere n (λ same. omega arith);
@@ -59,14 +59,14 @@ joined i w unit first all its step rest = record {
         ∙ rest.below unit (omega arith) ∙ step.own ∙ ap (λ (cs : List Chunk). Some (after_log i.shape cs first)) before ∙ ap (λ (es : List UnitEvent). Some (after_log i.shape chunks es)) is
     own n (suc k) events chunks at there has = rest.own n k events chunks (omega arith) there (step.elsewhere n (λ same. omega arith) ∙ has)
 
-all_units : (i : Image) (w : World) (unit : ℕ) (all : List (List UnitEvent)) → IsPlainWorld i w → log_of w 0 ≡ [] → unit + length all ≤ units i.shape
+all_units : (i : Image) (w : World) (unit : ℕ) (all : List (List UnitEvent)) → IsFaultlessMount i w → log_of w 0 ≡ [] → unit + length all ≤ units i.shape
     → ((n k : ℕ) (events : List UnitEvent) → n ≡ unit + k → slice_get all k ≡ Some events → HasReady i w n events) → HaveReadied i w unit all
-all_units i w unit [] plain none few ready = record { plain = plain; none = none; own = λ n k events chunks at there has. absurd (none-some events there); below = λ n low. refl }
-all_units i w unit (first ∷ all) plain none few ready =
+all_units i w unit [] faultless none few ready = record { faultless = faultless; none = none; own = λ n k events chunks at there has. absurd (none-some events there); below = λ n low. refl }
+all_units i w unit (first ∷ all) faultless none few ready =
     let its : HasReady i w unit first = ready unit 0 first (omega arith) refl in
-    let step : HasReadied i w unit its.0 first = all_steps i w unit its.0 first plain none (omega arith) its.1 its.2 in
+    let step : HasReadied i w unit its.0 first = all_steps i w unit its.0 first faultless none (omega arith) its.1 its.2 in
     joined i w unit first all its step
-    (all_units i (after_events i.shape unit w first) (suc unit) all step.plain step.none (omega arith)
+    (all_units i (after_events i.shape unit w first) (suc unit) all step.faultless step.none (omega arith)
     (λ n k events at there.
     let h : HasReady i w n events = ready n (suc k) events (omega arith) there in
     (h.0, step.elsewhere n (λ same. omega arith) ∙ h.1, h.2)))
@@ -81,9 +81,12 @@ still s n (suc k) (x ∷ xs) = still s (n + 1) k xs
 media_first : (s : Shape) (us : List ModelUnit) (k : ℕ) → slice_get (media (image_of s us) (log_of [])).units k ≡ option_map (λ (u : ModelUnit). u.media) (slice_get us k)
 media_first s us k = still s 0 k (map (λ (u : ModelUnit). u.media) us) ∙ slice_get-map (λ (u : ModelUnit). u.media) us k
 
-nothing_done : (s : Shape) (us : List ModelUnit) → IsAccepted s → AreFit s us → IsPlainWorld (image_of s us) []
+nothing_done : (s : Shape) (us : List ModelUnit) → IsAccepted s → AreFit s us → IsFaultlessMount (image_of s us) []
 unfolding IsLegal
-nothing_done s us accepted fit = record { accepted = accepted; fit = fit_image s us fit; legal = tt; engine = tt; units = λ unit. tt }
+nothing_done s us accepted fit = record {
+  simple = record { mount = record { accepted = accepted; fit = fit_image s us fit; legal = tt }; engine = record { freed = tt; copied = tt; lost = tt; again = tt } };
+  answered = λ unit. tt;
+}
 
 long_media : (s : Shape) (logs : Logs) (n : ℕ) (xs : List (List Chunk)) → length (map (λ unit. after_log s unit.1 (unit_events logs unit.0)) (enumerate_from n xs)) ≡ length xs
 long_media s logs n [] = refl
@@ -148,8 +151,8 @@ module _ (s : Shape) (old new : List ModelUnit) (accepted : IsAccepted s) (fit :
   done : HaveReadied i [] 0 (new_events old new)
   done = all_units i [] 0 (new_events old new) (nothing_done s old accepted fit) refl few ready
 
-  pub plain_world : IsPlainWorld i (after_units s 0 [] (new_events old new))
-  plain_world = done.plain
+  pub faultless_mount : IsFaultlessMount i (after_units s 0 [] (new_events old new))
+  faultless_mount = done.faultless
 
   as_long : length new ≡ length old
   as_long = ap (λ (us : List ModelUnit). length us) (all_ready i old new accepted.drive.ws_opt calm were).1 ∙ as_many (were.pads ++ were.fetches) old

@@ -8,4 +8,4 @@ mod laws;
 mod openings;
 
 pub use laws::a_fetch_gives_what_landed;
-pub use openings::{an_opening_is_a_plain_world, an_unarmed_drive_loses_nothing};
+pub use openings::{an_opening_is_a_faultless_mount, an_unarmed_drive_loses_nothing};

@@ -6,7 +6,7 @@ ghost use Rattle.pblk_model.specs.Accepted.{IsAccepted};
 ghost use Rattle.pblk_model.specs.Image.{IsFit};
 ghost use Rattle.pblk_model.specs.UnitLog.{UnitEvent};
 ghost use Rattle.pblk_world.specs.World.{log_of, media};
-ghost use Rattle.core_laws.specs.PlainWorlds.{IsPlainWorld};
+ghost use Rattle.core_laws.specs.FaultlessMounts.{IsFaultlessMount};
 ghost use Rattle.unit_port.specs.Unit.{ModelUnit};
 ghost use Rattle.unit_port.specs.Commands.{EventAt, AreUnarmed};
 ghost use Rattle.scan_recovery.specs.declared.error.ScanErr.TheVariants as errors;
@@ -17,13 +17,13 @@ ghost use Rattle.scan_recovery.specs.Readying.{WereReadied};
 ghost use Rattle.step_laws.specs.Opened.{new_events, after_units};
 
 /// What the units of a drive did while it was padded and scanned, armed with nothing, are the steps of
-/// a plain world over the image that they had. Its media are the image that they have now, and the
+/// a faultless mount over the image that they had. Its media are the image that they have now, and the
 /// engine did nothing in it.
-pub fn an_opening_is_a_plain_world()
+pub fn an_opening_is_a_faultless_mount()
     ensures fit { (s : Shape) (us : List ModelUnit) → AreFit s us → IsFit (image_of s us) }
-    ensures plain { (s : Shape) (old new : List ModelUnit) → IsAccepted s → AreFit s old
+    ensures faultless { (s : Shape) (old new : List ModelUnit) → IsAccepted s → AreFit s old
         → AreUnarmed old → WereReadied s old new
-        → IsPlainWorld (image_of s old) (after_units s 0 [] (new_events old new)) }
+        → IsFaultlessMount (image_of s old) (after_units s 0 [] (new_events old new)) }
     ensures media { (s : Shape) (old new : List ModelUnit) → IsAccepted s → AreFit s old
         → AreUnarmed old → WereReadied s old new
         → media (image_of s old) (log_of (after_units s 0 [] (new_events old new)))

@@ -2,7 +2,7 @@ use Rattle.std.proofs.Common.{◌≡◌, ◌+◌, length}
 use Rattle.pblk_model.specs.Frames.{count_out}
 use Rattle.pblk_model.specs.Image.{Image}
 use Rattle.pblk_world.specs.World.{World, log_of}
-use Rattle.core_laws.specs.PlainWorlds.{IsPlainWorld}
+use Rattle.world_laws.specs.LegalMounts.{IsLegalMount}
 use Rattle.write_window.specs.Window as view
 use Rattle.pblk_core.specs.Named.{pad_of}
 use Rattle.pblk_core.specs.Stands.{Stands}
@@ -10,7 +10,7 @@ use Rattle.block_target.proofs.mount.free_frames.Given as goal
 
 abbrev pub invariant-loop-frame : goal.invariant-loop-frame
 invariant-loop-frame l = record {
-  stands : (i : Image) (w : World) → IsPlainWorld i w → Stands i (log_of w) l.initial.core → Stands i (log_of w) l.core;
+  stands : (i : Image) (w : World) → IsLegalMount i w → Stands i (log_of w) l.initial.core → Stands i (log_of w) l.core;
   own : view.AreOf l.pool.region l.core.window.entries;
   out : count_out l.initial.pool.left + length l.core.window.entries ≡ count_out l.pool.left + length l.initial.core.window.entries;
   region : l.pool.region ≡ l.initial.pool.region;

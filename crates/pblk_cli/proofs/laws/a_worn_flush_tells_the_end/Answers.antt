@@ -23,5 +23,5 @@ returns c = λ found left writes worns a run sealed among flush.
     let i : Image = image_of found in
     let is = one i (log_of run.world) 0 worns a run.worn among in
     let refused = subst (λ count. IsRefusal i (log_of run.world) is.0 count a.wanted a.have) flush is.1.cause in
-    let told = c.a_refused_flush_tells_the_end.ensures i run.world run.beginning is.0 a.wanted a.have run.legal sealed run.has_begun refused in
+    let told = c.a_refused_flush_tells_the_end.ensures i run.world run.beginning is.0 a.wanted a.have run.legal.simple sealed run.has_begun refused in
     (is.0, told.0, told.1, told.2, told.3)

@@ -15,7 +15,8 @@ pub returns-then-wanted-self-clause-same : goal.returns-then-wanted-self-clause-
 returns-then-wanted-self-clause-same g c = c.loop.invariant.same
 
 pub returns-then-wanted-self-clause-once : goal.returns-then-wanted-self-clause-once
-returns-then-wanted-self-clause-once g c = subst (λ (v : MountView). WasRoom v.image (logs_in v) (length (engine_log v)) v.granted) c.self.view_is c.self.invariant.once
+returns-then-wanted-self-clause-once g c =
+    subst (λ (v : MountView). WasRoom v.image (logs_in v) (length (engine_log v)) v.granted) c.self.view_is c.self.invariant.once
 
 pub returns-then-not-pump-clause-same : goal.returns-then-not-pump-clause-same
 returns-then-not-pump-clause-same g c = same_then c.args.self.now c.loop.self c.pump.new.self c.loop.invariant.same c.pump.ensures.same
@@ -24,11 +25,13 @@ pub returns-then-not-pump-clause-pad : goal.returns-then-not-pump-clause-pad
 returns-then-not-pump-clause-pad g c = c.pump.ensures.pad ∙ c.loop.invariant.pad
 
 pub returns-then-not-pump-clause-once : goal.returns-then-not-pump-clause-once
-returns-then-not-pump-clause-once g c = subst (λ (v : MountView). WasRoom v.image (logs_in v) (length (engine_log v)) v.granted) c.self-in-loop.view_is c.self-in-loop.invariant.once
+returns-then-not-pump-clause-once g c =
+    subst (λ (v : MountView). WasRoom v.image (logs_in v) (length (engine_log v)) v.granted) c.self-in-loop.view_is c.self-in-loop.invariant.once
 
 pub returns-then-not-pump-clause-stuck : goal.returns-then-not-pump-clause-stuck
 returns-then-not-pump-clause-stuck g c =
-    stuck_claimed c.loop.self c.pump.new.self c.self.inside.granted c.self-in-loop.inside.granted c.args.wanted (ap (λ (v : MountView). v.granted) c.self.view_is) (ap (λ (v : MountView). v.granted) c.self-in-loop.view_is)
+    stuck_claimed c.loop.self c.pump.new.self c.self.inside.granted c.self-in-loop.inside.granted c.args.wanted
+    (ap (λ (v : MountView). v.granted) c.self.view_is) (ap (λ (v : MountView). v.granted) c.self-in-loop.view_is)
     (omega (arith, c.if-wanted-self.false)) (c.pump.ensures.rest c.if-not-pump.true)
 
 pub returns-then-wanted-self-clause-sound : goal.returns-then-wanted-self-clause-sound

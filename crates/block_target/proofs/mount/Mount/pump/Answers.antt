@@ -1,4 +1,3 @@
-use Rattle.core_laws.proofs.SimpleMounts.{simple_of}
 use Rattle.std.proofs.Common.{sym, subst, ap, ◌∙◌, refl}
 use Rattle.pblk_core.specs.Resets.{IsToReset}
 use Rattle.scan_recovery.specs.Units.{image_of}
@@ -12,22 +11,23 @@ pub reset-requires : goal.reset-requires
 reset-requires g c = record {
   named = ap work_in (sym c.self.view_is)
       ∙ sym (c.next_work.ensures.work (image_of c.self.inside.shape (drive_before c.self.inside.drives)) (world_of c.self.inside.shape c.self.inside.deeds)
-      (simple_of (image_of c.self.inside.shape (drive_before c.self.inside.drives)) (world_of c.self.inside.shape c.self.inside.deeds) c.self.invariant.sound.legal).mount c.self.invariant.stands) ∙ c.in-Reset.is;
+      c.self.invariant.sound.legal.simple.mount c.self.invariant.stands) ∙ c.in-Reset.is;
   given_up = subst (λ (v : MountView). IsToReset v.image (logs_in v) c.in-Reset.line c.in-Reset.unit) c.self.view_is
-      (c.next_work.ensures.reset (image_of c.self.inside.shape (drive_before c.self.inside.drives)) (world_of c.self.inside.shape c.self.inside.deeds) c.in-Reset.line c.in-Reset.unit c.self.invariant.stands c.in-Reset.is);
+      (c.next_work.ensures.reset (image_of c.self.inside.shape (drive_before c.self.inside.drives))
+      (world_of c.self.inside.shape c.self.inside.deeds) c.in-Reset.line c.in-Reset.unit c.self.invariant.stands c.in-Reset.is);
 }
 
 pub program-requires : goal.program-requires
 program-requires g c =
     ap work_in (sym c.self.view_is)
     ∙ sym (c.next_work.ensures.work (image_of c.self.inside.shape (drive_before c.self.inside.drives)) (world_of c.self.inside.shape c.self.inside.deeds)
-    (simple_of (image_of c.self.inside.shape (drive_before c.self.inside.drives)) (world_of c.self.inside.shape c.self.inside.deeds) c.self.invariant.sound.legal).mount c.self.invariant.stands) ∙ c.in-Program.is
+    c.self.invariant.sound.legal.simple.mount c.self.invariant.stands) ∙ c.in-Program.is
 
 pub open_line-requires : goal.open_line-requires
 open_line-requires g c =
     ap work_in (sym c.self.view_is)
     ∙ sym (c.next_work.ensures.work (image_of c.self.inside.shape (drive_before c.self.inside.drives)) (world_of c.self.inside.shape c.self.inside.deeds)
-    (simple_of (image_of c.self.inside.shape (drive_before c.self.inside.drives)) (world_of c.self.inside.shape c.self.inside.deeds) c.self.invariant.sound.legal).mount c.self.invariant.stands) ∙ c.in-Open.is
+    c.self.invariant.sound.legal.simple.mount c.self.invariant.stands) ∙ c.in-Open.is
 
 pub returns-in-Nothing-clause-same : goal.returns-in-Nothing-clause-same
 returns-in-Nothing-clause-same g c = same_mount c.args.self.now
@@ -38,7 +38,7 @@ returns-in-Nothing-clause-rest g c = λ none. (
   subst IsSpent c.self.view_is
       (spent _ c.self.inside.core c.self.inside.pool c.self.inside.stripe c.in-Nothing.field-0 c.self.invariant
       (sym (c.next_work.ensures.work (image_of c.self.inside.shape (drive_before c.self.inside.drives)) (world_of c.self.inside.shape c.self.inside.deeds)
-      (simple_of (image_of c.self.inside.shape (drive_before c.self.inside.drives)) (world_of c.self.inside.shape c.self.inside.deeds) c.self.invariant.sound.legal).mount c.self.invariant.stands) ∙ c.in-Nothing.is)),
+      c.self.invariant.sound.legal.simple.mount c.self.invariant.stands) ∙ c.in-Nothing.is)),
 )
 
 pub next_work-requires : goal.next_work-requires

@@ -1,4 +1,3 @@
-use Rattle.core_laws.proofs.SimpleMounts.{simple_of}
 use Rattle.std.proofs.Common.{◌≡◌, false, length, sym, subst, ◌∙◌, arith, inl, inr}
 use Rattle.pblk_world.specs.Space.{is_due}
 use Rattle.pblk_world.specs.World.{log_of}
@@ -20,7 +19,8 @@ pub returns-then-not-is_due-clause-resting : goal.returns-then-not-is_due-clause
 returns-then-not-is_due-clause-resting g c =
     let w = world_of c.self.inside.shape c.self.inside.deeds in
     let at : is_due (image_of c.self.inside.shape (drive_before c.self.inside.drives)) (log_of w) ≡ false =
-    sym (c.is_due.ensures (image_of c.self.inside.shape (drive_before c.self.inside.drives)) w (simple_of (image_of c.self.inside.shape (drive_before c.self.inside.drives)) w c.self.invariant.sound.legal).mount c.self.invariant.stands) ∙ c.if-not-is_due.true in
+    sym (c.is_due.ensures (image_of c.self.inside.shape (drive_before c.self.inside.drives)) w c.self.invariant.sound.legal.simple.mount
+    c.self.invariant.stands) ∙ c.if-not-is_due.true in
     inl (subst (λ (v : MountView). is_due v.image (logs_in v) ≡ false) c.self.view_is at)
 
 pub returns-then-not-pump-clause-same : goal.returns-then-not-pump-clause-same

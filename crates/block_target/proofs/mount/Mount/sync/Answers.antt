@@ -1,4 +1,3 @@
-use Rattle.core_laws.proofs.SimpleMounts.{simple_of}
 use Rattle.std.proofs.Common.{◌≡◌, ◌≤◌, max, ap, sym, subst, ◌∙◌, arith}
 use Rattle.scan_recovery.specs.Units.{image_of}
 use Rattle.block_target.specs.Deeds.{world_of, drive_before}
@@ -11,7 +10,8 @@ pub loop-init : goal.loop-init
 loop-init g c = worked_asked c.args.self.now c.ask_pad.new.self c.args.wanted c.ask_pad.ensures
 
 pub loop-preserved : goal.loop-preserved
-loop-preserved g c = worked_more c.args.self.now c.loop.self c.pump.new.self (max c.args.self.now.pad c.args.wanted) c.loop.invariant c.pump.ensures.same c.pump.ensures.pad
+loop-preserved g c = worked_more c.args.self.now c.loop.self c.pump.new.self
+    (max c.args.self.now.pad c.args.wanted) c.loop.invariant c.pump.ensures.same c.pump.ensures.pad
 
 pub returns-then-wanted-synced-clause-same : goal.returns-then-wanted-synced-clause-same
 returns-then-wanted-synced-clause-same g c = c.loop.invariant.same
@@ -26,10 +26,13 @@ pub returns-then-not-pump-clause-stuck : goal.returns-then-not-pump-clause-stuck
 returns-then-not-pump-clause-stuck g c =
     let w = world_of c.self.inside.shape c.self.inside.deeds in
     let at : c.synced-synced.result.position ≡ synced_in c.loop.self =
-    ap (λ f. f.position) (c.synced-synced.ensures (image_of c.self.inside.shape (drive_before c.self.inside.drives)) w (simple_of (image_of c.self.inside.shape (drive_before c.self.inside.drives)) w c.self.invariant.sound.legal).mount c.self.invariant.stands) ∙ ap synced_in c.self.view_is in
+    ap (λ f. f.position) (c.synced-synced.ensures
+    (image_of c.self.inside.shape (drive_before c.self.inside.drives)) w c.self.invariant.sound.legal.simple.mount c.self.invariant.stands)
+    ∙ ap synced_in c.self.view_is in
     let pad : c.loop.self.pad ≡ max c.args.self.now.pad c.args.wanted = c.loop.invariant.pad in
     let padded : c.args.wanted ≤ c.loop.self.pad = omega arith in
-    stuck_synced c.loop.self c.pump.new.self c.args.wanted c.synced-synced.result.position at c.if-wanted-synced.false padded (c.pump.ensures.rest c.if-not-pump.true)
+    stuck_synced c.loop.self c.pump.new.self c.args.wanted c.synced-synced.result.position at c.if-wanted-synced.false padded
+    (c.pump.ensures.rest c.if-not-pump.true)
 
 pub returns-then-wanted-synced-clause-sound : goal.returns-then-wanted-synced-clause-sound
 returns-then-wanted-synced-clause-sound g c = subst IsSound c.self.view_is c.self.invariant.sound
@@ -41,6 +44,6 @@ pub returns-then-wanted-synced-clause-synced : goal.returns-then-wanted-synced-c
 returns-then-wanted-synced-clause-synced g c =
     let i = image_of c.self.inside.shape (drive_before c.self.inside.drives) in
     let w = world_of c.self.inside.shape c.self.inside.deeds in (
-      c.synced-synced.ensures i w (simple_of i w c.self.invariant.sound.legal).mount c.self.invariant.stands ∙ ap front_synced c.self.view_is,
+      c.synced-synced.ensures i w c.self.invariant.sound.legal.simple.mount c.self.invariant.stands ∙ ap front_synced c.self.view_is,
       c.if-wanted-synced.true,
     )

@@ -19,14 +19,16 @@ invariant_of-self g c =
     let was : SerialView = record { mount = c.self.inside.mount; seen = c.self.inside.seen; own = c.self.inside.own; worns = c.self.inside.worns } in
     let a : WornAnswer = record { written = c.front-written.result.users; count = c.args.count; wanted = c.args.wanted; have = c.args.have } in
     let cause : IsRefusal was.mount.image (logs_in was.mount) (length (engine_log was.mount)) a.count a.wanted a.have =
-    subst (λ (s : SerialView). IsRefusal s.mount.image (logs_in s.mount) (length (engine_log s.mount)) a.count a.wanted a.have) (sym c.self.view_is) c.requires in
+    subst (λ (s : SerialView). IsRefusal s.mount.image (logs_in s.mount) (length (engine_log s.mount)) a.count a.wanted a.have)
+    (sym c.self.view_is) c.requires in
     record {
       sound = c.self.invariant.sound;
       alone = c.self.invariant.alone;
       small = c.self.invariant.small;
       worns = subst (λ (ws : List WornAnswer). AreRefusals was.mount.image (logs_in was.mount) 0 ws) (sym c.add.ensures)
           (refusals_more was.mount.image (logs_in was.mount) 0 was.worns a (omega arith) c.self.invariant.worns
-          (refused_now was a c.self.invariant.sound c.self.invariant (users_written was c.front-written.result c.self.invariant c.front-written.ensures) cause));
+          (refused_now was a c.self.invariant.sound c.self.invariant
+          (users_written was c.front-written.result c.self.invariant c.front-written.ensures) cause));
       granted = c.self.invariant.granted;
     }
 
@@ -34,5 +36,6 @@ pub returns : goal.returns
 returns g c =
     let was : SerialView = record { mount = c.self.inside.mount; seen = c.self.inside.seen; own = c.self.inside.own; worns = c.self.inside.worns } in
     ap (λ (ws : List WornAnswer). with_worns was ws) (c.add.ensures
-    ∙ ap (λ n. was.worns ++ worn_row n c.args.count c.args.wanted c.args.have ∷ []) (users_written was c.front-written.result c.self.invariant c.front-written.ensures))
+    ∙ ap (λ n. was.worns ++ worn_row n c.args.count c.args.wanted c.args.have ∷ [])
+    (users_written was c.front-written.result c.self.invariant c.front-written.ensures))
     ∙ ap (λ (s : SerialView). with_worns s (s.worns ++ worn_row (written_by (device s)) c.args.count c.args.wanted c.args.have ∷ [])) c.self.view_is

@@ -18,7 +18,9 @@ returns-clause-closed g c =
     let v : MountView = c.settle.new.self in
     let wanted : c.front-wanted.result.position ≡ taken_in was.mount = ap (λ f. f.position) c.front-wanted.ensures in
     let taken : taken_in v ≡ taken_in was.mount = taken_kept was.mount v c.self.invariant.sound c.settle.ensures.sound c.settle.ensures.same in
-    let refusals : AreRefusals v.image (logs_in v) 0 was.worns = refusals_grown was.mount v c.settle.ensures.same.more 0 was.worns c.self.invariant.sound c.settle.ensures.same.image c.settle.ensures.same.deeds c.self.invariant.worns in
+    let refusals : AreRefusals v.image (logs_in v) 0 was.worns =
+    refusals_grown was.mount v c.settle.ensures.same.more 0 was.worns c.self.invariant.sound c.settle.ensures.same.image c.settle.ensures.same.deeds
+    c.self.invariant.worns in
     let granted = granted_same was.mount v c.self.invariant.sound c.settle.ensures.same c.self.invariant.granted in
     let pad : v.pad ≡ max was.mount.pad (taken_in was.mount) = c.settle.ensures.pad ∙ ap (max was.mount.pad) wanted in (
       v,
@@ -28,21 +30,29 @@ returns-clause-closed g c =
               same = c.settle.ensures.same;
               sound = c.settle.ensures.sound;
               taken = taken;
-              settles = (all_synced was.mount v (front_synced v) c.front-wanted.result.position c.self.invariant.sound c.settle.ensures.sound c.settle.ensures.same wanted refl (w.in-Ok.ensures.synced refl), w.in-Ok.ensures.resting refl);
+              settles = (
+                all_synced was.mount v
+                    (front_synced v) c.front-wanted.result.position c.self.invariant.sound c.settle.ensures.sound c.settle.ensures.same wanted refl
+                    (w.in-Ok.ensures.synced refl),
+                w.in-Ok.ensures.resting refl,
+              );
               refusals = subst (λ (ws : List WornAnswer). AreRefusals v.image (logs_in v) 0 ws) (sym (append-nil was.worns)) refusals;
               granted = granted;
               pad = pad;
               ends = c.ends_synced.ensures;
             })
             | in-Err w ↦
-                let cause = flush_refused v c.front-wanted.result.position w.in-Err.have w.in-Err.ensures.stuck.2 w.in-Err.ensures.stuck.0 w.in-Err.ensures.stuck.1
+                let cause = flush_refused v c.front-wanted.result.position w.in-Err.have w.in-Err.ensures.stuck.2 w.in-Err.ensures.stuck.0
+                w.in-Err.ensures.stuck.1
                 (all_taken was.mount v c.front-wanted.result.position c.self.invariant.sound c.settle.ensures.sound c.settle.ensures.same wanted) in
                 subst (λ r. IsClosed was r v) (sym w.settled-is) (record {
                   same = c.settle.ensures.same;
                   sound = c.settle.ensures.sound;
                   taken = taken;
                   settles = (wanted ∙ sym taken, w.in-Err.ensures.stuck.0, cause);
-                  refusals = refusals_more v.image (logs_in v) 0 was.worns (record { written = length (flat_map lines_of was.own); count = 0; wanted = c.front-wanted.result.position; have = w.in-Err.have }) (omega arith) refusals
+                  refusals = refusals_more v.image (logs_in v) 0 was.worns
+                      (record { written = length (flat_map lines_of was.own); count = 0; wanted = c.front-wanted.result.position; have = w.in-Err.have })
+                      (omega arith) refusals
                       (record { written = takes_later was v c.self.invariant.sound c.self.invariant c.settle.ensures.same; cause = cause });
                   granted = granted;
                   pad = pad;

@@ -306,7 +306,7 @@ returns-then-land-eq0-clause-stands c =
       under_way = refl;
       users = refl;
     } in
-    landed_stands i w unit event knows core _ of c.land.new.self true from to simple st its.is its.waits may its.has into
+    landed_stands i w unit event knows core _ of c.land.new.self true from to simple st its.is (its.waits st.again st.placing) may its.has into
     (read_now i w unit event knows core _ of c.land.new.self true from to simple st its.is its.has into reach chunk)
 
 pub returns-else-land-eq0-clause-stands : goal.returns-else-land-eq0-clause-stands
@@ -354,7 +354,7 @@ returns-else-land-eq0-clause-stands c =
       under_way = refl;
       users = refl;
     } in
-    landed_stands i w unit event knows core _ of c.land.new.self false from to simple st its.is its.waits may its.has into
+    landed_stands i w unit event knows core _ of c.land.new.self false from to simple st its.is (its.waits st.again st.placing) may its.has into
     (read_now i w unit event knows core _ of c.land.new.self false from to simple st its.is its.has into reach chunk)
 
 pub returns-then-land-eq0-clause-own : goal.returns-then-land-eq0-clause-own

@@ -1,7 +1,7 @@
 use Rattle.std.proofs.Common.{ap}
 use Rattle.stripe_placer.specs.Placing.{Placing}
 use Rattle.pblk_core.specs.Made.{IsMadeOn}
-use Rattle.pblk_core.proofs.SimpleLogs.{simple_unbegun}
+use Rattle.core_laws.proofs.SimpleMounts.{simple_unbegun}
 use Rattle.pblk_core.proofs.StandsBegun.{made_on, if_made}
 use Rattle.pblk_core.proofs.target_core.Core.new.Goals as goal
 

@@ -1,0 +1,68 @@
+-- What keeps a mount faultless.
+use Rattle.std.proofs.Common.{◌≡◌, ℕ, suc, Bool, true, false, not, ◌==◌, List, [], ◌∷◌, ◌++◌, if◌then◌else◌, refl, sym, subst, ap}
+use Rattle.std.specs.List.{AllByRecursion, filter_map}
+use Rattle.std.specs.Option.{option_to_list}
+use Rattle.pblk_model.specs.Image.{Image}
+use Rattle.pblk_model.specs.UnitLog.{UnitEvent}
+use Rattle.pblk_world.specs.Events.{Take, Lost, Again, Free, Event, Decides, Does, Logged, Step}
+use Rattle.pblk_world.specs.World.{World, log_of, unit_event_of}
+use Rattle.pblk_world.specs.Legal.{IsLegal, IsLegalStep}
+use Rattle.world_laws.specs.LegalMounts.{decides, is_copying, is_freeing, is_losing}
+use Rattle.core_laws.specs.FaultlessMounts.{AreAnswered, IsFaultlessMount, is_answered}
+use Rattle.core_laws.specs.PlainWorlds.{is_plain_event}
+use Rattle.core_laws.specs.SimpleMounts.{IsSimpleLog, is_stopping}
+use Rattle.core_laws.proofs.SimpleMounts.{simple_after}
+use Rattle.lemmas.proofs.Lists.{all_append}
+use Rattle.lemmas.proofs.Maps.{more}
+
+-- ---- a plain event is none of the four
+
+not_freeing : (e : Event) → is_plain_event e ≡ true → decides is_freeing e ≡ false
+not_freeing (Decides (Free line)) plain = absurd cc
+not_freeing (Decides e) plain = refl
+not_freeing (Does e maker) plain = refl
+
+not_copying : (e : Event) → is_plain_event e ≡ true → decides is_copying e ≡ false
+not_copying (Decides (Take entry mark)) plain = ap not plain
+not_copying (Decides e) plain = refl
+not_copying (Does e maker) plain = refl
+
+not_losing : (e : Event) → is_plain_event e ≡ true → decides is_losing e ≡ false
+not_losing (Decides (Lost unit event)) plain = absurd cc
+not_losing (Decides e) plain = refl
+not_losing (Does e maker) plain = refl
+
+not_stopping : (e : Event) → is_plain_event e ≡ true → decides is_stopping e ≡ false
+not_stopping (Decides (Again unit event)) plain = absurd cc
+not_stopping (Decides e) plain = refl
+not_stopping (Does e maker) plain = refl
+
+-- ---- after a step
+
+simple_then : (s : Step) (log : List Logged) (b : Bool) → is_plain_event s.logged.event ≡ true → IsSimpleLog log → IsSimpleLog (if b then log ++ s.logged ∷ [] else log)
+simple_then s log true plain was = simple_after log s.logged was (not_freeing s.logged.event plain) (not_copying s.logged.event plain)
+    (not_losing s.logged.event plain) (not_stopping s.logged.event plain)
+simple_then s log false plain was = was
+
+abbrev events_of : List Logged → List UnitEvent
+events_of log = filter_map (λ l. unit_event_of l.event) log
+
+one_answered : (e : Event) → is_plain_event e ≡ true → AreAnswered (option_to_list (unit_event_of e))
+one_answered (Decides e) plain = tt
+one_answered (Does e maker) plain = (plain, tt)
+
+answered_after : (s : Step) (log : List Logged) (b : Bool) → is_plain_event s.logged.event ≡ true → AreAnswered (events_of log)
+    → AreAnswered (events_of (if b then log ++ s.logged ∷ [] else log))
+answered_after s log true plain was = subst AreAnswered (sym (more (λ (l : Logged). unit_event_of l.event) log s.logged))
+    (all_append (λ (e : UnitEvent). is_answered e.outcome ≡ true) (events_of log) (option_to_list (unit_event_of s.logged.event)) was (one_answered s.logged.event plain))
+answered_after s log false plain was = was
+
+pub still_faultless : (i : Image) (s : Step) (w : World) → IsFaultlessMount i w → IsLegalStep i (log_of w) s → is_plain_event s.logged.event ≡ true → IsFaultlessMount i (s ∷ w)
+unfolding IsLegal
+still_faultless i s w is step plain = record {
+  simple = record {
+    mount = record { accepted = is.simple.mount.accepted; fit = is.simple.mount.fit; legal = (step, is.simple.mount.legal) };
+    engine = simple_then s (log_of w 0) (s.author == 0) plain is.simple.engine;
+  };
+  answered = λ unit. answered_after s (log_of w (suc unit)) (s.author == suc unit) plain (is.answered unit);
+}
