@@ -15,7 +15,7 @@ use Rattle.pblk_world.specs.World.{Logs}
 use Rattle.pblk_world.specs.EngineLog.{begun, begun_by, LineLife, AsFound, Opened, Freed, life_of, Opening, Taken, takes}
 use Rattle.pblk_world.specs.Fronts.{last_take}
 use Rattle.pblk_world.specs.Lines.{found_image, told_by, told_events, known_image, are_empty}
-use Rattle.pblk_world.specs.Victims.{is_freed, line_of, is_live_in, live, took_from, take_before}
+use Rattle.pblk_world.specs.Victims.{is_freed, line_of, is_live_in, live, landed_line_of, took_from, take_before}
 use Rattle.line_table.specs.declared.row.LineState.{LineState}
 use Rattle.line_table.specs.declared.row.LineState.TheVariants.{Free, Full, Failed, Dead}
 use Rattle.line_table.specs.declared.row.LineState.TheVariants as states
@@ -84,20 +84,24 @@ taker_same i logs new line AsFound freed same = same
 taker_same i logs new line (Opened o) freed same = same
 taker_same i logs new line (Freed past knows) freed same = absurd cc
 
--- nothing was taken, and what was is in the same lines
+-- nothing was taken, what was is in the same lines, and what has landed has landed in the same ones
 pub record KeepsLines (i : Image) (logs new : Logs) : Type 0 where
   pub takes : takes (new 0) ≡ takes (logs 0)
   pub line_of : (lba : ℕ) (t : Option Taken) → line_of i new lba t ≡ line_of i logs lba t
+  pub landed : (lba : ℕ) (t : Option Taken) → landed_line_of i new lba t ≡ landed_line_of i logs lba t
+
+pub live_by : (i : Image) (logs new : Logs) (line : ℕ) → takes (new 0) ≡ takes (logs 0) → ((lba : ℕ) (t : Option Taken) → line_of i new lba t ≡ line_of i logs lba t) → live i new line ≡ live i logs line
+live_by i logs new line same places = live_same i logs new line (λ lba.
+    ap (λ (ts : List Taken). is_of line (line_of i new lba (last_or None (filter (λ (t : Taken). t.mark.lba == lba) ts)))) same
+    ∙ ap (is_of line) (places lba (last_take (logs 0) lba)))
 
 pub live_kept : (i : Image) (logs new : Logs) (line : ℕ) → KeepsLines i logs new → live i new line ≡ live i logs line
-live_kept i logs new line keeps = live_same i logs new line (λ lba.
-    ap (λ (ts : List Taken). is_of line (line_of i new lba (last_or None (filter (λ (t : Taken). t.mark.lba == lba) ts)))) keeps.takes
-    ∙ ap (is_of line) (keeps.line_of lba (last_take (logs 0) lba)))
+live_kept i logs new line keeps = live_by i logs new line keeps.takes keeps.line_of
 
 took_same : (i : Image) (logs new : Logs) (line : ℕ) → KeepsLines i logs new → (t : Taken) → took_from i new line t ≡ took_from i logs line t
 took_same i logs new line keeps t = ap (λ b. nat_lt t.mark.lba i.shape.capacity && b)
-    (ap (λ (ts : List Taken). is_of line (line_of i new t.mark.lba (last_or None (filter (λ (u : Taken). (u.mark.lba == t.mark.lba) && nat_lt u.entry.position t.entry.position) ts)))) keeps.takes
-    ∙ ap (is_of line) (keeps.line_of t.mark.lba (take_before (logs 0) t)))
+    (ap (λ (ts : List Taken). is_of line (landed_line_of i new t.mark.lba (last_or None (filter (λ (u : Taken). (u.mark.lba == t.mark.lba) && nat_lt u.entry.position t.entry.position) ts)))) keeps.takes
+    ∙ ap (is_of line) (keeps.landed t.mark.lba (take_before (logs 0) t)))
 
 pub taker_kept : (i : Image) (logs new : Logs) (line : ℕ) → KeepsLines i logs new → taker_by i new line ≡ taker_by i logs line
 taker_kept i logs new line keeps =

@@ -14,7 +14,7 @@ use Rattle.pblk_world.specs.Lines.{known_image, are_empty, line_data, has_number
 use Rattle.pblk_world.specs.Starts.{have_landed}
 use Rattle.pblk_world.specs.Placing.{line_end}
 use Rattle.pblk_world.specs.Space.{full_data, unplaced_in, addresses, placed_front, ring_limit, position_limit, room}
-use Rattle.pblk_world.specs.Victims.{line_of_position, line_of}
+use Rattle.pblk_world.specs.Victims.{line_of_position, line_of, landed_line, landed_line_of}
 use Rattle.line_table.specs.declared.row.LineState.TheVariants as states
 use Rattle.core_laws.specs.RowsOf.{rows_of}
 use Rattle.line_laws.specs.Known.{AreKnown}
@@ -30,11 +30,15 @@ line_known i logs more is lba None =
     ap₂ (λ (xs : List Logged) (f : Image). option_and_then (λ (r : Record). if is_as_found (life_of xs r.line) then Some r.line else None) (winner (counted f) lba)) is.own is.found
 line_known i logs more is lba (Some t) = ap (λ (xs : List Logged). line_of_position i.shape xs t.entry.position) is.own
 
+landed_known : (i : Image) (logs more : Logs) → AreKnown i logs more → (lba : ℕ) (t : Option Taken) → landed_line_of i more lba t ≡ landed_line_of i logs lba t
+landed_known i logs more is lba None = line_known i logs more is lba None
+landed_known i logs more is lba (Some t) = ap (λ (xs : List Logged). landed_line i.shape xs t.entry.position) is.own
+
 pub rows_known : (i : Image) (logs more : Logs) → AreKnown i logs more → NoneFreed (logs 0) → rows_of i more ≡ rows_of i logs
 rows_known i logs more is freed = rows_stay i logs more (λ m.
     row_kept i logs more m (ap (λ (xs : List Logged). life_of xs m) is.own) (freed m)
     (record { found = is.found; empty = ap (λ (j : Image). are_empty j m) is.image; wide = ap (λ (j : Image). width j m) is.image })
-    (record { takes = ap takes is.own; line_of = λ lba t. line_known i logs more is lba t })
+    (record { takes = ap takes is.own; line_of = λ lba t. line_known i logs more is lba t; landed = λ lba t. landed_known i logs more is lba t })
     (λ o e. ap (λ (xs : List Logged). if has_failed xs o then states.Failed else if have_landed xs o (line_end i.shape o / i.shape.ws_opt) then states.Full else states.Open) is.own))
 
 -- ---- lines

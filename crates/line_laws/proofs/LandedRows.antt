@@ -1,4 +1,4 @@
--- What a stripe that has landed changes in the table.
+-- What stays in the table where a stripe has landed, and with the other events.
 use Rattle.std.proofs.Common.{◌≡◌, ◌≢◌, ℕ, ◌/◌, ◌&&◌, not, nat_eq, Bool, true, false, Some, None, Option, List, [], ◌∷◌, ◌++◌, length, refl, sym, ap, ap₂, ◌∙◌, append-nil}
 use Rattle.std.specs.Prelude.{if◌then◌else◌, map, slice_get, slice_set}
 use Rattle.std.specs.List.{filter, filter_map, cons_option, find, list_all, enumerate_from}
@@ -13,28 +13,17 @@ use Rattle.pblk_model.specs.UnitLog.{UnitEvent, after_outcome, after_event, afte
 use Rattle.pblk_model.specs.Image.{Image, is_online_in}
 use Rattle.pblk_model.specs.Records.{Record}
 use Rattle.pblk_model.specs.Contents.{counted, winner}
-use Rattle.pblk_world.specs.Events.{EngineEvent, Landed, Decides, Logged}
-use Rattle.pblk_world.specs.World.{Logs, unit_event_at}
-use Rattle.pblk_world.specs.EngineLog.{LineLife, AsFound, Opened, Freed, life_of, is_life, is_as_found, Opening, Placed, placements, DidLand, was_lost, has_failed, holds_position, Taken, taken_by, takes, begun_by}
+use Rattle.pblk_world.specs.Events.{EngineEvent, Decides, Logged}
+use Rattle.pblk_world.specs.World.{Logs}
+use Rattle.pblk_world.specs.EngineLog.{LineLife, AsFound, Opened, Freed, life_of, is_life, is_as_found, Placed, placements, answer_by, was_lost, has_landed, holds_position, Taken, taken_by, takes, begun_by}
 use Rattle.pblk_world.specs.Lines.{found_image, told_by, told_events, known_image, chunks_of, is_empty_state}
-use Rattle.pblk_world.specs.Starts.{have_landed}
-use Rattle.pblk_world.specs.Placing.{line_end}
-use Rattle.pblk_world.specs.Victims.{is_in_force, line_of_position, line_of_winner, line_of}
-use Rattle.line_table.specs.declared.row.LineState.TheVariants as states
+use Rattle.pblk_world.specs.Victims.{is_in_force, line_of_position, line_of_winner, line_of, landed_line, landed_line_of}
 use Rattle.core_laws.specs.Stepping.{after}
-use Rattle.core_laws.specs.PlacerOf.{unanswered_on}
-use Rattle.core_laws.specs.RowsOf.{state_in, width_in, taker_in, row_of_line, rows_of}
-use Rattle.core_laws.proofs.Numbers.{opens_at, life_at}
-use Rattle.core_laws.proofs.Answered.{first_unanswered}
-use Rattle.core_laws.proofs.TakenSlots.{find_same}
-use Rattle.line_laws.specs.Changes.{with_row, full_if}
+use Rattle.core_laws.proofs.TakenSlots.{find_same, landed_same}
+use Rattle.core_laws.proofs.Steady.{AreAlike}
 use Rattle.line_laws.specs.OpenAddresses.{keeps_addresses}
-use Rattle.line_laws.specs.Plain.{NoneFreed, NoneFailed}
-use Rattle.line_laws.proofs.Kept.{with_event, KeepsStripes, stripes_kept, also_stripes, lives_kept}
-use Rattle.line_laws.proofs.KeptRows.{KeepsChunks, KeepsLines, live_kept, taker_kept, row_parts, same_row, row_kept}
-use Rattle.line_laws.proofs.OpenAddresses.{failed_kept}
-use Rattle.line_laws.proofs.FirstAnswers.{its_landing, have_landed_beside, have_landed_stays}
-use Rattle.line_laws.proofs.Tables.{row_changes_any}
+use Rattle.line_laws.proofs.Kept.{with_event, KeepsStripes, stripes_kept, also_stripes, lives_kept, alike_kept}
+use Rattle.line_laws.proofs.KeptRows.{KeepsChunks, KeepsLines}
 use Rattle.core_laws.proofs.SteppingLemmas.{found_kept}
 use Rattle.lemmas.proofs.Maps.{one_more}
 use Rattle.lemmas.proofs.Parts.{get_set_other}
@@ -43,7 +32,7 @@ use Rattle.pblk_world.proofs.EngineLogLemmas.{takes_more}
 
 -- ---- entries stay where they are
 
-force_kept : (log new : List Logged) → ((line : ℕ) → life_of new line ≡ life_of log line) → (life : LineLife) (line : ℕ) → is_in_force new life line ≡ is_in_force log life line
+pub force_kept : (log new : List Logged) → ((line : ℕ) → life_of new line ≡ life_of log line) → (life : LineLife) (line : ℕ) → is_in_force new life line ≡ is_in_force log life line
 force_kept log new lives AsFound line = refl
 force_kept log new lives (Opened o) line = ap (is_life o.number) (lives line)
 force_kept log new lives (Freed past knows) line = refl
@@ -70,13 +59,30 @@ line_of_kept i logs e knows keeps none lba None = winner_kept i logs (after logs
 line_of_kept i logs e knows keeps none lba (Some t) =
     position_kept i.shape (logs 0) (after logs e knows 0) (stripes_kept (logs 0) e knows (also_stripes e keeps)) (λ line. lives_kept (logs 0) e knows line keeps) t.entry.position
 
-none_taken : (log : List Logged) (e : EngineEvent) (knows : List ℕ) → taken_by (Decides e) ≡ None → takes (with_event log e knows) ≡ takes log
+-- nor is anything answered
+landed_kept : (s : Shape) (log new : List Logged) → AreAlike log new → ((line : ℕ) → life_of new line ≡ life_of log line) → (position : ℕ) → landed_line s new position ≡ landed_line s log position
+landed_kept s log new alike lives position =
+    ap (λ ps. option_map (λ (p : Placed). p.stripe.line) (find (λ (p : Placed). holds_position s position p && has_landed new p && is_in_force new p.life p.stripe.line) ps)) alike.placements
+    ∙ ap (option_map (λ (p : Placed). p.stripe.line))
+    (find_same (λ (p : Placed). holds_position s position p && has_landed new p && is_in_force new p.life p.stripe.line) (λ (p : Placed). holds_position s position p && has_landed log p && is_in_force log p.life p.stripe.line)
+    (λ p. ap₂ (λ a b. holds_position s position p && a && b) (landed_same log new alike p) (force_kept log new lives p.life p.stripe.line)) (placements log))
+
+pub landed_of_kept : (i : Image) (logs : Logs) (e : EngineEvent) (knows : List ℕ) → keeps_addresses e ≡ true → begun_by knows (Decides e) ≡ None → ((unit : ℕ) → answer_by unit (Decides e) ≡ None) → (lba : ℕ) (t : Option Taken)
+    → landed_line_of i (after logs e knows) lba t ≡ landed_line_of i logs lba t
+landed_of_kept i logs e knows keeps none unanswered lba None =
+    winner_kept i logs (after logs e knows) (found_kept i logs e knows none) (λ line. lives_kept (logs 0) e knows line keeps) lba
+landed_of_kept i logs e knows keeps none unanswered lba (Some t) =
+    landed_kept i.shape (logs 0) (after logs e knows 0) (alike_kept (logs 0) e knows (also_stripes e keeps) unanswered) (λ line. lives_kept (logs 0) e knows line keeps) t.entry.position
+
+pub none_taken : (log : List Logged) (e : EngineEvent) (knows : List ℕ) → taken_by (Decides e) ≡ None → takes (with_event log e knows) ≡ takes log
 none_taken log e knows none = takes_more log (record { event = Decides e; knows = knows }) ∙ ap (λ o. takes log ++ option_to_list o) none ∙ append-nil (takes log)
 
-pub lines_kept : (i : Image) (logs : Logs) (e : EngineEvent) (knows : List ℕ) → keeps_addresses e ≡ true → begun_by knows (Decides e) ≡ None → taken_by (Decides e) ≡ None → KeepsLines i logs (after logs e knows)
-lines_kept i logs e knows keeps none untaken = record {
+pub lines_kept : (i : Image) (logs : Logs) (e : EngineEvent) (knows : List ℕ) → keeps_addresses e ≡ true → begun_by knows (Decides e) ≡ None → taken_by (Decides e) ≡ None → ((unit : ℕ) → answer_by unit (Decides e) ≡ None)
+    → KeepsLines i logs (after logs e knows)
+lines_kept i logs e knows keeps none untaken unanswered = record {
   takes = none_taken (logs 0) e knows untaken;
   line_of = λ lba t. line_of_kept i logs e knows keeps none lba t;
+  landed = λ lba t. landed_of_kept i logs e knows keeps none unanswered lba t;
 }
 
 -- ---- the chunks of the other lines
@@ -121,63 +127,3 @@ keeps_chunks i logs e knows m none beside =
       empty = ap (list_all (λ (c : Chunk). is_empty_state c.state)) same;
       wide = ap (λ cs. length (filter (λ (c : Chunk). is_online_in c.state) cs)) same;
     }
-
--- ---- the rows
-
--- the row of another line
-row_beside : (i : Image) (logs : Logs) (unit event : ℕ) (knows : List ℕ) (p : Placed) (o : Opening) (m : ℕ) → NoneFreed (logs 0) → unanswered_on (logs 0) unit ≡ Some p → p.life ≡ Opened o
-    → life_of (logs 0) p.stripe.line ≡ Opened o → ((e : UnitEvent) → unit_event_at logs unit event ≡ Some e → e.chunk ≡ p.stripe.line) → m ≢ p.stripe.line
-    → row_of_line i (after logs (Landed unit event) knows) m ≡ row_of_line i logs m
-row_beside i logs unit event knows p o m freed first its opened chunk other =
-    let new : Logs = after logs (Landed unit event) knows in
-    let kept : KeepsStripes (logs 0) (new 0) = stripes_kept (logs 0) (Landed unit event) knows refl in
-    row_kept i logs new m (lives_kept (logs 0) (Landed unit event) knows m refl) (freed m)
-    (keeps_chunks i logs (Landed unit event) knows m refl (λ v u told. beside v u told (nat_eq unit v) refl))
-    (lines_kept i logs (Landed unit event) knows refl refl refl)
-    (λ q is. ap₂ (λ a b. if a then states.Failed else if b then states.Full else states.Open) (failed_kept (logs 0) (new 0) kept q)
-    (have_landed_beside (logs 0) (new 0) unit (DidLand event) p q (line_end i.shape q / i.shape.ws_opt) (its_landing (logs 0) unit event knows) (first_unanswered (logs 0) unit p first)
-    (ap (is_life q.number) its ∙ other_number o.number q.number (λ same.
-    other (same_Some m p.stripe.line (sym (life_at (logs 0) m q is).0 ∙ ap (opens_at (logs 0)) (sym same) ∙ (life_at (logs 0) p.stripe.line o opened).0))))))
-  where
-    beside : (v : ℕ) (u : UnitEvent) → told_by logs v (Decides (Landed unit event)) ≡ Some u → (b : Bool) → nat_eq unit v ≡ b → m ≢ u.chunk
-    beside v u told true e = λ same. other (same ∙ chunk u (ap (λ w. unit_event_at logs w event) (eqb-true unit v e) ∙ ap (λ b. if b then unit_event_at logs v event else None) (sym e) ∙ told))
-    beside v u told false e = absurd (none-some u (ap (λ b. if b then unit_event_at logs v event else None) (sym e) ∙ told))
-
--- by whether the line has landed whole now, and whether it had before
-state_now : (failed then_ now : Bool) → failed ≡ false → (then_ ≡ true → now ≡ true) → (wide sectors : ℕ) (taker : Option ℕ)
-    → row_parts (if failed then states.Failed else if now then states.Full else states.Open) wide sectors taker
-    ≡ full_if now (row_parts (if failed then states.Failed else if then_ then states.Full else states.Open) wide sectors taker)
-state_now true then_ now fine stays wide sectors taker = absurd cc
-state_now false true true fine stays wide sectors taker = refl
-state_now false true false fine stays wide sectors taker = absurd (cc (stays refl))
-state_now false false true fine stays wide sectors taker = refl
-state_now false false false fine stays wide sectors taker = refl
-
-row_landed : (i : Image) (logs : Logs) (unit event : ℕ) (knows : List ℕ) (line : ℕ) (o : Opening) → NoneFailed (logs 0) → life_of (logs 0) line ≡ Opened o
-    → row_of_line i (after logs (Landed unit event) knows) line ≡ full_if (have_landed (after logs (Landed unit event) knows 0) o (line_end i.shape o / i.shape.ws_opt)) (row_of_line i logs line)
-row_landed i logs unit event knows line o fine opened =
-    let new : Logs = after logs (Landed unit event) knows in
-    let kept : KeepsStripes (logs 0) (new 0) = stripes_kept (logs 0) (Landed unit event) knows refl in
-    let lines : KeepsLines i logs new = lines_kept i logs (Landed unit event) knows refl refl refl in
-    let n : ℕ = line_end i.shape o / i.shape.ws_opt in
-    let life : life_of (new 0) line ≡ Opened o = lives_kept (logs 0) (Landed unit event) knows line refl ∙ opened in
-    same_row (state_in i new line (life_of (new 0) line)) (if has_failed (logs 0) o then states.Failed else if have_landed (new 0) o n then states.Full else states.Open)
-    (width_in i new line (life_of (new 0) line)) o.start.width (row_of_line i new line).live (row_of_line i logs line).live (taker_in i new line (life_of (new 0) line)) (row_of_line i logs line).taker
-    (ap (state_in i new line) life ∙ ap (λ b. if b then states.Failed else if have_landed (new 0) o n then states.Full else states.Open) (failed_kept (logs 0) (new 0) kept o))
-    (ap (width_in i new line) life)
-    (live_kept i logs new line lines)
-    (ap (taker_in i new line) life ∙ taker_kept i logs new line lines ∙ sym (ap (taker_in i logs line) opened))
-    ∙ state_now (has_failed (logs 0) o) (have_landed (logs 0) o n) (have_landed (new 0) o n) (fine o) (have_landed_stays (logs 0) unit event knows o n)
-    o.start.width (row_of_line i logs line).live (row_of_line i logs line).taker
-    ∙ ap (full_if (have_landed (new 0) o n))
-    (sym (same_row (row_of_line i logs line).state (state_in i logs line (Opened o)) (row_of_line i logs line).width o.start.width (row_of_line i logs line).live (row_of_line i logs line).live
-    (row_of_line i logs line).taker (row_of_line i logs line).taker (ap (state_in i logs line) opened) (ap (width_in i logs line) opened) refl refl))
-
-pub rows_landed : (i : Image) (logs : Logs) (unit event : ℕ) (knows : List ℕ) (p : Placed) (o : Opening) → NoneFreed (logs 0) → NoneFailed (logs 0) → unanswered_on (logs 0) unit ≡ Some p → p.life ≡ Opened o
-    → life_of (logs 0) p.stripe.line ≡ Opened o → ((e : UnitEvent) → unit_event_at logs unit event ≡ Some e → e.chunk ≡ p.stripe.line)
-    → rows_of i (after logs (Landed unit event) knows)
-    ≡ with_row p.stripe.line (full_if (have_landed (after logs (Landed unit event) knows 0) o (line_end i.shape o / i.shape.ws_opt))) (rows_of i logs)
-rows_landed i logs unit event knows p o freed fine first its opened chunk =
-    row_changes_any i logs (after logs (Landed unit event) knows) p.stripe.line (full_if (have_landed (after logs (Landed unit event) knows 0) o (line_end i.shape o / i.shape.ws_opt)))
-    (row_landed i logs unit event knows p.stripe.line o fine opened)
-    (λ m other. row_beside i logs unit event knows p o m freed first its opened chunk other)

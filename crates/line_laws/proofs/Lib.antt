@@ -18,6 +18,7 @@ pub mod EntryRows
 pub mod PlacedEntryRows
 pub mod PlacedPlaces
 pub mod PlacedRows
+pub mod LandedEntries
 pub mod LiveCounts
 pub mod Orders
 pub mod IdleUnits

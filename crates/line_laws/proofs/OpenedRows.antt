@@ -18,7 +18,7 @@ use Rattle.pblk_world.specs.EngineLog.{Begun, LineLife, AsFound, Opened, Freed, 
 use Rattle.pblk_world.specs.Lines.{found_image, known_image, line_data, are_empty, has_number, is_free_line}
 use Rattle.pblk_world.specs.Opening.{MayOpen}
 use Rattle.pblk_world.specs.Placing.{line_end}
-use Rattle.pblk_world.specs.Victims.{is_in_force, line_of_position, line_of_winner, line_of, took_from, take_before}
+use Rattle.pblk_world.specs.Victims.{is_in_force, line_of_winner, line_of, landed_line_of, took_from, take_before}
 use Rattle.pblk_world.proofs.Appending.{life_more}
 use Rattle.line_table.specs.declared.row.LineState.{LineState}
 use Rattle.line_table.specs.declared.row.LineState.TheVariants as states
@@ -28,7 +28,8 @@ use Rattle.core_laws.specs.RowsOf.{state_in, width_in, taker_by, taker_in, row_o
 use Rattle.core_laws.proofs.Opening.{placed_before}
 use Rattle.line_laws.specs.Changes.{with_row}
 use Rattle.line_laws.specs.Plain.{NoneFreed}
-use Rattle.line_laws.proofs.Kept.{with_event, KeepsStripes, stripes_kept, alike_kept, have_landed_alike}
+use Rattle.core_laws.proofs.TakenSlots.{landed_same}
+use Rattle.line_laws.proofs.Kept.{with_event, KeepsStripes, stripes_kept, placements_kept, alike_kept, have_landed_alike}
 use Rattle.line_laws.proofs.KeptRows.{known_kept, KeepsLines, live_kept, same_row, row_kept}
 use Rattle.line_laws.proofs.OpenAddresses.{failed_kept}
 use Rattle.line_laws.proofs.Tables.{row_changes_any}
@@ -61,26 +62,26 @@ no_force log (Opened o) line closed = go (life_of log line) closed
     go (Freed past knows) e = refl
 no_force log (Freed past knows) line closed = refl
 
-in_force : Shape → List Logged → ℕ → Placed → Bool
-in_force s log position p = holds_position s position p && not (was_lost log p) && is_in_force log p.life p.stripe.line
+-- a stripe that passes a test, in force
+in_force : List Logged → (Placed → Bool) → Placed → Bool
+in_force log test p = test p && is_in_force log p.life p.stripe.line
 
-position_elsewhere : (i : Image) (logs : Logs) (line position : ℕ) → is_opened (life_of (logs 0) line) ≡ false → is_of line (line_of_position i.shape (logs 0) position) ≡ false
+stripe_elsewhere : (log : List Logged) (test : Placed → Bool) (line : ℕ) → is_opened (life_of log line) ≡ false
+    → is_of line (option_map (λ (p : Placed). p.stripe.line) (find (λ (p : Placed). test p && is_in_force log p.life p.stripe.line) (placements log))) ≡ false
 unfolding in_force
-position_elsewhere i logs line position closed = go (find (in_force i.shape (logs 0) position) (placements (logs 0))) refl
+stripe_elsewhere log test line closed = go (find (in_force log test) (placements log)) refl
   where
-    go : (o : Option Placed) → find (in_force i.shape (logs 0) position) (placements (logs 0)) ≡ o → is_of line (option_map (λ (p : Placed). p.stripe.line) o) ≡ false
+    go : (o : Option Placed) → find (in_force log test) (placements log) ≡ o → is_of line (option_map (λ (p : Placed). p.stripe.line) o) ≡ false
     go None e = refl
     go (Some p) e = there (nat_eq p.stripe.line line) refl
       where
         there : (b : Bool) → nat_eq p.stripe.line line ≡ b → b ≡ false
         there false f = refl
         there true f =
-            let test : (holds_position i.shape position p && not (was_lost (logs 0) p) && is_in_force (logs 0) p.life p.stripe.line) ≡ true =
-            (found_passes (in_force i.shape (logs 0) position) (placements (logs 0)) p e).0 in
-            let forced : is_in_force (logs 0) p.life p.stripe.line ≡ true =
-            (both (holds_position i.shape position p && not (was_lost (logs 0) p)) (is_in_force (logs 0) p.life p.stripe.line) test).1 in
-            let not_it : is_in_force (logs 0) p.life p.stripe.line ≡ false =
-            no_force (logs 0) p.life p.stripe.line (ap (λ n. is_opened (life_of (logs 0) n)) (eqb-true p.stripe.line line f) ∙ closed) in
+            let passes : (test p && is_in_force log p.life p.stripe.line) ≡ true = (found_passes (in_force log test) (placements log) p e).0 in
+            let forced : is_in_force log p.life p.stripe.line ≡ true = (both (test p) (is_in_force log p.life p.stripe.line) passes).1 in
+            let not_it : is_in_force log p.life p.stripe.line ≡ false =
+            no_force log p.life p.stripe.line (ap (λ n. is_opened (life_of log n)) (eqb-true p.stripe.line line f) ∙ closed) in
             absurd (cc (sym forced ∙ not_it))
 
 winner_elsewhere : (i : Image) (logs : Logs) (line lba : ℕ) → is_free_line i logs line ≡ true → is_of line (line_of_winner i logs lba) ≡ false
@@ -103,9 +104,10 @@ winner_elsewhere i logs line lba free = go (winner (counted (found_image i logs)
                 let none : is_some (start_of (found_image i logs) line) ≡ false = free_start i logs line free (ap (life_of (logs 0)) (sym same) ∙ f) in
                 absurd (cc (sym some ∙ none))
 
-pub not_in_free : (i : Image) (logs : Logs) (line lba : ℕ) (t : Option Taken) → is_free_line i logs line ≡ true → is_of line (line_of i logs lba t) ≡ false
-not_in_free i logs line lba None free = winner_elsewhere i logs line lba free
-not_in_free i logs line lba (Some t) free = position_elsewhere i logs line t.entry.position (free_unopened i logs line free)
+none_landed_in_free : (i : Image) (logs : Logs) (line lba : ℕ) (t : Option Taken) → is_free_line i logs line ≡ true → is_of line (landed_line_of i logs lba t) ≡ false
+none_landed_in_free i logs line lba None free = winner_elsewhere i logs line lba free
+none_landed_in_free i logs line lba (Some t) free =
+    stripe_elsewhere (logs 0) (λ p. holds_position i.shape t.entry.position p && has_landed (logs 0) p) line (free_unopened i logs line free)
 
 -- ---- the lines of sectors stay
 
@@ -136,16 +138,18 @@ force_same log line start knows (Opened o) other closed before = go (nat_eq othe
         ∙ other_number (length log) o.number (λ f. eqb-false o.number (length log) before (sym f))
         ∙ sym (no_force log (Opened o) other (ap (λ n. is_opened (life_of log n)) same ∙ closed))
 
-position_same : (s : Shape) (log : List Logged) (line : ℕ) (start : StartRecord) (knows : List ℕ) (position : ℕ) → is_opened (life_of log line) ≡ false
-    → line_of_position s (with_event log (Open line start) knows) position ≡ line_of_position s log position
-position_same s log line start knows position closed =
+-- of a stripe that passes a test as it did
+stripe_same : (log : List Logged) (line : ℕ) (start : StartRecord) (knows : List ℕ) (old now : Placed → Bool) → is_opened (life_of log line) ≡ false → ((p : Placed) → now p ≡ old p)
+    → option_map (λ (p : Placed). p.stripe.line)
+    (find (λ (p : Placed). now p && is_in_force (with_event log (Open line start) knows) p.life p.stripe.line) (placements (with_event log (Open line start) knows)))
+    ≡ option_map (λ (p : Placed). p.stripe.line) (find (λ (p : Placed). old p && is_in_force log p.life p.stripe.line) (placements log))
+stripe_same log line start knows old now closed same =
     let new : List Logged = with_event log (Open line start) knows in
-    let kept : KeepsStripes log new = stripes_kept log (Open line start) knows refl in
-    ap (λ ps. option_map (λ (p : Placed). p.stripe.line) (find (λ (p : Placed). holds_position s position p && not (was_lost new p) && is_in_force new p.life p.stripe.line) ps)) kept.placements
+    ap (λ ps. option_map (λ (p : Placed). p.stripe.line) (find (λ (p : Placed). now p && is_in_force new p.life p.stripe.line) ps)) (placements_kept log (Open line start) knows refl)
     ∙ ap (option_map (λ (p : Placed). p.stripe.line))
-    (find_agree (λ (p : Placed). is_life (length log) p.life ≡ false) (λ (p : Placed). holds_position s position p && not (was_lost new p) && is_in_force new p.life p.stripe.line)
-    (λ (p : Placed). holds_position s position p && not (was_lost log p) && is_in_force log p.life p.stripe.line)
-    (λ p before. ap₂ (λ a b. holds_position s position p && not a && b) (kept.losses p) (force_same log line start knows p.life p.stripe.line closed before))
+    (find_agree (λ (p : Placed). is_life (length log) p.life ≡ false) (λ (p : Placed). now p && is_in_force new p.life p.stripe.line)
+    (λ (p : Placed). old p && is_in_force log p.life p.stripe.line)
+    (λ p before. ap₂ (λ a b. a && b) (same p) (force_same log line start knows p.life p.stripe.line closed before))
     (placements log) (placed_before log (length log) (le_refl (length log))))
 
 winner_same : (i : Image) (logs : Logs) (line : ℕ) (start : StartRecord) (knows : List ℕ) (lba : ℕ) → is_free_line i logs line ≡ true
@@ -180,11 +184,23 @@ lines_same : (i : Image) (logs : Logs) (line : ℕ) (start : StartRecord) (knows
 lines_same i logs line start knows free = record {
   takes = takes_more (logs 0) (record { event = Decides (Open line start); knows = knows }) ∙ append-nil (takes (logs 0));
   line_of = λ lba t. each lba t;
+  landed = λ lba t. each_landed lba t;
 }
   where
+    new : List Logged
+    new = with_event (logs 0) (Open line start) knows
+
     each : (lba : ℕ) (t : Option Taken) → line_of i (after logs (Open line start) knows) lba t ≡ line_of i logs lba t
     each lba None = winner_same i logs line start knows lba free
-    each lba (Some t) = position_same i.shape (logs 0) line start knows t.entry.position (free_unopened i logs line free)
+    each lba (Some t) = stripe_same (logs 0) line start knows (λ p. holds_position i.shape t.entry.position p && not (was_lost (logs 0) p))
+        (λ p. holds_position i.shape t.entry.position p && not (was_lost new p)) (free_unopened i logs line free)
+        (λ p. ap (λ b. holds_position i.shape t.entry.position p && not b) (KeepsStripes.losses (stripes_kept (logs 0) (Open line start) knows refl) p))
+
+    each_landed : (lba : ℕ) (t : Option Taken) → landed_line_of i (after logs (Open line start) knows) lba t ≡ landed_line_of i logs lba t
+    each_landed lba None = winner_same i logs line start knows lba free
+    each_landed lba (Some t) = stripe_same (logs 0) line start knows (λ p. holds_position i.shape t.entry.position p && has_landed (logs 0) p)
+        (λ p. holds_position i.shape t.entry.position p && has_landed new p) (free_unopened i logs line free)
+        (λ p. ap (λ b. holds_position i.shape t.entry.position p && b) (landed_same (logs 0) new (alike_kept (logs 0) (Open line start) knows refl (λ unit. refl)) p))
 
 -- ---- the row of the line
 
@@ -244,8 +260,8 @@ no_taker : (i : Image) (logs new : Logs) (line : ℕ) → is_free_line i logs li
 no_taker i logs new line free keeps =
     ap (λ (ts : List Taken). option_map (λ (t : Taken). t.entry.position) (last_or None ts))
     (filter_none (took_from i new line) (takes (new 0)) (all_of (λ t. took_from i new line t ≡ false)
-    (λ t. and_false (nat_lt t.mark.lba i.shape.capacity) (is_of line (line_of i new t.mark.lba (take_before (new 0) t)))
-    (ap (is_of line) (keeps.line_of t.mark.lba (take_before (new 0) t)) ∙ not_in_free i logs line t.mark.lba (take_before (new 0) t) free)) (takes (new 0))))
+    (λ t. and_false (nat_lt t.mark.lba i.shape.capacity) (is_of line (landed_line_of i new t.mark.lba (take_before (new 0) t)))
+    (ap (is_of line) (keeps.landed t.mark.lba (take_before (new 0) t)) ∙ none_landed_in_free i logs line t.mark.lba (take_before (new 0) t) free)) (takes (new 0))))
 
 pub rows_opened : (i : Image) (logs : Logs) (begun : Begun) (line : ℕ) (start : StartRecord) (knows : List ℕ) → IsDriveShape i.shape → NoneFreed (logs 0) → MayOpen i logs begun line start
     → rows_of i (after logs (Open line start) knows) ≡ with_row line (turned states.Open start.width) (rows_of i logs)

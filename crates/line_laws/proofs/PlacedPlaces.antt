@@ -16,15 +16,16 @@ use Rattle.pblk_model.specs.StartRecord.{start_bytes}
 use Rattle.pblk_model.specs.EndRecord.{end_bytes}
 use Rattle.pblk_world.specs.Events.{Stripe, Place, Decides, Logged}
 use Rattle.pblk_world.specs.World.{Logs}
-use Rattle.pblk_world.specs.EngineLog.{LineLife, AsFound, Opened, Freed, is_life, life_of, Opening, Placed, placements, was_lost, is_loss, bears_position, holds_position, Taken, block_of_taken}
+use Rattle.pblk_world.specs.EngineLog.{LineLife, AsFound, Opened, Freed, is_life, life_of, Opening, Placed, placements, was_lost, is_loss, has_landed, is_land, bears_position, holds_position, Taken, block_of_taken}
 use Rattle.pblk_world.specs.Placing.{next_address, end_address, record_blocks, end_record, IsStart, IsData, IsEnd, IsPad}
 use Rattle.pblk_world.specs.Fronts.{waiting}
-use Rattle.pblk_world.specs.Victims.{is_in_force, line_of_position, line_of}
+use Rattle.pblk_world.specs.Victims.{is_in_force, line_of_position, line_of, landed_line, landed_line_of}
 use Rattle.pblk_world.proofs.Appending.{life_more}
 use Rattle.core_laws.specs.Stepping.{after}
 use Rattle.core_laws.proofs.Engine.{placements_before}
 use Rattle.core_laws.proofs.Placing.{with_place, new_placed, IsPlacing, placements_now, answer_now, new_unanswered}
 use Rattle.core_laws.proofs.PlacedPositions.{unnamed as unnamed_mark}
+use Rattle.core_laws.proofs.Stripes.{find_fails_last}
 use Rattle.line_laws.proofs.LandedRows.{winner_kept}
 use Rattle.line_laws.proofs.NextTakes.{is_at}
 use Rattle.line_laws.proofs.PlacedEntryRows.{with_entries, entries_are}
@@ -33,7 +34,7 @@ use Rattle.lemmas.proofs.Lists.{all_replicated}
 use Rattle.lemmas.proofs.Maps.{find_agree}
 use Rattle.lemmas.proofs.Options.{none_of_map}
 use Rattle.lemmas.proofs.Parts.{all_dropped, all_taken}
-use Rattle.lemmas.proofs.Tests.{lt_true, or_no, other_number, same_number}
+use Rattle.lemmas.proofs.Tests.{and_false, lt_true, not_first, or_no, other_number, same_number}
 
 -- ---- which positions the blocks of a stripe bear
 
@@ -59,7 +60,7 @@ part_unnamed s seq count bytes from to small =
     all_taken (IsUnnamed s) (to - from) (drop from (record_blocks s seq count bytes)) (all_dropped (IsUnnamed s) from (record_blocks s seq count bytes) (records_unnamed s s.sector seq count bytes small))
 
 -- a stripe bears just the positions of these entries
-pub BearsThese : Shape → Stripe → List Taken → Type 0
+unfoldable pub BearsThese : Shape → Stripe → List Taken → Type 0
 BearsThese s stripe ts = (q : ℕ) → list_any (bears_position s q) stripe.blocks ≡ list_any (λ t. q == t.entry.position) ts
 
 pub turned_round : (m n : ℕ) → (m == n) ≡ (n == m)
@@ -143,15 +144,15 @@ position_now s log stripe knows o q is nowhere =
     and_true true = refl
     and_true false = refl
 
-any_nowhere : (s : Shape) (log : List Logged) (q : ℕ) (ts : List Taken) → AllByRecursion (λ t. line_of_position s log t.entry.position ≡ None) ts → list_any (λ t. q == t.entry.position) ts ≡ true → line_of_position s log q ≡ None
-any_nowhere s log q [] all e = absurd cc
-any_nowhere s log q (t ∷ ts) all e = go (nat_eq q t.entry.position) refl e (λ f. any_nowhere s log q ts all.1 f)
+pub any_nowhere : (place : ℕ → Option ℕ) (q : ℕ) (ts : List Taken) → AllByRecursion (λ t. place t.entry.position ≡ None) ts → list_any (λ t. q == t.entry.position) ts ≡ true → place q ≡ None
+any_nowhere place q [] all e = absurd cc
+any_nowhere place q (t ∷ ts) all e = go (nat_eq q t.entry.position) refl e (λ f. any_nowhere place q ts all.1 f)
   where
-    go : (b : Bool) → nat_eq q t.entry.position ≡ b → (b || list_any (λ u. q == u.entry.position) ts) ≡ true → (list_any (λ u. q == u.entry.position) ts ≡ true → line_of_position s log q ≡ None) → line_of_position s log q ≡ None
-    go true f h rest = ap (line_of_position s log) (eqb-true q t.entry.position f) ∙ all.0
+    go : (b : Bool) → nat_eq q t.entry.position ≡ b → (b || list_any (λ u. q == u.entry.position) ts) ≡ true → (list_any (λ u. q == u.entry.position) ts ≡ true → place q ≡ None) → place q ≡ None
+    go true f h rest = ap place (eqb-true q t.entry.position f) ∙ all.0
     go false f h rest = rest h
 
-none_at : (ts : List Taken) → list_any (λ t. is_at t.entry.position None) ts ≡ false
+pub none_at : (ts : List Taken) → list_any (λ t. is_at t.entry.position None) ts ≡ false
 none_at [] = refl
 none_at (t ∷ ts) = none_at ts
 
@@ -163,6 +164,28 @@ places_now i logs stripe knows o ts is bears nowhere lba None =
     winner_kept i logs (after logs (Place stripe) knows) (found_kept i logs (Place stripe) knows refl) (λ line. life_more (logs 0) (record { event = Decides (Place stripe); knows = knows }) line) lba
     ∙ sym (entries_are stripe.line ts (line_of i logs) lba None ∙ ap (λ b. if b then Some stripe.line else line_of i logs lba None) (none_at ts))
 places_now i logs stripe knows o ts is bears nowhere lba (Some u) =
-    position_now i.shape (logs 0) stripe knows o u.entry.position is (λ e. any_nowhere i.shape (logs 0) u.entry.position ts nowhere (sym (bears u.entry.position) ∙ e))
+    position_now i.shape (logs 0) stripe knows o u.entry.position is (λ e. any_nowhere (line_of_position i.shape (logs 0)) u.entry.position ts nowhere (sym (bears u.entry.position) ∙ e))
     ∙ ap (λ b. if b then Some stripe.line else line_of_position i.shape (logs 0) u.entry.position) (bears u.entry.position)
     ∙ sym (entries_are stripe.line ts (line_of i logs) lba (Some u))
+
+-- what has landed is where it was
+
+landed_same_line : (s : Shape) (log : List Logged) (stripe : Stripe) (knows : List ℕ) (o : Opening) (q : ℕ) → IsPlacing log stripe o → landed_line s (with_place log stripe knows) q ≡ landed_line s log q
+landed_same_line s log stripe knows o q is =
+    let new : List Logged = with_place log stripe knows in
+    let p : Placed = new_placed log stripe o in
+    ap (λ ps. option_map (λ (r : Placed). r.stripe.line) (find (λ (r : Placed). holds_position s q r && has_landed new r && is_in_force new r.life r.stripe.line) ps)) (placements_now log stripe knows o is.opened)
+    ∙ ap (option_map (λ (r : Placed). r.stripe.line))
+    (find_fails_last (λ (r : Placed). holds_position s q r && has_landed new r && is_in_force new r.life r.stripe.line) (placements log) p
+    (not_first (holds_position s q p && has_landed new p) (is_in_force new p.life p.stripe.line)
+    (and_false (holds_position s q p) (has_landed new p) (ap is_land (new_unanswered log stripe knows o is))))
+    ∙ find_agree (λ (r : Placed). r.number < length log) (λ (r : Placed). holds_position s q r && has_landed new r && is_in_force new r.life r.stripe.line)
+    (λ (r : Placed). holds_position s q r && has_landed log r && is_in_force log r.life r.stripe.line)
+    (λ r before. ap₂ (λ a b. holds_position s q r && is_land a && b) (answer_now log stripe knows o r is.opened (le_of_lt before)) (force_now log stripe knows r.life r.stripe.line))
+    (placements log) (placements_before log))
+
+pub landed_placed : (i : Image) (logs : Logs) (stripe : Stripe) (knows : List ℕ) (o : Opening) → IsPlacing (logs 0) stripe o → (lba : ℕ) (t : Option Taken)
+    → landed_line_of i (after logs (Place stripe) knows) lba t ≡ landed_line_of i logs lba t
+landed_placed i logs stripe knows o is lba None =
+    winner_kept i logs (after logs (Place stripe) knows) (found_kept i logs (Place stripe) knows refl) (λ line. life_more (logs 0) (record { event = Decides (Place stripe); knows = knows }) line) lba
+landed_placed i logs stripe knows o is lba (Some u) = landed_same_line i.shape (logs 0) stripe knows o u.entry.position is

@@ -15,7 +15,7 @@ use Rattle.pblk_world.specs.Fronts.{first_position, times_placed, times_lost, wa
 use Rattle.pblk_world.specs.Lines.{known_image, are_empty}
 use Rattle.pblk_world.specs.Starts.{have_landed}
 use Rattle.pblk_world.specs.Placing.{IsStart, IsData, IsEnd, IsPad, line_end}
-use Rattle.pblk_world.specs.Victims.{line_of_position, line_of}
+use Rattle.pblk_world.specs.Victims.{line_of_position, line_of, landed_line_of}
 use Rattle.pblk_world.proofs.Appending.{life_more}
 use Rattle.line_table.specs.declared.row.LineState.TheVariants as states
 use Rattle.line_table.specs.declared.row.Row.{Row}
@@ -32,7 +32,7 @@ use Rattle.line_laws.proofs.NextTakes.{IsRising, rising_by}
 use Rattle.line_laws.proofs.EntryRows.{Places, last_of, live_with, taker_with, IsNowhere}
 use Rattle.line_laws.proofs.PlacedAddresses.{losses_now}
 use Rattle.line_laws.proofs.PlacedEntryRows.{row_with, IsEntry, with_entries, entries_placed, entry_at}
-use Rattle.line_laws.proofs.PlacedPlaces.{BearsThese, IsNamed, data_bears, others_bear, places_now}
+use Rattle.line_laws.proofs.PlacedPlaces.{BearsThese, IsNamed, data_bears, others_bear, places_now, landed_placed}
 use Rattle.line_laws.proofs.Tables.{table_of, tables_agree}
 use Rattle.line_laws.proofs.TakenRows.{in_no_line, taker_is}
 use Rattle.core_laws.proofs.SteppingLemmas.{found_kept}
@@ -105,16 +105,20 @@ landed_now log stripe knows o other n is = go (is_life other.number (Opened o)) 
 
 -- ---- rows by where the entries are
 
-table_was : (i : Image) (logs : Logs) → NoneFreed (logs 0) → rows_of i logs ≡ table_of i.shape (row_with i logs (line_of i logs))
-table_was i logs freed = tables_agree i.shape (row_with i logs (line_of i logs)) (row_of_line i logs) (λ m.
+pub table_was : (i : Image) (logs : Logs) → NoneFreed (logs 0) → rows_of i logs ≡ table_of i.shape (row_with i logs (line_of i logs) (landed_line_of i logs))
+table_was i logs freed = tables_agree i.shape (row_with i logs (line_of i logs) (landed_line_of i logs)) (row_of_line i logs) (λ m.
     same_row (state_of i logs m) (state_of i logs m) (width_in i logs m (life_of (logs 0) m)) (width_in i logs m (life_of (logs 0) m)) (row_of_line i logs m).live (row_of_line i logs m).live
     (taker_in i logs m (life_of (logs 0) m)) (taker_by i logs m) refl refl refl (taker_is i logs m (life_of (logs 0) m) (freed m)))
 
 table_now : (i : Image) (logs : Logs) (stripe : Stripe) (knows : List ℕ) (o : Opening) (places : Places) → IsPlacing (logs 0) stripe o → NoneFreed (logs 0)
-    → line_of i (after logs (Place stripe) knows) ≡ places → rows_of i (after logs (Place stripe) knows) ≡ table_of i.shape (row_with i logs places)
-table_now i logs stripe knows o places is freed same = tables_agree i.shape (row_with i logs places) (row_of_line i (after logs (Place stripe) knows)) (λ m. each m)
+    → line_of i (after logs (Place stripe) knows) ≡ places → rows_of i (after logs (Place stripe) knows) ≡ table_of i.shape (row_with i logs places (landed_line_of i logs))
+table_now i logs stripe knows o places is freed same =
+    tables_agree i.shape (row_with i logs places (landed_line_of i logs)) (row_of_line i (after logs (Place stripe) knows)) (λ m. each m)
   where
-    each : (m : ℕ) → row_of_line i (after logs (Place stripe) knows) m ≡ row_with i logs places m
+    landed_is : landed_line_of i (after logs (Place stripe) knows) ≡ landed_line_of i logs
+    landed_is = λ k lba t. landed_placed i logs stripe knows o is lba t k
+
+    each : (m : ℕ) → row_of_line i (after logs (Place stripe) knows) m ≡ row_with i logs places (landed_line_of i logs) m
     each m =
         let new : Logs = after logs (Place stripe) knows in
         let life : life_of (new 0) m ≡ life_of (logs 0) m = life_more (logs 0) (record { event = Decides (Place stripe); knows = knows }) m in
@@ -122,12 +126,12 @@ table_now i logs stripe knows o places is freed same = tables_agree i.shape (row
         let known : known_image i new ≡ known_image i logs = known_kept i logs (Place stripe) knows refl (λ unit. refl) in
         let chunks : KeepsChunks i logs new m = record { found = found_kept i logs (Place stripe) knows refl; empty = ap (λ (j : Image). are_empty j m) known; wide = ap (λ (j : Image). width j m) known } in
         same_row (state_in i new m (life_of (new 0) m)) (state_of i logs m) (width_in i new m (life_of (new 0) m)) (width_in i logs m (life_of (logs 0) m))
-        (row_of_line i new m).live (live_with i.shape.capacity (takes (logs 0)) places m) (taker_in i new m (life_of (new 0) m)) (taker_with i.shape.capacity (takes (logs 0)) places m)
+        (row_of_line i new m).live (live_with i.shape.capacity (takes (logs 0)) places m) (taker_in i new m (life_of (new 0) m)) (taker_with i.shape.capacity (takes (logs 0)) (landed_line_of i logs) m)
         (ap (state_in i new m) life ∙ state_same i logs new m (life_of (logs 0) m) chunks (freed m)
         (λ p e. ap₂ (λ a b. if a then states.Failed else if b then states.Full else states.Open) (failed_now (logs 0) stripe knows o p is) (landed_now (logs 0) stripe knows o p (line_end i.shape p / i.shape.ws_opt) is)))
         (ap (width_in i new m) life ∙ width_same i logs new m (life_of (logs 0) m) chunks (freed m))
         (ap₂ (λ ts ps. live_with i.shape.capacity ts ps m) taken_same same)
-        (ap (taker_in i new m) life ∙ taker_is i new m (life_of (logs 0) m) (freed m) ∙ ap₂ (λ ts ps. taker_with i.shape.capacity ts ps m) taken_same same)
+        (ap (taker_in i new m) life ∙ taker_is i new m (life_of (logs 0) m) (freed m) ∙ ap₂ (λ ts ps. taker_with i.shape.capacity ts ps m) taken_same landed_is)
 
 rows_by : (i : Image) (logs : Logs) (stripe : Stripe) (knows : List ℕ) (o : Opening) (ts : List Taken) → IsPlacing (logs 0) stripe o → NoneFreed (logs 0) → BearsThese i.shape stripe ts → IsRising (takes (logs 0)) → IsRising ts
     → AllByRecursion (IsEntry i.shape.capacity (takes (logs 0))) ts → AllByRecursion (λ t. IsUnplaced i.shape (logs 0) t.entry.position) ts
@@ -137,7 +141,7 @@ rows_by i logs stripe knows o ts is freed bears rise own all unplaced =
     all_imply (λ (t : Taken). IsUnplaced i.shape (logs 0) t.entry.position) (λ (t : Taken). line_of_position i.shape (logs 0) t.entry.position ≡ None) (λ t h. in_no_line i.shape (logs 0) t.entry.position h) ts unplaced in
     let same : line_of i (after logs (Place stripe) knows) ≡ with_entries stripe.line ts (line_of i logs) = λ k lba t. places_now i logs stripe knows o ts is bears nowhere lba t k in
     table_now i logs stripe knows o (with_entries stripe.line ts (line_of i logs)) is freed same
-    ∙ entries_placed i logs stripe.line ts (line_of i logs) rise own all
+    ∙ entries_placed i logs stripe.line ts (line_of i logs) (landed_line_of i logs) rise own all
     (all_imply (λ (t : Taken). line_of_position i.shape (logs 0) t.entry.position ≡ None) (λ (t : Taken). IsNowhere t.entry.position (line_of i logs))
     (λ t h. λ lba u e. ap (line_of_position i.shape (logs 0)) e ∙ h) ts nowhere)
     ∙ ap (λ table. place_entries (logs 0) stripe.line table ts) (sym (table_was i logs freed))
@@ -224,8 +228,8 @@ pub live_between : (i : Image) (logs : Logs) (line n : ℕ) → NoneFreed (logs 
     → EachRow (place_entries (logs 0) line (rows_of i logs) (take n (waiting i.shape (logs 0)))) (λ m row. row.live ≤ i.shape.capacity)
 live_between i logs line n freed fine numbered sectors =
     let rise : IsRising (takes (logs 0)) = rising_by (first_position (logs 0)) (length (takes (logs 0))) (takes (logs 0)) numbered in
-    let same : table_of i.shape (row_with i logs (with_entries line (take n (waiting i.shape (logs 0))) (line_of i logs))) ≡ place_entries (logs 0) line (rows_of i logs) (take n (waiting i.shape (logs 0))) =
-    entries_placed i logs line (take n (waiting i.shape (logs 0))) (line_of i logs) rise
+    let same : table_of i.shape (row_with i logs (with_entries line (take n (waiting i.shape (logs 0))) (line_of i logs)) (landed_line_of i logs)) ≡ place_entries (logs 0) line (rows_of i logs) (take n (waiting i.shape (logs 0))) =
+    entries_placed i logs line (take n (waiting i.shape (logs 0))) (line_of i logs) (landed_line_of i logs) rise
     (rising_taken n (waiting i.shape (logs 0)) (subst IsRising (sym (waiting_fresh i.shape (logs 0) fine)) (rising_filtered (λ t. not (was_placed i.shape (logs 0) t)) (takes (logs 0)) rise)))
     (some_waiting i.shape (logs 0) (IsEntry i.shape.capacity (takes (logs 0))) n fine (all_filter (IsEntry i.shape.capacity (takes (logs 0))) (λ t. not (was_placed i.shape (logs 0) t)) (takes (logs 0))
     (zipped (λ (t : Taken). t.mark.lba < i.shape.capacity) (IsAmong (takes (logs 0))) (IsEntry i.shape.capacity (takes (logs 0)))
@@ -236,5 +240,5 @@ live_between i logs line n freed fine numbered sectors =
     (filter (λ t. not (was_placed i.shape (logs 0) t)) (takes (logs 0))) (all_passed (λ t. not (was_placed i.shape (logs 0) t)) (takes (logs 0)))))
     ∙ ap (λ table. place_entries (logs 0) line table (take n (waiting i.shape (logs 0)))) (sym (table_was i logs freed)) in
     λ m row there.
-    let at = row_at (row_with i logs (with_entries line (take n (waiting i.shape (logs 0))) (line_of i logs))) i.shape.chunks 0 m row (ap (λ (t : Table). slice_get t.rows m) same ∙ there) in
+    let at = row_at (row_with i logs (with_entries line (take n (waiting i.shape (logs 0))) (line_of i logs)) (landed_line_of i logs)) i.shape.chunks 0 m row (ap (λ (t : Table). slice_get t.rows m) same ∙ there) in
     subst (λ (r : Row). r.live ≤ i.shape.capacity) at.1 (few_pass (λ lba. is_of (0 + m) (with_entries line (take n (waiting i.shape (logs 0))) (line_of i logs) lba (last_of (takes (logs 0)) lba))) 0 i.shape.capacity)

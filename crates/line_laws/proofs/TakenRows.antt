@@ -15,9 +15,9 @@ use Rattle.pblk_world.specs.EngineLog.{LineLife, AsFound, Opened, Freed, life_of
 use Rattle.pblk_world.specs.Fronts.{first_position, taken, last_take}
 use Rattle.pblk_world.specs.Lines.{known_image, are_empty}
 use Rattle.pblk_world.specs.Placing.{line_end}
-use Rattle.pblk_world.specs.Victims.{is_freed, is_in_force, line_of_position, line_of, is_live_in, live, take_before, took_from}
+use Rattle.pblk_world.specs.Victims.{is_freed, is_in_force, line_of_position, line_of, is_live_in, live, take_before, landed_line_of, took_from}
 use Rattle.line_table.specs.declared.row.LineState.TheVariants as states
-use Rattle.line_table.specs.Rows.{latest, lost}
+use Rattle.line_table.specs.Rows.{latest, lost, lowered}
 use Rattle.core_laws.specs.Stepping.{after}
 use Rattle.core_laws.specs.PlacerOf.{positions_of}
 use Rattle.core_laws.specs.Positions.{IsUnplaced, AreNumbered}
@@ -29,7 +29,7 @@ use Rattle.line_laws.specs.Changes.{lose_in}
 use Rattle.line_laws.specs.Plain.{NoneFreed}
 use Rattle.line_laws.proofs.Kept.{with_event, KeepsStripes, stripes_kept, lives_kept, alike_kept, have_landed_alike}
 use Rattle.line_laws.proofs.KeptRows.{known_kept, KeepsChunks, state_same, width_same, live_same, same_row}
-use Rattle.line_laws.proofs.LandedRows.{line_of_kept}
+use Rattle.line_laws.proofs.LandedRows.{line_of_kept, landed_of_kept}
 use Rattle.line_laws.proofs.OpenAddresses.{failed_kept}
 use Rattle.line_laws.proofs.Tables.{row_changes_any, rows_stay}
 use Rattle.line_laws.proofs.NextTakes.{latest_is}
@@ -167,18 +167,18 @@ lost_none i logs entry mark knows line none was = live_same i logs (after logs (
 took_old : (i : Image) (logs : Logs) (entry : Entry) (mark : Mark) (knows : List ℕ) (line : ℕ) (t : Taken) → t.entry.position < entry.position
     → took_from i (after logs (Take entry mark) knows) line t ≡ took_from i logs line t
 took_old i logs entry mark knows line t below = ap (λ b. nat_lt t.mark.lba i.shape.capacity && b)
-    (ap (λ u. is_of line (line_of i (after logs (Take entry mark) knows) t.mark.lba u)) (before_old (logs 0) entry mark knows t below)
-    ∙ ap (is_of line) (line_of_kept i logs (Take entry mark) knows refl refl t.mark.lba (take_before (logs 0) t)))
+    (ap (λ u. is_of line (landed_line_of i (after logs (Take entry mark) knows) t.mark.lba u)) (before_old (logs 0) entry mark knows t below)
+    ∙ ap (is_of line) (landed_of_kept i logs (Take entry mark) knows refl refl (λ unit. refl) t.mark.lba (take_before (logs 0) t)))
 
 took_new : (i : Image) (logs : Logs) (entry : Entry) (mark : Mark) (knows : List ℕ) (line : ℕ) → AreNumbered (logs 0) → entry.position ≡ taken (logs 0) → mark.lba < i.shape.capacity
-    → took_from i (after logs (Take entry mark) knows) line (new_taken entry mark) ≡ is_live_in i logs line mark.lba
+    → took_from i (after logs (Take entry mark) knows) line (new_taken entry mark) ≡ is_of line (landed_line_of i logs mark.lba (last_take (logs 0) mark.lba))
 took_new i logs entry mark knows line numbered next inside =
-    ap (λ b. b && is_of line (line_of i (after logs (Take entry mark) knows) mark.lba (take_before (after logs (Take entry mark) knows 0) (new_taken entry mark)))) (lt_true mark.lba i.shape.capacity inside)
-    ∙ ap (λ u. is_of line (line_of i (after logs (Take entry mark) knows) mark.lba u)) (before_new (logs 0) entry mark knows numbered next)
-    ∙ ap (is_of line) (line_of_kept i logs (Take entry mark) knows refl refl mark.lba (last_take (logs 0) mark.lba))
+    ap (λ b. b && is_of line (landed_line_of i (after logs (Take entry mark) knows) mark.lba (take_before (after logs (Take entry mark) knows 0) (new_taken entry mark)))) (lt_true mark.lba i.shape.capacity inside)
+    ∙ ap (λ u. is_of line (landed_line_of i (after logs (Take entry mark) knows) mark.lba u)) (before_new (logs 0) entry mark knows numbered next)
+    ∙ ap (is_of line) (landed_of_kept i logs (Take entry mark) knows refl refl (λ unit. refl) mark.lba (last_take (logs 0) mark.lba))
 
 takers_now : (i : Image) (logs : Logs) (entry : Entry) (mark : Mark) (knows : List ℕ) (line : ℕ) (b : Bool) → AreNumbered (logs 0) → entry.position ≡ taken (logs 0) → mark.lba < i.shape.capacity
-    → is_live_in i logs line mark.lba ≡ b
+    → is_of line (landed_line_of i logs mark.lba (last_take (logs 0) mark.lba)) ≡ b
     → filter (took_from i (after logs (Take entry mark) knows) line) (takes (after logs (Take entry mark) knows 0)) ≡ filter (took_from i logs line) (takes (logs 0)) ++ cond b (new_taken entry mark ∷ []) []
 takers_now i logs entry mark knows line b numbered next inside is =
     let new : Logs = after logs (Take entry mark) knows in
@@ -188,7 +188,7 @@ takers_now i logs entry mark knows line b numbered next inside is =
     (filter_agree (λ (t : Taken). t.entry.position < taken (logs 0)) (took_from i new line) (took_from i logs line) (λ t below. took_old i logs entry mark knows line t (omega arith)) (takes (logs 0)) (all_below (logs 0) numbered))
 
 taker_lost : (i : Image) (logs : Logs) (entry : Entry) (mark : Mark) (knows : List ℕ) (line : ℕ) → AreNumbered (logs 0) → entry.position ≡ taken (logs 0) → mark.lba < i.shape.capacity
-    → is_live_in i logs line mark.lba ≡ true → taker_by i (after logs (Take entry mark) knows) line ≡ Some (latest (taker_by i logs line) entry.position)
+    → is_of line (landed_line_of i logs mark.lba (last_take (logs 0) mark.lba)) ≡ true → taker_by i (after logs (Take entry mark) knows) line ≡ Some (latest (taker_by i logs line) entry.position)
 taker_lost i logs entry mark knows line numbered next inside is =
     let ts : List Taken = filter (took_from i logs line) (takes (logs 0)) in
     ap (λ (us : List Taken). option_map (λ (t : Taken). t.entry.position) (last_or None us)) (takers_now i logs entry mark knows line true numbered next inside is)
@@ -199,7 +199,7 @@ taker_lost i logs entry mark knows line numbered next inside is =
     omega arith)))
 
 taker_same_now : (i : Image) (logs : Logs) (entry : Entry) (mark : Mark) (knows : List ℕ) (line : ℕ) → AreNumbered (logs 0) → entry.position ≡ taken (logs 0) → mark.lba < i.shape.capacity
-    → is_live_in i logs line mark.lba ≡ false → taker_by i (after logs (Take entry mark) knows) line ≡ taker_by i logs line
+    → is_of line (landed_line_of i logs mark.lba (last_take (logs 0) mark.lba)) ≡ false → taker_by i (after logs (Take entry mark) knows) line ≡ taker_by i logs line
 taker_same_now i logs entry mark knows line numbered next inside is =
     ap (λ (us : List Taken). option_map (λ (t : Taken). t.entry.position) (last_or None us))
     (takers_now i logs entry mark knows line false numbered next inside is ∙ append-nil (filter (took_from i logs line) (takes (logs 0))))
@@ -231,31 +231,68 @@ state_kept i logs entry mark knows line freed =
       taker = λ t is. ap (taker_in i new line) life ∙ taker_is i new line (life_of (logs 0) line) (freed line) ∙ is;
     }
 
+-- the sector was live in another line, or in none
 row_same_now : (i : Image) (logs : Logs) (entry : Entry) (mark : Mark) (knows : List ℕ) (line : ℕ) → NoneFreed (logs 0) → AreNumbered (logs 0) → IsUnplaced i.shape (logs 0) entry.position → entry.position ≡ taken (logs 0)
-    → mark.lba < i.shape.capacity → is_live_in i logs line mark.lba ≡ false → row_of_line i (after logs (Take entry mark) knows) line ≡ row_of_line i logs line
-row_same_now i logs entry mark knows line freed numbered none next inside is =
+    → mark.lba < i.shape.capacity → is_live_in i logs line mark.lba ≡ false → is_of line (landed_line_of i logs mark.lba (last_take (logs 0) mark.lba)) ≡ false
+    → row_of_line i (after logs (Take entry mark) knows) line ≡ row_of_line i logs line
+row_same_now i logs entry mark knows line freed numbered none next inside is apart =
     let new : Logs = after logs (Take entry mark) knows in
     let kept : IsStateKept i logs new line = state_kept i logs entry mark knows line freed in
     same_row (row_of_line i new line).state (row_of_line i logs line).state (row_of_line i new line).width (row_of_line i logs line).width (live i new line) (live i logs line)
     (row_of_line i new line).taker (row_of_line i logs line).taker kept.state kept.wide (lost_none i logs entry mark knows line none is)
-    (kept.taker (taker_by i logs line) (taker_same_now i logs entry mark knows line numbered next inside is) ∙ sym (taker_is i logs line (life_of (logs 0) line) (freed line)))
+    (kept.taker (taker_by i logs line) (taker_same_now i logs entry mark knows line numbered next inside apart) ∙ sym (taker_is i logs line (life_of (logs 0) line) (freed line)))
 
+-- it was live there, and had landed
 row_lost : (i : Image) (logs : Logs) (entry : Entry) (mark : Mark) (knows : List ℕ) (line : ℕ) → NoneFreed (logs 0) → AreNumbered (logs 0) → IsUnplaced i.shape (logs 0) entry.position → entry.position ≡ taken (logs 0)
-    → mark.lba < i.shape.capacity → is_live_in i logs line mark.lba ≡ true → row_of_line i (after logs (Take entry mark) knows) line ≡ lost entry.position (row_of_line i logs line)
-row_lost i logs entry mark knows line freed numbered none next inside is =
+    → mark.lba < i.shape.capacity → is_live_in i logs line mark.lba ≡ true → is_of line (landed_line_of i logs mark.lba (last_take (logs 0) mark.lba)) ≡ true
+    → row_of_line i (after logs (Take entry mark) knows) line ≡ lost entry.position (row_of_line i logs line)
+row_lost i logs entry mark knows line freed numbered none next inside is there =
     let new : Logs = after logs (Take entry mark) knows in
     let kept : IsStateKept i logs new line = state_kept i logs entry mark knows line freed in
     same_row (row_of_line i new line).state (row_of_line i logs line).state (row_of_line i new line).width (row_of_line i logs line).width (live i new line) (live i logs line - 1)
     (row_of_line i new line).taker (Some (latest (row_of_line i logs line).taker entry.position)) kept.state kept.wide (lost_one i logs entry mark knows line none inside is)
-    (kept.taker (Some (latest (taker_by i logs line) entry.position)) (taker_lost i logs entry mark knows line numbered next inside is)
+    (kept.taker (Some (latest (taker_by i logs line) entry.position)) (taker_lost i logs entry mark knows line numbered next inside there)
     ∙ ap (λ t. Some (latest t entry.position)) (sym (taker_is i logs line (life_of (logs 0) line) (freed line))))
 
-pub rows_taken : (i : Image) (logs : Logs) (entry : Entry) (mark : Mark) (knows : List ℕ) → NoneFreed (logs 0) → AreNumbered (logs 0) → IsUnplaced i.shape (logs 0) entry.position → entry.position ≡ taken (logs 0)
-    → mark.lba < i.shape.capacity → rows_of i (after logs (Take entry mark) knows) ≡ lose_in (line_of i logs mark.lba (last_take (logs 0) mark.lba)) entry.position (rows_of i logs)
-rows_taken i logs entry mark knows freed numbered none next inside = go (line_of i logs mark.lba (last_take (logs 0) mark.lba)) refl
+-- it was live there, and hadn't landed
+row_lowered : (i : Image) (logs : Logs) (entry : Entry) (mark : Mark) (knows : List ℕ) (line : ℕ) → NoneFreed (logs 0) → AreNumbered (logs 0) → IsUnplaced i.shape (logs 0) entry.position → entry.position ≡ taken (logs 0)
+    → mark.lba < i.shape.capacity → is_live_in i logs line mark.lba ≡ true → is_of line (landed_line_of i logs mark.lba (last_take (logs 0) mark.lba)) ≡ false
+    → row_of_line i (after logs (Take entry mark) knows) line ≡ lowered (row_of_line i logs line)
+row_lowered i logs entry mark knows line freed numbered none next inside is apart =
+    let new : Logs = after logs (Take entry mark) knows in
+    let kept : IsStateKept i logs new line = state_kept i logs entry mark knows line freed in
+    same_row (row_of_line i new line).state (row_of_line i logs line).state (row_of_line i new line).width (row_of_line i logs line).width (live i new line) (live i logs line - 1)
+    (row_of_line i new line).taker (row_of_line i logs line).taker kept.state kept.wide (lost_one i logs entry mark knows line none inside is)
+    (kept.taker (taker_by i logs line) (taker_same_now i logs entry mark knows line numbered next inside apart) ∙ sym (taker_is i logs line (life_of (logs 0) line) (freed line)))
+
+-- by the line in which it was live, and whether it had landed there
+pub rows_taken : (i : Image) (logs : Logs) (entry : Entry) (mark : Mark) (knows : List ℕ) (landed : Bool) → NoneFreed (logs 0) → AreNumbered (logs 0) → IsUnplaced i.shape (logs 0) entry.position
+    → entry.position ≡ taken (logs 0) → mark.lba < i.shape.capacity
+    → landed_line_of i logs mark.lba (last_take (logs 0) mark.lba) ≡ (if landed then line_of i logs mark.lba (last_take (logs 0) mark.lba) else None)
+    → rows_of i (after logs (Take entry mark) knows) ≡ lose_in (line_of i logs mark.lba (last_take (logs 0) mark.lba)) landed entry.position (rows_of i logs)
+rows_taken i logs entry mark knows landed freed numbered none next inside there = go (line_of i logs mark.lba (last_take (logs 0) mark.lba)) refl landed there
   where
-    go : (o : Option ℕ) → line_of i logs mark.lba (last_take (logs 0) mark.lba) ≡ o → rows_of i (after logs (Take entry mark) knows) ≡ lose_in o entry.position (rows_of i logs)
-    go None e = rows_stay i logs (after logs (Take entry mark) knows) (λ m. row_same_now i logs entry mark knows m freed numbered none next inside (ap (is_of m) e))
-    go (Some line) e = row_changes_any i logs (after logs (Take entry mark) knows) line (lost entry.position)
-        (row_lost i logs entry mark knows line freed numbered none next inside (ap (is_of line) e ∙ same_number line))
-        (λ m other. row_same_now i logs entry mark knows m freed numbered none next inside (ap (is_of m) e ∙ other_number line m (λ f. other (sym f))))
+    new : Logs
+    new = after logs (Take entry mark) knows
+
+    none_of : (o : Option ℕ) (b : Bool) → o ≡ None → (if b then o else None) ≡ None
+    none_of o true e = e
+    none_of o false e = refl
+
+    apart_by : (m line : ℕ) (b : Bool) → m ≢ line → is_of m (if b then Some line else None) ≡ false
+    apart_by m line true other = other_number line m (λ f. other (sym f))
+    apart_by m line false other = refl
+
+    go : (o : Option ℕ) → line_of i logs mark.lba (last_take (logs 0) mark.lba) ≡ o → (b : Bool)
+        → landed_line_of i logs mark.lba (last_take (logs 0) mark.lba) ≡ (if b then line_of i logs mark.lba (last_take (logs 0) mark.lba) else None)
+        → rows_of i new ≡ lose_in o b entry.position (rows_of i logs)
+    go None e b is = rows_stay i logs new (λ m. row_same_now i logs entry mark knows m freed numbered none next inside (ap (is_of m) e)
+        (ap (is_of m) (is ∙ none_of (line_of i logs mark.lba (last_take (logs 0) mark.lba)) b e)))
+    go (Some line) e true is = row_changes_any i logs new line (lost entry.position)
+        (row_lost i logs entry mark knows line freed numbered none next inside (ap (is_of line) e ∙ same_number line) (ap (is_of line) (is ∙ e) ∙ same_number line))
+        (λ m other. row_same_now i logs entry mark knows m freed numbered none next inside (ap (is_of m) e ∙ other_number line m (λ f. other (sym f)))
+        (ap (is_of m) (is ∙ e) ∙ apart_by m line true other))
+    go (Some line) e false is = row_changes_any i logs new line lowered
+        (row_lowered i logs entry mark knows line freed numbered none next inside (ap (is_of line) e ∙ same_number line) (ap (is_of line) is))
+        (λ m other. row_same_now i logs entry mark knows m freed numbered none next inside (ap (is_of m) e ∙ other_number line m (λ f. other (sym f)))
+        (ap (is_of m) is))

@@ -13,10 +13,10 @@ use Rattle.pblk_model.specs.LineOrder.{data_len}
 use Rattle.line_table.specs.declared.row.LineState.{LineState}
 use Rattle.line_table.specs.declared.row.LineState.TheVariants.{Free}
 use Rattle.line_table.specs.declared.row.Row.{Row}
-use Rattle.line_table.specs.Rows.{Table, IsFreeLine, Changes, latest, lost, kept, turned, is_free, is_free_state, is_free_at, free_len}
+use Rattle.line_table.specs.Rows.{Table, IsFreeLine, Changes, latest, noted, kept, turned, is_free, is_free_state, is_free_at, free_len}
 use Rattle.line_table.specs.LineSets.{has}
 use Rattle.line_table.specs.Inside.{Keeps}
-use Rattle.line_table.proofs.Places.{get_set_same, get_set_other}
+use Rattle.line_table.proofs.Places.{get_set_same, get_set_other, set_twice}
 use Rattle.line_table.proofs.RowsLemmas.{free_state}
 
 -- a sum with one term changed
@@ -162,11 +162,23 @@ pub len_of_other : (s : Shape) (row : Row) → is_free row ≡ false → free_le
 unfolding free_len
 len_of_other s row e = ap (λ b. cond b (data_len s row.width) 0) e
 
-abbrev pub loss_to : Row → ℕ → Row
-loss_to row n = record row { live = row.live - 1; taker = Some n }
+abbrev pub note_to : Row → ℕ → Row
+note_to row n = record row { taker = Some n }
 
-pub lost_is : (row : Row) (by n : ℕ) → n ≡ latest row.taker by → loss_to row n ≡ lost by row
-lost_is row by n e = ap (loss_to row) e
+pub noted_is : (row : Row) (by n : ℕ) → n ≡ latest row.taker by → note_to row n ≡ noted by row
+noted_is row by n e = ap (note_to row) e
+
+-- a row that was changed once and then again
+pub changed_twice : (old mid new : Table) (line : ℕ) (first then_ : Row → Row) → line < length old.rows → Changes old mid line first → Changes mid new line then_
+    → Changes old new line (λ row. then_ (first row))
+changed_twice old mid new line first then_ inside one two = record {
+  shape = two.shape ∙ one.shape;
+  lines = two.lines ∙ one.lines;
+  rows = λ row there.
+      let rows : mid.rows ≡ slice_set old.rows line (first row) = one.rows row there in
+      let here : slice_get mid.rows line ≡ Some (first row) = ap (λ rs. slice_get rs line) rows ∙ get_set_same old.rows line line (first row) refl inside in
+      two.rows (first row) here ∙ ap (λ rs. slice_set rs line (then_ (first row))) rows ∙ set_twice old.rows line (first row) (then_ (first row));
+}
 
 abbrev pub turn_to : LineState → ℕ → Row → Option ℕ → Row
 turn_to to width row taker = record { state = to; width = width; live = row.live; taker = taker }

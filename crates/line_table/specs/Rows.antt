@@ -35,7 +35,15 @@ abbrev pub latest : Option ℕ → ℕ → ℕ
 latest None by = by
 latest (Some taker) by = max taker by
 
+-- the line has one live sector less
+abbrev pub lowered : Row → Row
+lowered row = record row { live = row.live - 1 }
+
 -- a position took a sector from the line
+abbrev pub noted : ℕ → Row → Row
+noted by row = record row { taker = Some (latest row.taker by) }
+
+-- both at once
 abbrev pub lost : ℕ → Row → Row
 lost by row = record row { live = row.live - 1; taker = Some (latest row.taker by) }
 

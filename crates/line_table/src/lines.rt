@@ -7,7 +7,7 @@ ghost use Rattle.pblk_model.specs.Shape.{units};
 ghost use Rattle.pblk_model.specs.declared.found.LineRow.{LineRow};
 ghost use Rattle.line_table.specs.declared.row.Row.{Row};
 ghost use Rattle.line_table.specs.Opening.{width_of, live_count, opening_state};
-ghost use Rattle.line_table.specs.Rows.{IsRow, EachRow, IsFreeLine, Changes, IsChange, is_free, free_addresses, lost, turned};
+ghost use Rattle.line_table.specs.Rows.{IsRow, EachRow, IsFreeLine, Changes, IsChange, is_free, free_addresses, lost, lowered, noted, turned};
 
 use crate::line_set::LineSet;
 use crate::opening::{count_free_addresses, free_addresses_of, free_lines, opening_rows};
@@ -93,8 +93,8 @@ impl Lines {
         self.rows[line as usize].live
     }
 
-    /// The greatest position that took a sector from a line of the drive. None exactly where none did since the
-    /// table was made or the line was last opened.
+    /// The greatest position that took a sector from a line of the drive. None exactly where none was noted since
+    /// the table was made or the line was last opened.
     pub fn taker(&self, line: u32) -> Option<u64>
         requires { line < length self.now.rows }
         ensures { (row : Row) → IsRow self.now line row → result ≡ row.taker }
@@ -130,15 +130,34 @@ impl Lines {
         self.rows[line as usize].live += 1;
     }
 
-    /// The entry at position `by` took a sector from a line of the drive, which has one live sector less. It
-    /// had some.
+    /// The entry at position `by` took a sector from a line of the drive, where it had landed. The line has one
+    /// live sector less. It had some.
     pub fn lose(&mut self, line: u32, by: u64)
         requires inside { line < length self.old.rows }
         requires some { (row : Row) → IsRow self.old line row → 0 < row.live }
         ensures { Changes self.old self.new line (lost by) }
     {
+        self.lower(line);
+        self.note_taker(line, by);
+    }
+
+    /// Counts one live sector less in a line of the drive, which had some. A later entry took the sector before
+    /// it landed in the line: until it does, nothing was taken from the line.
+    pub fn lower(&mut self, line: u32)
+        requires inside { line < length self.old.rows }
+        requires some { (row : Row) → IsRow self.old line row → 0 < row.live }
+        ensures { Changes self.old self.new line lowered }
+    {
+        self.rows[line as usize].live -= 1;
+    }
+
+    /// Notes that the entry at position `by` took a sector from a line of the drive. The line's live sectors
+    /// are as many as before: the sector was taken before it landed there.
+    pub fn note_taker(&mut self, line: u32, by: u64)
+        requires inside { line < length self.old.rows }
+        ensures { Changes self.old self.new line (noted by) }
+    {
         let row = &mut self.rows[line as usize];
-        row.live -= 1;
         row.taker = Some(latest(row.taker, by));
     }
 

@@ -22,6 +22,7 @@ pub mod ResetUnits
 pub mod ResetRows
 pub mod StandsFacts
 pub mod LiveLine
+pub mod NotedEntries
 pub mod HeldPositions
 pub mod TakenHolds
 pub mod StandsTaken

@@ -1,40 +1,51 @@
 -- The line in which a sector is live, by its slot.
-use Rattle.std.proofs.Common.{◌≡◌, ℕ, ◌+◌, ◌≤◌, ◌&&◌, if◌then◌else◌, not, zero, suc, Bool, true, false, cond, Some, None, Option, List, [], ◌∷◌, length, refl, sym, subst, ap, ap₂, ◌∙◌, arith}
+use Rattle.std.proofs.Common.{◌≡◌, ℕ, ◌+◌, ◌-◌, ◌<◌, ◌≤◌, ◌&&◌, ◌||◌, nat_lt, drop, if◌then◌else◌, not, zero, suc, Bool, true, false, cond, Some, None, Option, List, [], ◌∷◌, length, refl, sym, subst, ap, ap₂, ◌∙◌, arith}
 use Rattle.std.specs.Prelude.{slice_get, ◌%◌}
-use Rattle.std.specs.List.{filter, find}
+use Rattle.std.specs.List.{AllByRecursion, filter, find, list_any}
 use Rattle.std.specs.Option.{option_map, option_map_or, option_and_then}
-use Rattle.std.proofs.lemmas.Option.{same_Some, none-some}
+use Rattle.std.proofs.lemmas.Option.{same_Some, none-some, slice_get-map, slice_get_within}
+use Rattle.pblk_model.specs.declared.shape.Shape.{Shape}
 use Rattle.pblk_model.specs.Image.{Image}
 use Rattle.pblk_model.specs.Records.{Record}
 use Rattle.pblk_model.specs.Contents.{counted, winner}
 use Rattle.pblk_world.specs.Events.{Logged}
 use Rattle.pblk_world.specs.World.{World, log_of}
 use Rattle.pblk_world.specs.EngineLog.{Taken, takes, Placed, placements, LineLife, AsFound, Opened, Freed, life_of, is_life, is_as_found, is_opened, holds_position, was_lost, has_landed}
-use Rattle.pblk_world.specs.Fronts.{last_take}
+use Rattle.pblk_world.specs.Fronts.{first_position, has_landed_at, last_take}
 use Rattle.pblk_world.specs.Lines.{found_image}
-use Rattle.pblk_world.specs.Space.{gives_back}
-use Rattle.pblk_world.specs.Victims.{is_in_force, line_of_position, line_of}
+use Rattle.pblk_world.specs.Space.{gives_back, freed}
+use Rattle.pblk_world.specs.Victims.{is_in_force, line_of_position, line_of, landed_line, landed_line_of}
 use Rattle.l2p_map.specs.declared.slot.Slot.TheVariants.{Cached}
 use Rattle.core_laws.specs.SimpleMounts.{IsSimpleMount}
 use Rattle.core_laws.proofs.SimpleMounts.{engine_plain}
 use Rattle.core_laws.specs.SlotOf.{slot_of, slot_by, slot_of_entry, slot_of_winner, media_of}
-use Rattle.core_laws.specs.WindowOf.{is_given_back}
+use Rattle.core_laws.specs.WindowOf.{HeldSector, HeldSectors, held_of, is_given_back, progress_by, without_frame}
+use Rattle.core_laws.proofs.Placing.{not_below}
+use Rattle.write_window.specs.Entries.{has_landed as progress_landed}
+use Rattle.write_window.specs.Window as view
+use Rattle.write_window.specs.declared.held.Held.{Held}
 use Rattle.line_laws.proofs.Winners.{winner_starts}
 use Rattle.pblk_core.proofs.FoundLines.{started_as_found}
 use Rattle.pblk_core.proofs.LineUnits.{IsLiving, living}
 use Rattle.line_laws.proofs.PlainLogs.{none_lost}
-use Rattle.landing_laws.proofs.Growing.{given_holds}
-use Rattle.landing_laws.proofs.Cached.{last_is_among}
-use Rattle.landing_laws.proofs.HeldOnce.{held_once}
+use Rattle.landing_laws.proofs.Growing.{given_holds, given_landed}
+use Rattle.landing_laws.proofs.Entries.{in_order}
+use Rattle.landing_laws.proofs.Least.{least_below}
+use Rattle.landing_laws.proofs.NewlyHeld.{member_of}
+use Rattle.landing_laws.proofs.Cached.{last_is_among, numbered_at}
+use Rattle.landing_laws.proofs.HeldOnce.{held_once, one_holder}
 use Rattle.placed_laws.specs.EntryHolds.{placed_line}
+use Rattle.placed_laws.proofs.EntryHolds.{line_unlost}
 use Rattle.pblk_core.specs.declared.hold.Hold.{Hold}
 use Rattle.pblk_core.specs.declared.hold.Holds.{Holds}
-use Rattle.pblk_core.specs.Holds.{line_of_slot}
-use Rattle.pblk_core.specs.Stands.{AreHolds}
-use Rattle.lemmas.proofs.Lists.{IsAmong}
-use Rattle.lemmas.proofs.Maps.{find_agree, found_none, found_passes}
-use Rattle.lemmas.proofs.Parts.{is_in}
-use Rattle.lemmas.proofs.Tests.{same_number, second_of}
+use Rattle.pblk_core.specs.Holds.{line_of_slot, has_landed_in}
+use Rattle.pblk_core.specs.Stands.{Stands, AreHolds}
+use Rattle.pblk_core.specs.declared.target_core.Core.{Core}
+use Rattle.lemmas.proofs.Lists.{IsAmong, among_all}
+use Rattle.lemmas.proofs.Maps.{any_member, find_agree, find_none, found_none, found_passes}
+use Rattle.lemmas.proofs.Parts.{get_dropped, is_in}
+use Rattle.lemmas.proofs.Tests.{either_false, first_of, same_number, second_of}
+use Rattle.pblk_model.proofs.MarksLemmas.{accepted_small}
 
 -- ---- lists
 
@@ -78,16 +89,104 @@ in_force log p (Opened o) is now opened =
 pub position_line : (i : Image) (w : World) (q : ℕ) → IsSimpleMount i w → line_of_position i.shape (log_of w 0) q ≡ placed_line i.shape (log_of w 0) q
 position_line i w q simple =
     ap (option_map (λ (p : Placed). p.stripe.line))
-    (find_agree (IsLiving (log_of w 0)) (λ p. holds_position i.shape q p && not (was_lost (log_of w 0) p) && is_in_force (log_of w 0) p.life p.stripe.line) (holds_position i.shape q)
-    (λ p living. same p (none_lost (log_of w 0) (engine_plain i w simple) p) (in_force (log_of w 0) p p.life refl living.0 living.1)) (placements (log_of w 0)) (living i w simple))
+    (find_agree (IsLiving (log_of w 0)) (λ p. holds_position i.shape q p && not (was_lost (log_of w 0) p) && is_in_force (log_of w 0) p.life p.stripe.line)
+    (λ p. holds_position i.shape q p && not (was_lost (log_of w 0) p))
+    (λ p living. same p (in_force (log_of w 0) p p.life refl living.0 living.1)) (placements (log_of w 0)) (living i w simple))
   where
-    both : (b : Bool) → (b && true && true) ≡ b
-    both true = refl
-    both false = refl
+    and_true : (b : Bool) → (b && true) ≡ b
+    and_true true = refl
+    and_true false = refl
 
-    same : (p : Placed) → was_lost (log_of w 0) p ≡ false → is_in_force (log_of w 0) p.life p.stripe.line ≡ true
-        → (holds_position i.shape q p && not (was_lost (log_of w 0) p) && is_in_force (log_of w 0) p.life p.stripe.line) ≡ holds_position i.shape q p
-    same p lost force = ap₂ (λ a b. holds_position i.shape q p && not a && b) lost force ∙ both (holds_position i.shape q p)
+    same : (p : Placed) → is_in_force (log_of w 0) p.life p.stripe.line ≡ true
+        → (holds_position i.shape q p && not (was_lost (log_of w 0) p) && is_in_force (log_of w 0) p.life p.stripe.line) ≡ (holds_position i.shape q p && not (was_lost (log_of w 0) p))
+    same p force = ap (λ b. holds_position i.shape q p && not (was_lost (log_of w 0) p) && b) force ∙ and_true (holds_position i.shape q p && not (was_lost (log_of w 0) p))
+
+-- ---- where a position has landed
+
+-- a position that hasn't landed is in no line
+pub not_landed_line : (s : Shape) (log : List Logged) (q : ℕ) → has_landed_at s log q ≡ false → landed_line s log q ≡ None
+not_landed_line s log q none = ap (option_map (λ (p : Placed). p.stripe.line))
+    (find_none (λ p. holds_position s q p && has_landed log p && is_in_force log p.life p.stripe.line) (placements log) (each (placements log) none))
+  where
+    fails : (a b c : Bool) → (b && a) ≡ false → (a && b && c) ≡ false
+    fails true true c e = absurd cc
+    fails true false c e = refl
+    fails false b c e = refl
+
+    each : (ps : List Placed) → list_any (λ p. has_landed log p && holds_position s q p) ps ≡ false
+        → AllByRecursion (λ p. (holds_position s q p && has_landed log p && is_in_force log p.life p.stripe.line) ≡ false) ps
+    each [] e = tt
+    each (p ∷ ps) e =
+        let both = either_false (has_landed log p && holds_position s q p) (list_any (λ p. has_landed log p && holds_position s q p) ps) e in
+        (fails (holds_position s q p) (has_landed log p) (is_in_force log p.life p.stripe.line) both.0, each ps both.1)
+
+-- one that has landed is where it is live
+pub landed_line_is : (i : Image) (w : World) (q : ℕ) → IsSimpleMount i w → has_landed_at i.shape (log_of w 0) q ≡ true → landed_line i.shape (log_of w 0) q ≡ line_of_position i.shape (log_of w 0) q
+landed_line_is i w q simple lands = ap (option_map (λ (p : Placed). p.stripe.line))
+    (find_agree (IsAmong (placements (log_of w 0))) (λ p. holds_position i.shape q p && has_landed (log_of w 0) p && is_in_force (log_of w 0) p.life p.stripe.line)
+    (λ p. holds_position i.shape q p && not (was_lost (log_of w 0) p) && is_in_force (log_of w 0) p.life p.stripe.line)
+    (λ p among. by (holds_position i.shape q p) (has_landed (log_of w 0) p) (was_lost (log_of w 0) p) (is_in_force (log_of w 0) p.life p.stripe.line)
+    (none_lost (log_of w 0) (engine_plain i w simple) p) (each p among)) (placements (log_of w 0)) (among_all (placements (log_of w 0))))
+  where
+    by : (a b l f : Bool) → l ≡ false → (a ≡ true → b ≡ true) → (a && b && f) ≡ (a && not l && f)
+    by false b l f none lands = refl
+    by true true false f none lands = refl
+    by true false false f none lands = absurd (cc (lands refl))
+    by true b true f none lands = absurd cc
+
+    one : (r : Placed) × ((has_landed (log_of w 0) r && holds_position i.shape q r) ≡ true) × IsAmong (placements (log_of w 0)) r
+    one = member_of (λ p. has_landed (log_of w 0) p && holds_position i.shape q p) (placements (log_of w 0)) lands
+
+    each : (p : Placed) → IsAmong (placements (log_of w 0)) p → holds_position i.shape q p ≡ true → has_landed (log_of w 0) p ≡ true
+    each p among held =
+        let same : p ≡ one.0 = one_holder i.shape (log_of w 0) q p one.0 (held_once i w simple) among one.2 held
+        (second_of (has_landed (log_of w 0) one.0) (holds_position i.shape q one.0) one.1) in
+        ap (has_landed (log_of w 0)) same ∙ first_of (has_landed (log_of w 0) one.0) (holds_position i.shape q one.0) one.1
+
+-- ---- an entry in the window
+
+landed_by : (a b : Bool) → progress_landed (progress_by a b) ≡ a
+landed_by false b = refl
+landed_by true false = refl
+landed_by true true = refl
+
+-- the window says of an entry that isn't given back whether it has landed
+window_landed : (i : Image) (w : World) (c : Core) (t : Taken) → IsSimpleMount i w → Stands i (log_of w) c → IsAmong (takes (log_of w 0)) t → is_given_back i.shape (log_of w 0) t.entry.position ≡ false
+    → view.has_landed_at c.window t.entry.position ≡ has_landed_at i.shape (log_of w 0) t.entry.position
+window_landed i w c t simple st among kept =
+    ap (λ b. option_map_or (λ (h : Held). progress_landed h.progress) (if b then None else slice_get c.window.entries (t.entry.position - c.window.freed)) false) (not_below c.window.freed t.entry.position above)
+    ∙ by (slice_get c.window.entries (t.entry.position - c.window.freed))
+    ∙ ap (λ o. option_map_or (λ (h : HeldSector). progress_landed h.progress) o false) there
+    ∙ landed_by (has_landed_at i.shape (log_of w 0) t.entry.position) (is_given_back i.shape (log_of w 0) t.entry.position)
+  where
+    place : t.entry.position ≡ first_position (log_of w 0) + among.0
+    place = numbered_at (first_position (log_of w 0)) (length (takes (log_of w 0))) (takes (log_of w 0)) among.0 t
+        (in_order i w (accepted_small i.shape simple.mount.accepted) simple.mount.legal).numbered among.1
+
+    inside : among.0 < length (takes (log_of w 0))
+    inside = slice_get_within (takes (log_of w 0)) among.0 t among.1
+
+    above : c.window.freed ≤ t.entry.position
+    above =
+        let low : c.window.freed ≤ freed i.shape (log_of w 0) = st.to_freed in
+        let from : freed i.shape (log_of w 0) ≤ t.entry.position =
+        least_below (is_given_back i.shape (log_of w 0)) (length (takes (log_of w 0))) (first_position (log_of w 0)) t.entry.position (omega (arith, place, inside)) kept in
+        omega arith
+
+    by : (o : Option Held) → option_map_or (λ (h : Held). progress_landed h.progress) o false ≡ option_map_or (λ (h : HeldSector). progress_landed h.progress) (option_map without_frame o) false
+    by None = refl
+    by (Some h) = refl
+
+    index : c.window.freed - first_position (log_of w 0) + (t.entry.position - c.window.freed) ≡ among.0
+    index = let from : first_position (log_of w 0) ≤ c.window.freed = st.from_first in omega (arith, place, above)
+
+    there : option_map without_frame (slice_get c.window.entries (t.entry.position - c.window.freed)) ≡ Some (held_of i.shape (log_of w 0) t)
+    there =
+        sym (slice_get-map without_frame c.window.entries (t.entry.position - c.window.freed))
+        ∙ ap (λ (v : HeldSectors). slice_get v.entries (t.entry.position - c.window.freed)) st.window
+        ∙ slice_get-map (held_of i.shape (log_of w 0)) (drop (c.window.freed - first_position (log_of w 0)) (takes (log_of w 0))) (t.entry.position - c.window.freed)
+        ∙ ap (option_map (held_of i.shape (log_of w 0)))
+        (get_dropped (c.window.freed - first_position (log_of w 0)) (takes (log_of w 0)) (t.entry.position - c.window.freed) ∙ ap (slice_get (takes (log_of w 0))) index ∙ among.1)
 
 -- ---- the line of a slot
 
@@ -104,7 +203,8 @@ entry_line i w holds t simple are among = go (find (gives_back i.shape (log_of w
     go (Some p) e =
         let found : (gives_back i.shape (log_of w 0) t.entry.position p ≡ true) × IsAmong (placements (log_of w 0)) p = found_passes (gives_back i.shape (log_of w 0) t.entry.position) (placements (log_of w 0)) p e in
         let held : holds_position i.shape t.entry.position p ≡ true = second_of (has_landed (log_of w 0) p) (holds_position i.shape t.entry.position p) (given_holds i.shape (log_of w 0) t.entry.position p found.0) in
-        sym (ap (option_map (λ (p : Placed). p.stripe.line)) (single_found (holds_position i.shape t.entry.position) (placements (log_of w 0)) p found.1.0 (held_once i w simple t.entry.position) found.1.1 held))
+        sym (line_unlost i.shape (log_of w 0) t.entry.position (none_lost (log_of w 0) (engine_plain i w simple))
+        ∙ ap (option_map (λ (p : Placed). p.stripe.line)) (single_found (holds_position i.shape t.entry.position) (placements (log_of w 0)) p found.1.0 (held_once i w simple t.entry.position) found.1.1 held))
 
 pub line_is : (i : Image) (w : World) (holds : Holds) (lba : ℕ) → IsSimpleMount i w → AreHolds i.shape (log_of w 0) holds
     → line_of_slot holds.rows.items (slot_of i (log_of w) lba) ≡ line_of i (log_of w) lba (last_take (log_of w 0) lba)
@@ -118,3 +218,34 @@ line_is i w holds lba simple are = go (last_take (log_of w 0) lba) refl
     go : (o : Option Taken) → last_take (log_of w 0) lba ≡ o → line_of_slot holds.rows.items (slot_by i (log_of w) lba o) ≡ line_of i (log_of w) lba o
     go None e = found_line (winner (counted (found_image i (log_of w))) lba) refl
     go (Some t) e = entry_line i w holds t simple are (last_is_among (log_of w 0) lba t e).0 ∙ sym (position_line i w t.entry.position simple)
+
+-- whether it has landed there
+pub landed_is : (i : Image) (w : World) (c : Core) (lba : ℕ) → IsSimpleMount i w → Stands i (log_of w) c
+    → landed_line_of i (log_of w) lba (last_take (log_of w 0) lba) ≡ (if has_landed_in c.window (slot_of i (log_of w) lba) then line_of i (log_of w) lba (last_take (log_of w 0) lba) else None)
+landed_is i w c lba simple st = go (last_take (log_of w 0) lba) refl
+  where
+    found_line : (o : Option Record) → option_and_then (λ (r : Record). if is_as_found (life_of (log_of w 0) r.line) then Some r.line else None) o
+        ≡ (if has_landed_in c.window (slot_of_winner o) then option_and_then (λ (r : Record). if is_as_found (life_of (log_of w 0) r.line) then Some r.line else None) o else None)
+    found_line None = refl
+    found_line (Some r) = refl
+
+    by_landed : (q : ℕ) (b : Bool) → has_landed_at i.shape (log_of w 0) q ≡ b → landed_line i.shape (log_of w 0) q ≡ (if b then line_of_position i.shape (log_of w 0) q else None)
+    by_landed q true e = landed_line_is i w q simple e
+    by_landed q false e = not_landed_line i.shape (log_of w 0) q e
+
+    entry : (t : Taken) → last_take (log_of w 0) lba ≡ Some t → (o : Option Placed) → find (gives_back i.shape (log_of w 0) t.entry.position) (placements (log_of w 0)) ≡ o
+        → landed_line i.shape (log_of w 0) t.entry.position
+        ≡ (if has_landed_in c.window (option_map_or (media_of i (log_of w) t.entry.position) o (Cached t.entry.position)) then line_of_position i.shape (log_of w 0) t.entry.position else None)
+    entry t e (Some p) f =
+        let found = found_passes (gives_back i.shape (log_of w 0) t.entry.position) (placements (log_of w 0)) p f in
+        landed_line_is i w t.entry.position simple
+        (given_landed i.shape (log_of w 0) t.entry.position (any_member (gives_back i.shape (log_of w 0) t.entry.position) (placements (log_of w 0)) found.1.0 p found.1.1 found.0))
+    entry t e None f =
+        let kept : is_given_back i.shape (log_of w 0) t.entry.position ≡ false = found_none (gives_back i.shape (log_of w 0) t.entry.position) (placements (log_of w 0)) f in
+        by_landed t.entry.position (has_landed_at i.shape (log_of w 0) t.entry.position) refl
+        ∙ ap (λ b. if b then line_of_position i.shape (log_of w 0) t.entry.position else None) (sym (window_landed i w c t simple st (last_is_among (log_of w 0) lba t e).0 kept))
+
+    go : (o : Option Taken) → last_take (log_of w 0) lba ≡ o
+        → landed_line_of i (log_of w) lba o ≡ (if has_landed_in c.window (slot_by i (log_of w) lba o) then line_of i (log_of w) lba o else None)
+    go None e = found_line (winner (counted (found_image i (log_of w))) lba)
+    go (Some t) e = entry t e (find (gives_back i.shape (log_of w 0) t.entry.position) (placements (log_of w 0))) refl

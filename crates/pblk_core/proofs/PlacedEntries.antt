@@ -1,4 +1,4 @@
--- The rows beside the entries and the table of lines, once the entries of a stripe are placed.
+-- The rows beside the entries and the table of lines, once the entries of a stripe are placed, and once they have landed.
 use Rattle.std.proofs.Common.{◌≡◌, ◌≢◌, ℕ, ◌<◌, ◌%◌, ◌==◌, ◌&&◌, ◌||◌, nat_lt, Bool, true, false, Some, None, Option, List, [], ◌∷◌, length, take, refl, sym, subst, ap, ap₂, ◌∙◌, length-set}
 use Rattle.std.specs.Prelude.{map, slice_get, slice_set}
 use Rattle.std.specs.List.{AllByRecursion, Contains, list_any}
@@ -9,17 +9,17 @@ use Rattle.pblk_model.specs.declared.shape.Shape.{Shape}
 use Rattle.pblk_model.specs.Image.{Image}
 use Rattle.pblk_world.specs.Events.{Stripe, Place, Decides, Logged}
 use Rattle.pblk_world.specs.World.{World, log_of}
-use Rattle.pblk_world.specs.EngineLog.{Taken, takes, bears_position}
+use Rattle.pblk_world.specs.EngineLog.{Opening, Taken, takes, bears_position}
 use Rattle.line_table.specs.Rows.{Table}
 use Rattle.line_table.proofs.Places.{get_set_same, get_set_other}
-use Rattle.line_laws.specs.Changes.{with_row}
-use Rattle.line_laws.specs.PlacedEntries.{next_take, placed_row, place_entry, place_entries}
+use Rattle.line_laws.specs.Changes.{note_by}
+use Rattle.line_laws.specs.PlacedEntries.{next_take, place_by, place_entry, place_entries, note_entry, note_entries}
 use Rattle.core_laws.specs.PlacerOf.{positions_of, positions_in_stripe}
 use Rattle.pblk_world.specs.Fronts.{waiting}
 use Rattle.std.proofs.lemmas.Option.{slice_get-get_or}
 use Rattle.core_laws.specs.SimpleMounts.{IsSimpleMount}
 use Rattle.core_laws.specs.WindowOf.{is_given_back}
-use Rattle.core_laws.proofs.Placing.{with_place}
+use Rattle.core_laws.proofs.Placing.{with_place, IsPlacing}
 use Rattle.placed_laws.proofs.Ordered.{ordered}
 use Rattle.placed_laws.proofs.EntryHolds.{later_same, line_of_others, line_of_stripe}
 use Rattle.pblk_core.specs.Stands.{Stands}
@@ -29,7 +29,7 @@ use Rattle.pblk_core.proofs.WaitingEntries.{IsWaiting, waiting_at, row_of_entry}
 use Rattle.core_laws.proofs.TakenSlots.{find_same}
 use Rattle.core_laws.proofs.PlacedEntries.{holds_is as bears_is}
 use Rattle.placed_laws.specs.EntryHolds.{later_take, placed_line}
-use Rattle.pblk_core.specs.Entries.{with_line, row_placed, placed_rows, placed_by, place_hold, placed_lines}
+use Rattle.pblk_core.specs.Entries.{with_line, row_placed, placed_rows, place_hold, placed_lines, note_hold, noted_lines}
 use Rattle.pblk_core.specs.Holds.{hold_of, row_at}
 use Rattle.pblk_core.specs.declared.hold.Hold.{Hold}
 use Rattle.lemmas.proofs.Parts.{all_at, all_by_get, get_whole}
@@ -101,21 +101,22 @@ later_is_next log t =
     swapped false true = refl
     swapped false false = refl
 
-one_entry : (line : ℕ) (table : Table) (o : Option Taken) → with_row line (placed_by (option_map (λ (u : Taken). u.entry.position) o)) table ≡ with_row line (placed_row o) table
-one_entry line table None = refl
-one_entry line table (Some u) = refl
-
-hold_placed : (s : Shape) (log : List Logged) (line : ℕ) (rows : List Hold) (table : Table) (t : Taken) → row_at rows t.entry.position ≡ Some (hold_of s log t)
-    → place_hold line table (row_at rows t.entry.position) ≡ place_entry log line table t
-hold_placed s log line rows table t row =
-    ap (place_hold line table) row ∙ one_entry line table (later_take log t) ∙ ap (λ o. with_row line (placed_row o) table) (later_is_next log t)
+abbrev taker_by : Option Taken → Option ℕ
+taker_by o = option_map (λ (u : Taken). u.entry.position) o
 
 pub lines_placed_are : (s : Shape) (log : List Logged) (line : ℕ) (rows : List Hold) (table : Table) (ts : List Taken) → AllByRecursion (λ (t : Taken). row_at rows t.entry.position ≡ Some (hold_of s log t)) ts
     → placed_lines rows line table (positions_of ts) ≡ place_entries log line table ts
 lines_placed_are s log line rows table [] all = refl
 lines_placed_are s log line rows table (t ∷ ts) all =
-    ap (λ (u : Table). placed_lines rows line u (positions_of ts)) (hold_placed s log line rows table t all.0)
+    ap (λ (u : Table). placed_lines rows line u (positions_of ts)) (ap (place_hold line table) all.0 ∙ ap (λ o. place_by (taker_by o) line table) (later_is_next log t))
     ∙ lines_placed_are s log line rows (place_entry log line table t) ts all.1
+
+pub lines_noted_are : (s : Shape) (log : List Logged) (line : ℕ) (rows : List Hold) (table : Table) (ts : List Taken) → AllByRecursion (λ (t : Taken). row_at rows t.entry.position ≡ Some (hold_of s log t)) ts
+    → noted_lines rows line table (positions_of ts) ≡ note_entries log line table ts
+lines_noted_are s log line rows table [] all = refl
+lines_noted_are s log line rows table (t ∷ ts) all =
+    ap (λ (u : Table). noted_lines rows line u (positions_of ts)) (ap (note_hold line table) all.0 ∙ ap (λ o. note_by (taker_by o) line table) (later_is_next log t))
+    ∙ lines_noted_are s log line rows (note_entry log line table t) ts all.1
 
 -- ---- the rows by the log
 
@@ -144,10 +145,10 @@ all_mapped f P [] all = tt
 all_mapped f P (x ∷ xs) all = (all.0, all_mapped f P xs all.1)
 
 -- the row of each entry that isn't given back, once the first that wait are placed
-pub row_placed_is : (i : Image) (w : World) (c : Core) (stripe : Stripe) (knows : List ℕ) (n : ℕ) (t : Taken) → IsSimpleMount i w → Stands i (log_of w) c
+pub row_placed_is : (i : Image) (w : World) (c : Core) (stripe : Stripe) (knows : List ℕ) (o : Opening) (n : ℕ) (t : Taken) → IsSimpleMount i w → Stands i (log_of w) c → IsPlacing (log_of w 0) stripe o
     → positions_in_stripe i.shape stripe ≡ positions_of (take n (waiting i.shape (log_of w 0))) → Contains (takes (log_of w 0)) t → is_given_back i.shape (log_of w 0) t.entry.position ≡ false
     → slice_get (placed_rows stripe.line c.holds.rows.items (positions_of (take n (waiting i.shape (log_of w 0))))) (t.entry.position % i.shape.ring) ≡ Some (hold_of i.shape (with_place (log_of w 0) stripe knows) t)
-row_placed_is i w c stripe knows n t simple st positions among kept =
+row_placed_is i w c stripe knows o n t simple st placing positions among kept =
     row_after stripe.line i.shape.ring t.entry.position (positions_of ts) c.holds.rows.items (hold_of s log t) (ring_some s simple.mount.accepted) st.holds.room apart row
     ∙ ap Some (go (list_any (λ q. q == t.entry.position) (positions_of ts)) refl)
   where
@@ -189,8 +190,8 @@ row_placed_is i w c stripe knows n t simple st positions among kept =
     go : (b : Bool) → list_any (λ q. q == t.entry.position) (positions_of (take n (waiting i.shape (log_of w 0)))) ≡ b
         → row_if b stripe.line (hold_of i.shape (log_of w 0) t) ≡ hold_of i.shape (with_place (log_of w 0) stripe knows) t
     go true e = with_line_of (Some stripe.line)
-        (sym (line_of_stripe i.shape (log_of w 0) stripe knows t.entry.position
+        (sym (line_of_stripe i.shape (log_of w 0) stripe knows o t.entry.position placing
         (unplaced_among i.shape (log_of w 0) t.entry.position (take n (waiting i.shape (log_of w 0)))
         (all_by_get (λ (u : Taken). placed_line i.shape (log_of w 0) u.entry.position ≡ None) (take n (waiting i.shape (log_of w 0))) (λ k u f. IsWaiting.unplaced (wait k u f))) e)
         (bears ∙ e)))
-    go false e = with_line_of (placed_line i.shape (log_of w 0) t.entry.position) (sym (line_of_others i.shape (log_of w 0) stripe knows t.entry.position (bears ∙ e)))
+    go false e = with_line_of (placed_line i.shape (log_of w 0) t.entry.position) (sym (line_of_others i.shape (log_of w 0) stripe knows o t.entry.position placing (bears ∙ e)))

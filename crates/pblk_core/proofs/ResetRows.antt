@@ -40,7 +40,7 @@ row_else i w unit event line knows state simple is m other =
     let kept : KeepsStripes (log_of w 0) (new 0) = stripes_kept (log_of w 0) (ResetDone unit event) knows refl in
     row_kept i (log_of w) new m (lives_kept (log_of w 0) (ResetDone unit event) knows m refl) (none_freed (log_of w 0) (engine_plain i w simple) m)
     (keeps_chunks i (log_of w) (ResetDone unit event) knows m refl (λ u x told e. other (e ∙ is.told u x told)))
-    (lines_kept i (log_of w) (ResetDone unit event) knows refl refl refl)
+    (lines_kept i (log_of w) (ResetDone unit event) knows refl refl refl (λ unit. refl))
     (λ o e. ap₂ (λ a b. if a then states.Failed else if b then states.Full else states.Open) (failed_kept (log_of w 0) (new 0) kept o)
     (have_landed_alike (log_of w 0) (new 0) (alike_kept (log_of w 0) (ResetDone unit event) knows refl (λ unit. refl)) o (line_end i.shape o / i.shape.ws_opt)))
 
@@ -95,7 +95,7 @@ row_freed i w unit event line knows state b u us simple begins named is more =
     let stray : IsStray i w new line = stray_after i w unit event line knows old_stray in
     let was : are_empty (known_image i logs) line ≡ false = empty_before i logs line unit named (used_before i logs line unit named) in
     let now : are_empty (known_image i new) line ≡ false = used_not_empty (known_image i new) line u us (line_left i logs unit event line knows state named is ∙ more) in
-    let lines : KeepsLines i logs new = lines_kept i logs (ResetDone unit event) knows refl refl refl in
+    let lines : KeepsLines i logs new = lines_kept i logs (ResetDone unit event) knows refl refl refl (λ unit. refl) in
     same_row (state_in i new line (life_of (new 0) line)) (state_in i logs line (life_of (logs 0) line)) (width_in i new line (life_of (new 0) line)) (width_in i logs line (life_of (logs 0) line))
     (live i new line) (live i logs line) (taker_in i new line (life_of (new 0) line)) (taker_in i logs line (life_of (logs 0) line))
     (state_by i w new line false stray now ∙ sym (state_by i w logs line false old_stray was))
@@ -122,7 +122,7 @@ row_emptied i w unit event line knows state b simple begins named is none =
     let old_stray : IsStray i w logs line = stray_before i w line unit b simple begins named in
     let stray : IsStray i w new line = stray_after i w unit event line knows old_stray in
     let now : are_empty (known_image i new) line ≡ true = unused_empty (known_image i new) line (known_count i w new simple.mount) (line_left i logs unit event line knows state named is ∙ none) in
-    let lines : KeepsLines i logs new = lines_kept i logs (ResetDone unit event) knows refl refl refl in
+    let lines : KeepsLines i logs new = lines_kept i logs (ResetDone unit event) knows refl refl refl (λ unit. refl) in
     same_row (state_in i new line (life_of (new 0) line)) (emptied i.shape wide) (width_in i new line (life_of (new 0) line)) wide
     (live i new line) (live i logs line) (taker_in i new line (life_of (new 0) line)) (kept (emptied i.shape wide) (taker_in i logs line (life_of (logs 0) line)))
     (state_by i w new line true stray now)

@@ -9,7 +9,7 @@ use Rattle.pblk_meta.specs.Records.{start_numbers}
 use Rattle.pblk_world.specs.Answering.{MayLand}
 use Rattle.pblk_world.specs.Events.{Landed, Decides, Logged}
 use Rattle.pblk_world.specs.World.{World, Logs, log_of}
-use Rattle.pblk_world.specs.EngineLog.{Taken, is_life, Placed, is_as_found, is_opened}
+use Rattle.pblk_world.specs.EngineLog.{Taken, takes, is_life, Placed, is_as_found, is_opened}
 use Rattle.pblk_world.specs.Fronts.{first_position}
 use Rattle.pblk_world.specs.Placing.{line_end}
 use Rattle.pblk_world.specs.Space.{freed}
@@ -28,12 +28,16 @@ use Rattle.core_laws.proofs.Landing.{placing_landed}
 use Rattle.landing_laws.specs.ChunkBlocks.{can_be_read}
 use Rattle.landing_laws.proofs.LandedWindow.{given_back_landed}
 use Rattle.landing_laws.proofs.Slots.{first_kept}
+use Rattle.line_table.specs.Rows.{Table}
 use Rattle.line_laws.specs.Changes.{with_row, full_if}
 use Rattle.line_laws.specs.InOrder.{HasRoom}
 use Rattle.line_laws.specs.LandedStripes.{landed_count}
+use Rattle.line_laws.specs.PlacedEntries.{note_entries}
+use Rattle.line_laws.proofs.Kept.{KeepsStripes, stripes_kept}
+use Rattle.line_laws.proofs.NextTakes.{rising_by}
 use Rattle.line_laws.proofs.KeptRows.{begun_kept}
 use Rattle.line_laws.proofs.LandedCounts.{landed_whole, one_landed}
-use Rattle.line_laws.proofs.LandedRows.{rows_landed}
+use Rattle.line_laws.proofs.LandedEntries.{AreItsEntries, rows_landed}
 use Rattle.line_laws.proofs.LineRoom.{has_room}
 use Rattle.line_laws.proofs.OpenAddresses.{addresses_kept}
 use Rattle.line_laws.proofs.Orders.{in_order}
@@ -41,6 +45,7 @@ use Rattle.line_laws.proofs.PlacedFront.{front_kept}
 use Rattle.placed_laws.proofs.EntryHolds.{later_same, line_same}
 use Rattle.placing_laws.proofs.InOrder.{stripe_count}
 use Rattle.begin_laws.proofs.Lists.{mapped_agree as same_in_range}
+use Rattle.pblk_core.specs.Entries.{noted_lines}
 use Rattle.pblk_core.specs.Landing.{all_landed, one_landed as entry_landed}
 use Rattle.pblk_core.specs.Readable.{ReadBlock, all_moved, all_readable, reads_of}
 use Rattle.pblk_core.specs.Stands.{Stands, AreHolds, AreOpenLines, under_way, unlanded}
@@ -49,6 +54,8 @@ use Rattle.pblk_core.specs.declared.hold.Hold.{Hold}
 use Rattle.pblk_core.specs.declared.hold.Holds.{Holds}
 use Rattle.pblk_core.specs.declared.open_lines.OpenLine.{OpenLine}
 use Rattle.pblk_core.specs.declared.open_lines.OpenLines.{OpenLines}
+use Rattle.pblk_core.proofs.NotedEntries.{AreEntriesOf, entries_of_way}
+use Rattle.pblk_core.proofs.PlacedEntries.{lines_noted_are}
 use Rattle.core_laws.proofs.SimpleMounts.{simple_after}
 use Rattle.pblk_core.proofs.LandedLines.{HasSlot, fewer_landed}
 use Rattle.pblk_core.proofs.ChunkRows.{rows_of_chunks}
@@ -101,11 +108,13 @@ whole_now i w unit event knows of simple is =
     ∙ ap₂ (λ m n. m == n) (one_landed (log_of w 0) unit event knows is.row.stripe is.row.opening is.row.waits (ap (is_life is.row.opening.number) is.row.life ∙ same_number is.row.opening.number)) (end_is i w unit of is)
 
 pub table_now : (i : Image) (w : World) (unit event : ℕ) (knows : List ℕ) (of : Program) (full : Bool) → IsSimpleMount i w → (is : IsOnWay i w unit of) → MayLand (log_of w) unit event
-    → (landed_count (log_of w 0) is.row.opening + 1 == stripe_count i (now_units i w) is.row.opening.line) ≡ full → rows_of i (after (log_of w) (Landed unit event) knows) ≡ with_row of.line (full_if full) (rows_of i (log_of w))
-table_now i w unit event knows of full simple is may e =
+    → (landed_count (log_of w 0) is.row.opening + 1 == stripe_count i (now_units i w) is.row.opening.line) ≡ full → (ts : List Taken) → AreItsEntries i (log_of w) is.row.stripe ts
+    → rows_of i (after (log_of w) (Landed unit event) knows) ≡ with_row of.line (full_if full) (note_entries (log_of w 0) of.line (rows_of i (log_of w)) ts)
+table_now i w unit event knows of full simple is may e ts are =
     let order = in_order i w simple in
-    rows_landed i (log_of w) unit event knows is.row.stripe is.row.opening order.freed order.failed is.row.waits is.row.life is.stands (chunk_landed i w unit event is.row.stripe simple may is.row.waits)
-    ∙ ap₂ (λ ln b. with_row ln (full_if b) (rows_of i (log_of w))) (sym is.its_line ∙ line_of_way i w unit of is) (whole_now i w unit event knows of simple is ∙ e)
+    rows_landed i (log_of w) unit event knows is.row.stripe is.row.opening ts order.freed order.failed is.row.waits is.row.life is.stands (chunk_landed i w unit event is.row.stripe simple may is.row.waits)
+    (rising_by (first_position (log_of w 0)) (length (takes (log_of w 0))) (takes (log_of w 0)) order.numbered) are
+    ∙ ap₂ (λ ln b. with_row ln (full_if b) (note_entries (log_of w 0) ln (rows_of i (log_of w)) ts)) (sym is.its_line ∙ line_of_way i w unit of is) (whole_now i w unit event knows of simple is ∙ e)
 
 -- ---- the rows beside the entries
 
@@ -126,7 +135,8 @@ holds_now i w unit event knows of kept simple is are = record {
       (sym (given_back_landed i w unit event knows is.row.stripe is.row.opening t.entry.position simple is.row.waits is.row.life (rows_of_chunks i w is.row.opening unit simple)) ∙ given) in
       are.each t (subst (λ (ts : List Taken). Contains ts t) (takes_landed (log_of w) unit event knows) there) before
       ∙ ap₂ (λ ln (u : Option Taken). told_hold t ln u)
-      (sym (line_same i.shape (log_of w 0) l t.entry.position refl)) (sym (later_same (log_of w 0) l t refl));
+      (sym (line_same i.shape (log_of w 0) (after (log_of w) (Landed unit event) knows 0) (stripes_kept (log_of w 0) (Landed unit event) knows refl).placements
+      (KeepsStripes.losses (stripes_kept (log_of w 0) (Landed unit event) knows refl)) t.entry.position)) (sym (later_same (log_of w 0) l t refl));
 }
 
 -- ---- the core
@@ -136,7 +146,7 @@ pub record IsLandedInto (old new : Core) (of : Program) (k : ℕ) (slot : OpenLi
   pub layout : new.layout ≡ old.layout
   pub map : new.map ≡ all_moved old.layout.capacity slot.records.line old.map (reads_of slot of.unit from to)
   pub capacity : fin.len new.map ≡ fin.len old.map
-  pub lines : new.lines ≡ with_row of.line (full_if full) old.lines
+  pub lines : new.lines ≡ with_row of.line (full_if full) (noted_lines old.holds.rows.items of.line old.lines of.positions)
   pub window : new.window ≡ all_readable (all_landed old.window of.positions) (reads_of slot of.unit from to)
   pub placer : new.placer ≡ landed old.placer of
   pub holds : new.holds ≡ old.holds
@@ -188,7 +198,7 @@ landed_stands i w unit event knows old new of mid full from to simple st is wait
   has_begun = begun_kept (log_of w 0) (Landed unit event) knows refl ∙ st.has_begun;
   capacity = into.capacity ∙ st.capacity;
   slots = reads.slots;
-  table = into.lines ∙ ap (with_row of.line (full_if full)) st.table ∙ sym (table_now i w unit event knows of full simple is may full_is);
+  table = into.lines ∙ ap (with_row of.line (full_if full)) lines_are ∙ sym (table_now i w unit event knows of full simple is may full_is entries.entries entries.own);
   units = ap (λ l. l.items) into.live ∙ st.units ∙ same_in_range (live_now i (log_of w)) (live_now i new_logs) 0 i.shape.chunks (λ line inside. sym (live_landed i w unit event knows is.row.stripe st.beginning line simple may is.row.waits st.has_begun));
   resets = ap resets_left into.resets ∙ st.resets ∙ sym (resets_landed i w unit event knows is.row.stripe st.beginning simple may is.row.waits st.has_begun (ap is_opened is.stands));
   size = ap (λ v. v.size) into.window ∙ (reads_keep (all_landed old.window of.positions) (reads_of has.slot of.unit from to)).1 ∙ (landed_keeps old.window of.positions).1 ∙ st.size;
@@ -219,6 +229,13 @@ landed_stands i w unit event knows old new of mid full from to simple st is wait
 
     same_freed : new.window.freed ≡ old.window.freed
     same_freed = ap (λ v. v.freed) into.window ∙ (reads_keep (all_landed old.window of.positions) (reads_of has.slot of.unit from to)).0 ∙ (landed_keeps old.window of.positions).0
+
+    entries : AreEntriesOf i w old unit of is
+    entries = entries_of_way i w old unit of simple st is
+
+    lines_are : noted_lines old.holds.rows.items of.line old.lines of.positions ≡ note_entries (log_of w 0) of.line (rows_of i (log_of w)) entries.entries
+    lines_are = ap₂ (λ (t : Table) (qs : List ℕ). noted_lines old.holds.rows.items of.line t qs) st.table (sym entries.positions)
+        ∙ lines_noted_are i.shape (log_of w 0) of.line old.holds.rows.items (rows_of i (log_of w)) entries.entries entries.rows
 
     full_is : (landed_count (log_of w 0) is.row.opening + 1 == stripe_count i (now_units i w) is.row.opening.line) ≡ full
     full_is = full_by i w unit of has.slot.stripes_left full is has.is.left into.left into.none_left

@@ -59,6 +59,7 @@ use Rattle.pblk_core.specs.Stands.{Stands, AreHolds, AreOpenLines, IsOpenLine, l
 use Rattle.pblk_core.specs.Named.{next_line, next_units, next_start}
 use Rattle.std.proofs.lemmas.Bool.Decides.{eqb_tells}
 use Rattle.pblk_core.proofs.OpeningFacts.{MayOpenNext, IsNextLine, next_line_is, next_may_open}
+use Rattle.core_laws.proofs.Steady.{lost_same}
 use Rattle.pblk_core.proofs.SteadyLines.{open_same, under_way_same}
 use Rattle.pblk_core.proofs.FoundLines.{HasOldRow, free_unstarted, older_kept}
 use Rattle.pblk_core.proofs.KeptResets.{resets_opened, fits_same}
@@ -71,8 +72,11 @@ use Rattle.pblk_world.proofs.EngineLogLemmas.{takes_more}
 
 hold_same : (s : Shape) (log : List Logged) (e : EngineEvent) (knows : List ℕ) (t : Taken) → IsQuiet log e knows → hold_of s (log ++ record { event = Decides e; knows = knows } ∷ []) t ≡ hold_of s log t
 hold_same s log e knows t quiet = ap₂ (λ l u. record { mark = t.mark; line = l; taker = option_map (λ (v : Taken). v.entry.position) u })
-    (line_same s log (record { event = Decides e; knows = knows }) t.entry.position quiet.places)
+    (line_same s log new (quiet_alike log e knows quiet).placements (lost_same log new (quiet_alike log e knows quiet)) t.entry.position)
     (later_same log (record { event = Decides e; knows = knows }) t quiet.takes)
+  where
+    new : List Logged
+    new = log ++ record { event = Decides e; knows = knows } ∷ []
 
 pub takes_same : (log : List Logged) (e : EngineEvent) (knows : List ℕ) → IsQuiet log e knows → takes (log ++ record { event = Decides e; knows = knows } ∷ []) ≡ takes log
 takes_same log e knows quiet = takes_more log (record { event = Decides e; knows = knows }) ∙ ap (λ o. takes log ++ o) (ap (λ o. Rattle.std.specs.Option.option_to_list o) quiet.takes) ∙ append-nil (takes log)

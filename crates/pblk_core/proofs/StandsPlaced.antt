@@ -432,7 +432,7 @@ placed_stands i w knows old new o of stripe simple st has now for count is = rec
       room = ap (λ (hs : List Hold). length hs) is.holds ∙ rows_length of.line of.positions old.holds.rows.items ∙ st.holds.room;
       each = λ t among kept.
           ap (λ (hs : List Hold). slice_get hs (t.entry.position % i.shape.ring)) (is.holds ∙ ap₂ (λ line (qs : List ℕ). placed_rows line old.holds.rows.items qs) (sym for.line) here.positions)
-          ∙ row_placed_is i w old stripe knows (entries_for of.kind i.shape.ws_opt) t simple st in_stripe
+          ∙ row_placed_is i w old stripe knows o (entries_for of.kind i.shape.ws_opt) t simple st here.placing in_stripe
           (subst (λ (xs : List Taken). Contains xs t) takes_are among)
           (sym (given_kept i.shape (log_of w 0) (new_logs 0) (place_kept (log_of w 0) stripe knows o here.placing.opened (omega (arith, here.placing.idle))) t.entry.position) ∙ kept);
     }

@@ -47,7 +47,7 @@ use Rattle.sector_pool.specs.declared.entry.Class.TheVariants.{User}
 use Rattle.sector_pool.specs.declared.entry.Source.{Source as EntrySource}
 use Rattle.std.specs.Option.{option_map}
 use Rattle.pblk_core.proofs.TakenHolds.{holds_taken}
-use Rattle.pblk_core.proofs.LiveLine.{line_is}
+use Rattle.pblk_core.proofs.LiveLine.{line_is, landed_is}
 use Rattle.pblk_world.specs.Fronts.{last_take}
 use Rattle.pblk_world.specs.Victims.{line_of}
 use Rattle.core_laws.specs.RowsOf.{rows_of}
@@ -65,7 +65,7 @@ use Rattle.line_laws.proofs.PlainLogs.{none_freed}
 use Rattle.landing_laws.proofs.Entries.{in_order}
 use Rattle.std.proofs.lemmas.Option.{same_Some}
 use Rattle.pblk_core.specs.Taken.{entry_of, mark_of}
-use Rattle.pblk_core.specs.Holds.{line_of_slot, rows_with_taker}
+use Rattle.pblk_core.specs.Holds.{has_landed_in, line_of_slot, rows_with_taker}
 use Rattle.line_laws.specs.Changes.{lose_in}
 use Rattle.pblk_core.specs.declared.target_core.Core.{Core}
 use Rattle.sector_pool.specs.declared.entry.Entry.{Entry as FramedEntry}
@@ -144,7 +144,7 @@ pub record IsTakenInto (old new : Core) (e : FramedEntry) : Type 0 where
   pub layout : new.layout ≡ old.layout
   pub map : new.map ≡ fin.insert old.map e.lba (Cached e.position)
   pub capacity : fin.len new.map ≡ fin.len old.map
-  pub lines : new.lines ≡ lose_in (line_of_slot old.holds.rows.items slot) e.position old.lines
+  pub lines : new.lines ≡ lose_in (line_of_slot old.holds.rows.items slot) (has_landed_in old.window slot) e.position old.lines
   pub window : new.window ≡ record old.window { entries = old.window.entries ++ record { entry = e; progress = Waiting } ∷ [] }
   pub placer : new.placer ≡ waits old.placer e.position false
   pub holds : new.holds.rows.items ≡ slice_set (rows_with_taker slot e.position old.holds.rows.items)
@@ -213,7 +213,8 @@ taken_stands i w knows old new e simple st is position room class user inside = 
   has_begun = begun_kept (log_of w 0) (Take (entry_of e) (mark_of e)) knows refl ∙ st.has_begun;
   capacity = is.capacity ∙ st.capacity;
   slots = λ x within. ap (λ m. fin.get m x) is.map ∙ slots_taken i (log_of w) (entry_of e) (mark_of e) knows old.map x unplaced refl st.slots within;
-  table = is.lines ∙ ap₂ (λ o t. lose_in o e.position t) line_now st.table ∙ sym table_now;
+  table = is.lines ∙ ap₂ (λ o t. lose_in o (has_landed_in old.window is.slot) e.position t) line_now st.table
+      ∙ ap (λ slot. lose_in (line_of i (log_of w) e.lba (last_take (log_of w 0) e.lba)) (has_landed_in old.window slot) e.position (rows_of i (log_of w))) slot_now ∙ sym table_now;
   units = ap (λ l. l.items) is.live ∙ st.units ∙ map_same (live_now i (log_of w)) (live_now i new_logs) (λ line. sym (units_taken i (log_of w) (entry_of e) (mark_of e) knows line)) (range_with_len 0 i.shape.chunks);
   resets = ap resets_left is.resets ∙ st.resets ∙ sym (resets_quiet i (log_of w) (Take (entry_of e) (mark_of e)) knows refl (λ unit. refl) (λ line. life_more (log_of w 0) (record { event = Decides (Take (entry_of e) (mark_of e)); knows = knows }) line));
   size = ap (λ v. v.size) is.window ∙ st.size;
@@ -287,8 +288,9 @@ taken_stands i w knows old new e simple st is position room class user inside = 
         ∙ sym (window_taken i.shape (log_of w 0) (entry_of e) (mark_of e) knows old.window.freed unplaced taken_is (freed_taken_within i w old st))
         ∙ ap (window_from i.shape (new_logs 0)) (sym (ap (λ v. v.freed) is.window))
 
-    table_now : rows_of i new_logs ≡ lose_in (line_of i (log_of w) e.lba (last_take (log_of w 0) e.lba)) e.position (rows_of i (log_of w))
-    table_now = rows_taken i (log_of w) (entry_of e) (mark_of e) knows (none_freed (log_of w 0) (engine_plain i w simple)) (in_order i w (accepted_small i.shape simple.mount.accepted) simple.mount.legal).numbered unplaced taken_is inside
+    table_now : rows_of i new_logs ≡ lose_in (line_of i (log_of w) e.lba (last_take (log_of w 0) e.lba)) (has_landed_in old.window (slot_of i (log_of w) e.lba)) e.position (rows_of i (log_of w))
+    table_now = rows_taken i (log_of w) (entry_of e) (mark_of e) knows (has_landed_in old.window (slot_of i (log_of w) e.lba)) (none_freed (log_of w 0) (engine_plain i w simple)) (in_order i w (accepted_small i.shape simple.mount.accepted) simple.mount.legal).numbered unplaced taken_is inside
+        (landed_is i w old e.lba simple st)
 
     placing_is : new.placer ≡ placing_of i new_logs new.placer.entries.pad st.again
     placing_is =

@@ -1,5 +1,5 @@
 -- The rows beside the entries once one more is taken.
-use Rattle.std.proofs.Common.{◌≡◌, ◌≢◌, ◌⊎◌, inl, inr, ℕ, ◌+◌, ◌*◌, ◌/◌, ◌%◌, ◌<◌, ◌≤◌, ◌==◌, ◌&&◌, zero, suc, nat_lt, Bool, true, false, cond, Some, None, Option, List, [], ◌∷◌, ◌++◌, length, refl, sym, subst, ap, ap₂, ◌∙◌, arith, length-set}
+use Rattle.std.proofs.Common.{◌≡◌, ◌≢◌, ◌⊎◌, inl, inr, ℕ, ◌+◌, ◌*◌, ◌/◌, ◌%◌, ◌<◌, ◌≤◌, ◌==◌, ◌&&◌, zero, suc, not, nat_lt, Bool, true, false, cond, Some, None, Option, List, [], ◌∷◌, ◌++◌, length, refl, sym, subst, ap, ap₂, ◌∙◌, arith, length-set}
 use Rattle.std.specs.Prelude.{slice_get, slice_set}
 use Rattle.std.specs.List.{Contains, filter, find, list_any, last_or}
 use Rattle.std.specs.Option.{option_map, option_map_or}
@@ -11,7 +11,7 @@ use Rattle.pblk_model.specs.declared.chunk.Mark.{Mark}
 use Rattle.pblk_model.specs.Image.{Image}
 use Rattle.pblk_world.specs.Events.{Entry, Take, Decides, Logged}
 use Rattle.pblk_world.specs.World.{Logs}
-use Rattle.pblk_world.specs.EngineLog.{Taken, takes, Placed, placements, holds_position}
+use Rattle.pblk_world.specs.EngineLog.{Taken, takes, Placed, placements, was_lost, holds_position}
 use Rattle.pblk_world.specs.Fronts.{first_position, taken, last_take}
 use Rattle.pblk_world.specs.Space.{gives_back, freed}
 use Rattle.l2p_map.specs.declared.slot.Slot.{Slot}
@@ -24,7 +24,7 @@ use Rattle.core_laws.proofs.Placing.{not_below}
 use Rattle.core_laws.proofs.Stripes.{find_fails_last}
 use Rattle.core_laws.proofs.Taking.{alike}
 use Rattle.core_laws.proofs.TakenSlots.{gives_back_same, any_same}
-use Rattle.core_laws.proofs.Steady.{AreAlike}
+use Rattle.core_laws.proofs.Steady.{AreAlike, lost_same}
 use Rattle.landing_laws.proofs.Least.{least_below}
 use Rattle.landing_laws.proofs.Cached.{IsCachedEntry, cached, last_is_among, numbered_at}
 use Rattle.landing_laws.proofs.FreedFront.{freed_taken}
@@ -38,9 +38,10 @@ use Rattle.pblk_core.specs.declared.hold.Holds.{Holds}
 use Rattle.pblk_core.specs.Holds.{hold_of, row_at, with_taker, rows_with_taker}
 use Rattle.pblk_core.specs.Stands.{AreHolds}
 use Rattle.pblk_core.proofs.HoldRows.{taker_length}
+use Rattle.lemmas.proofs.Lists.{all_imply}
 use Rattle.lemmas.proofs.Maps.{find_none}
 use Rattle.lemmas.proofs.Parts.{get_set_other, get_set_same, is_in}
-use Rattle.lemmas.proofs.Tests.{both as both_true, lt_true, same_number}
+use Rattle.lemmas.proofs.Tests.{both as both_true, lt_true, not_first, same_number}
 use Rattle.pblk_world.proofs.EngineLogLemmas.{takes_more}
 
 -- ---- numbers
@@ -223,7 +224,7 @@ holds_taken i logs knows entry mark holds new from numbered none are sector next
     some_rows = subst (λ n. 0 < n) (sym are.room) some
 
     line_now : (q : ℕ) → placed_line i.shape new_log q ≡ placed_line i.shape log q
-    line_now q = line_same i.shape log event q refl
+    line_now q = line_same i.shape log new_log (alike log entry mark knows).placements (lost_same log new_log (alike log entry mark knows)) q
 
     back_now : (q : ℕ) → is_given_back i.shape new_log q ≡ is_given_back i.shape log q
     back_now q =
@@ -257,7 +258,9 @@ holds_taken i logs knows entry mark holds new from numbered none are sector next
         ∙ none_is_later log t0 numbered (let e : t0.entry.position ≡ taken log = next in omega arith)
 
     no_line : placed_line i.shape new_log entry.position ≡ None
-    no_line = line_now entry.position ∙ ap (option_map (λ (p : Placed). p.stripe.line)) (find_none (holds_position i.shape entry.position) (placements log) none)
+    no_line = line_now entry.position ∙ ap (option_map (λ (p : Placed). p.stripe.line)) (find_none (λ (p : Placed). holds_position i.shape entry.position p && not (was_lost log p)) (placements log)
+        (all_imply (λ (p : Placed). holds_position i.shape entry.position p ≡ false) (λ (p : Placed). (holds_position i.shape entry.position p && not (was_lost log p)) ≡ false)
+        (λ p h. not_first (holds_position i.shape entry.position p) (not (was_lost log p)) h) (placements log) none))
 
     newest : slice_get new.rows.items (entry.position % i.shape.ring) ≡ Some (hold_of i.shape new_log t0)
     newest =

@@ -1,13 +1,13 @@
--- The entries of a stripe that is placed: their blocks, and what they change in the table of lines.
+-- The entries of a stripe: their blocks, and what they change in the table of lines once the stripe is placed, and once
+-- it has landed.
 use Rattle.std.specs.Prelude.{ℕ, ◌%◌, List, [], map, length, slice_set, Option, Some, None}
 use Rattle.std.specs.List.{fold}
 use Rattle.std.specs.Option.{option_map_or, unwrap_or}
 use Rattle.pblk_model.specs.Chunk.{Block}
 use Rattle.pblk_model.specs.Marks.{pad_mark}
-use Rattle.line_table.specs.declared.row.Row.{Row}
-use Rattle.line_table.specs.Rows.{Table, lost}
-use Rattle.line_laws.specs.Changes.{with_row}
-use Rattle.line_laws.specs.PlacedEntries.{gained}
+use Rattle.line_table.specs.Rows.{Table}
+use Rattle.line_laws.specs.Changes.{note_by}
+use Rattle.line_laws.specs.PlacedEntries.{place_by}
 use Rattle.write_window.specs.Window.{WindowView, sector_at}
 use Rattle.pblk_core.specs.Holds.{row_at}
 use Rattle.pblk_core.specs.declared.hold.Hold.{Hold}
@@ -22,17 +22,21 @@ entry_block w rows position = record {
 abbrev pub entry_blocks : WindowView → List Hold → List ℕ → List Block
 entry_blocks w rows positions = map (entry_block w rows) positions
 
--- An entry brings its line a live sector, which a later entry of the sector takes at once.
-abbrev pub placed_by : Option ℕ → Row → Row
-placed_by None row = gained row
-placed_by (Some by) row = lost by (gained row)
-
+-- An entry brings its line a live sector, unless a later entry of the sector was taken.
 abbrev pub place_hold : ℕ → Table → Option Hold → Table
 place_hold line t None = t
-place_hold line t (Some h) = with_row line (placed_by h.taker) t
+place_hold line t (Some h) = place_by h.taker line t
 
 abbrev pub placed_lines : List Hold → ℕ → Table → List ℕ → Table
 placed_lines rows line t positions = fold (λ u position. place_hold line u (row_at rows position)) t positions
+
+-- An entry has landed in a line: what took its sector before took it from the line.
+abbrev pub note_hold : ℕ → Table → Option Hold → Table
+note_hold line t None = t
+note_hold line t (Some h) = note_by h.taker line t
+
+abbrev pub noted_lines : List Hold → ℕ → Table → List ℕ → Table
+noted_lines rows line t positions = fold (λ u position. note_hold line u (row_at rows position)) t positions
 
 -- the rows tell the line of each
 abbrev pub with_line : ℕ → Hold → Hold

@@ -1,5 +1,5 @@
 -- What the core keeps beside each entry of its window, by the logs.
-use Rattle.std.specs.Prelude.{ℕ, ◌%◌, List, length, slice_get, slice_set, Option, Some, None}
+use Rattle.std.specs.Prelude.{ℕ, ◌%◌, Bool, true, false, List, length, slice_get, slice_set, Option, Some, None}
 use Rattle.std.specs.Option.{option_map, option_map_or, option_and_then}
 use Rattle.pblk_model.specs.declared.shape.Shape.{Shape}
 use Rattle.pblk_world.specs.Events.{Logged}
@@ -7,6 +7,7 @@ use Rattle.pblk_world.specs.EngineLog.{Taken}
 use Rattle.placed_laws.specs.EntryHolds.{later_take, placed_line}
 use Rattle.l2p_map.specs.declared.slot.Slot.{Slot}
 use Rattle.l2p_map.specs.declared.slot.Slot.TheVariants.{Unwritten, Cached, Media}
+use Rattle.write_window.specs.Window.{WindowView, has_landed_at}
 use Rattle.pblk_core.specs.declared.hold.Hold.{Hold}
 
 abbrev pub hold_of : Shape → List Logged → Taken → Hold
@@ -27,6 +28,12 @@ abbrev pub line_of_slot : List Hold → Slot → Option ℕ
 line_of_slot rows Unwritten = None
 line_of_slot rows (Media line at position) = Some line
 line_of_slot rows (Cached position) = option_and_then (λ (h : Hold). h.line) (row_at rows position)
+
+-- whether it has landed
+abbrev pub has_landed_in : WindowView → Slot → Bool
+has_landed_in w Unwritten = false
+has_landed_in w (Media line at position) = true
+has_landed_in w (Cached position) = has_landed_at w position
 
 abbrev pub with_taker : ℕ → Hold → Hold
 with_taker by h = record { mark = h.mark; line = h.line; taker = Some by }

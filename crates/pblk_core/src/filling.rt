@@ -1,11 +1,11 @@
-//! The entries of a stripe that is placed.
+//! The entries of a stripe that is placed, or has landed.
 
 ghost use Rattle.std.specs.Prelude.{ℕ, ◌≡◌, ◌+◌, ◌*◌, ◌<◌, ◌≤◌, ◌^◌, [], ◌∷◌, List, length, Some, slice_get};
 ghost use Rattle.line_table.specs.declared.row.Row.{Row};
 ghost use Rattle.line_table.specs.Rows.{IsRow};
 ghost use Rattle.write_window.specs.Window.{IsHeld, sector_at};
 ghost use Rattle.pblk_core.specs.Filling.{followed_by};
-ghost use Rattle.pblk_core.specs.Entries.{entry_blocks, place_hold, placed_lines, placed_rows};
+ghost use Rattle.pblk_core.specs.Entries.{entry_blocks, note_hold, noted_lines, place_hold, placed_lines, placed_rows};
 
 use crate::hold::{Hold, Holds};
 use crate::stripe::Stripe;
@@ -48,9 +48,8 @@ fn add_entry(window: &Window, holds: &Holds, position: u64, into: &mut Stripe)
     }
 }
 
-/// Notes that the entries of a placement are in its line: each is a live sector there, until a later entry of
-/// the sector takes it. Where such an entry was taken already, it does so at once. The line has room for their
-/// number.
+/// Notes that the entries of a placement are in its line: each is a live sector there, unless a later entry of
+/// the sector was taken already. The line has room for their number.
 pub(crate) fn settle_lines(lines: &mut Lines, holds: &Holds, line: u32, positions: &[u64])
     requires rows { 0 < length holds.now.rows.items }
     requires inside { line < length lines.old.rows }
@@ -70,9 +69,31 @@ fn settle_line(lines: &mut Lines, line: u32, hold: &Hold)
     requires room { (row : Row) → IsRow lines.old line row → row.live + 1 < 2 ^ 32 }
     ensures { lines.new ≡ place_hold line lines.old (Some hold.now) }
 {
-    lines.gain(line);
+    if hold.taker.is_none() {
+        lines.gain(line);
+    }
+}
+
+/// Notes that the entries of a stripe have landed in its line. Where a later entry of the sector was taken
+/// before, it took the sector from the line.
+pub(crate) fn note_takers(lines: &mut Lines, holds: &Holds, line: u32, positions: &[u64])
+    requires rows { 0 < length holds.now.rows.items }
+    requires inside { line < length lines.old.rows }
+    ensures { lines.new ≡ noted_lines holds.now.rows.items line lines.old positions.now }
+{
+    for index in 0..positions.len() {
+        let hold = holds.get(positions[index]);
+        note_taker(lines, line, &hold);
+    }
+}
+
+// Notes that an entry has landed in a line.
+fn note_taker(lines: &mut Lines, line: u32, hold: &Hold)
+    requires { line < length lines.old.rows }
+    ensures { lines.new ≡ note_hold line lines.old (Some hold.now) }
+{
     if let Some(taker) = hold.taker {
-        lines.lose(line, taker);
+        lines.note_taker(line, taker);
     }
 }
 

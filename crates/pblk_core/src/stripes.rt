@@ -16,7 +16,7 @@ ghost use Rattle.pblk_core.specs.Mounts.{InItsMount, StandsAfter};
 ghost use Rattle.pblk_core.specs.Stands.{Stands, IsStanding};
 ghost use Rattle.pblk_core.specs.declared.work.Work.TheVariants as works;
 
-use crate::filling::{fill, settle_holds, settle_lines};
+use crate::filling::{fill, note_takers, settle_holds, settle_lines};
 use crate::reading::make_readable;
 use crate::stripe::Stripe;
 use crate::target_core::Core;
@@ -82,7 +82,9 @@ impl Core {
             Some(of) => of,
             None => unreachable!(),
         };
-        land_entries(&mut self.window, self.placer.positions(unit));
+        let positions = self.placer.positions(unit);
+        land_entries(&mut self.window, positions);
+        note_takers(&mut self.lines, &self.holds, of.line, positions);
         let index = self.open.find(of.line);
         let shape = self.layout.shape();
         let (from, to) = readable_range(shape, of.block);

@@ -11,7 +11,7 @@ ghost use Rattle.pblk_world.specs.World.{log_of};
 ghost use Rattle.sector_pool.specs.declared.entry.Class.TheVariants.{User};
 ghost use Rattle.write_window.specs.Window as view;
 ghost use Rattle.write_window.specs.declared.held.Progress.TheVariants.{Waiting};
-ghost use Rattle.pblk_core.specs.Holds.{line_of_slot, rows_with_taker};
+ghost use Rattle.pblk_core.specs.Holds.{has_landed_in, line_of_slot, rows_with_taker};
 ghost use Rattle.pblk_core.specs.Named.{pad_of};
 ghost use Rattle.pblk_core.specs.Mounts.{InItsMount, StandsAfter};
 ghost use Rattle.pblk_core.specs.Stands.{IsStanding};
@@ -23,26 +23,33 @@ use l2p_map::Slot;
 use line_table::Lines;
 use pblk_model::Mark;
 use sector_pool::Entry;
+use write_window::Window;
 
 // Notes that the entry at position `by` takes over from what was the latest of its sector. The line in which
-// that was live has one live sector less.
-fn supersede(slot: Slot, lines: &mut Lines, holds: &mut Holds, by: u64)
+// that was live has one live sector less. Where it has landed there, the entry took it from the line.
+fn supersede(slot: Slot, window: &Window, lines: &mut Lines, holds: &mut Holds, by: u64)
     requires room { 0 < length holds.old.rows.items }
     requires inside { (line : ℕ) → line_of_slot holds.old.rows.items slot ≡ Some line
         → line < length lines.old.rows }
     requires live { (line : ℕ) (row : Row) → line_of_slot holds.old.rows.items slot ≡ Some line
         → IsRow lines.old line row → 0 < row.live }
-    ensures lines { lines.new ≡ lose_in (line_of_slot holds.old.rows.items slot) by lines.old }
+    ensures lines { lines.new ≡ lose_in (line_of_slot holds.old.rows.items slot)
+        (has_landed_in window.now slot) by lines.old }
     ensures holds { holds.new.rows.items ≡ rows_with_taker slot by holds.old.rows.items }
 {
     let line = line_of_slot(&slot, holds);
+    let landed = has_landed(&slot, window);
     match slot {
         Slot::Unwritten => (),
         Slot::Media { .. } => (),
         Slot::Cached(position) => holds.set_taker(position, by),
     }
     if let Some(line) = line {
-        lines.lose(line, by);
+        if landed {
+            lines.lose(line, by);
+        } else {
+            lines.lower(line);
+        }
     }
 }
 
@@ -55,6 +62,17 @@ fn line_of_slot(slot: &Slot, holds: &Holds) -> Option<u32>
         Slot::Unwritten => None,
         Slot::Media { line, .. } => Some(line),
         Slot::Cached(position) => holds.get(position).line,
+    }
+}
+
+// Whether the content of a slot has landed.
+fn has_landed(slot: &Slot, window: &Window) -> bool
+    ensures { result ≡ has_landed_in window.now slot.now }
+{
+    match *slot {
+        Slot::Unwritten => false,
+        Slot::Media { .. } => true,
+        Slot::Cached(position) => window.has_landed(position),
     }
 }
 
@@ -83,6 +101,7 @@ impl Core {
         self.users += 1;
         supersede(
             self.map.get(lba),
+            &self.window,
             &mut self.lines,
             &mut self.holds,
             position,

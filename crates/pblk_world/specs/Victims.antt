@@ -11,7 +11,7 @@ use Rattle.pblk_model.specs.Records.{named}
 use Rattle.pblk_model.specs.Contents.{counted, winner, is_of}
 use Rattle.pblk_world.specs.Events.{Logged}
 use Rattle.pblk_world.specs.World.{Logs}
-use Rattle.pblk_world.specs.EngineLog.{LineLife, AsFound, Opened, Freed, life_of, is_as_found, is_life, Taken, takes, placements, was_lost, has_failed, holds_position}
+use Rattle.pblk_world.specs.EngineLog.{LineLife, AsFound, Opened, Freed, life_of, is_as_found, is_life, Taken, takes, placements, has_landed, was_lost, has_failed, holds_position}
 use Rattle.pblk_world.specs.Fronts.{last_take}
 use Rattle.pblk_world.specs.Lines.{found_image, known_image, chunks_of, are_over, line_data}
 use Rattle.pblk_world.specs.Starts.{newest_start, seq_of}
@@ -45,15 +45,26 @@ is_live_in i logs line lba = is_of line (line_of i logs lba (last_take (logs 0) 
 abbrev pub live : Image → Logs → ℕ → ℕ
 live i logs line = length (filter (is_live_in i logs line) (range_with_len 0 i.shape.capacity))
 
--- Takers. A position took a sector from the line in which the sector's latest entry before it is placed, sooner
--- or later.
+-- Takers. A position took a sector from the line in which the sector's latest entry before it has landed, also
+-- where it took the sector before that landing. Where the stripe of that entry was lost, it took nothing from
+-- its line.
 
 abbrev pub take_before : List Logged → Taken → Option Taken
 take_before log t = last_or None
     (filter (λ u. (u.mark.lba == t.mark.lba) && nat_lt u.entry.position t.entry.position) (takes log))
 
+-- the line of the stripe, landed, that holds the position
+abbrev pub landed_line : Shape → List Logged → ℕ → Option ℕ
+landed_line s log position = option_map (λ p. p.stripe.line)
+    (find (λ p. holds_position s position p && has_landed log p && is_in_force log p.life p.stripe.line) (placements log))
+
+-- the line in which this entry of a sector has landed, or its winner was found
+abbrev pub landed_line_of : Image → Logs → ℕ → Option Taken → Option ℕ
+landed_line_of i logs lba None = line_of_winner i logs lba
+landed_line_of i logs lba (Some t) = landed_line i.shape (logs 0) t.entry.position
+
 abbrev pub took_from : Image → Logs → ℕ → Taken → Bool
-took_from i logs line t = nat_lt t.mark.lba i.shape.capacity && is_of line (line_of i logs t.mark.lba (take_before (logs 0) t))
+took_from i logs line t = nat_lt t.mark.lba i.shape.capacity && is_of line (landed_line_of i logs t.mark.lba (take_before (logs 0) t))
 
 -- one past the greatest position that took a sector from the line, and 0 where none did
 abbrev pub taken_up_to : Image → Logs → ℕ → ℕ

@@ -1,26 +1,27 @@
 -- What an event changes of the later entry of a sector, and of the line of an entry's stripe.
-use Rattle.std.proofs.Common.{◌≡◌, ℕ, ◌+◌, ◌<◌, ◌≤◌, ◌==◌, ◌&&◌, ◌||◌, nat_lt, nat_le, Bool, true, false, cond, Some, None, Option, List, [], ◌∷◌, ◌++◌, length, take, refl, ap, ap₂, ◌∙◌, arith, append-nil}
-use Rattle.std.specs.Prelude.{is_some}
+use Rattle.std.proofs.Common.{◌≡◌, ℕ, ◌+◌, ◌<◌, ◌≤◌, ◌==◌, ◌&&◌, ◌||◌, nat_lt, nat_le, Bool, true, false, cond, Some, None, Option, List, [], ◌∷◌, ◌++◌, length, refl, ap, ap₂, ◌∙◌, arith, append-nil, le_of_lt}
+use Rattle.std.specs.Prelude.{is_some, not}
 use Rattle.std.specs.List.{find, list_any}
 use Rattle.std.specs.Option.{option_map, option_to_list}
 use Rattle.pblk_model.specs.declared.shape.Shape.{Shape}
 use Rattle.pblk_model.specs.declared.chunk.Mark.{Mark}
-use Rattle.pblk_world.specs.Events.{Entry, Stripe, Take, Place, Decides, Logged}
-use Rattle.pblk_world.specs.EngineLog.{Taken, taken_by, takes, life_of, Placed, placed_by, placements, holds_position, bears_position}
+use Rattle.pblk_world.specs.Events.{Entry, Stripe, Take, Decides, Logged}
+use Rattle.pblk_world.specs.EngineLog.{Taken, taken_by, takes, Opening, Placed, placements, was_lost, is_loss, holds_position, bears_position}
 use Rattle.pblk_world.specs.Fronts.{first_position, taken}
 use Rattle.pblk_world.specs.Space.{placed_front}
-use Rattle.pblk_world.proofs.Appending.{placements_more}
 use Rattle.core_laws.specs.Positions.{AreNumbered}
-use Rattle.core_laws.proofs.Placing.{not_below}
+use Rattle.core_laws.proofs.Engine.{placements_before}
+use Rattle.core_laws.proofs.Placing.{not_below, with_place, new_placed, IsPlacing, placements_now, answer_now, new_unanswered}
+use Rattle.core_laws.proofs.TakenSlots.{find_same}
 use Rattle.core_laws.proofs.Stripes.{find_last, find_fails_last}
 use Rattle.core_laws.proofs.PlacedPositions.{numbered_below}
 use Rattle.stripe_placer.proofs.Rows.{find_first as found_stays}
 use Rattle.placed_laws.specs.EntryHolds.{later_take, placed_line}
-use Rattle.placed_laws.proofs.Ordered.{IsOrdered, some_hold_below}
+use Rattle.placed_laws.proofs.Ordered.{IsOrdered, never_lost, some_hold_below}
 use Rattle.lemmas.proofs.Lists.{all_imply}
-use Rattle.lemmas.proofs.Maps.{find_none}
-use Rattle.lemmas.proofs.Options.{some_mapped}
-use Rattle.lemmas.proofs.Tests.{and_false, lt_true, same_number}
+use Rattle.lemmas.proofs.Maps.{find_agree, find_none}
+use Rattle.lemmas.proofs.Options.{none_of_map, some_mapped}
+use Rattle.lemmas.proofs.Tests.{and_false, lt_true, not_first, same_number}
 use Rattle.pblk_world.proofs.EngineLogLemmas.{takes_more}
 
 -- ---- the later entry of a sector
@@ -60,39 +61,53 @@ none_is_later log t numbered last =
 
 -- ---- the line of the stripe
 
-pub line_stays : (s : Shape) (log : List Logged) (l : Logged) (q line : ℕ) → placed_line s log q ≡ Some line → placed_line s (log ++ l ∷ []) q ≡ Some line
-line_stays s log l q line e = ap (λ ps. option_map (λ (p : Placed). p.stripe.line) (find (holds_position s q) ps)) (placements_more log l) ∙ go (find (holds_position s q) (placements log)) refl e
-  where
-    go : (o : Option Placed) → find (holds_position s q) (placements log) ≡ o → option_map (λ (p : Placed). p.stripe.line) o ≡ Some line
-        → option_map (λ (p : Placed). p.stripe.line) (find (holds_position s q) (placements log ++ option_to_list (placed_by log (length log) l.event))) ≡ Some line
-    go None f g = absurd cc
-    go (Some p) f g = ap (option_map (λ (p : Placed). p.stripe.line)) (found_stays (holds_position s q) (placements log) (option_to_list (placed_by log (length log) l.event)) p f) ∙ g
+-- the same stripes are placed, and the same ones are lost
+pub line_same : (s : Shape) (log new : List Logged) → placements new ≡ placements log → ((p : Placed) → was_lost new p ≡ was_lost log p) → (q : ℕ) → placed_line s new q ≡ placed_line s log q
+line_same s log new placed losses q =
+    ap (λ ps. option_map (λ (p : Placed). p.stripe.line) (find (λ (p : Placed). holds_position s q p && not (was_lost new p)) ps)) placed
+    ∙ ap (option_map (λ (p : Placed). p.stripe.line))
+    (find_same (λ (p : Placed). holds_position s q p && not (was_lost new p)) (λ (p : Placed). holds_position s q p && not (was_lost log p))
+    (λ p. ap (λ b. holds_position s q p && not b) (losses p)) (placements log))
 
-pub line_same : (s : Shape) (log : List Logged) (l : Logged) (q : ℕ) → placed_by log (length log) l.event ≡ None → placed_line s (log ++ l ∷ []) q ≡ placed_line s log q
-line_same s log l q none = ap (λ ps. option_map (λ (p : Placed). p.stripe.line) (find (holds_position s q) ps)) (placements_more log l ∙ ap (λ o. placements log ++ option_to_list o) none ∙ append-nil (placements log))
+abbrev IsFor : Shape → List Logged → ℕ → Placed → Bool
+IsFor s log q p = holds_position s q p && not (was_lost log p)
 
-pub line_of_others : (s : Shape) (log : List Logged) (stripe : Stripe) (knows : List ℕ) (q : ℕ) → list_any (bears_position s q) stripe.blocks ≡ false
-    → placed_line s (log ++ record { event = Decides (Place stripe); knows = knows } ∷ []) q ≡ placed_line s log q
-line_of_others s log stripe knows q not_held =
-    let p : Placed = record { number = length log; stripe = stripe; life = life_of (take (length log) log) stripe.line } in
-    ap (λ ps. option_map (λ (p : Placed). p.stripe.line) (find (holds_position s q) ps)) (placements_more log (record { event = Decides (Place stripe); knows = knows }))
-    ∙ ap (option_map (λ (p : Placed). p.stripe.line)) (find_fails_last (holds_position s q) (placements log) p not_held)
+-- a stripe is placed: the others are lost or not as they were
+others_now : (s : Shape) (log : List Logged) (stripe : Stripe) (knows : List ℕ) (o : Opening) (q : ℕ) → IsPlacing log stripe o
+    → find (IsFor s (with_place log stripe knows) q) (placements log) ≡ find (IsFor s log q) (placements log)
+others_now s log stripe knows o q is =
+    find_agree (λ (p : Placed). p.number < length log) (IsFor s (with_place log stripe knows) q) (IsFor s log q)
+    (λ p before. ap (λ a. holds_position s q p && not (is_loss a)) (answer_now log stripe knows o p is.opened (le_of_lt before))) (placements log) (placements_before log)
 
-none_found : (s : Shape) (log : List Logged) (q : ℕ) → placed_line s log q ≡ None → find (holds_position s q) (placements log) ≡ None
-none_found s log q e = go (find (holds_position s q) (placements log)) e
-  where
-    go : (o : Option Placed) → option_map (λ (p : Placed). p.stripe.line) o ≡ None → o ≡ None
-    go None f = refl
-    go (Some p) f = absurd cc
+pub line_of_others : (s : Shape) (log : List Logged) (stripe : Stripe) (knows : List ℕ) (o : Opening) (q : ℕ) → IsPlacing log stripe o → list_any (bears_position s q) stripe.blocks ≡ false
+    → placed_line s (with_place log stripe knows) q ≡ placed_line s log q
+line_of_others s log stripe knows o q is not_held =
+    let new : List Logged = with_place log stripe knows in
+    ap (λ ps. option_map (λ (p : Placed). p.stripe.line) (find (IsFor s new q) ps)) (placements_now log stripe knows o is.opened)
+    ∙ ap (option_map (λ (p : Placed). p.stripe.line))
+    (find_fails_last (IsFor s new q) (placements log) (new_placed log stripe o)
+    (not_first (holds_position s q (new_placed log stripe o)) (not (was_lost new (new_placed log stripe o))) not_held)
+    ∙ others_now s log stripe knows o q is)
 
-pub line_of_stripe : (s : Shape) (log : List Logged) (stripe : Stripe) (knows : List ℕ) (q : ℕ) → placed_line s log q ≡ None → list_any (bears_position s q) stripe.blocks ≡ true
-    → placed_line s (log ++ record { event = Decides (Place stripe); knows = knows } ∷ []) q ≡ Some stripe.line
-line_of_stripe s log stripe knows q none held =
-    let p : Placed = record { number = length log; stripe = stripe; life = life_of (take (length log) log) stripe.line } in
-    ap (λ ps. option_map (λ (p : Placed). p.stripe.line) (find (holds_position s q) ps)) (placements_more log (record { event = Decides (Place stripe); knows = knows }))
-    ∙ ap (option_map (λ (p : Placed). p.stripe.line)) (find_last (holds_position s q) (placements log) p true held (none_found s log q none))
+pub line_of_stripe : (s : Shape) (log : List Logged) (stripe : Stripe) (knows : List ℕ) (o : Opening) (q : ℕ) → IsPlacing log stripe o → placed_line s log q ≡ None → list_any (bears_position s q) stripe.blocks ≡ true
+    → placed_line s (with_place log stripe knows) q ≡ Some stripe.line
+line_of_stripe s log stripe knows o q is none held =
+    let new : List Logged = with_place log stripe knows in
+    ap (λ ps. option_map (λ (p : Placed). p.stripe.line) (find (IsFor s new q) ps)) (placements_now log stripe knows o is.opened)
+    ∙ ap (option_map (λ (p : Placed). p.stripe.line))
+    (find_last (IsFor s new q) (placements log) (new_placed log stripe o) true
+    (ap₂ (λ a b. a && not b) held (ap is_loss (new_unanswered log stripe knows o is)))
+    (others_now s log stripe knows o q is ∙ none_of_map (λ (p : Placed). p.stripe.line) (find (IsFor s log q) (placements log)) none))
 
 -- ---- where nothing fails
+
+pub line_unlost : (s : Shape) (log : List Logged) (q : ℕ) → ((p : Placed) → was_lost log p ≡ false) → placed_line s log q ≡ option_map (λ (p : Placed). p.stripe.line) (find (holds_position s q) (placements log))
+line_unlost s log q none = ap (option_map (λ (p : Placed). p.stripe.line))
+    (find_same (IsFor s log q) (holds_position s q) (λ p. ap (λ b. holds_position s q p && not b) (none p) ∙ and_true (holds_position s q p)) (placements log))
+  where
+    and_true : (b : Bool) → (b && true) ≡ b
+    and_true true = refl
+    and_true false = refl
 
 pub found_any : {X : Type 0} (test : X → Bool) (xs : List X) → is_some (find test xs) ≡ list_any test xs
 found_any test [] = refl
@@ -103,4 +118,4 @@ found_any {X} test (x ∷ xs) = go (test x) (found_any test xs)
     go false rest = rest
 
 pub line_below_front : (s : Shape) (log : List Logged) (q : ℕ) → IsOrdered s log → is_some (placed_line s log q) ≡ (nat_le (first_position log) q && nat_lt q (placed_front s log))
-line_below_front s log q is = some_mapped (λ (p : Placed). p.stripe.line) (find (holds_position s q) (placements log)) ∙ found_any (holds_position s q) (placements log) ∙ some_hold_below s log is q
+line_below_front s log q is = ap is_some (line_unlost s log q (never_lost log is.no_loss)) ∙ some_mapped (λ (p : Placed). p.stripe.line) (find (holds_position s q) (placements log)) ∙ found_any (holds_position s q) (placements log) ∙ some_hold_below s log is q

@@ -16,7 +16,7 @@ use Rattle.pblk_world.specs.Fronts.{first_position, last_take}
 use Rattle.pblk_world.specs.Lines.{found_image, known_image, chunks_of, is_over_state, are_empty, are_over, line_data, has_number, is_free_line, has_stripe_left}
 use Rattle.pblk_world.specs.Starts.{bound_by, found_row, older_row, older_rows, has_landed_start, newest_start, seq_in, seq_of}
 use Rattle.pblk_world.specs.Space.{full_data, unplaced_in, open_addresses, free_addresses, addresses, is_due, placed_front, ring_limit, position_limit, room}
-use Rattle.pblk_world.specs.Victims.{line_of_position, line_of, is_live_in, live, take_before, took_from, taken_up_to, position_in, positions_in, is_failed_in, Candidate, better, may_be_collected, candidate_of, candidate, next_victim, is_freed, comes_to_work, stays_at_work, victim, engine_prefix}
+use Rattle.pblk_world.specs.Victims.{line_of_position, line_of, is_live_in, live, take_before, landed_line, landed_line_of, took_from, taken_up_to, position_in, positions_in, is_failed_in, Candidate, better, may_be_collected, candidate_of, candidate, next_victim, is_freed, comes_to_work, stays_at_work, victim, engine_prefix}
 use Rattle.lemmas.proofs.Maps.{made_same}
 use Rattle.lemmas.proofs.Numbers.{fun_same}
 use Rattle.world_laws.specs.SameTold.{AreSameTold}
@@ -104,10 +104,14 @@ pub live_told : (i : Image) (a b : Logs) → AreSameTold i a b → (line : ℕ) 
 live_told i a b h line =
     ap (λ f. length (filter f (range_with_len 0 i.shape.capacity))) (fun_same (is_live_in i b line) (is_live_in i a line) (live_in_told i a b h line))
 
+landed_told : (i : Image) (a b : Logs) → AreSameTold i a b → (lba : ℕ) (t : Option Taken) → landed_line_of i b lba t ≡ landed_line_of i a lba t
+landed_told i a b h lba None = line_told i a b h lba None
+landed_told i a b h lba (Some t) = ap (λ (log : List Logged). landed_line i.shape log t.entry.position) h.own
+
 took_told : (i : Image) (a b : Logs) → AreSameTold i a b → (line : ℕ) (t : Taken) → took_from i b line t ≡ took_from i a line t
 took_told i a b h line t =
-    ap (λ (log : List Logged). nat_lt t.mark.lba i.shape.capacity && is_of line (line_of i b t.mark.lba (take_before log t))) h.own
-    ∙ ap (λ o. nat_lt t.mark.lba i.shape.capacity && is_of line o) (line_told i a b h t.mark.lba (take_before (a 0) t))
+    ap (λ (log : List Logged). nat_lt t.mark.lba i.shape.capacity && is_of line (landed_line_of i b t.mark.lba (take_before log t))) h.own
+    ∙ ap (λ o. nat_lt t.mark.lba i.shape.capacity && is_of line o) (landed_told i a b h t.mark.lba (take_before (a 0) t))
 
 pub takers_told : (i : Image) (a b : Logs) → AreSameTold i a b → (line : ℕ) → taken_up_to i b line ≡ taken_up_to i a line
 takers_told i a b h line =

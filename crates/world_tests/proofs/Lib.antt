@@ -9,6 +9,7 @@ pub mod WrongUnits
 pub mod Resting
 pub mod Overwriting
 pub mod OverwrittenWorld
+pub mod TakenWorlds
 pub mod WrongFrees
 pub mod OtherWorlds
 pub mod OlderWorld

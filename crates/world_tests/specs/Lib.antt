@@ -9,3 +9,4 @@ pub mod Halted
 pub mod Older
 pub mod Crowded
 pub mod Filled
+pub mod Takers

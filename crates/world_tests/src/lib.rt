@@ -10,6 +10,7 @@ mod older;
 mod other;
 mod overwritten;
 mod simple;
+mod takers;
 mod wrong;
 
 pub use collected::a_world_with_a_freed_line_is_legal;
@@ -26,6 +27,9 @@ pub use other::{
 };
 pub use overwritten::{a_world_with_an_overwritten_line_is_legal, needed_lines_are_kept};
 pub use simple::a_world_is_legal;
+pub use takers::{
+    a_taker_counts_from_the_landing_on, worlds_with_a_sector_taken_in_flight_are_legal,
+};
 pub use wrong::{
     wrong_answers_are_refused, wrong_beginnings_are_refused, wrong_commands_are_refused,
     wrong_frees_are_refused, wrong_knowledge_is_refused, wrong_openings_are_refused,

@@ -25,6 +25,8 @@ pub(crate) enum Asked {
     Taker(u32),
     Gain(u32),
     Lose(u32, u64),
+    Lower(u32),
+    Note(u32, u64),
     /// The line, its new state and its new width.
     Turn(u32, LineState, u32),
 }
@@ -111,6 +113,23 @@ fn lose(bench: &mut Bench, line: u32, by: u64) -> Told
     Told::Done
 }
 
+fn lower(bench: &mut Bench, line: u32) -> Told
+    requires { line < 8 }
+{
+    if bench.lines.live(line) == 0 {
+        return Told::Refused;
+    }
+    bench.lines.lower(line);
+    Told::Done
+}
+
+fn note(bench: &mut Bench, line: u32, by: u64) -> Told
+    requires { line < 8 }
+{
+    bench.lines.note_taker(line, by);
+    Told::Done
+}
+
 fn turn(bench: &mut Bench, line: u32, to: LineState, width: u32) -> Told
     requires { line < 8 }
 {
@@ -130,6 +149,8 @@ pub(crate) fn ask(bench: &mut Bench, asked: Asked) -> Told {
         Asked::Taker(line) if line < LINES => Told::Taker(bench.lines.taker(line)),
         Asked::Gain(line) if line < LINES => gain(bench, line),
         Asked::Lose(line, by) if line < LINES => lose(bench, line, by),
+        Asked::Lower(line) if line < LINES => lower(bench, line),
+        Asked::Note(line, by) if line < LINES => note(bench, line, by),
         Asked::Turn(line, to, width) if line < LINES => turn(bench, line, to, width),
         _ => Told::Refused,
     }

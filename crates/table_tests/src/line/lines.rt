@@ -38,6 +38,16 @@ const STEPS: &[(Asked, Told, u64, Option<u32>)] = &[
     (Asked::Live(0), Told::Live(0), 200, Some(3)),
     (Asked::Taker(0), Told::Taker(Some(7)), 200, Some(3)),
     (Asked::Taker(1), Told::Taker(None), 200, Some(3)),
+    // a sector that is taken before it has landed, and lands later
+    (Asked::Lower(1), Told::Refused, 200, Some(3)),
+    (Asked::Gain(1), Told::Done, 200, Some(3)),
+    (Asked::Lower(1), Told::Done, 200, Some(3)),
+    (Asked::Live(1), Told::Live(0), 200, Some(3)),
+    (Asked::Taker(1), Told::Taker(None), 200, Some(3)),
+    (Asked::Note(1, 6), Told::Done, 200, Some(3)),
+    (Asked::Note(1, 4), Told::Done, 200, Some(3)),
+    (Asked::Live(1), Told::Live(0), 200, Some(3)),
+    (Asked::Taker(1), Told::Taker(Some(6)), 200, Some(3)),
     // full, freed and free again
     (Asked::Turn(0, LineState::Full, 2), Told::Done, 200, Some(3)),
     (Asked::State(0), Told::State(LineState::Full), 200, Some(3)),

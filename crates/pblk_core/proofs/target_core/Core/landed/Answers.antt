@@ -2,6 +2,7 @@ use Rattle.std.proofs.Common.{◌≡◌, ◌≢◌, ℕ, ◌+◌, ◌-◌, ◌^�
 use Rattle.std.specs.Prelude.{slice_get}
 use Rattle.pblk_model.specs.declared.shape.Shape.{Shape}
 use Rattle.pblk_model.specs.Shape.{units}
+use Rattle.pblk_model.specs.LineOrder.{data_len}
 use Rattle.pblk_model.specs.Image.{Image}
 use Rattle.pblk_world.specs.World.{World, log_of}
 use Rattle.core_laws.specs.SimpleMounts.{IsSimpleMount}
@@ -23,13 +24,22 @@ use Rattle.pblk_core.proofs.LandedKinds.{chunk_is_read}
 use Rattle.pblk_core.proofs.LandedNow.{read_now}
 use Rattle.pblk_core.proofs.LandedReads.{IsRange, range_is}
 use Rattle.pblk_core.proofs.LandedTables.{reads_held}
+use Rattle.line_table.specs.declared.row.LineState.{LineState}
+use Rattle.line_table.specs.declared.row.LineState.TheVariants.{Full}
+use Rattle.line_table.specs.declared.row.Row.{Row}
+use Rattle.line_table.specs.Rows.{Table, IsChange}
+use Rattle.line_laws.specs.Changes.{with_row, full_if}
+use Rattle.pblk_core.specs.Entries.{noted_lines}
 use Rattle.pblk_core.proofs.LandedLogs.{one_less_under_way}
+use Rattle.pblk_core.proofs.NotedEntries.{noted_row, note_length, note_shape}
+use Rattle.pblk_core.proofs.StandsFacts.{ring_some}
+use Rattle.lemmas.proofs.Parts.{got_within}
 use Rattle.pblk_core.proofs.LandedOpen.{IsLandedIn, IsRemoved, slot_of_mid}
 use Rattle.pblk_core.proofs.LandedWay.{IsOnWay, line_of_way, unit_is}
 use Rattle.pblk_core.proofs.KeptFrames.{both_frames}
 use Rattle.pblk_core.proofs.StandsLanded.{IsLandedInto, landed_stands}
 use Rattle.pblk_core.proofs.target_core.Core.landed.Goals as goal
-use Rattle.pblk_core.proofs.target_core.Core.landed.Goals.{In-Some, After-positions, After-get, After-land, After-get-then-land-eq0}
+use Rattle.pblk_core.proofs.target_core.Core.landed.Goals.{In-Some, After-positions-positions, After-get, After-land, After-get-then-land-eq0}
 
 pub under_way-requires : goal.under_way-requires
 under_way-requires c =
@@ -39,8 +49,8 @@ under_way-requires c =
     subst (λ s. c.unit-unit.result < units s) (sym (ap (λ (p : Placing). p.shape) sd.stands.placing))
     (subst (λ u. u < units sd.image.shape) (sym c.unit-unit.ensures) its.is.row.inside)
 
-pub positions-requires : goal.positions-requires
-positions-requires c =
+pub positions-positions-requires : goal.positions-positions-requires
+positions-positions-requires c =
     let sd = c.requires.standing in
     let unit : ℕ = c.args.stripe.now.stripe.unit in
     let its = of_core sd.image sd.world c.args.self.now unit c.requires.under_way.0 (its_simple sd) sd.stands c.requires.under_way.1 in
@@ -64,21 +74,39 @@ its_core : (c : In-Some) (i : Image) (w : World) → IsSimpleMount i w → Stand
 its_core c i w simple st = of_core i w c.args.self.now (unit_in c) (program_in c) simple st (on_its_unit c)
 
 -- the positions of its entries
-its_positions : (c : After-positions)
+its_positions : (c : After-positions-positions)
     → slice_get c.args.self.now.placer.units c.args.stripe.now.stripe.unit ≡ Some (UnderWay (program c.args.self.now.placer c.in-Some.of))
-    → c.positions.result.now ≡ Program.positions (program c.args.self.now.placer c.in-Some.of)
+    → c.positions-positions.result.now ≡ Program.positions (program c.args.self.now.placer c.in-Some.of)
 its_positions c row =
     told_under_way c.args.self.now.placer c.args.stripe.now.stripe.unit c.unit-unit.result (program c.args.self.now.placer c.in-Some.of) _
-    c.unit-unit.ensures row c.positions.ensures
+    c.unit-unit.ensures row c.positions-positions.ensures
 
 pub land_entries-requires : goal.land_entries-requires
 land_entries-requires c =
     let sd = c.requires.standing in
     let at = goal.at.land_entries-requires c in
     let its = its_core at.In-Some sd.image sd.world (its_simple sd) sd.stands in
-    let told = its_positions at.After-positions (on_its_unit at.In-Some) in
+    let told = its_positions at.After-positions-positions (on_its_unit at.In-Some) in
     λ k q there. entry_held sd.image sd.world c.args.self.now (unit_in at.In-Some) (program_in at.In-Some) k q (its_simple sd) sd.stands its.is
     (ap (λ qs. slice_get qs k) (sym told) ∙ there)
+
+-- its line is one of the drive
+line_in : (c : In-Some) (i : Image) (w : World) → Stands i (log_of w) c.args.self.now → (its : IsOfCore i w c.args.self.now (unit_in c) (program_in c))
+    → c.in-Some.of.line < length c.args.self.now.lines.rows
+line_in c i w st its =
+    subst (λ n. n < length c.args.self.now.lines.rows) (line_of_way i w (unit_in c) (program_in c) its.is)
+    (line_within i w c.args.self.now (unit_in c) (program_in c) st its.is)
+
+pub note_takers-requires-clause-rows : goal.note_takers-requires-clause-rows
+note_takers-requires-clause-rows c =
+    let sd = c.requires.standing in
+    subst (λ n. 0 < n) (sym sd.stands.holds.room) (ring_some sd.image.shape sd.legal.accepted)
+
+pub note_takers-requires-clause-inside : goal.note_takers-requires-clause-inside
+note_takers-requires-clause-inside c =
+    let sd = c.requires.standing in
+    let at = (goal.at.note_takers-requires-clause-inside c).In-Some in
+    line_in at sd.image sd.world sd.stands (its_core at sd.image sd.world (its_simple sd) sd.stands)
 
 pub find-index-requires-clause-there : goal.find-index-requires-clause-there
 find-index-requires-clause-there c =
@@ -151,7 +179,7 @@ make_readable-requires-clause-held c =
     let of : Program = program_in at.In-Some in
     let from : ℕ = c.readable_range-from.result.0 in
     let to : ℕ = c.readable_range-from.result.1 in
-    let told = its_positions at.After-positions (on_its_unit at.In-Some) in
+    let told = its_positions at.After-positions-positions (on_its_unit at.In-Some) in
     let reach = its_range at.After-get sd.image sd.world (its_simple sd) sd.stands its.is in
     let chunk = chunk_is_read sd.image sd.world unit of its.has.slot (its_simple sd) its.is its.has.is in
     λ b there.
@@ -225,16 +253,31 @@ turn-requires-clause-inside c =
     let sd = c.requires.standing in
     let at = (goal.at.turn-requires-clause-inside c).In-Some in
     let its = its_core at sd.image sd.world (its_simple sd) sd.stands in
-    subst (λ n. n < length c.args.self.now.lines.rows) (line_of_way sd.image sd.world (unit_in at) (program_in at) its.is)
-    (line_within sd.image sd.world c.args.self.now (unit_in at) (program_in at) sd.stands its.is)
+    subst (λ n. c.in-Some.of.line < n)
+    (sym (ap (λ (t : Table). length t.rows) c.note_takers.ensures ∙ note_length c.args.self.now.holds.rows.items c.in-Some.of.line c.positions-positions.result.now c.args.self.now.lines))
+    (line_in at sd.image sd.world sd.stands its)
+
+pub turn-requires-clause-width : goal.turn-requires-clause-width
+turn-requires-clause-width c =
+    let sd = c.requires.standing in
+    let core : Core = c.args.self.now in
+    let shape = ap (λ (t : Table). t.shape) c.note_takers.ensures
+    ∙ note_shape core.holds.rows.items c.in-Some.of.line c.positions-positions.result.now core.lines ∙ ap (λ (t : Table). t.shape) sd.stands.table in
+    subst (λ (s : Shape). c.width-width.result ≤ units s) (sym (shape ∙ sym sd.stands.layout)) c.width-width.ensures.few
 
 pub turn-requires-clause-change : goal.turn-requires-clause-change
 turn-requires-clause-change c =
     let sd = c.requires.standing in
     let at = (goal.at.turn-requires-clause-change c).In-Some in
+    let core : Core = c.args.self.now in
     let its = its_core at sd.image sd.world (its_simple sd) sd.stands in
-    let its_line = ap (slice_get c.args.self.now.lines.rows) (line_of_way sd.image sd.world (unit_in at) (program_in at) its.is) in
-    λ row there. may_fill sd.image sd.world c.args.self.now (unit_in at) (program_in at) row _ (its_simple sd) sd.stands its.is (its_line ∙ there)
+    let its_line = ap (slice_get core.lines.rows) (line_of_way sd.image sd.world (unit_in at) (program_in at) its.is) in
+    let old = got_within core.lines.rows c.in-Some.of.line (line_in at sd.image sd.world sd.stands its) in
+    let new = noted_row core.holds.rows.items c.in-Some.of.line c.positions-positions.result.now core.lines old.0 old.1 in
+    λ row there.
+    let same : new.0 ≡ row = same_Some new.0 row (sym new.1 ∙ ap (λ (t : Table). slice_get t.rows c.in-Some.of.line) (sym c.note_takers.ensures) ∙ there) in
+    subst (λ (s : LineState). IsChange s Full (data_len c.note_takers.new.lines.shape c.width-width.result)) (sym new.2.state ∙ ap (λ (r : Row). r.state) same)
+    (may_fill sd.image sd.world core (unit_in at) (program_in at) old.0 (data_len c.note_takers.new.lines.shape c.width-width.result) (its_simple sd) sd.stands its.is (its_line ∙ old.1))
 
 pub remove-requires-clause-two : goal.remove-requires-clause-two
 remove-requires-clause-two c =
@@ -261,7 +304,7 @@ returns-then-land-eq0-clause-stands c =
     let of : Program = program_in at.In-Some in
     let from : ℕ = c.readable_range-from.result.0 in
     let to : ℕ = c.readable_range-from.result.1 in
-    let told = its_positions at.After-positions (on_its_unit at.In-Some) in
+    let told = its_positions at.After-positions-positions (on_its_unit at.In-Some) in
     let mid = mid_slots at.After-land in
     λ i w event knows mount st may. let simple = simple_in i w mount st in
     let its = its_core at.In-Some i w simple st in
@@ -280,13 +323,17 @@ returns-then-land-eq0-clause-stands c =
       two = c.remove.ensures.two;
       same = c.remove.ensures.same;
     } in
+    let noted = c.note_takers.ensures ∙ ap (noted_lines core.holds.rows.items of.line core.lines) told in
+    let now = noted_row core.holds.rows.items of.line of.positions core.lines row.0 row.1 in
     let put = subst (λ k. IsLandedIn core.open c.land.new.self k c.get.result.now) got_is.index mid in
     let into : IsLandedInto core _ of its.has.k its.has.slot c.land.new.self true from to = record {
       layout = refl;
       map = c.make_readable.ensures.map
           ∙ ap (λ (l : OpenLine). all_moved core.layout.capacity l.records.line core.map (reads_of l of.unit from to)) got_is.slot;
       capacity = c.make_readable.ensures.capacity;
-      lines = lines_full core.lines _ of.line c.width-width.result row.0 row.1 (c.width-width.ensures.width ∙ row.2) c.turn.ensures;
+      lines = lines_full c.note_takers.new.lines _ of.line c.width-width.result now.0 (ap (λ (t : Table). slice_get t.rows of.line) noted ∙ now.1)
+          (c.width-width.ensures.width ∙ row.2 ∙ sym now.2.width) c.turn.ensures
+          ∙ ap (with_row of.line (full_if true)) noted;
       window = c.make_readable.ensures.window
           ∙ ap (λ (v : WindowView). all_readable v (reads_of c.get.result.now of.unit from to)) (c.land_entries.ensures ∙ ap (all_landed core.window) told)
           ∙ ap (λ (l : OpenLine). all_readable (all_landed core.window of.positions) (reads_of l of.unit from to)) got_is.slot;
@@ -317,7 +364,7 @@ returns-else-land-eq0-clause-stands c =
     let of : Program = program_in at.In-Some in
     let from : ℕ = c.readable_range-from.result.0 in
     let to : ℕ = c.readable_range-from.result.1 in
-    let told = its_positions at.After-positions (on_its_unit at.In-Some) in
+    let told = its_positions at.After-positions-positions (on_its_unit at.In-Some) in
     let mid = mid_slots at.After-land in
     λ i w event knows mount st may. let simple = simple_in i w mount st in
     let its = its_core at.In-Some i w simple st in
@@ -328,13 +375,15 @@ returns-else-land-eq0-clause-stands c =
     let left : c.get.result.now.stripes_left ≡ its.has.slot.stripes_left = ap (λ (l : OpenLine). l.stripes_left) got_is.slot in
     let more : its.has.slot.stripes_left - 1 ≢ 0 = λ z. c.if-land-eq0.false (let n : c.land.result ≡ 0 = omega arith in n) in
     let row = its_row i w core unit of its.has.slot.live st its refl in
+    let noted = c.note_takers.ensures ∙ ap (noted_lines core.holds.rows.items of.line core.lines) told in
+    let now = noted_row core.holds.rows.items of.line of.positions core.lines row.0 row.1 in
     let put = subst (λ k. IsLandedIn core.open c.land.new.self k c.get.result.now) got_is.index mid in
     let into : IsLandedInto core _ of its.has.k its.has.slot c.land.new.self false from to = record {
       layout = refl;
       map = c.make_readable.ensures.map
           ∙ ap (λ (l : OpenLine). all_moved core.layout.capacity l.records.line core.map (reads_of l of.unit from to)) got_is.slot;
       capacity = c.make_readable.ensures.capacity;
-      lines = lines_kept core.lines of.line row.0 row.1;
+      lines = lines_kept c.note_takers.new.lines of.line now.0 (ap (λ (t : Table). slice_get t.rows of.line) noted ∙ now.1) ∙ ap (with_row of.line (full_if false)) noted;
       window = c.make_readable.ensures.window
           ∙ ap (λ (v : WindowView). all_readable v (reads_of c.get.result.now of.unit from to)) (c.land_entries.ensures ∙ ap (all_landed core.window) told)
           ∙ ap (λ (l : OpenLine). all_readable (all_landed core.window of.positions) (reads_of l of.unit from to)) got_is.slot;
@@ -361,7 +410,7 @@ pub returns-then-land-eq0-clause-own : goal.returns-then-land-eq0-clause-own
 returns-then-land-eq0-clause-own c =
     let at = goal.at.returns-then-land-eq0-clause-own c in
     let of : Program = program_in at.In-Some in
-    let told = its_positions at.After-positions (on_its_unit at.In-Some) in
+    let told = its_positions at.After-positions-positions (on_its_unit at.In-Some) in
     let reads = reads_of c.get.result.now of.unit c.readable_range-from.result.0 c.readable_range-from.result.1 in
     let window = c.land_entries.ensures ∙ ap (all_landed c.args.self.now.window) told in
     (both_frames c.args.self.now.window _ _ of.positions reads window c.make_readable.ensures.window).own
@@ -370,7 +419,7 @@ pub returns-then-land-eq0-clause-count : goal.returns-then-land-eq0-clause-count
 returns-then-land-eq0-clause-count c =
     let at = goal.at.returns-then-land-eq0-clause-count c in
     let of : Program = program_in at.In-Some in
-    let told = its_positions at.After-positions (on_its_unit at.In-Some) in
+    let told = its_positions at.After-positions-positions (on_its_unit at.In-Some) in
     let reads = reads_of c.get.result.now of.unit c.readable_range-from.result.0 c.readable_range-from.result.1 in
     let window = c.land_entries.ensures ∙ ap (all_landed c.args.self.now.window) told in
     (both_frames c.args.self.now.window _ _ of.positions reads window c.make_readable.ensures.window).count
@@ -379,7 +428,7 @@ pub returns-else-land-eq0-clause-own : goal.returns-else-land-eq0-clause-own
 returns-else-land-eq0-clause-own c =
     let at = goal.at.returns-else-land-eq0-clause-own c in
     let of : Program = program_in at.In-Some in
-    let told = its_positions at.After-positions (on_its_unit at.In-Some) in
+    let told = its_positions at.After-positions-positions (on_its_unit at.In-Some) in
     let reads = reads_of c.get.result.now of.unit c.readable_range-from.result.0 c.readable_range-from.result.1 in
     let window = c.land_entries.ensures ∙ ap (all_landed c.args.self.now.window) told in
     (both_frames c.args.self.now.window _ _ of.positions reads window c.make_readable.ensures.window).own
@@ -388,7 +437,7 @@ pub returns-else-land-eq0-clause-count : goal.returns-else-land-eq0-clause-count
 returns-else-land-eq0-clause-count c =
     let at = goal.at.returns-else-land-eq0-clause-count c in
     let of : Program = program_in at.In-Some in
-    let told = its_positions at.After-positions (on_its_unit at.In-Some) in
+    let told = its_positions at.After-positions-positions (on_its_unit at.In-Some) in
     let reads = reads_of c.get.result.now of.unit c.readable_range-from.result.0 c.readable_range-from.result.1 in
     let window = c.land_entries.ensures ∙ ap (all_landed c.args.self.now.window) told in
     (both_frames c.args.self.now.window _ _ of.positions reads window c.make_readable.ensures.window).count
