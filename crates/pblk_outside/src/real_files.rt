@@ -41,13 +41,27 @@ impl<R: rt::Files + Drop> RealFiles<R> {
     }
 }
 
+/// How many bytes of a file are read at a time.
+const PIECE: usize = 1 << 16;
+
 // Appends a file's bytes. After an error some of them may be there.
+//
+// They come by way of a small buffer, since the library's `read_to_end` first fills the room that it
+// reads into with zeros, one byte after another.
 fn append_file<R: rt::Files>(runtime: &R, name: &str, into: &mut Vec<u8>) -> io::Result<()>
     ensures { (bytes : List ℕ) × (into.new.items ≡ into.old.items ++ bytes) }
 {
     let mut file = fs::open(runtime, name)?;
-    file.read_to_end(into)?;
-    Ok(())
+    let mut piece = [0; PIECE];
+    for _ in 0..u64::MAX {
+        match file.read(&mut piece) {
+            Ok(0) => return Ok(()),
+            Ok(count) => into.extend_from_slice(&piece[..count])?,
+            Err(error) if error.kind() == ErrorKind::Interrupted => {}
+            Err(error) => return Err(error),
+        }
+    }
+    Err(io::Error::from(ErrorKind::TimedOut))
 }
 
 impl<R: rt::Files> Files for RealFiles<R> {
