@@ -92,15 +92,15 @@ module _ (i : Image) (w : World) (pad : ℕ) (reason : Why) (simple : IsSimpleMo
 
   row_idle : (unit : ℕ) → unit < units i.shape → slice_get (placing_of i (log_of w) pad []).units unit ≡ Some Idle
   row_idle unit inside =
-      row_there i (log_of w) unit inside
+      row_there i (log_of w) [] unit inside
       ∙ ap (λ (o : Option Placed). Some (option_map_or (λ (p : Placed). row_in i (log_of w) (waits_again (log_of w 0) [] unit) p.life p) o Idle)) (idle unit)
 
   answered : (p : Placed) → Contains (placements (log_of w 0)) p → is_answered (log_of w 0) p ≡ true
-  answered p there = idle_answered i (line_units (known_image i (log_of w))) w pad p (follow i w simple) row_idle there
+  answered p there = idle_answered i (line_units (known_image i (log_of w))) w pad [] p (follow i w simple) row_idle there
 
   none_due_now : (asked : ℕ) (stripe : Stripe) → asked ≤ pad → ¬ IsDue i (log_of w) asked stripe
   none_due_now asked stripe within =
-      none_due i (line_units (known_image i (log_of w))) w pad asked stripe (follow i w simple)
+      none_due i (line_units (known_image i (log_of w))) w pad [] asked stripe (follow i w simple)
       (none_there (next_stripe (placing_of i (log_of w) pad []) 0) chosen.0) answered within
 
   -- where a line may be opened, at most one has a stripe left

@@ -177,7 +177,7 @@ module _ (i : Image) (deeds : List Deed) (stripe : Stripe) where
 
     pub done_stands : (c : Core) → Stands i (log_of placed_world) c → Stands i (log_of (world_of i.shape done_deeds)) c
     done_stands c st = subst (λ (w : World). Stands i (log_of w) c) (sym done_is)
-        (stands_beside i placed_world stripe.unit (program_of stripe) (next_maker placed_world) c placed_legal.simple.mount.legal st)
+        (stands_beside i placed_world stripe.unit (program_of stripe) (next_maker placed_world) c placed_legal.simple.mount st)
 
     pub may_be_noted : MayLand (log_of (world_of i.shape done_deeds)) stripe.unit (length (log_of placed_world (suc stripe.unit)))
     may_be_noted = subst (λ (w : World). MayLand (log_of w) stripe.unit (length (log_of placed_world (suc stripe.unit)))) (sym done_is)

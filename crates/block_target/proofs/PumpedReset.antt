@@ -124,7 +124,7 @@ module _ (v : MountView) (c : Core) (p : PoolView) (f : Filling) (m : IsMount v 
   -- ---- the core
 
   mid_stands : Stands i (log_of mid) c
-  mid_stands = stands_beside i w unit (reset_of line) (next_maker w) c m.sound.legal.simple.mount.legal m.stands
+  mid_stands = stands_beside i w unit (reset_of line) (next_maker w) c m.sound.legal.simple.mount m.stands
 
   is_reset : (state : ChunkState) → state ≡ (after_reset v.image.shape is.chunk).state → IsResetTo i (log_of mid) unit event line state
   is_reset state same =

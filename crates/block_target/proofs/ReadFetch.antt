@@ -204,7 +204,7 @@ module _ (v : MountView) (unit chunk number : ℕ) (u new : ModelUnit) (b : Bloc
   fetched_mount c p filling is = record {
     sound = fetched_sound;
     stands = subst (λ (x : World). Stands v.image (log_of x) c) (sym now)
-        (stands_beside v.image w unit e (next_maker w) c sound.legal.simple.mount.legal is.stands);
+        (stands_beside v.image w unit e (next_maker w) c sound.legal.simple.mount is.stands);
     pad = is.pad;
     known = subst (λ (x : World). IsKnown v.image x) (sym now)
         (known_at_fetch v.image w unit chunk number (Gave b) (next_maker w) sound.legal.simple.mount.legal is.known);

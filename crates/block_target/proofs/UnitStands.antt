@@ -15,7 +15,8 @@ use Rattle.pblk_world.specs.Space.{freed, placed_front}
 use Rattle.line_table.specs.Rows.{is_free}
 use Rattle.stripe_placer.specs.Placing.{next_stripe}
 use Rattle.core_laws.specs.OpenedLines.{live_now, open_line}
-use Rattle.core_laws.specs.SimpleMounts.{IsSimpleLog, IsSimpleMount}
+use Rattle.world_laws.specs.LegalMounts.{IsLegalMount}
+use Rattle.core_laws.specs.SimpleMounts.{IsSimpleLog, IsSimpleMount, NoneAgain}
 use Rattle.step_laws.specs.Whole.{unit_step}
 use Rattle.step_laws.proofs.UnitSteps.{engine_log}
 use Rattle.step_laws.proofs.UnitStays.{known_stays, rows_stay, lines_stay, older_stay, live_stays, line_stays, left_stay, slot_stays, window_stays, placing_stays, addresses_stay}
@@ -26,6 +27,7 @@ use Rattle.pblk_core.specs.LineRecords.{AreOf}
 use Rattle.pblk_core.specs.declared.open_lines.OpenLine.{OpenLine}
 use Rattle.pblk_core.specs.declared.open_lines.OpenLines.{OpenLines}
 use Rattle.pblk_core.specs.declared.target_core.Core.{Core}
+use Rattle.pblk_core.proofs.SimpleLogs.{simple_in}
 use Rattle.lemmas.proofs.Maps.{map_same}
 
 module _ (i : Image) (w : World) (unit : ℕ) (e : UnitEvent) (maker : Maker) where
@@ -61,30 +63,31 @@ module _ (i : Image) (w : World) (unit : ℕ) (e : UnitEvent) (maker : Maker) wh
   resets_stay legal = ap₂ (λ (log : List Logged) (j : Image). flat_map (λ line. in_line line (if is_given_up log line then used_units j line else []))
       (range_with_len 0 i.shape.chunks)) engine (known_stays i w unit e maker legal)
 
-  pub stands_beside : (c : Core) → IsLegal i w → Stands i (log_of w) c → Stands i after_ c
-  stands_beside c legal st = record {
+  pub stands_beside : (c : Core) → IsLegalMount i w → Stands i (log_of w) c → Stands i after_ c
+  stands_beside c mount st = record {
     simple = subst IsSimpleLog (sym engine) st.simple;
+    unstopped = subst NoneAgain (sym engine) st.unstopped;
     layout = st.layout;
     beginning = st.beginning;
     has_begun = ap begun engine ∙ st.has_begun;
     capacity = st.capacity;
-    slots = λ lba within. st.slots lba within ∙ ap Some (sym (slot_stays i w unit e maker lba legal));
-    table = st.table ∙ sym (rows_stay i w unit e maker legal st.simple.freed);
-    units = st.units ∙ map_same (live_now i (log_of w)) (live_now i after_) (λ line. sym (live_stays i w unit e maker line legal))
+    slots = λ lba within. st.slots lba within ∙ ap Some (sym (slot_stays i w unit e maker lba mount.legal));
+    table = st.table ∙ sym (rows_stay i w unit e maker (simple_in i w mount st));
+    units = st.units ∙ map_same (live_now i (log_of w)) (live_now i after_) (λ line. sym (live_stays i w unit e maker line mount.legal))
         (range_with_len 0 i.shape.chunks);
-    resets = st.resets ∙ sym (resets_stay legal);
+    resets = st.resets ∙ sym (resets_stay mount.legal);
     size = st.size;
     window = st.window ∙ sym (window_stays i w unit e maker c.window.freed);
     from_first = subst (λ log. first_position log ≤ c.window.freed) (sym engine) st.from_first;
     to_freed = subst (λ log. c.window.freed ≤ freed i.shape log) (sym engine) st.to_freed;
     holds = subst (λ log. AreHolds i.shape log c.holds) (sym engine) st.holds;
     again = st.again;
-    placing = st.placing ∙ sym (placing_stays i w unit e maker c.placer.entries.pad st.again legal);
-    open_lines = lines_beside c.open legal st.open_lines;
+    placing = st.placing ∙ sym (placing_stays i w unit e maker c.placer.entries.pad st.again mount.legal);
+    open_lines = lines_beside c.open mount.legal st.open_lines;
     next_seq = st.next_seq ∙ ap (λ log. st.beginning.beginning.seq + length (openings log)) (sym engine);
     first_seq = st.first_seq;
     own_capacity = st.own_capacity;
-    older = st.older ∙ sym (older_stay i w unit e maker legal);
+    older = st.older ∙ sym (older_stay i w unit e maker mount.legal);
     fits = st.fits;
     first = st.first ∙ ap first_position (sym engine);
     placed = st.placed ∙ ap (placed_front i.shape) (sym engine);
@@ -98,7 +101,7 @@ module _ (i : Image) (w : World) (unit : ℕ) (e : UnitEvent) (maker : Maker) wh
   work_beside pad simple = λ j. reset_or (slice_get (resets_stay simple.mount.legal j) 0) (choice
       (is_some (next_stripe (placing_stays i w unit e maker pad [] simple.mount.legal j) 0))
       (nat_lt 0 (length (waiting i.shape (engine j))) && (addresses_stay i w unit e maker j == 0))
-      (is_some (position is_free (rows_stay i w unit e maker simple.mount.legal simple.engine.freed j).rows))
+      (is_some (position is_free (rows_stay i w unit e maker simple j).rows))
       (nat_lt (length (lines_stay i w unit e maker simple.mount.legal j)) 2
       && (nat_lt (option_map_or (λ (b : Begun). b.beginning.seq) (begun (engine j)) 0 + length (openings (engine j))) (2 ^ 61) && nat_lt
       (synced i.shape (engine j)) (2 ^ 61)))

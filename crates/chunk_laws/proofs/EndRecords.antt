@@ -69,7 +69,7 @@ pieces_length f m (z ∷ xs) all =
     omega (arith, all.0, rest, both, more)
 
 -- a part of a list is one of a longer list
-part_of_front : {X : Type 0} (xs ys : List X) (a b : ℕ) → a ≤ b → b ≤ length xs → slice_range (xs ++ ys) a b ≡ slice_range xs a b
+pub part_of_front : {X : Type 0} (xs ys : List X) (a b : ℕ) → a ≤ b → b ≤ length xs → slice_range (xs ++ ys) a b ≡ slice_range xs a b
 part_of_front xs ys a b order inside =
     ap (take (b - a)) (drop-append-le a xs ys (omega arith))
     ∙ take-append-le (b - a) (drop a xs) ys (let left : length (drop a xs) ≡ length xs - a = length-drop a xs in omega arith)

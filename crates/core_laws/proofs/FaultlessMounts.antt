@@ -10,7 +10,7 @@ use Rattle.pblk_world.specs.Legal.{IsLegal, IsLegalStep}
 use Rattle.world_laws.specs.LegalMounts.{decides, is_copying, is_freeing, is_losing}
 use Rattle.core_laws.specs.FaultlessMounts.{AreAnswered, IsFaultlessMount, is_answered}
 use Rattle.core_laws.specs.PlainWorlds.{is_plain_event}
-use Rattle.core_laws.specs.SimpleMounts.{IsSimpleLog, is_stopping}
+use Rattle.core_laws.specs.SimpleMounts.{IsSimpleLog}
 use Rattle.core_laws.proofs.SimpleMounts.{simple_after}
 use Rattle.lemmas.proofs.Lists.{all_append}
 use Rattle.lemmas.proofs.Maps.{more}
@@ -32,16 +32,11 @@ not_losing (Decides (Lost unit event)) plain = absurd cc
 not_losing (Decides e) plain = refl
 not_losing (Does e maker) plain = refl
 
-not_stopping : (e : Event) → is_plain_event e ≡ true → decides is_stopping e ≡ false
-not_stopping (Decides (Again unit event)) plain = absurd cc
-not_stopping (Decides e) plain = refl
-not_stopping (Does e maker) plain = refl
-
 -- ---- after a step
 
 simple_then : (s : Step) (log : List Logged) (b : Bool) → is_plain_event s.logged.event ≡ true → IsSimpleLog log → IsSimpleLog (if b then log ++ s.logged ∷ [] else log)
 simple_then s log true plain was = simple_after log s.logged was (not_freeing s.logged.event plain) (not_copying s.logged.event plain)
-    (not_losing s.logged.event plain) (not_stopping s.logged.event plain)
+    (not_losing s.logged.event plain)
 simple_then s log false plain was = was
 
 abbrev events_of : List Logged → List UnitEvent

@@ -267,7 +267,8 @@ row_elsewhere i logs knows again o stripe v opened other =
     (ap₂ (λ (xs : List Placed) k. slice_get xs k) (placed_on_now (logs 0) stripe knows o v false opened apart ∙ append-nil (placed_on (logs 0) v)) (ap length (answers_now (logs 0) stripe knows v)))
     (ap (λ b. b && not (contains_unit again v)) (stopped_more (logs 0) (record { event = Decides (Place stripe); knows = knows }) v ∙ ap (λ b. if b then false else was_stopped_on (logs 0) v) apart))
 
-row_before : (i : Image) (logs : Logs) (again : List ℕ) (unit : ℕ) → length (answers (logs 0) unit) ≡ length (placed_on (logs 0) unit) → row_of i logs again unit ≡ Idle
+-- a unit whose stripes are all answered has none
+pub row_before : (i : Image) (logs : Logs) (again : List ℕ) (unit : ℕ) → length (answers (logs 0) unit) ≡ length (placed_on (logs 0) unit) → row_of i logs again unit ≡ Idle
 row_before i logs again unit idle =
     let past : length (placed_on (logs 0) unit) ≤ length (answers (logs 0) unit) = omega (arith, idle) in
     ap (λ u. option_map_or (λ (p : Placed). row_in i logs (waits_again (logs 0) again unit) p.life p) u Idle) (slice_get_past (placed_on (logs 0) unit) (length (answers (logs 0) unit)) past)

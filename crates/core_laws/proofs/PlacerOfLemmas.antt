@@ -1,5 +1,5 @@
 -- Lemmas on the words of PlacerOf.
-use Rattle.std.proofs.Common.{Bool, List, [], ap, false, if◌then◌else◌, map, not, refl, suc, take, true, zero, ℕ, ◌&&◌, ◌==◌, ◌∷◌, ◌≡◌, sym, ◌∙◌}
+use Rattle.std.proofs.Common.{Bool, List, None, Option, Some, [], ap, false, if◌then◌else◌, map, not, refl, suc, take, true, zero, ℕ, ◌&&◌, ◌==◌, ◌∷◌, ◌≡◌, sym, ◌∙◌}
 use Rattle.std.specs.List.{fold, range_with_len}
 use Rattle.std.specs.Option.{option_map_or}
 use Rattle.core_laws.specs.PlacerOf.{contains_unit, entries_of, placing_of, positions_of, row_in, row_of, stopped_by, unanswered_on, waits_again}
@@ -8,9 +8,10 @@ use Rattle.core_laws.specs.SimpleMounts.{NoneAgain, is_stopping}
 use Rattle.lemmas.proofs.Maps.{map_same}
 use Rattle.pblk_model.specs.Image.{Image}
 use Rattle.pblk_model.specs.Shape.{units}
-use Rattle.pblk_world.specs.EngineLog.{Placed, Taken}
+use Rattle.pblk_world.specs.EngineLog.{AsFound, Freed, LineLife, Opened, Placed, Taken}
 use Rattle.pblk_world.specs.Events.{Again, Decides, Event, Logged, Place}
 use Rattle.pblk_world.specs.World.{Logs}
+use Rattle.stripe_placer.specs.Placing.{stopped_in}
 use Rattle.stripe_placer.specs.Placing.UnitRow.{Idle}
 use Rattle.world_laws.specs.LegalMounts.{decides}
 
@@ -37,6 +38,20 @@ none_waits_again log again unit none = ap (λ b. b && not (contains_unit again u
 row_unstopped : (i : Image) (logs : Logs) (again : List ℕ) (unit : ℕ) → NoneAgain (logs 0) → row_of i logs again unit ≡ row_of i logs [] unit
 row_unstopped i logs again unit none =
     ap (λ b. option_map_or (λ (p : Placed). row_in i logs b p.life p) (unanswered_on (logs 0) unit) Idle) (none_waits_again (logs 0) again unit none ∙ sym (none_waits_again (logs 0) [] unit none))
+
+-- a row whose stripe doesn't wait to be offered again isn't a stopped one
+pub row_goes : (i : Image) (logs : Logs) (again : List ℕ) (unit : ℕ) → waits_again (logs 0) again unit ≡ false → stopped_in (row_of i logs again unit) ≡ None
+row_goes i logs again unit waits = go (waits_again (logs 0) again unit) (unanswered_on (logs 0) unit) waits
+  where
+    by_life : (b : Bool) (life : LineLife) (p : Placed) → b ≡ false → stopped_in (row_in i logs b life p) ≡ None
+    by_life true life p e = absurd cc
+    by_life false AsFound p e = refl
+    by_life false (Opened o) p e = refl
+    by_life false (Freed past knows) p e = refl
+
+    go : (b : Bool) (x : Option Placed) → b ≡ false → stopped_in (option_map_or (λ (p : Placed). row_in i logs b p.life p) x Idle) ≡ None
+    go b None e = refl
+    go b (Some p) e = by_life b p.life p e
 
 pub placing_unstopped : (i : Image) (logs : Logs) (pad : ℕ) (again : List ℕ) → NoneAgain (logs 0) → placing_of i logs pad again ≡ placing_of i logs pad []
 placing_unstopped i logs pad again none =

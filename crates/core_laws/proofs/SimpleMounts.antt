@@ -8,28 +8,28 @@ use Rattle.pblk_world.specs.Legal.{IsLegal}
 use Rattle.world_laws.specs.LegalMounts.{HasNone, IsLegalMount, decides, is_copying, is_freeing, is_losing}
 use Rattle.world_laws.proofs.Beginnings.{IsInTurn, turn_of}
 use Rattle.core_laws.specs.PlainWorlds.{ArePlain, is_plain_event}
-use Rattle.core_laws.specs.SimpleMounts.{IsSimpleLog, IsSimpleMount, is_stopping}
+use Rattle.core_laws.specs.SimpleMounts.{IsSimpleLog, IsSimpleMount, NoneAgain, is_stopping}
 use Rattle.lemmas.proofs.Lists.{IsAmong, all_but_last, all_imply, among_all, with_last}
 use Rattle.lemmas.proofs.Parts.{all_at}
 
 -- ---- the engine's events
 
 plain_event : (before : List Logged) (e : Event) → IsInTurn before e → decides is_freeing e ≡ false → decides is_copying e ≡ false
-    → decides is_losing e ≡ false → decides is_stopping e ≡ false → is_plain_event e ≡ true
-plain_event before (Decides (Begin b)) turn freed copied lost again = refl
-plain_event before (Decides (Take entry mark)) turn freed copied lost again = go (is_users entry.source) copied
+    → decides is_losing e ≡ false → is_plain_event e ≡ true
+plain_event before (Decides (Begin b)) turn freed copied lost = refl
+plain_event before (Decides (Take entry mark)) turn freed copied lost = go (is_users entry.source) copied
   where
     go : (b : Bool) → not b ≡ false → b ≡ true
     go true e = refl
     go false e = absurd cc
-plain_event before (Decides (Open line start)) turn freed copied lost again = refl
-plain_event before (Decides (Place stripe)) turn freed copied lost again = refl
-plain_event before (Decides (Landed unit event)) turn freed copied lost again = refl
-plain_event before (Decides (ResetDone unit event)) turn freed copied lost again = refl
-plain_event before (Decides (Lost unit event)) turn freed copied lost again = absurd cc
-plain_event before (Decides (Again unit event)) turn freed copied lost again = absurd cc
-plain_event before (Decides (Free line)) turn freed copied lost again = absurd cc
-plain_event before (Does e maker) turn freed copied lost again = absurd turn
+plain_event before (Decides (Open line start)) turn freed copied lost = refl
+plain_event before (Decides (Place stripe)) turn freed copied lost = refl
+plain_event before (Decides (Landed unit event)) turn freed copied lost = refl
+plain_event before (Decides (ResetDone unit event)) turn freed copied lost = refl
+plain_event before (Decides (Lost unit event)) turn freed copied lost = absurd cc
+plain_event before (Decides (Again unit event)) turn freed copied lost = refl
+plain_event before (Decides (Free line)) turn freed copied lost = absurd cc
+plain_event before (Does e maker) turn freed copied lost = absurd turn
 
 pub engine_plain : (i : Image) (w : World) → IsSimpleMount i w → ArePlain (log_of w 0)
 engine_plain i w m =
@@ -38,8 +38,7 @@ engine_plain i w m =
     (λ l at. plain_event (take at.0 log) l.event (turn_of i w at.0 l m.mount.legal at.1)
     (all_at (λ (x : Logged). decides is_freeing x.event ≡ false) log at.0 l at.1 m.engine.freed)
     (all_at (λ (x : Logged). decides is_copying x.event ≡ false) log at.0 l at.1 m.engine.copied)
-    (all_at (λ (x : Logged). decides is_losing x.event ≡ false) log at.0 l at.1 m.engine.lost)
-    (all_at (λ (x : Logged). decides is_stopping x.event ≡ false) log at.0 l at.1 m.engine.again))
+    (all_at (λ (x : Logged). decides is_losing x.event ≡ false) log at.0 l at.1 m.engine.lost))
     log (among_all log)
 
 -- ---- before the last step
@@ -56,7 +55,6 @@ simple_before i s w m = record {
     freed = none_before is_freeing s (log_of w 0) (s.author == 0) m.engine.freed;
     copied = none_before is_copying s (log_of w 0) (s.author == 0) m.engine.copied;
     lost = none_before is_losing s (log_of w 0) (s.author == 0) m.engine.lost;
-    again = none_before is_stopping s (log_of w 0) (s.author == 0) m.engine.again;
   };
 }
 
@@ -64,17 +62,23 @@ simple_before i s w m = record {
 
 -- nothing was decided yet
 pub simple_none : (log : List Logged) → log ≡ [] → IsSimpleLog log
-simple_none log none = subst IsSimpleLog (sym none) (record { freed = tt; copied = tt; lost = tt; again = tt })
+simple_none log none = subst IsSimpleLog (sym none) (record { freed = tt; copied = tt; lost = tt })
 
 pub simple_unbegun : (i : Image) (w : World) → IsLegalMount i w → log_of w 0 ≡ [] → IsSimpleMount i w
 simple_unbegun i w mount none = record { mount = mount; engine = simple_none (log_of w 0) none }
 
 -- one more event that is none of these
 pub simple_after : (log : List Logged) (l : Logged) → IsSimpleLog log → decides is_freeing l.event ≡ false → decides is_copying l.event ≡ false
-    → decides is_losing l.event ≡ false → decides is_stopping l.event ≡ false → IsSimpleLog (log ++ l ∷ [])
-simple_after log l is freeing copying losing stopping = record {
+    → decides is_losing l.event ≡ false → IsSimpleLog (log ++ l ∷ [])
+simple_after log l is freeing copying losing = record {
   freed = with_last (λ (k : Logged). decides is_freeing k.event ≡ false) log l is.freed freeing;
   copied = with_last (λ (k : Logged). decides is_copying k.event ≡ false) log l is.copied copying;
   lost = with_last (λ (k : Logged). decides is_losing k.event ≡ false) log l is.lost losing;
-  again = with_last (λ (k : Logged). decides is_stopping k.event ≡ false) log l is.again stopping;
 }
+
+-- nothing was stopped so far
+pub unstopped_none : (log : List Logged) → log ≡ [] → NoneAgain log
+unstopped_none log none = subst NoneAgain (sym none) tt
+
+pub unstopped_after : (log : List Logged) (l : Logged) → NoneAgain log → decides is_stopping l.event ≡ false → NoneAgain (log ++ l ∷ [])
+unstopped_after log l none stopping = with_last (λ (k : Logged). decides is_stopping k.event ≡ false) log l none stopping

@@ -24,7 +24,7 @@ use Rattle.landing_laws.specs.ChunkBlocks.{can_be_read, AreInRows}
 use Rattle.landing_laws.proofs.Keeping.{IsKept, kept}
 use Rattle.landing_laws.proofs.Least.{least_rises, least_below}
 use Rattle.landing_laws.proofs.LandedWindow.{given_back_landed}
-use Rattle.landing_laws.proofs.QuietEvents.{alike_kept, quiet_alike, open_is_quiet, reset_is_quiet, place_kept}
+use Rattle.landing_laws.proofs.QuietEvents.{alike_kept, quiet_alike, open_is_quiet, reset_is_quiet, stop_is_quiet, place_kept}
 use Rattle.landing_laws.proofs.Slots.{first_kept}
 use Rattle.landing_laws.proofs.Untouched.{AreKept, given_kept}
 use Rattle.lemmas.proofs.Lists.{IsAmong, all_append, all_true}
@@ -96,7 +96,9 @@ freed_rises i known w beginning (Landed unit event) knows simple rows own passes
     (λ q f. given_back_landed i w unit event knows waits.0 its.0 q simple waits.1 its.1 (rows its.0 unit)
     ∙ or_left (is_given_back i.shape (log_of w 0) q) (can_be_read i.shape (after (log_of w) (Landed unit event) knows 0) its.0 unit q) f)
 freed_rises i known w beginning (Lost unit event) knows simple rows own passes may = absurd cc
-freed_rises i known w beginning (Again unit event) knows simple rows own passes may = absurd cc
+freed_rises i known w beginning (Again unit event) knows simple rows own passes may =
+    by_kept i.shape (log_of w 0) (Again unit event) knows refl
+    (alike_kept (log_of w 0) (after (log_of w) (Again unit event) knows 0) (quiet_alike (log_of w 0) (Again unit event) knows (stop_is_quiet (log_of w 0) unit event knows)))
 freed_rises i known w beginning (ResetDone unit event) knows simple rows own passes may =
     by_kept i.shape (log_of w 0) (ResetDone unit event) knows refl
     (alike_kept (log_of w 0) (after (log_of w) (ResetDone unit event) knows 0) (quiet_alike (log_of w 0) (ResetDone unit event) knows (reset_is_quiet (log_of w 0) unit event knows)))

@@ -6,7 +6,7 @@ use Rattle.std.proofs.lemmas.Option.{slice_get_past}
 use Rattle.pblk_model.specs.declared.shape.Shape.{Shape}
 use Rattle.pblk_model.specs.Image.{Image}
 use Rattle.pblk_model.specs.StartRecord.{StartRecord}
-use Rattle.pblk_world.specs.Events.{EngineEvent, Stripe, Open, Place, ResetDone, Decides, Logged}
+use Rattle.pblk_world.specs.Events.{EngineEvent, Stripe, Open, Place, Again, ResetDone, Decides, Logged}
 use Rattle.pblk_world.specs.World.{World, Logs, log_of}
 use Rattle.pblk_world.specs.EngineLog.{begun_by, Opened, life_of, Opening, takes, taken_by, Placed, placed_by, placements, placed_on, answers, answer_by, answer_of}
 use Rattle.pblk_world.specs.Legal.{IsLegal}
@@ -71,6 +71,9 @@ open_is_quiet log line start knows = record { begins = refl; takes = refl; place
 
 pub reset_is_quiet : (log : List Logged) (unit event : ℕ) (knows : List ℕ) → IsQuiet log (ResetDone unit event) knows
 reset_is_quiet log unit event knows = record { begins = refl; takes = refl; places = refl; answers = λ unit. refl }
+
+pub stop_is_quiet : (log : List Logged) (unit event : ℕ) (knows : List ℕ) → IsQuiet log (Again unit event) knows
+stop_is_quiet log unit event knows = record { begins = refl; takes = refl; places = refl; answers = λ unit. refl }
 
 -- ---- a stripe is placed
 

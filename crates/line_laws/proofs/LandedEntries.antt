@@ -1,7 +1,7 @@
 -- What a stripe that has landed changes in the table: its entries have landed in its line, and the line may be full.
-use Rattle.std.proofs.Common.{◌≡◌, ◌≢◌, ◌⊎◌, inl, inr, ℕ, ◌/◌, ◌==◌, ◌&&◌, zero, suc, not, nat_eq, Bool, true, false, cond, Some, None, Option, List, [], ◌∷◌, refl, sym, subst, ap, ap₂, ◌∙◌}
+use Rattle.std.proofs.Common.{◌≡◌, ◌≢◌, ◌⊎◌, inl, inr, ℕ, ◌/◌, ◌&&◌, zero, suc, nat_eq, Bool, true, false, cond, Some, None, Option, List, [], ◌∷◌, refl, sym, ap, ap₂, ◌∙◌}
 use Rattle.std.specs.Prelude.{if◌then◌else◌, slice_get}
-use Rattle.std.specs.List.{AllByRecursion, find, list_any}
+use Rattle.std.specs.List.{AllByRecursion, find}
 use Rattle.std.specs.Option.{option_map}
 use Rattle.std.proofs.lemmas.Bool.{eqb-true}
 use Rattle.std.proofs.lemmas.Option.{same_Some, none-some}
@@ -10,7 +10,7 @@ use Rattle.pblk_model.specs.UnitLog.{UnitEvent}
 use Rattle.pblk_model.specs.Image.{Image}
 use Rattle.pblk_world.specs.Events.{Landed, Decides, Logged}
 use Rattle.pblk_world.specs.World.{Logs, unit_event_at}
-use Rattle.pblk_world.specs.EngineLog.{LineLife, AsFound, Opened, Freed, life_of, is_life, Opening, Placed, placements, DidLand, answer_of, is_land, has_landed, has_failed, holds_position, Taken, takes}
+use Rattle.pblk_world.specs.EngineLog.{Opened, life_of, is_life, Opening, Placed, placements, DidLand, answer_of, is_land, has_landed, has_failed, holds_position, Taken, takes}
 use Rattle.pblk_world.specs.Lines.{told_by}
 use Rattle.pblk_world.specs.Starts.{have_landed}
 use Rattle.pblk_world.specs.Placing.{line_end}
@@ -35,7 +35,7 @@ use Rattle.line_laws.proofs.EntryRows.{Places, live_with, taker_with, IsNowhere}
 use Rattle.line_laws.proofs.PlacedEntryRows.{row_with, IsEntry, with_entries, entries_are, entries_landed}
 use Rattle.line_laws.proofs.PlacedPlaces.{BearsThese, any_nowhere, none_at}
 use Rattle.line_laws.proofs.PlacedRows.{table_was}
-use Rattle.line_laws.proofs.Tables.{table_of, table_changes}
+use Rattle.line_laws.proofs.Tables.{table_changes}
 use Rattle.line_laws.proofs.TakenRows.{taker_is}
 use Rattle.lemmas.proofs.Lists.{IsAmong, all_imply, among_all}
 use Rattle.lemmas.proofs.Maps.{find_agree}

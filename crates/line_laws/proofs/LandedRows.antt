@@ -1,12 +1,10 @@
 -- What stays in the table where a stripe has landed, and with the other events.
-use Rattle.std.proofs.Common.{◌≡◌, ◌≢◌, ℕ, ◌/◌, ◌&&◌, not, nat_eq, Bool, true, false, Some, None, Option, List, [], ◌∷◌, ◌++◌, length, refl, sym, ap, ap₂, ◌∙◌, append-nil}
+use Rattle.std.proofs.Common.{◌≡◌, ◌≢◌, ℕ, ◌&&◌, not, true, Some, None, Option, List, [], ◌∷◌, ◌++◌, length, refl, ap, ap₂, ◌∙◌, append-nil}
 use Rattle.std.specs.Prelude.{if◌then◌else◌, map, slice_get, slice_set}
 use Rattle.std.specs.List.{filter, filter_map, cons_option, find, list_all, enumerate_from}
 use Rattle.std.specs.Option.{option_map, option_map_or, option_and_then, option_to_list}
-use Rattle.std.proofs.lemmas.Bool.{eqb-true}
 use Rattle.std.proofs.lemmas.List.Elements.{filter_map-append}
 use Rattle.std.proofs.lemmas.List.Sums.{fold-append}
-use Rattle.std.proofs.lemmas.Option.{same_Some, none-some}
 use Rattle.pblk_model.specs.declared.shape.Shape.{Shape}
 use Rattle.pblk_model.specs.Chunk.{Chunk}
 use Rattle.pblk_model.specs.UnitLog.{UnitEvent, after_outcome, after_event, after_log}
@@ -27,7 +25,6 @@ use Rattle.line_laws.proofs.KeptRows.{KeepsChunks, KeepsLines}
 use Rattle.core_laws.proofs.SteppingLemmas.{found_kept}
 use Rattle.lemmas.proofs.Maps.{one_more}
 use Rattle.lemmas.proofs.Parts.{get_set_other}
-use Rattle.lemmas.proofs.Tests.{other_number}
 use Rattle.pblk_world.proofs.EngineLogLemmas.{takes_more}
 
 -- ---- entries stay where they are

@@ -86,7 +86,9 @@ placed_after i logs log b (Open line start) knows plain may own all =
 placed_after i logs log b (Landed unit event) knows plain may own all =
     subst (AllByRecursion (IsInPlace i (with_event log (Landed unit event) knows))) (sym (placements_kept log (Landed unit event) knows refl))
     (still i log (with_event log (Landed unit event) knows) (stays i logs log b (Landed unit event) knows plain may own) (placements log) all)
-placed_after i logs log b (Again unit event) knows plain may own all = absurd cc
+placed_after i logs log b (Again unit event) knows plain may own all =
+    subst (AllByRecursion (IsInPlace i (with_event log (Again unit event) knows))) (sym (placements_kept log (Again unit event) knows refl))
+    (still i log (with_event log (Again unit event) knows) (stays i logs log b (Again unit event) knows plain may own) (placements log) all)
 placed_after i logs log b (ResetDone unit event) knows plain may own all =
     subst (AllByRecursion (IsInPlace i (with_event log (ResetDone unit event) knows))) (sym (placements_kept log (ResetDone unit event) knows refl))
     (still i log (with_event log (ResetDone unit event) knows) (stays i logs log b (ResetDone unit event) knows plain may own) (placements log) all)

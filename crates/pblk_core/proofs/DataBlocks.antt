@@ -1,8 +1,7 @@
 -- The blocks of a stripe: those of entries that were taken, and those of a record, each with the record's mark.
-use Rattle.std.proofs.Common.{◌≡◌, ◌⊎◌, inl, inr, ℕ, ◌-◌, ◌≤◌, ◌&&◌, not, zero, suc, Some, List, [], ◌∷◌, ◌++◌, length, take, drop, replicate, refl, ap, ◌∙◌, arith}
-use Rattle.std.specs.Prelude.{slice_get, slice_range, map}
+use Rattle.std.proofs.Common.{◌≡◌, ◌⊎◌, inl, inr, ℕ, ◌-◌, ◌&&◌, not, Some, List, length, take, replicate, refl, ap}
+use Rattle.std.specs.Prelude.{slice_get, map}
 use Rattle.std.specs.List.{AllByRecursion, filter}
-use Rattle.std.proofs.lemmas.List.{take-append-le, length-drop}
 use Rattle.pblk_model.specs.declared.shape.Shape.{Shape}
 use Rattle.pblk_model.specs.Chunk.{Block}
 use Rattle.pblk_model.specs.Marks.{pad_block}
@@ -14,18 +13,6 @@ use Rattle.lemmas.proofs.Lists.{IsAmong, all_append, all_replicated}
 use Rattle.lemmas.proofs.Maps.{all_mapped, from_filter}
 use Rattle.lemmas.proofs.Parts.{all_by_get, get_whole_within}
 use Rattle.prefix_law.proofs.Among.{of_both}
-
--- ---- parts of longer lists
-
-drop_more : {X : Type 0} (n : ℕ) (xs ys : List X) → n ≤ length xs → drop n (xs ++ ys) ≡ drop n xs ++ ys
-drop_more zero xs ys h = refl
-drop_more (suc n) [] ys h = absurd (omega arith)
-drop_more (suc n) (x ∷ xs) ys h = drop_more n xs ys (omega arith)
-
-pub range_more : {X : Type 0} (xs ys : List X) (a b : ℕ) → a ≤ b → b ≤ length xs → slice_range (xs ++ ys) a b ≡ slice_range xs a b
-range_more xs ys a b h k =
-    ap (take (b - a)) (drop_more a xs ys (omega arith))
-    ∙ take-append-le (b - a) (drop a xs) ys (omega (arith, length-drop a xs))
 
 -- ---- blocks of entries
 

@@ -1,15 +1,15 @@
 -- The line in which a sector is live, by its slot.
 use Rattle.std.proofs.Common.{◌≡◌, ℕ, ◌+◌, ◌-◌, ◌<◌, ◌≤◌, ◌&&◌, ◌||◌, nat_lt, drop, if◌then◌else◌, not, zero, suc, Bool, true, false, cond, Some, None, Option, List, [], ◌∷◌, length, refl, sym, subst, ap, ap₂, ◌∙◌, arith}
 use Rattle.std.specs.Prelude.{slice_get, ◌%◌}
-use Rattle.std.specs.List.{AllByRecursion, filter, find, list_any}
+use Rattle.std.specs.List.{filter, find}
 use Rattle.std.specs.Option.{option_map, option_map_or, option_and_then}
 use Rattle.std.proofs.lemmas.Option.{same_Some, none-some, slice_get-map, slice_get_within}
-use Rattle.pblk_model.specs.declared.shape.Shape.{Shape}
 use Rattle.pblk_model.specs.Image.{Image}
 use Rattle.pblk_model.specs.Records.{Record}
 use Rattle.pblk_model.specs.Contents.{counted, winner}
 use Rattle.pblk_world.specs.Events.{Logged}
 use Rattle.pblk_world.specs.World.{World, log_of}
+use Rattle.pblk_world.proofs.Takers.{not_landed_line}
 use Rattle.pblk_world.specs.EngineLog.{Taken, takes, Placed, placements, LineLife, AsFound, Opened, Freed, life_of, is_life, is_as_found, is_opened, holds_position, was_lost, has_landed}
 use Rattle.pblk_world.specs.Fronts.{first_position, has_landed_at, last_take}
 use Rattle.pblk_world.specs.Lines.{found_image}
@@ -42,9 +42,9 @@ use Rattle.pblk_core.specs.Holds.{line_of_slot, has_landed_in}
 use Rattle.pblk_core.specs.Stands.{Stands, AreHolds}
 use Rattle.pblk_core.specs.declared.target_core.Core.{Core}
 use Rattle.lemmas.proofs.Lists.{IsAmong, among_all}
-use Rattle.lemmas.proofs.Maps.{any_member, find_agree, find_none, found_none, found_passes}
+use Rattle.lemmas.proofs.Maps.{any_member, find_agree, found_none, found_passes}
 use Rattle.lemmas.proofs.Parts.{get_dropped, is_in}
-use Rattle.lemmas.proofs.Tests.{either_false, first_of, same_number, second_of}
+use Rattle.lemmas.proofs.Tests.{first_of, same_number, second_of}
 use Rattle.pblk_model.proofs.MarksLemmas.{accepted_small}
 
 -- ---- lists
@@ -102,23 +102,6 @@ position_line i w q simple =
     same p force = ap (λ b. holds_position i.shape q p && not (was_lost (log_of w 0) p) && b) force ∙ and_true (holds_position i.shape q p && not (was_lost (log_of w 0) p))
 
 -- ---- where a position has landed
-
--- a position that hasn't landed is in no line
-pub not_landed_line : (s : Shape) (log : List Logged) (q : ℕ) → has_landed_at s log q ≡ false → landed_line s log q ≡ None
-not_landed_line s log q none = ap (option_map (λ (p : Placed). p.stripe.line))
-    (find_none (λ p. holds_position s q p && has_landed log p && is_in_force log p.life p.stripe.line) (placements log) (each (placements log) none))
-  where
-    fails : (a b c : Bool) → (b && a) ≡ false → (a && b && c) ≡ false
-    fails true true c e = absurd cc
-    fails true false c e = refl
-    fails false b c e = refl
-
-    each : (ps : List Placed) → list_any (λ p. has_landed log p && holds_position s q p) ps ≡ false
-        → AllByRecursion (λ p. (holds_position s q p && has_landed log p && is_in_force log p.life p.stripe.line) ≡ false) ps
-    each [] e = tt
-    each (p ∷ ps) e =
-        let both = either_false (has_landed log p && holds_position s q p) (list_any (λ p. has_landed log p && holds_position s q p) ps) e in
-        (fails (holds_position s q p) (has_landed log p) (is_in_force log p.life p.stripe.line) both.0, each ps both.1)
 
 -- one that has landed is where it is live
 pub landed_line_is : (i : Image) (w : World) (q : ℕ) → IsSimpleMount i w → has_landed_at i.shape (log_of w 0) q ≡ true → landed_line i.shape (log_of w 0) q ≡ line_of_position i.shape (log_of w 0) q

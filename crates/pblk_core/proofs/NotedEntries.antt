@@ -39,7 +39,7 @@ use Rattle.pblk_core.specs.declared.hold.Hold.{Hold}
 use Rattle.pblk_core.specs.declared.target_core.Core.{Core}
 use Rattle.pblk_core.proofs.LandedCore.{holds_it, positions_are}
 use Rattle.pblk_core.proofs.LandedWay.{IsOnWay}
-use Rattle.pblk_core.proofs.LiveLine.{not_landed_line}
+use Rattle.pblk_world.proofs.Takers.{not_landed_line}
 use Rattle.pblk_core.proofs.WaitingEntries.{row_of_entry}
 use Rattle.lemmas.proofs.Lists.{IsAmong, among_all, zipped}
 use Rattle.lemmas.proofs.Maps.{map_dropped}

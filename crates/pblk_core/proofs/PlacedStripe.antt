@@ -1,5 +1,5 @@
 -- The program that the placer of a standing core offers, and the stripe for it.
-use Rattle.std.proofs.Common.{◌≡◌, ◌⊎◌, inl, inr, ℕ, ◌+◌, ◌-◌, ◌*◌, ◌/◌, ◌<◌, ◌≤◌, ◌&&◌, zero, suc, Bool, true, false, Some, List, [], ◌||◌, length, take, refl, sym, subst, ap, ◌∙◌, arith}
+use Rattle.std.proofs.Common.{◌≡◌, ◌⊎◌, inl, inr, ℕ, ◌+◌, ◌-◌, ◌*◌, ◌/◌, ◌<◌, ◌≤◌, ◌&&◌, zero, suc, Bool, true, false, Some, None, List, [], ◌||◌, length, take, refl, sym, subst, ap, ◌∙◌, arith}
 use Rattle.std.specs.Prelude.{nat_le, slice_get}
 use Rattle.std.specs.List.{list_all, list_any}
 use Rattle.std.proofs.Math.Nat.{mul-le-mul_right}
@@ -20,9 +20,9 @@ use Rattle.stripe_placer.specs.Entries.{Entries}
 use Rattle.stripe_placer.specs.OpenLines.{OpenLine, numbers, is_to_place, is_unanswered, has_left}
 use Rattle.stripe_placer.proofs.Named.{IsProgramIn, its_program}
 use Rattle.placed_laws.proofs.LeftLines.{left_apart}
-use Rattle.stripe_placer.specs.Placing.{Program, next_in, next_stripe}
+use Rattle.stripe_placer.specs.Placing.{Program, next_in, next_stripe, stopped_in}
 use Rattle.core_laws.specs.OpenedLines.{open_line, standing}
-use Rattle.core_laws.specs.PlacerOf.{entries_of, placing_of, IsStripeOf}
+use Rattle.core_laws.specs.PlacerOf.{entries_of, placing_of, row_of, IsStripeOf}
 use Rattle.core_laws.specs.SimpleMounts.{IsSimpleMount}
 use Rattle.core_laws.proofs.SimpleMounts.{engine_plain}
 use Rattle.placing_laws.specs.StripeFor.{IsStripeFor, IsProgramFor, positions_for}
@@ -82,11 +82,12 @@ in_part s o k c d kinds.End a b part = begins_after s.ws_opt k (c + d) (end_addr
 has_one : {s : Shape} {e : Entries} {of : Program} (l : OpenLine) → (j : ℕ) × IsProgramIn s e l of j → has_left l ≡ true
 has_one l its = ap (λ b. b || list_any is_unanswered l.stripes) (found_some (is_to_place l) (numbers l) its.0 its.1.next)
 
-pub offered_now : (i : Image) (w : World) (pad busy : ℕ) (of : Program) → IsSimpleMount i w → next_stripe (placing_of i (log_of w) pad []) busy ≡ Some of → (o : Opening) × IsOfferedNow i w pad o of
-offered_now i w pad busy of simple next =
+pub offered_now : (i : Image) (w : World) (pad : ℕ) (again : List ℕ) (busy : ℕ) (of : Program) → IsSimpleMount i w → next_stripe (placing_of i (log_of w) pad again) busy ≡ Some of
+    → stopped_in (row_of i (log_of w) again of.unit) ≡ None → (o : Opening) × IsOfferedNow i w pad o of
+offered_now i w pad again busy of simple next none =
     let us : ℕ → List ℕ = line_units (known_image i (log_of w)) in
     let is : IsFollowed i (line_units (known_image i (log_of w))) w = follow i w simple in
-    let its = what_is_offered i us w pad busy of is next in
+    let its = what_is_offered i us w pad again busy of is next none in
     let o : Opening = its.0 in
     let off : IsOffered i us w pad of o = its.1 in
     let log : List Logged = log_of w 0 in
@@ -96,7 +97,7 @@ offered_now i w pad busy of simple next =
     let parts : HasParts i us w o = parts_of i us w o off.line_is in
     let kind : kind_in k c l.data_count ≡ of.kind = sym (kind_by l k (unfailed l log (stripes_of log o) (stripe_count i us o.line - k) (engine_plain i w simple) (formed i us w o off.line_is))) ∙ off.kind in
     let life : life_of log of.line ≡ Opened o = ap (life_of log) off.its_line ∙ off.life in
-    let for = offered_is_for i us w pad busy of is next in
+    let for = offered_is_for i us w pad again busy of is next none in
     let same : for.0 ≡ o = opened_same for.0 o (sym for.1.opened ∙ life) in
     let made = (its_program i.shape (entries_of i.shape log pad) l of off.next).1.is in
     let program : IsProgramFor i (log_of w) o of = subst (λ p. IsProgramFor i (log_of w) p of) same for.1 in (
@@ -111,8 +112,8 @@ offered_now i w pad busy of simple next =
         whole = program.at;
         part = subst (λ a. IsInPart i.shape o a of.kind) (sym off.at) (in_part i.shape o k c l.data_count of.kind parts.start_is parts.ends_is (subst (IsPart k c l.data_count) kind (part_of k c l.data_count)));
         positions = program.positions;
-        may = λ stripe its. next_may_be_placed i us w pad busy of o stripe is next its;
-        its = λ stripe its. next_is_its i us w pad busy of o stripe is next its;
+        may = λ stripe its. next_may_be_placed i us w pad again busy of o stripe is next none its;
+        its = λ stripe its. next_is_its i us w pad again busy of o stripe is next none its;
         count = sym (ap (λ (x : Program). x.count) made) ∙ ap (λ (x : Program). length x.positions) made;
         start_is = parts.start_is;
         stands = life_stands i us w is o.line o off.life;

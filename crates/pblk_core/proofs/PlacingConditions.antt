@@ -38,7 +38,7 @@ use Rattle.pblk_model.specs.EndRecord.{end_bytes}
 use Rattle.core_laws.specs.RowsOf.{row_of_line}
 use Rattle.placed_laws.proofs.StripeBlocks.{HaveBlocks, have_blocks, marks_counted, marks_whole}
 use Rattle.placing_laws.specs.StripeFor.{IsStripeFor, blocks_for, positions_for}
-use Rattle.pblk_core.proofs.SimpleLogs.{its_placer}
+use Rattle.pblk_core.proofs.SimpleLogs.{its_rows}
 use Rattle.pblk_core.specs.Entries.{entry_blocks, placed_lines, placed_rows}
 use Rattle.pblk_core.specs.Filling.{Filling, followed_by, empty_stripe}
 use Rattle.pblk_core.specs.LineRecords.{Records, AreOf, blocks_at_start, blocks_at_end, end_begins}
@@ -59,7 +59,7 @@ use Rattle.lemmas.proofs.Parts.{all_at, get_whole, got_within}
 
 pub offer : (i : Image) (w : World) (c : Core) (of : Program) → IsSimpleMount i w → Stands i (log_of w) c → Some of ≡ next_stripe c.placer 0
     → (o : Opening) × IsOfferedNow i w c.placer.entries.pad o of
-offer i w c of simple st next = offered_now i w c.placer.entries.pad 0 of simple (ap (λ p. next_stripe p 0) (sym (its_placer st)) ∙ sym next)
+offer i w c of simple st next = offered_now i w c.placer.entries.pad st.again 0 of simple (ap (λ p. next_stripe p 0) (sym st.placing) ∙ sym next) (its_rows st of.unit)
 
 -- the opening of the program, and its place among the open lines
 pub record IsFound (i : Image) (w : World) (c : Core) (of : Program) (result : ℕ) : Type 0 where

@@ -184,6 +184,7 @@ popped_stands i w c new simple st is =
     let has = popped_window i w c new simple st is in
     record {
       simple = st.simple;
+      unstopped = st.unstopped;
       layout = st.layout;
       beginning = st.beginning;
       has_begun = st.has_begun;
@@ -226,6 +227,7 @@ popped_else i w c new (Some f) simple st some same passed entries users size =
 pub padded_stands : (i : Image) (logs : Logs) (c : Core) (new : Placing) (to : ℕ) → Stands i logs c → new ≡ padded_to c.placer to → Stands i logs (record c { placer = new })
 padded_stands i logs c new to st is = record {
   simple = st.simple;
+  unstopped = st.unstopped;
   layout = st.layout;
   beginning = st.beginning;
   has_begun = st.has_begun;

@@ -5,6 +5,8 @@ pub mod Answered
 pub mod LandedPrograms
 pub mod EngineLogLemmas
 pub mod VictimsLemmas
+pub mod Takers
+pub mod RisingMakers
 pub mod LinesLemmas
 pub mod EventsLemmas
 pub mod WorldLemmas

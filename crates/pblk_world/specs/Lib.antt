@@ -1,6 +1,7 @@
 -- The definitions, lowest first.
 pub mod Events
 pub mod World
+pub mod Makers
 pub mod EngineLog
 pub mod Fronts
 pub mod Lines

@@ -5,12 +5,14 @@ ghost use Rattle.pblk_model.specs.declared.shape.Shape.{Shape};
 ghost use Rattle.pblk_model.specs.Image.{Image};
 ghost use Rattle.pblk_model.specs.ChunkStep.{Done};
 ghost use Rattle.pblk_model.specs.UnitLog.{UnitEvent, Answered};
-ghost use Rattle.pblk_world.specs.Events.{Logged, Decides, Landed};
-ghost use Rattle.pblk_world.specs.World.{World, log_of, known, unit_event_at};
+ghost use Rattle.pblk_world.specs.Events.{Logged, Maker, Step, Decides, Does, Landed};
+ghost use Rattle.pblk_world.specs.Makers.{HasMakers};
+ghost use Rattle.pblk_world.specs.World.{World, Logs, log_of, known, unit_event_at};
 ghost use Rattle.std.specs.Option.{option_to_list};
-ghost use Rattle.pblk_world.specs.EngineLog.{takes, taken_by, answers, answer_by, named_events, named_by, life_of, turned_by, openings, opened_by, placements, placed_by, placed_on};
+ghost use Rattle.pblk_world.specs.EngineLog.{Taken, takes, taken_by, answers, answer_by, named_events, named_by, life_of, turned_by, openings, opened_by, placements, placed_by, placed_on};
 ghost use Rattle.pblk_world.specs.Fronts.{IsSynced, first_position, has_landed_at, synced, taken};
 ghost use Rattle.pblk_world.specs.Legal.{IsLegal};
+ghost use Rattle.pblk_world.specs.Victims.{take_before, took_from};
 
 /// After more steps each log is as it was, with more events at its end.
 pub fn logs_only_grow()
@@ -80,4 +82,21 @@ pub fn what_landed_was_done()
         → slice_get (log_of w 0) k ≡ Some l → l.event ≡ Decides (Landed unit n)
         → (e : UnitEvent) × (unit_event_at (log_of w) unit n ≡ Some e)
         × (e.outcome ≡ Answered Done) }
+{}
+
+/// Where each command says how many its worker had made before it, the commands of one worker have rising
+/// numbers. A world has its newest step first.
+pub fn the_numbers_of_a_worker_rise()
+    ensures { (w : World) (j k : ℕ) (late early : Step) (e f : UnitEvent) (m n : Maker) → HasMakers w
+        → j < k → slice_get w j ≡ Some late → slice_get w k ≡ Some early
+        → late.logged.event ≡ Does e m → early.logged.event ≡ Does f n → n.worker ≡ m.worker
+        → n.made < m.made }
+{}
+
+/// A position took nothing from any line where the sector's entry before it hasn't landed.
+pub fn what_has_not_landed_is_not_taken()
+    ensures { (i : Image) (logs : Logs) (line : ℕ) (t before : Taken)
+        → take_before (logs 0) t ≡ Some before
+        → has_landed_at i.shape (logs 0) before.entry.position ≡ false
+        → took_from i logs line t ≡ false }
 {}

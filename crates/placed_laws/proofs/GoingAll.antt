@@ -316,7 +316,8 @@ lines_after i w simple k (Place stripe) knows there is ok well =
     (known_by_prefix i w k (record { event = Decides (Place stripe); knows = knows }) simple.mount.legal there) is.allowed.2 well.wide well.no_loss well.lines
 lines_after i w simple k (Landed u n) knows there is ok well = landed_step i w simple k u n knows there is well.lines
 lines_after i w simple k (Lost u n) knows there is ok well = absurd cc
-lines_after i w simple k (Again u n) knows there is ok well = absurd cc
+lines_after i w simple k (Again u n) knows there is ok well =
+    same_step i (log_of w) k (record { event = Decides (Again u n); knows = knows }) is.allowed.0 there (ap (λ m. begun (take m (log_of w 0))) (sym is.own) ∙ is.allowed.1) well.lines (λ line. refl) refl (λ u. refl)
 lines_after i w simple k (ResetDone u n) knows there is ok well = reset_step i w simple k u n knows there is well.lines
 lines_after i w simple k (Free line) knows there is ok well = absurd cc
 

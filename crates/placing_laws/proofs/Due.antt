@@ -1,4 +1,4 @@
--- Where the placer of a plain world offers nothing, no stripe is to be placed.
+-- Where the placer of a simple mount offers nothing, no stripe is to be placed.
 use Rattle.std.proofs.Common.{◌≡◌, ◌⊎◌, inl, inr, ℕ, ◌+◌, ◌-◌, ◌/◌, ◌%◌, ◌<◌, ◌≤◌, ◌==◌, ◌&&◌, zero, suc, not, nat_lt, Bool, true, false, cond, Some, None, Option, List, [], ◌∷◌, ◌++◌, map, length, take, drop, refl, sym, subst, ap, ap₂, ◌∙◌, arith, if◌then◌else◌, mod-lt}
 use Rattle.std.specs.Prelude.{slice_get, nat_le, nat_eq}
 use Rattle.std.specs.List.{Contains, filter_map, find, list_all, list_any, range_with_len, slice_index_or}
@@ -21,7 +21,7 @@ use Rattle.stripe_placer.specs.declared.placement.StripeKind.{StripeKind}
 use Rattle.stripe_placer.specs.declared.placement.StripeKind.TheVariants as kinds
 use Rattle.stripe_placer.specs.Entries.{Entries, waiting, has_stripe}
 use Rattle.stripe_placer.specs.OpenLines.{OpenLine, unit_of, numbers, is_to_place, has_left, next_of, kind_of, is_unanswered, start_has_landed}
-use Rattle.stripe_placer.specs.Placing.{Program, UnitRow, is_under_way, is_ready, allows, next_positions, program_of, allowed_at, next_in, next_stripe}
+use Rattle.stripe_placer.specs.Placing.{Program, UnitRow, stopped_in, is_under_way, is_ready, allows, next_positions, program_of, allowed_at, next_in, next_stripe}
 use Rattle.stripe_placer.specs.Placing.UnitRow.{Idle}
 use Rattle.core_laws.specs.OpenedLines.{open_line, standing, open_lines}
 use Rattle.core_laws.specs.PlacerOf.{positions_of, entries_of, row_of, placing_of}
@@ -29,7 +29,7 @@ use Rattle.core_laws.proofs.Placing.{not_below}
 use Rattle.core_laws.proofs.Turns.{its_unit as unit_at, its_turn as turn_at}
 use Rattle.core_laws.proofs.WaitingEntries.{waiting_alike}
 use Rattle.core_laws.proofs.PlacedEntries.{length_positions as positions_length}
-use Rattle.core_laws.proofs.PlacedLines.{found_any}
+use Rattle.core_laws.proofs.PlacedLines.{found_any, row_before}
 use Rattle.pblk_world.proofs.Answered.{answers_fit}
 use Rattle.placing_laws.proofs.Followed.{IsFollowed, plain_of}
 use Rattle.placing_laws.proofs.Lengths.{is_before, is_after}
@@ -37,7 +37,8 @@ use Rattle.placing_laws.proofs.Opened.{opened_lines, IsOpenedLine, life_stands}
 use Rattle.placing_laws.proofs.InOrder.{stripe_count, wide}
 use Rattle.placing_laws.proofs.Forms.{IsLineOf, line_of, formed}
 use Rattle.placing_laws.proofs.NextStripes.{next_is, unfailed, start_landed, data_landed, all_parts}
-use Rattle.placing_laws.proofs.Idle.{all_answered, is_idle, no_stopped, idle_row, row_there}
+use Rattle.placing_laws.proofs.Idle.{all_answered, is_idle, row_there}
+use Rattle.stripe_placer.proofs.Rows.{find_first, find_second}
 use Rattle.placing_laws.proofs.KeptLines.{all_online}
 use Rattle.placing_laws.proofs.Offered.{live_inside, unit_within}
 use Rattle.placing_laws.proofs.Placeable.{kind_in, kind_by, IsPart, HasParts, parts_of}
@@ -196,10 +197,10 @@ offered_next i us w pad o kind is life line next =
     let at : IsAmong (open_lines i (log_of w)) l = in_filter has_left (map (open_line i (log_of w)) (standing log)) l (in_map (open_line i (log_of w)) (standing log) o (life_stands i us w is o.line o life)) left in
     given_at (next_in s e) (open_lines i (log_of w)) l (program_of s l k kind (next_positions s e kind)) at.0 at.1 given
 
-ready_unit : (i : Image) (us : ℕ → List ℕ) (w : World) (unit : ℕ) → IsFollowed i us w → AreAnswered (log_of w 0) → unit < units i.shape → is_ready (map (row_of i (log_of w) []) (range_with_len 0 (units i.shape))) 0 unit ≡ true
-ready_unit i us w unit is all inside =
-    let idle : slice_get (map (row_of i (log_of w) []) (range_with_len 0 (units i.shape))) unit ≡ Some Idle =
-    row_there i (log_of w) unit inside ∙ ap (λ (r : UnitRow). Some r) (idle_row i (log_of w) unit (idle_unit i us w unit is all)) in
+ready_unit : (i : Image) (us : ℕ → List ℕ) (w : World) (again : List ℕ) (unit : ℕ) → IsFollowed i us w → AreAnswered (log_of w 0) → unit < units i.shape → is_ready (map (row_of i (log_of w) again) (range_with_len 0 (units i.shape))) 0 unit ≡ true
+ready_unit i us w again unit is all inside =
+    let idle : slice_get (map (row_of i (log_of w) again) (range_with_len 0 (units i.shape))) unit ≡ Some Idle =
+    row_there i (log_of w) again unit inside ∙ ap (λ (r : UnitRow). Some r) (row_before i (log_of w) again unit (idle_unit i us w unit is all)) in
     ap₂ (λ b (r : Option UnitRow). not (nat_eq b 1) && not (option_map_or is_under_way r false)) (bit_at-zero unit) idle
 
 its_unit : (i : Image) (us : ℕ → List ℕ) (w : World) (o : Opening) → IsFollowed i us w → life_of (log_of w 0) o.line ≡ Opened o → IsLineOf i us w o → unit_of (open_line i (log_of w) o) (length (stripes_of (log_of w 0) o)) < units i.shape
@@ -211,31 +212,39 @@ its_unit i us w o is life line =
     subst (λ u. u < units i.shape) (sym same)
     (unit_within i us w o.line (k % wide us o.line) (slice_index_or (us o.line) (k % wide us o.line) 0) is (ap is_opened life) (slice_get-get_or (us o.line) (k % wide us o.line) 0 inside))
 
-pub none_due : (i : Image) (us : ℕ → List ℕ) (w : World) (pad target : ℕ) (stripe : Stripe) → IsFollowed i us w → next_stripe (placing_of i (log_of w) pad []) 0 ≡ None → ((p : Placed) → Contains (placements (log_of w 0)) p → is_answered (log_of w 0) p ≡ true)
+-- what is found nowhere isn't found behind the first
+none_behind : (test : Program → Bool) (stopped given : List Program) → find test (stopped ++ given) ≡ None → find test given ≡ None
+none_behind test stopped given none = go (find test stopped) refl
+  where
+    go : (o : Option Program) → find test stopped ≡ o → find test given ≡ None
+    go None e = sym (find_second test stopped given e) ∙ none
+    go (Some x) e = absurd (none-some x (sym none ∙ find_first test stopped given x e))
+
+pub none_due : (i : Image) (us : ℕ → List ℕ) (w : World) (pad : ℕ) (again : List ℕ) (target : ℕ) (stripe : Stripe) → IsFollowed i us w → next_stripe (placing_of i (log_of w) pad again) 0 ≡ None → ((p : Placed) → Contains (placements (log_of w 0)) p → is_answered (log_of w 0) p ≡ true)
     → target ≤ pad → ¬ IsDue i (log_of w) target stripe
 unfolding AreAnswered
-none_due i us w pad target stripe is none all within due =
+none_due i us w pad again target stripe is none all within due =
     let log : List Logged = log_of w 0 in
     let o : Opening = due.opening in
     let well : IsOpenedLine i us stripe.line o = opened_lines i us w is stripe.line o due.is_open in
     let life : life_of log o.line ≡ Opened o = ap (life_of log) well.its_line ∙ due.is_open in
     let line : IsLineOf i us w o = line_of i us w o is life in
     let next = due_next i us w pad target o stripe is line (parts_of i us w o line) within due.kind in
-    let rows : List UnitRow = map (row_of i (log_of w) []) (range_with_len 0 (units i.shape)) in
+    let rows : List UnitRow = map (row_of i (log_of w) again) (range_with_len 0 (units i.shape)) in
     let given : List Program = filter_map (next_in i.shape (entries_of i.shape log pad)) (open_lines i (log_of w)) in
     let of : Program = program_of i.shape (open_line i (log_of w) o) (length (stripes_of log o)) next.0 (next_positions i.shape (entries_of i.shape log pad) next.0) in
     let among : IsAmong given of = offered_next i us w pad o next.0 is life line next.1 in
     let nothing : find (λ (x : Program). is_ready rows 0 x.unit) given ≡ None =
-    ap (λ (ps : List Program). find (λ (x : Program). is_ready rows 0 x.unit) (ps ++ given)) (sym (no_stopped i us w 0 (units i.shape) is)) ∙ none in
+    none_behind (λ (x : Program). is_ready rows 0 x.unit) (filter_map stopped_in rows) given none in
     let no_ : is_ready rows 0 of.unit ≡ false = none_at (λ (x : Program). is_ready rows 0 x.unit) given among.0 of nothing among.1 in
-    let yes_ : is_ready rows 0 of.unit ≡ true = ready_unit i us w of.unit is all (its_unit i us w o is life line) in
+    let yes_ : is_ready rows 0 of.unit ≡ true = ready_unit i us w again of.unit is all (its_unit i us w o is life line) in
     absurd cc
 
 -- ---- where each unit is idle
 
-pub idle_answered : (i : Image) (us : ℕ → List ℕ) (w : World) (pad : ℕ) (p : Placed) → IsFollowed i us w → ((unit : ℕ) → unit < units i.shape → slice_get (placing_of i (log_of w) pad []).units unit ≡ Some Idle)
+pub idle_answered : (i : Image) (us : ℕ → List ℕ) (w : World) (pad : ℕ) (again : List ℕ) (p : Placed) → IsFollowed i us w → ((unit : ℕ) → unit < units i.shape → slice_get (placing_of i (log_of w) pad again).units unit ≡ Some Idle)
     → Contains (placements (log_of w 0)) p → is_answered (log_of w 0) p ≡ true
-idle_answered i us w pad p is idle there =
+idle_answered i us w pad again p is idle there =
     let log : List Logged = log_of w 0 in
     let unit : ℕ = p.stripe.unit in
     let among : IsAmong (placements log) p = (there.0, slice_get-get_or (placements log) there.0 p there.1 ∙ ap (λ (q : Placed). Some q) there.2) in
@@ -245,5 +254,5 @@ idle_answered i us w pad p is idle there =
     let count = is.simple.mount.fit.units in
     let low : p.stripe.unit < length (known_image i (log_of w)).units = live_inside (known_image i (log_of w)) p.stripe.line p.stripe.unit live in
     let inside : p.stripe.unit < units i.shape = omega arith in
-    let row : row_of i (log_of w) [] p.stripe.unit ≡ Idle = same_Some (row_of i (log_of w) [] p.stripe.unit) Idle (sym (row_there i (log_of w) p.stripe.unit inside) ∙ idle p.stripe.unit inside) in
-    all_answered log p.stripe.unit p (is_idle i us w p.stripe.unit is (ap is_under_way row)) (in_filter (λ (q : Placed). q.stripe.unit == p.stripe.unit) (placements log) p among (same_number p.stripe.unit)) refl
+    let row : row_of i (log_of w) again p.stripe.unit ≡ Idle = same_Some (row_of i (log_of w) again p.stripe.unit) Idle (sym (row_there i (log_of w) again p.stripe.unit inside) ∙ idle p.stripe.unit inside) in
+    all_answered log p.stripe.unit p (is_idle i us w again p.stripe.unit is (ap is_under_way row) (ap stopped_in row)) (in_filter (λ (q : Placed). q.stripe.unit == p.stripe.unit) (placements log) p among (same_number p.stripe.unit)) refl

@@ -1,5 +1,5 @@
--- What the placer of a plain world offers: the next stripe of an opened line, on an idle unit.
-use Rattle.std.proofs.Common.{◌≡◌, ℕ, ◌-◌, ◌*◌, ◌/◌, ◌%◌, ◌<◌, ◌≤◌, ◌&&◌, zero, suc, not, nat_lt, Bool, true, false, Some, Option, List, [], ◌∷◌, ◌++◌, map, length, refl, sym, ap, ap₂, ◌∙◌, arith, mod-lt}
+-- What the placer of a simple mount offers beside stopped stripes: the next stripe of an opened line, on an idle unit.
+use Rattle.std.proofs.Common.{◌≡◌, ℕ, ◌-◌, ◌*◌, ◌/◌, ◌%◌, ◌<◌, ◌≤◌, ◌&&◌, zero, suc, not, nat_lt, Bool, true, false, Some, None, Option, List, [], ◌∷◌, ◌++◌, map, length, refl, sym, ap, ap₂, ◌∙◌, arith, mod-lt}
 use Rattle.std.specs.Prelude.{slice_get}
 use Rattle.std.specs.List.{filter_map, find, range_with_len, slice_index_or}
 use Rattle.std.specs.Option.{option_map_or}
@@ -15,7 +15,7 @@ use Rattle.pblk_world.specs.Lines.{known_image}
 use Rattle.pblk_world.specs.EngineLog.{is_opened, Opening, openings, Opened, is_life, life_of, placed_on, answers, stripes_of}
 use Rattle.stripe_placer.specs.Entries.{Entries}
 use Rattle.stripe_placer.specs.OpenLines.{OpenLine, width, has_left, next_of, kind_of}
-use Rattle.stripe_placer.specs.Placing.{Program, UnitRow, is_under_way, is_ready, allows, next_positions, program_of, next_in, next_stripe}
+use Rattle.stripe_placer.specs.Placing.{Program, UnitRow, stopped_in, is_under_way, is_ready, allows, next_positions, program_of, next_in, next_stripe}
 use Rattle.stripe_placer.proofs.Named.{IsProgramIn, its_program}
 use Rattle.stripe_placer.proofs.Chunks.{lt_of as is_below}
 use Rattle.core_laws.specs.OpenedLines.{open_line, standing, open_lines}
@@ -27,14 +27,13 @@ use Rattle.placing_laws.proofs.KeptLines.{few_units, unit_live}
 use Rattle.placing_laws.proofs.InOrder.{wide, stripe_count, IsAtPlace}
 use Rattle.placing_laws.proofs.Forms.{IsLineOf, line_of, formed}
 use Rattle.placing_laws.proofs.NextStripes.{next_is, none_next}
-use Rattle.placing_laws.proofs.Idle.{no_stopped, is_idle, row_there}
+use Rattle.placing_laws.proofs.Idle.{not_again, is_idle, row_there}
+use Rattle.stripe_placer.proofs.Rows.{find_first, find_second}
 use Rattle.lemmas.proofs.Lists.{IsAmong}
 use Rattle.lemmas.proofs.Maps.{found_passes, from_filter, from_given, from_map}
 use Rattle.lemmas.proofs.Parts.{all_at}
 use Rattle.lemmas.proofs.Tests.{le_of_lt_false}
 use Rattle.pblk_world.proofs.LinesLemmas.{length_known}
-
--- ---- lists
 
 -- ---- the opened line of an offered program
 
@@ -118,8 +117,9 @@ not_true true b e = absurd cc
 not_true false true e = absurd cc
 not_true false false e = refl
 
-offered : (i : Image) (us : ℕ → List ℕ) (w : World) (pad busy : ℕ) (of : Program) (o : Opening) → IsFollowed i us w → IsOfferedBy i us w pad of o → is_ready (map (row_of i (log_of w) []) (range_with_len 0 (units i.shape))) busy of.unit ≡ true → IsOffered i us w pad of o
-offered i us w pad busy of o is by ready =
+offered : (i : Image) (us : ℕ → List ℕ) (w : World) (pad : ℕ) (again : List ℕ) (busy : ℕ) (of : Program) (o : Opening) → IsFollowed i us w → IsOfferedBy i us w pad of o
+    → is_ready (map (row_of i (log_of w) again) (range_with_len 0 (units i.shape))) busy of.unit ≡ true → stopped_in (row_of i (log_of w) again of.unit) ≡ None → IsOffered i us w pad of o
+offered i us w pad again busy of o is by ready none =
     let s : Shape = i.shape in
     let log : List Logged = log_of w 0 in
     let e : Entries = entries_of s log pad in
@@ -154,17 +154,30 @@ offered i us w pad busy of o is by ready =
       allowed = ap (allows s e l) (sym kind) ∙ its.1.allowed;
       positions = ap (next_positions s e) (sym kind) ∙ ap (λ (x : Program). x.positions) same;
       unit = within;
-      idle = is_idle i us w of.unit is
-          (ap (λ (r : Option UnitRow). option_map_or is_under_way r false) (sym (row_there i (log_of w) of.unit within))
-          ∙ not_true (is_in busy of.unit) (option_map_or is_under_way (slice_get (map (row_of i (log_of w) []) (range_with_len 0 (units i.shape))) of.unit) false) ready);
+      idle = is_idle i us w again of.unit is
+          (ap (λ (r : Option UnitRow). option_map_or is_under_way r false) (sym (row_there i (log_of w) again of.unit within))
+          ∙ not_true (is_in busy of.unit) (option_map_or is_under_way (slice_get (map (row_of i (log_of w) again) (range_with_len 0 (units i.shape))) of.unit) false) ready)
+          none;
     }
 
-pub what_is_offered : (i : Image) (us : ℕ → List ℕ) (w : World) (pad busy : ℕ) (of : Program) → IsFollowed i us w → next_stripe (placing_of i (log_of w) pad []) busy ≡ Some of → (o : Opening) × IsOffered i us w pad of o
-what_is_offered i us w pad busy of is next =
-    let rows : List UnitRow = map (row_of i (log_of w) []) (range_with_len 0 (units i.shape)) in
+-- what is none of the stopped is of the others
+new_only : (test : Program → Bool) (stopped given : List Program) (of : Program) → ((k : ℕ) → slice_get stopped k ≡ Some of → ⊥) → find test (stopped ++ given) ≡ Some of → find test given ≡ Some of
+new_only test stopped given of never next = go (find test stopped) refl
+  where
+    go : (o : Option Program) → find test stopped ≡ o → find test given ≡ Some of
+    go None e = sym (find_second test stopped given e) ∙ next
+    go (Some x) e =
+        let same : x ≡ of = same_Some x of (sym (find_first test stopped given x e) ∙ next) in
+        let at = found_passes test stopped of (e ∙ ap (λ y. Some y) same) in
+        absurd (never at.1.0 at.1.1)
+
+pub what_is_offered : (i : Image) (us : ℕ → List ℕ) (w : World) (pad : ℕ) (again : List ℕ) (busy : ℕ) (of : Program) → IsFollowed i us w → next_stripe (placing_of i (log_of w) pad again) busy ≡ Some of
+    → stopped_in (row_of i (log_of w) again of.unit) ≡ None → (o : Opening) × IsOffered i us w pad of o
+what_is_offered i us w pad again busy of is next none =
+    let rows : List UnitRow = map (row_of i (log_of w) again) (range_with_len 0 (units i.shape)) in
     let given : List Program = filter_map (next_in i.shape (entries_of i.shape (log_of w 0) pad)) (open_lines i (log_of w)) in
     let only : find (λ (x : Program). is_ready rows busy x.unit) given ≡ Some of =
-    ap (λ (ps : List Program). find (λ (x : Program). is_ready rows busy x.unit) (ps ++ given)) (sym (no_stopped i us w 0 (units i.shape) is)) ∙ next in
+    new_only (λ (x : Program). is_ready rows busy x.unit) (filter_map stopped_in rows) given of (λ k there. not_again i (log_of w) again 0 (units i.shape) k of none there) next in
     let found = found_passes (λ (x : Program). is_ready rows busy x.unit) given of only in
     let by = offered_by i us w pad of is found.1 in
-    (by.0, offered i us w pad busy of by.0 is by.1 found.0)
+    (by.0, offered i us w pad again busy of by.0 is by.1 found.0 none)

@@ -1,5 +1,5 @@
 -- The stripe for a program that the placer of a plain world offers may be placed.
-use Rattle.std.proofs.Common.{◌≡◌, ◌≢◌, ◌⊎◌, inl, inr, ℕ, ◌+◌, ◌-◌, ◌*◌, ◌/◌, ◌%◌, ◌<◌, ◌≤◌, ◌==◌, ◌&&◌, ◌||◌, zero, suc, nat_lt, Bool, true, false, Some, Option, List, [], ◌∷◌, length, take, drop, refl, sym, subst, ap, ap₂, ◌∙◌, arith, if◌then◌else◌, mul-div_cancel}
+use Rattle.std.proofs.Common.{◌≡◌, ◌≢◌, ◌⊎◌, inl, inr, ℕ, ◌+◌, ◌-◌, ◌*◌, ◌/◌, ◌%◌, ◌<◌, ◌≤◌, ◌==◌, ◌&&◌, ◌||◌, zero, suc, nat_lt, Bool, true, false, Some, None, Option, List, [], ◌∷◌, length, take, drop, refl, sym, subst, ap, ap₂, ◌∙◌, arith, if◌then◌else◌, mul-div_cancel}
 use Rattle.std.specs.Prelude.{slice_get, nat_le}
 use Rattle.std.specs.List.{filter_map, list_all, list_any}
 use Rattle.std.specs.Option.{option_map}
@@ -25,10 +25,10 @@ use Rattle.stripe_placer.specs.declared.placement.StripeKind.TheVariants as kind
 use Rattle.stripe_placer.specs.Entries.{waiting, has_stripe}
 use Rattle.stripe_placer.specs.OpenLines as line
 use Rattle.stripe_placer.specs.OpenLines.{OpenLine, kind_of, start_has_landed}
-use Rattle.stripe_placer.specs.Placing.{Program, allows, next_positions, next_stripe}
+use Rattle.stripe_placer.specs.Placing.{Program, allows, next_positions, next_stripe, stopped_in}
 use Rattle.stripe_placer.proofs.Chunks.{lt_of as is_below}
 use Rattle.core_laws.specs.OpenedLines.{open_line}
-use Rattle.core_laws.specs.PlacerOf.{entries_of, placing_of, IsStripeOf}
+use Rattle.core_laws.specs.PlacerOf.{entries_of, placing_of, IsStripeOf, row_of}
 use Rattle.core_laws.proofs.Turns.{filtered_is}
 use Rattle.core_laws.proofs.WaitingEntries.{waiting_alike}
 use Rattle.core_laws.proofs.PlacedEntries.{length_positions as positions_length}
@@ -251,19 +251,20 @@ is_its i us w pad of o stripe is off for = record {
 
 -- ---- the laws
 
-offered_here : (i : Image) (us : ℕ → List ℕ) (w : World) (pad busy : ℕ) (of : Program) (o : Opening) → IsFollowed i us w → next_stripe (placing_of i (log_of w) pad []) busy ≡ Some of → life_of (log_of w 0) of.line ≡ Opened o → IsOffered i us w pad of o
-offered_here i us w pad busy of o is next opened =
-    let off = what_is_offered i us w pad busy of is next in
+offered_here : (i : Image) (us : ℕ → List ℕ) (w : World) (pad : ℕ) (again : List ℕ) (busy : ℕ) (of : Program) (o : Opening) → IsFollowed i us w → next_stripe (placing_of i (log_of w) pad again) busy ≡ Some of
+    → stopped_in (row_of i (log_of w) again of.unit) ≡ None → life_of (log_of w 0) of.line ≡ Opened o → IsOffered i us w pad of o
+offered_here i us w pad again busy of o is next none opened =
+    let off = what_is_offered i us w pad again busy of is next none in
     let same : off.0 ≡ o = opened_same off.0 o (sym off.1.life ∙ ap (life_of (log_of w 0)) (sym off.1.its_line) ∙ opened) in
     subst (IsOffered i us w pad of) same off.1
 
-pub next_may_be_placed : (i : Image) (us : ℕ → List ℕ) (w : World) (pad busy : ℕ) (of : Program) (o : Opening) (stripe : Stripe) → IsFollowed i us w → next_stripe (placing_of i (log_of w) pad []) busy ≡ Some of → IsStripeFor i (log_of w) o of stripe
-    → MayPlace i (log_of w) stripe
-next_may_be_placed i us w pad busy of o stripe is next for = placeable i us w pad of o stripe is (offered_here i us w pad busy of o is next for.opened) for
+pub next_may_be_placed : (i : Image) (us : ℕ → List ℕ) (w : World) (pad : ℕ) (again : List ℕ) (busy : ℕ) (of : Program) (o : Opening) (stripe : Stripe) → IsFollowed i us w → next_stripe (placing_of i (log_of w) pad again) busy ≡ Some of
+    → stopped_in (row_of i (log_of w) again of.unit) ≡ None → IsStripeFor i (log_of w) o of stripe → MayPlace i (log_of w) stripe
+next_may_be_placed i us w pad again busy of o stripe is next none for = placeable i us w pad of o stripe is (offered_here i us w pad again busy of o is next none for.opened) for
 
-pub next_is_its : (i : Image) (us : ℕ → List ℕ) (w : World) (pad busy : ℕ) (of : Program) (o : Opening) (stripe : Stripe) → IsFollowed i us w → next_stripe (placing_of i (log_of w) pad []) busy ≡ Some of → IsStripeFor i (log_of w) o of stripe
-    → IsStripeOf i (log_of w) pad o stripe of
-next_is_its i us w pad busy of o stripe is next for = is_its i us w pad of o stripe is (offered_here i us w pad busy of o is next for.opened) for
+pub next_is_its : (i : Image) (us : ℕ → List ℕ) (w : World) (pad : ℕ) (again : List ℕ) (busy : ℕ) (of : Program) (o : Opening) (stripe : Stripe) → IsFollowed i us w → next_stripe (placing_of i (log_of w) pad again) busy ≡ Some of
+    → stopped_in (row_of i (log_of w) again of.unit) ≡ None → IsStripeFor i (log_of w) o of stripe → IsStripeOf i (log_of w) pad o stripe of
+next_is_its i us w pad again busy of o stripe is next none for = is_its i us w pad of o stripe is (offered_here i us w pad again busy of o is next none for.opened) for
 
 not_pad : (k c d : ℕ) (kind : StripeKind) → kind_in k c d ≡ kind → kind ≢ kinds.Pad
 unfolding IsPart
@@ -275,9 +276,10 @@ its_positions s log pad kinds.Data = ap (take s.ws_opt) (waiting_alike s log pad
 its_positions s log pad kinds.Pad = refl
 its_positions s log pad kinds.End = refl
 
-pub offered_is_for : (i : Image) (us : ℕ → List ℕ) (w : World) (pad busy : ℕ) (of : Program) → IsFollowed i us w → next_stripe (placing_of i (log_of w) pad []) busy ≡ Some of → (o : Opening) × IsProgramFor i (log_of w) o of
-offered_is_for i us w pad busy of is next =
-    let its = what_is_offered i us w pad busy of is next in
+pub offered_is_for : (i : Image) (us : ℕ → List ℕ) (w : World) (pad : ℕ) (again : List ℕ) (busy : ℕ) (of : Program) → IsFollowed i us w → next_stripe (placing_of i (log_of w) pad again) busy ≡ Some of
+    → stopped_in (row_of i (log_of w) again of.unit) ≡ None → (o : Opening) × IsProgramFor i (log_of w) o of
+offered_is_for i us w pad again busy of is next none =
+    let its = what_is_offered i us w pad again busy of is next none in
     let o : Opening = its.0 in
     let off : IsOffered i us w pad of o = its.1 in
     let log : List Logged = log_of w 0 in

@@ -10,7 +10,6 @@ use Rattle.pblk_world.specs.Legal.{IsLegal}
 use Rattle.pblk_world.specs.Starts.{older_rows}
 use Rattle.pblk_world.specs.Space.{open_addresses, room}
 use Rattle.pblk_world.specs.Victims.{engine_prefix}
-use Rattle.world_laws.specs.LegalMounts.{NoneFreed}
 use Rattle.world_laws.specs.SameTold.{AreSameTold}
 use Rattle.world_laws.proofs.Made.{known_within}
 use Rattle.world_laws.proofs.ToldImages.{image_same, told_then}
@@ -18,8 +17,11 @@ use Rattle.world_laws.proofs.ToldSince.{same_told}
 use Rattle.core_laws.specs.OpenedLines.{live_now, open_line, open_lines}
 use Rattle.core_laws.specs.PlacerOf.{placing_of}
 use Rattle.core_laws.specs.RowsOf.{rows_of}
+use Rattle.core_laws.specs.SimpleMounts.{IsSimpleMount}
 use Rattle.core_laws.specs.SlotOf.{slot_of}
 use Rattle.core_laws.specs.WindowOf.{window_from}
+use Rattle.core_laws.proofs.SimpleMounts.{engine_plain}
+use Rattle.line_laws.proofs.PlainLogs.{none_freed}
 use Rattle.placed_laws.specs.LeftOpenings.{left_openings}
 use Rattle.step_laws.specs.Whole.{unit_step}
 use Rattle.step_laws.proofs.OtherUnits.{with_units, AreAlike, room_beside, rows_beside, live_beside, line_beside, left_beside, lines_beside, older_rows_beside, slot_beside, placing_beside}
@@ -73,8 +75,8 @@ module _ (i : Image) (w : World) (unit : ℕ) (e : UnitEvent) (maker : Maker) wh
   pub room_stays : IsLegal i w → room i after_ ≡ room i (log_of w)
   room_stays legal = ap (room i) is_swapped ∙ room_beside i us (log_of w) (alike legal)
 
-  pub rows_stay : IsLegal i w → NoneFreed (log_of w 0) → rows_of i after_ ≡ rows_of i (log_of w)
-  rows_stay legal freed = ap (rows_of i) is_swapped ∙ rows_beside i us (log_of w) (alike legal) freed
+  pub rows_stay : IsSimpleMount i w → rows_of i after_ ≡ rows_of i (log_of w)
+  rows_stay simple = ap (rows_of i) is_swapped ∙ rows_beside i us (log_of w) (alike simple.mount.legal) (none_freed (log_of w 0) (engine_plain i w simple))
 
   pub live_stays : (line : ℕ) → IsLegal i w → live_now i after_ line ≡ live_now i (log_of w) line
   live_stays line legal = ap (λ (ls : Logs). live_now i ls line) is_swapped ∙ live_beside i us (log_of w) (alike legal) line

@@ -84,7 +84,7 @@ media_first s us k = still s 0 k (map (λ (u : ModelUnit). u.media) us) ∙ slic
 nothing_done : (s : Shape) (us : List ModelUnit) → IsAccepted s → AreFit s us → IsFaultlessMount (image_of s us) []
 unfolding IsLegal
 nothing_done s us accepted fit = record {
-  simple = record { mount = record { accepted = accepted; fit = fit_image s us fit; legal = tt }; engine = record { freed = tt; copied = tt; lost = tt; again = tt } };
+  simple = record { mount = record { accepted = accepted; fit = fit_image s us fit; legal = tt }; engine = record { freed = tt; copied = tt; lost = tt } };
   answered = λ unit. tt;
 }
 

@@ -1,4 +1,3 @@
-use Rattle.std.proofs.Common.{subst, sym, ◌∙◌}
 use Rattle.line_table.specs.Rows.{lowered, noted}
 use Rattle.line_table.proofs.Tables.{changed_twice}
 use Rattle.line_table.proofs.lines.Lines.lose.Goals as goal
