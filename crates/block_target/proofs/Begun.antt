@@ -28,10 +28,10 @@ use Rattle.pblk_world.specs.Space.{freed, room, ring_limit, space_limit, positio
 use Rattle.core_laws.specs.PlacerOf.{unanswered_on}
 use Rattle.core_laws.specs.FaultlessMounts.{IsFaultlessMount}
 use Rattle.core_laws.specs.WindowOf.{HeldSectors, held_of, without_frame}
-use Rattle.found_laws.specs.Beginnings.{beginning_of}
-use Rattle.found_laws.specs.Finding.{IsFoundOf, NoneOpen}
-use Rattle.found_laws.proofs.Beginning.{may_begin}
-use Rattle.found_laws.proofs.Fits.{found_fits}
+use Rattle.world_laws.specs.MountBeginnings.{beginning_of}
+use Rattle.world_laws.specs.Finding.{IsFoundOf, NoneOpen}
+use Rattle.world_laws.proofs.MayBegin.{may_begin}
+use Rattle.world_laws.proofs.FoundFits.{found_fits}
 use Rattle.step_laws.specs.Whole.{knows_all, after_begin}
 use Rattle.step_laws.proofs.Beginning.{mount_begins, begun_is, found_is, known_is, begins_level}
 use Rattle.step_laws.proofs.EngineSteps.{engine_logs, media_still}

@@ -8,7 +8,7 @@ use Rattle.pblk_model.specs.History.{users}
 use Rattle.pblk_world.specs.EngineLog.{Taken, takes}
 use Rattle.pblk_world.specs.Fronts.{first_position, is_users, user_takes, user_positions}
 use Rattle.pblk_world.proofs.SyncedFront.{synced_within}
-use Rattle.landing_laws.proofs.Cached.{numbered_at}
+use Rattle.core_laws.proofs.CachedEntries.{numbered_at}
 use Rattle.pblk_core.proofs.SmallCalls.{numbered_in}
 use Rattle.block_port.specs.declared.rows.WornAnswer.{WornAnswer}
 use Rattle.block_port.specs.Own.{PlacedSector, lines_of}

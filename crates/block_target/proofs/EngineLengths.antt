@@ -15,8 +15,8 @@ use Rattle.pblk_world.specs.AtRest.{knows_last, logs_at}
 use Rattle.pblk_world.specs.Space.{room}
 use Rattle.pblk_world.proofs.Growing.{grows}
 use Rattle.core_laws.specs.SimpleMounts.{IsSimpleMount}
-use Rattle.placed_laws.specs.StripePrograms.{HasHappened}
-use Rattle.placed_laws.proofs.Happened.{happened}
+use Rattle.core_laws.specs.StripePrograms.{HasHappened}
+use Rattle.core_laws.proofs.Happened.{happened}
 use Rattle.step_laws.specs.Whole.{engine_step, unit_step, next_maker, opening_maker}
 use Rattle.step_laws.proofs.Knowing.{known_whole}
 use Rattle.step_laws.proofs.UnitSteps.{engine_log}

@@ -24,15 +24,15 @@ use Rattle.core_laws.specs.OpenedLines.{open_line, open_lines, standing}
 use Rattle.core_laws.specs.PlacerOf.{placing_of, row_in, unanswered_on, waits_again}
 use Rattle.core_laws.specs.SimpleMounts.{IsSimpleMount}
 use Rattle.core_laws.specs.RowsOf.{rows_of}
-use Rattle.core_laws.proofs.Turns.{filtered_is}
-use Rattle.line_laws.proofs.NextLine.{none_free}
-use Rattle.placed_laws.specs.LeftOpenings.{left_openings}
-use Rattle.placed_laws.proofs.LeftLines.{lines_of_left, left_opened, left_apart}
-use Rattle.placed_laws.proofs.TwoLines.{chunks_left}
-use Rattle.placing_laws.proofs.Due.{none_due, idle_answered}
-use Rattle.placing_laws.proofs.Followed.{follow}
-use Rattle.placing_laws.proofs.Idle.{row_there}
-use Rattle.placing_laws.proofs.Opened.{opened_lines}
+use Rattle.core_laws.proofs.UnitTurns.{filtered_is}
+use Rattle.core_laws.proofs.NextLine.{none_free}
+use Rattle.core_laws.specs.LeftOpenings.{left_openings}
+use Rattle.core_laws.proofs.LeftLines.{lines_of_left, left_opened, left_apart}
+use Rattle.core_laws.proofs.TwoLines.{chunks_left}
+use Rattle.core_laws.proofs.NoneDue.{none_due, idle_answered}
+use Rattle.core_laws.proofs.Followed.{follow}
+use Rattle.core_laws.proofs.IdleRows.{row_there}
+use Rattle.core_laws.proofs.PlainOpenings.{opened_lines}
 use Rattle.pblk_core.specs.Named.{choice, reset_or, work_of, first_seq_of}
 use Rattle.pblk_core.specs.Resets.{resets_of}
 use Rattle.pblk_core.specs.Stands.{under_way}

@@ -11,10 +11,10 @@ use Rattle.pblk_world.specs.Placing.{MayPlace}
 use Rattle.pblk_world.specs.Space.{freed, room}
 use Rattle.core_laws.specs.FaultlessMounts.{IsFaultlessMount}
 use Rattle.core_laws.specs.PlacerOf.{unanswered_on}
-use Rattle.core_laws.proofs.Numbering.{first_stays}
+use Rattle.core_laws.proofs.TakenNumbers.{first_stays}
 use Rattle.world_laws.proofs.Fronts.{synced_later}
 use Rattle.world_laws.proofs.Begun.{first_is as first_of}
-use Rattle.landing_laws.proofs.FreedFront.{freed_rises}
+use Rattle.core_laws.proofs.FreedFront.{freed_rises}
 use Rattle.write_window.specs.Window as window
 use Rattle.unit_port.specs.Unit.{ModelUnit}
 use Rattle.pblk_core.specs.Filling.{Filling}

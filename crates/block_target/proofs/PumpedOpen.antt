@@ -15,10 +15,10 @@ use Rattle.pblk_world.specs.Space.{freed, gives_back, room}
 use Rattle.core_laws.specs.PlacerOf.{unanswered_on}
 use Rattle.core_laws.specs.Stepping.{after}
 use Rattle.core_laws.specs.WindowOf.{is_given_back}
-use Rattle.core_laws.proofs.Numbering.{first_stays}
+use Rattle.core_laws.proofs.TakenNumbers.{first_stays}
 use Rattle.core_laws.proofs.Steady.{AreAlike, unanswered_in}
 use Rattle.core_laws.proofs.TakenSlots.{gives_back_same, any_same}
-use Rattle.landing_laws.proofs.QuietEvents.{quiet_alike, open_is_quiet}
+use Rattle.core_laws.proofs.QuietEvents.{quiet_alike, open_is_quiet}
 use Rattle.step_laws.specs.Whole.{IsLevel, IsKnown, knows_all}
 use Rattle.step_laws.proofs.Known.{known_still}
 use Rattle.step_laws.proofs.Levels.{level_by}

@@ -18,7 +18,7 @@ use Rattle.core_laws.specs.PlacerOf.{unanswered_on}
 use Rattle.core_laws.specs.Stepping.{after}
 use Rattle.core_laws.proofs.Placing.{IsPlacing, new_placed, placed_on_now, answers_now}
 use Rattle.core_laws.proofs.PlacedLines.{get_last as got_end}
-use Rattle.landing_laws.proofs.PlainStripes.{one_unanswered}
+use Rattle.core_laws.proofs.PlainStripes.{one_unanswered}
 use Rattle.pblk_laws.specs.LineBlocks.{chunk_in}
 use Rattle.step_laws.specs.Whole.{IsLevel, IsKnown, knows_all, engine_step, unit_step, next_maker, program_of, after_program, after_landing}
 use Rattle.step_laws.proofs.EngineSteps.{engine_next, engine_logs}

@@ -25,8 +25,8 @@ use Rattle.pblk_world.specs.Answering.{MayNoteReset}
 use Rattle.core_laws.specs.FaultlessMounts.{IsFaultlessMount}
 use Rattle.core_laws.specs.PlacerOf.{unanswered_on}
 use Rattle.core_laws.specs.Stepping.{after}
-use Rattle.core_laws.proofs.Numbering.{first_stays}
-use Rattle.landing_laws.proofs.FreedFront.{freed_rises}
+use Rattle.core_laws.proofs.TakenNumbers.{first_stays}
+use Rattle.core_laws.proofs.FreedFront.{freed_rises}
 use Rattle.world_laws.proofs.Fronts.{synced_later}
 use Rattle.write_window.specs.Window as window
 use Rattle.unit_port.specs.Armed.{IsUnarmed}

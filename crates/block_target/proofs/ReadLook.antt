@@ -23,9 +23,9 @@ use Rattle.world_laws.specs.LegalMounts.{IsLegalMount}
 use Rattle.core_laws.specs.OpenedLines.{live_now}
 use Rattle.core_laws.specs.SlotOf.{slot_of}
 use Rattle.core_laws.proofs.Placing.{not_below}
-use Rattle.look_laws.specs.SlotBlocks.{IsBlockOfSlot}
-use Rattle.look_laws.proofs.LiveUnits.{live_small}
-use Rattle.look_laws.proofs.LatestSectors.{cached_latest, window_latest}
+use Rattle.step_laws.specs.SlotBlocks.{IsBlockOfSlot}
+use Rattle.step_laws.proofs.LiveUnits.{live_small}
+use Rattle.step_laws.proofs.LatestSectors.{cached_latest, window_latest}
 use Rattle.pblk_core.specs.Stands.{Stands}
 use Rattle.pblk_core.specs.declared.target_core.Core.{Core}
 use Rattle.block_target.specs.Mount.{MountView, IsFetchable, IsSound, engine_log, logs_in, world_in, latest}

@@ -3,7 +3,7 @@ use Rattle.std.proofs.Common.{◌≡◌, List, [], ◌∷◌, ◌++◌, ap, ap�
 use Rattle.pblk_model.specs.declared.found.Found.{Found}
 use Rattle.pblk_world.specs.Events.{Begin}
 use Rattle.unit_port.specs.Unit.{ModelUnit}
-use Rattle.found_laws.specs.Beginnings.{beginning_of}
+use Rattle.world_laws.specs.MountBeginnings.{beginning_of}
 use Rattle.step_laws.specs.Opened.{new_events}
 use Rattle.block_target.specs.Deeds.{Deed, Readies, Decides, drive_before}
 use Rattle.block_target.specs.Opened.{first_deeds}

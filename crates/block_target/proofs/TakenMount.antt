@@ -18,7 +18,7 @@ use Rattle.core_laws.specs.FaultlessMounts.{IsFaultlessMount}
 use Rattle.core_laws.specs.PlainWorlds.{is_plain_decision}
 use Rattle.core_laws.specs.PlacerOf.{unanswered_on}
 use Rattle.core_laws.specs.Stepping.{after}
-use Rattle.core_laws.proofs.Numbering.{first_stays}
+use Rattle.core_laws.proofs.TakenNumbers.{first_stays}
 use Rattle.core_laws.proofs.Steady.{AreAlike, unanswered_in}
 use Rattle.core_laws.proofs.Taking.{alike, with_take}
 use Rattle.step_laws.specs.Whole.{knows_all, engine_step, IsLevel, IsKnown}

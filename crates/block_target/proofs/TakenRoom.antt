@@ -17,17 +17,17 @@ use Rattle.pblk_world.specs.Space.{full_data, open_addresses, free_addresses, pl
 use Rattle.core_laws.specs.Positions.{IsUnplaced}
 use Rattle.core_laws.specs.Stepping.{after}
 use Rattle.core_laws.specs.WindowOf.{is_given_back}
-use Rattle.core_laws.proofs.Numbering.{first_stays}
+use Rattle.core_laws.proofs.TakenNumbers.{first_stays}
 use Rattle.core_laws.proofs.Taking.{with_take}
 use Rattle.core_laws.proofs.TakenWindow.{not_landed as no_landed}
-use Rattle.landing_laws.proofs.FreedFront.{freed_here}
-use Rattle.landing_laws.proofs.Growing.{given_landed}
+use Rattle.core_laws.proofs.FreedFront.{freed_here}
+use Rattle.core_laws.proofs.Growing.{given_landed}
 use Rattle.pblk_world.proofs.SyncedFront.{IsLeast, least}
-use Rattle.line_laws.proofs.Kept.{lives_kept}
-use Rattle.line_laws.proofs.KeptRows.{known_kept}
-use Rattle.line_laws.proofs.OpenAddresses.{addresses_kept}
-use Rattle.line_laws.proofs.PlacedFront.{front_taken}
-use Rattle.line_laws.proofs.Ranges.{sum_same}
+use Rattle.core_laws.proofs.KeptStripes.{lives_kept}
+use Rattle.core_laws.proofs.KeptRows.{known_kept}
+use Rattle.core_laws.proofs.OpenAddresses.{addresses_kept}
+use Rattle.core_laws.proofs.PlacedFront.{front_taken}
+use Rattle.core_laws.proofs.RangeSums.{sum_same}
 use Rattle.pblk_core.proofs.StandsTaken.{freed_taken, given_same}
 use Rattle.core_laws.proofs.SteppingLemmas.{found_kept}
 use Rattle.lemmas.proofs.Tests.{no_both}

@@ -5,7 +5,7 @@ use Rattle.pblk_model.specs.Marks.{sector_mark}
 use Rattle.pblk_world.specs.Events.{EngineEvent, Take, Logged, Decides as Did}
 use Rattle.pblk_world.specs.EngineLog.{Taken, takes}
 use Rattle.pblk_world.specs.Fronts.{taken}
-use Rattle.landing_laws.proofs.Slots.{first_kept}
+use Rattle.core_laws.proofs.KeptSlots.{first_kept}
 use Rattle.core_laws.proofs.Taking.{with_take}
 use Rattle.step_laws.specs.Whole.{knows_all}
 use Rattle.block_port.specs.Own.{sectors_of}

@@ -9,8 +9,8 @@ use Rattle.pblk_world.specs.Lines.{found_image}
 use Rattle.pblk_world.specs.World.{World, log_of}
 use Rattle.world_laws.specs.LegalMounts.{IsLegalMount}
 use Rattle.core_laws.specs.Stepping.{after}
-use Rattle.found_laws.specs.Beginnings.{beginning_of}
-use Rattle.found_laws.specs.Finding.{IsFoundOf}
+use Rattle.world_laws.specs.MountBeginnings.{beginning_of}
+use Rattle.world_laws.specs.Finding.{IsFoundOf}
 use Rattle.pblk_core.specs.Named.{pad_of}
 use Rattle.pblk_core.specs.Stands.{Stands}
 use Rattle.pblk_core.specs.declared.target_core.Core.{Core}

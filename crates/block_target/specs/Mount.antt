@@ -28,7 +28,7 @@ use Rattle.pblk_core.specs.Named.{pad_of, work_of}
 use Rattle.pblk_core.specs.Stands.{Stands}
 use Rattle.pblk_core.specs.declared.target_core.Core.{Core}
 use Rattle.pblk_core.specs.declared.work.Work.{Work}
-use Rattle.look_laws.specs.SlotBlocks.{IsBlockOfSlot}
+use Rattle.step_laws.specs.SlotBlocks.{IsBlockOfSlot}
 use Rattle.block_target.specs.Deeds.{Deed, Decides, drive_before, drive_found, world_of}
 use Rattle.block_target.specs.Granted.{WasRoom}
 use Rattle.block_target.specs.NothingLeft.{HasNothingLeftAt}

@@ -6,7 +6,7 @@ use Rattle.pblk_world.specs.Events.{Begin}
 use Rattle.pblk_world.specs.Space.{room}
 use Rattle.unit_port.specs.Unit.{ModelUnit}
 use Rattle.scan_recovery.specs.Units.{image_of}
-use Rattle.found_laws.specs.Beginnings.{beginning_of}
+use Rattle.world_laws.specs.MountBeginnings.{beginning_of}
 use Rattle.scan_recovery.specs.Readying.{IsFoundAfter}
 use Rattle.step_laws.specs.Opened.{new_events}
 use Rattle.block_target.specs.Deeds.{Deed, Readies, Decides}

@@ -3,7 +3,7 @@ ghost use Rattle.std.specs.Prelude.{Some, map};
 ghost use Rattle.pblk_model.specs.ChunkStep.{Gave};
 ghost use Rattle.pblk_world.specs.Events.{Begin, Take, Open, Place};
 ghost use Rattle.step_laws.specs.Whole.{program_of, reset_of, fetch_of};
-ghost use Rattle.found_laws.specs.Beginnings.{beginning_of};
+ghost use Rattle.world_laws.specs.MountBeginnings.{beginning_of};
 ghost use Rattle.step_laws.specs.Opened.{new_events};
 ghost use Rattle.pblk_core.specs.Named.{next_start};
 ghost use Rattle.pblk_core.specs.Taken.{entry_of, mark_of};

@@ -21,9 +21,9 @@ use Rattle.core_laws.specs.Stepping.{after}
 use Rattle.core_laws.specs.OpenedLines.{as_opened, by_answer, became, placed_as, is_stripe_at, outcome, with_outcomes, open_line, standing, open_lines}
 use Rattle.core_laws.specs.PlacerOf.{unanswered_on}
 use Rattle.core_laws.proofs.Steady.{as_opened_same}
-use Rattle.core_laws.proofs.Numbers.{opens_at}
-use Rattle.core_laws.proofs.Stripes.{one_stripe}
-use Rattle.core_laws.proofs.Turns.{filtered_is, stands_at_turn, its_unit, its_turn}
+use Rattle.core_laws.proofs.OpeningNumbers.{opens_at}
+use Rattle.core_laws.proofs.StripesByPlace.{one_stripe}
+use Rattle.core_laws.proofs.UnitTurns.{filtered_is, stands_at_turn, its_unit, its_turn}
 use Rattle.core_laws.proofs.PlacedLines.{IsStanding, all_standing}
 use Rattle.lemmas.proofs.Lists.{IsAmong, length_replicate}
 use Rattle.lemmas.proofs.Maps.{found_passes, from_filter, from_map, map_same, row_at, rows_set}

@@ -12,7 +12,7 @@ use Rattle.pblk_world.specs.Fronts.{first_position, taken}
 use Rattle.pblk_world.specs.Legal.{IsDecision}
 use Rattle.pblk_world.proofs.Appending.{placements_more}
 use Rattle.core_laws.specs.Positions.{AreNumbered, AreMarked, AreTaken}
-use Rattle.core_laws.proofs.Numbering.{first_stays}
+use Rattle.core_laws.proofs.TakenNumbers.{first_stays}
 use Rattle.core_laws.proofs.PlacedPositions.{placed_taken}
 use Rattle.lemmas.proofs.Lists.{all_append, all_imply}
 use Rattle.pblk_world.proofs.EngineLogLemmas.{takes_more}

@@ -25,14 +25,14 @@ use Rattle.stripe_placer.proofs.Steps.{unanswered_left}
 use Rattle.core_laws.specs.Stepping.{after}
 use Rattle.core_laws.specs.OpenedLines.{as_opened, is_stripe_at, outcome, with_outcomes, open_line, standing, open_lines}
 use Rattle.pblk_world.specs.Fronts.{first_position}
-use Rattle.core_laws.proofs.PlacedEntries.{entries_placed}
+use Rattle.core_laws.proofs.StillWaiting.{entries_placed}
 use Rattle.core_laws.specs.PlacerOf.{IsStripeOf, positions_of, entries_of, positions_in_stripe, number_of, program_at, program_of_stripe, row_in, row_of, unanswered_on, was_stopped_on, contains_unit, waits_again, placing_of}
 use Rattle.core_laws.proofs.Engine.{prefix_whole, stopped_more}
 use Rattle.core_laws.proofs.Steady.{as_opened_same, standing_before, standing_same, row_same}
 use Rattle.core_laws.proofs.Taking.{same_placing}
 use Rattle.core_laws.proofs.Opening.{life_before}
-use Rattle.core_laws.proofs.Numbers.{opens_at, life_at, standing_at, of_its_line}
-use Rattle.core_laws.proofs.Stripes.{at_its_place, not_at, find_only}
+use Rattle.core_laws.proofs.OpeningNumbers.{opens_at, life_at, standing_at, of_its_line}
+use Rattle.core_laws.proofs.StripesByPlace.{at_its_place, not_at, find_only}
 use Rattle.core_laws.proofs.Placing.{IsPlacing, new_placed, with_place, placed_on_now, answers_now, outcome_there, outcome_elsewhere, outcome_beside}
 use Rattle.lemmas.proofs.Lists.{all_imply, length_replicate}
 use Rattle.lemmas.proofs.Maps.{all_passed, map_agree, map_same, row_at, rows_set}

@@ -12,7 +12,7 @@ use Rattle.stripe_placer.specs.OpenLines.Stripe.{Unplaced, Unanswered}
 use Rattle.core_laws.specs.OpenedLines.{by_answer, became, placed_as, is_stripe_at, outcome}
 use Rattle.core_laws.proofs.Engine.{placements_before}
 use Rattle.core_laws.proofs.Taking.{filter_last}
-use Rattle.core_laws.proofs.Stripes.{find_all, find_last, find_fails_last}
+use Rattle.core_laws.proofs.StripesByPlace.{find_all, find_last, find_fails_last}
 use Rattle.lemmas.proofs.Lists.{all_imply}
 use Rattle.lemmas.proofs.Maps.{all_filter}
 use Rattle.lemmas.proofs.Tests.{lt_true}

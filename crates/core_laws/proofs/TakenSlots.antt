@@ -21,7 +21,7 @@ use Rattle.core_laws.specs.PlacerOf.{number_of}
 use Rattle.core_laws.specs.SlotOf.{address_in, readable_block, media_of, slot_of_entry, slot_of_winner, slot_by, slot_of}
 use Rattle.core_laws.proofs.Steady.{AreAlike, answer_same, lost_same, as_opened_same}
 use Rattle.core_laws.proofs.Opening.{placed_before}
-use Rattle.core_laws.proofs.Stripes.{find_all}
+use Rattle.core_laws.proofs.StripesByPlace.{find_all}
 use Rattle.core_laws.proofs.Taking.{with_take, alike, filter_last}
 use Rattle.lemmas.proofs.Maps.{filter_same, find_none}
 use Rattle.lemmas.proofs.Tests.{and_false, same_number}

@@ -1,3 +1,4 @@
+-- The definitions, lowest first.
 pub mod OpenedLines
 pub mod PlacerOf
 pub mod SlotOf
@@ -8,3 +9,23 @@ pub mod Positions
 pub mod SimpleMounts
 pub mod FaultlessMounts
 pub mod PlainWorlds
+pub mod LeastFree
+pub mod OpenAddresses
+pub mod ChangedTables
+pub mod PlainLogs
+pub mod PlacedEntries
+pub mod InOrder
+pub mod KnownLogs
+pub mod LandedStripes
+pub mod StripeFor
+pub mod Placed
+pub mod LeftOpenings
+pub mod EntryHolds
+pub mod StripePrograms
+pub mod StripeTurns
+pub mod ChunkBlocks
+pub mod AdvancedEntries
+pub mod ReadSlots
+pub mod JustBegun
+pub mod OnlineUnits
+pub mod OpeningTables

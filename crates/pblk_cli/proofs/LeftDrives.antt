@@ -23,7 +23,7 @@ use Rattle.pblk_world.specs.Fronts.{history, user_positions}
 use Rattle.world_laws.specs.LegalMounts.{IsLegalMount}
 use Rattle.core_laws.specs.FaultlessMounts.{IsFaultlessMount}
 use Rattle.unit_port.specs.Unit.{IsFitUnit, ModelUnit}
-use Rattle.chunk_laws.proofs.SealedMedia.{media_sealed}
+use Rattle.world_laws.proofs.SealedMedia.{media_sealed}
 use Rattle.prefix_law.proofs.Prefix.{prefix_contents}
 use Rattle.ocssd_drive.specs.Drive.{DriveView, IsWhole, shape_of, stored, with_units}
 use Rattle.ocssd_drive.specs.Units.{IsUnitOf, WornUnit}

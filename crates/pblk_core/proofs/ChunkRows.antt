@@ -11,18 +11,18 @@ use Rattle.pblk_world.specs.World.{World, log_of}
 use Rattle.pblk_world.specs.EngineLog.{Opening, Opened, life_of, is_life, Placed, placements, stripes_of}
 use Rattle.pblk_world.specs.Lines.{known_image}
 use Rattle.core_laws.specs.SimpleMounts.{IsSimpleMount}
-use Rattle.core_laws.proofs.Turns.{filtered_is}
-use Rattle.line_laws.specs.InOrder.{IsInPlace}
-use Rattle.line_laws.proofs.Orders.{in_order}
-use Rattle.landing_laws.specs.ChunkBlocks.{AreInRows}
-use Rattle.landing_laws.proofs.ChunkRows.{unit_rows}
-use Rattle.landing_laws.proofs.WholeStripes.{whole_chunk as chunk_whole}
-use Rattle.placed_laws.proofs.StripeBlocks.{have_blocks}
-use Rattle.placing_laws.proofs.Followed.{IsFollowed, follow}
-use Rattle.placing_laws.proofs.Forms.{IsLineOf, line_of}
-use Rattle.placing_laws.proofs.InOrder.{IsAtPlace, stripe_count}
-use Rattle.placing_laws.proofs.Lengths.{ends_before}
-use Rattle.placing_laws.proofs.Opened.{opened_lines}
+use Rattle.core_laws.proofs.UnitTurns.{filtered_is}
+use Rattle.core_laws.specs.InOrder.{IsInPlace}
+use Rattle.core_laws.proofs.LogOrders.{in_order}
+use Rattle.core_laws.specs.ChunkBlocks.{AreInRows}
+use Rattle.core_laws.proofs.ChunkRows.{unit_rows}
+use Rattle.core_laws.proofs.WholeStripes.{whole_chunk as chunk_whole}
+use Rattle.core_laws.proofs.StripeBlocks.{have_blocks}
+use Rattle.core_laws.proofs.Followed.{IsFollowed, follow}
+use Rattle.core_laws.proofs.LineForms.{IsLineOf, line_of}
+use Rattle.core_laws.proofs.StripesInOrder.{IsAtPlace, stripe_count}
+use Rattle.core_laws.proofs.PartLengths.{ends_before}
+use Rattle.core_laws.proofs.PlainOpenings.{opened_lines}
 use Rattle.pblk_core.proofs.LineUnits.{now_units}
 use Rattle.lemmas.proofs.Lists.{IsAmong}
 use Rattle.lemmas.proofs.Maps.{all_filter, from_filter}

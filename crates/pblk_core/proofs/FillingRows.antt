@@ -6,9 +6,9 @@ use Rattle.std.proofs.lemmas.Option.{same_Some}
 use Rattle.line_table.specs.declared.row.Row.{Row}
 use Rattle.line_table.specs.Rows.{Table, IsRow, Changes, noted}
 use Rattle.line_table.proofs.Places.{get_set_same}
-use Rattle.line_laws.specs.Changes.{with_row, note_by}
-use Rattle.line_laws.specs.PlacedEntries.{gained, place_by}
-use Rattle.line_laws.proofs.Tables.{changed_is}
+use Rattle.core_laws.specs.ChangedTables.{with_row, note_by}
+use Rattle.core_laws.specs.PlacedEntries.{gained, place_by}
+use Rattle.core_laws.proofs.ChangedTables.{changed_is}
 use Rattle.pblk_core.specs.declared.hold.Hold.{Hold}
 use Rattle.pblk_core.specs.Entries.{note_hold, place_hold}
 use Rattle.lemmas.proofs.Parts.{got_within}

@@ -7,7 +7,7 @@ use Rattle.pblk_model.specs.declared.found.Found.{Found}
 use Rattle.pblk_model.specs.declared.found.LineRow.{LineRow}
 use Rattle.pblk_model.specs.Found.{IsFitFound, RowFits, HeadFits}
 use Rattle.line_table.specs.Rows.{Table}
-use Rattle.begin_laws.specs.OpeningTables.{IsOpeningTable}
+use Rattle.core_laws.specs.OpeningTables.{IsOpeningTable}
 use Rattle.lemmas.proofs.Parts.{is_in}
 
 pub stray_inside : (s : Shape) (f : Found) (k line : ℕ) → IsFitFound s f → slice_get f.strays k ≡ Some line → line < s.chunks

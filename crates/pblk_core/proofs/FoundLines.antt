@@ -21,11 +21,11 @@ use Rattle.core_laws.proofs.SimpleMounts.{engine_plain}
 use Rattle.core_laws.specs.PlainWorlds.{is_plain_event, ArePlain}
 use Rattle.core_laws.specs.SimpleMounts.{IsSimpleMount}
 use Rattle.core_laws.specs.Stepping.{after}
-use Rattle.core_laws.proofs.Numbers.{opens, opens_at, life_at}
-use Rattle.core_laws.proofs.Numbering.{first_stays}
-use Rattle.line_laws.proofs.PlainLogs.{none_freed}
-use Rattle.placed_laws.specs.StripePrograms.{HasHappened}
-use Rattle.placed_laws.proofs.Happened.{happened}
+use Rattle.core_laws.proofs.OpeningNumbers.{opens, opens_at, life_at}
+use Rattle.core_laws.proofs.TakenNumbers.{first_stays}
+use Rattle.core_laws.proofs.PlainLogs.{none_freed}
+use Rattle.core_laws.specs.StripePrograms.{HasHappened}
+use Rattle.core_laws.proofs.Happened.{happened}
 use Rattle.lemmas.proofs.Options.{none_there}
 use Rattle.lemmas.proofs.Tests.{not_true}
 use Rattle.core_laws.proofs.SteppingLemmas.{found_kept}

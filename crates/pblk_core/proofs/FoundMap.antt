@@ -12,7 +12,7 @@ use Rattle.std.proofs.lemmas.Option.{none-some, same_Some, slice_get-get_or}
 use Rattle.pblk_model.specs.declared.found.Winner.{Winner}
 use Rattle.l2p_map.specs.declared.slot.Slot.{Slot}
 use Rattle.l2p_map.specs.declared.slot.Slot.TheVariants.{Unwritten}
-use Rattle.begin_laws.specs.OpeningTables.{place_of_winner, slot_found}
+use Rattle.core_laws.specs.OpeningTables.{place_of_winner, slot_found}
 use Rattle.lemmas.proofs.Tests.{other_key, same_key}
 
 -- Each sector is where the winner among the first ones is.

@@ -8,7 +8,7 @@ use Rattle.std.proofs.lemmas.Option.{none-some, same_Some}
 use Rattle.pblk_model.specs.declared.found.LineRow.{LineRow}
 use Rattle.pblk_meta.specs.declared.rows.Row.{Row}
 use Rattle.pblk_meta.specs.Records.{row_numbers}
-use Rattle.begin_laws.specs.OpeningTables.{row_found}
+use Rattle.core_laws.specs.OpeningTables.{row_found}
 use Rattle.pblk_core.specs.OlderLines.{older_found}
 
 cons_append : {X : Type 0} (o : Option X) (xs ys : List X) → cons_option o (xs ++ ys) ≡ cons_option o xs ++ ys

@@ -11,9 +11,9 @@ use Rattle.pblk_world.proofs.SyncedFront.{synced_within}
 use Rattle.core_laws.specs.SimpleMounts.{IsSimpleMount}
 use Rattle.core_laws.specs.WindowOf.{HeldSector, HeldSectors, without_frame, progress_by, is_given_back, held_of}
 use Rattle.core_laws.proofs.Placing.{not_below}
-use Rattle.landing_laws.proofs.Cached.{numbered_at}
-use Rattle.landing_laws.proofs.FreedFront.{freed_here}
-use Rattle.landing_laws.proofs.Growing.{given_landed, freed_within}
+use Rattle.core_laws.proofs.CachedEntries.{numbered_at}
+use Rattle.core_laws.proofs.FreedFront.{freed_here}
+use Rattle.core_laws.proofs.Growing.{given_landed, freed_within}
 use Rattle.write_window.specs.declared.held.Held.{Held}
 use Rattle.write_window.specs.Entries.{is_readable, users_in}
 use Rattle.write_window.specs.Window.{WindowView}

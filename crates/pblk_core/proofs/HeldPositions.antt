@@ -11,9 +11,9 @@ use Rattle.stripe_placer.specs.Placing.{Placing, held}
 use Rattle.write_window.specs.Window as view
 use Rattle.core_laws.specs.SimpleMounts.{IsSimpleMount}
 use Rattle.core_laws.specs.PlacerOf.{placing_of, entries_of}
-use Rattle.placed_laws.specs.Placed.{IsInWindow}
-use Rattle.placed_laws.proofs.Ordered.{ordered}
-use Rattle.placed_laws.proofs.HeldPositions.{in_window, held_few, fresh_below}
+use Rattle.core_laws.specs.Placed.{IsInWindow}
+use Rattle.core_laws.proofs.PlacedInOrder.{ordered}
+use Rattle.core_laws.proofs.HeldPositions.{in_window, held_few, fresh_below}
 use Rattle.pblk_core.specs.declared.target_core.Core.{Core}
 use Rattle.pblk_core.specs.Stands.{Stands}
 use Rattle.pblk_core.proofs.StandsFacts.{window_taken_is}

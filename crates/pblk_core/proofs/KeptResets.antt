@@ -19,7 +19,7 @@ use Rattle.pblk_world.proofs.Appending.{life_more}
 use Rattle.core_laws.specs.PlacerOf.{unanswered_on}
 use Rattle.core_laws.specs.SimpleMounts.{IsSimpleMount}
 use Rattle.core_laws.specs.Stepping.{after}
-use Rattle.line_laws.proofs.KeptRows.{begun_kept, known_kept}
+use Rattle.core_laws.proofs.KeptRows.{begun_kept, known_kept}
 use Rattle.pblk_core.specs.Resets.{is_used_state, is_used_in, used_units, in_line, units_to_reset, resets_of}
 use Rattle.pblk_core.specs.Stands.{IsOlder, HasFitNumbers}
 use Rattle.pblk_core.specs.declared.target_core.Core.{Core}

@@ -13,7 +13,7 @@ use Rattle.pblk_world.specs.Lines.{known_image, told_by}
 use Rattle.pblk_world.specs.Victims.{engine_prefix}
 use Rattle.core_laws.specs.Stepping.{after}
 use Rattle.core_laws.proofs.Engine.{prefix_whole}
-use Rattle.placed_laws.proofs.KnownChunks.{chunk_in, chunk_untold, chunk_told, chunk_beside}
+use Rattle.core_laws.proofs.KnownChunks.{chunk_in, chunk_untold, chunk_told, chunk_beside}
 use Rattle.lemmas.proofs.Numbers.{fun_same}
 
 last_event : (logs : Logs) (e : EngineEvent) (knows : List ℕ) → slice_get (after logs e knows 0) (length (logs 0)) ≡ Some (record { event = Decides e; knows = knows })

@@ -23,20 +23,20 @@ use Rattle.pblk_world.specs.EngineLog.{Opening, Taken, takes, Placed, is_life, p
 use Rattle.pblk_world.specs.Placing.{data_marks, end_address}
 use Rattle.stripe_placer.specs.OpenLines.{width}
 use Rattle.core_laws.specs.OpenedLines.{as_opened, is_stripe_at}
-use Rattle.core_laws.proofs.Turns.{filtered_is}
-use Rattle.found_laws.proofs.Lists.{joined_at}
-use Rattle.landing_laws.specs.ChunkBlocks.{chunk_blocks}
-use Rattle.landing_laws.specs.ReadSlots.{address_of_block}
-use Rattle.landing_laws.proofs.SlotsInWorlds.{address_at}
+use Rattle.core_laws.proofs.UnitTurns.{filtered_is}
+use Rattle.world_laws.proofs.NumberedLists.{joined_at}
+use Rattle.core_laws.specs.ChunkBlocks.{chunk_blocks}
+use Rattle.core_laws.specs.ReadSlots.{address_of_block}
+use Rattle.core_laws.proofs.SlotsInWorlds.{address_at}
 use Rattle.pblk_world.specs.Lines.{known_image}
-use Rattle.placed_laws.proofs.StripeBlocks.{have_blocks, length_joined}
+use Rattle.core_laws.proofs.StripeBlocks.{have_blocks, length_joined}
 use Rattle.pblk_core.proofs.LandedEntries.{read_of}
-use Rattle.placing_laws.proofs.Lengths.{is_before, ends_before}
+use Rattle.core_laws.proofs.PartLengths.{is_before, ends_before}
 use Rattle.pblk_core.proofs.ChunkRows.{row_below, rows_of_chunks}
 use Rattle.stripe_placer.specs.Placing.{Program}
 use Rattle.stripe_placer.proofs.Chunks.{lt_of as lt_yes}
 use Rattle.pblk_laws.proofs.LineUnits.{line_units_rise}
-use Rattle.placing_laws.proofs.InOrder.{IsAtPlace}
+use Rattle.core_laws.proofs.StripesInOrder.{IsAtPlace}
 use Rattle.core_laws.specs.SimpleMounts.{IsSimpleMount}
 use Rattle.pblk_core.specs.Stands.{IsOpenLine}
 use Rattle.pblk_core.specs.Readable.{ReadBlock, block_reads, data_mark, position_of}

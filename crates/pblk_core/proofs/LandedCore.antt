@@ -24,13 +24,13 @@ use Rattle.write_window.specs.Window as view
 use Rattle.core_laws.specs.PlacerOf.{IsAwaited, placing_of, positions_in_stripe}
 use Rattle.core_laws.specs.SimpleMounts.{IsSimpleMount}
 use Rattle.core_laws.specs.RowsOf.{row_of_line, rows_of, width_in}
-use Rattle.landing_laws.specs.ChunkBlocks.{IsInRow}
-use Rattle.landing_laws.proofs.HeldInWorlds.{own_in_window}
-use Rattle.line_laws.specs.Changes.{with_row, full_if}
-use Rattle.line_laws.proofs.Tables.{changed_is}
-use Rattle.line_laws.proofs.LineRoom.{has_room, state_open}
-use Rattle.line_laws.proofs.Orders.{in_order}
-use Rattle.placed_laws.proofs.Placed.{stripe_holds}
+use Rattle.core_laws.specs.ChunkBlocks.{IsInRow}
+use Rattle.core_laws.proofs.HeldInWorlds.{own_in_window}
+use Rattle.core_laws.specs.ChangedTables.{with_row, full_if}
+use Rattle.core_laws.proofs.ChangedTables.{changed_is}
+use Rattle.core_laws.proofs.LineRoom.{has_room, state_open}
+use Rattle.core_laws.proofs.LogOrders.{in_order}
+use Rattle.core_laws.proofs.Placed.{stripe_holds}
 use Rattle.pblk_core.specs.Slots.{IsSlot}
 use Rattle.pblk_core.specs.Stands.{Stands, unlanded}
 use Rattle.pblk_core.specs.declared.open_lines.OpenLine.{OpenLine}

@@ -14,9 +14,9 @@ use Rattle.write_window.specs.declared.held.Progress.{Progress}
 use Rattle.write_window.specs.declared.held.Progress.TheVariants as progress
 use Rattle.core_laws.specs.PlacerOf.{positions_of}
 use Rattle.core_laws.specs.WindowOf.{HeldSector, HeldSectors, held_of, sectors_in, without_frame}
-use Rattle.landing_laws.specs.Advanced.{advanced_window}
-use Rattle.landing_laws.proofs.WindowSteps.{step_landed, step_again, step_readable, lands_more, reads_more, no_more}
-use Rattle.line_laws.proofs.PlacedPlaces.{turned_round as turned_around}
+use Rattle.core_laws.specs.AdvancedEntries.{advanced_window}
+use Rattle.core_laws.proofs.WindowSteps.{step_landed, step_again, step_readable, lands_more, reads_more, no_more}
+use Rattle.core_laws.proofs.PlacedPlaces.{turned_round as turned_around}
 use Rattle.pblk_core.specs.Landing.{all_landed, one_landed}
 use Rattle.pblk_core.specs.Readable.{ReadBlock, all_readable}
 use Rattle.pblk_core.proofs.ReadRuns.{held_stays, landed_stays}

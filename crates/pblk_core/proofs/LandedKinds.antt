@@ -23,17 +23,17 @@ use Rattle.pblk_world.proofs.Appending.{life_more, placements_more}
 use Rattle.pblk_world.proofs.Growing.{at_end}
 use Rattle.stripe_placer.specs.Placing.{Program}
 use Rattle.core_laws.specs.SimpleMounts.{IsSimpleMount}
-use Rattle.core_laws.proofs.Numbers.{opens_at, life_at}
+use Rattle.core_laws.proofs.OpeningNumbers.{opens_at, life_at}
 use Rattle.core_laws.proofs.Opening.{placed_before}
 use Rattle.core_laws.proofs.Placing.{new_placed, with_place}
-use Rattle.line_laws.specs.PlacedEntries.{AreOfSectors}
-use Rattle.line_laws.proofs.Orders.{in_order}
-use Rattle.placing_laws.proofs.Followed.{IsNextEvent, by_events, follow, plain_of}
-use Rattle.placing_laws.proofs.InOrder.{its_stripes, stripes_now as stripe_behind}
-use Rattle.placing_laws.proofs.Lengths.{IsStriped}
-use Rattle.placing_laws.proofs.Opened.{IsOpenedLine, opened_lines}
+use Rattle.core_laws.specs.PlacedEntries.{AreOfSectors}
+use Rattle.core_laws.proofs.LogOrders.{in_order}
+use Rattle.core_laws.proofs.Followed.{IsNextEvent, by_events, follow, plain_of}
+use Rattle.core_laws.proofs.StripesInOrder.{its_stripes, stripes_now as stripe_behind}
+use Rattle.core_laws.proofs.PartLengths.{IsStriped}
+use Rattle.core_laws.proofs.PlainOpenings.{IsOpenedLine, opened_lines}
 use Rattle.pblk_laws.proofs.MarkNames.{pad_none, meta_none}
-use Rattle.chunk_laws.proofs.LineStarts.{cut_marks}
+use Rattle.world_laws.proofs.LineStarts.{cut_marks}
 use Rattle.pblk_core.proofs.DataBlocks.{IsOfTaken, data_taken}
 use Rattle.pblk_core.specs.Stands.{IsOpenLine}
 use Rattle.pblk_core.specs.declared.open_lines.OpenLine.{OpenLine}

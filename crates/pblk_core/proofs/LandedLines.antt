@@ -16,13 +16,13 @@ use Rattle.stripe_placer.specs.OpenLines.Stripe.{Landed as HasLanded}
 use Rattle.stripe_placer.specs.Placing.{Program}
 use Rattle.core_laws.specs.OpenedLines.{open_line}
 use Rattle.core_laws.specs.SimpleMounts.{IsSimpleMount}
-use Rattle.line_laws.specs.LandedStripes.{landed_count}
-use Rattle.placed_laws.specs.LeftOpenings.{left_openings}
-use Rattle.placed_laws.proofs.LeftLines.{left_apart}
-use Rattle.placing_laws.proofs.Forms.{formed, answered_as}
-use Rattle.placing_laws.proofs.InOrder.{stripe_count}
-use Rattle.placing_laws.proofs.NextStripes.{landed_is as landed_by}
-use Rattle.landing_laws.proofs.Latest.{set_length}
+use Rattle.core_laws.specs.LandedStripes.{landed_count}
+use Rattle.core_laws.specs.LeftOpenings.{left_openings}
+use Rattle.core_laws.proofs.LeftLines.{left_apart}
+use Rattle.core_laws.proofs.LineForms.{formed, answered_as}
+use Rattle.core_laws.proofs.StripesInOrder.{stripe_count}
+use Rattle.core_laws.proofs.NextStripes.{landed_is as landed_by}
+use Rattle.core_laws.proofs.HistorySectors.{set_length}
 use Rattle.pblk_core.specs.Slots.{IsSlot}
 use Rattle.pblk_core.specs.Stands.{Stands, IsOpenLine}
 use Rattle.pblk_core.specs.declared.target_core.Core.{Core}

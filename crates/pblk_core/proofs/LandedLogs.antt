@@ -27,12 +27,12 @@ use Rattle.core_laws.specs.PlacerOf.{unanswered_on}
 use Rattle.core_laws.specs.SimpleMounts.{IsSimpleMount}
 use Rattle.core_laws.proofs.Answered.{IsAnswer}
 use Rattle.core_laws.proofs.Engine.{prefix_same}
-use Rattle.landing_laws.proofs.FreedFront.{freed_rises}
-use Rattle.landing_laws.proofs.LandedStripe.{is_answer}
-use Rattle.core_laws.proofs.Turns.{filtered_is}
-use Rattle.placed_laws.proofs.OneStripe.{one_stripe}
-use Rattle.placed_laws.proofs.KnownChunks.{chunk_in, is_on, live_chunk}
-use Rattle.placing_laws.proofs.KeptLines.{all_online, few_units, same_units}
+use Rattle.core_laws.proofs.FreedFront.{freed_rises}
+use Rattle.core_laws.proofs.LandedStripe.{is_answer}
+use Rattle.core_laws.proofs.UnitTurns.{filtered_is}
+use Rattle.core_laws.proofs.OneStripe.{one_stripe}
+use Rattle.core_laws.proofs.KnownChunks.{chunk_in, is_on, live_chunk}
+use Rattle.core_laws.proofs.KeptLines.{all_online, few_units, same_units}
 use Rattle.pblk_core.proofs.ChunkRows.{rows_of_chunks}
 use Rattle.pblk_core.proofs.KnownAfter.{told_after, untold_after, beside_after}
 use Rattle.pblk_core.proofs.LandedProgram.{IsItsProgram, landed_program}

@@ -19,15 +19,15 @@ use Rattle.core_laws.specs.OpenedLines.{open_line, standing, bits_of}
 use Rattle.core_laws.specs.PlacerOf.{IsAwaited}
 use Rattle.core_laws.specs.SimpleMounts.{IsSimpleMount}
 use Rattle.core_laws.specs.Stepping.{after}
-use Rattle.core_laws.proofs.Turns.{filtered_is}
-use Rattle.line_laws.specs.LandedStripes.{landed_count}
-use Rattle.line_laws.proofs.LandedCounts.{one_landed, count_beside, count_all as all_pass}
-use Rattle.placed_laws.specs.LeftOpenings.{left_openings}
-use Rattle.placed_laws.proofs.LeftLines.{left_apart, left_before, left_opened}
-use Rattle.placed_laws.proofs.LandedLines.{left_until_landed, left_after_landing}
-use Rattle.placed_laws.proofs.StandingOpenings.{life_there, opening_at}
-use Rattle.placing_laws.proofs.InOrder.{stripe_count}
-use Rattle.landing_laws.proofs.Latest.{set_length}
+use Rattle.core_laws.proofs.UnitTurns.{filtered_is}
+use Rattle.core_laws.specs.LandedStripes.{landed_count}
+use Rattle.core_laws.proofs.LandedCounts.{one_landed, count_beside, count_all as all_pass}
+use Rattle.core_laws.specs.LeftOpenings.{left_openings}
+use Rattle.core_laws.proofs.LeftLines.{left_apart, left_before, left_opened}
+use Rattle.core_laws.proofs.LandedLines.{left_until_landed, left_after_landing}
+use Rattle.core_laws.proofs.StandingOpenings.{life_there, opening_at}
+use Rattle.core_laws.proofs.StripesInOrder.{stripe_count}
+use Rattle.core_laws.proofs.HistorySectors.{set_length}
 use Rattle.core_laws.proofs.Placing.{all_pass as keeps_all}
 use Rattle.pblk_core.specs.LineRecords.{AreOf}
 use Rattle.pblk_core.specs.Slots.{IsSlot, landed_slot}

@@ -14,11 +14,11 @@ use Rattle.pblk_world.specs.Commanding.{ended_stripes}
 use Rattle.pblk_world.specs.Answering.{MayLand}
 use Rattle.core_laws.specs.PlacerOf.{unanswered_on}
 use Rattle.core_laws.specs.SimpleMounts.{IsSimpleMount}
-use Rattle.line_laws.specs.InOrder.{IsInPlace}
-use Rattle.line_laws.proofs.Orders.{in_order}
-use Rattle.placed_laws.specs.StripePrograms.{HasHappened, IsProgramDone}
-use Rattle.placed_laws.proofs.Happened.{landed_at}
-use Rattle.placing_laws.proofs.Begun.{begun_once}
+use Rattle.core_laws.specs.InOrder.{IsInPlace}
+use Rattle.core_laws.proofs.LogOrders.{in_order}
+use Rattle.core_laws.specs.StripePrograms.{HasHappened, IsProgramDone}
+use Rattle.core_laws.proofs.Happened.{landed_at}
+use Rattle.core_laws.proofs.BegunOnce.{begun_once}
 use Rattle.lemmas.proofs.Lists.{IsAmong}
 use Rattle.lemmas.proofs.Maps.{from_filter}
 use Rattle.lemmas.proofs.Parts.{all_at}

@@ -15,15 +15,15 @@ use Rattle.pblk_world.specs.Space.{landed_blocks}
 use Rattle.stripe_placer.specs.Placing.{Program}
 use Rattle.core_laws.specs.Stepping.{after}
 use Rattle.core_laws.specs.SimpleMounts.{IsSimpleMount}
-use Rattle.landing_laws.specs.ChunkBlocks.{chunk_blocks, newly_readable, readable_blocks}
-use Rattle.landing_laws.specs.ReadSlots.{address_of_block}
-use Rattle.landing_laws.proofs.LandedBlocks.{on_new, blocks_more}
-use Rattle.landing_laws.proofs.LandedWindow.{landed_now}
-use Rattle.landing_laws.proofs.GivenBack.{IsLandedNow, of_unit_landed}
-use Rattle.landing_laws.proofs.GivenNow.{chunk_unit, IsOfChunk, chunk_members}
-use Rattle.landing_laws.proofs.NewBlocks.{last_in_chunk}
-use Rattle.landing_laws.proofs.NewWindow.{newest_in}
-use Rattle.placed_laws.proofs.StripeBlocks.{length_joined}
+use Rattle.core_laws.specs.ChunkBlocks.{chunk_blocks, newly_readable, readable_blocks}
+use Rattle.core_laws.specs.ReadSlots.{address_of_block}
+use Rattle.core_laws.proofs.LandedBlocks.{on_new, blocks_more}
+use Rattle.core_laws.proofs.LandedWindow.{landed_now}
+use Rattle.core_laws.proofs.GivenBack.{IsLandedNow, of_unit_landed}
+use Rattle.core_laws.proofs.GivenNow.{chunk_unit, IsOfChunk, chunk_members}
+use Rattle.core_laws.proofs.NewBlocks.{last_in_chunk}
+use Rattle.core_laws.proofs.NewWindow.{newest_in}
+use Rattle.core_laws.proofs.StripeBlocks.{length_joined}
 use Rattle.pblk_core.specs.Readable.{block_reads, reads_of}
 use Rattle.pblk_core.specs.declared.open_lines.OpenLine.{OpenLine}
 use Rattle.pblk_core.proofs.LandedCore.{in_row, block_is}

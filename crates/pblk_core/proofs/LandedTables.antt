@@ -27,16 +27,16 @@ use Rattle.core_laws.specs.SimpleMounts.{IsSimpleMount}
 use Rattle.core_laws.specs.SlotOf.{slot_of}
 use Rattle.core_laws.specs.WindowOf.{HeldSector, HeldSectors, is_given_back, held_of, progress_by, sectors_in, window_from, without_frame}
 use Rattle.core_laws.proofs.Placing.{not_below}
-use Rattle.landing_laws.specs.Advanced.{advanced, advanced_sector, advanced_window}
-use Rattle.landing_laws.specs.ChunkBlocks.{block_among, chunk_blocks, newly_readable, readable_blocks}
-use Rattle.landing_laws.specs.ReadSlots.{address_of_block, read_slot}
-use Rattle.landing_laws.proofs.Cached.{cached_entry, cached_within, cached_stands}
-use Rattle.landing_laws.proofs.Entries.{in_order}
-use Rattle.landing_laws.proofs.HeldInWorlds.{newly_in_window, newly_has_landed}
-use Rattle.landing_laws.proofs.LandedStripe.{landed_at_now}
-use Rattle.landing_laws.proofs.NewWindow.{window_by_new, slot_by_new}
-use Rattle.landing_laws.proofs.WindowSteps.{reads_more}
-use Rattle.placed_laws.proofs.Placed.{range_dropped, stripe_holds}
+use Rattle.core_laws.specs.AdvancedEntries.{advanced, advanced_sector, advanced_window}
+use Rattle.core_laws.specs.ChunkBlocks.{block_among, chunk_blocks, newly_readable, readable_blocks}
+use Rattle.core_laws.specs.ReadSlots.{address_of_block, read_slot}
+use Rattle.core_laws.proofs.CachedEntries.{cached_entry, cached_within, cached_stands}
+use Rattle.core_laws.proofs.UsersEntries.{in_order}
+use Rattle.core_laws.proofs.HeldInWorlds.{newly_in_window, newly_has_landed}
+use Rattle.core_laws.proofs.LandedStripe.{landed_at_now}
+use Rattle.core_laws.proofs.NewWindow.{window_by_new, slot_by_new}
+use Rattle.core_laws.proofs.WindowSteps.{reads_more}
+use Rattle.core_laws.proofs.Placed.{range_dropped, stripe_holds}
 use Rattle.pblk_core.specs.Landing.{all_landed}
 use Rattle.pblk_core.specs.Readable.{ReadBlock, all_moved, all_readable, reads_of}
 use Rattle.pblk_core.specs.Stands.{Stands}

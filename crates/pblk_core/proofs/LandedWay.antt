@@ -24,19 +24,19 @@ use Rattle.stripe_placer.specs.Placing.UnitRow.{Idle, UnderWay}
 use Rattle.core_laws.specs.OpenedLines.{as_opened, by_answer, is_stripe_at, outcome, open_line, open_lines, standing}
 use Rattle.core_laws.specs.PlacerOf.{IsAwaited, number_of, placing_of, program_of_placed, row_in, row_of, unanswered_on, waits_again}
 use Rattle.core_laws.specs.SimpleMounts.{IsSimpleMount}
-use Rattle.core_laws.proofs.Rows.{under_way_is}
-use Rattle.core_laws.proofs.Stripes.{at_its_place, find_only, not_at}
+use Rattle.core_laws.proofs.UnitRows.{under_way_is}
+use Rattle.core_laws.proofs.StripesByPlace.{at_its_place, find_only, not_at}
 use Rattle.core_laws.proofs.Answered.{first_unanswered}
-use Rattle.landing_laws.proofs.LandedStripe.{one_more}
-use Rattle.line_laws.specs.InOrder.{IsInPlace}
-use Rattle.line_laws.proofs.Orders.{in_order}
-use Rattle.placed_laws.specs.LeftOpenings.{left_openings}
-use Rattle.placed_laws.proofs.LeftLines.{lines_of_left, left_apart}
-use Rattle.placed_laws.proofs.OneStripe.{one_stripe}
-use Rattle.placing_laws.proofs.Forms.{IsLineOf, line_of, formed, answered_as}
-use Rattle.placing_laws.proofs.InOrder.{stripe_count, IsAtPlace}
-use Rattle.placing_laws.proofs.Opened.{life_stands, opened_lines}
-use Rattle.placing_laws.proofs.Followed.{IsFollowed, follow}
+use Rattle.core_laws.proofs.LandedStripe.{one_more}
+use Rattle.core_laws.specs.InOrder.{IsInPlace}
+use Rattle.core_laws.proofs.LogOrders.{in_order}
+use Rattle.core_laws.specs.LeftOpenings.{left_openings}
+use Rattle.core_laws.proofs.LeftLines.{lines_of_left, left_apart}
+use Rattle.core_laws.proofs.OneStripe.{one_stripe}
+use Rattle.core_laws.proofs.LineForms.{IsLineOf, line_of, formed, answered_as}
+use Rattle.core_laws.proofs.StripesInOrder.{stripe_count, IsAtPlace}
+use Rattle.core_laws.proofs.PlainOpenings.{life_stands, opened_lines}
+use Rattle.core_laws.proofs.Followed.{IsFollowed, follow}
 use Rattle.pblk_core.proofs.LineUnits.{now_units, opened_earlier, same_live}
 use Rattle.lemmas.proofs.Lists.{IsAmong}
 use Rattle.lemmas.proofs.Maps.{any_member, from_map, in_filter, in_map, row_at}

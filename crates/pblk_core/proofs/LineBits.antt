@@ -9,7 +9,7 @@ use Rattle.pblk_world.specs.World.{World, Logs}
 use Rattle.pblk_world.specs.Lines.{known_image}
 use Rattle.core_laws.specs.OpenedLines.{bits_of}
 use Rattle.world_laws.specs.LegalMounts.{IsLegalMount}
-use Rattle.placing_laws.proofs.KeptLines.{few_units}
+use Rattle.core_laws.proofs.KeptLines.{few_units}
 use Rattle.core_laws.proofs.UnitBits.{bits_back, bits_few, units_below}
 use Rattle.lemmas.proofs.Maps.{filter_short}
 use Rattle.pblk_world.proofs.LinesLemmas.{length_known}

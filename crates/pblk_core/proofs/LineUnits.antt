@@ -13,9 +13,9 @@ use Rattle.core_laws.specs.OpenedLines.{as_opened, bits_of}
 use Rattle.core_laws.specs.SimpleMounts.{IsSimpleMount}
 use Rattle.core_laws.proofs.Opening.{all_made}
 use Rattle.core_laws.proofs.PlacedLines.{life_is_before as opened_before}
-use Rattle.line_laws.specs.InOrder.{IsInPlace}
-use Rattle.line_laws.proofs.Orders.{in_order}
-use Rattle.placed_laws.proofs.TwoLines.{prefix_prefix as prefix_twice}
+use Rattle.core_laws.specs.InOrder.{IsInPlace}
+use Rattle.core_laws.proofs.LogOrders.{in_order}
+use Rattle.core_laws.proofs.TwoLines.{prefix_prefix as prefix_twice}
 use Rattle.lemmas.proofs.Lists.{all_imply}
 use Rattle.lemmas.proofs.Parts.{all_at}
 

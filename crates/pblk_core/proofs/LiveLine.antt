@@ -24,18 +24,18 @@ use Rattle.core_laws.proofs.Placing.{not_below}
 use Rattle.write_window.specs.Entries.{has_landed as progress_landed}
 use Rattle.write_window.specs.Window as view
 use Rattle.write_window.specs.declared.held.Held.{Held}
-use Rattle.line_laws.proofs.Winners.{winner_starts}
+use Rattle.core_laws.proofs.WinnerStarts.{winner_starts}
 use Rattle.pblk_core.proofs.FoundLines.{started_as_found}
 use Rattle.pblk_core.proofs.LineUnits.{IsLiving, living}
-use Rattle.line_laws.proofs.PlainLogs.{none_lost}
-use Rattle.landing_laws.proofs.Growing.{given_holds, given_landed}
-use Rattle.landing_laws.proofs.Entries.{in_order}
-use Rattle.landing_laws.proofs.Least.{least_below}
-use Rattle.landing_laws.proofs.NewlyHeld.{member_of}
-use Rattle.landing_laws.proofs.Cached.{last_is_among, numbered_at}
-use Rattle.landing_laws.proofs.HeldOnce.{held_once, one_holder}
-use Rattle.placed_laws.specs.EntryHolds.{placed_line}
-use Rattle.placed_laws.proofs.EntryHolds.{line_unlost}
+use Rattle.core_laws.proofs.PlainLogs.{none_lost}
+use Rattle.core_laws.proofs.Growing.{given_holds, given_landed}
+use Rattle.core_laws.proofs.UsersEntries.{in_order}
+use Rattle.core_laws.proofs.LeastPositions.{least_below}
+use Rattle.core_laws.proofs.NewlyHeld.{member_of}
+use Rattle.core_laws.proofs.CachedEntries.{last_is_among, numbered_at}
+use Rattle.core_laws.proofs.HeldOnce.{held_once, one_holder}
+use Rattle.core_laws.specs.EntryHolds.{placed_line}
+use Rattle.core_laws.proofs.EntryHolds.{line_unlost}
 use Rattle.pblk_core.specs.declared.hold.Hold.{Hold}
 use Rattle.pblk_core.specs.declared.hold.Holds.{Holds}
 use Rattle.pblk_core.specs.Holds.{line_of_slot, has_landed_in}

@@ -17,9 +17,9 @@ use Rattle.pblk_world.specs.Lines.{found_by, found_image, known_image, is_stray,
 use Rattle.pblk_world.specs.Victims.{is_freed}
 use Rattle.core_laws.proofs.SimpleMounts.{engine_plain}
 use Rattle.core_laws.specs.SimpleMounts.{IsSimpleMount}
-use Rattle.line_laws.proofs.PlainLogs.{none_freed}
-use Rattle.opening_laws.proofs.FoundImages.{found_strays}
-use Rattle.begin_laws.proofs.Lists.{any_passed}
+use Rattle.core_laws.proofs.PlainLogs.{none_freed}
+use Rattle.world_laws.proofs.FoundImages.{found_strays}
+use Rattle.core_laws.proofs.MadeLists.{any_passed}
 use Rattle.stripe_placer.specs.Placing.{next_stripe}
 use Rattle.lemmas.proofs.Options.{none_there}
 use Rattle.lemmas.proofs.Tests.{not_true}

@@ -18,19 +18,19 @@ use Rattle.stripe_placer.specs.Placing.{Program}
 use Rattle.core_laws.specs.PlacerOf.{positions_of, positions_in_stripe}
 use Rattle.core_laws.specs.SimpleMounts.{IsSimpleMount}
 use Rattle.core_laws.specs.WindowOf.{is_given_back}
-use Rattle.core_laws.proofs.PlacedEntries.{holds_is as bears_is}
-use Rattle.landing_laws.proofs.Growing.{given_landed}
-use Rattle.landing_laws.proofs.HeldOnce.{held_once, one_holder}
-use Rattle.landing_laws.proofs.LandedStripe.{one_more}
-use Rattle.landing_laws.proofs.NewlyHeld.{member_of}
-use Rattle.line_laws.specs.Changes.{with_row, note_by}
-use Rattle.line_laws.proofs.LandedEntries.{AreItsEntries}
-use Rattle.line_laws.proofs.NextTakes.{IsRising, rising_by}
-use Rattle.line_laws.proofs.Orders.{in_order}
-use Rattle.line_laws.proofs.PlacedEntryRows.{IsEntry, entry_at}
-use Rattle.line_laws.proofs.PlacedPlaces.{BearsThese, turned_round}
-use Rattle.placed_laws.proofs.Ordered.{IsOrdered, ordered}
-use Rattle.placed_laws.proofs.Placed.{range_dropped, range_taken}
+use Rattle.core_laws.proofs.StillWaiting.{holds_is as bears_is}
+use Rattle.core_laws.proofs.Growing.{given_landed}
+use Rattle.core_laws.proofs.HeldOnce.{held_once, one_holder}
+use Rattle.core_laws.proofs.LandedStripe.{one_more}
+use Rattle.core_laws.proofs.NewlyHeld.{member_of}
+use Rattle.core_laws.specs.ChangedTables.{with_row, note_by}
+use Rattle.core_laws.proofs.LandedEntries.{AreItsEntries}
+use Rattle.core_laws.proofs.NextTakes.{IsRising, rising_by}
+use Rattle.core_laws.proofs.LogOrders.{in_order}
+use Rattle.core_laws.proofs.PlacedEntryRows.{IsEntry, entry_at}
+use Rattle.core_laws.proofs.PlacedPlaces.{BearsThese, turned_round}
+use Rattle.core_laws.proofs.PlacedInOrder.{IsOrdered, ordered}
+use Rattle.core_laws.proofs.Placed.{range_dropped, range_taken}
 use Rattle.core_laws.proofs.Answered.{first_unanswered}
 use Rattle.pblk_core.specs.Entries.{note_hold, noted_lines}
 use Rattle.pblk_core.specs.Holds.{hold_of, row_at}

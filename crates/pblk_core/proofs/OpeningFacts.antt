@@ -23,12 +23,12 @@ use Rattle.stripe_placer.specs.OpenLines.Stripe.{Unplaced}
 use Rattle.core_laws.specs.OpenedLines.{live_now, open_line, open_lines}
 use Rattle.core_laws.specs.SimpleMounts.{IsSimpleMount}
 use Rattle.core_laws.proofs.PlacedLines.{get_row as row_there}
-use Rattle.placed_laws.proofs.LeftLines.{lines_of_left, left_opened}
-use Rattle.line_laws.specs.LeastFree.{IsLeastFree}
-use Rattle.line_laws.proofs.NextLine.{least_free}
-use Rattle.placing_laws.proofs.FullLines.{one_is_open}
-use Rattle.placing_laws.proofs.Lengths.{IsStriped, striped}
-use Rattle.placing_laws.proofs.Opened.{third}
+use Rattle.core_laws.proofs.LeftLines.{lines_of_left, left_opened}
+use Rattle.core_laws.specs.LeastFree.{IsLeastFree}
+use Rattle.core_laws.proofs.NextLine.{least_free}
+use Rattle.core_laws.proofs.OpenWhileLeft.{one_is_open}
+use Rattle.core_laws.proofs.PartLengths.{IsStriped, striped}
+use Rattle.core_laws.proofs.PlainOpenings.{third}
 use Rattle.pblk_core.specs.declared.target_core.Core.{Core}
 use Rattle.pblk_core.specs.declared.work.Work.{Work}
 use Rattle.pblk_core.specs.declared.work.Work.TheVariants.{Open}

@@ -19,9 +19,9 @@ use Rattle.write_window.specs.Window as view
 use Rattle.core_laws.proofs.SimpleMounts.{engine_plain}
 use Rattle.core_laws.specs.SimpleMounts.{IsSimpleMount}
 use Rattle.line_table.proofs.Places.{eqb-same}
-use Rattle.landing_laws.proofs.Growing.{freed_within}
-use Rattle.placed_laws.proofs.Happened.{happened}
-use Rattle.found_laws.proofs.Counting.{kept_few as few_made}
+use Rattle.core_laws.proofs.Growing.{freed_within}
+use Rattle.core_laws.proofs.Happened.{happened}
+use Rattle.world_laws.proofs.FoundCounts.{kept_few as few_made}
 use Rattle.world_laws.proofs.StartFits.{next_positive as some_next}
 use Rattle.pblk_core.specs.declared.target_core.Core.{Core}
 use Rattle.pblk_core.specs.Named.{next_line, next_start}

@@ -12,23 +12,23 @@ use Rattle.pblk_world.specs.World.{World, log_of}
 use Rattle.pblk_world.specs.EngineLog.{Opening, Taken, takes, bears_position}
 use Rattle.line_table.specs.Rows.{Table}
 use Rattle.line_table.proofs.Places.{get_set_same, get_set_other}
-use Rattle.line_laws.specs.Changes.{note_by}
-use Rattle.line_laws.specs.PlacedEntries.{next_take, place_by, place_entry, place_entries, note_entry, note_entries}
+use Rattle.core_laws.specs.ChangedTables.{note_by}
+use Rattle.core_laws.specs.PlacedEntries.{next_take, place_by, place_entry, place_entries, note_entry, note_entries}
 use Rattle.core_laws.specs.PlacerOf.{positions_of, positions_in_stripe}
 use Rattle.pblk_world.specs.Fronts.{waiting}
 use Rattle.std.proofs.lemmas.Option.{slice_get-get_or}
 use Rattle.core_laws.specs.SimpleMounts.{IsSimpleMount}
 use Rattle.core_laws.specs.WindowOf.{is_given_back}
 use Rattle.core_laws.proofs.Placing.{with_place, IsPlacing}
-use Rattle.placed_laws.proofs.Ordered.{ordered}
-use Rattle.placed_laws.proofs.EntryHolds.{later_same, line_of_others, line_of_stripe}
+use Rattle.core_laws.proofs.PlacedInOrder.{ordered}
+use Rattle.core_laws.proofs.EntryHolds.{later_same, line_of_others, line_of_stripe}
 use Rattle.pblk_core.specs.Stands.{Stands}
 use Rattle.pblk_core.specs.declared.target_core.Core.{Core}
 use Rattle.pblk_core.proofs.StandsFacts.{ring_some}
 use Rattle.pblk_core.proofs.WaitingEntries.{IsWaiting, waiting_at, row_of_entry}
 use Rattle.core_laws.proofs.TakenSlots.{find_same}
-use Rattle.core_laws.proofs.PlacedEntries.{holds_is as bears_is}
-use Rattle.placed_laws.specs.EntryHolds.{later_take, placed_line}
+use Rattle.core_laws.proofs.StillWaiting.{holds_is as bears_is}
+use Rattle.core_laws.specs.EntryHolds.{later_take, placed_line}
 use Rattle.pblk_core.specs.Entries.{with_line, row_placed, placed_rows, place_hold, placed_lines, note_hold, noted_lines}
 use Rattle.pblk_core.specs.Holds.{hold_of, row_at}
 use Rattle.pblk_core.specs.declared.hold.Hold.{Hold}

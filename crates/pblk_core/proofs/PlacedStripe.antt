@@ -19,22 +19,22 @@ use Rattle.pblk_world.specs.Starts.{has_landed_start}
 use Rattle.stripe_placer.specs.Entries.{Entries}
 use Rattle.stripe_placer.specs.OpenLines.{OpenLine, numbers, is_to_place, is_unanswered, has_left}
 use Rattle.stripe_placer.proofs.Named.{IsProgramIn, its_program}
-use Rattle.placed_laws.proofs.LeftLines.{left_apart}
+use Rattle.core_laws.proofs.LeftLines.{left_apart}
 use Rattle.stripe_placer.specs.Placing.{Program, next_in, next_stripe, stopped_in}
 use Rattle.core_laws.specs.OpenedLines.{open_line, standing}
 use Rattle.core_laws.specs.PlacerOf.{entries_of, placing_of, row_of, IsStripeOf}
 use Rattle.core_laws.specs.SimpleMounts.{IsSimpleMount}
 use Rattle.core_laws.proofs.SimpleMounts.{engine_plain}
-use Rattle.placing_laws.specs.StripeFor.{IsStripeFor, IsProgramFor, positions_for}
-use Rattle.placing_laws.proofs.Opened.{life_stands}
-use Rattle.placing_laws.proofs.Followed.{IsFollowed, follow}
-use Rattle.placing_laws.proofs.Lengths.{ends_before, begins_after}
-use Rattle.placing_laws.proofs.InOrder.{stripe_count}
-use Rattle.placing_laws.proofs.Forms.{formed}
-use Rattle.placing_laws.proofs.NextStripes.{unfailed}
-use Rattle.placing_laws.proofs.Offered.{IsOffered, what_is_offered}
-use Rattle.placing_laws.proofs.Placeable.{HasParts, parts_of, kind_in, kind_by, IsPart, part_of, next_may_be_placed, next_is_its, offered_is_for}
-use Rattle.landing_laws.proofs.Finding.{some_any as found_some}
+use Rattle.core_laws.specs.StripeFor.{IsStripeFor, IsProgramFor, positions_for}
+use Rattle.core_laws.proofs.PlainOpenings.{life_stands}
+use Rattle.core_laws.proofs.Followed.{IsFollowed, follow}
+use Rattle.core_laws.proofs.PartLengths.{ends_before, begins_after}
+use Rattle.core_laws.proofs.StripesInOrder.{stripe_count}
+use Rattle.core_laws.proofs.LineForms.{formed}
+use Rattle.core_laws.proofs.NextStripes.{unfailed}
+use Rattle.core_laws.proofs.OfferedStripes.{IsOffered, what_is_offered}
+use Rattle.core_laws.proofs.Placeable.{HasParts, parts_of, kind_in, kind_by, IsPart, part_of, next_may_be_placed, next_is_its, offered_is_for}
+use Rattle.core_laws.proofs.FindingInLists.{some_any as found_some}
 use Rattle.pblk_core.specs.Stands.{Stands, left_openings, IsOpenLine}
 use Rattle.pblk_core.specs.Slots.{IsSlot}
 use Rattle.pblk_core.specs.declared.target_core.Core.{Core}

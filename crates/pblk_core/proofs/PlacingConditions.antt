@@ -29,15 +29,15 @@ use Rattle.stripe_placer.proofs.PlacingLemmas.{placed_has}
 use Rattle.stripe_placer.proofs.Rows.{get_map as get_mapped}
 use Rattle.line_table.specs.declared.row.Row.{Row}
 use Rattle.line_table.specs.Rows.{Table, IsRow}
-use Rattle.line_laws.proofs.LiveCounts.{live_few}
+use Rattle.core_laws.proofs.LiveCounts.{live_few}
 use Rattle.write_window.specs.Window as view
 use Rattle.core_laws.specs.PlacerOf.{positions_of, row_of}
 use Rattle.core_laws.specs.SimpleMounts.{IsSimpleMount}
 use Rattle.core_laws.specs.Stepping.{after}
 use Rattle.pblk_model.specs.EndRecord.{end_bytes}
 use Rattle.core_laws.specs.RowsOf.{row_of_line}
-use Rattle.placed_laws.proofs.StripeBlocks.{HaveBlocks, have_blocks, marks_counted, marks_whole}
-use Rattle.placing_laws.specs.StripeFor.{IsStripeFor, blocks_for, positions_for}
+use Rattle.core_laws.proofs.StripeBlocks.{HaveBlocks, have_blocks, marks_counted, marks_whole}
+use Rattle.core_laws.specs.StripeFor.{IsStripeFor, blocks_for, positions_for}
 use Rattle.pblk_core.proofs.SimpleLogs.{its_rows}
 use Rattle.pblk_core.specs.Entries.{entry_blocks, placed_lines, placed_rows}
 use Rattle.pblk_core.specs.Filling.{Filling, followed_by, empty_stripe}

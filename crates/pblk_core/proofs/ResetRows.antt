@@ -17,13 +17,13 @@ use Rattle.core_laws.proofs.SimpleMounts.{engine_plain}
 use Rattle.core_laws.specs.SimpleMounts.{IsSimpleMount}
 use Rattle.core_laws.specs.RowsOf.{state_in, state_found, width_in, taker_in, row_of_line, rows_of}
 use Rattle.core_laws.specs.Stepping.{after}
-use Rattle.line_laws.specs.Changes.{with_row}
-use Rattle.line_laws.proofs.Kept.{KeepsStripes, stripes_kept, alike_kept, have_landed_alike, lives_kept}
-use Rattle.line_laws.proofs.KeptRows.{KeepsLines, live_kept, taker_kept, same_row, row_kept}
-use Rattle.line_laws.proofs.LandedRows.{keeps_chunks, lines_kept}
-use Rattle.line_laws.proofs.OpenAddresses.{failed_kept}
-use Rattle.line_laws.proofs.PlainLogs.{none_freed}
-use Rattle.line_laws.proofs.Tables.{row_changes_any, rows_stay}
+use Rattle.core_laws.specs.ChangedTables.{with_row}
+use Rattle.core_laws.proofs.KeptStripes.{KeepsStripes, stripes_kept, alike_kept, have_landed_alike, lives_kept}
+use Rattle.core_laws.proofs.KeptRows.{KeepsLines, live_kept, taker_kept, same_row, row_kept}
+use Rattle.core_laws.proofs.LandedRows.{keeps_chunks, lines_kept}
+use Rattle.core_laws.proofs.OpenAddresses.{failed_kept}
+use Rattle.core_laws.proofs.PlainLogs.{none_freed}
+use Rattle.core_laws.proofs.ChangedTables.{row_changes_any, rows_stay}
 use Rattle.pblk_core.specs.Resets.{used_units, emptied}
 use Rattle.pblk_core.proofs.LineBits.{known_count}
 use Rattle.pblk_core.proofs.NamedReset.{IsNamedReset, given_as_found, given_unstarted}

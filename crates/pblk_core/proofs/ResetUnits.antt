@@ -20,7 +20,7 @@ use Rattle.core_laws.specs.SimpleMounts.{IsSimpleMount}
 use Rattle.core_laws.specs.Stepping.{after}
 use Rattle.core_laws.proofs.UnitBits.{bit_is, units_below}
 use Rattle.core_laws.proofs.PlacedLines.{get_row as row_there}
-use Rattle.placing_laws.proofs.KeptLines.{few_units}
+use Rattle.core_laws.proofs.KeptLines.{few_units}
 use Rattle.pblk_core.specs.Resets.{is_used_state, is_used_in, used_units, units_to_reset, resets_of, kept_units}
 use Rattle.pblk_core.proofs.FirstReset.{others_are, bits_less}
 use Rattle.pblk_core.proofs.KeptResets.{given_up_kept, empty_none}

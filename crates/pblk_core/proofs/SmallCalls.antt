@@ -22,10 +22,10 @@ use Rattle.core_laws.specs.Positions.{AreNumbered}
 use Rattle.core_laws.specs.WindowOf.{HeldSector, HeldSectors, without_frame, sectors_in, class_of, progress_by, is_given_back, held_of, users_below, window_from}
 use Rattle.core_laws.proofs.Placing.{not_below}
 use Rattle.core_laws.proofs.PoppedWindow.{window_popped}
-use Rattle.landing_laws.proofs.Entries.{in_order}
-use Rattle.landing_laws.proofs.Cached.{numbered_at}
-use Rattle.landing_laws.proofs.FreedFront.{freed_past}
-use Rattle.landing_laws.proofs.SyncedWindow.{numbered_above}
+use Rattle.core_laws.proofs.UsersEntries.{in_order}
+use Rattle.core_laws.proofs.CachedEntries.{numbered_at}
+use Rattle.core_laws.proofs.FreedFront.{freed_past}
+use Rattle.core_laws.proofs.SyncedWindow.{numbered_above}
 use Rattle.pblk_core.specs.declared.target_core.Core.{Core}
 use Rattle.pblk_core.specs.Stands.{Stands}
 use Rattle.lemmas.proofs.Lists.{all_imply}

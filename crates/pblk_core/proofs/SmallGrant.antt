@@ -12,8 +12,8 @@ use Rattle.pblk_world.specs.Space.{freed, placed_front, room}
 use Rattle.pblk_world.specs.Space as space
 use Rattle.line_table.specs.Rows.{free_addresses}
 use Rattle.core_laws.specs.SimpleMounts.{IsSimpleMount}
-use Rattle.line_laws.proofs.FreeRows.{addresses_free}
-use Rattle.placed_laws.proofs.Ordered.{ordered, front_within}
+use Rattle.core_laws.proofs.FreeRows.{addresses_free}
+use Rattle.core_laws.proofs.PlacedInOrder.{ordered, front_within}
 use Rattle.pblk_core.specs.declared.target_core.Core.{Core}
 use Rattle.pblk_core.specs.Stands.{Stands}
 use Rattle.pblk_core.proofs.StandsFacts.{freed_taken_within}

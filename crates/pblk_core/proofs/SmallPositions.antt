@@ -17,10 +17,10 @@ use Rattle.pblk_world.specs.Space as space
 use Rattle.pblk_world.specs.Placing.{next_address}
 use Rattle.pblk_world.specs.Legal.{IsDecision}
 use Rattle.core_laws.specs.SimpleMounts.{IsSimpleMount}
-use Rattle.core_laws.proofs.Numbering.{first_stays}
-use Rattle.landing_laws.proofs.Keeping.{IsKept, kept}
-use Rattle.placing_laws.proofs.Followed.{follow}
-use Rattle.placing_laws.proofs.Opened.{opened_lines}
+use Rattle.core_laws.proofs.TakenNumbers.{first_stays}
+use Rattle.core_laws.proofs.KeptByEvents.{IsKept, kept}
+use Rattle.core_laws.proofs.Followed.{follow}
+use Rattle.core_laws.proofs.PlainOpenings.{opened_lines}
 use Rattle.pblk_core.proofs.LineBits.{known_units, known_width}
 use Rattle.lemmas.proofs.Lists.{all_true}
 use Rattle.pblk_model.proofs.AcceptedLemmas.{line_is_short}

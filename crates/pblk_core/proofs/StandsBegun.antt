@@ -27,18 +27,18 @@ use Rattle.core_laws.specs.OpenedLines.{open_line}
 use Rattle.core_laws.specs.PlacerOf.{placing_of, unanswered_on}
 use Rattle.core_laws.specs.SimpleMounts.{IsSimpleMount}
 use Rattle.core_laws.specs.WindowOf.{sectors_in, window_from, HeldSectors, HeldSector, without_frame}
-use Rattle.found_laws.specs.Finding.{IsFoundOf, taken_state}
-use Rattle.found_laws.specs.Beginnings.{seq_after, beginning_of}
-use Rattle.found_laws.proofs.States.{state_is}
-use Rattle.begin_laws.specs.JustBegun.{HasJustBegun}
-use Rattle.begin_laws.specs.OpeningTables.{row_found}
-use Rattle.begin_laws.proofs.Begun.{just_begun, begun_is, knows_found}
-use Rattle.begin_laws.proofs.Lines.{table_is}
-use Rattle.begin_laws.proofs.Lists.{any_passed}
-use Rattle.begin_laws.proofs.NothingYet.{first_is, freed_is, given_up_are, no_addresses, no_openings, no_takes, no_user_takes, none_stands, none_unanswered, placed_is, placing_is, window_is}
-use Rattle.begin_laws.proofs.Older.{rows_are}
-use Rattle.begin_laws.proofs.Sectors.{slot_is}
-use Rattle.begin_laws.proofs.Units.{lines_online}
+use Rattle.world_laws.specs.Finding.{IsFoundOf, taken_state}
+use Rattle.world_laws.specs.MountBeginnings.{seq_after, beginning_of}
+use Rattle.world_laws.proofs.FoundStates.{state_is}
+use Rattle.core_laws.specs.JustBegun.{HasJustBegun}
+use Rattle.core_laws.specs.OpeningTables.{row_found}
+use Rattle.core_laws.proofs.BegunImages.{just_begun, begun_is, knows_found}
+use Rattle.core_laws.proofs.FoundLines.{table_is}
+use Rattle.core_laws.proofs.MadeLists.{any_passed}
+use Rattle.core_laws.proofs.NothingYet.{first_is, freed_is, given_up_are, no_addresses, no_openings, no_takes, no_user_takes, none_stands, none_unanswered, placed_is, placing_is, window_is}
+use Rattle.core_laws.proofs.FoundOlder.{rows_are}
+use Rattle.core_laws.proofs.FoundSectors.{slot_is}
+use Rattle.core_laws.proofs.FoundUnits.{lines_online}
 use Rattle.pblk_core.specs.Made.{IsMadeOn}
 use Rattle.pblk_core.specs.OlderLines.{older_found}
 use Rattle.pblk_core.specs.Resets.{is_used_state, is_used_in, is_used_at, used_units, used_below, in_line, resets_found, resets_of}

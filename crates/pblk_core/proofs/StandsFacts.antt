@@ -17,8 +17,8 @@ use Rattle.core_laws.specs.SimpleMounts.{IsSimpleMount}
 use Rattle.core_laws.specs.Positions.{IsUnplaced}
 use Rattle.core_laws.specs.WindowOf.{without_frame, held_of, HeldSectors}
 use Rattle.core_laws.proofs.PlacedPositions.{taken_is_unplaced}
-use Rattle.landing_laws.proofs.Entries.{in_order}
-use Rattle.landing_laws.proofs.Growing.{freed_within}
+use Rattle.core_laws.proofs.UsersEntries.{in_order}
+use Rattle.core_laws.proofs.Growing.{freed_within}
 use Rattle.pblk_core.specs.declared.target_core.Core.{Core}
 use Rattle.pblk_core.specs.Stands.{Stands}
 use Rattle.pblk_model.proofs.MarksLemmas.{accepted_small}

@@ -25,26 +25,26 @@ use Rattle.core_laws.specs.RowsOf.{rows_of}
 use Rattle.core_laws.specs.SlotOf.{slot_of}
 use Rattle.core_laws.specs.WindowOf.{is_given_back, sectors_in, window_from}
 use Rattle.core_laws.proofs.Landing.{placing_landed}
-use Rattle.landing_laws.specs.ChunkBlocks.{can_be_read}
-use Rattle.landing_laws.proofs.LandedWindow.{given_back_landed}
-use Rattle.landing_laws.proofs.Slots.{first_kept}
+use Rattle.core_laws.specs.ChunkBlocks.{can_be_read}
+use Rattle.core_laws.proofs.LandedWindow.{given_back_landed}
+use Rattle.core_laws.proofs.KeptSlots.{first_kept}
 use Rattle.line_table.specs.Rows.{Table}
-use Rattle.line_laws.specs.Changes.{with_row, full_if}
-use Rattle.line_laws.specs.InOrder.{HasRoom}
-use Rattle.line_laws.specs.LandedStripes.{landed_count}
-use Rattle.line_laws.specs.PlacedEntries.{note_entries}
-use Rattle.line_laws.proofs.Kept.{KeepsStripes, stripes_kept}
-use Rattle.line_laws.proofs.NextTakes.{rising_by}
-use Rattle.line_laws.proofs.KeptRows.{begun_kept}
-use Rattle.line_laws.proofs.LandedCounts.{landed_whole, one_landed}
-use Rattle.line_laws.proofs.LandedEntries.{AreItsEntries, rows_landed}
-use Rattle.line_laws.proofs.LineRoom.{has_room}
-use Rattle.line_laws.proofs.OpenAddresses.{addresses_kept}
-use Rattle.line_laws.proofs.Orders.{in_order}
-use Rattle.line_laws.proofs.PlacedFront.{front_kept}
-use Rattle.placed_laws.proofs.EntryHolds.{later_same, line_same}
-use Rattle.placing_laws.proofs.InOrder.{stripe_count}
-use Rattle.begin_laws.proofs.Lists.{mapped_agree as same_in_range}
+use Rattle.core_laws.specs.ChangedTables.{with_row, full_if}
+use Rattle.core_laws.specs.InOrder.{HasRoom}
+use Rattle.core_laws.specs.LandedStripes.{landed_count}
+use Rattle.core_laws.specs.PlacedEntries.{note_entries}
+use Rattle.core_laws.proofs.KeptStripes.{KeepsStripes, stripes_kept}
+use Rattle.core_laws.proofs.NextTakes.{rising_by}
+use Rattle.core_laws.proofs.KeptRows.{begun_kept}
+use Rattle.core_laws.proofs.LandedCounts.{landed_whole, one_landed}
+use Rattle.core_laws.proofs.LandedEntries.{AreItsEntries, rows_landed}
+use Rattle.core_laws.proofs.LineRoom.{has_room}
+use Rattle.core_laws.proofs.OpenAddresses.{addresses_kept}
+use Rattle.core_laws.proofs.LogOrders.{in_order}
+use Rattle.core_laws.proofs.PlacedFront.{front_kept}
+use Rattle.core_laws.proofs.EntryHolds.{later_same, line_same}
+use Rattle.core_laws.proofs.StripesInOrder.{stripe_count}
+use Rattle.core_laws.proofs.MadeLists.{mapped_agree as same_in_range}
 use Rattle.pblk_core.specs.Entries.{noted_lines}
 use Rattle.pblk_core.specs.Landing.{all_landed, one_landed as entry_landed}
 use Rattle.pblk_core.specs.Readable.{ReadBlock, all_moved, all_readable, reads_of}

@@ -2,9 +2,9 @@
 use Rattle.std.proofs.Common.{le_trans, ◌≡◌}
 use Rattle.core_laws.specs.SimpleMounts.{IsSimpleMount}
 use Rattle.core_laws.specs.WindowOf.{users_below}
-use Rattle.landing_laws.proofs.Entries.{in_order}
-use Rattle.landing_laws.proofs.Growing.{freed_within}
-use Rattle.landing_laws.proofs.SyncedWindow.{front_synced}
+use Rattle.core_laws.proofs.UsersEntries.{in_order}
+use Rattle.core_laws.proofs.Growing.{freed_within}
+use Rattle.core_laws.proofs.SyncedWindow.{front_synced}
 use Rattle.pblk_core.specs.Stands.{Stands}
 use Rattle.pblk_core.specs.declared.target_core.Core.{Core}
 use Rattle.pblk_model.proofs.MarksLemmas.{accepted_small}

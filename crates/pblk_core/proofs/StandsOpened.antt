@@ -33,22 +33,22 @@ use Rattle.core_laws.specs.SimpleMounts.{IsSimpleMount}
 use Rattle.core_laws.specs.RowsOf.{rows_of, row_of_line}
 use Rattle.core_laws.specs.WindowOf.{is_given_back, sectors_in, window_from}
 use Rattle.core_laws.proofs.Engine.{prefix_whole}
-use Rattle.core_laws.proofs.Numbering.{first_stays}
+use Rattle.core_laws.proofs.TakenNumbers.{first_stays}
 use Rattle.core_laws.proofs.Opening.{placing_opened, placed_before}
 use Rattle.core_laws.proofs.Steady.{AreAlike}
 use Rattle.core_laws.proofs.PlacedLines.{get_row as row_there}
 use Rattle.core_laws.proofs.TakenWindow.{given_same}
-use Rattle.landing_laws.proofs.QuietEvents.{IsQuiet, quiet_alike, quiet_window, quiet_slot, open_is_quiet}
-use Rattle.landing_laws.proofs.Least.{least_rises}
-use Rattle.line_laws.specs.Changes.{with_row}
-use Rattle.line_laws.proofs.KeptRows.{begun_kept, known_kept}
-use Rattle.line_laws.proofs.OpenAddresses.{addresses_opened}
-use Rattle.line_laws.proofs.OpenedRows.{rows_opened}
-use Rattle.line_laws.proofs.PlacedFront.{front_kept}
-use Rattle.line_laws.proofs.PlainLogs.{none_freed}
-use Rattle.line_laws.proofs.Tables.{changed_is}
-use Rattle.placed_laws.proofs.EntryHolds.{later_same, line_same}
-use Rattle.placed_laws.proofs.LeftLines.{left_before, left_more}
+use Rattle.core_laws.proofs.QuietEvents.{IsQuiet, quiet_alike, quiet_window, quiet_slot, open_is_quiet}
+use Rattle.core_laws.proofs.LeastPositions.{least_rises}
+use Rattle.core_laws.specs.ChangedTables.{with_row}
+use Rattle.core_laws.proofs.KeptRows.{begun_kept, known_kept}
+use Rattle.core_laws.proofs.OpenAddresses.{addresses_opened}
+use Rattle.core_laws.proofs.OpenedRows.{rows_opened}
+use Rattle.core_laws.proofs.PlacedFront.{front_kept}
+use Rattle.core_laws.proofs.PlainLogs.{none_freed}
+use Rattle.core_laws.proofs.ChangedTables.{changed_is}
+use Rattle.core_laws.proofs.EntryHolds.{later_same, line_same}
+use Rattle.core_laws.proofs.LeftLines.{left_before, left_more}
 use Rattle.pblk_model.specs.Contents.{least_missing}
 use Rattle.pblk_core.specs.declared.target_core.Core.{Core}
 use Rattle.pblk_core.specs.declared.hold.Holds.{Holds}

@@ -26,30 +26,30 @@ use Rattle.stripe_placer.specs.declared.placement.StripeKind.TheVariants as kind
 use Rattle.stripe_placer.specs.OpenLines.{has_left}
 use Rattle.stripe_placer.specs.Placing.{Program, Placing, placed}
 use Rattle.line_table.specs.Rows.{Table}
-use Rattle.line_laws.specs.InOrder.{IsInOrder}
-use Rattle.line_laws.specs.PlacedEntries.{place_entries}
-use Rattle.line_laws.proofs.KeptRows.{begun_kept, known_kept}
-use Rattle.line_laws.proofs.Orders.{in_order}
-use Rattle.line_laws.proofs.PlacedAddresses.{data_addresses, other_addresses}
-use Rattle.line_laws.proofs.PlacedFront.{front_placed}
-use Rattle.line_laws.proofs.PlacedRows.{rows_placed, rows_beside}
-use Rattle.landing_laws.proofs.Least.{least_rises}
-use Rattle.landing_laws.proofs.QuietEvents.{place_kept, place_window, place_slot}
-use Rattle.landing_laws.proofs.Untouched.{AreKept, given_kept}
+use Rattle.core_laws.specs.InOrder.{IsInOrder}
+use Rattle.core_laws.specs.PlacedEntries.{place_entries}
+use Rattle.core_laws.proofs.KeptRows.{begun_kept, known_kept}
+use Rattle.core_laws.proofs.LogOrders.{in_order}
+use Rattle.core_laws.proofs.PlacedAddresses.{data_addresses, other_addresses}
+use Rattle.core_laws.proofs.PlacedFront.{front_placed}
+use Rattle.core_laws.proofs.PlacedRows.{rows_placed, rows_beside}
+use Rattle.core_laws.proofs.LeastPositions.{least_rises}
+use Rattle.core_laws.proofs.QuietEvents.{place_kept, place_window, place_slot}
+use Rattle.core_laws.proofs.Untouched.{AreKept, given_kept}
 use Rattle.core_laws.specs.OpenedLines.{bits_of, live_now, open_line, standing}
 use Rattle.core_laws.specs.PlacerOf.{placing_of, positions_of, positions_in_stripe, entries_of, IsStripeOf}
 use Rattle.core_laws.specs.SimpleMounts.{IsSimpleMount}
 use Rattle.core_laws.specs.RowsOf.{rows_of}
 use Rattle.core_laws.specs.Stepping.{after}
 use Rattle.core_laws.specs.WindowOf.{is_given_back, sectors_in, window_from}
-use Rattle.core_laws.proofs.Numbering.{first_stays}
+use Rattle.core_laws.proofs.TakenNumbers.{first_stays}
 use Rattle.core_laws.proofs.PlacedLines.{placing_placed}
 use Rattle.core_laws.proofs.Placing.{IsPlacing, with_place}
-use Rattle.placed_laws.proofs.LeftLines.{left_before, left_placed}
-use Rattle.placed_laws.proofs.Ordered.{ordered, lost_are_none}
-use Rattle.placed_laws.proofs.StandingOpenings.{rise_filtered, standing_rise, one_place}
-use Rattle.placed_laws.proofs.StripeBlocks.{have_blocks, length_joined as blocks_length}
-use Rattle.placing_laws.specs.StripeFor.{IsStripeFor, blocks_for, positions_for}
+use Rattle.core_laws.proofs.LeftLines.{left_before, left_placed}
+use Rattle.core_laws.proofs.PlacedInOrder.{ordered, lost_are_none}
+use Rattle.core_laws.proofs.StandingOpenings.{rise_filtered, standing_rise, one_place}
+use Rattle.core_laws.proofs.StripeBlocks.{have_blocks, length_joined as blocks_length}
+use Rattle.core_laws.specs.StripeFor.{IsStripeFor, blocks_for, positions_for}
 use Rattle.line_table.proofs.Places.{get_set_same, get_set_other}
 use Rattle.pblk_core.specs.Entries.{placed_lines, placed_rows}
 use Rattle.pblk_core.specs.Slots.{with_marks}

@@ -24,17 +24,17 @@ use Rattle.core_laws.specs.SimpleMounts.{IsSimpleMount}
 use Rattle.core_laws.specs.RowsOf.{row_of_line, rows_of}
 use Rattle.core_laws.specs.WindowOf.{sectors_in, window_from}
 use Rattle.core_laws.proofs.Engine.{stopped_more}
-use Rattle.core_laws.proofs.Numbering.{first_stays}
+use Rattle.core_laws.proofs.TakenNumbers.{first_stays}
 use Rattle.core_laws.proofs.Steady.{AreAlike, standing_same, lines_same, row_same, unanswered_in}
 use Rattle.core_laws.proofs.Stopping.{entries_same}
 use Rattle.core_laws.proofs.Taking.{same_placing}
 use Rattle.core_laws.proofs.PlacedLines.{get_row as row_there}
-use Rattle.landing_laws.proofs.QuietEvents.{IsQuiet, quiet_alike, quiet_window, quiet_slot, reset_is_quiet}
-use Rattle.line_laws.specs.Changes.{with_row}
-use Rattle.line_laws.proofs.KeptRows.{begun_kept}
-use Rattle.line_laws.proofs.OpenAddresses.{addresses_kept}
-use Rattle.line_laws.proofs.PlacedFront.{front_kept}
-use Rattle.line_laws.proofs.Tables.{changed_is}
+use Rattle.core_laws.proofs.QuietEvents.{IsQuiet, quiet_alike, quiet_window, quiet_slot, reset_is_quiet}
+use Rattle.core_laws.specs.ChangedTables.{with_row}
+use Rattle.core_laws.proofs.KeptRows.{begun_kept}
+use Rattle.core_laws.proofs.OpenAddresses.{addresses_kept}
+use Rattle.core_laws.proofs.PlacedFront.{front_kept}
+use Rattle.core_laws.proofs.ChangedTables.{changed_is}
 use Rattle.pblk_core.specs.declared.target_core.Core.{Core}
 use Rattle.pblk_core.specs.declared.work.Work.TheVariants.{Reset}
 use Rattle.pblk_core.specs.Named.{named}

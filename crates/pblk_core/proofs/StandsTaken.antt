@@ -28,19 +28,19 @@ use Rattle.core_laws.proofs.Taking.{alike, with_take}
 use Rattle.core_laws.proofs.TakenSlots.{slot_taken, gives_back_same, any_same}
 use Rattle.core_laws.proofs.TakenWindow.{window_taken}
 use Rattle.core_laws.proofs.Steady.{AreAlike, standing_same}
-use Rattle.core_laws.proofs.Numbering.{first_stays}
-use Rattle.line_laws.proofs.KeptRows.{begun_kept, known_kept}
-use Rattle.landing_laws.proofs.Least.{least_rises}
+use Rattle.core_laws.proofs.TakenNumbers.{first_stays}
+use Rattle.core_laws.proofs.KeptRows.{begun_kept, known_kept}
+use Rattle.core_laws.proofs.LeastPositions.{least_rises}
 use Rattle.pblk_core.specs.Stands.{Stands, AreOpenLines}
 use Rattle.pblk_core.proofs.SteadyLines.{open_lines_same, under_way_same}
 use Rattle.pblk_world.specs.Starts.{older_rows}
-use Rattle.line_laws.proofs.OpenAddresses.{addresses_kept}
+use Rattle.core_laws.proofs.OpenAddresses.{addresses_kept}
 use Rattle.pblk_core.proofs.StandsFacts.{freed_taken_within, window_taken_is, next_is_unplaced}
 use Rattle.std.proofs.lemmas.List.{map-append}
 use Rattle.pblk_meta.specs.Records.{start_numbers}
 use Rattle.core_laws.specs.PlacerOf.{placing_of}
 use Rattle.core_laws.proofs.Taking.{filter_last, placing_taken}
-use Rattle.line_laws.proofs.PlacedFront.{front_taken}
+use Rattle.core_laws.proofs.PlacedFront.{front_taken}
 use Rattle.pblk_world.specs.Fronts.{is_users}
 use Rattle.core_laws.specs.WindowOf.{without_frame, class_of, source_of}
 use Rattle.sector_pool.specs.declared.entry.Class.TheVariants.{User}
@@ -51,22 +51,22 @@ use Rattle.pblk_core.proofs.LiveLine.{line_is, landed_is}
 use Rattle.pblk_world.specs.Fronts.{last_take}
 use Rattle.pblk_world.specs.Victims.{line_of}
 use Rattle.core_laws.specs.RowsOf.{rows_of}
-use Rattle.line_laws.proofs.TakenRows.{rows_taken}
-use Rattle.line_laws.proofs.LiveCounts.{live_some}
+use Rattle.core_laws.proofs.TakenRows.{rows_taken}
+use Rattle.core_laws.proofs.LiveCounts.{live_some}
 use Rattle.std.proofs.lemmas.List.FromFn.{length-map-range_with_len}
-use Rattle.line_laws.proofs.Orders.{in_order as plain_in_order}
-use Rattle.line_laws.proofs.LinesInRange.{line_in_range}
+use Rattle.core_laws.proofs.LogOrders.{in_order as plain_in_order}
+use Rattle.core_laws.proofs.LinesInRange.{line_in_range}
 use Rattle.line_table.specs.declared.row.Row.{Row}
 use Rattle.line_table.specs.Rows.{Table, IsRow}
 use Rattle.core_laws.specs.RowsOf.{row_of_line}
 use Rattle.pblk_world.specs.Victims.{live}
 use Rattle.std.specs.Prelude.{slice_get}
-use Rattle.line_laws.proofs.PlainLogs.{none_freed}
-use Rattle.landing_laws.proofs.Entries.{in_order}
+use Rattle.core_laws.proofs.PlainLogs.{none_freed}
+use Rattle.core_laws.proofs.UsersEntries.{in_order}
 use Rattle.std.proofs.lemmas.Option.{same_Some}
 use Rattle.pblk_core.specs.Taken.{entry_of, mark_of}
 use Rattle.pblk_core.specs.Holds.{has_landed_in, line_of_slot, rows_with_taker}
-use Rattle.line_laws.specs.Changes.{lose_in}
+use Rattle.core_laws.specs.ChangedTables.{lose_in}
 use Rattle.pblk_core.specs.declared.target_core.Core.{Core}
 use Rattle.sector_pool.specs.declared.entry.Entry.{Entry as FramedEntry}
 use Rattle.write_window.specs.declared.held.Progress.TheVariants.{Waiting}

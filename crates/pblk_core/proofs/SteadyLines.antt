@@ -17,7 +17,7 @@ use Rattle.core_laws.specs.Stepping.{after}
 use Rattle.core_laws.specs.OpenedLines.{opened_units, bits_of, open_line, standing}
 use Rattle.core_laws.proofs.Engine.{prefix_same}
 use Rattle.core_laws.proofs.Steady.{AreAlike, unanswered_in, answer_same, open_line_same, standing_before}
-use Rattle.placed_laws.proofs.LeftLines.{left_before}
+use Rattle.core_laws.proofs.LeftLines.{left_before}
 use Rattle.pblk_core.specs.declared.open_lines.OpenLine.{OpenLine}
 use Rattle.pblk_core.specs.declared.open_lines.OpenLines.{OpenLines}
 use Rattle.pblk_core.specs.LineRecords.{AreOf}

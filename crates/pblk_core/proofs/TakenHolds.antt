@@ -21,18 +21,18 @@ use Rattle.core_laws.specs.Positions.{IsUnplaced, AreNumbered}
 use Rattle.core_laws.specs.SlotOf.{slot_of, slot_by, media_of}
 use Rattle.core_laws.specs.WindowOf.{is_given_back}
 use Rattle.core_laws.proofs.Placing.{not_below}
-use Rattle.core_laws.proofs.Stripes.{find_fails_last}
+use Rattle.core_laws.proofs.StripesByPlace.{find_fails_last}
 use Rattle.core_laws.proofs.Taking.{alike}
 use Rattle.core_laws.proofs.TakenSlots.{gives_back_same, any_same}
 use Rattle.core_laws.proofs.Steady.{AreAlike, lost_same}
-use Rattle.landing_laws.proofs.Least.{least_below}
-use Rattle.landing_laws.proofs.Cached.{IsCachedEntry, cached, last_is_among, numbered_at}
-use Rattle.landing_laws.proofs.FreedFront.{freed_taken}
-use Rattle.landing_laws.proofs.Finding.{any_none}
-use Rattle.placed_laws.specs.EntryHolds.{later_take, placed_line}
-use Rattle.placed_laws.proofs.EntryHolds.{later_stays, later_of_others, later_of_sector, none_is_later, line_same}
+use Rattle.core_laws.proofs.LeastPositions.{least_below}
+use Rattle.core_laws.proofs.CachedEntries.{IsCachedEntry, cached, last_is_among, numbered_at}
+use Rattle.core_laws.proofs.FreedFront.{freed_taken}
+use Rattle.core_laws.proofs.FindingInLists.{any_none}
+use Rattle.core_laws.specs.EntryHolds.{later_take, placed_line}
+use Rattle.core_laws.proofs.EntryHolds.{later_stays, later_of_others, later_of_sector, none_is_later, line_same}
 use Rattle.stripe_placer.proofs.Chunks.{lt_of as below_is}
-use Rattle.placing_laws.proofs.Due.{none_at as none_passes}
+use Rattle.core_laws.proofs.NoneDue.{none_at as none_passes}
 use Rattle.pblk_core.specs.declared.hold.Hold.{Hold}
 use Rattle.pblk_core.specs.declared.hold.Holds.{Holds}
 use Rattle.pblk_core.specs.Holds.{hold_of, row_at, with_taker, rows_with_taker}

@@ -23,13 +23,13 @@ use Rattle.core_laws.proofs.Placing.{not_below}
 use Rattle.core_laws.proofs.WaitingEntries.{waiting_alike}
 use Rattle.stripe_placer.specs.Placing.{held}
 use Rattle.stripe_placer.proofs.Rows.{get_map as get_mapped}
-use Rattle.landing_laws.proofs.Growing.{given_landed}
-use Rattle.placed_laws.specs.Placed.{IsInWindow}
-use Rattle.placed_laws.specs.EntryHolds.{placed_line}
-use Rattle.placed_laws.proofs.Events.{of_legal_log}
-use Rattle.placed_laws.proofs.Ordered.{IsOrdered, ordered, count_is, waiting_are_last}
-use Rattle.placed_laws.proofs.HeldPositions.{in_window}
-use Rattle.placed_laws.proofs.EntryHolds.{line_below_front}
+use Rattle.core_laws.proofs.Growing.{given_landed}
+use Rattle.core_laws.specs.Placed.{IsInWindow}
+use Rattle.core_laws.specs.EntryHolds.{placed_line}
+use Rattle.core_laws.proofs.EventByEvent.{of_legal_log}
+use Rattle.core_laws.proofs.PlacedInOrder.{IsOrdered, ordered, count_is, waiting_are_last}
+use Rattle.core_laws.proofs.HeldPositions.{in_window}
+use Rattle.core_laws.proofs.EntryHolds.{line_below_front}
 use Rattle.pblk_core.specs.Entries.{entry_block, entry_blocks}
 use Rattle.pblk_core.specs.Holds.{hold_of, row_at}
 use Rattle.pblk_core.specs.Stands.{Stands}

@@ -16,8 +16,8 @@ use Rattle.write_window.specs.Window as view
 use Rattle.core_laws.specs.OpenedLines.{open_line, open_lines}
 use Rattle.core_laws.specs.SimpleMounts.{IsSimpleMount}
 use Rattle.core_laws.specs.PlacerOf.{lost_entries, fresh_entries}
-use Rattle.placed_laws.proofs.LeftLines.{lines_of_left}
-use Rattle.placed_laws.proofs.Ordered.{ordered, fresh_in_order, lost_are_none}
+use Rattle.core_laws.proofs.LeftLines.{lines_of_left}
+use Rattle.core_laws.proofs.PlacedInOrder.{ordered, fresh_in_order, lost_are_none}
 use Rattle.pblk_core.proofs.SimpleLogs.{its_placer}
 use Rattle.pblk_core.specs.declared.target_core.Core.{Core}
 use Rattle.pblk_core.specs.Stands.{Stands, left_openings}

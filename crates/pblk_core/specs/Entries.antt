@@ -6,8 +6,8 @@ use Rattle.std.specs.Option.{option_map_or, unwrap_or}
 use Rattle.pblk_model.specs.Chunk.{Block}
 use Rattle.pblk_model.specs.Marks.{pad_mark}
 use Rattle.line_table.specs.Rows.{Table}
-use Rattle.line_laws.specs.Changes.{note_by}
-use Rattle.line_laws.specs.PlacedEntries.{place_by}
+use Rattle.core_laws.specs.ChangedTables.{note_by}
+use Rattle.core_laws.specs.PlacedEntries.{place_by}
 use Rattle.write_window.specs.Window.{WindowView, sector_at}
 use Rattle.pblk_core.specs.Holds.{row_at}
 use Rattle.pblk_core.specs.declared.hold.Hold.{Hold}

@@ -4,7 +4,7 @@ use Rattle.std.specs.Option.{option_map, option_map_or, option_and_then}
 use Rattle.pblk_model.specs.declared.shape.Shape.{Shape}
 use Rattle.pblk_world.specs.Events.{Logged}
 use Rattle.pblk_world.specs.EngineLog.{Taken}
-use Rattle.placed_laws.specs.EntryHolds.{later_take, placed_line}
+use Rattle.core_laws.specs.EntryHolds.{later_take, placed_line}
 use Rattle.l2p_map.specs.declared.slot.Slot.{Slot}
 use Rattle.l2p_map.specs.declared.slot.Slot.TheVariants.{Unwritten, Cached, Media}
 use Rattle.write_window.specs.Window.{WindowView, has_landed_at}

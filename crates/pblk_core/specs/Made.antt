@@ -5,9 +5,9 @@ use Rattle.pblk_model.specs.declared.shape.Shape.{Shape}
 use Rattle.pblk_model.specs.declared.found.Found.{Found}
 use Rattle.pblk_meta.specs.Records.{row_numbers}
 use Rattle.stripe_placer.specs.Placing.{nothing_placed}
-use Rattle.found_laws.specs.Beginnings.{seq_after}
-use Rattle.begin_laws.specs.OnlineUnits.{all_online}
-use Rattle.begin_laws.specs.OpeningTables.{IsOpeningTable, slot_found}
+use Rattle.world_laws.specs.MountBeginnings.{seq_after}
+use Rattle.core_laws.specs.OnlineUnits.{all_online}
+use Rattle.core_laws.specs.OpeningTables.{IsOpeningTable, slot_found}
 use Rattle.pblk_core.specs.OlderLines.{older_found}
 use Rattle.pblk_core.specs.Resets.{resets_found, resets_left}
 use Rattle.pblk_core.specs.declared.open_lines.OpenLine.{OpenLine}

@@ -3,7 +3,7 @@ use Rattle.std.specs.Prelude.{ℕ, List}
 use Rattle.std.specs.List.{filter_map, enumerate_from}
 use Rattle.pblk_model.specs.declared.found.LineRow.{LineRow}
 use Rattle.pblk_model.specs.StartRecord.{Row}
-use Rattle.begin_laws.specs.OpeningTables.{row_found}
+use Rattle.core_laws.specs.OpeningTables.{row_found}
 
 -- those of lines that end there
 abbrev pub older_found : ℕ → List LineRow → List Row

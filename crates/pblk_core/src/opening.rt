@@ -7,9 +7,9 @@ ghost use Rattle.pblk_model.specs.declared.found.Winner.{Winner};
 ghost use Rattle.pblk_model.specs.Accepted.{IsAccepted};
 ghost use Rattle.pblk_model.specs.Shape.{units};
 ghost use Rattle.pblk_meta.specs.Records.{row_numbers};
-ghost use Rattle.found_laws.specs.Beginnings.{seq_after};
-ghost use Rattle.begin_laws.specs.OnlineUnits.{all_online};
-ghost use Rattle.begin_laws.specs.OpeningTables.{slot_found};
+ghost use Rattle.world_laws.specs.MountBeginnings.{seq_after};
+ghost use Rattle.core_laws.specs.OnlineUnits.{all_online};
+ghost use Rattle.core_laws.specs.OpeningTables.{slot_found};
 ghost use Rattle.pblk_core.specs.OlderLines.{older_found};
 
 use l2p_map::{Map, Slot};

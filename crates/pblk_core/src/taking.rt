@@ -3,7 +3,7 @@
 ghost use Rattle.std.specs.Prelude.{ℕ, ◌≡◌, ◌+◌, ◌<◌, ◌^◌, ◌++◌, [], ◌∷◌, length, Some, None};
 ghost use Rattle.line_table.specs.declared.row.Row.{Row};
 ghost use Rattle.line_table.specs.Rows.{IsRow};
-ghost use Rattle.line_laws.specs.Changes.{lose_in};
+ghost use Rattle.core_laws.specs.ChangedTables.{lose_in};
 ghost use Rattle.pblk_model.specs.Chunk.{IsBlock};
 ghost use Rattle.pblk_world.specs.Events.{Take};
 ghost use Rattle.pblk_world.specs.Taking.{MayTake};

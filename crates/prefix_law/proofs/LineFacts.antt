@@ -13,8 +13,8 @@ use Rattle.pblk_world.specs.Fronts.{history, user_positions}
 use Rattle.pblk_world.specs.Lines.{found_image}
 use Rattle.pblk_world.specs.Starts.{has_landed_start}
 use Rattle.world_laws.specs.LegalMounts.{IsLegalMount}
-use Rattle.chunk_laws.proofs.NewLines.{IsPlacedRecord, IsTakenRecord, last_start, last_entry, last_placed, stands_clause, landed_clause}
-use Rattle.chunk_laws.proofs.UnopenedLines.{as_found, freed_old}
+use Rattle.world_laws.proofs.NewLines.{IsPlacedRecord, IsTakenRecord, last_start, last_entry, last_placed, stands_clause, landed_clause}
+use Rattle.world_laws.proofs.UnopenedLines.{as_found, freed_old}
 
 -- lines that weren't opened
 pub record HaveOldLines (i : Image) (w : World) : Type 0 where

@@ -29,7 +29,7 @@ use Rattle.world_laws.proofs.Lives.{life_is_known, standing_or_freed}
 use Rattle.world_laws.proofs.Newest.{end_from_front, later_front, newest_stands, older_when_freed}
 use Rattle.world_laws.proofs.Stripes.{life_of_stripe, opening_then}
 use Rattle.world_laws.proofs.WinnerLines.{winner_stands}
-use Rattle.chunk_laws.proofs.LifePlaces.{have_places}
+use Rattle.world_laws.proofs.LifePlaces.{have_places}
 use Rattle.prefix_law.specs.Assembled.{IsEntryOf, IsLastOf}
 use Rattle.prefix_law.specs.AfterMount.{IsNewStart, IsOldLine, IsNewLine, IsAfterMount, IsBorneAnew, HasNewHead, IsReduced}
 use Rattle.prefix_law.proofs.FreedLines.{found_or_freed}

@@ -24,7 +24,7 @@ use Rattle.world_laws.proofs.Begun.{IsBegunWith, begun_with, first_is}
 use Rattle.world_laws.proofs.StartRecords.{IsNthOpening, nth_opening, seq_of_nth, front_synced, front_from_first, opened_later}
 use Rattle.world_laws.proofs.Stripes.{IsOpening, opening_is}
 use Rattle.world_laws.proofs.ToldImages.{found_then}
-use Rattle.chunk_laws.proofs.KeptChunks.{found_before}
+use Rattle.world_laws.proofs.KeptChunks.{found_before}
 use Rattle.prefix_law.specs.AfterMount.{row_of, rows_of, IsNewStart}
 use Rattle.prefix_law.proofs.Among.{made_into, made_from}
 use Rattle.prefix_law.proofs.RecordLines.{range_is}

@@ -22,9 +22,9 @@ use Rattle.pblk_world.specs.Lines.{found_image, next_seq}
 use Rattle.pblk_world.proofs.SyncedFront.{synced_within, synced_missing}
 use Rattle.pblk_laws.proofs.Ends.{end_is_end}
 use Rattle.pblk_laws.proofs.FilledLists.{after_length}
-use Rattle.opening_laws.specs.Early.{ArePrefixes}
-use Rattle.opening_laws.specs.Same.{HoldsTheSame}
-use Rattle.opening_laws.proofs.FoundImages.{found_holds, early_before, early_holds}
+use Rattle.world_laws.specs.EarlyLogs.{ArePrefixes}
+use Rattle.world_laws.specs.SameImages.{HoldsTheSame}
+use Rattle.world_laws.proofs.FoundImages.{found_holds, early_before, early_holds}
 use Rattle.lemmas.proofs.Lists.{among_contained}
 use Rattle.lemmas.proofs.Maps.{from_filter}
 use Rattle.lemmas.proofs.Parts.{contained_among, same_lists, take_nothing}
@@ -32,7 +32,7 @@ use Rattle.lemmas.proofs.Tests.{no_both}
 use Rattle.world_laws.specs.LegalMounts.{NoneLost, IsLegalMount}
 use Rattle.world_laws.proofs.Beginnings.{has_begun}
 use Rattle.world_laws.proofs.WinnerBlocks.{contents_at}
-use Rattle.chunk_laws.proofs.SectorValues.{latest_is_held, found_is_held}
+use Rattle.world_laws.proofs.SectorValues.{latest_is_held, found_is_held}
 use Rattle.prefix_law.specs.Assembled.{IsAssembled}
 use Rattle.prefix_law.specs.AfterMount.{HasNewHead}
 use Rattle.prefix_law.specs.Cuts.{AreCuts}

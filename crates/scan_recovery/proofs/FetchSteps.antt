@@ -24,12 +24,12 @@ use Rattle.unit_port.specs.declared.unit.UnitErr.TheVariants as unit_errors
 use Rattle.unit_port.specs.Commands.{UnitCommand, EventAt, IsNext, IsTaken, AreNext, with_event, after_one, after_all}
 use Rattle.unit_port.specs.Did.{Did, command_at, is_lost}
 use Rattle.unit_port.proofs.Units.{after_one_is}
-use Rattle.found_laws.specs.Finding.{NoneOpen}
+use Rattle.world_laws.specs.Finding.{NoneOpen}
 use Rattle.scan_recovery.specs.declared.error.ScanErr.{ScanErr}
 use Rattle.scan_recovery.specs.declared.error.ScanErr.TheVariants as errors
 use Rattle.scan_recovery.specs.Units.{image_of, AreFit}
 use Rattle.scan_recovery.specs.Fetches.{IsFetch, IsGood, FetchEnds, HasFetched, IsReadableAt}
-use Rattle.opening_laws.proofs.Lines.{img}
+use Rattle.world_laws.proofs.ImageLines.{img}
 use Rattle.scan_recovery.proofs.PadSteps.{unit_at, chunk_of}
 use Rattle.lemmas.proofs.Lists.{all_append}
 use Rattle.lemmas.proofs.Parts.{all_get, get_set_same, set_same}

@@ -13,7 +13,7 @@ use Rattle.pblk_model.specs.Records.{Record}
 use Rattle.pblk_model.specs.Contents.{is_borne, least_missing, end_after, counts, counted_after, is_newer, newer, newest, is_of, winner}
 use Rattle.pblk_laws.proofs.FilledLists.{range_split}
 use Rattle.pblk_world.specs.Lines.{are_empty, is_stray}
-use Rattle.found_laws.specs.Finding.{top_of, winner_with}
+use Rattle.world_laws.specs.Finding.{top_of, winner_with}
 use Rattle.scan_recovery.specs.declared.survey.SeenLine.{SeenLine}
 use Rattle.scan_recovery.specs.declared.trace.Trace.{Trace}
 use Rattle.scan_recovery.specs.Survey.{seen_line}

@@ -14,7 +14,7 @@ use Rattle.scan_recovery.specs.declared.error.ScanErr.TheVariants as errors
 use Rattle.scan_recovery.specs.Fetches.{HasFetched, IsFetch, error_of}
 use Rattle.scan_recovery.specs.Pads.{HasPadded}
 use Rattle.scan_recovery.specs.Units.{image_of}
-use Rattle.found_laws.specs.Finding.{IsFoundOf, NoneOpen}
+use Rattle.world_laws.specs.Finding.{IsFoundOf, NoneOpen}
 use Rattle.scan_recovery.specs.Readying.{HoldsSame, AreHandedBack, IsUntouchedOrPadded, IsFoundAfter}
 use Rattle.scan_recovery.proofs.Losses.{none_stopped, none_lost}
 

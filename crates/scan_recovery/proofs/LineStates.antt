@@ -10,7 +10,7 @@ use Rattle.pblk_laws.specs.LineBlocks.{chunk_in}
 use Rattle.pblk_world.specs.Lines.{are_empty, is_empty_state}
 use Rattle.scan_recovery.specs.Units.{IsStateOf}
 use Rattle.pblk_model.proofs.ChunkLemmas.{map_cond}
-use Rattle.found_laws.proofs.States.{some_used}
+use Rattle.world_laws.proofs.FoundStates.{some_used}
 
 -- whether a unit's chunk of the line isn't Offline
 abbrev pub is_on : Image → ℕ → ℕ → Bool

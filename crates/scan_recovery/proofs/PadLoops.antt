@@ -22,13 +22,13 @@ use Rattle.unit_port.specs.Armed.{is_stop}
 use Rattle.unit_port.specs.declared.unit.UnitErr.{UnitErr}
 use Rattle.unit_port.specs.declared.unit.UnitErr.TheVariants as unit_errors
 use Rattle.unit_port.specs.Unit.{ModelUnit, IsFitUnit, TellsDone}
-use Rattle.opening_laws.specs.Same.{HoldsTheSame}
-use Rattle.opening_laws.specs.Padding.{IsPaddedAt, ArePadded}
-use Rattle.opening_laws.proofs.PaddedImages.{padded_sealed, padded_holds}
+use Rattle.world_laws.specs.SameImages.{HoldsTheSame}
+use Rattle.world_laws.specs.Padding.{IsPaddedAt, ArePadded}
+use Rattle.world_laws.proofs.PaddedImages.{padded_sealed, padded_holds}
 use Rattle.unit_port.specs.Commands.{UnitCommand, EventAt, command_of, IsNext, AreKept, with_event, after_one, after_all}
 use Rattle.unit_port.specs.Did.{Did, command_at}
 use Rattle.unit_port.proofs.Units.{after_one_is}
-use Rattle.found_laws.specs.Finding.{NoneOpen}
+use Rattle.world_laws.specs.Finding.{NoneOpen}
 use Rattle.scan_recovery.specs.declared.error.ScanErr.{ScanErr}
 use Rattle.scan_recovery.specs.declared.error.ScanErr.TheVariants as errors
 use Rattle.scan_recovery.specs.Units.{image_of, AreFit, IsUnitOf}

@@ -22,8 +22,8 @@ use Rattle.pblk_laws.specs.LineBlocks.{chunk_in}
 use Rattle.unit_port.specs.Armed.{is_stop}
 use Rattle.unit_port.specs.Unit.{ModelUnit}
 use Rattle.pblk_model.specs.Shape.{units}
-use Rattle.opening_laws.specs.Padding.{IsPadded}
-use Rattle.opening_laws.proofs.PaddedChunks.{program_pads}
+use Rattle.world_laws.specs.Padding.{IsPadded}
+use Rattle.world_laws.proofs.PaddedChunks.{program_pads}
 use Rattle.unit_port.specs.Commands.{EventAt, IsNext, IsTaken, with_event, after_one}
 use Rattle.unit_port.specs.Did.{command_at}
 use Rattle.unit_port.proofs.Units.{after_one_is}

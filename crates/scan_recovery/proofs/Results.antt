@@ -17,7 +17,7 @@ use Rattle.pblk_meta.specs.declared.start_record.StartRecord.{StartRecord as Sta
 use Rattle.pblk_meta.specs.declared.rows.Row.{Row as MetaRow}
 use Rattle.pblk_meta.specs.Records.{row_numbers, start_numbers}
 use Rattle.pblk_world.specs.Lines.{is_stray, stray_lines}
-use Rattle.found_laws.specs.Finding.{IsFoundOf, bound_with, line_row, taken_states, top_of, winner_of, winner_with}
+use Rattle.world_laws.specs.Finding.{IsFoundOf, bound_with, line_row, taken_states, top_of, winner_of, winner_with}
 use Rattle.scan_recovery.specs.declared.survey.SeenLine.{SeenLine}
 use Rattle.scan_recovery.specs.declared.survey.Survey.{Survey}
 use Rattle.pblk_model.specs.declared.chunk.ChunkState.{ChunkState}

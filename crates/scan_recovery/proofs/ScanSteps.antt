@@ -11,8 +11,8 @@ use Rattle.pblk_model.specs.Image.{Image, IsFit, width, block_at}
 use Rattle.pblk_model.specs.StartRecord.{StartRecord, start_of}
 use Rattle.pblk_model.specs.EndRecord.{end_of}
 use Rattle.pblk_model.specs.Records.{Record, named, mark_at, bears, record_at, records_after, line_records}
-use Rattle.found_laws.specs.Finding.{taken_state}
-use Rattle.found_laws.proofs.Counting.{lines_few}
+use Rattle.world_laws.specs.Finding.{taken_state}
+use Rattle.world_laws.proofs.FoundCounts.{lines_few}
 use Rattle.scan_recovery.specs.declared.trace.Trace.{Trace}
 use Rattle.scan_recovery.specs.declared.survey.Survey.{Survey}
 use Rattle.scan_recovery.specs.Survey.{IsSurvey}

@@ -11,7 +11,7 @@ use Rattle.pblk_model.specs.declared.shape.Shape.{Shape}
 use Rattle.pblk_model.specs.StartRecord.{Row, StartRecord, rows_fit, start_fits}
 use Rattle.pblk_model.specs.Records.{Record}
 use Rattle.pblk_model.specs.Contents.{counts, newer, newest, is_of, winner}
-use Rattle.found_laws.specs.Finding.{top_of}
+use Rattle.world_laws.specs.Finding.{top_of}
 use Rattle.scan_recovery.specs.declared.trace.Trace.{Trace}
 use Rattle.scan_recovery.specs.declared.counting.Tally.{Tally}
 use Rattle.scan_recovery.specs.Tally.{IsTally}

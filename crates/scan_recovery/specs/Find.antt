@@ -2,7 +2,7 @@
 use Rattle.std.specs.Prelude.{ℕ, ◌==◌, if◌then◌else◌, false, List, slice_index_or, Option, Some, None}
 use Rattle.pblk_model.specs.declared.found.LineRow.{LineRow}
 use Rattle.pblk_model.specs.StartRecord.{Row, StartRecord}
-use Rattle.found_laws.specs.Finding.{is_young}
+use Rattle.world_laws.specs.Finding.{is_young}
 use Rattle.scan_recovery.specs.declared.survey.SeenLine.{SeenLine}
 
 -- a line's bound by the head's row of that line

@@ -8,7 +8,7 @@ use Rattle.pblk_model.specs.Image.{Image}
 use Rattle.pblk_model.specs.Sealed.{IsSealed}
 use Rattle.unit_port.specs.Unit.{ModelUnit}
 use Rattle.unit_port.specs.Commands.{EventAt, AreKept, AreNext, after_all}
-use Rattle.found_laws.specs.Finding.{IsFoundOf, NoneOpen}
+use Rattle.world_laws.specs.Finding.{IsFoundOf, NoneOpen}
 use Rattle.scan_recovery.specs.Fetches.{IsFetch}
 use Rattle.scan_recovery.specs.Pads.{ArePads}
 use Rattle.scan_recovery.specs.Units.{image_of}

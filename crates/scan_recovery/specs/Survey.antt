@@ -9,7 +9,7 @@ use Rattle.pblk_model.specs.Records.{line_records}
 use Rattle.pblk_model.specs.Contents.{later_start}
 use Rattle.pblk_meta.specs.Records.{start_numbers}
 use Rattle.pblk_world.specs.Lines.{are_empty}
-use Rattle.found_laws.specs.Finding.{is_full}
+use Rattle.world_laws.specs.Finding.{is_full}
 use Rattle.scan_recovery.specs.declared.survey.SeenLine.{SeenLine}
 use Rattle.scan_recovery.specs.declared.survey.Survey.{Survey}
 use Rattle.scan_recovery.specs.Reading.{line_blocks}

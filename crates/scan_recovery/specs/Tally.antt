@@ -9,7 +9,7 @@ use Rattle.pblk_model.specs.Contents.{winner}
 use Rattle.pblk_meta.specs.declared.start_record.StartRecord.{StartRecord}
 use Rattle.pblk_meta.specs.declared.rows.Row.{Row}
 use Rattle.pblk_meta.specs.Records.{row_numbers, start_numbers}
-use Rattle.found_laws.specs.Finding.{top_of}
+use Rattle.world_laws.specs.Finding.{top_of}
 use Rattle.scan_recovery.specs.declared.counting.Tally.{Tally}
 use Rattle.scan_recovery.specs.Traces.{IsTable, bare, row_of}
 

@@ -7,7 +7,7 @@ ghost use Rattle.pblk_model.specs.Shape.{units as unit_count};
 ghost use Rattle.pblk_layout.specs.Live.{units_in};
 ghost use Rattle.pblk_laws.specs.LineBlocks.{written_at};
 ghost use Rattle.unit_port.specs.Commands.{AreKept};
-ghost use Rattle.found_laws.specs.Finding.{NoneOpen};
+ghost use Rattle.world_laws.specs.Finding.{NoneOpen};
 ghost use Rattle.scan_recovery.specs.Fetches.{IsReadableAt, WereFetched, error_of};
 ghost use Rattle.scan_recovery.specs.Reading.{line_blocks};
 ghost use Rattle.scan_recovery.specs.Units.{AreFit, image_of};

@@ -7,7 +7,7 @@ ghost use Rattle.pblk_model.specs.Image.{Image};
 ghost use Rattle.pblk_model.specs.Records.{Record};
 ghost use Rattle.pblk_meta.specs.Records.{row_numbers, start_numbers};
 ghost use Rattle.pblk_world.specs.Lines.{is_stray};
-ghost use Rattle.found_laws.specs.Finding.{IsFoundOf, is_young, taken_states, winner_with};
+ghost use Rattle.world_laws.specs.Finding.{IsFoundOf, is_young, taken_states, winner_with};
 ghost use Rattle.scan_recovery.specs.Find.{bound_from, row_from};
 ghost use Rattle.scan_recovery.specs.Survey.{IsSurvey, seen_line};
 ghost use Rattle.scan_recovery.specs.Tally.{HasStartFits};

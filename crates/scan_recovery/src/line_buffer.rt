@@ -4,7 +4,7 @@ ghost use Rattle.std.specs.Prelude.{List, Option, ◌≡◌, ◌+◌, ◌*◌, �
 ghost use Rattle.pblk_model.specs.declared.chunk.Mark.{Mark as ModelMark};
 ghost use Rattle.pblk_laws.specs.LineBlocks.{written_at};
 ghost use Rattle.unit_port.specs.Commands.{AreKept};
-ghost use Rattle.found_laws.specs.Finding.{NoneOpen};
+ghost use Rattle.world_laws.specs.Finding.{NoneOpen};
 ghost use Rattle.scan_recovery.specs.Fetches.{WereFetched, error_of};
 ghost use Rattle.scan_recovery.specs.Packed.{packed, written_count};
 ghost use Rattle.scan_recovery.specs.Units.{AreFit, image_of};

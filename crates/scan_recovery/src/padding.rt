@@ -5,7 +5,7 @@ ghost use Rattle.pblk_model.specs.Accepted.{IsAccepted};
 ghost use Rattle.pblk_model.specs.Contents.{contents, end};
 ghost use Rattle.pblk_model.specs.Sealed.{IsSealed};
 ghost use Rattle.unit_port.specs.Commands.{AreKept};
-ghost use Rattle.found_laws.specs.Finding.{NoneOpen};
+ghost use Rattle.world_laws.specs.Finding.{NoneOpen};
 ghost use Rattle.scan_recovery.specs.Units.{AreFit, image_of};
 ghost use Rattle.scan_recovery.specs.Pads.{AreBlank, WerePadded, IsNotOpen, IsOpenAt, NoneOpenBefore, room_at};
 

@@ -3,7 +3,7 @@
 ghost use Rattle.std.specs.Prelude.{◌≡◌, ◌+◌, ◌<◌, length, map, IfOk, OnOk};
 ghost use Rattle.pblk_model.specs.Accepted.{IsAccepted};
 ghost use Rattle.unit_port.specs.Commands.{AreKept};
-ghost use Rattle.found_laws.specs.Finding.{IsFoundOf, NoneOpen, taken_states};
+ghost use Rattle.world_laws.specs.Finding.{IsFoundOf, NoneOpen, taken_states};
 ghost use Rattle.scan_recovery.specs.Fetches.{WereFetched, error_of};
 ghost use Rattle.scan_recovery.specs.Survey.{IsSurvey};
 ghost use Rattle.scan_recovery.specs.Units.{AreFit, image_of};

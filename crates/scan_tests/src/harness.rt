@@ -2,7 +2,7 @@
 ghost use Rattle.std.specs.Prelude.{IsTrue, length, map};
 ghost use Rattle.pblk_model.specs.Accepted.{IsAccepted};
 ghost use Rattle.pblk_model.specs.Chunk.{PointerFits};
-ghost use Rattle.found_laws.specs.Finding.{NoneOpen};
+ghost use Rattle.world_laws.specs.Finding.{NoneOpen};
 ghost use Rattle.scan_recovery.specs.Units.{AreFit, image_of};
 
 use crate::image::{Step, Units, made};

@@ -7,7 +7,7 @@ use Rattle.pblk_model.specs.declared.shape.Shape.{Shape}
 use Rattle.pblk_model.specs.Chunk.{Chunk}
 use Rattle.pblk_model.specs.UnitLog.{UnitEvent, after_outcome, after_event}
 use Rattle.pblk_model.specs.Image.{Image}
-use Rattle.line_laws.proofs.LandedRows.{event_beside as beside_in}
+use Rattle.core_laws.proofs.LandedRows.{event_beside as beside_in}
 use Rattle.lemmas.proofs.Parts.{got_here, same_lists}
 
 -- ---- lists

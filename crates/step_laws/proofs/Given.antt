@@ -26,13 +26,13 @@ use Rattle.lemmas.proofs.Tests.{either, lt_true, not_both}
 use Rattle.stripe_placer.proofs.Chunks.{lt_of}
 use Rattle.world_laws.specs.LegalMounts.{IsLegalMount}
 use Rattle.world_laws.proofs.Lives.{life_is_known}
-use Rattle.chunk_laws.proofs.LineBlocks.{landed_written}
-use Rattle.chunk_laws.proofs.LineStripes.{stripe_count}
-use Rattle.chunk_laws.proofs.MediaChunks.{chunk_of_media}
-use Rattle.chunk_laws.proofs.StripePlaces.{kth_place}
-use Rattle.chunk_laws.proofs.UnitLogs.{chunk_fits}
+use Rattle.world_laws.proofs.LineBlocks.{landed_written}
+use Rattle.world_laws.proofs.LineStripes.{stripe_count}
+use Rattle.world_laws.proofs.MediaChunks.{chunk_of_media}
+use Rattle.world_laws.proofs.StripePlaces.{kth_place}
+use Rattle.world_laws.proofs.UnitLogs.{chunk_fits}
 use Rattle.core_laws.specs.SimpleMounts.{IsSimpleMount}
-use Rattle.core_laws.proofs.Numbers.{life_at}
+use Rattle.core_laws.proofs.OpeningNumbers.{life_at}
 use Rattle.core_laws.proofs.PlainWorldsLemmas.{not_lost}
 use Rattle.core_laws.proofs.SimpleMounts.{engine_plain}
 

@@ -24,7 +24,7 @@ use Rattle.pblk_laws.specs.LineBlocks.{chunk_in}
 use Rattle.core_laws.specs.FaultlessMounts.{IsFaultlessMount}
 use Rattle.core_laws.specs.PlacerOf.{unanswered_on}
 use Rattle.core_laws.proofs.FaultlessMounts.{still_faultless}
-use Rattle.placing_laws.proofs.Begun.{begun_once}
+use Rattle.core_laws.proofs.BegunOnce.{begun_once}
 use Rattle.step_laws.specs.Whole.{engine_step, unit_step, reset_of, after_reset_of, after_noted_reset, IsLevel, IsKnown}
 use Rattle.step_laws.proofs.ChunkEvents.{chunk_beside, chunk_here}
 use Rattle.step_laws.proofs.EngineSteps.{engine_next}

@@ -11,8 +11,8 @@ use Rattle.pblk_model.specs.Image.{Image}
 use Rattle.pblk_world.specs.Events.{Event, Logged, Step}
 use Rattle.pblk_world.specs.World.{World, Logs, log_of, known, cut_logs}
 use Rattle.pblk_world.specs.Legal.{IsAllowed, IsKnowledge, IsLegalStep, IsLegal}
-use Rattle.placed_laws.specs.StripePrograms.{HasHappened}
-use Rattle.placed_laws.proofs.Happened.{happened}
+use Rattle.core_laws.specs.StripePrograms.{HasHappened}
+use Rattle.core_laws.proofs.Happened.{happened}
 use Rattle.step_laws.specs.Whole.{knows_all}
 use Rattle.lemmas.proofs.Numbers.{fun_same}
 use Rattle.pblk_world.proofs.WorldLemmas.{log_elsewhere}

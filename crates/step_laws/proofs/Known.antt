@@ -12,8 +12,8 @@ use Rattle.pblk_world.specs.World.{World, Logs, log_of, media, unit_event_of, un
 use Rattle.pblk_world.specs.EngineLog.{begun_by}
 use Rattle.pblk_world.specs.Legal.{IsLegal}
 use Rattle.pblk_world.specs.Lines.{told_by, known_image}
-use Rattle.line_laws.proofs.KeptRows.{known_kept}
-use Rattle.placing_laws.proofs.KnownImages.{known_one_more}
+use Rattle.core_laws.proofs.KeptRows.{known_kept}
+use Rattle.core_laws.proofs.KnownImages.{known_one_more}
 use Rattle.step_laws.specs.Whole.{knows_all, engine_step, unit_step, fetch_of, noted, IsKnown}
 use Rattle.step_laws.proofs.ChunkEvents.{same_images}
 use Rattle.step_laws.proofs.EngineSteps.{engine_logs, media_still}

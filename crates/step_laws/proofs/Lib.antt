@@ -17,3 +17,14 @@ pub mod Given
 pub mod UnitEvents
 pub mod Readied
 pub mod Worlds
+pub mod Borne
+pub mod LineAddresses
+pub mod LiveUnits
+pub mod HeldSectors
+pub mod ReadBlocks
+pub mod FoundLines
+pub mod FoundRecords
+pub mod EntryBlocks
+pub mod WinnerBlocks
+pub mod SlotBlocks
+pub mod LatestSectors

@@ -11,10 +11,10 @@ use Rattle.pblk_world.specs.World.{World, log_of, media, unit_events}
 use Rattle.pblk_world.specs.EngineLog.{Placed, placed_on}
 use Rattle.pblk_world.specs.Commanding.{ended_stripes, has_stopped}
 use Rattle.lemmas.proofs.Parts.{all_at, got_within}
-use Rattle.opening_laws.proofs.FitMedia.{media_fit}
+use Rattle.world_laws.proofs.FitMedia.{media_fit}
 use Rattle.world_laws.specs.LegalMounts.{IsLegalMount}
-use Rattle.chunk_laws.proofs.Lives.{IsPlacedIn, placed_in}
-use Rattle.chunk_laws.proofs.NextPrograms.{next_program_taken}
+use Rattle.world_laws.proofs.NextLives.{IsPlacedIn, placed_in}
+use Rattle.world_laws.proofs.NextPrograms.{next_program_taken}
 
 pub program_is_taken : (i : Image) (w : World) (unit : ℕ) (p : Placed) → IsLegalMount i w → unit < units i.shape
     → slice_get (placed_on (log_of w 0) unit) (ended_stripes (log_of w (suc unit))) ≡ Some p → has_stopped (unit_events (log_of w) unit) ≡ false

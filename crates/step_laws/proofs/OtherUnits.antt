@@ -24,10 +24,10 @@ use Rattle.core_laws.specs.OpenedLines.{bits_of, live_now, as_opened, with_outco
 use Rattle.core_laws.specs.PlacerOf.{entries_of, unanswered_on, waits_again, row_of_program, program_of_stripe, row_in, row_of, number_of, placing_of}
 use Rattle.core_laws.specs.RowsOf.{rows_of}
 use Rattle.core_laws.specs.SlotOf.{address_in, readable_block, media_of, slot_of_winner, slot_by, slot_of}
-use Rattle.line_laws.specs.Known.{AreKnown}
-use Rattle.line_laws.specs.Plain.{NoneFreed}
-use Rattle.line_laws.proofs.KnownLines.{rows_known, room_known}
-use Rattle.placed_laws.specs.LeftOpenings.{left_openings}
+use Rattle.core_laws.specs.KnownLogs.{AreKnown}
+use Rattle.core_laws.specs.PlainLogs.{NoneFreed}
+use Rattle.core_laws.proofs.KnownLines.{rows_known, room_known}
+use Rattle.core_laws.specs.LeftOpenings.{left_openings}
 use Rattle.lemmas.proofs.Maps.{filter_same, made_same, map_same}
 use Rattle.lemmas.proofs.Numbers.{fun_same}
 

@@ -15,9 +15,9 @@ use Rattle.pblk_world.specs.Commanding.{ended_stripes}
 use Rattle.core_laws.specs.FaultlessMounts.{IsFaultlessMount}
 use Rattle.core_laws.specs.SimpleMounts.{IsSimpleMount}
 use Rattle.core_laws.specs.PlacerOf.{unanswered_on}
-use Rattle.core_laws.proofs.Turns.{filtered_is}
-use Rattle.placing_laws.proofs.KeptLines.{all_online}
-use Rattle.placing_laws.proofs.Offered.{live_inside as live_within}
+use Rattle.core_laws.proofs.UnitTurns.{filtered_is}
+use Rattle.core_laws.proofs.KeptLines.{all_online}
+use Rattle.core_laws.proofs.OfferedStripes.{live_inside as live_within}
 use Rattle.step_laws.specs.Whole.{unit_step, program_of}
 use Rattle.step_laws.proofs.StripeBlocks.{placed_are_blocks}
 use Rattle.step_laws.proofs.UnitSteps.{program_next}

@@ -25,7 +25,7 @@ use Rattle.pblk_laws.proofs.Starts.{spelled, start_bytes_are}
 use Rattle.core_laws.specs.PlainWorlds.{is_plain_event}
 use Rattle.core_laws.specs.SimpleMounts.{IsSimpleMount}
 use Rattle.core_laws.proofs.SimpleMounts.{engine_plain}
-use Rattle.landing_laws.proofs.Keeping.{IsKept, kept}
+use Rattle.core_laws.proofs.KeptByEvents.{IsKept, kept}
 use Rattle.lemmas.proofs.Lists.{all_append, all_replicated, with_last}
 use Rattle.lemmas.proofs.Maps.{all_filter, all_mapped}
 use Rattle.lemmas.proofs.Parts.{all_dropped, all_taken}

@@ -21,8 +21,8 @@ use Rattle.core_laws.specs.SimpleMounts.{IsSimpleMount}
 use Rattle.core_laws.specs.SlotOf.{slot_of}
 use Rattle.core_laws.specs.WindowOf.{window_from}
 use Rattle.core_laws.proofs.SimpleMounts.{engine_plain}
-use Rattle.line_laws.proofs.PlainLogs.{none_freed}
-use Rattle.placed_laws.specs.LeftOpenings.{left_openings}
+use Rattle.core_laws.proofs.PlainLogs.{none_freed}
+use Rattle.core_laws.specs.LeftOpenings.{left_openings}
 use Rattle.step_laws.specs.Whole.{unit_step}
 use Rattle.step_laws.proofs.OtherUnits.{with_units, AreAlike, room_beside, rows_beside, live_beside, line_beside, left_beside, lines_beside, older_rows_beside, slot_beside, placing_beside}
 use Rattle.step_laws.proofs.UnitSteps.{engine_log}

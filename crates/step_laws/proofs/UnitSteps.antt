@@ -23,9 +23,9 @@ use Rattle.pblk_laws.specs.LineBlocks.{chunk_in}
 use Rattle.core_laws.specs.FaultlessMounts.{AreAnswered, IsFaultlessMount, is_answered}
 use Rattle.core_laws.specs.PlacerOf.{unanswered_on}
 use Rattle.core_laws.proofs.FaultlessMounts.{still_faultless}
-use Rattle.placing_laws.proofs.Begun.{begun_once}
-use Rattle.placed_laws.specs.StripePrograms.{HasHappened}
-use Rattle.placed_laws.proofs.Happened.{happened}
+use Rattle.core_laws.proofs.BegunOnce.{begun_once}
+use Rattle.core_laws.specs.StripePrograms.{HasHappened}
+use Rattle.core_laws.proofs.Happened.{happened}
 use Rattle.step_laws.specs.Whole.{engine_step, unit_step, is_made_by, commands_of, program_of}
 use Rattle.step_laws.proofs.Knowing.{known_whole, next_step}
 use Rattle.step_laws.proofs.NextProgram.{program_is_taken}

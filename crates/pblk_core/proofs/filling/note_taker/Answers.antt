@@ -1,5 +1,5 @@
 use Rattle.std.proofs.Common.{sym, ap, ◌∙◌}
-use Rattle.line_laws.specs.Changes.{note_by}
+use Rattle.core_laws.specs.ChangedTables.{note_by}
 use Rattle.pblk_core.proofs.FillingRows.{noted_once}
 use Rattle.pblk_core.proofs.filling.note_taker.Goals as goal
 

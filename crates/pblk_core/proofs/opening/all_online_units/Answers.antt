@@ -3,7 +3,7 @@ use Rattle.std.proofs.lemmas.List.FromFn.{map-range_with_len_more}
 use Rattle.pblk_model.specs.Shape.{units}
 use Rattle.core_laws.specs.OpenedLines.{bits_of}
 use Rattle.core_laws.proofs.UnitBits.{bits_again}
-use Rattle.begin_laws.specs.OnlineUnits.{online_bits}
+use Rattle.core_laws.specs.OnlineUnits.{online_bits}
 use Rattle.pblk_core.proofs.opening.all_online_units.Goals as goal
 
 pub loop-line-preserved : goal.loop-line-preserved

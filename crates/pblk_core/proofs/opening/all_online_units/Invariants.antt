@@ -1,5 +1,5 @@
 use Rattle.std.proofs.Common.{◌≡◌}
-use Rattle.begin_laws.specs.OnlineUnits.{all_online}
+use Rattle.core_laws.specs.OnlineUnits.{all_online}
 use Rattle.pblk_core.proofs.opening.all_online_units.Given as goal
 
 abbrev pub invariant-loop-line : goal.invariant-loop-line

@@ -1,4 +1,4 @@
-use Rattle.chunk_laws.proofs.SealedMedia.{media_sealed}
+use Rattle.world_laws.proofs.SealedMedia.{media_sealed}
 use Rattle.prefix_law.proofs.laws.the_media_are_sealed.Goals as goal
 
 pub returns : goal.returns

@@ -4,7 +4,7 @@ use Rattle.std.proofs.lemmas.Result.{err_from_is_err_and}
 use Rattle.unit_port.proofs.Units.{kept_more}
 use Rattle.pblk_layout.specs.Live.{units_in}
 use Rattle.pblk_laws.specs.LineBlocks.{written_at}
-use Rattle.found_laws.specs.Finding.{NoneOpen}
+use Rattle.world_laws.specs.Finding.{NoneOpen}
 use Rattle.scan_recovery.specs.Units.{image_of}
 use Rattle.scan_recovery.proofs.FetchLines.{line_short, unit_placed, block_placed, placed_by, blocks_more, blocks_all}
 use Rattle.scan_recovery.proofs.FetchSteps.{fetched_joined}

@@ -2,7 +2,7 @@ use Rattle.std.proofs.Common.{◌≡◌, ℕ, Option, length, map}
 use Rattle.std.specs.List.{filter_map, range_with_len}
 use Rattle.std.specs.Option.{option_map}
 use Rattle.pblk_model.specs.Records.{Record}
-use Rattle.found_laws.specs.Finding.{winner_with}
+use Rattle.world_laws.specs.Finding.{winner_with}
 use Rattle.scan_recovery.specs.Traces.{IsTable, bare}
 use Rattle.scan_recovery.proofs.finding.winners_in.Given as goal
 

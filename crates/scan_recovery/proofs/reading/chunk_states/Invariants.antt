@@ -1,6 +1,6 @@
 use Rattle.std.proofs.Common.{◌≡◌, map, take}
 use Rattle.std.specs.List.{flat_map}
-use Rattle.found_laws.specs.Finding.{taken_state}
+use Rattle.world_laws.specs.Finding.{taken_state}
 use Rattle.scan_recovery.specs.Units.{image_of}
 use Rattle.scan_recovery.proofs.reading.chunk_states.Given as goal
 

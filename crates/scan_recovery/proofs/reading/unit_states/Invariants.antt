@@ -1,7 +1,7 @@
 use Rattle.std.proofs.Common.{◌≡◌, ◌++◌, List, Some, map, take}
 use Rattle.std.specs.List.{slice_get}
 use Rattle.pblk_model.specs.Chunk.{Chunk}
-use Rattle.found_laws.specs.Finding.{taken_state}
+use Rattle.world_laws.specs.Finding.{taken_state}
 use Rattle.scan_recovery.specs.Units.{image_of}
 use Rattle.scan_recovery.proofs.reading.unit_states.Given as goal
 

@@ -1,7 +1,7 @@
 use Rattle.std.proofs.Common.{◌≡◌, map, Some, None, sym, subst, ◌+◌, ◌∙◌, arith}
 use Rattle.std.proofs.lemmas.Result.{err_from_is_err_and}
 use Rattle.unit_port.proofs.Units.{kept_more}
-use Rattle.found_laws.specs.Finding.{NoneOpen}
+use Rattle.world_laws.specs.Finding.{NoneOpen}
 use Rattle.scan_recovery.specs.Survey.{IsSurvey}
 use Rattle.scan_recovery.specs.Units.{image_of}
 use Rattle.scan_recovery.proofs.FetchSteps.{fetched_joined}

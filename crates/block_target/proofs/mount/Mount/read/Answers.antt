@@ -3,9 +3,9 @@ use Rattle.pblk_core.specs.Named.{pad_of}
 use Rattle.pblk_core.proofs.WaitingEntries.{sectors_sized}
 use Rattle.l2p_map.specs.declared.slot.Slot.TheVariants.{Unwritten, Cached, Media}
 use Rattle.core_laws.specs.SlotOf.{slot_of}
-use Rattle.look_laws.specs.SlotBlocks.{IsBlockOfSlot}
-use Rattle.look_laws.proofs.SlotBlocks.{on_the_drive}
-use Rattle.look_laws.proofs.LatestSectors.{unwritten_zeros, media_latest}
+use Rattle.step_laws.specs.SlotBlocks.{IsBlockOfSlot}
+use Rattle.step_laws.proofs.SlotBlocks.{on_the_drive}
+use Rattle.step_laws.proofs.LatestSectors.{unwritten_zeros, media_latest}
 use Rattle.block_target.specs.Mount.{MountView, IsSound, IsFetchable, logs_in, world_in, latest, mount_view}
 use Rattle.block_target.proofs.ReadLook.{latest_at, cached_sector, cached_is_held, line_inside, line_live, at_inside, fetchable, zeros_are}
 use Rattle.block_target.proofs.mount.Mount.read.Goals as goal

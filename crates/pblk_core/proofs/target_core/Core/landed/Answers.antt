@@ -11,7 +11,7 @@ use Rattle.stripe_placer.specs.Placing.{Program, Placing, program}
 use Rattle.stripe_placer.specs.Placing.UnitRow.{UnderWay}
 use Rattle.std.specs.List.{Contains}
 use Rattle.write_window.specs.Window.{WindowView, IsHeld, has_landed_at}
-use Rattle.landing_laws.proofs.Latest.{set_length}
+use Rattle.core_laws.proofs.HistorySectors.{set_length}
 use Rattle.pblk_core.specs.Landing.{all_landed}
 use Rattle.pblk_core.specs.Readable.{all_moved, all_readable, reads_of}
 use Rattle.pblk_core.specs.Slots.{landed_slot}
@@ -28,7 +28,7 @@ use Rattle.line_table.specs.declared.row.LineState.{LineState}
 use Rattle.line_table.specs.declared.row.LineState.TheVariants.{Full}
 use Rattle.line_table.specs.declared.row.Row.{Row}
 use Rattle.line_table.specs.Rows.{Table, IsChange}
-use Rattle.line_laws.specs.Changes.{with_row, full_if}
+use Rattle.core_laws.specs.ChangedTables.{with_row, full_if}
 use Rattle.pblk_core.specs.Entries.{noted_lines}
 use Rattle.pblk_core.proofs.LandedLogs.{one_less_under_way}
 use Rattle.pblk_core.proofs.NotedEntries.{noted_row, note_length, note_shape}

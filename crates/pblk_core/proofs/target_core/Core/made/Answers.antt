@@ -3,9 +3,9 @@ use Rattle.std.specs.Prelude.{slice_get}
 use Rattle.std.specs.FinMap as fin
 use Rattle.pblk_model.specs.declared.shape.Shape.{Shape}
 use Rattle.stripe_placer.specs.Placing.{nothing_placed}
-use Rattle.found_laws.specs.Beginnings.{seq_after}
-use Rattle.begin_laws.specs.OnlineUnits.{all_online}
-use Rattle.begin_laws.specs.OpeningTables.{IsOpeningTable, slot_found}
+use Rattle.world_laws.specs.MountBeginnings.{seq_after}
+use Rattle.core_laws.specs.OnlineUnits.{all_online}
+use Rattle.core_laws.specs.OpeningTables.{IsOpeningTable, slot_found}
 use Rattle.pblk_core.specs.OlderLines.{older_found}
 use Rattle.pblk_core.specs.Resets.{resets_found}
 use Rattle.pblk_core.proofs.FitFindings.{stray_inside, head_inside, small_seq, opening_table}

@@ -5,7 +5,7 @@ use Rattle.pblk_model.specs.declared.chunk.Mark.{Mark}
 use Rattle.pblk_model.specs.Chunk.{Block}
 use Rattle.stripe_placer.specs.declared.placement.StripeKind.{StripeKind}
 use Rattle.stripe_placer.specs.declared.placement.StripeKind.TheVariants as kinds
-use Rattle.placing_laws.specs.StripeFor.{IsStripeFor}
+use Rattle.core_laws.specs.StripeFor.{IsStripeFor}
 use Rattle.pblk_core.specs.Entries.{entry_blocks, placed_lines, placed_rows}
 use Rattle.pblk_core.specs.Filling.{Filling, followed_by}
 use Rattle.pblk_core.specs.LineRecords.{blocks_at_start, blocks_at_end, end_begins}

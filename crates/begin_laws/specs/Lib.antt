@@ -1,3 +1,0 @@
-pub mod JustBegun
-pub mod OnlineUnits
-pub mod OpeningTables

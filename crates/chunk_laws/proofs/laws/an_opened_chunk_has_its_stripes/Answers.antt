@@ -1,6 +1,0 @@
-use Rattle.chunk_laws.proofs.LifeBlocks.{blocks_of_life, done_stands}
-use Rattle.chunk_laws.proofs.OpenedChunks.{empty_at_base}
-use Rattle.chunk_laws.proofs.laws.an_opened_chunk_has_its_stripes.Goals as goal
-
-pub returns : goal.returns
-returns c = record { empty = empty_at_base; blocks = blocks_of_life; done = done_stands }

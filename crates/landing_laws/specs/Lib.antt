@@ -1,3 +1,0 @@
-pub mod ChunkBlocks
-pub mod Advanced
-pub mod ReadSlots

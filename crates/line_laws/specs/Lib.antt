@@ -1,8 +1,0 @@
-pub mod LeastFree
-pub mod OpenAddresses
-pub mod Changes
-pub mod Plain
-pub mod PlacedEntries
-pub mod InOrder
-pub mod Known
-pub mod LandedStripes

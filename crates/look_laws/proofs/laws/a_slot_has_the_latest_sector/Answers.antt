@@ -1,5 +1,0 @@
-use Rattle.look_laws.proofs.LatestSectors.{unwritten_zeros, latest, cached_latest, media_latest}
-use Rattle.look_laws.proofs.laws.a_slot_has_the_latest_sector.Goals as goal
-
-pub returns : goal.returns
-returns c = record { unwritten = unwritten_zeros; entry = latest; cached = cached_latest; media = media_latest }

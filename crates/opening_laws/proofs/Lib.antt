@@ -1,8 +1,0 @@
-pub mod Lines
-pub mod PaddedImages
-pub mod PaddedChunks
-pub mod EarlyLogs
-pub mod FoundImages
-pub mod FitMedia
-pub mod LosingLines
-pub mod LostImages
