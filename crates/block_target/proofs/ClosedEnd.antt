@@ -10,7 +10,7 @@ use Rattle.pblk_world.specs.Events.{Logged}
 use Rattle.pblk_world.specs.World.{media}
 use Rattle.pblk_world.specs.EngineLog.{Placed, answers, is_answered, placed_on, placements, turn}
 use Rattle.core_laws.specs.PlacerOf.{unanswered_on}
-use Rattle.core_laws.proofs.UnitTurns.{its_turn as turn_at}
+use Rattle.world_laws.proofs.UnitTurns.{turn_is as turn_at}
 use Rattle.prefix_law.proofs.Prefix.{end_where_answered}
 use Rattle.pblk_core.specs.Filling.{Filling}
 use Rattle.pblk_core.specs.declared.target_core.Core.{Core}

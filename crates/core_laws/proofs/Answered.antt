@@ -23,7 +23,8 @@ use Rattle.core_laws.specs.PlacerOf.{unanswered_on}
 use Rattle.core_laws.proofs.Steady.{as_opened_same}
 use Rattle.core_laws.proofs.OpeningNumbers.{opens_at}
 use Rattle.core_laws.proofs.StripesByPlace.{one_stripe}
-use Rattle.core_laws.proofs.UnitTurns.{filtered_is, stands_at_turn, its_unit, its_turn}
+use Rattle.world_laws.proofs.UnitTurns.{unit_is as its_unit, turn_is as its_turn}
+use Rattle.core_laws.proofs.UnitTurns.{filtered_is, stands_at_turn}
 use Rattle.core_laws.proofs.PlacedLines.{IsStanding, all_standing}
 use Rattle.lemmas.proofs.Lists.{IsAmong, length_replicate}
 use Rattle.lemmas.proofs.Maps.{found_passes, from_filter, from_map, map_same, row_at, rows_set}

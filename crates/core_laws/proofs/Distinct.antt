@@ -41,11 +41,6 @@ passing {X} f (x ∷ xs) e = go (either (f x) (list_any f xs) e) (passing f xs)
     go (inl here) rest = (x, (0, refl), here)
     go (inr there) rest = let r = rest there in (r.0, later x xs r.0 r.1, r.2)
 
-pub passed_by : {X : Type 0} (f : X → Bool) (xs : List X) (x : X) (k : ℕ) → slice_get xs k ≡ Some x → f x ≡ true → list_any f xs ≡ true
-passed_by f [] x k e passes = absurd (none-some x e)
-passed_by f (y ∷ ys) x zero e passes = or_left (f y) (list_any f ys) (ap f (same_Some y x e) ∙ passes)
-passed_by f (y ∷ ys) x (suc k) e passes = or_right (f y) (list_any f ys) (passed_by f ys x k e passes)
-
 pub in_made : {X : Type 0} (f : X → List ℕ) (xs : List X) (x : X) (k q : ℕ) → slice_get xs k ≡ Some x → IsIn (f x) q → IsIn (flat_map f xs) q
 in_made f [] x k q e is = absurd (none-some x e)
 in_made f (y ∷ ys) x zero q e is = in_first (f y) (flat_map f ys) q (subst (λ z. IsIn (f z) q) (sym (same_Some y x e)) is)

@@ -1,13 +1,14 @@
 -- What one more event of the engine leaves of what its log said before.
-use Rattle.std.proofs.Common.{◌≡◌, ℕ, ◌<◌, ◌≤◌, zero, suc, false, Some, List, [], ◌∷◌, ◌++◌, length, take, refl, sym, ap, ◌∙◌, arith, le_refl, take_all}
+use Rattle.std.proofs.Common.{◌≡◌, ℕ, ◌<◌, ◌≤◌, zero, suc, false, Some, List, [], ◌∷◌, ◌++◌, length, refl, sym, ap, ◌∙◌, arith, le_refl, take_all}
 use Rattle.std.specs.List.{AllByRecursion}
 use Rattle.std.proofs.lemmas.List.{take-append-le}
 use Rattle.std.proofs.lemmas.List.Sums.{fold-append}
 use Rattle.std.proofs.lemmas.Option.{same_Some, none-some}
-use Rattle.pblk_world.specs.Events.{EngineEvent, Event, Decides, Open, Place, Logged}
+use Rattle.pblk_world.specs.Events.{EngineEvent, Event, Decides, Open, Logged}
 use Rattle.pblk_world.specs.World.{Logs}
-use Rattle.pblk_world.specs.EngineLog.{Opening, opened_by, openings, life_of, Placed, placed_by, placements}
+use Rattle.pblk_world.specs.EngineLog.{Opening, opened_by, openings, Placed, placed_by, placements}
 use Rattle.pblk_world.specs.Victims.{engine_prefix}
+use Rattle.world_laws.proofs.Later.{its_number}
 use Rattle.core_laws.specs.Stepping.{after}
 use Rattle.core_laws.specs.PlacerOf.{stopped_by, was_stopped_on}
 use Rattle.lemmas.proofs.Maps.{numbers_below}
@@ -40,12 +41,8 @@ opened_number number knows e o h = absurd (none-some o h)
 pub openings_before : (log : List Logged) → AllByRecursion (λ o. o.number < length log) (openings log)
 openings_before log = numbers_below (λ (e : ℕ × Logged). opened_by e.0 e.1.knows e.1.event) (λ (o : Opening). o.number) (λ e o h. opened_number e.0 e.1.knows e.1.event o h) (length log) 0 log (omega arith)
 
-pub placed_number : (log : List Logged) (number : ℕ) (e : Event) (p : Placed) → placed_by log number e ≡ Some p → p.number ≡ number
-placed_number log number (Decides (Place stripe)) p h = ap (λ (x : Placed). x.number) (sym (same_Some (record { number = number; stripe = stripe; life = life_of (take number log) stripe.line }) p h))
-placed_number log number e p h = absurd (none-some p h)
-
 pub placements_before : (log : List Logged) → AllByRecursion (λ p. p.number < length log) (placements log)
-placements_before log = numbers_below (λ (e : ℕ × Logged). placed_by log e.0 e.1.event) (λ (p : Placed). p.number) (λ e p h. placed_number log e.0 e.1.event p h) (length log) 0 log (omega arith)
+placements_before log = numbers_below (λ (e : ℕ × Logged). placed_by log e.0 e.1.event) (λ (p : Placed). p.number) (λ e p h. its_number log e.0 e.1.event p h) (length log) 0 log (omega arith)
 
 -- ---- stops
 

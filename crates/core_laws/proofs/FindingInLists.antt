@@ -16,14 +16,6 @@ any_none {X} f (x ∷ xs) e = go (f x) e (any_none f xs)
     go true g rest = absurd cc
     go false g rest = rest g
 
-pub some_any : {X : Type 0} (f : X → Bool) (xs : List X) (y : X) → find f xs ≡ Some y → list_any f xs ≡ true
-some_any f [] y e = absurd (none-some y e)
-some_any {X} f (x ∷ xs) y e = go (f x) e (some_any f xs y)
-  where
-    go : (b : Bool) → cond b (Some x) (find f xs) ≡ Some y → (find f xs ≡ Some y → list_any f xs ≡ true) → (b || list_any f xs) ≡ true
-    go true g rest = refl
-    go false g rest = rest g
-
 -- the only element that passes
 pub find_unique : {X : Type 0} (f : X → Bool) (xs : List X) (k : ℕ) (y : X) → slice_get xs k ≡ Some y → f y ≡ true → AllByRecursion (λ x. f x ≡ true → x ≡ y) xs → find f xs ≡ Some y
 find_unique f [] k y at passes all = absurd (none-some y at)

@@ -1,12 +1,8 @@
 -- The units of lines, by the states that were found.
-use Rattle.std.proofs.Common.{◌≡◌, ℕ, ◌<◌, Some, None, Option, List, [], ◌∷◌, cond, refl, sym, ap, ◌∙◌, arith}
+use Rattle.std.proofs.Common.{◌≡◌, ℕ, ◌<◌, sym, ap, ◌∙◌, arith}
 use Rattle.std.specs.Prelude.{map}
-use Rattle.std.specs.List.{filter, filter_map, cons_option, range_with_len}
-use Rattle.pblk_model.specs.declared.chunk.ChunkState.{ChunkState}
-use Rattle.pblk_model.specs.declared.chunk.ChunkState.TheVariants.{Free, Open, Closed, Offline}
+use Rattle.std.specs.List.{range_with_len}
 use Rattle.pblk_model.specs.declared.found.Found.{Found}
-use Rattle.pblk_model.specs.Shape.{units}
-use Rattle.pblk_model.specs.Found.{live_unit, state_at}
 use Rattle.pblk_model.specs.Image.{Image, line_units}
 use Rattle.pblk_world.specs.World.{Logs}
 use Rattle.core_laws.specs.OpenedLines.{bits_of, live_now}

@@ -16,15 +16,15 @@ use Rattle.pblk_world.specs.World.{Logs}
 use Rattle.pblk_world.specs.EngineLog.{LineLife, Opened, is_as_found, is_life, life_of, Opening, Placed, placements, placed_on, stripes_of, Answer, DidLand, WasLost, answers, turn, is_land, is_loss, has_landed}
 use Rattle.pblk_world.specs.Lines.{known_image, chunks_of, is_over_state, are_over}
 use Rattle.pblk_world.specs.Victims.{engine_prefix}
-use Rattle.core_laws.proofs.UnitTurns.{filtered_is, its_turn}
+use Rattle.world_laws.proofs.UnitTurns.{turn_is as its_turn}
+use Rattle.core_laws.proofs.UnitTurns.{filtered_is}
 use Rattle.core_laws.proofs.PlacedInOrder.{HaveNoLoss}
-use Rattle.core_laws.proofs.Distinct.{passed_by}
 use Rattle.core_laws.proofs.Columns.{few_in_column}
 use Rattle.core_laws.proofs.KnownChunks.{by_prefixes, chunk_in, chunk_of_live, each_chunk, unit_is_live, one_column}
 use Rattle.core_laws.specs.StripeTurns.{IsAtTurn}
 use Rattle.core_laws.proofs.GoingLines.{landed_on, landed_grows, landed_in_stripes, IsFilling, IsGoing, column_is_few}
 use Rattle.lemmas.proofs.Lists.{IsAmong}
-use Rattle.lemmas.proofs.Maps.{filters_swap, from_filter, in_filter}
+use Rattle.lemmas.proofs.Maps.{any_member, filters_swap, from_filter, in_filter}
 use Rattle.lemmas.proofs.Parts.{all_at, got_within, take_next}
 use Rattle.lemmas.proofs.Tests.{same_number}
 
@@ -120,7 +120,7 @@ all_placed i logs k line o wide is whole =
 -- and each of them has landed
 past_part : {X : Type 0} (f : X → Bool) (xs : List X) (m j : ℕ) (x : X) → m ≤ j → slice_get xs j ≡ Some x → f x ≡ true → length (filter f (take m xs)) + 1 ≤ length (filter f xs)
 past_part f [] m j x h e p = absurd (none-some x e)
-past_part {X} f (y ∷ xs) zero j x h e p = some (passed_by f (y ∷ xs) x j e p) (filter_some f (y ∷ xs))
+past_part {X} f (y ∷ xs) zero j x h e p = some (any_member f (y ∷ xs) j x e p) (filter_some f (y ∷ xs))
   where
     filter_some : (f : X → Bool) (zs : List X) → list_any f zs ≡ true → 0 < length (filter f zs)
     filter_some f [] e = absurd cc

@@ -27,12 +27,13 @@ use Rattle.core_laws.specs.SimpleMounts.{IsSimpleMount}
 use Rattle.core_laws.proofs.SimpleMounts.{engine_plain}
 use Rattle.core_laws.proofs.OpeningNumbers.{life_at}
 use Rattle.core_laws.proofs.Opening.{placed_before}
-use Rattle.core_laws.proofs.UnitTurns.{its_unit}
+use Rattle.world_laws.proofs.UnitTurns.{unit_is as its_unit}
+use Rattle.world_laws.proofs.Placements.{still_placed}
 use Rattle.core_laws.specs.StripePrograms.{HasHappened, IsProgramDone}
 use Rattle.core_laws.proofs.PlacedInOrder.{HaveNoLoss, no_loss_after}
 use Rattle.core_laws.proofs.StandingOpenings.{opening_at, life_there}
 use Rattle.core_laws.proofs.StripeBlocks.{have_blocks, wide_after}
-use Rattle.core_laws.proofs.Happened.{happened, landed_at, placed_by_prefix}
+use Rattle.core_laws.proofs.Happened.{happened, landed_at}
 use Rattle.core_laws.proofs.ImagesThen.{known_by_prefix}
 use Rattle.core_laws.proofs.LiveChunks.{live_next}
 use Rattle.core_laws.proofs.KnownChunks.{by_prefixes, units_by_live, chunk_in, is_on, live_chunk, chunk_untold, each_chunk, known_empty}
@@ -258,7 +259,7 @@ landed_step i w simple k u n knows there is lines =
     landed_at i w simple.mount.legal k u n (record { event = Decides (Landed u n); knows = knows }) may.0 is may.1 may.2 in
     let room : length (answers (take k (log_of w 0)) u) < length (placed_on (take k (log_of w 0)) u) = subst (λ (xs : List Logged). length (answers xs u) < length (placed_on xs u)) own may.2.stripe.placed in
     let q : (p : Placed) × (slice_get (placed_on (take k (log_of w 0)) u) (length (answers (take k (log_of w 0)) u)) ≡ Some p) = got_within (placed_on (take k (log_of w 0)) u) (length (answers (take k (log_of w 0)) u)) room in
-    let final : slice_get (placed_on (log_of w 0) u) (length (answers (take k (log_of w 0)) u)) ≡ Some q.0 = placed_by_prefix (log_of w 0) k u (length (answers (take k (log_of w 0)) u)) q.0 q.1 in
+    let final : slice_get (placed_on (log_of w 0) u) (length (answers (take k (log_of w 0)) u)) ≡ Some q.0 = still_placed k (log_of w 0) u (length (answers (take k (log_of w 0)) u)) q.0 q.1 in
     let one : at.0 ≡ q.0 = same_Some at.0 q.0 (sym at.1 ∙ final) in
     let done : IsProgramDone (log_of w) u n q.0 = subst (IsProgramDone (log_of w) u n) one at.2 in
     let among : IsAmong (placements (take k (log_of w 0))) q.0 = from_filter (λ (p : Placed). p.stripe.unit == u) (placements (take k (log_of w 0))) q.0 (length (answers (take k (log_of w 0)) u), q.1) in

@@ -13,7 +13,7 @@ use Rattle.pblk_world.specs.Space.{is_readable_in, gives_back, freed}
 use Rattle.pblk_world.proofs.Appending.{placements_more}
 use Rattle.pblk_world.proofs.SyncedFront.{synced_within}
 use Rattle.core_laws.specs.WindowOf.{is_given_back}
-use Rattle.core_laws.proofs.Engine.{placed_number, placements_before}
+use Rattle.core_laws.proofs.Engine.{placements_before}
 use Rattle.core_laws.proofs.Placing.{not_below}
 use Rattle.core_laws.proofs.LeastPositions.{least_rises}
 use Rattle.lemmas.proofs.Lists.{all_imply, all_of}
@@ -21,13 +21,14 @@ use Rattle.lemmas.proofs.Maps.{all_filter, filter_none}
 use Rattle.lemmas.proofs.Parts.{get_more}
 use Rattle.lemmas.proofs.Tests.{and_both, first_of, second_of}
 use Rattle.pblk_world.proofs.EngineLogLemmas.{answers_more, takes_more}
+use Rattle.world_laws.proofs.Later.{its_number}
 
 more_numbers : (log : List Logged) (e : Event) (n : ℕ) → n < length log → AllByRecursion (λ (q : Placed). nat_lt q.number n ≡ false) (option_to_list (placed_by log (length log) e))
 more_numbers log e n before = go (placed_by log (length log) e) refl
   where
     go : (o : Option Placed) → placed_by log (length log) e ≡ o → AllByRecursion (λ (q : Placed). nat_lt q.number n ≡ false) (option_to_list o)
     go None f = tt
-    go (Some q) f = let number : q.number ≡ length log = placed_number log (length log) e q f in (not_below n q.number (omega arith), tt)
+    go (Some q) f = let number : q.number ≡ length log = its_number log (length log) e q f in (not_below n q.number (omega arith), tt)
 
 pub turn_grown : (log : List Logged) (l : Logged) (r : Placed) → r.number < length log → turn (log ++ l ∷ []) r ≡ turn log r
 turn_grown log l r before =

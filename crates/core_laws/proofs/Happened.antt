@@ -1,71 +1,27 @@
 -- Each event of a legal world was allowed by the prefixes that it names, and what landed is the program of its stripe.
-use Rattle.std.proofs.Common.{◌≡◌, ◌⊎◌, inl, inr, ℕ, ◌<◌, ◌≤◌, ◌==◌, zero, suc, nat_eq, Bool, true, false, Some, List, [], ◌∷◌, ◌++◌, length, take, refl, sym, subst, ap, ap₂, ◌∙◌, arith, append_assoc, append-nil, length-append, if◌then◌else◌}
+use Rattle.std.proofs.Common.{◌≡◌, ℕ, ◌<◌, zero, suc, true, Some, List, [], ◌∷◌, length, take, refl, sym, subst, ap, ap₂, ◌∙◌, arith}
 use Rattle.std.specs.Prelude.{slice_get}
-use Rattle.std.specs.List.{filter}
-use Rattle.std.specs.Option.{option_and_then, option_to_list}
-use Rattle.std.proofs.lemmas.Bool.{eqb-true}
-use Rattle.std.proofs.lemmas.List.{take-append-le}
-use Rattle.std.proofs.lemmas.List.Elements.{filter-append}
+use Rattle.std.specs.Option.{option_and_then}
 use Rattle.std.proofs.lemmas.Option.{same_Some, none-some}
 use Rattle.pblk_model.specs.Chunk.{Chunk}
 use Rattle.pblk_model.specs.ChunkStep.{ChunkCommand, Write, Read, Reset}
 use Rattle.pblk_model.specs.UnitLog.{UnitEvent}
 use Rattle.pblk_model.specs.Image.{Image}
-use Rattle.pblk_world.specs.Events.{Landed, Event, Decides, Does, Logged, Step}
+use Rattle.pblk_world.specs.Events.{Landed, Event, Decides, Does, Logged}
 use Rattle.pblk_world.specs.World.{World, Logs, log_of, known, prefixes, unit_event_of}
-use Rattle.pblk_world.specs.EngineLog.{Begun, begun, Placed, placed_by, placements, placed_on, answers}
+use Rattle.pblk_world.specs.EngineLog.{Begun, begun, Placed, placed_on, answers}
 use Rattle.pblk_world.specs.Commanding.{is_program, ended_stripes, IsCommand, MayDo}
 use Rattle.pblk_world.specs.Answering.{MayLand}
-use Rattle.pblk_world.specs.Legal.{IsAllowed, IsLegalStep, IsLegal}
-use Rattle.pblk_world.proofs.Appending.{placements_more}
-use Rattle.pblk_world.proofs.Growing.{at_end}
+use Rattle.pblk_world.specs.Legal.{IsAllowed, IsLegal}
+use Rattle.world_laws.proofs.NamedPrefixes.{IsByPrefixes, was_made}
+use Rattle.world_laws.proofs.Placements.{still_placed}
 use Rattle.core_laws.specs.StripePrograms.{HasHappened, IsProgramDone}
-use Rattle.lemmas.proofs.Numbers.{fun_same}
-use Rattle.lemmas.proofs.Parts.{get_more, get_whole}
-
-cut_longer : (s : Step) (w : World) (l : Logged) → ((other : ℕ) → known l other ≤ length (log_of w other)) → prefixes l (log_of (s ∷ w)) ≡ prefixes l (log_of w)
-cut_longer s w l within = fun_same (prefixes l (log_of (s ∷ w))) (prefixes l (log_of w)) (λ other. go (nat_eq s.author other) other (within other))
-  where
-    go : (b : Bool) (other : ℕ) → known l other ≤ length (log_of w other) → take (known l other) (if b then log_of w other ++ s.logged ∷ [] else log_of w other) ≡ take (known l other) (log_of w other)
-    go true other h = take-append-le (known l other) (log_of w other) (s.logged ∷ []) h
-    go false other h = refl
-
-longer : (s : Step) (w : World) (other n : ℕ) → n ≤ length (log_of w other) → n ≤ length (log_of (s ∷ w) other)
-longer s w other n h = go (nat_eq s.author other)
-  where
-    go : (b : Bool) → n ≤ length (if b then log_of w other ++ s.logged ∷ [] else log_of w other)
-    go true = omega (arith, length-append (log_of w other) (s.logged ∷ []))
-    go false = h
-
-happened_longer : (i : Image) (s : Step) (w : World) (author k : ℕ) (l : Logged) → HasHappened i (log_of w) author k l → HasHappened i (log_of (s ∷ w)) author k l
-happened_longer i s w author k l is = record {
-  own = is.own;
-  within = λ other. longer s w other (known l other) (is.within other);
-  allowed = subst (λ (logs : Logs). IsAllowed i author l.event logs) (sym (cut_longer s w l is.within)) is.allowed;
-}
-
-happens : (i : Image) (s : Step) (w : World) (author : ℕ) → IsLegalStep i (log_of w) s → s.author ≡ author → HasHappened i (log_of (s ∷ w)) author (length (log_of w author)) s.logged
-happens i s w author step same = subst (λ a. HasHappened i (log_of (s ∷ w)) a (length (log_of w a)) s.logged) same (record {
-  own = step.knowledge.own;
-  within = λ other. longer s w other (known s.logged other) (step.knowledge.within other);
-  allowed = subst (λ (logs : Logs). IsAllowed i s.author s.logged.event logs) (sym (cut_longer s w s.logged step.knowledge.within)) step.allowed;
-})
-
-happened_by : (i : Image) (s : Step) (w : World) (author : ℕ) → IsLegalStep i (log_of w) s → ((k : ℕ) (l : Logged) → slice_get (log_of w author) k ≡ Some l → HasHappened i (log_of w) author k l)
-    → (b : Bool) → (s.author == author) ≡ b → (k : ℕ) (l : Logged) → slice_get (if b then log_of w author ++ s.logged ∷ [] else log_of w author) k ≡ Some l → HasHappened i (log_of (s ∷ w)) author k l
-happened_by i s w author step rest false e k l there = happened_longer i s w author k l (rest k l there)
-happened_by i s w author step rest true e k l there = go (at_end (log_of w author) s.logged l k there)
-  where
-    go : (slice_get (log_of w author) k ≡ Some l) ⊎ ((k ≡ length (log_of w author)) × (s.logged ≡ l)) → HasHappened i (log_of (s ∷ w)) author k l
-    go (inl old) = happened_longer i s w author k l (rest k l old)
-    go (inr new) =
-        subst (λ (m : Logged). HasHappened i (log_of (s ∷ w)) author k m) new.1
-        (subst (λ n. HasHappened i (log_of (s ∷ w)) author n s.logged) (sym new.0) (happens i s w author step (eqb-true s.author author e)))
+use Rattle.lemmas.proofs.Parts.{get_whole}
 
 pub happened : (i : Image) (w : World) (author : ℕ) → IsLegal i w → (k : ℕ) (l : Logged) → slice_get (log_of w author) k ≡ Some l → HasHappened i (log_of w) author k l
-unfolding IsLegal
-happened i [] author legal k l there = absurd (none-some l there)
-happened i (s ∷ w) author legal k l there = happened_by i s w author legal.0 (happened i w author legal.1) (s.author == author) refl k l there
+happened i w author legal k l there =
+    let made : IsByPrefixes i w author k l = was_made i w author k l legal there in
+    record { own = made.own; within = made.within; allowed = made.allowed }
 
 -- ---- prefixes
 
@@ -75,30 +31,6 @@ take_twice zero (suc m) [] x e = refl
 take_twice zero (suc m) (y ∷ xs) x e = refl
 take_twice (suc n) (suc m) [] x e = refl
 take_twice (suc n) (suc m) (y ∷ xs) x e = ap (λ ys. y ∷ ys) (take_twice n m xs x e)
-
-cut_at : {X : Type 0} (n : ℕ) (xs : List X) → (ys : List X) × (xs ≡ take n xs ++ ys)
-cut_at zero xs = (xs, refl)
-cut_at (suc n) [] = ([], refl)
-cut_at (suc n) (x ∷ xs) = let r = cut_at n xs in (r.0, ap (λ zs. x ∷ zs) r.1)
-
-placements_grow : (xs ys : List Logged) → (more : List Placed) × (placements (xs ++ ys) ≡ placements xs ++ more)
-placements_grow xs [] = ([], ap (λ (zs : List Logged). placements zs) (append-nil xs) ∙ sym (append-nil (placements xs)))
-placements_grow xs (y ∷ ys) =
-    let r : (more : List Placed) × (placements ((xs ++ y ∷ []) ++ ys) ≡ placements (xs ++ y ∷ []) ++ more) = placements_grow (xs ++ y ∷ []) ys in (
-      option_to_list (placed_by xs (length xs) y.event) ++ r.0,
-      ap (λ (zs : List Logged). placements zs) (sym (append_assoc xs (y ∷ []) ys)) ∙ r.1 ∙ ap (λ ps. ps ++ r.0) (placements_more xs y)
-          ∙ append_assoc (placements xs) (option_to_list (placed_by xs (length xs) y.event)) r.0,
-    )
-
--- what was placed on a unit by a prefix was placed there
-pub placed_by_prefix : (log : List Logged) (m unit k : ℕ) (p : Placed) → slice_get (placed_on (take m log) unit) k ≡ Some p → slice_get (placed_on log unit) k ≡ Some p
-placed_by_prefix log m unit k p e =
-    let cut : (ys : List Logged) × (log ≡ take m log ++ ys) = cut_at m log in
-    let grown : (more : List Placed) × (placements (take m log ++ cut.0) ≡ placements (take m log) ++ more) = placements_grow (take m log) cut.0 in
-    ap (λ (zs : List Logged). slice_get (placed_on zs unit) k) cut.1
-    ∙ ap (λ ps. slice_get (filter (λ (p : Placed). p.stripe.unit == unit) ps) k) grown.1
-    ∙ ap (λ ps. slice_get ps k) (filter-append (λ (p : Placed). p.stripe.unit == unit) (placements (take m log)) grown.0)
-    ∙ get_more (placed_on (take m log) unit) (filter (λ (p : Placed). p.stripe.unit == unit) grown.0) k p e
 
 begun_first : (log : List Logged) (m k : ℕ) (b : Begun) → 0 < m → begun (take k log) ≡ Some b → begun (take m log) ≡ Some b
 begun_first log zero k b some e = absurd (omega arith)
@@ -138,7 +70,7 @@ landed_at i w legal k unit n l b is begins may =
     ∙ ap ended_stripes (sym (take_twice n (known l (suc unit)) (log_of w (suc unit)) may.stripe.logged may.stripe.is_logged))
     ∙ may.stripe.its_turn ∙ ap (λ m. length (answers (take m (log_of w 0)) unit)) is.own in (
       at.0,
-      ap (slice_get (placed_on (log_of w 0) unit)) (sym turn) ∙ placed_by_prefix (log_of w 0) (known may.stripe.logged 0) unit (ended_stripes (take (known may.stripe.logged (suc unit)) (log_of w (suc unit)))) at.0 at.1,
+      ap (slice_get (placed_on (log_of w 0) unit)) (sym turn) ∙ still_placed (known may.stripe.logged 0) (log_of w 0) unit (ended_stripes (take (known may.stripe.logged (suc unit)) (log_of w (suc unit)))) at.0 at.1,
       record {
         event = may.program;
         is_event = ap (option_and_then (λ (x : Logged). unit_event_of x.event)) there ∙ event;

@@ -20,7 +20,7 @@ use Rattle.stripe_placer.specs.Entries.{waiting}
 use Rattle.stripe_placer.specs.Placing.{Program, positions_in, held}
 use Rattle.stripe_placer.specs.Placing.UnitRow.{Idle}
 use Rattle.core_laws.specs.PlacerOf.{positions_of, positions_in_stripe, fresh_entries, entries_of, waits_again, program_of_placed, row_of_program, row_in, row_of, unanswered_on, placing_of}
-use Rattle.core_laws.proofs.UnitTurns.{its_unit, its_turn}
+use Rattle.world_laws.proofs.UnitTurns.{unit_is as its_unit, turn_is as its_turn}
 use Rattle.core_laws.specs.Placed.{placed_positions, placed_count, IsInWindow}
 use Rattle.core_laws.proofs.Placed.{stripe_holds, in_range}
 use Rattle.core_laws.proofs.PlacedInOrder.{IsOrdered, in_order, lost_are_none, fresh_in_order, front_within}

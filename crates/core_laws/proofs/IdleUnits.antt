@@ -5,7 +5,7 @@ use Rattle.std.specs.List.{Contains}
 use Rattle.std.specs.Option.{is_some}
 use Rattle.pblk_world.specs.Events.{Logged}
 use Rattle.pblk_world.specs.EngineLog.{Placed, placed_on, answers, is_answered}
-use Rattle.core_laws.proofs.UnitTurns.{its_unit, its_turn}
+use Rattle.world_laws.proofs.UnitTurns.{unit_is as its_unit, turn_is as its_turn}
 use Rattle.lemmas.proofs.Parts.{got_within, is_in, some_within}
 
 -- where all stripes of a unit are answered there are as many answers

@@ -26,6 +26,7 @@ use Rattle.core_laws.proofs.PlacedLines.{life_is_before}
 use Rattle.core_laws.proofs.UnitTurns.{filtered_is}
 use Rattle.core_laws.proofs.KnownImages.{known_before}
 use Rattle.core_laws.proofs.UnitBits.{units_are}
+use Rattle.core_laws.proofs.LiveChunks.{open_on}
 use Rattle.lemmas.proofs.Lists.{IsAmong, all_imply, among_all}
 use Rattle.lemmas.proofs.Options.{mapped_some}
 use Rattle.lemmas.proofs.Parts.{all_at, contained_among, take_all}
@@ -110,25 +111,6 @@ unit_of_kind i ls o stripe (inr (inr (inl is))) = unit_of_place (known_image i l
     (next_address i.shape (ls 0) o) stripe.unit stripe.at is.next.in_order
 unit_of_kind i ls o stripe (inr (inr (inr is))) = unit_of_place (known_image i ls) stripe.line is.address stripe.unit stripe.at is.place
 
--- a line that was opened stays so where nothing is freed
-stays_open : (i : Image) (w : World) (line n : ℕ) (o : Opening) → IsLegal i w → NoneFreed (log_of w 0) → n ≤ length (log_of w 0)
-    → life_of (take n (log_of w 0)) line ≡ Opened o → life_of (log_of w 0) line ≡ Opened o
-stays_open i w line n o legal none within life = go (open_or_freed i w legal line n (length (log_of w 0) - n) o (omega arith) life)
-  where
-    go : (life_of (take (n + (length (log_of w 0) - n)) (log_of w 0)) line ≡ Opened o) ⊎ IsFreedAt i w legal line o n (n + (length (log_of w 0) - n))
-        → life_of (log_of w 0) line ≡ Opened o
-    go (inl now) =
-        let whole : length (log_of w 0) ≤ n + (length (log_of w 0) - n) = omega arith in
-        ap (λ (log : List Logged). life_of log line) (sym (take_all (log_of w 0) (n + (length (log_of w 0) - n)) whole)) ∙ now
-    go (inr freed) =
-        let no : decides is_freeing freed.logged.event ≡ false =
-        all_at (λ (l : Logged). decides is_freeing l.event ≡ false) (log_of w 0) freed.number freed.logged freed.decided.there none in
-        let yes_ : decides is_freeing freed.logged.event ≡ true = ap (decides is_freeing) freed.decided.event in
-        absurd (true_false (sym yes_ ∙ no))
-      where
-        true_false : true ≡ false → ⊥
-        true_false e = cc
-
 pub all_online : (i : Image) (w : World) → IsSimpleMount i w
     → AllByRecursion (λ p. is_live (known_image i (log_of w)) p.stripe.line p.stripe.unit ≡ true) (placements (log_of w 0))
 all_online i w m =
@@ -146,7 +128,7 @@ all_online i w m =
         let inside : p.number < length log = placed_within log p there in
         let later : may.opening.number < p.number = (opening_then log p.number p.stripe.line may.opening may.is_open).2 in
         let life : life_of log p.stripe.line ≡ Opened may.opening =
-        stays_open i w p.stripe.line p.number may.opening m.mount.legal m.engine.freed (omega arith) may.is_open in
+        open_on i w p.stripe.line p.number may.opening m.mount.legal m.engine.freed (omega arith) may.is_open in
         let units : line_units (known_image i (engine_prefix p.number (log_of w))) p.stripe.line ≡ line_units (known_image i (log_of w)) p.stripe.line =
         units_since i w p.stripe.line may.opening m.mount.legal life p.number (omega arith) (omega arith) in
         let among : IsAmong (line_units (known_image i (log_of w)) p.stripe.line) p.stripe.unit =

@@ -6,7 +6,7 @@ use Rattle.pblk_model.specs.declared.shape.Shape.{Shape}
 use Rattle.pblk_world.specs.Events.{Logged}
 use Rattle.pblk_world.specs.EngineLog.{LineLife, AsFound, Opened, Freed, is_life, Opening, Placed, placements, stripes_of, stripes_on, answer_of, is_land, is_loss, has_landed, was_lost}
 use Rattle.pblk_world.specs.Space.{landed_blocks, is_readable_in}
-use Rattle.core_laws.proofs.UnitTurns.{Rises, rise_from, rise_filtered}
+use Rattle.world_laws.proofs.UnitTurns.{Rises, rise_all, some_rise}
 use Rattle.core_laws.proofs.LandedStripe.{IsOneMore}
 use Rattle.lemmas.proofs.Lists.{IsAmong, all_imply, zipped}
 use Rattle.lemmas.proofs.Maps.{all_filter, all_passed, any_agree, filter_agree, in_filter}
@@ -65,7 +65,7 @@ on_all : (P : Placed → Type 0) (log : List Logged) (o : Opening) (unit : ℕ) 
 on_all P log o unit all = all_filter P (λ (p : Placed). p.stripe.unit == unit) (stripes_of log o) (all_filter P (λ (p : Placed). is_life o.number p.life) (placements log) all)
 
 pub on_rises : (log : List Logged) (o : Opening) (unit : ℕ) → Rises (stripes_on log o unit)
-on_rises log o unit = rise_filtered (λ (p : Placed). p.stripe.unit == unit) (stripes_of log o) (rise_filtered (λ (p : Placed). is_life o.number p.life) (placements log) (rise_from log 0 log))
+on_rises log o unit = some_rise (λ (p : Placed). p.stripe.unit == unit) (stripes_of log o) (some_rise (λ (p : Placed). is_life o.number p.life) (placements log) (rise_all log))
 
 pub its_opening : (o : Opening) (life : LineLife) → life ≡ Opened o → is_life o.number life ≡ true
 its_opening o life e = ap (is_life o.number) e ∙ same_number o.number

@@ -19,7 +19,7 @@ use Rattle.core_laws.proofs.Placing.{with_place, new_placed, IsPlacing, answer_n
 use Rattle.core_laws.proofs.Steady.{AreAlike}
 use Rattle.core_laws.proofs.Taking.{filter_last}
 use Rattle.core_laws.proofs.TakenSlots.{landed_same}
-use Rattle.core_laws.proofs.UnitTurns.{Rises, rise_from, rise_filtered}
+use Rattle.world_laws.proofs.UnitTurns.{Rises, rise_all, some_rise}
 use Rattle.core_laws.proofs.Removing.{all_first as all_left, all_second as all_right}
 use Rattle.core_laws.specs.InOrder.{HasRoom}
 use Rattle.core_laws.specs.LandedStripes.{landed_count, keeps_landed}
@@ -130,7 +130,7 @@ one_landed log unit event knows p o first its =
     let is_first : IsFirst log unit p = first_unanswered log unit p first in
     let among : IsAmong (stripes_of log o) p = in_filter (λ (q : Placed). is_life o.number q.life) (placements log) p is_first.among its in
     let split : IsSplit (stripes_of log o) p = split_at (stripes_of log o) among.0 p among.1 in
-    let rise : Rises (split.before ++ p ∷ split.after) = subst Rises split.is (rise_filtered (λ (q : Placed). is_life o.number q.life) (placements log) (rise_from log 0 log)) in
+    let rise : Rises (split.before ++ p ∷ split.after) = subst Rises split.is (some_rise (λ (q : Placed). is_life o.number q.life) (placements log) (rise_all log)) in
     let all : AllByRecursion (IsAmong (placements log)) (split.before ++ p ∷ split.after) =
     subst (AllByRecursion (IsAmong (placements log))) split.is (all_filter (IsAmong (placements log)) (λ (q : Placed). is_life o.number q.life) (placements log) (among_all (placements log))) in
     let same : (qs : List Placed) → AllByRecursion (IsAmong (placements log)) qs → AllByRecursion (λ (q : Placed). q.number ≢ p.number) qs → filter (has_landed (with_event log (Landed unit event) knows)) qs ≡ filter (has_landed log) qs = λ qs there others.

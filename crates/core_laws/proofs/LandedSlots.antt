@@ -36,7 +36,8 @@ use Rattle.core_laws.proofs.GivenBack.{IsLandedNow, of_unit_landed, readable_lif
 use Rattle.core_laws.proofs.GivenNow.{of_chunk, gives_other, gives_still, readable_own, readable_other, chunk_life, chunk_unit, IsOfChunk, chunk_members, given_now}
 use Rattle.core_laws.proofs.HeldOnce.{HeldOnce, one_holder}
 use Rattle.core_laws.proofs.StripeLines.{placed_lines, own_opening, IsOpenedFor}
-use Rattle.core_laws.proofs.FindingInLists.{any_none, some_any, find_unique, first_stays, found_within, found_in_stripe}
+use Rattle.core_laws.proofs.FindingInLists.{any_none, find_unique, first_stays, found_within, found_in_stripe}
+use Rattle.core_laws.proofs.PlacedLines.{found_any}
 use Rattle.core_laws.proofs.SteppingLemmas.{found_kept}
 use Rattle.lemmas.proofs.Lists.{IsAmong, all_imply, among_all}
 use Rattle.lemmas.proofs.Maps.{found_none, found_passes}
@@ -176,7 +177,7 @@ leaves_by i logs e knows p o q b k r is at found =
     let life : is_life o.number r.life ≡ true = chunk_life p o r of.of in
     let gives : gives_back s new q r ≡ true =
     gives_of_chunk s new o p.stripe.unit q r (of_unit_landed s log new p o is.now r of.among its) its life
-    ∙ some_any (reads_now i new p o q) (enumerate_from r.stripe.at r.stripe.blocks) b found in
+    ∙ found_any (reads_now i new p o q) (enumerate_from r.stripe.at r.stripe.blocks) b found in
     let within : (r.stripe.at ≤ b.0) × (b.0 < r.stripe.at + length r.stripe.blocks) = found_within (reads_now i new p o q) r.stripe.at r.stripe.blocks b found in
     let low : r.stripe.at ≤ b.0 = within.0 in
     let high : b.0 < r.stripe.at + length r.stripe.blocks = within.1 in

@@ -23,7 +23,7 @@ use Rattle.core_laws.proofs.GivenBack.{IsLandedNow}
 use Rattle.core_laws.proofs.GivenNow.{given_now}
 use Rattle.core_laws.proofs.Growing.{given_landed}
 use Rattle.core_laws.proofs.KeptSlots.{first_kept}
-use Rattle.core_laws.proofs.Untouched.{same_window}
+use Rattle.core_laws.proofs.WindowOfLemmas.{same_window}
 use Rattle.lemmas.proofs.Lists.{all_append}
 use Rattle.pblk_world.proofs.EngineLogLemmas.{takes_more}
 

@@ -24,7 +24,7 @@ use Rattle.core_laws.proofs.Steady.{standing_same, row_same}
 use Rattle.core_laws.proofs.Taking.{same_placing, same_entries}
 use Rattle.core_laws.proofs.PlacedLines.{IsStanding, all_standing}
 use Rattle.core_laws.proofs.Answered.{IsAnswer, IsFirst, IsAnsweredAt, answered_at, its_answer, others_answer, line_answered, none_left}
-use Rattle.lemmas.proofs.Lists.{IsAmong, all_imply, later}
+use Rattle.lemmas.proofs.Lists.{IsAmong, among_all, all_imply}
 use Rattle.lemmas.proofs.Maps.{filter_agree, filter_same, map_agree, row_at, rows_set}
 use Rattle.lemmas.proofs.Tests.{other_number, same_number}
 use Rattle.pblk_world.proofs.EngineLogLemmas.{answers_more, takes_more}
@@ -87,10 +87,6 @@ placing_answered i logs e knows pad again of a some awaited is =
 
 -- ---- the entries, where none was lost
 
-each_among : (ps : List Placed) → AllByRecursion (IsAmong ps) ps
-each_among [] = tt
-each_among (p ∷ ps) = ((0, refl), all_imply (IsAmong ps) (IsAmong (p ∷ ps)) (λ q at. later p ps q at) ps (each_among ps))
-
 kept_loss : (log new : List Logged) (unit event : ℕ) (q : Placed) → IsAnswer log new unit (DidLand event) → IsFirst log unit q → (r : Placed) → IsAmong (placements log) r → was_lost new r ≡ was_lost log r
 kept_loss log new unit event q is first r among = elim (others_answer log new unit (DidLand event) q r is first among) as (λ _. was_lost new r ≡ was_lost log r) [
   | inl same ↦
@@ -103,7 +99,7 @@ losses_same : (s : Shape) (log new : List Logged) (unit event : ℕ) (q : Placed
 losses_same s log new unit event q is first t =
     ap (λ ps. length (filter (λ p. was_lost new p && holds_position s t.entry.position p) ps)) is.placements
     ∙ ap length (filter_agree (IsAmong (placements log)) (λ p. was_lost new p && holds_position s t.entry.position p) (λ p. was_lost log p && holds_position s t.entry.position p)
-    (λ p among. ap (λ b. b && holds_position s t.entry.position p) (kept_loss log new unit event q is first p among)) (placements log) (each_among (placements log)))
+    (λ p among. ap (λ b. b && holds_position s t.entry.position p) (kept_loss log new unit event q is first p among)) (placements log) (among_all (placements log)))
 
 times_same : (s : Shape) (log new : List Logged) (t : Taken) → placements new ≡ placements log → times_placed s new t ≡ times_placed s log t
 times_same s log new t same = ap (λ ps. length (filter (holds_position s t.entry.position) ps)) same

@@ -93,7 +93,6 @@ pub mod LiveChunks
 pub mod GoingLines
 pub mod GoingSteps
 pub mod GoingAll
-pub mod BitsOfSets
 pub mod FullLines
 pub mod TwoLines
 pub mod KeptByEvents
@@ -101,7 +100,6 @@ pub mod UsersEntries
 pub mod HistorySectors
 pub mod LeastPositions
 pub mod CachedEntries
-pub mod TurnsByPlace
 pub mod LandedStripe
 pub mod Untouched
 pub mod KeptSlots

@@ -12,13 +12,14 @@ use Rattle.pblk_world.specs.Space.{landed_blocks, is_readable_in, gives_back}
 use Rattle.core_laws.specs.PlainWorlds.{ArePlain}
 use Rattle.core_laws.specs.WindowOf.{is_given_back}
 use Rattle.core_laws.proofs.Placing.{not_below}
-use Rattle.core_laws.proofs.UnitTurns.{rise_from, rise_filtered}
+use Rattle.world_laws.proofs.UnitTurns.{rise_between, rise_on}
 use Rattle.core_laws.specs.ChunkBlocks.{chunk_blocks, readable_blocks, IsInRow, AreInRows}
 use Rattle.core_laws.proofs.LandedBlocks.{on_new, on_its, on_rises, blocks_more}
 use Rattle.core_laws.proofs.GivenBack.{IsLandedNow, of_unit_landed, gives_of_chunk, times_le, rows_within}
 use Rattle.core_laws.proofs.GivenNow.{readable_plain, blocks_below, chunk_life, chunk_unit, IsOfChunk, chunk_members}
-use Rattle.core_laws.proofs.FindingInLists.{some_any, found_within, found_in_stripe}
-use Rattle.core_laws.proofs.NewlyRead.{find_below, found_any, rises_at}
+use Rattle.core_laws.proofs.FindingInLists.{found_within, found_in_stripe}
+use Rattle.core_laws.proofs.PlacedLines.{found_any as list_found}
+use Rattle.core_laws.proofs.NewlyRead.{find_below, found_any}
 use Rattle.lemmas.proofs.Lists.{IsAmong}
 use Rattle.lemmas.proofs.Maps.{any_member, filter_short, found_passes, in_filter}
 use Rattle.lemmas.proofs.Options.{some_value}
@@ -39,7 +40,7 @@ none_newer log p r is there = go (cases_order there.0 is.index)
         let equal : r.number ≡ p.number = ap (λ (x : Placed). x.number) (same_Some r p (sym there.1 ∙ ap (slice_get (placed_on log p.stripe.unit)) same ∙ is.at)) in
         omega arith
     go (inr (inl below)) =
-        let less : r.number < p.number = rises_at (placed_on log p.stripe.unit) there.0 is.index r p (rise_filtered (λ (x : Placed). x.stripe.unit == p.stripe.unit) (placements log) (rise_from log 0 log)) there.1 is.at below in
+        let less : r.number < p.number = rise_between (placed_on log p.stripe.unit) there.0 is.index r p (rise_on log p.stripe.unit) below there.1 is.at in
         omega arith
     go (inr (inr above)) =
         let inside : there.0 < length (placed_on log p.stripe.unit) = slice_get_within (placed_on log p.stripe.unit) there.0 r there.1 in
@@ -54,7 +55,7 @@ last_in_chunk log p o k is at = go (cases_order (length (stripes_on log o p.stri
     go (inr (inl below)) = omega arith
     go (inr (inr above)) =
         let next : (r : Placed) × (slice_get (stripes_on log o p.stripe.unit) (k + 1) ≡ Some r) = got_within (stripes_on log o p.stripe.unit) (k + 1) above in
-        let newer : p.number < next.0.number = rises_at (stripes_on log o p.stripe.unit) k (k + 1) p next.0 (on_rises log o p.stripe.unit) at next.1 (omega arith) in
+        let newer : p.number < next.0.number = rise_between (stripes_on log o p.stripe.unit) k (k + 1) p next.0 (on_rises log o p.stripe.unit) (omega arith) at next.1 in
         let of : IsOfChunk log p o next.0 = all_at (IsOfChunk log p o) (stripes_on log o p.stripe.unit) (k + 1) next.0 next.1 (chunk_members log p o) in
         let older : next.0.number ≤ p.number = none_newer log p next.0 is
         (in_filter (λ (x : Placed). x.stripe.unit == p.stripe.unit) (placements log) next.0 of.among (ap (λ u. u == p.stripe.unit) (chunk_unit p o next.0 of.of) ∙ same_number p.stripe.unit)) in
@@ -147,7 +148,7 @@ given_by s log new p o q b k r is newest reads at found =
     let lands : has_landed log r ≡ true = before_lands log new p r (all_at (λ (r : Placed). (r ≡ p) ⊎ (answer_of new r ≡ answer_of log r)) (placements log) of.among.0 r of.among.1 is.one_more.others) other
     (of_unit_landed s log new p o is r of.among (chunk_unit p o r of.of)) in
     any_member (gives_back s log q) (placements log) of.among.0 r of.among.1
-    (gives_of_chunk s log o p.stripe.unit q r lands (chunk_unit p o r of.of) (chunk_life p o r of.of) ∙ some_any test (enumerate_from r.stripe.at r.stripe.blocks) b found)
+    (gives_of_chunk s log o p.stripe.unit q r lands (chunk_unit p o r of.of) (chunk_life p o r of.of) ∙ list_found test (enumerate_from r.stripe.at r.stripe.blocks) b found)
 
 given_found : (s : Shape) (log new : List Logged) (p : Placed) (o : Opening) (q : ℕ) (b : ℕ × Block) → IsLandedNow s log new p o → IsNewest log p
     → find (λ (b : ℕ × Block). bears_position s q b.1 && is_readable_in s log p.stripe.unit b.0 (Opened o)) (enumerate_from 0 (chunk_blocks log o p.stripe.unit)) ≡ Some b → is_given_back s log q ≡ true

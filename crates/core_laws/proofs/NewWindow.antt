@@ -36,7 +36,7 @@ use Rattle.core_laws.proofs.LandedWindow.{landed_now, progress_now}
 use Rattle.core_laws.proofs.PlainStripes.{one_unanswered}
 use Rattle.core_laws.proofs.KeptSlots.{first_kept}
 use Rattle.core_laws.proofs.SlotsInWorlds.{slot_landed, read_is_some}
-use Rattle.core_laws.proofs.Untouched.{same_window}
+use Rattle.core_laws.proofs.WindowOfLemmas.{same_window}
 use Rattle.core_laws.proofs.NewlyRead.{find_behind, found_any}
 use Rattle.core_laws.proofs.NewBlocks.{IsNewest, read_found, given_before, chunk_within}
 use Rattle.lemmas.proofs.Options.{some_mapped}

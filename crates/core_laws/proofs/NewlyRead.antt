@@ -1,13 +1,9 @@
 -- The blocks of a chunk that can be read now, and couldn't before.
 use Rattle.std.proofs.Common.{◌≡◌, ◌⊎◌, inl, inr, ℕ, ◌+◌, ◌-◌, ◌<◌, ◌≤◌, ◌&&◌, ◌||◌, zero, suc, nat_lt, Bool, true, false, cond, Some, None, Option, List, [], ◌∷◌, length, take, drop, refl, sym, ap, ap₂, ◌∙◌, arith}
-use Rattle.std.specs.Prelude.{slice_get, is_some}
+use Rattle.std.specs.Prelude.{is_some}
 use Rattle.std.specs.List.{find, list_any, enumerate_from}
 use Rattle.std.proofs.lemmas.Bool.{cases_order}
-use Rattle.std.proofs.lemmas.Option.{same_Some, none-some}
-use Rattle.pblk_world.specs.EngineLog.{Placed}
 use Rattle.core_laws.proofs.Placing.{not_below}
-use Rattle.core_laws.proofs.UnitTurns.{Rises}
-use Rattle.lemmas.proofs.Parts.{all_at}
 use Rattle.lemmas.proofs.Tests.{lt_true}
 
 -- ---- finding among numbered elements
@@ -81,13 +77,3 @@ found_any {X} bears n (x ∷ xs) = go (bears x) (found_any bears (n + 1) xs)
     go false rest = rest
 
 -- ---- the last stripe
-
-pub rises_at : (ps : List Placed) (a b : ℕ) (p q : Placed) → Rises ps → slice_get ps a ≡ Some p → slice_get ps b ≡ Some q → a < b → p.number < q.number
-rises_at [] a b p q rise first second below = absurd (none-some p first)
-rises_at (r ∷ ps) zero zero p q rise first second below = absurd (omega arith)
-rises_at (r ∷ ps) zero (suc b) p q rise first second below =
-    let number : r.number ≡ p.number = ap (λ (x : Placed). x.number) (same_Some r p first) in
-    let above : r.number < q.number = all_at (λ (x : Placed). r.number < x.number) ps b q second rise.0 in
-    omega arith
-rises_at (r ∷ ps) (suc a) zero p q rise first second below = absurd (omega arith)
-rises_at (r ∷ ps) (suc a) (suc b) p q rise first second below = rises_at ps a b p q rise.1 first second (omega arith)

@@ -26,7 +26,7 @@ use Rattle.stripe_placer.specs.Placing.UnitRow.{Idle}
 use Rattle.core_laws.specs.OpenedLines.{open_line, standing, open_lines}
 use Rattle.core_laws.specs.PlacerOf.{positions_of, entries_of, row_of, placing_of}
 use Rattle.core_laws.proofs.Placing.{not_below}
-use Rattle.core_laws.proofs.UnitTurns.{its_unit as unit_at, its_turn as turn_at}
+use Rattle.world_laws.proofs.UnitTurns.{unit_is as unit_at, turn_is as turn_at}
 use Rattle.core_laws.proofs.WaitingEntries.{waiting_alike}
 use Rattle.core_laws.proofs.StillWaiting.{length_positions as positions_length}
 use Rattle.core_laws.proofs.PlacedLines.{found_any, row_before}

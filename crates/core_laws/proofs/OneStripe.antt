@@ -1,56 +1,29 @@
 -- A unit has at most one stripe that isn't answered.
-use Rattle.std.proofs.Common.{◌≡◌, ℕ, ◌+◌, ◌<◌, ◌≤◌, ◌==◌, zero, suc, nat_eq, Bool, true, false, cond, Some, List, [], ◌∷◌, ◌++◌, length, take, refl, sym, subst, ap, ap₂, ◌∙◌, arith, length-append}
-use Rattle.std.specs.Prelude.{slice_get, is_some}
-use Rattle.std.specs.List.{Contains, filter}
+use Rattle.std.proofs.Common.{◌≡◌, ℕ, ◌+◌, ◌≤◌, ◌==◌, nat_eq, Bool, true, false, cond, List, [], ◌∷◌, ◌++◌, length, take, refl, subst, ap, arith}
+use Rattle.std.specs.List.{filter}
 use Rattle.std.specs.Option.{option_to_list}
 use Rattle.std.proofs.lemmas.Bool.{eqb-true}
-use Rattle.std.proofs.lemmas.List.Elements.{filter-append}
 use Rattle.pblk_model.specs.Image.{Image}
 use Rattle.pblk_world.specs.Events.{EngineEvent, Place, Decides, Logged}
 use Rattle.pblk_world.specs.World.{World, Logs, log_of}
-use Rattle.pblk_world.specs.EngineLog.{life_of, Placed, placed_by, placements, placed_on, answers, is_answered}
+use Rattle.pblk_world.specs.EngineLog.{life_of, Placed, placed_by, placed_on, answers}
 use Rattle.pblk_world.specs.Legal.{MayDecide, IsLegal}
-use Rattle.pblk_world.proofs.Appending.{placements_more}
-use Rattle.core_laws.proofs.UnitTurns.{its_unit, its_turn}
 use Rattle.core_laws.proofs.EventByEvent.{of_legal_log}
-use Rattle.lemmas.proofs.Parts.{is_in, some_within}
+use Rattle.core_laws.proofs.IdleUnits.{idle_fits}
+use Rattle.core_laws.proofs.PlainStripes.{placed_count}
 use Rattle.pblk_world.proofs.EngineLogLemmas.{answer_count}
 
 abbrev HasOne : List Logged → Type 0
 HasOne log = (unit : ℕ) → length (placed_on log unit) ≤ length (answers log unit) + 1
 
-last_of : {X : Type 0} (n : ℕ) (xs : List X) → length xs ≡ suc n → (x : X) × (slice_get xs n ≡ Some x)
-last_of n [] e = absurd (omega (arith, e))
-last_of zero (x ∷ xs) e = (x, refl)
-last_of (suc n) (x ∷ xs) e = last_of n xs (omega (arith, e))
-
--- where all of them are answered, there are as many answers
-pub all_answered : (log : List Logged) (unit : ℕ) → ((p : Placed) → Contains (placed_on log unit) p → is_answered log p ≡ true) → length (placed_on log unit) ≤ length (answers log unit)
-all_answered log unit idle = go (length (placed_on log unit)) refl
-  where
-    go : (n : ℕ) → length (placed_on log unit) ≡ n → n ≤ length (answers log unit)
-    go zero e = omega arith
-    go (suc n) e =
-        let last : (p : Placed) × (slice_get (placed_on log unit) n ≡ Some p) = last_of n (placed_on log unit) e in
-        let answered : is_some (slice_get (answers log unit) n) ≡ true =
-        ap₂ (λ u k. is_some (slice_get (answers log u) k)) (sym (its_unit log unit n last.0 last.1)) (sym (its_turn log unit n last.0 last.1)) ∙ idle last.0 (is_in (placed_on log unit) n last.0 last.1) in
-        let within : n < length (answers log unit) = some_within (answers log unit) n answered in
-        omega arith
-
-placed_more : (log : List Logged) (l : Logged) (unit : ℕ) → length (placed_on (log ++ l ∷ []) unit) ≡ length (placed_on log unit) + length (filter (λ (p : Placed). p.stripe.unit == unit) (option_to_list (placed_by log (length log) l.event)))
-placed_more log l unit =
-    ap (λ (ps : List Placed). length (filter (λ (p : Placed). p.stripe.unit == unit) ps)) (placements_more log l)
-    ∙ ap length (filter-append (λ (p : Placed). p.stripe.unit == unit) (placements log) (option_to_list (placed_by log (length log) l.event)))
-    ∙ length-append (placed_on log unit) (filter (λ (p : Placed). p.stripe.unit == unit) (option_to_list (placed_by log (length log) l.event)))
-
 -- an event that adds no stripe of the unit
 none_added : (log : List Logged) (l : Logged) (unit : ℕ) → length (filter (λ (p : Placed). p.stripe.unit == unit) (option_to_list (placed_by log (length log) l.event))) ≡ 0
     → length (placed_on log unit) ≤ length (answers log unit) + 1 → length (placed_on (log ++ l ∷ []) unit) ≤ length (answers (log ++ l ∷ []) unit) + 1
-none_added log l unit none has = omega (arith, answer_count log l unit, placed_more log l unit, none, has)
+none_added log l unit none has = omega (arith, answer_count log l unit, placed_count log l unit, none, has)
 
 one_added : (log : List Logged) (l : Logged) (unit : ℕ) → length (filter (λ (p : Placed). p.stripe.unit == unit) (option_to_list (placed_by log (length log) l.event))) ≤ 1
     → length (placed_on log unit) ≤ length (answers log unit) → length (placed_on (log ++ l ∷ []) unit) ≤ length (answers (log ++ l ∷ []) unit) + 1
-one_added log l unit few has = omega (arith, answer_count log l unit, placed_more log l unit, few, has)
+one_added log l unit few has = omega (arith, answer_count log l unit, placed_count log l unit, few, has)
 
 at_most_one : {X : Type 0} (b : Bool) (x : X) → length (cond b (x ∷ []) []) ≤ 1
 at_most_one true x = omega arith
@@ -62,7 +35,7 @@ one_kept i log known (Place stripe) knows own may has unit = go (nat_eq stripe.u
   where
     go : (b : Bool) → nat_eq stripe.unit unit ≡ b → length (placed_on (log ++ record { event = Decides (Place stripe); knows = knows } ∷ []) unit) ≤ length (answers (log ++ record { event = Decides (Place stripe); knows = knows } ∷ []) unit) + 1
     go true e =
-        let idle : length (placed_on (known 0) stripe.unit) ≤ length (answers (known 0) stripe.unit) = all_answered (known 0) stripe.unit may.2.idle in
+        let idle : length (placed_on (known 0) stripe.unit) ≤ length (answers (known 0) stripe.unit) = idle_fits (known 0) stripe.unit may.2.idle in
         one_added log (record { event = Decides (Place stripe); knows = knows }) unit (at_most_one (stripe.unit == unit) (record { number = length log; stripe = stripe; life = life_of (take (length log) log) stripe.line }))
         (subst (λ u. length (placed_on log u) ≤ length (answers log u)) (eqb-true stripe.unit unit e) (subst (λ (x : List Logged). length (placed_on x stripe.unit) ≤ length (answers x stripe.unit)) own idle))
     go false e = none_added log (record { event = Decides (Place stripe); knows = knows }) unit (ap (λ b. length {A = Placed} (cond b (record { number = length log; stripe = stripe; life = life_of (take (length log) log) stripe.line } ∷ []) [])) e) (has unit)

@@ -13,7 +13,7 @@ use Rattle.pblk_model.specs.Image.{Image, is_online_in, line_units}
 use Rattle.pblk_layout.specs.Live.{is_live}
 use Rattle.pblk_world.specs.Events.{Logged}
 use Rattle.pblk_world.specs.World.{World, log_of}
-use Rattle.pblk_world.specs.EngineLog.{LineLife, AsFound, Opened, Freed, is_opened, is_as_found, Opening, life_of, is_life, Placed, placements, stripes_of, Answer, DidLand, WasLost, answer_of, has_landed, is_answered, is_land, is_loss}
+use Rattle.pblk_world.specs.EngineLog.{LineLife, AsFound, Opened, Freed, is_opened, is_as_found, Opening, life_of, is_life, Placed, placements, stripes_of, Answer, answer_of, has_landed, is_answered}
 use Rattle.pblk_world.specs.Lines.{known_image, is_over_state, are_over, has_stripe_left}
 use Rattle.stripe_placer.specs.OpenLines.{OpenLine, numbers, is_unanswered, is_to_place, has_left}
 use Rattle.stripe_placer.proofs.Chunks.{lt_of as is_below}
@@ -30,6 +30,7 @@ use Rattle.core_laws.proofs.LineForms.{answered_as, IsLineOf, line_of, formed}
 use Rattle.core_laws.proofs.NextStripes.{next_is, in_form}
 use Rattle.core_laws.proofs.LandedChunks.{landed_fills}
 use Rattle.core_laws.proofs.WholeBlocks.{IsWhole, all_whole}
+use Rattle.core_laws.proofs.PlainStripes.{answered_lands}
 use Rattle.lemmas.proofs.Lists.{IsAmong}
 use Rattle.lemmas.proofs.Maps.{from_filter, in_filter, in_map, range_get}
 use Rattle.lemmas.proofs.Parts.{all_at, contained_among, got_within}
@@ -149,11 +150,6 @@ last_stripe i us w o unit is line done among = by (i.shape.clba / i.shape.ws_opt
           fills = ap (λ n. n + i.shape.ws_opt) block ∙ sym (full ∙ next);
         }
 
-landed_of : (o : Option Answer) → is_some o ≡ true → is_loss o ≡ false → is_land o ≡ true
-landed_of None some kept = absurd cc
-landed_of (Some (DidLand event)) some kept = refl
-landed_of (Some (WasLost event)) some kept = absurd cc
-
 -- so its chunk is full
 chunk_over : (i : Image) (us : ℕ → List ℕ) (w : World) (o : Opening) (b : Bool) (unit : ℕ) (chunks : List Chunk) (c : Chunk) → IsFollowed i us w
     → life_of (log_of w 0) o.line ≡ Opened o → IsLineOf i us w o → IsDone i us w o
@@ -178,7 +174,7 @@ chunk_over i us w o b unit chunks c is life line done at there = go (is_online_i
         let whole : IsWhole i last.placed = all_at (IsWhole i) (placements log) its.0 last.placed its.1 (all_whole i us w is) in
         let answered : is_answered log last.placed ≡ true =
         all_at (λ (p : Placed). is_answered log p ≡ true) (stripes_of log o) last.number last.placed last.there done.answered in
-        let landed : has_landed log last.placed ≡ true = landed_of (answer_of log last.placed) answered (not_lost log last.placed (plain_of i us w is)) in
+        let landed : has_landed log last.placed ≡ true = answered_lands (answer_of log last.placed) answered (not_lost log last.placed (plain_of i us w is)) in
         closed_over b c.state (landed_fills i w is.simple.mount o last.placed life
         (contained_among (stripes_of log o) last.placed (last.number, last.there)) landed
         chunks c (ap (slice_get (known_image i (log_of w)).units) last.on ∙ at) there whole.long last.fills)

@@ -8,9 +8,8 @@ use Rattle.std.proofs.lemmas.Grind.{flat_map-append}
 use Rattle.std.proofs.lemmas.List.FromFn.{length-range_with_len}
 use Rattle.pblk_model.specs.declared.shape.Shape.{Shape}
 use Rattle.pblk_model.specs.Chunk.{Block}
-use Rattle.pblk_model.specs.Blocks.{blocks_of}
 use Rattle.pblk_model.specs.Image.{Image}
-use Rattle.pblk_model.specs.Marks.{meta_lba, void_lba, meta_mark, pad_block}
+use Rattle.pblk_model.specs.Marks.{meta_lba, void_lba, pad_block}
 use Rattle.pblk_model.specs.LineOrder.{start_len, end_len}
 use Rattle.pblk_model.specs.StartRecord.{start_bytes}
 use Rattle.pblk_model.specs.EndRecord.{end_bytes}
@@ -30,39 +29,18 @@ use Rattle.core_laws.specs.PlacerOf.{positions_of, positions_in_stripe, lost_ent
 use Rattle.core_laws.specs.Positions.{AreNumbered, AreMarked}
 use Rattle.core_laws.proofs.TakenNumbers.{first_stays, numbered_after}
 use Rattle.core_laws.proofs.KeptPositions.{marked_after}
-use Rattle.core_laws.proofs.PlacedPositions.{unnamed}
 use Rattle.core_laws.specs.Placed.{placed_positions, placed_count}
 use Rattle.core_laws.proofs.EventByEvent.{IsKept, of_plain_log}
 use Rattle.core_laws.proofs.Placed.{is_in_list, some_hold, was_placed_by, rest_are_last, placed_are_first, range_dropped, range_taken, range_joined, in_range}
+use Rattle.core_laws.proofs.BlockPositions.{record_positions, no_pad_positions}
 use Rattle.core_laws.proofs.PlacerOfLemmas.{positions_taken}
-use Rattle.lemmas.proofs.Lists.{all_append, all_imply, all_replicated}
+use Rattle.lemmas.proofs.Lists.{all_append, all_imply}
 use Rattle.lemmas.proofs.Maps.{filter_same}
 use Rattle.lemmas.proofs.Parts.{all_at, all_dropped, all_taken}
 use Rattle.lemmas.proofs.Tests.{lt_true}
 use Rattle.pblk_model.proofs.MarksLemmas.{accepted_small}
 use Rattle.pblk_world.proofs.EngineLogLemmas.{answers_more, takes_grow, takes_more}
 use Rattle.pblk_world.proofs.TakingLemmas.{users_mark}
-
--- ---- blocks without positions
-
-abbrev BearsNone : Shape → Block → Type 0
-BearsNone s b = is_some (named s b.mark) ≡ false
-
-none_in : (s : Shape) (bs : List Block) → AllByRecursion (BearsNone s) bs → filter_map (position_in s) bs ≡ []
-none_in s [] all = refl
-none_in s (b ∷ bs) all = ap (λ c. cons_option (if c then Some b.mark.position else None) (filter_map (position_in s) bs)) all.0 ∙ none_in s bs all.1
-
-pads_bear_none : (s : Shape) → s.capacity ≤ meta_lba → BearsNone s (pad_block s)
-pads_bear_none s small = unnamed s (pad_block s).mark small (omega arith) (λ e. absurd (omega (arith, e)))
-
-records_bear_none : (s : Shape) (size seq count : ℕ) (bytes : List ℕ) → s.capacity ≤ meta_lba → AllByRecursion (BearsNone s) (blocks_of size bytes (replicate count (meta_mark seq)))
-records_bear_none s size seq zero bytes small = tt
-records_bear_none s size seq (suc count) bytes small = (unnamed s (meta_mark seq) small (omega arith) (λ e. absurd (omega (arith, e))), records_bear_none s size seq count (drop size bytes) small)
-
-part_bears_none : (s : Shape) (seq count : ℕ) (bytes : List ℕ) (from to : ℕ) → s.capacity ≤ meta_lba → filter_map (position_in s) (slice_range (record_blocks s seq count bytes) from to) ≡ []
-part_bears_none s seq count bytes from to small =
-    none_in s (slice_range (record_blocks s seq count bytes) from to)
-    (all_taken (BearsNone s) (to - from) (drop from (record_blocks s seq count bytes)) (all_dropped (BearsNone s) from (record_blocks s seq count bytes) (records_bear_none s s.sector seq count bytes small)))
 
 -- ---- what the log of a simple mount has
 
@@ -136,7 +114,7 @@ data_positions s log small numbered marked named none order =
     let pads : List Block = replicate (s.ws_opt - length (map block_of_taken ts)) (pad_block s) in
     ap (λ (us : List Taken). filter_map (position_in s) (map block_of_taken (take s.ws_opt us) ++ replicate (s.ws_opt - length (map block_of_taken (take s.ws_opt us))) (pad_block s))) (waiting_are_last s log numbered none order)
     ∙ filter_map-append (position_in s) (map block_of_taken ts) pads
-    ∙ ap (λ qs. filter_map (position_in s) (map block_of_taken ts) ++ qs) (none_in s pads (all_replicated (BearsNone s) (s.ws_opt - length (map block_of_taken ts)) (pad_block s) (pads_bear_none s small)))
+    ∙ ap (λ qs. filter_map (position_in s) (map block_of_taken ts) ++ qs) (no_pad_positions s (s.ws_opt - length (map block_of_taken ts)) small)
     ∙ append-nil (filter_map (position_in s) (map block_of_taken ts))
     ∙ entries_bear s ts
     (all_taken (λ (t : Taken). t.mark.lba < s.capacity) s.ws_opt (drop order.count (takes log)) (all_dropped (λ (t : Taken). t.mark.lba < s.capacity) order.count (takes log) named))
@@ -158,7 +136,7 @@ by_kind : (i : Image) (logs : Logs) (stripe : Stripe) (o : Opening) → i.shape.
     → IsStart i logs o stripe ⊎ (IsData i logs o stripe ⊎ (IsEnd i logs o stripe ⊎ IsPad i logs o stripe)) → IsInOrder i.shape (logs 0) order.count stripe
 by_kind i logs stripe o small numbered marked named none order (inl is) =
     holds_no_position i.shape (logs 0) order.count stripe (slice_range (record_blocks i.shape o.start.seq (start_len i.shape) (start_bytes i.shape o.start)) (next_address i.shape (logs 0) o - 0) (next_address i.shape (logs 0) o - 0 + i.shape.ws_opt)) order.within is.blocks
-    (part_bears_none i.shape o.start.seq (start_len i.shape) (start_bytes i.shape o.start) (next_address i.shape (logs 0) o - 0) (next_address i.shape (logs 0) o - 0 + i.shape.ws_opt) small)
+    (record_positions i.shape o.start.seq (start_len i.shape) (start_bytes i.shape o.start) (next_address i.shape (logs 0) o - 0) (next_address i.shape (logs 0) o - 0 + i.shape.ws_opt) small)
 by_kind i logs stripe o small numbered marked named none order (inr (inl is)) =
     let within : order.count ≤ length (takes (logs 0)) = order.within in
     record {
@@ -168,10 +146,10 @@ by_kind i logs stripe o small numbered marked named none order (inr (inl is)) =
     }
 by_kind i logs stripe o small numbered marked named none order (inr (inr (inl is))) =
     holds_no_position i.shape (logs 0) order.count stripe (slice_range (record_blocks i.shape o.start.seq (end_len i.shape o.start.width) (end_bytes i.shape (end_record i.shape (logs 0) o))) (next_address i.shape (logs 0) o - end_address i.shape o) (next_address i.shape (logs 0) o - end_address i.shape o + i.shape.ws_opt)) order.within is.blocks
-    (part_bears_none i.shape o.start.seq (end_len i.shape o.start.width) (end_bytes i.shape (end_record i.shape (logs 0) o)) (next_address i.shape (logs 0) o - end_address i.shape o) (next_address i.shape (logs 0) o - end_address i.shape o + i.shape.ws_opt) small)
+    (record_positions i.shape o.start.seq (end_len i.shape o.start.width) (end_bytes i.shape (end_record i.shape (logs 0) o)) (next_address i.shape (logs 0) o - end_address i.shape o) (next_address i.shape (logs 0) o - end_address i.shape o + i.shape.ws_opt) small)
 by_kind i logs stripe o small numbered marked named none order (inr (inr (inr is))) =
     holds_no_position i.shape (logs 0) order.count stripe (replicate i.shape.ws_opt (pad_block i.shape)) order.within is.blocks
-    (none_in i.shape (replicate i.shape.ws_opt (pad_block i.shape)) (all_replicated (BearsNone i.shape) i.shape.ws_opt (pad_block i.shape) (pads_bear_none i.shape small)))
+    (no_pad_positions i.shape i.shape.ws_opt small)
 
 pub next_in_order : (i : Image) (logs : Logs) (stripe : Stripe) → i.shape.capacity ≤ meta_lba → (is : IsOrdered i.shape (logs 0)) → MayPlace i logs stripe → IsInOrder i.shape (logs 0) is.order.count stripe
 next_in_order i logs stripe small is may = by_kind i logs stripe may.opening small is.numbered is.marked is.named is.no_loss is.order may.kind

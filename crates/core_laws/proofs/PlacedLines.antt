@@ -35,7 +35,7 @@ use Rattle.core_laws.proofs.OpeningNumbers.{opens_at, life_at, standing_at, of_i
 use Rattle.core_laws.proofs.StripesByPlace.{at_its_place, not_at, find_only}
 use Rattle.core_laws.proofs.Placing.{IsPlacing, new_placed, with_place, placed_on_now, answers_now, outcome_there, outcome_elsewhere, outcome_beside}
 use Rattle.lemmas.proofs.Lists.{all_imply, length_replicate}
-use Rattle.lemmas.proofs.Maps.{all_passed, map_agree, map_same, row_at, rows_set}
+use Rattle.lemmas.proofs.Maps.{all_passed, length_mapped, map_agree, map_same, row_at, rows_set}
 use Rattle.lemmas.proofs.Numbers.{some_units}
 use Rattle.lemmas.proofs.Parts.{got_here}
 use Rattle.lemmas.proofs.Tests.{or_left, other_number, same_number}
@@ -172,13 +172,13 @@ line_now i logs knows o stripe of j some is at other stands = go (nat_eq other.l
 
 -- ---- each line has a stripe left as before
 
-pub found_any : (test : ℕ → Bool) (xs : List ℕ) (j : ℕ) → find test xs ≡ Some j → list_any test xs ≡ true
-found_any test [] j e = absurd (none-some j e)
-found_any test (x ∷ xs) j e = go (test x) e (λ f. found_any test xs j f)
+pub found_any : {X : Type 0} (f : X → Bool) (xs : List X) (y : X) → find f xs ≡ Some y → list_any f xs ≡ true
+found_any f [] y e = absurd (none-some y e)
+found_any {X} f (x ∷ xs) y e = go (f x) e (found_any f xs y)
   where
-    go : (b : Bool) → cond b (Some x) (find test xs) ≡ Some j → (find test xs ≡ Some j → list_any test xs ≡ true) → (b || list_any test xs) ≡ true
-    go true f rest = refl
-    go false f rest = rest f
+    go : (b : Bool) → cond b (Some x) (find f xs) ≡ Some y → (find f xs ≡ Some y → list_any f xs ≡ true) → (b || list_any f xs) ≡ true
+    go true g rest = refl
+    go false g rest = rest g
 
 left_of_it : (i : Image) (logs : Logs) (o : Opening) (stripe : Stripe) (of : Program) (j : ℕ) → IsPlacedAt i logs o stripe of j
     → has_left (in_line of.line (of.at / i.shape.ws_opt) Unanswered (open_line i logs o)) ≡ has_left (open_line i logs o)
@@ -232,10 +232,6 @@ get_last [] x (suc k) e = absurd (omega (arith, e))
 get_last (y ∷ xs) x zero e = absurd (omega (arith, e))
 get_last (y ∷ xs) x (suc k) e = get_last xs x k (omega (arith, e))
 
-mapped_length : {X : Type 0} (f : ℕ → X) (n a : ℕ) → length (map f (range_with_len a n)) ≡ n
-mapped_length f zero a = refl
-mapped_length f (suc n) a = ap suc (mapped_length f n (a + 1))
-
 pub row_of_it : (i : Image) (logs : Logs) (knows again : List ℕ) (o : Opening) (stripe : Stripe) (of : Program) (j : ℕ) → 0 < i.shape.ws_opt → IsPlacing (logs 0) stripe o → IsPlacedAt i logs o stripe of j
     → row_of i (after logs (Place stripe) knows) again stripe.unit ≡ UnderWay of
 row_of_it i logs knows again o stripe of j some is at =
@@ -250,7 +246,7 @@ row_of_it i logs knows again o stripe of j some is at =
     ap (λ b. b && not (contains_unit again stripe.unit))
     (stopped_more (logs 0) (record { event = Decides (Place stripe); knows = knows }) stripe.unit ∙ ap (λ b. if b then false else was_stopped_on (logs 0) stripe.unit) (same_number stripe.unit)) in
     let from : 0 + j ≡ j = omega arith in
-    let count : length l.stripes ≡ length (as_opened i logs o).stripes = mapped_length (outcome s (logs 0) o (as_opened i logs o)) (length (as_opened i logs o).stripes) 0 in
+    let count : length l.stripes ≡ length (as_opened i logs o).stripes = length_mapped (outcome s (logs 0) o (as_opened i logs o)) 0 (length (as_opened i logs o).stripes) in
     let number : number_of s l stripe ≡ j = ap (λ k. unwrap_or k 0)
     (find_only (is_stripe_at s l stripe.unit stripe.at) (length l.stripes) 0 j (subst (λ n. j < n) (sym count) at.inside) (ap (is_stripe_at s l stripe.unit stripe.at) from ∙ at.here)
     (λ m other. not_at s l stripe.unit stripe.at m j some at.wide at.here (λ e. other (e ∙ sym from)))) ∙ from in

@@ -14,7 +14,7 @@ use Rattle.pblk_world.specs.Legal.{IsLegal, IsDecision}
 use Rattle.pblk_world.proofs.Appending.{placements_more}
 use Rattle.core_laws.specs.PlainWorlds.{ArePlain}
 use Rattle.core_laws.proofs.KeptByEvents.{IsKept, kept}
-use Rattle.core_laws.proofs.TurnsByPlace.{turn_at}
+use Rattle.core_laws.proofs.UnitTurns.{turn_at}
 use Rattle.core_laws.proofs.PlainWorldsLemmas.{not_lost}
 use Rattle.core_laws.proofs.IdleUnits.{idle_fits}
 use Rattle.lemmas.proofs.Lists.{all_true}
@@ -28,7 +28,7 @@ use Rattle.pblk_world.proofs.EngineLogLemmas.{answer_count}
 abbrev pub HasOne : List Logged → Type 0
 HasOne log = (unit : ℕ) → length (placed_on log unit) ≤ length (answers log unit) + 1
 
-placed_count : (log : List Logged) (l : Logged) (unit : ℕ) → length (placed_on (log ++ l ∷ []) unit) ≡ length (placed_on log unit) + length (filter (λ (p : Placed). p.stripe.unit == unit) (option_to_list (placed_by log (length log) l.event)))
+pub placed_count : (log : List Logged) (l : Logged) (unit : ℕ) → length (placed_on (log ++ l ∷ []) unit) ≡ length (placed_on log unit) + length (filter (λ (p : Placed). p.stripe.unit == unit) (option_to_list (placed_by log (length log) l.event)))
 placed_count log l unit =
     ap (λ (ps : List Placed). length (filter (λ (p : Placed). p.stripe.unit == unit) ps)) (placements_more log l)
     ∙ ap length (filter-append (λ (p : Placed). p.stripe.unit == unit) (placements log) (option_to_list (placed_by log (length log) l.event)))
@@ -83,7 +83,7 @@ one_unanswered i w legal = kept i (λ e. true) HasOne (one_kept i) w legal (all_
 
 -- ---- the stripes of a unit, once the one that wasn't answered has landed
 
-answered_lands : (o : Option Answer) → is_some o ≡ true → is_loss o ≡ false → is_land o ≡ true
+pub answered_lands : (o : Option Answer) → is_some o ≡ true → is_loss o ≡ false → is_land o ≡ true
 answered_lands None some kept = absurd cc
 answered_lands (Some (DidLand event)) some kept = refl
 answered_lands (Some (WasLost event)) some kept = absurd cc

@@ -7,7 +7,6 @@ use Rattle.core_laws.specs.PlainWorlds.{ArePlain, is_plain_event}
 use Rattle.lemmas.proofs.Lists.{all_but_last}
 use Rattle.lemmas.proofs.Parts.{all_at, all_dropped, all_taken, take_and_drop}
 use Rattle.pblk_model.specs.Image.{Image}
-use Rattle.pblk_model.specs.Shape.{units}
 use Rattle.pblk_world.proofs.Appending.{life_more}
 use Rattle.pblk_world.specs.EngineLog.{Answer, DidLand, LineLife, Opened, Opening, Placed, answer_by, answer_of, answers, has_failed, is_loss, is_opened, life_of, stripes_of, turn, turned, turned_by, was_lost}
 use Rattle.pblk_world.specs.Events.{Decides, Event, Free, Landed, Logged, Lost, Open, Step}

@@ -19,7 +19,7 @@ use Rattle.core_laws.specs.WindowOf.{window_from}
 use Rattle.core_laws.proofs.Engine.{placements_before}
 use Rattle.core_laws.proofs.Steady.{AreAlike, answer_same}
 use Rattle.core_laws.proofs.Placing.{with_place, new_placed, placements_now, placed_on_now, answers_now, answer_now}
-use Rattle.core_laws.proofs.TurnsByPlace.{turn_at}
+use Rattle.core_laws.proofs.UnitTurns.{turn_at}
 use Rattle.core_laws.proofs.Untouched.{AreKept, window_kept}
 use Rattle.core_laws.proofs.KeptSlots.{first_kept, slot_kept}
 use Rattle.lemmas.proofs.Lists.{all_imply, all_of}

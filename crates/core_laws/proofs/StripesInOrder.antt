@@ -1,5 +1,5 @@
 -- The stripes of an opened line are placed in line order, and data and the end record behind a start record that has landed.
-use Rattle.std.proofs.Common.{◌≡◌, ◌⊎◌, inl, inr, ℕ, ◌+◌, ◌*◌, ◌/◌, ◌%◌, ◌<◌, ◌≤◌, ◌&&◌, zero, suc, nat_eq, Bool, true, false, cond, Some, List, [], ◌∷◌, ◌++◌, length, take, refl, sym, subst, ap, ap₂, ◌∙◌, arith, if◌then◌else◌, append-nil, mul-div_cancel, le_refl, le_of_lt, length-append, subst₂}
+use Rattle.std.proofs.Common.{◌≡◌, ◌⊎◌, inl, inr, ℕ, ◌+◌, ◌*◌, ◌/◌, ◌%◌, ◌<◌, ◌≤◌, ◌&&◌, zero, suc, nat_eq, Bool, true, false, Some, List, [], ◌∷◌, ◌++◌, length, take, refl, sym, subst, ap, ap₂, ◌∙◌, arith, if◌then◌else◌, append-nil, mul-div_cancel, le_refl, le_of_lt, length-append, subst₂}
 use Rattle.std.specs.Prelude.{slice_get, nat_le}
 use Rattle.std.specs.List.{filter, list_all}
 use Rattle.std.proofs.lemmas.Bool.{eqb-true}
@@ -16,8 +16,7 @@ use Rattle.pblk_world.specs.Placing.{IsStart, IsData, IsEnd, IsPad, MayPlace, en
 use Rattle.pblk_world.proofs.Appending.{life_more, placements_more}
 use Rattle.core_laws.proofs.OpeningNumbers.{opens_at, life_at}
 use Rattle.core_laws.proofs.Opening.{placed_before}
-use Rattle.core_laws.proofs.Placing.{new_placed, with_place, placements_now, answer_now, stripes_before}
-use Rattle.core_laws.proofs.Taking.{filter_last}
+use Rattle.core_laws.proofs.Placing.{new_placed, with_place, answer_now, stripes_before, stripes_now}
 use Rattle.stripe_placer.proofs.Opening.{width_some}
 use Rattle.pblk_world.specs.EngineLog.{is_land}
 use Rattle.pblk_world.proofs.Growing.{at_end}
@@ -164,12 +163,6 @@ begins i us log l line o same number =
 
 abbrev HasOrder : Image → (ℕ → List ℕ) → List Logged → Type 0
 HasOrder i us log = (line : ℕ) (o : Opening) → life_of log line ≡ Opened o → IsInOrder i us log line o
-
-pub stripes_now : (log : List Logged) (stripe : Stripe) (knows : List ℕ) (o other : Opening) (b : Bool) → life_of log stripe.line ≡ Opened o → is_life other.number (Opened o) ≡ b
-    → stripes_of (with_place log stripe knows) other ≡ stripes_of log other ++ cond b (new_placed log stripe o ∷ []) []
-stripes_now log stripe knows o other b opened is =
-    ap (filter (λ (p : Placed). is_life other.number p.life)) (placements_now log stripe knows o opened)
-    ∙ filter_last (λ (p : Placed). is_life other.number p.life) (placements log) (new_placed log stripe o) b is
 
 -- one more stripe of the line
 one_more : (i : Image) (us : ℕ → List ℕ) (log : List Logged) (stripe : Stripe) (knows : List ℕ) (o : Opening) → IsPlacedNext i us log stripe o → IsInOrder i us log stripe.line o → IsInOrder i us (with_place log stripe knows) stripe.line o

@@ -1,8 +1,8 @@
 -- At most two lines have a stripe left.
-use Rattle.std.proofs.Common.{◌≡◌, ◌⊎◌, inl, inr, ℕ, ◌+◌, ◌-◌, ◌*◌, ◌/◌, ◌%◌, ◌<◌, ◌≤◌, ◌&&◌, zero, suc, not, nat_eq, Bool, true, false, cond, Some, None, Option, List, [], ◌∷◌, length, take, refl, sym, subst, ap, ap₂, ◌∙◌, arith, take_all, le_refl, length-take-le, if◌then◌else◌}
+use Rattle.std.proofs.Common.{◌≡◌, ◌⊎◌, inl, inr, ℕ, ◌+◌, ◌-◌, ◌*◌, ◌/◌, ◌%◌, ◌<◌, ◌≤◌, ◌&&◌, zero, suc, not, nat_eq, Bool, true, false, Some, None, Option, List, [], ◌∷◌, length, take, refl, sym, subst, ap, ap₂, ◌∙◌, arith, take_all, le_refl, length-take-le, if◌then◌else◌}
 use Rattle.std.specs.Prelude.{slice_get, is_some, map}
-use Rattle.std.specs.List.{AllByRecursion, filter, list_all, range_with_len, enumerate_from, slice_index_or}
-use Rattle.std.specs.Option.{option_and_then, option_map_or}
+use Rattle.std.specs.List.{list_all, range_with_len, slice_index_or}
+use Rattle.std.specs.Option.{option_and_then}
 use Rattle.std.proofs.lemmas.Bool.{cases_order}
 use Rattle.std.proofs.lemmas.Option.{same_Some, none-some, slice_get_within, get_or_from_slice_get}
 use Rattle.std.proofs.Math.Nat.{mul_comm, zero-mul}
@@ -12,7 +12,7 @@ use Rattle.pblk_model.specs.Shape.{units}
 use Rattle.pblk_model.specs.Accepted.{IsAccepted}
 use Rattle.pblk_model.specs.Chunk.{Chunk}
 use Rattle.pblk_model.specs.LineOrder.{start_len, end_len, data_len}
-use Rattle.pblk_model.specs.Image.{Image, is_online_in, line_units}
+use Rattle.pblk_model.specs.Image.{Image, line_units}
 use Rattle.pblk_laws.proofs.LineUnits.{line_units_count}
 use Rattle.pblk_layout.specs.Live.{units_in}
 use Rattle.pblk_world.specs.Events.{Open, Free, Event, Decides, Logged}
@@ -37,7 +37,6 @@ use Rattle.core_laws.proofs.UnitTurns.{filtered_is}
 use Rattle.core_laws.specs.LeftOpenings.{left_openings}
 use Rattle.core_laws.specs.StripePrograms.{HasHappened}
 use Rattle.core_laws.proofs.PlacedInOrder.{HaveNoLoss}
-use Rattle.core_laws.proofs.Distinct.{passed_by}
 use Rattle.core_laws.proofs.EntryHolds.{found_any}
 use Rattle.core_laws.proofs.LandedLines.{left_by_landing, none_lost_in}
 use Rattle.core_laws.proofs.LeftLines.{lines_of_left, left_opened, left_apart}
@@ -47,10 +46,10 @@ use Rattle.core_laws.proofs.ImagesThen.{known_by_prefix}
 use Rattle.core_laws.specs.StripeTurns.{IsAtTurn}
 use Rattle.core_laws.proofs.GoingLines.{landed_on, IsGoing}
 use Rattle.core_laws.proofs.GoingAll.{IsWell, all_well}
-use Rattle.core_laws.proofs.BitsOfSets.{RisesFrom, rises_lower, units_of_bits}
+use Rattle.core_laws.proofs.UnitBits.{bits_back}
 use Rattle.core_laws.proofs.FullLines.{IsLandedWhole, over_landed, landed_stays, all_placed, all_landed}
 use Rattle.lemmas.proofs.Lists.{IsAmong, length_replicate}
-use Rattle.lemmas.proofs.Maps.{found_passes}
+use Rattle.lemmas.proofs.Maps.{any_member, found_passes}
 use Rattle.lemmas.proofs.Numbers.{fun_same}
 use Rattle.lemmas.proofs.Parts.{all_at, got_within, take_next}
 use Rattle.lemmas.proofs.Tests.{no_both}
@@ -68,29 +67,6 @@ prefix_prefix logs n k h = fun_same (engine_prefix n (engine_prefix k logs)) (en
     each (suc unit) = refl
 
 -- ---- the units of a line rise
-
-units_rise : (t : List Chunk → Bool) (n : ℕ) (xs : List (List Chunk)) → RisesFrom n (map (λ (e : ℕ × List Chunk). e.0) (filter (λ (e : ℕ × List Chunk). t e.1) (enumerate_from n xs)))
-units_rise t n [] = tt
-units_rise t n (x ∷ xs) = go (t x) (units_rise t (n + 1) xs)
-  where
-    go : (b : Bool) → RisesFrom (n + 1) (map (λ (e : ℕ × List Chunk). e.0) (filter (λ (e : ℕ × List Chunk). t e.1) (enumerate_from (n + 1) xs)))
-        → RisesFrom n (map (λ (e : ℕ × List Chunk). e.0) (cond b ((n, x) ∷ filter (λ (e : ℕ × List Chunk). t e.1) (enumerate_from (n + 1) xs)) (filter (λ (e : ℕ × List Chunk). t e.1) (enumerate_from (n + 1) xs))))
-    go true rest = (omega arith, rest)
-    go false rest = rises_lower n (n + 1) (map (λ (e : ℕ × List Chunk). e.0) (filter (λ (e : ℕ × List Chunk). t e.1) (enumerate_from (n + 1) xs))) (omega arith) rest
-
-units_below : (t : List Chunk → Bool) (n m : ℕ) (xs : List (List Chunk)) → n + length xs ≤ m → AllByRecursion (λ u. u < m) (map (λ (e : ℕ × List Chunk). e.0) (filter (λ (e : ℕ × List Chunk). t e.1) (enumerate_from n xs)))
-units_below t n m [] h = tt
-units_below t n m (x ∷ xs) h = go (t x) (units_below t (n + 1) m xs (omega arith))
-  where
-    go : (b : Bool) → AllByRecursion (λ u. u < m) (map (λ (e : ℕ × List Chunk). e.0) (filter (λ (e : ℕ × List Chunk). t e.1) (enumerate_from (n + 1) xs)))
-        → AllByRecursion (λ u. u < m) (map (λ (e : ℕ × List Chunk). e.0) (cond b ((n, x) ∷ filter (λ (e : ℕ × List Chunk). t e.1) (enumerate_from (n + 1) xs)) (filter (λ (e : ℕ × List Chunk). t e.1) (enumerate_from (n + 1) xs))))
-    go true rest = (omega arith, rest)
-    go false rest = rest
-
-pub line_units_of_bits : (i : Image) (line : ℕ) → length i.units ≤ 64 → units_in (bits_of (line_units i line)) ≡ line_units i line
-line_units_of_bits i line few = units_of_bits (line_units i line)
-    (units_rise (λ (cs : List Chunk). option_map_or (λ (c : Chunk). is_online_in c.state) (slice_get cs line) false) 0 i.units)
-    (units_below (λ (cs : List Chunk). option_map_or (λ (c : Chunk). is_online_in c.state) (slice_get cs line) false) 0 64 i.units (omega (arith, few)))
 
 -- ---- a line that has landed whole
 
@@ -116,7 +92,7 @@ full_line i logs k line o accepted few same before wide is none whole =
     live : units_in (as_opened i (engine_prefix k logs) o).live ≡ line_units (known_image i (engine_prefix o.number logs)) line
     live =
         ap₂ (λ (ls : Logs) n. units_in (bits_of (line_units (known_image i ls) n))) (prefix_prefix logs o.number k before) same
-        ∙ line_units_of_bits (known_image i (engine_prefix o.number logs)) line (subst (λ n. n ≤ 64) (sym (length_known i (engine_prefix o.number logs))) few)
+        ∙ bits_back (known_image i (engine_prefix o.number logs)) line (subst (λ n. n ≤ 64) (sym (length_known i (engine_prefix o.number logs))) few)
 
     count : length (as_opened i (engine_prefix k logs) o).stripes ≡ length (line_units (known_image i (engine_prefix o.number logs)) line) * (i.shape.clba / i.shape.ws_opt)
     count = length_replicate (length (units_in (as_opened i (engine_prefix k logs) o).live) * (i.shape.clba / i.shape.ws_opt)) Unplaced ∙ ap (λ (us : List ℕ). length us * (i.shape.clba / i.shape.ws_opt)) live
@@ -138,7 +114,7 @@ full_line i logs k line o accepted few same before wide is none whole =
         let found : (p : Placed) × (placed_as i.shape (take k (logs 0)) o (as_opened i (engine_prefix k logs) o) j ≡ Some p) =
         some_found (placed_as i.shape (take k (logs 0)) o (as_opened i (engine_prefix k logs) o) j)
         (found_any (λ (p : Placed). is_stripe_at i.shape (as_opened i (engine_prefix k logs) o) p.stripe.unit p.stripe.at j) (stripes_of (take k (logs 0)) o)
-        ∙ passed_by (λ (p : Placed). is_stripe_at i.shape (as_opened i (engine_prefix k logs) o) p.stripe.unit p.stripe.at j) (stripes_of (take k (logs 0)) o) at.0 j at.1 here) in
+        ∙ any_member (λ (p : Placed). is_stripe_at i.shape (as_opened i (engine_prefix k logs) o) p.stripe.unit p.stripe.at j) (stripes_of (take k (logs 0)) o) j at.0 at.1 here) in
         let its : IsAmong (stripes_of (take k (logs 0)) o) found.0 = (found_passes (λ (p : Placed). is_stripe_at i.shape (as_opened i (engine_prefix k logs) o) p.stripe.unit p.stripe.at j) (stripes_of (take k (logs 0)) o) found.0 found.1).1 in
         ap (λ x. is_landed (became (take k (logs 0)) x)) found.1
         ∙ landed_answer (answer_of (take k (logs 0)) found.0) (all_landed i logs k line o accepted.drive.ws_opt accepted.drive.whole_stripes is none whole its.0 found.0 its.1)
@@ -356,7 +332,7 @@ bits_are_units i w o mount =
     let few : units i.shape ≤ 64 = mount.accepted.drive.few_units in
     let count : length i.units ≡ units i.shape = mount.fit.units in
     let known : length (known_image i (engine_prefix o.number (log_of w))).units ≡ length i.units = length_known i (engine_prefix o.number (log_of w)) in
-    line_units_of_bits (known_image i (engine_prefix o.number (log_of w))) o.line (omega (arith, few, count, known))
+    bits_back (known_image i (engine_prefix o.number (log_of w))) o.line (omega (arith, few, count, known))
 
 pub turns_are : (i : Image) (w : World) (line : ℕ) (o : Opening) (n : ℕ) (p : Placed) → IsSimpleMount i w → life_of (log_of w 0) line ≡ Opened o
     → slice_get (stripes_of (log_of w 0) o) n ≡ Some p

@@ -9,8 +9,9 @@ use Rattle.pblk_world.specs.Events.{Logged}
 use Rattle.pblk_world.specs.EngineLog.{LineLife, AsFound, Opened, Freed, is_life, Opening, Taken, takes, Placed, placements, stripes_on, answer_of, is_land, is_loss, has_landed, was_lost, bears_position, holds_position}
 use Rattle.pblk_world.specs.Fronts.{first_position, has_landed_at, is_users}
 use Rattle.pblk_world.specs.Space.{landed_blocks, is_readable_in, gives_back}
-use Rattle.core_laws.specs.WindowOf.{HeldSectors, class_of, source_of, is_given_back, progress_by, held_of, users_below, window_from}
+use Rattle.core_laws.specs.WindowOf.{class_of, source_of, is_given_back, progress_by, held_of, users_below, window_from}
 use Rattle.core_laws.proofs.TakenSlots.{any_same}
+use Rattle.core_laws.proofs.WindowOfLemmas.{same_window}
 use Rattle.lemmas.proofs.Lists.{all_imply}
 use Rattle.lemmas.proofs.Maps.{all_filter, any_fail, filter_agree, filter_none, find_none, map_same}
 
@@ -114,9 +115,6 @@ held_by s log new t landed given = ap₂ (λ a b. record {
   sector = t.entry.sector;
   progress = progress_by a b;
 }) landed given
-
-pub same_window : (from : ℕ) (a b : ℕ) (xs ys : List _) → a ≡ b → xs ≡ ys → ◌≡◌ {A = HeldSectors} (record { freed = from; users = a; entries = xs }) (record { freed = from; users = b; entries = ys })
-same_window from a b xs ys p q = λ i. record { freed = from; users = p i; entries = q i }
 
 pub window_kept : (s : Shape) (log new : List Logged) (from : ℕ) → AreKept log new → takes new ≡ takes log → first_position new ≡ first_position log → window_from s new from ≡ window_from s log from
 window_kept s log new from kept same first = same_window from (users_below new from) (users_below log from)

@@ -1,22 +1,17 @@
 -- Records that count are in lines with a start record.
-use Rattle.std.proofs.Common.{◌≡◌, ℕ, Bool, true, false, Some, None, Option, List, [], ◌∷◌, refl, sym, subst, ap, ◌∙◌, if◌then◌else◌}
-use Rattle.std.specs.List.{AllByRecursion, fold, filter, flat_map, range_with_len}
+use Rattle.std.proofs.Common.{◌≡◌, ℕ, Bool, true, false, Some, None, Option, List, [], ◌∷◌, sym, subst, ap, if◌then◌else◌}
+use Rattle.std.specs.List.{AllByRecursion, fold, filter}
 use Rattle.std.specs.Option.{option_map, option_and_then, is_some}
 use Rattle.std.proofs.lemmas.Option.{same_Some, none-some}
 use Rattle.pblk_model.specs.declared.chunk.Mark.{Mark}
 use Rattle.pblk_model.specs.Chunk.{Block}
-use Rattle.pblk_model.specs.Image.{Image, block_at}
+use Rattle.pblk_model.specs.Image.{Image}
 use Rattle.pblk_model.specs.StartRecord.{StartRecord, start_of}
 use Rattle.pblk_model.specs.EndRecord.{end_of}
-use Rattle.pblk_model.specs.Records.{Record, named, mark_at, bears, record_at, records_after, line_records, records}
-use Rattle.pblk_model.specs.Contents.{head, end_after, counts, counted_after, counted, newer, is_newer, is_of, winner}
-use Rattle.core_laws.proofs.Opening.{all_made}
-use Rattle.lemmas.proofs.Lists.{all_append}
+use Rattle.pblk_model.specs.Records.{Record, named, mark_at, bears}
+use Rattle.pblk_model.specs.Contents.{counted, newer, is_newer, is_of, winner}
+use Rattle.world_laws.proofs.WinnerLines.{HasStart, counted_have_start}
 use Rattle.lemmas.proofs.Maps.{all_filter}
-
--- the record's line has a start record
-abbrev pub HasStart : Image → Record → Type 0
-HasStart i r = is_some (start_of i r.line) ≡ true
 
 mapped_line : (i : Image) (line seq a : ℕ) (block : Block) (m : Mark) (o : Option (Option ℕ)) (r : Record)
     → option_map (λ lba. record { line = line; seq = seq; at = a; position = m.position; lba = lba; sector = block.sector }) o ≡ Some r → r.line ≡ line
@@ -31,20 +26,6 @@ pub block_line : (i : Image) (line a : ℕ) (start : StartRecord) (o : Option Bl
     → option_and_then (λ block. option_and_then (bears i.shape line start.seq a block) (mark_at i.shape (end_of i line start) a block)) o ≡ Some r → r.line ≡ line
 block_line i line a start None r e = absurd (none-some r e)
 block_line i line a start (Some block) r e = marked_line i line start.seq a block (mark_at i.shape (end_of i line start) a block) r e
-
-line_starts : (i : Image) (line : ℕ) (o : Option StartRecord) → start_of i line ≡ o → AllByRecursion (HasStart i) (records_after i line o)
-line_starts i line None e = tt
-line_starts i line (Some start) e = all_made (record_at i line start) (HasStart i)
-    (λ a r h. ap (λ n. is_some (start_of i n)) (block_line i line a start (block_at i line a) r h) ∙ ap is_some e)
-    (range_with_len 0 _)
-
-all_lines : (i : Image) (lines : List ℕ) → AllByRecursion (HasStart i) (flat_map (line_records i) lines)
-all_lines i [] = tt
-all_lines i (line ∷ lines) = all_append (HasStart i) (line_records i line) (flat_map (line_records i) lines) (line_starts i line (start_of i line) refl) (all_lines i lines)
-
-counted_starts : (i : Image) (o : Option StartRecord) → AllByRecursion (HasStart i) (counted_after (records i) o)
-counted_starts i None = tt
-counted_starts i (Some h) = all_filter (HasStart i) (counts h (end_after (records i) (Some h))) (records i) (all_lines i (range_with_len 0 i.shape.chunks))
 
 IsSuch : (Record → Type 0) → Option Record → Type 0
 IsSuch P o = (r : Record) → o ≡ Some r → P r
@@ -62,14 +43,11 @@ newest_is : (P : Record → Type 0) (rs : List Record) (best : Option Record) �
 newest_is P [] best all is = is
 newest_is P (r ∷ rs) best all is = newest_is P rs (newer best r) all.1 (newer_is P best r all.0 is)
 
-pub winner_starts : (i : Image) (lba : ℕ) (r : Record) → winner (counted i) lba ≡ Some r → is_some (start_of i r.line) ≡ true
-unfolding IsSuch
-winner_starts i lba r e =
-    newest_is (HasStart i) (filter (λ (x : Record). is_of lba x.lba) (counted i)) None (all_filter (HasStart i) (λ (x : Record). is_of lba x.lba) (counted i) (counted_starts i (head i)))
-    (λ x h. absurd (none-some x h)) r e
-
 -- what holds of all records that count holds of the winner
 pub winner_is : (i : Image) (P : Record → Type 0) (lba : ℕ) (r : Record) → AllByRecursion P (counted i) → winner (counted i) lba ≡ Some r → P r
 unfolding IsSuch
 winner_is i P lba r all e =
     newest_is P (filter (λ (x : Record). is_of lba x.lba) (counted i)) None (all_filter P (λ (x : Record). is_of lba x.lba) (counted i) all) (λ x h. absurd (none-some x h)) r e
+
+pub winner_starts : (i : Image) (lba : ℕ) (r : Record) → winner (counted i) lba ≡ Some r → is_some (start_of i r.line) ≡ true
+winner_starts i lba r e = winner_is i (HasStart i) lba r (counted_have_start i) e

@@ -29,7 +29,8 @@ use Rattle.core_laws.proofs.Placing.{new_placed, with_place}
 use Rattle.core_laws.specs.PlacedEntries.{AreOfSectors}
 use Rattle.core_laws.proofs.LogOrders.{in_order}
 use Rattle.core_laws.proofs.Followed.{IsNextEvent, by_events, follow, plain_of}
-use Rattle.core_laws.proofs.StripesInOrder.{its_stripes, stripes_now as stripe_behind}
+use Rattle.core_laws.proofs.Placing.{stripes_now as stripe_behind}
+use Rattle.core_laws.proofs.StripesInOrder.{its_stripes}
 use Rattle.core_laws.proofs.PartLengths.{IsStriped}
 use Rattle.core_laws.proofs.PlainOpenings.{IsOpenedLine, opened_lines}
 use Rattle.pblk_laws.proofs.MarkNames.{pad_none, meta_none}

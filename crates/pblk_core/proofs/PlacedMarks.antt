@@ -21,7 +21,7 @@ use Rattle.core_laws.proofs.Engine.{placements_before}
 use Rattle.core_laws.proofs.Taking.{filter_last}
 use Rattle.core_laws.proofs.Placing.{IsPlacing, with_place, new_placed, answers_now, placed_on_now, answer_now, new_unanswered}
 use Rattle.core_laws.proofs.PlacedLines.{get_last as got_end}
-use Rattle.core_laws.proofs.StripesInOrder.{stripes_now}
+use Rattle.core_laws.proofs.Placing.{stripes_now}
 use Rattle.world_laws.proofs.EndRecords.{part_of_front as beyond_end}
 use Rattle.pblk_core.specs.Stands.{unlanded, under_way}
 use Rattle.lemmas.proofs.Maps.{all_filter, filter_agree}

@@ -34,7 +34,7 @@ use Rattle.core_laws.proofs.LineForms.{formed}
 use Rattle.core_laws.proofs.NextStripes.{unfailed}
 use Rattle.core_laws.proofs.OfferedStripes.{IsOffered, what_is_offered}
 use Rattle.core_laws.proofs.Placeable.{HasParts, parts_of, kind_in, kind_by, IsPart, part_of, next_may_be_placed, next_is_its, offered_is_for}
-use Rattle.core_laws.proofs.FindingInLists.{some_any as found_some}
+use Rattle.core_laws.proofs.PlacedLines.{found_any as found_some}
 use Rattle.pblk_core.specs.Stands.{Stands, left_openings, IsOpenLine}
 use Rattle.pblk_core.specs.Slots.{IsSlot}
 use Rattle.pblk_core.specs.declared.target_core.Core.{Core}

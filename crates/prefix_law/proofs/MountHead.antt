@@ -26,7 +26,8 @@ use Rattle.world_laws.proofs.Fronts.{IsLandedAt, landed_at, synced_from}
 use Rattle.world_laws.proofs.LandedRecords.{freed_below_front}
 use Rattle.world_laws.proofs.Latest.{IsLatestBelow, IsStandingAt, latest_stands}
 use Rattle.world_laws.proofs.Lives.{life_is_known, standing_or_freed}
-use Rattle.world_laws.proofs.Newest.{end_from_front, later_front, newest_stands, older_when_freed}
+use Rattle.world_laws.proofs.FoundCounts.{front_low}
+use Rattle.world_laws.proofs.Newest.{later_front, newest_stands, older_when_freed}
 use Rattle.world_laws.proofs.Stripes.{life_of_stripe, opening_then}
 use Rattle.world_laws.proofs.WinnerLines.{winner_stands}
 use Rattle.world_laws.proofs.LifePlaces.{have_places}
@@ -99,7 +100,7 @@ module _ (i : Image) (w : World) (b : Begun) (mount : IsLegalMount i w) (facts :
     where
       go : IsNewestBy i w s → s.front ≤ h.front
       go (inl was) =
-          let low : s.front ≤ end found = end_from_front found s was in
+          let low : s.front ≤ end found = front_low found s was in
           let from : end found ≤ m.o.start.front = (started i w m.o mount.legal m.there).start.from in
           let same : h.front ≡ m.o.start.front = ap (λ (r : StartRecord). r.front) m.start in
           omega arith
@@ -293,7 +294,7 @@ module _ (i : Image) (w : World) (b : Begun) (mount : IsLegalMount i w) (facts :
                   let seq : x.seq ≡ at.start.seq = at.seq in
                   absurd (omega arith)
               | inr (s, newest, under) ↦
-                  let low : s.front ≤ end found = end_from_front found s (newest_found s newest) in
+                  let low : s.front ≤ end found = front_low found s (newest_found s newest) in
                   let at = first in
                   absurd (omega arith)
             ]

@@ -13,7 +13,7 @@ use Rattle.pblk_world.specs.Starts.{bound_by}
 use Rattle.pblk_laws.proofs.Winners.{winner_is_winner, no_winner_no_record}
 use Rattle.lemmas.proofs.Lists.{among_contained}
 use Rattle.lemmas.proofs.Parts.{contained_among}
-use Rattle.world_laws.proofs.StartFits.{old_seq, bound_low}
+use Rattle.world_laws.proofs.FoundCounts.{bound_within, seq_older}
 use Rattle.prefix_law.specs.Assembled.{Given, Entries, IsEntry, IsEntryOf, by_row, CountsOld, HoldsUnder, IsAssembled}
 use Rattle.prefix_law.specs.AfterMount.{rows_of, IsOldLine, IsAfterMount, IsBorneAnew, StandsUnder, HasNewHead}
 use Rattle.prefix_law.proofs.OldRows.{IsByRow, by_row_is, is_by_row, IsRowFound, row_from, counts_still, IsOldCounted, counted_by_row}
@@ -24,7 +24,7 @@ module _ (found now : Image) (es : Entries) (front : ℕ) (c : IsAfterMount foun
   -- ---- a record is an old line's or a new one's
 
   pub old_below : (line : ℕ) (r : StartRecord) → line < now.shape.chunks → IsOldLine found now line r → r.seq < next_seq (head found)
-  old_below line r inside old = old_seq found line r (subst (λ (s : Shape). line < s.chunks) c.shape inside) old.start
+  old_below line r inside old = seq_older found line r (subst (λ (s : Shape). line < s.chunks) c.shape inside) old.start
 
   was_found : (x : Record) → Contains (records now) x → x.seq < next_seq (head found) → Contains (records found) x
   was_found x there low =
@@ -74,7 +74,8 @@ module _ (found now : Image) (es : Entries) (front : ℕ) (c : IsAfterMount foun
         go true is =
             let at : IsRowThere x = row_there x is in
             let seq : at.is_found.start.seq ≡ x.seq = ap (λ (row : Row). row.seq) at.is_found.is ∙ at.by_it.seq in
-            let low : at.is_found.start.seq < next_seq (head found) = old_seq found at.is_found.line at.is_found.start at.is_found.in_range at.is_found.whole in
+            let low : at.is_found.start.seq < next_seq (head found) =
+            seq_older found at.is_found.line at.is_found.start at.is_found.in_range at.is_found.whole in
             let first = first_seq in
             absurd (omega arith)
 
@@ -83,7 +84,7 @@ module _ (found now : Image) (es : Entries) (front : ℕ) (c : IsAfterMount foun
         let at : IsRowThere x = row_there x is in
         let bound : bound_by (head found) (end found) at.is_found.line at.is_found.start.seq ≡ at.row.bound = ap (λ (row : Row). row.bound) at.is_found.is in
         let low : bound_by (head found) (end found) at.is_found.line at.is_found.start.seq ≤ end found =
-        bound_low found at.is_found.line at.is_found.start.seq in
+        bound_within found (head found) (end found) at.is_found.line at.is_found.start.seq refl refl in
         let below : x.position < at.row.bound = at.by_it.below in
         let first : es.first ≡ end found = c.first in
         omega arith
@@ -101,7 +102,7 @@ module _ (found now : Image) (es : Entries) (front : ℕ) (c : IsAfterMount foun
     still_counts lba x there of_it stands =
         let of : IsOldCounted found x = counted_by_row found x there in
         let at : IsAt found x = record_is_at found x of.there in
-        let low : at.start.seq < next_seq (head found) = old_seq found x.line at.start at.in_range at.whole in
+        let low : at.start.seq < next_seq (head found) = seq_older found x.line at.start at.in_range at.whole in
         let same : x.seq ≡ at.start.seq = at.seq in
         let first = first_seq in
         let row : Contains h.rows of.row = stands.rows of.row (contained_among (rows_of found) of.row of.by_it.there) of.by_it.line in record {

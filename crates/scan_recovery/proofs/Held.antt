@@ -25,7 +25,8 @@ use Rattle.scan_recovery.specs.Tally.{named_count}
 use Rattle.scan_recovery.specs.Traces.{IsTable, bare, bares, without_sector}
 use Rattle.scan_recovery.proofs.Founds.{thin, winner_thin}
 use Rattle.scan_recovery.proofs.Results.{counted_are}
-use Rattle.scan_recovery.proofs.ScanSteps.{if_map, if_then, kept_all}
+use Rattle.world_laws.proofs.WinnerLines.{if_map, if_then}
+use Rattle.scan_recovery.proofs.ScanSteps.{kept_all}
 use Rattle.scan_recovery.proofs.Surveys.{flat_one}
 use Rattle.scan_recovery.proofs.Tables.{table_list, table_same, take_one}
 use Rattle.lemmas.proofs.Lists.{all_append}

@@ -13,6 +13,7 @@ use Rattle.pblk_model.specs.EndRecord.{end_of}
 use Rattle.pblk_model.specs.Records.{Record, named, mark_at, bears, record_at, records_after, line_records}
 use Rattle.world_laws.specs.Finding.{taken_state}
 use Rattle.world_laws.proofs.FoundCounts.{lines_few}
+use Rattle.world_laws.proofs.WinnerLines.{if_map, if_then}
 use Rattle.scan_recovery.specs.declared.trace.Trace.{Trace}
 use Rattle.scan_recovery.specs.declared.survey.Survey.{Survey}
 use Rattle.scan_recovery.specs.Survey.{IsSurvey}
@@ -60,14 +61,6 @@ pub units_done : (us : List (List Chunk)) (unit : ℕ) (now : List ChunkState) �
 units_done us unit now past now-is = now-is ∙ ap (flat_map states_of) (take_all us unit past)
 
 -- Records.
-
-pub if_map : {X Y : Type 0} (P : Y → Type 0) (f : X → Y) (o : Option X) → ((x : X) → P (f x)) → IfSome (option_map f o) P
-if_map P f None h = tt
-if_map P f (Some x) h = h x
-
-pub if_then : {X Y : Type 0} (P : Y → Type 0) (f : X → Option Y) (o : Option X) → ((x : X) → IfSome (f x) P) → IfSome (option_and_then f o) P
-if_then P f None h = tt
-if_then P f (Some x) h = h x
 
 record_line : (i : Image) (line : ℕ) (start : StartRecord) (a : ℕ) → IfSome (record_at i line start a) (λ r. r.line ≡ line)
 record_line i line start a =

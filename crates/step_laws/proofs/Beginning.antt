@@ -15,12 +15,13 @@ use Rattle.pblk_world.specs.Lines.{found_by, found_image, told_by, told_events, 
 use Rattle.pblk_world.specs.Commanding.{ends_program, ends_stripe, ended_stripes}
 use Rattle.pblk_world.specs.Opening.{MayBegin}
 use Rattle.pblk_world.specs.Legal.{IsLegal}
+use Rattle.world_laws.proofs.Made.{known_within}
 use Rattle.core_laws.specs.FaultlessMounts.{IsFaultlessMount}
 use Rattle.core_laws.proofs.FaultlessMounts.{still_faultless}
 use Rattle.step_laws.specs.Whole.{knows_all, engine_step, after_begin, IsLevel, IsKnown}
 use Rattle.step_laws.proofs.ChunkEvents.{same_images}
 use Rattle.step_laws.proofs.EngineSteps.{engine_logs, media_still}
-use Rattle.step_laws.proofs.Knowing.{next_step, known_whole, known_before}
+use Rattle.step_laws.proofs.Knowing.{next_step, known_whole}
 use Rattle.step_laws.proofs.Levels.{level_by}
 use Rattle.lemmas.proofs.Maps.{numbered_at}
 use Rattle.lemmas.proofs.Numbers.{fun_same}
@@ -87,7 +88,7 @@ none_ended (l ∷ log) early =
 none_level : (i : Image) (w : World) → IsLegal i w → log_of w 0 ≡ [] → IsLevel w
 none_level i w legal none unit =
     none_ended (log_of w (suc unit)) (λ l has.
-    let low : known l 0 ≤ length (log_of w 0) = known_before i w legal (suc unit) l has 0 in
+    let low : known l 0 ≤ length (log_of w 0) = known_within i w (suc unit) 0 l legal has in
     let count : length (log_of w 0) ≡ 0 = ap (λ (log : List Logged). length log) none in
     omega arith)
     ∙ sym (ap (λ (log : List Logged). length (answers log unit)) none)

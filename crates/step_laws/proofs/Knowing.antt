@@ -16,6 +16,7 @@ use Rattle.core_laws.proofs.Happened.{happened}
 use Rattle.step_laws.specs.Whole.{knows_all}
 use Rattle.lemmas.proofs.Numbers.{fun_same}
 use Rattle.pblk_world.proofs.WorldLemmas.{log_elsewhere}
+use Rattle.world_laws.proofs.Made.{known_within}
 
 -- there are no authors beyond the last unit
 pub none_beyond : (i : Image) (w : World) → IsLegal i w → (author : ℕ) → units i.shape < author → log_of w author ≡ []
@@ -47,11 +48,6 @@ got [] k x inside e = absurd (omega arith)
 got (y ∷ xs) zero x inside e = ap (λ z. Some z) e
 got (y ∷ xs) (suc k) x inside e = got xs k x (omega arith) e
 
-pub known_before : (i : Image) (w : World) → IsLegal i w → (author : ℕ) (earlier : Logged) → Contains (log_of w author) earlier → (other : ℕ) → known earlier other ≤ length (log_of w other)
-known_before i w legal author earlier has other =
-    let is : HasHappened i (log_of w) author has.0 earlier = happened i w author legal has.0 earlier (got (log_of w author) has.0 earlier has.1 has.2) in
-    is.within other
-
 pub knowledge : (i : Image) (w : World) (author : ℕ) (e : Event) → IsLegal i w → IsKnowledge i (log_of w) author (record { event = e; knows = knows_all i.shape w })
 knowledge i w author e legal = record {
   authors = length-map-range_with_len (λ (a : ℕ). length (log_of w a)) 0 (units i.shape + 1);
@@ -59,7 +55,7 @@ knowledge i w author e legal = record {
   within = λ other. let same : slice_index (knows_all i.shape w) other ≡ length (log_of w other) = known_whole i w legal other in omega arith;
   rising = λ earlier other has.
       let same : slice_index (knows_all i.shape w) other ≡ length (log_of w other) = known_whole i w legal other in
-      let low : known earlier other ≤ length (log_of w other) = known_before i w legal author earlier has other in
+      let low : known earlier other ≤ length (log_of w other) = known_within i w author other earlier legal has in
       omega arith;
 }
 

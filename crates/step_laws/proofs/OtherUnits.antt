@@ -43,13 +43,6 @@ pub record AreAlike (i : Image) (us : ℕ → List Logged) (logs : Logs) : Type 
   pub image : known_image i (with_units us logs) ≡ known_image i logs
   pub images : (n : ℕ) → known_image i (engine_prefix n (with_units us logs)) ≡ known_image i (engine_prefix n logs)
 
-pub prefix_past : (logs : Logs) (n : ℕ) → length (logs 0) ≤ n → engine_prefix n logs ≡ logs
-prefix_past logs n past = fun_same (engine_prefix n logs) logs go
-  where
-    go : (author : ℕ) → engine_prefix n logs author ≡ logs author
-    go zero = take_all n (logs 0) past
-    go (suc unit) = refl
-
 -- a prefix of a prefix is one
 prefix_of_prefix : (m n : ℕ) (logs : Logs) → engine_prefix m (engine_prefix n logs) ≡ engine_prefix (min m n) logs
 prefix_of_prefix m n logs = fun_same (engine_prefix m (engine_prefix n logs)) (engine_prefix (min m n) logs) go

@@ -10,6 +10,7 @@ use Rattle.pblk_model.specs.Image.{Image}
 use Rattle.pblk_world.specs.World.{Logs}
 use Rattle.pblk_world.specs.EngineLog.{Taken, Placed, placements, has_landed, bears_position}
 use Rattle.pblk_world.specs.Space.{is_readable_in, gives_back}
+use Rattle.world_laws.proofs.Placements.{number_of}
 use Rattle.l2p_map.specs.declared.slot.Slot.TheVariants.{Cached, Media}
 use Rattle.core_laws.specs.SlotOf.{address_in, readable_block, media_of, slot_of_entry, slot_of_winner}
 use Rattle.lemmas.proofs.Lists.{IsAmong}
@@ -17,17 +18,6 @@ use Rattle.lemmas.proofs.Maps.{found_passes}
 use Rattle.lemmas.proofs.Tests.{both}
 
 -- ---- lists
-
-numbered_get : {X : Type 0} (n : ℕ) (xs : List X) (k : ℕ) (b : ℕ × X) → slice_get (enumerate_from n xs) k ≡ Some b → (b.0 ≡ n + k) × (slice_get xs k ≡ Some b.1)
-numbered_get n [] k b e = absurd (none-some b e)
-numbered_get {X} n (x ∷ xs) zero b e =
-    let same : (n, x) ≡ b = same_Some (n, x) b e in
-    let here : n ≡ b.0 = ap (λ (c : ℕ × X). c.0) same in
-    (omega arith, ap (λ (c : ℕ × X). Some c.1) same)
-numbered_get n (x ∷ xs) (suc k) b e =
-    let rest = numbered_get (n + 1) xs k b e in
-    let at : b.0 ≡ n + 1 + k = rest.0 in
-    (omega arith, rest.1)
 
 any_found : {X : Type 0} (f : X → Bool) (xs : List X) → list_any f xs ≡ true → (x : X) × (find f xs ≡ Some x)
 any_found f [] e = absurd cc
@@ -56,7 +46,7 @@ read_in i logs q p e =
     let facts = both (has_landed (logs 0) p) (list_any test (enumerate_from p.stripe.at p.stripe.blocks)) is.0 in
     let found = any_found test (enumerate_from p.stripe.at p.stripe.blocks) facts.1 in
     let at = found_passes test (enumerate_from p.stripe.at p.stripe.blocks) found.0 found.1 in
-    let numbered = numbered_get p.stripe.at p.stripe.blocks at.1.0 found.0 at.1.1 in
+    let numbered = number_of p.stripe.at p.stripe.blocks at.1.0 found.0 at.1.1 in
     let passes = both (bears_position i.shape q found.0.1) (is_readable_in i.shape (logs 0) p.stripe.unit found.0.0 p.life) at.0 in
     record {
       among = is.1;

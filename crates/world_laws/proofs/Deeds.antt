@@ -16,7 +16,7 @@ use Rattle.pblk_world.specs.EngineLog.{begun}
 use Rattle.pblk_world.specs.Commanding.{has_stopped, IsCommand, MayDo}
 use Rattle.pblk_world.specs.Legal.{IsLegal, IsAllowed}
 use Rattle.world_laws.specs.UnitChunks.{chunk_after, first_events}
-use Rattle.world_laws.proofs.NamedPrefixes.{IsMade, was_made}
+use Rattle.world_laws.proofs.NamedPrefixes.{IsByPrefixes, was_made}
 use Rattle.world_laws.proofs.UnitChunks.{named_chunk, chunk_beside, chunk_here}
 
 pub record IsDeed (i : Image) (w : World) (unit n : ℕ) (l : Logged) : Type 0 where
@@ -31,7 +31,7 @@ pub record IsDeed (i : Image) (w : World) (unit n : ℕ) (l : Logged) : Type 0 w
   pub left : chunk_after i (log_of w) event.chunk unit (suc n) ≡ Some (after_outcome i.shape found event.command event.outcome)
   pub others : (line : ℕ) → event.chunk ≢ line → chunk_after i (log_of w) line unit (suc n) ≡ chunk_after i (log_of w) line unit n
 
-module _ (i : Image) (w : World) (unit n : ℕ) (l : Logged) (there : slice_get (log_of w (suc unit)) n ≡ Some l) (made : IsMade i w (suc unit) n l) where
+module _ (i : Image) (w : World) (unit n : ℕ) (l : Logged) (there : slice_get (log_of w (suc unit)) n ≡ Some l) (made : IsByPrefixes i w (suc unit) n l) where
   abbrev named : Logs
   named = prefixes l (log_of w)
 

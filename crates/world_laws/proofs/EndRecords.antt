@@ -45,6 +45,7 @@ use Rattle.world_laws.specs.LegalMounts.{IsLegalMount}
 use Rattle.world_laws.proofs.Later.{landed_later, placed_within}
 use Rattle.world_laws.proofs.LineBlocks.{IsLineOf, block_placed, landed_written, opened_line}
 use Rattle.world_laws.proofs.LineStarts.{IsAt, address_of_next, cut_bytes, cut_marks, get_range, is_at, landed_of, never_both, next_written, no_pad, pad_is, part_get}
+use Rattle.world_laws.proofs.NumberedLists.{joined_count}
 use Rattle.world_laws.proofs.LineStripes.{IsKind, IsLostBefore, IsSplit, before, enough_placed, lost_before, next_fits, some_data, start_whole, stripe_count, stripe_kind, stripe_then, stripes_split, turn_of_stripe}
 
 -- ---- lists
@@ -59,14 +60,6 @@ piece_at {X} {Y} f m (z ∷ xs) zero k x y all there is =
 piece_at f m (z ∷ xs) (suc j) k x y all there is =
     let far : suc j * m + k ≡ m + (j * m + k) = omega arith in
     ap (slice_get (f z ++ flat_map f xs)) far ∙ get_rest (f z) (flat_map f xs) m (j * m + k) all.0 ∙ piece_at f m xs j k x y all.1 there is
-
-pieces_length : {X Y : Type 0} (f : X → List Y) (m : ℕ) (xs : List X) → AllByRecursion (λ z. length (f z) ≡ m) xs → length (flat_map f xs) ≡ length xs * m
-pieces_length f m [] all = let none : 0 ≡ 0 * m = omega arith in none
-pieces_length f m (z ∷ xs) all =
-    let rest : length (flat_map f xs) ≡ length xs * m = pieces_length f m xs all.1 in
-    let both : length (f z ++ flat_map f xs) ≡ length (f z) + length (flat_map f xs) = length-append (f z) (flat_map f xs) in
-    let more : suc (length xs) * m ≡ m + length xs * m = omega arith in
-    omega (arith, all.0, rest, both, more)
 
 -- a part of a list is one of a longer list
 pub part_of_front : {X : Type 0} (xs ys : List X) (a b : ℕ) → a ≤ b → b ≤ length xs → slice_range (xs ++ ys) a b ≡ slice_range xs a b
@@ -134,7 +127,7 @@ module _ (i : Image) (w : World) (mount : IsLegalMount i w) (o : Opening) (is_op
       let split : IsSplit log o n = stripes_split log o n in
       let blocks : Placed → List Block = λ p. p.stripe.blocks in
       let long : length (flat_map blocks (stripes_of (take n log) o)) ≡ length (stripes_of (take n log) o) * s.ws_opt =
-      pieces_length blocks s.ws_opt (stripes_of (take n log) o)
+      joined_count blocks s.ws_opt (stripes_of (take n log) o)
       (all_by_get (λ (p : Placed). length p.stripe.blocks ≡ s.ws_opt) (stripes_of (take n log) o)
       (λ k p there. all_at (λ (q : Placed). length q.stripe.blocks ≡ s.ws_opt) (stripes_of log o) k p (stripe_then log o n k p there) counts)) in
       let more : ends / s.ws_opt * s.ws_opt ≤ length (stripes_of (take n log) o) * s.ws_opt = mul-le-mul_right s.ws_opt enough in
@@ -372,7 +365,7 @@ module _ (i : Image) (w : World) (mount : IsLegalMount i w) (o : Opening) (is_op
     pairs_length =
         let blocks : List Block = flat_map (λ (p : Placed). p.stripe.blocks) (stripes_of log o) in
         let long : length (flat_map (λ (p : Placed). p.stripe.blocks) (stripes_of log o)) ≡ length (stripes_of log o) * s.ws_opt =
-        pieces_length (λ (p : Placed). p.stripe.blocks) s.ws_opt (stripes_of log o) counts in
+        joined_count (λ (p : Placed). p.stripe.blocks) s.ws_opt (stripes_of log o) counts in
         let b : IsEndBlock 0 = end_block 0 some_end in
         let x : IsEndStripe 0 b.block = end_stripe 0 b.block b.written b.mark in
         let before_it : before log o x.at.placed.number ≤ length (stripes_of log o) = fewer x.at.placed.number in

@@ -20,7 +20,7 @@ use Rattle.pblk_world.proofs.Growing.{knowledge_rises}
 use Rattle.lemmas.proofs.Options.{split_then}
 use Rattle.lemmas.proofs.Parts.{all_at, get_below, got_within}
 use Rattle.world_laws.specs.UnitChunks.{chunk_after}
-use Rattle.world_laws.proofs.NamedPrefixes.{IsMade, was_made}
+use Rattle.world_laws.proofs.NamedPrefixes.{IsByPrefixes, was_made}
 use Rattle.world_laws.proofs.Deeds.{IsDeed, deed, fetch_leaves}
 use Rattle.world_laws.proofs.UnitChunks.{named_chunk}
 
@@ -68,7 +68,7 @@ begun_as i logs knows (Does e maker) empty allowed = absurd allowed
 pub begun_there : (i : Image) (w : World) (n : ℕ) → IsLegal i w → n ≤ length (log_of w 0) → 0 < n → (b : Begun) × (begun (take n (log_of w 0)) ≡ Some b)
 begun_there i w n legal few some =
     let first = got_within (log_of w 0) 0 (omega arith) in
-    let made : IsMade i w 0 0 first.0 = was_made i w 0 0 first.0 legal first.1 in
+    let made : IsByPrefixes i w 0 0 first.0 = was_made i w 0 0 first.0 legal first.1 in
     let b = begun_as i (prefixes first.0 (log_of w)) first.0.knows first.0.event (ap (λ k. take k (log_of w 0)) made.own) made.allowed in
     (b.0, begun_taken n (log_of w 0) some ∙ begun_head (log_of w 0) first.0 first.1 ∙ b.1)
 

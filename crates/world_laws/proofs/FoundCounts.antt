@@ -1,8 +1,9 @@
 -- The end, and the positions of the records that count.
-use Rattle.std.proofs.Common.{◌≡◌, ℕ, ◌+◌, ◌*◌, ◌^◌, ◌<◌, ◌≤◌, ◌==◌, ◌&&◌, nat_lt, nat_le, max, zero, suc, Bool, true, false, cond, ltb, leb, Option, Some, None, List, [], ◌∷◌, length, refl, sym, subst, ap, ◌∙◌, arith, inl, inr, length-append}
+use Rattle.std.proofs.Common.{◌≡◌, ℕ, ◌+◌, ◌*◌, ◌^◌, ◌<◌, ◌≤◌, ◌==◌, ◌&&◌, nat_lt, nat_le, max, zero, suc, Bool, true, false, cond, ltb, leb, Option, Some, None, List, [], ◌∷◌, length, refl, sym, subst, ap, ◌∙◌, arith, inl, inr, length-append, if◌then◌else◌}
 use Rattle.std.specs.List.{AllByRecursion, Contains, filter, filter_map, flat_map, fold, find, list_any, range_with_len}
 use Rattle.std.specs.Option.{option_map_or}
 use Rattle.std.proofs.lemmas.Bool.{and_parts, or_cases, ltb-true, leb-true, eq-eqb, eqb-true}
+use Rattle.std.proofs.lemmas.Option.{none-some}
 use Rattle.pblk_model.specs.declared.shape.Shape.{Shape}
 use Rattle.pblk_model.specs.Accepted.{IsAccepted}
 use Rattle.pblk_model.specs.Image.{Image, IsFit, width}
@@ -10,10 +11,11 @@ use Rattle.pblk_model.specs.StartRecord.{Row, StartRecord, rows_fit, start_of}
 use Rattle.pblk_model.specs.Records.{Record, record_at, records_after, line_records, records}
 use Rattle.pblk_model.specs.Contents.{IsHead, head, is_borne, least_missing, end_after, end, counts, counted_after, counted}
 use Rattle.pblk_laws.proofs.Ends.{end_is_end}
-use Rattle.pblk_laws.proofs.Heads.{head_is_head}
+use Rattle.pblk_laws.proofs.Heads.{head_is_head, no_head_no_start}
 use Rattle.pblk_laws.proofs.Starts.{HasNumbers, numbers, found_is}
 use Rattle.pblk_laws.proofs.Widths.{width_within}
-use Rattle.pblk_world.specs.Starts.{row_bound}
+use Rattle.pblk_world.specs.Lines.{next_seq}
+use Rattle.pblk_world.specs.Starts.{bound_by, row_bound}
 use Rattle.world_laws.specs.Finding.{top_of}
 use Rattle.world_laws.proofs.WrittenBlocks.{counted_passed}
 use Rattle.lemmas.proofs.Lists.{all_contains, contains_cases, contains_none}
@@ -120,6 +122,23 @@ bound_low i h line seq e =
     let low = found_below h.front (λ row. (row.line == line) && (row.seq == seq)) h.rows (rows_below i.shape h 0 h.rows (head_at i h e).numbers.rows) in
     let front : h.front ≤ end i = front_low i h e in
     omega arith
+
+-- a start record of an image is older than what comes after its head
+pub seq_older : (j : Image) (line : ℕ) (start : StartRecord) → line < j.shape.chunks → start_of j line ≡ Some start → start.seq < next_seq (head j)
+seq_older j line start inside is = go (head j) refl
+  where
+    go : (o : Option StartRecord) → head j ≡ o → start.seq < next_seq o
+    go None e = absurd (none-some start (sym (no_head_no_start j line e inside) ∙ is))
+    go (Some h) e = elim ((head_at j h e).is_head.greatest line start inside is) [ inl less ↦ omega arith | inr same ↦ omega (arith, same.0) ]
+
+-- no bound is above the end
+pub bound_within : (j : Image) (o : Option StartRecord) (first line seq : ℕ) → head j ≡ o → first ≡ end j → bound_by o first line seq ≤ first
+bound_within j None first line seq e is = omega arith
+bound_within j (Some h) first line seq e is = go (nat_le h.first_seq seq)
+  where
+    go : (b : Bool) → (if b then first else row_bound h line seq) ≤ first
+    go true = omega arith
+    go false = let low : row_bound h line seq ≤ end j = bound_low j h line seq e in omega arith
 
 -- ---- records that count are below the end
 

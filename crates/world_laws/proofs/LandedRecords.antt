@@ -7,7 +7,7 @@ use Rattle.std.proofs.lemmas.Option.{slice_get_within}
 use Rattle.pblk_model.specs.declared.shape.Shape.{Shape}
 use Rattle.pblk_model.specs.Chunk.{Block}
 use Rattle.pblk_model.specs.Image.{Image}
-use Rattle.pblk_model.specs.Records.{Record, named, bears}
+use Rattle.pblk_model.specs.Records.{Record, named}
 use Rattle.pblk_world.specs.Events.{Logged}
 use Rattle.pblk_world.specs.World.{World, log_of}
 use Rattle.pblk_world.specs.EngineLog.{Opening, Opened, life_of, Placed, stripes_of, answer_of, is_land, has_landed, bears_position, holds_position}

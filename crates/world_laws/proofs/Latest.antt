@@ -12,7 +12,7 @@ use Rattle.pblk_model.specs.Accepted.{IsAccepted}
 use Rattle.pblk_model.specs.Chunk.{Block}
 use Rattle.pblk_model.specs.Contents.{IsNewer, counted, end}
 use Rattle.pblk_model.specs.Image.{Image}
-use Rattle.pblk_model.specs.Records.{Record, named, bears}
+use Rattle.pblk_model.specs.Records.{Record, named}
 use Rattle.pblk_world.specs.Events.{Free, Decides, Logged}
 use Rattle.pblk_world.specs.World.{World, Logs, log_of}
 use Rattle.pblk_world.specs.EngineLog.{Begun, begun, Opening, openings, LineLife, AsFound, Opened, Freed, last_opening, turned_by, life_of, is_life, Placed, placements, stripes_of, Taken, takes, has_landed, bears_position, holds_position}
@@ -29,7 +29,7 @@ use Rattle.lemmas.proofs.Options.{map_some}
 use Rattle.lemmas.proofs.Parts.{all_at, contained_among, get_taken, take_and_drop, take_next}
 use Rattle.lemmas.proofs.Tests.{and_both, other_number, same_number}
 use Rattle.world_laws.proofs.Begun.{IsBegunWith, begun_with}
-use Rattle.world_laws.proofs.CountedLow.{counted_low}
+use Rattle.world_laws.proofs.FoundCounts.{counted_below}
 use Rattle.world_laws.proofs.Entries.{IsEntryOrNone, entries_of_stripe, marks_bear}
 use Rattle.world_laws.proofs.Freeing.{IsFreeable, freed_life_at}
 use Rattle.world_laws.proofs.Fronts.{IsLandedAt, landed_at}
@@ -189,7 +189,7 @@ found_low : (i : Image) (w : World) (k n : ℕ) (t : Taken) (r : Record) → IsL
 found_low i w k n t r legal at there g begins =
     let with_ : IsBegunWith i w g = begun_with i w g legal begins in
     let low : r.position < end (found_image i (log_of w)) =
-    counted_low (found_image i (log_of w)) r (subst (λ (j : Image). Contains (counted j) r) (found_then i (log_of w) k) there) in
+    counted_below (found_image i (log_of w)) r (subst (λ (j : Image). Contains (counted j) r) (found_then i (log_of w) k) there) in
     let first : first_position (log_of w 0) ≡ end (found_image i (log_of w)) =
     ap (λ e. option_map_or (λ (b : Begun). b.beginning.first) e 0) begins ∙ with_.first in
     let position : t.entry.position ≡ first_position (log_of w 0) + n = position_of i w n t legal at in

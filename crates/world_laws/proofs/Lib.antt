@@ -18,7 +18,6 @@ pub mod StartRecords
 pub mod Newest
 pub mod Entries
 pub mod LandedRecords
-pub mod CountedLow
 pub mod Latest
 pub mod WinnerLines
 pub mod StartFits
@@ -94,4 +93,3 @@ pub mod FoundWinners
 pub mod FoundFits
 pub mod MayBegin
 pub mod BegunWithFound
-pub mod OlderRows

@@ -9,8 +9,8 @@ use Rattle.std.proofs.lemmas.Option.{none-some, same_Some}
 use Rattle.pblk_model.specs.declared.shape.Shape.{Shape}
 use Rattle.pblk_model.specs.Image.{Image}
 use Rattle.pblk_model.specs.StartRecord.{StartRecord}
-use Rattle.pblk_model.specs.Contents.{head, end, end_after, is_borne}
-use Rattle.pblk_model.specs.Records.{Record, records}
+use Rattle.pblk_model.specs.Contents.{head, end}
+use Rattle.pblk_model.specs.Records.{Record}
 use Rattle.pblk_world.specs.Events.{Logged}
 use Rattle.pblk_world.specs.World.{World, log_of}
 use Rattle.pblk_world.specs.EngineLog.{Begun, Opening, openings, Opened, life_of, is_life, Placed, placements, stripes_of, has_landed}
@@ -25,8 +25,8 @@ use Rattle.lemmas.proofs.Maps.{all_filter, all_passed, from_filter, in_filter}
 use Rattle.lemmas.proofs.Parts.{all_at, all_by_get, all_taken, contained_among, take_and_drop}
 use Rattle.lemmas.proofs.Tests.{and_both, first_of, le_true, second_of, within_is}
 use Rattle.world_laws.proofs.Begun.{IsBegunWith, begun_with}
+use Rattle.world_laws.proofs.FoundCounts.{front_low}
 use Rattle.world_laws.proofs.Freeing.{IsFreeable, freed_life_at}
-use Rattle.world_laws.proofs.Fronts.{least_from}
 use Rattle.world_laws.proofs.Later.{landed_later, placed_within, placements_joined}
 use Rattle.world_laws.proofs.Lives.{IsFreedLife, standing_or_freed}
 use Rattle.world_laws.proofs.StartRecords.{IsNthOpening, nth_opening, seq_of_nth, fronts_rise, front_from_first}
@@ -141,9 +141,6 @@ landed_now s n log o at =
 
 -- ---- the newest start record
 
-pub end_from_front : (j : Image) (h : StartRecord) → head j ≡ Some h → h.front ≤ end j
-end_from_front j h e = subst (λ o. h.front ≤ end_after (records j) o) (sym e) (least_from (is_borne (records j) h) (length (records j)) h.front)
-
 -- what is as new as a start record, or newer, with a front as high or higher
 pub record IsNewest (i : Image) (w : World) (than : StartRecord) : Type 0 where
   pub newest : StartRecord
@@ -161,7 +158,7 @@ newer_than_head i w h o legal is_head at =
     let next : is.g.beginning.seq ≡ h.seq + 1 = with_.seq ∙ ap next_seq is_head in
     let first : first_position (log_of w 0) ≡ end (found_image i (log_of w)) =
     ap (λ e. option_map_or (λ (b : Begun). b.beginning.first) e 0) is.is_begun ∙ with_.first in
-    let low : h.front ≤ end (found_image i (log_of w)) = end_from_front (found_image i (log_of w)) h is_head in
+    let low : h.front ≤ end (found_image i (log_of w)) = front_low (found_image i (log_of w)) h is_head in
     let from : first_position (log_of w 0) ≤ o.start.front = front_from_first i w at.0 o legal at.1 in
     (omega arith, omega arith)
 

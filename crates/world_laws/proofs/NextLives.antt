@@ -14,7 +14,7 @@ use Rattle.pblk_world.specs.Legal.{IsAllowed, IsLegal}
 use Rattle.pblk_world.proofs.Appending.{life_more}
 use Rattle.pblk_world.proofs.LinesLemmas.{free_unopened}
 use Rattle.lemmas.proofs.Parts.{get_below, got_within, take_next}
-use Rattle.world_laws.proofs.NamedPrefixes.{IsMade, was_made}
+use Rattle.world_laws.proofs.NamedPrefixes.{IsByPrefixes, was_made}
 use Rattle.world_laws.proofs.Placements.{IsPlacing, placing_on}
 
 pub life_next : (log : List Logged) (n line : ℕ) (l : Logged) → slice_get log n ≡ Some l
@@ -35,12 +35,12 @@ module _ (i : Image) (w : World) (legal : IsLegal i w) where
     pub there : slice_get (log_of w 0) number ≡ Some l
     pub event : l.event ≡ Decides e
     pub own : prefixes l (log_of w) 0 ≡ take number (log_of w 0)
-    pub made : IsMade i w 0 number l
+    pub made : IsByPrefixes i w 0 number l
     pub allowed : IsAllowed i 0 (Decides e) (prefixes l (log_of w))
 
   pub decided : (number : ℕ) (e : EngineEvent) (l : Logged) → slice_get (log_of w 0) number ≡ Some l → l.event ≡ Decides e → IsDecided number e l
   decided number e l there is =
-      let m : IsMade i w 0 number l = was_made i w 0 number l legal there in
+      let m : IsByPrefixes i w 0 number l = was_made i w 0 number l legal there in
       record {
         there = there;
         event = is;

@@ -14,12 +14,12 @@ use Rattle.pblk_world.specs.EngineLog.{Begun, begun, placed_on}
 use Rattle.pblk_world.specs.Commanding.{is_program, ended_stripes, IsCommand, IsStripe}
 use Rattle.pblk_world.specs.Legal.{IsLegal}
 use Rattle.world_laws.specs.UnitPrograms.{IsProgramOfStripe}
-use Rattle.world_laws.proofs.NamedPrefixes.{IsMade, was_made}
+use Rattle.world_laws.proofs.NamedPrefixes.{IsByPrefixes, was_made}
 use Rattle.world_laws.proofs.Deeds.{IsDeed, deed}
 use Rattle.world_laws.proofs.Placements.{still_placed, placed_before}
 use Rattle.world_laws.proofs.FirstEvent.{begun_there}
 
-module _ (i : Image) (w : World) (unit n : ℕ) (l : Logged) (made : IsMade i w (suc unit) n l) where
+module _ (i : Image) (w : World) (unit n : ℕ) (l : Logged) (made : IsByPrefixes i w (suc unit) n l) where
   abbrev log : List Logged
   log = log_of w 0
 
@@ -55,7 +55,7 @@ pub program_of_stripe : (i : Image) (w : World) (unit n : ℕ) (l : Logged) (e :
 program_of_stripe i w unit n l e legal there is program knew =
     let d : IsDeed i w unit n l = deed i w unit n l legal there in
     let same : d.event ≡ e = same_Some d.event e (sym d.is_event ∙ is) in
-    let made : IsMade i w (suc unit) n l = was_made i w (suc unit) n l legal there in
+    let made : IsByPrefixes i w (suc unit) n l = was_made i w (suc unit) n l legal there in
     let begins = begun_there i w (knows_engine l) legal (made.within 0) knew in
     subst (IsProgramOfStripe (log_of w) unit n l) same
     (by_command i w unit n l made d.event d.found d.event.command (begun (take (knows_engine l) (log_of w 0))) begins.0 refl begins.1

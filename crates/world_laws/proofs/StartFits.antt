@@ -1,10 +1,9 @@
 -- The start record with which a line is opened fits its line: it reads back whole.
 use Rattle.std.proofs.Common.{◌≡◌, ◌≢◌, ◌⊎◌, inl, inr, ℕ, ◌+◌, ◌-◌, ◌^◌, ◌<◌, ◌≤◌, ◌==◌, ◌&&◌, not, nat_lt, nat_le, zero, suc, Bool, true, false, Some, None, Option, List, ◌∷◌, length, take, refl, sym, subst, ap, ◌∙◌, arith, if◌then◌else◌}
 use Rattle.std.specs.Prelude.{slice_get}
-use Rattle.std.specs.List.{Contains, cons_option, filter_map, find, range_with_len}
+use Rattle.std.specs.List.{Contains, cons_option, filter_map, range_with_len}
 use Rattle.std.specs.Option.{IfSome, is_some, option_map_or}
 use Rattle.std.proofs.lemmas.Bool.{cases_order, eq-eqb}
-use Rattle.std.proofs.lemmas.Option.{none-some}
 use Rattle.pblk_model.specs.declared.shape.Shape.{Shape}
 use Rattle.pblk_model.specs.Chunk.{Chunk}
 use Rattle.pblk_model.specs.Contents.{head, end}
@@ -17,20 +16,17 @@ use Rattle.pblk_world.specs.Fronts.{first_position}
 use Rattle.pblk_world.specs.Legal.{IsLegal}
 use Rattle.pblk_world.specs.Lines.{are_empty, found_by, found_image, has_number, known_image, line_data, next_seq}
 use Rattle.pblk_world.specs.Opening.{MayOpen}
-use Rattle.pblk_world.specs.Starts.{bound_by, found_row, older_bound, older_row, row_bound}
+use Rattle.pblk_world.specs.Starts.{bound_by, found_row, older_bound, older_row}
 use Rattle.pblk_world.specs.Victims.{engine_prefix}
 use Rattle.pblk_world.proofs.EngineLogLemmas.{begun_taken}
 use Rattle.pblk_world.proofs.LinesLemmas.{length_known}
-use Rattle.pblk_laws.proofs.Heads.{head_is_head, no_head_no_start}
 use Rattle.pblk_laws.proofs.Starts.{HasNumbers, found_is, numbers}
 use Rattle.pblk_laws.proofs.Widths.{filter_map_length}
 use Rattle.lemmas.proofs.Lists.{among_contained}
-use Rattle.lemmas.proofs.Maps.{filter_short, found_passes, longer_option}
-use Rattle.lemmas.proofs.Parts.{all_at}
+use Rattle.lemmas.proofs.Maps.{filter_short, longer_option}
 use Rattle.lemmas.proofs.Tests.{and_both, first_of, le_true, lt_true, not_both, not_true, other_number, same_number}
 use Rattle.world_laws.proofs.Begun.{IsBegunWith, begun_with}
-use Rattle.world_laws.proofs.CountedLow.{head_rows_low}
-use Rattle.world_laws.proofs.Newest.{end_from_front}
+use Rattle.world_laws.proofs.FoundCounts.{bound_within, seq_older}
 use Rattle.world_laws.proofs.StartRecords.{IsNthOpening, front_from_first, nth_opening, opened_later}
 use Rattle.world_laws.proofs.ToldImages.{found_at}
 
@@ -56,39 +52,6 @@ opening_narrow i w o fit legal there =
     let all : length (known_image i (engine_prefix o.number (log_of w))).units ≡ length i.units = length_known i logs in
     let units_are : length i.units ≡ units i.shape = fit.units in
     omega arith
-
--- ---- start records of an image, and what comes after its head
-
-pub old_seq : (j : Image) (line : ℕ) (r : StartRecord) → line < j.shape.chunks → start_of j line ≡ Some r → r.seq < next_seq (head j)
-old_seq j line r inside whole = go (head j) refl
-  where
-    go : (o : Option StartRecord) → head j ≡ o → r.seq < next_seq o
-    go None e = absurd (none-some r (sym (no_head_no_start j line e inside) ∙ whole))
-    go (Some h) e = elim ((head_is_head j h e).1.greatest line r inside whole) [
-      | inl less ↦ omega arith
-      | inr same ↦ (let seqs = same.0 in omega arith)
-    ]
-
--- no bound is above the end
-pub bound_low : (j : Image) (line seq : ℕ) → bound_by (head j) (end j) line seq ≤ end j
-bound_low j line seq = go (head j) refl
-  where
-    row_low : (h : StartRecord) → head j ≡ Some h → (o : Option Row) → find (λ (row : Row). (row.line == line) && (row.seq == seq)) h.rows ≡ o
-        → option_map_or (λ (row : Row). row.bound) o 0 ≤ end j
-    row_low h e None found = omega arith
-    row_low h e (Some row) found =
-        let at = (found_passes (λ (row : Row). (row.line == line) && (row.seq == seq)) h.rows row found).1 in
-        let low : row.bound ≤ h.front = all_at (λ (x : Row). x.bound ≤ h.front) h.rows at.0 row at.1 (head_rows_low j h e) in
-        let front : h.front ≤ end j = end_from_front j h e in
-        omega arith
-
-    of_mount : (h : StartRecord) → head j ≡ Some h → (c : Bool) → (if c then end j else row_bound h line seq) ≤ end j
-    of_mount h e true = omega arith
-    of_mount h e false = row_low h e (find (λ (row : Row). (row.line == line) && (row.seq == seq)) h.rows) refl
-
-    go : (o : Option StartRecord) → head j ≡ o → bound_by o (end j) line seq ≤ end j
-    go None e = omega arith
-    go (Some h) e = of_mount h e (nat_le h.first_seq seq)
 
 -- ---- rows that fit a start record
 
@@ -194,9 +157,9 @@ rows_for i logs g line start may first seq front other inside = go (is_as_found 
         numbers (found_image i logs).shape other (width (found_image i logs) other) r (found_is (found_image i logs) other r e).0 in
         let some : 1 ≤ r.first_seq = has.some_first in
         let own : r.first_seq ≤ r.seq = has.first_seq in
-        let older : r.seq < next_seq (head (found_image i logs)) = old_seq (found_image i logs) other r range e in
+        let older : r.seq < next_seq (head (found_image i logs)) = seq_older (found_image i logs) other r range e in
         let low : bound_by (head (found_image i logs)) (end (found_image i logs)) other r.seq ≤ end (found_image i logs) =
-        bound_low (found_image i logs) other r.seq in
+        bound_within (found_image i logs) (head (found_image i logs)) (end (found_image i logs)) other r.seq refl refl in
         let bound : older_bound i logs other r.seq ≡ bound_by (head (found_image i logs)) (end (found_image i logs)) other r.seq =
         ap (λ p. bound_by (head (found_image i logs)) p other r.seq) first in
         record {

@@ -24,7 +24,7 @@ use Rattle.lemmas.proofs.Options.{split_then}
 use Rattle.lemmas.proofs.Parts.{get_below, got_within}
 use Rattle.world_laws.specs.UnitChunks.{chunk_after, first_events}
 use Rattle.world_laws.specs.UnitPrograms.{IsProgramOfStripe}
-use Rattle.world_laws.proofs.NamedPrefixes.{IsMade, was_made}
+use Rattle.world_laws.proofs.NamedPrefixes.{IsByPrefixes, was_made}
 use Rattle.world_laws.proofs.Deeds.{IsDeed, deed}
 use Rattle.world_laws.proofs.FirstEvent.{IsBeginning, beginning_of, only_fetches}
 use Rattle.world_laws.proofs.FoundEmpty.{empty_by_told}
@@ -164,7 +164,7 @@ module _ (i : Image) (w : World) (legal : IsLegal i w) (b : Begun) (begins : beg
       let r : IsResetOf m x f = its_reset m x f second in
       let known : p.stripe.placed.number < knows_engine l = p.stripe.was_known in
       let more : knows_engine l ≤ knows_engine x = knowledge_rises i w (suc unit) 0 n m l x legal (omega arith) first.at.there second.at.there in
-      let made : IsMade i w (suc unit) m x = was_made i w (suc unit) m x legal second.at.there in
+      let made : IsByPrefixes i w (suc unit) m x = was_made i w (suc unit) m x legal second.at.there in
       go p r (open_or_gone i w legal unit (ended_stripes (take n own)) p.stripe.placed p.stripe.in_order (knows_engine x) (omega arith) (made.within 0))
     where
       go : (p : IsProgram n l e) → IsResetOf m x f
@@ -187,7 +187,7 @@ module _ (i : Image) (w : World) (legal : IsLegal i w) (b : Begun) (begins : beg
       closed : is_opened (life_of (take (knows_engine l) log) q.stripe.placed.stripe.line) ≡ false
       closed = ap (λ k. is_opened (life_of (take (knows_engine l) log) k)) q.its_line ∙ (its_reset n l e first).closed
 
-      made : IsMade i w (suc unit) n l
+      made : IsByPrefixes i w (suc unit) n l
       made = was_made i w (suc unit) n l legal first.at.there
 
       by_gone : IsGone i w legal unit (ended_stripes (take m own)) q.stripe.placed q.stripe.in_order (knows_engine l) → ⊥

@@ -1,8 +1,8 @@
 -- Where no entry of a sector was taken below the front synced, the line of its winner in the image that was
 -- found is as it was found.
-use Rattle.std.proofs.Common.{◌≡◌, ◌≢◌, ◌⊎◌, inl, inr, ℕ, ◌+◌, ◌*◌, ◌<◌, ◌≤◌, ◌&&◌, not, nat_lt, zero, suc, Bool, true, false, Some, None, Option, List, [], ◌∷◌, ◌++◌, length, take, refl, sym, subst, ap, ◌∙◌, arith}
+use Rattle.std.proofs.Common.{◌≡◌, ◌≢◌, ◌⊎◌, inl, inr, ℕ, ◌*◌, ◌<◌, ◌≤◌, ◌&&◌, not, nat_lt, zero, suc, Bool, true, false, Some, None, Option, List, [], ◌∷◌, ◌++◌, length, take, refl, sym, subst, ap, ◌∙◌, arith}
 use Rattle.std.specs.Prelude.{slice_get, ⊤}
-use Rattle.std.specs.List.{AllByRecursion, Contains, filter, range_with_len}
+use Rattle.std.specs.List.{AllByRecursion, Contains, range_with_len}
 use Rattle.std.specs.Option.{IfSome, is_some, option_and_then, option_map}
 use Rattle.std.proofs.lemmas.List.{take-append-le}
 use Rattle.std.proofs.lemmas.Option.{slice_get_within}
@@ -21,7 +21,7 @@ use Rattle.pblk_world.specs.Legal.{IsLegal}
 use Rattle.pblk_world.specs.Lines.{found_image, known_image, are_empty, line_data, has_number}
 use Rattle.pblk_world.specs.Victims.{engine_prefix}
 use Rattle.pblk_laws.proofs.Winners.{winner_is_winner}
-use Rattle.lemmas.proofs.Lists.{IsAmong, all_contains, all_everywhere, contains_none}
+use Rattle.lemmas.proofs.Lists.{IsAmong, all_contains, all_everywhere}
 use Rattle.lemmas.proofs.Maps.{all_filter, all_filter_map, all_flat_map}
 use Rattle.lemmas.proofs.Parts.{get_last, get_more, take_front}
 use Rattle.lemmas.proofs.Tests.{first_of, not_both, not_true}
@@ -43,7 +43,7 @@ pub if_map : {X Y : Type 0} (P : Y → Type 0) (f : X → Y) (o : Option X) → 
 if_map P f None h = tt
 if_map P f (Some x) h = h x
 
-abbrev HasStart : Image → Record → Type 0
+abbrev pub HasStart : Image → Record → Type 0
 HasStart j r = is_some (start_of j r.line) ≡ true
 
 start_of_record : (j : Image) (line : ℕ) (o : Option StartRecord) → start_of j line ≡ o → AllByRecursion (HasStart j) (records_after j line o)
@@ -57,13 +57,15 @@ start_of_record j line (Some start) e =
 records_have_start : (j : Image) → AllByRecursion (HasStart j) (records j)
 records_have_start j = all_flat_map (HasStart j) (line_records j) (range_with_len 0 j.shape.chunks) (λ line. start_of_record j line (start_of j line) refl)
 
-pub counted_has_start : (j : Image) (r : Record) → Contains (counted j) r → is_some (start_of j r.line) ≡ true
-counted_has_start j r there = go (head j) there
+pub counted_have_start : (j : Image) → AllByRecursion (HasStart j) (counted j)
+counted_have_start j = go (head j)
   where
-    go : (o : Option StartRecord) → Contains (counted_after (records j) o) r → is_some (start_of j r.line) ≡ true
-    go None there = absurd (contains_none r there)
-    go (Some h) there = all_contains (HasStart j) (filter (counts h (end_after (records j) (Some h))) (records j)) r
-        (all_filter (HasStart j) (counts h (end_after (records j) (Some h))) (records j) (records_have_start j)) there
+    go : (o : Option StartRecord) → AllByRecursion (HasStart j) (counted_after (records j) o)
+    go None = tt
+    go (Some h) = all_filter (HasStart j) (counts h (end_after (records j) (Some h))) (records j) (records_have_start j)
+
+pub counted_has_start : (j : Image) (r : Record) → Contains (counted j) r → is_some (start_of j r.line) ≡ true
+counted_has_start j r there = all_contains (HasStart j) (counted j) r (counted_have_start j) there
 
 -- ---- the first event that turns a line
 
