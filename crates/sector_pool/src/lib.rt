@@ -12,4 +12,5 @@ mod pool;
 
 pub use entry::{Class, Entry, Source};
 pub use frame::Frame;
+pub use memory::Origin;
 pub use pool::Pool;

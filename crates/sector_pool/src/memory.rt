@@ -30,10 +30,10 @@ impl Model for Ranges {
         m.here };
 }
 
-/// Which region a range is of. It is there in contracts alone.
+/// Which region a range is of. It has no bytes, and is there in contracts alone.
 #[derive(Drop)]
-pub(crate) struct Origin {
-    pub(crate) ghost region: { Region },
+pub struct Origin {
+    pub ghost region: { Region },
 }
 
 impl Model for Origin {
@@ -99,6 +99,13 @@ pub(crate) fn rejoin(ranges: Ranges, emptied: Emptied) -> Vec<u8>
 }
 
 impl Ranges {
+    /// Which region it is.
+    pub(crate) fn origin(&self) -> Origin
+        ensures { result.region ≡ self.now.region }
+    {
+        Origin {}
+    }
+
     /// Lends out a range that is here: a `Vec` over its bytes that neither grows nor frees them.
     pub(crate) fn lend(
         &mut self,

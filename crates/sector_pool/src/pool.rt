@@ -8,7 +8,7 @@ ghost use Rattle.sector_pool.specs.Places.{stride_of};
 ghost use Rattle.sector_pool.specs.Stack.{IsStackOf};
 
 use crate::frame::Frame;
-use crate::memory::{Emptied, Ranges, cut, rejoin};
+use crate::memory::{Emptied, Origin, Ranges, cut, rejoin};
 use std::alloc::{AllocError, Global};
 use std::marker::Model;
 
@@ -100,6 +100,13 @@ impl Pool {
         ensures sum { count_left self.now.left + count_out self.now.left ≡ self.now.region.count }
     {
         self.numbers.len() as u32
+    }
+
+    /// Which region the pool has, for values that are to name it. It takes no memory.
+    pub fn origin(&self) -> Origin
+        ensures region { result.region ≡ self.now.region }
+    {
+        self.ranges.origin()
     }
 
     /// Takes out a frame that is left, as it is. None exactly where none is left.
