@@ -17,22 +17,30 @@ use Rattle.lemmas.proofs.Tests.{not_both}
 pub first_answer : (log : List Logged) (unit : ℕ) (p : Placed) → unanswered_on log unit ≡ Some p → answer_of log p ≡ None
 first_answer log unit p e =
     let first : IsFirst log unit p = first_unanswered log unit p e in
-    ap₂ (λ (xs : List Answer) k. slice_get xs k) (ap (answers log) first.of_unit) first.turn_is ∙ slice_get_past (answers log unit) (length (answers log unit)) (le_refl (length (answers log unit)))
+    ap₂ (λ (xs : List Answer) k. slice_get xs k) (ap (answers log) first.of_unit) first.turn_is
+    ∙ slice_get_past (answers log unit) (length (answers log unit)) (le_refl (length (answers log unit)))
 
 unanswered : (log : List Logged) (unit : ℕ) (p : Placed) → unanswered_on log unit ≡ Some p → is_answered log p ≡ false
 unanswered log unit p e = ap is_some (first_answer log unit p e)
 
-pub all_answered : (i : Image) (logs : Logs) (stripe : Stripe) → length (answers (logs 0) stripe.unit) ≤ length (placed_on (logs 0) stripe.unit) → MayPlace i logs stripe
+pub all_answered : (i : Image) (logs : Logs) (stripe : Stripe) → length (answers (logs 0) stripe.unit) ≤ length (placed_on (logs 0) stripe.unit)
+    → MayPlace i logs stripe
     → length (answers (logs 0) stripe.unit) ≡ length (placed_on (logs 0) stripe.unit)
 all_answered i logs stripe few may = go (nat_lt (length (answers (logs 0) stripe.unit)) (length (placed_on (logs 0) stripe.unit))) refl
   where
-    go : (b : Bool) → nat_lt (length (answers (logs 0) stripe.unit)) (length (placed_on (logs 0) stripe.unit)) ≡ b → length (answers (logs 0) stripe.unit) ≡ length (placed_on (logs 0) stripe.unit)
+    go : (b : Bool) → nat_lt (length (answers (logs 0) stripe.unit)) (length (placed_on (logs 0) stripe.unit)) ≡ b
+        → length (answers (logs 0) stripe.unit) ≡ length (placed_on (logs 0) stripe.unit)
     go false e =
         let above : length (placed_on (logs 0) stripe.unit) ≤ length (answers (logs 0) stripe.unit) = grind arith in
         omega arith
     go true e =
         let below : length (answers (logs 0) stripe.unit) < length (placed_on (logs 0) stripe.unit) = grind arith in
-        let some : (p : Placed) × (unanswered_on (logs 0) stripe.unit ≡ Some p) = got_within (placed_on (logs 0) stripe.unit) (length (answers (logs 0) stripe.unit)) below in
-        let among : Contains (placed_on (logs 0) stripe.unit) some.0 = (length (answers (logs 0) stripe.unit), below, get_or_from_slice_get (placed_on (logs 0) stripe.unit) (length (answers (logs 0) stripe.unit)) some.0 some.0 some.1) in
+        let some : (p : Placed) × (unanswered_on (logs 0) stripe.unit ≡ Some p) =
+        got_within (placed_on (logs 0) stripe.unit) (length (answers (logs 0) stripe.unit)) below in
+        let among : Contains (placed_on (logs 0) stripe.unit) some.0 = (
+          length (answers (logs 0) stripe.unit),
+          below,
+          get_or_from_slice_get (placed_on (logs 0) stripe.unit) (length (answers (logs 0) stripe.unit)) some.0 some.0 some.1,
+        ) in
         let answered : is_answered (logs 0) some.0 ≡ true = may.idle some.0 among in
         absurd (not_both (is_answered (logs 0) some.0) answered (unanswered (logs 0) stripe.unit some.0 some.1))

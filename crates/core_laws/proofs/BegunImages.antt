@@ -40,7 +40,8 @@ known_named i logs b knows log = λ k. record { shape = i.shape; units = same k 
     same : (known_image i logs).units ≡ (named_image i logs knows).units
     same =
         ap (λ (j : Image). map (λ unit. after_log i.shape unit.1 (told_events logs unit.0)) (enumerate_from 0 j.units)) (found_named i logs b knows log)
-        ∙ numbered_same (λ unit. after_log i.shape unit.1 (told_events logs unit.0)) (λ e. ap (after_log i.shape e.1) (told e.0)) 0 (named_image i logs knows).units
+        ∙ numbered_same (λ unit. after_log i.shape unit.1 (told_events logs unit.0)) (λ e. ap (after_log i.shape e.1) (told e.0)) 0
+        (named_image i logs knows).units
 
 pub found_at : (i : Image) (f : Found) (logs : Logs) (is : HasJustBegun i f logs) → found_image i logs ≡ named_image i logs is.knows
 found_at i f logs is = found_named i logs (beginning_of f) is.knows is.log
@@ -57,7 +58,8 @@ named_found i f logs is = subst (λ (j : Image). IsFoundOf j f) (found_at i f lo
 pub knows_found : (i : Image) (f : Found) (logs : Logs) → HasJustBegun i f logs → known_image i logs ≡ found_image i logs
 knows_found i f logs is = known_at i f logs is ∙ sym (found_at i f logs is)
 
-pub begun_is : (i : Image) (f : Found) (logs : Logs) (is : HasJustBegun i f logs) → begun (logs 0) ≡ Some (record { beginning = beginning_of f; knows = is.knows })
+pub begun_is : (i : Image) (f : Found) (logs : Logs) (is : HasJustBegun i f logs)
+    → begun (logs 0) ≡ Some (record { beginning = beginning_of f; knows = is.knows })
 begun_is i f logs is = ap begun is.log
 
 pub life_is : (i : Image) (f : Found) (logs : Logs) (line : ℕ) → HasJustBegun i f logs → life_of (logs 0) line ≡ AsFound
@@ -74,21 +76,26 @@ just_begun i w f knows accepted fit legal none found = record {
   accepted = accepted;
   knows = knows;
   log = begun_log w (beginning_of f) knows none;
-  fit = subst IsFit (sym (found_named i (after (log_of w) (Begin (beginning_of f)) knows) (beginning_of f) knows (begun_log w (beginning_of f) knows none))) (prefixes_fit i w knows accepted fit legal);
+  fit = subst IsFit (sym (found_named i (after (log_of w) (Begin (beginning_of f)) knows) (beginning_of f) knows (begun_log w (beginning_of f) knows none)))
+      (prefixes_fit i w knows accepted fit legal);
   found = found;
 }
 
-whole_units : (i : Image) (w : World) (knows : List ℕ) → IsFit i → ((unit : ℕ) → unit < units i.shape → slice_index knows (suc unit) ≡ length (log_of w (suc unit)))
+whole_units : (i : Image) (w : World) (knows : List ℕ) → IsFit i
+    → ((unit : ℕ) → unit < units i.shape → slice_index knows (suc unit) ≡ length (log_of w (suc unit)))
     → (media i (cut_logs knows (log_of w))).units ≡ (media i (log_of w)).units
 whole_units i w knows fit whole =
-    numbered_agree (λ (u : ℕ × List Chunk). after_log i.shape u.1 (unit_events (cut_logs knows (log_of w)) u.0)) (λ (u : ℕ × List Chunk). after_log i.shape u.1 (unit_events (log_of w) u.0)) 0 i.units
+    numbered_agree (λ (u : ℕ × List Chunk). after_log i.shape u.1 (unit_events (cut_logs knows (log_of w)) u.0))
+    (λ (u : ℕ × List Chunk). after_log i.shape u.1 (unit_events (log_of w) u.0)) 0 i.units
     (λ k chunks below.
     let count : length i.units ≡ units i.shape = fit.units in
     let inside : 0 + k < units i.shape = omega arith in
-    let all : take (slice_index knows (suc (0 + k))) (log_of w (suc (0 + k))) ≡ log_of w (suc (0 + k)) = ap (λ n. take n (log_of w (suc (0 + k)))) (whole (0 + k) inside) ∙ take-length (log_of w (suc (0 + k))) in
+    let all : take (slice_index knows (suc (0 + k))) (log_of w (suc (0 + k))) ≡ log_of w (suc (0 + k)) =
+    ap (λ n. take n (log_of w (suc (0 + k)))) (whole (0 + k) inside) ∙ take-length (log_of w (suc (0 + k))) in
     ap (λ (xs : List Logged). after_log i.shape chunks (filter_map (λ (l : Logged). unit_event_of l.event) xs)) all)
 
-pub found_whole : (i : Image) (w : World) (b : Beginning) (knows : List ℕ) → IsFit i → log_of w 0 ≡ [] → ((unit : ℕ) → unit < units i.shape → slice_index knows (suc unit) ≡ length (log_of w (suc unit)))
+pub found_whole : (i : Image) (w : World) (b : Beginning) (knows : List ℕ) → IsFit i → log_of w 0 ≡ []
+    → ((unit : ℕ) → unit < units i.shape → slice_index knows (suc unit) ≡ length (log_of w (suc unit)))
     → found_image i (after (log_of w) (Begin b) knows) ≡ media i (log_of w)
 found_whole i w b knows fit none whole =
     found_named i (after (log_of w) (Begin b) knows) b knows (begun_log w b knows none)

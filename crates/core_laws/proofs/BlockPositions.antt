@@ -35,14 +35,16 @@ none_made : {X Y : Type 0} (f : X → Option Y) (xs : List X) → AllByRecursion
 none_made f [] all = refl
 none_made f (x ∷ xs) all = ap (λ o. cons_option o (filter_map f xs)) all.0 ∙ none_made f xs all.1
 
-records_none : (s : Shape) (size seq count : ℕ) (bytes : List ℕ) → s.capacity ≤ meta_lba → AllByRecursion (λ b. position_in s b ≡ None) (blocks_of size bytes (replicate count (meta_mark seq)))
+records_none : (s : Shape) (size seq count : ℕ) (bytes : List ℕ) → s.capacity ≤ meta_lba
+    → AllByRecursion (λ b. position_in s b ≡ None) (blocks_of size bytes (replicate count (meta_mark seq)))
 records_none s size seq zero bytes small = tt
 records_none s size seq (suc count) bytes small = (
   bears_none s (record { sector = take size bytes; mark = meta_mark seq }) (unnamed s (meta_mark seq) small (omega arith) (λ e. absurd (omega (arith, e)))),
   records_none s size seq count (drop size bytes) small,
 )
 
-pub record_positions : (s : Shape) (seq count : ℕ) (bytes : List ℕ) (from to : ℕ) → s.capacity ≤ meta_lba → filter_map (position_in s) (slice_range (record_blocks s seq count bytes) from to) ≡ []
+pub record_positions : (s : Shape) (seq count : ℕ) (bytes : List ℕ) (from to : ℕ) → s.capacity ≤ meta_lba
+    → filter_map (position_in s) (slice_range (record_blocks s seq count bytes) from to) ≡ []
 record_positions s seq count bytes from to small =
     none_made (position_in s) (slice_range (record_blocks s seq count bytes) from to)
     (all_taken (λ (b : Block). position_in s b ≡ None) (to - from) (drop from (record_blocks s seq count bytes))
@@ -50,7 +52,10 @@ record_positions s seq count bytes from to small =
 
 pads_none : (s : Shape) (n : ℕ) → s.capacity ≤ meta_lba → AllByRecursion (λ b. position_in s b ≡ None) (replicate n (pad_block s))
 pads_none s zero small = tt
-pads_none s (suc n) small = (bears_none s (pad_block s) (unnamed s (pad_block s).mark small (omega arith) (λ e. absurd (omega (arith, e)))), pads_none s n small)
+pads_none s (suc n) small = (
+  bears_none s (pad_block s) (unnamed s (pad_block s).mark small (omega arith) (λ e. absurd (omega (arith, e)))),
+  pads_none s n small,
+)
 
 -- ---- entries
 
@@ -58,19 +63,23 @@ pads_none s (suc n) small = (bears_none s (pad_block s) (unnamed s (pad_block s)
 abbrev Bears : Shape → Taken → Type 0
 Bears s t = position_in s (block_of_taken t) ≡ Some t.entry.position
 
-bears_own : (i : Image) (ls : Logs) (entry : Entry) (mark : Mark) (source : Option Source) → is_users source ≡ true → entry.lba < i.shape.capacity → IsMarked i ls entry mark source → Bears i.shape (record { entry = entry; mark = mark })
+bears_own : (i : Image) (ls : Logs) (entry : Entry) (mark : Mark) (source : Option Source) → is_users source ≡ true → entry.lba < i.shape.capacity
+    → IsMarked i ls entry mark source → Bears i.shape (record { entry = entry; mark = mark })
 bears_own i ls entry mark None users low is =
     ap (λ (m : Mark). position_in i.shape (record { sector = entry.sector; mark = m })) is
-    ∙ ap (λ a. if is_some (if a then Some (Some entry.lba) else (if entry.lba == void_lba then Some None else None)) then Some entry.position else None) (lt_true entry.lba i.shape.capacity low)
+    ∙ ap (λ a. if is_some (if a then Some (Some entry.lba) else (if entry.lba == void_lba then Some None else None)) then Some entry.position else None)
+    (lt_true entry.lba i.shape.capacity low)
 bears_own i ls entry mark (Some source) users low is = absurd cc
 
-bears_step : (i : Image) (us : ℕ → List ℕ) (w : World) (knows : List ℕ) (x : Event) → IsNextEvent i us w (record { event = x; knows = knows }) → AllByRecursion (Bears i.shape) (takes (log_of w 0))
+bears_step : (i : Image) (us : ℕ → List ℕ) (w : World) (knows : List ℕ) (x : Event) → IsNextEvent i us w (record { event = x; knows = knows })
+    → AllByRecursion (Bears i.shape) (takes (log_of w 0))
     → AllByRecursion (Bears i.shape) (takes (log_of w 0 ++ record { event = x; knows = knows } ∷ []))
 bears_step i us w knows (Decides (Take entry mark)) next all =
     let l : Logged = record { event = Decides (Take entry mark); knows = knows } in
     let may = next.allowed.2 in
     subst (AllByRecursion (Bears i.shape)) (sym (takes_more (log_of w 0) l))
-    (with_last (Bears i.shape) (takes (log_of w 0)) (record { entry = entry; mark = mark }) all (bears_own i (prefixes l (log_of w)) entry mark entry.source next.plain may.lba may.marked))
+    (with_last (Bears i.shape) (takes (log_of w 0)) (record { entry = entry; mark = mark }) all
+    (bears_own i (prefixes l (log_of w)) entry mark entry.source next.plain may.lba may.marked))
 bears_step i us w knows x next all =
     let l : Logged = record { event = x; knows = knows } in
     subst (AllByRecursion (Bears i.shape)) (sym (takes_more (log_of w 0) l ∙ append-nil (takes (log_of w 0)))) all
@@ -78,10 +87,12 @@ bears_step i us w knows x next all =
 all_bear : (i : Image) (us : ℕ → List ℕ) (w : World) → IsFollowed i us w → AllByRecursion (Bears i.shape) (takes (log_of w 0))
 all_bear i us w is = by_events i us (λ log. AllByRecursion (Bears i.shape) (takes log)) tt (λ v l next all. bears_step i us v l.knows l.event next all) w is
 
-entries_made : (s : Shape) (ts : List Taken) (bs : List Block) → AllByRecursion (Bears s) ts → AllByRecursion (λ b. position_in s b ≡ None) bs → filter_map (position_in s) (map block_of_taken ts ++ bs) ≡ positions_of ts
+entries_made : (s : Shape) (ts : List Taken) (bs : List Block) → AllByRecursion (Bears s) ts → AllByRecursion (λ b. position_in s b ≡ None) bs
+    → filter_map (position_in s) (map block_of_taken ts ++ bs) ≡ positions_of ts
 entries_made s [] bs all none = none_made (position_in s) bs none
 entries_made s (t ∷ ts) bs all none =
-    ap (λ o. cons_option o (filter_map (position_in s) (map block_of_taken ts ++ bs))) all.0 ∙ ap (λ qs. t.entry.position ∷ qs) (entries_made s ts bs all.1 none)
+    ap (λ o. cons_option o (filter_map (position_in s) (map block_of_taken ts ++ bs))) all.0
+    ∙ ap (λ qs. t.entry.position ∷ qs) (entries_made s ts bs all.1 none)
 
 pub data_positions : (i : Image) (us : ℕ → List ℕ) (w : World) → IsFollowed i us w → i.shape.capacity ≤ meta_lba
     → filter_map (position_in i.shape) (data_blocks i.shape (log_of w 0)) ≡ take i.shape.ws_opt (positions_of (waiting i.shape (log_of w 0)))

@@ -60,7 +60,8 @@ last_among o (y ∷ ys) x e = elim (last_among (Some y) ys x e) as (λ _. IsAmon
   | inr same ↦ inl (0, same)
 ]
 
-in_last : (log : List Logged) (lba : ℕ) (t : Taken) → IsAmong (filter (λ (t : Taken). t.mark.lba == lba) (takes log)) t ⊎ (None ≡ Some t) → IsAmong (takes log) t × (t.mark.lba ≡ lba)
+in_last : (log : List Logged) (lba : ℕ) (t : Taken) → IsAmong (filter (λ (t : Taken). t.mark.lba == lba) (takes log)) t ⊎ (None ≡ Some t)
+    → IsAmong (takes log) t × (t.mark.lba ≡ lba)
 in_last log lba t (inl at) = (
   from_filter (λ (t : Taken). t.mark.lba == lba) (takes log) t at,
   eqb-true t.mark.lba lba (filtered_is (λ (t : Taken). t.mark.lba == lba) (takes log) at.0 t at.1),
@@ -84,7 +85,8 @@ numbered_at a (suc n) (u ∷ ts) (suc k) t is e =
 
 -- ---- the law's parts
 
-pub cached_entry : (i : Image) (logs : Logs) (lba q : ℕ) → slot_of i logs lba ≡ Cached q → (t : Taken) × (last_take (logs 0) lba ≡ Some t) × (t.entry.position ≡ q) × (t.mark.lba ≡ lba)
+pub cached_entry : (i : Image) (logs : Logs) (lba q : ℕ) → slot_of i logs lba ≡ Cached q
+    → (t : Taken) × (last_take (logs 0) lba ≡ Some t) × (t.entry.position ≡ q) × (t.mark.lba ≡ lba)
 cached_entry i logs lba q e =
     let is : (t : Taken) × IsCachedEntry i logs lba q t = cached i logs lba q e in
     (is.0, is.1.last, is.1.position, (last_is_among (logs 0) lba is.0 is.1.last).1)
@@ -105,7 +107,8 @@ cached_at i logs lba q numbered e =
       sym is.1.position ∙ numbered_at (first_position (logs 0)) (length (takes (logs 0))) (takes (logs 0)) at.0 t numbered at.1,
     )
 
-pub cached_within : (i : Image) (logs : Logs) (lba q : ℕ) → AreNumbered (logs 0) → slot_of i logs lba ≡ Cached q → (freed i.shape (logs 0) ≤ q) × (q < taken (logs 0))
+pub cached_within : (i : Image) (logs : Logs) (lba q : ℕ) → AreNumbered (logs 0) → slot_of i logs lba ≡ Cached q
+    → (freed i.shape (logs 0) ≤ q) × (q < taken (logs 0))
 cached_within i logs lba q numbered e =
     let at = cached_at i logs lba q numbered e in
     let inside : at.0 < length (takes (logs 0)) = at.2 in

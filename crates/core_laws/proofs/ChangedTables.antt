@@ -16,25 +16,31 @@ use Rattle.core_laws.specs.ChangedTables.{with_row}
 use Rattle.lemmas.proofs.Lists.{all_imply}
 use Rattle.lemmas.proofs.Maps.{map_agree, map_same, rows_set}
 
-pub same_table : (s t : Shape) (rows more : List Row) → s ≡ t → rows ≡ more → ◌≡◌ {A = Table} (record { shape = s; rows = rows }) (record { shape = t; rows = more })
+pub same_table : (s t : Shape) (rows more : List Row) → s ≡ t → rows ≡ more
+    → ◌≡◌ {A = Table} (record { shape = s; rows = rows }) (record { shape = t; rows = more })
 same_table s t rows more e f = λ i. record { shape = e i; rows = f i }
 
 -- a change of a row in the table is the one table that it leaves
-pub changed_is : (old new : Table) (line : ℕ) (change : Row → Row) (row : Row) → slice_get old.rows line ≡ Some row → Changes old new line change → new ≡ with_row line change old
+pub changed_is : (old new : Table) (line : ℕ) (change : Row → Row) (row : Row) → slice_get old.rows line ≡ Some row → Changes old new line change
+    → new ≡ with_row line change old
 changed_is old new line change row there changes =
     same_table new.shape old.shape new.rows (with_row line change old).rows changes.shape
     (changes.rows row there ∙ ap (λ o. option_map_or (λ row. slice_set old.rows line (change row)) o old.rows) (sym there))
 
 pub range_below : (a n : ℕ) → AllByRecursion (λ m. m < a + n) (range_with_len a n)
 range_below a zero = tt
-range_below a (suc n) = (omega arith, all_imply (λ (m : ℕ). m < a + 1 + n) (λ (m : ℕ). m < a + suc n) (λ m h. omega arith) (range_with_len (a + 1) n) (range_below (a + 1) n))
+range_below a (suc n) = (
+  omega arith,
+  all_imply (λ (m : ℕ). m < a + 1 + n) (λ (m : ℕ). m < a + suc n) (λ m h. omega arith) (range_with_len (a + 1) n) (range_below (a + 1) n),
+)
 
 -- the rows of a function
 abbrev pub table_of : Shape → (ℕ → Row) → Table
 table_of s f = record { shape = s; rows = map f (range_with_len 0 s.chunks) }
 
 -- one row of it, also where the line isn't one of the drive's
-pub table_changes : (s : Shape) (f g : ℕ → Row) (line : ℕ) (change : Row → Row) → g line ≡ change (f line) → ((m : ℕ) → m ≢ line → g m ≡ f m) → table_of s g ≡ with_row line change (table_of s f)
+pub table_changes : (s : Shape) (f g : ℕ → Row) (line : ℕ) (change : Row → Row) → g line ≡ change (f line) → ((m : ℕ) → m ≢ line → g m ≡ f m)
+    → table_of s g ≡ with_row line change (table_of s f)
 table_changes s f g line change here there = go (nat_lt line s.chunks) refl
   where
     go : (b : Bool) → nat_lt line s.chunks ≡ b → table_of s g ≡ with_row line change (table_of s f)
@@ -51,7 +57,8 @@ table_changes s f g line change here there = go (nat_lt line s.chunks) refl
         let same : map g (range_with_len 0 s.chunks) ≡ map f (range_with_len 0 s.chunks) =
         map_agree (λ m. m < 0 + s.chunks) g f (λ m below. there m (λ f. absurd (omega arith))) (range_with_len 0 s.chunks) (range_below 0 s.chunks) in
         same_table s s (table_of s g).rows (with_row line change (table_of s f)).rows refl
-        (same ∙ ap (λ o. option_map_or (λ row. slice_set (table_of s f).rows line (change row)) o (table_of s f).rows) (sym (slice_get_past (table_of s f).rows line (omega arith))))
+        (same ∙ ap (λ o. option_map_or (λ row. slice_set (table_of s f).rows line (change row)) o (table_of s f).rows)
+        (sym (slice_get_past (table_of s f).rows line (omega arith))))
 
 pub tables_agree : (s : Shape) (f g : ℕ → Row) → ((m : ℕ) → g m ≡ f m) → table_of s g ≡ table_of s f
 tables_agree s f g same = same_table s s (table_of s g).rows (table_of s f).rows refl (map_same g f same (range_with_len 0 s.chunks))

@@ -25,7 +25,8 @@ before : ℕ → ℕ → ℕ → ℕ
 before g c j = j / g + one_more (nat_lt c (j % g))
 
 -- the next number is in the next column, or in the first of the next row
-next_row : (g j : ℕ) → 0 < g → ((j % g + 1 < g) × ((j + 1) / g ≡ j / g) × ((j + 1) % g ≡ j % g + 1)) ⊎ ((j % g + 1 ≡ g) × ((j + 1) / g ≡ j / g + 1) × ((j + 1) % g ≡ 0))
+next_row : (g j : ℕ) → 0 < g → ((j % g + 1 < g) × ((j + 1) / g ≡ j / g) × ((j + 1) % g ≡ j % g + 1))
+    ⊎ ((j % g + 1 ≡ g) × ((j + 1) / g ≡ j / g + 1) × ((j + 1) % g ≡ 0))
 next_row g j some = go (cases_order (j % g + 1) g)
   where
     sum : j / g * g + j % g ≡ j
@@ -34,14 +35,20 @@ next_row g j some = go (cases_order (j % g + 1) g)
     inside : j % g < g
     inside = mod-lt j {m = g} some
 
-    go : (j % g + 1 ≡ g) ⊎ ((j % g + 1 < g) ⊎ (g < j % g + 1)) → ((j % g + 1 < g) × ((j + 1) / g ≡ j / g) × ((j + 1) % g ≡ j % g + 1)) ⊎ ((j % g + 1 ≡ g) × ((j + 1) / g ≡ j / g + 1) × ((j + 1) % g ≡ 0))
+    go : (j % g + 1 ≡ g) ⊎ ((j % g + 1 < g) ⊎ (g < j % g + 1))
+        → ((j % g + 1 < g) × ((j + 1) / g ≡ j / g) × ((j + 1) % g ≡ j % g + 1)) ⊎ ((j % g + 1 ≡ g) × ((j + 1) / g ≡ j / g + 1) × ((j + 1) % g ≡ 0))
     go (inl last) =
         let row : (j / g + 1) * g ≡ j / g * g + g = grind arith in
         let next : (j / g + 1) * g + 0 ≡ j + 1 = omega (arith, row, sum, last) in
         inr (last, ap (λ n. n / g) (sym next) ∙ div-mul-add (j / g + 1) g 0 some, ap (λ n. n % g) (sym next) ∙ mod-mul-add (j / g + 1) g 0 some)
     go (inr (inl within)) =
         let next : j / g * g + (j % g + 1) ≡ j + 1 = omega (arith, sum) in
-        inl (within, ap (λ n. n / g) (sym next) ∙ div-mul-add (j / g) g (j % g + 1) within, ap (λ n. n % g) (sym next) ∙ mod-mul-add (j / g) g (j % g + 1) within)
+        inl (
+          within,
+          ap (λ n. n / g) (sym next) ∙ div-mul-add (j / g) g (j % g + 1) within,
+          ap (λ n. n % g) (sym next)
+              ∙ mod-mul-add (j / g) g (j % g + 1) within,
+        )
     go (inr (inr past)) = let in_ : j % g < g = inside in absurd (omega arith)
 
 here_before : (g c j : ℕ) → j % g ≡ c → before g c j ≡ j / g
@@ -55,7 +62,8 @@ next_before g c j some at = go (next_row g j some)
     here : before g c j ≡ j / g
     here = here_before g c j at
 
-    go : ((j % g + 1 < g) × ((j + 1) / g ≡ j / g) × ((j + 1) % g ≡ j % g + 1)) ⊎ ((j % g + 1 ≡ g) × ((j + 1) / g ≡ j / g + 1) × ((j + 1) % g ≡ 0)) → before g c (j + 1) ≡ before g c j + 1
+    go : ((j % g + 1 < g) × ((j + 1) / g ≡ j / g) × ((j + 1) % g ≡ j % g + 1)) ⊎ ((j % g + 1 ≡ g) × ((j + 1) / g ≡ j / g + 1) × ((j + 1) % g ≡ 0))
+        → before g c (j + 1) ≡ before g c j + 1
     go (inl is) =
         let column : (j + 1) % g ≡ j % g + 1 = is.2 in
         ap₂ (λ q b. q + one_more b) is.1 (lt_true c ((j + 1) % g) (omega arith)) ∙ ap (λ n. n + 1) (sym here)
@@ -83,7 +91,8 @@ other_before g c j some within apart = go (next_row g j some) (cases_order c (j 
 
 -- ---- the stripes of a unit
 
-rows_from : (s : Shape) (us : List ℕ) (unit c j : ℕ) (ps : List Placed) → IsStrictlyIncreasing us → slice_get us c ≡ Some unit → ((m : ℕ) (p : Placed) → slice_get ps m ≡ Some p → IsStripeNumber s us (j + m) p.stripe)
+rows_from : (s : Shape) (us : List ℕ) (unit c j : ℕ) (ps : List Placed) → IsStrictlyIncreasing us → slice_get us c ≡ Some unit
+    → ((m : ℕ) (p : Placed) → slice_get ps m ≡ Some p → IsStripeNumber s us (j + m) p.stripe)
     → (k : ℕ) (p : Placed) → slice_get (filter (λ (r : Placed). r.stripe.unit == unit) ps) k ≡ Some p → p.stripe.at ≡ (before (length us) c j + k) * s.ws_opt
 rows_from s us unit c j [] rise its each k p e = absurd (none-some p e)
 rows_from s us unit c j (r ∷ ps) rise its each k p e =
@@ -97,7 +106,8 @@ rows_from s us unit c j (r ∷ ps) rise its each k p e =
     inside : c < length us
     inside = slice_get_within us c unit its
 
-    go : (b : Bool) → nat_eq r.stripe.unit unit ≡ b → (k : ℕ) → slice_get (cond b (r ∷ filter (λ (r : Placed). r.stripe.unit == unit) ps) (filter (λ (r : Placed). r.stripe.unit == unit) ps)) k ≡ Some p
+    go : (b : Bool) → nat_eq r.stripe.unit unit ≡ b → (k : ℕ)
+        → slice_get (cond b (r ∷ filter (λ (r : Placed). r.stripe.unit == unit) ps) (filter (λ (r : Placed). r.stripe.unit == unit) ps)) k ≡ Some p
         → ((n : ℕ) → slice_get (filter (λ (r : Placed). r.stripe.unit == unit) ps) n ≡ Some p → p.stripe.at ≡ (before (length us) c (j + 1) + n) * s.ws_opt)
         → p.stripe.at ≡ (before (length us) c j + k) * s.ws_opt
     go true f zero h rest =
@@ -125,7 +135,8 @@ none_before g c some =
     ap₂ (λ q b. q + one_more b) row (not_below (0 % g) c (omega arith))
 
 -- stripe k of a unit begins k stripes on in its chunk
-pub unit_rows : (s : Shape) (us : List ℕ) (unit c : ℕ) (ps : List Placed) → IsStrictlyIncreasing us → slice_get us c ≡ Some unit → ((m : ℕ) (p : Placed) → slice_get ps m ≡ Some p → IsStripeNumber s us m p.stripe)
+pub unit_rows : (s : Shape) (us : List ℕ) (unit c : ℕ) (ps : List Placed) → IsStrictlyIncreasing us → slice_get us c ≡ Some unit
+    → ((m : ℕ) (p : Placed) → slice_get ps m ≡ Some p → IsStripeNumber s us m p.stripe)
     → (k : ℕ) (p : Placed) → slice_get (filter (λ (r : Placed). r.stripe.unit == unit) ps) k ≡ Some p → p.stripe.at ≡ k * s.ws_opt
 unit_rows s us unit c ps rise its each k p e =
     let inside : c < length us = slice_get_within us c unit its in

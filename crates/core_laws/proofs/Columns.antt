@@ -17,17 +17,20 @@ unfolding rows
 length_rows f g a [] = refl
 length_rows {X} f g a (x ∷ xs) = go (f x) (length_rows f g (a + 1) xs)
   where
-    go : (b : Bool) → length (rows f g (a + 1) xs) ≡ length (filter f xs) → length (cond b (a / g ∷ rows f g (a + 1) xs) (rows f g (a + 1) xs)) ≡ length (cond b (x ∷ filter f xs) (filter f xs))
+    go : (b : Bool) → length (rows f g (a + 1) xs) ≡ length (filter f xs)
+        → length (cond b (a / g ∷ rows f g (a + 1) xs) (rows f g (a + 1) xs)) ≡ length (cond b (x ∷ filter f xs) (filter f xs))
     go true rest = ap suc rest
     go false rest = rest
 
 -- each row is that of a place
-row_of_place : {X : Type 0} (f : X → Bool) (g a : ℕ) (xs : List X) (r : ℕ) → IsIn (rows f g a xs) r → (n : ℕ) × (x : X) × (slice_get xs n ≡ Some x) × (f x ≡ true) × ((a + n) / g ≡ r)
+row_of_place : {X : Type 0} (f : X → Bool) (g a : ℕ) (xs : List X) (r : ℕ) → IsIn (rows f g a xs) r
+    → (n : ℕ) × (x : X) × (slice_get xs n ≡ Some x) × (f x ≡ true) × ((a + n) / g ≡ r)
 unfolding rows
 row_of_place f g a [] r e = absurd cc
 row_of_place {X} f g a (x ∷ xs) r e = go (f x) refl e (row_of_place f g (a + 1) xs r)
   where
-    further : ((n : ℕ) × (y : X) × (slice_get xs n ≡ Some y) × (f y ≡ true) × ((a + 1 + n) / g ≡ r)) → (n : ℕ) × (y : X) × (slice_get (x ∷ xs) n ≡ Some y) × (f y ≡ true) × ((a + n) / g ≡ r)
+    further : ((n : ℕ) × (y : X) × (slice_get xs n ≡ Some y) × (f y ≡ true) × ((a + 1 + n) / g ≡ r))
+        → (n : ℕ) × (y : X) × (slice_get (x ∷ xs) n ≡ Some y) × (f y ≡ true) × ((a + n) / g ≡ r)
     further at = let same : a + suc at.0 ≡ a + 1 + at.0 = omega arith in (suc at.0, at.1, at.2, at.3, ap (λ m. m / g) same ∙ at.4)
 
     here : f x ≡ true → (a / g) ≡ r → (n : ℕ) × (y : X) × (slice_get (x ∷ xs) n ≡ Some y) × (f y ≡ true) × ((a + n) / g ≡ r)
@@ -39,12 +42,14 @@ row_of_place {X} f g a (x ∷ xs) r e = go (f x) refl e (row_of_place f g (a + 1
     go false p e rest = further (rest e)
     go true p e rest = by_row (nat_eq (a / g) r) refl e
       where
-        by_row : (b : Bool) → nat_eq (a / g) r ≡ b → (b || is_in_list (rows f g (a + 1) xs) r) ≡ true → (n : ℕ) × (y : X) × (slice_get (x ∷ xs) n ≡ Some y) × (f y ≡ true) × ((a + n) / g ≡ r)
+        by_row : (b : Bool) → nat_eq (a / g) r ≡ b → (b || is_in_list (rows f g (a + 1) xs) r) ≡ true
+            → (n : ℕ) × (y : X) × (slice_get (x ∷ xs) n ≡ Some y) × (f y ≡ true) × ((a + n) / g ≡ r)
         by_row true q e = here p (eqb-true (a / g) r q)
         by_row false q e = further (rest e)
 
 -- those of one column are distinct
-distinct_rows_of : {X : Type 0} (f : X → Bool) (g a : ℕ) (xs : List X) → ((n m : ℕ) (y z : X) → slice_get xs n ≡ Some y → slice_get xs m ≡ Some z → f y ≡ true → f z ≡ true → (a + n) % g ≡ (a + m) % g) → Distinct (rows f g a xs)
+distinct_rows_of : {X : Type 0} (f : X → Bool) (g a : ℕ) (xs : List X)
+    → ((n m : ℕ) (y z : X) → slice_get xs n ≡ Some y → slice_get xs m ≡ Some z → f y ≡ true → f z ≡ true → (a + n) % g ≡ (a + m) % g) → Distinct (rows f g a xs)
 unfolding rows
 distinct_rows_of f g a [] column = tt
 distinct_rows_of {X} f g a (y ∷ ys) column = go (f y) refl (distinct_rows_of f g (a + 1) ys later)
@@ -71,12 +76,14 @@ distinct_rows_of {X} f g a (y ∷ ys) column = go (f y) refl (distinct_rows_of f
     go false p rest = rest
 
 -- so there are no more of them than rows
-pub few_in_column : {X : Type 0} (f : X → Bool) (g r : ℕ) (xs : List X) → ((n m : ℕ) (y z : X) → slice_get xs n ≡ Some y → slice_get xs m ≡ Some z → f y ≡ true → f z ≡ true → n % g ≡ m % g)
+pub few_in_column : {X : Type 0} (f : X → Bool) (g r : ℕ) (xs : List X)
+    → ((n m : ℕ) (y z : X) → slice_get xs n ≡ Some y → slice_get xs m ≡ Some z → f y ≡ true → f z ≡ true → n % g ≡ m % g)
     → ((n : ℕ) (y : X) → slice_get xs n ≡ Some y → f y ≡ true → n / g < r) → length (filter f xs) ≤ r
 few_in_column f g r xs column below =
     subst (λ n. n ≤ r) (length_rows f g 0 xs)
     (distinct_few 0 r (rows f g 0 xs)
-    (distinct_rows_of f g 0 xs (λ n m y z e h p q. let one : 0 + n ≡ n = omega arith in let two : 0 + m ≡ m = omega arith in ap (λ k. k % g) one ∙ column n m y z e h p q ∙ ap (λ k. k % g) (sym two)))
+    (distinct_rows_of f g 0 xs (λ n m y z e h p q. let one : 0 + n ≡ n = omega arith in let two : 0 + m ≡ m = omega arith in ap (λ k. k % g) one
+    ∙ column n m y z e h p q ∙ ap (λ k. k % g) (sym two)))
     (λ q e.
     let at = row_of_place f g 0 xs q e in
     let same : 0 + at.0 ≡ at.0 = omega arith in

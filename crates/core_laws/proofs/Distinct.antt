@@ -50,7 +50,8 @@ pub made_of : (f : ℕ → List ℕ) (a n q : ℕ) → IsIn (flat_map f (range_w
 made_of f a zero q e = absurd cc
 made_of f a (suc n) q e = go (in_joined (f a) (flat_map f (range_with_len (a + 1) n)) q e) (made_of f (a + 1) n q)
   where
-    go : IsIn (f a) q ⊎ IsIn (flat_map f (range_with_len (a + 1) n)) q → (IsIn (flat_map f (range_with_len (a + 1) n)) q → (u : ℕ) × (a + 1 ≤ u) × (u < a + 1 + n) × IsIn (f u) q)
+    go : IsIn (f a) q ⊎ IsIn (flat_map f (range_with_len (a + 1) n)) q
+        → (IsIn (flat_map f (range_with_len (a + 1) n)) q → (u : ℕ) × (a + 1 ≤ u) × (u < a + 1 + n) × IsIn (f u) q)
         → (u : ℕ) × (a ≤ u) × (u < a + suc n) × IsIn (f u) q
     go (inl here) rest = (a, omega arith, omega arith, here)
     go (inr there) rest = let r = rest there in let low : a + 1 ≤ r.0 = r.1 in let high : r.0 < a + 1 + n = r.2 in (r.0, omega arith, omega arith, r.3)
@@ -102,17 +103,22 @@ distinct_made f (y ∷ ys) x zero e d = subst (λ z. Distinct (f z)) (same_Some 
 distinct_made f (y ∷ ys) x (suc k) e d = distinct_made f ys x k e (distinct_second (f y) (flat_map f ys) d)
 
 -- a number is made of one element
-pub one_maker : {X : Type 0} (f : X → List ℕ) (xs : List X) (x y : X) (j k q : ℕ) → slice_get xs j ≡ Some x → slice_get xs k ≡ Some y → Distinct (flat_map f xs) → IsIn (f x) q → IsIn (f y) q → x ≡ y
+pub one_maker : {X : Type 0} (f : X → List ℕ) (xs : List X) (x y : X) (j k q : ℕ) → slice_get xs j ≡ Some x → slice_get xs k ≡ Some y → Distinct (flat_map f xs)
+    → IsIn (f x) q → IsIn (f y) q → x ≡ y
 one_maker f [] x y j k q a b d p r = absurd (none-some x a)
 one_maker f (z ∷ zs) x y zero zero q a b d p r = sym (same_Some z x a) ∙ same_Some z y b
-one_maker f (z ∷ zs) x y zero (suc k) q a b d p r = absurd (distinct_apart (f z) (flat_map f zs) d q (subst (λ v. IsIn (f v) q) (sym (same_Some z x a)) p) (in_made f zs y k q b r))
-one_maker f (z ∷ zs) x y (suc j) zero q a b d p r = absurd (distinct_apart (f z) (flat_map f zs) d q (subst (λ v. IsIn (f v) q) (sym (same_Some z y b)) r) (in_made f zs x j q a p))
+one_maker f (z ∷ zs) x y zero (suc k) q a b d p r =
+    absurd (distinct_apart (f z) (flat_map f zs) d q (subst (λ v. IsIn (f v) q) (sym (same_Some z x a)) p) (in_made f zs y k q b r))
+one_maker f (z ∷ zs) x y (suc j) zero q a b d p r =
+    absurd (distinct_apart (f z) (flat_map f zs) d q (subst (λ v. IsIn (f v) q) (sym (same_Some z y b)) r) (in_made f zs x j q a p))
 one_maker f (z ∷ zs) x y (suc j) (suc k) q a b d p r = one_maker f zs x y j k q a b (distinct_second (f z) (flat_map f zs) d) p r
 
-pub distinct_rows : (f : ℕ → List ℕ) (a n : ℕ) → ((u : ℕ) → Distinct (f u)) → ((u v q : ℕ) → IsIn (f u) q → IsIn (f v) q → u ≡ v) → Distinct (flat_map f (range_with_len a n))
+pub distinct_rows : (f : ℕ → List ℕ) (a n : ℕ) → ((u : ℕ) → Distinct (f u)) → ((u v q : ℕ) → IsIn (f u) q → IsIn (f v) q → u ≡ v)
+    → Distinct (flat_map f (range_with_len a n))
 distinct_rows f a zero each one = tt
 distinct_rows f a (suc n) each one = distinct_joined (f a) (flat_map f (range_with_len (a + 1) n)) (each a) (distinct_rows f (a + 1) n each one)
-    (λ q here there. let at = made_of f (a + 1) n q there in let same : a ≡ at.0 = one a at.0 q here at.3 in let low : a + 1 ≤ at.0 = at.1 in absurd (omega arith))
+    (λ q here there. let at = made_of f (a + 1) n q there in let same : a ≡ at.0 = one a at.0 q here at.3 in let low : a + 1 ≤ at.0 =
+    at.1 in absurd (omega arith))
 
 pub distinct_at : (xs : List ℕ) (j k q : ℕ) → Distinct xs → slice_get xs j ≡ Some q → slice_get xs k ≡ Some q → j ≡ k
 distinct_at [] j k q d a b = absurd (none-some q a)
@@ -127,7 +133,8 @@ in_without : (q : ℕ) (xs : List ℕ) (r : ℕ) → IsIn (filter (λ x. not (x 
 in_without q [] r e = absurd cc
 in_without q (x ∷ xs) r e = go (nat_eq x q) refl e (in_without q xs r)
   where
-    go : (b : Bool) → nat_eq x q ≡ b → IsIn (cond (not b) (x ∷ filter (λ x. not (x == q)) xs) (filter (λ x. not (x == q)) xs)) r → (IsIn (filter (λ x. not (x == q)) xs) r → IsIn xs r × (r ≢ q)) → IsIn (x ∷ xs) r × (r ≢ q)
+    go : (b : Bool) → nat_eq x q ≡ b → IsIn (cond (not b) (x ∷ filter (λ x. not (x == q)) xs) (filter (λ x. not (x == q)) xs)) r
+        → (IsIn (filter (λ x. not (x == q)) xs) r → IsIn xs r × (r ≢ q)) → IsIn (x ∷ xs) r × (r ≢ q)
     go true same f rest = (or_right (x == r) (is_in_list xs r) (rest f).0, (rest f).1)
     go false other f rest = elim (either (x == r) (is_in_list (filter (λ x. not (x == q)) xs) r) f) as (λ _. IsIn (x ∷ xs) r × (r ≢ q)) [
       | inl here ↦ (or_left (x == r) (is_in_list xs r) here, λ e. no_both (nat_eq x q) (ap (λ y. y == q) (eqb-true x r here ∙ e) ∙ same_number q) other)
@@ -146,7 +153,8 @@ none_without : (q : ℕ) (xs : List ℕ) → is_in_list xs q ≡ false → lengt
 none_without q [] e = omega arith
 none_without q (x ∷ xs) e = go (nat_eq x q) e (none_without q xs)
   where
-    go : (b : Bool) → (b || is_in_list xs q) ≡ false → (is_in_list xs q ≡ false → length xs ≤ length (filter (λ x. not (x == q)) xs)) → suc (length xs) ≤ length (cond (not b) (x ∷ filter (λ x. not (x == q)) xs) (filter (λ x. not (x == q)) xs))
+    go : (b : Bool) → (b || is_in_list xs q) ≡ false → (is_in_list xs q ≡ false → length xs ≤ length (filter (λ x. not (x == q)) xs))
+        → suc (length xs) ≤ length (cond (not b) (x ∷ filter (λ x. not (x == q)) xs) (filter (λ x. not (x == q)) xs))
     go true f rest = absurd cc
     go false f rest = let r : length xs ≤ length (filter (λ x. not (x == q)) xs) = rest f in omega arith
 
@@ -154,13 +162,16 @@ length_without : (q : ℕ) (xs : List ℕ) → Distinct xs → length xs ≤ len
 length_without q [] d = omega arith
 length_without q (x ∷ xs) d = go (nat_eq x q) refl (length_without q xs d.1)
   where
-    go : (b : Bool) → nat_eq x q ≡ b → length xs ≤ length (filter (λ x. not (x == q)) xs) + 1 → suc (length xs) ≤ length (cond (not b) (x ∷ filter (λ x. not (x == q)) xs) (filter (λ x. not (x == q)) xs)) + 1
-    go true e rest = let r : length xs ≤ length (filter (λ x. not (x == q)) xs) = none_without q xs (ap (is_in_list xs) (sym (eqb-true x q e)) ∙ d.0) in omega arith
+    go : (b : Bool) → nat_eq x q ≡ b → length xs ≤ length (filter (λ x. not (x == q)) xs) + 1
+        → suc (length xs) ≤ length (cond (not b) (x ∷ filter (λ x. not (x == q)) xs) (filter (λ x. not (x == q)) xs)) + 1
+    go true e rest = let r : length xs ≤ length (filter (λ x. not (x == q)) xs) =
+        none_without q xs (ap (is_in_list xs) (sym (eqb-true x q e)) ∙ d.0) in omega arith
     go false e rest = omega arith
 
 pub distinct_few : (a n : ℕ) (xs : List ℕ) → Distinct xs → ((q : ℕ) → IsIn xs q → (a ≤ q) × (q < a + n)) → length xs ≤ n
 distinct_few a zero [] d within = omega arith
-distinct_few a zero (x ∷ xs) d within = let at = within x (or_left (x == x) (is_in_list xs x) (same_number x)) in let low : a ≤ x = at.0 in let high : x < a + 0 = at.1 in absurd (omega arith)
+distinct_few a zero (x ∷ xs) d within = let at = within x (or_left (x == x) (is_in_list xs x) (same_number x)) in let low : a ≤ x =
+    at.0 in let high : x < a + 0 = at.1 in absurd (omega arith)
 distinct_few a (suc n) xs d within =
     let rest : length (filter (λ x. not (x == a)) xs) ≤ n = distinct_few (a + 1) n (filter (λ x. not (x == a)) xs) (distinct_without a xs d)
     (λ q e.

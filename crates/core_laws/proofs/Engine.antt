@@ -16,7 +16,8 @@ use Rattle.lemmas.proofs.Numbers.{fun_same}
 
 -- ---- prefixes
 
-prefix_at : (logs : Logs) (e : EngineEvent) (knows : List ℕ) (n : ℕ) → n ≤ length (logs 0) → (author : ℕ) → engine_prefix n (after logs e knows) author ≡ engine_prefix n logs author
+prefix_at : (logs : Logs) (e : EngineEvent) (knows : List ℕ) (n : ℕ) → n ≤ length (logs 0) → (author : ℕ)
+    → engine_prefix n (after logs e knows) author ≡ engine_prefix n logs author
 prefix_at logs e knows n within zero = take-append-le n (logs 0) (record { event = Decides e; knows = knows } ∷ []) within
 prefix_at logs e knows n within (suc unit) = refl
 
@@ -30,19 +31,23 @@ whole_at logs (suc unit) = refl
 
 -- those before the event are the logs as they were
 pub prefix_whole : (logs : Logs) (e : EngineEvent) (knows : List ℕ) → engine_prefix (length (logs 0)) (after logs e knows) ≡ logs
-prefix_whole logs e knows = prefix_same logs e knows (length (logs 0)) (le_refl (length (logs 0))) ∙ fun_same (engine_prefix (length (logs 0)) logs) logs (whole_at logs)
+prefix_whole logs e knows = prefix_same logs e knows (length (logs 0)) (le_refl (length (logs 0)))
+    ∙ fun_same (engine_prefix (length (logs 0)) logs) logs (whole_at logs)
 
 -- ---- numbers
 
 pub opened_number : (number : ℕ) (knows : List ℕ) (e : Event) (o : Opening) → opened_by number knows e ≡ Some o → o.number ≡ number
-opened_number number knows (Decides (Open line start)) o h = ap (λ (x : Opening). x.number) (sym (same_Some (record { number = number; line = line; start = start; knows = knows }) o h))
+opened_number number knows (Decides (Open line start)) o h =
+    ap (λ (x : Opening). x.number) (sym (same_Some (record { number = number; line = line; start = start; knows = knows }) o h))
 opened_number number knows e o h = absurd (none-some o h)
 
 pub openings_before : (log : List Logged) → AllByRecursion (λ o. o.number < length log) (openings log)
-openings_before log = numbers_below (λ (e : ℕ × Logged). opened_by e.0 e.1.knows e.1.event) (λ (o : Opening). o.number) (λ e o h. opened_number e.0 e.1.knows e.1.event o h) (length log) 0 log (omega arith)
+openings_before log = numbers_below (λ (e : ℕ × Logged). opened_by e.0 e.1.knows e.1.event) (λ (o : Opening). o.number)
+    (λ e o h. opened_number e.0 e.1.knows e.1.event o h) (length log) 0 log (omega arith)
 
 pub placements_before : (log : List Logged) → AllByRecursion (λ p. p.number < length log) (placements log)
-placements_before log = numbers_below (λ (e : ℕ × Logged). placed_by log e.0 e.1.event) (λ (p : Placed). p.number) (λ e p h. its_number log e.0 e.1.event p h) (length log) 0 log (omega arith)
+placements_before log = numbers_below (λ (e : ℕ × Logged). placed_by log e.0 e.1.event) (λ (p : Placed). p.number) (λ e p h. its_number log e.0 e.1.event p h)
+    (length log) 0 log (omega arith)
 
 -- ---- stops
 

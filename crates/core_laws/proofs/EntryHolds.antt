@@ -39,14 +39,18 @@ later_same log l t none =
 pub later_of_others : (log : List Logged) (entry : Entry) (mark : Mark) (knows : List ℕ) (t : Taken) → (mark.lba == t.mark.lba) ≡ false
     → later_take (log ++ record { event = Decides (Take entry mark); knows = knows } ∷ []) t ≡ later_take log t
 later_of_others log entry mark knows t other =
-    ap (find (λ (u : Taken). nat_lt t.entry.position u.entry.position && (u.mark.lba == t.mark.lba))) (takes_more log (record { event = Decides (Take entry mark); knows = knows }))
-    ∙ find_fails_last (λ (u : Taken). nat_lt t.entry.position u.entry.position && (u.mark.lba == t.mark.lba)) (takes log) (record { entry = entry; mark = mark })
+    ap (find (λ (u : Taken). nat_lt t.entry.position u.entry.position && (u.mark.lba == t.mark.lba)))
+    (takes_more log (record { event = Decides (Take entry mark); knows = knows }))
+    ∙ find_fails_last (λ (u : Taken). nat_lt t.entry.position u.entry.position && (u.mark.lba == t.mark.lba)) (takes log)
+    (record { entry = entry; mark = mark })
     (and_false (nat_lt t.entry.position entry.position) (mark.lba == t.mark.lba) other)
 
-pub later_of_sector : (log : List Logged) (entry : Entry) (mark : Mark) (knows : List ℕ) (t : Taken) → later_take log t ≡ None → mark.lba ≡ t.mark.lba → t.entry.position < entry.position
+pub later_of_sector : (log : List Logged) (entry : Entry) (mark : Mark) (knows : List ℕ) (t : Taken) → later_take log t ≡ None → mark.lba ≡ t.mark.lba
+    → t.entry.position < entry.position
     → later_take (log ++ record { event = Decides (Take entry mark); knows = knows } ∷ []) t ≡ Some (record { entry = entry; mark = mark })
 later_of_sector log entry mark knows t none same after =
-    ap (find (λ (u : Taken). nat_lt t.entry.position u.entry.position && (u.mark.lba == t.mark.lba))) (takes_more log (record { event = Decides (Take entry mark); knows = knows }))
+    ap (find (λ (u : Taken). nat_lt t.entry.position u.entry.position && (u.mark.lba == t.mark.lba)))
+    (takes_more log (record { event = Decides (Take entry mark); knows = knows }))
     ∙ find_last (λ (u : Taken). nat_lt t.entry.position u.entry.position && (u.mark.lba == t.mark.lba)) (takes log) (record { entry = entry; mark = mark }) true
     (ap₂ (λ a b. a && b) (lt_true t.entry.position entry.position after) (ap (λ n. n == t.mark.lba) same ∙ same_number t.mark.lba)) none
 
@@ -62,7 +66,8 @@ none_is_later log t numbered last =
 -- ---- the line of the stripe
 
 -- the same stripes are placed, and the same ones are lost
-pub line_same : (s : Shape) (log new : List Logged) → placements new ≡ placements log → ((p : Placed) → was_lost new p ≡ was_lost log p) → (q : ℕ) → placed_line s new q ≡ placed_line s log q
+pub line_same : (s : Shape) (log new : List Logged) → placements new ≡ placements log → ((p : Placed) → was_lost new p ≡ was_lost log p) → (q : ℕ)
+    → placed_line s new q ≡ placed_line s log q
 line_same s log new placed losses q =
     ap (λ ps. option_map (λ (p : Placed). p.stripe.line) (find (λ (p : Placed). holds_position s q p && not (was_lost new p)) ps)) placed
     ∙ ap (option_map (λ (p : Placed). p.stripe.line))
@@ -77,9 +82,11 @@ others_now : (s : Shape) (log : List Logged) (stripe : Stripe) (knows : List ℕ
     → find (IsFor s (with_place log stripe knows) q) (placements log) ≡ find (IsFor s log q) (placements log)
 others_now s log stripe knows o q is =
     find_agree (λ (p : Placed). p.number < length log) (IsFor s (with_place log stripe knows) q) (IsFor s log q)
-    (λ p before. ap (λ a. holds_position s q p && not (is_loss a)) (answer_now log stripe knows o p is.opened (le_of_lt before))) (placements log) (placements_before log)
+    (λ p before. ap (λ a. holds_position s q p && not (is_loss a)) (answer_now log stripe knows o p is.opened (le_of_lt before))) (placements log)
+    (placements_before log)
 
-pub line_of_others : (s : Shape) (log : List Logged) (stripe : Stripe) (knows : List ℕ) (o : Opening) (q : ℕ) → IsPlacing log stripe o → list_any (bears_position s q) stripe.blocks ≡ false
+pub line_of_others : (s : Shape) (log : List Logged) (stripe : Stripe) (knows : List ℕ) (o : Opening) (q : ℕ) → IsPlacing log stripe o
+    → list_any (bears_position s q) stripe.blocks ≡ false
     → placed_line s (with_place log stripe knows) q ≡ placed_line s log q
 line_of_others s log stripe knows o q is not_held =
     let new : List Logged = with_place log stripe knows in
@@ -89,7 +96,8 @@ line_of_others s log stripe knows o q is not_held =
     (not_first (holds_position s q (new_placed log stripe o)) (not (was_lost new (new_placed log stripe o))) not_held)
     ∙ others_now s log stripe knows o q is)
 
-pub line_of_stripe : (s : Shape) (log : List Logged) (stripe : Stripe) (knows : List ℕ) (o : Opening) (q : ℕ) → IsPlacing log stripe o → placed_line s log q ≡ None → list_any (bears_position s q) stripe.blocks ≡ true
+pub line_of_stripe : (s : Shape) (log : List Logged) (stripe : Stripe) (knows : List ℕ) (o : Opening) (q : ℕ) → IsPlacing log stripe o
+    → placed_line s log q ≡ None → list_any (bears_position s q) stripe.blocks ≡ true
     → placed_line s (with_place log stripe knows) q ≡ Some stripe.line
 line_of_stripe s log stripe knows o q is none held =
     let new : List Logged = with_place log stripe knows in
@@ -101,7 +109,8 @@ line_of_stripe s log stripe knows o q is none held =
 
 -- ---- where nothing fails
 
-pub line_unlost : (s : Shape) (log : List Logged) (q : ℕ) → ((p : Placed) → was_lost log p ≡ false) → placed_line s log q ≡ option_map (λ (p : Placed). p.stripe.line) (find (holds_position s q) (placements log))
+pub line_unlost : (s : Shape) (log : List Logged) (q : ℕ) → ((p : Placed) → was_lost log p ≡ false)
+    → placed_line s log q ≡ option_map (λ (p : Placed). p.stripe.line) (find (holds_position s q) (placements log))
 line_unlost s log q none = ap (option_map (λ (p : Placed). p.stripe.line))
     (find_same (IsFor s log q) (holds_position s q) (λ p. ap (λ b. holds_position s q p && not b) (none p) ∙ and_true (holds_position s q p)) (placements log))
   where
@@ -117,5 +126,8 @@ found_any {X} test (x ∷ xs) = go (test x) (found_any test xs)
     go true rest = refl
     go false rest = rest
 
-pub line_below_front : (s : Shape) (log : List Logged) (q : ℕ) → IsOrdered s log → is_some (placed_line s log q) ≡ (nat_le (first_position log) q && nat_lt q (placed_front s log))
-line_below_front s log q is = ap is_some (line_unlost s log q (never_lost log is.no_loss)) ∙ some_mapped (λ (p : Placed). p.stripe.line) (find (holds_position s q) (placements log)) ∙ found_any (holds_position s q) (placements log) ∙ some_hold_below s log is q
+pub line_below_front : (s : Shape) (log : List Logged) (q : ℕ) → IsOrdered s log
+    → is_some (placed_line s log q) ≡ (nat_le (first_position log) q && nat_lt q (placed_front s log))
+line_below_front s log q is = ap is_some (line_unlost s log q (never_lost log is.no_loss))
+    ∙ some_mapped (λ (p : Placed). p.stripe.line) (find (holds_position s q) (placements log)) ∙ found_any (holds_position s q) (placements log)
+    ∙ some_hold_below s log is q

@@ -23,13 +23,16 @@ IsKept i P = IsKeptBy i is_plain_event P
 abbrev AllPass : (Event → Bool) → List Logged → Type 0
 AllPass test log = AllByRecursion (λ (l : Logged). test l.event ≡ true) log
 
-one_event : (i : Image) (test : Event → Bool) (P : List Logged → Type 0) → IsKeptBy i test P → (log : List Logged) (known : Logs) (event : Event) (knows : List ℕ) → known 0 ≡ log → IsAllowed i 0 event known → test event ≡ true
+one_event : (i : Image) (test : Event → Bool) (P : List Logged → Type 0) → IsKeptBy i test P
+    → (log : List Logged) (known : Logs) (event : Event) (knows : List ℕ) → known 0 ≡ log → IsAllowed i 0 event known → test event ≡ true
     → P log → P (log ++ record { event = event; knows = knows } ∷ [])
 one_event i test P kept log known (Decides e) knows own may passes so = kept log known e knows own may passes so
 one_event i test P kept log known (Does e maker) knows own may passes so = absurd may
 
-one_step : (i : Image) (test : Event → Bool) (P : List Logged → Type 0) → IsKeptBy i test P → (s : Step) (w : World) → IsLegalStep i (log_of w) s → (b : Bool) → (s.author == 0) ≡ b
-    → AllPass test (if b then log_of w 0 ++ s.logged ∷ [] else log_of w 0) → (AllPass test (log_of w 0) → P (log_of w 0)) → P (if b then log_of w 0 ++ s.logged ∷ [] else log_of w 0)
+one_step : (i : Image) (test : Event → Bool) (P : List Logged → Type 0) → IsKeptBy i test P → (s : Step) (w : World) → IsLegalStep i (log_of w) s → (b : Bool)
+    → (s.author == 0) ≡ b
+    → AllPass test (if b then log_of w 0 ++ s.logged ∷ [] else log_of w 0) → (AllPass test (log_of w 0) → P (log_of w 0))
+    → P (if b then log_of w 0 ++ s.logged ∷ [] else log_of w 0)
 one_step i test P kept s w step false e passes rest = rest passes
 one_step i test P kept s w step true e passes rest =
     let engine : s.author ≡ 0 = eqb-true s.author 0 e in
@@ -40,7 +43,8 @@ one_step i test P kept s w step true e passes rest =
     (all_back (λ (l : Logged). test l.event ≡ true) (log_of w 0) (s.logged ∷ []) passes).0
     (rest (all_front (λ (l : Logged). test l.event ≡ true) (log_of w 0) (s.logged ∷ []) passes))
 
-by_events : (i : Image) (test : Event → Bool) (P : List Logged → Type 0) → P [] → IsKeptBy i test P → (w : World) → IsLegal i w → AllPass test (log_of w 0) → P (log_of w 0)
+by_events : (i : Image) (test : Event → Bool) (P : List Logged → Type 0) → P [] → IsKeptBy i test P → (w : World) → IsLegal i w → AllPass test (log_of w 0)
+    → P (log_of w 0)
 unfolding IsLegal
 by_events i test P none kept [] legal passes = none
 by_events i test P none kept (s ∷ w) legal passes = one_step i test P kept s w legal.0 (s.author == 0) refl passes (by_events i test P none kept w legal.1)
@@ -61,4 +65,5 @@ all_pass [] = tt
 all_pass (l ∷ log) = (refl, all_pass log)
 
 pub of_legal_log : (i : Image) (P : List Logged → Type 0) → P [] → IsKeptAlways i P → (w : World) → IsLegal i w → P (log_of w 0)
-of_legal_log i P none kept w legal = by_events i every_event P none (λ log known e knows own may passes so. kept log known e knows own may so) w legal (all_pass (log_of w 0))
+of_legal_log i P none kept w legal =
+    by_events i every_event P none (λ log known e knows own may passes so. kept log known e knows own may so) w legal (all_pass (log_of w 0))

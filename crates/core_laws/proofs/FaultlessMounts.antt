@@ -34,7 +34,8 @@ not_losing (Does e maker) plain = refl
 
 -- ---- after a step
 
-simple_then : (s : Step) (log : List Logged) (b : Bool) → is_plain_event s.logged.event ≡ true → IsSimpleLog log → IsSimpleLog (if b then log ++ s.logged ∷ [] else log)
+simple_then : (s : Step) (log : List Logged) (b : Bool) → is_plain_event s.logged.event ≡ true → IsSimpleLog log
+    → IsSimpleLog (if b then log ++ s.logged ∷ [] else log)
 simple_then s log true plain was = simple_after log s.logged was (not_freeing s.logged.event plain) (not_copying s.logged.event plain)
     (not_losing s.logged.event plain)
 simple_then s log false plain was = was
@@ -49,10 +50,12 @@ one_answered (Does e maker) plain = (plain, tt)
 answered_after : (s : Step) (log : List Logged) (b : Bool) → is_plain_event s.logged.event ≡ true → AreAnswered (events_of log)
     → AreAnswered (events_of (if b then log ++ s.logged ∷ [] else log))
 answered_after s log true plain was = subst AreAnswered (sym (more (λ (l : Logged). unit_event_of l.event) log s.logged))
-    (all_append (λ (e : UnitEvent). is_answered e.outcome ≡ true) (events_of log) (option_to_list (unit_event_of s.logged.event)) was (one_answered s.logged.event plain))
+    (all_append (λ (e : UnitEvent). is_answered e.outcome ≡ true) (events_of log) (option_to_list (unit_event_of s.logged.event)) was
+    (one_answered s.logged.event plain))
 answered_after s log false plain was = was
 
-pub still_faultless : (i : Image) (s : Step) (w : World) → IsFaultlessMount i w → IsLegalStep i (log_of w) s → is_plain_event s.logged.event ≡ true → IsFaultlessMount i (s ∷ w)
+pub still_faultless : (i : Image) (s : Step) (w : World) → IsFaultlessMount i w → IsLegalStep i (log_of w) s → is_plain_event s.logged.event ≡ true
+    → IsFaultlessMount i (s ∷ w)
 unfolding IsLegal
 still_faultless i s w is step plain = record {
   simple = record {

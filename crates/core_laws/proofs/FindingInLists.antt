@@ -17,7 +17,8 @@ any_none {X} f (x ∷ xs) e = go (f x) e (any_none f xs)
     go false g rest = rest g
 
 -- the only element that passes
-pub find_unique : {X : Type 0} (f : X → Bool) (xs : List X) (k : ℕ) (y : X) → slice_get xs k ≡ Some y → f y ≡ true → AllByRecursion (λ x. f x ≡ true → x ≡ y) xs → find f xs ≡ Some y
+pub find_unique : {X : Type 0} (f : X → Bool) (xs : List X) (k : ℕ) (y : X) → slice_get xs k ≡ Some y → f y ≡ true → AllByRecursion (λ x. f x ≡ true → x ≡ y) xs
+    → find f xs ≡ Some y
 find_unique f [] k y at passes all = absurd (none-some y at)
 find_unique {X} f (x ∷ xs) zero y at passes all =
     let same : x ≡ y = same_Some x y at in
@@ -32,7 +33,8 @@ pub find_append : {X : Type 0} (f : X → Bool) (xs ys : List X) (z : X) → fin
 find_append f [] ys z e = inr e
 find_append {X} f (x ∷ xs) ys z e = go (f x) e (find_append f xs ys z)
   where
-    go : (b : Bool) → cond b (Some x) (find f (xs ++ ys)) ≡ Some z → (find f (xs ++ ys) ≡ Some z → (find f xs ≡ Some z) ⊎ (find f ys ≡ Some z)) → (cond b (Some x) (find f xs) ≡ Some z) ⊎ (find f ys ≡ Some z)
+    go : (b : Bool) → cond b (Some x) (find f (xs ++ ys)) ≡ Some z → (find f (xs ++ ys) ≡ Some z → (find f xs ≡ Some z) ⊎ (find f ys ≡ Some z))
+        → (cond b (Some x) (find f xs) ≡ Some z) ⊎ (find f ys ≡ Some z)
     go true g rest = inl g
     go false g rest = rest g
 
@@ -50,7 +52,8 @@ reads_first {X} bears reads n m (x ∷ bs) down before e = go (bears x) (reads n
     go false c f g rest = rest g
 
 -- what is read from the front on stays the first
-pub first_stays : {X : Type 0} (bears : X → Bool) (reads now : ℕ → Bool) (n : ℕ) (bs : List X) → ((a b : ℕ) → a ≤ b → reads b ≡ true → reads a ≡ true) → ((b : ℕ) → reads b ≡ true → now b ≡ true)
+pub first_stays : {X : Type 0} (bears : X → Bool) (reads now : ℕ → Bool) (n : ℕ) (bs : List X) → ((a b : ℕ) → a ≤ b → reads b ≡ true → reads a ≡ true)
+    → ((b : ℕ) → reads b ≡ true → now b ≡ true)
     → list_any (λ (b : ℕ × X). bears b.1 && reads b.0) (enumerate_from n bs) ≡ true
     → find (λ (b : ℕ × X). bears b.1 && now b.0) (enumerate_from n bs) ≡ find (λ (b : ℕ × X). bears b.1 && reads b.0) (enumerate_from n bs)
 first_stays bears reads now n [] down more e = refl
@@ -75,13 +78,16 @@ pub found_within : {X : Type 0} (f : ℕ × X → Bool) (n : ℕ) (bs : List X) 
 found_within f n [] b e = absurd (none-some b e)
 found_within {X} f n (x ∷ bs) b e = go (f (n, x)) e (found_within f (n + 1) bs b)
   where
-    go : (c : Bool) → cond c (Some (n, x)) (find f (enumerate_from (n + 1) bs)) ≡ Some b → (find f (enumerate_from (n + 1) bs) ≡ Some b → (n + 1 ≤ b.0) × (b.0 < n + 1 + length bs)) → (n ≤ b.0) × (b.0 < n + suc (length bs))
+    go : (c : Bool) → cond c (Some (n, x)) (find f (enumerate_from (n + 1) bs)) ≡ Some b
+        → (find f (enumerate_from (n + 1) bs) ≡ Some b → (n + 1 ≤ b.0) × (b.0 < n + 1 + length bs)) → (n ≤ b.0) × (b.0 < n + suc (length bs))
     go true g rest = let head : ℕ × X = (n, x) in let same : n ≡ b.0 = ap (λ (y : ℕ × X). y.0) (same_Some head b g) in (omega arith, omega arith)
     go false g rest = let both = rest g in let low : n + 1 ≤ b.0 = both.0 in let high : b.0 < n + 1 + length bs = both.1 in (omega arith, omega arith)
 
 -- what is found in the blocks of stripes is found in one of them
-pub found_in_stripe : (f : ℕ × Block → Bool) (size n : ℕ) (ps : List Placed) (b : ℕ × Block) → ((k : ℕ) (p : Placed) → slice_get ps k ≡ Some p → IsAt size n k p)
-    → find f (enumerate_from n (flat_map (λ (p : Placed). p.stripe.blocks) ps)) ≡ Some b → (k : ℕ) × (p : Placed) × (slice_get ps k ≡ Some p) × (find f (enumerate_from p.stripe.at p.stripe.blocks) ≡ Some b)
+pub found_in_stripe : (f : ℕ × Block → Bool) (size n : ℕ) (ps : List Placed) (b : ℕ × Block)
+    → ((k : ℕ) (p : Placed) → slice_get ps k ≡ Some p → IsAt size n k p)
+    → find f (enumerate_from n (flat_map (λ (p : Placed). p.stripe.blocks) ps)) ≡ Some b
+    → (k : ℕ) × (p : Placed) × (slice_get ps k ≡ Some p) × (find f (enumerate_from p.stripe.at p.stripe.blocks) ≡ Some b)
 found_in_stripe f size n [] b each e = absurd (none-some b e)
 found_in_stripe f size n (p ∷ ps) b each e =
     go (find_append f (enumerate_from n p.stripe.blocks) (enumerate_from (n + length p.stripe.blocks) (flat_map (λ (p : Placed). p.stripe.blocks) ps)) b
@@ -97,8 +103,10 @@ found_in_stripe f size n (p ∷ ps) b each e =
     at : n ≡ p.stripe.at
     at = let e : p.stripe.at ≡ n + 0 * size = first.0 in grind arith
 
-    go : (find f (enumerate_from n p.stripe.blocks) ≡ Some b) ⊎ (find f (enumerate_from (n + length p.stripe.blocks) (flat_map (λ (p : Placed). p.stripe.blocks) ps)) ≡ Some b)
-        → (find f (enumerate_from (n + size) (flat_map (λ (p : Placed). p.stripe.blocks) ps)) ≡ Some b → (k : ℕ) × (q : Placed) × (slice_get ps k ≡ Some q) × (find f (enumerate_from q.stripe.at q.stripe.blocks) ≡ Some b))
+    go : (find f (enumerate_from n p.stripe.blocks) ≡ Some b)
+        ⊎ (find f (enumerate_from (n + length p.stripe.blocks) (flat_map (λ (p : Placed). p.stripe.blocks) ps)) ≡ Some b)
+        → (find f (enumerate_from (n + size) (flat_map (λ (p : Placed). p.stripe.blocks) ps)) ≡ Some b
+        → (k : ℕ) × (q : Placed) × (slice_get ps k ≡ Some q) × (find f (enumerate_from q.stripe.at q.stripe.blocks) ≡ Some b))
         → (k : ℕ) × (q : Placed) × (slice_get (p ∷ ps) k ≡ Some q) × (find f (enumerate_from q.stripe.at q.stripe.blocks) ≡ Some b)
     go (inl g) rest = (0, p, refl, ap (λ m. find f (enumerate_from m p.stripe.blocks)) (sym at) ∙ g)
     go (inr g) rest =

@@ -36,17 +36,20 @@ pub passed : {X : Type 0} (f : X → Bool) (all xs : List X) → AllByRecursion 
 passed f all [] there = tt
 passed {X} f all (x ∷ xs) there = go (f x) refl (passed f all xs there.1)
   where
-    go : (b : Bool) → f x ≡ b → AllByRecursion (λ y. IsAmong all y × (f y ≡ true)) (filter f xs) → AllByRecursion (λ y. IsAmong all y × (f y ≡ true)) (cond b (x ∷ filter f xs) (filter f xs))
+    go : (b : Bool) → f x ≡ b → AllByRecursion (λ y. IsAmong all y × (f y ≡ true)) (filter f xs)
+        → AllByRecursion (λ y. IsAmong all y × (f y ≡ true)) (cond b (x ∷ filter f xs) (filter f xs))
     go true e rest = ((there.0, e), rest)
     go false e rest = rest
 
 have_by : (log new : List Logged) (o : Opening) (n : ℕ) → placements new ≡ placements log
     → have_landed new o n ≡ (nat_le n (length (stripes_of log o)) && list_all (has_landed new) (take n (stripes_of log o)))
 have_by log new o n same =
-    ap (λ ps. nat_le n (length (filter (λ (p : Placed). is_life o.number p.life) ps)) && list_all (has_landed new) (take n (filter (λ (p : Placed). is_life o.number p.life) ps))) same
+    ap (λ ps. nat_le n (length (filter (λ (p : Placed). is_life o.number p.life) ps)) && list_all (has_landed new)
+    (take n (filter (λ (p : Placed). is_life o.number p.life) ps))) same
 
 -- an opening to which the answered stripe doesn't belong
-pub have_landed_beside : (log new : List Logged) (unit : ℕ) (a : Answer) (p : Placed) (o : Opening) (n : ℕ) → IsAnswer log new unit a → IsFirst log unit p → is_life o.number p.life ≡ false
+pub have_landed_beside : (log new : List Logged) (unit : ℕ) (a : Answer) (p : Placed) (o : Opening) (n : ℕ) → IsAnswer log new unit a → IsFirst log unit p
+    → is_life o.number p.life ≡ false
     → have_landed new o n ≡ have_landed log o n
 have_landed_beside log new unit a p o n is first apart =
     have_by log new o n is.placements
@@ -64,11 +67,13 @@ have_landed_beside log new unit a p o n is first apart =
 
 -- ---- what has landed stays so
 
-landed_stays : (log : List Logged) (unit event : ℕ) (knows : List ℕ) (p : Placed) → has_landed log p ≡ true → has_landed (with_event log (Landed unit event) knows) p ≡ true
+landed_stays : (log : List Logged) (unit event : ℕ) (knows : List ℕ) (p : Placed) → has_landed log p ≡ true
+    → has_landed (with_event log (Landed unit event) knows) p ≡ true
 landed_stays log unit event knows p e =
     let l : Logged = record { event = Decides (Landed unit event); knows = knows } in
     ap₂ (λ (xs : List Answer) k. is_land (slice_get xs k)) (answers_more log l p.stripe.unit)
-    (ap (λ ps. length (filter (λ (q : Placed). nat_lt q.number p.number) (filter (λ (q : Placed). q.stripe.unit == p.stripe.unit) ps))) (placements_kept log (Landed unit event) knows refl))
+    (ap (λ ps. length (filter (λ (q : Placed). nat_lt q.number p.number) (filter (λ (q : Placed). q.stripe.unit == p.stripe.unit) ps)))
+    (placements_kept log (Landed unit event) knows refl))
     ∙ land_more (answers log p.stripe.unit) (option_to_list _) (turn log p) e
 
 both_stay : (a b c : Bool) → (b ≡ true → c ≡ true) → (a && b) ≡ true → (a && c) ≡ true
@@ -84,8 +89,10 @@ all_stay {X} f g stays (x ∷ xs) e = go (f x) (g x) (stays x) (λ r. all_stay f
     go true false h rest e = absurd (cc (h refl))
     go false b h rest e = absurd cc
 
-pub have_landed_stays : (log : List Logged) (unit event : ℕ) (knows : List ℕ) (o : Opening) (n : ℕ) → have_landed log o n ≡ true → have_landed (with_event log (Landed unit event) knows) o n ≡ true
+pub have_landed_stays : (log : List Logged) (unit event : ℕ) (knows : List ℕ) (o : Opening) (n : ℕ) → have_landed log o n ≡ true
+    → have_landed (with_event log (Landed unit event) knows) o n ≡ true
 have_landed_stays log unit event knows o n e =
     have_by log (with_event log (Landed unit event) knows) o n (placements_kept log (Landed unit event) knows refl)
-    ∙ both_stay (nat_le n (length (stripes_of log o))) (list_all (has_landed log) (take n (stripes_of log o))) (list_all (has_landed (with_event log (Landed unit event) knows)) (take n (stripes_of log o)))
+    ∙ both_stay (nat_le n (length (stripes_of log o))) (list_all (has_landed log) (take n (stripes_of log o)))
+    (list_all (has_landed (with_event log (Landed unit event) knows)) (take n (stripes_of log o)))
     (all_stay (has_landed log) (has_landed (with_event log (Landed unit event) knows)) (landed_stays log unit event knows) (take n (stripes_of log o))) e

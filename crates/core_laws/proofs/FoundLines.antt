@@ -42,12 +42,15 @@ use Rattle.pblk_model.proofs.StartRecordLemmas.{some_seq}
 
 -- ---- widths
 
-pub width_found : (i : Image) (f : Found) (logs : Logs) (line : ℕ) (is : HasJustBegun i f logs) → line < i.shape.chunks → width_of i.shape f line ≡ width (named_image i logs is.knows) line
+pub width_found : (i : Image) (f : Found) (logs : Logs) (line : ℕ) (is : HasJustBegun i f logs) → line < i.shape.chunks
+    → width_of i.shape f line ≡ width (named_image i logs is.knows) line
 unfolding width_of
 width_found i f logs line is inside =
-    ap (λ us. length us) (live_are (named_image i logs is.knows) f line (named_fit i f logs is) (named_found i f logs is) inside) ∙ line_units_count (named_image i logs is.knows) line
+    ap (λ us. length us) (live_are (named_image i logs is.knows) f line (named_fit i f logs is) (named_found i f logs is) inside)
+    ∙ line_units_count (named_image i logs is.knows) line
 
-width_now : (i : Image) (f : Found) (logs : Logs) (line : ℕ) (is : HasJustBegun i f logs) → width_in i logs line (life_of (logs 0) line) ≡ width (named_image i logs is.knows) line
+width_now : (i : Image) (f : Found) (logs : Logs) (line : ℕ) (is : HasJustBegun i f logs)
+    → width_in i logs line (life_of (logs 0) line) ≡ width (named_image i logs is.knows) line
 width_now i f logs line is =
     ap (width_in i logs line) (life_is i f logs line is)
     ∙ ap₂ (λ (k j : Image). if are_empty k line then width k line else width j line) (known_at i f logs is) (found_at i f logs is)
@@ -76,30 +79,39 @@ same_state false full false addresses = refl
 
 opening_is : (i : Image) (f : Found) (logs : Logs) (line : ℕ) (is : HasJustBegun i f logs) → line < i.shape.chunks
     → opening_state i.shape f line (line_row (named_image i logs is.knows) line)
-    ≡ state_by (is_some (start_of (named_image i logs is.knows) line)) (is_full (named_image i logs is.knows) line) (are_empty (named_image i logs is.knows) line) (line_data (named_image i logs is.knows) line)
+    ≡ state_by (is_some (start_of (named_image i logs is.knows) line)) (is_full (named_image i logs is.knows) line)
+    (are_empty (named_image i logs is.knows) line) (line_data (named_image i logs is.knows) line)
 unfolding opening_state
 opening_is i f logs line is inside =
     let stray : list_any (λ stray. stray == line) f.strays ≡ is_stray (named_image i logs is.knows) line =
-    ap (list_any (λ stray. stray == line)) (named_found i f logs is).strays_are ∙ any_passed (is_stray (named_image i logs is.knows)) 0 i.shape.chunks line (omega arith) (omega arith) in
-    ap (λ b. opening_by b (is_full (named_image i logs is.knows) line) (list_any (λ stray. stray == line) f.strays) (data_len i.shape (width_of i.shape f line))) (some_seq (start_of (named_image i logs is.knows) line))
-    ∙ ap₂ (λ b g. opening_by (is_some (start_of (named_image i logs is.knows) line)) (is_full (named_image i logs is.knows) line) b (data_len i.shape g)) stray (width_found i f logs line is inside)
-    ∙ same_state (is_some (start_of (named_image i logs is.knows) line)) (is_full (named_image i logs is.knows) line) (are_empty (named_image i logs is.knows) line) (line_data (named_image i logs is.knows) line)
+    ap (list_any (λ stray. stray == line)) (named_found i f logs is).strays_are
+    ∙ any_passed (is_stray (named_image i logs is.knows)) 0 i.shape.chunks line (omega arith) (omega arith) in
+    ap (λ b. opening_by b (is_full (named_image i logs is.knows) line) (list_any (λ stray. stray == line) f.strays)
+    (data_len i.shape (width_of i.shape f line))) (some_seq (start_of (named_image i logs is.knows) line))
+    ∙ ap₂ (λ b g. opening_by (is_some (start_of (named_image i logs is.knows) line)) (is_full (named_image i logs is.knows) line) b (data_len i.shape g)) stray
+    (width_found i f logs line is inside)
+    ∙ same_state (is_some (start_of (named_image i logs is.knows) line)) (is_full (named_image i logs is.knows) line)
+    (are_empty (named_image i logs is.knows) line) (line_data (named_image i logs is.knows) line)
 
 by_start : (i : Image) (logs : Logs) (line : ℕ) (o : Option StartRecord) → state_found i logs line o
-    ≡ state_by (is_some o) (option_map_or (λ start. is_some (end_of (found_image i logs) line start)) o false) (are_empty (known_image i logs) line) (line_data (known_image i logs) line)
+    ≡ state_by (is_some o) (option_map_or (λ start. is_some (end_of (found_image i logs) line start)) o false) (are_empty (known_image i logs) line)
+    (line_data (known_image i logs) line)
 by_start i logs line None = refl
 by_start i logs line (Some start) = refl
 
 state_now : (i : Image) (f : Found) (logs : Logs) (line : ℕ) (is : HasJustBegun i f logs)
-    → state_of i logs line ≡ state_by (is_some (start_of (named_image i logs is.knows) line)) (is_full (named_image i logs is.knows) line) (are_empty (named_image i logs is.knows) line) (line_data (named_image i logs is.knows) line)
+    → state_of i logs line ≡ state_by (is_some (start_of (named_image i logs is.knows) line)) (is_full (named_image i logs is.knows) line)
+    (are_empty (named_image i logs is.knows) line) (line_data (named_image i logs is.knows) line)
 state_now i f logs line is =
     ap (state_in i logs line) (life_is i f logs line is)
     ∙ by_start i logs line (start_of (found_image i logs) line)
-    ∙ ap₂ (λ (j k : Image). state_by (is_some (start_of j line)) (is_full j line) (are_empty k line) (line_data k line)) (found_at i f logs is) (known_at i f logs is)
+    ∙ ap₂ (λ (j k : Image). state_by (is_some (start_of j line)) (is_full j line) (are_empty k line) (line_data k line)) (found_at i f logs is)
+    (known_at i f logs is)
 
 -- ---- live sectors
 
-of_line : (line lba : ℕ) (o : Option Record) → option_map_or (λ (w : Winner). w.line == line) (option_map (winner_with lba) o) false ≡ is_of line (option_and_then (λ (r : Record). Some r.line) o)
+of_line : (line lba : ℕ) (o : Option Record)
+    → option_map_or (λ (w : Winner). w.line == line) (option_map (winner_with lba) o) false ≡ is_of line (option_and_then (λ (r : Record). Some r.line) o)
 of_line line lba None = refl
 of_line line lba (Some r) = refl
 
@@ -113,7 +125,9 @@ live_in : (i : Image) (f : Found) (logs : Logs) (line lba : ℕ) (is : HasJustBe
 live_in i f logs line lba is =
     of_line line lba (winner (counted (named_image i logs is.knows)) lba)
     ∙ ap (is_of line) (as_found i f logs is (winner (counted (named_image i logs is.knows)) lba))
-    ∙ ap (λ (j : Image). is_of line (option_and_then (λ (r : Record). if is_as_found (life_of (logs 0) r.line) then Some r.line else None) (winner (counted j) lba))) (sym (found_at i f logs is))
+    ∙ ap (λ (j : Image). is_of line
+    (option_and_then (λ (r : Record). if is_as_found (life_of (logs 0) r.line) then Some r.line else None) (winner (counted j) lba)))
+    (sym (found_at i f logs is))
     ∙ ap (λ o. is_of line (line_of i logs lba o)) (sym (ap (λ (xs : List Logged). last_take xs lba) is.log))
 
 live_is : (i : Image) (f : Found) (logs : Logs) (line : ℕ) → HasJustBegun i f logs → live_count f.winners line ≡ live i logs line
@@ -121,7 +135,8 @@ unfolding live_count
 live_is i f logs line is =
     ap (λ ws. length (filter (λ (w : Winner). w.line == line) ws)) (named_found i f logs is).winners_are
     ∙ passed_made (λ (w : Winner). w.line == line) (winner_of (named_image i logs is.knows)) (range_with_len 0 i.shape.capacity)
-    ∙ ap (λ xs. length xs) (filter_agree (λ lba. option_map_or (λ (w : Winner). w.line == line) (winner_of (named_image i logs is.knows) lba) false) (is_live_in i logs line) (λ lba. live_in i f logs line lba is) (range_with_len 0 i.shape.capacity))
+    ∙ ap (λ xs. length xs) (filter_agree (λ lba. option_map_or (λ (w : Winner). w.line == line) (winner_of (named_image i logs is.knows) lba) false)
+    (is_live_in i logs line) (λ lba. live_in i f logs line lba is) (range_with_len 0 i.shape.capacity))
 
 -- ---- takers
 
@@ -132,10 +147,13 @@ taker_now i f logs line is =
 
 -- ---- the table
 
-row_is : (i : Image) (f : Found) (logs : Logs) (t : Table) (line : ℕ) (row : Row) → HasJustBegun i f logs → IsOpeningTable i.shape f t → line < i.shape.chunks → slice_get t.rows line ≡ Some row → row ≡ row_of_line i logs line
+row_is : (i : Image) (f : Found) (logs : Logs) (t : Table) (line : ℕ) (row : Row) → HasJustBegun i f logs → IsOpeningTable i.shape f t → line < i.shape.chunks
+    → slice_get t.rows line ≡ Some row → row ≡ row_of_line i logs line
 row_is i f logs t line row is table inside there =
-    same_row row.state (state_of i logs line) row.width (width_in i logs line (life_of (logs 0) line)) row.live (live i logs line) row.taker (taker_in i logs line (life_of (logs 0) line))
-    (table.state line row there (line_row (named_image i logs is.knows) line) (row_at (named_image i logs is.knows) f line (named_found i f logs is) inside) ∙ opening_is i f logs line is inside ∙ sym (state_now i f logs line is))
+    same_row row.state (state_of i logs line) row.width (width_in i logs line (life_of (logs 0) line)) row.live (live i logs line) row.taker
+    (taker_in i logs line (life_of (logs 0) line))
+    (table.state line row there (line_row (named_image i logs is.knows) line) (row_at (named_image i logs is.knows) f line (named_found i f logs is) inside)
+    ∙ opening_is i f logs line is inside ∙ sym (state_now i f logs line is))
     (table.width line row there ∙ width_found i f logs line is inside ∙ sym (width_now i f logs line is))
     (table.live line row there ∙ live_is i f logs line is)
     (table.taker line row there ∙ sym (taker_now i f logs line is))
@@ -147,5 +165,6 @@ table_is i f logs t is table =
     let count : length t.rows ≡ i.shape.chunks = table.lines in
     row_is i f logs t line (get_or t.rows line (row_of_line i logs 0)) is table inside (slice_get-get_or t.rows line (row_of_line i logs 0) (omega arith))))
 
-pub addresses_are : (i : Image) (f : Found) (logs : Logs) (t : Table) → HasJustBegun i f logs → IsOpeningTable i.shape f t → free_addresses t ≡ space.free_addresses i logs
+pub addresses_are : (i : Image) (f : Found) (logs : Logs) (t : Table) → HasJustBegun i f logs → IsOpeningTable i.shape f t
+    → free_addresses t ≡ space.free_addresses i logs
 addresses_are i f logs t is table = ap free_addresses (table_is i f logs t is table) ∙ addresses_free i logs

@@ -27,7 +27,8 @@ by_winner lba None = refl
 by_winner lba (Some r) = refl
 
 -- by the winner of the image that was found
-slot_as_found : (i : Image) (f : Found) (logs : Logs) (lba : ℕ) (is : HasJustBegun i f logs) → slot_of i logs lba ≡ option_map_or place_of_winner (winner_of (named_image i logs is.knows) lba) Unwritten
+slot_as_found : (i : Image) (f : Found) (logs : Logs) (lba : ℕ) (is : HasJustBegun i f logs)
+    → slot_of i logs lba ≡ option_map_or place_of_winner (winner_of (named_image i logs is.knows) lba) Unwritten
 slot_as_found i f logs lba is =
     ap (slot_by i logs lba) (ap (λ (xs : List Logged). last_take xs lba) is.log)
     ∙ ap (λ (j : Image). slot_of_winner (winner (counted j) lba)) (found_at i f logs is)
@@ -37,18 +38,23 @@ pub slot_is : (i : Image) (f : Found) (logs : Logs) (lba : ℕ) → HasJustBegun
 slot_is i f logs lba is inside =
     slot_as_found i f logs lba is
     ∙ ap (λ o. option_map_or place_of_winner o Unwritten)
-    (sym (found_made (winner_of (named_image i logs is.knows)) (λ (w : Winner). w.lba) (names_its_sector (named_image i logs is.knows)) 0 i.shape.capacity lba (omega arith) (omega arith)))
+    (sym (found_made (winner_of (named_image i logs is.knows)) (λ (w : Winner). w.lba) (names_its_sector (named_image i logs is.knows)) 0 i.shape.capacity lba
+    (omega arith) (omega arith)))
     ∙ ap (λ ws. option_map_or place_of_winner (find (λ (w : Winner). w.lba == lba) ws) Unwritten) (sym (named_found i f logs is).winners_are)
 
-pub slot_written : (i : Image) (f : Found) (logs : Logs) (w : Winner) → HasJustBegun i f logs → Contains f.winners w → slot_of i logs w.lba ≡ Media w.line w.at w.position
+pub slot_written : (i : Image) (f : Found) (logs : Logs) (w : Winner) → HasJustBegun i f logs → Contains f.winners w
+    → slot_of i logs w.lba ≡ Media w.line w.at w.position
 slot_written i f logs w is (k, within, there) =
     let at : slice_get f.winners k ≡ Some w = slice_get-get_or f.winners k w within ∙ ap (λ x. Some x) there in
-    let of = made_of (winner_of (named_image i logs is.knows)) 0 i.shape.capacity k w (winner_at (named_image i logs is.knows) f k w (named_found i f logs is) at) in
+    let of = made_of (winner_of (named_image i logs is.knows)) 0 i.shape.capacity k w
+    (winner_at (named_image i logs is.knows) f k w (named_found i f logs is) at) in
     slot_as_found i f logs w.lba is
-    ∙ ap (λ lba. option_map_or place_of_winner (winner_of (named_image i logs is.knows) lba) Unwritten) (names_its_sector (named_image i logs is.knows) of.0 w of.3)
+    ∙ ap (λ lba. option_map_or place_of_winner (winner_of (named_image i logs is.knows) lba) Unwritten)
+    (names_its_sector (named_image i logs is.knows) of.0 w of.3)
     ∙ ap (λ o. option_map_or place_of_winner o Unwritten) of.3
 
-pub slot_unwritten : (i : Image) (f : Found) (logs : Logs) (lba : ℕ) → HasJustBegun i f logs → lba < i.shape.capacity → ((w : Winner) → Contains f.winners w → w.lba ≢ lba) → slot_of i logs lba ≡ Unwritten
+pub slot_unwritten : (i : Image) (f : Found) (logs : Logs) (lba : ℕ) → HasJustBegun i f logs → lba < i.shape.capacity
+    → ((w : Winner) → Contains f.winners w → w.lba ≢ lba) → slot_of i logs lba ≡ Unwritten
 slot_unwritten i f logs lba is inside none = slot_is i f logs lba is inside ∙ go (find (λ (w : Winner). w.lba == lba) f.winners) refl
   where
     go : (o : Option Winner) → find (λ (w : Winner). w.lba == lba) f.winners ≡ o → option_map_or place_of_winner o Unwritten ≡ Unwritten

@@ -12,7 +12,8 @@ use Rattle.core_laws.specs.OnlineUnits.{online_bits, all_online}
 use Rattle.core_laws.proofs.BegunImages.{named_image, known_at, named_fit, named_found}
 use Rattle.core_laws.proofs.MadeLists.{mapped_agree}
 
-pub line_online : (i : Image) (f : Found) (logs : Logs) (line : ℕ) → HasJustBegun i f logs → line < i.shape.chunks → live_now i logs line ≡ online_bits i.shape f line
+pub line_online : (i : Image) (f : Found) (logs : Logs) (line : ℕ) → HasJustBegun i f logs → line < i.shape.chunks
+    → live_now i logs line ≡ online_bits i.shape f line
 line_online i f logs line is inside =
     ap (λ (j : Image). bits_of (line_units j line)) (known_at i f logs is)
     ∙ ap bits_of (sym (live_are (named_image i logs is.knows) f line (named_fit i f logs is) (named_found i f logs is) inside))

@@ -41,10 +41,12 @@ found_free true = refl
 found_free false = refl
 
 state_free : (i : Image) (logs : Logs) (line : ℕ) (life : LineLife)
-    → is_free_state (state_in i logs line life) ≡ (not (has_number i logs life line) && are_empty (known_image i logs) line && nat_lt 0 (line_data (known_image i logs) line))
+    → is_free_state (state_in i logs line life) ≡
+    (not (has_number i logs life line) && are_empty (known_image i logs) line && nat_lt 0 (line_data (known_image i logs) line))
 state_free i logs line AsFound = go (start_of (found_image i logs) line)
   where
-    go : (o : Option StartRecord) → is_free_state (state_found i logs line o) ≡ (not (is_some o) && are_empty (known_image i logs) line && nat_lt 0 (line_data (known_image i logs) line))
+    go : (o : Option StartRecord) → is_free_state (state_found i logs line o) ≡
+        (not (is_some o) && are_empty (known_image i logs) line && nat_lt 0 (line_data (known_image i logs) line))
     go None = given_up_free (are_empty (known_image i logs) line) (line_data (known_image i logs) line)
     go (Some start) = found_free (is_some (end_of (found_image i logs) line start))
 state_free i logs line (Opened o) = opened_free (has_failed (logs 0) o) (have_landed (logs 0) o _)
@@ -58,25 +60,30 @@ free_state i logs line e = only_free (row_of_line i logs line).state (row_free i
 
 -- ---- the free addresses
 
-width_given : (i : Image) (logs then_ : Logs) (line : ℕ) → are_empty (known_image i logs) line ≡ true → width_given_up i logs then_ line ≡ width (known_image i logs) line
+width_given : (i : Image) (logs then_ : Logs) (line : ℕ) → are_empty (known_image i logs) line ≡ true
+    → width_given_up i logs then_ line ≡ width (known_image i logs) line
 width_given i logs then_ line e = ap (λ b. if b then width (known_image i logs) line else width (known_image i then_) line) e
 
 -- the width of a Free line is that of the image as it is known
 width_free : (i : Image) (logs : Logs) (line : ℕ) (life : LineLife) → (not (has_number i logs life line) && are_empty (known_image i logs) line) ≡ true
     → width_in i logs line life ≡ width (known_image i logs) line
-width_free i logs line AsFound e = ap (λ b. if b then width (known_image i logs) line else width (found_image i logs) line) (both (not (is_some (start_of (found_image i logs) line))) (are_empty (known_image i logs) line) e).1
+width_free i logs line AsFound e =
+    ap (λ b. if b then width (known_image i logs) line else width (found_image i logs) line)
+    (both (not (is_some (start_of (found_image i logs) line))) (are_empty (known_image i logs) line) e).1
 width_free i logs line (Opened o) e = absurd cc
 width_free i logs line (Freed past knows) e = width_given i logs (logs_then knows logs) line e
 
 pub free_width : (i : Image) (logs : Logs) (line : ℕ) → is_free_line i logs line ≡ true → (row_of_line i logs line).width ≡ width (known_image i logs) line
-free_width i logs line e = width_free i logs line (life_of (logs 0) line) (both (not (has_number i logs (life_of (logs 0) line) line) && are_empty (known_image i logs) line) (nat_lt 0 (line_data (known_image i logs) line)) e).0
+free_width i logs line e = width_free i logs line (life_of (logs 0) line)
+    (both (not (has_number i logs (life_of (logs 0) line) line) && are_empty (known_image i logs) line) (nat_lt 0 (line_data (known_image i logs) line)) e).0
 
 len_by : (i : Image) (logs : Logs) (line : ℕ) (b : Bool) → is_free_line i logs line ≡ b
     → (if b then data_len i.shape (row_of_line i logs line).width else 0) ≡ (if b then line_data (known_image i logs) line else 0)
 len_by i logs line false e = refl
 len_by i logs line true e = ap (data_len i.shape) (free_width i logs line e)
 
-row_len : (i : Image) (logs : Logs) (line : ℕ) → free_len i.shape (row_of_line i logs line) ≡ (if is_free_line i logs line then line_data (known_image i logs) line else 0)
+row_len : (i : Image) (logs : Logs) (line : ℕ)
+    → free_len i.shape (row_of_line i logs line) ≡ (if is_free_line i logs line then line_data (known_image i logs) line else 0)
 unfolding free_len
 row_len i logs line =
     ap (λ b. if b then data_len i.shape (row_of_line i logs line).width else 0) (row_free i logs line)

@@ -33,7 +33,8 @@ abbrev pub IsAt : ℕ → ℕ → ℕ → Placed → Type 0
 IsAt size n k p = (p.stripe.at ≡ n + k * size) × (length p.stripe.blocks ≡ size)
 
 pub flat_any : (test : ℕ × Block → Bool) (size n : ℕ) (ps : List Placed) → ((k : ℕ) (p : Placed) → slice_get ps k ≡ Some p → IsAt size n k p)
-    → list_any test (enumerate_from n (flat_map (λ (p : Placed). p.stripe.blocks) ps)) ≡ list_any (λ (p : Placed). list_any test (enumerate_from p.stripe.at p.stripe.blocks)) ps
+    → list_any test (enumerate_from n (flat_map (λ (p : Placed). p.stripe.blocks) ps)) ≡ list_any
+    (λ (p : Placed). list_any test (enumerate_from p.stripe.at p.stripe.blocks)) ps
 flat_any test size n [] each = refl
 flat_any test size n (p ∷ ps) each =
     let first = each 0 p refl in
@@ -65,7 +66,8 @@ or_front : (a b c d : Bool) → a ≡ true → d ≡ (b || c) → (a || d) ≡ (
 or_front a b c d e f = ap (λ x. x || d) e
 
 -- where only elements of two filters changed, and none fails that passed
-pub any_split : {X : Type 0} (f g t u : X → Bool) (xs : List X) → AllByRecursion (λ x. (t x && u x) ≡ false → f x ≡ g x) xs → AllByRecursion (λ x. (t x && u x) ≡ true → g x ≡ true → f x ≡ true) xs
+pub any_split : {X : Type 0} (f g t u : X → Bool) (xs : List X) → AllByRecursion (λ x. (t x && u x) ≡ false → f x ≡ g x) xs
+    → AllByRecursion (λ x. (t x && u x) ≡ true → g x ≡ true → f x ≡ true) xs
     → list_any f xs ≡ (list_any g xs || list_any f (filter u (filter t xs)))
 any_split f g t u [] same more = refl
 any_split {X} f g t u (x ∷ xs) same more = go (t x) refl (u x) refl (any_split f g t u xs same.1 more.1)
@@ -75,8 +77,10 @@ any_split {X} f g t u (x ∷ xs) same more = go (t x) refl (u x) refl (any_split
     inside true e keeps rest = or_front (f x) (list_any g xs) (list_any f (filter u (filter t xs))) (list_any f xs) (keeps refl) rest
     inside false e keeps rest = or_swap (f x) (list_any g xs) (list_any f (filter u (filter t xs))) (list_any f xs) rest
 
-    outside : f x ≡ g x → list_any f xs ≡ (list_any g xs || list_any f (filter u (filter t xs))) → (f x || list_any f xs) ≡ ((g x || list_any g xs) || list_any f (filter u (filter t xs)))
-    outside e rest = or_left (f x) (list_any g xs) (list_any f (filter u (filter t xs))) (list_any f xs) rest ∙ ap (λ b. (b || list_any g xs) || list_any f (filter u (filter t xs))) e
+    outside : f x ≡ g x → list_any f xs ≡ (list_any g xs || list_any f (filter u (filter t xs)))
+        → (f x || list_any f xs) ≡ ((g x || list_any g xs) || list_any f (filter u (filter t xs)))
+    outside e rest = or_left (f x) (list_any g xs) (list_any f (filter u (filter t xs))) (list_any f xs) rest
+        ∙ ap (λ b. (b || list_any g xs) || list_any f (filter u (filter t xs))) e
 
     go : (a : Bool) → t x ≡ a → (b : Bool) → u x ≡ b → list_any f xs ≡ (list_any g xs || list_any f (filter u (filter t xs)))
         → (f x || list_any f xs) ≡ ((g x || list_any g xs) || list_any f (filter u (cond a (x ∷ filter t xs) (filter t xs))))
@@ -91,18 +95,25 @@ any_split {X} f g t u (x ∷ xs) same more = go (t x) refl (u x) refl (any_split
 -- ---- a stripe of the chunk
 
 -- what is read of an opening is its number
-pub readable_life : (s : Shape) (log : List Logged) (o : Opening) (unit block : ℕ) (life : LineLife) → is_life o.number life ≡ true → is_readable_in s log unit block life ≡ is_readable_in s log unit block (Opened o)
+pub readable_life : (s : Shape) (log : List Logged) (o : Opening) (unit block : ℕ) (life : LineLife) → is_life o.number life ≡ true
+    → is_readable_in s log unit block life ≡ is_readable_in s log unit block (Opened o)
 readable_life s log o unit block AsFound e = absurd cc
 readable_life s log o unit block (Opened other) e =
-    ap (λ n. is_readable_in s log unit block (Opened (record { number = n; line = o.line; start = o.start; knows = o.knows }))) (eqb-true other.number o.number e)
+    ap (λ n. is_readable_in s log unit block (Opened (record { number = n; line = o.line; start = o.start; knows = o.knows })))
+    (eqb-true other.number o.number e)
 readable_life s log o unit block (Freed past k) e = absurd cc
 
-pub gives_of_chunk : (s : Shape) (log : List Logged) (o : Opening) (unit q : ℕ) (r : Placed) → has_landed log r ≡ true → r.stripe.unit ≡ unit → is_life o.number r.life ≡ true
-    → gives_back s log q r ≡ list_any (λ (b : ℕ × Block). bears_position s q b.1 && is_readable_in s log unit b.0 (Opened o)) (enumerate_from r.stripe.at r.stripe.blocks)
+pub gives_of_chunk : (s : Shape) (log : List Logged) (o : Opening) (unit q : ℕ) (r : Placed) → has_landed log r ≡ true → r.stripe.unit ≡ unit
+    → is_life o.number r.life ≡ true
+    → gives_back s log q r ≡ list_any (λ (b : ℕ × Block). bears_position s q b.1 && is_readable_in s log unit b.0 (Opened o))
+    (enumerate_from r.stripe.at r.stripe.blocks)
 gives_of_chunk s log o unit q r landed its life =
-    ap (λ a. a && list_any (λ (b : ℕ × Block). bears_position s q b.1 && is_readable_in s log r.stripe.unit b.0 r.life) (enumerate_from r.stripe.at r.stripe.blocks)) landed
-    ∙ any_same (λ (b : ℕ × Block). bears_position s q b.1 && is_readable_in s log r.stripe.unit b.0 r.life) (λ (b : ℕ × Block). bears_position s q b.1 && is_readable_in s log unit b.0 (Opened o))
-    (λ b. ap (λ c. bears_position s q b.1 && c) (ap (λ u. is_readable_in s log u b.0 r.life) its ∙ readable_life s log o unit b.0 r.life life)) (enumerate_from r.stripe.at r.stripe.blocks)
+    ap (λ a. a && list_any (λ (b : ℕ × Block). bears_position s q b.1 && is_readable_in s log r.stripe.unit b.0 r.life)
+    (enumerate_from r.stripe.at r.stripe.blocks)) landed
+    ∙ any_same (λ (b : ℕ × Block). bears_position s q b.1 && is_readable_in s log r.stripe.unit b.0 r.life)
+    (λ (b : ℕ × Block). bears_position s q b.1 && is_readable_in s log unit b.0 (Opened o))
+    (λ b. ap (λ c. bears_position s q b.1 && c) (ap (λ u. is_readable_in s log u b.0 r.life) its ∙ readable_life s log o unit b.0 r.life life))
+    (enumerate_from r.stripe.at r.stripe.blocks)
 
 -- ---- all that is used of the stripe that has landed, and of its chunk
 
@@ -116,10 +127,12 @@ pub record IsLandedNow (s : Shape) (log new : List Logged) (p : Placed) (o : Ope
   pub some : 0 < s.ws_opt
 
 -- all of the unit's stripes have landed
-pub of_unit_landed : (s : Shape) (log new : List Logged) (p : Placed) (o : Opening) → IsLandedNow s log new p o → (r : Placed) → IsAmong (placements log) r → r.stripe.unit ≡ p.stripe.unit → has_landed new r ≡ true
+pub of_unit_landed : (s : Shape) (log new : List Logged) (p : Placed) (o : Opening) → IsLandedNow s log new p o → (r : Placed) → IsAmong (placements log) r
+    → r.stripe.unit ≡ p.stripe.unit → has_landed new r ≡ true
 of_unit_landed s log new p o is r among its =
     let there : IsAmong (placements new) r = subst (λ (ps : List Placed). IsAmong ps r) (sym is.one_more.stripes) among in
-    let at = subst (λ u. IsAmong (placed_on new u) r) its (in_filter (λ (x : Placed). x.stripe.unit == r.stripe.unit) (placements new) r there (same_number r.stripe.unit)) in
+    let at = subst (λ u. IsAmong (placed_on new u) r) its
+    (in_filter (λ (x : Placed). x.stripe.unit == r.stripe.unit) (placements new) r there (same_number r.stripe.unit)) in
     all_at (λ (r : Placed). has_landed new r ≡ true) (placed_on new p.stripe.unit) at.0 r at.1 (unit_landed new p.stripe.unit is.plain_new is.all_answered)
 
 -- ---- what could be read can be read

@@ -49,7 +49,8 @@ use Rattle.pblk_world.proofs.LinesLemmas.{length_known}
 
 -- ---- a line is opened
 
-free_parts : (i : Image) (ls : Logs) (line : ℕ) → is_free_line i ls line ≡ true → (has_number i ls (life_of (ls 0) line) line ≡ false) × (are_empty (known_image i ls) line ≡ true)
+free_parts : (i : Image) (ls : Logs) (line : ℕ) → is_free_line i ls line ≡ true
+    → (has_number i ls (life_of (ls 0) line) line ≡ false) × (are_empty (known_image i ls) line ≡ true)
 free_parts i ls line is = go (has_number i ls (life_of (ls 0) line) line) (are_empty (known_image i ls) line) (nat_lt 0 (line_data (known_image i ls) line)) is
   where
     go : (a b c : Bool) → (not a && b && c) ≡ true → (a ≡ false) × (b ≡ true)
@@ -64,11 +65,13 @@ not_numbered i ls line (Freed past knows) e = refl
 
 open_step : (i : Image) (logs : Logs) (k line : ℕ) (start : StartRecord) (knows : List ℕ) (b : Begun) → IsFit i → k ≤ length (logs 0)
     → slice_get (logs 0) k ≡ Some (record { event = Decides (Open line start); knows = knows }) → begun (take k (logs 0)) ≡ Some b
-    → is_opened (life_of (take k (logs 0)) line) ≡ false → are_empty (known_image i (engine_prefix k logs)) line ≡ true → start.width ≡ width (known_image i (engine_prefix k logs)) line
+    → is_opened (life_of (take k (logs 0)) line) ≡ false → are_empty (known_image i (engine_prefix k logs)) line ≡ true
+    → start.width ≡ width (known_image i (engine_prefix k logs)) line
     → AreGoing i logs k → AreGoing i logs (suc k)
 open_step i logs k line start knows b fit inside there begins closed empty own_width is = record {
   going = λ other o e. by_line other o (nat_eq line other) refl (sym (life other) ∙ e);
-  lives = subst (AllByRecursion (λ (p : Placed). life_of (take (suc k) (logs 0)) p.stripe.line ≡ p.life)) (sym placed) (stay (placements (take k (logs 0))) is.lives is.opened);
+  lives = subst (AllByRecursion (λ (p : Placed). life_of (take (suc k) (logs 0)) p.stripe.line ≡ p.life)) (sym placed)
+      (stay (placements (take k (logs 0))) is.lives is.opened);
   opened = subst (AllByRecursion (λ (p : Placed). is_opened p.life ≡ true)) (sym placed) is.opened;
   chunks = subst (AllByRecursion (λ (p : Placed). p.stripe.chunk ≡ p.stripe.line)) (sym placed) is.chunks;
 }
@@ -79,19 +82,26 @@ open_step i logs k line start knows b fit inside there begins closed empty own_w
     count : length (take k (logs 0)) ≡ k
     count = length-take-le k (logs 0) inside
 
-    life : (other : ℕ) → life_of (take (suc k) (logs 0)) other ≡ (if line == other then Opened (record { number = length (take k (logs 0)); line = other; start = start; knows = knows }) else life_of (take k (logs 0)) other)
-    life other = ap (λ (xs : List Logged). life_of xs other) next ∙ life_more (take k (logs 0)) (record { event = Decides (Open line start); knows = knows }) other
+    life : (other : ℕ) → life_of (take (suc k) (logs 0)) other ≡
+        (if line == other then Opened (record { number = length (take k (logs 0)); line = other; start = start; knows = knows }) else life_of
+        (take k (logs 0)) other)
+    life other = ap (λ (xs : List Logged). life_of xs other) next
+        ∙ life_more (take k (logs 0)) (record { event = Decides (Open line start); knows = knows }) other
 
     placed : placements (take (suc k) (logs 0)) ≡ placements (take k (logs 0))
-    placed = ap (λ (xs : List Logged). placements xs) next ∙ placements_more (take k (logs 0)) (record { event = Decides (Open line start); knows = knows }) ∙ append-nil (placements (take k (logs 0)))
+    placed = ap (λ (xs : List Logged). placements xs) next ∙ placements_more (take k (logs 0)) (record { event = Decides (Open line start); knows = knows })
+        ∙ append-nil (placements (take k (logs 0)))
 
     chunk : (u other : ℕ) → chunk_in (known_image i (engine_prefix (suc k) logs)) u other ≡ chunk_in (known_image i (engine_prefix k logs)) u other
     chunk u other = chunk_untold i logs k u other (record { event = Decides (Open line start); knows = knows }) b there begins refl
 
-    stay : (ps : List Placed) → AllByRecursion (λ (p : Placed). life_of (take k (logs 0)) p.stripe.line ≡ p.life) ps → AllByRecursion (λ (p : Placed). is_opened p.life ≡ true) ps → AllByRecursion (λ (p : Placed). life_of (take (suc k) (logs 0)) p.stripe.line ≡ p.life) ps
+    stay : (ps : List Placed) → AllByRecursion (λ (p : Placed). life_of (take k (logs 0)) p.stripe.line ≡ p.life) ps
+        → AllByRecursion (λ (p : Placed). is_opened p.life ≡ true) ps
+        → AllByRecursion (λ (p : Placed). life_of (take (suc k) (logs 0)) p.stripe.line ≡ p.life) ps
     stay [] a c = tt
     stay (p ∷ ps) a c = (
-      life p.stripe.line ∙ ap (λ b. if b then Opened (record { number = length (take k (logs 0)); line = p.stripe.line; start = start; knows = knows }) else life_of (take k (logs 0)) p.stripe.line)
+      life p.stripe.line ∙ ap (λ b. if b then Opened
+          (record { number = length (take k (logs 0)); line = p.stripe.line; start = start; knows = knows }) else life_of (take k (logs 0)) p.stripe.line)
           (other_number line p.stripe.line (λ e.
           let yes : is_opened (life_of (take k (logs 0)) line) ≡ true = ap (λ n. is_opened (life_of (take k (logs 0)) n)) e ∙ ap is_opened a.0 ∙ c.0 in
           absurd cc)) ∙ a.0,
@@ -102,12 +112,15 @@ open_step i logs k line start knows b fit inside there begins closed empty own_w
     no_stripes o number =
         ap (filter (λ (p : Placed). is_life o.number p.life)) placed
         ∙ filter_none (λ (p : Placed). is_life o.number p.life) (placements (take k (logs 0)))
-        (subst (λ n. AllByRecursion (λ (p : Placed). is_life n p.life ≡ false) (placements (take k (logs 0)))) (sym number) (placed_before (take k (logs 0)) (length (take k (logs 0))) (le_refl (length (take k (logs 0))))))
+        (subst (λ n. AllByRecursion (λ (p : Placed). is_life n p.life ≡ false) (placements (take k (logs 0)))) (sym number)
+        (placed_before (take k (logs 0)) (length (take k (logs 0))) (le_refl (length (take k (logs 0))))))
 
-    first_filling : (o : Opening) (u : ℕ) (c : Chunk) → chunk_in (known_image i (engine_prefix (suc k) logs)) u line ≡ Some c → is_online_in c.state ≡ true → IsFilling i.shape (take (suc k) (logs 0)) o u c
+    first_filling : (o : Opening) (u : ℕ) (c : Chunk) → chunk_in (known_image i (engine_prefix (suc k) logs)) u line ≡ Some c → is_online_in c.state ≡ true
+        → IsFilling i.shape (take (suc k) (logs 0)) o u c
     first_filling o u c e on =
         let at : chunk_in (known_image i (engine_prefix k logs)) u line ≡ Some c = sym (chunk u line) ∙ e in
-        let is_empty : is_empty_state c.state ≡ true = each_chunk (λ c. is_empty_state c.state) (known_image i (engine_prefix k logs)).units line u c empty at in
+        let is_empty : is_empty_state c.state ≡ true =
+        each_chunk (λ c. is_empty_state c.state) (known_image i (engine_prefix k logs)).units line u c empty at in
         let free : c.state ≡ states.Free = by_state c.state is_empty on in
         let none : length c.blocks ≡ 0 = ap (λ bs. length bs) (known_empty i (engine_prefix k logs) u line c fit at free) in
         record { blocks = omega arith; closed = λ f. let no : states.Free ≡ states.Closed = sym free ∙ f in absurd cc }
@@ -120,20 +133,26 @@ open_step i logs k line start knows b fit inside there begins closed empty own_w
 
     begins_going : (o : Opening) → o.number ≡ k → o.number ≡ length (take k (logs 0)) → o.start ≡ start → IsGoing i logs (suc k) line o
     begins_going o number last same = record {
-      live = λ u. live_chunk (known_image i (engine_prefix (suc k) logs)) line u ∙ ap is_on (chunk u line) ∙ sym (live_chunk (known_image i (engine_prefix k logs)) line u)
+      live = λ u. live_chunk (known_image i (engine_prefix (suc k) logs)) line u ∙ ap is_on (chunk u line)
+          ∙ sym (live_chunk (known_image i (engine_prefix k logs)) line u)
           ∙ ap (λ n. is_live (known_image i (engine_prefix n logs)) line u) (sym number);
       width_is = ap (λ (x : StartRecord). x.width) same ∙ own_width ∙ sym (line_units_count (known_image i (engine_prefix k logs)) line)
           ∙ ap (λ n. length (line_units (known_image i (engine_prefix n logs)) line)) (sym number);
       placed = λ n p e. absurd (none-some p (sym (ap (λ ps. slice_get ps n) (no_stripes o last)) ∙ e));
-      few = subst (λ (ps : List Placed). length ps * i.shape.ws_opt ≤ o.start.width * i.shape.clba) (sym (no_stripes o last)) (let z : 0 * i.shape.ws_opt ≡ 0 = zero-mul i.shape.ws_opt in omega arith);
+      few = subst (λ (ps : List Placed). length ps * i.shape.ws_opt ≤ o.start.width * i.shape.clba) (sym (no_stripes o last))
+          (let z : 0 * i.shape.ws_opt ≡ 0 = zero-mul i.shape.ws_opt in omega arith);
       filling = λ u c e on. first_filling o u c e on;
     }
 
-    by_line : (other : ℕ) (o : Opening) (d : Bool) → nat_eq line other ≡ d → (if d then Opened (record { number = length (take k (logs 0)); line = other; start = start; knows = knows }) else life_of (take k (logs 0)) other) ≡ Opened o → IsGoing i logs (suc k) other o
+    by_line : (other : ℕ) (o : Opening) (d : Bool) → nat_eq line other ≡ d
+        → (if d then Opened (record { number = length (take k (logs 0)); line = other; start = start; knows = knows }) else life_of (take k (logs 0)) other) ≡
+        Opened o → IsGoing i logs (suc k) other o
     by_line other o true f e =
-        let same : ◌≡◌ {A = Opening} (record { number = length (take k (logs 0)); line = other; start = start; knows = knows }) o = opened_same (record { number = length (take k (logs 0)); line = other; start = start; knows = knows }) o e in
+        let same : ◌≡◌ {A = Opening} (record { number = length (take k (logs 0)); line = other; start = start; knows = knows }) o =
+        opened_same (record { number = length (take k (logs 0)); line = other; start = start; knows = knows }) o e in
         let last : length (take k (logs 0)) ≡ o.number = ap (λ (x : Opening). x.number) same in
-        subst (λ n. IsGoing i logs (suc k) n o) (eqb-true line other f) (begins_going o (sym last ∙ count) (sym last) (sym (ap (λ (x : Opening). x.start) same)))
+        subst (λ n. IsGoing i logs (suc k) n o) (eqb-true line other f)
+        (begins_going o (sym last ∙ count) (sym last) (sym (ap (λ (x : Opening). x.start) same)))
     by_line other o false f e =
         going_on i logs k other o (record { event = Decides (Open line start); knows = knows }) there (is.going other o e)
         (untouched i logs k other o (record { event = Decides (Open line start); knows = knows }) (is.going other o e) (λ u. chunk u other)) refl
@@ -148,12 +167,17 @@ place_step : (i : Image) (logs : Logs) (k : ℕ) (stripe : Stripe) (knows : List
 place_step i logs k stripe knows b ls accepted there begins own image may wide none is = record {
   going = λ line o e. by_line line o (nat_eq stripe.line line) refl (sym (life line) ∙ e);
   lives = subst (AllByRecursion (λ (p : Placed). life_of (take (suc k) (logs 0)) p.stripe.line ≡ p.life)) (sym placed)
-      (all_append (λ (p : Placed). life_of (take (suc k) (logs 0)) p.stripe.line ≡ p.life) (placements (take k (logs 0))) (record { number = length (take k (logs 0)); stripe = stripe; life = life_of (take k (logs 0)) stripe.line } ∷ [])
-      (all_imply (λ (p : Placed). life_of (take k (logs 0)) p.stripe.line ≡ p.life) (λ (p : Placed). life_of (take (suc k) (logs 0)) p.stripe.line ≡ p.life) (λ p e. life p.stripe.line ∙ e) (placements (take k (logs 0))) is.lives) (life stripe.line, tt));
+      (all_append (λ (p : Placed). life_of (take (suc k) (logs 0)) p.stripe.line ≡ p.life) (placements (take k (logs 0)))
+      (record { number = length (take k (logs 0)); stripe = stripe; life = life_of (take k (logs 0)) stripe.line } ∷ [])
+      (all_imply (λ (p : Placed). life_of (take k (logs 0)) p.stripe.line ≡ p.life) (λ (p : Placed). life_of (take (suc k) (logs 0)) p.stripe.line ≡ p.life)
+      (λ p e. life p.stripe.line ∙ e) (placements (take k (logs 0))) is.lives) (life stripe.line, tt));
   opened = subst (AllByRecursion (λ (p : Placed). is_opened p.life ≡ true)) (sym placed)
-      (all_append (λ (p : Placed). is_opened p.life ≡ true) (placements (take k (logs 0))) (record { number = length (take k (logs 0)); stripe = stripe; life = life_of (take k (logs 0)) stripe.line } ∷ []) is.opened (ap is_opened opening_is, tt));
+      (all_append (λ (p : Placed). is_opened p.life ≡ true) (placements (take k (logs 0)))
+      (record { number = length (take k (logs 0)); stripe = stripe; life = life_of (take k (logs 0)) stripe.line } ∷ []) is.opened
+      (ap is_opened opening_is, tt));
   chunks = subst (AllByRecursion (λ (p : Placed). p.stripe.chunk ≡ p.stripe.line)) (sym placed)
-      (all_append (λ (p : Placed). p.stripe.chunk ≡ p.stripe.line) (placements (take k (logs 0))) (record { number = length (take k (logs 0)); stripe = stripe; life = life_of (take k (logs 0)) stripe.line } ∷ []) is.chunks (may.chunk, tt));
+      (all_append (λ (p : Placed). p.stripe.chunk ≡ p.stripe.line) (placements (take k (logs 0)))
+      (record { number = length (take k (logs 0)); stripe = stripe; life = life_of (take k (logs 0)) stripe.line } ∷ []) is.chunks (may.chunk, tt));
 }
   where
     next : take (suc k) (logs 0) ≡ take k (logs 0) ++ record { event = Decides (Place stripe); knows = knows } ∷ []
@@ -168,21 +192,27 @@ place_step i logs k stripe knows b ls accepted there begins own image may wide n
     life_then : life_of (take (length (take k (logs 0))) (take k (logs 0))) stripe.line ≡ life_of (take k (logs 0)) stripe.line
     life_then = ap (λ (xs : List Logged). life_of xs stripe.line) (take_all (length (take k (logs 0))) (take k (logs 0)) (le_refl (length (take k (logs 0)))))
 
-    new_is : placed_by (take k (logs 0)) (length (take k (logs 0))) (Decides (Place stripe)) ≡ Some (record { number = length (take k (logs 0)); stripe = stripe; life = life_of (take k (logs 0)) stripe.line })
+    new_is : placed_by (take k (logs 0)) (length (take k (logs 0))) (Decides (Place stripe)) ≡ Some
+        (record { number = length (take k (logs 0)); stripe = stripe; life = life_of (take k (logs 0)) stripe.line })
     new_is = ap (λ life. Some (record { number = length (take k (logs 0)); stripe = stripe; life = life })) life_then
 
-    placed : placements (take (suc k) (logs 0)) ≡ placements (take k (logs 0)) ++ record { number = length (take k (logs 0)); stripe = stripe; life = life_of (take k (logs 0)) stripe.line } ∷ []
-    placed = ap (λ (xs : List Logged). placements xs) next ∙ placements_more (take k (logs 0)) (record { event = Decides (Place stripe); knows = knows }) ∙ ap (λ o. placements (take k (logs 0)) ++ option_to_list o) new_is
+    placed : placements (take (suc k) (logs 0)) ≡ placements (take k (logs 0))
+        ++ record { number = length (take k (logs 0)); stripe = stripe; life = life_of (take k (logs 0)) stripe.line } ∷ []
+    placed = ap (λ (xs : List Logged). placements xs) next ∙ placements_more (take k (logs 0)) (record { event = Decides (Place stripe); knows = knows })
+        ∙ ap (λ o. placements (take k (logs 0)) ++ option_to_list o) new_is
 
-    newer : (line : ℕ) (o : Opening) → life_of (take k (logs 0)) line ≡ Opened o → IsNewer i logs k line o (record { event = Decides (Place stripe); knows = knows })
-    newer line o e = untouched i logs k line o (record { event = Decides (Place stripe); knows = knows }) (is.going line o e) (λ u. chunk_untold i logs k u line (record { event = Decides (Place stripe); knows = knows }) b there begins refl)
+    newer : (line : ℕ) (o : Opening) → life_of (take k (logs 0)) line ≡ Opened o
+        → IsNewer i logs k line o (record { event = Decides (Place stripe); knows = knows })
+    newer line o e = untouched i logs k line o (record { event = Decides (Place stripe); knows = knows }) (is.going line o e)
+        (λ u. chunk_untold i logs k u line (record { event = Decides (Place stripe); knows = knows }) b there begins refl)
 
     added : (o : Opening) (d : Bool) → is_life o.number (Opened may.opening) ≡ d
         → filter (λ (p : Placed). is_life o.number p.life) (option_to_list (placed_by (take k (logs 0)) (length (take k (logs 0))) (Decides (Place stripe))))
         ≡ cond d (record { number = length (take k (logs 0)); stripe = stripe; life = life_of (take k (logs 0)) stripe.line } ∷ []) []
     added o d e =
         ap (λ x. filter (λ (p : Placed). is_life o.number p.life) (option_to_list x)) new_is
-        ∙ ap (λ b. cond b (record { number = length (take k (logs 0)); stripe = stripe; life = life_of (take k (logs 0)) stripe.line } ∷ []) []) (ap (is_life o.number) opening_is ∙ e)
+        ∙ ap (λ b. cond b (record { number = length (take k (logs 0)); stripe = stripe; life = life_of (take k (logs 0)) stripe.line } ∷ []) [])
+        (ap (is_life o.number) opening_is ∙ e)
 
     at_own : (o : Opening) → life_of (take k (logs 0)) stripe.line ≡ Opened o → IsGoing i logs (suc k) stripe.line o
     at_own o e =
@@ -192,19 +222,25 @@ place_step i logs k stripe knows b ls accepted there begins own image may wide n
         let at = place_at i ls may.opening stripe accepted.drive.ws_opt room.0 in
         let units : line_units (known_image i ls) stripe.line ≡ line_units (known_image i (engine_prefix o.number logs)) stripe.line =
         ap (λ (im : Image). line_units im stripe.line) image
-        ∙ units_by_live (known_image i (engine_prefix k logs)) (known_image i (engine_prefix o.number logs)) stripe.line (length_known i (engine_prefix k logs) ∙ sym (length_known i (engine_prefix o.number logs))) before.live in
-        let count : length (stripes_of (ls 0) may.opening) ≡ length (stripes_of (take k (logs 0)) o) = ap₂ (λ (xs : List Logged) (x : Opening). length (stripes_of xs x)) own one in
-        let row : length (stripes_of (ls 0) may.opening) / length (line_units (known_image i ls) stripe.line) * i.shape.ws_opt ≡ length (stripes_of (take k (logs 0)) o) / length (line_units (known_image i (engine_prefix o.number logs)) stripe.line) * i.shape.ws_opt =
+        ∙ units_by_live (known_image i (engine_prefix k logs)) (known_image i (engine_prefix o.number logs)) stripe.line
+        (length_known i (engine_prefix k logs) ∙ sym (length_known i (engine_prefix o.number logs))) before.live in
+        let count : length (stripes_of (ls 0) may.opening) ≡ length (stripes_of (take k (logs 0)) o) =
+        ap₂ (λ (xs : List Logged) (x : Opening). length (stripes_of xs x)) own one in
+        let row : length (stripes_of (ls 0) may.opening) / length (line_units (known_image i ls) stripe.line) * i.shape.ws_opt ≡ length
+        (stripes_of (take k (logs 0)) o) / length (line_units (known_image i (engine_prefix o.number logs)) stripe.line) * i.shape.ws_opt =
         ap₂ (λ n (us : List ℕ). n / length us * i.shape.ws_opt) count units in
-        let turn : IsAtTurn i.shape (line_units (known_image i (engine_prefix o.number logs)) stripe.line) stripe.line (length (stripes_of (take k (logs 0)) o)) (record { number = length (take k (logs 0)); stripe = stripe; life = life_of (take k (logs 0)) stripe.line }) =
+        let turn : IsAtTurn i.shape (line_units (known_image i (engine_prefix o.number logs)) stripe.line) stripe.line (length (stripes_of (take k (logs 0)) o))
+        (record { number = length (take k (logs 0)); stripe = stripe; life = life_of (take k (logs 0)) stripe.line }) =
         record {
           unit = ap₂ (λ n (us : List ℕ). slice_get us (n % length us)) (sym count) (sym units) ∙ at.0;
           at = at.1 ∙ row;
           line_is = refl;
         } in
-        going_further i logs k stripe.line o (record { event = Decides (Place stripe); knows = knows }) (record { number = length (take k (logs 0)); stripe = stripe; life = life_of (take k (logs 0)) stripe.line })
+        going_further i logs k stripe.line o (record { event = Decides (Place stripe); knows = knows })
+        (record { number = length (take k (logs 0)); stripe = stripe; life = life_of (take k (logs 0)) stripe.line })
         there before (newer stripe.line o e) (added o true (ap (λ (x : Opening). is_life o.number (Opened x)) one ∙ same_number o.number)) turn
-        (subst (λ (x : StartRecord). length (stripes_of (take k (logs 0)) o) * i.shape.ws_opt + i.shape.ws_opt ≤ x.width * i.shape.clba) (ap (λ (x : Opening). x.start) one)
+        (subst (λ (x : StartRecord). length (stripes_of (take k (logs 0)) o) * i.shape.ws_opt + i.shape.ws_opt ≤ x.width * i.shape.clba)
+        (ap (λ (x : Opening). x.start) one)
         (subst (λ n. n * i.shape.ws_opt + i.shape.ws_opt ≤ may.opening.start.width * i.shape.clba) count room.1))
 
     further : (line : ℕ) (o : Opening) → stripe.line ≡ line → life_of (take k (logs 0)) line ≡ Opened o → IsGoing i logs (suc k) line o
@@ -215,8 +251,12 @@ place_step i logs k stripe knows b ls accepted there begins own image may wide n
     by_line line o false f e =
         going_on i logs k line o (record { event = Decides (Place stripe); knows = knows }) there (is.going line o e) (newer line o e)
         (added o false (other_number may.opening.number o.number (λ g.
-        let one : may.opening ≡ o = same_Some may.opening o (sym (life_there (take k (logs 0)) stripe.line may.opening opening_is) ∙ ap (λ n. opening_at (take k (logs 0)) n) g ∙ life_there (take k (logs 0)) line o e) in
-        absurd (eqb-false stripe.line line f (sym (life_at (take k (logs 0)) stripe.line may.opening opening_is).1 ∙ ap (λ (x : Opening). x.line) one ∙ (life_at (take k (logs 0)) line o e).1)))))
+        let one : may.opening ≡ o = same_Some may.opening o
+        (sym (life_there (take k (logs 0)) stripe.line may.opening opening_is) ∙ ap (λ n. opening_at (take k (logs 0)) n) g
+        ∙ life_there (take k (logs 0)) line o e) in
+        absurd (eqb-false stripe.line line f
+        (sym (life_at (take k (logs 0)) stripe.line may.opening opening_is).1 ∙ ap (λ (x : Opening). x.line) one
+        ∙ (life_at (take k (logs 0)) line o e).1)))))
 
 -- ---- all events
 
@@ -225,7 +265,8 @@ pub record IsWell (i : Image) (logs : Logs) (k : ℕ) : Type 0 where
   pub wide : (line : ℕ) (o : Opening) → life_of (take k (logs 0)) line ≡ Opened o → 0 < data_len i.shape o.start.width
   pub no_loss : HaveNoLoss (take k (logs 0))
 
-begin_step : (i : Image) (logs : Logs) (k : ℕ) (l : Logged) → slice_get (logs 0) k ≡ Some l → take k (logs 0) ≡ [] → ((line : ℕ) → turned_by line AsFound 0 l.knows l.event ≡ AsFound) → placed_by [] 0 l.event ≡ None → AreGoing i logs (suc k)
+begin_step : (i : Image) (logs : Logs) (k : ℕ) (l : Logged) → slice_get (logs 0) k ≡ Some l → take k (logs 0) ≡ []
+    → ((line : ℕ) → turned_by line AsFound 0 l.knows l.event ≡ AsFound) → placed_by [] 0 l.event ≡ None → AreGoing i logs (suc k)
 begin_step i logs k l there empty found none = record {
   going = λ line o e. let never : AsFound ≡ Opened o = sym (life line) ∙ e in absurd cc;
   lives = subst (AllByRecursion (λ (p : Placed). life_of (take (suc k) (logs 0)) p.stripe.line ≡ p.life)) (sym placed) tt;
@@ -244,32 +285,42 @@ begin_step i logs k l there empty found none = record {
 
 same_step : (i : Image) (logs : Logs) (k : ℕ) (l : Logged) (b : Begun) → slice_get (logs 0) k ≡ Some l → begun (take k (logs 0)) ≡ Some b → AreGoing i logs k
     → ((line : ℕ) → turned_by line (life_of (take k (logs 0)) line) (length (take k (logs 0))) l.knows l.event ≡ life_of (take k (logs 0)) line)
-    → placed_by (take k (logs 0)) (length (take k (logs 0))) l.event ≡ None → ((u : ℕ) → told_by (engine_prefix (suc k) logs) u l.event ≡ None) → AreGoing i logs (suc k)
+    → placed_by (take k (logs 0)) (length (take k (logs 0))) l.event ≡ None → ((u : ℕ) → told_by (engine_prefix (suc k) logs) u l.event ≡ None)
+    → AreGoing i logs (suc k)
 same_step i logs k l b there begins is same none untold =
-    keeps_lives i logs k l there is same none (λ line o e before. untouched i logs k line o l before (λ u. chunk_untold i logs k u line l b there begins (untold u)))
+    keeps_lives i logs k l there is same none
+    (λ line o e before. untouched i logs k line o l before (λ u. chunk_untold i logs k u line l b there begins (untold u)))
 
 landed_step : (i : Image) (w : World) → IsSimpleMount i w → (k u n : ℕ) (knows : List ℕ)
     → slice_get (log_of w 0) k ≡ Some (record { event = Decides (Landed u n); knows = knows })
     → HasHappened i (log_of w) 0 k (record { event = Decides (Landed u n); knows = knows }) → AreGoing i (log_of w) k → AreGoing i (log_of w) (suc k)
 landed_step i w simple k u n knows there is lines =
     let may = is.allowed in
-    let own : take (known (record { event = Decides (Landed u n); knows = knows }) 0) (log_of w 0) ≡ take k (log_of w 0) = ap (λ m. take m (log_of w 0)) is.own in
+    let own : take (known (record { event = Decides (Landed u n); knows = knows }) 0) (log_of w 0) ≡ take k (log_of w 0) =
+    ap (λ m. take m (log_of w 0)) is.own in
     let begins : begun (take k (log_of w 0)) ≡ Some may.0 = ap (λ (xs : List Logged). begun xs) (sym own) ∙ may.1 in
     let at : (p : Placed) × (slice_get (placed_on (log_of w 0) u) (length (answers (take k (log_of w 0)) u)) ≡ Some p) × IsProgramDone (log_of w) u n p =
     landed_at i w simple.mount.legal k u n (record { event = Decides (Landed u n); knows = knows }) may.0 is may.1 may.2 in
-    let room : length (answers (take k (log_of w 0)) u) < length (placed_on (take k (log_of w 0)) u) = subst (λ (xs : List Logged). length (answers xs u) < length (placed_on xs u)) own may.2.stripe.placed in
-    let q : (p : Placed) × (slice_get (placed_on (take k (log_of w 0)) u) (length (answers (take k (log_of w 0)) u)) ≡ Some p) = got_within (placed_on (take k (log_of w 0)) u) (length (answers (take k (log_of w 0)) u)) room in
-    let final : slice_get (placed_on (log_of w 0) u) (length (answers (take k (log_of w 0)) u)) ≡ Some q.0 = still_placed k (log_of w 0) u (length (answers (take k (log_of w 0)) u)) q.0 q.1 in
+    let room : length (answers (take k (log_of w 0)) u) < length (placed_on (take k (log_of w 0)) u) =
+    subst (λ (xs : List Logged). length (answers xs u) < length (placed_on xs u)) own may.2.stripe.placed in
+    let q : (p : Placed) × (slice_get (placed_on (take k (log_of w 0)) u) (length (answers (take k (log_of w 0)) u)) ≡ Some p) =
+    got_within (placed_on (take k (log_of w 0)) u) (length (answers (take k (log_of w 0)) u)) room in
+    let final : slice_get (placed_on (log_of w 0) u) (length (answers (take k (log_of w 0)) u)) ≡ Some q.0 =
+    still_placed k (log_of w 0) u (length (answers (take k (log_of w 0)) u)) q.0 q.1 in
     let one : at.0 ≡ q.0 = same_Some at.0 q.0 (sym at.1 ∙ final) in
     let done : IsProgramDone (log_of w) u n q.0 = subst (IsProgramDone (log_of w) u n) one at.2 in
-    let among : IsAmong (placements (take k (log_of w 0))) q.0 = from_filter (λ (p : Placed). p.stripe.unit == u) (placements (take k (log_of w 0))) q.0 (length (answers (take k (log_of w 0)) u), q.1) in
-    let there_too : IsAmong (placements (log_of w 0)) q.0 = from_filter (λ (p : Placed). p.stripe.unit == u) (placements (log_of w 0)) q.0 (length (answers (take k (log_of w 0)) u), final) in
+    let among : IsAmong (placements (take k (log_of w 0))) q.0 =
+    from_filter (λ (p : Placed). p.stripe.unit == u) (placements (take k (log_of w 0))) q.0 (length (answers (take k (log_of w 0)) u), q.1) in
+    let there_too : IsAmong (placements (log_of w 0)) q.0 =
+    from_filter (λ (p : Placed). p.stripe.unit == u) (placements (log_of w 0)) q.0 (length (answers (take k (log_of w 0)) u), final) in
     let whole : length q.0.stripe.blocks ≡ i.shape.ws_opt =
     all_at (λ (p : Placed). length p.stripe.blocks ≡ i.shape.ws_opt) (placements (log_of w 0)) there_too.0 q.0 there_too.1
     (have_blocks i w simple.mount.accepted simple.mount.legal).blocks in
     let its : q.0.stripe.unit ≡ u = its_unit (take k (log_of w 0)) u (length (answers (take k (log_of w 0)) u)) q.0 q.1 in
-    let chunk : q.0.stripe.chunk ≡ q.0.stripe.line = all_at (λ (p : Placed). p.stripe.chunk ≡ p.stripe.line) (placements (take k (log_of w 0))) among.0 q.0 among.1 lines.chunks in
-    let alive : life_of (take k (log_of w 0)) q.0.stripe.line ≡ q.0.life = all_at (λ (p : Placed). life_of (take k (log_of w 0)) p.stripe.line ≡ p.life) (placements (take k (log_of w 0))) among.0 q.0 among.1 lines.lives in
+    let chunk : q.0.stripe.chunk ≡ q.0.stripe.line =
+    all_at (λ (p : Placed). p.stripe.chunk ≡ p.stripe.line) (placements (take k (log_of w 0))) among.0 q.0 among.1 lines.chunks in
+    let alive : life_of (take k (log_of w 0)) q.0.stripe.line ≡ q.0.life =
+    all_at (λ (p : Placed). life_of (take k (log_of w 0)) p.stripe.line ≡ p.life) (placements (take k (log_of w 0))) among.0 q.0 among.1 lines.lives in
     keeps_lives i (log_of w) k (record { event = Decides (Landed u n); knows = knows }) there lines (λ line. refl) refl
     (λ line o e before. record {
       live = λ v. (landed_chunk i (log_of w) k u n v line knows may.0 o q.0 there begins q.1 done whole among its chunk alive e before).0;
@@ -281,9 +332,11 @@ reset_step : (i : Image) (w : World) → IsSimpleMount i w → (k u n : ℕ) (kn
     → HasHappened i (log_of w) 0 k (record { event = Decides (ResetDone u n); knows = knows }) → AreGoing i (log_of w) k → AreGoing i (log_of w) (suc k)
 reset_step i w simple k u n knows there is lines =
     let may = is.allowed in
-    let own : take (known (record { event = Decides (ResetDone u n); knows = knows }) 0) (log_of w 0) ≡ take k (log_of w 0) = ap (λ m. take m (log_of w 0)) is.own in
+    let own : take (known (record { event = Decides (ResetDone u n); knows = knows }) 0) (log_of w 0) ≡ take k (log_of w 0) =
+    ap (λ m. take m (log_of w 0)) is.own in
     let begins : begun (take k (log_of w 0)) ≡ Some may.0 = ap (λ (xs : List Logged). begun xs) (sym own) ∙ may.1 in
-    let at : slice_get (log_of w (suc u)) n ≡ Some may.2.new.logged = get_whole (known (record { event = Decides (ResetDone u n); knows = knows }) (suc u)) (log_of w (suc u)) n may.2.new.logged may.2.new.is_known in
+    let at : slice_get (log_of w (suc u)) n ≡ Some may.2.new.logged =
+    get_whole (known (record { event = Decides (ResetDone u n); knows = knows }) (suc u)) (log_of w (suc u)) n may.2.new.logged may.2.new.is_known in
     let event : unit_event_at (log_of w) u n ≡ Some may.2.reset = ap (option_and_then (λ (x : Logged). unit_event_of x.event)) at ∙ may.2.new.event in
     let inside : k < length (log_of w 0) = slice_get_within (log_of w 0) k (record { event = Decides (ResetDone u n); knows = knows }) there in
     keeps_lives i (log_of w) k (record { event = Decides (ResetDone u n); knows = knows }) there lines (λ line. refl) refl
@@ -294,11 +347,14 @@ reset_step i w simple k u n knows there is lines =
 
 lines_after : (i : Image) (w : World) → IsSimpleMount i w → (k : ℕ) (e : EngineEvent) (knows : List ℕ)
     → slice_get (log_of w 0) k ≡ Some (record { event = Decides e; knows = knows })
-    → HasHappened i (log_of w) 0 k (record { event = Decides e; knows = knows }) → is_plain_event (Decides e) ≡ true → IsWell i (log_of w) k → AreGoing i (log_of w) (suc k)
+    → HasHappened i (log_of w) 0 k (record { event = Decides e; knows = knows }) → is_plain_event (Decides e) ≡ true → IsWell i (log_of w) k
+    → AreGoing i (log_of w) (suc k)
 lines_after i w simple k (Begin beginning) knows there is ok well =
-    begin_step i (log_of w) k (record { event = Decides (Begin beginning); knows = knows }) there (ap (λ m. take m (log_of w 0)) (sym is.own) ∙ is.allowed.is_first) (λ line. refl) refl
+    begin_step i (log_of w) k (record { event = Decides (Begin beginning); knows = knows }) there
+    (ap (λ m. take m (log_of w 0)) (sym is.own) ∙ is.allowed.is_first) (λ line. refl) refl
 lines_after i w simple k (Take entry mark) knows there is ok well =
-    same_step i (log_of w) k (record { event = Decides (Take entry mark); knows = knows }) is.allowed.0 there (ap (λ m. begun (take m (log_of w 0))) (sym is.own) ∙ is.allowed.1) well.lines (λ line. refl) refl (λ u. refl)
+    same_step i (log_of w) k (record { event = Decides (Take entry mark); knows = knows }) is.allowed.0 there
+    (ap (λ m. begun (take m (log_of w 0))) (sym is.own) ∙ is.allowed.1) well.lines (λ line. refl) refl (λ u. refl)
 lines_after i w simple k (Open line start) knows there is ok well =
     let ls : Logs = prefixes (record { event = Decides (Open line start); knows = knows }) (log_of w) in
     let own : ls 0 ≡ take k (log_of w 0) = ap (λ m. take m (log_of w 0)) is.own in
@@ -318,7 +374,8 @@ lines_after i w simple k (Place stripe) knows there is ok well =
 lines_after i w simple k (Landed u n) knows there is ok well = landed_step i w simple k u n knows there is well.lines
 lines_after i w simple k (Lost u n) knows there is ok well = absurd cc
 lines_after i w simple k (Again u n) knows there is ok well =
-    same_step i (log_of w) k (record { event = Decides (Again u n); knows = knows }) is.allowed.0 there (ap (λ m. begun (take m (log_of w 0))) (sym is.own) ∙ is.allowed.1) well.lines (λ line. refl) refl (λ u. refl)
+    same_step i (log_of w) k (record { event = Decides (Again u n); knows = knows }) is.allowed.0 there
+    (ap (λ m. begun (take m (log_of w 0))) (sym is.own) ∙ is.allowed.1) well.lines (λ line. refl) refl (λ u. refl)
 lines_after i w simple k (ResetDone u n) knows there is ok well = reset_step i w simple k u n knows there is well.lines
 lines_after i w simple k (Free line) knows there is ok well = absurd cc
 
@@ -327,14 +384,17 @@ well_after : (i : Image) (w : World) → IsSimpleMount i w → (k : ℕ) (event 
     → HasHappened i (log_of w) 0 k (record { event = event; knows = knows }) → is_plain_event event ≡ true → IsWell i (log_of w) k → IsWell i (log_of w) (suc k)
 well_after i w simple k (Does e maker) knows there is ok well = absurd is.allowed
 well_after i w simple k (Decides e) knows there is ok well =
-    let next : take (suc k) (log_of w 0) ≡ take k (log_of w 0) ++ record { event = Decides e; knows = knows } ∷ [] = take_next (log_of w 0) k (record { event = Decides e; knows = knows }) there in
+    let next : take (suc k) (log_of w 0) ≡ take k (log_of w 0) ++ record { event = Decides e; knows = knows } ∷ [] =
+    take_next (log_of w 0) k (record { event = Decides e; knows = knows }) there in
     record {
       lines = lines_after i w simple k e knows there is ok well;
-      wide = λ line o f. wide_after i (prefixes (record { event = Decides e; knows = knows }) (log_of w)) (take k (log_of w 0)) e knows is.allowed well.wide line o (ap (λ (xs : List Logged). life_of xs line) (sym next) ∙ f);
+      wide = λ line o f. wide_after i (prefixes (record { event = Decides e; knows = knows }) (log_of w))
+          (take k (log_of w 0)) e knows is.allowed well.wide line o (ap (λ (xs : List Logged). life_of xs line) (sym next) ∙ f);
       no_loss = subst HaveNoLoss (sym next) (no_loss_after (take k (log_of w 0)) e knows ok well.no_loss);
     }
 
 pub all_well : (i : Image) (w : World) → IsSimpleMount i w → (k : ℕ) → k ≤ length (log_of w 0) → IsWell i (log_of w) k
 all_well i w simple = by_prefixes (log_of w 0) (IsWell i (log_of w))
     (record { lines = record { going = λ line o e. absurd cc; lives = tt; opened = tt; chunks = tt }; wide = λ line o e. absurd cc; no_loss = λ unit. tt })
-    (λ k l there well. well_after i w simple k l.event l.knows there (happened i w 0 simple.mount.legal k l there) (all_at (λ (l : Logged). is_plain_event l.event ≡ true) (log_of w 0) k l there (engine_plain i w simple)) well)
+    (λ k l there well. well_after i w simple k l.event l.knows there (happened i w 0 simple.mount.legal k l there)
+    (all_at (λ (l : Logged). is_plain_event l.event ≡ true) (log_of w 0) k l there (engine_plain i w simple)) well)

@@ -23,7 +23,8 @@ use Rattle.lemmas.proofs.Tests.{and_both, first_of, second_of}
 use Rattle.pblk_world.proofs.EngineLogLemmas.{answers_more, takes_more}
 use Rattle.world_laws.proofs.Later.{its_number}
 
-more_numbers : (log : List Logged) (e : Event) (n : ℕ) → n < length log → AllByRecursion (λ (q : Placed). nat_lt q.number n ≡ false) (option_to_list (placed_by log (length log) e))
+more_numbers : (log : List Logged) (e : Event) (n : ℕ) → n < length log
+    → AllByRecursion (λ (q : Placed). nat_lt q.number n ≡ false) (option_to_list (placed_by log (length log) e))
 more_numbers log e n before = go (placed_by log (length log) e) refl
   where
     go : (o : Option Placed) → placed_by log (length log) e ≡ o → AllByRecursion (λ (q : Placed). nat_lt q.number n ≡ false) (option_to_list o)
@@ -34,15 +35,20 @@ pub turn_grown : (log : List Logged) (l : Logged) (r : Placed) → r.number < le
 turn_grown log l r before =
     let more : List Placed = option_to_list (placed_by log (length log) l.event) in
     let its : Placed → Bool = λ p. p.stripe.unit == r.stripe.unit in
-    ap (λ (ps : List Placed). length (filter (λ (q : Placed). nat_lt q.number r.number) (filter (λ (p : Placed). p.stripe.unit == r.stripe.unit) ps))) (placements_more log l)
-    ∙ ap (λ (ps : List Placed). length (filter (λ (q : Placed). nat_lt q.number r.number) ps)) (filter-append (λ (p : Placed). p.stripe.unit == r.stripe.unit) (placements log) more)
-    ∙ ap length (filter-append (λ (q : Placed). nat_lt q.number r.number) (placed_on log r.stripe.unit) (filter (λ (p : Placed). p.stripe.unit == r.stripe.unit) more)
+    ap (λ (ps : List Placed). length (filter (λ (q : Placed). nat_lt q.number r.number) (filter (λ (p : Placed). p.stripe.unit == r.stripe.unit) ps)))
+    (placements_more log l)
+    ∙ ap (λ (ps : List Placed). length (filter (λ (q : Placed). nat_lt q.number r.number) ps))
+    (filter-append (λ (p : Placed). p.stripe.unit == r.stripe.unit) (placements log) more)
+    ∙ ap length (filter-append (λ (q : Placed). nat_lt q.number r.number) (placed_on log r.stripe.unit)
+    (filter (λ (p : Placed). p.stripe.unit == r.stripe.unit) more)
     ∙ ap (λ qs. filter (λ (q : Placed). nat_lt q.number r.number) (placed_on log r.stripe.unit) ++ qs)
     (filter_none (λ (q : Placed). nat_lt q.number r.number) (filter (λ (p : Placed). p.stripe.unit == r.stripe.unit) more)
-    (all_filter (λ (q : Placed). nat_lt q.number r.number ≡ false) (λ (p : Placed). p.stripe.unit == r.stripe.unit) more (more_numbers log l.event r.number before)))
+    (all_filter (λ (q : Placed). nat_lt q.number r.number ≡ false) (λ (p : Placed). p.stripe.unit == r.stripe.unit) more
+    (more_numbers log l.event r.number before)))
     ∙ append-nil (filter (λ (q : Placed). nat_lt q.number r.number) (placed_on log r.stripe.unit)))
 
-pub answer_grown : (log : List Logged) (l : Logged) (r : Placed) (a : Answer) → r.number < length log → answer_of log r ≡ Some a → answer_of (log ++ l ∷ []) r ≡ Some a
+pub answer_grown : (log : List Logged) (l : Logged) (r : Placed) (a : Answer) → r.number < length log → answer_of log r ≡ Some a
+    → answer_of (log ++ l ∷ []) r ≡ Some a
 answer_grown log l r a before is =
     ap₂ (λ (xs : List Answer) n. slice_get xs n) (answers_more log l r.stripe.unit) (turn_grown log l r before)
     ∙ get_more (answers log r.stripe.unit) (option_to_list (answer_by r.stripe.unit l.event)) (turn log r) a is
@@ -84,20 +90,25 @@ landed_at_grown s log l q e =
     ap (λ ps. list_any (λ r. has_landed (log ++ l ∷ []) r && holds_position s q r) ps) (placements_more log l)
     ∙ any_joined (λ r. has_landed new r && holds_position s q r) (placements log) (option_to_list (placed_by log (length log) l.event))
     (any_weaker (λ r. has_landed log r && holds_position s q r) (λ r. has_landed new r && holds_position s q r) (placements log)
-    (all_imply (λ (r : Placed). r.number < length log) (λ (r : Placed). (has_landed log r && holds_position s q r) ≡ true → (has_landed new r && holds_position s q r) ≡ true)
-    (λ r before f. and_both (has_landed new r) (holds_position s q r) (landed_grown log l r before (first_of (has_landed log r) (holds_position s q r) f)) (second_of (has_landed log r) (holds_position s q r) f))
+    (all_imply (λ (r : Placed). r.number < length log)
+    (λ (r : Placed). (has_landed log r && holds_position s q r) ≡ true → (has_landed new r && holds_position s q r) ≡ true)
+    (λ r before f. and_both (has_landed new r) (holds_position s q r) (landed_grown log l r before (first_of (has_landed log r) (holds_position s q r) f))
+    (second_of (has_landed log r) (holds_position s q r) f))
     (placements log) (placements_before log)) e)
 
 pub synced_grown : (s : Shape) (log : List Logged) (l : Logged) → synced s log ≤ synced s (log ++ l ∷ [])
 synced_grown s [] l = let none : synced s [] ≤ taken [] = synced_within s [] in omega arith
 synced_grown s (m ∷ log) l =
-    let count : length (takes ((m ∷ log) ++ l ∷ [])) ≡ length (takes (m ∷ log)) + length (option_to_list (taken_by l.event)) = ap length (takes_more (m ∷ log) l) ∙ length-append (takes (m ∷ log)) (option_to_list (taken_by l.event)) in
-    least_rises (has_landed_at s (m ∷ log)) (has_landed_at s ((m ∷ log) ++ l ∷ [])) (length (takes (m ∷ log))) (length (takes ((m ∷ log) ++ l ∷ []))) (first_position (m ∷ log))
+    let count : length (takes ((m ∷ log) ++ l ∷ [])) ≡ length (takes (m ∷ log)) + length (option_to_list (taken_by l.event)) =
+    ap length (takes_more (m ∷ log) l) ∙ length-append (takes (m ∷ log)) (option_to_list (taken_by l.event)) in
+    least_rises (has_landed_at s (m ∷ log)) (has_landed_at s ((m ∷ log) ++ l ∷ [])) (length (takes (m ∷ log))) (length (takes ((m ∷ log) ++ l ∷ [])))
+    (first_position (m ∷ log))
     (landed_at_grown s (m ∷ log) l) (omega (arith, count))
 
 -- ---- the front freed is at most the front synced
 
-readable_bears : (test : Block → Bool) (more : ℕ × Block → Bool) (n : ℕ) (bs : List Block) → list_any (λ (b : ℕ × Block). test b.1 && more b) (enumerate_from n bs) ≡ true → list_any test bs ≡ true
+readable_bears : (test : Block → Bool) (more : ℕ × Block → Bool) (n : ℕ) (bs : List Block)
+    → list_any (λ (b : ℕ × Block). test b.1 && more b) (enumerate_from n bs) ≡ true → list_any test bs ≡ true
 readable_bears test more n [] e = e
 readable_bears test more n (b ∷ bs) e = go (test b) e (readable_bears test more (n + 1) bs)
   where
@@ -110,13 +121,16 @@ pub given_holds : (s : Shape) (log : List Logged) (q : ℕ) (r : Placed) → giv
 given_holds s log q r e =
     let test : ℕ × Block → Bool = λ b. bears_position s q b.1 && is_readable_in s log r.stripe.unit b.0 r.life in
     and_both (has_landed log r) (holds_position s q r)
-    (first_of (has_landed log r) (list_any (λ (b : ℕ × Block). bears_position s q b.1 && is_readable_in s log r.stripe.unit b.0 r.life) (enumerate_from r.stripe.at r.stripe.blocks)) e)
+    (first_of (has_landed log r) (list_any (λ (b : ℕ × Block). bears_position s q b.1 && is_readable_in s log r.stripe.unit b.0 r.life)
+    (enumerate_from r.stripe.at r.stripe.blocks)) e)
     (readable_bears (bears_position s q) (λ b. is_readable_in s log r.stripe.unit b.0 r.life) r.stripe.at r.stripe.blocks
-    (second_of (has_landed log r) (list_any (λ (b : ℕ × Block). bears_position s q b.1 && is_readable_in s log r.stripe.unit b.0 r.life) (enumerate_from r.stripe.at r.stripe.blocks)) e))
+    (second_of (has_landed log r) (list_any (λ (b : ℕ × Block). bears_position s q b.1 && is_readable_in s log r.stripe.unit b.0 r.life)
+    (enumerate_from r.stripe.at r.stripe.blocks)) e))
 
 pub given_landed : (s : Shape) (log : List Logged) (q : ℕ) → is_given_back s log q ≡ true → has_landed_at s log q ≡ true
 given_landed s log q e = any_weaker (gives_back s log q) (λ r. has_landed log r && holds_position s q r) (placements log)
     (all_of (λ (r : Placed). gives_back s log q r ≡ true → (has_landed log r && holds_position s q r) ≡ true) (given_holds s log q) (placements log)) e
 
 pub freed_within : (s : Shape) (log : List Logged) → freed s log ≤ synced s log
-freed_within s log = least_rises (is_given_back s log) (has_landed_at s log) (length (takes log)) (length (takes log)) (first_position log) (given_landed s log) (omega arith)
+freed_within s log = least_rises (is_given_back s log) (has_landed_at s log) (length (takes log)) (length (takes log)) (first_position log) (given_landed s log)
+    (omega arith)

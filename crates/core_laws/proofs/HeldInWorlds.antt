@@ -33,7 +33,8 @@ held_taken i w q r mount among holds =
     let order : AreInOrder i.shape (log_of w 0) = in_order i w (accepted_small i.shape mount.accepted) mount.legal in (
       all_at (λ (p : Placed). (q : ℕ) → holds_position i.shape q p ≡ true → first_position (log_of w 0) ≤ q) (placements (log_of w 0)) among.0 r among.1
           (placed_from i w (accepted_small i.shape mount.accepted) mount.legal) q holds,
-      all_at (λ (p : Placed). (q : ℕ) → holds_position i.shape q p ≡ true → q < taken (log_of w 0)) (placements (log_of w 0)) among.0 r among.1 order.taken q holds,
+      all_at (λ (p : Placed). (q : ℕ) → holds_position i.shape q p ≡ true → q < taken (log_of w 0))
+          (placements (log_of w 0)) among.0 r among.1 order.taken q holds,
     )
 
 -- one that is in the window until a block of it can be read
@@ -49,27 +50,33 @@ pub newly_not_given : (i : Image) (w : World) (unit : ℕ) (p : Placed) (o : Ope
 newly_not_given i w unit p o q simple waits life rows e =
     newly_kept i.shape (log_of w 0) (with_landing (log_of w 0) unit 0 []) p o q (landed_now i w unit 0 [] p o simple waits life rows) (held_once i w simple)
     (borne_once i w simple)
-    (subst (λ u. list_any (bears_position i.shape q) (newly_readable i.shape (log_of w 0) o u) ≡ true) (sym (first_unanswered (log_of w 0) unit p waits).of_unit) e)
+    (subst (λ u. list_any (bears_position i.shape q) (newly_readable i.shape (log_of w 0) o u) ≡ true)
+    (sym (first_unanswered (log_of w 0) unit p waits).of_unit) e)
 
 pub newly_in_window : (i : Image) (w : World) (unit : ℕ) (p : Placed) (o : Opening) (q : ℕ) → IsSimpleMount i w → unanswered_on (log_of w 0) unit ≡ Some p
     → p.life ≡ Opened o → AreInRows i.shape (log_of w 0) o unit
     → list_any (bears_position i.shape q) (newly_readable i.shape (log_of w 0) o unit) ≡ true → (freed i.shape (log_of w 0) ≤ q) × (q < taken (log_of w 0))
 newly_in_window i w unit p o q simple waits life rows e =
     let its : p.stripe.unit ≡ unit = (first_unanswered (log_of w 0) unit p waits).of_unit in
-    let here : list_any (bears_position i.shape q) (newly_readable i.shape (log_of w 0) o p.stripe.unit) ≡ true = subst (λ u. list_any (bears_position i.shape q) (newly_readable i.shape (log_of w 0) o u) ≡ true) (sym its) e in
+    let here : list_any (bears_position i.shape q) (newly_readable i.shape (log_of w 0) o p.stripe.unit) ≡ true =
+    subst (λ u. list_any (bears_position i.shape q) (newly_readable i.shape (log_of w 0) o u) ≡ true) (sym its) e in
     let r : (x : Placed) × (holds_position i.shape q x ≡ true) × IsAmong (stripes_on (log_of w 0) o p.stripe.unit) x =
-    member_of (holds_position i.shape q) (stripes_on (log_of w 0) o p.stripe.unit) (any_stripe (bears_position i.shape q) (stripes_on (log_of w 0) o p.stripe.unit)
+    member_of (holds_position i.shape q) (stripes_on (log_of w 0) o p.stripe.unit)
+    (any_stripe (bears_position i.shape q) (stripes_on (log_of w 0) o p.stripe.unit)
     (any_part (bears_position i.shape q) _ _ (chunk_blocks (log_of w 0) o p.stripe.unit) here)) in
-    let of : IsOfChunk (log_of w 0) p o r.0 = all_at (IsOfChunk (log_of w 0) p o) (stripes_on (log_of w 0) o p.stripe.unit) r.2.0 r.0 r.2.1 (chunk_members (log_of w 0) p o) in
+    let of : IsOfChunk (log_of w 0) p o r.0 =
+    all_at (IsOfChunk (log_of w 0) p o) (stripes_on (log_of w 0) o p.stripe.unit) r.2.0 r.0 r.2.1 (chunk_members (log_of w 0) p o) in
     held_by_window i w q r.0 simple.mount of.among r.1 (newly_not_given i w unit p o q simple waits life rows e)
 
 pub newly_has_landed : (i : Image) (w : World) (unit event : ℕ) (knows : List ℕ) (p : Placed) (o : Opening) (q : ℕ) → IsSimpleMount i w
     → unanswered_on (log_of w 0) unit ≡ Some p → p.life ≡ Opened o → AreInRows i.shape (log_of w 0) o unit
-    → list_any (bears_position i.shape q) (newly_readable i.shape (log_of w 0) o unit) ≡ true → has_landed_at i.shape (with_landing (log_of w 0) unit event knows) q ≡ true
+    → list_any (bears_position i.shape q) (newly_readable i.shape (log_of w 0) o unit) ≡ true
+    → has_landed_at i.shape (with_landing (log_of w 0) unit event knows) q ≡ true
 newly_has_landed i w unit event knows p o q simple waits life rows e =
     newly_landed i.shape (log_of w 0) (with_landing (log_of w 0) unit event knows) p o q (landed_now i w unit event knows p o simple waits life rows)
     (newest_in i w unit p simple.mount.legal waits)
-    (subst (λ u. list_any (bears_position i.shape q) (newly_readable i.shape (log_of w 0) o u) ≡ true) (sym (first_unanswered (log_of w 0) unit p waits).of_unit) e)
+    (subst (λ u. list_any (bears_position i.shape q) (newly_readable i.shape (log_of w 0) o u) ≡ true)
+    (sym (first_unanswered (log_of w 0) unit p waits).of_unit) e)
 
 -- what the stripe itself holds is in the window too
 pub own_in_window : (i : Image) (w : World) (unit : ℕ) (p : Placed) (q : ℕ) → IsSimpleMount i w → unanswered_on (log_of w 0) unit ≡ Some p

@@ -48,11 +48,13 @@ HeldOnce s log = (q : ℕ) → holders s log q ≤ 1
 abbrev BearsFresh : Shape → List Logged → Block → Type 0
 BearsFresh s log b = (q : ℕ) → bears_position s q b ≡ true → holders s log q ≡ 0
 
-holds_fresh : (s : Shape) (log : List Logged) (bs : List Block) → AllByRecursion (BearsFresh s log) bs → (q : ℕ) → list_any (bears_position s q) bs ≡ true → holders s log q ≡ 0
+holds_fresh : (s : Shape) (log : List Logged) (bs : List Block) → AllByRecursion (BearsFresh s log) bs → (q : ℕ) → list_any (bears_position s q) bs ≡ true
+    → holders s log q ≡ 0
 holds_fresh s log [] all q e = absurd cc
 holds_fresh s log (b ∷ bs) all q e = go (bears_position s q b) refl e (λ f. holds_fresh s log bs all.1 q f)
   where
-    go : (c : Bool) → bears_position s q b ≡ c → (c || list_any (bears_position s q) bs) ≡ true → (list_any (bears_position s q) bs ≡ true → holders s log q ≡ 0) → holders s log q ≡ 0
+    go : (c : Bool) → bears_position s q b ≡ c → (c || list_any (bears_position s q) bs) ≡ true
+        → (list_any (bears_position s q) bs ≡ true → holders s log q ≡ 0) → holders s log q ≡ 0
     go true f g rest = all.0 q f
     go false f g rest = rest g
 
@@ -62,15 +64,19 @@ bears_none s log b none = λ q e. let some : is_some (named s b.mark) ≡ true =
 pads_fresh : (s : Shape) (log : List Logged) → s.capacity ≤ meta_lba → BearsFresh s log (pad_block s)
 pads_fresh s log small = bears_none s log (pad_block s) (unnamed s (pad_block s).mark small (omega arith) (λ e. absurd (omega (arith, e))))
 
-records_fresh : (s : Shape) (log : List Logged) (size seq count : ℕ) (bytes : List ℕ) → s.capacity ≤ meta_lba → AllByRecursion (BearsFresh s log) (blocks_of size bytes (replicate count (meta_mark seq)))
+records_fresh : (s : Shape) (log : List Logged) (size seq count : ℕ) (bytes : List ℕ) → s.capacity ≤ meta_lba
+    → AllByRecursion (BearsFresh s log) (blocks_of size bytes (replicate count (meta_mark seq)))
 records_fresh s log size seq zero bytes small = tt
 records_fresh s log size seq (suc count) bytes small = (
   bears_none s log (record { sector = take size bytes; mark = meta_mark seq }) (unnamed s (meta_mark seq) small (omega arith) (λ e. absurd (omega (arith, e)))),
   records_fresh s log size seq count (drop size bytes) small,
 )
 
-part_fresh : (s : Shape) (log : List Logged) (seq count : ℕ) (bytes : List ℕ) (from to : ℕ) → s.capacity ≤ meta_lba → AllByRecursion (BearsFresh s log) (slice_range (record_blocks s seq count bytes) from to)
-part_fresh s log seq count bytes from to small = all_taken (BearsFresh s log) (to - from) (drop from (record_blocks s seq count bytes)) (all_dropped (BearsFresh s log) from (record_blocks s seq count bytes) (records_fresh s log s.sector seq count bytes small))
+part_fresh : (s : Shape) (log : List Logged) (seq count : ℕ) (bytes : List ℕ) (from to : ℕ) → s.capacity ≤ meta_lba
+    → AllByRecursion (BearsFresh s log) (slice_range (record_blocks s seq count bytes) from to)
+part_fresh s log seq count bytes from to small =
+    all_taken (BearsFresh s log) (to - from) (drop from (record_blocks s seq count bytes))
+    (all_dropped (BearsFresh s log) from (record_blocks s seq count bytes) (records_fresh s log s.sector seq count bytes small))
 
 -- ---- entries that wait
 
@@ -94,10 +100,13 @@ entry_fresh s log t plain is = λ q e.
 waiting_all : (s : Shape) (log : List Logged) → ArePlain log → AreMarked log → AllByRecursion (IsWaiting s log) (waiting s log)
 waiting_all s log plain marked =
     all_append (IsWaiting s log) (filter (λ t. waits s log t && was_placed s log t) (takes log)) (filter (λ t. not (was_placed s log t)) (takes log))
-    (zipped (λ (t : Taken). (waits s log t && was_placed s log t) ≡ true) (λ (t : Taken). t.mark.position ≡ t.entry.position) (IsWaiting s log) (λ t a b. (first_of (waits s log t) (was_placed s log t) a, b))
-    (filter (λ t. waits s log t && was_placed s log t) (takes log)) (all_passed (λ t. waits s log t && was_placed s log t) (takes log)) (all_filter (λ (t : Taken). t.mark.position ≡ t.entry.position) (λ t. waits s log t && was_placed s log t) (takes log) marked))
+    (zipped (λ (t : Taken). (waits s log t && was_placed s log t) ≡ true) (λ (t : Taken). t.mark.position ≡ t.entry.position) (IsWaiting s log)
+    (λ t a b. (first_of (waits s log t) (was_placed s log t) a, b))
+    (filter (λ t. waits s log t && was_placed s log t) (takes log)) (all_passed (λ t. waits s log t && was_placed s log t) (takes log))
+    (all_filter (λ (t : Taken). t.mark.position ≡ t.entry.position) (λ t. waits s log t && was_placed s log t) (takes log) marked))
     (zipped (λ (t : Taken). not (was_placed s log t) ≡ true) (λ (t : Taken). t.mark.position ≡ t.entry.position) (IsWaiting s log) (λ t a b. (fresh t a, b))
-    (filter (λ t. not (was_placed s log t)) (takes log)) (all_passed (λ t. not (was_placed s log t)) (takes log)) (all_filter (λ (t : Taken). t.mark.position ≡ t.entry.position) (λ t. not (was_placed s log t)) (takes log) marked))
+    (filter (λ t. not (was_placed s log t)) (takes log)) (all_passed (λ t. not (was_placed s log t)) (takes log))
+    (all_filter (λ (t : Taken). t.mark.position ≡ t.entry.position) (λ t. not (was_placed s log t)) (takes log) marked))
   where
     by : (m n : ℕ) → not (nat_lt 0 m) ≡ true → n ≤ m → (m == n) ≡ true
     by zero n e h = let same : n ≡ 0 = omega arith in ap (λ k. 0 == k) same
@@ -108,18 +117,29 @@ waiting_all s log plain marked =
 
 data_fresh : (s : Shape) (log : List Logged) → s.capacity ≤ meta_lba → ArePlain log → AreMarked log → AllByRecursion (BearsFresh s log) (data_blocks s log)
 data_fresh s log small plain marked =
-    all_append (BearsFresh s log) (map block_of_taken (take s.ws_opt (waiting s log))) (replicate (s.ws_opt - length (map block_of_taken (take s.ws_opt (waiting s log)))) (pad_block s))
+    all_append (BearsFresh s log) (map block_of_taken (take s.ws_opt (waiting s log)))
+    (replicate (s.ws_opt - length (map block_of_taken (take s.ws_opt (waiting s log)))) (pad_block s))
     (all_mapped (BearsFresh s log) block_of_taken (take s.ws_opt (waiting s log))
     (all_imply (IsWaiting s log) (λ (t : Taken). BearsFresh s log (block_of_taken t)) (λ t is. entry_fresh s log t plain is) (take s.ws_opt (waiting s log))
     (all_taken (IsWaiting s log) s.ws_opt (waiting s log) (waiting_all s log plain marked))))
     (all_replicated (BearsFresh s log) (s.ws_opt - length (map block_of_taken (take s.ws_opt (waiting s log)))) (pad_block s) (pads_fresh s log small))
 
 by_kind : (i : Image) (logs : Logs) (stripe : Stripe) (o : Opening) → i.shape.capacity ≤ meta_lba → ArePlain (logs 0) → AreMarked (logs 0)
-    → IsStart i logs o stripe ⊎ (IsData i logs o stripe ⊎ (IsEnd i logs o stripe ⊎ IsPad i logs o stripe)) → AllByRecursion (BearsFresh i.shape (logs 0)) stripe.blocks
-by_kind i logs stripe o small plain marked (inl is) = subst (AllByRecursion (BearsFresh i.shape (logs 0))) (sym is.blocks) (part_fresh i.shape (logs 0) o.start.seq (start_len i.shape) (start_bytes i.shape o.start) (next_address i.shape (logs 0) o - 0) (next_address i.shape (logs 0) o - 0 + i.shape.ws_opt) small)
-by_kind i logs stripe o small plain marked (inr (inl is)) = subst (AllByRecursion (BearsFresh i.shape (logs 0))) (sym is.blocks) (data_fresh i.shape (logs 0) small plain marked)
-by_kind i logs stripe o small plain marked (inr (inr (inl is))) = subst (AllByRecursion (BearsFresh i.shape (logs 0))) (sym is.blocks) (part_fresh i.shape (logs 0) o.start.seq (end_len i.shape o.start.width) (end_bytes i.shape (end_record i.shape (logs 0) o)) (next_address i.shape (logs 0) o - end_address i.shape o) (next_address i.shape (logs 0) o - end_address i.shape o + i.shape.ws_opt) small)
-by_kind i logs stripe o small plain marked (inr (inr (inr is))) = subst (AllByRecursion (BearsFresh i.shape (logs 0))) (sym is.blocks) (all_replicated (BearsFresh i.shape (logs 0)) i.shape.ws_opt (pad_block i.shape) (pads_fresh i.shape (logs 0) small))
+    → IsStart i logs o stripe ⊎ (IsData i logs o stripe ⊎ (IsEnd i logs o stripe ⊎ IsPad i logs o stripe))
+    → AllByRecursion (BearsFresh i.shape (logs 0)) stripe.blocks
+by_kind i logs stripe o small plain marked (inl is) =
+    subst (AllByRecursion (BearsFresh i.shape (logs 0))) (sym is.blocks)
+    (part_fresh i.shape (logs 0) o.start.seq (start_len i.shape) (start_bytes i.shape o.start) (next_address i.shape (logs 0) o - 0)
+    (next_address i.shape (logs 0) o - 0 + i.shape.ws_opt) small)
+by_kind i logs stripe o small plain marked (inr (inl is)) =
+    subst (AllByRecursion (BearsFresh i.shape (logs 0))) (sym is.blocks) (data_fresh i.shape (logs 0) small plain marked)
+by_kind i logs stripe o small plain marked (inr (inr (inl is))) =
+    subst (AllByRecursion (BearsFresh i.shape (logs 0))) (sym is.blocks)
+    (part_fresh i.shape (logs 0) o.start.seq (end_len i.shape o.start.width) (end_bytes i.shape (end_record i.shape (logs 0) o))
+    (next_address i.shape (logs 0) o - end_address i.shape o) (next_address i.shape (logs 0) o - end_address i.shape o + i.shape.ws_opt) small)
+by_kind i logs stripe o small plain marked (inr (inr (inr is))) =
+    subst (AllByRecursion (BearsFresh i.shape (logs 0))) (sym is.blocks)
+    (all_replicated (BearsFresh i.shape (logs 0)) i.shape.ws_opt (pad_block i.shape) (pads_fresh i.shape (logs 0) small))
 
 -- ---- so each is held once
 
@@ -128,16 +148,19 @@ pub record IsOnce (s : Shape) (log : List Logged) : Type 0 where
   pub marked : AreMarked log
   pub once : HeldOnce s log
 
-holders_more : (s : Shape) (log : List Logged) (l : Logged) (q : ℕ) → holders s (log ++ l ∷ []) q ≡ holders s log q + length (filter (holds_position s q) (option_to_list (placed_by log (length log) l.event)))
+holders_more : (s : Shape) (log : List Logged) (l : Logged) (q : ℕ)
+    → holders s (log ++ l ∷ []) q ≡ holders s log q + length (filter (holds_position s q) (option_to_list (placed_by log (length log) l.event)))
 holders_more s log l q =
     ap (λ (ps : List Placed). length (filter (holds_position s q) ps)) (placements_more log l)
     ∙ ap length (filter-append (holds_position s q) (placements log) (option_to_list (placed_by log (length log) l.event)))
     ∙ length-append (filter (holds_position s q) (placements log)) (filter (holds_position s q) (option_to_list (placed_by log (length log) l.event)))
 
-once_next : (i : Image) (known : Logs) (log : List Logged) (beginning : Begun) (e : EngineEvent) (knows : List ℕ) → i.shape.capacity ≤ meta_lba → known 0 ≡ log → IsDecision i known beginning e → IsOnce i.shape log
+once_next : (i : Image) (known : Logs) (log : List Logged) (beginning : Begun) (e : EngineEvent) (knows : List ℕ) → i.shape.capacity ≤ meta_lba → known 0 ≡ log
+    → IsDecision i known beginning e → IsOnce i.shape log
     → HeldOnce i.shape (log ++ record { event = Decides e; knows = knows } ∷ [])
 once_next i known log beginning (Place stripe) knows small own may was q =
-    go (list_any (bears_position i.shape q) stripe.blocks) refl (holders_more i.shape log (record { event = Decides (Place stripe); knows = knows }) q) (was.once q)
+    go (list_any (bears_position i.shape q) stripe.blocks) refl (holders_more i.shape log (record { event = Decides (Place stripe); knows = knows }) q)
+    (was.once q)
   where
     new : List Logged
     new = log ++ record { event = Decides (Place stripe); knows = knows } ∷ []
@@ -154,7 +177,8 @@ once_next i known log beginning (Place stripe) knows small own may was q =
         (by_kind i known stripe may.opening small (subst ArePlain (sym own) was.plain) (subst AreMarked (sym own) was.marked) may.kind)) q e
 
     go : (b : Bool) → list_any (bears_position i.shape q) stripe.blocks ≡ b
-        → holders i.shape (log ++ record { event = Decides (Place stripe); knows = knows } ∷ []) q ≡ holders i.shape log q + length (filter (holds_position i.shape q) (np ∷ []))
+        → holders i.shape (log ++ record { event = Decides (Place stripe); knows = knows } ∷ []) q ≡ holders i.shape log q + length
+        (filter (holds_position i.shape q) (np ∷ []))
         → holders i.shape log q ≤ 1 → holders i.shape (log ++ record { event = Decides (Place stripe); knows = knows } ∷ []) q ≤ 1
     go true e count before =
         let none : holders i.shape log q ≡ 0 = fresh e in
@@ -185,7 +209,8 @@ held_once i w simple =
     (kept i is_plain_event (IsOnce i.shape) (once_kept i (accepted_small i.shape simple.mount.accepted)) w simple.mount.legal (engine_plain i w simple)).once
 
 -- two stripes that hold a position are one
-pub one_holder : (s : Shape) (log : List Logged) (q : ℕ) (r t : Placed) → HeldOnce s log → IsAmong (placements log) r → IsAmong (placements log) t → holds_position s q r ≡ true → holds_position s q t ≡ true → r ≡ t
+pub one_holder : (s : Shape) (log : List Logged) (q : ℕ) (r t : Placed) → HeldOnce s log → IsAmong (placements log) r → IsAmong (placements log) t
+    → holds_position s q r ≡ true → holds_position s q t ≡ true → r ≡ t
 one_holder s log q r t once a b e f =
     let x = in_filter (holds_position s q) (placements log) r a e in
     let y = in_filter (holds_position s q) (placements log) t b f in

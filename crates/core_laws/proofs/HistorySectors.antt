@@ -33,22 +33,27 @@ abbrev Holds : Option (List ℕ) → List (List ℕ) → ℕ → Option Taken �
 Holds first sectors lba None = slice_get sectors lba ≡ first
 Holds first sectors lba (Some t) = slice_get sectors lba ≡ Some t.entry.sector
 
-still_holds : (first : Option (List ℕ)) (sectors : List (List ℕ)) (lba : ℕ) (o : Option Taken) (w : SectorWrite) → lba ≢ w.lba → Holds first sectors lba o → Holds first (after_write sectors w) lba o
+still_holds : (first : Option (List ℕ)) (sectors : List (List ℕ)) (lba : ℕ) (o : Option Taken) (w : SectorWrite) → lba ≢ w.lba → Holds first sectors lba o
+    → Holds first (after_write sectors w) lba o
 still_holds first sectors lba None w apart was = got_else sectors w.lba lba w.sector apart ∙ was
 still_holds first sectors lba (Some t) w apart was = got_else sectors w.lba lba w.sector apart ∙ was
 
-latest_holds : (s : Shape) (first : Option (List ℕ)) (ts : List Taken) (sectors : List (List ℕ)) (lba : ℕ) (o : Option Taken) → AllByRecursion (IsUsers s) ts → lba < length sectors → Holds first sectors lba o
+latest_holds : (s : Shape) (first : Option (List ℕ)) (ts : List Taken) (sectors : List (List ℕ)) (lba : ℕ) (o : Option Taken) → AllByRecursion (IsUsers s) ts
+    → lba < length sectors → Holds first sectors lba o
     → Holds first (fold after_write sectors (map write_of ts)) lba (last_or o (filter (λ (t : Taken). t.mark.lba == lba) ts))
 latest_holds s first [] sectors lba o all inside was = was
 latest_holds s first (t ∷ ts) sectors lba o all inside was = go (nat_eq t.mark.lba lba) refl
-    (λ p holds. latest_holds s first ts (slice_set sectors t.entry.lba t.entry.sector) lba p all.1 (subst (λ n. lba < n) (sym (set_length sectors t.entry.lba t.entry.sector)) inside) holds)
+    (λ p holds. latest_holds s first ts (slice_set sectors t.entry.lba t.entry.sector) lba p all.1
+    (subst (λ n. lba < n) (sym (set_length sectors t.entry.lba t.entry.sector)) inside) holds)
   where
     next : List (List ℕ)
     next = slice_set sectors t.entry.lba t.entry.sector
 
     go : (b : Bool) → nat_eq t.mark.lba lba ≡ b
-        → ((p : Option Taken) → Holds first next lba p → Holds first (fold after_write next (map write_of ts)) lba (last_or p (filter (λ (t : Taken). t.mark.lba == lba) ts)))
-        → Holds first (fold after_write next (map write_of ts)) lba (last_or o (cond b (t ∷ filter (λ (t : Taken). t.mark.lba == lba) ts) (filter (λ (t : Taken). t.mark.lba == lba) ts)))
+        → ((p : Option Taken) → Holds first next lba p
+        → Holds first (fold after_write next (map write_of ts)) lba (last_or p (filter (λ (t : Taken). t.mark.lba == lba) ts)))
+        → Holds first (fold after_write next (map write_of ts)) lba
+        (last_or o (cond b (t ∷ filter (λ (t : Taken). t.mark.lba == lba) ts) (filter (λ (t : Taken). t.mark.lba == lba) ts)))
     go true e rest =
         let same : t.entry.lba ≡ lba = sym all.0.sector ∙ eqb-true t.mark.lba lba e in
         rest (Some t) (ap (slice_get next) (sym same) ∙ get_set_same sectors t.entry.lba t.entry.sector (subst (λ n. n < length sectors) (sym same) inside))
@@ -63,7 +68,8 @@ history_holds : (i : Image) (w : World) (before : List (List ℕ)) (lba : ℕ) �
 history_holds i w before lba simple inside =
     let log : List Logged = log_of w 0 in
     let all : AllByRecursion (IsUsers i.shape) (takes log) = users_entries i w simple in
-    subst (λ (ts : List Taken). Holds (slice_get before lba) (fold after_write before (map write_of ts)) lba (last_take (log_of w 0) lba)) (sym (all_users i.shape log all))
+    subst (λ (ts : List Taken). Holds (slice_get before lba) (fold after_write before (map write_of ts)) lba (last_take (log_of w 0) lba))
+    (sym (all_users i.shape log all))
     (latest_holds i.shape (slice_get before lba) (takes log) before lba None all inside refl)
 
 pub latest_sector : (i : Image) (w : World) (before : List (List ℕ)) (lba : ℕ) (t : Taken) → IsSimpleMount i w → lba < length before
@@ -79,10 +85,12 @@ first_sector i w before lba simple inside last =
 
 -- ---- how many there are
 
-count_all : (n : ℕ) (ts : List Taken) → AllByRecursion (λ (t : Taken). t.entry.position < n) ts → users (map (λ (t : Taken). t.entry.position) ts) n ≡ length (map write_of ts)
+count_all : (n : ℕ) (ts : List Taken) → AllByRecursion (λ (t : Taken). t.entry.position < n) ts
+    → users (map (λ (t : Taken). t.entry.position) ts) n ≡ length (map write_of ts)
 count_all n [] all = refl
 count_all n (t ∷ ts) all =
-    ap (λ b. length (cond b (t.entry.position ∷ filter (λ q. nat_lt q n) (map (λ (t : Taken). t.entry.position) ts)) (filter (λ q. nat_lt q n) (map (λ (t : Taken). t.entry.position) ts)))) (lt_true t.entry.position n all.0)
+    ap (λ b. length (cond b (t.entry.position ∷ filter (λ q. nat_lt q n) (map (λ (t : Taken). t.entry.position) ts))
+    (filter (λ q. nat_lt q n) (map (λ (t : Taken). t.entry.position) ts)))) (lt_true t.entry.position n all.0)
     ∙ ap suc (count_all n ts all.1)
 
 pub history_count : (i : Image) (w : World) → IsSimpleMount i w → users (user_positions (log_of w 0)) (taken (log_of w 0)) ≡ length (history (log_of w 0))

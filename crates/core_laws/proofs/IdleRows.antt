@@ -24,7 +24,8 @@ use Rattle.lemmas.proofs.Parts.{all_at, within_some}
 
 -- ---- each stripe was placed in an opened line
 
-lives_step : (i : Image) (us : ℕ → List ℕ) (w : World) (knows : List ℕ) (x : Event) → IsNextEvent i us w (record { event = x; knows = knows }) → AllByRecursion (λ p. is_opened p.life ≡ true) (placements (log_of w 0))
+lives_step : (i : Image) (us : ℕ → List ℕ) (w : World) (knows : List ℕ) (x : Event) → IsNextEvent i us w (record { event = x; knows = knows })
+    → AllByRecursion (λ p. is_opened p.life ≡ true) (placements (log_of w 0))
     → AllByRecursion (λ p. is_opened p.life ≡ true) (placements (log_of w 0 ++ record { event = x; knows = knows } ∷ []))
 lives_step i us w knows (Decides (Place stripe)) next all =
     let log : List Logged = log_of w 0 in
@@ -37,27 +38,32 @@ lives_step i us w knows x next all =
     subst (AllByRecursion (λ (p : Placed). is_opened p.life ≡ true)) (sym (placements_more (log_of w 0) l ∙ append-nil (placements (log_of w 0)))) all
 
 pub placed_in_opened : (i : Image) (us : ℕ → List ℕ) (w : World) → IsFollowed i us w → AllByRecursion (λ p. is_opened p.life ≡ true) (placements (log_of w 0))
-placed_in_opened i us w is = by_events i us (λ log. AllByRecursion (λ (p : Placed). is_opened p.life ≡ true) (placements log)) tt (λ v l next all. lives_step i us v l.knows l.event next all) w is
+placed_in_opened i us w is = by_events i us (λ log. AllByRecursion (λ (p : Placed). is_opened p.life ≡ true) (placements log)) tt
+    (λ v l next all. lives_step i us v l.knows l.event next all) w is
 
 -- ---- rows
 
-row_busy : (i : Image) (logs : Logs) (b : Bool) (life : LineLife) (p : Placed) → is_opened life ≡ true → stopped_in (row_in i logs b life p) ≡ None → is_under_way (row_in i logs b life p) ≡ true
+row_busy : (i : Image) (logs : Logs) (b : Bool) (life : LineLife) (p : Placed) → is_opened life ≡ true → stopped_in (row_in i logs b life p) ≡ None
+    → is_under_way (row_in i logs b life p) ≡ true
 row_busy i logs true (Opened o) p opened none = absurd (none-some (program_of_placed i logs o p) (sym none))
 row_busy i logs false (Opened o) p opened none = refl
 row_busy i logs b AsFound p opened none = absurd cc
 row_busy i logs b (Freed past knows) p opened none = absurd cc
 
 -- a row that is neither under way nor stopped is of no stripe that isn't answered, and the other way round
-pub is_idle : (i : Image) (us : ℕ → List ℕ) (w : World) (again : List ℕ) (unit : ℕ) → IsFollowed i us w → is_under_way (row_of i (log_of w) again unit) ≡ false → stopped_in (row_of i (log_of w) again unit) ≡ None
+pub is_idle : (i : Image) (us : ℕ → List ℕ) (w : World) (again : List ℕ) (unit : ℕ) → IsFollowed i us w → is_under_way (row_of i (log_of w) again unit) ≡ false
+    → stopped_in (row_of i (log_of w) again unit) ≡ None
     → length (answers (log_of w 0) unit) ≡ length (placed_on (log_of w 0) unit)
 is_idle i us w again unit is idle none = go (unanswered_on (log_of w 0) unit) refl idle none
   where
-    go : (o : Option Placed) → unanswered_on (log_of w 0) unit ≡ o → is_under_way (option_map_or (λ p. row_in i (log_of w) (waits_again (log_of w 0) again unit) p.life p) o Idle) ≡ false
+    go : (o : Option Placed) → unanswered_on (log_of w 0) unit ≡ o
+        → is_under_way (option_map_or (λ p. row_in i (log_of w) (waits_again (log_of w 0) again unit) p.life p) o Idle) ≡ false
         → stopped_in (option_map_or (λ p. row_in i (log_of w) (waits_again (log_of w 0) again unit) p.life p) o Idle) ≡ None
         → length (answers (log_of w 0) unit) ≡ length (placed_on (log_of w 0) unit)
     go None e f g =
         let most : length (answers (log_of w 0) unit) ≤ length (placed_on (log_of w 0) unit) = answers_fit i w unit is.simple.mount.legal in
-        let least : length (placed_on (log_of w 0) unit) ≤ length (answers (log_of w 0) unit) = none_past (placed_on (log_of w 0) unit) (length (answers (log_of w 0) unit)) e in
+        let least : length (placed_on (log_of w 0) unit) ≤ length (answers (log_of w 0) unit) =
+        none_past (placed_on (log_of w 0) unit) (length (answers (log_of w 0) unit)) e in
         omega arith
       where
         none_past : {X : Type 0} (xs : List X) (k : ℕ) → slice_get xs k ≡ None → length xs ≤ k
@@ -65,13 +71,17 @@ is_idle i us w again unit is idle none = go (unanswered_on (log_of w 0) unit) re
         none_past (x ∷ xs) zero h = absurd cc
         none_past (x ∷ xs) (suc k) h = let rest : length xs ≤ k = none_past xs k h in omega arith
     go (Some p) e f g =
-        let opened : is_opened p.life ≡ true = all_at (λ (p : Placed). is_opened p.life ≡ true) (placed_on (log_of w 0) unit) (length (answers (log_of w 0) unit)) p e
+        let opened : is_opened p.life ≡ true =
+        all_at (λ (p : Placed). is_opened p.life ≡ true) (placed_on (log_of w 0) unit) (length (answers (log_of w 0) unit)) p e
         (all_filter (λ (p : Placed). is_opened p.life ≡ true) (λ (p : Placed). p.stripe.unit == unit) (placements (log_of w 0)) (placed_in_opened i us w is)) in
-        let under : is_under_way (row_in i (log_of w) (waits_again (log_of w 0) again unit) p.life p) ≡ true = row_busy i (log_of w) (waits_again (log_of w 0) again unit) p.life p opened g in
+        let under : is_under_way (row_in i (log_of w) (waits_again (log_of w 0) again unit) p.life p) ≡ true =
+        row_busy i (log_of w) (waits_again (log_of w 0) again unit) p.life p opened g in
         absurd cc
 
-pub row_there : (i : Image) (logs : Logs) (again : List ℕ) (unit : ℕ) → unit < units i.shape → slice_get (map (row_of i logs again) (range_with_len 0 (units i.shape))) unit ≡ Some (row_of i logs again unit)
-row_there i logs again unit inside = let from : 0 + unit ≡ unit = omega arith in get_mapped (row_of i logs again) 0 (units i.shape) unit inside ∙ ap (λ u. Some (row_of i logs again u)) from
+pub row_there : (i : Image) (logs : Logs) (again : List ℕ) (unit : ℕ) → unit < units i.shape
+    → slice_get (map (row_of i logs again) (range_with_len 0 (units i.shape))) unit ≡ Some (row_of i logs again unit)
+row_there i logs again unit inside = let from : 0 + unit ≡ unit = omega arith in get_mapped (row_of i logs again) 0 (units i.shape) unit inside
+    ∙ ap (λ u. Some (row_of i logs again u)) from
 
 -- ---- stopped stripes
 
@@ -97,7 +107,8 @@ pub not_again : (i : Image) (logs : Logs) (again : List ℕ) (a n k : ℕ) (of :
 not_again i logs again a zero k of none there = absurd (none-some of there)
 not_again i logs again a (suc n) k of none there = go (stopped_in (row_of i logs again a)) refl k there (λ m h. not_again i logs again (a + 1) n m of none h)
   where
-    go : (o : Option Program) → stopped_in (row_of i logs again a) ≡ o → (k : ℕ) → slice_get (cons_option o (filter_map stopped_in (map (row_of i logs again) (range_with_len (a + 1) n)))) k ≡ Some of
+    go : (o : Option Program) → stopped_in (row_of i logs again a) ≡ o → (k : ℕ)
+        → slice_get (cons_option o (filter_map stopped_in (map (row_of i logs again) (range_with_len (a + 1) n)))) k ≡ Some of
         → ((m : ℕ) → slice_get (filter_map stopped_in (map (row_of i logs again) (range_with_len (a + 1) n))) m ≡ Some of → ⊥) → ⊥
     go None e k there rest = rest k there
     go (Some x) e zero there rest =
@@ -108,9 +119,12 @@ not_again i logs again a (suc n) k of none there = go (stopped_in (row_of i logs
 -- ---- answers
 
 -- a unit of which each stripe has an answer
-pub all_answered : (log : List Logged) (unit : ℕ) (p : Placed) → length (answers log unit) ≡ length (placed_on log unit) → IsAmong (placed_on log unit) p → p.stripe.unit ≡ unit → is_answered log p ≡ true
+pub all_answered : (log : List Logged) (unit : ℕ) (p : Placed) → length (answers log unit) ≡ length (placed_on log unit) → IsAmong (placed_on log unit) p
+    → p.stripe.unit ≡ unit → is_answered log p ≡ true
 all_answered log unit p idle among same =
-    let turn_is : slice_get (placed_on log p.stripe.unit) (turn log p) ≡ Some p = stands_at_turn log p (from_filter (λ (q : Placed). q.stripe.unit == unit) (placements log) p among) in
+    let turn_is : slice_get (placed_on log p.stripe.unit) (turn log p) ≡ Some p =
+    stands_at_turn log p (from_filter (λ (q : Placed). q.stripe.unit == unit) (placements log) p among) in
     let inside : turn log p < length (placed_on log p.stripe.unit) = slice_get_within (placed_on log p.stripe.unit) (turn log p) p turn_is in
-    let count : length (answers log p.stripe.unit) ≡ length (placed_on log p.stripe.unit) = subst (λ u. length (answers log u) ≡ length (placed_on log u)) (sym same) idle in
+    let count : length (answers log p.stripe.unit) ≡ length (placed_on log p.stripe.unit) =
+    subst (λ u. length (answers log u) ≡ length (placed_on log u)) (sym same) idle in
     within_some (answers log p.stripe.unit) (turn log p) (omega arith)

@@ -22,7 +22,8 @@ told_by_event i w k l h = same_told i h.before (prefixes l (log_of w)) h.legal (
       ∙ known_part i w 0 k (suc unit) l m h there;
 })
 
-pub known_by_prefix : (i : Image) (w : World) (k : ℕ) (l : Logged) → IsLegal i w → slice_get (log_of w 0) k ≡ Some l → known_image i (prefixes l (log_of w)) ≡ known_image i (engine_prefix k (log_of w))
+pub known_by_prefix : (i : Image) (w : World) (k : ℕ) (l : Logged) → IsLegal i w → slice_get (log_of w 0) k ≡ Some l
+    → known_image i (prefixes l (log_of w)) ≡ known_image i (engine_prefix k (log_of w))
 known_by_prefix i w k l legal there =
     let h : IsMade i w 0 k l = made i w 0 k l legal there in
     image_same i (log_of h.before) (prefixes l (log_of w)) (told_by_event i w k l h)

@@ -19,14 +19,16 @@ pub record IsKept (i : Image) (test : Event → Bool) (P : List Logged → Type 
   pub next : (known : Logs) (log : List Logged) (beginning : Begun) (e : EngineEvent) (knows : List ℕ) → begun log ≡ Some beginning → known 0 ≡ log
       → test (Decides e) ≡ true → IsDecision i known beginning e → P log → P (log ++ record { event = Decides e; knows = knows } ∷ [])
 
-kept_next : (i : Image) (test : Event → Bool) (P : List Logged → Type 0) → IsKept i test P → (known : Logs) (log : List Logged) (e : Event) (knows : List ℕ) → known 0 ≡ log → test e ≡ true → IsAllowed i 0 e known → P log
+kept_next : (i : Image) (test : Event → Bool) (P : List Logged → Type 0) → IsKept i test P → (known : Logs) (log : List Logged) (e : Event) (knows : List ℕ)
+    → known 0 ≡ log → test e ≡ true → IsAllowed i 0 e known → P log
     → P (log ++ record { event = e; knows = knows } ∷ [])
 kept_next i test P keeps known log (Decides (Begin b)) knows own passes may was =
     subst (λ (xs : List Logged). P (xs ++ record { event = Decides (Begin b); knows = knows } ∷ [])) (sym may.is_first ∙ own) (keeps.first known b knows may)
 kept_next i test P keeps known log (Decides e) knows own passes may was = keeps.next known log may.0 e knows (ap begun (sym own) ∙ may.1) own passes may.2 was
 kept_next i test P keeps known log (Does e maker) knows own passes may was = absurd may
 
-kept_by : (i : Image) (test : Event → Bool) (P : List Logged → Type 0) → IsKept i test P → (s : Step) (w : World) → IsLegalStep i (log_of w) s → (AllByRecursion (λ (l : Logged). test l.event ≡ true) (log_of w 0) → P (log_of w 0))
+kept_by : (i : Image) (test : Event → Bool) (P : List Logged → Type 0) → IsKept i test P → (s : Step) (w : World) → IsLegalStep i (log_of w) s
+    → (AllByRecursion (λ (l : Logged). test l.event ≡ true) (log_of w 0) → P (log_of w 0))
     → (b : Bool) → (s.author == 0) ≡ b → AllByRecursion (λ (l : Logged). test l.event ≡ true) (if b then log_of w 0 ++ s.logged ∷ [] else log_of w 0)
     → P (if b then log_of w 0 ++ s.logged ∷ [] else log_of w 0)
 kept_by i test P keeps s w step was false e all = was all
@@ -38,7 +40,8 @@ kept_by i test P keeps s w step was true e all =
     kept_next i test P keeps (prefixes s.logged (log_of w)) (log_of w 0) s.logged.event s.logged.knows whole parts.1.0
     (subst (λ a. IsAllowed i a s.logged.event (prefixes s.logged (log_of w))) engine step.allowed) (was parts.0)
 
-pub kept : (i : Image) (test : Event → Bool) (P : List Logged → Type 0) → IsKept i test P → (w : World) → IsLegal i w → AllByRecursion (λ (l : Logged). test l.event ≡ true) (log_of w 0) → P (log_of w 0)
+pub kept : (i : Image) (test : Event → Bool) (P : List Logged → Type 0) → IsKept i test P → (w : World) → IsLegal i w
+    → AllByRecursion (λ (l : Logged). test l.event ≡ true) (log_of w 0) → P (log_of w 0)
 unfolding IsLegal
 kept i test P keeps [] legal all = keeps.empty
 kept i test P keeps (s ∷ w) legal all = kept_by i test P keeps s w legal.0 (kept i test P keeps w legal.1) (s.author == 0) refl all

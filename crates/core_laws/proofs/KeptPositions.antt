@@ -22,7 +22,8 @@ pub marked_after : (i : Image) (known : Logs) (log : List Logged) (beginning : B
 marked_after i known log beginning (Take entry mark) knows may is =
     let l : Logged = record { event = Decides (Take entry mark); knows = knows } in
     subst (AllByRecursion (λ (t : Taken). t.mark.position ≡ t.entry.position)) (sym (takes_more log l))
-    (all_append (λ (t : Taken). t.mark.position ≡ t.entry.position) (takes log) (record { entry = entry; mark = mark } ∷ []) is (marked i known entry mark entry.source may.marked, tt))
+    (all_append (λ (t : Taken). t.mark.position ≡ t.entry.position) (takes log) (record { entry = entry; mark = mark } ∷ []) is
+    (marked i known entry mark entry.source may.marked, tt))
 marked_after i known log beginning e knows may is =
     let l : Logged = record { event = Decides e; knows = knows } in
     subst (AllByRecursion (λ (t : Taken). t.mark.position ≡ t.entry.position)) (sym (takes_more log l ∙ append-nil (takes log))) is
@@ -30,28 +31,35 @@ marked_after i known log beginning e knows may is =
 taken_grows : (log : List Logged) (l : Logged) (b : Begun) → begun log ≡ Some b → taken log ≤ taken (log ++ l ∷ [])
 taken_grows log l b begins =
     let first : first_position (log ++ l ∷ []) ≡ first_position log = first_stays log l b begins in
-    let count : length (takes (log ++ l ∷ [])) ≡ length (takes log) + length (option_to_list (taken_by l.event)) = ap (λ (ts : List Taken). length ts) (takes_more log l) ∙ length-append (takes log) (option_to_list (taken_by l.event)) in
+    let count : length (takes (log ++ l ∷ [])) ≡ length (takes log) + length (option_to_list (taken_by l.event)) =
+    ap (λ (ts : List Taken). length ts) (takes_more log l) ∙ length-append (takes log) (option_to_list (taken_by l.event)) in
     omega arith
 
-placed_now : (i : Image) (known : Logs) (log : List Logged) (beginning : Begun) (e : EngineEvent) (n : ℕ) → i.shape.capacity ≤ meta_lba → known 0 ≡ log → IsDecision i known beginning e → AreNumbered log → AreMarked log
-    → taken log ≤ n → AllByRecursion (λ (p : Placed). (q : ℕ) → holds_position i.shape q p ≡ true → q < n) (option_to_list (placed_by log (length log) (Decides e)))
+placed_now : (i : Image) (known : Logs) (log : List Logged) (beginning : Begun) (e : EngineEvent) (n : ℕ) → i.shape.capacity ≤ meta_lba → known 0 ≡ log
+    → IsDecision i known beginning e → AreNumbered log → AreMarked log
+    → taken log ≤ n → AllByRecursion (λ (p : Placed). (q : ℕ) → holds_position i.shape q p ≡ true → q < n)
+    (option_to_list (placed_by log (length log) (Decides e)))
 placed_now i known log beginning (Place stripe) n small own may numbered marked within = (
   λ q holds.
-      let below : q < taken (known 0) = placed_taken i known stripe small (subst AreNumbered (sym own) numbered) (subst AreMarked (sym own) marked) may q holds in
+      let below : q < taken (known 0) =
+      placed_taken i known stripe small (subst AreNumbered (sym own) numbered) (subst AreMarked (sym own) marked) may q holds in
       let same : taken (known 0) ≡ taken log = ap taken own in
       omega arith,
   tt,
 )
 placed_now i known log beginning e n small own may numbered marked within = tt
 
-pub taken_after : (i : Image) (known : Logs) (log : List Logged) (beginning : Begun) (e : EngineEvent) (knows : List ℕ) → i.shape.capacity ≤ meta_lba → begun log ≡ Some beginning → known 0 ≡ log → IsDecision i known beginning e
+pub taken_after : (i : Image) (known : Logs) (log : List Logged) (beginning : Begun) (e : EngineEvent) (knows : List ℕ) → i.shape.capacity ≤ meta_lba
+    → begun log ≡ Some beginning → known 0 ≡ log → IsDecision i known beginning e
     → AreNumbered log → AreMarked log → AreTaken i.shape log → AreTaken i.shape (log ++ record { event = Decides e; knows = knows } ∷ [])
 taken_after i known log beginning e knows small begins own may numbered marked is =
     let l : Logged = record { event = Decides e; knows = knows } in
     let n : ℕ = taken (log ++ l ∷ []) in
     let grows : taken log ≤ taken (log ++ l ∷ []) = taken_grows log l beginning begins in
     subst (AllByRecursion (λ (p : Placed). (q : ℕ) → holds_position i.shape q p ≡ true → q < taken (log ++ l ∷ []))) (sym (placements_more log l))
-    (all_append (λ (p : Placed). (q : ℕ) → holds_position i.shape q p ≡ true → q < taken (log ++ l ∷ [])) (placements log) (option_to_list (placed_by log (length log) (Decides e)))
-    (all_imply (λ (p : Placed). (q : ℕ) → holds_position i.shape q p ≡ true → q < taken log) (λ (p : Placed). (q : ℕ) → holds_position i.shape q p ≡ true → q < taken (log ++ l ∷ []))
+    (all_append (λ (p : Placed). (q : ℕ) → holds_position i.shape q p ≡ true → q < taken (log ++ l ∷ [])) (placements log)
+    (option_to_list (placed_by log (length log) (Decides e)))
+    (all_imply (λ (p : Placed). (q : ℕ) → holds_position i.shape q p ≡ true → q < taken log)
+    (λ (p : Placed). (q : ℕ) → holds_position i.shape q p ≡ true → q < taken (log ++ l ∷ []))
     (λ p below q holds. let inside : q < taken log = below q holds in omega arith) (placements log) is)
     (placed_now i known log beginning e (taken (log ++ l ∷ [])) small own may numbered marked grows))

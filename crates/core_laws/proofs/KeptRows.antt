@@ -33,13 +33,15 @@ begun_kept [] e knows none = none
 begun_kept (l ∷ log) e knows none = refl
 
 -- the event tells of no program that landed or was lost, and of no reset
-pub told_kept : (logs : Logs) (e : EngineEvent) (knows : List ℕ) (unit : ℕ) → told_by logs unit (Decides e) ≡ None → told_events (after logs e knows) unit ≡ told_events logs unit
+pub told_kept : (logs : Logs) (e : EngineEvent) (knows : List ℕ) (unit : ℕ) → told_by logs unit (Decides e) ≡ None
+    → told_events (after logs e knows) unit ≡ told_events logs unit
 told_kept logs e knows unit none =
     filter_map-append (λ (l : Logged). told_by logs unit l.event) (logs 0) (record { event = Decides e; knows = knows } ∷ [])
     ∙ ap (λ o. filter_map (λ (l : Logged). told_by logs unit l.event) (logs 0) ++ cons_option o []) none
     ∙ append-nil (filter_map (λ (l : Logged). told_by logs unit l.event) (logs 0))
 
-pub known_kept : (i : Image) (logs : Logs) (e : EngineEvent) (knows : List ℕ) → begun_by knows (Decides e) ≡ None → ((unit : ℕ) → told_by logs unit (Decides e) ≡ None)
+pub known_kept : (i : Image) (logs : Logs) (e : EngineEvent) (knows : List ℕ) → begun_by knows (Decides e) ≡ None
+    → ((unit : ℕ) → told_by logs unit (Decides e) ≡ None)
     → known_image i (after logs e knows) ≡ known_image i logs
 known_kept i logs e knows none untold =
     let new : Logs = after logs e knows in
@@ -58,28 +60,33 @@ pub record KeepsChunks (i : Image) (logs new : Logs) (line : ℕ) : Type 0 where
   pub empty : are_empty (known_image i new) line ≡ are_empty (known_image i logs) line
   pub wide : width (known_image i new) line ≡ width (known_image i logs) line
 
-state_found_same : (i : Image) (logs new : Logs) (line : ℕ) → KeepsChunks i logs new line → (o : Option StartRecord) → state_found i new line o ≡ state_found i logs line o
+state_found_same : (i : Image) (logs new : Logs) (line : ℕ) → KeepsChunks i logs new line → (o : Option StartRecord)
+    → state_found i new line o ≡ state_found i logs line o
 state_found_same i logs new line keeps None = ap₂ (λ b g. if b then (if data_len i.shape g == 0 then Dead else Free) else states.Freed) keeps.empty keeps.wide
 state_found_same i logs new line keeps (Some start) = ap (λ (f : Image). if is_some (end_of f line start) then Full else Failed) keeps.found
 
 pub state_same : (i : Image) (logs new : Logs) (line : ℕ) (life : LineLife) → KeepsChunks i logs new line → is_freed life ≡ false
-    → ((o : Opening) → life ≡ Opened o → state_in i new line (Opened o) ≡ state_in i logs line (Opened o)) → state_in i new line life ≡ state_in i logs line life
+    → ((o : Opening) → life ≡ Opened o → state_in i new line (Opened o) ≡ state_in i logs line (Opened o))
+    → state_in i new line life ≡ state_in i logs line life
 state_same i logs new line AsFound keeps freed opened =
     ap (λ (f : Image). state_found i new line (start_of f line)) keeps.found ∙ state_found_same i logs new line keeps (start_of (found_image i logs) line)
 state_same i logs new line (Opened o) keeps freed opened = opened o refl
 state_same i logs new line (Freed past knows) keeps freed opened = absurd cc
 
-pub width_same : (i : Image) (logs new : Logs) (line : ℕ) (life : LineLife) → KeepsChunks i logs new line → is_freed life ≡ false → width_in i new line life ≡ width_in i logs line life
+pub width_same : (i : Image) (logs new : Logs) (line : ℕ) (life : LineLife) → KeepsChunks i logs new line → is_freed life ≡ false
+    → width_in i new line life ≡ width_in i logs line life
 width_same i logs new line AsFound keeps freed =
     (λ k. if keeps.empty k then keeps.wide k else width (keeps.found k) line)
 width_same i logs new line (Opened o) keeps freed = refl
 width_same i logs new line (Freed past knows) keeps freed = absurd cc
 
 -- where each sector's entries are
-pub live_same : (i : Image) (logs new : Logs) (line : ℕ) → ((lba : ℕ) → is_live_in i new line lba ≡ is_live_in i logs line lba) → live i new line ≡ live i logs line
+pub live_same : (i : Image) (logs new : Logs) (line : ℕ) → ((lba : ℕ) → is_live_in i new line lba ≡ is_live_in i logs line lba)
+    → live i new line ≡ live i logs line
 live_same i logs new line same = ap length (filter_same (is_live_in i new line) (is_live_in i logs line) same (range_with_len 0 i.shape.capacity))
 
-pub taker_same : (i : Image) (logs new : Logs) (line : ℕ) (life : LineLife) → is_freed life ≡ false → taker_by i new line ≡ taker_by i logs line → taker_in i new line life ≡ taker_in i logs line life
+pub taker_same : (i : Image) (logs new : Logs) (line : ℕ) (life : LineLife) → is_freed life ≡ false → taker_by i new line ≡ taker_by i logs line
+    → taker_in i new line life ≡ taker_in i logs line life
 taker_same i logs new line AsFound freed same = same
 taker_same i logs new line (Opened o) freed same = same
 taker_same i logs new line (Freed past knows) freed same = absurd cc
@@ -90,7 +97,8 @@ pub record KeepsLines (i : Image) (logs new : Logs) : Type 0 where
   pub line_of : (lba : ℕ) (t : Option Taken) → line_of i new lba t ≡ line_of i logs lba t
   pub landed : (lba : ℕ) (t : Option Taken) → landed_line_of i new lba t ≡ landed_line_of i logs lba t
 
-pub live_by : (i : Image) (logs new : Logs) (line : ℕ) → takes (new 0) ≡ takes (logs 0) → ((lba : ℕ) (t : Option Taken) → line_of i new lba t ≡ line_of i logs lba t) → live i new line ≡ live i logs line
+pub live_by : (i : Image) (logs new : Logs) (line : ℕ) → takes (new 0) ≡ takes (logs 0)
+    → ((lba : ℕ) (t : Option Taken) → line_of i new lba t ≡ line_of i logs lba t) → live i new line ≡ live i logs line
 live_by i logs new line same places = live_same i logs new line (λ lba.
     ap (λ (ts : List Taken). is_of line (line_of i new lba (last_or None (filter (λ (t : Taken). t.mark.lba == lba) ts)))) same
     ∙ ap (is_of line) (places lba (last_take (logs 0) lba)))
@@ -100,13 +108,16 @@ live_kept i logs new line keeps = live_by i logs new line keeps.takes keeps.line
 
 took_same : (i : Image) (logs new : Logs) (line : ℕ) → KeepsLines i logs new → (t : Taken) → took_from i new line t ≡ took_from i logs line t
 took_same i logs new line keeps t = ap (λ b. nat_lt t.mark.lba i.shape.capacity && b)
-    (ap (λ (ts : List Taken). is_of line (landed_line_of i new t.mark.lba (last_or None (filter (λ (u : Taken). (u.mark.lba == t.mark.lba) && nat_lt u.entry.position t.entry.position) ts)))) keeps.takes
+    (ap (λ (ts : List Taken). is_of line
+    (landed_line_of i new t.mark.lba (last_or None (filter (λ (u : Taken). (u.mark.lba == t.mark.lba) && nat_lt u.entry.position t.entry.position) ts))))
+    keeps.takes
     ∙ ap (is_of line) (keeps.landed t.mark.lba (take_before (logs 0) t)))
 
 pub taker_kept : (i : Image) (logs new : Logs) (line : ℕ) → KeepsLines i logs new → taker_by i new line ≡ taker_by i logs line
 taker_kept i logs new line keeps =
     ap (λ (ts : List Taken). option_map (λ (t : Taken). t.entry.position) (last_or None ts))
-    (filter_same (took_from i new line) (took_from i logs line) (took_same i logs new line keeps) (takes (new 0)) ∙ ap (filter (took_from i logs line)) keeps.takes)
+    (filter_same (took_from i new line) (took_from i logs line) (took_same i logs new line keeps) (takes (new 0))
+    ∙ ap (filter (took_from i logs line)) keeps.takes)
 
 abbrev pub row_parts : LineState → ℕ → ℕ → Option ℕ → Row
 row_parts state wide sectors taker = record { state = state; width = wide; live = sectors; taker = taker }
@@ -115,7 +126,8 @@ pub same_row : (a b : LineState) (m n p q : ℕ) (s t : Option ℕ) → a ≡ b 
 same_row a b m n p q s t e f g h = λ k. row_parts (e k) (f k) (g k) (h k)
 
 -- a line whose life, chunks and entries are as they were
-pub row_kept : (i : Image) (logs new : Logs) (line : ℕ) → life_of (new 0) line ≡ life_of (logs 0) line → is_freed (life_of (logs 0) line) ≡ false → KeepsChunks i logs new line
+pub row_kept : (i : Image) (logs new : Logs) (line : ℕ) → life_of (new 0) line ≡ life_of (logs 0) line → is_freed (life_of (logs 0) line) ≡ false
+    → KeepsChunks i logs new line
     → KeepsLines i logs new → ((o : Opening) → life_of (logs 0) line ≡ Opened o → state_in i new line (Opened o) ≡ state_in i logs line (Opened o))
     → row_of_line i new line ≡ row_of_line i logs line
 row_kept i logs new line life freed chunks lines opened =

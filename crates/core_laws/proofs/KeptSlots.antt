@@ -25,7 +25,8 @@ use Rattle.pblk_world.proofs.EngineLogLemmas.{begun_kept}
 
 -- ---- the beginning
 
-pub first_kept : (log : List Logged) (e : EngineEvent) (knows : List ℕ) → begun_by knows (Decides e) ≡ None → first_position (log ++ record { event = Decides e; knows = knows } ∷ []) ≡ first_position log
+pub first_kept : (log : List Logged) (e : EngineEvent) (knows : List ℕ) → begun_by knows (Decides e) ≡ None
+    → first_position (log ++ record { event = Decides e; knows = knows } ∷ []) ≡ first_position log
 first_kept log e knows none = ap (λ (b : Option Begun). option_map_or (λ (b : Begun). b.beginning.first) b 0) (begun_kept log e knows none)
 
 -- ---- addresses
@@ -44,29 +45,38 @@ before_by n (Freed past k) none = tt
 pub lives_before : (log : List Logged) → AllByRecursion (λ (p : Placed). IsBefore (length log) p.life) (placements log)
 lives_before log = each (placements log) (λ n within. placed_before log n within)
   where
-    each : (ps : List Placed) → ((n : ℕ) → length log ≤ n → AllByRecursion (λ p. is_life n p.life ≡ false) ps) → AllByRecursion (λ (p : Placed). IsBefore (length log) p.life) ps
+    each : (ps : List Placed) → ((n : ℕ) → length log ≤ n → AllByRecursion (λ p. is_life n p.life ≡ false) ps)
+        → AllByRecursion (λ (p : Placed). IsBefore (length log) p.life) ps
     each [] all = tt
     each (p ∷ ps) all = (before_by (length log) p.life (λ n within. (all n within).0), each ps (λ n within. (all n within).1))
 
-pub address_kept : (i : Image) (logs : Logs) (e : EngineEvent) (knows : List ℕ) (life : LineLife) (p : Placed) (block : ℕ) → IsBefore (length (logs 0)) life → address_in i (after logs e knows) life p block ≡ address_in i logs life p block
+pub address_kept : (i : Image) (logs : Logs) (e : EngineEvent) (knows : List ℕ) (life : LineLife) (p : Placed) (block : ℕ) → IsBefore (length (logs 0)) life
+    → address_in i (after logs e knows) life p block ≡ address_in i logs life p block
 address_kept i logs e knows AsFound p block before = refl
-address_kept i logs e knows (Opened o) p block before = ap (λ (l : OpenLine). number_of i.shape l p.stripe * i.shape.ws_opt + (block - p.stripe.at)) (as_opened_same i logs e knows o before)
+address_kept i logs e knows (Opened o) p block before =
+    ap (λ (l : OpenLine). number_of i.shape l p.stripe * i.shape.ws_opt + (block - p.stripe.at)) (as_opened_same i logs e knows o before)
 address_kept i logs e knows (Freed past k) p block before = refl
 
-pub media_by : (i : Image) (logs : Logs) (e : EngineEvent) (knows : List ℕ) (position : ℕ) (p : Placed) → IsBefore (length (logs 0)) p.life → readable_block i (after logs e knows) position p ≡ readable_block i logs position p
+pub media_by : (i : Image) (logs : Logs) (e : EngineEvent) (knows : List ℕ) (position : ℕ) (p : Placed) → IsBefore (length (logs 0)) p.life
+    → readable_block i (after logs e knows) position p ≡ readable_block i logs position p
     → media_of i (after logs e knows) position p ≡ media_of i logs position p
 media_by i logs e knows position p before same = ap (λ a. Media p.stripe.line a position)
-    (ap (λ b. address_in i (after logs e knows) p.life p (unwrap_or b 0)) same ∙ address_kept i logs e knows p.life p (unwrap_or (readable_block i logs position p) 0) before)
+    (ap (λ b. address_in i (after logs e knows) p.life p (unwrap_or b 0)) same
+    ∙ address_kept i logs e knows p.life p (unwrap_or (readable_block i logs position p) 0) before)
 
 -- ---- slots, where no stripe changes
 
-block_kept : (i : Image) (logs : Logs) (e : EngineEvent) (knows : List ℕ) (position : ℕ) (p : Placed) → AreKept (logs 0) (after logs e knows 0) → readable_block i (after logs e knows) position p ≡ readable_block i logs position p
+block_kept : (i : Image) (logs : Logs) (e : EngineEvent) (knows : List ℕ) (position : ℕ) (p : Placed) → AreKept (logs 0) (after logs e knows 0)
+    → readable_block i (after logs e knows) position p ≡ readable_block i logs position p
 block_kept i logs e knows position p kept =
     ap (option_map (λ (b : ℕ × Block). b.0))
-    (find_same (λ (b : ℕ × Block). bears_position i.shape position b.1 && is_readable_in i.shape (after logs e knows 0) p.stripe.unit b.0 p.life) (λ (b : ℕ × Block). bears_position i.shape position b.1 && is_readable_in i.shape (logs 0) p.stripe.unit b.0 p.life)
-    (λ b. ap (λ c. bears_position i.shape position b.1 && c) (readable_kept i.shape (logs 0) (after logs e knows 0) kept p.stripe.unit b.0 p.life)) (enumerate_from p.stripe.at p.stripe.blocks))
+    (find_same (λ (b : ℕ × Block). bears_position i.shape position b.1 && is_readable_in i.shape (after logs e knows 0) p.stripe.unit b.0 p.life)
+    (λ (b : ℕ × Block). bears_position i.shape position b.1 && is_readable_in i.shape (logs 0) p.stripe.unit b.0 p.life)
+    (λ b. ap (λ c. bears_position i.shape position b.1 && c) (readable_kept i.shape (logs 0) (after logs e knows 0) kept p.stripe.unit b.0 p.life))
+    (enumerate_from p.stripe.at p.stripe.blocks))
 
-entry_kept : (i : Image) (logs : Logs) (e : EngineEvent) (knows : List ℕ) (position : ℕ) → AreKept (logs 0) (after logs e knows 0) → slot_of_entry i (after logs e knows) position ≡ slot_of_entry i logs position
+entry_kept : (i : Image) (logs : Logs) (e : EngineEvent) (knows : List ℕ) (position : ℕ) → AreKept (logs 0) (after logs e knows 0)
+    → slot_of_entry i (after logs e knows) position ≡ slot_of_entry i logs position
 entry_kept i logs e knows position kept =
     let new : Logs = after logs e knows in
     ap (λ (o : Option Placed). option_map_or (media_of i new position) o (Cached position))
@@ -82,11 +92,13 @@ entry_kept i logs e knows position kept =
         (find_all (λ (p : Placed). IsBefore (length (logs 0)) p.life) (gives_back i.shape (logs 0) position) (placements (logs 0)) p f (lives_before (logs 0)))
         (block_kept i logs e knows position p kept)
 
-slot_by_kept : (i : Image) (logs : Logs) (e : EngineEvent) (knows : List ℕ) (lba : ℕ) (t : Option Taken) → AreKept (logs 0) (after logs e knows 0) → begun_by knows (Decides e) ≡ None → slot_by i (after logs e knows) lba t ≡ slot_by i logs lba t
+slot_by_kept : (i : Image) (logs : Logs) (e : EngineEvent) (knows : List ℕ) (lba : ℕ) (t : Option Taken) → AreKept (logs 0) (after logs e knows 0)
+    → begun_by knows (Decides e) ≡ None → slot_by i (after logs e knows) lba t ≡ slot_by i logs lba t
 slot_by_kept i logs e knows lba None kept none = ap (λ f. slot_of_winner (winner (counted f) lba)) (found_kept i logs e knows none)
 slot_by_kept i logs e knows lba (Some t) kept none = entry_kept i logs e knows t.entry.position kept
 
-pub slot_kept : (i : Image) (logs : Logs) (e : EngineEvent) (knows : List ℕ) (lba : ℕ) → AreKept (logs 0) (after logs e knows 0) → takes (after logs e knows 0) ≡ takes (logs 0) → begun_by knows (Decides e) ≡ None
+pub slot_kept : (i : Image) (logs : Logs) (e : EngineEvent) (knows : List ℕ) (lba : ℕ) → AreKept (logs 0) (after logs e knows 0)
+    → takes (after logs e knows 0) ≡ takes (logs 0) → begun_by knows (Decides e) ≡ None
     → slot_of i (after logs e knows) lba ≡ slot_of i logs lba
 slot_kept i logs e knows lba kept same none =
     ap (λ (ts : List Taken). slot_by i (after logs e knows) lba (last_or None (filter (λ (t : Taken). t.mark.lba == lba) ts))) same

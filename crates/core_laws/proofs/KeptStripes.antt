@@ -22,7 +22,8 @@ pub record KeepsStripes (log new : List Logged) : Type 0 where
   pub losses : (p : Placed) → was_lost new p ≡ was_lost log p
 
 loss_by : (unit : ℕ) (e : EngineEvent) → keeps_stripes e ≡ true → is_loss (answer_by unit (Decides e)) ≡ false
-loss_by unit (Landed other event) keeps = elim (other == unit) as (λ b. is_loss (if b then Some (DidLand event) else None) ≡ false) [ true ↦ refl | false ↦ refl ]
+loss_by unit (Landed other event) keeps =
+    elim (other == unit) as (λ b. is_loss (if b then Some (DidLand event) else None) ≡ false) [ true ↦ refl | false ↦ refl ]
 loss_by unit (Lost other event) keeps = absurd cc
 loss_by unit e keeps = refl
 
@@ -47,7 +48,8 @@ stripes_kept log e knows keeps = record {
   placements = placements_kept log e knows keeps;
   losses = λ p.
       ap₂ (λ (xs : List Answer) k. is_loss (slice_get xs k)) (answers_more log (record { event = Decides e; knows = knows }) p.stripe.unit)
-      (ap (λ ps. length (filter (λ (q : Placed). nat_lt q.number p.number) (filter (λ (q : Placed). q.stripe.unit == p.stripe.unit) ps))) (placements_kept log e knows keeps))
+      (ap (λ ps. length (filter (λ (q : Placed). nat_lt q.number p.number) (filter (λ (q : Placed). q.stripe.unit == p.stripe.unit) ps)))
+      (placements_kept log e knows keeps))
       ∙ loss_more (answers log p.stripe.unit) (answer_by p.stripe.unit (Decides e)) (turn log p) (loss_by p.stripe.unit e keeps);
 }
 
@@ -58,17 +60,20 @@ also_stripes (Lost unit event) keeps = absurd cc
 also_stripes (Free line) keeps = refl
 also_stripes e keeps = refl
 
-pub lives_kept : (log : List Logged) (e : EngineEvent) (knows : List ℕ) (line : ℕ) → keeps_addresses e ≡ true → life_of (with_event log e knows) line ≡ life_of log line
+pub lives_kept : (log : List Logged) (e : EngineEvent) (knows : List ℕ) (line : ℕ) → keeps_addresses e ≡ true
+    → life_of (with_event log e knows) line ≡ life_of log line
 lives_kept log (Open other start) knows line keeps = absurd cc
 lives_kept log (Free other) knows line keeps = absurd cc
 lives_kept log e knows line keeps = life_more log (record { event = Decides e; knows = knows }) line
 
 -- and nothing is answered
-pub alike_kept : (log : List Logged) (e : EngineEvent) (knows : List ℕ) → keeps_stripes e ≡ true → ((unit : ℕ) → answer_by unit (Decides e) ≡ None) → AreAlike log (with_event log e knows)
+pub alike_kept : (log : List Logged) (e : EngineEvent) (knows : List ℕ) → keeps_stripes e ≡ true → ((unit : ℕ) → answer_by unit (Decides e) ≡ None)
+    → AreAlike log (with_event log e knows)
 alike_kept log e knows keeps none = record {
   placements = placements_kept log e knows keeps;
   answers = fun_same (answers (with_event log e knows)) (answers log)
-      (λ unit. answers_more log (record { event = Decides e; knows = knows }) unit ∙ ap (λ o. answers log unit ++ option_to_list o) (none unit) ∙ append-nil (answers log unit));
+      (λ unit. answers_more log (record { event = Decides e; knows = knows }) unit ∙ ap (λ o. answers log unit ++ option_to_list o) (none unit)
+      ∙ append-nil (answers log unit));
 }
 
 all_same : {X : Type 0} (f g : X → Bool) → ((x : X) → f x ≡ g x) → (xs : List X) → list_all f xs ≡ list_all g xs
@@ -77,5 +82,6 @@ all_same f g same (x ∷ xs) = ap₂ (λ a b. a && b) (same x) (all_same f g sam
 
 pub have_landed_alike : (log new : List Logged) → AreAlike log new → (o : Opening) (n : ℕ) → have_landed new o n ≡ have_landed log o n
 have_landed_alike log new same o n =
-    ap (λ ps. nat_le n (length (filter (λ (p : Placed). is_life o.number p.life) ps)) && list_all (has_landed new) (take n (filter (λ (p : Placed). is_life o.number p.life) ps))) same.placements
+    ap (λ ps. nat_le n (length (filter (λ (p : Placed). is_life o.number p.life) ps)) && list_all (has_landed new)
+    (take n (filter (λ (p : Placed). is_life o.number p.life) ps))) same.placements
     ∙ ap (λ b. nat_le n (length (stripes_of log o)) && b) (all_same (has_landed new) (has_landed log) (landed_same log new same) (take n (stripes_of log o)))

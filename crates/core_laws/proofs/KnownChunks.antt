@@ -26,18 +26,23 @@ use Rattle.pblk_model.proofs.UnitLogLemmas.{event_beside}
 
 -- ---- prefixes of a list, one by one
 
-pub by_prefixes : {X : Type 0} (xs : List X) (Q : ℕ → Type 0) → Q 0 → ((k : ℕ) (x : X) → slice_get xs k ≡ Some x → Q k → Q (suc k)) → (k : ℕ) → k ≤ length xs → Q k
+pub by_prefixes : {X : Type 0} (xs : List X) (Q : ℕ → Type 0) → Q 0 → ((k : ℕ) (x : X) → slice_get xs k ≡ Some x → Q k → Q (suc k)) → (k : ℕ) → k ≤ length xs
+    → Q k
 by_prefixes xs Q first next zero h = first
 by_prefixes xs Q first next (suc k) h = let at = got_within xs k (omega arith) in next k at.0 at.1 (by_prefixes xs Q first next k (omega arith))
 
 -- ---- the units of an image
 
-get_numbered : {X Y : Type 0} (f : ℕ → X → Y) (n : ℕ) (xs : List X) (u : ℕ) → slice_get (map (λ (e : ℕ × X). f e.0 e.1) (enumerate_from n xs)) u ≡ option_map (f (n + u)) (slice_get xs u)
+get_numbered : {X Y : Type 0} (f : ℕ → X → Y) (n : ℕ) (xs : List X) (u : ℕ)
+    → slice_get (map (λ (e : ℕ × X). f e.0 e.1) (enumerate_from n xs)) u ≡ option_map (f (n + u)) (slice_get xs u)
 get_numbered f n [] u = refl
 get_numbered f n (x ∷ xs) zero = let same : n ≡ n + 0 = omega arith in ap (λ m. Some (f m x)) same
-get_numbered f n (x ∷ xs) (suc u) = let same : n + 1 + u ≡ n + suc u = omega arith in get_numbered f (n + 1) xs u ∙ ap (λ m. option_map (f m) (slice_get xs u)) same
+get_numbered f n (x ∷ xs) (suc u) = let same : n + 1 + u ≡ n + suc u = omega arith in get_numbered f (n + 1) xs u
+    ∙ ap (λ m. option_map (f m) (slice_get xs u)) same
 
-pub known_get : (i : Image) (logs : Logs) (u : ℕ) → slice_get (known_image i logs).units u ≡ option_map (λ (cs : List Chunk). after_log i.shape cs (told_events logs u)) (slice_get (found_image i logs).units u)
+pub known_get : (i : Image) (logs : Logs) (u : ℕ)
+    → slice_get (known_image i logs).units u ≡ option_map (λ (cs : List Chunk). after_log i.shape cs (told_events logs u))
+    (slice_get (found_image i logs).units u)
 known_get i logs u =
     let same : 0 + u ≡ u = omega arith in
     get_numbered (λ v (cs : List Chunk). after_log i.shape cs (told_events logs v)) 0 (found_image i logs).units u
@@ -45,13 +50,16 @@ known_get i logs u =
 
 -- ---- one more event
 
-found_next : (i : Image) (logs : Logs) (k : ℕ) (l : Logged) (b : Begun) → slice_get (logs 0) k ≡ Some l → begun (take k (logs 0)) ≡ Some b → found_image i (engine_prefix (suc k) logs) ≡ found_image i (engine_prefix k logs)
-found_next i logs k l b there begins = by_begun (begun (take (suc k) (logs 0))) (ap (λ (xs : List Logged). begun xs) (take_next (logs 0) k l there) ∙ begun_stays (take k (logs 0)) l b begins)
+found_next : (i : Image) (logs : Logs) (k : ℕ) (l : Logged) (b : Begun) → slice_get (logs 0) k ≡ Some l → begun (take k (logs 0)) ≡ Some b
+    → found_image i (engine_prefix (suc k) logs) ≡ found_image i (engine_prefix k logs)
+found_next i logs k l b there begins =
+    by_begun (begun (take (suc k) (logs 0))) (ap (λ (xs : List Logged). begun xs) (take_next (logs 0) k l there) ∙ begun_stays (take k (logs 0)) l b begins)
   where
     of_some : (c : Begun) → found_by i (engine_prefix (suc k) logs) (Some c) ≡ found_by i (engine_prefix k logs) (Some c)
     of_some c = refl
 
-    by_begun : (o : Option Begun) → o ≡ begun (take k (logs 0)) → found_by i (engine_prefix (suc k) logs) o ≡ found_by i (engine_prefix k logs) (begun (take k (logs 0)))
+    by_begun : (o : Option Begun) → o ≡ begun (take k (logs 0))
+        → found_by i (engine_prefix (suc k) logs) o ≡ found_by i (engine_prefix k logs) (begun (take k (logs 0)))
     by_begun o e = ap (found_by i (engine_prefix (suc k) logs)) (e ∙ begins) ∙ of_some b ∙ ap (found_by i (engine_prefix k logs)) (sym begins)
 
 pub told_units : (logs : Logs) (k unit : ℕ) (e : Event) → told_by (engine_prefix k logs) unit e ≡ told_by logs unit e
@@ -60,7 +68,8 @@ told_units logs k unit (Decides (Lost other n)) = refl
 told_units logs k unit (Decides (ResetDone other n)) = refl
 told_units logs k unit e = refl
 
-told_next : (logs : Logs) (k u : ℕ) (l : Logged) → slice_get (logs 0) k ≡ Some l → told_events (engine_prefix (suc k) logs) u ≡ told_events (engine_prefix k logs) u ++ option_to_list (told_by (engine_prefix (suc k) logs) u l.event)
+told_next : (logs : Logs) (k u : ℕ) (l : Logged) → slice_get (logs 0) k ≡ Some l
+    → told_events (engine_prefix (suc k) logs) u ≡ told_events (engine_prefix k logs) u ++ option_to_list (told_by (engine_prefix (suc k) logs) u l.event)
 told_next logs k u l there =
     ap (filter_map (λ (m : Logged). told_by (engine_prefix (suc k) logs) u m.event)) (take_next (logs 0) k l there)
     ∙ filter_map-append (λ (m : Logged). told_by (engine_prefix (suc k) logs) u m.event) (take k (logs 0)) (l ∷ [])
@@ -70,7 +79,8 @@ told_next logs k u l there =
     one_more None = refl
     one_more (Some e) = refl
 
-    alike : (ms : List Logged) → filter_map (λ (m : Logged). told_by (engine_prefix (suc k) logs) u m.event) ms ≡ filter_map (λ (m : Logged). told_by (engine_prefix k logs) u m.event) ms
+    alike : (ms : List Logged) → filter_map (λ (m : Logged). told_by (engine_prefix (suc k) logs) u m.event) ms ≡ filter_map
+        (λ (m : Logged). told_by (engine_prefix k logs) u m.event) ms
     alike [] = refl
     alike (m ∷ ms) = ap₂ (λ o xs. cons_option o xs) (told_units logs (suc k) u m.event ∙ sym (told_units logs k u m.event)) (alike ms)
 
@@ -81,15 +91,20 @@ mapped_twice f g h same (Some x) = ap (λ y. Some y) (same x)
 -- the chunks of a unit after one more event of the engine
 pub known_next : (i : Image) (logs : Logs) (k u : ℕ) (l : Logged) (b : Begun) → slice_get (logs 0) k ≡ Some l → begun (take k (logs 0)) ≡ Some b
     → slice_get (known_image i (engine_prefix (suc k) logs)).units u
-    ≡ option_map (λ (cs : List Chunk). after_log i.shape cs (option_to_list (told_by (engine_prefix (suc k) logs) u l.event))) (slice_get (known_image i (engine_prefix k logs)).units u)
+    ≡ option_map (λ (cs : List Chunk). after_log i.shape cs (option_to_list (told_by (engine_prefix (suc k) logs) u l.event)))
+    (slice_get (known_image i (engine_prefix k logs)).units u)
 known_next i logs k u l b there begins =
     known_get i (engine_prefix (suc k) logs) u
-    ∙ ap (λ (f : Image). option_map (λ (cs : List Chunk). after_log i.shape cs (told_events (engine_prefix (suc k) logs) u)) (slice_get f.units u)) (found_next i logs k l b there begins)
-    ∙ mapped_twice (λ (cs : List Chunk). after_log i.shape cs (told_events (engine_prefix k logs) u)) (λ (cs : List Chunk). after_log i.shape cs (option_to_list (told_by (engine_prefix (suc k) logs) u l.event)))
+    ∙ ap (λ (f : Image). option_map (λ (cs : List Chunk). after_log i.shape cs (told_events (engine_prefix (suc k) logs) u)) (slice_get f.units u))
+    (found_next i logs k l b there begins)
+    ∙ mapped_twice (λ (cs : List Chunk). after_log i.shape cs (told_events (engine_prefix k logs) u))
+    (λ (cs : List Chunk). after_log i.shape cs (option_to_list (told_by (engine_prefix (suc k) logs) u l.event)))
     (λ (cs : List Chunk). after_log i.shape cs (told_events (engine_prefix (suc k) logs) u))
-    (λ cs. ap (after_log i.shape cs) (told_next logs k u l there) ∙ fold-append (after_event i.shape) cs (told_events (engine_prefix k logs) u) (option_to_list (told_by (engine_prefix (suc k) logs) u l.event)))
+    (λ cs. ap (after_log i.shape cs) (told_next logs k u l there)
+    ∙ fold-append (after_event i.shape) cs (told_events (engine_prefix k logs) u) (option_to_list (told_by (engine_prefix (suc k) logs) u l.event)))
     (slice_get (found_image i (engine_prefix k logs)).units u)
-    ∙ ap (option_map (λ (cs : List Chunk). after_log i.shape cs (option_to_list (told_by (engine_prefix (suc k) logs) u l.event)))) (sym (known_get i (engine_prefix k logs) u))
+    ∙ ap (option_map (λ (cs : List Chunk). after_log i.shape cs (option_to_list (told_by (engine_prefix (suc k) logs) u l.event))))
+    (sym (known_get i (engine_prefix k logs) u))
 
 -- the chunk of a line in a unit
 abbrev pub chunk_in : Image → ℕ → ℕ → Option Chunk
@@ -101,13 +116,15 @@ is_on o = option_map_or (λ (c : Chunk). is_online_in c.state) o false
 pub live_chunk : (i : Image) (line u : ℕ) → is_live i line u ≡ is_on (chunk_in i u line)
 live_chunk i line u = go (slice_get i.units u)
   where
-    go : (o : Option (List Chunk)) → option_map_or (λ (cs : List Chunk). is_on (slice_get cs line)) o false ≡ is_on (option_and_then (λ (cs : List Chunk). slice_get cs line) o)
+    go : (o : Option (List Chunk))
+        → option_map_or (λ (cs : List Chunk). is_on (slice_get cs line)) o false ≡ is_on (option_and_then (λ (cs : List Chunk). slice_get cs line) o)
     go None = refl
     go (Some cs) = refl
 
 -- an event that the unit wasn't told of leaves its chunks
 pub chunk_untold : (i : Image) (logs : Logs) (k u line : ℕ) (l : Logged) (b : Begun) → slice_get (logs 0) k ≡ Some l → begun (take k (logs 0)) ≡ Some b
-    → told_by (engine_prefix (suc k) logs) u l.event ≡ None → chunk_in (known_image i (engine_prefix (suc k) logs)) u line ≡ chunk_in (known_image i (engine_prefix k logs)) u line
+    → told_by (engine_prefix (suc k) logs) u l.event ≡ None
+    → chunk_in (known_image i (engine_prefix (suc k) logs)) u line ≡ chunk_in (known_image i (engine_prefix k logs)) u line
 chunk_untold i logs k u line l b there begins none =
     ap (option_and_then (λ (cs : List Chunk). slice_get cs line))
     (known_next i logs k u l b there begins
@@ -118,72 +135,102 @@ chunk_untold i logs k u line l b there begins none =
     same None = refl
     same (Some cs) = refl
 
-after_chunk : (s : Shape) (cs : List Chunk) (e : UnitEvent) (line : ℕ) → e.chunk ≡ line → slice_get (after_event s cs e) line ≡ option_map (λ (c : Chunk). after_outcome s c e.command e.outcome) (slice_get cs line)
+after_chunk : (s : Shape) (cs : List Chunk) (e : UnitEvent) (line : ℕ) → e.chunk ≡ line
+    → slice_get (after_event s cs e) line ≡ option_map (λ (c : Chunk). after_outcome s c e.command e.outcome) (slice_get cs line)
 after_chunk s cs e line same = go (slice_get cs e.chunk) refl
   where
-    go : (o : Option Chunk) → slice_get cs e.chunk ≡ o → slice_get (option_map_or (λ (c : Chunk). slice_set cs e.chunk (after_outcome s c e.command e.outcome)) o cs) line ≡ option_map (λ (c : Chunk). after_outcome s c e.command e.outcome) (slice_get cs line)
+    go : (o : Option Chunk) → slice_get cs e.chunk ≡ o
+        → slice_get (option_map_or (λ (c : Chunk). slice_set cs e.chunk (after_outcome s c e.command e.outcome)) o cs) line ≡ option_map
+        (λ (c : Chunk). after_outcome s c e.command e.outcome) (slice_get cs line)
     go None f = ap (slice_get cs) (sym same) ∙ f ∙ ap (option_map (λ (c : Chunk). after_outcome s c e.command e.outcome)) (sym f ∙ ap (slice_get cs) same)
     go (Some c) f =
-        ap (slice_get (slice_set cs e.chunk (after_outcome s c e.command e.outcome))) (sym same) ∙ got_here cs e.chunk c (after_outcome s c e.command e.outcome) f
+        ap (slice_get (slice_set cs e.chunk (after_outcome s c e.command e.outcome))) (sym same)
+        ∙ got_here cs e.chunk c (after_outcome s c e.command e.outcome) f
         ∙ ap (option_map (λ (c : Chunk). after_outcome s c e.command e.outcome)) (sym f ∙ ap (slice_get cs) same)
 
 chunk_by : (i : Image) (logs : Logs) (k u line : ℕ) (l : Logged) (b : Begun) (e : UnitEvent) → slice_get (logs 0) k ≡ Some l → begun (take k (logs 0)) ≡ Some b
-    → told_by (engine_prefix (suc k) logs) u l.event ≡ Some e → chunk_in (known_image i (engine_prefix (suc k) logs)) u line ≡ option_and_then (λ (cs : List Chunk). slice_get (after_event i.shape cs e) line) (slice_get (known_image i (engine_prefix k logs)).units u)
+    → told_by (engine_prefix (suc k) logs) u l.event ≡ Some e
+    → chunk_in (known_image i (engine_prefix (suc k) logs)) u line ≡ option_and_then (λ (cs : List Chunk). slice_get (after_event i.shape cs e) line)
+    (slice_get (known_image i (engine_prefix k logs)).units u)
 chunk_by i logs k u line l b e there begins told =
     ap (option_and_then (λ (cs : List Chunk). slice_get cs line))
     (known_next i logs k u l b there begins
     ∙ ap (λ o. option_map (λ (cs : List Chunk). after_log i.shape cs (option_to_list o)) (slice_get (known_image i (engine_prefix k logs)).units u)) told)
     ∙ moved (slice_get (known_image i (engine_prefix k logs)).units u)
   where
-    moved : (o : Option (List Chunk)) → option_and_then (λ (cs : List Chunk). slice_get cs line) (option_map (λ (cs : List Chunk). after_event i.shape cs e) o) ≡ option_and_then (λ (cs : List Chunk). slice_get (after_event i.shape cs e) line) o
+    moved : (o : Option (List Chunk))
+        → option_and_then (λ (cs : List Chunk). slice_get cs line) (option_map (λ (cs : List Chunk). after_event i.shape cs e) o) ≡ option_and_then
+        (λ (cs : List Chunk). slice_get (after_event i.shape cs e) line) o
     moved None = refl
     moved (Some cs) = refl
 
-pub chunk_told : (i : Image) (logs : Logs) (k u line : ℕ) (l : Logged) (b : Begun) (e : UnitEvent) → slice_get (logs 0) k ≡ Some l → begun (take k (logs 0)) ≡ Some b
+pub chunk_told : (i : Image) (logs : Logs) (k u line : ℕ) (l : Logged) (b : Begun) (e : UnitEvent) → slice_get (logs 0) k ≡ Some l
+    → begun (take k (logs 0)) ≡ Some b
     → told_by (engine_prefix (suc k) logs) u l.event ≡ Some e → e.chunk ≡ line
-    → chunk_in (known_image i (engine_prefix (suc k) logs)) u line ≡ option_map (λ (c : Chunk). after_outcome i.shape c e.command e.outcome) (chunk_in (known_image i (engine_prefix k logs)) u line)
-chunk_told i logs k u line l b e there begins told same = chunk_by i logs k u line l b e there begins told ∙ go (slice_get (known_image i (engine_prefix k logs)).units u)
+    → chunk_in (known_image i (engine_prefix (suc k) logs)) u line ≡ option_map (λ (c : Chunk). after_outcome i.shape c e.command e.outcome)
+    (chunk_in (known_image i (engine_prefix k logs)) u line)
+chunk_told i logs k u line l b e there begins told same = chunk_by i logs k u line l b e there begins told
+    ∙ go (slice_get (known_image i (engine_prefix k logs)).units u)
   where
-    go : (o : Option (List Chunk)) → option_and_then (λ (cs : List Chunk). slice_get (after_event i.shape cs e) line) o ≡ option_map (λ (c : Chunk). after_outcome i.shape c e.command e.outcome) (option_and_then (λ (cs : List Chunk). slice_get cs line) o)
+    go : (o : Option (List Chunk))
+        → option_and_then (λ (cs : List Chunk). slice_get (after_event i.shape cs e) line) o ≡ option_map
+        (λ (c : Chunk). after_outcome i.shape c e.command e.outcome) (option_and_then (λ (cs : List Chunk). slice_get cs line) o)
     go None = refl
     go (Some cs) = after_chunk i.shape cs e line same
 
-pub chunk_beside : (i : Image) (logs : Logs) (k u line : ℕ) (l : Logged) (b : Begun) (e : UnitEvent) → slice_get (logs 0) k ≡ Some l → begun (take k (logs 0)) ≡ Some b
+pub chunk_beside : (i : Image) (logs : Logs) (k u line : ℕ) (l : Logged) (b : Begun) (e : UnitEvent) → slice_get (logs 0) k ≡ Some l
+    → begun (take k (logs 0)) ≡ Some b
     → told_by (engine_prefix (suc k) logs) u l.event ≡ Some e → e.chunk ≢ line
     → chunk_in (known_image i (engine_prefix (suc k) logs)) u line ≡ chunk_in (known_image i (engine_prefix k logs)) u line
-chunk_beside i logs k u line l b e there begins told other = chunk_by i logs k u line l b e there begins told ∙ go (slice_get (known_image i (engine_prefix k logs)).units u)
+chunk_beside i logs k u line l b e there begins told other = chunk_by i logs k u line l b e there begins told
+    ∙ go (slice_get (known_image i (engine_prefix k logs)).units u)
   where
-    go : (o : Option (List Chunk)) → option_and_then (λ (cs : List Chunk). slice_get (after_event i.shape cs e) line) o ≡ option_and_then (λ (cs : List Chunk). slice_get cs line) o
+    go : (o : Option (List Chunk))
+        → option_and_then (λ (cs : List Chunk). slice_get (after_event i.shape cs e) line) o ≡ option_and_then (λ (cs : List Chunk). slice_get cs line) o
     go None = refl
     go (Some cs) = event_beside i.shape cs e line other
 
 -- ---- units of a line
 
-same_units : (t : List Chunk → Bool) (n : ℕ) (xs ys : List (List Chunk)) → length xs ≡ length ys → ((u : ℕ) → option_map_or t (slice_get xs u) false ≡ option_map_or t (slice_get ys u) false)
-    → map (λ (e : ℕ × List Chunk). e.0) (filter (λ (e : ℕ × List Chunk). t e.1) (enumerate_from n xs)) ≡ map (λ (e : ℕ × List Chunk). e.0) (filter (λ (e : ℕ × List Chunk). t e.1) (enumerate_from n ys))
+same_units : (t : List Chunk → Bool) (n : ℕ) (xs ys : List (List Chunk)) → length xs ≡ length ys
+    → ((u : ℕ) → option_map_or t (slice_get xs u) false ≡ option_map_or t (slice_get ys u) false)
+    → map (λ (e : ℕ × List Chunk). e.0) (filter (λ (e : ℕ × List Chunk). t e.1) (enumerate_from n xs)) ≡ map (λ (e : ℕ × List Chunk). e.0)
+    (filter (λ (e : ℕ × List Chunk). t e.1) (enumerate_from n ys))
 same_units t n [] [] count same = refl
 same_units t n [] (y ∷ ys) count same = absurd (omega (arith, count))
 same_units t n (x ∷ xs) [] count same = absurd (omega (arith, count))
 same_units t n (x ∷ xs) (y ∷ ys) count same = go (t x) (t y) (same 0) (same_units t (n + 1) xs ys (omega (arith, count)) (λ u. same (suc u)))
   where
-    go : (b c : Bool) → b ≡ c → map (λ (e : ℕ × List Chunk). e.0) (filter (λ (e : ℕ × List Chunk). t e.1) (enumerate_from (n + 1) xs)) ≡ map (λ (e : ℕ × List Chunk). e.0) (filter (λ (e : ℕ × List Chunk). t e.1) (enumerate_from (n + 1) ys))
-        → map (λ (e : ℕ × List Chunk). e.0) (cond b ((n, x) ∷ filter (λ (e : ℕ × List Chunk). t e.1) (enumerate_from (n + 1) xs)) (filter (λ (e : ℕ × List Chunk). t e.1) (enumerate_from (n + 1) xs)))
-        ≡ map (λ (e : ℕ × List Chunk). e.0) (cond c ((n, y) ∷ filter (λ (e : ℕ × List Chunk). t e.1) (enumerate_from (n + 1) ys)) (filter (λ (e : ℕ × List Chunk). t e.1) (enumerate_from (n + 1) ys)))
+    go : (b c : Bool) → b ≡ c → map (λ (e : ℕ × List Chunk). e.0) (filter (λ (e : ℕ × List Chunk). t e.1) (enumerate_from (n + 1) xs)) ≡ map
+        (λ (e : ℕ × List Chunk). e.0) (filter (λ (e : ℕ × List Chunk). t e.1) (enumerate_from (n + 1) ys))
+        → map (λ (e : ℕ × List Chunk). e.0)
+        (cond b ((n, x) ∷ filter (λ (e : ℕ × List Chunk). t e.1) (enumerate_from (n + 1) xs))
+        (filter (λ (e : ℕ × List Chunk). t e.1) (enumerate_from (n + 1) xs)))
+        ≡ map (λ (e : ℕ × List Chunk). e.0)
+        (cond c ((n, y) ∷ filter (λ (e : ℕ × List Chunk). t e.1) (enumerate_from (n + 1) ys))
+        (filter (λ (e : ℕ × List Chunk). t e.1) (enumerate_from (n + 1) ys)))
     go true true e rest = ap (λ us. n ∷ us) rest
     go false false e rest = rest
     go true false e rest = absurd cc
     go false true e rest = absurd cc
 
-pub units_by_live : (a c : Image) (line : ℕ) → length a.units ≡ length c.units → ((u : ℕ) → is_live a line u ≡ is_live c line u) → line_units a line ≡ line_units c line
-units_by_live a c line count same = same_units (λ (cs : List Chunk). option_map_or (λ (c : Chunk). is_online_in c.state) (slice_get cs line) false) 0 a.units c.units count same
+pub units_by_live : (a c : Image) (line : ℕ) → length a.units ≡ length c.units → ((u : ℕ) → is_live a line u ≡ is_live c line u)
+    → line_units a line ≡ line_units c line
+units_by_live a c line count same =
+    same_units (λ (cs : List Chunk). option_map_or (λ (c : Chunk). is_online_in c.state) (slice_get cs line) false) 0 a.units c.units count same
 
-unit_passes : (t : List Chunk → Bool) (n : ℕ) (xs : List (List Chunk)) (x u : ℕ) → slice_get (map (λ (e : ℕ × List Chunk). e.0) (filter (λ (e : ℕ × List Chunk). t e.1) (enumerate_from n xs))) x ≡ Some u
+unit_passes : (t : List Chunk → Bool) (n : ℕ) (xs : List (List Chunk)) (x u : ℕ)
+    → slice_get (map (λ (e : ℕ × List Chunk). e.0) (filter (λ (e : ℕ × List Chunk). t e.1) (enumerate_from n xs))) x ≡ Some u
     → (v : ℕ) × (u ≡ n + v) × (option_map_or t (slice_get xs v) false ≡ true)
 unit_passes t n [] x u e = absurd (none-some u e)
 unit_passes t n (y ∷ ys) x u e = go (λ x e. unit_passes t (n + 1) ys x u e) (t y) refl x e
   where
-    go : ((x : ℕ) → slice_get (map (λ (e : ℕ × List Chunk). e.0) (filter (λ (e : ℕ × List Chunk). t e.1) (enumerate_from (n + 1) ys))) x ≡ Some u → (v : ℕ) × (u ≡ n + 1 + v) × (option_map_or t (slice_get ys v) false ≡ true))
-        → (b : Bool) → t y ≡ b → (x : ℕ) → slice_get (map (λ (e : ℕ × List Chunk). e.0) (cond b ((n, y) ∷ filter (λ (e : ℕ × List Chunk). t e.1) (enumerate_from (n + 1) ys)) (filter (λ (e : ℕ × List Chunk). t e.1) (enumerate_from (n + 1) ys)))) x ≡ Some u
+    go : ((x : ℕ) → slice_get (map (λ (e : ℕ × List Chunk). e.0) (filter (λ (e : ℕ × List Chunk). t e.1) (enumerate_from (n + 1) ys))) x ≡ Some u
+        → (v : ℕ) × (u ≡ n + 1 + v) × (option_map_or t (slice_get ys v) false ≡ true))
+        → (b : Bool) → t y ≡ b → (x : ℕ)
+        → slice_get (map (λ (e : ℕ × List Chunk). e.0)
+        (cond b ((n, y) ∷ filter (λ (e : ℕ × List Chunk). t e.1) (enumerate_from (n + 1) ys))
+        (filter (λ (e : ℕ × List Chunk). t e.1) (enumerate_from (n + 1) ys)))) x ≡ Some u
         → (v : ℕ) × (u ≡ n + v) × (option_map_or t (slice_get (y ∷ ys) v) false ≡ true)
     go rest true f zero e = let same : n ≡ u = same_Some n u e in (0, omega arith, f)
     go rest true f (suc x) e = let r = rest x e in let at : u ≡ n + 1 + r.0 = r.1 in (suc r.0, omega arith, r.2)
@@ -203,7 +250,8 @@ chunk_of_live i line u e = go (chunk_in i u line) refl (sym (live_chunk i line u
     go (Some c) f g = (c, f, g)
 
 -- a test of all chunks of a line
-pub each_chunk : (test : Chunk → Bool) (units : List (List Chunk)) (line u : ℕ) (c : Chunk) → list_all test (filter_map (λ (unit : List Chunk). slice_get unit line) units) ≡ true
+pub each_chunk : (test : Chunk → Bool) (units : List (List Chunk)) (line u : ℕ) (c : Chunk)
+    → list_all test (filter_map (λ (unit : List Chunk). slice_get unit line) units) ≡ true
     → option_and_then (λ (cs : List Chunk). slice_get cs line) (slice_get units u) ≡ Some c → test c ≡ true
 each_chunk test [] line u c all e = absurd (none-some c e)
 each_chunk test (cs ∷ units) line u c all e = go (λ u all e. each_chunk test units line u c all e) u (slice_get cs line) refl all e
@@ -216,11 +264,14 @@ each_chunk test (cs ∷ units) line u c all e = go (λ u all e. each_chunk test 
     second true b e = e
     second false b e = absurd cc
 
-    go : ((u : ℕ) → list_all test (filter_map (λ (unit : List Chunk). slice_get unit line) units) ≡ true → option_and_then (λ (cs : List Chunk). slice_get cs line) (slice_get units u) ≡ Some c → test c ≡ true)
-        → (u : ℕ) (o : Option Chunk) → slice_get cs line ≡ o → list_all test (cons_option o (filter_map (λ (unit : List Chunk). slice_get unit line) units)) ≡ true
+    go : ((u : ℕ) → list_all test (filter_map (λ (unit : List Chunk). slice_get unit line) units) ≡ true
+        → option_and_then (λ (cs : List Chunk). slice_get cs line) (slice_get units u) ≡ Some c → test c ≡ true)
+        → (u : ℕ) (o : Option Chunk) → slice_get cs line ≡ o
+        → list_all test (cons_option o (filter_map (λ (unit : List Chunk). slice_get unit line) units)) ≡ true
         → option_and_then (λ (cs : List Chunk). slice_get cs line) (slice_get (cs ∷ units) u) ≡ Some c → test c ≡ true
     go rest zero None f all e = absurd (none-some c (sym f ∙ e))
-    go rest zero (Some d) f all e = ap test (sym (same_Some d c (sym f ∙ e))) ∙ first (test d) (list_all test (filter_map (λ (unit : List Chunk). slice_get unit line) units)) all
+    go rest zero (Some d) f all e = ap test (sym (same_Some d c (sym f ∙ e)))
+        ∙ first (test d) (list_all test (filter_map (λ (unit : List Chunk). slice_get unit line) units)) all
     go rest (suc u) None f all e = rest u all e
     go rest (suc u) (Some d) f all e = rest u (second (test d) (list_all test (filter_map (λ (unit : List Chunk). slice_get unit line) units)) all) e
 
@@ -275,19 +326,23 @@ set_empty (d ∷ cs) (suc j) c is all = (all.0, set_empty cs j c is all.1)
 event_empty : (s : Shape) (cs : List Chunk) (e : UnitEvent) → AllByRecursion IsEmptyFree cs → AllByRecursion IsEmptyFree (after_event s cs e)
 event_empty s cs e all = go (slice_get cs e.chunk) refl
   where
-    go : (o : Option Chunk) → slice_get cs e.chunk ≡ o → AllByRecursion IsEmptyFree (option_map_or (λ (c : Chunk). slice_set cs e.chunk (after_outcome s c e.command e.outcome)) o cs)
+    go : (o : Option Chunk) → slice_get cs e.chunk ≡ o
+        → AllByRecursion IsEmptyFree (option_map_or (λ (c : Chunk). slice_set cs e.chunk (after_outcome s c e.command e.outcome)) o cs)
     go None f = all
-    go (Some c) f = set_empty cs e.chunk (after_outcome s c e.command e.outcome) (outcome_empty s c e.command e.outcome (all_at IsEmptyFree cs e.chunk c f all)) all
+    go (Some c) f = set_empty cs e.chunk (after_outcome s c e.command e.outcome)
+        (outcome_empty s c e.command e.outcome (all_at IsEmptyFree cs e.chunk c f all)) all
 
 log_empty : (s : Shape) (cs : List Chunk) (es : List UnitEvent) → AllByRecursion IsEmptyFree cs → AllByRecursion IsEmptyFree (after_log s cs es)
 log_empty s cs [] all = all
 log_empty s cs (e ∷ es) all = log_empty s (after_event s cs e) es (event_empty s cs e all)
 
-units_empty : (s : Shape) (es : ℕ → List UnitEvent) (n : ℕ) (units : List (List Chunk)) → AllByRecursion (AllByRecursion IsEmptyFree) units → AllByRecursion (AllByRecursion IsEmptyFree) (map (λ (unit : ℕ × List Chunk). after_log s unit.1 (es unit.0)) (enumerate_from n units))
+units_empty : (s : Shape) (es : ℕ → List UnitEvent) (n : ℕ) (units : List (List Chunk)) → AllByRecursion (AllByRecursion IsEmptyFree) units
+    → AllByRecursion (AllByRecursion IsEmptyFree) (map (λ (unit : ℕ × List Chunk). after_log s unit.1 (es unit.0)) (enumerate_from n units))
 units_empty s es n [] all = tt
 units_empty s es n (cs ∷ units) all = (log_empty s cs (es n) all.0, units_empty s es (n + 1) units all.1)
 
-found_empty : (i : Image) (logs : Logs) (b : Option Begun) → AllByRecursion (AllByRecursion IsEmptyFree) i.units → AllByRecursion (AllByRecursion IsEmptyFree) (found_by i logs b).units
+found_empty : (i : Image) (logs : Logs) (b : Option Begun) → AllByRecursion (AllByRecursion IsEmptyFree) i.units
+    → AllByRecursion (AllByRecursion IsEmptyFree) (found_by i logs b).units
 found_empty i logs None all = all
 found_empty i logs (Some b) all = units_empty i.shape (unit_events (cut_logs b.knows logs)) 0 i.units all
 
@@ -302,37 +357,51 @@ both_weaker : (s : Shape) (units : List (List Chunk)) → AllByRecursion (AllByR
 both_weaker s [] all = tt
 both_weaker s (cs ∷ units) all = (all_imply (IsChunk s) IsEmptyFree (chunk_empty s) cs all.0, both_weaker s units all.1)
 
-pub known_empty : (i : Image) (logs : Logs) (u line : ℕ) (c : Chunk) → IsFit i → chunk_in (known_image i logs) u line ≡ Some c → c.state ≡ states.Free → c.blocks ≡ []
+pub known_empty : (i : Image) (logs : Logs) (u line : ℕ) (c : Chunk) → IsFit i → chunk_in (known_image i logs) u line ≡ Some c → c.state ≡ states.Free
+    → c.blocks ≡ []
 known_empty i logs u line c fit there = go (slice_get (known_image i logs).units u) refl there
   where
     all : AllByRecursion (AllByRecursion IsEmptyFree) (known_image i logs).units
     all = units_empty i.shape (told_events logs) 0 (found_image i logs).units (found_empty i logs (begun (logs 0)) (both_weaker i.shape i.units fit.each))
 
-    go : (o : Option (List Chunk)) → slice_get (known_image i logs).units u ≡ o → option_and_then (λ (cs : List Chunk). slice_get cs line) o ≡ Some c → IsEmptyFree c
+    go : (o : Option (List Chunk)) → slice_get (known_image i logs).units u ≡ o → option_and_then (λ (cs : List Chunk). slice_get cs line) o ≡ Some c
+        → IsEmptyFree c
     go None e f = absurd (none-some c f)
     go (Some cs) e f = all_at IsEmptyFree cs line c f (all_at (AllByRecursion IsEmptyFree) (known_image i logs).units u cs e all)
 
 -- ---- a unit stands once among those of a line
 
-units_from : (t : List Chunk → Bool) (n : ℕ) (xs : List (List Chunk)) → AllByRecursion (λ u. n ≤ u) (map (λ (e : ℕ × List Chunk). e.0) (filter (λ (e : ℕ × List Chunk). t e.1) (enumerate_from n xs)))
+units_from : (t : List Chunk → Bool) (n : ℕ) (xs : List (List Chunk))
+    → AllByRecursion (λ u. n ≤ u) (map (λ (e : ℕ × List Chunk). e.0) (filter (λ (e : ℕ × List Chunk). t e.1) (enumerate_from n xs)))
 units_from t n [] = tt
-units_from t n (x ∷ xs) = go (t x) (all_imply (λ u. n + 1 ≤ u) (λ u. n ≤ u) (λ u h. omega arith) (map (λ (e : ℕ × List Chunk). e.0) (filter (λ (e : ℕ × List Chunk). t e.1) (enumerate_from (n + 1) xs))) (units_from t (n + 1) xs))
+units_from t n (x ∷ xs) = go (t x)
+    (all_imply (λ u. n + 1 ≤ u) (λ u. n ≤ u) (λ u h. omega arith)
+    (map (λ (e : ℕ × List Chunk). e.0) (filter (λ (e : ℕ × List Chunk). t e.1) (enumerate_from (n + 1) xs))) (units_from t (n + 1) xs))
   where
     go : (b : Bool) → AllByRecursion (λ u. n ≤ u) (map (λ (e : ℕ × List Chunk). e.0) (filter (λ (e : ℕ × List Chunk). t e.1) (enumerate_from (n + 1) xs)))
-        → AllByRecursion (λ u. n ≤ u) (map (λ (e : ℕ × List Chunk). e.0) (cond b ((n, x) ∷ filter (λ (e : ℕ × List Chunk). t e.1) (enumerate_from (n + 1) xs)) (filter (λ (e : ℕ × List Chunk). t e.1) (enumerate_from (n + 1) xs))))
+        → AllByRecursion (λ u. n ≤ u) (map (λ (e : ℕ × List Chunk). e.0)
+        (cond b ((n, x) ∷ filter (λ (e : ℕ × List Chunk). t e.1) (enumerate_from (n + 1) xs))
+        (filter (λ (e : ℕ × List Chunk). t e.1) (enumerate_from (n + 1) xs))))
     go true rest = (omega arith, rest)
     go false rest = rest
 
-once_in : (t : List Chunk → Bool) (n : ℕ) (xs : List (List Chunk)) (x y u : ℕ) → slice_get (map (λ (e : ℕ × List Chunk). e.0) (filter (λ (e : ℕ × List Chunk). t e.1) (enumerate_from n xs))) x ≡ Some u
+once_in : (t : List Chunk → Bool) (n : ℕ) (xs : List (List Chunk)) (x y u : ℕ)
+    → slice_get (map (λ (e : ℕ × List Chunk). e.0) (filter (λ (e : ℕ × List Chunk). t e.1) (enumerate_from n xs))) x ≡ Some u
     → slice_get (map (λ (e : ℕ × List Chunk). e.0) (filter (λ (e : ℕ × List Chunk). t e.1) (enumerate_from n xs))) y ≡ Some u → x ≡ y
 once_in t n [] x y u a b = absurd (none-some u a)
 once_in t n (c ∷ xs) x y u a b = go (t c) x y a b (λ x y a b. once_in t (n + 1) xs x y u a b)
   where
     later : (x : ℕ) → slice_get (map (λ (e : ℕ × List Chunk). e.0) (filter (λ (e : ℕ × List Chunk). t e.1) (enumerate_from (n + 1) xs))) x ≡ Some u → n + 1 ≤ u
-    later x a = all_at (λ u. n + 1 ≤ u) (map (λ (e : ℕ × List Chunk). e.0) (filter (λ (e : ℕ × List Chunk). t e.1) (enumerate_from (n + 1) xs))) x u a (units_from t (n + 1) xs)
+    later x a = all_at (λ u. n + 1 ≤ u) (map (λ (e : ℕ × List Chunk). e.0) (filter (λ (e : ℕ × List Chunk). t e.1) (enumerate_from (n + 1) xs))) x u a
+        (units_from t (n + 1) xs)
 
-    go : (z : Bool) (x y : ℕ) → slice_get (map (λ (e : ℕ × List Chunk). e.0) (cond z ((n, c) ∷ filter (λ (e : ℕ × List Chunk). t e.1) (enumerate_from (n + 1) xs)) (filter (λ (e : ℕ × List Chunk). t e.1) (enumerate_from (n + 1) xs)))) x ≡ Some u
-        → slice_get (map (λ (e : ℕ × List Chunk). e.0) (cond z ((n, c) ∷ filter (λ (e : ℕ × List Chunk). t e.1) (enumerate_from (n + 1) xs)) (filter (λ (e : ℕ × List Chunk). t e.1) (enumerate_from (n + 1) xs)))) y ≡ Some u
+    go : (z : Bool) (x y : ℕ) → slice_get
+        (map (λ (e : ℕ × List Chunk). e.0)
+        (cond z ((n, c) ∷ filter (λ (e : ℕ × List Chunk). t e.1) (enumerate_from (n + 1) xs))
+        (filter (λ (e : ℕ × List Chunk). t e.1) (enumerate_from (n + 1) xs)))) x ≡ Some u
+        → slice_get (map (λ (e : ℕ × List Chunk). e.0)
+        (cond z ((n, c) ∷ filter (λ (e : ℕ × List Chunk). t e.1) (enumerate_from (n + 1) xs))
+        (filter (λ (e : ℕ × List Chunk). t e.1) (enumerate_from (n + 1) xs)))) y ≡ Some u
         → ((x y : ℕ) → slice_get (map (λ (e : ℕ × List Chunk). e.0) (filter (λ (e : ℕ × List Chunk). t e.1) (enumerate_from (n + 1) xs))) x ≡ Some u
         → slice_get (map (λ (e : ℕ × List Chunk). e.0) (filter (λ (e : ℕ × List Chunk). t e.1) (enumerate_from (n + 1) xs))) y ≡ Some u → x ≡ y) → x ≡ y
     go false x y a b rest = rest x y a b

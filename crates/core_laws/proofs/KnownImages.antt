@@ -58,7 +58,8 @@ split_last s es more (Some chunks) = ap (λ (cs : List Chunk). Some cs) (fold-ap
 
 -- its units are as before, after what the event tells
 pub known_one_more : (i : Image) (s : Step) (w : World) (unit : ℕ) → IsLegal i w → (s.author == 0) ≡ true → 0 < length (log_of w 0)
-    → slice_get (known_image i (log_of (s ∷ w))).units unit ≡ option_map (λ cs. after_log i.shape cs (option_to_list (told_by (log_of (s ∷ w)) unit s.logged.event))) (slice_get (known_image i (log_of w)).units unit)
+    → slice_get (known_image i (log_of (s ∷ w))).units unit ≡ option_map
+    (λ cs. after_log i.shape cs (option_to_list (told_by (log_of (s ∷ w)) unit s.logged.event))) (slice_get (known_image i (log_of w)).units unit)
 known_one_more i s w unit legal author some =
     let log : List Logged = log_of w 0 in
     let new : Logs = log_of (s ∷ w) in

@@ -166,7 +166,8 @@ module _ (i : Image) (w : World) (mount : IsLegalMount i w) (o : Opening) (p : P
       let b = began i w o.line o mount.legal life in
       let far : IsToldFar = told_far in
       let x : IsLandedAt w unit p = far.landed_in in
-      done_stands i w mount.accepted mount.fit mount.legal b.0 b.1 unit o.line o life x.number far.events p.stripe.at index x.logged x.event p.stripe.blocks block c
+      done_stands i w mount.accepted mount.fit mount.legal b.0 b.1 unit o.line o life x.number far.events p.stripe.at index x.logged x.event p.stripe.blocks
+      block c
       far.since_opening x.there x.is_event far.in_line x.command x.done far.before far.inside far.chunk is
 
   pub landed_fills : i.shape.ws_opt ≤ length p.stripe.blocks → p.stripe.at + i.shape.ws_opt ≡ i.shape.clba → c.state ≡ states.Closed

@@ -39,7 +39,8 @@ all_count : {X : Type 0} (f : X → Bool) (xs : List X) → list_all f xs ≡ tr
 all_count f [] e = refl
 all_count {X} f (x ∷ xs) e = go (f x) e (λ h. all_count f xs h)
   where
-    go : (b : Bool) → (b && list_all f xs) ≡ true → (list_all f xs ≡ true → length (filter f xs) ≡ length xs) → length (cond b (x ∷ filter f xs) (filter f xs)) ≡ suc (length xs)
+    go : (b : Bool) → (b && list_all f xs) ≡ true → (list_all f xs ≡ true → length (filter f xs) ≡ length xs)
+        → length (cond b (x ∷ filter f xs) (filter f xs)) ≡ suc (length xs)
     go true h rest = ap suc (rest h)
     go false h rest = absurd cc
 
@@ -47,7 +48,8 @@ pub count_all : {X : Type 0} (f : X → Bool) (xs : List X) → length (filter f
 count_all f [] e = refl
 count_all {X} f (x ∷ xs) e = go (f x) e (λ h. count_all f xs h)
   where
-    go : (b : Bool) → length (cond b (x ∷ filter f xs) (filter f xs)) ≡ suc (length xs) → (length (filter f xs) ≡ length xs → list_all f xs ≡ true) → (b && list_all f xs) ≡ true
+    go : (b : Bool) → length (cond b (x ∷ filter f xs) (filter f xs)) ≡ suc (length xs) → (length (filter f xs) ≡ length xs → list_all f xs ≡ true)
+        → (b && list_all f xs) ≡ true
     go true h rest = rest (omega arith)
     go false h rest = let few : length (filter f xs) ≤ length xs = filter_short f xs in absurd (omega arith)
 
@@ -76,8 +78,10 @@ whole_by {X} f xs n within =
         let below : length xs < n = grind arith in
         absurd (omega (arith, few))))
 
-pub landed_whole : (s : Shape) (log : List Logged) (o : Opening) → 0 < s.ws_opt → HasRoom s log o → have_landed log o (line_end s o / s.ws_opt) ≡ (landed_count log o == line_end s o / s.ws_opt)
-landed_whole s log o some room = whole_by (has_landed log) (stripes_of log o) (line_end s o / s.ws_opt) (few_stripes (length (stripes_of log o)) (line_end s o) s.ws_opt some room.within)
+pub landed_whole : (s : Shape) (log : List Logged) (o : Opening) → 0 < s.ws_opt → HasRoom s log o
+    → have_landed log o (line_end s o / s.ws_opt) ≡ (landed_count log o == line_end s o / s.ws_opt)
+landed_whole s log o some room =
+    whole_by (has_landed log) (stripes_of log o) (line_end s o / s.ws_opt) (few_stripes (length (stripes_of log o)) (line_end s o) s.ws_opt some room.within)
 
 -- ---- one more has landed
 
@@ -113,16 +117,20 @@ others_after [] p after rise = above p after rise.0
 others_after (q ∷ before) p after rise = others_after before p after rise.1
 
 one_more : (f g : Placed → Bool) (before : List Placed) (p : Placed) (after : List Placed) → f p ≡ false → g p ≡ true
-    → filter g before ≡ filter f before → filter g after ≡ filter f after → length (filter g (before ++ p ∷ after)) ≡ length (filter f (before ++ p ∷ after)) + 1
+    → filter g before ≡ filter f before → filter g after ≡ filter f after
+    → length (filter g (before ++ p ∷ after)) ≡ length (filter f (before ++ p ∷ after)) + 1
 one_more f g before p after no_more now first rest =
     let new : length (filter g (before ++ p ∷ after)) ≡ length (filter f before) + suc (length (filter f after)) =
-    ap length (filter-append g before (p ∷ after) ∙ ap₂ (λ (xs : List Placed) b. xs ++ cond b (p ∷ filter g after) (filter g after)) first now ∙ ap (λ (ys : List Placed). filter f before ++ p ∷ ys) rest)
+    ap length (filter-append g before (p ∷ after) ∙ ap₂ (λ (xs : List Placed) b. xs ++ cond b (p ∷ filter g after) (filter g after)) first now
+    ∙ ap (λ (ys : List Placed). filter f before ++ p ∷ ys) rest)
     ∙ length-append (filter f before) (p ∷ filter f after) in
     let old : length (filter f (before ++ p ∷ after)) ≡ length (filter f before) + length (filter f after) =
-    ap length (filter-append f before (p ∷ after) ∙ ap (λ b. filter f before ++ cond b (p ∷ filter f after) (filter f after)) no_more) ∙ length-append (filter f before) (filter f after) in
+    ap length (filter-append f before (p ∷ after) ∙ ap (λ b. filter f before ++ cond b (p ∷ filter f after) (filter f after)) no_more)
+    ∙ length-append (filter f before) (filter f after) in
     omega arith
 
-pub one_landed : (log : List Logged) (unit event : ℕ) (knows : List ℕ) (p : Placed) (o : Opening) → unanswered_on log unit ≡ Some p → is_life o.number p.life ≡ true
+pub one_landed : (log : List Logged) (unit event : ℕ) (knows : List ℕ) (p : Placed) (o : Opening) → unanswered_on log unit ≡ Some p
+    → is_life o.number p.life ≡ true
     → landed_count (with_event log (Landed unit event) knows) o ≡ landed_count log o + 1
 unfolding IsOther
 one_landed log unit event knows p o first its =
@@ -130,13 +138,17 @@ one_landed log unit event knows p o first its =
     let is_first : IsFirst log unit p = first_unanswered log unit p first in
     let among : IsAmong (stripes_of log o) p = in_filter (λ (q : Placed). is_life o.number q.life) (placements log) p is_first.among its in
     let split : IsSplit (stripes_of log o) p = split_at (stripes_of log o) among.0 p among.1 in
-    let rise : Rises (split.before ++ p ∷ split.after) = subst Rises split.is (some_rise (λ (q : Placed). is_life o.number q.life) (placements log) (rise_all log)) in
+    let rise : Rises (split.before ++ p ∷ split.after) =
+    subst Rises split.is (some_rise (λ (q : Placed). is_life o.number q.life) (placements log) (rise_all log)) in
     let all : AllByRecursion (IsAmong (placements log)) (split.before ++ p ∷ split.after) =
-    subst (AllByRecursion (IsAmong (placements log))) split.is (all_filter (IsAmong (placements log)) (λ (q : Placed). is_life o.number q.life) (placements log) (among_all (placements log))) in
-    let same : (qs : List Placed) → AllByRecursion (IsAmong (placements log)) qs → AllByRecursion (λ (q : Placed). q.number ≢ p.number) qs → filter (has_landed (with_event log (Landed unit event) knows)) qs ≡ filter (has_landed log) qs = λ qs there others.
+    subst (AllByRecursion (IsAmong (placements log))) split.is
+    (all_filter (IsAmong (placements log)) (λ (q : Placed). is_life o.number q.life) (placements log) (among_all (placements log))) in
+    let same : (qs : List Placed) → AllByRecursion (IsAmong (placements log)) qs → AllByRecursion (λ (q : Placed). q.number ≢ p.number) qs
+    → filter (has_landed (with_event log (Landed unit event) knows)) qs ≡ filter (has_landed log) qs = λ qs there others.
     filter_agree (λ (q : Placed). IsAmong (placements log) q × (q.number ≢ p.number)) (has_landed (with_event log (Landed unit event) knows)) (has_landed log)
     (λ q h. beside q (others_answer log (with_event log (Landed unit event) knows) unit (DidLand event) p q is is_first h.0) h.1) qs
-    (zipped (IsAmong (placements log)) (λ (q : Placed). q.number ≢ p.number) (λ (q : Placed). IsAmong (placements log) q × (q.number ≢ p.number)) (λ q a b. (a, b)) qs there others) in
+    (zipped (IsAmong (placements log)) (λ (q : Placed). q.number ≢ p.number) (λ (q : Placed). IsAmong (placements log) q × (q.number ≢ p.number))
+    (λ q a b. (a, b)) qs there others) in
     ap (λ ps. length (filter (has_landed (with_event log (Landed unit event) knows)) (filter (λ (q : Placed). is_life o.number q.life) ps))) is.placements
     ∙ subst (λ ps. length (filter (has_landed (with_event log (Landed unit event) knows)) ps) ≡ length (filter (has_landed log) ps) + 1) (sym split.is)
     (one_more (has_landed log) (has_landed (with_event log (Landed unit event) knows)) split.before p split.after
@@ -145,7 +157,8 @@ one_landed log unit event knows p o first its =
     (same split.before (all_left (IsAmong (placements log)) split.before (p ∷ split.after) all) (others_before split.before p split.after rise))
     (same split.after (all_right (IsAmong (placements log)) split.before (p ∷ split.after) all).1 (others_after split.before p split.after rise)))
   where
-    beside : (q : Placed) → (q ≡ p) ⊎ (answer_of (with_event log (Landed unit event) knows) q ≡ answer_of log q) → q.number ≢ p.number → has_landed (with_event log (Landed unit event) knows) q ≡ has_landed log q
+    beside : (q : Placed) → (q ≡ p) ⊎ (answer_of (with_event log (Landed unit event) knows) q ≡ answer_of log q) → q.number ≢ p.number
+        → has_landed (with_event log (Landed unit event) knows) q ≡ has_landed log q
     beside q (inl e) apart = absurd (apart (ap (λ (r : Placed). r.number) e))
     beside q (inr e) apart = ap is_land e
 
@@ -162,21 +175,25 @@ also_stripes (Landed other event) keeps = refl
 also_stripes (Lost other event) keeps = absurd cc
 also_stripes e keeps = refl
 
-pub count_kept : (log : List Logged) (e : EngineEvent) (knows : List ℕ) (o : Opening) → keeps_landed e ≡ true → landed_count (with_event log e knows) o ≡ landed_count log o
+pub count_kept : (log : List Logged) (e : EngineEvent) (knows : List ℕ) (o : Opening) → keeps_landed e ≡ true
+    → landed_count (with_event log e knows) o ≡ landed_count log o
 count_kept log e knows o keeps =
     let same : AreAlike log (with_event log e knows) = alike_kept log e knows (also_stripes e keeps) (λ unit. landed_none unit e keeps) in
-    ap length (filter_same (has_landed (with_event log e knows)) (has_landed log) (landed_same log (with_event log e knows) same) (stripes_of (with_event log e knows) o)
+    ap length (filter_same (has_landed (with_event log e knows)) (has_landed log) (landed_same log (with_event log e knows) same)
+    (stripes_of (with_event log e knows) o)
     ∙ ap (λ ps. filter (has_landed log) (filter (λ (p : Placed). is_life o.number p.life) ps)) same.placements)
 
 -- a line that is opened has none
-pub count_opened : (log : List Logged) (line : ℕ) (start : StartRecord) (knows : List ℕ) → landed_count (with_event log (Open line start) knows) (new_opening log line start knows) ≡ 0
+pub count_opened : (log : List Logged) (line : ℕ) (start : StartRecord) (knows : List ℕ)
+    → landed_count (with_event log (Open line start) knows) (new_opening log line start knows) ≡ 0
 count_opened log line start knows =
     ap (λ ps. length (filter (has_landed (with_event log (Open line start) knows)) ps))
     (ap (filter (λ (p : Placed). is_life (length log) p.life)) (placements_kept log (Open line start) knows refl)
     ∙ filter_none (λ (p : Placed). is_life (length log) p.life) (placements log) (placed_before log (length log) (le_refl (length log))))
 
 -- a stripe that is placed hasn't landed
-pub count_placed : (log : List Logged) (stripe : Stripe) (knows : List ℕ) (o other : Opening) → IsPlacing log stripe o → landed_count (with_event log (Place stripe) knows) other ≡ landed_count log other
+pub count_placed : (log : List Logged) (stripe : Stripe) (knows : List ℕ) (o other : Opening) → IsPlacing log stripe o
+    → landed_count (with_event log (Place stripe) knows) other ≡ landed_count log other
 count_placed log stripe knows o other is = go (is_life other.number (Opened o)) refl
   where
     old : filter (has_landed (with_place log stripe knows)) (stripes_of log other) ≡ filter (has_landed log) (stripes_of log other)
@@ -187,23 +204,29 @@ count_placed log stripe knows o other is = go (is_life other.number (Opened o)) 
     go : (b : Bool) → is_life other.number (Opened o) ≡ b → landed_count (with_place log stripe knows) other ≡ landed_count log other
     go true e =
         ap (λ ps. length (filter (has_landed (with_place log stripe knows)) ps)) (stripes_now log stripe knows o other true is.opened e)
-        ∙ ap length (filter_last (has_landed (with_place log stripe knows)) (stripes_of log other) (new_placed log stripe o) false (ap is_land (new_unanswered log stripe knows o is))
+        ∙ ap length (filter_last (has_landed (with_place log stripe knows)) (stripes_of log other) (new_placed log stripe o) false
+        (ap is_land (new_unanswered log stripe knows o is))
         ∙ append-nil (filter (has_landed (with_place log stripe knows)) (stripes_of log other)) ∙ old)
     go false e =
-        ap (λ ps. length (filter (has_landed (with_place log stripe knows)) ps)) (stripes_now log stripe knows o other false is.opened e ∙ append-nil (stripes_of log other))
+        ap (λ ps. length (filter (has_landed (with_place log stripe knows)) ps))
+        (stripes_now log stripe knows o other false is.opened e ∙ append-nil (stripes_of log other))
         ∙ ap length old
 
 -- nor does a stripe of another opening land here
-pub count_beside : (log : List Logged) (unit event : ℕ) (knows : List ℕ) (p : Placed) (o : Opening) → unanswered_on log unit ≡ Some p → is_life o.number p.life ≡ false
+pub count_beside : (log : List Logged) (unit event : ℕ) (knows : List ℕ) (p : Placed) (o : Opening) → unanswered_on log unit ≡ Some p
+    → is_life o.number p.life ≡ false
     → landed_count (with_event log (Landed unit event) knows) o ≡ landed_count log o
 count_beside log unit event knows p o first apart =
     let is : IsAnswer log (with_event log (Landed unit event) knows) unit (DidLand event) = its_landing log unit event knows in
     ap (λ ps. length (filter (has_landed (with_event log (Landed unit event) knows)) (filter (λ (q : Placed). is_life o.number q.life) ps))) is.placements
-    ∙ ap length (filter_agree (λ (q : Placed). IsAmong (placements log) q × (is_life o.number q.life ≡ true)) (has_landed (with_event log (Landed unit event) knows)) (has_landed log)
-    (λ q its. same q (others_answer log (with_event log (Landed unit event) knows) unit (DidLand event) p q is (first_unanswered log unit p first) its.0) its.1) (stripes_of log o)
+    ∙ ap length (filter_agree (λ (q : Placed). IsAmong (placements log) q × (is_life o.number q.life ≡ true))
+    (has_landed (with_event log (Landed unit event) knows)) (has_landed log)
+    (λ q its. same q (others_answer log (with_event log (Landed unit event) knows) unit (DidLand event) p q is (first_unanswered log unit p first) its.0) its.1)
+    (stripes_of log o)
     (passed (λ (q : Placed). is_life o.number q.life) (placements log) (placements log) (among_all (placements log))))
   where
-    same : (q : Placed) → (q ≡ p) ⊎ (answer_of (with_event log (Landed unit event) knows) q ≡ answer_of log q) → is_life o.number q.life ≡ true → has_landed (with_event log (Landed unit event) knows) q ≡ has_landed log q
+    same : (q : Placed) → (q ≡ p) ⊎ (answer_of (with_event log (Landed unit event) knows) q ≡ answer_of log q) → is_life o.number q.life ≡ true
+        → has_landed (with_event log (Landed unit event) knows) q ≡ has_landed log q
     same q (inl e) its =
         let not_its : is_life o.number q.life ≡ false = ap (λ (r : Placed). is_life o.number r.life) e ∙ apart in
         absurd (cc (sym its ∙ not_its))

@@ -39,7 +39,8 @@ and_not false b e = refl
 
 -- ---- what is left
 
-left_parts : (xs : List Stripe) → AllByRecursion (λ x. is_lost x ≡ false) xs → (list_any is_unplaced xs || list_any is_unanswered xs) ≡ not (list_all is_landed xs)
+left_parts : (xs : List Stripe) → AllByRecursion (λ x. is_lost x ≡ false) xs
+    → (list_any is_unplaced xs || list_any is_unanswered xs) ≡ not (list_all is_landed xs)
 left_parts [] all = refl
 left_parts (Unplaced ∷ xs) all = refl
 left_parts (Unanswered ∷ xs) all = or_true (list_any is_unplaced xs)
@@ -79,12 +80,14 @@ pub none_lost_in : (i : Image) (logs : Logs) → HaveNoLoss (logs 0) → (o : Op
 none_lost_in i logs none o = all_mapped (λ x. is_lost x ≡ false) (outcome i.shape (logs 0) o (as_opened i logs o))
     (λ j. became_not_lost (logs 0) none (placed_as i.shape (logs 0) o (as_opened i logs o) j)) (numbers (as_opened i logs o))
 
-none_lost_set : (xs : List Stripe) (j : ℕ) (x : Stripe) → is_lost x ≡ false → AllByRecursion (λ x. is_lost x ≡ false) xs → AllByRecursion (λ x. is_lost x ≡ false) (slice_set xs j x)
+none_lost_set : (xs : List Stripe) (j : ℕ) (x : Stripe) → is_lost x ≡ false → AllByRecursion (λ x. is_lost x ≡ false) xs
+    → AllByRecursion (λ x. is_lost x ≡ false) (slice_set xs j x)
 none_lost_set [] j x e all = tt
 none_lost_set (y ∷ ys) zero x e all = (e, all.1)
 none_lost_set (y ∷ ys) (suc j) x e all = (all.0, none_lost_set ys j x e all.1)
 
-none_lost_line : (l : OpenLine) (line j : ℕ) → AllByRecursion (λ x. is_lost x ≡ false) l.stripes → AllByRecursion (λ x. is_lost x ≡ false) (in_line line j HasLanded l).stripes
+none_lost_line : (l : OpenLine) (line j : ℕ) → AllByRecursion (λ x. is_lost x ≡ false) l.stripes
+    → AllByRecursion (λ x. is_lost x ≡ false) (in_line line j HasLanded l).stripes
 none_lost_line l line j all = go (nat_eq l.line line)
   where
     go : (b : Bool) → AllByRecursion (λ x. is_lost x ≡ false) (if b then with_stripe l j HasLanded else l).stripes
@@ -97,9 +100,12 @@ left_until_landed i w o simple = left_by_landing (open_line i (log_of w) o) (non
 
 pub left_after_landing : (i : Image) (w : World) (event : ℕ) (knows : List ℕ) (pad : ℕ) (again : List ℕ) (of : Program) → IsSimpleMount i w
     → IsAwaited i (log_of w) pad again of
-    → left_openings i (after (log_of w) (Landed of.unit event) knows) ≡ filter (λ o. not (list_all is_landed (in_line of.line (of.at / i.shape.ws_opt) HasLanded (open_line i (log_of w) o)).stripes)) (left_openings i (log_of w))
+    → left_openings i (after (log_of w) (Landed of.unit event) knows) ≡ filter
+    (λ o. not (list_all is_landed (in_line of.line (of.at / i.shape.ws_opt) HasLanded (open_line i (log_of w) o)).stripes)) (left_openings i (log_of w))
 left_after_landing i w event knows pad again of simple awaited =
     left_landed i (log_of w) event knows pad again of simple.mount.accepted.drive.ws_opt awaited
-    ∙ filter_same (λ o. has_left (in_line of.line (of.at / i.shape.ws_opt) HasLanded (open_line i (log_of w) o))) (λ o. not (list_all is_landed (in_line of.line (of.at / i.shape.ws_opt) HasLanded (open_line i (log_of w) o)).stripes))
-    (λ o. left_by_landing (in_line of.line (of.at / i.shape.ws_opt) HasLanded (open_line i (log_of w) o)) (none_lost_line (open_line i (log_of w) o) of.line (of.at / i.shape.ws_opt) (none_lost_in i (log_of w) (ordered i w simple).no_loss o)))
+    ∙ filter_same (λ o. has_left (in_line of.line (of.at / i.shape.ws_opt) HasLanded (open_line i (log_of w) o)))
+    (λ o. not (list_all is_landed (in_line of.line (of.at / i.shape.ws_opt) HasLanded (open_line i (log_of w) o)).stripes))
+    (λ o. left_by_landing (in_line of.line (of.at / i.shape.ws_opt) HasLanded (open_line i (log_of w) o))
+    (none_lost_line (open_line i (log_of w) o) of.line (of.at / i.shape.ws_opt) (none_lost_in i (log_of w) (ordered i w simple).no_loss o)))
     (left_openings i (log_of w))

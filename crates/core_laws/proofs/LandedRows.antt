@@ -29,52 +29,68 @@ use Rattle.pblk_world.proofs.EngineLogLemmas.{takes_more}
 
 -- ---- entries stay where they are
 
-pub force_kept : (log new : List Logged) → ((line : ℕ) → life_of new line ≡ life_of log line) → (life : LineLife) (line : ℕ) → is_in_force new life line ≡ is_in_force log life line
+pub force_kept : (log new : List Logged) → ((line : ℕ) → life_of new line ≡ life_of log line) → (life : LineLife) (line : ℕ)
+    → is_in_force new life line ≡ is_in_force log life line
 force_kept log new lives AsFound line = refl
 force_kept log new lives (Opened o) line = ap (is_life o.number) (lives line)
 force_kept log new lives (Freed past knows) line = refl
 
-position_kept : (s : Shape) (log new : List Logged) → KeepsStripes log new → ((line : ℕ) → life_of new line ≡ life_of log line) → (position : ℕ) → line_of_position s new position ≡ line_of_position s log position
+position_kept : (s : Shape) (log new : List Logged) → KeepsStripes log new → ((line : ℕ) → life_of new line ≡ life_of log line) → (position : ℕ)
+    → line_of_position s new position ≡ line_of_position s log position
 position_kept s log new kept lives position =
-    ap (λ ps. option_map (λ (p : Placed). p.stripe.line) (find (λ (p : Placed). holds_position s position p && not (was_lost new p) && is_in_force new p.life p.stripe.line) ps)) kept.placements
+    ap (λ ps. option_map (λ (p : Placed). p.stripe.line)
+    (find (λ (p : Placed). holds_position s position p && not (was_lost new p) && is_in_force new p.life p.stripe.line) ps)) kept.placements
     ∙ ap (option_map (λ (p : Placed). p.stripe.line))
-    (find_same (λ (p : Placed). holds_position s position p && not (was_lost new p) && is_in_force new p.life p.stripe.line) (λ (p : Placed). holds_position s position p && not (was_lost log p) && is_in_force log p.life p.stripe.line)
+    (find_same (λ (p : Placed). holds_position s position p && not (was_lost new p) && is_in_force new p.life p.stripe.line)
+    (λ (p : Placed). holds_position s position p && not (was_lost log p) && is_in_force log p.life p.stripe.line)
     (λ p. ap₂ (λ a b. holds_position s position p && not a && b) (kept.losses p) (force_kept log new lives p.life p.stripe.line)) (placements log))
 
-pub winner_kept : (i : Image) (logs new : Logs) → found_image i new ≡ found_image i logs → ((line : ℕ) → life_of (new 0) line ≡ life_of (logs 0) line) → (lba : ℕ) → line_of_winner i new lba ≡ line_of_winner i logs lba
+pub winner_kept : (i : Image) (logs new : Logs) → found_image i new ≡ found_image i logs → ((line : ℕ) → life_of (new 0) line ≡ life_of (logs 0) line)
+    → (lba : ℕ) → line_of_winner i new lba ≡ line_of_winner i logs lba
 winner_kept i logs new found lives lba =
     ap (λ (f : Image). option_and_then (λ (r : Record). if is_as_found (life_of (new 0) r.line) then Some r.line else None) (winner (counted f) lba)) found
     ∙ go (winner (counted (found_image i logs)) lba)
   where
-    go : (o : Option Record) → option_and_then (λ (r : Record). if is_as_found (life_of (new 0) r.line) then Some r.line else None) o ≡ option_and_then (λ (r : Record). if is_as_found (life_of (logs 0) r.line) then Some r.line else None) o
+    go : (o : Option Record) → option_and_then (λ (r : Record). if is_as_found (life_of (new 0) r.line) then Some r.line else None) o ≡ option_and_then
+        (λ (r : Record). if is_as_found (life_of (logs 0) r.line) then Some r.line else None) o
     go None = refl
     go (Some r) = ap (λ (l : LineLife). if is_as_found l then Some r.line else None) (lives r.line)
 
-pub line_of_kept : (i : Image) (logs : Logs) (e : EngineEvent) (knows : List ℕ) → keeps_addresses e ≡ true → begun_by knows (Decides e) ≡ None → (lba : ℕ) (t : Option Taken)
+pub line_of_kept : (i : Image) (logs : Logs) (e : EngineEvent) (knows : List ℕ) → keeps_addresses e ≡ true → begun_by knows (Decides e) ≡ None
+    → (lba : ℕ) (t : Option Taken)
     → line_of i (after logs e knows) lba t ≡ line_of i logs lba t
-line_of_kept i logs e knows keeps none lba None = winner_kept i logs (after logs e knows) (found_kept i logs e knows none) (λ line. lives_kept (logs 0) e knows line keeps) lba
+line_of_kept i logs e knows keeps none lba None =
+    winner_kept i logs (after logs e knows) (found_kept i logs e knows none) (λ line. lives_kept (logs 0) e knows line keeps) lba
 line_of_kept i logs e knows keeps none lba (Some t) =
-    position_kept i.shape (logs 0) (after logs e knows 0) (stripes_kept (logs 0) e knows (also_stripes e keeps)) (λ line. lives_kept (logs 0) e knows line keeps) t.entry.position
+    position_kept i.shape (logs 0) (after logs e knows 0) (stripes_kept (logs 0) e knows (also_stripes e keeps))
+    (λ line. lives_kept (logs 0) e knows line keeps) t.entry.position
 
 -- nor is anything answered
-landed_kept : (s : Shape) (log new : List Logged) → AreAlike log new → ((line : ℕ) → life_of new line ≡ life_of log line) → (position : ℕ) → landed_line s new position ≡ landed_line s log position
+landed_kept : (s : Shape) (log new : List Logged) → AreAlike log new → ((line : ℕ) → life_of new line ≡ life_of log line) → (position : ℕ)
+    → landed_line s new position ≡ landed_line s log position
 landed_kept s log new alike lives position =
-    ap (λ ps. option_map (λ (p : Placed). p.stripe.line) (find (λ (p : Placed). holds_position s position p && has_landed new p && is_in_force new p.life p.stripe.line) ps)) alike.placements
+    ap (λ ps. option_map (λ (p : Placed). p.stripe.line)
+    (find (λ (p : Placed). holds_position s position p && has_landed new p && is_in_force new p.life p.stripe.line) ps)) alike.placements
     ∙ ap (option_map (λ (p : Placed). p.stripe.line))
-    (find_same (λ (p : Placed). holds_position s position p && has_landed new p && is_in_force new p.life p.stripe.line) (λ (p : Placed). holds_position s position p && has_landed log p && is_in_force log p.life p.stripe.line)
+    (find_same (λ (p : Placed). holds_position s position p && has_landed new p && is_in_force new p.life p.stripe.line)
+    (λ (p : Placed). holds_position s position p && has_landed log p && is_in_force log p.life p.stripe.line)
     (λ p. ap₂ (λ a b. holds_position s position p && a && b) (landed_same log new alike p) (force_kept log new lives p.life p.stripe.line)) (placements log))
 
-pub landed_of_kept : (i : Image) (logs : Logs) (e : EngineEvent) (knows : List ℕ) → keeps_addresses e ≡ true → begun_by knows (Decides e) ≡ None → ((unit : ℕ) → answer_by unit (Decides e) ≡ None) → (lba : ℕ) (t : Option Taken)
+pub landed_of_kept : (i : Image) (logs : Logs) (e : EngineEvent) (knows : List ℕ) → keeps_addresses e ≡ true → begun_by knows (Decides e) ≡ None
+    → ((unit : ℕ) → answer_by unit (Decides e) ≡ None) → (lba : ℕ) (t : Option Taken)
     → landed_line_of i (after logs e knows) lba t ≡ landed_line_of i logs lba t
 landed_of_kept i logs e knows keeps none unanswered lba None =
     winner_kept i logs (after logs e knows) (found_kept i logs e knows none) (λ line. lives_kept (logs 0) e knows line keeps) lba
 landed_of_kept i logs e knows keeps none unanswered lba (Some t) =
-    landed_kept i.shape (logs 0) (after logs e knows 0) (alike_kept (logs 0) e knows (also_stripes e keeps) unanswered) (λ line. lives_kept (logs 0) e knows line keeps) t.entry.position
+    landed_kept i.shape (logs 0) (after logs e knows 0) (alike_kept (logs 0) e knows (also_stripes e keeps) unanswered)
+    (λ line. lives_kept (logs 0) e knows line keeps) t.entry.position
 
 pub none_taken : (log : List Logged) (e : EngineEvent) (knows : List ℕ) → taken_by (Decides e) ≡ None → takes (with_event log e knows) ≡ takes log
-none_taken log e knows none = takes_more log (record { event = Decides e; knows = knows }) ∙ ap (λ o. takes log ++ option_to_list o) none ∙ append-nil (takes log)
+none_taken log e knows none = takes_more log (record { event = Decides e; knows = knows }) ∙ ap (λ o. takes log ++ option_to_list o) none
+    ∙ append-nil (takes log)
 
-pub lines_kept : (i : Image) (logs : Logs) (e : EngineEvent) (knows : List ℕ) → keeps_addresses e ≡ true → begun_by knows (Decides e) ≡ None → taken_by (Decides e) ≡ None → ((unit : ℕ) → answer_by unit (Decides e) ≡ None)
+pub lines_kept : (i : Image) (logs : Logs) (e : EngineEvent) (knows : List ℕ) → keeps_addresses e ≡ true → begun_by knows (Decides e) ≡ None
+    → taken_by (Decides e) ≡ None → ((unit : ℕ) → answer_by unit (Decides e) ≡ None)
     → KeepsLines i logs (after logs e knows)
 lines_kept i logs e knows keeps none untaken unanswered = record {
   takes = none_taken (logs 0) e knows untaken;
@@ -87,7 +103,8 @@ lines_kept i logs e knows keeps none untaken unanswered = record {
 pub event_beside : (s : Shape) (chunks : List Chunk) (e : UnitEvent) (m : ℕ) → m ≢ e.chunk → slice_get (after_event s chunks e) m ≡ slice_get chunks m
 event_beside s chunks e m other = go (slice_get chunks e.chunk)
   where
-    go : (o : Option Chunk) → slice_get (option_map_or (λ (c : Chunk). slice_set chunks e.chunk (after_outcome s c e.command e.outcome)) o chunks) m ≡ slice_get chunks m
+    go : (o : Option Chunk) → slice_get (option_map_or (λ (c : Chunk). slice_set chunks e.chunk (after_outcome s c e.command e.outcome)) o chunks) m ≡ slice_get
+        chunks m
     go None = refl
     go (Some c) = get_set_other chunks e.chunk m (after_outcome s c e.command e.outcome) other
 
@@ -97,25 +114,30 @@ log_beside s chunks log None m other = ap (λ xs. slice_get (after_log s chunks 
 log_beside s chunks log (Some e) m other =
     ap (λ cs. slice_get cs m) (fold-append (after_event s) chunks log (e ∷ [])) ∙ event_beside s (after_log s chunks log) e m (other e refl)
 
-told_more : (logs : Logs) (e : EngineEvent) (knows : List ℕ) (unit : ℕ) → told_events (after logs e knows) unit ≡ told_events logs unit ++ option_to_list (told_by logs unit (Decides e))
+told_more : (logs : Logs) (e : EngineEvent) (knows : List ℕ) (unit : ℕ)
+    → told_events (after logs e knows) unit ≡ told_events logs unit ++ option_to_list (told_by logs unit (Decides e))
 told_more logs e knows unit =
     filter_map-append (λ (l : Logged). told_by logs unit l.event) (logs 0) (record { event = Decides e; knows = knows } ∷ [])
     ∙ ap (λ xs. filter_map (λ (l : Logged). told_by logs unit l.event) (logs 0) ++ xs) (one_more (told_by logs unit (Decides e)))
 
-made_same : {X : Type 0} (f g : X → List Chunk) (m : ℕ) → ((x : X) → slice_get (f x) m ≡ slice_get (g x) m) → (xs : List X) → filter_map (λ unit. slice_get unit m) (map f xs) ≡ filter_map (λ unit. slice_get unit m) (map g xs)
+made_same : {X : Type 0} (f g : X → List Chunk) (m : ℕ) → ((x : X) → slice_get (f x) m ≡ slice_get (g x) m) → (xs : List X)
+    → filter_map (λ unit. slice_get unit m) (map f xs) ≡ filter_map (λ unit. slice_get unit m) (map g xs)
 made_same f g m same [] = refl
 made_same f g m same (x ∷ xs) = ap₂ (λ o ys. cons_option o ys) (same x) (made_same f g m same xs)
 
-pub chunks_beside : (i : Image) (logs : Logs) (e : EngineEvent) (knows : List ℕ) (m : ℕ) → begun_by knows (Decides e) ≡ None → ((unit : ℕ) (u : UnitEvent) → told_by logs unit (Decides e) ≡ Some u → m ≢ u.chunk)
+pub chunks_beside : (i : Image) (logs : Logs) (e : EngineEvent) (knows : List ℕ) (m : ℕ) → begun_by knows (Decides e) ≡ None
+    → ((unit : ℕ) (u : UnitEvent) → told_by logs unit (Decides e) ≡ Some u → m ≢ u.chunk)
     → chunks_of (known_image i (after logs e knows)) m ≡ chunks_of (known_image i logs) m
 chunks_beside i logs e knows m none beside =
     let new : Logs = after logs e knows in
-    ap (λ (j : Image). filter_map (λ unit. slice_get unit m) (map (λ unit. after_log i.shape unit.1 (told_events new unit.0)) (enumerate_from 0 j.units))) (found_kept i logs e knows none)
+    ap (λ (j : Image). filter_map (λ unit. slice_get unit m) (map (λ unit. after_log i.shape unit.1 (told_events new unit.0)) (enumerate_from 0 j.units)))
+    (found_kept i logs e knows none)
     ∙ made_same (λ unit. after_log i.shape unit.1 (told_events new unit.0)) (λ unit. after_log i.shape unit.1 (told_events logs unit.0)) m
     (λ unit. ap (λ xs. slice_get (after_log i.shape unit.1 xs) m) (told_more logs e knows unit.0)
     ∙ log_beside i.shape unit.1 (told_events logs unit.0) (told_by logs unit.0 (Decides e)) m (beside unit.0)) (enumerate_from 0 (found_image i logs).units)
 
-pub keeps_chunks : (i : Image) (logs : Logs) (e : EngineEvent) (knows : List ℕ) (m : ℕ) → begun_by knows (Decides e) ≡ None → ((unit : ℕ) (u : UnitEvent) → told_by logs unit (Decides e) ≡ Some u → m ≢ u.chunk)
+pub keeps_chunks : (i : Image) (logs : Logs) (e : EngineEvent) (knows : List ℕ) (m : ℕ) → begun_by knows (Decides e) ≡ None
+    → ((unit : ℕ) (u : UnitEvent) → told_by logs unit (Decides e) ≡ Some u → m ≢ u.chunk)
     → KeepsChunks i logs (after logs e knows) m
 keeps_chunks i logs e knows m none beside =
     let same : chunks_of (known_image i (after logs e knows)) m ≡ chunks_of (known_image i logs) m = chunks_beside i logs e knows m none beside in

@@ -27,7 +27,8 @@ none_lost : (unit : ℕ) (log : List Logged) → ArePlain log → AllByRecursion
 none_lost unit [] plain = tt
 none_lost unit (l ∷ log) plain = go (answer_by unit l.event) refl (none_lost unit log plain.1)
   where
-    go : (o : Option Answer) → answer_by unit l.event ≡ o → AllByRecursion (λ a. lost_with a ≡ false) (answers log unit) → AllByRecursion (λ a. lost_with a ≡ false) (cons_option o (answers log unit))
+    go : (o : Option Answer) → answer_by unit l.event ≡ o → AllByRecursion (λ a. lost_with a ≡ false) (answers log unit)
+        → AllByRecursion (λ a. lost_with a ≡ false) (cons_option o (answers log unit))
     go None e rest = rest
     go (Some a) e rest = (not_lost_by unit l.event a plain.0 e, rest)
 
@@ -42,15 +43,18 @@ abbrev turn_in : List Placed → Placed → ℕ
 turn_in ps p = length (filter (λ (q : Placed). nat_lt q.number p.number) (filter (λ (q : Placed). q.stripe.unit == p.stripe.unit) ps))
 
 -- where no stripe is placed
-pub landed_more : (log : List Logged) (l : Logged) (p : Placed) → placements (log ++ l ∷ []) ≡ placements log → has_landed log p ≡ true → has_landed (log ++ l ∷ []) p ≡ true
+pub landed_more : (log : List Logged) (l : Logged) (p : Placed) → placements (log ++ l ∷ []) ≡ placements log → has_landed log p ≡ true
+    → has_landed (log ++ l ∷ []) p ≡ true
 landed_more log l p same is =
     ap₂ (λ (xs : List Answer) k. is_land (slice_get xs k)) (answers_more log l p.stripe.unit) (ap (λ ps. turn_in ps p) same)
     ∙ land_more (answers log p.stripe.unit) (option_to_list (answer_by p.stripe.unit l.event)) (turn log p) is
 
-pub all_landed : (old new : List Logged) (P : Placed → Type 0) (ps : List Placed) → ((p : Placed) → P p → has_landed old p ≡ true → has_landed new p ≡ true) → AllByRecursion P ps → list_all (has_landed old) ps ≡ true → list_all (has_landed new) ps ≡ true
+pub all_landed : (old new : List Logged) (P : Placed → Type 0) (ps : List Placed) → ((p : Placed) → P p → has_landed old p ≡ true → has_landed new p ≡ true)
+    → AllByRecursion P ps → list_all (has_landed old) ps ≡ true → list_all (has_landed new) ps ≡ true
 all_landed old new P [] says all is = refl
 all_landed old new P (p ∷ ps) says all is = go (has_landed old p) refl is (λ f. all_landed old new P ps says all.1 f)
   where
-    go : (b : Bool) → has_landed old p ≡ b → (b && list_all (has_landed old) ps) ≡ true → (list_all (has_landed old) ps ≡ true → list_all (has_landed new) ps ≡ true) → (has_landed new p && list_all (has_landed new) ps) ≡ true
+    go : (b : Bool) → has_landed old p ≡ b → (b && list_all (has_landed old) ps) ≡ true
+        → (list_all (has_landed old) ps ≡ true → list_all (has_landed new) ps ≡ true) → (has_landed new p && list_all (has_landed new) ps) ≡ true
     go true e f rest = ap₂ (λ a b. a && b) (says p all.0 e) (rest f)
     go false e f rest = absurd cc

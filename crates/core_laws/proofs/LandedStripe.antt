@@ -33,10 +33,13 @@ is_answer log unit event knows =
     record {
       placements = placements_more log l ∙ append-nil (placements log);
       here = answers_more log l unit ∙ ap (λ b. answers log unit ++ option_to_list (if b then Some (DidLand event) else None)) (same_number unit);
-      elsewhere = λ v other. answers_more log l v ∙ ap (λ b. answers log v ++ option_to_list (if b then Some (DidLand event) else None)) (other_number unit v (λ e. other (sym e))) ∙ append-nil (answers log v);
+      elsewhere = λ v other. answers_more log l v
+          ∙ ap (λ b. answers log v ++ option_to_list (if b then Some (DidLand event) else None)) (other_number unit v (λ e. other (sym e)))
+          ∙ append-nil (answers log v);
     }
 
-pub one_more : (log : List Logged) (unit event : ℕ) (knows : List ℕ) (p : Placed) → unanswered_on log unit ≡ Some p → IsOneMore log (with_landing log unit event knows) p
+pub one_more : (log : List Logged) (unit event : ℕ) (knows : List ℕ) (p : Placed) → unanswered_on log unit ≡ Some p
+    → IsOneMore log (with_landing log unit event knows) p
 one_more log unit event knows p waits =
     let new : List Logged = with_landing log unit event knows in
     let is : IsAnswer log (with_landing log unit event knows) unit (DidLand event) = is_answer log unit event knows in
@@ -45,10 +48,12 @@ one_more log unit event knows p waits =
     record {
       stripes = is.placements;
       among = first.among;
-      before = ap (λ n. slice_get (answers log p.stripe.unit) n) (first.turn_is ∙ ap (λ u. length (answers log u)) (sym first.of_unit)) ∙ slice_get_past (answers log p.stripe.unit) (length (answers log p.stripe.unit)) (omega arith);
+      before = ap (λ n. slice_get (answers log p.stripe.unit) n) (first.turn_is ∙ ap (λ u. length (answers log u)) (sym first.of_unit))
+          ∙ slice_get_past (answers log p.stripe.unit) (length (answers log p.stripe.unit)) (omega arith);
       now = ap is_land answer;
       not_lost = ap is_loss answer;
-      others = all_imply (IsAmong (placements log)) (λ (r : Placed). (r ≡ p) ⊎ (answer_of new r ≡ answer_of log r)) (λ r among. others_answer log new unit (DidLand event) p r is first among) (placements log) (among_all (placements log));
+      others = all_imply (IsAmong (placements log)) (λ (r : Placed). (r ≡ p) ⊎ (answer_of new r ≡ answer_of log r))
+          (λ r among. others_answer log new unit (DidLand event) p r is first among) (placements log) (among_all (placements log));
     }
 
 -- ---- a test that one more element passes
@@ -67,7 +72,8 @@ any_with f (x ∷ xs) (suc k) p e = go (f x) (any_with f xs k p e)
     go true rest = refl
     go false rest = rest
 
-any_but : {X : Type 0} (f g : X → Bool) (p : X) (xs : List X) → g p ≡ false → AllByRecursion (λ x. (x ≡ p) ⊎ (f x ≡ g x)) xs → (list_any f xs || f p) ≡ (list_any g xs || f p)
+any_but : {X : Type 0} (f g : X → Bool) (p : X) (xs : List X) → g p ≡ false → AllByRecursion (λ x. (x ≡ p) ⊎ (f x ≡ g x)) xs
+    → (list_any f xs || f p) ≡ (list_any g xs || f p)
 any_but f g p [] none all = refl
 any_but {X} f g p (x ∷ xs) none all = go all.0 (any_but f g p xs none all.1)
   where
@@ -80,24 +86,29 @@ any_but {X} f g p (x ∷ xs) none all = go all.0 (any_but f g p xs none all.1)
     keep b c d false rest = rest
 
     go : (x ≡ p) ⊎ (f x ≡ g x) → (list_any f xs || f p) ≡ (list_any g xs || f p) → ((f x || list_any f xs) || f p) ≡ ((g x || list_any g xs) || f p)
-    go (inl same) rest = ap (λ a. (a || list_any f xs) || f p) (ap f same) ∙ by (f p) (list_any f xs) (list_any g xs) rest ∙ ap (λ b. (b || list_any g xs) || f p) (sym (ap g same ∙ none))
+    go (inl same) rest = ap (λ a. (a || list_any f xs) || f p) (ap f same) ∙ by (f p) (list_any f xs) (list_any g xs) rest
+        ∙ ap (λ b. (b || list_any g xs) || f p) (sym (ap g same ∙ none))
     go (inr kept) rest = keep (f p) (list_any f xs) (list_any g xs) (f x) rest ∙ ap (λ b. (b || list_any g xs) || f p) kept
 
-pub any_more : {X : Type 0} (f g : X → Bool) (p : X) (xs : List X) → IsAmong xs p → g p ≡ false → AllByRecursion (λ x. (x ≡ p) ⊎ (f x ≡ g x)) xs → list_any f xs ≡ (list_any g xs || f p)
+pub any_more : {X : Type 0} (f g : X → Bool) (p : X) (xs : List X) → IsAmong xs p → g p ≡ false → AllByRecursion (λ x. (x ≡ p) ⊎ (f x ≡ g x)) xs
+    → list_any f xs ≡ (list_any g xs || f p)
 any_more f g p xs among none all = sym (any_with f xs among.0 p among.1) ∙ any_but f g p xs none all
 
 -- ---- which positions have landed
 
-landed_or : (log new : List Logged) (p : Placed) (also : Placed → Bool) (r : Placed) → (r ≡ p) ⊎ (answer_of new r ≡ answer_of log r) → (r ≡ p) ⊎ ((has_landed new r && also r) ≡ (has_landed log r && also r))
+landed_or : (log new : List Logged) (p : Placed) (also : Placed → Bool) (r : Placed) → (r ≡ p) ⊎ (answer_of new r ≡ answer_of log r)
+    → (r ≡ p) ⊎ ((has_landed new r && also r) ≡ (has_landed log r && also r))
 landed_or log new p also r (inl same) = inl same
 landed_or log new p also r (inr kept) = inr (ap (λ a. is_land a && also r) kept)
 
-pub landed_at_by : (s : Shape) (log new : List Logged) (p : Placed) (q : ℕ) → IsOneMore log new p → has_landed_at s new q ≡ (has_landed_at s log q || holds_position s q p)
+pub landed_at_by : (s : Shape) (log new : List Logged) (p : Placed) (q : ℕ) → IsOneMore log new p
+    → has_landed_at s new q ≡ (has_landed_at s log q || holds_position s q p)
 landed_at_by s log new p q is =
     ap (λ ps. list_any (λ r. has_landed new r && holds_position s q r) ps) is.stripes
     ∙ any_more (λ r. has_landed new r && holds_position s q r) (λ r. has_landed log r && holds_position s q r) p (placements log) is.among
     (ap (λ a. is_land a && holds_position s q p) is.before)
-    (all_imply (λ (r : Placed). (r ≡ p) ⊎ (answer_of new r ≡ answer_of log r)) (λ (r : Placed). (r ≡ p) ⊎ ((has_landed new r && holds_position s q r) ≡ (has_landed log r && holds_position s q r)))
+    (all_imply (λ (r : Placed). (r ≡ p) ⊎ (answer_of new r ≡ answer_of log r))
+    (λ (r : Placed). (r ≡ p) ⊎ ((has_landed new r && holds_position s q r) ≡ (has_landed log r && holds_position s q r)))
     (λ r other. landed_or log new p (holds_position s q) r other) (placements log) is.others)
     ∙ ap (λ b. has_landed_at s log q || (b && holds_position s q p)) is.now
 

@@ -28,7 +28,8 @@ use Rattle.lemmas.proofs.Lists.{all_append}
 use Rattle.pblk_world.proofs.EngineLogLemmas.{takes_more}
 
 pub plain_landing : (log : List Logged) (unit event : ℕ) (knows : List ℕ) → ArePlain log → ArePlain (with_landing log unit event knows)
-plain_landing log unit event knows plain = all_append (λ (l : Logged). is_plain_event l.event ≡ true) log (record { event = Decides (Landed unit event); knows = knows } ∷ []) plain (refl, tt)
+plain_landing log unit event knows plain =
+    all_append (λ (l : Logged). is_plain_event l.event ≡ true) log (record { event = Decides (Landed unit event); knows = knows } ∷ []) plain (refl, tt)
 
 -- the stripe that lands next on a unit of a simple mount
 pub landed_now : (i : Image) (w : World) (unit event : ℕ) (knows : List ℕ) (p : Placed) (o : Opening) → IsSimpleMount i w
@@ -38,8 +39,10 @@ landed_now i w unit event knows p o simple waits life rows =
     let log : List Logged = log_of w 0 in
     let new : List Logged = with_landing (log_of w 0) unit event knows in
     let its : p.stripe.unit ≡ unit = (first_unanswered (log_of w 0) unit p waits).of_unit in
-    let more : length (answers new unit) ≡ length (answers log unit) + 1 = ap length (is_answer log unit event knows).here ∙ length-append (answers log unit) (DidLand event ∷ []) in
-    let same : length (placed_on new unit) ≡ length (placed_on log unit) = ap (λ (ps : List Placed). length (filter (λ (r : Placed). r.stripe.unit == unit) ps)) (is_answer log unit event knows).placements in
+    let more : length (answers new unit) ≡ length (answers log unit) + 1 = ap length (is_answer log unit event knows).here
+    ∙ length-append (answers log unit) (DidLand event ∷ []) in
+    let same : length (placed_on new unit) ≡ length (placed_on log unit) =
+    ap (λ (ps : List Placed). length (filter (λ (r : Placed). r.stripe.unit == unit) ps)) (is_answer log unit event knows).placements in
     let one : length (placed_on log unit) ≤ length (answers log unit) + 1 = one_unanswered i w simple.mount.legal unit in
     record {
       one_more = one_more log unit event knows p waits;
@@ -69,14 +72,16 @@ held_now s log new p o t is = ap (λ (progress : Progress). record {
   sector = t.entry.sector;
   progress = progress;
 }) (ap₂ progress_by (landed_at_by s log new p t.entry.position is.one_more) (given_now s log new p o t.entry.position is)
-    ∙ progress_now (has_landed_at s log t.entry.position) (is_given_back s log t.entry.position) (holds_position s t.entry.position p) (can_be_read s new o p.stripe.unit t.entry.position) (given_landed s log t.entry.position))
+    ∙ progress_now (has_landed_at s log t.entry.position) (is_given_back s log t.entry.position) (holds_position s t.entry.position p)
+    (can_be_read s new o p.stripe.unit t.entry.position) (given_landed s log t.entry.position))
 
 each_now : (s : Shape) (log new : List Logged) (p : Placed) (o : Opening) (ts : List Taken) → IsLandedNow s log new p o
     → map (held_of s new) ts ≡ map (advanced_sector (λ q. holds_position s q p) (can_be_read s new o p.stripe.unit)) (map (held_of s log) ts)
 each_now s log new p o [] is = refl
 each_now s log new p o (t ∷ ts) is = ap₂ (λ (h : HeldSector) hs. h ∷ hs) (held_now s log new p o t is) (each_now s log new p o ts is)
 
-pub window_now : (s : Shape) (log new : List Logged) (p : Placed) (o : Opening) (from : ℕ) → IsLandedNow s log new p o → takes new ≡ takes log → first_position new ≡ first_position log
+pub window_now : (s : Shape) (log new : List Logged) (p : Placed) (o : Opening) (from : ℕ) → IsLandedNow s log new p o → takes new ≡ takes log
+    → first_position new ≡ first_position log
     → window_from s new from ≡ advanced_window (λ q. holds_position s q p) (can_be_read s new o p.stripe.unit) (window_from s log from)
 window_now s log new p o from is same first = same_window from (users_below new from) (users_below log from)
     (map (held_of s new) (drop (from - first_position new) (takes new)))
@@ -90,21 +95,26 @@ window_now s log new p o from is same first = same_window from (users_below new 
 pub window_landed : (i : Image) (w : World) (unit event : ℕ) (knows : List ℕ) (p : Placed) (o : Opening) (from : ℕ) → IsSimpleMount i w
     → unanswered_on (log_of w 0) unit ≡ Some p → p.life ≡ Opened o → AreInRows i.shape (log_of w 0) o unit
     → window_from i.shape (with_landing (log_of w 0) unit event knows) from
-    ≡ advanced_window (λ q. holds_position i.shape q p) (can_be_read i.shape (with_landing (log_of w 0) unit event knows) o unit) (window_from i.shape (log_of w 0) from)
+    ≡ advanced_window (λ q. holds_position i.shape q p) (can_be_read i.shape (with_landing (log_of w 0) unit event knows) o unit)
+    (window_from i.shape (log_of w 0) from)
 window_landed i w unit event knows p o from simple waits life rows =
     let log : List Logged = log_of w 0 in
     let new : List Logged = with_landing (log_of w 0) unit event knows in
     let l : Logged = record { event = Decides (Landed unit event); knows = knows } in
     let its : p.stripe.unit ≡ unit = (first_unanswered (log_of w 0) unit p waits).of_unit in
-    subst (λ u. window_from i.shape (with_landing (log_of w 0) unit event knows) from ≡ advanced_window (λ q. holds_position i.shape q p) (can_be_read i.shape (with_landing (log_of w 0) unit event knows) o u) (window_from i.shape (log_of w 0) from)) its
-    (window_now i.shape log new p o from (landed_now i w unit event knows p o simple waits life rows) (takes_more log l ∙ append-nil (takes log)) (first_kept log (Landed unit event) knows refl))
+    subst (λ u. window_from i.shape (with_landing (log_of w 0) unit event knows) from ≡ advanced_window (λ q. holds_position i.shape q p)
+    (can_be_read i.shape (with_landing (log_of w 0) unit event knows) o u) (window_from i.shape (log_of w 0) from)) its
+    (window_now i.shape log new p o from (landed_now i w unit event knows p o simple waits life rows) (takes_more log l ∙ append-nil (takes log))
+    (first_kept log (Landed unit event) knows refl))
 
 pub given_back_landed : (i : Image) (w : World) (unit event : ℕ) (knows : List ℕ) (p : Placed) (o : Opening) (q : ℕ) → IsSimpleMount i w
     → unanswered_on (log_of w 0) unit ≡ Some p → p.life ≡ Opened o → AreInRows i.shape (log_of w 0) o unit
-    → is_given_back i.shape (with_landing (log_of w 0) unit event knows) q ≡ (is_given_back i.shape (log_of w 0) q || can_be_read i.shape (with_landing (log_of w 0) unit event knows) o unit q)
+    → is_given_back i.shape (with_landing (log_of w 0) unit event knows) q ≡
+    (is_given_back i.shape (log_of w 0) q || can_be_read i.shape (with_landing (log_of w 0) unit event knows) o unit q)
 given_back_landed i w unit event knows p o q simple waits life rows =
     let log : List Logged = log_of w 0 in
     let new : List Logged = with_landing (log_of w 0) unit event knows in
     let its : p.stripe.unit ≡ unit = (first_unanswered (log_of w 0) unit p waits).of_unit in
-    subst (λ u. is_given_back i.shape (with_landing (log_of w 0) unit event knows) q ≡ (is_given_back i.shape (log_of w 0) q || can_be_read i.shape (with_landing (log_of w 0) unit event knows) o u q)) its
+    subst (λ u. is_given_back i.shape (with_landing (log_of w 0) unit event knows) q ≡
+    (is_given_back i.shape (log_of w 0) q || can_be_read i.shape (with_landing (log_of w 0) unit event knows) o u q)) its
     (given_now i.shape log new p o q (landed_now i w unit event knows p o simple waits life rows))

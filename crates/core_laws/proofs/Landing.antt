@@ -35,7 +35,8 @@ commute test g f [] all = refl
 commute {O} {X} test g f (x ∷ xs) all = go (test (f x)) refl (commute test g f xs all.1)
   where
     go : (b : Bool) → test (f x) ≡ b → filter test (map (λ x. g (f x)) xs) ≡ filter test (map g (filter test (map f xs)))
-        → cond (test (g (f x))) (g (f x) ∷ filter test (map (λ x. g (f x)) xs)) (filter test (map (λ x. g (f x)) xs)) ≡ filter test (map g (cond b (f x ∷ filter test (map f xs)) (filter test (map f xs))))
+        → cond (test (g (f x))) (g (f x) ∷ filter test (map (λ x. g (f x)) xs)) (filter test (map (λ x. g (f x)) xs)) ≡ filter test
+        (map g (cond b (f x ∷ filter test (map f xs)) (filter test (map f xs))))
     go true e rest = ap (λ ys. cond (test (g (f x))) (g (f x) ∷ ys) ys) rest
     go false e rest = ap (λ b. cond b (g (f x) ∷ filter test (map (λ x. g (f x)) xs)) (filter test (map (λ x. g (f x)) xs))) (all.0 e) ∙ rest
 
@@ -46,14 +47,18 @@ pub record IsAnswerOnly (log new : List Logged) (unit : ℕ) (a : Answer) : Type
   pub takes : takes new ≡ takes log
   pub stopped : (v : ℕ) → was_stopped_on new v ≡ was_stopped_on log v
 
-lines_answered : (i : Image) (logs : Logs) (e : EngineEvent) (knows : List ℕ) (o : Opening) (of : Program) (a : Answer) (q : Placed) → 0 < i.shape.ws_opt → IsAnswerOnly (logs 0) (after logs e knows 0) of.unit a → IsAnsweredAt i logs o of q
+lines_answered : (i : Image) (logs : Logs) (e : EngineEvent) (knows : List ℕ) (o : Opening) (of : Program) (a : Answer) (q : Placed) → 0 < i.shape.ws_opt
+    → IsAnswerOnly (logs 0) (after logs e knows 0) of.unit a → IsAnsweredAt i logs o of q
     → open_lines i (after logs e knows) ≡ filter has_left (map (in_line of.line (of.at / i.shape.ws_opt) (by_answer (Some a))) (open_lines i logs))
 lines_answered i logs e knows o of a q some is at =
     ap (λ os. filter has_left (map (open_line i (after logs e knows)) os)) is.standing
-    ∙ ap (filter has_left) (map_agree (IsStanding (logs 0)) (open_line i (after logs e knows)) (λ other. in_line of.line (of.at / i.shape.ws_opt) (by_answer (Some a)) (open_line i logs other))
+    ∙ ap (filter has_left) (map_agree (IsStanding (logs 0)) (open_line i (after logs e knows))
+    (λ other. in_line of.line (of.at / i.shape.ws_opt) (by_answer (Some a)) (open_line i logs other))
     (line_answered i logs e knows o of a q some is.answer at) (standing (logs 0)) (all_standing (logs 0)))
     ∙ commute has_left (in_line of.line (of.at / i.shape.ws_opt) (by_answer (Some a))) (open_line i logs) (standing (logs 0))
-    (all_imply (IsStanding (logs 0)) (λ other. has_left (open_line i logs other) ≡ false → has_left (in_line of.line (of.at / i.shape.ws_opt) (by_answer (Some a)) (open_line i logs other)) ≡ false)
+    (all_imply (IsStanding (logs 0))
+    (λ other. has_left (open_line i logs other) ≡ false
+    → has_left (in_line of.line (of.at / i.shape.ws_opt) (by_answer (Some a)) (open_line i logs other)) ≡ false)
     (λ other stands none. none_left i logs o of q (by_answer (Some a)) at other stands none) (standing (logs 0)) (all_standing (logs 0)))
 
 row_of_it : (i : Image) (logs : Logs) (e : EngineEvent) (knows again : List ℕ) (unit : ℕ) (a : Answer) → IsAnswer (logs 0) (after logs e knows 0) unit a
@@ -66,9 +71,11 @@ row_of_it i logs e knows again unit a is one =
     (ap (λ ps. slice_get (filter (λ (p : Placed). p.stripe.unit == unit) ps) (length (answers (new 0) unit))) is.placements
     ∙ slice_get_past (placed_on (logs 0) unit) (length (answers (new 0) unit)) past)
 
-pub placing_answered : (i : Image) (logs : Logs) (e : EngineEvent) (knows : List ℕ) (pad : ℕ) (again : List ℕ) (of : Program) (a : Answer) → 0 < i.shape.ws_opt → IsAwaited i logs pad again of
+pub placing_answered : (i : Image) (logs : Logs) (e : EngineEvent) (knows : List ℕ) (pad : ℕ) (again : List ℕ) (of : Program) (a : Answer) → 0 < i.shape.ws_opt
+    → IsAwaited i logs pad again of
     → IsAnswerOnly (logs 0) (after logs e knows 0) of.unit a
-    → placing_of i (after logs e knows) pad again ≡ record (answered (placing_of i logs pad again) of (by_answer (Some a))) { entries = entries_of i.shape (after logs e knows 0) pad }
+    → placing_of i (after logs e knows) pad again ≡ record
+    (answered (placing_of i logs pad again) of (by_answer (Some a))) { entries = entries_of i.shape (after logs e knows 0) pad }
 placing_answered i logs e knows pad again of a some awaited is =
     let new : Logs = after logs e knows in
     let at : (o : Opening) × (q : Placed) × IsAnsweredAt i logs o of q = answered_at i logs of awaited.stripe awaited.one in
@@ -81,36 +88,47 @@ placing_answered i logs e knows pad again of a some awaited is =
     (rows_set (row_of i logs again) (row_of i new again) (units i.shape) 0 of.unit Idle row.0
     (ap (row_of i new again) from ∙ row_of_it i logs e knows again of.unit a is.answer awaited.one)
     (λ m other. row_same i logs e knows again again m
-    (ap₂ (λ ps (xs : List Answer). slice_get (filter (λ (p : Placed). p.stripe.unit == m) ps) (length xs)) is.answer.placements (is.answer.elsewhere m (λ f. other (f ∙ sym from))))
+    (ap₂ (λ ps (xs : List Answer). slice_get (filter (λ (p : Placed). p.stripe.unit == m) ps) (length xs)) is.answer.placements
+    (is.answer.elsewhere m (λ f. other (f ∙ sym from))))
     (ap (λ b. b && not (contains_unit again m)) (is.stopped m))))
     (lines_answered i logs e knows at.0 of a at.1 some is at.2)
 
 -- ---- the entries, where none was lost
 
-kept_loss : (log new : List Logged) (unit event : ℕ) (q : Placed) → IsAnswer log new unit (DidLand event) → IsFirst log unit q → (r : Placed) → IsAmong (placements log) r → was_lost new r ≡ was_lost log r
-kept_loss log new unit event q is first r among = elim (others_answer log new unit (DidLand event) q r is first among) as (λ _. was_lost new r ≡ was_lost log r) [
-  | inl same ↦
-      let none : answer_of log q ≡ None = ap (λ n. slice_get (answers log q.stripe.unit) n) (first.turn_is ∙ ap (λ u. length (answers log u)) (sym first.of_unit)) ∙ slice_get_past (answers log q.stripe.unit) (length (answers log q.stripe.unit)) (omega arith) in
-      ap (was_lost new) same ∙ ap is_loss (its_answer log new unit (DidLand event) q is first) ∙ ap is_loss (sym none) ∙ ap (was_lost log) (sym same)
-  | inr kept ↦ ap is_loss kept
-]
+kept_loss : (log new : List Logged) (unit event : ℕ) (q : Placed) → IsAnswer log new unit (DidLand event) → IsFirst log unit q → (r : Placed)
+    → IsAmong (placements log) r → was_lost new r ≡ was_lost log r
+kept_loss log new unit event q is first r among =
+    elim (others_answer log new unit (DidLand event) q r is first among) as (λ _. was_lost new r ≡ was_lost log r) [
+      | inl same ↦
+          let none : answer_of log q ≡ None =
+          ap (λ n. slice_get (answers log q.stripe.unit) n) (first.turn_is ∙ ap (λ u. length (answers log u)) (sym first.of_unit))
+          ∙ slice_get_past (answers log q.stripe.unit) (length (answers log q.stripe.unit)) (omega arith) in
+          ap (was_lost new) same ∙ ap is_loss (its_answer log new unit (DidLand event) q is first) ∙ ap is_loss (sym none) ∙ ap (was_lost log) (sym same)
+      | inr kept ↦ ap is_loss kept
+    ]
 
-losses_same : (s : Shape) (log new : List Logged) (unit event : ℕ) (q : Placed) → IsAnswer log new unit (DidLand event) → IsFirst log unit q → (t : Taken) → times_lost s new t ≡ times_lost s log t
+losses_same : (s : Shape) (log new : List Logged) (unit event : ℕ) (q : Placed) → IsAnswer log new unit (DidLand event) → IsFirst log unit q → (t : Taken)
+    → times_lost s new t ≡ times_lost s log t
 losses_same s log new unit event q is first t =
     ap (λ ps. length (filter (λ p. was_lost new p && holds_position s t.entry.position p) ps)) is.placements
-    ∙ ap length (filter_agree (IsAmong (placements log)) (λ p. was_lost new p && holds_position s t.entry.position p) (λ p. was_lost log p && holds_position s t.entry.position p)
-    (λ p among. ap (λ b. b && holds_position s t.entry.position p) (kept_loss log new unit event q is first p among)) (placements log) (among_all (placements log)))
+    ∙ ap length (filter_agree (IsAmong (placements log)) (λ p. was_lost new p && holds_position s t.entry.position p)
+    (λ p. was_lost log p && holds_position s t.entry.position p)
+    (λ p among. ap (λ b. b && holds_position s t.entry.position p) (kept_loss log new unit event q is first p among)) (placements log)
+    (among_all (placements log)))
 
 times_same : (s : Shape) (log new : List Logged) (t : Taken) → placements new ≡ placements log → times_placed s new t ≡ times_placed s log t
 times_same s log new t same = ap (λ ps. length (filter (holds_position s t.entry.position) ps)) same
 
-entries_landed : (s : Shape) (log new : List Logged) (pad unit event : ℕ) (q : Placed) → IsAnswer log new unit (DidLand event) → takes new ≡ takes log → IsFirst log unit q → entries_of s new pad ≡ entries_of s log pad
+entries_landed : (s : Shape) (log new : List Logged) (pad unit event : ℕ) (q : Placed) → IsAnswer log new unit (DidLand event) → takes new ≡ takes log
+    → IsFirst log unit q → entries_of s new pad ≡ entries_of s log pad
 entries_landed s log new pad unit event q is same first =
-    same_entries (positions_of (lost_entries s new)) (positions_of (lost_entries s log)) (positions_of (fresh_entries s new)) (positions_of (fresh_entries s log)) pad
+    same_entries (positions_of (lost_entries s new)) (positions_of (lost_entries s log)) (positions_of (fresh_entries s new))
+    (positions_of (fresh_entries s log)) pad
     (ap positions_of (filter_same (λ t. waits s new t && was_placed s new t) (λ t. waits s log t && was_placed s log t)
     (λ t. ap₂ (λ m n. (m == n) && nat_lt 0 m) (times_same s log new t is.placements) (losses_same s log new unit event q is first t)) (takes new)
     ∙ ap (filter (λ t. waits s log t && was_placed s log t)) same))
-    (ap positions_of (filter_same (λ t. not (was_placed s new t)) (λ t. not (was_placed s log t)) (λ t. ap (λ m. not (nat_lt 0 m)) (times_same s log new t is.placements)) (takes new)
+    (ap positions_of (filter_same (λ t. not (was_placed s new t)) (λ t. not (was_placed s log t))
+    (λ t. ap (λ m. not (nat_lt 0 m)) (times_same s log new t is.placements)) (takes new)
     ∙ ap (filter (λ t. not (was_placed s log t))) same))
 
 -- ---- the two events
@@ -123,7 +141,9 @@ landing logs unit event knows =
       answer = record {
         placements = placements_more log l ∙ append-nil (placements log);
         here = answers_more log l unit ∙ ap (λ b. answers log unit ++ option_to_list (if b then Some (DidLand event) else None)) (same_number unit);
-        elsewhere = λ v other. answers_more log l v ∙ ap (λ b. answers log v ++ option_to_list (if b then Some (DidLand event) else None)) (other_number unit v (λ e. other (sym e))) ∙ append-nil (answers log v);
+        elsewhere = λ v other. answers_more log l v
+            ∙ ap (λ b. answers log v ++ option_to_list (if b then Some (DidLand event) else None)) (other_number unit v (λ e. other (sym e)))
+            ∙ append-nil (answers log v);
       };
       standing = standing_same log (after logs (Landed unit event) knows 0) (openings_more log l ∙ append-nil (openings log)) (λ line. life_more log l line);
       takes = takes_more log l ∙ append-nil (takes log);
@@ -138,21 +158,28 @@ losing logs unit event knows =
       answer = record {
         placements = placements_more log l ∙ append-nil (placements log);
         here = answers_more log l unit ∙ ap (λ b. answers log unit ++ option_to_list (if b then Some (WasLost event) else None)) (same_number unit);
-        elsewhere = λ v other. answers_more log l v ∙ ap (λ b. answers log v ++ option_to_list (if b then Some (WasLost event) else None)) (other_number unit v (λ e. other (sym e))) ∙ append-nil (answers log v);
+        elsewhere = λ v other. answers_more log l v
+            ∙ ap (λ b. answers log v ++ option_to_list (if b then Some (WasLost event) else None)) (other_number unit v (λ e. other (sym e)))
+            ∙ append-nil (answers log v);
       };
       standing = standing_same log (after logs (Lost unit event) knows 0) (openings_more log l ∙ append-nil (openings log)) (λ line. life_more log l line);
       takes = takes_more log l ∙ append-nil (takes log);
       stopped = λ v. stopped_more log l v;
     }
 
-pub placing_landed : (i : Image) (logs : Logs) (event : ℕ) (knows : List ℕ) (pad : ℕ) (again : List ℕ) (of : Program) → 0 < i.shape.ws_opt → IsAwaited i logs pad again of
+pub placing_landed : (i : Image) (logs : Logs) (event : ℕ) (knows : List ℕ) (pad : ℕ) (again : List ℕ) (of : Program) → 0 < i.shape.ws_opt
+    → IsAwaited i logs pad again of
     → placing_of i (after logs (Landed of.unit event) knows) pad again ≡ landed (placing_of i logs pad again) of
 placing_landed i logs event knows pad again of some awaited =
     let at : (o : Opening) × (q : Placed) × IsAnsweredAt i logs o of q = answered_at i logs of awaited.stripe awaited.one in
     let is : IsAnswerOnly (logs 0) (after logs (Landed of.unit event) knows 0) of.unit (DidLand event) = landing logs of.unit event knows in
     placing_answered i logs (Landed of.unit event) knows pad again of (DidLand event) some awaited is
-    ∙ ap (λ (es : Entries). record (landed (placing_of i logs pad again) of) { entries = es }) (entries_landed i.shape (logs 0) (after logs (Landed of.unit event) knows 0) pad of.unit event at.1 is.answer is.takes at.2.first)
+    ∙ ap (λ (es : Entries). record (landed (placing_of i logs pad again) of) { entries = es })
+    (entries_landed i.shape (logs 0) (after logs (Landed of.unit event) knows 0) pad of.unit event at.1 is.answer is.takes at.2.first)
 
-pub placing_lost : (i : Image) (logs : Logs) (event : ℕ) (knows : List ℕ) (pad : ℕ) (again : List ℕ) (of : Program) → 0 < i.shape.ws_opt → IsAwaited i logs pad again of
-    → placing_of i (after logs (Lost of.unit event) knows) pad again ≡ record (lost (placing_of i logs pad again) of) { entries = entries_of i.shape (after logs (Lost of.unit event) knows 0) pad }
-placing_lost i logs event knows pad again of some awaited = placing_answered i logs (Lost of.unit event) knows pad again of (WasLost event) some awaited (losing logs of.unit event knows)
+pub placing_lost : (i : Image) (logs : Logs) (event : ℕ) (knows : List ℕ) (pad : ℕ) (again : List ℕ) (of : Program) → 0 < i.shape.ws_opt
+    → IsAwaited i logs pad again of
+    → placing_of i (after logs (Lost of.unit event) knows) pad again ≡ record
+    (lost (placing_of i logs pad again) of) { entries = entries_of i.shape (after logs (Lost of.unit event) knows 0) pad }
+placing_lost i logs event knows pad again of some awaited =
+    placing_answered i logs (Lost of.unit event) knows pad again of (WasLost event) some awaited (losing logs of.unit event knows)

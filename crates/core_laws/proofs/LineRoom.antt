@@ -60,13 +60,16 @@ data_fits s g some = go (nat_lt between s.ws_opt) refl
 
 -- the next stripe of a line ends in it
 stripe_fits : (i : Image) (logs : Logs) (o : Opening) (stripe : Stripe) → IsDriveShape i.shape → NoneFailed (logs 0) → 0 < data_len i.shape o.start.width
-    → IsStart i logs o stripe ⊎ (IsData i logs o stripe ⊎ (IsEnd i logs o stripe ⊎ IsPad i logs o stripe)) → next_address i.shape (logs 0) o + i.shape.ws_opt ≤ line_end i.shape o
+    → IsStart i logs o stripe ⊎ (IsData i logs o stripe ⊎ (IsEnd i logs o stripe ⊎ IsPad i logs o stripe))
+    → next_address i.shape (logs 0) o + i.shape.ws_opt ≤ line_end i.shape o
 stripe_fits i logs o stripe drive fine some (inl its) =
-    let ends : next_address i.shape (logs 0) o + i.shape.ws_opt ≤ start_len i.shape = stripe_within (length (stripes_of (logs 0) o)) i.shape.ws_opt (start_len i.shape) (whole_start i.shape) its.within in
+    let ends : next_address i.shape (logs 0) o + i.shape.ws_opt ≤ start_len i.shape =
+    stripe_within (length (stripes_of (logs 0) o)) i.shape.ws_opt (start_len i.shape) (whole_start i.shape) its.within in
     let fits : start_len i.shape + data_len i.shape o.start.width ≤ o.start.width * i.shape.clba = data_fits i.shape o.start.width some in
     omega arith
 stripe_fits i logs o stripe drive fine some (inr (inl its)) =
-    let ends : next_address i.shape (logs 0) o + i.shape.ws_opt ≤ end_address i.shape o = stripe_within (length (stripes_of (logs 0) o)) i.shape.ws_opt (end_address i.shape o) (whole_to_end i.shape o drive) its.within in
+    let ends : next_address i.shape (logs 0) o + i.shape.ws_opt ≤ end_address i.shape o =
+    stripe_within (length (stripes_of (logs 0) o)) i.shape.ws_opt (end_address i.shape o) (whole_to_end i.shape o drive) its.within in
     let fits : start_len i.shape + data_len i.shape o.start.width ≤ o.start.width * i.shape.clba = data_fits i.shape o.start.width some in
     omega arith
 stripe_fits i logs o stripe drive fine some (inr (inr (inl its))) =
@@ -89,17 +92,22 @@ unfolding AllRoom
 room_kept s log e knows keeps all = λ line o is.
     room_same s log (with_event log e knows) o (placements_kept log e knows (also_stripes e keeps)) (all line o (sym (lives_kept log e knows line keeps) ∙ is))
 
-room_opened : (i : Image) (logs : Logs) (log : List Logged) (b : Begun) (line : ℕ) (start : StartRecord) (knows : List ℕ) → IsDecision i logs b (Open line start) → logs 0 ≡ log → AllRoom i.shape log → AllRoom i.shape (with_event log (Open line start) knows)
+room_opened : (i : Image) (logs : Logs) (log : List Logged) (b : Begun) (line : ℕ) (start : StartRecord) (knows : List ℕ)
+    → IsDecision i logs b (Open line start) → logs 0 ≡ log → AllRoom i.shape log → AllRoom i.shape (with_event log (Open line start) knows)
 unfolding AllRoom
 room_opened i logs log b line start knows may own all = λ other o is. go other o is (nat_eq other line) refl
   where
-    go : (other : ℕ) (o : Opening) → life_of (with_event log (Open line start) knows) other ≡ Opened o → (c : Bool) → nat_eq other line ≡ c → HasRoom i.shape (with_event log (Open line start) knows) o
-    go other o is false e = room_same i.shape log (with_event log (Open line start) knows) o (placements_kept log (Open line start) knows refl) (all other o (sym (life_elsewhere log line start knows other (eqb-false other line e)) ∙ is))
+    go : (other : ℕ) (o : Opening) → life_of (with_event log (Open line start) knows) other ≡ Opened o → (c : Bool) → nat_eq other line ≡ c
+        → HasRoom i.shape (with_event log (Open line start) knows) o
+    go other o is false e = room_same i.shape log (with_event log (Open line start) knows) o (placements_kept log (Open line start) knows refl)
+        (all other o (sym (life_elsewhere log line start knows other (eqb-false other line e)) ∙ is))
     go other o is true e =
         let it : new_opening log line start knows ≡ o =
-        opened_same (new_opening log line start knows) o (sym (life_now log line start knows) ∙ ap (life_of (with_event log (Open line start) knows)) (sym (eqb-true other line e)) ∙ is) in
+        opened_same (new_opening log line start knows) o
+        (sym (life_now log line start knows) ∙ ap (life_of (with_event log (Open line start) knows)) (sym (eqb-true other line e)) ∙ is) in
         let some : nat_lt 0 (line_data (known_image i logs) line) ≡ true =
-        (both (not (has_number i logs (life_of (logs 0) line) line) && are_empty (known_image i logs) line) (nat_lt 0 (line_data (known_image i logs) line)) may.is_free).1 in
+        (both (not (has_number i logs (life_of (logs 0) line) line) && are_empty (known_image i logs) line)
+        (nat_lt 0 (line_data (known_image i logs) line)) may.is_free).1 in
         let some_data : 0 < line_data (known_image i logs) line = grind arith in
         let none : stripes_of (with_event log (Open line start) knows) (new_opening log line start knows) ≡ [] =
         ap (filter (λ (p : Placed). is_life (length log) p.life)) (placements_kept log (Open line start) knows refl)
@@ -109,7 +117,8 @@ room_opened i logs log b line start knows may own all = λ other o is. go other 
           within = subst (λ (ps : List Placed). length ps * i.shape.ws_opt ≤ start.width * i.shape.clba) (sym none) (omega arith);
         })
 
-room_placed : (i : Image) (logs : Logs) (log : List Logged) (b : Begun) (stripe : Stripe) (knows : List ℕ) → IsDriveShape i.shape → NoneFailed log → IsDecision i logs b (Place stripe) → logs 0 ≡ log → AllRoom i.shape log → AllRoom i.shape (with_event log (Place stripe) knows)
+room_placed : (i : Image) (logs : Logs) (log : List Logged) (b : Begun) (stripe : Stripe) (knows : List ℕ) → IsDriveShape i.shape → NoneFailed log
+    → IsDecision i logs b (Place stripe) → logs 0 ≡ log → AllRoom i.shape log → AllRoom i.shape (with_event log (Place stripe) knows)
 unfolding AllRoom
 room_placed i logs log b stripe knows drive fine may own all = λ line other is.
     go line other (sym (life_more log (record { event = Decides (Place stripe); knows = knows }) line) ∙ is) (is_life other.number (Opened may.opening)) refl
@@ -117,24 +126,30 @@ room_placed i logs log b stripe knows drive fine may own all = λ line other is.
     opened : life_of log stripe.line ≡ Opened may.opening
     opened = ap (λ (xs : List Logged). life_of xs stripe.line) (sym own) ∙ may.is_open
 
-    go : (line : ℕ) (other : Opening) → life_of log line ≡ Opened other → (c : Bool) → is_life other.number (Opened may.opening) ≡ c → HasRoom i.shape (with_place log stripe knows) other
+    go : (line : ℕ) (other : Opening) → life_of log line ≡ Opened other → (c : Bool) → is_life other.number (Opened may.opening) ≡ c
+        → HasRoom i.shape (with_place log stripe knows) other
     go line other is false e =
         let room : HasRoom i.shape log other = all line other is in
         record {
           some = room.some;
-          within = subst (λ (ps : List Placed). length ps * i.shape.ws_opt ≤ line_end i.shape other) (sym (stripes_now log stripe knows may.opening other false opened e ∙ append-nil (stripes_of log other))) room.within;
+          within = subst (λ (ps : List Placed). length ps * i.shape.ws_opt ≤ line_end i.shape other)
+              (sym (stripes_now log stripe knows may.opening other false opened e ∙ append-nil (stripes_of log other))) room.within;
         }
     go line other is true e =
         let number : may.opening.number ≡ other.number = eqb-true may.opening.number other.number e in
-        let same_line : line ≡ stripe.line = same_Some line stripe.line (sym (life_at log line other is).0 ∙ ap (opens_at log) (sym number) ∙ (life_at log stripe.line may.opening opened).0) in
+        let same_line : line ≡ stripe.line =
+        same_Some line stripe.line (sym (life_at log line other is).0 ∙ ap (opens_at log) (sym number) ∙ (life_at log stripe.line may.opening opened).0) in
         let same : may.opening ≡ other = opened_same may.opening other (sym opened ∙ ap (life_of log) (sym same_line) ∙ is) in
         let room : HasRoom i.shape log may.opening = all stripe.line may.opening opened in
         let fits : next_address i.shape (logs 0) may.opening + i.shape.ws_opt ≤ line_end i.shape may.opening =
         stripe_fits i logs may.opening stripe drive (λ p. ap (λ (xs : List Logged). has_failed xs p) own ∙ fine p) room.some may.kind in
-        let ends : length (stripes_of log may.opening) * i.shape.ws_opt + i.shape.ws_opt ≤ line_end i.shape may.opening = subst (λ (xs : List Logged). length (stripes_of xs may.opening) * i.shape.ws_opt + i.shape.ws_opt ≤ line_end i.shape may.opening) own fits in
+        let ends : length (stripes_of log may.opening) * i.shape.ws_opt + i.shape.ws_opt ≤ line_end i.shape may.opening =
+        subst (λ (xs : List Logged). length (stripes_of xs may.opening) * i.shape.ws_opt + i.shape.ws_opt ≤ line_end i.shape may.opening) own fits in
         let count : length (stripes_of (with_place log stripe knows) may.opening) ≡ length (stripes_of log may.opening) + 1 =
-        ap (λ (ps : List Placed). length ps) (stripes_now log stripe knows may.opening may.opening true opened (same_number may.opening.number)) ∙ length-append (stripes_of log may.opening) (new_placed log stripe may.opening ∷ []) in
-        let more : (length (stripes_of log may.opening) + 1) * i.shape.ws_opt ≡ length (stripes_of log may.opening) * i.shape.ws_opt + i.shape.ws_opt = omega arith in
+        ap (λ (ps : List Placed). length ps) (stripes_now log stripe knows may.opening may.opening true opened (same_number may.opening.number))
+        ∙ length-append (stripes_of log may.opening) (new_placed log stripe may.opening ∷ []) in
+        let more : (length (stripes_of log may.opening) + 1) * i.shape.ws_opt ≡ length (stripes_of log may.opening) * i.shape.ws_opt + i.shape.ws_opt =
+        omega arith in
         subst (HasRoom i.shape (with_place log stripe knows)) same (record {
           some = room.some;
           within = subst (λ n. n * i.shape.ws_opt ≤ line_end i.shape may.opening) (sym count) (omega arith);
@@ -145,7 +160,8 @@ unfolding AllRoom
 room_begun s [] b knows none = λ line o is. absurd cc
 room_begun s (l ∷ log) b knows none = absurd cc
 
-event_room : (i : Image) (logs : Logs) (log : List Logged) (e : EngineEvent) (knows : List ℕ) → IsDriveShape i.shape → NoneFailed log → is_plain_event (Decides e) ≡ true → MayDecide i logs e → logs 0 ≡ log → AllRoom i.shape log → AllRoom i.shape (with_event log e knows)
+event_room : (i : Image) (logs : Logs) (log : List Logged) (e : EngineEvent) (knows : List ℕ) → IsDriveShape i.shape → NoneFailed log
+    → is_plain_event (Decides e) ≡ true → MayDecide i logs e → logs 0 ≡ log → AllRoom i.shape log → AllRoom i.shape (with_event log e knows)
 event_room i logs log (Begin b) knows drive fine plain may own all = room_begun i.shape log b knows (sym own ∙ may.is_first)
 event_room i logs log (Open line start) knows drive fine plain may own all = room_opened i logs log may.0 line start knows may.2 own all
 event_room i logs log (Place stripe) knows drive fine plain may own all = room_placed i logs log may.0 stripe knows drive fine may.2 own all
@@ -153,7 +169,8 @@ event_room i logs log (Lost unit event) knows drive fine plain may own all = abs
 event_room i logs log (Free line) knows drive fine plain may own all = absurd cc
 event_room i logs log e knows drive fine plain may own all = room_kept i.shape log e knows refl all
 
-allowed_room : (i : Image) (logs : Logs) (log : List Logged) (l : Logged) (e : Event) → l.event ≡ e → IsDriveShape i.shape → NoneFailed log → is_plain_event e ≡ true → IsAllowed i 0 e logs → logs 0 ≡ log → AllRoom i.shape log → AllRoom i.shape (log ++ l ∷ [])
+allowed_room : (i : Image) (logs : Logs) (log : List Logged) (l : Logged) (e : Event) → l.event ≡ e → IsDriveShape i.shape → NoneFailed log
+    → is_plain_event e ≡ true → IsAllowed i 0 e logs → logs 0 ≡ log → AllRoom i.shape log → AllRoom i.shape (log ++ l ∷ [])
 allowed_room i logs log l (Decides e) same drive fine plain may own is =
     let it : record { event = Decides e; knows = l.knows } ≡ l = λ k. record { event = sym same k; knows = l.knows } in
     subst (λ m. AllRoom i.shape (log ++ m ∷ [])) it (event_room i logs log e l.knows drive fine plain may own is)
@@ -163,10 +180,12 @@ all_room : (i : Image) (w : World) → IsDriveShape i.shape → IsLegal i w → 
 unfolding IsLegal AllRoom
 all_room i [] drive legal plain = λ line o is. absurd cc
 all_room i (s ∷ w) drive legal plain =
-    let before : ArePlain (log_of w 0) × ((s.author == 0) ≡ true → is_plain_event s.logged.event ≡ true) = plain_before (s.author == 0) (log_of w 0) s.logged plain in
+    let before : ArePlain (log_of w 0) × ((s.author == 0) ≡ true → is_plain_event s.logged.event ≡ true) =
+    plain_before (s.author == 0) (log_of w 0) s.logged plain in
     go (s.author == 0) refl before.1 (none_failed (log_of w 0) before.0) (all_room i w drive legal.1 before.0)
   where
-    go : (b : Bool) → (s.author == 0) ≡ b → ((s.author == 0) ≡ true → is_plain_event s.logged.event ≡ true) → NoneFailed (log_of w 0) → AllRoom i.shape (log_of w 0) → AllRoom i.shape (if b then log_of w 0 ++ s.logged ∷ [] else log_of w 0)
+    go : (b : Bool) → (s.author == 0) ≡ b → ((s.author == 0) ≡ true → is_plain_event s.logged.event ≡ true) → NoneFailed (log_of w 0)
+        → AllRoom i.shape (log_of w 0) → AllRoom i.shape (if b then log_of w 0 ++ s.logged ∷ [] else log_of w 0)
     go false e now fine is = is
     go true e now fine is =
         let engine : s.author ≡ 0 = eqb-true s.author 0 e in
@@ -202,13 +221,17 @@ few_stripes n m w some within = go (nat_le n (m / w)) refl
         let rest : m < m / w * w + w = lt-div-mul-add some in
         absurd (omega arith)
 
-not_landed : (i : Image) (logs : Logs) (unit : ℕ) (p : Placed) (o : Opening) → 0 < i.shape.ws_opt → unanswered_on (logs 0) unit ≡ Some p → p.life ≡ Opened o → HasRoom i.shape (logs 0) o
+not_landed : (i : Image) (logs : Logs) (unit : ℕ) (p : Placed) (o : Opening) → 0 < i.shape.ws_opt → unanswered_on (logs 0) unit ≡ Some p → p.life ≡ Opened o
+    → HasRoom i.shape (logs 0) o
     → have_landed (logs 0) o (line_end i.shape o / i.shape.ws_opt) ≡ false
 not_landed i logs unit p o some first life room =
-    let few : length (stripes_of (logs 0) o) ≤ line_end i.shape o / i.shape.ws_opt = few_stripes (length (stripes_of (logs 0) o)) (line_end i.shape o) i.shape.ws_opt some room.within in
+    let few : length (stripes_of (logs 0) o) ≤ line_end i.shape o / i.shape.ws_opt =
+    few_stripes (length (stripes_of (logs 0) o)) (line_end i.shape o) i.shape.ws_opt some room.within in
     let is_first : IsFirst (logs 0) unit p = first_unanswered (logs 0) unit p first in
-    let among : IsAmong (stripes_of (logs 0) o) p = in_filter (λ (q : Placed). is_life o.number q.life) (placements (logs 0)) p is_first.among (ap (is_life o.number) life ∙ same_number o.number) in
-    ap (λ ps. nat_le (line_end i.shape o / i.shape.ws_opt) (length (stripes_of (logs 0) o)) && list_all (has_landed (logs 0)) ps) (take_all (line_end i.shape o / i.shape.ws_opt) (stripes_of (logs 0) o) few)
+    let among : IsAmong (stripes_of (logs 0) o) p =
+    in_filter (λ (q : Placed). is_life o.number q.life) (placements (logs 0)) p is_first.among (ap (is_life o.number) life ∙ same_number o.number) in
+    ap (λ ps. nat_le (line_end i.shape o / i.shape.ws_opt) (length (stripes_of (logs 0) o)) && list_all (has_landed (logs 0)) ps)
+    (take_all (line_end i.shape o / i.shape.ws_opt) (stripes_of (logs 0) o) few)
     ∙ not_second (nat_le (line_end i.shape o / i.shape.ws_opt) (length (stripes_of (logs 0) o))) (list_all (has_landed (logs 0)) (stripes_of (logs 0) o))
     (all_fails (has_landed (logs 0)) (stripes_of (logs 0) o) among.0 p among.1 (ap is_land (first_answer (logs 0) unit p first)))
   where
@@ -216,7 +239,8 @@ not_landed i logs unit p o some first life room =
     not_second true b e = e
     not_second false b e = refl
 
-pub state_open : (i : Image) (logs : Logs) (unit : ℕ) (p : Placed) (o : Opening) → 0 < i.shape.ws_opt → NoneFailed (logs 0) → unanswered_on (logs 0) unit ≡ Some p → p.life ≡ Opened o
+pub state_open : (i : Image) (logs : Logs) (unit : ℕ) (p : Placed) (o : Opening) → 0 < i.shape.ws_opt → NoneFailed (logs 0)
+    → unanswered_on (logs 0) unit ≡ Some p → p.life ≡ Opened o
     → life_of (logs 0) p.stripe.line ≡ Opened o → HasRoom i.shape (logs 0) o → (row_of_line i logs p.stripe.line).state ≡ states.Open
 state_open i logs unit p o some fine first life opened room =
     ap (state_in i logs p.stripe.line) opened

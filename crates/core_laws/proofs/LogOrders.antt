@@ -38,42 +38,61 @@ pub record IsOrdered (i : Image) (log : List Logged) : Type 0 where
 
 -- ---- one event
 
-sectors_after : (i : Image) (logs : Logs) (log : List Logged) (b : Begun) (e : EngineEvent) (knows : List ℕ) → is_plain_event (Decides e) ≡ true → IsDecision i logs b e → AreOfSectors i.shape log → AreOfSectors i.shape (with_event log e knows)
+sectors_after : (i : Image) (logs : Logs) (log : List Logged) (b : Begun) (e : EngineEvent) (knows : List ℕ) → is_plain_event (Decides e) ≡ true
+    → IsDecision i logs b e → AreOfSectors i.shape log → AreOfSectors i.shape (with_event log e knows)
 sectors_after i logs log b (Take entry mark) knows plain may is =
     let same : mark.lba ≡ entry.lba = users_mark i logs entry mark entry.source plain may.marked in
     let inside : entry.lba < i.shape.capacity = may.lba in
     subst (AllByRecursion (λ (t : Taken). t.mark.lba < i.shape.capacity)) (sym (takes_more log (record { event = Decides (Take entry mark); knows = knows })))
     (all_append (λ (t : Taken). t.mark.lba < i.shape.capacity) (takes log) (record { entry = entry; mark = mark } ∷ []) is (omega arith, tt))
 sectors_after i logs log b e knows plain may is =
-    subst (AllByRecursion (λ (t : Taken). t.mark.lba < i.shape.capacity)) (sym (takes_more log (record { event = Decides e; knows = knows }) ∙ append-nil (takes log))) is
+    subst (AllByRecursion (λ (t : Taken). t.mark.lba < i.shape.capacity))
+    (sym (takes_more log (record { event = Decides e; knows = knows }) ∙ append-nil (takes log))) is
 
 -- a line that a stripe is in stays as it was opened
-stays : (i : Image) (logs : Logs) (log : List Logged) (b : Begun) (e : EngineEvent) (knows : List ℕ) → is_plain_event (Decides e) ≡ true → IsDecision i logs b e → logs 0 ≡ log
+stays : (i : Image) (logs : Logs) (log : List Logged) (b : Begun) (e : EngineEvent) (knows : List ℕ) → is_plain_event (Decides e) ≡ true → IsDecision i logs b e
+    → logs 0 ≡ log
     → (line : ℕ) (o : Opening) → life_of log line ≡ Opened o → life_of (with_event log e knows) line ≡ Opened o
-stays i logs log b (Open other start) knows plain may own line o opened = life_more log (record { event = Decides (Open other start); knows = knows }) line ∙ go (nat_eq other line) refl
+stays i logs log b (Open other start) knows plain may own line o opened = life_more log (record { event = Decides (Open other start); knows = knows }) line
+    ∙ go (nat_eq other line) refl
   where
-    go : (c : Bool) → nat_eq other line ≡ c → (if c then Opened (record { number = length log; line = line; start = start; knows = knows }) else life_of log line) ≡ Opened o
+    go : (c : Bool) → nat_eq other line ≡ c
+        → (if c then Opened (record { number = length log; line = line; start = start; knows = knows }) else life_of log line) ≡ Opened o
     go false e = opened
     go true e =
         let closed : is_opened (life_of (logs 0) other) ≡ false = free_unopened i logs other may.is_free in
-        let open_now : is_opened (life_of (logs 0) other) ≡ true = ap (λ (xs : List Logged). is_opened (life_of xs other)) own ∙ ap (λ n. is_opened (life_of log n)) (eqb-true other line e) ∙ ap is_opened opened in
+        let open_now : is_opened (life_of (logs 0) other) ≡ true = ap (λ (xs : List Logged). is_opened (life_of xs other)) own
+        ∙ ap (λ n. is_opened (life_of log n)) (eqb-true other line e) ∙ ap is_opened opened in
         absurd (cc (sym closed ∙ open_now))
 stays i logs log b (Free other) knows plain may own line o opened = absurd cc
 stays i logs log b e knows plain may own line o opened = life_more log (record { event = Decides e; knows = knows }) line ∙ opened
 
-still : (i : Image) (log new : List Logged) → ((line : ℕ) (o : Opening) → life_of log line ≡ Opened o → life_of new line ≡ Opened o) → (ps : List Placed) → AllByRecursion (IsInPlace i log) ps → AllByRecursion (IsInPlace i new) ps
+still : (i : Image) (log new : List Logged) → ((line : ℕ) (o : Opening) → life_of log line ≡ Opened o → life_of new line ≡ Opened o) → (ps : List Placed)
+    → AllByRecursion (IsInPlace i log) ps → AllByRecursion (IsInPlace i new) ps
 still i log new stays ps all = all_imply (IsInPlace i log) (IsInPlace i new)
-    (λ p is. record { in_range = is.in_range; chunk = is.chunk; opening = is.opening; life = is.life; stands = stays p.stripe.line is.opening is.stands }) ps all
+    (λ p is. record { in_range = is.in_range; chunk = is.chunk; opening = is.opening; life = is.life; stands = stays p.stripe.line is.opening is.stands }) ps
+    all
 
-placed_after : (i : Image) (logs : Logs) (log : List Logged) (b : Begun) (e : EngineEvent) (knows : List ℕ) → is_plain_event (Decides e) ≡ true → IsDecision i logs b e → logs 0 ≡ log
+placed_after : (i : Image) (logs : Logs) (log : List Logged) (b : Begun) (e : EngineEvent) (knows : List ℕ) → is_plain_event (Decides e) ≡ true
+    → IsDecision i logs b e → logs 0 ≡ log
     → AllByRecursion (IsInPlace i log) (placements log) → AllByRecursion (IsInPlace i (with_event log e knows)) (placements (with_event log e knows))
 placed_after i logs log b (Place stripe) knows plain may own all =
     let new : List Logged = with_event log (Place stripe) knows in
     let o : Opening = may.opening in
     let opened : life_of log stripe.line ≡ Opened o = ap (λ (xs : List Logged). life_of xs stripe.line) (sym own) ∙ may.is_open in
     subst (AllByRecursion (IsInPlace i new)) (sym (placements_now log stripe knows o opened))
-    (all_append (IsInPlace i new) (placements log) (new_placed log stripe o ∷ []) (still i log new (stays i logs log b (Place stripe) knows plain may own) (placements log) all)
-    (record { in_range = may.in_range; chunk = may.chunk; opening = o; life = refl; stands = stays i logs log b (Place stripe) knows plain may own stripe.line o opened }, tt))
+    (all_append (IsInPlace i new) (placements log) (new_placed log stripe o ∷ [])
+    (still i log new (stays i logs log b (Place stripe) knows plain may own) (placements log) all) (
+      record {
+        in_range = may.in_range;
+        chunk = may.chunk;
+        opening = o;
+        life = refl;
+        stands =
+            stays i logs log b (Place stripe) knows plain may own stripe.line o opened;
+      },
+      tt,
+    ))
 placed_after i logs log b (Lost unit event) knows plain may own all = absurd cc
 placed_after i logs log b (Free line) knows plain may own all = absurd cc
 placed_after i logs log b (Begin c) knows plain may own all = absurd may
@@ -93,7 +112,8 @@ placed_after i logs log b (ResetDone unit event) knows plain may own all =
     subst (AllByRecursion (IsInPlace i (with_event log (ResetDone unit event) knows))) (sym (placements_kept log (ResetDone unit event) knows refl))
     (still i log (with_event log (ResetDone unit event) knows) (stays i logs log b (ResetDone unit event) knows plain may own) (placements log) all)
 
-decision_ordered : (i : Image) (logs : Logs) (log : List Logged) (b : Begun) (e : EngineEvent) (knows : List ℕ) → i.shape.capacity ≤ meta_lba → is_plain_event (Decides e) ≡ true → begun (logs 0) ≡ Some b → IsDecision i logs b e
+decision_ordered : (i : Image) (logs : Logs) (log : List Logged) (b : Begun) (e : EngineEvent) (knows : List ℕ) → i.shape.capacity ≤ meta_lba
+    → is_plain_event (Decides e) ≡ true → begun (logs 0) ≡ Some b → IsDecision i logs b e
     → logs 0 ≡ log → IsOrdered i log → IsOrdered i (with_event log e knows)
 decision_ordered i logs log b e knows small plain begins may own is =
     let now : begun log ≡ Some b = ap begun (sym own) ∙ begins in
@@ -109,30 +129,38 @@ begin_ordered : (i : Image) (log : List Logged) (b : Beginning) (knows : List �
 begin_ordered i [] b knows none = record { numbered = refl; marked = tt; sectors = tt; taken = tt; placed = tt }
 begin_ordered i (l ∷ log) b knows none = absurd cc
 
-event_ordered : (i : Image) (logs : Logs) (log : List Logged) (e : EngineEvent) (knows : List ℕ) → i.shape.capacity ≤ meta_lba → is_plain_event (Decides e) ≡ true → MayDecide i logs e → logs 0 ≡ log → IsOrdered i log → IsOrdered i (with_event log e knows)
+event_ordered : (i : Image) (logs : Logs) (log : List Logged) (e : EngineEvent) (knows : List ℕ) → i.shape.capacity ≤ meta_lba
+    → is_plain_event (Decides e) ≡ true → MayDecide i logs e → logs 0 ≡ log → IsOrdered i log → IsOrdered i (with_event log e knows)
 event_ordered i logs log (Begin b) knows small plain may own is = begin_ordered i log b knows (sym own ∙ may.is_first)
 event_ordered i logs log e knows small plain may own is = decision_ordered i logs log may.0 e knows small plain may.1 may.2 own is
 
 -- ---- all events
 
-allowed_ordered : (i : Image) (logs : Logs) (log : List Logged) (l : Logged) (e : Event) → l.event ≡ e → i.shape.capacity ≤ meta_lba → is_plain_event e ≡ true → IsAllowed i 0 e logs → logs 0 ≡ log → IsOrdered i log → IsOrdered i (log ++ l ∷ [])
+allowed_ordered : (i : Image) (logs : Logs) (log : List Logged) (l : Logged) (e : Event) → l.event ≡ e → i.shape.capacity ≤ meta_lba → is_plain_event e ≡ true
+    → IsAllowed i 0 e logs → logs 0 ≡ log → IsOrdered i log → IsOrdered i (log ++ l ∷ [])
 allowed_ordered i logs log l (Decides e) same small plain may own is =
     let it : record { event = Decides e; knows = l.knows } ≡ l = λ k. record { event = sym same k; knows = l.knows } in
     subst (λ m. IsOrdered i (log ++ m ∷ [])) it (event_ordered i logs log e l.knows small plain may own is)
 allowed_ordered i logs log l (Does e maker) same small plain may own is = absurd may
 
-pub plain_before : (b : Bool) (log : List Logged) (l : Logged) → ArePlain (if b then log ++ l ∷ [] else log) → ArePlain log × (b ≡ true → is_plain_event l.event ≡ true)
-plain_before true log l plain = (all_left (λ (m : Logged). is_plain_event m.event ≡ true) log (l ∷ []) plain, λ e. (all_right (λ (m : Logged). is_plain_event m.event ≡ true) log (l ∷ []) plain).0)
+pub plain_before : (b : Bool) (log : List Logged) (l : Logged) → ArePlain (if b then log ++ l ∷ [] else log)
+    → ArePlain log × (b ≡ true → is_plain_event l.event ≡ true)
+plain_before true log l plain = (
+  all_left (λ (m : Logged). is_plain_event m.event ≡ true) log (l ∷ []) plain,
+  λ e. (all_right (λ (m : Logged). is_plain_event m.event ≡ true) log (l ∷ []) plain).0,
+)
 plain_before false log l plain = (plain, λ e. absurd cc)
 
 pub ordered : (i : Image) (w : World) → i.shape.capacity ≤ meta_lba → IsLegal i w → ArePlain (log_of w 0) → IsOrdered i (log_of w 0)
 unfolding IsLegal
 ordered i [] small legal plain = record { numbered = refl; marked = tt; sectors = tt; taken = tt; placed = tt }
 ordered i (s ∷ w) small legal plain =
-    let before : ArePlain (log_of w 0) × ((s.author == 0) ≡ true → is_plain_event s.logged.event ≡ true) = plain_before (s.author == 0) (log_of w 0) s.logged plain in
+    let before : ArePlain (log_of w 0) × ((s.author == 0) ≡ true → is_plain_event s.logged.event ≡ true) =
+    plain_before (s.author == 0) (log_of w 0) s.logged plain in
     go (s.author == 0) refl before.1 (ordered i w small legal.1 before.0)
   where
-    go : (b : Bool) → (s.author == 0) ≡ b → ((s.author == 0) ≡ true → is_plain_event s.logged.event ≡ true) → IsOrdered i (log_of w 0) → IsOrdered i (if b then log_of w 0 ++ s.logged ∷ [] else log_of w 0)
+    go : (b : Bool) → (s.author == 0) ≡ b → ((s.author == 0) ≡ true → is_plain_event s.logged.event ≡ true) → IsOrdered i (log_of w 0)
+        → IsOrdered i (if b then log_of w 0 ++ s.logged ∷ [] else log_of w 0)
     go false e now is = is
     go true e now is =
         let engine : s.author ≡ 0 = eqb-true s.author 0 e in

@@ -13,19 +13,23 @@ pub numbered_same : {X : Type 0} (f : ℕ × X → X) → ((e : ℕ × X) → f 
 numbered_same f same n [] = refl
 numbered_same f same n (x ∷ xs) = ap₂ (λ y ys. y ∷ ys) (same (n, x)) (numbered_same f same (n + 1) xs)
 
-pub numbered_agree : {X Y : Type 0} (f g : ℕ × X → Y) (n : ℕ) (xs : List X) → ((k : ℕ) (x : X) → k < length xs → f (n + k, x) ≡ g (n + k, x)) → map f (enumerate_from n xs) ≡ map g (enumerate_from n xs)
+pub numbered_agree : {X Y : Type 0} (f g : ℕ × X → Y) (n : ℕ) (xs : List X) → ((k : ℕ) (x : X) → k < length xs → f (n + k, x) ≡ g (n + k, x))
+    → map f (enumerate_from n xs) ≡ map g (enumerate_from n xs)
 numbered_agree f g n [] same = refl
 numbered_agree f g n (x ∷ xs) same =
     let first : n + 0 ≡ n = add-zero n in
     ap₂ (λ y ys. y ∷ ys) (ap (λ m. f (m, x)) (sym first) ∙ same 0 x (omega arith) ∙ ap (λ m. g (m, x)) first)
-    (numbered_agree f g (n + 1) xs (λ k y below. let step : n + 1 + k ≡ n + suc k = omega arith in ap (λ m. f (m, y)) step ∙ same (suc k) y (omega arith) ∙ ap (λ m. g (m, y)) (sym step)))
+    (numbered_agree f g (n + 1) xs
+    (λ k y below. let step : n + 1 + k ≡ n + suc k = omega arith in ap (λ m. f (m, y)) step ∙ same (suc k) y (omega arith) ∙ ap (λ m. g (m, y)) (sym step)))
 
 -- of elements that are made of their numbers
-pub numbered_made : {X Y : Type 0} (g : ℕ × X → Option Y) (h : ℕ → X) (a n : ℕ) → filter_map g (enumerate_from a (map h (range_with_len a n))) ≡ filter_map (λ m. g (m, h m)) (range_with_len a n)
+pub numbered_made : {X Y : Type 0} (g : ℕ × X → Option Y) (h : ℕ → X) (a n : ℕ)
+    → filter_map g (enumerate_from a (map h (range_with_len a n))) ≡ filter_map (λ m. g (m, h m)) (range_with_len a n)
 numbered_made g h a zero = refl
 numbered_made g h a (suc n) = ap (cons_option (g (a, h a))) (numbered_made g h (a + 1) n)
 
-pub made_agree : {Y : Type 0} (f g : ℕ → Option Y) (a n : ℕ) → ((m : ℕ) → m < a + n → f m ≡ g m) → filter_map f (range_with_len a n) ≡ filter_map g (range_with_len a n)
+pub made_agree : {Y : Type 0} (f g : ℕ → Option Y) (a n : ℕ) → ((m : ℕ) → m < a + n → f m ≡ g m)
+    → filter_map f (range_with_len a n) ≡ filter_map g (range_with_len a n)
 made_agree f g a zero same = refl
 made_agree f g a (suc n) same = ap₂ cons_option (same a (omega arith)) (made_agree f g (a + 1) n (λ m below. same m (omega arith)))
 
@@ -47,7 +51,8 @@ none_passed : (p : ℕ → Bool) (a n x : ℕ) → x < a → list_any (λ y. y =
 none_passed p a zero x low = refl
 none_passed p a (suc n) x low = go (p a) (none_passed p (a + 1) n x (omega arith))
   where
-    go : (b : Bool) → list_any (λ y. y == x) (filter p (range_with_len (a + 1) n)) ≡ false → list_any (λ y. y == x) (cond b (a ∷ filter p (range_with_len (a + 1) n)) (filter p (range_with_len (a + 1) n))) ≡ false
+    go : (b : Bool) → list_any (λ y. y == x) (filter p (range_with_len (a + 1) n)) ≡ false
+        → list_any (λ y. y == x) (cond b (a ∷ filter p (range_with_len (a + 1) n)) (filter p (range_with_len (a + 1) n))) ≡ false
     go true rest = ap (λ b. b || list_any (λ y. y == x) (filter p (range_with_len (a + 1) n))) (ne_eqb a x (λ e. absurd (omega arith))) ∙ rest
     go false rest = rest
 
@@ -63,17 +68,20 @@ any_passed p a (suc n) x low high = go (cases_eq a x) (p a) refl (λ other. any_
     go (inr other) false is rest = rest other
 
 -- how many of the made ones pass
-pub passed_made : {Y : Type 0} (p : Y → Bool) (h : ℕ → Option Y) (xs : List ℕ) → length (filter p (filter_map h xs)) ≡ length (filter (λ x. option_map_or p (h x) false) xs)
+pub passed_made : {Y : Type 0} (p : Y → Bool) (h : ℕ → Option Y) (xs : List ℕ)
+    → length (filter p (filter_map h xs)) ≡ length (filter (λ x. option_map_or p (h x) false) xs)
 passed_made p h [] = refl
 passed_made {Y} p h (x ∷ xs) = go (h x) (passed_made p h xs)
   where
     by : (b : Bool) (y : Y) → length (filter p (filter_map h xs)) ≡ length (filter (λ x. option_map_or p (h x) false) xs)
-        → length (cond b (y ∷ filter p (filter_map h xs)) (filter p (filter_map h xs))) ≡ length (cond b (x ∷ filter (λ x. option_map_or p (h x) false) xs) (filter (λ x. option_map_or p (h x) false) xs))
+        → length (cond b (y ∷ filter p (filter_map h xs)) (filter p (filter_map h xs))) ≡ length
+        (cond b (x ∷ filter (λ x. option_map_or p (h x) false) xs) (filter (λ x. option_map_or p (h x) false) xs))
     by true y rest = ap suc rest
     by false y rest = rest
 
     go : (o : Option Y) → length (filter p (filter_map h xs)) ≡ length (filter (λ x. option_map_or p (h x) false) xs)
-        → length (filter p (cons_option o (filter_map h xs))) ≡ length (cond (option_map_or p o false) (x ∷ filter (λ x. option_map_or p (h x) false) xs) (filter (λ x. option_map_or p (h x) false) xs))
+        → length (filter p (cons_option o (filter_map h xs))) ≡ length
+        (cond (option_map_or p o false) (x ∷ filter (λ x. option_map_or p (h x) false) xs) (filter (λ x. option_map_or p (h x) false) xs))
     go None rest = rest
     go (Some y) rest = by (p y) y rest
 
@@ -83,17 +91,20 @@ filter_agree p q same (x ∷ xs) = ap₂ (λ b ys. cond b (x ∷ ys) ys) (same x
 
 -- ---- what names its number is found by it
 
-none_found : {Y : Type 0} (h : ℕ → Option Y) (key : Y → ℕ) → ((m : ℕ) (y : Y) → h m ≡ Some y → key y ≡ m) → (a n x : ℕ) → x < a → find (λ y. key y == x) (filter_map h (range_with_len a n)) ≡ None
+none_found : {Y : Type 0} (h : ℕ → Option Y) (key : Y → ℕ) → ((m : ℕ) (y : Y) → h m ≡ Some y → key y ≡ m) → (a n x : ℕ) → x < a
+    → find (λ y. key y == x) (filter_map h (range_with_len a n)) ≡ None
 none_found h key names a zero x low = refl
 none_found {Y} h key names a (suc n) x low = go (h a) refl (none_found h key names (a + 1) n x (omega arith))
   where
-    go : (o : Option Y) → h a ≡ o → find (λ y. key y == x) (filter_map h (range_with_len (a + 1) n)) ≡ None → find (λ y. key y == x) (cons_option o (filter_map h (range_with_len (a + 1) n))) ≡ None
+    go : (o : Option Y) → h a ≡ o → find (λ y. key y == x) (filter_map h (range_with_len (a + 1) n)) ≡ None
+        → find (λ y. key y == x) (cons_option o (filter_map h (range_with_len (a + 1) n))) ≡ None
     go None is rest = rest
     go (Some y) is rest =
         let at : key y ≡ a = names a y is in
         ap (λ b. cond b (Some y) (find (λ y. key y == x) (filter_map h (range_with_len (a + 1) n)))) (ne_eqb (key y) x (λ e. absurd (omega arith))) ∙ rest
 
-pub found_made : {Y : Type 0} (h : ℕ → Option Y) (key : Y → ℕ) → ((m : ℕ) (y : Y) → h m ≡ Some y → key y ≡ m) → (a n x : ℕ) → a ≤ x → x < a + n → find (λ y. key y == x) (filter_map h (range_with_len a n)) ≡ h x
+pub found_made : {Y : Type 0} (h : ℕ → Option Y) (key : Y → ℕ) → ((m : ℕ) (y : Y) → h m ≡ Some y → key y ≡ m) → (a n x : ℕ) → a ≤ x → x < a + n
+    → find (λ y. key y == x) (filter_map h (range_with_len a n)) ≡ h x
 found_made h key names a zero x low high = absurd (omega arith)
 found_made {Y} h key names a (suc n) x low high = go (cases_eq a x) (h a) refl (λ other. found_made h key names (a + 1) n x (omega arith) (omega arith))
   where

@@ -47,22 +47,27 @@ use Rattle.pblk_world.proofs.EngineLogLemmas.{takes_more}
 pub low_high : (s : Shape) (landed : ℕ) → landed + s.ws_opt ≤ s.clba → 0 < s.ws_opt → readable_blocks s landed ≤ readable_blocks s (landed + s.ws_opt)
 low_high s landed below some = go (nat_eq landed s.clba) refl (nat_eq (landed + s.ws_opt) s.clba)
   where
-    go : (a : Bool) → nat_eq landed s.clba ≡ a → (b : Bool) → (if a then s.clba else landed - s.mw_cunits) ≤ (if b then s.clba else landed + s.ws_opt - s.mw_cunits)
+    go : (a : Bool) → nat_eq landed s.clba ≡ a → (b : Bool)
+        → (if a then s.clba else landed - s.mw_cunits) ≤ (if b then s.clba else landed + s.ws_opt - s.mw_cunits)
     go true e b = let same : landed ≡ s.clba = eqb-true landed s.clba e in absurd (omega arith)
     go false e true = omega arith
     go false e false = omega arith
 
 -- no earlier block of an entry that isn't given back
-none_earlier : (s : Shape) (log new : List Logged) (p : Placed) (o : Opening) (q : ℕ) → IsLandedNow s log new p o → IsNewest log p → is_given_back s log q ≡ false
+none_earlier : (s : Shape) (log new : List Logged) (p : Placed) (o : Opening) (q : ℕ) → IsLandedNow s log new p o → IsNewest log p
+    → is_given_back s log q ≡ false
     → list_any (bears_position s q) (take (readable_blocks s (landed_blocks s log o p.stripe.unit)) (chunk_blocks log o p.stripe.unit)) ≡ false
-none_earlier s log new p o q is newest kept = go (list_any (bears_position s q) (take (readable_blocks s (landed_blocks s log o p.stripe.unit)) (chunk_blocks log o p.stripe.unit))) refl
+none_earlier s log new p o q is newest kept =
+    go (list_any (bears_position s q) (take (readable_blocks s (landed_blocks s log o p.stripe.unit)) (chunk_blocks log o p.stripe.unit))) refl
   where
-    go : (b : Bool) → list_any (bears_position s q) (take (readable_blocks s (landed_blocks s log o p.stripe.unit)) (chunk_blocks log o p.stripe.unit)) ≡ b → b ≡ false
+    go : (b : Bool) → list_any (bears_position s q) (take (readable_blocks s (landed_blocks s log o p.stripe.unit)) (chunk_blocks log o p.stripe.unit)) ≡ b
+        → b ≡ false
     go true e = let given : is_given_back s log q ≡ true = given_before s log new p o q is newest e in absurd cc
     go false e = refl
 
 -- where none of the earlier blocks bears the position
-found_among : (s : Shape) (log new : List Logged) (p : Placed) (o : Opening) (q : ℕ) → IsLandedNow s log new p o → IsNewest log p → is_given_back s log q ≡ false
+found_among : (s : Shape) (log new : List Logged) (p : Placed) (o : Opening) (q : ℕ) → IsLandedNow s log new p o → IsNewest log p
+    → is_given_back s log q ≡ false
     → block_read s new o p.stripe.unit q ≡ block_among s log o p.stripe.unit q
 found_among s log new p o q is newest kept =
     let unit : ℕ = p.stripe.unit in
@@ -70,12 +75,15 @@ found_among s log new p o q is newest kept =
     let low : ℕ = readable_blocks s (landed_blocks s log o p.stripe.unit) in
     let high : ℕ = readable_blocks s (landed_blocks s log o p.stripe.unit + s.ws_opt) in
     let start : 0 + low ≡ low = omega arith in
-    ap (λ (bs : List Block). option_map (λ (b : ℕ × Block). b.0) (find (λ (b : ℕ × Block). bears_position s q b.1 && is_readable_in s new p.stripe.unit b.0 (Opened o)) (enumerate_from 0 bs))) (same_chunk unit)
+    ap (λ (bs : List Block). option_map (λ (b : ℕ × Block). b.0)
+    (find (λ (b : ℕ × Block). bears_position s q b.1 && is_readable_in s new p.stripe.unit b.0 (Opened o)) (enumerate_from 0 bs))) (same_chunk unit)
     ∙ ap (option_map (λ (b : ℕ × Block). b.0))
     (read_found s new o p.stripe.unit q cs is.plain_new (chunk_within s log o p.stripe.unit is.rows)
-    ∙ ap (λ n. find (λ (b : ℕ × Block). bears_position s q b.1) (enumerate_from 0 (take (readable_blocks s n) (chunk_blocks log o p.stripe.unit)))) (blocks_more s log new p o is.one_more is.life)
+    ∙ ap (λ n. find (λ (b : ℕ × Block). bears_position s q b.1) (enumerate_from 0 (take (readable_blocks s n) (chunk_blocks log o p.stripe.unit))))
+    (blocks_more s log new p o is.one_more is.life)
     ∙ find_behind (bears_position s q) low 0 (take high cs)
-    (ap (list_any (bears_position s q)) (take_within low high cs (low_high s (landed_blocks s log o p.stripe.unit) (blocks_below s log new p o is) is.some)) ∙ none_earlier s log new p o q is newest kept)
+    (ap (list_any (bears_position s q)) (take_within low high cs (low_high s (landed_blocks s log o p.stripe.unit) (blocks_below s log new p o is) is.some))
+    ∙ none_earlier s log new p o q is newest kept)
     ∙ ap (λ n. find (λ (b : ℕ × Block). bears_position s q b.1) (enumerate_from n (newly_readable s log o p.stripe.unit))) start)
   where
     same_chunk : (unit : ℕ) → chunk_blocks new o unit ≡ chunk_blocks log o unit
@@ -85,17 +93,21 @@ pub given_newly : (s : Shape) (log new : List Logged) (p : Placed) (o : Opening)
     → is_given_back s new q ≡ (is_given_back s log q || list_any (bears_position s q) (newly_readable s log o p.stripe.unit))
 given_newly s log new p o q is newest = given_now s log new p o q is ∙ go (is_given_back s log q) refl
   where
-    go : (b : Bool) → is_given_back s log q ≡ b → (b || can_be_read s new o p.stripe.unit q) ≡ (b || list_any (bears_position s q) (newly_readable s log o p.stripe.unit))
+    go : (b : Bool) → is_given_back s log q ≡ b
+        → (b || can_be_read s new o p.stripe.unit q) ≡ (b || list_any (bears_position s q) (newly_readable s log o p.stripe.unit))
     go true e = refl
     go false e =
         read_is_some s new o p.stripe.unit q ∙ ap is_some (found_among s log new p o q is newest e)
-        ∙ some_mapped (λ (b : ℕ × Block). b.0) (find (λ (b : ℕ × Block). bears_position s q b.1) (enumerate_from (readable_blocks s (landed_blocks s log o p.stripe.unit)) (newly_readable s log o p.stripe.unit)))
+        ∙ some_mapped (λ (b : ℕ × Block). b.0)
+        (find (λ (b : ℕ × Block). bears_position s q b.1)
+        (enumerate_from (readable_blocks s (landed_blocks s log o p.stripe.unit)) (newly_readable s log o p.stripe.unit)))
         ∙ found_any (bears_position s q) (readable_blocks s (landed_blocks s log o p.stripe.unit)) (newly_readable s log o p.stripe.unit)
 
 -- ---- the window
 
 held_newly : (s : Shape) (log new : List Logged) (p : Placed) (o : Opening) (t : Taken) → IsLandedNow s log new p o → IsNewest log p
-    → held_of s new t ≡ advanced_sector (λ q. holds_position s q p) (λ q. list_any (bears_position s q) (newly_readable s log o p.stripe.unit)) (held_of s log t)
+    → held_of s new t ≡ advanced_sector (λ q. holds_position s q p) (λ q. list_any (bears_position s q) (newly_readable s log o p.stripe.unit))
+    (held_of s log t)
 held_newly s log new p o t is newest = ap (λ (progress : Progress). record {
   position = t.entry.position;
   class = class_of t.entry.source;
@@ -104,18 +116,23 @@ held_newly s log new p o t is newest = ap (λ (progress : Progress). record {
   sector = t.entry.sector;
   progress = progress;
 }) (ap₂ progress_by (landed_at_by s log new p t.entry.position is.one_more) (given_newly s log new p o t.entry.position is newest)
-    ∙ progress_now (has_landed_at s log t.entry.position) (is_given_back s log t.entry.position) (holds_position s t.entry.position p) (list_any (bears_position s t.entry.position) (newly_readable s log o p.stripe.unit)) (given_landed s log t.entry.position))
+    ∙ progress_now (has_landed_at s log t.entry.position) (is_given_back s log t.entry.position) (holds_position s t.entry.position p)
+    (list_any (bears_position s t.entry.position) (newly_readable s log o p.stripe.unit)) (given_landed s log t.entry.position))
 
 each_newly : (s : Shape) (log new : List Logged) (p : Placed) (o : Opening) (ts : List Taken) → IsLandedNow s log new p o → IsNewest log p
-    → map (held_of s new) ts ≡ map (advanced_sector (λ q. holds_position s q p) (λ q. list_any (bears_position s q) (newly_readable s log o p.stripe.unit))) (map (held_of s log) ts)
+    → map (held_of s new) ts ≡ map (advanced_sector (λ q. holds_position s q p) (λ q. list_any (bears_position s q) (newly_readable s log o p.stripe.unit)))
+    (map (held_of s log) ts)
 each_newly s log new p o [] is newest = refl
 each_newly s log new p o (t ∷ ts) is newest = ap₂ (λ (h : HeldSector) hs. h ∷ hs) (held_newly s log new p o t is newest) (each_newly s log new p o ts is newest)
 
-window_newly : (s : Shape) (log new : List Logged) (p : Placed) (o : Opening) (from : ℕ) → IsLandedNow s log new p o → IsNewest log p → takes new ≡ takes log → first_position new ≡ first_position log
-    → window_from s new from ≡ advanced_window (λ q. holds_position s q p) (λ q. list_any (bears_position s q) (newly_readable s log o p.stripe.unit)) (window_from s log from)
+window_newly : (s : Shape) (log new : List Logged) (p : Placed) (o : Opening) (from : ℕ) → IsLandedNow s log new p o → IsNewest log p → takes new ≡ takes log
+    → first_position new ≡ first_position log
+    → window_from s new from ≡ advanced_window (λ q. holds_position s q p) (λ q. list_any (bears_position s q) (newly_readable s log o p.stripe.unit))
+    (window_from s log from)
 window_newly s log new p o from is newest same first = same_window from (users_below new from) (users_below log from)
     (map (held_of s new) (drop (from - first_position new) (takes new)))
-    (map (advanced_sector (λ q. holds_position s q p) (λ q. list_any (bears_position s q) (newly_readable s log o p.stripe.unit))) (map (held_of s log) (drop (from - first_position log) (takes log))))
+    (map (advanced_sector (λ q. holds_position s q p) (λ q. list_any (bears_position s q) (newly_readable s log o p.stripe.unit)))
+    (map (held_of s log) (drop (from - first_position log) (takes log))))
     (ap (λ (ts : List Taken). length (filter (λ (t : Taken). nat_lt t.entry.position from) (filter (λ (t : Taken). is_users t.entry.source) ts))) same)
     (ap₂ (λ n (ts : List Taken). map (held_of s new) (drop (from - n) ts)) first same
     ∙ each_newly s log new p o (drop (from - first_position log) (takes log)) is newest)
@@ -135,29 +152,36 @@ newest_in i w unit p legal waits =
 pub window_by_new : (i : Image) (w : World) (unit event : ℕ) (knows : List ℕ) (p : Placed) (o : Opening) (from : ℕ) → IsSimpleMount i w
     → unanswered_on (log_of w 0) unit ≡ Some p → p.life ≡ Opened o → AreInRows i.shape (log_of w 0) o unit
     → window_from i.shape (after (log_of w) (Landed unit event) knows 0) from
-    ≡ advanced_window (λ q. holds_position i.shape q p) (λ q. list_any (bears_position i.shape q) (newly_readable i.shape (log_of w 0) o unit)) (window_from i.shape (log_of w 0) from)
+    ≡ advanced_window (λ q. holds_position i.shape q p) (λ q. list_any (bears_position i.shape q) (newly_readable i.shape (log_of w 0) o unit))
+    (window_from i.shape (log_of w 0) from)
 window_by_new i w unit event knows p o from simple waits life rows =
     let l : Logged = record { event = Decides (Landed unit event); knows = knows } in
-    subst (λ u. window_from i.shape (with_landing (log_of w 0) unit event knows) from ≡ advanced_window (λ q. holds_position i.shape q p) (λ q. list_any (bears_position i.shape q) (newly_readable i.shape (log_of w 0) o u)) (window_from i.shape (log_of w 0) from))
+    subst (λ u. window_from i.shape (with_landing (log_of w 0) unit event knows) from ≡ advanced_window (λ q. holds_position i.shape q p)
+    (λ q. list_any (bears_position i.shape q) (newly_readable i.shape (log_of w 0) o u)) (window_from i.shape (log_of w 0) from))
     (first_unanswered (log_of w 0) unit p waits).of_unit
-    (window_newly i.shape (log_of w 0) (with_landing (log_of w 0) unit event knows) p o from (landed_now i w unit event knows p o simple waits life rows) (newest_in i w unit p simple.mount.legal waits)
+    (window_newly i.shape (log_of w 0) (with_landing (log_of w 0) unit event knows) p o from (landed_now i w unit event knows p o simple waits life rows)
+    (newest_in i w unit p simple.mount.legal waits)
     (takes_more (log_of w 0) l ∙ append-nil (takes (log_of w 0))) (first_kept (log_of w 0) (Landed unit event) knows refl))
 
 among_in : (i : Image) (w : World) (unit event : ℕ) (knows : List ℕ) (p : Placed) (o : Opening) (q : ℕ) → IsSimpleMount i w
     → unanswered_on (log_of w 0) unit ≡ Some p → p.life ≡ Opened o → AreInRows i.shape (log_of w 0) o unit → is_given_back i.shape (log_of w 0) q ≡ false
     → block_read i.shape (with_landing (log_of w 0) unit event knows) o unit q ≡ block_among i.shape (log_of w 0) o unit q
 among_in i w unit event knows p o q simple waits life rows kept =
-    subst (λ u. block_read i.shape (with_landing (log_of w 0) unit event knows) o u q ≡ block_among i.shape (log_of w 0) o u q) (first_unanswered (log_of w 0) unit p waits).of_unit
-    (found_among i.shape (log_of w 0) (with_landing (log_of w 0) unit event knows) p o q (landed_now i w unit event knows p o simple waits life rows) (newest_in i w unit p simple.mount.legal waits) kept)
+    subst (λ u. block_read i.shape (with_landing (log_of w 0) unit event knows) o u q ≡ block_among i.shape (log_of w 0) o u q)
+    (first_unanswered (log_of w 0) unit p waits).of_unit
+    (found_among i.shape (log_of w 0) (with_landing (log_of w 0) unit event knows) p o q (landed_now i w unit event knows p o simple waits life rows)
+    (newest_in i w unit p simple.mount.legal waits) kept)
 
 pub slot_by_new : (i : Image) (w : World) (unit event : ℕ) (knows : List ℕ) (p : Placed) (o : Opening) (lba : ℕ) → IsSimpleMount i w
     → unanswered_on (log_of w 0) unit ≡ Some p → p.life ≡ Opened o → AreInRows i.shape (log_of w 0) o unit
-    → slot_of i (after (log_of w) (Landed unit event) knows) lba ≡ read_slot i (log_of w) o unit (block_among i.shape (log_of w 0) o unit) (slot_of i (log_of w) lba)
+    → slot_of i (after (log_of w) (Landed unit event) knows) lba ≡ read_slot i (log_of w) o unit (block_among i.shape (log_of w 0) o unit)
+    (slot_of i (log_of w) lba)
 slot_by_new i w unit event knows p o lba simple waits life rows =
     slot_landed i w unit event knows p o lba simple waits life rows ∙ go (slot_of i (log_of w) lba) refl
   where
     go : (x : Slot) → slot_of i (log_of w) lba ≡ x
-        → read_slot i (log_of w) o unit (block_read i.shape (with_landing (log_of w 0) unit event knows) o unit) x ≡ read_slot i (log_of w) o unit (block_among i.shape (log_of w 0) o unit) x
+        → read_slot i (log_of w) o unit (block_read i.shape (with_landing (log_of w 0) unit event knows) o unit) x ≡ read_slot i (log_of w) o unit
+        (block_among i.shape (log_of w 0) o unit) x
     go Unwritten e = refl
     go (Cached q) e = ap (λ b. option_map_or (λ block. Media o.line (address_of_block i (log_of w) o unit block) q) b (Cached q))
         (among_in i w unit event knows p o q simple waits life rows (cached_kept i (log_of w) lba q e))

@@ -56,34 +56,44 @@ parts_of (suc k) [] = refl
 parts_of (suc k) (x ∷ xs) = ap (λ ys. x ∷ ys) (parts_of k xs)
 
 -- the blocks of stripes bear a position at most as often as stripes hold it
-times_held : (s : Shape) (q : ℕ) (ps : List Placed) → AllByRecursion (λ (p : Placed). BearsOnce s p.stripe.blocks) ps → times s q (flat_map (λ (p : Placed). p.stripe.blocks) ps) ≤ length (filter (holds_position s q) ps)
+times_held : (s : Shape) (q : ℕ) (ps : List Placed) → AllByRecursion (λ (p : Placed). BearsOnce s p.stripe.blocks) ps
+    → times s q (flat_map (λ (p : Placed). p.stripe.blocks) ps) ≤ length (filter (holds_position s q) ps)
 unfolding times
 times_held s q [] once = omega arith
 times_held s q (p ∷ ps) once =
-    let sum : times s q (p.stripe.blocks ++ flat_map (λ (p : Placed). p.stripe.blocks) ps) ≡ times s q p.stripe.blocks + times s q (flat_map (λ (p : Placed). p.stripe.blocks) ps) = times_append s q p.stripe.blocks (flat_map (λ (p : Placed). p.stripe.blocks) ps) in
+    let sum : times s q (p.stripe.blocks ++ flat_map (λ (p : Placed). p.stripe.blocks) ps) ≡ times s q p.stripe.blocks + times s q
+    (flat_map (λ (p : Placed). p.stripe.blocks) ps) = times_append s q p.stripe.blocks (flat_map (λ (p : Placed). p.stripe.blocks) ps) in
     subst (λ n. n ≤ length (filter (holds_position s q) (p ∷ ps))) (sym sum) (go (holds_position s q p) refl (times_held s q ps once.1))
   where
     go : (b : Bool) → holds_position s q p ≡ b → times s q (flat_map (λ (p : Placed). p.stripe.blocks) ps) ≤ length (filter (holds_position s q) ps)
-        → times s q p.stripe.blocks + times s q (flat_map (λ (p : Placed). p.stripe.blocks) ps) ≤ length (cond b (p ∷ filter (holds_position s q) ps) (filter (holds_position s q) ps))
+        → times s q p.stripe.blocks + times s q (flat_map (λ (p : Placed). p.stripe.blocks) ps) ≤ length
+        (cond b (p ∷ filter (holds_position s q) ps) (filter (holds_position s q) ps))
     go true e rest = let one : times s q p.stripe.blocks ≤ 1 = once.0 q in omega arith
     go false e rest = let none : times s q p.stripe.blocks ≡ 0 = not_any (bears_position s q) p.stripe.blocks e in omega arith
 
-chunk_times : (s : Shape) (log : List Logged) (o : Opening) (unit q : ℕ) → HeldOnce s log → AllByRecursion (λ (p : Placed). BearsOnce s p.stripe.blocks) (placements log) → times s q (chunk_blocks log o unit) ≤ 1
+chunk_times : (s : Shape) (log : List Logged) (o : Opening) (unit q : ℕ) → HeldOnce s log
+    → AllByRecursion (λ (p : Placed). BearsOnce s p.stripe.blocks) (placements log) → times s q (chunk_blocks log o unit) ≤ 1
 chunk_times s log o unit q held once =
     let few : times s q (chunk_blocks log o unit) ≤ length (filter (holds_position s q) (stripes_on log o unit)) = times_held s q (stripes_on log o unit)
-    (all_filter (λ (p : Placed). BearsOnce s p.stripe.blocks) (λ (p : Placed). p.stripe.unit == unit) (stripes_of log o) (all_filter (λ (p : Placed). BearsOnce s p.stripe.blocks) (λ (p : Placed). is_life o.number p.life) (placements log) once)) in
-    let on : length (filter (holds_position s q) (stripes_on log o unit)) ≤ length (filter (holds_position s q) (stripes_of log o)) = fewer_filtered (holds_position s q) (λ (p : Placed). p.stripe.unit == unit) (stripes_of log o) in
-    let of : length (filter (holds_position s q) (stripes_of log o)) ≤ holders s log q = fewer_filtered (holds_position s q) (λ (p : Placed). is_life o.number p.life) (placements log) in
+    (all_filter (λ (p : Placed). BearsOnce s p.stripe.blocks) (λ (p : Placed). p.stripe.unit == unit) (stripes_of log o)
+    (all_filter (λ (p : Placed). BearsOnce s p.stripe.blocks) (λ (p : Placed). is_life o.number p.life) (placements log) once)) in
+    let on : length (filter (holds_position s q) (stripes_on log o unit)) ≤ length (filter (holds_position s q) (stripes_of log o)) =
+    fewer_filtered (holds_position s q) (λ (p : Placed). p.stripe.unit == unit) (stripes_of log o) in
+    let of : length (filter (holds_position s q) (stripes_of log o)) ≤ holders s log q =
+    fewer_filtered (holds_position s q) (λ (p : Placed). is_life o.number p.life) (placements log) in
     let one : holders s log q ≤ 1 = held q in
     omega arith
 
 -- ---- a position that can be read now wasn't given back
 
-pub any_stripe : (f : Block → Bool) (ps : List Placed) → list_any f (flat_map (λ (p : Placed). p.stripe.blocks) ps) ≡ true → list_any (λ (p : Placed). list_any f p.stripe.blocks) ps ≡ true
+pub any_stripe : (f : Block → Bool) (ps : List Placed) → list_any f (flat_map (λ (p : Placed). p.stripe.blocks) ps) ≡ true
+    → list_any (λ (p : Placed). list_any f p.stripe.blocks) ps ≡ true
 any_stripe f [] e = absurd cc
-any_stripe f (p ∷ ps) e = go (list_any f p.stripe.blocks) (sym (any_append f p.stripe.blocks (flat_map (λ (p : Placed). p.stripe.blocks) ps)) ∙ e) (any_stripe f ps)
+any_stripe f (p ∷ ps) e = go (list_any f p.stripe.blocks) (sym (any_append f p.stripe.blocks (flat_map (λ (p : Placed). p.stripe.blocks) ps)) ∙ e)
+    (any_stripe f ps)
   where
-    go : (b : Bool) → (b || list_any f (flat_map (λ (p : Placed). p.stripe.blocks) ps)) ≡ true → (list_any f (flat_map (λ (p : Placed). p.stripe.blocks) ps) ≡ true → list_any (λ (p : Placed). list_any f p.stripe.blocks) ps ≡ true)
+    go : (b : Bool) → (b || list_any f (flat_map (λ (p : Placed). p.stripe.blocks) ps)) ≡ true
+        → (list_any f (flat_map (λ (p : Placed). p.stripe.blocks) ps) ≡ true → list_any (λ (p : Placed). list_any f p.stripe.blocks) ps ≡ true)
         → (b || list_any (λ (p : Placed). list_any f p.stripe.blocks) ps) ≡ true
     go true g rest = refl
     go false g rest = rest g
@@ -103,25 +113,31 @@ member_of {X} f xs e =
         by false rest = rest
 
 -- a stripe of the chunk that gives the position back does so by an earlier block
-earlier_block : (s : Shape) (log new : List Logged) (p : Placed) (o : Opening) (q : ℕ) → IsLandedNow s log new p o → HeldOnce s log → is_given_back s log q ≡ true → list_any (bears_position s q) (chunk_blocks log o p.stripe.unit) ≡ true
+earlier_block : (s : Shape) (log new : List Logged) (p : Placed) (o : Opening) (q : ℕ) → IsLandedNow s log new p o → HeldOnce s log
+    → is_given_back s log q ≡ true → list_any (bears_position s q) (chunk_blocks log o p.stripe.unit) ≡ true
     → list_any (bears_position s q) (take (readable_blocks s (landed_blocks s log o p.stripe.unit)) (chunk_blocks log o p.stripe.unit)) ≡ true
 earlier_block s log new p o q is held given borne =
     let test : ℕ × Block → Bool = λ b. bears_position s q b.1 && is_readable_in s log p.stripe.unit b.0 (Opened o) in
-    let r : (x : Placed) × (holds_position s q x ≡ true) × IsAmong (stripes_on log o p.stripe.unit) x = member_of (holds_position s q) (stripes_on log o p.stripe.unit) (any_stripe (bears_position s q) (stripes_on log o p.stripe.unit) borne) in
+    let r : (x : Placed) × (holds_position s q x ≡ true) × IsAmong (stripes_on log o p.stripe.unit) x =
+    member_of (holds_position s q) (stripes_on log o p.stripe.unit) (any_stripe (bears_position s q) (stripes_on log o p.stripe.unit) borne) in
     let of : IsOfChunk log p o r.0 = all_at (IsOfChunk log p o) (stripes_on log o p.stripe.unit) r.2.0 r.0 r.2.1 (chunk_members log p o) in
     let t : (x : Placed) × (gives_back s log q x ≡ true) × IsAmong (placements log) x = member_of (gives_back s log q) (placements log) given in
-    let same : t.0 ≡ r.0 = one_holder s log q t.0 r.0 held t.2 of.among (second_of (has_landed log t.0) (holds_position s q t.0) (given_holds s log q t.0 t.1)) r.1 in
+    let same : t.0 ≡ r.0 = one_holder s log q t.0 r.0 held t.2 of.among
+    (second_of (has_landed log t.0) (holds_position s q t.0) (given_holds s log q t.0 t.1)) r.1 in
     let gives : gives_back s log q r.0 ≡ true = ap (gives_back s log q) (sym same) ∙ t.1 in
     let landed : has_landed log r.0 ≡ true = first_of (has_landed log r.0) (holds_position s q r.0) (given_holds s log q r.0 gives) in
-    let reads : list_any test (enumerate_from r.0.stripe.at r.0.stripe.blocks) ≡ true = sym (gives_of_chunk s log o p.stripe.unit q r.0 landed (chunk_unit p o r.0 of.of) (chunk_life p o r.0 of.of)) ∙ gives in
+    let reads : list_any test (enumerate_from r.0.stripe.at r.0.stripe.blocks) ≡ true =
+    sym (gives_of_chunk s log o p.stripe.unit q r.0 landed (chunk_unit p o r.0 of.of) (chunk_life p o r.0 of.of)) ∙ gives in
     let whole : list_any test (enumerate_from 0 (chunk_blocks log o p.stripe.unit)) ≡ true =
-    flat_any test s.ws_opt 0 (stripes_on log o p.stripe.unit) (λ k x e. let row = is.rows k x e in ((let at : x.stripe.at ≡ k * s.ws_opt = row.at in omega arith), row.blocks))
+    flat_any test s.ws_opt 0 (stripes_on log o p.stripe.unit)
+    (λ k x e. let row = is.rows k x e in ((let at : x.stripe.at ≡ k * s.ws_opt = row.at in omega arith), row.blocks))
     ∙ any_member (λ (x : Placed). list_any test (enumerate_from x.stripe.at x.stripe.blocks)) (stripes_on log o p.stripe.unit) r.2.0 r.0 r.2.1 reads in
     sym (found_any (bears_position s q) 0 (take (readable_blocks s (landed_blocks s log o p.stripe.unit)) (chunk_blocks log o p.stripe.unit)))
     ∙ ap is_some (sym (read_found s log o p.stripe.unit q (chunk_blocks log o p.stripe.unit) is.plain (chunk_within s log o p.stripe.unit is.rows)))
     ∙ sym (any_found test (enumerate_from 0 (chunk_blocks log o p.stripe.unit))) ∙ whole
 
-pub newly_kept : (s : Shape) (log new : List Logged) (p : Placed) (o : Opening) (q : ℕ) → IsLandedNow s log new p o → HeldOnce s log → AllByRecursion (λ (p : Placed). BearsOnce s p.stripe.blocks) (placements log)
+pub newly_kept : (s : Shape) (log new : List Logged) (p : Placed) (o : Opening) (q : ℕ) → IsLandedNow s log new p o → HeldOnce s log
+    → AllByRecursion (λ (p : Placed). BearsOnce s p.stripe.blocks) (placements log)
     → list_any (bears_position s q) (newly_readable s log o p.stripe.unit) ≡ true → is_given_back s log q ≡ false
 unfolding times
 newly_kept s log new p o q is held once e =
@@ -130,8 +146,10 @@ newly_kept s log new p o q is held once e =
     let cs : List Block = chunk_blocks log o p.stripe.unit in
     let one : times s q cs ≤ 1 = chunk_times s log o p.stripe.unit q held once in
     let few : times s q (take high cs) ≤ times s q cs = fewer_taken (bears_position s q) high cs in
-    let sum : times s q (take high cs) ≡ times s q (take low (take high cs)) + times s q (drop low (take high cs)) = ap (times s q) (parts_of low (take high cs)) ∙ times_append s q (take low (take high cs)) (drop low (take high cs)) in
-    let first : take low (take high cs) ≡ take low cs = take_within low high cs (low_high s (landed_blocks s log o p.stripe.unit) (blocks_below s log new p o is) is.some) in
+    let sum : times s q (take high cs) ≡ times s q (take low (take high cs)) + times s q (drop low (take high cs)) =
+    ap (times s q) (parts_of low (take high cs)) ∙ times_append s q (take low (take high cs)) (drop low (take high cs)) in
+    let first : take low (take high cs) ≡ take low cs =
+    take_within low high cs (low_high s (landed_blocks s log o p.stripe.unit) (blocks_below s log new p o is) is.some) in
     let same : times s q (take low (take high cs)) ≡ times s q (take low cs) = ap (times s q) first in
     let some : 0 < times s q (drop low (take high cs)) = any_counts (bears_position s q) (drop low (take high cs)) e in
     let none : times s q (take low cs) ≡ 0 = omega arith in
@@ -146,12 +164,16 @@ newly_kept s log new p o q is held once e =
         by true g = refl
         by false g = let none : length (filter f bs) ≡ 0 = not_any f bs g in absurd (omega arith)
 
-    go : (b : Bool) → is_given_back s log q ≡ b → list_any (bears_position s q) (take (readable_blocks s (landed_blocks s log o p.stripe.unit)) (chunk_blocks log o p.stripe.unit)) ≡ false
+    go : (b : Bool) → is_given_back s log q ≡ b
+        → list_any (bears_position s q) (take (readable_blocks s (landed_blocks s log o p.stripe.unit)) (chunk_blocks log o p.stripe.unit)) ≡ false
         → list_any (bears_position s q) (chunk_blocks log o p.stripe.unit) ≡ true → b ≡ false
-    go true f clear borne = let bad : list_any (bears_position s q) (take (readable_blocks s (landed_blocks s log o p.stripe.unit)) (chunk_blocks log o p.stripe.unit)) ≡ true = earlier_block s log new p o q is held f borne in absurd cc
+    go true f clear borne = let bad : list_any (bears_position s q)
+        (take (readable_blocks s (landed_blocks s log o p.stripe.unit)) (chunk_blocks log o p.stripe.unit)) ≡ true =
+        earlier_block s log new p o q is held f borne in absurd cc
     go false f clear borne = refl
 
-pub newly_landed : (s : Shape) (log new : List Logged) (p : Placed) (o : Opening) (q : ℕ) → IsLandedNow s log new p o → IsNewest log p → list_any (bears_position s q) (newly_readable s log o p.stripe.unit) ≡ true → has_landed_at s new q ≡ true
+pub newly_landed : (s : Shape) (log new : List Logged) (p : Placed) (o : Opening) (q : ℕ) → IsLandedNow s log new p o → IsNewest log p
+    → list_any (bears_position s q) (newly_readable s log o p.stripe.unit) ≡ true → has_landed_at s new q ≡ true
 newly_landed s log new p o q is newest e = given_landed s new q
     (given_newly s log new p o q is newest ∙ or_right (is_given_back s log q) (list_any (bears_position s q) (newly_readable s log o p.stripe.unit)) e)
 
@@ -178,7 +200,8 @@ pub any_part : {X : Type 0} (f : X → Bool) (low high : ℕ) (xs : List X) → 
 any_part f low high xs e = any_taken f high xs (any_dropped f low (take high xs) e)
 
 -- an unanswered stripe gives nothing back, and no other holds its positions
-pub own_kept : (s : Shape) (log : List Logged) (p : Placed) (q : ℕ) → HeldOnce s log → IsAmong (placements log) p → has_landed log p ≡ false → holds_position s q p ≡ true → is_given_back s log q ≡ false
+pub own_kept : (s : Shape) (log : List Logged) (p : Placed) (q : ℕ) → HeldOnce s log → IsAmong (placements log) p → has_landed log p ≡ false
+    → holds_position s q p ≡ true → is_given_back s log q ≡ false
 own_kept s log p q held among waits holds = go (is_given_back s log q) refl
   where
     no_both : {X : Type 0} (b : Bool) → b ≡ true → b ≡ false → X

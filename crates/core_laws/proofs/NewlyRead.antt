@@ -16,7 +16,8 @@ find_below {X} bears reads high n [] same = nothing (high - n)
     nothing : (k : ℕ) → None ≡ find (λ (b : ℕ × X). bears b.1) (enumerate_from n (take k (let none : List X = [] in none)))
     nothing zero = refl
     nothing (suc k) = refl
-find_below {X} bears reads high n (x ∷ xs) same = go (cases_order n high) (find_below bears reads high (n + 1) xs (λ b low within. same b (omega arith) (omega arith)))
+find_below {X} bears reads high n (x ∷ xs) same =
+    go (cases_order n high) (find_below bears reads high (n + 1) xs (λ b low within. same b (omega arith) (omega arith)))
   where
     head : ℕ × X
     head = (n, x)
@@ -32,17 +33,23 @@ find_below {X} bears reads high n (x ∷ xs) same = go (cases_order n high) (fin
     holds true = refl
     holds false = refl
 
-    past : high ≤ n → find (λ (b : ℕ × X). bears b.1 && reads b.0) (enumerate_from (n + 1) xs) ≡ find (λ (b : ℕ × X). bears b.1) (enumerate_from (n + 1) (take (high - (n + 1)) xs))
-        → cond (bears x && reads n) (Some head) (find (λ (b : ℕ × X). bears b.1 && reads b.0) (enumerate_from (n + 1) xs)) ≡ find (λ (b : ℕ × X). bears b.1) (enumerate_from n (take (high - n) (x ∷ xs)))
+    past : high ≤ n → find (λ (b : ℕ × X). bears b.1 && reads b.0) (enumerate_from (n + 1) xs) ≡ find (λ (b : ℕ × X). bears b.1)
+        (enumerate_from (n + 1) (take (high - (n + 1)) xs))
+        → cond (bears x && reads n) (Some head) (find (λ (b : ℕ × X). bears b.1 && reads b.0) (enumerate_from (n + 1) xs)) ≡ find (λ (b : ℕ × X). bears b.1)
+        (enumerate_from n (take (high - n) (x ∷ xs)))
     past above rest =
         let none : high - n ≡ 0 = omega arith in
         let later : high - (n + 1) ≡ 0 = omega arith in
-        ap (λ c. cond c (Some head) (find (λ (b : ℕ × X). bears b.1 && reads b.0) (enumerate_from (n + 1) xs))) (ap (λ c. bears x && c) (here ∙ not_below high n above) ∙ drops (bears x))
+        ap (λ c. cond c (Some head) (find (λ (b : ℕ × X). bears b.1 && reads b.0) (enumerate_from (n + 1) xs)))
+        (ap (λ c. bears x && c) (here ∙ not_below high n above) ∙ drops (bears x))
         ∙ rest ∙ ap (λ k. find (λ (b : ℕ × X). bears b.1) (enumerate_from (n + 1) (take k xs))) later
         ∙ ap (λ k. find (λ (b : ℕ × X). bears b.1) (enumerate_from n (take k (x ∷ xs)))) (sym none)
 
-    go : (n ≡ high) ⊎ ((n < high) ⊎ (high < n)) → find (λ (b : ℕ × X). bears b.1 && reads b.0) (enumerate_from (n + 1) xs) ≡ find (λ (b : ℕ × X). bears b.1) (enumerate_from (n + 1) (take (high - (n + 1)) xs))
-        → cond (bears x && reads n) (Some head) (find (λ (b : ℕ × X). bears b.1 && reads b.0) (enumerate_from (n + 1) xs)) ≡ find (λ (b : ℕ × X). bears b.1) (enumerate_from n (take (high - n) (x ∷ xs)))
+    go : (n ≡ high) ⊎ ((n < high) ⊎ (high < n))
+        → find (λ (b : ℕ × X). bears b.1 && reads b.0) (enumerate_from (n + 1) xs) ≡ find (λ (b : ℕ × X). bears b.1)
+        (enumerate_from (n + 1) (take (high - (n + 1)) xs))
+        → cond (bears x && reads n) (Some head) (find (λ (b : ℕ × X). bears b.1 && reads b.0) (enumerate_from (n + 1) xs)) ≡ find (λ (b : ℕ × X). bears b.1)
+        (enumerate_from n (take (high - n) (x ∷ xs)))
     go (inl equal) rest = past (omega arith) rest
     go (inr (inr above)) rest = past (omega arith) rest
     go (inr (inl below)) rest =
@@ -51,7 +58,8 @@ find_below {X} bears reads high n (x ∷ xs) same = go (cases_order n high) (fin
         ∙ ap (λ k. find (λ (b : ℕ × X). bears b.1) (enumerate_from n (take k (x ∷ xs)))) next
 
 -- where none of the first passes, it is found behind them
-pub find_behind : {X : Type 0} (bears : X → Bool) (k n : ℕ) (xs : List X) → list_any bears (take k xs) ≡ false → find (λ (b : ℕ × X). bears b.1) (enumerate_from n xs) ≡ find (λ (b : ℕ × X). bears b.1) (enumerate_from (n + k) (drop k xs))
+pub find_behind : {X : Type 0} (bears : X → Bool) (k n : ℕ) (xs : List X) → list_any bears (take k xs) ≡ false
+    → find (λ (b : ℕ × X). bears b.1) (enumerate_from n xs) ≡ find (λ (b : ℕ × X). bears b.1) (enumerate_from (n + k) (drop k xs))
 find_behind {X} bears zero n xs none = let same : n ≡ n + 0 = omega arith in ap (λ m. find (λ (b : ℕ × X). bears b.1) (enumerate_from m xs)) same
 find_behind bears (suc k) n [] none = refl
 find_behind {X} bears (suc k) n (x ∷ xs) none = go (bears x) none (find_behind bears k (n + 1) xs)
@@ -59,8 +67,11 @@ find_behind {X} bears (suc k) n (x ∷ xs) none = go (bears x) none (find_behind
     head : ℕ × X
     head = (n, x)
 
-    go : (b : Bool) → (b || list_any bears (take k xs)) ≡ false → (list_any bears (take k xs) ≡ false → find (λ (b : ℕ × X). bears b.1) (enumerate_from (n + 1) xs) ≡ find (λ (b : ℕ × X). bears b.1) (enumerate_from (n + 1 + k) (drop k xs)))
-        → cond b (Some head) (find (λ (b : ℕ × X). bears b.1) (enumerate_from (n + 1) xs)) ≡ find (λ (b : ℕ × X). bears b.1) (enumerate_from (n + suc k) (drop k xs))
+    go : (b : Bool) → (b || list_any bears (take k xs)) ≡ false
+        → (list_any bears (take k xs) ≡ false
+        → find (λ (b : ℕ × X). bears b.1) (enumerate_from (n + 1) xs) ≡ find (λ (b : ℕ × X). bears b.1) (enumerate_from (n + 1 + k) (drop k xs)))
+        → cond b (Some head) (find (λ (b : ℕ × X). bears b.1) (enumerate_from (n + 1) xs)) ≡ find (λ (b : ℕ × X). bears b.1)
+        (enumerate_from (n + suc k) (drop k xs))
     go true f rest = absurd cc
     go false f rest = let next : n + 1 + k ≡ n + suc k = omega arith in rest f ∙ ap (λ m. find (λ (b : ℕ × X). bears b.1) (enumerate_from m (drop k xs))) next
 
@@ -72,7 +83,8 @@ found_any {X} bears n (x ∷ xs) = go (bears x) (found_any bears (n + 1) xs)
     head : ℕ × X
     head = (n, x)
 
-    go : (b : Bool) → is_some (find (λ (b : ℕ × X). bears b.1) (enumerate_from (n + 1) xs)) ≡ list_any bears xs → is_some (cond b (Some head) (find (λ (b : ℕ × X). bears b.1) (enumerate_from (n + 1) xs))) ≡ (b || list_any bears xs)
+    go : (b : Bool) → is_some (find (λ (b : ℕ × X). bears b.1) (enumerate_from (n + 1) xs)) ≡ list_any bears xs
+        → is_some (cond b (Some head) (find (λ (b : ℕ × X). bears b.1) (enumerate_from (n + 1) xs))) ≡ (b || list_any bears xs)
     go true rest = refl
     go false rest = rest
 

@@ -19,7 +19,8 @@ use Rattle.core_laws.specs.LeastFree.{IsLeastFree, IsStartOf}
 use Rattle.core_laws.proofs.RangeSums.{value_at}
 use Rattle.core_laws.proofs.FreeRows.{row_free, free_width}
 
-free_at : (i : Image) (logs : Logs) (line : ℕ) (b : Bool) → line < i.shape.chunks → is_free (get_or (rows_of i logs).rows line (row_of_line i logs 0)) ≡ b → is_free_line i logs line ≡ b
+free_at : (i : Image) (logs : Logs) (line : ℕ) (b : Bool) → line < i.shape.chunks → is_free (get_or (rows_of i logs).rows line (row_of_line i logs 0)) ≡ b
+    → is_free_line i logs line ≡ b
 free_at i logs line b within e =
     let first : 0 + line ≡ line = omega arith in
     sym (row_free i logs line)

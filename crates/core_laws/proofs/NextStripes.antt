@@ -78,8 +78,10 @@ next_is l log ps m plain form some =
     let unplaced : (j : ℕ) → is_to_place l j ≡ option_map_or is_unplaced (slice_get (in_form log ps m) j) false =
     λ j. to_place l j all ∙ ap (λ (xs : List Stripe). option_map_or is_unplaced (slice_get xs j) false) form in
     let from : 0 + length ps ≡ length ps = omega arith in
-    found_in_range (is_to_place l) 0 (length l.stripes) (length ps) (omega arith) (unplaced (0 + length ps) ∙ ap (λ j. option_map_or is_unplaced (slice_get (in_form log ps m) j) false) from ∙ unplaced_here log ps m some)
-    (λ j before. let start : 0 + j ≡ j = omega arith in unplaced (0 + j) ∙ ap (λ j. option_map_or is_unplaced (slice_get (in_form log ps m) j) false) start ∙ placed_before log ps m j before)
+    found_in_range (is_to_place l) 0 (length l.stripes) (length ps) (omega arith)
+    (unplaced (0 + length ps) ∙ ap (λ j. option_map_or is_unplaced (slice_get (in_form log ps m) j) false) from ∙ unplaced_here log ps m some)
+    (λ j before. let start : 0 + j ≡ j = omega arith in unplaced (0 + j) ∙ ap (λ j. option_map_or is_unplaced (slice_get (in_form log ps m) j) false) start
+    ∙ placed_before log ps m j before)
     ∙ ap (λ j. Some j) from
 
 pub none_next : (l : OpenLine) (log : List Logged) (ps : List Placed) (m : ℕ) → ArePlain log → l.stripes ≡ in_form log ps m → m ≡ 0 → next_of l ≡ None
@@ -88,31 +90,38 @@ none_next l log ps m plain form none =
     let count : length l.stripes ≡ length ps + m = ap (λ (xs : List Stripe). length xs) form ∙ form_length log ps m in
     none_in_range (is_to_place l) 0 (length l.stripes)
     (λ j before. let start : 0 + j ≡ j = omega arith in
-    ap (is_to_place l) start ∙ to_place l j all ∙ ap (λ (xs : List Stripe). option_map_or is_unplaced (slice_get xs j) false) form ∙ placed_before log ps m j (omega arith))
+    ap (is_to_place l) start ∙ to_place l j all ∙ ap (λ (xs : List Stripe). option_map_or is_unplaced (slice_get xs j) false) form
+    ∙ placed_before log ps m j (omega arith))
 
 pub unfailed : (l : OpenLine) (log : List Logged) (ps : List Placed) (m : ℕ) → ArePlain log → l.stripes ≡ in_form log ps m → has_failed l ≡ false
 unfailed l log ps m plain form = never_failed l (subst (AllByRecursion (λ x. is_lost x ≡ false)) (sym form) (unlost log ps m plain))
 
 -- ---- what has landed
 
-first_landed : (log : List Logged) (ps : List Placed) (m c : ℕ) → c ≤ length ps → list_all is_landed (take c (in_form log ps m)) ≡ list_all (has_landed log) (take c ps)
+first_landed : (log : List Logged) (ps : List Placed) (m c : ℕ) → c ≤ length ps
+    → list_all is_landed (take c (in_form log ps m)) ≡ list_all (has_landed log) (take c ps)
 unfolding answered_as
 first_landed log ps m zero h = refl
 first_landed log [] m (suc c) h = absurd (omega arith)
 first_landed log (p ∷ ps) m (suc c) h = ap₂ (λ a b. a && b) (landed_is (answer_of log p)) (first_landed log ps m c (omega arith))
 
-rest_landed : (log : List Logged) (ps : List Placed) (m c d : ℕ) → c + d ≤ length ps → list_all is_landed (take d (drop c (in_form log ps m))) ≡ list_all (has_landed log) (take d (drop c ps))
+rest_landed : (log : List Logged) (ps : List Placed) (m c d : ℕ) → c + d ≤ length ps
+    → list_all is_landed (take d (drop c (in_form log ps m))) ≡ list_all (has_landed log) (take d (drop c ps))
 rest_landed log ps m zero d h = first_landed log ps m d (omega arith)
 rest_landed log [] m (suc c) d h = absurd (omega arith)
 rest_landed log (p ∷ ps) m (suc c) d h = rest_landed log ps m c d (omega arith)
 
-pub start_landed : (l : OpenLine) (log : List Logged) (ps : List Placed) (m : ℕ) → l.stripes ≡ in_form log ps m → l.start_count ≤ length ps → start_has_landed l ≡ list_all (has_landed log) (take l.start_count ps)
+pub start_landed : (l : OpenLine) (log : List Logged) (ps : List Placed) (m : ℕ) → l.stripes ≡ in_form log ps m → l.start_count ≤ length ps
+    → start_has_landed l ≡ list_all (has_landed log) (take l.start_count ps)
 start_landed l log ps m form within = ap (λ (xs : List Stripe). list_all is_landed (take l.start_count xs)) form ∙ first_landed log ps m l.start_count within
 
-pub data_landed : (l : OpenLine) (log : List Logged) (ps : List Placed) (m : ℕ) → l.stripes ≡ in_form log ps m → l.start_count + l.data_count ≤ length ps → data_has_landed l ≡ list_all (has_landed log) (take l.data_count (drop l.start_count ps))
-data_landed l log ps m form within = ap (λ (xs : List Stripe). list_all is_landed (take l.data_count (drop l.start_count xs))) form ∙ rest_landed log ps m l.start_count l.data_count within
+pub data_landed : (l : OpenLine) (log : List Logged) (ps : List Placed) (m : ℕ) → l.stripes ≡ in_form log ps m → l.start_count + l.data_count ≤ length ps
+    → data_has_landed l ≡ list_all (has_landed log) (take l.data_count (drop l.start_count ps))
+data_landed l log ps m form within = ap (λ (xs : List Stripe). list_all is_landed (take l.data_count (drop l.start_count xs))) form
+    ∙ rest_landed log ps m l.start_count l.data_count within
 
-pub all_parts : {X : Type 0} (test : X → Bool) (c d : ℕ) (xs : List X) → list_all test (take (c + d) xs) ≡ (list_all test (take c xs) && list_all test (take d (drop c xs)))
+pub all_parts : {X : Type 0} (test : X → Bool) (c d : ℕ) (xs : List X)
+    → list_all test (take (c + d) xs) ≡ (list_all test (take c xs) && list_all test (take d (drop c xs)))
 all_parts test zero d xs = let from : 0 + d ≡ d = omega arith in ap (λ n. list_all test (take n xs)) from
 all_parts {X} test (suc c) d [] = nothing (suc c + d) d
   where
@@ -124,7 +133,8 @@ all_parts {X} test (suc c) d [] = nothing (suc c + d) d
         no_parts (suc m) = refl
 all_parts test (suc c) d (x ∷ xs) =
     let next : suc c + d ≡ suc (c + d) = omega arith in
-    ap (λ n. list_all test (take n (x ∷ xs))) next ∙ ap (λ b. test x && b) (all_parts test c d xs) ∙ grouped (test x) (list_all test (take c xs)) (list_all test (take d (drop c xs)))
+    ap (λ n. list_all test (take n (x ∷ xs))) next ∙ ap (λ b. test x && b) (all_parts test c d xs)
+    ∙ grouped (test x) (list_all test (take c xs)) (list_all test (take d (drop c xs)))
   where
     grouped : (a b c : Bool) → (a && (b && c)) ≡ ((a && b) && c)
     grouped true b c = refl

@@ -34,18 +34,24 @@ rising_by a n [] e = tt
 rising_by a zero (t ∷ ts) e = absurd cc
 rising_by a (suc n) (t ∷ ts) e =
     let first : t.entry.position ≡ a = cc in
-    let rest : positions_of ts ≡ range_with_len (a + 1) n = cc in
-    (all_imply (λ (u : Taken). a + 1 ≤ u.entry.position) (λ (u : Taken). t.entry.position < u.entry.position) (λ u h. omega arith) ts (from_by (a + 1) n ts rest), rising_by (a + 1) n ts rest)
+    let rest : positions_of ts ≡ range_with_len (a + 1) n = cc in (
+      all_imply (λ (u : Taken). a + 1 ≤ u.entry.position) (λ (u : Taken). t.entry.position < u.entry.position) (λ u h. omega arith) ts
+          (from_by (a + 1) n ts rest),
+      rising_by (a + 1) n ts rest,
+    )
 
-pub rising_before : (before : List Taken) (t : Taken) (after : List Taken) → IsRising (before ++ t ∷ after) → AllByRecursion (λ u. u.entry.position < t.entry.position) before
+pub rising_before : (before : List Taken) (t : Taken) (after : List Taken) → IsRising (before ++ t ∷ after)
+    → AllByRecursion (λ u. u.entry.position < t.entry.position) before
 rising_before [] t after rise = tt
-rising_before (u ∷ before) t after rise = ((all_right (λ (v : Taken). u.entry.position < v.entry.position) before (t ∷ after) rise.0).0, rising_before before t after rise.1)
+rising_before (u ∷ before) t after rise =
+    ((all_right (λ (v : Taken). u.entry.position < v.entry.position) before (t ∷ after) rise.0).0, rising_before before t after rise.1)
 
 rising_right : (before after : List Taken) → IsRising (before ++ after) → IsRising after
 rising_right [] after rise = rise
 rising_right (u ∷ before) after rise = rising_right before after rise.1
 
-pub rising_after : (before : List Taken) (t : Taken) (after : List Taken) → IsRising (before ++ t ∷ after) → AllByRecursion (λ u. t.entry.position < u.entry.position) after
+pub rising_after : (before : List Taken) (t : Taken) (after : List Taken) → IsRising (before ++ t ∷ after)
+    → AllByRecursion (λ u. t.entry.position < u.entry.position) after
 rising_after before t after rise = (rising_right before (t ∷ after) rise).0
 
 -- ---- the last of a list
@@ -61,21 +67,28 @@ last_append o (x ∷ xs) ys = last_append (Some x) xs ys
 abbrev IsElsewhere : ℕ → Taken → Type 0
 IsElsewhere position t = (t.entry.position == position) ≡ false
 
-last_elsewhere : (position : ℕ) (o : Option Taken) (xs : List Taken) → is_at position o ≡ false → AllByRecursion (IsElsewhere position) xs → is_at position (last_or o xs) ≡ false
+last_elsewhere : (position : ℕ) (o : Option Taken) (xs : List Taken) → is_at position o ≡ false → AllByRecursion (IsElsewhere position) xs
+    → is_at position (last_or o xs) ≡ false
 last_elsewhere position o [] was all = was
 last_elsewhere position o (x ∷ xs) was all = last_elsewhere position (Some x) xs all.0 all.1
 
 below_elsewhere : (position : ℕ) (xs : List Taken) → AllByRecursion (λ u. u.entry.position < position) xs → AllByRecursion (IsElsewhere position) xs
-below_elsewhere position xs all = all_imply (λ (u : Taken). u.entry.position < position) (IsElsewhere position) (λ u h. other_number u.entry.position position (λ e. absurd (omega arith))) xs all
+below_elsewhere position xs all =
+    all_imply (λ (u : Taken). u.entry.position < position) (IsElsewhere position)
+    (λ u h. other_number u.entry.position position (λ e. absurd (omega arith))) xs all
 
 above_elsewhere : (position : ℕ) (xs : List Taken) → AllByRecursion (λ u. position < u.entry.position) xs → AllByRecursion (IsElsewhere position) xs
-above_elsewhere position xs all = all_imply (λ (u : Taken). position < u.entry.position) (IsElsewhere position) (λ u h. other_number u.entry.position position (λ e. absurd (omega arith))) xs all
+above_elsewhere position xs all =
+    all_imply (λ (u : Taken). position < u.entry.position) (IsElsewhere position)
+    (λ u h. other_number u.entry.position position (λ e. absurd (omega arith))) xs all
 
 last_by : (test : Taken → Bool) (before : List Taken) (t : Taken) (after : List Taken)
     → last_or None (filter test (before ++ t ∷ after)) ≡ last_or (last_or None (filter test before)) (cond (test t) (t ∷ filter test after) (filter test after))
-last_by test before t after = ap (last_or None) (filter-append test before (t ∷ after)) ∙ last_append None (filter test before) (cond (test t) (t ∷ filter test after) (filter test after))
+last_by test before t after = ap (last_or None) (filter-append test before (t ∷ after))
+    ∙ last_append None (filter test before) (cond (test t) (t ∷ filter test after) (filter test after))
 
-before_at : (test : Taken → Bool) (before : List Taken) (position : ℕ) → AllByRecursion (λ u. u.entry.position < position) before → is_at position (last_or None (filter test before)) ≡ false
+before_at : (test : Taken → Bool) (before : List Taken) (position : ℕ) → AllByRecursion (λ u. u.entry.position < position) before
+    → is_at position (last_or None (filter test before)) ≡ false
 before_at test before position below =
     last_elsewhere position None (filter test before) refl (all_filter (IsElsewhere position) test before (below_elsewhere position before below))
 
@@ -83,17 +96,22 @@ before_at test before position below =
 pub fails_at : (test : Taken → Bool) (before : List Taken) (t : Taken) (after : List Taken) → IsRising (before ++ t ∷ after) → test t ≡ false
     → is_at t.entry.position (last_or None (filter test (before ++ t ∷ after))) ≡ false
 fails_at test before t after rise fails =
-    ap (is_at t.entry.position) (last_by test before t after ∙ ap (λ b. last_or (last_or None (filter test before)) (cond b (t ∷ filter test after) (filter test after))) fails)
-    ∙ last_elsewhere t.entry.position (last_or None (filter test before)) (filter test after) (before_at test before t.entry.position (rising_before before t after rise))
+    ap (is_at t.entry.position) (last_by test before t after
+    ∙ ap (λ b. last_or (last_or None (filter test before)) (cond b (t ∷ filter test after) (filter test after))) fails)
+    ∙ last_elsewhere t.entry.position (last_or None (filter test before)) (filter test after)
+    (before_at test before t.entry.position (rising_before before t after rise))
     (all_filter (IsElsewhere t.entry.position) test after (above_elsewhere t.entry.position after (rising_after before t after rise)))
 
 -- nor is one after which another passes
-pub passes_later : (test : Taken → Bool) (before : List Taken) (t : Taken) (after : List Taken) (y : Taken) (ys : List Taken) → IsRising (before ++ t ∷ after) → filter test after ≡ y ∷ ys
+pub passes_later : (test : Taken → Bool) (before : List Taken) (t : Taken) (after : List Taken) (y : Taken) (ys : List Taken) → IsRising (before ++ t ∷ after)
+    → filter test after ≡ y ∷ ys
     → is_at t.entry.position (last_or None (filter test (before ++ t ∷ after))) ≡ false
 passes_later test before t after y ys rise some =
-    ap (is_at t.entry.position) (last_by test before t after ∙ ap (λ zs. last_or (last_or None (filter test before)) (cond (test t) (t ∷ zs) zs)) some ∙ go (test t))
+    ap (is_at t.entry.position) (last_by test before t after ∙ ap (λ zs. last_or (last_or None (filter test before)) (cond (test t) (t ∷ zs) zs)) some
+    ∙ go (test t))
     ∙ (let all : AllByRecursion (IsElsewhere t.entry.position) (y ∷ ys) =
-    subst (AllByRecursion (IsElsewhere t.entry.position)) some (all_filter (IsElsewhere t.entry.position) test after (above_elsewhere t.entry.position after (rising_after before t after rise))) in
+    subst (AllByRecursion (IsElsewhere t.entry.position)) some
+    (all_filter (IsElsewhere t.entry.position) test after (above_elsewhere t.entry.position after (rising_after before t after rise))) in
     last_elsewhere t.entry.position (Some y) ys all.0 all.1)
   where
     go : (b : Bool) → last_or (last_or None (filter test before)) (cond b (t ∷ y ∷ ys) (y ∷ ys)) ≡ last_or (Some y) ys
@@ -118,17 +136,20 @@ next_by before t after rise =
     ∙ ap (λ o. option_or o (find (λ u. (u.mark.lba == t.mark.lba) && nat_lt t.entry.position u.entry.position) (t ∷ after)))
     (find_none (λ u. (u.mark.lba == t.mark.lba) && nat_lt t.entry.position u.entry.position) before
     (all_imply (λ (u : Taken). u.entry.position < t.entry.position) (λ u. ((u.mark.lba == t.mark.lba) && nat_lt t.entry.position u.entry.position) ≡ false)
-    (λ u h. and_false (u.mark.lba == t.mark.lba) (nat_lt t.entry.position u.entry.position) (not_below u.entry.position t.entry.position (omega arith))) before (rising_before before t after rise)))
+    (λ u h. and_false (u.mark.lba == t.mark.lba) (nat_lt t.entry.position u.entry.position) (not_below u.entry.position t.entry.position (omega arith))) before
+    (rising_before before t after rise)))
     ∙ ap (λ b. cond b (Some t) (find (λ u. (u.mark.lba == t.mark.lba) && nat_lt t.entry.position u.entry.position) after))
     (and_false (t.mark.lba == t.mark.lba) (nat_lt t.entry.position t.entry.position) (not_below t.entry.position t.entry.position (omega arith)))
     ∙ find_agree (λ (u : Taken). t.entry.position < u.entry.position) (λ u. (u.mark.lba == t.mark.lba) && nat_lt t.entry.position u.entry.position) (is_same t)
-    (λ u h. and_true (u.mark.lba == t.mark.lba) (nat_lt t.entry.position u.entry.position) (lt_true t.entry.position u.entry.position h)) after (rising_after before t after rise)
+    (λ u h. and_true (u.mark.lba == t.mark.lba) (nat_lt t.entry.position u.entry.position) (lt_true t.entry.position u.entry.position h)) after
+    (rising_after before t after rise)
 
 pub none_found : {X : Type 0} (test : X → Bool) (xs : List X) → find test xs ≡ None → AllByRecursion (λ x. test x ≡ false) xs
 none_found test [] e = tt
 none_found {X} test (x ∷ xs) e = go (test x) refl e (λ f. none_found test xs f)
   where
-    go : (b : Bool) → test x ≡ b → cond b (Some x) (find test xs) ≡ None → (find test xs ≡ None → AllByRecursion (λ x. test x ≡ false) xs) → AllByRecursion (λ x. test x ≡ false) (x ∷ xs)
+    go : (b : Bool) → test x ≡ b → cond b (Some x) (find test xs) ≡ None → (find test xs ≡ None → AllByRecursion (λ x. test x ≡ false) xs)
+        → AllByRecursion (λ x. test x ≡ false) (x ∷ xs)
     go true f e rest = absurd (none-some x (sym e))
     go false f e rest = (f, rest e)
 
@@ -158,18 +179,23 @@ last_some : (P : Taken → Type 0) (y : Taken) (ys : List Taken) → P y → All
 last_some P y [] is all = (y, refl, is)
 last_some P y (x ∷ xs) is all = last_some P x xs all.0 all.1
 
-pub latest_is : (by : ℕ) (o : Option Taken) → ((t : Taken) → o ≡ Some t → t.entry.position < by) → latest (option_map (λ (t : Taken). t.entry.position) o) by ≡ by
+pub latest_is : (by : ℕ) (o : Option Taken) → ((t : Taken) → o ≡ Some t → t.entry.position < by)
+    → latest (option_map (λ (t : Taken). t.entry.position) o) by ≡ by
 latest_is by None below = refl
 latest_is by (Some t) below = let before : t.entry.position < by = below t refl in omega arith
 
-pub one_more : (xs : List Taken) (u : Taken) (ys : List Taken) → AllByRecursion (λ t. t.entry.position < u.entry.position) xs → AllByRecursion (λ t. u.entry.position < t.entry.position) ys
-    → option_map (λ (t : Taken). t.entry.position) (last_or None (xs ++ u ∷ ys)) ≡ Some (latest (option_map (λ (t : Taken). t.entry.position) (last_or None (xs ++ ys))) u.entry.position)
+pub one_more : (xs : List Taken) (u : Taken) (ys : List Taken) → AllByRecursion (λ t. t.entry.position < u.entry.position) xs
+    → AllByRecursion (λ t. u.entry.position < t.entry.position) ys
+    → option_map (λ (t : Taken). t.entry.position) (last_or None (xs ++ u ∷ ys)) ≡ Some
+    (latest (option_map (λ (t : Taken). t.entry.position) (last_or None (xs ++ ys))) u.entry.position)
 one_more xs u [] below above =
     ap (option_map (λ (t : Taken). t.entry.position)) (last_append None xs (u ∷ []))
     ∙ ap (λ n. Some n) (sym (ap (λ zs. latest (option_map (λ (t : Taken). t.entry.position) (last_or None zs)) u.entry.position) (append-nil xs)
-    ∙ latest_is u.entry.position (last_or None xs) (λ t e. last_in (λ (v : Taken). v.entry.position < u.entry.position) None xs t (λ y f. absurd (none-some y f)) below e)))
+    ∙ latest_is u.entry.position (last_or None xs)
+    (λ t e. last_in (λ (v : Taken). v.entry.position < u.entry.position) None xs t (λ y f. absurd (none-some y f)) below e)))
 one_more xs u (y ∷ ys) below above =
-    let last : (z : Taken) × (last_or (Some y) ys ≡ Some z) × (u.entry.position < z.entry.position) = last_some (λ (t : Taken). u.entry.position < t.entry.position) y ys above.0 above.1 in
+    let last : (z : Taken) × (last_or (Some y) ys ≡ Some z) × (u.entry.position < z.entry.position) =
+    last_some (λ (t : Taken). u.entry.position < t.entry.position) y ys above.0 above.1 in
     let z : Taken = last.0 in
     let more : u.entry.position < z.entry.position = last.2 in
     let greatest : z.entry.position ≡ max z.entry.position u.entry.position = omega arith in

@@ -55,21 +55,25 @@ pub AreAnswered : List Logged → Type 0
 AreAnswered log = (p : Placed) → Contains (placements log) p → is_answered log p ≡ true
 
 -- a stripe of a unit that is answered
-its_turn : (log : List Logged) (unit : ℕ) (p : Placed) (m : ℕ) → slice_get (placed_on log unit) m ≡ Some p → is_answered log p ≡ true → (turn log p ≡ m) × (turn log p < length (answers log unit))
+its_turn : (log : List Logged) (unit : ℕ) (p : Placed) (m : ℕ) → slice_get (placed_on log unit) m ≡ Some p → is_answered log p ≡ true
+    → (turn log p ≡ m) × (turn log p < length (answers log unit))
 its_turn log unit p m e answered =
     let its : p.stripe.unit ≡ unit = unit_at log unit m p e in
     let below : turn log p < length (answers log p.stripe.unit) = some_within (answers log p.stripe.unit) (turn log p) answered in
     let same_count : length (answers log p.stripe.unit) ≡ length (answers log unit) = ap (λ u. length (answers log u)) its in
     (turn_at log unit m p e, omega arith)
 
-pub idle_unit : (i : Image) (us : ℕ → List ℕ) (w : World) (unit : ℕ) → IsFollowed i us w → AreAnswered (log_of w 0) → length (answers (log_of w 0) unit) ≡ length (placed_on (log_of w 0) unit)
+pub idle_unit : (i : Image) (us : ℕ → List ℕ) (w : World) (unit : ℕ) → IsFollowed i us w → AreAnswered (log_of w 0)
+    → length (answers (log_of w 0) unit) ≡ length (placed_on (log_of w 0) unit)
 unfolding AreAnswered
 idle_unit i us w unit is all = go (slice_get (placed_on (log_of w 0) unit) (length (answers (log_of w 0) unit))) refl
   where
-    go : (o : Option Placed) → slice_get (placed_on (log_of w 0) unit) (length (answers (log_of w 0) unit)) ≡ o → length (answers (log_of w 0) unit) ≡ length (placed_on (log_of w 0) unit)
+    go : (o : Option Placed) → slice_get (placed_on (log_of w 0) unit) (length (answers (log_of w 0) unit)) ≡ o
+        → length (answers (log_of w 0) unit) ≡ length (placed_on (log_of w 0) unit)
     go None e =
         let most : length (answers (log_of w 0) unit) ≤ length (placed_on (log_of w 0) unit) = answers_fit i w unit is.simple.mount.legal in
-        let least : length (placed_on (log_of w 0) unit) ≤ length (answers (log_of w 0) unit) = none_past (placed_on (log_of w 0) unit) (length (answers (log_of w 0) unit)) e in
+        let least : length (placed_on (log_of w 0) unit) ≤ length (answers (log_of w 0) unit) =
+        none_past (placed_on (log_of w 0) unit) (length (answers (log_of w 0) unit)) e in
         omega arith
     go (Some p) e =
         let log : List Logged = log_of w 0 in
@@ -87,7 +91,8 @@ unfolding IsPart kind_in
 part_is k c d kinds.Start part = ap (λ b. if b then kinds.Start else if nat_lt k (c + d) then kinds.Data else kinds.End) (lt_true k c part)
 part_is k c d kinds.Data part = ap₂ (λ a b. if a then kinds.Start else if b then kinds.Data else kinds.End) (not_below c k part.0) (lt_true k (c + d) part.1)
 part_is k c d kinds.Pad part = absurd part
-part_is k c d kinds.End part = ap₂ (λ a b. if a then kinds.Start else if b then kinds.Data else kinds.End) (not_below c k (omega arith)) (not_below (c + d) k part)
+part_is k c d kinds.End part =
+    ap₂ (λ a b. if a then kinds.Start else if b then kinds.Data else kinds.End) (not_below c k (omega arith)) (not_below (c + d) k part)
 
 -- the next stripe of the line, of this kind, is allowed
 record IsAllowedNext (i : Image) (us : ℕ → List ℕ) (w : World) (pad : ℕ) (o : Opening) (kind : StripeKind) : Type 0 where
@@ -95,15 +100,20 @@ record IsAllowedNext (i : Image) (us : ℕ → List ℕ) (w : World) (pad : ℕ)
   part : IsPart (length (stripes_of (log_of w 0) o)) (start_len i.shape / i.shape.ws_opt) (open_line i (log_of w) o).data_count kind
   allowed : allows i.shape (entries_of i.shape (log_of w 0) pad) (open_line i (log_of w) o) kind ≡ true
 
-any_at : (ts : List Taken) (k : ℕ) (t : Taken) (pad : ℕ) → slice_get ts k ≡ Some t → t.entry.position < pad → list_any (λ q. nat_lt q pad) (positions_of ts) ≡ true
+any_at : (ts : List Taken) (k : ℕ) (t : Taken) (pad : ℕ) → slice_get ts k ≡ Some t → t.entry.position < pad
+    → list_any (λ q. nat_lt q pad) (positions_of ts) ≡ true
 any_at [] k t pad e h = absurd (none-some t e)
-any_at (u ∷ us) zero t pad e h = or_left (nat_lt u.entry.position pad) (list_any (λ q. nat_lt q pad) (positions_of us)) (ap (λ (v : Taken). nat_lt v.entry.position pad) (same_Some u t e) ∙ lt_true t.entry.position pad h)
+any_at (u ∷ us) zero t pad e h =
+    or_left (nat_lt u.entry.position pad) (list_any (λ q. nat_lt q pad) (positions_of us))
+    (ap (λ (v : Taken). nat_lt v.entry.position pad) (same_Some u t e) ∙ lt_true t.entry.position pad h)
 any_at (u ∷ us) (suc k) t pad e h = or_right (nat_lt u.entry.position pad) (list_any (λ q. nat_lt q pad) (positions_of us)) (any_at us k t pad e h)
 
 urgent : (s : Shape) (log : List Logged) (target pad : ℕ) → target ≤ pad → IsUrgent s log target → has_stripe s.ws_opt (entries_of s log pad) ≡ true
 urgent s log target pad within (inl fills) =
-    let count : length (waiting (entries_of s log pad)) ≡ length (fronts.waiting s log) = ap (λ (qs : List ℕ). length qs) (waiting_alike s log pad) ∙ positions_length (fronts.waiting s log) in
-    or_left (nat_le s.ws_opt (length (waiting (entries_of s log pad)))) (list_any (λ q. nat_lt q pad) (waiting (entries_of s log pad))) (le_true s.ws_opt (length (waiting (entries_of s log pad))) (omega arith))
+    let count : length (waiting (entries_of s log pad)) ≡ length (fronts.waiting s log) = ap (λ (qs : List ℕ). length qs) (waiting_alike s log pad)
+    ∙ positions_length (fronts.waiting s log) in
+    or_left (nat_le s.ws_opt (length (waiting (entries_of s log pad)))) (list_any (λ q. nat_lt q pad) (waiting (entries_of s log pad)))
+    (le_true s.ws_opt (length (waiting (entries_of s log pad))) (omega arith))
 urgent s log target pad within (inr below) =
     let t : Taken = below.0 in
     let at : IsAmong (fronts.waiting s log) t = (below.1.0, slice_get-get_or (fronts.waiting s log) below.1.0 t below.1.1 ∙ ap (λ y. Some y) below.1.2) in
@@ -111,13 +121,16 @@ urgent s log target pad within (inr below) =
     or_right (nat_le s.ws_opt (length (waiting (entries_of s log pad)))) (list_any (λ q. nat_lt q pad) (waiting (entries_of s log pad)))
     (ap (list_any (λ q. nat_lt q pad)) (waiting_alike s log pad) ∙ any_at (fronts.waiting s log) at.0 t pad at.1 (omega arith))
 
-due_next : (i : Image) (us : ℕ → List ℕ) (w : World) (pad target : ℕ) (o : Opening) (stripe : Stripe) → IsFollowed i us w → IsLineOf i us w o → HasParts i us w o → target ≤ pad
-    → IsStart i (log_of w) o stripe ⊎ (IsEnd i (log_of w) o stripe ⊎ (IsPad i (log_of w) o stripe ⊎ (IsData i (log_of w) o stripe × IsUrgent i.shape (log_of w 0) target)))
+due_next : (i : Image) (us : ℕ → List ℕ) (w : World) (pad target : ℕ) (o : Opening) (stripe : Stripe) → IsFollowed i us w → IsLineOf i us w o
+    → HasParts i us w o → target ≤ pad
+    → IsStart i (log_of w) o stripe
+    ⊎ (IsEnd i (log_of w) o stripe ⊎ (IsPad i (log_of w) o stripe ⊎ (IsData i (log_of w) o stripe × IsUrgent i.shape (log_of w 0) target)))
     → (kind : StripeKind) × IsAllowedNext i us w pad o kind
 unfolding IsPart
 due_next i us w pad target o stripe is line parts within (inl start) =
     let k : ℕ = length (stripes_of (log_of w 0) o) in
-    let before : k < start_len i.shape / i.shape.ws_opt = is_before i.shape.ws_opt k (start_len i.shape / i.shape.ws_opt) (start_len i.shape) is.simple.mount.accepted.drive.ws_opt parts.start_is start.within in
+    let before : k < start_len i.shape / i.shape.ws_opt =
+    is_before i.shape.ws_opt k (start_len i.shape / i.shape.ws_opt) (start_len i.shape) is.simple.mount.accepted.drive.ws_opt parts.start_is start.within in
     let fits = parts.fits in
     (kinds.Start, record { inside = omega arith; part = before; allowed = refl })
 due_next i us w pad target o stripe is line parts within (inr (inl ends)) =
@@ -131,8 +144,10 @@ due_next i us w pad target o stripe is line parts within (inr (inl ends)) =
     let some : 0 < s.ws_opt = is.simple.mount.accepted.drive.ws_opt in
     let beyond : c + d ≤ k = is_after s.ws_opt k (c + d) (end_address s o) some parts.ends_is ends.from in
     let landed : list_all (has_landed log) (take (c + d) ps) ≡ true =
-    (both (nat_le (c + d) k) (list_all (has_landed log) (take (c + d) ps)) (ap (λ m. nat_le m k && list_all (has_landed log) (take m ps)) (sym parts.count_is) ∙ ends.data_landed)).1 in
-    let rest : list_all (has_landed log) (take d (drop c ps)) ≡ true = (both (list_all (has_landed log) (take c ps)) (list_all (has_landed log) (take d (drop c ps))) (sym (all_parts (has_landed log) c d ps) ∙ landed)).1 in (
+    (both (nat_le (c + d) k) (list_all (has_landed log) (take (c + d) ps))
+    (ap (λ m. nat_le m k && list_all (has_landed log) (take m ps)) (sym parts.count_is) ∙ ends.data_landed)).1 in
+    let rest : list_all (has_landed log) (take d (drop c ps)) ≡ true =
+    (both (list_all (has_landed log) (take c ps)) (list_all (has_landed log) (take d (drop c ps))) (sym (all_parts (has_landed log) c d ps) ∙ landed)).1 in (
       kinds.End,
       record {
         inside = is_before s.ws_opt k (stripe_count i us o.line) (line_end s o) some parts.line_is ends.within;
@@ -161,7 +176,8 @@ due_next i us w pad target o stripe is line parts within (inr (inr (inr its))) =
       record {
         inside = omega arith;
         part = (above, before);
-        allowed = and_both (start_has_landed l) (has_stripe s.ws_opt (entries_of s log pad)) (start_landed l log ps (stripe_count i us o.line - k) (formed i us w o line) above ∙ started.1) (urgent s log target pad within its.1);
+        allowed = and_both (start_has_landed l) (has_stripe s.ws_opt (entries_of s log pad))
+            (start_landed l log ps (stripe_count i us o.line - k) (formed i us w o line) above ∙ started.1) (urgent s log target pad within its.1);
       },
     )
 
@@ -171,14 +187,17 @@ pub none_at : {X : Type 0} (test : X → Bool) (xs : List X) (k : ℕ) (x : X) �
 none_at test [] k x e at = absurd (none-some x at)
 none_at {X} test (y ∷ ys) k x e at = go (test y) refl e k at (λ f m b. none_at test ys m x f b)
   where
-    go : (b : Bool) → test y ≡ b → cond b (Some y) (find test ys) ≡ None → (k : ℕ) → slice_get (y ∷ ys) k ≡ Some x → (find test ys ≡ None → (m : ℕ) → slice_get ys m ≡ Some x → test x ≡ false) → test x ≡ false
+    go : (b : Bool) → test y ≡ b → cond b (Some y) (find test ys) ≡ None → (k : ℕ) → slice_get (y ∷ ys) k ≡ Some x
+        → (find test ys ≡ None → (m : ℕ) → slice_get ys m ≡ Some x → test x ≡ false) → test x ≡ false
     go true is f k at rest = absurd cc
     go false is f zero at rest = ap test (sym (same_Some y x at)) ∙ is
     go false is f (suc k) at rest = rest f k at
 
-offered_next : (i : Image) (us : ℕ → List ℕ) (w : World) (pad : ℕ) (o : Opening) (kind : StripeKind) → IsFollowed i us w → life_of (log_of w 0) o.line ≡ Opened o → IsLineOf i us w o → IsAllowedNext i us w pad o kind
+offered_next : (i : Image) (us : ℕ → List ℕ) (w : World) (pad : ℕ) (o : Opening) (kind : StripeKind) → IsFollowed i us w
+    → life_of (log_of w 0) o.line ≡ Opened o → IsLineOf i us w o → IsAllowedNext i us w pad o kind
     → IsAmong (filter_map (next_in i.shape (entries_of i.shape (log_of w 0) pad)) (open_lines i (log_of w)))
-    (program_of i.shape (open_line i (log_of w) o) (length (stripes_of (log_of w 0) o)) kind (next_positions i.shape (entries_of i.shape (log_of w 0) pad) kind))
+    (program_of i.shape (open_line i (log_of w) o) (length (stripes_of (log_of w 0) o)) kind
+    (next_positions i.shape (entries_of i.shape (log_of w 0) pad) kind))
 offered_next i us w pad o kind is life line next =
     let s : Shape = i.shape in
     let log : List Logged = log_of w 0 in
@@ -186,31 +205,39 @@ offered_next i us w pad o kind is life line next =
     let l : OpenLine = open_line i (log_of w) o in
     let k : ℕ = length (stripes_of log o) in
     let inside : k < stripe_count i us o.line = next.inside in
-    let number : next_of l ≡ Some k = next_is l log (stripes_of log o) (stripe_count i us o.line - k) (plain_of i us w is) (formed i us w o line) (omega arith) in
+    let number : next_of l ≡ Some k =
+    next_is l log (stripes_of log o) (stripe_count i us o.line - k) (plain_of i us w is) (formed i us w o line) (omega arith) in
     let kind_is : kind_of l k ≡ kind =
-    kind_by l k (unfailed l log (stripes_of log o) (stripe_count i us o.line - k) (plain_of i us w is) (formed i us w o line)) ∙ part_is k (start_len s / s.ws_opt) l.data_count kind next.part in
+    kind_by l k (unfailed l log (stripes_of log o) (stripe_count i us o.line - k) (plain_of i us w is) (formed i us w o line))
+    ∙ part_is k (start_len s / s.ws_opt) l.data_count kind next.part in
     let given : next_in s e l ≡ Some (program_of s l k kind (next_positions s e kind)) =
     ap (allowed_at s e l) number
     ∙ ap (λ (t : StripeKind). if allows s e l t then Some (program_of s l k t (next_positions s e t)) else None) kind_is
     ∙ ap (λ b. if b then Some (program_of s l k kind (next_positions s e kind)) else None) next.allowed in
-    let left : has_left l ≡ true = or_left (list_any (is_to_place l) (numbers l)) (list_any is_unanswered l.stripes) (found_any (is_to_place l) (numbers l) k number) in
-    let at : IsAmong (open_lines i (log_of w)) l = in_filter has_left (map (open_line i (log_of w)) (standing log)) l (in_map (open_line i (log_of w)) (standing log) o (life_stands i us w is o.line o life)) left in
+    let left : has_left l ≡ true =
+    or_left (list_any (is_to_place l) (numbers l)) (list_any is_unanswered l.stripes) (found_any (is_to_place l) (numbers l) k number) in
+    let at : IsAmong (open_lines i (log_of w)) l =
+    in_filter has_left (map (open_line i (log_of w)) (standing log)) l
+    (in_map (open_line i (log_of w)) (standing log) o (life_stands i us w is o.line o life)) left in
     given_at (next_in s e) (open_lines i (log_of w)) l (program_of s l k kind (next_positions s e kind)) at.0 at.1 given
 
-ready_unit : (i : Image) (us : ℕ → List ℕ) (w : World) (again : List ℕ) (unit : ℕ) → IsFollowed i us w → AreAnswered (log_of w 0) → unit < units i.shape → is_ready (map (row_of i (log_of w) again) (range_with_len 0 (units i.shape))) 0 unit ≡ true
+ready_unit : (i : Image) (us : ℕ → List ℕ) (w : World) (again : List ℕ) (unit : ℕ) → IsFollowed i us w → AreAnswered (log_of w 0) → unit < units i.shape
+    → is_ready (map (row_of i (log_of w) again) (range_with_len 0 (units i.shape))) 0 unit ≡ true
 ready_unit i us w again unit is all inside =
     let idle : slice_get (map (row_of i (log_of w) again) (range_with_len 0 (units i.shape))) unit ≡ Some Idle =
     row_there i (log_of w) again unit inside ∙ ap (λ (r : UnitRow). Some r) (row_before i (log_of w) again unit (idle_unit i us w unit is all)) in
     ap₂ (λ b (r : Option UnitRow). not (nat_eq b 1) && not (option_map_or is_under_way r false)) (bit_at-zero unit) idle
 
-its_unit : (i : Image) (us : ℕ → List ℕ) (w : World) (o : Opening) → IsFollowed i us w → life_of (log_of w 0) o.line ≡ Opened o → IsLineOf i us w o → unit_of (open_line i (log_of w) o) (length (stripes_of (log_of w 0) o)) < units i.shape
+its_unit : (i : Image) (us : ℕ → List ℕ) (w : World) (o : Opening) → IsFollowed i us w → life_of (log_of w 0) o.line ≡ Opened o → IsLineOf i us w o
+    → unit_of (open_line i (log_of w) o) (length (stripes_of (log_of w 0) o)) < units i.shape
 its_unit i us w o is life line =
     let l : OpenLine = open_line i (log_of w) o in
     let k : ℕ = length (stripes_of (log_of w 0) o) in
     let inside : k % wide us o.line < wide us o.line = mod-lt k {m = wide us o.line} line.striped.wide in
     let same : unit_of l k ≡ slice_index_or (us o.line) (k % wide us o.line) 0 = ap₂ (λ (us : List ℕ) g. slice_index_or us (k % g) 0) line.units line.wide_is in
     subst (λ u. u < units i.shape) (sym same)
-    (unit_within i us w o.line (k % wide us o.line) (slice_index_or (us o.line) (k % wide us o.line) 0) is (ap is_opened life) (slice_get-get_or (us o.line) (k % wide us o.line) 0 inside))
+    (unit_within i us w o.line (k % wide us o.line) (slice_index_or (us o.line) (k % wide us o.line) 0) is (ap is_opened life)
+    (slice_get-get_or (us o.line) (k % wide us o.line) 0 inside))
 
 -- what is found nowhere isn't found behind the first
 none_behind : (test : Program → Bool) (stopped given : List Program) → find test (stopped ++ given) ≡ None → find test given ≡ None
@@ -220,7 +247,8 @@ none_behind test stopped given none = go (find test stopped) refl
     go None e = sym (find_second test stopped given e) ∙ none
     go (Some x) e = absurd (none-some x (sym none ∙ find_first test stopped given x e))
 
-pub none_due : (i : Image) (us : ℕ → List ℕ) (w : World) (pad : ℕ) (again : List ℕ) (target : ℕ) (stripe : Stripe) → IsFollowed i us w → next_stripe (placing_of i (log_of w) pad again) 0 ≡ None → ((p : Placed) → Contains (placements (log_of w 0)) p → is_answered (log_of w 0) p ≡ true)
+pub none_due : (i : Image) (us : ℕ → List ℕ) (w : World) (pad : ℕ) (again : List ℕ) (target : ℕ) (stripe : Stripe) → IsFollowed i us w
+    → next_stripe (placing_of i (log_of w) pad again) 0 ≡ None → ((p : Placed) → Contains (placements (log_of w 0)) p → is_answered (log_of w 0) p ≡ true)
     → target ≤ pad → ¬ IsDue i (log_of w) target stripe
 unfolding AreAnswered
 none_due i us w pad again target stripe is none all within due =
@@ -232,7 +260,8 @@ none_due i us w pad again target stripe is none all within due =
     let next = due_next i us w pad target o stripe is line (parts_of i us w o line) within due.kind in
     let rows : List UnitRow = map (row_of i (log_of w) again) (range_with_len 0 (units i.shape)) in
     let given : List Program = filter_map (next_in i.shape (entries_of i.shape log pad)) (open_lines i (log_of w)) in
-    let of : Program = program_of i.shape (open_line i (log_of w) o) (length (stripes_of log o)) next.0 (next_positions i.shape (entries_of i.shape log pad) next.0) in
+    let of : Program = program_of i.shape (open_line i (log_of w) o) (length (stripes_of log o)) next.0
+    (next_positions i.shape (entries_of i.shape log pad) next.0) in
     let among : IsAmong given of = offered_next i us w pad o next.0 is life line next.1 in
     let nothing : find (λ (x : Program). is_ready rows 0 x.unit) given ≡ None =
     none_behind (λ (x : Program). is_ready rows 0 x.unit) (filter_map stopped_in rows) given none in
@@ -242,17 +271,21 @@ none_due i us w pad again target stripe is none all within due =
 
 -- ---- where each unit is idle
 
-pub idle_answered : (i : Image) (us : ℕ → List ℕ) (w : World) (pad : ℕ) (again : List ℕ) (p : Placed) → IsFollowed i us w → ((unit : ℕ) → unit < units i.shape → slice_get (placing_of i (log_of w) pad again).units unit ≡ Some Idle)
+pub idle_answered : (i : Image) (us : ℕ → List ℕ) (w : World) (pad : ℕ) (again : List ℕ) (p : Placed) → IsFollowed i us w
+    → ((unit : ℕ) → unit < units i.shape → slice_get (placing_of i (log_of w) pad again).units unit ≡ Some Idle)
     → Contains (placements (log_of w 0)) p → is_answered (log_of w 0) p ≡ true
 idle_answered i us w pad again p is idle there =
     let log : List Logged = log_of w 0 in
     let unit : ℕ = p.stripe.unit in
     let among : IsAmong (placements log) p = (there.0, slice_get-get_or (placements log) there.0 p there.1 ∙ ap (λ (q : Placed). Some q) there.2) in
     let live : is_live (known_image i (log_of w)) p.stripe.line p.stripe.unit ≡ true =
-    all_at (λ (q : Placed). is_live (known_image i (log_of w)) q.stripe.line q.stripe.unit ≡ true) (placements log) among.0 p among.1 (all_online i w is.simple) in
+    all_at (λ (q : Placed). is_live (known_image i (log_of w)) q.stripe.line q.stripe.unit ≡ true) (placements log) among.0 p among.1
+    (all_online i w is.simple) in
     let few : length (known_image i (log_of w)).units ≡ length i.units = length_known i (log_of w) in
     let count = is.simple.mount.fit.units in
     let low : p.stripe.unit < length (known_image i (log_of w)).units = live_inside (known_image i (log_of w)) p.stripe.line p.stripe.unit live in
     let inside : p.stripe.unit < units i.shape = omega arith in
-    let row : row_of i (log_of w) again p.stripe.unit ≡ Idle = same_Some (row_of i (log_of w) again p.stripe.unit) Idle (sym (row_there i (log_of w) again p.stripe.unit inside) ∙ idle p.stripe.unit inside) in
-    all_answered log p.stripe.unit p (is_idle i us w again p.stripe.unit is (ap is_under_way row) (ap stopped_in row)) (in_filter (λ (q : Placed). q.stripe.unit == p.stripe.unit) (placements log) p among (same_number p.stripe.unit)) refl
+    let row : row_of i (log_of w) again p.stripe.unit ≡ Idle =
+    same_Some (row_of i (log_of w) again p.stripe.unit) Idle (sym (row_there i (log_of w) again p.stripe.unit inside) ∙ idle p.stripe.unit inside) in
+    all_answered log p.stripe.unit p (is_idle i us w again p.stripe.unit is (ap is_under_way row) (ap stopped_in row))
+    (in_filter (λ (q : Placed). q.stripe.unit == p.stripe.unit) (placements log) p among (same_number p.stripe.unit)) refl

@@ -68,7 +68,8 @@ none_unanswered i f logs unit is = ap (λ (xs : List Logged). unanswered_on xs u
 pub strays_are : (i : Image) (f : Found) (logs : Logs) → HasJustBegun i f logs → strays_of (logs 0) ≡ f.strays
 strays_are i f logs is = ap strays_of is.log
 
-pub given_up_are : (i : Image) (f : Found) (logs : Logs) (line : ℕ) → HasJustBegun i f logs → is_given_up (logs 0) line ≡ list_any (λ stray. stray == line) f.strays
+pub given_up_are : (i : Image) (f : Found) (logs : Logs) (line : ℕ) → HasJustBegun i f logs
+    → is_given_up (logs 0) line ≡ list_any (λ stray. stray == line) f.strays
 given_up_are i f logs line is = ap (λ (xs : List Logged). is_given_up xs line) is.log
 
 -- ---- lines
@@ -78,11 +79,13 @@ no_lines i f logs is = ap (λ (os : List Opening). filter has_left (map (open_li
 
 pub no_addresses : (i : Image) (f : Found) (logs : Logs) → HasJustBegun i f logs → open_addresses i logs ≡ 0
 no_addresses i f logs is =
-    sum_none (λ line. unplaced_in i.shape (logs 0) (life_of (logs 0) line)) (λ line. ap (λ (xs : List Logged). unplaced_in i.shape xs (life_of xs line)) is.log) 0 i.shape.chunks
+    sum_none (λ line. unplaced_in i.shape (logs 0) (life_of (logs 0) line))
+    (λ line. ap (λ (xs : List Logged). unplaced_in i.shape xs (life_of xs line)) is.log) 0 i.shape.chunks
 
 -- ---- the window
 
-pub window_is : (i : Image) (f : Found) (logs : Logs) (from : ℕ) → HasJustBegun i f logs → window_from i.shape (logs 0) from ≡ record { freed = from; users = 0; entries = [] }
+pub window_is : (i : Image) (f : Found) (logs : Logs) (from : ℕ) → HasJustBegun i f logs
+    → window_from i.shape (logs 0) from ≡ record { freed = from; users = 0; entries = [] }
 window_is i f logs from is =
     same_window from (window_from i.shape (logs 0) from).users 0 (window_from i.shape (logs 0) from).entries []
     (ap (λ (xs : List Logged). (window_from i.shape xs from).users) is.log)
@@ -91,13 +94,17 @@ window_is i f logs from is =
 -- ---- the placer
 
 idle : (i : Image) (f : Found) (logs : Logs) (again : List ℕ) (unit : ℕ) → HasJustBegun i f logs → row_of i logs again unit ≡ Idle
-idle i f logs again unit is = ap (λ (o : Option Placed). option_map_or (λ (p : Placed). row_in i logs (waits_again (logs 0) again unit) p.life p) o Idle) (none_unanswered i f logs unit is)
+idle i f logs again unit is = ap (λ (o : Option Placed). option_map_or (λ (p : Placed). row_in i logs (waits_again (logs 0) again unit) p.life p) o Idle)
+    (none_unanswered i f logs unit is)
 
 idle_rows : (g : ℕ → UnitRow) → ((n : ℕ) → g n ≡ Idle) → (a n : ℕ) → map g (range_with_len a n) ≡ replicate n Idle
 idle_rows g each a zero = refl
 idle_rows g each a (suc n) = ap₂ (λ x xs. x ∷ xs) (each a) (idle_rows g each (a + 1) n)
 
-pub placing_is : (i : Image) (f : Found) (logs : Logs) (pad : ℕ) (again : List ℕ) → HasJustBegun i f logs → placing_of i logs pad again ≡ record (nothing_placed i.shape) { entries = record { lost = []; fresh = []; pad = pad } }
+pub placing_is : (i : Image) (f : Found) (logs : Logs) (pad : ℕ) (again : List ℕ) → HasJustBegun i f logs
+    → placing_of i logs pad again ≡ record (nothing_placed i.shape) { entries = record { lost = []; fresh = []; pad = pad } }
 placing_is i f logs pad again is =
-    same_placing i.shape (entries_of i.shape (logs 0) pad) (record { lost = []; fresh = []; pad = pad }) (map (row_of i logs again) (range_with_len 0 (units i.shape))) (replicate (units i.shape) Idle) (open_lines i logs) []
-    (ap (λ (xs : List Logged). entries_of i.shape xs pad) is.log) (idle_rows (row_of i logs again) (λ unit. idle i f logs again unit is) 0 (units i.shape)) (no_lines i f logs is)
+    same_placing i.shape (entries_of i.shape (logs 0) pad) (record { lost = []; fresh = []; pad = pad })
+    (map (row_of i logs again) (range_with_len 0 (units i.shape))) (replicate (units i.shape) Idle) (open_lines i logs) []
+    (ap (λ (xs : List Logged). entries_of i.shape xs pad) is.log) (idle_rows (row_of i logs again) (λ unit. idle i f logs again unit is) 0 (units i.shape))
+    (no_lines i f logs is)

@@ -42,18 +42,21 @@ pub record IsOfferedBy (i : Image) (us : ℕ → List ℕ) (w : World) (pad : �
   pub life : life_of (log_of w 0) o.line ≡ Opened o
   pub next : next_in i.shape (entries_of i.shape (log_of w 0) pad) (open_line i (log_of w) o) ≡ Some of
 
-pub standing_life : (i : Image) (us : ℕ → List ℕ) (w : World) (o : Opening) → IsFollowed i us w → IsAmong (standing (log_of w 0)) o → life_of (log_of w 0) o.line ≡ Opened o
+pub standing_life : (i : Image) (us : ℕ → List ℕ) (w : World) (o : Opening) → IsFollowed i us w → IsAmong (standing (log_of w 0)) o
+    → life_of (log_of w 0) o.line ≡ Opened o
 standing_life i us w o is among =
     let log : List Logged = log_of w 0 in
     let at : IsAmong (openings log) o = from_filter (λ (p : Opening). is_life p.number (life_of log p.line)) (openings log) o among in
     all_at (λ (p : Opening). is_life p.number (life_of log p.line) ≡ true → life_of log p.line ≡ Opened p) (openings log) at.0 o at.1 (its_life i us w is)
     (filtered_is (λ (p : Opening). is_life p.number (life_of log p.line)) (openings log) among.0 o among.1)
 
-offered_by : (i : Image) (us : ℕ → List ℕ) (w : World) (pad : ℕ) (of : Program) → IsFollowed i us w → IsAmong (filter_map (next_in i.shape (entries_of i.shape (log_of w 0) pad)) (open_lines i (log_of w))) of → (o : Opening) × IsOfferedBy i us w pad of o
+offered_by : (i : Image) (us : ℕ → List ℕ) (w : World) (pad : ℕ) (of : Program) → IsFollowed i us w
+    → IsAmong (filter_map (next_in i.shape (entries_of i.shape (log_of w 0) pad)) (open_lines i (log_of w))) of → (o : Opening) × IsOfferedBy i us w pad of o
 offered_by i us w pad of is among =
     let e : Entries = entries_of i.shape (log_of w 0) pad in
     let from = from_given (next_in i.shape e) (open_lines i (log_of w)) of among.0 among.1 in
-    let line = from_map (open_line i (log_of w)) (standing (log_of w 0)) from.0 (from_filter has_left (map (open_line i (log_of w)) (standing (log_of w 0))) from.0 from.1) in
+    let line = from_map (open_line i (log_of w)) (standing (log_of w 0)) from.0
+    (from_filter has_left (map (open_line i (log_of w)) (standing (log_of w 0))) from.0 from.1) in
     (line.0, record { life = standing_life i us w line.0 is line.1; next = ap (next_in i.shape e) line.2 ∙ from.2 })
 
 -- ---- units
@@ -64,14 +67,19 @@ there test (x ∷ xs) zero e = omega arith
 there test (x ∷ xs) (suc k) e = let rest : k < length xs = there test xs k e in omega arith
 
 pub live_inside : (j : Image) (line unit : ℕ) → is_live j line unit ≡ true → unit < length j.units
-live_inside j line unit live = there (λ (chunks : List Chunk). option_map_or (λ (c : Chunk). is_online_in c.state) (slice_get chunks line) false) j.units unit live
+live_inside j line unit live =
+    there (λ (chunks : List Chunk). option_map_or (λ (c : Chunk). is_online_in c.state) (slice_get chunks line) false) j.units unit live
 
-pub unit_within : (i : Image) (us : ℕ → List ℕ) (w : World) (line k unit : ℕ) → IsFollowed i us w → is_opened (life_of (log_of w 0) line) ≡ true → slice_get (us line) k ≡ Some unit → unit < units i.shape
+pub unit_within : (i : Image) (us : ℕ → List ℕ) (w : World) (line k unit : ℕ) → IsFollowed i us w → is_opened (life_of (log_of w 0) line) ≡ true
+    → slice_get (us line) k ≡ Some unit → unit < units i.shape
 unit_within i us w line k unit is opened e =
     let j : Image = known_image i (log_of w) in
     let few : length (known_image i (log_of w)).units ≤ 64 = few_units i w (log_of w) is.simple.mount in
-    let live : is_live (known_image i (log_of w)) line unit ≡ true = unit_live (known_image i (log_of w)) line k unit few (ap (λ (xs : List ℕ). slice_get xs k) (is.keeps line opened) ∙ e) in
-    let inside : unit < length (known_image i (log_of w)).units = there (λ (chunks : List Chunk). option_map_or (λ (c : Chunk). is_online_in c.state) (slice_get chunks line) false) (known_image i (log_of w)).units unit live in
+    let live : is_live (known_image i (log_of w)) line unit ≡ true =
+    unit_live (known_image i (log_of w)) line k unit few (ap (λ (xs : List ℕ). slice_get xs k) (is.keeps line opened) ∙ e) in
+    let inside : unit < length (known_image i (log_of w)).units =
+    there (λ (chunks : List Chunk). option_map_or (λ (c : Chunk). is_online_in c.state) (slice_get chunks line) false)
+    (known_image i (log_of w)).units unit live in
     let same : length (known_image i (log_of w)).units ≡ length i.units = length_known i (log_of w) in
     let count = is.simple.mount.fit.units in
     omega arith
@@ -97,28 +105,36 @@ pub record IsOffered (i : Image) (us : ℕ → List ℕ) (w : World) (pad : ℕ)
   pub idle : length (answers (log_of w 0) of.unit) ≡ length (placed_on (log_of w 0) of.unit)
 
 -- the number of a line's next stripe, and that the line has so many
-next_number : (i : Image) (us : ℕ → List ℕ) (w : World) (o : Opening) (j : ℕ) → IsFollowed i us w → IsLineOf i us w o → next_of (open_line i (log_of w) o) ≡ Some j
+next_number : (i : Image) (us : ℕ → List ℕ) (w : World) (o : Opening) (j : ℕ) → IsFollowed i us w → IsLineOf i us w o
+    → next_of (open_line i (log_of w) o) ≡ Some j
     → (length (stripes_of (log_of w 0) o) < stripe_count i us o.line) × (length (stripes_of (log_of w 0) o) ≡ j)
 next_number i us w o j is line e = go (nat_lt (length (stripes_of (log_of w 0) o)) (stripe_count i us o.line)) refl
   where
-    go : (b : Bool) → nat_lt (length (stripes_of (log_of w 0) o)) (stripe_count i us o.line) ≡ b → (length (stripes_of (log_of w 0) o) < stripe_count i us o.line) × (length (stripes_of (log_of w 0) o) ≡ j)
+    go : (b : Bool) → nat_lt (length (stripes_of (log_of w 0) o)) (stripe_count i us o.line) ≡ b
+        → (length (stripes_of (log_of w 0) o) < stripe_count i us o.line) × (length (stripes_of (log_of w 0) o) ≡ j)
     go true f =
-        let inside : length (stripes_of (log_of w 0) o) < stripe_count i us o.line = is_below (length (stripes_of (log_of w 0) o)) (stripe_count i us o.line) f in (
+        let inside : length (stripes_of (log_of w 0) o) < stripe_count i us o.line =
+        is_below (length (stripes_of (log_of w 0) o)) (stripe_count i us o.line) f in (
           inside,
           same_Some (length (stripes_of (log_of w 0) o)) j
-              (sym (next_is (open_line i (log_of w) o) (log_of w 0) (stripes_of (log_of w 0) o) (stripe_count i us o.line - length (stripes_of (log_of w 0) o)) (plain_of i us w is) (formed i us w o line) (omega arith)) ∙ e),
+              (sym (next_is (open_line i (log_of w) o) (log_of w 0) (stripes_of (log_of w 0) o) (stripe_count i us o.line - length (stripes_of (log_of w 0) o))
+              (plain_of i us w is) (formed i us w o line) (omega arith)) ∙ e),
         )
     go false f =
-        let outside : stripe_count i us o.line ≤ length (stripes_of (log_of w 0) o) = le_of_lt_false (length (stripes_of (log_of w 0) o)) (stripe_count i us o.line) f in
-        absurd (none-some j (sym (none_next (open_line i (log_of w) o) (log_of w 0) (stripes_of (log_of w 0) o) (stripe_count i us o.line - length (stripes_of (log_of w 0) o)) (plain_of i us w is) (formed i us w o line) (omega arith)) ∙ e))
+        let outside : stripe_count i us o.line ≤ length (stripes_of (log_of w 0) o) =
+        le_of_lt_false (length (stripes_of (log_of w 0) o)) (stripe_count i us o.line) f in
+        absurd (none-some j (sym (none_next (open_line i (log_of w) o) (log_of w 0) (stripes_of (log_of w 0) o)
+        (stripe_count i us o.line - length (stripes_of (log_of w 0) o)) (plain_of i us w is) (formed i us w o line) (omega arith)) ∙ e))
 
 not_true : (a b : Bool) → (not a && not b) ≡ true → b ≡ false
 not_true true b e = absurd cc
 not_true false true e = absurd cc
 not_true false false e = refl
 
-offered : (i : Image) (us : ℕ → List ℕ) (w : World) (pad : ℕ) (again : List ℕ) (busy : ℕ) (of : Program) (o : Opening) → IsFollowed i us w → IsOfferedBy i us w pad of o
-    → is_ready (map (row_of i (log_of w) again) (range_with_len 0 (units i.shape))) busy of.unit ≡ true → stopped_in (row_of i (log_of w) again of.unit) ≡ None → IsOffered i us w pad of o
+offered : (i : Image) (us : ℕ → List ℕ) (w : World) (pad : ℕ) (again : List ℕ) (busy : ℕ) (of : Program) (o : Opening) → IsFollowed i us w
+    → IsOfferedBy i us w pad of o
+    → is_ready (map (row_of i (log_of w) again) (range_with_len 0 (units i.shape))) busy of.unit ≡ true → stopped_in (row_of i (log_of w) again of.unit) ≡ None
+    → IsOffered i us w pad of o
 offered i us w pad again busy of o is by ready none =
     let s : Shape = i.shape in
     let log : List Logged = log_of w 0 in
@@ -156,12 +172,14 @@ offered i us w pad again busy of o is by ready none =
       unit = within;
       idle = is_idle i us w again of.unit is
           (ap (λ (r : Option UnitRow). option_map_or is_under_way r false) (sym (row_there i (log_of w) again of.unit within))
-          ∙ not_true (is_in busy of.unit) (option_map_or is_under_way (slice_get (map (row_of i (log_of w) again) (range_with_len 0 (units i.shape))) of.unit) false) ready)
+          ∙ not_true (is_in busy of.unit)
+          (option_map_or is_under_way (slice_get (map (row_of i (log_of w) again) (range_with_len 0 (units i.shape))) of.unit) false) ready)
           none;
     }
 
 -- what is none of the stopped is of the others
-new_only : (test : Program → Bool) (stopped given : List Program) (of : Program) → ((k : ℕ) → slice_get stopped k ≡ Some of → ⊥) → find test (stopped ++ given) ≡ Some of → find test given ≡ Some of
+new_only : (test : Program → Bool) (stopped given : List Program) (of : Program) → ((k : ℕ) → slice_get stopped k ≡ Some of → ⊥)
+    → find test (stopped ++ given) ≡ Some of → find test given ≡ Some of
 new_only test stopped given of never next = go (find test stopped) refl
   where
     go : (o : Option Program) → find test stopped ≡ o → find test given ≡ Some of
@@ -171,13 +189,15 @@ new_only test stopped given of never next = go (find test stopped) refl
         let at = found_passes test stopped of (e ∙ ap (λ y. Some y) same) in
         absurd (never at.1.0 at.1.1)
 
-pub what_is_offered : (i : Image) (us : ℕ → List ℕ) (w : World) (pad : ℕ) (again : List ℕ) (busy : ℕ) (of : Program) → IsFollowed i us w → next_stripe (placing_of i (log_of w) pad again) busy ≡ Some of
+pub what_is_offered : (i : Image) (us : ℕ → List ℕ) (w : World) (pad : ℕ) (again : List ℕ) (busy : ℕ) (of : Program) → IsFollowed i us w
+    → next_stripe (placing_of i (log_of w) pad again) busy ≡ Some of
     → stopped_in (row_of i (log_of w) again of.unit) ≡ None → (o : Opening) × IsOffered i us w pad of o
 what_is_offered i us w pad again busy of is next none =
     let rows : List UnitRow = map (row_of i (log_of w) again) (range_with_len 0 (units i.shape)) in
     let given : List Program = filter_map (next_in i.shape (entries_of i.shape (log_of w 0) pad)) (open_lines i (log_of w)) in
     let only : find (λ (x : Program). is_ready rows busy x.unit) given ≡ Some of =
-    new_only (λ (x : Program). is_ready rows busy x.unit) (filter_map stopped_in rows) given of (λ k there. not_again i (log_of w) again 0 (units i.shape) k of none there) next in
+    new_only (λ (x : Program). is_ready rows busy x.unit) (filter_map stopped_in rows) given of
+    (λ k there. not_again i (log_of w) again 0 (units i.shape) k of none there) next in
     let found = found_passes (λ (x : Program). is_ready rows busy x.unit) given of only in
     let by = offered_by i us w pad of is found.1 in
     (by.0, offered i us w pad again busy of by.0 is by.1 found.0 none)

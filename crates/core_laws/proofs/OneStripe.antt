@@ -17,11 +17,13 @@ abbrev HasOne : List Logged → Type 0
 HasOne log = (unit : ℕ) → length (placed_on log unit) ≤ length (answers log unit) + 1
 
 -- an event that adds no stripe of the unit
-none_added : (log : List Logged) (l : Logged) (unit : ℕ) → length (filter (λ (p : Placed). p.stripe.unit == unit) (option_to_list (placed_by log (length log) l.event))) ≡ 0
+none_added : (log : List Logged) (l : Logged) (unit : ℕ)
+    → length (filter (λ (p : Placed). p.stripe.unit == unit) (option_to_list (placed_by log (length log) l.event))) ≡ 0
     → length (placed_on log unit) ≤ length (answers log unit) + 1 → length (placed_on (log ++ l ∷ []) unit) ≤ length (answers (log ++ l ∷ []) unit) + 1
 none_added log l unit none has = omega (arith, answer_count log l unit, placed_count log l unit, none, has)
 
-one_added : (log : List Logged) (l : Logged) (unit : ℕ) → length (filter (λ (p : Placed). p.stripe.unit == unit) (option_to_list (placed_by log (length log) l.event))) ≤ 1
+one_added : (log : List Logged) (l : Logged) (unit : ℕ)
+    → length (filter (λ (p : Placed). p.stripe.unit == unit) (option_to_list (placed_by log (length log) l.event))) ≤ 1
     → length (placed_on log unit) ≤ length (answers log unit) → length (placed_on (log ++ l ∷ []) unit) ≤ length (answers (log ++ l ∷ []) unit) + 1
 one_added log l unit few has = omega (arith, answer_count log l unit, placed_count log l unit, few, has)
 
@@ -33,12 +35,18 @@ one_kept : (i : Image) (log : List Logged) (known : Logs) (e : EngineEvent) (kno
     → HasOne log → HasOne (log ++ record { event = Decides e; knows = knows } ∷ [])
 one_kept i log known (Place stripe) knows own may has unit = go (nat_eq stripe.unit unit) refl
   where
-    go : (b : Bool) → nat_eq stripe.unit unit ≡ b → length (placed_on (log ++ record { event = Decides (Place stripe); knows = knows } ∷ []) unit) ≤ length (answers (log ++ record { event = Decides (Place stripe); knows = knows } ∷ []) unit) + 1
+    go : (b : Bool) → nat_eq stripe.unit unit ≡ b
+        → length (placed_on (log ++ record { event = Decides (Place stripe); knows = knows } ∷ []) unit) ≤ length
+        (answers (log ++ record { event = Decides (Place stripe); knows = knows } ∷ []) unit) + 1
     go true e =
         let idle : length (placed_on (known 0) stripe.unit) ≤ length (answers (known 0) stripe.unit) = idle_fits (known 0) stripe.unit may.2.idle in
-        one_added log (record { event = Decides (Place stripe); knows = knows }) unit (at_most_one (stripe.unit == unit) (record { number = length log; stripe = stripe; life = life_of (take (length log) log) stripe.line }))
-        (subst (λ u. length (placed_on log u) ≤ length (answers log u)) (eqb-true stripe.unit unit e) (subst (λ (x : List Logged). length (placed_on x stripe.unit) ≤ length (answers x stripe.unit)) own idle))
-    go false e = none_added log (record { event = Decides (Place stripe); knows = knows }) unit (ap (λ b. length {A = Placed} (cond b (record { number = length log; stripe = stripe; life = life_of (take (length log) log) stripe.line } ∷ []) [])) e) (has unit)
+        one_added log (record { event = Decides (Place stripe); knows = knows }) unit
+        (at_most_one (stripe.unit == unit) (record { number = length log; stripe = stripe; life = life_of (take (length log) log) stripe.line }))
+        (subst (λ u. length (placed_on log u) ≤ length (answers log u)) (eqb-true stripe.unit unit e)
+        (subst (λ (x : List Logged). length (placed_on x stripe.unit) ≤ length (answers x stripe.unit)) own idle))
+    go false e = none_added log (record { event = Decides (Place stripe); knows = knows }) unit
+        (ap (λ b. length {A = Placed} (cond b (record { number = length log; stripe = stripe; life = life_of (take (length log) log) stripe.line } ∷ []) [])) e)
+        (has unit)
 one_kept i log known e knows own may has unit = none_added log (record { event = Decides e; knows = knows }) unit refl (has unit)
 
 pub one_stripe : (i : Image) (w : World) (unit : ℕ) → IsLegal i w → length (placed_on (log_of w 0) unit) ≤ length (answers (log_of w 0) unit) + 1

@@ -44,12 +44,14 @@ use Rattle.pblk_world.proofs.LinesLemmas.{free_unopened}
 -- ---- nothing is live in a Free line
 
 -- a line that was found Free has no start record
-free_start : (i : Image) (logs : Logs) (line : ℕ) → is_free_line i logs line ≡ true → life_of (logs 0) line ≡ AsFound → is_some (start_of (found_image i logs) line) ≡ false
+free_start : (i : Image) (logs : Logs) (line : ℕ) → is_free_line i logs line ≡ true → life_of (logs 0) line ≡ AsFound
+    → is_some (start_of (found_image i logs) line) ≡ false
 free_start i logs line free life = go (is_some (start_of (found_image i logs) line)) refl
   where
     go : (b : Bool) → is_some (start_of (found_image i logs) line) ≡ b → b ≡ false
     go false e = refl
-    go true e = absurd (cc (sym free ∙ ap (λ (l : LineLife). not (has_number i logs l line) && are_empty (known_image i logs) line && nat_lt 0 (line_data (known_image i logs) line)) life
+    go true e = absurd (cc (sym free
+        ∙ ap (λ (l : LineLife). not (has_number i logs l line) && are_empty (known_image i logs) line && nat_lt 0 (line_data (known_image i logs) line)) life
         ∙ ap (λ b. not b && are_empty (known_image i logs) line && nat_lt 0 (line_data (known_image i logs) line)) e))
 
 no_force : (log : List Logged) (life : LineLife) (line : ℕ) → is_opened (life_of log line) ≡ false → is_in_force log life line ≡ false
@@ -87,7 +89,8 @@ stripe_elsewhere log test line closed = go (find (in_force log test) (placements
 winner_elsewhere : (i : Image) (logs : Logs) (line lba : ℕ) → is_free_line i logs line ≡ true → is_of line (line_of_winner i logs lba) ≡ false
 winner_elsewhere i logs line lba free = go (winner (counted (found_image i logs)) lba) refl
   where
-    go : (o : Option Record) → winner (counted (found_image i logs)) lba ≡ o → is_of line (option_and_then (λ (r : Record). if is_as_found (life_of (logs 0) r.line) then Some r.line else None) o) ≡ false
+    go : (o : Option Record) → winner (counted (found_image i logs)) lba ≡ o
+        → is_of line (option_and_then (λ (r : Record). if is_as_found (life_of (logs 0) r.line) then Some r.line else None) o) ≡ false
     go None e = refl
     go (Some r) e = there (life_of (logs 0) r.line) refl
       where
@@ -100,11 +103,13 @@ winner_elsewhere i logs line lba free = go (winner (counted (found_image i logs)
             its false g = refl
             its true g =
                 let same : r.line ≡ line = eqb-true r.line line g in
-                let some : is_some (start_of (found_image i logs) line) ≡ true = ap (λ n. is_some (start_of (found_image i logs) n)) (sym same) ∙ winner_starts (found_image i logs) lba r e in
+                let some : is_some (start_of (found_image i logs) line) ≡ true = ap (λ n. is_some (start_of (found_image i logs) n)) (sym same)
+                ∙ winner_starts (found_image i logs) lba r e in
                 let none : is_some (start_of (found_image i logs) line) ≡ false = free_start i logs line free (ap (life_of (logs 0)) (sym same) ∙ f) in
                 absurd (cc (sym some ∙ none))
 
-none_landed_in_free : (i : Image) (logs : Logs) (line lba : ℕ) (t : Option Taken) → is_free_line i logs line ≡ true → is_of line (landed_line_of i logs lba t) ≡ false
+none_landed_in_free : (i : Image) (logs : Logs) (line lba : ℕ) (t : Option Taken) → is_free_line i logs line ≡ true
+    → is_of line (landed_line_of i logs lba t) ≡ false
 none_landed_in_free i logs line lba None free = winner_elsewhere i logs line lba free
 none_landed_in_free i logs line lba (Some t) free =
     stripe_elsewhere (logs 0) (λ p. holds_position i.shape t.entry.position p && has_landed (logs 0) p) line (free_unopened i logs line free)
@@ -114,16 +119,20 @@ none_landed_in_free i logs line lba (Some t) free =
 abbrev pub new_opening : List Logged → ℕ → StartRecord → List ℕ → Opening
 new_opening log line start knows = record { number = length log; line = line; start = start; knows = knows }
 
-pub life_now : (log : List Logged) (line : ℕ) (start : StartRecord) (knows : List ℕ) → life_of (with_event log (Open line start) knows) line ≡ Opened (new_opening log line start knows)
+pub life_now : (log : List Logged) (line : ℕ) (start : StartRecord) (knows : List ℕ)
+    → life_of (with_event log (Open line start) knows) line ≡ Opened (new_opening log line start knows)
 life_now log line start knows =
-    life_more log (record { event = Decides (Open line start); knows = knows }) line ∙ ap (λ b. if b then Opened (new_opening log line start knows) else life_of log line) (same_number line)
+    life_more log (record { event = Decides (Open line start); knows = knows }) line
+    ∙ ap (λ b. if b then Opened (new_opening log line start knows) else life_of log line) (same_number line)
 
-pub life_elsewhere : (log : List Logged) (line : ℕ) (start : StartRecord) (knows : List ℕ) (other : ℕ) → other ≢ line → life_of (with_event log (Open line start) knows) other ≡ life_of log other
+pub life_elsewhere : (log : List Logged) (line : ℕ) (start : StartRecord) (knows : List ℕ) (other : ℕ) → other ≢ line
+    → life_of (with_event log (Open line start) knows) other ≡ life_of log other
 life_elsewhere log line start knows other apart =
     life_more log (record { event = Decides (Open line start); knows = knows }) other
     ∙ ap (λ b. if b then Opened (new_opening log other start knows) else life_of log other) (other_number line other (λ e. apart (sym e)))
 
-force_same : (log : List Logged) (line : ℕ) (start : StartRecord) (knows : List ℕ) (life : LineLife) (other : ℕ) → is_opened (life_of log line) ≡ false → is_life (length log) life ≡ false
+force_same : (log : List Logged) (line : ℕ) (start : StartRecord) (knows : List ℕ) (life : LineLife) (other : ℕ) → is_opened (life_of log line) ≡ false
+    → is_life (length log) life ≡ false
     → is_in_force (with_event log (Open line start) knows) life other ≡ is_in_force log life other
 force_same log line start knows AsFound other closed before = refl
 force_same log line start knows (Freed past k) other closed before = refl
@@ -139,13 +148,16 @@ force_same log line start knows (Opened o) other closed before = go (nat_eq othe
         ∙ sym (no_force log (Opened o) other (ap (λ n. is_opened (life_of log n)) same ∙ closed))
 
 -- of a stripe that passes a test as it did
-stripe_same : (log : List Logged) (line : ℕ) (start : StartRecord) (knows : List ℕ) (old now : Placed → Bool) → is_opened (life_of log line) ≡ false → ((p : Placed) → now p ≡ old p)
+stripe_same : (log : List Logged) (line : ℕ) (start : StartRecord) (knows : List ℕ) (old now : Placed → Bool) → is_opened (life_of log line) ≡ false
+    → ((p : Placed) → now p ≡ old p)
     → option_map (λ (p : Placed). p.stripe.line)
-    (find (λ (p : Placed). now p && is_in_force (with_event log (Open line start) knows) p.life p.stripe.line) (placements (with_event log (Open line start) knows)))
+    (find (λ (p : Placed). now p && is_in_force (with_event log (Open line start) knows) p.life p.stripe.line)
+    (placements (with_event log (Open line start) knows)))
     ≡ option_map (λ (p : Placed). p.stripe.line) (find (λ (p : Placed). old p && is_in_force log p.life p.stripe.line) (placements log))
 stripe_same log line start knows old now closed same =
     let new : List Logged = with_event log (Open line start) knows in
-    ap (λ ps. option_map (λ (p : Placed). p.stripe.line) (find (λ (p : Placed). now p && is_in_force new p.life p.stripe.line) ps)) (placements_kept log (Open line start) knows refl)
+    ap (λ ps. option_map (λ (p : Placed). p.stripe.line) (find (λ (p : Placed). now p && is_in_force new p.life p.stripe.line) ps))
+    (placements_kept log (Open line start) knows refl)
     ∙ ap (option_map (λ (p : Placed). p.stripe.line))
     (find_agree (λ (p : Placed). is_life (length log) p.life ≡ false) (λ (p : Placed). now p && is_in_force new p.life p.stripe.line)
     (λ (p : Placed). old p && is_in_force log p.life p.stripe.line)
@@ -156,7 +168,8 @@ winner_same : (i : Image) (logs : Logs) (line : ℕ) (start : StartRecord) (know
     → line_of_winner i (after logs (Open line start) knows) lba ≡ line_of_winner i logs lba
 winner_same i logs line start knows lba free =
     let new : Logs = after logs (Open line start) knows in
-    ap (λ (f : Image). option_and_then (λ (r : Record). if is_as_found (life_of (new 0) r.line) then Some r.line else None) (winner (counted f) lba)) (found_kept i logs (Open line start) knows refl)
+    ap (λ (f : Image). option_and_then (λ (r : Record). if is_as_found (life_of (new 0) r.line) then Some r.line else None) (winner (counted f) lba))
+    (found_kept i logs (Open line start) knows refl)
     ∙ go (winner (counted (found_image i logs)) lba) refl
   where
     go : (o : Option Record) → winner (counted (found_image i logs)) lba ≡ o
@@ -166,21 +179,26 @@ winner_same i logs line start knows lba free =
     go (Some r) e = there (nat_eq r.line line) refl
       where
         there : (b : Bool) → nat_eq r.line line ≡ b
-            → (if is_as_found (life_of (after logs (Open line start) knows 0) r.line) then Some r.line else None) ≡ (if is_as_found (life_of (logs 0) r.line) then Some r.line else None)
-        there false f = ap (λ (l : LineLife). if is_as_found l then Some r.line else None) (life_elsewhere (logs 0) line start knows r.line (eqb-false r.line line f))
+            → (if is_as_found (life_of (after logs (Open line start) knows 0) r.line) then Some r.line else None) ≡
+            (if is_as_found (life_of (logs 0) r.line) then Some r.line else None)
+        there false f = ap (λ (l : LineLife). if is_as_found l then Some r.line else None)
+            (life_elsewhere (logs 0) line start knows r.line (eqb-false r.line line f))
         there true f =
             let same : r.line ≡ line = eqb-true r.line line f in
-            let some : is_some (start_of (found_image i logs) line) ≡ true = ap (λ n. is_some (start_of (found_image i logs) n)) (sym same) ∙ winner_starts (found_image i logs) lba r e in
+            let some : is_some (start_of (found_image i logs) line) ≡ true = ap (λ n. is_some (start_of (found_image i logs) n)) (sym same)
+            ∙ winner_starts (found_image i logs) lba r e in
             ap (λ n. if is_as_found (life_of (after logs (Open line start) knows 0) n) then Some r.line else None) same
             ∙ ap (λ (l : LineLife). if is_as_found l then Some r.line else None) (life_now (logs 0) line start knows)
             ∙ sym (was (life_of (logs 0) r.line) refl same some)
           where
-            was : (l : LineLife) → life_of (logs 0) r.line ≡ l → r.line ≡ line → is_some (start_of (found_image i logs) line) ≡ true → (if is_as_found l then Some r.line else None) ≡ None
+            was : (l : LineLife) → life_of (logs 0) r.line ≡ l → r.line ≡ line → is_some (start_of (found_image i logs) line) ≡ true
+                → (if is_as_found l then Some r.line else None) ≡ None
             was AsFound g same some = absurd (cc (sym some ∙ free_start i logs line free (ap (life_of (logs 0)) (sym same) ∙ g)))
             was (Opened o) g same some = refl
             was (Freed past k) g same some = refl
 
-lines_same : (i : Image) (logs : Logs) (line : ℕ) (start : StartRecord) (knows : List ℕ) → is_free_line i logs line ≡ true → KeepsLines i logs (after logs (Open line start) knows)
+lines_same : (i : Image) (logs : Logs) (line : ℕ) (start : StartRecord) (knows : List ℕ) → is_free_line i logs line ≡ true
+    → KeepsLines i logs (after logs (Open line start) knows)
 lines_same i logs line start knows free = record {
   takes = takes_more (logs 0) (record { event = Decides (Open line start); knows = knows }) ∙ append-nil (takes (logs 0));
   line_of = λ lba t. each lba t;
@@ -200,7 +218,8 @@ lines_same i logs line start knows free = record {
     each_landed lba None = winner_same i logs line start knows lba free
     each_landed lba (Some t) = stripe_same (logs 0) line start knows (λ p. holds_position i.shape t.entry.position p && has_landed (logs 0) p)
         (λ p. holds_position i.shape t.entry.position p && has_landed new p) (free_unopened i logs line free)
-        (λ p. ap (λ b. holds_position i.shape t.entry.position p && b) (landed_same (logs 0) new (alike_kept (logs 0) (Open line start) knows refl (λ unit. refl)) p))
+        (λ p. ap (λ b. holds_position i.shape t.entry.position p && b)
+        (landed_same (logs 0) new (alike_kept (logs 0) (Open line start) knows refl (λ unit. refl)) p))
 
 -- ---- the row of the line
 
@@ -248,22 +267,27 @@ not_above n some = go (nat_le n 0) refl
     go false e = refl
 
 state_by : ℕ → List Logged → List Placed → LineState
-state_by count log ps = if list_any (was_lost log) ps then states.Failed else if nat_le count (length ps) && list_all (has_landed log) (take count ps) then states.Full else states.Open
+state_by count log ps = if list_any (was_lost log) ps then states.Failed else if nat_le count (length ps) && list_all (has_landed log)
+    (take count ps) then states.Full else states.Open
 
-state_opened : (i : Image) (new : Logs) (line : ℕ) (o : Opening) → stripes_of (new 0) o ≡ [] → 0 < line_end i.shape o / i.shape.ws_opt → state_in i new line (Opened o) ≡ states.Open
+state_opened : (i : Image) (new : Logs) (line : ℕ) (o : Opening) → stripes_of (new 0) o ≡ [] → 0 < line_end i.shape o / i.shape.ws_opt
+    → state_in i new line (Opened o) ≡ states.Open
 unfolding state_by
 state_opened i new line o none some =
     ap (state_by (line_end i.shape o / i.shape.ws_opt) (new 0)) none
-    ∙ ap (λ b. if b && list_all (has_landed (new 0)) (take (line_end i.shape o / i.shape.ws_opt) []) then states.Full else states.Open) (not_above (line_end i.shape o / i.shape.ws_opt) some)
+    ∙ ap (λ b. if b && list_all (has_landed (new 0)) (take (line_end i.shape o / i.shape.ws_opt) []) then states.Full else states.Open)
+    (not_above (line_end i.shape o / i.shape.ws_opt) some)
 
 no_taker : (i : Image) (logs new : Logs) (line : ℕ) → is_free_line i logs line ≡ true → KeepsLines i logs new → taker_by i new line ≡ None
 no_taker i logs new line free keeps =
     ap (λ (ts : List Taken). option_map (λ (t : Taken). t.entry.position) (last_or None ts))
     (filter_none (took_from i new line) (takes (new 0)) (all_of (λ t. took_from i new line t ≡ false)
     (λ t. and_false (nat_lt t.mark.lba i.shape.capacity) (is_of line (landed_line_of i new t.mark.lba (take_before (new 0) t)))
-    (ap (is_of line) (keeps.landed t.mark.lba (take_before (new 0) t)) ∙ none_landed_in_free i logs line t.mark.lba (take_before (new 0) t) free)) (takes (new 0))))
+    (ap (is_of line) (keeps.landed t.mark.lba (take_before (new 0) t)) ∙ none_landed_in_free i logs line t.mark.lba (take_before (new 0) t) free))
+    (takes (new 0))))
 
-pub rows_opened : (i : Image) (logs : Logs) (begun : Begun) (line : ℕ) (start : StartRecord) (knows : List ℕ) → IsDriveShape i.shape → NoneFreed (logs 0) → MayOpen i logs begun line start
+pub rows_opened : (i : Image) (logs : Logs) (begun : Begun) (line : ℕ) (start : StartRecord) (knows : List ℕ) → IsDriveShape i.shape → NoneFreed (logs 0)
+    → MayOpen i logs begun line start
     → rows_of i (after logs (Open line start) knows) ≡ with_row line (turned states.Open start.width) (rows_of i logs)
 rows_opened i logs begun line start knows drive freed may =
     let new : Logs = after logs (Open line start) knows in
@@ -273,19 +297,27 @@ rows_opened i logs begun line start knows drive freed may =
     let life : life_of (new 0) line ≡ Opened o = life_now (logs 0) line start knows in
     let some : 0 < start.width =
     subst (λ n. 0 < n) (sym may.own_width) (has_width i.shape (width (known_image i logs) line)
-    (both (not (has_number i logs (life_of (logs 0) line) line) && are_empty (known_image i logs) line) (nat_lt 0 (line_data (known_image i logs) line)) may.is_free).1) in
+    (both (not (has_number i logs (life_of (logs 0) line) line) && are_empty (known_image i logs) line)
+    (nat_lt 0 (line_data (known_image i logs) line)) may.is_free).1) in
     let none : stripes_of (new 0) o ≡ [] =
     ap (filter (λ (p : Placed). is_life (length (logs 0)) p.life)) kept.placements
-    ∙ filter_none (λ (p : Placed). is_life (length (logs 0)) p.life) (placements (logs 0)) (placed_before (logs 0) (length (logs 0)) (le_refl (length (logs 0)))) in
+    ∙ filter_none (λ (p : Placed). is_life (length (logs 0)) p.life) (placements (logs 0))
+    (placed_before (logs 0) (length (logs 0)) (le_refl (length (logs 0)))) in
     let known : known_image i new ≡ known_image i logs = known_kept i logs (Open line start) knows refl (λ unit. refl) in
     row_changes_any i logs new line (turned states.Open start.width)
-    (same_row (state_in i new line (life_of (new 0) line)) states.Open (width_in i new line (life_of (new 0) line)) start.width (row_of_line i new line).live (row_of_line i logs line).live
+    (same_row (state_in i new line (life_of (new 0) line)) states.Open (width_in i new line (life_of (new 0) line)) start.width (row_of_line i new line).live
+    (row_of_line i logs line).live
     (taker_in i new line (life_of (new 0) line)) None
     (ap (state_in i new line) life ∙ state_opened i new line o none (has_stripes i.shape start.width drive some))
     (ap (width_in i new line) life)
     (live_kept i logs new line lines)
     (ap (taker_in i new line) life ∙ no_taker i logs new line may.is_free lines))
     (λ m other. row_kept i logs new m (life_elsewhere (logs 0) line start knows m other) (freed m)
-    (record { found = found_kept i logs (Open line start) knows refl; empty = ap (λ (j : Image). are_empty j m) known; wide = ap (λ (j : Image). width j m) known }) lines
+    (record {
+      found = found_kept i logs (Open line start) knows refl;
+      empty = ap (λ (j : Image). are_empty j m) known;
+      wide =
+          ap (λ (j : Image). width j m) known;
+    }) lines
     (λ p is. ap₂ (λ a b. if a then states.Failed else if b then states.Full else states.Open) (failed_kept (logs 0) (new 0) kept p)
     (have_landed_alike (logs 0) (new 0) (alike_kept (logs 0) (Open line start) knows refl (λ unit. refl)) p (line_end i.shape p / i.shape.ws_opt))))

@@ -32,18 +32,22 @@ use Rattle.pblk_world.proofs.EngineLogLemmas.{answers_more, takes_more}
 
 -- ---- the numbers of lives
 
-turned_life : (line n : ℕ) (life : LineLife) (k : ℕ) (knows : List ℕ) (e : Event) → k < n → is_life n life ≡ false → is_life n (turned_by line life k knows e) ≡ false
-turned_life line n life k knows (Decides (Open other start)) below not_it = elim (other == line) as (λ b. is_life n (if b then Opened (record { number = k; line = line; start = start; knows = knows }) else life) ≡ false) [
-  | true ↦ other_number k n (λ e. absurd (omega arith))
-  | false ↦ not_it
-]
-turned_life line n life k knows (Decides (Free other)) below not_it = elim (other == line) as (λ b. is_life n (if b then Freed (last_opening life) knows else life) ≡ false) [
-  | true ↦ refl
-  | false ↦ not_it
-]
+turned_life : (line n : ℕ) (life : LineLife) (k : ℕ) (knows : List ℕ) (e : Event) → k < n → is_life n life ≡ false
+    → is_life n (turned_by line life k knows e) ≡ false
+turned_life line n life k knows (Decides (Open other start)) below not_it =
+    elim (other == line) as (λ b. is_life n (if b then Opened (record { number = k; line = line; start = start; knows = knows }) else life) ≡ false) [
+      | true ↦ other_number k n (λ e. absurd (omega arith))
+      | false ↦ not_it
+    ]
+turned_life line n life k knows (Decides (Free other)) below not_it =
+    elim (other == line) as (λ b. is_life n (if b then Freed (last_opening life) knows else life) ≡ false) [
+      | true ↦ refl
+      | false ↦ not_it
+    ]
 turned_life line n life k knows e below not_it = not_it
 
-lives_from : (line n k : ℕ) (log : List Logged) (life : LineLife) → k + length log ≤ n → is_life n life ≡ false → is_life n (fold (turned line) life (enumerate_from k log)) ≡ false
+lives_from : (line n k : ℕ) (log : List Logged) (life : LineLife) → k + length log ≤ n → is_life n life ≡ false
+    → is_life n (fold (turned line) life (enumerate_from k log)) ≡ false
 lives_from line n k [] life within not_it = not_it
 lives_from line n k (l ∷ log) life within not_it =
     lives_from line n (k + 1) log (turned_by line life k l.knows l.event) (omega arith) (turned_life line n life k l.knows l.event (omega arith) not_it)
@@ -68,7 +72,8 @@ placed_life log n number (Decides (Place stripe)) p within h =
 placed_life log n number e p within h = absurd (none-some p h)
 
 pub placed_before : (log : List Logged) (n : ℕ) → length log ≤ n → AllByRecursion (λ p. is_life n p.life ≡ false) (placements log)
-placed_before log n within = all_made (λ (e : ℕ × Logged). placed_by log e.0 e.1.event) (λ (p : Placed). is_life n p.life ≡ false) (λ e p h. placed_life log n e.0 e.1.event p within h) (enumerate_from 0 log)
+placed_before log n within = all_made (λ (e : ℕ × Logged). placed_by log e.0 e.1.event) (λ (p : Placed). is_life n p.life ≡ false)
+    (λ e p h. placed_life log n e.0 e.1.event p within h) (enumerate_from 0 log)
 
 -- ---- a line without stripes
 
@@ -100,11 +105,13 @@ unplaced_all f none a zero = refl
 unplaced_all f none a (suc n) = ap₂ (λ x xs. x ∷ xs) (none a) (unplaced_all f none (a + 1) n)
 
 -- an opening of which no stripe was placed
-no_outcomes : (s : Shape) (log : List Logged) (o : Opening) (l : OpenLine) (n : ℕ) → l.stripes ≡ replicate n Unplaced → stripes_of log o ≡ [] → with_outcomes s log o l ≡ l
+no_outcomes : (s : Shape) (log : List Logged) (o : Opening) (l : OpenLine) (n : ℕ) → l.stripes ≡ replicate n Unplaced → stripes_of log o ≡ []
+    → with_outcomes s log o l ≡ l
 no_outcomes s log o l n e none =
     let count : length l.stripes ≡ n = ap (λ (xs : List Stripe). length xs) e ∙ length_replicate n Unplaced in
     ap (λ xs. record l { stripes = xs })
-    (unplaced_all (outcome s log o l) (λ j. ap (λ (ps : List Placed). became log (find (λ (p : Placed). is_stripe_at s l p.stripe.unit p.stripe.at j) ps)) none) 0 (length l.stripes)
+    (unplaced_all (outcome s log o l) (λ j. ap (λ (ps : List Placed). became log (find (λ (p : Placed). is_stripe_at s l p.stripe.unit p.stripe.at j) ps)) none)
+    0 (length l.stripes)
     ∙ ap (λ k. replicate k Unplaced) count ∙ sym e)
 
 -- ---- a line is opened
@@ -128,7 +135,8 @@ not_life n (Opened o) e = absurd cc
 not_life n (Freed past k) e = refl
 
 life_by : (log : List Logged) (line : ℕ) (start : StartRecord) (knows : List ℕ) (other : ℕ)
-    → life_of (with_open log line start knows) other ≡ (if line == other then Opened (record { number = length log; line = other; start = start; knows = knows }) else life_of log other)
+    → life_of (with_open log line start knows) other ≡
+    (if line == other then Opened (record { number = length log; line = other; start = start; knows = knows }) else life_of log other)
 life_by log line start knows other = life_more log (record { event = Decides (Open line start); knows = knows }) other
 
 stays : (log : List Logged) (line : ℕ) (start : StartRecord) (knows : List ℕ) → is_opened (life_of log line) ≡ false → (o : Opening) → o.number < length log
@@ -136,7 +144,8 @@ stays : (log : List Logged) (line : ℕ) (start : StartRecord) (knows : List ℕ
 stays log line start knows closed o before = ap (is_life o.number) (life_by log line start knows o.line) ∙ go (nat_eq line o.line) refl
   where
     go : (b : Bool) → nat_eq line o.line ≡ b
-        → is_life o.number (if b then Opened (record { number = length log; line = o.line; start = start; knows = knows }) else life_of log o.line) ≡ is_life o.number (life_of log o.line)
+        → is_life o.number (if b then Opened (record { number = length log; line = o.line; start = start; knows = knows }) else life_of log o.line) ≡ is_life
+        o.number (life_of log o.line)
     go true e =
         let same : line ≡ o.line = eqb-true line o.line e in
         other_number (length log) o.number (λ f. absurd (omega arith))
@@ -156,7 +165,8 @@ standing_more log line start knows closed =
     ap (filter (λ (o : Opening). is_life o.number (life_of new o.line))) (openings_more log (record { event = Decides (Open line start); knows = knows }))
     ∙ filter_last (λ (o : Opening). is_life o.number (life_of new o.line)) (openings log) (new_opening log line start knows) true (begins log line start knows)
     ∙ ap (λ os. os ++ new_opening log line start knows ∷ [])
-    (filter_agree (λ (o : Opening). o.number < length log) (λ (o : Opening). is_life o.number (life_of new o.line)) (λ (o : Opening). is_life o.number (life_of log o.line)) (stays log line start knows closed) (openings log) (openings_before log))
+    (filter_agree (λ (o : Opening). o.number < length log) (λ (o : Opening). is_life o.number (life_of new o.line))
+    (λ (o : Opening). is_life o.number (life_of log o.line)) (stays log line start knows closed) (openings log) (openings_before log))
 
 abbrev live_now : Image → Logs → ℕ → ℕ
 live_now i logs line = bits_of (line_units (known_image i logs) line)
@@ -170,7 +180,8 @@ new_line i logs line start knows =
     ap (λ (ls : Logs). with_outcomes i.shape (new 0) o (opened i.shape line (live_now i ls line))) (prefix_whole logs (Open line start) knows)
     ∙ no_outcomes i.shape (new 0) o l (length l.stripes) (sym (ap (λ k. replicate k Unplaced) (length_replicate _ Unplaced)))
     (ap (filter (λ (p : Placed). is_life (length (logs 0)) p.life)) ((alike (logs 0) line start knows).placements)
-    ∙ filter_none (λ (p : Placed). is_life (length (logs 0)) p.life) (placements (logs 0)) (placed_before (logs 0) (length (logs 0)) (le_refl (length (logs 0)))))
+    ∙ filter_none (λ (p : Placed). is_life (length (logs 0)) p.life) (placements (logs 0))
+    (placed_before (logs 0) (length (logs 0)) (le_refl (length (logs 0)))))
 
 lines_more : (i : Image) (logs : Logs) (line : ℕ) (start : StartRecord) (knows : List ℕ) → is_opened (life_of (logs 0) line) ≡ false
     → 0 < length (opened i.shape line (live_now i logs line)).stripes
@@ -184,10 +195,12 @@ lines_more i logs line start knows closed some =
     ∙ filter_last has_left (map (open_line i new) (standing (logs 0))) (open_line i new o) true
     (ap has_left (new_line i logs line start knows) ∙ left_by l (length l.stripes) (sym (ap (λ k. replicate k Unplaced) (length_replicate _ Unplaced))) some)
     ∙ ap₂ (λ (xs : List OpenLine) (x : OpenLine). filter has_left xs ++ x ∷ [])
-    (map_agree (λ (o : Opening). o.number < length (logs 0)) (open_line i new) (open_line i logs) (open_line_same i logs (Open line start) knows (alike (logs 0) line start knows)) (standing (logs 0)) (standing_before (logs 0)))
+    (map_agree (λ (o : Opening). o.number < length (logs 0)) (open_line i new) (open_line i logs)
+    (open_line_same i logs (Open line start) knows (alike (logs 0) line start knows)) (standing (logs 0)) (standing_before (logs 0)))
     (new_line i logs line start knows)
 
-pub placing_opened : (i : Image) (logs : Logs) (line : ℕ) (start : StartRecord) (knows : List ℕ) (pad : ℕ) (again : List ℕ) → is_opened (life_of (logs 0) line) ≡ false
+pub placing_opened : (i : Image) (logs : Logs) (line : ℕ) (start : StartRecord) (knows : List ℕ) (pad : ℕ) (again : List ℕ)
+    → is_opened (life_of (logs 0) line) ≡ false
     → 0 < length (opened i.shape line (bits_of (line_units (known_image i logs) line))).stripes
     → placing_of i (after logs (Open line start) knows) pad again ≡ begun (placing_of i logs pad again) line (bits_of (line_units (known_image i logs) line))
 placing_opened i logs line start knows pad again closed some =

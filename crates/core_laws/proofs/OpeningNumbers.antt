@@ -32,11 +32,13 @@ made_at {X} {Y} h P before (x ∷ xs) all n count is says = go (h (n, x)) refl
     here : slice_get all n ≡ Some x
     here = ap₂ (λ (ys : List X) k. slice_get ys k) is count ∙ get_middle before x xs
 
-    go : (o : Option Y) → h (n, x) ≡ o → AllByRecursion P (filter_map h (enumerate_from (n + 1) xs)) → AllByRecursion P (cons_option o (filter_map h (enumerate_from (n + 1) xs)))
+    go : (o : Option Y) → h (n, x) ≡ o → AllByRecursion P (filter_map h (enumerate_from (n + 1) xs))
+        → AllByRecursion P (cons_option o (filter_map h (enumerate_from (n + 1) xs)))
     go None e rest = rest
     go (Some y) e rest = (says (n, x) y here e, rest)
 
-opened_line : (log : List Logged) (number : ℕ) (knows : List ℕ) (e : Event) (o : Opening) → opens_at log number ≡ opens e → opened_by number knows e ≡ Some o → opens_at log o.number ≡ Some o.line
+opened_line : (log : List Logged) (number : ℕ) (knows : List ℕ) (e : Event) (o : Opening) → opens_at log number ≡ opens e → opened_by number knows e ≡ Some o
+    → opens_at log o.number ≡ Some o.line
 opened_line log number knows (Decides (Open line start)) o there h =
     subst (λ (x : Opening). opens_at log x.number ≡ Some x.line) (same_Some (record { number = number; line = line; start = start; knows = knows }) o h) there
 opened_line log number knows e o there h = absurd (none-some o h)
@@ -51,33 +53,40 @@ IsOpenedAt log line AsFound = Unit {0}
 IsOpenedAt log line (Opened o) = (opens_at log o.number ≡ Some line) × (o.line ≡ line)
 IsOpenedAt log line (Freed past knows) = Unit {0}
 
-turned_at : (log : List Logged) (line k : ℕ) (life : LineLife) (knows : List ℕ) (e : Event) → opens_at log k ≡ opens e → IsOpenedAt log line life → IsOpenedAt log line (turned_by line life k knows e)
+turned_at : (log : List Logged) (line k : ℕ) (life : LineLife) (knows : List ℕ) (e : Event) → opens_at log k ≡ opens e → IsOpenedAt log line life
+    → IsOpenedAt log line (turned_by line life k knows e)
 turned_at log line k life knows (Decides (Open other start)) there is = go (nat_eq other line) refl
   where
-    go : (b : Bool) → nat_eq other line ≡ b → IsOpenedAt log line (if b then Opened (record { number = k; line = line; start = start; knows = knows }) else life)
+    go : (b : Bool) → nat_eq other line ≡ b
+        → IsOpenedAt log line (if b then Opened (record { number = k; line = line; start = start; knows = knows }) else life)
     go true e = (there ∙ ap (λ n. Some n) (eqb-true other line e), refl)
     go false e = is
-turned_at log line k life knows (Decides (Free other)) there is = elim (nat_eq other line) as (λ b. IsOpenedAt log line (if b then Freed (last_opening life) knows else life)) [
-  | true ↦ tt
-  | false ↦ is
-]
+turned_at log line k life knows (Decides (Free other)) there is =
+    elim (nat_eq other line) as (λ b. IsOpenedAt log line (if b then Freed (last_opening life) knows else life)) [
+      | true ↦ tt
+      | false ↦ is
+    ]
 turned_at log line k life knows e there is = is
 
-lives_at : (all before log : List Logged) (line n : ℕ) (life : LineLife) → n ≡ length before → all ≡ before ++ log → IsOpenedAt all line life → IsOpenedAt all line (fold (turned line) life (enumerate_from n log))
+lives_at : (all before log : List Logged) (line n : ℕ) (life : LineLife) → n ≡ length before → all ≡ before ++ log → IsOpenedAt all line life
+    → IsOpenedAt all line (fold (turned line) life (enumerate_from n log))
 lives_at all before [] line n life count is opened = opened
 lives_at all before (l ∷ log) line n life count is opened =
     let here : slice_get all n ≡ Some l = ap₂ (λ (ys : List Logged) k. slice_get ys k) is count ∙ get_middle before l log in
-    lives_at all (before ++ l ∷ []) log line (n + 1) (turned_by line life n l.knows l.event) (omega (arith, count, length-append before (l ∷ []))) (is ∙ sym (append_assoc before (l ∷ []) log))
+    lives_at all (before ++ l ∷ []) log line (n + 1) (turned_by line life n l.knows l.event) (omega (arith, count, length-append before (l ∷ [])))
+    (is ∙ sym (append_assoc before (l ∷ []) log))
     (turned_at all line n life l.knows l.event (ap (λ (x : Option Logged). option_and_then (λ (l : Logged). opens l.event) x) here) opened)
 
 pub life_at : (log : List Logged) (line : ℕ) (o : Opening) → life_of log line ≡ Opened o → (opens_at log o.number ≡ Some line) × (o.line ≡ line)
 life_at log line o e = subst (IsOpenedAt log line) e (lives_at log [] log line 0 AsFound refl refl tt)
 
 pub standing_at : (log : List Logged) → AllByRecursion (λ o. opens_at log o.number ≡ Some o.line) (standing log)
-standing_at log = all_filter (λ (o : Opening). opens_at log o.number ≡ Some o.line) (λ o. is_life o.number (life_of log o.line)) (openings log) (openings_at log)
+standing_at log = all_filter (λ (o : Opening). opens_at log o.number ≡ Some o.line) (λ o. is_life o.number (life_of log o.line)) (openings log)
+    (openings_at log)
 
 -- an opening has the number of a line's life exactly where it is of that line
-pub of_its_line : (log : List Logged) (line : ℕ) (o other : Opening) → life_of log line ≡ Opened o → opens_at log other.number ≡ Some other.line → other.line ≢ line → (o.number == other.number) ≡ false
+pub of_its_line : (log : List Logged) (line : ℕ) (o other : Opening) → life_of log line ≡ Opened o → opens_at log other.number ≡ Some other.line
+    → other.line ≢ line → (o.number == other.number) ≡ false
 of_its_line log line o other life there apart = go (nat_eq o.number other.number) refl
   where
     go : (b : Bool) → nat_eq o.number other.number ≡ b → b ≡ false

@@ -48,7 +48,8 @@ use Rattle.pblk_world.proofs.EngineLogLemmas.{opened_same}
 
 -- ---- the place of a stripe
 
-pub place_at : (i : Image) (us : ℕ → List ℕ) (ls : Logs) (line k unit at : ℕ) → line_units (known_image i ls) line ≡ us line → 0 < i.shape.ws_opt → IsAtPlace i us line k unit at → place_of (known_image i ls) line (k * i.shape.ws_opt) ≡ Some (unit, at)
+pub place_at : (i : Image) (us : ℕ → List ℕ) (ls : Logs) (line k unit at : ℕ) → line_units (known_image i ls) line ≡ us line → 0 < i.shape.ws_opt
+    → IsAtPlace i us line k unit at → place_of (known_image i ls) line (k * i.shape.ws_opt) ≡ Some (unit, at)
 place_at i us ls line k unit at same some is =
     let w : ℕ = i.shape.ws_opt in
     let row : k * w / w ≡ k = mul-div_cancel k {n = w} some in
@@ -68,7 +69,8 @@ kind_in k c d = if nat_lt k c then kinds.Start else if nat_lt k (c + d) then kin
 
 pub kind_by : (l : OpenLine) (k : ℕ) → line.has_failed l ≡ false → kind_of l k ≡ kind_in k l.start_count l.data_count
 unfolding kind_in
-kind_by l k none = ap (λ b. if b then kinds.Pad else if nat_lt k l.start_count then kinds.Start else if nat_lt k (l.start_count + l.data_count) then kinds.Data else kinds.End) none
+kind_by l k none = ap (λ b. if b then kinds.Pad else if nat_lt k l.start_count then kinds.Start else if nat_lt k
+    (l.start_count + l.data_count) then kinds.Data else kinds.End) none
 
 -- a stripe's place among the parts of its line
 unfoldable pub IsPart : ℕ → ℕ → ℕ → StripeKind → Type 0
@@ -100,17 +102,20 @@ or_some w (q ∷ qs) test some e = omega arith
 has_some : (s : Shape) (log : List Logged) (pad : ℕ) → 0 < s.ws_opt → has_stripe s.ws_opt (entries_of s log pad) ≡ true → 0 < length (fronts.waiting s log)
 has_some s log pad some e =
     let here : 0 < length (waiting (entries_of s log pad)) = or_some s.ws_opt (waiting (entries_of s log pad)) (λ q. nat_lt q pad) some e in
-    let count : length (waiting (entries_of s log pad)) ≡ length (fronts.waiting s log) = ap (λ (qs : List ℕ). length qs) (waiting_alike s log pad) ∙ positions_length (fronts.waiting s log) in
+    let count : length (waiting (entries_of s log pad)) ≡ length (fronts.waiting s log) = ap (λ (qs : List ℕ). length qs) (waiting_alike s log pad)
+    ∙ positions_length (fronts.waiting s log) in
     omega arith
 
 -- ---- the stripe may be placed
 
-pub next_in_line : (i : Image) (us : ℕ → List ℕ) (w : World) (pad : ℕ) (of : Program) (o : Opening) (stripe : Stripe) → IsFollowed i us w → IsOffered i us w pad of o → stripe.line ≡ of.line → stripe.unit ≡ of.unit → stripe.at ≡ of.block
+pub next_in_line : (i : Image) (us : ℕ → List ℕ) (w : World) (pad : ℕ) (of : Program) (o : Opening) (stripe : Stripe) → IsFollowed i us w
+    → IsOffered i us w pad of o → stripe.line ≡ of.line → stripe.unit ≡ of.unit → stripe.at ≡ of.block
     → IsNext i (log_of w) o stripe
 next_in_line i us w pad of o stripe is off line unit at = record {
   not_failed = not_failed (log_of w 0) o (plain_of i us w is);
   in_order = ap (λ n. place_of (known_image i (log_of w)) n (length (stripes_of (log_of w 0) o) * i.shape.ws_opt)) (line ∙ off.its_line)
-      ∙ place_at i us (log_of w) o.line (length (stripes_of (log_of w 0) o)) of.unit of.block (is.keeps o.line (ap is_opened off.life)) is.simple.mount.accepted.drive.ws_opt off.place
+      ∙ place_at i us (log_of w) o.line (length (stripes_of (log_of w 0) o)) of.unit of.block
+      (is.keeps o.line (ap is_opened off.life)) is.simple.mount.accepted.drive.ws_opt off.place
       ∙ ap₂ (λ u b. Some (u, b)) (sym unit) (sym at);
 }
 
@@ -150,7 +155,8 @@ parts_of i us w o is =
     some_product zero ws n e h = absurd (omega arith)
     some_product (suc d) ws n e h = omega arith
 
-may_by_kind : (i : Image) (us : ℕ → List ℕ) (w : World) (pad : ℕ) (of : Program) (o : Opening) (stripe : Stripe) (kind : StripeKind) → IsFollowed i us w → IsOffered i us w pad of o → HasParts i us w o → IsNext i (log_of w) o stripe
+may_by_kind : (i : Image) (us : ℕ → List ℕ) (w : World) (pad : ℕ) (of : Program) (o : Opening) (stripe : Stripe) (kind : StripeKind) → IsFollowed i us w
+    → IsOffered i us w pad of o → HasParts i us w o → IsNext i (log_of w) o stripe
     → IsPart (length (stripes_of (log_of w 0) o)) (start_len i.shape / i.shape.ws_opt) (open_line i (log_of w) o).data_count kind
     → allows i.shape (entries_of i.shape (log_of w 0) pad) (open_line i (log_of w) o) kind ≡ true
     → stripe.blocks ≡ blocks_for i.shape (log_of w 0) o (length (stripes_of (log_of w 0) o) * i.shape.ws_opt) kind → Kinds i (log_of w) o stripe
@@ -158,7 +164,8 @@ unfolding IsPart
 may_by_kind i us w pad of o stripe kinds.Start is off parts next part allowed blocks =
     inl (record {
       next = next;
-      within = begins_before i.shape.ws_opt (length (stripes_of (log_of w 0) o)) (start_len i.shape / i.shape.ws_opt) (start_len i.shape) is.simple.mount.accepted.drive.ws_opt parts.start_is part;
+      within = begins_before i.shape.ws_opt (length (stripes_of (log_of w 0) o)) (start_len i.shape / i.shape.ws_opt)
+          (start_len i.shape) is.simple.mount.accepted.drive.ws_opt parts.start_is part;
       blocks = blocks;
     })
 may_by_kind i us w pad of o stripe kinds.Data is off parts next part allowed blocks =
@@ -191,7 +198,8 @@ may_by_kind i us w pad of o stripe kinds.End is off parts next part allowed bloc
     let beyond : c + d ≤ k = part in
     let has : 0 < d = parts.has_data in
     let first : list_all (has_landed log) (take c ps) ≡ true = off.line_is.order.started (omega arith) in
-    let rest : list_all (has_landed log) (take d (drop c ps)) ≡ true = sym (data_landed l log ps (stripe_count i us o.line - k) (formed i us w o off.line_is) beyond) ∙ allowed in
+    let rest : list_all (has_landed log) (take d (drop c ps)) ≡ true =
+    sym (data_landed l log ps (stripe_count i us o.line - k) (formed i us w o off.line_is) beyond) ∙ allowed in
     inr (inr (inl (record {
       next = next;
       from = begins_after s.ws_opt k (c + d) (end_address s o) parts.ends_is beyond;
@@ -202,7 +210,8 @@ may_by_kind i us w pad of o stripe kinds.End is off parts next part allowed bloc
       blocks = blocks;
     })))
 
-placeable : (i : Image) (us : ℕ → List ℕ) (w : World) (pad : ℕ) (of : Program) (o : Opening) (stripe : Stripe) → IsFollowed i us w → IsOffered i us w pad of o → IsStripeFor i (log_of w) o of stripe → MayPlace i (log_of w) stripe
+placeable : (i : Image) (us : ℕ → List ℕ) (w : World) (pad : ℕ) (of : Program) (o : Opening) (stripe : Stripe) → IsFollowed i us w → IsOffered i us w pad of o
+    → IsStripeFor i (log_of w) o of stripe → MayPlace i (log_of w) stripe
 placeable i us w pad of o stripe is off for =
     let log : List Logged = log_of w 0 in
     let l : OpenLine = open_line i (log_of w) o in
@@ -217,8 +226,11 @@ placeable i us w pad of o stripe is off for =
       chunk = for.chunk ∙ sym for.line;
       opening = o;
       is_open = ap (life_of log) line ∙ off.life;
-      idle = λ p there. all_answered log stripe.unit p (subst (λ u. length (answers log u) ≡ length (placed_on log u)) (sym for.unit) off.idle) (among_contained (placed_on log stripe.unit) p there)
-          (eqb-true p.stripe.unit stripe.unit (let at : IsAmong (placed_on log stripe.unit) p = among_contained (placed_on log stripe.unit) p there in filtered_is (λ (q : Placed). q.stripe.unit == stripe.unit) (placements log) at.0 p at.1));
+      idle = λ p there. all_answered log stripe.unit p (subst (λ u. length (answers log u) ≡ length (placed_on log u)) (sym for.unit) off.idle)
+          (among_contained (placed_on log stripe.unit) p there)
+          (eqb-true p.stripe.unit stripe.unit
+          (let at : IsAmong (placed_on log stripe.unit) p =
+          among_contained (placed_on log stripe.unit) p there in filtered_is (λ (q : Placed). q.stripe.unit == stripe.unit) (placements log) at.0 p at.1));
       kind = may_by_kind i us w pad of o stripe of.kind is off parts (next_in_line i us w pad of o stripe is off for.line for.unit for.at)
           (subst (IsPart k c l.data_count) kind (part_of k c l.data_count)) off.allowed (for.blocks ∙ ap (λ a. blocks_for i.shape log o a of.kind) off.at);
     }
@@ -232,13 +244,16 @@ kind_positions i us w pad o at kind is = go kind
     small : i.shape.capacity ≤ meta_lba
     small = let low = is.simple.mount.accepted.target.capacity_number in omega arith
 
-    go : (kind : StripeKind) → filter_map (position_in i.shape) (blocks_for i.shape (log_of w 0) o at kind) ≡ next_positions i.shape (entries_of i.shape (log_of w 0) pad) kind
+    go : (kind : StripeKind) → filter_map (position_in i.shape) (blocks_for i.shape (log_of w 0) o at kind) ≡ next_positions i.shape
+        (entries_of i.shape (log_of w 0) pad) kind
     go kinds.Start = record_positions i.shape o.start.seq (start_len i.shape) (start_bytes i.shape o.start) (at - 0) (at - 0 + i.shape.ws_opt) small
     go kinds.Data = data_positions i us w is small ∙ ap (take i.shape.ws_opt) (sym (waiting_alike i.shape (log_of w 0) pad))
     go kinds.Pad = no_pad_positions i.shape i.shape.ws_opt small
-    go kinds.End = record_positions i.shape o.start.seq (end_len i.shape o.start.width) (end_bytes i.shape (end_record i.shape (log_of w 0) o)) (at - end_address i.shape o) (at - end_address i.shape o + i.shape.ws_opt) small
+    go kinds.End = record_positions i.shape o.start.seq (end_len i.shape o.start.width) (end_bytes i.shape (end_record i.shape (log_of w 0) o))
+        (at - end_address i.shape o) (at - end_address i.shape o + i.shape.ws_opt) small
 
-is_its : (i : Image) (us : ℕ → List ℕ) (w : World) (pad : ℕ) (of : Program) (o : Opening) (stripe : Stripe) → IsFollowed i us w → IsOffered i us w pad of o → IsStripeFor i (log_of w) o of stripe → IsStripeOf i (log_of w) pad o stripe of
+is_its : (i : Image) (us : ℕ → List ℕ) (w : World) (pad : ℕ) (of : Program) (o : Opening) (stripe : Stripe) → IsFollowed i us w → IsOffered i us w pad of o
+    → IsStripeFor i (log_of w) o of stripe → IsStripeOf i (log_of w) pad o stripe of
 is_its i us w pad of o stripe is off for = record {
   opened = ap (life_of (log_of w 0)) (for.line ∙ off.its_line) ∙ off.life;
   next = off.next;
@@ -251,20 +266,25 @@ is_its i us w pad of o stripe is off for = record {
 
 -- ---- the laws
 
-offered_here : (i : Image) (us : ℕ → List ℕ) (w : World) (pad : ℕ) (again : List ℕ) (busy : ℕ) (of : Program) (o : Opening) → IsFollowed i us w → next_stripe (placing_of i (log_of w) pad again) busy ≡ Some of
+offered_here : (i : Image) (us : ℕ → List ℕ) (w : World) (pad : ℕ) (again : List ℕ) (busy : ℕ) (of : Program) (o : Opening) → IsFollowed i us w
+    → next_stripe (placing_of i (log_of w) pad again) busy ≡ Some of
     → stopped_in (row_of i (log_of w) again of.unit) ≡ None → life_of (log_of w 0) of.line ≡ Opened o → IsOffered i us w pad of o
 offered_here i us w pad again busy of o is next none opened =
     let off = what_is_offered i us w pad again busy of is next none in
     let same : off.0 ≡ o = opened_same off.0 o (sym off.1.life ∙ ap (life_of (log_of w 0)) (sym off.1.its_line) ∙ opened) in
     subst (IsOffered i us w pad of) same off.1
 
-pub next_may_be_placed : (i : Image) (us : ℕ → List ℕ) (w : World) (pad : ℕ) (again : List ℕ) (busy : ℕ) (of : Program) (o : Opening) (stripe : Stripe) → IsFollowed i us w → next_stripe (placing_of i (log_of w) pad again) busy ≡ Some of
+pub next_may_be_placed : (i : Image) (us : ℕ → List ℕ) (w : World) (pad : ℕ) (again : List ℕ) (busy : ℕ) (of : Program) (o : Opening) (stripe : Stripe)
+    → IsFollowed i us w → next_stripe (placing_of i (log_of w) pad again) busy ≡ Some of
     → stopped_in (row_of i (log_of w) again of.unit) ≡ None → IsStripeFor i (log_of w) o of stripe → MayPlace i (log_of w) stripe
-next_may_be_placed i us w pad again busy of o stripe is next none for = placeable i us w pad of o stripe is (offered_here i us w pad again busy of o is next none for.opened) for
+next_may_be_placed i us w pad again busy of o stripe is next none for =
+    placeable i us w pad of o stripe is (offered_here i us w pad again busy of o is next none for.opened) for
 
-pub next_is_its : (i : Image) (us : ℕ → List ℕ) (w : World) (pad : ℕ) (again : List ℕ) (busy : ℕ) (of : Program) (o : Opening) (stripe : Stripe) → IsFollowed i us w → next_stripe (placing_of i (log_of w) pad again) busy ≡ Some of
+pub next_is_its : (i : Image) (us : ℕ → List ℕ) (w : World) (pad : ℕ) (again : List ℕ) (busy : ℕ) (of : Program) (o : Opening) (stripe : Stripe)
+    → IsFollowed i us w → next_stripe (placing_of i (log_of w) pad again) busy ≡ Some of
     → stopped_in (row_of i (log_of w) again of.unit) ≡ None → IsStripeFor i (log_of w) o of stripe → IsStripeOf i (log_of w) pad o stripe of
-next_is_its i us w pad again busy of o stripe is next none for = is_its i us w pad of o stripe is (offered_here i us w pad again busy of o is next none for.opened) for
+next_is_its i us w pad again busy of o stripe is next none for =
+    is_its i us w pad of o stripe is (offered_here i us w pad again busy of o is next none for.opened) for
 
 not_pad : (k c d : ℕ) (kind : StripeKind) → kind_in k c d ≡ kind → kind ≢ kinds.Pad
 unfolding IsPart
@@ -276,7 +296,8 @@ its_positions s log pad kinds.Data = ap (take s.ws_opt) (waiting_alike s log pad
 its_positions s log pad kinds.Pad = refl
 its_positions s log pad kinds.End = refl
 
-pub offered_is_for : (i : Image) (us : ℕ → List ℕ) (w : World) (pad : ℕ) (again : List ℕ) (busy : ℕ) (of : Program) → IsFollowed i us w → next_stripe (placing_of i (log_of w) pad again) busy ≡ Some of
+pub offered_is_for : (i : Image) (us : ℕ → List ℕ) (w : World) (pad : ℕ) (again : List ℕ) (busy : ℕ) (of : Program) → IsFollowed i us w
+    → next_stripe (placing_of i (log_of w) pad again) busy ≡ Some of
     → stopped_in (row_of i (log_of w) again of.unit) ≡ None → (o : Opening) × IsProgramFor i (log_of w) o of
 offered_is_for i us w pad again busy of is next none =
     let its = what_is_offered i us w pad again busy of is next none in
@@ -295,6 +316,7 @@ offered_is_for i us w pad again busy of is next none =
         positions = sym off.positions ∙ its_positions i.shape log pad of.kind;
         line = subst (λ n. n < i.shape.chunks) (sym off.its_line) off.line_is.well.in_range;
         unit = off.unit;
-        at = subst (λ a. a + i.shape.ws_opt ≤ line_end i.shape o) (sym off.at) (ends_before i.shape.ws_opt k (stripe_count i us o.line) (line_end i.shape o) parts.line_is off.inside);
+        at = subst (λ a. a + i.shape.ws_opt ≤ line_end i.shape o) (sym off.at)
+            (ends_before i.shape.ws_opt k (stripe_count i us o.line) (line_end i.shape o) parts.line_is off.inside);
       },
     )

@@ -73,7 +73,8 @@ whole_if w n false is = is
 whole_data : (s : Shape) (g : ℕ) → IsDriveShape s → IsWhole s.ws_opt (data_len s g)
 whole_data s g drive =
     let between : IsWhole s.ws_opt (g * s.clba - start_len s - end_len s g) =
-    whole_less s.ws_opt (g * s.clba - start_len s) (end_len s g) (whole_less s.ws_opt (g * s.clba) (start_len s) (whole_line s g drive) (whole_start s)) (whole_end_record s g) in
+    whole_less s.ws_opt (g * s.clba - start_len s) (end_len s g) (whole_less s.ws_opt (g * s.clba) (start_len s) (whole_line s g drive) (whole_start s))
+    (whole_end_record s g) in
     whole_if s.ws_opt (g * s.clba - start_len s - end_len s g) (nat_lt (g * s.clba - start_len s - end_len s g) s.ws_opt) between
 
 -- a stripe that begins before whole stripes end ends before it
@@ -89,23 +90,28 @@ any_agree : {X : Type 0} (P : X → Type 0) (f g : X → Bool) → ((x : X) → 
 any_agree P f g same [] all = refl
 any_agree P f g same (x ∷ xs) all = ap₂ (λ a b. a || b) (same x all.0) (any_agree P f g same xs all.1)
 
-pub losses_now : (log : List Logged) (stripe : Stripe) (knows : List ℕ) (o other : Opening) → life_of log stripe.line ≡ Opened o → list_any (was_lost (with_place log stripe knows)) (stripes_of log other) ≡ has_failed log other
+pub losses_now : (log : List Logged) (stripe : Stripe) (knows : List ℕ) (o other : Opening) → life_of log stripe.line ≡ Opened o
+    → list_any (was_lost (with_place log stripe knows)) (stripes_of log other) ≡ has_failed log other
 losses_now log stripe knows o other opened =
     any_agree (λ (p : Placed). p.number < length log) (was_lost (with_place log stripe knows)) (was_lost log)
     (λ p before. ap is_loss (answer_now log stripe knows o p opened (le_of_lt before))) (stripes_of log other)
     (all_filter (λ (p : Placed). p.number < length log) (λ (p : Placed). is_life other.number p.life) (placements log) (placements_before log))
 
 -- in another opening nothing changes
-elsewhere : (s : Shape) (log : List Logged) (stripe : Stripe) (knows : List ℕ) (o other : Opening) → life_of log stripe.line ≡ Opened o → is_life other.number (Opened o) ≡ false
+elsewhere : (s : Shape) (log : List Logged) (stripe : Stripe) (knows : List ℕ) (o other : Opening) → life_of log stripe.line ≡ Opened o
+    → is_life other.number (Opened o) ≡ false
     → unplaced_in s (with_place log stripe knows) (Opened other) ≡ unplaced_in s log (Opened other)
 elsewhere s log stripe knows o other opened apart =
-    let same : stripes_of (with_place log stripe knows) other ≡ stripes_of log other = stripes_now log stripe knows o other false opened apart ∙ append-nil (stripes_of log other) in
-    ap (λ (ps : List Placed). if list_any (was_lost (with_place log stripe knows)) ps then 0 else end_address s other - max (start_len s) (length ps * s.ws_opt)) same
+    let same : stripes_of (with_place log stripe knows) other ≡ stripes_of log other = stripes_now log stripe knows o other false opened apart
+    ∙ append-nil (stripes_of log other) in
+    ap (λ (ps : List Placed). if list_any (was_lost (with_place log stripe knows)) ps then 0 else end_address s other - max (start_len s)
+    (length ps * s.ws_opt)) same
     ∙ ap (λ b. if b then 0 else end_address s other - max (start_len s) (length (stripes_of log other) * s.ws_opt)) (losses_now log stripe knows o other opened)
 
 -- in its opening there is one stripe more
 here : (s : Shape) (log : List Logged) (stripe : Stripe) (knows : List ℕ) (o : Opening) → IsPlacing log stripe o
-    → unplaced_in s (with_place log stripe knows) (Opened o) ≡ (if has_failed log o then 0 else end_address s o - max (start_len s) ((length (stripes_of log o) + 1) * s.ws_opt))
+    → unplaced_in s (with_place log stripe knows) (Opened o) ≡
+    (if has_failed log o then 0 else end_address s o - max (start_len s) ((length (stripes_of log o) + 1) * s.ws_opt))
 here s log stripe knows o is =
     let new : List Logged = with_place log stripe knows in
     let more : stripes_of new o ≡ stripes_of log o ++ new_placed log stripe o ∷ [] = stripes_now log stripe knows o o true is.opened (same_number o.number) in
@@ -116,7 +122,8 @@ here s log stripe knows o is =
 
 -- ---- all lines together
 
-other_life : (s : Shape) (log : List Logged) (stripe : Stripe) (knows : List ℕ) (o : Opening) (line : ℕ) → life_of log stripe.line ≡ Opened o → line ≢ stripe.line
+other_life : (s : Shape) (log : List Logged) (stripe : Stripe) (knows : List ℕ) (o : Opening) (line : ℕ) → life_of log stripe.line ≡ Opened o
+    → line ≢ stripe.line
     → unplaced_in s (with_place log stripe knows) (life_of (with_place log stripe knows) line) ≡ unplaced_in s log (life_of log line)
 other_life s log stripe knows o line opened apart =
     ap (unplaced_in s (with_place log stripe knows)) (life_more log (record { event = Decides (Place stripe); knows = knows }) line)
@@ -130,7 +137,8 @@ other_life s log stripe knows o line opened apart =
 
 its_life : (s : Shape) (log : List Logged) (stripe : Stripe) (knows : List ℕ) (o : Opening) → life_of log stripe.line ≡ Opened o
     → unplaced_in s (with_place log stripe knows) (life_of (with_place log stripe knows) stripe.line) ≡ unplaced_in s (with_place log stripe knows) (Opened o)
-its_life s log stripe knows o opened = ap (unplaced_in s (with_place log stripe knows)) (life_more log (record { event = Decides (Place stripe); knows = knows }) stripe.line ∙ opened)
+its_life s log stripe knows o opened =
+    ap (unplaced_in s (with_place log stripe knows)) (life_more log (record { event = Decides (Place stripe); knows = knows }) stripe.line ∙ opened)
 
 -- by how many addresses the line has fewer
 placed_by : (i : Image) (logs : Logs) (stripe : Stripe) (knows : List ℕ) (o : Opening) (x : ℕ) → IsPlacing (logs 0) stripe o → stripe.line < i.shape.chunks
@@ -148,8 +156,10 @@ placed_by i logs stripe knows o x is inside fewer =
 
 -- ---- by the kind of the stripe
 
-left_less : (s : Shape) (log : List Logged) (o : Opening) → has_failed log o ≡ false → start_len s ≤ next_address s log o → next_address s log o + s.ws_opt ≤ end_address s o
-    → unplaced_in s log (Opened o) ≡ (if has_failed log o then 0 else end_address s o - max (start_len s) ((length (stripes_of log o) + 1) * s.ws_opt)) + s.ws_opt
+left_less : (s : Shape) (log : List Logged) (o : Opening) → has_failed log o ≡ false → start_len s ≤ next_address s log o
+    → next_address s log o + s.ws_opt ≤ end_address s o
+    → unplaced_in s log (Opened o) ≡
+    (if has_failed log o then 0 else end_address s o - max (start_len s) ((length (stripes_of log o) + 1) * s.ws_opt)) + s.ws_opt
 left_less s log o none from within =
     let E : ℕ = end_address s o in
     let next : (length (stripes_of log o) + 1) * s.ws_opt ≡ next_address s log o + s.ws_opt = omega arith in
@@ -175,7 +185,8 @@ pub whole_to_end : (s : Shape) (o : Opening) → IsDriveShape s → IsWhole s.ws
 whole_to_end s o drive = whole_sum s.ws_opt (start_len s) (data_len s o.start.width) (whole_start s) (whole_data s o.start.width drive)
 
 -- a stripe of data takes the line's next data addresses
-pub data_addresses : (i : Image) (logs : Logs) (stripe : Stripe) (knows : List ℕ) (o : Opening) → IsDriveShape i.shape → IsPlacing (logs 0) stripe o → stripe.line < i.shape.chunks
+pub data_addresses : (i : Image) (logs : Logs) (stripe : Stripe) (knows : List ℕ) (o : Opening) → IsDriveShape i.shape → IsPlacing (logs 0) stripe o
+    → stripe.line < i.shape.chunks
     → IsData i logs o stripe → open_addresses i logs ≡ open_addresses i (after logs (Place stripe) knows) + i.shape.ws_opt
 data_addresses i logs stripe knows o drive is inside its =
     placed_by i logs stripe knows o i.shape.ws_opt is inside
@@ -183,7 +194,8 @@ data_addresses i logs stripe knows o drive is inside its =
     (stripe_within (length (stripes_of (logs 0) o)) i.shape.ws_opt (end_address i.shape o) (whole_to_end i.shape o drive) its.within)
     ∙ ap (λ n. n + i.shape.ws_opt) (sym (here i.shape (logs 0) stripe knows o is)))
 
-left_same : (s : Shape) (log : List Logged) (o : Opening) → (next_address s log o + s.ws_opt ≤ start_len s) ⊎ ((end_address s o ≤ next_address s log o) ⊎ (has_failed log o ≡ true))
+left_same : (s : Shape) (log : List Logged) (o : Opening)
+    → (next_address s log o + s.ws_opt ≤ start_len s) ⊎ ((end_address s o ≤ next_address s log o) ⊎ (has_failed log o ≡ true))
     → unplaced_in s log (Opened o) ≡ (if has_failed log o then 0 else end_address s o - max (start_len s) ((length (stripes_of log o) + 1) * s.ws_opt)) + 0
 left_same s log o (inl before) =
     let next : (length (stripes_of log o) + 1) * s.ws_opt ≡ next_address s log o + s.ws_opt = omega arith in
@@ -200,15 +212,18 @@ left_same s log o (inr (inr failed)) =
     ∙ ap (λ b. (if b then 0 else end_address s o - max (start_len s) ((length (stripes_of log o) + 1) * s.ws_opt)) + 0) (sym failed)
 
 -- another stripe takes none
-pub other_addresses : (i : Image) (logs : Logs) (stripe : Stripe) (knows : List ℕ) (o : Opening) → IsDriveShape i.shape → IsPlacing (logs 0) stripe o → stripe.line < i.shape.chunks
+pub other_addresses : (i : Image) (logs : Logs) (stripe : Stripe) (knows : List ℕ) (o : Opening) → IsDriveShape i.shape → IsPlacing (logs 0) stripe o
+    → stripe.line < i.shape.chunks
     → IsStart i logs o stripe ⊎ (IsEnd i logs o stripe ⊎ IsPad i logs o stripe) → open_addresses i (after logs (Place stripe) knows) ≡ open_addresses i logs
 other_addresses i logs stripe knows o drive is inside its =
     let same : open_addresses i logs ≡ open_addresses i (after logs (Place stripe) knows) + 0 =
-    placed_by i logs stripe knows o 0 is inside (left_same i.shape (logs 0) o (where_to its) ∙ ap (λ n. n + 0) (sym (here i.shape (logs 0) stripe knows o is))) in
+    placed_by i logs stripe knows o 0 is inside
+    (left_same i.shape (logs 0) o (where_to its) ∙ ap (λ n. n + 0) (sym (here i.shape (logs 0) stripe knows o is))) in
     omega arith
   where
     where_to : IsStart i logs o stripe ⊎ (IsEnd i logs o stripe ⊎ IsPad i logs o stripe)
-        → (next_address i.shape (logs 0) o + i.shape.ws_opt ≤ start_len i.shape) ⊎ ((end_address i.shape o ≤ next_address i.shape (logs 0) o) ⊎ (has_failed (logs 0) o ≡ true))
+        → (next_address i.shape (logs 0) o + i.shape.ws_opt ≤ start_len i.shape)
+        ⊎ ((end_address i.shape o ≤ next_address i.shape (logs 0) o) ⊎ (has_failed (logs 0) o ≡ true))
     where_to (inl start) = inl (stripe_within (length (stripes_of (logs 0) o)) i.shape.ws_opt (start_len i.shape) (whole_start i.shape) start.within)
     where_to (inr (inl end)) = inr (inl end.from)
     where_to (inr (inr pad)) = inr (inr pad.failed)

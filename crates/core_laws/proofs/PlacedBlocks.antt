@@ -22,29 +22,37 @@ filter_one u r true = refl
 filter_one u r false = refl
 
 on_now : (log : List Logged) (stripe : Stripe) (knows : List ℕ) (o other : Opening) (unit : ℕ) → life_of log stripe.line ≡ Opened o
-    → stripes_on (with_place log stripe knows) other unit ≡ stripes_on log other unit ++ cond ((o.number == other.number) && (stripe.unit == unit)) (new_placed log stripe o ∷ []) []
+    → stripes_on (with_place log stripe knows) other unit ≡ stripes_on log other unit
+    ++ cond ((o.number == other.number) && (stripe.unit == unit)) (new_placed log stripe o ∷ []) []
 on_now log stripe knows o other unit opened =
-    ap (λ ps. filter (λ (p : Placed). p.stripe.unit == unit) (filter (λ (p : Placed). is_life other.number p.life) ps)) (placements_now log stripe knows o opened)
-    ∙ ap (filter (λ (p : Placed). p.stripe.unit == unit)) (filter_last (λ (p : Placed). is_life other.number p.life) (placements log) (new_placed log stripe o) (o.number == other.number) refl)
+    ap (λ ps. filter (λ (p : Placed). p.stripe.unit == unit) (filter (λ (p : Placed). is_life other.number p.life) ps))
+    (placements_now log stripe knows o opened)
+    ∙ ap (filter (λ (p : Placed). p.stripe.unit == unit))
+    (filter_last (λ (p : Placed). is_life other.number p.life) (placements log) (new_placed log stripe o) (o.number == other.number) refl)
     ∙ filter-append (λ (p : Placed). p.stripe.unit == unit) (stripes_of log other) (cond (o.number == other.number) (new_placed log stripe o ∷ []) [])
     ∙ ap (λ ps. stripes_on log other unit ++ ps) (filter_one unit (new_placed log stripe o) (o.number == other.number))
 
-flat_append : (ps qs : List Placed) → flat_map (λ (p : Placed). p.stripe.blocks) (ps ++ qs) ≡ flat_map (λ (p : Placed). p.stripe.blocks) ps ++ flat_map (λ (p : Placed). p.stripe.blocks) qs
+flat_append : (ps qs : List Placed)
+    → flat_map (λ (p : Placed). p.stripe.blocks) (ps ++ qs) ≡ flat_map (λ (p : Placed). p.stripe.blocks) ps ++ flat_map (λ (p : Placed). p.stripe.blocks) qs
 flat_append [] qs = refl
-flat_append (p ∷ ps) qs = ap (λ bs. p.stripe.blocks ++ bs) (flat_append ps qs) ∙ sym (append_assoc p.stripe.blocks (flat_map (λ (p : Placed). p.stripe.blocks) ps) (flat_map (λ (p : Placed). p.stripe.blocks) qs))
+flat_append (p ∷ ps) qs = ap (λ bs. p.stripe.blocks ++ bs) (flat_append ps qs)
+    ∙ sym (append_assoc p.stripe.blocks (flat_map (λ (p : Placed). p.stripe.blocks) ps) (flat_map (λ (p : Placed). p.stripe.blocks) qs))
 
 flat_one : (r : Placed) (b : Bool) → flat_map (λ (p : Placed). p.stripe.blocks) (cond b (r ∷ []) []) ≡ (if b then r.stripe.blocks else [])
 flat_one r true = append-nil r.stripe.blocks
 flat_one r false = refl
 
 pub blocks_placed : (log : List Logged) (stripe : Stripe) (knows : List ℕ) (o other : Opening) (unit : ℕ) → life_of log stripe.line ≡ Opened o
-    → chunk_blocks (with_place log stripe knows) other unit ≡ chunk_blocks log other unit ++ (if (o.number == other.number) && (stripe.unit == unit) then stripe.blocks else [])
+    → chunk_blocks (with_place log stripe knows) other unit ≡ chunk_blocks log other unit
+    ++ (if (o.number == other.number) && (stripe.unit == unit) then stripe.blocks else [])
 blocks_placed log stripe knows o other unit opened =
     ap (flat_map (λ (p : Placed). p.stripe.blocks)) (on_now log stripe knows o other unit opened)
     ∙ flat_append (stripes_on log other unit) (cond ((o.number == other.number) && (stripe.unit == unit)) (new_placed log stripe o ∷ []) [])
     ∙ ap (λ bs. chunk_blocks log other unit ++ bs) (flat_one (new_placed log stripe o) ((o.number == other.number) && (stripe.unit == unit)))
 
-pub landed_placed : (i : Image) (known : Logs) (w : World) (stripe : Stripe) (knows : List ℕ) (other : Opening) (unit : ℕ) → IsLegal i w → known 0 ≡ log_of w 0 → MayPlace i known stripe
+pub landed_placed : (i : Image) (known : Logs) (w : World) (stripe : Stripe) (knows : List ℕ) (other : Opening) (unit : ℕ) → IsLegal i w → known 0 ≡ log_of w 0
+    → MayPlace i known stripe
     → landed_blocks i.shape (with_place (log_of w 0) stripe knows) other unit ≡ landed_blocks i.shape (log_of w 0) other unit
 landed_placed i known w stripe knows other unit legal own may = blocks_kept i.shape (log_of w 0) (with_place (log_of w 0) stripe knows)
-    (place_kept (log_of w 0) stripe knows may.opening (ap (λ log. life_of log stripe.line) (sym own) ∙ may.is_open) (answers_fit i w stripe.unit legal)) other unit
+    (place_kept (log_of w 0) stripe knows may.opening (ap (λ log. life_of log stripe.line) (sym own) ∙ may.is_open) (answers_fit i w stripe.unit legal)) other
+    unit

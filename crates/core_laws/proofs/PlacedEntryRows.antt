@@ -22,7 +22,8 @@ use Rattle.lemmas.proofs.Tests.{other_number}
 -- the row of a line where the entries of sectors are in these lines, and have landed in those
 abbrev pub row_with : Image → Logs → Places → Places → ℕ → Row
 row_with i logs places landed line =
-    row_parts (state_of i logs line) (width_in i logs line (life_of (logs 0) line)) (live_with i.shape.capacity (takes (logs 0)) places line) (taker_with i.shape.capacity (takes (logs 0)) landed line)
+    row_parts (state_of i logs line) (width_in i logs line (life_of (logs 0) line)) (live_with i.shape.capacity (takes (logs 0)) places line)
+    (taker_with i.shape.capacity (takes (logs 0)) landed line)
 
 -- an entry among those that were taken
 pub record IsEntry (capacity : ℕ) (ts : List Taken) (t : Taken) : Type 0 where
@@ -31,70 +32,90 @@ pub record IsEntry (capacity : ℕ) (ts : List Taken) (t : Taken) : Type 0 where
   pub is : ts ≡ before ++ t ∷ after
   pub inside : t.mark.lba < capacity
 
-row_elsewhere : (i : Image) (logs : Logs) (places landed : Places) (position line m : ℕ) → IsNowhere position places → m ≢ line → row_with i logs (with_entry position line places) landed m ≡ row_with i logs places landed m
+row_elsewhere : (i : Image) (logs : Logs) (places landed : Places) (position line m : ℕ) → IsNowhere position places → m ≢ line
+    → row_with i logs (with_entry position line places) landed m ≡ row_with i logs places landed m
 row_elsewhere i logs places landed position line m nowhere apart =
     ap (λ n. row_parts (state_of i logs m) (width_in i logs m (life_of (logs 0) m)) n (taker_with i.shape.capacity (takes (logs 0)) landed m))
     (live_elsewhere i.shape.capacity (takes (logs 0)) places position line m nowhere apart)
 
-landed_elsewhere : (i : Image) (logs : Logs) (places landed : Places) (position line m : ℕ) → IsNowhere position landed → m ≢ line → row_with i logs places (with_entry position line landed) m ≡ row_with i logs places landed m
+landed_elsewhere : (i : Image) (logs : Logs) (places landed : Places) (position line m : ℕ) → IsNowhere position landed → m ≢ line
+    → row_with i logs places (with_entry position line landed) m ≡ row_with i logs places landed m
 landed_elsewhere i logs places landed position line m nowhere apart =
     ap (λ o. row_parts (state_of i logs m) (width_in i logs m (life_of (logs 0) m)) (live_with i.shape.capacity (takes (logs 0)) places m) o)
     (taker_elsewhere i.shape.capacity (takes (logs 0)) landed position line m nowhere apart)
 
 -- the next entry of its sector, among all
-next_is : (i : Image) (logs : Logs) (t : Taken) → IsRising (takes (logs 0)) → (its : IsEntry i.shape.capacity (takes (logs 0)) t) → next_take (logs 0) t ≡ find (is_same t) its.after
+next_is : (i : Image) (logs : Logs) (t : Taken) → IsRising (takes (logs 0)) → (its : IsEntry i.shape.capacity (takes (logs 0)) t)
+    → next_take (logs 0) t ≡ find (is_same t) its.after
 next_is i logs t rise its =
     ap (find (λ u. (u.mark.lba == t.mark.lba) && nat_lt t.entry.position u.entry.position)) its.is ∙ next_by its.before t its.after (subst IsRising its.is rise)
 
 -- an entry that is placed
-table_there : (i : Image) (logs : Logs) (places landed : Places) (line : ℕ) (t : Taken) → IsRising (takes (logs 0)) → IsEntry i.shape.capacity (takes (logs 0)) t → IsNowhere t.entry.position places
-    → table_of i.shape (row_with i logs (with_entry t.entry.position line places) landed) ≡ place_entry (logs 0) line (table_of i.shape (row_with i logs places landed)) t
+table_there : (i : Image) (logs : Logs) (places landed : Places) (line : ℕ) (t : Taken) → IsRising (takes (logs 0))
+    → IsEntry i.shape.capacity (takes (logs 0)) t → IsNowhere t.entry.position places
+    → table_of i.shape (row_with i logs (with_entry t.entry.position line places) landed) ≡ place_entry (logs 0) line
+    (table_of i.shape (row_with i logs places landed)) t
 table_there i logs places landed line t rise its nowhere =
     go (find (is_same t) its.after) refl
-    ∙ ap (λ o. place_by (option_map (λ (u : Taken). u.entry.position) o) line (table_of i.shape (row_with i logs places landed))) (sym (next_is i logs t rise its))
+    ∙ ap (λ o. place_by (option_map (λ (u : Taken). u.entry.position) o) line (table_of i.shape (row_with i logs places landed)))
+    (sym (next_is i logs t rise its))
   where
     risen : IsRising (its.before ++ t ∷ its.after)
     risen = subst IsRising its.is rise
 
     go : (o : Option Taken) → find (is_same t) its.after ≡ o
-        → table_of i.shape (row_with i logs (with_entry t.entry.position line places) landed) ≡ place_by (option_map (λ (u : Taken). u.entry.position) o) line (table_of i.shape (row_with i logs places landed))
+        → table_of i.shape (row_with i logs (with_entry t.entry.position line places) landed) ≡ place_by (option_map (λ (u : Taken). u.entry.position) o) line
+        (table_of i.shape (row_with i logs places landed))
     go None e = table_changes i.shape (row_with i logs places landed) (row_with i logs (with_entry t.entry.position line places) landed) line gained
         (ap (λ n. row_parts (state_of i logs line) (width_in i logs line (life_of (logs 0) line)) n (taker_with i.shape.capacity (takes (logs 0)) landed line))
         (subst (λ ts. live_with i.shape.capacity ts (with_entry t.entry.position line places) line ≡ live_with i.shape.capacity ts places line + 1) (sym its.is)
         (live_last i.shape.capacity its.before t its.after places line risen nowhere its.inside e)))
         (λ m other. row_elsewhere i logs places landed t.entry.position line m nowhere other)
-    go (Some u) e = tables_agree i.shape (row_with i logs places landed) (row_with i logs (with_entry t.entry.position line places) landed) (λ m. each m (nat_eq m line) refl)
+    go (Some u) e = tables_agree i.shape (row_with i logs places landed) (row_with i logs (with_entry t.entry.position line places) landed)
+        (λ m. each m (nat_eq m line) refl)
       where
         each : (m : ℕ) (b : Bool) → nat_eq m line ≡ b → row_with i logs (with_entry t.entry.position line places) landed m ≡ row_with i logs places landed m
         each m false f = row_elsewhere i logs places landed t.entry.position line m nowhere (eqb-false m line f)
-        each m true f = subst (λ n. row_with i logs (with_entry t.entry.position line places) landed n ≡ row_with i logs places landed n) (sym (eqb-true m line f))
-            (ap (λ n. row_parts (state_of i logs line) (width_in i logs line (life_of (logs 0) line)) n (taker_with i.shape.capacity (takes (logs 0)) landed line))
+        each m true f = subst (λ n. row_with i logs (with_entry t.entry.position line places) landed n ≡ row_with i logs places landed n)
+            (sym (eqb-true m line f))
+            (ap (λ n. row_parts (state_of i logs line) (width_in i logs line (life_of (logs 0) line)) n
+            (taker_with i.shape.capacity (takes (logs 0)) landed line))
             (subst (λ ts. live_with i.shape.capacity ts (with_entry t.entry.position line places) line ≡ live_with i.shape.capacity ts places line) (sym its.is)
             (live_later i.shape.capacity its.before t its.after u places line risen (found_at (is_same t) its.after u e))))
 
 -- an entry that has landed
-landed_there : (i : Image) (logs : Logs) (places landed : Places) (line : ℕ) (t : Taken) → IsRising (takes (logs 0)) → IsEntry i.shape.capacity (takes (logs 0)) t → IsNowhere t.entry.position landed
-    → table_of i.shape (row_with i logs places (with_entry t.entry.position line landed)) ≡ note_entry (logs 0) line (table_of i.shape (row_with i logs places landed)) t
+landed_there : (i : Image) (logs : Logs) (places landed : Places) (line : ℕ) (t : Taken) → IsRising (takes (logs 0))
+    → IsEntry i.shape.capacity (takes (logs 0)) t → IsNowhere t.entry.position landed
+    → table_of i.shape (row_with i logs places (with_entry t.entry.position line landed)) ≡ note_entry (logs 0) line
+    (table_of i.shape (row_with i logs places landed)) t
 landed_there i logs places landed line t rise its nowhere =
     go (find (is_same t) its.after) refl
-    ∙ ap (λ o. note_by (option_map (λ (u : Taken). u.entry.position) o) line (table_of i.shape (row_with i logs places landed))) (sym (next_is i logs t rise its))
+    ∙ ap (λ o. note_by (option_map (λ (u : Taken). u.entry.position) o) line (table_of i.shape (row_with i logs places landed)))
+    (sym (next_is i logs t rise its))
   where
     risen : IsRising (its.before ++ t ∷ its.after)
     risen = subst IsRising its.is rise
 
     go : (o : Option Taken) → find (is_same t) its.after ≡ o
-        → table_of i.shape (row_with i logs places (with_entry t.entry.position line landed)) ≡ note_by (option_map (λ (u : Taken). u.entry.position) o) line (table_of i.shape (row_with i logs places landed))
-    go None e = tables_agree i.shape (row_with i logs places landed) (row_with i logs places (with_entry t.entry.position line landed)) (λ m. each m (nat_eq m line) refl)
+        → table_of i.shape (row_with i logs places (with_entry t.entry.position line landed)) ≡ note_by (option_map (λ (u : Taken). u.entry.position) o) line
+        (table_of i.shape (row_with i logs places landed))
+    go None e = tables_agree i.shape (row_with i logs places landed) (row_with i logs places (with_entry t.entry.position line landed))
+        (λ m. each m (nat_eq m line) refl)
       where
         each : (m : ℕ) (b : Bool) → nat_eq m line ≡ b → row_with i logs places (with_entry t.entry.position line landed) m ≡ row_with i logs places landed m
         each m false f = landed_elsewhere i logs places landed t.entry.position line m nowhere (eqb-false m line f)
-        each m true f = subst (λ n. row_with i logs places (with_entry t.entry.position line landed) n ≡ row_with i logs places landed n) (sym (eqb-true m line f))
-            (ap (λ o. row_parts (state_of i logs line) (width_in i logs line (life_of (logs 0) line)) (live_with i.shape.capacity (takes (logs 0)) places line) o)
-            (subst (λ ts. taker_with i.shape.capacity ts (with_entry t.entry.position line landed) line ≡ taker_with i.shape.capacity ts landed line) (sym its.is)
+        each m true f = subst (λ n. row_with i logs places (with_entry t.entry.position line landed) n ≡ row_with i logs places landed n)
+            (sym (eqb-true m line f))
+            (ap (λ o. row_parts (state_of i logs line) (width_in i logs line (life_of (logs 0) line))
+            (live_with i.shape.capacity (takes (logs 0)) places line) o)
+            (subst (λ ts. taker_with i.shape.capacity ts (with_entry t.entry.position line landed) line ≡ taker_with i.shape.capacity ts landed line)
+            (sym its.is)
             (taker_last i.shape.capacity its.before t its.after landed line risen e)))
-    go (Some u) e = table_changes i.shape (row_with i logs places landed) (row_with i logs places (with_entry t.entry.position line landed)) line (noted u.entry.position)
+    go (Some u) e = table_changes i.shape (row_with i logs places landed) (row_with i logs places (with_entry t.entry.position line landed)) line
+        (noted u.entry.position)
         (ap (λ o. row_parts (state_of i logs line) (width_in i logs line (life_of (logs 0) line)) (live_with i.shape.capacity (takes (logs 0)) places line) o)
-        (subst (λ ts. taker_with i.shape.capacity ts (with_entry t.entry.position line landed) line ≡ Some (latest (taker_with i.shape.capacity ts landed line) u.entry.position)) (sym its.is)
+        (subst (λ ts. taker_with i.shape.capacity ts (with_entry t.entry.position line landed) line ≡ Some
+        (latest (taker_with i.shape.capacity ts landed line) u.entry.position)) (sym its.is)
         (taker_later i.shape.capacity its.before t its.after u landed line risen nowhere its.inside (found_at (is_same t) its.after u e))))
         (λ m other. landed_elsewhere i logs places landed t.entry.position line m nowhere other)
 
@@ -104,26 +125,33 @@ pub with_entries : ℕ → List Taken → Places → Places
 with_entries line [] places = places
 with_entries line (t ∷ ts) places = with_entries line ts (with_entry t.entry.position line places)
 
-still_nowhere : (position line : ℕ) (places : Places) (other : ℕ) → IsNowhere other places → other ≢ position → IsNowhere other (with_entry position line places)
+still_nowhere : (position line : ℕ) (places : Places) (other : ℕ) → IsNowhere other places → other ≢ position
+    → IsNowhere other (with_entry position line places)
 still_nowhere position line places other nowhere apart = λ lba u e.
     ap (λ b. if b then Some line else places lba (Some u)) (other_number u.entry.position position (λ f. apart (sym e ∙ f))) ∙ nowhere lba u e
 
-all_still : (position line : ℕ) (places : Places) (ts : List Taken) → AllByRecursion (λ u. position < u.entry.position) ts → AllByRecursion (λ t. IsNowhere t.entry.position places) ts
+all_still : (position line : ℕ) (places : Places) (ts : List Taken) → AllByRecursion (λ u. position < u.entry.position) ts
+    → AllByRecursion (λ t. IsNowhere t.entry.position places) ts
     → AllByRecursion (λ t. IsNowhere t.entry.position (with_entry position line places)) ts
 all_still position line places [] above all = tt
-all_still position line places (t ∷ ts) above all =
-    (still_nowhere position line places t.entry.position all.0 (λ e. let more : position < t.entry.position = above.0 in absurd (omega arith)), all_still position line places ts above.1 all.1)
+all_still position line places (t ∷ ts) above all = (
+  still_nowhere position line places t.entry.position all.0 (λ e. let more : position < t.entry.position = above.0 in absurd (omega arith)),
+  all_still position line places ts above.1 all.1,
+)
 
-pub entries_placed : (i : Image) (logs : Logs) (line : ℕ) (ts : List Taken) (places landed : Places) → IsRising (takes (logs 0)) → IsRising ts → AllByRecursion (IsEntry i.shape.capacity (takes (logs 0))) ts
+pub entries_placed : (i : Image) (logs : Logs) (line : ℕ) (ts : List Taken) (places landed : Places) → IsRising (takes (logs 0)) → IsRising ts
+    → AllByRecursion (IsEntry i.shape.capacity (takes (logs 0))) ts
     → AllByRecursion (λ t. IsNowhere t.entry.position places) ts
-    → table_of i.shape (row_with i logs (with_entries line ts places) landed) ≡ place_entries (logs 0) line (table_of i.shape (row_with i logs places landed)) ts
+    → table_of i.shape (row_with i logs (with_entries line ts places) landed) ≡ place_entries (logs 0) line
+    (table_of i.shape (row_with i logs places landed)) ts
 unfolding with_entries
 entries_placed i logs line [] places landed rise own all nowhere = refl
 entries_placed i logs line (t ∷ ts) places landed rise own all nowhere =
     entries_placed i logs line ts (with_entry t.entry.position line places) landed rise own.1 all.1 (all_still t.entry.position line places ts own.0 nowhere.1)
     ∙ ap (λ table. place_entries (logs 0) line table ts) (table_there i logs places landed line t rise all.0 nowhere.0)
 
-pub entries_landed : (i : Image) (logs : Logs) (line : ℕ) (ts : List Taken) (places landed : Places) → IsRising (takes (logs 0)) → IsRising ts → AllByRecursion (IsEntry i.shape.capacity (takes (logs 0))) ts
+pub entries_landed : (i : Image) (logs : Logs) (line : ℕ) (ts : List Taken) (places landed : Places) → IsRising (takes (logs 0)) → IsRising ts
+    → AllByRecursion (IsEntry i.shape.capacity (takes (logs 0))) ts
     → AllByRecursion (λ t. IsNowhere t.entry.position landed) ts
     → table_of i.shape (row_with i logs places (with_entries line ts landed)) ≡ note_entries (logs 0) line (table_of i.shape (row_with i logs places landed)) ts
 unfolding with_entries
@@ -139,7 +167,8 @@ or_if false true x y = refl
 or_if false false x y = refl
 
 -- an entry is in the line where it is one of them
-pub entries_are : (line : ℕ) (ts : List Taken) (places : Places) (lba : ℕ) (o : Option Taken) → with_entries line ts places lba o ≡ (if list_any (λ t. is_at t.entry.position o) ts then Some line else places lba o)
+pub entries_are : (line : ℕ) (ts : List Taken) (places : Places) (lba : ℕ) (o : Option Taken)
+    → with_entries line ts places lba o ≡ (if list_any (λ t. is_at t.entry.position o) ts then Some line else places lba o)
 unfolding with_entries
 entries_are line [] places lba o = refl
 entries_are line (t ∷ ts) places lba o =

@@ -49,11 +49,13 @@ first_kept log new same = ap (λ (x : Option Begun). option_map_or (λ (b : Begu
 placed_in : Shape → List Placed → List Taken → ℕ
 placed_in s ps ts = length (filter (λ t. nat_lt 0 (length (filter (holds_position s t.entry.position) ps))) ts)
 
-front_by : (s : Shape) (log new : List Logged) → begun new ≡ begun log → placements new ≡ placements log → takes new ≡ takes log → placed_front s new ≡ placed_front s log
+front_by : (s : Shape) (log new : List Logged) → begun new ≡ begun log → placements new ≡ placements log → takes new ≡ takes log
+    → placed_front s new ≡ placed_front s log
 unfolding placed_in
 front_by s log new same ps ts = ap₂ (λ m n. m + n) (first_kept log new same) (ap₂ (placed_in s) ps ts)
 
-pub front_kept : (s : Shape) (log : List Logged) (e : EngineEvent) (knows : List ℕ) → keeps_placed e ≡ true → placed_front s (with_event log e knows) ≡ placed_front s log
+pub front_kept : (s : Shape) (log : List Logged) (e : EngineEvent) (knows : List ℕ) → keeps_placed e ≡ true
+    → placed_front s (with_event log e knows) ≡ placed_front s log
 front_kept s log e knows keeps =
     let l : Logged = record { event = Decides e; knows = knows } in
     front_by s log (with_event log e knows) (begun_kept log e knows (begun_by_none e knows keeps))
@@ -67,7 +69,8 @@ front_taken s log entry mark knows none =
     let l : Logged = record { event = Decides (Take entry mark); knows = knows } in
     let new : List Logged = with_event log (Take entry mark) knows in
     let t : Taken = record { entry = entry; mark = mark } in
-    let never : was_placed s log t ≡ false = ap (λ (ps : List Placed). nat_lt 0 (length ps)) (filter_none (holds_position s entry.position) (placements log) none) in
+    let never : was_placed s log t ≡ false =
+    ap (λ (ps : List Placed). nat_lt 0 (length ps)) (filter_none (holds_position s entry.position) (placements log) none) in
     ap₂ (λ m n. m + n) (first_kept log new (begun_kept log (Take entry mark) knows refl))
     (ap length (filter_same (was_placed s new) (was_placed s log) (was_placed_same s log new (taking.alike log entry mark knows)) (takes new))
     ∙ ap (λ ts. length (filter (was_placed s log) ts)) (takes_more log l)
@@ -80,11 +83,13 @@ both_parts f [] = refl
 both_parts {X} f (x ∷ xs) = go (f x) (both_parts f xs)
   where
     go : (b : Bool) → length (filter f xs) + length (filter (λ x. not (f x)) xs) ≡ length xs
-        → length (cond b (x ∷ filter f xs) (filter f xs)) + length (cond (not b) (x ∷ filter (λ x. not (f x)) xs) (filter (λ x. not (f x)) xs)) ≡ suc (length xs)
+        → length (cond b (x ∷ filter f xs) (filter f xs)) + length (cond (not b) (x ∷ filter (λ x. not (f x)) xs) (filter (λ x. not (f x)) xs)) ≡ suc
+        (length xs)
     go true rest = omega arith
     go false rest = omega arith
 
-pub front_placed : (i : Image) (logs : Logs) (knows : List ℕ) (pad : ℕ) (o : Opening) (stripe : Stripe) (of : Program) → IsStripeOf i logs pad o stripe of → AreNumbered (logs 0)
+pub front_placed : (i : Image) (logs : Logs) (knows : List ℕ) (pad : ℕ) (o : Opening) (stripe : Stripe) (of : Program) → IsStripeOf i logs pad o stripe of
+    → AreNumbered (logs 0)
     → placed_front i.shape (after logs (Place stripe) knows 0) ≡ placed_front i.shape (logs 0) + (of.count - length (entries_of i.shape (logs 0) pad).lost)
 front_placed i logs knows pad o stripe of is numbered =
     let s : Shape = i.shape in
@@ -96,7 +101,8 @@ front_placed i logs knows pad o stripe of is numbered =
     let qs : List ℕ = next_positions s e (kind_of l its.0) in
     let lost : ℕ = length e.lost in
     let count : length qs ≡ of.count = ap (λ (x : Program). x.count) its.1.is in
-    let first : length qs ≡ min (length qs) (length (waiting e)) = ap (λ (xs : List ℕ). length xs) (next_are_first s e (kind_of l its.0)) ∙ length-take (length qs) (waiting e) in
+    let first : length qs ≡ min (length qs) (length (waiting e)) = ap (λ (xs : List ℕ). length xs) (next_are_first s e (kind_of l its.0))
+    ∙ length-take (length qs) (waiting e) in
     let all : length (waiting e) ≡ lost + length e.fresh = length-append e.lost e.fresh in
     let fresh : length e.fresh ≡ length (fresh_entries s log) = length-map (fresh_entries s log) (λ (t : Taken). t.entry.position) in
     let left : length (fresh_entries s new) ≡ length e.fresh - (of.count - lost) =

@@ -75,7 +75,9 @@ filter_all_none f fails [] = refl
 filter_all_none f fails (x ∷ xs) = ap (λ b. cond b (x ∷ filter f xs) (filter f xs)) (fails x) ∙ filter_all_none f fails xs
 
 no_times_lost : (s : Shape) (log : List Logged) → HaveNoLoss log → (t : Taken) → times_lost s log t ≡ 0
-no_times_lost s log none t = ap length (filter_all_none (λ p. was_lost log p && holds_position s t.entry.position p) (λ p. ap (λ b. b && holds_position s t.entry.position p) (never_lost log none p)) (placements log))
+no_times_lost s log none t = ap length
+    (filter_all_none (λ p. was_lost log p && holds_position s t.entry.position p)
+    (λ p. ap (λ b. b && holds_position s t.entry.position p) (never_lost log none p)) (placements log))
 
 not_both_zero : (k : ℕ) → ((k == 0) && nat_lt 0 k) ≡ false
 not_both_zero k = grind arith
@@ -90,16 +92,19 @@ fresh_are_last s log numbered order =
     (λ t. ap not (was_placed_by s log t ∙ ap (λ xs. is_in_list xs t.entry.position) order.placed)) (takes log)
     ∙ rest_are_last (first_position log) order.count (length (takes log)) (takes log) numbered
 
-pub waiting_are_last : (s : Shape) (log : List Logged) → AreNumbered log → HaveNoLoss log → (order : AreInOrder s log) → waiting s log ≡ drop order.count (takes log)
+pub waiting_are_last : (s : Shape) (log : List Logged) → AreNumbered log → HaveNoLoss log → (order : AreInOrder s log)
+    → waiting s log ≡ drop order.count (takes log)
 waiting_are_last s log numbered none order = ap₂ (λ (ts us : List Taken). ts ++ us) (none_lost s log none) (fresh_are_last s log numbered order)
 
 -- ---- the positions of a stripe of entries
 
-entries_bear : (s : Shape) (ts : List Taken) → AllByRecursion (λ (t : Taken). t.mark.lba < s.capacity) ts → AllByRecursion (λ (t : Taken). t.mark.position ≡ t.entry.position) ts
+entries_bear : (s : Shape) (ts : List Taken) → AllByRecursion (λ (t : Taken). t.mark.lba < s.capacity) ts
+    → AllByRecursion (λ (t : Taken). t.mark.position ≡ t.entry.position) ts
     → filter_map (position_in s) (map block_of_taken ts) ≡ positions_of ts
 entries_bear s [] named marked = refl
 entries_bear s (t ∷ ts) named marked =
-    ap (λ b. cons_option (if is_some (if b then Some (Some t.mark.lba) else (if t.mark.lba == void_lba then Some None else None)) then Some t.mark.position else None) (filter_map (position_in s) (map block_of_taken ts))) (lt_true t.mark.lba s.capacity named.0)
+    ap (λ b. cons_option (if is_some (if b then Some (Some t.mark.lba) else (if t.mark.lba == void_lba then Some None else None)) then Some t.mark.position else
+    None) (filter_map (position_in s) (map block_of_taken ts))) (lt_true t.mark.lba s.capacity named.0)
     ∙ ap₂ (λ q qs. q ∷ qs) marked.0 (entries_bear s ts named.1 marked.1)
 
 positions_dropped : (n : ℕ) (ts : List Taken) → positions_of (drop n ts) ≡ drop n (positions_of ts)
@@ -107,20 +112,26 @@ positions_dropped zero ts = refl
 positions_dropped (suc n) [] = refl
 positions_dropped (suc n) (t ∷ ts) = positions_dropped n ts
 
-data_positions : (s : Shape) (log : List Logged) → s.capacity ≤ meta_lba → AreNumbered log → AreMarked log → AreNamed s log → HaveNoLoss log → (order : AreInOrder s log)
+data_positions : (s : Shape) (log : List Logged) → s.capacity ≤ meta_lba → AreNumbered log → AreMarked log → AreNamed s log → HaveNoLoss log
+    → (order : AreInOrder s log)
     → filter_map (position_in s) (data_blocks s log) ≡ range_with_len (first_position log + order.count) (min s.ws_opt (length (takes log) - order.count))
 data_positions s log small numbered marked named none order =
     let ts : List Taken = take s.ws_opt (drop order.count (takes log)) in
     let pads : List Block = replicate (s.ws_opt - length (map block_of_taken ts)) (pad_block s) in
-    ap (λ (us : List Taken). filter_map (position_in s) (map block_of_taken (take s.ws_opt us) ++ replicate (s.ws_opt - length (map block_of_taken (take s.ws_opt us))) (pad_block s))) (waiting_are_last s log numbered none order)
+    ap (λ (us : List Taken). filter_map (position_in s)
+    (map block_of_taken (take s.ws_opt us) ++ replicate (s.ws_opt - length (map block_of_taken (take s.ws_opt us))) (pad_block s)))
+    (waiting_are_last s log numbered none order)
     ∙ filter_map-append (position_in s) (map block_of_taken ts) pads
     ∙ ap (λ qs. filter_map (position_in s) (map block_of_taken ts) ++ qs) (no_pad_positions s (s.ws_opt - length (map block_of_taken ts)) small)
     ∙ append-nil (filter_map (position_in s) (map block_of_taken ts))
     ∙ entries_bear s ts
-    (all_taken (λ (t : Taken). t.mark.lba < s.capacity) s.ws_opt (drop order.count (takes log)) (all_dropped (λ (t : Taken). t.mark.lba < s.capacity) order.count (takes log) named))
-    (all_taken (λ (t : Taken). t.mark.position ≡ t.entry.position) s.ws_opt (drop order.count (takes log)) (all_dropped (λ (t : Taken). t.mark.position ≡ t.entry.position) order.count (takes log) marked))
+    (all_taken (λ (t : Taken). t.mark.lba < s.capacity) s.ws_opt (drop order.count (takes log))
+    (all_dropped (λ (t : Taken). t.mark.lba < s.capacity) order.count (takes log) named))
+    (all_taken (λ (t : Taken). t.mark.position ≡ t.entry.position) s.ws_opt (drop order.count (takes log))
+    (all_dropped (λ (t : Taken). t.mark.position ≡ t.entry.position) order.count (takes log) marked))
     ∙ positions_taken s.ws_opt (drop order.count (takes log))
-    ∙ ap (take s.ws_opt) (positions_dropped order.count (takes log) ∙ ap (drop order.count) numbered ∙ range_dropped (first_position log) order.count (length (takes log)))
+    ∙ ap (take s.ws_opt) (positions_dropped order.count (takes log) ∙ ap (drop order.count) numbered
+    ∙ range_dropped (first_position log) order.count (length (takes log)))
     ∙ range_taken (first_position log + order.count) s.ws_opt (length (takes log) - order.count)
 
 -- a stripe that is placed next holds the next positions, or none
@@ -129,14 +140,19 @@ pub record IsInOrder (s : Shape) (log : List Logged) (from : ℕ) (stripe : Stri
   pub within : from + count ≤ length (takes log)
   pub positions : positions_in_stripe s stripe ≡ range_with_len (first_position log + from) count
 
-holds_no_position : (s : Shape) (log : List Logged) (from : ℕ) (stripe : Stripe) (bs : List Block) → from ≤ length (takes log) → stripe.blocks ≡ bs → filter_map (position_in s) bs ≡ [] → IsInOrder s log from stripe
+holds_no_position : (s : Shape) (log : List Logged) (from : ℕ) (stripe : Stripe) (bs : List Block) → from ≤ length (takes log) → stripe.blocks ≡ bs
+    → filter_map (position_in s) bs ≡ [] → IsInOrder s log from stripe
 holds_no_position s log from stripe bs within is none = record { count = 0; within = omega arith; positions = ap (filter_map (position_in s)) is ∙ none }
 
-by_kind : (i : Image) (logs : Logs) (stripe : Stripe) (o : Opening) → i.shape.capacity ≤ meta_lba → AreNumbered (logs 0) → AreMarked (logs 0) → AreNamed i.shape (logs 0) → HaveNoLoss (logs 0) → (order : AreInOrder i.shape (logs 0))
+by_kind : (i : Image) (logs : Logs) (stripe : Stripe) (o : Opening) → i.shape.capacity ≤ meta_lba → AreNumbered (logs 0) → AreMarked (logs 0)
+    → AreNamed i.shape (logs 0) → HaveNoLoss (logs 0) → (order : AreInOrder i.shape (logs 0))
     → IsStart i logs o stripe ⊎ (IsData i logs o stripe ⊎ (IsEnd i logs o stripe ⊎ IsPad i logs o stripe)) → IsInOrder i.shape (logs 0) order.count stripe
 by_kind i logs stripe o small numbered marked named none order (inl is) =
-    holds_no_position i.shape (logs 0) order.count stripe (slice_range (record_blocks i.shape o.start.seq (start_len i.shape) (start_bytes i.shape o.start)) (next_address i.shape (logs 0) o - 0) (next_address i.shape (logs 0) o - 0 + i.shape.ws_opt)) order.within is.blocks
-    (record_positions i.shape o.start.seq (start_len i.shape) (start_bytes i.shape o.start) (next_address i.shape (logs 0) o - 0) (next_address i.shape (logs 0) o - 0 + i.shape.ws_opt) small)
+    holds_no_position i.shape (logs 0) order.count stripe
+    (slice_range (record_blocks i.shape o.start.seq (start_len i.shape) (start_bytes i.shape o.start)) (next_address i.shape (logs 0) o - 0)
+    (next_address i.shape (logs 0) o - 0 + i.shape.ws_opt)) order.within is.blocks
+    (record_positions i.shape o.start.seq (start_len i.shape) (start_bytes i.shape o.start) (next_address i.shape (logs 0) o - 0)
+    (next_address i.shape (logs 0) o - 0 + i.shape.ws_opt) small)
 by_kind i logs stripe o small numbered marked named none order (inr (inl is)) =
     let within : order.count ≤ length (takes (logs 0)) = order.within in
     record {
@@ -145,18 +161,24 @@ by_kind i logs stripe o small numbered marked named none order (inr (inl is)) =
       positions = ap (filter_map (position_in i.shape)) is.blocks ∙ data_positions i.shape (logs 0) small numbered marked named none order;
     }
 by_kind i logs stripe o small numbered marked named none order (inr (inr (inl is))) =
-    holds_no_position i.shape (logs 0) order.count stripe (slice_range (record_blocks i.shape o.start.seq (end_len i.shape o.start.width) (end_bytes i.shape (end_record i.shape (logs 0) o))) (next_address i.shape (logs 0) o - end_address i.shape o) (next_address i.shape (logs 0) o - end_address i.shape o + i.shape.ws_opt)) order.within is.blocks
-    (record_positions i.shape o.start.seq (end_len i.shape o.start.width) (end_bytes i.shape (end_record i.shape (logs 0) o)) (next_address i.shape (logs 0) o - end_address i.shape o) (next_address i.shape (logs 0) o - end_address i.shape o + i.shape.ws_opt) small)
+    holds_no_position i.shape (logs 0) order.count stripe
+    (slice_range (record_blocks i.shape o.start.seq (end_len i.shape o.start.width) (end_bytes i.shape (end_record i.shape (logs 0) o)))
+    (next_address i.shape (logs 0) o - end_address i.shape o) (next_address i.shape (logs 0) o - end_address i.shape o + i.shape.ws_opt)) order.within
+    is.blocks
+    (record_positions i.shape o.start.seq (end_len i.shape o.start.width) (end_bytes i.shape (end_record i.shape (logs 0) o))
+    (next_address i.shape (logs 0) o - end_address i.shape o) (next_address i.shape (logs 0) o - end_address i.shape o + i.shape.ws_opt) small)
 by_kind i logs stripe o small numbered marked named none order (inr (inr (inr is))) =
     holds_no_position i.shape (logs 0) order.count stripe (replicate i.shape.ws_opt (pad_block i.shape)) order.within is.blocks
     (no_pad_positions i.shape i.shape.ws_opt small)
 
-pub next_in_order : (i : Image) (logs : Logs) (stripe : Stripe) → i.shape.capacity ≤ meta_lba → (is : IsOrdered i.shape (logs 0)) → MayPlace i logs stripe → IsInOrder i.shape (logs 0) is.order.count stripe
+pub next_in_order : (i : Image) (logs : Logs) (stripe : Stripe) → i.shape.capacity ≤ meta_lba → (is : IsOrdered i.shape (logs 0)) → MayPlace i logs stripe
+    → IsInOrder i.shape (logs 0) is.order.count stripe
 next_in_order i logs stripe small is may = by_kind i logs stripe may.opening small is.numbered is.marked is.named is.no_loss is.order may.kind
 
 -- ---- what each event keeps
 
-named_after : (i : Image) (known : Logs) (log : List Logged) (beginning : Begun) (e : EngineEvent) (knows : List ℕ) → IsDecision i known beginning e → is_plain_decision e ≡ true
+named_after : (i : Image) (known : Logs) (log : List Logged) (beginning : Begun) (e : EngineEvent) (knows : List ℕ) → IsDecision i known beginning e
+    → is_plain_decision e ≡ true
     → AreNamed i.shape log → AreNamed i.shape (log ++ record { event = Decides e; knows = knows } ∷ [])
 named_after i known log beginning (Take entry mark) knows may plain is =
     let l : Logged = record { event = Decides (Take entry mark); knows = knows } in
@@ -168,22 +190,28 @@ named_after i known log beginning e knows may plain is =
     let l : Logged = record { event = Decides e; knows = knows } in
     subst (AllByRecursion (λ (t : Taken). t.mark.lba < i.shape.capacity)) (sym (takes_more log l ∙ append-nil (takes log))) is
 
-answer_is_none : (e : EngineEvent) (unit : ℕ) → is_plain_decision e ≡ true → AllByRecursion (λ (a : Answer). is_loss (Some a) ≡ false) (option_to_list (answer_by unit (Decides e)))
-answer_is_none (Landed other event) unit plain = elim (other == unit) as (λ b. AllByRecursion (λ (a : Answer). is_loss (Some a) ≡ false) (option_to_list (if b then Some (DidLand event) else None))) [
-  | true ↦ (refl, tt)
-  | false ↦ tt
-]
+answer_is_none : (e : EngineEvent) (unit : ℕ) → is_plain_decision e ≡ true
+    → AllByRecursion (λ (a : Answer). is_loss (Some a) ≡ false) (option_to_list (answer_by unit (Decides e)))
+answer_is_none (Landed other event) unit plain =
+    elim (other == unit) as (λ b. AllByRecursion (λ (a : Answer). is_loss (Some a) ≡ false) (option_to_list (if b then Some (DidLand event) else None))) [
+      | true ↦ (refl, tt)
+      | false ↦ tt
+    ]
 answer_is_none (Lost other event) unit plain = absurd cc
 answer_is_none e unit plain = tt
 
-pub no_loss_after : (log : List Logged) (e : EngineEvent) (knows : List ℕ) → is_plain_decision e ≡ true → HaveNoLoss log → HaveNoLoss (log ++ record { event = Decides e; knows = knows } ∷ [])
+pub no_loss_after : (log : List Logged) (e : EngineEvent) (knows : List ℕ) → is_plain_decision e ≡ true → HaveNoLoss log
+    → HaveNoLoss (log ++ record { event = Decides e; knows = knows } ∷ [])
 no_loss_after log e knows plain none unit =
     let l : Logged = record { event = Decides e; knows = knows } in
     subst (AllByRecursion (λ (a : Answer). is_loss (Some a) ≡ false)) (sym (answers_more log l unit))
-    (all_append (λ (a : Answer). is_loss (Some a) ≡ false) (answers log unit) (option_to_list (answer_by unit (Decides e))) (none unit) (answer_is_none e unit plain))
+    (all_append (λ (a : Answer). is_loss (Some a) ≡ false) (answers log unit) (option_to_list (answer_by unit (Decides e))) (none unit)
+    (answer_is_none e unit plain))
 
-order_with : (s : Shape) (log : List Logged) (e : EngineEvent) (knows : List ℕ) (beginning : Begun) → begun log ≡ Some beginning → (order : AreInOrder s log) (n : ℕ) → order.count + n ≤ length (takes log)
-    → flat_map (λ (p : Placed). positions_in_stripe s p.stripe) (option_to_list (placed_by log (length log) (Decides e))) ≡ range_with_len (first_position log + order.count) n
+order_with : (s : Shape) (log : List Logged) (e : EngineEvent) (knows : List ℕ) (beginning : Begun) → begun log ≡ Some beginning
+    → (order : AreInOrder s log) (n : ℕ) → order.count + n ≤ length (takes log)
+    → flat_map (λ (p : Placed). positions_in_stripe s p.stripe) (option_to_list (placed_by log (length log) (Decides e))) ≡ range_with_len
+    (first_position log + order.count) n
     → AreInOrder s (log ++ record { event = Decides e; knows = knows } ∷ [])
 order_with s log e knows beginning begins order n within added =
     let l : Logged = record { event = Decides e; knows = knows } in
@@ -198,17 +226,23 @@ order_with s log e knows beginning begins order n within added =
           ∙ ap (λ a. range_with_len a (order.count + n)) (sym (first_stays log l beginning begins));
     }
 
-order_after : (i : Image) (known : Logs) (log : List Logged) (beginning : Begun) (e : EngineEvent) (knows : List ℕ) → i.shape.capacity ≤ meta_lba → begun log ≡ Some beginning → known 0 ≡ log
+order_after : (i : Image) (known : Logs) (log : List Logged) (beginning : Begun) (e : EngineEvent) (knows : List ℕ) → i.shape.capacity ≤ meta_lba
+    → begun log ≡ Some beginning → known 0 ≡ log
     → IsDecision i known beginning e → IsOrdered i.shape log → AreInOrder i.shape (log ++ record { event = Decides e; knows = knows } ∷ [])
 order_after i known log beginning (Place stripe) knows small begins own may is =
-    let next : IsInOrder i.shape log is.order.count stripe = subst (λ (x : List Logged). (is : IsOrdered i.shape x) → IsInOrder i.shape x is.order.count stripe) own (λ is. next_in_order i known stripe small is may) is in
-    order_with i.shape log (Place stripe) knows beginning begins is.order next.count next.within (append-nil (positions_in_stripe i.shape stripe) ∙ next.positions)
+    let next : IsInOrder i.shape log is.order.count stripe =
+    subst (λ (x : List Logged). (is : IsOrdered i.shape x) → IsInOrder i.shape x is.order.count stripe) own
+    (λ is. next_in_order i known stripe small is may) is in
+    order_with i.shape log (Place stripe) knows beginning begins is.order next.count next.within
+    (append-nil (positions_in_stripe i.shape stripe) ∙ next.positions)
 order_after i known log beginning e knows small begins own may is =
     let within : is.order.count ≤ length (takes log) = is.order.within in
     order_with i.shape log e knows beginning begins is.order 0 (omega arith) refl
 
-kept_after : (i : Image) (known : Logs) (log : List Logged) (beginning : Begun) (e : EngineEvent) (knows : List ℕ) → i.shape.capacity ≤ meta_lba → begun log ≡ Some beginning → known 0 ≡ log
-    → IsDecision i known beginning e → is_plain_decision e ≡ true → IsOrdered i.shape log → IsOrdered i.shape (log ++ record { event = Decides e; knows = knows } ∷ [])
+kept_after : (i : Image) (known : Logs) (log : List Logged) (beginning : Begun) (e : EngineEvent) (knows : List ℕ) → i.shape.capacity ≤ meta_lba
+    → begun log ≡ Some beginning → known 0 ≡ log
+    → IsDecision i known beginning e → is_plain_decision e ≡ true → IsOrdered i.shape log
+    → IsOrdered i.shape (log ++ record { event = Decides e; knows = knows } ∷ [])
 kept_after i known log beginning e knows small begins own may plain is = record {
   numbered = numbered_after i known log beginning e knows begins own may is.numbered;
   marked = marked_after i known log beginning e knows may is.marked;
@@ -218,11 +252,13 @@ kept_after i known log beginning e knows small begins own may plain is = record 
 }
 
 begins_ordered : (s : Shape) (b : Beginning) (knows : List ℕ) → IsOrdered s (record { event = Decides (Begin b); knows = knows } ∷ [])
-begins_ordered s b knows = record { numbered = refl; marked = tt; named = tt; no_loss = λ unit. tt; order = record { count = 0; within = omega arith; placed = refl } }
+begins_ordered s b knows = record
+    { numbered = refl; marked = tt; named = tt; no_loss = λ unit. tt; order = record { count = 0; within = omega arith; placed = refl } }
 
 kept : (i : Image) → i.shape.capacity ≤ meta_lba → IsKept i (IsOrdered i.shape)
 kept i small log known (Begin b) knows own may plain is =
-    subst (λ (xs : List Logged). IsOrdered i.shape (xs ++ record { event = Decides (Begin b); knows = knows } ∷ [])) (sym may.is_first ∙ own) (begins_ordered i.shape b knows)
+    subst (λ (xs : List Logged). IsOrdered i.shape (xs ++ record { event = Decides (Begin b); knows = knows } ∷ [])) (sym may.is_first ∙ own)
+    (begins_ordered i.shape b knows)
 kept i small log known e knows own may plain is = kept_after i known log may.0 e knows small (ap begun (sym own) ∙ may.1) own may.2 plain is
 
 pub ordered : (i : Image) (w : World) → IsSimpleMount i w → IsOrdered i.shape (log_of w 0)
@@ -247,11 +283,13 @@ count_is s log is =
 pub in_order : (s : Shape) (log : List Logged) → IsOrdered s log → placed_positions s log ≡ range_with_len (first_position log) (placed_count s log)
 in_order s log is = is.order.placed ∙ ap (range_with_len (first_position log)) (sym (count_is s log is))
 
-pub some_hold_below : (s : Shape) (log : List Logged) → IsOrdered s log → (q : ℕ) → list_any (holds_position s q) (placements log) ≡ (nat_le (first_position log) q && nat_lt q (placed_front s log))
+pub some_hold_below : (s : Shape) (log : List Logged) → IsOrdered s log → (q : ℕ)
+    → list_any (holds_position s q) (placements log) ≡ (nat_le (first_position log) q && nat_lt q (placed_front s log))
 some_hold_below s log is q =
     some_hold s q (placements log) ∙ ap (λ xs. is_in_list xs q) (in_order s log is) ∙ in_range (first_position log) (placed_count s log) q
 
-pub fresh_in_order : (s : Shape) (log : List Logged) → IsOrdered s log → positions_of (fresh_entries s log) ≡ range_with_len (placed_front s log) (taken log - placed_front s log)
+pub fresh_in_order : (s : Shape) (log : List Logged) → IsOrdered s log
+    → positions_of (fresh_entries s log) ≡ range_with_len (placed_front s log) (taken log - placed_front s log)
 fresh_in_order s log is =
     let same : placed_count s log ≡ is.order.count = count_is s log is in
     let left : length (takes log) - is.order.count ≡ taken log - placed_front s log = omega arith in
@@ -273,16 +311,21 @@ from_first a n [] is = tt
 from_first a zero (t ∷ ts) is = absurd cc
 from_first a (suc n) (t ∷ ts) is =
     let first : t.entry.position ≡ a = cc in
-    let rest : positions_of ts ≡ range_with_len (a + 1) n = cc in
-    (omega arith, all_imply (λ (u : Taken). a + 1 ≤ u.entry.position) (λ (u : Taken). a ≤ u.entry.position) (λ u h. omega arith) ts (from_first (a + 1) n ts rest))
+    let rest : positions_of ts ≡ range_with_len (a + 1) n = cc in (
+      omega arith,
+      all_imply (λ (u : Taken). a + 1 ≤ u.entry.position) (λ (u : Taken). a ≤ u.entry.position) (λ u h. omega arith) ts
+          (from_first (a + 1) n ts rest),
+    )
 
 not_under : (a q : ℕ) (b : Bool) → a ≤ q → (nat_le a q && b) ≡ b
 not_under a q b above = grind arith
 
-pub placed_below : (s : Shape) (log : List Logged) → IsOrdered s log → AllByRecursion (λ (t : Taken). was_placed s log t ≡ nat_lt t.entry.position (placed_front s log)) (takes log)
+pub placed_below : (s : Shape) (log : List Logged) → IsOrdered s log
+    → AllByRecursion (λ (t : Taken). was_placed s log t ≡ nat_lt t.entry.position (placed_front s log)) (takes log)
 placed_below s log is =
     all_imply (λ (t : Taken). first_position log ≤ t.entry.position) (λ (t : Taken). was_placed s log t ≡ nat_lt t.entry.position (placed_front s log))
-    (λ t above. was_placed_by s log t ∙ ap (λ xs. is_in_list xs t.entry.position) (in_order s log is) ∙ in_range (first_position log) (placed_count s log) t.entry.position
+    (λ t above. was_placed_by s log t ∙ ap (λ xs. is_in_list xs t.entry.position) (in_order s log is)
+    ∙ in_range (first_position log) (placed_count s log) t.entry.position
     ∙ not_under (first_position log) t.entry.position (nat_lt t.entry.position (placed_front s log)) above)
     (takes log) (from_first (first_position log) (length (takes log)) (takes log) is.numbered)
 
@@ -291,10 +334,12 @@ pub record HoldsNext (s : Shape) (log : List Logged) (stripe : Stripe) : Type 0 
   pub positions : positions_in_stripe s stripe ≡ range_with_len (placed_front s log) (length (positions_in_stripe s stripe))
   pub within : placed_front s log + length (positions_in_stripe s stripe) ≤ taken log
 
-pub holds_next : (i : Image) (logs : Logs) (stripe : Stripe) → i.shape.capacity ≤ meta_lba → IsOrdered i.shape (logs 0) → MayPlace i logs stripe → HoldsNext i.shape (logs 0) stripe
+pub holds_next : (i : Image) (logs : Logs) (stripe : Stripe) → i.shape.capacity ≤ meta_lba → IsOrdered i.shape (logs 0) → MayPlace i logs stripe
+    → HoldsNext i.shape (logs 0) stripe
 holds_next i logs stripe small is may =
     let next : IsInOrder i.shape (logs 0) is.order.count stripe = next_in_order i logs stripe small is may in
-    let count : length (positions_in_stripe i.shape stripe) ≡ next.count = ap (λ (qs : List ℕ). length qs) next.positions ∙ length-range_with_len (first_position (logs 0) + is.order.count) next.count in
+    let count : length (positions_in_stripe i.shape stripe) ≡ next.count = ap (λ (qs : List ℕ). length qs) next.positions
+    ∙ length-range_with_len (first_position (logs 0) + is.order.count) next.count in
     let same : placed_count i.shape (logs 0) ≡ is.order.count = count_is i.shape (logs 0) is in
     let within : is.order.count + next.count ≤ length (takes (logs 0)) = next.within in
     record {

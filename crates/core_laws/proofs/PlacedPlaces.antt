@@ -48,16 +48,21 @@ none_borne s q (b ∷ bs) all = ap₂ (λ c d. (c && (b.mark.position == q)) || 
 
 pads_unnamed : (s : Shape) (n : ℕ) → s.capacity ≤ meta_lba → AllByRecursion (IsUnnamed s) (replicate n (pad_block s))
 unfolding IsUnnamed
-pads_unnamed s n small = all_replicated (λ (b : Block). is_some (named s b.mark) ≡ false) n (pad_block s) (unnamed_mark s pad_mark small (omega arith) (λ e. absurd (omega (arith, e))))
+pads_unnamed s n small = all_replicated (λ (b : Block). is_some (named s b.mark) ≡ false) n (pad_block s)
+    (unnamed_mark s pad_mark small (omega arith) (λ e. absurd (omega (arith, e))))
 
-records_unnamed : (s : Shape) (size seq count : ℕ) (bytes : List ℕ) → s.capacity ≤ meta_lba → AllByRecursion (IsUnnamed s) (blocks_of size bytes (replicate count (meta_mark seq)))
+records_unnamed : (s : Shape) (size seq count : ℕ) (bytes : List ℕ) → s.capacity ≤ meta_lba
+    → AllByRecursion (IsUnnamed s) (blocks_of size bytes (replicate count (meta_mark seq)))
 unfolding IsUnnamed
 records_unnamed s size seq zero bytes small = tt
-records_unnamed s size seq (suc count) bytes small = (unnamed_mark s (meta_mark seq) small (omega arith) (λ e. absurd (omega (arith, e))), records_unnamed s size seq count (drop size bytes) small)
+records_unnamed s size seq (suc count) bytes small =
+    (unnamed_mark s (meta_mark seq) small (omega arith) (λ e. absurd (omega (arith, e))), records_unnamed s size seq count (drop size bytes) small)
 
-part_unnamed : (s : Shape) (seq count : ℕ) (bytes : List ℕ) (from to : ℕ) → s.capacity ≤ meta_lba → AllByRecursion (IsUnnamed s) (slice_range (record_blocks s seq count bytes) from to)
+part_unnamed : (s : Shape) (seq count : ℕ) (bytes : List ℕ) (from to : ℕ) → s.capacity ≤ meta_lba
+    → AllByRecursion (IsUnnamed s) (slice_range (record_blocks s seq count bytes) from to)
 part_unnamed s seq count bytes from to small =
-    all_taken (IsUnnamed s) (to - from) (drop from (record_blocks s seq count bytes)) (all_dropped (IsUnnamed s) from (record_blocks s seq count bytes) (records_unnamed s s.sector seq count bytes small))
+    all_taken (IsUnnamed s) (to - from) (drop from (record_blocks s seq count bytes))
+    (all_dropped (IsUnnamed s) from (record_blocks s seq count bytes) (records_unnamed s s.sector seq count bytes small))
 
 -- a stripe bears just the positions of these entries
 unfoldable pub BearsThese : Shape → Stripe → List Taken → Type 0
@@ -70,9 +75,11 @@ turned_round m n = go (nat_eq m n) refl
     go true e = ap (λ k. k == n) (eqb-true m n e) ∙ ap (λ k. n == k) (sym (eqb-true m n e))
     go false e = e ∙ sym (other_number n m (λ f. eqb-false m n e (sym f)))
 
-entry_bears : (s : Shape) (q : ℕ) (t : Taken) → t.mark.lba < s.capacity → t.mark.position ≡ t.entry.position → bears_position s q (block_of_taken t) ≡ (q == t.entry.position)
+entry_bears : (s : Shape) (q : ℕ) (t : Taken) → t.mark.lba < s.capacity → t.mark.position ≡ t.entry.position
+    → bears_position s q (block_of_taken t) ≡ (q == t.entry.position)
 entry_bears s q t inside marked =
-    ap₂ (λ a n. is_some (if a then Some (Some t.mark.lba) else (if t.mark.lba == void_lba then Some None else None)) && (n == q)) (lt_true t.mark.lba s.capacity inside) marked
+    ap₂ (λ a n. is_some (if a then Some (Some t.mark.lba) else (if t.mark.lba == void_lba then Some None else None)) && (n == q))
+    (lt_true t.mark.lba s.capacity inside) marked
     ∙ turned_round t.entry.position q
 
 -- what is known of each of the entries
@@ -80,11 +87,13 @@ pub record IsNamed (s : Shape) (t : Taken) : Type 0 where
   pub inside : t.mark.lba < s.capacity
   pub marked : t.mark.position ≡ t.entry.position
 
-entries_bear : (s : Shape) (q : ℕ) (ts : List Taken) → AllByRecursion (IsNamed s) ts → list_any (bears_position s q) (map block_of_taken ts) ≡ list_any (λ t. q == t.entry.position) ts
+entries_bear : (s : Shape) (q : ℕ) (ts : List Taken) → AllByRecursion (IsNamed s) ts
+    → list_any (bears_position s q) (map block_of_taken ts) ≡ list_any (λ t. q == t.entry.position) ts
 entries_bear s q [] all = refl
 entries_bear s q (t ∷ ts) all = ap₂ (λ a b. a || b) (entry_bears s q t all.0.inside all.0.marked) (entries_bear s q ts all.1)
 
-pub data_bears : (i : Image) (logs : Logs) (o : Opening) (stripe : Stripe) → i.shape.capacity ≤ meta_lba → IsData i logs o stripe → AllByRecursion (IsNamed i.shape) (take i.shape.ws_opt (waiting i.shape (logs 0)))
+pub data_bears : (i : Image) (logs : Logs) (o : Opening) (stripe : Stripe) → i.shape.capacity ≤ meta_lba → IsData i logs o stripe
+    → AllByRecursion (IsNamed i.shape) (take i.shape.ws_opt (waiting i.shape (logs 0)))
     → BearsThese i.shape stripe (take i.shape.ws_opt (waiting i.shape (logs 0)))
 unfolding BearsThese
 data_bears i logs o stripe small its all = λ q.
@@ -93,31 +102,40 @@ data_bears i logs o stripe small its all = λ q.
     ap (list_any (bears_position i.shape q)) its.blocks
     ∙ list_any-append (bears_position i.shape q) (map block_of_taken ts) (replicate (s.ws_opt - length (map block_of_taken ts)) (pad_block s))
     ∙ ap₂ (λ a b. a || b) (entries_bear i.shape q ts all)
-    (none_borne i.shape q (replicate (s.ws_opt - length (map block_of_taken ts)) (pad_block s)) (pads_unnamed i.shape (s.ws_opt - length (map block_of_taken ts)) small))
+    (none_borne i.shape q (replicate (s.ws_opt - length (map block_of_taken ts)) (pad_block s))
+    (pads_unnamed i.shape (s.ws_opt - length (map block_of_taken ts)) small))
     ∙ or_no (list_any (λ (t : Taken). q == t.entry.position) ts)
 
-pub others_bear : (i : Image) (logs : Logs) (o : Opening) (stripe : Stripe) → i.shape.capacity ≤ meta_lba → IsStart i logs o stripe ⊎ (IsEnd i logs o stripe ⊎ IsPad i logs o stripe) → BearsThese i.shape stripe []
+pub others_bear : (i : Image) (logs : Logs) (o : Opening) (stripe : Stripe) → i.shape.capacity ≤ meta_lba
+    → IsStart i logs o stripe ⊎ (IsEnd i logs o stripe ⊎ IsPad i logs o stripe) → BearsThese i.shape stripe []
 unfolding BearsThese
 others_bear i logs o stripe small (inl its) = λ q. ap (list_any (bears_position i.shape q)) its.blocks
-    ∙ none_borne i.shape q (slice_range (record_blocks i.shape o.start.seq (start_len i.shape) (start_bytes i.shape o.start)) (next_address i.shape (logs 0) o - 0) (next_address i.shape (logs 0) o - 0 + i.shape.ws_opt))
-    (part_unnamed i.shape o.start.seq (start_len i.shape) (start_bytes i.shape o.start) (next_address i.shape (logs 0) o - 0) (next_address i.shape (logs 0) o - 0 + i.shape.ws_opt) small)
+    ∙ none_borne i.shape q (slice_range (record_blocks i.shape o.start.seq (start_len i.shape) (start_bytes i.shape o.start))
+    (next_address i.shape (logs 0) o - 0) (next_address i.shape (logs 0) o - 0 + i.shape.ws_opt))
+    (part_unnamed i.shape o.start.seq (start_len i.shape) (start_bytes i.shape o.start) (next_address i.shape (logs 0) o - 0)
+    (next_address i.shape (logs 0) o - 0 + i.shape.ws_opt) small)
 others_bear i logs o stripe small (inr (inl its)) = λ q. ap (list_any (bears_position i.shape q)) its.blocks
-    ∙ none_borne i.shape q (slice_range (record_blocks i.shape o.start.seq (end_len i.shape o.start.width) (end_bytes i.shape (end_record i.shape (logs 0) o))) (next_address i.shape (logs 0) o - end_address i.shape o) (next_address i.shape (logs 0) o - end_address i.shape o + i.shape.ws_opt))
-    (part_unnamed i.shape o.start.seq (end_len i.shape o.start.width) (end_bytes i.shape (end_record i.shape (logs 0) o)) (next_address i.shape (logs 0) o - end_address i.shape o) (next_address i.shape (logs 0) o - end_address i.shape o + i.shape.ws_opt) small)
+    ∙ none_borne i.shape q (slice_range (record_blocks i.shape o.start.seq (end_len i.shape o.start.width) (end_bytes i.shape (end_record i.shape (logs 0) o)))
+    (next_address i.shape (logs 0) o - end_address i.shape o) (next_address i.shape (logs 0) o - end_address i.shape o + i.shape.ws_opt))
+    (part_unnamed i.shape o.start.seq (end_len i.shape o.start.width) (end_bytes i.shape (end_record i.shape (logs 0) o))
+    (next_address i.shape (logs 0) o - end_address i.shape o) (next_address i.shape (logs 0) o - end_address i.shape o + i.shape.ws_opt) small)
 others_bear i logs o stripe small (inr (inr its)) = λ q. ap (list_any (bears_position i.shape q)) its.blocks
     ∙ none_borne i.shape q (replicate i.shape.ws_opt (pad_block i.shape)) (pads_unnamed i.shape i.shape.ws_opt small)
 
 -- ---- where entries are
 
-force_now : (log : List Logged) (stripe : Stripe) (knows : List ℕ) (life : LineLife) (line : ℕ) → is_in_force (with_place log stripe knows) life line ≡ is_in_force log life line
+force_now : (log : List Logged) (stripe : Stripe) (knows : List ℕ) (life : LineLife) (line : ℕ)
+    → is_in_force (with_place log stripe knows) life line ≡ is_in_force log life line
 force_now log stripe knows AsFound line = refl
 force_now log stripe knows (Opened o) line = ap (is_life o.number) (life_more log (record { event = Decides (Place stripe); knows = knows }) line)
 force_now log stripe knows (Freed past k) line = refl
 
 -- the position's line: the stripe's for one that it bears, which no stripe held before
 either_line : (old : Option Placed) (p : Placed) (b : Bool) → (b ≡ true → option_map (λ (q : Placed). q.stripe.line) old ≡ None)
-    → option_map (λ (q : Placed). q.stripe.line) (option_or old (cond b (Some p) None)) ≡ (if b then Some p.stripe.line else option_map (λ (q : Placed). q.stripe.line) old)
-either_line old p true nowhere = ap (λ o. option_map (λ (q : Placed). q.stripe.line) (option_or o (Some p))) (none_of_map (λ (q : Placed). q.stripe.line) old (nowhere refl))
+    → option_map (λ (q : Placed). q.stripe.line) (option_or old (cond b (Some p) None)) ≡
+    (if b then Some p.stripe.line else option_map (λ (q : Placed). q.stripe.line) old)
+either_line old p true nowhere =
+    ap (λ o. option_map (λ (q : Placed). q.stripe.line) (option_or o (Some p))) (none_of_map (λ (q : Placed). q.stripe.line) old (nowhere refl))
 either_line None p false nowhere = refl
 either_line (Some x) p false nowhere = refl
 
@@ -128,27 +146,33 @@ position_now s log stripe knows o q is nowhere =
     let new : List Logged = with_place log stripe knows in
     let p : Placed = new_placed log stripe o in
     let life : life_of new stripe.line ≡ Opened o = life_more log (record { event = Decides (Place stripe); knows = knows }) stripe.line ∙ is.opened in
-    ap (λ ps. option_map (λ (r : Placed). r.stripe.line) (find (λ (r : Placed). holds_position s q r && not (was_lost new r) && is_in_force new r.life r.stripe.line) ps)) (placements_now log stripe knows o is.opened)
+    ap (λ ps. option_map (λ (r : Placed). r.stripe.line)
+    (find (λ (r : Placed). holds_position s q r && not (was_lost new r) && is_in_force new r.life r.stripe.line) ps))
+    (placements_now log stripe knows o is.opened)
     ∙ ap (option_map (λ (r : Placed). r.stripe.line))
     (find-append (λ (r : Placed). holds_position s q r && not (was_lost new r) && is_in_force new r.life r.stripe.line) (placements log) (p ∷ [])
     ∙ ap₂ (λ a b. option_or a (cond b (Some p) None))
     (find_agree (λ (r : Placed). r.number < length log) (λ (r : Placed). holds_position s q r && not (was_lost new r) && is_in_force new r.life r.stripe.line)
     (λ (r : Placed). holds_position s q r && not (was_lost log r) && is_in_force log r.life r.stripe.line)
-    (λ r before. ap₂ (λ a b. holds_position s q r && not (is_loss a) && b) (answer_now log stripe knows o r is.opened (le_of_lt before)) (force_now log stripe knows r.life r.stripe.line))
+    (λ r before. ap₂ (λ a b. holds_position s q r && not (is_loss a) && b) (answer_now log stripe knows o r is.opened (le_of_lt before))
+    (force_now log stripe knows r.life r.stripe.line))
     (placements log) (placements_before log))
     (ap₂ (λ a l. holds_position s q p && not (is_loss a) && is_life o.number l) (new_unanswered log stripe knows o is) life
     ∙ ap (λ b. holds_position s q p && true && b) (same_number o.number) ∙ and_true (holds_position s q p && true) ∙ and_true (holds_position s q p)))
-    ∙ either_line (find (λ (r : Placed). holds_position s q r && not (was_lost log r) && is_in_force log r.life r.stripe.line) (placements log)) p (list_any (bears_position s q) stripe.blocks) nowhere
+    ∙ either_line (find (λ (r : Placed). holds_position s q r && not (was_lost log r) && is_in_force log r.life r.stripe.line) (placements log)) p
+    (list_any (bears_position s q) stripe.blocks) nowhere
   where
     and_true : (b : Bool) → (b && true) ≡ b
     and_true true = refl
     and_true false = refl
 
-pub any_nowhere : (place : ℕ → Option ℕ) (q : ℕ) (ts : List Taken) → AllByRecursion (λ t. place t.entry.position ≡ None) ts → list_any (λ t. q == t.entry.position) ts ≡ true → place q ≡ None
+pub any_nowhere : (place : ℕ → Option ℕ) (q : ℕ) (ts : List Taken) → AllByRecursion (λ t. place t.entry.position ≡ None) ts
+    → list_any (λ t. q == t.entry.position) ts ≡ true → place q ≡ None
 any_nowhere place q [] all e = absurd cc
 any_nowhere place q (t ∷ ts) all e = go (nat_eq q t.entry.position) refl e (λ f. any_nowhere place q ts all.1 f)
   where
-    go : (b : Bool) → nat_eq q t.entry.position ≡ b → (b || list_any (λ u. q == u.entry.position) ts) ≡ true → (list_any (λ u. q == u.entry.position) ts ≡ true → place q ≡ None) → place q ≡ None
+    go : (b : Bool) → nat_eq q t.entry.position ≡ b → (b || list_any (λ u. q == u.entry.position) ts) ≡ true
+        → (list_any (λ u. q == u.entry.position) ts ≡ true → place q ≡ None) → place q ≡ None
     go true f h rest = ap place (eqb-true q t.entry.position f) ∙ all.0
     go false f h rest = rest h
 
@@ -156,36 +180,44 @@ pub none_at : (ts : List Taken) → list_any (λ t. is_at t.entry.position None)
 none_at [] = refl
 none_at (t ∷ ts) = none_at ts
 
-pub places_now : (i : Image) (logs : Logs) (stripe : Stripe) (knows : List ℕ) (o : Opening) (ts : List Taken) → IsPlacing (logs 0) stripe o → BearsThese i.shape stripe ts
+pub places_now : (i : Image) (logs : Logs) (stripe : Stripe) (knows : List ℕ) (o : Opening) (ts : List Taken) → IsPlacing (logs 0) stripe o
+    → BearsThese i.shape stripe ts
     → AllByRecursion (λ t. line_of_position i.shape (logs 0) t.entry.position ≡ None) ts
     → (lba : ℕ) (t : Option Taken) → line_of i (after logs (Place stripe) knows) lba t ≡ with_entries stripe.line ts (line_of i logs) lba t
 unfolding BearsThese
 places_now i logs stripe knows o ts is bears nowhere lba None =
-    winner_kept i logs (after logs (Place stripe) knows) (found_kept i logs (Place stripe) knows refl) (λ line. life_more (logs 0) (record { event = Decides (Place stripe); knows = knows }) line) lba
+    winner_kept i logs (after logs (Place stripe) knows) (found_kept i logs (Place stripe) knows refl)
+    (λ line. life_more (logs 0) (record { event = Decides (Place stripe); knows = knows }) line) lba
     ∙ sym (entries_are stripe.line ts (line_of i logs) lba None ∙ ap (λ b. if b then Some stripe.line else line_of i logs lba None) (none_at ts))
 places_now i logs stripe knows o ts is bears nowhere lba (Some u) =
-    position_now i.shape (logs 0) stripe knows o u.entry.position is (λ e. any_nowhere (line_of_position i.shape (logs 0)) u.entry.position ts nowhere (sym (bears u.entry.position) ∙ e))
+    position_now i.shape (logs 0) stripe knows o u.entry.position is
+    (λ e. any_nowhere (line_of_position i.shape (logs 0)) u.entry.position ts nowhere (sym (bears u.entry.position) ∙ e))
     ∙ ap (λ b. if b then Some stripe.line else line_of_position i.shape (logs 0) u.entry.position) (bears u.entry.position)
     ∙ sym (entries_are stripe.line ts (line_of i logs) lba (Some u))
 
 -- what has landed is where it was
 
-landed_same_line : (s : Shape) (log : List Logged) (stripe : Stripe) (knows : List ℕ) (o : Opening) (q : ℕ) → IsPlacing log stripe o → landed_line s (with_place log stripe knows) q ≡ landed_line s log q
+landed_same_line : (s : Shape) (log : List Logged) (stripe : Stripe) (knows : List ℕ) (o : Opening) (q : ℕ) → IsPlacing log stripe o
+    → landed_line s (with_place log stripe knows) q ≡ landed_line s log q
 landed_same_line s log stripe knows o q is =
     let new : List Logged = with_place log stripe knows in
     let p : Placed = new_placed log stripe o in
-    ap (λ ps. option_map (λ (r : Placed). r.stripe.line) (find (λ (r : Placed). holds_position s q r && has_landed new r && is_in_force new r.life r.stripe.line) ps)) (placements_now log stripe knows o is.opened)
+    ap (λ ps. option_map (λ (r : Placed). r.stripe.line)
+    (find (λ (r : Placed). holds_position s q r && has_landed new r && is_in_force new r.life r.stripe.line) ps))
+    (placements_now log stripe knows o is.opened)
     ∙ ap (option_map (λ (r : Placed). r.stripe.line))
     (find_fails_last (λ (r : Placed). holds_position s q r && has_landed new r && is_in_force new r.life r.stripe.line) (placements log) p
     (not_first (holds_position s q p && has_landed new p) (is_in_force new p.life p.stripe.line)
     (and_false (holds_position s q p) (has_landed new p) (ap is_land (new_unanswered log stripe knows o is))))
     ∙ find_agree (λ (r : Placed). r.number < length log) (λ (r : Placed). holds_position s q r && has_landed new r && is_in_force new r.life r.stripe.line)
     (λ (r : Placed). holds_position s q r && has_landed log r && is_in_force log r.life r.stripe.line)
-    (λ r before. ap₂ (λ a b. holds_position s q r && is_land a && b) (answer_now log stripe knows o r is.opened (le_of_lt before)) (force_now log stripe knows r.life r.stripe.line))
+    (λ r before. ap₂ (λ a b. holds_position s q r && is_land a && b) (answer_now log stripe knows o r is.opened (le_of_lt before))
+    (force_now log stripe knows r.life r.stripe.line))
     (placements log) (placements_before log))
 
 pub landed_placed : (i : Image) (logs : Logs) (stripe : Stripe) (knows : List ℕ) (o : Opening) → IsPlacing (logs 0) stripe o → (lba : ℕ) (t : Option Taken)
     → landed_line_of i (after logs (Place stripe) knows) lba t ≡ landed_line_of i logs lba t
 landed_placed i logs stripe knows o is lba None =
-    winner_kept i logs (after logs (Place stripe) knows) (found_kept i logs (Place stripe) knows refl) (λ line. life_more (logs 0) (record { event = Decides (Place stripe); knows = knows }) line) lba
+    winner_kept i logs (after logs (Place stripe) knows) (found_kept i logs (Place stripe) knows refl)
+    (λ line. life_more (logs 0) (record { event = Decides (Place stripe); knows = knows }) line) lba
 landed_placed i logs stripe knows o is lba (Some u) = landed_same_line i.shape (logs 0) stripe knows o u.entry.position is

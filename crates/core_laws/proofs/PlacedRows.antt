@@ -44,14 +44,16 @@ use Rattle.pblk_world.proofs.EngineLogLemmas.{takes_more}
 
 -- ---- states stay
 
-failed_now : (log : List Logged) (stripe : Stripe) (knows : List ℕ) (o other : Opening) → IsPlacing log stripe o → has_failed (with_place log stripe knows) other ≡ has_failed log other
+failed_now : (log : List Logged) (stripe : Stripe) (knows : List ℕ) (o other : Opening) → IsPlacing log stripe o
+    → has_failed (with_place log stripe knows) other ≡ has_failed log other
 failed_now log stripe knows o other is = go (is_life other.number (Opened o)) refl
   where
     go : (b : Bool) → is_life other.number (Opened o) ≡ b → has_failed (with_place log stripe knows) other ≡ has_failed log other
     go true e =
         ap (list_any (was_lost (with_place log stripe knows))) (stripes_now log stripe knows o other true is.opened e)
         ∙ list_any-append (was_lost (with_place log stripe knows)) (stripes_of log other) (new_placed log stripe o ∷ [])
-        ∙ ap₂ (λ a b. a || (b || false)) (losses_now log stripe knows o other is.opened) (ap is_loss (new_unanswered log stripe knows o is)) ∙ or_no (has_failed log other)
+        ∙ ap₂ (λ a b. a || (b || false)) (losses_now log stripe knows o other is.opened) (ap is_loss (new_unanswered log stripe knows o is))
+        ∙ or_no (has_failed log other)
     go false e =
         ap (list_any (was_lost (with_place log stripe knows))) (stripes_now log stripe knows o other false is.opened e ∙ append-nil (stripes_of log other))
         ∙ losses_now log stripe knows o other is.opened
@@ -68,7 +70,8 @@ first_pass f xs y n fails = go (nat_le n (length xs)) refl
     rest true e above =
         let within : n ≤ length (xs ++ y ∷ []) = grind arith in
         let all : length (xs ++ y ∷ []) ≤ n = omega (arith, count) in
-        ap (list_all f) (take_all n (xs ++ y ∷ []) all) ∙ list_all-append f xs (y ∷ []) ∙ ap (λ b. list_all f xs && (b && true)) fails ∙ and_false (list_all f xs)
+        ap (list_all f) (take_all n (xs ++ y ∷ []) all) ∙ list_all-append f xs (y ∷ []) ∙ ap (λ b. list_all f xs && (b && true)) fails
+        ∙ and_false (list_all f xs)
       where
         and_false : (b : Bool) → (b && false) ≡ false
         and_false true = refl
@@ -91,27 +94,33 @@ old_landed log stripe knows o other n is =
     (all_taken (λ (p : Placed). p.number < length log) n (stripes_of log other)
     (all_filter (λ (p : Placed). p.number < length log) (λ (p : Placed). is_life other.number p.life) (placements log) (placements_before log)))
 
-landed_now : (log : List Logged) (stripe : Stripe) (knows : List ℕ) (o other : Opening) (n : ℕ) → IsPlacing log stripe o → have_landed (with_place log stripe knows) other n ≡ have_landed log other n
+landed_now : (log : List Logged) (stripe : Stripe) (knows : List ℕ) (o other : Opening) (n : ℕ) → IsPlacing log stripe o
+    → have_landed (with_place log stripe knows) other n ≡ have_landed log other n
 landed_now log stripe knows o other n is = go (is_life other.number (Opened o)) refl
   where
     go : (b : Bool) → is_life other.number (Opened o) ≡ b → have_landed (with_place log stripe knows) other n ≡ have_landed log other n
     go true e =
-        ap (λ (ps : List Placed). nat_le n (length ps) && list_all (has_landed (with_place log stripe knows)) (take n ps)) (stripes_now log stripe knows o other true is.opened e)
-        ∙ first_pass (has_landed (with_place log stripe knows)) (stripes_of log other) (new_placed log stripe o) n (ap is_land (new_unanswered log stripe knows o is))
+        ap (λ (ps : List Placed). nat_le n (length ps) && list_all (has_landed (with_place log stripe knows)) (take n ps))
+        (stripes_now log stripe knows o other true is.opened e)
+        ∙ first_pass (has_landed (with_place log stripe knows)) (stripes_of log other) (new_placed log stripe o) n
+        (ap is_land (new_unanswered log stripe knows o is))
         ∙ ap (λ b. nat_le n (length (stripes_of log other)) && b) (old_landed log stripe knows o other n is)
     go false e =
-        ap (λ (ps : List Placed). nat_le n (length ps) && list_all (has_landed (with_place log stripe knows)) (take n ps)) (stripes_now log stripe knows o other false is.opened e ∙ append-nil (stripes_of log other))
+        ap (λ (ps : List Placed). nat_le n (length ps) && list_all (has_landed (with_place log stripe knows)) (take n ps))
+        (stripes_now log stripe knows o other false is.opened e ∙ append-nil (stripes_of log other))
         ∙ ap (λ b. nat_le n (length (stripes_of log other)) && b) (old_landed log stripe knows o other n is)
 
 -- ---- rows by where the entries are
 
 pub table_was : (i : Image) (logs : Logs) → NoneFreed (logs 0) → rows_of i logs ≡ table_of i.shape (row_with i logs (line_of i logs) (landed_line_of i logs))
 table_was i logs freed = tables_agree i.shape (row_with i logs (line_of i logs) (landed_line_of i logs)) (row_of_line i logs) (λ m.
-    same_row (state_of i logs m) (state_of i logs m) (width_in i logs m (life_of (logs 0) m)) (width_in i logs m (life_of (logs 0) m)) (row_of_line i logs m).live (row_of_line i logs m).live
+    same_row (state_of i logs m) (state_of i logs m) (width_in i logs m (life_of (logs 0) m)) (width_in i logs m (life_of (logs 0) m))
+    (row_of_line i logs m).live (row_of_line i logs m).live
     (taker_in i logs m (life_of (logs 0) m)) (taker_by i logs m) refl refl refl (taker_is i logs m (life_of (logs 0) m) (freed m)))
 
 table_now : (i : Image) (logs : Logs) (stripe : Stripe) (knows : List ℕ) (o : Opening) (places : Places) → IsPlacing (logs 0) stripe o → NoneFreed (logs 0)
-    → line_of i (after logs (Place stripe) knows) ≡ places → rows_of i (after logs (Place stripe) knows) ≡ table_of i.shape (row_with i logs places (landed_line_of i logs))
+    → line_of i (after logs (Place stripe) knows) ≡ places
+    → rows_of i (after logs (Place stripe) knows) ≡ table_of i.shape (row_with i logs places (landed_line_of i logs))
 table_now i logs stripe knows o places is freed same =
     tables_agree i.shape (row_with i logs places (landed_line_of i logs)) (row_of_line i (after logs (Place stripe) knows)) (λ m. each m)
   where
@@ -122,24 +131,36 @@ table_now i logs stripe knows o places is freed same =
     each m =
         let new : Logs = after logs (Place stripe) knows in
         let life : life_of (new 0) m ≡ life_of (logs 0) m = life_more (logs 0) (record { event = Decides (Place stripe); knows = knows }) m in
-        let taken_same : takes (new 0) ≡ takes (logs 0) = takes_more (logs 0) (record { event = Decides (Place stripe); knows = knows }) ∙ append-nil (takes (logs 0)) in
+        let taken_same : takes (new 0) ≡ takes (logs 0) = takes_more (logs 0) (record { event = Decides (Place stripe); knows = knows })
+        ∙ append-nil (takes (logs 0)) in
         let known : known_image i new ≡ known_image i logs = known_kept i logs (Place stripe) knows refl (λ unit. refl) in
-        let chunks : KeepsChunks i logs new m = record { found = found_kept i logs (Place stripe) knows refl; empty = ap (λ (j : Image). are_empty j m) known; wide = ap (λ (j : Image). width j m) known } in
+        let chunks : KeepsChunks i logs new m =
+        record {
+          found = found_kept i logs (Place stripe) knows refl;
+          empty = ap (λ (j : Image). are_empty j m) known;
+          wide =
+              ap (λ (j : Image). width j m) known;
+        } in
         same_row (state_in i new m (life_of (new 0) m)) (state_of i logs m) (width_in i new m (life_of (new 0) m)) (width_in i logs m (life_of (logs 0) m))
-        (row_of_line i new m).live (live_with i.shape.capacity (takes (logs 0)) places m) (taker_in i new m (life_of (new 0) m)) (taker_with i.shape.capacity (takes (logs 0)) (landed_line_of i logs) m)
+        (row_of_line i new m).live (live_with i.shape.capacity (takes (logs 0)) places m) (taker_in i new m (life_of (new 0) m))
+        (taker_with i.shape.capacity (takes (logs 0)) (landed_line_of i logs) m)
         (ap (state_in i new m) life ∙ state_same i logs new m (life_of (logs 0) m) chunks (freed m)
-        (λ p e. ap₂ (λ a b. if a then states.Failed else if b then states.Full else states.Open) (failed_now (logs 0) stripe knows o p is) (landed_now (logs 0) stripe knows o p (line_end i.shape p / i.shape.ws_opt) is)))
+        (λ p e. ap₂ (λ a b. if a then states.Failed else if b then states.Full else states.Open) (failed_now (logs 0) stripe knows o p is)
+        (landed_now (logs 0) stripe knows o p (line_end i.shape p / i.shape.ws_opt) is)))
         (ap (width_in i new m) life ∙ width_same i logs new m (life_of (logs 0) m) chunks (freed m))
         (ap₂ (λ ts ps. live_with i.shape.capacity ts ps m) taken_same same)
         (ap (taker_in i new m) life ∙ taker_is i new m (life_of (logs 0) m) (freed m) ∙ ap₂ (λ ts ps. taker_with i.shape.capacity ts ps m) taken_same landed_is)
 
-rows_by : (i : Image) (logs : Logs) (stripe : Stripe) (knows : List ℕ) (o : Opening) (ts : List Taken) → IsPlacing (logs 0) stripe o → NoneFreed (logs 0) → BearsThese i.shape stripe ts → IsRising (takes (logs 0)) → IsRising ts
+rows_by : (i : Image) (logs : Logs) (stripe : Stripe) (knows : List ℕ) (o : Opening) (ts : List Taken) → IsPlacing (logs 0) stripe o → NoneFreed (logs 0)
+    → BearsThese i.shape stripe ts → IsRising (takes (logs 0)) → IsRising ts
     → AllByRecursion (IsEntry i.shape.capacity (takes (logs 0))) ts → AllByRecursion (λ t. IsUnplaced i.shape (logs 0) t.entry.position) ts
     → rows_of i (after logs (Place stripe) knows) ≡ place_entries (logs 0) stripe.line (rows_of i logs) ts
 rows_by i logs stripe knows o ts is freed bears rise own all unplaced =
     let nowhere : AllByRecursion (λ t. line_of_position i.shape (logs 0) t.entry.position ≡ None) ts =
-    all_imply (λ (t : Taken). IsUnplaced i.shape (logs 0) t.entry.position) (λ (t : Taken). line_of_position i.shape (logs 0) t.entry.position ≡ None) (λ t h. in_no_line i.shape (logs 0) t.entry.position h) ts unplaced in
-    let same : line_of i (after logs (Place stripe) knows) ≡ with_entries stripe.line ts (line_of i logs) = λ k lba t. places_now i logs stripe knows o ts is bears nowhere lba t k in
+    all_imply (λ (t : Taken). IsUnplaced i.shape (logs 0) t.entry.position) (λ (t : Taken). line_of_position i.shape (logs 0) t.entry.position ≡ None)
+    (λ t h. in_no_line i.shape (logs 0) t.entry.position h) ts unplaced in
+    let same : line_of i (after logs (Place stripe) knows) ≡ with_entries stripe.line ts (line_of i logs) =
+    λ k lba t. places_now i logs stripe knows o ts is bears nowhere lba t k in
     table_now i logs stripe knows o (with_entries stripe.line ts (line_of i logs)) is freed same
     ∙ entries_placed i logs stripe.line ts (line_of i logs) (landed_line_of i logs) rise own all
     (all_imply (λ (t : Taken). line_of_position i.shape (logs 0) t.entry.position ≡ None) (λ (t : Taken). IsNowhere t.entry.position (line_of i logs))
@@ -147,15 +168,18 @@ rows_by i logs stripe knows o ts is freed bears rise own all unplaced =
     ∙ ap (λ table. place_entries (logs 0) stripe.line table ts) (sym (table_was i logs freed))
 
 -- a stripe without entries
-pub rows_beside : (i : Image) (logs : Logs) (stripe : Stripe) (knows : List ℕ) (o : Opening) → i.shape.capacity ≤ meta_lba → IsPlacing (logs 0) stripe o → NoneFreed (logs 0) → AreNumbered (logs 0)
+pub rows_beside : (i : Image) (logs : Logs) (stripe : Stripe) (knows : List ℕ) (o : Opening) → i.shape.capacity ≤ meta_lba → IsPlacing (logs 0) stripe o
+    → NoneFreed (logs 0) → AreNumbered (logs 0)
     → IsStart i logs o stripe ⊎ (IsEnd i logs o stripe ⊎ IsPad i logs o stripe) → rows_of i (after logs (Place stripe) knows) ≡ rows_of i logs
 rows_beside i logs stripe knows o small is freed numbered its =
-    rows_by i logs stripe knows o [] is freed (others_bear i logs o stripe small its) (rising_by (first_position (logs 0)) (length (takes (logs 0))) (takes (logs 0)) numbered) tt tt tt
+    rows_by i logs stripe knows o [] is freed (others_bear i logs o stripe small its)
+    (rising_by (first_position (logs 0)) (length (takes (logs 0))) (takes (logs 0)) numbered) tt tt tt
 
 -- ---- the entries that wait where none was lost
 
 none_lost : (s : Shape) (log : List Logged) (t : Taken) → NoneLost log → times_lost s log t ≡ 0
-none_lost s log t fine = ap (λ (ps : List Placed). length ps) (filter_none (λ p. was_lost log p && holds_position s t.entry.position p) (placements log) (each (placements log)))
+none_lost s log t fine = ap (λ (ps : List Placed). length ps)
+    (filter_none (λ p. was_lost log p && holds_position s t.entry.position p) (placements log) (each (placements log)))
   where
     each : (ps : List Placed) → AllByRecursion (λ p. (was_lost log p && holds_position s t.entry.position p) ≡ false) ps
     each [] = tt
@@ -170,7 +194,8 @@ not_again s log t fine = ap (λ n. (times_placed s log t == n) && was_placed s l
 
 pub waiting_fresh : (s : Shape) (log : List Logged) → NoneLost log → waiting s log ≡ filter (λ t. not (was_placed s log t)) (takes log)
 waiting_fresh s log fine = ap (λ ts. ts ++ filter (λ t. not (was_placed s log t)) (takes log))
-    (filter_none (λ t. waits s log t && was_placed s log t) (takes log) (all_of (λ t. (waits s log t && was_placed s log t) ≡ false) (λ t. not_again s log t fine) (takes log)))
+    (filter_none (λ t. waits s log t && was_placed s log t) (takes log)
+    (all_of (λ t. (waits s log t && was_placed s log t) ≡ false) (λ t. not_again s log t fine) (takes log)))
 
 rising_filtered : (test : Taken → Bool) (ts : List Taken) → IsRising ts → IsRising (filter test ts)
 rising_filtered test [] rise = tt
@@ -189,38 +214,47 @@ none_pass : {X : Type 0} (test : X → Bool) (xs : List X) → not (nat_lt 0 (le
 none_pass test [] e = tt
 none_pass {X} test (x ∷ xs) e = go (test x) refl e (λ f. none_pass test xs f)
   where
-    go : (b : Bool) → test x ≡ b → not (nat_lt 0 (length (cond b (x ∷ filter test xs) (filter test xs)))) ≡ true → (not (nat_lt 0 (length (filter test xs))) ≡ true → AllByRecursion (λ x. test x ≡ false) xs)
+    go : (b : Bool) → test x ≡ b → not (nat_lt 0 (length (cond b (x ∷ filter test xs) (filter test xs)))) ≡ true
+        → (not (nat_lt 0 (length (filter test xs))) ≡ true → AllByRecursion (λ x. test x ≡ false) xs)
         → AllByRecursion (λ x. test x ≡ false) (x ∷ xs)
     go true f h rest = absurd (cc (sym (ap not (lt_true 0 (suc (length (filter test xs))) (omega arith))) ∙ h))
     go false f h rest = (f, rest h)
 
 -- what holds of all fresh entries holds of the first ones that wait
-first_waiting : (s : Shape) (log : List Logged) (P : Taken → Type 0) → NoneLost log → AllByRecursion P (filter (λ t. not (was_placed s log t)) (takes log)) → AllByRecursion P (take s.ws_opt (waiting s log))
+first_waiting : (s : Shape) (log : List Logged) (P : Taken → Type 0) → NoneLost log → AllByRecursion P (filter (λ t. not (was_placed s log t)) (takes log))
+    → AllByRecursion P (take s.ws_opt (waiting s log))
 first_waiting s log P fine all = all_taken P s.ws_opt (waiting s log) (subst (AllByRecursion P) (sym (waiting_fresh s log fine)) all)
 
 -- a stripe of entries
-pub rows_placed : (i : Image) (logs : Logs) (stripe : Stripe) (knows : List ℕ) (o : Opening) → i.shape.capacity ≤ meta_lba → IsPlacing (logs 0) stripe o → NoneFreed (logs 0) → NoneLost (logs 0)
+pub rows_placed : (i : Image) (logs : Logs) (stripe : Stripe) (knows : List ℕ) (o : Opening) → i.shape.capacity ≤ meta_lba → IsPlacing (logs 0) stripe o
+    → NoneFreed (logs 0) → NoneLost (logs 0)
     → AreNumbered (logs 0) → AreMarked (logs 0) → AreOfSectors i.shape (logs 0) → IsData i logs o stripe
     → rows_of i (after logs (Place stripe) knows) ≡ place_entries (logs 0) stripe.line (rows_of i logs) (take i.shape.ws_opt (waiting i.shape (logs 0)))
 rows_placed i logs stripe knows o small is freed fine numbered marked sectors its =
     let rise : IsRising (takes (logs 0)) = rising_by (first_position (logs 0)) (length (takes (logs 0))) (takes (logs 0)) numbered in
     let waits_fresh : waiting i.shape (logs 0) ≡ filter (λ t. not (was_placed i.shape (logs 0) t)) (takes (logs 0)) = waiting_fresh i.shape (logs 0) fine in
     rows_by i logs stripe knows o (take i.shape.ws_opt (waiting i.shape (logs 0))) is freed
-    (data_bears i logs o stripe small its (first_waiting i.shape (logs 0) (IsNamed i.shape) fine (all_filter (IsNamed i.shape) (λ t. not (was_placed i.shape (logs 0) t)) (takes (logs 0))
-    (zipped (λ (t : Taken). t.mark.lba < i.shape.capacity) (λ (t : Taken). t.mark.position ≡ t.entry.position) (IsNamed i.shape) (λ t a b. record { inside = a; marked = b }) (takes (logs 0)) sectors marked))))
+    (data_bears i logs o stripe small its
+    (first_waiting i.shape (logs 0) (IsNamed i.shape) fine (all_filter (IsNamed i.shape) (λ t. not (was_placed i.shape (logs 0) t)) (takes (logs 0))
+    (zipped (λ (t : Taken). t.mark.lba < i.shape.capacity) (λ (t : Taken). t.mark.position ≡ t.entry.position) (IsNamed i.shape)
+    (λ t a b. record { inside = a; marked = b }) (takes (logs 0)) sectors marked))))
     rise
-    (rising_taken i.shape.ws_opt (waiting i.shape (logs 0)) (subst IsRising (sym waits_fresh) (rising_filtered (λ t. not (was_placed i.shape (logs 0) t)) (takes (logs 0)) rise)))
-    (first_waiting i.shape (logs 0) (IsEntry i.shape.capacity (takes (logs 0))) fine (all_filter (IsEntry i.shape.capacity (takes (logs 0))) (λ t. not (was_placed i.shape (logs 0) t)) (takes (logs 0))
+    (rising_taken i.shape.ws_opt (waiting i.shape (logs 0))
+    (subst IsRising (sym waits_fresh) (rising_filtered (λ t. not (was_placed i.shape (logs 0) t)) (takes (logs 0)) rise)))
+    (first_waiting i.shape (logs 0) (IsEntry i.shape.capacity (takes (logs 0))) fine
+    (all_filter (IsEntry i.shape.capacity (takes (logs 0))) (λ t. not (was_placed i.shape (logs 0) t)) (takes (logs 0))
     (zipped (λ (t : Taken). t.mark.lba < i.shape.capacity) (IsAmong (takes (logs 0))) (IsEntry i.shape.capacity (takes (logs 0)))
     (λ t a b. entry_at i.shape.capacity (takes (logs 0)) b.0 t b.1 a) (takes (logs 0)) sectors (among_all (takes (logs 0))))))
-    (first_waiting i.shape (logs 0) (λ (t : Taken). IsUnplaced i.shape (logs 0) t.entry.position) fine (all_imply (λ t. not (was_placed i.shape (logs 0) t) ≡ true) (λ (t : Taken). IsUnplaced i.shape (logs 0) t.entry.position)
+    (first_waiting i.shape (logs 0) (λ (t : Taken). IsUnplaced i.shape (logs 0) t.entry.position) fine
+    (all_imply (λ t. not (was_placed i.shape (logs 0) t) ≡ true) (λ (t : Taken). IsUnplaced i.shape (logs 0) t.entry.position)
     (λ t h. none_pass (holds_position i.shape t.entry.position) (placements (logs 0)) h) (filter (λ t. not (was_placed i.shape (logs 0) t)) (takes (logs 0)))
     (all_passed (λ t. not (was_placed i.shape (logs 0) t)) (takes (logs 0)))))
 
 -- ---- some first ones of them
 
 -- what holds of all fresh entries holds of so many that wait
-some_waiting : (s : Shape) (log : List Logged) (P : Taken → Type 0) (n : ℕ) → NoneLost log → AllByRecursion P (filter (λ t. not (was_placed s log t)) (takes log)) → AllByRecursion P (take n (waiting s log))
+some_waiting : (s : Shape) (log : List Logged) (P : Taken → Type 0) (n : ℕ) → NoneLost log
+    → AllByRecursion P (filter (λ t. not (was_placed s log t)) (takes log)) → AllByRecursion P (take n (waiting s log))
 some_waiting s log P n fine all = all_taken P n (waiting s log) (subst (AllByRecursion P) (sym (waiting_fresh s log fine)) all)
 
 -- no row has more live sectors than the target has sectors, also between the entries
@@ -228,17 +262,24 @@ pub live_between : (i : Image) (logs : Logs) (line n : ℕ) → NoneFreed (logs 
     → EachRow (place_entries (logs 0) line (rows_of i logs) (take n (waiting i.shape (logs 0)))) (λ m row. row.live ≤ i.shape.capacity)
 live_between i logs line n freed fine numbered sectors =
     let rise : IsRising (takes (logs 0)) = rising_by (first_position (logs 0)) (length (takes (logs 0))) (takes (logs 0)) numbered in
-    let same : table_of i.shape (row_with i logs (with_entries line (take n (waiting i.shape (logs 0))) (line_of i logs)) (landed_line_of i logs)) ≡ place_entries (logs 0) line (rows_of i logs) (take n (waiting i.shape (logs 0))) =
+    let same : table_of i.shape (row_with i logs (with_entries line (take n (waiting i.shape (logs 0))) (line_of i logs)) (landed_line_of i logs)) ≡
+    place_entries (logs 0) line (rows_of i logs) (take n (waiting i.shape (logs 0))) =
     entries_placed i logs line (take n (waiting i.shape (logs 0))) (line_of i logs) (landed_line_of i logs) rise
-    (rising_taken n (waiting i.shape (logs 0)) (subst IsRising (sym (waiting_fresh i.shape (logs 0) fine)) (rising_filtered (λ t. not (was_placed i.shape (logs 0) t)) (takes (logs 0)) rise)))
-    (some_waiting i.shape (logs 0) (IsEntry i.shape.capacity (takes (logs 0))) n fine (all_filter (IsEntry i.shape.capacity (takes (logs 0))) (λ t. not (was_placed i.shape (logs 0) t)) (takes (logs 0))
+    (rising_taken n (waiting i.shape (logs 0))
+    (subst IsRising (sym (waiting_fresh i.shape (logs 0) fine)) (rising_filtered (λ t. not (was_placed i.shape (logs 0) t)) (takes (logs 0)) rise)))
+    (some_waiting i.shape (logs 0) (IsEntry i.shape.capacity (takes (logs 0))) n fine
+    (all_filter (IsEntry i.shape.capacity (takes (logs 0))) (λ t. not (was_placed i.shape (logs 0) t)) (takes (logs 0))
     (zipped (λ (t : Taken). t.mark.lba < i.shape.capacity) (IsAmong (takes (logs 0))) (IsEntry i.shape.capacity (takes (logs 0)))
     (λ t a b. entry_at i.shape.capacity (takes (logs 0)) b.0 t b.1 a) (takes (logs 0)) sectors (among_all (takes (logs 0))))))
     (some_waiting i.shape (logs 0) (λ (t : Taken). IsNowhere t.entry.position (line_of i logs)) n fine
     (all_imply (λ t. not (was_placed i.shape (logs 0) t) ≡ true) (λ (t : Taken). IsNowhere t.entry.position (line_of i logs))
-    (λ t h. λ lba u e. ap (line_of_position i.shape (logs 0)) e ∙ in_no_line i.shape (logs 0) t.entry.position (none_pass (holds_position i.shape t.entry.position) (placements (logs 0)) h))
+    (λ t h. λ lba u e. ap (line_of_position i.shape (logs 0)) e
+    ∙ in_no_line i.shape (logs 0) t.entry.position (none_pass (holds_position i.shape t.entry.position) (placements (logs 0)) h))
     (filter (λ t. not (was_placed i.shape (logs 0) t)) (takes (logs 0))) (all_passed (λ t. not (was_placed i.shape (logs 0) t)) (takes (logs 0)))))
     ∙ ap (λ table. place_entries (logs 0) line table (take n (waiting i.shape (logs 0)))) (sym (table_was i logs freed)) in
     λ m row there.
-    let at = row_at (row_with i logs (with_entries line (take n (waiting i.shape (logs 0))) (line_of i logs)) (landed_line_of i logs)) i.shape.chunks 0 m row (ap (λ (t : Table). slice_get t.rows m) same ∙ there) in
-    subst (λ (r : Row). r.live ≤ i.shape.capacity) at.1 (few_pass (λ lba. is_of (0 + m) (with_entries line (take n (waiting i.shape (logs 0))) (line_of i logs) lba (last_of (takes (logs 0)) lba))) 0 i.shape.capacity)
+    let at = row_at (row_with i logs (with_entries line (take n (waiting i.shape (logs 0))) (line_of i logs)) (landed_line_of i logs)) i.shape.chunks 0 m row
+    (ap (λ (t : Table). slice_get t.rows m) same ∙ there) in
+    subst (λ (r : Row). r.live ≤ i.shape.capacity) at.1
+    (few_pass (λ lba. is_of (0 + m) (with_entries line (take n (waiting i.shape (logs 0))) (line_of i logs) lba (last_of (takes (logs 0)) lba))) 0
+    i.shape.capacity)

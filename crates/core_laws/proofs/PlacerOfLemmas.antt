@@ -23,11 +23,13 @@ positions_taken (suc n) (t ∷ ts) = ap (λ qs. t.entry.position ∷ qs) (positi
 -- ---- nothing was stopped
 
 unstopped_by : (unit : ℕ) (was : Bool) (e : Event) → decides is_stopping e ≡ false → was ≡ false → stopped_by unit was e ≡ false
-unstopped_by unit was (Decides (Place stripe)) none not_yet = elim (stripe.unit == unit) as (λ b. (if b then false else was) ≡ false) [ true ↦ refl | false ↦ not_yet ]
+unstopped_by unit was (Decides (Place stripe)) none not_yet =
+    elim (stripe.unit == unit) as (λ b. (if b then false else was) ≡ false) [ true ↦ refl | false ↦ not_yet ]
 unstopped_by unit was (Decides (Again other n)) none not_yet = absurd cc
 unstopped_by unit was e none not_yet = not_yet
 
-unstopped_from : (unit : ℕ) (was : Bool) (log : List Logged) → NoneAgain log → was ≡ false → fold (λ was (l : Logged). stopped_by unit was l.event) was log ≡ false
+unstopped_from : (unit : ℕ) (was : Bool) (log : List Logged) → NoneAgain log → was ≡ false
+    → fold (λ was (l : Logged). stopped_by unit was l.event) was log ≡ false
 unstopped_from unit was [] none not_yet = not_yet
 unstopped_from unit was (l ∷ log) none not_yet = unstopped_from unit (stopped_by unit was l.event) log none.1 (unstopped_by unit was l.event none.0 not_yet)
 
@@ -37,7 +39,8 @@ none_waits_again log again unit none = ap (λ b. b && not (contains_unit again u
 
 row_unstopped : (i : Image) (logs : Logs) (again : List ℕ) (unit : ℕ) → NoneAgain (logs 0) → row_of i logs again unit ≡ row_of i logs [] unit
 row_unstopped i logs again unit none =
-    ap (λ b. option_map_or (λ (p : Placed). row_in i logs b p.life p) (unanswered_on (logs 0) unit) Idle) (none_waits_again (logs 0) again unit none ∙ sym (none_waits_again (logs 0) [] unit none))
+    ap (λ b. option_map_or (λ (p : Placed). row_in i logs b p.life p) (unanswered_on (logs 0) unit) Idle)
+    (none_waits_again (logs 0) again unit none ∙ sym (none_waits_again (logs 0) [] unit none))
 
 -- a row whose stripe doesn't wait to be offered again isn't a stopped one
 pub row_goes : (i : Image) (logs : Logs) (again : List ℕ) (unit : ℕ) → waits_again (logs 0) again unit ≡ false → stopped_in (row_of i logs again unit) ≡ None

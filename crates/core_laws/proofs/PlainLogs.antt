@@ -16,10 +16,11 @@ abbrev AreLandings : List Answer → Type 0
 AreLandings xs = AllByRecursion (λ a. is_loss (Some a) ≡ false) xs
 
 landing : (unit : ℕ) (e : Event) (rest : List Answer) → is_plain_event e ≡ true → AreLandings rest → AreLandings (cons_option (answer_by unit e) rest)
-landing unit (Decides (Landed other event)) rest plain all = elim (other == unit) as (λ b. AreLandings (cons_option (if b then Some (DidLand event) else None) rest)) [
-  | true ↦ (refl, all)
-  | false ↦ all
-]
+landing unit (Decides (Landed other event)) rest plain all =
+    elim (other == unit) as (λ b. AreLandings (cons_option (if b then Some (DidLand event) else None) rest)) [
+      | true ↦ (refl, all)
+      | false ↦ all
+    ]
 landing unit (Decides (Lost other event)) rest plain all = absurd cc
 landing unit e rest plain all = all
 

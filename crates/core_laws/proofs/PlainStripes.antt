@@ -28,7 +28,9 @@ use Rattle.pblk_world.proofs.EngineLogLemmas.{answer_count}
 abbrev pub HasOne : List Logged → Type 0
 HasOne log = (unit : ℕ) → length (placed_on log unit) ≤ length (answers log unit) + 1
 
-pub placed_count : (log : List Logged) (l : Logged) (unit : ℕ) → length (placed_on (log ++ l ∷ []) unit) ≡ length (placed_on log unit) + length (filter (λ (p : Placed). p.stripe.unit == unit) (option_to_list (placed_by log (length log) l.event)))
+pub placed_count : (log : List Logged) (l : Logged) (unit : ℕ)
+    → length (placed_on (log ++ l ∷ []) unit) ≡ length (placed_on log unit) + length
+    (filter (λ (p : Placed). p.stripe.unit == unit) (option_to_list (placed_by log (length log) l.event)))
 placed_count log l unit =
     ap (λ (ps : List Placed). length (filter (λ (p : Placed). p.stripe.unit == unit) ps)) (placements_more log l)
     ∙ ap length (filter-append (λ (p : Placed). p.stripe.unit == unit) (placements log) (option_to_list (placed_by log (length log) l.event)))
@@ -38,7 +40,8 @@ at_most_one : {X : Type 0} (test : X → Bool) (o : Option X) → length (filter
 at_most_one test None = omega arith
 at_most_one test (Some x) = elim (test x) as (λ b. length (cond b (x ∷ []) []) ≤ 1) [ true ↦ omega arith | false ↦ omega arith ]
 
-one_next : (i : Image) (known : Logs) (log : List Logged) (beginning : Begun) (e : EngineEvent) (knows : List ℕ) → known 0 ≡ log → IsDecision i known beginning e → HasOne log → HasOne (log ++ record { event = Decides e; knows = knows } ∷ [])
+one_next : (i : Image) (known : Logs) (log : List Logged) (beginning : Begun) (e : EngineEvent) (knows : List ℕ) → known 0 ≡ log
+    → IsDecision i known beginning e → HasOne log → HasOne (log ++ record { event = Decides e; knows = knows } ∷ [])
 one_next i known log beginning (Place stripe) knows own may was unit =
     let l : Logged = record { event = Decides (Place stripe); knows = knows } in
     go (nat_eq stripe.unit unit) refl (placed_count log l unit) (answer_count log l unit)
@@ -51,9 +54,11 @@ one_next i known log beginning (Place stripe) knows own may was unit =
         (subst (λ (xs : List Logged). length (placed_on xs stripe.unit) ≤ length (answers xs stripe.unit)) own (idle_fits (known 0) stripe.unit may.idle))
 
     go : (b : Bool) → nat_eq stripe.unit unit ≡ b
-        → length (placed_on (log ++ record { event = Decides (Place stripe); knows = knows } ∷ []) unit) ≡ length (placed_on log unit) + length (filter (λ (p : Placed). p.stripe.unit == unit) (option_to_list (placed_by log (length log) (Decides (Place stripe)))))
+        → length (placed_on (log ++ record { event = Decides (Place stripe); knows = knows } ∷ []) unit) ≡ length (placed_on log unit) + length
+        (filter (λ (p : Placed). p.stripe.unit == unit) (option_to_list (placed_by log (length log) (Decides (Place stripe)))))
         → length (answers log unit) ≤ length (answers (log ++ record { event = Decides (Place stripe); knows = knows } ∷ []) unit)
-        → length (placed_on (log ++ record { event = Decides (Place stripe); knows = knows } ∷ []) unit) ≤ length (answers (log ++ record { event = Decides (Place stripe); knows = knows } ∷ []) unit) + 1
+        → length (placed_on (log ++ record { event = Decides (Place stripe); knows = knows } ∷ []) unit) ≤ length
+        (answers (log ++ record { event = Decides (Place stripe); knows = knows } ∷ []) unit) + 1
     go true e count more =
         let within : length (placed_on log unit) ≤ length (answers log unit) = fits (eqb-true stripe.unit unit e) in
         let one : length (filter (λ (p : Placed). p.stripe.unit == unit) (option_to_list (placed_by log (length log) (Decides (Place stripe))))) ≤ 1 =
@@ -89,7 +94,8 @@ answered_lands (Some (DidLand event)) some kept = refl
 answered_lands (Some (WasLost event)) some kept = absurd cc
 
 -- all of them have landed
-pub unit_landed : (new : List Logged) (unit : ℕ) → ArePlain new → length (placed_on new unit) ≤ length (answers new unit) → AllByRecursion (λ r. has_landed new r ≡ true) (placed_on new unit)
+pub unit_landed : (new : List Logged) (unit : ℕ) → ArePlain new → length (placed_on new unit) ≤ length (answers new unit)
+    → AllByRecursion (λ r. has_landed new r ≡ true) (placed_on new unit)
 unit_landed new unit plain fit = all_by_get (λ (r : Placed). has_landed new r ≡ true) (placed_on new unit) (λ k r e.
     let at = turn_at new unit k r e in
     let inside : k < length (placed_on new unit) = slice_get_within (placed_on new unit) k r e in

@@ -27,7 +27,8 @@ pub none_lost : (unit : ℕ) (log : List Logged) → ArePlain log → AllByRecur
 none_lost unit [] plain = tt
 none_lost unit (l ∷ log) plain = go (answer_by unit l.event) refl (none_lost unit log plain.1)
   where
-    go : (o : Option Answer) → answer_by unit l.event ≡ o → AllByRecursion (λ a. is_loss (Some a) ≡ false) (answers log unit) → AllByRecursion (λ a. is_loss (Some a) ≡ false) (cons_option o (answers log unit))
+    go : (o : Option Answer) → answer_by unit l.event ≡ o → AllByRecursion (λ a. is_loss (Some a) ≡ false) (answers log unit)
+        → AllByRecursion (λ a. is_loss (Some a) ≡ false) (cons_option o (answers log unit))
     go None e rest = rest
     go (Some a) e rest = (not_loss unit l.event a plain.0 e, rest)
 
@@ -38,21 +39,27 @@ not_lost log r plain = go (answer_of log r) refl
     go None e = refl
     go (Some a) e = all_at (λ (a : Answer). is_loss (Some a) ≡ false) (answers log r.stripe.unit) (turn log r) a e (none_lost r.stripe.unit log plain)
 
-pub turned_plain : (line n : ℕ) (life : LineLife) (knows : List ℕ) (e : Event) → is_plain_event e ≡ true → is_freed life ≡ false → is_freed (turned_by line life n knows e) ≡ false
-turned_plain line n life knows (Decides (Open other start)) plain is = elim (other == line) as (λ b. is_freed (if b then Opened (record { number = n; line = line; start = start; knows = knows }) else life) ≡ false) [
-  | true ↦ refl
-  | false ↦ is
-]
+pub turned_plain : (line n : ℕ) (life : LineLife) (knows : List ℕ) (e : Event) → is_plain_event e ≡ true → is_freed life ≡ false
+    → is_freed (turned_by line life n knows e) ≡ false
+turned_plain line n life knows (Decides (Open other start)) plain is =
+    elim (other == line) as (λ b. is_freed (if b then Opened (record { number = n; line = line; start = start; knows = knows }) else life) ≡ false) [
+      | true ↦ refl
+      | false ↦ is
+    ]
 turned_plain line n life knows (Decides (Free other)) plain is = absurd cc
 turned_plain line n life knows e plain is = is
 
-pub lives_unfreed : (line n : ℕ) (log : List Logged) (life : LineLife) → ArePlain log → is_freed life ≡ false → is_freed (fold (turned line) life (enumerate_from n log)) ≡ false
+pub lives_unfreed : (line n : ℕ) (log : List Logged) (life : LineLife) → ArePlain log → is_freed life ≡ false
+    → is_freed (fold (turned line) life (enumerate_from n log)) ≡ false
 lives_unfreed line n [] life plain is = is
-lives_unfreed line n (l ∷ log) life plain is = lives_unfreed line (n + 1) log (turned_by line life n l.knows l.event) plain.1 (turned_plain line n life l.knows l.event plain.0 is)
+lives_unfreed line n (l ∷ log) life plain is =
+    lives_unfreed line (n + 1) log (turned_by line life n l.knows l.event) plain.1 (turned_plain line n life l.knows l.event plain.0 is)
 
-pub opened_by_one : (line k : ℕ) (life : LineLife) (knows : List ℕ) (e : Event) → is_plain_event e ≡ true → is_opened life ≡ true → is_opened (turned_by line life k knows e) ≡ true
+pub opened_by_one : (line k : ℕ) (life : LineLife) (knows : List ℕ) (e : Event) → is_plain_event e ≡ true → is_opened life ≡ true
+    → is_opened (turned_by line life k knows e) ≡ true
 opened_by_one line k life knows (Decides (Open other start)) plain is =
-    elim (other == line) as (λ b. is_opened (if b then Opened (record { number = k; line = line; start = start; knows = knows }) else life) ≡ true) [ true ↦ refl | false ↦ is ]
+    elim (other == line) as (λ b. is_opened (if b then Opened (record { number = k; line = line; start = start; knows = knows }) else life) ≡ true)
+    [ true ↦ refl | false ↦ is ]
 opened_by_one line k life knows (Decides (Free other)) plain is = absurd (cc)
 opened_by_one line k life knows e plain is = is
 

@@ -14,7 +14,8 @@ drop_one zero (x ∷ xs) = refl
 drop_one (suc k) [] = refl
 drop_one (suc k) (x ∷ xs) = drop_one k xs
 
-pub window_popped : (s : Shape) (log : List Logged) (from : ℕ) → first_position log ≤ from → (window_from s log (from + 1)).entries ≡ drop 1 (window_from s log from).entries
+pub window_popped : (s : Shape) (log : List Logged) (from : ℕ) → first_position log ≤ from
+    → (window_from s log (from + 1)).entries ≡ drop 1 (window_from s log from).entries
 window_popped s log from within =
     let next : from + 1 - first_position log ≡ suc (from - first_position log) = omega arith in
     ap (λ k. map (held_of s log) (drop k (takes log))) next

@@ -38,12 +38,14 @@ pub record IsQuiet (log : List Logged) (e : EngineEvent) (knows : List ℕ) : Ty
 no_more : {X : Type 0} (xs : List X) (o : Option X) → o ≡ None → xs ++ option_to_list o ≡ xs
 no_more xs o none = ap (λ o. xs ++ option_to_list o) none ∙ append-nil xs
 
-pub quiet_alike : (log : List Logged) (e : EngineEvent) (knows : List ℕ) → IsQuiet log e knows → AreAlike log (log ++ record { event = Decides e; knows = knows } ∷ [])
+pub quiet_alike : (log : List Logged) (e : EngineEvent) (knows : List ℕ) → IsQuiet log e knows
+    → AreAlike log (log ++ record { event = Decides e; knows = knows } ∷ [])
 quiet_alike log e knows quiet =
     let l : Logged = record { event = Decides e; knows = knows } in
     record {
       placements = placements_more log l ∙ no_more (placements log) (placed_by log (length log) (Decides e)) quiet.places;
-      answers = fun_same (answers (log ++ l ∷ [])) (answers log) (λ unit. answers_more log l unit ∙ no_more (answers log unit) (answer_by unit (Decides e)) (quiet.answers unit));
+      answers = fun_same (answers (log ++ l ∷ [])) (answers log)
+          (λ unit. answers_more log l unit ∙ no_more (answers log unit) (answer_by unit (Decides e)) (quiet.answers unit));
     }
 
 pub alike_kept : (log new : List Logged) → AreAlike log new → AreKept log new
@@ -54,13 +56,15 @@ alike_kept log new same = record {
   none = tt;
 }
 
-pub quiet_window : (s : Shape) (logs : Logs) (e : EngineEvent) (knows : List ℕ) (from : ℕ) → IsQuiet (logs 0) e knows → window_from s (after logs e knows 0) from ≡ window_from s (logs 0) from
+pub quiet_window : (s : Shape) (logs : Logs) (e : EngineEvent) (knows : List ℕ) (from : ℕ) → IsQuiet (logs 0) e knows
+    → window_from s (after logs e knows 0) from ≡ window_from s (logs 0) from
 quiet_window s logs e knows from quiet =
     let l : Logged = record { event = Decides e; knows = knows } in
     window_kept s (logs 0) (after logs e knows 0) from (alike_kept (logs 0) (after logs e knows 0) (quiet_alike (logs 0) e knows quiet))
     (takes_more (logs 0) l ∙ no_more (takes (logs 0)) (taken_by (Decides e)) quiet.takes) (first_kept (logs 0) e knows quiet.begins)
 
-pub quiet_slot : (i : Image) (logs : Logs) (e : EngineEvent) (knows : List ℕ) (lba : ℕ) → IsQuiet (logs 0) e knows → slot_of i (after logs e knows) lba ≡ slot_of i logs lba
+pub quiet_slot : (i : Image) (logs : Logs) (e : EngineEvent) (knows : List ℕ) (lba : ℕ) → IsQuiet (logs 0) e knows
+    → slot_of i (after logs e knows) lba ≡ slot_of i logs lba
 quiet_slot i logs e knows lba quiet =
     let l : Logged = record { event = Decides e; knows = knows } in
     slot_kept i logs e knows lba (alike_kept (logs 0) (after logs e knows 0) (quiet_alike (logs 0) e knows quiet))
@@ -77,17 +81,20 @@ stop_is_quiet log unit event knows = record { begins = refl; takes = refl; place
 
 -- ---- a stripe is placed
 
-new_none : (log : List Logged) (stripe : Stripe) (knows : List ℕ) (o : Opening) → life_of log stripe.line ≡ Opened o → length (answers log stripe.unit) ≤ length (placed_on log stripe.unit)
+new_none : (log : List Logged) (stripe : Stripe) (knows : List ℕ) (o : Opening) → life_of log stripe.line ≡ Opened o
+    → length (answers log stripe.unit) ≤ length (placed_on log stripe.unit)
     → answer_of (with_place log stripe knows) (new_placed log stripe o) ≡ None
 new_none log stripe knows o opened fit =
     let there : slice_get (placed_on (with_place log stripe knows) stripe.unit) (length (placed_on log stripe.unit)) ≡ Some (new_placed log stripe o) =
-    ap (λ (ps : List Placed). slice_get ps (length (placed_on log stripe.unit))) (placed_on_now log stripe knows o stripe.unit true opened (same_number stripe.unit))
+    ap (λ (ps : List Placed). slice_get ps (length (placed_on log stripe.unit)))
+    (placed_on_now log stripe knows o stripe.unit true opened (same_number stripe.unit))
     ∙ get_last (placed_on log stripe.unit) (new_placed log stripe o) in
     let at = turn_at (with_place log stripe knows) stripe.unit (length (placed_on log stripe.unit)) (new_placed log stripe o) there in
     ap₂ (λ xs n. slice_get xs n) (answers_now log stripe knows stripe.unit) at.1
     ∙ slice_get_past (answers log stripe.unit) (length (placed_on log stripe.unit)) fit
 
-pub place_kept : (log : List Logged) (stripe : Stripe) (knows : List ℕ) (o : Opening) → life_of log stripe.line ≡ Opened o → length (answers log stripe.unit) ≤ length (placed_on log stripe.unit)
+pub place_kept : (log : List Logged) (stripe : Stripe) (knows : List ℕ) (o : Opening) → life_of log stripe.line ≡ Opened o
+    → length (answers log stripe.unit) ≤ length (placed_on log stripe.unit)
     → AreKept log (with_place log stripe knows)
 place_kept log stripe knows o opened fit = record {
   more = new_placed log stripe o ∷ [];
@@ -97,7 +104,8 @@ place_kept log stripe knows o opened fit = record {
   none = (new_none log stripe knows o opened fit, tt);
 }
 
-pub place_window : (i : Image) (known : Logs) (w : World) (stripe : Stripe) (knows : List ℕ) (from : ℕ) → IsLegal i w → known 0 ≡ log_of w 0 → MayPlace i known stripe
+pub place_window : (i : Image) (known : Logs) (w : World) (stripe : Stripe) (knows : List ℕ) (from : ℕ) → IsLegal i w → known 0 ≡ log_of w 0
+    → MayPlace i known stripe
     → window_from i.shape (after (log_of w) (Place stripe) knows 0) from ≡ window_from i.shape (log_of w 0) from
 place_window i known w stripe knows from legal own may =
     let l : Logged = record { event = Decides (Place stripe); knows = knows } in
@@ -105,7 +113,8 @@ place_window i known w stripe knows from legal own may =
     (place_kept (log_of w 0) stripe knows may.opening (ap (λ log. life_of log stripe.line) (sym own) ∙ may.is_open) (answers_fit i w stripe.unit legal))
     (takes_more (log_of w 0) l ∙ append-nil (takes (log_of w 0))) (first_kept (log_of w 0) (Place stripe) knows refl)
 
-pub place_slot : (i : Image) (known : Logs) (w : World) (stripe : Stripe) (knows : List ℕ) (lba : ℕ) → IsLegal i w → known 0 ≡ log_of w 0 → MayPlace i known stripe
+pub place_slot : (i : Image) (known : Logs) (w : World) (stripe : Stripe) (knows : List ℕ) (lba : ℕ) → IsLegal i w → known 0 ≡ log_of w 0
+    → MayPlace i known stripe
     → slot_of i (after (log_of w) (Place stripe) knows) lba ≡ slot_of i (log_of w) lba
 place_slot i known w stripe knows lba legal own may =
     let l : Logged = record { event = Decides (Place stripe); knows = knows } in

@@ -23,12 +23,14 @@ same_above f g (suc n) a same =
     ∙ sym (sum_by-cons f a (range_with_len (a + 1) n))
 
 -- one term grows
-pub sum_more : (f g : ℕ → ℕ) (n a k x : ℕ) → k < n → g (a + k) ≡ f (a + k) + x → ((m : ℕ) → m ≢ a + k → g m ≡ f m) → sum_by g (range_with_len a n) ≡ sum_by f (range_with_len a n) + x
+pub sum_more : (f g : ℕ → ℕ) (n a k x : ℕ) → k < n → g (a + k) ≡ f (a + k) + x → ((m : ℕ) → m ≢ a + k → g m ≡ f m)
+    → sum_by g (range_with_len a n) ≡ sum_by f (range_with_len a n) + x
 sum_more f g zero a k x within here there = absurd (omega arith)
 sum_more f g (suc n) a zero x within here there =
     let first : a + 0 ≡ a = omega arith in
     let now : g a ≡ f a + x = subst (λ m. g m ≡ f m + x) first here in
-    let rest : sum_by g (range_with_len (a + 1) n) ≡ sum_by f (range_with_len (a + 1) n) = same_above f g n (a + 1) (λ m above. there m (λ e. absurd (omega arith))) in
+    let rest : sum_by g (range_with_len (a + 1) n) ≡ sum_by f (range_with_len (a + 1) n) =
+    same_above f g n (a + 1) (λ m above. there m (λ e. absurd (omega arith))) in
     let new : sum_by g (a ∷ range_with_len (a + 1) n) ≡ g a + sum_by g (range_with_len (a + 1) n) = sum_by-cons g a (range_with_len (a + 1) n) in
     let old : sum_by f (a ∷ range_with_len (a + 1) n) ≡ f a + sum_by f (range_with_len (a + 1) n) = sum_by-cons f a (range_with_len (a + 1) n) in
     omega arith

@@ -22,16 +22,21 @@ all_stay (t ∷ ts) = ap (λ us. t ∷ us) (all_stay ts)
 beside : (q : ℕ) (qs : List ℕ) (t : Taken) → t.entry.position ≢ q → not (is_within (q ∷ qs) t) ≡ not (is_within qs t)
 beside q qs t apart = ap (λ b. not (b || is_within qs t)) (other_number q t.entry.position (λ e. apart (sym e)))
 
-others_stay : (q : ℕ) (qs : List ℕ) (ts : List Taken) → AllByRecursion (λ (u : Taken). u.entry.position ≢ q) ts → filter (λ (t : Taken). not (is_within (q ∷ qs) t)) ts ≡ filter (λ (t : Taken). not (is_within qs t)) ts
-others_stay q qs ts all = filter_agree (λ (u : Taken). u.entry.position ≢ q) (λ (t : Taken). not (is_within (q ∷ qs) t)) (λ (t : Taken). not (is_within qs t)) (λ t apart. beside q qs t apart) ts all
+others_stay : (q : ℕ) (qs : List ℕ) (ts : List Taken) → AllByRecursion (λ (u : Taken). u.entry.position ≢ q) ts
+    → filter (λ (t : Taken). not (is_within (q ∷ qs) t)) ts ≡ filter (λ (t : Taken). not (is_within qs t)) ts
+others_stay q qs ts all = filter_agree (λ (u : Taken). u.entry.position ≢ q) (λ (t : Taken). not (is_within (q ∷ qs) t)) (λ (t : Taken). not (is_within qs t))
+    (λ t apart. beside q qs t apart) ts all
 
-first_goes : (t : Taken) (qs : List ℕ) (ts : List Taken) → filter (λ (u : Taken). not (is_within (t.entry.position ∷ qs) u)) (t ∷ ts) ≡ filter (λ (u : Taken). not (is_within (t.entry.position ∷ qs) u)) ts
-first_goes t qs ts = ap (λ b. cond (not (b || is_within qs t)) (t ∷ filter (λ (u : Taken). not (is_within (t.entry.position ∷ qs) u)) ts) (filter (λ (u : Taken). not (is_within (t.entry.position ∷ qs) u)) ts)) (same_number t.entry.position)
+first_goes : (t : Taken) (qs : List ℕ) (ts : List Taken)
+    → filter (λ (u : Taken). not (is_within (t.entry.position ∷ qs) u)) (t ∷ ts) ≡ filter (λ (u : Taken). not (is_within (t.entry.position ∷ qs) u)) ts
+first_goes t qs ts = ap (λ b. cond (not (b || is_within qs t)) (t ∷ filter (λ (u : Taken). not (is_within (t.entry.position ∷ qs) u)) ts)
+    (filter (λ (u : Taken). not (is_within (t.entry.position ∷ qs) u)) ts)) (same_number t.entry.position)
 
 removed : (n : ℕ) (ts : List Taken) → Apart ts → filter (λ (t : Taken). not (is_within (take n (positions_of ts)) t)) ts ≡ drop n ts
 removed zero ts apart = all_stay ts
 removed (suc n) [] apart = refl
-removed (suc n) (t ∷ ts) apart = first_goes t (take n (positions_of ts)) ts ∙ others_stay t.entry.position (take n (positions_of ts)) ts apart.0 ∙ removed n ts apart.1
+removed (suc n) (t ∷ ts) apart = first_goes t (take n (positions_of ts)) ts ∙ others_stay t.entry.position (take n (positions_of ts)) ts apart.0
+    ∙ removed n ts apart.1
 
 pub all_first : {X : Type 0} (P : X → Type 0) (xs ys : List X) → AllByRecursion P (xs ++ ys) → AllByRecursion P xs
 all_first P [] ys all = tt
@@ -65,12 +70,14 @@ apart_filtered : (test : Taken → Bool) (ts : List Taken) → Apart ts → Apar
 apart_filtered test [] apart = tt
 apart_filtered test (t ∷ ts) apart = go (test t) (apart_filtered test ts apart.1)
   where
-    kept : (us : List Taken) → AllByRecursion (λ (u : Taken). u.entry.position ≢ t.entry.position) us → AllByRecursion (λ (u : Taken). u.entry.position ≢ t.entry.position) (filter test us)
+    kept : (us : List Taken) → AllByRecursion (λ (u : Taken). u.entry.position ≢ t.entry.position) us
+        → AllByRecursion (λ (u : Taken). u.entry.position ≢ t.entry.position) (filter test us)
     kept [] all = tt
-    kept (u ∷ us) all = elim (test u) as (λ b. AllByRecursion (λ (u : Taken). u.entry.position ≢ t.entry.position) (cond b (u ∷ filter test us) (filter test us))) [
-      | true ↦ (all.0, kept us all.1)
-      | false ↦ kept us all.1
-    ]
+    kept (u ∷ us) all = elim (test u) as
+        (λ b. AllByRecursion (λ (u : Taken). u.entry.position ≢ t.entry.position) (cond b (u ∷ filter test us) (filter test us))) [
+          | true ↦ (all.0, kept us all.1)
+          | false ↦ kept us all.1
+        ]
 
     go : (b : Bool) → Apart (filter test ts) → Apart (cond b (t ∷ filter test ts) (filter test ts))
     go true rest = (kept ts apart.0, rest)
@@ -93,36 +100,49 @@ apart_numbered a (suc n) (t ∷ ts) is =
     (above (a + 1) n t.entry.position ts (omega arith) rest, apart_numbered (a + 1) n ts rest)
 
 -- two lists that a test of the position tells apart
-apart_joined : (test : ℕ → Bool) (ts us : List Taken) → AllByRecursion (λ (t : Taken). test t.entry.position ≡ true) ts → AllByRecursion (λ (u : Taken). test u.entry.position ≡ false) us → Apart ts → Apart us → Apart (ts ++ us)
+apart_joined : (test : ℕ → Bool) (ts us : List Taken) → AllByRecursion (λ (t : Taken). test t.entry.position ≡ true) ts
+    → AllByRecursion (λ (u : Taken). test u.entry.position ≡ false) us → Apart ts → Apart us → Apart (ts ++ us)
 apart_joined test [] us a b p q = q
 apart_joined test (t ∷ ts) us a b p q = (join ts p.0, apart_joined test ts us a.1 b p.1 q)
   where
-    other : (vs : List Taken) → AllByRecursion (λ (u : Taken). test u.entry.position ≡ false) vs → AllByRecursion (λ (u : Taken). u.entry.position ≢ t.entry.position) vs
+    other : (vs : List Taken) → AllByRecursion (λ (u : Taken). test u.entry.position ≡ false) vs
+        → AllByRecursion (λ (u : Taken). u.entry.position ≢ t.entry.position) vs
     other [] all = tt
-    other (v ∷ vs) all = ((λ e. let yes : test t.entry.position ≡ true = a.0 in let no : test v.entry.position ≡ false = all.0 in let same : test v.entry.position ≡ test t.entry.position = ap test e in absurd cc), other vs all.1)
+    other (v ∷ vs) all = (
+      (λ e. let yes : test t.entry.position ≡ true = a.0 in let no : test v.entry.position ≡ false =
+          all.0 in let same : test v.entry.position ≡ test t.entry.position = ap test e in absurd cc),
+      other vs all.1,
+    )
 
-    join : (vs : List Taken) → AllByRecursion (λ (u : Taken). u.entry.position ≢ t.entry.position) vs → AllByRecursion (λ (u : Taken). u.entry.position ≢ t.entry.position) (vs ++ us)
+    join : (vs : List Taken) → AllByRecursion (λ (u : Taken). u.entry.position ≢ t.entry.position) vs
+        → AllByRecursion (λ (u : Taken). u.entry.position ≢ t.entry.position) (vs ++ us)
     join [] all = other us b
     join (v ∷ vs) all = (all.0, join vs all.1)
 
-passes_by : (f : Taken → Bool) (test : ℕ → Bool) (b : Bool) → ((t : Taken) → f t ≡ true → test t.entry.position ≡ b) → (ts : List Taken) → AllByRecursion (λ (t : Taken). test t.entry.position ≡ b) (filter f ts)
+passes_by : (f : Taken → Bool) (test : ℕ → Bool) (b : Bool) → ((t : Taken) → f t ≡ true → test t.entry.position ≡ b) → (ts : List Taken)
+    → AllByRecursion (λ (t : Taken). test t.entry.position ≡ b) (filter f ts)
 passes_by f test b says [] = tt
 passes_by f test b says (t ∷ ts) = go (f t) refl (passes_by f test b says ts)
   where
-    go : (c : Bool) → f t ≡ c → AllByRecursion (λ (t : Taken). test t.entry.position ≡ b) (filter f ts) → AllByRecursion (λ (t : Taken). test t.entry.position ≡ b) (cond c (t ∷ filter f ts) (filter f ts))
+    go : (c : Bool) → f t ≡ c → AllByRecursion (λ (t : Taken). test t.entry.position ≡ b) (filter f ts)
+        → AllByRecursion (λ (t : Taken). test t.entry.position ≡ b) (cond c (t ∷ filter f ts) (filter f ts))
     go true e rest = (says t e, rest)
     go false e rest = rest
 
-pub apart_split : (f g : Taken → Bool) (test : ℕ → Bool) → ((t : Taken) → f t ≡ true → test t.entry.position ≡ true) → ((t : Taken) → g t ≡ true → test t.entry.position ≡ false)
+pub apart_split : (f g : Taken → Bool) (test : ℕ → Bool) → ((t : Taken) → f t ≡ true → test t.entry.position ≡ true)
+    → ((t : Taken) → g t ≡ true → test t.entry.position ≡ false)
     → (ts : List Taken) → Apart ts → Apart (filter f ts ++ filter g ts)
-apart_split f g test given refused ts apart = apart_joined test (filter f ts) (filter g ts) (passes_by f test true given ts) (passes_by g test false refused ts) (apart_filtered f ts apart) (apart_filtered g ts apart)
+apart_split f g test given refused ts apart =
+    apart_joined test (filter f ts) (filter g ts) (passes_by f test true given ts) (passes_by g test false refused ts) (apart_filtered f ts apart)
+    (apart_filtered g ts apart)
 
 pub filter_twice : {X : Type 0} (f g : X → Bool) (xs : List X) → filter (λ x. f x && not (g x)) xs ≡ filter (λ x. not (g x)) (filter f xs)
 filter_twice f g [] = refl
 filter_twice {X} f g (x ∷ xs) = go (f x) (filter_twice f g xs)
   where
     go : (b : Bool) → filter (λ x. f x && not (g x)) xs ≡ filter (λ x. not (g x)) (filter f xs)
-        → cond (b && not (g x)) (x ∷ filter (λ x. f x && not (g x)) xs) (filter (λ x. f x && not (g x)) xs) ≡ filter (λ x. not (g x)) (cond b (x ∷ filter f xs) (filter f xs))
+        → cond (b && not (g x)) (x ∷ filter (λ x. f x && not (g x)) xs) (filter (λ x. f x && not (g x)) xs) ≡ filter (λ x. not (g x))
+        (cond b (x ∷ filter f xs) (filter f xs))
     go true rest = ap (λ ys. cond (not (g x)) (x ∷ ys) ys) rest
     go false rest = rest
 

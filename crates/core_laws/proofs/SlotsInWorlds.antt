@@ -33,7 +33,8 @@ pub slot_landed : (i : Image) (w : World) (unit event : ℕ) (knows : List ℕ) 
     ≡ read_slot i (log_of w) o unit (block_read i.shape (after (log_of w) (Landed unit event) knows 0) o unit) (slot_of i (log_of w) lba)
 slot_landed i w unit event knows p o lba simple waits life rows =
     let l : Logged = record { event = Decides (Landed unit event); knows = knows } in
-    subst (λ u. slot_of i (after (log_of w) (Landed unit event) knows) lba ≡ read_slot i (log_of w) o u (block_read i.shape (after (log_of w) (Landed unit event) knows 0) o u) (slot_of i (log_of w) lba))
+    subst (λ u. slot_of i (after (log_of w) (Landed unit event) knows) lba ≡ read_slot i (log_of w) o u
+    (block_read i.shape (after (log_of w) (Landed unit event) knows 0) o u) (slot_of i (log_of w) lba))
     (first_unanswered (log_of w 0) unit p waits).of_unit
     (slot_now i (log_of w) (Landed unit event) knows p o lba (record {
       now = landed_now i w unit event knows p o simple waits life rows;
@@ -43,8 +44,10 @@ slot_landed i w unit event knows p o lba simple waits life rows =
     }))
 
 -- the address by the stripe's number in its line
-pub address_at : (i : Image) (logs : Logs) (o : Opening) (unit block j : ℕ) → 0 < i.shape.ws_opt → 0 < width (as_opened i logs o) → j < length (as_opened i logs o).stripes
-    → is_stripe_at i.shape (as_opened i logs o) unit (block / i.shape.ws_opt * i.shape.ws_opt) j ≡ true → address_of_block i logs o unit block ≡ j * i.shape.ws_opt + block % i.shape.ws_opt
+pub address_at : (i : Image) (logs : Logs) (o : Opening) (unit block j : ℕ) → 0 < i.shape.ws_opt → 0 < width (as_opened i logs o)
+    → j < length (as_opened i logs o).stripes
+    → is_stripe_at i.shape (as_opened i logs o) unit (block / i.shape.ws_opt * i.shape.ws_opt) j ≡ true
+    → address_of_block i logs o unit block ≡ j * i.shape.ws_opt + block % i.shape.ws_opt
 address_at i logs o unit block j some wide inside there =
     let from : 0 + j ≡ j = omega arith in
     ap (λ (x : Option ℕ). unwrap_or x 0 * i.shape.ws_opt + block % i.shape.ws_opt)
@@ -53,7 +56,9 @@ address_at i logs o unit block j some wide inside there =
     (λ m other. not_at i.shape (as_opened i logs o) unit (block / i.shape.ws_opt * i.shape.ws_opt) m j some wide there (λ e. other (e ∙ sym from)))
     ∙ ap (λ m. Some m) from)
 
-pub read_is_some : (s : Shape) (log : List Logged) (o : Opening) (unit position : ℕ) → can_be_read s log o unit position ≡ is_some (block_read s log o unit position)
+pub read_is_some : (s : Shape) (log : List Logged) (o : Opening) (unit position : ℕ)
+    → can_be_read s log o unit position ≡ is_some (block_read s log o unit position)
 read_is_some s log o unit position =
     let test : ℕ × Block → Bool = λ b. bears_position s position b.1 && is_readable_in s log unit b.0 (Opened o) in
-    any_found test (enumerate_from 0 (chunk_blocks log o unit)) ∙ sym (some_mapped (λ (b : ℕ × Block). b.0) (find test (enumerate_from 0 (chunk_blocks log o unit))))
+    any_found test (enumerate_from 0 (chunk_blocks log o unit))
+    ∙ sym (some_mapped (λ (b : ℕ × Block). b.0) (find test (enumerate_from 0 (chunk_blocks log o unit))))

@@ -31,29 +31,34 @@ IsThere log AsFound = Unit {0}
 IsThere log (Opened o) = opening_at log o.number ≡ Some o
 IsThere log (Freed past knows) = Unit {0}
 
-turned_there : (log : List Logged) (line k : ℕ) (life : LineLife) (knows : List ℕ) (e : Event) → opening_at log k ≡ opened_by k knows e → IsThere log life → IsThere log (turned_by line life k knows e)
+turned_there : (log : List Logged) (line k : ℕ) (life : LineLife) (knows : List ℕ) (e : Event) → opening_at log k ≡ opened_by k knows e → IsThere log life
+    → IsThere log (turned_by line life k knows e)
 turned_there log line k life knows (Decides (Open other start)) there is = go (nat_eq other line) refl
   where
     go : (b : Bool) → nat_eq other line ≡ b → IsThere log (if b then Opened (record { number = k; line = line; start = start; knows = knows }) else life)
     go true e = there ∙ ap (λ n. Some (record { number = k; line = n; start = start; knows = knows })) (eqb-true other line e)
     go false e = is
-turned_there log line k life knows (Decides (Free other)) there is = elim (nat_eq other line) as (λ b. IsThere log (if b then Freed (last_opening life) knows else life)) [
-  | true ↦ tt
-  | false ↦ is
-]
+turned_there log line k life knows (Decides (Free other)) there is =
+    elim (nat_eq other line) as (λ b. IsThere log (if b then Freed (last_opening life) knows else life)) [
+      | true ↦ tt
+      | false ↦ is
+    ]
 turned_there log line k life knows e there is = is
 
-lives_there : (all before log : List Logged) (line n : ℕ) (life : LineLife) → n ≡ length before → all ≡ before ++ log → IsThere all life → IsThere all (fold (turned line) life (enumerate_from n log))
+lives_there : (all before log : List Logged) (line n : ℕ) (life : LineLife) → n ≡ length before → all ≡ before ++ log → IsThere all life
+    → IsThere all (fold (turned line) life (enumerate_from n log))
 lives_there all before [] line n life count is opened = opened
 lives_there all before (l ∷ log) line n life count is opened =
     let here : slice_get all n ≡ Some l = ap₂ (λ (ys : List Logged) k. slice_get ys k) is count ∙ get_middle before l log in
-    lives_there all (before ++ l ∷ []) log line (n + 1) (turned_by line life n l.knows l.event) (omega (arith, count, length-append before (l ∷ []))) (is ∙ sym (append_assoc before (l ∷ []) log))
+    lives_there all (before ++ l ∷ []) log line (n + 1) (turned_by line life n l.knows l.event) (omega (arith, count, length-append before (l ∷ [])))
+    (is ∙ sym (append_assoc before (l ∷ []) log))
     (turned_there all line n life l.knows l.event (ap (λ (x : Option Logged). option_and_then (λ (m : Logged). opened_by n m.knows m.event) x) here) opened)
 
 pub life_there : (log : List Logged) (line : ℕ) (o : Opening) → life_of log line ≡ Opened o → opening_at log o.number ≡ Some o
 life_there log line o e = subst (IsThere log) e (lives_there log [] log line 0 AsFound refl refl tt)
 
-alive_opened : (log : List Logged) (o : Opening) → opening_at log o.number ≡ Some o → is_life o.number (life_of log o.line) ≡ true → life_of log o.line ≡ Opened o
+alive_opened : (log : List Logged) (o : Opening) → opening_at log o.number ≡ Some o → is_life o.number (life_of log o.line) ≡ true
+    → life_of log o.line ≡ Opened o
 alive_opened log o there alive = go (life_of log o.line) refl alive
   where
     go : (life : LineLife) → life_of log o.line ≡ life → is_life o.number life ≡ true → life ≡ Opened o
@@ -67,7 +72,8 @@ alive_opened log o there alive = go (life_of log o.line) refl alive
 pub standing_opened : (log : List Logged) → AllByRecursion (λ (o : Opening). life_of log o.line ≡ Opened o) (standing log)
 standing_opened log = zipped (λ (o : Opening). opening_at log o.number ≡ Some o) (IsStanding log) (λ (o : Opening). life_of log o.line ≡ Opened o)
     (λ o there is. alive_opened log o there is.alive) (standing log)
-    (all_filter (λ (o : Opening). opening_at log o.number ≡ Some o) (λ o. is_life o.number (life_of log o.line)) (openings log) (openings_there log)) (all_standing log)
+    (all_filter (λ (o : Opening). opening_at log o.number ≡ Some o) (λ o. is_life o.number (life_of log o.line)) (openings log) (openings_there log))
+    (all_standing log)
 
 -- ---- their numbers rise
 
@@ -75,12 +81,15 @@ abbrev pub NumbersRise : List Opening → Type 0
 NumbersRise [] = ⊤
 NumbersRise (o ∷ os) = AllByRecursion (λ (p : Opening). o.number < p.number) os × NumbersRise os
 
-numbers_from : (m n : ℕ) (xs : List Logged) → m < n → AllByRecursion (λ (o : Opening). m < o.number) (filter_map (λ (e : ℕ × Logged). opened_by e.0 e.1.knows e.1.event) (enumerate_from n xs))
+numbers_from : (m n : ℕ) (xs : List Logged) → m < n
+    → AllByRecursion (λ (o : Opening). m < o.number) (filter_map (λ (e : ℕ × Logged). opened_by e.0 e.1.knows e.1.event) (enumerate_from n xs))
 numbers_from m n [] below = tt
 numbers_from m n (x ∷ xs) below = go (opened_by n x.knows x.event) refl (numbers_from m (n + 1) xs (omega arith))
   where
-    go : (o : Option Opening) → opened_by n x.knows x.event ≡ o → AllByRecursion (λ (o : Opening). m < o.number) (filter_map (λ (e : ℕ × Logged). opened_by e.0 e.1.knows e.1.event) (enumerate_from (n + 1) xs))
-        → AllByRecursion (λ (o : Opening). m < o.number) (cons_option o (filter_map (λ (e : ℕ × Logged). opened_by e.0 e.1.knows e.1.event) (enumerate_from (n + 1) xs)))
+    go : (o : Option Opening) → opened_by n x.knows x.event ≡ o
+        → AllByRecursion (λ (o : Opening). m < o.number) (filter_map (λ (e : ℕ × Logged). opened_by e.0 e.1.knows e.1.event) (enumerate_from (n + 1) xs))
+        → AllByRecursion (λ (o : Opening). m < o.number)
+        (cons_option o (filter_map (λ (e : ℕ × Logged). opened_by e.0 e.1.knows e.1.event) (enumerate_from (n + 1) xs)))
     go None e rest = rest
     go (Some o) e rest = let number : o.number ≡ n = opened_number n x.knows x.event o e in (omega arith, rest)
 
@@ -88,10 +97,12 @@ rise_from : (n : ℕ) (xs : List Logged) → NumbersRise (filter_map (λ (e : �
 rise_from n [] = tt
 rise_from n (x ∷ xs) = go (opened_by n x.knows x.event) refl (rise_from (n + 1) xs)
   where
-    go : (o : Option Opening) → opened_by n x.knows x.event ≡ o → NumbersRise (filter_map (λ (e : ℕ × Logged). opened_by e.0 e.1.knows e.1.event) (enumerate_from (n + 1) xs))
+    go : (o : Option Opening) → opened_by n x.knows x.event ≡ o
+        → NumbersRise (filter_map (λ (e : ℕ × Logged). opened_by e.0 e.1.knows e.1.event) (enumerate_from (n + 1) xs))
         → NumbersRise (cons_option o (filter_map (λ (e : ℕ × Logged). opened_by e.0 e.1.knows e.1.event) (enumerate_from (n + 1) xs)))
     go None e rest = rest
-    go (Some o) e rest = let number : o.number ≡ n = opened_number n x.knows x.event o e in let below : o.number < n + 1 = omega arith in (numbers_from o.number (n + 1) xs below, rest)
+    go (Some o) e rest = let number : o.number ≡ n = opened_number n x.knows x.event o e in let below : o.number < n + 1 =
+        omega arith in (numbers_from o.number (n + 1) xs below, rest)
 
 pub rise_filtered : (test : Opening → Bool) (os : List Opening) → NumbersRise os → NumbersRise (filter test os)
 rise_filtered test [] rise = tt

@@ -30,12 +30,14 @@ use Rattle.pblk_world.proofs.EngineLogLemmas.{takes_more}
 
 -- ---- a stripe holds the positions in it
 
-pub holds_is : (s : Shape) (position : ℕ) (bs : List Block) → list_any (bears_position s position) bs ≡ list_any (λ q. q == position) (filter_map (position_in s) bs)
+pub holds_is : (s : Shape) (position : ℕ) (bs : List Block)
+    → list_any (bears_position s position) bs ≡ list_any (λ q. q == position) (filter_map (position_in s) bs)
 holds_is s position [] = refl
 holds_is s position (b ∷ bs) = go (is_some (named s b.mark)) (holds_is s position bs)
   where
     go : (c : Bool) → list_any (bears_position s position) bs ≡ list_any (λ q. q == position) (filter_map (position_in s) bs)
-        → ((c && (b.mark.position == position)) || list_any (bears_position s position) bs) ≡ list_any (λ q. q == position) (cons_option (if c then Some b.mark.position else None) (filter_map (position_in s) bs))
+        → ((c && (b.mark.position == position)) || list_any (bears_position s position) bs) ≡ list_any (λ q. q == position)
+        (cons_option (if c then Some b.mark.position else None) (filter_map (position_in s) bs))
     go true rest = ap (λ r. (b.mark.position == position) || r) rest
     go false rest = rest
 
@@ -53,7 +55,8 @@ placed_times : (s : Shape) (log : List Logged) (stripe : Stripe) (knows : List �
     → times_placed s (with_place log stripe knows) t ≡ times_placed s log t + more_by (is_within (positions_in_stripe s stripe) t)
 placed_times s log stripe knows o t opened =
     ap (λ ps. length (filter (holds_position s t.entry.position) ps)) (placements_now log stripe knows o opened)
-    ∙ ap length (filter_last (holds_position s t.entry.position) (placements log) (new_placed log stripe o) (is_within (positions_in_stripe s stripe) t) (holds_is s t.entry.position stripe.blocks))
+    ∙ ap length (filter_last (holds_position s t.entry.position) (placements log) (new_placed log stripe o) (is_within (positions_in_stripe s stripe) t)
+    (holds_is s t.entry.position stripe.blocks))
     ∙ length_more (filter (holds_position s t.entry.position) (placements log)) (new_placed log stripe o) (is_within (positions_in_stripe s stripe) t)
 
 lost_times : (s : Shape) (log : List Logged) (stripe : Stripe) (knows : List ℕ) (o : Opening) (t : Taken) → IsPlacing log stripe o
@@ -65,8 +68,10 @@ lost_times s log stripe knows o t is =
     ∙ ap length (filter_last (λ p. was_lost new p && holds_position s t.entry.position p) (placements log) (new_placed log stripe o) false
     (ap (λ a. is_loss a && holds_position s t.entry.position (new_placed log stripe o)) (new_unanswered log stripe knows o is))
     ∙ append-nil (filter (λ p. was_lost new p && holds_position s t.entry.position p) (placements log))
-    ∙ filter_agree (λ (p : Placed). p.number < length log) (λ p. was_lost new p && holds_position s t.entry.position p) (λ p. was_lost log p && holds_position s t.entry.position p)
-    (λ p before. ap (λ a. is_loss a && holds_position s t.entry.position p) (answer_now log stripe knows o p is.opened (le_of_lt before))) (placements log) (placements_before log))
+    ∙ filter_agree (λ (p : Placed). p.number < length log) (λ p. was_lost new p && holds_position s t.entry.position p)
+    (λ p. was_lost log p && holds_position s t.entry.position p)
+    (λ p before. ap (λ a. is_loss a && holds_position s t.entry.position p) (answer_now log stripe knows o p is.opened (le_of_lt before))) (placements log)
+    (placements_before log))
 
 fewer : {X : Type 0} (f g : X → Bool) (xs : List X) → length (filter (λ x. f x && g x) xs) ≤ length (filter g xs)
 fewer f g [] = omega arith
@@ -101,15 +106,19 @@ fresh_by p n false is =
     ap (λ k. not (nat_lt 0 k)) same ∙ sym (and_yes (not (nat_lt 0 p)))
 
 lost_now : (s : Shape) (log : List Logged) (stripe : Stripe) (knows : List ℕ) (o : Opening) → IsPlacing log stripe o → (t : Taken)
-    → (waits s (with_place log stripe knows) t && was_placed s (with_place log stripe knows) t) ≡ ((waits s log t && was_placed s log t) && not (is_within (positions_in_stripe s stripe) t))
+    → (waits s (with_place log stripe knows) t && was_placed s (with_place log stripe knows) t) ≡
+    ((waits s log t && was_placed s log t) && not (is_within (positions_in_stripe s stripe) t))
 lost_now s log stripe knows o is t =
     ap (λ k. (times_placed s (with_place log stripe knows) t == k) && was_placed s (with_place log stripe knows) t) (lost_times s log stripe knows o t is)
-    ∙ lost_by (times_placed s log t) (times_lost s log t) (times_placed s (with_place log stripe knows) t) (is_within (positions_in_stripe s stripe) t) (placed_times s log stripe knows o t is.opened)
+    ∙ lost_by (times_placed s log t) (times_lost s log t) (times_placed s (with_place log stripe knows) t) (is_within (positions_in_stripe s stripe) t)
+    (placed_times s log stripe knows o t is.opened)
     (fewer (was_lost log) (holds_position s t.entry.position) (placements log))
 
 fresh_now : (s : Shape) (log : List Logged) (stripe : Stripe) (knows : List ℕ) (o : Opening) → IsPlacing log stripe o → (t : Taken)
     → not (was_placed s (with_place log stripe knows) t) ≡ (not (was_placed s log t) && not (is_within (positions_in_stripe s stripe) t))
-fresh_now s log stripe knows o is t = fresh_by (times_placed s log t) (times_placed s (with_place log stripe knows) t) (is_within (positions_in_stripe s stripe) t) (placed_times s log stripe knows o t is.opened)
+fresh_now s log stripe knows o is t =
+    fresh_by (times_placed s log t) (times_placed s (with_place log stripe knows) t) (is_within (positions_in_stripe s stripe) t)
+    (placed_times s log stripe knows o t is.opened)
 
 -- ---- the entries of the next stripe
 
@@ -142,12 +151,15 @@ entries_placed i logs knows pad o stripe of is numbered =
     let count : length (next_positions s e (kind_of l j)) ≡ of.count = ap (λ (x : Program). x.count) its.1.is in
     let first : qs ≡ take of.count (positions_of lost ++ positions_of fresh) =
     is.positions ∙ sym next ∙ next_are_first s e (kind_of l j) ∙ ap (λ n. take n (waiting e)) count in
-    let apart = apart_split (λ t. waits s log t && was_placed s log t) (λ t. not (was_placed s log t)) (λ q. nat_lt 0 (length (filter (holds_position s q) (placements log))))
-    (λ t f. second_of (waits s log t) (was_placed s log t) f) (λ t f. not_true (was_placed s log t) f) (takes log) (apart_numbered (first_position log) (length (takes log)) (takes log) numbered) in
+    let apart = apart_split (λ t. waits s log t && was_placed s log t) (λ t. not (was_placed s log t))
+    (λ q. nat_lt 0 (length (filter (holds_position s q) (placements log))))
+    (λ t f. second_of (waits s log t) (was_placed s log t) f) (λ t f. not_true (was_placed s log t) f) (takes log)
+    (apart_numbered (first_position log) (length (takes log)) (takes log) numbered) in
     let removed = removed_both of.count lost fresh apart in
     let same : takes new ≡ takes log = takes_more log (record { event = Decides (Place stripe); knows = knows }) ∙ append-nil (takes log) in
     let less : lost_entries s new ≡ drop of.count lost =
-    filter_same (λ t. waits s new t && was_placed s new t) (λ t. (waits s log t && was_placed s log t) && not (is_within qs t)) (lost_now s log stripe knows o placing) (takes new)
+    filter_same (λ t. waits s new t && was_placed s new t) (λ t. (waits s log t && was_placed s log t) && not (is_within qs t))
+    (lost_now s log stripe knows o placing) (takes new)
     ∙ ap (filter (λ t. (waits s log t && was_placed s log t) && not (is_within qs t))) same
     ∙ filter_twice (λ t. waits s log t && was_placed s log t) (is_within qs) (takes log)
     ∙ ap (λ zs. filter (λ t. not (is_within zs t)) lost) first ∙ removed.0 in
@@ -156,6 +168,8 @@ entries_placed i logs knows pad o stripe of is numbered =
     ∙ ap (filter (λ t. not (was_placed s log t) && not (is_within qs t))) same
     ∙ filter_twice (λ t. not (was_placed s log t)) (is_within qs) (takes log)
     ∙ ap (λ zs. filter (λ t. not (is_within zs t)) fresh) first ∙ removed.1 in
-    same_entries (positions_of (lost_entries s new)) (drop of.count (positions_of lost)) (positions_of (fresh_entries s new)) (drop (of.count - length (positions_of lost)) (positions_of fresh)) pad
+    same_entries (positions_of (lost_entries s new)) (drop of.count (positions_of lost)) (positions_of (fresh_entries s new))
+    (drop (of.count - length (positions_of lost)) (positions_of fresh)) pad
     (ap positions_of less ∙ sym (drop-map (λ (t : Taken). t.entry.position) of.count lost))
-    (ap positions_of rest ∙ sym (drop-map (λ (t : Taken). t.entry.position) (of.count - length lost) fresh) ∙ ap (λ n. drop (of.count - n) (positions_of fresh)) (sym (length_positions lost)))
+    (ap positions_of rest ∙ sym (drop-map (λ (t : Taken). t.entry.position) (of.count - length lost) fresh)
+    ∙ ap (λ n. drop (of.count - n) (positions_of fresh)) (sym (length_positions lost)))

@@ -52,12 +52,16 @@ whole_chunks c w g even =
 length_part : {X : Type 0} (xs : List X) (a b : ℕ) → length (slice_range xs a b) ≡ min (b - a) (length xs - a)
 length_part xs a b = length-take (b - a) (drop a xs) ∙ ap (min (b - a)) (length-drop a xs)
 
-pads_fill : (s : Shape) (ts : List Taken) → length (map block_of_taken (take s.ws_opt ts) ++ replicate (s.ws_opt - length (map block_of_taken (take s.ws_opt ts))) (pad_block s)) ≡ s.ws_opt
+pads_fill : (s : Shape) (ts : List Taken)
+    → length (map block_of_taken (take s.ws_opt ts) ++ replicate (s.ws_opt - length (map block_of_taken (take s.ws_opt ts))) (pad_block s)) ≡ s.ws_opt
 pads_fill s ts =
-    let few : length (map block_of_taken (take s.ws_opt ts)) ≡ min s.ws_opt (length ts) = length_mapped block_of_taken (take s.ws_opt ts) ∙ length-take s.ws_opt ts in
-    let sum : length (map block_of_taken (take s.ws_opt ts) ++ replicate (s.ws_opt - length (map block_of_taken (take s.ws_opt ts))) (pad_block s)) ≡ length (map block_of_taken (take s.ws_opt ts)) + length (replicate (s.ws_opt - length (map block_of_taken (take s.ws_opt ts))) (pad_block s)) =
+    let few : length (map block_of_taken (take s.ws_opt ts)) ≡ min s.ws_opt (length ts) = length_mapped block_of_taken (take s.ws_opt ts)
+    ∙ length-take s.ws_opt ts in
+    let sum : length (map block_of_taken (take s.ws_opt ts) ++ replicate (s.ws_opt - length (map block_of_taken (take s.ws_opt ts))) (pad_block s)) ≡ length
+    (map block_of_taken (take s.ws_opt ts)) + length (replicate (s.ws_opt - length (map block_of_taken (take s.ws_opt ts))) (pad_block s)) =
     length-append (map block_of_taken (take s.ws_opt ts)) (replicate (s.ws_opt - length (map block_of_taken (take s.ws_opt ts))) (pad_block s)) in
-    let rest : length (replicate (s.ws_opt - length (map block_of_taken (take s.ws_opt ts))) (pad_block s)) ≡ s.ws_opt - length (map block_of_taken (take s.ws_opt ts)) = length_replicate (s.ws_opt - length (map block_of_taken (take s.ws_opt ts))) (pad_block s) in
+    let rest : length (replicate (s.ws_opt - length (map block_of_taken (take s.ws_opt ts))) (pad_block s)) ≡ s.ws_opt - length
+    (map block_of_taken (take s.ws_opt ts)) = length_replicate (s.ws_opt - length (map block_of_taken (take s.ws_opt ts))) (pad_block s) in
     omega arith
 
 -- ---- a stripe that may be placed
@@ -65,37 +69,51 @@ pads_fill s ts =
 start_whole : (i : Image) (logs : Logs) (o : Opening) (stripe : Stripe) → 0 < i.shape.ws_opt → IsStart i logs o stripe → length stripe.blocks ≡ i.shape.ws_opt
 start_whole i logs o stripe some is =
     let s : Shape = i.shape in
-    let all : length (record_blocks i.shape o.start.seq (start_len i.shape) (start_bytes i.shape o.start)) ≡ start_len i.shape = length_record i.shape o.start.seq (start_len i.shape) (start_bytes i.shape o.start) in
-    let room : next_address i.shape (logs 0) o + i.shape.ws_opt ≤ start_len i.shape = whole_step (length (stripes_of (logs 0) o)) i.shape.ws_opt (div_ceil (64 + 24 * (i.shape.chunks - 1)) (i.shape.ws_opt * i.shape.sector)) some is.within in
+    let all : length (record_blocks i.shape o.start.seq (start_len i.shape) (start_bytes i.shape o.start)) ≡ start_len i.shape =
+    length_record i.shape o.start.seq (start_len i.shape) (start_bytes i.shape o.start) in
+    let room : next_address i.shape (logs 0) o + i.shape.ws_opt ≤ start_len i.shape =
+    whole_step (length (stripes_of (logs 0) o)) i.shape.ws_opt
+    (div_ceil (64 + 24 * (i.shape.chunks - 1)) (i.shape.ws_opt * i.shape.sector)) some is.within in
     let first : next_address i.shape (logs 0) o - 0 ≡ next_address i.shape (logs 0) o = by_zero (next_address i.shape (logs 0) o) in
     ap (λ (bs : List Block). length bs) is.blocks
     ∙ part_is_whole (record_blocks i.shape o.start.seq (start_len i.shape) (start_bytes i.shape o.start)) (next_address i.shape (logs 0) o - 0) i.shape.ws_opt
-    (subst (λ n. n + i.shape.ws_opt ≤ length (record_blocks i.shape o.start.seq (start_len i.shape) (start_bytes i.shape o.start))) (sym first) (subst (λ n. next_address i.shape (logs 0) o + i.shape.ws_opt ≤ n) (sym all) room))
+    (subst (λ n. n + i.shape.ws_opt ≤ length (record_blocks i.shape o.start.seq (start_len i.shape) (start_bytes i.shape o.start))) (sym first)
+    (subst (λ n. next_address i.shape (logs 0) o + i.shape.ws_opt ≤ n) (sym all) room))
   where
     by_zero : (n : ℕ) → n - 0 ≡ n
     by_zero n = omega arith
 
-end_whole : (i : Image) (logs : Logs) (o : Opening) (stripe : Stripe) → 0 < i.shape.ws_opt → i.shape.clba % i.shape.ws_opt ≡ 0 → 0 < data_len i.shape o.start.width → IsEnd i logs o stripe → length stripe.blocks ≡ i.shape.ws_opt
+end_whole : (i : Image) (logs : Logs) (o : Opening) (stripe : Stripe) → 0 < i.shape.ws_opt → i.shape.clba % i.shape.ws_opt ≡ 0
+    → 0 < data_len i.shape o.start.width → IsEnd i logs o stripe → length stripe.blocks ≡ i.shape.ws_opt
 end_whole i logs o stripe some even wide is =
-    let all : length (record_blocks i.shape o.start.seq (end_len i.shape o.start.width) (end_bytes i.shape (end_record i.shape (logs 0) o))) ≡ end_len i.shape o.start.width = length_record i.shape o.start.seq (end_len i.shape o.start.width) (end_bytes i.shape (end_record i.shape (logs 0) o)) in
-    let chunks : o.start.width * i.shape.clba ≡ i.shape.ws_opt * (o.start.width * (i.shape.clba / i.shape.ws_opt)) = whole_chunks i.shape.clba i.shape.ws_opt o.start.width even in
+    let all : length (record_blocks i.shape o.start.seq (end_len i.shape o.start.width) (end_bytes i.shape (end_record i.shape (logs 0) o))) ≡ end_len i.shape
+    o.start.width = length_record i.shape o.start.seq (end_len i.shape o.start.width) (end_bytes i.shape (end_record i.shape (logs 0) o)) in
+    let chunks : o.start.width * i.shape.clba ≡ i.shape.ws_opt * (o.start.width * (i.shape.clba / i.shape.ws_opt)) =
+    whole_chunks i.shape.clba i.shape.ws_opt o.start.width even in
     let room : next_address i.shape (logs 0) o + i.shape.ws_opt ≤ i.shape.ws_opt * (o.start.width * (i.shape.clba / i.shape.ws_opt)) =
-    whole_step (length (stripes_of (logs 0) o)) i.shape.ws_opt (o.start.width * (i.shape.clba / i.shape.ws_opt)) some (subst (λ n. next_address i.shape (logs 0) o < n) chunks is.within) in
-    let ends : start_len i.shape + data_len i.shape o.start.width + end_len i.shape o.start.width ≡ o.start.width * i.shape.clba = whole_line i.shape o.start.width wide in
-    let within : next_address i.shape (logs 0) o + i.shape.ws_opt ≤ end_address i.shape o + end_len i.shape o.start.width = subst (λ n. next_address i.shape (logs 0) o + i.shape.ws_opt ≤ n) (sym chunks ∙ sym ends) room in
+    whole_step (length (stripes_of (logs 0) o)) i.shape.ws_opt (o.start.width * (i.shape.clba / i.shape.ws_opt)) some
+    (subst (λ n. next_address i.shape (logs 0) o < n) chunks is.within) in
+    let ends : start_len i.shape + data_len i.shape o.start.width + end_len i.shape o.start.width ≡ o.start.width * i.shape.clba =
+    whole_line i.shape o.start.width wide in
+    let within : next_address i.shape (logs 0) o + i.shape.ws_opt ≤ end_address i.shape o + end_len i.shape o.start.width =
+    subst (λ n. next_address i.shape (logs 0) o + i.shape.ws_opt ≤ n) (sym chunks ∙ sym ends) room in
     ap (λ (bs : List Block). length bs) is.blocks
-    ∙ part_is_whole (record_blocks i.shape o.start.seq (end_len i.shape o.start.width) (end_bytes i.shape (end_record i.shape (logs 0) o))) (next_address i.shape (logs 0) o - end_address i.shape o) i.shape.ws_opt
-    (subst (λ n. next_address i.shape (logs 0) o - end_address i.shape o + i.shape.ws_opt ≤ n) (sym all) (by_rest (next_address i.shape (logs 0) o) (end_address i.shape o) i.shape.ws_opt (end_len i.shape o.start.width) is.from within))
+    ∙ part_is_whole (record_blocks i.shape o.start.seq (end_len i.shape o.start.width) (end_bytes i.shape (end_record i.shape (logs 0) o)))
+    (next_address i.shape (logs 0) o - end_address i.shape o) i.shape.ws_opt
+    (subst (λ n. next_address i.shape (logs 0) o - end_address i.shape o + i.shape.ws_opt ≤ n) (sym all)
+    (by_rest (next_address i.shape (logs 0) o) (end_address i.shape o) i.shape.ws_opt (end_len i.shape o.start.width) is.from within))
   where
     by_rest : (n e w r : ℕ) → e ≤ n → n + w ≤ e + r → n - e + w ≤ r
     by_rest n e w r a b = omega arith
 
-by_kind : (i : Image) (logs : Logs) (o : Opening) (stripe : Stripe) → 0 < i.shape.ws_opt → i.shape.clba % i.shape.ws_opt ≡ 0 → 0 < data_len i.shape o.start.width
+by_kind : (i : Image) (logs : Logs) (o : Opening) (stripe : Stripe) → 0 < i.shape.ws_opt → i.shape.clba % i.shape.ws_opt ≡ 0
+    → 0 < data_len i.shape o.start.width
     → IsStart i logs o stripe ⊎ (IsData i logs o stripe ⊎ (IsEnd i logs o stripe ⊎ IsPad i logs o stripe)) → length stripe.blocks ≡ i.shape.ws_opt
 by_kind i logs o stripe some even wide (inl is) = start_whole i logs o stripe some is
 by_kind i logs o stripe some even wide (inr (inl is)) = ap (λ (bs : List Block). length bs) is.blocks ∙ pads_fill i.shape (waiting i.shape (logs 0))
 by_kind i logs o stripe some even wide (inr (inr (inl is))) = end_whole i logs o stripe some even wide is
-by_kind i logs o stripe some even wide (inr (inr (inr is))) = ap (λ (bs : List Block). length bs) is.blocks ∙ length_replicate i.shape.ws_opt (pad_block i.shape)
+by_kind i logs o stripe some even wide (inr (inr (inr is))) = ap (λ (bs : List Block). length bs) is.blocks
+    ∙ length_replicate i.shape.ws_opt (pad_block i.shape)
 
 -- ---- each stripe of a legal world
 
@@ -105,7 +123,8 @@ pub record HaveBlocks (s : Shape) (log : List Logged) : Type 0 where
   pub blocks : AllByRecursion (λ (p : Placed). length p.stripe.blocks ≡ s.ws_opt) (placements log)
 
 free_is_wide : (i : Image) (known : Logs) (line : ℕ) → is_free_line i known line ≡ true → 0 < line_data (known_image i known) line
-free_is_wide i known line is = go (not (has_number i known (life_of (known 0) line) line)) (are_empty (known_image i known) line) (nat_lt 0 (line_data (known_image i known) line)) refl is
+free_is_wide i known line is =
+    go (not (has_number i known (life_of (known 0) line) line)) (are_empty (known_image i known) line) (nat_lt 0 (line_data (known_image i known) line)) refl is
   where
     go : (a b c : Bool) → nat_lt 0 (line_data (known_image i known) line) ≡ c → (a && b && c) ≡ true → 0 < line_data (known_image i known) line
     go true true true e f = by_test (line_data (known_image i known) line) e
@@ -119,24 +138,31 @@ free_is_wide i known line is = go (not (has_number i known (life_of (known 0) li
 pub wide_after : (i : Image) (known : Logs) (log : List Logged) (e : EngineEvent) (knows : List ℕ) → MayDecide i known e
     → ((line : ℕ) (o : Opening) → life_of log line ≡ Opened o → 0 < data_len i.shape o.start.width)
     → (line : ℕ) (o : Opening) → life_of (log ++ record { event = Decides e; knows = knows } ∷ []) line ≡ Opened o → 0 < data_len i.shape o.start.width
-wide_after i known log (Open other start) knows may before line o is = go (nat_eq other line) (sym (life_more log (record { event = Decides (Open other start); knows = knows }) line) ∙ is)
+wide_after i known log (Open other start) knows may before line o is =
+    go (nat_eq other line) (sym (life_more log (record { event = Decides (Open other start); knows = knows }) line) ∙ is)
   where
-    go : (b : Bool) → (if b then Opened (record { number = length log; line = line; start = start; knows = knows }) else life_of log line) ≡ Opened o → 0 < data_len i.shape o.start.width
+    go : (b : Bool) → (if b then Opened (record { number = length log; line = line; start = start; knows = knows }) else life_of log line) ≡ Opened o
+        → 0 < data_len i.shape o.start.width
     go true e =
-        let same : start ≡ o.start = ap (λ (x : Opening). x.start) (opened_same (record { number = length log; line = line; start = start; knows = knows }) o e) in
-        subst (λ (x : StartRecord). 0 < data_len i.shape x.width) same (subst (λ n. 0 < data_len i.shape n) (sym may.2.own_width) (free_is_wide i known other may.2.is_free))
+        let same : start ≡ o.start = ap (λ (x : Opening). x.start)
+        (opened_same (record { number = length log; line = line; start = start; knows = knows }) o e) in
+        subst (λ (x : StartRecord). 0 < data_len i.shape x.width) same
+        (subst (λ n. 0 < data_len i.shape n) (sym may.2.own_width) (free_is_wide i known other may.2.is_free))
     go false e = before line o e
-wide_after i known log (Free other) knows may before line o is = go (nat_eq other line) (sym (life_more log (record { event = Decides (Free other); knows = knows }) line) ∙ is)
+wide_after i known log (Free other) knows may before line o is =
+    go (nat_eq other line) (sym (life_more log (record { event = Decides (Free other); knows = knows }) line) ∙ is)
   where
     go : (b : Bool) → (if b then Freed (last_opening (life_of log line)) knows else life_of log line) ≡ Opened o → 0 < data_len i.shape o.start.width
     go true e = absurd cc
     go false e = before line o e
 wide_after i known log e knows may before line o is = before line o (sym (life_more log (record { event = Decides e; knows = knows }) line) ∙ is)
 
-blocks_after : (i : Image) (known : Logs) (log : List Logged) (e : EngineEvent) (knows : List ℕ) → IsAccepted i.shape → known 0 ≡ log → MayDecide i known e → HaveBlocks i.shape log
+blocks_after : (i : Image) (known : Logs) (log : List Logged) (e : EngineEvent) (knows : List ℕ) → IsAccepted i.shape → known 0 ≡ log → MayDecide i known e
+    → HaveBlocks i.shape log
     → AllByRecursion (λ (p : Placed). length p.stripe.blocks ≡ i.shape.ws_opt) (option_to_list (placed_by log (length log) (Decides e)))
 blocks_after i known log (Place stripe) knows accepted own may is =
-    let wide : 0 < data_len i.shape may.2.opening.start.width = is.wide stripe.line may.2.opening (ap (λ (x : List Logged). life_of x stripe.line) (sym own) ∙ may.2.is_open) in
+    let wide : 0 < data_len i.shape may.2.opening.start.width =
+    is.wide stripe.line may.2.opening (ap (λ (x : List Logged). life_of x stripe.line) (sym own) ∙ may.2.is_open) in
     (by_kind i known may.2.opening stripe accepted.drive.ws_opt accepted.drive.whole_stripes wide may.2.kind, tt)
 blocks_after i known log e knows accepted own may is = tt
 
@@ -144,8 +170,10 @@ blocks_kept : (i : Image) → IsAccepted i.shape → (log : List Logged) (known 
     → HaveBlocks i.shape log → HaveBlocks i.shape (log ++ record { event = Decides e; knows = knows } ∷ [])
 blocks_kept i accepted log known e knows own may is = record {
   wide = wide_after i known log e knows may is.wide;
-  blocks = subst (AllByRecursion (λ (p : Placed). length p.stripe.blocks ≡ i.shape.ws_opt)) (sym (placements_more log (record { event = Decides e; knows = knows })))
-      (all_append (λ (p : Placed). length p.stripe.blocks ≡ i.shape.ws_opt) (placements log) (option_to_list (placed_by log (length log) (Decides e))) is.blocks (blocks_after i known log e knows accepted own may is));
+  blocks = subst (AllByRecursion (λ (p : Placed). length p.stripe.blocks ≡ i.shape.ws_opt))
+      (sym (placements_more log (record { event = Decides e; knows = knows })))
+      (all_append (λ (p : Placed). length p.stripe.blocks ≡ i.shape.ws_opt) (placements log) (option_to_list (placed_by log (length log) (Decides e))) is.blocks
+      (blocks_after i known log e knows accepted own may is));
 }
 
 pub have_blocks : (i : Image) (w : World) → IsAccepted i.shape → IsLegal i w → HaveBlocks i.shape (log_of w 0)
@@ -153,18 +181,22 @@ have_blocks i w accepted legal = of_legal_log i (HaveBlocks i.shape) (record { w
 
 -- ---- the marks of a line's data
 
-pub length_joined : (n : ℕ) (ps : List Placed) → AllByRecursion (λ (p : Placed). length p.stripe.blocks ≡ n) ps → length (flat_map (λ (p : Placed). p.stripe.blocks) ps) ≡ length ps * n
+pub length_joined : (n : ℕ) (ps : List Placed) → AllByRecursion (λ (p : Placed). length p.stripe.blocks ≡ n) ps
+    → length (flat_map (λ (p : Placed). p.stripe.blocks) ps) ≡ length ps * n
 length_joined n [] all = sym (zero-mul n)
 length_joined n (p ∷ ps) all =
-    length-append p.stripe.blocks (flat_map (λ (p : Placed). p.stripe.blocks) ps) ∙ ap₂ (λ a b. a + b) all.0 (length_joined n ps all.1) ∙ swapped n (length ps * n) ∙ sym (suc-mul (length ps) n)
+    length-append p.stripe.blocks (flat_map (λ (p : Placed). p.stripe.blocks) ps) ∙ ap₂ (λ a b. a + b) all.0 (length_joined n ps all.1)
+    ∙ swapped n (length ps * n) ∙ sym (suc-mul (length ps) n)
   where
     swapped : (a b : ℕ) → a + b ≡ b + a
     swapped a b = omega arith
 
-pub marks_counted : (s : Shape) (log : List Logged) (o : Opening) → HaveBlocks s log → length (data_marks s log o) ≡ min (data_len s o.start.width) (next_address s log o - start_len s)
+pub marks_counted : (s : Shape) (log : List Logged) (o : Opening) → HaveBlocks s log
+    → length (data_marks s log o) ≡ min (data_len s o.start.width) (next_address s log o - start_len s)
 marks_counted s log o is =
     let all : length (flat_map (λ (p : Placed). p.stripe.blocks) (stripes_of log o)) ≡ next_address s log o =
-    length_joined s.ws_opt (stripes_of log o) (all_filter (λ (p : Placed). length p.stripe.blocks ≡ s.ws_opt) (λ (p : Placed). is_life o.number p.life) (placements log) is.blocks) in
+    length_joined s.ws_opt (stripes_of log o)
+    (all_filter (λ (p : Placed). length p.stripe.blocks ≡ s.ws_opt) (λ (p : Placed). is_life o.number p.life) (placements log) is.blocks) in
     length_mapped (λ (b : Block). b.mark) (slice_range (flat_map (λ (p : Placed). p.stripe.blocks) (stripes_of log o)) (start_len s) (end_address s o))
     ∙ length_part (flat_map (λ (p : Placed). p.stripe.blocks) (stripes_of log o)) (start_len s) (end_address s o)
     ∙ ap₂ min (less (start_len s) (data_len s o.start.width)) (ap (λ n. n - start_len s) all)
@@ -172,14 +204,18 @@ marks_counted s log o is =
     less : (a b : ℕ) → a + b - a ≡ b
     less a b = omega arith
 
-pub marks_whole : (s : Shape) (log : List Logged) (o : Opening) → HaveBlocks s log → end_address s o ≤ next_address s log o → length (data_marks s log o) ≡ data_len s o.start.width
+pub marks_whole : (s : Shape) (log : List Logged) (o : Opening) → HaveBlocks s log → end_address s o ≤ next_address s log o
+    → length (data_marks s log o) ≡ data_len s o.start.width
 marks_whole s log o is within = marks_counted s log o is ∙ by_min (start_len s) (data_len s o.start.width) (next_address s log o) within
   where
     by_min : (a b n : ℕ) → a + b ≤ n → min b (n - a) ≡ b
     by_min a b n within = omega arith
 
-pub marks_fewer : (s : Shape) (log : List Logged) (o : Opening) → HaveBlocks s log → 0 < data_len s o.start.width → next_address s log o < end_address s o → length (data_marks s log o) < data_len s o.start.width
-marks_fewer s log o is wide within = subst (λ n. n < data_len s o.start.width) (sym (marks_counted s log o is)) (by_min (start_len s) (data_len s o.start.width) (next_address s log o) wide within)
+pub marks_fewer : (s : Shape) (log : List Logged) (o : Opening) → HaveBlocks s log → 0 < data_len s o.start.width → next_address s log o < end_address s o
+    → length (data_marks s log o) < data_len s o.start.width
+marks_fewer s log o is wide within =
+    subst (λ n. n < data_len s o.start.width) (sym (marks_counted s log o is))
+    (by_min (start_len s) (data_len s o.start.width) (next_address s log o) wide within)
   where
     by_min : (a b n : ℕ) → 0 < b → n < a + b → min b (n - a) < b
     by_min a b n wide within = omega arith
@@ -219,9 +255,11 @@ data_whole s g even = go (nat_lt (g * s.clba - start_len s - end_len s g) s.ws_o
     go : (b : Bool) → (d : ℕ) × ((if b then 0 else g * s.clba - start_len s - end_len s g) ≡ d * s.ws_opt)
     go true = (0, sym (zero-mul s.ws_opt))
     go false = (
-      g * (s.clba / s.ws_opt) - div_ceil (64 + 24 * (s.chunks - 1)) (s.ws_opt * s.sector) - div_ceil (32 + 16 * (g * s.clba - start_len s)) (s.ws_opt * (s.sector + 16)),
+      g * (s.clba / s.ws_opt) - div_ceil (64 + 24 * (s.chunks - 1)) (s.ws_opt * s.sector) - div_ceil (32 + 16 * (g * s.clba - start_len s))
+          (s.ws_opt * (s.sector + 16)),
       ap (λ n. n - start_len s - end_len s g) (whole_chunks s.clba s.ws_opt g even)
-          ∙ rest (g * (s.clba / s.ws_opt)) s.ws_opt (div_ceil (64 + 24 * (s.chunks - 1)) (s.ws_opt * s.sector)) (div_ceil (32 + 16 * (g * s.clba - start_len s)) (s.ws_opt * (s.sector + 16))),
+          ∙ rest (g * (s.clba / s.ws_opt)) s.ws_opt (div_ceil (64 + 24 * (s.chunks - 1)) (s.ws_opt * s.sector))
+          (div_ceil (32 + 16 * (g * s.clba - start_len s)) (s.ws_opt * (s.sector + 16))),
     )
 
 min_times : (m n w : ℕ) → min (m * w) (n * w) ≡ min m n * w
@@ -242,10 +280,13 @@ pub marks_by_stripes : (s : Shape) (log : List Logged) (o : Opening) → IsAccep
     → length (data_marks s log o) ≡ min (data_len s o.start.width / s.ws_opt) (length (stripes_of log o) - start_stripes s) * s.ws_opt
 marks_by_stripes s log o accepted is =
     let whole = data_whole s o.start.width accepted.drive.whole_stripes in
-    let first : start_len s / s.ws_opt ≡ div_ceil (64 + 24 * (s.chunks - 1)) (s.ws_opt * s.sector) = mul-div_cancel_left (div_ceil (64 + 24 * (s.chunks - 1)) (s.ws_opt * s.sector)) accepted.drive.ws_opt in
-    let start : start_len s ≡ start_stripes s * s.ws_opt = mul_comm s.ws_opt (div_ceil (64 + 24 * (s.chunks - 1)) (s.ws_opt * s.sector)) ∙ ap (λ n. n * s.ws_opt) (sym first) in
+    let first : start_len s / s.ws_opt ≡ div_ceil (64 + 24 * (s.chunks - 1)) (s.ws_opt * s.sector) =
+    mul-div_cancel_left (div_ceil (64 + 24 * (s.chunks - 1)) (s.ws_opt * s.sector)) accepted.drive.ws_opt in
+    let start : start_len s ≡ start_stripes s * s.ws_opt = mul_comm s.ws_opt (div_ceil (64 + 24 * (s.chunks - 1)) (s.ws_opt * s.sector))
+    ∙ ap (λ n. n * s.ws_opt) (sym first) in
     let rows : data_len s o.start.width / s.ws_opt ≡ whole.0 = ap (λ n. n / s.ws_opt) whole.1 ∙ mul-div_cancel whole.0 accepted.drive.ws_opt in
     marks_counted s log o is
-    ∙ ap₂ (λ a b. min a b) whole.1 (ap (λ n. length (stripes_of log o) * s.ws_opt - n) start ∙ sym (sub_times (length (stripes_of log o)) (start_stripes s) s.ws_opt))
+    ∙ ap₂ (λ a b. min a b) whole.1
+    (ap (λ n. length (stripes_of log o) * s.ws_opt - n) start ∙ sym (sub_times (length (stripes_of log o)) (start_stripes s) s.ws_opt))
     ∙ min_times whole.0 (length (stripes_of log o) - start_stripes s) s.ws_opt
     ∙ ap (λ d. min d (length (stripes_of log o) - start_stripes s) * s.ws_opt) (sym rows)

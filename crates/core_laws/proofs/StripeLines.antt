@@ -33,12 +33,14 @@ life_for log m line (Freed past k) e = tt
 
 placed_for : (log : List Logged) (number : ℕ) (e : Event) (p : Placed) → placed_by log number e ≡ Some p → IsOpenedFor log p.stripe.line p.life
 placed_for log number (Decides (Place stripe)) p h =
-    let is : ◌≡◌ {A = Placed} (record { number = number; stripe = stripe; life = life_of (take number log) stripe.line }) p = same_Some (record { number = number; stripe = stripe; life = life_of (take number log) stripe.line }) p h in
+    let is : ◌≡◌ {A = Placed} (record { number = number; stripe = stripe; life = life_of (take number log) stripe.line }) p =
+    same_Some (record { number = number; stripe = stripe; life = life_of (take number log) stripe.line }) p h in
     subst (λ (x : Placed). IsOpenedFor log x.stripe.line x.life) is (life_for log number stripe.line (life_of (take number log) stripe.line) refl)
 placed_for log number e p h = absurd (none-some p h)
 
 pub placed_lines : (log : List Logged) → AllByRecursion (λ (p : Placed). IsOpenedFor log p.stripe.line p.life) (placements log)
-placed_lines log = all_made (λ (e : ℕ × Logged). placed_by log e.0 e.1.event) (λ (p : Placed). IsOpenedFor log p.stripe.line p.life) (λ e p h. placed_for log e.0 e.1.event p h) (enumerate_from 0 log)
+placed_lines log = all_made (λ (e : ℕ × Logged). placed_by log e.0 e.1.event) (λ (p : Placed). IsOpenedFor log p.stripe.line p.life)
+    (λ e p h. placed_for log e.0 e.1.event p h) (enumerate_from 0 log)
 
 -- two stripes of one opening have its line
 pub own_opening : (log : List Logged) (line : ℕ) (o : Opening) → IsOpenedFor log line (Opened o) → (opens_at log o.number ≡ Some o.line) × (o.line ≡ line)

@@ -22,21 +22,26 @@ begun_stays (m ∷ log) l b e = refl
 pub first_stays : (log : List Logged) (l : Logged) (b : Begun) → begun log ≡ Some b → first_position (log ++ l ∷ []) ≡ first_position log
 first_stays log l b e = ap (λ (x : Option Begun). option_map_or (λ (b : Begun). b.beginning.first) x 0) (begun_stays log l b e)
 
-numbered_same : (a b : ℕ) (ts us : List Taken) → a ≡ b → ts ≡ us → positions_of us ≡ range_with_len b (length us) → positions_of ts ≡ range_with_len a (length ts)
+numbered_same : (a b : ℕ) (ts us : List Taken) → a ≡ b → ts ≡ us → positions_of us ≡ range_with_len b (length us)
+    → positions_of ts ≡ range_with_len a (length ts)
 numbered_same a b ts us p q is = ap positions_of q ∙ is ∙ ap₂ (λ n (vs : List Taken). range_with_len n (length vs)) (sym p) (sym q)
 
-numbered_more : (a b : ℕ) (ts us : List Taken) (t : Taken) → a ≡ b → ts ≡ us ++ t ∷ [] → t.entry.position ≡ b + length us → positions_of us ≡ range_with_len b (length us) → positions_of ts ≡ range_with_len a (length ts)
+numbered_more : (a b : ℕ) (ts us : List Taken) (t : Taken) → a ≡ b → ts ≡ us ++ t ∷ [] → t.entry.position ≡ b + length us
+    → positions_of us ≡ range_with_len b (length us) → positions_of ts ≡ range_with_len a (length ts)
 numbered_more a b ts us t p q next is =
     ap positions_of q ∙ positions_last us t ∙ ap₂ (λ ks k. ks ++ k ∷ []) is next ∙ sym (range_last b (length us))
     ∙ ap₂ (λ n m. range_with_len n m) (sym p) (sym (length-append us (t ∷ [])) ∙ ap (λ (vs : List Taken). length vs) (sym q))
 
-pub numbered_after : (i : Image) (known : Logs) (log : List Logged) (beginning : Begun) (e : EngineEvent) (knows : List ℕ) → begun log ≡ Some beginning → known 0 ≡ log → IsDecision i known beginning e
+pub numbered_after : (i : Image) (known : Logs) (log : List Logged) (beginning : Begun) (e : EngineEvent) (knows : List ℕ) → begun log ≡ Some beginning
+    → known 0 ≡ log → IsDecision i known beginning e
     → AreNumbered log → AreNumbered (log ++ record { event = Decides e; knows = knows } ∷ [])
 numbered_after i known log beginning (Begin b) knows begins own may is = absurd may
 numbered_after i known log beginning (Take entry mark) knows begins own may is =
     let l : Logged = record { event = Decides (Take entry mark); knows = knows } in
-    numbered_more (first_position (log ++ l ∷ [])) (first_position log) (takes (log ++ l ∷ [])) (takes log) (record { entry = entry; mark = mark }) (first_stays log l beginning begins) (takes_more log l)
+    numbered_more (first_position (log ++ l ∷ [])) (first_position log) (takes (log ++ l ∷ [])) (takes log) (record { entry = entry; mark = mark })
+    (first_stays log l beginning begins) (takes_more log l)
     (may.position ∙ ap taken own) is
 numbered_after i known log beginning e knows begins own may is =
     let l : Logged = record { event = Decides e; knows = knows } in
-    numbered_same (first_position (log ++ l ∷ [])) (first_position log) (takes (log ++ l ∷ [])) (takes log) (first_stays log l beginning begins) (takes_more log l ∙ append-nil (takes log)) is
+    numbered_same (first_position (log ++ l ∷ [])) (first_position log) (takes (log ++ l ∷ [])) (takes log) (first_stays log l beginning begins)
+    (takes_more log l ∙ append-nil (takes log)) is

@@ -58,7 +58,8 @@ all_below log numbered = below_by (first_position log) (length (takes log)) (tak
 abbrev new_taken : Entry → Mark → Taken
 new_taken entry mark = record { entry = entry; mark = mark }
 
-takes_now : (log : List Logged) (entry : Entry) (mark : Mark) (knows : List ℕ) → takes (with_event log (Take entry mark) knows) ≡ takes log ++ new_taken entry mark ∷ []
+takes_now : (log : List Logged) (entry : Entry) (mark : Mark) (knows : List ℕ)
+    → takes (with_event log (Take entry mark) knows) ≡ takes log ++ new_taken entry mark ∷ []
 takes_now log entry mark knows = takes_more log (record { event = Decides (Take entry mark); knows = knows })
 
 last_now : (log : List Logged) (entry : Entry) (mark : Mark) (knows : List ℕ) (lba : ℕ) (b : Bool) → (mark.lba == lba) ≡ b
@@ -68,12 +69,14 @@ last_now log entry mark knows lba b e =
     ∙ filter_last (λ (t : Taken). t.mark.lba == lba) (takes log) (new_taken entry mark) b e)
     ∙ go b
   where
-    go : (b : Bool) → last_or None (filter (λ (t : Taken). t.mark.lba == lba) (takes log) ++ cond b (new_taken entry mark ∷ []) []) ≡ (if b then Some (new_taken entry mark) else last_take log lba)
+    go : (b : Bool) → last_or None (filter (λ (t : Taken). t.mark.lba == lba) (takes log) ++ cond b (new_taken entry mark ∷ []) []) ≡
+        (if b then Some (new_taken entry mark) else last_take log lba)
     go true = last_is None (filter (λ (t : Taken). t.mark.lba == lba) (takes log)) (new_taken entry mark)
     go false = ap (last_or None) (append-nil (filter (λ (t : Taken). t.mark.lba == lba) (takes log)))
 
 -- an entry taken before has none after it before it
-before_old : (log : List Logged) (entry : Entry) (mark : Mark) (knows : List ℕ) (t : Taken) → t.entry.position < entry.position → take_before (with_event log (Take entry mark) knows) t ≡ take_before log t
+before_old : (log : List Logged) (entry : Entry) (mark : Mark) (knows : List ℕ) (t : Taken) → t.entry.position < entry.position
+    → take_before (with_event log (Take entry mark) knows) t ≡ take_before log t
 before_old log entry mark knows t below =
     ap (last_or None) (ap (filter (λ (u : Taken). (u.mark.lba == t.mark.lba) && nat_lt u.entry.position t.entry.position)) (takes_now log entry mark knows)
     ∙ filter_last (λ (u : Taken). (u.mark.lba == t.mark.lba) && nat_lt u.entry.position t.entry.position) (takes log) (new_taken entry mark) false
@@ -81,50 +84,62 @@ before_old log entry mark knows t below =
     ∙ append-nil (filter (λ (u : Taken). (u.mark.lba == t.mark.lba) && nat_lt u.entry.position t.entry.position) (takes log)))
 
 -- before the new one is the sector's latest
-before_new : (log : List Logged) (entry : Entry) (mark : Mark) (knows : List ℕ) → AreNumbered log → entry.position ≡ taken log → take_before (with_event log (Take entry mark) knows) (new_taken entry mark) ≡ last_take log mark.lba
+before_new : (log : List Logged) (entry : Entry) (mark : Mark) (knows : List ℕ) → AreNumbered log → entry.position ≡ taken log
+    → take_before (with_event log (Take entry mark) knows) (new_taken entry mark) ≡ last_take log mark.lba
 before_new log entry mark knows numbered next =
     ap (last_or None) (ap (filter (λ (u : Taken). (u.mark.lba == mark.lba) && nat_lt u.entry.position entry.position)) (takes_now log entry mark knows)
     ∙ filter_last (λ (u : Taken). (u.mark.lba == mark.lba) && nat_lt u.entry.position entry.position) (takes log) (new_taken entry mark) false
     (and_false (mark.lba == mark.lba) (nat_lt entry.position entry.position) (not_below entry.position entry.position (omega arith)))
     ∙ append-nil (filter (λ (u : Taken). (u.mark.lba == mark.lba) && nat_lt u.entry.position entry.position) (takes log))
-    ∙ filter_agree (λ (u : Taken). u.entry.position < taken log) (λ (u : Taken). (u.mark.lba == mark.lba) && nat_lt u.entry.position entry.position) (λ (u : Taken). u.mark.lba == mark.lba)
-    (λ u below. and_true (u.mark.lba == mark.lba) (nat_lt u.entry.position entry.position) (lt_true u.entry.position entry.position (omega arith))) (takes log) (all_below log numbered))
+    ∙ filter_agree (λ (u : Taken). u.entry.position < taken log) (λ (u : Taken). (u.mark.lba == mark.lba) && nat_lt u.entry.position entry.position)
+    (λ (u : Taken). u.mark.lba == mark.lba)
+    (λ u below. and_true (u.mark.lba == mark.lba) (nat_lt u.entry.position entry.position) (lt_true u.entry.position entry.position (omega arith))) (takes log)
+    (all_below log numbered))
 
 -- an entry that no stripe holds is in no line
 pub in_no_line : (s : Shape) (log : List Logged) (position : ℕ) → IsUnplaced s log position → line_of_position s log position ≡ None
 in_no_line s log position none = ap (option_map (λ (p : Placed). p.stripe.line))
     (find_none (λ (p : Placed). holds_position s position p && not (was_lost log p) && is_in_force log p.life p.stripe.line) (placements log)
-    (all_imply (λ (p : Placed). holds_position s position p ≡ false) (λ (p : Placed). (holds_position s position p && not (was_lost log p) && is_in_force log p.life p.stripe.line) ≡ false)
-    (λ p h. not_first (holds_position s position p && not (was_lost log p)) (is_in_force log p.life p.stripe.line) (not_first (holds_position s position p) (not (was_lost log p)) h)) (placements log) none))
+    (all_imply (λ (p : Placed). holds_position s position p ≡ false)
+    (λ (p : Placed). (holds_position s position p && not (was_lost log p) && is_in_force log p.life p.stripe.line) ≡ false)
+    (λ p h. not_first (holds_position s position p && not (was_lost log p)) (is_in_force log p.life p.stripe.line)
+    (not_first (holds_position s position p) (not (was_lost log p)) h)) (placements log) none))
 
 -- ---- sectors live in a line
 
-live_now : (i : Image) (logs : Logs) (entry : Entry) (mark : Mark) (knows : List ℕ) (line lba : ℕ) (b : Bool) → (mark.lba == lba) ≡ b → IsUnplaced i.shape (logs 0) entry.position
+live_now : (i : Image) (logs : Logs) (entry : Entry) (mark : Mark) (knows : List ℕ) (line lba : ℕ) (b : Bool) → (mark.lba == lba) ≡ b
+    → IsUnplaced i.shape (logs 0) entry.position
     → is_live_in i (after logs (Take entry mark) knows) line lba ≡ (if b then false else is_live_in i logs line lba)
 live_now i logs entry mark knows line lba b e none =
     ap (λ t. is_of line (line_of i (after logs (Take entry mark) knows) lba t)) (last_now (logs 0) entry mark knows lba b e)
     ∙ go b
   where
-    go : (b : Bool) → is_of line (line_of i (after logs (Take entry mark) knows) lba (if b then Some (new_taken entry mark) else last_take (logs 0) lba)) ≡ (if b then false else is_live_in i logs line lba)
-    go true = ap (is_of line) (line_of_kept i logs (Take entry mark) knows refl refl lba (Some (new_taken entry mark)) ∙ in_no_line i.shape (logs 0) entry.position none)
+    go : (b : Bool) → is_of line (line_of i (after logs (Take entry mark) knows) lba (if b then Some (new_taken entry mark) else last_take (logs 0) lba)) ≡
+        (if b then false else is_live_in i logs line lba)
+    go true = ap (is_of line) (line_of_kept i logs (Take entry mark) knows refl refl lba (Some (new_taken entry mark))
+        ∙ in_no_line i.shape (logs 0) entry.position none)
     go false = ap (is_of line) (line_of_kept i logs (Take entry mark) knows refl refl lba (last_take (logs 0) lba))
 
 count_above : (f g : ℕ → Bool) (n a : ℕ) → ((m : ℕ) → a ≤ m → g m ≡ f m) → length (filter g (range_with_len a n)) ≡ length (filter f (range_with_len a n))
 count_above f g zero a same = refl
 count_above f g (suc n) a same =
-    ap₂ (λ b xs. length (cond b (a ∷ xs) (filter g (range_with_len (a + 1) n)))) (same a (omega arith)) refl ∙ go (f a) (count_above f g n (a + 1) (λ m above. same m (omega arith)))
+    ap₂ (λ b xs. length (cond b (a ∷ xs) (filter g (range_with_len (a + 1) n)))) (same a (omega arith)) refl
+    ∙ go (f a) (count_above f g n (a + 1) (λ m above. same m (omega arith)))
   where
     go : (b : Bool) → length (filter g (range_with_len (a + 1) n)) ≡ length (filter f (range_with_len (a + 1) n))
-        → length (cond b (a ∷ filter g (range_with_len (a + 1) n)) (filter g (range_with_len (a + 1) n))) ≡ length (cond b (a ∷ filter f (range_with_len (a + 1) n)) (filter f (range_with_len (a + 1) n)))
+        → length (cond b (a ∷ filter g (range_with_len (a + 1) n)) (filter g (range_with_len (a + 1) n))) ≡ length
+        (cond b (a ∷ filter f (range_with_len (a + 1) n)) (filter f (range_with_len (a + 1) n)))
     go true rest = ap suc rest
     go false rest = rest
 
 -- one number passes no more
-pub count_less : (f g : ℕ → Bool) (n a k : ℕ) → k < n → f (a + k) ≡ true → g (a + k) ≡ false → ((m : ℕ) → m ≢ a + k → g m ≡ f m) → length (filter f (range_with_len a n)) ≡ length (filter g (range_with_len a n)) + 1
+pub count_less : (f g : ℕ → Bool) (n a k : ℕ) → k < n → f (a + k) ≡ true → g (a + k) ≡ false → ((m : ℕ) → m ≢ a + k → g m ≡ f m)
+    → length (filter f (range_with_len a n)) ≡ length (filter g (range_with_len a n)) + 1
 count_less f g zero a k within passes fails others = absurd (omega arith)
 count_less f g (suc n) a zero within passes fails others =
     let first : a + 0 ≡ a = omega arith in
-    let rest : length (filter g (range_with_len (a + 1) n)) ≡ length (filter f (range_with_len (a + 1) n)) = count_above f g n (a + 1) (λ m above. others m (λ e. absurd (omega arith))) in
+    let rest : length (filter g (range_with_len (a + 1) n)) ≡ length (filter f (range_with_len (a + 1) n)) =
+    count_above f g n (a + 1) (λ m above. others m (λ e. absurd (omega arith))) in
     let old : length (filter f (a ∷ range_with_len (a + 1) n)) ≡ suc (length (filter f (range_with_len (a + 1) n))) =
     ap (λ b. length (cond b (a ∷ filter f (range_with_len (a + 1) n)) (filter f (range_with_len (a + 1) n)))) (ap f (sym first) ∙ passes) in
     let new : length (filter g (a ∷ range_with_len (a + 1) n)) ≡ length (filter g (range_with_len (a + 1) n)) =
@@ -137,18 +152,21 @@ count_less f g (suc n) a (suc k) within passes fails others =
     go (f a) (g a) (others a (λ e. absurd (omega arith))) rest
   where
     go : (b c : Bool) → c ≡ b → length (filter f (range_with_len (a + 1) n)) ≡ length (filter g (range_with_len (a + 1) n)) + 1
-        → length (cond b (a ∷ filter f (range_with_len (a + 1) n)) (filter f (range_with_len (a + 1) n))) ≡ length (cond c (a ∷ filter g (range_with_len (a + 1) n)) (filter g (range_with_len (a + 1) n))) + 1
+        → length (cond b (a ∷ filter f (range_with_len (a + 1) n)) (filter f (range_with_len (a + 1) n))) ≡ length
+        (cond c (a ∷ filter g (range_with_len (a + 1) n)) (filter g (range_with_len (a + 1) n))) + 1
     go true true e rest = omega arith
     go false false e rest = rest
     go true false e rest = absurd cc
     go false true e rest = absurd cc
 
-lost_one : (i : Image) (logs : Logs) (entry : Entry) (mark : Mark) (knows : List ℕ) (line : ℕ) → IsUnplaced i.shape (logs 0) entry.position → mark.lba < i.shape.capacity
+lost_one : (i : Image) (logs : Logs) (entry : Entry) (mark : Mark) (knows : List ℕ) (line : ℕ) → IsUnplaced i.shape (logs 0) entry.position
+    → mark.lba < i.shape.capacity
     → is_live_in i logs line mark.lba ≡ true → live i (after logs (Take entry mark) knows) line ≡ live i logs line - 1
 lost_one i logs entry mark knows line none inside was =
     let new : Logs = after logs (Take entry mark) knows in
     let first : 0 + mark.lba ≡ mark.lba = omega arith in
-    let fewer : length (filter (is_live_in i logs line) (range_with_len 0 i.shape.capacity)) ≡ length (filter (is_live_in i new line) (range_with_len 0 i.shape.capacity)) + 1 =
+    let fewer : length (filter (is_live_in i logs line) (range_with_len 0 i.shape.capacity)) ≡ length
+    (filter (is_live_in i new line) (range_with_len 0 i.shape.capacity)) + 1 =
     count_less (is_live_in i logs line) (is_live_in i new line) i.shape.capacity 0 mark.lba inside (ap (is_live_in i logs line) first ∙ was)
     (ap (is_live_in i new line) first ∙ live_now i logs entry mark knows line mark.lba true (same_number mark.lba) none)
     (λ m other. live_now i logs entry mark knows line m false (other_number mark.lba m (λ e. other (sym e ∙ sym first))) none) in
@@ -170,36 +188,46 @@ took_old i logs entry mark knows line t below = ap (λ b. nat_lt t.mark.lba i.sh
     (ap (λ u. is_of line (landed_line_of i (after logs (Take entry mark) knows) t.mark.lba u)) (before_old (logs 0) entry mark knows t below)
     ∙ ap (is_of line) (landed_of_kept i logs (Take entry mark) knows refl refl (λ unit. refl) t.mark.lba (take_before (logs 0) t)))
 
-took_new : (i : Image) (logs : Logs) (entry : Entry) (mark : Mark) (knows : List ℕ) (line : ℕ) → AreNumbered (logs 0) → entry.position ≡ taken (logs 0) → mark.lba < i.shape.capacity
+took_new : (i : Image) (logs : Logs) (entry : Entry) (mark : Mark) (knows : List ℕ) (line : ℕ) → AreNumbered (logs 0) → entry.position ≡ taken (logs 0)
+    → mark.lba < i.shape.capacity
     → took_from i (after logs (Take entry mark) knows) line (new_taken entry mark) ≡ is_of line (landed_line_of i logs mark.lba (last_take (logs 0) mark.lba))
 took_new i logs entry mark knows line numbered next inside =
-    ap (λ b. b && is_of line (landed_line_of i (after logs (Take entry mark) knows) mark.lba (take_before (after logs (Take entry mark) knows 0) (new_taken entry mark)))) (lt_true mark.lba i.shape.capacity inside)
+    ap (λ b. b && is_of line (landed_line_of i (after logs (Take entry mark) knows) mark.lba
+    (take_before (after logs (Take entry mark) knows 0) (new_taken entry mark)))) (lt_true mark.lba i.shape.capacity inside)
     ∙ ap (λ u. is_of line (landed_line_of i (after logs (Take entry mark) knows) mark.lba u)) (before_new (logs 0) entry mark knows numbered next)
     ∙ ap (is_of line) (landed_of_kept i logs (Take entry mark) knows refl refl (λ unit. refl) mark.lba (last_take (logs 0) mark.lba))
 
-takers_now : (i : Image) (logs : Logs) (entry : Entry) (mark : Mark) (knows : List ℕ) (line : ℕ) (b : Bool) → AreNumbered (logs 0) → entry.position ≡ taken (logs 0) → mark.lba < i.shape.capacity
+takers_now : (i : Image) (logs : Logs) (entry : Entry) (mark : Mark) (knows : List ℕ) (line : ℕ) (b : Bool) → AreNumbered (logs 0)
+    → entry.position ≡ taken (logs 0) → mark.lba < i.shape.capacity
     → is_of line (landed_line_of i logs mark.lba (last_take (logs 0) mark.lba)) ≡ b
-    → filter (took_from i (after logs (Take entry mark) knows) line) (takes (after logs (Take entry mark) knows 0)) ≡ filter (took_from i logs line) (takes (logs 0)) ++ cond b (new_taken entry mark ∷ []) []
+    → filter (took_from i (after logs (Take entry mark) knows) line) (takes (after logs (Take entry mark) knows 0)) ≡ filter (took_from i logs line)
+    (takes (logs 0)) ++ cond b (new_taken entry mark ∷ []) []
 takers_now i logs entry mark knows line b numbered next inside is =
     let new : Logs = after logs (Take entry mark) knows in
     ap (filter (took_from i new line)) (takes_now (logs 0) entry mark knows)
     ∙ filter_last (took_from i new line) (takes (logs 0)) (new_taken entry mark) b (took_new i logs entry mark knows line numbered next inside ∙ is)
     ∙ ap (λ xs. xs ++ cond b (new_taken entry mark ∷ []) [])
-    (filter_agree (λ (t : Taken). t.entry.position < taken (logs 0)) (took_from i new line) (took_from i logs line) (λ t below. took_old i logs entry mark knows line t (omega arith)) (takes (logs 0)) (all_below (logs 0) numbered))
+    (filter_agree (λ (t : Taken). t.entry.position < taken (logs 0)) (took_from i new line) (took_from i logs line)
+    (λ t below. took_old i logs entry mark knows line t (omega arith)) (takes (logs 0)) (all_below (logs 0) numbered))
 
-taker_lost : (i : Image) (logs : Logs) (entry : Entry) (mark : Mark) (knows : List ℕ) (line : ℕ) → AreNumbered (logs 0) → entry.position ≡ taken (logs 0) → mark.lba < i.shape.capacity
-    → is_of line (landed_line_of i logs mark.lba (last_take (logs 0) mark.lba)) ≡ true → taker_by i (after logs (Take entry mark) knows) line ≡ Some (latest (taker_by i logs line) entry.position)
+taker_lost : (i : Image) (logs : Logs) (entry : Entry) (mark : Mark) (knows : List ℕ) (line : ℕ) → AreNumbered (logs 0) → entry.position ≡ taken (logs 0)
+    → mark.lba < i.shape.capacity
+    → is_of line (landed_line_of i logs mark.lba (last_take (logs 0) mark.lba)) ≡ true
+    → taker_by i (after logs (Take entry mark) knows) line ≡ Some (latest (taker_by i logs line) entry.position)
 taker_lost i logs entry mark knows line numbered next inside is =
     let ts : List Taken = filter (took_from i logs line) (takes (logs 0)) in
-    ap (λ (us : List Taken). option_map (λ (t : Taken). t.entry.position) (last_or None us)) (takers_now i logs entry mark knows line true numbered next inside is)
+    ap (λ (us : List Taken). option_map (λ (t : Taken). t.entry.position) (last_or None us))
+    (takers_now i logs entry mark knows line true numbered next inside is)
     ∙ ap (option_map (λ (t : Taken). t.entry.position)) (last_is None ts (new_taken entry mark))
     ∙ ap (λ n. Some n) (sym (latest_is entry.position (last_or None ts) (λ t e.
     let below : t.entry.position < taken (logs 0) = last_in (λ (u : Taken). u.entry.position < taken (logs 0)) None ts t (λ y f. absurd (none-some y f))
     (all_filter (λ (u : Taken). u.entry.position < taken (logs 0)) (took_from i logs line) (takes (logs 0)) (all_below (logs 0) numbered)) e in
     omega arith)))
 
-taker_same_now : (i : Image) (logs : Logs) (entry : Entry) (mark : Mark) (knows : List ℕ) (line : ℕ) → AreNumbered (logs 0) → entry.position ≡ taken (logs 0) → mark.lba < i.shape.capacity
-    → is_of line (landed_line_of i logs mark.lba (last_take (logs 0) mark.lba)) ≡ false → taker_by i (after logs (Take entry mark) knows) line ≡ taker_by i logs line
+taker_same_now : (i : Image) (logs : Logs) (entry : Entry) (mark : Mark) (knows : List ℕ) (line : ℕ) → AreNumbered (logs 0) → entry.position ≡ taken (logs 0)
+    → mark.lba < i.shape.capacity
+    → is_of line (landed_line_of i logs mark.lba (last_take (logs 0) mark.lba)) ≡ false
+    → taker_by i (after logs (Take entry mark) knows) line ≡ taker_by i logs line
 taker_same_now i logs entry mark knows line numbered next inside is =
     ap (λ (us : List Taken). option_map (λ (t : Taken). t.entry.position) (last_or None us))
     (takers_now i logs entry mark knows line false numbered next inside is ∙ append-nil (filter (took_from i logs line) (takes (logs 0))))
@@ -216,13 +244,20 @@ record IsStateKept (i : Image) (logs new : Logs) (line : ℕ) : Type 0 where
   wide : width_in i new line (life_of (new 0) line) ≡ width_in i logs line (life_of (logs 0) line)
   taker : (t : Option ℕ) → taker_by i new line ≡ t → taker_in i new line (life_of (new 0) line) ≡ t
 
-state_kept : (i : Image) (logs : Logs) (entry : Entry) (mark : Mark) (knows : List ℕ) (line : ℕ) → NoneFreed (logs 0) → IsStateKept i logs (after logs (Take entry mark) knows) line
+state_kept : (i : Image) (logs : Logs) (entry : Entry) (mark : Mark) (knows : List ℕ) (line : ℕ) → NoneFreed (logs 0)
+    → IsStateKept i logs (after logs (Take entry mark) knows) line
 state_kept i logs entry mark knows line freed =
     let new : Logs = after logs (Take entry mark) knows in
     let kept : KeepsStripes (logs 0) (new 0) = stripes_kept (logs 0) (Take entry mark) knows refl in
     let life : life_of (new 0) line ≡ life_of (logs 0) line = lives_kept (logs 0) (Take entry mark) knows line refl in
     let known : known_image i new ≡ known_image i logs = known_kept i logs (Take entry mark) knows refl (λ unit. refl) in
-    let chunks : KeepsChunks i logs new line = record { found = found_kept i logs (Take entry mark) knows refl; empty = ap (λ (j : Image). are_empty j line) known; wide = ap (λ (j : Image). width j line) known } in
+    let chunks : KeepsChunks i logs new line =
+    record {
+      found = found_kept i logs (Take entry mark) knows refl;
+      empty = ap (λ (j : Image). are_empty j line) known;
+      wide =
+          ap (λ (j : Image). width j line) known;
+    } in
     record {
       state = ap (state_in i new line) life ∙ state_same i logs new line (life_of (logs 0) line) chunks (freed line)
           (λ o is. ap₂ (λ a b. if a then states.Failed else if b then states.Full else states.Open) (failed_kept (logs 0) (new 0) kept o)
@@ -232,41 +267,51 @@ state_kept i logs entry mark knows line freed =
     }
 
 -- the sector was live in another line, or in none
-row_same_now : (i : Image) (logs : Logs) (entry : Entry) (mark : Mark) (knows : List ℕ) (line : ℕ) → NoneFreed (logs 0) → AreNumbered (logs 0) → IsUnplaced i.shape (logs 0) entry.position → entry.position ≡ taken (logs 0)
+row_same_now : (i : Image) (logs : Logs) (entry : Entry) (mark : Mark) (knows : List ℕ) (line : ℕ) → NoneFreed (logs 0) → AreNumbered (logs 0)
+    → IsUnplaced i.shape (logs 0) entry.position → entry.position ≡ taken (logs 0)
     → mark.lba < i.shape.capacity → is_live_in i logs line mark.lba ≡ false → is_of line (landed_line_of i logs mark.lba (last_take (logs 0) mark.lba)) ≡ false
     → row_of_line i (after logs (Take entry mark) knows) line ≡ row_of_line i logs line
 row_same_now i logs entry mark knows line freed numbered none next inside is apart =
     let new : Logs = after logs (Take entry mark) knows in
     let kept : IsStateKept i logs new line = state_kept i logs entry mark knows line freed in
-    same_row (row_of_line i new line).state (row_of_line i logs line).state (row_of_line i new line).width (row_of_line i logs line).width (live i new line) (live i logs line)
+    same_row (row_of_line i new line).state (row_of_line i logs line).state (row_of_line i new line).width (row_of_line i logs line).width (live i new line)
+    (live i logs line)
     (row_of_line i new line).taker (row_of_line i logs line).taker kept.state kept.wide (lost_none i logs entry mark knows line none is)
-    (kept.taker (taker_by i logs line) (taker_same_now i logs entry mark knows line numbered next inside apart) ∙ sym (taker_is i logs line (life_of (logs 0) line) (freed line)))
+    (kept.taker (taker_by i logs line) (taker_same_now i logs entry mark knows line numbered next inside apart)
+    ∙ sym (taker_is i logs line (life_of (logs 0) line) (freed line)))
 
 -- it was live there, and had landed
-row_lost : (i : Image) (logs : Logs) (entry : Entry) (mark : Mark) (knows : List ℕ) (line : ℕ) → NoneFreed (logs 0) → AreNumbered (logs 0) → IsUnplaced i.shape (logs 0) entry.position → entry.position ≡ taken (logs 0)
+row_lost : (i : Image) (logs : Logs) (entry : Entry) (mark : Mark) (knows : List ℕ) (line : ℕ) → NoneFreed (logs 0) → AreNumbered (logs 0)
+    → IsUnplaced i.shape (logs 0) entry.position → entry.position ≡ taken (logs 0)
     → mark.lba < i.shape.capacity → is_live_in i logs line mark.lba ≡ true → is_of line (landed_line_of i logs mark.lba (last_take (logs 0) mark.lba)) ≡ true
     → row_of_line i (after logs (Take entry mark) knows) line ≡ lost entry.position (row_of_line i logs line)
 row_lost i logs entry mark knows line freed numbered none next inside is there =
     let new : Logs = after logs (Take entry mark) knows in
     let kept : IsStateKept i logs new line = state_kept i logs entry mark knows line freed in
-    same_row (row_of_line i new line).state (row_of_line i logs line).state (row_of_line i new line).width (row_of_line i logs line).width (live i new line) (live i logs line - 1)
-    (row_of_line i new line).taker (Some (latest (row_of_line i logs line).taker entry.position)) kept.state kept.wide (lost_one i logs entry mark knows line none inside is)
+    same_row (row_of_line i new line).state (row_of_line i logs line).state (row_of_line i new line).width (row_of_line i logs line).width (live i new line)
+    (live i logs line - 1)
+    (row_of_line i new line).taker (Some (latest (row_of_line i logs line).taker entry.position)) kept.state kept.wide
+    (lost_one i logs entry mark knows line none inside is)
     (kept.taker (Some (latest (taker_by i logs line) entry.position)) (taker_lost i logs entry mark knows line numbered next inside there)
     ∙ ap (λ t. Some (latest t entry.position)) (sym (taker_is i logs line (life_of (logs 0) line) (freed line))))
 
 -- it was live there, and hadn't landed
-row_lowered : (i : Image) (logs : Logs) (entry : Entry) (mark : Mark) (knows : List ℕ) (line : ℕ) → NoneFreed (logs 0) → AreNumbered (logs 0) → IsUnplaced i.shape (logs 0) entry.position → entry.position ≡ taken (logs 0)
+row_lowered : (i : Image) (logs : Logs) (entry : Entry) (mark : Mark) (knows : List ℕ) (line : ℕ) → NoneFreed (logs 0) → AreNumbered (logs 0)
+    → IsUnplaced i.shape (logs 0) entry.position → entry.position ≡ taken (logs 0)
     → mark.lba < i.shape.capacity → is_live_in i logs line mark.lba ≡ true → is_of line (landed_line_of i logs mark.lba (last_take (logs 0) mark.lba)) ≡ false
     → row_of_line i (after logs (Take entry mark) knows) line ≡ lowered (row_of_line i logs line)
 row_lowered i logs entry mark knows line freed numbered none next inside is apart =
     let new : Logs = after logs (Take entry mark) knows in
     let kept : IsStateKept i logs new line = state_kept i logs entry mark knows line freed in
-    same_row (row_of_line i new line).state (row_of_line i logs line).state (row_of_line i new line).width (row_of_line i logs line).width (live i new line) (live i logs line - 1)
+    same_row (row_of_line i new line).state (row_of_line i logs line).state (row_of_line i new line).width (row_of_line i logs line).width (live i new line)
+    (live i logs line - 1)
     (row_of_line i new line).taker (row_of_line i logs line).taker kept.state kept.wide (lost_one i logs entry mark knows line none inside is)
-    (kept.taker (taker_by i logs line) (taker_same_now i logs entry mark knows line numbered next inside apart) ∙ sym (taker_is i logs line (life_of (logs 0) line) (freed line)))
+    (kept.taker (taker_by i logs line) (taker_same_now i logs entry mark knows line numbered next inside apart)
+    ∙ sym (taker_is i logs line (life_of (logs 0) line) (freed line)))
 
 -- by the line in which it was live, and whether it had landed there
-pub rows_taken : (i : Image) (logs : Logs) (entry : Entry) (mark : Mark) (knows : List ℕ) (landed : Bool) → NoneFreed (logs 0) → AreNumbered (logs 0) → IsUnplaced i.shape (logs 0) entry.position
+pub rows_taken : (i : Image) (logs : Logs) (entry : Entry) (mark : Mark) (knows : List ℕ) (landed : Bool) → NoneFreed (logs 0) → AreNumbered (logs 0)
+    → IsUnplaced i.shape (logs 0) entry.position
     → entry.position ≡ taken (logs 0) → mark.lba < i.shape.capacity
     → landed_line_of i logs mark.lba (last_take (logs 0) mark.lba) ≡ (if landed then line_of i logs mark.lba (last_take (logs 0) mark.lba) else None)
     → rows_of i (after logs (Take entry mark) knows) ≡ lose_in (line_of i logs mark.lba (last_take (logs 0) mark.lba)) landed entry.position (rows_of i logs)
@@ -289,7 +334,8 @@ rows_taken i logs entry mark knows landed freed numbered none next inside there 
     go None e b is = rows_stay i logs new (λ m. row_same_now i logs entry mark knows m freed numbered none next inside (ap (is_of m) e)
         (ap (is_of m) (is ∙ none_of (line_of i logs mark.lba (last_take (logs 0) mark.lba)) b e)))
     go (Some line) e true is = row_changes_any i logs new line (lost entry.position)
-        (row_lost i logs entry mark knows line freed numbered none next inside (ap (is_of line) e ∙ same_number line) (ap (is_of line) (is ∙ e) ∙ same_number line))
+        (row_lost i logs entry mark knows line freed numbered none next inside (ap (is_of line) e ∙ same_number line)
+        (ap (is_of line) (is ∙ e) ∙ same_number line))
         (λ m other. row_same_now i logs entry mark knows m freed numbered none next inside (ap (is_of m) e ∙ other_number line m (λ f. other (sym f)))
         (ap (is_of m) (is ∙ e) ∙ apart_by m line true other))
     go (Some line) e false is = row_changes_any i logs new line lowered

@@ -41,28 +41,38 @@ find_same f g same [] = refl
 find_same f g same (x ∷ xs) = ap₂ (λ b o. cond b (Some x) o) (same x) (find_same f g same xs)
 
 stripes_on_same : (old new : List Logged) → AreAlike old new → (o : Opening) (unit : ℕ) → stripes_on new o unit ≡ stripes_on old o unit
-stripes_on_same old new same o unit = ap (λ ps. filter (λ (p : Placed). p.stripe.unit == unit) (filter (λ (p : Placed). is_life o.number p.life) ps)) same.placements
+stripes_on_same old new same o unit =
+    ap (λ ps. filter (λ (p : Placed). p.stripe.unit == unit) (filter (λ (p : Placed). is_life o.number p.life) ps)) same.placements
 
 blocks_same : (s : Shape) (old new : List Logged) → AreAlike old new → (o : Opening) (unit : ℕ) → landed_blocks s new o unit ≡ landed_blocks s old o unit
-blocks_same s old new same o unit = ap (λ n. n * s.ws_opt) (ap length (filter_same (has_landed new) (has_landed old) (landed_same old new same) (stripes_on new o unit) ∙ ap (filter (has_landed old)) (stripes_on_same old new same o unit)))
+blocks_same s old new same o unit =
+    ap (λ n. n * s.ws_opt) (ap length
+    (filter_same (has_landed new) (has_landed old) (landed_same old new same) (stripes_on new o unit)
+    ∙ ap (filter (has_landed old)) (stripes_on_same old new same o unit)))
 
 closed_same : (s : Shape) (old new : List Logged) → AreAlike old new → (o : Opening) (unit : ℕ) → is_closed_in s new o unit ≡ is_closed_in s old o unit
 closed_same s old new same o unit = ap₂ (λ a n. a || (n == s.clba))
-    (any_same (was_lost new) (was_lost old) (lost_same old new same) (stripes_on new o unit) ∙ ap (list_any (was_lost old)) (stripes_on_same old new same o unit))
+    (any_same (was_lost new) (was_lost old) (lost_same old new same) (stripes_on new o unit)
+    ∙ ap (list_any (was_lost old)) (stripes_on_same old new same o unit))
     (blocks_same s old new same o unit)
 
-readable_same : (s : Shape) (old new : List Logged) → AreAlike old new → (unit block : ℕ) (life : LineLife) → is_readable_in s new unit block life ≡ is_readable_in s old unit block life
+readable_same : (s : Shape) (old new : List Logged) → AreAlike old new → (unit block : ℕ) (life : LineLife)
+    → is_readable_in s new unit block life ≡ is_readable_in s old unit block life
 readable_same s old new same unit block AsFound = refl
-readable_same s old new same unit block (Opened o) = ap₂ (λ a n. a || nat_lt (block + s.mw_cunits) n) (closed_same s old new same o unit) (blocks_same s old new same o unit)
+readable_same s old new same unit block (Opened o) =
+    ap₂ (λ a n. a || nat_lt (block + s.mw_cunits) n) (closed_same s old new same o unit) (blocks_same s old new same o unit)
 readable_same s old new same unit block (Freed past k) = refl
 
 can_read_same : (s : Shape) (old new : List Logged) → AreAlike old new → (position : ℕ) (p : Placed) (b : ℕ × Block)
-    → (bears_position s position b.1 && is_readable_in s new p.stripe.unit b.0 p.life) ≡ (bears_position s position b.1 && is_readable_in s old p.stripe.unit b.0 p.life)
+    → (bears_position s position b.1 && is_readable_in s new p.stripe.unit b.0 p.life) ≡
+    (bears_position s position b.1 && is_readable_in s old p.stripe.unit b.0 p.life)
 can_read_same s old new same position p b = ap (λ c. bears_position s position b.1 && c) (readable_same s old new same p.stripe.unit b.0 p.life)
 
-pub gives_back_same : (s : Shape) (old new : List Logged) → AreAlike old new → (position : ℕ) (p : Placed) → gives_back s new position p ≡ gives_back s old position p
+pub gives_back_same : (s : Shape) (old new : List Logged) → AreAlike old new → (position : ℕ) (p : Placed)
+    → gives_back s new position p ≡ gives_back s old position p
 gives_back_same s old new same position p = ap₂ (λ a b. a && b) (landed_same old new same p)
-    (any_same (λ (b : ℕ × Block). bears_position s position b.1 && is_readable_in s new p.stripe.unit b.0 p.life) (λ (b : ℕ × Block). bears_position s position b.1 && is_readable_in s old p.stripe.unit b.0 p.life)
+    (any_same (λ (b : ℕ × Block). bears_position s position b.1 && is_readable_in s new p.stripe.unit b.0 p.life)
+    (λ (b : ℕ × Block). bears_position s position b.1 && is_readable_in s old p.stripe.unit b.0 p.life)
     (can_read_same s old new same position p) (enumerate_from p.stripe.at p.stripe.blocks))
 
 -- ---- an entry's slot
@@ -78,43 +88,55 @@ is_before n m none = go (nat_lt n m) refl
         let same : (n == n) ≡ true = same_number n in
         absurd cc
 
-address_same : (i : Image) (logs : Logs) (entry : Entry) (mark : Mark) (knows : List ℕ) (life : LineLife) (p : Placed) (block : ℕ) → ((n : ℕ) → length (logs 0) ≤ n → is_life n life ≡ false)
+address_same : (i : Image) (logs : Logs) (entry : Entry) (mark : Mark) (knows : List ℕ) (life : LineLife) (p : Placed) (block : ℕ)
+    → ((n : ℕ) → length (logs 0) ≤ n → is_life n life ≡ false)
     → address_in i (after logs (Take entry mark) knows) life p block ≡ address_in i logs life p block
 address_same i logs entry mark knows AsFound p block before = refl
 address_same i logs entry mark knows (Opened o) p block before =
-    ap (λ (l : OpenLine). number_of i.shape l p.stripe * i.shape.ws_opt + (block - p.stripe.at)) (as_opened_same i logs (Take entry mark) knows o (is_before o.number (length (logs 0)) before))
+    ap (λ (l : OpenLine). number_of i.shape l p.stripe * i.shape.ws_opt + (block - p.stripe.at))
+    (as_opened_same i logs (Take entry mark) knows o (is_before o.number (length (logs 0)) before))
 address_same i logs entry mark knows (Freed past k) p block before = refl
 
-media_same : (i : Image) (logs : Logs) (entry : Entry) (mark : Mark) (knows : List ℕ) (position : ℕ) (p : Placed) → ((n : ℕ) → length (logs 0) ≤ n → is_life n p.life ≡ false)
+media_same : (i : Image) (logs : Logs) (entry : Entry) (mark : Mark) (knows : List ℕ) (position : ℕ) (p : Placed)
+    → ((n : ℕ) → length (logs 0) ≤ n → is_life n p.life ≡ false)
     → media_of i (after logs (Take entry mark) knows) position p ≡ media_of i logs position p
 media_same i logs entry mark knows position p before =
     let new : Logs = after logs (Take entry mark) knows in
     let same : AreAlike (logs 0) (new 0) = alike (logs 0) entry mark knows in
     let block : readable_block i new position p ≡ readable_block i logs position p =
-    ap (option_map (λ (b : ℕ × Block). b.0)) (find_same (λ (b : ℕ × Block). bears_position i.shape position b.1 && is_readable_in i.shape (new 0) p.stripe.unit b.0 p.life) (λ (b : ℕ × Block). bears_position i.shape position b.1 && is_readable_in i.shape (logs 0) p.stripe.unit b.0 p.life)
+    ap (option_map (λ (b : ℕ × Block). b.0))
+    (find_same (λ (b : ℕ × Block). bears_position i.shape position b.1 && is_readable_in i.shape (new 0) p.stripe.unit b.0 p.life)
+    (λ (b : ℕ × Block). bears_position i.shape position b.1 && is_readable_in i.shape (logs 0) p.stripe.unit b.0 p.life)
     (can_read_same i.shape (logs 0) (new 0) same position p) (enumerate_from p.stripe.at p.stripe.blocks)) in
-    ap (λ a. Media p.stripe.line a position) (ap (λ b. address_in i new p.life p (unwrap_or b 0)) block ∙ address_same i logs entry mark knows p.life p (unwrap_or (readable_block i logs position p) 0) before)
+    ap (λ a. Media p.stripe.line a position)
+    (ap (λ b. address_in i new p.life p (unwrap_or b 0)) block
+    ∙ address_same i logs entry mark knows p.life p (unwrap_or (readable_block i logs position p) 0) before)
 
 lives_before : (log : List Logged) → AllByRecursion (λ (p : Placed). (n : ℕ) → length log ≤ n → is_life n p.life ≡ false) (placements log)
 lives_before log = each (placements log) (λ n within. placed_before log n within)
   where
-    each : (ps : List Placed) → ((n : ℕ) → length log ≤ n → AllByRecursion (λ p. is_life n p.life ≡ false) ps) → AllByRecursion (λ (p : Placed). (n : ℕ) → length log ≤ n → is_life n p.life ≡ false) ps
+    each : (ps : List Placed) → ((n : ℕ) → length log ≤ n → AllByRecursion (λ p. is_life n p.life ≡ false) ps)
+        → AllByRecursion (λ (p : Placed). (n : ℕ) → length log ≤ n → is_life n p.life ≡ false) ps
     each [] all = tt
     each (p ∷ ps) all = ((λ n within. (all n within).0), each ps (λ n within. (all n within).1))
 
-entry_same : (i : Image) (logs : Logs) (entry : Entry) (mark : Mark) (knows : List ℕ) (position : ℕ) → slot_of_entry i (after logs (Take entry mark) knows) position ≡ slot_of_entry i logs position
+entry_same : (i : Image) (logs : Logs) (entry : Entry) (mark : Mark) (knows : List ℕ) (position : ℕ)
+    → slot_of_entry i (after logs (Take entry mark) knows) position ≡ slot_of_entry i logs position
 entry_same i logs entry mark knows position =
     let new : Logs = after logs (Take entry mark) knows in
     let same : AreAlike (logs 0) (new 0) = alike (logs 0) entry mark knows in
     ap (λ o. option_map_or (media_of i new position) o (Cached position))
-    (find_same (gives_back i.shape (new 0) position) (gives_back i.shape (logs 0) position) (gives_back_same i.shape (logs 0) (new 0) same position) (placements (new 0)) ∙ ap (find (gives_back i.shape (logs 0) position)) same.placements)
+    (find_same (gives_back i.shape (new 0) position) (gives_back i.shape (logs 0) position) (gives_back_same i.shape (logs 0) (new 0) same position)
+    (placements (new 0)) ∙ ap (find (gives_back i.shape (logs 0) position)) same.placements)
     ∙ go (find (gives_back i.shape (logs 0) position) (placements (logs 0))) refl
   where
     go : (o : Option Placed) → find (gives_back i.shape (logs 0) position) (placements (logs 0)) ≡ o
-        → option_map_or (media_of i (after logs (Take entry mark) knows) position) o (Cached position) ≡ option_map_or (media_of i logs position) o (Cached position)
+        → option_map_or (media_of i (after logs (Take entry mark) knows) position) o (Cached position) ≡ option_map_or (media_of i logs position) o
+        (Cached position)
     go None e = refl
     go (Some p) e = media_same i logs entry mark knows position p
-        (find_all (λ (p : Placed). (n : ℕ) → length (logs 0) ≤ n → is_life n p.life ≡ false) (gives_back i.shape (logs 0) position) (placements (logs 0)) p e (lives_before (logs 0)))
+        (find_all (λ (p : Placed). (n : ℕ) → length (logs 0) ≤ n → is_life n p.life ≡ false) (gives_back i.shape (logs 0) position) (placements (logs 0)) p e
+        (lives_before (logs 0)))
 
 -- ---- a sector's slot
 
@@ -129,23 +151,28 @@ found_same i logs entry mark knows = ap (found_by i (after logs (Take entry mark
     go None = refl
     go (Some b) = refl
 
-slot_by_same : (i : Image) (logs : Logs) (entry : Entry) (mark : Mark) (knows : List ℕ) (lba : ℕ) (t : Option Taken) → slot_by i (after logs (Take entry mark) knows) lba t ≡ slot_by i logs lba t
+slot_by_same : (i : Image) (logs : Logs) (entry : Entry) (mark : Mark) (knows : List ℕ) (lba : ℕ) (t : Option Taken)
+    → slot_by i (after logs (Take entry mark) knows) lba t ≡ slot_by i logs lba t
 slot_by_same i logs entry mark knows lba None = ap (λ f. slot_of_winner (winner (counted f) lba)) (found_same i logs entry mark knows)
 slot_by_same i logs entry mark knows lba (Some t) = entry_same i logs entry mark knows t.entry.position
 
-never_read : (test : Block → Bool) (more : ℕ × Block → Bool) (n : ℕ) (bs : List Block) → list_any test bs ≡ false → list_any (λ (b : ℕ × Block). test b.1 && more b) (enumerate_from n bs) ≡ false
+never_read : (test : Block → Bool) (more : ℕ × Block → Bool) (n : ℕ) (bs : List Block) → list_any test bs ≡ false
+    → list_any (λ (b : ℕ × Block). test b.1 && more b) (enumerate_from n bs) ≡ false
 never_read test more n [] e = refl
 never_read test more n (b ∷ bs) e = go (test b) e (λ f. never_read test more (n + 1) bs f)
   where
-    go : (c : Bool) → (c || list_any test bs) ≡ false → (list_any test bs ≡ false → list_any (λ (b : ℕ × Block). test b.1 && more b) (enumerate_from (n + 1) bs) ≡ false)
+    go : (c : Bool) → (c || list_any test bs) ≡ false
+        → (list_any test bs ≡ false → list_any (λ (b : ℕ × Block). test b.1 && more b) (enumerate_from (n + 1) bs) ≡ false)
         → ((c && more (n, b)) || list_any (λ (b : ℕ × Block). test b.1 && more b) (enumerate_from (n + 1) bs)) ≡ false
     go true f rest = absurd cc
     go false f rest = rest f
 
-not_given : (s : Shape) (log : List Logged) (position : ℕ) (ps : List Placed) → AllByRecursion (λ p. holds_position s position p ≡ false) ps → AllByRecursion (λ p. gives_back s log position p ≡ false) ps
+not_given : (s : Shape) (log : List Logged) (position : ℕ) (ps : List Placed) → AllByRecursion (λ p. holds_position s position p ≡ false) ps
+    → AllByRecursion (λ p. gives_back s log position p ≡ false) ps
 not_given s log position [] all = tt
 not_given s log position (p ∷ ps) all = (
-  and_false (has_landed log p) (list_any (λ (b : ℕ × Block). bears_position s position b.1 && is_readable_in s log p.stripe.unit b.0 p.life) (enumerate_from p.stripe.at p.stripe.blocks))
+  and_false (has_landed log p) (list_any (λ (b : ℕ × Block). bears_position s position b.1 && is_readable_in s log p.stripe.unit b.0 p.life)
+      (enumerate_from p.stripe.at p.stripe.blocks))
       (never_read (bears_position s position) (λ (b : ℕ × Block). is_readable_in s log p.stripe.unit b.0 p.life) p.stripe.at p.stripe.blocks all.0),
   not_given s log position ps all.1,
 )
@@ -161,19 +188,23 @@ last_take_more log entry mark knows lba b e =
     ∙ filter_last (λ (t : Taken). t.mark.lba == lba) (takes log) (record { entry = entry; mark = mark }) b e)
     ∙ go b
   where
-    go : (b : Bool) → last_or None (filter (λ (t : Taken). t.mark.lba == lba) (takes log) ++ cond b (record { entry = entry; mark = mark } ∷ []) []) ≡ (if b then Some (record { entry = entry; mark = mark }) else last_take log lba)
+    go : (b : Bool) → last_or None (filter (λ (t : Taken). t.mark.lba == lba) (takes log) ++ cond b (record { entry = entry; mark = mark } ∷ []) []) ≡
+        (if b then Some (record { entry = entry; mark = mark }) else last_take log lba)
     go true = last_is None (filter (λ (t : Taken). t.mark.lba == lba) (takes log)) (record { entry = entry; mark = mark })
     go false = ap (last_or None) (append-nil (filter (λ (t : Taken). t.mark.lba == lba) (takes log)))
 
-pub slot_taken : (i : Image) (logs : Logs) (entry : Entry) (mark : Mark) (knows : List ℕ) (lba : ℕ) → AllByRecursion (λ p. holds_position i.shape entry.position p ≡ false) (placements (logs 0))
+pub slot_taken : (i : Image) (logs : Logs) (entry : Entry) (mark : Mark) (knows : List ℕ) (lba : ℕ)
+    → AllByRecursion (λ p. holds_position i.shape entry.position p ≡ false) (placements (logs 0))
     → slot_of i (after logs (Take entry mark) knows) lba ≡ (if mark.lba == lba then Cached entry.position else slot_of i logs lba)
 slot_taken i logs entry mark knows lba none = go (nat_eq mark.lba lba) refl
   where
-    go : (b : Bool) → (mark.lba == lba) ≡ b → slot_of i (after logs (Take entry mark) knows) lba ≡ (if mark.lba == lba then Cached entry.position else slot_of i logs lba)
+    go : (b : Bool) → (mark.lba == lba) ≡ b
+        → slot_of i (after logs (Take entry mark) knows) lba ≡ (if mark.lba == lba then Cached entry.position else slot_of i logs lba)
     go true e =
         ap (slot_by i (after logs (Take entry mark) knows) lba) (last_take_more (logs 0) entry mark knows lba true e)
         ∙ entry_same i logs entry mark knows entry.position
-        ∙ ap (λ o. option_map_or (media_of i logs entry.position) o (Cached entry.position)) (find_none (gives_back i.shape (logs 0) entry.position) (placements (logs 0)) (not_given i.shape (logs 0) entry.position (placements (logs 0)) none))
+        ∙ ap (λ o. option_map_or (media_of i logs entry.position) o (Cached entry.position))
+        (find_none (gives_back i.shape (logs 0) entry.position) (placements (logs 0)) (not_given i.shape (logs 0) entry.position (placements (logs 0)) none))
         ∙ ap (λ b. if b then Cached entry.position else slot_of i logs lba) (sym e)
     go false e =
         ap (slot_by i (after logs (Take entry mark) knows) lba) (last_take_more (logs 0) entry mark knows lba false e)

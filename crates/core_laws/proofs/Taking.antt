@@ -40,7 +40,8 @@ alike log entry mark knows = record {
       (λ unit. answers_more log (record { event = Decides (Take entry mark); knows = knows }) unit ∙ append-nil (answers log unit));
 }
 
-never_placed : (s : Shape) (log : List Logged) (t : Taken) → AllByRecursion (λ p. holds_position s t.entry.position p ≡ false) (placements log) → was_placed s log t ≡ false
+never_placed : (s : Shape) (log : List Logged) (t : Taken) → AllByRecursion (λ p. holds_position s t.entry.position p ≡ false) (placements log)
+    → was_placed s log t ≡ false
 never_placed s log t none = ap (λ ps. nat_lt 0 (length ps)) (filter_none (holds_position s t.entry.position) (placements log) none)
 
 -- a filter's list with one more element
@@ -51,10 +52,12 @@ pub positions_last : (ts : List Taken) (t : Taken) → positions_of (ts ++ t ∷
 positions_last [] t = refl
 positions_last (u ∷ ts) t = ap (λ xs. u.entry.position ∷ xs) (positions_last ts t)
 
-pub same_entries : (a b : List ℕ) (c d : List ℕ) (pad : ℕ) → a ≡ b → c ≡ d → ◌≡◌ {A = Entries} (record { lost = a; fresh = c; pad = pad }) (record { lost = b; fresh = d; pad = pad })
+pub same_entries : (a b : List ℕ) (c d : List ℕ) (pad : ℕ) → a ≡ b → c ≡ d
+    → ◌≡◌ {A = Entries} (record { lost = a; fresh = c; pad = pad }) (record { lost = b; fresh = d; pad = pad })
 same_entries a b c d pad p q = λ i. record { lost = p i; fresh = q i; pad = pad }
 
-entries_taken : (s : Shape) (log : List Logged) (entry : Entry) (mark : Mark) (knows : List ℕ) (pad : ℕ) → AllByRecursion (λ p. holds_position s entry.position p ≡ false) (placements log)
+entries_taken : (s : Shape) (log : List Logged) (entry : Entry) (mark : Mark) (knows : List ℕ) (pad : ℕ)
+    → AllByRecursion (λ p. holds_position s entry.position p ≡ false) (placements log)
     → entries_of s (with_take log entry mark knows) pad ≡ with_entry (entries_of s log pad) entry.position false
 entries_taken s log entry mark knows pad none =
     let t : Taken = record { entry = entry; mark = mark } in
@@ -62,7 +65,8 @@ entries_taken s log entry mark knows pad none =
     let more : takes new ≡ takes log ++ t ∷ [] = takes_more log (record { event = Decides (Take entry mark); knows = knows }) in
     let unplaced : was_placed s log t ≡ false = never_placed s log t none in
     let lost : lost_entries s new ≡ lost_entries s log =
-    filter_same (λ u. waits s new u && was_placed s new u) (λ u. waits s log u && was_placed s log u) (is_lost_same s log new (alike log entry mark knows)) (takes new)
+    filter_same (λ u. waits s new u && was_placed s new u) (λ u. waits s log u && was_placed s log u) (is_lost_same s log new (alike log entry mark knows))
+    (takes new)
     ∙ ap (filter (λ u. waits s log u && was_placed s log u)) more
     ∙ filter_last (λ u. waits s log u && was_placed s log u) (takes log) t false (and_false (waits s log t) (was_placed s log t) unplaced)
     ∙ append-nil (lost_entries s log) in
@@ -70,7 +74,8 @@ entries_taken s log entry mark knows pad none =
     filter_same (λ u. not (was_placed s new u)) (λ u. not (was_placed s log u)) (is_fresh_same s log new (alike log entry mark knows)) (takes new)
     ∙ ap (filter (λ u. not (was_placed s log u))) more
     ∙ filter_last (λ u. not (was_placed s log u)) (takes log) t true (ap not unplaced) in
-    same_entries (positions_of (lost_entries s new)) (positions_of (lost_entries s log)) (positions_of (fresh_entries s new)) (positions_of (fresh_entries s log) ++ entry.position ∷ []) pad
+    same_entries (positions_of (lost_entries s new)) (positions_of (lost_entries s log)) (positions_of (fresh_entries s new))
+    (positions_of (fresh_entries s log) ++ entry.position ∷ []) pad
     (ap positions_of lost) (ap positions_of fresh ∙ positions_last (fresh_entries s log) t)
 
 pub placing_taken : (i : Image) (logs : Logs) (entry : Entry) (mark : Mark) (knows : List ℕ) (pad : ℕ) (again : List ℕ)
@@ -80,11 +85,13 @@ placing_taken i logs entry mark knows pad again none =
     let same : AreAlike (logs 0) (after logs (Take entry mark) knows 0) = alike (logs 0) entry mark knows in
     let l : Logged = record { event = Decides (Take entry mark); knows = knows } in
     same_placing i.shape (entries_of i.shape (after logs (Take entry mark) knows 0) pad) (with_entry (entries_of i.shape (logs 0) pad) entry.position false)
-    (map (row_of i (after logs (Take entry mark) knows) again) (range_with_len 0 (units i.shape))) (map (row_of i logs again) (range_with_len 0 (units i.shape)))
+    (map (row_of i (after logs (Take entry mark) knows) again) (range_with_len 0 (units i.shape)))
+    (map (row_of i logs again) (range_with_len 0 (units i.shape)))
     (open_lines i (after logs (Take entry mark) knows)) (open_lines i logs)
     (entries_taken i.shape (logs 0) entry mark knows pad none)
     (map_same (row_of i (after logs (Take entry mark) knows) again) (row_of i logs again) (λ unit. row_same i logs (Take entry mark) knows again again unit
     (ap₂ (λ ps ns. unanswered_in ps ns unit) same.placements same.answers)
     (ap (λ b. b && not (contains_unit again unit)) (stopped_more (logs 0) l unit))) (range_with_len 0 (units i.shape)))
     (lines_same i logs (Take entry mark) knows same
-    (standing_same (logs 0) (after logs (Take entry mark) knows 0) (openings_more (logs 0) l ∙ append-nil (openings (logs 0))) (λ line. life_more (logs 0) l line)))
+    (standing_same (logs 0) (after logs (Take entry mark) knows 0) (openings_more (logs 0) l ∙ append-nil (openings (logs 0)))
+    (λ line. life_more (logs 0) l line)))

@@ -72,7 +72,8 @@ prefix_prefix logs n k h = fun_same (engine_prefix n (engine_prefix k logs)) (en
 
 all_range : (g : Stripe → Bool) (f : ℕ → Stripe) (a n : ℕ) → ((j : ℕ) → a ≤ j → j < a + n → g (f j) ≡ true) → list_all g (map f (range_with_len a n)) ≡ true
 all_range g f a zero each = refl
-all_range g f a (suc n) each = ap₂ (λ b c. b && c) (each a (omega arith) (omega arith)) (all_range g f (a + 1) n (λ j low high. each j (omega arith) (omega arith)))
+all_range g f a (suc n) each =
+    ap₂ (λ b c. b && c) (each a (omega arith) (omega arith)) (all_range g f (a + 1) n (λ j low high. each j (omega arith) (omega arith)))
 
 landed_answer : (a : Option Answer) → is_land a ≡ true → is_landed (by_answer a) ≡ true
 landed_answer None e = absurd cc
@@ -83,41 +84,55 @@ some_found : (x : Option Placed) → is_some x ≡ true → (p : Placed) × (x �
 some_found None e = absurd cc
 some_found (Some p) e = (p, refl)
 
-full_line : (i : Image) (logs : Logs) (k line : ℕ) (o : Opening) → IsAccepted i.shape → length i.units ≤ 64 → o.line ≡ line → o.number ≤ k → 0 < length (line_units (known_image i (engine_prefix o.number logs)) line)
+full_line : (i : Image) (logs : Logs) (k line : ℕ) (o : Opening) → IsAccepted i.shape → length i.units ≤ 64 → o.line ≡ line → o.number ≤ k
+    → 0 < length (line_units (known_image i (engine_prefix o.number logs)) line)
     → IsGoing i logs k line o → HaveNoLoss (take k (logs 0)) → IsLandedWhole i logs k line o → has_left (open_line i (engine_prefix k logs) o) ≡ false
 full_line i logs k line o accepted few same before wide is none whole =
     left_by_landing (open_line i (engine_prefix k logs) o) (none_lost_in i (engine_prefix k logs) none o)
-    ∙ ap not (all_range is_landed (outcome i.shape (take k (logs 0)) o (as_opened i (engine_prefix k logs) o)) 0 (length (as_opened i (engine_prefix k logs) o).stripes) (λ j low high. each j (omega arith)))
+    ∙ ap not (all_range is_landed (outcome i.shape (take k (logs 0)) o (as_opened i (engine_prefix k logs) o)) 0
+    (length (as_opened i (engine_prefix k logs) o).stripes) (λ j low high. each j (omega arith)))
   where
     live : units_in (as_opened i (engine_prefix k logs) o).live ≡ line_units (known_image i (engine_prefix o.number logs)) line
     live =
         ap₂ (λ (ls : Logs) n. units_in (bits_of (line_units (known_image i ls) n))) (prefix_prefix logs o.number k before) same
         ∙ bits_back (known_image i (engine_prefix o.number logs)) line (subst (λ n. n ≤ 64) (sym (length_known i (engine_prefix o.number logs))) few)
 
-    count : length (as_opened i (engine_prefix k logs) o).stripes ≡ length (line_units (known_image i (engine_prefix o.number logs)) line) * (i.shape.clba / i.shape.ws_opt)
-    count = length_replicate (length (units_in (as_opened i (engine_prefix k logs) o).live) * (i.shape.clba / i.shape.ws_opt)) Unplaced ∙ ap (λ (us : List ℕ). length us * (i.shape.clba / i.shape.ws_opt)) live
+    count : length (as_opened i (engine_prefix k logs) o).stripes ≡ length (line_units (known_image i (engine_prefix o.number logs)) line) *
+        (i.shape.clba / i.shape.ws_opt)
+    count = length_replicate (length (units_in (as_opened i (engine_prefix k logs) o).live) * (i.shape.clba / i.shape.ws_opt)) Unplaced
+        ∙ ap (λ (us : List ℕ). length us * (i.shape.clba / i.shape.ws_opt)) live
 
     placed : i.shape.clba / i.shape.ws_opt * length (line_units (known_image i (engine_prefix o.number logs)) line) ≤ length (stripes_of (take k (logs 0)) o)
     placed = all_placed i logs k line o wide is whole
 
-    each : (j : ℕ) → j < length (as_opened i (engine_prefix k logs) o).stripes → is_landed (outcome i.shape (take k (logs 0)) o (as_opened i (engine_prefix k logs) o) j) ≡ true
+    each : (j : ℕ) → j < length (as_opened i (engine_prefix k logs) o).stripes
+        → is_landed (outcome i.shape (take k (logs 0)) o (as_opened i (engine_prefix k logs) o) j) ≡ true
     each j inside =
-        let swap : length (line_units (known_image i (engine_prefix o.number logs)) line) * (i.shape.clba / i.shape.ws_opt) ≡ i.shape.clba / i.shape.ws_opt * length (line_units (known_image i (engine_prefix o.number logs)) line) = mul_comm (length (line_units (known_image i (engine_prefix o.number logs)) line)) (i.shape.clba / i.shape.ws_opt) in
+        let swap : length (line_units (known_image i (engine_prefix o.number logs)) line) *
+        (i.shape.clba / i.shape.ws_opt) ≡ i.shape.clba / i.shape.ws_opt * length (line_units (known_image i (engine_prefix o.number logs)) line) =
+        mul_comm (length (line_units (known_image i (engine_prefix o.number logs)) line)) (i.shape.clba / i.shape.ws_opt) in
         let within : j < length (stripes_of (take k (logs 0)) o) = omega (arith, inside, count, swap, placed) in
         let at : (p : Placed) × (slice_get (stripes_of (take k (logs 0)) o) j ≡ Some p) = got_within (stripes_of (take k (logs 0)) o) j within in
         let turn : IsAtTurn i.shape (line_units (known_image i (engine_prefix o.number logs)) line) line j at.0 = is.placed j at.0 at.1 in
         let unit : unit_of (as_opened i (engine_prefix k logs) o) j ≡ at.0.stripe.unit =
         ap (λ (us : List ℕ). slice_index_or us (j % length us) 0) live
-        ∙ get_or_from_slice_get (line_units (known_image i (engine_prefix o.number logs)) line) (j % length (line_units (known_image i (engine_prefix o.number logs)) line)) at.0.stripe.unit 0 turn.unit in
-        let block : j / width (as_opened i (engine_prefix k logs) o) * i.shape.ws_opt ≡ at.0.stripe.at = ap (λ (us : List ℕ). j / length us * i.shape.ws_opt) live ∙ sym turn.at in
-        let here : is_stripe_at i.shape (as_opened i (engine_prefix k logs) o) at.0.stripe.unit at.0.stripe.at j ≡ true = at_its_place i.shape (as_opened i (engine_prefix k logs) o) at.0.stripe.unit at.0.stripe.at j unit block in
+        ∙ get_or_from_slice_get (line_units (known_image i (engine_prefix o.number logs)) line)
+        (j % length (line_units (known_image i (engine_prefix o.number logs)) line)) at.0.stripe.unit 0 turn.unit in
+        let block : j / width (as_opened i (engine_prefix k logs) o) * i.shape.ws_opt ≡ at.0.stripe.at =
+        ap (λ (us : List ℕ). j / length us * i.shape.ws_opt) live ∙ sym turn.at in
+        let here : is_stripe_at i.shape (as_opened i (engine_prefix k logs) o) at.0.stripe.unit at.0.stripe.at j ≡ true =
+        at_its_place i.shape (as_opened i (engine_prefix k logs) o) at.0.stripe.unit at.0.stripe.at j unit block in
         let found : (p : Placed) × (placed_as i.shape (take k (logs 0)) o (as_opened i (engine_prefix k logs) o) j ≡ Some p) =
         some_found (placed_as i.shape (take k (logs 0)) o (as_opened i (engine_prefix k logs) o) j)
         (found_any (λ (p : Placed). is_stripe_at i.shape (as_opened i (engine_prefix k logs) o) p.stripe.unit p.stripe.at j) (stripes_of (take k (logs 0)) o)
-        ∙ any_member (λ (p : Placed). is_stripe_at i.shape (as_opened i (engine_prefix k logs) o) p.stripe.unit p.stripe.at j) (stripes_of (take k (logs 0)) o) j at.0 at.1 here) in
-        let its : IsAmong (stripes_of (take k (logs 0)) o) found.0 = (found_passes (λ (p : Placed). is_stripe_at i.shape (as_opened i (engine_prefix k logs) o) p.stripe.unit p.stripe.at j) (stripes_of (take k (logs 0)) o) found.0 found.1).1 in
+        ∙ any_member (λ (p : Placed). is_stripe_at i.shape (as_opened i (engine_prefix k logs) o) p.stripe.unit p.stripe.at j)
+        (stripes_of (take k (logs 0)) o) j at.0 at.1 here) in
+        let its : IsAmong (stripes_of (take k (logs 0)) o) found.0 =
+        (found_passes (λ (p : Placed). is_stripe_at i.shape (as_opened i (engine_prefix k logs) o) p.stripe.unit p.stripe.at j)
+        (stripes_of (take k (logs 0)) o) found.0 found.1).1 in
         ap (λ x. is_landed (became (take k (logs 0)) x)) found.1
-        ∙ landed_answer (answer_of (take k (logs 0)) found.0) (all_landed i logs k line o accepted.drive.ws_opt accepted.drive.whole_stripes is none whole its.0 found.0 its.1)
+        ∙ landed_answer (answer_of (take k (logs 0)) found.0)
+        (all_landed i logs k line o accepted.drive.ws_opt accepted.drive.whole_stripes is none whole its.0 found.0 its.1)
 
 -- ---- lines that are over
 
@@ -131,7 +146,8 @@ wide_width s (suc g) some = omega arith
 opening_before : (log : List Logged) (o : Opening) → opening_at log o.number ≡ Some o → o.number < length log
 opening_before log o e = go (slice_get log o.number) refl e
   where
-    go : (x : Option Logged) → slice_get log o.number ≡ x → option_and_then (λ (l : Logged). opened_by o.number l.knows l.event) x ≡ Some o → o.number < length log
+    go : (x : Option Logged) → slice_get log o.number ≡ x → option_and_then (λ (l : Logged). opened_by o.number l.knows l.event) x ≡ Some o
+        → o.number < length log
     go None f e = absurd (none-some o e)
     go (Some l) f e = slice_get_within log o.number l f
 
@@ -149,25 +165,30 @@ over_none_left i w simple early line o before was now over =
     (well_then.lines.going line o was) was over at in
     let whole_now : IsLandedWhole i (log_of w) (length (log_of w 0)) line o = λ x u at.
     let a : i.shape.clba / i.shape.ws_opt ≤ length (landed_on (take early (log_of w 0)) o u) = whole_then x u at in
-    let b : length (landed_on (take early (log_of w 0)) o u) ≤ length (landed_on (take (length (log_of w 0)) (log_of w 0)) o u) = landed_stays (log_of w) o u early (length (log_of w 0)) before (le_refl (length (log_of w 0))) in
+    let b : length (landed_on (take early (log_of w 0)) o u) ≤ length (landed_on (take (length (log_of w 0)) (log_of w 0)) o u) =
+    landed_stays (log_of w) o u early (length (log_of w 0)) before (le_refl (length (log_of w 0))) in
     omega (arith, a, b) in
     let wide : 0 < o.start.width = wide_width i.shape o.start.width (well_now.wide line o life) in
     let number : o.number < length (log_of w 0) = opening_before (log_of w 0) o (life_there (log_of w 0) line o now) in
     let few : units i.shape ≤ 64 = simple.mount.accepted.drive.few_units in
     let count : length i.units ≡ units i.shape = simple.mount.fit.units in
     subst (λ (ls : Logs). has_left (open_line i ls o) ≡ false) (whole_prefix (log_of w))
-    (full_line i (log_of w) (length (log_of w 0)) line o simple.mount.accepted (omega (arith, few, count)) (life_at (log_of w 0) line o now).1 (omega (arith, number)) (subst (λ n. 0 < n) going.width_is wide) going well_now.no_loss whole_now)
+    (full_line i (log_of w) (length (log_of w 0)) line o simple.mount.accepted (omega (arith, few, count)) (life_at (log_of w 0) line o now).1
+    (omega (arith, number)) (subst (λ n. 0 < n) going.width_is wide) going well_now.no_loss whole_now)
 
 -- ---- the life of a line, earlier
 
-life_back : (log : List Logged) (line : ℕ) (o : Opening) (early d : ℕ) → early + d ≤ length log → o.number < early → life_of (take (early + d) log) line ≡ Opened o → life_of (take early log) line ≡ Opened o
+life_back : (log : List Logged) (line : ℕ) (o : Opening) (early d : ℕ) → early + d ≤ length log → o.number < early
+    → life_of (take (early + d) log) line ≡ Opened o → life_of (take early log) line ≡ Opened o
 life_back log line o early zero within after e = let same : early + 0 ≡ early = omega arith in subst (λ n. life_of (take n log) line ≡ Opened o) same e
 life_back log line o early (suc d) within after e =
     let next : early + suc d ≡ suc (early + d) = omega arith in
     let at : (l : Logged) × (slice_get log (early + d) ≡ Some l) = got_within log (early + d) (omega arith) in
     let count : length (take (early + d) log) ≡ early + d = length-take-le (early + d) log (omega arith) in
     life_back log line o early d (omega arith) after
-    (by_event at.0.event at.0.knows count (sym (life_more (take (early + d) log) at.0 line) ∙ ap (λ (xs : List Logged). life_of xs line) (sym (take_next log (early + d) at.0 at.1)) ∙ ap (λ n. life_of (take n log) line) (sym next) ∙ e))
+    (by_event at.0.event at.0.knows count
+    (sym (life_more (take (early + d) log) at.0 line) ∙ ap (λ (xs : List Logged). life_of xs line) (sym (take_next log (early + d) at.0 at.1))
+    ∙ ap (λ n. life_of (take n log) line) (sym next) ∙ e))
   where
     opened_number : (p : Opening) → Opened p ≡ Opened o → p.number ≡ o.number
     opened_number p e = ap (λ (x : Opening). x.number) (opened_same p e)
@@ -175,31 +196,40 @@ life_back log line o early (suc d) within after e =
         opened_same : (p : Opening) → Opened p ≡ Opened o → p ≡ o
         opened_same p e = cc
 
-    by_event : (event : Event) (knows : List ℕ) → length (take (early + d) log) ≡ early + d → turned_by line (life_of (take (early + d) log) line) (length (take (early + d) log)) knows event ≡ Opened o → life_of (take (early + d) log) line ≡ Opened o
+    by_event : (event : Event) (knows : List ℕ) → length (take (early + d) log) ≡ early + d
+        → turned_by line (life_of (take (early + d) log) line) (length (take (early + d) log)) knows event ≡ Opened o
+        → life_of (take (early + d) log) line ≡ Opened o
     by_event (Decides (Open other start)) knows count e = go (nat_eq other line) e
       where
-        go : (b : Bool) → (if b then Opened (record { number = length (take (early + d) log); line = line; start = start; knows = knows }) else life_of (take (early + d) log) line) ≡ Opened o → life_of (take (early + d) log) line ≡ Opened o
-        go true f = let number : length (take (early + d) log) ≡ o.number = opened_number (record { number = length (take (early + d) log); line = line; start = start; knows = knows }) f in absurd (omega (arith, number, count, after))
+        go : (b : Bool) → (if b then Opened (record { number = length (take (early + d) log); line = line; start = start; knows = knows }) else life_of
+            (take (early + d) log) line) ≡ Opened o → life_of (take (early + d) log) line ≡ Opened o
+        go true f = let number : length (take (early + d) log) ≡ o.number =
+            opened_number (record { number = length (take (early + d) log); line = line; start = start; knows = knows }) f in absurd
+            (omega (arith, number, count, after))
         go false f = f
     by_event (Decides (Free other)) knows count e = go (nat_eq other line) e
       where
-        go : (b : Bool) → (if b then Freed (last_opening (life_of (take (early + d) log) line)) knows else life_of (take (early + d) log) line) ≡ Opened o → life_of (take (early + d) log) line ≡ Opened o
+        go : (b : Bool) → (if b then Freed (last_opening (life_of (take (early + d) log) line)) knows else life_of (take (early + d) log) line) ≡ Opened o
+            → life_of (take (early + d) log) line ≡ Opened o
         go true f = absurd cc
         go false f = f
     by_event event knows count e = e
 
 -- ---- the event that opened a line
 
-opening_event : (log : List Logged) (o : Opening) → opening_at log o.number ≡ Some o → (l : Logged) × (slice_get log o.number ≡ Some l) × (l.event ≡ Decides (Open o.line o.start))
+opening_event : (log : List Logged) (o : Opening) → opening_at log o.number ≡ Some o
+    → (l : Logged) × (slice_get log o.number ≡ Some l) × (l.event ≡ Decides (Open o.line o.start))
 opening_event log o e = go (slice_get log o.number) refl e
   where
     by_event : (knows : List ℕ) (event : Event) → opened_by o.number knows event ≡ Some o → event ≡ Decides (Open o.line o.start)
     by_event knows (Decides (Open line start)) f =
-        let same : ◌≡◌ {A = Opening} (record { number = o.number; line = line; start = start; knows = knows }) o = same_Some (record { number = o.number; line = line; start = start; knows = knows }) o f in
+        let same : ◌≡◌ {A = Opening} (record { number = o.number; line = line; start = start; knows = knows }) o =
+        same_Some (record { number = o.number; line = line; start = start; knows = knows }) o f in
         ap (λ (x : Opening). Decides (Open x.line x.start)) same
     by_event knows event f = absurd (none-some o f)
 
-    go : (x : Option Logged) → slice_get log o.number ≡ x → option_and_then (λ (l : Logged). opened_by o.number l.knows l.event) x ≡ Some o → (l : Logged) × (slice_get log o.number ≡ Some l) × (l.event ≡ Decides (Open o.line o.start))
+    go : (x : Option Logged) → slice_get log o.number ≡ x → option_and_then (λ (l : Logged). opened_by o.number l.knows l.event) x ≡ Some o
+        → (l : Logged) × (slice_get log o.number ≡ Some l) × (l.event ≡ Decides (Open o.line o.start))
     go None f e = absurd (none-some o e)
     go (Some l) f e = (l, f, by_event l.knows l.event e)
 
@@ -215,7 +245,8 @@ was_opened : (i : Image) (w : World) (o : Opening) → IsLegal i w → opening_a
 was_opened i w o legal e =
     let at : (l : Logged) × (slice_get (log_of w 0) o.number ≡ Some l) × (l.event ≡ Decides (Open o.line o.start)) = opening_event (log_of w 0) o e in
     let is : HasHappened i (log_of w) 0 o.number at.0 = happened i w 0 legal o.number at.0 at.1 in
-    let allowed : IsAllowed i 0 (Decides (Open o.line o.start)) (prefixes at.0 (log_of w)) = subst (λ event. IsAllowed i 0 event (prefixes at.0 (log_of w))) at.2 is.allowed in
+    let allowed : IsAllowed i 0 (Decides (Open o.line o.start)) (prefixes at.0 (log_of w)) =
+    subst (λ event. IsAllowed i 0 event (prefixes at.0 (log_of w))) at.2 is.allowed in
     record { logged = at.0; there = at.1; own = is.own; beginning = allowed.0; may = allowed.2 }
 
 -- a line that has a stripe left now had one left when a later line was opened
@@ -224,16 +255,22 @@ left_then : (i : Image) (w : World) (o later : Opening) → IsSimpleMount i w �
     → has_stripe_left i (prefixes was.logged (log_of w)) o.line ≡ true
 left_then i w o later simple was after before now left =
     let gap : later.number + (length (log_of w 0) - later.number) ≡ length (log_of w 0) = omega (arith, before) in
-    let last : take (later.number + (length (log_of w 0) - later.number)) (log_of w 0) ≡ log_of w 0 = ap (λ n. take n (log_of w 0)) gap ∙ take_all (length (log_of w 0)) (log_of w 0) (le_refl (length (log_of w 0))) in
-    let life : life_of (take later.number (log_of w 0)) o.line ≡ Opened o = life_back (log_of w 0) o.line o later.number (length (log_of w 0) - later.number) (omega (arith, gap)) after (ap (λ (xs : List Logged). life_of xs o.line) last ∙ now) in
+    let last : take (later.number + (length (log_of w 0) - later.number)) (log_of w 0) ≡ log_of w 0 = ap (λ n. take n (log_of w 0)) gap
+    ∙ take_all (length (log_of w 0)) (log_of w 0) (le_refl (length (log_of w 0))) in
+    let life : life_of (take later.number (log_of w 0)) o.line ≡ Opened o =
+    life_back (log_of w 0) o.line o later.number (length (log_of w 0) - later.number) (omega (arith, gap)) after
+    (ap (λ (xs : List Logged). life_of xs o.line) last ∙ now) in
     let own : take (known was.logged 0) (log_of w 0) ≡ take later.number (log_of w 0) = ap (λ n. take n (log_of w 0)) was.own in
     let image : known_image i (prefixes was.logged (log_of w)) ≡ known_image i (engine_prefix later.number (log_of w)) =
     known_by_prefix i w later.number was.logged simple.mount.legal was.there in
     let same : are_over i (prefixes was.logged (log_of w)) o.line ≡ are_over i (engine_prefix later.number (log_of w)) o.line =
-    ap₂ (λ (xs : List Logged) (im : Image). list_all (λ (c : Chunk). is_over_state (is_as_found (life_of xs o.line)) c.state) (chunks_of im o.line)) own image in
-    ap₂ (λ (l : LineLife) b. is_opened l && not b) (ap (λ (xs : List Logged). life_of xs o.line) own ∙ life) (same ∙ not_over life (are_over i (engine_prefix later.number (log_of w)) o.line) refl)
+    ap₂ (λ (xs : List Logged) (im : Image). list_all (λ (c : Chunk). is_over_state (is_as_found (life_of xs o.line)) c.state) (chunks_of im o.line)) own
+    image in
+    ap₂ (λ (l : LineLife) b. is_opened l && not b) (ap (λ (xs : List Logged). life_of xs o.line) own ∙ life)
+    (same ∙ not_over life (are_over i (engine_prefix later.number (log_of w)) o.line) refl)
   where
-    not_over : life_of (take later.number (log_of w 0)) o.line ≡ Opened o → (b : Bool) → are_over i (engine_prefix later.number (log_of w)) o.line ≡ b → are_over i (engine_prefix later.number (log_of w)) o.line ≡ false
+    not_over : life_of (take later.number (log_of w 0)) o.line ≡ Opened o → (b : Bool) → are_over i (engine_prefix later.number (log_of w)) o.line ≡ b
+        → are_over i (engine_prefix later.number (log_of w)) o.line ≡ false
     not_over life false e = e
     not_over life true e =
         no_both (has_left (open_line i (log_of w) o)) left (over_none_left i w simple later.number o.line o (omega (arith, before)) life now e)
@@ -262,7 +299,8 @@ at_most_two i w simple = go (cases_order 2 (length (left_openings i (log_of w)))
     left_at : (k : ℕ) (o : Opening) → slice_get (left_openings i (log_of w)) k ≡ Some o → has_left (open_line i (log_of w) o) ≡ true
     left_at k o e = filtered_is (λ o. has_left (open_line i (log_of w) o)) (standing (log_of w 0)) k o e
 
-    three : (a b c : Opening) → slice_get (left_openings i (log_of w)) 0 ≡ Some a → slice_get (left_openings i (log_of w)) 1 ≡ Some b → slice_get (left_openings i (log_of w)) 2 ≡ Some c → ⊥
+    three : (a b c : Opening) → slice_get (left_openings i (log_of w)) 0 ≡ Some a → slice_get (left_openings i (log_of w)) 1 ≡ Some b
+        → slice_get (left_openings i (log_of w)) 2 ≡ Some c → ⊥
     three a b c e f g =
         let alive_a : life_of (log_of w 0) a.line ≡ Opened a = opened_at 0 a e in
         let alive_b : life_of (log_of w 0) b.line ≡ Opened b = opened_at 1 b f in
@@ -282,7 +320,8 @@ at_most_two i w simple = go (cases_order 2 (length (left_openings i (log_of w)))
         let same : 0 ≡ 1 = left_apart i (log_of w) 0 1 a b e f one in
         absurd (omega (arith, same))
 
-    go : (2 ≡ length (left_openings i (log_of w))) ⊎ ((2 < length (left_openings i (log_of w))) ⊎ (length (left_openings i (log_of w)) < 2)) → length (left_openings i (log_of w)) ≤ 2
+    go : (2 ≡ length (left_openings i (log_of w))) ⊎ ((2 < length (left_openings i (log_of w))) ⊎ (length (left_openings i (log_of w)) < 2))
+        → length (left_openings i (log_of w)) ≤ 2
     go (inl same) = omega (arith, same)
     go (inr (inr few)) = omega (arith, few)
     go (inr (inl many)) =
@@ -293,7 +332,8 @@ at_most_two i w simple = go (cases_order 2 (length (left_openings i (log_of w)))
 
 pub two_lines : (i : Image) (w : World) → IsSimpleMount i w → length (open_lines i (log_of w)) ≤ 2
 two_lines i w simple =
-    let count : length (open_lines i (log_of w)) ≡ length (left_openings i (log_of w)) = ap (λ (ls : List OpenLine). length ls) (lines_of_left i (log_of w)) ∙ length_mapped (open_line i (log_of w)) (left_openings i (log_of w)) in
+    let count : length (open_lines i (log_of w)) ≡ length (left_openings i (log_of w)) = ap (λ (ls : List OpenLine). length ls) (lines_of_left i (log_of w))
+    ∙ length_mapped (open_line i (log_of w)) (left_openings i (log_of w)) in
     let few : length (left_openings i (log_of w)) ≤ 2 = at_most_two i w simple in
     omega (arith, count, few)
 
@@ -305,7 +345,8 @@ going_now i w simple line o now =
     (all_well i w simple (length (log_of w 0)) (le_refl (length (log_of w 0)))).lines.going line o
     (ap (λ (xs : List Logged). life_of xs line) (take_all (length (log_of w 0)) (log_of w 0) (le_refl (length (log_of w 0)))) ∙ now)
 
-units_then : (i : Image) (w : World) (line : ℕ) (o : Opening) → life_of (log_of w 0) line ≡ Opened o → line_units (known_image i (engine_prefix o.number (log_of w))) line ≡ opened_units i (log_of w) o
+units_then : (i : Image) (w : World) (line : ℕ) (o : Opening) → life_of (log_of w 0) line ≡ Opened o
+    → line_units (known_image i (engine_prefix o.number (log_of w))) line ≡ opened_units i (log_of w) o
 units_then i w line o now = ap (λ n. line_units (known_image i (engine_prefix o.number (log_of w))) n) (sym (life_at (log_of w 0) line o now).1)
 
 pub units_stay : (i : Image) (w : World) (line : ℕ) (o : Opening) → IsLegal i w → life_of (log_of w 0) line ≡ Opened o
@@ -339,7 +380,8 @@ pub turns_are : (i : Image) (w : World) (line : ℕ) (o : Opening) (n : ℕ) (p 
     → IsAtTurn i.shape (opened_units i (log_of w) o) line n p
 turns_are i w line o n p simple now e =
     subst (λ (us : List ℕ). IsAtTurn i.shape us line n p) (units_then i w line o now)
-    ((going_now i w simple line o now).placed n p (ap (λ (xs : List Logged). slice_get (stripes_of xs o) n) (take_all (length (log_of w 0)) (log_of w 0) (le_refl (length (log_of w 0)))) ∙ e))
+    ((going_now i w simple line o now).placed n p
+    (ap (λ (xs : List Logged). slice_get (stripes_of xs o) n) (take_all (length (log_of w 0)) (log_of w 0) (le_refl (length (log_of w 0)))) ∙ e))
 
 pub room_is : (i : Image) (w : World) (line : ℕ) (o : Opening) → IsSimpleMount i w → life_of (log_of w 0) line ≡ Opened o
     → length (stripes_of (log_of w 0) o) * i.shape.ws_opt ≤ o.start.width * i.shape.clba

@@ -95,13 +95,15 @@ bit_is p (suc n) u h = go (nat_lt u n) refl (λ inside. bit_is p n u inside)
         let within : n ≤ n = omega arith in
         ap (is_in (bits_of (kept p (suc n)))) same
         ∙ ap (λ m. nat_eq (bit_at m n) 1) (bits_more p n)
-        ∙ ap (λ k. nat_eq k 1) (bit_at_cat_high (as_bit (p n)) n (bits_of (kept p n)) n (kept_below p n) within ∙ ap (bit_at (as_bit (p n))) left ∙ bit_at_lowest (as_bit (p n)) ∙ low_bit (p n))
+        ∙ ap (λ k. nat_eq k 1) (bit_at_cat_high (as_bit (p n)) n (bits_of (kept p n)) n (kept_below p n) within ∙ ap (bit_at (as_bit (p n))) left
+        ∙ bit_at_lowest (as_bit (p n)) ∙ low_bit (p n))
         ∙ one_is (p n) ∙ ap p (sym same)
 
 -- ---- the units of a line
 
 -- the units that have a chunk of the line are those for which the test says so
-pub units_are : (i : Image) (line : ℕ) (p : ℕ → Bool) → length i.units ≤ 64 → ((unit : ℕ) → p unit ≡ is_live i line unit) → line_units i line ≡ filter p (range_with_len 0 64)
+pub units_are : (i : Image) (line : ℕ) (p : ℕ → Bool) → length i.units ≤ 64 → ((unit : ℕ) → p unit ≡ is_live i line unit)
+    → line_units i line ≡ filter p (range_with_len 0 64)
 unfolding has_chunk
 units_are i line p few same = sym (units_kept line p 0 64 i.units few (λ k l. let place : 0 + k ≡ k = omega arith in ap p place ∙ same k))
 

@@ -12,7 +12,8 @@ pub not_without : (unit : ℕ) (units : List ℕ) → contains_unit (without_uni
 not_without unit [] = refl
 not_without unit (u ∷ us) = go (nat_eq u unit) refl (not_without unit us)
   where
-    go : (b : Bool) → nat_eq u unit ≡ b → contains_unit (without_unit unit us) unit ≡ false → contains_unit (cond (not b) (u ∷ without_unit unit us) (without_unit unit us)) unit ≡ false
+    go : (b : Bool) → nat_eq u unit ≡ b → contains_unit (without_unit unit us) unit ≡ false
+        → contains_unit (cond (not b) (u ∷ without_unit unit us) (without_unit unit us)) unit ≡ false
     go true e rest = rest
     go false e rest = ap (λ b. b || contains_unit (without_unit unit us) unit) e ∙ rest
 
@@ -20,7 +21,8 @@ pub others_within : (unit : ℕ) (units : List ℕ) (v : ℕ) → v ≢ unit →
 others_within unit [] v other = refl
 others_within unit (u ∷ us) v other = go (nat_eq u unit) refl (others_within unit us v other)
   where
-    go : (b : Bool) → nat_eq u unit ≡ b → contains_unit (without_unit unit us) v ≡ contains_unit us v → contains_unit (cond (not b) (u ∷ without_unit unit us) (without_unit unit us)) v ≡ contains_unit (u ∷ us) v
+    go : (b : Bool) → nat_eq u unit ≡ b → contains_unit (without_unit unit us) v ≡ contains_unit us v
+        → contains_unit (cond (not b) (u ∷ without_unit unit us) (without_unit unit us)) v ≡ contains_unit (u ∷ us) v
     go true e rest =
         let same : u ≡ unit = eqb-true u unit e in
         rest ∙ ap (λ b. b || contains_unit us v) (sym (other_number u v (λ f. other (sym f ∙ same))))

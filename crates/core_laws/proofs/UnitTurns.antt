@@ -14,7 +14,8 @@ pub filtered_is : {X : Type 0} (test : X → Bool) (xs : List X) (m : ℕ) (x : 
 filtered_is test [] m x e = absurd (none-some x e)
 filtered_is {X} test (y ∷ ys) m x e = go (test y) refl m e (λ n f. filtered_is test ys n x f)
   where
-    go : (b : Bool) → test y ≡ b → (m : ℕ) → slice_get (cond b (y ∷ filter test ys) (filter test ys)) m ≡ Some x → ((n : ℕ) → slice_get (filter test ys) n ≡ Some x → test x ≡ true) → test x ≡ true
+    go : (b : Bool) → test y ≡ b → (m : ℕ) → slice_get (cond b (y ∷ filter test ys) (filter test ys)) m ≡ Some x
+        → ((n : ℕ) → slice_get (filter test ys) n ≡ Some x → test x ≡ true) → test x ≡ true
     go true t zero f rest = ap test (sym (same_Some y x f)) ∙ t
     go true t (suc m) f rest = rest m f
     go false t m f rest = rest m f
@@ -22,7 +23,8 @@ filtered_is {X} test (y ∷ ys) m x e = go (test y) refl m e (λ n f. filtered_i
 -- among the stripes of its unit it stands at its turn
 pub stands_at_turn : (log : List Logged) (p : Placed) → IsAmong (placements log) p → slice_get (placed_on log p.stripe.unit) (turn log p) ≡ Some p
 stands_at_turn log p among =
-    let at : IsAmong (placed_on log p.stripe.unit) p = in_filter (λ (q : Placed). q.stripe.unit == p.stripe.unit) (placements log) p among (same_number p.stripe.unit) in
+    let at : IsAmong (placed_on log p.stripe.unit) p =
+    in_filter (λ (q : Placed). q.stripe.unit == p.stripe.unit) (placements log) p among (same_number p.stripe.unit) in
     let same : turn log p ≡ at.0 = lesser (placed_on log p.stripe.unit) at.0 p (rise_on log p.stripe.unit) at.1 in
     ap (slice_get (placed_on log p.stripe.unit)) same ∙ at.1
 

@@ -49,7 +49,8 @@ in_order i w small legal = kept i (λ e. true) (AreInOrder i.shape) (order_kept 
 
 -- ---- users' entries
 
-users_next : (i : Image) (known : Logs) (log : List Logged) (beginning : Begun) (e : EngineEvent) (knows : List ℕ) → is_plain_decision e ≡ true → IsDecision i known beginning e
+users_next : (i : Image) (known : Logs) (log : List Logged) (beginning : Begun) (e : EngineEvent) (knows : List ℕ) → is_plain_decision e ≡ true
+    → IsDecision i known beginning e
     → AllByRecursion (IsUsers i.shape) (takes log) → AllByRecursion (IsUsers i.shape) (takes (log ++ record { event = Decides e; knows = knows } ∷ []))
 users_next i known log beginning (Take entry mark) knows passes may was =
     let l : Logged = record { event = Decides (Take entry mark); knows = knows } in

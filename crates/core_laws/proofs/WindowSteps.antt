@@ -21,7 +21,8 @@ turned_entries : (lands reads : ℕ → Bool) (to : Progress) (held : List Held)
     → ((q : ℕ) → q ≢ first + index → (lands q ≡ false) × (reads q ≡ false))
     → map without_frame (with_progress held index to) ≡ map (advanced_sector lands reads) (map without_frame held)
 turned_entries lands reads to [] first index from here other = refl
-turned_entries lands reads to (h ∷ held) first index from here other = go index here other (λ k a b. turned_entries lands reads to held (first + 1) k from.1 a b)
+turned_entries lands reads to (h ∷ held) first index from here other =
+    go index here other (λ k a b. turned_entries lands reads to held (first + 1) k from.1 a b)
   where
     stay : (p : Progress) → advanced false false p ≡ p
     stay Waiting = refl
@@ -29,15 +30,20 @@ turned_entries lands reads to (h ∷ held) first index from here other = go inde
     stay Readable = refl
 
     kept : (h : Held) → (lands h.entry.position ≡ false) × (reads h.entry.position ≡ false) → without_frame h ≡ advanced_sector lands reads (without_frame h)
-    kept h none = ap (λ (p : Progress). record (without_frame h) { progress = p }) (sym (stay h.progress) ∙ ap₂ (λ a b. advanced a b h.progress) (sym none.0) (sym none.1))
+    kept h none = ap (λ (p : Progress). record (without_frame h) { progress = p })
+        (sym (stay h.progress) ∙ ap₂ (λ a b. advanced a b h.progress) (sym none.0) (sym none.1))
 
-    all_kept : (rest : List Held) (n m : ℕ) → AreFrom n rest → m < n → ((q : ℕ) → q ≢ m → (lands q ≡ false) × (reads q ≡ false)) → map without_frame rest ≡ map (advanced_sector lands reads) (map without_frame rest)
+    all_kept : (rest : List Held) (n m : ℕ) → AreFrom n rest → m < n → ((q : ℕ) → q ≢ m → (lands q ≡ false) × (reads q ≡ false))
+        → map without_frame rest ≡ map (advanced_sector lands reads) (map without_frame rest)
     all_kept [] n m from below none = refl
-    all_kept (g ∷ rest) n m from below none = ap₂ (λ (x : HeldSector) xs. x ∷ xs) (kept g (none g.entry.position (λ e. absurd (let at : g.entry.position ≡ n = from.0 in omega arith)))) (all_kept rest (n + 1) m from.1 (omega arith) none)
+    all_kept (g ∷ rest) n m from below none =
+        ap₂ (λ (x : HeldSector) xs. x ∷ xs) (kept g (none g.entry.position (λ e. absurd (let at : g.entry.position ≡ n = from.0 in omega arith))))
+        (all_kept rest (n + 1) m from.1 (omega arith) none)
 
     go : (index : ℕ) → ((g : Held) → slice_get (h ∷ held) index ≡ Some g → to ≡ advanced (lands (first + index)) (reads (first + index)) g.progress)
         → ((q : ℕ) → q ≢ first + index → (lands q ≡ false) × (reads q ≡ false))
-        → ((k : ℕ) → ((g : Held) → slice_get held k ≡ Some g → to ≡ advanced (lands (first + 1 + k)) (reads (first + 1 + k)) g.progress) → ((q : ℕ) → q ≢ first + 1 + k → (lands q ≡ false) × (reads q ≡ false))
+        → ((k : ℕ) → ((g : Held) → slice_get held k ≡ Some g → to ≡ advanced (lands (first + 1 + k)) (reads (first + 1 + k)) g.progress)
+        → ((q : ℕ) → q ≢ first + 1 + k → (lands q ≡ false) × (reads q ≡ false))
         → map without_frame (with_progress held k to) ≡ map (advanced_sector lands reads) (map without_frame held))
         → map without_frame (with_progress (h ∷ held) index to) ≡ map (advanced_sector lands reads) (map without_frame (h ∷ held))
     go zero here other rest =
@@ -53,9 +59,11 @@ turned_entries lands reads to (h ∷ held) first index from here other = go inde
 
 -- ---- the two calls
 
-held_here : (w : WindowView) (q : ℕ) (b : Bool) → w.freed ≤ q → has_landed_at w q ≡ b → (h : Held) → slice_get w.entries (q - w.freed) ≡ Some h → has_landed h.progress ≡ b
+held_here : (w : WindowView) (q : ℕ) (b : Bool) → w.freed ≤ q → has_landed_at w q ≡ b → (h : Held) → slice_get w.entries (q - w.freed) ≡ Some h
+    → has_landed h.progress ≡ b
 held_here w q b within e h at =
-    sym (ap (λ (o : Option Held). option_map_or (λ (h : Held). has_landed h.progress) o false) (ap (λ c. if c then None else slice_get w.entries (q - w.freed)) (not_below w.freed q within) ∙ at)) ∙ e
+    sym (ap (λ (o : Option Held). option_map_or (λ (h : Held). has_landed h.progress) o false)
+    (ap (λ c. if c then None else slice_get w.entries (q - w.freed)) (not_below w.freed q within) ∙ at)) ∙ e
 
 lands_it : (p : Progress) → has_landed p ≡ false → Landed ≡ advanced true false p
 lands_it Waiting e = refl
@@ -73,7 +81,8 @@ reads_it Landed e = refl
 reads_it Readable e = refl
 
 by_turn : (w : WindowView) (q : ℕ) (lands reads : ℕ → Bool) (to : Progress) → AreFrom w.freed w.entries → w.freed ≤ q
-    → ((h : Held) → slice_get w.entries (q - w.freed) ≡ Some h → to ≡ advanced (lands q) (reads q) h.progress) → ((x : ℕ) → x ≢ q → (lands x ≡ false) × (reads x ≡ false))
+    → ((h : Held) → slice_get w.entries (q - w.freed) ≡ Some h → to ≡ advanced (lands q) (reads q) h.progress)
+    → ((x : ℕ) → x ≢ q → (lands x ≡ false) × (reads x ≡ false))
     → sectors_in (turned w q to) ≡ advanced_window lands reads (sectors_in w)
 by_turn w q lands reads to from within here other =
     let at : w.freed + (q - w.freed) ≡ q = omega arith in
@@ -81,18 +90,21 @@ by_turn w q lands reads to from within here other =
     (turned_entries lands reads to w.entries w.freed (q - w.freed) from
     (λ h e. here h e ∙ ap (λ x. advanced (lands x) (reads x) h.progress) (sym at)) (λ x apart. other x (λ e. apart (e ∙ sym at))))
 
-pub step_landed : (w : WindowView) (q : ℕ) → AreFrom w.freed w.entries → w.freed ≤ q → has_landed_at w q ≡ false → sectors_in (turned w q Landed) ≡ advanced_window (λ x. x == q) (λ x. false) (sectors_in w)
+pub step_landed : (w : WindowView) (q : ℕ) → AreFrom w.freed w.entries → w.freed ≤ q → has_landed_at w q ≡ false
+    → sectors_in (turned w q Landed) ≡ advanced_window (λ x. x == q) (λ x. false) (sectors_in w)
 step_landed w q from within e = by_turn w q (λ x. x == q) (λ x. false) Landed from within
     (λ h at. lands_it h.progress (held_here w q false within e h at) ∙ ap (λ b. advanced b false h.progress) (sym (same_number q)))
     (λ x apart. (other_number x q apart, refl))
 
-pub step_readable : (w : WindowView) (q : ℕ) → AreFrom w.freed w.entries → w.freed ≤ q → has_landed_at w q ≡ true → sectors_in (turned w q Readable) ≡ advanced_window (λ x. false) (λ x. x == q) (sectors_in w)
+pub step_readable : (w : WindowView) (q : ℕ) → AreFrom w.freed w.entries → w.freed ≤ q → has_landed_at w q ≡ true
+    → sectors_in (turned w q Readable) ≡ advanced_window (λ x. false) (λ x. x == q) (sectors_in w)
 step_readable w q from within e = by_turn w q (λ x. false) (λ x. x == q) Readable from within
     (λ h at. reads_it h.progress (held_here w q true within e h at) ∙ ap (λ b. advanced false b h.progress) (sym (same_number q)))
     (λ x apart. (refl, other_number x q apart))
 
 -- an entry that had landed stays
-again_entries : (q : ℕ) (held : List Held) (first : ℕ) → AreFrom first held → ((k : ℕ) (h : Held) → first + k ≡ q → slice_get held k ≡ Some h → has_landed h.progress ≡ true)
+again_entries : (q : ℕ) (held : List Held) (first : ℕ) → AreFrom first held
+    → ((k : ℕ) (h : Held) → first + k ≡ q → slice_get held k ≡ Some h → has_landed h.progress ≡ true)
     → map without_frame held ≡ map (advanced_sector (λ x. x == q) (λ x. false)) (map without_frame held)
 again_entries q [] first from all = refl
 again_entries q (h ∷ held) first from all =
@@ -106,11 +118,13 @@ again_entries q (h ∷ held) first from all =
 
     go : (b : Bool) → nat_eq h.entry.position q ≡ b → h.progress ≡ advanced (h.entry.position == q) false h.progress
     go true e =
-        let at : first + 0 ≡ q = (let own : h.entry.position ≡ first = from.0 in let same : h.entry.position ≡ q = eqb-true h.entry.position q e in omega arith) in
+        let at : first + 0 ≡ q = (let own : h.entry.position ≡ first = from.0 in let same : h.entry.position ≡ q =
+        eqb-true h.entry.position q e in omega arith) in
         lands_again h.progress (all 0 h at refl) ∙ ap (λ b. advanced b false h.progress) (sym e)
     go false e = sym (stay h.progress) ∙ ap (λ b. advanced b false h.progress) (sym e)
 
-pub step_again : (w : WindowView) (q : ℕ) → AreFrom w.freed w.entries → has_landed_at w q ≡ true → sectors_in w ≡ advanced_window (λ x. x == q) (λ x. false) (sectors_in w)
+pub step_again : (w : WindowView) (q : ℕ) → AreFrom w.freed w.entries → has_landed_at w q ≡ true
+    → sectors_in w ≡ advanced_window (λ x. x == q) (λ x. false) (sectors_in w)
 step_again w q from e = ap (λ hs. record (sectors_in w) { entries = hs })
     (again_entries q w.entries w.freed from
     (λ k h at there. held_here w q true (omega arith) e h (let index : q - w.freed ≡ k = omega arith in ap (slice_get w.entries) index ∙ there)))
@@ -144,13 +158,15 @@ nothing_more Waiting = refl
 nothing_more Landed = refl
 nothing_more Readable = refl
 
-pub lands_more : (lands also : ℕ → Bool) (w : HeldSectors) → advanced_window also (λ q. false) (advanced_window lands (λ q. false) w) ≡ advanced_window (λ q. lands q || also q) (λ q. false) w
+pub lands_more : (lands also : ℕ → Bool) (w : HeldSectors)
+    → advanced_window also (λ q. false) (advanced_window lands (λ q. false) w) ≡ advanced_window (λ q. lands q || also q) (λ q. false) w
 lands_more lands also w = ap (λ hs. record w { entries = hs })
     (twice (advanced_sector also (λ q. false)) (advanced_sector lands (λ q. false)) w.entries
     ∙ each_sector (λ h. advanced_sector also (λ q. false) (advanced_sector lands (λ q. false) h)) (advanced_sector (λ q. lands q || also q) (λ q. false))
     (λ h. ap (λ (p : Progress). record h { progress = p }) (more_lands (lands h.position) (also h.position) h.progress)) w.entries)
 
-pub reads_more : (lands reads also : ℕ → Bool) (w : HeldSectors) → advanced_window (λ q. false) also (advanced_window lands reads w) ≡ advanced_window lands (λ q. reads q || also q) w
+pub reads_more : (lands reads also : ℕ → Bool) (w : HeldSectors)
+    → advanced_window (λ q. false) also (advanced_window lands reads w) ≡ advanced_window lands (λ q. reads q || also q) w
 reads_more lands reads also w = ap (λ hs. record w { entries = hs })
     (twice (advanced_sector (λ q. false) also) (advanced_sector lands reads) w.entries
     ∙ each_sector (λ h. advanced_sector (λ q. false) also (advanced_sector lands reads h)) (advanced_sector lands (λ q. reads q || also q))

@@ -16,14 +16,17 @@ use Rattle.lemmas.proofs.Maps.{all_filter}
 mapped_line : (i : Image) (line seq a : ℕ) (block : Block) (m : Mark) (o : Option (Option ℕ)) (r : Record)
     → option_map (λ lba. record { line = line; seq = seq; at = a; position = m.position; lba = lba; sector = block.sector }) o ≡ Some r → r.line ≡ line
 mapped_line i line seq a block m None r e = absurd (none-some r e)
-mapped_line i line seq a block m (Some lba) r e = ap (λ (x : Record). x.line) (sym (same_Some (record { line = line; seq = seq; at = a; position = m.position; lba = lba; sector = block.sector }) r e))
+mapped_line i line seq a block m (Some lba) r e =
+    ap (λ (x : Record). x.line) (sym (same_Some (record { line = line; seq = seq; at = a; position = m.position; lba = lba; sector = block.sector }) r e))
 
-marked_line : (i : Image) (line seq a : ℕ) (block : Block) (o : Option Mark) (r : Record) → option_and_then (bears i.shape line seq a block) o ≡ Some r → r.line ≡ line
+marked_line : (i : Image) (line seq a : ℕ) (block : Block) (o : Option Mark) (r : Record) → option_and_then (bears i.shape line seq a block) o ≡ Some r
+    → r.line ≡ line
 marked_line i line seq a block None r e = absurd (none-some r e)
 marked_line i line seq a block (Some m) r e = mapped_line i line seq a block m (named i.shape m) r e
 
 pub block_line : (i : Image) (line a : ℕ) (start : StartRecord) (o : Option Block) (r : Record)
-    → option_and_then (λ block. option_and_then (bears i.shape line start.seq a block) (mark_at i.shape (end_of i line start) a block)) o ≡ Some r → r.line ≡ line
+    → option_and_then (λ block. option_and_then (bears i.shape line start.seq a block) (mark_at i.shape (end_of i line start) a block)) o ≡ Some r
+    → r.line ≡ line
 block_line i line a start None r e = absurd (none-some r e)
 block_line i line a start (Some block) r e = marked_line i line start.seq a block (mark_at i.shape (end_of i line start) a block) r e
 
@@ -47,7 +50,8 @@ newest_is P (r ∷ rs) best all is = newest_is P rs (newer best r) all.1 (newer_
 pub winner_is : (i : Image) (P : Record → Type 0) (lba : ℕ) (r : Record) → AllByRecursion P (counted i) → winner (counted i) lba ≡ Some r → P r
 unfolding IsSuch
 winner_is i P lba r all e =
-    newest_is P (filter (λ (x : Record). is_of lba x.lba) (counted i)) None (all_filter P (λ (x : Record). is_of lba x.lba) (counted i) all) (λ x h. absurd (none-some x h)) r e
+    newest_is P (filter (λ (x : Record). is_of lba x.lba) (counted i)) None (all_filter P (λ (x : Record). is_of lba x.lba) (counted i) all)
+    (λ x h. absurd (none-some x h)) r e
 
 pub winner_starts : (i : Image) (lba : ℕ) (r : Record) → winner (counted i) lba ≡ Some r → is_some (start_of i r.line) ≡ true
 winner_starts i lba r e = winner_is i (HasStart i) lba r (counted_have_start i) e

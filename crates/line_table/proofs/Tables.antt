@@ -169,7 +169,8 @@ pub noted_is : (row : Row) (by n : ℕ) → n ≡ latest row.taker by → note_t
 noted_is row by n e = ap (note_to row) e
 
 -- a row that was changed once and then again
-pub changed_twice : (old mid new : Table) (line : ℕ) (first then_ : Row → Row) → line < length old.rows → Changes old mid line first → Changes mid new line then_
+pub changed_twice : (old mid new : Table) (line : ℕ) (first then_ : Row → Row) → line < length old.rows → Changes old mid line first
+    → Changes mid new line then_
     → Changes old new line (λ row. then_ (first row))
 changed_twice old mid new line first then_ inside one two = record {
   shape = two.shape ∙ one.shape;

@@ -278,7 +278,8 @@ pub served_of : (s : Shape) (script : List (List Command)) (units : List WornUni
     → IsNewTarget s units first → IsSession script first records last → IsClosed last records served → IsServed s script units served
 served_of s script units first last records served accepted one fits new session closed = record {
   mount = closed.mount;
-  serving = serving_of s (map (λ (u : WornUnit). u.unit) units) first last records served new.opened new.unwritten new.calm accepted session.opened session.target closed script one fits session.run;
+  serving = serving_of s (map (λ (u : WornUnit). u.unit) units) first last records served new.opened new.unwritten new.calm accepted session.opened
+      session.target closed script one fits session.run;
   units_are = closed.units;
   wear = closed.wear ∙ closed.closed.same.wear ∙ same_wear first last session.target ∙ new.wear;
 }

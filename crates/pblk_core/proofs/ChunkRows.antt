@@ -38,7 +38,8 @@ row_below w n m below = go (cases_order (n / w) m)
     go : (n / w ≡ m) ⊎ ((n / w < m) ⊎ (m < n / w)) → n / w < m
     go (inl same) = let p : m * w ≡ w * (n / w) = ap (λ k. k * w) (sym same) ∙ mul_comm (n / w) w in absurd (omega arith)
     go (inr (inl less)) = less
-    go (inr (inr more)) = let p : m * w ≤ (n / w) * w = mul-le-mul_right w (omega arith) in let q : (n / w) * w ≡ w * (n / w) = mul_comm (n / w) w in absurd (omega arith)
+    go (inr (inr more)) = let p : m * w ≤ (n / w) * w = mul-le-mul_right w (omega arith) in let q : (n / w) * w ≡ w * (n / w) =
+        mul_comm (n / w) w in absurd (omega arith)
 
 -- the line of a stripe of an opening, as it was opened
 pub record IsStripeIn (i : Image) (w : World) (o : Opening) (p : Placed) : Type 0 where
@@ -49,7 +50,8 @@ pub record IsStripeIn (i : Image) (w : World) (o : Opening) (p : Placed) : Type 
   pub its_line : opening.line ≡ p.stripe.line
   pub line_is : IsLineOf i (now_units i w) w opening
 
-pub stripe_in : (i : Image) (w : World) (o : Opening) (k : ℕ) (p : Placed) → IsSimpleMount i w → slice_get (stripes_of (log_of w 0) o) k ≡ Some p → IsStripeIn i w o p
+pub stripe_in : (i : Image) (w : World) (o : Opening) (k : ℕ) (p : Placed) → IsSimpleMount i w → slice_get (stripes_of (log_of w 0) o) k ≡ Some p
+    → IsStripeIn i w o p
 stripe_in i w o k p simple there =
     let among : IsAmong (placements (log_of w 0)) p = from_filter (λ (q : Placed). is_life o.number q.life) (placements (log_of w 0)) p (k, there) in
     let place : IsInPlace i (log_of w 0) p = all_at (IsInPlace i (log_of w 0)) (placements (log_of w 0)) among.0 p among.1 (in_order i w simple).placed in
@@ -57,7 +59,8 @@ stripe_in i w o k p simple there =
     let line : place.opening.line ≡ p.stripe.line = (opened_lines i (now_units i w) w steady p.stripe.line place.opening place.stands).its_line in
     record {
       opening = place.opening;
-      number = eqb-true place.opening.number o.number (ap (is_life o.number) (sym place.life) ∙ filtered_is (λ (q : Placed). is_life o.number q.life) (placements (log_of w 0)) k p there);
+      number = eqb-true place.opening.number o.number
+          (ap (is_life o.number) (sym place.life) ∙ filtered_is (λ (q : Placed). is_life o.number q.life) (placements (log_of w 0)) k p there);
       life = place.life;
       stands = place.stands;
       its_line = line;
@@ -70,20 +73,27 @@ rows_of_chunks i w o unit simple = λ k p e.
     let its : p.stripe.unit ≡ unit = eqb-true p.stripe.unit unit (filtered_is (λ (r : Placed). r.stripe.unit == unit) (stripes_of (log_of w 0) o) k p e) in
     let is : IsStripeIn i w o p = stripe_in i w o among.0 p simple among.1 in
     let us : List ℕ = now_units i w is.opening.line in
-    let same : stripes_of (log_of w 0) is.opening ≡ stripes_of (log_of w 0) o = ap (λ n. filter (λ (q : Placed). is_life n q.life) (placements (log_of w 0))) is.number in
+    let same : stripes_of (log_of w 0) is.opening ≡ stripes_of (log_of w 0) o =
+    ap (λ n. filter (λ (q : Placed). is_life n q.life) (placements (log_of w 0))) is.number in
     let at : slice_get (stripes_of (log_of w 0) is.opening) among.0 ≡ Some p = ap (λ ps. slice_get ps among.0) same ∙ among.1 in
     let place : IsAtPlace i (now_units i w) is.opening.line among.0 p.stripe.unit p.stripe.at = is.line_is.order.places among.0 p at in
     let short : among.0 < length (stripes_of (log_of w 0) is.opening) = slice_get_within (stripes_of (log_of w 0) is.opening) among.0 p at in
     let all : length (stripes_of (log_of w 0) is.opening) ≤ stripe_count i (now_units i w) is.opening.line = is.line_is.order.inside in
-    let swap : stripe_count i (now_units i w) is.opening.line ≡ i.shape.clba / i.shape.ws_opt * length (now_units i w is.opening.line) = mul_comm (length (now_units i w is.opening.line)) (i.shape.clba / i.shape.ws_opt) in
-    let row : among.0 / length (now_units i w is.opening.line) < i.shape.clba / i.shape.ws_opt = row_below (length (now_units i w is.opening.line)) among.0 (i.shape.clba / i.shape.ws_opt) (omega arith) in
+    let swap : stripe_count i (now_units i w) is.opening.line ≡ i.shape.clba / i.shape.ws_opt * length (now_units i w is.opening.line) =
+    mul_comm (length (now_units i w is.opening.line)) (i.shape.clba / i.shape.ws_opt) in
+    let row : among.0 / length (now_units i w is.opening.line) < i.shape.clba / i.shape.ws_opt =
+    row_below (length (now_units i w is.opening.line)) among.0 (i.shape.clba / i.shape.ws_opt) (omega arith) in
     record {
-      at = unit_rows i.shape (now_units i w is.opening.line) unit (among.0 % length (now_units i w is.opening.line)) (stripes_of (log_of w 0) is.opening) (line_units_rise (known_image i (log_of w)) is.opening.line)
+      at = unit_rows i.shape (now_units i w is.opening.line) unit (among.0 % length (now_units i w is.opening.line)) (stripes_of (log_of w 0) is.opening)
+          (line_units_rise (known_image i (log_of w)) is.opening.line)
           (place.its_unit ∙ ap (λ u. Some u) its)
-          (λ m q h. let there : IsAtPlace i (now_units i w) is.opening.line m q.stripe.unit q.stripe.at = is.line_is.order.places m q h in record { unit = there.its_unit; at = there.its_block }) k p
+          (λ m q h. let there : IsAtPlace i (now_units i w) is.opening.line m q.stripe.unit q.stripe.at =
+          is.line_is.order.places m q h in record { unit = there.its_unit; at = there.its_block }) k p
           (ap (λ ps. slice_get (filter (λ (r : Placed). r.stripe.unit == unit) ps) k) same ∙ e);
       blocks = all_at (λ (q : Placed). length q.stripe.blocks ≡ i.shape.ws_opt) (stripes_of (log_of w 0) o) among.0 p among.1
-          (all_filter (λ (q : Placed). length q.stripe.blocks ≡ i.shape.ws_opt) (λ (q : Placed). is_life o.number q.life) (placements (log_of w 0)) (have_blocks i w simple.mount.accepted simple.mount.legal).blocks);
+          (all_filter (λ (q : Placed). length q.stripe.blocks ≡ i.shape.ws_opt) (λ (q : Placed). is_life o.number q.life) (placements (log_of w 0))
+          (have_blocks i w simple.mount.accepted simple.mount.legal).blocks);
       within = subst (λ a. a + i.shape.ws_opt ≤ i.shape.clba) (sym place.its_block)
-          (ends_before i.shape.ws_opt (among.0 / length (now_units i w is.opening.line)) (i.shape.clba / i.shape.ws_opt) i.shape.clba (chunk_whole i.shape.clba i.shape.ws_opt simple.mount.accepted.drive.whole_stripes) row);
+          (ends_before i.shape.ws_opt (among.0 / length (now_units i w is.opening.line)) (i.shape.clba / i.shape.ws_opt) i.shape.clba
+          (chunk_whole i.shape.clba i.shape.ws_opt simple.mount.accepted.drive.whole_stripes) row);
     }

@@ -20,10 +20,11 @@ abbrev pub IsOfTaken : Shape → List Taken → Block → Type 0
 IsOfTaken s ts b = (b ≡ pad_block s) ⊎ ((k : ℕ) × (t : Taken) × (slice_get ts k ≡ Some t) × (b ≡ block_of_taken t))
 
 waiting_taken : (s : Shape) (log : List Logged) (k : ℕ) (t : Taken) → slice_get (waiting s log) k ≡ Some t → IsAmong (takes log) t
-waiting_taken s log k t there = elim (of_both (filter (λ u. waits s log u && was_placed s log u) (takes log)) (filter (λ u. not (was_placed s log u)) (takes log)) t (k, there)) [
-  | inl at ↦ from_filter (λ u. waits s log u && was_placed s log u) (takes log) t at
-  | inr at ↦ from_filter (λ u. not (was_placed s log u)) (takes log) t at
-]
+waiting_taken s log k t there =
+    elim (of_both (filter (λ u. waits s log u && was_placed s log u) (takes log)) (filter (λ u. not (was_placed s log u)) (takes log)) t (k, there)) [
+      | inl at ↦ from_filter (λ u. waits s log u && was_placed s log u) (takes log) t at
+      | inr at ↦ from_filter (λ u. not (was_placed s log u)) (takes log) t at
+    ]
 
 pub data_taken : (s : Shape) (log : List Logged) → AllByRecursion (IsOfTaken s (takes log)) (data_blocks s log)
 data_taken s log =

@@ -53,7 +53,8 @@ placed_room t line h n m inside before row there = go h.taker there
     go (Some by) there = let old : row.live + (n + 1) < m = before row there in omega arith
     go None there =
         let r = got_within t.rows line inside in
-        let rows : (with_row line gained t).rows ≡ slice_set t.rows line (gained r.0) = ap (λ o. option_map_or (λ row. slice_set t.rows line (gained row)) o t.rows) r.1 in
+        let rows : (with_row line gained t).rows ≡ slice_set t.rows line (gained r.0) =
+        ap (λ o. option_map_or (λ row. slice_set t.rows line (gained row)) o t.rows) r.1 in
         let is : Some row ≡ Some (gained r.0) = sym there ∙ ap (λ rows. slice_get rows line) rows ∙ get_set_same t.rows line line (gained r.0) refl inside in
         let live : row.live ≡ r.0.live + 1 = ap (λ (x : Row). x.live) (same_Some row (gained r.0) is) in
         let old : r.0.live + (n + 1) < m = before r.0 r.1 in

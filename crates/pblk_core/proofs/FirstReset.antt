@@ -48,7 +48,8 @@ first_is g a (suc n) r e = go (g a) refl e (λ f. first_is g (a + 1) n r f)
         by k less (inl same) = ap g (sym same) ∙ none
         by k less (inr more) = f.before k more less
 
-    go : (us : List ℕ) → g a ≡ us → slice_get (in_line a us ++ all_chunks g (a + 1) n) 0 ≡ Some r → (slice_get (all_chunks g (a + 1) n) 0 ≡ Some r → IsFirstOf g (a + 1) n r) → IsFirstOf g a (suc n) r
+    go : (us : List ℕ) → g a ≡ us → slice_get (in_line a us ++ all_chunks g (a + 1) n) 0 ≡ Some r
+        → (slice_get (all_chunks g (a + 1) n) 0 ≡ Some r → IsFirstOf g (a + 1) n r) → IsFirstOf g a (suc n) r
     go [] is f rest = later is (rest f)
     go (u ∷ us) is f rest = subst (IsFirstOf g a (suc n)) (same_Some (chunk_of a u) r f)
         (record { low = omega arith; inside = omega arith; units = us; is = is; before = λ k from less. absurd (omega arith) })
@@ -58,27 +59,33 @@ same_above g h a zero same = refl
 same_above g h a (suc n) same = ap₂ (λ us rest. in_line a us ++ rest) (same a (omega arith)) (same_above g h (a + 1) n (λ k from. same k (omega arith)))
 
 -- without the first one, where its line has one unit less and each other line has the same
-pub others_are : (g h : ℕ → List ℕ) (a n : ℕ) (r : LineChunk) (f : IsFirstOf g a n r) → h r.line ≡ f.units → ((k : ℕ) → k ≢ r.line → h k ≡ g k) → all_chunks h a n ≡ drop 1 (all_chunks g a n)
+pub others_are : (g h : ℕ → List ℕ) (a n : ℕ) (r : LineChunk) (f : IsFirstOf g a n r) → h r.line ≡ f.units → ((k : ℕ) → k ≢ r.line → h k ≡ g k)
+    → all_chunks h a n ≡ drop 1 (all_chunks g a n)
 others_are g h a zero r f e other = let low : a ≤ r.line = f.low in let inside : r.line < a + 0 = f.inside in absurd (omega arith)
 others_are g h a (suc n) r f e other = go (same_first a r.line f.low) (λ x y. others_are g h (a + 1) n r x y other)
   where
-    go : (a ≡ r.line) ⊎ (a + 1 ≤ r.line) → ((x : IsFirstOf g (a + 1) n r) → h r.line ≡ x.units → all_chunks h (a + 1) n ≡ drop 1 (all_chunks g (a + 1) n)) → all_chunks h a (suc n) ≡ drop 1 (all_chunks g a (suc n))
+    go : (a ≡ r.line) ⊎ (a + 1 ≤ r.line) → ((x : IsFirstOf g (a + 1) n r) → h r.line ≡ x.units → all_chunks h (a + 1) n ≡ drop 1 (all_chunks g (a + 1) n))
+        → all_chunks h a (suc n) ≡ drop 1 (all_chunks g a (suc n))
     go (inl same) rest =
         ap₂ (λ us xs. in_line a us ++ xs) (ap h same ∙ e) (same_above g h (a + 1) n (λ k from. other k (λ c. absurd (omega arith))))
         ∙ sym (ap (λ us. drop 1 (in_line a us ++ all_chunks g (a + 1) n)) (ap g same ∙ f.is))
     go (inr more) rest =
         let inside : r.line < a + suc n = f.inside in
         let none : g a ≡ [] = f.before a (omega arith) (omega arith) in
-        let x : IsFirstOf g (a + 1) n r = record { low = more; inside = omega arith; units = f.units; is = f.is; before = λ k from less. f.before k (omega arith) less } in
+        let x : IsFirstOf g (a + 1) n r =
+        record { low = more; inside = omega arith; units = f.units; is = f.is; before = λ k from less. f.before k (omega arith) less } in
         ap (λ us. in_line a us ++ all_chunks h (a + 1) n) (other a (λ c. absurd (omega arith)) ∙ none) ∙ rest x e
         ∙ sym (ap (λ us. drop 1 (in_line a us ++ all_chunks g (a + 1) n)) none)
 
 -- the first one is of the line where that has a unit and no line before has
-pub none_before : (g : ℕ → List ℕ) (a n line u : ℕ) (us : List ℕ) → a ≤ line → line < a + n → g line ≡ u ∷ us → ((k : ℕ) → a ≤ k → k < line → g k ≡ []) → slice_get (all_chunks g a n) 0 ≡ Some (chunk_of line u)
+pub none_before : (g : ℕ → List ℕ) (a n line u : ℕ) (us : List ℕ) → a ≤ line → line < a + n → g line ≡ u ∷ us → ((k : ℕ) → a ≤ k → k < line → g k ≡ [])
+    → slice_get (all_chunks g a n) 0 ≡ Some (chunk_of line u)
 none_before g a zero line u us low inside is before = absurd (omega arith)
-none_before g a (suc n) line u us low inside is before = go (same_first a line low) (λ x. none_before g (a + 1) n line u us x (omega arith) is (λ k from less. before k (omega arith) less))
+none_before g a (suc n) line u us low inside is before =
+    go (same_first a line low) (λ x. none_before g (a + 1) n line u us x (omega arith) is (λ k from less. before k (omega arith) less))
   where
-    go : (a ≡ line) ⊎ (a + 1 ≤ line) → (a + 1 ≤ line → slice_get (all_chunks g (a + 1) n) 0 ≡ Some (chunk_of line u)) → slice_get (all_chunks g a (suc n)) 0 ≡ Some (chunk_of line u)
+    go : (a ≡ line) ⊎ (a + 1 ≤ line) → (a + 1 ≤ line → slice_get (all_chunks g (a + 1) n) 0 ≡ Some (chunk_of line u))
+        → slice_get (all_chunks g a (suc n)) 0 ≡ Some (chunk_of line u)
     go (inl same) rest = ap (λ vs. slice_get (in_line a vs ++ all_chunks g (a + 1) n) 0) (ap g same ∙ is) ∙ ap (λ k. Some (chunk_of k u)) same
     go (inr more) rest = ap (λ vs. slice_get (in_line a vs ++ all_chunks g (a + 1) n) 0) (before a (omega arith) (omega arith)) ∙ rest more
 
@@ -90,7 +97,8 @@ is_there g n line e = go (slice_get (all_chunks g 0 n) 0) refl e
     go None f none = absurd cc
     go (Some r) f its = let x : IsFirstOf g 0 n r = first_is g 0 n r f in (r.unit, x.units, ap g (sym (eqb-true r.line line its)) ∙ x.is)
 
-pub none_there : (g : ℕ → List ℕ) (n line : ℕ) → line < n → ((k : ℕ) → k < line → g k ≡ []) → is_of_line line (slice_get (all_chunks g 0 n) 0) ≡ false → g line ≡ []
+pub none_there : (g : ℕ → List ℕ) (n line : ℕ) → line < n → ((k : ℕ) → k < line → g k ≡ []) → is_of_line line (slice_get (all_chunks g 0 n) 0) ≡ false
+    → g line ≡ []
 none_there g n line inside before e = go (g line) refl
   where
     go : (vs : List ℕ) → g line ≡ vs → g line ≡ []
@@ -154,7 +162,8 @@ first_passed p a (suc n) u us e = go (p a) refl e (λ f. first_passed p (a + 1) 
               ∙ f.others q none other;
         }
 
-    go : (b : Bool) → p a ≡ b → cond b (a ∷ filter p (range_with_len (a + 1) n)) (filter p (range_with_len (a + 1) n)) ≡ u ∷ us → (filter p (range_with_len (a + 1) n) ≡ u ∷ us → IsFirstPassed p (a + 1) n u us) → IsFirstPassed p a (suc n) u us
+    go : (b : Bool) → p a ≡ b → cond b (a ∷ filter p (range_with_len (a + 1) n)) (filter p (range_with_len (a + 1) n)) ≡ u ∷ us
+        → (filter p (range_with_len (a + 1) n) ≡ u ∷ us → IsFirstPassed p (a + 1) n u us) → IsFirstPassed p a (suc n) u us
     go true is f rest = here is (same_Some a u (ap (λ xs. slice_get xs 0) f)) (ap (drop 1) f)
     go false is f rest = later is (rest f)
 
@@ -168,7 +177,8 @@ bit_is : (n : ℕ) (b c : Bool) → b ≡ c → cond b (2 ^ n) 0 ≡ cond c (2 ^
 bit_is n b c e = ap (λ x. cond x (2 ^ n) 0) e
 
 -- one number passes no more
-pub bits_less : (p q : ℕ → Bool) (n u : ℕ) → u < n → p u ≡ true → q u ≡ false → ((k : ℕ) → k ≢ u → q k ≡ p k) → bits_of (filter p (range_with_len 0 n)) ≡ bits_of (filter q (range_with_len 0 n)) + 2 ^ u
+pub bits_less : (p q : ℕ → Bool) (n u : ℕ) → u < n → p u ≡ true → q u ≡ false → ((k : ℕ) → k ≢ u → q k ≡ p k)
+    → bits_of (filter p (range_with_len 0 n)) ≡ bits_of (filter q (range_with_len 0 n)) + 2 ^ u
 bits_less p q zero u inside passes fails other = absurd (omega arith)
 bits_less p q (suc n) u inside passes fails other = go (cases_order u n) (λ low. bits_less p q n u low passes fails other)
   where
@@ -179,7 +189,8 @@ bits_less p q (suc n) u inside passes fails other = go (cases_order u n) (λ low
         let new : bits_of (filter q (range_with_len 0 (suc n))) ≡ bits_of (filter q (range_with_len 0 n)) + cond (q n) (2 ^ n) 0 = bits_kept q n in
         let a : cond (p n) (2 ^ n) 0 ≡ 2 ^ n = bit_is n (p n) true (ap p (sym same) ∙ passes) in
         let b : cond (q n) (2 ^ n) 0 ≡ 0 = bit_is n (q n) false (ap q (sym same) ∙ fails) in
-        let below : bits_of (filter q (range_with_len 0 n)) ≡ bits_of (filter p (range_with_len 0 n)) = ap bits_of (filter_below p q 0 n (λ k low. other k (λ c. absurd (omega arith)))) in
+        let below : bits_of (filter q (range_with_len 0 n)) ≡ bits_of (filter p (range_with_len 0 n)) =
+        ap bits_of (filter_below p q 0 n (λ k low. other k (λ c. absurd (omega arith)))) in
         let power : 2 ^ u ≡ 2 ^ n = ap (λ k. 2 ^ k) same in
         omega arith
     go (inr (inl less)) rest =

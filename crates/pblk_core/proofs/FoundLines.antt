@@ -37,9 +37,11 @@ use Rattle.pblk_world.proofs.WorldLemmas.{media_same}
 
 -- ---- the image that the mount found, as an event of the engine knows it
 
-pub found_then : (i : Image) (w : World) (k : ℕ) (l : Logged) → IsLegal i w → slice_get (log_of w 0) k ≡ Some l → 0 < k → found_image i (prefixes l (log_of w)) ≡ found_image i (log_of w)
+pub found_then : (i : Image) (w : World) (k : ℕ) (l : Logged) → IsLegal i w → slice_get (log_of w 0) k ≡ Some l → 0 < k
+    → found_image i (prefixes l (log_of w)) ≡ found_image i (log_of w)
 found_then i w k l legal there some =
-    ap (λ n. found_by i (prefixes l (log_of w)) (begun (take n (log_of w 0)))) is.own ∙ ap (found_by i (prefixes l (log_of w))) (begun_taken k (log_of w 0) some) ∙ go (begun (log_of w 0)) refl
+    ap (λ n. found_by i (prefixes l (log_of w)) (begun (take n (log_of w 0)))) is.own
+    ∙ ap (found_by i (prefixes l (log_of w))) (begun_taken k (log_of w 0) some) ∙ go (begun (log_of w 0)) refl
   where
     is : HasHappened i (log_of w) 0 k l
     is = happened i w 0 legal k l there
@@ -50,7 +52,8 @@ found_then i w k l legal there some =
         let first = begun_first (log_of w 0) b e in
         media_same i (cut_logs b.knows (prefixes l (log_of w))) (cut_logs b.knows (log_of w))
         (λ unit. cut_cut (slice_index b.knows (suc unit)) (known l (suc unit)) (log_of w (suc unit))
-        (subst (λ ks. slice_index ks (suc unit) ≤ known l (suc unit)) first.2 (knowledge_rises i w 0 (suc unit) 0 k first.0 l legal (omega arith) first.1 there)))
+        (subst (λ ks. slice_index ks (suc unit) ≤ known l (suc unit)) first.2
+        (knowledge_rises i w 0 (suc unit) 0 k first.0 l legal (omega arith) first.1 there)))
 
 -- ---- a line that was opened had no start record
 
@@ -61,11 +64,13 @@ opens_line e line is = absurd (none-some line is)
 event_at : (log : List Logged) (n line : ℕ) → opens_at log n ≡ Some line → (l : Logged) × (slice_get log n ≡ Some l) × (opens l.event ≡ Some line)
 event_at log n line is = go (slice_get log n) refl is
   where
-    go : (o : Option Logged) → slice_get log n ≡ o → option_and_then (λ (l : Logged). opens l.event) o ≡ Some line → (l : Logged) × (slice_get log n ≡ Some l) × (opens l.event ≡ Some line)
+    go : (o : Option Logged) → slice_get log n ≡ o → option_and_then (λ (l : Logged). opens l.event) o ≡ Some line
+        → (l : Logged) × (slice_get log n ≡ Some l) × (opens l.event ≡ Some line)
     go None e f = absurd (none-some line f)
     go (Some l) e f = (l, e, f)
 
-unnumbered : (i : Image) (ls : Logs) (life : LineLife) (line : ℕ) → is_freed life ≡ false → not (has_number i ls life line) ≡ true → start_of (found_image i ls) line ≡ None
+unnumbered : (i : Image) (ls : Logs) (life : LineLife) (line : ℕ) → is_freed life ≡ false → not (has_number i ls life line) ≡ true
+    → start_of (found_image i ls) line ≡ None
 unnumbered i ls AsFound line freed e = none_there (start_of (found_image i ls) line) (not_true (is_some (start_of (found_image i ls) line)) e)
 unnumbered i ls (Opened o) line freed e = absurd cc
 unnumbered i ls (Freed was knows) line freed e = absurd cc
@@ -74,28 +79,33 @@ pub free_unstarted : (i : Image) (logs : Logs) (line : ℕ) → ArePlain (logs 0
 free_unstarted i logs line simple free = unnumbered i logs (life_of (logs 0) line) line (none_freed (logs 0) simple line)
     (first_of (not (has_number i logs (life_of (logs 0) line) line)) (are_empty (known_image i logs) line) (first_of _ _ free))
 
-pub opened_unstarted : (i : Image) (w : World) (line : ℕ) (o : Opening) → IsSimpleMount i w → life_of (log_of w 0) line ≡ Opened o → start_of (found_image i (log_of w)) line ≡ None
+pub opened_unstarted : (i : Image) (w : World) (line : ℕ) (o : Opening) → IsSimpleMount i w → life_of (log_of w 0) line ≡ Opened o
+    → start_of (found_image i (log_of w)) line ≡ None
 opened_unstarted i w line o simple life =
     let at = event_at (log_of w 0) o.number line ((life_at (log_of w 0) line o life).0) in
     let is : HasHappened i (log_of w) 0 o.number at.0 = happened i w 0 simple.mount.legal o.number at.0 at.1 in
     let opening = opens_line at.0.event line at.2 in
-    let allowed : IsAllowed i 0 (Decides (Open line opening.0)) (prefixes at.0 (log_of w)) = subst (λ e. IsAllowed i 0 e (prefixes at.0 (log_of w))) opening.1 is.allowed in
+    let allowed : IsAllowed i 0 (Decides (Open line opening.0)) (prefixes at.0 (log_of w)) =
+    subst (λ e. IsAllowed i 0 e (prefixes at.0 (log_of w))) opening.1 is.allowed in
     let begins : begun (take o.number (log_of w 0)) ≡ Some allowed.0 = ap (λ n. begun (take n (log_of w 0))) (sym is.own) ∙ allowed.1 in
     let free : is_free_line i (prefixes at.0 (log_of w)) line ≡ true = allowed.2.is_free in
     ap (λ (j : Image). start_of j line) (sym (found_then i w o.number at.0 simple.mount.legal at.1 (later o.number allowed.0 begins)))
-    ∙ free_unstarted i (prefixes at.0 (log_of w)) line (all_taken (λ (l : Logged). is_plain_event l.event ≡ true) (known at.0 0) (log_of w 0) (engine_plain i w simple)) free
+    ∙ free_unstarted i (prefixes at.0 (log_of w)) line
+    (all_taken (λ (l : Logged). is_plain_event l.event ≡ true) (known at.0 0) (log_of w 0) (engine_plain i w simple)) free
   where
     later : (n : ℕ) (b : Begun) → begun (take n (log_of w 0)) ≡ Some b → 0 < n
     later zero b e = absurd (none-some b e)
     later (suc n) b e = omega arith
 
-pub started_as_found : (i : Image) (w : World) (line : ℕ) → IsSimpleMount i w → is_some (start_of (found_image i (log_of w)) line) ≡ true → is_as_found (life_of (log_of w 0) line) ≡ true
+pub started_as_found : (i : Image) (w : World) (line : ℕ) → IsSimpleMount i w → is_some (start_of (found_image i (log_of w)) line) ≡ true
+    → is_as_found (life_of (log_of w 0) line) ≡ true
 started_as_found i w line simple starts = go (life_of (log_of w 0) line) refl
   where
     go : (life : LineLife) → life_of (log_of w 0) line ≡ life → is_as_found life ≡ true
     go AsFound e = refl
     go (Opened o) e = let none : is_some (start_of (found_image i (log_of w)) line) ≡ false = ap is_some (opened_unstarted i w line o simple e) in absurd cc
-    go (Freed was knows) e = let no : is_freed (life_of (log_of w 0) line) ≡ false = none_freed (log_of w 0) (engine_plain i w simple) line in let yes : is_freed (life_of (log_of w 0) line) ≡ true = ap is_freed e in absurd cc
+    go (Freed was knows) e = let no : is_freed (life_of (log_of w 0) line) ≡ false =
+        none_freed (log_of w 0) (engine_plain i w simple) line in let yes : is_freed (life_of (log_of w 0) line) ≡ true = ap is_freed e in absurd cc
 
 -- ---- the rows of older lines stay
 
@@ -106,7 +116,8 @@ if_none false = refl
 abbrev pub HasOldRow : Image → Logs → Logs → ℕ → Type 0
 HasOldRow i logs new line = (is_as_found (life_of (new 0) line) ≡ is_as_found (life_of (logs 0) line)) ⊎ (start_of (found_image i logs) line ≡ None)
 
-pub older_kept : (i : Image) (logs : Logs) (e : EngineEvent) (knows : List ℕ) (b : Begun) → begun (logs 0) ≡ Some b → begun_by knows (Decides e) ≡ None → ((line : ℕ) → HasOldRow i logs (after logs e knows) line)
+pub older_kept : (i : Image) (logs : Logs) (e : EngineEvent) (knows : List ℕ) (b : Begun) → begun (logs 0) ≡ Some b → begun_by knows (Decides e) ≡ None
+    → ((line : ℕ) → HasOldRow i logs (after logs e knows) line)
     → older_rows i logs ≡ older_rows i (after logs e knows)
 older_kept i logs e knows b begins none each = made_same (older_row i logs) (older_row i (after logs e knows)) one (range_with_len 0 i.shape.chunks)
   where
@@ -120,7 +131,8 @@ older_kept i logs e knows b begins none each = made_same (older_row i logs) (old
     row line None = refl
     row line (Some start) = ap₂ (λ (j : Image) n. Some (record { line = line; seq = start.seq; bound = bound_by (head j) n line start.seq })) found first
 
-    rows : (line : ℕ) → found_row i (after logs e knows) line (start_of (found_image i (after logs e knows)) line) ≡ found_row i logs line (start_of (found_image i logs) line)
+    rows : (line : ℕ) → found_row i (after logs e knows) line (start_of (found_image i (after logs e knows)) line) ≡ found_row i logs line
+        (start_of (found_image i logs) line)
     rows line = ap (λ (j : Image). found_row i (after logs e knows) line (start_of j line)) found ∙ row line (start_of (found_image i logs) line)
 
     one : (line : ℕ) → older_row i logs line ≡ older_row i (after logs e knows) line
@@ -131,4 +143,5 @@ older_kept i logs e knows b begins none each = made_same (older_row i logs) (old
         go (inr unstarted) =
             let before : found_row i logs line (start_of (found_image i logs) line) ≡ None = ap (found_row i logs line) unstarted in
             ap (λ (o : Option Row). if is_as_found (life_of (logs 0) line) then o else None) before ∙ if_none (is_as_found (life_of (logs 0) line))
-            ∙ sym (ap (λ (o : Option Row). if is_as_found (life_of (after logs e knows 0) line) then o else None) (rows line ∙ before) ∙ if_none (is_as_found (life_of (after logs e knows 0) line)))
+            ∙ sym (ap (λ (o : Option Row). if is_as_found (life_of (after logs e knows 0) line) then o else None) (rows line ∙ before)
+            ∙ if_none (is_as_found (life_of (after logs e knows 0) line)))

@@ -28,7 +28,8 @@ abbrev found_first : List Winner → ℕ → ℕ → Option Winner
 found_first ws k lba = find (λ (v : Winner). v.lba == lba) (take k ws)
 
 -- the next one's sector is not one of those before
-find_next : (ws : List Winner) (k lba : ℕ) (w : Winner) → Rise ws → slice_get ws k ≡ Some w → found_first ws (suc k) lba ≡ (if w.lba == lba then Some w else found_first ws k lba)
+find_next : (ws : List Winner) (k lba : ℕ) (w : Winner) → Rise ws → slice_get ws k ≡ Some w
+    → found_first ws (suc k) lba ≡ (if w.lba == lba then Some w else found_first ws k lba)
 find_next [] k lba w rise there = absurd (none-some w there)
 find_next (v ∷ ws) zero lba w rise there = ap (λ (x : Winner). if x.lba == lba then Some x else None) (same_Some v w there)
 find_next (v ∷ ws) (suc k) lba w rise there =
@@ -38,8 +39,10 @@ find_next (v ∷ ws) (suc k) lba w rise there =
     first : v.lba < w.lba
     first = rise 0 (suc k) v w (omega arith) refl there
 
-    go : ((eqb v.lba lba ≡ true) × (v.lba ≡ lba)) ⊎ ((eqb v.lba lba ≡ false) × (v.lba ≢ lba)) → ((eqb w.lba lba ≡ true) × (w.lba ≡ lba)) ⊎ ((eqb w.lba lba ≡ false) × (w.lba ≢ lba))
-        → cond (v.lba == lba) (Some v) (cond (w.lba == lba) (Some w) (found_first ws k lba)) ≡ cond (w.lba == lba) (Some w) (cond (v.lba == lba) (Some v) (found_first ws k lba))
+    go : ((eqb v.lba lba ≡ true) × (v.lba ≡ lba)) ⊎ ((eqb v.lba lba ≡ false) × (v.lba ≢ lba))
+        → ((eqb w.lba lba ≡ true) × (w.lba ≡ lba)) ⊎ ((eqb w.lba lba ≡ false) × (w.lba ≢ lba))
+        → cond (v.lba == lba) (Some v) (cond (w.lba == lba) (Some w) (found_first ws k lba)) ≡ cond (w.lba == lba) (Some w)
+        (cond (v.lba == lba) (Some v) (found_first ws k lba))
     go (inl a) (inl b) = let low = first in let x = a.1 in let y = b.1 in absurd (omega arith)
     go (inl a) (inr b) =
         ap (λ c. cond c (Some v) (cond (w.lba == lba) (Some w) (found_first ws k lba))) a.0
@@ -48,13 +51,17 @@ find_next (v ∷ ws) (suc k) lba w rise there =
         ap (λ c. cond c (Some v) (cond (w.lba == lba) (Some w) (found_first ws k lba))) a.0
         ∙ sym (ap (λ c. cond (w.lba == lba) (Some w) (cond c (Some v) (found_first ws k lba))) a.0)
 
-pub none_set : (capacity : ℕ) (ws : List Winner) (m : FinMap nat_cmp Slot) → fin.len m ≡ capacity → ((lba : ℕ) → lba < capacity → fin.get m lba ≡ Some Unwritten) → AreSet capacity ws 0 m
+pub none_set : (capacity : ℕ) (ws : List Winner) (m : FinMap nat_cmp Slot) → fin.len m ≡ capacity
+    → ((lba : ℕ) → lba < capacity → fin.get m lba ≡ Some Unwritten) → AreSet capacity ws 0 m
 none_set capacity ws m size unwritten = record { capacity = size; slots = unwritten }
 
-pub next_inside : (capacity k : ℕ) (ws : List Winner) (d : Winner) (m : FinMap nat_cmp Slot) → ((j : ℕ) (w : Winner) → slice_get ws j ≡ Some w → w.lba < capacity) → k < length ws → AreSet capacity ws k m → (slice_index_or ws k d).lba < fin.len m
-next_inside capacity k ws d m inside low are = subst (λ n. (slice_index_or ws k d).lba < n) (sym are.capacity) (inside k (slice_index_or ws k d) (slice_get-get_or ws k d low))
+pub next_inside : (capacity k : ℕ) (ws : List Winner) (d : Winner) (m : FinMap nat_cmp Slot)
+    → ((j : ℕ) (w : Winner) → slice_get ws j ≡ Some w → w.lba < capacity) → k < length ws → AreSet capacity ws k m → (slice_index_or ws k d).lba < fin.len m
+next_inside capacity k ws d m inside low are =
+    subst (λ n. (slice_index_or ws k d).lba < n) (sym are.capacity) (inside k (slice_index_or ws k d) (slice_get-get_or ws k d low))
 
-pub one_set : (capacity k : ℕ) (ws : List Winner) (w : Winner) (m n : FinMap nat_cmp Slot) → Rise ws → slice_get ws k ≡ Some w → n ≡ fin.insert m w.lba (place_of_winner w) → fin.len n ≡ fin.len m → AreSet capacity ws k m → AreSet capacity ws (k + 1) n
+pub one_set : (capacity k : ℕ) (ws : List Winner) (w : Winner) (m n : FinMap nat_cmp Slot) → Rise ws → slice_get ws k ≡ Some w
+    → n ≡ fin.insert m w.lba (place_of_winner w) → fin.len n ≡ fin.len m → AreSet capacity ws k m → AreSet capacity ws (k + 1) n
 one_set capacity k ws w m n rise there inserted size old = record { capacity = size ∙ old.capacity; slots = slots }
   where
     next_slot : (lba : ℕ) → slot_found (take (k + 1) ws) lba ≡ option_map_or place_of_winner (if w.lba == lba then Some w else found_first ws k lba) Unwritten
@@ -65,7 +72,8 @@ one_set capacity k ws w m n rise there inserted size old = record { capacity = s
     slots : (lba : ℕ) → lba < capacity → fin.get n lba ≡ Some (slot_found (take (k + 1) ws) lba)
     slots lba inside = ap (λ x. fin.get x lba) inserted ∙ get-insert nat_cmp_total m w.lba (place_of_winner w) lba ∙ go (eqb_tells w.lba lba)
       where
-        go : ((eqb w.lba lba ≡ true) × (w.lba ≡ lba)) ⊎ ((eqb w.lba lba ≡ false) × (w.lba ≢ lba)) → cond (eq_by_cmp nat_cmp lba w.lba) (Some (place_of_winner w)) (fin.get m lba) ≡ Some (slot_found (take (k + 1) ws) lba)
+        go : ((eqb w.lba lba ≡ true) × (w.lba ≡ lba)) ⊎ ((eqb w.lba lba ≡ false) × (w.lba ≢ lba))
+            → cond (eq_by_cmp nat_cmp lba w.lba) (Some (place_of_winner w)) (fin.get m lba) ≡ Some (slot_found (take (k + 1) ws) lba)
         go (inl h) =
             ap (λ b. cond b (Some (place_of_winner w)) (fin.get m lba)) (same_key lba w.lba (sym h.1))
             ∙ ap Some (sym (next_slot lba ∙ ap (λ b. option_map_or place_of_winner (if b then Some w else found_first ws k lba) Unwritten) h.0))
@@ -73,5 +81,6 @@ one_set capacity k ws w m n rise there inserted size old = record { capacity = s
             ap (λ b. cond b (Some (place_of_winner w)) (fin.get m lba)) (other_key lba w.lba (λ e. h.1 (sym e))) ∙ old.slots lba inside
             ∙ ap Some (sym (next_slot lba ∙ ap (λ b. option_map_or place_of_winner (if b then Some w else found_first ws k lba) Unwritten) h.0))
 
-pub all_set : (capacity k : ℕ) (ws : List Winner) (m : FinMap nat_cmp Slot) → length ws ≤ k → AreSet capacity ws k m → (lba : ℕ) → lba < capacity → fin.get m lba ≡ Some (slot_found ws lba)
+pub all_set : (capacity k : ℕ) (ws : List Winner) (m : FinMap nat_cmp Slot) → length ws ≤ k → AreSet capacity ws k m → (lba : ℕ) → lba < capacity
+    → fin.get m lba ≡ Some (slot_found ws lba)
 all_set capacity k ws m all are lba inside = are.slots lba inside ∙ ap (λ (xs : List Winner). Some (slot_found xs lba)) (take_all k ws all)

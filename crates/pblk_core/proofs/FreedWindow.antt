@@ -35,7 +35,8 @@ given_no true true first e = absurd cc
 given_no false true first e = let no : false ≡ true = first refl in absurd cc
 
 -- where no block of the first entry can be read, or there is none, the window's front is that of the log
-pub front_is_freed : (i : Image) (w : World) (c : Core) → IsSimpleMount i w → Stands i (log_of w) c → view.is_readable_at c.window c.window.freed ≡ false → c.window.freed ≡ freed i.shape (log_of w 0)
+pub front_is_freed : (i : Image) (w : World) (c : Core) → IsSimpleMount i w → Stands i (log_of w) c → view.is_readable_at c.window c.window.freed ≡ false
+    → c.window.freed ≡ freed i.shape (log_of w 0)
 front_is_freed i w c simple st unread =
     go c.window.entries (drop (c.window.freed - first_position (log_of w 0)) (takes (log_of w 0))) refl refl (ap (λ (x : HeldSectors). x.entries) st.window)
     (sym (at_front c.window (λ h. is_readable h.progress) false) ∙ unread)
@@ -56,23 +57,34 @@ front_is_freed i w c simple st unread =
     go (h ∷ hs) [] is from same kept_here = absurd cc
     go (h ∷ hs) (t ∷ ts) is from same kept_here =
         let here : without_frame h ≡ held_of i.shape (log_of w 0) t = cc in
-        let there : slice_get (takes (log_of w 0)) (c.window.freed - first_position (log_of w 0)) ≡ Some t = drop_first (c.window.freed - first_position (log_of w 0)) (takes (log_of w 0)) ts t from in
+        let there : slice_get (takes (log_of w 0)) (c.window.freed - first_position (log_of w 0)) ≡ Some t =
+        drop_first (c.window.freed - first_position (log_of w 0)) (takes (log_of w 0)) ts t from in
         let at : t.entry.position ≡ first_position (log_of w 0) + (c.window.freed - first_position (log_of w 0)) =
-        numbered_at (first_position (log_of w 0)) (length (takes (log_of w 0))) (takes (log_of w 0)) (c.window.freed - first_position (log_of w 0)) t (numbered_in i w simple) there in
+        numbered_at (first_position (log_of w 0)) (length (takes (log_of w 0))) (takes (log_of w 0)) (c.window.freed - first_position (log_of w 0)) t
+        (numbered_in i w simple) there in
         let low : first_position (log_of w 0) ≤ c.window.freed = st.from_first in
         let same_place : t.entry.position ≡ c.window.freed = omega arith in
         let kept : is_given_back i.shape (log_of w 0) t.entry.position ≡ false =
-        given_no (has_landed_at i.shape (log_of w 0) t.entry.position) (is_given_back i.shape (log_of w 0) t.entry.position) (given_landed i.shape (log_of w 0) t.entry.position)
+        given_no (has_landed_at i.shape (log_of w 0) t.entry.position) (is_given_back i.shape (log_of w 0) t.entry.position)
+        (given_landed i.shape (log_of w 0) t.entry.position)
         (sym (ap (λ (x : HeldSector). is_readable x.progress) here) ∙ kept_here) in
         sym (freed_here i.shape (log_of w 0) c.window.freed st.from_first st.to_freed (ap (is_given_back i.shape (log_of w 0)) (sym same_place) ∙ kept))
 
 -- and where the window's front is that of the log, none can be read
-pub unread_at_front : (i : Image) (w : World) (c : Core) → IsSimpleMount i w → Stands i (log_of w) c → c.window.freed ≡ freed i.shape (log_of w 0) → view.is_readable_at c.window c.window.freed ≡ false
+pub unread_at_front : (i : Image) (w : World) (c : Core) → IsSimpleMount i w → Stands i (log_of w) c → c.window.freed ≡ freed i.shape (log_of w 0)
+    → view.is_readable_at c.window c.window.freed ≡ false
 unread_at_front i w c simple st same = go (view.is_readable_at c.window c.window.freed) refl
   where
     go : (b : Bool) → view.is_readable_at c.window c.window.freed ≡ b → view.is_readable_at c.window c.window.freed ≡ false
     go false e = e
     go true e =
-        let new : WindowView = record { size = c.window.size; freed = c.window.freed + 1; users = c.window.users + users_in (take 1 c.window.entries); entries = drop 1 c.window.entries } in
-        let past : c.window.freed + 1 ≤ freed i.shape (log_of w 0) = (popped_window i w c new simple st (record { readable = e; size = refl; freed = refl; users = refl; entries = refl })).1 in
+        let new : WindowView = record {
+          size = c.window.size;
+          freed = c.window.freed + 1;
+          users = c.window.users + users_in (take 1 c.window.entries);
+          entries =
+              drop 1 c.window.entries;
+        } in
+        let past : c.window.freed + 1 ≤ freed i.shape (log_of w 0) =
+        (popped_window i w c new simple st (record { readable = e; size = refl; freed = refl; users = refl; entries = refl })).1 in
         absurd (omega arith)

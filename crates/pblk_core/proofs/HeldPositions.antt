@@ -18,7 +18,8 @@ use Rattle.pblk_core.specs.declared.target_core.Core.{Core}
 use Rattle.pblk_core.specs.Stands.{Stands}
 use Rattle.pblk_core.proofs.StandsFacts.{window_taken_is}
 
-pub held_room : (i : Image) (w : World) (c : Core) → IsSimpleMount i w → Stands i (log_of w) c → length c.window.entries < c.window.size → length (held c.placer) < c.placer.shape.ring
+pub held_room : (i : Image) (w : World) (c : Core) → IsSimpleMount i w → Stands i (log_of w) c → length c.window.entries < c.window.size
+    → length (held c.placer) < c.placer.shape.ring
 held_room i w c simple st some =
     let few : length (held (placing_of i (log_of w) c.placer.entries.pad st.again)) ≤ taken (log_of w 0) - c.window.freed =
     held_few i (log_of w) c.placer.entries.pad st.again c.window.freed (ordered i w simple) st.to_freed in
@@ -28,7 +29,8 @@ held_room i w c simple st some =
     let ring : c.placer.shape.ring ≡ i.shape.ring = ap (λ (p : Placing). p.shape.ring) st.placing in
     omega arith
 
-pub held_another : (i : Image) (w : World) (c : Core) (position : ℕ) → IsSimpleMount i w → Stands i (log_of w) c → position ≡ view.taken c.window → Contains (held c.placer) position → ⊥
+pub held_another : (i : Image) (w : World) (c : Core) (position : ℕ) → IsSimpleMount i w → Stands i (log_of w) c → position ≡ view.taken c.window
+    → Contains (held c.placer) position → ⊥
 held_another i w c position simple st is there =
     let at : (k : ℕ) × (slice_get (held c.placer) k ≡ Some position) = is_at (held c.placer) position there in
     let inside : IsInWindow i.shape (log_of w 0) position =
@@ -40,9 +42,11 @@ held_another i w c position simple st is there =
     is_at : (xs : List ℕ) (x : ℕ) → Contains xs x → (k : ℕ) × (slice_get xs k ≡ Some x)
     is_at xs x h = (h.0, slice_get_read xs (length xs) h.0 x refl h.1 (sym h.2))
 
-pub held_rises : (i : Image) (w : World) (c : Core) (position : ℕ) → IsSimpleMount i w → Stands i (log_of w) c → position ≡ view.taken c.window → All (λ q. q < position) c.placer.entries.fresh
+pub held_rises : (i : Image) (w : World) (c : Core) (position : ℕ) → IsSimpleMount i w → Stands i (log_of w) c → position ≡ view.taken c.window
+    → All (λ q. q < position) c.placer.entries.fresh
 held_rises i w c position simple st is =
     let end : position ≡ taken (log_of w 0) = is ∙ window_taken_is i w c st in
     subst (λ n. All (λ q. q < n) c.placer.entries.fresh) (sym end)
     (subst (λ (p : Placing). All (λ q. q < taken (log_of w 0)) p.entries.fresh) (sym st.placing)
-    (All-from_recursion (λ q. q < taken (log_of w 0)) (entries_of i.shape (log_of w 0) c.placer.entries.pad).fresh (fresh_below i.shape (log_of w 0) (ordered i w simple))))
+    (All-from_recursion (λ q. q < taken (log_of w 0)) (entries_of i.shape (log_of w 0) c.placer.entries.pad).fresh
+    (fresh_below i.shape (log_of w 0) (ordered i w simple))))

@@ -52,12 +52,17 @@ use Rattle.lemmas.proofs.Tests.{le_of_lt_false, within_is}
 
 -- ---- where a block stands in the order of its line
 
-pub place_found : (s : Shape) (us : List ℕ) (unit c b : ℕ) → IsStrictlyIncreasing us → 0 < s.ws_opt → s.clba % s.ws_opt ≡ 0 → slice_get us c ≡ Some unit → b < s.clba → position_of (unit, b) (line_order s us) ≡ Some (address_of s (length us) c b)
+pub place_found : (s : Shape) (us : List ℕ) (unit c b : ℕ) → IsStrictlyIncreasing us → 0 < s.ws_opt → s.clba % s.ws_opt ≡ 0 → slice_get us c ≡ Some unit
+    → b < s.clba → position_of (unit, b) (line_order s us) ≡ Some (address_of s (length us) c b)
 place_found s us unit c b rise ws whole there below =
     place_is (line_order s us) (unit, b) (Some (address_of s (length us) c b))
-    (orders.found s us (length us) c unit b order_exactly (λ s g k b ws whole c h. (address_below s.ws_opt g s.clba k b ws whole c h, chunk_back s.ws_opt g k b ws c, block_back s.ws_opt g k b ws c)) ws whole refl there below).1
+    (orders.found s us (length us) c unit b order_exactly
+    (λ s g k b ws whole c h. (address_below s.ws_opt g s.clba k b ws whole c h, chunk_back s.ws_opt g k b ws c, block_back s.ws_opt g k b ws c)) ws whole
+    refl there below).1
     (λ a h.
-    let is = orders.at s us a unit b order_exactly order_length (λ s g a ws whole some h. (chunk_below s.ws_opt g s.clba a some, block_below s.ws_opt g s.clba a ws whole some h, address_back s.ws_opt g a ws)) ws whole h in
+    let is = orders.at s us a unit b order_exactly order_length
+    (λ s g a ws whole some h. (chunk_below s.ws_opt g s.clba a some, block_below s.ws_opt g s.clba a ws whole some h, address_back s.ws_opt g a ws)) ws
+    whole h in
     let same : c ≡ column_of s (length us) a = one_column us c (column_of s (length us) a) unit rise there is.unit_is in
     ap Some (ap (λ k. address_of s (length us) k b) same ∙ is.address))
 
@@ -71,31 +76,42 @@ pub record IsInLine (i : Image) (w : World) (unit : ℕ) (o : Opening) (slot : O
   pub address : address_of_block i (log_of w) o unit n ≡ number * i.shape.ws_opt + n % i.shape.ws_opt
   pub place : position_of (unit, n) (line_order slot.records.shape (units_in slot.live)) ≡ Some (number * i.shape.ws_opt + n % i.shape.ws_opt)
 
-long_all : (n : ℕ) (ps : List Placed) → ((k : ℕ) (r : Placed) → slice_get ps k ≡ Some r → length r.stripe.blocks ≡ n) → AllByRecursion (λ (r : Placed). length r.stripe.blocks ≡ n) ps
+long_all : (n : ℕ) (ps : List Placed) → ((k : ℕ) (r : Placed) → slice_get ps k ≡ Some r → length r.stripe.blocks ≡ n)
+    → AllByRecursion (λ (r : Placed). length r.stripe.blocks ≡ n) ps
 long_all n [] each = tt
 long_all n (r ∷ ps) each = (each 0 r refl, long_all n ps (λ k x e. each (suc k) x e))
 
-pub in_line : (i : Image) (w : World) (unit : ℕ) (of : Program) (slot : OpenLine) (n : ℕ) (b : Block) → IsSimpleMount i w → (is : IsOnWay i w unit of) → IsOpenLine i (log_of w) is.row.opening slot
+pub in_line : (i : Image) (w : World) (unit : ℕ) (of : Program) (slot : OpenLine) (n : ℕ) (b : Block) → IsSimpleMount i w → (is : IsOnWay i w unit of)
+    → IsOpenLine i (log_of w) is.row.opening slot
     → slice_get (chunk_blocks (log_of w 0) is.row.opening unit) n ≡ Some b → IsInLine i w unit is.row.opening slot n b
 in_line i w unit of slot n b simple is kept there =
     let ws : 0 < i.shape.ws_opt = is.line_is.striped.some in
     let rows = rows_of_chunks i w is.row.opening unit simple in
     let long = long_all i.shape.ws_opt (stripes_on (log_of w 0) is.row.opening unit) (λ k r at. (rows k r at).blocks) in
-    let count : length (chunk_blocks (log_of w 0) is.row.opening unit) ≡ length (stripes_on (log_of w 0) is.row.opening unit) * i.shape.ws_opt = length_joined i.shape.ws_opt (stripes_on (log_of w 0) is.row.opening unit) long in
+    let count : length (chunk_blocks (log_of w 0) is.row.opening unit) ≡ length (stripes_on (log_of w 0) is.row.opening unit) * i.shape.ws_opt =
+    length_joined i.shape.ws_opt (stripes_on (log_of w 0) is.row.opening unit) long in
     let within : n < length (chunk_blocks (log_of w 0) is.row.opening unit) = slice_get_within (chunk_blocks (log_of w 0) is.row.opening unit) n b there in
-    let row : n / i.shape.ws_opt < length (stripes_on (log_of w 0) is.row.opening unit) = row_below i.shape.ws_opt n (length (stripes_on (log_of w 0) is.row.opening unit)) (omega arith) in
+    let row : n / i.shape.ws_opt < length (stripes_on (log_of w 0) is.row.opening unit) =
+    row_below i.shape.ws_opt n (length (stripes_on (log_of w 0) is.row.opening unit)) (omega arith) in
     let p = got_within (stripes_on (log_of w 0) is.row.opening unit) (n / i.shape.ws_opt) row in
     let rest : n % i.shape.ws_opt < i.shape.ws_opt = mod-lt n ws in
-    let parts : n / i.shape.ws_opt * i.shape.ws_opt + n % i.shape.ws_opt ≡ n = ap (λ m. m + n % i.shape.ws_opt) (mul_comm (n / i.shape.ws_opt) i.shape.ws_opt) ∙ div-add-mod n i.shape.ws_opt in
+    let parts : n / i.shape.ws_opt * i.shape.ws_opt + n % i.shape.ws_opt ≡ n = ap (λ m. m + n % i.shape.ws_opt) (mul_comm (n / i.shape.ws_opt) i.shape.ws_opt)
+    ∙ div-add-mod n i.shape.ws_opt in
     let its = rows (n / i.shape.ws_opt) p.0 p.1 in
-    let own : p.0.stripe.unit ≡ unit = eqb-true p.0.stripe.unit unit (filtered_is (λ (x : Placed). x.stripe.unit == unit) (stripes_of (log_of w 0) is.row.opening) (n / i.shape.ws_opt) p.0 p.1) in
-    let among : IsAmong (stripes_of (log_of w 0) is.row.opening) p.0 = from_filter (λ (x : Placed). x.stripe.unit == unit) (stripes_of (log_of w 0) is.row.opening) p.0 (n / i.shape.ws_opt, p.1) in
+    let own : p.0.stripe.unit ≡ unit =
+    eqb-true p.0.stripe.unit unit (filtered_is (λ (x : Placed). x.stripe.unit == unit) (stripes_of (log_of w 0) is.row.opening)
+    (n / i.shape.ws_opt) p.0 p.1) in
+    let among : IsAmong (stripes_of (log_of w 0) is.row.opening) p.0 =
+    from_filter (λ (x : Placed). x.stripe.unit == unit) (stripes_of (log_of w 0) is.row.opening) p.0 (n / i.shape.ws_opt, p.1) in
     let place : IsAtPlace i (now_units i w) is.row.opening.line among.0 p.0.stripe.unit p.0.stripe.at = is.line_is.order.places among.0 p.0 among.1 in
-    let column : slice_get (now_units i w is.row.opening.line) (among.0 % length (now_units i w is.row.opening.line)) ≡ Some unit = place.its_unit ∙ ap (λ u. Some u) own in
+    let column : slice_get (now_units i w is.row.opening.line) (among.0 % length (now_units i w is.row.opening.line)) ≡ Some unit = place.its_unit
+    ∙ ap (λ u. Some u) own in
     let same_row : among.0 / length (now_units i w is.row.opening.line) ≡ n / i.shape.ws_opt =
-    sym (mul-div_cancel (among.0 / length (now_units i w is.row.opening.line)) {n = i.shape.ws_opt} ws) ∙ ap (λ m. m / i.shape.ws_opt) (sym place.its_block ∙ its.at) ∙ mul-div_cancel (n / i.shape.ws_opt) {n = i.shape.ws_opt} ws in
+    sym (mul-div_cancel (among.0 / length (now_units i w is.row.opening.line)) {n = i.shape.ws_opt} ws)
+    ∙ ap (λ m. m / i.shape.ws_opt) (sym place.its_block ∙ its.at) ∙ mul-div_cancel (n / i.shape.ws_opt) {n = i.shape.ws_opt} ws in
     let number : n / i.shape.ws_opt * length (now_units i w is.row.opening.line) + among.0 % length (now_units i w is.row.opening.line) ≡ among.0 =
-    ap (λ m. m * length (now_units i w is.row.opening.line) + among.0 % length (now_units i w is.row.opening.line)) (sym same_row) ∙ div-add-mod' among.0 (length (now_units i w is.row.opening.line)) in
+    ap (λ m. m * length (now_units i w is.row.opening.line) + among.0 % length (now_units i w is.row.opening.line)) (sym same_row)
+    ∙ div-add-mod' among.0 (length (now_units i w is.row.opening.line)) in
     let short : among.0 < length (stripes_of (log_of w 0) is.row.opening) = slice_get_within (stripes_of (log_of w 0) is.row.opening) among.0 p.0 among.1 in
     let all = is.line_is.order.inside in
     let total = is.line_is.count in
@@ -106,12 +122,15 @@ in_line i w unit of slot n b simple is kept there =
       number = among.0;
       stripe = p.0;
       there = among.1;
-      block = sym (joined_at (λ (q : Placed). q.stripe.blocks) i.shape.ws_opt (stripes_on (log_of w 0) is.row.opening unit) (n / i.shape.ws_opt) (n % i.shape.ws_opt) long rest
-          ∙ ap (option_and_then (λ (q : Placed). slice_get q.stripe.blocks (n % i.shape.ws_opt))) p.1) ∙ ap (slice_get (chunk_blocks (log_of w 0) is.row.opening unit)) parts ∙ there;
+      block = sym (joined_at (λ (q : Placed). q.stripe.blocks) i.shape.ws_opt (stripes_on (log_of w 0) is.row.opening unit) (n / i.shape.ws_opt)
+          (n % i.shape.ws_opt) long rest
+          ∙ ap (option_and_then (λ (q : Placed). slice_get q.stripe.blocks (n % i.shape.ws_opt))) p.1)
+          ∙ ap (slice_get (chunk_blocks (log_of w 0) is.row.opening unit)) parts ∙ there;
       address = address_at i (log_of w) is.row.opening unit n among.0 ws wide (omega arith)
           (ap₂ (λ u m. is_stripe_at i.shape (as_opened i (log_of w) is.row.opening) u m among.0) (sym own) (sym its.at) ∙ here);
       place = ap₂ (λ s us. position_of (unit, n) (line_order s us)) kept.records.shape (ap units_in kept.live ∙ is.line_is.units)
-          ∙ place_found i.shape (now_units i w is.row.opening.line) unit (among.0 % length (now_units i w is.row.opening.line)) n (line_units_rise (known_image i (log_of w)) is.row.opening.line) ws simple.mount.accepted.drive.whole_stripes column below
+          ∙ place_found i.shape (now_units i w is.row.opening.line) unit (among.0 % length (now_units i w is.row.opening.line)) n
+          (line_units_rise (known_image i (log_of w)) is.row.opening.line) ws simple.mount.accepted.drive.whole_stripes column below
           ∙ ap (λ m. Some (m * i.shape.ws_opt + n % i.shape.ws_opt)) number;
     }
 
@@ -120,7 +139,9 @@ in_line i w unit of slot n b simple is kept there =
 -- what the blocks of a stripe of a line are: entries or pads at the data addresses, and elsewhere neither
 pub record HasKind (s : Shape) (ts : List Taken) (o : Opening) (j : ℕ) (blocks : List Block) : Type 0 where
   pub outside : (b : Block) → IsAmong blocks b → (j * s.ws_opt < start_len s) ⊎ (end_address s o ≤ j * s.ws_opt) → is_some (named s b.mark) ≡ false
-  pub data_of : (b : Block) → IsAmong blocks b → start_len s ≤ j * s.ws_opt → j * s.ws_opt < end_address s o → ((b.mark.lba ≡ pad_lba) × (is_some (named s b.mark) ≡ false)) ⊎ ((b.mark.lba ≢ pad_lba) × (is_some (named s b.mark) ≡ true) × ((t : Taken) × IsAmong ts t × (b.mark ≡ t.mark)))
+  pub data_of : (b : Block) → IsAmong blocks b → start_len s ≤ j * s.ws_opt → j * s.ws_opt < end_address s o
+      → ((b.mark.lba ≡ pad_lba) × (is_some (named s b.mark) ≡ false))
+      ⊎ ((b.mark.lba ≢ pad_lba) × (is_some (named s b.mark) ≡ true) × ((t : Taken) × IsAmong ts t × (b.mark ≡ t.mark)))
 
 abbrev pub AreKinds : Image → World → Opening → Type 0
 AreKinds i w o = (j : ℕ) (p : Placed) → slice_get (stripes_of (log_of w 0) o) j ≡ Some p → HasKind i.shape (takes (log_of w 0)) o j p.stripe.blocks
@@ -129,7 +150,8 @@ part_in : {X : Type 0} (xs : List X) (a n k : ℕ) (x : X) → slice_get xs (a +
 part_in xs zero zero k x at h = absurd (omega arith)
 part_in [] zero (suc n) k x at h = absurd (none-some x at)
 part_in (y ∷ xs) zero (suc n) zero x at h = let same : 0 + 0 ≡ 0 = refl in at
-part_in (y ∷ xs) zero (suc n) (suc k) x at h = let same : 0 + suc k ≡ suc (0 + k) = omega arith in part_in xs zero n k x (ap (slice_get (y ∷ xs)) (sym same) ∙ at) (omega arith)
+part_in (y ∷ xs) zero (suc n) (suc k) x at h = let same : 0 + suc k ≡ suc (0 + k) =
+    omega arith in part_in xs zero n k x (ap (slice_get (y ∷ xs)) (sym same) ∙ at) (omega arith)
 part_in [] (suc a) n k x at h = absurd (none-some x at)
 part_in (y ∷ xs) (suc a) n k x at h = let same : suc a + k ≡ suc (a + k) = omega arith in part_in xs a n k x (ap (slice_get (y ∷ xs)) (sym same) ∙ at) h
 
@@ -162,7 +184,8 @@ pub record IsTold (i : Image) (w : World) (unit : ℕ) (o : Opening) (slot : Ope
   pub reads : block_reads slot unit n ≡ read_of i.shape (address_of_block i (log_of w) o unit) (n, b)
   pub marks : is_some (named i.shape b.mark) ≡ true → (t : Taken) × IsAmong (takes (log_of w 0)) t × (b.mark ≡ t.mark)
 
-told_none : (i : Image) (w : World) (unit : ℕ) (o : Opening) (slot : OpenLine) (n : ℕ) (b : Block) → block_reads slot unit n ≡ None → is_some (named i.shape b.mark) ≡ false → IsTold i w unit o slot n b
+told_none : (i : Image) (w : World) (unit : ℕ) (o : Opening) (slot : OpenLine) (n : ℕ) (b : Block) → block_reads slot unit n ≡ None
+    → is_some (named i.shape b.mark) ≡ false → IsTold i w unit o slot n b
 told_none i w unit o slot n b none unnamed = record {
   reads = none ∙ sym (ap (read_here (address_of_block i (log_of w) o unit n) b.mark) unnamed);
   marks = λ e. absurd (both e unnamed);
@@ -171,7 +194,9 @@ told_none i w unit o slot n b none unnamed = record {
     both : {c : Bool} → c ≡ true → c ≡ false → ⊥
     both p q = cc
 
-told_block : (i : Image) (w : World) (unit : ℕ) (of : Program) (slot : OpenLine) (n : ℕ) (b : Block) → IsSimpleMount i w → (is : IsOnWay i w unit of) → IsOpenLine i (log_of w) is.row.opening slot → IsInLine i w unit is.row.opening slot n b → AreKinds i w is.row.opening → IsTold i w unit is.row.opening slot n b
+told_block : (i : Image) (w : World) (unit : ℕ) (of : Program) (slot : OpenLine) (n : ℕ) (b : Block) → IsSimpleMount i w → (is : IsOnWay i w unit of)
+    → IsOpenLine i (log_of w) is.row.opening slot → IsInLine i w unit is.row.opening slot n b → AreKinds i w is.row.opening
+    → IsTold i w unit is.row.opening slot n b
 told_block i w unit of slot n b simple is kept l kinds = by (nat_le (start_len i.shape) at) refl
   where
     at : ℕ
@@ -186,7 +211,8 @@ told_block i w unit of slot n b simple is kept l kinds = by (nat_le (start_len i
     flat : List Block
     flat = flat_map (λ (p : Placed). p.stripe.blocks) (stripes_of (log_of w 0) is.row.opening)
 
-    line_get : slice_get (flat_map (λ (p : Placed). p.stripe.blocks) (stripes_of (log_of w 0) is.row.opening)) (l.number * i.shape.ws_opt + n % i.shape.ws_opt) ≡ Some b
+    line_get : slice_get (flat_map (λ (p : Placed). p.stripe.blocks) (stripes_of (log_of w 0) is.row.opening))
+        (l.number * i.shape.ws_opt + n % i.shape.ws_opt) ≡ Some b
     line_get = joined_at (λ (p : Placed). p.stripe.blocks) i.shape.ws_opt (stripes_of (log_of w 0) is.row.opening) l.number (n % i.shape.ws_opt)
         (all_filter (λ (p : Placed). length p.stripe.blocks ≡ i.shape.ws_opt) (λ (p : Placed). is_life is.row.opening.number p.life)
         (placements (log_of w 0)) (have_blocks i w simple.mount.accepted simple.mount.legal).blocks) (mod-lt n is.line_is.striped.some)
@@ -198,7 +224,8 @@ told_block i w unit of slot n b simple is kept l kinds = by (nat_le (start_len i
     among : IsAmong l.stripe.stripe.blocks b
     among = (n % i.shape.ws_opt, l.block)
 
-    end_is : (start_len i.shape / i.shape.ws_opt + data_len i.shape is.row.opening.start.width / i.shape.ws_opt) * i.shape.ws_opt ≡ end_address i.shape is.row.opening
+    end_is : (start_len i.shape / i.shape.ws_opt + data_len i.shape is.row.opening.start.width / i.shape.ws_opt) * i.shape.ws_opt ≡ end_address i.shape
+        is.row.opening
     end_is =
         let a : start_len i.shape / i.shape.ws_opt * i.shape.ws_opt ≡ start_len i.shape = is.line_is.striped.start_is in
         let d : data_len i.shape is.row.opening.start.width / i.shape.ws_opt * i.shape.ws_opt ≡ data_len i.shape is.row.opening.start.width =
@@ -208,34 +235,55 @@ told_block i w unit of slot n b simple is kept l kinds = by (nat_le (start_len i
         sum ∙ ap₂ (λ x y. x + y) a d
 
     mark_is : data_mark slot.records (l.number * i.shape.ws_opt + n % i.shape.ws_opt)
-        ≡ (if nat_le (start_len i.shape) (l.number * i.shape.ws_opt + n % i.shape.ws_opt) then slice_get (data_marks i.shape (log_of w 0) is.row.opening) (l.number * i.shape.ws_opt + n % i.shape.ws_opt - start_len i.shape) else None)
-    mark_is = ap₂ (λ (s : Shape) (ms : List Mark). if nat_le (start_len s) (l.number * i.shape.ws_opt + n % i.shape.ws_opt) then slice_get ms (l.number * i.shape.ws_opt + n % i.shape.ws_opt - start_len s) else None) kept.records.shape kept.records.marks
+        ≡ (if nat_le (start_len i.shape) (l.number * i.shape.ws_opt + n % i.shape.ws_opt) then slice_get (data_marks i.shape (log_of w 0) is.row.opening)
+        (l.number * i.shape.ws_opt + n % i.shape.ws_opt - start_len i.shape) else None)
+    mark_is = ap₂ (λ (s : Shape) (ms : List Mark). if nat_le (start_len s) (l.number * i.shape.ws_opt + n % i.shape.ws_opt) then slice_get ms
+        (l.number * i.shape.ws_opt + n % i.shape.ws_opt - start_len s) else None) kept.records.shape kept.records.marks
 
-    after_start : nat_le (start_len i.shape) (l.number * i.shape.ws_opt + n % i.shape.ws_opt) ≡ true → (d : Bool) → nat_lt (l.number * i.shape.ws_opt + n % i.shape.ws_opt) (end_address i.shape is.row.opening) ≡ d → IsTold i w unit is.row.opening slot n b
+    after_start : nat_le (start_len i.shape) (l.number * i.shape.ws_opt + n % i.shape.ws_opt) ≡ true → (d : Bool)
+        → nat_lt (l.number * i.shape.ws_opt + n % i.shape.ws_opt) (end_address i.shape is.row.opening) ≡ d → IsTold i w unit is.row.opening slot n b
     after_start e false f =
-        let beyond : end_address i.shape is.row.opening ≤ l.number * i.shape.ws_opt + n % i.shape.ws_opt = le_of_lt_false (l.number * i.shape.ws_opt + n % i.shape.ws_opt) (end_address i.shape is.row.opening) f in
-        let past : end_address i.shape is.row.opening ≤ l.number * i.shape.ws_opt = multiple_le i.shape.ws_opt l.number (n % i.shape.ws_opt) _ (end_address i.shape is.row.opening) some end_is rest beyond in
+        let beyond : end_address i.shape is.row.opening ≤ l.number * i.shape.ws_opt + n % i.shape.ws_opt =
+        le_of_lt_false (l.number * i.shape.ws_opt + n % i.shape.ws_opt) (end_address i.shape is.row.opening) f in
+        let past : end_address i.shape is.row.opening ≤ l.number * i.shape.ws_opt =
+        multiple_le i.shape.ws_opt l.number (n % i.shape.ws_opt) _ (end_address i.shape is.row.opening) some end_is rest beyond in
         let none : slice_get (data_marks i.shape (log_of w 0) is.row.opening) (l.number * i.shape.ws_opt + n % i.shape.ws_opt - start_len i.shape) ≡ None =
-        slice_get-map (λ (x : Block). x.mark) (slice_range flat (start_len i.shape) (end_address i.shape is.row.opening)) (l.number * i.shape.ws_opt + n % i.shape.ws_opt - start_len i.shape)
-        ∙ ap (option_map (λ (x : Block). x.mark)) (part_short flat (start_len i.shape) (end_address i.shape is.row.opening - start_len i.shape) (l.number * i.shape.ws_opt + n % i.shape.ws_opt - start_len i.shape) (omega arith)) in
+        slice_get-map (λ (x : Block). x.mark) (slice_range flat (start_len i.shape) (end_address i.shape is.row.opening))
+        (l.number * i.shape.ws_opt + n % i.shape.ws_opt - start_len i.shape)
+        ∙ ap (option_map (λ (x : Block). x.mark))
+        (part_short flat (start_len i.shape) (end_address i.shape is.row.opening - start_len i.shape)
+        (l.number * i.shape.ws_opt + n % i.shape.ws_opt - start_len i.shape) (omega arith)) in
         told_none i w unit is.row.opening slot n b
-        (none_told slot unit n (l.number * i.shape.ws_opt + n % i.shape.ws_opt) l.place (mark_is ∙ ap (λ c. if c then slice_get (data_marks i.shape (log_of w 0) is.row.opening) (l.number * i.shape.ws_opt + n % i.shape.ws_opt - start_len i.shape) else None) e ∙ none))
+        (none_told slot unit n (l.number * i.shape.ws_opt + n % i.shape.ws_opt) l.place
+        (mark_is ∙ ap (λ c. if c then slice_get (data_marks i.shape (log_of w 0) is.row.opening)
+        (l.number * i.shape.ws_opt + n % i.shape.ws_opt - start_len i.shape) else None) e ∙ none))
         (kind.outside b among (inr past))
     after_start e true f =
-        let low : start_len i.shape ≤ l.number * i.shape.ws_opt + n % i.shape.ws_opt = within_is (start_len i.shape) (l.number * i.shape.ws_opt + n % i.shape.ws_opt) e in
-        let high : l.number * i.shape.ws_opt + n % i.shape.ws_opt < end_address i.shape is.row.opening = lt_yes (l.number * i.shape.ws_opt + n % i.shape.ws_opt) (end_address i.shape is.row.opening) f in
-        let begins : start_len i.shape ≤ l.number * i.shape.ws_opt = multiple_le i.shape.ws_opt l.number (n % i.shape.ws_opt) _ (start_len i.shape) some is.line_is.striped.start_is rest low in
-        let back : start_len i.shape + (l.number * i.shape.ws_opt + n % i.shape.ws_opt - start_len i.shape) ≡ l.number * i.shape.ws_opt + n % i.shape.ws_opt = omega arith in
-        let told : slice_get (data_marks i.shape (log_of w 0) is.row.opening) (l.number * i.shape.ws_opt + n % i.shape.ws_opt - start_len i.shape) ≡ Some b.mark =
-        slice_get-map (λ (x : Block). x.mark) (slice_range flat (start_len i.shape) (end_address i.shape is.row.opening)) (l.number * i.shape.ws_opt + n % i.shape.ws_opt - start_len i.shape)
-        ∙ ap (option_map (λ (x : Block). x.mark)) (part_in flat (start_len i.shape) (end_address i.shape is.row.opening - start_len i.shape) (l.number * i.shape.ws_opt + n % i.shape.ws_opt - start_len i.shape) b (ap (slice_get flat) back ∙ line_get) (omega arith)) in
-        by_kind (mark_is ∙ ap (λ c. if c then slice_get (data_marks i.shape (log_of w 0) is.row.opening) (l.number * i.shape.ws_opt + n % i.shape.ws_opt - start_len i.shape) else None) e ∙ told)
+        let low : start_len i.shape ≤ l.number * i.shape.ws_opt + n % i.shape.ws_opt =
+        within_is (start_len i.shape) (l.number * i.shape.ws_opt + n % i.shape.ws_opt) e in
+        let high : l.number * i.shape.ws_opt + n % i.shape.ws_opt < end_address i.shape is.row.opening =
+        lt_yes (l.number * i.shape.ws_opt + n % i.shape.ws_opt) (end_address i.shape is.row.opening) f in
+        let begins : start_len i.shape ≤ l.number * i.shape.ws_opt =
+        multiple_le i.shape.ws_opt l.number (n % i.shape.ws_opt) _ (start_len i.shape) some is.line_is.striped.start_is rest low in
+        let back : start_len i.shape + (l.number * i.shape.ws_opt + n % i.shape.ws_opt - start_len i.shape) ≡ l.number * i.shape.ws_opt + n % i.shape.ws_opt =
+        omega arith in
+        let told : slice_get (data_marks i.shape (log_of w 0) is.row.opening)
+        (l.number * i.shape.ws_opt + n % i.shape.ws_opt - start_len i.shape) ≡ Some b.mark =
+        slice_get-map (λ (x : Block). x.mark) (slice_range flat (start_len i.shape) (end_address i.shape is.row.opening))
+        (l.number * i.shape.ws_opt + n % i.shape.ws_opt - start_len i.shape)
+        ∙ ap (option_map (λ (x : Block). x.mark))
+        (part_in flat (start_len i.shape) (end_address i.shape is.row.opening - start_len i.shape)
+        (l.number * i.shape.ws_opt + n % i.shape.ws_opt - start_len i.shape) b (ap (slice_get flat) back ∙ line_get) (omega arith)) in
+        by_kind (mark_is ∙ ap (λ c. if c then slice_get (data_marks i.shape (log_of w 0) is.row.opening)
+        (l.number * i.shape.ws_opt + n % i.shape.ws_opt - start_len i.shape) else None) e ∙ told)
         (kind.data_of b among begins (omega arith))
       where
         by_kind : data_mark slot.records (l.number * i.shape.ws_opt + n % i.shape.ws_opt) ≡ Some b.mark
-            → ((b.mark.lba ≡ pad_lba) × (is_some (named i.shape b.mark) ≡ false)) ⊎ ((b.mark.lba ≢ pad_lba) × (is_some (named i.shape b.mark) ≡ true) × ((t : Taken) × IsAmong (takes (log_of w 0)) t × (b.mark ≡ t.mark)))
+            → ((b.mark.lba ≡ pad_lba) × (is_some (named i.shape b.mark) ≡ false))
+            ⊎ ((b.mark.lba ≢ pad_lba) × (is_some (named i.shape b.mark) ≡ true) × ((t : Taken) × IsAmong (takes (log_of w 0)) t × (b.mark ≡ t.mark)))
             → IsTold i w unit is.row.opening slot n b
-        by_kind told (inl pad) = told_none i w unit is.row.opening slot n b (pads_there slot unit n (l.number * i.shape.ws_opt + n % i.shape.ws_opt) b.mark l.place told pad.0) pad.1
+        by_kind told (inl pad) = told_none i w unit is.row.opening slot n b
+            (pads_there slot unit n (l.number * i.shape.ws_opt + n % i.shape.ws_opt) b.mark l.place told pad.0) pad.1
         by_kind told (inr data_is) = record {
           reads = reads_there slot unit n (l.number * i.shape.ws_opt + n % i.shape.ws_opt) b.mark l.place told data_is.0
               ∙ ap (λ a. read_here a b.mark true) (sym l.address) ∙ sym (ap (read_here (address_of_block i (log_of w) is.row.opening unit n) b.mark) data_is.1);
@@ -244,13 +292,17 @@ told_block i w unit of slot n b simple is kept l kinds = by (nat_le (start_len i
 
     by : (c : Bool) → nat_le (start_len i.shape) (l.number * i.shape.ws_opt + n % i.shape.ws_opt) ≡ c → IsTold i w unit is.row.opening slot n b
     by false e =
-        let before : l.number * i.shape.ws_opt + n % i.shape.ws_opt < start_len i.shape = le_no (start_len i.shape) (l.number * i.shape.ws_opt + n % i.shape.ws_opt) e in
+        let before : l.number * i.shape.ws_opt + n % i.shape.ws_opt < start_len i.shape =
+        le_no (start_len i.shape) (l.number * i.shape.ws_opt + n % i.shape.ws_opt) e in
         told_none i w unit is.row.opening slot n b
-        (none_told slot unit n (l.number * i.shape.ws_opt + n % i.shape.ws_opt) l.place (mark_is ∙ ap (λ c. if c then slice_get (data_marks i.shape (log_of w 0) is.row.opening) (l.number * i.shape.ws_opt + n % i.shape.ws_opt - start_len i.shape) else None) e))
+        (none_told slot unit n (l.number * i.shape.ws_opt + n % i.shape.ws_opt) l.place
+        (mark_is ∙ ap (λ c. if c then slice_get (data_marks i.shape (log_of w 0) is.row.opening)
+        (l.number * i.shape.ws_opt + n % i.shape.ws_opt - start_len i.shape) else None) e))
         (kind.outside b among (inl (omega arith)))
     by true e = after_start e (nat_lt (l.number * i.shape.ws_opt + n % i.shape.ws_opt) (end_address i.shape is.row.opening)) refl
 
-pub chunk_read : (i : Image) (w : World) (unit : ℕ) (of : Program) (slot : OpenLine) → IsSimpleMount i w → (is : IsOnWay i w unit of) → IsOpenLine i (log_of w) is.row.opening slot → AreKinds i w is.row.opening → IsChunkRead i w unit is.row.opening slot
+pub chunk_read : (i : Image) (w : World) (unit : ℕ) (of : Program) (slot : OpenLine) → IsSimpleMount i w → (is : IsOnWay i w unit of)
+    → IsOpenLine i (log_of w) is.row.opening slot → AreKinds i w is.row.opening → IsChunkRead i w unit is.row.opening slot
 chunk_read i w unit of slot simple is kept kinds = record {
   reads = λ n b there. (told_block i w unit of slot n b simple is kept (in_line i w unit of slot n b simple is kept there) kinds).reads;
   marks = λ n b there. (told_block i w unit of slot n b simple is kept (in_line i w unit of slot n b simple is kept there) kinds).marks;

@@ -65,9 +65,11 @@ pub record IsOfCore (i : Image) (w : World) (c : Core) (unit : ℕ) (of : Progra
   pub waits : (again : List ℕ) → c.placer ≡ placing_of i (log_of w) c.placer.entries.pad again → IsAwaited i (log_of w) c.placer.entries.pad again of
   pub has : HasSlot i (log_of w) c.open is.row.opening
 
-pub of_core : (i : Image) (w : World) (c : Core) (unit : ℕ) (of : Program) → IsSimpleMount i w → Stands i (log_of w) c → slice_get c.placer.units unit ≡ Some (UnderWay of) → IsOfCore i w c unit of
+pub of_core : (i : Image) (w : World) (c : Core) (unit : ℕ) (of : Program) → IsSimpleMount i w → Stands i (log_of w) c
+    → slice_get c.placer.units unit ≡ Some (UnderWay of) → IsOfCore i w c unit of
 of_core i w c unit of simple st there =
-    let is : IsOnWay i w unit of = on_way i w unit of simple (of_row i (log_of w) c.placer.entries.pad st.again unit of (ap (λ p. slice_get p.units unit) (sym st.placing) ∙ there)) in
+    let is : IsOnWay i w unit of =
+    on_way i w unit of simple (of_row i (log_of w) c.placer.entries.pad st.again unit of (ap (λ p. slice_get p.units unit) (sym st.placing) ∙ there)) in
     record {
       is = is;
       waits = λ again placing. awaited i w c.placer.entries.pad again unit of simple is (ap (λ p. slice_get p.units unit) (sym placing) ∙ there);
@@ -79,30 +81,37 @@ of_core i w c unit of simple st there =
 pub count_is : (i : Image) (w : World) (unit : ℕ) (of : Program) → IsOnWay i w unit of → length of.positions ≡ of.count
 count_is i w unit of is = ap (λ (x : Program). length x.positions) (sym is.row.is) ∙ ap (λ (x : Program). x.count) is.row.is
 
-pub positions_are : (i : Image) (w : World) (unit : ℕ) (of : Program) → (is : IsOnWay i w unit of) → of.positions ≡ positions_in_stripe i.shape is.row.stripe.stripe
+pub positions_are : (i : Image) (w : World) (unit : ℕ) (of : Program) → (is : IsOnWay i w unit of)
+    → of.positions ≡ positions_in_stripe i.shape is.row.stripe.stripe
 positions_are i w unit of is = sym (ap (λ (x : Program). x.positions) is.row.is)
 
-pub holds_it : (i : Image) (w : World) (unit : ℕ) (of : Program) (k q : ℕ) → (is : IsOnWay i w unit of) → slice_get of.positions k ≡ Some q → holds_position i.shape q is.row.stripe ≡ true
+pub holds_it : (i : Image) (w : World) (unit : ℕ) (of : Program) (k q : ℕ) → (is : IsOnWay i w unit of) → slice_get of.positions k ≡ Some q
+    → holds_position i.shape q is.row.stripe ≡ true
 holds_it i w unit of k q is at =
     stripe_holds i.shape q is.row.stripe
-    ∙ any_member (λ m. m == q) (positions_in_stripe i.shape is.row.stripe.stripe) k q (ap (λ qs. slice_get qs k) (sym (positions_are i w unit of is)) ∙ at) (same_number q)
+    ∙ any_member (λ m. m == q) (positions_in_stripe i.shape is.row.stripe.stripe) k q (ap (λ qs. slice_get qs k) (sym (positions_are i w unit of is)) ∙ at)
+    (same_number q)
 
-pub in_window : (i : Image) (w : World) (c : Core) (q : ℕ) → Stands i (log_of w) c → freed i.shape (log_of w 0) ≤ q → q < taken (log_of w 0) → view.IsHeld c.window q
+pub in_window : (i : Image) (w : World) (c : Core) (q : ℕ) → Stands i (log_of w) c → freed i.shape (log_of w 0) ≤ q → q < taken (log_of w 0)
+    → view.IsHeld c.window q
 in_window i w c q st low high =
     let from : c.window.freed ≤ freed i.shape (log_of w 0) = st.to_freed in
     (omega arith, subst (λ n. q < n) (sym (window_taken_is i w c st)) high)
 
-pub entry_held : (i : Image) (w : World) (c : Core) (unit : ℕ) (of : Program) (k q : ℕ) → IsSimpleMount i w → Stands i (log_of w) c → IsOnWay i w unit of → slice_get of.positions k ≡ Some q → view.IsHeld c.window q
+pub entry_held : (i : Image) (w : World) (c : Core) (unit : ℕ) (of : Program) (k q : ℕ) → IsSimpleMount i w → Stands i (log_of w) c → IsOnWay i w unit of
+    → slice_get of.positions k ≡ Some q → view.IsHeld c.window q
 entry_held i w c unit of k q simple st is at =
     let own = own_in_window i w unit is.row.stripe q simple is.row.waits (holds_it i w unit of k q is at) in
     in_window i w c q st own.1 own.2
 
 -- ---- its place in the chunk
 
-pub in_row : (i : Image) (w : World) (unit : ℕ) (of : Program) → IsSimpleMount i w → (is : IsOnWay i w unit of) → (n : ℕ) × (slice_get (stripes_on (log_of w 0) is.row.opening unit) n ≡ Some is.row.stripe) × IsInRow i.shape n is.row.stripe
+pub in_row : (i : Image) (w : World) (unit : ℕ) (of : Program) → IsSimpleMount i w → (is : IsOnWay i w unit of)
+    → (n : ℕ) × (slice_get (stripes_on (log_of w 0) is.row.opening unit) n ≡ Some is.row.stripe) × IsInRow i.shape n is.row.stripe
 in_row i w unit of simple is =
     let among : IsAmong (stripes_on (log_of w 0) is.row.opening unit) is.row.stripe =
-    in_filter (λ (p : Placed). p.stripe.unit == unit) (stripes_of (log_of w 0) is.row.opening) is.row.stripe (is.number, is.there) (ap (λ u. u == unit) is.its_unit ∙ same_number unit) in
+    in_filter (λ (p : Placed). p.stripe.unit == unit) (stripes_of (log_of w 0) is.row.opening) is.row.stripe (is.number, is.there)
+    (ap (λ u. u == unit) is.its_unit ∙ same_number unit) in
     (among.0, among.1, rows_of_chunks i w is.row.opening unit simple among.0 is.row.stripe among.1)
 
 pub block_is : (i : Image) (w : World) (unit : ℕ) (of : Program) → (is : IsOnWay i w unit of) → of.block ≡ is.row.stripe.stripe.at
@@ -113,10 +122,13 @@ block_within i w unit of simple is = subst (λ n. n + i.shape.ws_opt ≤ i.shape
 
 -- ---- the units of its line
 
-pub live_few : (i : Image) (w : World) (c : Core) (unit : ℕ) (of : Program) → IsSimpleMount i w → (is : IsOnWay i w unit of) → (has : HasSlot i (log_of w) c.open is.row.opening) → has.slot.live < 2 ^ units i.shape
-live_few i w c unit of simple is has = subst (λ n. n < 2 ^ units i.shape) (sym has.is.live) (known_bits i w (engine_prefix is.row.opening.number (log_of w)) is.row.opening.line simple.mount)
+pub live_few : (i : Image) (w : World) (c : Core) (unit : ℕ) (of : Program) → IsSimpleMount i w → (is : IsOnWay i w unit of)
+    → (has : HasSlot i (log_of w) c.open is.row.opening) → has.slot.live < 2 ^ units i.shape
+live_few i w c unit of simple is has =
+    subst (λ n. n < 2 ^ units i.shape) (sym has.is.live) (known_bits i w (engine_prefix is.row.opening.number (log_of w)) is.row.opening.line simple.mount)
 
-pub left_some : (i : Image) (w : World) (c : Core) (unit : ℕ) (of : Program) → (is : IsOnWay i w unit of) → (has : HasSlot i (log_of w) c.open is.row.opening) → 0 < has.slot.stripes_left
+pub left_some : (i : Image) (w : World) (c : Core) (unit : ℕ) (of : Program) → (is : IsOnWay i w unit of) → (has : HasSlot i (log_of w) c.open is.row.opening)
+    → 0 < has.slot.stripes_left
 left_some i w c unit of is has =
     let few = fewer_landed i w unit of is in
     let left : has.slot.stripes_left ≡ unlanded i.shape (log_of w 0) is.row.opening = has.is.left in
@@ -125,19 +137,24 @@ left_some i w c unit of is has =
 
 -- ---- its row
 
-pub line_within : (i : Image) (w : World) (c : Core) (unit : ℕ) (of : Program) → Stands i (log_of w) c → (is : IsOnWay i w unit of) → is.row.opening.line < length c.lines.rows
+pub line_within : (i : Image) (w : World) (c : Core) (unit : ℕ) (of : Program) → Stands i (log_of w) c → (is : IsOnWay i w unit of)
+    → is.row.opening.line < length c.lines.rows
 line_within i w c unit of st is =
     let inside : is.row.opening.line < i.shape.chunks = is.line_is.well.in_range in
-    let count : length (rows_of i (log_of w)).rows ≡ i.shape.chunks = length-map (range_with_len 0 i.shape.chunks) (row_of_line i (log_of w)) ∙ length-range_with_len 0 i.shape.chunks in
+    let count : length (rows_of i (log_of w)).rows ≡ i.shape.chunks = length-map (range_with_len 0 i.shape.chunks) (row_of_line i (log_of w))
+    ∙ length-range_with_len 0 i.shape.chunks in
     subst (λ t. is.row.opening.line < length t.rows) (sym st.table) (omega arith)
 
-pub may_fill : (i : Image) (w : World) (c : Core) (unit : ℕ) (of : Program) (row : Row) (addresses : ℕ) → IsSimpleMount i w → Stands i (log_of w) c → (is : IsOnWay i w unit of) → IsRow c.lines is.row.opening.line row → IsChange row.state Full addresses
+pub may_fill : (i : Image) (w : World) (c : Core) (unit : ℕ) (of : Program) (row : Row) (addresses : ℕ) → IsSimpleMount i w → Stands i (log_of w) c
+    → (is : IsOnWay i w unit of) → IsRow c.lines is.row.opening.line row → IsChange row.state Full addresses
 may_fill i w c unit of row addresses simple st is there =
     let ln : ℕ = is.row.opening.line in
-    let at = row_at (row_of_line i (log_of w)) i.shape.chunks 0 is.row.opening.line row (ap (λ t. slice_get t.rows is.row.opening.line) (sym st.table) ∙ there) in
+    let at = row_at (row_of_line i (log_of w)) i.shape.chunks 0 is.row.opening.line row
+    (ap (λ t. slice_get t.rows is.row.opening.line) (sym st.table) ∙ there) in
     let from : 0 + is.row.opening.line ≡ is.row.stripe.stripe.line = (let z : 0 + is.row.opening.line ≡ is.row.opening.line = omega arith in z) ∙ is.its_line in
     let state : Open ≡ row.state =
-    sym (state_open i (log_of w) unit is.row.stripe is.row.opening is.line_is.striped.some (in_order i w simple).failed is.row.waits is.row.life is.stands (has_room i w is.row.stripe.stripe.line is.row.opening simple is.stands))
+    sym (state_open i (log_of w) unit is.row.stripe is.row.opening is.line_is.striped.some (in_order i w simple).failed is.row.waits is.row.life is.stands
+    (has_room i w is.row.stripe.stripe.line is.row.opening simple is.stands))
     ∙ ap (λ n. (row_of_line i (log_of w) n).state) (sym from) ∙ ap (λ (r : Row). r.state) at.1 in
     subst (λ s. IsChange s Full addresses) state (inl refl)
 
@@ -147,7 +164,8 @@ pub record IsGot (i : Image) (w : World) (c : Core) (unit : ℕ) (of : Program) 
   pub slot : found ≡ its.has.slot
 
 pub got : (i : Image) (w : World) (c : Core) (unit : ℕ) (of : Program) (result : ℕ) (slot : OpenLine) → Stands i (log_of w) c → (its : IsOfCore i w c unit of)
-    → result < 2 → ((x : OpenLine) → IsSlot c.open result x → x.records.line ≡ of.line) → ((x : OpenLine) → IsSlot c.open 0 x → x.records.line ≡ of.line → result ≡ 0) → IsSlot c.open result slot → IsGot i w c unit of result slot its
+    → result < 2 → ((x : OpenLine) → IsSlot c.open result x → x.records.line ≡ of.line)
+    → ((x : OpenLine) → IsSlot c.open 0 x → x.records.line ≡ of.line → result ≡ 0) → IsSlot c.open result slot → IsGot i w c unit of result slot its
 got i w c unit of result slot st its inside line first at =
     let index : result ≡ its.has.k = found_slot i w c its.is.row.opening of.line result (line_of_way i w unit of its.is) st its.has inside line first in
     record {
@@ -158,14 +176,17 @@ got i w c unit of result slot st its inside line first at =
 -- ---- the table by the two ways
 
 full_rows : (rows : List Row) (line width : ℕ) (row : Row) → slice_get rows line ≡ Some row → width ≡ row.width
-    → option_map_or (λ (r : Row). slice_set rows line (turned Full width r)) (slice_get rows line) rows ≡ option_map_or (λ (r : Row). slice_set rows line (turned Full r.width r)) (slice_get rows line) rows
+    → option_map_or (λ (r : Row). slice_set rows line (turned Full width r)) (slice_get rows line) rows ≡ option_map_or
+    (λ (r : Row). slice_set rows line (turned Full r.width r)) (slice_get rows line) rows
 full_rows rows line width row there same =
     ap (λ o. option_map_or (λ (r : Row). slice_set rows line (turned Full width r)) o rows) there
     ∙ ap (λ n. slice_set rows line (turned Full n row)) same
     ∙ sym (ap (λ o. option_map_or (λ (r : Row). slice_set rows line (turned Full r.width r)) o rows) there)
 
-pub lines_full : (old new : Table) (line width : ℕ) (row : Row) → slice_get old.rows line ≡ Some row → width ≡ row.width → Changes old new line (turned Full width) → new ≡ with_row line (full_if true) old
-lines_full old new line width row there same changes = changed_is old new line (turned Full width) row there changes ∙ ap (λ rows. record { shape = old.shape; rows = rows }) (full_rows old.rows line width row there same)
+pub lines_full : (old new : Table) (line width : ℕ) (row : Row) → slice_get old.rows line ≡ Some row → width ≡ row.width
+    → Changes old new line (turned Full width) → new ≡ with_row line (full_if true) old
+lines_full old new line width row there same changes = changed_is old new line (turned Full width) row there changes
+    ∙ ap (λ rows. record { shape = old.shape; rows = rows }) (full_rows old.rows line width row there same)
 
 pub lines_kept : (old : Table) (line : ℕ) (row : Row) → slice_get old.rows line ≡ Some row → old ≡ with_row line (full_if false) old
 lines_kept old line row there =
@@ -173,13 +194,15 @@ lines_kept old line row there =
     (sym (ap (λ o. option_map_or (λ (r : Row). slice_set old.rows line r) o old.rows) there ∙ set_same old.rows line row there))
 
 -- its row, and the width there
-pub its_row : (i : Image) (w : World) (c : Core) (unit : ℕ) (of : Program) (live : ℕ) → Stands i (log_of w) c → (its : IsOfCore i w c unit of) → live ≡ its.has.slot.live
+pub its_row : (i : Image) (w : World) (c : Core) (unit : ℕ) (of : Program) (live : ℕ) → Stands i (log_of w) c → (its : IsOfCore i w c unit of)
+    → live ≡ its.has.slot.live
     → (row : Row) × (slice_get c.lines.rows of.line ≡ Some row) × (length (units_in live) ≡ row.width)
 its_row i w c unit of live st its same =
     let is : IsOnWay i w unit of = its.is in
     let some = got_within c.lines.rows of.line (subst (λ n. n < length c.lines.rows) (line_of_way i w unit of its.is) (line_within i w c unit of st its.is)) in
     let at = row_at (row_of_line i (log_of w)) i.shape.chunks 0 of.line some.0 (ap (λ t. slice_get t.rows of.line) (sym st.table) ∙ some.1) in
-    let line : 0 + of.line ≡ its.is.row.stripe.stripe.line = (let z : 0 + of.line ≡ of.line = omega arith in z) ∙ sym (line_of_way i w unit of its.is) ∙ its.is.its_line in (
+    let line : 0 + of.line ≡ its.is.row.stripe.stripe.line = (let z : 0 + of.line ≡ of.line = omega arith in z) ∙ sym (line_of_way i w unit of its.is)
+    ∙ its.is.its_line in (
       some.0,
       some.1,
       ap (λ n. length (units_in n)) (same ∙ its.has.is.live) ∙ its.is.line_is.wide_is ∙ sym its.is.line_is.well.width

@@ -31,7 +31,8 @@ turned_from (h ∷ held) a zero to from = from
 turned_from (h ∷ held) a (suc k) to from = (from.0, turned_from held (a + 1) k to from.1)
 
 -- the entries of a window have positions that follow one another, where those of the log have
-pub numbered_from : (s : Shape) (log : List Logged) (a n : ℕ) (held : List Held) (ts : List Taken) → map without_frame held ≡ map (held_of s log) ts → positions_of ts ≡ range_with_len a n → AreFrom a held
+pub numbered_from : (s : Shape) (log : List Logged) (a n : ℕ) (held : List Held) (ts : List Taken) → map without_frame held ≡ map (held_of s log) ts
+    → positions_of ts ≡ range_with_len a n → AreFrom a held
 numbered_from s log a n [] ts same numbered = tt
 numbered_from s log a n (h ∷ held) [] same numbered = absurd cc
 numbered_from s log a zero (h ∷ held) (t ∷ ts) same numbered = absurd cc
@@ -56,7 +57,8 @@ numbered_from s log a (suc n) (h ∷ held) (t ∷ ts) same numbered = (
     rest_numbers [] = []
     rest_numbers (x ∷ xs) = xs
 
-pub same_advance : (lands also reads others : ℕ → Bool) (v : HeldSectors) → ((q : ℕ) → lands q ≡ also q) → ((q : ℕ) → reads q ≡ others q) → advanced_window lands reads v ≡ advanced_window also others v
+pub same_advance : (lands also reads others : ℕ → Bool) (v : HeldSectors) → ((q : ℕ) → lands q ≡ also q) → ((q : ℕ) → reads q ≡ others q)
+    → advanced_window lands reads v ≡ advanced_window also others v
 same_advance lands also reads others v first second = ap₂ (λ (f g : ℕ → Bool). advanced_window f g v) (fun_same lands also first) (fun_same reads others second)
 
 -- ---- entries land
@@ -67,7 +69,8 @@ pub record IsIn (w : WindowView) : Type 0 where
 one_lands : (w : WindowView) (q : ℕ) → IsIn w → w.freed ≤ q → sectors_in (one_landed w q) ≡ advanced_window (λ x. x == q) (λ x. false) (sectors_in w)
 one_lands w q is low = go (has_landed_at w q) refl
   where
-    go : (b : Bool) → has_landed_at w q ≡ b → sectors_in (if b then w else turned w q progress.Landed) ≡ advanced_window (λ x. x == q) (λ x. false) (sectors_in w)
+    go : (b : Bool) → has_landed_at w q ≡ b
+        → sectors_in (if b then w else turned w q progress.Landed) ≡ advanced_window (λ x. x == q) (λ x. false) (sectors_in w)
     go true e = step_again w q is.from e
     go false e = step_landed w q is.from low e
 
@@ -81,7 +84,8 @@ one_is_in w q is = go (has_landed_at w q)
 one_front : (w : WindowView) (q : ℕ) → ((one_landed w q).freed ≡ w.freed) × (length (one_landed w q).entries ≡ length w.entries)
 one_front w q = go (has_landed_at w q)
   where
-    go : (b : Bool) → ((if b then w else turned w q progress.Landed).freed ≡ w.freed) × (length (if b then w else turned w q progress.Landed).entries ≡ length w.entries)
+    go : (b : Bool) → ((if b then w else turned w q progress.Landed).freed ≡ w.freed)
+        × (length (if b then w else turned w q progress.Landed).entries ≡ length w.entries)
     go true = (refl, refl)
     go false = (refl, turned_length w.entries (q - w.freed) progress.Landed)
 
@@ -113,10 +117,12 @@ abbrev pub read_of : Shape → (ℕ → ℕ) → ℕ × Block → Option ReadBlo
 read_of s address (n, b) = if is_some (named s b.mark) then Some (record { at = address n; mark = b.mark }) else None
 
 abbrev pub CanBeRead : Shape → WindowView → List (ℕ × Block) → Type 0
-CanBeRead s w xs = (k n : ℕ) (b : Block) → slice_get xs k ≡ Some (n, b) → is_some (named s b.mark) ≡ true → IsHeld w b.mark.position × (has_landed_at w b.mark.position ≡ true)
+CanBeRead s w xs = (k n : ℕ) (b : Block) → slice_get xs k ≡ Some (n, b) → is_some (named s b.mark) ≡ true
+    → IsHeld w b.mark.position × (has_landed_at w b.mark.position ≡ true)
 
 pub read_all : (s : Shape) (address : ℕ → ℕ) (bs : List Block) (n : ℕ) (w : WindowView) → IsIn w → CanBeRead s w (enumerate_from n bs)
-    → sectors_in (all_readable w (filter_map (read_of s address) (enumerate_from n bs))) ≡ advanced_window (λ q. false) (λ q. list_any (bears_position s q) bs) (sectors_in w)
+    → sectors_in (all_readable w (filter_map (read_of s address) (enumerate_from n bs))) ≡ advanced_window (λ q. false) (λ q. list_any (bears_position s q) bs)
+    (sectors_in w)
 read_all s address [] n w is can = sym (no_more (sectors_in w))
 read_all s address (b ∷ bs) n w is can = go (is_some (named s b.mark)) refl (λ v. read_all s address bs (n + 1) v)
   where
@@ -124,29 +130,39 @@ read_all s address (b ∷ bs) n w is can = go (is_some (named s b.mark)) refl (�
     named_by c = cons_option (if c then Some (record { at = address n; mark = b.mark }) else None) (filter_map (read_of s address) (enumerate_from (n + 1) bs))
 
     go : (c : Bool) → is_some (named s b.mark) ≡ c
-        → ((v : WindowView) → IsIn v → CanBeRead s v (enumerate_from (n + 1) bs) → sectors_in (all_readable v (filter_map (read_of s address) (enumerate_from (n + 1) bs))) ≡ advanced_window (λ q. false) (λ q. list_any (bears_position s q) bs) (sectors_in v))
-        → sectors_in (all_readable w (cons_option (if is_some (named s b.mark) then Some (record { at = address n; mark = b.mark }) else None) (filter_map (read_of s address) (enumerate_from (n + 1) bs))))
+        → ((v : WindowView) → IsIn v → CanBeRead s v (enumerate_from (n + 1) bs)
+        → sectors_in (all_readable v (filter_map (read_of s address) (enumerate_from (n + 1) bs))) ≡ advanced_window (λ q. false)
+        (λ q. list_any (bears_position s q) bs) (sectors_in v))
+        → sectors_in (all_readable w (cons_option (if is_some (named s b.mark) then Some (record { at = address n; mark = b.mark }) else None)
+        (filter_map (read_of s address) (enumerate_from (n + 1) bs))))
         ≡ advanced_window (λ q. false) (λ q. list_any (bears_position s q) (b ∷ bs)) (sectors_in w)
     go true e rest =
         let here = can 0 n b refl e in
         let v : WindowView = turned w b.mark.position progress.Readable in
-        let step : sectors_in (turned w b.mark.position progress.Readable) ≡ advanced_window (λ x. false) (λ x. x == b.mark.position) (sectors_in w) = step_readable w b.mark.position is.from here.0.0 here.1 in
-        ap (λ c. sectors_in (all_readable w (cons_option (if c then Some (record { at = address n; mark = b.mark }) else None) (filter_map (read_of s address) (enumerate_from (n + 1) bs))))) e
+        let step : sectors_in (turned w b.mark.position progress.Readable) ≡ advanced_window (λ x. false) (λ x. x == b.mark.position) (sectors_in w) =
+        step_readable w b.mark.position is.from here.0.0 here.1 in
+        ap (λ c. sectors_in (all_readable w
+        (cons_option (if c then Some (record { at = address n; mark = b.mark }) else None) (filter_map (read_of s address) (enumerate_from (n + 1) bs))))) e
         ∙ rest v (record { from = turned_from w.entries w.freed (b.mark.position - w.freed) progress.Readable is.from })
-        (λ k m x at passes. let there = can (suc k) m x at passes in (held_stays w b.mark.position x.mark.position there.0, landed_stays w b.mark.position x.mark.position there.1))
+        (λ k m x at passes. let there =
+        can (suc k) m x at passes in (held_stays w b.mark.position x.mark.position there.0, landed_stays w b.mark.position x.mark.position there.1))
         ∙ ap (advanced_window (λ q. false) (λ q. list_any (bears_position s q) bs)) step
         ∙ reads_more (λ q. false) (λ x. x == b.mark.position) (λ q. list_any (bears_position s q) bs) (sectors_in w)
-        ∙ same_advance (λ q. false) (λ q. false) (λ q. (q == b.mark.position) || list_any (bears_position s q) bs) (λ q. list_any (bears_position s q) (b ∷ bs)) (sectors_in w) (λ q. refl)
+        ∙ same_advance (λ q. false) (λ q. false) (λ q. (q == b.mark.position) || list_any (bears_position s q) bs) (λ q. list_any (bears_position s q) (b ∷ bs))
+        (sectors_in w) (λ q. refl)
         (λ q. ap (λ c. c || list_any (bears_position s q) bs) (turned_around q b.mark.position ∙ ap (λ c. c && (b.mark.position == q)) (sym e)))
     go false e rest =
-        ap (λ c. sectors_in (all_readable w (cons_option (if c then Some (record { at = address n; mark = b.mark }) else None) (filter_map (read_of s address) (enumerate_from (n + 1) bs))))) e
+        ap (λ c. sectors_in (all_readable w
+        (cons_option (if c then Some (record { at = address n; mark = b.mark }) else None) (filter_map (read_of s address) (enumerate_from (n + 1) bs))))) e
         ∙ rest w is (λ k m x at passes. can (suc k) m x at passes)
-        ∙ same_advance (λ q. false) (λ q. false) (λ q. list_any (bears_position s q) bs) (λ q. list_any (bears_position s q) (b ∷ bs)) (sectors_in w) (λ q. refl)
+        ∙ same_advance (λ q. false) (λ q. false) (λ q. list_any (bears_position s q) bs) (λ q. list_any (bears_position s q) (b ∷ bs)) (sectors_in w)
+        (λ q. refl)
         (λ q. ap (λ c. (c && (b.mark.position == q)) || list_any (bears_position s q) bs) (sym e))
 
 -- ---- the list of what is read
 
-pub reads_list : (h : ℕ → Option ReadBlock) (g : ℕ × Block → Option ReadBlock) (bs : List Block) (a : ℕ) → ((k : ℕ) (b : Block) → slice_get bs k ≡ Some b → h (a + k) ≡ g (a + k, b))
+pub reads_list : (h : ℕ → Option ReadBlock) (g : ℕ × Block → Option ReadBlock) (bs : List Block) (a : ℕ)
+    → ((k : ℕ) (b : Block) → slice_get bs k ≡ Some b → h (a + k) ≡ g (a + k, b))
     → filter_map h (range_with_len a (length bs)) ≡ filter_map g (enumerate_from a bs)
 reads_list h g [] a same = refl
 reads_list h g (b ∷ bs) a same =

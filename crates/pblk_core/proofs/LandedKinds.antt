@@ -50,7 +50,8 @@ use Rattle.lemmas.proofs.Tests.{first_of, lt_true, within_is}
 use Rattle.pblk_world.proofs.EngineLogLemmas.{opened_same, takes_more}
 
 -- a block of a record has its mark
-of_record : (s : Shape) (seq count : ℕ) (bytes : List ℕ) (from to : ℕ) (b : Block) → IsAccepted s → IsAmong (slice_range (record_blocks s seq count bytes) from to) b → is_some (named s b.mark) ≡ false
+of_record : (s : Shape) (seq count : ℕ) (bytes : List ℕ) (from to : ℕ) (b : Block) → IsAccepted s
+    → IsAmong (slice_range (record_blocks s seq count bytes) from to) b → is_some (named s b.mark) ≡ false
 of_record s seq count bytes from to b accepted at =
     let all : AllByRecursion (λ (x : Block). x.mark ≡ meta_mark seq) (slice_range (record_blocks s seq count bytes) from to) =
     all_taken (λ (x : Block). x.mark ≡ meta_mark seq) (to - from) (drop from (record_blocks s seq count bytes))
@@ -64,16 +65,20 @@ by_lba s lba = is_some (if nat_lt lba s.capacity then Some (Some lba) else (if l
 -- ---- the stripe that is placed next
 
 of_taken : (s : Shape) (log : List Logged) (b : Block) → IsAccepted s → AreOfSectors s log → IsOfTaken s (takes log) b
-    → ((b.mark.lba ≡ pad_lba) × (is_some (named s b.mark) ≡ false)) ⊎ ((b.mark.lba ≢ pad_lba) × (is_some (named s b.mark) ≡ true) × ((t : Taken) × IsAmong (takes log) t × (b.mark ≡ t.mark)))
-of_taken s log b accepted sectors (inl pad) = inl (ap (λ (x : Block). x.mark.lba) pad, ap (λ (x : Block). is_some (named s x.mark)) pad ∙ ap is_some (pad_none s accepted))
+    → ((b.mark.lba ≡ pad_lba) × (is_some (named s b.mark) ≡ false))
+    ⊎ ((b.mark.lba ≢ pad_lba) × (is_some (named s b.mark) ≡ true) × ((t : Taken) × IsAmong (takes log) t × (b.mark ≡ t.mark)))
+of_taken s log b accepted sectors (inl pad) =
+    inl (ap (λ (x : Block). x.mark.lba) pad, ap (λ (x : Block). is_some (named s x.mark)) pad ∙ ap is_some (pad_none s accepted))
 of_taken s log b accepted sectors (inr (k, t, at, same)) =
     let mark : b.mark ≡ t.mark = ap (λ (x : Block). x.mark) same in
     let low : t.mark.lba < s.capacity = all_at (λ (t : Taken). t.mark.lba < s.capacity) (takes log) k t at sectors in
     let some : is_some (named s b.mark) ≡ true =
-    ap (λ (m : Mark). by_lba s m.lba) mark ∙ ap (λ a. is_some (if a then Some (Some t.mark.lba) else (if t.mark.lba == void_lba then Some None else None))) (lt_true t.mark.lba s.capacity low) in
+    ap (λ (m : Mark). by_lba s m.lba) mark
+    ∙ ap (λ a. is_some (if a then Some (Some t.mark.lba) else (if t.mark.lba == void_lba then Some None else None))) (lt_true t.mark.lba s.capacity low) in
     inr (λ pad. let clash : true ≡ false = sym some ∙ ap (by_lba s) pad ∙ ap is_some (pad_none s accepted) in absurd cc, some, (t, (k, at), mark))
 
-module _ (i : Image) (ls : Logs) (o : Opening) (stripe : Stripe) (accepted : IsAccepted i.shape) (sectors : AreOfSectors i.shape (ls 0)) (striped : IsStriped i.shape o.start.width) (sound : has_failed (ls 0) o ≡ false) where
+module _ (i : Image) (ls : Logs) (o : Opening) (stripe : Stripe) (accepted : IsAccepted i.shape) (sectors : AreOfSectors i.shape (ls 0))
+    (striped : IsStriped i.shape o.start.width) (sound : has_failed (ls 0) o ≡ false) where
   abbrev count : ℕ
   count = length (stripes_of (ls 0) o)
 
@@ -82,21 +87,24 @@ module _ (i : Image) (ls : Logs) (o : Opening) (stripe : Stripe) (accepted : IsA
 
   start_kind : IsStart i ls o stripe → Here
   start_kind is = record {
-    outside = λ b at side. of_record i.shape o.start.seq (start_len i.shape) (start_bytes i.shape o.start) (count * i.shape.ws_opt - 0) (count * i.shape.ws_opt - 0 + i.shape.ws_opt) b accepted
+    outside = λ b at side. of_record i.shape o.start.seq (start_len i.shape) (start_bytes i.shape o.start) (count * i.shape.ws_opt - 0)
+        (count * i.shape.ws_opt - 0 + i.shape.ws_opt) b accepted
         (at.0, ap (λ bs. slice_get bs at.0) (sym is.blocks) ∙ at.1);
     data_of = λ b at low high. let within : count * i.shape.ws_opt < start_len i.shape = is.within in absurd (omega arith);
   }
 
   end_kind : IsEnd i ls o stripe → Here
   end_kind is = record {
-    outside = λ b at side. of_record i.shape o.start.seq (end_len i.shape o.start.width) _ (count * i.shape.ws_opt - end_address i.shape o) (count * i.shape.ws_opt - end_address i.shape o + i.shape.ws_opt) b accepted
+    outside = λ b at side. of_record i.shape o.start.seq (end_len i.shape o.start.width) _ (count * i.shape.ws_opt - end_address i.shape o)
+        (count * i.shape.ws_opt - end_address i.shape o + i.shape.ws_opt) b accepted
         (at.0, ap (λ bs. slice_get bs at.0) (sym is.blocks) ∙ at.1);
     data_of = λ b at low high. let from : end_address i.shape o ≤ count * i.shape.ws_opt = is.from in absurd (omega arith);
   }
 
   behind_start : IsData i ls o stripe → start_len i.shape ≤ count * i.shape.ws_opt
   behind_start is =
-      let enough : start_len i.shape / i.shape.ws_opt ≤ count = within_is (start_len i.shape / i.shape.ws_opt) count (first_of (nat_le (start_len i.shape / i.shape.ws_opt) count) _ is.start_landed) in
+      let enough : start_len i.shape / i.shape.ws_opt ≤ count =
+      within_is (start_len i.shape / i.shape.ws_opt) count (first_of (nat_le (start_len i.shape / i.shape.ws_opt) count) _ is.start_landed) in
       let whole : start_len i.shape / i.shape.ws_opt * i.shape.ws_opt ≡ start_len i.shape = striped.start_is in
       let more : start_len i.shape / i.shape.ws_opt * i.shape.ws_opt ≤ count * i.shape.ws_opt = mul-le-mul_right i.shape.ws_opt enough in
       omega arith
@@ -105,14 +113,16 @@ module _ (i : Image) (ls : Logs) (o : Opening) (stripe : Stripe) (accepted : IsA
   data_kind is = record {
     outside = λ b at side. absurd (between side);
     data_of = λ b at low high. of_taken i.shape (ls 0) b accepted sectors
-        (all_at (IsOfTaken i.shape (takes (ls 0))) (data_blocks i.shape (ls 0)) at.0 b (ap (λ bs. slice_get bs at.0) (sym is.blocks) ∙ at.1) (data_taken i.shape (ls 0)));
+        (all_at (IsOfTaken i.shape (takes (ls 0))) (data_blocks i.shape (ls 0)) at.0 b (ap (λ bs. slice_get bs at.0) (sym is.blocks) ∙ at.1)
+        (data_taken i.shape (ls 0)));
   }
     where
       between : (count * i.shape.ws_opt < start_len i.shape) ⊎ (end_address i.shape o ≤ count * i.shape.ws_opt) → ⊥
       between (inl low) = let from : start_len i.shape ≤ count * i.shape.ws_opt = behind_start is in absurd (omega arith)
       between (inr high) = let within : count * i.shape.ws_opt < end_address i.shape o = is.within in absurd (omega arith)
 
-  pub kind_of : IsStart i ls o stripe ⊎ (IsData i ls o stripe ⊎ (IsEnd i ls o stripe ⊎ IsPad i ls o stripe)) → HasKind i.shape (takes (ls 0)) o (length (stripes_of (ls 0) o)) stripe.blocks
+  pub kind_of : IsStart i ls o stripe ⊎ (IsData i ls o stripe ⊎ (IsEnd i ls o stripe ⊎ IsPad i ls o stripe))
+      → HasKind i.shape (takes (ls 0)) o (length (stripes_of (ls 0) o)) stripe.blocks
   kind_of (inl is) = start_kind is
   kind_of (inr (inl is)) = data_kind is
   kind_of (inr (inr (inl is))) = end_kind is
@@ -121,9 +131,11 @@ module _ (i : Image) (ls : Logs) (o : Opening) (stripe : Stripe) (accepted : IsA
 -- ---- one more event
 
 HaveKinds : Shape → List Logged → Type 0
-HaveKinds s log = (line : ℕ) (o : Opening) → life_of log line ≡ Opened o → (j : ℕ) (p : Placed) → slice_get (stripes_of log o) j ≡ Some p → HasKind s (takes log) o j p.stripe.blocks
+HaveKinds s log = (line : ℕ) (o : Opening) → life_of log line ≡ Opened o → (j : ℕ) (p : Placed) → slice_get (stripes_of log o) j ≡ Some p
+    → HasKind s (takes log) o j p.stripe.blocks
 
-more_taken : (s : Shape) (log : List Logged) (l : Logged) (o : Opening) (j : ℕ) (blocks : List Block) → HasKind s (takes log) o j blocks → HasKind s (takes (log ++ l ∷ [])) o j blocks
+more_taken : (s : Shape) (log : List Logged) (l : Logged) (o : Opening) (j : ℕ) (blocks : List Block) → HasKind s (takes log) o j blocks
+    → HasKind s (takes (log ++ l ∷ [])) o j blocks
 more_taken s log l o j blocks is = record {
   outside = is.outside;
   data_of = λ b at low high. go b (is.data_of b at low high);
@@ -134,24 +146,30 @@ more_taken s log l o j blocks is = record {
     get_more (y ∷ xs) ys zero x e = e
     get_more (y ∷ xs) ys (suc k) x e = get_more xs ys k x e
 
-    go : (b : Block) → ((b.mark.lba ≡ pad_lba) × (is_some (named s b.mark) ≡ false)) ⊎ ((b.mark.lba ≢ pad_lba) × (is_some (named s b.mark) ≡ true) × ((t : Taken) × IsAmong (takes log) t × (b.mark ≡ t.mark)))
-        → ((b.mark.lba ≡ pad_lba) × (is_some (named s b.mark) ≡ false)) ⊎ ((b.mark.lba ≢ pad_lba) × (is_some (named s b.mark) ≡ true) × ((t : Taken) × IsAmong (takes (log ++ l ∷ [])) t × (b.mark ≡ t.mark)))
+    go : (b : Block) → ((b.mark.lba ≡ pad_lba) × (is_some (named s b.mark) ≡ false))
+        ⊎ ((b.mark.lba ≢ pad_lba) × (is_some (named s b.mark) ≡ true) × ((t : Taken) × IsAmong (takes log) t × (b.mark ≡ t.mark)))
+        → ((b.mark.lba ≡ pad_lba) × (is_some (named s b.mark) ≡ false))
+        ⊎ ((b.mark.lba ≢ pad_lba) × (is_some (named s b.mark) ≡ true) × ((t : Taken) × IsAmong (takes (log ++ l ∷ [])) t × (b.mark ≡ t.mark)))
     go b (inl pad) = inl pad
     go b (inr e) = inr (e.0, e.1, (e.2.0, (e.2.1.0, ap (λ ts. slice_get ts e.2.1.0) (takes_more log l) ∙ get_more (takes log) _ e.2.1.0 e.2.0 e.2.1.1), e.2.2))
 
 -- it places no stripe, and a line of which nothing was placed may be opened by it
-kinds_stay : (s : Shape) (log : List Logged) (l : Logged) (line : ℕ) (o : Opening) (j : ℕ) (p : Placed) → HaveKinds s log → placements (log ++ l ∷ []) ≡ placements log → (life_of log line ≡ Opened o) ⊎ (o.number ≡ length log)
+kinds_stay : (s : Shape) (log : List Logged) (l : Logged) (line : ℕ) (o : Opening) (j : ℕ) (p : Placed) → HaveKinds s log
+    → placements (log ++ l ∷ []) ≡ placements log → (life_of log line ≡ Opened o) ⊎ (o.number ≡ length log)
     → slice_get (stripes_of (log ++ l ∷ []) o) j ≡ Some p → HasKind s (takes (log ++ l ∷ [])) o j p.stripe.blocks
 unfolding HaveKinds
 kinds_stay s log l line o j p was same (inl life) there = more_taken s log l o j p.stripe.blocks
     (was line o life j p (ap (λ (ps : List Placed). slice_get (filter (λ (q : Placed). is_life o.number q.life) ps) j) (sym same) ∙ there))
 kinds_stay s log l line o j p was same (inr number) there =
     absurd (none-some p (sym (ap₂ (λ (ps : List Placed) n. slice_get (filter (λ (q : Placed). is_life n q.life) ps) j) same number
-    ∙ ap (λ (ps : List Placed). slice_get ps j) (filter_none (λ (q : Placed). is_life (length log) q.life) (placements log) (placed_before log (length log) (le_refl (length log))))) ∙ there))
+    ∙ ap (λ (ps : List Placed). slice_get ps j)
+    (filter_none (λ (q : Placed). is_life (length log) q.life) (placements log) (placed_before log (length log) (le_refl (length log))))) ∙ there))
 
-kinds_placed : (i : Image) (us : ℕ → List ℕ) (w : World) (knows : List ℕ) (stripe : Stripe) → IsNextEvent i us w (record { event = Decides (Place stripe); knows = knows })
+kinds_placed : (i : Image) (us : ℕ → List ℕ) (w : World) (knows : List ℕ) (stripe : Stripe)
+    → IsNextEvent i us w (record { event = Decides (Place stripe); knows = knows })
     → AreOfSectors i.shape (log_of w 0) → HaveKinds i.shape (log_of w 0)
-    → (line : ℕ) (o : Opening) → life_of (log_of w 0) line ≡ Opened o → (j : ℕ) (p : Placed) → slice_get (stripes_of (with_place (log_of w 0) stripe knows) o) j ≡ Some p
+    → (line : ℕ) (o : Opening) → life_of (log_of w 0) line ≡ Opened o → (j : ℕ) (p : Placed)
+    → slice_get (stripes_of (with_place (log_of w 0) stripe knows) o) j ≡ Some p
     → HasKind i.shape (takes (with_place (log_of w 0) stripe knows)) o j p.stripe.blocks
 unfolding HaveKinds
 kinds_placed i us w knows stripe next sectors was line o life j p there = go (is_life o.number (Opened may.opening)) refl
@@ -184,7 +202,9 @@ kinds_placed i us w knows stripe next sectors was line o life j p there = go (is
         (subst (IsStriped i.shape) (sym well.width) (its_stripes i us stripe.line may.opening accepted.drive.ws_opt accepted.drive.whole_stripes well))
         (own (λ xs. has_failed xs may.opening) ∙ none_failed (log_of w 0) may.opening (plain_of i us w next.world)) may.kind)
 
-    by : may.opening ≡ o → (slice_get (stripes_of (log_of w 0) o) j ≡ Some p) ⊎ ((j ≡ length (stripes_of (log_of w 0) o)) × (new_placed (log_of w 0) stripe may.opening ≡ p)) → HasKind i.shape (takes (log_of w 0)) o j p.stripe.blocks
+    by : may.opening ≡ o → (slice_get (stripes_of (log_of w 0) o) j ≡ Some p)
+        ⊎ ((j ≡ length (stripes_of (log_of w 0) o)) × (new_placed (log_of w 0) stripe may.opening ≡ p))
+        → HasKind i.shape (takes (log_of w 0)) o j p.stripe.blocks
     by same (inl old) = was line o life j p old
     by same (inr last) =
         subst (λ (x : Placed). HasKind i.shape (takes (log_of w 0)) o j x.stripe.blocks) last.1
@@ -194,18 +214,24 @@ kinds_placed i us w knows stripe next sectors was line o life j p there = go (is
     go : (b : Bool) → is_life o.number (Opened may.opening) ≡ b → HasKind i.shape (takes (with_place (log_of w 0) stripe knows)) o j p.stripe.blocks
     go true e =
         let number : may.opening.number ≡ o.number = eqb-true may.opening.number o.number e in
-        let one : line ≡ stripe.line = same_Some line stripe.line (sym ((life_at (log_of w 0) line o life).0) ∙ ap (opens_at (log_of w 0)) (sym number) ∙ (life_at (log_of w 0) stripe.line may.opening opened).0) in
+        let one : line ≡ stripe.line =
+        same_Some line stripe.line (sym ((life_at (log_of w 0) line o life).0) ∙ ap (opens_at (log_of w 0)) (sym number)
+        ∙ (life_at (log_of w 0) stripe.line may.opening opened).0) in
         let same : may.opening ≡ o = opened_same may.opening o (sym opened ∙ ap (life_of (log_of w 0)) (sym one) ∙ life) in
         more_taken i.shape (log_of w 0) l o j p.stripe.blocks
-        (by same (at_end (stripes_of (log_of w 0) o) (new_placed (log_of w 0) stripe may.opening) p j (ap (λ (ps : List Placed). slice_get ps j) (sym (stripe_behind (log_of w 0) stripe knows may.opening o true opened e)) ∙ there)))
+        (by same (at_end (stripes_of (log_of w 0) o) (new_placed (log_of w 0) stripe may.opening) p j
+        (ap (λ (ps : List Placed). slice_get ps j) (sym (stripe_behind (log_of w 0) stripe knows may.opening o true opened e)) ∙ there)))
     go false e = more_taken i.shape (log_of w 0) l o j p.stripe.blocks
-        (was line o life j p (ap (λ (ps : List Placed). slice_get ps j) (sym (append-nil (stripes_of (log_of w 0) o)) ∙ sym (stripe_behind (log_of w 0) stripe knows may.opening o false opened e)) ∙ there))
+        (was line o life j p (ap (λ (ps : List Placed). slice_get ps j)
+        (sym (append-nil (stripes_of (log_of w 0) o)) ∙ sym (stripe_behind (log_of w 0) stripe knows may.opening o false opened e)) ∙ there))
 
-kinds_opened : (s : Shape) (log : List Logged) (knows : List ℕ) (other line : ℕ) (start : StartRecord) (o : Opening) → (if other == line then Opened (record { number = length log; line = line; start = start; knows = knows }) else life_of log line) ≡ Opened o
+kinds_opened : (s : Shape) (log : List Logged) (knows : List ℕ) (other line : ℕ) (start : StartRecord) (o : Opening)
+    → (if other == line then Opened (record { number = length log; line = line; start = start; knows = knows }) else life_of log line) ≡ Opened o
     → (life_of log line ≡ Opened o) ⊎ (o.number ≡ length log)
 kinds_opened s log knows other line start o = go (nat_eq other line)
   where
-    go : (b : Bool) → (if b then Opened (record { number = length log; line = line; start = start; knows = knows }) else life_of log line) ≡ Opened o → (life_of log line ≡ Opened o) ⊎ (o.number ≡ length log)
+    go : (b : Bool) → (if b then Opened (record { number = length log; line = line; start = start; knows = knows }) else life_of log line) ≡ Opened o
+        → (life_of log line ≡ Opened o) ⊎ (o.number ≡ length log)
     go true e = inr (ap (λ (x : Opening). x.number) (sym (opened_same (record { number = length log; line = line; start = start; knows = knows }) o e)))
     go false e = inl e
 
@@ -213,7 +239,8 @@ kinds_next : (i : Image) (us : ℕ → List ℕ) (w : World) (knows : List ℕ) 
     → AreOfSectors i.shape (log_of w 0) → HaveKinds i.shape (log_of w 0) → HaveKinds i.shape (log_of w 0 ++ record { event = x; knows = knows } ∷ [])
 unfolding HaveKinds
 kinds_next i us w knows (Decides (Place stripe)) next sectors was line o life j p there =
-    kinds_placed i us w knows stripe next sectors was line o (sym (life_more (log_of w 0) (record { event = Decides (Place stripe); knows = knows }) line) ∙ life) j p there
+    kinds_placed i us w knows stripe next sectors was line o
+    (sym (life_more (log_of w 0) (record { event = Decides (Place stripe); knows = knows }) line) ∙ life) j p there
 kinds_next i us w knows (Decides (Open other start)) next sectors was line o life j p there =
     let l : Logged = record { event = Decides (Open other start); knows = knows } in
     kinds_stay i.shape (log_of w 0) l line o j p was (placements_more (log_of w 0) l ∙ append-nil (placements (log_of w 0)))
@@ -221,7 +248,8 @@ kinds_next i us w knows (Decides (Open other start)) next sectors was line o lif
 kinds_next i us w knows (Decides (Free other)) next sectors was line o life j p there = let plain = next.plain in absurd cc
 kinds_next i us w knows x next sectors was line o life j p there =
     let l : Logged = record { event = x; knows = knows } in
-    kinds_stay i.shape (log_of w 0) l line o j p was (placements_more (log_of w 0) l ∙ append-nil (placements (log_of w 0))) (inl (sym (life_more (log_of w 0) l line) ∙ life)) there
+    kinds_stay i.shape (log_of w 0) l line o j p was (placements_more (log_of w 0) l ∙ append-nil (placements (log_of w 0)))
+    (inl (sym (life_more (log_of w 0) l line) ∙ life)) there
 
 -- of a log whose entries are of sectors
 KindsOfSectors : Shape → List Logged → Type 0
@@ -243,5 +271,6 @@ pub are_kinds : (i : Image) (w : World) (unit : ℕ) (of : Program) → IsSimple
 unfolding HaveKinds
 are_kinds i w unit of simple is j p there = all_kinds i w simple is.row.stripe.stripe.line is.row.opening is.stands j p there
 
-pub chunk_is_read : (i : Image) (w : World) (unit : ℕ) (of : Program) (slot : OpenLine) → IsSimpleMount i w → (is : IsOnWay i w unit of) → IsOpenLine i (log_of w) is.row.opening slot → IsChunkRead i w unit is.row.opening slot
+pub chunk_is_read : (i : Image) (w : World) (unit : ℕ) (of : Program) (slot : OpenLine) → IsSimpleMount i w → (is : IsOnWay i w unit of)
+    → IsOpenLine i (log_of w) is.row.opening slot → IsChunkRead i w unit is.row.opening slot
 chunk_is_read i w unit of slot simple is kept = chunk_read i w unit of slot simple is kept (are_kinds i w unit of simple is)

@@ -45,7 +45,8 @@ pub record HasSlot (i : Image) (logs : Logs) (kept : OpenLines) (o : Opening) : 
   pub opening : slice_get (left_openings i logs) k ≡ Some o
   pub is : IsOpenLine i logs o slot
 
-pub has_slot : (i : Image) (w : World) (c : Core) (unit : ℕ) (of : Program) → IsSimpleMount i w → (is : IsOnWay i w unit of) → Stands i (log_of w) c → HasSlot i (log_of w) c.open is.row.opening
+pub has_slot : (i : Image) (w : World) (c : Core) (unit : ℕ) (of : Program) → IsSimpleMount i w → (is : IsOnWay i w unit of) → Stands i (log_of w) c
+    → HasSlot i (log_of w) c.open is.row.opening
 has_slot i w c unit of simple is st =
     let among : IsAmong (left_openings i (log_of w)) is.row.opening = left_there i w unit of simple is in
     let within : among.0 < length (left_openings i (log_of w)) = slice_get_within (left_openings i (log_of w)) among.0 is.row.opening among.1 in
@@ -93,11 +94,13 @@ pub not_all_pass : {X : Type 0} (f : X → Bool) (xs : List X) → length (filte
 not_all_pass f [] e = absurd (omega arith)
 not_all_pass {X} f (x ∷ xs) e = go (f x) e (not_all_pass f xs)
   where
-    go : (b : Bool) → length (cond b (x ∷ filter f xs) (filter f xs)) < length (x ∷ xs) → (length (filter f xs) < length xs → list_all f xs ≡ false) → (b && list_all f xs) ≡ false
+    go : (b : Bool) → length (cond b (x ∷ filter f xs) (filter f xs)) < length (x ∷ xs) → (length (filter f xs) < length xs → list_all f xs ≡ false)
+        → (b && list_all f xs) ≡ false
     go true e rest = rest (omega arith)
     go false e rest = refl
 
-pub one_more_passes : {X : Type 0} (f : X → Bool) (xs : List X) (k : ℕ) (x y : X) → slice_get xs k ≡ Some x → f x ≡ false → f y ≡ true → length (filter f (slice_set xs k y)) ≡ length (filter f xs) + 1
+pub one_more_passes : {X : Type 0} (f : X → Bool) (xs : List X) (k : ℕ) (x y : X) → slice_get xs k ≡ Some x → f x ≡ false → f y ≡ true
+    → length (filter f (slice_set xs k y)) ≡ length (filter f xs) + 1
 one_more_passes f [] k x y at fails passes = absurd (none-some x at)
 one_more_passes {X} f (z ∷ xs) zero x y at fails passes =
     ap (λ b. length (cond b (y ∷ filter f xs) (filter f xs))) passes
@@ -110,11 +113,14 @@ one_more_passes {X} f (z ∷ xs) (suc k) x y at fails passes = go (f z) (one_mor
     go true h = omega arith
     go false h = h
 
-mapped_count : {X Y : Type 0} (f : Y → Bool) (g : X → Y) (h : X → Bool) → ((x : X) → f (g x) ≡ h x) → (xs : List X) → length (filter f (map g xs)) ≡ length (filter h xs)
+mapped_count : {X Y : Type 0} (f : Y → Bool) (g : X → Y) (h : X → Bool) → ((x : X) → f (g x) ≡ h x) → (xs : List X)
+    → length (filter f (map g xs)) ≡ length (filter h xs)
 mapped_count f g h same [] = refl
-mapped_count {X} f g h same (x ∷ xs) = ap (λ b. length (cond b (g x ∷ filter f (map g xs)) (filter f (map g xs)))) (same x) ∙ go (h x) (mapped_count f g h same xs)
+mapped_count {X} f g h same (x ∷ xs) = ap (λ b. length (cond b (g x ∷ filter f (map g xs)) (filter f (map g xs)))) (same x)
+    ∙ go (h x) (mapped_count f g h same xs)
   where
-    go : (b : Bool) → length (filter f (map g xs)) ≡ length (filter h xs) → length (cond b (g x ∷ filter f (map g xs)) (filter f (map g xs))) ≡ length (cond b (x ∷ filter h xs) (filter h xs))
+    go : (b : Bool) → length (filter f (map g xs)) ≡ length (filter h xs)
+        → length (cond b (g x ∷ filter f (map g xs)) (filter f (map g xs))) ≡ length (cond b (x ∷ filter h xs) (filter h xs))
     go true e = ap suc e
     go false e = e
 
@@ -127,7 +133,8 @@ unfolding answered_as
 answered_landed log p = landed_by (answer_of log p)
 
 -- as many stripes of the open line have landed as of the opening
-pub landed_are : (i : Image) (w : World) (unit : ℕ) (of : Program) → (is : IsOnWay i w unit of) → length (filter is_landed (open_line i (log_of w) is.row.opening).stripes) ≡ landed_count (log_of w 0) is.row.opening
+pub landed_are : (i : Image) (w : World) (unit : ℕ) (of : Program) → (is : IsOnWay i w unit of)
+    → length (filter is_landed (open_line i (log_of w) is.row.opening).stripes) ≡ landed_count (log_of w 0) is.row.opening
 landed_are i w unit of is =
     let o : Opening = is.row.opening in
     let log : List Logged = log_of w 0 in
@@ -140,25 +147,31 @@ landed_are i w unit of is =
     ∙ length-append (filter is_landed (map (answered_as (log_of w 0)) (stripes_of (log_of w 0) is.row.opening))) (filter is_landed (replicate rest Unplaced))
     ∙ omega arith
 
-pub stripes_are : (i : Image) (w : World) (unit : ℕ) (of : Program) → (is : IsOnWay i w unit of) → length (open_line i (log_of w) is.row.opening).stripes ≡ stripe_count i (now_units i w) is.row.opening.line
+pub stripes_are : (i : Image) (w : World) (unit : ℕ) (of : Program) → (is : IsOnWay i w unit of)
+    → length (open_line i (log_of w) is.row.opening).stripes ≡ stripe_count i (now_units i w) is.row.opening.line
 stripes_are i w unit of is =
     let inside : length (stripes_of (log_of w 0) is.row.opening) ≤ stripe_count i (now_units i w) is.row.opening.line = is.line_is.order.inside in
     let rest : ℕ = stripe_count i (now_units i w) is.row.opening.line - length (stripes_of (log_of w 0) is.row.opening) in
-    let a : length (map (answered_as (log_of w 0)) (stripes_of (log_of w 0) is.row.opening)) ≡ length (stripes_of (log_of w 0) is.row.opening) = length-map (stripes_of (log_of w 0) is.row.opening) (answered_as (log_of w 0)) in
+    let a : length (map (answered_as (log_of w 0)) (stripes_of (log_of w 0) is.row.opening)) ≡ length (stripes_of (log_of w 0) is.row.opening) =
+    length-map (stripes_of (log_of w 0) is.row.opening) (answered_as (log_of w 0)) in
     let b : length (replicate rest Unplaced) ≡ rest = length-replicate rest Unplaced in
     ap length (formed i (now_units i w) w is.row.opening is.line_is)
     ∙ length-append (map (answered_as (log_of w 0)) (stripes_of (log_of w 0) is.row.opening)) (replicate rest Unplaced)
     ∙ omega arith
 
 -- not all have landed before
-pub fewer_landed : (i : Image) (w : World) (unit : ℕ) (of : Program) → (is : IsOnWay i w unit of) → landed_count (log_of w 0) is.row.opening + 1 ≤ stripe_count i (now_units i w) is.row.opening.line
+pub fewer_landed : (i : Image) (w : World) (unit : ℕ) (of : Program) → (is : IsOnWay i w unit of)
+    → landed_count (log_of w 0) is.row.opening + 1 ≤ stripe_count i (now_units i w) is.row.opening.line
 fewer_landed i w unit of is =
     let xs : List line.Stripe = (open_line i (log_of w) is.row.opening).stripes in
-    let more : length (filter is_landed (slice_set (open_line i (log_of w) is.row.opening).stripes is.number HasLanded)) ≡ length (filter is_landed (open_line i (log_of w) is.row.opening).stripes) + 1 =
+    let more : length (filter is_landed (slice_set (open_line i (log_of w) is.row.opening).stripes is.number HasLanded)) ≡ length
+    (filter is_landed (open_line i (log_of w) is.row.opening).stripes) + 1 =
     one_more_passes is_landed (open_line i (log_of w) is.row.opening).stripes is.number Unanswered HasLanded (waits_there i w unit of is) refl refl in
-    let all : length (filter is_landed (slice_set (open_line i (log_of w) is.row.opening).stripes is.number HasLanded)) ≤ length (slice_set (open_line i (log_of w) is.row.opening).stripes is.number HasLanded) =
+    let all : length (filter is_landed (slice_set (open_line i (log_of w) is.row.opening).stripes is.number HasLanded)) ≤ length
+    (slice_set (open_line i (log_of w) is.row.opening).stripes is.number HasLanded) =
     filter_short is_landed (slice_set (open_line i (log_of w) is.row.opening).stripes is.number HasLanded) in
-    let same : length (slice_set (open_line i (log_of w) is.row.opening).stripes is.number HasLanded) ≡ length (open_line i (log_of w) is.row.opening).stripes = set_length (open_line i (log_of w) is.row.opening).stripes is.number HasLanded in
+    let same : length (slice_set (open_line i (log_of w) is.row.opening).stripes is.number HasLanded) ≡ length (open_line i (log_of w) is.row.opening).stripes =
+    set_length (open_line i (log_of w) is.row.opening).stripes is.number HasLanded in
     let count = landed_are i w unit of is in
     let long = stripes_are i w unit of is in
     omega arith

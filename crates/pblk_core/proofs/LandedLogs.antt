@@ -53,33 +53,41 @@ openings_landed logs unit event knows = openings_more (logs 0) (record { event =
 pub users_landed : (logs : Logs) (unit event : ℕ) (knows : List ℕ) → user_takes (after logs (Landed unit event) knows 0) ≡ user_takes (logs 0)
 users_landed logs unit event knows = ap (filter (λ (t : Taken). is_users t.entry.source)) (takes_landed logs unit event knows)
 
-pub stripes_landed : (logs : Logs) (unit event : ℕ) (knows : List ℕ) (o : Opening) → stripes_of (after logs (Landed unit event) knows 0) o ≡ stripes_of (logs 0) o
+pub stripes_landed : (logs : Logs) (unit event : ℕ) (knows : List ℕ) (o : Opening)
+    → stripes_of (after logs (Landed unit event) knows 0) o ≡ stripes_of (logs 0) o
 stripes_landed logs unit event knows o = ap (filter (λ (p : Placed). is_life o.number p.life)) (is_answer (logs 0) unit event knows).placements
 
-written_online : (s : Shape) (o : Option Chunk) (x : UnitEvent) (at : ℕ) (blocks : List Block) → x.command ≡ Write at blocks → x.outcome ≡ Answered Done → is_on o ≡ true
+written_online : (s : Shape) (o : Option Chunk) (x : UnitEvent) (at : ℕ) (blocks : List Block) → x.command ≡ Write at blocks → x.outcome ≡ Answered Done
+    → is_on o ≡ true
     → is_on (option_map (λ (c : Chunk). after_outcome s c x.command x.outcome) o) ≡ is_on o
 written_online s None x at blocks writes done on = refl
 written_online s (Some c) x at blocks writes done on =
     ap₂ (λ k a. is_online_in (after_outcome s c k a).state) writes done
-    ∙ elim (nat_lt (length c.blocks + length blocks) s.clba) as (λ b. is_online_in (if b then states.Open else states.Closed) ≡ true) [ true ↦ refl | false ↦ refl ]
+    ∙ elim (nat_lt (length c.blocks + length blocks) s.clba) as
+    (λ b. is_online_in (if b then states.Open else states.Closed) ≡ true) [ true ↦ refl | false ↦ refl ]
     ∙ sym on
 
 -- whether a unit has a chunk of a line that isn't Offline
-same_live_unit : (i : Image) (w : World) (unit event : ℕ) (knows : List ℕ) (p : Placed) (b : Begun) (line u : ℕ) → IsSimpleMount i w → MayLand (log_of w) unit event → unanswered_on (log_of w 0) unit ≡ Some p → begun (log_of w 0) ≡ Some b
+same_live_unit : (i : Image) (w : World) (unit event : ℕ) (knows : List ℕ) (p : Placed) (b : Begun) (line u : ℕ) → IsSimpleMount i w
+    → MayLand (log_of w) unit event → unanswered_on (log_of w 0) unit ≡ Some p → begun (log_of w 0) ≡ Some b
     → is_live (known_image i (after (log_of w) (Landed unit event) knows)) line u ≡ is_live (known_image i (log_of w)) line u
 same_live_unit i w unit event knows p b line u simple may waits begins =
-    live_chunk (known_image i (after (log_of w) (Landed unit event) knows)) line u ∙ by_unit (nat_eq unit u) refl ∙ sym (live_chunk (known_image i (log_of w)) line u)
+    live_chunk (known_image i (after (log_of w) (Landed unit event) knows)) line u ∙ by_unit (nat_eq unit u) refl
+    ∙ sym (live_chunk (known_image i (log_of w)) line u)
   where
     is : IsItsProgram w unit event p
     is = landed_program i w unit event p simple may waits
 
     online : is_live (known_image i (log_of w)) p.stripe.line p.stripe.unit ≡ true
     online =
-        let among : IsAmong (placements (log_of w 0)) p = from_filter (λ (q : Placed). q.stripe.unit == unit) (placements (log_of w 0)) p (length (answers (log_of w 0) unit), waits) in
-        all_at (λ (q : Placed). is_live (known_image i (log_of w)) q.stripe.line q.stripe.unit ≡ true) (placements (log_of w 0)) among.0 p among.1 (all_online i w simple)
+        let among : IsAmong (placements (log_of w 0)) p =
+        from_filter (λ (q : Placed). q.stripe.unit == unit) (placements (log_of w 0)) p (length (answers (log_of w 0) unit), waits) in
+        all_at (λ (q : Placed). is_live (known_image i (log_of w)) q.stripe.line q.stripe.unit ≡ true) (placements (log_of w 0)) among.0 p among.1
+        (all_online i w simple)
 
     own : p.stripe.unit ≡ unit
-    own = eqb-true p.stripe.unit unit (filtered_is (λ (q : Placed). q.stripe.unit == unit) (placements (log_of w 0)) (length (answers (log_of w 0) unit)) p waits)
+    own = eqb-true p.stripe.unit unit
+        (filtered_is (λ (q : Placed). q.stripe.unit == unit) (placements (log_of w 0)) (length (answers (log_of w 0) unit)) p waits)
 
     told : (c : Bool) → nat_eq unit u ≡ c → told_by (log_of w) u (Decides (Landed unit event)) ≡ (if c then unit_event_at (log_of w) unit event else None)
     told c e = ap (λ (x : Bool). if x then unit_event_at (log_of w) u event else None) e ∙ go c e
@@ -88,34 +96,46 @@ same_live_unit i w unit event knows p b line u simple may waits begins =
         go true e = ap (λ v. unit_event_at (log_of w) v event) (sym (eqb-true unit u e))
         go false e = refl
 
-    by_chunk : nat_eq unit u ≡ true → (c : Bool) → nat_eq is.done.event.chunk line ≡ c → is_on (chunk_in (known_image i (after (log_of w) (Landed unit event) knows)) u line) ≡ is_on (chunk_in (known_image i (log_of w)) u line)
+    by_chunk : nat_eq unit u ≡ true → (c : Bool) → nat_eq is.done.event.chunk line ≡ c
+        → is_on (chunk_in (known_image i (after (log_of w) (Landed unit event) knows)) u line) ≡ is_on (chunk_in (known_image i (log_of w)) u line)
     by_chunk here true e =
         let same : is.done.event.chunk ≡ line = eqb-true is.done.event.chunk line e in
         let on : is_on (chunk_in (known_image i (log_of w)) u line) ≡ true =
-        ap₂ (λ v n. is_on (chunk_in (known_image i (log_of w)) v n)) (sym (own ∙ eqb-true unit u here)) (sym (sym is.chunk ∙ same)) ∙ sym (live_chunk (known_image i (log_of w)) p.stripe.line p.stripe.unit) ∙ online in
+        ap₂ (λ v n. is_on (chunk_in (known_image i (log_of w)) v n)) (sym (own ∙ eqb-true unit u here)) (sym (sym is.chunk ∙ same))
+        ∙ sym (live_chunk (known_image i (log_of w)) p.stripe.line p.stripe.unit) ∙ online in
         ap is_on (told_after i (log_of w) (Landed unit event) knows u line b is.done.event begins (told true here ∙ is.done.is_event) same)
         ∙ written_online i.shape (chunk_in (known_image i (log_of w)) u line) is.done.event p.stripe.at p.stripe.blocks is.done.command is.done.done on
-    by_chunk here false e = ap is_on (beside_after i (log_of w) (Landed unit event) knows u line b is.done.event begins (told true here ∙ is.done.is_event) (eqb-false is.done.event.chunk line e))
+    by_chunk here false e = ap is_on
+        (beside_after i (log_of w) (Landed unit event) knows u line b is.done.event begins (told true here ∙ is.done.is_event)
+        (eqb-false is.done.event.chunk line e))
 
-    by_unit : (c : Bool) → nat_eq unit u ≡ c → is_on (chunk_in (known_image i (after (log_of w) (Landed unit event) knows)) u line) ≡ is_on (chunk_in (known_image i (log_of w)) u line)
+    by_unit : (c : Bool) → nat_eq unit u ≡ c
+        → is_on (chunk_in (known_image i (after (log_of w) (Landed unit event) knows)) u line) ≡ is_on (chunk_in (known_image i (log_of w)) u line)
     by_unit true e = by_chunk e (nat_eq is.done.event.chunk line) refl
     by_unit false e = ap is_on (untold_after i (log_of w) (Landed unit event) knows u line b begins (told false e))
 
-pub live_landed : (i : Image) (w : World) (unit event : ℕ) (knows : List ℕ) (p : Placed) (b : Begun) (line : ℕ) → IsSimpleMount i w → MayLand (log_of w) unit event → unanswered_on (log_of w 0) unit ≡ Some p → begun (log_of w 0) ≡ Some b
+pub live_landed : (i : Image) (w : World) (unit event : ℕ) (knows : List ℕ) (p : Placed) (b : Begun) (line : ℕ) → IsSimpleMount i w
+    → MayLand (log_of w) unit event → unanswered_on (log_of w 0) unit ≡ Some p → begun (log_of w 0) ≡ Some b
     → live_now i (after (log_of w) (Landed unit event) knows) line ≡ live_now i (log_of w) line
 live_landed i w unit event knows p b line simple may waits begins =
     ap bits_of (same_units (known_image i (after (log_of w) (Landed unit event) knows)) (known_image i (log_of w)) line
-    (few_units i w (after (log_of w) (Landed unit event) knows) simple.mount) (few_units i w (log_of w) simple.mount) (λ u. same_live_unit i w unit event knows p b line u simple may waits begins))
+    (few_units i w (after (log_of w) (Landed unit event) knows) simple.mount) (few_units i w (log_of w) simple.mount)
+    (λ u. same_live_unit i w unit event knows p b line u simple may waits begins))
 
-pub units_landed : (i : Image) (logs : Logs) (unit event : ℕ) (knows : List ℕ) (o : Opening) → o.number ≤ length (logs 0) → opened_units i (after logs (Landed unit event) knows) o ≡ opened_units i logs o
-units_landed i logs unit event knows o before = ap (λ (ls : Logs). line_units (known_image i ls) o.line) (prefix_same logs (Landed unit event) knows o.number before)
+pub units_landed : (i : Image) (logs : Logs) (unit event : ℕ) (knows : List ℕ) (o : Opening) → o.number ≤ length (logs 0)
+    → opened_units i (after logs (Landed unit event) knows) o ≡ opened_units i logs o
+units_landed i logs unit event knows o before =
+    ap (λ (ls : Logs). line_units (known_image i ls) o.line) (prefix_same logs (Landed unit event) knows o.number before)
 
 -- ---- fronts
 
-pub freed_landed : (i : Image) (w : World) (b : Begun) (unit event : ℕ) (knows : List ℕ) → IsSimpleMount i w → MayLand (log_of w) unit event → freed i.shape (log_of w 0) ≤ freed i.shape (after (log_of w) (Landed unit event) knows 0)
-freed_landed i w b unit event knows simple may = freed_rises i (log_of w) w b (Landed unit event) knows simple (λ o u. rows_of_chunks i w o u simple) refl refl may
+pub freed_landed : (i : Image) (w : World) (b : Begun) (unit event : ℕ) (knows : List ℕ) → IsSimpleMount i w → MayLand (log_of w) unit event
+    → freed i.shape (log_of w 0) ≤ freed i.shape (after (log_of w) (Landed unit event) knows 0)
+freed_landed i w b unit event knows simple may =
+    freed_rises i (log_of w) w b (Landed unit event) knows simple (λ o u. rows_of_chunks i w o u simple) refl refl may
 
-pub chunk_landed : (i : Image) (w : World) (unit event : ℕ) (p : Placed) → IsSimpleMount i w → MayLand (log_of w) unit event → unanswered_on (log_of w 0) unit ≡ Some p
+pub chunk_landed : (i : Image) (w : World) (unit event : ℕ) (p : Placed) → IsSimpleMount i w → MayLand (log_of w) unit event
+    → unanswered_on (log_of w 0) unit ≡ Some p
     → (e : UnitEvent) → unit_event_at (log_of w) unit event ≡ Some e → e.chunk ≡ p.stripe.line
 chunk_landed i w unit event p simple may waits e is =
     let its : IsItsProgram w unit event p = landed_program i w unit event p simple may waits in
@@ -123,7 +143,8 @@ chunk_landed i w unit event p simple may waits e is =
 
 -- ---- one stripe less is under way
 
-pub fewer_pass : (f g : ℕ → Bool) (a n k : ℕ) → k < n → f (a + k) ≡ true → g (a + k) ≡ false → ((m : ℕ) → m ≢ a + k → g m ≡ f m) → length (filter f (range_with_len a n)) ≡ length (filter g (range_with_len a n)) + 1
+pub fewer_pass : (f g : ℕ → Bool) (a n k : ℕ) → k < n → f (a + k) ≡ true → g (a + k) ≡ false → ((m : ℕ) → m ≢ a + k → g m ≡ f m)
+    → length (filter f (range_with_len a n)) ≡ length (filter g (range_with_len a n)) + 1
 fewer_pass f g a zero k inside passes fails others = absurd (omega arith)
 fewer_pass f g a (suc n) zero inside passes fails others =
     let from : a ≡ a + 0 = omega arith in
@@ -138,7 +159,8 @@ fewer_pass f g a (suc n) zero inside passes fails others =
         ∙ go (g c) (same_rest (c + 1) n (omega arith))
       where
         go : (b : Bool) → length (filter f (range_with_len (c + 1) n)) ≡ length (filter g (range_with_len (c + 1) n))
-            → length (cond b (c ∷ filter f (range_with_len (c + 1) n)) (filter f (range_with_len (c + 1) n))) ≡ length (cond b (c ∷ filter g (range_with_len (c + 1) n)) (filter g (range_with_len (c + 1) n)))
+            → length (cond b (c ∷ filter f (range_with_len (c + 1) n)) (filter f (range_with_len (c + 1) n))) ≡ length
+            (cond b (c ∷ filter g (range_with_len (c + 1) n)) (filter g (range_with_len (c + 1) n)))
         go true h = ap suc h
         go false h = h
 fewer_pass f g a (suc n) (suc k) inside passes fails others =
@@ -147,11 +169,13 @@ fewer_pass f g a (suc n) (suc k) inside passes fails others =
     ∙ go (g a) (fewer_pass f g (a + 1) n k (omega arith) (ap f next ∙ passes) (ap g next ∙ fails) (λ m apart. others m (λ e. apart (e ∙ sym next))))
   where
     go : (b : Bool) → length (filter f (range_with_len (a + 1) n)) ≡ length (filter g (range_with_len (a + 1) n)) + 1
-        → length (cond b (a ∷ filter f (range_with_len (a + 1) n)) (filter f (range_with_len (a + 1) n))) ≡ length (cond b (a ∷ filter g (range_with_len (a + 1) n)) (filter g (range_with_len (a + 1) n))) + 1
+        → length (cond b (a ∷ filter f (range_with_len (a + 1) n)) (filter f (range_with_len (a + 1) n))) ≡ length
+        (cond b (a ∷ filter g (range_with_len (a + 1) n)) (filter g (range_with_len (a + 1) n))) + 1
     go true h = omega arith
     go false h = h
 
-pub one_less_under_way : (i : Image) (w : World) (unit event : ℕ) (knows : List ℕ) (p : Placed) → IsSimpleMount i w → unit < units i.shape → unanswered_on (log_of w 0) unit ≡ Some p
+pub one_less_under_way : (i : Image) (w : World) (unit event : ℕ) (knows : List ℕ) (p : Placed) → IsSimpleMount i w → unit < units i.shape
+    → unanswered_on (log_of w 0) unit ≡ Some p
     → under_way i.shape (log_of w 0) ≡ under_way i.shape (after (log_of w) (Landed unit event) knows 0) + 1
 one_less_under_way i w unit event knows p simple inside waits =
     let old : List Logged = log_of w 0 in
@@ -159,11 +183,14 @@ one_less_under_way i w unit event knows p simple inside waits =
     let is : IsAnswer (log_of w 0) (after (log_of w) (Landed unit event) knows 0) unit (DidLand event) = is_answer (log_of w 0) unit event knows in
     let from : 0 + unit ≡ unit = omega arith in
     let few : length (placed_on (log_of w 0) unit) ≤ length (answers (log_of w 0) unit) + 1 = one_stripe i w unit simple.mount.legal in
-    let count : length (answers (after (log_of w) (Landed unit event) knows 0) unit) ≡ length (answers (log_of w 0) unit) + 1 = ap length is.here ∙ length-append (answers (log_of w 0) unit) (DidLand event ∷ []) in
+    let count : length (answers (after (log_of w) (Landed unit event) knows 0) unit) ≡ length (answers (log_of w 0) unit) + 1 = ap length is.here
+    ∙ length-append (answers (log_of w 0) unit) (DidLand event ∷ []) in
     let none : unanswered_on (after (log_of w) (Landed unit event) knows 0) unit ≡ None =
-    ap (λ ps. slice_get (filter (λ (q : Placed). q.stripe.unit == unit) ps) (length (answers (after (log_of w) (Landed unit event) knows 0) unit))) is.placements
+    ap (λ ps. slice_get (filter (λ (q : Placed). q.stripe.unit == unit) ps) (length (answers (after (log_of w) (Landed unit event) knows 0) unit)))
+    is.placements
     ∙ slice_get_past (placed_on (log_of w 0) unit) (length (answers (after (log_of w) (Landed unit event) knows 0) unit)) (omega arith) in
-    fewer_pass (λ u. is_some (unanswered_on (log_of w 0) u)) (λ u. is_some (unanswered_on (after (log_of w) (Landed unit event) knows 0) u)) 0 (units i.shape) unit inside
+    fewer_pass (λ u. is_some (unanswered_on (log_of w 0) u)) (λ u. is_some (unanswered_on (after (log_of w) (Landed unit event) knows 0) u)) 0
+    (units i.shape) unit inside
     (ap (λ u. is_some (unanswered_on (log_of w 0) u)) from ∙ ap is_some waits)
     (ap (λ u. is_some (unanswered_on (after (log_of w) (Landed unit event) knows 0) u)) from ∙ ap is_some none)
     (λ v apart. ap₂ (λ (ps : List Placed) n. is_some (slice_get (filter (λ (q : Placed). q.stripe.unit == v) ps) n)) is.placements

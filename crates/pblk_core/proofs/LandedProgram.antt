@@ -41,7 +41,8 @@ whole_within logs n a = go (cases_order a n)
     count = length-map (range_with_len 0 n) (λ b. length (logs b)) ∙ length-range_with_len 0 n
 
     none : n ≤ a → slice_index (whole_to logs n) a ≤ length (logs a)
-    none past = let long : length (map (λ b. length (logs b)) (range_with_len 0 n)) ≡ n = count in let is : slice_index (whole_to logs n) a ≡ 0 = get_or_past (map (λ b. length (logs b)) (range_with_len 0 n)) a 0 (omega arith) in omega arith
+    none past = let long : length (map (λ b. length (logs b)) (range_with_len 0 n)) ≡ n = count in let is : slice_index (whole_to logs n) a ≡ 0 =
+        get_or_past (map (λ b. length (logs b)) (range_with_len 0 n)) a 0 (omega arith) in omega arith
 
     go : (a ≡ n) ⊎ ((a < n) ⊎ (n < a)) → slice_index (whole_to logs n) a ≤ length (logs a)
     go (inl e) = none (omega arith)
@@ -49,12 +50,14 @@ whole_within logs n a = go (cases_order a n)
     go (inr (inr e)) = none (omega arith)
 
 cut_whole : (logs : Logs) (n a : ℕ) → a < n → take (slice_index (whole_to logs n) a) (logs a) ≡ logs a
-cut_whole logs n a inside = take_all (slice_index (whole_to logs n) a) (logs a) (let is : slice_index (whole_to logs n) a ≡ length (logs a) = whole_at logs n a inside in omega arith)
+cut_whole logs n a inside = take_all (slice_index (whole_to logs n) a) (logs a)
+    (let is : slice_index (whole_to logs n) a ≡ length (logs a) = whole_at logs n a inside in omega arith)
 
 -- ---- the program
 
 -- what may be noted by the whole logs may be by others with the same log of the engine and of the unit
-by_others : (logs others : Logs) (unit event : ℕ) → others 0 ≡ logs 0 → others (suc unit) ≡ logs (suc unit) → MayLand logs unit event → MayLand others unit event
+by_others : (logs others : Logs) (unit event : ℕ) → others 0 ≡ logs 0 → others (suc unit) ≡ logs (suc unit) → MayLand logs unit event
+    → MayLand others unit event
 by_others logs others unit event engine own may = record {
   program = may.program;
   new = record {
@@ -69,7 +72,8 @@ by_others logs others unit event engine own may = record {
     is_logged = ap (λ (xs : List Logged). slice_get xs event) own ∙ may.stripe.is_logged;
     after_begin = may.stripe.after_begin;
     placed = subst (λ (xs : List Logged). length (answers xs unit) < length (placed_on xs unit)) (sym engine) may.stripe.placed;
-    its_turn = ap (λ (xs : List Logged). ended_stripes (take event xs)) own ∙ may.stripe.its_turn ∙ ap (λ (xs : List Logged). length (answers xs unit)) (sym engine);
+    its_turn = ap (λ (xs : List Logged). ended_stripes (take event xs)) own ∙ may.stripe.its_turn
+        ∙ ap (λ (xs : List Logged). length (answers xs unit)) (sym engine);
   };
   done = may.done;
 }
@@ -85,9 +89,11 @@ begun_at i w unit event simple may = go (log_of w 0) refl
     go : (log : List Logged) → log_of w 0 ≡ log → (b : Begun) × (begun (log_of w 0) ≡ Some b)
     go [] is = let some : length (answers (log_of w 0) unit) < length (placed_on (log_of w 0) unit) = may.stripe.placed in
         let none : length (placed_on (log_of w 0) unit) ≡ 0 = ap (λ (xs : List Logged). length (placed_on xs unit)) is in absurd (omega arith)
-    go (l ∷ log) is = begun_once i w simple.mount.legal (let count : length (log_of w 0) ≡ suc (length log) = ap (λ (xs : List Logged). length xs) is in omega arith)
+    go (l ∷ log) is = begun_once i w simple.mount.legal
+        (let count : length (log_of w 0) ≡ suc (length log) = ap (λ (xs : List Logged). length xs) is in omega arith)
 
-pub landed_program : (i : Image) (w : World) (unit event : ℕ) (p : Placed) → IsSimpleMount i w → MayLand (log_of w) unit event → unanswered_on (log_of w 0) unit ≡ Some p → IsItsProgram w unit event p
+pub landed_program : (i : Image) (w : World) (unit event : ℕ) (p : Placed) → IsSimpleMount i w → MayLand (log_of w) unit event
+    → unanswered_on (log_of w 0) unit ≡ Some p → IsItsProgram w unit event p
 landed_program i w unit event p simple may waits =
     let n : ℕ = suc (suc unit) in
     let l : Logged = record { event = Decides (Landed unit event); knows = whole_to (log_of w) (suc (suc unit)) } in
@@ -103,8 +109,10 @@ landed_program i w unit event p simple may waits =
     } in
     let at = landed_at i w simple.mount.legal (length (log_of w 0)) unit event l begins.0 made begun_then may_then in
     let all : take (length (log_of w 0)) (log_of w 0) ≡ log_of w 0 = take_all (length (log_of w 0)) (log_of w 0) (le_refl (length (log_of w 0))) in
-    let same : at.0 ≡ p = same_Some at.0 p (sym at.1 ∙ ap (λ (xs : List Logged). slice_get (placed_on (log_of w 0) unit) (length (answers xs unit))) all ∙ waits) in
-    let among : IsAmong (placements (log_of w 0)) p = from_filter (λ (q : Placed). q.stripe.unit == unit) (placements (log_of w 0)) p (length (answers (log_of w 0) unit), waits) in
+    let same : at.0 ≡ p = same_Some at.0 p
+    (sym at.1 ∙ ap (λ (xs : List Logged). slice_get (placed_on (log_of w 0) unit) (length (answers xs unit))) all ∙ waits) in
+    let among : IsAmong (placements (log_of w 0)) p =
+    from_filter (λ (q : Placed). q.stripe.unit == unit) (placements (log_of w 0)) p (length (answers (log_of w 0) unit), waits) in
     let place : IsInPlace i (log_of w 0) p = all_at (IsInPlace i (log_of w 0)) (placements (log_of w 0)) among.0 p among.1 (in_order i w simple).placed in
     let is : IsProgramDone (log_of w) unit event p = subst (IsProgramDone (log_of w) unit event) same at.2 in
     record { done = is; chunk = is.chunk ∙ place.chunk }

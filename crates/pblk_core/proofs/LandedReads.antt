@@ -50,36 +50,50 @@ chunk_now i w unit of simple is =
     let new : List Logged = after (log_of w) (Landed unit 0) [] 0 in
     let p : Placed = is.row.stripe in
     let o : Opening = is.row.opening in
-    let now : IsLandedNow i.shape (log_of w 0) (after (log_of w) (Landed unit 0) [] 0) is.row.stripe is.row.opening = landed_now i w unit 0 [] is.row.stripe is.row.opening simple is.row.waits is.row.life (rows_of_chunks i w is.row.opening unit simple) in
+    let now : IsLandedNow i.shape (log_of w 0) (after (log_of w) (Landed unit 0) [] 0) is.row.stripe is.row.opening =
+    landed_now i w unit 0 [] is.row.stripe is.row.opening simple is.row.waits is.row.life (rows_of_chunks i w is.row.opening unit simple) in
     let u : is.row.stripe.stripe.unit ≡ unit = is.its_unit in
     let here = in_row i w unit of simple is in
-    let at_own : slice_get (stripes_on (log_of w 0) is.row.opening is.row.stripe.stripe.unit) here.0 ≡ Some is.row.stripe = ap (λ v. slice_get (stripes_on (log_of w 0) is.row.opening v) here.0) u ∙ here.1 in
-    let last : length (stripes_on (log_of w 0) is.row.opening is.row.stripe.stripe.unit) ≤ here.0 + 1 = last_in_chunk (log_of w 0) is.row.stripe is.row.opening here.0 (newest_in i w unit is.row.stripe simple.mount.legal is.row.waits) at_own in
-    let inside : here.0 < length (stripes_on (log_of w 0) is.row.opening is.row.stripe.stripe.unit) = slice_get_within (stripes_on (log_of w 0) is.row.opening is.row.stripe.stripe.unit) here.0 is.row.stripe at_own in
+    let at_own : slice_get (stripes_on (log_of w 0) is.row.opening is.row.stripe.stripe.unit) here.0 ≡ Some is.row.stripe =
+    ap (λ v. slice_get (stripes_on (log_of w 0) is.row.opening v) here.0) u ∙ here.1 in
+    let last : length (stripes_on (log_of w 0) is.row.opening is.row.stripe.stripe.unit) ≤ here.0 + 1 =
+    last_in_chunk (log_of w 0) is.row.stripe is.row.opening here.0 (newest_in i w unit is.row.stripe simple.mount.legal is.row.waits) at_own in
+    let inside : here.0 < length (stripes_on (log_of w 0) is.row.opening is.row.stripe.stripe.unit) =
+    slice_get_within (stripes_on (log_of w 0) is.row.opening is.row.stripe.stripe.unit) here.0 is.row.stripe at_own in
     let whole : length (stripes_on (log_of w 0) is.row.opening is.row.stripe.stripe.unit) ≡ here.0 + 1 = omega arith in
-    let count : length (filter (has_landed (after (log_of w) (Landed unit 0) [] 0)) (stripes_on (log_of w 0) is.row.opening is.row.stripe.stripe.unit)) ≡ length (stripes_on (log_of w 0) is.row.opening is.row.stripe.stripe.unit) =
+    let count : length (filter (has_landed (after (log_of w) (Landed unit 0) [] 0)) (stripes_on (log_of w 0) is.row.opening is.row.stripe.stripe.unit)) ≡ length
+    (stripes_on (log_of w 0) is.row.opening is.row.stripe.stripe.unit) =
     all_kept (has_landed (after (log_of w) (Landed unit 0) [] 0)) (stripes_on (log_of w 0) is.row.opening is.row.stripe.stripe.unit) (λ k r at.
-    let chunk : IsOfChunk (log_of w 0) is.row.stripe is.row.opening r = all_at (IsOfChunk (log_of w 0) is.row.stripe is.row.opening) (stripes_on (log_of w 0) is.row.opening is.row.stripe.stripe.unit) k r at (chunk_members (log_of w 0) is.row.stripe is.row.opening) in
-    of_unit_landed i.shape (log_of w 0) (after (log_of w) (Landed unit 0) [] 0) is.row.stripe is.row.opening now r chunk.among (chunk_unit is.row.stripe is.row.opening r chunk.of)) in
+    let chunk : IsOfChunk (log_of w 0) is.row.stripe is.row.opening r =
+    all_at (IsOfChunk (log_of w 0) is.row.stripe is.row.opening) (stripes_on (log_of w 0) is.row.opening is.row.stripe.stripe.unit) k r at
+    (chunk_members (log_of w 0) is.row.stripe is.row.opening) in
+    of_unit_landed i.shape (log_of w 0) (after (log_of w) (Landed unit 0) [] 0) is.row.stripe is.row.opening now r chunk.among
+    (chunk_unit is.row.stripe is.row.opening r chunk.of)) in
     let all : landed_blocks i.shape (after (log_of w) (Landed unit 0) [] 0) is.row.opening is.row.stripe.stripe.unit ≡ (here.0 + 1) * i.shape.ws_opt =
-    ap (λ (ps : List Placed). length (filter (has_landed (after (log_of w) (Landed unit 0) [] 0)) ps) * i.shape.ws_opt) (on_new (log_of w 0) (after (log_of w) (Landed unit 0) [] 0) is.row.stripe now.one_more is.row.opening is.row.stripe.stripe.unit)
+    ap (λ (ps : List Placed). length (filter (has_landed (after (log_of w) (Landed unit 0) [] 0)) ps) * i.shape.ws_opt)
+    (on_new (log_of w 0) (after (log_of w) (Landed unit 0) [] 0) is.row.stripe now.one_more is.row.opening is.row.stripe.stripe.unit)
     ∙ ap (λ n. n * i.shape.ws_opt) (count ∙ whole) in
-    let more : landed_blocks i.shape (after (log_of w) (Landed unit 0) [] 0) is.row.opening is.row.stripe.stripe.unit ≡ landed_blocks i.shape (log_of w 0) is.row.opening is.row.stripe.stripe.unit + i.shape.ws_opt =
+    let more : landed_blocks i.shape (after (log_of w) (Landed unit 0) [] 0) is.row.opening is.row.stripe.stripe.unit ≡ landed_blocks i.shape
+    (log_of w 0) is.row.opening is.row.stripe.stripe.unit + i.shape.ws_opt =
     blocks_more i.shape (log_of w 0) (after (log_of w) (Landed unit 0) [] 0) is.row.stripe is.row.opening now.one_more now.life in
     let next : (here.0 + 1) * i.shape.ws_opt ≡ here.0 * i.shape.ws_opt + i.shape.ws_opt = grind arith in
     let at : is.row.stripe.stripe.at ≡ here.0 * i.shape.ws_opt = here.2.at in
     let block : of.block ≡ is.row.stripe.stripe.at = block_is i w unit of is in
     let landed : landed_blocks i.shape (log_of w 0) is.row.opening is.row.stripe.stripe.unit ≡ of.block = omega arith in
-    let long : length (chunk_blocks (log_of w 0) is.row.opening is.row.stripe.stripe.unit) ≡ length (stripes_on (log_of w 0) is.row.opening is.row.stripe.stripe.unit) * i.shape.ws_opt =
-    length_joined i.shape.ws_opt (stripes_on (log_of w 0) is.row.opening is.row.stripe.stripe.unit) (all_long i.shape.ws_opt (stripes_on (log_of w 0) is.row.opening is.row.stripe.stripe.unit) (λ k r at. (now.rows k r at).blocks)) in
-    let product : length (stripes_on (log_of w 0) is.row.opening is.row.stripe.stripe.unit) * i.shape.ws_opt ≡ (here.0 + 1) * i.shape.ws_opt = ap (λ n. n * i.shape.ws_opt) whole in
+    let long : length (chunk_blocks (log_of w 0) is.row.opening is.row.stripe.stripe.unit) ≡ length
+    (stripes_on (log_of w 0) is.row.opening is.row.stripe.stripe.unit) * i.shape.ws_opt =
+    length_joined i.shape.ws_opt (stripes_on (log_of w 0) is.row.opening is.row.stripe.stripe.unit)
+    (all_long i.shape.ws_opt (stripes_on (log_of w 0) is.row.opening is.row.stripe.stripe.unit) (λ k r at. (now.rows k r at).blocks)) in
+    let product : length (stripes_on (log_of w 0) is.row.opening is.row.stripe.stripe.unit) * i.shape.ws_opt ≡ (here.0 + 1) * i.shape.ws_opt =
+    ap (λ n. n * i.shape.ws_opt) whole in
     let blocks : length (chunk_blocks (log_of w 0) is.row.opening is.row.stripe.stripe.unit) ≡ of.block + i.shape.ws_opt = omega arith in
     record {
       landed = ap (λ v. landed_blocks i.shape (log_of w 0) is.row.opening v) (sym u) ∙ landed;
       long = ap (λ v. length (chunk_blocks (log_of w 0) is.row.opening v)) (sym u) ∙ blocks;
     }
   where
-    all_long : (n : ℕ) (ps : List Placed) → ((k : ℕ) (r : Placed) → slice_get ps k ≡ Some r → length r.stripe.blocks ≡ n) → AllByRecursion (λ (r : Placed). length r.stripe.blocks ≡ n) ps
+    all_long : (n : ℕ) (ps : List Placed) → ((k : ℕ) (r : Placed) → slice_get ps k ≡ Some r → length r.stripe.blocks ≡ n)
+        → AllByRecursion (λ (r : Placed). length r.stripe.blocks ≡ n) ps
     all_long n [] each = tt
     all_long n (r ∷ ps) each = (each 0 r refl, all_long n ps (λ k x e. each (suc k) x e))
 
@@ -87,15 +101,18 @@ chunk_now i w unit of simple is =
 
 -- What is kept of each block of the chunk: its address and its mark, which is that of an entry, where it bears a position.
 pub record IsChunkRead (i : Image) (w : World) (unit : ℕ) (o : Opening) (slot : OpenLine) : Type 0 where
-  pub reads : (n : ℕ) (b : Block) → slice_get (chunk_blocks (log_of w 0) o unit) n ≡ Some b → block_reads slot unit n ≡ read_of i.shape (address_of_block i (log_of w) o unit) (n, b)
-  pub marks : (n : ℕ) (b : Block) → slice_get (chunk_blocks (log_of w 0) o unit) n ≡ Some b → is_some (named i.shape b.mark) ≡ true → (t : Taken) × IsAmong (takes (log_of w 0)) t × (b.mark ≡ t.mark)
+  pub reads : (n : ℕ) (b : Block) → slice_get (chunk_blocks (log_of w 0) o unit) n ≡ Some b
+      → block_reads slot unit n ≡ read_of i.shape (address_of_block i (log_of w) o unit) (n, b)
+  pub marks : (n : ℕ) (b : Block) → slice_get (chunk_blocks (log_of w 0) o unit) n ≡ Some b → is_some (named i.shape b.mark) ≡ true
+      → (t : Taken) × IsAmong (takes (log_of w 0)) t × (b.mark ≡ t.mark)
 
 -- where the range begins and ends
 pub record IsRange (s : Shape) (block low high : ℕ) : Type 0 where
   pub from : low ≡ readable_blocks s block
   pub to : high ≡ readable_blocks s (block + s.ws_opt)
 
-pub range_is : (s : Shape) (block low high : ℕ) → 0 < s.ws_opt → block + s.ws_opt ≤ s.clba → low ≡ block - s.mw_cunits → high ≡ (if block + s.ws_opt == s.clba then s.clba else block + s.ws_opt - s.mw_cunits) → IsRange s block low high
+pub range_is : (s : Shape) (block low high : ℕ) → 0 < s.ws_opt → block + s.ws_opt ≤ s.clba → low ≡ block - s.mw_cunits
+    → high ≡ (if block + s.ws_opt == s.clba then s.clba else block + s.ws_opt - s.mw_cunits) → IsRange s block low high
 range_is s block low high some within low-is high-is = record {
   from = low-is ∙ sym (ap (λ b. if b then s.clba else block - s.mw_cunits) (other_number block s.clba (λ e. absurd (omega arith))));
   to = high-is;
@@ -108,8 +125,10 @@ few_readable s n within = go (nat_eq n s.clba) refl
     go true e = let same : n ≡ s.clba = grind arith in omega arith
     go false e = omega arith
 
-pub reads_are : (i : Image) (w : World) (unit : ℕ) (of : Program) (slot : OpenLine) (low high : ℕ) → IsSimpleMount i w → (is : IsOnWay i w unit of) → of.block + i.shape.ws_opt ≤ i.shape.clba → IsRange i.shape of.block low high → IsChunkRead i w unit is.row.opening slot
-    → reads_of slot unit low high ≡ filter_map (read_of i.shape (address_of_block i (log_of w) is.row.opening unit)) (enumerate_from low (newly_readable i.shape (log_of w 0) is.row.opening unit))
+pub reads_are : (i : Image) (w : World) (unit : ℕ) (of : Program) (slot : OpenLine) (low high : ℕ) → IsSimpleMount i w → (is : IsOnWay i w unit of)
+    → of.block + i.shape.ws_opt ≤ i.shape.clba → IsRange i.shape of.block low high → IsChunkRead i w unit is.row.opening slot
+    → reads_of slot unit low high ≡ filter_map (read_of i.shape (address_of_block i (log_of w) is.row.opening unit))
+    (enumerate_from low (newly_readable i.shape (log_of w 0) is.row.opening unit))
 reads_are i w unit of slot low high simple is within range chunk =
     let now : IsChunkNow i w unit of is = chunk_now i w unit of simple is in
     let cs : List Block = chunk_blocks (log_of w 0) is.row.opening unit in
@@ -120,8 +139,10 @@ reads_are i w unit of slot low high simple is within range chunk =
     ap (λ n. drop (readable_blocks i.shape n) (take (readable_blocks i.shape (n + i.shape.ws_opt)) (chunk_blocks (log_of w 0) is.row.opening unit))) now.landed
     ∙ sym (ap₂ (λ m n. drop m (take n (chunk_blocks (log_of w 0) is.row.opening unit))) range.from range.to) in
     let count : length (drop low (take high (chunk_blocks (log_of w 0) is.row.opening unit))) ≡ high - low =
-    length-drop low (take high (chunk_blocks (log_of w 0) is.row.opening unit)) ∙ ap (λ n. n - low) (length-take-le high (chunk_blocks (log_of w 0) is.row.opening unit) (omega arith)) in
+    length-drop low (take high (chunk_blocks (log_of w 0) is.row.opening unit))
+    ∙ ap (λ n. n - low) (length-take-le high (chunk_blocks (log_of w 0) is.row.opening unit) (omega arith)) in
     ap (λ n. filter_map (block_reads slot unit) (range_with_len low n)) (sym count)
-    ∙ reads_list (block_reads slot unit) (read_of i.shape (address_of_block i (log_of w) is.row.opening unit)) (drop low (take high (chunk_blocks (log_of w 0) is.row.opening unit))) low
+    ∙ reads_list (block_reads slot unit) (read_of i.shape (address_of_block i (log_of w) is.row.opening unit))
+    (drop low (take high (chunk_blocks (log_of w 0) is.row.opening unit))) low
     (λ k b at. chunk.reads (low + k) b (part_get low high (chunk_blocks (log_of w 0) is.row.opening unit) k b at))
     ∙ ap (λ bs. filter_map (read_of i.shape (address_of_block i (log_of w) is.row.opening unit)) (enumerate_from low bs)) (sym parts)

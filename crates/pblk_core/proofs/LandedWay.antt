@@ -53,19 +53,23 @@ pub record IsOfRow (i : Image) (logs : Logs) (unit : ℕ) (of : Program) : Type 
   pub life : stripe.life ≡ Opened opening
   pub is : program_of_placed i logs opening stripe ≡ of
 
-of_stripe : (i : Image) (logs : Logs) (stopped : Bool) (x : Option Placed) (of : Program) → option_map_or (λ (p : Placed). row_in i logs stopped p.life p) x Idle ≡ UnderWay of
+of_stripe : (i : Image) (logs : Logs) (stopped : Bool) (x : Option Placed) (of : Program)
+    → option_map_or (λ (p : Placed). row_in i logs stopped p.life p) x Idle ≡ UnderWay of
     → (p : Placed) × (o : Opening) × (x ≡ Some p) × (p.life ≡ Opened o) × (program_of_placed i logs o p ≡ of)
 of_stripe i logs stopped None of e = absurd cc
 of_stripe i logs stopped (Some p) of e = go p.life refl e
   where
-    go : (life : LineLife) → p.life ≡ life → row_in i logs stopped life p ≡ UnderWay of → (q : Placed) × (o : Opening) × (Some p ≡ Some q) × (q.life ≡ Opened o) × (program_of_placed i logs o q ≡ of)
+    go : (life : LineLife) → p.life ≡ life → row_in i logs stopped life p ≡ UnderWay of
+        → (q : Placed) × (o : Opening) × (Some p ≡ Some q) × (q.life ≡ Opened o) × (program_of_placed i logs o q ≡ of)
     go AsFound is e = absurd cc
     go (Opened o) is e = (p, o, refl, is, under_way_is stopped (program_of_placed i logs o p) of e)
     go (Freed past knows) is e = absurd cc
 
-pub of_row : (i : Image) (logs : Logs) (pad : ℕ) (again : List ℕ) (unit : ℕ) (of : Program) → slice_get (placing_of i logs pad again).units unit ≡ Some (UnderWay of) → IsOfRow i logs unit of
+pub of_row : (i : Image) (logs : Logs) (pad : ℕ) (again : List ℕ) (unit : ℕ) (of : Program)
+    → slice_get (placing_of i logs pad again).units unit ≡ Some (UnderWay of) → IsOfRow i logs unit of
 of_row i logs pad again unit of there =
-    let row : (unit < units i.shape) × (row_of i logs again (0 + unit) ≡ UnderWay of) = row_at (row_of i logs again) (units i.shape) 0 unit (UnderWay of) there in
+    let row : (unit < units i.shape) × (row_of i logs again (0 + unit) ≡ UnderWay of) =
+    row_at (row_of i logs again) (units i.shape) 0 unit (UnderWay of) there in
     let simple : 0 + unit ≡ unit = zero-add unit in
     let its = of_stripe i logs (waits_again (logs 0) again unit) (unanswered_on (logs 0) unit) of (ap (row_of i logs again) (sym simple) ∙ row.1) in
     record { inside = row.0; stripe = its.0; opening = its.1; waits = its.2; life = its.3; is = its.4 }
@@ -76,7 +80,8 @@ seen_at : Shape → ℕ → ℕ → ℕ → ℕ → Bool
 seen_at s live unit block j = (slice_index_or (units_in live) (j % length (units_in live)) 0 == unit) && (j / length (units_in live) * s.ws_opt == block)
 
 -- the number by a line of the same units
-pub number_at : (s : Shape) (l m : OpenLine) (stripe : Stripe) (j : ℕ) → l.live ≡ m.live → 0 < s.ws_opt → 0 < width m → j < length l.stripes → is_stripe_at s m stripe.unit stripe.at j ≡ true → number_of s l stripe ≡ j
+pub number_at : (s : Shape) (l m : OpenLine) (stripe : Stripe) (j : ℕ) → l.live ≡ m.live → 0 < s.ws_opt → 0 < width m → j < length l.stripes
+    → is_stripe_at s m stripe.unit stripe.at j ≡ true → number_of s l stripe ≡ j
 unfolding seen_at
 number_at s l m stripe j same some wide inside there =
     let from : 0 + j ≡ j = zero-add j in
@@ -99,15 +104,19 @@ pub record IsOnWay (i : Image) (w : World) (unit : ℕ) (of : Program) : Type 0 
   pub here : is_stripe_at i.shape (as_opened i (log_of w) row.opening) row.stripe.stripe.unit row.stripe.stripe.at number ≡ true
   pub number_is : of.at ≡ number * i.shape.ws_opt
 
-pub at_number : (i : Image) (w : World) (o : Opening) (k unit at : ℕ) → IsLineOf i (now_units i w) w o → IsAtPlace i (now_units i w) o.line k unit at → is_stripe_at i.shape (as_opened i (log_of w) o) unit at k ≡ true
+pub at_number : (i : Image) (w : World) (o : Opening) (k unit at : ℕ) → IsLineOf i (now_units i w) w o → IsAtPlace i (now_units i w) o.line k unit at
+    → is_stripe_at i.shape (as_opened i (log_of w) o) unit at k ≡ true
 at_number i w o k unit at is place =
     at_its_place i.shape (as_opened i (log_of w) o) unit at k
-    (ap₂ (λ (us : List ℕ) g. slice_index_or us (k % g) 0) is.units is.wide_is ∙ get_or_from_slice_get (now_units i w o.line) (k % length (now_units i w o.line)) unit 0 place.its_unit)
+    (ap₂ (λ (us : List ℕ) g. slice_index_or us (k % g) 0) is.units is.wide_is
+    ∙ get_or_from_slice_get (now_units i w o.line) (k % length (now_units i w o.line)) unit 0 place.its_unit)
     (ap (λ g. k / g * i.shape.ws_opt) is.wide_is ∙ sym place.its_block)
 
-long : (i : Image) (w : World) (o : Opening) (n : ℕ) → o.number ≤ n → length (open_line i (engine_prefix n (log_of w)) o).stripes ≡ length (as_opened i (log_of w) o).stripes
+long : (i : Image) (w : World) (o : Opening) (n : ℕ) → o.number ≤ n
+    → length (open_line i (engine_prefix n (log_of w)) o).stripes ≡ length (as_opened i (log_of w) o).stripes
 long i w o n later =
-    length-map (range_with_len 0 (length (as_opened i (engine_prefix n (log_of w)) o).stripes)) (outcome i.shape (engine_prefix n (log_of w) 0) o (as_opened i (engine_prefix n (log_of w)) o))
+    length-map (range_with_len 0 (length (as_opened i (engine_prefix n (log_of w)) o).stripes))
+    (outcome i.shape (engine_prefix n (log_of w) 0) o (as_opened i (engine_prefix n (log_of w)) o))
     ∙ length-range_with_len 0 (length (as_opened i (engine_prefix n (log_of w)) o).stripes)
     ∙ ap (λ live. length (opened i.shape o.line live).stripes) (same_live i (log_of w) o n later)
 
@@ -118,12 +127,15 @@ on_way i w unit of simple row =
     let p : Placed = row.stripe in
     let steady : IsFollowed i (now_units i w) w = follow i w simple in
     let first = first_unanswered (log_of w 0) unit p row.waits in
-    let place : IsInPlace i (log_of w 0) p = all_at (IsInPlace i (log_of w 0)) (placements (log_of w 0)) first.among.0 p first.among.1 (in_order i w simple).placed in
+    let place : IsInPlace i (log_of w 0) p =
+    all_at (IsInPlace i (log_of w 0)) (placements (log_of w 0)) first.among.0 p first.among.1 (in_order i w simple).placed in
     let opened_is : Opened place.opening ≡ Opened row.opening = sym place.life ∙ row.life in
     let stands : life_of (log_of w 0) row.stripe.stripe.line ≡ Opened row.opening = place.stands ∙ opened_is in
     let its_line : row.opening.line ≡ row.stripe.stripe.line = (opened_lines i (now_units i w) w steady row.stripe.stripe.line row.opening stands).its_line in
     let line_is : IsLineOf i (now_units i w) w row.opening = line_of i (now_units i w) w row.opening steady (ap (life_of (log_of w 0)) its_line ∙ stands) in
-    let among : IsAmong (stripes_of (log_of w 0) row.opening) row.stripe = in_filter (λ (q : Placed). is_life row.opening.number q.life) (placements (log_of w 0)) row.stripe first.among (ap (is_life row.opening.number) row.life ∙ same_number row.opening.number) in
+    let among : IsAmong (stripes_of (log_of w 0) row.opening) row.stripe =
+    in_filter (λ (q : Placed). is_life row.opening.number q.life) (placements (log_of w 0)) row.stripe first.among
+    (ap (is_life row.opening.number) row.life ∙ same_number row.opening.number) in
     let here : is_stripe_at i.shape (as_opened i (log_of w) row.opening) row.stripe.stripe.unit row.stripe.stripe.at among.0 ≡ true =
     at_number i w row.opening among.0 row.stripe.stripe.unit row.stripe.stripe.at line_is (line_is.order.places among.0 row.stripe among.1) in
     let short : among.0 < length (stripes_of (log_of w 0) row.opening) = slice_get_within (stripes_of (log_of w 0) row.opening) among.0 row.stripe among.1 in
@@ -144,30 +156,37 @@ on_way i w unit of simple row =
       inside = inside;
       here = here;
       number_is = sym (ap (λ (x : Program). x.at) row.is) ∙ ap (λ n. n * i.shape.ws_opt)
-          (number_at i.shape (open_line i (engine_prefix row.stripe.number (log_of w)) row.opening) (as_opened i (log_of w) row.opening) row.stripe.stripe among.0
+          (number_at i.shape (open_line i (engine_prefix row.stripe.number (log_of w)) row.opening)
+          (as_opened i (log_of w) row.opening) row.stripe.stripe among.0
           (same_live i (log_of w) row.opening row.stripe.number later) line_is.striped.some wide
           (subst (λ n. among.0 < n) (sym (long i w row.opening row.stripe.number later)) inside) here);
     }
 
 -- ---- the program is awaited
 
-pub waits_there : (i : Image) (w : World) (unit : ℕ) (of : Program) → (is : IsOnWay i w unit of) → slice_get (open_line i (log_of w) is.row.opening).stripes is.number ≡ Some Unanswered
+pub waits_there : (i : Image) (w : World) (unit : ℕ) (of : Program) → (is : IsOnWay i w unit of)
+    → slice_get (open_line i (log_of w) is.row.opening).stripes is.number ≡ Some Unanswered
 unfolding answered_as
 waits_there i w unit of is =
-    let short : is.number < length (stripes_of (log_of w 0) is.row.opening) = slice_get_within (stripes_of (log_of w 0) is.row.opening) is.number is.row.stripe is.there in
-    let count : length (map (answered_as (log_of w 0)) (stripes_of (log_of w 0) is.row.opening)) ≡ length (stripes_of (log_of w 0) is.row.opening) = length-map (stripes_of (log_of w 0) is.row.opening) (answered_as (log_of w 0)) in
+    let short : is.number < length (stripes_of (log_of w 0) is.row.opening) =
+    slice_get_within (stripes_of (log_of w 0) is.row.opening) is.number is.row.stripe is.there in
+    let count : length (map (answered_as (log_of w 0)) (stripes_of (log_of w 0) is.row.opening)) ≡ length (stripes_of (log_of w 0) is.row.opening) =
+    length-map (stripes_of (log_of w 0) is.row.opening) (answered_as (log_of w 0)) in
     ap (λ xs. slice_get xs is.number) (formed i (now_units i w) w is.row.opening is.line_is)
-    ∙ get_first (map (answered_as (log_of w 0)) (stripes_of (log_of w 0) is.row.opening)) (replicate (stripe_count i (now_units i w) is.row.opening.line - length (stripes_of (log_of w 0) is.row.opening)) Unplaced) is.number (omega arith)
+    ∙ get_first (map (answered_as (log_of w 0)) (stripes_of (log_of w 0) is.row.opening))
+    (replicate (stripe_count i (now_units i w) is.row.opening.line - length (stripes_of (log_of w 0) is.row.opening)) Unplaced) is.number (omega arith)
     ∙ slice_get-map (answered_as (log_of w 0)) (stripes_of (log_of w 0) is.row.opening) is.number
     ∙ ap (option_map (answered_as (log_of w 0))) is.there
     ∙ ap (λ a. Some (by_answer a)) (one_more (log_of w 0) unit 0 [] is.row.stripe is.row.waits).before
 
-pub left_there : (i : Image) (w : World) (unit : ℕ) (of : Program) → IsSimpleMount i w → (is : IsOnWay i w unit of) → IsAmong (left_openings i (log_of w)) is.row.opening
+pub left_there : (i : Image) (w : World) (unit : ℕ) (of : Program) → IsSimpleMount i w → (is : IsOnWay i w unit of)
+    → IsAmong (left_openings i (log_of w)) is.row.opening
 left_there i w unit of simple is =
     let l : OpenLine = open_line i (log_of w) is.row.opening in
     in_filter (λ (o : Opening). has_left (open_line i (log_of w) o)) (standing (log_of w 0)) is.row.opening
     (life_stands i (now_units i w) w (follow i w simple) is.row.opening.line is.row.opening (ap (life_of (log_of w 0)) is.its_line ∙ is.stands))
-    (or_right (list_any (is_to_place l) (numbers l)) (list_any is_unanswered l.stripes) (any_member is_unanswered l.stripes is.number Unanswered (waits_there i w unit of is) refl))
+    (or_right (list_any (is_to_place l) (numbers l)) (list_any is_unanswered l.stripes)
+    (any_member is_unanswered l.stripes is.number Unanswered (waits_there i w unit of is) refl))
 
 pub unit_is : (i : Image) (w : World) (unit : ℕ) (of : Program) → IsOnWay i w unit of → of.unit ≡ unit
 unit_is i w unit of is = sym (ap (λ (x : Program). x.unit) is.row.is) ∙ is.its_unit
@@ -179,34 +198,46 @@ pub stripe_number : (i : Image) (w : World) (unit : ℕ) (of : Program) → (is 
 stripe_number i w unit of is = ap (λ n. n / i.shape.ws_opt) is.number_is ∙ mul-div_cancel is.number is.line_is.striped.some
 
 -- no other open line is of its line
-only_line : (i : Image) (w : World) (unit : ℕ) (of : Program) → IsSimpleMount i w → (is : IsOnWay i w unit of) → (l : OpenLine) → IsAmong (open_lines i (log_of w)) l → l.line ≡ of.line → open_line i (log_of w) is.row.opening ≡ l
+only_line : (i : Image) (w : World) (unit : ℕ) (of : Program) → IsSimpleMount i w → (is : IsOnWay i w unit of) → (l : OpenLine)
+    → IsAmong (open_lines i (log_of w)) l → l.line ≡ of.line → open_line i (log_of w) is.row.opening ≡ l
 only_line i w unit of simple is l among same =
-    let from : (o : Opening) × IsAmong (left_openings i (log_of w)) o × (open_line i (log_of w) o ≡ l) = from_map (open_line i (log_of w)) (left_openings i (log_of w)) l (subst (λ ls. IsAmong ls l) (lines_of_left i (log_of w)) among) in
+    let from : (o : Opening) × IsAmong (left_openings i (log_of w)) o × (open_line i (log_of w) o ≡ l) =
+    from_map (open_line i (log_of w)) (left_openings i (log_of w)) l (subst (λ ls. IsAmong ls l) (lines_of_left i (log_of w)) among) in
     let own : IsAmong (left_openings i (log_of w)) is.row.opening = left_there i w unit of simple is in
     let line : is.row.opening.line ≡ from.0.line = line_of_way i w unit of is ∙ sym same ∙ ap (λ (x : OpenLine). x.line) (sym from.2) in
     let at : own.0 ≡ from.1.0 = left_apart i (log_of w) own.0 from.1.0 is.row.opening from.0 own.1 from.1.1 line in
     ap (open_line i (log_of w)) (same_Some is.row.opening from.0 (sym own.1 ∙ ap (slice_get (left_openings i (log_of w))) at ∙ from.1.1)) ∙ from.2
 
-pub awaited : (i : Image) (w : World) (pad : ℕ) (again : List ℕ) (unit : ℕ) (of : Program) → IsSimpleMount i w → IsOnWay i w unit of → slice_get (placing_of i (log_of w) pad again).units unit ≡ Some (UnderWay of)
+pub awaited : (i : Image) (w : World) (pad : ℕ) (again : List ℕ) (unit : ℕ) (of : Program) → IsSimpleMount i w → IsOnWay i w unit of
+    → slice_get (placing_of i (log_of w) pad again).units unit ≡ Some (UnderWay of)
     → IsAwaited i (log_of w) pad again of
 awaited i w pad again unit of simple is row =
     let u : of.unit ≡ unit = unit_is i w unit of is in
     let j : of.at / i.shape.ws_opt ≡ is.number = stripe_number i w unit of is in
     let own : IsAmong (left_openings i (log_of w)) is.row.opening = left_there i w unit of simple is in
-    let among : IsAmong (open_lines i (log_of w)) (open_line i (log_of w) is.row.opening) = subst (λ ls. IsAmong ls (open_line i (log_of w) is.row.opening)) (sym (lines_of_left i (log_of w))) (in_map (open_line i (log_of w)) (left_openings i (log_of w)) is.row.opening own) in
+    let among : IsAmong (open_lines i (log_of w)) (open_line i (log_of w) is.row.opening) =
+    subst (λ ls. IsAmong ls (open_line i (log_of w) is.row.opening)) (sym (lines_of_left i (log_of w)))
+    (in_map (open_line i (log_of w)) (left_openings i (log_of w)) is.row.opening own) in
     let few : length (placed_on (log_of w 0) unit) ≤ length (answers (log_of w 0) unit) + 1 = one_stripe i w unit simple.mount.legal in
-    let some : length (answers (log_of w 0) unit) < length (placed_on (log_of w 0) unit) = slice_get_within (placed_on (log_of w 0) unit) (length (answers (log_of w 0) unit)) is.row.stripe is.row.waits in
+    let some : length (answers (log_of w 0) unit) < length (placed_on (log_of w 0) unit) =
+    slice_get_within (placed_on (log_of w 0) unit) (length (answers (log_of w 0) unit)) is.row.stripe is.row.waits in
     let one : length (placed_on (log_of w 0) unit) ≡ length (answers (log_of w 0) unit) + 1 = omega arith in
     let here : unit_of (open_line i (log_of w) is.row.opening) is.number ≡ unit =
-    eqb-true (unit_of (as_opened i (log_of w) is.row.opening) is.number) is.row.stripe.stripe.unit (first_of (unit_of (as_opened i (log_of w) is.row.opening) is.number == is.row.stripe.stripe.unit) (is.number / width (as_opened i (log_of w) is.row.opening) * i.shape.ws_opt == is.row.stripe.stripe.at) is.here) ∙ is.its_unit in
+    eqb-true (unit_of (as_opened i (log_of w) is.row.opening) is.number) is.row.stripe.stripe.unit
+    (first_of (unit_of (as_opened i (log_of w) is.row.opening) is.number == is.row.stripe.stripe.unit)
+    (is.number / width (as_opened i (log_of w) is.row.opening) * i.shape.ws_opt == is.row.stripe.stripe.at) is.here) ∙ is.its_unit in
     record {
       under_way = ap (slice_get (placing_of i (log_of w) pad again).units) u ∙ row;
       stripe = record {
         unit_is = refl;
         line = (open_line i (log_of w) is.row.opening, among, line_of_way i w unit of is);
         stripe = λ l at same.
-            subst (λ (m : OpenLine). IsUnanswered m (of.at / i.shape.ws_opt) × (unit_of m (of.at / i.shape.ws_opt) ≡ of.unit)) (only_line i w unit of simple is l at same)
-            (ap (slice_get (open_line i (log_of w) is.row.opening).stripes) j ∙ waits_there i w unit of is, ap (unit_of (open_line i (log_of w) is.row.opening)) j ∙ here ∙ sym u);
+            subst (λ (m : OpenLine). IsUnanswered m (of.at / i.shape.ws_opt) × (unit_of m (of.at / i.shape.ws_opt) ≡ of.unit))
+            (only_line i w unit of simple is l at same) (
+              ap (slice_get (open_line i (log_of w) is.row.opening).stripes) j
+                  ∙ waits_there i w unit of is,
+              ap (unit_of (open_line i (log_of w) is.row.opening)) j ∙ here ∙ sym u,
+            );
       };
       one = subst (λ v. length (placed_on (log_of w 0) v) ≡ length (answers (log_of w 0) v) + 1) (sym u) one;
     }

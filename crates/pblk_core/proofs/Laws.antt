@@ -20,9 +20,12 @@ pub no_events : (i : Image) (w : World) → IsAccepted i.shape → IsFit i → (
 unfolding IsLegal
 no_events i [] accepted fit none = record { accepted = accepted; fit = fit; legal = tt }
 no_events i (s ∷ w) accepted fit none =
-    absurd (not_empty (log_of w s.author) s.logged (sym (ap (λ b. if b then log_of w s.author ++ s.logged ∷ [] else log_of w s.author) (eqb-same s.author)) ∙ none s.author))
+    absurd (not_empty (log_of w s.author) s.logged
+    (sym (ap (λ b. if b then log_of w s.author ++ s.logged ∷ [] else log_of w s.author) (eqb-same s.author)) ∙ none s.author))
 
-pub reset_empty : (i : Image) (w : World) (line : ℕ) → IsLegalMount i w → resets_of i (log_of w) ≡ [] → line < i.shape.chunks → is_given_up (log_of w 0) line ≡ true → are_empty (known_image i (log_of w)) line ≡ true
+pub reset_empty : (i : Image) (w : World) (line : ℕ) → IsLegalMount i w → resets_of i (log_of w) ≡ [] → line < i.shape.chunks
+    → is_given_up (log_of w 0) line ≡ true → are_empty (known_image i (log_of w)) line ≡ true
 reset_empty i w line mount none inside given =
     unused_empty (known_image i (log_of w)) line (known_count i w (log_of w) mount)
-    (ap (λ b. if b then used_units (known_image i (log_of w)) line else []) (sym given) ∙ none_of_any (units_to_reset i (log_of w)) 0 i.shape.chunks line none (omega arith) (omega arith))
+    (ap (λ b. if b then used_units (known_image i (log_of w)) line else []) (sym given)
+    ∙ none_of_any (units_to_reset i (log_of w)) 0 i.shape.chunks line none (omega arith) (omega arith))

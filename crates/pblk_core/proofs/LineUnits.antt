@@ -33,11 +33,13 @@ then_by log number (Decides (Place stripe)) p h =
 then_by log number e p h = absurd (none-some p h)
 
 placed_then : (log : List Logged) → AllByRecursion (λ (p : Placed). p.life ≡ life_of (take p.number log) p.stripe.line) (placements log)
-placed_then log = all_made (λ (e : ℕ × Logged). placed_by log e.0 e.1.event) (λ (p : Placed). p.life ≡ life_of (take p.number log) p.stripe.line) (λ e p h. then_by log e.0 e.1.event p h) (enumerate_from 0 log)
+placed_then log = all_made (λ (e : ℕ × Logged). placed_by log e.0 e.1.event) (λ (p : Placed). p.life ≡ life_of (take p.number log) p.stripe.line)
+    (λ e p h. then_by log e.0 e.1.event p h) (enumerate_from 0 log)
 
 pub opened_earlier : (log : List Logged) (k : ℕ) (p : Placed) (o : Opening) → slice_get (placements log) k ≡ Some p → p.life ≡ Opened o → o.number ≤ p.number
 opened_earlier log k p o there life =
-    let then_ : p.life ≡ life_of (take p.number log) p.stripe.line = all_at (λ (q : Placed). q.life ≡ life_of (take q.number log) q.stripe.line) (placements log) k p there (placed_then log) in
+    let then_ : p.life ≡ life_of (take p.number log) p.stripe.line =
+    all_at (λ (q : Placed). q.life ≡ life_of (take q.number log) q.stripe.line) (placements log) k p there (placed_then log) in
     let before : o.number < length (take p.number log) = opened_before (take p.number log) p.stripe.line o (sym then_ ∙ life) in
     let short : length (take p.number log) ≤ p.number = omega (arith, length-take p.number log) in
     omega arith
@@ -54,4 +56,5 @@ abbrev pub IsLiving : List Logged → Placed → Type 0
 IsLiving log p = (life_of log p.stripe.line ≡ p.life) × (is_opened p.life ≡ true)
 
 pub living : (i : Image) (w : World) → IsSimpleMount i w → AllByRecursion (IsLiving (log_of w 0)) (placements (log_of w 0))
-living i w simple = all_imply (IsInPlace i (log_of w 0)) (IsLiving (log_of w 0)) (λ p is. (is.stands ∙ sym is.life, ap is_opened is.life)) (placements (log_of w 0)) (in_order i w simple).placed
+living i w simple = all_imply (IsInPlace i (log_of w 0)) (IsLiving (log_of w 0)) (λ p is. (is.stands ∙ sym is.life, ap is_opened is.life))
+    (placements (log_of w 0)) (in_order i w simple).placed

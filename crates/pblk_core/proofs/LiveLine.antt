@@ -66,21 +66,24 @@ none_there f (y ∷ xs) x zero few at is =
     absurd (omega arith)
 none_there f (y ∷ xs) x (suc k) few at is = none_by f y xs (f y) refl few (λ h. none_there f xs x k h at is)
 
-single_by : {X : Type 0} (f : X → Bool) (y : X) (xs : List X) (x : X) (k : ℕ) (b : Bool) → f y ≡ b → length (filter f (y ∷ xs)) ≤ 1 → slice_get xs k ≡ Some x → f x ≡ true
+single_by : {X : Type 0} (f : X → Bool) (y : X) (xs : List X) (x : X) (k : ℕ) (b : Bool) → f y ≡ b → length (filter f (y ∷ xs)) ≤ 1 → slice_get xs k ≡ Some x
+    → f x ≡ true
     → (length (filter f xs) ≤ 1 → find f xs ≡ Some x) → find f (y ∷ xs) ≡ Some x
 single_by f y xs x k true h few at is rest =
     let more : length (filter f (y ∷ xs)) ≡ length (filter f xs) + 1 = filter_true f y xs h in
     absurd (none_there f xs x k (omega arith) at is)
 single_by f y xs x k false h few at is rest = ap (λ b. cond b (Some y) (find f xs)) h ∙ rest (subst (λ n. n ≤ 1) (filter_false f y xs h) few)
 
-pub single_found : {X : Type 0} (f : X → Bool) (xs : List X) (x : X) (k : ℕ) → length (filter f xs) ≤ 1 → slice_get xs k ≡ Some x → f x ≡ true → find f xs ≡ Some x
+pub single_found : {X : Type 0} (f : X → Bool) (xs : List X) (x : X) (k : ℕ) → length (filter f xs) ≤ 1 → slice_get xs k ≡ Some x → f x ≡ true
+    → find f xs ≡ Some x
 single_found f [] x k few at is = absurd (none-some x at)
 single_found f (y ∷ xs) x zero few at is = ap (λ b. cond b (Some y) (find f xs)) (subst (λ z. f z ≡ true) (sym (same_Some y x at)) is) ∙ at
 single_found f (y ∷ xs) x (suc k) few at is = single_by f y xs x k (f y) refl few at is (λ h. single_found f xs x k h at is)
 
 -- ---- the line of a position
 
-in_force : (log : List Logged) (p : Placed) (life : LineLife) → p.life ≡ life → life_of log p.stripe.line ≡ life → is_opened life ≡ true → is_in_force log p.life p.stripe.line ≡ true
+in_force : (log : List Logged) (p : Placed) (life : LineLife) → p.life ≡ life → life_of log p.stripe.line ≡ life → is_opened life ≡ true
+    → is_in_force log p.life p.stripe.line ≡ true
 in_force log p AsFound is now opened = absurd cc
 in_force log p (Freed was knows) is now opened = absurd cc
 in_force log p (Opened o) is now opened =
@@ -98,15 +101,19 @@ position_line i w q simple =
     and_true false = refl
 
     same : (p : Placed) → is_in_force (log_of w 0) p.life p.stripe.line ≡ true
-        → (holds_position i.shape q p && not (was_lost (log_of w 0) p) && is_in_force (log_of w 0) p.life p.stripe.line) ≡ (holds_position i.shape q p && not (was_lost (log_of w 0) p))
-    same p force = ap (λ b. holds_position i.shape q p && not (was_lost (log_of w 0) p) && b) force ∙ and_true (holds_position i.shape q p && not (was_lost (log_of w 0) p))
+        → (holds_position i.shape q p && not (was_lost (log_of w 0) p) && is_in_force (log_of w 0) p.life p.stripe.line) ≡
+        (holds_position i.shape q p && not (was_lost (log_of w 0) p))
+    same p force = ap (λ b. holds_position i.shape q p && not (was_lost (log_of w 0) p) && b) force
+        ∙ and_true (holds_position i.shape q p && not (was_lost (log_of w 0) p))
 
 -- ---- where a position has landed
 
 -- one that has landed is where it is live
-pub landed_line_is : (i : Image) (w : World) (q : ℕ) → IsSimpleMount i w → has_landed_at i.shape (log_of w 0) q ≡ true → landed_line i.shape (log_of w 0) q ≡ line_of_position i.shape (log_of w 0) q
+pub landed_line_is : (i : Image) (w : World) (q : ℕ) → IsSimpleMount i w → has_landed_at i.shape (log_of w 0) q ≡ true
+    → landed_line i.shape (log_of w 0) q ≡ line_of_position i.shape (log_of w 0) q
 landed_line_is i w q simple lands = ap (option_map (λ (p : Placed). p.stripe.line))
-    (find_agree (IsAmong (placements (log_of w 0))) (λ p. holds_position i.shape q p && has_landed (log_of w 0) p && is_in_force (log_of w 0) p.life p.stripe.line)
+    (find_agree (IsAmong (placements (log_of w 0)))
+    (λ p. holds_position i.shape q p && has_landed (log_of w 0) p && is_in_force (log_of w 0) p.life p.stripe.line)
     (λ p. holds_position i.shape q p && not (was_lost (log_of w 0) p) && is_in_force (log_of w 0) p.life p.stripe.line)
     (λ p among. by (holds_position i.shape q p) (has_landed (log_of w 0) p) (was_lost (log_of w 0) p) (is_in_force (log_of w 0) p.life p.stripe.line)
     (none_lost (log_of w 0) (engine_plain i w simple) p) (each p among)) (placements (log_of w 0)) (among_all (placements (log_of w 0))))
@@ -134,10 +141,12 @@ landed_by true false = refl
 landed_by true true = refl
 
 -- the window says of an entry that isn't given back whether it has landed
-window_landed : (i : Image) (w : World) (c : Core) (t : Taken) → IsSimpleMount i w → Stands i (log_of w) c → IsAmong (takes (log_of w 0)) t → is_given_back i.shape (log_of w 0) t.entry.position ≡ false
+window_landed : (i : Image) (w : World) (c : Core) (t : Taken) → IsSimpleMount i w → Stands i (log_of w) c → IsAmong (takes (log_of w 0)) t
+    → is_given_back i.shape (log_of w 0) t.entry.position ≡ false
     → view.has_landed_at c.window t.entry.position ≡ has_landed_at i.shape (log_of w 0) t.entry.position
 window_landed i w c t simple st among kept =
-    ap (λ b. option_map_or (λ (h : Held). progress_landed h.progress) (if b then None else slice_get c.window.entries (t.entry.position - c.window.freed)) false) (not_below c.window.freed t.entry.position above)
+    ap (λ b. option_map_or (λ (h : Held). progress_landed h.progress)
+    (if b then None else slice_get c.window.entries (t.entry.position - c.window.freed)) false) (not_below c.window.freed t.entry.position above)
     ∙ by (slice_get c.window.entries (t.entry.position - c.window.freed))
     ∙ ap (λ o. option_map_or (λ (h : HeldSector). progress_landed h.progress) o false) there
     ∙ landed_by (has_landed_at i.shape (log_of w 0) t.entry.position) (is_given_back i.shape (log_of w 0) t.entry.position)
@@ -153,10 +162,12 @@ window_landed i w c t simple st among kept =
     above =
         let low : c.window.freed ≤ freed i.shape (log_of w 0) = st.to_freed in
         let from : freed i.shape (log_of w 0) ≤ t.entry.position =
-        least_below (is_given_back i.shape (log_of w 0)) (length (takes (log_of w 0))) (first_position (log_of w 0)) t.entry.position (omega (arith, place, inside)) kept in
+        least_below (is_given_back i.shape (log_of w 0)) (length (takes (log_of w 0))) (first_position (log_of w 0)) t.entry.position
+        (omega (arith, place, inside)) kept in
         omega arith
 
-    by : (o : Option Held) → option_map_or (λ (h : Held). progress_landed h.progress) o false ≡ option_map_or (λ (h : HeldSector). progress_landed h.progress) (option_map without_frame o) false
+    by : (o : Option Held) → option_map_or (λ (h : Held). progress_landed h.progress) o false ≡ option_map_or (λ (h : HeldSector). progress_landed h.progress)
+        (option_map without_frame o) false
     by None = refl
     by (Some h) = refl
 
@@ -167,9 +178,11 @@ window_landed i w c t simple st among kept =
     there =
         sym (slice_get-map without_frame c.window.entries (t.entry.position - c.window.freed))
         ∙ ap (λ (v : HeldSectors). slice_get v.entries (t.entry.position - c.window.freed)) st.window
-        ∙ slice_get-map (held_of i.shape (log_of w 0)) (drop (c.window.freed - first_position (log_of w 0)) (takes (log_of w 0))) (t.entry.position - c.window.freed)
+        ∙ slice_get-map (held_of i.shape (log_of w 0)) (drop (c.window.freed - first_position (log_of w 0)) (takes (log_of w 0)))
+        (t.entry.position - c.window.freed)
         ∙ ap (option_map (held_of i.shape (log_of w 0)))
-        (get_dropped (c.window.freed - first_position (log_of w 0)) (takes (log_of w 0)) (t.entry.position - c.window.freed) ∙ ap (slice_get (takes (log_of w 0))) index ∙ among.1)
+        (get_dropped (c.window.freed - first_position (log_of w 0)) (takes (log_of w 0)) (t.entry.position - c.window.freed)
+        ∙ ap (slice_get (takes (log_of w 0))) index ∙ among.1)
 
 -- ---- the line of a slot
 
@@ -178,23 +191,29 @@ entry_line : (i : Image) (w : World) (holds : Holds) (t : Taken) → IsSimpleMou
 entry_line i w holds t simple are among = go (find (gives_back i.shape (log_of w 0) t.entry.position) (placements (log_of w 0))) refl
   where
     go : (o : Option Placed) → find (gives_back i.shape (log_of w 0) t.entry.position) (placements (log_of w 0)) ≡ o
-        → line_of_slot holds.rows.items (option_map_or (media_of i (log_of w) t.entry.position) o (Cached t.entry.position)) ≡ placed_line i.shape (log_of w 0) t.entry.position
+        → line_of_slot holds.rows.items (option_map_or (media_of i (log_of w) t.entry.position) o (Cached t.entry.position)) ≡ placed_line i.shape
+        (log_of w 0) t.entry.position
     go None e =
-        let kept : is_given_back i.shape (log_of w 0) t.entry.position ≡ false = found_none (gives_back i.shape (log_of w 0) t.entry.position) (placements (log_of w 0)) e in
+        let kept : is_given_back i.shape (log_of w 0) t.entry.position ≡ false =
+        found_none (gives_back i.shape (log_of w 0) t.entry.position) (placements (log_of w 0)) e in
         ap (λ n. option_and_then (λ (h : Hold). h.line) (slice_get holds.rows.items (t.entry.position % n))) are.room
         ∙ ap (option_and_then (λ (h : Hold). h.line)) (are.each t (is_in (takes (log_of w 0)) among.0 t among.1) kept)
     go (Some p) e =
-        let found : (gives_back i.shape (log_of w 0) t.entry.position p ≡ true) × IsAmong (placements (log_of w 0)) p = found_passes (gives_back i.shape (log_of w 0) t.entry.position) (placements (log_of w 0)) p e in
-        let held : holds_position i.shape t.entry.position p ≡ true = second_of (has_landed (log_of w 0) p) (holds_position i.shape t.entry.position p) (given_holds i.shape (log_of w 0) t.entry.position p found.0) in
+        let found : (gives_back i.shape (log_of w 0) t.entry.position p ≡ true) × IsAmong (placements (log_of w 0)) p =
+        found_passes (gives_back i.shape (log_of w 0) t.entry.position) (placements (log_of w 0)) p e in
+        let held : holds_position i.shape t.entry.position p ≡ true =
+        second_of (has_landed (log_of w 0) p) (holds_position i.shape t.entry.position p) (given_holds i.shape (log_of w 0) t.entry.position p found.0) in
         sym (line_unlost i.shape (log_of w 0) t.entry.position (none_lost (log_of w 0) (engine_plain i w simple))
-        ∙ ap (option_map (λ (p : Placed). p.stripe.line)) (single_found (holds_position i.shape t.entry.position) (placements (log_of w 0)) p found.1.0 (held_once i w simple t.entry.position) found.1.1 held))
+        ∙ ap (option_map (λ (p : Placed). p.stripe.line))
+        (single_found (holds_position i.shape t.entry.position) (placements (log_of w 0)) p found.1.0 (held_once i w simple t.entry.position) found.1.1 held))
 
 pub line_is : (i : Image) (w : World) (holds : Holds) (lba : ℕ) → IsSimpleMount i w → AreHolds i.shape (log_of w 0) holds
     → line_of_slot holds.rows.items (slot_of i (log_of w) lba) ≡ line_of i (log_of w) lba (last_take (log_of w 0) lba)
 line_is i w holds lba simple are = go (last_take (log_of w 0) lba) refl
   where
     found_line : (o : Option Record) → winner (counted (found_image i (log_of w))) lba ≡ o
-        → line_of_slot holds.rows.items (slot_of_winner o) ≡ option_and_then (λ (r : Record). if is_as_found (life_of (log_of w 0) r.line) then Some r.line else None) o
+        → line_of_slot holds.rows.items (slot_of_winner o) ≡ option_and_then
+        (λ (r : Record). if is_as_found (life_of (log_of w 0) r.line) then Some r.line else None) o
     found_line None e = refl
     found_line (Some r) e = sym (ap (λ b. cond b (Some r.line) None) (started_as_found i w r.line simple (winner_starts (found_image i (log_of w)) lba r e)))
 
@@ -204,29 +223,37 @@ line_is i w holds lba simple are = go (last_take (log_of w 0) lba) refl
 
 -- whether it has landed there
 pub landed_is : (i : Image) (w : World) (c : Core) (lba : ℕ) → IsSimpleMount i w → Stands i (log_of w) c
-    → landed_line_of i (log_of w) lba (last_take (log_of w 0) lba) ≡ (if has_landed_in c.window (slot_of i (log_of w) lba) then line_of i (log_of w) lba (last_take (log_of w 0) lba) else None)
+    → landed_line_of i (log_of w) lba (last_take (log_of w 0) lba) ≡
+    (if has_landed_in c.window (slot_of i (log_of w) lba) then line_of i (log_of w) lba (last_take (log_of w 0) lba) else None)
 landed_is i w c lba simple st = go (last_take (log_of w 0) lba) refl
   where
     found_line : (o : Option Record) → option_and_then (λ (r : Record). if is_as_found (life_of (log_of w 0) r.line) then Some r.line else None) o
-        ≡ (if has_landed_in c.window (slot_of_winner o) then option_and_then (λ (r : Record). if is_as_found (life_of (log_of w 0) r.line) then Some r.line else None) o else None)
+        ≡ (if has_landed_in c.window (slot_of_winner o) then option_and_then
+        (λ (r : Record). if is_as_found (life_of (log_of w 0) r.line) then Some r.line else None) o else None)
     found_line None = refl
     found_line (Some r) = refl
 
-    by_landed : (q : ℕ) (b : Bool) → has_landed_at i.shape (log_of w 0) q ≡ b → landed_line i.shape (log_of w 0) q ≡ (if b then line_of_position i.shape (log_of w 0) q else None)
+    by_landed : (q : ℕ) (b : Bool) → has_landed_at i.shape (log_of w 0) q ≡ b
+        → landed_line i.shape (log_of w 0) q ≡ (if b then line_of_position i.shape (log_of w 0) q else None)
     by_landed q true e = landed_line_is i w q simple e
     by_landed q false e = not_landed_line i.shape (log_of w 0) q e
 
-    entry : (t : Taken) → last_take (log_of w 0) lba ≡ Some t → (o : Option Placed) → find (gives_back i.shape (log_of w 0) t.entry.position) (placements (log_of w 0)) ≡ o
+    entry : (t : Taken) → last_take (log_of w 0) lba ≡ Some t → (o : Option Placed)
+        → find (gives_back i.shape (log_of w 0) t.entry.position) (placements (log_of w 0)) ≡ o
         → landed_line i.shape (log_of w 0) t.entry.position
-        ≡ (if has_landed_in c.window (option_map_or (media_of i (log_of w) t.entry.position) o (Cached t.entry.position)) then line_of_position i.shape (log_of w 0) t.entry.position else None)
+        ≡ (if has_landed_in c.window (option_map_or (media_of i (log_of w) t.entry.position) o (Cached t.entry.position)) then line_of_position i.shape
+        (log_of w 0) t.entry.position else None)
     entry t e (Some p) f =
         let found = found_passes (gives_back i.shape (log_of w 0) t.entry.position) (placements (log_of w 0)) p f in
         landed_line_is i w t.entry.position simple
-        (given_landed i.shape (log_of w 0) t.entry.position (any_member (gives_back i.shape (log_of w 0) t.entry.position) (placements (log_of w 0)) found.1.0 p found.1.1 found.0))
+        (given_landed i.shape (log_of w 0) t.entry.position
+        (any_member (gives_back i.shape (log_of w 0) t.entry.position) (placements (log_of w 0)) found.1.0 p found.1.1 found.0))
     entry t e None f =
-        let kept : is_given_back i.shape (log_of w 0) t.entry.position ≡ false = found_none (gives_back i.shape (log_of w 0) t.entry.position) (placements (log_of w 0)) f in
+        let kept : is_given_back i.shape (log_of w 0) t.entry.position ≡ false =
+        found_none (gives_back i.shape (log_of w 0) t.entry.position) (placements (log_of w 0)) f in
         by_landed t.entry.position (has_landed_at i.shape (log_of w 0) t.entry.position) refl
-        ∙ ap (λ b. if b then line_of_position i.shape (log_of w 0) t.entry.position else None) (sym (window_landed i w c t simple st (last_is_among (log_of w 0) lba t e).0 kept))
+        ∙ ap (λ b. if b then line_of_position i.shape (log_of w 0) t.entry.position else None)
+        (sym (window_landed i w c t simple st (last_is_among (log_of w 0) lba t e).0 kept))
 
     go : (o : Option Taken) → last_take (log_of w 0) lba ≡ o
         → landed_line_of i (log_of w) lba o ≡ (if has_landed_in c.window (slot_by i (log_of w) lba o) then line_of i (log_of w) lba o else None)

@@ -57,11 +57,13 @@ same_chunk : (r : LineChunk) (line unit : ℕ) → r.line ≡ line → r.unit �
 same_chunk r line unit a b = λ k. chunk_of (a k) (b k)
 
 pub first_named : (o : Option LineChunk) (a b c d e : Bool) (line unit : ℕ) → reset_or o (choice a b c d e) ≡ Reset line unit → o ≡ Some (chunk_of line unit)
-first_named None a b c d e line unit is = let its : is_reset (choice a b c d e) ≡ true = ap is_reset is in let none : is_reset (choice a b c d e) ≡ false = never_reset a b c d e in absurd cc
+first_named None a b c d e line unit is = let its : is_reset (choice a b c d e) ≡ true = ap is_reset is in let none : is_reset (choice a b c d e) ≡ false =
+    never_reset a b c d e in absurd cc
 first_named (Some r) a b c d e line unit is = ap Some (same_chunk r line unit (ap reset_line is) (ap reset_unit is))
 
 pub named_first : (c : Core) (line unit : ℕ) → named c ≡ Reset line unit → slice_get (resets_left c.resets) 0 ≡ Some (chunk_of line unit)
-named_first c line unit is = first_named (slice_get (resets_left c.resets) 0) (is_some (next_stripe c.placer 0)) (asks_line c) (has_free c) (may_open c) (nat_lt 0 c.under_way) line unit is
+named_first c line unit is = first_named (slice_get (resets_left c.resets) 0) (is_some (next_stripe c.placer 0)) (asks_line c) (has_free c) (may_open c)
+    (nat_lt 0 c.under_way) line unit is
 
 -- ---- by the logs
 
@@ -75,7 +77,8 @@ pub record IsNamedReset (i : Image) (logs : Logs) (line unit : ℕ) : Type 0 whe
   pub is_chunk : chunk_in (known_image i logs) line unit ≡ Some chunk
   pub used : is_used_state chunk.state ≡ true
 
-used_chunk : (o : Option Chunk) → option_map_or (λ (c : Chunk). is_used_state c.state) o false ≡ true → (c : Chunk) × (o ≡ Some c) × (is_used_state c.state ≡ true)
+used_chunk : (o : Option Chunk) → option_map_or (λ (c : Chunk). is_used_state c.state) o false ≡ true
+    → (c : Chunk) × (o ≡ Some c) × (is_used_state c.state ≡ true)
 used_chunk None e = absurd cc
 used_chunk (Some c) e = (c, refl, e)
 
@@ -87,7 +90,8 @@ reset_named i logs line unit e = go (is_given_up (logs 0) line) refl first.is
 
     with_units : is_given_up (logs 0) line ≡ true → used_units (known_image i logs) line ≡ unit ∷ first.units → IsNamedReset i logs line unit
     with_units given is =
-        let passed : IsFirstPassed (is_used_in (known_image i logs) line) 0 (units i.shape) unit first.units = first_passed (is_used_in (known_image i logs) line) 0 (units i.shape) unit first.units is in
+        let passed : IsFirstPassed (is_used_in (known_image i logs) line) 0 (units i.shape) unit first.units =
+        first_passed (is_used_in (known_image i logs) line) 0 (units i.shape) unit first.units is in
         let inside : unit < 0 + units i.shape = passed.inside in
         let line_inside : line < 0 + i.shape.chunks = first.inside in
         let used = used_chunk (chunk_in (known_image i logs) line unit) passed.passes in
@@ -102,7 +106,8 @@ reset_named i logs line unit e = go (is_given_up (logs 0) line) refl first.is
           used = used.2;
         }
 
-    go : (b : Bool) → is_given_up (logs 0) line ≡ b → (if b then used_units (known_image i logs) line else []) ≡ unit ∷ first.units → IsNamedReset i logs line unit
+    go : (b : Bool) → is_given_up (logs 0) line ≡ b → (if b then used_units (known_image i logs) line else []) ≡ unit ∷ first.units
+        → IsNamedReset i logs line unit
     go true given is = with_units given is
     go false given is = absurd (none-some unit (ap (λ xs. slice_get xs 0) is))
 
@@ -118,15 +123,18 @@ to_reset i logs line unit is = record {
 
 -- ---- a line that was given up, where none was freed, is a stray of its beginning
 
-pub given_as_found : (log : List Logged) (line : ℕ) → is_freed (life_of log line) ≡ false → is_given_up log line ≡ true → (life_of log line ≡ AsFound) × (list_any (λ stray. stray == line) (strays_of log) ≡ true)
+pub given_as_found : (log : List Logged) (line : ℕ) → is_freed (life_of log line) ≡ false → is_given_up log line ≡ true
+    → (life_of log line ≡ AsFound) × (list_any (λ stray. stray == line) (strays_of log) ≡ true)
 given_as_found log line freed given = go (life_of log line) refl freed given
   where
-    go : (life : LineLife) → life_of log line ≡ life → is_freed life ≡ false → is_given_up_by (strays_of log) line life ≡ true → (life_of log line ≡ AsFound) × (list_any (λ stray. stray == line) (strays_of log) ≡ true)
+    go : (life : LineLife) → life_of log line ≡ life → is_freed life ≡ false → is_given_up_by (strays_of log) line life ≡ true
+        → (life_of log line ≡ AsFound) × (list_any (λ stray. stray == line) (strays_of log) ≡ true)
     go AsFound is kept e = (is, e)
     go (Opened o) is kept e = absurd cc
     go (Freed was knows) is kept e = absurd cc
 
-pub given_unstarted : (i : Image) (w : World) (line : ℕ) (b : Begun) → IsSimpleMount i w → begun (log_of w 0) ≡ Some b → line < i.shape.chunks → is_given_up (log_of w 0) line ≡ true → start_of (found_image i (log_of w)) line ≡ None
+pub given_unstarted : (i : Image) (w : World) (line : ℕ) (b : Begun) → IsSimpleMount i w → begun (log_of w 0) ≡ Some b → line < i.shape.chunks
+    → is_given_up (log_of w 0) line ≡ true → start_of (found_image i (log_of w)) line ≡ None
 given_unstarted i w line b simple begins inside given =
     let strays : strays_of (log_of w 0) ≡ stray_lines (found_image i (log_of w)) =
     ap (λ (o : Option Begun). option_map_or (λ (x : Begun). x.beginning.strays) o []) begins ∙ found_strays i w b simple.mount.legal begins in

@@ -49,7 +49,8 @@ use Rattle.lemmas.proofs.Tests.{first_of, second_of}
 -- ---- ranges
 
 -- the two parts of a range
-split_range : (xs ys : List ℕ) (a n : ℕ) → xs ++ ys ≡ range_with_len a n → (xs ≡ range_with_len a (length xs)) × (ys ≡ range_with_len (a + length xs) (n - length xs)) × (length xs ≤ n)
+split_range : (xs ys : List ℕ) (a n : ℕ) → xs ++ ys ≡ range_with_len a n
+    → (xs ≡ range_with_len a (length xs)) × (ys ≡ range_with_len (a + length xs) (n - length xs)) × (length xs ≤ n)
 split_range [] ys a n e = (refl, e ∙ ap₂ range_with_len (let f : a ≡ a + 0 = omega arith in f) (let g : n ≡ n - 0 = omega arith in g), omega arith)
 split_range (x ∷ xs) ys a zero e = absurd cc
 split_range (x ∷ xs) ys a (suc n) e =
@@ -67,13 +68,18 @@ record IsPart (a n : ℕ) (xs : List ℕ) : Type 0 where
   low : a ≤ from
   high : from + length xs ≤ a + n
 
-part_of : {X : Type 0} (f : X → List ℕ) (xs : List X) (k : ℕ) (x : X) (a n : ℕ) → slice_get xs k ≡ Some x → flat_map f xs ≡ range_with_len a n → IsPart a n (f x)
+part_of : {X : Type 0} (f : X → List ℕ) (xs : List X) (k : ℕ) (x : X) (a n : ℕ) → slice_get xs k ≡ Some x → flat_map f xs ≡ range_with_len a n
+    → IsPart a n (f x)
 part_of f [] k x a n at e = absurd (none-some x at)
-part_of {X} f (y ∷ ys) k x a n at e = go k at (split_range (f y) (flat_map f ys) a n e) (λ m b. part_of f ys m x (a + length (f y)) (n - length (f y)) b (split_range (f y) (flat_map f ys) a n e).1)
+part_of {X} f (y ∷ ys) k x a n at e =
+    go k at (split_range (f y) (flat_map f ys) a n e)
+    (λ m b. part_of f ys m x (a + length (f y)) (n - length (f y)) b (split_range (f y) (flat_map f ys) a n e).1)
   where
-    go : (k : ℕ) → slice_get (y ∷ ys) k ≡ Some x → (f y ≡ range_with_len a (length (f y))) × (flat_map f ys ≡ range_with_len (a + length (f y)) (n - length (f y))) × (length (f y) ≤ n)
+    go : (k : ℕ) → slice_get (y ∷ ys) k ≡ Some x
+        → (f y ≡ range_with_len a (length (f y))) × (flat_map f ys ≡ range_with_len (a + length (f y)) (n - length (f y))) × (length (f y) ≤ n)
         → ((m : ℕ) → slice_get ys m ≡ Some x → IsPart (a + length (f y)) (n - length (f y)) (f x)) → IsPart a n (f x)
-    go zero at parts rest = subst (λ z. IsPart a n (f z)) (same_Some y x at) (record { from = a; is = parts.0; low = omega arith; high = (let few : length (f y) ≤ n = parts.2 in omega arith) })
+    go zero at parts rest = subst (λ z. IsPart a n (f z)) (same_Some y x at)
+        (record { from = a; is = parts.0; low = omega arith; high = (let few : length (f y) ≤ n = parts.2 in omega arith) })
     go (suc m) at parts rest =
         let is = rest m at in
         let low : a + length (f y) ≤ is.from = is.low in
@@ -93,16 +99,19 @@ any_of q [] = refl
 any_of q (t ∷ ts) = ap₂ (λ a b. a || b) (turned_round t.entry.position q) (any_of q ts)
 
 -- what its stripe holds hasn't landed
-own_not_landed : (i : Image) (w : World) (unit : ℕ) (of : Program) (q : ℕ) → IsSimpleMount i w → (is : IsOnWay i w unit of) → holds_position i.shape q is.row.stripe ≡ true → has_landed_at i.shape (log_of w 0) q ≡ false
+own_not_landed : (i : Image) (w : World) (unit : ℕ) (of : Program) (q : ℕ) → IsSimpleMount i w → (is : IsOnWay i w unit of)
+    → holds_position i.shape q is.row.stripe ≡ true → has_landed_at i.shape (log_of w 0) q ≡ false
 own_not_landed i w unit of q simple is held = go (has_landed_at i.shape (log_of w 0) q) refl
   where
     go : (b : Bool) → has_landed_at i.shape (log_of w 0) q ≡ b → b ≡ false
     go false e = refl
     go true e =
         let m = member_of (λ p. has_landed (log_of w 0) p && holds_position i.shape q p) (placements (log_of w 0)) e in
-        let same : m.0 ≡ is.row.stripe = one_holder i.shape (log_of w 0) q m.0 is.row.stripe (held_once i w simple) m.2 (first_unanswered (log_of w 0) unit is.row.stripe is.row.waits).among
+        let same : m.0 ≡ is.row.stripe =
+        one_holder i.shape (log_of w 0) q m.0 is.row.stripe (held_once i w simple) m.2 (first_unanswered (log_of w 0) unit is.row.stripe is.row.waits).among
         (second_of (has_landed (log_of w 0) m.0) (holds_position i.shape q m.0) m.1) held in
-        let yes : has_landed (log_of w 0) is.row.stripe ≡ true = ap (has_landed (log_of w 0)) (sym same) ∙ first_of (has_landed (log_of w 0) m.0) (holds_position i.shape q m.0) m.1 in
+        let yes : has_landed (log_of w 0) is.row.stripe ≡ true = ap (has_landed (log_of w 0)) (sym same)
+        ∙ first_of (has_landed (log_of w 0) m.0) (holds_position i.shape q m.0) m.1 in
         let no : has_landed (log_of w 0) is.row.stripe ≡ false = ap is_land (one_more (log_of w 0) unit 0 [] is.row.stripe is.row.waits).before in
         absurd (cc (sym yes ∙ no))
 
@@ -112,7 +121,8 @@ pub record AreEntriesOf (i : Image) (w : World) (c : Core) (unit : ℕ) (of : Pr
   pub own : AreItsEntries i (log_of w) is.row.stripe entries
   pub rows : AllByRecursion (λ (t : Taken). row_at c.holds.rows.items t.entry.position ≡ Some (hold_of i.shape (log_of w 0) t)) entries
 
-pub entries_of_way : (i : Image) (w : World) (c : Core) (unit : ℕ) (of : Program) → IsSimpleMount i w → Stands i (log_of w) c → (is : IsOnWay i w unit of) → AreEntriesOf i w c unit of is
+pub entries_of_way : (i : Image) (w : World) (c : Core) (unit : ℕ) (of : Program) → IsSimpleMount i w → Stands i (log_of w) c → (is : IsOnWay i w unit of)
+    → AreEntriesOf i w c unit of is
 unfolding BearsThese
 entries_of_way i w c unit of simple st is = record {
   entries = ts;
@@ -123,10 +133,12 @@ entries_of_way i w c unit of simple st is = record {
     among = all_taken (IsEntry i.shape.capacity (takes log)) (length its) (drop k (takes log)) (all_dropped (IsEntry i.shape.capacity (takes log)) k (takes log)
         (zipped (λ (t : Taken). t.mark.lba < i.shape.capacity) (IsAmong (takes log)) (IsEntry i.shape.capacity (takes log))
         (λ t a b. entry_at i.shape.capacity (takes log) b.0 t b.1 a) (takes log) (in_order i w simple).sectors (among_all (takes log))));
-    nowhere = all_by_get (λ (t : Taken). landed_line i.shape log t.entry.position ≡ None) ts (λ n t at. not_landed_line i.shape log t.entry.position (away n t at));
+    nowhere = all_by_get (λ (t : Taken). landed_line i.shape log t.entry.position ≡ None) ts
+        (λ n t at. not_landed_line i.shape log t.entry.position (away n t at));
   };
   rows = all_by_get (λ (t : Taken). row_at c.holds.rows.items t.entry.position ≡ Some (hold_of i.shape log t)) ts (λ n t at.
-      row_of_entry i w c t (k + n) st (sym (get_dropped k (takes log) n) ∙ get_whole (length its) (drop k (takes log)) n t at) (not_given t (away n t at) (is_given_back i.shape log t.entry.position) refl));
+      row_of_entry i w c t (k + n) st (sym (get_dropped k (takes log) n) ∙ get_whole (length its) (drop k (takes log)) n t at)
+      (not_given t (away n t at) (is_given_back i.shape log t.entry.position) refl));
 }
   where
     log : List Logged
@@ -142,7 +154,8 @@ entries_of_way i w c unit of simple st is = record {
     order = ordered i w simple
 
     part : IsPart (first_position log) order.order.count its
-    part = part_of (λ (p : Placed). positions_in_stripe i.shape p.stripe) (placements log) among.0 is.row.stripe (first_position log) order.order.count among.1 order.order.placed
+    part = part_of (λ (p : Placed). positions_in_stripe i.shape p.stripe) (placements log) among.0 is.row.stripe
+        (first_position log) order.order.count among.1 order.order.placed
 
     k : ℕ
     k = part.from - first_position log
@@ -158,15 +171,18 @@ entries_of_way i w c unit of simple st is = record {
         let from : first_position log + k ≡ part.from = omega arith in
         let few : min (length its) (length (takes log) - k) ≡ length its = omega arith in
         taken_map (λ (t : Taken). t.entry.position) (length its) (drop k (takes log))
-        ∙ ap (take (length its)) (map_dropped (λ (t : Taken). t.entry.position) k (takes log) ∙ ap (drop k) order.numbered ∙ range_dropped (first_position log) k (length (takes log)))
+        ∙ ap (take (length its)) (map_dropped (λ (t : Taken). t.entry.position) k (takes log) ∙ ap (drop k) order.numbered
+        ∙ range_dropped (first_position log) k (length (takes log)))
         ∙ range_taken (first_position log + k) (length its) (length (takes log) - k)
         ∙ ap₂ range_with_len from few
 
     away : (n : ℕ) (t : Taken) → slice_get ts n ≡ Some t → has_landed_at i.shape (log_of w 0) t.entry.position ≡ false
     away n t at = own_not_landed i w unit of t.entry.position simple is (holds_it i w unit of n t.entry.position is
-        (ap (λ qs. slice_get qs n) (positions_are i w unit of is ∙ part.is ∙ sym numbered) ∙ slice_get-map (λ (t : Taken). t.entry.position) ts n ∙ ap (option_map (λ (t : Taken). t.entry.position)) at))
+        (ap (λ qs. slice_get qs n) (positions_are i w unit of is ∙ part.is ∙ sym numbered) ∙ slice_get-map (λ (t : Taken). t.entry.position) ts n
+        ∙ ap (option_map (λ (t : Taken). t.entry.position)) at))
 
-    not_given : (t : Taken) → has_landed_at i.shape (log_of w 0) t.entry.position ≡ false → (b : Bool) → is_given_back i.shape (log_of w 0) t.entry.position ≡ b → b ≡ false
+    not_given : (t : Taken) → has_landed_at i.shape (log_of w 0) t.entry.position ≡ false → (b : Bool) → is_given_back i.shape (log_of w 0) t.entry.position ≡ b
+        → b ≡ false
     not_given t none false e = refl
     not_given t none true e = absurd (cc (sym none ∙ given_landed i.shape (log_of w 0) t.entry.position e))
 
@@ -185,11 +201,13 @@ note_row line t (Some h) row there = go h.taker
     go None = (row, there, record { state = refl; width = refl })
     go (Some by) = (
       noted by row,
-      ap (λ o. slice_get (option_map_or (λ r. slice_set t.rows line (noted by r)) o t.rows) line) there ∙ get_set_same t.rows line line (noted by row) refl (slice_get_within t.rows line row there),
+      ap (λ o. slice_get (option_map_or (λ r. slice_set t.rows line (noted by r)) o t.rows) line) there
+          ∙ get_set_same t.rows line line (noted by row) refl (slice_get_within t.rows line row there),
       record { state = refl; width = refl },
     )
 
-pub noted_row : (rows : List Hold) (line : ℕ) (qs : List ℕ) (t : Table) (row : Row) → IsRow t line row → (new : Row) × IsRow (noted_lines rows line t qs) line new × IsLike row new
+pub noted_row : (rows : List Hold) (line : ℕ) (qs : List ℕ) (t : Table) (row : Row) → IsRow t line row
+    → (new : Row) × IsRow (noted_lines rows line t qs) line new × IsLike row new
 noted_row rows line [] t row there = (row, there, record { state = refl; width = refl })
 noted_row rows line (q ∷ qs) t row there =
     let one = note_row line t (row_at rows q) row there in

@@ -106,13 +106,16 @@ some_factor (suc n) w m e some = omega arith
 -- a line of some data has a stripe
 pub has_stripes : (s : Shape) (g : ℕ) → IsAccepted s → 0 < data_len s g → 0 < g * (s.clba / s.ws_opt)
 has_stripes s g accepted some_data =
-    let is : IsStriped s g = striped s g accepted.drive.ws_opt accepted.drive.whole_stripes some_data (width_some s g accepted.drive.ws_opt (λ e. absurd (omega arith))) in
+    let is : IsStriped s g = striped s g accepted.drive.ws_opt accepted.drive.whole_stripes some_data
+    (width_some s g accepted.drive.ws_opt (λ e. absurd (omega arith))) in
     let rows : 0 < data_len s g / s.ws_opt = some_factor (data_len s g / s.ws_opt) s.ws_opt (data_len s g) is.data_is some_data in
     let fits = is.fits in omega arith
 
 all_stripes_few : (s : Shape) → IsAccepted s → units s * (s.clba / s.ws_opt) < 2 ^ 32
 all_stripes_few s accepted =
-    let is : IsStriped s (units s) = striped s (units s) accepted.drive.ws_opt accepted.drive.whole_stripes (has_data s accepted) (width_some s (units s) accepted.drive.ws_opt (λ e. let some : 0 < data_len s (units s) = has_data s accepted in absurd (omega arith))) in
+    let is : IsStriped s (units s) =
+    striped s (units s) accepted.drive.ws_opt accepted.drive.whole_stripes (has_data s accepted)
+    (width_some s (units s) accepted.drive.ws_opt (λ e. let some : 0 < data_len s (units s) = has_data s accepted in absurd (omega arith))) in
     let short : units s * s.clba ≤ 65536 = line_is_short s (units s) accepted (le_refl (units s)) in
     let whole : units s * (s.clba / s.ws_opt) * s.ws_opt ≡ units s * s.clba = is.line_is in
     below_product (units s * (s.clba / s.ws_opt)) s.ws_opt (units s * s.clba) whole accepted.drive.ws_opt short
@@ -154,7 +157,8 @@ next_line_is i w c simple st may = record {
   few = known_width i w (log_of w) (next_line c) simple.mount;
   data_some = data_is;
   stripes = subst (λ k. 0 < k) (sym (length_replicate (length (units_in (live_now i (log_of w) line)) * (i.shape.clba / i.shape.ws_opt)) Unplaced))
-      (subst (λ g. 0 < g * (i.shape.clba / i.shape.ws_opt)) (sym count) (has_stripes i.shape (width (known_image i (log_of w)) (next_line c)) simple.mount.accepted data_is));
+      (subst (λ g. 0 < g * (i.shape.clba / i.shape.ws_opt)) (sym count)
+      (has_stripes i.shape (width (known_image i (log_of w)) (next_line c)) simple.mount.accepted data_is));
 }
   where
     line : ℕ
@@ -165,7 +169,8 @@ next_line_is i w c simple st may = record {
 
     data_is : 0 < data_len i.shape (width (known_image i (log_of w)) (next_line c))
     data_is = below_is 0 (data_len i.shape (width (known_image i (log_of w)) (next_line c)))
-        (third (not (has_number i (log_of w) (life_of (log_of w 0) (next_line c)) (next_line c))) (are_empty (known_image i (log_of w)) (next_line c)) (nat_lt 0 (line_data (known_image i (log_of w)) (next_line c))) least.is_free)
+        (third (not (has_number i (log_of w) (life_of (log_of w 0) (next_line c)) (next_line c))) (are_empty (known_image i (log_of w)) (next_line c))
+        (nat_lt 0 (line_data (known_image i (log_of w)) (next_line c))) least.is_free)
 
     count : length (units_in (live_now i (log_of w) (next_line c))) ≡ width (known_image i (log_of w)) (next_line c)
     count = bits_width i w (log_of w) (next_line c) simple.mount
@@ -173,38 +178,48 @@ next_line_is i w c simple st may = record {
     there : slice_get c.live.items (next_line c) ≡ Some (live_now i (log_of w) (next_line c))
     there =
         let first : 0 + next_line c ≡ next_line c = omega arith in
-        ap (λ us. slice_get us (next_line c)) st.units ∙ row_there (live_now i (log_of w)) i.shape.chunks 0 (next_line c) least.in_range ∙ ap (λ m. Some (live_now i (log_of w) m)) first
+        ap (λ us. slice_get us (next_line c)) st.units ∙ row_there (live_now i (log_of w)) i.shape.chunks 0 (next_line c) least.in_range
+        ∙ ap (λ m. Some (live_now i (log_of w) m)) first
 
     is : next_units c ≡ live_now i (log_of w) (next_line c)
     is = get_or_from_slice_get c.live.items (next_line c) (live_now i (log_of w) (next_line c)) 0 there
 
 -- what is found of it
-pub chosen : (i : Image) (w : World) (c : Core) (line live d : ℕ) → IsSimpleMount i w → Stands i (log_of w) c → MayOpenNext c → position is_free c.lines.rows ≡ Some line → live ≡ slice_index_or c.live.items line d
+pub chosen : (i : Image) (w : World) (c : Core) (line live d : ℕ) → IsSimpleMount i w → Stands i (log_of w) c → MayOpenNext c
+    → position is_free c.lines.rows ≡ Some line → live ≡ slice_index_or c.live.items line d
     → (next_line c ≡ line) × (live ≡ next_units c)
 chosen i w c line live d simple st may found is =
     let next : IsNextLine i w c = next_line_is i w c simple st may in
-    let at : next_line c ≡ line = same_Some (next_line c) line (sym may.line ∙ found) in
-    (at, is ∙ ap (λ n. slice_index_or c.live.items n d) (sym at) ∙ get_or_from_slice_get c.live.items (next_line c) (live_now i (log_of w) (next_line c)) d next.live ∙ sym next.units_are)
+    let at : next_line c ≡ line = same_Some (next_line c) line (sym may.line ∙ found) in (
+      at,
+      is ∙ ap (λ n. slice_index_or c.live.items n d) (sym at)
+          ∙ get_or_from_slice_get c.live.items (next_line c) (live_now i (log_of w) (next_line c)) d next.live ∙ sym next.units_are,
+    )
 
 -- its width is at most the number of units
-pub chosen_few : (i : Image) (w : World) (c : Core) (line live d width : ℕ) → IsSimpleMount i w → Stands i (log_of w) c → MayOpenNext c → position is_free c.lines.rows ≡ Some line
+pub chosen_few : (i : Image) (w : World) (c : Core) (line live d width : ℕ) → IsSimpleMount i w → Stands i (log_of w) c → MayOpenNext c
+    → position is_free c.lines.rows ≡ Some line
     → live ≡ slice_index_or c.live.items line d → ((n : ℕ) → live < 2 ^ n → width ≤ n) → width ≤ units c.layout
 chosen_few i w c line live d width simple st may found is few =
-    let small : live < 2 ^ units i.shape = subst (λ m. m < 2 ^ units i.shape) (sym (chosen i w c line live d simple st may found is).1) (next_line_is i w c simple st may).small in
+    let small : live < 2 ^ units i.shape =
+    subst (λ m. m < 2 ^ units i.shape) (sym (chosen i w c line live d simple st may found is).1) (next_line_is i w c simple st may).small in
     few (units c.layout) (subst (λ (s : Shape). live < 2 ^ units s) (sym st.layout) small)
 
 abbrev Holds : Bool → Type 0
 Holds true = Unit {0}
 Holds false = ⊥
 
-pub none_open : (i : Image) (logs : Logs) (line k : ℕ) (d : PlacedLine) → is_opened (life_of (logs 0) line) ≡ false → k < length (open_lines i logs) → (slice_index_or (open_lines i logs) k d).line ≡ line → ⊥
+pub none_open : (i : Image) (logs : Logs) (line k : ℕ) (d : PlacedLine) → is_opened (life_of (logs 0) line) ≡ false → k < length (open_lines i logs)
+    → (slice_index_or (open_lines i logs) k d).line ≡ line → ⊥
 none_open i logs line k d closed inside same =
     let all : AllByRecursion (λ (l : PlacedLine). is_opened (life_of (logs 0) l.line) ≡ true) (open_lines i logs) =
     subst (AllByRecursion (λ (l : PlacedLine). is_opened (life_of (logs 0) l.line) ≡ true)) (sym (lines_of_left i logs))
     (all_mapped (λ (l : PlacedLine). is_opened (life_of (logs 0) l.line) ≡ true) (open_line i logs) (left_openings i logs)
-    (all_imply (λ (o : Opening). life_of (logs 0) o.line ≡ Opened o) (λ o. is_opened (life_of (logs 0) o.line) ≡ true) (λ o h. ap is_opened h) (left_openings i logs) (left_opened i logs))) in
+    (all_imply (λ (o : Opening). life_of (logs 0) o.line ≡ Opened o) (λ o. is_opened (life_of (logs 0) o.line) ≡ true) (λ o h. ap is_opened h)
+    (left_openings i logs) (left_opened i logs))) in
     let is : is_opened (life_of (logs 0) (slice_index_or (open_lines i logs) k d).line) ≡ true =
-    all_at (λ (l : PlacedLine). is_opened (life_of (logs 0) l.line) ≡ true) (open_lines i logs) k (slice_index_or (open_lines i logs) k d) (slice_get-get_or (open_lines i logs) k d inside) all in
+    all_at (λ (l : PlacedLine). is_opened (life_of (logs 0) l.line) ≡ true) (open_lines i logs) k (slice_index_or (open_lines i logs) k d)
+    (slice_get-get_or (open_lines i logs) k d inside) all in
     let clash : true ≡ false = sym is ∙ ap (λ n. is_opened (life_of (logs 0) n)) same ∙ closed in
     subst Holds clash tt
 

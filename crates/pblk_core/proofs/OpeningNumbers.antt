@@ -43,7 +43,8 @@ begin_seq i w b legal has = go (log_of w 0) refl
   where
     go : (log : List Logged) → log_of w 0 ≡ log → 1 ≤ b.beginning.seq
     go [] is = absurd (none-some b (sym (ap begun is) ∙ has))
-    go (l ∷ log) is = seq_by i (prefixes l (log_of w)) l.knows l.event b (sym (ap begun is) ∙ has) (happened i w 0 legal 0 l (ap (λ (xs : List Logged). slice_get xs 0) is)).allowed
+    go (l ∷ log) is = seq_by i (prefixes l (log_of w)) l.knows l.event b (sym (ap begun is) ∙ has)
+        (happened i w 0 legal 0 l (ap (λ (xs : List Logged). slice_get xs 0) is)).allowed
 
 -- ---- the record
 
@@ -54,7 +55,8 @@ IsOwnRow line (Some row) = row.line ≡ line
 
 own_row : (i : Image) (logs : Logs) (line : ℕ) → IsOwnRow line (older_row i logs line)
 unfolding IsOwnRow
-own_row i logs line = by_life (is_as_found (life_of (logs 0) line)) (found_row i logs line (start_of (found_image i logs) line)) (found (start_of (found_image i logs) line))
+own_row i logs line = by_life (is_as_found (life_of (logs 0) line)) (found_row i logs line (start_of (found_image i logs) line))
+    (found (start_of (found_image i logs) line))
   where
     found : (o : Option StartRecord) → IsOwnRow line (found_row i logs line o)
     found None = tt
@@ -64,15 +66,19 @@ own_row i logs line = by_life (is_as_found (life_of (logs 0) line)) (found_row i
     by_life true o is = is
     by_life false o is = tt
 
-rows_are_fit : (i : Image) (logs : Logs) (r : StartRecord) (first least a n : ℕ) → older_row i logs r.line ≡ None → first ≤ r.front → least ≤ a → a + n ≤ i.shape.chunks
-    → AllByRecursion (IsOlder r.first_seq first) (filter_map (older_row i logs) (range_with_len a n)) → rows_fit i.shape r least (filter_map (older_row i logs) (range_with_len a n)) ≡ true
+rows_are_fit : (i : Image) (logs : Logs) (r : StartRecord) (first least a n : ℕ) → older_row i logs r.line ≡ None → first ≤ r.front → least ≤ a
+    → a + n ≤ i.shape.chunks
+    → AllByRecursion (IsOlder r.first_seq first) (filter_map (older_row i logs) (range_with_len a n))
+    → rows_fit i.shape r least (filter_map (older_row i logs) (range_with_len a n)) ≡ true
 unfolding IsOwnRow
 rows_are_fit i logs r first least a zero none front low within older = refl
 rows_are_fit i logs r first least a (suc n) none front low within older = go (older_row i logs a) refl (own_row i logs a) older
     (λ m below rest. rows_are_fit i logs r first m (a + 1) n none front below (omega arith) rest)
   where
-    go : (o : Option Row) → older_row i logs a ≡ o → IsOwnRow a o → AllByRecursion (IsOlder r.first_seq first) (cons_option o (filter_map (older_row i logs) (range_with_len (a + 1) n)))
-        → ((m : ℕ) → m ≤ a + 1 → AllByRecursion (IsOlder r.first_seq first) (filter_map (older_row i logs) (range_with_len (a + 1) n)) → rows_fit i.shape r m (filter_map (older_row i logs) (range_with_len (a + 1) n)) ≡ true)
+    go : (o : Option Row) → older_row i logs a ≡ o → IsOwnRow a o
+        → AllByRecursion (IsOlder r.first_seq first) (cons_option o (filter_map (older_row i logs) (range_with_len (a + 1) n)))
+        → ((m : ℕ) → m ≤ a + 1 → AllByRecursion (IsOlder r.first_seq first) (filter_map (older_row i logs) (range_with_len (a + 1) n))
+        → rows_fit i.shape r m (filter_map (older_row i logs) (range_with_len (a + 1) n)) ≡ true)
         → rows_fit i.shape r least (cons_option o (filter_map (older_row i logs) (range_with_len (a + 1) n))) ≡ true
     go None e own older again = again least (omega arith) older
     go (Some row) e own older again =
@@ -81,7 +87,8 @@ rows_are_fit i logs r first least a (suc n) none front low within older = go (ol
         let next : rows_fit i.shape r (row.line + 1) (filter_map (older_row i logs) (range_with_len (a + 1) n)) ≡ true =
         again (row.line + 1) (omega (arith, own)) older.1 in
         and_both _ _ (and_both _ _ (and_both _ _ (and_both _ _ (and_both _ _ (and_both _ _
-        (le_true least row.line (omega (arith, own))) (lt_true row.line i.shape.chunks (omega (arith, own)))) (ap (λ b. not b) (other_number row.line r.line other))) (le_true 1 row.seq older.0.0))
+        (le_true least row.line (omega (arith, own))) (lt_true row.line i.shape.chunks (omega (arith, own))))
+        (ap (λ b. not b) (other_number row.line r.line other))) (le_true 1 row.seq older.0.0))
         (lt_true row.seq r.first_seq older.0.1)) (le_true row.bound r.front (omega arith))) next
 
 fewer_made : {X : Type 0} (h : ℕ → Option X) (a n k : ℕ) → h (a + k) ≡ None → k < n → length (filter_map h (range_with_len a n)) + 1 ≤ n
@@ -95,21 +102,26 @@ fewer_made {X} h a (suc n) (suc k) none inside =
     let rest : length (filter_map h (range_with_len (a + 1) n)) + 1 ≤ n = fewer_made h (a + 1) n k (ap h (sym next) ∙ none) (omega arith) in
     elim (h a) as (λ (o : Option X). length (cons_option o (filter_map h (range_with_len (a + 1) n))) + 1 ≤ suc n) [ None ↦ omega arith | Some x ↦ omega arith ]
 
-record_fits : (s : Shape) (r : StartRecord) → r.capacity ≡ s.capacity → 1 ≤ r.first_seq → r.first_seq ≤ r.seq → r.seq < 2 ^ 61 → r.front < 2 ^ 61 → length r.rows ≤ s.chunks - 1 → rows_fit s r 0 r.rows ≡ true → start_fits s r.line r.width r ≡ true
+record_fits : (s : Shape) (r : StartRecord) → r.capacity ≡ s.capacity → 1 ≤ r.first_seq → r.first_seq ≤ r.seq → r.seq < 2 ^ 61 → r.front < 2 ^ 61
+    → length r.rows ≤ s.chunks - 1 → rows_fit s r 0 r.rows ≡ true → start_fits s r.line r.width r ≡ true
 record_fits s r capacity some rises seq front few rows =
     and_both _ _ (and_both _ _ (and_both _ _ (and_both _ _ (and_both _ _ (and_both _ _ (and_both _ _ (and_both _ _
-    (eqb-same r.line) (eqb-same r.width)) (ap (λ n. n == s.capacity) capacity ∙ eqb-same s.capacity)) (le_true 1 r.first_seq some)) (le_true r.first_seq r.seq rises))
+    (eqb-same r.line) (eqb-same r.width)) (ap (λ n. n == s.capacity) capacity ∙ eqb-same s.capacity)) (le_true 1 r.first_seq some))
+    (le_true r.first_seq r.seq rises))
     (lt_true r.seq (2 ^ 61) seq)) (lt_true r.front (2 ^ 61) front)) (le_true (length r.rows) (s.chunks - 1) few)) rows
 
-pub next_fits : (i : Image) (w : World) (c : Core) → IsSimpleMount i w → Stands i (log_of w) c → MayOpenNext c → IsTrue (start_fits i.shape (next_start c).line (next_start c).width (next_start c))
+pub next_fits : (i : Image) (w : World) (c : Core) → IsSimpleMount i w → Stands i (log_of w) c → MayOpenNext c
+    → IsTrue (start_fits i.shape (next_start c).line (next_start c).width (next_start c))
 next_fits i w c simple st may =
     let is : IsNextLine i w c = next_line_is i w c simple st may in
     let first : c.start.first_seq ≡ st.beginning.beginning.seq = st.first_seq in
     let next : c.start.seq ≡ st.beginning.beginning.seq + length (openings (log_of w 0)) = st.next_seq in
     let some : 1 ≤ st.beginning.beginning.seq = begin_seq i w st.beginning simple.mount.legal st.has_begun in
-    let none : older_row i (log_of w) (next_line c) ≡ None = unstarted_row i (log_of w) (next_line c) (free_unstarted i (log_of w) (next_line c) (engine_plain i w simple) is.least.is_free) in
+    let none : older_row i (log_of w) (next_line c) ≡ None =
+    unstarted_row i (log_of w) (next_line c) (free_unstarted i (log_of w) (next_line c) (engine_plain i w simple) is.least.is_free) in
     let from : 0 + next_line c ≡ next_line c = omega arith in
-    let fewer : length (older_rows i (log_of w)) + 1 ≤ i.shape.chunks = fewer_made (older_row i (log_of w)) 0 i.shape.chunks (next_line c) (ap (older_row i (log_of w)) from ∙ none) is.least.in_range in
+    let fewer : length (older_rows i (log_of w)) + 1 ≤ i.shape.chunks =
+    fewer_made (older_row i (log_of w)) 0 i.shape.chunks (next_line c) (ap (older_row i (log_of w)) from ∙ none) is.least.in_range in
     let count : length (start_numbers c.start).rows ≡ length (older_rows i (log_of w)) = ap (λ (rs : List Row). length rs) st.older in
     record_fits i.shape (next_start c) st.own_capacity (omega arith) (omega arith) may.seq may.front (omega arith)
     (subst (λ (rs : List Row). rows_fit i.shape (next_start c) 0 rs ≡ true) (sym st.older)
@@ -117,7 +129,8 @@ next_fits i w c simple st may =
     (subst (AllByRecursion (IsOlder c.start.first_seq c.first)) st.older st.fits.rows)))
   where
     unstarted_row : (i : Image) (logs : Logs) (line : ℕ) → start_of (found_image i logs) line ≡ None → older_row i logs line ≡ None
-    unstarted_row i logs line none = ap (λ o. if is_as_found (life_of (logs 0) line) then found_row i logs line o else None) none ∙ either (is_as_found (life_of (logs 0) line))
+    unstarted_row i logs line none = ap (λ o. if is_as_found (life_of (logs 0) line) then found_row i logs line o else None) none
+        ∙ either (is_as_found (life_of (logs 0) line))
       where
         either : (b : Bool) → ◌≡◌ {A = Option Row} (cond b None None) None
         either true = refl

@@ -56,19 +56,22 @@ abbrev pub row_if : Bool → ℕ → Hold → Hold
 row_if true line h = with_line line h
 row_if false line h = h
 
-row_else : (line n p q : ℕ) (rows : List Hold) (h : Hold) → length rows ≡ n → q % n ≢ p % n → slice_get rows (p % n) ≡ Some h → slice_get (row_placed line rows q) (p % n) ≡ Some h
+row_else : (line n p q : ℕ) (rows : List Hold) (h : Hold) → length rows ≡ n → q % n ≢ p % n → slice_get rows (p % n) ≡ Some h
+    → slice_get (row_placed line rows q) (p % n) ≡ Some h
 row_else line n p q rows h count apart there = go (row_at rows q) ∙ there
   where
     go : (o : Option Hold) → slice_get (option_map_or (λ h. slice_set rows (q % length rows) (with_line line h)) o rows) (p % n) ≡ slice_get rows (p % n)
     go None = refl
     go (Some h) = get_set_other rows (q % length rows) (p % n) (with_line line h) (λ e. apart (ap (λ m. q % m) (sym count) ∙ sym e))
 
-row_here : (line n p q : ℕ) (rows : List Hold) (h : Hold) → 0 < n → length rows ≡ n → q ≡ p → slice_get rows (p % n) ≡ Some h → slice_get (row_placed line rows q) (p % n) ≡ Some (with_line line h)
+row_here : (line n p q : ℕ) (rows : List Hold) (h : Hold) → 0 < n → length rows ≡ n → q ≡ p → slice_get rows (p % n) ≡ Some h
+    → slice_get (row_placed line rows q) (p % n) ≡ Some (with_line line h)
 row_here line n p q rows h some count same there =
     let at : row_at rows q ≡ Some h = ap₂ (λ a b. slice_get rows (a % b)) same count ∙ there in
     let inside : p % n < length rows = slice_get_within rows (p % n) h there in
     ap (λ o. slice_get (option_map_or (λ h. slice_set rows (q % length rows) (with_line line h)) o rows) (p % n)) at
-    ∙ get_set_same rows (q % length rows) (p % n) (with_line line h) (ap₂ (λ a b. a % b) (sym same) (sym count)) (subst (λ k. k < length rows) (ap₂ (λ a b. a % b) (sym same) (sym count)) inside)
+    ∙ get_set_same rows (q % length rows) (p % n) (with_line line h) (ap₂ (λ a b. a % b) (sym same) (sym count))
+    (subst (λ k. k < length rows) (ap₂ (λ a b. a % b) (sym same) (sym count)) inside)
 
 pub row_after : (line n p : ℕ) (qs : List ℕ) (rows : List Hold) (h : Hold) → 0 < n → length rows ≡ n → AreApart n p qs → slice_get rows (p % n) ≡ Some h
     → slice_get (placed_rows line rows qs) (p % n) ≡ Some (row_if (list_any (λ q. q == p) qs) line h)
@@ -80,7 +83,9 @@ row_after line n p (q ∷ qs) rows h some count apart there =
     twice true = refl
     twice false = refl
 
-    go : (b : Bool) → (q == p) ≡ b → ((g : Hold) → slice_get (row_placed line rows q) (p % n) ≡ Some g → slice_get (placed_rows line (row_placed line rows q) qs) (p % n) ≡ Some (row_if (list_any (λ q. q == p) qs) line g))
+    go : (b : Bool) → (q == p) ≡ b
+        → ((g : Hold) → slice_get (row_placed line rows q) (p % n) ≡ Some g
+        → slice_get (placed_rows line (row_placed line rows q) qs) (p % n) ≡ Some (row_if (list_any (λ q. q == p) qs) line g))
         → slice_get (placed_rows line (row_placed line rows q) qs) (p % n) ≡ Some (row_if (b || list_any (λ q. q == p) qs) line h)
     go true e rest = rest (with_line line h) (row_here line n p q rows h some count (eqb-true q p e) there) ∙ ap Some (twice (list_any (λ q. q == p) qs))
     go false e rest = rest h (row_else line n p q rows h count (apart.0 (λ f. true_false (sym (ap (λ m. m == p) f ∙ same_number p) ∙ e))) there)
@@ -92,7 +97,8 @@ row_after line n p (q ∷ qs) rows h some count apart there =
 
 later_is_next : (log : List Logged) (t : Taken) → later_take log t ≡ next_take log t
 later_is_next log t =
-    find_same (λ (u : Taken). nat_lt t.entry.position u.entry.position && (u.mark.lba == t.mark.lba)) (λ (u : Taken). (u.mark.lba == t.mark.lba) && nat_lt t.entry.position u.entry.position)
+    find_same (λ (u : Taken). nat_lt t.entry.position u.entry.position && (u.mark.lba == t.mark.lba))
+    (λ (u : Taken). (u.mark.lba == t.mark.lba) && nat_lt t.entry.position u.entry.position)
     (λ u. swapped (nat_lt t.entry.position u.entry.position) (u.mark.lba == t.mark.lba)) (takes log)
   where
     swapped : (a b : Bool) → (a && b) ≡ (b && a)
@@ -104,33 +110,41 @@ later_is_next log t =
 abbrev taker_by : Option Taken → Option ℕ
 taker_by o = option_map (λ (u : Taken). u.entry.position) o
 
-pub lines_placed_are : (s : Shape) (log : List Logged) (line : ℕ) (rows : List Hold) (table : Table) (ts : List Taken) → AllByRecursion (λ (t : Taken). row_at rows t.entry.position ≡ Some (hold_of s log t)) ts
+pub lines_placed_are : (s : Shape) (log : List Logged) (line : ℕ) (rows : List Hold) (table : Table) (ts : List Taken)
+    → AllByRecursion (λ (t : Taken). row_at rows t.entry.position ≡ Some (hold_of s log t)) ts
     → placed_lines rows line table (positions_of ts) ≡ place_entries log line table ts
 lines_placed_are s log line rows table [] all = refl
 lines_placed_are s log line rows table (t ∷ ts) all =
-    ap (λ (u : Table). placed_lines rows line u (positions_of ts)) (ap (place_hold line table) all.0 ∙ ap (λ o. place_by (taker_by o) line table) (later_is_next log t))
+    ap (λ (u : Table). placed_lines rows line u (positions_of ts))
+    (ap (place_hold line table) all.0 ∙ ap (λ o. place_by (taker_by o) line table) (later_is_next log t))
     ∙ lines_placed_are s log line rows (place_entry log line table t) ts all.1
 
-pub lines_noted_are : (s : Shape) (log : List Logged) (line : ℕ) (rows : List Hold) (table : Table) (ts : List Taken) → AllByRecursion (λ (t : Taken). row_at rows t.entry.position ≡ Some (hold_of s log t)) ts
+pub lines_noted_are : (s : Shape) (log : List Logged) (line : ℕ) (rows : List Hold) (table : Table) (ts : List Taken)
+    → AllByRecursion (λ (t : Taken). row_at rows t.entry.position ≡ Some (hold_of s log t)) ts
     → noted_lines rows line table (positions_of ts) ≡ note_entries log line table ts
 lines_noted_are s log line rows table [] all = refl
 lines_noted_are s log line rows table (t ∷ ts) all =
-    ap (λ (u : Table). noted_lines rows line u (positions_of ts)) (ap (note_hold line table) all.0 ∙ ap (λ o. note_by (taker_by o) line table) (later_is_next log t))
+    ap (λ (u : Table). noted_lines rows line u (positions_of ts))
+    (ap (note_hold line table) all.0 ∙ ap (λ o. note_by (taker_by o) line table) (later_is_next log t))
     ∙ lines_noted_are s log line rows (note_entry log line table t) ts all.1
 
 -- ---- the rows by the log
 
-unplaced_among : (s : Shape) (log : List Logged) (p : ℕ) (ts : List Taken) → AllByRecursion (λ (t : Taken). placed_line s log t.entry.position ≡ None) ts → list_any (λ q. q == p) (positions_of ts) ≡ true → placed_line s log p ≡ None
+unplaced_among : (s : Shape) (log : List Logged) (p : ℕ) (ts : List Taken) → AllByRecursion (λ (t : Taken). placed_line s log t.entry.position ≡ None) ts
+    → list_any (λ q. q == p) (positions_of ts) ≡ true → placed_line s log p ≡ None
 unplaced_among s log p [] all e = absurd cc
 unplaced_among s log p (t ∷ ts) all e = go (t.entry.position == p) refl e (unplaced_among s log p ts all.1)
   where
-    go : (b : Bool) → (t.entry.position == p) ≡ b → (b || list_any (λ q. q == p) (positions_of ts)) ≡ true → (list_any (λ q. q == p) (positions_of ts) ≡ true → placed_line s log p ≡ None) → placed_line s log p ≡ None
+    go : (b : Bool) → (t.entry.position == p) ≡ b → (b || list_any (λ q. q == p) (positions_of ts)) ≡ true
+        → (list_any (λ q. q == p) (positions_of ts) ≡ true → placed_line s log p ≡ None) → placed_line s log p ≡ None
     go true f g rest = ap (placed_line s log) (sym (eqb-true t.entry.position p f)) ∙ all.0
     go false f g rest = rest g
 
 -- two entries whose rows stand at one place are one
-one_row : (i : Image) (w : World) (c : Core) (t u : Taken) (j k : ℕ) → IsSimpleMount i w → slice_get (takes (log_of w 0)) j ≡ Some t → slice_get (takes (log_of w 0)) k ≡ Some u
-    → row_at c.holds.rows.items t.entry.position ≡ Some (hold_of i.shape (log_of w 0) t) → row_at c.holds.rows.items u.entry.position ≡ Some (hold_of i.shape (log_of w 0) u)
+one_row : (i : Image) (w : World) (c : Core) (t u : Taken) (j k : ℕ) → IsSimpleMount i w → slice_get (takes (log_of w 0)) j ≡ Some t
+    → slice_get (takes (log_of w 0)) k ≡ Some u
+    → row_at c.holds.rows.items t.entry.position ≡ Some (hold_of i.shape (log_of w 0) t)
+    → row_at c.holds.rows.items u.entry.position ≡ Some (hold_of i.shape (log_of w 0) u)
     → t.entry.position % length c.holds.rows.items ≡ u.entry.position % length c.holds.rows.items → t.entry.position ≡ u.entry.position
 one_row i w c t u j k simple at bt a b same =
     let marked = (ordered i w simple).marked in
@@ -145,11 +159,15 @@ all_mapped f P [] all = tt
 all_mapped f P (x ∷ xs) all = (all.0, all_mapped f P xs all.1)
 
 -- the row of each entry that isn't given back, once the first that wait are placed
-pub row_placed_is : (i : Image) (w : World) (c : Core) (stripe : Stripe) (knows : List ℕ) (o : Opening) (n : ℕ) (t : Taken) → IsSimpleMount i w → Stands i (log_of w) c → IsPlacing (log_of w 0) stripe o
-    → positions_in_stripe i.shape stripe ≡ positions_of (take n (waiting i.shape (log_of w 0))) → Contains (takes (log_of w 0)) t → is_given_back i.shape (log_of w 0) t.entry.position ≡ false
-    → slice_get (placed_rows stripe.line c.holds.rows.items (positions_of (take n (waiting i.shape (log_of w 0))))) (t.entry.position % i.shape.ring) ≡ Some (hold_of i.shape (with_place (log_of w 0) stripe knows) t)
+pub row_placed_is : (i : Image) (w : World) (c : Core) (stripe : Stripe) (knows : List ℕ) (o : Opening) (n : ℕ) (t : Taken) → IsSimpleMount i w
+    → Stands i (log_of w) c → IsPlacing (log_of w 0) stripe o
+    → positions_in_stripe i.shape stripe ≡ positions_of (take n (waiting i.shape (log_of w 0))) → Contains (takes (log_of w 0)) t
+    → is_given_back i.shape (log_of w 0) t.entry.position ≡ false
+    → slice_get (placed_rows stripe.line c.holds.rows.items (positions_of (take n (waiting i.shape (log_of w 0))))) (t.entry.position % i.shape.ring) ≡ Some
+    (hold_of i.shape (with_place (log_of w 0) stripe knows) t)
 row_placed_is i w c stripe knows o n t simple st placing positions among kept =
-    row_after stripe.line i.shape.ring t.entry.position (positions_of ts) c.holds.rows.items (hold_of s log t) (ring_some s simple.mount.accepted) st.holds.room apart row
+    row_after stripe.line i.shape.ring t.entry.position (positions_of ts) c.holds.rows.items (hold_of s log t)
+    (ring_some s simple.mount.accepted) st.holds.room apart row
     ∙ ap Some (go (list_any (λ q. q == t.entry.position) (positions_of ts)) refl)
   where
     s : Shape
@@ -171,20 +189,26 @@ row_placed_is i w c stripe knows o n t simple st placing positions among kept =
     wait k u e = waiting_at i w c k u simple st (get_whole n (waiting i.shape (log_of w 0)) k u e)
 
     apart : AreApart i.shape.ring t.entry.position (positions_of (take n (waiting i.shape (log_of w 0))))
-    apart = all_mapped (λ (u : Taken). u.entry.position) (λ q. q ≢ t.entry.position → q % i.shape.ring ≢ t.entry.position % i.shape.ring) (take n (waiting i.shape (log_of w 0)))
-        (all_by_get (λ (u : Taken). u.entry.position ≢ t.entry.position → u.entry.position % i.shape.ring ≢ t.entry.position % i.shape.ring) (take n (waiting i.shape (log_of w 0)))
+    apart = all_mapped (λ (u : Taken). u.entry.position) (λ q. q ≢ t.entry.position → q % i.shape.ring ≢ t.entry.position % i.shape.ring)
+        (take n (waiting i.shape (log_of w 0)))
+        (all_by_get (λ (u : Taken). u.entry.position ≢ t.entry.position → u.entry.position % i.shape.ring ≢ t.entry.position % i.shape.ring)
+        (take n (waiting i.shape (log_of w 0)))
         (λ k u e other same.
         let is : IsWaiting i w c u k = wait k u e in
         other (one_row i w c u t is.number among.0 simple is.there there is.row (row_of_entry i w c t among.0 st there kept)
         (ap (λ m. u.entry.position % m) st.holds.room ∙ same ∙ sym (ap (λ m. t.entry.position % m) st.holds.room)))))
 
-    bears : list_any (bears_position i.shape t.entry.position) stripe.blocks ≡ list_any (λ q. q == t.entry.position) (positions_of (take n (waiting i.shape (log_of w 0))))
+    bears : list_any (bears_position i.shape t.entry.position) stripe.blocks ≡ list_any (λ q. q == t.entry.position)
+        (positions_of (take n (waiting i.shape (log_of w 0))))
     bears = bears_is i.shape t.entry.position stripe.blocks ∙ ap (list_any (λ q. q == t.entry.position)) positions
 
-    taker_same : option_map (λ (u : Taken). u.entry.position) (later_take (with_place (log_of w 0) stripe knows) t) ≡ option_map (λ (u : Taken). u.entry.position) (later_take (log_of w 0) t)
+    taker_same : option_map (λ (u : Taken). u.entry.position) (later_take (with_place (log_of w 0) stripe knows) t) ≡ option_map
+        (λ (u : Taken). u.entry.position) (later_take (log_of w 0) t)
     taker_same = ap (option_map (λ (u : Taken). u.entry.position)) (later_same (log_of w 0) (record { event = Decides (Place stripe); knows = knows }) t refl)
 
-    with_line_of : (a : Option ℕ) → a ≡ placed_line i.shape (with_place (log_of w 0) stripe knows) t.entry.position → ◌≡◌ {A = Hold} (record { mark = t.mark; line = a; taker = option_map (λ (u : Taken). u.entry.position) (later_take (log_of w 0) t) }) (hold_of i.shape (with_place (log_of w 0) stripe knows) t)
+    with_line_of : (a : Option ℕ) → a ≡ placed_line i.shape (with_place (log_of w 0) stripe knows) t.entry.position
+        → ◌≡◌ {A = Hold} (record { mark = t.mark; line = a; taker = option_map (λ (u : Taken). u.entry.position) (later_take (log_of w 0) t) })
+        (hold_of i.shape (with_place (log_of w 0) stripe knows) t)
     with_line_of a e = λ j. record { mark = t.mark; line = e j; taker = sym taker_same j }
 
     go : (b : Bool) → list_any (λ q. q == t.entry.position) (positions_of (take n (waiting i.shape (log_of w 0)))) ≡ b
@@ -192,6 +216,8 @@ row_placed_is i w c stripe knows o n t simple st placing positions among kept =
     go true e = with_line_of (Some stripe.line)
         (sym (line_of_stripe i.shape (log_of w 0) stripe knows o t.entry.position placing
         (unplaced_among i.shape (log_of w 0) t.entry.position (take n (waiting i.shape (log_of w 0)))
-        (all_by_get (λ (u : Taken). placed_line i.shape (log_of w 0) u.entry.position ≡ None) (take n (waiting i.shape (log_of w 0))) (λ k u f. IsWaiting.unplaced (wait k u f))) e)
+        (all_by_get (λ (u : Taken). placed_line i.shape (log_of w 0) u.entry.position ≡ None) (take n (waiting i.shape (log_of w 0)))
+        (λ k u f. IsWaiting.unplaced (wait k u f))) e)
         (bears ∙ e)))
-    go false e = with_line_of (placed_line i.shape (log_of w 0) t.entry.position) (sym (line_of_others i.shape (log_of w 0) stripe knows o t.entry.position placing (bears ∙ e)))
+    go false e = with_line_of (placed_line i.shape (log_of w 0) t.entry.position)
+        (sym (line_of_others i.shape (log_of w 0) stripe knows o t.entry.position placing (bears ∙ e)))

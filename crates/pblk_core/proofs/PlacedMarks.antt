@@ -29,19 +29,22 @@ use Rattle.lemmas.proofs.Tests.{other_number, same_number}
 
 -- ---- how many haven't landed
 
-none_landed : (log : List Logged) (stripe : Stripe) (knows : List ℕ) (o : Opening) (b : Bool) (xs : List Placed) → IsPlacing log stripe o → AllByRecursion (λ (p : Placed). p.number < length log) xs
+none_landed : (log : List Logged) (stripe : Stripe) (knows : List ℕ) (o : Opening) (b : Bool) (xs : List Placed) → IsPlacing log stripe o
+    → AllByRecursion (λ (p : Placed). p.number < length log) xs
     → filter (has_landed (with_place log stripe knows)) (xs ++ cond b (new_placed log stripe o ∷ []) []) ≡ filter (has_landed log) xs
 none_landed log stripe knows o b xs is before = go b
   where
     rest : filter (has_landed (with_place log stripe knows)) xs ≡ filter (has_landed log) xs
-    rest = filter_agree (λ (p : Placed). p.number < length log) (has_landed (with_place log stripe knows)) (has_landed log) (λ p h. ap is_land (answer_now log stripe knows o p is.opened (le_of_lt h))) xs before
+    rest = filter_agree (λ (p : Placed). p.number < length log) (has_landed (with_place log stripe knows)) (has_landed log)
+        (λ p h. ap is_land (answer_now log stripe knows o p is.opened (le_of_lt h))) xs before
 
     go : (b : Bool) → filter (has_landed (with_place log stripe knows)) (xs ++ cond b (new_placed log stripe o ∷ []) []) ≡ filter (has_landed log) xs
     go true = filter_last (has_landed (with_place log stripe knows)) xs (new_placed log stripe o) false (ap is_land (new_unanswered log stripe knows o is))
         ∙ append-nil (filter (has_landed (with_place log stripe knows)) xs) ∙ rest
     go false = ap (filter (has_landed (with_place log stripe knows))) (append-nil xs) ∙ rest
 
-pub unlanded_placed : (s : Shape) (log : List Logged) (stripe : Stripe) (knows : List ℕ) (o other : Opening) → IsPlacing log stripe o → unlanded s (with_place log stripe knows) other ≡ unlanded s log other
+pub unlanded_placed : (s : Shape) (log : List Logged) (stripe : Stripe) (knows : List ℕ) (o other : Opening) → IsPlacing log stripe o
+    → unlanded s (with_place log stripe knows) other ≡ unlanded s log other
 unlanded_placed s log stripe knows o other is =
     ap (λ (ps : List Placed). other.start.width * (s.clba / s.ws_opt) - length ps)
     (ap (filter (has_landed (with_place log stripe knows))) (stripes_now log stripe knows o other (is_life other.number (Opened o)) is.opened refl)
@@ -68,7 +71,8 @@ at_end xs ys a b from within =
 abbrev pub line_blocks : List Logged → Opening → List Block
 line_blocks log o = flat_map (λ p. p.stripe.blocks) (stripes_of log o)
 
-blocks_now : (log : List Logged) (stripe : Stripe) (knows : List ℕ) (o other : Opening) (b : Bool) → life_of log stripe.line ≡ Opened o → is_life other.number (Opened o) ≡ b
+blocks_now : (log : List Logged) (stripe : Stripe) (knows : List ℕ) (o other : Opening) (b : Bool) → life_of log stripe.line ≡ Opened o
+    → is_life other.number (Opened o) ≡ b
     → line_blocks (with_place log stripe knows) other ≡ line_blocks log other ++ cond b stripe.blocks []
 blocks_now log stripe knows o other b opened is =
     ap (flat_map (λ (p : Placed). p.stripe.blocks)) (stripes_now log stripe knows o other b opened is)
@@ -80,25 +84,31 @@ blocks_now log stripe knows o other b opened is =
     last false = refl
 
 -- of another opening
-pub marks_elsewhere : (s : Shape) (log : List Logged) (stripe : Stripe) (knows : List ℕ) (o other : Opening) → life_of log stripe.line ≡ Opened o → is_life other.number (Opened o) ≡ false
+pub marks_elsewhere : (s : Shape) (log : List Logged) (stripe : Stripe) (knows : List ℕ) (o other : Opening) → life_of log stripe.line ≡ Opened o
+    → is_life other.number (Opened o) ≡ false
     → data_marks s (with_place log stripe knows) other ≡ data_marks s log other
 marks_elsewhere s log stripe knows o other opened apart =
     ap (λ (bs : List Block). map (λ (b : Block). b.mark) (slice_range bs (start_len s) (end_address s other)))
     (blocks_now log stripe knows o other false opened apart ∙ append-nil (line_blocks log other))
 
 marks_of_it : (s : Shape) (log : List Logged) (stripe : Stripe) (knows : List ℕ) (o : Opening) → life_of log stripe.line ≡ Opened o
-    → data_marks s (with_place log stripe knows) o ≡ map (λ (b : Block). b.mark) (slice_range (line_blocks log o ++ stripe.blocks) (start_len s) (end_address s o))
+    → data_marks s (with_place log stripe knows) o ≡ map (λ (b : Block). b.mark)
+    (slice_range (line_blocks log o ++ stripe.blocks) (start_len s) (end_address s o))
 marks_of_it s log stripe knows o opened =
-    ap (λ (bs : List Block). map (λ (b : Block). b.mark) (slice_range bs (start_len s) (end_address s o))) (blocks_now log stripe knows o o true opened (same_number o.number))
+    ap (λ (bs : List Block). map (λ (b : Block). b.mark) (slice_range bs (start_len s) (end_address s o)))
+    (blocks_now log stripe knows o o true opened (same_number o.number))
 
 -- of a stripe of the start record
-pub marks_before : (s : Shape) (log : List Logged) (stripe : Stripe) (knows : List ℕ) (o : Opening) → life_of log stripe.line ≡ Opened o → length (line_blocks log o) + length stripe.blocks ≤ start_len s
+pub marks_before : (s : Shape) (log : List Logged) (stripe : Stripe) (knows : List ℕ) (o : Opening) → life_of log stripe.line ≡ Opened o
+    → length (line_blocks log o) + length stripe.blocks ≤ start_len s
     → data_marks s (with_place log stripe knows) o ≡ data_marks s log o
 marks_before s log stripe knows o opened within =
-    marks_of_it s log stripe knows o opened ∙ ap (map (λ (b : Block). b.mark)) (past_front (line_blocks log o) stripe.blocks (start_len s) (end_address s o) within)
+    marks_of_it s log stripe knows o opened
+    ∙ ap (map (λ (b : Block). b.mark)) (past_front (line_blocks log o) stripe.blocks (start_len s) (end_address s o) within)
 
 -- of data
-pub marks_more : (s : Shape) (log : List Logged) (stripe : Stripe) (knows : List ℕ) (o : Opening) → life_of log stripe.line ≡ Opened o → start_len s ≤ length (line_blocks log o)
+pub marks_more : (s : Shape) (log : List Logged) (stripe : Stripe) (knows : List ℕ) (o : Opening) → life_of log stripe.line ≡ Opened o
+    → start_len s ≤ length (line_blocks log o)
     → length (line_blocks log o) + length stripe.blocks ≤ end_address s o
     → data_marks s (with_place log stripe knows) o ≡ data_marks s log o ++ map (λ (b : Block). b.mark) stripe.blocks
 marks_more s log stripe knows o opened from within =
@@ -107,10 +117,12 @@ marks_more s log stripe knows o opened from within =
     ∙ map-append (λ (b : Block). b.mark) (slice_range (line_blocks log o) (start_len s) (end_address s o)) stripe.blocks
 
 -- of the end record
-pub marks_beyond : (s : Shape) (log : List Logged) (stripe : Stripe) (knows : List ℕ) (o : Opening) → life_of log stripe.line ≡ Opened o → end_address s o ≤ length (line_blocks log o)
+pub marks_beyond : (s : Shape) (log : List Logged) (stripe : Stripe) (knows : List ℕ) (o : Opening) → life_of log stripe.line ≡ Opened o
+    → end_address s o ≤ length (line_blocks log o)
     → data_marks s (with_place log stripe knows) o ≡ data_marks s log o
 marks_beyond s log stripe knows o opened within =
-    marks_of_it s log stripe knows o opened ∙ ap (map (λ (b : Block). b.mark)) (beyond_end (line_blocks log o) stripe.blocks (start_len s) (end_address s o) (omega arith) within)
+    marks_of_it s log stripe knows o opened
+    ∙ ap (map (λ (b : Block). b.mark)) (beyond_end (line_blocks log o) stripe.blocks (start_len s) (end_address s o) (omega arith) within)
 
 pub marks_of_blocks : (size : ℕ) (bytes : List ℕ) (marks : List Mark) → map (λ (b : Block). b.mark) (blocks_of size bytes marks) ≡ marks
 marks_of_blocks size bytes [] = refl
@@ -121,28 +133,35 @@ marks_of_blocks size bytes (m ∷ marks) = ap (λ ms. m ∷ ms) (marks_of_blocks
 idle_before : (log : List Logged) (stripe : Stripe) (o : Opening) → IsPlacing log stripe o → is_some (unanswered_on log stripe.unit) ≡ false
 idle_before log stripe o is = ap is_some (slice_get_past (placed_on log stripe.unit) (length (answers log stripe.unit)) (omega (arith, is.idle)))
 
-busy_after : (log : List Logged) (stripe : Stripe) (knows : List ℕ) (o : Opening) → IsPlacing log stripe o → is_some (unanswered_on (with_place log stripe knows) stripe.unit) ≡ true
+busy_after : (log : List Logged) (stripe : Stripe) (knows : List ℕ) (o : Opening) → IsPlacing log stripe o
+    → is_some (unanswered_on (with_place log stripe knows) stripe.unit) ≡ true
 busy_after log stripe knows o is =
-    ap is_some (ap₂ (λ (ps : List Placed) n. slice_get ps n) (placed_on_now log stripe knows o stripe.unit true is.opened (same_number stripe.unit)) (ap (λ (xs : List _). length xs) (answers_now log stripe knows stripe.unit))
+    ap is_some (ap₂ (λ (ps : List Placed) n. slice_get ps n) (placed_on_now log stripe knows o stripe.unit true is.opened (same_number stripe.unit))
+    (ap (λ (xs : List _). length xs) (answers_now log stripe knows stripe.unit))
     ∙ got_end (placed_on log stripe.unit) (new_placed log stripe o) (length (answers log stripe.unit)) is.idle)
 
 same_elsewhere : (log : List Logged) (stripe : Stripe) (knows : List ℕ) (o : Opening) (unit : ℕ) → IsPlacing log stripe o → stripe.unit ≢ unit
     → is_some (unanswered_on (with_place log stripe knows) unit) ≡ is_some (unanswered_on log unit)
 same_elsewhere log stripe knows o unit is other =
-    ap is_some (ap₂ (λ (ps : List Placed) n. slice_get ps n) (placed_on_now log stripe knows o unit false is.opened (other_number stripe.unit unit other) ∙ append-nil (placed_on log unit)) (ap (λ (xs : List _). length xs) (answers_now log stripe knows unit)))
+    ap is_some (ap₂ (λ (ps : List Placed) n. slice_get ps n)
+    (placed_on_now log stripe knows o unit false is.opened (other_number stripe.unit unit other) ∙ append-nil (placed_on log unit))
+    (ap (λ (xs : List _). length xs) (answers_now log stripe knows unit)))
 
-counted_same : (f g : ℕ → Bool) (u a n : ℕ) → u < a → ((m : ℕ) → u ≢ m → g m ≡ f m) → length (filter g (range_with_len a n)) ≡ length (filter f (range_with_len a n))
+counted_same : (f g : ℕ → Bool) (u a n : ℕ) → u < a → ((m : ℕ) → u ≢ m → g m ≡ f m)
+    → length (filter g (range_with_len a n)) ≡ length (filter f (range_with_len a n))
 counted_same f g u a zero below same = refl
 counted_same f g u a (suc n) below same =
     ap (λ b. length (cond b (a ∷ filter g (range_with_len (a + 1) n)) (filter g (range_with_len (a + 1) n)))) (same a (λ e. absurd (omega (arith, e))))
     ∙ go (f a) (counted_same f g u (a + 1) n (omega arith) same)
   where
     go : (b : Bool) → length (filter g (range_with_len (a + 1) n)) ≡ length (filter f (range_with_len (a + 1) n))
-        → length (cond b (a ∷ filter g (range_with_len (a + 1) n)) (filter g (range_with_len (a + 1) n))) ≡ length (cond b (a ∷ filter f (range_with_len (a + 1) n)) (filter f (range_with_len (a + 1) n)))
+        → length (cond b (a ∷ filter g (range_with_len (a + 1) n)) (filter g (range_with_len (a + 1) n))) ≡ length
+        (cond b (a ∷ filter f (range_with_len (a + 1) n)) (filter f (range_with_len (a + 1) n)))
     go true rest = ap suc rest
     go false rest = rest
 
-counted_more : (f g : ℕ → Bool) (u a n : ℕ) → a ≤ u → u < a + n → f u ≡ false → g u ≡ true → ((m : ℕ) → u ≢ m → g m ≡ f m) → length (filter g (range_with_len a n)) ≡ length (filter f (range_with_len a n)) + 1
+counted_more : (f g : ℕ → Bool) (u a n : ℕ) → a ≤ u → u < a + n → f u ≡ false → g u ≡ true → ((m : ℕ) → u ≢ m → g m ≡ f m)
+    → length (filter g (range_with_len a n)) ≡ length (filter f (range_with_len a n)) + 1
 counted_more f g u a zero low high was now same = absurd (omega arith)
 counted_more f g u a (suc n) low high was now same = go (a == u) refl (λ further. counted_more f g u (a + 1) n further (omega arith) was now same)
   where
@@ -154,7 +173,8 @@ counted_more f g u a (suc n) low high was now same = go (a == u) refl (λ furthe
         → length (filter g (range_with_len a (suc n))) ≡ length (filter f (range_with_len a (suc n))) + 1
     go true e more =
         let same_unit : a ≡ u = eqb-true a u e in
-        let rest : length (filter g (range_with_len (a + 1) n)) ≡ length (filter f (range_with_len (a + 1) n)) = counted_same f g u (a + 1) n (omega arith) same in
+        let rest : length (filter g (range_with_len (a + 1) n)) ≡ length (filter f (range_with_len (a + 1) n)) =
+        counted_same f g u (a + 1) n (omega arith) same in
         ap (λ b. length (cond b (a ∷ filter g (range_with_len (a + 1) n)) (filter g (range_with_len (a + 1) n)))) (ap g same_unit ∙ now)
         ∙ omega (arith, rest)
         ∙ sym (ap (λ b. length (cond b (a ∷ filter f (range_with_len (a + 1) n)) (filter f (range_with_len (a + 1) n))) + 1) (ap f same_unit ∙ was))
@@ -170,7 +190,8 @@ counted_more f g u a (suc n) low high was now same = go (a == u) refl (λ furthe
 pub one_more_under_way : (s : Shape) (log : List Logged) (stripe : Stripe) (knows : List ℕ) (o : Opening) → IsPlacing log stripe o → stripe.unit < units s
     → under_way s (with_place log stripe knows) ≡ under_way s log + 1
 one_more_under_way s log stripe knows o is inside =
-    counted_more (λ unit. is_some (unanswered_on log unit)) (λ unit. is_some (unanswered_on (with_place log stripe knows) unit)) stripe.unit 0 (units s) (omega arith) (omega arith)
+    counted_more (λ unit. is_some (unanswered_on log unit)) (λ unit. is_some (unanswered_on (with_place log stripe knows) unit)) stripe.unit 0 (units s)
+    (omega arith) (omega arith)
     (idle_before log stripe o is) (busy_after log stripe knows o is) (λ unit other. same_elsewhere log stripe knows o unit is other)
 
 pub few_under_way : (s : Shape) (log : List Logged) → under_way s log ≤ units s
@@ -180,4 +201,5 @@ few_under_way s log = few (λ unit. is_some (unanswered_on log unit)) 0 (units s
     few f a zero = omega arith
     few f a (suc n) =
         let rest : length (filter f (range_with_len (a + 1) n)) ≤ n = few f (a + 1) n in
-        elim (f a) as (λ b. length (cond b (a ∷ filter f (range_with_len (a + 1) n)) (filter f (range_with_len (a + 1) n))) ≤ suc n) [ true ↦ omega arith | false ↦ omega arith ]
+        elim (f a) as (λ b. length (cond b (a ∷ filter f (range_with_len (a + 1) n)) (filter f (range_with_len (a + 1) n))) ≤ suc n)
+        [ true ↦ omega arith | false ↦ omega arith ]

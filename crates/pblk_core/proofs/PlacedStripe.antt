@@ -71,7 +71,8 @@ pub record IsOfferedNow (i : Image) (w : World) (pad : ℕ) (o : Opening) (of : 
   pub may : (stripe : Stripe) → IsStripeFor i (log_of w) o of stripe → MayPlace i (log_of w) stripe
   pub its : (stripe : Stripe) → IsStripeFor i (log_of w) o of stripe → IsStripeOf i (log_of w) pad o stripe of
 
-in_part : (s : Shape) (o : Opening) (k c d : ℕ) (kind : StripeKind) → c * s.ws_opt ≡ start_len s → (c + d) * s.ws_opt ≡ end_address s o → IsPart k c d kind → IsInPart s o (k * s.ws_opt) kind
+in_part : (s : Shape) (o : Opening) (k c d : ℕ) (kind : StripeKind) → c * s.ws_opt ≡ start_len s → (c + d) * s.ws_opt ≡ end_address s o → IsPart k c d kind
+    → IsInPart s o (k * s.ws_opt) kind
 unfolding IsPart
 in_part s o k c d kinds.Start a b part = ends_before s.ws_opt k c (start_len s) a part
 in_part s o k c d kinds.Data a b part = (begins_after s.ws_opt k c (start_len s) a part.0, ends_before s.ws_opt k (c + d) (end_address s o) b part.1)
@@ -82,7 +83,8 @@ in_part s o k c d kinds.End a b part = begins_after s.ws_opt k (c + d) (end_addr
 has_one : {s : Shape} {e : Entries} {of : Program} (l : OpenLine) → (j : ℕ) × IsProgramIn s e l of j → has_left l ≡ true
 has_one l its = ap (λ b. b || list_any is_unanswered l.stripes) (found_some (is_to_place l) (numbers l) its.0 its.1.next)
 
-pub offered_now : (i : Image) (w : World) (pad : ℕ) (again : List ℕ) (busy : ℕ) (of : Program) → IsSimpleMount i w → next_stripe (placing_of i (log_of w) pad again) busy ≡ Some of
+pub offered_now : (i : Image) (w : World) (pad : ℕ) (again : List ℕ) (busy : ℕ) (of : Program) → IsSimpleMount i w
+    → next_stripe (placing_of i (log_of w) pad again) busy ≡ Some of
     → stopped_in (row_of i (log_of w) again of.unit) ≡ None → (o : Opening) × IsOfferedNow i w pad o of
 offered_now i w pad again busy of simple next none =
     let us : ℕ → List ℕ = line_units (known_image i (log_of w)) in
@@ -95,7 +97,9 @@ offered_now i w pad again busy of simple next none =
     let k : ℕ = length (stripes_of log o) in
     let c : ℕ = start_len i.shape / i.shape.ws_opt in
     let parts : HasParts i us w o = parts_of i us w o off.line_is in
-    let kind : kind_in k c l.data_count ≡ of.kind = sym (kind_by l k (unfailed l log (stripes_of log o) (stripe_count i us o.line - k) (engine_plain i w simple) (formed i us w o off.line_is))) ∙ off.kind in
+    let kind : kind_in k c l.data_count ≡ of.kind =
+    sym (kind_by l k (unfailed l log (stripes_of log o) (stripe_count i us o.line - k) (engine_plain i w simple) (formed i us w o off.line_is)))
+    ∙ off.kind in
     let life : life_of log of.line ≡ Opened o = ap (life_of log) off.its_line ∙ off.life in
     let for = offered_is_for i us w pad again busy of is next none in
     let same : for.0 ≡ o = opened_same for.0 o (sym for.1.opened ∙ life) in
@@ -110,7 +114,8 @@ offered_now i w pad again busy of simple next none =
         unit = program.unit;
         at = off.at;
         whole = program.at;
-        part = subst (λ a. IsInPart i.shape o a of.kind) (sym off.at) (in_part i.shape o k c l.data_count of.kind parts.start_is parts.ends_is (subst (IsPart k c l.data_count) kind (part_of k c l.data_count)));
+        part = subst (λ a. IsInPart i.shape o a of.kind) (sym off.at)
+            (in_part i.shape o k c l.data_count of.kind parts.start_is parts.ends_is (subst (IsPart k c l.data_count) kind (part_of k c l.data_count)));
         positions = program.positions;
         may = λ stripe its. next_may_be_placed i us w pad again busy of o stripe is next none its;
         its = λ stripe its. next_is_its i us w pad again busy of o stripe is next none its;
@@ -137,19 +142,23 @@ started k c b e = go (nat_le c k) refl e
     go false f g = absurd cc
 
 -- a stripe of data stands behind the start record
-data_after : (s : Shape) (log : List Logged) (o : Opening) → start_len s / s.ws_opt * s.ws_opt ≡ start_len s → has_landed_start s log o ≡ true → start_len s ≤ next_address s log o
+data_after : (s : Shape) (log : List Logged) (o : Opening) → start_len s / s.ws_opt * s.ws_opt ≡ start_len s → has_landed_start s log o ≡ true
+    → start_len s ≤ next_address s log o
 data_after s log o whole landed =
-    let within : start_len s / s.ws_opt ≤ length (stripes_of log o) = started (length (stripes_of log o)) (start_len s / s.ws_opt) (list_all (has_landed log) (take (start_len s / s.ws_opt) (stripes_of log o))) landed in
+    let within : start_len s / s.ws_opt ≤ length (stripes_of log o) =
+    started (length (stripes_of log o)) (start_len s / s.ws_opt) (list_all (has_landed log) (take (start_len s / s.ws_opt) (stripes_of log o))) landed in
     let product : start_len s / s.ws_opt * s.ws_opt ≤ length (stripes_of log o) * s.ws_opt = mul-le-mul_right s.ws_opt within in
     omega arith
 
 abbrev Kinds : Image → Logs → Opening → Stripe → Type 0
 Kinds i logs o stripe = IsStart i logs o stripe ⊎ (IsData i logs o stripe ⊎ (IsEnd i logs o stripe ⊎ IsPad i logs o stripe))
 
-one_kind : (i : Image) (logs : Logs) (o : Opening) (stripe : Stripe) (kind : StripeKind) → 0 < i.shape.ws_opt → start_len i.shape / i.shape.ws_opt * i.shape.ws_opt ≡ start_len i.shape → has_failed (logs 0) o ≡ false
+one_kind : (i : Image) (logs : Logs) (o : Opening) (stripe : Stripe) (kind : StripeKind) → 0 < i.shape.ws_opt
+    → start_len i.shape / i.shape.ws_opt * i.shape.ws_opt ≡ start_len i.shape → has_failed (logs 0) o ≡ false
     → IsInPart i.shape o (next_address i.shape (logs 0) o) kind → Kinds i logs o stripe → IsOfKind i logs o stripe kind
 one_kind i logs o stripe kinds.Start some whole fine part (inl is) = is
-one_kind i logs o stripe kinds.Start some whole fine part (inr (inl is)) = let after = data_after i.shape (logs 0) o whole is.start_landed in absurd (omega arith)
+one_kind i logs o stripe kinds.Start some whole fine part (inr (inl is)) = let after =
+    data_after i.shape (logs 0) o whole is.start_landed in absurd (omega arith)
 one_kind i logs o stripe kinds.Start some whole fine part (inr (inr (inl is))) = let from = is.from in absurd (omega arith)
 one_kind i logs o stripe kinds.Start some whole fine part (inr (inr (inr is))) = let failed : has_failed (logs 0) o ≡ true = is.failed in absurd cc
 one_kind i logs o stripe kinds.Data some whole fine part (inl is) = let a = part.0 in let b = is.within in absurd (omega arith)
@@ -157,12 +166,15 @@ one_kind i logs o stripe kinds.Data some whole fine part (inr (inl is)) = is
 one_kind i logs o stripe kinds.Data some whole fine part (inr (inr (inl is))) = let a = part.1 in let b = is.from in absurd (omega arith)
 one_kind i logs o stripe kinds.Data some whole fine part (inr (inr (inr is))) = let failed : has_failed (logs 0) o ≡ true = is.failed in absurd cc
 one_kind i logs o stripe kinds.Pad some whole fine part is = absurd part
-one_kind i logs o stripe kinds.End some whole fine part (inl is) = let a : next_address i.shape (logs 0) o < start_len i.shape = is.within in absurd (omega arith)
-one_kind i logs o stripe kinds.End some whole fine part (inr (inl is)) = let b : next_address i.shape (logs 0) o < end_address i.shape o = is.within in absurd (omega arith)
+one_kind i logs o stripe kinds.End some whole fine part (inl is) = let a : next_address i.shape (logs 0) o < start_len i.shape =
+    is.within in absurd (omega arith)
+one_kind i logs o stripe kinds.End some whole fine part (inr (inl is)) = let b : next_address i.shape (logs 0) o < end_address i.shape o =
+    is.within in absurd (omega arith)
 one_kind i logs o stripe kinds.End some whole fine part (inr (inr (inl is))) = is
 one_kind i logs o stripe kinds.End some whole fine part (inr (inr (inr is))) = let failed : has_failed (logs 0) o ≡ true = is.failed in absurd cc
 
-pub of_kind : (i : Image) (w : World) (pad : ℕ) (o : Opening) (of : Program) (stripe : Stripe) → IsSimpleMount i w → IsOfferedNow i w pad o of → IsStripeFor i (log_of w) o of stripe → IsOfKind i (log_of w) o stripe of.kind
+pub of_kind : (i : Image) (w : World) (pad : ℕ) (o : Opening) (of : Program) (stripe : Stripe) → IsSimpleMount i w → IsOfferedNow i w pad o of
+    → IsStripeFor i (log_of w) o of stripe → IsOfKind i (log_of w) o stripe of.kind
 of_kind i w pad o of stripe simple now for =
     let may : MayPlace i (log_of w) stripe = now.may stripe for in
     let same : may.opening ≡ o = opened_same may.opening o (sym may.is_open ∙ ap (life_of (log_of w 0)) for.line ∙ now.opened) in
@@ -179,9 +191,11 @@ pub record HasSlot (i : Image) (logs : Logs) (kept : OpenLines) (o : Opening) : 
   pub opening : slice_get (left_openings i logs) k ≡ Some o
   pub is : IsOpenLine i logs o slot
 
-pub has_slot : (i : Image) (w : World) (c : Core) (pad : ℕ) (o : Opening) (of : Program) → IsOfferedNow i w pad o of → Stands i (log_of w) c → HasSlot i (log_of w) c.open o
+pub has_slot : (i : Image) (w : World) (c : Core) (pad : ℕ) (o : Opening) (of : Program) → IsOfferedNow i w pad o of → Stands i (log_of w) c
+    → HasSlot i (log_of w) c.open o
 has_slot i w c pad o of now st =
-    let among : IsAmong (left_openings i (log_of w)) o = in_filter (λ (p : Opening). has_left (open_line i (log_of w) p)) (standing (log_of w 0)) o now.stands now.has in
+    let among : IsAmong (left_openings i (log_of w)) o =
+    in_filter (λ (p : Opening). has_left (open_line i (log_of w) p)) (standing (log_of w 0)) o now.stands now.has in
     let within : among.0 < length (left_openings i (log_of w)) = slice_get_within (left_openings i (log_of w)) among.0 o among.1 in
     let count : c.open.count ≡ length (left_openings i (log_of w)) = st.open_lines.count in
     let few : c.open.count ≤ 2 = st.open_lines.few in
@@ -197,7 +211,8 @@ has_slot i w c pad o of now st =
     }
 
 -- the place that is found is that of the line
-pub found_slot : (i : Image) (w : World) (c : Core) (pad : ℕ) (o : Opening) (of : Program) (result : ℕ) → IsOfferedNow i w pad o of → Stands i (log_of w) c → (has : HasSlot i (log_of w) c.open o)
+pub found_slot : (i : Image) (w : World) (c : Core) (pad : ℕ) (o : Opening) (of : Program) (result : ℕ) → IsOfferedNow i w pad o of → Stands i (log_of w) c
+    → (has : HasSlot i (log_of w) c.open o)
     → result < 2 → ((slot : KeptLine) → IsSlot c.open result slot → slot.records.line ≡ of.line)
     → ((slot : KeptLine) → IsSlot c.open 0 slot → slot.records.line ≡ of.line → result ≡ 0) → result ≡ has.k
 found_slot i w c pad o of result now st has inside line first = go has.k refl

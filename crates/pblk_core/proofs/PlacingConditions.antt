@@ -59,7 +59,8 @@ use Rattle.lemmas.proofs.Parts.{all_at, get_whole, got_within}
 
 pub offer : (i : Image) (w : World) (c : Core) (of : Program) → IsSimpleMount i w → Stands i (log_of w) c → Some of ≡ next_stripe c.placer 0
     → (o : Opening) × IsOfferedNow i w c.placer.entries.pad o of
-offer i w c of simple st next = offered_now i w c.placer.entries.pad st.again 0 of simple (ap (λ p. next_stripe p 0) (sym st.placing) ∙ sym next) (its_rows st of.unit)
+offer i w c of simple st next =
+    offered_now i w c.placer.entries.pad st.again 0 of simple (ap (λ p. next_stripe p 0) (sym st.placing) ∙ sym next) (its_rows st of.unit)
 
 -- the opening of the program, and its place among the open lines
 pub record IsFound (i : Image) (w : World) (c : Core) (of : Program) (result : ℕ) : Type 0 where
@@ -70,7 +71,8 @@ pub record IsFound (i : Image) (w : World) (c : Core) (of : Program) (result : �
 
 pub found : (i : Image) (w : World) (c : Core) (of : Program) (result : ℕ) → IsSimpleMount i w → Stands i (log_of w) c → Some of ≡ next_stripe c.placer 0
     → result < 2
-    → ((slot : KeptLine) → IsSlot c.open result slot → slot.records.line ≡ of.line) → ((slot : KeptLine) → IsSlot c.open 0 slot → slot.records.line ≡ of.line → result ≡ 0) → IsFound i w c of result
+    → ((slot : KeptLine) → IsSlot c.open result slot → slot.records.line ≡ of.line)
+    → ((slot : KeptLine) → IsSlot c.open 0 slot → slot.records.line ≡ of.line → result ≡ 0) → IsFound i w c of result
 found i w c of result simple st next inside line first =
     let its = offer i w c of simple st next in
     let has : HasSlot i (log_of w) c.open its.0 = has_slot i w c c.placer.entries.pad its.0 of its.1 st in
@@ -100,15 +102,18 @@ slot_is i w c of result slot f there =
 entry_at : (ts : List Taken) (k q : ℕ) → slice_get (positions_of ts) k ≡ Some q → (t : Taken) × (slice_get ts k ≡ Some t) × (t.entry.position ≡ q)
 entry_at ts k q e = go (slice_get ts k) refl (sym (get_mapped (λ (t : Taken). t.entry.position) ts k) ∙ e)
   where
-    go : (o : Option Taken) → slice_get ts k ≡ o → option_map (λ (t : Taken). t.entry.position) o ≡ Some q → (t : Taken) × (slice_get ts k ≡ Some t) × (t.entry.position ≡ q)
+    go : (o : Option Taken) → slice_get ts k ≡ o → option_map (λ (t : Taken). t.entry.position) o ≡ Some q
+        → (t : Taken) × (slice_get ts k ≡ Some t) × (t.entry.position ≡ q)
     go None f g = absurd (none-some q g)
     go (Some t) f g = (t, f, same_Some t.entry.position q g)
 
-pub in_the_window : (i : Image) (w : World) (c : Core) (o : Opening) (of : Program) (k q : ℕ) → IsSimpleMount i w → Stands i (log_of w) c → IsOfferedNow i w c.placer.entries.pad o of
+pub in_the_window : (i : Image) (w : World) (c : Core) (o : Opening) (of : Program) (k q : ℕ) → IsSimpleMount i w → Stands i (log_of w) c
+    → IsOfferedNow i w c.placer.entries.pad o of
     → slice_get of.positions k ≡ Some q → view.IsHeld c.window q
 in_the_window i w c o of k q simple st now e =
     let n : ℕ = entries_for of.kind i.shape.ws_opt in
-    let at = entry_at (take n (waiting i.shape (log_of w 0))) k q (ap (λ (qs : List ℕ). slice_get qs k) (sym (now.positions ∙ positions_are i.shape (log_of w 0) of.kind)) ∙ e) in
+    let at = entry_at (take n (waiting i.shape (log_of w 0))) k q
+    (ap (λ (qs : List ℕ). slice_get qs k) (sym (now.positions ∙ positions_are i.shape (log_of w 0) of.kind)) ∙ e) in
     let is : IsWaiting i w c at.0 k = waiting_at i w c k at.0 simple st (get_whole n (waiting i.shape (log_of w 0)) k at.0 at.1) in
     let end : view.taken c.window ≡ taken (log_of w 0) = window_taken_is i w c st in
     let low : c.window.freed ≤ at.0.entry.position = is.low in
@@ -126,7 +131,8 @@ pub few_entries : (i : Image) (w : World) (pad : ℕ) (o : Opening) (of : Progra
 few_entries i w pad o of now =
     let n : ℕ = entries_for of.kind i.shape.ws_opt in
     let ts : List Taken = take (entries_for of.kind i.shape.ws_opt) (waiting i.shape (log_of w 0)) in
-    let long : length of.positions ≡ length ts = ap (λ (qs : List ℕ). length qs) (now.positions ∙ positions_are i.shape (log_of w 0) of.kind) ∙ length-map ts (λ (t : Taken). t.entry.position) in
+    let long : length of.positions ≡ length ts = ap (λ (qs : List ℕ). length qs) (now.positions ∙ positions_are i.shape (log_of w 0) of.kind)
+    ∙ length-map ts (λ (t : Taken). t.entry.position) in
     let short : length ts ≤ n = omega (arith, length-take n (waiting i.shape (log_of w 0))) in
     let within : n ≤ i.shape.ws_opt = few_for of.kind i.shape.ws_opt in
     let count : of.count ≡ length of.positions = now.count in
@@ -136,16 +142,20 @@ few_entries i w pad o of now =
 
 pub line_inside : (i : Image) (w : World) (c : Core) (line : ℕ) → Stands i (log_of w) c → line < i.shape.chunks → line < length c.lines.rows
 line_inside i w c line st inside =
-    subst (λ (t : Table). line < length t.rows) (sym st.table) (subst (λ n. line < n) (sym (length-map-range_with_len (row_of_line i (log_of w)) 0 i.shape.chunks)) inside)
+    subst (λ (t : Table). line < length t.rows) (sym st.table)
+    (subst (λ n. line < n) (sym (length-map-range_with_len (row_of_line i (log_of w)) 0 i.shape.chunks)) inside)
 
 small_capacity : (s : Shape) → IsAccepted s → s.capacity < 2 ^ 30
 small_capacity s is =
     let all : units s * s.chunks * s.clba ≤ 268435456 = blocks_few is.target.sector in
-    let within : data_len s (units s) ≤ units s * s.clba = data_short (nat_lt (units s * s.clba - start_len s - end_len s (units s)) s.ws_opt) (units s * s.clba - start_len s - end_len s (units s)) (data_len s (units s)) (units s * s.clba) refl (omega arith) in
+    let within : data_len s (units s) ≤ units s * s.clba =
+    data_short (nat_lt (units s * s.clba - start_len s - end_len s (units s)) s.ws_opt) (units s * s.clba - start_len s - end_len s (units s))
+    (data_len s (units s)) (units s * s.clba) refl (omega arith) in
     let one : data_len s (units s) * (3 * (s.chunks - 5)) ≤ units s * s.clba * (3 * (s.chunks - 5)) = mul-le-mul_right (3 * (s.chunks - 5)) within in
     let less : 3 * (s.chunks - 5) ≤ 3 * s.chunks = omega arith in
     let two : 3 * (s.chunks - 5) * (units s * s.clba) ≤ 3 * s.chunks * (units s * s.clba) = mul-le-mul_right (units s * s.clba) less in
-    let turned_one : data_len s (units s) * (3 * (s.chunks - 5)) ≡ 3 * (s.chunks - 5) * data_len s (units s) = turned (data_len s (units s)) (3 * (s.chunks - 5)) in
+    let turned_one : data_len s (units s) * (3 * (s.chunks - 5)) ≡ 3 * (s.chunks - 5) * data_len s (units s) =
+    turned (data_len s (units s)) (3 * (s.chunks - 5)) in
     let turned_two : units s * s.clba * (3 * (s.chunks - 5)) ≡ 3 * (s.chunks - 5) * (units s * s.clba) = turned (units s * s.clba) (3 * (s.chunks - 5)) in
     let product : 3 * s.chunks * (units s * s.clba) ≡ 3 * (units s * s.chunks * s.clba) = three s.chunks (units s) s.clba in
     let spare : 4 * s.capacity ≤ 3 * (s.chunks - 5) * data_len s (units s) = is.target.spare in
@@ -162,10 +172,13 @@ small_capacity s is =
     data_short false between n most e h = omega arith
 
     blocks_few : (s.sector ≡ 512) ⊎ (s.sector ≡ 4096) → units s * s.chunks * s.clba ≤ 268435456
-    blocks_few (inl e) = let size : units s * s.chunks * s.clba * 512 ≤ 268435456 = subst (λ n. units s * s.chunks * s.clba * n ≤ 268435456) e is.target.size in omega arith
-    blocks_few (inr e) = let size : units s * s.chunks * s.clba * 4096 ≤ 268435456 = subst (λ n. units s * s.chunks * s.clba * n ≤ 268435456) e is.target.size in omega arith
+    blocks_few (inl e) = let size : units s * s.chunks * s.clba * 512 ≤ 268435456 =
+        subst (λ n. units s * s.chunks * s.clba * n ≤ 268435456) e is.target.size in omega arith
+    blocks_few (inr e) = let size : units s * s.chunks * s.clba * 4096 ≤ 268435456 =
+        subst (λ n. units s * s.chunks * s.clba * n ≤ 268435456) e is.target.size in omega arith
 
-pub live_room : (i : Image) (w : World) (c : Core) (line count : ℕ) (row : Row) → IsSimpleMount i w → Stands i (log_of w) c → IsRow c.lines line row → count ≤ i.shape.ws_opt → row.live + count < 2 ^ 32
+pub live_room : (i : Image) (w : World) (c : Core) (line count : ℕ) (row : Row) → IsSimpleMount i w → Stands i (log_of w) c → IsRow c.lines line row
+    → count ≤ i.shape.ws_opt → row.live + count < 2 ^ 32
 live_room i w c line count row simple st there few =
     let its = row_at (row_of_line i (log_of w)) i.shape.chunks 0 line row (ap (λ (t : Table). slice_get t.rows line) (sym st.table) ∙ there) in
     let from : 0 + line ≡ line = omega arith in
@@ -177,7 +190,8 @@ live_room i w c line count row simple st there few =
 
 -- ---- marks
 
-pub marks_room : (i : Image) (w : World) (o : Opening) (of : Program) (pad : ℕ) (slot : KeptLine) (more : ℕ) → IsSimpleMount i w → IsOfferedNow i w pad o of → of.kind ≡ kinds.Data → IsOpenLine i (log_of w) o slot → more ≤ i.shape.ws_opt
+pub marks_room : (i : Image) (w : World) (o : Opening) (of : Program) (pad : ℕ) (slot : KeptLine) (more : ℕ) → IsSimpleMount i w → IsOfferedNow i w pad o of
+    → of.kind ≡ kinds.Data → IsOpenLine i (log_of w) o slot → more ≤ i.shape.ws_opt
     → length slot.records.marks + more ≤ data_len slot.records.shape slot.records.width
 marks_room i w o of pad slot more simple now kind is few =
     let s : Shape = i.shape in
@@ -191,7 +205,8 @@ marks_room i w o of pad slot more simple now kind is few =
     let b : of.at + s.ws_opt ≤ start_len s + data_len s o.start.width = part.1 in
     omega arith
 
-pub marks_told : (i : Image) (w : World) (o : Opening) (of : Program) (pad : ℕ) (slot : KeptLine) → IsSimpleMount i w → IsOfferedNow i w pad o of → of.kind ≡ kinds.End → IsOpenLine i (log_of w) o slot
+pub marks_told : (i : Image) (w : World) (o : Opening) (of : Program) (pad : ℕ) (slot : KeptLine) → IsSimpleMount i w → IsOfferedNow i w pad o of
+    → of.kind ≡ kinds.End → IsOpenLine i (log_of w) o slot
     → length slot.records.marks ≡ data_len slot.records.shape slot.records.width
 marks_told i w o of pad slot simple now kind is =
     let part = subst (IsInPart i.shape o of.at) kind now.part in
@@ -199,7 +214,8 @@ marks_told i w o of pad slot simple now kind is =
     ∙ marks_whole i.shape (log_of w 0) o (have_blocks i w simple.mount.accepted simple.mount.legal) (subst (λ a. end_address i.shape o ≤ a) now.at part)
     ∙ sym (ap₂ data_len is.records.shape is.records.width)
 
-pub end_from : (i : Image) (w : World) (o : Opening) (of : Program) (pad : ℕ) (slot : KeptLine) → IsOfferedNow i w pad o of → of.kind ≡ kinds.End → IsOpenLine i (log_of w) o slot → end_begins slot.records ≤ of.at
+pub end_from : (i : Image) (w : World) (o : Opening) (of : Program) (pad : ℕ) (slot : KeptLine) → IsOfferedNow i w pad o of → of.kind ≡ kinds.End
+    → IsOpenLine i (log_of w) o slot → end_begins slot.records ≤ of.at
 end_from i w o of pad slot now kind is =
     let part : end_address i.shape o ≤ of.at = subst (IsInPart i.shape o of.at) kind now.part in
     subst (λ n. n ≤ of.at) (sym (ap₂ (λ s g. start_len s + data_len s g) is.records.shape is.records.width)) part
@@ -208,27 +224,32 @@ data_by : (t : Bool) (between n : ℕ) → n ≡ (if t then 0 else between) → 
 data_by true between n e some = absurd (omega arith)
 data_by false between n e some = e
 
-pub end_within : (i : Image) (w : World) (o : Opening) (of : Program) (pad : ℕ) (slot : KeptLine) → IsSimpleMount i w → IsOfferedNow i w pad o of → IsOpenLine i (log_of w) o slot
+pub end_within : (i : Image) (w : World) (o : Opening) (of : Program) (pad : ℕ) (slot : KeptLine) → IsSimpleMount i w → IsOfferedNow i w pad o of
+    → IsOpenLine i (log_of w) o slot
     → of.at + slot.records.shape.ws_opt ≤ end_begins slot.records + end_len slot.records.shape slot.records.width
 end_within i w o of pad slot simple now is =
     let s : Shape = i.shape in
     let g : ℕ = o.start.width in
     let wide : 0 < data_len s g = HaveBlocks.wide (have_blocks i w simple.mount.accepted simple.mount.legal) of.line o now.opened in
-    let between : data_len s g ≡ g * s.clba - start_len s - end_len s g = data_by (nat_lt (g * s.clba - start_len s - end_len s g) s.ws_opt) (g * s.clba - start_len s - end_len s g) (data_len s g) refl wide in
+    let between : data_len s g ≡ g * s.clba - start_len s - end_len s g =
+    data_by (nat_lt (g * s.clba - start_len s - end_len s g) s.ws_opt) (g * s.clba - start_len s - end_len s g) (data_len s g) refl wide in
     let whole : of.at + s.ws_opt ≤ g * s.clba = now.whole in
     let own : of.at + s.ws_opt ≤ start_len s + data_len s g + end_len s g = omega arith in
-    subst (λ n. of.at + n ≤ start_len slot.records.shape + data_len slot.records.shape slot.records.width + end_len slot.records.shape slot.records.width) (sym (ap (λ (x : Shape). x.ws_opt) is.records.shape))
+    subst (λ n. of.at + n ≤ start_len slot.records.shape + data_len slot.records.shape slot.records.width + end_len slot.records.shape slot.records.width)
+    (sym (ap (λ (x : Shape). x.ws_opt) is.records.shape))
     (subst (λ n. of.at + s.ws_opt ≤ n) (sym (ap₂ (λ s g. start_len s + data_len s g + end_len s g) is.records.shape is.records.width)) own)
 
 -- ---- the blocks of the stripe
 
-start_of_line : (s : Shape) (log : List Logged) (o : Opening) (r : Records) (shape : Shape) (a : ℕ) → AreOf s log o r → shape ≡ s → stripe_at shape (blocks_at_start r) 0 a ≡ stripe_at s (start_blocks s o) 0 a
+start_of_line : (s : Shape) (log : List Logged) (o : Opening) (r : Records) (shape : Shape) (a : ℕ) → AreOf s log o r → shape ≡ s
+    → stripe_at shape (blocks_at_start r) 0 a ≡ stripe_at s (start_blocks s o) 0 a
 start_of_line s log o r shape a of same = λ j. stripe_at (same j) (record_blocks (of.shape j) (of.seq j) (start_len (of.shape j)) (of.start j)) 0 a
 
 end_of_line : (s : Shape) (log : List Logged) (o : Opening) (r : Records) (shape : Shape) (a : ℕ) → AreOf s log o r → shape ≡ s
     → stripe_at shape (blocks_at_end r) (end_begins r) a ≡ stripe_at s (end_blocks s log o) (end_address s o) a
 end_of_line s log o r shape a of same = λ j. stripe_at (same j)
-    (record_blocks (of.shape j) (of.seq j) (end_len (of.shape j) (of.width j)) (end_bytes (of.shape j) (record { line = of.line j; width = of.width j; seq = of.seq j; pairs = of.marks j })))
+    (record_blocks (of.shape j) (of.seq j) (end_len (of.shape j) (of.width j))
+    (end_bytes (of.shape j) (record { line = of.line j; width = of.width j; seq = of.seq j; pairs = of.marks j })))
     (start_len (of.shape j) + data_len (of.shape j) (of.width j)) a
 
 -- a stripe at the program's place, with these blocks
@@ -251,13 +272,15 @@ pub start_stripe_is : (i : Image) (w : World) (pad : ℕ) (o : Opening) (of : Pr
     → of.kind ≡ kinds.Start → IsOpenLine i (log_of w) o slot → shape ≡ i.shape
     → IsStripeFor i (log_of w) o of (stripe_of of (stripe_at shape (blocks_at_start slot.records) 0 of.at))
 start_stripe_is i w pad o of slot shape now kind is same =
-    stripe_for i w pad o of kinds.Start (stripe_at shape (blocks_at_start slot.records) 0 of.at) now kind (start_of_line i.shape (log_of w 0) o slot.records shape of.at is.records same)
+    stripe_for i w pad o of kinds.Start (stripe_at shape (blocks_at_start slot.records) 0 of.at) now kind
+    (start_of_line i.shape (log_of w 0) o slot.records shape of.at is.records same)
 
 pub end_stripe_is : (i : Image) (w : World) (pad : ℕ) (o : Opening) (of : Program) (slot : KeptLine) (shape : Shape) → IsOfferedNow i w pad o of
     → of.kind ≡ kinds.End → IsOpenLine i (log_of w) o slot → shape ≡ i.shape
     → IsStripeFor i (log_of w) o of (stripe_of of (stripe_at shape (blocks_at_end slot.records) (end_begins slot.records) of.at))
 end_stripe_is i w pad o of slot shape now kind is same =
-    stripe_for i w pad o of kinds.End (stripe_at shape (blocks_at_end slot.records) (end_begins slot.records) of.at) now kind (end_of_line i.shape (log_of w 0) o slot.records shape of.at is.records same)
+    stripe_for i w pad o of kinds.End (stripe_at shape (blocks_at_end slot.records) (end_begins slot.records) of.at) now kind
+    (end_of_line i.shape (log_of w 0) o slot.records shape of.at is.records same)
 
 abbrev pub padded_to_stripe : Shape → List Block → List Block
 padded_to_stripe s blocks = blocks ++ replicate (s.ws_opt - length blocks) (pad_block s)
@@ -268,7 +291,8 @@ pub data_stripe_is : (i : Image) (w : World) (c : Core) (o : Opening) (of : Prog
 data_stripe_is i w c o of shape simple st now kind same =
     stripe_for i w c.placer.entries.pad o of kinds.Data (padded_to_stripe shape (entry_blocks c.window c.holds.rows.items of.positions)) now kind
     (ap₂ padded_to_stripe same
-    (ap (entry_blocks c.window c.holds.rows.items) (now.positions ∙ ap (positions_for i.shape (log_of w 0)) kind ∙ positions_are i.shape (log_of w 0) kinds.Data)
+    (ap (entry_blocks c.window c.holds.rows.items)
+    (now.positions ∙ ap (positions_for i.shape (log_of w 0)) kind ∙ positions_are i.shape (log_of w 0) kinds.Data)
     ∙ waiting_blocks i w c i.shape.ws_opt simple st))
 
 -- a stripe that was begun, filled with entries and padded
@@ -281,9 +305,11 @@ padded_is of shape blocks begun filled padded a b d =
     ∙ ap (λ (f : Filling). (followed_by f (replicate (f.shape.ws_opt - length f.stripe.blocks) (pad_block f.shape))).stripe) b
     ∙ ap (λ (f : Filling). (followed_by (followed_by f blocks) (replicate (f.shape.ws_opt - length (f.stripe.blocks ++ blocks)) (pad_block f.shape))).stripe) a
 
-pub told_marks : (size : ℕ) (bytes : List ℕ) (marks : List Mark) (into padded : Filling) → blocks_of size bytes marks ≡ padded.stripe.blocks → into ≡ padded → marks ≡ map (λ (b : Block). b.mark) into.stripe.blocks
+pub told_marks : (size : ℕ) (bytes : List ℕ) (marks : List Mark) (into padded : Filling) → blocks_of size bytes marks ≡ padded.stripe.blocks → into ≡ padded
+    → marks ≡ map (λ (b : Block). b.mark) into.stripe.blocks
 told_marks size bytes marks into padded whole same =
-    sym (marks_of_blocks size bytes marks) ∙ ap (map (λ (b : Block). b.mark)) whole ∙ ap (λ (f : Filling). map (λ (b : Block). b.mark) f.stripe.blocks) (sym same)
+    sym (marks_of_blocks size bytes marks) ∙ ap (map (λ (b : Block). b.mark)) whole
+    ∙ ap (λ (f : Filling). map (λ (b : Block). b.mark) f.stripe.blocks) (sym same)
 
 -- ---- counters
 
@@ -316,13 +342,15 @@ placed_short i w c o of simple st now kind =
     subst (IsOfKind i (log_of w) o stripe) kind (of_kind i w c.placer.entries.pad o of stripe simple now for) in
     let ts : List Taken = take s.ws_opt (waiting s log) in
     let long : length of.positions ≡ length ts =
-    ap (λ (qs : List ℕ). length qs) (now.positions ∙ ap (positions_for s log) kind ∙ positions_are s log kinds.Data) ∙ length-map ts (λ (t : Taken). t.entry.position) in
+    ap (λ (qs : List ℕ). length qs) (now.positions ∙ ap (positions_for s log) kind ∙ positions_are s log kinds.Data)
+    ∙ length-map ts (λ (t : Taken). t.entry.position) in
     let count : of.count ≡ length of.positions = now.count in
     let first : length ts ≡ min s.ws_opt (length (waiting s log)) = length-take s.ws_opt (waiting s log) in
     let some : 0 < length (waiting s log) = entries.has_entry in
     let wide : 0 < s.ws_opt = simple.mount.accepted.drive.ws_opt in
     let last = got_within ts (length ts - 1) (omega arith) in
-    let is : IsWaiting i w c last.0 (length ts - 1) = waiting_at i w c (length ts - 1) last.0 simple st (get_whole s.ws_opt (waiting s log) (length ts - 1) last.0 last.1) in
+    let is : IsWaiting i w c last.0 (length ts - 1) =
+    waiting_at i w c (length ts - 1) last.0 simple st (get_whole s.ws_opt (waiting s log) (length ts - 1) last.0 last.1) in
     let sized : last.0.entry.position < 2 ^ 62 = IsSized.position (all_at (IsSized s) (takes log) is.number last.0 is.there (are_sized i w simple)) in
     let at : last.0.entry.position ≡ placed_front s log + (length ts - 1) = is.position in
     let front : c.first + c.placed ≡ placed_front s log = st.placed in
@@ -338,7 +366,8 @@ under_way_short i w c simple st =
 
 pub unit_inside : (i : Image) (w : World) (c : Core) (unit : ℕ) → Stands i (log_of w) c → unit < units i.shape → unit < length c.placer.units
 unit_inside i w c unit st inside =
-    subst (λ (p : Placing). unit < length p.units) (sym st.placing) (subst (λ n. unit < n) (sym (length-map-range_with_len (row_of i (log_of w) st.again) 0 (units i.shape))) inside)
+    subst (λ (p : Placing). unit < length p.units) (sym st.placing)
+    (subst (λ n. unit < n) (sym (length-map-range_with_len (row_of i (log_of w) st.again) 0 (units i.shape))) inside)
 
 -- the positions that a placer tells of the unit of the next program, once that is placed
 pub told_entries : (i : Image) (w : World) (c : Core) (new : Placing) (o : Opening) (of : Program) (told : List ℕ) → Stands i (log_of w) c
@@ -403,5 +432,6 @@ left_back left less blocks n a b h = omega arith
 pub slot_there : (i : Image) (w : World) (c : Core) (of : Program) (result : ℕ) → (f : IsFound i w c of result) → IsSlot c.open result f.has.slot
 slot_there i w c of result f = ap (slice_get c.open.slots.items) f.at ∙ f.has.there
 
-pub no_positions : (i : Image) (w : World) (pad : ℕ) (o : Opening) (of : Program) (kind : StripeKind) → IsOfferedNow i w pad o of → of.kind ≡ kind → positions_for i.shape (log_of w 0) kind ≡ [] → of.positions ≡ []
+pub no_positions : (i : Image) (w : World) (pad : ℕ) (o : Opening) (of : Program) (kind : StripeKind) → IsOfferedNow i w pad o of → of.kind ≡ kind
+    → positions_for i.shape (log_of w 0) kind ≡ [] → of.positions ≡ []
 no_positions i w pad o of kind now is none = now.positions ∙ ap (positions_for i.shape (log_of w 0)) is ∙ none

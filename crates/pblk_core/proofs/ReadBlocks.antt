@@ -33,7 +33,8 @@ front_within p (y ∷ xs) (suc a) x at e = go (p y) (front_within p xs a x at e)
     go true h = omega arith
     go false h = omega arith
 
-front_is : {X : Type 0} (p : X → Bool) (xs : List X) → position_or_len p xs < length xs → (x : X) × (slice_get xs (position_or_len p xs) ≡ Some x) × (p x ≡ true)
+front_is : {X : Type 0} (p : X → Bool) (xs : List X) → position_or_len p xs < length xs
+    → (x : X) × (slice_get xs (position_or_len p xs) ≡ Some x) × (p x ≡ true)
 front_is p [] h = absurd (omega arith)
 front_is {X} p (y ∷ xs) h = go (p y) refl h (front_is p xs)
   where
@@ -61,9 +62,11 @@ is_itself a = ap₂ (λ m n. m && n) (same_number a.0) (same_number a.1)
 -- what is found there, and only there, is the first
 pub place_is : (order : List (ℕ × ℕ)) (place : ℕ × ℕ) (r : Option ℕ) → IfSome r (λ a. slice_get order a ≡ Some place)
     → ((a : ℕ) → slice_get order a ≡ Some place → r ≡ Some a) → position_of place order ≡ r
-place_is order place r found only = go (position_or_len (is_place place) order) refl (nat_lt (position_or_len (is_place place) order) (length order)) refl r found only
+place_is order place r found only =
+    go (position_or_len (is_place place) order) refl (nat_lt (position_or_len (is_place place) order) (length order)) refl r found only
   where
-    go : (n : ℕ) → position_or_len (is_place place) order ≡ n → (b : Bool) → nat_lt (position_or_len (is_place place) order) (length order) ≡ b → (r : Option ℕ) → IfSome r (λ a. slice_get order a ≡ Some place)
+    go : (n : ℕ) → position_or_len (is_place place) order ≡ n → (b : Bool) → nat_lt (position_or_len (is_place place) order) (length order) ≡ b → (r : Option ℕ)
+        → IfSome r (λ a. slice_get order a ≡ Some place)
         → ((a : ℕ) → slice_get order a ≡ Some place → r ≡ Some a) → cond b (Some (position_or_len (is_place place) order)) None ≡ r
     go n is true e r found only =
         let inside : position_or_len (is_place place) order < length order = grind arith in
@@ -73,12 +76,16 @@ place_is order place r found only = go (position_or_len (is_place place) order) 
     go n is false e (Some a) found only =
         let early : position_or_len (is_place place) order ≤ a = front_within (is_place place) order a place found (is_itself place) in
         let last : a < length order = get_below order a place found in
-        let passes : nat_lt (position_or_len (is_place place) order) (length order) ≡ true = lt_true (position_or_len (is_place place) order) (length order) (omega arith) in
+        let passes : nat_lt (position_or_len (is_place place) order) (length order) ≡ true =
+        lt_true (position_or_len (is_place place) order) (length order) (omega arith) in
         absurd cc
 
-pub place_at : (l : OpenLine) (s : Shape) (unit block : ℕ) (r : Option ℕ) → l.records.shape ≡ s → IfSome r (λ a. slice_get (line_order s (units_in l.live)) a ≡ Some (unit, block))
-    → ((a : ℕ) → slice_get (line_order s (units_in l.live)) a ≡ Some (unit, block) → r ≡ Some a) → position_of (unit, block) (line_order l.records.shape (units_in l.live)) ≡ r
-place_at l s unit block r shape found only = ap (λ t. position_of (unit, block) (line_order t (units_in l.live))) shape ∙ place_is (line_order s (units_in l.live)) (unit, block) r found only
+pub place_at : (l : OpenLine) (s : Shape) (unit block : ℕ) (r : Option ℕ) → l.records.shape ≡ s
+    → IfSome r (λ a. slice_get (line_order s (units_in l.live)) a ≡ Some (unit, block))
+    → ((a : ℕ) → slice_get (line_order s (units_in l.live)) a ≡ Some (unit, block) → r ≡ Some a)
+    → position_of (unit, block) (line_order l.records.shape (units_in l.live)) ≡ r
+place_at l s unit block r shape found only = ap (λ t. position_of (unit, block) (line_order t (units_in l.live))) shape
+    ∙ place_is (line_order s (units_in l.live)) (unit, block) r found only
 
 -- ---- a block's mark
 
@@ -88,18 +95,22 @@ read_if at m = if m.lba == pad_lba then None else Some (record { at = at; mark =
 abbrev read_by : ℕ → Mark → Bool → Option ReadBlock
 read_by at m b = if b then None else Some (record { at = at; mark = m })
 
-pub none_there : (l : OpenLine) (unit block : ℕ) → position_of (unit, block) (line_order l.records.shape (units_in l.live)) ≡ None → block_reads l unit block ≡ None
+pub none_there : (l : OpenLine) (unit block : ℕ) → position_of (unit, block) (line_order l.records.shape (units_in l.live)) ≡ None
+    → block_reads l unit block ≡ None
 none_there l unit block e = ap (option_and_then (read_at l.records)) e
 
-pub none_told : (l : OpenLine) (unit block at : ℕ) → position_of (unit, block) (line_order l.records.shape (units_in l.live)) ≡ Some at → data_mark l.records at ≡ None → block_reads l unit block ≡ None
+pub none_told : (l : OpenLine) (unit block at : ℕ) → position_of (unit, block) (line_order l.records.shape (units_in l.live)) ≡ Some at
+    → data_mark l.records at ≡ None → block_reads l unit block ≡ None
 none_told l unit block at e none = ap (option_and_then (read_at l.records)) e ∙ ap (option_and_then (read_if at)) none
 
-pub pads_there : (l : OpenLine) (unit block at : ℕ) (mark : Mark) → position_of (unit, block) (line_order l.records.shape (units_in l.live)) ≡ Some at → data_mark l.records at ≡ Some mark → mark.lba ≡ pad_lba → block_reads l unit block ≡ None
+pub pads_there : (l : OpenLine) (unit block at : ℕ) (mark : Mark) → position_of (unit, block) (line_order l.records.shape (units_in l.live)) ≡ Some at
+    → data_mark l.records at ≡ Some mark → mark.lba ≡ pad_lba → block_reads l unit block ≡ None
 pads_there l unit block at mark e told pad =
     ap (option_and_then (read_at l.records)) e ∙ ap (option_and_then (read_if at)) told
     ∙ ap (read_by at mark) (ap (λ n. n == pad_lba) pad ∙ same_number pad_lba)
 
-pub reads_there : (l : OpenLine) (unit block at : ℕ) (mark : Mark) → position_of (unit, block) (line_order l.records.shape (units_in l.live)) ≡ Some at → data_mark l.records at ≡ Some mark → mark.lba ≢ pad_lba → block_reads l unit block ≡ Some (record { at = at; mark = mark })
+pub reads_there : (l : OpenLine) (unit block at : ℕ) (mark : Mark) → position_of (unit, block) (line_order l.records.shape (units_in l.live)) ≡ Some at
+    → data_mark l.records at ≡ Some mark → mark.lba ≢ pad_lba → block_reads l unit block ≡ Some (record { at = at; mark = mark })
 reads_there l unit block at mark e told other =
     ap (option_and_then (read_at l.records)) e ∙ ap (option_and_then (read_if at)) told
     ∙ ap (read_by at mark) (other_number mark.lba pad_lba other)
@@ -112,17 +123,21 @@ cached_is (Some Unwritten) q e = absurd cc
 cached_is (Some (Cached p)) q e = ap (λ n. Some (Cached n)) (eqb-true p q e)
 cached_is (Some (Media line at p)) q e = absurd cc
 
-pub moved_is : (capacity line : ℕ) (m n : FinMap nat_cmp Slot) (b : ReadBlock) (r : Bool) → b.mark.lba < capacity → (IsTrue r ↔ (fin.get m b.mark.lba ≡ Some (Cached b.mark.position)))
+pub moved_is : (capacity line : ℕ) (m n : FinMap nat_cmp Slot) (b : ReadBlock) (r : Bool) → b.mark.lba < capacity
+    → (IsTrue r ↔ (fin.get m b.mark.lba ≡ Some (Cached b.mark.position)))
     → OnTrue r (n ≡ fin.insert m b.mark.lba (Media line b.at b.mark.position)) → OnFalse r (n ≡ m) → n ≡ moved capacity line m b
 moved_is capacity line m n b true below was set unchanged =
     set ∙ sym (ap₂ (λ (x y : Bool). if x && y then fin.insert m b.mark.lba (Media line b.at b.mark.position) else m) (lt_true b.mark.lba capacity below)
     (ap (λ o. is_cached o b.mark.position) (was.0 refl) ∙ same_number b.mark.position))
 moved_is capacity line m n b false below was set unchanged =
-    unchanged ∙ sym (ap₂ (λ (x y : Bool). if x && y then fin.insert m b.mark.lba (Media line b.at b.mark.position) else m) (lt_true b.mark.lba capacity below) (go (is_cached (fin.get m b.mark.lba) b.mark.position) refl))
+    unchanged ∙ sym (ap₂ (λ (x y : Bool). if x && y then fin.insert m b.mark.lba (Media line b.at b.mark.position) else m) (lt_true b.mark.lba capacity below)
+    (go (is_cached (fin.get m b.mark.lba) b.mark.position) refl))
   where
     go : (c : Bool) → is_cached (fin.get m b.mark.lba) b.mark.position ≡ c → c ≡ false
     go true e = let h : false ≡ true = was.1 (cached_is (fin.get m b.mark.lba) b.mark.position e) in absurd cc
     go false e = refl
 
 pub stays_there : (capacity line : ℕ) (m : FinMap nat_cmp Slot) (b : ReadBlock) → capacity ≤ b.mark.lba → m ≡ moved capacity line m b
-stays_there capacity line m b above = sym (ap (λ (x : Bool). if x && is_cached (fin.get m b.mark.lba) b.mark.position then fin.insert m b.mark.lba (Media line b.at b.mark.position) else m) (not_below capacity b.mark.lba above))
+stays_there capacity line m b above =
+    sym (ap (λ (x : Bool). if x && is_cached (fin.get m b.mark.lba) b.mark.position then fin.insert m b.mark.lba (Media line b.at b.mark.position) else m)
+    (not_below capacity b.mark.lba above))

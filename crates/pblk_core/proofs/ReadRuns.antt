@@ -18,7 +18,8 @@ use Rattle.lemmas.proofs.Maps.{one_more, range_more}
 
 -- ---- one block more
 
-pub reads_more : (l : OpenLine) (unit from block : ℕ) → from ≤ block → reads_of l unit from (block + 1) ≡ reads_of l unit from block ++ option_to_list (block_reads l unit block)
+pub reads_more : (l : OpenLine) (unit from block : ℕ) → from ≤ block
+    → reads_of l unit from (block + 1) ≡ reads_of l unit from block ++ option_to_list (block_reads l unit block)
 reads_more l unit from block h =
     let next : block + 1 - from ≡ suc (block - from) = omega arith in
     let last : from + (block - from) ≡ block = omega arith in
@@ -32,10 +33,12 @@ pub window_more : (w : WindowView) (l : OpenLine) (unit from block : ℕ) → fr
     → all_readable (all_readable w (reads_of l unit from block)) (option_to_list (block_reads l unit block)) ≡ all_readable w (reads_of l unit from (block + 1))
 window_more w l unit from block h =
     sym (ap (all_readable w) (reads_more l unit from block h)
-    ∙ fold-append (λ (v : WindowView) (b : ReadBlock). turned v b.mark.position Readable) w (reads_of l unit from block) (option_to_list (block_reads l unit block)))
+    ∙ fold-append (λ (v : WindowView) (b : ReadBlock). turned v b.mark.position Readable) w (reads_of l unit from block)
+    (option_to_list (block_reads l unit block)))
 
 pub map_more : (capacity line : ℕ) (m : FinMap nat_cmp Slot) (l : OpenLine) (unit from block : ℕ) → from ≤ block
-    → all_moved capacity line (all_moved capacity line m (reads_of l unit from block)) (option_to_list (block_reads l unit block)) ≡ all_moved capacity line m (reads_of l unit from (block + 1))
+    → all_moved capacity line (all_moved capacity line m (reads_of l unit from block)) (option_to_list (block_reads l unit block)) ≡ all_moved capacity line m
+    (reads_of l unit from (block + 1))
 map_more capacity line m l unit from block h =
     sym (ap (all_moved capacity line m) (reads_more l unit from block h)
     ∙ fold-append (moved capacity line) m (reads_of l unit from block) (option_to_list (block_reads l unit block)))
@@ -55,7 +58,8 @@ given_within {Y} h a (suc n) (suc m) y e inside =
     go None c = c
     go (Some z) c = (suc c.0, (let below : c.0 < length (filter_map h (range_with_len (a + 1) n)) = c.1 in omega arith), c.2)
 
-pub read_within : (l : OpenLine) (unit from to block : ℕ) (b : ReadBlock) → from ≤ block → block < to → block_reads l unit block ≡ Some b → Contains (reads_of l unit from to) b
+pub read_within : (l : OpenLine) (unit from to block : ℕ) (b : ReadBlock) → from ≤ block → block < to → block_reads l unit block ≡ Some b
+    → Contains (reads_of l unit from to) b
 read_within l unit from to block b low high e =
     let at : from + (block - from) ≡ block = omega arith in
     given_within (block_reads l unit) from (to - from) (block - from) b (ap (block_reads l unit) at ∙ e) (omega arith)
@@ -79,13 +83,15 @@ pub landed_stays : (w : WindowView) (p q : ℕ) → has_landed_at w q ≡ true �
 landed_stays w p q e = go (nat_lt q w.freed) e
   where
     go : (b : Bool) → option_map_or (λ (h : Held). has_landed h.progress) (if b then None else slice_get w.entries (q - w.freed)) false ≡ true
-        → option_map_or (λ (h : Held). has_landed h.progress) (if b then None else slice_get (with_progress w.entries (p - w.freed) Readable) (q - w.freed)) false ≡ true
+        → option_map_or (λ (h : Held). has_landed h.progress)
+        (if b then None else slice_get (with_progress w.entries (p - w.freed) Readable) (q - w.freed)) false ≡ true
     go true e = e
     go false e = still_landed w.entries (p - w.freed) (q - w.freed) e
 
 pub held_stays : (w : WindowView) (p q : ℕ) → IsHeld w q → IsHeld (turned w p Readable) q
 held_stays w p q h = (h.0, subst (λ n. q < w.freed + n) (sym (progress_length w.entries (p - w.freed))) h.1)
 
-pub reads_keep : (bs : List ReadBlock) (w : WindowView) (q : ℕ) → IsHeld w q × (has_landed_at w q ≡ true) → IsHeld (all_readable w bs) q × (has_landed_at (all_readable w bs) q ≡ true)
+pub reads_keep : (bs : List ReadBlock) (w : WindowView) (q : ℕ) → IsHeld w q × (has_landed_at w q ≡ true)
+    → IsHeld (all_readable w bs) q × (has_landed_at (all_readable w bs) q ≡ true)
 reads_keep [] w q h = h
 reads_keep (b ∷ bs) w q h = reads_keep bs (turned w b.mark.position Readable) q (held_stays w b.mark.position q h.0, landed_stays w b.mark.position q h.1)

@@ -42,11 +42,13 @@ pub reset_next : (c : Core) (line unit : ℕ) → IsStanding c → named c ≡ R
 reset_next c line unit standing names = record {
   line_units = slice_get_within c.live.items line (live_now i (log_of w) line) units_there;
   small = let few : units i.shape ≤ 64 = standing.legal.accepted.drive.few_units in let inside : unit < units i.shape = named_is.unit_in_range in omega arith;
-  unit_in = λ us there. subst (λ n. is_in n unit ≡ true) (same_Some (live_now i (log_of w) line) us (sym units_there ∙ there)) (unit_was_in i w line unit (its_simple standing) named_is);
+  unit_in = λ us there. subst (λ n. is_in n unit ≡ true) (same_Some (live_now i (log_of w) line) us (sym units_there ∙ there))
+      (unit_was_in i w line unit (its_simple standing) named_is);
   below = λ us there. subst (λ n. n < 2 ^ units c.layout) (same_Some (live_now i (log_of w) line) us (sym units_there ∙ there))
       (subst (λ (s : Shape). live_now i (log_of w) line < 2 ^ units s) (sym st.layout) (known_bits i w (log_of w) line standing.legal));
   line_row = slice_get_within c.lines.rows line (row_of_line i (log_of w) line) row_is;
-  freed = λ row there. ap (λ (r : Row). r.state) (sym (same_Some (row_of_line i (log_of w) line) row (sym row_is ∙ there))) ∙ state_before i w line unit st.beginning (its_simple standing) st.has_begun named_is;
+  freed = λ row there. ap (λ (r : Row). r.state) (sym (same_Some (row_of_line i (log_of w) line) row (sym row_is ∙ there)))
+      ∙ state_before i w line unit st.beginning (its_simple standing) st.has_begun named_is;
 }
   where
     i : Image
@@ -65,20 +67,25 @@ reset_next c line unit standing names = record {
     from = omega arith
 
     units_there : slice_get c.live.items line ≡ Some (live_now i (log_of w) line)
-    units_there = ap (λ us. slice_get us line) st.units ∙ row_there (live_now i (log_of w)) i.shape.chunks 0 line named_is.in_range ∙ ap (λ l. Some (live_now i (log_of w) l)) from
+    units_there = ap (λ us. slice_get us line) st.units ∙ row_there (live_now i (log_of w)) i.shape.chunks 0 line named_is.in_range
+        ∙ ap (λ l. Some (live_now i (log_of w) l)) from
 
     row_is : slice_get c.lines.rows line ≡ Some (row_of_line i (log_of w) line)
-    row_is = ap (λ (t : Table). slice_get t.rows line) st.table ∙ row_there (row_of_line i (log_of w)) i.shape.chunks 0 line named_is.in_range ∙ ap (λ l. Some (row_of_line i (log_of w) l)) from
+    row_is = ap (λ (t : Table). slice_get t.rows line) st.table ∙ row_there (row_of_line i (log_of w)) i.shape.chunks 0 line named_is.in_range
+        ∙ ap (λ l. Some (row_of_line i (log_of w) l)) from
 
 -- the units that stay are among those that were
-pub kept_less : (live : List ℕ) (line unit us : ℕ) (state : ChunkState) → slice_get live line ≡ Some us → (x : ℕ) × (slice_get (kept_units live line unit state) line ≡ Some x) × (x ≤ us)
+pub kept_less : (live : List ℕ) (line unit us : ℕ) (state : ChunkState) → slice_get live line ≡ Some us
+    → (x : ℕ) × (slice_get (kept_units live line unit state) line ≡ Some x) × (x ≤ us)
 kept_less live line unit us state there = go (is_online_in state)
   where
-    go : (b : Bool) → (x : ℕ) × (slice_get (if b then live else option_map_or (λ units. slice_set live line (units - 2 ^ unit)) (slice_get live line) live) line ≡ Some x) × (x ≤ us)
+    go : (b : Bool) → (x : ℕ) × (slice_get
+        (if b then live else option_map_or (λ units. slice_set live line (units - 2 ^ unit)) (slice_get live line) live) line ≡ Some x) × (x ≤ us)
     go true = (us, there, omega arith)
     go false = (
       us - 2 ^ unit,
-      ap (λ o. slice_get (option_map_or (λ units. slice_set live line (units - 2 ^ unit)) o live) line) there ∙ get_set_same live line line (us - 2 ^ unit) refl (slice_get_within live line us there),
+      ap (λ o. slice_get (option_map_or (λ units. slice_set live line (units - 2 ^ unit)) o live) line) there
+          ∙ get_set_same live line line (us - 2 ^ unit) refl (slice_get_within live line us there),
       omega arith,
     )
 
@@ -86,11 +93,13 @@ kept_less live line unit us state there = go (is_online_in state)
 pub emptied_change : (s : Shape) (width : ℕ) → IsChange Freed (emptied s width) (data_len s width)
 emptied_change s width = go (data_len s width == 0) refl
   where
-    go : (b : Bool) → (data_len s width == 0) ≡ b → ((if b then Dead else Free) ≡ Free) × (0 < data_len s width) ⊎ ((if b then Dead else Free) ≡ Dead) × (data_len s width ≡ 0)
+    go : (b : Bool) → (data_len s width == 0) ≡ b
+        → ((if b then Dead else Free) ≡ Free) × (0 < data_len s width) ⊎ ((if b then Dead else Free) ≡ Dead) × (data_len s width ≡ 0)
     go true e = inr (refl, grind arith)
     go false e = inl (refl, grind arith)
 
-pub kept_there : (c : Core) (line unit : ℕ) (state : ChunkState) → IsStanding c → named c ≡ Reset line unit → (x : ℕ) × (slice_get (kept_units c.live.items line unit state) line ≡ Some x) × (x < 2 ^ units c.layout)
+pub kept_there : (c : Core) (line unit : ℕ) (state : ChunkState) → IsStanding c → named c ≡ Reset line unit
+    → (x : ℕ) × (slice_get (kept_units c.live.items line unit state) line ≡ Some x) × (x < 2 ^ units c.layout)
 kept_there c line unit state standing names =
     let may : MayReset c line unit = reset_next c line unit standing names in
     let us : ℕ = slice_index_or c.live.items line 0 in
@@ -102,11 +111,13 @@ kept_there c line unit state standing names =
 
 -- the table is of the drive's shape
 -- their number is at most that of all units
-pub kept_few : (c : Core) (line unit us d width : ℕ) (state : ChunkState) → IsStanding c → named c ≡ Reset line unit → us ≡ slice_index_or (kept_units c.live.items line unit state) line d
+pub kept_few : (c : Core) (line unit us d width : ℕ) (state : ChunkState) → IsStanding c → named c ≡ Reset line unit
+    → us ≡ slice_index_or (kept_units c.live.items line unit state) line d
     → ((n : ℕ) → us < 2 ^ n → width ≤ n) → width ≤ units c.layout
 kept_few c line unit us d width state standing names is few =
     let kept = kept_there c line unit state standing names in
-    few (units c.layout) (subst (λ n. n < 2 ^ units c.layout) (sym (is ∙ get_or_from_slice_get (kept_units c.live.items line unit state) line kept.0 d kept.1)) kept.2)
+    few (units c.layout) (subst (λ n. n < 2 ^ units c.layout)
+    (sym (is ∙ get_or_from_slice_get (kept_units c.live.items line unit state) line kept.0 d kept.1)) kept.2)
 
 pub table_shape : (c : Core) → IsStanding c → c.layout ≡ c.lines.shape
 table_shape c standing = standing.stands.layout ∙ sym (ap (λ (t : Table). t.shape) standing.stands.table)

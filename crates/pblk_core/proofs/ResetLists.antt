@@ -17,7 +17,8 @@ drop_next (x ∷ xs) (suc n) = let more : suc n + 1 ≡ suc (n + 1) = omega arit
 
 -- ---- the units of a line, one after another
 
-units_more : (s : Shape) (states : List ChunkState) (line unit : ℕ) → used_below s states line (unit + 1) ≡ used_below s states line unit ++ cond (is_used_at (slice_get states (unit * s.chunks + line))) (unit ∷ []) []
+units_more : (s : Shape) (states : List ChunkState) (line unit : ℕ)
+    → used_below s states line (unit + 1) ≡ used_below s states line unit ++ cond (is_used_at (slice_get states (unit * s.chunks + line))) (unit ∷ []) []
 units_more s states line unit =
     let next : unit + 1 ≡ suc unit = omega arith in
     let from : 0 + unit ≡ unit = omega arith in
@@ -34,16 +35,20 @@ in_line_more line us vs old =
     ∙ ap (λ xs. old ++ xs) (sym (map-append (chunk_of line) us vs))
 
 -- one more unit of a line
-pub used_more : (s : Shape) (states : List ChunkState) (line unit : ℕ) (chunks old : List LineChunk) → chunks ≡ old ++ in_line line (used_below s states line unit) → is_used_at (slice_get states (unit * s.chunks + line)) ≡ true
+pub used_more : (s : Shape) (states : List ChunkState) (line unit : ℕ) (chunks old : List LineChunk)
+    → chunks ≡ old ++ in_line line (used_below s states line unit) → is_used_at (slice_get states (unit * s.chunks + line)) ≡ true
     → chunks ++ record { line = line; unit = unit } ∷ [] ≡ old ++ in_line line (used_below s states line (unit + 1))
 used_more s states line unit chunks old is used =
     ap (λ xs. xs ++ in_line line (unit ∷ [])) is ∙ in_line_more line (used_below s states line unit) (unit ∷ []) old
     ∙ ap (λ us. old ++ in_line line us) (sym (units_more s states line unit ∙ ap (λ b. used_below s states line unit ++ cond b (unit ∷ []) []) used))
 
-pub none_used : (s : Shape) (states : List ChunkState) (line unit : ℕ) (chunks old : List LineChunk) → chunks ≡ old ++ in_line line (used_below s states line unit) → is_used_at (slice_get states (unit * s.chunks + line)) ≡ false
+pub none_used : (s : Shape) (states : List ChunkState) (line unit : ℕ) (chunks old : List LineChunk)
+    → chunks ≡ old ++ in_line line (used_below s states line unit) → is_used_at (slice_get states (unit * s.chunks + line)) ≡ false
     → chunks ≡ old ++ in_line line (used_below s states line (unit + 1))
 none_used s states line unit chunks old is unused =
-    is ∙ ap (λ us. old ++ in_line line us) (sym (units_more s states line unit ∙ ap (λ b. used_below s states line unit ++ cond b (unit ∷ []) []) unused ∙ append-nil (used_below s states line unit)))
+    is ∙ ap (λ us. old ++ in_line line us)
+    (sym (units_more s states line unit ∙ ap (λ b. used_below s states line unit ++ cond b (unit ∷ []) []) unused
+    ∙ append-nil (used_below s states line unit)))
 
 -- ---- a list, one element after another
 

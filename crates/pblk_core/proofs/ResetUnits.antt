@@ -34,25 +34,33 @@ use Rattle.lemmas.proofs.Maps.{filter_same, map_same, rows_set}
 empty_not : (state : ChunkState) → is_empty_state state ≡ true → is_used_state state ≡ false
 empty_not state e = ap not e
 
-given_same : (i : Image) (logs : Logs) (unit event : ℕ) (knows : List ℕ) (l : ℕ) → is_given_up (after logs (ResetDone unit event) knows 0) l ≡ is_given_up (logs 0) l
-given_same i logs unit event knows l = given_up_kept logs (ResetDone unit event) knows l refl (life_more (logs 0) (record { event = Decides (ResetDone unit event); knows = knows }) l)
+given_same : (i : Image) (logs : Logs) (unit event : ℕ) (knows : List ℕ) (l : ℕ)
+    → is_given_up (after logs (ResetDone unit event) knows 0) l ≡ is_given_up (logs 0) l
+given_same i logs unit event knows l =
+    given_up_kept logs (ResetDone unit event) knows l refl (life_more (logs 0) (record { event = Decides (ResetDone unit event); knows = knows }) l)
 
-pub line_left : (i : Image) (logs : Logs) (unit event line : ℕ) (knows : List ℕ) (state : ChunkState) (named : IsNamedReset i logs line unit) → IsNoted i logs unit event line knows state
+pub line_left : (i : Image) (logs : Logs) (unit event line : ℕ) (knows : List ℕ) (state : ChunkState) (named : IsNamedReset i logs line unit)
+    → IsNoted i logs unit event line knows state
     → used_units (known_image i (after logs (ResetDone unit event) knows)) line ≡ named.first.units
 line_left i logs unit event line knows state named is = named.passed.others (is_used_in (known_image i (after logs (ResetDone unit event) knows)) line)
     (tested_now is_used_state i logs unit event line knows state is ∙ empty_not state is.empty)
     (λ u other. tested_else is_used_state i logs unit event line knows state is line u (inr other))
 
-pub others_left : (i : Image) (logs : Logs) (unit event line : ℕ) (knows : List ℕ) (state : ChunkState) → IsNoted i logs unit event line knows state → (l : ℕ) → l ≢ line
+pub others_left : (i : Image) (logs : Logs) (unit event line : ℕ) (knows : List ℕ) (state : ChunkState) → IsNoted i logs unit event line knows state → (l : ℕ)
+    → l ≢ line
     → units_to_reset i (after logs (ResetDone unit event) knows) l ≡ units_to_reset i logs l
 others_left i logs unit event line knows state is l other = ap₂ (λ b us. if b then us else []) (given_same i logs unit event knows l)
-    (filter_same (is_used_in (known_image i (after logs (ResetDone unit event) knows)) l) (is_used_in (known_image i logs) l) (λ u. tested_else is_used_state i logs unit event line knows state is l u (inl other)) (range_with_len 0 (units i.shape)))
+    (filter_same (is_used_in (known_image i (after logs (ResetDone unit event) knows)) l) (is_used_in (known_image i logs) l)
+    (λ u. tested_else is_used_state i logs unit event line knows state is l u (inl other)) (range_with_len 0 (units i.shape)))
 
-pub units_left : (i : Image) (logs : Logs) (unit event line : ℕ) (knows : List ℕ) (state : ChunkState) (named : IsNamedReset i logs line unit) → IsNoted i logs unit event line knows state
+pub units_left : (i : Image) (logs : Logs) (unit event line : ℕ) (knows : List ℕ) (state : ChunkState) (named : IsNamedReset i logs line unit)
+    → IsNoted i logs unit event line knows state
     → units_to_reset i (after logs (ResetDone unit event) knows) line ≡ named.first.units
-units_left i logs unit event line knows state named is = ap₂ (λ b us. if b then us else []) (given_same i logs unit event knows line ∙ named.given_up) (line_left i logs unit event line knows state named is)
+units_left i logs unit event line knows state named is =
+    ap₂ (λ b us. if b then us else []) (given_same i logs unit event knows line ∙ named.given_up) (line_left i logs unit event line knows state named is)
 
-pub resets_less : (i : Image) (logs : Logs) (unit event line : ℕ) (knows : List ℕ) (state : ChunkState) → IsNamedReset i logs line unit → IsNoted i logs unit event line knows state
+pub resets_less : (i : Image) (logs : Logs) (unit event line : ℕ) (knows : List ℕ) (state : ChunkState) → IsNamedReset i logs line unit
+    → IsNoted i logs unit event line knows state
     → resets_of i (after logs (ResetDone unit event) knows) ≡ drop 1 (resets_of i logs)
 resets_less i logs unit event line knows state named is =
     others_are (units_to_reset i logs) (units_to_reset i (after logs (ResetDone unit event) knows)) 0 i.shape.chunks _ named.first
@@ -61,26 +69,39 @@ resets_less i logs unit event line knows state named is =
 -- ---- units
 
 -- the units of a line as bits
-pub live_bits : (i : Image) (w : World) (ls : Logs) (line : ℕ) → IsSimpleMount i w → live_now i ls line ≡ bits_of (filter (is_live (known_image i ls) line) (range_with_len 0 (units i.shape)))
-live_bits i w ls line simple = ap bits_of (units_below (known_image i ls) line (few_units i w ls simple.mount) ∙ ap (λ n. filter (is_live (known_image i ls) line) (range_with_len 0 n)) (known_count i w ls simple.mount))
+pub live_bits : (i : Image) (w : World) (ls : Logs) (line : ℕ) → IsSimpleMount i w
+    → live_now i ls line ≡ bits_of (filter (is_live (known_image i ls) line) (range_with_len 0 (units i.shape)))
+live_bits i w ls line simple =
+    ap bits_of (units_below (known_image i ls) line (few_units i w ls simple.mount)
+    ∙ ap (λ n. filter (is_live (known_image i ls) line) (range_with_len 0 n)) (known_count i w ls simple.mount))
 
-pub was_live : (i : Image) (logs : Logs) (unit event line : ℕ) (knows : List ℕ) (state : ChunkState) → IsNoted i logs unit event line knows state → is_live (known_image i logs) line unit ≡ true
-was_live i logs unit event line knows state is = live_is (known_image i logs) line unit ∙ tested_before is_online_in i logs unit event line knows state is ∙ used_online is.chunk.state is.used
+pub was_live : (i : Image) (logs : Logs) (unit event line : ℕ) (knows : List ℕ) (state : ChunkState) → IsNoted i logs unit event line knows state
+    → is_live (known_image i logs) line unit ≡ true
+was_live i logs unit event line knows state is = live_is (known_image i logs) line unit ∙ tested_before is_online_in i logs unit event line knows state is
+    ∙ used_online is.chunk.state is.used
 
-live_else : (i : Image) (logs : Logs) (unit event line : ℕ) (knows : List ℕ) (state : ChunkState) → IsNoted i logs unit event line knows state → (l u : ℕ) → (l ≢ line) ⊎ (u ≢ unit)
+live_else : (i : Image) (logs : Logs) (unit event line : ℕ) (knows : List ℕ) (state : ChunkState) → IsNoted i logs unit event line knows state → (l u : ℕ)
+    → (l ≢ line) ⊎ (u ≢ unit)
     → is_live (known_image i (after logs (ResetDone unit event) knows)) l u ≡ is_live (known_image i logs) l u
 live_else i logs unit event line knows state is l u other =
-    live_is (known_image i (after logs (ResetDone unit event) knows)) l u ∙ tested_else is_online_in i logs unit event line knows state is l u other ∙ sym (live_is (known_image i logs) l u)
+    live_is (known_image i (after logs (ResetDone unit event) knows)) l u ∙ tested_else is_online_in i logs unit event line knows state is l u other
+    ∙ sym (live_is (known_image i logs) l u)
 
-live_here : (i : Image) (logs : Logs) (unit event line : ℕ) (knows : List ℕ) (state : ChunkState) → IsNoted i logs unit event line knows state → is_live (known_image i (after logs (ResetDone unit event) knows)) line unit ≡ is_online_in state
-live_here i logs unit event line knows state is = live_is (known_image i (after logs (ResetDone unit event) knows)) line unit ∙ tested_now is_online_in i logs unit event line knows state is
+live_here : (i : Image) (logs : Logs) (unit event line : ℕ) (knows : List ℕ) (state : ChunkState) → IsNoted i logs unit event line knows state
+    → is_live (known_image i (after logs (ResetDone unit event) knows)) line unit ≡ is_online_in state
+live_here i logs unit event line knows state is = live_is (known_image i (after logs (ResetDone unit event) knows)) line unit
+    ∙ tested_now is_online_in i logs unit event line knows state is
 
-bits_same : (i : Image) (w : World) (ls new : Logs) (l : ℕ) → IsSimpleMount i w → ((u : ℕ) → is_live (known_image i new) l u ≡ is_live (known_image i ls) l u) → live_now i new l ≡ live_now i ls l
+bits_same : (i : Image) (w : World) (ls new : Logs) (l : ℕ) → IsSimpleMount i w → ((u : ℕ) → is_live (known_image i new) l u ≡ is_live (known_image i ls) l u)
+    → live_now i new l ≡ live_now i ls l
 bits_same i w ls new l simple same =
-    live_bits i w new l simple ∙ ap bits_of (filter_same (is_live (known_image i new) l) (is_live (known_image i ls) l) same (range_with_len 0 (units i.shape))) ∙ sym (live_bits i w ls l simple)
+    live_bits i w new l simple ∙ ap bits_of (filter_same (is_live (known_image i new) l) (is_live (known_image i ls) l) same (range_with_len 0 (units i.shape)))
+    ∙ sym (live_bits i w ls l simple)
 
-pub units_kept : (i : Image) (w : World) (unit event line : ℕ) (knows : List ℕ) (state : ChunkState) → IsSimpleMount i w → IsNamedReset i (log_of w) line unit → IsNoted i (log_of w) unit event line knows state
-    → kept_units (map (live_now i (log_of w)) (range_with_len 0 i.shape.chunks)) line unit state ≡ map (live_now i (after (log_of w) (ResetDone unit event) knows)) (range_with_len 0 i.shape.chunks)
+pub units_kept : (i : Image) (w : World) (unit event line : ℕ) (knows : List ℕ) (state : ChunkState) → IsSimpleMount i w → IsNamedReset i (log_of w) line unit
+    → IsNoted i (log_of w) unit event line knows state
+    → kept_units (map (live_now i (log_of w)) (range_with_len 0 i.shape.chunks)) line unit state ≡ map
+    (live_now i (after (log_of w) (ResetDone unit event) knows)) (range_with_len 0 i.shape.chunks)
 units_kept i w unit event line knows state simple named is = go (is_online_in state) refl
   where
     logs : Logs
@@ -107,10 +128,14 @@ units_kept i w unit event line knows state simple named is = go (is_online_in st
 
     less : is_online_in state ≡ false → live_now i new line ≡ live_now i logs line - 2 ^ unit
     less offline =
-        let old : live_now i logs line ≡ bits_of (filter (is_live (known_image i logs) line) (range_with_len 0 (units i.shape))) = live_bits i w logs line simple in
-        let now : live_now i new line ≡ bits_of (filter (is_live (known_image i new) line) (range_with_len 0 (units i.shape))) = live_bits i w new line simple in
-        let fewer : bits_of (filter (is_live (known_image i logs) line) (range_with_len 0 (units i.shape))) ≡ bits_of (filter (is_live (known_image i new) line) (range_with_len 0 (units i.shape))) + 2 ^ unit =
-        bits_less (is_live (known_image i logs) line) (is_live (known_image i new) line) (units i.shape) unit named.unit_in_range (was_live i logs unit event line knows state is)
+        let old : live_now i logs line ≡ bits_of (filter (is_live (known_image i logs) line) (range_with_len 0 (units i.shape))) =
+        live_bits i w logs line simple in
+        let now : live_now i new line ≡ bits_of (filter (is_live (known_image i new) line) (range_with_len 0 (units i.shape))) =
+        live_bits i w new line simple in
+        let fewer : bits_of (filter (is_live (known_image i logs) line) (range_with_len 0 (units i.shape))) ≡ bits_of
+        (filter (is_live (known_image i new) line) (range_with_len 0 (units i.shape))) + 2 ^ unit =
+        bits_less (is_live (known_image i logs) line) (is_live (known_image i new) line) (units i.shape) unit named.unit_in_range
+        (was_live i logs unit event line knows state is)
         (live_here i logs unit event line knows state is ∙ offline) (λ u other. live_else i logs unit event line knows state is line u (inr other)) in
         omega arith
 
@@ -120,7 +145,9 @@ units_kept i w unit event line knows state simple named is = go (is_online_in st
     there : slice_get old_list line ≡ Some (live_now i logs line)
     there = row_there (live_now i logs) i.shape.chunks 0 line named.in_range ∙ ap (λ l. Some (live_now i logs l)) from
 
-    go : (b : Bool) → is_online_in state ≡ b → (if b then old_list else option_map_or (λ us. slice_set old_list line (us - 2 ^ unit)) (slice_get old_list line) old_list) ≡ map (live_now i new) (range_with_len 0 i.shape.chunks)
+    go : (b : Bool) → is_online_in state ≡ b
+        → (if b then old_list else option_map_or (λ us. slice_set old_list line (us - 2 ^ unit)) (slice_get old_list line) old_list) ≡ map (live_now i new)
+        (range_with_len 0 i.shape.chunks)
     go true e = map_same (live_now i logs) (live_now i new) (λ l. by l (nat_eq l line) refl) (range_with_len 0 i.shape.chunks)
       where
         by : (l : ℕ) (b : Bool) → nat_eq l line ≡ b → live_now i logs l ≡ live_now i new l
@@ -128,23 +155,27 @@ units_kept i w unit event line knows state simple named is = go (is_online_in st
         by l false f = sym (other_line l (eqb-false l line f))
     go false e =
         ap (λ o. option_map_or (λ us. slice_set old_list line (us - 2 ^ unit)) o old_list) there
-        ∙ sym (rows_set (live_now i logs) (live_now i new) i.shape.chunks 0 line (live_now i logs line - 2 ^ unit) named.in_range (ap (live_now i new) from ∙ less e)
+        ∙ sym (rows_set (live_now i logs) (live_now i new) i.shape.chunks 0 line (live_now i logs line - 2 ^ unit) named.in_range
+        (ap (live_now i new) from ∙ less e)
         (λ l other. other_line l (λ same. other (same ∙ sym from))))
 
 -- its unit was one of the line's
-pub unit_was_in : (i : Image) (w : World) (line unit : ℕ) → IsSimpleMount i w → IsNamedReset i (log_of w) line unit → is_in (live_now i (log_of w) line) unit ≡ true
+pub unit_was_in : (i : Image) (w : World) (line unit : ℕ) → IsSimpleMount i w → IsNamedReset i (log_of w) line unit
+    → is_in (live_now i (log_of w) line) unit ≡ true
 unit_was_in i w line unit simple named = ap (λ n. is_in n unit) (live_bits i w (log_of w) line simple)
     ∙ bit_is (is_live (known_image i (log_of w)) line) (units i.shape) unit named.unit_in_range
     ∙ (live_is (known_image i (log_of w)) line unit ∙ ap (test_chunk is_online_in) named.is_chunk ∙ used_online named.chunk.state named.used)
 
 -- ---- a line of which no chunk is used is empty
 
-all_empty : (us : List (List Chunk)) (line : ℕ) → ((unit : ℕ) (cs : List Chunk) (c : Chunk) → slice_get us unit ≡ Some cs → slice_get cs line ≡ Some c → is_empty_state c.state ≡ true)
+all_empty : (us : List (List Chunk)) (line : ℕ)
+    → ((unit : ℕ) (cs : List Chunk) (c : Chunk) → slice_get us unit ≡ Some cs → slice_get cs line ≡ Some c → is_empty_state c.state ≡ true)
     → list_all (λ (c : Chunk). is_empty_state c.state) (filter_map (λ (u : List Chunk). slice_get u line) us) ≡ true
 all_empty [] line each = refl
 all_empty (u ∷ us) line each = add (slice_get u line) (λ c e. each 0 u c refl e) (all_empty us line (λ k cs c at there. each (suc k) cs c at there))
   where
-    add : (o : Option Chunk) → ((c : Chunk) → o ≡ Some c → is_empty_state c.state ≡ true) → list_all (λ (c : Chunk). is_empty_state c.state) (filter_map (λ (u : List Chunk). slice_get u line) us) ≡ true
+    add : (o : Option Chunk) → ((c : Chunk) → o ≡ Some c → is_empty_state c.state ≡ true)
+        → list_all (λ (c : Chunk). is_empty_state c.state) (filter_map (λ (u : List Chunk). slice_get u line) us) ≡ true
         → list_all (λ (c : Chunk). is_empty_state c.state) (cons_option o (filter_map (λ (u : List Chunk). slice_get u line) us)) ≡ true
     add None one rest = rest
     add (Some c) one rest = ap₂ (λ a b. a && b) (one c refl) rest
@@ -153,7 +184,8 @@ none_passes : (p : ℕ → Bool) (a n k : ℕ) → filter p (range_with_len a n)
 none_passes p a zero k none low high = absurd (omega arith)
 none_passes p a (suc n) k none low high = go (p a) refl none (λ e more. none_passes p (a + 1) n k e more (omega arith))
   where
-    go : (b : Bool) → p a ≡ b → cond b (a ∷ filter p (range_with_len (a + 1) n)) (filter p (range_with_len (a + 1) n)) ≡ [] → (filter p (range_with_len (a + 1) n) ≡ [] → a + 1 ≤ k → p k ≡ false) → p k ≡ false
+    go : (b : Bool) → p a ≡ b → cond b (a ∷ filter p (range_with_len (a + 1) n)) (filter p (range_with_len (a + 1) n)) ≡ []
+        → (filter p (range_with_len (a + 1) n) ≡ [] → a + 1 ≤ k → p k ≡ false) → p k ≡ false
     go true is e rest = absurd (none-some a (sym (ap (λ xs. slice_get xs 0) e)))
     go false is e rest = by (nat_eq a k) refl
       where

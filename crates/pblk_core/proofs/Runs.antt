@@ -20,7 +20,8 @@ marks_fit s g n more room few narrow enough =
     omega arith
 
 -- the end record of no line is longer than that of the widest
-pub longest : (s : Shape) (g : ℕ) → IsLeastMultiple s.ws_opt (HoldsEnd s g) (end_len s g) → IsLeastMultiple s.ws_opt (HoldsEnd s (units s)) (end_len s (units s)) → g ≤ units s → end_len s g ≤ end_len s (units s)
+pub longest : (s : Shape) (g : ℕ) → IsLeastMultiple s.ws_opt (HoldsEnd s g) (end_len s g)
+    → IsLeastMultiple s.ws_opt (HoldsEnd s (units s)) (end_len s (units s)) → g ≤ units s → end_len s g ≤ end_len s (units s)
 longest s g own widest narrow =
     let wide : g * s.clba ≤ units s * s.clba = mul-le-mul_right s.clba narrow in
     let held : HoldsEnd s (units s) (s.ws_opt * widest.multiple.0) = subst (HoldsEnd s (units s)) widest.multiple.2 widest.holds in
@@ -49,19 +50,27 @@ pub run_of : (size count stripe from : ℕ) (bytes : List ℕ) (m : Mark) → fr
     → take stripe (drop from (blocks_of size bytes (replicate count m))) ≡ blocks_of size (take (stripe * size) (drop (from * size) bytes)) (replicate stripe m)
 run_of size count stripe from bytes m h =
     let left : stripe ≤ count - from = omega arith in
-    rw (drop-blocks_of size from bytes (replicate count m), drop_same from count m, take-blocks_of size stripe (drop (from * size) bytes) (replicate (count - from) m), take_same stripe (count - from) m left) refl
+    rw (
+      drop-blocks_of size from bytes (replicate count m),
+      drop_same from count m,
+      take-blocks_of size stripe (drop (from * size) bytes) (replicate (count - from) m),
+      take_same stripe (count - from) m left,
+    ) refl
 
 pub stripe_of : (size count stripe from begins a : ℕ) (bytes : List ℕ) (m : Mark) → from ≡ a - begins → from + stripe ≤ count
-    → blocks_of size (take (stripe * size) (drop (from * size) bytes)) (replicate stripe m) ≡ slice_range (blocks_of size bytes (replicate count m)) (a - begins) (a - begins + stripe)
+    → blocks_of size (take (stripe * size) (drop (from * size) bytes)) (replicate stripe m) ≡ slice_range (blocks_of size bytes (replicate count m))
+    (a - begins) (a - begins + stripe)
 stripe_of size count stripe from begins a bytes m from-is h =
     let long : a - begins + stripe - (a - begins) ≡ stripe = omega arith in
     rw (long, ← from-is) (sym (run_of size count stripe from bytes m h))
 
 -- the bytes behind a record's are none of its blocks
-pub only_front : (size count : ℕ) (bytes : List ℕ) (m : Mark) → blocks_of size bytes (replicate count m) ≡ blocks_of size (take (count * size) bytes) (replicate count m)
+pub only_front : (size count : ℕ) (bytes : List ℕ) (m : Mark)
+    → blocks_of size bytes (replicate count m) ≡ blocks_of size (take (count * size) bytes) (replicate count m)
 only_front size zero bytes m = refl
 only_front size (suc count) bytes m = sym (all ∙ same) where
-  all : blocks_of size (take (suc count * size) bytes) (replicate (suc count) m) ≡ blocks_of size (take (suc count * size) bytes) (take (suc count) (replicate (suc count) m))
+  all : blocks_of size (take (suc count * size) bytes) (replicate (suc count) m) ≡ blocks_of size (take (suc count * size) bytes)
+      (take (suc count) (replicate (suc count) m))
   all = ap (λ (ms : List Mark). blocks_of size (take (suc count * size) bytes) ms) (sym (take_same (suc count) (suc count) m (omega arith)))
 
   whole : (n : ℕ) (bs : List Block) → length bs ≡ n → take n bs ≡ bs
@@ -71,4 +80,6 @@ only_front size (suc count) bytes m = sym (all ∙ same) where
   whole (suc n) (b ∷ bs) h = ap (λ xs. b ∷ xs) (whole n bs (omega arith))
 
   same : blocks_of size (take (suc count * size) bytes) (take (suc count) (replicate (suc count) m)) ≡ blocks_of size bytes (replicate (suc count) m)
-  same = sym (take-blocks_of size (suc count) bytes (replicate (suc count) m)) ∙ whole (suc count) (blocks_of size bytes (replicate (suc count) m)) (length-blocks_of size bytes (replicate (suc count) m) ∙ length-replicate (suc count) m)
+  same = sym (take-blocks_of size (suc count) bytes (replicate (suc count) m))
+      ∙ whole (suc count) (blocks_of size bytes (replicate (suc count) m))
+      (length-blocks_of size bytes (replicate (suc count) m) ∙ length-replicate (suc count) m)

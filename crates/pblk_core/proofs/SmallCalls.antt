@@ -46,13 +46,16 @@ count_class : (source : Option Source) → cond (is_users source) 1 0 ≡ user_c
 count_class None = refl
 count_class (Some source) = refl
 
-head_counted : (bound : ℕ) (u : Taken) (us : List Taken) → nat_lt u.entry.position bound ≡ true → below_of bound (u ∷ us) ≡ user_count (class_of u.entry.source) + below_of bound us
+head_counted : (bound : ℕ) (u : Taken) (us : List Taken) → nat_lt u.entry.position bound ≡ true
+    → below_of bound (u ∷ us) ≡ user_count (class_of u.entry.source) + below_of bound us
 unfolding below_of
 head_counted bound u us e = go (is_users u.entry.source) ∙ ap (λ n. n + below_of bound us) (count_class u.entry.source)
   where
-    go : (b : Bool) → length (filter (λ (t : Taken). nat_lt t.entry.position bound) (cond b (u ∷ filter (λ (t : Taken). is_users t.entry.source) us) (filter (λ (t : Taken). is_users t.entry.source) us))) ≡ cond b 1 0 + below_of bound us
+    go : (b : Bool) → length (filter (λ (t : Taken). nat_lt t.entry.position bound)
+        (cond b (u ∷ filter (λ (t : Taken). is_users t.entry.source) us) (filter (λ (t : Taken). is_users t.entry.source) us))) ≡ cond b 1 0 + below_of bound us
     go true =
-        ap (λ b. length (cond b (u ∷ filter (λ (t : Taken). nat_lt t.entry.position bound) (filter (λ (t : Taken). is_users t.entry.source) us)) (filter (λ (t : Taken). nat_lt t.entry.position bound) (filter (λ (t : Taken). is_users t.entry.source) us)))) e
+        ap (λ b. length (cond b (u ∷ filter (λ (t : Taken). nat_lt t.entry.position bound) (filter (λ (t : Taken). is_users t.entry.source) us))
+        (filter (λ (t : Taken). nat_lt t.entry.position bound) (filter (λ (t : Taken). is_users t.entry.source) us)))) e
         ∙ (omega arith)
     go false = omega arith
 
@@ -61,7 +64,8 @@ unfolding below_of
 none_counted a bound ts within is =
     ap length (filter_none (λ (t : Taken). nat_lt t.entry.position bound) (filter (λ (t : Taken). is_users t.entry.source) ts)
     (all_filter (λ (t : Taken). nat_lt t.entry.position bound ≡ false) (λ (t : Taken). is_users t.entry.source) ts
-    (all_imply (λ (t : Taken). a ≤ t.entry.position) (λ (t : Taken). nat_lt t.entry.position bound ≡ false) (λ t h. not_below bound t.entry.position (omega arith)) ts (numbered_above a ts is))))
+    (all_imply (λ (t : Taken). a ≤ t.entry.position) (λ (t : Taken). nat_lt t.entry.position bound ≡ false)
+    (λ t h. not_below bound t.entry.position (omega arith)) ts (numbered_above a ts is))))
 
 one_more : (a k : ℕ) (ts : List Taken) (t : Taken) → positions_of ts ≡ range_with_len a (length ts) → slice_get ts k ≡ Some t
     → below_of (a + k + 1) ts ≡ below_of (a + k) ts + user_count (class_of t.entry.source)
@@ -70,7 +74,8 @@ one_more a zero (u ∷ us) t is at =
     let first : u.entry.position ≡ a = cc in
     let rest : positions_of us ≡ range_with_len (a + 1) (length us) = cc in
     let same : user_count (class_of u.entry.source) ≡ user_count (class_of t.entry.source) = cc in
-    let new : below_of (a + 0 + 1) (u ∷ us) ≡ user_count (class_of u.entry.source) + below_of (a + 0 + 1) us = head_counted (a + 0 + 1) u us (lt_true u.entry.position (a + 0 + 1) (omega arith)) in
+    let new : below_of (a + 0 + 1) (u ∷ us) ≡ user_count (class_of u.entry.source) + below_of (a + 0 + 1) us =
+    head_counted (a + 0 + 1) u us (lt_true u.entry.position (a + 0 + 1) (omega arith)) in
     let behind : below_of (a + 0 + 1) us ≡ 0 = none_counted (a + 1) (a + 0 + 1) us (omega arith) rest in
     let old : below_of (a + 0) (u ∷ us) ≡ 0 = none_counted a (a + 0) (u ∷ us) (omega arith) is in
     omega arith
@@ -80,11 +85,14 @@ one_more a (suc k) (u ∷ us) t is at =
     let next : a + 1 + k ≡ a + suc k = omega arith in
     let more : below_of (a + suc k + 1) us ≡ below_of (a + suc k) us + user_count (class_of t.entry.source) =
     subst (λ n. below_of (n + 1) us ≡ below_of n us + user_count (class_of t.entry.source)) next (one_more (a + 1) k us t rest at) in
-    let new : below_of (a + suc k + 1) (u ∷ us) ≡ user_count (class_of u.entry.source) + below_of (a + suc k + 1) us = head_counted (a + suc k + 1) u us (lt_true u.entry.position (a + suc k + 1) (omega arith)) in
-    let old : below_of (a + suc k) (u ∷ us) ≡ user_count (class_of u.entry.source) + below_of (a + suc k) us = head_counted (a + suc k) u us (lt_true u.entry.position (a + suc k) (omega arith)) in
+    let new : below_of (a + suc k + 1) (u ∷ us) ≡ user_count (class_of u.entry.source) + below_of (a + suc k + 1) us =
+    head_counted (a + suc k + 1) u us (lt_true u.entry.position (a + suc k + 1) (omega arith)) in
+    let old : below_of (a + suc k) (u ∷ us) ≡ user_count (class_of u.entry.source) + below_of (a + suc k) us =
+    head_counted (a + suc k) u us (lt_true u.entry.position (a + suc k) (omega arith)) in
     omega arith
 
-pub users_next : (log : List Logged) (from : ℕ) (t : Taken) → AreNumbered log → first_position log ≤ from → slice_get (takes log) (from - first_position log) ≡ Some t
+pub users_next : (log : List Logged) (from : ℕ) (t : Taken) → AreNumbered log → first_position log ≤ from
+    → slice_get (takes log) (from - first_position log) ≡ Some t
     → users_below log (from + 1) ≡ users_below log from + user_count (class_of t.entry.source)
 unfolding below_of
 users_next log from t numbered above at =
@@ -156,10 +164,12 @@ by_first i w c new t simple st is first =
     let numbered : AreNumbered (log_of w 0) = numbered_in i w simple in
     let low : first_position (log_of w 0) ≤ c.window.freed = st.from_first in
     let at : t.entry.position ≡ first_position (log_of w 0) + (c.window.freed - first_position (log_of w 0)) =
-    numbered_at (first_position (log_of w 0)) (length (takes (log_of w 0))) (takes (log_of w 0)) (c.window.freed - first_position (log_of w 0)) t numbered first.there in
+    numbered_at (first_position (log_of w 0)) (length (takes (log_of w 0))) (takes (log_of w 0))
+    (c.window.freed - first_position (log_of w 0)) t numbered first.there in
     let here : t.entry.position ≡ c.window.freed = omega arith in
     let given : is_given_back i.shape (log_of w 0) c.window.freed ≡ true = ap (is_given_back i.shape (log_of w 0)) (sym here) ∙ first.given in
-    let inside : c.window.freed - first_position (log_of w 0) < length (takes (log_of w 0)) = get_below (takes (log_of w 0)) (c.window.freed - first_position (log_of w 0)) t first.there in
+    let inside : c.window.freed - first_position (log_of w 0) < length (takes (log_of w 0)) =
+    get_below (takes (log_of w 0)) (c.window.freed - first_position (log_of w 0)) t first.there in
     let past : c.window.freed + 1 ≤ freed i.shape (log_of w 0) = freed_past i.shape (log_of w 0) c.window.freed st.to_freed (omega arith) given in
     let users : new.users ≡ users_below (log_of w 0) (c.window.freed + 1) =
     is.users ∙ ap₂ (λ a b. a + b) (ap (λ (x : HeldSectors). x.users) st.window) first.users
@@ -167,7 +177,8 @@ by_first i w c new t simple st is first =
     let entries : map without_frame new.entries ≡ (window_from i.shape (log_of w 0) (c.window.freed + 1)).entries =
     ap (map without_frame) is.entries ∙ map_drop c.window.entries ∙ ap (λ (x : HeldSectors). drop 1 x.entries) st.window
     ∙ sym (window_popped i.shape (log_of w 0) c.window.freed low) in (
-      same_window (sectors_in new) (window_from i.shape (log_of w 0) (c.window.freed + 1)) is.freed users entries ∙ ap (window_from i.shape (log_of w 0)) (sym is.freed),
+      same_window (sectors_in new) (window_from i.shape (log_of w 0) (c.window.freed + 1)) is.freed users entries
+          ∙ ap (window_from i.shape (log_of w 0)) (sym is.freed),
       subst (λ n. n ≤ freed i.shape (log_of w 0)) (sym is.freed) past,
     )
 
@@ -175,11 +186,13 @@ pub popped_window : (i : Image) (w : World) (c : Core) (new : WindowView) → Is
     → (sectors_in new ≡ window_from i.shape (log_of w 0) new.freed) × (new.freed ≤ freed i.shape (log_of w 0))
 popped_window i w c new simple st is =
     let first : (t : Taken) × IsFirstOf i.shape (log_of w 0) c.window.entries (c.window.freed - first_position (log_of w 0)) t =
-    first_of_log i.shape (log_of w 0) c.window.entries (c.window.freed - first_position (log_of w 0)) (ap (λ (x : HeldSectors). x.entries) st.window) (first_held c.window is.readable) in
+    first_of_log i.shape (log_of w 0) c.window.entries (c.window.freed - first_position (log_of w 0)) (ap (λ (x : HeldSectors). x.entries) st.window)
+    (first_held c.window is.readable) in
     by_first i w c new first.0 simple st is first.1
 
 -- the core with another window stands as it did
-pub popped_stands : (i : Image) (w : World) (c : Core) (new : WindowView) → IsSimpleMount i w → Stands i (log_of w) c → IsPopped c.window new → Stands i (log_of w) (record c { window = new })
+pub popped_stands : (i : Image) (w : World) (c : Core) (new : WindowView) → IsSimpleMount i w → Stands i (log_of w) c → IsPopped c.window new
+    → Stands i (log_of w) (record c { window = new })
 popped_stands i w c new simple st is =
     let has = popped_window i w c new simple st is in
     record {
@@ -195,7 +208,8 @@ popped_stands i w c new simple st is =
       resets = st.resets;
       size = is.size ∙ st.size;
       window = has.0;
-      from_first = let low : first_position (log_of w 0) ≤ c.window.freed = st.from_first in let more : new.freed ≡ c.window.freed + 1 = is.freed in omega arith;
+      from_first = let low : first_position (log_of w 0) ≤ c.window.freed = st.from_first in let more : new.freed ≡ c.window.freed + 1 =
+          is.freed in omega arith;
       to_freed = has.1;
       holds = st.holds;
       again = st.again;
@@ -218,13 +232,15 @@ pub popped_else : {F : Type 0} (i : Image) (w : World) (c : Core) (new : WindowV
     → (IsSome o ↔ (view.is_readable_at c.window c.window.freed ≡ true)) → IfNone o (new ≡ c.window) → OnSome o (new.freed ≡ c.window.freed + 1)
     → OnSome o (new.entries ≡ drop 1 c.window.entries) → OnSome o (new.users ≡ c.window.users + users_in (take 1 c.window.entries)) → new.size ≡ c.window.size
     → Stands i (log_of w) (record c { window = new })
-popped_else i w c new None simple st some same passed entries users size = subst (λ (v : WindowView). Stands i (log_of w) (record c { window = v })) (sym same) st
+popped_else i w c new None simple st some same passed entries users size =
+    subst (λ (v : WindowView). Stands i (log_of w) (record c { window = v })) (sym same) st
 popped_else i w c new (Some f) simple st some same passed entries users size =
     popped_stands i w c new simple st (record { readable = some.0 refl; size = size; freed = passed; users = users; entries = entries })
 
 -- ---- the pad target
 
-pub padded_stands : (i : Image) (logs : Logs) (c : Core) (new : Placing) (to : ℕ) → Stands i logs c → new ≡ padded_to c.placer to → Stands i logs (record c { placer = new })
+pub padded_stands : (i : Image) (logs : Logs) (c : Core) (new : Placing) (to : ℕ) → Stands i logs c → new ≡ padded_to c.placer to
+    → Stands i logs (record c { placer = new })
 padded_stands i logs c new to st is = record {
   simple = st.simple;
   unstopped = st.unstopped;

@@ -47,8 +47,10 @@ small i w c simple st =
     record {
       freed = omega arith;
       placed = let is : c.first + c.placed ≡ placed_front i.shape (log_of w 0) = st.placed in omega arith;
-      left = let is : c.left ≡ space.open_addresses i (log_of w) = st.left in let few : space.open_addresses i (log_of w) ≤ i.shape.chunks * 65536 = open_few i w simple in omega arith;
-      free = let is : free_addresses c.lines ≡ space.free_addresses i (log_of w) = free_is i w c st in let few : space.free_addresses i (log_of w) ≤ i.shape.chunks * 65536 = free_few i w simple in omega arith;
+      left = let is : c.left ≡ space.open_addresses i (log_of w) = st.left in let few : space.open_addresses i (log_of w) ≤ i.shape.chunks * 65536 =
+          open_few i w simple in omega arith;
+      free = let is : free_addresses c.lines ≡ space.free_addresses i (log_of w) =
+          free_is i w c st in let few : space.free_addresses i (log_of w) ≤ i.shape.chunks * 65536 = free_few i w simple in omega arith;
       ring = subst (λ (s : Shape). s.ring ≤ 16384) (sym st.layout) simple.mount.accepted.target.ring_high;
       kept = subst (λ (s : Shape). units s * s.ws_opt ≤ s.ring) (sym st.layout) (ring_kept i.shape simple.mount.accepted);
     }

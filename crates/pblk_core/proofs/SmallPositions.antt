@@ -32,13 +32,15 @@ use Rattle.pblk_world.proofs.EngineLogLemmas.{takes_more}
 AreBounded : List Logged → Type 0
 AreBounded log = first_position log ≤ 2 ^ 62 → taken log ≤ 2 ^ 62
 
-taken_next : (i : Image) (known : Logs) (log : List Logged) (b : Begun) (e : EngineEvent) (knows : List ℕ) → begun log ≡ Some b → known 0 ≡ log → IsDecision i known b e
+taken_next : (i : Image) (known : Logs) (log : List Logged) (b : Begun) (e : EngineEvent) (knows : List ℕ) → begun log ≡ Some b → known 0 ≡ log
+    → IsDecision i known b e
     → AreBounded log → AreBounded (log ++ record { event = Decides e; knows = knows } ∷ [])
 unfolding AreBounded
 taken_next i known log b (Take entry mark) knows begins own may was low =
     let l : Logged = record { event = Decides (Take entry mark); knows = knows } in
     let first : first_position (log ++ l ∷ []) ≡ first_position log = first_stays log l b begins in
-    let count : length (takes (log ++ l ∷ [])) ≡ length (takes log) + 1 = ap length (takes_more log l) ∙ length-append (takes log) (record { entry = entry; mark = mark } ∷ []) in
+    let count : length (takes (log ++ l ∷ [])) ≡ length (takes log) + 1 = ap length (takes_more log l)
+    ∙ length-append (takes log) (record { entry = entry; mark = mark } ∷ []) in
     let at : entry.position ≡ taken log = may.position ∙ ap taken own in
     let number : entry.position < 2 ^ 62 = may.position_number in
     omega arith
@@ -81,24 +83,29 @@ sum_few f (suc n) a each =
     let all : sum_by f (range_with_len a (suc n)) ≡ f a + sum_by f (range_with_len (a + 1) n) = sum_by-cons f a (range_with_len (a + 1) n) in
     omega arith
 
-unplaced_short : (i : Image) (w : World) (line : ℕ) (life : LineLife) → IsSimpleMount i w → life_of (log_of w 0) line ≡ life → unplaced_in i.shape (log_of w 0) life ≤ 65536
+unplaced_short : (i : Image) (w : World) (line : ℕ) (life : LineLife) → IsSimpleMount i w → life_of (log_of w 0) line ≡ life
+    → unplaced_in i.shape (log_of w 0) life ≤ 65536
 unplaced_short i w line AsFound simple is = omega arith
 unplaced_short i w line (Freed was knows) simple is = omega arith
 unplaced_short i w line (Opened o) simple is =
-    let wide : o.start.width ≡ length (line_units (known_image i (log_of w)) line) = (opened_lines i (line_units (known_image i (log_of w))) w (follow i w simple) line o is).width in
+    let wide : o.start.width ≡ length (line_units (known_image i (log_of w)) line) =
+    (opened_lines i (line_units (known_image i (log_of w))) w (follow i w simple) line o is).width in
     let few : length (line_units (known_image i (log_of w)) line) ≤ units i.shape = known_units i w (log_of w) line simple.mount in
     let short : data_len i.shape o.start.width ≤ 65536 = data_short i.shape o.start.width simple.mount.accepted (omega arith) in
     go (has_failed (log_of w 0) o) (max (start_len i.shape) (next_address i.shape (log_of w 0) o)) (omega arith) short
   where
-    go : (b : Bool) (m : ℕ) → start_len i.shape ≤ m → data_len i.shape o.start.width ≤ 65536 → (if b then 0 else start_len i.shape + data_len i.shape o.start.width - m) ≤ 65536
+    go : (b : Bool) (m : ℕ) → start_len i.shape ≤ m → data_len i.shape o.start.width ≤ 65536
+        → (if b then 0 else start_len i.shape + data_len i.shape o.start.width - m) ≤ 65536
     go true m from short = omega arith
     go false m from short = omega arith
 
 pub open_few : (i : Image) (w : World) → IsSimpleMount i w → open_addresses i (log_of w) ≤ i.shape.chunks * 65536
-open_few i w simple = sum_few (λ line. unplaced_in i.shape (log_of w 0) (life_of (log_of w 0) line)) i.shape.chunks 0 (λ k low high. unplaced_short i w k (life_of (log_of w 0) k) simple refl)
+open_few i w simple = sum_few (λ line. unplaced_in i.shape (log_of w 0) (life_of (log_of w 0) line)) i.shape.chunks 0
+    (λ k low high. unplaced_short i w k (life_of (log_of w 0) k) simple refl)
 
 pub free_few : (i : Image) (w : World) → IsSimpleMount i w → space.free_addresses i (log_of w) ≤ i.shape.chunks * 65536
-free_few i w simple = sum_few (λ line. if is_free_line i (log_of w) line then line_data (known_image i (log_of w)) line else 0) i.shape.chunks 0 (λ k low high. each k (omega arith) (is_free_line i (log_of w) k))
+free_few i w simple = sum_few (λ line. if is_free_line i (log_of w) line then line_data (known_image i (log_of w)) line else 0) i.shape.chunks 0
+    (λ k low high. each k (omega arith) (is_free_line i (log_of w) k))
   where
     each : (k : ℕ) → k < i.shape.chunks → (b : Bool) → (if b then line_data (known_image i (log_of w)) k else 0) ≤ 65536
     each k high false = omega arith

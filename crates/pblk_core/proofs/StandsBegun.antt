@@ -58,19 +58,23 @@ flat_filtered : {X : Type 0} (p : ℕ → Bool) (f : ℕ → List X) (xs : List 
 flat_filtered p f [] = refl
 flat_filtered {X} p f (x ∷ xs) = go (p x) (flat_filtered p f xs)
   where
-    go : (b : Bool) → flat_map f (filter p xs) ≡ flat_map (λ k. if p k then f k else []) xs → flat_map f (cond b (x ∷ filter p xs) (filter p xs)) ≡ cond b (f x) [] ++ flat_map (λ k. if p k then f k else []) xs
+    go : (b : Bool) → flat_map f (filter p xs) ≡ flat_map (λ k. if p k then f k else []) xs
+        → flat_map f (cond b (x ∷ filter p xs) (filter p xs)) ≡ cond b (f x) [] ++ flat_map (λ k. if p k then f k else []) xs
     go true h = ap (λ ys. f x ++ ys) h
     go false h = h
 
 -- ---- the rows of older lines are older
 
-head_seq : (f : Found) (line seq : ℕ) (row : LineRow) → HeadFits f f.head → slice_get f.lines line ≡ Some row → row.seq ≡ Some seq → seq < seq_after f.lines f.head
+head_seq : (f : Found) (line seq : ℕ) (row : LineRow) → HeadFits f f.head → slice_get f.lines line ≡ Some row → row.seq ≡ Some seq
+    → seq < seq_after f.lines f.head
 head_seq f line seq row fits there is = go f.head fits
   where
     go : (o : Option ℕ) → HeadFits f o → seq < seq_after f.lines o
     go None h = absurd (none-some seq (sym (h line row there) ∙ is))
     go (Some head) h =
-        let next : seq_after f.lines (Some head) ≡ h.1 + 1 = ap (λ (o : Option LineRow). option_map_or (λ n. n + 1) (option_and_then (λ (r : LineRow). r.seq) o) 1) h.2 ∙ ap (λ o. option_map_or (λ n. n + 1) o 1) h.3 in
+        let next : seq_after f.lines (Some head) ≡ h.1 + 1 =
+        ap (λ (o : Option LineRow). option_map_or (λ n. n + 1) (option_and_then (λ (r : LineRow). r.seq) o) 1) h.2
+        ∙ ap (λ o. option_map_or (λ n. n + 1) o 1) h.3 in
         by next (h.4 line row seq there is)
       where
         by : {m n : ℕ} {X : Type 0} → n ≡ m + 1 → (seq < m) ⊎ ((seq ≡ m) × X) → seq < n
@@ -80,7 +84,9 @@ head_seq f line seq row fits there is = go f.head fits
 fit_rows : (s : Shape) (f : Found) → IsFitFound s f → AllByRecursion (IsOlder (seq_after f.lines f.head) f.end) (older_found f.end f.lines)
 fit_rows s f fit = from 0 f.lines (λ k row there. ap (slice_get f.lines) (zero-add k) ∙ there)
   where
-    one : (n : ℕ) (row : LineRow) (o : Option ℕ) → slice_get f.lines n ≡ Some row → row.seq ≡ o → RowFits s f n row o → (r : Row) → option_map (λ seq. record { line = n; seq = seq; bound = if row.young then f.end else row.bound }) o ≡ Some r → IsOlder (seq_after f.lines f.head) f.end r
+    one : (n : ℕ) (row : LineRow) (o : Option ℕ) → slice_get f.lines n ≡ Some row → row.seq ≡ o → RowFits s f n row o → (r : Row)
+        → option_map (λ seq. record { line = n; seq = seq; bound = if row.young then f.end else row.bound }) o ≡ Some r
+        → IsOlder (seq_after f.lines f.head) f.end r
     one n row None there is fits r e = absurd (none-some r e)
     one n row (Some seq) there is fits r e =
         let low : row.bound ≤ f.end = fits.3 in
@@ -91,15 +97,18 @@ fit_rows s f fit = from 0 f.lines (λ k row there. ap (slice_get f.lines) (zero-
         bounded true h = omega arith
         bounded false h = h
 
-    from : (n : ℕ) (rows : List LineRow) → ((k : ℕ) (row : LineRow) → slice_get rows k ≡ Some row → slice_get f.lines (n + k) ≡ Some row) → AllByRecursion (IsOlder (seq_after f.lines f.head) f.end) (filter_map (λ (l : ℕ × LineRow). row_found f.end l.0 l.1) (enumerate_from n rows))
+    from : (n : ℕ) (rows : List LineRow) → ((k : ℕ) (row : LineRow) → slice_get rows k ≡ Some row → slice_get f.lines (n + k) ≡ Some row)
+        → AllByRecursion (IsOlder (seq_after f.lines f.head) f.end) (filter_map (λ (l : ℕ × LineRow). row_found f.end l.0 l.1) (enumerate_from n rows))
     from n [] at = tt
     from n (row ∷ rows) at =
         let zero_is : n + 0 ≡ n = omega arith in
         let there : slice_get f.lines n ≡ Some row = ap (slice_get f.lines) (sym zero_is) ∙ at 0 row refl in
-        add (row_found f.end n row) (filter_map (λ (l : ℕ × LineRow). row_found f.end l.0 l.1) (enumerate_from (n + 1) rows)) (λ r e. one n row row.seq there refl (fit.rows n row there) r e)
+        add (row_found f.end n row) (filter_map (λ (l : ℕ × LineRow). row_found f.end l.0 l.1) (enumerate_from (n + 1) rows))
+        (λ r e. one n row row.seq there refl (fit.rows n row there) r e)
         (from (n + 1) rows (λ k r e. let next : n + 1 + k ≡ n + suc k = omega arith in ap (slice_get f.lines) next ∙ at (suc k) r e))
       where
-        add : (o : Option Row) (rest : List Row) → ((r : Row) → o ≡ Some r → IsOlder (seq_after f.lines f.head) f.end r) → AllByRecursion (IsOlder (seq_after f.lines f.head) f.end) rest → AllByRecursion (IsOlder (seq_after f.lines f.head) f.end) (cons_option o rest)
+        add : (o : Option Row) (rest : List Row) → ((r : Row) → o ≡ Some r → IsOlder (seq_after f.lines f.head) f.end r)
+            → AllByRecursion (IsOlder (seq_after f.lines f.head) f.end) rest → AllByRecursion (IsOlder (seq_after f.lines f.head) f.end) (cons_option o rest)
         add None rest each all = all
         add (Some r) rest each all = (each r refl, all)
 
@@ -115,28 +124,34 @@ used_at : (o : Option Chunk) → is_used_at (option_map (λ (c : Chunk). taken_s
 used_at None = refl
 used_at (Some c) = used_taken c.state
 
-used_same : (j : Image) (f : Found) (line : ℕ) → IsFit j → IsFoundOf j f → line < j.shape.chunks → used_below j.shape f.chunks line (units j.shape) ≡ used_units j line
+used_same : (j : Image) (f : Found) (line : ℕ) → IsFit j → IsFoundOf j f → line < j.shape.chunks
+    → used_below j.shape f.chunks line (units j.shape) ≡ used_units j line
 used_same j f line fit found inside =
     filter_same (λ unit. is_used_at (slice_get f.chunks (unit * j.shape.chunks + line))) (is_used_in j line)
     (λ unit. ap is_used_at (state_is j f line unit fit found inside) ∙ used_at (chunk_in j line unit)) (range_with_len 0 (units j.shape))
 
 resets_begun : (j : Image) (f : Found) → IsFit j → IsFoundOf j f
-    → resets_found j.shape f.chunks f.strays ≡ flat_map (λ line. in_line line (if list_any (λ stray. stray == line) f.strays then used_units j line else [])) (range_with_len 0 j.shape.chunks)
+    → resets_found j.shape f.chunks f.strays ≡ flat_map (λ line. in_line line (if list_any (λ stray. stray == line) f.strays then used_units j line else []))
+    (range_with_len 0 j.shape.chunks)
 resets_begun j f fit found =
     ap (flat_map (λ line. in_line line (used_below j.shape f.chunks line (units j.shape)))) found.strays_are
     ∙ flat_filtered (is_stray j) (λ line. in_line line (used_below j.shape f.chunks line (units j.shape))) (range_with_len 0 j.shape.chunks)
-    ∙ flat_same (λ line. if is_stray j line then in_line line (used_below j.shape f.chunks line (units j.shape)) else []) (λ line. in_line line (if list_any (λ stray. stray == line) f.strays then used_units j line else [])) 0 j.shape.chunks
+    ∙ flat_same (λ line. if is_stray j line then in_line line (used_below j.shape f.chunks line (units j.shape)) else [])
+    (λ line. in_line line (if list_any (λ stray. stray == line) f.strays then used_units j line else [])) 0 j.shape.chunks
     (λ line inside. let high : line < j.shape.chunks = omega arith in
     moved (is_stray j line) line (used_same j f line fit found high)
-    ∙ ap (λ b. in_line line (if b then used_units j line else [])) (sym (ap (list_any (λ stray. stray == line)) found.strays_are ∙ any_passed (is_stray j) 0 j.shape.chunks line (omega arith) (omega arith))))
+    ∙ ap (λ b. in_line line (if b then used_units j line else []))
+    (sym (ap (list_any (λ stray. stray == line)) found.strays_are ∙ any_passed (is_stray j) 0 j.shape.chunks line (omega arith) (omega arith))))
   where
-    moved : (b : Bool) (line : ℕ) → used_below j.shape f.chunks line (units j.shape) ≡ used_units j line → (if b then in_line line (used_below j.shape f.chunks line (units j.shape)) else []) ≡ in_line line (if b then used_units j line else [])
+    moved : (b : Bool) (line : ℕ) → used_below j.shape f.chunks line (units j.shape) ≡ used_units j line
+        → (if b then in_line line (used_below j.shape f.chunks line (units j.shape)) else []) ≡ in_line line (if b then used_units j line else [])
     moved true line e = ap (in_line line) e
     moved false line e = refl
 
 -- ---- the core
 
-pub made_stands : (i : Image) (w : World) (knows : List ℕ) (f : Found) (c : Core) → IsSimpleMount i w → log_of w 0 ≡ [] → IsFitFound i.shape f → IsFoundOf (found_image i (after (log_of w) (Begin (beginning_of f)) knows)) f → IsMadeOn i.shape f c
+pub made_stands : (i : Image) (w : World) (knows : List ℕ) (f : Found) (c : Core) → IsSimpleMount i w → log_of w 0 ≡ [] → IsFitFound i.shape f
+    → IsFoundOf (found_image i (after (log_of w) (Begin (beginning_of f)) knows)) f → IsMadeOn i.shape f c
     → Stands i (after (log_of w) (Begin (beginning_of f)) knows) c
 made_stands i w knows f c simple none fit found is = record {
   simple = simple_after (log_of w 0) (record { event = Decides (Begin (beginning_of f)); knows = knows }) (simple_none (log_of w 0) none) refl refl refl;
@@ -177,7 +192,8 @@ made_stands i w knows f c simple none fit found is = record {
   placed = ap₂ (λ a b. a + b) is.first is.placed ∙ add-zero f.end ∙ sym (placed_is i f new begins);
   left = is.left ∙ sym (no_addresses i f new begins);
   in_flight = is.in_flight ∙ sym (ap length (filter_none (λ unit. is_some (unanswered_on (new 0) unit)) (range_with_len 0 (units i.shape))
-      (all_of (λ unit. is_some (unanswered_on (new 0) unit) ≡ false) (λ unit. ap is_some (none_unanswered i f new unit begins)) (range_with_len 0 (units i.shape)))));
+      (all_of (λ unit. is_some (unanswered_on (new 0) unit) ≡ false) (λ unit. ap is_some (none_unanswered i f new unit begins))
+      (range_with_len 0 (units i.shape)))));
   users = is.users ∙ sym (ap (λ (ts : List Taken). length ts) (no_user_takes i f new begins));
 }
   where
@@ -193,21 +209,27 @@ made_stands i w knows f c simple none fit found is = record {
     resets_are : resets_found i.shape f.chunks f.strays ≡ resets_of i new
     resets_are =
         ap (λ (s : Shape). resets_found s f.chunks f.strays) (sym shape_is) ∙ resets_begun (found_image i new) f begins.fit begins.found
-        ∙ ap (λ (s : Shape). flat_map (λ line. in_line line (if list_any (λ stray. stray == line) f.strays then used_units (found_image i new) line else [])) (range_with_len 0 s.chunks)) shape_is
-        ∙ flat_same (λ line. in_line line (if list_any (λ stray. stray == line) f.strays then used_units (found_image i new) line else [])) (λ line. in_line line (if is_given_up (new 0) line then used_units (known_image i new) line else [])) 0 i.shape.chunks
-        (λ line inside. ap₂ (λ b (j : Image). in_line line (if b then used_units j line else [])) (sym (given_up_are i f new line begins)) (sym (knows_found i f new begins)))
+        ∙ ap (λ (s : Shape). flat_map (λ line. in_line line (if list_any (λ stray. stray == line) f.strays then used_units (found_image i new) line else []))
+        (range_with_len 0 s.chunks)) shape_is
+        ∙ flat_same (λ line. in_line line (if list_any (λ stray. stray == line) f.strays then used_units (found_image i new) line else []))
+        (λ line. in_line line (if is_given_up (new 0) line then used_units (known_image i new) line else [])) 0 i.shape.chunks
+        (λ line inside. ap₂ (λ b (j : Image). in_line line (if b then used_units j line else [])) (sym (given_up_are i f new line begins))
+        (sym (knows_found i f new begins)))
 
     left_are : left_openings i new ≡ []
     left_are = ap (λ (os : List Opening). filter (λ o. has_left (open_line i new o)) os) (none_stands i f new begins)
 
-    same_window : (m n : ℕ) (xs ys : List HeldSector) → m ≡ n → xs ≡ ys → ◌≡◌ {A = HeldSectors} (record { freed = c.window.freed; users = m; entries = xs }) (record { freed = c.window.freed; users = n; entries = ys })
+    same_window : (m n : ℕ) (xs ys : List HeldSector) → m ≡ n → xs ≡ ys
+        → ◌≡◌ {A = HeldSectors} (record { freed = c.window.freed; users = m; entries = xs }) (record { freed = c.window.freed; users = n; entries = ys })
     same_window m n xs ys a b = λ k. record { freed = c.window.freed; users = a k; entries = b k }
 
     window_empty : sectors_in c.window ≡ window_from i.shape (new 0) c.window.freed
-    window_empty = same_window c.window.users 0 (map without_frame c.window.entries) [] is.no_users (ap (map without_frame) is.entries) ∙ sym (window_is i f new c.window.freed begins)
+    window_empty = same_window c.window.users 0 (map without_frame c.window.entries) [] is.no_users (ap (map without_frame) is.entries)
+        ∙ sym (window_is i f new c.window.freed begins)
 
 -- for a drive of this shape
-pub made_on : (i : Image) (w : World) (knows : List ℕ) (s : Shape) (f : Found) (c : Core) → i.shape ≡ s → IsSimpleMount i w → log_of w 0 ≡ [] → IsFitFound s f → IsFoundOf (found_image i (after (log_of w) (Begin (beginning_of f)) knows)) f → IsMadeOn s f c
+pub made_on : (i : Image) (w : World) (knows : List ℕ) (s : Shape) (f : Found) (c : Core) → i.shape ≡ s → IsSimpleMount i w → log_of w 0 ≡ [] → IsFitFound s f
+    → IsFoundOf (found_image i (after (log_of w) (Begin (beginning_of f)) knows)) f → IsMadeOn s f c
     → Stands i (after (log_of w) (Begin (beginning_of f)) knows) c
 made_on i w knows s f c same simple none fit found is =
     made_stands i w knows f c simple none (subst (λ (x : Shape). IsFitFound x f) (sym same) fit) found (subst (λ (x : Shape). IsMadeOn x f c) (sym same) is)

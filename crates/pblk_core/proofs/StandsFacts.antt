@@ -31,7 +31,8 @@ freed_taken_within i w c st =
     let d : c.window.freed ≤ freed i.shape (log_of w 0) = st.to_freed in
     omega arith
 
-pub held_count : (i : Image) (w : World) (c : Core) → Stands i (log_of w) c → length c.window.entries ≡ length (takes (log_of w 0)) - (c.window.freed - first_position (log_of w 0))
+pub held_count : (i : Image) (w : World) (c : Core) → Stands i (log_of w) c
+    → length c.window.entries ≡ length (takes (log_of w 0)) - (c.window.freed - first_position (log_of w 0))
 held_count i w c st =
     sym (length-map c.window.entries without_frame)
     ∙ ap (λ (v : HeldSectors). length v.entries) st.window
@@ -57,7 +58,8 @@ users_few i w c st =
   where
     filter_short : {X : Type 0} (f : X → Bool) (xs : List X) → length (filter f xs) ≤ length xs
     filter_short f [] = omega arith
-    filter_short f (x ∷ xs) = let h : length (filter f xs) ≤ length xs = filter_short f xs in elim (f x) as (λ b. length (cond b (x ∷ filter f xs) (filter f xs)) ≤ length (x ∷ xs)) [ true ↦ omega arith | false ↦ omega arith ]
+    filter_short f (x ∷ xs) = let h : length (filter f xs) ≤ length xs =
+        filter_short f xs in elim (f x) as (λ b. length (cond b (x ∷ filter f xs) (filter f xs)) ≤ length (x ∷ xs)) [ true ↦ omega arith | false ↦ omega arith ]
 
 pub ring_some : (s : Shape) → IsAccepted s → 0 < s.ring
 ring_some s accepted = let low : units s * (s.mw_cunits + 4 * s.ws_opt) + 16 ≤ s.ring = accepted.target.ring_low in omega arith

@@ -88,10 +88,12 @@ reads_keep w (b ∷ bs) = reads_keep (turned w b.mark.position progress.Readable
 
 -- ---- how many stripes the line has
 
-total_is : (i : Image) (w : World) (unit : ℕ) (of : Program) → (is : IsOnWay i w unit of) → is.row.opening.start.width * (i.shape.clba / i.shape.ws_opt) ≡ stripe_count i (now_units i w) is.row.opening.line
+total_is : (i : Image) (w : World) (unit : ℕ) (of : Program) → (is : IsOnWay i w unit of)
+    → is.row.opening.start.width * (i.shape.clba / i.shape.ws_opt) ≡ stripe_count i (now_units i w) is.row.opening.line
 total_is i w unit of is = ap (λ g. g * (i.shape.clba / i.shape.ws_opt)) is.line_is.well.width
 
-end_is : (i : Image) (w : World) (unit : ℕ) (of : Program) → (is : IsOnWay i w unit of) → line_end i.shape is.row.opening / i.shape.ws_opt ≡ stripe_count i (now_units i w) is.row.opening.line
+end_is : (i : Image) (w : World) (unit : ℕ) (of : Program) → (is : IsOnWay i w unit of)
+    → line_end i.shape is.row.opening / i.shape.ws_opt ≡ stripe_count i (now_units i w) is.row.opening.line
 end_is i w unit of is =
     ap (λ g. g * i.shape.clba / i.shape.ws_opt) is.line_is.well.width
     ∙ ap (λ n. n / i.shape.ws_opt) (sym is.line_is.striped.line_is)
@@ -100,21 +102,32 @@ end_is i w unit of is =
 -- ---- the table
 
 pub whole_now : (i : Image) (w : World) (unit event : ℕ) (knows : List ℕ) (of : Program) → IsSimpleMount i w → (is : IsOnWay i w unit of)
-    → have_landed (after (log_of w) (Landed unit event) knows 0) is.row.opening (line_end i.shape is.row.opening / i.shape.ws_opt) ≡ (landed_count (log_of w 0) is.row.opening + 1 == stripe_count i (now_units i w) is.row.opening.line)
+    → have_landed (after (log_of w) (Landed unit event) knows 0) is.row.opening (line_end i.shape is.row.opening / i.shape.ws_opt) ≡
+    (landed_count (log_of w 0) is.row.opening + 1 == stripe_count i (now_units i w) is.row.opening.line)
 whole_now i w unit event knows of simple is =
     let room : HasRoom i.shape (log_of w 0) is.row.opening = has_room i w is.row.stripe.stripe.line is.row.opening simple is.stands in
     landed_whole i.shape (after (log_of w) (Landed unit event) knows 0) is.row.opening is.line_is.striped.some
-    (record { some = room.some; within = subst (λ (ps : List Placed). length ps * i.shape.ws_opt ≤ line_end i.shape is.row.opening) (sym (stripes_landed (log_of w) unit event knows is.row.opening)) room.within })
-    ∙ ap₂ (λ m n. m == n) (one_landed (log_of w 0) unit event knows is.row.stripe is.row.opening is.row.waits (ap (is_life is.row.opening.number) is.row.life ∙ same_number is.row.opening.number)) (end_is i w unit of is)
+    (record {
+      some = room.some;
+      within =
+          subst (λ (ps : List Placed). length ps * i.shape.ws_opt ≤ line_end i.shape is.row.opening)
+          (sym (stripes_landed (log_of w) unit event knows is.row.opening)) room.within;
+    })
+    ∙ ap₂ (λ m n. m == n) (one_landed (log_of w 0) unit event knows is.row.stripe is.row.opening is.row.waits
+    (ap (is_life is.row.opening.number) is.row.life ∙ same_number is.row.opening.number)) (end_is i w unit of is)
 
-pub table_now : (i : Image) (w : World) (unit event : ℕ) (knows : List ℕ) (of : Program) (full : Bool) → IsSimpleMount i w → (is : IsOnWay i w unit of) → MayLand (log_of w) unit event
-    → (landed_count (log_of w 0) is.row.opening + 1 == stripe_count i (now_units i w) is.row.opening.line) ≡ full → (ts : List Taken) → AreItsEntries i (log_of w) is.row.stripe ts
+pub table_now : (i : Image) (w : World) (unit event : ℕ) (knows : List ℕ) (of : Program) (full : Bool) → IsSimpleMount i w → (is : IsOnWay i w unit of)
+    → MayLand (log_of w) unit event
+    → (landed_count (log_of w 0) is.row.opening + 1 == stripe_count i (now_units i w) is.row.opening.line) ≡ full → (ts : List Taken)
+    → AreItsEntries i (log_of w) is.row.stripe ts
     → rows_of i (after (log_of w) (Landed unit event) knows) ≡ with_row of.line (full_if full) (note_entries (log_of w 0) of.line (rows_of i (log_of w)) ts)
 table_now i w unit event knows of full simple is may e ts are =
     let order = in_order i w simple in
-    rows_landed i (log_of w) unit event knows is.row.stripe is.row.opening ts order.freed order.failed is.row.waits is.row.life is.stands (chunk_landed i w unit event is.row.stripe simple may is.row.waits)
+    rows_landed i (log_of w) unit event knows is.row.stripe is.row.opening ts order.freed order.failed is.row.waits is.row.life is.stands
+    (chunk_landed i w unit event is.row.stripe simple may is.row.waits)
     (rising_by (first_position (log_of w 0)) (length (takes (log_of w 0))) (takes (log_of w 0)) order.numbered) are
-    ∙ ap₂ (λ ln b. with_row ln (full_if b) (note_entries (log_of w 0) ln (rows_of i (log_of w)) ts)) (sym is.its_line ∙ line_of_way i w unit of is) (whole_now i w unit event knows of simple is ∙ e)
+    ∙ ap₂ (λ ln b. with_row ln (full_if b) (note_entries (log_of w 0) ln (rows_of i (log_of w)) ts)) (sym is.its_line ∙ line_of_way i w unit of is)
+    (whole_now i w unit event knows of simple is ∙ e)
 
 -- ---- the rows beside the entries
 
@@ -125,14 +138,17 @@ given_before false b e = refl
 abbrev told_hold : Taken → Option ℕ → Option Taken → Option Hold
 told_hold t ln u = Some (record { mark = t.mark; line = ln; taker = option_map (λ (v : Taken). v.entry.position) u })
 
-holds_now : (i : Image) (w : World) (unit event : ℕ) (knows : List ℕ) (of : Program) (kept : Holds) → IsSimpleMount i w → (is : IsOnWay i w unit of) → AreHolds i.shape (log_of w 0) kept → AreHolds i.shape (after (log_of w) (Landed unit event) knows 0) kept
+holds_now : (i : Image) (w : World) (unit event : ℕ) (knows : List ℕ) (of : Program) (kept : Holds) → IsSimpleMount i w → (is : IsOnWay i w unit of)
+    → AreHolds i.shape (log_of w 0) kept → AreHolds i.shape (after (log_of w) (Landed unit event) knows 0) kept
 holds_now i w unit event knows of kept simple is are = record {
   room = are.room;
   each = λ t there given.
       let l : Logged = record { event = Decides (Landed unit event); knows = knows } in
       let before : is_given_back i.shape (log_of w 0) t.entry.position ≡ false =
-      given_before (is_given_back i.shape (log_of w 0) t.entry.position) (can_be_read i.shape (after (log_of w) (Landed unit event) knows 0) is.row.opening unit t.entry.position)
-      (sym (given_back_landed i w unit event knows is.row.stripe is.row.opening t.entry.position simple is.row.waits is.row.life (rows_of_chunks i w is.row.opening unit simple)) ∙ given) in
+      given_before (is_given_back i.shape (log_of w 0) t.entry.position)
+      (can_be_read i.shape (after (log_of w) (Landed unit event) knows 0) is.row.opening unit t.entry.position)
+      (sym (given_back_landed i w unit event knows is.row.stripe is.row.opening t.entry.position simple is.row.waits is.row.life
+      (rows_of_chunks i w is.row.opening unit simple)) ∙ given) in
       are.each t (subst (λ (ts : List Taken). Contains ts t) (takes_landed (log_of w) unit event knows) there) before
       ∙ ap₂ (λ ln (u : Option Taken). told_hold t ln u)
       (sym (line_same i.shape (log_of w 0) (after (log_of w) (Landed unit event) knows 0) (stripes_kept (log_of w 0) (Landed unit event) knows refl).placements
@@ -169,7 +185,8 @@ pub record AreReadNow (i : Image) (w : World) (unit event : ℕ) (knows : List �
   pub window : sectors_in new.window ≡ window_from i.shape (after (log_of w) (Landed unit event) knows 0) new.window.freed
   pub slots : (lba : ℕ) → lba < i.shape.capacity → fin.get new.map lba ≡ Some (slot_of i (after (log_of w) (Landed unit event) knows) lba)
 
-full_by : (i : Image) (w : World) (unit : ℕ) (of : Program) (left : ℕ) (full : Bool) → (is : IsOnWay i w unit of) → left ≡ unlanded i.shape (log_of w 0) is.row.opening → (left - 1 ≡ 0 → full ≡ true) → (full ≡ true → left - 1 ≡ 0)
+full_by : (i : Image) (w : World) (unit : ℕ) (of : Program) (left : ℕ) (full : Bool) → (is : IsOnWay i w unit of)
+    → left ≡ unlanded i.shape (log_of w 0) is.row.opening → (left - 1 ≡ 0 → full ≡ true) → (full ≡ true → left - 1 ≡ 0)
     → (landed_count (log_of w 0) is.row.opening + 1 == stripe_count i (now_units i w) is.row.opening.line) ≡ full
 full_by i w unit of left true is e last none =
     let total = total_is i w unit of is in
@@ -188,9 +205,12 @@ full_by i w unit of left false is e last none =
 number_less : (m n : ℕ) → m ≤ n → (m == n) ≡ false → m < n
 number_less m n h e = grind arith
 
-pub landed_stands : (i : Image) (w : World) (unit event : ℕ) (knows : List ℕ) (old new : Core) (of : Program) (mid : OpenLines) (full : Bool) (from to : ℕ) → IsSimpleMount i w → (st : Stands i (log_of w) old)
-    → (is : IsOnWay i w unit of) → IsAwaited i (log_of w) old.placer.entries.pad st.again of → MayLand (log_of w) unit event → (has : HasSlot i (log_of w) old.open is.row.opening)
-    → IsLandedInto old new of has.k has.slot mid full from to → AreReadNow i w unit event knows old new → Stands i (after (log_of w) (Landed unit event) knows) new
+pub landed_stands : (i : Image) (w : World) (unit event : ℕ) (knows : List ℕ) (old new : Core) (of : Program) (mid : OpenLines) (full : Bool) (from to : ℕ)
+    → IsSimpleMount i w → (st : Stands i (log_of w) old)
+    → (is : IsOnWay i w unit of) → IsAwaited i (log_of w) old.placer.entries.pad st.again of → MayLand (log_of w) unit event
+    → (has : HasSlot i (log_of w) old.open is.row.opening)
+    → IsLandedInto old new of has.k has.slot mid full from to → AreReadNow i w unit event knows old new
+    → Stands i (after (log_of w) (Landed unit event) knows) new
 landed_stands i w unit event knows old new of mid full from to simple st is waits may has into reads = record {
   simple = simple_after (log_of w 0) (record { event = Decides (Landed unit event); knows = knows }) st.simple refl refl refl;
   unstopped = unstopped_after (log_of w 0) (record { event = Decides (Landed unit event); knows = knows }) st.unstopped refl;
@@ -199,10 +219,15 @@ landed_stands i w unit event knows old new of mid full from to simple st is wait
   has_begun = begun_kept (log_of w 0) (Landed unit event) knows refl ∙ st.has_begun;
   capacity = into.capacity ∙ st.capacity;
   slots = reads.slots;
-  table = into.lines ∙ ap (with_row of.line (full_if full)) lines_are ∙ sym (table_now i w unit event knows of full simple is may full_is entries.entries entries.own);
-  units = ap (λ l. l.items) into.live ∙ st.units ∙ same_in_range (live_now i (log_of w)) (live_now i new_logs) 0 i.shape.chunks (λ line inside. sym (live_landed i w unit event knows is.row.stripe st.beginning line simple may is.row.waits st.has_begun));
-  resets = ap resets_left into.resets ∙ st.resets ∙ sym (resets_landed i w unit event knows is.row.stripe st.beginning simple may is.row.waits st.has_begun (ap is_opened is.stands));
-  size = ap (λ v. v.size) into.window ∙ (reads_keep (all_landed old.window of.positions) (reads_of has.slot of.unit from to)).1 ∙ (landed_keeps old.window of.positions).1 ∙ st.size;
+  table = into.lines ∙ ap (with_row of.line (full_if full)) lines_are
+      ∙ sym (table_now i w unit event knows of full simple is may full_is entries.entries entries.own);
+  units = ap (λ l. l.items) into.live ∙ st.units
+      ∙ same_in_range (live_now i (log_of w)) (live_now i new_logs) 0 i.shape.chunks
+      (λ line inside. sym (live_landed i w unit event knows is.row.stripe st.beginning line simple may is.row.waits st.has_begun));
+  resets = ap resets_left into.resets ∙ st.resets
+      ∙ sym (resets_landed i w unit event knows is.row.stripe st.beginning simple may is.row.waits st.has_begun (ap is_opened is.stands));
+  size = ap (λ v. v.size) into.window ∙ (reads_keep (all_landed old.window of.positions) (reads_of has.slot of.unit from to)).1
+      ∙ (landed_keeps old.window of.positions).1 ∙ st.size;
   window = reads.window;
   from_first = subst (λ n. first_position (new_logs 0) ≤ n) (sym same_freed) (subst (λ p. p ≤ old.window.freed) (sym first_is) st.from_first);
   to_freed = subst (λ n. n ≤ freed i.shape (new_logs 0)) (sym same_freed) (le_trans st.to_freed (freed_landed i w st.beginning unit event knows simple may));
@@ -213,7 +238,9 @@ landed_stands i w unit event knows old new of mid full from to simple st is wait
   next_seq = ap (λ r. r.seq) into.start ∙ st.next_seq ∙ ap (λ os. st.beginning.beginning.seq + length os) (sym (openings_landed (log_of w) unit event knows));
   first_seq = ap (λ r. r.first_seq) into.start ∙ st.first_seq;
   own_capacity = ap (λ r. r.capacity) into.start ∙ st.own_capacity;
-  older = ap (λ r. (start_numbers r).rows) into.start ∙ st.older ∙ older_kept i (log_of w) (Landed unit event) knows st.beginning st.has_begun refl (λ line. inl (ap is_as_found (life_more (log_of w 0) (record { event = Decides (Landed unit event); knows = knows }) line)));
+  older = ap (λ r. (start_numbers r).rows) into.start ∙ st.older
+      ∙ older_kept i (log_of w) (Landed unit event) knows st.beginning st.has_begun refl
+      (λ line. inl (ap is_as_found (life_more (log_of w 0) (record { event = Decides (Landed unit event); knows = knows }) line)));
   fits = fits_same old new into.first (ap (λ r. r.first_seq) into.start) (ap (λ r. (start_numbers r).rows) into.start) st.fits;
   first = into.first ∙ st.first ∙ sym first_is;
   placed = ap₂ (λ a b. a + b) into.first into.placed ∙ st.placed ∙ sym (front_kept i.shape (log_of w 0) (Landed unit event) knows refl);
@@ -229,7 +256,8 @@ landed_stands i w unit event knows old new of mid full from to simple st is wait
     first_is = first_kept (log_of w 0) (Landed unit event) knows refl
 
     same_freed : new.window.freed ≡ old.window.freed
-    same_freed = ap (λ v. v.freed) into.window ∙ (reads_keep (all_landed old.window of.positions) (reads_of has.slot of.unit from to)).0 ∙ (landed_keeps old.window of.positions).0
+    same_freed = ap (λ v. v.freed) into.window ∙ (reads_keep (all_landed old.window of.positions) (reads_of has.slot of.unit from to)).0
+        ∙ (landed_keeps old.window of.positions).0
 
     entries : AreEntriesOf i w old unit of is
     entries = entries_of_way i w old unit of simple st is
@@ -245,7 +273,8 @@ landed_stands i w unit event knows old new of mid full from to simple st is wait
     few = fewer_landed i w unit of is
 
     open_is : (b : Bool) → full ≡ b → AreOpenLines i (after (log_of w) (Landed unit event) knows) new.open
-    open_is true e = line_leaves i w unit event knows old.placer.entries.pad st.again of old.open mid new.open simple is waits st.open_lines has into.in_slot (into.gone e)
+    open_is true e = line_leaves i w unit event knows old.placer.entries.pad st.again of old.open mid new.open simple is waits st.open_lines has into.in_slot
+        (into.gone e)
         (number_same (landed_count (log_of w 0) is.row.opening + 1) (stripe_count i (now_units i w) is.row.opening.line) (full_is ∙ e))
     open_is false e = subst (AreOpenLines i (after (log_of w) (Landed unit event) knows)) (sym (into.stay e))
         (lines_stay i w unit event knows old.placer.entries.pad st.again of old.open mid simple is waits st.open_lines has into.in_slot
@@ -253,7 +282,8 @@ landed_stands i w unit event knows old new of mid full from to simple st is wait
 
     flight : new.under_way ≡ under_way i.shape (new_logs 0)
     flight =
-        let less : under_way i.shape (log_of w 0) ≡ under_way i.shape (new_logs 0) + 1 = one_less_under_way i w unit event knows is.row.stripe simple is.row.inside is.row.waits in
+        let less : under_way i.shape (log_of w 0) ≡ under_way i.shape (new_logs 0) + 1 =
+        one_less_under_way i w unit event knows is.row.stripe simple is.row.inside is.row.waits in
         let was : old.under_way ≡ under_way i.shape (log_of w 0) = st.in_flight in
         into.under_way ∙ (let n : old.under_way - 1 ≡ under_way i.shape (new_logs 0) = omega arith in n)
 

@@ -16,5 +16,6 @@ use Rattle.write_window.specs.Window as view
 -- the window's front synced is the log's
 pub synced_stands : (i : Image) (w : World) (c : Core) → IsSimpleMount i w → Stands i (log_of w) c
     → view.synced c.window ≡ record { users = users_below (log_of w 0) (synced i.shape (log_of w 0)); position = synced i.shape (log_of w 0) }
-synced_stands i w c simple st = front_synced i.shape (log_of w 0) c.window.freed c.window (in_order i w (accepted_small i.shape simple.mount.accepted) simple.mount.legal).numbered
+synced_stands i w c simple st =
+    front_synced i.shape (log_of w 0) c.window.freed c.window (in_order i w (accepted_small i.shape simple.mount.accepted) simple.mount.legal).numbered
     st.from_first (le_trans st.to_freed (freed_within i.shape (log_of w 0))) st.window

@@ -70,7 +70,8 @@ use Rattle.pblk_world.proofs.EngineLogLemmas.{takes_more}
 
 -- ---- entries and their rows
 
-hold_same : (s : Shape) (log : List Logged) (e : EngineEvent) (knows : List ℕ) (t : Taken) → IsQuiet log e knows → hold_of s (log ++ record { event = Decides e; knows = knows } ∷ []) t ≡ hold_of s log t
+hold_same : (s : Shape) (log : List Logged) (e : EngineEvent) (knows : List ℕ) (t : Taken) → IsQuiet log e knows
+    → hold_of s (log ++ record { event = Decides e; knows = knows } ∷ []) t ≡ hold_of s log t
 hold_same s log e knows t quiet = ap₂ (λ l u. record { mark = t.mark; line = l; taker = option_map (λ (v : Taken). v.entry.position) u })
     (line_same s log new (quiet_alike log e knows quiet).placements (lost_same log new (quiet_alike log e knows quiet)) t.entry.position)
     (later_same log (record { event = Decides e; knows = knows }) t quiet.takes)
@@ -78,24 +79,30 @@ hold_same s log e knows t quiet = ap₂ (λ l u. record { mark = t.mark; line = 
     new : List Logged
     new = log ++ record { event = Decides e; knows = knows } ∷ []
 
-pub takes_same : (log : List Logged) (e : EngineEvent) (knows : List ℕ) → IsQuiet log e knows → takes (log ++ record { event = Decides e; knows = knows } ∷ []) ≡ takes log
-takes_same log e knows quiet = takes_more log (record { event = Decides e; knows = knows }) ∙ ap (λ o. takes log ++ o) (ap (λ o. Rattle.std.specs.Option.option_to_list o) quiet.takes) ∙ append-nil (takes log)
+pub takes_same : (log : List Logged) (e : EngineEvent) (knows : List ℕ) → IsQuiet log e knows
+    → takes (log ++ record { event = Decides e; knows = knows } ∷ []) ≡ takes log
+takes_same log e knows quiet = takes_more log (record { event = Decides e; knows = knows })
+    ∙ ap (λ o. takes log ++ o) (ap (λ o. Rattle.std.specs.Option.option_to_list o) quiet.takes) ∙ append-nil (takes log)
 
-pub quiet_holds : (s : Shape) (log : List Logged) (e : EngineEvent) (knows : List ℕ) (holds : Holds) → IsQuiet log e knows → AreHolds s log holds → AreHolds s (log ++ record { event = Decides e; knows = knows } ∷ []) holds
+pub quiet_holds : (s : Shape) (log : List Logged) (e : EngineEvent) (knows : List ℕ) (holds : Holds) → IsQuiet log e knows → AreHolds s log holds
+    → AreHolds s (log ++ record { event = Decides e; knows = knows } ∷ []) holds
 quiet_holds s log e knows holds quiet are = record {
   room = are.room;
   each = λ t among waits.
-      are.each t (subst (λ ts. Contains ts t) (takes_same log e knows quiet) among) (sym (given_same s log (log ++ record { event = Decides e; knows = knows } ∷ []) (quiet_alike log e knows quiet) t.entry.position) ∙ waits)
+      are.each t (subst (λ ts. Contains ts t) (takes_same log e knows quiet) among)
+      (sym (given_same s log (log ++ record { event = Decides e; knows = knows } ∷ []) (quiet_alike log e knows quiet) t.entry.position) ∙ waits)
       ∙ ap Some (sym (hold_same s log e knows t quiet));
 }
 
-pub quiet_freed : (s : Shape) (log : List Logged) (e : EngineEvent) (knows : List ℕ) → IsQuiet log e knows → first_position (log ++ record { event = Decides e; knows = knows } ∷ []) ≡ first_position log
+pub quiet_freed : (s : Shape) (log : List Logged) (e : EngineEvent) (knows : List ℕ) → IsQuiet log e knows
+    → first_position (log ++ record { event = Decides e; knows = knows } ∷ []) ≡ first_position log
     → freed s log ≤ freed s (log ++ record { event = Decides e; knows = knows } ∷ [])
 quiet_freed s log e knows quiet first =
     let new : List Logged = log ++ record { event = Decides e; knows = knows } ∷ [] in
     subst (λ p. freed s log ≤ least_missing (is_given_back s new) (length (takes new)) p) (sym first)
     (subst (λ ts. freed s log ≤ least_missing (is_given_back s new) (length ts) (first_position log)) (sym (takes_same log e knows quiet))
-    (least_rises (is_given_back s log) (is_given_back s new) (length (takes log)) (length (takes log)) (first_position log) (λ q h. given_same s log new (quiet_alike log e knows quiet) q ∙ h) (le_refl (length (takes log)))))
+    (least_rises (is_given_back s log) (is_given_back s new) (length (takes log)) (length (takes log)) (first_position log)
+    (λ q h. given_same s log new (quiet_alike log e knows quiet) q ∙ h) (le_refl (length (takes log)))))
 
 -- ---- the line
 
@@ -103,7 +110,8 @@ abbrev pub opening_next : List Logged → Core → List ℕ → Opening
 opening_next log c knows = record { number = length log; line = next_line c; start = next_start c; knows = knows }
 
 -- nothing was placed in it yet
-none_of : (log : List Logged) (e : EngineEvent) (knows : List ℕ) (o : Opening) → IsQuiet log e knows → o.number ≡ length log → stripes_of (log ++ record { event = Decides e; knows = knows } ∷ []) o ≡ []
+none_of : (log : List Logged) (e : EngineEvent) (knows : List ℕ) (o : Opening) → IsQuiet log e knows → o.number ≡ length log
+    → stripes_of (log ++ record { event = Decides e; knows = knows } ∷ []) o ≡ []
 none_of log e knows o quiet number =
     ap (filter (λ (p : Placed). is_life o.number p.life)) (AreAlike.placements (quiet_alike log e knows quiet))
     ∙ ap (λ n. filter (λ (p : Placed). is_life n p.life) (placements log)) number
@@ -115,8 +123,10 @@ none_in_range a b = ap (map (λ (x : Block). x.mark)) (ap (take (b - a)) (drop-n
 nothing_less : (n : ℕ) → n ≡ n - 0
 nothing_less n = omega arith
 
-no_marks : (s : Shape) (o : Opening) (ps : List Placed) → ps ≡ [] → map (λ (b : Block). b.mark) (slice_range (flat_map (λ (p : Placed). p.stripe.blocks) ps) (start_len s) (end_address s o)) ≡ []
-no_marks s o ps none = ap (λ (qs : List Placed). map (λ (b : Block). b.mark) (slice_range (flat_map (λ (p : Placed). p.stripe.blocks) qs) (start_len s) (end_address s o))) none ∙ none_in_range (start_len s) (end_address s o)
+no_marks : (s : Shape) (o : Opening) (ps : List Placed) → ps ≡ []
+    → map (λ (b : Block). b.mark) (slice_range (flat_map (λ (p : Placed). p.stripe.blocks) ps) (start_len s) (end_address s o)) ≡ []
+no_marks s o ps none = ap (λ (qs : List Placed). map (λ (b : Block). b.mark)
+    (slice_range (flat_map (λ (p : Placed). p.stripe.blocks) qs) (start_len s) (end_address s o))) none ∙ none_in_range (start_len s) (end_address s o)
 
 -- what a core's fields are once it opened its next line
 pub record IsOpenedInto (old new : Core) : Type 0 where
@@ -142,7 +152,8 @@ pub record IsOpenedInto (old new : Core) : Type 0 where
   pub users : new.users ≡ old.users
 
 -- the line of a place is the one that was set there, or stands there as it did
-set_at : (lines : List OpenLine) (n k : ℕ) (x line : OpenLine) → n < length lines → slice_get (slice_set lines n x) k ≡ Some line → ((k ≡ n) × (x ≡ line)) ⊎ ((k ≢ n) × (slice_get lines k ≡ Some line))
+set_at : (lines : List OpenLine) (n k : ℕ) (x line : OpenLine) → n < length lines → slice_get (slice_set lines n x) k ≡ Some line
+    → ((k ≡ n) × (x ≡ line)) ⊎ ((k ≢ n) × (slice_get lines k ≡ Some line))
 set_at lines n k x line inside there = go (eqb_tells k n)
   where
     go : ((eqb k n ≡ true) × (k ≡ n)) ⊎ ((eqb k n ≡ false) × (k ≢ n)) → ((k ≡ n) × (x ≡ line)) ⊎ ((k ≢ n) × (slice_get lines k ≡ Some line))
@@ -152,14 +163,17 @@ set_at lines n k x line inside there = go (eqb_tells k n)
 one_more : (n : ℕ) → n < 2 → n + 1 ≤ 2
 one_more n h = omega arith
 
-pub lines_opened : (i : Image) (w : World) (knows : List ℕ) (old new : Core) → IsSimpleMount i w → Stands i (log_of w) old → MayOpenNext old → IsOpenedInto old new
+pub lines_opened : (i : Image) (w : World) (knows : List ℕ) (old new : Core) → IsSimpleMount i w → Stands i (log_of w) old → MayOpenNext old
+    → IsOpenedInto old new
     → AreOpenLines i (after (log_of w) (Open (next_line old) (next_start old)) knows) new.open
 lines_opened i w knows old new simple st may is = record {
   two = ap length slots_are ∙ length-set old.open.slots.items old.open.count x ∙ st.open_lines.two;
   shapes = λ k line there. go k line (set_at old.open.slots.items old.open.count k x line inside (ap (λ ls. slice_get ls k) (sym slots_are) ∙ there));
   few = subst (λ n. n ≤ 2) (sym is.open_count) (one_more old.open.count may.few);
-  count = is.open_count ∙ ap (λ n. n + 1) st.open_lines.count ∙ sym (ap length left_are ∙ length-append (left_openings i (log_of w)) (opening_next (log_of w 0) old knows ∷ []));
-  each = λ k o line there held. each_more (left_openings i (log_of w)) (opening_next (log_of w 0) old knows) IsKept earlier last k o (ap (λ os. slice_get os k) (sym left_are) ∙ there) line
+  count = is.open_count ∙ ap (λ n. n + 1) st.open_lines.count
+      ∙ sym (ap length left_are ∙ length-append (left_openings i (log_of w)) (opening_next (log_of w 0) old knows ∷ []));
+  each = λ k o line there held. each_more (left_openings i (log_of w)) (opening_next (log_of w 0) old knows) IsKept earlier last k o
+      (ap (λ os. slice_get os k) (sym left_are) ∙ there) line
       (ap (λ ls. slice_get ls k) (sym slots_are) ∙ held);
 }
   where
@@ -196,7 +210,8 @@ lines_opened i w knows old new simple st may is = record {
     shape_is : slot.0.records.shape ≡ i.shape
     shape_is = st.open_lines.shapes old.open.count slot.0 slot.1
 
-    go : (k : ℕ) (line : OpenLine) → ((k ≡ old.open.count) × (x ≡ line)) ⊎ ((k ≢ old.open.count) × (slice_get old.open.slots.items k ≡ Some line)) → line.records.shape ≡ i.shape
+    go : (k : ℕ) (line : OpenLine) → ((k ≡ old.open.count) × (x ≡ line)) ⊎ ((k ≢ old.open.count) × (slice_get old.open.slots.items k ≡ Some line))
+        → line.records.shape ≡ i.shape
     go k line (inl h) = ap (λ (l : OpenLine). l.records.shape) (sym h.1) ∙ shape_is
     go k line (inr h) = st.open_lines.shapes k line h.1
 
@@ -215,7 +230,9 @@ lines_opened i w knows old new simple st may is = record {
     last line held =
         let o : Opening = opening_next (log_of w 0) old knows in
         let none : stripes_of (new_logs 0) o ≡ [] = none_of (log_of w 0) e knows o quiet refl in
-        subst (IsOpenLine i new_logs o) (same_Some x line (sym (get_set_same old.open.slots.items old.open.count (length (left_openings i (log_of w))) x (sym st.open_lines.count) inside) ∙ held))
+        subst (IsOpenLine i new_logs o)
+        (same_Some x line (sym (get_set_same old.open.slots.items old.open.count (length (left_openings i (log_of w))) x (sym st.open_lines.count) inside)
+        ∙ held))
         (record {
           records = record {
             shape = shape_is;
@@ -231,7 +248,8 @@ lines_opened i w knows old new simple st may is = record {
               ∙ sym (ap (λ (ps : List Placed). (next_start old).width * (i.shape.clba / i.shape.ws_opt) - length (filter (has_landed (new_logs 0)) ps)) none);
         })
 
-pub opened_stands : (i : Image) (w : World) (knows : List ℕ) (old new : Core) → IsSimpleMount i w → Stands i (log_of w) old → MayOpenNext old → IsOpenedInto old new
+pub opened_stands : (i : Image) (w : World) (knows : List ℕ) (old new : Core) → IsSimpleMount i w → Stands i (log_of w) old → MayOpenNext old
+    → IsOpenedInto old new
     → Stands i (after (log_of w) (Open (next_line old) (next_start old)) knows) new
 opened_stands i w knows old new simple st may is = record {
   simple = simple_after (log_of w 0) (record { event = Decides (Open (next_line old) (next_start old)); knows = knows }) st.simple refl refl refl;
@@ -242,10 +260,13 @@ opened_stands i w knows old new simple st may is = record {
   capacity = ap fin.len is.map ∙ st.capacity;
   slots = λ x within. ap (λ m. fin.get m x) is.map ∙ st.slots x within ∙ ap Some (sym (quiet_slot i (log_of w) e knows x quiet));
   table = table_is;
-  units = ap (λ l. l.items) is.live ∙ st.units ∙ map_same (live_now i (log_of w)) (live_now i new_logs) (λ line. ap (λ (j : Image). bits_of (line_units j line)) (sym (known_kept i (log_of w) e knows refl (λ unit. refl)))) (range_with_len 0 i.shape.chunks);
+  units = ap (λ l. l.items) is.live ∙ st.units
+      ∙ map_same (live_now i (log_of w)) (live_now i new_logs)
+      (λ line. ap (λ (j : Image). bits_of (line_units j line)) (sym (known_kept i (log_of w) e knows refl (λ unit. refl)))) (range_with_len 0 i.shape.chunks);
   resets = ap resets_left is.resets ∙ st.resets ∙ sym (resets_opened i (log_of w) (next_line old) (next_start old) knows line_is.least.is_free);
   size = ap (λ v. v.size) is.window ∙ st.size;
-  window = ap sectors_in is.window ∙ st.window ∙ sym (quiet_window i.shape (log_of w) e knows old.window.freed quiet) ∙ ap (λ (v : view.WindowView). window_from i.shape (new_logs 0) v.freed) (sym is.window);
+  window = ap sectors_in is.window ∙ st.window ∙ sym (quiet_window i.shape (log_of w) e knows old.window.freed quiet)
+      ∙ ap (λ (v : view.WindowView). window_from i.shape (new_logs 0) v.freed) (sym is.window);
   from_first = subst (λ v. first_position (new_logs 0) ≤ v.freed) (sym is.window) (subst (λ p. p ≤ old.window.freed) (sym first_is) st.from_first);
   to_freed =
       let rises : freed i.shape (log_of w 0) ≤ freed i.shape (new_logs 0) = quiet_freed i.shape (log_of w 0) e knows quiet first_is in
@@ -258,11 +279,13 @@ opened_stands i w knows old new simple st may is = record {
   next_seq = is.seq ∙ seq_is;
   first_seq = is.first_seq ∙ st.first_seq;
   own_capacity = is.own_capacity ∙ st.own_capacity;
-  older = ap (λ rs. map Rattle.pblk_meta.specs.Records.row_numbers rs) is.older ∙ st.older ∙ older_kept i (log_of w) e knows st.beginning st.has_begun refl (λ line. old_row line (nat_eq (next_line old) line) refl);
+  older = ap (λ rs. map Rattle.pblk_meta.specs.Records.row_numbers rs) is.older ∙ st.older
+      ∙ older_kept i (log_of w) e knows st.beginning st.has_begun refl (λ line. old_row line (nat_eq (next_line old) line) refl);
   fits = fits_same old new is.first is.first_seq (ap (λ rs. map Rattle.pblk_meta.specs.Records.row_numbers rs) is.older) st.fits;
   first = is.first ∙ st.first ∙ sym first_is;
   placed = ap₂ (λ a b. a + b) is.first is.placed ∙ st.placed ∙ sym (front_kept i.shape (log_of w 0) e knows refl);
-  left = is.left ∙ ap₂ (λ a (s : Shape). a + data_len s (next_start old).width) st.left st.layout ∙ sym (addresses_opened i (log_of w) (next_line old) (next_start old) knows line_is.least.in_range line_is.closed);
+  left = is.left ∙ ap₂ (λ a (s : Shape). a + data_len s (next_start old).width) st.left st.layout
+      ∙ sym (addresses_opened i (log_of w) (next_line old) (next_start old) knows line_is.least.in_range line_is.closed);
   in_flight = is.under_way ∙ st.in_flight ∙ under_way_same i.shape (log_of w 0) (new_logs 0) alike;
   users = is.users ∙ st.users ∙ ap (λ ts. length (filter (λ (t : Taken). is_users t.entry.source) ts)) (sym (takes_same (log_of w 0) e knows quiet));
 }
@@ -288,10 +311,13 @@ opened_stands i w knows old new simple st may is = record {
     first_is : first_position (new_logs 0) ≡ first_position (log_of w 0)
     first_is = first_stays (log_of w 0) (record { event = Decides e; knows = knows }) st.beginning st.has_begun
 
-    old_row : (line : ℕ) (c : Bool) → nat_eq (next_line old) line ≡ c → HasOldRow i (log_of w) (after (log_of w) (Open (next_line old) (next_start old)) knows) line
-    old_row line true f = inr (ap (λ n. start_of (found_image i (log_of w)) n) (sym (eqb-true (next_line old) line f)) ∙ free_unstarted i (log_of w) (next_line old) (engine_plain i w simple) line_is.least.is_free)
+    old_row : (line : ℕ) (c : Bool) → nat_eq (next_line old) line ≡ c
+        → HasOldRow i (log_of w) (after (log_of w) (Open (next_line old) (next_start old)) knows) line
+    old_row line true f = inr (ap (λ n. start_of (found_image i (log_of w)) n) (sym (eqb-true (next_line old) line f))
+        ∙ free_unstarted i (log_of w) (next_line old) (engine_plain i w simple) line_is.least.is_free)
     old_row line false f = inl (ap is_as_found (life_more (log_of w 0) (record { event = Decides (Open (next_line old) (next_start old)); knows = knows }) line
-        ∙ ap (λ c. if c then Opened (record { number = length (log_of w 0); line = line; start = next_start old; knows = knows }) else life_of (log_of w 0) line) f))
+        ∙ ap (λ c. if c then Opened (record { number = length (log_of w 0); line = line; start = next_start old; knows = knows }) else life_of
+        (log_of w 0) line) f))
 
     there : slice_get old.lines.rows (next_line old) ≡ Some (row_of_line i (log_of w) (0 + next_line old))
     there = ap (λ t. slice_get t.rows (next_line old)) st.table ∙ row_there (row_of_line i (log_of w)) i.shape.chunks 0 (next_line old) line_is.least.in_range
@@ -300,11 +326,13 @@ opened_stands i w knows old new simple st may is = record {
     table_is =
         changed_is old.lines new.lines (next_line old) (turned states.Open (next_start old).width) (row_of_line i (log_of w) (0 + next_line old)) there is.lines
         ∙ ap (with_row (next_line old) (turned states.Open (next_start old).width)) st.table
-        ∙ sym (rows_opened i (log_of w) st.beginning (next_line old) (next_start old) knows simple.mount.accepted.drive (none_freed (log_of w 0) (engine_plain i w simple)) allowed)
+        ∙ sym (rows_opened i (log_of w) st.beginning (next_line old) (next_start old) knows simple.mount.accepted.drive
+        (none_freed (log_of w 0) (engine_plain i w simple)) allowed)
 
     placing_is : new.placer ≡ placing_of i new_logs new.placer.entries.pad st.again
     placing_is =
-        is.placer ∙ ap (λ p. line_begun p (next_line old) (next_units old)) st.placing ∙ ap (line_begun (placing_of i (log_of w) old.placer.entries.pad st.again) (next_line old)) line_is.units_are
+        is.placer ∙ ap (λ p. line_begun p (next_line old) (next_units old)) st.placing
+        ∙ ap (line_begun (placing_of i (log_of w) old.placer.entries.pad st.again) (next_line old)) line_is.units_are
         ∙ sym (placing_opened i (log_of w) (next_line old) (next_start old) knows old.placer.entries.pad st.again line_is.closed line_is.stripes)
         ∙ ap (λ n. placing_of i new_logs n st.again) (sym (ap (λ p. p.entries.pad) is.placer))
 
@@ -312,5 +340,6 @@ opened_stands i w knows old new simple st may is = record {
     seq_is =
         let was : old.start.seq ≡ st.beginning.beginning.seq + length (openings (log_of w 0)) = st.next_seq in
         let more : length (openings (new_logs 0)) ≡ length (openings (log_of w 0)) + 1 =
-        ap length (openings_more (log_of w 0) (record { event = Decides e; knows = knows })) ∙ length-append (openings (log_of w 0)) (opening_next (log_of w 0) old knows ∷ []) in
+        ap length (openings_more (log_of w 0) (record { event = Decides e; knows = knows }))
+        ∙ length-append (openings (log_of w 0)) (opening_next (log_of w 0) old knows ∷ []) in
         omega arith

@@ -114,7 +114,8 @@ map_taken f zero xs = refl
 map_taken f (suc n) [] = refl
 map_taken f (suc n) (x ∷ xs) = ap (λ ys. f x ∷ ys) (map_taken f n xs)
 
-pub positions_are : (s : Shape) (log : List Logged) (kind : StripeKind) → positions_for s log kind ≡ positions_of (take (entries_for kind s.ws_opt) (waiting s log))
+pub positions_are : (s : Shape) (log : List Logged) (kind : StripeKind)
+    → positions_for s log kind ≡ positions_of (take (entries_for kind s.ws_opt) (waiting s log))
 positions_are s log kinds.Start = refl
 positions_are s log kinds.Data = map_taken (λ (t : Taken). t.entry.position) s.ws_opt (waiting s log)
 positions_are s log kinds.Pad = refl
@@ -122,8 +123,10 @@ positions_are s log kinds.End = refl
 
 -- ---- the table
 
-rows_by_kind : (i : Image) (logs : Logs) (stripe : Stripe) (knows : List ℕ) (o : Opening) (kind : StripeKind) → IsInOrder i logs → IsPlacing (logs 0) stripe o → IsOfKind i logs o stripe kind
-    → rows_of i (after logs (Place stripe) knows) ≡ place_entries (logs 0) stripe.line (rows_of i logs) (take (entries_for kind i.shape.ws_opt) (waiting i.shape (logs 0)))
+rows_by_kind : (i : Image) (logs : Logs) (stripe : Stripe) (knows : List ℕ) (o : Opening) (kind : StripeKind) → IsInOrder i logs → IsPlacing (logs 0) stripe o
+    → IsOfKind i logs o stripe kind
+    → rows_of i (after logs (Place stripe) knows) ≡ place_entries (logs 0) stripe.line (rows_of i logs)
+    (take (entries_for kind i.shape.ws_opt) (waiting i.shape (logs 0)))
 rows_by_kind i logs stripe knows o kinds.Start is at its = rows_beside i logs stripe knows o is.small at is.freed is.numbered (inl its)
 rows_by_kind i logs stripe knows o kinds.Data is at its = rows_placed i logs stripe knows o is.small at is.freed is.lost is.numbered is.marked is.sectors its
 rows_by_kind i logs stripe knows o kinds.Pad is at its = absurd its
@@ -131,12 +134,15 @@ rows_by_kind i logs stripe knows o kinds.End is at its = rows_beside i logs stri
 
 -- ---- addresses
 
-pub left_by_kind : (i : Image) (logs : Logs) (stripe : Stripe) (knows : List ℕ) (o : Opening) (kind : StripeKind) → IsAccepted i.shape → IsPlacing (logs 0) stripe o → stripe.line < i.shape.chunks → IsOfKind i logs o stripe kind
+pub left_by_kind : (i : Image) (logs : Logs) (stripe : Stripe) (knows : List ℕ) (o : Opening) (kind : StripeKind) → IsAccepted i.shape
+    → IsPlacing (logs 0) stripe o → stripe.line < i.shape.chunks → IsOfKind i logs o stripe kind
     → open_addresses i logs ≡ open_addresses i (after logs (Place stripe) knows) + entries_for kind i.shape.ws_opt
-left_by_kind i logs stripe knows o kinds.Start accepted at inside its = let same = other_addresses i logs stripe knows o accepted.drive at inside (inl its) in omega arith
+left_by_kind i logs stripe knows o kinds.Start accepted at inside its = let same =
+    other_addresses i logs stripe knows o accepted.drive at inside (inl its) in omega arith
 left_by_kind i logs stripe knows o kinds.Data accepted at inside its = data_addresses i logs stripe knows o accepted.drive at inside its
 left_by_kind i logs stripe knows o kinds.Pad accepted at inside its = absurd its
-left_by_kind i logs stripe knows o kinds.End accepted at inside its = let same = other_addresses i logs stripe knows o accepted.drive at inside (inr (inl its)) in omega arith
+left_by_kind i logs stripe knows o kinds.End accepted at inside its = let same =
+    other_addresses i logs stripe knows o accepted.drive at inside (inr (inl its)) in omega arith
 
 -- ---- the marks of the line
 
@@ -155,7 +161,8 @@ short_range xs a n =
 pads_fill : (w : ℕ) (b : Block) (bs : List Block) → length bs ≤ w → length (bs ++ replicate (w - length bs) b) ≤ w
 pads_fill w b bs few = omega (arith, length-append bs (replicate (w - length bs) b), length-replicate (w - length bs) b)
 
-pub blocks_short : (s : Shape) (log : List Logged) (o : Opening) (at : ℕ) (kind : StripeKind) → kind ≢ kinds.Pad → length (blocks_for s log o at kind) ≤ s.ws_opt
+pub blocks_short : (s : Shape) (log : List Logged) (o : Opening) (at : ℕ) (kind : StripeKind) → kind ≢ kinds.Pad
+    → length (blocks_for s log o at kind) ≤ s.ws_opt
 blocks_short s log o at kinds.Start other = short_range _ (at - 0) s.ws_opt
 blocks_short s log o at kinds.Data other =
     let ts : List Taken = take s.ws_opt (waiting s log) in
@@ -166,9 +173,11 @@ blocks_short s log o at kinds.End other = short_range _ (at - end_address s o) s
 placed_blocks : (i : Image) (w : World) (o : Opening) → IsSimpleMount i w → length (line_blocks (log_of w 0) o) ≡ next_address i.shape (log_of w 0) o
 placed_blocks i w o simple =
     blocks_length i.shape.ws_opt (stripes_of (log_of w 0) o)
-    (all_filter (λ (p : Placed). length p.stripe.blocks ≡ i.shape.ws_opt) (λ (p : Placed). is_life o.number p.life) (placements (log_of w 0)) (have_blocks i w simple.mount.accepted simple.mount.legal).blocks)
+    (all_filter (λ (p : Placed). length p.stripe.blocks ≡ i.shape.ws_opt) (λ (p : Placed). is_life o.number p.life) (placements (log_of w 0))
+    (have_blocks i w simple.mount.accepted simple.mount.legal).blocks)
 
-marks_by_kind : (i : Image) (w : World) (stripe : Stripe) (knows : List ℕ) (o : Opening) (at : ℕ) (kind : StripeKind) → IsSimpleMount i w → life_of (log_of w 0) stripe.line ≡ Opened o
+marks_by_kind : (i : Image) (w : World) (stripe : Stripe) (knows : List ℕ) (o : Opening) (at : ℕ) (kind : StripeKind) → IsSimpleMount i w
+    → life_of (log_of w 0) stripe.line ≡ Opened o
     → at ≡ next_address i.shape (log_of w 0) o → IsInPart i.shape o at kind → length stripe.blocks ≤ i.shape.ws_opt
     → data_marks i.shape (with_place (log_of w 0) stripe knows) o ≡ data_marks i.shape (log_of w 0) o ++ marks_for kind stripe
 marks_by_kind i w stripe knows o at kinds.Start simple opened is part short =
@@ -208,28 +217,34 @@ slot_now kind slot stripe = with_marks slot (marks_for kind stripe)
 same_slot : (slot line : KeptLine) → line ≡ slot → line ≡ with_marks slot []
 same_slot slot line e = e ∙ ap (λ (ms : List Mark). with_all slot ms) (sym (append-nil slot.records.marks))
 
-here_now : (kind : StripeKind) (slots : List KeptLine) (k : ℕ) (slot line : KeptLine) (stripe : Stripe) → slice_get slots k ≡ Some slot → slice_get (slots_for kind slots k slot stripe) k ≡ Some line
+here_now : (kind : StripeKind) (slots : List KeptLine) (k : ℕ) (slot line : KeptLine) (stripe : Stripe) → slice_get slots k ≡ Some slot
+    → slice_get (slots_for kind slots k slot stripe) k ≡ Some line
     → line ≡ slot_now kind slot stripe
 here_now kinds.Start slots k slot line stripe there e = same_slot slot line (sym (same_Some slot line (sym there ∙ e)))
 here_now kinds.Data slots k slot line stripe there e =
-    same_Some line (with_marks slot (map (λ (b : Block). b.mark) stripe.blocks)) (sym e ∙ get_set_same slots k k (with_marks slot (map (λ (b : Block). b.mark) stripe.blocks)) refl (slice_get_within slots k slot there))
+    same_Some line (with_marks slot (map (λ (b : Block). b.mark) stripe.blocks))
+    (sym e ∙ get_set_same slots k k (with_marks slot (map (λ (b : Block). b.mark) stripe.blocks)) refl (slice_get_within slots k slot there))
 here_now kinds.Pad slots k slot line stripe there e = same_slot slot line (sym (same_Some slot line (sym there ∙ e)))
 here_now kinds.End slots k slot line stripe there e = same_slot slot line (sym (same_Some slot line (sym there ∙ e)))
 
-else_now : (kind : StripeKind) (slots : List KeptLine) (k j : ℕ) (slot : KeptLine) (stripe : Stripe) → j ≢ k → slice_get (slots_for kind slots k slot stripe) j ≡ slice_get slots j
+else_now : (kind : StripeKind) (slots : List KeptLine) (k j : ℕ) (slot : KeptLine) (stripe : Stripe) → j ≢ k
+    → slice_get (slots_for kind slots k slot stripe) j ≡ slice_get slots j
 else_now kinds.Start slots k j slot stripe other = refl
 else_now kinds.Data slots k j slot stripe other = get_set_other slots k j (with_marks slot (map (λ (b : Block). b.mark) stripe.blocks)) other
 else_now kinds.Pad slots k j slot stripe other = refl
 else_now kinds.End slots k j slot stripe other = refl
 
-slots_count : (kind : StripeKind) (slots : List KeptLine) (k : ℕ) (slot : KeptLine) (stripe : Stripe) → length (slots_for kind slots k slot stripe) ≡ length slots
+slots_count : (kind : StripeKind) (slots : List KeptLine) (k : ℕ) (slot : KeptLine) (stripe : Stripe)
+    → length (slots_for kind slots k slot stripe) ≡ length slots
 slots_count kinds.Start slots k slot stripe = refl
 slots_count kinds.Data slots k slot stripe = length-set slots k (with_marks slot (map (λ (b : Block). b.mark) stripe.blocks))
 slots_count kinds.Pad slots k slot stripe = refl
 slots_count kinds.End slots k slot stripe = refl
 
-line_of_it : (i : Image) (w : World) (stripe : Stripe) (knows : List ℕ) (o : Opening) (at : ℕ) (kind : StripeKind) (slot : KeptLine) → IsSimpleMount i w → IsPlacing (log_of w 0) stripe o
-    → o.number < length (log_of w 0) → at ≡ next_address i.shape (log_of w 0) o → IsInPart i.shape o at kind → length stripe.blocks ≤ i.shape.ws_opt → IsOpenLine i (log_of w) o slot
+line_of_it : (i : Image) (w : World) (stripe : Stripe) (knows : List ℕ) (o : Opening) (at : ℕ) (kind : StripeKind) (slot : KeptLine) → IsSimpleMount i w
+    → IsPlacing (log_of w 0) stripe o
+    → o.number < length (log_of w 0) → at ≡ next_address i.shape (log_of w 0) o → IsInPart i.shape o at kind → length stripe.blocks ≤ i.shape.ws_opt
+    → IsOpenLine i (log_of w) o slot
     → IsOpenLine i (after (log_of w) (Place stripe) knows) o (slot_now kind slot stripe)
 line_of_it i w stripe knows o at kind slot simple placing before begins part short is = record {
   records = record {
@@ -244,7 +259,8 @@ line_of_it i w stripe knows o at kind slot simple placing before begins part sho
   left = is.left ∙ sym (unlanded_placed i.shape (log_of w 0) stripe knows o o placing);
 }
 
-line_of_other : (i : Image) (w : World) (stripe : Stripe) (knows : List ℕ) (o other : Opening) (slot : KeptLine) → IsPlacing (log_of w 0) stripe o → other.number < length (log_of w 0)
+line_of_other : (i : Image) (w : World) (stripe : Stripe) (knows : List ℕ) (o other : Opening) (slot : KeptLine) → IsPlacing (log_of w 0) stripe o
+    → other.number < length (log_of w 0)
     → is_life other.number (Opened o) ≡ false → IsOpenLine i (log_of w) other slot → IsOpenLine i (after (log_of w) (Place stripe) knows) other slot
 line_of_other i w stripe knows o other slot placing before apart is = record {
   records = record {
@@ -271,7 +287,8 @@ record IsHere (i : Image) (w : World) (c : Core) (pad : ℕ) (o : Opening) (of :
   count : of.count ≡ length of.positions
   positions : of.positions ≡ positions_of (take (entries_for of.kind i.shape.ws_opt) (waiting i.shape (log_of w 0)))
 
-is_here : (i : Image) (w : World) (c : Core) (pad : ℕ) (o : Opening) (of : Program) (stripe : Stripe) → IsSimpleMount i w → IsOfferedNow i w pad o of → IsStripeFor i (log_of w) o of stripe → of.count ≡ length of.positions → IsHere i w c pad o of stripe
+is_here : (i : Image) (w : World) (c : Core) (pad : ℕ) (o : Opening) (of : Program) (stripe : Stripe) → IsSimpleMount i w → IsOfferedNow i w pad o of
+    → IsStripeFor i (log_of w) o of stripe → of.count ≡ length of.positions → IsHere i w c pad o of stripe
 is_here i w c pad o of stripe simple now for count =
     let its : IsStripeOf i (log_of w) pad o stripe of = now.its stripe for in
     let kind : IsOfKind i (log_of w) o stripe of.kind = of_kind i w pad o of stripe simple now for in
@@ -282,7 +299,8 @@ is_here i w c pad o of stripe simple now for count =
       may = now.may stripe for;
       placing = record { opened = its.opened; idle = its.idle };
       kind = kind;
-      short = subst (λ (bs : List Block). length bs ≤ i.shape.ws_opt) (sym for.blocks) (blocks_short i.shape (log_of w 0) o of.at of.kind (no_pad of.kind kind));
+      short = subst (λ (bs : List Block). length bs ≤ i.shape.ws_opt) (sym for.blocks)
+          (blocks_short i.shape (log_of w 0) o of.at of.kind (no_pad of.kind kind));
       count = count;
       positions = now.positions ∙ positions_are i.shape (log_of w 0) of.kind;
     }
@@ -293,15 +311,18 @@ is_here i w c pad o of stripe simple now for count =
     no_pad kinds.Pad its e = its
     no_pad kinds.End its e = absurd cc
 
-lines_stand : (i : Image) (w : World) (knows : List ℕ) (old new : Core) (o : Opening) (of : Program) (stripe : Stripe) → IsSimpleMount i w → Stands i (log_of w) old → (has : HasSlot i (log_of w) old.open o)
-    → IsHere i w old old.placer.entries.pad o of stripe → IsPlacedInto old new has.k has.slot of stripe → AreOpenLines i (after (log_of w) (Place stripe) knows) new.open
+lines_stand : (i : Image) (w : World) (knows : List ℕ) (old new : Core) (o : Opening) (of : Program) (stripe : Stripe) → IsSimpleMount i w
+    → Stands i (log_of w) old → (has : HasSlot i (log_of w) old.open o)
+    → IsHere i w old old.placer.entries.pad o of stripe → IsPlacedInto old new has.k has.slot of stripe
+    → AreOpenLines i (after (log_of w) (Place stripe) knows) new.open
 lines_stand i w knows old new o of stripe simple st has here is = record {
   two = ap (λ (ls : List KeptLine). length ls) is.open_slots ∙ slots_count of.kind old.open.slots.items has.k has.slot stripe ∙ st.open_lines.two;
   shapes = λ k line there. shape_of k line there;
   count = is.open_count ∙ st.open_lines.count ∙ ap (λ (os : List Opening). length os) (sym left);
   few = subst (λ n. n ≤ 2) (sym is.open_count) st.open_lines.few;
   each = λ k other line at there.
-      by_place k other line (ap (λ (os : List Opening). slice_get os k) (sym left) ∙ at) (ap (λ (ls : List KeptLine). slice_get ls k) (sym is.open_slots) ∙ there) (nat_eq k has.k) refl;
+      by_place k other line (ap (λ (os : List Opening). slice_get os k) (sym left) ∙ at)
+      (ap (λ (ls : List KeptLine). slice_get ls k) (sym is.open_slots) ∙ there) (nat_eq k has.k) refl;
 }
   where
     new_logs : Logs
@@ -325,39 +346,52 @@ lines_stand i w knows old new o of stripe simple st has here is = record {
         go : (b : Bool) → nat_eq k has.k ≡ b → line.records.shape ≡ i.shape
         go true e =
             let same : k ≡ has.k = eqb-true k has.k e in
-            ap (λ (l : KeptLine). l.records.shape) (here_now of.kind old.open.slots.items has.k has.slot line stripe has.there (ap (slice_get (slots_for of.kind old.open.slots.items has.k has.slot stripe)) (sym same) ∙ now))
+            ap (λ (l : KeptLine). l.records.shape)
+            (here_now of.kind old.open.slots.items has.k has.slot line stripe has.there
+            (ap (slice_get (slots_for of.kind old.open.slots.items has.k has.slot stripe)) (sym same) ∙ now))
             ∙ st.open_lines.shapes has.k has.slot has.there
         go false e = st.open_lines.shapes k line (sym (else_now of.kind old.open.slots.items has.k k has.slot stripe (apart k e)) ∙ now)
 
-    by_place : (k : ℕ) (other : Opening) (line : KeptLine) → slice_get (left_openings i (log_of w)) k ≡ Some other → slice_get (slots_for of.kind old.open.slots.items has.k has.slot stripe) k ≡ Some line
+    by_place : (k : ℕ) (other : Opening) (line : KeptLine) → slice_get (left_openings i (log_of w)) k ≡ Some other
+        → slice_get (slots_for of.kind old.open.slots.items has.k has.slot stripe) k ≡ Some line
         → (b : Bool) → nat_eq k has.k ≡ b → IsOpenLine i (after (log_of w) (Place stripe) knows) other line
     by_place k other line at there true e =
         let same : k ≡ has.k = eqb-true k has.k e in
         let own : o ≡ other = same_Some o other (sym has.opening ∙ ap (slice_get (left_openings i (log_of w))) (sym same) ∙ at) in
         let slot : line ≡ slot_now of.kind has.slot stripe =
-        here_now of.kind old.open.slots.items has.k has.slot line stripe has.there (ap (slice_get (slots_for of.kind old.open.slots.items has.k has.slot stripe)) (sym same) ∙ there) in
+        here_now of.kind old.open.slots.items has.k has.slot line stripe has.there
+        (ap (slice_get (slots_for of.kind old.open.slots.items has.k has.slot stripe)) (sym same) ∙ there) in
         subst (λ (p : Opening). IsOpenLine i (after (log_of w) (Place stripe) knows) p line) own
         (subst (IsOpenLine i (after (log_of w) (Place stripe) knows) o) (sym slot)
-        (line_of_it i w stripe knows o of.at of.kind has.slot simple here.placing (left_before i (log_of w) has.k o has.opening) here.now.at here.now.part here.short has.is))
+        (line_of_it i w stripe knows o of.at of.kind has.slot simple here.placing
+        (left_before i (log_of w) has.k o has.opening) here.now.at here.now.part here.short has.is))
     by_place k other line at there false e =
         let before : slice_get old.open.slots.items k ≡ Some line = sym (else_now of.kind old.open.slots.items has.k k has.slot stripe (apart k e)) ∙ there in
         line_of_other i w stripe knows o other line here.placing (left_before i (log_of w) k other at)
-        (other_number o.number other.number (λ f. apart k e (one_place (left_openings i (log_of w)) k has.k other o (rise_filtered (λ p. has_left (open_line i (log_of w) p)) (standing (log_of w 0)) (standing_rise (log_of w 0))) at has.opening (sym f))))
+        (other_number o.number other.number
+        (λ f. apart k e (one_place (left_openings i (log_of w)) k has.k other o
+        (rise_filtered (λ p. has_left (open_line i (log_of w) p)) (standing (log_of w 0)) (standing_rise (log_of w 0))) at has.opening (sym f))))
         (st.open_lines.each k other line at before)
 
 -- ---- the core
 
-freed_placed : (s : Shape) (log : List Logged) (stripe : Stripe) (knows : List ℕ) (o : Opening) → IsPlacing log stripe o → first_position (with_place log stripe knows) ≡ first_position log
+freed_placed : (s : Shape) (log : List Logged) (stripe : Stripe) (knows : List ℕ) (o : Opening) → IsPlacing log stripe o
+    → first_position (with_place log stripe knows) ≡ first_position log
     → freed s log ≤ freed s (with_place log stripe knows)
 freed_placed s log stripe knows o is first =
     let new : List Logged = with_place log stripe knows in
     let kept : AreKept log new = place_kept log stripe knows o is.opened (omega (arith, is.idle)) in
-    let more : length (takes log) ≤ length (takes new) = subst (λ ts. length (takes log) ≤ length ts) (sym (takes_more log (record { event = Decides (Place stripe); knows = knows }) ∙ append-nil (takes log))) (omega arith) in
+    let more : length (takes log) ≤ length (takes new) =
+    subst (λ ts. length (takes log) ≤ length ts) (sym (takes_more log (record { event = Decides (Place stripe); knows = knows }) ∙ append-nil (takes log)))
+    (omega arith) in
     subst (λ p. freed s log ≤ least_missing (is_given_back s new) (length (takes new)) p) (sym first)
-    (least_rises (is_given_back s log) (is_given_back s new) (length (takes log)) (length (takes new)) (first_position log) (λ q e. given_kept s log new kept q ∙ e) more)
+    (least_rises (is_given_back s log) (is_given_back s new) (length (takes log)) (length (takes new)) (first_position log)
+    (λ q e. given_kept s log new kept q ∙ e) more)
 
-pub placed_stands : (i : Image) (w : World) (knows : List ℕ) (old new : Core) (o : Opening) (of : Program) (stripe : Stripe) → IsSimpleMount i w → Stands i (log_of w) old → (has : HasSlot i (log_of w) old.open o)
-    → IsOfferedNow i w old.placer.entries.pad o of → IsStripeFor i (log_of w) o of stripe → of.count ≡ length of.positions → IsPlacedInto old new has.k has.slot of stripe
+pub placed_stands : (i : Image) (w : World) (knows : List ℕ) (old new : Core) (o : Opening) (of : Program) (stripe : Stripe) → IsSimpleMount i w
+    → Stands i (log_of w) old → (has : HasSlot i (log_of w) old.open o)
+    → IsOfferedNow i w old.placer.entries.pad o of → IsStripeFor i (log_of w) o of stripe → of.count ≡ length of.positions
+    → IsPlacedInto old new has.k has.slot of stripe
     → Stands i (after (log_of w) (Place stripe) knows) new
 placed_stands i w knows old new o of stripe simple st has now for count is = record {
   simple = simple_after (log_of w 0) (record { event = Decides (Place stripe); knows = knows }) st.simple refl refl refl;
@@ -366,16 +400,21 @@ placed_stands i w knows old new o of stripe simple st has now for count is = rec
   beginning = st.beginning;
   has_begun = begun_kept (log_of w 0) (Place stripe) knows refl ∙ st.has_begun;
   capacity = ap (λ m. fin.len m) is.map ∙ st.capacity;
-  slots = λ lba within. ap (λ m. fin.get m lba) is.map ∙ st.slots lba within ∙ ap Some (sym (place_slot i (log_of w) w stripe knows lba simple.mount.legal refl here.may));
+  slots = λ lba within. ap (λ m. fin.get m lba) is.map ∙ st.slots lba within
+      ∙ ap Some (sym (place_slot i (log_of w) w stripe knows lba simple.mount.legal refl here.may));
   table = table_is;
   units = ap (λ l. l.items) is.live ∙ st.units ∙ map_same (live_now i (log_of w)) (live_now i new_logs)
-      (λ line. sym (ap (λ (j : Image). bits_of (line_units j line)) (known_kept i (log_of w) (Place stripe) knows refl (λ unit. refl)))) (range_with_len 0 i.shape.chunks);
-  resets = ap resets_left is.resets ∙ st.resets ∙ sym (resets_quiet i (log_of w) (Place stripe) knows refl (λ unit. refl) (λ line. life_more (log_of w 0) (record { event = Decides (Place stripe); knows = knows }) line));
+      (λ line. sym (ap (λ (j : Image). bits_of (line_units j line)) (known_kept i (log_of w) (Place stripe) knows refl (λ unit. refl))))
+      (range_with_len 0 i.shape.chunks);
+  resets = ap resets_left is.resets ∙ st.resets
+      ∙ sym (resets_quiet i (log_of w) (Place stripe) knows refl (λ unit. refl)
+      (λ line. life_more (log_of w 0) (record { event = Decides (Place stripe); knows = knows }) line));
   size = ap (λ v. v.size) is.window ∙ st.size;
   window = ap sectors_in is.window ∙ st.window ∙ sym (place_window i (log_of w) w stripe knows old.window.freed simple.mount.legal refl here.may)
       ∙ ap (window_from i.shape (new_logs 0)) (sym (ap (λ v. v.freed) is.window));
   from_first = subst (λ v. first_position (new_logs 0) ≤ v.freed) (sym is.window) (subst (λ p. p ≤ old.window.freed) (sym first_is) st.from_first);
-  to_freed = subst (λ v. v.freed ≤ freed i.shape (new_logs 0)) (sym is.window) (le_trans st.to_freed (freed_placed i.shape (log_of w 0) stripe knows o here.placing first_is));
+  to_freed = subst (λ v. v.freed ≤ freed i.shape (new_logs 0)) (sym is.window)
+      (le_trans st.to_freed (freed_placed i.shape (log_of w 0) stripe knows o here.placing first_is));
   holds = holds_are;
   again = st.again;
   placing = placing_is ∙ ap (λ p. placing_of i new_logs p st.again) (sym (ap (λ (p : Placing). p.entries.pad) placing_is));
@@ -383,7 +422,9 @@ placed_stands i w knows old new o of stripe simple st has now for count is = rec
   next_seq = ap (λ r. r.seq) is.start ∙ st.next_seq ∙ ap (λ os. st.beginning.beginning.seq + length os) (sym openings_are);
   first_seq = ap (λ r. r.first_seq) is.start ∙ st.first_seq;
   own_capacity = ap (λ r. r.capacity) is.start ∙ st.own_capacity;
-  older = ap (λ r. (start_numbers r).rows) is.start ∙ st.older ∙ older_kept i (log_of w) (Place stripe) knows st.beginning st.has_begun refl (λ line. inl (ap is_as_found (life_more (log_of w 0) (record { event = Decides (Place stripe); knows = knows }) line)));
+  older = ap (λ r. (start_numbers r).rows) is.start ∙ st.older
+      ∙ older_kept i (log_of w) (Place stripe) knows st.beginning st.has_begun refl
+      (λ line. inl (ap is_as_found (life_more (log_of w 0) (record { event = Decides (Place stripe); knows = knows }) line)));
   fits = fits_same old new is.first (ap (λ r. r.first_seq) is.start) (ap (λ r. (start_numbers r).rows) is.start) st.fits;
   first = is.first ∙ st.first ∙ sym first_is;
   placed = placed_is;
@@ -432,10 +473,12 @@ placed_stands i w knows old new o of stripe simple st has now for count is = rec
     holds_are = record {
       room = ap (λ (hs : List Hold). length hs) is.holds ∙ rows_length of.line of.positions old.holds.rows.items ∙ st.holds.room;
       each = λ t among kept.
-          ap (λ (hs : List Hold). slice_get hs (t.entry.position % i.shape.ring)) (is.holds ∙ ap₂ (λ line (qs : List ℕ). placed_rows line old.holds.rows.items qs) (sym for.line) here.positions)
+          ap (λ (hs : List Hold). slice_get hs (t.entry.position % i.shape.ring))
+          (is.holds ∙ ap₂ (λ line (qs : List ℕ). placed_rows line old.holds.rows.items qs) (sym for.line) here.positions)
           ∙ row_placed_is i w old stripe knows o (entries_for of.kind i.shape.ws_opt) t simple st here.placing in_stripe
           (subst (λ (xs : List Taken). Contains xs t) takes_are among)
-          (sym (given_kept i.shape (log_of w 0) (new_logs 0) (place_kept (log_of w 0) stripe knows o here.placing.opened (omega (arith, here.placing.idle))) t.entry.position) ∙ kept);
+          (sym (given_kept i.shape (log_of w 0) (new_logs 0)
+          (place_kept (log_of w 0) stripe knows o here.placing.opened (omega (arith, here.placing.idle))) t.entry.position) ∙ kept);
     }
 
     placing_is : new.placer ≡ placing_of i new_logs old.placer.entries.pad st.again
@@ -445,9 +488,11 @@ placed_stands i w knows old new o of stripe simple st has now for count is = rec
 
     placed_is : new.first + new.placed ≡ placed_front i.shape (new_logs 0)
     placed_is =
-        let front : placed_front i.shape (new_logs 0) ≡ placed_front i.shape (log_of w 0) + (of.count - length (entries_of i.shape (log_of w 0) old.placer.entries.pad).lost) =
+        let front : placed_front i.shape (new_logs 0) ≡ placed_front i.shape (log_of w 0) +
+        (of.count - length (entries_of i.shape (log_of w 0) old.placer.entries.pad).lost) =
         front_placed i (log_of w) knows old.placer.entries.pad o stripe of here.its order.numbered in
-        let none : length (entries_of i.shape (log_of w 0) old.placer.entries.pad).lost ≡ 0 = ap (λ (us : List Taken). length (positions_of us)) (lost_are_none i.shape (log_of w 0) (ordered i w simple)) in
+        let none : length (entries_of i.shape (log_of w 0) old.placer.entries.pad).lost ≡ 0 =
+        ap (λ (us : List Taken). length (positions_of us)) (lost_are_none i.shape (log_of w 0) (ordered i w simple)) in
         let before : old.first + old.placed ≡ placed_front i.shape (log_of w 0) = st.placed in
         let a : new.first ≡ old.first = is.first in
         let b : new.placed ≡ old.placed + length of.positions = is.placed in

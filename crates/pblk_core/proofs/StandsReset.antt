@@ -76,7 +76,8 @@ pub record IsResetInto (old new : Core) (line unit : ℕ) (state : ChunkState) :
 pub named_in : (i : Image) (logs : Logs) (c : Core) (line unit : ℕ) → Stands i logs c → named c ≡ Reset line unit → IsNamedReset i logs line unit
 named_in i logs c line unit st is = reset_named i logs line unit (ap (λ rs. slice_get rs 0) (sym st.resets) ∙ named_first c line unit is)
 
-pub reset_stands : (i : Image) (w : World) (line unit event : ℕ) (knows : List ℕ) (state : ChunkState) (old new : Core) → IsSimpleMount i w → Stands i (log_of w) old → named old ≡ Reset line unit
+pub reset_stands : (i : Image) (w : World) (line unit event : ℕ) (knows : List ℕ) (state : ChunkState) (old new : Core) → IsSimpleMount i w
+    → Stands i (log_of w) old → named old ≡ Reset line unit
     → IsResetTo i (log_of w) unit event line state → IsResetInto old new line unit state → Stands i (after (log_of w) (ResetDone unit event) knows) new
 reset_stands i w line unit event knows state old new simple st names to is = record {
   simple = simple_after (log_of w 0) (record { event = Decides (ResetDone unit event); knows = knows }) st.simple refl refl refl;
@@ -90,7 +91,8 @@ reset_stands i w line unit event knows state old new simple st names to is = rec
   units = units_are;
   resets = resets_are;
   size = ap (λ v. v.size) is.window ∙ st.size;
-  window = ap sectors_in is.window ∙ st.window ∙ sym (quiet_window i.shape (log_of w) e knows old.window.freed quiet) ∙ ap (λ (v : view.WindowView). window_from i.shape (new_logs 0) v.freed) (sym is.window);
+  window = ap sectors_in is.window ∙ st.window ∙ sym (quiet_window i.shape (log_of w) e knows old.window.freed quiet)
+      ∙ ap (λ (v : view.WindowView). window_from i.shape (new_logs 0) v.freed) (sym is.window);
   from_first = subst (λ v. first_position (new_logs 0) ≤ v.freed) (sym is.window) (subst (λ p. p ≤ old.window.freed) (sym first_is) st.from_first);
   to_freed =
       let rises : freed i.shape (log_of w 0) ≤ freed i.shape (new_logs 0) = quiet_freed i.shape (log_of w 0) e knows quiet first_is in
@@ -155,34 +157,43 @@ reset_stands i w line unit event knows state old new simple st names to is = rec
     from = omega arith
 
     live_there : slice_get new.live.items line ≡ Some (live_now i new_logs line)
-    live_there = ap (λ us. slice_get us line) units_are ∙ row_there (live_now i new_logs) i.shape.chunks 0 line named_is.in_range ∙ ap (λ m. Some (live_now i new_logs m)) from
+    live_there = ap (λ us. slice_get us line) units_are ∙ row_there (live_now i new_logs) i.shape.chunks 0 line named_is.in_range
+        ∙ ap (λ m. Some (live_now i new_logs m)) from
 
     there : slice_get old.lines.rows line ≡ Some (row_of_line i (log_of w) (0 + line))
     there = ap (λ t. slice_get t.rows line) st.table ∙ row_there (row_of_line i (log_of w)) i.shape.chunks 0 line named_is.in_range
 
     others_before : (m : ℕ) → m < line → units_to_reset i new_logs m ≡ []
-    others_before m less = others_left i (log_of w) unit event line knows state seen m (λ same. absurd (omega arith)) ∙ named_is.first.before m (omega arith) less
+    others_before m less = others_left i (log_of w) unit event line knows state seen m (λ same. absurd (omega arith))
+        ∙ named_is.first.before m (omega arith) less
 
     table_is : (b : Bool) → is_of_line line (slice_get (resets_left new.resets) 0) ≡ b → new.lines ≡ rows_of i new_logs
     table_is true at =
         let more = is_there (units_to_reset i new_logs) i.shape.chunks line (ap (λ rs. is_of_line line (slice_get rs 0)) (sym resets_are) ∙ at) in
         is.lines_stay at ∙ st.table
-        ∙ sym (table_stays i w unit event line knows state st.beginning more.0 more.1 simple st.has_begun named_is seen (sym (units_left i (log_of w) unit event line knows state named_is seen) ∙ more.2))
+        ∙ sym (table_stays i w unit event line knows state st.beginning more.0 more.1 simple st.has_begun named_is seen
+        (sym (units_left i (log_of w) unit event line knows state named_is seen) ∙ more.2))
     table_is false at =
         let none : units_to_reset i new_logs line ≡ [] =
-        none_there (units_to_reset i new_logs) i.shape.chunks line named_is.in_range others_before (ap (λ rs. is_of_line line (slice_get rs 0)) (sym resets_are) ∙ at) in
+        none_there (units_to_reset i new_logs) i.shape.chunks line named_is.in_range others_before
+        (ap (λ rs. is_of_line line (slice_get rs 0)) (sym resets_are) ∙ at) in
         let wide : length (units_in (live_now i new_logs line)) ≡ width (known_image i new_logs) line = bits_width i w new_logs line simple.mount in
-        changed_is old.lines new.lines line (turned (emptied old.layout (length (units_in (live_now i new_logs line)))) (length (units_in (live_now i new_logs line)))) (row_of_line i (log_of w) (0 + line)) there
+        changed_is old.lines new.lines line
+        (turned (emptied old.layout (length (units_in (live_now i new_logs line)))) (length (units_in (live_now i new_logs line))))
+        (row_of_line i (log_of w) (0 + line)) there
         (is.lines_turn (live_now i new_logs line) at live_there)
         ∙ ap₂ (λ s n. with_row line (turned (emptied s n) n) old.lines) st.layout wide
         ∙ ap (with_row line (turned (emptied i.shape (width (known_image i new_logs) line)) (width (known_image i new_logs) line))) st.table
-        ∙ sym (table_turns i w unit event line knows state st.beginning simple st.has_begun named_is seen (sym (units_left i (log_of w) unit event line knows state named_is seen) ∙ none))
+        ∙ sym (table_turns i w unit event line knows state st.beginning simple st.has_begun named_is seen
+        (sym (units_left i (log_of w) unit event line knows state named_is seen) ∙ none))
 
     placing_is : placing_of i new_logs old.placer.entries.pad st.again ≡ placing_of i (log_of w) old.placer.entries.pad st.again
     placing_is =
         same_placing i.shape (entries_of i.shape (new_logs 0) old.placer.entries.pad) (entries_of i.shape (log_of w 0) old.placer.entries.pad)
-        (map (row_of i new_logs st.again) (range_with_len 0 (units i.shape))) (map (row_of i (log_of w) st.again) (range_with_len 0 (units i.shape))) (open_lines i new_logs) (open_lines i (log_of w))
+        (map (row_of i new_logs st.again) (range_with_len 0 (units i.shape))) (map (row_of i (log_of w) st.again) (range_with_len 0 (units i.shape)))
+        (open_lines i new_logs) (open_lines i (log_of w))
         (entries_same i.shape (log_of w 0) (new_logs 0) old.placer.entries.pad alike (takes_same (log_of w 0) e knows quiet))
-        (map_same (row_of i new_logs st.again) (row_of i (log_of w) st.again) (λ u. row_same i (log_of w) e knows st.again st.again u (ap₂ (λ ps ns. unanswered_in ps ns u) alike.placements alike.answers)
+        (map_same (row_of i new_logs st.again) (row_of i (log_of w) st.again)
+        (λ u. row_same i (log_of w) e knows st.again st.again u (ap₂ (λ ps ns. unanswered_in ps ns u) alike.placements alike.answers)
         (ap (λ b. b && not (contains_unit st.again u)) (stopped_more (log_of w 0) l u))) (range_with_len 0 (units i.shape)))
         (lines_same i (log_of w) e knows alike same_standing)

@@ -96,10 +96,13 @@ set_at : (f g : ℕ → Slot) (m : FinMap nat_cmp Slot) (lba x q : ℕ) (capacit
 set_at f g m lba x q capacity changed old within = get-insert nat_cmp_total m lba (Cached q) x ∙ go (eqb_tells lba x)
   where
     go : ((eqb lba x ≡ true) × (lba ≡ x)) ⊎ ((eqb lba x ≡ false) × (lba ≢ x)) → cond (eq_by_cmp nat_cmp x lba) (Some (Cached q)) (fin.get m x) ≡ Some (g x)
-    go (inl h) = ap (λ b. cond b (Some (Cached q)) (fin.get m x)) (same_key x lba (sym h.1)) ∙ ap Some (sym (changed x ∙ ap (λ b. if b then Cached q else f x) h.0))
-    go (inr h) = ap (λ b. cond b (Some (Cached q)) (fin.get m x)) (other_key x lba (λ e. h.1 (sym e))) ∙ old x within ∙ ap Some (sym (changed x ∙ ap (λ b. if b then Cached q else f x) h.0))
+    go (inl h) = ap (λ b. cond b (Some (Cached q)) (fin.get m x)) (same_key x lba (sym h.1))
+        ∙ ap Some (sym (changed x ∙ ap (λ b. if b then Cached q else f x) h.0))
+    go (inr h) = ap (λ b. cond b (Some (Cached q)) (fin.get m x)) (other_key x lba (λ e. h.1 (sym e))) ∙ old x within
+        ∙ ap Some (sym (changed x ∙ ap (λ b. if b then Cached q else f x) h.0))
 
-pub slots_taken : (i : Image) (logs : Logs) (entry : Entry) (mark : Mark) (knows : List ℕ) (m : FinMap nat_cmp Slot) (x : ℕ) → IsUnplaced i.shape (logs 0) entry.position → mark.lba ≡ entry.lba
+pub slots_taken : (i : Image) (logs : Logs) (entry : Entry) (mark : Mark) (knows : List ℕ) (m : FinMap nat_cmp Slot) (x : ℕ)
+    → IsUnplaced i.shape (logs 0) entry.position → mark.lba ≡ entry.lba
     → ((lba : ℕ) → lba < i.shape.capacity → fin.get m lba ≡ Some (slot_of i logs lba)) → x < i.shape.capacity
     → fin.get (fin.insert m entry.lba (Cached entry.position)) x ≡ Some (slot_of i (after logs (Take entry mark) knows) x)
 slots_taken i logs entry mark knows m x none names old within =
@@ -108,18 +111,22 @@ slots_taken i logs entry mark knows m x none names old within =
 
 -- ---- lines
 
-pub units_taken : (i : Image) (logs : Logs) (entry : Entry) (mark : Mark) (knows : List ℕ) (line : ℕ) → live_now i (after logs (Take entry mark) knows) line ≡ live_now i logs line
+pub units_taken : (i : Image) (logs : Logs) (entry : Entry) (mark : Mark) (knows : List ℕ) (line : ℕ)
+    → live_now i (after logs (Take entry mark) knows) line ≡ live_now i logs line
 units_taken i logs entry mark knows line = ap (λ (j : Image). bits_of (line_units j line)) (known_kept i logs (Take entry mark) knows refl (λ unit. refl))
 
 pub openings_taken : (log : List Logged) (entry : Entry) (mark : Mark) (knows : List ℕ) → openings (with_take log entry mark knows) ≡ openings log
 openings_taken log entry mark knows = openings_more log (record { event = Decides (Take entry mark); knows = knows }) ∙ append-nil (openings log)
 
 pub standing_taken : (log : List Logged) (entry : Entry) (mark : Mark) (knows : List ℕ) → standing (with_take log entry mark knows) ≡ standing log
-standing_taken log entry mark knows = standing_same log (with_take log entry mark knows) (openings_taken log entry mark knows) (λ line. life_more log (record { event = Decides (Take entry mark); knows = knows }) line)
+standing_taken log entry mark knows =
+    standing_same log (with_take log entry mark knows) (openings_taken log entry mark knows)
+    (λ line. life_more log (record { event = Decides (Take entry mark); knows = knows }) line)
 
 -- ---- fronts
 
-pub given_same : (s : Shape) (log : List Logged) (entry : Entry) (mark : Mark) (knows : List ℕ) (q : ℕ) → is_given_back s (with_take log entry mark knows) q ≡ is_given_back s log q
+pub given_same : (s : Shape) (log : List Logged) (entry : Entry) (mark : Mark) (knows : List ℕ) (q : ℕ)
+    → is_given_back s (with_take log entry mark knows) q ≡ is_given_back s log q
 given_same s log entry mark knows q =
     any_same (gives_back s new q) (gives_back s log q) (gives_back_same s log new (alike log entry mark knows) q) (placements new)
     ∙ ap (list_any (gives_back s log q)) (AreAlike.placements (alike log entry mark knows))
@@ -127,13 +134,17 @@ given_same s log entry mark knows q =
     new : List Logged
     new = with_take log entry mark knows
 
-pub freed_taken : (s : Shape) (log : List Logged) (entry : Entry) (mark : Mark) (knows : List ℕ) (b : Begun) → begun log ≡ Some b → freed s log ≤ freed s (with_take log entry mark knows)
+pub freed_taken : (s : Shape) (log : List Logged) (entry : Entry) (mark : Mark) (knows : List ℕ) (b : Begun) → begun log ≡ Some b
+    → freed s log ≤ freed s (with_take log entry mark knows)
 freed_taken s log entry mark knows b has =
     let new : List Logged = with_take log entry mark knows in
     let first : first_position new ≡ first_position log = first_stays log (record { event = Decides (Take entry mark); knows = knows }) b has in
-    let more : length (takes log) ≤ length (takes new) = subst (λ ts. length (takes log) ≤ length ts) (sym (takes_more log (record { event = Decides (Take entry mark); knows = knows }))) (omega (arith, length-append (takes log) (record { entry = entry; mark = mark } ∷ []))) in
+    let more : length (takes log) ≤ length (takes new) =
+    subst (λ ts. length (takes log) ≤ length ts) (sym (takes_more log (record { event = Decides (Take entry mark); knows = knows })))
+    (omega (arith, length-append (takes log) (record { entry = entry; mark = mark } ∷ []))) in
     subst (λ p. freed s log ≤ least_missing (is_given_back s new) (length (takes new)) p) (sym first)
-    (least_rises (is_given_back s log) (is_given_back s new) (length (takes log)) (length (takes new)) (first_position log) (λ q e. given_same s log entry mark knows q ∙ e) more)
+    (least_rises (is_given_back s log) (is_given_back s new) (length (takes log)) (length (takes new)) (first_position log)
+    (λ q e. given_same s log entry mark knows q ∙ e) more)
 
 -- ---- the core
 
@@ -159,7 +170,8 @@ pub record IsTakenInto (old new : Core) (e : FramedEntry) : Type 0 where
   pub under_way : new.under_way ≡ old.under_way
   pub users : new.users ≡ old.users + 1
 
-users_more : (log : List Logged) (entry : Entry) (mark : Mark) (knows : List ℕ) → entry.source ≡ None → length (user_takes (with_take log entry mark knows)) ≡ length (user_takes log) + 1
+users_more : (log : List Logged) (entry : Entry) (mark : Mark) (knows : List ℕ) → entry.source ≡ None
+    → length (user_takes (with_take log entry mark knows)) ≡ length (user_takes log) + 1
 users_more log entry mark knows user =
     ap (λ ts. length (filter (λ (t : Taken). is_users t.entry.source) ts)) (takes_more log (record { event = Decides (Take entry mark); knows = knows }))
     ∙ ap length (filter_last (λ (t : Taken). is_users t.entry.source) (takes log) (record { entry = entry; mark = mark }) true (ap is_users user))
@@ -184,30 +196,39 @@ waiting_is e none user = λ k. record {
     from (Some at) = refl
 
 -- the line of a slot is one of the drive, and has a live sector
-slot_line : (i : Image) (w : World) (c : Core) (lba : ℕ) (slot : Slot) (line : ℕ) → IsSimpleMount i w → Stands i (log_of w) c → fin.get c.map lba ≡ Some slot → lba < i.shape.capacity
+slot_line : (i : Image) (w : World) (c : Core) (lba : ℕ) (slot : Slot) (line : ℕ) → IsSimpleMount i w → Stands i (log_of w) c → fin.get c.map lba ≡ Some slot
+    → lba < i.shape.capacity
     → line_of_slot c.holds.rows.items slot ≡ Some line → line_of i (log_of w) lba (last_take (log_of w 0) lba) ≡ Some line
 slot_line i w c lba slot line simple st found inside is =
     let now : slot ≡ slot_of i (log_of w) lba = same_Some slot (slot_of i (log_of w) lba) (sym found ∙ st.slots lba inside) in
     sym (line_is i w c.holds lba simple st.holds) ∙ sym (ap (line_of_slot c.holds.rows.items) now) ∙ is
 
-pub live_there : (i : Image) (w : World) (c : Core) (lba : ℕ) (slot : Slot) (line : ℕ) (row : Row) → IsSimpleMount i w → Stands i (log_of w) c → fin.get c.map lba ≡ Some slot → lba < i.shape.capacity
+pub live_there : (i : Image) (w : World) (c : Core) (lba : ℕ) (slot : Slot) (line : ℕ) (row : Row) → IsSimpleMount i w → Stands i (log_of w) c
+    → fin.get c.map lba ≡ Some slot → lba < i.shape.capacity
     → line_of_slot c.holds.rows.items slot ≡ Some line → IsRow c.lines line row → 0 < row.live
 live_there i w c lba slot line row simple st found inside is there =
     let some : 0 < live i (log_of w) line = live_some i (log_of w) line lba inside (slot_line i w c lba slot line simple st found inside is) in
-    let at : slice_get (map (row_of_line i (log_of w)) (range_with_len 0 i.shape.chunks)) line ≡ Some row = sym (ap (λ (t : Table). slice_get t.rows line) st.table) ∙ there in
-    subst (λ (r : Row). 0 < r.live) ((row_at (row_of_line i (log_of w)) i.shape.chunks 0 line row at).1) (subst (λ n. 0 < live i (log_of w) n) (sym (zero-add line)) some)
+    let at : slice_get (map (row_of_line i (log_of w)) (range_with_len 0 i.shape.chunks)) line ≡ Some row =
+    sym (ap (λ (t : Table). slice_get t.rows line) st.table) ∙ there in
+    subst (λ (r : Row). 0 < r.live) ((row_at (row_of_line i (log_of w)) i.shape.chunks 0 line row at).1)
+    (subst (λ n. 0 < live i (log_of w) n) (sym (zero-add line)) some)
 
-pub live_inside : (i : Image) (w : World) (c : Core) (lba : ℕ) (slot : Slot) (line : ℕ) → IsSimpleMount i w → Stands i (log_of w) c → fin.get c.map lba ≡ Some slot → lba < i.shape.capacity
+pub live_inside : (i : Image) (w : World) (c : Core) (lba : ℕ) (slot : Slot) (line : ℕ) → IsSimpleMount i w → Stands i (log_of w) c
+    → fin.get c.map lba ≡ Some slot → lba < i.shape.capacity
     → line_of_slot c.holds.rows.items slot ≡ Some line → line < length c.lines.rows
 live_inside i w c lba slot line simple st found inside is =
-    let low : line < i.shape.chunks = line_in_range i (log_of w) lba (last_take (log_of w 0) lba) line (plain_in_order i w simple).placed (slot_line i w c lba slot line simple st found inside is) in
+    let low : line < i.shape.chunks =
+    line_in_range i (log_of w) lba (last_take (log_of w 0) lba) line (plain_in_order i w simple).placed
+    (slot_line i w c lba slot line simple st found inside is) in
     subst (λ n. line < n) (sym (ap (λ (t : Table). length t.rows) st.table ∙ length-map-range_with_len (row_of_line i (log_of w)) 0 i.shape.chunks)) low
 
-pub taken_stands : (i : Image) (w : World) (knows : List ℕ) (old new : Core) (e : FramedEntry) → IsSimpleMount i w → Stands i (log_of w) old → IsTakenInto old new e
+pub taken_stands : (i : Image) (w : World) (knows : List ℕ) (old new : Core) (e : FramedEntry) → IsSimpleMount i w → Stands i (log_of w) old
+    → IsTakenInto old new e
     → e.position ≡ view.taken old.window → length old.window.entries < old.window.size → e.class ≡ User → e.source ≡ None → e.lba < i.shape.capacity
     → Stands i (after (log_of w) (Take (entry_of e) (mark_of e)) knows) new
 taken_stands i w knows old new e simple st is position room class user inside = record {
-  simple = simple_after (log_of w 0) (record { event = Decides (Take (entry_of e) (mark_of e)); knows = knows }) st.simple refl (ap (λ source. not (is_users (option_map (λ (at : EntrySource). record { line = at.line; at = at.at; position = at.position }) source))) user) refl;
+  simple = simple_after (log_of w 0) (record { event = Decides (Take (entry_of e) (mark_of e)); knows = knows }) st.simple refl
+      (ap (λ source. not (is_users (option_map (λ (at : EntrySource). record { line = at.line; at = at.at; position = at.position }) source))) user) refl;
   unstopped = unstopped_after (log_of w 0) (record { event = Decides (Take (entry_of e) (mark_of e)); knows = knows }) st.unstopped refl;
   layout = is.layout ∙ st.layout;
   beginning = st.beginning;
@@ -215,19 +236,29 @@ taken_stands i w knows old new e simple st is position room class user inside = 
   capacity = is.capacity ∙ st.capacity;
   slots = λ x within. ap (λ m. fin.get m x) is.map ∙ slots_taken i (log_of w) (entry_of e) (mark_of e) knows old.map x unplaced refl st.slots within;
   table = is.lines ∙ ap₂ (λ o t. lose_in o (has_landed_in old.window is.slot) e.position t) line_now st.table
-      ∙ ap (λ slot. lose_in (line_of i (log_of w) e.lba (last_take (log_of w 0) e.lba)) (has_landed_in old.window slot) e.position (rows_of i (log_of w))) slot_now ∙ sym table_now;
-  units = ap (λ l. l.items) is.live ∙ st.units ∙ map_same (live_now i (log_of w)) (live_now i new_logs) (λ line. sym (units_taken i (log_of w) (entry_of e) (mark_of e) knows line)) (range_with_len 0 i.shape.chunks);
-  resets = ap resets_left is.resets ∙ st.resets ∙ sym (resets_quiet i (log_of w) (Take (entry_of e) (mark_of e)) knows refl (λ unit. refl) (λ line. life_more (log_of w 0) (record { event = Decides (Take (entry_of e) (mark_of e)); knows = knows }) line));
+      ∙ ap (λ slot. lose_in (line_of i (log_of w) e.lba (last_take (log_of w 0) e.lba)) (has_landed_in old.window slot) e.position (rows_of i (log_of w)))
+      slot_now ∙ sym table_now;
+  units = ap (λ l. l.items) is.live ∙ st.units
+      ∙ map_same (live_now i (log_of w)) (live_now i new_logs) (λ line. sym (units_taken i (log_of w) (entry_of e) (mark_of e) knows line))
+      (range_with_len 0 i.shape.chunks);
+  resets = ap resets_left is.resets ∙ st.resets
+      ∙ sym (resets_quiet i (log_of w) (Take (entry_of e) (mark_of e)) knows refl (λ unit. refl)
+      (λ line. life_more (log_of w 0) (record { event = Decides (Take (entry_of e) (mark_of e)); knows = knows }) line));
   size = ap (λ v. v.size) is.window ∙ st.size;
   window = window_is;
   from_first = subst (λ v. first_position (new_logs 0) ≤ v.freed) (sym is.window) (subst (λ p. p ≤ old.window.freed) (sym first_is) st.from_first);
-  to_freed = subst (λ v. v.freed ≤ freed i.shape (new_logs 0)) (sym is.window) (le_trans st.to_freed (freed_taken i.shape (log_of w 0) (entry_of e) (mark_of e) knows st.beginning st.has_begun));
-  holds = holds_taken i (log_of w) knows (entry_of e) (mark_of e) old.holds new.holds old.window.freed (in_order i w (accepted_small i.shape simple.mount.accepted) simple.mount.legal).numbered
+  to_freed = subst (λ v. v.freed ≤ freed i.shape (new_logs 0)) (sym is.window)
+      (le_trans st.to_freed (freed_taken i.shape (log_of w 0) (entry_of e) (mark_of e) knows st.beginning st.has_begun));
+  holds = holds_taken i (log_of w) knows (entry_of e) (mark_of e) old.holds new.holds old.window.freed
+      (in_order i w (accepted_small i.shape simple.mount.accepted) simple.mount.legal).numbered
       unplaced st.holds refl taken_is st.to_freed within holds_are;
   again = st.again;
   placing = placing_is;
-  open_lines = subst (AreOpenLines i new_logs) (sym is.open_lines) (open_lines_same i (log_of w) (Take (entry_of e) (mark_of e)) knows old.open (alike (log_of w 0) (entry_of e) (mark_of e) knows) (standing_taken (log_of w 0) (entry_of e) (mark_of e) knows) st.open_lines);
-  next_seq = ap (λ r. r.seq) is.start ∙ st.next_seq ∙ ap (λ os. st.beginning.beginning.seq + length os) (sym (openings_taken (log_of w 0) (entry_of e) (mark_of e) knows));
+  open_lines = subst (AreOpenLines i new_logs) (sym is.open_lines)
+      (open_lines_same i (log_of w) (Take (entry_of e) (mark_of e)) knows old.open (alike (log_of w 0) (entry_of e) (mark_of e) knows)
+      (standing_taken (log_of w 0) (entry_of e) (mark_of e) knows) st.open_lines);
+  next_seq = ap (λ r. r.seq) is.start ∙ st.next_seq
+      ∙ ap (λ os. st.beginning.beginning.seq + length os) (sym (openings_taken (log_of w 0) (entry_of e) (mark_of e) knows));
   first_seq = ap (λ r. r.first_seq) is.start ∙ st.first_seq;
   own_capacity = ap (λ r. r.capacity) is.start ∙ st.own_capacity;
   older = ap (λ r. (start_numbers r).rows) is.start ∙ st.older ∙ older_is;
@@ -236,7 +267,9 @@ taken_stands i w knows old new e simple st is position room class user inside = 
   placed = ap₂ (λ a b. a + b) is.first is.placed ∙ st.placed ∙ sym (front_taken i.shape (log_of w 0) (entry_of e) (mark_of e) knows unplaced);
   left = is.left ∙ st.left ∙ sym (addresses_kept i (log_of w) (Take (entry_of e) (mark_of e)) knows refl);
   in_flight = is.under_way ∙ st.in_flight ∙ under_way_same i.shape (log_of w 0) (new_logs 0) (alike (log_of w 0) (entry_of e) (mark_of e) knows);
-  users = is.users ∙ ap (λ n. n + 1) st.users ∙ sym (users_more (log_of w 0) (entry_of e) (mark_of e) knows (ap (option_map (λ (at : EntrySource). record { line = at.line; at = at.at; position = at.position })) user));
+  users = is.users ∙ ap (λ n. n + 1) st.users
+      ∙ sym (users_more (log_of w 0) (entry_of e) (mark_of e) knows
+      (ap (option_map (λ (at : EntrySource). record { line = at.line; at = at.at; position = at.position })) user));
 }
   where
     new_logs : Logs
@@ -249,7 +282,8 @@ taken_stands i w knows old new e simple st is position room class user inside = 
     line_now = ap (line_of_slot old.holds.rows.items) slot_now ∙ line_is i w old.holds e.lba simple st.holds
 
     older_is : older_rows i (log_of w) ≡ older_rows i new_logs
-    older_is = older_kept i (log_of w) (Take (entry_of e) (mark_of e)) knows st.beginning st.has_begun refl (λ line. inl (ap is_as_found (life_more (log_of w 0) (record { event = Decides (Take (entry_of e) (mark_of e)); knows = knows }) line)))
+    older_is = older_kept i (log_of w) (Take (entry_of e) (mark_of e)) knows st.beginning st.has_begun refl
+        (λ line. inl (ap is_as_found (life_more (log_of w 0) (record { event = Decides (Take (entry_of e) (mark_of e)); knows = knows }) line)))
 
     taken_is : e.position ≡ taken (log_of w 0)
     taken_is = position ∙ window_taken_is i w old st
@@ -264,19 +298,37 @@ taken_stands i w knows old new e simple st is position room class user inside = 
         omega arith
 
     holds_are : new.holds.rows.items ≡ slice_set (rows_with_taker (slot_of i (log_of w) e.lba) e.position old.holds.rows.items)
-        (e.position % length (rows_with_taker (slot_of i (log_of w) e.lba) e.position old.holds.rows.items)) (record { mark = mark_of e; line = None; taker = None })
-    holds_are = is.holds ∙ ap (λ s. slice_set (rows_with_taker s e.position old.holds.rows.items) (e.position % length (rows_with_taker s e.position old.holds.rows.items)) (record { mark = mark_of e; line = None; taker = None })) slot_now
+        (e.position % length (rows_with_taker (slot_of i (log_of w) e.lba) e.position old.holds.rows.items))
+        (record { mark = mark_of e; line = None; taker = None })
+    holds_are = is.holds ∙ ap (λ s. slice_set (rows_with_taker s e.position old.holds.rows.items)
+        (e.position % length (rows_with_taker s e.position old.holds.rows.items)) (record { mark = mark_of e; line = None; taker = None })) slot_now
 
     first_is : first_position (new_logs 0) ≡ first_position (log_of w 0)
     first_is = first_stays (log_of w 0) (record { event = Decides (Take (entry_of e) (mark_of e)); knows = knows }) st.beginning st.has_begun
 
-    map_window : map without_frame (old.window.entries ++ record { entry = e; progress = Waiting } ∷ []) ≡ map without_frame old.window.entries ++ without_frame (record { entry = e; progress = Waiting }) ∷ []
-        → ◌≡◌ {A = HeldSectors} (record { freed = old.window.freed; users = old.window.users; entries = map without_frame (old.window.entries ++ record { entry = e; progress = Waiting } ∷ []) })
-        (record { freed = old.window.freed; users = old.window.users; entries = map without_frame old.window.entries ++ without_frame (record { entry = e; progress = Waiting }) ∷ [] })
+    map_window : map without_frame (old.window.entries ++ record { entry = e; progress = Waiting } ∷ []) ≡ map without_frame old.window.entries
+        ++ without_frame (record { entry = e; progress = Waiting }) ∷ []
+        → ◌≡◌ {A = HeldSectors} (record {
+          freed = old.window.freed;
+          users = old.window.users;
+          entries =
+              map without_frame (old.window.entries ++ record { entry = e; progress = Waiting } ∷ []);
+        })
+        (record {
+          freed = old.window.freed;
+          users = old.window.users;
+          entries =
+              map without_frame old.window.entries ++ without_frame (record { entry = e; progress = Waiting }) ∷ [];
+        })
     map_window h = λ k. record { freed = old.window.freed; users = old.window.users; entries = h k }
 
     with_last : without_frame (record { entry = e; progress = Waiting }) ≡ waiting_sector (entry_of e)
-        → ◌≡◌ {A = HeldSectors} (record { freed = old.window.freed; users = old.window.users; entries = map without_frame old.window.entries ++ without_frame (record { entry = e; progress = Waiting }) ∷ [] })
+        → ◌≡◌ {A = HeldSectors} (record {
+          freed = old.window.freed;
+          users = old.window.users;
+          entries =
+              map without_frame old.window.entries ++ without_frame (record { entry = e; progress = Waiting }) ∷ [];
+        })
         (record { freed = old.window.freed; users = old.window.users; entries = map without_frame old.window.entries ++ waiting_sector (entry_of e) ∷ [] })
     with_last h = λ k. record { freed = old.window.freed; users = old.window.users; entries = map without_frame old.window.entries ++ h k ∷ [] }
 
@@ -289,8 +341,11 @@ taken_stands i w knows old new e simple st is position room class user inside = 
         ∙ sym (window_taken i.shape (log_of w 0) (entry_of e) (mark_of e) knows old.window.freed unplaced taken_is (freed_taken_within i w old st))
         ∙ ap (window_from i.shape (new_logs 0)) (sym (ap (λ v. v.freed) is.window))
 
-    table_now : rows_of i new_logs ≡ lose_in (line_of i (log_of w) e.lba (last_take (log_of w 0) e.lba)) (has_landed_in old.window (slot_of i (log_of w) e.lba)) e.position (rows_of i (log_of w))
-    table_now = rows_taken i (log_of w) (entry_of e) (mark_of e) knows (has_landed_in old.window (slot_of i (log_of w) e.lba)) (none_freed (log_of w 0) (engine_plain i w simple)) (in_order i w (accepted_small i.shape simple.mount.accepted) simple.mount.legal).numbered unplaced taken_is inside
+    table_now : rows_of i new_logs ≡ lose_in (line_of i (log_of w) e.lba (last_take (log_of w 0) e.lba))
+        (has_landed_in old.window (slot_of i (log_of w) e.lba)) e.position (rows_of i (log_of w))
+    table_now = rows_taken i (log_of w) (entry_of e) (mark_of e) knows (has_landed_in old.window (slot_of i (log_of w) e.lba))
+        (none_freed (log_of w 0) (engine_plain i w simple))
+        (in_order i w (accepted_small i.shape simple.mount.accepted) simple.mount.legal).numbered unplaced taken_is inside
         (landed_is i w old e.lba simple st)
 
     placing_is : new.placer ≡ placing_of i new_logs new.placer.entries.pad st.again
@@ -301,12 +356,14 @@ taken_stands i w knows old new e simple st is position room class user inside = 
 
 -- ---- and the log may take it
 
-pub may_take : (i : Image) (w : World) (c : Core) (e : FramedEntry) → Stands i (log_of w) c → e.position ≡ view.taken c.window → e.position < 2 ^ 62 → e.source ≡ None → e.lba < i.shape.capacity
+pub may_take : (i : Image) (w : World) (c : Core) (e : FramedEntry) → Stands i (log_of w) c → e.position ≡ view.taken c.window → e.position < 2 ^ 62
+    → e.source ≡ None → e.lba < i.shape.capacity
     → IsBlock i.shape (record { sector = e.frame.bytes; mark = mark_of e }) → MayTake i (log_of w) (entry_of e) (mark_of e)
 may_take i w c e st position number user inside block = record {
   position = position ∙ window_taken_is i w c st;
   position_number = number;
   lba = inside;
-  marked = subst (IsMarked i (log_of w) (entry_of e) (mark_of e)) (sym (ap (option_map (λ (at : EntrySource). record { line = at.line; at = at.at; position = at.position })) user)) refl;
+  marked = subst (IsMarked i (log_of w) (entry_of e) (mark_of e))
+      (sym (ap (option_map (λ (at : EntrySource). record { line = at.line; at = at.at; position = at.position })) user)) refl;
   block = block;
 }

@@ -28,12 +28,14 @@ pub stripes_same : (old new : List Logged) → AreAlike old new → (o : Opening
 stripes_same old new alike o = ap (λ ps. filter (λ (p : Placed). is_life o.number p.life) ps) alike.placements
 
 pub marks_same : (s : Shape) (old new : List Logged) → AreAlike old new → (o : Opening) → data_marks s new o ≡ data_marks s old o
-marks_same s old new alike o = ap (λ ps. map (λ b. b.mark) (slice_range (flat_map (λ (p : Placed). p.stripe.blocks) ps) (start_len s) (end_address s o))) (stripes_same old new alike o)
+marks_same s old new alike o =
+    ap (λ ps. map (λ b. b.mark) (slice_range (flat_map (λ (p : Placed). p.stripe.blocks) ps) (start_len s) (end_address s o))) (stripes_same old new alike o)
 
 pub unlanded_same : (s : Shape) (old new : List Logged) → AreAlike old new → (o : Opening) → unlanded s new o ≡ unlanded s old o
 unlanded_same s old new alike o =
     ap (λ ps. o.start.width * (s.clba / s.ws_opt) - length (filter (has_landed new) ps)) (stripes_same old new alike o)
-    ∙ ap (λ ps. o.start.width * (s.clba / s.ws_opt) - length ps) (filter_same (has_landed new) (has_landed old) (λ p. ap is_land (answer_same old new alike p)) (stripes_of old o))
+    ∙ ap (λ ps. o.start.width * (s.clba / s.ws_opt) - length ps)
+    (filter_same (has_landed new) (has_landed old) (λ p. ap is_land (answer_same old new alike p)) (stripes_of old o))
 
 pub records_same : (s : Shape) (old new : List Logged) → AreAlike old new → (o : Opening) (r : _) → AreOf s old o r → AreOf s new o r
 records_same s old new alike o r of = record {
@@ -45,17 +47,20 @@ records_same s old new alike o r of = record {
   marks = of.marks ∙ sym (marks_same s old new alike o);
 }
 
-pub units_same : (i : Image) (logs : Logs) (e : EngineEvent) (knows : List ℕ) (o : Opening) → o.number < length (logs 0) → opened_units i (after logs e knows) o ≡ opened_units i logs o
+pub units_same : (i : Image) (logs : Logs) (e : EngineEvent) (knows : List ℕ) (o : Opening) → o.number < length (logs 0)
+    → opened_units i (after logs e knows) o ≡ opened_units i logs o
 units_same i logs e knows o before = ap (λ (ls : Logs). line_units (known_image i ls) o.line) (prefix_same logs e knows o.number (le_of_lt before))
 
-pub left_same : (i : Image) (logs : Logs) (e : EngineEvent) (knows : List ℕ) → AreAlike (logs 0) (after logs e knows 0) → standing (after logs e knows 0) ≡ standing (logs 0)
+pub left_same : (i : Image) (logs : Logs) (e : EngineEvent) (knows : List ℕ) → AreAlike (logs 0) (after logs e knows 0)
+    → standing (after logs e knows 0) ≡ standing (logs 0)
     → left_openings i (after logs e knows) ≡ left_openings i logs
 left_same i logs e knows alike same =
     ap (λ os. filter (λ (o : Opening). has_left (open_line i (after logs e knows) o)) os) same
     ∙ filter_agree (λ (o : Opening). o.number < length (logs 0)) (λ o. has_left (open_line i (after logs e knows) o)) (λ o. has_left (open_line i logs o))
     (λ o before. ap has_left (open_line_same i logs e knows alike o before)) (standing (logs 0)) (standing_before (logs 0))
 
-pub open_same : (i : Image) (logs : Logs) (e : EngineEvent) (knows : List ℕ) (o : Opening) (kept : OpenLine) → AreAlike (logs 0) (after logs e knows 0) → o.number < length (logs 0)
+pub open_same : (i : Image) (logs : Logs) (e : EngineEvent) (knows : List ℕ) (o : Opening) (kept : OpenLine) → AreAlike (logs 0) (after logs e knows 0)
+    → o.number < length (logs 0)
     → IsOpenLine i logs o kept → IsOpenLine i (after logs e knows) o kept
 open_same i logs e knows o kept alike before is = record {
   records = records_same i.shape (logs 0) (after logs e knows 0) alike o kept.records is.records;
@@ -63,7 +68,8 @@ open_same i logs e knows o kept alike before is = record {
   left = is.left ∙ sym (unlanded_same i.shape (logs 0) (after logs e knows 0) alike o);
 }
 
-pub open_lines_same : (i : Image) (logs : Logs) (e : EngineEvent) (knows : List ℕ) (kept : OpenLines) → AreAlike (logs 0) (after logs e knows 0) → standing (after logs e knows 0) ≡ standing (logs 0)
+pub open_lines_same : (i : Image) (logs : Logs) (e : EngineEvent) (knows : List ℕ) (kept : OpenLines) → AreAlike (logs 0) (after logs e knows 0)
+    → standing (after logs e knows 0) ≡ standing (logs 0)
     → AreOpenLines i logs kept → AreOpenLines i (after logs e knows) kept
 open_lines_same i logs e knows kept alike same are =
     let left : left_openings i (after logs e knows) ≡ left_openings i logs = left_same i logs e knows alike same in
@@ -78,4 +84,5 @@ open_lines_same i logs e knows kept alike same are =
     }
 
 pub under_way_same : (s : Shape) (old new : List Logged) → AreAlike old new → under_way s old ≡ under_way s new
-under_way_same s old new alike = ap₂ (λ ps ns. length (filter (λ unit. is_some (unanswered_in ps ns unit)) (range_with_len 0 (units s)))) (sym alike.placements) (sym alike.answers)
+under_way_same s old new alike =
+    ap₂ (λ ps ns. length (filter (λ unit. is_some (unanswered_in ps ns unit)) (range_with_len 0 (units s)))) (sym alike.placements) (sym alike.answers)

@@ -80,7 +80,8 @@ record IsLastAt {X : Type 0} (f : X → Bool) (xs : List X) (u : X) (j : ℕ) : 
 abbrev IsLastOrBefore : {X : Type 0} → (X → Bool) → List X → Option X → X → Type 0
 IsLastOrBefore {X} f xs o u = ((j : ℕ) × IsLastAt f xs u j) ⊎ ((o ≡ Some u) × ((k : ℕ) (v : X) → slice_get xs k ≡ Some v → f v ≡ true → ⊥))
 
-last_found_by : {X : Type 0} (f : X → Bool) (x : X) (xs : List X) (o : Option X) (u : X) → ((o : Option X) → last_or o (filter f xs) ≡ Some u → IsLastOrBefore f xs o u)
+last_found_by : {X : Type 0} (f : X → Bool) (x : X) (xs : List X) (o : Option X) (u : X)
+    → ((o : Option X) → last_or o (filter f xs) ≡ Some u → IsLastOrBefore f xs o u)
     → (b : Bool) → f x ≡ b → last_or o (cond b (x ∷ filter f xs) (filter f xs)) ≡ Some u → IsLastOrBefore f (x ∷ xs) o u
 last_found_by {X} f x xs o u rest = λ b is e. go b is e
   where
@@ -127,7 +128,8 @@ never_none x [] e = none-some x (sym e)
 never_none x (y ∷ ys) e = never_none y ys e
 
 -- where one passes, there is a last one
-last_is_some : {X : Type 0} (f : X → Bool) (xs : List X) (o : Option X) (k : ℕ) (v : X) → slice_get xs k ≡ Some v → f v ≡ true → last_or o (filter f xs) ≡ None → ⊥
+last_is_some : {X : Type 0} (f : X → Bool) (xs : List X) (o : Option X) (k : ℕ) (v : X) → slice_get xs k ≡ Some v → f v ≡ true → last_or o (filter f xs) ≡ None
+    → ⊥
 last_is_some f [] o k v h t e = none-some v h
 last_is_some {X} f (x ∷ xs) o k v h t e = go k h (f x) refl e (λ m h. last_is_some f xs o m v h t)
   where
@@ -142,7 +144,8 @@ found_passes : {X : Type 0} (f : X → Bool) (xs : List X) (x : X) → find f xs
 found_passes f [] x e = absurd (none-some x e)
 found_passes {X} f (y ∷ xs) x e = go (f y) refl e (found_passes f xs x)
   where
-    go : (b : Bool) → f y ≡ b → cond b (Some y) (find f xs) ≡ Some x → (find f xs ≡ Some x → (f x ≡ true) × ((k : ℕ) × (slice_get xs k ≡ Some x))) → (f x ≡ true) × ((k : ℕ) × (slice_get (y ∷ xs) k ≡ Some x))
+    go : (b : Bool) → f y ≡ b → cond b (Some y) (find f xs) ≡ Some x → (find f xs ≡ Some x → (f x ≡ true) × ((k : ℕ) × (slice_get xs k ≡ Some x)))
+        → (f x ≡ true) × ((k : ℕ) × (slice_get (y ∷ xs) k ≡ Some x))
     go true b h rest = let s : y ≡ x = same_Some y x h in (subst (λ z. f z ≡ true) s b, (0, h))
     go false b h rest = let is : (f x ≡ true) × ((k : ℕ) × (slice_get xs k ≡ Some x)) = rest h in (is.0, (suc is.1.0, is.1.1))
 
@@ -157,10 +160,12 @@ apart_within n from a b la lb ha hb other same = go (cases_order a b)
     go (inr (inl l)) = apart n a b l (omega arith) same
     go (inr (inr l)) = apart n b a l (omega arith) (sym same)
 
-same_hold : (mark : Mark) (a b : Option ℕ) (x y : Option ℕ) → a ≡ b → x ≡ y → ◌≡◌ {A = Hold} (record { mark = mark; line = a; taker = x }) (record { mark = mark; line = b; taker = y })
+same_hold : (mark : Mark) (a b : Option ℕ) (x y : Option ℕ) → a ≡ b → x ≡ y
+    → ◌≡◌ {A = Hold} (record { mark = mark; line = a; taker = x }) (record { mark = mark; line = b; taker = y })
 same_hold mark a b x y e f = λ k. record { mark = mark; line = e k; taker = f k }
 
-rows_other : (slot : Slot) (by : ℕ) (rows : List Hold) (j : ℕ) → ((r : ℕ) → slot ≡ Cached r → j ≢ r % length rows) → slice_get (rows_with_taker slot by rows) j ≡ slice_get rows j
+rows_other : (slot : Slot) (by : ℕ) (rows : List Hold) (j : ℕ) → ((r : ℕ) → slot ≡ Cached r → j ≢ r % length rows)
+    → slice_get (rows_with_taker slot by rows) j ≡ slice_get rows j
 rows_other Unwritten by rows j other = refl
 rows_other (Media line at position) by rows j other = refl
 rows_other (Cached r) by rows j other = go (row_at rows r)
@@ -169,7 +174,8 @@ rows_other (Cached r) by rows j other = go (row_at rows r)
     go None = refl
     go (Some h) = get_set_other rows (r % length rows) j (with_taker by h) (other r refl)
 
-rows_own : (q by : ℕ) (rows : List Hold) (h : Hold) → 0 < length rows → row_at rows q ≡ Some h → slice_get (rows_with_taker (Cached q) by rows) (q % length rows) ≡ Some (with_taker by h)
+rows_own : (q by : ℕ) (rows : List Hold) (h : Hold) → 0 < length rows → row_at rows q ≡ Some h
+    → slice_get (rows_with_taker (Cached q) by rows) (q % length rows) ≡ Some (with_taker by h)
 rows_own q by rows h some is =
     ap (λ o. slice_get (option_map_or (λ h. slice_set rows (q % length rows) (with_taker by h)) o rows) (q % length rows)) is
     ∙ get_set_same rows (q % length rows) (with_taker by h) (mod_below q (length rows) some)
@@ -228,7 +234,8 @@ holds_taken i logs knows entry mark holds new from numbered none are sector next
 
     back_now : (q : ℕ) → is_given_back i.shape new_log q ≡ is_given_back i.shape log q
     back_now q =
-        any_same (gives_back i.shape new_log q) (gives_back i.shape log q) (gives_back_same i.shape log new_log (alike log entry mark knows) q) (placements new_log)
+        any_same (gives_back i.shape new_log q) (gives_back i.shape log q) (gives_back_same i.shape log new_log (alike log entry mark knows) q)
+        (placements new_log)
         ∙ ap (list_any (gives_back i.shape log q)) (AreAlike.placements (alike log entry mark knows))
 
     taker_of : Option Taken → Option ℕ
@@ -239,12 +246,14 @@ holds_taken i logs knows entry mark holds new from numbered none are sector next
     place t k at = numbered_at (first_position log) (length (takes log)) (takes log) k t numbered at
 
     below : (t : Taken) (k : ℕ) → slice_get (takes log) k ≡ Some t → t.entry.position < entry.position
-    below t k at = let a : t.entry.position ≡ first_position log + k = place t k at in let b : k < length (takes log) = slice_get_within (takes log) k t at in omega arith
+    below t k at = let a : t.entry.position ≡ first_position log + k = place t k at in let b : k < length (takes log) =
+        slice_get_within (takes log) k t at in omega arith
 
     above : (t : Taken) (k : ℕ) → slice_get (takes log) k ≡ Some t → is_given_back i.shape log t.entry.position ≡ false → from ≤ t.entry.position
     above t k at kept =
         let a : t.entry.position ≡ first_position log + k = place t k at in
-        let b : freed i.shape log ≤ t.entry.position = least_below (is_given_back i.shape log) (length (takes log)) (first_position log) t.entry.position (omega arith) kept in
+        let b : freed i.shape log ≤ t.entry.position =
+        least_below (is_given_back i.shape log) (length (takes log)) (first_position log) t.entry.position (omega arith) kept in
         omega arith
 
     -- the new entry's row
@@ -258,15 +267,20 @@ holds_taken i logs knows entry mark holds new from numbered none are sector next
         ∙ none_is_later log t0 numbered (let e : t0.entry.position ≡ taken log = next in omega arith)
 
     no_line : placed_line i.shape new_log entry.position ≡ None
-    no_line = line_now entry.position ∙ ap (option_map (λ (p : Placed). p.stripe.line)) (find_none (λ (p : Placed). holds_position i.shape entry.position p && not (was_lost log p)) (placements log)
-        (all_imply (λ (p : Placed). holds_position i.shape entry.position p ≡ false) (λ (p : Placed). (holds_position i.shape entry.position p && not (was_lost log p)) ≡ false)
+    no_line = line_now entry.position
+        ∙ ap (option_map (λ (p : Placed). p.stripe.line))
+        (find_none (λ (p : Placed). holds_position i.shape entry.position p && not (was_lost log p)) (placements log)
+        (all_imply (λ (p : Placed). holds_position i.shape entry.position p ≡ false)
+        (λ (p : Placed). (holds_position i.shape entry.position p && not (was_lost log p)) ≡ false)
         (λ p h. not_first (holds_position i.shape entry.position p) (not (was_lost log p)) h) (placements log) none))
 
     newest : slice_get new.rows.items (entry.position % i.shape.ring) ≡ Some (hold_of i.shape new_log t0)
     newest =
         ap (λ rs. slice_get rs (entry.position % i.shape.ring)) rows_are
-        ∙ get_set_same rows (entry.position % i.shape.ring) fresh (subst (λ n. entry.position % i.shape.ring < n) (sym rows_length) (mod_below entry.position i.shape.ring some))
-        ∙ ap Some (same_hold mark None (placed_line i.shape new_log entry.position) None (taker_of (later_take new_log t0)) (sym no_line) (sym (ap taker_of none_later)))
+        ∙ get_set_same rows (entry.position % i.shape.ring) fresh
+        (subst (λ n. entry.position % i.shape.ring < n) (sym rows_length) (mod_below entry.position i.shape.ring some))
+        ∙ ap Some (same_hold mark None (placed_line i.shape new_log entry.position) None (taker_of (later_take new_log t0)) (sym no_line)
+        (sym (ap taker_of none_later)))
 
     -- a row that stays
     passes : Taken → Bool
@@ -298,12 +312,15 @@ holds_taken i logs knows entry mark holds new from numbered none are sector next
     stays t k at kept differs later =
         rows_other slot entry.position items (t.entry.position % i.shape.ring) (another t k at kept differs)
         ∙ are.each t (is_in (takes log) k t at) kept
-        ∙ ap Some (same_hold t.mark (placed_line i.shape log t.entry.position) (placed_line i.shape new_log t.entry.position) (taker_of (later_take log t)) (taker_of (later_take new_log t))
+        ∙ ap Some (same_hold t.mark (placed_line i.shape log t.entry.position) (placed_line i.shape new_log t.entry.position) (taker_of (later_take log t))
+        (taker_of (later_take new_log t))
         (sym (line_now t.entry.position)) (sym (ap taker_of later)))
 
     -- the entry that was the last of its sector
-    is_last : (t : Taken) (k : ℕ) → slice_get (takes log) k ≡ Some t → mark.lba ≡ t.mark.lba → later_take log t ≡ None → (o : Option Taken) → last_take log entry.lba ≡ o → o ≡ Some t
-    is_last t k at same later None e = absurd (last_is_some passes (takes log) None k t at (ap (λ n. n == entry.lba) (sym same ∙ sector) ∙ same_number entry.lba) e)
+    is_last : (t : Taken) (k : ℕ) → slice_get (takes log) k ≡ Some t → mark.lba ≡ t.mark.lba → later_take log t ≡ None → (o : Option Taken)
+        → last_take log entry.lba ≡ o → o ≡ Some t
+    is_last t k at same later None e =
+        absurd (last_is_some passes (takes log) None k t at (ap (λ n. n == entry.lba) (sym same ∙ sector) ∙ same_number entry.lba) e)
     is_last t k at same later (Some u) e =
         let last : (j : ℕ) × IsLastAt passes (takes log) u j = last_at passes (takes log) u e in
         let j : ℕ = last.0 in
@@ -324,23 +341,27 @@ holds_taken i logs knows entry mark holds new from numbered none are sector next
             none_passes (λ (u : Taken). nat_lt t.entry.position u.entry.position && (u.mark.lba == t.mark.lba)) (takes log) j u later u_at in
             absurd cc
 
-    taken_from : (t : Taken) (k : ℕ) → slice_get (takes log) k ≡ Some t → is_given_back i.shape log t.entry.position ≡ false → mark.lba ≡ t.mark.lba → later_take log t ≡ None
+    taken_from : (t : Taken) (k : ℕ) → slice_get (takes log) k ≡ Some t → is_given_back i.shape log t.entry.position ≡ false → mark.lba ≡ t.mark.lba
+        → later_take log t ≡ None
         → slice_get rows (t.entry.position % i.shape.ring) ≡ Some (hold_of i.shape new_log t)
     taken_from t k at kept same later =
         ap (λ sl. slice_get (rows_with_taker sl entry.position items) (t.entry.position % i.shape.ring)) slot_is
         ∙ ap (λ n. slice_get (rows_with_taker (Cached t.entry.position) entry.position items) (t.entry.position % n)) (sym are.room)
         ∙ rows_own t.entry.position entry.position items (hold_of i.shape log t) some_rows
         (ap (λ n. slice_get items (t.entry.position % n)) are.room ∙ are.each t (is_in (takes log) k t at) kept)
-        ∙ ap Some (same_hold t.mark (placed_line i.shape log t.entry.position) (placed_line i.shape new_log t.entry.position) (Some entry.position) (taker_of (later_take new_log t))
+        ∙ ap Some (same_hold t.mark (placed_line i.shape log t.entry.position) (placed_line i.shape new_log t.entry.position) (Some entry.position)
+        (taker_of (later_take new_log t))
         (sym (line_now t.entry.position)) (sym (ap taker_of (later_of_sector log entry mark knows t later same (below t k at)))))
       where
         slot_is : slot ≡ Cached t.entry.position
         slot_is =
             ap (slot_by i logs entry.lba) (is_last t k at same later (last_take log entry.lba) refl)
-            ∙ ap (λ o. option_map_or (media_of i logs t.entry.position) o (Cached t.entry.position)) (any_none (gives_back i.shape log t.entry.position) (placements log) kept)
+            ∙ ap (λ o. option_map_or (media_of i logs t.entry.position) o (Cached t.entry.position))
+            (any_none (gives_back i.shape log t.entry.position) (placements log) kept)
 
     -- a later entry of the sector was taken before
-    by_later : (t : Taken) (k : ℕ) → slice_get (takes log) k ≡ Some t → is_given_back i.shape log t.entry.position ≡ false → mark.lba ≡ t.mark.lba → (o : Option Taken) → later_take log t ≡ o
+    by_later : (t : Taken) (k : ℕ) → slice_get (takes log) k ≡ Some t → is_given_back i.shape log t.entry.position ≡ false → mark.lba ≡ t.mark.lba
+        → (o : Option Taken) → later_take log t ≡ o
         → slice_get rows (t.entry.position % i.shape.ring) ≡ Some (hold_of i.shape new_log t)
     by_later t k at kept same None e = taken_from t k at kept same e
     by_later t k at kept same (Some v) e = stays t k at kept differs (later_stays log event t v e ∙ sym e)
@@ -351,7 +372,8 @@ holds_taken i logs knows entry mark holds new from numbered none are sector next
             found_passes (λ (u : Taken). nat_lt t.entry.position u.entry.position && (u.mark.lba == t.mark.lba)) (takes log) v e in
             let m : ℕ = is.1.0 in
             let v_at : slice_get (takes log) m ≡ Some v = is.1.1 in
-            let both : (nat_lt t.entry.position v.entry.position ≡ true) × ((v.mark.lba == t.mark.lba) ≡ true) = both_true (nat_lt t.entry.position v.entry.position) (v.mark.lba == t.mark.lba) is.0 in
+            let both : (nat_lt t.entry.position v.entry.position ≡ true) × ((v.mark.lba == t.mark.lba) ≡ true) =
+            both_true (nat_lt t.entry.position v.entry.position) (v.mark.lba == t.mark.lba) is.0 in
             let more : t.entry.position < v.entry.position = below_is t.entry.position v.entry.position both.0 in
             let lba : v.mark.lba ≡ entry.lba = eqb-true v.mark.lba t.mark.lba both.1 ∙ sym same ∙ sector in
             let a : t.entry.position ≡ first_position log + k = place t k at in
@@ -359,7 +381,8 @@ holds_taken i logs knows entry mark holds new from numbered none are sector next
             let up : m ≤ j = last.greatest m v v_at (ap (λ n. n == entry.lba) lba ∙ same_number entry.lba) in
             omega arith
 
-    by_sector : (t : Taken) (k : ℕ) → slice_get (takes log) k ≡ Some t → is_given_back i.shape log t.entry.position ≡ false → (b : Bool) → (mark.lba == t.mark.lba) ≡ b
+    by_sector : (t : Taken) (k : ℕ) → slice_get (takes log) k ≡ Some t → is_given_back i.shape log t.entry.position ≡ false → (b : Bool)
+        → (mark.lba == t.mark.lba) ≡ b
         → slice_get rows (t.entry.position % i.shape.ring) ≡ Some (hold_of i.shape new_log t)
     by_sector t k at kept true e = by_later t k at kept (eqb-true mark.lba t.mark.lba e) (later_take log t) refl
     by_sector t k at kept false e = stays t k at kept differs (later_of_others log entry mark knows t e)
@@ -377,7 +400,8 @@ holds_taken i logs knows entry mark holds new from numbered none are sector next
         let d : t.entry.position < entry.position = below t k at in
         let g : from ≤ t.entry.position = above t k at kept in
         ap (λ rs. slice_get rs (t.entry.position % i.shape.ring)) rows_are
-        ∙ get_set_other rows (entry.position % i.shape.ring) (t.entry.position % i.shape.ring) fresh (apart i.shape.ring t.entry.position entry.position d (omega arith))
+        ∙ get_set_other rows (entry.position % i.shape.ring) (t.entry.position % i.shape.ring) fresh
+        (apart i.shape.ring t.entry.position entry.position d (omega arith))
         ∙ by_sector t k at kept (mark.lba == t.mark.lba) refl
 
     each : (t : Taken) → Contains (takes new_log) t → is_given_back i.shape new_log t.entry.position ≡ false

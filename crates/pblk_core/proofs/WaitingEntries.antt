@@ -53,7 +53,8 @@ get_ranged a (suc n) (suc k) x e = let rest : x ≡ a + 1 + k = get_ranged (a + 
 pub numbered_at : (log : List Logged) (k : ℕ) (t : Taken) → AreNumbered log → slice_get (takes log) k ≡ Some t → t.entry.position ≡ first_position log + k
 numbered_at log k t numbered e =
     get_ranged (first_position log) (length (takes log)) k t.entry.position
-    (ap (λ (qs : List ℕ). slice_get qs k) (sym numbered) ∙ get_mapped (λ (t : Taken). t.entry.position) (takes log) k ∙ ap (option_map (λ (t : Taken). t.entry.position)) e)
+    (ap (λ (qs : List ℕ). slice_get qs k) (sym numbered) ∙ get_mapped (λ (t : Taken). t.entry.position) (takes log) k
+    ∙ ap (option_map (λ (t : Taken). t.entry.position)) e)
 
 -- a sector of the drive's size, at a position that has a bound
 pub record IsSized (s : Shape) (t : Taken) : Type 0 where
@@ -64,12 +65,14 @@ sized_after : (i : Image) (log : List Logged) (known : Logs) (e : EngineEvent) (
     → AllByRecursion (IsSized i.shape) (takes log) → AllByRecursion (IsSized i.shape) (takes (log ++ record { event = Decides e; knows = knows } ∷ []))
 sized_after i log known (Take entry mark) knows own may is =
     subst (AllByRecursion (IsSized i.shape)) (sym (takes_more log (record { event = Decides (Take entry mark); knows = knows })))
-    (all_append (IsSized i.shape) (takes log) (record { entry = entry; mark = mark } ∷ []) is (record { sector = may.2.block.size; position = may.2.position_number }, tt))
+    (all_append (IsSized i.shape) (takes log) (record { entry = entry; mark = mark } ∷ []) is
+    (record { sector = may.2.block.size; position = may.2.position_number }, tt))
 sized_after i log known e knows own may is =
     subst (AllByRecursion (IsSized i.shape)) (sym (takes_more log (record { event = Decides e; knows = knows }) ∙ append-nil (takes log))) is
 
 pub are_sized : (i : Image) (w : World) → IsSimpleMount i w → AllByRecursion (IsSized i.shape) (takes (log_of w 0))
-are_sized i w is = of_legal_log i (λ log. AllByRecursion (IsSized i.shape) (takes log)) tt (λ log known e knows own may kept. sized_after i log known e knows own may kept) w is.mount.legal
+are_sized i w is = of_legal_log i (λ log. AllByRecursion (IsSized i.shape) (takes log)) tt
+    (λ log known e knows own may kept. sized_after i log known e knows own may kept) w is.mount.legal
 
 -- ---- what waits
 
@@ -84,25 +87,30 @@ pub record IsWaiting (i : Image) (w : World) (c : Core) (t : Taken) (k : ℕ) : 
   pub unplaced : placed_line i.shape (log_of w 0) t.entry.position ≡ None
   pub row : row_at c.holds.rows.items t.entry.position ≡ Some (hold_of i.shape (log_of w 0) t)
 
-pub row_of_entry : (i : Image) (w : World) (c : Core) (t : Taken) (number : ℕ) → Stands i (log_of w) c → slice_get (takes (log_of w 0)) number ≡ Some t → is_given_back i.shape (log_of w 0) t.entry.position ≡ false
+pub row_of_entry : (i : Image) (w : World) (c : Core) (t : Taken) (number : ℕ) → Stands i (log_of w) c → slice_get (takes (log_of w 0)) number ≡ Some t
+    → is_given_back i.shape (log_of w 0) t.entry.position ≡ false
     → row_at c.holds.rows.items t.entry.position ≡ Some (hold_of i.shape (log_of w 0) t)
 row_of_entry i w c t number st there kept =
     ap (λ n. slice_get c.holds.rows.items (t.entry.position % n)) st.holds.room
     ∙ st.holds.each t (is_in (takes (log_of w 0)) number t there) kept
 
-pub waiting_at : (i : Image) (w : World) (c : Core) (k : ℕ) (t : Taken) → IsSimpleMount i w → Stands i (log_of w) c → slice_get (waiting i.shape (log_of w 0)) k ≡ Some t → IsWaiting i w c t k
+pub waiting_at : (i : Image) (w : World) (c : Core) (k : ℕ) (t : Taken) → IsSimpleMount i w → Stands i (log_of w) c
+    → slice_get (waiting i.shape (log_of w 0)) k ≡ Some t → IsWaiting i w c t k
 waiting_at i w c k t simple st e =
     let s : Shape = i.shape in
     let log : List Logged = log_of w 0 in
     let is : IsOrdered s log = ordered i w simple in
     let n : ℕ = is.order.count in
-    let there : slice_get (takes log) (n + k) ≡ Some t = sym (get_dropped n (takes log) k) ∙ ap (λ (ts : List Taken). slice_get ts k) (sym (waiting_are_last s log is.numbered is.no_loss is.order)) ∙ e in
+    let there : slice_get (takes log) (n + k) ≡ Some t = sym (get_dropped n (takes log) k)
+    ∙ ap (λ (ts : List Taken). slice_get ts k) (sym (waiting_are_last s log is.numbered is.no_loss is.order)) ∙ e in
     let at : t.entry.position ≡ first_position log + (n + k) = numbered_at log (n + k) t is.numbered there in
     let count = count_is s log is in
     let position : t.entry.position ≡ placed_front s log + k = omega arith in
     let pad : ℕ = c.placer.entries.pad in
     let own : slice_get (held (placing_of i (log_of w) pad [])) k ≡ Some t.entry.position =
-    get_more _ _ k t.entry.position (ap (λ (qs : List ℕ). slice_get qs k) (waiting_alike s log pad) ∙ get_mapped (λ (t : Taken). t.entry.position) (waiting s log) k ∙ ap (option_map (λ (t : Taken). t.entry.position)) e) in
+    get_more _ _ k t.entry.position
+    (ap (λ (qs : List ℕ). slice_get qs k) (waiting_alike s log pad) ∙ get_mapped (λ (t : Taken). t.entry.position) (waiting s log) k
+    ∙ ap (option_map (λ (t : Taken). t.entry.position)) e) in
     let inside : IsInWindow s log t.entry.position = in_window i (log_of w) pad [] k t.entry.position is own in
     let freed_low : c.window.freed ≤ freed s log = st.to_freed in
     let from : freed s log ≤ t.entry.position = inside.from_freed in
@@ -118,7 +126,8 @@ waiting_at i w c k t simple st e =
       high = high;
       kept = kept;
       unplaced = not_noted (placed_line s log t.entry.position) (line_below_front s log t.entry.position is
-          ∙ and_false (nat_le (first_position log) t.entry.position) (nat_lt t.entry.position (placed_front s log)) (not_below (placed_front s log) t.entry.position above));
+          ∙ and_false (nat_le (first_position log) t.entry.position) (nat_lt t.entry.position (placed_front s log))
+          (not_below (placed_front s log) t.entry.position above));
       row = row_of_entry i w c t (n + k) st there kept;
     }
   where
@@ -133,7 +142,8 @@ waiting_at i w c k t simple st e =
 -- ---- sectors in the window
 
 held_by_log : (i : Image) (w : World) (c : Core) (k : ℕ) → Stands i (log_of w) c
-    → option_map without_frame (slice_get c.window.entries k) ≡ option_map (held_of i.shape (log_of w 0)) (slice_get (takes (log_of w 0)) (c.window.freed - first_position (log_of w 0) + k))
+    → option_map without_frame (slice_get c.window.entries k) ≡ option_map (held_of i.shape (log_of w 0))
+    (slice_get (takes (log_of w 0)) (c.window.freed - first_position (log_of w 0) + k))
 held_by_log i w c k st =
     sym (get_mapped without_frame c.window.entries k)
     ∙ ap (λ (v : HeldSectors). slice_get v.entries k) st.window
@@ -141,47 +151,58 @@ held_by_log i w c k st =
     ∙ ap (option_map (held_of i.shape (log_of w 0))) (get_dropped (c.window.freed - first_position (log_of w 0)) (takes (log_of w 0)) k)
 
 bytes_by_log : (i : Image) (w : World) (c : Core) (k : ℕ) → Stands i (log_of w) c
-    → option_map (λ (h : Held). h.entry.frame.bytes) (slice_get c.window.entries k) ≡ option_map (λ (t : Taken). t.entry.sector) (slice_get (takes (log_of w 0)) (c.window.freed - first_position (log_of w 0) + k))
+    → option_map (λ (h : Held). h.entry.frame.bytes) (slice_get c.window.entries k) ≡ option_map (λ (t : Taken). t.entry.sector)
+    (slice_get (takes (log_of w 0)) (c.window.freed - first_position (log_of w 0) + k))
 bytes_by_log i w c k st =
     bytes_without (slice_get c.window.entries k) ∙ ap (option_map (λ (h : HeldSector). h.sector)) (held_by_log i w c k st)
     ∙ twice (slice_get (takes (log_of w 0)) (c.window.freed - first_position (log_of w 0) + k))
   where
-    twice : (o : Option Taken) → option_map (λ (h : HeldSector). h.sector) (option_map (held_of i.shape (log_of w 0)) o) ≡ option_map (λ (t : Taken). t.entry.sector) o
+    twice : (o : Option Taken) → option_map (λ (h : HeldSector). h.sector) (option_map (held_of i.shape (log_of w 0)) o) ≡ option_map
+        (λ (t : Taken). t.entry.sector) o
     twice None = refl
     twice (Some t) = refl
 
 -- the sector of an entry that was taken and isn't below the window
-pub sector_there : (i : Image) (w : World) (c : Core) (t : Taken) (number : ℕ) → Stands i (log_of w) c → slice_get (takes (log_of w 0)) number ≡ Some t → first_position (log_of w 0) + number ≡ t.entry.position
+pub sector_there : (i : Image) (w : World) (c : Core) (t : Taken) (number : ℕ) → Stands i (log_of w) c → slice_get (takes (log_of w 0)) number ≡ Some t
+    → first_position (log_of w 0) + number ≡ t.entry.position
     → c.window.freed ≤ t.entry.position → sector_at c.window t.entry.position ≡ Some t.entry.sector
 sector_there i w c t number st there is low =
     let first : first_position (log_of w 0) ≤ c.window.freed = st.from_first in
     let at : c.window.freed - first_position (log_of w 0) + (t.entry.position - c.window.freed) ≡ number = omega arith in
-    ap (λ b. option_map (λ (h : Held). h.entry.frame.bytes) (if b then None else slice_get c.window.entries (t.entry.position - c.window.freed))) (not_below c.window.freed t.entry.position low)
+    ap (λ b. option_map (λ (h : Held). h.entry.frame.bytes) (if b then None else slice_get c.window.entries (t.entry.position - c.window.freed)))
+    (not_below c.window.freed t.entry.position low)
     ∙ bytes_by_log i w c (t.entry.position - c.window.freed) st
     ∙ ap (option_map (λ (t : Taken). t.entry.sector)) (ap (slice_get (takes (log_of w 0))) at ∙ there)
 
 -- each sector in the window has the size of the drive's
-pub sectors_sized : (i : Image) (w : World) (c : Core) (q : ℕ) (sector : List ℕ) → IsSimpleMount i w → Stands i (log_of w) c → sector_at c.window q ≡ Some sector → length sector ≡ i.shape.sector
+pub sectors_sized : (i : Image) (w : World) (c : Core) (q : ℕ) (sector : List ℕ) → IsSimpleMount i w → Stands i (log_of w) c
+    → sector_at c.window q ≡ Some sector → length sector ≡ i.shape.sector
 sectors_sized i w c q sector simple st e = go (nat_lt q c.window.freed) e
   where
-    at : (o : Option Taken) → slice_get (takes (log_of w 0)) (c.window.freed - first_position (log_of w 0) + (q - c.window.freed)) ≡ o → option_map (λ (t : Taken). t.entry.sector) o ≡ Some sector → length sector ≡ i.shape.sector
+    at : (o : Option Taken) → slice_get (takes (log_of w 0)) (c.window.freed - first_position (log_of w 0) + (q - c.window.freed)) ≡ o
+        → option_map (λ (t : Taken). t.entry.sector) o ≡ Some sector → length sector ≡ i.shape.sector
     at None f g = absurd (none-some sector g)
     at (Some t) f g =
         ap (λ (xs : List ℕ). length xs) (sym (same_Some t.entry.sector sector g))
-        ∙ IsSized.sector (all_at (IsSized i.shape) (takes (log_of w 0)) (c.window.freed - first_position (log_of w 0) + (q - c.window.freed)) t f (are_sized i w simple))
+        ∙ IsSized.sector (all_at (IsSized i.shape) (takes (log_of w 0)) (c.window.freed - first_position (log_of w 0) + (q - c.window.freed)) t f
+        (are_sized i w simple))
 
-    go : (b : Bool) → option_map (λ (h : Held). h.entry.frame.bytes) (if b then None else slice_get c.window.entries (q - c.window.freed)) ≡ Some sector → length sector ≡ i.shape.sector
+    go : (b : Bool) → option_map (λ (h : Held). h.entry.frame.bytes) (if b then None else slice_get c.window.entries (q - c.window.freed)) ≡ Some sector
+        → length sector ≡ i.shape.sector
     go true f = absurd (none-some sector f)
-    go false f = at (slice_get (takes (log_of w 0)) (c.window.freed - first_position (log_of w 0) + (q - c.window.freed))) refl (sym (bytes_by_log i w c (q - c.window.freed) st) ∙ f)
+    go false f = at (slice_get (takes (log_of w 0)) (c.window.freed - first_position (log_of w 0) + (q - c.window.freed))) refl
+        (sym (bytes_by_log i w c (q - c.window.freed) st) ∙ f)
 
 -- ---- blocks
 
-pub blocks_are : (w : WindowView) (rows : List Hold) (ts : List Taken) → AllByRecursion (λ (t : Taken). entry_block w rows t.entry.position ≡ block_of_taken t) ts
+pub blocks_are : (w : WindowView) (rows : List Hold) (ts : List Taken)
+    → AllByRecursion (λ (t : Taken). entry_block w rows t.entry.position ≡ block_of_taken t) ts
     → entry_blocks w rows (positions_of ts) ≡ map block_of_taken ts
 blocks_are w rows [] all = refl
 blocks_are w rows (t ∷ ts) all = ap₂ (λ b bs. b ∷ bs) all.0 (blocks_are w rows ts all.1)
 
-pub block_is : (i : Image) (w : World) (c : Core) (t : Taken) (k : ℕ) → Stands i (log_of w) c → IsWaiting i w c t k → entry_block c.window c.holds.rows.items t.entry.position ≡ block_of_taken t
+pub block_is : (i : Image) (w : World) (c : Core) (t : Taken) (k : ℕ) → Stands i (log_of w) c → IsWaiting i w c t k
+    → entry_block c.window c.holds.rows.items t.entry.position ≡ block_of_taken t
 block_is i w c t k st is =
     let sector : sector_at c.window t.entry.position ≡ Some t.entry.sector = sector_there i w c t is.number st is.there is.number_is is.low in
     λ j. record {
@@ -190,7 +211,8 @@ block_is i w c t k st is =
     }
 
 pub waiting_blocks : (i : Image) (w : World) (c : Core) (n : ℕ) → IsSimpleMount i w → Stands i (log_of w) c
-    → entry_blocks c.window c.holds.rows.items (positions_of (take n (waiting i.shape (log_of w 0)))) ≡ map block_of_taken (take n (waiting i.shape (log_of w 0)))
+    → entry_blocks c.window c.holds.rows.items (positions_of (take n (waiting i.shape (log_of w 0)))) ≡ map block_of_taken
+    (take n (waiting i.shape (log_of w 0)))
 waiting_blocks i w c n simple st =
     blocks_are c.window c.holds.rows.items (take n (waiting i.shape (log_of w 0)))
     (all_by_get (λ (t : Taken). entry_block c.window c.holds.rows.items t.entry.position ≡ block_of_taken t) (take n (waiting i.shape (log_of w 0)))

@@ -39,7 +39,8 @@ waiting_count i w simple =
     length-append (lost_entries i.shape (log_of w 0)) (fresh_entries i.shape (log_of w 0)) in
     let none : length (lost_entries i.shape (log_of w 0)) ≡ 0 = ap (λ (ts : List Taken). length ts) (lost_are_none i.shape (log_of w 0) (ordered i w simple)) in
     let fresh : length (fresh_entries i.shape (log_of w 0)) ≡ taken (log_of w 0) - placed_front i.shape (log_of w 0) =
-    sym (length-map (fresh_entries i.shape (log_of w 0)) (λ (t : Taken). t.entry.position)) ∙ ap (λ (qs : List ℕ). length qs) (fresh_in_order i.shape (log_of w 0) (ordered i w simple))
+    sym (length-map (fresh_entries i.shape (log_of w 0)) (λ (t : Taken). t.entry.position))
+    ∙ ap (λ (qs : List ℕ). length qs) (fresh_in_order i.shape (log_of w 0) (ordered i w simple))
     ∙ length-range_with_len (placed_front i.shape (log_of w 0)) (taken (log_of w 0) - placed_front i.shape (log_of w 0)) in
     omega arith
 
@@ -60,7 +61,8 @@ later a b = go (nat_lt a b) refl (nat_lt 0 (b - a)) refl
 
 -- how many lines have a stripe left
 pub open_count : (i : Image) (w : World) (c : Core) → Stands i (log_of w) c → c.open.count ≡ length (open_lines i (log_of w))
-open_count i w c st = st.open_lines.count ∙ sym (length-map (left_openings i (log_of w)) (open_line i (log_of w))) ∙ ap length (sym (lines_of_left i (log_of w)))
+open_count i w c st = st.open_lines.count ∙ sym (length-map (left_openings i (log_of w)) (open_line i (log_of w)))
+    ∙ ap length (sym (lines_of_left i (log_of w)))
 
 same_choice : (a b : Bool) (m n : Bool) (p q : Bool) (s t : Bool) (x y : Bool) → a ≡ b → m ≡ n → p ≡ q → s ≡ t → x ≡ y → choice a m p s x ≡ choice b n q t y
 same_choice a b m n p q s t x y e f g h k = λ j. choice (e j) (f j) (g j) (h j) (k j)
@@ -74,7 +76,8 @@ beside_is i w c simple st = same_choice _ _ _ _ _ _ _ _ _ _
     (ap (nat_lt 0) st.in_flight)
   where
     waits : nat_lt (c.first + c.placed) (view.taken c.window) ≡ nat_lt 0 (length (waiting i.shape (log_of w 0)))
-    waits = ap₂ nat_lt st.placed (window_taken_is i w c st) ∙ later (placed_front i.shape (log_of w 0)) (taken (log_of w 0)) ∙ ap (nat_lt 0) (sym (waiting_count i w simple))
+    waits = ap₂ nat_lt st.placed (window_taken_is i w c st) ∙ later (placed_front i.shape (log_of w 0)) (taken (log_of w 0))
+        ∙ ap (nat_lt 0) (sym (waiting_count i w simple))
 
     seq : c.start.seq ≡ first_seq_of (log_of w) + length (openings (log_of w 0))
     seq = st.next_seq ∙ ap (λ n. n + length (openings (log_of w 0))) (sym (ap (λ o. option_map_or (λ (b : Begun). b.beginning.seq) o 0) st.has_begun))
@@ -95,4 +98,5 @@ beside_reset None otherwise e = e
 beside_reset (Some chunk) otherwise e = absurd cc
 
 pub program_named : (c : Core) → named c ≡ Program → is_some (next_stripe c.placer 0) ≡ true
-program_named c h = some_stripe (is_some (next_stripe c.placer 0)) (asks_line c) (has_free c) (may_open c) (nat_lt 0 c.under_way) (beside_reset (slice_get (resets_left c.resets) 0) (named_beside c) h)
+program_named c h = some_stripe (is_some (next_stripe c.placer 0)) (asks_line c) (has_free c) (may_open c) (nat_lt 0 c.under_way)
+    (beside_reset (slice_get (resets_left c.resets) 0) (named_beside c) h)

@@ -23,12 +23,14 @@ filter_more : {X : Type 0} (P : X → Bool) (xs ys : List X) → length (filter 
 filter_more P [] ys = omega arith
 filter_more P (x ∷ xs) ys = by (P x) (filter_more P xs ys)
   where
-    by : (b : Bool) → length (filter P xs) ≤ length (filter P (xs ++ ys)) → length (if b then x ∷ filter P xs else filter P xs) ≤ length (if b then x ∷ filter P (xs ++ ys) else filter P (xs ++ ys))
+    by : (b : Bool) → length (filter P xs) ≤ length (filter P (xs ++ ys))
+        → length (if b then x ∷ filter P xs else filter P xs) ≤ length (if b then x ∷ filter P (xs ++ ys) else filter P (xs ++ ys))
     by true h = omega arith
     by false h = h
 
 stripes_grow : (log : List Logged) (l : Logged) (unit : ℕ) → length (placed_on log unit) ≤ length (placed_on (log ++ l ∷ []) unit)
-stripes_grow log l unit = subst (λ (ps : List Placed). length (placed_on log unit) ≤ length (filter (λ p. p.stripe.unit == unit) ps)) (sym (placements_more log l))
+stripes_grow log l unit = subst (λ (ps : List Placed). length (placed_on log unit) ≤ length (filter (λ p. p.stripe.unit == unit) ps))
+    (sym (placements_more log l))
     (filter_more (λ (p : Placed). p.stripe.unit == unit) (placements log) (option_to_list (placed_by log (length log) l.event)))
 
 -- an event adds an answer of a unit only where a stripe waits for it
@@ -42,9 +44,11 @@ HasRoom log unit = length (answers log unit) < length (placed_on log unit)
 
 adds : (i : Image) (logs : Logs) (e : Event) (unit : ℕ) → IsAllowed i 0 e logs → length (answers (logs 0) unit) ≤ length (placed_on (logs 0) unit)
     → length (answers (logs 0) unit) + answers_by unit e ≤ length (placed_on (logs 0) unit)
-adds i logs (Decides (Landed other n)) unit allowed h = at_most_one (length (answers (logs 0) unit)) (length (placed_on (logs 0) unit)) (DidLand n) (other == unit) h
+adds i logs (Decides (Landed other n)) unit allowed h =
+    at_most_one (length (answers (logs 0) unit)) (length (placed_on (logs 0) unit)) (DidLand n) (other == unit) h
     (λ e. subst (λ u. HasRoom (logs 0) u) (same other unit e) allowed.2.stripe.placed)
-adds i logs (Decides (Lost other n)) unit allowed h = at_most_one (length (answers (logs 0) unit)) (length (placed_on (logs 0) unit)) (WasLost n) (other == unit) h
+adds i logs (Decides (Lost other n)) unit allowed h =
+    at_most_one (length (answers (logs 0) unit)) (length (placed_on (logs 0) unit)) (WasLost n) (other == unit) h
     (λ e. subst (λ u. HasRoom (logs 0) u) (same other unit e) allowed.2.stripe.placed)
 adds i logs (Decides (Begin b)) unit allowed h = omega arith
 adds i logs (Decides (Take entry mark)) unit allowed h = omega arith

@@ -26,7 +26,8 @@ agree f g n [] same = refl
 agree f g n (x ∷ xs) same = ap (λ o. cons_option o (filter_map f (enumerate_from (n + 1) xs))) (same n x (omega arith))
     ∙ ap (λ ys. cons_option (g (n, x)) ys) (agree f g (n + 1) xs (λ k y h. same k y (omega arith)))
 
-pub named_more : (log : List Logged) (l : Logged) (unit : ℕ) → named_events (log ++ l ∷ []) unit ≡ named_events log unit ++ option_to_list (named_by unit l.event)
+pub named_more : (log : List Logged) (l : Logged) (unit : ℕ)
+    → named_events (log ++ l ∷ []) unit ≡ named_events log unit ++ option_to_list (named_by unit l.event)
 named_more log l unit = more (λ (m : Logged). named_by unit m.event) log l
 
 pub life_more : (log : List Logged) (l : Logged) (line : ℕ) → life_of (log ++ l ∷ []) line ≡ turned_by line (life_of log line) (length log) l.knows l.event

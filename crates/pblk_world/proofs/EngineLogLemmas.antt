@@ -12,7 +12,8 @@ takes_more log l = more (λ (m : Logged). taken_by m.event) log l
 
 pub takes_grow : (log : List Logged) (l : Logged) → length (takes log) ≤ length (takes (log ++ l ∷ []))
 takes_grow log l =
-    let count : length (takes (log ++ l ∷ [])) ≡ length (takes log) + length (option_to_list (taken_by l.event)) = ap length (takes_more log l) ∙ length-append (takes log) (option_to_list (taken_by l.event)) in
+    let count : length (takes (log ++ l ∷ [])) ≡ length (takes log) + length (option_to_list (taken_by l.event)) = ap length (takes_more log l)
+    ∙ length-append (takes log) (option_to_list (taken_by l.event)) in
     omega arith
 
 pub answers_more : (log : List Logged) (l : Logged) (unit : ℕ) → answers (log ++ l ∷ []) unit ≡ answers log unit ++ option_to_list (answer_by unit l.event)
@@ -20,10 +21,12 @@ answers_more log l unit = more (λ (m : Logged). answer_by unit m.event) log l
 
 pub answer_count : (log : List Logged) (l : Logged) (unit : ℕ) → length (answers log unit) ≤ length (answers (log ++ l ∷ []) unit)
 answer_count log l unit =
-    let same : length (answers (log ++ l ∷ []) unit) ≡ length (answers log unit) + length (option_to_list (answer_by unit l.event)) = ap length (answers_more log l unit) ∙ length-append (answers log unit) (option_to_list (answer_by unit l.event)) in
+    let same : length (answers (log ++ l ∷ []) unit) ≡ length (answers log unit) + length (option_to_list (answer_by unit l.event)) =
+    ap length (answers_more log l unit) ∙ length-append (answers log unit) (option_to_list (answer_by unit l.event)) in
     omega arith
 
-pub begun_kept : (log : List Logged) (e : EngineEvent) (knows : List ℕ) → begun_by knows (Decides e) ≡ None → begun (log ++ record { event = Decides e; knows = knows } ∷ []) ≡ begun log
+pub begun_kept : (log : List Logged) (e : EngineEvent) (knows : List ℕ) → begun_by knows (Decides e) ≡ None
+    → begun (log ++ record { event = Decides e; knows = knows } ∷ []) ≡ begun log
 begun_kept [] e knows none = none
 begun_kept (l ∷ log) e knows none = refl
 

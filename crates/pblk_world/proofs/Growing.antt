@@ -38,17 +38,21 @@ pub at_end : {X : Type 0} (xs : List X) (x y : X) (k : ℕ) → slice_get (xs ++
 at_end [] x y zero e = inr (refl, same_Some x y e)
 at_end [] x y (suc k) e = absurd (none-some y e)
 at_end (z ∷ xs) x y zero e = inl e
-at_end (z ∷ xs) x y (suc k) e = elim (at_end xs x y k e) as (λ _. (slice_get xs k ≡ Some y) ⊎ ((suc k ≡ suc (length xs)) × (x ≡ y))) [ inl h ↦ inl h | inr h ↦ inr (ap suc h.0, h.1) ]
+at_end (z ∷ xs) x y (suc k) e =
+    elim (at_end xs x y k e) as (λ _. (slice_get xs k ≡ Some y) ⊎ ((suc k ≡ suc (length xs)) × (x ≡ y))) [ inl h ↦ inl h | inr h ↦ inr (ap suc h.0, h.1) ]
 
 Falls : World → ℕ → ℕ → Type 0
-Falls w author other = (j k : ℕ) (early late : Logged) → j ≤ k → slice_get (log_of w author) j ≡ Some early → slice_get (log_of w author) k ≡ Some late → known early other ≤ known late other
+Falls w author other = (j k : ℕ) (early late : Logged) → j ≤ k → slice_get (log_of w author) j ≡ Some early → slice_get (log_of w author) k ≡ Some late
+    → known early other ≤ known late other
 
 falls_after : (other : ℕ) (log : List Logged) (l : Logged) → ((earlier : Logged) → Contains log earlier → known earlier other ≤ known l other)
     → ((j k : ℕ) (early late : Logged) → j ≤ k → slice_get log j ≡ Some early → slice_get log k ≡ Some late → known early other ≤ known late other)
-    → (j k : ℕ) (early late : Logged) → j ≤ k → slice_get (log ++ l ∷ []) j ≡ Some early → slice_get (log ++ l ∷ []) k ≡ Some late → known early other ≤ known late other
+    → (j k : ℕ) (early late : Logged) → j ≤ k → slice_get (log ++ l ∷ []) j ≡ Some early → slice_get (log ++ l ∷ []) k ≡ Some late
+    → known early other ≤ known late other
 falls_after other log l rising below j k early late h a b = go (at_end log l early j a) (at_end log l late k b)
   where
-    go : (slice_get log j ≡ Some early) ⊎ ((j ≡ length log) × (l ≡ early)) → (slice_get log k ≡ Some late) ⊎ ((k ≡ length log) × (l ≡ late)) → known early other ≤ known late other
+    go : (slice_get log j ≡ Some early) ⊎ ((j ≡ length log) × (l ≡ early)) → (slice_get log k ≡ Some late) ⊎ ((k ≡ length log) × (l ≡ late))
+        → known early other ≤ known late other
     go (inl x) (inl y) = below j k early late h x y
     go (inl x) (inr y) = subst (λ z. known early other ≤ known z other) y.1 (rising early (is_in log j early x))
     go (inr x) (inl y) = let inside : k < length log = slice_get_within log k late y in let at : j ≡ length log = x.0 in absurd (omega arith)
@@ -61,7 +65,8 @@ unfolding Falls
 falls_by i s w author other step below false e = below
 falls_by i s w author other step below true e =
     let same : s.author ≡ author = grind arith in
-    falls_after other (log_of w author) s.logged (λ earlier there. step.knowledge.rising earlier other (subst (λ a. Contains (log_of w a) earlier) (sym same) there)) below
+    falls_after other (log_of w author) s.logged
+    (λ earlier there. step.knowledge.rising earlier other (subst (λ a. Contains (log_of w a) earlier) (sym same) there)) below
 
 never_falls : (i : Image) (w : World) (author other : ℕ) → IsLegal i w → Falls w author other
 unfolding IsLegal Falls

@@ -13,7 +13,8 @@ use Rattle.pblk_world.specs.Legal.{IsLegal, IsLegalStep, IsAllowed}
 use Rattle.pblk_world.proofs.Growing.{at_end}
 use Rattle.lemmas.proofs.Parts.{get_more, get_whole}
 
-then_same : {X Y : Type 0} (f : X → Option Y) (o p : Option X) (y : Y) → ((x : X) → o ≡ Some x → p ≡ Some x) → option_and_then f o ≡ Some y → option_and_then f p ≡ Some y
+then_same : {X Y : Type 0} (f : X → Option Y) (o p : Option X) (y : Y) → ((x : X) → o ≡ Some x → p ≡ Some x) → option_and_then f o ≡ Some y
+    → option_and_then f p ≡ Some y
 then_same f None p y h e = absurd (none-some y e)
 then_same f (Some x) p y h e = ap (option_and_then f) (h x refl) ∙ e
 
@@ -26,7 +27,8 @@ IsDoneAt logs unit n = (e : UnitEvent) × (unit_event_at logs unit n ≡ Some e)
 
 longer_by : (s : Step) (log : List Logged) (b : Bool) (n : ℕ) (e : UnitEvent) → option_and_then (λ l. unit_event_of l.event) (slice_get log n) ≡ Some e
     → option_and_then (λ (l : Logged). unit_event_of l.event) (slice_get (if b then log ++ s.logged ∷ [] else log) n) ≡ Some e
-longer_by s log true n e h = then_same (λ (l : Logged). unit_event_of l.event) (slice_get log n) (slice_get (log ++ s.logged ∷ []) n) e (λ l f. get_more log (s.logged ∷ []) n l f) h
+longer_by s log true n e h = then_same (λ (l : Logged). unit_event_of l.event) (slice_get log n) (slice_get (log ++ s.logged ∷ []) n) e
+    (λ l f. get_more log (s.logged ∷ []) n l f) h
 longer_by s log false n e h = h
 
 longer : (s : Step) (w : World) (unit n : ℕ) → IsDoneAt (log_of w) unit n → IsDoneAt (log_of (s ∷ w)) unit n
@@ -47,7 +49,8 @@ Lands : World → List Logged → Type 0
 Lands w log = (k unit n : ℕ) (l : Logged) → slice_get log k ≡ Some l → l.event ≡ Decides (Landed unit n) → IsDoneAt (log_of w) unit n
 
 lands_by : (i : Image) (s : Step) (w : World) → IsLegalStep i (log_of w) s → Lands w (log_of w 0) → (b : Bool) → (s.author == 0) ≡ b
-    → (k unit n : ℕ) (l : Logged) → slice_get (if b then log_of w 0 ++ s.logged ∷ [] else log_of w 0) k ≡ Some l → l.event ≡ Decides (Landed unit n) → IsDoneAt (log_of w) unit n
+    → (k unit n : ℕ) (l : Logged) → slice_get (if b then log_of w 0 ++ s.logged ∷ [] else log_of w 0) k ≡ Some l → l.event ≡ Decides (Landed unit n)
+    → IsDoneAt (log_of w) unit n
 unfolding Lands
 lands_by i s w step h false e k unit n l there is = h k unit n l there is
 lands_by i s w step h true e k unit n l there is = go (at_end (log_of w 0) s.logged l k there)
@@ -58,7 +61,8 @@ lands_by i s w step h true e k unit n l there is = go (at_end (log_of w 0) s.log
         let engine : s.author ≡ 0 = grind arith in
         let event : s.logged.event ≡ Decides (Landed unit n) = ap (λ (m : Logged). m.event) new.1 ∙ is in
         let allowed : IsAllowed i 0 (Decides (Landed unit n)) (prefixes s.logged (log_of w)) =
-        subst (λ e. IsAllowed i 0 e (prefixes s.logged (log_of w))) event (subst (λ a. IsAllowed i a s.logged.event (prefixes s.logged (log_of w))) engine step.allowed) in
+        subst (λ e. IsAllowed i 0 e (prefixes s.logged (log_of w))) event
+        (subst (λ a. IsAllowed i a s.logged.event (prefixes s.logged (log_of w))) engine step.allowed) in
         whole s.logged (log_of w) unit n (lands (prefixes s.logged (log_of w)) unit n allowed.2)
 
 all_land : (i : Image) (w : World) → IsLegal i w → Lands w (log_of w 0)

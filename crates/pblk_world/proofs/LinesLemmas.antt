@@ -18,7 +18,8 @@ free_unopened i logs line free = go (life_of (logs 0) line) refl
   where
     go : (l : LineLife) → life_of (logs 0) line ≡ l → is_opened l ≡ false
     go AsFound e = refl
-    go (Opened o) e = absurd (cc (sym free ∙ ap (λ (l : LineLife). not (has_number i logs l line) && are_empty (known_image i logs) line && nat_lt 0 (line_data (known_image i logs) line)) e))
+    go (Opened o) e = absurd (cc (sym free
+        ∙ ap (λ (l : LineLife). not (has_number i logs l line) && are_empty (known_image i logs) line && nat_lt 0 (line_data (known_image i logs) line)) e))
     go (Freed past knows) e = refl
 
 pub not_given_up : (strays : List ℕ) (line : ℕ) (life : LineLife) → is_given_up_by strays line life ≡ true → is_opened life ≡ false

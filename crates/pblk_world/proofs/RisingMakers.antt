@@ -19,11 +19,14 @@ one_more worker s w = elim (is_made_by worker s.logged.event) as (λ b. length (
 
 own_more : (worker : ℕ) (s : Step) (w : World) → is_made_by worker s.logged.event ≡ true → commands_of worker (s ∷ w) ≡ commands_of worker w + 1
 own_more worker s w own =
-    ap (λ b. length (cond b (s ∷ filter (λ (step : Step). is_made_by worker step.logged.event) w) (filter (λ (step : Step). is_made_by worker step.logged.event) w))) own
-    ∙ (let one : suc (length (filter (λ (step : Step). is_made_by worker step.logged.event) w)) ≡ length (filter (λ (step : Step). is_made_by worker step.logged.event) w) + 1 = omega arith in one)
+    ap (λ b. length (cond b (s ∷ filter (λ (step : Step). is_made_by worker step.logged.event) w)
+    (filter (λ (step : Step). is_made_by worker step.logged.event) w))) own
+    ∙ (let one : suc (length (filter (λ (step : Step). is_made_by worker step.logged.event) w)) ≡ length
+    (filter (λ (step : Step). is_made_by worker step.logged.event) w) + 1 = omega arith in one)
 
 -- the number of a command is below the count of its worker's commands
-made_below : (w : World) (k : ℕ) (s : Step) (e : UnitEvent) (n : Maker) → HasMakers w → slice_get w k ≡ Some s → s.logged.event ≡ Does e n → n.made < commands_of n.worker w
+made_below : (w : World) (k : ℕ) (s : Step) (e : UnitEvent) (n : Maker) → HasMakers w → slice_get w k ≡ Some s → s.logged.event ≡ Does e n
+    → n.made < commands_of n.worker w
 unfolding HasMakers
 made_below [] k s e n has at is = absurd (none-some s at)
 made_below (t ∷ w) zero s e n has at is =
@@ -37,7 +40,8 @@ made_below (t ∷ w) (suc k) s e n has at is =
     let more : commands_of n.worker w ≤ commands_of n.worker (t ∷ w) = one_more n.worker t w in
     omega arith
 
-pub rising : (w : World) (j k : ℕ) (late early : Step) (e f : UnitEvent) (m n : Maker) → HasMakers w → j < k → slice_get w j ≡ Some late → slice_get w k ≡ Some early
+pub rising : (w : World) (j k : ℕ) (late early : Step) (e f : UnitEvent) (m n : Maker) → HasMakers w → j < k → slice_get w j ≡ Some late
+    → slice_get w k ≡ Some early
     → late.logged.event ≡ Does e m → early.logged.event ≡ Does f n → n.worker ≡ m.worker → n.made < m.made
 unfolding HasMakers
 rising [] j k late early e f m n has less a b is was same = absurd (none-some late a)

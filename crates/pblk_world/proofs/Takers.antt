@@ -29,6 +29,8 @@ not_landed_line s log q none = ap (option_map (λ (p : Placed). p.stripe.line))
         let both = either_false (has_landed log p && holds_position s q p) (list_any (λ p. has_landed log p && holds_position s q p) ps) e in
         (fails (holds_position s q p) (has_landed log p) (is_in_force log p.life p.stripe.line) both.0, each ps both.1)
 
-pub nothing_taken : (i : Image) (logs : Logs) (line : ℕ) (t before : Taken) → take_before (logs 0) t ≡ Some before → has_landed_at i.shape (logs 0) before.entry.position ≡ false → took_from i logs line t ≡ false
-nothing_taken i logs line t before is none = and_false (nat_lt t.mark.lba i.shape.capacity) (is_of line (landed_line_of i logs t.mark.lba (take_before (logs 0) t)))
+pub nothing_taken : (i : Image) (logs : Logs) (line : ℕ) (t before : Taken) → take_before (logs 0) t ≡ Some before
+    → has_landed_at i.shape (logs 0) before.entry.position ≡ false → took_from i logs line t ≡ false
+nothing_taken i logs line t before is none =
+    and_false (nat_lt t.mark.lba i.shape.capacity) (is_of line (landed_line_of i logs t.mark.lba (take_before (logs 0) t)))
     (ap (λ o. is_of line (landed_line_of i logs t.mark.lba o)) is ∙ ap (is_of line) (not_landed_line i.shape (logs 0) before.entry.position none))

@@ -7,6 +7,7 @@ use Rattle.pblk_world.specs.Fronts.{is_users}
 use Rattle.pblk_world.specs.Taking.{IsMarked}
 use Rattle.pblk_world.specs.World.{Logs}
 
-pub users_mark : (i : Image) (known : Logs) (entry : Entry) (mark : Mark) (source : Option Source) → is_users source ≡ true → IsMarked i known entry mark source → mark.lba ≡ entry.lba
+pub users_mark : (i : Image) (known : Logs) (entry : Entry) (mark : Mark) (source : Option Source) → is_users source ≡ true → IsMarked i known entry mark source
+    → mark.lba ≡ entry.lba
 users_mark i known entry mark None users is = ap (λ (m : Mark). m.lba) is
 users_mark i known entry mark (Some source) users is = absurd cc

@@ -10,7 +10,8 @@ use Rattle.pblk_model.specs.UnitLog.{after_log}
 use Rattle.pblk_world.specs.Events.{Logged, Step}
 use Rattle.pblk_world.specs.World.{Logs, World, known, log_of, media, prefixes, unit_event_at, unit_event_of, unit_events}
 
-pub media_at : (i : Image) (logs : Logs) (unit : ℕ) → slice_get (media i logs).units unit ≡ option_map (λ chunks. after_log i.shape chunks (unit_events logs unit)) (slice_get i.units unit)
+pub media_at : (i : Image) (logs : Logs) (unit : ℕ)
+    → slice_get (media i logs).units unit ≡ option_map (λ chunks. after_log i.shape chunks (unit_events logs unit)) (slice_get i.units unit)
 media_at i logs unit =
     let same : 0 + unit ≡ unit = omega arith in
     numbered_at (λ (u : ℕ × List Chunk). after_log i.shape u.1 (unit_events logs u.0)) 0 i.units unit
@@ -36,5 +37,7 @@ unit_event_cut logs l unit n h = ap (option_and_then (λ (m : Logged). unit_even
 
 pub media_same : (i : Image) (a b : Logs) → ((unit : ℕ) → a (suc unit) ≡ b (suc unit)) → media i a ≡ media i b
 media_same i a b same = ap (λ us. record { shape = i.shape; units = us })
-    (map_same (λ (unit : ℕ × List Chunk). after_log i.shape unit.1 (unit_events a unit.0)) (λ (unit : ℕ × List Chunk). after_log i.shape unit.1 (unit_events b unit.0))
-    (λ unit. ap (λ (xs : List Logged). after_log i.shape unit.1 (filter_map (λ (l : Logged). unit_event_of l.event) xs)) (same unit.0)) (enumerate_from 0 i.units))
+    (map_same (λ (unit : ℕ × List Chunk). after_log i.shape unit.1 (unit_events a unit.0))
+    (λ (unit : ℕ × List Chunk). after_log i.shape unit.1 (unit_events b unit.0))
+    (λ unit. ap (λ (xs : List Logged). after_log i.shape unit.1 (filter_map (λ (l : Logged). unit_event_of l.event) xs)) (same unit.0))
+    (enumerate_from 0 i.units))

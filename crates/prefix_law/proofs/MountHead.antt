@@ -289,7 +289,8 @@ module _ (i : Image) (w : World) (b : Begun) (mount : IsLegalMount i w) (facts :
               | inl (x, anew) ↦
                   let at : IsAt now x = record_is_at now x anew.there in
                   let low : at.start.seq < next_seq (head found) =
-                  old_below found now (entries i w) (synced i.shape (log_of w 0)) after x.line at.start at.in_range (all x.line at.start at.in_range at.whole) in
+                  old_below found now (entries i w) (synced i.shape (log_of w 0)) after x.line at.start at.in_range
+                  (all x.line at.start at.in_range at.whole) in
                   let high : next_seq (head found) ≤ x.seq = anew.seq in
                   let seq : x.seq ≡ at.start.seq = at.seq in
                   absurd (omega arith)

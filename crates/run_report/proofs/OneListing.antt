@@ -80,7 +80,10 @@ plain_rows lba (sector ∷ sectors) low = all_plain (sector_rows (lba, sector)) 
 plain_end : (end count : ℕ) → end < 10 ^ 64 → count < 10 ^ 64 → IsPlainRow (end_row end count)
 plain_end end count h k = record {
   word = (omega arith, (omega arith, (omega arith, tt)));
-  fields = (plain_decimal end h, ((omega arith, (omega arith, (omega arith, (omega arith, (omega arith, (omega arith, (omega arith, tt))))))), (plain_decimal count k, tt)));
+  fields = (
+    plain_decimal end h,
+    ((omega arith, (omega arith, (omega arith, (omega arith, (omega arith, (omega arith, (omega arith, tt))))))), (plain_decimal count k, tt)),
+  );
 }
 
 -- Equal rows are those of equal words.

@@ -49,7 +49,16 @@ origin-sync = record { shared = λ o block at κ q. part_keyless Origin.the_row 
 
 pub emptied-send : IsSend Emptied.the_row
 emptied-send = record {
-  owned = λ e vs. ((λ _. tt), λ v. (tt, λ content. ((tt, held_keyless e.ptr content), (struct_send (declared.shape Inside.the_type) (Vec-send u8 byte, tt)).owned (with_items v.vec content, tt) vs)));
+  owned = λ e vs. (
+    (λ _. tt),
+    λ v. (
+      tt,
+      λ content. (
+        (tt, held_keyless e.ptr content),
+        (struct_send (declared.shape Inside.the_type) (Vec-send u8 byte, tt)).owned (with_items v.vec content, tt) vs,
+      ),
+    ),
+  );
   leaving = λ k x w. tt;
 }
 

@@ -36,7 +36,8 @@ module _ {M : Type 1} {𝓤 : Ura M} (𝓛 : Logic 𝓤) (block : ℕ) where
       let first_long : length first ≡ n = length-take-le n xs (omega arith) in
       let last_long : length last ≡ m = omega (arith, length-drop n xs) in
       rewrite ! 0 (λ ys. ‵ (bytes full_share ys block at)) (sym (take-append-drop n xs)) refl $
-      use1 𝓛 (‵ (bytes full_share first block at) ⊛ ‵ (bytes full_share last block (at + length first))) (bytes_cut 𝓛 full_share first last block at) $ split ! $
+      use1 𝓛 (‵ (bytes full_share first block at) ⊛ ‵ (bytes full_share last block (at + length first)))
+      (bytes_cut 𝓛 full_share first last block at) $ split ! $
       rewrite ! 1 (λ k. ‵ (bytes full_share last block (at + k))) first_long refl $
       feq_i ! ℕ (length first) n first_long $ fjoin ! $ fpack ! (List ℕ) (Filled n at) first $ move ! (1 ∷ []) $
       feq_i ! ℕ (length last) m last_long $ fjoin ! $ fpack ! (List ℕ) (Filled m (at + n)) last $ move ! (1 ∷ 0 ∷ []) $ done !))
@@ -82,7 +83,8 @@ module _ {M : Type 1} {𝓤 : Ura M} (𝓛 : Logic 𝓤) (block : ℕ) where
         let one_more : stride + (n * stride + rest) ≡ suc n * stride + rest = omega arith in
         qed 𝓛 (‵ (Here at (replicate (suc n) true)) ∷ []) ∵ fsplit ! $ move ! (1 ∷ []) $
         use1 𝓛 (‵ (Some_at (n * stride + rest) (at + stride))) (all_united n (at + stride)) $ move ! (1 ∷ 0 ∷ []) $
-        use2 𝓛 (‵ (Some_at (stride + (n * stride + rest)) at)) (united stride (n * stride + rest) at) $ rewrite ! 0 (λ k. ‵ (Some_at k at)) one_more refl $ done !
+        use2 𝓛 (‵ (Some_at (stride + (n * stride + rest)) at)) (united stride (n * stride + rest) at) $ rewrite ! 0
+        (λ k. ‵ (Some_at k at)) one_more refl $ done !
 
     -- a range that is here goes out with its bytes
     pub goes_out : (i at : ℕ) (here : List Bool) → slice_get here i ≡ Some true
@@ -119,10 +121,12 @@ module _ {M : Type 1} {𝓤 : Ura M} (𝓛 : Logic 𝓤) (block : ℕ) where
         let later : at + suc i * stride ≡ at + stride + i * stride = omega arith in
         qed 𝓛 (‵ (Some_at stride (at + suc i * stride)) ∷ ‵ (Here at (true ∷ here)) ∷ []) ∵ rewrite ! 0 (λ k. ‵ (Some_at stride k)) later refl $
         move ! (1 ∷ []) $ fsplit ! $ move ! (2 ∷ 1 ∷ []) $
-        use2 𝓛 (given (slice_get here i ≡ Some false) (‵ (Here (at + stride) (set here i true)))) (comes_back 𝓜 positive i (at + stride) here (omega arith)) $ learn ! (λ out.
+        use2 𝓛 (given (slice_get here i ≡ Some false) (‵ (Here (at + stride) (set here i true))))
+        (comes_back 𝓜 positive i (at + stride) here (omega arith)) $ learn ! (λ out.
         move ! (1 ∷ 0 ∷ []) $ fjoin ! $ check ! out $ done !)
     comes_back 𝓜 positive (suc i) at (false ∷ here) within =
         let later : at + suc i * stride ≡ at + stride + i * stride = omega arith in
         qed 𝓛 (‵ (Some_at stride (at + suc i * stride)) ∷ ‵ (Here at (false ∷ here)) ∷ []) ∵ rewrite ! 0 (λ k. ‵ (Some_at stride k)) later refl $
-        use2 𝓛 (given (slice_get here i ≡ Some false) (‵ (Here (at + stride) (set here i true)))) (comes_back 𝓜 positive i (at + stride) here (omega arith)) $ learn ! (λ out.
+        use2 𝓛 (given (slice_get here i ≡ Some false) (‵ (Here (at + stride) (set here i true))))
+        (comes_back 𝓜 positive i (at + stride) here (omega arith)) $ learn ! (λ out.
         check ! out $ done !)

@@ -61,7 +61,8 @@ module _ {M : Type 1} {𝓤 : Ura M} (𝓛 : Logic 𝓤) (v : Vec ℕ Global) (u
       -- the spare room with the right to free, the capacity's bound, and the fields stay
       show ! (λ i. sem 𝓛 (awaits_bytes extent i.vec.len (λ ys. Refilled i.vec (one u ∷ []) ys))) (record { vec = v }) $
       feq_i ! ℕ v.len v.len refl $ frame ! $
-      each ! (λ ys. wand 𝓤 (sem 𝓛 (Awaited v.ptr v.len ys)) (sem 𝓛 (Refilled v (one u ∷ []) ys))) (λ ys. assume ! (‵ (Awaited v.ptr v.len ys)) $ fsplit ! $ feq_l ! (λ long.
+      each ! (λ ys. wand 𝓤 (sem 𝓛 (Awaited v.ptr v.len ys)) (sem 𝓛 (Refilled v (one u ∷ []) ys)))
+      (λ ys. assume ! (‵ (Awaited v.ptr v.len ys)) $ fsplit ! $ feq_l ! (λ long.
       rewrite ! 0 (Array_at ys) long refl $ fjoin ! $ rewrite ! 0 (λ content. ‵ (Block v.ptr content)) (sym (with_items_is v ys long)) refl $
       let zs = (with_items v ys).items in
       rewrite ! 0 (λ p. ‵ (Block p zs)) at refl $ rewrite ! 0 (λ y. ‵ (owns_if y (Block (block_ptr b o) zs))) (sym has) refl $

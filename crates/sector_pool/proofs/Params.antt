@@ -16,5 +16,7 @@ param_at (suc k) (slot ∷ slots) = param_at k slots
 
 module _ {M : Type 1} {𝓤 : Ura M} {𝓛 : Logic 𝓤} {K : Type 0} {Γ : List (Item 𝓤)} {G : Goal 𝓤 𝓛.H} where
   -- such a struct owns nothing, and its value is the pointer's
-  pub pointer_had : K → (ptr : Ptr) (vs : List Val) → (vs ≡ one (ptr_val ptr) ∷ [] → Seq K 𝓛 Γ G) → Seq K 𝓛 (‵ ((plainly (RawPtr ∷ [])).own_val (ptr, tt) vs) ∷ Γ) G
-  pointer_had t ptr vs go = fpick t (λ us. fsplit t $ feq_l t (λ whole. fsplit t $ feq_l t (λ field. drop t $ go (whole ∙ ap (λ ws. vstruct (of_list (ws ++ [])) ∷ []) field))))
+  pub pointer_had : K → (ptr : Ptr) (vs : List Val) → (vs ≡ one (ptr_val ptr) ∷ [] → Seq K 𝓛 Γ G)
+      → Seq K 𝓛 (‵ ((plainly (RawPtr ∷ [])).own_val (ptr, tt) vs) ∷ Γ) G
+  pointer_had t ptr vs go = fpick t
+      (λ us. fsplit t $ feq_l t (λ whole. fsplit t $ feq_l t (λ field. drop t $ go (whole ∙ ap (λ ws. vstruct (of_list (ws ++ [])) ∷ []) field))))

@@ -35,7 +35,8 @@ module _ (p : pool.Inside) (is : IsPool p) where
   -- how far a range is from the first
   pub offset_fits : (i stride : ℕ) → i < p.count → stride ≡ stride_of p.size → i * stride < 2 ^ 63
   offset_fits i stride within is_stride =
-      let far : i * p.ranges.region.stride ≤ p.ranges.region.count * p.ranges.region.stride = mul-le-mul_right p.ranges.region.stride (omega (arith, is.count)) in
+      let far : i * p.ranges.region.stride ≤ p.ranges.region.count * p.ranges.region.stride =
+      mul-le-mul_right p.ranges.region.stride (omega (arith, is.count)) in
       subst (λ k. i * k < 2 ^ 63) (is.stride ∙ sym is_stride) (omega (arith, is.bytes))
 
   pub fits : p.ranges.region.size ≤ p.ranges.region.stride

@@ -24,7 +24,8 @@ wider (n ∷ numbers) left stack =
 -- a range more that is left goes on top
 pub higher : (numbers : List ℕ) (n : ℕ) → IsStackOf numbers (replicate n true) → IsStackOf (n ∷ numbers) (replicate (suc n) true)
 higher numbers n stack =
-    subst (λ flags. IsStackOf (n ∷ numbers) flags) (last_comes n) (pushed numbers (replicate n true ++ false ∷ []) n (last_is_out n) (wider numbers (replicate n true) stack))
+    subst (λ flags. IsStackOf (n ∷ numbers) flags) (last_comes n)
+    (pushed numbers (replicate n true ++ false ∷ []) n (last_is_out n) (wider numbers (replicate n true) stack))
 
 -- The same of a list whose last number is the topmost.
 module _ (old new : List ℕ) (n : ℕ) (last : new ≡ old ++ n ∷ []) where

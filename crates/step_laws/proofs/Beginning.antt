@@ -27,15 +27,19 @@ use Rattle.lemmas.proofs.Maps.{numbered_at}
 use Rattle.lemmas.proofs.Numbers.{fun_same}
 
 pub mount_begins : (i : Image) (w : World) (b : Beginning) → IsFaultlessMount i w → MayBegin i (log_of w) b → IsFaultlessMount i (after_begin i.shape b w)
-mount_begins i w b faultless may = still_faultless i (engine_step i.shape (Begin b) w) w faultless (next_step i w 0 (Decides (Begin b)) faultless.simple.mount.legal (omega arith) may) refl
+mount_begins i w b faultless may =
+    still_faultless i (engine_step i.shape (Begin b) w) w faultless (next_step i w 0 (Decides (Begin b)) faultless.simple.mount.legal (omega arith) may) refl
 
 -- ---- the engine's log
 
-first_log : (s : Shape) (w : World) (b : Beginning) → log_of w 0 ≡ [] → log_of (after_begin s b w) 0 ≡ record { event = Decides (Begin b); knows = knows_all s w } ∷ []
+first_log : (s : Shape) (w : World) (b : Beginning) → log_of w 0 ≡ []
+    → log_of (after_begin s b w) 0 ≡ record { event = Decides (Begin b); knows = knows_all s w } ∷ []
 first_log s w b none =
-    ap (λ (logs : Logs). logs 0) (engine_logs s (Begin b) w) ∙ ap (λ (log : List Logged). log ++ record { event = Decides (Begin b); knows = knows_all s w } ∷ []) none
+    ap (λ (logs : Logs). logs 0) (engine_logs s (Begin b) w)
+    ∙ ap (λ (log : List Logged). log ++ record { event = Decides (Begin b); knows = knows_all s w } ∷ []) none
 
-pub begun_is : (s : Shape) (w : World) (b : Beginning) → log_of w 0 ≡ [] → begun (log_of (after_begin s b w) 0) ≡ Some (record { beginning = b; knows = knows_all s w })
+pub begun_is : (s : Shape) (w : World) (b : Beginning) → log_of w 0 ≡ []
+    → begun (log_of (after_begin s b w) 0) ≡ Some (record { beginning = b; knows = knows_all s w })
 begun_is s w b none = ap (λ (log : List Logged). begun log) (first_log s w b none)
 
 -- ---- the image that it finds
@@ -52,7 +56,8 @@ found_is i w b legal none =
     let cut : Logs = cut_logs (knows_all i.shape w) new in
     ap (found_by i new) (begun_is i.shape w b none) ∙ ap (media i) (fun_same cut (with_engine (cut 0) (log_of w)) go)
   where
-    go : (author : ℕ) → cut_logs (knows_all i.shape w) (log_of (after_begin i.shape b w)) author ≡ with_engine (cut_logs (knows_all i.shape w) (log_of (after_begin i.shape b w)) 0) (log_of w) author
+    go : (author : ℕ) → cut_logs (knows_all i.shape w) (log_of (after_begin i.shape b w)) author ≡ with_engine
+        (cut_logs (knows_all i.shape w) (log_of (after_begin i.shape b w)) 0) (log_of w) author
     go zero = refl
     go (suc unit) =
         ap (take (slice_index (knows_all i.shape w) (suc unit))) (ap (λ (logs : Logs). logs (suc unit)) (engine_logs i.shape (Begin b) w))
@@ -65,13 +70,16 @@ untold s (Some chunks) = refl
 pub known_is : (i : Image) (w : World) (b : Beginning) → IsLegal i w → log_of w 0 ≡ [] → IsKnown i (after_begin i.shape b w)
 known_is i w b legal none =
     let new : Logs = log_of (after_begin i.shape b w) in
-    same_images i.shape (known_image i new).units (media i (log_of w)).units (λ unit. one unit ∙ ap (λ (j : Image). slice_get j.units unit) (found_is i w b legal none))
+    same_images i.shape (known_image i new).units (media i (log_of w)).units
+    (λ unit. one unit ∙ ap (λ (j : Image). slice_get j.units unit) (found_is i w b legal none))
     ∙ sym (media_still i i.shape (Begin b) w)
   where
-    one : (unit : ℕ) → slice_get (known_image i (log_of (after_begin i.shape b w))).units unit ≡ slice_get (found_image i (log_of (after_begin i.shape b w))).units unit
+    one : (unit : ℕ) → slice_get (known_image i (log_of (after_begin i.shape b w))).units unit ≡ slice_get
+        (found_image i (log_of (after_begin i.shape b w))).units unit
     one unit =
         let new : Logs = log_of (after_begin i.shape b w) in
-        let none_told : told_events new (0 + unit) ≡ [] = ap (λ (log : List Logged). filter_map (λ (l : Logged). told_by new (0 + unit) l.event) log) (first_log i.shape w b none) in
+        let none_told : told_events new (0 + unit) ≡ [] =
+        ap (λ (log : List Logged). filter_map (λ (l : Logged). told_by new (0 + unit) l.event) log) (first_log i.shape w b none) in
         numbered_at (λ unit. after_log i.shape unit.1 (told_events new unit.0)) 0 (found_image i new).units unit
         ∙ ap (λ (es : List UnitEvent). option_map (λ cs. after_log i.shape cs es) (slice_get (found_image i new).units unit)) none_told
         ∙ untold i.shape (slice_get (found_image i new).units unit)
@@ -83,7 +91,8 @@ none_ended [] early = refl
 none_ended (l ∷ log) early =
     let first : knows_engine l ≡ 0 = early l (0, omega arith, refl) in
     let not : ends_stripe l ≡ false = ap (λ n. nat_lt 0 n && option_map_or ends_program (unit_event_of l.event) false) first in
-    ap (λ b. length (cond b (l ∷ filter ends_stripe log) (filter ends_stripe log))) not ∙ none_ended log (λ m has. early m (suc has.0, (let inside : has.0 < length log = has.1 in omega arith), has.2))
+    ap (λ b. length (cond b (l ∷ filter ends_stripe log) (filter ends_stripe log))) not
+    ∙ none_ended log (λ m has. early m (suc has.0, (let inside : has.0 < length log = has.1 in omega arith), has.2))
 
 none_level : (i : Image) (w : World) → IsLegal i w → log_of w 0 ≡ [] → IsLevel w
 none_level i w legal none unit =

@@ -12,14 +12,17 @@ use Rattle.lemmas.proofs.Parts.{got_here, same_lists}
 
 -- ---- lists
 
-pub same_images : (s : Shape) (us vs : List (List Chunk)) → ((unit : ℕ) → slice_get us unit ≡ slice_get vs unit) → ◌≡◌ {A = Image} (record { shape = s; units = us }) (record { shape = s; units = vs })
+pub same_images : (s : Shape) (us vs : List (List Chunk)) → ((unit : ℕ) → slice_get us unit ≡ slice_get vs unit)
+    → ◌≡◌ {A = Image} (record { shape = s; units = us }) (record { shape = s; units = vs })
 same_images s us vs same = ap (λ (xs : List (List Chunk)). record { shape = s; units = xs }) (same_lists us vs same)
 
 -- ---- one event
 
-here_in : (s : Shape) (chunks : List Chunk) (e : UnitEvent) (c : Chunk) → slice_get chunks e.chunk ≡ Some c → slice_get (after_event s chunks e) e.chunk ≡ Some (after_outcome s c e.command e.outcome)
+here_in : (s : Shape) (chunks : List Chunk) (e : UnitEvent) (c : Chunk) → slice_get chunks e.chunk ≡ Some c
+    → slice_get (after_event s chunks e) e.chunk ≡ Some (after_outcome s c e.command e.outcome)
 here_in s chunks e c there =
-    ap (λ (o : Option Chunk). slice_get (option_map_or (λ (c : Chunk). slice_set chunks e.chunk (after_outcome s c e.command e.outcome)) o chunks) e.chunk) there
+    ap (λ (o : Option Chunk). slice_get (option_map_or (λ (c : Chunk). slice_set chunks e.chunk (after_outcome s c e.command e.outcome)) o chunks) e.chunk)
+    there
     ∙ got_here chunks e.chunk c (after_outcome s c e.command e.outcome) there
 
 -- of a unit whose chunks are these

@@ -20,10 +20,12 @@ decides : (i : Image) (logs : Logs) (b : Begun) (e : EngineEvent) → begun (log
 decides i logs b (Begin x) begins may = absurd may
 decides i logs b e begins may = (b, begins, may)
 
-pub engine_next : (i : Image) (w : World) (b : Begun) (e : EngineEvent) → IsFaultlessMount i w → begun (log_of w 0) ≡ Some b → IsDecision i (log_of w) b e → is_plain_decision e ≡ true
+pub engine_next : (i : Image) (w : World) (b : Begun) (e : EngineEvent) → IsFaultlessMount i w → begun (log_of w 0) ≡ Some b → IsDecision i (log_of w) b e
+    → is_plain_decision e ≡ true
     → IsFaultlessMount i (engine_step i.shape e w ∷ w)
 engine_next i w b e is begins may plain =
-    still_faultless i (engine_step i.shape e w) w is (next_step i w 0 (Decides e) is.simple.mount.legal (omega arith) (decides i (log_of w) b e begins may)) plain
+    still_faultless i (engine_step i.shape e w) w is
+    (next_step i w 0 (Decides e) is.simple.mount.legal (omega arith) (decides i (log_of w) b e begins may)) plain
 
 pub engine_logs : (s : Shape) (e : EngineEvent) (w : World) → log_of (engine_step s e w ∷ w) ≡ after (log_of w) e (knows_all s w)
 engine_logs s e w = fun_same (log_of (engine_step s e w ∷ w)) (after (log_of w) e (knows_all s w)) go

@@ -45,27 +45,35 @@ use Rattle.pblk_world.proofs.WorldLemmas.{length_media}
 -- ---- entries by their positions
 
 -- where an entry stands among what was taken
-pub taken_at : (i : Image) (w : World) (t : Taken) → IsLegalMount i w → IsAmong (takes (log_of w 0)) t → (first_position (log_of w 0) ≤ t.entry.position) × (slice_get (takes (log_of w 0)) (t.entry.position - first_position (log_of w 0)) ≡ Some t)
+pub taken_at : (i : Image) (w : World) (t : Taken) → IsLegalMount i w → IsAmong (takes (log_of w 0)) t
+    → (first_position (log_of w 0) ≤ t.entry.position) × (slice_get (takes (log_of w 0)) (t.entry.position - first_position (log_of w 0)) ≡ Some t)
 taken_at i w t mount among =
     let numbered : AreNumbered (log_of w 0) = (in_order i w (accepted_small i.shape mount.accepted) mount.legal).numbered in
-    let at : t.entry.position ≡ first_position (log_of w 0) + among.0 = numbered_at (first_position (log_of w 0)) (length (takes (log_of w 0))) (takes (log_of w 0)) among.0 t numbered among.1 in
+    let at : t.entry.position ≡ first_position (log_of w 0) + among.0 =
+    numbered_at (first_position (log_of w 0)) (length (takes (log_of w 0))) (takes (log_of w 0)) among.0 t numbered among.1 in
     let index : t.entry.position - first_position (log_of w 0) ≡ among.0 = omega arith in
     (omega arith, ap (slice_get (takes (log_of w 0))) index ∙ among.1)
 
 its_mark : (i : Image) (w : World) (t : Taken) → IsLegalMount i w → IsAmong (takes (log_of w 0)) t → t.mark.position ≡ t.entry.position
-its_mark i w t mount among = all_at (λ (t : Taken). t.mark.position ≡ t.entry.position) (takes (log_of w 0)) among.0 t among.1 (in_order i w (accepted_small i.shape mount.accepted) mount.legal).marked
+its_mark i w t mount among = all_at (λ (t : Taken). t.mark.position ≡ t.entry.position) (takes (log_of w 0)) among.0 t among.1
+    (in_order i w (accepted_small i.shape mount.accepted) mount.legal).marked
 
 -- a block of a stripe that bears the position of an entry is that entry's
-its_block : (i : Image) (w : World) (t : Taken) (p : Placed) (r : ℕ) (b : Block) → IsLegalMount i w → IsAmong (takes (log_of w 0)) t → IsAmong (placements (log_of w 0)) p → slice_get p.stripe.blocks r ≡ Some b
+its_block : (i : Image) (w : World) (t : Taken) (p : Placed) (r : ℕ) (b : Block) → IsLegalMount i w → IsAmong (takes (log_of w 0)) t
+    → IsAmong (placements (log_of w 0)) p → slice_get p.stripe.blocks r ≡ Some b
     → bears_position i.shape t.entry.position b ≡ true → b ≡ block_of_taken t
 its_block i w t p r b mount among placed there bears =
     let one : IsOfOne (takes (log_of w 0)) b = all_at (IsEntrys i.shape (takes (log_of w 0))) p.stripe.blocks r b there
-    (all_at (λ (p : Placed). _) (placements (log_of w 0)) placed.0 p placed.1 (placed_entries i w (accepted_small i.shape mount.accepted) mount.legal)) t.entry.position bears in
-    let position : b.mark.position ≡ t.entry.position = eqb-true b.mark.position t.entry.position (both (is_some (named i.shape b.mark)) (b.mark.position == t.entry.position) bears).1 in
+    (all_at (λ (p : Placed). _) (placements (log_of w 0)) placed.0 p placed.1 (placed_entries i w (accepted_small i.shape mount.accepted) mount.legal))
+    t.entry.position bears in
+    let position : b.mark.position ≡ t.entry.position =
+    eqb-true b.mark.position t.entry.position (both (is_some (named i.shape b.mark)) (b.mark.position == t.entry.position) bears).1 in
     let marked : b.mark.position ≡ one.entry.mark.position = ap (λ (x : Block). x.mark.position) one.its in
     let own : one.entry.mark.position ≡ one.entry.entry.position = its_mark i w one.entry mount one.among in
     let same_position : one.entry.entry.position ≡ t.entry.position = omega arith in
-    let same : one.entry ≡ t = same_Some one.entry t (sym (taken_at i w one.entry mount one.among).1 ∙ ap (λ n. slice_get (takes (log_of w 0)) (n - first_position (log_of w 0))) same_position ∙ (taken_at i w t mount among).1) in
+    let same : one.entry ≡ t = same_Some one.entry t
+    (sym (taken_at i w one.entry mount one.among).1 ∙ ap (λ n. slice_get (takes (log_of w 0)) (n - first_position (log_of w 0))) same_position
+    ∙ (taken_at i w t mount among).1) in
     one.its ∙ ap block_of_taken same
 
 -- ---- its unit
@@ -73,26 +81,33 @@ its_block i w t p r b mount among placed there bears =
 pub unit_within : (j : Image) (line unit : ℕ) (c : Chunk) → chunk_in j line unit ≡ Some c → unit < length j.units
 unit_within j line unit c there = by (slice_get j.units unit) refl there
   where
-    by : (o : Option (List Chunk)) → slice_get j.units unit ≡ o → option_and_then (λ (chunks : List Chunk). slice_get chunks line) o ≡ Some c → unit < length j.units
+    by : (o : Option (List Chunk)) → slice_get j.units unit ≡ o → option_and_then (λ (chunks : List Chunk). slice_get chunks line) o ≡ Some c
+        → unit < length j.units
     by None e f = absurd (none-some c f)
     by (Some chunks) e f = slice_get_within j.units unit chunks e
 
 -- ---- the block
 
-pub block_of_entry : (i : Image) (w : World) (lba line at q : ℕ) (t : Taken) → IsSimpleMount i w → last_take (log_of w 0) lba ≡ Some t → IsEntryOnDrive i (log_of w) t line at q → IsBlockOfSlot i (log_of w) lba line at q
+pub block_of_entry : (i : Image) (w : World) (lba line at q : ℕ) (t : Taken) → IsSimpleMount i w → last_take (log_of w 0) lba ≡ Some t
+    → IsEntryOnDrive i (log_of w) t line at q → IsBlockOfSlot i (log_of w) lba line at q
 block_of_entry i w lba line at q t simple last is =
     let mount : IsLegalMount i w = simple.mount in
     let p : Placed = is.stripe in
     let read : IsReadIn i (log_of w) t.entry.position is.stripe = is.read in
     let last_one = last_is_among (log_of w 0) lba t last in
-    let place : IsInPlace i (log_of w 0) is.stripe = all_at (IsInPlace i (log_of w 0)) (placements (log_of w 0)) read.among.0 is.stripe read.among.1 (ordered i w simple).placed in
+    let place : IsInPlace i (log_of w 0) is.stripe =
+    all_at (IsInPlace i (log_of w 0)) (placements (log_of w 0)) read.among.0 is.stripe read.among.1 (ordered i w simple).placed in
     let o : Opening = place.opening in
     let us : List ℕ = opened_units i (log_of w) o in
     let opened : life_of (log_of w 0) p.stripe.line ≡ Opened o = place.stands in
-    let among : IsAmong (stripes_of (log_of w 0) o) p = in_filter (λ (x : Placed). is_life o.number x.life) (placements (log_of w 0)) p read.among (ap (is_life o.number) place.life ∙ same_number o.number) in
-    let on : IsAmong (stripes_on (log_of w 0) o p.stripe.unit) p = in_filter (λ (x : Placed). x.stripe.unit == p.stripe.unit) (stripes_of (log_of w 0) o) p among (same_number p.stripe.unit) in
+    let among : IsAmong (stripes_of (log_of w 0) o) p =
+    in_filter (λ (x : Placed). is_life o.number x.life) (placements (log_of w 0)) p read.among (ap (is_life o.number) place.life ∙ same_number o.number) in
+    let on : IsAmong (stripes_on (log_of w 0) o p.stripe.unit) p =
+    in_filter (λ (x : Placed). x.stripe.unit == p.stripe.unit) (stripes_of (log_of w 0) o) p among (same_number p.stripe.unit) in
     let turn : IsAtTurn i.shape (opened_units i (log_of w) o) p.stripe.line among.0 p = turns_are i w p.stripe.line o among.0 p simple opened among.1 in
-    let count : length p.stripe.blocks ≡ i.shape.ws_opt = all_at (λ (x : Placed). length x.stripe.blocks ≡ i.shape.ws_opt) (placements (log_of w 0)) read.among.0 p read.among.1 (have_blocks i w mount.accepted mount.legal).blocks in
+    let count : length p.stripe.blocks ≡ i.shape.ws_opt =
+    all_at (λ (x : Placed). length x.stripe.blocks ≡ i.shape.ws_opt) (placements (log_of w 0)) read.among.0 p read.among.1
+    (have_blocks i w mount.accepted mount.legal).blocks in
     let short : read.number < length p.stripe.blocks = slice_get_within p.stripe.blocks read.number read.block read.there in
     let inside : read.number < i.shape.ws_opt = omega arith in
     let stands = given i w p.stripe.line p.stripe.unit on.0 read.number o p read.block simple opened on.1 inside read.there read.landed
@@ -103,7 +118,8 @@ block_of_entry i w lba line at q t simple last is =
     let whole = mount.accepted.drive.whole_stripes in
     let live : units_in (as_opened i (log_of w) o).live ≡ opened_units i (log_of w) o = bits_are_units i w o mount in
     let room : length (stripes_of (log_of w 0) o) * i.shape.ws_opt ≤ length (opened_units i (log_of w) o) * i.shape.clba =
-    subst (λ n. length (stripes_of (log_of w 0) o) * i.shape.ws_opt ≤ n * i.shape.clba) (width_stays i w p.stripe.line o mount.legal opened) (room_is i w p.stripe.line o simple opened) in
+    subst (λ n. length (stripes_of (log_of w 0) o) * i.shape.ws_opt ≤ n * i.shape.clba) (width_stays i w p.stripe.line o mount.legal opened)
+    (room_is i w p.stripe.line o simple opened) in
     let few : length (stripes_of (log_of w 0) o) ≤ i.shape.clba / i.shape.ws_opt * length (opened_units i (log_of w) o) =
     few_places i.shape.ws_opt i.shape.clba (length (opened_units i (log_of w) o)) (length (stripes_of (log_of w 0) o)) some whole room in
     let nth : among.0 < length (stripes_of (log_of w 0) o) = slice_get_within (stripes_of (log_of w 0) o) among.0 p among.1 in
@@ -112,7 +128,8 @@ block_of_entry i w lba line at q t simple last is =
     let left : p.stripe.at + read.number - p.stripe.at ≡ read.number = omega arith in
     let address : at ≡ among.0 * i.shape.ws_opt + read.number =
     sym is.address ∙ ap (λ l. address_in i (log_of w) l p (p.stripe.at + read.number)) place.life ∙ ap₂ (λ m n. m * i.shape.ws_opt + n) number left in
-    let now : units_in (live_now i (log_of w) p.stripe.line) ≡ opened_units i (log_of w) o = live_units i w p.stripe.line mount ∙ units_stay i w p.stripe.line o mount.legal opened in
+    let now : units_in (live_now i (log_of w) p.stripe.line) ≡ opened_units i (log_of w) o = live_units i w p.stripe.line mount
+    ∙ units_stay i w p.stripe.line o mount.legal opened in
     let block : read.block ≡ block_of_taken t = its_block i w t p read.number read.block mount last_one.0 read.among read.there read.bears in
     let mark : t.mark ≡ sector_mark lba t.entry.position = ap₂ sector_mark last_one.1 (its_mark i w t mount last_one.0) in
     let its : IsOfEntry i (log_of w) lba p.stripe.line t.entry.position read.block t = record {
@@ -126,7 +143,8 @@ block_of_entry i w lba line at q t simple last is =
     } in
     let found : IsBlockOfSlot i (log_of w) lba p.stripe.line at t.entry.position = record {
       in_range = place.in_range;
-      within = subst (λ (xs : List ℕ). at < length xs * i.shape.clba) (sym now) (subst (λ n. n < length (opened_units i (log_of w) o) * i.shape.clba) (sym address)
+      within = subst (λ (xs : List ℕ). at < length xs * i.shape.clba) (sym now)
+          (subst (λ n. n < length (opened_units i (log_of w) o) * i.shape.clba) (sym address)
           (address_within i (log_of w) o (opened_units i (log_of w) o) p.stripe.line among.0 p some whole live turn read.number inside below));
       unit = p.stripe.unit;
       number = p.stripe.at + read.number;

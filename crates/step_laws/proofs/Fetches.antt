@@ -26,22 +26,26 @@ may_read : (i : Image) (w : World) (unit chunk block : ℕ) (c : Chunk) (o : Opt
 may_read i w unit chunk block c None = tt
 may_read i w unit chunk block c (Some b) = tt
 
-pub may_fetch : (i : Image) (w : World) (unit chunk block : ℕ) (c : Chunk) (answer : ChunkAnswer) → IsFaultlessMount i w → chunk_in (media i (log_of w)) chunk unit ≡ Some c
+pub may_fetch : (i : Image) (w : World) (unit chunk block : ℕ) (c : Chunk) (answer : ChunkAnswer) → IsFaultlessMount i w
+    → chunk_in (media i (log_of w)) chunk unit ≡ Some c
     → NotRefused answer → ChunkStep i.shape c (Read block) answer c → MayDo i (log_of w) unit (fetch_of chunk block answer)
 may_fetch i w unit chunk block c answer faultless there given step =
     let chunks = has_chunks (slice_get (media i (log_of w)).units unit) chunk c there in record {
       chunks = chunks.0;
       has_chunks = chunks.1;
       event = record { found = c; there = chunks.2; blocks = tt; outcome = (given, step) };
-      stopped = λ was. let none : has_stopped (unit_events (log_of w) unit) ≡ false = none_stopped (unit_events (log_of w) unit) (faultless.answered unit) in absurd (cc);
+      stopped = λ was. let none : has_stopped (unit_events (log_of w) unit) ≡ false =
+          none_stopped (unit_events (log_of w) unit) (faultless.answered unit) in absurd (cc);
       command = may_read i w unit chunk block c (begun (log_of w 0));
     }
 
-pub fetch_next : (i : Image) (w : World) (unit chunk block : ℕ) (c : Chunk) (answer : ChunkAnswer) (maker : Maker) → IsFaultlessMount i w → unit < units i.shape → chunk_in (media i (log_of w)) chunk unit ≡ Some c
+pub fetch_next : (i : Image) (w : World) (unit chunk block : ℕ) (c : Chunk) (answer : ChunkAnswer) (maker : Maker) → IsFaultlessMount i w → unit < units i.shape
+    → chunk_in (media i (log_of w)) chunk unit ≡ Some c
     → NotRefused answer → ChunkStep i.shape c (Read block) answer c → IsFaultlessMount i (unit_step i.shape unit (fetch_of chunk block answer) maker w ∷ w)
 fetch_next i w unit chunk block c answer maker faultless range there given step =
     still_faultless i (unit_step i.shape unit (fetch_of chunk block answer) maker w) w faultless
-    (next_step i w (suc unit) (Does (fetch_of chunk block answer) maker) faultless.simple.mount.legal (omega arith) (may_fetch i w unit chunk block c answer faultless there given step)) refl
+    (next_step i w (suc unit) (Does (fetch_of chunk block answer) maker) faultless.simple.mount.legal (omega arith)
+    (may_fetch i w unit chunk block c answer faultless there given step)) refl
 
 -- ---- the media
 
@@ -52,18 +56,23 @@ read_leaves s chunks chunk block answer = go (slice_get chunks chunk) refl
     go None e = refl
     go (Some c) e = set_same chunks chunk c e
 
-all_left : (s : Shape) (o : Option (List Chunk)) (chunk block : ℕ) (answer : ChunkAnswer) → option_map (λ chunks. after_event s chunks (fetch_of chunk block answer)) o ≡ o
+all_left : (s : Shape) (o : Option (List Chunk)) (chunk block : ℕ) (answer : ChunkAnswer)
+    → option_map (λ chunks. after_event s chunks (fetch_of chunk block answer)) o ≡ o
 all_left s None chunk block answer = refl
 all_left s (Some chunks) chunk block answer = ap (λ (cs : List Chunk). Some cs) (read_leaves s chunks chunk block answer)
 
-pub media_stays : (i : Image) (w : World) (unit chunk block : ℕ) (answer : ChunkAnswer) (maker : Maker) → media i (log_of (unit_step i.shape unit (fetch_of chunk block answer) maker w ∷ w)) ≡ media i (log_of w)
+pub media_stays : (i : Image) (w : World) (unit chunk block : ℕ) (answer : ChunkAnswer) (maker : Maker)
+    → media i (log_of (unit_step i.shape unit (fetch_of chunk block answer) maker w ∷ w)) ≡ media i (log_of w)
 media_stays i w unit chunk block answer maker =
-    same_images i.shape (media i (log_of (unit_step i.shape unit (fetch_of chunk block answer) maker w ∷ w))).units (media i (log_of w)).units (λ u. go u (cases_order u unit))
+    same_images i.shape (media i (log_of (unit_step i.shape unit (fetch_of chunk block answer) maker w ∷ w))).units (media i (log_of w)).units
+    (λ u. go u (cases_order u unit))
   where
     own : slice_get (media i (log_of (unit_step i.shape unit (fetch_of chunk block answer) maker w ∷ w))).units unit ≡ slice_get (media i (log_of w)).units unit
     own = media_now i unit (fetch_of chunk block answer) maker w ∙ all_left i.shape (slice_get (media i (log_of w)).units unit) chunk block answer
 
-    go : (u : ℕ) → (u ≡ unit) ⊎ ((u < unit) ⊎ (unit < u)) → slice_get (media i (log_of (unit_step i.shape unit (fetch_of chunk block answer) maker w ∷ w))).units u ≡ slice_get (media i (log_of w)).units u
-    go u (inl same) = subst (λ v. slice_get (media i (log_of (unit_step i.shape unit (fetch_of chunk block answer) maker w ∷ w))).units v ≡ slice_get (media i (log_of w)).units v) (sym same) own
+    go : (u : ℕ) → (u ≡ unit) ⊎ ((u < unit) ⊎ (unit < u))
+        → slice_get (media i (log_of (unit_step i.shape unit (fetch_of chunk block answer) maker w ∷ w))).units u ≡ slice_get (media i (log_of w)).units u
+    go u (inl same) = subst (λ v. slice_get (media i (log_of (unit_step i.shape unit (fetch_of chunk block answer) maker w ∷ w))).units v ≡ slice_get
+        (media i (log_of w)).units v) (sym same) own
     go u (inr (inl below)) = media_elsewhere i unit (fetch_of chunk block answer) maker w u (λ same. absurd (omega arith))
     go u (inr (inr above)) = media_elsewhere i unit (fetch_of chunk block answer) maker w u (λ same. absurd (omega arith))

@@ -45,11 +45,14 @@ pub record IsFoundRecord (i : Image) (r : Record) : Type 0 where
   pub position : mark.position ≡ r.position
   pub sector : block.sector ≡ r.sector
 
-found_at : (i : Image) (line a : ℕ) (start : StartRecord) (r : Record) → line < i.shape.chunks → start_of i line ≡ Some start → a < width i line * i.shape.clba → record_at i line start a ≡ Some r → IsFoundRecord i r
+found_at : (i : Image) (line a : ℕ) (start : StartRecord) (r : Record) → line < i.shape.chunks → start_of i line ≡ Some start → a < width i line * i.shape.clba
+    → record_at i line start a ≡ Some r → IsFoundRecord i r
 found_at i line a start r range starts within is =
-    let block = split_then (λ block. option_and_then (bears i.shape line start.seq a block) (mark_at i.shape (end_of i line start) a block)) (block_at i line a) r is in
+    let block = split_then (λ block. option_and_then (bears i.shape line start.seq a block) (mark_at i.shape (end_of i line start) a block))
+    (block_at i line a) r is in
     let mark = split_then (bears i.shape line start.seq a block.0) (mark_at i.shape (end_of i line start) a block.0) r block.2 in
-    let made = map_some (λ lba. record { line = line; seq = start.seq; at = a; position = mark.0.position; lba = lba; sector = block.0.sector }) (named i.shape mark.0) r mark.2 in
+    let made = map_some (λ lba. record { line = line; seq = start.seq; at = a; position = mark.0.position; lba = lba; sector = block.0.sector })
+    (named i.shape mark.0) r mark.2 in
     subst (IsFoundRecord i) made.2
     (record {
       in_range = range;
@@ -75,7 +78,8 @@ below n (suc k) = ((omega arith, omega arith), wider (range_with_len (n + 1) k) 
         let low : n + 1 ≤ x = all.0.0 in
         let high : x < n + 1 + k = all.0.1 in ((omega arith, omega arith), wider xs all.1)
 
-all_made : {X Y : Type 0} (h : X → Option Y) (P : X → Type 0) (Q : Y → Type 0) → ((x : X) (y : Y) → P x → h x ≡ Some y → Q y) → (xs : List X) → AllByRecursion P xs → AllByRecursion Q (filter_map h xs)
+all_made : {X Y : Type 0} (h : X → Option Y) (P : X → Type 0) (Q : Y → Type 0) → ((x : X) (y : Y) → P x → h x ≡ Some y → Q y) → (xs : List X)
+    → AllByRecursion P xs → AllByRecursion Q (filter_map h xs)
 all_made h P Q says [] all = tt
 all_made {X} {Y} h P Q says (x ∷ xs) all = go (h x) refl (all_made h P Q says xs all.1)
   where
@@ -83,20 +87,25 @@ all_made {X} {Y} h P Q says (x ∷ xs) all = go (h x) refl (all_made h P Q says 
     go None e rest = rest
     go (Some y) e rest = (says x y all.0 e, rest)
 
-of_line : (i : Image) (line : ℕ) → line < i.shape.chunks → (o : Option StartRecord) → start_of i line ≡ o → AllByRecursion (IsFoundRecord i) (records_after i line o)
+of_line : (i : Image) (line : ℕ) → line < i.shape.chunks → (o : Option StartRecord) → start_of i line ≡ o
+    → AllByRecursion (IsFoundRecord i) (records_after i line o)
 of_line i line range None e = tt
 of_line i line range (Some start) e = all_made (record_at i line start) (λ a. (0 ≤ a) × (a < 0 + width i line * i.shape.clba)) (IsFoundRecord i)
-    (λ a r at is. let high : a < 0 + width i line * i.shape.clba = at.1 in found_at i line a start r range e (omega arith) is) (range_with_len 0 (width i line * i.shape.clba)) (below 0 (width i line * i.shape.clba))
+    (λ a r at is. let high : a < 0 + width i line * i.shape.clba = at.1 in found_at i line a start r range e (omega arith) is)
+    (range_with_len 0 (width i line * i.shape.clba)) (below 0 (width i line * i.shape.clba))
 
-of_lines : (i : Image) (lines : List ℕ) → AllByRecursion (λ line. (0 ≤ line) × (line < 0 + i.shape.chunks)) lines → AllByRecursion (IsFoundRecord i) (flat_map (line_records i) lines)
+of_lines : (i : Image) (lines : List ℕ) → AllByRecursion (λ line. (0 ≤ line) × (line < 0 + i.shape.chunks)) lines
+    → AllByRecursion (IsFoundRecord i) (flat_map (line_records i) lines)
 of_lines i [] all = tt
 of_lines i (line ∷ lines) all =
     let high : line < 0 + i.shape.chunks = all.0.1 in
-    all_append (IsFoundRecord i) (line_records i line) (flat_map (line_records i) lines) (of_line i line (omega arith) (start_of i line) refl) (of_lines i lines all.1)
+    all_append (IsFoundRecord i) (line_records i line) (flat_map (line_records i) lines) (of_line i line (omega arith) (start_of i line) refl)
+    (of_lines i lines all.1)
 
 counted_are : (i : Image) (o : Option StartRecord) → AllByRecursion (IsFoundRecord i) (counted_after (records i) o)
 counted_are i None = tt
-counted_are i (Some h) = all_filter (IsFoundRecord i) (counts h (end_after (records i) (Some h))) (records i) (of_lines i (range_with_len 0 i.shape.chunks) (below 0 i.shape.chunks))
+counted_are i (Some h) = all_filter (IsFoundRecord i) (counts h (end_after (records i) (Some h))) (records i)
+    (of_lines i (range_with_len 0 i.shape.chunks) (below 0 i.shape.chunks))
 
 pub winner_found : (i : Image) (lba : ℕ) (r : Record) → winner (counted i) lba ≡ Some r → IsFoundRecord i r
 winner_found i lba r e = winner_is i (IsFoundRecord i) lba r (counted_are i (head i)) e
@@ -112,15 +121,18 @@ pub record IsPlaced (i : Image) (line at : ℕ) (block : Block) : Type 0 where
   pub there : chunk_in i line unit ≡ Some chunk
   pub written : slice_get chunk.blocks number ≡ Some block
 
-pub block_placed : (i : Image) (line at : ℕ) (block : Block) → 0 < i.shape.ws_opt → i.shape.clba % i.shape.ws_opt ≡ 0 → at < width i line * i.shape.clba → block_at i line at ≡ Some block → IsPlaced i line at block
+pub block_placed : (i : Image) (line at : ℕ) (block : Block) → 0 < i.shape.ws_opt → i.shape.clba % i.shape.ws_opt ≡ 0 → at < width i line * i.shape.clba
+    → block_at i line at ≡ Some block → IsPlaced i line at block
 block_placed i line at block some whole within is =
     let us : List ℕ = line_units i line in
     let count : length us ≡ width i line = line_units_count i line in
     let inside : at < length us * i.shape.clba = subst (λ n. at < n * i.shape.clba) (sym count) within in
     let column : column_of i.shape (length us) at < length us = mod-lt (at / i.shape.ws_opt) (some_units (length us) i.shape.clba at inside) in
     let unit = got_within us (column_of i.shape (length us) at) column in
-    let place : slice_get (line_order i.shape us) at ≡ Some (unit.0, block_of i.shape (length us) at) = (order_exactly i.shape us at unit.0 some whole).1 (unit.1, inside) in
-    let chunk = split_then (λ (c : Chunk). slice_get c.blocks (block_of i.shape (length us) at)) (chunk_in i line unit.0) block (sym (block_named i line at (unit.0, block_of i.shape (length us) at) some whole place) ∙ is) in
+    let place : slice_get (line_order i.shape us) at ≡ Some (unit.0, block_of i.shape (length us) at) =
+    (order_exactly i.shape us at unit.0 some whole).1 (unit.1, inside) in
+    let chunk = split_then (λ (c : Chunk). slice_get c.blocks (block_of i.shape (length us) at)) (chunk_in i line unit.0) block
+    (sym (block_named i line at (unit.0, block_of i.shape (length us) at) some whole place) ∙ is) in
     record { unit = unit.0; number = block_of i.shape (length us) at; place = place; chunk = chunk.0; there = chunk.1; written = chunk.2 }
 
 -- ---- its mark
@@ -137,20 +149,23 @@ named_sector s m lba e = go (nat_lt m.lba s.capacity) e
     go false f = absurd (inner (m.lba == void_lba) f)
 
 -- in a sealed image it is the block's own
-own_mark : (i : Image) (r : Record) (is : IsFoundRecord i r) → IsSealed i → (o : Option EndRecord) → end_of i r.line is.start ≡ o → mark_at i.shape o r.at is.block ≡ Some is.mark → is.block.mark ≡ is.mark
+own_mark : (i : Image) (r : Record) (is : IsFoundRecord i r) → IsSealed i → (o : Option EndRecord) → end_of i r.line is.start ≡ o
+    → mark_at i.shape o r.at is.block ≡ Some is.mark → is.block.mark ≡ is.mark
 own_mark i r is sealed None e marked = same_Some is.block.mark is.mark marked
 own_mark i r is sealed (Some end_) e marked = go (nat_lt r.at (start_len i.shape)) refl marked
   where
     agrees : AgreesWithLine i r.line end_
     agrees = sealed.ends r.line is.start end_ is.in_range is.starts e
 
-    go : (b : Bool) → nat_lt r.at (start_len i.shape) ≡ b → (if b then None else slice_get end_.pairs (r.at - start_len i.shape)) ≡ Some is.mark → is.block.mark ≡ is.mark
+    go : (b : Bool) → nat_lt r.at (start_len i.shape) ≡ b → (if b then None else slice_get end_.pairs (r.at - start_len i.shape)) ≡ Some is.mark
+        → is.block.mark ≡ is.mark
     go true f m = absurd (none-some is.mark m)
     go false f m =
         let above : start_len i.shape ≤ r.at = le_of_lt_false r.at (start_len i.shape) f in
         let split : start_len i.shape + (r.at - start_len i.shape) ≡ r.at = omega arith in
         let inside : r.at - start_len i.shape < length end_.pairs = slice_get_within end_.pairs (r.at - start_len i.shape) is.mark m in
-        let pair : slice_get end_.pairs (r.at - start_len i.shape) ≡ Some is.block.mark = agrees.marks (r.at - start_len i.shape) is.block inside (ap (block_at i r.line) split ∙ is.there) in
+        let pair : slice_get end_.pairs (r.at - start_len i.shape) ≡ Some is.block.mark =
+        agrees.marks (r.at - start_len i.shape) is.block inside (ap (block_at i r.line) split ∙ is.there) in
         same_Some is.block.mark is.mark (sym pair ∙ m)
 
 pub sealed_mark : (i : Image) (lba : ℕ) (r : Record) (is : IsFoundRecord i r) → r.lba ≡ Some lba → IsSealed i → is.block.mark ≡ sector_mark lba r.position

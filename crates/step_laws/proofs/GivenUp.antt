@@ -52,7 +52,8 @@ some_given (l ∷ log) line e = omega arith
 given_begun : (i : Image) (w : World) (line : ℕ) → IsFaultlessMount i w → is_given_up (log_of w 0) line ≡ true → (b : Begun) × (begun (log_of w 0) ≡ Some b)
 given_begun i w line faultless given = begun_once i w faultless.simple.mount.legal (some_given (log_of w 0) line given)
 
-may_reset : (i : Image) (w : World) (unit chunk : ℕ) (c : Chunk) → IsFaultlessMount i w → is_given_up (log_of w 0) chunk ≡ true → chunk_in (media i (log_of w)) chunk unit ≡ Some c → IsUsed c.state → MayDo i (log_of w) unit (reset_of chunk)
+may_reset : (i : Image) (w : World) (unit chunk : ℕ) (c : Chunk) → IsFaultlessMount i w → is_given_up (log_of w 0) chunk ≡ true
+    → chunk_in (media i (log_of w)) chunk unit ≡ Some c → IsUsed c.state → MayDo i (log_of w) unit (reset_of chunk)
 may_reset i w unit chunk c faultless given there used =
     let chunks = has_chunks (slice_get (media i (log_of w)).units unit) chunk c there in
     let begins = given_begun i w chunk faultless given in
@@ -60,26 +61,33 @@ may_reset i w unit chunk c faultless given there used =
       chunks = chunks.0;
       has_chunks = chunks.1;
       event = record { found = c; there = chunks.2; blocks = tt; outcome = (tt, (reset_taken c.state used, refl)) };
-      stopped = λ was. let none : has_stopped (unit_events (log_of w) unit) ≡ false = none_stopped (unit_events (log_of w) unit) (faultless.answered unit) in absurd (cc);
+      stopped = λ was. let none : has_stopped (unit_events (log_of w) unit) ≡ false =
+          none_stopped (unit_events (log_of w) unit) (faultless.answered unit) in absurd (cc);
       command = subst (λ (o : Option Begun). IsCommand i (log_of w) unit c chunk Reset o) (sym begins.1) its;
     }
 
-pub reset_legal : (i : Image) (w : World) (unit chunk : ℕ) (c : Chunk) (maker : Maker) → IsFaultlessMount i w → is_given_up (log_of w 0) chunk ≡ true → unit < units i.shape → chunk_in (media i (log_of w)) chunk unit ≡ Some c → IsUsed c.state
+pub reset_legal : (i : Image) (w : World) (unit chunk : ℕ) (c : Chunk) (maker : Maker) → IsFaultlessMount i w → is_given_up (log_of w 0) chunk ≡ true
+    → unit < units i.shape → chunk_in (media i (log_of w)) chunk unit ≡ Some c → IsUsed c.state
     → IsFaultlessMount i (after_reset_of i.shape unit chunk maker w)
 reset_legal i w unit chunk c maker faultless given range there used =
     still_faultless i (unit_step i.shape unit (reset_of chunk) maker w) w faultless
-    (next_step i w (suc unit) (Does (reset_of chunk) maker) faultless.simple.mount.legal (omega arith) (may_reset i w unit chunk c faultless given there used)) refl
+    (next_step i w (suc unit) (Does (reset_of chunk) maker) faultless.simple.mount.legal (omega arith) (may_reset i w unit chunk c faultless given there used))
+    refl
 
 -- ---- what it leaves
 
-pub reset_chunk : (i : Image) (w : World) (unit chunk : ℕ) (c : Chunk) (maker : Maker) → chunk_in (media i (log_of w)) chunk unit ≡ Some c → chunk_in (media i (log_of (after_reset_of i.shape unit chunk maker w))) chunk unit ≡ Some (after_reset i.shape c)
+pub reset_chunk : (i : Image) (w : World) (unit chunk : ℕ) (c : Chunk) (maker : Maker) → chunk_in (media i (log_of w)) chunk unit ≡ Some c
+    → chunk_in (media i (log_of (after_reset_of i.shape unit chunk maker w))) chunk unit ≡ Some (after_reset i.shape c)
 reset_chunk i w unit chunk c maker there =
-    ap (option_and_then (λ (chunks : List Chunk). slice_get chunks chunk)) (media_now i unit (reset_of chunk) maker w) ∙ chunk_here i.shape (slice_get (media i (log_of w)).units unit) (reset_of chunk) c there
+    ap (option_and_then (λ (chunks : List Chunk). slice_get chunks chunk)) (media_now i unit (reset_of chunk) maker w)
+    ∙ chunk_here i.shape (slice_get (media i (log_of w)).units unit) (reset_of chunk) c there
 
 pub reset_empties : (s : Shape) (c : Chunk) → (is_empty_state (after_reset s c).state ≡ true) × ((after_reset s c).blocks ≡ [])
 reset_empties s c = go c.state
   where
-    closed : (b : Bool) (free offline : Chunk) → (is_empty_state free.state ≡ true) × (free.blocks ≡ []) → (is_empty_state offline.state ≡ true) × (offline.blocks ≡ []) → (is_empty_state (if b then free else offline).state ≡ true) × ((if b then free else offline).blocks ≡ [])
+    closed : (b : Bool) (free offline : Chunk) → (is_empty_state free.state ≡ true) × (free.blocks ≡ [])
+        → (is_empty_state offline.state ≡ true) × (offline.blocks ≡ [])
+        → (is_empty_state (if b then free else offline).state ≡ true) × ((if b then free else offline).blocks ≡ [])
     closed true free offline first other = first
     closed false free offline first other = other
 
@@ -89,18 +97,23 @@ reset_empties s c = go c.state
     go states.Closed = closed (length c.blocks == s.clba) _ _ (refl, refl) (refl, refl)
     go states.Offline = (refl, refl)
 
-pub reset_beside : (i : Image) (w : World) (unit chunk other line : ℕ) (maker : Maker) → (other ≢ unit) ⊎ (line ≢ chunk) → chunk_in (media i (log_of (after_reset_of i.shape unit chunk maker w))) line other ≡ chunk_in (media i (log_of w)) line other
-reset_beside i w unit chunk other line maker (inl apart) = ap (option_and_then (λ (chunks : List Chunk). slice_get chunks line)) (media_elsewhere i unit (reset_of chunk) maker w other apart)
+pub reset_beside : (i : Image) (w : World) (unit chunk other line : ℕ) (maker : Maker) → (other ≢ unit) ⊎ (line ≢ chunk)
+    → chunk_in (media i (log_of (after_reset_of i.shape unit chunk maker w))) line other ≡ chunk_in (media i (log_of w)) line other
+reset_beside i w unit chunk other line maker (inl apart) =
+    ap (option_and_then (λ (chunks : List Chunk). slice_get chunks line)) (media_elsewhere i unit (reset_of chunk) maker w other apart)
 reset_beside i w unit chunk other line maker (inr apart) = go (cases_order other unit)
   where
     own : chunk_in (media i (log_of (after_reset_of i.shape unit chunk maker w))) line unit ≡ chunk_in (media i (log_of w)) line unit
-    own = ap (option_and_then (λ (chunks : List Chunk). slice_get chunks line)) (media_now i unit (reset_of chunk) maker w) ∙ chunk_beside i.shape (slice_get (media i (log_of w)).units unit) (reset_of chunk) line apart
+    own = ap (option_and_then (λ (chunks : List Chunk). slice_get chunks line)) (media_now i unit (reset_of chunk) maker w)
+        ∙ chunk_beside i.shape (slice_get (media i (log_of w)).units unit) (reset_of chunk) line apart
 
     elsewhere : other ≢ unit → chunk_in (media i (log_of (after_reset_of i.shape unit chunk maker w))) line other ≡ chunk_in (media i (log_of w)) line other
     elsewhere far = ap (option_and_then (λ (chunks : List Chunk). slice_get chunks line)) (media_elsewhere i unit (reset_of chunk) maker w other far)
 
-    go : (other ≡ unit) ⊎ ((other < unit) ⊎ (unit < other)) → chunk_in (media i (log_of (after_reset_of i.shape unit chunk maker w))) line other ≡ chunk_in (media i (log_of w)) line other
-    go (inl same) = subst (λ u. chunk_in (media i (log_of (after_reset_of i.shape unit chunk maker w))) line u ≡ chunk_in (media i (log_of w)) line u) (sym same) own
+    go : (other ≡ unit) ⊎ ((other < unit) ⊎ (unit < other))
+        → chunk_in (media i (log_of (after_reset_of i.shape unit chunk maker w))) line other ≡ chunk_in (media i (log_of w)) line other
+    go (inl same) = subst (λ u. chunk_in (media i (log_of (after_reset_of i.shape unit chunk maker w))) line u ≡ chunk_in (media i (log_of w)) line u)
+        (sym same) own
     go (inr (inl below)) = elsewhere (λ same. absurd (omega arith))
     go (inr (inr above)) = elsewhere (λ same. absurd (omega arith))
 
@@ -115,7 +128,8 @@ may_note i w unit chunk maker legal =
     let s : Step = unit_step i.shape unit (reset_of chunk) maker w in
     let own : log_of (s ∷ w) 0 ≡ log_of w 0 = engine_log i.shape unit (reset_of chunk) maker w in
     let last : slice_get (log_of (s ∷ w) (suc unit)) (length (log_of w (suc unit))) ≡ Some s.logged =
-    ap (λ (log : List Logged). slice_get log (length (log_of w (suc unit)))) (unit_log i.shape unit (reset_of chunk) maker w) ∙ get_last (log_of w (suc unit)) s.logged in (
+    ap (λ (log : List Logged). slice_get log (length (log_of w (suc unit)))) (unit_log i.shape unit (reset_of chunk) maker w)
+    ∙ get_last (log_of w (suc unit)) s.logged in (
       record {
         reset = reset_of chunk;
         new = record {
@@ -133,26 +147,32 @@ may_note i w unit chunk maker legal =
       refl,
     )
 
-module _ (i : Image) (w : World) (unit chunk : ℕ) (c : Chunk) (maker : Maker) (faultless : IsFaultlessMount i w) (given : is_given_up (log_of w 0) chunk ≡ true) (range : unit < units i.shape) (there : chunk_in (media i (log_of w)) chunk unit ≡ Some c)
+module _ (i : Image) (w : World) (unit chunk : ℕ) (c : Chunk) (maker : Maker) (faultless : IsFaultlessMount i w) (given : is_given_up (log_of w 0) chunk ≡ true)
+    (range : unit < units i.shape) (there : chunk_in (media i (log_of w)) chunk unit ≡ Some c)
     (used : IsUsed c.state) where
   pub noted_legal : IsFaultlessMount i (after_noted_reset i.shape unit chunk maker w)
   noted_legal =
       let begins = given_begun i w chunk faultless given in
-      engine_next i (after_reset_of i.shape unit chunk maker w) begins.0 (ResetDone unit (length (log_of w (suc unit)))) (reset_legal i w unit chunk c maker faultless given range there used)
+      engine_next i (after_reset_of i.shape unit chunk maker w) begins.0 (ResetDone unit (length (log_of w (suc unit))))
+      (reset_legal i w unit chunk c maker faultless given range there used)
       (ap begun (engine_log i.shape unit (reset_of chunk) maker w) ∙ begins.1) (may_note i w unit chunk maker faultless.simple.mount.legal).0 refl
 
   pub noted_known : IsKnown i w → IsKnown i (after_noted_reset i.shape unit chunk maker w)
-  noted_known = known_told i w unit (reset_of chunk) maker (ResetDone unit (length (log_of w (suc unit)))) faultless.simple.mount.legal (reset_legal i w unit chunk c maker faultless given range there used).simple.mount.legal (some_given (log_of w 0) chunk given) (λ logs u. refl)
+  noted_known = known_told i w unit (reset_of chunk) maker (ResetDone unit (length (log_of w (suc unit)))) faultless.simple.mount.legal
+      (reset_legal i w unit chunk c maker faultless given range there used).simple.mount.legal (some_given (log_of w 0) chunk given) (λ logs u. refl)
 
 pub noted_level : (s : Shape) (w : World) (unit chunk : ℕ) (maker : Maker) → IsLevel w → IsLevel (after_noted_reset s unit chunk maker w)
-noted_level s w unit chunk maker level = level_by s (ResetDone unit (length (log_of w (suc unit)))) (after_reset_of s unit chunk maker w) (λ u. refl) (reset_level s w unit chunk maker level)
+noted_level s w unit chunk maker level =
+    level_by s (ResetDone unit (length (log_of w (suc unit)))) (after_reset_of s unit chunk maker w) (λ u. refl) (reset_level s w unit chunk maker level)
 
-pub noted_waits : (s : Shape) (w : World) (unit chunk other : ℕ) (maker : Maker) → unanswered_on (log_of (after_noted_reset s unit chunk maker w) 0) other ≡ unanswered_on (log_of w 0) other
+pub noted_waits : (s : Shape) (w : World) (unit chunk other : ℕ) (maker : Maker)
+    → unanswered_on (log_of (after_noted_reset s unit chunk maker w) 0) other ≡ unanswered_on (log_of w 0) other
 noted_waits s w unit chunk other maker =
     let mid : World = after_reset_of s unit chunk maker w in
     let l : Logged = (engine_step s (ResetDone unit (length (log_of w (suc unit)))) mid).logged in
     let log : log_of (after_noted_reset s unit chunk maker w) 0 ≡ log_of w 0 ++ l ∷ [] =
-    log_here (engine_step s (ResetDone unit (length (log_of w (suc unit)))) mid) mid 0 refl ∙ ap (λ (log : List Logged). log ++ l ∷ []) (engine_log s unit (reset_of chunk) maker w) in
+    log_here (engine_step s (ResetDone unit (length (log_of w (suc unit)))) mid) mid 0 refl
+    ∙ ap (λ (log : List Logged). log ++ l ∷ []) (engine_log s unit (reset_of chunk) maker w) in
     ap (λ (log : List Logged). unanswered_on log other) log
     ∙ ap₂ (λ (ps : List Placed) (xs : List Answer). slice_get (filter (λ (p : Placed). p.stripe.unit == other) ps) (length xs))
     (placements_more (log_of w 0) l ∙ append-nil (placements (log_of w 0))) (answers_more (log_of w 0) l other ∙ append-nil (answers (log_of w 0) other))

@@ -21,11 +21,13 @@ use Rattle.stripe_placer.proofs.Rows.{get_map as mapped_get}
 use Rattle.core_laws.proofs.WindowOfLemmas.{bytes_without}
 use Rattle.lemmas.proofs.Parts.{get_dropped}
 
-pub sector_held : (s : Shape) (log : List Logged) (from q : ℕ) (win : WindowView) (t : Taken) → sectors_in win ≡ window_from s log from → first_position log ≤ from → from ≤ q
+pub sector_held : (s : Shape) (log : List Logged) (from q : ℕ) (win : WindowView) (t : Taken) → sectors_in win ≡ window_from s log from
+    → first_position log ≤ from → from ≤ q
     → slice_get (takes log) (q - first_position log) ≡ Some t → sector_at win q ≡ Some t.entry.sector
 sector_held s log from q win t same low high there =
     let begins : win.freed ≡ from = ap (λ (h : HeldSectors). h.freed) same in
-    let entries : map without_frame win.entries ≡ map (held_of s log) (drop (from - first_position log) (takes log)) = ap (λ (h : HeldSectors). h.entries) same in
+    let entries : map without_frame win.entries ≡ map (held_of s log) (drop (from - first_position log) (takes log)) =
+    ap (λ (h : HeldSectors). h.entries) same in
     let index : from - first_position log + (q - win.freed) ≡ q - first_position log = omega arith in
     let above : win.freed ≤ q = omega arith in
     ap (λ b. option_map (λ (h : Held). h.entry.frame.bytes) (if b then None else slice_get win.entries (q - win.freed))) (not_below win.freed q above)
@@ -35,7 +37,8 @@ sector_held s log from q win t same low high there =
     ∙ mapped_get (held_of s log) (drop (from - first_position log) (takes log)) (q - win.freed)
     ∙ ap (option_map (held_of s log)) (get_dropped (from - first_position log) (takes log) (q - win.freed) ∙ ap (slice_get (takes log)) index ∙ there))
 
-pub cached_held : (i : Image) (logs : Logs) (lba q from : ℕ) (win : WindowView) → AreNumbered (logs 0) → sectors_in win ≡ window_from i.shape (logs 0) from → first_position (logs 0) ≤ from
+pub cached_held : (i : Image) (logs : Logs) (lba q from : ℕ) (win : WindowView) → AreNumbered (logs 0) → sectors_in win ≡ window_from i.shape (logs 0) from
+    → first_position (logs 0) ≤ from
     → from ≤ freed i.shape (logs 0) → slot_of i logs lba ≡ Cached q → (t : Taken) × (last_take (logs 0) lba ≡ Some t) × (sector_at win q ≡ Some t.entry.sector)
 cached_held i logs lba q from win numbered same low high slot =
     let is : (t : Taken) × IsCachedEntry i logs lba q t = cached i logs lba q slot in

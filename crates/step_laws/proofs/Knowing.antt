@@ -34,7 +34,8 @@ known_whole i w legal author = go (cases_order author (units i.shape + 1))
         let long : length (knows_all i.shape w) ≡ units i.shape + 1 = length-map-range_with_len (λ (a : ℕ). length (log_of w a)) 0 (units i.shape + 1) in
         get_or_past (knows_all i.shape w) author 0 (omega arith) ∙ sym (ap (λ (xs : List Logged). length xs) (none_beyond i w legal author (omega arith)))
 
-    go : (author ≡ units i.shape + 1) ⊎ ((author < units i.shape + 1) ⊎ (units i.shape + 1 < author)) → slice_index (knows_all i.shape w) author ≡ length (log_of w author)
+    go : (author ≡ units i.shape + 1) ⊎ ((author < units i.shape + 1) ⊎ (units i.shape + 1 < author))
+        → slice_index (knows_all i.shape w) author ≡ length (log_of w author)
     go (inl e) = past (omega arith)
     go (inr (inl below)) = get_or-map-range_with_len (λ (a : ℕ). length (log_of w a)) 0 (units i.shape + 1) author author 0 below (omega arith)
     go (inr (inr above)) = past (omega arith)
@@ -48,7 +49,8 @@ got [] k x inside e = absurd (omega arith)
 got (y ∷ xs) zero x inside e = ap (λ z. Some z) e
 got (y ∷ xs) (suc k) x inside e = got xs k x (omega arith) e
 
-pub knowledge : (i : Image) (w : World) (author : ℕ) (e : Event) → IsLegal i w → IsKnowledge i (log_of w) author (record { event = e; knows = knows_all i.shape w })
+pub knowledge : (i : Image) (w : World) (author : ℕ) (e : Event) → IsLegal i w
+    → IsKnowledge i (log_of w) author (record { event = e; knows = knows_all i.shape w })
 knowledge i w author e legal = record {
   authors = length-map-range_with_len (λ (a : ℕ). length (log_of w a)) 0 (units i.shape + 1);
   own = known_whole i w legal author;

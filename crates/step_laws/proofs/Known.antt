@@ -25,15 +25,19 @@ use Rattle.lemmas.proofs.Tests.{other_number, same_number}
 use Rattle.pblk_world.proofs.WorldLemmas.{log_elsewhere}
 
 -- an event that tells of no unit's
-pub known_still : (i : Image) (w : World) (e : EngineEvent) → begun_by (knows_all i.shape w) (Decides e) ≡ None → ((unit : ℕ) → told_by (log_of w) unit (Decides e) ≡ None) → IsKnown i w → IsKnown i (engine_step i.shape e w ∷ w)
-known_still i w e later untold is = ap (known_image i) (engine_logs i.shape e w) ∙ known_kept i (log_of w) e (knows_all i.shape w) later untold ∙ is ∙ sym (media_still i i.shape e w)
+pub known_still : (i : Image) (w : World) (e : EngineEvent) → begun_by (knows_all i.shape w) (Decides e) ≡ None
+    → ((unit : ℕ) → told_by (log_of w) unit (Decides e) ≡ None) → IsKnown i w → IsKnown i (engine_step i.shape e w ∷ w)
+known_still i w e later untold is = ap (known_image i) (engine_logs i.shape e w) ∙ known_kept i (log_of w) e (knows_all i.shape w) later untold ∙ is
+    ∙ sym (media_still i i.shape e w)
 
-pub known_at_fetch : (i : Image) (w : World) (unit chunk block : ℕ) (answer : ChunkAnswer) (maker : Maker) → IsLegal i w → IsKnown i w → IsKnown i (unit_step i.shape unit (fetch_of chunk block answer) maker w ∷ w)
+pub known_at_fetch : (i : Image) (w : World) (unit chunk block : ℕ) (answer : ChunkAnswer) (maker : Maker) → IsLegal i w → IsKnown i w
+    → IsKnown i (unit_step i.shape unit (fetch_of chunk block answer) maker w ∷ w)
 known_at_fetch i w unit chunk block answer maker legal is =
     known_stays i w unit (fetch_of chunk block answer) maker legal ∙ is ∙ sym (media_stays i w unit chunk block answer maker)
 
 -- an event of a unit, and that which tells of it
-module _ (i : Image) (w : World) (unit : ℕ) (e : UnitEvent) (maker : Maker) (tells : EngineEvent) (before : IsLegal i w) (legal : IsLegal i (unit_step i.shape unit e maker w ∷ w)) (some : 0 < length (log_of w 0))
+module _ (i : Image) (w : World) (unit : ℕ) (e : UnitEvent) (maker : Maker) (tells : EngineEvent) (before : IsLegal i w)
+    (legal : IsLegal i (unit_step i.shape unit e maker w ∷ w)) (some : 0 < length (log_of w 0))
     (told : (logs : Logs) (u : ℕ) → told_by logs u (Decides tells) ≡ (if unit == u then unit_event_at logs u (length (log_of w (suc unit))) else None)) where
   abbrev mid : World
   mid = unit_step i.shape unit e maker w ∷ w
@@ -47,7 +51,8 @@ module _ (i : Image) (w : World) (unit : ℕ) (e : UnitEvent) (maker : Maker) (t
   the_event : unit_event_at (log_of end_) unit (length (log_of w (suc unit))) ≡ Some e
   the_event =
       let own : log_of end_ (suc unit) ≡ log_of w (suc unit) ++ (unit_step i.shape unit e maker w).logged ∷ [] =
-      log_elsewhere (engine_step i.shape tells mid) mid (suc unit) (λ same. let no : 0 ≡ suc unit = same in absurd (omega arith)) ∙ unit_log i.shape unit e maker w in
+      log_elsewhere (engine_step i.shape tells mid) mid (suc unit) (λ same. let no : 0 ≡ suc unit = same in absurd (omega arith))
+      ∙ unit_log i.shape unit e maker w in
       ap (λ (log : List Logged). option_and_then (λ (l : Logged). unit_event_of l.event) (slice_get log (length (log_of w (suc unit))))) own
       ∙ ap (option_and_then (λ (l : Logged). unit_event_of l.event)) (get_last (log_of w (suc unit)) (unit_step i.shape unit e maker w).logged)
 
@@ -70,7 +75,8 @@ module _ (i : Image) (w : World) (unit : ℕ) (e : UnitEvent) (maker : Maker) (t
   own_unit : IsKnown i w → slice_get (known_image i (log_of end_)).units unit ≡ slice_get (media i (log_of end_)).units unit
   own_unit is =
       known_now unit
-      ∙ ap (told_chunks unit) (told (log_of end_) unit ∙ ap (λ b. if b then unit_event_at (log_of end_) unit (length (log_of w (suc unit))) else None) (same_number unit) ∙ the_event)
+      ∙ ap (told_chunks unit) (told (log_of end_) unit
+      ∙ ap (λ b. if b then unit_event_at (log_of end_) unit (length (log_of w (suc unit))) else None) (same_number unit) ∙ the_event)
       ∙ ap (λ (j : Image). option_map (λ cs. after_log i.shape cs (e ∷ [])) (slice_get j.units unit)) (known_was is)
       ∙ one (slice_get (media i (log_of w)).units unit)
       ∙ sym (media_now i unit e maker w)
@@ -79,7 +85,8 @@ module _ (i : Image) (w : World) (unit : ℕ) (e : UnitEvent) (maker : Maker) (t
   other_unit : (u : ℕ) → u ≢ unit → IsKnown i w → slice_get (known_image i (log_of end_)).units u ≡ slice_get (media i (log_of end_)).units u
   other_unit u apart is =
       known_now u
-      ∙ ap (told_chunks u) (told (log_of end_) u ∙ ap (λ b. if b then unit_event_at (log_of end_) u (length (log_of w (suc unit))) else None) (other_number unit u (λ same. apart (sym same))))
+      ∙ ap (told_chunks u) (told (log_of end_) u
+      ∙ ap (λ b. if b then unit_event_at (log_of end_) u (length (log_of w (suc unit))) else None) (other_number unit u (λ same. apart (sym same))))
       ∙ ap (λ (j : Image). option_map (λ cs. after_log i.shape cs []) (slice_get j.units u)) (known_was is)
       ∙ nothing (slice_get (media i (log_of w)).units u)
       ∙ sym (media_elsewhere i unit e maker w u apart)

@@ -34,7 +34,8 @@ use Rattle.pblk_model.proofs.MarksLemmas.{accepted_small}
 -- ---- what the mount found
 
 -- a sector of its contents
-found_sector : (i : Image) (w : World) (lba : ℕ) → lba < i.shape.capacity → slice_get (contents (found_image i (log_of w))) lba ≡ Some (sector_of (found_image i (log_of w)) lba)
+found_sector : (i : Image) (w : World) (lba : ℕ) → lba < i.shape.capacity
+    → slice_get (contents (found_image i (log_of w))) lba ≡ Some (sector_of (found_image i (log_of w)) lba)
 found_sector i w lba inside =
     let capacity : (found_image i (log_of w)).shape.capacity ≡ i.shape.capacity = ap (λ (s : Shape). s.capacity) (found_shape i w) in
     let same : 0 + lba ≡ lba = omega arith in
@@ -44,18 +45,22 @@ found_sector i w lba inside =
 in_contents : (i : Image) (w : World) (lba : ℕ) → lba < i.shape.capacity → lba < length (contents (found_image i (log_of w)))
 in_contents i w lba inside =
     let capacity : (found_image i (log_of w)).shape.capacity ≡ i.shape.capacity = ap (λ (s : Shape). s.capacity) (found_shape i w) in
-    let count : length (contents (found_image i (log_of w))) ≡ (found_image i (log_of w)).shape.capacity = length-map-range_with_len (sector_of (found_image i (log_of w))) 0 (found_image i (log_of w)).shape.capacity in
+    let count : length (contents (found_image i (log_of w))) ≡ (found_image i (log_of w)).shape.capacity =
+    length-map-range_with_len (sector_of (found_image i (log_of w))) 0 (found_image i (log_of w)).shape.capacity in
     omega arith
 
 abbrev pub now : Image → World → List (List ℕ)
 now i w = histories.after (contents (found_image i (log_of w))) (history (log_of w 0))
 
-pub latest : (i : Image) (w : World) (lba : ℕ) (t : Taken) → IsSimpleMount i w → lba < i.shape.capacity → last_take (log_of w 0) lba ≡ Some t → slice_get (now i w) lba ≡ Some t.entry.sector
+pub latest : (i : Image) (w : World) (lba : ℕ) (t : Taken) → IsSimpleMount i w → lba < i.shape.capacity → last_take (log_of w 0) lba ≡ Some t
+    → slice_get (now i w) lba ≡ Some t.entry.sector
 latest i w lba t simple inside last = latest_sector i w (contents (found_image i (log_of w))) lba t simple (in_contents i w lba inside) last
 
 -- a sector that wasn't written in this mount holds what was found
-first : (i : Image) (w : World) (lba : ℕ) → IsSimpleMount i w → lba < i.shape.capacity → last_take (log_of w 0) lba ≡ None → slice_get (now i w) lba ≡ Some (sector_of (found_image i (log_of w)) lba)
-first i w lba simple inside none = first_sector i w (contents (found_image i (log_of w))) lba simple (in_contents i w lba inside) none ∙ found_sector i w lba inside
+first : (i : Image) (w : World) (lba : ℕ) → IsSimpleMount i w → lba < i.shape.capacity → last_take (log_of w 0) lba ≡ None
+    → slice_get (now i w) lba ≡ Some (sector_of (found_image i (log_of w)) lba)
+first i w lba simple inside none = first_sector i w (contents (found_image i (log_of w))) lba simple (in_contents i w lba inside) none
+    ∙ found_sector i w lba inside
 
 -- ---- a sector that isn't written
 
@@ -68,14 +73,16 @@ no_winner None e = refl
 no_winner (Some r) e = absurd cc
 
 -- has no entry, and no winner
-unwritten_none : (i : Image) (logs : Logs) (lba : ℕ) → slot_of i logs lba ≡ Unwritten → (last_take (logs 0) lba ≡ None) × (winner (counted (found_image i logs)) lba ≡ None)
+unwritten_none : (i : Image) (logs : Logs) (lba : ℕ) → slot_of i logs lba ≡ Unwritten
+    → (last_take (logs 0) lba ≡ None) × (winner (counted (found_image i logs)) lba ≡ None)
 unwritten_none i logs lba slot = go (last_take (logs 0) lba) refl slot
   where
     go : (t : Option Taken) → last_take (logs 0) lba ≡ t → slot_by i logs lba t ≡ Unwritten → (t ≡ None) × (winner (counted (found_image i logs)) lba ≡ None)
     go None f e = (refl, no_winner (winner (counted (found_image i logs)) lba) e)
     go (Some t) f e = absurd (entry_written i logs t.entry.position (find (gives_back i.shape (logs 0) t.entry.position) (placements (logs 0))) e)
 
-pub unwritten_zeros : (i : Image) (w : World) (lba : ℕ) → IsSimpleMount i w → lba < i.shape.capacity → slot_of i (log_of w) lba ≡ Unwritten → slice_get (now i w) lba ≡ Some (zeros i.shape.sector)
+pub unwritten_zeros : (i : Image) (w : World) (lba : ℕ) → IsSimpleMount i w → lba < i.shape.capacity → slot_of i (log_of w) lba ≡ Unwritten
+    → slice_get (now i w) lba ≡ Some (zeros i.shape.sector)
 unwritten_zeros i w lba simple inside slot =
     let none = unwritten_none i (log_of w) lba slot in
     first i w lba simple inside none.0
@@ -85,7 +92,8 @@ unwritten_zeros i w lba simple inside slot =
 -- ---- one in the buffer, and one on the drive
 
 pub cached_latest : (i : Image) (w : World) (lba q : ℕ) → IsSimpleMount i w → lba < i.shape.capacity → slot_of i (log_of w) lba ≡ Cached q
-    → (t : Taken) × (last_take (log_of w 0) lba ≡ Some t) × (t.entry.position ≡ q) × (first_position (log_of w 0) ≤ q) × (slice_get (takes (log_of w 0)) (q - first_position (log_of w 0)) ≡ Some t) × (slice_get (now i w) lba ≡ Some t.entry.sector)
+    → (t : Taken) × (last_take (log_of w 0) lba ≡ Some t) × (t.entry.position ≡ q) × (first_position (log_of w 0) ≤ q)
+    × (slice_get (takes (log_of w 0)) (q - first_position (log_of w 0)) ≡ Some t) × (slice_get (now i w) lba ≡ Some t.entry.sector)
 cached_latest i w lba q simple inside slot =
     let is : (t : Taken) × IsCachedEntry i (log_of w) lba q t = cached i (log_of w) lba q slot in
     let position : is.0.entry.position ≡ q = is.1.position in
@@ -99,7 +107,8 @@ cached_latest i w lba q simple inside slot =
       latest i w lba is.0 simple inside is.1.last,
     )
 
-pub media_latest : (i : Image) (w : World) (lba line at q : ℕ) → IsSimpleMount i w → lba < i.shape.capacity → (is : IsBlockOfSlot i (log_of w) lba line at q) → slice_get (now i w) lba ≡ Some is.block.sector
+pub media_latest : (i : Image) (w : World) (lba line at q : ℕ) → IsSimpleMount i w → lba < i.shape.capacity → (is : IsBlockOfSlot i (log_of w) lba line at q)
+    → slice_get (now i w) lba ≡ Some is.block.sector
 media_latest i w lba line at q simple inside is = go (last_take (log_of w 0) lba) refl is.latest
   where
     go : (t : Option Taken) → last_take (log_of w 0) lba ≡ t → IsOfLatest i (log_of w) lba line at q is.block t → slice_get (now i w) lba ≡ Some is.block.sector
@@ -110,8 +119,10 @@ media_latest i w lba line at q simple inside is = go (last_take (log_of w 0) lba
     go (Some t) last its = latest i w lba t simple inside last ∙ ap (λ (x : List ℕ). Some x) (sym its.sector)
 
 -- the window has it
-pub window_latest : (i : Image) (w : World) (lba q from : ℕ) (win : WindowView) → IsSimpleMount i w → lba < i.shape.capacity → sectors_in win ≡ window_from i.shape (log_of w 0) from → first_position (log_of w 0) ≤ from
+pub window_latest : (i : Image) (w : World) (lba q from : ℕ) (win : WindowView) → IsSimpleMount i w → lba < i.shape.capacity
+    → sectors_in win ≡ window_from i.shape (log_of w 0) from → first_position (log_of w 0) ≤ from
     → from ≤ freed i.shape (log_of w 0) → slot_of i (log_of w) lba ≡ Cached q → sector_at win q ≡ slice_get (now i w) lba
 window_latest i w lba q from win simple inside same low high slot =
-    let held = cached_held i (log_of w) lba q from win (in_order i w (accepted_small i.shape simple.mount.accepted) simple.mount.legal).numbered same low high slot in
+    let held = cached_held i (log_of w) lba q from win
+    (in_order i w (accepted_small i.shape simple.mount.accepted) simple.mount.legal).numbered same low high slot in
     held.2 ∙ sym (latest i w lba held.0 simple inside held.1)

@@ -28,7 +28,8 @@ use Rattle.pblk_world.proofs.WorldLemmas.{log_elsewhere, log_here}
 -- ---- one event more
 
 ended_more : (log : List Logged) (l : Logged) → ended_stripes (log ++ l ∷ []) ≡ ended_stripes log + length (filter ends_stripe (l ∷ []))
-ended_more log l = ap (λ (xs : List Logged). length xs) (filter-append ends_stripe log (l ∷ [])) ∙ length-append (filter ends_stripe log) (filter ends_stripe (l ∷ []))
+ended_more log l = ap (λ (xs : List Logged). length xs) (filter-append ends_stripe log (l ∷ []))
+    ∙ length-append (filter ends_stripe log) (filter ends_stripe (l ∷ []))
 
 one_ended : (l : Logged) → ends_stripe l ≡ true → length (filter ends_stripe (l ∷ [])) ≡ 1
 one_ended l e = ap (λ b. length (cond b (l ∷ []) [])) e
@@ -50,10 +51,12 @@ level_by s e w none level unit =
 
 -- ---- what a unit does without a program
 
-pub ended_still : (s : Shape) (unit : ℕ) (e : UnitEvent) (maker : Maker) (w : World) → is_program e.command ≡ false → ended_stripes (log_of (unit_step s unit e maker w ∷ w) (suc unit)) ≡ ended_stripes (log_of w (suc unit))
+pub ended_still : (s : Shape) (unit : ℕ) (e : UnitEvent) (maker : Maker) (w : World) → is_program e.command ≡ false
+    → ended_stripes (log_of (unit_step s unit e maker w ∷ w) (suc unit)) ≡ ended_stripes (log_of w (suc unit))
 ended_still s unit e maker w other =
     let l : Logged = (unit_step s unit e maker w).logged in
-    let ends : ends_stripe l ≡ false = ap (λ b. nat_lt 0 (knows_engine l) && (b && not (was_stopped e.outcome))) other ∙ and_false (nat_lt 0 (knows_engine l)) in
+    let ends : ends_stripe l ≡ false = ap (λ b. nat_lt 0 (knows_engine l) && (b && not (was_stopped e.outcome))) other
+    ∙ and_false (nat_lt 0 (knows_engine l)) in
     let none : length (filter ends_stripe (l ∷ [])) ≡ 0 = none_ended l ends in
     ap ended_stripes (unit_log s unit e maker w) ∙ ended_more (log_of w (suc unit)) l ∙ ap (λ n. ended_stripes (log_of w (suc unit)) + n) none ∙ omega arith
   where
@@ -61,18 +64,22 @@ ended_still s unit e maker w other =
     and_false true = refl
     and_false false = refl
 
-pub level_unit : (s : Shape) (unit : ℕ) (e : UnitEvent) (maker : Maker) (w : World) → is_program e.command ≡ false → IsLevel w → IsLevel (unit_step s unit e maker w ∷ w)
+pub level_unit : (s : Shape) (unit : ℕ) (e : UnitEvent) (maker : Maker) (w : World) → is_program e.command ≡ false → IsLevel w
+    → IsLevel (unit_step s unit e maker w ∷ w)
 level_unit s unit e maker w other level u = go (cases_order u unit)
   where
     answers_stay : answers (log_of (unit_step s unit e maker w ∷ w) 0) u ≡ answers (log_of w 0) u
     answers_stay = ap (λ (log : List Logged). answers log u) (engine_log s unit e maker w)
 
     apart : u ≢ unit → ended_stripes (log_of (unit_step s unit e maker w ∷ w) (suc u)) ≡ length (answers (log_of (unit_step s unit e maker w ∷ w) 0) u)
-    apart far = ap ended_stripes (other_log s unit e maker w (suc u) (λ same. let is : suc u ≡ suc unit = same in far (omega arith))) ∙ level u ∙ sym (ap (λ (xs : List Answer). length xs) answers_stay)
+    apart far = ap ended_stripes (other_log s unit e maker w (suc u) (λ same. let is : suc u ≡ suc unit = same in far (omega arith))) ∙ level u
+        ∙ sym (ap (λ (xs : List Answer). length xs) answers_stay)
 
-    go : (u ≡ unit) ⊎ ((u < unit) ⊎ (unit < u)) → ended_stripes (log_of (unit_step s unit e maker w ∷ w) (suc u)) ≡ length (answers (log_of (unit_step s unit e maker w ∷ w) 0) u)
+    go : (u ≡ unit) ⊎ ((u < unit) ⊎ (unit < u))
+        → ended_stripes (log_of (unit_step s unit e maker w ∷ w) (suc u)) ≡ length (answers (log_of (unit_step s unit e maker w ∷ w) 0) u)
     go (inl same) =
-        subst (λ v. ended_stripes (log_of (unit_step s unit e maker w ∷ w) (suc v)) ≡ ended_stripes (log_of w (suc v))) (sym same) (ended_still s unit e maker w other)
+        subst (λ v. ended_stripes (log_of (unit_step s unit e maker w ∷ w) (suc v)) ≡ ended_stripes (log_of w (suc v))) (sym same)
+        (ended_still s unit e maker w other)
         ∙ level u ∙ sym (ap (λ (xs : List Answer). length xs) answers_stay)
     go (inr (inl below)) = apart (λ same. absurd (omega arith))
     go (inr (inr over)) = apart (λ same. absurd (omega arith))
@@ -97,12 +104,14 @@ module _ (i : Image) (w : World) (unit : ℕ) (p : Placed) (maker : Maker) (faul
       (may_land i w unit p maker faultless waits level) refl
 
   pub landing_log : log_of (after_landing i.shape unit p.stripe maker w) 0 ≡ log_of w 0 ++ (engine_step i.shape event mid).logged ∷ []
-  landing_log = log_here (engine_step i.shape event mid) mid 0 refl ∙ ap (λ (log : List Logged). log ++ (engine_step i.shape event mid).logged ∷ []) (engine_log i.shape unit (program_of p.stripe) maker w)
+  landing_log = log_here (engine_step i.shape event mid) mid 0 refl
+      ∙ ap (λ (log : List Logged). log ++ (engine_step i.shape event mid).logged ∷ []) (engine_log i.shape unit (program_of p.stripe) maker w)
 
   unit_still : (u : ℕ) → log_of (after_landing i.shape unit p.stripe maker w) (suc u) ≡ log_of mid (suc u)
   unit_still u = log_elsewhere (engine_step i.shape event mid) mid (suc u) (λ same. let no : 0 ≡ suc u = same in absurd (omega arith))
 
-  answers_now : (u : ℕ) (o : Option Answer) → answer_by u (Decides event) ≡ o → answers (log_of (after_landing i.shape unit p.stripe maker w) 0) u ≡ answers (log_of w 0) u ++ option_to_list o
+  answers_now : (u : ℕ) (o : Option Answer) → answer_by u (Decides event) ≡ o
+      → answers (log_of (after_landing i.shape unit p.stripe maker w) 0) u ≡ answers (log_of w 0) u ++ option_to_list o
   answers_now u o e =
       ap (λ (log : List Logged). answers log u) landing_log ∙ answers_more (log_of w 0) (engine_step i.shape event mid).logged u
       ∙ ap (λ (o : Option Answer). answers (log_of w 0) u ++ option_to_list o) e
@@ -114,7 +123,8 @@ module _ (i : Image) (w : World) (unit : ℕ) (p : Placed) (maker : Maker) (faul
   others_answer u apart = ap (λ b. if b then Some (DidLand (length (log_of w (suc unit)))) else None) (other_number unit u (λ e. apart (sym e)))
 
   more_answers : length (answers (log_of (after_landing i.shape unit p.stripe maker w) 0) unit) ≡ length (answers (log_of w 0) unit) + 1
-  more_answers = ap (λ (xs : List Answer). length xs) (answers_now unit (Some (DidLand (length (log_of w (suc unit))))) own_answer) ∙ length-append (answers (log_of w 0) unit) (DidLand (length (log_of w (suc unit))) ∷ [])
+  more_answers = ap (λ (xs : List Answer). length xs) (answers_now unit (Some (DidLand (length (log_of w (suc unit))))) own_answer)
+      ∙ length-append (answers (log_of w 0) unit) (DidLand (length (log_of w (suc unit))) ∷ [])
 
   same_answers : (u : ℕ) → u ≢ unit → answers (log_of (after_landing i.shape unit p.stripe maker w) 0) u ≡ answers (log_of w 0) u
   same_answers u apart = answers_now u None (others_answer u apart) ∙ append-nil (answers (log_of w 0) u)
@@ -125,39 +135,50 @@ module _ (i : Image) (w : World) (unit : ℕ) (p : Placed) (maker : Maker) (faul
       let some : 0 < length (log_of w 0) = engine_longer w begins.0 begins.1 in
       let knows : known l 0 ≡ length (log_of w 0) = known_whole i w faultless.simple.mount.legal 0 in
       let ends : ends_stripe l ≡ true = ap (λ b. b && true) (lt_true 0 (known l 0) (omega arith)) in
-      ap ended_stripes (unit_log i.shape unit (program_of p.stripe) maker w) ∙ ended_more (log_of w (suc unit)) l ∙ ap (λ n. ended_stripes (log_of w (suc unit)) + n) (one_ended l ends)
+      ap ended_stripes (unit_log i.shape unit (program_of p.stripe) maker w) ∙ ended_more (log_of w (suc unit)) l
+      ∙ ap (λ n. ended_stripes (log_of w (suc unit)) + n) (one_ended l ends)
 
-  level_own : ended_stripes (log_of (after_landing i.shape unit p.stripe maker w) (suc unit)) ≡ length (answers (log_of (after_landing i.shape unit p.stripe maker w) 0) unit)
+  level_own : ended_stripes (log_of (after_landing i.shape unit p.stripe maker w) (suc unit)) ≡ length
+      (answers (log_of (after_landing i.shape unit p.stripe maker w) 0) unit)
   level_own = ap ended_stripes (unit_still unit) ∙ ends_now ∙ ap (λ n. n + 1) level ∙ sym more_answers
 
   level_other : (u : ℕ) → u ≢ unit → ended_stripes (log_of w (suc u)) ≡ length (answers (log_of w 0) u)
-      → ended_stripes (log_of (after_landing i.shape unit p.stripe maker w) (suc u)) ≡ length (answers (log_of (after_landing i.shape unit p.stripe maker w) 0) u)
+      → ended_stripes (log_of (after_landing i.shape unit p.stripe maker w) (suc u)) ≡ length
+      (answers (log_of (after_landing i.shape unit p.stripe maker w) 0) u)
   level_other u apart was =
-      ap ended_stripes (unit_still u ∙ other_log i.shape unit (program_of p.stripe) maker w (suc u) (λ same. let is : suc u ≡ suc unit = same in apart (omega arith)))
+      ap ended_stripes (unit_still u
+      ∙ other_log i.shape unit (program_of p.stripe) maker w (suc u) (λ same. let is : suc u ≡ suc unit = same in apart (omega arith)))
       ∙ was ∙ ap (λ (xs : List Answer). length xs) (sym (same_answers u apart))
 
   pub landing_level : IsLevel w → IsLevel (after_landing i.shape unit p.stripe maker w)
   landing_level all u = go (cases_order u unit)
     where
-      go : (u ≡ unit) ⊎ ((u < unit) ⊎ (unit < u)) → ended_stripes (log_of (after_landing i.shape unit p.stripe maker w) (suc u)) ≡ length (answers (log_of (after_landing i.shape unit p.stripe maker w) 0) u)
-      go (inl same) = subst (λ v. ended_stripes (log_of (after_landing i.shape unit p.stripe maker w) (suc v)) ≡ length (answers (log_of (after_landing i.shape unit p.stripe maker w) 0) v)) (sym same) level_own
+      go : (u ≡ unit) ⊎ ((u < unit) ⊎ (unit < u))
+          → ended_stripes (log_of (after_landing i.shape unit p.stripe maker w) (suc u)) ≡ length
+          (answers (log_of (after_landing i.shape unit p.stripe maker w) 0) u)
+      go (inl same) = subst (λ v. ended_stripes (log_of (after_landing i.shape unit p.stripe maker w) (suc v)) ≡ length
+          (answers (log_of (after_landing i.shape unit p.stripe maker w) 0) v)) (sym same) level_own
       go (inr (inl below)) = level_other u (λ same. absurd (omega arith)) (all u)
       go (inr (inr over)) = level_other u (λ same. absurd (omega arith)) (all u)
 
   pub landing_known : IsKnown i w → IsKnown i (after_landing i.shape unit p.stripe maker w)
-  landing_known = known_told i w unit (program_of p.stripe) maker event faultless.simple.mount.legal (program_legal i w unit p maker faultless waits level).simple.mount.legal (engine_longer w begins.0 begins.1) (λ logs u. refl)
+  landing_known = known_told i w unit (program_of p.stripe) maker event faultless.simple.mount.legal
+      (program_legal i w unit p maker faultless waits level).simple.mount.legal (engine_longer w begins.0 begins.1) (λ logs u. refl)
 
   -- the same stripes are placed
   placed_still : (u : ℕ) → placed_on (log_of (after_landing i.shape unit p.stripe maker w) 0) u ≡ placed_on (log_of w 0) u
   placed_still u =
       ap (λ (log : List Logged). placed_on log u) landing_log
-      ∙ ap (λ (ps : List Placed). filter (λ (p : Placed). p.stripe.unit == u) ps) (placements_more (log_of w 0) (engine_step i.shape event mid).logged ∙ append-nil (placements (log_of w 0)))
+      ∙ ap (λ (ps : List Placed). filter (λ (p : Placed). p.stripe.unit == u) ps)
+      (placements_more (log_of w 0) (engine_step i.shape event mid).logged ∙ append-nil (placements (log_of w 0)))
 
   pub others_wait : (u : ℕ) → u ≢ unit → unanswered_on (log_of (after_landing i.shape unit p.stripe maker w) 0) u ≡ unanswered_on (log_of w 0) u
   others_wait u apart = ap₂ (λ (ps : List Placed) (xs : List Answer). slice_get ps (length xs)) (placed_still u) (same_answers u apart)
 
-  pub own_waits : length (placed_on (log_of w 0) unit) ≤ length (answers (log_of w 0) unit) + 1 → unanswered_on (log_of (after_landing i.shape unit p.stripe maker w) 0) unit ≡ None
-  own_waits one = ap₂ (λ (ps : List Placed) n. slice_get ps n) (placed_still unit) more_answers ∙ past (placed_on (log_of w 0) unit) (length (answers (log_of w 0) unit) + 1) one
+  pub own_waits : length (placed_on (log_of w 0) unit) ≤ length (answers (log_of w 0) unit) + 1
+      → unanswered_on (log_of (after_landing i.shape unit p.stripe maker w) 0) unit ≡ None
+  own_waits one = ap₂ (λ (ps : List Placed) n. slice_get ps n) (placed_still unit) more_answers
+      ∙ past (placed_on (log_of w 0) unit) (length (answers (log_of w 0) unit) + 1) one
     where
       past : (xs : List Placed) (n : ℕ) → length xs ≤ n → slice_get xs n ≡ None
       past [] n h = refl

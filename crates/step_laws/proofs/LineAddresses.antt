@@ -19,7 +19,8 @@ use Rattle.core_laws.proofs.StripesByPlace.{at_its_place, not_at, find_only}
 use Rattle.core_laws.specs.StripeTurns.{IsAtTurn}
 use Rattle.lemmas.proofs.Lists.{length_replicate}
 
-module _ (i : Image) (logs : Logs) (o : Opening) (us : List ℕ) (line j : ℕ) (p : Placed) (some : 0 < i.shape.ws_opt) (whole : i.shape.clba % i.shape.ws_opt ≡ 0) (live : units_in (as_opened i logs o).live ≡ us) (is : IsAtTurn i.shape us line j p) where
+module _ (i : Image) (logs : Logs) (o : Opening) (us : List ℕ) (line j : ℕ) (p : Placed) (some : 0 < i.shape.ws_opt) (whole : i.shape.clba % i.shape.ws_opt ≡ 0)
+    (live : units_in (as_opened i logs o).live ≡ us) (is : IsAtTurn i.shape us line j p) where
   column : j % length us < length us
   column = slice_get_within us (j % length us) p.stripe.unit is.unit
 
@@ -63,6 +64,8 @@ module _ (i : Image) (logs : Logs) (o : Opening) (us : List ℕ) (line j : ℕ) 
     place_is =
         let quotient : (j * i.shape.ws_opt + r) / i.shape.ws_opt ≡ j = div-mul-add j i.shape.ws_opt r inside in
         let rest : (j * i.shape.ws_opt + r) % i.shape.ws_opt ≡ r = mod-mul-add j i.shape.ws_opt r inside in
-        let block : block_of i.shape (length us) (j * i.shape.ws_opt + r) ≡ p.stripe.at + r = ap₂ (λ m n. m / length us * i.shape.ws_opt + n) quotient rest ∙ ap (λ n. n + r) (sym is.at) in
-        let unit : slice_get us (column_of i.shape (length us) (j * i.shape.ws_opt + r)) ≡ Some p.stripe.unit = ap (λ n. slice_get us (n % length us)) quotient ∙ is.unit in
+        let block : block_of i.shape (length us) (j * i.shape.ws_opt + r) ≡ p.stripe.at + r = ap₂ (λ m n. m / length us * i.shape.ws_opt + n) quotient rest
+        ∙ ap (λ n. n + r) (sym is.at) in
+        let unit : slice_get us (column_of i.shape (length us) (j * i.shape.ws_opt + r)) ≡ Some p.stripe.unit = ap (λ n. slice_get us (n % length us)) quotient
+        ∙ is.unit in
         (order_exactly i.shape us (j * i.shape.ws_opt + r) p.stripe.unit some whole).1 (unit, address_within) ∙ ap (λ b. Some (p.stripe.unit, b)) block

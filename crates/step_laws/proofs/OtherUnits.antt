@@ -84,7 +84,8 @@ module _ (i : Image) (us : ℕ → List Logged) (logs : Logs) (alike : AreAlike 
   line_beside o = ap (λ (l : OpenLine). with_outcomes i.shape (logs 0) o l) (opened_beside o)
 
   pub left_beside : left_openings i more ≡ left_openings i logs
-  left_beside = filter_same (λ (o : Opening). has_left (open_line i more o)) (λ (o : Opening). has_left (open_line i logs o)) (λ o. ap has_left (line_beside o)) (standing (logs 0))
+  left_beside = filter_same (λ (o : Opening). has_left (open_line i more o)) (λ (o : Opening). has_left (open_line i logs o)) (λ o. ap has_left (line_beside o))
+      (standing (logs 0))
 
   pub lines_beside : open_lines i more ≡ open_lines i logs
   lines_beside = ap (filter has_left) (map_same (open_line i more) (open_line i logs) line_beside (standing (logs 0)))
@@ -93,7 +94,8 @@ module _ (i : Image) (us : ℕ → List Logged) (logs : Logs) (alike : AreAlike 
 
   row_beside : (line : ℕ) (o : Option StartRecord) → found_row i more line o ≡ found_row i logs line o
   row_beside line None = refl
-  row_beside line (Some start) = ap (λ (f : Image). Some (record { line = line; seq = start.seq; bound = bound_by (head f) (first_position (logs 0)) line start.seq })) alike.found
+  row_beside line (Some start) =
+      ap (λ (f : Image). Some (record { line = line; seq = start.seq; bound = bound_by (head f) (first_position (logs 0)) line start.seq })) alike.found
 
   older_beside : (line : ℕ) → older_row i more line ≡ older_row i logs line
   older_beside line =
@@ -110,7 +112,8 @@ module _ (i : Image) (us : ℕ → List Logged) (logs : Logs) (alike : AreAlike 
   address_beside (Opened o) p block = ap (λ (l : OpenLine). number_of i.shape l p.stripe * i.shape.ws_opt + (block - p.stripe.at)) (opened_beside o)
   address_beside (Freed past knows) p block = refl
 
-  entry_beside : (position : ℕ) (o : Option Placed) → option_map_or (media_of i more position) o (Cached position) ≡ option_map_or (media_of i logs position) o (Cached position)
+  entry_beside : (position : ℕ) (o : Option Placed)
+      → option_map_or (media_of i more position) o (Cached position) ≡ option_map_or (media_of i logs position) o (Cached position)
   entry_beside position None = refl
   entry_beside position (Some p) = ap (λ a. Media p.stripe.line a position) (address_beside p.life p (unwrap_or (readable_block i logs position p) 0))
 
@@ -137,7 +140,8 @@ module _ (i : Image) (us : ℕ → List Logged) (logs : Logs) (alike : AreAlike 
   in_beside stopped (Opened o) p = ap (λ (l : OpenLine). row_of_program stopped (program_of_stripe i.shape l p.stripe)) (line_then p.number o)
   in_beside stopped (Freed past knows) p = refl
 
-  unit_by : (stopped : Bool) (o : Option Placed) → option_map_or (λ (p : Placed). row_in i more stopped p.life p) o Idle ≡ option_map_or (λ (p : Placed). row_in i logs stopped p.life p) o Idle
+  unit_by : (stopped : Bool) (o : Option Placed)
+      → option_map_or (λ (p : Placed). row_in i more stopped p.life p) o Idle ≡ option_map_or (λ (p : Placed). row_in i logs stopped p.life p) o Idle
   unit_by stopped None = refl
   unit_by stopped (Some p) = in_beside stopped p.life p
 
@@ -147,4 +151,5 @@ module _ (i : Image) (us : ℕ → List Logged) (logs : Logs) (alike : AreAlike 
   pub placing_beside : (pad : ℕ) (again : List ℕ) → placing_of i more pad again ≡ placing_of i logs pad again
   placing_beside pad again =
       let units_same = map_same (row_of i more again) (row_of i logs again) (unit_beside again) (range_with_len 0 (units i.shape)) in
-      ap₂ (λ (rows : List UnitRow) (lines : List OpenLine). record { shape = i.shape; entries = entries_of i.shape (logs 0) pad; units = rows; lines = lines }) units_same lines_beside
+      ap₂ (λ (rows : List UnitRow) (lines : List OpenLine). record { shape = i.shape; entries = entries_of i.shape (logs 0) pad; units = rows; lines = lines })
+      units_same lines_beside

@@ -26,7 +26,8 @@ pads_are : (s : Shape) (blocks : List Block) → AllByRecursion (λ b. b ≡ pad
 pads_are s [] all = tt
 pads_are s (b ∷ blocks) all = (subst (IsBlock s) (sym all.0) (pad_is s), pads_are s blocks all.1)
 
-may_pad : (i : Image) (w : World) (unit chunk at : ℕ) (blocks : List Block) (c : Chunk) (outcome : UnitOutcome) → log_of w 0 ≡ [] → has_stopped (unit_events (log_of w) unit) ≡ false → chunk_in (media i (log_of w)) chunk unit ≡ Some c
+may_pad : (i : Image) (w : World) (unit chunk at : ℕ) (blocks : List Block) (c : Chunk) (outcome : UnitOutcome) → log_of w 0 ≡ []
+    → has_stopped (unit_events (log_of w) unit) ≡ false → chunk_in (media i (log_of w)) chunk unit ≡ Some c
     → IsPadding i c at blocks → IsOutcome i.shape c (Write at blocks) outcome → MayDo i (log_of w) unit (write_of chunk at blocks outcome)
 may_pad i w unit chunk at blocks c outcome none goes_on there padding ends =
     let chunks = has_chunks (slice_get (media i (log_of w)).units unit) chunk c there in
@@ -39,16 +40,21 @@ may_pad i w unit chunk at blocks c outcome none goes_on there padding ends =
       command = subst (λ (o : Option Begun). IsCommand i (log_of w) unit c chunk (Write at blocks) o) (sym unbegun) command;
     }
 
-pub pad_legal : (i : Image) (w : World) (unit chunk at : ℕ) (blocks : List Block) (c : Chunk) (outcome : UnitOutcome) (maker : Maker) → IsLegal i w → log_of w 0 ≡ [] → unit < units i.shape
-    → has_stopped (unit_events (log_of w) unit) ≡ false → chunk_in (media i (log_of w)) chunk unit ≡ Some c → IsPadding i c at blocks → IsOutcome i.shape c (Write at blocks) outcome
+pub pad_legal : (i : Image) (w : World) (unit chunk at : ℕ) (blocks : List Block) (c : Chunk) (outcome : UnitOutcome) (maker : Maker) → IsLegal i w
+    → log_of w 0 ≡ [] → unit < units i.shape
+    → has_stopped (unit_events (log_of w) unit) ≡ false → chunk_in (media i (log_of w)) chunk unit ≡ Some c → IsPadding i c at blocks
+    → IsOutcome i.shape c (Write at blocks) outcome
     → IsLegal i (unit_step i.shape unit (write_of chunk at blocks outcome) maker w ∷ w)
 pad_legal i w unit chunk at blocks c outcome maker legal none range goes_on there padding ends =
-    next_legal i w (suc unit) (Does (write_of chunk at blocks outcome) maker) legal (omega arith) (may_pad i w unit chunk at blocks c outcome none goes_on there padding ends)
+    next_legal i w (suc unit) (Does (write_of chunk at blocks outcome) maker) legal (omega arith)
+    (may_pad i w unit chunk at blocks c outcome none goes_on there padding ends)
 
-pub pad_done : (i : Image) (w : World) (unit chunk at : ℕ) (blocks : List Block) (c : Chunk) (maker : Maker) → IsFaultlessMount i w → log_of w 0 ≡ [] → unit < units i.shape
+pub pad_done : (i : Image) (w : World) (unit chunk at : ℕ) (blocks : List Block) (c : Chunk) (maker : Maker) → IsFaultlessMount i w → log_of w 0 ≡ []
+    → unit < units i.shape
     → chunk_in (media i (log_of w)) chunk unit ≡ Some c → IsPadding i c at blocks → refusal i.shape c (Write at blocks) ≡ None
     → IsFaultlessMount i (unit_step i.shape unit (write_of chunk at blocks (Answered Done)) maker w ∷ w)
 pad_done i w unit chunk at blocks c maker faultless none range there padding taken =
     still_faultless i (unit_step i.shape unit (write_of chunk at blocks (Answered Done)) maker w) w faultless
     (next_step i w (suc unit) (Does (write_of chunk at blocks (Answered Done)) maker) faultless.simple.mount.legal (omega arith)
-    (may_pad i w unit chunk at blocks c (Answered Done) none (none_stopped (unit_events (log_of w) unit) (faultless.answered unit)) there padding (tt, (taken, refl)))) refl
+    (may_pad i w unit chunk at blocks c (Answered Done) none (none_stopped (unit_events (log_of w) unit) (faultless.answered unit)) there padding
+    (tt, (taken, refl)))) refl

@@ -78,10 +78,12 @@ same_address l m a b p q e = cc
 same_position : (l m a b p q : ℕ) → Media l a p ≡ Media m b q → p ≡ q
 same_position l m a b p q e = cc
 
-pub entry_on_drive : (i : Image) (logs : Logs) (t : Taken) (line at q : ℕ) → slot_of_entry i logs t.entry.position ≡ Media line at q → IsEntryOnDrive i logs t line at q
+pub entry_on_drive : (i : Image) (logs : Logs) (t : Taken) (line at q : ℕ) → slot_of_entry i logs t.entry.position ≡ Media line at q
+    → IsEntryOnDrive i logs t line at q
 entry_on_drive i logs t line at q slot = by (find (gives_back i.shape (logs 0) t.entry.position) (placements (logs 0))) refl slot
   where
-    by : (p : Option Placed) → find (gives_back i.shape (logs 0) t.entry.position) (placements (logs 0)) ≡ p → option_map_or (media_of i logs t.entry.position) p (Cached t.entry.position) ≡ Media line at q → IsEntryOnDrive i logs t line at q
+    by : (p : Option Placed) → find (gives_back i.shape (logs 0) t.entry.position) (placements (logs 0)) ≡ p
+        → option_map_or (media_of i logs t.entry.position) p (Cached t.entry.position) ≡ Media line at q → IsEntryOnDrive i logs t line at q
     by None none e = absurd cc
     by (Some p) some e =
         let read : IsReadIn i logs t.entry.position p = read_in i logs t.entry.position p some in
@@ -91,7 +93,8 @@ entry_on_drive i logs t line at q slot = by (find (gives_back i.shape (logs 0) t
           stripe = p;
           read = read;
           of_line = same_line p.stripe.line line (address_in i logs p.life p found) at t.entry.position q e;
-          address = ap (λ n. address_in i logs p.life p (unwrap_or n 0)) (sym read.first) ∙ same_address p.stripe.line line (address_in i logs p.life p found) at t.entry.position q e;
+          address = ap (λ n. address_in i logs p.life p (unwrap_or n 0)) (sym read.first)
+              ∙ same_address p.stripe.line line (address_in i logs p.life p found) at t.entry.position q e;
         }
 
 -- of a sector's winner
@@ -105,5 +108,10 @@ winner_on_drive None line at q e = absurd cc
 winner_on_drive (Some r) line at q e = (
   r,
   refl,
-  record { of_line = same_line r.line line r.at at r.position q e; of_address = same_address r.line line r.at at r.position q e; of_position = same_position r.line line r.at at r.position q e },
+  record {
+    of_line = same_line r.line line r.at at r.position q e;
+    of_address = same_address r.line line r.at at r.position q e;
+    of_position =
+        same_position r.line line r.at at r.position q e;
+  },
 )

@@ -39,15 +39,20 @@ AreCalm s us = (k : ℕ) (u : ModelUnit) → slice_get us k ≡ Some u → (u.sh
 pub calm_after : (s : Shape) (us : List ModelUnit) (e : EventAt) (next : IsNext us e) → AreCalm s us → AreCalm s (after_one us e)
 calm_after s us e next calm = subst (AreCalm s) (sym (after_one_is us e next.unit next.there)) (λ k u there. go k u there (ℕ_discrete k e.unit))
   where
-    go : (k : ℕ) (u : ModelUnit) → slice_get (slice_set us e.unit (with_event next.unit e.event)) k ≡ Some u → Dec (k ≡ e.unit) → (u.shape ≡ s) × IsUnarmed u.armed
+    go : (k : ℕ) (u : ModelUnit) → slice_get (slice_set us e.unit (with_event next.unit e.event)) k ≡ Some u → Dec (k ≡ e.unit)
+        → (u.shape ≡ s) × IsUnarmed u.armed
     go k u there (yes same) =
-        let is : with_event next.unit e.event ≡ u = same_Some (with_event next.unit e.event) u (sym (get_set_same us e.unit (with_event next.unit e.event) (slice_get_within us e.unit next.unit next.there)) ∙ ap (slice_get (slice_set us e.unit (with_event next.unit e.event))) (sym same) ∙ there) in
+        let is : with_event next.unit e.event ≡ u =
+        same_Some (with_event next.unit e.event) u
+        (sym (get_set_same us e.unit (with_event next.unit e.event) (slice_get_within us e.unit next.unit next.there))
+        ∙ ap (slice_get (slice_set us e.unit (with_event next.unit e.event))) (sym same) ∙ there) in
         subst (λ (x : ModelUnit). (x.shape ≡ s) × IsUnarmed x.armed) is (calm e.unit next.unit next.there)
     go k u there (no apart) = calm k u (sym (get_set_other us e.unit k (with_event next.unit e.event) apart) ∙ there)
 
 -- ---- what an answered command did
 
-pub was_done : (s : Shape) (c : Chunk) (at : ℕ) (blocks : List Block) (outcome : UnitOutcome) → IsOutcome s c (Write at blocks) outcome → is_fail outcome ≡ false → is_stop outcome ≡ false
+pub was_done : (s : Shape) (c : Chunk) (at : ℕ) (blocks : List Block) (outcome : UnitOutcome) → IsOutcome s c (Write at blocks) outcome
+    → is_fail outcome ≡ false → is_stop outcome ≡ false
     → (refusal s c (Write at blocks) ≡ None) × (outcome ≡ Answered Done)
 was_done s c at blocks (Answered Done) is f g = (is.1.0, refl)
 was_done s c at blocks (Answered (Gave b)) is f g = absurd is.1
@@ -74,18 +79,22 @@ abbrev pub AreReadyingAll : Image → List ModelUnit → List EventAt → Type 0
 AreReadyingAll i us [] = ⊤
 AreReadyingAll i us (e ∷ events) = IsReadyingAt i us e × AreReadyingAll i (after_one us e) events
 
-pub readying_append : (i : Image) (us : List ModelUnit) (xs ys : List EventAt) → AreReadyingAll i us xs → AreReadyingAll i (after_all us xs) ys → AreReadyingAll i us (xs ++ ys)
+pub readying_append : (i : Image) (us : List ModelUnit) (xs ys : List EventAt) → AreReadyingAll i us xs → AreReadyingAll i (after_all us xs) ys
+    → AreReadyingAll i us (xs ++ ys)
 readying_append i us [] ys a b = b
 readying_append i us (x ∷ xs) ys a b = (a.0, readying_append i (after_one us x) xs ys a.1 b)
 
 -- an outcome that is found by the command's own words
-outcome_by : (s : Shape) (c : Chunk) (command told : ChunkCommand) (outcome : UnitOutcome) → command ≡ told → IsOutcome s c command outcome → IsOutcome s c told outcome
+outcome_by : (s : Shape) (c : Chunk) (command told : ChunkCommand) (outcome : UnitOutcome) → command ≡ told → IsOutcome s c command outcome
+    → IsOutcome s c told outcome
 outcome_by s c command told outcome is h = subst (λ (x : ChunkCommand). IsOutcome s c x outcome) is h
 
-does_by : (i : Image) (c : Chunk) (command told : ChunkCommand) (outcome : UnitOutcome) → command ≡ told → IsPadOrFetch i c told outcome → IsPadOrFetch i c command outcome
+does_by : (i : Image) (c : Chunk) (command told : ChunkCommand) (outcome : UnitOutcome) → command ≡ told → IsPadOrFetch i c told outcome
+    → IsPadOrFetch i c command outcome
 does_by i c command told outcome is h = subst (λ (x : ChunkCommand). IsPadOrFetch i c x outcome) (sym is) h
 
-same_outcome : (s t : Shape) (c : Chunk) (command : ChunkCommand) (outcome : UnitOutcome) → s ≡ t → IsOutcome s c command outcome → IsOutcome t c command outcome
+same_outcome : (s t : Shape) (c : Chunk) (command : ChunkCommand) (outcome : UnitOutcome) → s ≡ t → IsOutcome s c command outcome
+    → IsOutcome t c command outcome
 same_outcome s t c command outcome is h = subst (λ (x : Shape). IsOutcome x c command outcome) is h
 
 to_multiple : (at w : ℕ) → 0 < w → (at + ((at / w + 1) * w - at)) % w ≡ 0
@@ -95,12 +104,18 @@ to_multiple at w some =
     ap (λ n. n % w) whole ∙ mod-mul-add (at / w + 1) w 0 some
 
 -- a program that pads
-pub pad_readies : (i : Image) (us : List ModelUnit) (e : EventAt) → 0 < i.shape.ws_opt → AreCalm i.shape us → IsNextPad i.shape us (command_of e) → IsNext us e → IsReadyingAt i us e
+pub pad_readies : (i : Image) (us : List ModelUnit) (e : EventAt) → 0 < i.shape.ws_opt → AreCalm i.shape us → IsNextPad i.shape us (command_of e) → IsNext us e
+    → IsReadyingAt i us e
 pad_readies i us e some calm pad next = record {
   unit = next.unit;
   there = next.there;
   shape = of.0;
-  step = record { found = next.event.found; there = next.event.there; does = does_by i next.event.found e.event.command told e.event.outcome pad_is (padding, done.0, done.1) };
+  step = record {
+    found = next.event.found;
+    there = next.event.there;
+    does =
+        does_by i next.event.found e.event.command told e.event.outcome pad_is (padding, done.0, done.1);
+  };
 }
   where
     of : (next.unit.shape ≡ i.shape) × IsUnarmed next.unit.armed
@@ -123,7 +138,8 @@ pad_readies i us e some calm pad next = record {
 
     done : (refusal i.shape next.event.found told ≡ None) × (e.event.outcome ≡ Answered Done)
     done = was_done i.shape next.event.found at (pads_from i.shape at) e.event.outcome
-        (outcome_by i.shape next.event.found e.event.command told e.event.outcome pad_is (same_outcome next.unit.shape i.shape next.event.found e.event.command e.event.outcome of.0 next.event.outcome))
+        (outcome_by i.shape next.event.found e.event.command told e.event.outcome pad_is
+        (same_outcome next.unit.shape i.shape next.event.found e.event.command e.event.outcome of.0 next.event.outcome))
         quiet.0 quiet.1
 
     padding : IsPadding i next.event.found at (pads_from i.shape at)
@@ -148,18 +164,21 @@ fetch_readies i us e b calm fetch next =
         there = next.event.there;
         does = does_by i next.event.found e.event.command (Read b) e.event.outcome fetch
             (was_answered i.shape next.event.found b e.event.outcome
-            (outcome_by i.shape next.event.found e.event.command (Read b) e.event.outcome fetch (same_outcome next.unit.shape i.shape next.event.found e.event.command e.event.outcome of.0 next.event.outcome))
+            (outcome_by i.shape next.event.found e.event.command (Read b) e.event.outcome fetch
+            (same_outcome next.unit.shape i.shape next.event.found e.event.command e.event.outcome of.0 next.event.outcome))
             quiet.0 quiet.1);
       };
     }
 
-pub pads_ready : (i : Image) (us : List ModelUnit) (events : List EventAt) → 0 < i.shape.ws_opt → AreCalm i.shape us → ArePads i.shape us events → AreReadyingAll i us events × AreCalm i.shape (after_all us events)
+pub pads_ready : (i : Image) (us : List ModelUnit) (events : List EventAt) → 0 < i.shape.ws_opt → AreCalm i.shape us → ArePads i.shape us events
+    → AreReadyingAll i us events × AreCalm i.shape (after_all us events)
 pads_ready i us [] some calm pads = (tt, calm)
 pads_ready i us (e ∷ events) some calm pads =
     let rest = pads_ready i (after_one us e) events some (calm_after i.shape us e pads.1 calm) pads.2 in
     ((pad_readies i us e some calm pads.0 pads.1, rest.0), rest.1)
 
-pub fetches_ready : (i j : Image) (us : List ModelUnit) (events : List EventAt) → AreCalm i.shape us → AllByRecursion (IsFetch j) events → AreNext us events → AreReadyingAll i us events
+pub fetches_ready : (i j : Image) (us : List ModelUnit) (events : List EventAt) → AreCalm i.shape us → AllByRecursion (IsFetch j) events → AreNext us events
+    → AreReadyingAll i us events
 fetches_ready i j us [] calm fetches next = tt
 fetches_ready i j us (e ∷ events) calm fetches next = (
   fetch_readies i us e fetches.0.block calm fetches.0.command next.0,
@@ -176,7 +195,8 @@ pub record HasItsOwn (i : Image) (us : List ModelUnit) (events : List EventAt) (
   pub media : now.media ≡ after_log i.shape u.media (events_of k events)
   pub readying : AreReadying i u.media (events_of k events)
 
-its_own : (i : Image) (e : EventAt) (events : List EventAt) (us : List ModelUnit) (k : ℕ) (u : ModelUnit) → slice_get us k ≡ Some u → IsReadyingAt i us e → Dec (e.unit ≡ k)
+its_own : (i : Image) (e : EventAt) (events : List EventAt) (us : List ModelUnit) (k : ℕ) (u : ModelUnit) → slice_get us k ≡ Some u → IsReadyingAt i us e
+    → Dec (e.unit ≡ k)
     → ((v : ModelUnit) → slice_get (after_one us e) k ≡ Some v → HasItsOwn i (after_one us e) events k v) → HasItsOwn i us (e ∷ events) k u
 its_own i e events us k u there is (yes same) more =
     let at : slice_get us e.unit ≡ Some u = ap (slice_get us) same ∙ there in
@@ -188,8 +208,10 @@ its_own i e events us k u there is (yes same) more =
     let shape : u.shape ≡ i.shape = ap (λ (x : ModelUnit). x.shape) (sym its) ∙ is.shape in
     let left : (with_event u e.event).media ≡ after_event i.shape u.media e.event = ap (λ (s : Shape). after_event s u.media e.event) shape in
     let step : IsReadying i u.media e.event = subst (λ (x : ModelUnit). IsReadying i x.media e.event) its is.step in
-    let own : AreReadying i (after_event i.shape u.media e.event) (events_of k events) = subst (λ (cs : List Chunk). AreReadying i cs (events_of k events)) left rest.readying in
-    let chunks : rest.now.media ≡ after_log i.shape (after_event i.shape u.media e.event) (events_of k events) = rest.media ∙ ap (λ (cs : List Chunk). after_log i.shape cs (events_of k events)) left in
+    let own : AreReadying i (after_event i.shape u.media e.event) (events_of k events) =
+    subst (λ (cs : List Chunk). AreReadying i cs (events_of k events)) left rest.readying in
+    let chunks : rest.now.media ≡ after_log i.shape (after_event i.shape u.media e.event) (events_of k events) = rest.media
+    ∙ ap (λ (cs : List Chunk). after_log i.shape cs (events_of k events)) left in
     record {
       now = rest.now;
       there = rest.there;
@@ -199,7 +221,8 @@ its_own i e events us k u there is (yes same) more =
     }
 its_own i e events us k u there is (no apart) more =
     let next : slice_get (after_one us e) k ≡ Some u =
-    ap (λ (xs : List ModelUnit). slice_get xs k) (after_one_is us e is.unit is.there) ∙ get_set_other us e.unit k (with_event is.unit e.event) (λ same. apart (sym same)) ∙ there in
+    ap (λ (xs : List ModelUnit). slice_get xs k) (after_one_is us e is.unit is.there)
+    ∙ get_set_other us e.unit k (with_event is.unit e.event) (λ same. apart (sym same)) ∙ there in
     let rest : HasItsOwn i (after_one us e) events k u = more u next in
     record {
       now = rest.now;
@@ -209,9 +232,11 @@ its_own i e events us k u there is (no apart) more =
       readying = rw (ne_eqb e.unit k apart) rest.readying;
     }
 
-pub has_its_own : (i : Image) (events : List EventAt) (us : List ModelUnit) (k : ℕ) (u : ModelUnit) → slice_get us k ≡ Some u → AreReadyingAll i us events → HasItsOwn i us events k u
+pub has_its_own : (i : Image) (events : List EventAt) (us : List ModelUnit) (k : ℕ) (u : ModelUnit) → slice_get us k ≡ Some u → AreReadyingAll i us events
+    → HasItsOwn i us events k u
 has_its_own i [] us k u there are = record { now = u; there = there; log = sym (append-nil u.log); media = refl; readying = tt }
-has_its_own i (e ∷ events) us k u there are = its_own i e events us k u there are.0 (ℕ_discrete e.unit k) (λ v at. has_its_own i events (after_one us e) k v at are.1)
+has_its_own i (e ∷ events) us k u there are =
+    its_own i e events us k u there are.0 (ℕ_discrete e.unit k) (λ v at. has_its_own i events (after_one us e) k v at are.1)
 
 -- ---- all of an opening
 
@@ -219,7 +244,8 @@ pub all_ready : (i : Image) (old new : List ModelUnit) → 0 < i.shape.ws_opt �
     → AreReadyingAll i old (were.pads ++ were.fetches) × (new ≡ after_all old (were.pads ++ were.fetches))
 all_ready i old new some calm were =
     let padded = pads_ready i old were.pads some calm were.padded in (
-      readying_append i old were.pads were.fetches padded.0 (fetches_ready i (image_of i.shape (after_all old were.pads)) (after_all old were.pads) were.fetches padded.1 were.fetched were.next),
+      readying_append i old were.pads were.fetches padded.0
+          (fetches_ready i (image_of i.shape (after_all old were.pads)) (after_all old were.pads) were.fetches padded.1 were.fetched were.next),
       were.units ∙ sym (fold-append after_one old were.pads were.fetches),
     )
 

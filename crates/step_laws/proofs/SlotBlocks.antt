@@ -14,7 +14,8 @@ use Rattle.step_laws.proofs.EntryBlocks.{block_of_entry}
 use Rattle.step_laws.proofs.ReadBlocks.{entry_on_drive, winner_on_drive}
 use Rattle.step_laws.proofs.WinnerBlocks.{block_of_winner}
 
-pub on_the_drive : (i : Image) (w : World) (b : Begun) (lba line at q : ℕ) → IsSimpleMount i w → begun (log_of w 0) ≡ Some b → slot_of i (log_of w) lba ≡ Media line at q → IsBlockOfSlot i (log_of w) lba line at q
+pub on_the_drive : (i : Image) (w : World) (b : Begun) (lba line at q : ℕ) → IsSimpleMount i w → begun (log_of w 0) ≡ Some b
+    → slot_of i (log_of w) lba ≡ Media line at q → IsBlockOfSlot i (log_of w) lba line at q
 on_the_drive i w b lba line at q simple begin slot = go (last_take (log_of w 0) lba) refl slot
   where
     go : (t : Option Taken) → last_take (log_of w 0) lba ≡ t → slot_by i (log_of w) lba t ≡ Media line at q → IsBlockOfSlot i (log_of w) lba line at q

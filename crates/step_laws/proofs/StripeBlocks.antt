@@ -40,7 +40,8 @@ AreBytes bytes = AllByRecursion (λ x. x < 256) bytes
 
 -- ---- records
 
-meta_is : (s : Shape) (seq : ℕ) (bytes : List ℕ) → seq < 2 ^ 61 → s.sector ≤ length bytes → AreBytes bytes → IsBlock s (record { sector = take s.sector bytes; mark = meta_mark seq })
+meta_is : (s : Shape) (seq : ℕ) (bytes : List ℕ) → seq < 2 ^ 61 → s.sector ≤ length bytes → AreBytes bytes
+    → IsBlock s (record { sector = take s.sector bytes; mark = meta_mark seq })
 meta_is s seq bytes number long each = record {
   size = length-take-le s.sector bytes long;
   bytes = all_taken (λ x. x < 256) s.sector bytes each;
@@ -48,12 +49,15 @@ meta_is s seq bytes number long each = record {
   position = omega arith;
 }
 
-record_are : (s : Shape) (seq n : ℕ) (bytes : List ℕ) → seq < 2 ^ 61 → n * s.sector ≤ length bytes → AreBytes bytes → AreBlocks s (blocks_of s.sector bytes (replicate n (meta_mark seq)))
+record_are : (s : Shape) (seq n : ℕ) (bytes : List ℕ) → seq < 2 ^ 61 → n * s.sector ≤ length bytes → AreBytes bytes
+    → AreBlocks s (blocks_of s.sector bytes (replicate n (meta_mark seq)))
 record_are s seq zero bytes number long each = tt
 record_are s seq (suc n) bytes number long each =
     let parts : suc n * s.sector ≡ n * s.sector + s.sector = suc-mul n s.sector in
-    let rest : length (drop s.sector bytes) ≡ length bytes - s.sector = length-drop s.sector bytes in
-    (meta_is s seq bytes number (omega arith) each, record_are s seq n (drop s.sector bytes) number (omega arith) (all_dropped (λ x. x < 256) s.sector bytes each))
+    let rest : length (drop s.sector bytes) ≡ length bytes - s.sector = length-drop s.sector bytes in (
+      meta_is s seq bytes number (omega arith) each,
+      record_are s seq n (drop s.sector bytes) number (omega arith) (all_dropped (λ x. x < 256) s.sector bytes each),
+    )
 
 padded_long : (n : ℕ) (bytes : List ℕ) → n ≤ length (bytes ++ zeros (n - length bytes))
 padded_long n bytes =
@@ -83,7 +87,8 @@ stripe_are : (i : Image) (logs : Logs) (stripe : Stripe) (o : Opening) → o.sta
 stripe_are i logs stripe o number all (inl is) =
     subst (AreBlocks i.shape) (sym is.blocks)
     (range_are i.shape (start_blocks i.shape o) (next_address i.shape (logs 0) o - 0) (next_address i.shape (logs 0) o - 0 + i.shape.ws_opt)
-    (record_are i.shape o.start.seq (start_len i.shape) (start_bytes i.shape o.start) number (padded_long (start_len i.shape * i.shape.sector) (spelled o.start)) (start_bytes_are i.shape o.start)))
+    (record_are i.shape o.start.seq (start_len i.shape) (start_bytes i.shape o.start) number
+    (padded_long (start_len i.shape * i.shape.sector) (spelled o.start)) (start_bytes_are i.shape o.start)))
 stripe_are i logs stripe o number all (inr (inl is)) =
     let first : List Block = map block_of_taken (take i.shape.ws_opt (waiting i.shape (logs 0))) in
     subst (AreBlocks i.shape) (sym is.blocks)
@@ -93,8 +98,10 @@ stripe_are i logs stripe o number all (inr (inl is)) =
     (all_replicated (IsBlock i.shape) (i.shape.ws_opt - length first) (pad_block i.shape) (pad_is i.shape)))
 stripe_are i logs stripe o number all (inr (inr (inl is))) =
     subst (AreBlocks i.shape) (sym is.blocks)
-    (range_are i.shape (end_blocks i.shape (logs 0) o) (next_address i.shape (logs 0) o - end_address i.shape o) (next_address i.shape (logs 0) o - end_address i.shape o + i.shape.ws_opt)
-    (record_are i.shape o.start.seq (end_len i.shape o.start.width) (end_bytes i.shape (end_record i.shape (logs 0) o)) number (padded_long (end_len i.shape o.start.width * i.shape.sector) (end_spelled (end_record i.shape (logs 0) o)))
+    (range_are i.shape (end_blocks i.shape (logs 0) o) (next_address i.shape (logs 0) o - end_address i.shape o)
+    (next_address i.shape (logs 0) o - end_address i.shape o + i.shape.ws_opt)
+    (record_are i.shape o.start.seq (end_len i.shape o.start.width) (end_bytes i.shape (end_record i.shape (logs 0) o)) number
+    (padded_long (end_len i.shape o.start.width * i.shape.sector) (end_spelled (end_record i.shape (logs 0) o)))
     (end_bytes_are i.shape (end_record i.shape (logs 0) o))))
 stripe_are i logs stripe o number all (inr (inr (inr is))) =
     subst (AreBlocks i.shape) (sym is.blocks) (all_replicated (IsBlock i.shape) i.shape.ws_opt (pad_block i.shape) (pad_is i.shape))
@@ -102,24 +109,30 @@ stripe_are i logs stripe o number all (inr (inr (inr is))) =
 -- ---- the engine's log
 
 HasBlocks : Shape → List Logged → Type 0
-HasBlocks s log = AreTakenBlocks s log × ((line : ℕ) (o : Opening) → life_of log line ≡ Opened o → o.start.seq < 2 ^ 61) × AllByRecursion (λ p. AreBlocks s p.stripe.blocks) (placements log)
+HasBlocks s log = AreTakenBlocks s log × ((line : ℕ) (o : Opening) → life_of log line ≡ Opened o → o.start.seq < 2 ^ 61)
+    × AllByRecursion (λ p. AreBlocks s p.stripe.blocks) (placements log)
 
-takes_next : (i : Image) (known : Logs) (b : Begun) (log : List Logged) (e : EngineEvent) (knows : List ℕ) → IsDecision i known b e → AreTakenBlocks i.shape log → AreTakenBlocks i.shape (log ++ record { event = Decides e; knows = knows } ∷ [])
+takes_next : (i : Image) (known : Logs) (b : Begun) (log : List Logged) (e : EngineEvent) (knows : List ℕ) → IsDecision i known b e → AreTakenBlocks i.shape log
+    → AreTakenBlocks i.shape (log ++ record { event = Decides e; knows = knows } ∷ [])
 takes_next i known b log (Take entry mark) knows may all =
     subst (AllByRecursion (λ t. IsBlock i.shape (block_of_taken t))) (sym (takes_more log (record { event = Decides (Take entry mark); knows = knows })))
     (with_last (λ t. IsBlock i.shape (block_of_taken t)) (takes log) (record { entry = entry; mark = mark }) all may.block)
 takes_next i known b log e knows may all =
-    subst (AllByRecursion (λ t. IsBlock i.shape (block_of_taken t))) (sym (takes_more log (record { event = Decides e; knows = knows }) ∙ append-nil (takes log))) all
+    subst (AllByRecursion (λ t. IsBlock i.shape (block_of_taken t)))
+    (sym (takes_more log (record { event = Decides e; knows = knows }) ∙ append-nil (takes log))) all
 
 turned_next : (i : Image) (known : Logs) (b : Begun) (log : List Logged) (e : EngineEvent) (knows : List ℕ) (line : ℕ) (o : Opening) → IsDecision i known b e
-    → ((o : Opening) → life_of log line ≡ Opened o → o.start.seq < 2 ^ 61) → turned_by line (life_of log line) (length log) knows (Decides e) ≡ Opened o → o.start.seq < 2 ^ 61
+    → ((o : Opening) → life_of log line ≡ Opened o → o.start.seq < 2 ^ 61) → turned_by line (life_of log line) (length log) knows (Decides e) ≡ Opened o
+    → o.start.seq < 2 ^ 61
 turned_next i known b log (Open other start) knows line o may before is = go (nat_eq other line) is
   where
     new : Opening
     new = record { number = length log; line = line; start = start; knows = knows }
 
-    go : (t : Bool) → (if t then Opened (record { number = length log; line = line; start = start; knows = knows }) else life_of log line) ≡ Opened o → o.start.seq < 2 ^ 61
-    go true f = subst (λ (p : Opening). p.start.seq < 2 ^ 61) (opened_same (record { number = length log; line = line; start = start; knows = knows }) o f) may.seq_number
+    go : (t : Bool) → (if t then Opened (record { number = length log; line = line; start = start; knows = knows }) else life_of log line) ≡ Opened o
+        → o.start.seq < 2 ^ 61
+    go true f = subst (λ (p : Opening). p.start.seq < 2 ^ 61)
+        (opened_same (record { number = length log; line = line; start = start; knows = knows }) o f) may.seq_number
     go false f = before o f
 turned_next i known b log (Free other) knows line o may before is = go (nat_eq other line) is
   where
@@ -128,17 +141,21 @@ turned_next i known b log (Free other) knows line o may before is = go (nat_eq o
     go false f = before o f
 turned_next i known b log e knows line o may before is = before o is
 
-placed_next : (i : Image) (known : Logs) (b : Begun) (log : List Logged) (e : EngineEvent) (knows : List ℕ) → IsDecision i known b e → known 0 ≡ log → AreTakenBlocks i.shape log
+placed_next : (i : Image) (known : Logs) (b : Begun) (log : List Logged) (e : EngineEvent) (knows : List ℕ) → IsDecision i known b e → known 0 ≡ log
+    → AreTakenBlocks i.shape log
     → ((line : ℕ) (o : Opening) → life_of log line ≡ Opened o → o.start.seq < 2 ^ 61) → AllByRecursion (λ p. AreBlocks i.shape p.stripe.blocks) (placements log)
     → AllByRecursion (λ p. AreBlocks i.shape p.stripe.blocks) (placements (log ++ record { event = Decides e; knows = knows } ∷ []))
 placed_next i known b log (Place stripe) knows may own taken lines all =
     let opened : life_of log stripe.line ≡ Opened may.opening = ap (λ (log : List Logged). life_of log stripe.line) (sym own) ∙ may.is_open in
     let number : may.opening.start.seq < 2 ^ 61 = lines stripe.line may.opening opened in
-    subst (AllByRecursion (λ (p : Placed). AreBlocks i.shape p.stripe.blocks)) (sym (placements_more log (record { event = Decides (Place stripe); knows = knows })))
-    (with_last (λ (p : Placed). AreBlocks i.shape p.stripe.blocks) (placements log) (record { number = length log; stripe = stripe; life = life_of (take (length log) log) stripe.line }) all
+    subst (AllByRecursion (λ (p : Placed). AreBlocks i.shape p.stripe.blocks))
+    (sym (placements_more log (record { event = Decides (Place stripe); knows = knows })))
+    (with_last (λ (p : Placed). AreBlocks i.shape p.stripe.blocks) (placements log)
+    (record { number = length log; stripe = stripe; life = life_of (take (length log) log) stripe.line }) all
     (stripe_are i known stripe may.opening number (subst (AreTakenBlocks i.shape) (sym own) taken) may.kind))
 placed_next i known b log e knows may own taken lines all =
-    subst (AllByRecursion (λ (p : Placed). AreBlocks i.shape p.stripe.blocks)) (sym (placements_more log (record { event = Decides e; knows = knows }) ∙ append-nil (placements log))) all
+    subst (AllByRecursion (λ (p : Placed). AreBlocks i.shape p.stripe.blocks))
+    (sym (placements_more log (record { event = Decides e; knows = knows }) ∙ append-nil (placements log))) all
 
 blocks_kept : (i : Image) → IsKept i is_plain_event (HasBlocks i.shape)
 unfolding HasBlocks
@@ -152,6 +169,7 @@ blocks_kept i = record {
   );
 }
 
-pub placed_are_blocks : (i : Image) (w : World) → IsSimpleMount i w → AllByRecursion (λ p. AllByRecursion (IsBlock i.shape) p.stripe.blocks) (placements (log_of w 0))
+pub placed_are_blocks : (i : Image) (w : World) → IsSimpleMount i w
+    → AllByRecursion (λ p. AllByRecursion (IsBlock i.shape) p.stripe.blocks) (placements (log_of w 0))
 unfolding HasBlocks
 placed_are_blocks i w simple = (kept i is_plain_event (HasBlocks i.shape) (blocks_kept i) w simple.mount.legal (engine_plain i w simple)).2

@@ -34,7 +34,8 @@ abbrev pub AreReadying : Image → List Chunk → List UnitEvent → Type 0
 AreReadying i chunks [] = ⊤
 AreReadying i chunks (e ∷ events) = IsReadying i chunks e × AreReadying i (after_event i.shape chunks e) events
 
-pub one_step : (i : Image) (w : World) (unit : ℕ) (chunks : List Chunk) (e : UnitEvent) (maker : Maker) → IsFaultlessMount i w → log_of w 0 ≡ [] → unit < units i.shape
+pub one_step : (i : Image) (w : World) (unit : ℕ) (chunks : List Chunk) (e : UnitEvent) (maker : Maker) → IsFaultlessMount i w → log_of w 0 ≡ []
+    → unit < units i.shape
     → slice_get (media i (log_of w)).units unit ≡ Some chunks → IsReadying i chunks e → IsFaultlessMount i (unit_step i.shape unit e maker w ∷ w)
 one_step i w unit chunks e maker faultless none range has is = go e.command e.outcome is.does
   where
@@ -47,7 +48,8 @@ one_step i w unit chunks e maker faultless none range has is = go e.command e.ou
         subst (λ (o : UnitOutcome). IsFaultlessMount i (unit_step i.shape unit (write_of e.chunk at blocks o) maker w ∷ w)) (sym does.2)
         (pad_done i w unit e.chunk at blocks is.found maker faultless none range there does.0 does.1)
     go (Read b) outcome does =
-        subst (λ (o : UnitOutcome). IsFaultlessMount i (unit_step i.shape unit (record { chunk = e.chunk; command = Read b; outcome = o }) maker w ∷ w)) (sym does.3)
+        subst (λ (o : UnitOutcome). IsFaultlessMount i (unit_step i.shape unit (record { chunk = e.chunk; command = Read b; outcome = o }) maker w ∷ w))
+        (sym does.3)
         (fetch_next i w unit e.chunk b is.found does.0 maker faultless range there does.1 does.2)
     go Reset outcome does = absurd does
 
@@ -56,9 +58,11 @@ pub record HasReadied (i : Image) (w : World) (unit : ℕ) (chunks : List Chunk)
   pub faultless : IsFaultlessMount i (after_events i.shape unit w events)
   pub none : log_of (after_events i.shape unit w events) 0 ≡ []
   pub own : slice_get (media i (log_of (after_events i.shape unit w events))).units unit ≡ Some (after_log i.shape chunks events)
-  pub elsewhere : (other : ℕ) → other ≢ unit → slice_get (media i (log_of (after_events i.shape unit w events))).units other ≡ slice_get (media i (log_of w)).units other
+  pub elsewhere : (other : ℕ) → other ≢ unit
+      → slice_get (media i (log_of (after_events i.shape unit w events))).units other ≡ slice_get (media i (log_of w)).units other
 
-pub all_steps : (i : Image) (w : World) (unit : ℕ) (chunks : List Chunk) (events : List UnitEvent) → IsFaultlessMount i w → log_of w 0 ≡ [] → unit < units i.shape
+pub all_steps : (i : Image) (w : World) (unit : ℕ) (chunks : List Chunk) (events : List UnitEvent) → IsFaultlessMount i w → log_of w 0 ≡ []
+    → unit < units i.shape
     → slice_get (media i (log_of w)).units unit ≡ Some chunks → AreReadying i chunks events → HasReadied i w unit chunks events
 all_steps i w unit chunks [] faultless none range has are = record { faultless = faultless; none = none; own = has; elsewhere = λ other apart. refl }
 all_steps i w unit chunks (e ∷ events) faultless none range has are =

@@ -73,17 +73,23 @@ block_of_winner i w b lba line at q r mount begins last wins slot =
     let its : r.lba ≡ Some lba = (winner_is_winner (found_image i (log_of w)) lba r wins).of_it in
     let some : 0 < (found_image i (log_of w)).shape.ws_opt = subst (λ (s : Shape). 0 < s.ws_opt) (sym shape) mount.accepted.drive.ws_opt in
     let whole = subst (λ (s : Shape). s.clba % s.ws_opt ≡ 0) (sym shape) mount.accepted.drive.whole_stripes in
-    let placed : IsPlaced (found_image i (log_of w)) r.line r.at is.block = block_placed (found_image i (log_of w)) r.line r.at is.block some whole is.within is.there in
+    let placed : IsPlaced (found_image i (log_of w)) r.line r.at is.block =
+    block_placed (found_image i (log_of w)) r.line r.at is.block some whole is.within is.there in
     let numbered : is_some (start_of (found_image i (log_of w)) r.line) ≡ true = ap (λ (o : Option StartRecord). is_some o) is.starts in
     let life : life_of (log_of w 0) r.line ≡ AsFound = winners_line i w lba r mount last wins in
     let kept : list_any (λ stray. stray == r.line) b.beginning.strays ≡ false = no_stray i w b r.line mount.legal begins numbered in
     let range : r.line < i.shape.chunks = subst (λ (s : Shape). r.line < s.chunks) shape is.in_range in
-    let drive : placed.unit < units i.shape = subst (λ n. placed.unit < n) (length_found i (log_of w) (begun (log_of w 0)) ∙ mount.fit.units) (unit_within (found_image i (log_of w)) r.line placed.unit placed.chunk placed.there) in
-    let stands : chunk_in (media i (log_of w)) r.line placed.unit ≡ Some placed.chunk = media_kept i w mount.legal b begins r.line life kept placed.unit ∙ placed.there in
+    let drive : placed.unit < units i.shape =
+    subst (λ n. placed.unit < n) (length_found i (log_of w) (begun (log_of w 0)) ∙ mount.fit.units)
+    (unit_within (found_image i (log_of w)) r.line placed.unit placed.chunk placed.there) in
+    let stands : chunk_in (media i (log_of w)) r.line placed.unit ≡ Some placed.chunk = media_kept i w mount.legal b begins r.line life kept placed.unit
+    ∙ placed.there in
     let us : units_in (live_now i (log_of w) r.line) ≡ line_units (found_image i (log_of w)) r.line = live_units i w r.line mount
     ∙ units_kept i w mount.legal b begins r.line life kept in
-    let count : length (line_units (found_image i (log_of w)) r.line) * (found_image i (log_of w)).shape.clba ≡ _ * (found_image i (log_of w)).shape.clba = ap (λ n. n * (found_image i (log_of w)).shape.clba) (line_units_count (found_image i (log_of w)) r.line) in
-    let inside : r.at < length (line_units (found_image i (log_of w)) r.line) * (found_image i (log_of w)).shape.clba = subst (λ n. r.at < n) (sym count) is.within in
+    let count : length (line_units (found_image i (log_of w)) r.line) * (found_image i (log_of w)).shape.clba ≡ _ * (found_image i (log_of w)).shape.clba =
+    ap (λ n. n * (found_image i (log_of w)).shape.clba) (line_units_count (found_image i (log_of w)) r.line) in
+    let inside : r.at < length (line_units (found_image i (log_of w)) r.line) * (found_image i (log_of w)).shape.clba =
+    subst (λ n. r.at < n) (sym count) is.within in
     let its_own : IsOfWinner i (log_of w) lba r.line r.at r.position is.block = record {
       winning = r;
       wins = wins;

@@ -36,11 +36,13 @@ HasReady i w n events = (chunks : List Chunk) × (slice_get (media i (log_of w))
 record HaveReadied (i : Image) (w : World) (unit : ℕ) (all : List (List UnitEvent)) : Type 0 where
   faultless : IsFaultlessMount i (after_units i.shape unit w all)
   none : log_of (after_units i.shape unit w all) 0 ≡ []
-  own : (n k : ℕ) (events : List UnitEvent) (chunks : List Chunk) → n ≡ unit + k → slice_get all k ≡ Some events → slice_get (media i (log_of w)).units n ≡ Some chunks
+  own : (n k : ℕ) (events : List UnitEvent) (chunks : List Chunk) → n ≡ unit + k → slice_get all k ≡ Some events
+      → slice_get (media i (log_of w)).units n ≡ Some chunks
       → slice_get (media i (log_of (after_units i.shape unit w all))).units n ≡ Some (after_log i.shape chunks events)
   below : (n : ℕ) → n < unit → slice_get (media i (log_of (after_units i.shape unit w all))).units n ≡ slice_get (media i (log_of w)).units n
 
-joined : (i : Image) (w : World) (unit : ℕ) (first : List UnitEvent) (all : List (List UnitEvent)) (its : HasReady i w unit first) (step : HasReadied i w unit its.0 first)
+joined : (i : Image) (w : World) (unit : ℕ) (first : List UnitEvent) (all : List (List UnitEvent)) (its : HasReady i w unit first)
+    (step : HasReadied i w unit its.0 first)
     → HaveReadied i (after_events i.shape unit w first) (suc unit) all → HaveReadied i w unit (first ∷ all)
 joined i w unit first all its step rest = record {
   faultless = rest.faultless;
@@ -49,19 +51,22 @@ joined i w unit first all its step rest = record {
   below = λ n low. rest.below n (omega arith) ∙ step.elsewhere n (λ same. omega arith);
 }
   where
-    own : (n k : ℕ) (events : List UnitEvent) (chunks : List Chunk) → n ≡ unit + k → slice_get (first ∷ all) k ≡ Some events → slice_get (media i (log_of w)).units n ≡ Some chunks
+    own : (n k : ℕ) (events : List UnitEvent) (chunks : List Chunk) → n ≡ unit + k → slice_get (first ∷ all) k ≡ Some events
+        → slice_get (media i (log_of w)).units n ≡ Some chunks
         → slice_get (media i (log_of (after_units i.shape unit w (first ∷ all)))).units n ≡ Some (after_log i.shape chunks events)
     own n zero events chunks at there has =
         let same : n ≡ unit = omega arith in
         let is : first ≡ events = same_Some first events there in
         let before : its.0 ≡ chunks = same_Some its.0 chunks (sym its.1 ∙ ap (slice_get (media i (log_of w)).units) (sym same) ∙ has) in
         ap (slice_get (media i (log_of (after_units i.shape unit w (first ∷ all)))).units) same
-        ∙ rest.below unit (omega arith) ∙ step.own ∙ ap (λ (cs : List Chunk). Some (after_log i.shape cs first)) before ∙ ap (λ (es : List UnitEvent). Some (after_log i.shape chunks es)) is
+        ∙ rest.below unit (omega arith) ∙ step.own ∙ ap (λ (cs : List Chunk). Some (after_log i.shape cs first)) before
+        ∙ ap (λ (es : List UnitEvent). Some (after_log i.shape chunks es)) is
     own n (suc k) events chunks at there has = rest.own n k events chunks (omega arith) there (step.elsewhere n (λ same. omega arith) ∙ has)
 
 all_units : (i : Image) (w : World) (unit : ℕ) (all : List (List UnitEvent)) → IsFaultlessMount i w → log_of w 0 ≡ [] → unit + length all ≤ units i.shape
     → ((n k : ℕ) (events : List UnitEvent) → n ≡ unit + k → slice_get all k ≡ Some events → HasReady i w n events) → HaveReadied i w unit all
-all_units i w unit [] faultless none few ready = record { faultless = faultless; none = none; own = λ n k events chunks at there has. absurd (none-some events there); below = λ n low. refl }
+all_units i w unit [] faultless none few ready =
+    record { faultless = faultless; none = none; own = λ n k events chunks at there has. absurd (none-some events there); below = λ n low. refl }
 all_units i w unit (first ∷ all) faultless none few ready =
     let its : HasReady i w unit first = ready unit 0 first (omega arith) refl in
     let step : HasReadied i w unit its.0 first = all_steps i w unit its.0 first faultless none (omega arith) its.1 its.2 in
@@ -78,7 +83,8 @@ still s n k [] = refl
 still s n zero (x ∷ xs) = refl
 still s n (suc k) (x ∷ xs) = still s (n + 1) k xs
 
-media_first : (s : Shape) (us : List ModelUnit) (k : ℕ) → slice_get (media (image_of s us) (log_of [])).units k ≡ option_map (λ (u : ModelUnit). u.media) (slice_get us k)
+media_first : (s : Shape) (us : List ModelUnit) (k : ℕ)
+    → slice_get (media (image_of s us) (log_of [])).units k ≡ option_map (λ (u : ModelUnit). u.media) (slice_get us k)
 media_first s us k = still s 0 k (map (λ (u : ModelUnit). u.media) us) ∙ slice_get-map (λ (u : ModelUnit). u.media) us k
 
 nothing_done : (s : Shape) (us : List ModelUnit) → IsAccepted s → AreFit s us → IsFaultlessMount (image_of s us) []
@@ -88,7 +94,8 @@ nothing_done s us accepted fit = record {
   answered = λ unit. tt;
 }
 
-long_media : (s : Shape) (logs : Logs) (n : ℕ) (xs : List (List Chunk)) → length (map (λ unit. after_log s unit.1 (unit_events logs unit.0)) (enumerate_from n xs)) ≡ length xs
+long_media : (s : Shape) (logs : Logs) (n : ℕ) (xs : List (List Chunk))
+    → length (map (λ unit. after_log s unit.1 (unit_events logs unit.0)) (enumerate_from n xs)) ≡ length xs
 long_media s logs n [] = refl
 long_media s logs n (x ∷ xs) = ap suc (long_media s logs (n + 1) xs)
 
@@ -100,10 +107,12 @@ few_events (u ∷ old) [] = omega arith
 few_events (u ∷ old) (v ∷ new) = let rest : length (new_events old new) ≤ length old = few_events old new in omega arith
 
 -- what a unit has done is what its log grew by
-events_at : (old new : List ModelUnit) (k : ℕ) (u v : ModelUnit) → slice_get old k ≡ Some u → slice_get new k ≡ Some v → slice_get (new_events old new) k ≡ Some (grown_by u v)
+events_at : (old new : List ModelUnit) (k : ℕ) (u v : ModelUnit) → slice_get old k ≡ Some u → slice_get new k ≡ Some v
+    → slice_get (new_events old new) k ≡ Some (grown_by u v)
 events_at [] new k u v a b = absurd (none-some u a)
 events_at (x ∷ old) [] k u v a b = absurd (none-some v b)
-events_at (x ∷ old) (y ∷ new) zero u v a b = ap (λ (z : ModelUnit). Some (grown_by z y)) (same_Some x u a) ∙ ap (λ (z : ModelUnit). Some (grown_by u z)) (same_Some y v b)
+events_at (x ∷ old) (y ∷ new) zero u v a b = ap (λ (z : ModelUnit). Some (grown_by z y)) (same_Some x u a)
+    ∙ ap (λ (z : ModelUnit). Some (grown_by u z)) (same_Some y v b)
 events_at (x ∷ old) (y ∷ new) (suc k) u v a b = events_at old new k u v a b
 
 units_at : (old new : List ModelUnit) (k : ℕ) (events : List UnitEvent) → slice_get (new_events old new) k ≡ Some events
@@ -158,20 +167,23 @@ module _ (s : Shape) (old new : List ModelUnit) (accepted : IsAccepted s) (fit :
   as_long = ap (λ (us : List ModelUnit). length us) (all_ready i old new accepted.drive.ws_opt calm were).1 ∙ as_many (were.pads ++ were.fetches) old
 
   pub media_are : media i (log_of (after_units s 0 [] (new_events old new))) ≡ image_of s new
-  media_are = same_images s (media i (log_of (after_units s 0 [] (new_events old new)))).units (map (λ (u : ModelUnit). u.media) new) (λ k. at k (slice_get_cases old k).1)
+  media_are = same_images s (media i (log_of (after_units s 0 [] (new_events old new)))).units (map (λ (u : ModelUnit). u.media) new)
+      (λ k. at k (slice_get_cases old k).1)
     where
       at : (k : ℕ) → ((u : ModelUnit) × (k < length old) × (slice_get old k ≡ Some u) × (get_or old k u ≡ u)) ⊎ ((length old ≤ k) × (slice_get old k ≡ None))
           → slice_get (media i (log_of (after_units s 0 [] (new_events old new)))).units k ≡ slice_get (map (λ (u : ModelUnit). u.media) new) k
       at k (inl is) =
           let u : ModelUnit = is.0 in
           let its : HasItsOwn i old (were.pads ++ were.fetches) k is.0 = own k is.0 is.2 in
-          done.own k k (grown_by is.0 its.now) is.0.media (omega arith) (events_at old new k is.0 its.now is.2 (now k is.0 is.2)) (media_first s old k ∙ ap (option_map (λ (u : ModelUnit). u.media)) is.2)
+          done.own k k (grown_by is.0 its.now) is.0.media (omega arith) (events_at old new k is.0 its.now is.2 (now k is.0 is.2))
+          (media_first s old k ∙ ap (option_map (λ (u : ModelUnit). u.media)) is.2)
           ∙ ap (λ (es : List UnitEvent). Some (after_log s is.0.media es)) (grew k is.0 is.2)
           ∙ ap (λ (cs : List Chunk). Some cs) (sym its.media)
           ∙ sym (slice_get-map (λ (u : ModelUnit). u.media) new k ∙ ap (option_map (λ (u : ModelUnit). u.media)) (now k is.0 is.2))
       at k (inr past) =
           let long : length (media i (log_of (after_units s 0 [] (new_events old new)))).units ≡ length old =
-          long_media s (log_of (after_units s 0 [] (new_events old new))) 0 (map (λ (u : ModelUnit). u.media) old) ∙ length-map old (λ (u : ModelUnit). u.media) in
+          long_media s (log_of (after_units s 0 [] (new_events old new))) 0 (map (λ (u : ModelUnit). u.media) old)
+          ∙ length-map old (λ (u : ModelUnit). u.media) in
           let many : length (map (λ (u : ModelUnit). u.media) new) ≡ length old = length-map new (λ (u : ModelUnit). u.media) ∙ as_long in
           get_past (media i (log_of (after_units s 0 [] (new_events old new)))).units k (omega arith)
           ∙ sym (get_past (map (λ (u : ModelUnit). u.media) new) k (omega arith))

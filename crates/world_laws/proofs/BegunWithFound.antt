@@ -19,10 +19,12 @@ named_image i logs b = media i (cut_logs b.knows logs)
 pub found_named : (i : Image) (w : World) (b : Begun) → begun (log_of w 0) ≡ Some b → found_image i (log_of w) ≡ named_image i (log_of w) b
 found_named i w b e = ap (found_by i (log_of w)) e
 
-same_beginning : (m n p q : ℕ) (xs ys : List ℕ) → m ≡ n → p ≡ q → xs ≡ ys → ◌≡◌ {A = Beginning} (record { first = m; seq = p; strays = xs }) (record { first = n; seq = q; strays = ys })
+same_beginning : (m n p q : ℕ) (xs ys : List ℕ) → m ≡ n → p ≡ q → xs ≡ ys
+    → ◌≡◌ {A = Beginning} (record { first = m; seq = p; strays = xs }) (record { first = n; seq = q; strays = ys })
 same_beginning m n p q xs ys a b c = λ k. record { first = a k; seq = b k; strays = c k }
 
-pub began_found : (i : Image) (w : World) (b : Begun) (f : Found) → IsLegal i w → begun (log_of w 0) ≡ Some b → IsFoundOf (found_image i (log_of w)) f → b.beginning ≡ beginning_of f
+pub began_found : (i : Image) (w : World) (b : Begun) (f : Found) → IsLegal i w → begun (log_of w 0) ≡ Some b → IsFoundOf (found_image i (log_of w)) f
+    → b.beginning ≡ beginning_of f
 began_found i w b f legal e is =
     same_beginning b.beginning.first f.end b.beginning.seq (beginning_of f).seq b.beginning.strays f.strays
     (found_first i w b legal e ∙ sym is.end_is)

@@ -51,24 +51,30 @@ IsLeft i cs log = PadsOnly i.shape cs (after_log i.shape cs (events_in log))
 
 -- ---- one more event
 
-command_early : (i : Image) (logs : Logs) (unit : ℕ) (c : Chunk) (chunk : ℕ) (command : ChunkCommand) → IsCommand i logs unit c chunk command None → IsEarlyCommand i.shape c command
+command_early : (i : Image) (logs : Logs) (unit : ℕ) (c : Chunk) (chunk : ℕ) (command : ChunkCommand) → IsCommand i logs unit c chunk command None
+    → IsEarlyCommand i.shape c command
 command_early i logs unit c chunk (Write at blocks) h = (h.is_open, h.pads)
 command_early i logs unit c chunk (Read b) h = tt
 command_early i logs unit c chunk Reset h = absurd h
 
 last_event : (log : List Logged) (l : Logged) (e : UnitEvent) → unit_event_of l.event ≡ Some e → events_in (log ++ l ∷ []) ≡ events_in log ++ e ∷ []
-last_event log l e is = filter_map-append (λ (m : Logged). unit_event_of m.event) log (l ∷ []) ∙ ap (λ (o : Option UnitEvent). events_in log ++ cons_option o []) is
+last_event log l e is = filter_map-append (λ (m : Logged). unit_event_of m.event) log (l ∷ [])
+    ∙ ap (λ (o : Option UnitEvent). events_in log ++ cons_option o []) is
 
 past_begun : (n : ℕ) (log : List Logged) → n ≡ 0 → begun (take n log) ≡ None
 past_begun n log e = ap (λ m. begun (take m log)) e
 
-done_more : (i : Image) (s : Step) (w : World) (unit : ℕ) (cs : List Chunk) (e : UnitEvent) → IsFit i → slice_get i.units unit ≡ Some cs → unit_event_of s.logged.event ≡ Some e → MayDo i (prefixes s.logged (log_of w)) unit e
-    → prefixes s.logged (log_of w) (suc unit) ≡ log_of w (suc unit) → knows_engine s.logged ≡ 0 → IsLeft i cs (log_of w (suc unit)) → IsLeft i cs (log_of w (suc unit) ++ s.logged ∷ [])
+done_more : (i : Image) (s : Step) (w : World) (unit : ℕ) (cs : List Chunk) (e : UnitEvent) → IsFit i → slice_get i.units unit ≡ Some cs
+    → unit_event_of s.logged.event ≡ Some e → MayDo i (prefixes s.logged (log_of w)) unit e
+    → prefixes s.logged (log_of w) (suc unit) ≡ log_of w (suc unit) → knows_engine s.logged ≡ 0 → IsLeft i cs (log_of w (suc unit))
+    → IsLeft i cs (log_of w (suc unit) ++ s.logged ∷ [])
 done_more i s w unit cs e fit there is may own past left =
     let logs : Logs = prefixes s.logged (log_of w) in
     let log : List Logged = log_of w (suc unit) in
     let ds : List Chunk = after_log i.shape cs (events_in log) in
-    let now : may.chunks ≡ ds = same_Some may.chunks ds (sym may.has_chunks ∙ media_at i logs unit ∙ ap (option_map (media_of i logs unit)) there ∙ ap (λ (l : List Logged). Some (after_log i.shape cs (events_in l))) own) in
+    let now : may.chunks ≡ ds = same_Some may.chunks ds
+    (sym may.has_chunks ∙ media_at i logs unit ∙ ap (option_map (media_of i logs unit)) there
+    ∙ ap (λ (l : List Logged). Some (after_log i.shape cs (events_in l))) own) in
     let found : slice_get ds e.chunk ≡ Some may.event.found = ap (λ (xs : List Chunk). slice_get xs e.chunk) (sym now) ∙ may.event.there in
     let early : IsEarlyCommand i.shape may.event.found e.command = command_early i logs unit may.event.found e.chunk e.command
     (subst (IsCommand i logs unit may.event.found e.chunk e.command) (past_begun (knows_engine s.logged) (log_of w 0) past) may.command) in
@@ -76,12 +82,15 @@ done_more i s w unit cs e fit there is may own past left =
     subst (PadsOnly i.shape cs) (sym (ap (after_log i.shape cs) (last_event log s.logged e is) ∙ log_leaves i.shape cs (events_in log) e))
     (pads_or_reads i.shape cs ds e may.event.found fits left found e.command refl early)
 
-event_more : (i : Image) (s : Step) (w : World) (unit : ℕ) (cs : List Chunk) (ev : Event) → IsFit i → slice_get i.units unit ≡ Some cs → s.logged.event ≡ ev → IsAllowed i (suc unit) ev (prefixes s.logged (log_of w))
-    → prefixes s.logged (log_of w) (suc unit) ≡ log_of w (suc unit) → knows_engine s.logged ≡ 0 → IsLeft i cs (log_of w (suc unit)) → IsLeft i cs (log_of w (suc unit) ++ s.logged ∷ [])
+event_more : (i : Image) (s : Step) (w : World) (unit : ℕ) (cs : List Chunk) (ev : Event) → IsFit i → slice_get i.units unit ≡ Some cs → s.logged.event ≡ ev
+    → IsAllowed i (suc unit) ev (prefixes s.logged (log_of w))
+    → prefixes s.logged (log_of w) (suc unit) ≡ log_of w (suc unit) → knows_engine s.logged ≡ 0 → IsLeft i cs (log_of w (suc unit))
+    → IsLeft i cs (log_of w (suc unit) ++ s.logged ∷ [])
 event_more i s w unit cs (Decides e) fit there is allowed own past left = absurd allowed
 event_more i s w unit cs (Does e maker) fit there is allowed own past left = done_more i s w unit cs e fit there (ap unit_event_of is) allowed own past left
 
-step_more : (i : Image) (s : Step) (w : World) (unit : ℕ) (cs : List Chunk) → IsFit i → IsLegalStep i (log_of w) s → s.author ≡ suc unit → slice_get i.units unit ≡ Some cs
+step_more : (i : Image) (s : Step) (w : World) (unit : ℕ) (cs : List Chunk) → IsFit i → IsLegalStep i (log_of w) s → s.author ≡ suc unit
+    → slice_get i.units unit ≡ Some cs
     → knows_engine s.logged ≡ 0 → IsLeft i cs (log_of w (suc unit)) → IsLeft i cs (log_of w (suc unit) ++ s.logged ∷ [])
 step_more i s w unit cs fit step author there past left =
     event_more i s w unit cs s.logged.event fit there refl (subst (λ a. IsAllowed i a s.logged.event (prefixes s.logged (log_of w))) author step.allowed)
@@ -93,7 +102,8 @@ step_more i s w unit cs fit step author there past left =
 abbrev AreLeft : Image → List Chunk → List Logged → Type 0
 AreLeft i cs log = (n : ℕ) → ArePast (take n log) → IsLeft i cs (take n log)
 
-left_more : (i : Image) (cs : List Chunk) (log : List Logged) (l : Logged) → AreLeft i cs log → (knows_engine l ≡ 0 → IsLeft i cs log → IsLeft i cs (log ++ l ∷ [])) → AreLeft i cs (log ++ l ∷ [])
+left_more : (i : Image) (cs : List Chunk) (log : List Logged) (l : Logged) → AreLeft i cs log
+    → (knows_engine l ≡ 0 → IsLeft i cs log → IsLeft i cs (log ++ l ∷ [])) → AreLeft i cs (log ++ l ∷ [])
 left_more i cs log l left more n past = elim (cases_lt (length log) n) [
   | inr within ↦
       let same : take n (log ++ l ∷ []) ≡ take n log = take-append-le n log (l ∷ []) within in
@@ -105,11 +115,13 @@ left_more i cs log l left more n past = elim (cases_lt (length log) n) [
       subst (IsLeft i cs) (sym whole) (more (last_of (λ m. knows_engine m ≡ 0) log l all) (subst (IsLeft i cs) (take-length log) (left (length log) before)))
 ]
 
-left_by : (i : Image) (s : Step) (w : World) (unit : ℕ) (cs : List Chunk) (b : Bool) → (s.author == suc unit) ≡ b → IsFit i → IsLegalStep i (log_of w) s → slice_get i.units unit ≡ Some cs → AreLeft i cs (log_of w (suc unit))
+left_by : (i : Image) (s : Step) (w : World) (unit : ℕ) (cs : List Chunk) (b : Bool) → (s.author == suc unit) ≡ b → IsFit i → IsLegalStep i (log_of w) s
+    → slice_get i.units unit ≡ Some cs → AreLeft i cs (log_of w (suc unit))
     → AreLeft i cs (if b then log_of w (suc unit) ++ s.logged ∷ [] else log_of w (suc unit))
 left_by i s w unit cs false is fit step there left = left
 left_by i s w unit cs true is fit step there left =
-    left_more i cs (log_of w (suc unit)) s.logged left (λ past before. step_more i s w unit cs fit step (let same : s.author ≡ suc unit = grind arith in same) there past before)
+    left_more i cs (log_of w (suc unit)) s.logged left
+    (λ past before. step_more i s w unit cs fit step (let same : s.author ≡ suc unit = grind arith in same) there past before)
 
 only_pads : (i : Image) (w : World) (unit : ℕ) (cs : List Chunk) → IsFit i → IsLegal i w → slice_get i.units unit ≡ Some cs → AreLeft i cs (log_of w (suc unit))
 unfolding IsLegal
@@ -124,7 +136,8 @@ early_padded i w logs fit legal prefix early = record {
   count = length_media i logs;
   chunks = λ line unit. by_unit line unit (slice_get i.units unit) refl;
 } where
-  at_line : (line unit : ℕ) (cs : List Chunk) → slice_get i.units unit ≡ Some cs → (slice_get (media_of i logs unit cs) line ≡ slice_get cs line) ⊎ IsPaddedIn i.shape cs (media_of i logs unit cs) line
+  at_line : (line unit : ℕ) (cs : List Chunk) → slice_get i.units unit ≡ Some cs
+      → (slice_get (media_of i logs unit cs) line ≡ slice_get cs line) ⊎ IsPaddedIn i.shape cs (media_of i logs unit cs) line
       → (chunk_in (media i logs) line unit ≡ chunk_in i line unit) ⊎ IsPaddedAt i (media i logs) line unit
   at_line line unit cs there left =
       let was : chunk_in i line unit ≡ slice_get cs line = ap (option_and_then (λ (chunks : List Chunk). slice_get chunks line)) there in
@@ -135,7 +148,8 @@ early_padded i w logs fit legal prefix early = record {
         | inr p ↦ inr (record { old = p.old; new = p.new; was = was ∙ p.was; is = is ∙ p.is; padded = p.padded })
       ]
 
-  by_unit : (line unit : ℕ) (o : Option (List Chunk)) → slice_get i.units unit ≡ o → (chunk_in (media i logs) line unit ≡ chunk_in i line unit) ⊎ IsPaddedAt i (media i logs) line unit
+  by_unit : (line unit : ℕ) (o : Option (List Chunk)) → slice_get i.units unit ≡ o
+      → (chunk_in (media i logs) line unit ≡ chunk_in i line unit) ⊎ IsPaddedAt i (media i logs) line unit
   by_unit line unit None none =
       inl (ap (option_and_then (λ (chunks : List Chunk). slice_get chunks line)) (media_at i logs unit ∙ ap (option_map (media_of i logs unit)) none)
       ∙ sym (ap (option_and_then (λ (chunks : List Chunk). slice_get chunks line)) none))

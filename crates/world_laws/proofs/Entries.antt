@@ -94,7 +94,8 @@ entries_of_stripe i w p accepted legal there =
 AreMarked : List Logged → Type 0
 AreMarked log = AllByRecursion (λ (t : Taken). t.mark.position ≡ t.entry.position) (takes log)
 
-pub marked : (i : Image) (logs : Logs) (entry : Entry) (mark : Mark) (source : Option Source) → IsMarked i logs entry mark source → mark.position ≡ entry.position
+pub marked : (i : Image) (logs : Logs) (entry : Entry) (mark : Mark) (source : Option Source) → IsMarked i logs entry mark source
+    → mark.position ≡ entry.position
 marked i logs entry mark None is = ap (λ (m : Mark). m.position) is
 marked i logs entry mark (Some source) (inl is) = ap (λ (m : Mark). m.position) is.names_sector
 marked i logs entry mark (Some source) (inr is) = ap (λ (m : Mark). m.position) is.names_none

@@ -39,24 +39,30 @@ one_more (m ∷ log) l e is = go (unit_event_of m.event) (one_more log l e is)
 pub AreUnitLogs : Image → World → Type 0
 AreUnitLogs i w = (unit : ℕ) (chunks : List Chunk) → slice_get i.units unit ≡ Some chunks → IsUnitLog i.shape chunks (events (log_of w (suc unit)))
 
-grown : (i : Image) (s : Step) (w : World) (unit : ℕ) (chunks : List Chunk) (e : Event) → s.logged.event ≡ e → known s.logged (suc unit) ≡ length (log_of w (suc unit)) → slice_get i.units unit ≡ Some chunks
-    → IsAllowed i (suc unit) e (prefixes s.logged (log_of w)) → IsUnitLog i.shape chunks (events (log_of w (suc unit))) → IsUnitLog i.shape chunks (events (log_of w (suc unit) ++ s.logged ∷ []))
+grown : (i : Image) (s : Step) (w : World) (unit : ℕ) (chunks : List Chunk) (e : Event) → s.logged.event ≡ e
+    → known s.logged (suc unit) ≡ length (log_of w (suc unit)) → slice_get i.units unit ≡ Some chunks
+    → IsAllowed i (suc unit) e (prefixes s.logged (log_of w)) → IsUnitLog i.shape chunks (events (log_of w (suc unit)))
+    → IsUnitLog i.shape chunks (events (log_of w (suc unit) ++ s.logged ∷ []))
 grown i s w unit chunks (Decides e) is own there may log = absurd may
 grown i s w unit chunks (Does e maker) is own there may log =
-    let whole : take (known s.logged (suc unit)) (log_of w (suc unit)) ≡ log_of w (suc unit) = ap (λ n. take n (log_of w (suc unit))) own ∙ take-length (log_of w (suc unit)) in
+    let whole : take (known s.logged (suc unit)) (log_of w (suc unit)) ≡ log_of w (suc unit) = ap (λ n. take n (log_of w (suc unit))) own
+    ∙ take-length (log_of w (suc unit)) in
     let now : Some (after_log i.shape chunks (events (log_of w (suc unit)))) ≡ Some may.chunks =
     ap (λ xs. Some (after_log i.shape chunks (events xs))) (sym whole)
-    ∙ sym (ap (option_map (λ cs. after_log i.shape cs (unit_events (prefixes s.logged (log_of w)) unit))) there) ∙ sym (media_at i (prefixes s.logged (log_of w)) unit) ∙ may.has_chunks in
+    ∙ sym (ap (option_map (λ cs. after_log i.shape cs (unit_events (prefixes s.logged (log_of w)) unit))) there)
+    ∙ sym (media_at i (prefixes s.logged (log_of w)) unit) ∙ may.has_chunks in
     let chunks_are : may.chunks ≡ after_log i.shape chunks (events (log_of w (suc unit))) = sym (same_Some _ may.chunks now) in
     let event : IsEvent i.shape (after_log i.shape chunks (events (log_of w (suc unit)))) e = subst (λ cs. IsEvent i.shape cs e) chunks_are may.event in
-    subst (IsUnitLog i.shape chunks) (sym (one_more (log_of w (suc unit)) s.logged e (ap unit_event_of is))) (log_grows i.shape chunks (events (log_of w (suc unit))) e log event)
+    subst (IsUnitLog i.shape chunks) (sym (one_more (log_of w (suc unit)) s.logged e (ap unit_event_of is)))
+    (log_grows i.shape chunks (events (log_of w (suc unit))) e log event)
 
 pub unit_logs : (i : Image) (w : World) → IsLegal i w → AreUnitLogs i w
 unfolding IsLegal AreUnitLogs IsUnitLog
 unit_logs i [] legal unit chunks there = tt
 unit_logs i (s ∷ w) legal unit chunks there = go (unit_logs i w legal.1 unit chunks there) (s.author == suc unit) refl
   where
-    go : IsUnitLog i.shape chunks (events (log_of w (suc unit))) → (b : Bool) → (s.author == suc unit) ≡ b → IsUnitLog i.shape chunks (events (if b then log_of w (suc unit) ++ s.logged ∷ [] else log_of w (suc unit)))
+    go : IsUnitLog i.shape chunks (events (log_of w (suc unit))) → (b : Bool) → (s.author == suc unit) ≡ b
+        → IsUnitLog i.shape chunks (events (if b then log_of w (suc unit) ++ s.logged ∷ [] else log_of w (suc unit)))
     go before false e = before
     go before true e =
         let same : s.author ≡ suc unit = eqb-true s.author (suc unit) e in
@@ -70,30 +76,37 @@ shorter s chunks zero log is = tt
 shorter s chunks (suc n) [] is = tt
 shorter s chunks (suc n) (l ∷ log) is = go (λ cs h. shorter s cs n log h) (unit_event_of l.event) is
   where
-    go : ((cs : List Chunk) → IsUnitLog s cs (events log) → IsUnitLog s cs (events (take n log))) → (o : Option UnitEvent) → IsUnitLog s chunks (cons_option o (events log)) → IsUnitLog s chunks (cons_option o (events (take n log)))
+    go : ((cs : List Chunk) → IsUnitLog s cs (events log) → IsUnitLog s cs (events (take n log))) → (o : Option UnitEvent)
+        → IsUnitLog s chunks (cons_option o (events log)) → IsUnitLog s chunks (cons_option o (events (take n log)))
     go rest None h = rest chunks h
     go rest (Some e) h = (h.0, rest (after_event s chunks e) h.1)
 
 -- ---- so the media are fit
 
-numbered_all : {X Y : Type 0} (P : X → Type 0) (Q : Y → Type 0) (f : ℕ × X → Y) (n : ℕ) (xs : List X) → ((k : ℕ) (x : X) → slice_get xs k ≡ Some x → P x → Q (f (n + k, x))) → AllByRecursion P xs
+numbered_all : {X Y : Type 0} (P : X → Type 0) (Q : Y → Type 0) (f : ℕ × X → Y) (n : ℕ) (xs : List X)
+    → ((k : ℕ) (x : X) → slice_get xs k ≡ Some x → P x → Q (f (n + k, x))) → AllByRecursion P xs
     → AllByRecursion Q (map f (enumerate_from n xs))
 numbered_all P Q f n [] each all = tt
 numbered_all P Q f n (x ∷ xs) each all =
     let first : n + 0 ≡ n = omega arith in (
       subst (λ m. Q (f (m, x))) first (each 0 x refl all.0),
-      numbered_all P Q f (n + 1) xs (λ k y there p. let step : n + suc k ≡ n + 1 + k = omega arith in subst (λ m. Q (f (m, y))) step (each (suc k) y there p)) all.1,
+      numbered_all P Q f (n + 1) xs (λ k y there p. let step : n + suc k ≡ n + 1 + k = omega arith in subst (λ m. Q (f (m, y))) step (each (suc k) y there p))
+          all.1,
     )
 
-fit_by_logs : (i : Image) (logs : Logs) → IsAccepted i.shape → IsFit i → ((unit : ℕ) (chunks : List Chunk) → slice_get i.units unit ≡ Some chunks → IsUnitLog i.shape chunks (events (logs (suc unit)))) → IsFit (media i logs)
+fit_by_logs : (i : Image) (logs : Logs) → IsAccepted i.shape → IsFit i
+    → ((unit : ℕ) (chunks : List Chunk) → slice_get i.units unit ≡ Some chunks → IsUnitLog i.shape chunks (events (logs (suc unit)))) → IsFit (media i logs)
 fit_by_logs i logs accepted fit log = record {
   units = numbered_length (λ (u : ℕ × List Chunk). after_log i.shape u.1 (unit_events logs u.0)) 0 i.units ∙ fit.units;
-  chunks = numbered_all (λ (u : List Chunk). length u ≡ i.shape.chunks) (λ (u : List Chunk). length u ≡ i.shape.chunks) (λ (u : ℕ × List Chunk). after_log i.shape u.1 (unit_events logs u.0)) 0 i.units
+  chunks = numbered_all (λ (u : List Chunk). length u ≡ i.shape.chunks) (λ (u : List Chunk). length u ≡ i.shape.chunks)
+      (λ (u : ℕ × List Chunk). after_log i.shape u.1 (unit_events logs u.0)) 0 i.units
       (λ k chunks there count. log_count i.shape chunks (unit_events logs (0 + k)) ∙ count) fit.chunks;
-  each = numbered_all (AllByRecursion (IsChunk i.shape)) (AllByRecursion (IsChunk i.shape)) (λ (u : ℕ × List Chunk). after_log i.shape u.1 (unit_events logs u.0)) 0 i.units
+  each = numbered_all (AllByRecursion (IsChunk i.shape)) (AllByRecursion (IsChunk i.shape))
+      (λ (u : ℕ × List Chunk). after_log i.shape u.1 (unit_events logs u.0)) 0 i.units
       (λ k chunks there all.
       let same : 0 + k ≡ k = omega arith in
-      subst (λ m. AllByRecursion (IsChunk i.shape) (after_log i.shape chunks (unit_events logs m))) (sym same) (log_keeps i.shape chunks (unit_events logs k) accepted.drive.ws_min all (log k chunks there))) fit.each;
+      subst (λ m. AllByRecursion (IsChunk i.shape) (after_log i.shape chunks (unit_events logs m))) (sym same)
+      (log_keeps i.shape chunks (unit_events logs k) accepted.drive.ws_min all (log k chunks there))) fit.each;
 }
 
 pub prefixes_fit : (i : Image) (w : World) (lengths : List ℕ) → IsAccepted i.shape → IsFit i → IsLegal i w → IsFit (media i (cut_logs lengths (log_of w)))

@@ -113,7 +113,8 @@ found_below : (front : ℕ) (p : Row → Bool) (rows : List Row) → AreBelow fr
 found_below front p [] all = omega arith
 found_below front p (row ∷ rows) all = go (p row) (found_below front p rows all.1)
   where
-    go : (b : Bool) → option_map_or (λ (r : Row). r.bound) (find p rows) 0 ≤ front → option_map_or (λ (r : Row). r.bound) (cond b (Some row) (find p rows)) 0 ≤ front
+    go : (b : Bool) → option_map_or (λ (r : Row). r.bound) (find p rows) 0 ≤ front
+        → option_map_or (λ (r : Row). r.bound) (cond b (Some row) (find p rows)) 0 ≤ front
     go true rest = all.0
     go false rest = rest
 
@@ -142,26 +143,31 @@ bound_within j (Some h) first line seq e is = go (nat_le h.first_seq seq)
 
 -- ---- records that count are below the end
 
-any_below : (front : ℕ) (r : Record) (rows : List Row) → AreBelow front rows → list_any (λ row. (row.line == r.line) && (row.seq == r.seq) && nat_lt r.position row.bound) rows ≡ true → r.position < front
+any_below : (front : ℕ) (r : Record) (rows : List Row) → AreBelow front rows
+    → list_any (λ row. (row.line == r.line) && (row.seq == r.seq) && nat_lt r.position row.bound) rows ≡ true → r.position < front
 any_below front r [] all e = absurd cc
-any_below front r (row ∷ rows) all e = elim (or_cases ((row.line == r.line) && (row.seq == r.seq) && nat_lt r.position row.bound) (list_any (λ row. (row.line == r.line) && (row.seq == r.seq) && nat_lt r.position row.bound) rows) e) [
-  | inl here ↦
-      let low : r.position < row.bound = ltb-true r.position row.bound (and_parts _ (ltb r.position row.bound) here).1 in
-      let bound : row.bound ≤ front = all.0 in
-      omega arith
-  | inr later ↦ any_below front r rows all.1 later
-]
+any_below front r (row ∷ rows) all e =
+    elim (or_cases ((row.line == r.line) && (row.seq == r.seq) && nat_lt r.position row.bound)
+    (list_any (λ row. (row.line == r.line) && (row.seq == r.seq) && nat_lt r.position row.bound) rows) e) [
+      | inl here ↦
+          let low : r.position < row.bound = ltb-true r.position row.bound (and_parts _ (ltb r.position row.bound) here).1 in
+          let bound : row.bound ≤ front = all.0 in
+          omega arith
+      | inr later ↦ any_below front r rows all.1 later
+    ]
 
 counts_below : (i : Image) (h : StartRecord) (r : Record) → head i ≡ Some h → counts h (end_after (records i) (Some h)) r ≡ true → r.position < end i
-counts_below i h r e c = elim (or_cases (nat_le h.first_seq r.seq && nat_lt r.position (end_after (records i) (Some h))) (list_any (λ row. (row.line == r.line) && (row.seq == r.seq) && nat_lt r.position row.bound) h.rows) c) [
-  | inl young ↦
-      let low : r.position < end_after (records i) (Some h) = ltb-true r.position (end_after (records i) (Some h)) (and_parts (leb h.first_seq r.seq) (ltb r.position (end_after (records i) (Some h))) young).1 in
-      subst (λ o. r.position < end_after (records i) o) (sym e) low
-  | inr old ↦
-      let low : r.position < h.front = any_below h.front r h.rows (rows_below i.shape h 0 h.rows (head_at i h e).numbers.rows) old in
-      let front : h.front ≤ end i = front_low i h e in
-      omega arith
-]
+counts_below i h r e c = elim (or_cases (nat_le h.first_seq r.seq && nat_lt r.position (end_after (records i) (Some h)))
+    (list_any (λ row. (row.line == r.line) && (row.seq == r.seq) && nat_lt r.position row.bound) h.rows) c) [
+      | inl young ↦
+          let low : r.position < end_after (records i) (Some h) =
+          ltb-true r.position (end_after (records i) (Some h)) (and_parts (leb h.first_seq r.seq) (ltb r.position (end_after (records i) (Some h))) young).1 in
+          subst (λ o. r.position < end_after (records i) o) (sym e) low
+      | inr old ↦
+          let low : r.position < h.front = any_below h.front r h.rows (rows_below i.shape h 0 h.rows (head_at i h e).numbers.rows) old in
+          let front : h.front ≤ end i = front_low i h e in
+          omega arith
+    ]
 
 none_counted : (i : Image) (r : Record) → head i ≡ None → Contains (counted i) r → ⊥
 none_counted i r e there = contains_none r (subst (λ o. Contains (counted_after (records i) o) r) e there)
@@ -194,26 +200,31 @@ kept_all P p (r ∷ rs) each = go (p r) (kept_all P p rs (λ x there. each x (co
     go false rest = rest
 
 pub top_low : (i : Image) (line : ℕ) → top_of (counted i) line ≤ end i
-top_low i line = top_from (end i) 0 (filter (λ (r : Record). r.line == line) (counted i)) (omega arith) (kept_all (λ r. r.position < end i) (λ r. r.line == line) (counted i) (λ r there. counted_below i r there))
+top_low i line = top_from (end i) 0 (filter (λ (r : Record). r.line == line) (counted i)) (omega arith)
+    (kept_all (λ r. r.position < end i) (λ r. r.line == line) (counted i) (λ r there. counted_below i r there))
 
 -- a record of the line is below its top
 top_rises : (top : ℕ) (rs : List Record) → top ≤ fold (λ top r. max top (r.position + 1)) top rs
 top_rises top [] = omega arith
 top_rises top (r ∷ rs) = let rest = top_rises (max top (r.position + 1)) rs in omega arith
 
-one_more : (line top : ℕ) (x : Record) (rs : List Record) (r : Record) (b : Bool) → ((above : ℕ) → r.position < fold (λ top (y : Record). max top (y.position + 1)) above (filter (λ (y : Record). y.line == line) rs))
-    → r.position < fold (λ top (y : Record). max top (y.position + 1)) top (cond b (x ∷ filter (λ (y : Record). y.line == line) rs) (filter (λ (y : Record). y.line == line) rs))
+one_more : (line top : ℕ) (x : Record) (rs : List Record) (r : Record) (b : Bool)
+    → ((above : ℕ) → r.position < fold (λ top (y : Record). max top (y.position + 1)) above (filter (λ (y : Record). y.line == line) rs))
+    → r.position < fold (λ top (y : Record). max top (y.position + 1)) top
+    (cond b (x ∷ filter (λ (y : Record). y.line == line) rs) (filter (λ (y : Record). y.line == line) rs))
 one_more line top x rs r true rest = rest (max top (x.position + 1))
 one_more line top x rs r false rest = rest top
 
-below_from : (line top : ℕ) (rs : List Record) (r : Record) → Contains rs r → r.line ≡ line → r.position < fold (λ top r. max top (r.position + 1)) top (filter (λ r. r.line == line) rs)
+below_from : (line top : ℕ) (rs : List Record) (r : Record) → Contains rs r → r.line ≡ line
+    → r.position < fold (λ top r. max top (r.position + 1)) top (filter (λ r. r.line == line) rs)
 below_from line top [] r there e = absurd (contains_none r there)
 below_from line top (x ∷ rs) r there e = elim (contains_cases x r rs there) [
   | inl same ↦
       let hit : (x.line == line) ≡ true = eq-eqb x.line line (ap (λ (y : Record). y.line) same ∙ e) in
       let at : x.position ≡ r.position = ap (λ (y : Record). y.position) same in
       let rest = top_rises (max top (x.position + 1)) (filter (λ (y : Record). y.line == line) rs) in
-      subst (λ b. r.position < fold (λ top (y : Record). max top (y.position + 1)) top (cond b (x ∷ filter (λ (y : Record). y.line == line) rs) (filter (λ (y : Record). y.line == line) rs))) (sym hit) (omega arith)
+      subst (λ b. r.position < fold (λ top (y : Record). max top (y.position + 1)) top
+      (cond b (x ∷ filter (λ (y : Record). y.line == line) rs) (filter (λ (y : Record). y.line == line) rs))) (sym hit) (omega arith)
   | inr later ↦ one_more line top x rs r (x.line == line) (λ above. below_from line above rs r later e)
 ]
 
@@ -225,7 +236,8 @@ none_of : (line : ℕ) (rs : List Record) → ((r : Record) → Contains rs r �
 none_of line [] none = refl
 none_of line (x ∷ rs) none = go (x.line == line) refl (none_of line rs (λ r there e. none r (suc there.0, omega (arith, there.1), there.2) e))
   where
-    go : (b : Bool) → (x.line == line) ≡ b → filter (λ (r : Record). r.line == line) rs ≡ [] → cond b (x ∷ filter (λ (r : Record). r.line == line) rs) (filter (λ (r : Record). r.line == line) rs) ≡ []
+    go : (b : Bool) → (x.line == line) ≡ b → filter (λ (r : Record). r.line == line) rs ≡ []
+        → cond b (x ∷ filter (λ (r : Record). r.line == line) rs) (filter (λ (r : Record). r.line == line) rs) ≡ []
     go true e rest = absurd (none x (0, omega arith, refl) (eqb-true x.line line e))
     go false e rest = rest
 

@@ -67,7 +67,8 @@ record IsUnitStep (s : Step) : Type 0 where
 
 view : (i : Image) (s : Step) (w : World) → IsLegalStep i (log_of w) s → IsEngineStep i s w ⊎ IsUnitStep s
 view i s w step = by s.author s.logged.event refl refl step.allowed (whole_own i s w step) where
-  by : (author : ℕ) (e : Event) → s.author ≡ author → s.logged.event ≡ e → IsAllowed i author e (prefixes s.logged (log_of w)) → prefixes s.logged (log_of w) author ≡ log_of w author → IsEngineStep i s w ⊎ IsUnitStep s
+  by : (author : ℕ) (e : Event) → s.author ≡ author → s.logged.event ≡ e → IsAllowed i author e (prefixes s.logged (log_of w))
+      → prefixes s.logged (log_of w) author ≡ log_of w author → IsEngineStep i s w ⊎ IsUnitStep s
   by zero (Decides e) a is may own = inl (record { author = a; event = e; is_event = is; may = may; own = own })
   by zero (Does e maker) a is may own = absurd may
   by (suc unit) e a is may own = inr (record { unit = unit; author = a })
@@ -90,7 +91,8 @@ record IsOrderly (w : World) : Type 0 where
   begins : begun (log_of w 0) ≡ None → log_of w 0 ≡ []
   within : (unit : ℕ) → AllByRecursion (λ l. knows_engine l ≤ length (log_of w 0)) (log_of w (suc unit))
 
-within_more : (s : Step) (w : World) (unit m n : ℕ) → m ≤ n → AllByRecursion (λ l. knows_engine l ≤ m) (log_of w (suc unit)) → knows_engine s.logged ≤ n → AllByRecursion (λ l. knows_engine l ≤ n) (log_of (s ∷ w) (suc unit))
+within_more : (s : Step) (w : World) (unit m n : ℕ) → m ≤ n → AllByRecursion (λ l. knows_engine l ≤ m) (log_of w (suc unit)) → knows_engine s.logged ≤ n
+    → AllByRecursion (λ l. knows_engine l ≤ n) (log_of (s ∷ w) (suc unit))
 within_more s w unit m n more h last = elim (grows s w (suc unit)) [
   | inl same ↦ subst (AllByRecursion (λ l. knows_engine l ≤ n)) (sym same) old
   | inr longer ↦ subst (AllByRecursion (λ l. knows_engine l ≤ n)) (sym longer) (with_last (λ l. knows_engine l ≤ n) (log_of w (suc unit)) s.logged old last)
@@ -108,21 +110,25 @@ orderly_more i s w step q = elim (view i s w step) [
       let few : length (log_of w 0) ≤ length (log_of (s ∷ w) 0) = (let n = ap length same in omega arith) in
       record {
         begins = λ e. same ∙ q.begins (sym (ap begun same) ∙ e);
-        within = λ unit. within_more s w unit (length (log_of w 0)) (length (log_of (s ∷ w) 0)) few (q.within unit) (let low = step.knowledge.within 0 in omega arith);
+        within = λ unit. within_more s w unit (length (log_of w 0)) (length (log_of (s ∷ w) 0)) few (q.within unit)
+            (let low = step.knowledge.within 0 in omega arith);
       }
   | inl e ↦
       let here : log_of (s ∷ w) 0 ≡ log_of w 0 ++ s.logged ∷ [] = log_here s w 0 e.author in
-      let few : length (log_of w 0) ≤ length (log_of (s ∷ w) 0) = (let n = ap length here in let m = length-append (log_of w 0) (s.logged ∷ []) in omega arith) in
+      let few : length (log_of w 0) ≤ length (log_of (s ∷ w) 0) =
+      (let n = ap length here in let m = length-append (log_of w 0) (s.logged ∷ []) in omega arith) in
       record {
         begins = λ none. absurd (begins e here (sym (ap begun here) ∙ none));
-        within = λ unit. within_more s w unit (length (log_of w 0)) (length (log_of (s ∷ w) 0)) few (q.within unit) (let low = step.knowledge.within 0 in omega arith);
+        within = λ unit. within_more s w unit (length (log_of w 0)) (length (log_of (s ∷ w) 0)) few (q.within unit)
+            (let low = step.knowledge.within 0 in omega arith);
       }
 ] where
   begins : (e : IsEngineStep i s w) → log_of (s ∷ w) 0 ≡ log_of w 0 ++ s.logged ∷ [] → begun (log_of w 0 ++ s.logged ∷ []) ≡ None → ⊥
   begins e here none = elim (decided i (prefixes s.logged (log_of w)) e.event e.may) [
     | inl f ↦
         let empty : log_of w 0 ≡ [] = sym e.own ∙ f.2.is_first in
-        none-some (record { beginning = f.0; knows = s.logged.knows }) (sym none ∙ ap (λ (log : List Logged). begun (log ++ s.logged ∷ [])) empty ∙ first_begins s.logged f.0 (e.is_event ∙ ap Decides f.1))
+        none-some (record { beginning = f.0; knows = s.logged.knows })
+        (sym none ∙ ap (λ (log : List Logged). begun (log ++ s.logged ∷ [])) empty ∙ first_begins s.logged f.0 (e.is_event ∙ ap Decides f.1))
     | inr l ↦ none-some l.0 (sym none ∙ begun_stays (log_of w 0) s.logged l.0 (ap begun (sym e.own) ∙ l.1))
   ]
 
@@ -144,7 +150,8 @@ pub record HasBegun (i : Image) (w : World) (b : Begun) : Type 0 where
   pub early : AreEarly (cut_logs b.knows (log_of w))
   pub may : MayBegin i (cut_logs b.knows (log_of w)) b.beginning
 
-cut_same : (s : Step) (w : World) (lengths : List ℕ) → ((author : ℕ) → slice_index lengths author ≤ length (log_of w author)) → cut_logs lengths (log_of (s ∷ w)) ≡ cut_logs lengths (log_of w)
+cut_same : (s : Step) (w : World) (lengths : List ℕ) → ((author : ℕ) → slice_index lengths author ≤ length (log_of w author))
+    → cut_logs lengths (log_of (s ∷ w)) ≡ cut_logs lengths (log_of w)
 cut_same s w lengths within = fun_ext (λ author. elim (grows s w author) [
   | inl same ↦ ap (take (slice_index lengths author)) same
   | inr longer ↦ ap (take (slice_index lengths author)) longer ∙ take-append-le (slice_index lengths author) (log_of w author) (s.logged ∷ []) (within author)
@@ -160,7 +167,8 @@ has_begun_more i s w b h = record {
   may = subst (λ logs. MayBegin i logs b.beginning) (sym (cut_same s w b.knows h.within)) h.may;
 }
 
-has_begun_by : (i : Image) (s : Step) (w : World) → IsLegalStep i (log_of w) s → IsLegal i w → ((b : Begun) → begun (log_of w 0) ≡ Some b → HasBegun i w b) → (b : Begun) → begun (log_of (s ∷ w) 0) ≡ Some b → HasBegun i w b
+has_begun_by : (i : Image) (s : Step) (w : World) → IsLegalStep i (log_of w) s → IsLegal i w → ((b : Begun) → begun (log_of w 0) ≡ Some b → HasBegun i w b)
+    → (b : Begun) → begun (log_of (s ∷ w) 0) ≡ Some b → HasBegun i w b
 has_begun_by i s w step legal before_it b is = elim (view i s w step) [
   | inr u ↦ before_it b (sym (ap begun (log_elsewhere s w 0 (not_zero s u.unit u.author))) ∙ is)
   | inl e ↦ engine e (decided i (prefixes s.logged (log_of w)) e.event e.may)
@@ -173,10 +181,12 @@ has_begun_by i s w step legal before_it b is = elim (view i s w step) [
   engine e (inl f) =
       let empty : log_of w 0 ≡ [] = sym e.own ∙ f.2.is_first in
       let now : begun (log_of (s ∷ w) 0) ≡ Some (record { beginning = f.0; knows = s.logged.knows }) =
-      ap begun (log_here s w 0 e.author) ∙ ap (λ (log : List Logged). begun (log ++ s.logged ∷ [])) empty ∙ first_begins s.logged f.0 (e.is_event ∙ ap Decides f.1) in
+      ap begun (log_here s w 0 e.author) ∙ ap (λ (log : List Logged). begun (log ++ s.logged ∷ [])) empty
+      ∙ first_begins s.logged f.0 (e.is_event ∙ ap Decides f.1) in
       subst (HasBegun i w) (same_Some (record { beginning = f.0; knows = s.logged.knows }) b (sym now ∙ is)) (record {
         within = step.knowledge.within;
-        early = λ unit. all_taken (λ l. knows_engine l ≡ 0) (slice_index s.logged.knows (suc unit)) (log_of w (suc unit)) (early_before i w legal (ap begun empty) unit);
+        early = λ unit. all_taken (λ l. knows_engine l ≡ 0) (slice_index s.logged.knows (suc unit)) (log_of w (suc unit))
+            (early_before i w legal (ap begun empty) unit);
         may = f.2;
       })
 
@@ -187,13 +197,16 @@ has_begun i (s ∷ w) legal b is = has_begun_more i s w b (has_begun_by i s w le
 
 -- ---- an image before the units know of the beginning
 
-pub early_lines : (i : Image) (w : World) (logs : Logs) → IsAccepted i.shape → IsFit i → IsLegal i w → ArePrefixes w logs → AreEarly logs → HasSameLines i (media i logs)
+pub early_lines : (i : Image) (w : World) (logs : Logs) → IsAccepted i.shape → IsFit i → IsLegal i w → ArePrefixes w logs → AreEarly logs
+    → HasSameLines i (media i logs)
 early_lines i w logs accepted fit legal prefix early = padded_lines i (media i logs) accepted (early_padded i w logs fit legal prefix early)
 
-pub early_sealed : (i : Image) (w : World) (logs : Logs) → IsAccepted i.shape → IsFit i → IsSealed i → IsLegal i w → ArePrefixes w logs → AreEarly logs → IsSealed (media i logs)
+pub early_sealed : (i : Image) (w : World) (logs : Logs) → IsAccepted i.shape → IsFit i → IsSealed i → IsLegal i w → ArePrefixes w logs → AreEarly logs
+    → IsSealed (media i logs)
 early_sealed i w logs accepted fit whole legal prefix early = padded_sealed i (media i logs) accepted whole (early_padded i w logs fit legal prefix early)
 
-pub early_holds : (i : Image) (w : World) (logs : Logs) → IsAccepted i.shape → IsFit i → IsSealed i → IsLegal i w → ArePrefixes w logs → AreEarly logs → HoldsTheSame i (media i logs)
+pub early_holds : (i : Image) (w : World) (logs : Logs) → IsAccepted i.shape → IsFit i → IsSealed i → IsLegal i w → ArePrefixes w logs → AreEarly logs
+    → HoldsTheSame i (media i logs)
 early_holds i w logs accepted fit whole legal prefix early = padded_holds i (media i logs) accepted whole (early_padded i w logs fit legal prefix early)
 
 -- ---- the image that was found
@@ -215,16 +228,20 @@ found_padded i w logs fit legal prefix = by (begun (logs 0)) refl where
       let n = prefix 0 in
       let h : HasBegun i w b = has_begun i w legal b (begun_of_first n.0 (log_of w 0) b (sym (ap begun n.1) ∙ e)) in
       subst (ArePadded i) (sym (found_is i logs b e)) (early_padded i w (cut_logs b.knows logs) fit legal
-      (λ author. let m = prefix author in let both = take_twice (slice_index b.knows author) m.0 (log_of w author) in (both.0, ap (take (slice_index b.knows author)) m.1 ∙ both.1))
-      (λ unit. let m = prefix (suc unit) in subst (AllByRecursion (λ l. knows_engine l ≡ 0)) (sym (ap (take (slice_index b.knows (suc unit))) m.1)) (all_twice (λ l. knows_engine l ≡ 0) (slice_index b.knows (suc unit)) m.0 (log_of w (suc unit)) (h.early unit))))
+      (λ author. let m = prefix author in let both =
+      take_twice (slice_index b.knows author) m.0 (log_of w author) in (both.0, ap (take (slice_index b.knows author)) m.1 ∙ both.1))
+      (λ unit. let m = prefix (suc unit) in subst (AllByRecursion (λ l. knows_engine l ≡ 0)) (sym (ap (take (slice_index b.knows (suc unit))) m.1))
+      (all_twice (λ l. knows_engine l ≡ 0) (slice_index b.knows (suc unit)) m.0 (log_of w (suc unit)) (h.early unit))))
 
 pub found_lines : (i : Image) (w : World) (logs : Logs) → IsAccepted i.shape → IsFit i → IsLegal i w → ArePrefixes w logs → HasSameLines i (found_image i logs)
 found_lines i w logs accepted fit legal prefix = padded_lines i (found_image i logs) accepted (found_padded i w logs fit legal prefix)
 
-pub found_sealed : (i : Image) (w : World) (logs : Logs) → IsAccepted i.shape → IsFit i → IsSealed i → IsLegal i w → ArePrefixes w logs → IsSealed (found_image i logs)
+pub found_sealed : (i : Image) (w : World) (logs : Logs) → IsAccepted i.shape → IsFit i → IsSealed i → IsLegal i w → ArePrefixes w logs
+    → IsSealed (found_image i logs)
 found_sealed i w logs accepted fit whole legal prefix = padded_sealed i (found_image i logs) accepted whole (found_padded i w logs fit legal prefix)
 
-pub found_holds : (i : Image) (w : World) (logs : Logs) → IsAccepted i.shape → IsFit i → IsSealed i → IsLegal i w → ArePrefixes w logs → HoldsTheSame i (found_image i logs)
+pub found_holds : (i : Image) (w : World) (logs : Logs) → IsAccepted i.shape → IsFit i → IsSealed i → IsLegal i w → ArePrefixes w logs
+    → HoldsTheSame i (found_image i logs)
 found_holds i w logs accepted fit whole legal prefix = padded_holds i (found_image i logs) accepted whole (found_padded i w logs fit legal prefix)
 
 -- ---- with what it began
@@ -232,8 +249,10 @@ found_holds i w logs accepted fit whole legal prefix = padded_holds i (found_ima
 pub found_begins : (i : Image) (w : World) (b : Begun) → IsLegal i w → begun (log_of w 0) ≡ Some b → MayBegin i (cut_logs b.knows (log_of w)) b.beginning
 found_begins i w b legal is = (has_begun i w legal b is).may
 
-pub found_closed : (i : Image) (w : World) (b : Begun) → IsLegal i w → begun (log_of w 0) ≡ Some b → AllByRecursion (AllByRecursion (λ c. c.state ≢ Open)) (found_image i (log_of w)).units
-found_closed i w b legal is = subst (λ (j : Image). AllByRecursion (AllByRecursion (λ c. c.state ≢ Open)) j.units) (sym (found_is i (log_of w) b is)) (found_begins i w b legal is).no_open_chunk
+pub found_closed : (i : Image) (w : World) (b : Begun) → IsLegal i w → begun (log_of w 0) ≡ Some b
+    → AllByRecursion (AllByRecursion (λ c. c.state ≢ Open)) (found_image i (log_of w)).units
+found_closed i w b legal is = subst (λ (j : Image). AllByRecursion (AllByRecursion (λ c. c.state ≢ Open)) j.units) (sym (found_is i (log_of w) b is))
+    (found_begins i w b legal is).no_open_chunk
 
 pub found_first : (i : Image) (w : World) (b : Begun) → IsLegal i w → begun (log_of w 0) ≡ Some b → b.beginning.first ≡ end (found_image i (log_of w))
 found_first i w b legal is = (found_begins i w b legal is).first ∙ ap end (sym (found_is i (log_of w) b is))

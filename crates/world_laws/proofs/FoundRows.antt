@@ -27,7 +27,8 @@ rows_count i f is = ap (λ ls. length ls) is.lines_are ∙ length-map-range_with
 pub row_at : (i : Image) (f : Found) (line : ℕ) → IsFoundOf i f → line < i.shape.chunks → slice_get f.lines line ≡ Some (line_row i line)
 row_at i f line is inside = ap (λ ls. slice_get ls line) is.lines_are ∙ mapped_at (line_row i) i.shape.chunks line inside
 
-pub row_is : (i : Image) (f : Found) (line : ℕ) (row : LineRow) → IsFoundOf i f → slice_get f.lines line ≡ Some row → (line < i.shape.chunks) × (line_row i line ≡ row)
+pub row_is : (i : Image) (f : Found) (line : ℕ) (row : LineRow) → IsFoundOf i f → slice_get f.lines line ≡ Some row
+    → (line < i.shape.chunks) × (line_row i line ≡ row)
 row_is i f line row is there = mapped_get (line_row i) i.shape.chunks line row (ap (λ ls. slice_get ls line) (sym is.lines_are) ∙ there)
 
 -- ---- a row fits
@@ -45,12 +46,14 @@ unstarted i line none = no_top (counted i) line (λ r there same.
     let of : IsOfBlock i r = counted_of i r there in
     none-some of.start (sym none ∙ ap (start_of i) (sym same) ∙ of.is_start))
 
-pub start_used : (i : Image) (f : Found) (line : ℕ) (start : StartRecord) → IsAccepted i.shape → IsFit i → IsFoundOf i f → line < i.shape.chunks → start_of i line ≡ Some start → HasUsed i.shape f line
+pub start_used : (i : Image) (f : Found) (line : ℕ) (start : StartRecord) → IsAccepted i.shape → IsFit i → IsFoundOf i f → line < i.shape.chunks
+    → start_of i line ≡ Some start → HasUsed i.shape f line
 start_used i f line start accepted fit is inside e =
     let in_closed : IsInClosed i line 0 = start_in_closed i line start accepted fit e in
     chunk_used i f line in_closed.unit in_closed.chunk fit is inside in_closed.is_chunk in_closed.used
 
-row_fits_by : (i : Image) (f : Found) (line : ℕ) (o : Option StartRecord) → IsAccepted i.shape → IsFit i → IsFoundOf i f → line < i.shape.chunks → start_of i line ≡ o
+row_fits_by : (i : Image) (f : Found) (line : ℕ) (o : Option StartRecord) → IsAccepted i.shape → IsFit i → IsFoundOf i f → line < i.shape.chunks
+    → start_of i line ≡ o
     → RowFits i.shape f line (line_row i line) (option_map (λ r. r.seq) o)
 row_fits_by i f line None accepted fit is inside e =
     (ap (λ s. bound_with (head i) line (option_map (λ (r : StartRecord). r.seq) s)) e ∙ no_bound (head i) line, unstarted i line e)
@@ -67,7 +70,8 @@ row_fits_by i f line (Some start) accepted fit is inside e =
       subst (λ n. top_of (counted i) line ≤ n) (sym is.end_is) (top_low i line),
     )
 
-pub row_fits : (i : Image) (f : Found) (line : ℕ) (row : LineRow) → IsAccepted i.shape → IsFit i → IsFoundOf i f → slice_get f.lines line ≡ Some row → RowFits i.shape f line row row.seq
+pub row_fits : (i : Image) (f : Found) (line : ℕ) (row : LineRow) → IsAccepted i.shape → IsFit i → IsFoundOf i f → slice_get f.lines line ≡ Some row
+    → RowFits i.shape f line row row.seq
 row_fits i f line row accepted fit is there =
     let of = row_is i f line row is there in
     subst (λ (r : LineRow). RowFits i.shape f line r r.seq) of.1 (row_fits_by i f line (start_of i line) accepted fit is of.0 refl)
@@ -114,7 +118,8 @@ some_from (Some r) e = absurd cc
 pub strays_rise : (i : Image) (f : Found) → IsFoundOf i f → Rise f.strays
 strays_rise i f is = subst Rise (sym is.strays_are) (passed_rise (is_stray i) 0 i.shape.chunks)
 
-pub stray_is : (i : Image) (f : Found) (line : ℕ) → IsFit i → IsFoundOf i f → Contains f.strays line → (row : LineRow) × (slice_get f.lines line ≡ Some row) × (row.seq ≡ None) × HasUsed i.shape f line
+pub stray_is : (i : Image) (f : Found) (line : ℕ) → IsFit i → IsFoundOf i f → Contains f.strays line
+    → (row : LineRow) × (slice_get f.lines line ≡ Some row) × (row.seq ≡ None) × HasUsed i.shape f line
 stray_is i f line fit is there =
     let of = passed (is_stray i) 0 i.shape.chunks line (subst (λ xs. Contains xs line) is.strays_are there) in
     let inside : line < i.shape.chunks = omega (arith, of.1) in
@@ -125,10 +130,13 @@ stray_is i f line fit is there =
       not_empty_used i f line fit is inside (not-true (are_empty i line) both.1),
     )
 
-pub is_stray_line : (i : Image) (f : Found) (line : ℕ) (row : LineRow) → IsFit i → IsFoundOf i f → slice_get f.lines line ≡ Some row → row.seq ≡ None → HasUsed i.shape f line → Contains f.strays line
+pub is_stray_line : (i : Image) (f : Found) (line : ℕ) (row : LineRow) → IsFit i → IsFoundOf i f → slice_get f.lines line ≡ Some row → row.seq ≡ None
+    → HasUsed i.shape f line → Contains f.strays line
 is_stray_line i f line row fit is there none used =
     let of = row_is i f line row is there in
     let unstarted : is_some (start_of i line) ≡ false = some_from (start_of i line) (ap (λ (r : LineRow). r.seq) of.1 ∙ none) in
     let full : are_empty i line ≡ false = used_not_empty i f line fit is of.0 used in
     subst (λ xs. Contains xs line) (sym is.strays_are)
-    (passes (is_stray i) 0 i.shape.chunks line (omega arith) (omega (arith, of.0)) (and_from (not (is_some (start_of i line))) (not (are_empty i line)) (not_from_false (is_some (start_of i line)) unstarted) (not_from_false (are_empty i line) full)))
+    (passes (is_stray i) 0 i.shape.chunks line (omega arith) (omega (arith, of.0))
+    (and_from (not (is_some (start_of i line))) (not (are_empty i line)) (not_from_false (is_some (start_of i line)) unstarted)
+    (not_from_false (are_empty i line) full)))

@@ -28,11 +28,13 @@ unit_count : (n : ℕ) (us : List (List Chunk)) → AllByRecursion (λ u. length
 unit_count n [] all = tt
 unit_count n (u ∷ us) all = (length-map u state_of ∙ all.0, unit_count n us all.1)
 
-in_unit : (line : ℕ) (o : Option (List Chunk)) → option_and_then (λ u. slice_get (map state_of u) line) o ≡ option_map state_of (option_and_then (λ u. slice_get u line) o)
+in_unit : (line : ℕ) (o : Option (List Chunk))
+    → option_and_then (λ u. slice_get (map state_of u) line) o ≡ option_map state_of (option_and_then (λ u. slice_get u line) o)
 in_unit line None = refl
 in_unit line (Some u) = slice_get-map state_of u line
 
-pub state_is : (i : Image) (f : Found) (line unit : ℕ) → IsFit i → IsFoundOf i f → line < i.shape.chunks → state_at i.shape f line unit ≡ option_map state_of (chunk_in i line unit)
+pub state_is : (i : Image) (f : Found) (line unit : ℕ) → IsFit i → IsFoundOf i f → line < i.shape.chunks
+    → state_at i.shape f line unit ≡ option_map state_of (chunk_in i line unit)
 state_is i f line unit fit is inside =
     ap (λ cs. slice_get cs (unit * i.shape.chunks + line)) is.chunks_are
     ∙ joined_at (map state_of) i.shape.chunks i.units unit line (unit_count i.shape.chunks i.units fit.chunks) inside
@@ -40,7 +42,8 @@ state_is i f line unit fit is inside =
 
 pub states_count : (i : Image) (f : Found) → IsFit i → IsFoundOf i f → length f.chunks ≡ units i.shape * i.shape.chunks
 states_count i f fit is =
-    ap (λ cs. length cs) is.chunks_are ∙ joined_count (map state_of) i.shape.chunks i.units (unit_count i.shape.chunks i.units fit.chunks) ∙ ap (λ n. n * i.shape.chunks) fit.units
+    ap (λ cs. length cs) is.chunks_are ∙ joined_count (map state_of) i.shape.chunks i.units (unit_count i.shape.chunks i.units fit.chunks)
+    ∙ ap (λ n. n * i.shape.chunks) fit.units
 
 not_open : (state : ChunkState) → taken_state state ≢ states.Open
 not_open states.Free e = absurd cc
@@ -63,18 +66,21 @@ abbrev on_line : ℕ → ℕ × List Chunk → Bool
 on_line line unit = option_map_or (λ (c : Chunk). is_online_in c.state) (slice_get unit.1 line) false
 
 by_state : (state : ChunkState) (a : ℕ) (u : List Chunk) (rest : List (ℕ × List Chunk))
-    → cons_option (live_unit (Some (taken_state state)) a) (map (λ (v : ℕ × List Chunk). v.0) rest) ≡ map (λ (v : ℕ × List Chunk). v.0) (cond (is_online_in state) ((a, u) ∷ rest) rest)
+    → cons_option (live_unit (Some (taken_state state)) a) (map (λ (v : ℕ × List Chunk). v.0) rest) ≡ map (λ (v : ℕ × List Chunk). v.0)
+    (cond (is_online_in state) ((a, u) ∷ rest) rest)
 by_state states.Free a u rest = refl
 by_state states.Open a u rest = refl
 by_state states.Closed a u rest = refl
 by_state states.Offline a u rest = refl
 
 by_chunk : (o : Option Chunk) (a : ℕ) (u : List Chunk) (rest : List (ℕ × List Chunk))
-    → cons_option (live_unit (option_map state_of o) a) (map (λ (v : ℕ × List Chunk). v.0) rest) ≡ map (λ (v : ℕ × List Chunk). v.0) (cond (option_map_or (λ (c : Chunk). is_online_in c.state) o false) ((a, u) ∷ rest) rest)
+    → cons_option (live_unit (option_map state_of o) a) (map (λ (v : ℕ × List Chunk). v.0) rest) ≡ map (λ (v : ℕ × List Chunk). v.0)
+    (cond (option_map_or (λ (c : Chunk). is_online_in c.state) o false) ((a, u) ∷ rest) rest)
 by_chunk None a u rest = refl
 by_chunk (Some c) a u rest = by_state c.state a u rest
 
-live_from : (line a : ℕ) (h : ℕ → Option ℕ) (us : List (List Chunk)) → ((k : ℕ) → k < length us → h (a + k) ≡ live_unit (option_map state_of (option_and_then (λ u. slice_get u line) (slice_get us k))) (a + k))
+live_from : (line a : ℕ) (h : ℕ → Option ℕ) (us : List (List Chunk))
+    → ((k : ℕ) → k < length us → h (a + k) ≡ live_unit (option_map state_of (option_and_then (λ u. slice_get u line) (slice_get us k))) (a + k))
     → filter_map h (range_with_len a (length us)) ≡ map (λ (v : ℕ × List Chunk). v.0) (filter (on_line line) (enumerate_from a us))
 live_from line a h [] each = refl
 live_from line a h (u ∷ us) each =
@@ -84,7 +90,8 @@ live_from line a h (u ∷ us) each =
     live_from line (a + 1) h us (λ k below.
     let step : a + 1 + k ≡ a + suc k = omega arith in
     ap h step ∙ each (suc k) (omega arith) ∙ ap (live_unit (option_map state_of (option_and_then (λ u. slice_get u line) (slice_get us k)))) (sym step)) in
-    ap (λ o. cons_option o (filter_map h (range_with_len (a + 1) (length us)))) here ∙ ap (cons_option (live_unit (option_map state_of (slice_get u line)) a)) rest
+    ap (λ o. cons_option o (filter_map h (range_with_len (a + 1) (length us)))) here
+    ∙ ap (cons_option (live_unit (option_map state_of (slice_get u line)) a)) rest
     ∙ by_chunk (slice_get u line) a u (filter (on_line line) (enumerate_from (a + 1) us))
 
 pub live_are : (i : Image) (f : Found) (line : ℕ) → IsFit i → IsFoundOf i f → line < i.shape.chunks → live_units i.shape f line ≡ line_units i line
@@ -103,7 +110,8 @@ abbrev with_one : Option Chunk → Bool → Bool
 with_one None rest = rest
 with_one (Some c) rest = is_empty_state c.state && rest
 
-one_more : (o : Option Chunk) (cs : List Chunk) → list_all (λ (c : Chunk). is_empty_state c.state) (cons_option o cs) ≡ with_one o (list_all (λ (c : Chunk). is_empty_state c.state) cs)
+one_more : (o : Option Chunk) (cs : List Chunk)
+    → list_all (λ (c : Chunk). is_empty_state c.state) (cons_option o cs) ≡ with_one o (list_all (λ (c : Chunk). is_empty_state c.state) cs)
 one_more None cs = refl
 one_more (Some c) cs = refl
 
@@ -115,22 +123,27 @@ rest_used : (o : Option Chunk) (rest : Bool) → rest ≡ false → with_one o r
 rest_used None rest e = e
 rest_used (Some c) rest e = and_right (is_empty_state c.state) rest e
 
-pub some_used : (line : ℕ) (us : List (List Chunk)) (k : ℕ) (c : Chunk) → option_and_then (λ u. slice_get u line) (slice_get us k) ≡ Some c → is_empty_state c.state ≡ false → empties line us ≡ false
+pub some_used : (line : ℕ) (us : List (List Chunk)) (k : ℕ) (c : Chunk) → option_and_then (λ u. slice_get u line) (slice_get us k) ≡ Some c
+    → is_empty_state c.state ≡ false → empties line us ≡ false
 some_used line [] k c there used = absurd (none-some c there)
-some_used line (u ∷ us) zero c there used = one_more (slice_get u line) (filter_map (λ unit. slice_get unit line) us) ∙ one_used (slice_get u line) c (empties line us) there used
-some_used line (u ∷ us) (suc k) c there used = one_more (slice_get u line) (filter_map (λ unit. slice_get unit line) us) ∙ rest_used (slice_get u line) (empties line us) (some_used line us k c there used)
+some_used line (u ∷ us) zero c there used = one_more (slice_get u line) (filter_map (λ unit. slice_get unit line) us)
+    ∙ one_used (slice_get u line) c (empties line us) there used
+some_used line (u ∷ us) (suc k) c there used = one_more (slice_get u line) (filter_map (λ unit. slice_get unit line) us)
+    ∙ rest_used (slice_get u line) (empties line us) (some_used line us k c there used)
 
 abbrev HasUsedChunk : ℕ → List (List Chunk) → Type 0
 HasUsedChunk line us = (k : ℕ) × (c : Chunk) × (option_and_then (λ u. slice_get u line) (slice_get us k) ≡ Some c) × (is_empty_state c.state ≡ false)
 
 which_used : (line : ℕ) (us : List (List Chunk)) → empties line us ≡ false → HasUsedChunk line us
 which_used line [] e = absurd cc
-which_used line (u ∷ us) e = go (λ f. which_used line us f) (slice_get u line) refl (sym (one_more (slice_get u line) (filter_map (λ unit. slice_get unit line) us)) ∙ e)
+which_used line (u ∷ us) e = go (λ f. which_used line us f) (slice_get u line) refl
+    (sym (one_more (slice_get u line) (filter_map (λ unit. slice_get unit line) us)) ∙ e)
   where
     one_later : HasUsedChunk line us → HasUsedChunk line (u ∷ us)
     one_later (k, c, there, used) = (suc k, c, there, used)
 
-    go : (empties line us ≡ false → HasUsedChunk line us) → (o : Option Chunk) → slice_get u line ≡ o → with_one o (empties line us) ≡ false → HasUsedChunk line (u ∷ us)
+    go : (empties line us ≡ false → HasUsedChunk line us) → (o : Option Chunk) → slice_get u line ≡ o → with_one o (empties line us) ≡ false
+        → HasUsedChunk line (u ∷ us)
     go later None is f = one_later (later f)
     go later (Some c) is f = elim (cases_Bool (is_empty_state c.state)) [
       | inl empty ↦ one_later (later (sym (ap (λ b. b && empties line us) empty) ∙ f))
@@ -166,7 +179,8 @@ within_units i line unit c fit e = go (slice_get i.units unit) refl e
     go (Some u) is h = subst (λ n. unit < n) fit.units (slice_get_within i.units unit u is)
 
 -- a chunk that isn't empty is found used
-pub chunk_used : (i : Image) (f : Found) (line unit : ℕ) (c : Chunk) → IsFit i → IsFoundOf i f → line < i.shape.chunks → chunk_in i line unit ≡ Some c → is_empty_state c.state ≡ false → HasUsed i.shape f line
+pub chunk_used : (i : Image) (f : Found) (line unit : ℕ) (c : Chunk) → IsFit i → IsFoundOf i f → line < i.shape.chunks → chunk_in i line unit ≡ Some c
+    → is_empty_state c.state ≡ false → HasUsed i.shape f line
 chunk_used i f line unit c fit is inside there used =
     (unit, state_of c, within_units i line unit c fit there, state_is i f line unit fit is inside ∙ ap (option_map state_of) there, is_used c.state used)
 

@@ -38,16 +38,19 @@ won i lba w e = go (winner (counted i) lba) refl e
 pub names_its_sector : (i : Image) (lba : ℕ) (w : Winner) → winner_of i lba ≡ Some w → w.lba ≡ lba
 names_its_sector i lba w e = ap (λ (v : Winner). v.lba) (sym (won i lba w e).is)
 
-pub winner_at : (i : Image) (f : Found) (k : ℕ) (w : Winner) → IsFoundOf i f → slice_get f.winners k ≡ Some w → slice_get (filter_map (winner_of i) (range_with_len 0 i.shape.capacity)) k ≡ Some w
+pub winner_at : (i : Image) (f : Found) (k : ℕ) (w : Winner) → IsFoundOf i f → slice_get f.winners k ≡ Some w
+    → slice_get (filter_map (winner_of i) (range_with_len 0 i.shape.capacity)) k ≡ Some w
 winner_at i f k w is there = ap (λ ws. slice_get ws k) (sym is.winners_are) ∙ there
 
-pub winners_rise : (i : Image) (f : Found) (j k : ℕ) (v w : Winner) → IsFoundOf i f → j < k → slice_get f.winners j ≡ Some v → slice_get f.winners k ≡ Some w → v.lba < w.lba
+pub winners_rise : (i : Image) (f : Found) (j k : ℕ) (v w : Winner) → IsFoundOf i f → j < k → slice_get f.winners j ≡ Some v → slice_get f.winners k ≡ Some w
+    → v.lba < w.lba
 winners_rise i f j k v w is before a b =
     made_rise (winner_of i) (λ (x : Winner). x.lba) (names_its_sector i) 0 i.shape.capacity j k v w before (winner_at i f j v is a) (winner_at i f k w is b)
 
 -- ---- a winner fits
 
-fits_record : (i : Image) (f : Found) (lba : ℕ) (r : Record) → IsFit i → IsFoundOf i f → lba < i.shape.capacity → Contains (counted i) r → WinnerFits i.shape f (winner_with lba r)
+fits_record : (i : Image) (f : Found) (lba : ℕ) (r : Record) → IsFit i → IsFoundOf i f → lba < i.shape.capacity → Contains (counted i) r
+    → WinnerFits i.shape f (winner_with lba r)
 fits_record i f lba r fit is inside there =
     let of : IsOfBlock i r = counted_of i r there in
     let place : IsInClosed i r.line r.at = written_in i r.line r.at of.block fit of.is_block in
@@ -78,7 +81,8 @@ winner_fits i f k w fit is there =
 same_lba : (o : Option ℕ) (m n : ℕ) → o ≡ Some m → o ≡ Some n → m ≡ n
 same_lba o m n e f = same_Some m n (sym e ∙ f)
 
-pub winners_apart : (i : Image) (f : Found) (j k : ℕ) (v w : Winner) → IsFoundOf i f → slice_get f.winners j ≡ Some v → slice_get f.winners k ≡ Some w → v.line ≡ w.line → v.at ≡ w.at → j ≡ k
+pub winners_apart : (i : Image) (f : Found) (j k : ℕ) (v w : Winner) → IsFoundOf i f → slice_get f.winners j ≡ Some v → slice_get f.winners k ≡ Some w
+    → v.line ≡ w.line → v.at ≡ w.at → j ≡ k
 winners_apart i f j k v w is a b lines ats =
     let of = made_of (winner_of i) 0 i.shape.capacity j v (winner_at i f j v is a) in
     let also = made_of (winner_of i) 0 i.shape.capacity k w (winner_at i f k w is b) in

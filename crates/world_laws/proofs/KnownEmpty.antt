@@ -35,7 +35,8 @@ program_leaves_used s c (Write at blocks) o program (inl done) = ap (λ x. is_em
     ∙ go (nat_lt (pointer c + length blocks) s.clba)
   where
     go : (b : Bool) → is_empty_state
-        (if b then Rattle.pblk_model.specs.declared.chunk.ChunkState.TheVariants.Open else Rattle.pblk_model.specs.declared.chunk.ChunkState.TheVariants.Closed) ≡ false
+        (if b then Rattle.pblk_model.specs.declared.chunk.ChunkState.TheVariants.Open else Rattle.pblk_model.specs.declared.chunk.ChunkState.TheVariants.Closed)
+        ≡ false
     go true = refl
     go false = refl
 program_leaves_used s c (Write at blocks) o program (inr (k, failed)) = ap (λ x. is_empty_state (after_outcome s c (Write at blocks) x).state) failed

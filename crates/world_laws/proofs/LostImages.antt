@@ -21,7 +21,8 @@ use Rattle.lemmas.proofs.Parts.{all_by_get, all_get}
 
 -- ---- a line that kept its chunks
 
-module _ (s : Shape) (us vs : List (List Chunk)) (count : length vs ≡ length us) (l : ℕ) (kept : (u : ℕ) → chunk_in (img s vs) l u ≡ chunk_in (img s us) l u) where
+module _ (s : Shape) (us vs : List (List Chunk)) (count : length vs ≡ length us) (l : ℕ)
+    (kept : (u : ℕ) → chunk_in (img s vs) l u ≡ chunk_in (img s us) l u) where
   pub kept_line : IsSameLine (img s us) (img s vs) l
   kept_line = record {
     units = same_line_units s us vs l count kept;
@@ -31,15 +32,19 @@ module _ (s : Shape) (us vs : List (List Chunk)) (count : length vs ≡ length u
     records = same_records s us vs l count kept;
   }
 
-  pub kept_agrees : (start : StartRecord) (e : EndRecord) → IsSealed (img s us) → l < s.chunks → start_of (img s vs) l ≡ Some start → end_of (img s vs) l start ≡ Some e → AgreesWithLine (img s vs) l e
+  pub kept_agrees : (start : StartRecord) (e : EndRecord) → IsSealed (img s us) → l < s.chunks → start_of (img s vs) l ≡ Some start
+      → end_of (img s vs) l start ≡ Some e → AgreesWithLine (img s vs) l e
   kept_agrees start e whole inside started ended =
-      let agrees : AgreesWithLine (img s us) l e = whole.ends l start e inside (sym (same_start s us vs l count kept) ∙ started) (sym (same_end s us vs l count kept start) ∙ ended) in
+      let agrees : AgreesWithLine (img s us) l e =
+      whole.ends l start e inside (sym (same_start s us vs l count kept) ∙ started) (sym (same_end s us vs l count kept start) ∙ ended) in
       record {
-        closed = all_by_get (λ c. c.state ≡ Open → ⊥) (line_chunks (img s vs) l) (λ k c is. all_get (λ c. c.state ≡ Open → ⊥) (line_chunks (img s us) l) k c agrees.closed (sym (same_chunk s us vs l count kept k) ∙ is));
+        closed = all_by_get (λ c. c.state ≡ Open → ⊥) (line_chunks (img s vs) l)
+            (λ k c is. all_get (λ c. c.state ≡ Open → ⊥) (line_chunks (img s us) l) k c agrees.closed (sym (same_chunk s us vs l count kept k) ∙ is));
         marks = λ k b below is. agrees.marks k b below (sym (same_block s us vs l count kept (start_len s + k)) ∙ is);
       }
 
-  pub kept_begins : (k : ℕ) (c : Chunk) (b : Block) → IsSealed (img s us) → l < s.chunks → slice_get (line_chunks (img s vs) l) k ≡ Some c → slice_get c.blocks 0 ≡ Some b → BeginsNarrower (width (img s vs) l) b → ⊥
+  pub kept_begins : (k : ℕ) (c : Chunk) (b : Block) → IsSealed (img s us) → l < s.chunks → slice_get (line_chunks (img s vs) l) k ≡ Some c
+      → slice_get c.blocks 0 ≡ Some b → BeginsNarrower (width (img s vs) l) b → ⊥
   kept_begins k c b whole inside is first n =
       whole.begins l k c b inside (sym (same_chunk s us vs l count kept k) ∙ is) first (subst (λ g. BeginsNarrower g b) (same_width s us vs l count kept) n)
 
@@ -69,12 +74,15 @@ module _ (lines : ℕ → Bool) (s : Shape) (us vs : List (List Chunk)) (lost : 
     pub holds_still : HoldsTheSame (img s us) (img s vs)
     holds_still = holds_the_same s us vs (λ l. starts_by l (lines l) refl) (λ l inside. records_by l (lines l) refl)
 
-    agrees_by : (l : ℕ) (start : StartRecord) (e : EndRecord) (b : Bool) → lines l ≡ b → l < s.chunks → start_of (img s vs) l ≡ Some start → end_of (img s vs) l start ≡ Some e → AgreesWithLine (img s vs) l e
+    agrees_by : (l : ℕ) (start : StartRecord) (e : EndRecord) (b : Bool) → lines l ≡ b → l < s.chunks → start_of (img s vs) l ≡ Some start
+        → end_of (img s vs) l start ≡ Some e → AgreesWithLine (img s vs) l e
     agrees_by l start e true mine inside started ended = absurd (none-some start (sym (none_at l mine) ∙ started))
     agrees_by l start e false other inside started ended = kept_agrees s us vs lost.count l (λ u. lost.kept l u other) start e whole inside started ended
 
-    begins_by : (l k : ℕ) (c : Chunk) (b : Block) (of : Bool) → lines l ≡ of → l < s.chunks → slice_get (line_chunks (img s vs) l) k ≡ Some c → slice_get c.blocks 0 ≡ Some b → BeginsNarrower (width (img s vs) l) b → ⊥
-    begins_by l k c b true mine inside is first n = none_begins s us vs lost.count l (lost.lost l mine).chunks accepted fit (sealed_line (img s us) l whole inside)
+    begins_by : (l k : ℕ) (c : Chunk) (b : Block) (of : Bool) → lines l ≡ of → l < s.chunks → slice_get (line_chunks (img s vs) l) k ≡ Some c
+        → slice_get c.blocks 0 ≡ Some b → BeginsNarrower (width (img s vs) l) b → ⊥
+    begins_by l k c b true mine inside is first n =
+        none_begins s us vs lost.count l (lost.lost l mine).chunks accepted fit (sealed_line (img s us) l whole inside)
         k c b is first n
     begins_by l k c b false other inside is first n = kept_begins s us vs lost.count l (λ u. lost.kept l u other) k c b whole inside is first n
 
@@ -90,41 +98,54 @@ of_shape : (lines : ℕ → Bool) (i j : Image) → AreLost lines i j → AreLos
 of_shape lines i j lost = subst (AreLost lines i) (same_img j i.shape lost.shape) lost
 
 pub lost_widths : (lines : ℕ → Bool) (i j : Image) (line : ℕ) → AreLost lines i j → width j line ≤ width i line
-lost_widths lines i j line lost = subst (λ (x : Image). width x line ≤ width i line) (sym (same_img j i.shape lost.shape)) (widths_fall lines i.shape i.units j.units (of_shape lines i j lost) line)
+lost_widths lines i j line lost =
+    subst (λ (x : Image). width x line ≤ width i line) (sym (same_img j i.shape lost.shape))
+    (widths_fall lines i.shape i.units j.units (of_shape lines i j lost) line)
 
 pub lost_sealed : (lines : ℕ → Bool) (i j : Image) → IsAccepted i.shape → IsFit i → IsSealed i → AreLost lines i j → IsSealed j
-lost_sealed lines i j accepted fit whole lost = subst IsSealed (sym (same_img j i.shape lost.shape)) (sealed_still lines i.shape i.units j.units (of_shape lines i j lost) accepted fit whole)
+lost_sealed lines i j accepted fit whole lost =
+    subst IsSealed (sym (same_img j i.shape lost.shape)) (sealed_still lines i.shape i.units j.units (of_shape lines i j lost) accepted fit whole)
 
 pub lost_holds : (lines : ℕ → Bool) (i j : Image) → IsAccepted i.shape → IsFit i → IsSealed i → AreLost lines i j → HoldsTheSame i j
-lost_holds lines i j accepted fit whole lost = subst (HoldsTheSame i) (sym (same_img j i.shape lost.shape)) (holds_still lines i.shape i.units j.units (of_shape lines i j lost) accepted fit whole)
+lost_holds lines i j accepted fit whole lost =
+    subst (HoldsTheSame i) (sym (same_img j i.shape lost.shape)) (holds_still lines i.shape i.units j.units (of_shape lines i j lost) accepted fit whole)
 
-pub line_kept : (i j : Image) (line : ℕ) → j.shape ≡ i.shape → length j.units ≡ length i.units → ((unit : ℕ) → chunk_in j line unit ≡ chunk_in i line unit) → IsSameLine i j line
-line_kept i j line shape count kept = subst (λ (x : Image). IsSameLine i x line) (sym (same_img j i.shape shape)) (kept_line i.shape i.units j.units count line kept)
+pub line_kept : (i j : Image) (line : ℕ) → j.shape ≡ i.shape → length j.units ≡ length i.units → ((unit : ℕ) → chunk_in j line unit ≡ chunk_in i line unit)
+    → IsSameLine i j line
+line_kept i j line shape count kept =
+    subst (λ (x : Image). IsSameLine i x line) (sym (same_img j i.shape shape)) (kept_line i.shape i.units j.units count line kept)
 
-pub line_lost : (i j : Image) (line : ℕ) → IsAccepted i.shape → IsFit i → IsSealed i → j.shape ≡ i.shape → length j.units ≡ length i.units → line < i.shape.chunks → IsLostLine i j line → start_of j line ≡ None
+pub line_lost : (i j : Image) (line : ℕ) → IsAccepted i.shape → IsFit i → IsSealed i → j.shape ≡ i.shape → length j.units ≡ length i.units
+    → line < i.shape.chunks → IsLostLine i j line → start_of j line ≡ None
 line_lost i j line accepted fit whole shape count inside lost =
     subst (λ (x : Image). start_of x line ≡ None) (sym (same_img j i.shape shape))
     (none_still i.shape i.units j.units count line (subst (λ (x : Image). AreKeptOrLost i x line) (same_img j i.shape shape) lost.chunks) accepted fit
     (sealed_line i line whole inside) lost.no_start)
 
-pub line_agrees : (i j : Image) (line : ℕ) (start : StartRecord) (e : EndRecord) → IsSealed i → j.shape ≡ i.shape → length j.units ≡ length i.units → line < i.shape.chunks → ((unit : ℕ) → chunk_in j line unit ≡ chunk_in i line unit)
+pub line_agrees : (i j : Image) (line : ℕ) (start : StartRecord) (e : EndRecord) → IsSealed i → j.shape ≡ i.shape → length j.units ≡ length i.units
+    → line < i.shape.chunks → ((unit : ℕ) → chunk_in j line unit ≡ chunk_in i line unit)
     → start_of j line ≡ Some start → end_of j line start ≡ Some e → AgreesWithLine j line e
 line_agrees i j line start e whole shape count inside kept started ended =
     let same : j ≡ img i.shape j.units = same_img j i.shape shape in
     subst (λ (x : Image). AgreesWithLine x line e) (sym same)
-    (kept_agrees i.shape i.units j.units count line kept start e whole inside (ap (λ (x : Image). start_of x line) (sym same) ∙ started) (ap (λ (x : Image). end_of x line start) (sym same) ∙ ended))
+    (kept_agrees i.shape i.units j.units count line kept start e whole inside (ap (λ (x : Image). start_of x line) (sym same) ∙ started)
+    (ap (λ (x : Image). end_of x line start) (sym same) ∙ ended))
 
 abbrev Begins : Image → ℕ → ℕ → Chunk → Block → Type 0
 Begins j line k c b = slice_get (line_chunks j line) k ≡ Some c → slice_get c.blocks 0 ≡ Some b → BeginsNarrower (width j line) b → ⊥
 
-pub line_begins_kept : (i j : Image) (line k : ℕ) (c : Chunk) (b : Block) → IsSealed i → j.shape ≡ i.shape → length j.units ≡ length i.units → line < i.shape.chunks → ((unit : ℕ) → chunk_in j line unit ≡ chunk_in i line unit)
+pub line_begins_kept : (i j : Image) (line k : ℕ) (c : Chunk) (b : Block) → IsSealed i → j.shape ≡ i.shape → length j.units ≡ length i.units
+    → line < i.shape.chunks → ((unit : ℕ) → chunk_in j line unit ≡ chunk_in i line unit)
     → slice_get (line_chunks j line) k ≡ Some c → slice_get c.blocks 0 ≡ Some b → BeginsNarrower (width j line) b → ⊥
 line_begins_kept i j line k c b whole shape count inside kept =
-    subst (λ (x : Image). Begins x line k c b) (sym (same_img j i.shape shape)) (λ is first n. kept_begins i.shape i.units j.units count line kept k c b whole inside is first n)
+    subst (λ (x : Image). Begins x line k c b) (sym (same_img j i.shape shape))
+    (λ is first n. kept_begins i.shape i.units j.units count line kept k c b whole inside is first n)
 
-pub line_begins_lost : (i j : Image) (line k : ℕ) (c : Chunk) (b : Block) → IsAccepted i.shape → IsFit i → IsSealed i → j.shape ≡ i.shape → length j.units ≡ length i.units → line < i.shape.chunks → IsLostLine i j line
+pub line_begins_lost : (i j : Image) (line k : ℕ) (c : Chunk) (b : Block) → IsAccepted i.shape → IsFit i → IsSealed i → j.shape ≡ i.shape
+    → length j.units ≡ length i.units → line < i.shape.chunks → IsLostLine i j line
     → slice_get (line_chunks j line) k ≡ Some c → slice_get c.blocks 0 ≡ Some b → BeginsNarrower (width j line) b → ⊥
 line_begins_lost i j line k c b accepted fit whole shape count inside lost =
     subst (λ (x : Image). Begins x line k c b) (sym (same_img j i.shape shape))
-    (λ is first n. none_begins i.shape i.units j.units count line (subst (λ (x : Image). AreKeptOrLost i x line) (same_img j i.shape shape) lost.chunks) accepted fit
+    (λ is first n. none_begins i.shape i.units j.units count line
+    (subst (λ (x : Image). AreKeptOrLost i x line) (same_img j i.shape shape) lost.chunks) accepted fit
     (sealed_line i line whole inside) k c b is first n)

@@ -42,7 +42,8 @@ range_get a (suc n) zero x e = (omega arith, add-zero a ∙ same_Some a x e)
 range_get a (suc n) (suc k) x e = let rest = range_get (a + 1) n k x e in (omega (arith, rest.0), omega (arith, rest.1))
 
 pub mapped_at : {Y : Type 0} (f : ℕ → Y) (n k : ℕ) → k < n → slice_get (map f (range_with_len 0 n)) k ≡ Some (f k)
-mapped_at f n k h = let first : 0 + k ≡ k = omega arith in slice_get-map f (range_with_len 0 n) k ∙ ap (option_map f) (range_at 0 n k h) ∙ ap (λ m. Some (f m)) first
+mapped_at f n k h = let first : 0 + k ≡ k = omega arith in slice_get-map f (range_with_len 0 n) k ∙ ap (option_map f) (range_at 0 n k h)
+    ∙ ap (λ m. Some (f m)) first
 
 pub mapped_get : {Y : Type 0} (f : ℕ → Y) (n k : ℕ) (y : Y) → slice_get (map f (range_with_len 0 n)) k ≡ Some y → (k < n) × (f k ≡ y)
 mapped_get f n k y e =
@@ -52,7 +53,8 @@ mapped_get f n k y e =
     (at.0, ap f same ∙ of.2)
 
 -- what is made of numbers, and of which number each is
-pub made_of : {Y : Type 0} (h : ℕ → Option Y) (a n k : ℕ) (y : Y) → slice_get (filter_map h (range_with_len a n)) k ≡ Some y → (m : ℕ) × (a ≤ m) × (m < a + n) × (h m ≡ Some y)
+pub made_of : {Y : Type 0} (h : ℕ → Option Y) (a n k : ℕ) (y : Y) → slice_get (filter_map h (range_with_len a n)) k ≡ Some y
+    → (m : ℕ) × (a ≤ m) × (m < a + n) × (h m ≡ Some y)
 made_of h a zero k y e = absurd (none-some y e)
 made_of {Y} h a (suc n) k y e = go (λ j f. made_of h (a + 1) n j y f) (h a) refl k e
   where
@@ -60,7 +62,8 @@ made_of {Y} h a (suc n) k y e = go (λ j f. made_of h (a + 1) n j y f) (h a) ref
     one_later (m, low, high, is) = (m, omega arith, omega arith, is)
 
     go : ((j : ℕ) → slice_get (filter_map h (range_with_len (a + 1) n)) j ≡ Some y → (m : ℕ) × (a + 1 ≤ m) × (m < a + 1 + n) × (h m ≡ Some y))
-        → (o : Option Y) → h a ≡ o → (j : ℕ) → slice_get (cons_option o (filter_map h (range_with_len (a + 1) n))) j ≡ Some y → (m : ℕ) × (a ≤ m) × (m < a + suc n) × (h m ≡ Some y)
+        → (o : Option Y) → h a ≡ o → (j : ℕ) → slice_get (cons_option o (filter_map h (range_with_len (a + 1) n))) j ≡ Some y
+        → (m : ℕ) × (a ≤ m) × (m < a + suc n) × (h m ≡ Some y)
     go later None is j f = one_later (later j f)
     go later (Some x) is zero f = (a, omega arith, omega arith, is ∙ f)
     go later (Some x) is (suc j) f = one_later (later j f)
@@ -71,7 +74,8 @@ pub made_rise : {Y : Type 0} (h : ℕ → Option Y) (key : Y → ℕ) → ((m : 
 made_rise h key names a zero j k v w before e f = absurd (none-some v e)
 made_rise {Y} h key names a (suc n) j k v w before e f = go (λ j k b e f. made_rise h key names (a + 1) n j k v w b e f) (h a) refl j k before e f
   where
-    go : ((j k : ℕ) → j < k → slice_get (filter_map h (range_with_len (a + 1) n)) j ≡ Some v → slice_get (filter_map h (range_with_len (a + 1) n)) k ≡ Some w → key v < key w)
+    go : ((j k : ℕ) → j < k → slice_get (filter_map h (range_with_len (a + 1) n)) j ≡ Some v → slice_get (filter_map h (range_with_len (a + 1) n)) k ≡ Some w
+        → key v < key w)
         → (o : Option Y) → h a ≡ o → (j k : ℕ) → j < k → slice_get (cons_option o (filter_map h (range_with_len (a + 1) n))) j ≡ Some v
         → slice_get (cons_option o (filter_map h (range_with_len (a + 1) n))) k ≡ Some w → key v < key w
     go later None is j k b e f = later j k b e f
@@ -132,7 +136,8 @@ from_filter : (p : ℕ → Bool) (b a n : ℕ) → b ≤ a → IsFrom b (filter 
 from_filter p b a zero low = tt
 from_filter p b a (suc n) low = go (p a) (from_filter p b (a + 1) n (omega arith))
   where
-    go : (c : Bool) → IsFrom b (filter p (range_with_len (a + 1) n)) → IsFrom b (cond c (a ∷ filter p (range_with_len (a + 1) n)) (filter p (range_with_len (a + 1) n)))
+    go : (c : Bool) → IsFrom b (filter p (range_with_len (a + 1) n))
+        → IsFrom b (cond c (a ∷ filter p (range_with_len (a + 1) n)) (filter p (range_with_len (a + 1) n)))
     go true rest = low
     go false rest = rest
 
@@ -144,6 +149,7 @@ pub passed_rise : (p : ℕ → Bool) (a n : ℕ) → Rise (filter p (range_with_
 passed_rise p a zero = tt
 passed_rise p a (suc n) = go (p a) (passed_rise p (a + 1) n) (from_filter p (a + 1) (a + 1) n (omega arith))
   where
-    go : (c : Bool) → Rise (filter p (range_with_len (a + 1) n)) → IsFrom (a + 1) (filter p (range_with_len (a + 1) n)) → Rise (cond c (a ∷ filter p (range_with_len (a + 1) n)) (filter p (range_with_len (a + 1) n)))
+    go : (c : Bool) → Rise (filter p (range_with_len (a + 1) n)) → IsFrom (a + 1) (filter p (range_with_len (a + 1) n))
+        → Rise (cond c (a ∷ filter p (range_with_len (a + 1) n)) (filter p (range_with_len (a + 1) n)))
     go true rest from = rise_more a (filter p (range_with_len (a + 1) n)) from rest
     go false rest from = rest

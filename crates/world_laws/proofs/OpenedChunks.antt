@@ -87,7 +87,8 @@ module _ (i : Image) (w : World) (legal : IsLegal i w) (b : Begun) (begins : beg
           record { of_line = p; later = later; life = p.placed.its_life ∙ ap Opened same }
       go (inr (inr early)) =
           let gone : IsGone i w legal unit (ended_stripes
-          (take y own)) p.stripe.placed p.stripe.in_order o.number = early_gone i w legal b begins unit line o.number o.start since.logged opening y x e p early in
+          (take y own)) p.stripe.placed p.stripe.in_order o.number =
+          early_gone i w legal b begins unit line o.number o.start since.logged opening y x e p early in
           let last = last_program i w legal unit (ended_stripes (take y own)) gone.told.at y gone.told.told refl in
           let near = named_known i w legal unit gone.told.at gone.told.told.number gone.told.told.named in
           let first : gone.told.at < gone.freed.number = gone.told.before in

@@ -74,10 +74,12 @@ module _ (i : Image) (w : World) (legal : IsLegal i w) (b : Begun) (begins : beg
                   let one : x ≡ t.logged = same_Some x t.logged (sym at.there ∙ ap (slice_get own) same ∙ t.there) in
                   let event : e ≡ t.event = same_Some e t.event (sym at.is_event ∙ ap (λ (z : Logged). unit_event_of z.event) one ∙ t.is_event) in
                   ap (λ (z : UnitEvent). was_stopped z.outcome) event ∙ t.going
-              which (inr (inl later)) = going_before i w legal b begins unit line y t.number x t.logged e t.event later at.there at.is_event t.there t.is_event t.going
+              which (inr (inl later)) = going_before i w legal b begins unit line y t.number x t.logged e t.event later at.there at.is_event t.there t.is_event
+                  t.going
               which (inr (inr above)) = absurd (omega arith)
 
-  pub early_named : (y : ℕ) (x : Logged) (e : UnitEvent) → y < known l (suc unit) → IsCommandOf i w legal b begins unit line is_program y x e → (q : ℕ) × (q < k)
+  pub early_named : (y : ℕ) (x : Logged) (e : UnitEvent) → y < known l (suc unit) → IsCommandOf i w legal b begins unit line is_program y x e
+      → (q : ℕ) × (q < k)
       × IsNamedAt i w legal unit q y
   early_named y x e below h =
       let p : IsProgram i w legal b begins unit line y x e = program i w legal b begins unit line y x e h.from h.at in

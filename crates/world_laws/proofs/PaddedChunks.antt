@@ -26,7 +26,8 @@ are_replicated s (b ∷ blocks) all = ap (λ x. x ∷ blocks) all.0 ∙ ap (λ b
 
 -- ---- one chunk
 
-with_pads : (s : Shape) (c d : Chunk) (blocks : List Block) → c.state ≡ states.Open → 0 < length c.blocks → ArePads s blocks → d.blocks ≡ c.blocks ++ blocks → is_online_in d.state ≡ true → IsPadded s c d
+with_pads : (s : Shape) (c d : Chunk) (blocks : List Block) → c.state ≡ states.Open → 0 < length c.blocks → ArePads s blocks → d.blocks ≡ c.blocks ++ blocks
+    → is_online_in d.state ≡ true → IsPadded s c d
 with_pads s c d blocks is some pads e on = record {
   was_open = is;
   some = some;
@@ -42,18 +43,22 @@ online_either : (b : Bool) → is_online_in (cond b states.Open states.Closed) �
 online_either true = refl
 online_either false = refl
 
-appended_pads : (s : Shape) (c : Chunk) (blocks : List Block) → c.state ≡ states.Open → 0 < length c.blocks → ArePads s blocks → IsPadded s c (appended s c blocks)
+appended_pads : (s : Shape) (c : Chunk) (blocks : List Block) → c.state ≡ states.Open → 0 < length c.blocks → ArePads s blocks
+    → IsPadded s c (appended s c blocks)
 appended_pads s c blocks is some pads = with_pads s c (appended s c blocks) blocks is some pads refl (online_either _)
 
 -- a program of Pad blocks in an Open chunk, whatever becomes of it
-pub program_pads : (s : Shape) (c : Chunk) (at : ℕ) (blocks : List Block) (o : UnitOutcome) → c.state ≡ states.Open → 0 < length c.blocks → ArePads s blocks → IsPadded s c (after_outcome s c (Write at blocks) o)
+pub program_pads : (s : Shape) (c : Chunk) (at : ℕ) (blocks : List Block) (o : UnitOutcome) → c.state ≡ states.Open → 0 < length c.blocks → ArePads s blocks
+    → IsPadded s c (after_outcome s c (Write at blocks) o)
 program_pads s c at blocks (Answered Done) is some pads = appended_pads s c blocks is some pads
 program_pads s c at blocks (Answered (Gave b)) is some pads = as_it_was s c is some
 program_pads s c at blocks (Answered Empty) is some pads = as_it_was s c is some
 program_pads s c at blocks (Answered (Refused e)) is some pads = as_it_was s c is some
-program_pads s c at blocks (Failed k) is some pads = with_pads s c (closed_after s c blocks k) (take (k * s.ws_min) blocks) is some (all_taken (λ b. b ≡ pad_block s) (k * s.ws_min) blocks pads) refl refl
+program_pads s c at blocks (Failed k) is some pads =
+    with_pads s c (closed_after s c blocks k) (take (k * s.ws_min) blocks) is some (all_taken (λ b. b ≡ pad_block s) (k * s.ws_min) blocks pads) refl refl
 program_pads s c at blocks (Stopped zero) is some pads = as_it_was s c is some
-program_pads s c at blocks (Stopped (suc k)) is some pads = appended_pads s c (take (suc k * s.ws_min) blocks) is some (all_taken (λ b. b ≡ pad_block s) (suc k * s.ws_min) blocks pads)
+program_pads s c at blocks (Stopped (suc k)) is some pads =
+    appended_pads s c (take (suc k * s.ws_min) blocks) is some (all_taken (λ b. b ≡ pad_block s) (suc k * s.ws_min) blocks pads)
 
 -- pads behind pads
 padded_twice : (s : Shape) (c d e : Chunk) → IsPadded s c d → IsPadded s d e → IsPadded s c e
@@ -61,7 +66,8 @@ padded_twice s c d e p q = record {
   was_open = p.was_open;
   some = p.some;
   more = p.more + q.more;
-  blocks = q.blocks ∙ ap (λ bs. bs ++ replicate q.more (pad_block s)) p.blocks ∙ append_assoc c.blocks (replicate p.more (pad_block s)) (replicate q.more (pad_block s))
+  blocks = q.blocks ∙ ap (λ bs. bs ++ replicate q.more (pad_block s)) p.blocks
+      ∙ append_assoc c.blocks (replicate p.more (pad_block s)) (replicate q.more (pad_block s))
       ∙ ap (λ bs. c.blocks ++ bs) (replicate-append-replicate p.more q.more (pad_block s));
   online = q.online;
 }
@@ -83,7 +89,8 @@ open_some : (s : Shape) (c : Chunk) → IsChunk s c → c.state ≡ states.Open 
 open_some s c chunk is = let fits : (0 < pointer c) × (pointer c < s.clba) = subst (λ st. PointerFits st s.clba (pointer c)) is chunk.place in fits.0
 
 -- an Open chunk among them has blocks
-still_some : (s : Shape) (cs ds : List Chunk) (line : ℕ) (d : Chunk) → AllByRecursion (IsChunk s) cs → PadsOnly s cs ds → slice_get ds line ≡ Some d → d.state ≡ states.Open → 0 < length d.blocks
+still_some : (s : Shape) (cs ds : List Chunk) (line : ℕ) (d : Chunk) → AllByRecursion (IsChunk s) cs → PadsOnly s cs ds → slice_get ds line ≡ Some d
+    → d.state ≡ states.Open → 0 < length d.blocks
 still_some s cs ds line d fit only there is = elim (only line) [
   | inl same ↦ open_some s d (all_get (IsChunk s) cs line d fit (sym same ∙ there)) is
   | inr p ↦ behind p
@@ -99,47 +106,53 @@ still_some s cs ds line d fit only there is = elim (only line) [
 -- one more event: its chunk is as it was, or is padded
 pub padded_more : (s : Shape) (cs ds : List Chunk) (e : UnitEvent) (found : Chunk) → PadsOnly s cs ds → slice_get ds e.chunk ≡ Some found
     → (after_outcome s found e.command e.outcome ≡ found) ⊎ IsPadded s found (after_outcome s found e.command e.outcome) → PadsOnly s cs (after_event s ds e)
-padded_more s cs ds e found only there left line = subst (λ xs. (slice_get xs line ≡ slice_get cs line) ⊎ IsPaddedIn s cs xs line) (sym after) (at_line (ℕ_discrete line e.chunk)) where
-  after : after_event s ds e ≡ slice_set ds e.chunk (after_outcome s found e.command e.outcome)
-  after = ap (λ (o : Option Chunk). option_map_or (λ c. slice_set ds e.chunk (after_outcome s c e.command e.outcome)) o ds) there
+padded_more s cs ds e found only there left line =
+    subst (λ xs. (slice_get xs line ≡ slice_get cs line) ⊎ IsPaddedIn s cs xs line) (sym after) (at_line (ℕ_discrete line e.chunk)) where
+      after : after_event s ds e ≡ slice_set ds e.chunk (after_outcome s found e.command e.outcome)
+      after = ap (λ (o : Option Chunk). option_map_or (λ c. slice_set ds e.chunk (after_outcome s c e.command e.outcome)) o ds) there
 
-  set_here : line ≡ e.chunk → slice_get (slice_set ds e.chunk (after_outcome s found e.command e.outcome)) line ≡ Some (after_outcome s found e.command e.outcome)
-  set_here same = ap (slice_get (slice_set ds e.chunk (after_outcome s found e.command e.outcome))) same ∙ get_set_same ds e.chunk (after_outcome s found e.command e.outcome) (slice_get_within ds e.chunk found there)
+      set_here : line ≡ e.chunk → slice_get (slice_set ds e.chunk (after_outcome s found e.command e.outcome)) line ≡ Some
+          (after_outcome s found e.command e.outcome)
+      set_here same = ap (slice_get (slice_set ds e.chunk (after_outcome s found e.command e.outcome))) same
+          ∙ get_set_same ds e.chunk (after_outcome s found e.command e.outcome) (slice_get_within ds e.chunk found there)
 
-  set_else : line ≢ e.chunk → slice_get (slice_set ds e.chunk (after_outcome s found e.command e.outcome)) line ≡ slice_get ds line
-  set_else apart = get_set_other ds e.chunk line (after_outcome s found e.command e.outcome) apart
+      set_else : line ≢ e.chunk → slice_get (slice_set ds e.chunk (after_outcome s found e.command e.outcome)) line ≡ slice_get ds line
+      set_else apart = get_set_other ds e.chunk line (after_outcome s found e.command e.outcome) apart
 
-  changed : line ≡ e.chunk → IsPadded s found (after_outcome s found e.command e.outcome) → (slice_get ds line ≡ slice_get cs line) ⊎ IsPaddedIn s cs ds line
-      → IsPaddedIn s cs (slice_set ds e.chunk (after_outcome s found e.command e.outcome)) line
-  changed same p (inl was) = record {
-    old = found;
-    new = after_outcome s found e.command e.outcome;
-    was = sym was ∙ ap (slice_get ds) same ∙ there;
-    is = set_here same;
-    padded = p;
-  }
-  changed same p (inr q) =
-      let was : q.new ≡ found = same_Some q.new found (sym q.is ∙ ap (slice_get ds) same ∙ there) in
-      record {
-        old = q.old;
+      changed : line ≡ e.chunk → IsPadded s found (after_outcome s found e.command e.outcome) → (slice_get ds line ≡ slice_get cs line) ⊎ IsPaddedIn s cs ds line
+          → IsPaddedIn s cs (slice_set ds e.chunk (after_outcome s found e.command e.outcome)) line
+      changed same p (inl was) = record {
+        old = found;
         new = after_outcome s found e.command e.outcome;
-        was = q.was;
+        was = sym was ∙ ap (slice_get ds) same ∙ there;
         is = set_here same;
-        padded = padded_twice s q.old found (after_outcome s found e.command e.outcome) (subst (IsPadded s q.old) was q.padded) p;
+        padded = p;
       }
+      changed same p (inr q) =
+          let was : q.new ≡ found = same_Some q.new found (sym q.is ∙ ap (slice_get ds) same ∙ there) in
+          record {
+            old = q.old;
+            new = after_outcome s found e.command e.outcome;
+            was = q.was;
+            is = set_here same;
+            padded = padded_twice s q.old found (after_outcome s found e.command e.outcome) (subst (IsPadded s q.old) was q.padded) p;
+          }
 
-  kept : slice_get (slice_set ds e.chunk (after_outcome s found e.command e.outcome)) line ≡ slice_get ds line → (slice_get ds line ≡ slice_get cs line) ⊎ IsPaddedIn s cs ds line
-      → (slice_get (slice_set ds e.chunk (after_outcome s found e.command e.outcome)) line ≡ slice_get cs line) ⊎ IsPaddedIn s cs (slice_set ds e.chunk (after_outcome s found e.command e.outcome)) line
-  kept same (inl was) = inl (same ∙ was)
-  kept same (inr q) = inr (record { old = q.old; new = q.new; was = q.was; is = same ∙ q.is; padded = q.padded })
+      kept : slice_get (slice_set ds e.chunk (after_outcome s found e.command e.outcome)) line ≡ slice_get ds line
+          → (slice_get ds line ≡ slice_get cs line) ⊎ IsPaddedIn s cs ds line
+          → (slice_get (slice_set ds e.chunk (after_outcome s found e.command e.outcome)) line ≡ slice_get cs line)
+          ⊎ IsPaddedIn s cs (slice_set ds e.chunk (after_outcome s found e.command e.outcome)) line
+      kept same (inl was) = inl (same ∙ was)
+      kept same (inr q) = inr (record { old = q.old; new = q.new; was = q.was; is = same ∙ q.is; padded = q.padded })
 
-  at_line : Dec (line ≡ e.chunk)
-      → (slice_get (slice_set ds e.chunk (after_outcome s found e.command e.outcome)) line ≡ slice_get cs line) ⊎ IsPaddedIn s cs (slice_set ds e.chunk (after_outcome s found e.command e.outcome)) line
-  at_line (no apart) = kept (set_else apart) (only line)
-  at_line (yes same) = elim left [
-    | inl unchanged ↦ kept (set_here same ∙ ap Some unchanged ∙ sym there ∙ sym (ap (slice_get ds) same)) (only line)
-    | inr p ↦ inr (changed same p (only line))
-  ]
+      at_line : Dec (line ≡ e.chunk)
+          → (slice_get (slice_set ds e.chunk (after_outcome s found e.command e.outcome)) line ≡ slice_get cs line)
+          ⊎ IsPaddedIn s cs (slice_set ds e.chunk (after_outcome s found e.command e.outcome)) line
+      at_line (no apart) = kept (set_else apart) (only line)
+      at_line (yes same) = elim left [
+        | inl unchanged ↦ kept (set_here same ∙ ap Some unchanged ∙ sym there ∙ sym (ap (slice_get ds) same)) (only line)
+        | inr p ↦ inr (changed same p (only line))
+      ]
 
 -- a program of Pad blocks in an Open chunk, or a read
 abbrev pub IsEarlyCommand : Shape → Chunk → ChunkCommand → Type 0
@@ -148,7 +161,8 @@ IsEarlyCommand s c (Read b) = ⊤
 IsEarlyCommand s c Reset = ⊥
 
 -- one of these leaves the chunks so
-pub pads_or_reads : (s : Shape) (cs ds : List Chunk) (e : UnitEvent) (found : Chunk) → AllByRecursion (IsChunk s) cs → PadsOnly s cs ds → slice_get ds e.chunk ≡ Some found
+pub pads_or_reads : (s : Shape) (cs ds : List Chunk) (e : UnitEvent) (found : Chunk) → AllByRecursion (IsChunk s) cs → PadsOnly s cs ds
+    → slice_get ds e.chunk ≡ Some found
     → (command : ChunkCommand) → e.command ≡ command → IsEarlyCommand s found command → PadsOnly s cs (after_event s ds e)
 pads_or_reads s cs ds e found fit only there (Write at blocks) is early =
     padded_more s cs ds e found only there (inr (subst (λ command. IsPadded s found (after_outcome s found command e.outcome)) (sym is)

@@ -31,7 +31,8 @@ one_of (suc n) x zero = inr refl
 one_of (suc n) x (suc k) = one_of n x k
 
 -- an element as before, or one of the new ones
-pub get_padded : {X : Type 0} (xs : List X) (n k : ℕ) (x : X) → (slice_get (xs ++ replicate n x) k ≡ slice_get xs k) ⊎ ((slice_get xs k ≡ None) × (slice_get (xs ++ replicate n x) k ≡ Some x))
+pub get_padded : {X : Type 0} (xs : List X) (n k : ℕ) (x : X)
+    → (slice_get (xs ++ replicate n x) k ≡ slice_get xs k) ⊎ ((slice_get xs k ≡ None) × (slice_get (xs ++ replicate n x) k ≡ Some x))
 get_padded [] n k x = elim (one_of n x k) [ inl none ↦ inl none | inr some ↦ inr (refl, some) ]
 get_padded (y ∷ xs) n zero x = inl refl
 get_padded (y ∷ xs) n (suc k) x = get_padded xs n k x
@@ -48,7 +49,8 @@ pub record HasOpen (i : Image) (line : ℕ) : Type 0 where
   pub is_open : chunk.state ≡ Open
 
 module _ (s : Shape) (us vs : List (List Chunk)) (accepted : IsAccepted s) (pads : ArePadded (img s us) (img s vs)) where
-  online_as : (l k : ℕ) → option_map_or (λ (c : Chunk). is_online_in c.state) (chunk_in (img s vs) l k) false ≡ option_map_or (λ (c : Chunk). is_online_in c.state) (chunk_in (img s us) l k) false
+  online_as : (l k : ℕ) → option_map_or (λ (c : Chunk). is_online_in c.state) (chunk_in (img s vs) l k) false ≡ option_map_or
+      (λ (c : Chunk). is_online_in c.state) (chunk_in (img s us) l k) false
   online_as l k = elim (pads.chunks l k) [
     | inl same ↦ ap (λ o. option_map_or (λ (c : Chunk). is_online_in c.state) o false) same
     | inr p ↦
@@ -123,7 +125,8 @@ module _ (s : Shape) (us vs : List (List Chunk)) (accepted : IsAccepted s) (pads
   -- What is sealed.
   module _ (whole : IsSealed (img s us)) where
     -- a line with a whole end record has no Open chunk
-    no_end : (l : ℕ) (start : StartRecord) (e : EndRecord) → l < s.chunks → start_of (img s us) l ≡ Some start → end_of (img s us) l start ≡ Some e → HasOpen (img s us) l → ⊥
+    no_end : (l : ℕ) (start : StartRecord) (e : EndRecord) → l < s.chunks → start_of (img s us) l ≡ Some start → end_of (img s us) l start ≡ Some e
+        → HasOpen (img s us) l → ⊥
     no_end l start e inside started ended has =
         let agrees : AgreesWithLine (img s us) l e = whole.ends l start e inside started ended in
         all_there (λ c. c.state ≢ Open) l us has.unit has.chunk agrees.closed has.there (ap is_online_in has.is_open) has.is_open
@@ -148,14 +151,16 @@ module _ (s : Shape) (us vs : List (List Chunk)) (accepted : IsAccepted s) (pads
             record {
               old = p.old;
               there = old ∙ p.was;
-              first = λ b e. sym (first_stays p.old.blocks (replicate p.padded.more (pad_block s)) p.padded.some) ∙ sym (ap (λ bs. slice_get bs 0) p.padded.blocks) ∙ ap (λ (y : Chunk). slice_get y.blocks 0) is ∙ e;
+              first = λ b e. sym (first_stays p.old.blocks (replicate p.padded.more (pad_block s)) p.padded.some)
+                  ∙ sym (ap (λ bs. slice_get bs 0) p.padded.blocks) ∙ ap (λ (y : Chunk). slice_get y.blocks 0) is ∙ e;
               state = inr (record { unit = u; chunk = p.old; there = p.was; is_open = p.padded.was_open });
             }
       ]
 
       by_unit : (o : Option ℕ) → slice_get (line_units (img s us) l) k ≡ o → WasThere l k x
       by_unit None e = absurd (none-some x (sym (new_is ∙ ap (option_and_then (chunk_in (img s vs) l)) e) ∙ h))
-      by_unit (Some u) e = by_chunk u (sym (new_is ∙ ap (option_and_then (chunk_in (img s vs) l)) e) ∙ h) (line_units_chunks (img s us) l k ∙ ap (option_and_then (chunk_in (img s us) l)) e)
+      by_unit (Some u) e = by_chunk u (sym (new_is ∙ ap (option_and_then (chunk_in (img s vs) l)) e) ∙ h)
+          (line_units_chunks (img s us) l k ∙ ap (option_and_then (chunk_in (img s us) l)) e)
 
     agrees_still : (l : ℕ) (e : EndRecord) → AgreesWithLine (img s us) l e → (HasOpen (img s us) l → ⊥) → AgreesWithLine (img s vs) l e
     agrees_still l e agrees none = record {
@@ -187,13 +192,15 @@ module _ (s : Shape) (us vs : List (List Chunk)) (accepted : IsAccepted s) (pads
     record_with : ℕ → StartRecord → ℕ → Option EndRecord → Option Block → Option Record
     record_with l start a e o = option_and_then (λ block. option_and_then (bears s l start.seq a block) (mark_at s e a block)) o
 
-    bears_none : (l : ℕ) (start : StartRecord) (a : ℕ) (e : Option EndRecord) → l < s.chunks → start_of (img s us) l ≡ Some start → end_of (img s us) l start ≡ e
+    bears_none : (l : ℕ) (start : StartRecord) (a : ℕ) (e : Option EndRecord) → l < s.chunks → start_of (img s us) l ≡ Some start
+        → end_of (img s us) l start ≡ e
         → record_with l start a e (block_at (img s vs) l a) ≡ record_with l start a e (block_at (img s us) l a)
     unfolding record_with
     bears_none l start a None inside started ended = elim (stays l a) [
       | inl same ↦ ap (λ o. option_and_then (λ block. option_and_then (bears s l start.seq a block) (mark_at s None a block)) o) same
       | inr new ↦
-          ap (λ o. option_and_then (λ block. option_and_then (bears s l start.seq a block) (mark_at s None a block)) o) new.2 ∙ pad_borne s l start.seq a (pad_block s) accepted
+          ap (λ o. option_and_then (λ block. option_and_then (bears s l start.seq a block) (mark_at s None a block)) o) new.2
+          ∙ pad_borne s l start.seq a (pad_block s) accepted
           ∙ sym (ap (λ o. option_and_then (λ block. option_and_then (bears s l start.seq a block) (mark_at s None a block)) o) new.1)
     ]
     bears_none l start a (Some e) inside started ended = elim (stays l a) [
@@ -201,7 +208,8 @@ module _ (s : Shape) (us vs : List (List Chunk)) (accepted : IsAccepted s) (pads
       | inr new ↦ absurd (no_end l start e inside started ended new.0)
     ]
 
-    record_same : (l : ℕ) (start : StartRecord) (a : ℕ) → l < s.chunks → start_of (img s us) l ≡ Some start → record_at (img s vs) l start a ≡ record_at (img s us) l start a
+    record_same : (l : ℕ) (start : StartRecord) (a : ℕ) → l < s.chunks → start_of (img s us) l ≡ Some start
+        → record_at (img s vs) l start a ≡ record_at (img s us) l start a
     unfolding record_with
     record_same l start a inside started =
         ap (λ e. record_with l start a e (block_at (img s vs) l a)) (ends_same l start)
@@ -236,7 +244,9 @@ padded_lines i j accepted pads =
     })
 
 pub padded_sealed : (i j : Image) → IsAccepted i.shape → IsSealed i → ArePadded i j → IsSealed j
-padded_sealed i j accepted whole pads = subst IsSealed (sym (same_img j i.shape pads.shape)) (sealed_still i.shape i.units j.units accepted (of_shape i j pads) whole)
+padded_sealed i j accepted whole pads =
+    subst IsSealed (sym (same_img j i.shape pads.shape)) (sealed_still i.shape i.units j.units accepted (of_shape i j pads) whole)
 
 pub padded_holds : (i j : Image) → IsAccepted i.shape → IsSealed i → ArePadded i j → HoldsTheSame i j
-padded_holds i j accepted whole pads = subst (HoldsTheSame i) (sym (same_img j i.shape pads.shape)) (holds_still i.shape i.units j.units accepted (of_shape i j pads) whole)
+padded_holds i j accepted whole pads =
+    subst (HoldsTheSame i) (sym (same_img j i.shape pads.shape)) (holds_still i.shape i.units j.units accepted (of_shape i j pads) whole)

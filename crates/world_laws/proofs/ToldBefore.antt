@@ -432,7 +432,8 @@ module _ (i : Image) (w : World) (legal : IsLegal i w) (b : Begun) (begins : beg
             let inside : n < length own = get_below own n l first.at.there in
             let later = told_later n q.placed.opening.number r.found first.from (omega arith) r.there r.used found (fewer n m (omega arith) below)
             (λ y k g from under at. going_before y n k l g e under at.there at.is_event first.at.there first.at.is_event first.going) (named low)
-            (empty_by_told i w legal b begins unit line q.placed.opening.number q.placed.opening.start q.placed.open_from.logged opening found.chunks found.has found.chunk found.at) in
+            (empty_by_told i w legal b begins unit line q.placed.opening.number q.placed.opening.start q.placed.open_from.logged opening found.chunks found.has
+            found.chunk found.at) in
             by_told later.told later.past
 
     two_resets : (n : ℕ) (l x : Logged) (e f : UnitEvent) → n < m → IsCommandOf is_reset n l e → IsCommandOf is_reset m x f → IsNamedFor n x

@@ -47,9 +47,12 @@ abbrev block_in : Image → ℕ → ℕ → Chunk → Option Block
 block_in i line a c = slice_get c.blocks (block_of i.shape (width i line) a)
 
 pub written_in : (i : Image) (line a : ℕ) (block : Block) → IsFit i → block_at i line a ≡ Some block → IsInClosed i line a
-written_in i line a block fit e = by_unit (slice_get (line_units i line) (column i line a)) refl (sym (ap (option_and_then (block_in i line a)) (line_units_chunks i line (column i line a))) ∙ e)
+written_in i line a block fit e =
+    by_unit (slice_get (line_units i line) (column i line a)) refl
+    (sym (ap (option_and_then (block_in i line a)) (line_units_chunks i line (column i line a))) ∙ e)
   where
-    by_chunk : (unit : ℕ) (o : Option Chunk) → slice_get (line_units i line) (column i line a) ≡ Some unit → chunk_in i line unit ≡ o → option_and_then (block_in i line a) o ≡ Some block → IsInClosed i line a
+    by_chunk : (unit : ℕ) (o : Option Chunk) → slice_get (line_units i line) (column i line a) ≡ Some unit → chunk_in i line unit ≡ o
+        → option_and_then (block_in i line a) o ≡ Some block → IsInClosed i line a
     by_chunk unit None is has h = absurd (none-some block h)
     by_chunk unit (Some c) is has h =
         let low : block_of i.shape (width i line) a < length c.blocks = slice_get_within c.blocks (block_of i.shape (width i line) a) block h in
@@ -57,7 +60,8 @@ written_in i line a block fit e = by_unit (slice_get (line_units i line) (column
         let state = written_state c.state i.shape.clba (length c.blocks) fits.place (omega arith) in
         record { unit = unit; is_unit = is; chunk = c; is_chunk = has; closed = state.0; used = state.1 }
 
-    by_unit : (o : Option ℕ) → slice_get (line_units i line) (column i line a) ≡ o → option_and_then (block_in i line a) (option_and_then (chunk_in i line) o) ≡ Some block → IsInClosed i line a
+    by_unit : (o : Option ℕ) → slice_get (line_units i line) (column i line a) ≡ o
+        → option_and_then (block_in i line a) (option_and_then (chunk_in i line) o) ≡ Some block → IsInClosed i line a
     by_unit None is h = absurd (none-some block h)
     by_unit (Some unit) is h = by_chunk unit (chunk_in i line unit) is refl h
 
@@ -79,7 +83,8 @@ pub record IsOfBlock (i : Image) (r : Record) : Type 0 where
   pub block : Block
   pub is_block : block_at i r.line r.at ≡ Some block
 
-block_bears : (i : Image) (line : ℕ) (start : StartRecord) (a : ℕ) → line < i.shape.chunks → start_of i line ≡ Some start → a < width i line * i.shape.clba → IfSome (record_at i line start a) (IsOfBlock i)
+block_bears : (i : Image) (line : ℕ) (start : StartRecord) (a : ℕ) → line < i.shape.chunks → start_of i line ≡ Some start → a < width i line * i.shape.clba
+    → IfSome (record_at i line start a) (IsOfBlock i)
 block_bears i line start a inside is within = by_block (block_at i line a) refl
   where
     by_name : (block : Block) (m : Mark) (o : Option (Option ℕ)) → block_at i line a ≡ Some block
@@ -87,28 +92,35 @@ block_bears i line start a inside is within = by_block (block_at i line a) refl
     by_name block m None e = tt
     by_name block m (Some lba) e = record { line = inside; start = start; is_start = is; at = within; block = block; is_block = e }
 
-    by_mark : (block : Block) (o : Option Mark) → block_at i line a ≡ Some block → IfSome (option_and_then (bears i.shape line start.seq a block) o) (IsOfBlock i)
+    by_mark : (block : Block) (o : Option Mark) → block_at i line a ≡ Some block
+        → IfSome (option_and_then (bears i.shape line start.seq a block) o) (IsOfBlock i)
     by_mark block None e = tt
     by_mark block (Some m) e = by_name block m (named i.shape m) e
 
-    by_block : (o : Option Block) → block_at i line a ≡ o → IfSome (option_and_then (λ block. option_and_then (bears i.shape line start.seq a block) (mark_at i.shape (end_of i line start) a block)) o) (IsOfBlock i)
+    by_block : (o : Option Block) → block_at i line a ≡ o
+        → IfSome (option_and_then (λ block. option_and_then (bears i.shape line start.seq a block) (mark_at i.shape (end_of i line start) a block)) o)
+        (IsOfBlock i)
     by_block None e = tt
     by_block (Some block) e = by_mark block (mark_at i.shape (end_of i line start) a block) e
 
-range_kept : {Y : Type 0} (P : Y → Type 0) (f : ℕ → Option Y) (a n m : ℕ) → a + n ≤ m → ((k : ℕ) → k < m → IfSome (f k) P) → AllByRecursion P (filter_map f (range_with_len a n))
+range_kept : {Y : Type 0} (P : Y → Type 0) (f : ℕ → Option Y) (a n m : ℕ) → a + n ≤ m → ((k : ℕ) → k < m → IfSome (f k) P)
+    → AllByRecursion P (filter_map f (range_with_len a n))
 range_kept P f a zero m within each = tt
-range_kept P f a (suc n) m within each = all_cons_option P (f a) (filter_map f (range_with_len (a + 1) n)) (each a (omega arith)) (range_kept P f (a + 1) n m (omega arith) each)
+range_kept P f a (suc n) m within each =
+    all_cons_option P (f a) (filter_map f (range_with_len (a + 1) n)) (each a (omega arith)) (range_kept P f (a + 1) n m (omega arith) each)
 
 of_line : (i : Image) (line : ℕ) (o : Option StartRecord) → line < i.shape.chunks → start_of i line ≡ o → AllByRecursion (IsOfBlock i) (records_after i line o)
 of_line i line None inside e = tt
 of_line i line (Some start) inside e =
     let n : ℕ = width i line * i.shape.clba in
-    range_kept (IsOfBlock i) (record_at i line start) 0 (width i line * i.shape.clba) (width i line * i.shape.clba) (omega arith) (λ a within. block_bears i line start a inside e within)
+    range_kept (IsOfBlock i) (record_at i line start) 0 (width i line * i.shape.clba) (width i line * i.shape.clba) (omega arith)
+    (λ a within. block_bears i line start a inside e within)
 
 of_lines : (i : Image) (a n : ℕ) → a + n ≤ i.shape.chunks → AllByRecursion (IsOfBlock i) (flat_map (line_records i) (range_with_len a n))
 of_lines i a zero within = tt
 of_lines i a (suc n) within =
-    all_append (IsOfBlock i) (line_records i a) (flat_map (line_records i) (range_with_len (a + 1) n)) (of_line i a (start_of i a) (omega arith) refl) (of_lines i (a + 1) n (omega arith))
+    all_append (IsOfBlock i) (line_records i a) (flat_map (line_records i) (range_with_len (a + 1) n)) (of_line i a (start_of i a) (omega arith) refl)
+    (of_lines i (a + 1) n (omega arith))
 
 -- ---- records that count
 
@@ -121,4 +133,5 @@ counted_of i r there = all_contains (IsOfBlock i) (counted i) r (of_counted i (h
 
 pub counted_passed : (i : Image) (h : StartRecord) → head i ≡ Some h → AllByRecursion (λ r. counts h (end_after (records i) (Some h)) r ≡ true) (counted i)
 counted_passed i h e =
-    subst (λ o. AllByRecursion (λ r. counts h (end_after (records i) (Some h)) r ≡ true) (counted_after (records i) o)) (sym e) (all_passed (counts h (end_after (records i) (Some h))) (records i))
+    subst (λ o. AllByRecursion (λ r. counts h (end_after (records i) (Some h)) r ≡ true) (counted_after (records i) o)) (sym e)
+    (all_passed (counts h (end_after (records i) (Some h))) (records i))

@@ -23,7 +23,8 @@ held_is w position held = ap (λ b. cond b None (slice_get w.entries (position -
 pub index_inside : (w : WindowView) (position : ℕ) → IsHeld w position → position - w.freed < length w.entries
 index_inside w position held = omega (arith, held.0, held.1)
 
-pub landed_is : (w : WindowView) (position : ℕ) (h : Held) → IsHeld w position → h ≡ get_or w.entries (position - w.freed) h → has_landed_at w position ≡ has_landed h.progress
+pub landed_is : (w : WindowView) (position : ℕ) (h : Held) → IsHeld w position → h ≡ get_or w.entries (position - w.freed) h
+    → has_landed_at w position ≡ has_landed h.progress
 landed_is w position h held is = ap (λ (o : Option Held). option_map_or (λ (x : Held). has_landed x.progress) o false)
     (held_is w position held ∙ slice_get_read w.entries (length w.entries) (position - w.freed) h refl (index_inside w position held) is)
 
@@ -42,9 +43,11 @@ pub synced_popped : (size f u n : ℕ) (h : Held) (hs : List Held) → has_lande
     → synced (record { size = size; freed = f + 1; users = u + n; entries = hs }) ≡ synced (record { size = size; freed = f; users = u; entries = h ∷ hs })
 synced_popped size f u n h hs e count =
     let run : landed_first (h ∷ hs) ≡ h ∷ landed_first hs = first_landed h hs e in
-    same_front (u + n + users_in (landed_first hs)) (f + 1 + length (landed_first hs)) (u + users_in (landed_first (h ∷ hs))) (f + length (landed_first (h ∷ hs))) (omega (arith, ap users_in run, count)) (omega (arith, ap length run))
+    same_front (u + n + users_in (landed_first hs)) (f + 1 + length (landed_first hs)) (u + users_in (landed_first (h ∷ hs)))
+    (f + length (landed_first (h ∷ hs))) (omega (arith, ap users_in run, count)) (omega (arith, ap length run))
 
-pub synced_turned : (w : WindowView) (k : ℕ) (h : Held) (to : Progress) → k < length w.entries → h ≡ get_or w.entries k h → has_landed h.progress ≡ true → has_landed to ≡ true
+pub synced_turned : (w : WindowView) (k : ℕ) (h : Held) (to : Progress) → k < length w.entries → h ≡ get_or w.entries k h → has_landed h.progress ≡ true
+    → has_landed to ≡ true
     → synced (record w { entries = with_progress w.entries k to }) ≡ synced w
 synced_turned w k h to inside is e to_lands =
     let same = same_run w.entries k h to inside is e to_lands in
@@ -78,7 +81,9 @@ end_of_run (x ∷ xs) = end_by (has_landed x.progress) x xs refl (end_of_run xs)
 
 -- what is looked up from the first position on
 from_first : (w : WindowView) (position : ℕ) → w.freed ≤ position → has_landed_at w position ≡ landed_at w.entries (position - w.freed)
-from_first w position after = ap (λ (b : Bool). option_map_or (λ (h : Held). has_landed h.progress) (cond b None (slice_get w.entries (position - w.freed))) false) (not_before position w.freed after)
+from_first w position after = ap
+    (λ (b : Bool). option_map_or (λ (h : Held). has_landed h.progress) (cond b None (slice_get w.entries (position - w.freed))) false)
+    (not_before position w.freed after)
 
 pub synced_below : (w : WindowView) (position : ℕ) → w.freed ≤ position → position < w.freed + length (landed_first w.entries) → has_landed_at w position ≡ true
 synced_below w position after below = from_first w position after ∙ below_run w.entries (position - w.freed) (omega arith)

@@ -17,7 +17,8 @@ loop-unit-preserved c =
     ∙ sym (count_stored (λ (k : Chunk). state_code k.state == state_code c.args.state) unit.unit.media unit.wear worn) in
     record {
       counted = added c.loop-unit.count c.from-count.result _ _ _ c.loop-unit.invariant.counted one
-          (count_joined (λ (k : StoredChunk). state_code k.chunk.state == state_code c.args.state) stored_chunks c.args.drive.now.units c.loop-unit.unit unit c.unit.ensures.unit);
+          (count_joined (λ (k : StoredChunk). state_code k.chunk.state == state_code c.args.state) stored_chunks c.args.drive.now.units c.loop-unit.unit unit
+          c.unit.ensures.unit);
       few = omega (arith, c.from-count.ensures, c.unit_chunks_in.type_inv, c.loop-unit.invariant.few);
     }
 

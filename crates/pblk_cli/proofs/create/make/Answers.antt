@@ -24,7 +24,8 @@ returns-in_err-drive-clause-refused c = let n = numbers_seen c.args.numbers.now 
 pub returns-in-Ok-clause-accepted : goal.returns-in-Ok-clause-accepted
 returns-in-Ok-clause-accepted c = let n = numbers_seen c.args.numbers.now in
     subst (λ g. blank_refusal g n.sector n.capacity n.ring ≡ None) c.geometry_of-geometry.ensures
-    (of_value (blank_refusal (numbers_of c.geometry_of-geometry.result) n.sector n.capacity n.ring) c.blank.result c.in_ok-drive.drive c.in_ok-drive.was c.blank.ensures.refused)
+    (of_value (blank_refusal (numbers_of c.geometry_of-geometry.result) n.sector n.capacity n.ring) c.blank.result c.in_ok-drive.drive c.in_ok-drive.was
+    c.blank.ensures.refused)
 
 pub returns-in-Ok-clause-made : goal.returns-in-Ok-clause-made
 returns-in-Ok-clause-made c = let n = numbers_seen c.args.numbers.now in
@@ -34,7 +35,9 @@ returns-in-Ok-clause-made c = let n = numbers_seen c.args.numbers.now in
 
 pub returns-in-Ok-clause-sealed : goal.returns-in-Ok-clause-sealed
 returns-in-Ok-clause-sealed c = let n = numbers_seen c.args.numbers.now in
-    let is = blank_drive_is_sealed (numbers_of c.geometry_of-geometry.result) n.sector n.capacity n.ring c.in_ok-drive.drive c.in_ok-drive.ensures.blank c.in_ok-drive.ensures.whole c.blank_is_sealed.ensures in
+    let is = blank_drive_is_sealed
+    (numbers_of c.geometry_of-geometry.result) n.sector n.capacity n.ring c.in_ok-drive.drive c.in_ok-drive.ensures.blank c.in_ok-drive.ensures.whole
+    c.blank_is_sealed.ensures in
     subst (λ g. IsSealed (image_of (blank_drive g n.sector n.capacity n.ring))) c.geometry_of-geometry.ensures is
 
 -- there was no memory for the bytes of a drive that was made

@@ -4,7 +4,9 @@ use Rattle.pblk_cli.proofs.RunComes.{fails, image_refused_comes, input_of, made,
 use Rattle.pblk_cli.proofs.run.run.Goals as goal
 
 pub returns-in-Err-drive_of-clause-comes : goal.returns-in-Err-drive_of-clause-comes
-returns-in-Err-drive_of-clause-comes g c = image_refused_comes c.args.image.now c.args.script.now c.in-Ok.read.0.items c.in-Ok.read.1.items _ _ c.in-Ok.ensures.image c.in-Ok.ensures.script c.in-Err-drive_of.refusal c.in-Err-drive_of.ensures.refused
+returns-in-Err-drive_of-clause-comes g c =
+    image_refused_comes c.args.image.now c.args.script.now c.in-Ok.read.0.items c.in-Ok.read.1.items _ _ c.in-Ok.ensures.image c.in-Ok.ensures.script
+    c.in-Err-drive_of.refusal c.in-Err-drive_of.ensures.refused
 
 pub returns-in-Err-run_script-clause-comes : goal.returns-in-Err-run_script-clause-comes
 returns-in-Err-run_script-clause-comes g c = script_refused_comes c.args.image.now c.args.script.now c.in-Ok.read.0.items c.deref.result.now
@@ -15,7 +17,8 @@ pub returns-in-Ok-write-clause-comes : goal.returns-in-Ok-write-clause-comes
 returns-in-Ok-write-clause-comes g c = made c.args.image.now c.args.script.now c.in-Ok.read.0.items c.deref.result.now
     (stored c.in-Ok-drive_of.drive) c.in-Ok-run_script.made.1.status c.in-Ok-run_script.made.1.text.items c.deref-2.result.now _ _ _ c.in-Ok.ensures.image
     (rw c.deref.ensures.value c.in-Ok.ensures.script) c.in-Ok-drive_of.ensures.drive
-    (rw c.deref-2.ensures.value c.in-Ok-run_script.ensures.run) c.in-Ok-write.ensures.stored c.in-Ok-write.ensures.calm c.write.ensures.same_others c.write.ensures.same_told
+    (rw c.deref-2.ensures.value c.in-Ok-run_script.ensures.run) c.in-Ok-write.ensures.stored c.in-Ok-write.ensures.calm c.write.ensures.same_others
+    c.write.ensures.same_told
 
 pub returns-in-Ok-write-clause-told : goal.returns-in-Ok-write-clause-told
 returns-in-Ok-write-clause-told g c = c.write.ensures.same_told ∙ c.read_both.ensures.told

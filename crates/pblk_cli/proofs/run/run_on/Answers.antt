@@ -16,4 +16,5 @@ invariant_of-result g c = whole_left _ c.shape-shape.result c.args.script.now c.
     ∙ ap shape_of (sym c.drive.view_is)) c.in_ok-served.ensures
 
 pub returns : goal.returns
-returns g c = ran_of c.args.drive _ c.shape-shape.result c.args.script.now c.in_ok-served.served c.drive.view_is c.shape-shape.ensures.whole c.shape-shape.ensures.shape c.in_ok-served.ensures
+returns g c = ran_of c.args.drive _ c.shape-shape.result c.args.script.now c.in_ok-served.served c.drive.view_is c.shape-shape.ensures.whole
+    c.shape-shape.ensures.shape c.in_ok-served.ensures

@@ -12,7 +12,9 @@ only_port-requires g c =
 
 pub returns-in-Ok : goal.returns-in-Ok
 returns-in-Ok g c = session_of c.args.script.now c.in-Ok.records c.args.target c.only_port.result c.in_ok-ports.ports.items c.in-Ok.ports.items c.requires.one
-    (not_empty c.args.script.now c.as_slice.result.now c.is_empty.result c.as_slice.ensures c.is_empty.ensures c.if-is_empty.false) c.in_ok-ports.ensures c.only_port.ensures c.in-Ok.ensures.run
+    (not_empty c.args.script.now c.as_slice.result.now c.is_empty.result c.as_slice.ensures c.is_empty.ensures c.if-is_empty.false) c.in_ok-ports.ensures
+    c.only_port.ensures c.in-Ok.ensures.run
 
 pub returns-then-is_empty : goal.returns-then-is_empty
-returns-then-is_empty g c = idle_session c.args.script.now c.as_slice.result.now c.is_empty.result c.as_slice.ensures c.is_empty.ensures c.if-is_empty.true c.no_records.result c.no_records.ensures c.args.target
+returns-then-is_empty g c = idle_session c.args.script.now c.as_slice.result.now c.is_empty.result c.as_slice.ensures c.is_empty.ensures c.if-is_empty.true
+    c.no_records.result c.no_records.ensures c.args.target

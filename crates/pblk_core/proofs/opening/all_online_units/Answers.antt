@@ -9,6 +9,7 @@ use Rattle.pblk_core.proofs.opening.all_online_units.Goals as goal
 pub loop-line-preserved : goal.loop-line-preserved
 loop-line-preserved c =
     let next : c.online_units.result ≡ online_bits c.args.layout.now c.args.found.now c.loop-line.line =
-    sym (bits_again c.online_units.result (units c.args.layout.now) c.requires.accepted.drive.few_units c.online_units.ensures.below) ∙ ap bits_of c.online_units.ensures.units in
+    sym (bits_again c.online_units.result (units c.args.layout.now) c.requires.accepted.drive.few_units c.online_units.ensures.below)
+    ∙ ap bits_of c.online_units.ensures.units in
     c.in_ok-push.ensures.items ∙ ap₂ (λ xs x. xs ++ x ∷ []) c.loop-line.invariant next
     ∙ sym (map-range_with_len_more (online_bits c.args.layout.now c.args.found.now) 0 c.loop-line.line c.loop-line.line (omega arith))

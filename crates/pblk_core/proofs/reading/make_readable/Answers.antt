@@ -22,7 +22,8 @@ loop-block-preserved c =
           ∙ ap (λ (w : WindowView). all_readable w (option_to_list (block_reads c.args.slot.now c.args.unit c.loop-block.block))) c.loop-block.invariant.window
           ∙ window_more c.args.window.now c.args.slot.now c.args.unit c.args.from c.loop-block.block low;
       map = c.make_block_readable.ensures.map
-          ∙ ap (λ m. all_moved c.args.layout.now.capacity c.args.slot.now.records.line m (option_to_list (block_reads c.args.slot.now c.args.unit c.loop-block.block))) c.loop-block.invariant.map
+          ∙ ap (λ m. all_moved c.args.layout.now.capacity c.args.slot.now.records.line m
+          (option_to_list (block_reads c.args.slot.now c.args.unit c.loop-block.block))) c.loop-block.invariant.map
           ∙ map_more c.args.layout.now.capacity c.args.slot.now.records.line c.args.map.now c.args.slot.now c.args.unit c.args.from c.loop-block.block low;
       capacity = c.make_block_readable.ensures.capacity ∙ c.loop-block.invariant.capacity;
       past = λ h. absurd (omega arith);

@@ -53,8 +53,20 @@ cut_spec 𝓤 𝓛 𝓜 𝓡 wired =
     let k₂ = ended.kept.1.1.0 in
     let k₃ = ended.kept.1.1.1.0 in
     let k₄ = ended.kept.1.1.1.1.0 in
-    let stays : Stays ps ended.kept = (stay_dropped (param_at 0 ps) k₀, (stay_dropped (param_at 1 ps) k₁, (stay_dropped (param_at 2 ps) k₂, (stay_dropped (param_at 3 ps) k₃, (stay_dropped (param_at 4 ps) k₄, tt))))) in
-    proved_at 𝓛 ended stays c 𝓜 𝓡 (Goes-blank 𝓛 0 (param_at 0 ps) k₀ (λ κs x f. tt), (Goes-dropped 𝓛 0 (param_at 1 ps) k₁ (λ κs x f. refl), (Goes-dropped 𝓛 0 (param_at 2 ps) k₂ (λ κs x f. refl), (Goes-dropped 𝓛 0 (param_at 3 ps) k₃ (λ κs x f. refl), (Goes-dropped 𝓛 0 (param_at 4 ps) k₄ (λ κs x f. refl), tt)))))
+    let stays : Stays ps ended.kept = (
+      stay_dropped (param_at 0 ps) k₀,
+      (stay_dropped (param_at 1 ps) k₁, (stay_dropped (param_at 2 ps) k₂, (stay_dropped (param_at 3 ps) k₃, (stay_dropped (param_at 4 ps) k₄, tt)))),
+    ) in
+    proved_at 𝓛 ended stays c 𝓜 𝓡 (
+      Goes-blank 𝓛 0 (param_at 0 ps) k₀ (λ κs x f. tt),
+      (
+        Goes-dropped 𝓛 0 (param_at 1 ps) k₁ (λ κs x f. refl),
+        (
+          Goes-dropped 𝓛 0 (param_at 2 ps) k₂ (λ κs x f. refl),
+          (Goes-dropped 𝓛 0 (param_at 3 ps) k₃ (λ κs x f. refl), (Goes-dropped 𝓛 0 (param_at 4 ps) k₄ (λ κs x f. refl), tt)),
+        ),
+      ),
+    )
     #self fn (compiled.unfolded 𝓤 H 𝓜 𝓡 wired) (λ z are.
     let Post : Val → SProp 𝓤 = (walk_of 𝓛 ended stays c).post z in
     let args = z.0.3 in
@@ -93,17 +105,22 @@ cut_spec 𝓤 𝓛 𝓜 𝓡 wired =
     use1 𝓛 (‵ (ranges_here b stride rest o (replicate count true))) (all_cut 𝓛 b stride rest count o) $
     -- the body, over the ranges, the emptied `Vec` and the tokens
     let emptied_val = as_fields (layout Bytes ∷ []) (u ∷ []) (good, tt) in
-    regoal ! (λ (us : List Val). prop (WpFn 𝓤 H C Λ fn us Post)) (λ i. is i ++ ((are.1.0 ∙ ap (λ p. ptr_val p ∷ []) placed) i ++ (are.1.1.0.0 i ++ (are.1.1.1.0.0 i ++ (are.1.1.1.1.0.0 i ++ []))))) refl $
+    regoal ! (λ (us : List Val). prop (WpFn 𝓤 H C Λ fn us Post))
+    (λ i. is i ++ ((are.1.0 ∙ ap (λ p. ptr_val p ∷ []) placed) i ++ (are.1.1.0.0 i ++ (are.1.1.1.0.0 i ++ (are.1.1.1.1.0.0 i ++ []))))) refl $
     enter ! C Λ fn (u ∷ vptr b o ∷ vint w64 count ∷ vint w64 stride ∷ vint w64 size ∷ []) Post $
-    alloc_all ! (λ l. pass_all ! refl (good, ((tt, tt), ((tt, record { fits = are.1.1.0.1 }), ((tt, record { fits = are.1.1.1.0.1 }), ((tt, record { fits = are.1.1.1.1.0.1 }), tt))))) $
+    alloc_all ! (λ l. pass_all ! refl
+    (good, ((tt, tt), ((tt, record { fits = are.1.1.0.1 }), ((tt, record { fits = are.1.1.1.0.1 }), ((tt, record { fits = are.1.1.1.1.0.1 }), tt))))) $
     sets ! (agg ! (and_then ! (get ! refl) (no_more !))) refl (tt, (tt, tt)) $
     sets ! (of_opd ! (get ! refl)) refl good $
     sets ! (agg ! (and_then ! (get ! refl) (no_more !))) refl emptied_val $
-    sets ! (agg ! (and_then ! (get ! refl) (and_then ! (get ! refl) (no_more !)))) refl (as_fields (layout Ranges.the_row ∷ layout Emptied.the_row ∷ []) (one (vptr b o) ∷ one u ∷ []) ((tt, (tt, tt)), (emptied_val, tt))) $
+    sets ! (agg ! (and_then ! (get ! refl) (and_then ! (get ! refl) (no_more !)))) refl
+    (as_fields (layout Ranges.the_row ∷ layout Emptied.the_row ∷ []) (one (vptr b o) ∷ one u ∷ []) ((tt, (tt, tt)), (emptied_val, tt))) $
     returns ! (look_at ! 0 refl) $ free_all ! refl $
     -- the pair that it returns
-    feq_i ! (List Val) (vptr b o ∷ []) (ptr_val base ∷ []) (ap (λ p. ptr_val p ∷ []) (sym placed)) $ one_made ! RawPtr base (vptr b o) $ fjoin ! $ move ! (1 ∷ []) $
-    nothing ! $ fpack ! (Typed Emptied.the_row.mir (one u ∷ [])) (λ _. ftrue) (emptied_val, tt) $ fjoin ! $ move ! (1 ∷ 0 ∷ []) $ two_made ! Ranges.the_row Emptied.the_row ranges extent (one (vptr b o)) (one u) $
+    feq_i ! (List Val) (vptr b o ∷ []) (ptr_val base ∷ []) (ap (λ p. ptr_val p ∷ []) (sym placed)) $ one_made ! RawPtr base (vptr b o) $ fjoin ! $ move !
+    (1 ∷ []) $
+    nothing ! $ fpack ! (Typed Emptied.the_row.mir (one u ∷ [])) (λ _. ftrue) (emptied_val, tt) $ fjoin ! $ move !
+    (1 ∷ 0 ∷ []) $ two_made ! Ranges.the_row Emptied.the_row ranges extent (one (vptr b o)) (one u) $
     let Said = HasShape region stride size count × (replicate count true ≡ replicate count true) × IsExtent region rest extent × (v.len ≡ v.len) in
     use0 𝓛 (raw (fact 𝓤 Said)) (fact_i 𝓤 Said (emp 𝓤) ((refl, refl, refl), refl, (at, omega (arith, asked.4)), refl)) $
     nothing ! $ nothing ! $ fjoin ! $ nothing ! $ fjoin ! $ nothing ! $ fjoin ! $ nothing ! $ fjoin ! $ nothing ! $ fjoin ! $ move ! (3 ∷ 0 ∷ 2 ∷ 1 ∷ []) $

@@ -47,7 +47,8 @@ rejoin_spec 𝓤 𝓛 𝓜 𝓡 wired =
     let k₀ = ended.kept.0 in
     let k₁ = ended.kept.1.0 in
     let stays : Stays ps ended.kept = (stay_dropped (param_at 0 ps) k₀, (stay_dropped (param_at 1 ps) k₁, tt)) in
-    proved_at 𝓛 ended stays c 𝓜 𝓡 (Goes-blank 𝓛 0 (param_at 0 ps) k₀ (λ κs x f. tt), (Goes-blank 𝓛 0 (param_at 1 ps) k₁ (λ κs x f. tt), tt)) #self fn (compiled.unfolded 𝓤 H 𝓜 𝓡 wired) (λ z are.
+    proved_at 𝓛 ended stays c 𝓜 𝓡 (Goes-blank 𝓛 0 (param_at 0 ps) k₀ (λ κs x f. tt), (Goes-blank 𝓛 0 (param_at 1 ps) k₁ (λ κs x f. tt), tt)) #self fn
+    (compiled.unfolded 𝓤 H 𝓜 𝓡 wired) (λ z are.
     let Post : Val → SProp 𝓤 = (walk_of 𝓛 ended stays c).post z in
     let args = z.0.3 in
     let vss = z.0.4 in
@@ -67,12 +68,15 @@ rejoin_spec 𝓤 𝓛 𝓜 𝓡 wired =
     -- and the emptied `Vec` takes it
     fsplit ! $ fsplit ! $ fpick ! (λ typed. drop ! $ fpick ! (λ v. fsplit ! $ feq_l ! (λ len.
     let ws = vss.1.0 in
-    use1 𝓛 (‵ (fwand (Awaited e.ptr e.len xs) (Refilled v.vec ws xs))) (all_e 𝓤 (λ ys. sem 𝓛 (fwand (Awaited e.ptr e.len ys) (Refilled v.vec ws ys))) xs) $ move ! (2 ∷ 0 ∷ []) $
-    use2 𝓛 (‵ (Refilled v.vec ws xs)) (apply∗ 𝓤 (sem 𝓛 (Awaited e.ptr e.len xs)) (sem 𝓛 (Refilled v.vec ws xs))) $ one_had ! Bytes bytes-laws (with_items v.vec xs) ws (λ u is₁ good.
+    use1 𝓛 (‵ (fwand (Awaited e.ptr e.len xs) (Refilled v.vec ws xs)))
+    (all_e 𝓤 (λ ys. sem 𝓛 (fwand (Awaited e.ptr e.len ys) (Refilled v.vec ws ys))) xs) $ move ! (2 ∷ 0 ∷ []) $
+    use2 𝓛 (‵ (Refilled v.vec ws xs)) (apply∗ 𝓤 (sem 𝓛 (Awaited e.ptr e.len xs)) (sem 𝓛 (Refilled v.vec ws xs))) $ one_had ! Bytes bytes-laws
+    (with_items v.vec xs) ws (λ u is₁ good.
     move ! (1 ∷ []) $ drop ! $
     -- the body
     regoal ! (λ (us : List Val). prop (WpFn 𝓤 H C Λ fn us Post)) (λ i. (is₀ ∙ ap (λ p. one (ptr_val p) ∷ []) m.placed) i ++ (is₁ i ++ [])) refl $
-    enter ! C Λ fn (one (vptr r.block r.start) ∷ one u ∷ []) Post $ alloc_all ! (λ l. pass_all ! refl ((tt, (tt, tt)), ((subst (Typed Emptied.the_row.mir) is₁ typed).0, tt)) $
+    enter ! C Λ fn (one (vptr r.block r.start) ∷ one u ∷ []) Post $ alloc_all !
+    (λ l. pass_all ! refl ((tt, (tt, tt)), ((subst (Typed Emptied.the_row.mir) is₁ typed).0, tt)) $
     sets ! (of_opd ! (get_in ! (fld ! refl (stop !)) (sub ! 0 refl (whole !)))) refl good $
     sets ! (of_opd ! (get ! refl)) refl good $
     returns ! (look_at ! 0 refl) $ free_all ! refl $

@@ -11,7 +11,8 @@ loop-index-preserved c =
     let inside : c.loop-index.run.count < length xs = omega (arith, is.place, c.loop-index-test.true, c.len-index-end.ensures, c.args.entries.now.ok.0) in
     let here : h ≡ get_or xs c.loop-index.run.count h = c.index-held.ensures ∙ ap (λ k. get_or xs k h) (sym is.place) in
     let lands : has_landed h.progress ≡ true = sym c.has_landed.ensures ∙ c.if-not-has_landed.false in
-    let more : landed_first (drop c.loop-index.run.count xs) ≡ h ∷ landed_first (drop (c.loop-index.run.count + 1) xs) = run_goes_on xs c.loop-index.run.count h inside here lands in
+    let more : landed_first (drop c.loop-index.run.count xs) ≡ h ∷ landed_first (drop (c.loop-index.run.count + 1) xs) =
+    run_goes_on xs c.loop-index.run.count h inside here lands in
     record {
       place = omega (arith, is.place);
       inside = omega (arith, inside);

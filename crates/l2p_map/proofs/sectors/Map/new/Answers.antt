@@ -11,7 +11,8 @@ returns-clause-unwritten c =
     λ lba h. get_sector c.in_ok-slots.slots.items lba ∙ ap (λ xs. slice_get xs lba) items ∙ get_replicate c.args.capacity lba Unwritten h
 
 pub returns-clause-no_other : goal.returns-clause-no_other
-returns-clause-no_other c = λ lba h. get_sector c.in_ok-slots.slots.items lba ∙ slice_get_past c.in_ok-slots.slots.items lba (omega (arith, c.in_ok-slots.ensures.len, c.in_ok-slots.slots.ok.0))
+returns-clause-no_other c = λ lba h. get_sector c.in_ok-slots.slots.items lba
+    ∙ slice_get_past c.in_ok-slots.slots.items lba (omega (arith, c.in_ok-slots.ensures.len, c.in_ok-slots.slots.ok.0))
 
 pub returns-clause-capacity : goal.returns-clause-capacity
 returns-clause-capacity c = len_sectors c.in_ok-slots.slots.items ∙ omega (arith, c.in_ok-slots.ensures.len, c.in_ok-slots.slots.ok.0)

@@ -12,4 +12,5 @@ returns-clause-set c =
     set_sector c.self.inside.slots.items c.args.lba c.args.to inside ∙ ap (λ m. map.insert m c.args.lba c.args.to) c.self.view_is
 
 pub returns-clause-capacity : goal.returns-clause-capacity
-returns-clause-capacity c = len_sectors _ ∙ length-set c.self.inside.slots.items c.args.lba c.args.to ∙ sym (len_sectors c.self.inside.slots.items) ∙ ap map.len c.self.view_is
+returns-clause-capacity c = len_sectors _ ∙ length-set c.self.inside.slots.items c.args.lba c.args.to ∙ sym (len_sectors c.self.inside.slots.items)
+    ∙ ap map.len c.self.view_is

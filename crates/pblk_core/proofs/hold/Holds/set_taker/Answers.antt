@@ -8,4 +8,5 @@ use Rattle.pblk_core.proofs.hold.Holds.set_taker.Goals as goal
 pub returns : goal.returns
 returns c =
     let rows = c.args.self.now.rows.items in
-    c.set.ensures ∙ sym (ap (λ o. option_map_or (λ (h : Hold). slice_set rows (c.args.position % length rows) (with_taker c.args.by h)) o rows) c.get-hold.ensures)
+    c.set.ensures ∙ sym (ap (λ o. option_map_or (λ (h : Hold). slice_set rows (c.args.position % length rows) (with_taker c.args.by h)) o rows)
+    c.get-hold.ensures)

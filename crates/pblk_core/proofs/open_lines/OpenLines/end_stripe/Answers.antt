@@ -9,7 +9,8 @@ use Rattle.pblk_core.proofs.open_lines.OpenLines.end_stripe.Goals as goal
 
 pub returns-clause-filled : goal.returns-clause-filled
 returns-clause-filled c = λ slot there.
-    let its : c.index_mut-slot.result.now ≡ slot = c.index_mut-slot.ensures.value ∙ get_or_from_slice_get c.args.self.now.slots.items c.args.index slot c.index_mut-slot.result.now there in
+    let its : c.index_mut-slot.result.now ≡ slot = c.index_mut-slot.ensures.value
+    ∙ get_or_from_slice_get c.args.self.now.slots.items c.args.index slot c.index_mut-slot.result.now there in
     c.end_stripe.ensures.blocks
     ∙ ap₂ (λ (s : Shape) (l : OpenLine). followed_by c.args.into.now (stripe_at s (blocks_at_end l.records) (end_begins l.records) c.args.at))
     (ap (λ (l : OpenLine). l.records.shape) its ∙ sym (c.requires.shape slot there)) its

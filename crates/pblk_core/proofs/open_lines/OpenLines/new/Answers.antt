@@ -18,7 +18,8 @@ loop-preserved c =
     record {
       count = ap length c.in_ok-push.ensures.items ∙ length-append c.loop.slots.items (made ∷ []) ∙ ap (λ n. n + 1) c.loop.invariant.count;
       shapes = subst (AllByRecursion (λ (l : OpenLine). l.records.shape ≡ c.args.layout.now)) (sym {A = List OpenLine} c.in_ok-push.ensures.items)
-          (with_last (λ (l : OpenLine). l.records.shape ≡ c.args.layout.now) c.loop.slots.items made c.loop.invariant.shapes (ap (λ (r : Records). r.shape) c.in_ok-new.ensures));
+          (with_last (λ (l : OpenLine). l.records.shape ≡ c.args.layout.now) c.loop.slots.items made c.loop.invariant.shapes
+          (ap (λ (r : Records). r.shape) c.in_ok-new.ensures));
     }
 
 pub returns-clause-two : goal.returns-clause-two

@@ -9,5 +9,6 @@ pub returns : goal.returns
 returns c =
     let q = c.self.inside in
     let within = rw (← c.self.view_is) at c.requires.within in
-    let blocks = stripe_of q.layout.sector (start_len q.layout) q.layout.ws_opt c.args.at 0 c.args.at c.deref.result.now (meta_mark q.seq) (omega arith) within in
+    let blocks = stripe_of q.layout.sector (start_len q.layout) q.layout.ws_opt c.args.at 0 c.args.at c.deref.result.now (meta_mark q.seq)
+    (omega arith) within in
     rw (← c.self.view_is, ← c.deref.ensures.value) (c.add_run.ensures ∙ ap (followed_by c.args.into.now) blocks)

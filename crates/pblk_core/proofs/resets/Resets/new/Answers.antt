@@ -12,8 +12,10 @@ loop-k-init c = c.new-chunks.ensures.items
 pub loop-k-preserved : goal.loop-k-preserved
 loop-k-preserved c =
     c.in_ok-add_line.ensures
-    ∙ ap (λ xs. xs ++ in_line (slice_index_or c.args.strays.now c.loop-k.k 0) (used_below c.args.shape.now c.args.states.now (slice_index_or c.args.strays.now c.loop-k.k 0) (units c.args.shape.now))) c.loop-k.invariant
-    ∙ sym (flat_next (λ line. in_line line (used_below c.args.shape.now c.args.states.now line (units c.args.shape.now))) c.args.strays.now c.loop-k.k (slice_index_or c.args.strays.now c.loop-k.k 0)
+    ∙ ap (λ xs. xs ++ in_line (slice_index_or c.args.strays.now c.loop-k.k 0)
+    (used_below c.args.shape.now c.args.states.now (slice_index_or c.args.strays.now c.loop-k.k 0) (units c.args.shape.now))) c.loop-k.invariant
+    ∙ sym (flat_next (λ line. in_line line (used_below c.args.shape.now c.args.states.now line (units c.args.shape.now))) c.args.strays.now c.loop-k.k
+    (slice_index_or c.args.strays.now c.loop-k.k 0)
     (slice_get-get_or c.args.strays.now c.loop-k.k 0 c.loop-k-test.true))
 
 pub returns : goal.returns

@@ -7,7 +7,12 @@ append_bytes-requires c =
     let q = c.self.inside in
     let within = marks_room q.shape.sector q.bytes.items q.marks.items c.args.count q.shape.ws_opt (rw (← c.self.view_is) at c.requires.room) in
     let size = rw (← c.self.view_is) at c.requires.size in
-    omega (arith, q.bytes.ok.0, bytes_room q.shape.sector (length q.marks.items) c.args.count q.shape.ws_opt (length q.bytes.items) (length c.args.bytes.now) _ within c.self.invariant.whole size c.self.invariant.room_for_bytes)
+    omega (
+      arith,
+      q.bytes.ok.0,
+      bytes_room q.shape.sector (length q.marks.items) c.args.count q.shape.ws_opt (length q.bytes.items)
+          (length c.args.bytes.now) _ within c.self.invariant.whole size c.self.invariant.room_for_bytes,
+    )
 
 pub fill_marks-requires-clause-room : goal.fill_marks-requires-clause-room
 fill_marks-requires-clause-room c =
@@ -22,7 +27,8 @@ returns c =
       ← c.self.view_is,
       c.append_bytes.ensures.items,
       c.fill_marks.ensures.items,
-      run_added q.shape.sector q.bytes.items c.args.bytes.now q.marks.items c.len.result c.args.count c.args.mark c.self.invariant.whole (omega (arith, c.len.ensures, q.marks.ok.0)),
+      run_added q.shape.sector q.bytes.items c.args.bytes.now q.marks.items c.len.result c.args.count c.args.mark c.self.invariant.whole
+          (omega (arith, c.len.ensures, q.marks.ok.0)),
     ) refl
 
 pub invariant_of-self : goal.invariant_of-self
@@ -31,7 +37,8 @@ invariant_of-self c =
     let within = marks_room q.shape.sector q.bytes.items q.marks.items c.args.count q.shape.ws_opt (rw (← c.self.view_is) at c.requires.room) in
     let size = rw (← c.self.view_is) at c.requires.size in
     let bytes_sum = ap length c.append_bytes.ensures.items ∙ length-append q.bytes.items c.args.bytes.now in
-    let marks_sum = ap length c.fill_marks.ensures.items ∙ run_counts q.marks.items c.len.result c.args.count c.args.mark (omega (arith, c.len.ensures, q.marks.ok.0)) in
+    let marks_sum = ap length c.fill_marks.ensures.items
+    ∙ run_counts q.marks.items c.len.result c.args.count c.args.mark (omega (arith, c.len.ensures, q.marks.ok.0)) in
     let whole = run_whole q.shape.sector (length q.marks.items) c.args.count (length q.bytes.items) c.self.invariant.whole in
     record {
       accepted = c.self.invariant.accepted;

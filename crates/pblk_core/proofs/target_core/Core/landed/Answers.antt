@@ -254,7 +254,8 @@ turn-requires-clause-inside c =
     let at = (goal.at.turn-requires-clause-inside c).In-Some in
     let its = its_core at sd.image sd.world (its_simple sd) sd.stands in
     subst (λ n. c.in-Some.of.line < n)
-    (sym (ap (λ (t : Table). length t.rows) c.note_takers.ensures ∙ note_length c.args.self.now.holds.rows.items c.in-Some.of.line c.positions-positions.result.now c.args.self.now.lines))
+    (sym (ap (λ (t : Table). length t.rows) c.note_takers.ensures
+    ∙ note_length c.args.self.now.holds.rows.items c.in-Some.of.line c.positions-positions.result.now c.args.self.now.lines))
     (line_in at sd.image sd.world sd.stands its)
 
 pub turn-requires-clause-width : goal.turn-requires-clause-width
@@ -277,7 +278,8 @@ turn-requires-clause-change c =
     λ row there.
     let same : new.0 ≡ row = same_Some new.0 row (sym new.1 ∙ ap (λ (t : Table). slice_get t.rows c.in-Some.of.line) (sym c.note_takers.ensures) ∙ there) in
     subst (λ (s : LineState). IsChange s Full (data_len c.note_takers.new.lines.shape c.width-width.result)) (sym new.2.state ∙ ap (λ (r : Row). r.state) same)
-    (may_fill sd.image sd.world core (unit_in at) (program_in at) old.0 (data_len c.note_takers.new.lines.shape c.width-width.result) (its_simple sd) sd.stands its.is (its_line ∙ old.1))
+    (may_fill sd.image sd.world core (unit_in at) (program_in at) old.0 (data_len c.note_takers.new.lines.shape c.width-width.result)
+    (its_simple sd) sd.stands its.is (its_line ∙ old.1))
 
 pub remove-requires-clause-two : goal.remove-requires-clause-two
 remove-requires-clause-two c =
@@ -383,7 +385,8 @@ returns-else-land-eq0-clause-stands c =
       map = c.make_readable.ensures.map
           ∙ ap (λ (l : OpenLine). all_moved core.layout.capacity l.records.line core.map (reads_of l of.unit from to)) got_is.slot;
       capacity = c.make_readable.ensures.capacity;
-      lines = lines_kept c.note_takers.new.lines of.line now.0 (ap (λ (t : Table). slice_get t.rows of.line) noted ∙ now.1) ∙ ap (with_row of.line (full_if false)) noted;
+      lines = lines_kept c.note_takers.new.lines of.line now.0 (ap (λ (t : Table). slice_get t.rows of.line) noted ∙ now.1)
+          ∙ ap (with_row of.line (full_if false)) noted;
       window = c.make_readable.ensures.window
           ∙ ap (λ (v : WindowView). all_readable v (reads_of c.get.result.now of.unit from to)) (c.land_entries.ensures ∙ ap (all_landed core.window) told)
           ∙ ap (λ (l : OpenLine). all_readable (all_landed core.window of.positions) (reads_of l of.unit from to)) got_is.slot;

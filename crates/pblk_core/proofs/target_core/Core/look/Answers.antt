@@ -6,4 +6,6 @@ use Rattle.pblk_core.proofs.SimpleLogs.{simple_in}
 use Rattle.pblk_core.proofs.target_core.Core.look.Goals as goal
 
 pub returns : goal.returns
-returns c = λ i w mount st. let simple = simple_in i w mount st in same_Some c.get.result (slot_of i (log_of w) c.args.lba) (sym c.get.ensures ∙ st.slots c.args.lba (subst (λ n. c.args.lba < n) st.capacity c.requires))
+returns c = λ i w mount st. let simple =
+    simple_in i w mount st in same_Some c.get.result (slot_of i (log_of w) c.args.lba)
+    (sym c.get.ensures ∙ st.slots c.args.lba (subst (λ n. c.args.lba < n) st.capacity c.requires))

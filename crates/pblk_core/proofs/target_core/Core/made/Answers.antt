@@ -15,27 +15,32 @@ pub found_map-requires-clause-inside : goal.found_map-requires-clause-inside
 found_map-requires-clause-inside c = λ k w there. (c.requires.fit.winners k w (ap (λ ws. slice_get ws k) (sym c.as_slice.ensures) ∙ there)).sector
 
 pub new-requires-5-clause-lines : goal.new-requires-5-clause-lines
-new-requires-5-clause-lines c = λ k line there. stray_inside c.args.shape.now c.args.found.now k line c.requires.fit (ap (λ xs. slice_get xs k) (sym c.as_slice-2.ensures) ∙ there)
+new-requires-5-clause-lines c =
+    λ k line there. stray_inside c.args.shape.now c.args.found.now k line c.requires.fit (ap (λ xs. slice_get xs k) (sym c.as_slice-2.ensures) ∙ there)
 
 pub next_seq-seq-requires-clause-inside : goal.next_seq-seq-requires-clause-inside
-next_seq-seq-requires-clause-inside c = λ line is. subst (λ xs. line < length xs) (sym c.as_slice-3.ensures) (head_inside c.args.shape.now c.args.found.now line c.requires.fit is)
+next_seq-seq-requires-clause-inside c =
+    λ line is. subst (λ xs. line < length xs) (sym c.as_slice-3.ensures) (head_inside c.args.shape.now c.args.found.now line c.requires.fit is)
 
 pub next_seq-seq-requires-clause-small : goal.next_seq-seq-requires-clause-small
-next_seq-seq-requires-clause-small c = λ line seq row there is. small_seq c.args.shape.now c.args.found.now line seq row c.requires.fit (ap (λ xs. slice_get xs line) (sym c.as_slice-3.ensures) ∙ there) is
+next_seq-seq-requires-clause-small c =
+    λ line seq row there is. small_seq c.args.shape.now c.args.found.now line seq row c.requires.fit
+    (ap (λ xs. slice_get xs line) (sym c.as_slice-3.ensures) ∙ there) is
 
 pub returns : goal.returns
 returns c = record {
   layout = c.new-layout.ensures;
   capacity = ap fin.len c.map.view_is ∙ c.in_ok-map.ensures.capacity;
   slots = λ lba inside. ap (λ m. fin.get m lba) c.map.view_is ∙ c.in_ok-map.ensures.slots lba inside ∙ ap (λ ws. Some (slot_found ws lba)) c.as_slice.ensures;
-  lines = subst (IsOpeningTable c.args.shape.now c.args.found.now) (sym c.lines.view_is) (opening_table c.new-layout.result c.args.shape.now c.args.found.now c.in_ok-lines.lines c.new-layout.ensures (record {
-    shape = c.in_ok-lines.ensures.shape;
-    lines = c.in_ok-lines.ensures.lines;
-    state = c.in_ok-lines.ensures.state;
-    width = c.in_ok-lines.ensures.width;
-    live = c.in_ok-lines.ensures.live;
-    taker = c.in_ok-lines.ensures.taker;
-  }));
+  lines = subst (IsOpeningTable c.args.shape.now c.args.found.now) (sym c.lines.view_is)
+      (opening_table c.new-layout.result c.args.shape.now c.args.found.now c.in_ok-lines.lines c.new-layout.ensures (record {
+        shape = c.in_ok-lines.ensures.shape;
+        lines = c.in_ok-lines.ensures.lines;
+        state = c.in_ok-lines.ensures.state;
+        width = c.in_ok-lines.ensures.width;
+        live = c.in_ok-lines.ensures.live;
+        taker = c.in_ok-lines.ensures.taker;
+      }));
   live = c.in_ok-live.ensures ∙ ap (λ (s : Shape). all_online s c.args.found.now s.chunks) c.new-layout.ensures;
   resets = c.in_ok-resets.ensures ∙ ap₂ (λ chunks strays. resets_found c.args.shape.now chunks strays) c.as_slice-states.ensures c.as_slice-2.ensures;
   size = c.in_ok-new.ensures.size;

@@ -11,4 +11,5 @@ returns-clause-stands c = if_made c.made.result (IsMadeOn c.args.shape.now c.arg
     made_on i w knows c.args.shape.now c.args.found core same (simple_unbegun i w mount none) none c.requires.fit found is) c.made.ensures
 
 pub returns-clause-pad : goal.returns-clause-pad
-returns-clause-pad c = if_made c.made.result (IsMadeOn c.args.shape.now c.args.found) _ (λ core is. ap (λ (p : Placing). p.entries.pad) is.placer) c.made.ensures
+returns-clause-pad c = if_made c.made.result (IsMadeOn c.args.shape.now c.args.found) _
+    (λ core is. ap (λ (p : Placing). p.entries.pad) is.placer) c.made.ensures

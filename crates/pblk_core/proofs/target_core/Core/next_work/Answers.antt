@@ -9,7 +9,8 @@ use Rattle.pblk_core.proofs.target_core.Core.next_work.Goals as goal
 
 pub work_beside-requires : goal.work_beside-requires
 work_beside-requires c =
-    let placed : c.args.self.now.first + c.args.self.now.placed ≤ 2 ^ 62 = (small c.requires.image c.requires.world c.args.self.now (its_simple c.requires) c.requires.stands).placed in
+    let placed : c.args.self.now.first + c.args.self.now.placed ≤ 2 ^ 62 =
+    (small c.requires.image c.requires.world c.args.self.now (its_simple c.requires) c.requires.stands).placed in
     omega arith
 
 pub returns-in-Some-clause-work : goal.returns-in-Some-clause-work
@@ -22,8 +23,10 @@ returns-in-None-clause-work c = λ i w mount st. let simple = simple_in i w moun
 
 pub returns-in-Some-clause-reset : goal.returns-in-Some-clause-reset
 returns-in-Some-clause-reset c = λ i w line unit st is.
-    to_reset i _ line unit (named_in i _ c.args.self.now line unit st (ap (λ o. reset_or o (named_beside c.args.self.now)) (sym c.first.ensures ∙ c.in-Some.is) ∙ is))
+    to_reset i _ line unit (named_in i _ c.args.self.now line unit st
+    (ap (λ o. reset_or o (named_beside c.args.self.now)) (sym c.first.ensures ∙ c.in-Some.is) ∙ is))
 
 pub returns-in-None-clause-reset : goal.returns-in-None-clause-reset
 returns-in-None-clause-reset c = λ i w line unit st is.
-    to_reset i _ line unit (named_in i _ c.args.self.now line unit st (ap (λ o. reset_or o (named_beside c.args.self.now)) (sym c.first.ensures ∙ c.in-None.is) ∙ sym c.work_beside.ensures ∙ is))
+    to_reset i _ line unit (named_in i _ c.args.self.now line unit st
+    (ap (λ o. reset_or o (named_beside c.args.self.now)) (sym c.first.ensures ∙ c.in-None.is) ∙ sym c.work_beside.ensures ∙ is))

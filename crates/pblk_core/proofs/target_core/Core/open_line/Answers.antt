@@ -29,11 +29,15 @@ overflow_mul-stripes c =
     let st = c.requires.standing in
     let may = open_is_named c.args.self.now c.requires.named in
     let is = next_line_is st.image st.world c.args.self.now (its_simple st) st.stands may in
-    let it = chosen st.image st.world c.args.self.now c.in-Some.line c.index-live.result.now c.index-live.result.now (its_simple st) st.stands may (sym c.least_free.ensures.least ∙ c.in-Some.is) c.index-live.ensures in
-    let value : c.width-width.result * (c.shape-shape.result.now.clba / c.shape-shape.result.now.ws_opt) ≡ width (known_image st.image (log_of st.world)) (next_line c.args.self.now) * (st.image.shape.clba / st.image.shape.ws_opt) =
-    ap₂ (λ g (s : Shape). g * (s.clba / s.ws_opt)) (c.width-width.ensures.width ∙ ap (λ m. length (units_in m)) it.1 ∙ is.wide) (c.shape-shape.ensures.shape ∙ st.stands.layout) in
+    let it = chosen st.image st.world c.args.self.now c.in-Some.line c.index-live.result.now c.index-live.result.now (its_simple st) st.stands may
+    (sym c.least_free.ensures.least ∙ c.in-Some.is) c.index-live.ensures in
+    let value : c.width-width.result * (c.shape-shape.result.now.clba / c.shape-shape.result.now.ws_opt) ≡ width (known_image st.image (log_of st.world))
+    (next_line c.args.self.now) * (st.image.shape.clba / st.image.shape.ws_opt) =
+    ap₂ (λ g (s : Shape). g * (s.clba / s.ws_opt)) (c.width-width.ensures.width ∙ ap (λ m. length (units_in m)) it.1 ∙ is.wide)
+    (c.shape-shape.ensures.shape ∙ st.stands.layout) in
     let low : c.width-width.result * (c.shape-shape.result.now.clba / c.shape-shape.result.now.ws_opt) < 2 ^ 32 =
-    subst (λ n. n < 2 ^ 32) (sym value) (stripes_few st.image.shape (width (known_image st.image (log_of st.world)) (next_line c.args.self.now)) st.legal.accepted is.few) in
+    subst (λ n. n < 2 ^ 32) (sym value)
+    (stripes_few st.image.shape (width (known_image st.image (log_of st.world)) (next_line c.args.self.now)) st.legal.accepted is.few) in
     search rules
 
 pub begin-requires-clause-room : goal.begin-requires-clause-room
@@ -47,7 +51,9 @@ pub begin-requires-clause-width : goal.begin-requires-clause-width
 begin-requires-clause-width c = λ line there.
     let st = c.requires.standing in
     let may = open_is_named c.args.self.now c.requires.named in
-    let few : c.width-width.result ≤ units c.args.self.now.layout = chosen_few st.image st.world c.args.self.now c.in-Some.line c.index-live.result.now c.index-live.result.now c.width-width.result (its_simple st) st.stands may
+    let few : c.width-width.result ≤ units c.args.self.now.layout =
+    chosen_few st.image st.world c.args.self.now c.in-Some.line c.index-live.result.now c.index-live.result.now c.width-width.result
+    (its_simple st) st.stands may
     (sym c.least_free.ensures.least ∙ c.in-Some.is) c.index-live.ensures c.width-width.ensures.few in
     subst (λ (s : Shape). c.width-width.result ≤ units s) (st.stands.layout ∙ sym (st.stands.open_lines.shapes c.args.self.now.open.count line there)) few
 
@@ -56,21 +62,24 @@ turn-requires-clause-width c =
     let st = c.requires.standing in
     let may = open_is_named c.args.self.now c.requires.named in
     subst (λ (s : Shape). c.width-width.result ≤ units s) (table_shape c.args.self.now st)
-    (chosen_few st.image st.world c.args.self.now c.in-Some.line c.index-live.result.now c.index-live.result.now c.width-width.result (its_simple st) st.stands may
+    (chosen_few st.image st.world c.args.self.now c.in-Some.line c.index-live.result.now c.index-live.result.now c.width-width.result
+    (its_simple st) st.stands may
     (sym c.least_free.ensures.least ∙ c.in-Some.is) c.index-live.ensures c.width-width.ensures.few)
 
 pub data_len-requires : goal.data_len-requires
 data_len-requires c =
     let st = c.requires.standing in
     let may = open_is_named c.args.self.now c.requires.named in
-    chosen_few st.image st.world c.args.self.now c.in-Some.line c.index-live.result.now c.index-live.result.now c.width-width.result (its_simple st) st.stands may
+    chosen_few st.image st.world c.args.self.now c.in-Some.line c.index-live.result.now c.index-live.result.now c.width-width.result
+    (its_simple st) st.stands may
     (sym c.least_free.ensures.least ∙ c.in-Some.is) c.index-live.ensures c.width-width.ensures.few
 
 pub begin-requires-clause-fits : goal.begin-requires-clause-fits
 begin-requires-clause-fits c = λ line there.
     let st = c.requires.standing in
     let may = open_is_named c.args.self.now c.requires.named in
-    let it = chosen st.image st.world c.args.self.now c.in-Some.line c.index-live.result.now c.index-live.result.now (its_simple st) st.stands may (sym c.least_free.ensures.least ∙ c.in-Some.is) c.index-live.ensures in
+    let it = chosen st.image st.world c.args.self.now c.in-Some.line c.index-live.result.now c.index-live.result.now (its_simple st) st.stands may
+    (sym c.least_free.ensures.least ∙ c.in-Some.is) c.index-live.ensures in
     let wide : c.width-width.result ≡ (next_start c.args.self.now).width = c.width-width.ensures.width ∙ ap (λ m. length (units_in m)) it.1 in
     let front : c.synced.result.position ≡ (next_start c.args.self.now).front = ap (λ f. f.position) c.synced.ensures.synced in
     let same : next_start c.args.self.now ≡ record {
@@ -99,22 +108,26 @@ begin-requires-clause-fits c = λ line there.
       capacity = c.args.self.now.start.capacity;
       rows = c.args.self.now.start.rows;
     })))) (sym (st.stands.open_lines.shapes c.args.self.now.open.count line there))
-    (subst (λ (r : StartRecord). IsTrue (start_fits st.image.shape r.line r.width r)) same (next_fits st.image st.world c.args.self.now (its_simple st) st.stands may))
+    (subst (λ (r : StartRecord). IsTrue (start_fits st.image.shape r.line r.width r)) same
+    (next_fits st.image st.world c.args.self.now (its_simple st) st.stands may))
 
 pub begin-requires-2-clause-line : goal.begin-requires-2-clause-line
 begin-requires-2-clause-line c =
     let st = c.requires.standing in
     let may = open_is_named c.args.self.now c.requires.named in
     let is = next_line_is st.image st.world c.args.self.now (its_simple st) st.stands may in
-    let it = chosen st.image st.world c.args.self.now c.in-Some.line c.index-live.result.now c.index-live.result.now (its_simple st) st.stands may (sym c.least_free.ensures.least ∙ c.in-Some.is) c.index-live.ensures in
-    subst (λ n. n < c.args.self.now.placer.shape.chunks) it.0 (subst (λ p. next_line c.args.self.now < p.shape.chunks) (sym st.stands.placing) is.least.in_range)
+    let it = chosen st.image st.world c.args.self.now c.in-Some.line c.index-live.result.now c.index-live.result.now (its_simple st) st.stands may
+    (sym c.least_free.ensures.least ∙ c.in-Some.is) c.index-live.ensures in
+    subst (λ n. n < c.args.self.now.placer.shape.chunks) it.0
+    (subst (λ p. next_line c.args.self.now < p.shape.chunks) (sym st.stands.placing) is.least.in_range)
 
 pub begin-requires-2-clause-another : goal.begin-requires-2-clause-another
 begin-requires-2-clause-another c = λ k d within same.
     let st = c.requires.standing in
     let may = open_is_named c.args.self.now c.requires.named in
     let is = next_line_is st.image st.world c.args.self.now (its_simple st) st.stands may in
-    let it = chosen st.image st.world c.args.self.now c.in-Some.line c.index-live.result.now c.index-live.result.now (its_simple st) st.stands may (sym c.least_free.ensures.least ∙ c.in-Some.is) c.index-live.ensures in
+    let it = chosen st.image st.world c.args.self.now c.in-Some.line c.index-live.result.now c.index-live.result.now (its_simple st) st.stands may
+    (sym c.least_free.ensures.least ∙ c.in-Some.is) c.index-live.ensures in
     none_open st.image (log_of st.world) (next_line c.args.self.now) k d is.closed
     (subst (λ p. k < length p.lines) st.stands.placing within)
     (sym (ap (λ p. (slice_index_or p.lines k d).line) st.stands.placing) ∙ same ∙ sym it.0)
@@ -124,18 +137,23 @@ begin-requires-2-clause-units c =
     let st = c.requires.standing in
     let may = open_is_named c.args.self.now c.requires.named in
     let is = next_line_is st.image st.world c.args.self.now (its_simple st) st.stands may in
-    let it = chosen st.image st.world c.args.self.now c.in-Some.line c.index-live.result.now c.index-live.result.now (its_simple st) st.stands may (sym c.least_free.ensures.least ∙ c.in-Some.is) c.index-live.ensures in
-    rw c.bits-2.ensures (subst (λ p. c.index-live.result.now < 2 ^ units p.shape) (sym st.stands.placing) (subst (λ m. m < 2 ^ units st.image.shape) (sym it.1) is.small))
+    let it = chosen st.image st.world c.args.self.now c.in-Some.line c.index-live.result.now c.index-live.result.now (its_simple st) st.stands may
+    (sym c.least_free.ensures.least ∙ c.in-Some.is) c.index-live.ensures in
+    rw c.bits-2.ensures (subst (λ p. c.index-live.result.now < 2 ^ units p.shape) (sym st.stands.placing)
+    (subst (λ m. m < 2 ^ units st.image.shape) (sym it.1) is.small))
 
 pub begin-requires-2-clause-data : goal.begin-requires-2-clause-data
 begin-requires-2-clause-data c = λ none.
     let st = c.requires.standing in
     let may = open_is_named c.args.self.now c.requires.named in
     let is = next_line_is st.image st.world c.args.self.now (its_simple st) st.stands may in
-    let it = chosen st.image st.world c.args.self.now c.in-Some.line c.index-live.result.now c.index-live.result.now (its_simple st) st.stands may (sym c.least_free.ensures.least ∙ c.in-Some.is) c.index-live.ensures in
-    let same : data_len c.args.self.now.placer.shape (length (units_in c.index-live.result.now)) ≡ data_len st.image.shape (width (known_image st.image (log_of st.world)) (next_line c.args.self.now)) =
+    let it = chosen st.image st.world c.args.self.now c.in-Some.line c.index-live.result.now c.index-live.result.now (its_simple st) st.stands may
+    (sym c.least_free.ensures.least ∙ c.in-Some.is) c.index-live.ensures in
+    let same : data_len c.args.self.now.placer.shape (length (units_in c.index-live.result.now)) ≡ data_len st.image.shape
+    (width (known_image st.image (log_of st.world)) (next_line c.args.self.now)) =
     ap₂ data_len (ap (λ p. p.shape) st.stands.placing) (ap (λ m. length (units_in m)) it.1 ∙ is.wide) in
-    no_data (data_len st.image.shape (width (known_image st.image (log_of st.world)) (next_line c.args.self.now))) (sym same ∙ ap (λ m. data_len c.args.self.now.placer.shape (length (units_in m))) (sym c.bits-2.ensures) ∙ none) is.data_some
+    no_data (data_len st.image.shape (width (known_image st.image (log_of st.world)) (next_line c.args.self.now)))
+    (sym same ∙ ap (λ m. data_len c.args.self.now.placer.shape (length (units_in m))) (sym c.bits-2.ensures) ∙ none) is.data_some
   where
     no_data : (n : ℕ) → n ≡ 0 → 0 < n → ⊥
     no_data n e some = absurd (omega arith)
@@ -156,15 +174,18 @@ overflow_add-self-2 c =
     search rules
 
 pub returns-clause-legal : goal.returns-clause-legal
-returns-clause-legal c = λ i w begun mount st has. let simple = simple_in i w mount st in next_may_open i w c.args.self.now begun simple st (open_is_named c.args.self.now c.requires.named) has
+returns-clause-legal c = λ i w begun mount st has. let simple =
+    simple_in i w mount st in next_may_open i w c.args.self.now begun simple st (open_is_named c.args.self.now c.requires.named) has
 
 pub returns-clause-stands : goal.returns-clause-stands
 returns-clause-stands c = λ i w knows mount st. let simple = simple_in i w mount st in
     let may = open_is_named c.args.self.now c.requires.named in
-    let it = chosen i w c.args.self.now c.in-Some.line c.index-live.result.now c.index-live.result.now simple st may (sym c.least_free.ensures.least ∙ c.in-Some.is) c.index-live.ensures in
+    let it = chosen i w c.args.self.now c.in-Some.line c.index-live.result.now c.index-live.result.now simple st may
+    (sym c.least_free.ensures.least ∙ c.in-Some.is) c.index-live.ensures in
     let width : c.width-width.result ≡ (next_start c.args.self.now).width = c.width-width.ensures.width ∙ ap (λ m. length (units_in m)) it.1 in
     let front : c.synced.result.position ≡ (next_start c.args.self.now).front = ap (λ f. f.position) c.synced.ensures.synced in
-    let stripes : c.width-width.result * (c.shape-shape.result.now.clba / c.shape-shape.result.now.ws_opt) ≡ (next_start c.args.self.now).width * (c.args.self.now.layout.clba / c.args.self.now.layout.ws_opt) =
+    let stripes : c.width-width.result * (c.shape-shape.result.now.clba / c.shape-shape.result.now.ws_opt) ≡ (next_start c.args.self.now).width *
+    (c.args.self.now.layout.clba / c.args.self.now.layout.ws_opt) =
     ap₂ (λ g (s : Shape). g * (s.clba / s.ws_opt)) width c.shape-shape.ensures.shape in
     let live = c.bits.ensures ∙ it.1 in
     opened_stands i w knows c.args.self.now _ simple st may (record {
@@ -176,15 +197,16 @@ returns-clause-stands c = λ i w knows mount st. let simple = simple_in i w moun
       placer = c.begin-2.ensures ∙ ap₂ (line_begun c.args.self.now.placer) (sym it.0) (c.bits-2.ensures ∙ it.1);
       holds = refl;
       open_count = c.begin.ensures.count;
-      open_slots = λ slot there. c.begin.ensures.slots slot there ∙ (λ j. slice_set c.args.self.now.open.slots.items c.args.self.now.open.count (opened_slot slot (record {
-        line = sym it.0 j;
-        width = width j;
-        seq = c.args.self.now.start.seq;
-        first_seq = c.args.self.now.start.first_seq;
-        front = front j;
-        capacity = c.args.self.now.start.capacity;
-        rows = (start_numbers c.args.self.now.start).rows;
-      }) (live j) (stripes j)));
+      open_slots = λ slot there. c.begin.ensures.slots slot there
+          ∙ (λ j. slice_set c.args.self.now.open.slots.items c.args.self.now.open.count (opened_slot slot (record {
+            line = sym it.0 j;
+            width = width j;
+            seq = c.args.self.now.start.seq;
+            first_seq = c.args.self.now.start.first_seq;
+            front = front j;
+            capacity = c.args.self.now.start.capacity;
+            rows = (start_numbers c.args.self.now.start).rows;
+          }) (live j) (stripes j)));
       live = refl;
       resets = refl;
       seq = refl;

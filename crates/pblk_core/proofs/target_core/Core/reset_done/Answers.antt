@@ -26,17 +26,20 @@ keep_unit-requires-clause-there c = (reset_next c.args.self.now c.args.line c.ar
 pub index-requires : goal.index-requires
 index-requires c =
     let kept = kept_there c.args.self.now c.args.line c.args.unit c.args.state c.requires.standing c.requires.named in
-    let low : c.args.line < length c.keep_unit.new.live.items = slice_get_within c.keep_unit.new.live.items c.args.line kept.0 (ap (λ us. slice_get us c.args.line) c.keep_unit.ensures ∙ kept.1) in
+    let low : c.args.line < length c.keep_unit.new.live.items =
+    slice_get_within c.keep_unit.new.live.items c.args.line kept.0 (ap (λ us. slice_get us c.args.line) c.keep_unit.ensures ∙ kept.1) in
     search rules
 
 pub emptied-requires : goal.emptied-requires
 emptied-requires c =
-    kept_few c.args.self.now c.args.line c.args.unit c.index.result.now c.index.result.now c.width-width.result c.args.state c.requires.standing c.requires.named
+    kept_few c.args.self.now c.args.line c.args.unit c.index.result.now c.index.result.now c.width-width.result c.args.state c.requires.standing
+    c.requires.named
     (c.index.ensures ∙ ap (λ us. slice_index_or us c.args.line c.index.result.now) c.keep_unit.ensures) c.width-width.ensures.few
 
 pub turn-requires-clause-width : goal.turn-requires-clause-width
 turn-requires-clause-width c =
-    let few = kept_few c.args.self.now c.args.line c.args.unit c.index.result.now c.index.result.now c.width-width.result c.args.state c.requires.standing c.requires.named
+    let few = kept_few c.args.self.now c.args.line c.args.unit c.index.result.now c.index.result.now c.width-width.result c.args.state c.requires.standing
+    c.requires.named
     (c.index.ensures ∙ ap (λ us. slice_index_or us c.args.line c.index.result.now) c.keep_unit.ensures) c.width-width.ensures.few in
     subst (λ (s : Shape). c.width-width.result ≤ units s) (table_shape c.args.self.now c.requires.standing) few
 
@@ -45,9 +48,11 @@ turn-requires-clause-inside c = (reset_next c.args.self.now c.args.line c.args.u
 
 pub turn-requires-clause-change : goal.turn-requires-clause-change
 turn-requires-clause-change c = λ row there.
-    subst (λ was. IsChange was c.emptied.result (data_len c.args.self.now.lines.shape c.width-width.result)) (sym ((reset_next c.args.self.now c.args.line c.args.unit c.requires.standing c.requires.named).freed row there))
+    subst (λ was. IsChange was c.emptied.result (data_len c.args.self.now.lines.shape c.width-width.result))
+    (sym ((reset_next c.args.self.now c.args.line c.args.unit c.requires.standing c.requires.named).freed row there))
     (subst (λ to. IsChange Freed to (data_len c.args.self.now.lines.shape c.width-width.result)) (sym c.emptied.ensures)
-    (subst (λ s. IsChange Freed (emptied c.args.self.now.layout c.width-width.result) (data_len s c.width-width.result)) (table_shape c.args.self.now c.requires.standing)
+    (subst (λ s. IsChange Freed (emptied c.args.self.now.layout c.width-width.result) (data_len s c.width-width.result))
+    (table_shape c.args.self.now c.requires.standing)
     (emptied_change c.args.self.now.layout c.width-width.result)))
 
 pub returns-then-not-is_at-clause-stands : goal.returns-then-not-is_at-clause-stands

@@ -21,7 +21,8 @@ returns c = record {
     lines = c.supersede.ensures.lines;
     window = c.push.ensures.pushed;
     placer = c.wait.ensures;
-    holds = c.set-2.ensures ∙ ap (λ rows. slice_set rows (c.args.entry.position % length rows) (record { mark = mark_of c.args.entry; line = None; taker = None })) c.supersede.ensures.holds;
+    holds = c.set-2.ensures ∙ ap (λ rows. slice_set rows (c.args.entry.position % length rows)
+        (record { mark = mark_of c.args.entry; line = None; taker = None })) c.supersede.ensures.holds;
     open_lines = refl;
     live = refl;
     resets = refl;
@@ -34,7 +35,9 @@ returns c = record {
   }) c.requires.next c.requires.room c.requires.user.0 c.requires.user.1 (subst (λ s. c.args.entry.lba < s.capacity) st.layout c.requires.lba);
   pushed = c.push.ensures.pushed;
   pad = ap (λ p. p.entries.pad) c.wait.ensures;
-  legal = λ i w mount st block. let simple = simple_in i w mount st in may_take i w c.args.self.now c.args.entry st c.requires.next c.requires.position c.requires.user.1 (subst (λ s. c.args.entry.lba < s.capacity) st.layout c.requires.lba) block;
+  legal = λ i w mount st block. let simple =
+      simple_in i w mount st in may_take i w c.args.self.now c.args.entry st c.requires.next c.requires.position c.requires.user.1
+      (subst (λ s. c.args.entry.lba < s.capacity) st.layout c.requires.lba) block;
 }
 
 pub get-requires : goal.get-requires
@@ -50,12 +53,14 @@ supersede-requires-clause-room c =
 pub supersede-requires-clause-inside : goal.supersede-requires-clause-inside
 supersede-requires-clause-inside c = λ line is.
     let st = c.requires.standing in
-    live_inside st.image st.world c.args.self.now c.args.entry.lba c.get.result line (its_simple st) st.stands c.get.ensures (subst (λ s. c.args.entry.lba < s.capacity) st.stands.layout c.requires.lba) is
+    live_inside st.image st.world c.args.self.now c.args.entry.lba c.get.result line (its_simple st) st.stands c.get.ensures
+    (subst (λ s. c.args.entry.lba < s.capacity) st.stands.layout c.requires.lba) is
 
 pub supersede-requires-clause-live : goal.supersede-requires-clause-live
 supersede-requires-clause-live c = λ line row is there.
     let st = c.requires.standing in
-    live_there st.image st.world c.args.self.now c.args.entry.lba c.get.result line row (its_simple st) st.stands c.get.ensures (subst (λ s. c.args.entry.lba < s.capacity) st.stands.layout c.requires.lba) is there
+    live_there st.image st.world c.args.self.now c.args.entry.lba c.get.result line row (its_simple st) st.stands c.get.ensures
+    (subst (λ s. c.args.entry.lba < s.capacity) st.stands.layout c.requires.lba) is there
 
 pub set-requires : goal.set-requires
 set-requires c =
@@ -66,7 +71,8 @@ pub set-requires-2 : goal.set-requires-2
 set-requires-2 c =
     let st = c.requires.standing in
     subst (λ rows. 0 < length rows) (sym c.supersede.ensures.holds)
-    (subst (λ n. 0 < n) (sym (taker_length c.get.result c.args.entry.position c.args.self.now.holds.rows.items ∙ st.stands.holds.room)) (ring_some st.image.shape st.legal.accepted))
+    (subst (λ n. 0 < n) (sym (taker_length c.get.result c.args.entry.position c.args.self.now.holds.rows.items ∙ st.stands.holds.room))
+    (ring_some st.image.shape st.legal.accepted))
 
 pub wait-requires-clause-room : goal.wait-requires-clause-room
 wait-requires-clause-room c =

@@ -16,4 +16,5 @@ returns-clause-apart c same =
     let other : f.number ≢ g.number = λ number. c.differ.ensures.0
     (f_range ∙ ((λ i. block_ptr (one_region i).block (range_start (one_region i) (number i))) ∙ sym g_range)) in
     subst (λ (v : FrameView). AreApart v.region v.number c.args.other.now.number) c.self.view_is
-    (subst (λ (v : FrameView). AreApart f.origin.region f.number v.number) c.other.view_is (apart f.origin.region f.number g.number c.self.invariant.fits other))
+    (subst (λ (v : FrameView). AreApart f.origin.region f.number v.number) c.other.view_is
+    (apart f.origin.region f.number g.number c.self.invariant.fits other))

@@ -57,8 +57,15 @@ lend_spec 𝓤 𝓛 𝓜 𝓡 wired =
     let k₁ = ended.kept.1.0 in
     let k₂ = ended.kept.1.1.0 in
     let k₃ = ended.kept.1.1.1.0 in
-    let stays : Stays ps ended.kept = (stay_ref (0 ∷ []) tt self_slot, (stay_dropped (param_at 1 ps) k₁, (stay_dropped (param_at 2 ps) k₂, (stay_dropped (param_at 3 ps) k₃, tt)))) in
-    proved_at 𝓛 ended stays c 𝓜 𝓡 (Goes-ref 𝓛 1 0 tt self_slot, (Goes-dropped 𝓛 1 (param_at 1 ps) k₁ (λ κs x f. refl), (Goes-dropped 𝓛 1 (param_at 2 ps) k₂ (λ κs x f. refl), (Goes-dropped 𝓛 1 (param_at 3 ps) k₃ (λ κs x f. refl), tt))))
+    let stays : Stays ps ended.kept =
+    (stay_ref (0 ∷ []) tt self_slot, (stay_dropped (param_at 1 ps) k₁, (stay_dropped (param_at 2 ps) k₂, (stay_dropped (param_at 3 ps) k₃, tt)))) in
+    proved_at 𝓛 ended stays c 𝓜 𝓡 (
+      Goes-ref 𝓛 1 0 tt self_slot,
+      (
+        Goes-dropped 𝓛 1 (param_at 1 ps) k₁ (λ κs x f. refl),
+        (Goes-dropped 𝓛 1 (param_at 2 ps) k₂ (λ κs x f. refl), (Goes-dropped 𝓛 1 (param_at 3 ps) k₃ (λ κs x f. refl), tt)),
+      ),
+    )
     #self fn (compiled.unfolded 𝓤 H 𝓜 𝓡 wired) (λ z are.
     let Post : Val → SProp 𝓤 = (walk_of 𝓛 ended stays c).post z in
     let args = z.0.3 in
@@ -77,7 +84,8 @@ lend_spec 𝓤 𝓛 𝓜 𝓡 wired =
     move ! (1 ∷ []) $ heard ! Asked (λ asked. split ! $ split ! $ move ! (2 ∷ []) $ fsplit ! $ fsplit3 ! $ keep ! (1 ∷ 2 ∷ 4 ∷ []) $
     regoal ! (λ (us : List Val). prop (WpFn 𝓤 H C Λ fn us Post)) (λ j. are.0.0 j ++ (are.1.0.0 j ++ (are.1.1.0.0 j ++ (are.1.1.1.0.0 j ++ [])))) refl $
     enter ! C Λ fn (vptr b o ∷ vint w64 i ∷ vint w64 offset ∷ vint w64 stride ∷ []) Post $
-    alloc_all ! (λ l. pass_all ! refl ((tt, tt), ((tt, record { fits = are.1.0.1 }), ((tt, record { fits = are.1.1.0.1 }), ((tt, record { fits = are.1.1.1.0.1 }), tt)))) $
+    alloc_all ! (λ l. pass_all ! refl
+    ((tt, tt), ((tt, record { fits = are.1.0.1 }), ((tt, record { fits = are.1.1.0.1 }), ((tt, record { fits = are.1.1.1.0.1 }), tt)))) $
     let En : Env 𝓤 𝓛.H = env fn.locals l in
     opens ! tt R b o (λ us. move ! (1 ∷ []) $ peeks ! R _ (shows 𝓛 R) old us (λ is. fsplit ! $ move ! (1 ∷ []) $
     -- now: the ranges, the field, the struct's cell, and the open borrow in three parts
@@ -101,7 +109,8 @@ lend_spec 𝓤 𝓛 𝓜 𝓡 wired =
     sets ! (equals ! (bin ! (get ! refl) (get ! refl) tt) (ap (vptr r.block) (omega arith))) refl (tt, tt) $
     rewrite ! 2 Cell (sym word) refl $
     -- the range's bytes go out, and the borrow ends without them
-    use1 𝓛 (‵ (some_bytes r.stride r.block at) ⊛ ‵ (ranges_here r.block r.stride old.rest r.start (set old.here i false))) (goes_out 𝓛 r.block r.stride old.rest i r.start old.here asked.0) $ split ! $
+    use1 𝓛 (‵ (some_bytes r.stride r.block at) ⊛ ‵ (ranges_here r.block r.stride old.rest r.start (set old.here i false)))
+    (goes_out 𝓛 r.block r.stride old.rest i r.start old.here asked.0) $ split ! $
     move ! (2 ∷ 1 ∷ []) $ fjoin ! $ move ! (2 ∷ 0 ∷ 3 ∷ 4 ∷ 5 ∷ []) $ closes ! tt R new us b o $
     -- the call of `lodge` takes them
     move ! (3 ∷ []) $ fpick ! (λ xs. fsplit ! $ feq_l ! (λ long. feq_i ! ℕ (length xs) (length xs) refl $ fjoin ! $
@@ -110,9 +119,14 @@ lend_spec 𝓤 𝓛 𝓜 𝓡 wired =
     rewrite ! 0 (λ k. ‵ (holds_bytes (block_ptr r.block (r.start + k)) xs)) offset_is refl $
     let y = at_lodge 𝓛 𝓜.mem 𝓡.returns r.block (r.start + offset) stride xs in
     let Laid = λ (d : Vec ℕ Lodged). IsLodged 𝓛 𝓜.mem 𝓡.returns r.block (r.start + offset) stride xs d in
-    use1 𝓛 (raw ((Lodges 𝓛 𝓜.mem 𝓡.returns).pre y)) (lodge_goes 𝓛 𝓜.mem 𝓡.returns r.block (r.start + offset) stride xs (long ∙ sym asked.2) (omega (arith, old.some, asked.2)) (omega (arith, old.small, asked.2))) $
-    calls_at ! (framed 𝓤 H 𝓜 (tables 𝓤 H 𝓜 𝓡 𝓡.env)) (Lodges 𝓛 𝓜.mem 𝓡.returns) (callee.met 𝓤 𝓛 𝓜 𝓡 (compiled.calls-std_alloc::vec::lodge 𝓡.env wired) u8 byte_laws) y (and_then ! (get ! refl) (and_then ! (get ! refl) (and_then ! (get ! refl) (no_more !)))) (λ v.
-    use1 𝓛 (later (some (λ (d : Vec ℕ Lodged). given (Laid d) (‵ (Housed.own_val d (v ∷ [])))))) (lodge_gives 𝓛 𝓜.mem 𝓡.returns r.block (r.start + offset) stride xs v) $
+    use1 𝓛 (raw ((Lodges 𝓛 𝓜.mem 𝓡.returns).pre y))
+    (lodge_goes 𝓛 𝓜.mem 𝓡.returns r.block (r.start + offset) stride xs (long ∙ sym asked.2) (omega (arith, old.some, asked.2))
+    (omega (arith, old.small, asked.2))) $
+    calls_at ! (framed 𝓤 H 𝓜 (tables 𝓤 H 𝓜 𝓡 𝓡.env)) (Lodges 𝓛 𝓜.mem 𝓡.returns)
+    (callee.met 𝓤 𝓛 𝓜 𝓡 (compiled.calls-std_alloc::vec::lodge 𝓡.env wired) u8 byte_laws) y
+    (and_then ! (get ! refl) (and_then ! (get ! refl) (and_then ! (get ! refl) (no_more !)))) (λ v.
+    use1 𝓛 (later (some (λ (d : Vec ℕ Lodged). given (Laid d) (‵ (Housed.own_val d (v ∷ []))))))
+    (lodge_gives 𝓛 𝓜.mem 𝓡.returns r.block (r.start + offset) stride xs v) $
     await ! tt $ pick ! (λ d. learn ! (λ laid. tells ! Housed housed-laws d (v ∷ []) (λ u same good.
     let fine : Good Housed v = subst (Good Housed) (sym (ap only same)) good in
     let pair = as_fields (layout Housed ∷ layout Origin.the_row ∷ []) (v ∷ none ∷ []) (fine, ((tt, tt), tt)) in
@@ -125,7 +139,8 @@ lend_spec 𝓤 𝓛 𝓜 𝓡 wired =
     -- the pair that it returns, and the borrow with its new value
     let origin : (Origin.the_row).Denot = record { region = r } in
     nothing ! $ none_made ! $ fjoin ! $ move ! (1 ∷ 0 ∷ []) $ two_made ! Housed Origin.the_row d origin v none $
-    move ! (1 ∷ 2 ∷ []) $ feq_i ! (List Val) vss.0 (vptr b o ∷ []) are.0.0 $ fjoin3 ! $ nothing ! $ nothing ! $ fjoin ! $ nothing ! $ fjoin ! $ nothing ! $ fjoin ! $ move ! (1 ∷ 0 ∷ []) $ fjoin ! $
+    move ! (1 ∷ 2 ∷ []) $ feq_i ! (List Val) vss.0
+    (vptr b o ∷ []) are.0.0 $ fjoin3 ! $ nothing ! $ nothing ! $ fjoin ! $ nothing ! $ fjoin ! $ nothing ! $ fjoin ! $ move ! (1 ∷ 0 ∷ []) $ fjoin ! $
     nothing ! $ move ! (3 ∷ 0 ∷ []) $ join ! $
     let placed = laid.3 ∙ ap (λ k. block_ptr r.block (r.start + k)) (sym offset_is) in
     let Said = (new.here ≡ set old.here i false) × (r ≡ r) × (old.rest ≡ old.rest) × IsRange r i d.ptr d.len × (r ≡ r) in

@@ -48,7 +48,10 @@ regain_spec 𝓤 𝓛 𝓜 𝓡 wired =
     let k₁ = ended.kept.1.0 in
     let k₂ = ended.kept.1.1.0 in
     let stays : Stays ps ended.kept = (stay_ref (0 ∷ []) tt self_slot, (stay_dropped (param_at 1 ps) k₁, (stay_dropped (param_at 2 ps) k₂, tt))) in
-    proved_at 𝓛 ended stays c 𝓜 𝓡 (Goes-ref 𝓛 1 0 tt self_slot, (Goes-blank 𝓛 1 (param_at 1 ps) k₁ (λ κs x f. tt), (Goes-dropped 𝓛 1 (param_at 2 ps) k₂ (λ κs x f. refl), tt)))
+    proved_at 𝓛 ended stays c 𝓜 𝓡 (
+      Goes-ref 𝓛 1 0 tt self_slot,
+      (Goes-blank 𝓛 1 (param_at 1 ps) k₁ (λ κs x f. tt), (Goes-dropped 𝓛 1 (param_at 2 ps) k₂ (λ κs x f. refl), tt)),
+    )
     #self fn (compiled.unfolded 𝓤 H 𝓜 𝓡 wired) (λ z are.
     let Post : Val → SProp 𝓤 = (walk_of 𝓛 ended stays c).post z in
     let args = z.0.3 in
@@ -64,7 +67,8 @@ regain_spec 𝓤 𝓛 𝓜 𝓡 wired =
     let at = r.start + i * r.stride in
     let Asked = (i < r.count) × IsRange r i v.ptr v.len in
     qed 𝓛 (((‵ (flft κ q) ⊛ ‵ ftrue) ⊛ ‵ (owns (types_at ps z.0.0) args vss)) ∷ raw (fact 𝓤 Asked) ∷ []) ∵
-    move ! (1 ∷ []) $ heard ! Asked (λ asked. split ! $ split ! $ move ! (2 ∷ []) $ fsplit ! $ move ! (1 ∷ []) $ fsplit ! $ tells ! Housed housed-laws v vss.1.0 (λ u is good.
+    move ! (1 ∷ []) $ heard ! Asked
+    (λ asked. split ! $ split ! $ move ! (2 ∷ []) $ fsplit ! $ move ! (1 ∷ []) $ fsplit ! $ tells ! Housed housed-laws v vss.1.0 (λ u is good.
     keep ! (0 ∷ 2 ∷ 3 ∷ []) $ move ! (1 ∷ []) $ fsplit3 ! $ drop ! $
     -- the call of `dislodge` gives the bytes, and how many they are
     regoal ! (λ (us : List Val). prop (WpFn 𝓤 H C Λ fn us Post)) (λ j. are.0.0 j ++ (is j ++ (are.1.1.0.0 j ++ []))) refl $
@@ -73,8 +77,11 @@ regain_spec 𝓤 𝓛 𝓜 𝓡 wired =
     move ! (2 ∷ []) $ sets ! (of_opd ! (get ! refl)) refl good $
     let y = at_dislodge 𝓛 𝓜.mem 𝓡.returns v u in
     use1 𝓛 (raw ((Dislodges 𝓛 𝓜.mem 𝓡.returns).pre y)) (dislodge_goes 𝓛 𝓜.mem 𝓡.returns v u) $
-    calls_at ! (framed 𝓤 H 𝓜 (tables 𝓤 H 𝓜 𝓡 𝓡.env)) (Dislodges 𝓛 𝓜.mem 𝓡.returns) (callee.met 𝓤 𝓛 𝓜 𝓡 (compiled.calls-std_alloc::vec::lodged::Vec+T+Lodged::dislodge 𝓡.env wired) u8 byte_laws) y (and_then ! (get ! refl) (no_more !)) (λ w.
-    use1 𝓛 (later (given ((w ≡ vint w64 v.len) × (v.len < 2 ^ 64)) (‵ (holds_bytes v.ptr v.items)))) (dislodge_gives 𝓛 𝓜.mem 𝓡.returns v u (omega (arith, old.some, asked.1.1)) w) $ await ! tt $ learn ! (λ got.
+    calls_at ! (framed 𝓤 H 𝓜 (tables 𝓤 H 𝓜 𝓡 𝓡.env)) (Dislodges 𝓛 𝓜.mem 𝓡.returns)
+    (callee.met 𝓤 𝓛 𝓜 𝓡 (compiled.calls-std_alloc::vec::lodged::Vec+T+Lodged::dislodge 𝓡.env wired) u8 byte_laws) y (and_then ! (get ! refl) (no_more !))
+    (λ w.
+    use1 𝓛 (later (given ((w ≡ vint w64 v.len) × (v.len < 2 ^ 64)) (‵ (holds_bytes v.ptr v.items))))
+    (dislodge_gives 𝓛 𝓜.mem 𝓡.returns v u (omega (arith, old.some, asked.1.1)) w) $ await ! tt $ learn ! (λ got.
     lands_as ! got.0 refl (tt, record { fits = got.1 }) $
     sets ! (of_opd ! (unit_lit !)) refl (tt, tt) $
     -- they are the range's
@@ -84,7 +91,8 @@ regain_spec 𝓤 𝓛 𝓜 𝓡 wired =
     feq_i ! ℕ (length v.items) r.stride (sym v.ok.0 ∙ asked.1.1) $ fjoin ! $ fpack ! (List ℕ) (Filled r.stride) v.items $
     -- the borrow is opened, and ends with them
     move ! (1 ∷ 2 ∷ 3 ∷ 0 ∷ []) $ opens ! tt R b o (λ us. move ! (1 ∷ []) $ fsplit ! $ move ! (6 ∷ 1 ∷ []) $
-    use2 𝓛 (given (slice_get old.here i ≡ Some false) (‵ (ranges_here r.block r.stride old.rest r.start (set old.here i true)))) (comes_back 𝓛 r.block r.stride old.rest 𝓜 old.some i r.start old.here (omega (arith, old.counted, asked.0))) $ learn ! (λ out.
+    use2 𝓛 (given (slice_get old.here i ≡ Some false) (‵ (ranges_here r.block r.stride old.rest r.start (set old.here i true))))
+    (comes_back 𝓛 r.block r.stride old.rest 𝓜 old.some i r.start old.here (omega (arith, old.counted, asked.0))) $ learn ! (λ out.
     let new : R.Denot = record {
       base = old.base;
       region = r;

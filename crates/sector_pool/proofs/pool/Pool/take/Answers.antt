@@ -9,7 +9,8 @@ use Rattle.sector_pool.proofs.pool.Pool.take.Goals as goal
 
 -- the range that goes was left
 top : (c : goal.After-lend-bytes) → slice_get c.self.inside.ranges.here c.in_ok-number.number ≡ Some true
-top c = (popped c.pop.new.self.items c.self.inside.numbers.items c.in_ok-number.number c.in_ok-number.ensures.items c.self.inside.ranges.here c.self.invariant.stack).0
+top c = (popped c.pop.new.self.items c.self.inside.numbers.items c.in_ok-number.number c.in_ok-number.ensures.items c.self.inside.ranges.here
+    c.self.invariant.stack).0
 
 pub invariant_of-result : goal.invariant_of-result
 invariant_of-result c =

@@ -28,7 +28,8 @@ invariant_of-self c =
     let users : run.users ≡ w.run.users + users_in (landed_first (drop w.run.count ys)) = c.extended-self-inside.ensures.users in
     record {
       keeps = subst (λ (zs : List Held). Keeps w.freed w.users run.count run.users zs) (sym c.turn.ensures.items)
-          (landed_keeps w.freed w.users w.run.count w.run.users xs (c.args.position - w.freed) c.index.result.now Landed run.count run.users c.self.invariant.keeps inside c.index.ensures waits
+          (landed_keeps w.freed w.users w.run.count w.run.users xs
+          (c.args.position - w.freed) c.index.result.now Landed run.count run.users c.self.invariant.keeps inside c.index.ensures waits
           (count ∙ ap (λ (zs : List Held). w.run.count + length (landed_first (drop w.run.count zs))) c.turn.ensures.items)
           (users ∙ ap (λ (zs : List Held). w.run.users + users_in (landed_first (drop w.run.count zs))) c.turn.ensures.items));
       few = omega (arith, c.turn.ensures.len, c.self.invariant.few);
@@ -40,10 +41,12 @@ returns-clause-again c = λ lands.
     let v : WindowView = window c.self.inside in
     let held : IsHeld v c.args.position = subst (λ (x : WindowView). IsHeld x c.args.position) (sym c.self.view_is) c.requires.held in
     let waits : has_landed c.index.result.now.progress ≡ false = sym c.has_landed.ensures ∙ c.if-has_landed.false in
-    let both : true ≡ false = sym lands ∙ ap (λ (x : WindowView). has_landed_at x c.args.position) (sym c.self.view_is) ∙ landed_is v c.args.position c.index.result.now held c.index.ensures ∙ waits in
+    let both : true ≡ false = sym lands ∙ ap (λ (x : WindowView). has_landed_at x c.args.position) (sym c.self.view_is)
+    ∙ landed_is v c.args.position c.index.result.now held c.index.ensures ∙ waits in
     (cc)
 
 pub returns-clause-own : goal.returns-clause-own
 returns-clause-own c = λ r own.
     let before : AreOf r c.self.inside.entries.items = subst (λ (x : WindowView). AreOf r x.entries) (sym c.self.view_is) own in
-    subst (λ (zs : List Held). AreOf r zs) (sym c.turn.ensures.items) (own_with r c.self.inside.entries.items (c.args.position - c.self.inside.freed) Landed before)
+    subst (λ (zs : List Held). AreOf r zs) (sym c.turn.ensures.items)
+    (own_with r c.self.inside.entries.items (c.args.position - c.self.inside.freed) Landed before)

@@ -13,10 +13,12 @@ invariant_of-self-2 c =
     let h = c.in_ok-held.held in
     let items : w.entries.items ≡ h ∷ c.pop_front.new.self.items = c.in_ok-held.ensures.items in
     let front : c.in_ok-front.field-0.now ≡ h = c.in_ok-front.ensures.lookup ∙ ap (λ (xs : List Held). get_or xs 0 c.in_ok-front.field-0.now) items in
-    let reads : is_readable h.progress ≡ true = ap (λ (x : Held). is_readable x.progress) (sym front) ∙ sym c.is_readable.ensures ∙ c.if-not-is_readable.false in
+    let reads : is_readable h.progress ≡ true = ap (λ (x : Held). is_readable x.progress) (sym front) ∙ sym c.is_readable.ensures
+    ∙ c.if-not-is_readable.false in
     record {
       keeps = popped w.freed w.users w.run.count w.run.users c.user_count-users.result h c.pop_front.new.self.items
-          (subst (λ (xs : List Held). Keeps w.freed w.users w.run.count w.run.users xs) items c.self.invariant.keeps) (readable_landed h.progress reads) c.user_count-users.ensures;
+          (subst (λ (xs : List Held). Keeps w.freed w.users w.run.count w.run.users xs) items c.self.invariant.keeps)
+          (readable_landed h.progress reads) c.user_count-users.ensures;
       few = omega (arith, ap length items, c.self.invariant.few);
       room = omega (arith, c.in_ok-held.ensures.capacity, c.self.invariant.room);
     }
@@ -27,7 +29,8 @@ returns-clause-synced c =
     let h = c.in_ok-held.held in
     let items : w.entries.items ≡ h ∷ c.pop_front.new.self.items = c.in_ok-held.ensures.items in
     let front : c.in_ok-front.field-0.now ≡ h = c.in_ok-front.ensures.lookup ∙ ap (λ (xs : List Held). get_or xs 0 c.in_ok-front.field-0.now) items in
-    let reads : is_readable h.progress ≡ true = ap (λ (x : Held). is_readable x.progress) (sym front) ∙ sym c.is_readable.ensures ∙ c.if-not-is_readable.false in
+    let reads : is_readable h.progress ≡ true = ap (λ (x : Held). is_readable x.progress) (sym front) ∙ sym c.is_readable.ensures
+    ∙ c.if-not-is_readable.false in
     synced_popped w.size w.freed w.users c.user_count-users.result h c.pop_front.new.self.items (readable_landed h.progress reads) c.user_count-users.ensures
     ∙ ap (λ (xs : List Held). synced (record { size = w.size; freed = w.freed; users = w.users; entries = xs })) (sym items)
     ∙ ap synced c.self.view_is

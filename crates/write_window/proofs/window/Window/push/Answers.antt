@@ -13,8 +13,16 @@ invariant_of-self c =
     let h : Held = record { entry = c.args.entry; progress = Waiting } in
     record {
       keeps = subst (λ (xs : List Held). Keeps w.freed w.users w.run.count w.run.users xs) (sym c.append.ensures.items)
-          (pushed w.freed w.users w.run.count w.run.users w.entries.items h c.self.invariant.keeps refl (c.requires.next ∙ sym (ap taken c.self.view_is)) c.requires.position);
-      few = omega (arith, ap length c.append.ensures.items, one_longer w.entries.items h, c.requires.room, ap (λ (v : WindowView). length v.entries) c.self.view_is, ap (λ (v : WindowView). v.size) c.self.view_is);
+          (pushed w.freed w.users w.run.count w.run.users w.entries.items h c.self.invariant.keeps refl
+          (c.requires.next ∙ sym (ap taken c.self.view_is)) c.requires.position);
+      few = omega (
+        arith,
+        ap length c.append.ensures.items,
+        one_longer w.entries.items h,
+        c.requires.room,
+        ap (λ (v : WindowView). length v.entries) c.self.view_is,
+        ap (λ (v : WindowView). v.size) c.self.view_is,
+      );
       room = omega (arith, c.append.ensures.capacity, c.self.invariant.room);
     }
 

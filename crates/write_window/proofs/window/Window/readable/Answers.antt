@@ -17,7 +17,8 @@ invariant_of-self c =
     let held : IsHeld v c.args.position = subst (λ (x : WindowView). IsHeld x c.args.position) (sym c.self.view_is) c.requires.held in
     let inside : c.args.position - w.freed < length xs = index_inside v c.args.position held in
     let e = element xs (c.args.position - w.freed) inside in
-    let lands : has_landed e.0.progress ≡ true = sym (landed_is v c.args.position e.0 held e.1) ∙ ap (λ (x : WindowView). has_landed_at x c.args.position) c.self.view_is ∙ c.requires.landed in
+    let lands : has_landed e.0.progress ≡ true = sym (landed_is v c.args.position e.0 held e.1)
+    ∙ ap (λ (x : WindowView). has_landed_at x c.args.position) c.self.view_is ∙ c.requires.landed in
     record {
       keeps = subst (λ (ys : List Held). Keeps w.freed w.users w.run.count w.run.users ys) (sym c.turn.ensures.items)
           (turned_keeps w.freed w.users w.run.count w.run.users xs (c.args.position - w.freed) e.0 Readable c.self.invariant.keeps inside e.1 lands refl);
@@ -33,7 +34,8 @@ returns-clause-synced c =
     let held : IsHeld v c.args.position = subst (λ (x : WindowView). IsHeld x c.args.position) (sym c.self.view_is) c.requires.held in
     let inside : c.args.position - w.freed < length xs = index_inside v c.args.position held in
     let e = element xs (c.args.position - w.freed) inside in
-    let lands : has_landed e.0.progress ≡ true = sym (landed_is v c.args.position e.0 held e.1) ∙ ap (λ (x : WindowView). has_landed_at x c.args.position) c.self.view_is ∙ c.requires.landed in
+    let lands : has_landed e.0.progress ≡ true = sym (landed_is v c.args.position e.0 held e.1)
+    ∙ ap (λ (x : WindowView). has_landed_at x c.args.position) c.self.view_is ∙ c.requires.landed in
     ap (λ (ys : List Held). synced (record v { entries = ys })) c.turn.ensures.items
     ∙ synced_turned v (c.args.position - w.freed) e.0 Readable inside e.1 lands refl
     ∙ ap synced c.self.view_is
@@ -41,4 +43,5 @@ returns-clause-synced c =
 pub returns-clause-own : goal.returns-clause-own
 returns-clause-own c = λ r own.
     let before : AreOf r c.self.inside.entries.items = subst (λ (x : WindowView). AreOf r x.entries) (sym c.self.view_is) own in
-    subst (λ (zs : List Held). AreOf r zs) (sym c.turn.ensures.items) (own_with r c.self.inside.entries.items (c.args.position - c.self.inside.freed) Readable before)
+    subst (λ (zs : List Held). AreOf r zs) (sym c.turn.ensures.items)
+    (own_with r c.self.inside.entries.items (c.args.position - c.self.inside.freed) Readable before)

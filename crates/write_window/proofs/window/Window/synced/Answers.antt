@@ -9,7 +9,16 @@ use Rattle.write_window.proofs.window.Window.synced.Goals as goal
 pub overflow_add-result : goal.overflow_add-result
 overflow_add-result c =
     let is = c.self.invariant.keeps in
-    record { fits = omega (arith, is.landed_users, is.fits, is.short, users_few (landed_first c.self.inside.entries.items), run_inside c.self.inside.entries.items) }
+    record {
+      fits = omega (
+        arith,
+        is.landed_users,
+        is.fits,
+        is.short,
+        users_few (landed_first c.self.inside.entries.items),
+        run_inside c.self.inside.entries.items,
+      );
+    }
 
 pub returns-clause-below : goal.returns-clause-below
 returns-clause-below c =
