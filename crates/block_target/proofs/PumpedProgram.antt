@@ -7,7 +7,7 @@ use Rattle.pblk_model.specs.Chunk.{Chunk}
 use Rattle.pblk_model.specs.ChunkStep.{Write, refusal}
 use Rattle.pblk_model.specs.Shape.{units}
 use Rattle.pblk_world.specs.Events.{Place, Landed, Stripe, Logged}
-use Rattle.pblk_world.specs.World.{World, Logs, log_of, media}
+use Rattle.pblk_world.specs.World.{World, Logs, log_of, media, unit_events}
 use Rattle.pblk_world.specs.EngineLog.{Begun, begun, Placed, placed_on, answers}
 use Rattle.pblk_world.specs.Lines.{found_image}
 use Rattle.pblk_world.specs.Answering.{MayLand}

@@ -16,7 +16,8 @@ use Rattle.stripe_placer.specs.Placing.UnitRow.{Idle}
 use Rattle.stripe_placer.proofs.Numbered.{get_mapped}
 use Rattle.core_laws.specs.PlacerOf.{program_of_placed, waits_again, row_in, row_of, unanswered_on}
 use Rattle.core_laws.proofs.Placing.{placements_now}
-use Rattle.core_laws.proofs.UnitTurns.{its_unit, stands_at_turn}
+use Rattle.world_laws.proofs.UnitTurns.{unit_is as its_unit}
+use Rattle.core_laws.proofs.UnitTurns.{stands_at_turn}
 use Rattle.core_laws.proofs.Followed.{IsFollowed, IsNextEvent, by_events}
 use Rattle.lemmas.proofs.Lists.{IsAmong, with_last}
 use Rattle.lemmas.proofs.Maps.{all_filter, from_filter}

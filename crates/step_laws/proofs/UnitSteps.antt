@@ -26,7 +26,8 @@ use Rattle.core_laws.proofs.FaultlessMounts.{still_faultless}
 use Rattle.core_laws.proofs.BegunOnce.{begun_once}
 use Rattle.core_laws.specs.StripePrograms.{HasHappened}
 use Rattle.core_laws.proofs.Happened.{happened}
-use Rattle.step_laws.specs.Whole.{engine_step, unit_step, is_made_by, commands_of, program_of}
+use Rattle.pblk_world.specs.Makers.{is_made_by, commands_of}
+use Rattle.step_laws.specs.Whole.{engine_step, unit_step, program_of}
 use Rattle.step_laws.proofs.Knowing.{known_whole, next_step}
 use Rattle.step_laws.proofs.NextProgram.{program_is_taken}
 use Rattle.lemmas.proofs.Lists.{all_contains}

@@ -1,13 +1,14 @@
 -- Steps that are made one after another. The author of each knows every log to its end.
-use Rattle.std.specs.Prelude.{ℕ, suc, ◌+◌, ◌≡◌, ◌==◌, Bool, false, List, ◌∷◌, map, length}
-use Rattle.std.specs.List.{filter, range_with_len}
+use Rattle.std.specs.Prelude.{ℕ, suc, ◌+◌, ◌≡◌, List, ◌∷◌, map, length}
+use Rattle.std.specs.List.{range_with_len}
 use Rattle.pblk_model.specs.declared.shape.Shape.{Shape}
 use Rattle.pblk_model.specs.Shape.{units}
 use Rattle.pblk_model.specs.Chunk.{Block}
 use Rattle.pblk_model.specs.ChunkStep.{ChunkAnswer, Write, Read, Reset, Done}
 use Rattle.pblk_model.specs.UnitLog.{UnitOutcome, UnitEvent, Answered}
 use Rattle.pblk_model.specs.Image.{Image}
-use Rattle.pblk_world.specs.Events.{Beginning, EngineEvent, Begin, Landed, ResetDone, Stripe, Event, Decides, Does, Maker, Step}
+use Rattle.pblk_world.specs.Events.{Beginning, EngineEvent, Begin, Landed, ResetDone, Stripe, Decides, Does, Maker, Step}
+use Rattle.pblk_world.specs.Makers.{maker_of, opening_worker}
 use Rattle.pblk_world.specs.World.{World, log_of, media}
 use Rattle.pblk_world.specs.EngineLog.{answers}
 use Rattle.pblk_world.specs.Lines.{known_image}
@@ -30,24 +31,12 @@ unit_step s unit e maker w = record {
 
 -- Makers.
 
--- how many commands a worker made, of all units
-abbrev pub is_made_by : ℕ → Event → Bool
-is_made_by worker (Decides e) = false
-is_made_by worker (Does e maker) = maker.worker == worker
-
-abbrev pub commands_of : ℕ → World → ℕ
-commands_of worker w = length (filter (λ step. is_made_by worker step.logged.event) w)
-
--- the maker of a worker's next command
-abbrev pub maker_of : ℕ → World → Maker
-maker_of worker w = record { worker = worker; made = commands_of worker w }
-
 -- One worker makes all commands of a session. The opening is a worker of its own.
 abbrev pub next_maker : World → Maker
 next_maker w = maker_of 0 w
 
 abbrev pub opening_maker : World → Maker
-opening_maker w = maker_of 1 w
+opening_maker w = maker_of opening_worker w
 
 -- What a unit does.
 

@@ -1,9 +1,11 @@
 -- Lists of claims, by the positions that they have.
-use Rattle.std.proofs.Common.{◌≡◌, ℕ, ◌+◌, ◌≤◌, List, [], ◌∷◌, ◌++◌, arith}
+use Rattle.std.proofs.Common.{◌≡◌, ℕ, ◌+◌, ◌<◌, ◌≤◌, List, [], ◌∷◌, ◌++◌, arith}
 use Rattle.std.proofs.lemmas.Bool.Decides.{nat_tests}
 use Rattle.std.specs.List.{AllByRecursion}
 use Rattle.lemmas.proofs.Lists.{all_weaker}
 use Rattle.write_ring.specs.declared.view.Claim.{Claim}
+use Rattle.write_ring.specs.declared.view.Row.{Row}
+use Rattle.write_ring.specs.Stock.{rows_at, copies_at}
 use Rattle.write_ring.specs.Rule.{between, covers, covers_copy, IsGranted}
 
 pub covers_both : (x : ℕ) (cs ds : List Claim) → covers x (cs ++ ds) ≡ covers x cs + covers x ds
@@ -26,3 +28,14 @@ none_above x low high above = grind (arith, nat_tests)
 
 pub granted_more : (g h : ℕ) (cs : List Claim) → g ≤ h → AllByRecursion (IsGranted g) cs → AllByRecursion (IsGranted h) cs
 granted_more g h cs le all = all_weaker (IsGranted g) (IsGranted h) cs (λ c is user. let was = is user in omega arith) all
+
+pub rows_both : (x : ℕ) (rs ss : List Row) → rows_at x (rs ++ ss) ≡ rows_at x rs + rows_at x ss
+rows_both x [] ss = omega arith
+rows_both x (r ∷ rs) ss = let later = rows_both x rs ss in omega arith
+
+pub copy_rows_both : (x : ℕ) (rs ss : List Row) → copies_at x (rs ++ ss) ≡ copies_at x rs + copies_at x ss
+copy_rows_both x [] ss = omega arith
+copy_rows_both x (r ∷ rs) ss = let later = copy_rows_both x rs ss in omega arith
+
+pub inside : (x low high : ℕ) → low ≤ x → x < high → between low high x ≡ 1
+inside x low high le lt = grind (arith, nat_tests)

@@ -1,282 +1,375 @@
 -- A ring begins, its seats are split and joined, and at the end one seat has all claims.
-use Rattle.std.proofs.Common.{◌≡◌, ℕ, ◌+◌, ◌^◌, ◌<◌, ◌≤◌, List, [], set, replicate, refl, sym, ap, ◌∙◌, subst, ⊎_elim, arith}
+use Rattle.std.proofs.Common.{◌≡◌, ◌≢◌, ℕ, ◌+◌, ◌<◌, ◌≤◌, List, [], ◌∷◌, ◌++◌, length, set, Bool, true, false, if◌then◌else◌, refl, sym, ap, ◌∙◌, subst, arith}
+use Rattle.std.proofs.lemmas.List.{append-nil}
+use Rattle.std.specs.List.{AllByRecursion}
 use Rattle.lemmas.proofs.Lists.{all_append}
 use mathlib.Core.Option.{some, some-ne-none}
 use lib.ListN.{get_elem?}
-use Rattle.atomic_table.specs.Table.{Splits, Joins, Final, Seen, opening}
-use Rattle.atomic_table.proofs.Lists.{at_snoc, set_else}
+use Rattle.atomic_table.specs.Table.{State, Splits, Joins}
+use Rattle.atomic_table.proofs.Lists.{at_longer, set_else}
+use Rattle.write_ring.specs.declared.view.Found.{Found}
 use Rattle.write_ring.specs.declared.view.Key.{Key}
+use Rattle.write_ring.specs.declared.view.Part.{Part}
+use Rattle.write_ring.specs.declared.view.Row.{Row}
 use Rattle.write_ring.specs.declared.view.View.{View}
-use Rattle.write_ring.specs.Rule.{between, covers, covers_copy, Words, IsGranted, Each, Seats, Kept}
-use Rattle.write_ring.specs.Steps.{first_view, joined_pass, less_share, new_pass, no_desk, no_part, only_intake, spent, with_desk, without_intake}
-use Rattle.write_ring.specs.Handles.{IsTiled}
-use Rattle.write_ring.proofs.Views.{sum_changed, sum_same, sum_more, sum_two, sum_alone, each_changed, each_more}
-use Rattle.write_ring.proofs.ClaimLists.{covers_both, copies_both, empty}
-use Rattle.write_ring.proofs.Moves.{has, shares, copier, on, idle, nobody}
+use Rattle.write_ring.specs.Rule.{between, covers, covers_copy, IsGranted, Each, Seats}
+use Rattle.write_ring.specs.Stock.{HasOpen, HasPut, Begins, Sides, Entered}
+use Rattle.write_ring.specs.Kept.{HasKey}
+use Rattle.write_ring.specs.Steps.{fresh_part, joined_pass, less_share, new_pass, no_desk, no_part, note_of, part_of, only_intake, spent, told, with_desk, without_intake}
+use Rattle.write_ring.proofs.Views.{sum_changed, sum_more, each_changed, each_more}
+use Rattle.write_ring.proofs.ClaimLists.{covers_both, copies_both, rows_both, copy_rows_both, empty}
+use Rattle.write_ring.proofs.SomeViews.{behind_at}
+use Rattle.write_ring.proofs.SeatMoves.{has, shares, copier, on, idle, nobody}
+use Rattle.write_ring.proofs.Stocks.{stock_split, stock_joined}
+use Rattle.write_ring.proofs.Moves.{Rule}
 
-begin_words : (first : ℕ) → Words (set (set (set (replicate 48 0) 0 first) 16 first) 32 first) first first first
-begin_words first = record { long = omega arith; at_claimed = refl; at_freed = refl; at_granted = refl }
+pub fresh_sides : (shares copier : ℕ) → Sides (fresh_part shares copier)
+fresh_sides shares copier = record { all = λ x. let none = empty x 0 in omega arith; copies = λ x. refl }
+
+joined_sides : (p q : Part) → Sides p → Sides q → q.next ≡ q.until
+    → Sides (part_of (p.shares + q.shares) (p.copier + q.copier) (p.claims ++ q.claims) (p.puts ++ q.puts) p.next p.until p.copy)
+joined_sides p q h k rest = record {
+  all = λ x.
+      let claims = covers_both x p.claims q.claims in
+      let puts = rows_both x p.puts q.puts in
+      let one = h.all x in
+      let two = k.all x in
+      let nothing = none_open x in
+      omega arith;
+  copies = λ x.
+      let claims = copies_both x p.claims q.claims in
+      let puts = copy_rows_both x p.puts q.puts in
+      let one = h.copies x in
+      let two = k.copies x in
+      let nothing = none_copied q.copy x in
+      omega arith;
+}
+  where
+    none_open : (x : ℕ) → between q.next q.until x ≡ 0
+    none_open x = ap (λ k. between q.next k x) (sym rest) ∙ empty x q.next
+
+    none_copied : (b : Bool) (x : ℕ) → (if b then between q.next q.until x else 0) ≡ 0
+    none_copied true x = none_open x
+    none_copied false x = refl
+
+pub none_ahead : (shares copier x : ℕ) {P : Type 0} → HasOpen x (fresh_part shares copier) → P
+none_ahead shares copier x has = let high = has.1 in absurd (omega arith)
 
 module _ (key : Key) where
-  -- the seat that has all shares has all claims
-  tiles_alone : (c f g : ℕ) (views : List View) (by : ℕ) (v : View) → Seats key c f g views → get_elem? views by ≡ some v → v.pass.shares ≡ 128 → (x : ℕ)
-      → covers x v.pass.claims ≡ between key.first c x
-  tiles_alone c f g views by v h there all x =
-      let total = sum_alone (has x) views by v there (λ j u apart at.
-      let two = sum_two shares views j by u v apart at there in
-      let sum = h.shares in
-      let bare = (h.each j u at).bare (omega arith) in
-      ap (covers x) bare) in
-      sym total ∙ h.tiles x
-
-module _ {S : Type 0} (key : Key) where
-  pub begins : (first : ℕ) → key.first ≡ first → first ≤ 2 ^ 62 → key.reserve ≤ key.size
-      → Kept {S = S} key (opening (set (set (set (replicate 48 0) 0 first) 16 first) 32 first) [] (first_view key))
-  begins first is most reserve = record {
-    claimed = first;
-    freed = first;
-    granted = first;
-    words = begin_words first;
-    numbers = record { low = omega arith; order = omega arith; room = omega arith; most = most; grants = omega arith; most_granted = most };
-    seats = record {
-      tiles = λ x. sym (subst (λ k. between k first x ≡ 0) (sym is) (empty x first));
-      shares = refl;
-      one_copier = omega arith;
-      one_intake = omega arith;
-      each = λ j u there. ⊎_elim (λ none. absurd (some-ne-none u (sym none))) (λ (same : first_view key ≡ u). subst (Each first first first) same (record {
-        bare = λ no. refl;
-        no_copy = λ no x. refl;
-        users = tt;
-        saw_claimed = omega arith;
-        saw_freed = omega arith;
-        saw_granted = omega arith;
-        intake = λ yes. (is, is);
-      })) (at_snoc [] (first_view key) u j there);
-    };
+  -- a seat is split, with what it is counted by
+  seats_split : (c f g : ℕ) (views : List View) (by : ℕ) (v left right : View) → Seats key c f g views → get_elem? views by ≡ some v
+      → ((x : ℕ) → covers x left.pass.claims + covers x right.pass.claims ≡ covers x v.pass.claims)
+      → left.pass.shares + right.pass.shares ≡ v.pass.shares → left.pass.copier + right.pass.copier ≡ v.pass.copier
+      → left.intake.on + right.intake.on ≡ v.intake.on → Each c f g left → Each c f g right → Seats key c f g (set views by left ++ right ∷ [])
+  seats_split c f g views by v left right h there claims_add shares_add copiers_add ons_add mine its = record {
+    tiles = λ x.
+        let more = sum_more (has x) (set views by left) right in
+        let changed = sum_changed (has x) views by v left there in
+        let add = claims_add x in
+        let all = h.tiles x in
+        omega arith;
+    shares =
+        let more = sum_more shares (set views by left) right in
+        let changed = sum_changed shares views by v left there in
+        let all = h.shares in
+        omega arith;
+    one_copier =
+        let more = sum_more copier (set views by left) right in
+        let changed = sum_changed copier views by v left there in
+        let all = h.one_copier in
+        omega arith;
+    one_intake =
+        let more = sum_more on (set views by left) right in
+        let changed = sum_changed on views by v left there in
+        let all = h.one_intake in
+        omega arith;
+    each = each_more (Each c f g) (set views by left) right (each_changed (Each c f g) views by left (λ j u apart at. h.each j u at) mine) its;
   }
 
-  pub splits_pass : (by : ℕ) (v : View) → 2 ≤ v.pass.shares → Splits (Kept {S = S} key) by v (less_share v) new_pass
+  -- a seat goes into another, with what it is counted by
+  seats_joined : (c f g : ℕ) (views : List View) (by : ℕ) (v : View) (other : ℕ) (w b : View) → Seats key c f g views → get_elem? views by ≡ some v
+      → get_elem? (set views by b) other ≡ some w
+      → ((x : ℕ) → covers x b.pass.claims ≡ covers x v.pass.claims + covers x w.pass.claims)
+      → b.pass.shares ≡ v.pass.shares + w.pass.shares → b.pass.copier ≡ v.pass.copier + w.pass.copier → b.intake.on ≡ v.intake.on + w.intake.on
+      → Each c f g b → Seats key c f g (set (set views by b) other spent)
+  seats_joined c f g views by v other w b h there also claims_add shares_add copiers_add ons_add mine = record {
+    tiles = λ x.
+        let first = sum_changed (has x) views by v b there in
+        let second = sum_changed (has x) (set views by b) other w spent also in
+        let add = claims_add x in
+        let all = h.tiles x in
+        omega arith;
+    shares =
+        let first = sum_changed shares views by v b there in
+        let second = sum_changed shares (set views by b) other w spent also in
+        let all = h.shares in
+        omega arith;
+    one_copier =
+        let first = sum_changed copier views by v b there in
+        let second = sum_changed copier (set views by b) other w spent also in
+        let all = h.one_copier in
+        omega arith;
+    one_intake =
+        let first = sum_changed on views by v b there in
+        let second = sum_changed on (set views by b) other w spent also in
+        let all = h.one_intake in
+        omega arith;
+    each = each_changed (Each c f g) (set views by b) other spent
+        (λ j u _ at. each_changed (Each c f g) views by b (λ i x _ here. h.each i x here) mine j u at) (nobody c f g);
+  }
+
+  spent_entered : (words : List ℕ) (took : List Row) (taken away : ℕ) → Entered key.size key.first words took taken away spent
+  spent_entered words took taken away = record {
+    sides = fresh_sides 0 0;
+    ahead = λ x has. none_ahead 0 0 x has;
+    desk = λ yes. absurd (yes refl);
+    heard = (took, refl);
+  }
+
+module _ {S : Type 0} (key : Key) (FreeOf : Key → S → Type 0) (Blank : S → Type 0) (CarriesOf : Key → S → Row → Type 0) (FitsOf : Key → Row → Type 0) where
+  pub splits_pass : (by : ℕ) (v : View) → 2 ≤ v.pass.shares → Splits (Rule key FreeOf Blank CarriesOf FitsOf) by v (less_share v) (new_pass v.key)
   splits_pass by v two s h there =
       let w = less_share v in
-      let seats = h.seats in
-      let c = h.claimed in
-      let f = h.freed in
-      let g = h.granted in
-      let mine = seats.each by v there in
+      let mine = h.seats.each by v there in
+      let its = h.stock.entered by v there in
+      let known = h.keys by v there in
       record {
-        claimed = c;
-        freed = f;
-        granted = g;
+        claimed = h.claimed;
+        taken = h.taken;
+        freed = h.freed;
+        granted = h.granted;
+        away = h.away;
+        took = h.took;
         words = h.words;
         numbers = h.numbers;
-        seats = record {
-          tiles = λ x.
-              let more = sum_more (has x) (set s.views by w) new_pass in
-              let same = sum_same (has x) s.views by v w there refl in
-              let all = seats.tiles x in
-              omega arith;
-          shares =
-              let more = sum_more shares (set s.views by w) new_pass in
-              let changed = sum_changed shares s.views by v w there in
-              let all = seats.shares in
-              omega arith;
-          one_copier =
-              let more = sum_more copier (set s.views by w) new_pass in
-              let same = sum_same copier s.views by v w there refl in
-              let all = seats.one_copier in
-              omega arith;
-          one_intake =
-              let more = sum_more on (set s.views by w) new_pass in
-              let same = sum_same on s.views by v w there refl in
-              let all = seats.one_intake in
-              omega arith;
-          each = each_more (Each c f g) (set s.views by w) new_pass
-              (each_changed (Each c f g) s.views by w (λ j u apart at. seats.each j u at) (record {
-                bare = λ none. absurd (omega arith);
-                no_copy = mine.no_copy;
-                users = mine.users;
-                saw_claimed = mine.saw_claimed;
-                saw_freed = mine.saw_freed;
-                saw_granted = mine.saw_granted;
-                intake = mine.intake;
-              }))
-              (idle c f g);
-        };
+        seats = seats_split key h.claimed h.freed h.granted s.views by v w (new_pass v.key) h.seats there (λ x. omega arith) (omega arith) (omega arith)
+            (omega arith)
+            (record {
+              bare = λ none. absurd (omega arith);
+              no_copy = mine.no_copy;
+              users = mine.users;
+              saw_claimed = mine.saw_claimed;
+              saw_freed = mine.saw_freed;
+              saw_granted = mine.saw_granted;
+              intake = mine.intake;
+            })
+            (idle v.key h.claimed h.freed h.granted);
+        stock = stock_split key.size key.first (FreeOf key) Blank (CarriesOf key) (FitsOf key) s.words s.homes s.views by v w (new_pass v.key) h.took
+            h.claimed h.taken h.freed h.away h.stock there
+            (record { sides = record { all = its.sides.all; copies = its.sides.copies }; ahead = its.ahead; desk = its.desk; heard = its.heard })
+            (record { sides = fresh_sides 1 0; ahead = λ x has. none_ahead 1 0 x has; desk = λ yes. absurd (yes refl); heard = (h.took, refl) })
+            (λ r is. is) (λ q is. is);
+        keys = each_more (HasKey key) (set s.views by w) (new_pass v.key)
+            (each_changed (HasKey key) s.views by w (λ j u apart at. h.keys j u at)
+            (record { pass = λ some_shares. known.pass (omega arith); desk = known.desk }))
+            (record { pass = λ _. known.pass (omega arith); desk = λ yes. absurd (yes refl) });
       }
 
-  pub splits_intake : (by : ℕ) (v : View) → Splits (Kept {S = S} key) by v (without_intake v) (only_intake v)
+  pub splits_intake : (by : ℕ) (v : View) → Splits (Rule key FreeOf Blank CarriesOf FitsOf) by v (without_intake v) (only_intake v)
   splits_intake by v s h there =
       let w = without_intake v in
       let i = only_intake v in
-      let seats = h.seats in
-      let c = h.claimed in
-      let f = h.freed in
-      let g = h.granted in
-      let mine = seats.each by v there in
+      let mine = h.seats.each by v there in
+      let its = h.stock.entered by v there in
+      let known = h.keys by v there in
       record {
-        claimed = c;
-        freed = f;
-        granted = g;
+        claimed = h.claimed;
+        taken = h.taken;
+        freed = h.freed;
+        granted = h.granted;
+        away = h.away;
+        took = h.took;
         words = h.words;
         numbers = h.numbers;
-        seats = record {
-          tiles = λ x.
-              let more = sum_more (has x) (set s.views by w) i in
-              let same = sum_same (has x) s.views by v w there refl in
-              let all = seats.tiles x in
-              omega arith;
-          shares =
-              let more = sum_more shares (set s.views by w) i in
-              let same = sum_same shares s.views by v w there refl in
-              let all = seats.shares in
-              omega arith;
-          one_copier =
-              let more = sum_more copier (set s.views by w) i in
-              let same = sum_same copier s.views by v w there refl in
-              let all = seats.one_copier in
-              omega arith;
-          one_intake =
-              let more = sum_more on (set s.views by w) i in
-              let changed = sum_changed on s.views by v w there in
-              let all = seats.one_intake in
-              omega arith;
-          each = each_more (Each c f g) (set s.views by w) i
-              (each_changed (Each c f g) s.views by w (λ j u apart at. seats.each j u at) (record {
-                bare = mine.bare;
-                no_copy = mine.no_copy;
-                users = mine.users;
-                saw_claimed = mine.saw_claimed;
-                saw_freed = mine.saw_freed;
-                saw_granted = mine.saw_granted;
-                intake = λ no. absurd (no refl);
-              }))
-              (record {
-                bare = λ e. refl;
-                no_copy = λ e x. refl;
-                users = tt;
-                saw_claimed = omega arith;
-                saw_freed = omega arith;
-                saw_granted = omega arith;
-                intake = mine.intake;
-              });
-        };
+        seats = seats_split key h.claimed h.freed h.granted s.views by v w i h.seats there (λ x. omega arith) (omega arith) (omega arith) (omega arith)
+            (record {
+              bare = mine.bare;
+              no_copy = mine.no_copy;
+              users = mine.users;
+              saw_claimed = mine.saw_claimed;
+              saw_freed = mine.saw_freed;
+              saw_granted = mine.saw_granted;
+              intake = λ no. absurd (no refl);
+            })
+            (record {
+              bare = λ e. refl;
+              no_copy = λ e x. refl;
+              users = tt;
+              saw_claimed = omega arith;
+              saw_freed = omega arith;
+              saw_granted = omega arith;
+              intake = mine.intake;
+            });
+        stock = stock_split key.size key.first (FreeOf key) Blank (CarriesOf key) (FitsOf key) s.words s.homes s.views by v w i h.took
+            h.claimed h.taken h.freed h.away h.stock there
+            (record { sides = its.sides; ahead = its.ahead; desk = λ yes. absurd (yes refl); heard = its.heard })
+            (record { sides = fresh_sides 0 0; ahead = λ x has. none_ahead 0 0 x has; desk = its.desk; heard = (h.took, refl) })
+            (λ r is. is) (λ q is. is);
+        keys = each_more (HasKey key) (set s.views by w) i
+            (each_changed (HasKey key) s.views by w (λ j u apart at. h.keys j u at) (record { pass = known.pass; desk = λ yes. absurd (yes refl) }))
+            (record { pass = λ yes. absurd (yes refl); desk = known.desk });
       }
 
-  pub joins_pass : (by : ℕ) (v : View) (other : ℕ) (w : View) → 0 < v.pass.shares → w.intake ≡ no_desk
-      → Joins (Kept {S = S} key) by v other w (joined_pass v w) spent
-  joins_pass by v other w sharing only s h there apart also =
+  -- a note of what the intake took
+  pub splits_note : (by : ℕ) (v : View) → v.intake.on ≡ 1 → Splits (Rule key FreeOf Blank CarriesOf FitsOf) by v v (note_of v)
+  splits_note by v is_on s h there =
+      let mine = h.seats.each by v there in
+      let its = h.stock.entered by v there in
+      let own = its.desk (λ off. omega arith) in
+      let i = note_of v in
+      record {
+        claimed = h.claimed;
+        taken = h.taken;
+        freed = h.freed;
+        granted = h.granted;
+        away = h.away;
+        took = h.took;
+        words = h.words;
+        numbers = h.numbers;
+        seats = seats_split key h.claimed h.freed h.granted s.views by v v i h.seats there (λ x. omega arith) (omega arith) (omega arith) (omega arith) mine
+            (record {
+              bare = λ e. refl;
+              no_copy = λ e x. refl;
+              users = tt;
+              saw_claimed = omega arith;
+              saw_freed = omega arith;
+              saw_granted = omega arith;
+              intake = λ yes. absurd (yes refl);
+            });
+        stock = stock_split key.size key.first (FreeOf key) Blank (CarriesOf key) (FitsOf key) s.words s.homes s.views by v v i h.took
+            h.claimed h.taken h.freed h.away h.stock there its
+            (record {
+              sides = fresh_sides 0 0;
+              ahead = λ x has. none_ahead 0 0 x has;
+              desk = λ yes. absurd (yes refl);
+              heard =
+                  ([], sym own.0 ∙ sym (append-nil v.intake.took));
+            })
+            (λ r is. is) (λ q is. is);
+        keys = each_more (HasKey key) (set s.views by v) i (each_changed (HasKey key) s.views by v (λ j u apart at. h.keys j u at) (h.keys by v there))
+            (record { pass = λ yes. absurd (yes refl); desk = λ yes. absurd (yes refl) });
+      }
+
+  pub joins_pass : (by : ℕ) (v : View) (other : ℕ) (w : View) → 0 < v.pass.shares → w.intake ≡ no_desk → w.pass.next ≡ w.pass.until
+      → Joins (Rule key FreeOf Blank CarriesOf FitsOf) by v other w (joined_pass v w) spent
+  joins_pass by v other w sharing only rest s h there differ also =
       let b = joined_pass v w in
-      let seats = h.seats in
-      let c = h.claimed in
-      let f = h.freed in
-      let g = h.granted in
-      let mine = seats.each by v there in
-      let its = seats.each other w (sym (set_else s.views by other b apart) ∙ also) in
+      let mine = h.seats.each by v there in
+      let was_there = sym (set_else s.views by other b differ) ∙ also in
+      let its = h.seats.each other w was_there in
       let off : w.intake.on ≡ 0 = ap (λ d. d.on) only in
+      let my = h.stock.entered by v there in
+      let their = h.stock.entered other w was_there in
+      let known = h.keys by v there in
       record {
-        claimed = c;
-        freed = f;
-        granted = g;
+        claimed = h.claimed;
+        taken = h.taken;
+        freed = h.freed;
+        granted = h.granted;
+        away = h.away;
+        took = h.took;
         words = h.words;
         numbers = h.numbers;
-        seats = record {
-          tiles = λ x.
-              let first = sum_changed (has x) s.views by v b there in
-              let second = sum_changed (has x) (set s.views by b) other w spent also in
-              let both : covers x b.pass.claims ≡ covers x v.pass.claims + covers x w.pass.claims = covers_both x v.pass.claims w.pass.claims in
-              let all = seats.tiles x in
-              omega arith;
-          shares =
-              let first = sum_changed shares s.views by v b there in
-              let second = sum_changed shares (set s.views by b) other w spent also in
-              let all = seats.shares in
-              omega arith;
-          one_copier =
-              let first = sum_changed copier s.views by v b there in
-              let second = sum_changed copier (set s.views by b) other w spent also in
-              let all = seats.one_copier in
-              omega arith;
-          one_intake =
-              let first = sum_changed on s.views by v b there in
-              let second = sum_changed on (set s.views by b) other w spent also in
-              let all = seats.one_intake in
-              omega arith;
-          each = each_changed (Each c f g) (set s.views by b) other spent
-              (λ j u _ at. each_changed (Each c f g) s.views by b (λ j u _ at. seats.each j u at) (record {
-                bare = λ none. absurd (omega arith);
-                no_copy = λ none x.
-                    let both : covers_copy x b.pass.claims ≡ covers_copy x v.pass.claims + covers_copy x w.pass.claims =
-                    copies_both x v.pass.claims w.pass.claims in
-                    let one = mine.no_copy (omega arith) x in
-                    let two = its.no_copy (omega arith) x in
-                    omega arith;
-                users = all_append (IsGranted g) v.pass.claims w.pass.claims mine.users its.users;
-                saw_claimed = mine.saw_claimed;
-                saw_freed = mine.saw_freed;
-                saw_granted = mine.saw_granted;
-                intake = mine.intake;
-              }) j u at)
-              (nobody c f g);
-        };
+        seats = seats_joined key h.claimed h.freed h.granted s.views by v other w b h.seats there also (λ x. covers_both x v.pass.claims w.pass.claims)
+            refl refl (omega arith)
+            (record {
+              bare = λ none. absurd (omega arith);
+              no_copy = λ none x.
+                  let both : covers_copy x b.pass.claims ≡ covers_copy x v.pass.claims + covers_copy x w.pass.claims =
+                  copies_both x v.pass.claims w.pass.claims in
+                  let one = mine.no_copy (omega arith) x in
+                  let two = its.no_copy (omega arith) x in
+                  omega arith;
+              users = all_append (IsGranted h.granted) v.pass.claims w.pass.claims mine.users its.users;
+              saw_claimed = mine.saw_claimed;
+              saw_freed = mine.saw_freed;
+              saw_granted = mine.saw_granted;
+              intake = mine.intake;
+            });
+        stock = stock_joined key.size key.first (FreeOf key) Blank (CarriesOf key) (FitsOf key) s.words s.homes s.views by v other w b spent h.took
+            h.claimed h.taken h.freed h.away h.stock there differ also
+            (record { sides = joined_sides v.pass w.pass my.sides their.sides rest; ahead = my.ahead; desk = my.desk; heard = my.heard })
+            (spent_entered key s.words h.took h.taken h.away)
+            (λ r had. (had.0, at_longer v.pass.puts w.pass.puts had.0 r had.1))
+            (λ r had. (length v.pass.puts + had.0, behind_at v.pass.puts w.pass.puts had.0 (length v.pass.puts + had.0) r refl had.1))
+            (λ q had. had) (λ q had. let low = had.0 in let high = had.1 in absurd (omega arith));
+        keys = each_changed (HasKey key) (set s.views by b) other spent
+            (λ j u _ at. each_changed (HasKey key) s.views by b (λ i x _ here. h.keys i x here)
+            (record { pass = λ _. known.pass (omega arith); desk = known.desk }) j u at)
+            (record { pass = λ yes. absurd (yes refl); desk = λ yes. absurd (yes refl) });
       }
 
-  pub joins_intake : (by : ℕ) (v : View) (other : ℕ) (w : View) → w.pass ≡ no_part → w.intake.on ≡ 1
-      → Joins (Kept {S = S} key) by v other w (with_desk v w) spent
-  joins_intake by v other w only is_on s h there apart also =
-      let b = with_desk v w in
-      let seats = h.seats in
-      let c = h.claimed in
-      let f = h.freed in
-      let g = h.granted in
-      let mine = seats.each by v there in
-      let its = seats.each other w (sym (set_else s.views by other b apart) ∙ also) in
-      let no_shares : w.pass.shares ≡ 0 = ap (λ p. p.shares) only in
-      let no_copier : w.pass.copier ≡ 0 = ap (λ p. p.copier) only in
+  -- at closing, and where a note is joined: a seat that has claimed nothing goes into a pass
+  joins_idle : (by : ℕ) (v : View) (other : ℕ) (w b : View) → 0 < v.pass.shares → w.pass ≡ no_part → b.pass ≡ v.pass → b.found ≡ v.found → b.key ≡ v.key
+      → b.intake.on ≡ v.intake.on + w.intake.on
+      → ((s : State S View) (h : Rule key FreeOf Blank CarriesOf FitsOf s) → get_elem? s.views by ≡ some v → get_elem? s.views other ≡ some w
+      → (b.intake.on ≢ 0 → (b.intake.freed ≡ h.freed) × (b.intake.granted ≡ h.granted))
+      × (b.intake.on ≢ 0 → (b.intake.took ≡ h.took) × (b.intake.taken ≡ h.taken) × (b.intake.away ≡ h.away)) × Begins b.heard h.took)
+      → Joins (Rule key FreeOf Blank CarriesOf FitsOf) by v other w b spent
+  joins_idle by v other w b sharing idle_pass same_pass same_found same_key ons says s h there differ also =
+      let mine = h.seats.each by v there in
+      let was_there = sym (set_else s.views by other b differ) ∙ also in
+      let my = h.stock.entered by v there in
+      let known = h.keys by v there in
+      let said = says s h there was_there in
+      let no_shares : w.pass.shares ≡ 0 = ap (λ p. p.shares) idle_pass in
+      let no_copier : w.pass.copier ≡ 0 = ap (λ p. p.copier) idle_pass in
+      let same_shares : b.pass.shares ≡ v.pass.shares = ap (λ p. p.shares) same_pass in
+      let same_copier : b.pass.copier ≡ v.pass.copier = ap (λ p. p.copier) same_pass in
       record {
-        claimed = c;
-        freed = f;
-        granted = g;
+        claimed = h.claimed;
+        taken = h.taken;
+        freed = h.freed;
+        granted = h.granted;
+        away = h.away;
+        took = h.took;
         words = h.words;
         numbers = h.numbers;
-        seats = record {
-          tiles = λ x.
-              let first = sum_same (has x) s.views by v b there refl in
-              let second = sum_changed (has x) (set s.views by b) other w spent also in
-              let none : covers x w.pass.claims ≡ 0 = ap (λ p. covers x p.claims) only in
-              let all = seats.tiles x in
-              omega arith;
-          shares =
-              let first = sum_same shares s.views by v b there refl in
-              let second = sum_changed shares (set s.views by b) other w spent also in
-              let all = seats.shares in
-              omega arith;
-          one_copier =
-              let first = sum_same copier s.views by v b there refl in
-              let second = sum_changed copier (set s.views by b) other w spent also in
-              let all = seats.one_copier in
-              omega arith;
-          one_intake =
-              let first = sum_changed on s.views by v b there in
-              let second = sum_changed on (set s.views by b) other w spent also in
-              let all = seats.one_intake in
-              omega arith;
-          each = each_changed (Each c f g) (set s.views by b) other spent
-              (λ j u _ at. each_changed (Each c f g) s.views by b (λ j u _ at. seats.each j u at) (record {
-                bare = mine.bare;
-                no_copy = mine.no_copy;
-                users = mine.users;
-                saw_claimed = mine.saw_claimed;
-                saw_freed = mine.saw_freed;
-                saw_granted = mine.saw_granted;
-                intake = λ _. its.intake (λ off. omega arith);
-              }) j u at)
-              (nobody c f g);
-        };
+        seats = seats_joined key h.claimed h.freed h.granted s.views by v other w b h.seats there also
+            (λ x.
+            let none : covers x w.pass.claims ≡ 0 = ap (λ p. covers x p.claims) idle_pass in
+            let same : covers x b.pass.claims ≡ covers x v.pass.claims = ap (λ p. covers x p.claims) same_pass in
+            omega arith)
+            (omega arith) (omega arith) ons
+            (record {
+              bare = subst (λ (p : Part). p.shares ≡ 0 → p.claims ≡ []) (sym same_pass) mine.bare;
+              no_copy = subst (λ (p : Part). p.copier ≡ 0 → (x : ℕ) → covers_copy x p.claims ≡ 0) (sym same_pass) mine.no_copy;
+              users = subst (λ (p : Part). AllByRecursion (IsGranted h.granted) p.claims) (sym same_pass) mine.users;
+              saw_claimed = subst (λ (f : Found). f.claimed ≤ h.claimed) (sym same_found) mine.saw_claimed;
+              saw_freed = subst (λ (f : Found). f.freed ≤ h.freed) (sym same_found) mine.saw_freed;
+              saw_granted = subst (λ (f : Found). f.granted ≤ h.granted) (sym same_found) mine.saw_granted;
+              intake = said.0;
+            });
+        stock = stock_joined key.size key.first (FreeOf key) Blank (CarriesOf key) (FitsOf key) s.words s.homes s.views by v other w b spent h.took
+            h.claimed h.taken h.freed h.away h.stock there differ also
+            (record {
+              sides = subst Sides (sym same_pass) my.sides;
+              ahead = λ x has. my.ahead x (subst (HasOpen x) same_pass has);
+              desk = said.1;
+              heard = said.2;
+            })
+            (spent_entered key s.words h.took h.taken h.away)
+            (λ r. subst (HasPut r) (sym same_pass))
+            (λ r had. absurd (some-ne-none r (sym (ap (λ (p : Part). get_elem? p.puts had.0) (sym idle_pass) ∙ had.1))))
+            (λ q. subst (HasOpen q) (sym same_pass))
+            (λ q had. none_ahead 0 0 q (subst (HasOpen q) idle_pass had));
+        keys = each_changed (HasKey key) (set s.views by b) other spent
+            (λ j u _ at. each_changed (HasKey key) s.views by b (λ i x _ here. h.keys i x here)
+            (record { pass = λ _. same_key ∙ known.pass (omega arith); desk = λ _. same_key ∙ known.pass (omega arith) }) j u at)
+            (record { pass = λ yes. absurd (yes refl); desk = λ yes. absurd (yes refl) });
       }
 
-  pub ends : (ws : List ℕ) (xs : List S) (by : ℕ) (v : View) → v.pass.shares ≡ 128 → Final (Seen (Kept {S = S} key) by v) ws xs
-      → IsTiled key.first v.pass.claims
-  ends ws xs by v all last =
-      let s = last.0 in
-      let h = last.1.0 in
-      (h.claimed, tiles_alone key h.claimed h.freed h.granted s.views by v h.seats last.1.1 all)
+  pub joins_intake : (by : ℕ) (v : View) (other : ℕ) (w : View) → 0 < v.pass.shares → w.pass ≡ no_part → w.intake.on ≡ 1
+      → Joins (Rule key FreeOf Blank CarriesOf FitsOf) by v other w (with_desk v w) spent
+  joins_intake by v other w sharing only is_on = joins_idle by v other w (with_desk v w) sharing only refl refl refl refl
+      (λ s h there also. (
+        (λ _. (h.seats.each other w also).intake (λ off. omega arith)),
+        (λ _. (h.stock.entered other w also).desk (λ off. omega arith)),
+        (h.stock.entered by v there).heard,
+      ))
+
+  pub joins_note : (by : ℕ) (v : View) (other : ℕ) (w : View) → 0 < v.pass.shares → w.pass ≡ no_part → w.intake ≡ no_desk
+      → Joins (Rule key FreeOf Blank CarriesOf FitsOf) by v other w (told v w) spent
+  joins_note by v other w sharing only idle_desk = joins_idle by v other w (told v w) sharing only refl refl refl
+      (let off : w.intake.on ≡ 0 = ap (λ d. d.on) idle_desk in omega arith)
+      (λ s h there also. ((h.seats.each by v there).intake, (h.stock.entered by v there).desk, (h.stock.entered other w also).heard))

@@ -1,229 +1,116 @@
 -- Each kind of step keeps the rule, and tells what it says.
-use Rattle.std.proofs.Common.{◌≡◌, ◌≢◌, ℕ, ◌+◌, ◌-◌, ◌^◌, ◌<◌, ◌≤◌, eqb, List, [], ◌∷◌, set, Bool, true, false, true≢false, refl, sym, ap, ◌∙◌, subst, arith, if◌then◌else◌}
+use Rattle.std.proofs.Common.{◌≡◌, ◌≢◌, ℕ, ◌+◌, ◌^◌, ◌<◌, ◌≤◌, List, ◌++◌, set, refl, sym, ap, ◌∙◌, subst, arith}
 use Rattle.std.specs.Prelude.{slice_index}
 use mathlib.Core.Option.{some}
-use prog.Atomic.{either}
 use lib.ListN.{get_elem?}
-use Rattle.atomic_table.specs.Table.{State, Act, Valid, Allows, keeps, stepped, carried_after}
-use Rattle.atomic_table.proofs.Lists.{exchanged}
-use Rattle.lemmas.proofs.Lists.{with_last}
+use Rattle.atomic_table.specs.Table.{State, Allows, keeps}
 use Rattle.write_ring.specs.declared.view.Found.{Found}
 use Rattle.write_ring.specs.declared.view.Key.{Key}
+use Rattle.write_ring.specs.declared.view.Row.{Row}
 use Rattle.write_ring.specs.declared.view.View.{View}
-use Rattle.write_ring.specs.Rule.{between, covers, covers_copy, Numbers, IsGranted, Each, Seats, Kept, claimed_at, freed_at, granted_at}
-use Rattle.write_ring.specs.Steps.{Claims, LieBelow, claim_of, claimed_to, met_claimed, granted_to, new_pass, saw_claimed, saw_freed, saw_granted, spent, with_found}
-use Rattle.write_ring.proofs.Views.{sum_changed, sum_same, sum_one, sum_two, each_changed}
-use Rattle.write_ring.proofs.ClaimLists.{covers_both, copies_both, grown, none_above, granted_more}
-use Rattle.write_ring.proofs.Words.{same_words, claimed_word, granted_word}
+use Rattle.write_ring.specs.Rule.{AllViews, claimed_at, freed_at, granted_at}
+use Rattle.write_ring.specs.Stock.{Stock, HasOpen, HasPut, Sides}
+use Rattle.write_ring.specs.Kept.{Kept, HasKey}
+use Rattle.write_ring.specs.Steps.{LieBelow, granted_to, saw_claimed, saw_freed, saw_granted, with_found}
+use Rattle.write_ring.proofs.Views.{each_changed}
+use Rattle.write_ring.proofs.Words.{same_words, granted_word, turns_stay}
+use Rattle.write_ring.proofs.SeatMoves.{looked, own_below, granted_more_seats}
+use Rattle.write_ring.proofs.Stocks.{stock_words, stock_changed}
 
--- what each seat is counted by
-abbrev pub has : ℕ → View → ℕ
-has x v = covers x v.pass.claims
+module _ {S : Type 0} (key : Key) (FreeOf : Key → S → Type 0) (Blank : S → Type 0) (CarriesOf : Key → S → Row → Type 0) (FitsOf : Key → Row → Type 0) where
+  abbrev pub Rule : State S View → Type 0
+  Rule = Kept key (FreeOf key) Blank (CarriesOf key) (FitsOf key)
 
-abbrev pub shares : View → ℕ
-shares v = v.pass.shares
+  abbrev pub Goods : List ℕ → State S View → List View → List Row → ℕ → ℕ → ℕ → ℕ → Type 0
+  Goods words s views took claimed taken freed away =
+      Stock key.size key.first (FreeOf key) Blank (CarriesOf key) (FitsOf key) words s.homes views took claimed taken freed away
 
-abbrev pub copier : View → ℕ
-copier v = v.pass.copier
+  pub keys_stay : (views : List View) (by : ℕ) (v w : View) → AllViews (HasKey key) views → get_elem? views by ≡ some v → w.key ≡ v.key
+      → w.pass.shares ≡ v.pass.shares → w.intake.on ≡ v.intake.on → AllViews (HasKey key) (set views by w)
+  keys_stay views by v w h there same shares on =
+      let mine = h by v there in
+      each_changed (HasKey key) views by w (λ j u apart at. h j u at) (record {
+        pass = λ some_shares. same ∙ mine.pass (subst (λ k. k ≢ 0) shares some_shares);
+        desk = λ is_on. same ∙ mine.desk (subst (λ k. k ≢ 0) on is_on);
+      })
 
-abbrev pub on : View → ℕ
-on v = v.intake.on
+  -- the goods, where a seat's view changes in nothing that they read, and a word is stored that is no turn word
+  pub goods_stay : (s : State S View) (by : ℕ) (v w : View) (i n : ℕ) (took : List Row) (claimed taken freed away : ℕ)
+      → Goods s.words s s.views took claimed taken freed away → get_elem? s.views by ≡ some v → i < 48 → w.pass ≡ v.pass → w.heard ≡ v.heard
+      → w.intake.on ≡ v.intake.on → w.intake.took ≡ v.intake.took → w.intake.taken ≡ v.intake.taken → w.intake.away ≡ v.intake.away
+      → Goods (set s.words i n) s (set s.views by w) took claimed taken freed away
+  goods_stay s by v w i n took claimed taken freed away h there low same_pass same_heard same_on same_took same_taken same_away =
+      let mine = h.entered by v there in
+      stock_words key.size key.first (FreeOf key) Blank (CarriesOf key) (FitsOf key) s.words (set s.words i n) s.homes
+      (set s.views by w) took claimed taken freed away
+      (stock_changed key.size key.first (FreeOf key) Blank (CarriesOf key) (FitsOf key) s.words s.homes s.views by v w took claimed taken freed away h there
+      (record {
+        sides = subst Sides (sym same_pass) mine.sides;
+        ahead = λ x has. mine.ahead x (subst (HasOpen x) same_pass has);
+        desk = λ is_on. let own = mine.desk (subst (λ k. k ≢ 0) same_on is_on) in (same_took ∙ own.0, same_taken ∙ own.1, same_away ∙ own.2);
+        heard = subst (λ l. (rest : List Row) × (took ≡ l ++ rest)) (sym same_heard) mine.heard;
+      })
+      (λ r. subst (HasPut r) (sym same_pass)) (λ q. subst (HasOpen q) (sym same_pass)))
+      (λ q. turns_stay key.size s.words i n q low)
 
-pub idle : (c f g : ℕ) → Each c f g new_pass
-idle c f g = record {
-  bare = λ e. refl;
-  no_copy = λ e x. refl;
-  users = tt;
-  saw_claimed = omega arith;
-  saw_freed = omega arith;
-  saw_granted = omega arith;
-  intake = λ no. absurd (no refl);
-}
-
-pub nobody : (c f g : ℕ) → Each c f g spent
-nobody c f g = record {
-  bare = λ e. refl;
-  no_copy = λ e x. refl;
-  users = tt;
-  saw_claimed = omega arith;
-  saw_freed = omega arith;
-  saw_granted = omega arith;
-  intake = λ no. absurd (no refl);
-}
-
-higher : (c d f g : ℕ) (u : View) → c ≤ d → Each c f g u → Each d f g u
-higher c d f g u le h =
-    let saw = h.saw_claimed in
-    record {
-      bare = h.bare;
-      no_copy = h.no_copy;
-      users = h.users;
-      saw_claimed = omega arith;
-      saw_freed = h.saw_freed;
-      saw_granted = h.saw_granted;
-      intake = h.intake;
-    }
-
-granted_higher : (c f g h : ℕ) (u : View) → g ≤ h → u.intake.on ≡ 0 → Each c f g u → Each c f h u
-granted_higher c f g h u le off e =
-    let saw = e.saw_granted in
-    record {
-      bare = e.bare;
-      no_copy = e.no_copy;
-      users = granted_more g h u.pass.claims le e.users;
-      saw_claimed = e.saw_claimed;
-      saw_freed = e.saw_freed;
-      saw_granted = omega arith;
-      intake = λ yes. absurd (yes off);
-    }
-
-pub at_most : (a b n : ℕ) → a ≡ b → b ≤ n → a ≤ n
-at_most a b n same le = omega arith
-
-module _ (key : Key) where
-  -- one seat found something else
-  looked : (c f g : ℕ) (views : List View) (by : ℕ) (v : View) (n : Found) → Seats key c f g views → get_elem? views by ≡ some v → n.claimed ≤ c
-      → n.freed ≤ f → n.granted ≤ g
-      → Seats key c f g (set views by (with_found v n))
-  looked c f g views by v n h there nc nf ng =
-      let w = with_found v n in
-      let mine = h.each by v there in
-      record {
-        tiles = λ x. sum_same (has x) views by v w there refl ∙ h.tiles x;
-        shares = sum_same shares views by v w there refl ∙ h.shares;
-        one_copier = at_most _ _ _ (sum_same copier views by v w there refl) h.one_copier;
-        one_intake = at_most _ _ _ (sum_same on views by v w there refl) h.one_intake;
-        each = each_changed (Each c f g) views by w (λ j u apart at. h.each j u at) (record {
-          bare = mine.bare;
-          no_copy = mine.no_copy;
-          users = mine.users;
-          saw_claimed = nc;
-          saw_freed = nf;
-          saw_granted = ng;
-          intake = mine.intake;
-        });
-      }
-
-  -- a claim lies below what is claimed
-  own_below : (c f g : ℕ) (views : List View) (by : ℕ) (v : View) → Seats key c f g views → get_elem? views by ≡ some v → LieBelow c v.pass.claims
-  own_below c f g views by v h there x above =
-      let one = sum_one (has x) views by v there in
-      let all = h.tiles x in
-      let none = none_above x key.first c above in
-      omega arith
-
-  -- a seat claims
-  claimed_more : (copy : Bool) (old new f g : ℕ) (views : List View) (by : ℕ) (v : View) → Seats key old f g views → Numbers key old f g
-      → get_elem? views by ≡ some v → 0 < v.pass.shares → old < new
-      → (copy ≡ false → new ≤ g) → (v.pass.copier ≡ 0 → copy ≡ false) → Seats key new f g (set views by (claimed_to v old new copy))
-  claimed_more copy old new f g views by v h numbers there sharing rises user may =
-      let w = claimed_to v old new copy in
-      let c = claim_of old (new - old) copy in
-      let mine = h.each by v there in
-      let ends : old + (new - old) ≡ new = omega arith in
-      let low = numbers.low in
-      let order = numbers.order in
-      record {
-        tiles = λ x.
-            let changed = sum_changed (has x) views by v w there in
-            let both : covers x w.pass.claims ≡ covers x v.pass.claims + (between old (old + (new - old)) x + 0) = covers_both x v.pass.claims (c ∷ []) in
-            let same : between old (old + (new - old)) x ≡ between old new x = ap (λ k. between old k x) ends in
-            let all = h.tiles x in
-            let more = grown x key.first old new (omega arith) (omega arith) in
-            omega arith;
-        shares = sum_same shares views by v w there refl ∙ h.shares;
-        one_copier = at_most _ _ _ (sum_same copier views by v w there refl) h.one_copier;
-        one_intake = at_most _ _ _ (sum_same on views by v w there refl) h.one_intake;
-        each = each_changed (Each new f g) views by w (λ j u apart at. higher old new f g u (omega arith) (h.each j u at)) (record {
-          bare = λ none. absurd (omega arith);
-          no_copy = λ none x.
-              let its : ℕ = if copy then between old (old + (new - old)) x else 0 in
-              let both : covers_copy x w.pass.claims ≡ covers_copy x v.pass.claims + (its + 0) = copies_both x v.pass.claims (c ∷ []) in
-              let mine_none = mine.no_copy none x in
-              let user_none : its ≡ 0 = ap (λ b. if b then between old (old + (new - old)) x else 0) (may none) in
-              omega arith;
-          users = with_last (IsGranted g) v.pass.claims c mine.users (λ is. let le = user is in omega arith);
-          saw_claimed = let saw = mine.saw_claimed in omega arith;
-          saw_freed = mine.saw_freed;
-          saw_granted = mine.saw_granted;
-          intake = mine.intake;
-        });
-      }
-
-  -- the intake grants more
-  granted_more_seats : (c f g to : ℕ) (views : List View) (by : ℕ) (v : View) → Seats key c f g views → get_elem? views by ≡ some v → v.intake.on ≡ 1
-      → g ≤ to → Seats key c f to (set views by (granted_to v to))
-  granted_more_seats c f g to views by v h there is_on le =
-      let w = granted_to v to in
-      let mine = h.each by v there in
-      let saw = mine.saw_granted in
-      record {
-        tiles = λ x. sum_same (has x) views by v w there refl ∙ h.tiles x;
-        shares = sum_same shares views by v w there refl ∙ h.shares;
-        one_copier = at_most _ _ _ (sum_same copier views by v w there refl) h.one_copier;
-        one_intake = at_most _ _ _ (sum_same on views by v w there refl) h.one_intake;
-        each = each_changed (Each c f to) views by w
-            (λ j u apart at.
-            let two = sum_two on views j by u v apart at there in
-            let one = h.one_intake in
-            granted_higher c f g to u le (omega arith) (h.each j u at))
-            (record {
-              bare = mine.bare;
-              no_copy = mine.no_copy;
-              users = granted_more g to v.pass.claims le mine.users;
-              saw_claimed = mine.saw_claimed;
-              saw_freed = mine.saw_freed;
-              saw_granted = omega arith;
-              intake = λ yes. ((mine.intake yes).0, refl);
-            });
-      }
-
-module _ {S : Type 0} (key : Key) where
   -- a load changes only what the seat found
-  looks : (by : ℕ) (v : View) (held : List (ℕ × S)) (slots i : ℕ) (found : ℕ → Found) (Tells : ℕ → Type 0)
-      → ((s : State S View) (h : Kept key s) → get_elem? s.views by ≡ some v
+  pub looks : (by : ℕ) (v : View) (held : List (ℕ × S)) (slots i : ℕ) (found : ℕ → Found) (Tells : ℕ → Type 0) → i < 48
+      → ((s : State S View) (h : Rule s) → get_elem? s.views by ≡ some v
       → let n = slice_index s.words i in ((found n).claimed ≤ h.claimed) × ((found n).freed ≤ h.freed) × ((found n).granted ≤ h.granted) × Tells n)
-      → Allows (Kept key) slots by (v, held) i (λ n. n) (λ n m. (m ≡ (with_found v (found n), held)) × Tells n)
-  looks by v held slots i found Tells says s h long there small =
+      → Allows Rule slots by (v, held) i (λ n. n) (λ n m. (m ≡ (with_found v (found n), held)) × Tells n)
+  looks by v held slots i found Tells low says s h long there small =
       let n = slice_index s.words i in
-      let told = says s h there in (
-        with_found v (found n),
+      let told = says s h there in
+      let w = with_found v (found n) in (
+        w,
         keeps,
         tt,
         record {
           claimed = h.claimed;
+          taken = h.taken;
           freed = h.freed;
           granted = h.granted;
-          words = same_words s.words i h.claimed h.freed h.granted h.words;
+          away = h.away;
+          took = h.took;
+          words = same_words key.size s.words i h.claimed h.freed h.granted h.words;
           numbers = h.numbers;
           seats = looked key h.claimed h.freed h.granted s.views by v (found n) h.seats there told.0 told.1 told.2;
+          stock = goods_stay s by v w i n h.took h.claimed h.taken h.freed h.away h.stock there low refl refl refl refl refl refl;
+          keys = keys_stay s.views by v w h.keys there refl refl refl;
         },
         (refl, told.3),
       )
 
-  pub looks_claimed : (by : ℕ) (v : View) (held : List (ℕ × S)) (slots : ℕ)
-      → Allows (Kept key) slots by (v, held) claimed_at (λ n. n) (λ n m. (m ≡ (saw_claimed v n, held)) × ((n ≤ 2 ^ 62) × LieBelow n v.pass.claims))
-  looks_claimed by v held slots = looks by v held slots 0 (λ n. (saw_claimed v n).found) (λ n. (n ≤ 2 ^ 62) × LieBelow n v.pass.claims)
+  pub looks_claimed : (by : ℕ) (v : View) (held : List (ℕ × S)) (slots : ℕ) → 0 < v.pass.shares
+      → Allows Rule slots by (v, held) claimed_at (λ n. n)
+      (λ n m. (m ≡ (saw_claimed v n, held)) × ((n ≤ 2 ^ 62) × LieBelow n v.pass.claims × (v.key.first ≤ n)))
+  looks_claimed by v held slots sharing =
+      looks by v held slots 0 (λ n. (saw_claimed v n).found) (λ n. (n ≤ 2 ^ 62) × LieBelow n v.pass.claims × (v.key.first ≤ n)) (omega arith)
       (λ s h there.
       let mine = h.seats.each by v there in
       let is = h.words.at_claimed in
       let most = h.numbers.most in
       let below = own_below key h.claimed h.freed h.granted s.views by v h.seats there in
-      (omega arith, mine.saw_freed, mine.saw_granted, (omega arith, λ x above. below x (omega arith))))
+      let known = ap (λ (k : Key). k.first) ((h.keys by v there).pass (λ without. omega arith)) in
+      let low = h.numbers.low in
+      let order = h.numbers.order in
+      let taken = h.numbers.below in
+      (omega arith, mine.saw_freed, mine.saw_granted, (omega arith, (λ x above. below x (omega arith)), omega arith)))
 
   pub looks_freed : (by : ℕ) (v : View) (held : List (ℕ × S)) (slots : ℕ)
-      → Allows (Kept key) slots by (v, held) freed_at (λ n. n) (λ n m. (m ≡ (saw_freed v n, held)) × (n ≤ 2 ^ 62))
-  looks_freed by v held slots = looks by v held slots 16 (λ n. (saw_freed v n).found) (λ n. n ≤ 2 ^ 62)
+      → Allows Rule slots by (v, held) freed_at (λ n. n) (λ n m. (m ≡ (saw_freed v n, held)) × (n ≤ 2 ^ 62))
+  looks_freed by v held slots = looks by v held slots 16 (λ n. (saw_freed v n).found) (λ n. n ≤ 2 ^ 62) (omega arith)
       (λ s h there.
       let mine = h.seats.each by v there in
       let is = h.words.at_freed in
       let most = h.numbers.most in
       let order = h.numbers.order in
+      let below = h.numbers.below in
       (mine.saw_claimed, omega arith, mine.saw_granted, omega arith))
 
   pub looks_granted : (by : ℕ) (v : View) (held : List (ℕ × S)) (slots : ℕ)
-      → Allows (Kept key) slots by (v, held) granted_at (λ n. n) (λ n m. (m ≡ (saw_granted v n, held)) × (n ≤ 2 ^ 62))
-  looks_granted by v held slots = looks by v held slots 32 (λ n. (saw_granted v n).found) (λ n. n ≤ 2 ^ 62)
+      → Allows Rule slots by (v, held) granted_at (λ n. n) (λ n m. (m ≡ (saw_granted v n, held)) × (n ≤ 2 ^ 62))
+  looks_granted by v held slots = looks by v held slots 32 (λ n. (saw_granted v n).found) (λ n. n ≤ 2 ^ 62) (omega arith)
       (λ s h there.
       let mine = h.seats.each by v there in
       let is = h.words.at_granted in
@@ -231,80 +118,28 @@ module _ {S : Type 0} (key : Key) where
       (mine.saw_claimed, mine.saw_freed, omega arith, omega arith))
 
   pub looks_own : (by : ℕ) (v : View) (held : List (ℕ × S)) (slots : ℕ) → v.intake.on ≡ 1
-      → Allows (Kept key) slots by (v, held) granted_at (λ n. n) (λ n m. (m ≡ (saw_granted v n, held)) × (n ≡ v.intake.granted))
-  looks_own by v held slots is_on = looks by v held slots 32 (λ n. (saw_granted v n).found) (λ n. n ≡ v.intake.granted)
+      → Allows Rule slots by (v, held) granted_at (λ n. n) (λ n m. (m ≡ (saw_granted v n, held)) × (n ≡ v.intake.granted))
+  looks_own by v held slots is_on = looks by v held slots 32 (λ n. (saw_granted v n).found) (λ n. n ≡ v.intake.granted) (omega arith)
       (λ s h there.
       let mine = h.seats.each by v there in
       let is = h.words.at_granted in
       let own = mine.intake (λ off. omega arith) in
       (mine.saw_claimed, mine.saw_freed, omega arith, omega (arith, own.1)))
 
-  claims : (copy : Bool) (by : ℕ) (v : View) (held : List (ℕ × S)) (slots old new : ℕ) → 0 < v.pass.shares → v.found.claimed ≡ old → old < new → new ≤ 2 ^ 62
-      → ((c f g : ℕ) → Numbers key c f g → Each c f g v → (new ≤ f + key.size) × (copy ≡ false → new ≤ g)) → (v.pass.copier ≡ 0 → copy ≡ false)
-      → Allows (Kept key) slots by (v, held) claimed_at (λ n. either (eqb n old) new n) (λ n m. Claims copy v old new n m.0 × (m.1 ≡ held))
-  claims copy by v held slots old new sharing saw rises most room may s h long there small =
-      let n = slice_index s.words 0 in
-      let is : n ≡ h.claimed = h.words.at_claimed in
+  -- the intake finds in `claimed` at least what it has taken
+  pub looks_past : (by : ℕ) (v : View) (held : List (ℕ × S)) (slots : ℕ) → v.intake.on ≡ 1
+      → Allows Rule slots by (v, held) claimed_at (λ n. n) (λ n m. (m ≡ (saw_claimed v n, held)) × (v.intake.taken ≤ n))
+  looks_past by v held slots is_on = looks by v held slots 0 (λ n. (saw_claimed v n).found) (λ n. v.intake.taken ≤ n) (omega arith)
+      (λ s h there.
       let mine = h.seats.each by v there in
-      let saw_now = mine.saw_claimed in
-      exchanged n old new (λ (k : ℕ). (w : View) × (a : Act S) × Valid s.homes held a
-      × Kept key (stepped s 0 k by held w a) × (Claims copy v old new n w × (carried_after held a ≡ held)))
-      (λ hit.
-      let at : h.claimed ≡ old = sym is ∙ hit in
-      let seats : Seats key old h.freed h.granted s.views = subst (λ c. Seats key c h.freed h.granted s.views) at h.seats in
-      let numbers : Numbers key old h.freed h.granted = subst (λ c. Numbers key c h.freed h.granted) at h.numbers in
-      let allowed = room h.claimed h.freed h.granted h.numbers mine in
-      let order = numbers.order in (
-        claimed_to v old new copy,
-        keeps,
-        tt,
-        record {
-          claimed = new;
-          freed = h.freed;
-          granted = h.granted;
-          words = claimed_word s.words h.claimed h.freed h.granted new h.words;
-          numbers = record {
-            low = numbers.low;
-            order = omega arith;
-            room = allowed.0;
-            most = most;
-            grants = numbers.grants;
-            most_granted = numbers.most_granted;
-          };
-          seats = claimed_more key copy old new h.freed h.granted s.views by v seats numbers there sharing rises allowed.1 may;
-        },
-        (((λ _. (refl, own_below key old h.freed h.granted s.views by v seats there)), (λ no. absurd (no hit))), refl),
-      ))
-      (λ miss. (
-        met_claimed v n,
-        keeps,
-        tt,
-        record {
-          claimed = h.claimed;
-          freed = h.freed;
-          granted = h.granted;
-          words = same_words s.words 0 h.claimed h.freed h.granted h.words;
-          numbers = h.numbers;
-          seats = looked key h.claimed h.freed h.granted s.views by v (met_claimed v n).found h.seats there mine.saw_claimed mine.saw_freed mine.saw_granted;
-        },
-        (((λ yes. absurd (miss yes)), (λ no. (refl, omega arith))), refl),
-      ))
-
-  pub claims_user : (by : ℕ) (v : View) (held : List (ℕ × S)) (slots old new : ℕ) → 0 < v.pass.shares → v.found.claimed ≡ old → old < new → new ≤ 2 ^ 62
-      → new ≤ v.found.granted
-      → Allows (Kept key) slots by (v, held) claimed_at (λ n. either (eqb n old) new n) (λ n m. Claims false v old new n m.0 × (m.1 ≡ held))
-  claims_user by v held slots old new sharing saw rises most limit = claims false by v held slots old new sharing saw rises most
-      (λ c f g numbers mine. let grants = numbers.grants in let saw = mine.saw_granted in (omega arith, λ _. omega arith)) (λ _. refl)
-
-  pub claims_copy : (by : ℕ) (v : View) (held : List (ℕ × S)) (slots old new : ℕ) → 0 < v.pass.shares → v.found.claimed ≡ old → old < new → new ≤ 2 ^ 62
-      → new ≤ v.found.freed + key.size → v.pass.copier ≢ 0
-      → Allows (Kept key) slots by (v, held) claimed_at (λ n. either (eqb n old) new n) (λ n m. Claims true v old new n m.0 × (m.1 ≡ held))
-  claims_copy by v held slots old new sharing saw rises most limit copies = claims true by v held slots old new sharing saw rises most
-      (λ c f g numbers mine. let saw = mine.saw_freed in (omega arith, λ no. absurd (true≢false no))) (λ none. absurd (copies none))
+      let is = h.words.at_claimed in
+      let below = h.numbers.below in
+      let own = (h.stock.entered by v there).desk (λ off. omega arith) in
+      (omega arith, mine.saw_freed, mine.saw_granted, omega (arith, own.1)))
 
   pub grants : (by : ℕ) (v : View) (held : List (ℕ × S)) (slots to : ℕ) → v.intake.on ≡ 1 → v.intake.granted ≤ to
       → to + key.reserve ≤ v.intake.freed + key.size → to ≤ 2 ^ 62
-      → Allows (Kept key) slots by (v, held) granted_at (λ _. to) (λ _ m. m ≡ (granted_to v to, held))
+      → Allows Rule slots by (v, held) granted_at (λ _. to) (λ _ m. m ≡ (granted_to v to, held))
   grants by v held slots to is_on rises room most s h long there small =
       let mine = h.seats.each by v there in
       let own = mine.intake (λ off. omega arith) in
@@ -316,11 +151,16 @@ module _ {S : Type 0} (key : Key) where
         tt,
         record {
           claimed = h.claimed;
+          taken = h.taken;
           freed = h.freed;
           granted = to;
-          words = granted_word s.words h.claimed h.freed h.granted to h.words;
-          numbers = record { low = n.low; order = n.order; room = n.room; most = n.most; grants = omega arith; most_granted = most };
+          away = h.away;
+          took = h.took;
+          words = granted_word key.size s.words h.claimed h.freed h.granted to h.words;
+          numbers = record { low = n.low; order = n.order; below = n.below; room = n.room; most = n.most; grants = omega arith; most_granted = most };
           seats = granted_more_seats key h.claimed h.freed h.granted to s.views by v h.seats there is_on (omega arith);
+          stock = goods_stay s by v (granted_to v to) 32 to h.took h.claimed h.taken h.freed h.away h.stock there (omega arith) refl refl refl refl refl refl;
+          keys = keys_stay s.views by v (granted_to v to) h.keys there refl refl refl;
         },
         refl,
       )

@@ -1,40 +1,42 @@
 -- What contracts see of a ring and of its seats.
-use Rattle.std.specs.Prelude.{◌≡◌, ℕ, ◌+◌, ◌<◌, ◌^◌, List, Bool, true, false, min}
-use Rattle.atomic_table.specs.Seated.{TableId}
+use Rattle.std.specs.Prelude.{◌≡◌, ◌≢◌, ℕ, ◌+◌, ◌<◌, ◌^◌, List, [], ◌∷◌, ◌++◌, length, min}
+use mathlib.Core.Option.{some}
+use lib.ListN.{get_elem?}
 use Rattle.sector_pool.specs.declared.entry.Class.{Class}
 use Rattle.sector_pool.specs.declared.entry.Class.TheVariants as class
+use Rattle.sector_pool.specs.declared.entry.Entry.{Entry}
+use Rattle.write_ring.specs.declared.draft.Draft.{Draft}
 use Rattle.write_ring.specs.declared.table.Ring.{Ring}
 use Rattle.write_ring.specs.declared.seats.Pass.{Pass}
 use Rattle.write_ring.specs.declared.seats.Intake.{Intake}
 use Rattle.write_ring.specs.declared.seats.Place.{Place}
 use Rattle.write_ring.specs.declared.view.Claim.{Claim}
 use Rattle.write_ring.specs.declared.view.Key.{Key}
+use Rattle.write_ring.specs.declared.view.Part.{Part}
+use Rattle.write_ring.specs.declared.view.Row.{Row}
 use Rattle.write_ring.specs.declared.view.View.{View}
-use Rattle.write_ring.specs.Rule.{between, covers}
-use Rattle.write_ring.specs.Steps.{LieBelow, add_claim, claim_of, saw_freed, saw_granted}
-
--- which ring it is: two rings differ in it
-abbrev pub ring_id : Ring → TableId
-ring_id r = r.table.shared.table_id
+use Rattle.write_ring.specs.Batches.{rows_from}
+use Rattle.write_ring.specs.Frames.{is_copy, row_of, Fits}
+use Rattle.write_ring.specs.Rule.{between, covers, covers_copy}
+use Rattle.write_ring.specs.Steps.{LieBelow, add_claim, claim_of, part_of, saw_freed, saw_granted}
+use Rattle.write_ring.specs.Stock.{HasPut, copies_at, rows_at}
 
 abbrev pub ring_key : Ring → Key
 ring_key r = r.table.shared.key
 
-abbrev pub pass_ring : Pass → TableId
-pass_ring p = p.seat.table_id
-
 abbrev pub pass_view : Pass → View
 pass_view p = p.seat.me.0
-
-abbrev pub intake_ring : Intake → TableId
-intake_ring i = i.seat.table_id
 
 abbrev pub intake_view : Intake → View
 intake_view i = i.seat.me.0
 
-abbrev pub is_copy : Class → Bool
-is_copy class.User = false
-is_copy class.Copy = true
+-- the pass is this ring's, and knows what the ring was made with: two rings differ in their tables
+abbrev pub IsPassOf : Ring → Pass → Type 0
+IsPassOf r p = (p.seat.table_id ≡ r.table.shared.table_id) × ((pass_view p).key ≡ ring_key r)
+
+-- the same of the intake
+abbrev pub IsIntakeOf : Ring → Intake → Type 0
+IsIntakeOf r i = (i.seat.table_id ≡ r.table.shared.table_id) × ((intake_view i).key ≡ ring_key r)
 
 -- a copy may be claimed wherever there is room, a user's write only below what is granted
 abbrev pub limit_of : Class → Key → View → ℕ
@@ -46,9 +48,15 @@ abbrev pub saw_limit : Class → View → View → View
 saw_limit class.User v w = saw_granted v w.found.granted
 saw_limit class.Copy v w = saw_freed v w.found.freed
 
--- the pass has claimed the place, and no claim that it had before has a position of it
-abbrev pub HasPlace : Class → ℕ → Place → View → View → Type 0
-HasPlace c count place v w = (place.count ≡ count) × (w.pass ≡ add_claim v.pass (claim_of place.first count (is_copy c)))
+-- so many rows more, with which all open positions are filled
+abbrev pub puts_rows : Part → List Row → Part
+puts_rows p rows = part_of p.shares p.copier p.claims (p.puts ++ rows) p.until p.until p.copy
+
+-- The pass has claimed the place and put these drafts there, in their order.
+-- No claim that it had before has a position of the place.
+abbrev pub HasPlace : Class → List Draft → Place → View → View → Type 0
+HasPlace c drafts place v w = (place.count ≡ length drafts)
+    × (w.pass ≡ puts_rows (add_claim v.pass (claim_of place.first (length drafts) (is_copy c))) (rows_from c place.first drafts))
     × LieBelow place.first v.pass.claims
 
 -- the claim would have ended above the limit, by numbers that this try read
@@ -59,6 +67,34 @@ WasFull c key count claimed limit w = (limit < claimed + count) × (w.found.clai
 abbrev pub WasRaced : ℕ → ℕ → View → Type 0
 WasRaced expected found w = (expected < found) × (w.found.claimed ≡ expected) × (w.found.met ≡ found)
 
+-- the intake has taken the entry of the next position, in a frame of the ring's region
+pub record HasTaken (v : View) (e : Entry) (w : View) : Type 0 where
+  pub took : w.intake.took ≡ v.intake.took ++ row_of e ∷ []
+  pub position : e.position ≡ v.intake.taken
+  pub next : w.intake.taken ≡ v.intake.taken + 1
+  pub freed : w.intake.freed ≡ v.intake.freed
+  pub granted : w.intake.granted ≡ v.intake.granted
+  pub fits : Fits v.key (row_of e)
+  pub own : e.frame.region ≡ v.key.origin.region
+  pub user : e.class ≡ class.User → e.position < v.intake.granted
+  pub room : e.position < v.intake.freed + v.key.size
+
+-- the turn word of the next position's slot named another, and nobody had claimed the position when `claimed` was loaded next
+abbrev pub WasEmpty : ℕ → View → View → Type 0
+WasEmpty claimed v w = (claimed ≡ v.intake.taken) × (w.found.claimed ≡ claimed) × (w.found.turn + v.key.first ≢ claimed + 1) × (w.intake ≡ v.intake)
+
+-- the next position was claimed, and the turn word of its slot, as it was loaded, named another
+abbrev pub WasUnfilled : ℕ → View → View → Type 0
+WasUnfilled at v w = (at ≡ v.intake.taken) × (at < w.found.claimed) × (w.found.turn + v.key.first ≢ at + 1) × (w.intake ≡ v.intake)
+
 -- each position from the ring's first one to some number has one claim of these, and no other position has one
 abbrev pub IsTiled : ℕ → List Claim → Type 0
 IsTiled first claims = (claimed : ℕ) × ((x : ℕ) → covers x claims ≡ between first claimed x)
+
+-- each position of the claims was put once, each for copies as a copy
+abbrev pub IsFilled : Part → Type 0
+IsFilled p = ((x : ℕ) → rows_at x p.puts ≡ covers x p.claims) × ((x : ℕ) → copies_at x p.puts ≡ covers_copy x p.claims)
+
+-- each row that was taken is the one that the pass put at the next position
+abbrev pub IsAsPut : ℕ → List Row → Part → Type 0
+IsAsPut first took p = (i : ℕ) (r : Row) → get_elem? took i ≡ some r → (r.position ≡ first + i) × HasPut r p

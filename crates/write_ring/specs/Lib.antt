@@ -1,3 +1,12 @@
 pub mod Rule
 pub mod Steps
 pub mod Handles
+pub mod Cells
+pub mod Stock
+pub mod Kept
+pub mod Frames
+pub mod Tells
+pub mod Batches
+pub mod Inside
+pub mod Openings
+pub mod Endings

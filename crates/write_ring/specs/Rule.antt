@@ -1,11 +1,10 @@
--- What a ring keeps at every moment: its words, and the claims of all passes.
+-- What a ring keeps of its words, and of the claims of all passes.
 -- `claimed` is the next position that nobody has claimed, and `freed` the first whose slot isn't back yet.
 -- Users may claim below `granted`.
-use Rattle.std.specs.Prelude.{◌≡◌, ◌≢◌, ℕ, ◌+◌, ◌≤◌, ◌^◌, List, [], ◌∷◌, false, if◌then◌else◌, nat_lt, length, slice_index}
+use Rattle.std.specs.Prelude.{◌≡◌, ◌≢◌, ℕ, ◌+◌, ◌*◌, ◌≤◌, ◌^◌, List, [], ◌∷◌, false, if◌then◌else◌, nat_lt, length, slice_index}
 use Rattle.std.specs.List.{AllByRecursion}
 use mathlib.Core.Option.{some}
 use lib.ListN.{get_elem?}
-use Rattle.atomic_table.specs.Table.{State}
 use Rattle.write_ring.specs.declared.view.Claim.{Claim}
 use Rattle.write_ring.specs.declared.view.Key.{Key}
 use Rattle.write_ring.specs.declared.view.View.{View}
@@ -38,16 +37,18 @@ freed_at = 16
 abbrev pub granted_at : ℕ
 granted_at = 32
 
-pub record Words (words : List ℕ) (claimed freed granted : ℕ) : Type 0 where
-  pub long : 48 ≤ length words
+-- behind them lies each slot's turn word
+pub record Words (size : ℕ) (words : List ℕ) (claimed freed granted : ℕ) : Type 0 where
+  pub long : 48 + 16 * size ≤ length words
   pub at_claimed : slice_index words claimed_at ≡ claimed
   pub at_freed : slice_index words freed_at ≡ freed
   pub at_granted : slice_index words granted_at ≡ granted
 
 -- the room for copies is never granted to users
-pub record Numbers (key : Key) (claimed freed granted : ℕ) : Type 0 where
+pub record Numbers (key : Key) (claimed taken freed granted : ℕ) : Type 0 where
   pub low : key.first ≤ freed
-  pub order : freed ≤ claimed
+  pub order : freed ≤ taken
+  pub below : taken ≤ claimed
   pub room : claimed ≤ freed + key.size
   pub most : claimed ≤ 2 ^ 62
   pub grants : granted + key.reserve ≤ freed + key.size
@@ -77,11 +78,3 @@ pub record Seats (key : Key) (claimed freed granted : ℕ) (views : List View) :
   pub one_copier : total (λ v. v.pass.copier) views ≤ 1
   pub one_intake : total (λ v. v.intake.on) views ≤ 1
   pub each : AllViews (Each claimed freed granted) views
-
-pub record Kept {S : Type 0} (key : Key) (s : State S View) : Type 0 where
-  pub claimed : ℕ
-  pub freed : ℕ
-  pub granted : ℕ
-  pub words : Words s.words claimed freed granted
-  pub numbers : Numbers key claimed freed granted
-  pub seats : Seats key claimed freed granted s.views

@@ -1,17 +1,26 @@
-//! The order of a write ring: many writers claim positions, each once, without a lock.
+//! A write ring: many writers put entries at positions, each once, without a lock, and one intake takes them
+//! in their order (Bjørling, González, Bonnet, FAST 2017, write buffering).
 //!
-//! A position is a number that the ring hands out. Writers claim positions for users below what the intake
+//! A position is a number that the ring hands out. A writer claims positions for users below what the intake
 //! has granted, and for copies wherever the ring has room, so that users never take the reserve. A claim is
-//! one compare-exchange on the word `claimed` (Bjørling, González, Bonnet, FAST 2017, write buffering).
-//! The crate hands out positions alone. It carries no sectors.
+//! one compare-exchange on the word `claimed`. Position `p` has the slot `p` modulo the ring's size. A writer
+//! exchanges the free frame there for its entry, and then the slot's turn word names the position.
 #![tactic(auto)]
 
+mod batch;
+mod cell;
 mod claims;
+mod closing;
+mod draft;
+mod opening;
+mod putting;
 mod ring;
 mod rule;
 mod seats;
 mod table;
+mod taking;
 mod view;
 
-pub use seats::{Full, Intake, Pass, Place, TryPut};
+pub use batch::Batch;
+pub use seats::{Full, Intake, Pass, Place, Taken, TryPut};
 pub use table::Ring;

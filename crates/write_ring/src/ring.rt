@@ -1,133 +1,162 @@
-// How a ring begins and ends, its seats, and the steps of the intake.
-ghost use Rattle.std.specs.Prelude.{◌≡◌, ◌+◌, ◌<◌, ◌≤◌, ◌^◌, IfOk, []};
-ghost use Rattle.write_ring.specs.Handles.{IsTiled, intake_ring, intake_view, pass_ring};
-ghost use Rattle.write_ring.specs.Handles.{pass_view, ring_id, ring_key};
-ghost use Rattle.write_ring.specs.Steps.{LieBelow, granted_to, joined_pass, less_share, new_pass};
-ghost use Rattle.write_ring.specs.Steps.{desk_of, no_desk, nothing_found, part_of, saw_claimed};
-ghost use Rattle.write_ring.specs.Steps.{saw_granted, view_of};
+// How a ring begins and ends, and how its seats are split and joined.
+ghost use Rattle.std.specs.Prelude.{◌≡◌, ◌≢◌, ◌+◌, ◌<◌, ◌≤◌, ◌^◌, IfOk, IfErr, OnOk, []};
+ghost use Rattle.pblk_model.specs.Frames.{count_left, count_out};
+ghost use Rattle.write_ring.specs.Handles.{IsAsPut, IsFilled, IsIntakeOf, IsPassOf, IsTiled};
+ghost use Rattle.write_ring.specs.Handles.{intake_view, pass_view, ring_key};
+ghost use Rattle.write_ring.specs.Steps.{desk_of, fresh_part, joined_pass, less_share, new_pass};
+ghost use Rattle.write_ring.specs.Steps.{no_desk, nothing_found, view_of};
+ghost use Rattle.write_ring.specs.Stock.{CopiesArePut};
 
-use crate::rule::{Grant, Handed, LookClaimed, LookOwn, Parted, Passes};
+use crate::closing::give_slots;
+use crate::opening::{first_cells, first_words, give_cells};
+use crate::rule::{Handed, LookHeard, Notes, Parted, Passes};
 use crate::seats::{Intake, Pass};
-use crate::table::{CLAIMED, FREED, GRANTED, Ring, WORDS};
+use crate::table::{CLAIMED, Ring};
 use crate::view::Key;
-use atomic_table::Table;
+use atomic_table::{Refused, Table};
+use sector_pool::Pool;
 use std::alloc::{AllocError, Global};
 
 impl Ring {
-    /// A ring of `n` positions, of which `reserve` are kept for copies. Its first position is `first`, and
-    /// so far nothing is claimed, freed or granted beyond it. The first pass alone may claim for copies.
+    /// A ring of `n` positions, of which `reserve` are kept for copies, over the first sectors of a target's
+    /// capacity. `n` frames of the pool go into its slots. Its first position is `first`, and so far nothing
+    /// is claimed, freed or granted beyond it. The first pass alone may claim for copies.
     ///
-    /// Fails only where there isn't as much memory. No later call takes any.
+    /// Fails only where there isn't as much memory, and the pool is unchanged then. No later call takes any.
     pub fn new(
         alloc: Global,
         n: u32,
         reserve: u32,
         first: u64,
+        capacity: u64,
+        pool: &mut Pool,
     ) -> Result<(Ring, Intake, Pass), AllocError>
+        requires some { 0 < n }
         requires reserve { reserve ≤ n }
         requires first { first ≤ 2 ^ 62 }
+        requires left { n ≤ count_left pool.old.left }
         ensures first { IfOk result (λ r. (ring_key r.0).first ≡ first) }
         ensures size { IfOk result (λ r. (ring_key r.0).size ≡ n) }
         ensures reserve { IfOk result (λ r. (ring_key r.0).reserve ≡ reserve) }
-        ensures rings { IfOk result
-            (λ r. (intake_ring r.1 ≡ ring_id r.0) × (pass_ring r.2 ≡ ring_id r.0)) }
-        ensures intake { IfOk result (λ r. (intake_view r.1).intake ≡ desk_of 1 first first) }
-        ensures pass { IfOk result
-            (λ r. pass_view r.2 ≡ view_of nothing_found (part_of 128 1 []) no_desk) }
+        ensures capacity { IfOk result (λ r. (ring_key r.0).capacity ≡ capacity) }
+        ensures region { IfOk result (λ r. (ring_key r.0).origin.region ≡ pool.old.region) }
+        ensures rings { IfOk result (λ r. IsIntakeOf r.0 r.1 × IsPassOf r.0 r.2) }
+        ensures intake { IfOk result
+            (λ r. (intake_view r.1).intake ≡ desk_of 1 [] first 0 first first) }
+        ensures pass { IfOk result (λ r. pass_view r.2
+            ≡ view_of nothing_found (fresh_part 128 1) no_desk [] (ring_key r.0)) }
+
+        // What goes out of the pool.
+        ensures unchanged { IfErr result (λ _. pool.new ≡ pool.old) }
+        ensures same_region { pool.new.region ≡ pool.old.region }
+        ensures fewer_left { OnOk result
+            (count_left pool.old.left ≡ count_left pool.new.left + n) }
+        ensures more_out { OnOk result
+            (count_out pool.new.left ≡ count_out pool.old.left + n) }
     {
+        let size = u64::from(n);
+        let words = first_words(alloc, n, first)?;
+        let cells = first_cells(alloc, n, pool)?;
         let key = Key {
             first,
-            size: u64::from(n),
+            size,
             reserve: u64::from(reserve),
+            capacity,
+            origin: pool.origin(),
         };
-        let mut words = [0u64; WORDS];
-        words[CLAIMED] = first;
-        words[FREED] = first;
-        words[GRANTED] = first;
-        let (table, mut seat) = Table::of_words(alloc, &words, &key)?;
-        let intake = table.shared.split_seat::<Parted>(&mut seat);
-        let ring = Ring {
-            table,
-            size: u64::from(n),
-        };
-        Ok((ring, Intake { seat: intake }, Pass { seat }))
-    }
-
-    /// Loads `claimed` once: the next position that nobody has claimed.
-    pub fn claimed(&self, pass: &mut Pass) -> u64
-        requires ring { pass_ring pass.old ≡ ring_id self.now }
-        ensures ring { pass_ring pass.new ≡ pass_ring pass.old }
-        ensures found { pass_view pass.new ≡ saw_claimed (pass_view pass.old) result }
-        ensures own_below { LieBelow result (pass_view pass.old).pass.claims }
-        ensures most { result ≤ 2 ^ 62 }
-    {
-        self.table
-            .shared
-            .load::<LookClaimed>(&mut pass.seat, CLAIMED)
-    }
-
-    /// Loads `granted` once: the end of what users may claim, as the intake granted it last.
-    pub fn granted(&self, intake: &mut Intake) -> u64
-        requires ring { intake_ring intake.old ≡ ring_id self.now }
-        ensures ring { intake_ring intake.new ≡ intake_ring intake.old }
-        ensures found { intake_view intake.new ≡ saw_granted (intake_view intake.old) result }
-        ensures granted { result ≡ (intake_view intake.old).intake.granted }
-    {
-        self.table.shared.load::<LookOwn>(&mut intake.seat, GRANTED)
-    }
-
-    /// Grants users all positions below `to`. What is granted never falls, and leaves the reserve free.
-    pub fn grant(&self, intake: &mut Intake, to: u64)
-        requires ring { intake_ring intake.old ≡ ring_id self.now }
-        requires rises { (intake_view intake.old).intake.granted ≤ to }
-        requires reserve { to + (ring_key self.now).reserve
-            ≤ (intake_view intake.old).intake.freed + (ring_key self.now).size }
-        requires most { to ≤ 2 ^ 62 }
-        ensures ring { intake_ring intake.new ≡ intake_ring intake.old }
-        ensures granted { intake_view intake.new ≡ granted_to (intake_view intake.old) to }
-    {
-        self.table
-            .shared
-            .store::<Grant>(&mut intake.seat, GRANTED, to);
+        match Table::new(alloc, words.as_slice(), cells, &key) {
+            Err(Refused { slots }) => {
+                give_cells(slots, pool);
+                Err(AllocError)
+            }
+            Ok((table, seat)) => {
+                let mut seat = seat;
+                let intake = table.shared.split_seat::<Parted>(&mut seat);
+                let ring = Ring { table, size, first };
+                let intake = Intake {
+                    seat: intake,
+                    taken: first,
+                    freed: first,
+                };
+                Ok((ring, intake, Pass { seat }))
+            }
+        }
     }
 
     /// A pass for another thread, with one of the shares. It has no claims, and none of its will be copies.
     pub fn split(&self, pass: &mut Pass) -> Pass
-        requires ring { pass_ring pass.old ≡ ring_id self.now }
+        requires ring { IsPassOf self.now pass.old }
         requires shares { 2 ≤ (pass_view pass.old).pass.shares }
-        ensures ring { pass_ring pass.new ≡ pass_ring pass.old }
+        ensures ring { IsPassOf self.now pass.new }
         ensures less { pass_view pass.new ≡ less_share (pass_view pass.old) }
-        ensures new_ring { pass_ring result ≡ pass_ring pass.old }
-        ensures new { pass_view result ≡ new_pass }
+        ensures new_ring { IsPassOf self.now result }
+        ensures new { pass_view result ≡ new_pass (ring_key self.now) }
     {
         Pass {
             seat: self.table.shared.split_seat::<Passes>(&mut pass.seat),
         }
     }
 
-    /// Takes another pass in, with its shares and its claims.
+    /// Takes another pass in, with its shares, its claims and what it put.
     pub fn join(&self, pass: &mut Pass, other: Pass)
-        requires ring { pass_ring pass.old ≡ ring_id self.now }
-        requires other_ring { pass_ring other ≡ ring_id self.now }
-        ensures ring { pass_ring pass.new ≡ pass_ring pass.old }
+        requires ring { IsPassOf self.now pass.old }
+        requires other_ring { IsPassOf self.now other }
+        ensures ring { IsPassOf self.now pass.new }
         ensures both { pass_view pass.new ≡ joined_pass (pass_view pass.old) (pass_view other) }
     {
         let Pass { seat } = other;
         self.table.shared.join_seat::<Passes>(&mut pass.seat, seat);
     }
 
-    /// Ends the ring. The pass has all shares, so its list has all claims: each position that was claimed
-    /// is in one of them, and in no other.
-    pub fn close(self, intake: Intake, pass: Pass)
-        requires intake_ring { intake_ring intake ≡ ring_id self }
-        requires ring { pass_ring pass ≡ ring_id self }
-        requires shares { (pass_view pass).pass.shares ≡ 128 }
-        ensures tiled { IsTiled (ring_key self).first (pass_view pass).pass.claims }
+    /// Tells the pass that copies what the intake has taken: each copy among it is one that this pass put.
+    pub fn note(&self, pass: &mut Pass, intake: &mut Intake)
+        requires ring { IsPassOf self.now pass.old }
+        requires intake_ring { IsIntakeOf self.now intake.old }
+        requires copier { (pass_view pass.old).pass.copier ≢ 0 }
+        ensures ring { IsPassOf self.now pass.new }
+        ensures intake_ring { IsIntakeOf self.now intake.new }
+        ensures copies { CopiesArePut (intake_view intake.old).intake.took (pass_view pass.new) }
+        ensures same_pass { (pass_view pass.new).pass ≡ (pass_view pass.old).pass }
+        ensures same_intake { intake_view intake.new ≡ intake_view intake.old }
     {
-        let Ring { table, size: _ } = self;
+        let shared = &self.table.shared;
+        let note = shared.split_seat::<Notes>(&mut intake.seat);
+        shared.join_seat::<Notes>(&mut pass.seat, note);
+        shared.load::<LookHeard>(&mut pass.seat, CLAIMED);
+    }
+
+    /// Ends the ring, and gives the frames in its slots back to their pool. The pass has all shares, so its
+    /// lists have all claims and all that was put. Each position that was claimed is in one claim and in no
+    /// other, each was put once, and what the intake took is what was put there.
+    pub fn close(self, intake: Intake, pass: Pass, pool: &mut Pool)
+        requires intake_ring { IsIntakeOf self intake }
+        requires ring { IsPassOf self pass }
+        requires shares { (pass_view pass).pass.shares ≡ 128 }
+        requires own { pool.old.region ≡ (ring_key self).origin.region }
+        ensures tiled { IsTiled (ring_key self).first (pass_view pass).pass.claims }
+        ensures filled { IsFilled (pass_view pass).pass }
+        ensures taken { IsAsPut (ring_key self).first (intake_view intake).intake.took
+            (pass_view pass).pass }
+        ensures region { pool.new.region ≡ pool.old.region }
+        ensures left { count_left pool.new.left + (intake_view intake).intake.taken
+            ≡ count_left pool.old.left + (intake_view intake).intake.freed + (ring_key self).size }
+        ensures out { count_out pool.new.left + (intake_view intake).intake.freed
+            + (ring_key self).size
+            ≡ count_out pool.old.left + (intake_view intake).intake.taken }
+    {
+        let Ring {
+            table,
+            size,
+            first: _,
+        } = self;
         let Pass { mut seat } = pass;
-        let Intake { seat: other } = intake;
+        let Intake {
+            seat: other,
+            taken,
+            freed,
+        } = intake;
         table.shared.join_seat::<Handed>(&mut seat, other);
-        table.close_with(seat).free();
+        let closed = table.close_with(seat);
+        give_slots(closed, freed, taken, size, pool);
     }
 }

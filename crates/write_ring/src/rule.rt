@@ -1,17 +1,27 @@
-// The rule of the ring's words, what each kind of step tells, and how seats are split and joined.
-ghost use Rattle.std.specs.Prelude.{◌≡◌, ◌≤◌, ◌^◌, true, false};
-ghost use Rattle.write_ring.specs.Rule.{Kept};
-ghost use Rattle.write_ring.specs.Steps.{Claims, LieBelow, first_view, granted_to, joined_pass};
-ghost use Rattle.write_ring.specs.Steps.{less_share, new_pass, only_intake, saw_claimed, saw_freed};
-ghost use Rattle.write_ring.specs.Steps.{saw_granted, spent, with_desk, without_intake};
+// The rule of the ring's words and slots, what each kind of step tells, and how seats are split and joined.
+ghost use Rattle.std.specs.Prelude.{◌≡◌, ◌≤◌, ◌^◌, [], ◌∷◌, true, false};
+ghost use Rattle.atomic_table.specs.Table.{rest};
+ghost use Rattle.write_ring.specs.declared.cell.Cell.TheVariants as cell;
+ghost use Rattle.write_ring.specs.Cells.{slot};
+ghost use Rattle.write_ring.specs.Frames.{Carries, Fits, IsBlank, IsFree, front_row};
+ghost use Rattle.write_ring.specs.Kept.{Kept};
+ghost use Rattle.write_ring.specs.Stock.{CopiesArePut};
+ghost use Rattle.write_ring.specs.Steps.{Claims, LieBelow, first_view, freed_next, gave_back};
+ghost use Rattle.write_ring.specs.Steps.{granted_to, joined_pass, less_share, new_pass, note_of};
+ghost use Rattle.write_ring.specs.Steps.{only_intake, put_next, saw_claimed, saw_freed};
+ghost use Rattle.write_ring.specs.Steps.{saw_granted, spent, told, took_free, with_desk};
+ghost use Rattle.write_ring.specs.Steps.{without_intake};
+ghost use Rattle.write_ring.specs.Tells.{Finds, Gains};
 
+use crate::cell::Cell;
 use crate::view::{Key, View};
 use atomic_table::{Join, Play, Split, TableRule};
 
-pub struct Claimed;
+/// What a ring keeps between any two steps, and its first seat's view.
+pub struct Order;
 
-impl TableRule<(), View, Key> for Claimed {
-    ghost holds = { λ key s. Kept key s };
+impl TableRule<Cell, View, Key> for Order {
+    ghost holds = { λ key s. Kept key (IsFree key) IsBlank (Carries key) (Fits key) s };
 
     ghost first = { first_view };
 }
@@ -19,50 +29,102 @@ impl TableRule<(), View, Key> for Claimed {
 /// A load of `claimed`.
 pub(crate) struct LookClaimed;
 
-impl Play<(), View> for LookClaimed {
+impl Play<Cell, View> for LookClaimed {
     ghost then = { λ s m n w. (w ≡ (saw_claimed m.0 n, m.1))
-        × ((n ≤ 2 ^ 62) × LieBelow n m.0.pass.claims) };
+        × ((n ≤ 2 ^ 62) × LieBelow n m.0.pass.claims × (m.0.key.first ≤ n)) };
+}
+
+/// A load of `claimed` by the intake.
+pub(crate) struct LookPast;
+
+impl Play<Cell, View> for LookPast {
+    ghost then = { λ s m n w. (w ≡ (saw_claimed m.0 n, m.1)) × (m.0.intake.taken ≤ n) };
+}
+
+/// A load of `claimed` by the pass that copies, after a note was joined.
+pub(crate) struct LookHeard;
+
+impl Play<Cell, View> for LookHeard {
+    ghost then = { λ s m n w. (w ≡ (saw_claimed m.0 n, m.1)) × CopiesArePut m.0.heard m.0 };
 }
 
 /// A load of `freed`.
 pub(crate) struct LookFreed;
 
-impl Play<(), View> for LookFreed {
+impl Play<Cell, View> for LookFreed {
     ghost then = { λ s m n w. (w ≡ (saw_freed m.0 n, m.1)) × (n ≤ 2 ^ 62) };
 }
 
 /// A load of `granted`.
 pub(crate) struct LookGranted;
 
-impl Play<(), View> for LookGranted {
+impl Play<Cell, View> for LookGranted {
     ghost then = { λ s m n w. (w ≡ (saw_granted m.0 n, m.1)) × (n ≤ 2 ^ 62) };
 }
 
 /// A load of `granted` by the intake, which knows it.
 pub(crate) struct LookOwn;
 
-impl Play<(), View> for LookOwn {
+impl Play<Cell, View> for LookOwn {
     ghost then = { λ s m n w. (w ≡ (saw_granted m.0 n, m.1)) × (n ≡ m.0.intake.granted) };
 }
 
 /// A claim for users.
 pub(crate) struct ClaimUser;
 
-impl Play<(), View> for ClaimUser {
-    ghost then = { λ s m n w. Claims false m.0 s.first s.second n w.0 × (w.1 ≡ m.1) };
+impl Play<Cell, View> for ClaimUser {
+    ghost then = { λ s m n w. Claims false m.0 s.first s.second n w.0
+        × Gains IsFree m.0 s.slots s.first s.second n w.1 };
 }
 
 /// A claim for copies.
 pub(crate) struct ClaimCopy;
 
-impl Play<(), View> for ClaimCopy {
-    ghost then = { λ s m n w. Claims true m.0 s.first s.second n w.0 × (w.1 ≡ m.1) };
+impl Play<Cell, View> for ClaimCopy {
+    ghost then = { λ s m n w. Claims true m.0 s.first s.second n w.0
+        × Gains IsFree m.0 s.slots s.first s.second n w.1 };
+}
+
+/// A store of the turn word of the first open position, whose slot is in front with its entry.
+pub(crate) struct Fill;
+
+impl Play<Cell, View> for Fill {
+    ghost then = { λ s m n w. w ≡ (put_next m.0 (front_row m.1), rest m.1) };
+}
+
+/// A load of the turn word of the next position.
+pub(crate) struct Find;
+
+impl Play<Cell, View> for Find {
+    ghost then = { λ s m n w. Finds Carries Fits m.0 s.slots n w };
+}
+
+/// A load of the same turn word, by which the empty slot goes back.
+pub(crate) struct GiveBack;
+
+impl Play<Cell, View> for GiveBack {
+    ghost then = { λ s m n w. w ≡ (gave_back m.0 n, rest m.1) };
+}
+
+/// A load of the turn word of the first position that isn't freed, whose slot is empty.
+pub(crate) struct TakeEmpty;
+
+impl Play<Cell, View> for TakeEmpty {
+    ghost then = { λ s m n w. w
+        ≡ (took_free m.0 n, (slot s.slots m.0.intake.freed, cell.Empty) ∷ []) };
+}
+
+/// A store of `freed`, by which that slot goes back with a free frame.
+pub(crate) struct Free;
+
+impl Play<Cell, View> for Free {
+    ghost then = { λ s m n w. w ≡ (freed_next m.0, rest m.1) };
 }
 
 /// A store of `granted`.
 pub(crate) struct Grant;
 
-impl Play<(), View> for Grant {
+impl Play<Cell, View> for Grant {
     ghost then = { λ s m n w. w ≡ (granted_to m.0 n, m.1) };
 }
 
@@ -72,7 +134,7 @@ pub(crate) struct Passes;
 impl Split<View> for Passes {
     ghost left = { less_share };
 
-    ghost right = { λ v. new_pass };
+    ghost right = { λ v. new_pass v.key };
 }
 
 impl Join<View> for Passes {
@@ -88,6 +150,21 @@ impl Split<View> for Parted {
     ghost left = { without_intake };
 
     ghost right = { only_intake };
+}
+
+/// A note of what the intake took goes into the pass that copies.
+pub(crate) struct Notes;
+
+impl Split<View> for Notes {
+    ghost left = { λ v. v };
+
+    ghost right = { note_of };
+}
+
+impl Join<View> for Notes {
+    ghost both = { told };
+
+    ghost spent = { spent };
 }
 
 /// At closing the intake goes into the pass.

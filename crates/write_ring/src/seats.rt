@@ -1,30 +1,43 @@
 // The two kinds of seat, and what the ring answers.
-ghost use Rattle.std.specs.Prelude.{◌≡◌, ◌<◌, []};
+ghost use Rattle.std.specs.Prelude.{◌≡◌, ◌<◌, ◌≤◌, ◌^◌, []};
 ghost use Rattle.write_ring.specs.Steps.{no_desk, no_part};
 
+use crate::cell::Cell;
 use crate::view::View;
 use atomic_table::Seat;
+use sector_pool::Entry;
 use thiserror::Error;
 
-/// The right to claim positions of one ring, with the list of its claims.
+/// The right to put entries into one ring, with the lists of its claims and of what it put.
 ///
 /// Each has at least one of the 128 shares. It can't be dropped: it ends in `Ring::join` or `Ring::close`.
 pub struct Pass {
-    pub(crate) seat: Seat<(), View>,
+    pub(crate) seat: Seat<Cell, View>,
     ghost at_rest: { seat.me.1 ≡ [] },
     ghost some: { 0 < seat.me.0.pass.shares },
     ghost only: { seat.me.0.intake ≡ no_desk },
+    ghost all_put: { seat.me.0.pass.next ≡ seat.me.0.pass.until },
 }
 
-/// The one right to grant positions to users. It can't be dropped: it ends in `Ring::close`.
+/// The one right to take entries from a ring, to free their slots and to grant positions to users.
+///
+/// It can't be dropped: it ends in `Ring::close`.
 pub struct Intake {
-    pub(crate) seat: Seat<(), View>,
+    pub(crate) seat: Seat<Cell, View>,
+    pub(crate) taken: u64,
+    pub(crate) freed: u64,
     ghost at_rest: { seat.me.1 ≡ [] },
     ghost on: { seat.me.0.intake.on ≡ 1 },
     ghost only: { seat.me.0.pass ≡ no_part },
+    ghost home: { seat.me.0.intake.away ≡ 0 },
+    ghost taken_is: { seat.me.0.intake.taken ≡ taken },
+    ghost freed_is: { seat.me.0.intake.freed ≡ freed },
+    ghost low: { seat.me.0.key.first ≤ freed },
+    ghost order: { freed ≤ taken },
+    ghost most: { taken ≤ 2 ^ 62 },
 }
 
-/// Positions that were claimed: `count` of them, from `first` on.
+/// Positions that were claimed and filled: `count` of them, from `first` on.
 #[derive(Clone, Copy, Debug, PartialEq, Eq, Drop)]
 pub struct Place {
     /// The first of them.
@@ -33,7 +46,7 @@ pub struct Place {
     pub count: u32,
 }
 
-/// What one try at a claim is refused with. Each number was found by a load or an exchange of this try.
+/// What one try at putting a batch is refused with. Each number was found by a load or an exchange of this try.
 #[derive(Clone, Copy, Debug, PartialEq, Eq, Drop, Error)]
 pub enum TryPut {
     /// The positions would end above the limit.
@@ -54,7 +67,7 @@ pub enum TryPut {
     },
 }
 
-/// What a claim is refused with that is tried again after each race.
+/// What putting a batch is refused with, where it is tried again after each race.
 #[derive(Clone, Copy, Debug, PartialEq, Eq, Drop, Error)]
 #[error("the ring is full: claimed {claimed}, limit {limit}")]
 pub struct Full {
@@ -62,4 +75,20 @@ pub struct Full {
     pub claimed: u64,
     /// The limit that was read next.
     pub limit: u64,
+}
+
+/// What the intake finds at the next position.
+pub enum Taken {
+    /// Its entry.
+    Entry(Entry),
+    /// Nobody has claimed it yet.
+    Empty {
+        /// What the load of `claimed` found.
+        claimed: u64,
+    },
+    /// It was claimed, and isn't filled yet.
+    Unfilled {
+        /// The position.
+        at: u64,
+    },
 }

@@ -1,5 +1,6 @@
 //! What the ring is made with, and what each of its seats knows. No value of a view is ever made: it is
 //! there in contracts alone.
+use sector_pool::{Origin, Source};
 use std::collections::LinkedList;
 
 /// What a ring is made with. It never changes.
@@ -11,6 +12,10 @@ pub struct Key {
     pub size: u64,
     /// How many of these are kept for copies.
     pub reserve: u64,
+    /// How many sectors the target has.
+    pub capacity: u64,
+    /// Which region the frames are of.
+    pub origin: Origin,
 }
 
 /// Positions that one step claimed: `count` of them, from `first` on.
@@ -21,6 +26,20 @@ pub struct Claim {
     pub count: u64,
     /// Whether they were claimed for copies.
     pub copy: bool,
+}
+
+/// An entry that was put at a position.
+pub struct Row {
+    /// Its position.
+    pub position: u64,
+    /// Whether it was claimed for copies.
+    pub copy: bool,
+    /// Which sector of the target's capacity it is.
+    pub lba: u64,
+    /// The block from which a copy was made.
+    pub source: Option<Source>,
+    /// Its bytes.
+    pub sector: LinkedList<u8>,
 }
 
 /// What a seat's last loads and exchanges found.
@@ -35,6 +54,8 @@ pub struct Found {
     pub freed: u64,
     /// What the last load of `granted` found.
     pub granted: u64,
+    /// What the last load of a turn word found.
+    pub turn: u64,
 }
 
 /// What a seat knows as a pass.
@@ -45,12 +66,26 @@ pub struct Part {
     pub copier: u64,
     /// What it claimed, the oldest first.
     pub claims: LinkedList<Claim>,
+    /// What it put, the oldest first.
+    pub puts: LinkedList<Row>,
+    /// The first of its positions that are claimed and not filled yet.
+    pub next: u64,
+    /// The end of these positions.
+    pub until: u64,
+    /// Whether these were claimed for copies.
+    pub copy: bool,
 }
 
 /// What a seat knows as the intake.
 pub struct Desk {
     /// 1 where it is the intake, and else 0.
     pub on: u64,
+    /// What it took, the oldest first.
+    pub took: LinkedList<Row>,
+    /// The next position that it takes.
+    pub taken: u64,
+    /// One more than the position whose slot is out with it, and 0 where none is.
+    pub away: u64,
     /// The word `freed`, which the intake alone stores.
     pub freed: u64,
     /// The word `granted`, which the intake alone stores.
@@ -65,4 +100,8 @@ pub struct View {
     pub pass: Part,
     /// What it knows as the intake.
     pub intake: Desk,
+    /// What the intake had taken, where a note told of it.
+    pub heard: LinkedList<Row>,
+    /// What the ring was made with.
+    pub key: Key,
 }

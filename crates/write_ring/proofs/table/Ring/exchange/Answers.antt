@@ -1,20 +1,24 @@
-use Rattle.std.proofs.Common.{◌≤◌, rules, arith, subst}
-use Rattle.write_ring.specs.Handles.{limit_of, ring_key, pass_view}
-use Rattle.write_ring.proofs.Moves.{claims_user, claims_copy}
+use Rattle.std.proofs.Common.{◌≤◌, arith, subst, sym, ◌∙◌}
+use Rattle.write_ring.specs.Handles.{limit_of, ring_key}
+use Rattle.write_ring.proofs.Plays.{claims_user_at, claims_copy_at}
 use Rattle.write_ring.proofs.table.Ring.exchange.Goals as goal
 
 pub compare_exchange-requires : goal.compare_exchange-requires
 compare_exchange-requires c =
-    let below = subst (λ k. c.args.new ≤ limit_of k (ring_key c.args.self.now) (pass_view c.args.pass.now)) c.in-User.is c.requires.limit in (
-      search rules,
-      omega (arith, c.args.self.now.words),
-      claims_user _ _ _ _ _ _ _ c.args.pass.now.some c.requires.saw c.requires.rises c.requires.most below,
+    let r = c.args.self.now in
+    let below = subst (λ k. c.args.new ≤ limit_of k (ring_key r) c.args.seat.now.me.0) c.in-User.is c.requires.limit in (
+      c.requires.ring,
+      omega (arith, r.words),
+      claims_user_at _ _ _ _ _ _ (r.slots ∙ sym r.sized) c.requires.at_rest c.requires.shares c.requires.all_put c.requires.saw c.requires.rises
+          c.requires.most below,
     )
 
 pub compare_exchange-requires-in-Copy : goal.compare_exchange-requires-in-Copy
 compare_exchange-requires-in-Copy c =
-    let below = subst (λ k. c.args.new ≤ limit_of k (ring_key c.args.self.now) (pass_view c.args.pass.now)) c.in-Copy.is c.requires.limit in (
-      search rules,
-      omega (arith, c.args.self.now.words),
-      claims_copy _ _ _ _ _ _ _ c.args.pass.now.some c.requires.saw c.requires.rises c.requires.most (omega arith) (c.requires.copier c.in-Copy.is),
+    let r = c.args.self.now in
+    let below = subst (λ k. c.args.new ≤ limit_of k (ring_key r) c.args.seat.now.me.0) c.in-Copy.is c.requires.limit in (
+      c.requires.ring,
+      omega (arith, r.words),
+      claims_copy_at _ _ _ _ _ _ (r.slots ∙ sym r.sized) c.requires.at_rest c.requires.shares c.requires.all_put c.requires.saw c.requires.rises c.requires.most
+          (omega arith) (c.requires.copier c.in-Copy.is),
     )

@@ -1,6 +1,7 @@
-use Rattle.std.proofs.Common.{rules, arith}
+use Rattle.std.proofs.Common.{arith}
+use Rattle.write_ring.specs.Frames.{IsFree, IsBlank, Carries, Fits}
 use Rattle.write_ring.proofs.Moves.{looks_own}
 use Rattle.write_ring.proofs.table.Ring.granted.Goals as goal
 
 pub load-requires : goal.load-requires
-load-requires c = (search rules, omega (arith, c.args.self.now.words), looks_own _ _ _ _ _ c.args.intake.now.on)
+load-requires c = (c.requires.ring.0, omega (arith, c.args.self.now.words), looks_own _ IsFree IsBlank Carries Fits _ _ _ _ c.args.intake.now.on)

@@ -1,0 +1,9 @@
+//! Tests of the write ring on its public calls.
+#![tactic(auto)]
+
+#[cfg(test)]
+mod rows;
+#[cfg(test)]
+mod steps;
+#[cfg(test)]
+mod threads;

@@ -1,0 +1,202 @@
+// Entries go into the ring.
+ghost use Rattle.std.specs.Prelude.{◌≡◌, ◌≢◌, ◌+◌, ◌<◌, ◌≤◌, ◌%◌, ◌^◌, ℕ, IfOk, IfErr, OnOk, Err};
+ghost use Rattle.std.specs.Prelude.{[], ◌∷◌, length};
+ghost use Rattle.std.specs.List.{AllByRecursion};
+ghost use Rattle.atomic_table.specs.Table.{rest};
+ghost use Rattle.pblk_model.specs.Frames.{FrameView};
+ghost use Rattle.sector_pool.specs.declared.entry.Class.TheVariants as kind;
+ghost use Rattle.write_ring.specs.declared.cell.Cell.TheVariants as cell;
+ghost use Rattle.write_ring.specs.declared.seats.TryPut.TheVariants as Refused;
+ghost use Rattle.write_ring.specs.Batches.{CanPut, rows_from};
+ghost use Rattle.write_ring.specs.Frames.{Fits, IsFree, is_copy, row_of};
+ghost use Rattle.write_ring.specs.Handles.{HasPlace, IsPassOf, WasFull, WasRaced};
+ghost use Rattle.write_ring.specs.Handles.{pass_view, puts_rows, ring_key};
+ghost use Rattle.write_ring.specs.Steps.{put_next, with_pass};
+ghost use Rattle.write_ring.specs.Tells.{HasSlots};
+
+use crate::batch::Batch;
+use crate::cell::Cell;
+use crate::draft::Draft;
+use crate::rule::Fill;
+use crate::seats::{Full, Pass, Place, TryPut};
+use crate::table::{LINE, Ring, TURNS};
+use crate::view::View;
+use atomic_table::Seat;
+use crossbeam_utils::Backoff;
+use sector_pool::{Class, Entry, Frame};
+use std::sync::Wait;
+
+impl Ring {
+    // Puts the entry of the seat's first open position in its slot, and names the position.
+    fn put_at(&self, seat: &mut Seat<Cell, View>, at: u64, entry: Entry) -> Frame
+        requires ring { seat.old.table_id ≡ self.now.table.shared.table_id }
+        requires key { seat.old.me.0.key ≡ ring_key self.now }
+        requires sharing { 0 < seat.old.me.0.pass.shares }
+        requires next { at ≡ seat.old.me.0.pass.next }
+        requires some_open { at < seat.old.me.0.pass.until }
+        requires high { (ring_key self.now).first ≤ at }
+        requires small { at ≤ 2 ^ 62 }
+        requires front { (f : FrameView) × (seat.old.me.1
+            ≡ (at % (ring_key self.now).size, cell.Free f) ∷ rest seat.old.me.1)
+            × (f.region ≡ (ring_key self.now).origin.region) }
+        requires position { entry.position ≡ at }
+        requires class { is_copy entry.class ≡ seat.old.me.0.pass.copy }
+        requires fits { Fits (ring_key self.now) (row_of entry) }
+        requires own { entry.frame.region ≡ (ring_key self.now).origin.region }
+        ensures ring { seat.new.table_id ≡ seat.old.table_id }
+        ensures put { seat.new.me
+            ≡ (put_next seat.old.me.0 (row_of entry), rest seat.old.me.1) }
+        ensures frame { result.region ≡ (ring_key self.now).origin.region }
+    {
+        let slot = (at % self.size) as usize;
+        let shared = &self.table.shared;
+        let old = shared.exchange(seat, slot, Cell::Filled(entry));
+        shared.store::<Fill>(seat, TURNS + LINE * slot, at - self.first + 1);
+        let Cell::Free(frame) = old else {
+            unreachable!()
+        };
+        frame
+    }
+
+    // Puts a batch at the positions from `first` on, which are the seat's open ones.
+    fn put_batch(&self, seat: &mut Seat<Cell, View>, class: Class, first: u64, batch: &mut Batch)
+        requires ring { seat.old.table_id ≡ self.now.table.shared.table_id }
+        requires key { seat.old.me.0.key ≡ ring_key self.now }
+        requires sharing { 0 < seat.old.me.0.pass.shares }
+        requires next { first ≡ seat.old.me.0.pass.next }
+        requires until { seat.old.me.0.pass.until ≡ first + length batch.old.drafts }
+        requires high { (ring_key self.now).first ≤ first }
+        requires small { first + length batch.old.drafts ≤ 2 ^ 62 }
+        requires slots { HasSlots IsFree (ring_key self.now) (ring_key self.now).size first
+            (length batch.old.drafts) seat.old.me.1 }
+        requires class { is_copy class ≡ seat.old.me.0.pass.copy }
+        requires fits { AllByRecursion (CanPut class (ring_key self.now)) batch.old.drafts }
+        requires own { batch.old.region ≡ (ring_key self.now).origin.region }
+        ensures ring { seat.new.table_id ≡ seat.old.table_id }
+        ensures put { seat.new.me ≡ (
+          with_pass seat.old.me.0 (puts_rows seat.old.me.0.pass
+              (rows_from class first batch.old.drafts)),
+          [],
+        ) }
+        ensures empty { batch.new.drafts ≡ [] }
+        ensures free { batch.new.free ≡ batch.old.free + length batch.old.drafts }
+        ensures region { batch.new.region ≡ batch.old.region }
+        ensures count { batch.new.count ≡ batch.old.count }
+    {
+        let mut at = first;
+        while let Some(draft) = batch.next() {
+            let Draft { lba, source, frame } = draft;
+            let entry = Entry {
+                position: at,
+                class,
+                lba,
+                source,
+                frame,
+            };
+            let frame = self.put_at(seat, at, entry);
+            batch.keep(frame);
+            at += 1;
+        }
+    }
+
+    /// Claims positions that no other claim has for the filled frames of the batch, by one exchange, and puts
+    /// them there. It never waits. Afterwards the batch has as many free frames.
+    ///
+    /// Refused with `Full` exactly where `claimed`, as it was read, and the number of filled frames are above
+    /// the limit that was read next: `granted` for users, and the end of the ring's room, or 2^62 where that
+    /// is less, for copies. Refused with `Raced` exactly where the exchange found another number than that
+    /// load. After a refusal the batch is unchanged.
+    pub fn try_put(&self, pass: &mut Pass, class: Class, batch: &mut Batch) -> Result<Place, TryPut>
+        requires ring { IsPassOf self.now pass.old }
+        requires some { 0 < length batch.old.drafts }
+        requires fits { AllByRecursion (CanPut class (ring_key self.now)) batch.old.drafts }
+        requires own { batch.old.region ≡ (ring_key self.now).origin.region }
+        requires copier { class ≡ kind.Copy → (pass_view pass.old).pass.copier ≢ 0 }
+        ensures ring { IsPassOf self.now pass.new }
+        ensures region { batch.new.region ≡ batch.old.region }
+
+        // The place, and the entries there.
+        ensures place { IfOk result (λ p. HasPlace class batch.old.drafts p (pass_view pass.old)
+            (pass_view pass.new)) }
+        ensures empty { OnOk result (batch.new.drafts ≡ []) }
+        ensures free { OnOk result
+            (batch.new.free ≡ batch.old.free + length batch.old.drafts) }
+        ensures place_steps { IfOk result
+            (λ _. (pass_view pass.new).found.steps ≡ (pass_view pass.old).found.steps + 3) }
+
+        // What it is refused with, and that nothing was done then.
+        ensures unchanged { IfErr result
+            (λ _. (pass_view pass.new).pass ≡ (pass_view pass.old).pass) }
+        ensures same_batch { IfErr result (λ _. batch.new ≡ batch.old) }
+        ensures same_shares { (pass_view pass.new).pass.shares ≡ (pass_view pass.old).pass.shares }
+        ensures same_copier { (pass_view pass.new).pass.copier ≡ (pass_view pass.old).pass.copier }
+        ensures full { (claimed limit : ℕ) → result ≡ Err (Refused.Full claimed limit)
+            → WasFull class (ring_key self.now) (length batch.old.drafts) claimed limit
+            (pass_view pass.new) }
+        ensures full_steps { (claimed limit : ℕ) → result ≡ Err (Refused.Full claimed limit)
+            → (pass_view pass.new).found.steps ≡ (pass_view pass.old).found.steps + 2 }
+        ensures raced { (expected found : ℕ) → result ≡ Err (Refused.Raced expected found)
+            → WasRaced expected found (pass_view pass.new) }
+        ensures raced_steps { (expected found : ℕ) → result ≡ Err (Refused.Raced expected found)
+            → (pass_view pass.new).found.steps ≡ (pass_view pass.old).found.steps + 3 }
+    {
+        let claimed = self.claimed(pass);
+        let limit = self.limit(pass, class);
+        let count = batch.filled();
+        let end = claimed + u64::from(count);
+        if end > limit {
+            return Err(TryPut::Full { claimed, limit });
+        }
+        let found = self.exchange(&mut pass.seat, class, claimed, end);
+        if found != claimed {
+            return Err(TryPut::Raced {
+                expected: claimed,
+                found,
+            });
+        }
+        self.put_batch(&mut pass.seat, class, claimed, batch);
+        Ok(Place {
+            first: claimed,
+            count,
+        })
+    }
+
+    /// The same, and tries again after each race, with longer and longer pauses.
+    pub fn put<R: Wait>(
+        &self,
+        rt: &R,
+        pass: &mut Pass,
+        class: Class,
+        batch: &mut Batch,
+    ) -> Result<Place, Full>
+        requires ring { IsPassOf self.now pass.old }
+        requires some { 0 < length batch.old.drafts }
+        requires fits { AllByRecursion (CanPut class (ring_key self.now)) batch.old.drafts }
+        requires own { batch.old.region ≡ (ring_key self.now).origin.region }
+        requires copier { class ≡ kind.Copy → (pass_view pass.old).pass.copier ≢ 0 }
+        ensures ring { IsPassOf self.now pass.new }
+        ensures region { batch.new.region ≡ batch.old.region }
+        ensures place { IfOk result (λ p. HasPlace class batch.old.drafts p (pass_view pass.old)
+            (pass_view pass.new)) }
+        ensures empty { OnOk result (batch.new.drafts ≡ []) }
+        ensures free { OnOk result
+            (batch.new.free ≡ batch.old.free + length batch.old.drafts) }
+        ensures unchanged { IfErr result
+            (λ _. (pass_view pass.new).pass ≡ (pass_view pass.old).pass) }
+        ensures same_batch { IfErr result (λ _. batch.new ≡ batch.old) }
+        ensures same_shares { (pass_view pass.new).pass.shares ≡ (pass_view pass.old).pass.shares }
+        ensures same_copier { (pass_view pass.new).pass.copier ≡ (pass_view pass.old).pass.copier }
+        ensures full { IfErr result (λ e. WasFull class (ring_key self.now)
+            (length batch.old.drafts) e.claimed e.limit (pass_view pass.new)) }
+    {
+        let backoff = Backoff::new();
+        for _ in rt.forever() {
+            match self.try_put(pass, class, batch) {
+                Ok(place) => return Ok(place),
+                Err(TryPut::Full { claimed, limit }) => return Err(Full { claimed, limit }),
+                Err(TryPut::Raced { .. }) => backoff.snooze(),
+            }
+        }
+        unreachable!()
+    }
+}

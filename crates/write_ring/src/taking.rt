@@ -1,0 +1,147 @@
+// The steps of the intake: it takes entries, frees their slots, and grants positions to users.
+ghost use Rattle.std.specs.Prelude.{◌≡◌, ◌+◌, ◌<◌, ◌≤◌, ◌%◌, ◌^◌, ℕ, [], ◌∷◌};
+ghost use Rattle.sector_pool.specs.declared.entry.Entry.{Entry as EntryOf};
+ghost use Rattle.write_ring.specs.declared.cell.Cell.TheVariants as cell;
+ghost use Rattle.write_ring.specs.declared.seats.Taken.TheVariants as Found;
+ghost use Rattle.write_ring.specs.Frames.{Carries, Fits};
+ghost use Rattle.write_ring.specs.Handles.{HasTaken, IsIntakeOf, WasEmpty, WasUnfilled};
+ghost use Rattle.write_ring.specs.Handles.{intake_view, ring_key};
+ghost use Rattle.write_ring.specs.Steps.{desk_of, gave_back, granted_to};
+ghost use Rattle.write_ring.specs.Steps.{saw_claimed, saw_granted};
+ghost use Rattle.write_ring.specs.Tells.{Finds};
+
+use crate::cell::Cell;
+use crate::rule::{Find, Free, GiveBack, Grant, LookOwn, LookPast, TakeEmpty};
+use crate::seats::{Intake, Taken};
+use crate::table::{CLAIMED, FREED, GRANTED, LINE, Ring, TURNS};
+use crate::view::View;
+use atomic_table::Seat;
+use sector_pool::{Entry, Frame};
+
+impl Ring {
+    // Loads the turn word of the next position, and takes its slot where the word names it.
+    fn find(&self, seat: &mut Seat<Cell, View>, at: u64) -> u64
+        requires ring { seat.old.table_id ≡ self.now.table.shared.table_id }
+        requires on { seat.old.me.0.intake.on ≡ 1 }
+        requires home { seat.old.me.0.intake.away ≡ 0 }
+        requires at_rest { seat.old.me.1 ≡ [] }
+        requires next { at ≡ seat.old.me.0.intake.taken }
+        ensures ring { seat.new.table_id ≡ seat.old.table_id }
+        ensures found { Finds Carries Fits seat.old.me.0 (ring_key self.now).size result
+            seat.new.me }
+    {
+        let slot = (at % self.size) as usize;
+        self.table.shared.load::<Find>(seat, TURNS + LINE * slot)
+    }
+
+    // Takes the entry out of the slot of a position, and gives the slot back empty.
+    fn take_out(&self, seat: &mut Seat<Cell, View>, at: u64) -> Entry
+        requires ring { seat.old.table_id ≡ self.now.table.shared.table_id }
+        requires on { seat.old.me.0.intake.on ≡ 1 }
+        requires away { seat.old.me.0.intake.away ≡ at + 1 }
+        requires front { (e : EntryOf) × (seat.old.me.1
+            ≡ (at % (ring_key self.now).size, cell.Filled e) ∷ []) }
+        ensures ring { seat.new.table_id ≡ seat.old.table_id }
+        ensures entry { seat.old.me.1
+            ≡ (at % (ring_key self.now).size, cell.Filled result) ∷ [] }
+        ensures back { (n : ℕ) × (seat.new.me ≡ (gave_back seat.old.me.0 n, [])) }
+    {
+        let slot = (at % self.size) as usize;
+        let shared = &self.table.shared;
+        let old = shared.exchange(seat, slot, Cell::Empty);
+        shared.load::<GiveBack>(seat, TURNS + LINE * slot);
+        let Cell::Filled(entry) = old else {
+            unreachable!()
+        };
+        entry
+    }
+
+    // Loads `claimed`, which is at least what was taken.
+    fn look_past(&self, intake: &mut Intake) -> u64
+        requires ring { IsIntakeOf self.now intake.old }
+        ensures ring { IsIntakeOf self.now intake.new }
+        ensures found { intake_view intake.new ≡ saw_claimed (intake_view intake.old) result }
+        ensures past { (intake_view intake.old).intake.taken ≤ result }
+    {
+        self.table
+            .shared
+            .load::<LookPast>(&mut intake.seat, CLAIMED)
+    }
+
+    /// Takes the next position's entry, as its maker filled it, where it is there.
+    ///
+    /// `Unfilled` comes exactly where the turn word of its slot didn't name a claimed position when it was
+    /// loaded, and `Empty` exactly where `claimed`, loaded next, was that position.
+    pub fn take(&self, intake: &mut Intake) -> Taken
+        requires ring { IsIntakeOf self.now intake.old }
+        ensures ring { IsIntakeOf self.now intake.new }
+        ensures steps { (intake_view intake.new).found.steps
+            ≡ (intake_view intake.old).found.steps + 2 }
+        ensures entry { (e : EntryOf) → result ≡ Found.Entry e
+            → HasTaken (intake_view intake.old) e (intake_view intake.new) }
+        ensures empty { (claimed : ℕ) → result ≡ Found.Empty claimed
+            → WasEmpty claimed (intake_view intake.old) (intake_view intake.new) }
+        ensures unfilled { (at : ℕ) → result ≡ Found.Unfilled at
+            → WasUnfilled at (intake_view intake.old) (intake_view intake.new) }
+    {
+        let at = intake.taken;
+        let turn = self.find(&mut intake.seat, at);
+        if turn == at - self.first + 1 {
+            let entry = self.take_out(&mut intake.seat, at);
+            intake.taken += 1;
+            return Taken::Entry(entry);
+        }
+        let claimed = self.look_past(intake);
+        if claimed == at {
+            Taken::Empty { claimed }
+        } else {
+            Taken::Unfilled { at }
+        }
+    }
+
+    /// Frees the slot of the first position that was taken and isn't freed, with a frame of the ring's pool.
+    pub fn free(&self, intake: &mut Intake, frame: Frame)
+        requires ring { IsIntakeOf self.now intake.old }
+        requires taken { (intake_view intake.old).intake.freed
+            < (intake_view intake.old).intake.taken }
+        requires own { frame.region ≡ (ring_key self.now).origin.region }
+        ensures ring { IsIntakeOf self.now intake.new }
+        ensures freed { (intake_view intake.new).intake ≡ desk_of 1
+            (intake_view intake.old).intake.took (intake_view intake.old).intake.taken 0
+            ((intake_view intake.old).intake.freed + 1)
+            (intake_view intake.old).intake.granted }
+    {
+        let slot = (intake.freed % self.size) as usize;
+        let shared = &self.table.shared;
+        shared.load::<TakeEmpty>(&mut intake.seat, TURNS + LINE * slot);
+        let old = shared.exchange(&mut intake.seat, slot, Cell::Free(frame));
+        shared.store::<Free>(&mut intake.seat, FREED, intake.freed + 1);
+        intake.freed += 1;
+        let Cell::Empty = old else { unreachable!() };
+    }
+
+    /// Loads `granted` once: the end of what users may claim, as the intake granted it last.
+    pub fn granted(&self, intake: &mut Intake) -> u64
+        requires ring { IsIntakeOf self.now intake.old }
+        ensures ring { IsIntakeOf self.now intake.new }
+        ensures found { intake_view intake.new ≡ saw_granted (intake_view intake.old) result }
+        ensures granted { result ≡ (intake_view intake.old).intake.granted }
+    {
+        self.table.shared.load::<LookOwn>(&mut intake.seat, GRANTED)
+    }
+
+    /// Grants users all positions below `to`. What is granted never falls, and leaves the reserve free.
+    pub fn grant(&self, intake: &mut Intake, to: u64)
+        requires ring { IsIntakeOf self.now intake.old }
+        requires rises { (intake_view intake.old).intake.granted ≤ to }
+        requires reserve { to + (ring_key self.now).reserve
+            ≤ (intake_view intake.old).intake.freed + (ring_key self.now).size }
+        requires most { to ≤ 2 ^ 62 }
+        ensures ring { IsIntakeOf self.now intake.new }
+        ensures granted { intake_view intake.new ≡ granted_to (intake_view intake.old) to }
+    {
+        self.table
+            .shared
+            .store::<Grant>(&mut intake.seat, GRANTED, to);
+    }
+}
