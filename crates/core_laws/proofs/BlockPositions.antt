@@ -60,7 +60,7 @@ pads_none s (suc n) small = (
 -- ---- entries
 
 -- the entry's block bears its position
-abbrev Bears : Shape → Taken → Type 0
+abbrev pub Bears : Shape → Taken → Type 0
 Bears s t = position_in s (block_of_taken t) ≡ Some t.entry.position
 
 bears_own : (i : Image) (ls : Logs) (entry : Entry) (mark : Mark) (source : Option Source) → is_users source ≡ true → entry.lba < i.shape.capacity
@@ -84,7 +84,7 @@ bears_step i us w knows x next all =
     let l : Logged = record { event = x; knows = knows } in
     subst (AllByRecursion (Bears i.shape)) (sym (takes_more (log_of w 0) l ∙ append-nil (takes (log_of w 0)))) all
 
-all_bear : (i : Image) (us : ℕ → List ℕ) (w : World) → IsFollowed i us w → AllByRecursion (Bears i.shape) (takes (log_of w 0))
+pub all_bear : (i : Image) (us : ℕ → List ℕ) (w : World) → IsFollowed i us w → AllByRecursion (Bears i.shape) (takes (log_of w 0))
 all_bear i us w is = by_events i us (λ log. AllByRecursion (Bears i.shape) (takes log)) tt (λ v l next all. bears_step i us v l.knows l.event next all) w is
 
 entries_made : (s : Shape) (ts : List Taken) (bs : List Block) → AllByRecursion (Bears s) ts → AllByRecursion (λ b. position_in s b ≡ None) bs
@@ -94,12 +94,9 @@ entries_made s (t ∷ ts) bs all none =
     ap (λ o. cons_option o (filter_map (position_in s) (map block_of_taken ts ++ bs))) all.0
     ∙ ap (λ qs. t.entry.position ∷ qs) (entries_made s ts bs all.1 none)
 
-pub data_positions : (i : Image) (us : ℕ → List ℕ) (w : World) → IsFollowed i us w → i.shape.capacity ≤ meta_lba
-    → filter_map (position_in i.shape) (data_blocks i.shape (log_of w 0)) ≡ take i.shape.ws_opt (positions_of (waiting i.shape (log_of w 0)))
-data_positions i us w is small =
-    let s : Shape = i.shape in
-    let log : List Logged = log_of w 0 in
-    let all : AllByRecursion (Bears s) (takes log) = all_bear i us w is in
+pub positions_by : (s : Shape) (log : List Logged) → AllByRecursion (Bears s) (takes log) → s.capacity ≤ meta_lba
+    → filter_map (position_in s) (data_blocks s log) ≡ take s.ws_opt (positions_of (waiting s log))
+positions_by s log all small =
     let ts : List Taken = take s.ws_opt (waiting s log) in
     entries_made s ts (replicate (s.ws_opt - length (map block_of_taken ts)) (pad_block s))
     (all_taken (Bears s) s.ws_opt (waiting s log)
@@ -108,6 +105,10 @@ data_positions i us w is small =
     (all_filter (Bears s) (λ t. not (was_placed s log t)) (takes log) all)))
     (pads_none s (s.ws_opt - length (map block_of_taken ts)) small)
     ∙ positions_taken s.ws_opt (waiting s log)
+
+pub data_positions : (i : Image) (us : ℕ → List ℕ) (w : World) → IsFollowed i us w → i.shape.capacity ≤ meta_lba
+    → filter_map (position_in i.shape) (data_blocks i.shape (log_of w 0)) ≡ take i.shape.ws_opt (positions_of (waiting i.shape (log_of w 0)))
+data_positions i us w is small = positions_by i.shape (log_of w 0) (all_bear i us w is) small
 
 pub no_pad_positions : (s : Shape) (n : ℕ) → s.capacity ≤ meta_lba → filter_map (position_in s) (replicate n (pad_block s)) ≡ []
 no_pad_positions s n small = none_made (position_in s) (replicate n (pad_block s)) (pads_none s n small)

@@ -19,7 +19,7 @@ use Rattle.prefix_law.proofs.Among.{of_both}
 abbrev pub IsOfTaken : Shape → List Taken → Block → Type 0
 IsOfTaken s ts b = (b ≡ pad_block s) ⊎ ((k : ℕ) × (t : Taken) × (slice_get ts k ≡ Some t) × (b ≡ block_of_taken t))
 
-waiting_taken : (s : Shape) (log : List Logged) (k : ℕ) (t : Taken) → slice_get (waiting s log) k ≡ Some t → IsAmong (takes log) t
+pub waiting_taken : (s : Shape) (log : List Logged) (k : ℕ) (t : Taken) → slice_get (waiting s log) k ≡ Some t → IsAmong (takes log) t
 waiting_taken s log k t there =
     elim (of_both (filter (λ u. waits s log u && was_placed s log u) (takes log)) (filter (λ u. not (was_placed s log u)) (takes log)) t (k, there)) [
       | inl at ↦ from_filter (λ u. waits s log u && was_placed s log u) (takes log) t at

@@ -62,3 +62,4 @@ pub mod LandedChunk
 pub mod LandedKinds
 pub mod StandsLemmas
 pub mod SimpleLogs
+pub mod StoppedStripe

@@ -71,7 +71,7 @@ pub record IsOfferedNow (i : Image) (w : World) (pad : ℕ) (o : Opening) (of : 
   pub may : (stripe : Stripe) → IsStripeFor i (log_of w) o of stripe → MayPlace i (log_of w) stripe
   pub its : (stripe : Stripe) → IsStripeFor i (log_of w) o of stripe → IsStripeOf i (log_of w) pad o stripe of
 
-in_part : (s : Shape) (o : Opening) (k c d : ℕ) (kind : StripeKind) → c * s.ws_opt ≡ start_len s → (c + d) * s.ws_opt ≡ end_address s o → IsPart k c d kind
+pub in_part : (s : Shape) (o : Opening) (k c d : ℕ) (kind : StripeKind) → c * s.ws_opt ≡ start_len s → (c + d) * s.ws_opt ≡ end_address s o → IsPart k c d kind
     → IsInPart s o (k * s.ws_opt) kind
 unfolding IsPart
 in_part s o k c d kinds.Start a b part = ends_before s.ws_opt k c (start_len s) a part

@@ -241,11 +241,11 @@ end_within i w o of pad slot simple now is =
 
 -- ---- the blocks of the stripe
 
-start_of_line : (s : Shape) (log : List Logged) (o : Opening) (r : Records) (shape : Shape) (a : ℕ) → AreOf s log o r → shape ≡ s
+pub start_of_line : (s : Shape) (log : List Logged) (o : Opening) (r : Records) (shape : Shape) (a : ℕ) → AreOf s log o r → shape ≡ s
     → stripe_at shape (blocks_at_start r) 0 a ≡ stripe_at s (start_blocks s o) 0 a
 start_of_line s log o r shape a of same = λ j. stripe_at (same j) (record_blocks (of.shape j) (of.seq j) (start_len (of.shape j)) (of.start j)) 0 a
 
-end_of_line : (s : Shape) (log : List Logged) (o : Opening) (r : Records) (shape : Shape) (a : ℕ) → AreOf s log o r → shape ≡ s
+pub end_of_line : (s : Shape) (log : List Logged) (o : Opening) (r : Records) (shape : Shape) (a : ℕ) → AreOf s log o r → shape ≡ s
     → stripe_at shape (blocks_at_end r) (end_begins r) a ≡ stripe_at s (end_blocks s log o) (end_address s o) a
 end_of_line s log o r shape a of same = λ j. stripe_at (same j)
     (record_blocks (of.shape j) (of.seq j) (end_len (of.shape j) (of.width j))

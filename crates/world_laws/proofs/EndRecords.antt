@@ -121,7 +121,7 @@ module _ (i : Image) (w : World) (mount : IsLegalMount i w) (o : Opening) (is_op
 
   -- ---- data that were placed by a length of the log
 
-  marks_then : (n : ℕ) → ends / i.shape.ws_opt ≤ length (stripes_of (take n (log_of w 0)) o)
+  pub marks_then : (n : ℕ) → ends / i.shape.ws_opt ≤ length (stripes_of (take n (log_of w 0)) o)
       → data_marks i.shape (take n (log_of w 0)) o ≡ data_marks i.shape (log_of w 0) o
   marks_then n enough =
       let split : IsSplit log o n = stripes_split log o n in
