@@ -296,11 +296,11 @@ data_stripe_is i w c o of shape simple st now kind same =
     ∙ waiting_blocks i w c i.shape.ws_opt simple st))
 
 -- a stripe that was begun, filled with entries and padded
-pub padded_is : (of : Program) (shape : Shape) (blocks : List Block) (begun filled padded : Filling)
-    → begun ≡ record { shape = shape; stripe = empty_stripe of.line of.unit of.block } → filled ≡ followed_by begun blocks
+pub padded_is : (of : Program) (shape : Shape) (again : Bool) (blocks : List Block) (begun filled padded : Filling)
+    → begun ≡ record { shape = shape; stripe = empty_stripe of.line of.unit of.block; again = again } → filled ≡ followed_by begun blocks
     → padded ≡ followed_by filled (replicate (filled.shape.ws_opt - length filled.stripe.blocks) (pad_block filled.shape))
     → padded.stripe ≡ stripe_of of (padded_to_stripe shape blocks)
-padded_is of shape blocks begun filled padded a b d =
+padded_is of shape again blocks begun filled padded a b d =
     ap (λ (f : Filling). f.stripe) d
     ∙ ap (λ (f : Filling). (followed_by f (replicate (f.shape.ws_opt - length f.stripe.blocks) (pad_block f.shape))).stripe) b
     ∙ ap (λ (f : Filling). (followed_by (followed_by f blocks) (replicate (f.shape.ws_opt - length (f.stripe.blocks ++ blocks)) (pad_block f.shape))).stripe) a

@@ -1,13 +1,14 @@
 -- A stripe that is being filled.
-use Rattle.std.specs.Prelude.{ℕ, List, [], ◌++◌}
+use Rattle.std.specs.Prelude.{ℕ, Bool, List, [], ◌++◌}
 use Rattle.pblk_model.specs.declared.shape.Shape.{Shape}
 use Rattle.pblk_model.specs.Chunk.{Block}
 use Rattle.pblk_world.specs.Events.{Stripe}
 
--- a stripe, with the shape of its drive
+-- A stripe, with the shape of its drive. It may have been placed before: then its program was stopped, and is made again.
 pub record Filling : Type 0 where
   pub shape : Shape
   pub stripe : Stripe
+  pub again : Bool
 
 -- a stripe of a line on a unit, from a block of the chunk on, without blocks
 abbrev pub empty_stripe : ℕ → ℕ → ℕ → Stripe
@@ -24,4 +25,5 @@ followed_by f blocks = record {
     at = f.stripe.at;
     blocks = f.stripe.blocks ++ blocks;
   };
+  again = f.again;
 }

@@ -15,6 +15,7 @@ filling a = record {
     at = a.at;
     blocks = blocks_of a.shape.sector a.bytes.items a.marks.items;
   };
+  again = a.again;
 }
 
 pub record IsFilling (a : Inside) : Type 0 where

@@ -1,6 +1,6 @@
 //! Stripes on their way to a unit.
 
-ghost use Rattle.std.specs.Prelude.{◌≡◌, ◌+◌, ◌-◌, ◌*◌, ◌<◌, ◌≤◌, [], ◌∷◌, ◌++◌, length, replicate, vec_len, vec_capacity, IfOk};
+ghost use Rattle.std.specs.Prelude.{false, ◌≡◌, ◌+◌, ◌-◌, ◌*◌, ◌<◌, ◌≤◌, [], ◌∷◌, ◌++◌, length, replicate, vec_len, vec_capacity, IfOk};
 ghost use Rattle.pblk_model.specs.Accepted.{IsAccepted};
 ghost use Rattle.pblk_model.specs.Blocks.{blocks_of};
 ghost use Rattle.pblk_model.specs.Marks.{pad_block};
@@ -14,13 +14,17 @@ use std::marker::Model;
 /// SSD Specification 2.0, Vector write; Bjørling, González, Bonnet, FAST 2017, write buffering).
 ///
 /// All its memory is taken when it is made, and it is filled again for each program. A stripe of a line lies
-/// in the chunk of the line's number. Contracts see the drive's shape and the stripe.
+/// in the chunk of the line's number. It tells whether it was placed before: a stripe whose program was stopped
+/// keeps its place and is programmed again (this project's rule "Stopped stripe" in docs/TARGET.md). Contracts
+/// see the drive's shape, the stripe, and whether it was placed before.
 #[derive(Debug, Drop)]
 pub struct Stripe {
     shape: Shape,
     line: u32,
     unit: u32,
     at: u32,
+    // whether it was placed before, and its program was stopped
+    again: bool,
     bytes: Vec<u8>,
     marks: Vec<Mark>,
 }
@@ -43,7 +47,8 @@ impl Stripe {
     /// It has room for WS_OPT sectors with their marks. An error only for want of memory.
     pub fn new(alloc: Global, shape: &Shape) -> Result<Stripe, AllocError>
         requires { IsAccepted shape.now }
-        ensures { IfOk result (λ s. s ≡ record { shape = shape.now; stripe = empty_stripe 0 0 0 }) }
+        ensures { IfOk result (λ s. s
+            ≡ record { shape = shape.now; stripe = empty_stripe 0 0 0; again = false }) }
     {
         let blocks = shape.ws_opt as usize;
         let bytes = Vec::with_capacity(alloc, blocks * shape.sector as usize)?;
@@ -53,18 +58,22 @@ impl Stripe {
             line: 0,
             unit: 0,
             at: 0,
+            again: false,
             bytes,
             marks,
         })
     }
 
     /// Begins a stripe of a line on a unit, from the block `at` of the line's chunk on. It has no blocks yet.
-    pub fn begin(&mut self, line: u32, unit: u32, at: u32)
-        ensures { self.new ≡ record { shape = self.old.shape; stripe = empty_stripe line unit at } }
+    /// `again` says whether it was placed before.
+    pub fn begin(&mut self, line: u32, unit: u32, at: u32, again: bool)
+        ensures { let stripe = empty_stripe line unit at
+            in self.new ≡ record { shape = self.old.shape; stripe = stripe; again = again } }
     {
         self.line = line;
         self.unit = unit;
         self.at = at;
+        self.again = again;
         self.bytes.clear();
         self.marks.clear();
     }
@@ -123,6 +132,14 @@ impl Stripe {
         ensures { result ≡ self.now.stripe.at }
     {
         self.at
+    }
+
+    /// Whether it was placed before, and its program was stopped. Then no second `Place` of it comes into the
+    /// engine's log.
+    pub fn is_again(&self) -> bool
+        ensures { result ≡ self.now.again }
+    {
+        self.again
     }
 
     /// The blocks as a program takes them: their sectors one after another, and their marks.

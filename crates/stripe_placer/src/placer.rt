@@ -4,7 +4,7 @@ ghost use Rattle.std.specs.Prelude.{ℕ, ◌≡◌, ◌≢◌, ◌↔◌, ◌<�
 ghost use Rattle.std.specs.Prelude.{[], ◌∷◌, ◌++◌, Some, None, IfSome, IsNone, IfOk};
 ghost use Rattle.std.specs.Prelude.{vec_len, vec_capacity, slice_get};
 ghost use Rattle.std.specs.List.{All, Contains, HoldsAt, filter};
-ghost use Rattle.std.specs.Option.{option_map, option_and_then};
+ghost use Rattle.std.specs.Option.{option_map, option_map_or, option_and_then};
 ghost use Rattle.pblk_model.specs.Shape.{units};
 ghost use Rattle.pblk_model.specs.LineOrder.{data_len};
 ghost use Rattle.pblk_layout.specs.Live.{units_in};
@@ -12,7 +12,7 @@ ghost use Rattle.stripe_placer.specs.Entries.{Rises};
 ghost use Rattle.stripe_placer.specs.OpenLines.{OpenLine, next_of, in_one_chunk, in_line, has_left};
 ghost use Rattle.stripe_placer.specs.OpenLines.Stripe.{Unanswered, Landed, Lost};
 ghost use Rattle.stripe_placer.specs.Placing.{nothing_placed, held, waits, padded_to, begun};
-ghost use Rattle.stripe_placer.specs.Placing.{UnitRow, program, next_stripe, under_way_in, positions_in, IsNext, IsUnderWay};
+ghost use Rattle.stripe_placer.specs.Placing.{UnitRow, program, next_stripe, under_way_in, positions_in, IsNext, IsForUnit, IsUnderWay, is_stopped};
 ghost use Rattle.stripe_placer.specs.Placing.{placed, landed, lost, stopped};
 ghost use Rattle.stripe_placer.specs.Inside.{IsAmongLines, IsUnanswered, AreApart};
 
@@ -199,6 +199,7 @@ impl Placer {
         ensures none { IsNone result ↔ (next_stripe self.now busy ≡ None) }
         ensures placeable { IfSome result (λ of. IsNext self.now (program self.now of)) }
         ensures unit { IfSome result (λ of. of.unit < units self.now.shape) }
+        ensures turn { IfSome result (λ of. IsForUnit self.now (program self.now of)) }
 
         // Entries are placed in the order of their positions, those that were lost first.
         ensures lost_rise { Rises self.now.entries.lost }
@@ -218,6 +219,14 @@ impl Placer {
             ≡ option_and_then under_way_in (slice_get self.now.units unit) }
     {
         self.units[unit as usize].under_way()
+    }
+
+    /// Whether the program of the stripe that a unit of the drive has was stopped, and isn't under way again.
+    pub fn is_stopped(&self, unit: u32) -> bool
+        requires { unit < units self.now.shape }
+        ensures { result ≡ option_map_or is_stopped (slice_get self.now.units unit) false }
+    {
+        self.units[unit as usize].is_stopped()
     }
 
     /// The positions of the entries of the stripe that a unit of the drive has, in their order: of one whose

@@ -1,12 +1,14 @@
-use Rattle.std.proofs.Common.{ℕ, ◌↔◌, ◌<◌, ◌≡◌, Option, Some, None, List, refl, sym, ap, subst, ◌∙◌, arith}
-use Rattle.std.specs.List.{filter_map}
+use Rattle.std.proofs.Common.{ℕ, ◌↔◌, ◌<◌, ◌≡◌, ◌⊎◌, inl, inr, Option, Some, None, List, refl, sym, ap, subst, ◌∙◌, arith}
+use Rattle.std.specs.List.{filter_map, slice_get}
 use Rattle.std.specs.Option.{option_map, IsNone, IfSome}
 use Rattle.stripe_placer.specs.Entries.{Rises}
 use Rattle.stripe_placer.specs.OpenLines.{OpenLine}
-use Rattle.stripe_placer.specs.Placing.{Program, placement, program, Placing, UnitRow, stopped_in, is_ready, next_in, next_stripe, IsNext}
+use Rattle.stripe_placer.specs.Placing.{Program, placement, program, Placing, UnitRow, stopped_in, is_ready, next_in, next_stripe, IsNext, IsForUnit}
+use Rattle.stripe_placer.specs.Placing.UnitRow.{Stopped}
+use Rattle.stripe_placer.proofs.Named.{IsNew}
 use Rattle.stripe_placer.specs.Inside.{OwnUnits, IsAmongLines, FitsShape, IsPlacer, first_given, placing}
 use Rattle.stripe_placer.proofs.Rows.{find_first, find_second, named_by, none_named}
-use Rattle.stripe_placer.proofs.Placers.{rows_in, next_within, next_back}
+use Rattle.stripe_placer.proofs.Placers.{rows_in, next_known, next_within, next_back}
 use Rattle.pblk_model.specs.Shape.{units}
 use Rattle.stripe_placer.specs.declared.placement.Placement.{Placement}
 use Rattle.stripe_placer.specs.declared.placer.Placer.TheInside.{Inside}
@@ -25,13 +27,19 @@ record Told (v : Placing) (busy : ℕ) (r : Option Placement) : Type 0 where
   none : IsNone r ↔ (next_stripe v busy ≡ None)
   placeable : IfSome r (λ of. IsNext v (program v of))
   unit : IfSome r (λ of. of.unit < units v.shape)
+  turn : IfSome r (λ of. IsForUnit v (program v of))
 
 some_none : (of : Program) → ◌≡◌ {A = Option Program} (Some of) None → ⊥
 some_none of e = absurd cc
 
+for_unit : (p : Inside) (of : Program)
+    → (slice_get (rows_in p) of.unit ≡ Some (Stopped of)) ⊎ IsNew p.layout p.queue.entries (rows_in p) p.slots.items of → IsForUnit (placing p) of
+for_unit p of (inl stops) = inr stops
+for_unit p of (inr new) = inl new.row
+
 told_by : (p : Inside) (v : Placing) (busy : ℕ) (o : Option Program) → IsPlacer p → placing p ≡ v → next_stripe v busy ≡ o
     → Told v busy (option_map placement o)
-told_by p v busy None is same next = record { next = sym next; none = ((λ _. next), (λ _. refl)); placeable = tt; unit = tt }
+told_by p v busy None is same next = record { next = sym next; none = ((λ _. next), (λ _. refl)); placeable = tt; unit = tt; turn = tt }
 told_by p v busy (Some q) is same next =
     let named : IsNext v q = (busy, next) in
     let back : program v (placement q) ≡ q = next_back p v q is same named in
@@ -41,6 +49,7 @@ told_by p v busy (Some q) is same next =
       none = ((λ h. absurd cc), (λ h. absurd (some_none q (sym next ∙ h))));
       placeable = subst (IsNext v) (sym back) named;
       unit = subst (λ (w : Placing). q.unit < units w.shape) same inside;
+      turn = subst (IsForUnit v) (sym back) (subst (λ (w : Placing). IsForUnit w q) same (for_unit p q (next_known p v q is same named)));
     }
 
 told : (p : Inside) (v : Placing) (r : Option Placement) (busy : ℕ) → IsPlacer p → placing p ≡ v → r ≡ option_map placement (next_stripe v busy) → Told v busy r
@@ -68,6 +77,7 @@ returns-in-Some c =
       none = t.none;
       placeable = t.placeable;
       unit = t.unit;
+      turn = t.turn;
       lost_rise = subst (λ (v : Placing). Rises v.entries.lost) c.self.view_is order.lost;
       fresh_rise = subst (λ (v : Placing). Rises v.entries.fresh) c.self.view_is order.fresh;
     }
@@ -95,6 +105,7 @@ returns-in-None c =
       none = t.none;
       placeable = t.placeable;
       unit = t.unit;
+      turn = t.turn;
       lost_rise = subst (λ (v : Placing). Rises v.entries.lost) c.self.view_is order.lost;
       fresh_rise = subst (λ (v : Placing). Rises v.entries.fresh) c.self.view_is order.fresh;
     }
