@@ -1,8 +1,11 @@
--- A stripe that is under way, and its entries as they land.
-use Rattle.std.specs.Prelude.{ℕ, ◌≡◌, if◌then◌else◌, List, slice_get, Some}
+-- A stripe that is under way or was stopped, and its entries as they land.
+use Rattle.std.specs.Prelude.{ℕ, ◌≡◌, if◌then◌else◌, true, List, slice_get, Some}
 use Rattle.std.specs.List.{fold}
 use Rattle.stripe_placer.specs.Placing.{Program}
-use Rattle.stripe_placer.specs.Placing.UnitRow.{UnderWay}
+use Rattle.stripe_placer.specs.Placing.UnitRow.{UnderWay, Stopped}
+use Rattle.pblk_world.specs.Events.{Stripe, Logged}
+use Rattle.pblk_world.specs.EngineLog.{Placed}
+use Rattle.core_laws.specs.PlacerOf.{unanswered_on, was_stopped_on}
 use Rattle.write_window.specs.Window.{WindowView, has_landed_at, turned}
 use Rattle.write_window.specs.declared.held.Progress.TheVariants.{Landed}
 use Rattle.pblk_core.specs.declared.target_core.Core.{Core}
@@ -10,6 +13,17 @@ use Rattle.pblk_core.specs.declared.target_core.Core.{Core}
 -- a program is under way on the unit
 abbrev pub IsUnderWayOn : Core → ℕ → Type 0
 IsUnderWayOn c unit = (of : Program) × (slice_get c.placer.units unit ≡ Some (UnderWay of))
+
+-- the program of the unit's stripe was stopped, and is offered again
+abbrev pub IsOfferedOn : Core → ℕ → Type 0
+IsOfferedOn c unit = (of : Program) × (slice_get c.placer.units unit ≡ Some (Stopped of))
+
+-- The stripe was placed before and isn't answered. Its program was stopped since.
+pub record WasStopped (log : List Logged) (stripe : Stripe) : Type 0 where
+  pub placed : Placed
+  pub unanswered : unanswered_on log stripe.unit ≡ Some placed
+  pub same : placed.stripe ≡ stripe
+  pub stopped : was_stopped_on log stripe.unit ≡ true
 
 -- an entry has landed
 abbrev pub one_landed : WindowView → ℕ → WindowView

@@ -1,5 +1,5 @@
 -- What a core names as its next work, by its tables and by the logs.
-use Rattle.std.specs.Prelude.{ℕ, ◌+◌, ◌^◌, ◌==◌, ◌&&◌, not, if◌then◌else◌, nat_lt, Bool, length, position, slice_get, [], Option, Some, None}
+use Rattle.std.specs.Prelude.{ℕ, List, ◌+◌, ◌^◌, ◌==◌, ◌&&◌, not, if◌then◌else◌, nat_lt, Bool, length, position, slice_get, Option, Some, None}
 use Rattle.std.specs.Option.{is_some, unwrap_or, option_map_or}
 use Rattle.std.specs.List.{slice_index_or}
 use Rattle.pblk_model.specs.Image.{Image}
@@ -64,20 +64,20 @@ named c = reset_or (slice_get (resets_left c.resets) 0) (named_beside c)
 abbrev pub pad_of : Core → ℕ
 pad_of c = c.placer.entries.pad
 
--- By the logs, for a pad target.
+-- By the logs, for a pad target and the units whose stopped programs are under way again.
 abbrev pub first_seq_of : Logs → ℕ
 first_seq_of logs = option_map_or (λ (b : Begun). b.beginning.seq) (begun (logs 0)) 0
 
-abbrev pub work_beside : Image → Logs → ℕ → Work
-work_beside i logs pad = choice
-    (is_some (next_stripe (placing_of i logs pad []) 0))
+abbrev pub work_beside : Image → Logs → ℕ → List ℕ → Work
+work_beside i logs pad again = choice
+    (is_some (next_stripe (placing_of i logs pad again) 0))
     (nat_lt 0 (length (waiting i.shape (logs 0))) && (open_addresses i logs == 0))
     (is_some (position is_free (rows_of i logs).rows))
     (nat_lt (length (open_lines i logs)) 2 && (nat_lt (first_seq_of logs + length (openings (logs 0))) (2 ^ 61) && nat_lt (synced i.shape (logs 0)) (2 ^ 61)))
     (nat_lt 0 (under_way i.shape (logs 0)))
 
-abbrev pub work_of : Image → Logs → ℕ → Work
-work_of i logs pad = reset_or (slice_get (resets_of i logs) 0) (work_beside i logs pad)
+abbrev pub work_of : Image → Logs → ℕ → List ℕ → Work
+work_of i logs pad again = reset_or (slice_get (resets_of i logs) 0) (work_beside i logs pad again)
 
 -- The line that is opened next, its units, and its start record.
 abbrev pub next_line : Core → ℕ

@@ -20,7 +20,7 @@ use Rattle.core_laws.specs.PlacerOf.{placing_of, unanswered_on}
 use Rattle.core_laws.specs.RowsOf.{rows_of}
 use Rattle.core_laws.specs.SlotOf.{slot_of}
 use Rattle.core_laws.specs.WindowOf.{is_given_back, sectors_in, window_from}
-use Rattle.core_laws.specs.SimpleMounts.{IsSimpleLog, NoneAgain}
+use Rattle.core_laws.specs.SimpleMounts.{IsSimpleLog}
 use Rattle.world_laws.specs.LegalMounts.{IsLegalMount}
 use Rattle.pblk_core.specs.Holds.{hold_of}
 use Rattle.pblk_core.specs.LineRecords.{AreOf}
@@ -72,7 +72,6 @@ pub record HasFitNumbers (c : Core) : Type 0 where
 
 pub record Stands (i : Image) (logs : Logs) (c : Core) : Type 0 where
   pub simple : IsSimpleLog (logs 0)
-  pub unstopped : NoneAgain (logs 0)
   pub layout : c.layout ≡ i.shape
   pub beginning : Begun
   pub has_begun : begun (logs 0) ≡ Some beginning

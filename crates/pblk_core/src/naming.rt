@@ -3,9 +3,9 @@
 ghost use Rattle.std.specs.Prelude.{ℕ, ◌≡◌, ◌+◌, ◌<◌, ◌^◌};
 ghost use Rattle.pblk_model.specs.Image.{Image};
 ghost use Rattle.pblk_world.specs.World.{World, log_of};
+ghost use Rattle.world_laws.specs.LegalMounts.{IsLegalMount};
 ghost use Rattle.pblk_core.specs.Named.{named, named_beside, pad_of, work_of, may_open, why};
 ghost use Rattle.pblk_core.specs.Resets.{IsToReset};
-ghost use Rattle.pblk_core.specs.Mounts.{InItsMount};
 ghost use Rattle.pblk_core.specs.Stands.{Stands, IsStanding};
 ghost use Rattle.pblk_core.specs.declared.work.Work.TheVariants as works;
 
@@ -18,15 +18,17 @@ impl Core {
     ///
     /// - the reset of a used chunk of a line that was given up: of the least such line, and there of the least
     ///   unit, whether or not that unit has a command in flight;
-    /// - a program;
+    /// - a program: of a stripe whose program was stopped before any other (this project's rule "Stopped stripe"
+    ///   in docs/TARGET.md);
     /// - the opening of a line, where an entry waits for an address and another line may be opened.
     ///
     /// Else nothing, with the reason.
     pub fn next_work(&self) -> Work
         requires { IsStanding self.now }
         ensures named { result ≡ named self.now }
-        ensures work { InItsMount self.now (λ i w.
-            result ≡ work_of i (log_of w) (pad_of self.now)) }
+        ensures work { (i : Image) (w : World) → IsLegalMount i w
+            → (stands : Stands i (log_of w) self.now)
+            → result ≡ work_of i (log_of w) (pad_of self.now) stands.again }
         ensures reset { (i : Image) (w : World) (line unit : ℕ) → Stands i (log_of w) self.now
             → result ≡ works.Reset line unit → IsToReset i (log_of w) line unit }
     {

@@ -1,16 +1,18 @@
-//! Stripes that a core places, and stripes that have landed.
+//! Stripes that a core places, stripes that have landed, and those whose programs were stopped.
 
-ghost use Rattle.std.specs.Prelude.{ℕ, ◌≡◌, ◌+◌, ◌-◌, ◌≤◌, ◌==◌, if◌then◌else◌, List, length, Some, slice_get};
+ghost use Rattle.std.specs.Prelude.{ℕ, true, false, ◌≡◌, ◌+◌, ◌-◌, ◌≤◌, ◌==◌, if◌then◌else◌, List, length, Some, slice_get};
 ghost use Rattle.pblk_model.specs.Frames.{Region};
 ghost use Rattle.pblk_model.specs.Image.{Image};
-ghost use Rattle.pblk_world.specs.Answering.{MayLand};
-ghost use Rattle.pblk_world.specs.Events.{Place, Landed};
+ghost use Rattle.pblk_world.specs.Answering.{MayLand, MayOfferAgain};
+ghost use Rattle.pblk_world.specs.Events.{Again, Place, Landed};
 ghost use Rattle.pblk_world.specs.Placing.{MayPlace};
 ghost use Rattle.pblk_world.specs.World.{World, log_of};
 ghost use Rattle.write_window.specs.Window as view;
 ghost use Rattle.world_laws.specs.LegalMounts.{IsLegalMount};
 ghost use Rattle.core_laws.specs.Stepping.{after};
-ghost use Rattle.pblk_core.specs.Landing.{IsUnderWayOn, all_landed};
+ghost use Rattle.stripe_placer.specs.Placing.{program, next_stripe};
+ghost use Rattle.stripe_placer.specs.Placing.UnitRow.{Idle, Stopped};
+ghost use Rattle.pblk_core.specs.Landing.{IsOfferedOn, IsUnderWayOn, WasStopped, all_landed};
 ghost use Rattle.pblk_core.specs.Named.{named, pad_of};
 ghost use Rattle.pblk_core.specs.Mounts.{InItsMount, StandsAfter};
 ghost use Rattle.pblk_core.specs.Stands.{Stands, IsStanding};
@@ -22,18 +24,26 @@ use crate::stripe::Stripe;
 use crate::target_core::Core;
 use line_table::LineState;
 use pblk_model::Shape;
-use stripe_placer::StripeKind;
+use stripe_placer::{Placement, StripeKind};
 use write_window::Window;
 
 impl Core {
     /// Places the next stripe, and fills `into` with it. `next_work` names it, and `into` is a stripe of the
     /// same drive.
+    ///
+    /// A stripe whose program was stopped comes before all others. It keeps its place: `into` is then the stripe
+    /// as it was placed, and says that it was placed before (this project's rule "Stopped stripe" in
+    /// docs/TARGET.md).
     pub fn place(&mut self, into: &mut Stripe)
         requires standing { IsStanding self.old }
         requires named { named self.old ≡ works.Program }
         requires shape { into.old.shape ≡ self.old.layout }
-        ensures legal { InItsMount self.old (λ i w. MayPlace i (log_of w) into.new.stripe) }
-        ensures stands { StandsAfter self.old (Place into.new.stripe) self.new }
+        ensures legal { into.new.again ≡ false
+            → InItsMount self.old (λ i w. MayPlace i (log_of w) into.new.stripe) }
+        ensures stands { into.new.again ≡ false
+            → StandsAfter self.old (Place into.new.stripe) self.new }
+        ensures again { into.new.again ≡ true → InItsMount self.old (λ i w.
+            WasStopped (log_of w 0) into.new.stripe × Stands i (log_of w) self.new) }
         ensures window { self.new.window ≡ self.old.window }
         ensures pad { pad_of self.new ≡ pad_of self.old }
         ensures under_way { IsUnderWayOn self.new into.new.stripe.unit }
@@ -43,8 +53,29 @@ impl Core {
             Some(of) => of,
             None => unreachable!(),
         };
-        self.placer.placed(&of);
-        into.begin(of.line, of.unit, of.block);
+        if self.placer.is_stopped(of.unit) {
+            self.place_again(&of, into);
+        } else {
+            self.place_new(&of, into);
+        }
+    }
+
+    // Places a new stripe, which the placer offers, and fills `into` with it.
+    fn place_new(&mut self, of: &Placement, into: &mut Stripe)
+        requires standing { IsStanding self.old }
+        requires next { Some (program self.old.placer of.now) ≡ next_stripe self.old.placer 0 }
+        requires idle { slice_get self.old.placer.units of.now.unit ≡ Some Idle }
+        requires shape { into.old.shape ≡ self.old.layout }
+        ensures first { into.new.again ≡ false }
+        ensures legal { InItsMount self.old (λ i w. MayPlace i (log_of w) into.new.stripe) }
+        ensures stands { StandsAfter self.old (Place into.new.stripe) self.new }
+        ensures window { self.new.window ≡ self.old.window }
+        ensures pad { pad_of self.new ≡ pad_of self.old }
+        ensures under_way { IsUnderWayOn self.new into.new.stripe.unit }
+        ensures shape { into.new.shape ≡ into.old.shape }
+    {
+        self.placer.placed(of);
+        into.begin(of.line, of.unit, of.block, false);
         let index = self.open.find(of.line);
         match of.kind {
             StripeKind::Start => self.open.start_stripe(index, of.at, into),
@@ -63,6 +94,37 @@ impl Core {
             StripeKind::End => self.open.end_stripe(index, of.at, into),
         }
         self.under_way += 1;
+    }
+
+    // Fills `into` with the stripe of a unit whose program was stopped, and has that program under way again.
+    // The placer offers it.
+    fn place_again(&mut self, of: &Placement, into: &mut Stripe)
+        requires standing { IsStanding self.old }
+        requires next { Some (program self.old.placer of.now) ≡ next_stripe self.old.placer 0 }
+        requires stopped { slice_get self.old.placer.units of.now.unit
+            ≡ Some (Stopped (program self.old.placer of.now)) }
+        requires shape { into.old.shape ≡ self.old.layout }
+        ensures again { into.new.again ≡ true }
+        ensures stripe { InItsMount self.old (λ i w. WasStopped (log_of w 0) into.new.stripe) }
+        ensures stands { InItsMount self.old (λ i w. Stands i (log_of w) self.new) }
+        ensures window { self.new.window ≡ self.old.window }
+        ensures pad { pad_of self.new ≡ pad_of self.old }
+        ensures under_way { IsUnderWayOn self.new into.new.stripe.unit }
+        ensures shape { into.new.shape ≡ into.old.shape }
+    {
+        self.placer.placed(of);
+        into.begin(of.line, of.unit, of.block, true);
+        let index = self.open.find(of.line);
+        match of.kind {
+            StripeKind::Start => self.open.start_stripe(index, of.at, into),
+            StripeKind::Data => {
+                let positions = self.placer.positions(of.unit);
+                fill(&self.window, &self.holds, positions, into);
+                into.pad();
+            }
+            StripeKind::Pad => into.pad(),
+            StripeKind::End => self.open.end_stripe(index, of.at, into),
+        }
     }
 
     /// Notes that all blocks of a placed stripe have landed. The stripe hasn't been answered before.
@@ -104,6 +166,26 @@ impl Core {
             self.lines.turn(of.line, LineState::Full, width);
             self.open.remove(index);
         }
+    }
+
+    /// Notes that the program of a placed stripe was stopped. The stripe hasn't been answered before. It stays
+    /// placed, and is offered again before all others (this project's rule "Stopped stripe" in docs/TARGET.md).
+    pub fn stopped(&mut self, stripe: &Stripe)
+        requires standing { IsStanding self.old }
+        requires under_way { IsUnderWayOn self.old stripe.now.stripe.unit }
+        ensures stands { (i : Image) (w : World) (event : ℕ) (knows : List ℕ) → IsLegalMount i w
+            → Stands i (log_of w) self.old
+            → MayOfferAgain (log_of w) stripe.now.stripe.unit event
+            → Stands i (after (log_of w) (Again stripe.now.stripe.unit event) knows) self.new }
+        ensures offered { IsOfferedOn self.new stripe.now.stripe.unit }
+        ensures window { self.new.window ≡ self.old.window }
+        ensures pad { pad_of self.new ≡ pad_of self.old }
+    {
+        let of = match self.placer.under_way(stripe.unit()) {
+            Some(of) => of,
+            None => unreachable!(),
+        };
+        self.placer.stopped(&of);
     }
 }
 
