@@ -1,5 +1,5 @@
 -- A program under way in a core's placer, by the logs: its stripe, and which one of its line it is.
-use Rattle.std.proofs.Common.{◌≡◌, ℕ, ◌+◌, ◌-◌, ◌*◌, ◌/◌, ◌%◌, ◌<◌, ◌≤◌, ◌==◌, ◌&&◌, Bool, true, Some, None, Option, List, [], length, replicate, refl, sym, subst, ap, ap₂, ◌∙◌, arith, zero-add}
+use Rattle.std.proofs.Common.{◌≡◌, ℕ, ◌+◌, ◌-◌, ◌*◌, ◌/◌, ◌%◌, ◌<◌, ◌≤◌, ◌==◌, ◌&&◌, not, Bool, true, Some, None, Option, List, [], length, replicate, refl, sym, subst, ap, ap₂, ◌∙◌, arith, zero-add}
 use Rattle.std.specs.Prelude.{slice_get, map}
 use Rattle.std.specs.List.{list_any, range_with_len, slice_index_or}
 use Rattle.std.specs.Option.{option_map, option_map_or, unwrap_or}
@@ -20,11 +20,11 @@ use Rattle.stripe_placer.specs.Inside.{IsUnanswered}
 use Rattle.stripe_placer.specs.OpenLines.{OpenLine, opened, width, unit_of, numbers, has_left, is_to_place, is_unanswered}
 use Rattle.stripe_placer.specs.OpenLines.Stripe.{Unplaced, Unanswered}
 use Rattle.stripe_placer.specs.Placing.{Program}
-use Rattle.stripe_placer.specs.Placing.UnitRow.{Idle, UnderWay}
+use Rattle.stripe_placer.specs.Placing.UnitRow.{Idle, UnderWay, Stopped}
 use Rattle.core_laws.specs.OpenedLines.{as_opened, by_answer, is_stripe_at, outcome, open_line, open_lines, standing}
-use Rattle.core_laws.specs.PlacerOf.{IsAwaited, number_of, placing_of, program_of_placed, row_in, row_of, unanswered_on, waits_again}
+use Rattle.core_laws.specs.PlacerOf.{IsAwaited, number_of, placing_of, program_of_placed, row_in, row_of, contains_unit, unanswered_on, waits_again, was_stopped_on}
 use Rattle.core_laws.specs.SimpleMounts.{IsSimpleMount}
-use Rattle.core_laws.proofs.UnitRows.{under_way_is}
+use Rattle.core_laws.proofs.UnitRows.{under_way_is, stopped_is}
 use Rattle.core_laws.proofs.StripesByPlace.{at_its_place, find_only, not_at}
 use Rattle.core_laws.proofs.Answered.{first_unanswered}
 use Rattle.core_laws.proofs.LandedStripe.{one_more}
@@ -73,6 +73,30 @@ of_row i logs pad again unit of there =
     let simple : 0 + unit ≡ unit = zero-add unit in
     let its = of_stripe i logs (waits_again (logs 0) again unit) (unanswered_on (logs 0) unit) of (ap (row_of i logs again) (sym simple) ∙ row.1) in
     record { inside = row.0; stripe = its.0; opening = its.1; waits = its.2; life = its.3; is = its.4 }
+
+-- of a unit whose program was stopped
+of_stop : (i : Image) (logs : Logs) (stopped : Bool) (x : Option Placed) (of : Program)
+    → option_map_or (λ (p : Placed). row_in i logs stopped p.life p) x Idle ≡ Stopped of
+    → (p : Placed) × (o : Opening) × (x ≡ Some p) × (p.life ≡ Opened o) × (program_of_placed i logs o p ≡ of) × (stopped ≡ true)
+of_stop i logs stopped None of e = absurd cc
+of_stop i logs stopped (Some p) of e = go p.life refl e
+  where
+    go : (life : LineLife) → p.life ≡ life → row_in i logs stopped life p ≡ Stopped of
+        → (q : Placed) × (o : Opening) × (Some p ≡ Some q) × (q.life ≡ Opened o) × (program_of_placed i logs o q ≡ of) × (stopped ≡ true)
+    go AsFound is e = absurd cc
+    go (Opened o) is e = let same = stopped_is stopped (program_of_placed i logs o p) of e in (p, o, refl, is, same.1, same.0)
+    go (Freed past knows) is e = absurd cc
+
+pub of_stopped_row : (i : Image) (logs : Logs) (pad : ℕ) (again : List ℕ) (unit : ℕ) (of : Program)
+    → slice_get (placing_of i logs pad again).units unit ≡ Some (Stopped of) → IsOfRow i logs unit of × (was_stopped_on (logs 0) unit ≡ true)
+of_stopped_row i logs pad again unit of there =
+    let row : (unit < units i.shape) × (row_of i logs again (0 + unit) ≡ Stopped of) =
+    row_at (row_of i logs again) (units i.shape) 0 unit (Stopped of) there in
+    let simple : 0 + unit ≡ unit = zero-add unit in
+    let its = of_stop i logs (waits_again (logs 0) again unit) (unanswered_on (logs 0) unit) of (ap (row_of i logs again) (sym simple) ∙ row.1) in (
+      record { inside = row.0; stripe = its.0; opening = its.1; waits = its.2; life = its.3; is = its.4 },
+      first_of (was_stopped_on (logs 0) unit) (not (contains_unit again unit)) its.5,
+    )
 
 -- ---- its number in its line
 

@@ -17,14 +17,14 @@ use Rattle.pblk_model.specs.Marks.{pad_block}
 use Rattle.pblk_model.specs.Shape.{units}
 use Rattle.pblk_world.specs.Events.{Stripe, Place, Logged}
 use Rattle.pblk_world.specs.World.{World, log_of}
-use Rattle.pblk_world.specs.EngineLog.{Taken, takes, Opening}
+use Rattle.pblk_world.specs.EngineLog.{Taken, takes, Opened, Opening, life_of}
 use Rattle.pblk_world.specs.Fronts.{taken, waiting}
-use Rattle.pblk_world.specs.Placing.{IsData, next_address, end_address, data_marks, stripe_at, record_blocks, start_blocks, end_blocks}
+use Rattle.pblk_world.specs.Placing.{IsData, next_address, end_address, line_end, data_marks, stripe_at, record_blocks, start_blocks, end_blocks}
 use Rattle.pblk_world.specs.Space.{open_addresses, placed_front}
 use Rattle.stripe_placer.specs.declared.placement.StripeKind.{StripeKind}
 use Rattle.stripe_placer.specs.declared.placement.StripeKind.TheVariants as kinds
 use Rattle.stripe_placer.specs.Placing.{Program, Placing, UnitRow, positions_in, next_stripe, placed}
-use Rattle.stripe_placer.specs.Placing.UnitRow.{UnderWay}
+use Rattle.stripe_placer.specs.Placing.UnitRow.{Idle, UnderWay}
 use Rattle.stripe_placer.proofs.PlacingLemmas.{placed_has}
 use Rattle.stripe_placer.proofs.Rows.{get_map as get_mapped}
 use Rattle.line_table.specs.declared.row.Row.{Row}
@@ -38,7 +38,7 @@ use Rattle.pblk_model.specs.EndRecord.{end_bytes}
 use Rattle.core_laws.specs.RowsOf.{row_of_line}
 use Rattle.core_laws.proofs.StripeBlocks.{HaveBlocks, have_blocks, marks_counted, marks_whole}
 use Rattle.core_laws.specs.StripeFor.{IsStripeFor, blocks_for, positions_for}
-use Rattle.pblk_core.proofs.SimpleLogs.{its_rows}
+use Rattle.pblk_core.proofs.SimpleLogs.{its_row}
 use Rattle.pblk_core.specs.Entries.{entry_blocks, placed_lines, placed_rows}
 use Rattle.pblk_core.specs.Filling.{Filling, followed_by, empty_stripe}
 use Rattle.pblk_core.specs.LineRecords.{Records, AreOf, blocks_at_start, blocks_at_end, end_begins}
@@ -58,9 +58,9 @@ use Rattle.lemmas.proofs.Parts.{all_at, get_whole, got_within}
 -- ---- the program
 
 pub offer : (i : Image) (w : World) (c : Core) (of : Program) → IsSimpleMount i w → Stands i (log_of w) c → Some of ≡ next_stripe c.placer 0
-    → (o : Opening) × IsOfferedNow i w c.placer.entries.pad o of
-offer i w c of simple st next =
-    offered_now i w c.placer.entries.pad st.again 0 of simple (ap (λ p. next_stripe p 0) (sym st.placing) ∙ sym next) (its_rows st of.unit)
+    → slice_get c.placer.units of.unit ≡ Some Idle → (o : Opening) × IsOfferedNow i w c.placer.entries.pad o of
+offer i w c of simple st next idle =
+    offered_now i w c.placer.entries.pad st.again 0 of simple (ap (λ p. next_stripe p 0) (sym st.placing) ∙ sym next) (its_row st of.unit idle)
 
 -- the opening of the program, and its place among the open lines
 pub record IsFound (i : Image) (w : World) (c : Core) (of : Program) (result : ℕ) : Type 0 where
@@ -70,11 +70,11 @@ pub record IsFound (i : Image) (w : World) (c : Core) (of : Program) (result : �
   pub at : result ≡ has.k
 
 pub found : (i : Image) (w : World) (c : Core) (of : Program) (result : ℕ) → IsSimpleMount i w → Stands i (log_of w) c → Some of ≡ next_stripe c.placer 0
-    → result < 2
+    → slice_get c.placer.units of.unit ≡ Some Idle → result < 2
     → ((slot : KeptLine) → IsSlot c.open result slot → slot.records.line ≡ of.line)
     → ((slot : KeptLine) → IsSlot c.open 0 slot → slot.records.line ≡ of.line → result ≡ 0) → IsFound i w c of result
-found i w c of result simple st next inside line first =
-    let its = offer i w c of simple st next in
+found i w c of result simple st next idle inside line first =
+    let its = offer i w c of simple st next idle in
     let has : HasSlot i (log_of w) c.open its.0 = has_slot i w c c.placer.entries.pad its.0 of its.1 st in
     record {
       o = its.0;
@@ -84,9 +84,10 @@ found i w c of result simple st next inside line first =
     }
 
 pub found_there : (i : Image) (w : World) (c : Core) (of : Program) → IsSimpleMount i w → Stands i (log_of w) c → Some of ≡ next_stripe c.placer 0
+    → slice_get c.placer.units of.unit ≡ Some Idle
     → (k : ℕ) × (slot : KeptLine) × (k < 2) × IsSlot c.open k slot × (slot.records.line ≡ of.line)
-found_there i w c of simple st next =
-    let its = offer i w c of simple st next in
+found_there i w c of simple st next idle =
+    let its = offer i w c of simple st next idle in
     let has : HasSlot i (log_of w) c.open its.0 = has_slot i w c c.placer.entries.pad its.0 of its.1 st in
     (has.k, has.slot, has.inside, has.there, has.is.records.line ∙ sym its.1.own)
 
@@ -224,20 +225,25 @@ data_by : (t : Bool) (between n : ℕ) → n ≡ (if t then 0 else between) → 
 data_by true between n e some = absurd (omega arith)
 data_by false between n e some = e
 
+pub within_end : (i : Image) (w : World) (o : Opening) (at line : ℕ) (slot : KeptLine) → IsSimpleMount i w → life_of (log_of w 0) line ≡ Opened o
+    → at + i.shape.ws_opt ≤ line_end i.shape o → IsOpenLine i (log_of w) o slot
+    → at + slot.records.shape.ws_opt ≤ end_begins slot.records + end_len slot.records.shape slot.records.width
+within_end i w o at line slot simple opened whole is =
+    let s : Shape = i.shape in
+    let g : ℕ = o.start.width in
+    let wide : 0 < data_len s g = HaveBlocks.wide (have_blocks i w simple.mount.accepted simple.mount.legal) line o opened in
+    let between : data_len s g ≡ g * s.clba - start_len s - end_len s g =
+    data_by (nat_lt (g * s.clba - start_len s - end_len s g) s.ws_opt) (g * s.clba - start_len s - end_len s g) (data_len s g) refl wide in
+    let long : at + s.ws_opt ≤ g * s.clba = whole in
+    let own : at + s.ws_opt ≤ start_len s + data_len s g + end_len s g = omega arith in
+    subst (λ n. at + n ≤ start_len slot.records.shape + data_len slot.records.shape slot.records.width + end_len slot.records.shape slot.records.width)
+    (sym (ap (λ (x : Shape). x.ws_opt) is.records.shape))
+    (subst (λ n. at + s.ws_opt ≤ n) (sym (ap₂ (λ s g. start_len s + data_len s g + end_len s g) is.records.shape is.records.width)) own)
+
 pub end_within : (i : Image) (w : World) (o : Opening) (of : Program) (pad : ℕ) (slot : KeptLine) → IsSimpleMount i w → IsOfferedNow i w pad o of
     → IsOpenLine i (log_of w) o slot
     → of.at + slot.records.shape.ws_opt ≤ end_begins slot.records + end_len slot.records.shape slot.records.width
-end_within i w o of pad slot simple now is =
-    let s : Shape = i.shape in
-    let g : ℕ = o.start.width in
-    let wide : 0 < data_len s g = HaveBlocks.wide (have_blocks i w simple.mount.accepted simple.mount.legal) of.line o now.opened in
-    let between : data_len s g ≡ g * s.clba - start_len s - end_len s g =
-    data_by (nat_lt (g * s.clba - start_len s - end_len s g) s.ws_opt) (g * s.clba - start_len s - end_len s g) (data_len s g) refl wide in
-    let whole : of.at + s.ws_opt ≤ g * s.clba = now.whole in
-    let own : of.at + s.ws_opt ≤ start_len s + data_len s g + end_len s g = omega arith in
-    subst (λ n. of.at + n ≤ start_len slot.records.shape + data_len slot.records.shape slot.records.width + end_len slot.records.shape slot.records.width)
-    (sym (ap (λ (x : Shape). x.ws_opt) is.records.shape))
-    (subst (λ n. of.at + s.ws_opt ≤ n) (sym (ap₂ (λ s g. start_len s + data_len s g + end_len s g) is.records.shape is.records.width)) own)
+end_within i w o of pad slot simple now is = within_end i w o of.at of.line slot simple now.opened now.whole is
 
 -- ---- the blocks of the stripe
 

@@ -119,7 +119,7 @@ module _ (i : Image) (w : World) (unit : ℕ) (of : Program) (simple : IsSimpleM
 
   -- ---- its kind
 
-  parts : HasParts i (now_units i w) w is.row.opening
+  pub parts : HasParts i (now_units i w) w is.row.opening
   parts = parts_of i (now_units i w) w o is.line_is
 
   among : IsAmong (placements (log_of w 0)) is.row.stripe
@@ -136,7 +136,7 @@ module _ (i : Image) (w : World) (unit : ℕ) (of : Program) (simple : IsSimpleM
       sym (mul-div_cancel (number_of s line_then p.stripe) some)
       ∙ ap (λ n. n / s.ws_opt) (ap (λ (x : Program). x.at) is.row.is ∙ is.number_is) ∙ mul-div_cancel is.number some
 
-  part : IsInPart i.shape is.row.opening of.at of.kind
+  pub part : IsInPart i.shape is.row.opening of.at of.kind
   part =
       let c : ℕ = start_len s / s.ws_opt in
       let its : kind_of line_then is.number ≡ of.kind = ap (kind_of line_then) (sym number_then) ∙ ap (λ (x : Program). x.kind) is.row.is in
@@ -251,7 +251,7 @@ module _ (i : Image) (w : World) (unit : ℕ) (of : Program) (simple : IsSimpleM
       (all_front (Bears s) (takes (take p.number log)) (takes (drop p.number log))
       (subst (AllByRecursion (Bears s)) taken_parts (all_bear i (now_units i w) w (follow i w simple)))).0
 
-  positions_then : of.kind ≡ kinds.Data → of.positions ≡ positions_of (take i.shape.ws_opt (waiting i.shape (take is.row.stripe.number (log_of w 0))))
+  pub positions_then : of.kind ≡ kinds.Data → of.positions ≡ positions_of (take i.shape.ws_opt (waiting i.shape (take is.row.stripe.number (log_of w 0))))
   positions_then kind =
       positions_are i w unit of is
       ∙ ap (filter_map (position_in s)) (blocks_then ∙ ap (blocks_for s (take p.number log) o of.at) kind)

@@ -18,7 +18,6 @@ use Rattle.core_laws.specs.SimpleMounts.{IsSimpleMount}
 use Rattle.core_laws.specs.PlacerOf.{lost_entries, fresh_entries}
 use Rattle.core_laws.proofs.LeftLines.{lines_of_left}
 use Rattle.core_laws.proofs.PlacedInOrder.{ordered, fresh_in_order, lost_are_none}
-use Rattle.pblk_core.proofs.SimpleLogs.{its_placer}
 use Rattle.pblk_core.specs.declared.target_core.Core.{Core}
 use Rattle.pblk_core.specs.Stands.{Stands, left_openings}
 use Rattle.pblk_core.specs.Named.{choice, reset_or, asks_line, has_free, may_open, named_beside, named, pad_of, work_beside, work_of, first_seq_of}
@@ -67,9 +66,10 @@ open_count i w c st = st.open_lines.count ∙ sym (length-map (left_openings i (
 same_choice : (a b : Bool) (m n : Bool) (p q : Bool) (s t : Bool) (x y : Bool) → a ≡ b → m ≡ n → p ≡ q → s ≡ t → x ≡ y → choice a m p s x ≡ choice b n q t y
 same_choice a b m n p q s t x y e f g h k = λ j. choice (e j) (f j) (g j) (h j) (k j)
 
-beside_is : (i : Image) (w : World) (c : Core) → IsSimpleMount i w → Stands i (log_of w) c → named_beside c ≡ work_beside i (log_of w) (pad_of c)
+beside_is : (i : Image) (w : World) (c : Core) → IsSimpleMount i w → (st : Stands i (log_of w) c)
+    → named_beside c ≡ work_beside i (log_of w) (pad_of c) st.again
 beside_is i w c simple st = same_choice _ _ _ _ _ _ _ _ _ _
-    (ap (λ p. is_some (next_stripe p 0)) (its_placer st))
+    (ap (λ p. is_some (next_stripe p 0)) st.placing)
     (ap₂ (λ a n. a && (n == 0)) waits st.left)
     (ap (λ t. is_some (position is_free t.rows)) st.table)
     (ap₂ (λ a b. nat_lt a 2 && b) (open_count i w c st) (ap₂ (λ m n. nat_lt m (2 ^ 61) && nat_lt n (2 ^ 61)) seq (synced_at i w c simple st)))
@@ -82,7 +82,7 @@ beside_is i w c simple st = same_choice _ _ _ _ _ _ _ _ _ _
     seq : c.start.seq ≡ first_seq_of (log_of w) + length (openings (log_of w 0))
     seq = st.next_seq ∙ ap (λ n. n + length (openings (log_of w 0))) (sym (ap (λ o. option_map_or (λ (b : Begun). b.beginning.seq) o 0) st.has_begun))
 
-pub work_is : (i : Image) (w : World) (c : Core) → IsSimpleMount i w → Stands i (log_of w) c → named c ≡ work_of i (log_of w) (pad_of c)
+pub work_is : (i : Image) (w : World) (c : Core) → IsSimpleMount i w → (st : Stands i (log_of w) c) → named c ≡ work_of i (log_of w) (pad_of c) st.again
 work_is i w c simple st = ap₂ (λ rs otherwise. reset_or (slice_get rs 0) otherwise) st.resets (beside_is i w c simple st)
 
 -- what a program that is named tells
