@@ -66,7 +66,6 @@ module _ (i : Image) (w : World) (unit : ℕ) (e : UnitEvent) (maker : Maker) wh
   pub stands_beside : (c : Core) → IsLegalMount i w → Stands i (log_of w) c → Stands i after_ c
   stands_beside c mount st = record {
     simple = subst IsSimpleLog (sym engine) st.simple;
-    unstopped = subst NoneAgain (sym engine) st.unstopped;
     layout = st.layout;
     beginning = st.beginning;
     has_begun = ap begun engine ∙ st.has_begun;

@@ -63,3 +63,5 @@ pub mod LandedKinds
 pub mod StandsLemmas
 pub mod SimpleLogs
 pub mod StoppedStripe
+pub mod StoppedConditions
+pub mod StandsAgain

@@ -197,7 +197,6 @@ popped_stands i w c new simple st is =
     let has = popped_window i w c new simple st is in
     record {
       simple = st.simple;
-      unstopped = st.unstopped;
       layout = st.layout;
       beginning = st.beginning;
       has_begun = st.has_begun;
@@ -243,7 +242,6 @@ pub padded_stands : (i : Image) (logs : Logs) (c : Core) (new : Placing) (to : â
     â†’ Stands i logs (record c { placer = new })
 padded_stands i logs c new to st is = record {
   simple = st.simple;
-  unstopped = st.unstopped;
   layout = st.layout;
   beginning = st.beginning;
   has_begun = st.has_begun;

@@ -44,7 +44,7 @@ use Rattle.pblk_core.specs.OlderLines.{older_found}
 use Rattle.pblk_core.specs.Resets.{is_used_state, is_used_in, is_used_at, used_units, used_below, in_line, resets_found, resets_of}
 use Rattle.pblk_core.specs.Stands.{Stands, IsOlder, left_openings}
 use Rattle.pblk_core.specs.declared.target_core.Core.{Core}
-use Rattle.core_laws.proofs.SimpleMounts.{simple_after, simple_none, unstopped_after, unstopped_none}
+use Rattle.core_laws.proofs.SimpleMounts.{simple_after, simple_none}
 use Rattle.pblk_core.proofs.KeptResets.{flat_same}
 use Rattle.lemmas.proofs.Lists.{all_of}
 use Rattle.lemmas.proofs.Maps.{filter_none, filter_same}
@@ -155,7 +155,6 @@ pub made_stands : (i : Image) (w : World) (knows : List ℕ) (f : Found) (c : Co
     → Stands i (after (log_of w) (Begin (beginning_of f)) knows) c
 made_stands i w knows f c simple none fit found is = record {
   simple = simple_after (log_of w 0) (record { event = Decides (Begin (beginning_of f)); knows = knows }) (simple_none (log_of w 0) none) refl refl refl;
-  unstopped = unstopped_after (log_of w 0) (record { event = Decides (Begin (beginning_of f)); knows = knows }) (unstopped_none (log_of w 0) none) refl;
   layout = is.layout;
   beginning = record { beginning = beginning_of f; knows = begins.knows };
   has_begun = begun_is i f new begins;

@@ -56,7 +56,7 @@ use Rattle.pblk_core.specs.declared.open_lines.OpenLine.{OpenLine}
 use Rattle.pblk_core.specs.declared.open_lines.OpenLines.{OpenLines}
 use Rattle.pblk_core.proofs.NotedEntries.{AreEntriesOf, entries_of_way}
 use Rattle.pblk_core.proofs.PlacedEntries.{lines_noted_are}
-use Rattle.core_laws.proofs.SimpleMounts.{simple_after, unstopped_after}
+use Rattle.core_laws.proofs.SimpleMounts.{simple_after}
 use Rattle.pblk_core.proofs.LandedLines.{HasSlot, fewer_landed}
 use Rattle.pblk_core.proofs.ChunkRows.{rows_of_chunks}
 use Rattle.pblk_core.proofs.LandedLogs.{takes_landed, openings_landed, users_landed, stripes_landed, live_landed, freed_landed, chunk_landed, one_less_under_way}
@@ -213,7 +213,6 @@ pub landed_stands : (i : Image) (w : World) (unit event : ℕ) (knows : List ℕ
     → Stands i (after (log_of w) (Landed unit event) knows) new
 landed_stands i w unit event knows old new of mid full from to simple st is waits may has into reads = record {
   simple = simple_after (log_of w 0) (record { event = Decides (Landed unit event); knows = knows }) st.simple refl refl refl;
-  unstopped = unstopped_after (log_of w 0) (record { event = Decides (Landed unit event); knows = knows }) st.unstopped refl;
   layout = into.layout ∙ st.layout;
   beginning = st.beginning;
   has_begun = begun_kept (log_of w 0) (Landed unit event) knows refl ∙ st.has_begun;

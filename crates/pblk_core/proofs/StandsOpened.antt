@@ -25,7 +25,7 @@ use Rattle.line_table.specs.Rows.{Changes, turned}
 use Rattle.line_table.proofs.Places.{get_within, get_set_same, get_set_other, each_more}
 use Rattle.stripe_placer.specs.Placing.{begun as line_begun}
 use Rattle.write_window.specs.Window as view
-use Rattle.core_laws.proofs.SimpleMounts.{engine_plain, simple_after, unstopped_after}
+use Rattle.core_laws.proofs.SimpleMounts.{engine_plain, simple_after}
 use Rattle.core_laws.specs.Stepping.{after}
 use Rattle.core_laws.specs.OpenedLines.{bits_of, live_now}
 use Rattle.core_laws.specs.PlacerOf.{placing_of}
@@ -253,7 +253,6 @@ pub opened_stands : (i : Image) (w : World) (knows : List ℕ) (old new : Core) 
     → Stands i (after (log_of w) (Open (next_line old) (next_start old)) knows) new
 opened_stands i w knows old new simple st may is = record {
   simple = simple_after (log_of w 0) (record { event = Decides (Open (next_line old) (next_start old)); knows = knows }) st.simple refl refl refl;
-  unstopped = unstopped_after (log_of w 0) (record { event = Decides (Open (next_line old) (next_start old)); knows = knows }) st.unstopped refl;
   layout = is.layout ∙ st.layout;
   beginning = st.beginning;
   has_begun = begun_kept (log_of w 0) e knows refl ∙ st.has_begun;

@@ -58,7 +58,7 @@ use Rattle.pblk_core.specs.Holds.{hold_of, row_at}
 use Rattle.pblk_core.specs.declared.hold.Hold.{Hold}
 use Rattle.pblk_core.specs.declared.target_core.Core.{Core}
 use Rattle.pblk_core.specs.declared.open_lines.OpenLine.{OpenLine as KeptLine}
-use Rattle.core_laws.proofs.SimpleMounts.{simple_after, unstopped_after}
+use Rattle.core_laws.proofs.SimpleMounts.{simple_after}
 use Rattle.pblk_core.proofs.PlacedEntries.{rows_length, row_placed_is, lines_placed_are}
 use Rattle.pblk_core.proofs.PlacedMarks.{line_blocks, marks_before, marks_more, marks_beyond, marks_elsewhere, unlanded_placed, one_more_under_way}
 use Rattle.pblk_core.proofs.PlacedStripe.{IsOfferedNow, IsInPart, IsOfKind, of_kind, HasSlot}
@@ -395,7 +395,6 @@ pub placed_stands : (i : Image) (w : World) (knows : List ℕ) (old new : Core) 
     → Stands i (after (log_of w) (Place stripe) knows) new
 placed_stands i w knows old new o of stripe simple st has now for count is = record {
   simple = simple_after (log_of w 0) (record { event = Decides (Place stripe); knows = knows }) st.simple refl refl refl;
-  unstopped = unstopped_after (log_of w 0) (record { event = Decides (Place stripe); knows = knows }) st.unstopped refl;
   layout = is.layout ∙ st.layout;
   beginning = st.beginning;
   has_begun = begun_kept (log_of w 0) (Place stripe) knows refl ∙ st.has_begun;

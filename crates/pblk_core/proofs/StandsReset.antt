@@ -40,7 +40,7 @@ use Rattle.pblk_core.specs.declared.work.Work.TheVariants.{Reset}
 use Rattle.pblk_core.specs.Named.{named}
 use Rattle.pblk_core.specs.Resets.{resets_left, resets_of, units_to_reset, is_of_line, kept_units, emptied, IsResetTo}
 use Rattle.pblk_core.specs.Stands.{Stands, AreHolds, AreOpenLines}
-use Rattle.core_laws.proofs.SimpleMounts.{simple_after, unstopped_after}
+use Rattle.core_laws.proofs.SimpleMounts.{simple_after}
 use Rattle.pblk_core.proofs.FirstReset.{is_there, none_there}
 use Rattle.pblk_core.proofs.FoundLines.{HasOldRow, older_kept}
 use Rattle.pblk_core.proofs.KeptResets.{fits_same}
@@ -81,7 +81,6 @@ pub reset_stands : (i : Image) (w : World) (line unit event : ℕ) (knows : List
     → IsResetTo i (log_of w) unit event line state → IsResetInto old new line unit state → Stands i (after (log_of w) (ResetDone unit event) knows) new
 reset_stands i w line unit event knows state old new simple st names to is = record {
   simple = simple_after (log_of w 0) (record { event = Decides (ResetDone unit event); knows = knows }) st.simple refl refl refl;
-  unstopped = unstopped_after (log_of w 0) (record { event = Decides (ResetDone unit event); knows = knows }) st.unstopped refl;
   layout = is.layout ∙ st.layout;
   beginning = st.beginning;
   has_begun = begun_kept (log_of w 0) e knows refl ∙ st.has_begun;

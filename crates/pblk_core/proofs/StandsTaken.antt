@@ -73,7 +73,7 @@ use Rattle.write_window.specs.declared.held.Progress.TheVariants.{Waiting}
 use Rattle.write_window.specs.Window as view
 use Rattle.stripe_placer.specs.Placing.{waits}
 use Rattle.core_laws.specs.SimpleMounts.{IsSimpleMount}
-use Rattle.core_laws.proofs.SimpleMounts.{engine_plain, simple_after, unstopped_after}
+use Rattle.core_laws.proofs.SimpleMounts.{engine_plain, simple_after}
 use Rattle.pblk_model.specs.Contents.{least_missing}
 use Rattle.pblk_world.specs.EngineLog.{placements}
 use Rattle.pblk_world.specs.Space.{gives_back}
@@ -229,7 +229,6 @@ pub taken_stands : (i : Image) (w : World) (knows : List ℕ) (old new : Core) (
 taken_stands i w knows old new e simple st is position room class user inside = record {
   simple = simple_after (log_of w 0) (record { event = Decides (Take (entry_of e) (mark_of e)); knows = knows }) st.simple refl
       (ap (λ source. not (is_users (option_map (λ (at : EntrySource). record { line = at.line; at = at.at; position = at.position }) source))) user) refl;
-  unstopped = unstopped_after (log_of w 0) (record { event = Decides (Take (entry_of e) (mark_of e)); knows = knows }) st.unstopped refl;
   layout = is.layout ∙ st.layout;
   beginning = st.beginning;
   has_begun = begun_kept (log_of w 0) (Take (entry_of e) (mark_of e)) knows refl ∙ st.has_begun;

@@ -1,0 +1,269 @@
+use Rattle.std.proofs.Common.{◌≡◌, ℕ, ◌+◌, ◌<◌, ◌≤◌, true, Some, List, length, refl, sym, subst, ap, ap₂, ◌∙◌}
+use Rattle.std.specs.Prelude.{slice_get}
+use Rattle.pblk_model.specs.declared.shape.Shape.{Shape}
+use Rattle.pblk_model.specs.Chunk.{Block}
+use Rattle.pblk_model.specs.Image.{Image}
+use Rattle.pblk_model.specs.LineOrder.{start_len}
+use Rattle.pblk_model.specs.Shape.{units}
+use Rattle.pblk_world.specs.Placing.{stripe_at}
+use Rattle.pblk_world.specs.World.{World, log_of}
+use Rattle.stripe_placer.specs.declared.placement.StripeKind.TheVariants as kinds
+use Rattle.stripe_placer.specs.Placing.{Placing, Program, program}
+use Rattle.stripe_placer.proofs.PlacingLemmas.{placed_has, placed_shape}
+use Rattle.core_laws.specs.SimpleMounts.{IsSimpleMount}
+use Rattle.pblk_core.specs.Entries.{entry_blocks}
+use Rattle.pblk_core.specs.Filling.{Filling, followed_by}
+use Rattle.pblk_core.specs.LineRecords.{blocks_at_start, blocks_at_end, end_begins}
+use Rattle.pblk_core.specs.Slots.{IsSlot}
+use Rattle.pblk_core.specs.Stands.{Stands}
+use Rattle.pblk_core.specs.declared.target_core.Core.{Core}
+use Rattle.pblk_core.proofs.KeptFrames.{placed_pad}
+use Rattle.pblk_core.proofs.PlacedStripe.{IsInPart}
+use Rattle.pblk_core.proofs.PlacingConditions.{padded_is, padded_to_stripe, stripe_of, unit_inside}
+use Rattle.pblk_core.proofs.SimpleLogs.{its_simple, simple_in}
+use Rattle.pblk_core.proofs.StandsAgain.{IsPlacedAgain, again_into, again_stands}
+use Rattle.pblk_core.proofs.StoppedConditions.{IsStopped, end_again_within, few_again, from_again, held_again, its_stopped, line_there, marks_again, says_stopped, slot_kept, slot_there, start_within, told_again}
+use Rattle.pblk_core.proofs.StoppedStripe.{data_again, end_again, part, start_again}
+use Rattle.pblk_core.proofs.WaitingEntries.{sectors_sized}
+use Rattle.pblk_core.proofs.target_core.Core.place_again.Goals as goal
+use Rattle.pblk_core.proofs.target_core.Core.place_again.Goals.{After-find-index, Joined-of, in-Start, in-Data, in-Pad, in-End}
+
+pub placed-requires : goal.placed-requires
+placed-requires c = (0, sym c.requires.next)
+
+pub find-index-requires-clause-there : goal.find-index-requires-clause-there
+find-index-requires-clause-there c =
+    let sd = c.requires.standing in
+    let of : Program = program c.args.self.now.placer c.args.of.now in
+    line_there sd.image sd.world c.args.self.now of (its_simple sd)
+    (its_stopped sd.image sd.world c.args.self.now of (its_simple sd) sd.stands c.requires.stopped)
+
+pub positions-positions-requires : goal.positions-positions-requires
+positions-positions-requires c =
+    let sd = c.requires.standing in
+    let old : Placing = c.args.self.now.placer in
+    let of : Program = program old c.args.of.now in
+    let its = its_stopped sd.image sd.world c.args.self.now of (its_simple sd) sd.stands c.requires.stopped in
+    subst (λ (p : Placing). of.unit < units p.shape) (sym c.placed.ensures.placed)
+    (subst (λ (s : Shape). of.unit < units s) (sym (placed_shape old of ∙ ap (λ (p : Placing). p.shape) sd.stands.placing)) its.is.row.inside)
+
+-- the slot that is found is the line's
+found_slot : (c : After-find-index) (i : Image) (w : World) (simple : IsSimpleMount i w) → Stands i (log_of w) c.args.self.now
+    → (its : IsStopped i w c.args.self.now (program c.args.self.now.placer c.args.of.now)) → IsSlot c.args.self.now.open c.find-index.result its.has.slot
+found_slot c i w simple st its =
+    let at = c.find-index.ensures in
+    slot_there i w c.args.self.now (program c.args.self.now.placer c.args.of.now) simple its c.find-index.result st at.inside at.line at.first
+
+pub start_stripe-requires-clause-shape : goal.start_stripe-requires-clause-shape
+start_stripe-requires-clause-shape c = λ slot there.
+    let sd = c.requires.standing in
+    let begun : c.begin.new.self.shape ≡ sd.image.shape = ap (λ f. f.shape) c.begin.ensures ∙ c.requires.shape ∙ sd.stands.layout in
+    begun ∙ sym (sd.stands.open_lines.shapes c.find-index.result slot there)
+
+pub start_stripe-requires-clause-within : goal.start_stripe-requires-clause-within
+start_stripe-requires-clause-within c =
+    let sd = c.requires.standing in
+    let of : Program = program c.args.self.now.placer c.args.of.now in
+    let its = its_stopped sd.image sd.world c.args.self.now of (its_simple sd) sd.stands c.requires.stopped in
+    let begun : c.begin.new.self.shape ≡ sd.image.shape = ap (λ f. f.shape) c.begin.ensures ∙ c.requires.shape ∙ sd.stands.layout in
+    subst (λ (s : Shape). of.at + s.ws_opt ≤ start_len s) (sym begun) (start_within sd.image sd.world c.args.self.now of (its_simple sd) its c.in-Start.is)
+
+pub fill-requires-clause-held : goal.fill-requires-clause-held
+fill-requires-clause-held c = λ k q e.
+    let sd = c.requires.standing in
+    let core : Core = c.args.self.now in
+    let of : Program = program core.placer c.args.of.now in
+    let its = its_stopped sd.image sd.world core of (its_simple sd) sd.stands c.requires.stopped in
+    let told : c.positions-positions.result.now ≡ of.positions =
+    told_again sd.image sd.world core of (its_simple sd) its c.placed.new.self _ sd.stands c.placed.ensures.placed c.positions-positions.ensures in
+    held_again sd.image sd.world core of (its_simple sd) its k q sd.stands (ap (λ qs. slice_get qs k) (sym told) ∙ e)
+
+pub fill-requires-clause-size : goal.fill-requires-clause-size
+fill-requires-clause-size c = λ q sector e.
+    let sd = c.requires.standing in
+    let begun : c.begin.new.self.shape ≡ sd.image.shape = ap (λ f. f.shape) c.begin.ensures ∙ c.requires.shape ∙ sd.stands.layout in
+    sectors_sized sd.image sd.world c.args.self.now q sector (its_simple sd) sd.stands e ∙ ap (λ (s : Shape). s.sector) (sym begun)
+
+pub fill-requires-clause-room : goal.fill-requires-clause-room
+fill-requires-clause-room c =
+    let sd = c.requires.standing in
+    let core : Core = c.args.self.now in
+    let of : Program = program core.placer c.args.of.now in
+    let its = its_stopped sd.image sd.world core of (its_simple sd) sd.stands c.requires.stopped in
+    let told : c.positions-positions.result.now ≡ of.positions =
+    told_again sd.image sd.world core of (its_simple sd) its c.placed.new.self _ sd.stands c.placed.ensures.placed c.positions-positions.ensures in
+    let begun : c.begin.new.self.shape ≡ sd.image.shape = ap (λ f. f.shape) c.begin.ensures ∙ c.requires.shape ∙ sd.stands.layout in
+    subst (λ (s : Shape). length c.positions-positions.result.now ≤ s.ws_opt) (sym begun)
+    (subst (λ n. n ≤ sd.image.shape.ws_opt) (sym (ap (λ (qs : List ℕ). length qs) told))
+    (few_again sd.image sd.world core of (its_simple sd) its c.in-Data.is))
+
+pub end_stripe-requires-clause-shape : goal.end_stripe-requires-clause-shape
+end_stripe-requires-clause-shape c = λ slot there.
+    let sd = c.requires.standing in
+    let begun : c.begin.new.self.shape ≡ sd.image.shape = ap (λ f. f.shape) c.begin.ensures ∙ c.requires.shape ∙ sd.stands.layout in
+    begun ∙ sym (sd.stands.open_lines.shapes c.find-index.result slot there)
+
+pub end_stripe-requires-clause-told : goal.end_stripe-requires-clause-told
+end_stripe-requires-clause-told c = λ slot there.
+    let sd = c.requires.standing in
+    let core : Core = c.args.self.now in
+    let of : Program = program core.placer c.args.of.now in
+    let its = its_stopped sd.image sd.world core of (its_simple sd) sd.stands c.requires.stopped in
+    let at = found_slot (goal.at.end_stripe-requires-clause-told c).After-find-index sd.image sd.world (its_simple sd) sd.stands its in
+    marks_again sd.image sd.world core of (its_simple sd) its slot c.in-End.is
+    (slot_kept sd.image sd.world core of (its_simple sd) its c.find-index.result slot at there)
+
+pub end_stripe-requires-clause-from : goal.end_stripe-requires-clause-from
+end_stripe-requires-clause-from c = λ slot there.
+    let sd = c.requires.standing in
+    let core : Core = c.args.self.now in
+    let of : Program = program core.placer c.args.of.now in
+    let its = its_stopped sd.image sd.world core of (its_simple sd) sd.stands c.requires.stopped in
+    let at = found_slot (goal.at.end_stripe-requires-clause-from c).After-find-index sd.image sd.world (its_simple sd) sd.stands its in
+    from_again sd.image sd.world core of (its_simple sd) its slot c.in-End.is
+    (slot_kept sd.image sd.world core of (its_simple sd) its c.find-index.result slot at there)
+
+pub end_stripe-requires-clause-within : goal.end_stripe-requires-clause-within
+end_stripe-requires-clause-within c = λ slot there.
+    let sd = c.requires.standing in
+    let core : Core = c.args.self.now in
+    let of : Program = program core.placer c.args.of.now in
+    let its = its_stopped sd.image sd.world core of (its_simple sd) sd.stands c.requires.stopped in
+    let at = found_slot (goal.at.end_stripe-requires-clause-within c).After-find-index sd.image sd.world (its_simple sd) sd.stands its in
+    end_again_within sd.image sd.world core of (its_simple sd) its slot
+    (slot_kept sd.image sd.world core of (its_simple sd) its c.find-index.result slot at there)
+
+-- ---- what is filled
+
+-- the program, and the core before it
+abbrev program_in : Joined-of → Program
+program_in c = program c.args.self.now.placer c.args.of.now
+
+abbrev core_in : Joined-of → Core
+core_in c = c.args.self.now
+
+abbrev IsStoppedIn : Joined-of → Image → World → Type 0
+IsStoppedIn c i w = IsStopped i w (core_in c) (program_in c)
+
+begun_shape : (c : Joined-of) (i : Image) (w : World) → Stands i (log_of w) (core_in c) → c.begin.new.self.shape ≡ i.shape
+begun_shape c i w st = ap (λ f. f.shape) c.begin.ensures ∙ c.requires.shape ∙ st.layout
+
+begun_with : (c : Joined-of) (blocks : List Block) → (followed_by c.begin.new.self blocks).stripe ≡ stripe_of (program_in c) blocks
+begun_with c blocks = ap (λ f. (followed_by f blocks).stripe) c.begin.ensures
+
+-- the stripe is as it was placed
+the_stripe : (c : Joined-of) (i : Image) (w : World) → IsSimpleMount i w → Stands i (log_of w) (core_in c) → (its : IsStoppedIn c i w)
+    → IsSlot (core_in c).open c.find-index.result its.has.slot → c.match-of.into.stripe ≡ its.is.row.stripe.stripe
+the_stripe c i w simple st its there =
+    let core : Core = core_in c in
+    let of : Program = program_in c in
+    let begun : Filling = c.begin.new.self in
+    elim c.match-of.branch as (λ b. c.match-of.into.stripe ≡ its.is.row.stripe.stripe) [
+      | in-Start v ↦
+          let blocks : List Block = stripe_at begun.shape (blocks_at_start its.has.slot.records) 0 of.at in
+          ap (λ f. f.stripe) (v.into-is ∙ v.start_stripe.ensures its.has.slot there) ∙ begun_with c blocks
+          ∙ start_again i w of.unit of simple its.is its.has.slot begun.shape v.in-Start.is its.has.is (begun_shape c i w st)
+      | in-Data v ↦
+          let blocks : List Block = entry_blocks core.window core.holds.rows.items of.positions in
+          let told = told_again i w core of simple its c.placed.new.self _ st c.placed.ensures.placed v.positions-positions.ensures in
+          let filled = v.fill.ensures ∙ ap (λ qs. followed_by begun (entry_blocks core.window core.holds.rows.items qs)) told in
+          let padded = padded_is of c.args.into.now.shape true blocks begun v.fill.new.into v.pad.new.self c.begin.ensures filled v.pad.ensures in
+          ap (λ f. f.stripe) v.into-is ∙ padded
+          ∙ data_again i w of.unit of simple its.is core c.args.into.now.shape v.in-Data.is st (c.requires.shape ∙ st.layout)
+      | in-Pad v ↦ absurd (subst (IsInPart i.shape its.is.row.opening of.at) v.in-Pad.is (part i w of.unit of simple its.is))
+      | in-End v ↦
+          let blocks : List Block = stripe_at begun.shape (blocks_at_end its.has.slot.records) (end_begins its.has.slot.records) of.at in
+          ap (λ f. f.stripe) (v.into-is ∙ v.end_stripe.ensures.filled its.has.slot there) ∙ begun_with c blocks
+          ∙ end_again i w of.unit of simple its.is its.has.slot begun.shape v.in-End.is its.has.is (begun_shape c i w st)
+    ]
+
+-- the core but for its placer is as it was
+the_rest : (c : Joined-of) → IsPlacedAgain (core_in c) c.match-of.self (program_in c)
+the_rest c =
+    let core : Core = core_in c in
+    let of : Program = program_in c in
+    let new : Placing = c.placed.new.self in
+    let is = c.placed.ensures.placed in
+    elim c.match-of.branch as (λ b. IsPlacedAgain (core_in c) c.match-of.self (program_in c)) [
+      | in-Start v ↦ again_into core c.match-of.self new core.open of v.self-is is refl refl
+      | in-Data v ↦ again_into core c.match-of.self new core.open of v.self-is is refl refl
+      | in-Pad v ↦ again_into core c.match-of.self new core.open of v.self-is is refl refl
+      | in-End v ↦ again_into core c.match-of.self new v.end_stripe.new.self of v.self-is is v.end_stripe.ensures.count v.end_stripe.ensures.slots
+    ]
+
+-- what a stripe that is filled has
+record IsFilledAgain (c : Joined-of) : Type 0 where
+  again : c.match-of.into.again ≡ true
+  shape : c.match-of.into.shape ≡ c.args.into.now.shape
+
+the_filling : (c : Joined-of) (i : Image) (w : World) (its : IsStoppedIn c i w) → IsSlot (core_in c).open c.find-index.result its.has.slot → IsFilledAgain c
+the_filling c i w its there =
+    let again : c.begin.new.self.again ≡ true = ap (λ f. f.again) c.begin.ensures in
+    let shape : c.begin.new.self.shape ≡ c.args.into.now.shape = ap (λ f. f.shape) c.begin.ensures in
+    elim c.match-of.branch as (λ b. IsFilledAgain c) [
+      | in-Start v ↦
+          let is = v.into-is ∙ v.start_stripe.ensures its.has.slot there in
+          record { again = ap (λ f. f.again) is ∙ again; shape = ap (λ f. f.shape) is ∙ shape }
+      | in-Data v ↦
+          let is = v.into-is ∙ v.pad.ensures in
+          record {
+            again = ap (λ f. f.again) is ∙ ap (λ f. f.again) v.fill.ensures ∙ again;
+            shape = ap (λ f. f.shape) is ∙ ap (λ f. f.shape) v.fill.ensures ∙ shape;
+          }
+      | in-Pad v ↦
+          let is = v.into-is ∙ v.pad-in-Pad.ensures in
+          record { again = ap (λ f. f.again) is ∙ again; shape = ap (λ f. f.shape) is ∙ shape }
+      | in-End v ↦
+          let is = v.into-is ∙ v.end_stripe.ensures.filled its.has.slot there in
+          record { again = ap (λ f. f.again) is ∙ again; shape = ap (λ f. f.shape) is ∙ shape }
+    ]
+
+pub returns-clause-again : goal.returns-clause-again
+returns-clause-again c =
+    let all = goal.at.returns-clause-again c in
+    let at = all.Joined-of in
+    let sd = c.requires.standing in
+    let its = its_stopped sd.image sd.world (core_in at) (program_in at) (its_simple sd) sd.stands c.requires.stopped in
+    (the_filling at sd.image sd.world its (found_slot all.After-find-index sd.image sd.world (its_simple sd) sd.stands its)).again
+
+pub returns-clause-shape : goal.returns-clause-shape
+returns-clause-shape c =
+    let all = goal.at.returns-clause-shape c in
+    let at = all.Joined-of in
+    let sd = c.requires.standing in
+    let its = its_stopped sd.image sd.world (core_in at) (program_in at) (its_simple sd) sd.stands c.requires.stopped in
+    (the_filling at sd.image sd.world its (found_slot all.After-find-index sd.image sd.world (its_simple sd) sd.stands its)).shape
+
+pub returns-clause-stripe : goal.returns-clause-stripe
+returns-clause-stripe c = λ i w mount st.
+    let simple = simple_in i w mount st in
+    let all = goal.at.returns-clause-stripe c in
+    let at = all.Joined-of in
+    let its = its_stopped i w (core_in at) (program_in at) simple st c.requires.stopped in
+    let same = the_stripe at i w simple st its (found_slot all.After-find-index i w simple st its) in
+    says_stopped i w (core_in at) (program_in at) c.match-of.into.stripe its same (ap (λ s. s.unit) same ∙ its.is.its_unit)
+
+pub returns-clause-stands : goal.returns-clause-stands
+returns-clause-stands c = λ i w mount st.
+    let at = (goal.at.returns-clause-stands c).Joined-of in
+    again_stands i (log_of w) (core_in at) _ (program_in at) st c.requires.stopped (the_rest at)
+
+pub returns-clause-window : goal.returns-clause-window
+returns-clause-window c = (the_rest (goal.at.returns-clause-window c).Joined-of).window
+
+pub returns-clause-pad : goal.returns-clause-pad
+returns-clause-pad c =
+    let at = (goal.at.returns-clause-pad c).Joined-of in
+    ap (λ (p : Placing). p.entries.pad) (the_rest at).placer ∙ placed_pad c.args.self.now.placer (program_in at)
+
+pub returns-clause-under_way : goal.returns-clause-under_way
+returns-clause-under_way c =
+    let all = goal.at.returns-clause-under_way c in
+    let at = all.Joined-of in
+    let sd = c.requires.standing in
+    let its = its_stopped sd.image sd.world (core_in at) (program_in at) (its_simple sd) sd.stands c.requires.stopped in
+    let same = the_stripe at sd.image sd.world (its_simple sd) sd.stands its
+    (found_slot all.After-find-index sd.image sd.world (its_simple sd) sd.stands its) in
+    let inside = unit_inside sd.image sd.world (core_in at) c.args.of.now.unit sd.stands its.is.row.inside in
+    (program_in at, ap₂ (λ (p : Placing) u. slice_get p.units u) (the_rest at).placer (ap (λ s. s.unit) same ∙ its.is.its_unit)
+    ∙ placed_has c.args.self.now.placer (program_in at) inside)
