@@ -116,7 +116,7 @@ pub record IsLeft (i : Image) (w : World) : Type 0 where
   pub simple : IsSimpleMount i left
   pub own : log_of left 0 ≡ log_of w 0
   pub logs : logs_at (length (log_of w 0)) (log_of w) ≡ log_of left
-  pub work : (pad : ℕ) → work_of i (log_of left) pad ≡ work_of i (log_of w) pad
+  pub work : (pad : ℕ) → work_of i (log_of left) pad [] ≡ work_of i (log_of w) pad []
   pub room : room i (log_of left) ≡ room i (log_of w)
 
 none_left : (i : Image) → IsSimpleMount i [] → IsLeft i []

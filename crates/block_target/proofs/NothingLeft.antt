@@ -67,7 +67,7 @@ none_first [] e = refl
 none_first (x ∷ xs) e = absurd cc
 
 module _ (i : Image) (w : World) (pad : ℕ) (reason : Why) (simple : IsSimpleMount i w) (idle : (unit : ℕ) → unanswered_on (log_of w 0) unit ≡ None)
-    (none : work_of i (log_of w) pad ≡ works.Nothing reason) where
+    (none : work_of i (log_of w) pad [] ≡ works.Nothing reason) where
   abbrev otherwise : Work
   otherwise = choice
       (is_some (next_stripe (placing_of i (log_of w) pad []) 0))

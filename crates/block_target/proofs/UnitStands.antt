@@ -96,7 +96,7 @@ module _ (i : Image) (w : World) (unit : ℕ) (e : UnitEvent) (maker : Maker) wh
   }
 
   -- what is to be done next is the same
-  pub work_beside : (pad : ℕ) → IsSimpleMount i w → work_of i after_ pad ≡ work_of i (log_of w) pad
+  pub work_beside : (pad : ℕ) → IsSimpleMount i w → work_of i after_ pad [] ≡ work_of i (log_of w) pad []
   work_beside pad simple = λ j. reset_or (slice_get (resets_stay simple.mount.legal j) 0) (choice
       (is_some (next_stripe (placing_stays i w unit e maker pad [] simple.mount.legal j) 0))
       (nat_lt 0 (length (waiting i.shape (engine j))) && (addresses_stay i w unit e maker j == 0))

@@ -168,9 +168,9 @@ abbrev pub with_entries : MountView → ℕ → List (List ℕ) → MountView
 with_entries v lba [] = v
 with_entries v lba (sector ∷ sectors) = with_entries (with_entry v lba sector) (lba + 1) sectors
 
--- what comes next
+-- what comes next, where no stripe is offered again
 abbrev pub work_in : MountView → Work
-work_in v = work_of v.image (logs_in v) v.pad
+work_in v = work_of v.image (logs_in v) v.pad []
 
 -- There is nothing left to do with any pad target up to the mount's own, and no room that isn't granted.
 pub record IsSpent (v : MountView) : Type 0 where

@@ -1,19 +1,24 @@
 -- What keeps a mount faultless.
-use Rattle.std.proofs.Common.{◌≡◌, ℕ, suc, Bool, true, false, not, ◌==◌, List, [], ◌∷◌, ◌++◌, if◌then◌else◌, refl, sym, subst, ap}
-use Rattle.std.specs.List.{AllByRecursion, filter_map}
+use Rattle.std.proofs.Common.{◌≡◌, ℕ, zero, suc, Bool, true, false, not, ◌==◌, Option, None, Some, List, [], ◌∷◌, ◌++◌, if◌then◌else◌, refl, sym, subst, ap, ◌∙◌}
+use Rattle.std.specs.Prelude.{slice_get, slice_index}
+use Rattle.std.specs.List.{AllByRecursion, cons_option, filter_map}
 use Rattle.std.specs.Option.{option_to_list}
+use Rattle.std.proofs.lemmas.Option.{none-some, same_Some}
 use Rattle.pblk_model.specs.Image.{Image}
 use Rattle.pblk_model.specs.UnitLog.{UnitEvent}
 use Rattle.pblk_world.specs.Events.{Take, Lost, Again, Free, Event, Decides, Does, Logged, Step}
-use Rattle.pblk_world.specs.World.{World, log_of, unit_event_of}
-use Rattle.pblk_world.specs.Legal.{IsLegal, IsLegalStep}
+use Rattle.pblk_world.specs.World.{World, log_of, prefixes, unit_event_of}
+use Rattle.pblk_world.specs.Answering.{MayOfferAgain}
+use Rattle.pblk_world.specs.Legal.{IsAllowed, IsLegal, IsLegalStep}
 use Rattle.world_laws.specs.LegalMounts.{decides, is_copying, is_freeing, is_losing}
 use Rattle.core_laws.specs.FaultlessMounts.{AreAnswered, IsFaultlessMount, is_answered}
 use Rattle.core_laws.specs.PlainWorlds.{is_plain_event}
-use Rattle.core_laws.specs.SimpleMounts.{IsSimpleLog}
+use Rattle.core_laws.specs.SimpleMounts.{IsSimpleLog, NoneAgain, is_stopping}
 use Rattle.core_laws.proofs.SimpleMounts.{simple_after}
+use Rattle.world_laws.proofs.NamedPrefixes.{was_made}
 use Rattle.lemmas.proofs.Lists.{all_append}
 use Rattle.lemmas.proofs.Maps.{more}
+use Rattle.lemmas.proofs.Parts.{all_by_get, get_whole}
 
 -- ---- a plain event is none of the four
 
@@ -64,3 +69,33 @@ still_faultless i s w is step plain = record {
   };
   answered = λ unit. answered_after s (log_of w (suc unit)) (s.author == suc unit) plain (is.answered unit);
 }
+
+-- ---- no unit stopped, so no stripe is offered again
+
+others : (o : Option UnitEvent) (events : List UnitEvent) → AreAnswered (cons_option o events) → AreAnswered events
+others None events all = all
+others (Some e) events all = all.1
+
+answered_at : (log : List Logged) (n : ℕ) (l : Logged) (e : UnitEvent) → slice_get log n ≡ Some l → unit_event_of l.event ≡ Some e
+    → AreAnswered (events_of log) → is_answered e.outcome ≡ true
+answered_at [] n l e at is all = absurd (none-some l at)
+answered_at (k ∷ log) zero l e at is all =
+    let first : unit_event_of k.event ≡ Some e = ap (λ (x : Logged). unit_event_of x.event) (same_Some k l at) ∙ is in
+    (subst (λ (o : Option UnitEvent). AreAnswered (cons_option o (events_of log))) first all).0
+answered_at (k ∷ log) (suc n) l e at is all = answered_at log n l e at is (others (unit_event_of k.event) (events_of log) all)
+
+pub never_again : (i : Image) (w : World) → IsFaultlessMount i w → NoneAgain (log_of w 0)
+never_again i w is = all_by_get (λ (l : Logged). decides is_stopping l.event ≡ false) (log_of w 0)
+    (λ k l at. go l l.event (was_made i w 0 k l is.simple.mount.legal at).allowed)
+  where
+    go : (l : Logged) (e : Event) → IsAllowed i 0 e (prefixes l (log_of w)) → decides is_stopping e ≡ false
+    go l (Decides (Again unit n)) allowed =
+        let may : MayOfferAgain (prefixes l (log_of w)) unit n = allowed.2 in
+        let there : slice_get (log_of w (suc unit)) n ≡ Some may.new.logged =
+        get_whole (slice_index l.knows (suc unit)) (log_of w (suc unit)) n may.new.logged may.new.is_known in
+        let one : is_answered may.program.outcome ≡ true =
+        answered_at (log_of w (suc unit)) n may.new.logged may.program there may.new.event (is.answered unit) in
+        let wrong : false ≡ true = sym (ap is_answered may.stopped) ∙ one in
+        absurd cc
+    go l (Decides e) allowed = refl
+    go l (Does e maker) allowed = refl

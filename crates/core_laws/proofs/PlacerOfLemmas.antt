@@ -34,8 +34,11 @@ unstopped_from unit was [] none not_yet = not_yet
 unstopped_from unit was (l ∷ log) none not_yet = unstopped_from unit (stopped_by unit was l.event) log none.1 (unstopped_by unit was l.event none.0 not_yet)
 
 -- so no stripe is offered again, whichever units are named
+pub none_stopped : (log : List Logged) (unit : ℕ) → NoneAgain log → was_stopped_on log unit ≡ false
+none_stopped log unit none = unstopped_from unit false log none refl
+
 pub none_waits_again : (log : List Logged) (again : List ℕ) (unit : ℕ) → NoneAgain log → waits_again log again unit ≡ false
-none_waits_again log again unit none = ap (λ b. b && not (contains_unit again unit)) (unstopped_from unit false log none refl)
+none_waits_again log again unit none = ap (λ b. b && not (contains_unit again unit)) (none_stopped log unit none)
 
 row_unstopped : (i : Image) (logs : Logs) (again : List ℕ) (unit : ℕ) → NoneAgain (logs 0) → row_of i logs again unit ≡ row_of i logs [] unit
 row_unstopped i logs again unit none =

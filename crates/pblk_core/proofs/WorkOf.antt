@@ -1,27 +1,28 @@
 -- What a core names as its next work is what the logs name.
-use Rattle.std.proofs.Common.{◌≡◌, ℕ, ◌+◌, ◌-◌, ◌<◌, ◌≤◌, ◌==◌, ◌^◌, ◌&&◌, nat_lt, Bool, true, false, None, Some, Option, List, length, refl, sym, ap, ap₂, ◌∙◌, arith, length-append}
+use Rattle.std.proofs.Common.{◌≡◌, ℕ, ◌+◌, ◌-◌, ◌<◌, ◌≤◌, ◌==◌, ◌^◌, ◌&&◌, nat_lt, Bool, true, false, None, Some, Option, List, [], length, refl, sym, ap, ap₂, ◌∙◌, arith, length-append}
 use Rattle.std.specs.Prelude.{position, slice_get}
 use Rattle.std.specs.Option.{is_some, option_map_or}
 use Rattle.std.proofs.lemmas.List.{length-map}
 use Rattle.std.proofs.lemmas.List.FromFn.{length-range_with_len}
 use Rattle.pblk_model.specs.Image.{Image}
 use Rattle.pblk_model.specs.declared.run.Front.{Front}
-use Rattle.pblk_world.specs.World.{World, log_of}
+use Rattle.pblk_world.specs.World.{World, Logs, log_of}
 use Rattle.pblk_world.specs.EngineLog.{Begun, Taken, openings}
 use Rattle.pblk_world.specs.Fronts.{taken, synced, waiting}
 use Rattle.pblk_world.specs.Space.{placed_front}
 use Rattle.line_table.specs.Rows.{is_free}
-use Rattle.stripe_placer.specs.Placing.{next_stripe}
+use Rattle.stripe_placer.specs.Placing.{Placing, next_stripe}
 use Rattle.write_window.specs.Window as view
 use Rattle.core_laws.specs.OpenedLines.{open_line, open_lines}
-use Rattle.core_laws.specs.SimpleMounts.{IsSimpleMount}
+use Rattle.core_laws.specs.SimpleMounts.{IsSimpleMount, NoneAgain}
 use Rattle.core_laws.specs.PlacerOf.{lost_entries, fresh_entries}
 use Rattle.core_laws.proofs.LeftLines.{lines_of_left}
+use Rattle.core_laws.proofs.PlacerOfLemmas.{placing_unstopped}
 use Rattle.core_laws.proofs.PlacedInOrder.{ordered, fresh_in_order, lost_are_none}
 use Rattle.pblk_core.specs.declared.target_core.Core.{Core}
 use Rattle.pblk_core.specs.Stands.{Stands, left_openings}
-use Rattle.pblk_core.specs.Named.{choice, reset_or, asks_line, has_free, may_open, named_beside, named, pad_of, work_beside, work_of, first_seq_of}
-use Rattle.pblk_core.specs.Resets.{resets_left}
+use Rattle.pblk_core.specs.Named.{choice, reset_or, asks_line, has_free, may_open, named_beside, named, pad_of, work_beside, work_by, work_of, first_seq_of}
+use Rattle.pblk_core.specs.Resets.{resets_left, resets_of}
 use Rattle.pblk_core.specs.declared.resets.LineChunk.{LineChunk}
 use Rattle.pblk_core.specs.declared.work.Work.{Work}
 use Rattle.pblk_core.specs.declared.work.Work.TheVariants.{Program}
@@ -100,3 +101,8 @@ beside_reset (Some chunk) otherwise e = absurd cc
 pub program_named : (c : Core) → named c ≡ Program → is_some (next_stripe c.placer 0) ≡ true
 program_named c h = some_stripe (is_some (next_stripe c.placer 0)) (asks_line c) (has_free c) (may_open c) (nat_lt 0 c.under_way)
     (beside_reset (slice_get (resets_left c.resets) 0) (named_beside c) h)
+
+-- where no stripe was stopped, it is the same whichever programs are under way again
+pub work_unstopped : (i : Image) (logs : Logs) (pad : ℕ) (again : List ℕ) → NoneAgain (logs 0) → work_of i logs pad again ≡ work_of i logs pad []
+work_unstopped i logs pad again none =
+    ap (λ (p : Placing). reset_or (slice_get (resets_of i logs) 0) (work_by i logs p)) (placing_unstopped i logs pad again none)

@@ -11,7 +11,7 @@ use Rattle.pblk_world.specs.Fronts.{synced, waiting}
 use Rattle.pblk_world.specs.Space.{open_addresses}
 use Rattle.pblk_layout.specs.Live.{units_in}
 use Rattle.line_table.specs.Rows.{is_free}
-use Rattle.stripe_placer.specs.Placing.{next_stripe}
+use Rattle.stripe_placer.specs.Placing.{Placing, next_stripe}
 use Rattle.write_window.specs.Window as view
 use Rattle.core_laws.specs.OpenedLines.{open_lines}
 use Rattle.core_laws.specs.PlacerOf.{placing_of}
@@ -68,13 +68,17 @@ pad_of c = c.placer.entries.pad
 abbrev pub first_seq_of : Logs → ℕ
 first_seq_of logs = option_map_or (λ (b : Begun). b.beginning.seq) (begun (logs 0)) 0
 
-abbrev pub work_beside : Image → Logs → ℕ → List ℕ → Work
-work_beside i logs pad again = choice
-    (is_some (next_stripe (placing_of i logs pad again) 0))
+-- by what a placer offers
+abbrev pub work_by : Image → Logs → Placing → Work
+work_by i logs p = choice
+    (is_some (next_stripe p 0))
     (nat_lt 0 (length (waiting i.shape (logs 0))) && (open_addresses i logs == 0))
     (is_some (position is_free (rows_of i logs).rows))
     (nat_lt (length (open_lines i logs)) 2 && (nat_lt (first_seq_of logs + length (openings (logs 0))) (2 ^ 61) && nat_lt (synced i.shape (logs 0)) (2 ^ 61)))
     (nat_lt 0 (under_way i.shape (logs 0)))
+
+abbrev pub work_beside : Image → Logs → ℕ → List ℕ → Work
+work_beside i logs pad again = work_by i logs (placing_of i logs pad again)
 
 abbrev pub work_of : Image → Logs → ℕ → List ℕ → Work
 work_of i logs pad again = reset_or (slice_get (resets_of i logs) 0) (work_beside i logs pad again)

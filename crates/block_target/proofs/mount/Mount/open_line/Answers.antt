@@ -15,6 +15,7 @@ use Rattle.block_target.specs.Deeds.{Deed, Decides, world_of, drive_before}
 use Rattle.block_target.specs.Mount.{MountView, IsMount, IsSameMount, work_in, world_in, logs_in, engine_log, mount_view}
 use Rattle.block_target.proofs.PumpedSteps.{moved}
 use Rattle.block_target.proofs.PumpedOpen.{more_opened, open_stands, open_sound, mount_opened, same_opened}
+use Rattle.block_target.proofs.MountLemmas.{named_work}
 use Rattle.block_target.proofs.mount.Mount.open_line.Goals as goal
 
 pub open_line-requires-clause-standing : goal.open_line-requires-clause-standing
@@ -31,7 +32,7 @@ pub open_line-requires-clause-named : goal.open_line-requires-clause-named
 open_line-requires-clause-named g c =
     work_is (image_of c.self.inside.shape (drive_before c.self.inside.drives))
     (world_of c.self.inside.shape c.self.inside.deeds) c.self.inside.core c.self.invariant.sound.legal.simple c.self.invariant.stands
-    ∙ ap work_in c.self.view_is ∙ c.requires
+    ∙ named_work _ c.self.inside.core c.self.inside.pool c.self.inside.stripe c.self.invariant ∙ ap work_in c.self.view_is ∙ c.requires
 
 pub grant-requires-clause-standing : goal.grant-requires-clause-standing
 grant-requires-clause-standing g c =

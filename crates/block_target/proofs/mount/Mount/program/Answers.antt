@@ -18,7 +18,7 @@ use Rattle.pblk_core.proofs.WorkOf.{work_is}
 use Rattle.scan_recovery.specs.Units.{image_of}
 use Rattle.block_target.specs.Deeds.{Deed, Does, Lands, world_of, drive_before}
 use Rattle.block_target.specs.Mount.{MountView, IsMount, IsSameMount, IsUnitIn, work_in, world_in, logs_in, engine_log, mount_view}
-use Rattle.block_target.proofs.MountLemmas.{stands_in_mount}
+use Rattle.block_target.proofs.MountLemmas.{named_work, placed_once, stands_in_mount}
 use Rattle.block_target.proofs.PumpedProgram.{landed_deeds}
 use Rattle.block_target.proofs.PumpedMount.{mount_programmed, same_programmed, more_programmed}
 use Rattle.block_target.proofs.PumpedCall.{unit_there, unit_within, takes_program, placed_standing, end_legal, end_stands, end_sound}
@@ -29,14 +29,16 @@ pub place-requires-clause-named : goal.place-requires-clause-named
 place-requires-clause-named g c =
     work_is (image_of c.self.inside.shape (drive_before c.self.inside.drives))
     (world_of c.self.inside.shape c.self.inside.deeds) c.self.inside.core c.self.invariant.sound.legal.simple c.self.invariant.stands
-    ∙ ap work_in c.self.view_is ∙ c.requires
+    ∙ named_work _ c.self.inside.core c.self.inside.pool c.self.inside.stripe c.self.invariant ∙ ap work_in c.self.view_is ∙ c.requires
 
 pub index_mut-to-requires : goal.index_mut-to-requires
 index_mut-to-requires g c =
     let m = c.self.invariant in
     let v : MountView = mount_view c.self.inside.shape c.self.inside.drives c.self.inside.deeds (map g.U.Unit.model c.self.inside.units.items)
     (map g.U.Unit.wear c.self.inside.units.items) c.self.inside.granted (pad_of c.self.inside.core) in
-    let may : MayPlace v.image (logs_in v) c.place.new.into.stripe = c.place.ensures.legal v.image (world_in v) m.sound.legal.simple.mount m.stands in
+    let once : c.place.new.into.again ≡ false =
+    placed_once v c.self.inside.core c.self.inside.pool c.self.inside.stripe m c.place.new.self c.place.new.into c.place.ensures.again in
+    let may : MayPlace v.image (logs_in v) c.place.new.into.stripe = c.place.ensures.legal once v.image (world_in v) m.sound.legal.simple.mount m.stands in
     let low : c.place.new.into.stripe.unit < length (map g.U.Unit.model c.self.inside.units.items) =
     unit_within v c.self.inside.core c.self.inside.pool c.self.inside.stripe m c.place.new.into.stripe may in
     let many : length (map g.U.Unit.model c.self.inside.units.items) ≡ length c.self.inside.units.items = length-map c.self.inside.units.items g.U.Unit.model in
@@ -50,7 +52,9 @@ program-requires-clause-whole g c =
     let m = c.self.invariant in
     let v : MountView = mount_view c.self.inside.shape c.self.inside.drives c.self.inside.deeds (map g.U.Unit.model c.self.inside.units.items)
     (map g.U.Unit.wear c.self.inside.units.items) c.self.inside.granted (pad_of c.self.inside.core) in
-    let may : MayPlace v.image (logs_in v) c.place.new.into.stripe = c.place.ensures.legal v.image (world_in v) m.sound.legal.simple.mount m.stands in
+    let once : c.place.new.into.again ≡ false =
+    placed_once v c.self.inside.core c.self.inside.pool c.self.inside.stripe m c.place.new.self c.place.new.into c.place.ensures.again in
+    let may : MayPlace v.image (logs_in v) c.place.new.into.stripe = c.place.ensures.legal once v.image (world_in v) m.sound.legal.simple.mount m.stands in
     let there : slice_get v.units c.place.new.into.stripe.unit ≡ Some (g.U.Unit.model c.index_mut-to.result.now) =
     unit_there g.U.Unit.model c.self.inside.units.items c.unit-unit.result c.place.new.into.stripe.unit c.index_mut-to.result.now c.unit-unit.ensures
     (unit_within v c.self.inside.core c.self.inside.pool c.self.inside.stripe m c.place.new.into.stripe may) c.index_mut-to.ensures.value in
@@ -64,7 +68,9 @@ program-requires-clause-taken g c =
     let m = c.self.invariant in
     let v : MountView = mount_view c.self.inside.shape c.self.inside.drives c.self.inside.deeds (map g.U.Unit.model c.self.inside.units.items)
     (map g.U.Unit.wear c.self.inside.units.items) c.self.inside.granted (pad_of c.self.inside.core) in
-    let may : MayPlace v.image (logs_in v) c.place.new.into.stripe = c.place.ensures.legal v.image (world_in v) m.sound.legal.simple.mount m.stands in
+    let once : c.place.new.into.again ≡ false =
+    placed_once v c.self.inside.core c.self.inside.pool c.self.inside.stripe m c.place.new.self c.place.new.into c.place.ensures.again in
+    let may : MayPlace v.image (logs_in v) c.place.new.into.stripe = c.place.ensures.legal once v.image (world_in v) m.sound.legal.simple.mount m.stands in
     let there : slice_get v.units c.place.new.into.stripe.unit ≡ Some (g.U.Unit.model c.index_mut-to.result.now) =
     unit_there g.U.Unit.model c.self.inside.units.items c.unit-unit.result c.place.new.into.stripe.unit c.index_mut-to.result.now c.unit-unit.ensures
     (unit_within v c.self.inside.core c.self.inside.pool c.self.inside.stripe m c.place.new.into.stripe may) c.index_mut-to.ensures.value in
@@ -83,7 +89,9 @@ unreachable-requires g c =
     let m = c.self.invariant in
     let v : MountView = mount_view c.self.inside.shape c.self.inside.drives c.self.inside.deeds (map g.U.Unit.model c.self.inside.units.items)
     (map g.U.Unit.wear c.self.inside.units.items) c.self.inside.granted (pad_of c.self.inside.core) in
-    let may : MayPlace v.image (logs_in v) c.place.new.into.stripe = c.place.ensures.legal v.image (world_in v) m.sound.legal.simple.mount m.stands in
+    let once : c.place.new.into.again ≡ false =
+    placed_once v c.self.inside.core c.self.inside.pool c.self.inside.stripe m c.place.new.self c.place.new.into c.place.ensures.again in
+    let may : MayPlace v.image (logs_in v) c.place.new.into.stripe = c.place.ensures.legal once v.image (world_in v) m.sound.legal.simple.mount m.stands in
     let there : slice_get v.units c.place.new.into.stripe.unit ≡ Some (g.U.Unit.model c.index_mut-to.result.now) =
     unit_there g.U.Unit.model c.self.inside.units.items c.unit-unit.result c.place.new.into.stripe.unit c.index_mut-to.result.now c.unit-unit.ensures
     (unit_within v c.self.inside.core c.self.inside.pool c.self.inside.stripe m c.place.new.into.stripe may) c.index_mut-to.ensures.value in
@@ -97,9 +105,11 @@ landed-requires-clause-standing g c =
     let m = c.self.invariant in
     let v : MountView = mount_view c.self.inside.shape c.self.inside.drives c.self.inside.deeds (map g.U.Unit.model c.self.inside.units.items)
     (map g.U.Unit.wear c.self.inside.units.items) c.self.inside.granted (pad_of c.self.inside.core) in
-    let may : MayPlace v.image (logs_in v) c.place.new.into.stripe = c.place.ensures.legal v.image (world_in v) m.sound.legal.simple.mount m.stands in
+    let once : c.place.new.into.again ≡ false =
+    placed_once v c.self.inside.core c.self.inside.pool c.self.inside.stripe m c.place.new.self c.place.new.into c.place.ensures.again in
+    let may : MayPlace v.image (logs_in v) c.place.new.into.stripe = c.place.ensures.legal once v.image (world_in v) m.sound.legal.simple.mount m.stands in
     let placed : (knows : List ℕ) → Stands v.image (after (logs_in v) (Place c.place.new.into.stripe) knows) c.place.new.self =
-    λ knows. c.place.ensures.stands v.image (world_in v) knows m.sound.legal.simple.mount m.stands in
+    λ knows. c.place.ensures.stands once v.image (world_in v) knows m.sound.legal.simple.mount m.stands in
     placed_standing v c.self.inside.core c.self.inside.pool c.self.inside.stripe m c.place.new.into.stripe may c.place.new.self placed
 
 pub free_frames-requires : goal.free_frames-requires
@@ -115,9 +125,11 @@ grant-requires-clause-standing g c =
     let m = c.self.invariant in
     let v : MountView = mount_view c.self.inside.shape c.self.inside.drives c.self.inside.deeds (map g.U.Unit.model c.self.inside.units.items)
     (map g.U.Unit.wear c.self.inside.units.items) c.self.inside.granted (pad_of c.self.inside.core) in
-    let may : MayPlace v.image (logs_in v) c.place.new.into.stripe = c.place.ensures.legal v.image (world_in v) m.sound.legal.simple.mount m.stands in
+    let once : c.place.new.into.again ≡ false =
+    placed_once v c.self.inside.core c.self.inside.pool c.self.inside.stripe m c.place.new.self c.place.new.into c.place.ensures.again in
+    let may : MayPlace v.image (logs_in v) c.place.new.into.stripe = c.place.ensures.legal once v.image (world_in v) m.sound.legal.simple.mount m.stands in
     let placed : (knows : List ℕ) → Stands v.image (after (logs_in v) (Place c.place.new.into.stripe) knows) c.place.new.self =
-    λ knows. c.place.ensures.stands v.image (world_in v) knows m.sound.legal.simple.mount m.stands in
+    λ knows. c.place.ensures.stands once v.image (world_in v) knows m.sound.legal.simple.mount m.stands in
     let legal = end_legal v c.self.inside.core c.self.inside.pool c.self.inside.stripe m c.place.new.into.stripe may in
     let stood : Stands v.image (log_of (world_of v.image.shape (landed_deeds v.image v.deeds c.place.new.into.stripe))) c.landed.new.self =
     end_stands v c.self.inside.core c.self.inside.pool c.self.inside.stripe m c.place.new.into.stripe may c.place.new.self c.landed.new.self placed
@@ -137,7 +149,9 @@ invariant_of-self g c =
     let m = c.self.invariant in
     let v : MountView = mount_view c.self.inside.shape c.self.inside.drives c.self.inside.deeds (map g.U.Unit.model c.self.inside.units.items)
     (map g.U.Unit.wear c.self.inside.units.items) c.self.inside.granted (pad_of c.self.inside.core) in
-    let may : MayPlace v.image (logs_in v) c.place.new.into.stripe = c.place.ensures.legal v.image (world_in v) m.sound.legal.simple.mount m.stands in
+    let once : c.place.new.into.again ≡ false =
+    placed_once v c.self.inside.core c.self.inside.pool c.self.inside.stripe m c.place.new.self c.place.new.into c.place.ensures.again in
+    let may : MayPlace v.image (logs_in v) c.place.new.into.stripe = c.place.ensures.legal once v.image (world_in v) m.sound.legal.simple.mount m.stands in
     let there : slice_get v.units c.place.new.into.stripe.unit ≡ Some (g.U.Unit.model c.index_mut-to.result.now) =
     unit_there g.U.Unit.model c.self.inside.units.items c.unit-unit.result c.place.new.into.stripe.unit c.index_mut-to.result.now c.unit-unit.ensures
     (unit_within v c.self.inside.core c.self.inside.pool c.self.inside.stripe m c.place.new.into.stripe may) c.index_mut-to.ensures.value in
@@ -147,7 +161,7 @@ invariant_of-self g c =
     let blocks : blocks_of (g.U.Unit.model c.index_mut-to.result.now).shape.sector c.parts.result.0.now c.parts.result.1.now ≡ c.place.new.into.stripe.blocks =
     ap (λ (s : Shape). blocks_of s.sector c.parts.result.0.now c.parts.result.1.now) (was.shape ∙ sym shapes) ∙ c.parts.ensures.blocks in
     let placed : (knows : List ℕ) → Stands v.image (after (logs_in v) (Place c.place.new.into.stripe) knows) c.place.new.self =
-    λ knows. c.place.ensures.stands v.image (world_in v) knows m.sound.legal.simple.mount m.stands in
+    λ knows. c.place.ensures.stands once v.image (world_in v) knows m.sound.legal.simple.mount m.stands in
     let legal = end_legal v c.self.inside.core c.self.inside.pool c.self.inside.stripe m c.place.new.into.stripe may in
     let stood : Stands v.image (log_of (world_of v.image.shape (landed_deeds v.image v.deeds c.place.new.into.stripe))) c.landed.new.self =
     end_stands v c.self.inside.core c.self.inside.pool c.self.inside.stripe m c.place.new.into.stripe may c.place.new.self c.landed.new.self placed
@@ -202,7 +216,9 @@ returns-clause-same g c =
     let m = c.self.invariant in
     let v : MountView = mount_view c.self.inside.shape c.self.inside.drives c.self.inside.deeds (map g.U.Unit.model c.self.inside.units.items)
     (map g.U.Unit.wear c.self.inside.units.items) c.self.inside.granted (pad_of c.self.inside.core) in
-    let may : MayPlace v.image (logs_in v) c.place.new.into.stripe = c.place.ensures.legal v.image (world_in v) m.sound.legal.simple.mount m.stands in
+    let once : c.place.new.into.again ≡ false =
+    placed_once v c.self.inside.core c.self.inside.pool c.self.inside.stripe m c.place.new.self c.place.new.into c.place.ensures.again in
+    let may : MayPlace v.image (logs_in v) c.place.new.into.stripe = c.place.ensures.legal once v.image (world_in v) m.sound.legal.simple.mount m.stands in
     let deeds : c.add-3.new.self ≡ landed_deeds v.image v.deeds c.place.new.into.stripe =
     c.add-3.ensures ∙ ap₂ (λ (ds : List Deed) n. ds ++ Lands n ∷ [])
     (c.add-2.ensures ∙ ap (λ (ds : List Deed). ds ++ Does c.place.new.into.stripe.unit (program_of c.place.new.into.stripe) ∷ []) c.add.ensures)
@@ -254,7 +270,9 @@ returns-clause-more g c =
     let m = c.self.invariant in
     let v : MountView = mount_view c.self.inside.shape c.self.inside.drives c.self.inside.deeds (map g.U.Unit.model c.self.inside.units.items)
     (map g.U.Unit.wear c.self.inside.units.items) c.self.inside.granted (pad_of c.self.inside.core) in
-    let may : MayPlace v.image (logs_in v) c.place.new.into.stripe = c.place.ensures.legal v.image (world_in v) m.sound.legal.simple.mount m.stands in
+    let once : c.place.new.into.again ≡ false =
+    placed_once v c.self.inside.core c.self.inside.pool c.self.inside.stripe m c.place.new.self c.place.new.into c.place.ensures.again in
+    let may : MayPlace v.image (logs_in v) c.place.new.into.stripe = c.place.ensures.legal once v.image (world_in v) m.sound.legal.simple.mount m.stands in
     let deeds : c.add-3.new.self ≡ landed_deeds v.image v.deeds c.place.new.into.stripe =
     c.add-3.ensures ∙ ap₂ (λ (ds : List Deed) n. ds ++ Lands n ∷ [])
     (c.add-2.ensures ∙ ap (λ (ds : List Deed). ds ++ Does c.place.new.into.stripe.unit (program_of c.place.new.into.stripe) ∷ []) c.add.ensures)

@@ -16,6 +16,7 @@ use Rattle.block_target.specs.Mount.{MountView, IsMount, IsSameMount, IsUnitIn, 
 use Rattle.block_target.proofs.KeptWear.{wear_kept, unit_inside_all}
 use Rattle.block_target.proofs.PumpedCall.{unit_there}
 use Rattle.block_target.proofs.PumpedReset.{end_world, reset_deeds, unit_within, takes_reset, end_legal, end_stands, end_sound, chunk_after, has_line, mount_reset, more_reset, same_reset}
+use Rattle.block_target.proofs.MountLemmas.{named_work}
 use Rattle.block_target.proofs.mount.Mount.reset.Goals as goal
 
 pub index_mut-of-requires : goal.index_mut-of-requires
@@ -96,7 +97,7 @@ pub reset_done-requires-clause-named : goal.reset_done-requires-clause-named
 reset_done-requires-clause-named g c =
     work_is (image_of c.self.inside.shape (drive_before c.self.inside.drives))
     (world_of c.self.inside.shape c.self.inside.deeds) c.self.inside.core c.self.invariant.sound.legal.simple c.self.invariant.stands
-    ∙ ap work_in c.self.view_is ∙ c.requires.named
+    ∙ named_work _ c.self.inside.core c.self.inside.pool c.self.inside.stripe c.self.invariant ∙ ap work_in c.self.view_is ∙ c.requires.named
 
 pub free_frames-requires : goal.free_frames-requires
 free_frames-requires g c = subst (λ (w : view.WindowView). view.AreOf c.self.inside.pool.region w.entries)
