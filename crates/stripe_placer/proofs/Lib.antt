@@ -13,3 +13,4 @@ pub mod Placers
 pub mod Named
 pub mod OpenLinesLemmas
 pub mod PlacingLemmas
+pub mod NextUnits

@@ -1,9 +1,9 @@
 -- Lemmas on the words of Placing.
-use Rattle.std.proofs.Common.{Bool, None, Option, Some, ap, cond, false, inl, inr, length, refl, sym, true, ◌<◌, ◌≡◌, ◌∙◌}
+use Rattle.std.proofs.Common.{Bool, None, Some, cond, false, length, refl, true, ◌<◌, ◌≡◌}
 use Rattle.std.specs.List.{slice_get}
 use Rattle.std.specs.Option.{option_map_or}
-use Rattle.stripe_placer.specs.Placing.{IsForUnit, Program, Placing, UnitRow, is_stopped, placed, placed_again, placed_first}
-use Rattle.stripe_placer.specs.Placing.UnitRow.{Idle, Stopped, UnderWay}
+use Rattle.stripe_placer.specs.Placing.{Program, Placing, is_stopped, placed, placed_again, placed_first}
+use Rattle.stripe_placer.specs.Placing.UnitRow.{UnderWay}
 use Rattle.lemmas.proofs.Parts.{get_set_same}
 
 pub cond_true : (b : Bool) (of o : Program) → cond b (Some of) None ≡ Some o → b ≡ true
@@ -24,18 +24,3 @@ placed_shape p of = go (option_map_or is_stopped (slice_get p.units of.unit) fal
     go : (b : Bool) → Placing.shape (cond b (placed_again p of) (placed_first p of)) ≡ p.shape
     go true = refl
     go false = refl
-
--- what the unit of the next program has, by whether one was stopped there
-pub its_stop : (p : Placing) (of : Program) → IsForUnit p of → option_map_or is_stopped (slice_get p.units of.unit) false ≡ true
-    → slice_get p.units of.unit ≡ Some (Stopped of)
-its_stop p of (inl idle) says =
-    let wrong : false ≡ true = sym (ap (λ (r : Option UnitRow). option_map_or is_stopped r false) idle) ∙ says in
-    absurd cc
-its_stop p of (inr stops) says = stops
-
-pub its_idle : (p : Placing) (of : Program) → IsForUnit p of → option_map_or is_stopped (slice_get p.units of.unit) false ≡ false
-    → slice_get p.units of.unit ≡ Some Idle
-its_idle p of (inl idle) says = idle
-its_idle p of (inr stops) says =
-    let wrong : true ≡ false = sym (ap (λ (r : Option UnitRow). option_map_or is_stopped r false) stops) ∙ says in
-    absurd cc

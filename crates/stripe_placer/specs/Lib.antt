@@ -5,3 +5,4 @@ pub mod Units
 pub mod Queues
 pub mod Slots
 pub mod Inside
+pub mod NextUnits

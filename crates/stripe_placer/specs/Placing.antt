@@ -1,6 +1,6 @@
 -- Which stripe a target places next, and what its answer changes (this project's rules of placing and padding; Bjørling,
 -- González, Bonnet, FAST 2017, write buffering).
-use Rattle.std.specs.Prelude.{ℕ, ◌*◌, ◌/◌, ◌≡◌, ◌⊎◌, ◌&&◌, not, if◌then◌else◌, Bool, true, false, List, [], ◌∷◌, ◌++◌, map, length, replicate, take, slice_get, slice_set, Option, Some, None}
+use Rattle.std.specs.Prelude.{ℕ, ◌*◌, ◌/◌, ◌≡◌, ◌&&◌, not, if◌then◌else◌, Bool, true, false, List, [], ◌∷◌, ◌++◌, map, length, replicate, take, slice_get, slice_set, Option, Some, None}
 use Rattle.std.specs.List.{filter, filter_map, find, flat_map}
 use Rattle.std.specs.Option.{option_map_or}
 use Rattle.pblk_model.specs.declared.shape.Shape.{Shape}
@@ -132,10 +132,6 @@ next_stripe p busy = find (λ of. is_ready p.units busy of.unit) (offers p)
 -- it is the next stripe for some busy units
 abbrev pub IsNext : Placing → Program → Type 0
 IsNext p of = (busy : ℕ) × (next_stripe p busy ≡ Some of)
-
--- Its unit has no stripe yet, or has this one, whose program was stopped.
-abbrev pub IsForUnit : Placing → Program → Type 0
-IsForUnit p of = (slice_get p.units of.unit ≡ Some Idle) ⊎ (slice_get p.units of.unit ≡ Some (Stopped of))
 
 -- it was placed and hasn't been answered
 abbrev pub IsUnderWay : Placing → Program → Type 0

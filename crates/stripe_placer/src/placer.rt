@@ -12,7 +12,8 @@ ghost use Rattle.stripe_placer.specs.Entries.{Rises};
 ghost use Rattle.stripe_placer.specs.OpenLines.{OpenLine, next_of, in_one_chunk, in_line, has_left};
 ghost use Rattle.stripe_placer.specs.OpenLines.Stripe.{Unanswered, Landed, Lost};
 ghost use Rattle.stripe_placer.specs.Placing.{nothing_placed, held, waits, padded_to, begun};
-ghost use Rattle.stripe_placer.specs.Placing.{UnitRow, program, next_stripe, under_way_in, positions_in, IsNext, IsForUnit, IsUnderWay, is_stopped};
+ghost use Rattle.stripe_placer.specs.Placing.{UnitRow, program, next_stripe, under_way_in, positions_in, IsNext, IsUnderWay, is_stopped};
+ghost use Rattle.stripe_placer.specs.NextUnits.{IsForUnit};
 ghost use Rattle.stripe_placer.specs.Placing.{placed, landed, lost, stopped};
 ghost use Rattle.stripe_placer.specs.Inside.{IsAmongLines, IsUnanswered, AreApart};
 

@@ -1,6 +1,6 @@
 use Rattle.std.proofs.Common.{◌≡◌, true, false, sym, ◌∙◌, is_some, rules}
 use Rattle.stripe_placer.specs.Placing.{next_stripe, program}
-use Rattle.stripe_placer.proofs.PlacingLemmas.{its_idle, its_stop}
+use Rattle.stripe_placer.proofs.NextUnits.{its_idle, its_stop}
 use Rattle.pblk_core.proofs.WorkOf.{program_named}
 use Rattle.pblk_core.proofs.target_core.Core.place.Goals as goal
 

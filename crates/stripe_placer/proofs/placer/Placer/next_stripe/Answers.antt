@@ -3,7 +3,8 @@ use Rattle.std.specs.List.{filter_map, slice_get}
 use Rattle.std.specs.Option.{option_map, IsNone, IfSome}
 use Rattle.stripe_placer.specs.Entries.{Rises}
 use Rattle.stripe_placer.specs.OpenLines.{OpenLine}
-use Rattle.stripe_placer.specs.Placing.{Program, placement, program, Placing, UnitRow, stopped_in, is_ready, next_in, next_stripe, IsNext, IsForUnit}
+use Rattle.stripe_placer.specs.Placing.{Program, placement, program, Placing, UnitRow, stopped_in, is_ready, next_in, next_stripe, IsNext}
+use Rattle.stripe_placer.specs.NextUnits.{IsForUnit}
 use Rattle.stripe_placer.specs.Placing.UnitRow.{Stopped}
 use Rattle.stripe_placer.proofs.Named.{IsNew}
 use Rattle.stripe_placer.specs.Inside.{OwnUnits, IsAmongLines, FitsShape, IsPlacer, first_given, placing}
