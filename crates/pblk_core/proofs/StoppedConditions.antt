@@ -59,9 +59,6 @@ says_stopped i w c of stripe its same unit = record {
   stopped = ap (was_stopped_on (log_of w 0)) unit ∙ its.was;
 }
 module _ (i : Image) (w : World) (c : Core) (of : Program) (simple : IsSimpleMount i w) (its : IsStopped i w c of) where
-  abbrev pub its_opening : Opening
-  its_opening = its.is.row.opening
-
   -- ---- its line among the open ones
 
   pub line_there : (k : ℕ) × (slot : KeptLine) × (k < 2) × IsSlot c.open k slot × (slot.records.line ≡ of.line)
@@ -97,8 +94,9 @@ module _ (i : Image) (w : World) (c : Core) (of : Program) (simple : IsSimpleMou
       placed_there =
           let below : its.is.number < length (stripes_of (log_of w 0) its.is.row.opening) =
           slice_get_within (stripes_of (log_of w 0) its.is.row.opening) its.is.number its.is.row.stripe its.is.there in
+          let most : its.is.number ≤ length (stripes_of (log_of w 0) its.is.row.opening) = omega arith in
           let product : its.is.number * i.shape.ws_opt ≤ length (stripes_of (log_of w 0) its.is.row.opening) * i.shape.ws_opt =
-          mul-le-mul_right i.shape.ws_opt (omega arith) in
+          mul-le-mul_right i.shape.ws_opt most in
           let from : end_address i.shape its.is.row.opening ≤ of.at = end_part kind in
           let at : of.at ≡ its.is.number * i.shape.ws_opt = its.is.number_is in
           omega arith

@@ -68,7 +68,7 @@ pub start_stripe-requires-clause-within : goal.start_stripe-requires-clause-with
 start_stripe-requires-clause-within c =
     let sd = c.requires.standing in
     let of : Program = program c.args.self.now.placer c.args.of.now in
-    let its = offer sd.image sd.world c.args.self.now (program c.args.self.now.placer c.args.of.now) (its_simple sd) sd.stands c.requires.next c.requires.idle in
+    let its = offer sd.image sd.world c.args.self.now of (its_simple sd) sd.stands c.requires.next c.requires.idle in
     let begun : c.begin.new.self.shape ≡ sd.image.shape = ap (λ f. f.shape) c.begin.ensures ∙ c.requires.shape ∙ sd.stands.layout in
     subst (λ (s : Shape). of.at + s.ws_opt ≤ start_len s) (sym begun) (subst (IsInPart sd.image.shape its.0 of.at) c.in-Start.is its.1.part)
 
@@ -77,7 +77,7 @@ fill-requires-clause-held c = λ k q e.
     let sd = c.requires.standing in
     let core : Core = c.args.self.now in
     let of : Program = program core.placer c.args.of.now in
-    let its = offer sd.image sd.world c.args.self.now (program c.args.self.now.placer c.args.of.now) (its_simple sd) sd.stands c.requires.next c.requires.idle in
+    let its = offer sd.image sd.world c.args.self.now of (its_simple sd) sd.stands c.requires.next c.requires.idle in
     let told : c.positions-positions.result.now ≡ of.positions =
     told_entries sd.image sd.world core c.placed.new.self its.0 of _ sd.stands its.1 c.placed.ensures.placed c.positions-positions.ensures in
     in_the_window sd.image sd.world core its.0 of k q (its_simple sd) sd.stands its.1 (ap (λ qs. slice_get qs k) (sym told) ∙ e)
@@ -93,7 +93,7 @@ fill-requires-clause-room c =
     let sd = c.requires.standing in
     let core : Core = c.args.self.now in
     let of : Program = program core.placer c.args.of.now in
-    let its = offer sd.image sd.world c.args.self.now (program c.args.self.now.placer c.args.of.now) (its_simple sd) sd.stands c.requires.next c.requires.idle in
+    let its = offer sd.image sd.world c.args.self.now of (its_simple sd) sd.stands c.requires.next c.requires.idle in
     let told : c.positions-positions.result.now ≡ of.positions =
     told_entries sd.image sd.world core c.placed.new.self its.0 of _ sd.stands its.1 c.placed.ensures.placed c.positions-positions.ensures in
     let begun : c.begin.new.self.shape ≡ sd.image.shape = ap (λ f. f.shape) c.begin.ensures ∙ c.requires.shape ∙ sd.stands.layout in
@@ -105,7 +105,7 @@ pub settle_lines-requires-clause-inside : goal.settle_lines-requires-clause-insi
 settle_lines-requires-clause-inside c =
     let sd = c.requires.standing in
     let of : Program = program c.args.self.now.placer c.args.of.now in
-    let its = offer sd.image sd.world c.args.self.now (program c.args.self.now.placer c.args.of.now) (its_simple sd) sd.stands c.requires.next c.requires.idle in
+    let its = offer sd.image sd.world c.args.self.now of (its_simple sd) sd.stands c.requires.next c.requires.idle in
     line_inside sd.image sd.world c.args.self.now of.line sd.stands its.1.line
 
 pub settle_lines-requires-clause-room : goal.settle_lines-requires-clause-room
@@ -113,7 +113,7 @@ settle_lines-requires-clause-room c = λ row there.
     let sd = c.requires.standing in
     let core : Core = c.args.self.now in
     let of : Program = program core.placer c.args.of.now in
-    let its = offer sd.image sd.world c.args.self.now (program c.args.self.now.placer c.args.of.now) (its_simple sd) sd.stands c.requires.next c.requires.idle in
+    let its = offer sd.image sd.world c.args.self.now of (its_simple sd) sd.stands c.requires.next c.requires.idle in
     let told : c.positions-positions.result.now ≡ of.positions =
     told_entries sd.image sd.world core c.placed.new.self its.0 of _ sd.stands its.1 c.placed.ensures.placed c.positions-positions.ensures in
     let few : of.count ≤ sd.image.shape.ws_opt = few_entries sd.image sd.world core.placer.entries.pad its.0 of its.1 in
@@ -137,7 +137,7 @@ overflow_sub-self c =
     let sd = c.requires.standing in
     let core : Core = c.args.self.now in
     let of : Program = program core.placer c.args.of.now in
-    let its = offer sd.image sd.world c.args.self.now (program c.args.self.now.placer c.args.of.now) (its_simple sd) sd.stands c.requires.next c.requires.idle in
+    let its = offer sd.image sd.world c.args.self.now of (its_simple sd) sd.stands c.requires.next c.requires.idle in
     let less : sd.image.shape.ws_opt ≤ core.left = left_room sd.image sd.world core its.0 of (its_simple sd) sd.stands its.1 c.in-Data.is in
     subst (λ n. n ≤ core.left) (sym (c.from.ensures ∙ ap (λ (s : Shape). s.ws_opt) (c.shape.ensures.shape ∙ sd.stands.layout))) less
 
@@ -146,7 +146,7 @@ overflow_add-self c =
     let sd = c.requires.standing in
     let core : Core = c.args.self.now in
     let of : Program = program core.placer c.args.of.now in
-    let its = offer sd.image sd.world c.args.self.now (program c.args.self.now.placer c.args.of.now) (its_simple sd) sd.stands c.requires.next c.requires.idle in
+    let its = offer sd.image sd.world c.args.self.now of (its_simple sd) sd.stands c.requires.next c.requires.idle in
     let few : c.args.self.now.placed + c.args.of.now.count < 2 ^ 64 =
     placed_short sd.image sd.world core its.0 of (its_simple sd) sd.stands its.1 c.in-Data.is in
     let count : c.from-in-Data.result ≡ c.args.of.now.count = c.from-in-Data.ensures in
