@@ -2,7 +2,7 @@
 use Rattle.std.proofs.Common.{Bool, List, None, Option, Some, [], ap, false, if◌then◌else◌, map, not, refl, suc, take, true, zero, ℕ, ◌&&◌, ◌==◌, ◌∷◌, ◌≡◌, sym, ◌∙◌}
 use Rattle.std.specs.List.{fold, range_with_len}
 use Rattle.std.specs.Option.{option_map_or}
-use Rattle.core_laws.specs.PlacerOf.{contains_unit, entries_of, placing_of, positions_of, row_in, row_of, stopped_by, unanswered_on, waits_again}
+use Rattle.core_laws.specs.PlacerOf.{contains_unit, entries_of, placing_of, positions_of, row_in, row_of, stopped_by, unanswered_on, waits_again, was_stopped_on}
 use Rattle.core_laws.specs.OpenedLines.{open_lines}
 use Rattle.core_laws.specs.SimpleMounts.{NoneAgain, is_stopping}
 use Rattle.lemmas.proofs.Maps.{map_same}
