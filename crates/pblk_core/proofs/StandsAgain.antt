@@ -1,7 +1,7 @@
 -- A core that was told of a stop stands for the log with it; one that has the program under way again stands for the same
 -- log.
 use Rattle.std.proofs.Common.{◌≡◌, ℕ, ◌+◌, ◌≤◌, Some, List, [], ◌∷◌, length, refl, sym, subst, ap, ap₂, ◌∙◌, arith, append-nil, inl}
-use Rattle.std.specs.Prelude.{map, slice_get}
+use Rattle.std.specs.Prelude.{if◌then◌else◌, map, slice_get}
 use Rattle.std.specs.List.{filter, range_with_len}
 use Rattle.std.specs.FinMap as fin
 use Rattle.pblk_model.specs.Image.{Image, line_units}
@@ -180,9 +180,9 @@ pub record IsStoppedInto (old new : Core) (of : Program) : Type 0 where
   pub under_way : new.under_way ≡ old.under_way
   pub users : new.users ≡ old.users
 
-pub stopped_stands : (i : Image) (w : World) (event : ℕ) (knows : List ℕ) (old new : Core) (of : Program) → IsSimpleMount i w → Stands i (log_of w) old
+its_stop_stands : (i : Image) (w : World) (event : ℕ) (knows : List ℕ) (old new : Core) (of : Program) → IsSimpleMount i w → Stands i (log_of w) old
     → slice_get old.placer.units of.unit ≡ Some (UnderWay of) → IsStoppedInto old new of → Stands i (after (log_of w) (Again of.unit event) knows) new
-stopped_stands i w event knows old new of simple st there is = record {
+its_stop_stands i w event knows old new of simple st there is = record {
   simple = simple_after (log_of w 0) l st.simple refl refl refl;
   layout = is.layout ∙ st.layout;
   beginning = st.beginning;
@@ -253,3 +253,10 @@ stopped_stands i w event knows old new of simple st there is = record {
         is.placer ∙ ap (λ (p : Placing). stopped p of) st.placing
         ∙ sym (placing_stopped i (log_of w) event knows old.placer.entries.pad st.again of (ap (λ (p : Placing). slice_get p.units of.unit) (sym st.placing) ∙ there))
         ∙ ap (λ n. placing_of i new_logs n (without_unit of.unit st.again)) (sym pad_is)
+
+-- by the unit of the stripe
+pub stopped_stands : (i : Image) (w : World) (unit event : ℕ) (knows : List ℕ) (old new : Core) (of : Program) → IsSimpleMount i w → Stands i (log_of w) old
+    → of.unit ≡ unit → slice_get old.placer.units of.unit ≡ Some (UnderWay of) → IsStoppedInto old new of
+    → Stands i (after (log_of w) (Again unit event) knows) new
+stopped_stands i w unit event knows old new of simple st same there is =
+    subst (λ u. Stands i (after (log_of w) (Again u event) knows) new) same (its_stop_stands i w event knows old new of simple st there is)

@@ -2,13 +2,9 @@ use Rattle.std.proofs.Common.{◌≡◌, ℕ, ◌<◌, Some, length, refl, sym, 
 use Rattle.std.specs.Prelude.{slice_get}
 use Rattle.std.proofs.lemmas.Option.{slice_get_within}
 use Rattle.pblk_model.specs.Shape.{units}
-use Rattle.pblk_world.specs.Events.{Again}
-use Rattle.pblk_world.specs.World.{log_of}
 use Rattle.stripe_placer.specs.Placing.{Placing, Program, program, stopped}
 use Rattle.stripe_placer.specs.Placing.UnitRow.{Stopped, UnderWay}
-use Rattle.core_laws.specs.Stepping.{after}
 use Rattle.lemmas.proofs.Parts.{get_set_same}
-use Rattle.pblk_core.specs.Stands.{Stands}
 use Rattle.pblk_core.proofs.LandedCore.{of_core, told_row}
 use Rattle.pblk_core.proofs.LandedWay.{unit_is}
 use Rattle.pblk_core.proofs.SimpleLogs.{its_simple, simple_in}
@@ -47,8 +43,7 @@ stopped-requires c = here (goal.at.stopped-requires c).In-Some
 pub returns-clause-stands : goal.returns-clause-stands
 returns-clause-stands c = λ i w event knows mount st may.
     let at = (goal.at.returns-clause-stands c).In-Some in
-    subst (λ u. Stands i (after (log_of w) (Again u event) knows) _) (its_unit at)
-    (stopped_stands i w event knows c.args.self.now _ (program_in at) (simple_in i w mount st) st (here at) (record {
+    stopped_stands i w c.args.stripe.now.stripe.unit event knows c.args.self.now _ (program_in at) (simple_in i w mount st) st (its_unit at) (here at) (record {
       layout = refl;
       map = refl;
       lines = refl;
@@ -64,7 +59,7 @@ returns-clause-stands c = λ i w event knows mount st may.
       left = refl;
       under_way = refl;
       users = refl;
-    }))
+    })
 
 pub returns-clause-offered : goal.returns-clause-offered
 returns-clause-offered c =
