@@ -16,7 +16,7 @@ use Rattle.line_table.specs.Rows.{is_free}
 use Rattle.stripe_placer.specs.Placing.{next_stripe}
 use Rattle.core_laws.specs.OpenedLines.{live_now, open_line}
 use Rattle.world_laws.specs.LegalMounts.{IsLegalMount}
-use Rattle.core_laws.specs.SimpleMounts.{IsSimpleLog, IsSimpleMount, NoneAgain}
+use Rattle.core_laws.specs.SimpleMounts.{IsSimpleLog, IsSimpleMount}
 use Rattle.step_laws.specs.Whole.{unit_step}
 use Rattle.step_laws.proofs.UnitSteps.{engine_log}
 use Rattle.step_laws.proofs.UnitStays.{known_stays, rows_stay, lines_stay, older_stay, live_stays, line_stays, left_stay, slot_stays, window_stays, placing_stays, addresses_stay}

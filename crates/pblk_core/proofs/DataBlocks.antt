@@ -1,5 +1,5 @@
 -- The blocks of a stripe: those of entries that were taken, and those of a record, each with the record's mark.
-use Rattle.std.proofs.Common.{◌≡◌, ◌⊎◌, inl, inr, ℕ, ◌-◌, ◌&&◌, not, Some, List, length, take, replicate, refl, ap}
+use Rattle.std.proofs.Common.{◌≡◌, ◌⊎◌, inl, inr, ℕ, ◌-◌, ◌&&◌, not, Some, List, length, take, replicate, refl}
 use Rattle.std.specs.Prelude.{slice_get, map}
 use Rattle.std.specs.List.{AllByRecursion, filter}
 use Rattle.pblk_model.specs.declared.shape.Shape.{Shape}

@@ -1,6 +1,6 @@
 -- A core that was told of a stop stands for the log with it; one that has the program under way again stands for the same
 -- log.
-use Rattle.std.proofs.Common.{◌≡◌, ℕ, ◌+◌, ◌/◌, ◌≤◌, Some, List, [], ◌∷◌, length, refl, sym, subst, ap, ap₂, ◌∙◌, arith, append-nil, inl}
+use Rattle.std.proofs.Common.{◌≡◌, ℕ, ◌+◌, ◌/◌, ◌≤◌, Some, List, ◌∷◌, length, refl, sym, subst, ap, ap₂, ◌∙◌, arith, append-nil, inl}
 use Rattle.std.specs.Prelude.{if◌then◌else◌, map, slice_get}
 use Rattle.std.specs.List.{filter, range_with_len}
 use Rattle.std.specs.FinMap as fin

@@ -1,6 +1,6 @@
 -- A stripe that isn't answered can be filled again: its blocks are those of its kind, by the records of its line and by the
 -- entries in the window.
-use Rattle.std.proofs.Common.{◌≡◌, ◌⊎◌, inl, inr, ℕ, ◌+◌, ◌*◌, ◌/◌, ◌<◌, ◌≤◌, Bool, true, false, Some, None, Option, List, [], ◌∷◌, ◌++◌, ◌||◌, length, drop, take, refl, sym, subst, ap, ap₂, ◌∙◌, arith, mul-div_cancel}
+use Rattle.std.proofs.Common.{◌≡◌, inl, inr, ℕ, ◌+◌, ◌*◌, ◌/◌, ◌<◌, ◌≤◌, true, false, Some, None, Option, List, [], ◌∷◌, ◌++◌, ◌||◌, length, drop, take, refl, sym, subst, ap, ap₂, ◌∙◌, arith, mul-div_cancel}
 use Rattle.std.proofs.Math.Nat.{div-le_of_le-mul}
 use Rattle.std.specs.Prelude.{map, slice_get}
 use Rattle.std.specs.List.{AllByRecursion, Contains, filter_map, list_any}
@@ -12,9 +12,9 @@ use Rattle.pblk_model.specs.EndRecord.{end_bytes}
 use Rattle.pblk_model.specs.LineOrder.{start_len, end_len}
 use Rattle.pblk_model.specs.Marks.{meta_lba, pad_mark}
 use Rattle.pblk_model.specs.Image.{Image}
-use Rattle.pblk_world.specs.Events.{Stripe, Logged}
+use Rattle.pblk_world.specs.Events.{Logged}
 use Rattle.pblk_world.specs.World.{World, Logs, log_of}
-use Rattle.pblk_world.specs.EngineLog.{Answer, DidLand, WasLost, is_loss, answer_of, was_lost, Taken, takes, Opening, Opened, openings, life_of, Placed, placements, is_life, stripes_of, has_failed as failed_opening, block_of_taken}
+use Rattle.pblk_world.specs.EngineLog.{Answer, DidLand, WasLost, is_loss, answer_of, Taken, takes, Opening, Opened, life_of, Placed, placements, is_life, stripes_of, has_failed as failed_opening, block_of_taken}
 use Rattle.pblk_world.specs.Fronts.{first_position, waiting}
 use Rattle.pblk_world.specs.Placing.{next_address, end_address, start_blocks, end_blocks, data_marks, record_blocks, stripe_at}
 use Rattle.pblk_world.specs.Space.{freed}

@@ -1,4 +1,4 @@
-use Rattle.std.proofs.Common.{◌≡◌, ℕ, ◌+◌, ◌<◌, ◌≤◌, true, Some, List, length, refl, sym, subst, ap, ap₂, ◌∙◌}
+use Rattle.std.proofs.Common.{◌≡◌, ℕ, ◌+◌, ◌<◌, ◌≤◌, true, List, length, refl, sym, subst, ap, ap₂, ◌∙◌}
 use Rattle.std.specs.Prelude.{slice_get}
 use Rattle.pblk_model.specs.declared.shape.Shape.{Shape}
 use Rattle.pblk_model.specs.Chunk.{Block}
@@ -7,7 +7,6 @@ use Rattle.pblk_model.specs.LineOrder.{start_len}
 use Rattle.pblk_model.specs.Shape.{units}
 use Rattle.pblk_world.specs.Placing.{stripe_at}
 use Rattle.pblk_world.specs.World.{World, log_of}
-use Rattle.stripe_placer.specs.declared.placement.StripeKind.TheVariants as kinds
 use Rattle.stripe_placer.specs.Placing.{Placing, Program, program}
 use Rattle.stripe_placer.proofs.PlacingLemmas.{placed_has, placed_shape}
 use Rattle.core_laws.specs.SimpleMounts.{IsSimpleMount}
@@ -19,7 +18,7 @@ use Rattle.pblk_core.specs.Stands.{Stands}
 use Rattle.pblk_core.specs.declared.target_core.Core.{Core}
 use Rattle.pblk_core.proofs.KeptFrames.{placed_pad}
 use Rattle.pblk_core.proofs.PlacedStripe.{IsInPart}
-use Rattle.pblk_core.proofs.PlacingConditions.{padded_is, padded_to_stripe, stripe_of, unit_inside}
+use Rattle.pblk_core.proofs.PlacingConditions.{padded_is, stripe_of, unit_inside}
 use Rattle.pblk_core.proofs.SimpleLogs.{its_simple, simple_in}
 use Rattle.pblk_core.proofs.StandsAgain.{IsPlacedAgain, again_into, again_stands}
 use Rattle.pblk_core.proofs.StoppedConditions.{IsStopped, end_again_within, few_again, from_again, held_again, its_stopped, line_there, marks_again, says_stopped, slot_kept, slot_there, start_within, told_again}

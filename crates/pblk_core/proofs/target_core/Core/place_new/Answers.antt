@@ -17,7 +17,6 @@ use Rattle.pblk_model.specs.LineOrder.{start_len}
 use Rattle.pblk_model.specs.Image.{Image}
 use Rattle.pblk_world.specs.World.{World, log_of}
 use Rattle.pblk_world.specs.Events.{Stripe}
-use Rattle.pblk_world.specs.EngineLog.{Opening}
 use Rattle.pblk_world.specs.Placing.{stripe_at}
 use Rattle.core_laws.specs.SimpleMounts.{IsSimpleMount}
 use Rattle.stripe_placer.specs.Placing.{Program, Placing, program}
@@ -25,7 +24,7 @@ use Rattle.pblk_model.specs.Shape.{units}
 use Rattle.pblk_core.specs.Stands.{Stands}
 use Rattle.pblk_core.specs.declared.open_lines.OpenLine.{OpenLine as KeptLine}
 use Rattle.pblk_core.specs.declared.target_core.Core.{Core}
-use Rattle.pblk_core.proofs.PlacedStripe.{IsInPart, IsOfferedNow}
+use Rattle.pblk_core.proofs.PlacedStripe.{IsInPart}
 use Rattle.pblk_core.proofs.WaitingEntries.{sectors_sized}
 use Rattle.pblk_core.proofs.PlacingConditions.{offer, IsFound, found, found_there, slot_is, in_the_window, few_entries, line_inside, live_room, marks_room, marks_told, end_from, end_within, left_room, placed_short, under_way_short, told_entries, unit_inside, start_stripe_is, end_stripe_is, data_stripe_is, stripe_of, IsSettledInto, settled_same, left_back, slot_there, no_positions, padded_is, told_marks}
 use Rattle.stripe_placer.proofs.PlacingLemmas.{placed_has, placed_shape}
