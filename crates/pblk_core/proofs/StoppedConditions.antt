@@ -13,9 +13,8 @@ use Rattle.pblk_world.specs.EngineLog.{Opened, Opening, Taken, life_of, stripes_
 use Rattle.pblk_world.specs.Fronts.{waiting}
 use Rattle.pblk_world.specs.Placing.{end_address, line_end, next_address}
 use Rattle.stripe_placer.specs.declared.placement.StripeKind.TheVariants as kinds
-use Rattle.stripe_placer.specs.Placing.{Placing, Program, UnitRow, placed, positions_in}
-use Rattle.stripe_placer.specs.Placing.UnitRow.{Stopped, UnderWay}
-use Rattle.stripe_placer.proofs.PlacingLemmas.{placed_has}
+use Rattle.stripe_placer.specs.Placing.{Placing, Program, placed}
+use Rattle.stripe_placer.specs.Placing.UnitRow.{Stopped}
 use Rattle.write_window.specs.Window as view
 use Rattle.core_laws.specs.PlacerOf.{unanswered_on, was_stopped_on}
 use Rattle.core_laws.specs.SimpleMounts.{IsSimpleMount}
@@ -33,7 +32,7 @@ use Rattle.pblk_core.proofs.LandedLines.{HasSlot, found_slot, has_slot}
 use Rattle.pblk_core.proofs.LandedWay.{IsOnWay, line_of_way, of_stopped_row, on_way}
 use Rattle.pblk_core.proofs.LineUnits.{now_units}
 use Rattle.pblk_core.proofs.PlacedStripe.{IsInPart}
-use Rattle.pblk_core.proofs.PlacingConditions.{unit_inside, within_end}
+use Rattle.pblk_core.proofs.PlacingConditions.{within_end}
 use Rattle.pblk_core.proofs.StoppedStripe.{part, parts, positions_then}
 
 -- a stripe that was stopped: its place in its line, and the slot of that line
@@ -131,10 +130,3 @@ module _ (i : Image) (w : World) (c : Core) (of : Program) (simple : IsSimpleMou
       let short : length ts ≤ i.shape.ws_opt =
       omega (arith, length-take i.shape.ws_opt (waiting i.shape (take its.is.row.stripe.number (log_of w 0)))) in
       omega arith
-
-  -- the positions that a placer tells of the unit once the program is under way again
-  pub told_again : (new : Placing) (told : List ℕ) → Stands i (log_of w) c → new ≡ placed c.placer of
-      → ((row : UnitRow) → slice_get new.units of.unit ≡ Some row → told ≡ positions_in row) → told ≡ of.positions
-  told_again new told st is tells =
-      let has = placed_has c.placer of (unit_inside i w c of.unit st its.is.row.inside) in
-      tells (UnderWay of) (ap (λ (p : Placing). slice_get p.units of.unit) is ∙ has)

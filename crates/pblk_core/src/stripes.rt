@@ -112,7 +112,6 @@ impl Core {
         ensures under_way { IsUnderWayOn self.new into.new.stripe.unit }
         ensures shape { into.new.shape ≡ into.old.shape }
     {
-        self.placer.placed(of);
         into.begin(of.line, of.unit, of.block, true);
         let index = self.open.find(of.line);
         match of.kind {
@@ -125,6 +124,7 @@ impl Core {
             StripeKind::Pad => into.pad(),
             StripeKind::End => self.open.end_stripe(index, of.at, into),
         }
+        self.placer.placed(of);
     }
 
     /// Notes that all blocks of a placed stripe have landed. The stripe hasn't been answered before.

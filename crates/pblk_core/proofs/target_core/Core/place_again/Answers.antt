@@ -7,8 +7,9 @@ use Rattle.pblk_model.specs.LineOrder.{start_len}
 use Rattle.pblk_model.specs.Shape.{units}
 use Rattle.pblk_world.specs.Placing.{stripe_at}
 use Rattle.pblk_world.specs.World.{World, log_of}
-use Rattle.stripe_placer.specs.Placing.{Placing, Program, program}
-use Rattle.stripe_placer.proofs.PlacingLemmas.{placed_has, placed_shape}
+use Rattle.stripe_placer.specs.Placing.{IsNext, Placing, Program, placed, program}
+use Rattle.stripe_placer.specs.Placing.UnitRow.{Stopped}
+use Rattle.stripe_placer.proofs.PlacingLemmas.{placed_has}
 use Rattle.core_laws.specs.SimpleMounts.{IsSimpleMount}
 use Rattle.pblk_core.specs.Entries.{entry_blocks}
 use Rattle.pblk_core.specs.Filling.{Filling, followed_by}
@@ -21,14 +22,11 @@ use Rattle.pblk_core.proofs.PlacedStripe.{IsInPart}
 use Rattle.pblk_core.proofs.PlacingConditions.{padded_is, stripe_of, unit_inside}
 use Rattle.pblk_core.proofs.SimpleLogs.{its_simple, simple_in}
 use Rattle.pblk_core.proofs.StandsAgain.{IsPlacedAgain, again_into, again_stands}
-use Rattle.pblk_core.proofs.StoppedConditions.{IsStopped, end_again_within, few_again, from_again, held_again, its_stopped, line_there, marks_again, says_stopped, slot_kept, slot_there, start_within, told_again}
+use Rattle.pblk_core.proofs.StoppedConditions.{IsStopped, end_again_within, few_again, from_again, held_again, its_stopped, line_there, marks_again, says_stopped, slot_kept, slot_there, start_within}
 use Rattle.pblk_core.proofs.StoppedStripe.{data_again, end_again, part, start_again}
 use Rattle.pblk_core.proofs.WaitingEntries.{sectors_sized}
 use Rattle.pblk_core.proofs.target_core.Core.place_again.Goals as goal
 use Rattle.pblk_core.proofs.target_core.Core.place_again.Goals.{After-find-index, Joined-of, in-Start, in-Data, in-Pad, in-End}
-
-pub placed-requires : goal.placed-requires
-placed-requires c = (0, sym c.requires.next)
 
 pub find-index-requires-clause-there : goal.find-index-requires-clause-there
 find-index-requires-clause-there c =
@@ -40,11 +38,9 @@ find-index-requires-clause-there c =
 pub positions-positions-requires : goal.positions-positions-requires
 positions-positions-requires c =
     let sd = c.requires.standing in
-    let old : Placing = c.args.self.now.placer in
-    let of : Program = program old c.args.of.now in
+    let of : Program = program c.args.self.now.placer c.args.of.now in
     let its = its_stopped sd.image sd.world c.args.self.now of (its_simple sd) sd.stands c.requires.stopped in
-    subst (λ (p : Placing). of.unit < units p.shape) (sym c.placed.ensures.placed)
-    (subst (λ (s : Shape). of.unit < units s) (sym (placed_shape old of ∙ ap (λ (p : Placing). p.shape) sd.stands.placing)) its.is.row.inside)
+    subst (λ (s : Shape). of.unit < units s) (sym (ap (λ (p : Placing). p.shape) sd.stands.placing)) its.is.row.inside
 
 -- the slot that is found is the line's
 found_slot : (c : After-find-index) (i : Image) (w : World) (simple : IsSimpleMount i w) → Stands i (log_of w) c.args.self.now
@@ -73,8 +69,7 @@ fill-requires-clause-held c = λ k q e.
     let core : Core = c.args.self.now in
     let of : Program = program core.placer c.args.of.now in
     let its = its_stopped sd.image sd.world core of (its_simple sd) sd.stands c.requires.stopped in
-    let told : c.positions-positions.result.now ≡ of.positions =
-    told_again sd.image sd.world core of (its_simple sd) its c.placed.new.self _ sd.stands c.placed.ensures.placed c.positions-positions.ensures in
+    let told : c.positions-positions.result.now ≡ of.positions = c.positions-positions.ensures (Stopped of) c.requires.stopped in
     held_again sd.image sd.world core of (its_simple sd) its k q sd.stands (ap (λ qs. slice_get qs k) (sym told) ∙ e)
 
 pub fill-requires-clause-size : goal.fill-requires-clause-size
@@ -89,8 +84,7 @@ fill-requires-clause-room c =
     let core : Core = c.args.self.now in
     let of : Program = program core.placer c.args.of.now in
     let its = its_stopped sd.image sd.world core of (its_simple sd) sd.stands c.requires.stopped in
-    let told : c.positions-positions.result.now ≡ of.positions =
-    told_again sd.image sd.world core of (its_simple sd) its c.placed.new.self _ sd.stands c.placed.ensures.placed c.positions-positions.ensures in
+    let told : c.positions-positions.result.now ≡ of.positions = c.positions-positions.ensures (Stopped of) c.requires.stopped in
     let begun : c.begin.new.self.shape ≡ sd.image.shape = ap (λ f. f.shape) c.begin.ensures ∙ c.requires.shape ∙ sd.stands.layout in
     subst (λ (s : Shape). length c.positions-positions.result.now ≤ s.ws_opt) (sym begun)
     (subst (λ n. n ≤ sd.image.shape.ws_opt) (sym (ap (λ (qs : List ℕ). length qs) told))
@@ -164,7 +158,7 @@ the_stripe c i w simple st its there =
           ∙ start_again i w of.unit of simple its.is its.has.slot begun.shape v.in-Start.is its.has.is (begun_shape c i w st)
       | in-Data v ↦
           let blocks : List Block = entry_blocks core.window core.holds.rows.items of.positions in
-          let told = told_again i w core of simple its c.placed.new.self _ st c.placed.ensures.placed v.positions-positions.ensures in
+          let told : v.positions-positions.result.now ≡ of.positions = v.positions-positions.ensures (Stopped of) c.requires.stopped in
           let filled = v.fill.ensures ∙ ap (λ qs. followed_by begun (entry_blocks core.window core.holds.rows.items qs)) told in
           let padded = padded_is of c.args.into.now.shape true blocks begun v.fill.new.into v.pad.new.self c.begin.ensures filled v.pad.ensures in
           ap (λ f. f.stripe) v.into-is ∙ padded
@@ -176,18 +170,34 @@ the_stripe c i w simple st its there =
           ∙ end_again i w of.unit of simple its.is its.has.slot begun.shape v.in-End.is its.has.is (begun_shape c i w st)
     ]
 
+-- its placer is as it was when the stripe has been filled
+same_placer : (c : Joined-of) → c.match-of.self.placer ≡ (core_in c).placer
+same_placer c = elim c.match-of.branch as (λ b. c.match-of.self.placer ≡ (core_in c).placer) [
+  | in-Start v ↦ ap (λ (x : Core). x.placer) v.self-is
+  | in-Data v ↦ ap (λ (x : Core). x.placer) v.self-is
+  | in-Pad v ↦ ap (λ (x : Core). x.placer) v.self-is
+  | in-End v ↦ ap (λ (x : Core). x.placer) v.self-is
+]
+
+pub placed-requires : goal.placed-requires
+placed-requires c =
+    let at = (goal.at.placed-requires c).Joined-of in
+    subst (λ (p : Placing). IsNext p (program p c.args.of.now)) (sym (same_placer at)) (0, sym c.requires.next)
+
 -- the core but for its placer is as it was
-the_rest : (c : Joined-of) → IsPlacedAgain (core_in c) c.match-of.self (program_in c)
-the_rest c =
+the_rest : (c : Joined-of) (new : Placing) → new ≡ placed c.match-of.self.placer (program c.match-of.self.placer c.args.of.now)
+    → IsPlacedAgain (core_in c) (record c.match-of.self { placer = new }) (program_in c)
+the_rest c new placing =
     let core : Core = core_in c in
     let of : Program = program_in c in
-    let new : Placing = c.placed.new.self in
-    let is = c.placed.ensures.placed in
-    elim c.match-of.branch as (λ b. IsPlacedAgain (core_in c) c.match-of.self (program_in c)) [
-      | in-Start v ↦ again_into core c.match-of.self new core.open of v.self-is is refl refl
-      | in-Data v ↦ again_into core c.match-of.self new core.open of v.self-is is refl refl
-      | in-Pad v ↦ again_into core c.match-of.self new core.open of v.self-is is refl refl
-      | in-End v ↦ again_into core c.match-of.self new v.end_stripe.new.self of v.self-is is v.end_stripe.ensures.count v.end_stripe.ensures.slots
+    let is : new ≡ placed core.placer of = placing ∙ ap (λ (p : Placing). placed p (program p c.args.of.now)) (same_placer c) in
+    let into : Core = record c.match-of.self { placer = new } in
+    elim c.match-of.branch as (λ b. IsPlacedAgain (core_in c) (record c.match-of.self { placer = new }) (program_in c)) [
+      | in-Start v ↦ again_into core into new core.open of (ap (λ (x : Core). record x { placer = new }) v.self-is) is refl refl
+      | in-Data v ↦ again_into core into new core.open of (ap (λ (x : Core). record x { placer = new }) v.self-is) is refl refl
+      | in-Pad v ↦ again_into core into new core.open of (ap (λ (x : Core). record x { placer = new }) v.self-is) is refl refl
+      | in-End v ↦
+          again_into core into new v.end_stripe.new.self of (ap (λ (x : Core). record x { placer = new }) v.self-is) is v.end_stripe.ensures.count v.end_stripe.ensures.slots
     ]
 
 -- what a stripe that is filled has
@@ -245,15 +255,15 @@ returns-clause-stripe c = λ i w mount st.
 pub returns-clause-stands : goal.returns-clause-stands
 returns-clause-stands c = λ i w mount st.
     let at = (goal.at.returns-clause-stands c).Joined-of in
-    again_stands i (log_of w) (core_in at) _ (program_in at) st c.requires.stopped (the_rest at)
+    again_stands i (log_of w) (core_in at) _ (program_in at) st c.requires.stopped (the_rest at c.placed.new.self c.placed.ensures.placed)
 
 pub returns-clause-window : goal.returns-clause-window
-returns-clause-window c = (the_rest (goal.at.returns-clause-window c).Joined-of).window
+returns-clause-window c = (the_rest (goal.at.returns-clause-window c).Joined-of c.placed.new.self c.placed.ensures.placed).window
 
 pub returns-clause-pad : goal.returns-clause-pad
 returns-clause-pad c =
     let at = (goal.at.returns-clause-pad c).Joined-of in
-    ap (λ (p : Placing). p.entries.pad) (the_rest at).placer ∙ placed_pad c.args.self.now.placer (program_in at)
+    ap (λ (p : Placing). p.entries.pad) (the_rest at c.placed.new.self c.placed.ensures.placed).placer ∙ placed_pad c.args.self.now.placer (program_in at)
 
 pub returns-clause-under_way : goal.returns-clause-under_way
 returns-clause-under_way c =
@@ -264,5 +274,5 @@ returns-clause-under_way c =
     let same = the_stripe at sd.image sd.world (its_simple sd) sd.stands its
     (found_slot all.After-find-index sd.image sd.world (its_simple sd) sd.stands its) in
     let inside = unit_inside sd.image sd.world (core_in at) c.args.of.now.unit sd.stands its.is.row.inside in
-    (program_in at, ap₂ (λ (p : Placing) u. slice_get p.units u) (the_rest at).placer (ap (λ s. s.unit) same ∙ its.is.its_unit)
+    (program_in at, ap₂ (λ (p : Placing) u. slice_get p.units u) (the_rest at c.placed.new.self c.placed.ensures.placed).placer (ap (λ s. s.unit) same ∙ its.is.its_unit)
     ∙ placed_has c.args.self.now.placer (program_in at) inside)
