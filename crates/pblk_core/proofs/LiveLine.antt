@@ -1,5 +1,5 @@
 -- The line in which a sector is live, by its slot.
-use Rattle.std.proofs.Common.{◌≡◌, ℕ, ◌+◌, ◌-◌, ◌<◌, ◌≤◌, ◌&&◌, ◌||◌, nat_lt, drop, if◌then◌else◌, not, zero, suc, Bool, true, false, cond, Some, None, Option, List, [], ◌∷◌, length, refl, sym, subst, ap, ap₂, ◌∙◌, arith}
+use Rattle.std.proofs.Common.{◌≡◌, ℕ, ◌+◌, ◌-◌, ◌<◌, ◌≤◌, ◌&&◌, drop, if◌then◌else◌, not, zero, suc, Bool, true, false, cond, Some, None, Option, List, [], ◌∷◌, length, refl, sym, subst, ap, ◌∙◌, arith}
 use Rattle.std.specs.Prelude.{slice_get, ◌%◌}
 use Rattle.std.specs.List.{filter, find}
 use Rattle.std.specs.Option.{option_map, option_map_or, option_and_then}

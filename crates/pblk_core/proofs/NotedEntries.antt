@@ -4,11 +4,10 @@ use Rattle.std.specs.Prelude.{slice_get, slice_set, map}
 use Rattle.std.specs.List.{AllByRecursion, flat_map, list_any, range_with_len}
 use Rattle.std.specs.Option.{option_map, option_map_or}
 use Rattle.std.proofs.lemmas.Option.{same_Some, none-some, slice_get-map, slice_get_within}
-use Rattle.pblk_model.specs.declared.shape.Shape.{Shape}
 use Rattle.pblk_model.specs.Image.{Image}
 use Rattle.pblk_world.specs.Events.{Logged}
 use Rattle.pblk_world.specs.World.{World, log_of}
-use Rattle.pblk_world.specs.EngineLog.{Taken, takes, Placed, placements, answer_of, is_land, has_landed, bears_position, holds_position}
+use Rattle.pblk_world.specs.EngineLog.{Taken, takes, Placed, placements, is_land, has_landed, holds_position}
 use Rattle.pblk_world.specs.Fronts.{first_position, has_landed_at}
 use Rattle.pblk_world.specs.Victims.{landed_line}
 use Rattle.line_table.specs.declared.row.Row.{Row}
@@ -23,9 +22,9 @@ use Rattle.core_laws.proofs.Growing.{given_landed}
 use Rattle.core_laws.proofs.HeldOnce.{held_once, one_holder}
 use Rattle.core_laws.proofs.LandedStripe.{one_more}
 use Rattle.core_laws.proofs.NewlyHeld.{member_of}
-use Rattle.core_laws.specs.ChangedTables.{with_row, note_by}
+use Rattle.core_laws.specs.ChangedTables.{note_by}
 use Rattle.core_laws.proofs.LandedEntries.{AreItsEntries}
-use Rattle.core_laws.proofs.NextTakes.{IsRising, rising_by}
+use Rattle.core_laws.proofs.NextTakes.{rising_by}
 use Rattle.core_laws.proofs.LogOrders.{in_order}
 use Rattle.core_laws.proofs.PlacedEntryRows.{IsEntry, entry_at}
 use Rattle.core_laws.proofs.PlacedPlaces.{BearsThese, turned_round}

@@ -1,7 +1,7 @@
 -- A core that was told of a stop stands for the log with it; one that has the program under way again stands for the same
 -- log.
 use Rattle.std.proofs.Common.{◌≡◌, ℕ, ◌+◌, ◌/◌, ◌≤◌, Some, List, ◌∷◌, length, refl, sym, subst, ap, ap₂, ◌∙◌, arith, append-nil, inl}
-use Rattle.std.specs.Prelude.{if◌then◌else◌, map, slice_get}
+use Rattle.std.specs.Prelude.{if◌then◌else◌, slice_get}
 use Rattle.std.specs.List.{filter, range_with_len}
 use Rattle.std.specs.FinMap as fin
 use Rattle.pblk_model.specs.Image.{Image, line_units}
@@ -251,7 +251,8 @@ its_stop_stands i w event knows old new of simple st there is = record {
     placing_is : new.placer ≡ placing_of i new_logs new.placer.entries.pad (without_unit of.unit st.again)
     placing_is =
         is.placer ∙ ap (λ (p : Placing). stopped p of) st.placing
-        ∙ sym (placing_stopped i (log_of w) event knows old.placer.entries.pad st.again of (ap (λ (p : Placing). slice_get p.units of.unit) (sym st.placing) ∙ there))
+        ∙ sym (placing_stopped i (log_of w) event knows old.placer.entries.pad st.again of
+        (ap (λ (p : Placing). slice_get p.units of.unit) (sym st.placing) ∙ there))
         ∙ ap (λ n. placing_of i new_logs n (without_unit of.unit st.again)) (sym pad_is)
 
 -- by the unit of the stripe

@@ -13,7 +13,7 @@ use Rattle.pblk_world.specs.EngineLog.{Opened, Opening, Taken, life_of, stripes_
 use Rattle.pblk_world.specs.Fronts.{waiting}
 use Rattle.pblk_world.specs.Placing.{end_address, line_end, next_address}
 use Rattle.stripe_placer.specs.declared.placement.StripeKind.TheVariants as kinds
-use Rattle.stripe_placer.specs.Placing.{Placing, Program, placed}
+use Rattle.stripe_placer.specs.Placing.{Placing, Program}
 use Rattle.stripe_placer.specs.Placing.UnitRow.{Stopped}
 use Rattle.write_window.specs.Window as view
 use Rattle.core_laws.specs.PlacerOf.{unanswered_on, was_stopped_on}
@@ -57,6 +57,7 @@ says_stopped i w c of stripe its same unit = record {
   same = sym same;
   stopped = ap (was_stopped_on (log_of w 0)) unit ∙ its.was;
 }
+
 module _ (i : Image) (w : World) (c : Core) (of : Program) (simple : IsSimpleMount i w) (its : IsStopped i w c of) where
   -- ---- its line among the open ones
 
@@ -67,7 +68,7 @@ module _ (i : Image) (w : World) (c : Core) (of : Program) (simple : IsSimpleMou
       → ((slot : KeptLine) → IsSlot c.open 0 slot → slot.records.line ≡ of.line → result ≡ 0) → IsSlot c.open result its.has.slot
   slot_there result st inside line first =
       ap (slice_get c.open.slots.items)
-          (found_slot i w c its.is.row.opening of.line result (line_of_way i w of.unit of its.is) st its.has inside line first) ∙ its.has.there
+      (found_slot i w c its.is.row.opening of.line result (line_of_way i w of.unit of its.is) st its.has inside line first) ∙ its.has.there
 
   -- the line that stands there is it
   pub slot_kept : (result : ℕ) (slot : KeptLine) → IsSlot c.open result its.has.slot → IsSlot c.open result slot
@@ -107,7 +108,8 @@ module _ (i : Image) (w : World) (c : Core) (of : Program) (simple : IsSimpleMou
       → of.at + slot.records.shape.ws_opt ≤ end_begins slot.records + end_len slot.records.shape slot.records.width
   end_again_within slot is =
       let o : Opening = its.is.row.opening in
-      let below : its.is.number < length (stripes_of (log_of w 0) o) = slice_get_within (stripes_of (log_of w 0) o) its.is.number its.is.row.stripe its.is.there in
+      let below : its.is.number < length (stripes_of (log_of w 0) o) =
+      slice_get_within (stripes_of (log_of w 0) o) its.is.number its.is.row.stripe its.is.there in
       let all : length (stripes_of (log_of w 0) o) ≤ stripe_count i (now_units i w) o.line = its.is.line_is.order.inside in
       let whole : its.is.number * i.shape.ws_opt + i.shape.ws_opt ≤ line_end i.shape o =
       ends_before i.shape.ws_opt its.is.number (stripe_count i (now_units i w) o.line) (line_end i.shape o) (parts i w of.unit of simple its.is).line_is

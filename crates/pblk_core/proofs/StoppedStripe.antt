@@ -75,7 +75,8 @@ sound_stripe s log o l j plain = go (placed_as s log o l j)
     go None = refl
     go (Some p) = by_it (answer_of log p) (not_lost log p plain)
 
-sound_stripes : (s : Shape) (log : List Logged) (o : Opening) (l : OpenLine) (js : List ℕ) → ArePlain log → list_any is_lost (map (outcome s log o l) js) ≡ false
+sound_stripes : (s : Shape) (log : List Logged) (o : Opening) (l : OpenLine) (js : List ℕ) → ArePlain log
+    → list_any is_lost (map (outcome s log o l) js) ≡ false
 sound_stripes s log o l [] plain = refl
 sound_stripes s log o l (j ∷ js) plain = ap₂ (λ a b. a || b) (sound_stripe s log o l j plain) (sound_stripes s log o l js plain)
 
@@ -141,11 +142,11 @@ module _ (i : Image) (w : World) (unit : ℕ) (of : Program) (simple : IsSimpleM
       let c : ℕ = start_len s / s.ws_opt in
       let its : kind_of line_then is.number ≡ of.kind = ap (kind_of line_then) (sym number_then) ∙ ap (λ (x : Program). x.kind) is.row.is in
       let here : IsPart is.number c line_then.data_count of.kind =
-          subst (IsPart is.number c line_then.data_count)
-              (sym (kind_by line_then is.number (sound_stripes s (take p.number log) o (as_opened i earlier o) (numbers (as_opened i earlier o)) plain_then)) ∙ its)
-              (part_of is.number c line_then.data_count) in
+      subst (IsPart is.number c line_then.data_count)
+      (sym (kind_by line_then is.number (sound_stripes s (take p.number log) o (as_opened i earlier o) (numbers (as_opened i earlier o)) plain_then)) ∙ its)
+      (part_of is.number c line_then.data_count) in
       subst (λ a. IsInPart s o a of.kind) (sym is.number_is)
-          (in_part s o is.number c line_then.data_count of.kind parts.start_is (ap (λ d. (c + d) * s.ws_opt) same_data ∙ parts.ends_is) here)
+      (in_part s o is.number c line_then.data_count of.kind parts.start_is (ap (λ d. (c + d) * s.ws_opt) same_data ∙ parts.ends_is) here)
 
   -- ---- its blocks
 
@@ -155,7 +156,8 @@ module _ (i : Image) (w : World) (unit : ℕ) (of : Program) (simple : IsSimpleM
       unfailed : failed_opening (take is.row.stripe.number (log_of w 0)) is.row.opening ≡ false
       unfailed = none_failed (take p.number log) o plain_then
 
-      go : (k : StripeKind) → IsInPart i.shape is.row.opening of.at k → IsKind i (engine_prefix is.row.stripe.number (log_of w)) is.row.opening is.row.stripe.stripe
+      go : (k : StripeKind) → IsInPart i.shape is.row.opening of.at k
+          → IsKind i (engine_prefix is.row.stripe.number (log_of w)) is.row.opening is.row.stripe.stripe
           → is.row.stripe.stripe.blocks ≡ blocks_for i.shape (take is.row.stripe.number (log_of w 0)) is.row.opening of.at k
       go k in_it (inr (inr (inr h))) = let failed : failed_opening (take p.number log) o ≡ true = h.failed in absurd (no_both _ failed unfailed)
       go kinds.Start in_it (inl h) = h.blocks ∙ ap (stripe_at s (start_blocks s o) 0) at_then
@@ -206,14 +208,14 @@ module _ (i : Image) (w : World) (unit : ℕ) (of : Program) (simple : IsSimpleM
       → stripe_of of (stripe_at shape (blocks_at_start slot.records) 0 of.at) ≡ is.row.stripe.stripe
   start_again slot shape kind kept same =
       filled (stripe_at shape (blocks_at_start slot.records) 0 of.at)
-          (start_of_line s log o slot.records shape of.at kept.records same ∙ ap (blocks_for s (take p.number log) o of.at) (sym kind))
+      (start_of_line s log o slot.records shape of.at kept.records same ∙ ap (blocks_for s (take p.number log) o of.at) (sym kind))
 
   pub end_again : (slot : KeptLine) (shape : Shape) → of.kind ≡ kinds.End → IsOpenLine i (log_of w) is.row.opening slot → shape ≡ i.shape
       → stripe_of of (stripe_at shape (blocks_at_end slot.records) (end_begins slot.records) of.at) ≡ is.row.stripe.stripe
   end_again slot shape kind kept same =
       filled (stripe_at shape (blocks_at_end slot.records) (end_begins slot.records) of.at)
-          (end_of_line s log o slot.records shape of.at kept.records same ∙ ap (λ ms. by_marks ms) (sym marks)
-          ∙ ap (blocks_for s (take p.number log) o of.at) (sym kind))
+      (end_of_line s log o slot.records shape of.at kept.records same ∙ ap (λ ms. by_marks ms) (sym marks)
+      ∙ ap (blocks_for s (take p.number log) o of.at) (sym kind))
     where
       by_marks : List Mark → List Block
       by_marks ms = stripe_at i.shape (record_blocks i.shape is.row.opening.start.seq (end_len i.shape is.row.opening.start.width)
@@ -272,11 +274,11 @@ module _ (i : Image) (w : World) (unit : ℕ) (of : Program) (simple : IsSimpleM
           → entry_block c.window c.holds.rows.items t.entry.position ≡ block_of_taken t
       each k t e =
           let held : slice_get of.positions k ≡ Some t.entry.position =
-              ap (λ qs. slice_get qs k) (positions_then kind) ∙ get_mapped (λ (u : Taken). u.entry.position) entries_then k t e in
+          ap (λ qs. slice_get qs k) (positions_then kind) ∙ get_mapped (λ (u : Taken). u.entry.position) entries_then k t e in
           let own = own_in_window i w unit p t.entry.position simple is.row.waits (holds_it i w unit of k t.entry.position is held) in
           let first = waiting_taken s (take p.number log) k t (get_whole s.ws_opt (waiting s (take p.number log)) k t e) in
           let at : slice_get (takes log) first.0 ≡ Some t =
-              ap (λ ts. slice_get ts first.0) taken_parts ∙ get_more (takes (take p.number log)) (takes (drop p.number log)) first.0 t first.1 in
+          ap (λ ts. slice_get ts first.0) taken_parts ∙ get_more (takes (take p.number log)) (takes (drop p.number log)) first.0 t first.1 in
           let number : t.entry.position ≡ first_position log + first.0 = numbered_at log first.0 t (in_order i w simple).numbered at in
           let low : c.window.freed ≤ freed s log = st.to_freed in
           let from : freed s log ≤ t.entry.position = own.1 in

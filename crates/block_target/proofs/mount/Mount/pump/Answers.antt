@@ -23,14 +23,14 @@ program-requires g c =
     ap work_in (sym c.self.view_is)
     ∙ sym (c.next_work.ensures.work (image_of c.self.inside.shape (drive_before c.self.inside.drives)) (world_of c.self.inside.shape c.self.inside.deeds)
     c.self.invariant.sound.legal.simple.mount c.self.invariant.stands
-      ∙ named_work _ c.self.inside.core c.self.inside.pool c.self.inside.stripe c.self.invariant) ∙ c.in-Program.is
+    ∙ named_work _ c.self.inside.core c.self.inside.pool c.self.inside.stripe c.self.invariant) ∙ c.in-Program.is
 
 pub open_line-requires : goal.open_line-requires
 open_line-requires g c =
     ap work_in (sym c.self.view_is)
     ∙ sym (c.next_work.ensures.work (image_of c.self.inside.shape (drive_before c.self.inside.drives)) (world_of c.self.inside.shape c.self.inside.deeds)
     c.self.invariant.sound.legal.simple.mount c.self.invariant.stands
-      ∙ named_work _ c.self.inside.core c.self.inside.pool c.self.inside.stripe c.self.invariant) ∙ c.in-Open.is
+    ∙ named_work _ c.self.inside.core c.self.inside.pool c.self.inside.stripe c.self.invariant) ∙ c.in-Open.is
 
 pub returns-in-Nothing-clause-same : goal.returns-in-Nothing-clause-same
 returns-in-Nothing-clause-same g c = same_mount c.args.self.now

@@ -197,7 +197,8 @@ the_rest c new placing =
       | in-Data v ↦ again_into core into new core.open of (ap (λ (x : Core). record x { placer = new }) v.self-is) is refl refl
       | in-Pad v ↦ again_into core into new core.open of (ap (λ (x : Core). record x { placer = new }) v.self-is) is refl refl
       | in-End v ↦
-          again_into core into new v.end_stripe.new.self of (ap (λ (x : Core). record x { placer = new }) v.self-is) is v.end_stripe.ensures.count v.end_stripe.ensures.slots
+          again_into core into new v.end_stripe.new.self of (ap (λ (x : Core). record x { placer = new }) v.self-is) is
+          v.end_stripe.ensures.count v.end_stripe.ensures.slots
     ]
 
 -- what a stripe that is filled has
@@ -273,6 +274,8 @@ returns-clause-under_way c =
     let its = its_stopped sd.image sd.world (core_in at) (program_in at) (its_simple sd) sd.stands c.requires.stopped in
     let same = the_stripe at sd.image sd.world (its_simple sd) sd.stands its
     (found_slot all.After-find-index sd.image sd.world (its_simple sd) sd.stands its) in
-    let inside = unit_inside sd.image sd.world (core_in at) c.args.of.now.unit sd.stands its.is.row.inside in
-    (program_in at, ap₂ (λ (p : Placing) u. slice_get p.units u) (the_rest at c.placed.new.self c.placed.ensures.placed).placer (ap (λ s. s.unit) same ∙ its.is.its_unit)
-    ∙ placed_has c.args.self.now.placer (program_in at) inside)
+    let inside = unit_inside sd.image sd.world (core_in at) c.args.of.now.unit sd.stands its.is.row.inside in (
+      program_in at,
+      ap₂ (λ (p : Placing) u. slice_get p.units u) (the_rest at c.placed.new.self c.placed.ensures.placed).placer (ap (λ s. s.unit) same ∙ its.is.its_unit)
+          ∙ placed_has c.args.self.now.placer (program_in at) inside,
+    )
