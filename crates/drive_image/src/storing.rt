@@ -184,7 +184,8 @@ fn put_blocks(drive: &Drive, out: &mut Vec<u8>)
 // Adds the written blocks of units of a drive, and lets go each unit after its own.
 fn put_units(units: Vec<MemoryUnit>, shape: &Shape, out: &mut Vec<u8>)
     requires fit { AllByRecursion (IsUnitOf shape.now) units.items }
-    requires room { HasRoom out.old (flat_map (flat_map chunk_bytes) (map stored_chunks units.items)) }
+    requires room { HasRoom out.old
+        (flat_map (flat_map chunk_bytes) (map stored_chunks units.items)) }
     ensures { WasAdded out.old out.new
         (flat_map (flat_map chunk_bytes) (map stored_chunks units.items)) }
 {

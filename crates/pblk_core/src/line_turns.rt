@@ -25,7 +25,8 @@ use pblk_model::ChunkState;
 fn keep_unit(live: &mut Vec<LineUnits>, line: u32, unit: u32, state: ChunkState)
     requires line { line < length live.old.items }
     requires unit { unit < 64 }
-    requires there { (units : ℕ) → slice_get live.old.items line ≡ Some units → is_in units unit ≡ true }
+    requires there { (units : ℕ) → slice_get live.old.items line ≡ Some units
+        → is_in units unit ≡ true }
     ensures { live.new.items ≡ kept_units live.old.items line unit state }
 {
     if !is_online(state) {

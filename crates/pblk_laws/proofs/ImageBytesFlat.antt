@@ -26,8 +26,8 @@ pub all_flat : {X : Type 0} (P : X → Type 0) (xss : List (List X)) → AllByRe
 all_flat P [] h = tt
 all_flat P (xs ∷ xss) h = all_append P xs (flat xss) h.0 (all_flat P xss h.1)
 
-pub flat_get : {X : Type 0} (n : ℕ) (xss : List (List X)) (u j : ℕ) (xs : List X) (x : X) → AllByRecursion (λ xs. length xs ≡ n) xss → slice_get xss u ≡ Some xs → slice_get xs j ≡ Some x
-    → slice_get (flat xss) (u * n + j) ≡ Some x
+pub flat_get : {X : Type 0} (n : ℕ) (xss : List (List X)) (u j : ℕ) (xs : List X) (x : X) → AllByRecursion (λ xs. length xs ≡ n) xss
+    → slice_get xss u ≡ Some xs → slice_get xs j ≡ Some x → slice_get (flat xss) (u * n + j) ≡ Some x
 flat_get n [] u j xs x all list is = absurd (none-some xs list)
 flat_get n (ys ∷ xss) zero j xs x all list is =
     let same : ys ≡ xs = same_Some ys xs list in

@@ -87,8 +87,8 @@ pub fn what_landed_was_done()
 /// Where each command says how many its worker had made before it, the commands of one worker have rising
 /// numbers. A world has its newest step first.
 pub fn the_numbers_of_a_worker_rise()
-    ensures { (w : World) (j k : ℕ) (late early : Step) (e f : UnitEvent) (m n : Maker) → HasMakers w
-        → j < k → slice_get w j ≡ Some late → slice_get w k ≡ Some early
+    ensures { (w : World) (j k : ℕ) (late early : Step) (e f : UnitEvent) (m n : Maker)
+        → HasMakers w → j < k → slice_get w j ≡ Some late → slice_get w k ≡ Some early
         → late.logged.event ≡ Does e m → early.logged.event ≡ Does f n → n.worker ≡ m.worker
         → n.made < m.made }
 {}

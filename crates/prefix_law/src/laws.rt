@@ -32,12 +32,14 @@ pub fn contents_are_after_a_prefix()
 /// The same after a stop that cuts any of the units: what was in flight on such a unit may have been done in
 /// part. The history and the fronts are those of the world that was cut.
 pub fn a_cut_of_each_unit_leaves_a_prefix()
-    ensures contents { (i : Image) (w : World) (steps : List Step) → IsLegalMount i w → AreCuts i w steps
-        → IsSealed i → contents (media i (log_of (steps ++ w)))
-        ≡ after (contents i) (take (users (user_positions (log_of w 0)) (end (media i (log_of (steps ++ w)))))
+    ensures contents { (i : Image) (w : World) (steps : List Step) → IsLegalMount i w
+        → AreCuts i w steps → IsSealed i → contents (media i (log_of (steps ++ w)))
+        ≡ after (contents i)
+        (take (users (user_positions (log_of w 0)) (end (media i (log_of (steps ++ w)))))
         (history (log_of w 0))) }
-    ensures above { (i : Image) (w : World) (steps : List Step) → IsLegalMount i w → AreCuts i w steps
-        → IsSealed i → synced i.shape (log_of w 0) ≤ end (media i (log_of (steps ++ w))) }
+    ensures above { (i : Image) (w : World) (steps : List Step) → IsLegalMount i w
+        → AreCuts i w steps → IsSealed i
+        → synced i.shape (log_of w 0) ≤ end (media i (log_of (steps ++ w))) }
     ensures within { (i : Image) (w : World) (steps : List Step) (b : Begun) → IsLegalMount i w
         → AreCuts i w steps → IsSealed i → begun (log_of w 0) ≡ Some b
         → end (media i (log_of (steps ++ w))) ≤ taken (log_of w 0) }
@@ -56,7 +58,8 @@ pub fn the_end_is_where_what_was_placed_has_landed()
     ensures { (i : Image) (w : World) (b : Begun) → IsLegalMount i w → IsSealed i
         → begun (log_of w 0) ≡ Some b
         → ((p : Placed) (position : ℕ) → Contains (placements (log_of w 0)) p
-        → holds_position i.shape position p ≡ true → has_landed_at i.shape (log_of w 0) position ≡ true)
+        → holds_position i.shape position p ≡ true
+        → has_landed_at i.shape (log_of w 0) position ≡ true)
         → end (media i (log_of w)) ≡ synced i.shape (log_of w 0) }
 {}
 
