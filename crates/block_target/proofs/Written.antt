@@ -16,6 +16,7 @@ use Rattle.pblk_world.specs.Events.{Take, Logged, Decides as Did}
 use Rattle.pblk_world.specs.World.{World, log_of}
 use Rattle.pblk_world.specs.EngineLog.{Taken, takes}
 use Rattle.pblk_world.specs.Fronts.{synced, is_users, user_takes}
+use Rattle.world_laws.proofs.HeldSectors.{all_pass}
 use Rattle.core_laws.proofs.Taking.{filter_last}
 use Rattle.core_laws.proofs.Growing.{synced_grown}
 use Rattle.step_laws.specs.Whole.{knows_all}
@@ -24,7 +25,6 @@ use Rattle.block_port.specs.Own.{PlacedSector, OwnWrite, placed_from, lines_of}
 use Rattle.block_port.specs.Port.{AreSectors, Learns, IsSameTarget, Rise}
 use Rattle.core_laws.specs.SimpleMounts.{IsSimpleMount}
 use Rattle.lemmas.proofs.Lists.{all_imply}
-use Rattle.core_laws.proofs.Placing.{all_pass}
 use Rattle.core_laws.proofs.UsersEntries.{IsUsers, users_entries}
 use Rattle.block_target.specs.Deeds.{Deed}
 use Rattle.block_target.specs.Mount.{MountView, IsSound, IsSameMount, IsStuckAt, logs_in, world_in, engine_log, taken_in, synced_in, front_taken, next_entry, with_entry, with_entries}

@@ -11,8 +11,8 @@ use Rattle.pblk_world.specs.Events.{Logged}
 use Rattle.pblk_world.specs.World.{World, log_of}
 use Rattle.pblk_world.specs.EngineLog.{Taken, takes}
 use Rattle.pblk_world.specs.Fronts.{first_position, taken, is_users, user_takes, history, user_positions, last_take}
+use Rattle.world_laws.proofs.HeldSectors.{all_pass}
 use Rattle.core_laws.specs.SimpleMounts.{IsSimpleMount}
-use Rattle.core_laws.proofs.Placing.{all_pass}
 use Rattle.core_laws.proofs.PlacedPositions.{numbered_below}
 use Rattle.core_laws.proofs.UsersEntries.{IsUsers, AreInOrder, in_order, users_entries}
 use Rattle.lemmas.proofs.Lists.{all_imply}

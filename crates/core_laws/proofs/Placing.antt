@@ -7,6 +7,7 @@ use Rattle.pblk_model.specs.declared.shape.Shape.{Shape}
 use Rattle.pblk_world.specs.Events.{Stripe, Place, Decides, Logged}
 use Rattle.pblk_world.specs.EngineLog.{LineLife, Opened, is_life, life_of, Opening, Placed, placements, placed_on, Answer, DidLand, WasLost, answers, answer_of, stripes_of, turn}
 use Rattle.pblk_world.proofs.Appending.{placements_more}
+use Rattle.world_laws.proofs.HeldSectors.{all_pass}
 use Rattle.stripe_placer.specs.OpenLines.{OpenLine}
 use Rattle.stripe_placer.specs.OpenLines.Stripe.{Unplaced, Unanswered}
 use Rattle.core_laws.specs.OpenedLines.{by_answer, became, placed_as, is_stripe_at, outcome}
@@ -75,10 +76,6 @@ pub answer_now : (log : List Logged) (stripe : Stripe) (knows : List ℕ) (o : O
     → answer_of (with_place log stripe knows) q ≡ answer_of log q
 answer_now log stripe knows o q opened before =
     ap₂ (λ (xs : List Answer) k. slice_get xs k) (answers_now log stripe knows q.stripe.unit) (turn_now log stripe knows o q opened before)
-
-pub all_pass : {X : Type 0} (test : X → Bool) (xs : List X) → AllByRecursion (λ x. test x ≡ true) xs → filter test xs ≡ xs
-all_pass test [] all = refl
-all_pass test (x ∷ xs) all = ap (λ b. cond b (x ∷ filter test xs) (filter test xs)) all.0 ∙ ap (λ ys. x ∷ ys) (all_pass test xs all.1)
 
 -- all stripes of the unit were placed before it
 turn_of_new : (log : List Logged) (stripe : Stripe) (o : Opening) → turn log (new_placed log stripe o) ≡ length (placed_on log stripe.unit)

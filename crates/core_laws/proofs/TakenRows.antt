@@ -16,6 +16,7 @@ use Rattle.pblk_world.specs.Fronts.{first_position, taken, last_take}
 use Rattle.pblk_world.specs.Lines.{known_image, are_empty}
 use Rattle.pblk_world.specs.Placing.{line_end}
 use Rattle.pblk_world.specs.Victims.{is_freed, is_in_force, line_of_position, line_of, is_live_in, live, take_before, landed_line_of, took_from}
+use Rattle.world_laws.proofs.HeldSectors.{last_last}
 use Rattle.line_table.specs.declared.row.LineState.TheVariants as states
 use Rattle.line_table.specs.Rows.{latest, lost, lowered}
 use Rattle.core_laws.specs.Stepping.{after}
@@ -24,7 +25,6 @@ use Rattle.core_laws.specs.Positions.{IsUnplaced, AreNumbered}
 use Rattle.core_laws.specs.RowsOf.{state_in, width_in, taker_by, taker_in, row_of_line, rows_of}
 use Rattle.core_laws.proofs.Placing.{not_below}
 use Rattle.core_laws.proofs.Taking.{filter_last}
-use Rattle.core_laws.proofs.TakenSlots.{last_is}
 use Rattle.core_laws.specs.ChangedTables.{lose_in}
 use Rattle.core_laws.specs.PlainLogs.{NoneFreed}
 use Rattle.core_laws.proofs.KeptStripes.{with_event, KeepsStripes, stripes_kept, lives_kept, alike_kept, have_landed_alike}
@@ -71,7 +71,7 @@ last_now log entry mark knows lba b e =
   where
     go : (b : Bool) → last_or None (filter (λ (t : Taken). t.mark.lba == lba) (takes log) ++ cond b (new_taken entry mark ∷ []) []) ≡
         (if b then Some (new_taken entry mark) else last_take log lba)
-    go true = last_is None (filter (λ (t : Taken). t.mark.lba == lba) (takes log)) (new_taken entry mark)
+    go true = last_last None (filter (λ (t : Taken). t.mark.lba == lba) (takes log)) (new_taken entry mark)
     go false = ap (last_or None) (append-nil (filter (λ (t : Taken). t.mark.lba == lba) (takes log)))
 
 -- an entry taken before has none after it before it
@@ -218,7 +218,7 @@ taker_lost i logs entry mark knows line numbered next inside is =
     let ts : List Taken = filter (took_from i logs line) (takes (logs 0)) in
     ap (λ (us : List Taken). option_map (λ (t : Taken). t.entry.position) (last_or None us))
     (takers_now i logs entry mark knows line true numbered next inside is)
-    ∙ ap (option_map (λ (t : Taken). t.entry.position)) (last_is None ts (new_taken entry mark))
+    ∙ ap (option_map (λ (t : Taken). t.entry.position)) (last_last None ts (new_taken entry mark))
     ∙ ap (λ n. Some n) (sym (latest_is entry.position (last_or None ts) (λ t e.
     let below : t.entry.position < taken (logs 0) = last_in (λ (u : Taken). u.entry.position < taken (logs 0)) None ts t (λ y f. absurd (none-some y f))
     (all_filter (λ (u : Taken). u.entry.position < taken (logs 0)) (took_from i logs line) (takes (logs 0)) (all_below (logs 0) numbered)) e in

@@ -14,6 +14,7 @@ use Rattle.pblk_world.specs.EngineLog.{Begun, begun, LineLife, AsFound, Opened, 
 use Rattle.pblk_world.specs.Fronts.{last_take}
 use Rattle.pblk_world.specs.Lines.{found_by, found_image}
 use Rattle.pblk_world.specs.Space.{landed_blocks, is_closed_in, is_readable_in, gives_back}
+use Rattle.world_laws.proofs.HeldSectors.{last_last}
 use Rattle.l2p_map.specs.declared.slot.Slot.TheVariants.{Cached, Media}
 use Rattle.stripe_placer.specs.OpenLines.{OpenLine}
 use Rattle.core_laws.specs.Stepping.{after}
@@ -177,10 +178,6 @@ not_given s log position (p ∷ ps) all = (
   not_given s log position ps all.1,
 )
 
-pub last_is : {X : Type 0} (o : Option X) (xs : List X) (x : X) → last_or o (xs ++ x ∷ []) ≡ Some x
-last_is o [] x = refl
-last_is o (y ∷ xs) x = last_is (Some y) xs x
-
 last_take_more : (log : List Logged) (entry : Entry) (mark : Mark) (knows : List ℕ) (lba : ℕ) (b : Bool) → (mark.lba == lba) ≡ b
     → last_take (with_take log entry mark knows) lba ≡ (if b then Some (record { entry = entry; mark = mark }) else last_take log lba)
 last_take_more log entry mark knows lba b e =
@@ -190,7 +187,7 @@ last_take_more log entry mark knows lba b e =
   where
     go : (b : Bool) → last_or None (filter (λ (t : Taken). t.mark.lba == lba) (takes log) ++ cond b (record { entry = entry; mark = mark } ∷ []) []) ≡
         (if b then Some (record { entry = entry; mark = mark }) else last_take log lba)
-    go true = last_is None (filter (λ (t : Taken). t.mark.lba == lba) (takes log)) (record { entry = entry; mark = mark })
+    go true = last_last None (filter (λ (t : Taken). t.mark.lba == lba) (takes log)) (record { entry = entry; mark = mark })
     go false = ap (last_or None) (append-nil (filter (λ (t : Taken). t.mark.lba == lba) (takes log)))
 
 pub slot_taken : (i : Image) (logs : Logs) (entry : Entry) (mark : Mark) (knows : List ℕ) (lba : ℕ)

@@ -1,7 +1,7 @@
 -- Records that count are in lines with a start record.
 use Rattle.std.proofs.Common.{◌≡◌, ℕ, Bool, true, false, Some, None, Option, List, [], ◌∷◌, sym, subst, ap, if◌then◌else◌}
 use Rattle.std.specs.List.{AllByRecursion, fold, filter}
-use Rattle.std.specs.Option.{option_map, option_and_then, is_some}
+use Rattle.std.specs.Option.{option_map, option_and_then, is_some, IfSome}
 use Rattle.std.proofs.lemmas.Option.{same_Some, none-some}
 use Rattle.pblk_model.specs.declared.chunk.Mark.{Mark}
 use Rattle.pblk_model.specs.Chunk.{Block}
@@ -30,28 +30,23 @@ pub block_line : (i : Image) (line a : ℕ) (start : StartRecord) (o : Option Bl
 block_line i line a start None r e = absurd (none-some r e)
 block_line i line a start (Some block) r e = marked_line i line start.seq a block (mark_at i.shape (end_of i line start) a block) r e
 
-IsSuch : (Record → Type 0) → Option Record → Type 0
-IsSuch P o = (r : Record) → o ≡ Some r → P r
-
-newer_is : (P : Record → Type 0) (best : Option Record) (r : Record) → P r → IsSuch P best → IsSuch P (newer best r)
-unfolding IsSuch
-newer_is P None r is all = λ x e. subst P (same_Some r x e) is
+newer_is : (P : Record → Type 0) (best : Option Record) (r : Record) → P r → IfSome best P → IfSome (newer best r) P
+newer_is P None r is all = is
 newer_is P (Some best) r is all = go (is_newer best r)
   where
-    go : (b : Bool) → (x : Record) → (if b then Some r else Some best) ≡ Some x → P x
-    go true = λ x e. subst P (same_Some r x e) is
-    go false = λ x e. all x e
+    go : (b : Bool) → IfSome (if b then Some r else Some best) P
+    go true = is
+    go false = all
 
-newest_is : (P : Record → Type 0) (rs : List Record) (best : Option Record) → AllByRecursion P rs → IsSuch P best → IsSuch P (fold newer best rs)
+newest_is : (P : Record → Type 0) (rs : List Record) (best : Option Record) → AllByRecursion P rs → IfSome best P → IfSome (fold newer best rs) P
 newest_is P [] best all is = is
 newest_is P (r ∷ rs) best all is = newest_is P rs (newer best r) all.1 (newer_is P best r all.0 is)
 
 -- what holds of all records that count holds of the winner
 pub winner_is : (i : Image) (P : Record → Type 0) (lba : ℕ) (r : Record) → AllByRecursion P (counted i) → winner (counted i) lba ≡ Some r → P r
-unfolding IsSuch
 winner_is i P lba r all e =
-    newest_is P (filter (λ (x : Record). is_of lba x.lba) (counted i)) None (all_filter P (λ (x : Record). is_of lba x.lba) (counted i) all)
-    (λ x h. absurd (none-some x h)) r e
+    subst (λ o. IfSome o P) e
+    (newest_is P (filter (λ (x : Record). is_of lba x.lba) (counted i)) None (all_filter P (λ (x : Record). is_of lba x.lba) (counted i) all) tt)
 
 pub winner_starts : (i : Image) (lba : ℕ) (r : Record) → winner (counted i) lba ≡ Some r → is_some (start_of i r.line) ≡ true
 winner_starts i lba r e = winner_is i (HasStart i) lba r (counted_have_start i) e

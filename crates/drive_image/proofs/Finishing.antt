@@ -11,12 +11,12 @@ use Rattle.pblk_model.specs.ImageFile as image
 use Rattle.pblk_model.specs.ImageFile.{StoredChunk, IsImageOf, blank_drive, blocks_end, chunks_at, descriptor_at, descriptor_of, descriptors_end, geometry_at, pointer_at, shape_at}
 use Rattle.pblk_model.specs.Shape.{units}
 use Rattle.pblk_laws.proofs.ImageBytesFlat.{flat_get, flat_of_flat}
+use Rattle.pblk_laws.proofs.ImageBytesHeld.{IsTaken}
 use Rattle.ocssd_geometry.specs.Numbers.{numbers_of}
 use Rattle.ocssd_drive.specs.Drive.{DriveView, IsWhole, stored}
 use Rattle.ocssd_drive.specs.Units.{with_stored}
 use Rattle.drive_image.specs.Filling.{GotNth, HasNumbers, bytes_of}
 use Rattle.drive_image.specs.Quiet.{IsQuiet, IsQuietUnit}
-use Rattle.drive_image.proofs.Accepting.{IsTaken}
 use Rattle.drive_image.proofs.Sums.{sum_within}
 use Rattle.drive_image.proofs.FillingSteps.{AreFilled, blank_filled, chunk_bytes, one_filled}
 use Rattle.drive_image.proofs.Flat.{all_changed}

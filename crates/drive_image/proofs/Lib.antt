@@ -1,6 +1,4 @@
-pub mod Accepting
 pub mod Adding
-pub mod ChunkRules
 pub mod Sums
 pub mod Ends
 pub mod FillingSteps

@@ -1,26 +1,16 @@
 -- What an accepted geometry's numbers keep, and what bytes are read as.
-use Rattle.std.proofs.Common.{◌≡◌, ◌≢◌, ℕ, ◌+◌, ◌^◌, ◌≤◌, Bool, true, Some, None, Ok, Err, List, [], ◌∷◌, length, refl, sym, arith}
+use Rattle.std.proofs.Common.{◌≡◌, ◌≢◌, ℕ, ◌+◌, ◌^◌, ◌≤◌, Some, None, Ok, Err, List, length, refl, sym}
 use Rattle.std.proofs.lemmas.Bool.{leb-true, ne_eqb}
-use Rattle.std.specs.Prelude.{◌<◌, ◌==◌, not}
-use Rattle.std.proofs.lemmas.Bool.Decides.{nat_tests}
+use Rattle.std.specs.Prelude.{◌<◌}
 use Rattle.pblk_model.specs.declared.shape.GeometryErr.{GeometryErr}
 use Rattle.pblk_model.specs.declared.shape.GeometryErr.TheVariants.{Length}
 use Rattle.pblk_model.specs.Checks.{first_failing}
 use Rattle.pblk_model.specs.Geometry.{Geometry, geometry_in, field_checks, profile_checks, geometry_refusal, read_geometry}
-use Rattle.lemmas.proofs.Options.{first_passes}
+use Rattle.lemmas.proofs.Tests.{some_of}
+use Rattle.pblk_model.proofs.ChecksLemmas.{none_fails}
 use Rattle.pblk_model.proofs.GeometryLemmas.{holds, none_refused}
 
 -- ---- a geometry that isn't refused
-
-abbrev pub AllPass : List (ℕ × Bool) → Type 0
-AllPass [] = Unit {0}
-AllPass (check ∷ checks) = (check.1 ≡ true) × AllPass checks
-
-pub all_pass : (checks : List (ℕ × Bool)) → first_failing checks ≡ None → AllPass checks
-all_pass [] e = tt
-all_pass (check ∷ checks) e =
-    let first = first_passes check.1 (first_failing checks) check.0 e in
-    (first.0, all_pass checks first.1)
 
 -- the lengths of an address's fields
 pub record HasLengths (g : Geometry) : Type 0 where
@@ -33,8 +23,8 @@ pub record HasLengths (g : Geometry) : Type 0 where
 pub accepted_lengths : (g : Geometry) → geometry_refusal g ≡ None → HasLengths g
 accepted_lengths g e =
     let parts = none_refused (first_failing (field_checks g)) (first_failing (profile_checks g)) e in
-    let fields = all_pass (field_checks g) parts.0 in
-    let rules = all_pass (profile_checks g) parts.1 in
+    let fields = none_fails (field_checks g) parts.0 in
+    let rules = none_fails (profile_checks g) parts.1 in
     record {
       group = holds g.group_bits g.groups fields.1.0;
       pu = holds g.pu_bits g.pus fields.1.1.0;
@@ -52,13 +42,10 @@ pub record HasCounts (g : Geometry) : Type 0 where
   pub ws_min : 0 < g.ws_min
   pub ws_opt : 0 < g.ws_opt
 
-some_of : (n : ℕ) → not (n == 0) ≡ true → 0 < n
-some_of n e = grind (arith, nat_tests)
-
 pub accepted_counts : (g : Geometry) → geometry_refusal g ≡ None → HasCounts g
 accepted_counts g e =
     let parts = none_refused (first_failing (field_checks g)) (first_failing (profile_checks g)) e in
-    let fields = (all_pass (field_checks g) parts.0).1.1.1.1.1 in
+    let fields = (none_fails (field_checks g) parts.0).1.1.1.1.1 in
     record {
       groups = some_of g.groups fields.0;
       pus = some_of g.pus fields.1.0;

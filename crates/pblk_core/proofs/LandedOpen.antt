@@ -28,7 +28,7 @@ use Rattle.core_laws.proofs.LandedLines.{left_until_landed, left_after_landing}
 use Rattle.core_laws.proofs.StandingOpenings.{life_there, opening_at}
 use Rattle.core_laws.proofs.StripesInOrder.{stripe_count}
 use Rattle.core_laws.proofs.HistorySectors.{set_length}
-use Rattle.core_laws.proofs.Placing.{all_pass as keeps_all}
+use Rattle.world_laws.proofs.HeldSectors.{all_pass as keeps_all}
 use Rattle.pblk_core.specs.LineRecords.{AreOf}
 use Rattle.pblk_core.specs.Slots.{IsSlot, landed_slot}
 use Rattle.pblk_core.specs.Stands.{IsOpenLine, AreOpenLines, unlanded}

@@ -14,6 +14,7 @@ use Rattle.pblk_world.specs.World.{Logs}
 use Rattle.pblk_world.specs.EngineLog.{Taken, takes, Placed, placements, was_lost, holds_position}
 use Rattle.pblk_world.specs.Fronts.{first_position, taken, last_take}
 use Rattle.pblk_world.specs.Space.{gives_back, freed}
+use Rattle.world_laws.proofs.HeldSectors.{never_none}
 use Rattle.l2p_map.specs.declared.slot.Slot.{Slot}
 use Rattle.l2p_map.specs.declared.slot.Slot.TheVariants.{Unwritten, Cached, Media}
 use Rattle.core_laws.specs.Stepping.{after}
@@ -122,10 +123,6 @@ last_at {X} f xs u e = elim (last_found f xs None u e) as (λ _. (j : ℕ) × Is
   | inl is ↦ is
   | inr is ↦ absurd (none-some u is.0)
 ]
-
-never_none : {X : Type 0} (x : X) (xs : List X) → last_or (Some x) xs ≡ None → ⊥
-never_none x [] e = none-some x (sym e)
-never_none x (y ∷ ys) e = never_none y ys e
 
 -- where one passes, there is a last one
 last_is_some : {X : Type 0} (f : X → Bool) (xs : List X) (o : Option X) (k : ℕ) (v : X) → slice_get xs k ≡ Some v → f v ≡ true → last_or o (filter f xs) ≡ None

@@ -10,15 +10,10 @@ use Rattle.pblk_model.specs.Bytes.{le64, number_at}
 use Rattle.pblk_model.specs.Chunk.{Block, IsBlock}
 use Rattle.pblk_model.specs.ImageFile.{block_bytes}
 use Rattle.pblk_laws.proofs.EndSpelling.{eight_below}
-use Rattle.lemmas.proofs.Parts.{all_taken, joined}
+use Rattle.lemmas.proofs.Parts.{all_dropped, all_taken, joined}
 
 abbrev pub AreBytes : List ℕ → Type 0
 AreBytes b = AllByRecursion (λ x. x < 256) b
-
-pub bytes_drop : (n : ℕ) (b : List ℕ) → AreBytes b → AreBytes (drop n b)
-bytes_drop zero b h = h
-bytes_drop (suc n) [] h = h
-bytes_drop (suc n) (x ∷ b) h = bytes_drop n b h.1
 
 each_byte : (b : List ℕ) (i : ℕ) → AreBytes b → get_or b i 0 < 256
 each_byte [] i h = omega arith
@@ -32,7 +27,7 @@ slice_size b at within = length-take-le 8 (drop at b) (omega (arith, length-drop
 
 number_back : (b : List ℕ) (at : ℕ) → AreBytes b → at + 8 ≤ length b → le64 (number_at w64 at b) ≡ take 8 (drop at b)
 number_back b at h within =
-    let eight : AreBytes (take 8 (drop at b)) = all_taken (λ x. x < 256) 8 (drop at b) (bytes_drop at b h) in
+    let eight : AreBytes (take 8 (drop at b)) = all_taken (λ x. x < 256) 8 (drop at b) (all_dropped (λ x. x < 256) at b h) in
     le_bytes_8 (take 8 (drop at b)) (number_at w64 at b) (slice_size b at within) (λ i. each_byte (take 8 (drop at b)) i eight) refl
 
 number_below : (b : List ℕ) (at : ℕ) → AreBytes b → at + 8 ≤ length b → number_at w64 at b < 2 ^ 64
@@ -72,7 +67,7 @@ blocks_back size (suc n) b h within =
     let all = more_rows size n in
     let rest : (size + 16) * n ≤ length (drop (size + 16) b) = omega (arith, length-drop (size + 16) b) in
     ap (λ x. x ++ flat_map block_bytes (blocks_in size n (drop (size + 16) b))) (block_back size b h (omega arith))
-    ∙ (ap (λ x. take (size + 16) b ++ x) (blocks_back size n (drop (size + 16) b) (bytes_drop (size + 16) b h) rest)
+    ∙ (ap (λ x. take (size + 16) b ++ x) (blocks_back size n (drop (size + 16) b) (all_dropped (λ x. x < 256) (size + 16) b h) rest)
     ∙ (sym (take-add (size + 16) ((size + 16) * n) b) ∙ ap (λ m. take m b) (sym all)))
 
 pub blocks_are : (s : Shape) (n : ℕ) (b : List ℕ) → AreBytes b → (s.sector + 16) * n ≤ length b → AllByRecursion (IsBlock s) (blocks_in s.sector n b)
@@ -87,7 +82,7 @@ blocks_are s (suc n) b h within =
         lba = number_below b size h (omega arith);
         position = number_below b (size + 8) h (omega arith);
       },
-      blocks_are s n (drop (size + 16) b) (bytes_drop (size + 16) b h) rest,
+      blocks_are s n (drop (size + 16) b) (all_dropped (λ x. x < 256) (size + 16) b h) rest,
     )
 
 -- What is made for each number of a range.

@@ -15,10 +15,11 @@ use Rattle.pblk_model.specs.Geometry.{packed}
 use Rattle.pblk_model.specs.Image.{IsFit}
 use Rattle.pblk_model.specs.ImageFile.{StoredChunk, Drive, IsImage, IsImageOf, block_bytes, blocks_bytes, blocks_end, chunks_at, descriptor_at, descriptor_of, descriptors_end, first_address, geometry_at, image_of, image_refusal, pointer_at, shape_at, shape_of}
 use Rattle.pblk_model.specs.Shape.{units}
-use Rattle.pblk_laws.proofs.ImageBytesBlocks.{AreBytes, Spans, all_of_range, blocks_are, blocks_back, blocks_count, blocks_in, bytes_drop, get_of_range, spans_range}
+use Rattle.pblk_laws.proofs.ImageBytesBlocks.{AreBytes, Spans, all_of_range, blocks_are, blocks_back, blocks_count, blocks_in, get_of_range, spans_range}
 use Rattle.pblk_laws.proofs.ImageBytesHeld.{IsTaken, row_is, state_of, taken_of}
 use Rattle.lemmas.proofs.Lists.{all_weaker}
 use Rattle.lemmas.proofs.Maps.{all_mapped, sum_more}
+use Rattle.lemmas.proofs.Parts.{all_dropped}
 
 -- The drive.
 
@@ -85,7 +86,7 @@ chunk_spans b n bytes taken inside =
     let end : rows ≡ blocks_at b (n + 1) - at = omega (arith, blocks_next b n) in
     record {
       order = omega (arith, blocks_next b n);
-      is = blocks_back (shape_at b).sector (pointer_at b n) (drop at b) (bytes_drop at b bytes) (blocks_left b n taken inside) ∙ ap (λ m. take m (drop at b)) end;
+      is = blocks_back (shape_at b).sector (pointer_at b n) (drop at b) (all_dropped (λ x. x < 256) at b bytes) (blocks_left b n taken inside) ∙ ap (λ m. take m (drop at b)) end;
     }
 
 -- the chunks of a unit are among all
@@ -126,7 +127,7 @@ chunk_fits b n bytes taken inside =
     record {
       place = subst (λ wp. PointerFits (state_of (descriptor_at b n)) (geometry_at b).clba wp) (sym count) row.place;
       multiple = ap (λ wp. wp % (geometry_at b).ws_min) count ∙ row.multiple;
-      blocks = blocks_are (shape_at b) (pointer_at b n) (drop at b) (bytes_drop at b bytes) (blocks_left b n taken inside);
+      blocks = blocks_are (shape_at b) (pointer_at b n) (drop at b) (all_dropped (λ x. x < 256) at b bytes) (blocks_left b n taken inside);
     }
 
 unit_fits : (b : List ℕ) (unit : ℕ) → AreBytes b → IsTaken b → unit < units (shape_at b) → AllByRecursion (λ (k : StoredChunk). IsChunk (shape_at b) k.chunk) (unit_in b unit)

@@ -114,7 +114,7 @@ pub record IsDescriptorOf (g : Geometry) (unit chunk : ℕ) (d : List ℕ) : Typ
   pub place : PointerFits (state_of d) g.clba (number_at w64 24 d)
   pub multiple : number_at w64 24 d % g.ws_min ≡ 0
 
-descriptor_is : (g : Geometry) (unit chunk : ℕ) (d : List ℕ) → length d ≡ 32 → first_failing (chunk_checks g unit chunk d) ≡ None → IsDescriptorOf g unit chunk d
+pub descriptor_is : (g : Geometry) (unit chunk : ℕ) (d : List ℕ) → length d ≡ 32 → first_failing (chunk_checks g unit chunk d) ≡ None → IsDescriptorOf g unit chunk d
 descriptor_is g unit chunk d size passes =
     let checks = none_fails (chunk_checks g unit chunk d) passes in
     let state = known (state_in (slice_index d 0)) checks.0 in

@@ -29,40 +29,28 @@ use Rattle.pblk_model.proofs.DescriptorLemmas.{descriptor_length}
 use Rattle.pblk_model.proofs.GeometryLemmas.{holds, none_refused}
 use Rattle.pblk_model.proofs.ImageFileLemmas.{header_length}
 
--- What a geometry that isn't refused has.
-
--- the lengths of an address's fields
-pub record HasLengths (g : Geometry) : Type 0 where
-  groups : g.groups ≤ 2 ^ g.group_bits
-  pus : g.pus ≤ 2 ^ g.pu_bits
-  chunks : g.chunks ≤ 2 ^ g.chunk_bits
-  sum : g.group_bits + g.pu_bits + g.chunk_bits + g.block_bits ≤ 64
-
-pub lengths_of : (g : Geometry) → geometry_refusal g ≡ None → HasLengths g
-lengths_of g h =
-    let both = none_refused (first_failing (field_checks g)) (first_failing (profile_checks g)) h in
-    let fields = none_fails (field_checks g) both.0 in
-    let rules = none_fails (profile_checks g) both.1 in
-    record {
-      groups = holds g.group_bits g.groups fields.1.0;
-      pus = holds g.pu_bits g.pus fields.1.1.0;
-      chunks = holds g.chunk_bits g.chunks fields.1.1.1.0;
-      sum = leb-true (g.group_bits + g.pu_bits + g.chunk_bits + g.block_bits) 64 rules.1.1.1.1.1.1.1.0;
-    }
-
 -- Addresses.
 
-pub packs_below : (g : Geometry) (unit chunk : ℕ) → HasLengths g → unit < g.groups * g.pus → 0 < g.pus → chunk < g.chunks → packed g (first_address g unit chunk) < 2 ^ 64
-packs_below g unit chunk h inside some low =
+pub packs_below : (g : Geometry) (unit chunk : ℕ) → geometry_refusal g ≡ None → unit < g.groups * g.pus → 0 < g.pus → chunk < g.chunks
+    → packed g (first_address g unit chunk) < 2 ^ 64
+packs_below g unit chunk taken inside some low =
+    let both = none_refused (first_failing (field_checks g)) (first_failing (profile_checks g)) taken in
+    let fields = none_fails (field_checks g) both.0 in
+    let rules = none_fails (profile_checks g) both.1 in
+    let groups : g.groups ≤ 2 ^ g.group_bits = holds g.group_bits g.groups fields.1.0 in
+    let pus : g.pus ≤ 2 ^ g.pu_bits = holds g.pu_bits g.pus fields.1.1.0 in
+    let chunks : g.chunks ≤ 2 ^ g.chunk_bits = holds g.chunk_bits g.chunks fields.1.1.1.0 in
+    let sum : g.group_bits + g.pu_bits + g.chunk_bits + g.block_bits ≤ 64 =
+    leb-true (g.group_bits + g.pu_bits + g.chunk_bits + g.block_bits) 64 rules.1.1.1.1.1.1.1.0 in
     let group : unit / g.pus < g.groups = div_below unit g.pus g.groups some inside in
     let pu : unit % g.pus < g.pus = mod_below unit g.pus some in
     let first : unit / g.pus * 2 ^ g.pu_bits + unit % g.pus < 2 ^ (g.group_bits + g.pu_bits) =
-    joined_below (unit / g.pus) (unit % g.pus) g.group_bits g.pu_bits (omega (arith, h.groups)) (omega (arith, h.pus)) in
+    joined_below (unit / g.pus) (unit % g.pus) g.group_bits g.pu_bits (omega arith) (omega arith) in
     let second : (unit / g.pus * 2 ^ g.pu_bits + unit % g.pus) * 2 ^ g.chunk_bits + chunk < 2 ^ (g.group_bits + g.pu_bits + g.chunk_bits) =
-    joined_below (unit / g.pus * 2 ^ g.pu_bits + unit % g.pus) chunk (g.group_bits + g.pu_bits) g.chunk_bits first (omega (arith, h.chunks)) in
+    joined_below (unit / g.pus * 2 ^ g.pu_bits + unit % g.pus) chunk (g.group_bits + g.pu_bits) g.chunk_bits first (omega arith) in
     let third : packed g (first_address g unit chunk) < 2 ^ (g.group_bits + g.pu_bits + g.chunk_bits + g.block_bits) =
     joined_below ((unit / g.pus * 2 ^ g.pu_bits + unit % g.pus) * 2 ^ g.chunk_bits + chunk) 0 (g.group_bits + g.pu_bits + g.chunk_bits) g.block_bits second (pow_pos g.block_bits) in
-    let whole : 2 ^ (g.group_bits + g.pu_bits + g.chunk_bits + g.block_bits) ≤ 2 ^ 64 = pow-le-pow_right (lit< tt) h.sum in
+    let whole : 2 ^ (g.group_bits + g.pu_bits + g.chunk_bits + g.block_bits) ≤ 2 ^ 64 = pow-le-pow_right (lit< tt) sum in
     omega (arith, third, whole)
 
 -- Write pointers.
@@ -159,7 +147,7 @@ descriptor_read d unit chunk kept k fields taken accepted h wears p q =
     piece_in_piece (image_bytes d) (descriptors_bytes d) (descriptor_bytes g unit chunk k) 4128 (32 * g.chunks * unit + 32 * chunk)
     (third_part (header_bytes 1 d) (geometry_bytes g) (descriptors_bytes d) (blocks_bytes d) 4128 (omega (arith, header_length d, geometry_length g)))
     (descriptor_stands d unit chunk kept k h p q) in
-    let slba : packed g (first_address g unit chunk) < 2 ^ 64 = packs_below g unit chunk (lengths_of g taken) (omega (arith, h.count)) accepted.drive.pus (omega arith) in
+    let slba : packed g (first_address g unit chunk) < 2 ^ 64 = packs_below g unit chunk taken (omega (arith, h.count)) accepted.drive.pus (omega arith) in
     let place : 4128 + (32 * g.chunks * unit + 32 * chunk) ≡ 4128 + 32 * (unit * g.chunks + chunk) = omega arith in
     let at : ℕ = 4128 + 32 * (unit * g.chunks + chunk) in
     ap read_descriptor (slice_of_piece (image_bytes d) (descriptor_bytes g unit chunk k) (4128 + (32 * g.chunks * unit + 32 * chunk)) at (at + 32) stands place (ap (λ n. at + n) (descriptor_length (descriptor_of g unit chunk k))))

@@ -23,7 +23,7 @@ use Rattle.pblk_laws.specs.GeometryFields.{FitsFields}
 use Rattle.pblk_laws.proofs.ImageBytes.{geometry_in_back, geometry_length}
 use Rattle.pblk_laws.proofs.ImageBytesFlat.{IsFlatAt, all_flat, flat, flat_at, flat_of_flat, length_of_flat, sum_of_range}
 use Rattle.pblk_laws.proofs.ImageBytesPieces.{Piece, piece_in_piece, slice_of, slice_of_piece}
-use Rattle.pblk_laws.proofs.ImageBytesRead.{HasUnits, chunk_is, descriptor_read, descriptor_stands, descriptors_length, lengths_of, packs_below, pointer_from, second_part, third_part, units_of}
+use Rattle.pblk_laws.proofs.ImageBytesRead.{HasUnits, chunk_is, descriptor_read, descriptor_stands, descriptors_length, packs_below, pointer_from, second_part, third_part, units_of}
 use Rattle.lemmas.proofs.Lists.{all_weaker}
 use Rattle.lemmas.proofs.Maps.{flat_length, length_of_sum}
 use Rattle.pblk_model.proofs.AcceptedLemmas.{settings_pass}
@@ -127,7 +127,7 @@ nth_is d n k good h is inside =
     record {
       at = at;
       row = row_stands d (n / g.chunks) (n % g.chunks) n at.list k h at.there at.is (div-add-mod' n g.chunks);
-      fits = record { slba = packs_below g (n / g.chunks) (n % g.chunks) (lengths_of g good.taken) high good.accepted.drive.pus low; cnlb = omega arith; wp = omega arith };
+      fits = record { slba = packs_below g (n / g.chunks) (n % g.chunks) good.taken high good.accepted.drive.pus low; cnlb = omega arith; wp = omega arith };
       holds = pointer_from k.chunk.state g.clba (pointer k.chunk) fine.place;
       multiple = fine.multiple;
     }

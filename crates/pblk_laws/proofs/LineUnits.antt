@@ -18,11 +18,11 @@ use Rattle.lemmas.proofs.Parts.{all_get_some, get_past, none_past}
 use Rattle.pblk_laws.proofs.LineBlocksLemmas.{from_chunk}
 use Rattle.pblk_model.proofs.ChunkLemmas.{map_cond, pointer_within}
 
-abbrev is_on : ℕ → ℕ × List Chunk → Bool
+abbrev pub is_on : ℕ → ℕ × List Chunk → Bool
 is_on line unit = option_map_or (λ (c : Chunk). is_online_in c.state) (slice_get unit.1 line) false
 
 -- the units from the nth on that have a chunk of the line, and their chunks
-units_of : ℕ → ℕ → List (List Chunk) → List ℕ
+pub units_of : ℕ → ℕ → List (List Chunk) → List ℕ
 units_of line n units = map (λ (unit : ℕ × List Chunk). unit.0) (filter (is_on line) (enumerate_from n units))
 
 chunks_of : ℕ → List (List Chunk) → List Chunk

@@ -37,10 +37,6 @@ given_of s t = record { lba = option_and_then (λ o. o) (named s t.mark); sector
 abbrev pub entries : Image → World → Entries
 entries i w = record { first = first_position (log_of w 0); given = map (given_of i.shape) (takes (log_of w 0)) }
 
-got_mapped : {X Y : Type 0} (f : X → Y) (xs : List X) (k : ℕ) (y : Y) → slice_get (map f xs) k ≡ Some y
-    → (x : X) × (slice_get xs k ≡ Some x) × (f x ≡ y)
-got_mapped f xs k y e = map_some f (slice_get xs k) y (sym (slice_get-map f xs k) ∙ e)
-
 -- an entry of a sector was taken, and the other way round
 pub record IsTakenAt (i : Image) (w : World) (lba p : ℕ) (t : Taken) : Type 0 where
   pub there : IsAmong (takes (log_of w 0)) t
@@ -56,7 +52,9 @@ pub entry_taken : (i : Image) (w : World) (lba p : ℕ) → IsLegal i w → (e :
     → (t : Taken) × IsTakenAt i w lba p t × (e.given.sector ≡ t.entry.sector)
 entry_taken i w lba p legal e =
     let from : first_position (log_of w 0) ≤ p = e.entry.from in
-    let at = got_mapped (given_of i.shape) (takes (log_of w 0)) (p - first_position (log_of w 0)) e.given e.entry.there in
+    let k = p - first_position (log_of w 0) in
+    let at = map_some (given_of i.shape) (slice_get (takes (log_of w 0)) k) e.given
+    (sym (slice_get-map (given_of i.shape) (takes (log_of w 0)) k) ∙ e.entry.there) in
     let position : at.0.entry.position ≡ first_position (log_of w 0) + (p - first_position (log_of w 0)) =
     position_of i w (p - first_position (log_of w 0)) at.0 legal at.1 in
     let name : named i.shape at.0.mark ≡ Some (Some lba) =

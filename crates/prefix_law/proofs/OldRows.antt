@@ -3,7 +3,7 @@ use Rattle.std.proofs.Common.{◌≡◌, ℕ, ◌+◌, ◌<◌, ◌≤◌, ◌==
 use Rattle.std.specs.Prelude.{slice_get, if◌then◌else◌}
 use Rattle.std.specs.List.{Contains, find, filter, range_with_len}
 use Rattle.std.specs.Option.{option_map_or}
-use Rattle.std.proofs.lemmas.Bool.{and_parts, eqb-true, ltb-true, leb-true}
+use Rattle.std.proofs.lemmas.Bool.{and_parts, eqb-true, lt-leb, ltb-true, leb-true}
 use Rattle.std.proofs.lemmas.Option.{same_Some, none-some}
 use Rattle.pblk_model.specs.declared.shape.Shape.{Shape}
 use Rattle.pblk_model.specs.Image.{Image, width}
@@ -109,9 +109,6 @@ is_by_row h r row is =
     (and_both ((row.line == r.line) && (row.seq == r.seq)) (nat_lt r.position row.bound) (and_both (row.line == r.line) (row.seq == r.seq) line seq)
     (lt_true r.position row.bound is.below))
 
-false_le : (a b : ℕ) → b < a → nat_le a b ≡ false
-false_le a b less = grind arith
-
 -- ---- the rows of the found image
 
 module _ (b : Image) where
@@ -214,7 +211,7 @@ module _ (b : Image) where
     mounted h line seq mount = ap (λ c. if c then end b else row_bound h line seq) (le_true h.first_seq seq mount)
 
     not_mounted : (h : StartRecord) (line seq : ℕ) → seq < h.first_seq → bound_by (Some h) (end b) line seq ≡ row_bound h line seq
-    not_mounted h line seq old = ap (λ c. if c then end b else row_bound h line seq) (false_le h.first_seq seq old)
+    not_mounted h line seq old = ap (λ c. if c then end b else row_bound h line seq) (lt-leb h.first_seq seq old)
 
     bound_of : (h : StartRecord) (line seq : ℕ) → head b ≡ Some h → line ≡ r.line → seq ≡ r.seq → CountsBy h (end b) r
         → r.position < bound_by (Some h) (end b) line seq

@@ -281,7 +281,3 @@ none_here (Some x) h = absurd (h x refl)
 
 pub passes_as : (old new : Names) (c : Command) (goes goes' : Bool) → Passes old new c goes → goes ≡ goes' → Passes old new c goes'
 passes_as old new c goes goes' h e = subst (Passes old new c) e h
-
-pub no_items : {A : Type 0} (xs : List A) → length xs ≡ 0 → xs ≡ []
-no_items [] e = refl
-no_items (x ∷ xs) e = absurd (omega (arith, e))

@@ -189,10 +189,6 @@ pub head_some : (i : Image) (n : ℕ) (r : StartRecord) (b : Bool) → start_of 
 head_some i n r b some later = head_one i n ∙ ap (λ o. option_map_or (later_start (head_to i n)) o (head_to i n)) some ∙ by_later (head_to i n) r
     ∙ ap (λ x. cond x (Some r) (head_to i n)) later
 
-pub no_head : (i : Image) → None ≡ head_to i 0
-unfolding head_to
-no_head i = refl
-
 -- The survey.
 
 some_map : (e : Option End) → is_some e ≡ is_some (option_map end_numbers e)
@@ -273,9 +269,10 @@ module _ (i : Image) (s : Shape) (line g : ℕ) (used : Bool) (bs : List (Option
       }
 
 pub survey_new : (i : Image) (v : Survey) → v.lines.items ≡ [] → v.traces.items ≡ [] → v.head ≡ None → IsSurvey i 0 v
+unfolding head_to
 survey_new i v lines traces head = record {
   lines = subst (IsTable 0 (seen_line i)) (sym lines) (record { count = refl; each = λ k below. absurd (omega arith) });
   traces = ap bares traces;
-  head = ap (option_map start_numbers) head ∙ no_head i;
+  head = ap (option_map start_numbers) head;
   fits = subst (λ o. IfSome o HasStartFits) (sym head) tt;
 }

@@ -26,6 +26,7 @@ use Rattle.lemmas.proofs.Maps.{all_passed, any_fail, in_filter}
 use Rattle.lemmas.proofs.Parts.{got_within}
 use Rattle.lemmas.proofs.Tests.{first_of, not_both, not_true, same_number}
 use Rattle.world_laws.proofs.FoundImages.{found_strays}
+use Rattle.world_laws.proofs.HeldSectors.{never_none}
 use Rattle.world_laws.specs.LegalMounts.{IsLegalMount}
 use Rattle.world_laws.proofs.WinnerLines.{winner_stands}
 use Rattle.world_laws.specs.UnitChunks.{chunk_after}
@@ -55,13 +56,9 @@ no_stray i w b line legal begins numbered =
 
 -- ---- the line of a winner whose sector wasn't taken since
 
-some_last : {X : Type 0} (x : X) (xs : List X) → last_or (Some x) xs ≡ None → ⊥
-some_last x [] e = cc
-some_last x (y ∷ xs) e = some_last y xs e
-
 no_last : {X : Type 0} (xs : List X) → last_or None xs ≡ None → xs ≡ []
 no_last [] e = refl
-no_last (x ∷ xs) e = absurd (some_last x xs e)
+no_last (x ∷ xs) e = absurd (never_none x xs e)
 
 none_taken : (log : List Logged) (lba : ℕ) (t : Taken) → last_take log lba ≡ None → IsAmong (takes log) t → t.mark.lba ≡ lba → ⊥
 none_taken log lba t last among its =

@@ -20,6 +20,7 @@ use Rattle.pblk_world.specs.Fronts.{waiting}
 use Rattle.pblk_world.specs.Legal.{IsDecision}
 use Rattle.pblk_world.specs.Placing.{IsStart, IsData, IsEnd, IsPad, start_blocks, end_blocks, end_record, end_address, next_address}
 use Rattle.pblk_world.proofs.Appending.{life_more, placements_more}
+use Rattle.pblk_laws.proofs.ImageBytesBlocks.{AreBytes}
 use Rattle.pblk_laws.proofs.EndSpelling.{end_spelled, end_bytes_are}
 use Rattle.pblk_laws.proofs.Starts.{spelled, start_bytes_are}
 use Rattle.core_laws.specs.PlainWorlds.{is_plain_event}
@@ -34,9 +35,6 @@ use Rattle.pblk_world.proofs.EngineLogLemmas.{opened_same, takes_more}
 
 abbrev AreBlocks : Shape → List Block → Type 0
 AreBlocks s blocks = AllByRecursion (IsBlock s) blocks
-
-abbrev AreBytes : List ℕ → Type 0
-AreBytes bytes = AllByRecursion (λ x. x < 256) bytes
 
 -- ---- records
 

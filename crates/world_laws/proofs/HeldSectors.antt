@@ -23,9 +23,13 @@ use Rattle.world_laws.proofs.Positions.{position_of}
 
 -- ---- lists
 
-last_last : {X : Type 0} (o : Option X) (xs : List X) (x : X) → last_or o (xs ++ x ∷ []) ≡ Some x
+pub last_last : {X : Type 0} (o : Option X) (xs : List X) (x : X) → last_or o (xs ++ x ∷ []) ≡ Some x
 last_last o [] x = refl
 last_last o (y ∷ xs) x = last_last (Some y) xs x
+
+pub never_none : {X : Type 0} (x : X) (xs : List X) → last_or (Some x) xs ≡ None → ⊥
+never_none x [] e = none-some x (sym e)
+never_none x (y ∷ xs) e = never_none y xs e
 
 last_passing : {X : Type 0} (test : X → Bool) (o : Option X) (xs : List X) (k : ℕ) (x : X) → slice_get xs k ≡ Some x → test x ≡ true
     → ((j : ℕ) (y : X) → slice_get xs j ≡ Some y → test y ≡ true → j ≤ k) → last_or o (filter test xs) ≡ Some x
@@ -46,7 +50,7 @@ last_passing {X} test o (y ∷ xs) (suc k) x there passes last = go (test y) (λ
     go true h = h (Some y)
     go false h = h o
 
-all_pass : {X : Type 0} (test : X → Bool) (xs : List X) → AllByRecursion (λ x. test x ≡ true) xs → filter test xs ≡ xs
+pub all_pass : {X : Type 0} (test : X → Bool) (xs : List X) → AllByRecursion (λ x. test x ≡ true) xs → filter test xs ≡ xs
 all_pass test [] h = refl
 all_pass test (x ∷ xs) h = ap (λ b. cond b (x ∷ filter test xs) (filter test xs)) h.0 ∙ ap (λ ys. x ∷ ys) (all_pass test xs h.1)
 

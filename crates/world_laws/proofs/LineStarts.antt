@@ -6,7 +6,7 @@ use Rattle.std.specs.List.{AllByRecursion, Contains, flat_map}
 use Rattle.std.specs.Option.{option_and_then}
 use Rattle.std.proofs.lemmas.Bool.{cases_lt}
 use Rattle.std.proofs.lemmas.List.{take-append-drop}
-use Rattle.std.proofs.lemmas.Option.{none-some, same_Some, slice_get_within}
+use Rattle.std.proofs.lemmas.Option.{same_Some, slice_get_within}
 use Rattle.std.proofs.Math.Nat.{div-add-mod, lt_of_mul-lt-mul_right, mod-lt, mul-mod_left}
 use Rattle.pblk_model.specs.declared.shape.Shape.{Shape}
 use Rattle.pblk_model.specs.declared.chunk.Mark.{Mark}
@@ -28,9 +28,9 @@ use Rattle.pblk_world.specs.Placing.{IsNext, IsPad, end_address, next_address, s
 use Rattle.pblk_world.specs.Starts.{has_landed_start, have_landed, start_stripes}
 use Rattle.pblk_world.specs.Victims.{engine_prefix}
 use Rattle.pblk_world.proofs.PlacingLemmas.{length_record}
-use Rattle.lemmas.proofs.Lists.{length_replicate}
+use Rattle.lemmas.proofs.Lists.{all_replicated, length_replicate}
 use Rattle.lemmas.proofs.Options.{split_then}
-use Rattle.lemmas.proofs.Parts.{all_at, get_dropped, get_past, get_taken, got_within, is_in, same_lists}
+use Rattle.lemmas.proofs.Parts.{all_at, all_get, get_dropped, get_past, get_taken, got_within, is_in, same_lists}
 use Rattle.lemmas.proofs.Tests.{second_of}
 use Rattle.world_laws.specs.LegalMounts.{IsLegalMount}
 use Rattle.world_laws.proofs.Stripes.{stripe_is}
@@ -66,14 +66,12 @@ cut_marks size (suc n) bytes m = (refl, cut_marks size n (drop size bytes) m)
 pub no_pad : (s : Shape) (seq : ℕ) (b : Block) → b ≡ pad_block s → b.mark ≡ meta_mark seq → ⊥
 no_pad s seq b pad is = let same : pad_lba ≡ meta_lba = ap (λ (x : Block). x.mark.lba) (sym pad) ∙ ap (λ (m : Mark). m.lba) is in absurd (omega arith)
 
-replicated : {X : Type 0} (n k : ℕ) (x y : X) → slice_get (replicate n x) k ≡ Some y → y ≡ x
-replicated zero k x y there = absurd (none-some y there)
-replicated (suc n) zero x y there = sym (same_Some x y there)
-replicated (suc n) (suc k) x y there = replicated n k x y there
-
 pub pad_is : (i : Image) (logs : Logs) (o : Opening) (p : Placed) (index : ℕ) (b : Block) → IsPad i logs o p.stripe → slice_get p.stripe.blocks index ≡ Some b
     → b ≡ pad_block i.shape
-pad_is i logs o p index b h is = replicated i.shape.ws_opt index (pad_block i.shape) b (ap (λ (bs : List Block). slice_get bs index) (sym h.blocks) ∙ is)
+pad_is i logs o p index b h is =
+    let pad : Block = pad_block i.shape in
+    all_get (λ (c : Block). c ≡ pad) (replicate i.shape.ws_opt pad) index b (all_replicated (λ (c : Block). c ≡ pad) i.shape.ws_opt pad refl)
+    (ap (λ (bs : List Block). slice_get bs index) (sym h.blocks) ∙ is)
 
 some_pair : (p : Option (ℕ × ℕ)) (x u y k : ℕ) → p ≡ Some (x, y) → u ≡ x → y ≡ k → p ≡ Some (u, k)
 some_pair p x u y k is a b = cc

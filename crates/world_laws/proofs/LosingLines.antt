@@ -2,7 +2,7 @@
 -- that it hadn't.
 use Rattle.std.proofs.Common.{◌≡◌, ◌≢◌, ℕ, ◌+◌, ◌-◌, ◌*◌, ◌/◌, ◌%◌, ◌^◌, ◌<◌, ◌≤◌, ◌⊎◌, suc, inl, inr, nat_lt, Bool, true, false, cond, if◌then◌else◌, Option, Some, None, List, [], ◌∷◌, ◌++◌, map, length, take, refl, sym, ap, ◌∙◌, subst, arith}
 use Rattle.std.specs.List.{AllByRecursion, Contains, slice_get, filter, flat_map, enumerate_from, range_with_len}
-use Rattle.std.specs.Option.{option_and_then, option_map_or}
+use Rattle.std.specs.Option.{option_and_then}
 use Rattle.std.specs.Int.{w32, w64}
 use Rattle.std.proofs.Math.Nat.{div-add-mod, mod-le, mul-le-mul_left, zero-div}
 use Rattle.std.proofs.Math.Seq.{take-append_seam}
@@ -32,7 +32,7 @@ use Rattle.pblk_laws.specs.LineBlocks.{chunk_in, written_at}
 use Rattle.pblk_laws.specs.StartBlocks.{AreStart}
 use Rattle.pblk_laws.proofs.EndSpelling.{end_written}
 use Rattle.pblk_laws.proofs.LineBlocksLemmas.{chunk_fits}
-use Rattle.pblk_laws.proofs.LineUnits.{line_units_count, line_units_chunks}
+use Rattle.pblk_laws.proofs.LineUnits.{is_on, line_units_count, line_units_chunks, units_of}
 use Rattle.pblk_laws.proofs.MarkNames.{named_meta}
 use Rattle.pblk_laws.proofs.Widths.{width_within}
 use Rattle.pblk_laws.proofs.Starts.{HasNumbers, numbers, found_is}
@@ -44,6 +44,7 @@ use Rattle.lemmas.proofs.Parts.{all_by_get, all_get, contained_among}
 use Rattle.lemmas.proofs.Tests.{not_before}
 use Rattle.world_laws.specs.Losing.{IsLostAt, AreKeptOrLost, LosesChunks}
 use Rattle.world_laws.specs.SealedLines.{IsSealedLine}
+use Rattle.world_laws.proofs.OnlineUnits.{is_on as online}
 use Rattle.world_laws.proofs.ImageLines.{img, same_img, width_same, read_by, block_there, there, all_there, start_carry, end_carry}
 
 -- ---- lines of a sealed image
@@ -101,16 +102,6 @@ record_by line seq a b m lba = record { line = line; seq = seq; at = a; position
 
 -- ---- fewer units
 
-abbrev online : Option Chunk → Bool
-online o = option_map_or (λ (c : Chunk). is_online_in c.state) o false
-
-abbrev is_on : ℕ → ℕ × List Chunk → Bool
-is_on line unit = option_map_or (λ (c : Chunk). is_online_in c.state) (slice_get unit.1 line) false
-
--- the units from the nth on that have a chunk of the line
-abbrev units_from : ℕ → ℕ → List (List Chunk) → List ℕ
-units_from line n us = map (λ (u : ℕ × List Chunk). u.0) (filter (is_on line) (enumerate_from n us))
-
 -- one more unit in front, in the one list and in the other
 one_fewer : (a b : Bool) (n : ℕ) (u v : List Chunk) (rest more : List (ℕ × List Chunk)) → (a ≡ true → b ≡ true)
     → (map (λ (x : ℕ × List Chunk). x.0) rest ≡ map (λ (x : ℕ × List Chunk). x.0) more)
@@ -127,7 +118,8 @@ one_fewer true false n u v rest more h tail = let no : false ≡ true = h refl i
 fewer : (line n : ℕ) (us vs : List (List Chunk)) → length vs ≡ length us
     → ((k : ℕ) → online (option_and_then (λ chunks. slice_get chunks line) (slice_get vs k)) ≡ true
     → online (option_and_then (λ chunks. slice_get chunks line) (slice_get us k)) ≡ true)
-    → (units_from line n vs ≡ units_from line n us) ⊎ (length (units_from line n vs) < length (units_from line n us))
+    → (units_of line n vs ≡ units_of line n us) ⊎ (length (units_of line n vs) < length (units_of line n us))
+unfolding units_of
 fewer line n [] [] count h = inl refl
 fewer line n [] (v ∷ vs) count h = absurd (omega arith)
 fewer line n (u ∷ us) [] count h = absurd (omega arith)
@@ -235,6 +227,7 @@ module _ (s : Shape) (us vs : List (List Chunk)) (count : length vs ≡ length u
   ]
 
   by_units : (line_units (img s vs) l ≡ line_units (img s us) l) ⊎ (length (line_units (img s vs) l) < length (line_units (img s us) l))
+  unfolding units_of
   by_units = fewer l 0 us vs count still_online
 
   narrow : length (line_units (img s vs) l) < length (line_units (img s us) l) → width (img s vs) l < width (img s us) l

@@ -11,6 +11,7 @@ use Rattle.pblk_model.specs.ChunkStep.{Write, Done, Gave, Empty, Refused, write_
 use Rattle.pblk_model.specs.UnitLog.{UnitOutcome, Answered, Failed, Stopped, IsOutcome, after_outcome}
 use Rattle.pblk_model.specs.Image.{Image, is_online_in, line_units}
 use Rattle.pblk_laws.specs.LineBlocks.{chunk_in}
+use Rattle.pblk_laws.proofs.LineUnits.{units_of}
 
 -- whether a chunk is there that isn't Offline
 abbrev pub is_on : Option Chunk → Bool
@@ -45,9 +46,6 @@ online_after_write s c at blocks (Stopped (suc k)) h =
 has_on : ℕ → List Chunk → Bool
 has_on line cs = is_on (slice_get cs line)
 
-units_from : ℕ → ℕ → List (List Chunk) → List ℕ
-units_from line n us = map (λ (u : ℕ × List Chunk). u.0) (filter (λ (u : ℕ × List Chunk). is_on (slice_get u.1 line)) (enumerate_from n us))
-
 numbers_of : (b : Bool) (n : ℕ) (cs : List Chunk) (rest : List (ℕ × List Chunk))
     → map (λ (u : ℕ × List Chunk). u.0) (cond b ((n, cs) ∷ rest) rest)
     ≡ cond b (n ∷ map (λ (u : ℕ × List Chunk). u.0) rest) (map (λ (u : ℕ × List Chunk). u.0) rest)
@@ -56,8 +54,8 @@ numbers_of false n cs rest = refl
 
 same_from : (line n : ℕ) (us vs : List (List Chunk)) → length us ≡ length vs
     → ((k : ℕ) → k < length us → option_map_or (has_on line) (slice_get us k) false ≡ option_map_or (has_on line) (slice_get vs k) false)
-    → units_from line n us ≡ units_from line n vs
-unfolding units_from has_on
+    → units_of line n us ≡ units_of line n vs
+unfolding units_of has_on
 same_from line n [] [] count same = refl
 same_from line n [] (v ∷ vs) count same = absurd (omega arith)
 same_from line n (u ∷ us) [] count same = absurd (omega arith)
@@ -73,6 +71,6 @@ on_by line (Some cs) = refl
 
 pub same_units : (a b : Image) (line : ℕ) → length a.units ≡ length b.units
     → ((unit : ℕ) → unit < length a.units → is_on (chunk_in a line unit) ≡ is_on (chunk_in b line unit)) → line_units a line ≡ line_units b line
-unfolding units_from
+unfolding units_of
 same_units a b line count same = same_from line 0 a.units b.units count
     (λ k below. on_by line (slice_get a.units k) ∙ same k below ∙ sym (on_by line (slice_get b.units k)))

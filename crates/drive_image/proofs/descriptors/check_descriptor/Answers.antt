@@ -1,7 +1,7 @@
 use Rattle.std.proofs.Common.{◌+◌, ◌*◌, ◌/◌, ◌%◌, ◌≤◌, ℕ, refl, sym, subst}
 use Rattle.std.specs.List.{slice_range}
+use Rattle.pblk_laws.proofs.ImageBytesHeld.{descriptor_is, state_of}
 use Rattle.ocssd_geometry.specs.Numbers.{numbers_of}
-use Rattle.drive_image.proofs.ChunkRules.{descriptor_is}
 use Rattle.drive_image.proofs.Ends.{unit_below, refused_by}
 use Rattle.drive_image.proofs.descriptors.check_descriptor.Goals as goal
 use Rattle.lemmas.proofs.Parts.{slice_length}
@@ -24,4 +24,4 @@ returns-in-None-clause-within c =
     let d = slice_range c.args.bytes.now at (at + 32) in
     let is = descriptor_is g (n / g.chunks) (n % g.chunks) d (slice_length c.args.bytes.now at (at + 32) 32 refl c.requires.reaches)
     (sym c.in-None.ensures.first) in
-    subst (λ wp. wp ≤ g.clba) (sym c.u64_at.ensures) (pointer_within is.state g.clba _ is.place)
+    subst (λ wp. wp ≤ g.clba) (sym c.u64_at.ensures) (pointer_within (state_of d) g.clba _ is.place)

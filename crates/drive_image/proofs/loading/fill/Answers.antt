@@ -3,9 +3,9 @@ use Rattle.pblk_model.specs.declared.shape.Shape.{Shape}
 use Rattle.pblk_model.specs.ImageFile as image
 use Rattle.pblk_model.specs.ImageFile.{chunks_at, shape_at}
 use Rattle.pblk_model.specs.Shape.{units}
+use Rattle.pblk_laws.proofs.ImageBytesHeld.{taken_of}
 use Rattle.drive_image.specs.Filling.{bytes_of}
 use Rattle.drive_image.proofs.Finishing.{IsFilling, begun, gone_on, within_image, finished}
-use Rattle.drive_image.proofs.Accepting.{taken_of}
 use Rattle.drive_image.proofs.loading.fill.Goals as goal
 use Rattle.drive_image.proofs.loading.fill.Goals.{After-units}
 

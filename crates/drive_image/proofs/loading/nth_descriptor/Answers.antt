@@ -1,11 +1,10 @@
-use Rattle.std.proofs.Common.{◌≡◌, ◌/◌, ◌%◌, ℕ, Result, Ok, Err, List, sym, ap, ◌∙◌, subst}
+use Rattle.std.proofs.Common.{◌≡◌, ◌+◌, ◌*◌, ◌/◌, ◌%◌, ◌<◌, ◌≤◌, ℕ, Result, Ok, Err, List, length, sym, ap, ◌∙◌, subst, arith}
 use Rattle.pblk_model.specs.declared.chunk.DescriptorErr.{DescriptorErr}
 use Rattle.pblk_model.specs.Chunk.{PointerFits}
 use Rattle.pblk_model.specs.Descriptor.{Descriptor, read_descriptor}
-use Rattle.pblk_model.specs.ImageFile.{descriptor_at, geometry_at}
+use Rattle.pblk_model.specs.ImageFile.{chunks_at, descriptor_at, geometry_at}
+use Rattle.pblk_laws.proofs.ImageBytesHeld.{IsDescriptorOf, IsTaken, row_is, taken_of}
 use Rattle.drive_image.specs.Filling.{IsRow}
-use Rattle.drive_image.proofs.Accepting.{taken_of, row_is, row_within}
-use Rattle.drive_image.proofs.ChunkRules.{IsDescriptorOf, fields_in}
 use Rattle.drive_image.proofs.loading.nth_descriptor.Goals as goal
 
 same_ok : (x y : Descriptor) → ◌≡◌ {A = Result Descriptor DescriptorErr} (Ok x) (Ok y) → x ≡ y
@@ -18,7 +17,7 @@ row_of : (b : List ℕ) (n : ℕ) (d : Descriptor) → Ok d ≡ read_descriptor 
     → IsDescriptorOf (geometry_at b) (n / (geometry_at b).chunks) (n % (geometry_at b).chunks) (descriptor_at b n) → IsRow b n d
 row_of b n d is row =
     let g = geometry_at b in
-    let same : d ≡ fields_in g (n / g.chunks) (n % g.chunks) (descriptor_at b n) row.state = same_ok _ _ (is ∙ row.read) in
+    let same = same_ok _ _ (is ∙ row.read) in
     record {
       read = sym is;
       slba = ap (λ (x : Descriptor). x.slba) same;
@@ -27,6 +26,9 @@ row_of b n d is row =
       place = subst (λ (x : Descriptor). PointerFits x.state g.clba x.wp) (sym same) row.place;
       multiple = subst (λ (x : Descriptor). x.wp % g.ws_min ≡ 0) (sym same) row.multiple;
     }
+
+row_within : (b : List ℕ) (n : ℕ) → IsTaken b → n < chunks_at b → 4128 + 32 * n + 32 ≤ length b
+row_within b n taken inside = omega (arith, taken.descriptors)
 
 pub slice_bounds-row-end : goal.slice_bounds-row-end
 slice_bounds-row-end c = row_within c.args.bytes.now c.args.n (taken_of c.args.bytes.now c.requires.accepted) c.requires.index

@@ -1,19 +1,13 @@
-use Rattle.std.proofs.Common.{◌≡◌, [], ◌∷◌, ◌++◌, List, length, map, refl, sym, ap, subst, ◌∙◌, append_assoc, append-nil, arith}
+use Rattle.std.proofs.Common.{◌≡◌, [], ◌∷◌, ◌++◌, List, length, map, sym, ap, subst, ◌∙◌, append_assoc, append-nil, arith}
 use Rattle.std.specs.List.{AllByRecursion, flat_map}
 use Rattle.std.specs.Vec.Iter.{into_iter_items}
+use Rattle.std.proofs.lemmas.List.{nil_from_length}
+use Rattle.lemmas.proofs.Lists.{all_front}
 use Rattle.pblk_model.specs.declared.shape.Shape.{Shape}
 use Rattle.ocssd_drive.specs.Units.{WornUnit, IsUnitOf, stored_chunks}
 use Rattle.drive_image.specs.Storing.{HasRoom, WasAdded, chunk_bytes}
 use Rattle.drive_image.proofs.Adding.{next_added, room_next}
 use Rattle.drive_image.proofs.storing.put_units.Goals as goal
-
-nothing_left : {X : Type 0} (xs : List X) → length xs ≡ 0 → xs ≡ []
-nothing_left [] none = refl
-nothing_left (x ∷ xs) none = absurd (omega arith)
-
-amid : {X : Type 0} (P : X → Type 0) (xs : List X) (x : X) (ys : List X) → AllByRecursion P (xs ++ x ∷ ys) → P x
-amid P [] x ys all = all.0
-amid P (y ∷ xs) x ys all = amid P xs x ys all.1
 
 pub put_unit_blocks-requires-clause-fits : goal.put_unit_blocks-requires-clause-fits
 put_unit_blocks-requires-clause-fits c =
@@ -21,8 +15,8 @@ put_unit_blocks-requires-clause-fits c =
     let x = c.in-Some.kept in
     let steps : into_iter_items at.kept-iterator ≡ x ∷ into_iter_items c.next.new.self = c.in-Some.ensures.steps.0 in
     let whole = ap (λ ys. at.yielded ++ ys) (sym steps) ∙ (at.invariant.0 ∙ c.into_iter-kept-iterator.ensures.into_iter_gives.0) in
-    let is : IsUnitOf c.args.shape.now x = amid (IsUnitOf c.args.shape.now) at.yielded x (into_iter_items c.next.new.self)
-    (subst (AllByRecursion (IsUnitOf c.args.shape.now)) (sym whole) c.requires.fit) in
+    let is : IsUnitOf c.args.shape.now x = (all_front (IsUnitOf c.args.shape.now) at.yielded (x ∷ into_iter_items c.next.new.self)
+    (subst (AllByRecursion (IsUnitOf c.args.shape.now)) (sym whole) c.requires.fit)).1.0 in
     subst (λ (s : Shape). IsUnitOf s x) (sym is.shape) is
 
 pub put_unit_blocks-requires-clause-chunks : goal.put_unit_blocks-requires-clause-chunks
@@ -31,8 +25,8 @@ put_unit_blocks-requires-clause-chunks c =
     let x = c.in-Some.kept in
     let steps : into_iter_items at.kept-iterator ≡ x ∷ into_iter_items c.next.new.self = c.in-Some.ensures.steps.0 in
     let whole = ap (λ ys. at.yielded ++ ys) (sym steps) ∙ (at.invariant.0 ∙ c.into_iter-kept-iterator.ensures.into_iter_gives.0) in
-    let is : IsUnitOf c.args.shape.now x = amid (IsUnitOf c.args.shape.now) at.yielded x (into_iter_items c.next.new.self)
-    (subst (AllByRecursion (IsUnitOf c.args.shape.now)) (sym whole) c.requires.fit) in
+    let is : IsUnitOf c.args.shape.now x = (all_front (IsUnitOf c.args.shape.now) at.yielded (x ∷ into_iter_items c.next.new.self)
+    (subst (AllByRecursion (IsUnitOf c.args.shape.now)) (sym whole) c.requires.fit)).1.0 in
     sym (ap (λ (s : Shape). s.chunks) is.shape)
 
 pub put_unit_blocks-requires-clause-room : goal.put_unit_blocks-requires-clause-room
@@ -61,6 +55,6 @@ loop-kept-preserved c =
 pub returns : goal.returns
 returns c =
     let at = c.loop-kept in
-    let empty : into_iter_items at.kept-iterator ≡ [] = nothing_left (into_iter_items at.kept-iterator) (sym at.invariant.1 ∙ c.in-None.ensures.steps.0) in
+    let empty : into_iter_items at.kept-iterator ≡ [] = nil_from_length (into_iter_items at.kept-iterator) (sym at.invariant.1 ∙ c.in-None.ensures.steps.0) in
     let all = sym (append-nil at.yielded) ∙ (rw empty at at.invariant.0 ∙ c.into_iter-kept-iterator.ensures.into_iter_gives.0) in
     subst (λ (us : List WornUnit). WasAdded c.args.out.now at.out (flat_map (flat_map chunk_bytes) (map stored_chunks us))) all at.invariant.2

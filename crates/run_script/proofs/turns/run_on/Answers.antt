@@ -1,5 +1,6 @@
 use Rattle.std.proofs.Common.{true, false}
-use Rattle.run_script.proofs.RunOn.{passes_as, no_items}
+use Rattle.std.proofs.lemmas.List.{nil_from_length}
+use Rattle.run_script.proofs.RunOn.{passes_as}
 use Rattle.run_script.proofs.RunOnLoops.{run_on-goes, run_on-stops, run_on-ends}
 use Rattle.run_script.proofs.turns.run_on.Goals as goal
 
@@ -20,4 +21,4 @@ returns-then-not-passes-clause-rest c =
 pub returns-in_default-clause-rest : goal.returns-in_default-clause-rest
 returns-in_default-clause-rest c =
     run_on-ends c.args.names.now c.loop-numbered.names c.args.thread.now c.loop-numbered.left.now c.loop-numbered.invariant
-    (no_items c.loop-numbered.left.now c.in_default.ensures.cases)
+    (nil_from_length c.loop-numbered.left.now c.in_default.ensures.cases)
