@@ -12,7 +12,7 @@ use Rattle.pblk_world.specs.Space.{freed, room, ring_limit, space_limit, positio
 use Rattle.pblk_model.specs.Accepted.{IsAccepted}
 use Rattle.pblk_world.specs.Legal.{IsDecision}
 use Rattle.core_laws.specs.FaultlessMounts.{IsFaultlessMount}
-use Rattle.core_laws.specs.PlainWorlds.{is_plain_decision}
+use Rattle.core_laws.specs.PlainEvents.{is_plain_decision}
 use Rattle.core_laws.proofs.TakenNumbers.{first_stays}
 use Rattle.world_laws.proofs.Fronts.{synced_later}
 use Rattle.step_laws.specs.Whole.{knows_all}

@@ -15,7 +15,7 @@ use Rattle.pblk_world.specs.Fronts.{first_position, is_users}
 use Rattle.pblk_world.specs.Space.{freed, room}
 use Rattle.pblk_world.specs.Taking.{MayTake}
 use Rattle.core_laws.specs.FaultlessMounts.{IsFaultlessMount}
-use Rattle.core_laws.specs.PlainWorlds.{is_plain_decision}
+use Rattle.core_laws.specs.PlainEvents.{is_plain_decision}
 use Rattle.core_laws.specs.PlacerOf.{unanswered_on}
 use Rattle.core_laws.specs.Stepping.{after}
 use Rattle.core_laws.proofs.TakenNumbers.{first_stays}

@@ -5,7 +5,7 @@ use Rattle.pblk_world.specs.Events.{Logged}
 use Rattle.pblk_world.specs.EngineLog.{LineLife, Opened, Opening, Placed}
 use Rattle.pblk_world.specs.Space.{landed_blocks, is_readable_in}
 use Rattle.core_laws.specs.PlacerOf.{unanswered_on}
-use Rattle.core_laws.specs.PlainWorlds.{ArePlain}
+use Rattle.core_laws.specs.PlainEvents.{ArePlain}
 use Rattle.core_laws.proofs.Answered.{first_unanswered}
 use Rattle.core_laws.proofs.LandedStripe.{with_landing, one_more}
 use Rattle.core_laws.proofs.LandedBlocks.{blocks_more, readable_unit, readable_opening}

@@ -12,7 +12,7 @@ use Rattle.pblk_world.specs.Answering.{MayOfferAgain}
 use Rattle.pblk_world.specs.Legal.{IsAllowed, IsLegal, IsLegalStep}
 use Rattle.world_laws.specs.LegalMounts.{decides, is_copying, is_freeing, is_losing}
 use Rattle.core_laws.specs.FaultlessMounts.{AreAnswered, IsFaultlessMount, is_answered}
-use Rattle.core_laws.specs.PlainWorlds.{is_plain_event}
+use Rattle.core_laws.specs.PlainEvents.{is_plain_event}
 use Rattle.core_laws.specs.SimpleMounts.{IsSimpleLog, NoneAgain, is_stopping}
 use Rattle.core_laws.proofs.SimpleMounts.{simple_after}
 use Rattle.world_laws.proofs.NamedPrefixes.{was_made}

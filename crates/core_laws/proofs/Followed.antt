@@ -10,9 +10,9 @@ use Rattle.pblk_world.specs.Lines.{known_image}
 use Rattle.pblk_world.specs.Legal.{IsAllowed, IsLegal, IsLegalStep}
 use Rattle.pblk_world.proofs.Appending.{life_more}
 use Rattle.pblk_world.proofs.LegalLemmas.{whole_own}
-use Rattle.core_laws.specs.PlainWorlds.{ArePlain, is_plain_event}
+use Rattle.core_laws.specs.PlainEvents.{ArePlain, is_plain_event}
 use Rattle.core_laws.specs.SimpleMounts.{IsSimpleMount}
-use Rattle.core_laws.proofs.PlainWorldsLemmas.{opened_by_one}
+use Rattle.core_laws.proofs.PlainEventsLemmas.{opened_by_one}
 use Rattle.core_laws.proofs.SimpleMounts.{engine_plain, simple_before}
 use Rattle.core_laws.proofs.KnownImages.{known_then}
 use Rattle.core_laws.proofs.KeptLines.{units_stay}

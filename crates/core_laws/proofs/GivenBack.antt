@@ -8,7 +8,7 @@ use Rattle.pblk_model.specs.Chunk.{Block}
 use Rattle.pblk_world.specs.Events.{Logged}
 use Rattle.pblk_world.specs.EngineLog.{LineLife, AsFound, Opened, Freed, is_life, Opening, Placed, placements, placed_on, stripes_on, answers, has_landed, bears_position}
 use Rattle.pblk_world.specs.Space.{is_readable_in, gives_back}
-use Rattle.core_laws.specs.PlainWorlds.{ArePlain}
+use Rattle.core_laws.specs.PlainEvents.{ArePlain}
 use Rattle.core_laws.proofs.TakenSlots.{any_same}
 use Rattle.core_laws.specs.ChunkBlocks.{AreInRows}
 use Rattle.core_laws.proofs.LandedStripe.{IsOneMore}

@@ -7,14 +7,14 @@ use Rattle.pblk_model.specs.Chunk.{Block}
 use Rattle.pblk_world.specs.Events.{Logged}
 use Rattle.pblk_world.specs.EngineLog.{LineLife, AsFound, Opened, Freed, is_life, Opening, Placed, placements, stripes_of, stripes_on, answer_of, is_land, has_landed, bears_position}
 use Rattle.pblk_world.specs.Space.{landed_blocks, is_readable_in, gives_back}
-use Rattle.core_laws.specs.PlainWorlds.{ArePlain}
+use Rattle.core_laws.specs.PlainEvents.{ArePlain}
 use Rattle.core_laws.specs.WindowOf.{is_given_back}
 use Rattle.core_laws.proofs.TakenSlots.{any_same}
 use Rattle.core_laws.specs.ChunkBlocks.{can_be_read}
 use Rattle.core_laws.proofs.LandedBlocks.{on_new, blocks_more, readable_unit, readable_opening, its_opening}
 use Rattle.core_laws.proofs.Growing.{any_weaker}
 use Rattle.core_laws.proofs.GivenBack.{flat_any, any_split, readable_life, gives_of_chunk, IsLandedNow, of_unit_landed, times_le, rows_within}
-use Rattle.core_laws.proofs.PlainWorldsLemmas.{none_of_lost}
+use Rattle.core_laws.proofs.PlainEventsLemmas.{none_of_lost}
 use Rattle.lemmas.proofs.Lists.{IsAmong, all_imply, all_of, among_all, zipped}
 use Rattle.lemmas.proofs.Maps.{all_filter, all_passed, any_agree, filter_short}
 use Rattle.lemmas.proofs.Tests.{and_both, first_of, lt_true, no_both, same_number, second_of}

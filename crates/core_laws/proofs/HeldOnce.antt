@@ -23,13 +23,13 @@ use Rattle.pblk_world.specs.Placing.{next_address, end_address, end_record, IsSt
 use Rattle.pblk_world.specs.Legal.{IsDecision}
 use Rattle.pblk_world.proofs.Appending.{placements_more}
 use Rattle.core_laws.specs.Positions.{AreMarked}
-use Rattle.core_laws.specs.PlainWorlds.{is_plain_event, ArePlain}
+use Rattle.core_laws.specs.PlainEvents.{is_plain_event, ArePlain}
 use Rattle.core_laws.specs.SimpleMounts.{IsSimpleMount}
 use Rattle.core_laws.proofs.SimpleMounts.{engine_plain}
 use Rattle.core_laws.proofs.KeptPositions.{marked_after}
 use Rattle.core_laws.proofs.PlacedPositions.{unnamed}
 use Rattle.core_laws.proofs.KeptByEvents.{IsKept, kept}
-use Rattle.core_laws.proofs.PlainWorldsLemmas.{not_lost}
+use Rattle.core_laws.proofs.PlainEventsLemmas.{not_lost}
 use Rattle.lemmas.proofs.Lists.{IsAmong, all_append, all_imply, all_replicated, zipped}
 use Rattle.lemmas.proofs.Maps.{all_filter, all_mapped, all_passed, filter_none, in_filter}
 use Rattle.lemmas.proofs.Parts.{all_dropped, all_taken}

@@ -24,7 +24,7 @@ use Rattle.core_laws.proofs.Answered.{first_unanswered, its_answer, others_answe
 use Rattle.core_laws.proofs.SteppingLemmas.{found_kept}
 use Rattle.core_laws.specs.ChangedTables.{with_row, full_if}
 use Rattle.core_laws.specs.PlacedEntries.{note_entries}
-use Rattle.core_laws.specs.PlainLogs.{NoneFreed, NoneFailed}
+use Rattle.core_laws.specs.PlainLogs.{NoLineFreed, NoLineFailed}
 use Rattle.core_laws.proofs.KeptStripes.{with_event, KeepsStripes, stripes_kept, lives_kept}
 use Rattle.core_laws.proofs.KeptRows.{KeepsChunks, live_by, state_same, width_same, row_parts, same_row}
 use Rattle.core_laws.proofs.LandedRows.{force_kept, winner_kept, line_of_kept, none_taken, keeps_chunks}
@@ -157,8 +157,8 @@ state_now false true false fine stays wide sectors taker = absurd (cc (stays ref
 state_now false false true fine stays wide sectors taker = refl
 state_now false false false fine stays wide sectors taker = refl
 
-pub rows_landed : (i : Image) (logs : Logs) (unit event : ℕ) (knows : List ℕ) (p : Placed) (o : Opening) (ts : List Taken) → NoneFreed (logs 0)
-    → NoneFailed (logs 0) → unanswered_on (logs 0) unit ≡ Some p → p.life ≡ Opened o
+pub rows_landed : (i : Image) (logs : Logs) (unit event : ℕ) (knows : List ℕ) (p : Placed) (o : Opening) (ts : List Taken) → NoLineFreed (logs 0)
+    → NoLineFailed (logs 0) → unanswered_on (logs 0) unit ≡ Some p → p.life ≡ Opened o
     → life_of (logs 0) p.stripe.line ≡ Opened o → ((e : UnitEvent) → unit_event_at logs unit event ≡ Some e → e.chunk ≡ p.stripe.line)
     → IsRising (takes (logs 0)) → AreItsEntries i logs p ts
     → rows_of i (after logs (Landed unit event) knows)

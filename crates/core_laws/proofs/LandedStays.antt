@@ -6,7 +6,7 @@ use Rattle.std.specs.Option.{option_to_list}
 use Rattle.std.proofs.lemmas.Option.{same_Some, none-some}
 use Rattle.pblk_world.specs.Events.{Landed, Lost, Event, Decides, Logged}
 use Rattle.pblk_world.specs.EngineLog.{Placed, placements, Answer, DidLand, answer_by, answers, turn, is_land, is_loss, has_landed}
-use Rattle.core_laws.specs.PlainWorlds.{is_plain_event, ArePlain}
+use Rattle.core_laws.specs.PlainEvents.{is_plain_event, ArePlain}
 use Rattle.pblk_world.proofs.EngineLogLemmas.{answers_more, land_more}
 
 -- ---- nothing is lost

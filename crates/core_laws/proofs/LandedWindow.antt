@@ -10,7 +10,7 @@ use Rattle.pblk_world.specs.EngineLog.{Opened, Opening, Taken, takes, Placed, pl
 use Rattle.pblk_world.specs.Fronts.{first_position, has_landed_at, is_users}
 use Rattle.write_window.specs.declared.held.Progress.{Progress}
 use Rattle.core_laws.specs.PlacerOf.{unanswered_on}
-use Rattle.core_laws.specs.PlainWorlds.{is_plain_event, ArePlain}
+use Rattle.core_laws.specs.PlainEvents.{is_plain_event, ArePlain}
 use Rattle.core_laws.specs.SimpleMounts.{IsSimpleMount}
 use Rattle.core_laws.proofs.SimpleMounts.{engine_plain}
 use Rattle.core_laws.specs.WindowOf.{HeldSector, class_of, source_of, is_given_back, progress_by, held_of, users_below, window_from}

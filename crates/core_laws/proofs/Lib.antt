@@ -20,7 +20,7 @@ pub mod TakenNumbers
 pub mod PlacedPositions
 pub mod KeptPositions
 pub mod PoppedWindow
-pub mod PlainWorldsLemmas
+pub mod PlainEventsLemmas
 pub mod SimpleMounts
 pub mod FaultlessMounts
 pub mod PlacerOfLemmas

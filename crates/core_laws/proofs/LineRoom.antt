@@ -20,7 +20,7 @@ use Rattle.pblk_world.specs.Legal.{IsDecision, MayDecide, IsAllowed, IsLegal}
 use Rattle.pblk_world.proofs.Appending.{life_more}
 use Rattle.line_table.specs.declared.row.LineState.TheVariants as states
 use Rattle.core_laws.specs.PlacerOf.{unanswered_on}
-use Rattle.core_laws.specs.PlainWorlds.{is_plain_event, ArePlain}
+use Rattle.core_laws.specs.PlainEvents.{is_plain_event, ArePlain}
 use Rattle.core_laws.specs.RowsOf.{state_in, row_of_line}
 use Rattle.core_laws.specs.SimpleMounts.{IsSimpleMount}
 use Rattle.core_laws.proofs.Answered.{IsFirst, first_unanswered}
@@ -30,7 +30,7 @@ use Rattle.core_laws.proofs.Placing.{with_place, new_placed, stripes_now}
 use Rattle.core_laws.proofs.SimpleMounts.{engine_plain}
 use Rattle.core_laws.specs.InOrder.{HasRoom}
 use Rattle.core_laws.specs.OpenAddresses.{keeps_addresses}
-use Rattle.core_laws.specs.PlainLogs.{NoneFailed}
+use Rattle.core_laws.specs.PlainLogs.{NoLineFailed}
 use Rattle.core_laws.proofs.AnsweredUnits.{first_answer}
 use Rattle.core_laws.proofs.KeptStripes.{with_event, placements_kept, lives_kept, also_stripes}
 use Rattle.core_laws.proofs.OpenedRows.{new_opening, life_now, life_elsewhere}
@@ -59,7 +59,7 @@ data_fits s g some = go (nat_lt between s.ws_opt) refl
         omega arith
 
 -- the next stripe of a line ends in it
-stripe_fits : (i : Image) (logs : Logs) (o : Opening) (stripe : Stripe) → IsDriveShape i.shape → NoneFailed (logs 0) → 0 < data_len i.shape o.start.width
+stripe_fits : (i : Image) (logs : Logs) (o : Opening) (stripe : Stripe) → IsDriveShape i.shape → NoLineFailed (logs 0) → 0 < data_len i.shape o.start.width
     → IsStart i logs o stripe ⊎ (IsData i logs o stripe ⊎ (IsEnd i logs o stripe ⊎ IsPad i logs o stripe))
     → next_address i.shape (logs 0) o + i.shape.ws_opt ≤ line_end i.shape o
 stripe_fits i logs o stripe drive fine some (inl its) =
@@ -117,7 +117,7 @@ room_opened i logs log b line start knows may own all = λ other o is. go other 
           within = subst (λ (ps : List Placed). length ps * i.shape.ws_opt ≤ start.width * i.shape.clba) (sym none) (omega arith);
         })
 
-room_placed : (i : Image) (logs : Logs) (log : List Logged) (b : Begun) (stripe : Stripe) (knows : List ℕ) → IsDriveShape i.shape → NoneFailed log
+room_placed : (i : Image) (logs : Logs) (log : List Logged) (b : Begun) (stripe : Stripe) (knows : List ℕ) → IsDriveShape i.shape → NoLineFailed log
     → IsDecision i logs b (Place stripe) → logs 0 ≡ log → AllRoom i.shape log → AllRoom i.shape (with_event log (Place stripe) knows)
 unfolding AllRoom
 room_placed i logs log b stripe knows drive fine may own all = λ line other is.
@@ -160,7 +160,7 @@ unfolding AllRoom
 room_begun s [] b knows none = λ line o is. absurd cc
 room_begun s (l ∷ log) b knows none = absurd cc
 
-event_room : (i : Image) (logs : Logs) (log : List Logged) (e : EngineEvent) (knows : List ℕ) → IsDriveShape i.shape → NoneFailed log
+event_room : (i : Image) (logs : Logs) (log : List Logged) (e : EngineEvent) (knows : List ℕ) → IsDriveShape i.shape → NoLineFailed log
     → is_plain_event (Decides e) ≡ true → MayDecide i logs e → logs 0 ≡ log → AllRoom i.shape log → AllRoom i.shape (with_event log e knows)
 event_room i logs log (Begin b) knows drive fine plain may own all = room_begun i.shape log b knows (sym own ∙ may.is_first)
 event_room i logs log (Open line start) knows drive fine plain may own all = room_opened i logs log may.0 line start knows may.2 own all
@@ -169,7 +169,7 @@ event_room i logs log (Lost unit event) knows drive fine plain may own all = abs
 event_room i logs log (Free line) knows drive fine plain may own all = absurd cc
 event_room i logs log e knows drive fine plain may own all = room_kept i.shape log e knows refl all
 
-allowed_room : (i : Image) (logs : Logs) (log : List Logged) (l : Logged) (e : Event) → l.event ≡ e → IsDriveShape i.shape → NoneFailed log
+allowed_room : (i : Image) (logs : Logs) (log : List Logged) (l : Logged) (e : Event) → l.event ≡ e → IsDriveShape i.shape → NoLineFailed log
     → is_plain_event e ≡ true → IsAllowed i 0 e logs → logs 0 ≡ log → AllRoom i.shape log → AllRoom i.shape (log ++ l ∷ [])
 allowed_room i logs log l (Decides e) same drive fine plain may own is =
     let it : record { event = Decides e; knows = l.knows } ≡ l = λ k. record { event = sym same k; knows = l.knows } in
@@ -184,7 +184,7 @@ all_room i (s ∷ w) drive legal plain =
     plain_before (s.author == 0) (log_of w 0) s.logged plain in
     go (s.author == 0) refl before.1 (none_failed (log_of w 0) before.0) (all_room i w drive legal.1 before.0)
   where
-    go : (b : Bool) → (s.author == 0) ≡ b → ((s.author == 0) ≡ true → is_plain_event s.logged.event ≡ true) → NoneFailed (log_of w 0)
+    go : (b : Bool) → (s.author == 0) ≡ b → ((s.author == 0) ≡ true → is_plain_event s.logged.event ≡ true) → NoLineFailed (log_of w 0)
         → AllRoom i.shape (log_of w 0) → AllRoom i.shape (if b then log_of w 0 ++ s.logged ∷ [] else log_of w 0)
     go false e now fine is = is
     go true e now fine is =
@@ -239,7 +239,7 @@ not_landed i logs unit p o some first life room =
     not_second true b e = e
     not_second false b e = refl
 
-pub state_open : (i : Image) (logs : Logs) (unit : ℕ) (p : Placed) (o : Opening) → 0 < i.shape.ws_opt → NoneFailed (logs 0)
+pub state_open : (i : Image) (logs : Logs) (unit : ℕ) (p : Placed) (o : Opening) → 0 < i.shape.ws_opt → NoLineFailed (logs 0)
     → unanswered_on (logs 0) unit ≡ Some p → p.life ≡ Opened o
     → life_of (logs 0) p.stripe.line ≡ Opened o → HasRoom i.shape (logs 0) o → (row_of_line i logs p.stripe.line).state ≡ states.Open
 state_open i logs unit p o some fine first life opened room =

@@ -11,7 +11,7 @@ use Rattle.pblk_world.specs.EngineLog.{Begun, begun, Opened, is_opened, life_of,
 use Rattle.pblk_world.specs.Legal.{IsDecision, MayDecide, IsAllowed, IsLegal}
 use Rattle.pblk_world.proofs.Appending.{life_more}
 use Rattle.pblk_world.proofs.Answered.{answers_fit}
-use Rattle.core_laws.specs.PlainWorlds.{is_plain_event, ArePlain}
+use Rattle.core_laws.specs.PlainEvents.{is_plain_event, ArePlain}
 use Rattle.core_laws.specs.SimpleMounts.{IsSimpleMount}
 use Rattle.core_laws.specs.Positions.{AreNumbered, AreMarked, AreTaken}
 use Rattle.core_laws.proofs.KeptPositions.{marked_after, taken_after}

@@ -9,7 +9,7 @@ use Rattle.pblk_model.specs.Chunk.{Block}
 use Rattle.pblk_world.specs.Events.{Logged}
 use Rattle.pblk_world.specs.EngineLog.{Opened, Opening, Placed, placements, placed_on, stripes_on, answer_of, is_land, has_landed, bears_position}
 use Rattle.pblk_world.specs.Space.{landed_blocks, is_readable_in, gives_back}
-use Rattle.core_laws.specs.PlainWorlds.{ArePlain}
+use Rattle.core_laws.specs.PlainEvents.{ArePlain}
 use Rattle.core_laws.specs.WindowOf.{is_given_back}
 use Rattle.core_laws.proofs.Placing.{not_below}
 use Rattle.world_laws.proofs.UnitTurns.{rise_between, rise_on}

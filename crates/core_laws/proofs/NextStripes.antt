@@ -9,9 +9,9 @@ use Rattle.stripe_placer.specs.OpenLines.{Stripe, OpenLine, is_unplaced, is_land
 use Rattle.stripe_placer.specs.OpenLines.Stripe.{Unplaced}
 use Rattle.stripe_placer.proofs.Numbered.{found_in_range, none_in_range}
 use Rattle.core_laws.specs.OpenedLines.{by_answer}
-use Rattle.core_laws.specs.PlainWorlds.{ArePlain}
+use Rattle.core_laws.specs.PlainEvents.{ArePlain}
 use Rattle.core_laws.proofs.LineForms.{answered_as}
-use Rattle.core_laws.proofs.PlainWorldsLemmas.{not_lost}
+use Rattle.core_laws.proofs.PlainEventsLemmas.{not_lost}
 use Rattle.lemmas.proofs.Maps.{any_fail}
 use Rattle.stripe_placer.proofs.OpenLinesLemmas.{length_new, no_chunk_closed}
 

@@ -42,7 +42,7 @@ use Rattle.stripe_placer.proofs.Rows.{find_first, find_second}
 use Rattle.core_laws.proofs.KeptLines.{all_online}
 use Rattle.core_laws.proofs.OfferedStripes.{live_inside, unit_within}
 use Rattle.core_laws.proofs.Placeable.{kind_in, kind_by, IsPart, HasParts, parts_of}
-use Rattle.core_laws.proofs.PlainWorldsLemmas.{none_failed}
+use Rattle.core_laws.proofs.PlainEventsLemmas.{none_failed}
 use Rattle.lemmas.proofs.Lists.{IsAmong}
 use Rattle.lemmas.proofs.Maps.{from_filter, given_at, in_filter, in_map}
 use Rattle.lemmas.proofs.Parts.{all_at, contained_among, none_past, some_within}

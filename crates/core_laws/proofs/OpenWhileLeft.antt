@@ -22,7 +22,7 @@ use Rattle.core_laws.proofs.Followed.{IsFollowed, follow, plain_of}
 use Rattle.core_laws.proofs.UnitBits.{units_are}
 use Rattle.core_laws.proofs.PlainOpenings.{opened_lines, life_stands}
 use Rattle.core_laws.specs.SimpleMounts.{IsSimpleMount}
-use Rattle.core_laws.proofs.PlainWorldsLemmas.{not_lost}
+use Rattle.core_laws.proofs.PlainEventsLemmas.{not_lost}
 use Rattle.core_laws.proofs.PlacedLines.{found_any}
 use Rattle.core_laws.proofs.KeptLines.{few_units}
 use Rattle.core_laws.proofs.StripesInOrder.{wide, stripe_count}

@@ -27,7 +27,7 @@ use Rattle.core_laws.specs.Stepping.{after}
 use Rattle.core_laws.specs.RowsOf.{state_in, width_in, taker_by, taker_in, row_of_line, rows_of}
 use Rattle.core_laws.proofs.Opening.{placed_before}
 use Rattle.core_laws.specs.ChangedTables.{with_row}
-use Rattle.core_laws.specs.PlainLogs.{NoneFreed}
+use Rattle.core_laws.specs.PlainLogs.{NoLineFreed}
 use Rattle.core_laws.proofs.TakenSlots.{landed_same}
 use Rattle.core_laws.proofs.KeptStripes.{with_event, KeepsStripes, stripes_kept, placements_kept, alike_kept, have_landed_alike}
 use Rattle.core_laws.proofs.KeptRows.{known_kept, KeepsLines, live_kept, same_row, row_kept}
@@ -286,7 +286,7 @@ no_taker i logs new line free keeps =
     (ap (is_of line) (keeps.landed t.mark.lba (take_before (new 0) t)) ∙ none_landed_in_free i logs line t.mark.lba (take_before (new 0) t) free))
     (takes (new 0))))
 
-pub rows_opened : (i : Image) (logs : Logs) (begun : Begun) (line : ℕ) (start : StartRecord) (knows : List ℕ) → IsDriveShape i.shape → NoneFreed (logs 0)
+pub rows_opened : (i : Image) (logs : Logs) (begun : Begun) (line : ℕ) (start : StartRecord) (knows : List ℕ) → IsDriveShape i.shape → NoLineFreed (logs 0)
     → MayOpen i logs begun line start
     → rows_of i (after logs (Open line start) knows) ≡ with_row line (turned states.Open start.width) (rows_of i logs)
 rows_opened i logs begun line start knows drive freed may =

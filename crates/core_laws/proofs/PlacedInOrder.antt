@@ -23,7 +23,7 @@ use Rattle.pblk_world.specs.Victims.{position_in}
 use Rattle.pblk_world.specs.Placing.{next_address, end_address, end_record, IsStart, IsData, IsEnd, IsPad, MayPlace, data_blocks, record_blocks}
 use Rattle.pblk_world.specs.Legal.{IsDecision}
 use Rattle.pblk_world.proofs.Appending.{placements_more}
-use Rattle.core_laws.specs.PlainWorlds.{is_plain_decision}
+use Rattle.core_laws.specs.PlainEvents.{is_plain_decision}
 use Rattle.core_laws.specs.SimpleMounts.{IsSimpleMount}
 use Rattle.core_laws.specs.PlacerOf.{positions_of, positions_in_stripe, lost_entries, fresh_entries}
 use Rattle.core_laws.specs.Positions.{AreNumbered, AreMarked}

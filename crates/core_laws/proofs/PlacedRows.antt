@@ -25,7 +25,7 @@ use Rattle.core_laws.specs.Positions.{IsUnplaced, AreNumbered, AreMarked}
 use Rattle.core_laws.specs.RowsOf.{state_in, state_of, width_in, taker_by, taker_in, row_of_line, rows_of}
 use Rattle.core_laws.proofs.Engine.{placements_before}
 use Rattle.core_laws.proofs.Placing.{with_place, new_placed, IsPlacing, answer_now, new_unanswered, stripes_now}
-use Rattle.core_laws.specs.PlainLogs.{NoneFreed, NoneLost}
+use Rattle.core_laws.specs.PlainLogs.{NoLineFreed, NoStripeLost}
 use Rattle.core_laws.specs.PlacedEntries.{place_entries, AreOfSectors}
 use Rattle.core_laws.proofs.KeptRows.{known_kept, KeepsChunks, state_same, width_same, same_row}
 use Rattle.core_laws.proofs.NextTakes.{IsRising, rising_by}
@@ -112,13 +112,13 @@ landed_now log stripe knows o other n is = go (is_life other.number (Opened o)) 
 
 -- ---- rows by where the entries are
 
-pub table_was : (i : Image) (logs : Logs) → NoneFreed (logs 0) → rows_of i logs ≡ table_of i.shape (row_with i logs (line_of i logs) (landed_line_of i logs))
+pub table_was : (i : Image) (logs : Logs) → NoLineFreed (logs 0) → rows_of i logs ≡ table_of i.shape (row_with i logs (line_of i logs) (landed_line_of i logs))
 table_was i logs freed = tables_agree i.shape (row_with i logs (line_of i logs) (landed_line_of i logs)) (row_of_line i logs) (λ m.
     same_row (state_of i logs m) (state_of i logs m) (width_in i logs m (life_of (logs 0) m)) (width_in i logs m (life_of (logs 0) m))
     (row_of_line i logs m).live (row_of_line i logs m).live
     (taker_in i logs m (life_of (logs 0) m)) (taker_by i logs m) refl refl refl (taker_is i logs m (life_of (logs 0) m) (freed m)))
 
-table_now : (i : Image) (logs : Logs) (stripe : Stripe) (knows : List ℕ) (o : Opening) (places : Places) → IsPlacing (logs 0) stripe o → NoneFreed (logs 0)
+table_now : (i : Image) (logs : Logs) (stripe : Stripe) (knows : List ℕ) (o : Opening) (places : Places) → IsPlacing (logs 0) stripe o → NoLineFreed (logs 0)
     → line_of i (after logs (Place stripe) knows) ≡ places
     → rows_of i (after logs (Place stripe) knows) ≡ table_of i.shape (row_with i logs places (landed_line_of i logs))
 table_now i logs stripe knows o places is freed same =
@@ -151,7 +151,7 @@ table_now i logs stripe knows o places is freed same =
         (ap₂ (λ ts ps. live_with i.shape.capacity ts ps m) taken_same same)
         (ap (taker_in i new m) life ∙ taker_is i new m (life_of (logs 0) m) (freed m) ∙ ap₂ (λ ts ps. taker_with i.shape.capacity ts ps m) taken_same landed_is)
 
-rows_by : (i : Image) (logs : Logs) (stripe : Stripe) (knows : List ℕ) (o : Opening) (ts : List Taken) → IsPlacing (logs 0) stripe o → NoneFreed (logs 0)
+rows_by : (i : Image) (logs : Logs) (stripe : Stripe) (knows : List ℕ) (o : Opening) (ts : List Taken) → IsPlacing (logs 0) stripe o → NoLineFreed (logs 0)
     → BearsThese i.shape stripe ts → IsRising (takes (logs 0)) → IsRising ts
     → AllByRecursion (IsEntry i.shape.capacity (takes (logs 0))) ts → AllByRecursion (λ t. IsUnplaced i.shape (logs 0) t.entry.position) ts
     → rows_of i (after logs (Place stripe) knows) ≡ place_entries (logs 0) stripe.line (rows_of i logs) ts
@@ -169,7 +169,7 @@ rows_by i logs stripe knows o ts is freed bears rise own all unplaced =
 
 -- a stripe without entries
 pub rows_beside : (i : Image) (logs : Logs) (stripe : Stripe) (knows : List ℕ) (o : Opening) → i.shape.capacity ≤ meta_lba → IsPlacing (logs 0) stripe o
-    → NoneFreed (logs 0) → AreNumbered (logs 0)
+    → NoLineFreed (logs 0) → AreNumbered (logs 0)
     → IsStart i logs o stripe ⊎ (IsEnd i logs o stripe ⊎ IsPad i logs o stripe) → rows_of i (after logs (Place stripe) knows) ≡ rows_of i logs
 rows_beside i logs stripe knows o small is freed numbered its =
     rows_by i logs stripe knows o [] is freed (others_bear i logs o stripe small its)
@@ -177,7 +177,7 @@ rows_beside i logs stripe knows o small is freed numbered its =
 
 -- ---- the entries that wait where none was lost
 
-none_lost : (s : Shape) (log : List Logged) (t : Taken) → NoneLost log → times_lost s log t ≡ 0
+none_lost : (s : Shape) (log : List Logged) (t : Taken) → NoStripeLost log → times_lost s log t ≡ 0
 none_lost s log t fine = ap (λ (ps : List Placed). length ps)
     (filter_none (λ p. was_lost log p && holds_position s t.entry.position p) (placements log) (each (placements log)))
   where
@@ -185,14 +185,14 @@ none_lost s log t fine = ap (λ (ps : List Placed). length ps)
     each [] = tt
     each (p ∷ ps) = (ap (λ b. b && holds_position s t.entry.position p) (fine p), each ps)
 
-not_again : (s : Shape) (log : List Logged) (t : Taken) → NoneLost log → (waits s log t && was_placed s log t) ≡ false
+not_again : (s : Shape) (log : List Logged) (t : Taken) → NoStripeLost log → (waits s log t && was_placed s log t) ≡ false
 not_again s log t fine = ap (λ n. (times_placed s log t == n) && was_placed s log t) (none_lost s log t fine) ∙ go (times_placed s log t)
   where
     go : (n : ℕ) → ((n == 0) && nat_lt 0 n) ≡ false
     go zero = refl
     go (suc n) = ap (λ b. b && nat_lt 0 (suc n)) (other_number (suc n) 0 (λ e. absurd (omega arith)))
 
-pub waiting_fresh : (s : Shape) (log : List Logged) → NoneLost log → waiting s log ≡ filter (λ t. not (was_placed s log t)) (takes log)
+pub waiting_fresh : (s : Shape) (log : List Logged) → NoStripeLost log → waiting s log ≡ filter (λ t. not (was_placed s log t)) (takes log)
 waiting_fresh s log fine = ap (λ ts. ts ++ filter (λ t. not (was_placed s log t)) (takes log))
     (filter_none (λ t. waits s log t && was_placed s log t) (takes log)
     (all_of (λ t. (waits s log t && was_placed s log t) ≡ false) (λ t. not_again s log t fine) (takes log)))
@@ -221,13 +221,13 @@ none_pass {X} test (x ∷ xs) e = go (test x) refl e (λ f. none_pass test xs f)
     go false f h rest = (f, rest h)
 
 -- what holds of all fresh entries holds of the first ones that wait
-first_waiting : (s : Shape) (log : List Logged) (P : Taken → Type 0) → NoneLost log → AllByRecursion P (filter (λ t. not (was_placed s log t)) (takes log))
+first_waiting : (s : Shape) (log : List Logged) (P : Taken → Type 0) → NoStripeLost log → AllByRecursion P (filter (λ t. not (was_placed s log t)) (takes log))
     → AllByRecursion P (take s.ws_opt (waiting s log))
 first_waiting s log P fine all = all_taken P s.ws_opt (waiting s log) (subst (AllByRecursion P) (sym (waiting_fresh s log fine)) all)
 
 -- a stripe of entries
 pub rows_placed : (i : Image) (logs : Logs) (stripe : Stripe) (knows : List ℕ) (o : Opening) → i.shape.capacity ≤ meta_lba → IsPlacing (logs 0) stripe o
-    → NoneFreed (logs 0) → NoneLost (logs 0)
+    → NoLineFreed (logs 0) → NoStripeLost (logs 0)
     → AreNumbered (logs 0) → AreMarked (logs 0) → AreOfSectors i.shape (logs 0) → IsData i logs o stripe
     → rows_of i (after logs (Place stripe) knows) ≡ place_entries (logs 0) stripe.line (rows_of i logs) (take i.shape.ws_opt (waiting i.shape (logs 0)))
 rows_placed i logs stripe knows o small is freed fine numbered marked sectors its =
@@ -253,12 +253,12 @@ rows_placed i logs stripe knows o small is freed fine numbered marked sectors it
 -- ---- some first ones of them
 
 -- what holds of all fresh entries holds of so many that wait
-some_waiting : (s : Shape) (log : List Logged) (P : Taken → Type 0) (n : ℕ) → NoneLost log
+some_waiting : (s : Shape) (log : List Logged) (P : Taken → Type 0) (n : ℕ) → NoStripeLost log
     → AllByRecursion P (filter (λ t. not (was_placed s log t)) (takes log)) → AllByRecursion P (take n (waiting s log))
 some_waiting s log P n fine all = all_taken P n (waiting s log) (subst (AllByRecursion P) (sym (waiting_fresh s log fine)) all)
 
 -- no row has more live sectors than the target has sectors, also between the entries
-pub live_between : (i : Image) (logs : Logs) (line n : ℕ) → NoneFreed (logs 0) → NoneLost (logs 0) → AreNumbered (logs 0) → AreOfSectors i.shape (logs 0)
+pub live_between : (i : Image) (logs : Logs) (line n : ℕ) → NoLineFreed (logs 0) → NoStripeLost (logs 0) → AreNumbered (logs 0) → AreOfSectors i.shape (logs 0)
     → EachRow (place_entries (logs 0) line (rows_of i logs) (take n (waiting i.shape (logs 0)))) (λ m row. row.live ≤ i.shape.capacity)
 live_between i logs line n freed fine numbered sectors =
     let rise : IsRising (takes (logs 0)) = rising_by (first_position (logs 0)) (length (takes (logs 0))) (takes (logs 0)) numbered in

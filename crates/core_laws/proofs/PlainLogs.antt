@@ -4,12 +4,12 @@ use Rattle.std.specs.Prelude.{if◌then◌else◌, slice_get}
 use Rattle.std.specs.List.{AllByRecursion, filter_map, cons_option}
 use Rattle.pblk_world.specs.Events.{Landed, Lost, Event, Decides, Logged}
 use Rattle.pblk_world.specs.EngineLog.{AsFound, Answer, DidLand, answer_by, answers, turn, is_loss, was_lost, stripes_of}
-use Rattle.core_laws.specs.PlainWorlds.{is_plain_event, ArePlain}
-use Rattle.core_laws.specs.PlainLogs.{NoneFreed, NoneLost, NoneFailed}
-use Rattle.core_laws.proofs.PlainWorldsLemmas.{lives_unfreed}
+use Rattle.core_laws.specs.PlainEvents.{is_plain_event, ArePlain}
+use Rattle.core_laws.specs.PlainLogs.{NoLineFreed, NoStripeLost, NoLineFailed}
+use Rattle.core_laws.proofs.PlainEventsLemmas.{lives_unfreed}
 use Rattle.lemmas.proofs.Maps.{none_any}
 
-pub none_freed : (log : List Logged) → ArePlain log → NoneFreed log
+pub none_freed : (log : List Logged) → ArePlain log → NoLineFreed log
 none_freed log plain line = lives_unfreed line 0 log AsFound plain refl
 
 abbrev AreLandings : List Answer → Type 0
@@ -33,8 +33,8 @@ loss_at [] k all = refl
 loss_at (x ∷ xs) zero all = all.0
 loss_at (x ∷ xs) (suc k) all = loss_at xs k all.1
 
-pub none_lost : (log : List Logged) → ArePlain log → NoneLost log
+pub none_lost : (log : List Logged) → ArePlain log → NoStripeLost log
 none_lost log plain p = loss_at (answers log p.stripe.unit) (turn log p) (landings p.stripe.unit log plain)
 
-pub none_failed : (log : List Logged) → ArePlain log → NoneFailed log
+pub none_failed : (log : List Logged) → ArePlain log → NoLineFailed log
 none_failed log plain o = none_any (was_lost log) (none_lost log plain) (stripes_of log o)

@@ -11,7 +11,7 @@ use Rattle.pblk_world.specs.EngineLog.{is_opened, Begun, Opening, openings, Open
 use Rattle.pblk_world.specs.Lines.{known_image, has_number, are_empty, line_data}
 use Rattle.pblk_world.specs.Opening.{MayOpen}
 use Rattle.pblk_world.proofs.Appending.{life_more, openings_more}
-use Rattle.core_laws.specs.PlainWorlds.{is_plain_event}
+use Rattle.core_laws.specs.PlainEvents.{is_plain_event}
 use Rattle.core_laws.proofs.Engine.{openings_before}
 use Rattle.core_laws.specs.OpenedLines.{standing}
 use Rattle.core_laws.proofs.Followed.{IsFollowed, IsNextEvent, by_events, units_width}

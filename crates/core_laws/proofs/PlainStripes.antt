@@ -12,10 +12,10 @@ use Rattle.pblk_world.specs.World.{World, Logs, log_of}
 use Rattle.pblk_world.specs.EngineLog.{Begun, life_of, Placed, placed_by, placements, placed_on, Answer, DidLand, WasLost, answers, answer_of, is_land, is_loss, has_landed}
 use Rattle.pblk_world.specs.Legal.{IsLegal, IsDecision}
 use Rattle.pblk_world.proofs.Appending.{placements_more}
-use Rattle.core_laws.specs.PlainWorlds.{ArePlain}
+use Rattle.core_laws.specs.PlainEvents.{ArePlain}
 use Rattle.core_laws.proofs.KeptByEvents.{IsKept, kept}
 use Rattle.core_laws.proofs.UnitTurns.{turn_at}
-use Rattle.core_laws.proofs.PlainWorldsLemmas.{not_lost}
+use Rattle.core_laws.proofs.PlainEventsLemmas.{not_lost}
 use Rattle.core_laws.proofs.IdleUnits.{idle_fits}
 use Rattle.lemmas.proofs.Lists.{all_true}
 use Rattle.lemmas.proofs.Parts.{all_by_get, within_some}

@@ -7,7 +7,7 @@ use Rattle.pblk_world.specs.World.{World, log_of}
 use Rattle.pblk_world.specs.Legal.{IsLegal}
 use Rattle.world_laws.specs.LegalMounts.{HasNone, IsLegalMount, decides, is_copying, is_freeing, is_losing}
 use Rattle.world_laws.proofs.Beginnings.{IsInTurn, turn_of}
-use Rattle.core_laws.specs.PlainWorlds.{ArePlain, is_plain_event}
+use Rattle.core_laws.specs.PlainEvents.{ArePlain, is_plain_event}
 use Rattle.core_laws.specs.SimpleMounts.{IsSimpleLog, IsSimpleMount, NoneAgain, is_stopping}
 use Rattle.lemmas.proofs.Lists.{IsAmong, all_but_last, all_imply, among_all, with_last}
 use Rattle.lemmas.proofs.Parts.{all_at}

@@ -24,7 +24,7 @@ use Rattle.core_laws.proofs.Followed.{IsFollowed, IsNextEvent, by_events, then_u
 use Rattle.core_laws.proofs.PartLengths.{IsStriped, striped, is_before}
 use Rattle.core_laws.proofs.LandedStays.{landed_more, all_landed}
 use Rattle.core_laws.proofs.PlainOpenings.{IsOpenedLine, opened_lines}
-use Rattle.core_laws.proofs.PlainWorldsLemmas.{none_failed}
+use Rattle.core_laws.proofs.PlainEventsLemmas.{none_failed}
 use Rattle.lemmas.proofs.Maps.{filter_none}
 use Rattle.lemmas.proofs.Options.{mapped_some}
 use Rattle.lemmas.proofs.Parts.{all_taken}

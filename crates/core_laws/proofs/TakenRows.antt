@@ -26,7 +26,7 @@ use Rattle.core_laws.specs.RowsOf.{state_in, width_in, taker_by, taker_in, row_o
 use Rattle.core_laws.proofs.Placing.{not_below}
 use Rattle.core_laws.proofs.Taking.{filter_last}
 use Rattle.core_laws.specs.ChangedTables.{lose_in}
-use Rattle.core_laws.specs.PlainLogs.{NoneFreed}
+use Rattle.core_laws.specs.PlainLogs.{NoLineFreed}
 use Rattle.core_laws.proofs.KeptStripes.{with_event, KeepsStripes, stripes_kept, lives_kept, alike_kept, have_landed_alike}
 use Rattle.core_laws.proofs.KeptRows.{known_kept, KeepsChunks, state_same, width_same, live_same, same_row}
 use Rattle.core_laws.proofs.LandedRows.{line_of_kept, landed_of_kept}
@@ -244,7 +244,7 @@ record IsStateKept (i : Image) (logs new : Logs) (line : ℕ) : Type 0 where
   wide : width_in i new line (life_of (new 0) line) ≡ width_in i logs line (life_of (logs 0) line)
   taker : (t : Option ℕ) → taker_by i new line ≡ t → taker_in i new line (life_of (new 0) line) ≡ t
 
-state_kept : (i : Image) (logs : Logs) (entry : Entry) (mark : Mark) (knows : List ℕ) (line : ℕ) → NoneFreed (logs 0)
+state_kept : (i : Image) (logs : Logs) (entry : Entry) (mark : Mark) (knows : List ℕ) (line : ℕ) → NoLineFreed (logs 0)
     → IsStateKept i logs (after logs (Take entry mark) knows) line
 state_kept i logs entry mark knows line freed =
     let new : Logs = after logs (Take entry mark) knows in
@@ -267,7 +267,7 @@ state_kept i logs entry mark knows line freed =
     }
 
 -- the sector was live in another line, or in none
-row_same_now : (i : Image) (logs : Logs) (entry : Entry) (mark : Mark) (knows : List ℕ) (line : ℕ) → NoneFreed (logs 0) → AreNumbered (logs 0)
+row_same_now : (i : Image) (logs : Logs) (entry : Entry) (mark : Mark) (knows : List ℕ) (line : ℕ) → NoLineFreed (logs 0) → AreNumbered (logs 0)
     → IsUnplaced i.shape (logs 0) entry.position → entry.position ≡ taken (logs 0)
     → mark.lba < i.shape.capacity → is_live_in i logs line mark.lba ≡ false → is_of line (landed_line_of i logs mark.lba (last_take (logs 0) mark.lba)) ≡ false
     → row_of_line i (after logs (Take entry mark) knows) line ≡ row_of_line i logs line
@@ -281,7 +281,7 @@ row_same_now i logs entry mark knows line freed numbered none next inside is apa
     ∙ sym (taker_is i logs line (life_of (logs 0) line) (freed line)))
 
 -- it was live there, and had landed
-row_lost : (i : Image) (logs : Logs) (entry : Entry) (mark : Mark) (knows : List ℕ) (line : ℕ) → NoneFreed (logs 0) → AreNumbered (logs 0)
+row_lost : (i : Image) (logs : Logs) (entry : Entry) (mark : Mark) (knows : List ℕ) (line : ℕ) → NoLineFreed (logs 0) → AreNumbered (logs 0)
     → IsUnplaced i.shape (logs 0) entry.position → entry.position ≡ taken (logs 0)
     → mark.lba < i.shape.capacity → is_live_in i logs line mark.lba ≡ true → is_of line (landed_line_of i logs mark.lba (last_take (logs 0) mark.lba)) ≡ true
     → row_of_line i (after logs (Take entry mark) knows) line ≡ lost entry.position (row_of_line i logs line)
@@ -296,7 +296,7 @@ row_lost i logs entry mark knows line freed numbered none next inside is there =
     ∙ ap (λ t. Some (latest t entry.position)) (sym (taker_is i logs line (life_of (logs 0) line) (freed line))))
 
 -- it was live there, and hadn't landed
-row_lowered : (i : Image) (logs : Logs) (entry : Entry) (mark : Mark) (knows : List ℕ) (line : ℕ) → NoneFreed (logs 0) → AreNumbered (logs 0)
+row_lowered : (i : Image) (logs : Logs) (entry : Entry) (mark : Mark) (knows : List ℕ) (line : ℕ) → NoLineFreed (logs 0) → AreNumbered (logs 0)
     → IsUnplaced i.shape (logs 0) entry.position → entry.position ≡ taken (logs 0)
     → mark.lba < i.shape.capacity → is_live_in i logs line mark.lba ≡ true → is_of line (landed_line_of i logs mark.lba (last_take (logs 0) mark.lba)) ≡ false
     → row_of_line i (after logs (Take entry mark) knows) line ≡ lowered (row_of_line i logs line)
@@ -310,7 +310,7 @@ row_lowered i logs entry mark knows line freed numbered none next inside is apar
     ∙ sym (taker_is i logs line (life_of (logs 0) line) (freed line)))
 
 -- by the line in which it was live, and whether it had landed there
-pub rows_taken : (i : Image) (logs : Logs) (entry : Entry) (mark : Mark) (knows : List ℕ) (landed : Bool) → NoneFreed (logs 0) → AreNumbered (logs 0)
+pub rows_taken : (i : Image) (logs : Logs) (entry : Entry) (mark : Mark) (knows : List ℕ) (landed : Bool) → NoLineFreed (logs 0) → AreNumbered (logs 0)
     → IsUnplaced i.shape (logs 0) entry.position
     → entry.position ≡ taken (logs 0) → mark.lba < i.shape.capacity
     → landed_line_of i logs mark.lba (last_take (logs 0) mark.lba) ≡ (if landed then line_of i logs mark.lba (last_take (logs 0) mark.lba) else None)

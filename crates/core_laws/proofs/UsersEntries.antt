@@ -10,7 +10,7 @@ use Rattle.pblk_world.specs.EngineLog.{Begun, Taken, takes}
 use Rattle.pblk_world.specs.Fronts.{is_users}
 use Rattle.pblk_world.specs.Legal.{IsLegal, IsDecision}
 use Rattle.core_laws.specs.Positions.{AreNumbered, AreMarked, AreTaken}
-use Rattle.core_laws.specs.PlainWorlds.{is_plain_event, is_plain_decision}
+use Rattle.core_laws.specs.PlainEvents.{is_plain_event, is_plain_decision}
 use Rattle.core_laws.specs.SimpleMounts.{IsSimpleMount}
 use Rattle.core_laws.proofs.SimpleMounts.{engine_plain}
 use Rattle.core_laws.proofs.TakenNumbers.{numbered_after}

@@ -22,7 +22,7 @@ use Rattle.core_laws.proofs.Followed.{IsFollowed, IsNextEvent, by_events, plain_
 use Rattle.core_laws.proofs.PartLengths.{IsStriped, is_before, ends_before}
 use Rattle.core_laws.proofs.PlainOpenings.{IsOpenedLine, opened_lines}
 use Rattle.core_laws.proofs.StripesInOrder.{wide, its_stripes}
-use Rattle.core_laws.proofs.PlainWorldsLemmas.{none_failed}
+use Rattle.core_laws.proofs.PlainEventsLemmas.{none_failed}
 use Rattle.lemmas.proofs.Lists.{length_replicate, with_last}
 use Rattle.pblk_model.proofs.LineOrderLemmas.{whole_line}
 

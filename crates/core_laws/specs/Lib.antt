@@ -8,7 +8,7 @@ pub mod Stepping
 pub mod Positions
 pub mod SimpleMounts
 pub mod FaultlessMounts
-pub mod PlainWorlds
+pub mod PlainEvents
 pub mod LeastFree
 pub mod OpenAddresses
 pub mod ChangedTables

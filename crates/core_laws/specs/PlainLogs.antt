@@ -5,13 +5,13 @@ use Rattle.pblk_world.specs.EngineLog.{Opening, Placed, life_of, was_lost, has_f
 use Rattle.pblk_world.specs.Victims.{is_freed}
 
 -- no line was freed
-abbrev pub NoneFreed : List Logged → Type 0
-NoneFreed log = (line : ℕ) → is_freed (life_of log line) ≡ false
+abbrev pub NoLineFreed : List Logged → Type 0
+NoLineFreed log = (line : ℕ) → is_freed (life_of log line) ≡ false
 
 -- no stripe was lost
-abbrev pub NoneLost : List Logged → Type 0
-NoneLost log = (p : Placed) → was_lost log p ≡ false
+abbrev pub NoStripeLost : List Logged → Type 0
+NoStripeLost log = (p : Placed) → was_lost log p ≡ false
 
 -- no line that was opened is Failed
-abbrev pub NoneFailed : List Logged → Type 0
-NoneFailed log = (o : Opening) → has_failed log o ≡ false
+abbrev pub NoLineFailed : List Logged → Type 0
+NoLineFailed log = (o : Opening) → has_failed log o ≡ false

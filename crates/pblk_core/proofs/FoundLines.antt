@@ -18,7 +18,7 @@ use Rattle.pblk_world.specs.Starts.{bound_by, found_row, older_row, older_rows}
 use Rattle.pblk_world.specs.Victims.{is_freed}
 use Rattle.pblk_world.proofs.Growing.{knowledge_rises}
 use Rattle.core_laws.proofs.SimpleMounts.{engine_plain}
-use Rattle.core_laws.specs.PlainWorlds.{is_plain_event, ArePlain}
+use Rattle.core_laws.specs.PlainEvents.{is_plain_event, ArePlain}
 use Rattle.core_laws.specs.SimpleMounts.{IsSimpleMount}
 use Rattle.core_laws.specs.Stepping.{after}
 use Rattle.core_laws.proofs.OpeningNumbers.{opens, opens_at, life_at}

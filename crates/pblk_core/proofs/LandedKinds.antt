@@ -42,7 +42,7 @@ use Rattle.pblk_core.proofs.LineUnits.{now_units}
 use Rattle.pblk_core.proofs.LandedReads.{IsChunkRead}
 use Rattle.pblk_core.proofs.LandedWay.{IsOnWay}
 use Rattle.pblk_core.proofs.LandedChunk.{HasKind, AreKinds, chunk_read}
-use Rattle.core_laws.proofs.PlainWorldsLemmas.{none_failed}
+use Rattle.core_laws.proofs.PlainEventsLemmas.{none_failed}
 use Rattle.lemmas.proofs.Lists.{IsAmong, all_front}
 use Rattle.lemmas.proofs.Maps.{filter_none}
 use Rattle.lemmas.proofs.Parts.{all_at, all_dropped, all_taken}

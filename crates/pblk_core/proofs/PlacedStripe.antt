@@ -40,7 +40,7 @@ use Rattle.pblk_core.specs.Slots.{IsSlot}
 use Rattle.pblk_core.specs.declared.target_core.Core.{Core}
 use Rattle.pblk_core.specs.declared.open_lines.OpenLine.{OpenLine as KeptLine}
 use Rattle.pblk_core.specs.declared.open_lines.OpenLines.{OpenLines}
-use Rattle.core_laws.proofs.PlainWorldsLemmas.{none_failed}
+use Rattle.core_laws.proofs.PlainEventsLemmas.{none_failed}
 use Rattle.lemmas.proofs.Lists.{IsAmong}
 use Rattle.lemmas.proofs.Maps.{in_filter}
 use Rattle.lemmas.proofs.Parts.{got_within}

@@ -28,10 +28,10 @@ use Rattle.stripe_placer.specs.declared.placement.StripeKind.TheVariants as kind
 use Rattle.stripe_placer.specs.OpenLines.{OpenLine, is_lost, kind_of, numbers, opened}
 use Rattle.stripe_placer.specs.Placing.{Program}
 use Rattle.core_laws.specs.OpenedLines.{as_opened, became, by_answer, open_line, outcome, placed_as}
-use Rattle.core_laws.specs.PlainWorlds.{ArePlain, is_plain_event}
+use Rattle.core_laws.specs.PlainEvents.{ArePlain, is_plain_event}
 use Rattle.core_laws.specs.PlacerOf.{number_of, positions_of}
 use Rattle.core_laws.specs.SimpleMounts.{IsSimpleMount}
-use Rattle.core_laws.proofs.PlainWorldsLemmas.{none_failed, not_lost}
+use Rattle.core_laws.proofs.PlainEventsLemmas.{none_failed, not_lost}
 use Rattle.core_laws.proofs.SimpleMounts.{engine_plain}
 use Rattle.core_laws.specs.InOrder.{IsInPlace}
 use Rattle.core_laws.proofs.LogOrders.{in_order}

@@ -7,7 +7,7 @@ use Rattle.pblk_world.specs.World.{World, Logs, log_of, media}
 use Rattle.pblk_world.specs.EngineLog.{Begun, begun}
 use Rattle.pblk_world.specs.Legal.{MayDecide, IsDecision}
 use Rattle.core_laws.specs.FaultlessMounts.{IsFaultlessMount}
-use Rattle.core_laws.specs.PlainWorlds.{is_plain_decision}
+use Rattle.core_laws.specs.PlainEvents.{is_plain_decision}
 use Rattle.core_laws.specs.Stepping.{after}
 use Rattle.core_laws.proofs.FaultlessMounts.{still_faultless}
 use Rattle.step_laws.specs.Whole.{knows_all, engine_step}

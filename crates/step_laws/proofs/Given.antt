@@ -33,7 +33,7 @@ use Rattle.world_laws.proofs.StripePlaces.{kth_place}
 use Rattle.world_laws.proofs.UnitLogs.{chunk_fits}
 use Rattle.core_laws.specs.SimpleMounts.{IsSimpleMount}
 use Rattle.core_laws.proofs.OpeningNumbers.{life_at}
-use Rattle.core_laws.proofs.PlainWorldsLemmas.{not_lost}
+use Rattle.core_laws.proofs.PlainEventsLemmas.{not_lost}
 use Rattle.core_laws.proofs.SimpleMounts.{engine_plain}
 
 -- ---- chunks

@@ -25,7 +25,7 @@ use Rattle.core_laws.specs.PlacerOf.{entries_of, unanswered_on, waits_again, row
 use Rattle.core_laws.specs.RowsOf.{rows_of}
 use Rattle.core_laws.specs.SlotOf.{address_in, readable_block, media_of, slot_of_winner, slot_by, slot_of}
 use Rattle.core_laws.specs.KnownLogs.{AreKnown}
-use Rattle.core_laws.specs.PlainLogs.{NoneFreed}
+use Rattle.core_laws.specs.PlainLogs.{NoLineFreed}
 use Rattle.core_laws.proofs.KnownLines.{rows_known, room_known}
 use Rattle.core_laws.specs.LeftOpenings.{left_openings}
 use Rattle.lemmas.proofs.Maps.{filter_same, made_same, map_same}
@@ -69,7 +69,7 @@ module _ (i : Image) (us : ℕ → List Logged) (logs : Logs) (alike : AreAlike 
   pub room_beside : room i more ≡ room i logs
   room_beside = room_known i logs more are_known
 
-  pub rows_beside : NoneFreed (logs 0) → rows_of i more ≡ rows_of i logs
+  pub rows_beside : NoLineFreed (logs 0) → rows_of i more ≡ rows_of i logs
   rows_beside freed = rows_known i logs more are_known freed
 
   pub live_beside : (line : ℕ) → live_now i more line ≡ live_now i logs line

@@ -23,7 +23,7 @@ use Rattle.pblk_world.proofs.Appending.{life_more, placements_more}
 use Rattle.pblk_laws.proofs.ImageBytesBlocks.{AreBytes}
 use Rattle.pblk_laws.proofs.EndSpelling.{end_spelled, end_bytes_are}
 use Rattle.pblk_laws.proofs.Starts.{spelled, start_bytes_are}
-use Rattle.core_laws.specs.PlainWorlds.{is_plain_event}
+use Rattle.core_laws.specs.PlainEvents.{is_plain_event}
 use Rattle.core_laws.specs.SimpleMounts.{IsSimpleMount}
 use Rattle.core_laws.proofs.SimpleMounts.{engine_plain}
 use Rattle.core_laws.proofs.KeptByEvents.{IsKept, kept}

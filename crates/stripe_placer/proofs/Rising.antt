@@ -2,9 +2,12 @@
 use Rattle.std.proofs.Common.{◌≡◌, ℕ, zero, suc, ◌+◌, ◌<◌, ◌≤◌, Bool, true, false, ◌||◌, List, [], ◌∷◌, ◌++◌, length, take, drop, get_or, refl, sym, ap, ◌∙◌, arith}
 use Rattle.std.specs.Prelude.{nat_lt, nat_le}
 use Rattle.std.specs.List.{All, AllByRecursion, filter, list_any}
-use Rattle.std.proofs.lemmas.Bool.{lt-leb}
+use Rattle.std.proofs.lemmas.Bool.Decides.{nat_tests}
 use Rattle.stripe_placer.specs.Entries.{Rises}
 use Rattle.lemmas.proofs.Tests.{le_of_lt_false, le_true, lt_true, not_before}
+
+pub le_false : (a b : ℕ) → b < a → nat_le a b ≡ false
+le_false a b h = grind (arith, nat_tests)
 
 -- each is at least x
 abbrev AreFrom : ℕ → List ℕ → Type 0
@@ -77,7 +80,7 @@ place_above (x ∷ xs) zero p rise at =
     let up : p ≤ x = at.above (omega arith) in
     rw (le_true p x up) (ap (λ ys. x ∷ ys) (sym (all_over p x xs rise.0 up)))
 place_above (x ∷ xs) (suc i) p rise at =
-    rw (lt-leb p x (first_is_below x i p xs rise at)) (place_above xs i p rise.1 (later_place x i p xs at))
+    rw (le_false p x (first_is_below x i p xs rise at)) (place_above xs i p rise.1 (later_place x i p xs at))
 
 from_placed : (a i p : ℕ) (xs : List ℕ) → AreFrom a xs → a ≤ p → AreFrom a (take i xs ++ p ∷ drop i xs)
 from_placed a zero p [] all h = (h, tt)

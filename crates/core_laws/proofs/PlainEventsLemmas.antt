@@ -3,7 +3,7 @@ use Rattle.std.proofs.Common.{Bool, List, None, Option, Some, [], ap, append-nil
 use Rattle.std.proofs.lemmas.List.{take-take as take_first}
 use Rattle.std.proofs.lemmas.Option.{none-some}
 use Rattle.std.specs.List.{AllByRecursion, cons_option, enumerate_from, fold, list_any}
-use Rattle.core_laws.specs.PlainWorlds.{ArePlain, is_plain_event}
+use Rattle.core_laws.specs.PlainEvents.{ArePlain, is_plain_event}
 use Rattle.lemmas.proofs.Lists.{all_but_last}
 use Rattle.lemmas.proofs.Parts.{all_at, all_dropped, all_taken, take_and_drop}
 use Rattle.pblk_model.specs.Image.{Image}
