@@ -1,4 +1,5 @@
--- The positions that a stripe's blocks bear: those of its entries, and none where it has no entries.
+-- The positions that a stripe's blocks bear: those of its entries, and none where it has no
+-- entries.
 use Rattle.std.proofs.Common.{◌≡◌, ℕ, ◌-◌, ◌<◌, ◌≤◌, ◌==◌, ◌&&◌, not, zero, suc, true, false, Some, None, Option, List, [], ◌∷◌, ◌++◌, map, length, take, drop, replicate, refl, sym, subst, ap, ◌∙◌, arith, if◌then◌else◌, append-nil}
 use Rattle.std.specs.Prelude.{slice_range, is_some}
 use Rattle.std.specs.List.{AllByRecursion, filter, filter_map, cons_option}

@@ -1,4 +1,5 @@
--- What one entry that comes into a line makes of the line's row, by where the entries of sectors are.
+-- What one entry that comes into a line makes of the line's row, by where the entries of sectors
+-- are.
 use Rattle.std.proofs.Common.{◌≡◌, ◌≢◌, ℕ, ◌+◌, ◌<◌, ◌==◌, ◌&&◌, nat_eq, nat_lt, Bool, true, false, cond, Some, None, Option, List, [], ◌∷◌, ◌++◌, length, refl, sym, subst, ap, ap₂, ◌∙◌, arith, append_assoc, if◌then◌else◌}
 use Rattle.std.specs.List.{AllByRecursion, filter, find, last_or, range_with_len}
 use Rattle.std.specs.Option.{option_map}

@@ -90,7 +90,8 @@ by_engine : (i : Image) (us : ℕ → List ℕ) (s : Step) (w : World) (P : List
 by_engine i us s w P is step before true e = step w s.logged (its_event i us s w is e) before
 by_engine i us s w P is step before false e = before
 
--- what holds of an empty log, and of a log with one more event where it held of the log, holds of the engine's log
+-- what holds of an empty log, and of a log with one more event where it held of the log, holds of
+-- the engine's log
 pub by_events : (i : Image) (us : ℕ → List ℕ) (P : List Logged → Type 0) → P []
     → ((w : World) (l : Logged) → IsNextEvent i us w l → P (log_of w 0) → P (log_of w 0 ++ l ∷ []))
     → (w : World) → IsFollowed i us w → P (log_of w 0)

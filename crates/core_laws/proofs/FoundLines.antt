@@ -58,7 +58,8 @@ width_now i f logs line is =
 
 -- ---- states
 
--- by the line's start record, whether its end record is whole, whether it is empty, and its data addresses
+-- by the line's start record, whether its end record is whole, whether it is empty, and its data
+-- addresses
 abbrev state_by : Bool → Bool → Bool → ℕ → LineState
 state_by started full empty addresses =
     if started then (if full then states.Full else states.Failed)

@@ -1,4 +1,5 @@
--- A line that is open: its stripes were placed in line order, and its known chunks hold what has landed.
+-- A line that is open: its stripes were placed in line order, and its known chunks hold what has
+-- landed.
 use Rattle.std.proofs.Common.{◌≡◌, ◌⊎◌, inl, inr, ℕ, ◌+◌, ◌*◌, ◌/◌, ◌%◌, ◌<◌, ◌≤◌, ◌==◌, zero, suc, nat_lt, Bool, true, false, cond, Some, List, [], ◌∷◌, ◌++◌, length, take, refl, sym, subst, ap, ◌∙◌, arith, append-nil, length-append, div-add-mod', if◌then◌else◌}
 use Rattle.std.specs.Prelude.{slice_get}
 use Rattle.std.specs.List.{filter}
@@ -28,7 +29,8 @@ use Rattle.lemmas.proofs.Maps.{fewer_taken, filters_swap}
 use Rattle.lemmas.proofs.Parts.{take_next}
 use Rattle.pblk_world.proofs.EngineLogLemmas.{answers_more}
 
--- the stripes of an opening on a unit that have landed, where none was lost: as many of the unit's first stripes as it answered
+-- the stripes of an opening on a unit that have landed, where none was lost: as many of the unit's
+-- first stripes as it answered
 abbrev pub landed_on : List Logged → Opening → ℕ → List Placed
 landed_on log o u = filter (λ (p : Placed). is_life o.number p.life) (take (length (answers log u)) (placed_on log u))
 

@@ -1,4 +1,5 @@
--- Each event of a legal world was allowed by the prefixes that it names, and what landed is the program of its stripe.
+-- Each event of a legal world was allowed by the prefixes that it names, and what landed is the
+-- program of its stripe.
 use Rattle.std.proofs.Common.{◌≡◌, ℕ, ◌<◌, zero, suc, true, Some, List, [], ◌∷◌, length, take, refl, sym, subst, ap, ap₂, ◌∙◌, arith}
 use Rattle.std.specs.Prelude.{slice_get}
 use Rattle.std.specs.Option.{option_and_then}

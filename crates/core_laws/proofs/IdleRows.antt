@@ -1,4 +1,5 @@
--- The rows of a placer in a simple mount: a unit's row is idle exactly where its stripes are answered.
+-- The rows of a placer in a simple mount: a unit's row is idle exactly where its stripes are
+-- answered.
 use Rattle.std.proofs.Common.{◌≡◌, ℕ, ◌+◌, ◌<◌, ◌≤◌, ◌==◌, zero, suc, Bool, true, false, Some, None, Option, List, [], ◌∷◌, ◌++◌, map, length, refl, sym, subst, ap, ◌∙◌, arith, append-nil}
 use Rattle.std.specs.Prelude.{slice_get}
 use Rattle.std.specs.List.{AllByRecursion, filter_map, cons_option, range_with_len}
@@ -51,7 +52,8 @@ row_busy i logs false (Opened o) p opened none = refl
 row_busy i logs b AsFound p opened none = absurd cc
 row_busy i logs b (Freed past knows) p opened none = absurd cc
 
--- a row that is neither under way nor stopped is of no stripe that isn't answered, and the other way round
+-- a row that is neither under way nor stopped is of no stripe that isn't answered, and the other
+-- way round
 pub is_idle : (i : Image) (us : ℕ → List ℕ) (w : World) (again : List ℕ) (unit : ℕ) → IsFollowed i us w → is_under_way (row_of i (log_of w) again unit) ≡ false
     → stopped_in (row_of i (log_of w) again unit) ≡ None
     → length (answers (log_of w 0) unit) ≡ length (placed_on (log_of w 0) unit)

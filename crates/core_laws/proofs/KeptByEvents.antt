@@ -12,7 +12,8 @@ use Rattle.pblk_world.specs.Opening.{MayBegin}
 use Rattle.pblk_world.specs.Legal.{IsLegal, IsLegalStep, IsAllowed, IsDecision}
 use Rattle.lemmas.proofs.Lists.{all_front}
 
--- It holds of the empty log and of one that begins, and each allowed event that passes the test keeps it.
+-- It holds of the empty log and of one that begins, and each allowed event that passes the test
+-- keeps it.
 pub record IsKept (i : Image) (test : Event → Bool) (P : List Logged → Type 0) : Type 0 where
   pub empty : P []
   pub first : (known : Logs) (b : Beginning) (knows : List ℕ) → MayBegin i known b → P (record { event = Decides (Begin b); knows = knows } ∷ [])

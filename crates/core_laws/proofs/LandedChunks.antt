@@ -1,4 +1,5 @@
--- A stripe of an opened line that has landed stands in its chunk as the engine knows it; where it ends at the last block, the chunk is Closed.
+-- A stripe of an opened line that has landed stands in its chunk as the engine knows it; where it
+-- ends at the last block, the chunk is Closed.
 use Rattle.std.proofs.Common.{◌≡◌, ℕ, ◌+◌, ◌-◌, ◌<◌, ◌≤◌, ◌==◌, ◌||◌, suc, true, Some, None, List, length, take, refl, sym, subst, ap, ◌∙◌, arith, if◌then◌else◌}
 use Rattle.std.specs.Prelude.{slice_get, slice_index}
 use Rattle.std.specs.List.{Contains}

@@ -1,4 +1,5 @@
--- What a stripe that has landed changes in the table: its entries have landed in its line, and the line may be full.
+-- What a stripe that has landed changes in the table: its entries have landed in its line, and the
+-- line may be full.
 use Rattle.std.proofs.Common.{◌≡◌, ◌≢◌, ◌⊎◌, inl, inr, ℕ, ◌/◌, ◌&&◌, zero, suc, nat_eq, Bool, true, false, cond, Some, None, Option, List, [], ◌∷◌, refl, sym, ap, ap₂, ◌∙◌}
 use Rattle.std.specs.Prelude.{if◌then◌else◌, slice_get}
 use Rattle.std.specs.List.{AllByRecursion, find}

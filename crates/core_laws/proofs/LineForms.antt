@@ -1,4 +1,5 @@
--- What became of the stripes of an opened line: the first ones were placed, in order, and the others weren't.
+-- What became of the stripes of an opened line: the first ones were placed, in order, and the
+-- others weren't.
 use Rattle.std.proofs.Common.{◌≡◌, ◌≢◌, ℕ, ◌+◌, ◌-◌, ◌*◌, ◌/◌, ◌%◌, ◌<◌, ◌≤◌, zero, suc, Bool, true, false, cond, Some, None, List, [], ◌∷◌, ◌++◌, map, length, replicate, refl, sym, ap, ap₂, ◌∙◌, arith}
 use Rattle.std.specs.Prelude.{slice_get}
 use Rattle.std.specs.List.{find, range_with_len, slice_index_or}

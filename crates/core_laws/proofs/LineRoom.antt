@@ -1,4 +1,5 @@
--- The stripes of an opened line are no more than the line has, and the line of one that isn't answered is Open.
+-- The stripes of an opened line are no more than the line has, and the line of one that isn't
+-- answered is Open.
 use Rattle.std.proofs.Common.{◌≡◌, ◌⊎◌, inl, inr, ℕ, ◌+◌, ◌-◌, ◌*◌, ◌/◌, ◌<◌, ◌≤◌, ◌==◌, ◌&&◌, not, zero, suc, nat_eq, nat_lt, nat_le, Bool, true, false, Some, List, [], ◌∷◌, ◌++◌, length, take, refl, sym, subst, ap, ap₂, ◌∙◌, arith, append-nil, length-append, take_all, le_refl, if◌then◌else◌}
 use Rattle.std.specs.Prelude.{slice_get}
 use Rattle.std.specs.List.{filter, list_all}

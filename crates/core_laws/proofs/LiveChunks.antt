@@ -40,7 +40,8 @@ open_on i w line k o legal none within is =
         all_at (λ (l : Logged). decides is_freeing l.event ≡ false) (log_of w 0) freed.number freed.logged freed.decided.there none in
         absurd (cc (sym kept ∙ ap (decides is_freeing) freed.decided.event))
 
--- whether a unit has a chunk of the line that isn't Offline, as it is known at two lengths of the engine's log
+-- whether a unit has a chunk of the line that isn't Offline, as it is known at two lengths of the
+-- engine's log
 live_same : (i : Image) (w : World) (line : ℕ) (o : Opening) → IsLegal i w → life_of (log_of w 0) line ≡ Opened o → (j k : ℕ) → o.number ≤ j
     → j ≤ length (log_of w 0) → o.number ≤ k → k ≤ length (log_of w 0)
     → (unit : ℕ) → is_live (known_image i (engine_prefix j (log_of w))) line unit ≡ is_live (known_image i (engine_prefix k (log_of w))) line unit

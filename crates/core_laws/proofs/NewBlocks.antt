@@ -1,4 +1,5 @@
--- A stripe has landed: the blocks of its chunk that can be read now are those behind the ones that could be before.
+-- A stripe has landed: the blocks of its chunk that can be read now are those behind the ones that
+-- could be before.
 use Rattle.std.proofs.Common.{◌≡◌, ◌⊎◌, inl, inr, ℕ, ◌+◌, ◌*◌, ◌-◌, ◌<◌, ◌≤◌, ◌==◌, ◌&&◌, ◌||◌, suc, nat_eq, nat_lt, Bool, true, false, Some, List, [], ◌∷◌, length, take, refl, sym, ap, ◌∙◌, arith, length-append}
 use Rattle.std.specs.Prelude.{slice_get, is_some, if◌then◌else◌}
 use Rattle.std.specs.List.{filter, find, list_any, flat_map, enumerate_from}

@@ -1,4 +1,5 @@
--- A stripe has landed: the window and the map by the blocks that can be read now and couldn't before.
+-- A stripe has landed: the window and the map by the blocks that can be read now and couldn't
+-- before.
 use Rattle.std.proofs.Common.{◌≡◌, ℕ, ◌+◌, ◌-◌, ◌<◌, ◌≤◌, ◌&&◌, ◌||◌, nat_eq, nat_lt, Bool, true, false, Some, List, [], ◌∷◌, length, take, drop, refl, sym, subst, ap, ap₂, ◌∙◌, arith, append-nil}
 use Rattle.std.specs.Prelude.{map, slice_get, is_some, if◌then◌else◌}
 use Rattle.std.specs.List.{filter, find, list_any, flat_map, enumerate_from}

@@ -1,4 +1,5 @@
--- The next stripe of an opened line is the one behind those that were placed, and nothing of the line failed.
+-- The next stripe of an opened line is the one behind those that were placed, and nothing of the
+-- line failed.
 use Rattle.std.proofs.Common.{◌≡◌, ℕ, ◌+◌, ◌<◌, ◌≤◌, ◌&&◌, zero, suc, not, Bool, true, false, Some, None, Option, List, [], ◌∷◌, ◌++◌, map, length, take, drop, replicate, refl, sym, subst, ap, ap₂, ◌∙◌, arith}
 use Rattle.std.specs.Prelude.{slice_get}
 use Rattle.std.specs.List.{AllByRecursion, list_all}

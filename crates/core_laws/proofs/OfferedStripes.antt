@@ -1,4 +1,5 @@
--- What the placer of a simple mount offers beside stopped stripes: the next stripe of an opened line, on an idle unit.
+-- What the placer of a simple mount offers beside stopped stripes: the next stripe of an opened
+-- line, on an idle unit.
 use Rattle.std.proofs.Common.{◌≡◌, ℕ, ◌-◌, ◌*◌, ◌/◌, ◌%◌, ◌<◌, ◌≤◌, ◌&&◌, zero, suc, not, nat_lt, Bool, true, false, Some, None, Option, List, [], ◌∷◌, ◌++◌, map, length, refl, sym, ap, ap₂, ◌∙◌, arith, mod-lt}
 use Rattle.std.specs.Prelude.{slice_get}
 use Rattle.std.specs.List.{filter_map, find, range_with_len, slice_index_or}

@@ -1,4 +1,5 @@
--- A line of which each stripe has landed has only full chunks; so a line with a stripe left is one of the placer's.
+-- A line of which each stripe has landed has only full chunks; so a line with a stripe left is one
+-- of the placer's.
 use Rattle.std.proofs.Common.{◌≡◌, ℕ, ◌+◌, ◌-◌, ◌*◌, ◌/◌, ◌%◌, ◌<◌, ◌≤◌, ◌&&◌, zero, suc, not, nat_lt, Bool, true, false, Some, None, Option, List, [], ◌∷◌, map, length, refl, sym, subst, ap, ap₂, ◌∙◌, arith, div-add-mod'}
 use Rattle.std.specs.Prelude.{slice_get}
 use Rattle.std.specs.List.{AllByRecursion, filter_map, cons_option, list_all, list_any, range_with_len}

@@ -1,4 +1,5 @@
--- The stripes of an opened line are placed in line order, and data and the end record behind a start record that has landed.
+-- The stripes of an opened line are placed in line order, and data and the end record behind a
+-- start record that has landed.
 use Rattle.std.proofs.Common.{◌≡◌, ◌⊎◌, inl, inr, ℕ, ◌+◌, ◌*◌, ◌/◌, ◌%◌, ◌<◌, ◌≤◌, ◌&&◌, zero, suc, nat_eq, Bool, true, false, Some, List, [], ◌∷◌, ◌++◌, length, take, refl, sym, subst, ap, ap₂, ◌∙◌, arith, if◌then◌else◌, append-nil, mul-div_cancel, le_refl, le_of_lt, length-append, subst₂}
 use Rattle.std.specs.Prelude.{slice_get, nat_le}
 use Rattle.std.specs.List.{filter, list_all}

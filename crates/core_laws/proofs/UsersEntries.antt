@@ -1,4 +1,5 @@
--- What a simple mount took: users' entries, each with the mark of its sector, their positions in order.
+-- What a simple mount took: users' entries, each with the mark of its sector, their positions in
+-- order.
 use Rattle.std.proofs.Common.{◌≡◌, ℕ, ◌<◌, ◌≤◌, true, List, [], ◌∷◌, ◌++◌, refl, sym, subst, ◌∙◌, append-nil}
 use Rattle.std.specs.List.{AllByRecursion}
 use Rattle.pblk_model.specs.declared.shape.Shape.{Shape}

@@ -1,4 +1,5 @@
--- How far the entries of a window have come, and where the sectors of a map are, once more blocks have landed.
+-- How far the entries of a window have come, and where the sectors of a map are, once more blocks
+-- have landed.
 use Rattle.std.specs.Prelude.{ℕ, Bool, true, map}
 use Rattle.write_window.specs.declared.held.Progress.{Progress}
 use Rattle.write_window.specs.declared.held.Progress.TheVariants.{Waiting, Landed, Readable}

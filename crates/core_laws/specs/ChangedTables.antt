@@ -17,14 +17,16 @@ abbrev pub full_if : Bool → Row → Row
 full_if true row = turned Full row.width row
 full_if false row = row
 
--- The entry at a position takes over a sector from the line in which it was live, if it was in one: the line has one
--- live sector less. Where the sector has landed in it, something was taken from the line.
+-- The entry at a position takes over a sector from the line in which it was live, if it was in one:
+-- the line has one live sector less. Where the sector has landed in it, something was taken from
+-- the line.
 abbrev pub lose_in : Option ℕ → Bool → ℕ → Table → Table
 lose_in None landed by t = t
 lose_in (Some line) true by t = with_row line (lost by) t
 lose_in (Some line) false by t = with_row line lowered t
 
--- An entry has landed in a line. A later entry of the sector, which was taken before, took it from the line.
+-- An entry has landed in a line. A later entry of the sector, which was taken before, took it from
+-- the line.
 abbrev pub note_by : Option ℕ → ℕ → Table → Table
 note_by None line t = t
 note_by (Some by) line t = with_row line (noted by) t

@@ -43,7 +43,8 @@ abbrev pub AreInRows : Shape → List Logged → Opening → ℕ → Type 0
 AreInRows s log o unit = (number : ℕ) (p : Placed) → slice_get (stripes_on log o unit) number ≡ Some p
     → IsInRow s number p
 
--- Stripe j of a line of these units, in line order: which unit has it, and where it begins in the unit's chunk.
+-- Stripe j of a line of these units, in line order: which unit has it, and where it begins in the
+-- unit's chunk.
 pub record IsStripeNumber (s : Shape) (line_units : List ℕ) (j : ℕ) (stripe : Stripe) : Type 0 where
   pub unit : slice_get line_units (j % length line_units) ≡ Some stripe.unit
   pub at : stripe.at ≡ j / length line_units * s.ws_opt

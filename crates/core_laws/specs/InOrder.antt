@@ -13,8 +13,8 @@ use Rattle.core_laws.specs.Positions.{AreNumbered, AreMarked, AreTaken}
 use Rattle.core_laws.specs.PlainLogs.{NoLineFreed, NoStripeLost, NoLineFailed}
 use Rattle.core_laws.specs.PlacedEntries.{AreOfSectors}
 
--- A placed stripe is in a line of the drive. That line is opened still, by the opening that it had when the
--- stripe was placed.
+-- A placed stripe is in a line of the drive. That line is opened still, by the opening that it had
+-- when the stripe was placed.
 pub record IsInPlace (i : Image) (log : List Logged) (p : Placed) : Type 0 where
   pub in_range : p.stripe.line < i.shape.chunks
   pub chunk : p.stripe.chunk ≡ p.stripe.line

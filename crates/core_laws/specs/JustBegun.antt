@@ -13,7 +13,8 @@ use Rattle.world_laws.specs.MountBeginnings.{beginning_of}
 abbrev pub first_event : Found → List ℕ → Logged
 first_event f knows = record { event = Decides (Begin (beginning_of f)); knows = knows }
 
--- The engine has begun with what was found of the image that the event names, and has done nothing else.
+-- The engine has begun with what was found of the image that the event names, and has done nothing
+-- else.
 pub record HasJustBegun (i : Image) (f : Found) (logs : Logs) : Type 0 where
   pub accepted : IsAccepted i.shape
   pub knows : List ℕ

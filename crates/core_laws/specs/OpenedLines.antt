@@ -1,5 +1,5 @@
--- The lines that a mount opened, by its logs: their units, their stripes in line order, and what became of
--- each.
+-- The lines that a mount opened, by its logs: their units, their stripes in line order, and what
+-- became of each.
 use Rattle.std.specs.Prelude.{ℕ, ◌*◌, ◌/◌, ◌^◌, ◌==◌, ◌&&◌, Bool, List, map, Option, Some, None}
 use Rattle.std.specs.List.{find, filter, sum_by}
 use Rattle.pblk_model.specs.declared.shape.Shape.{Shape}

@@ -29,8 +29,8 @@ pub record IsOpeningTable (s : Shape) (f : Found) (t : Table) : Type 0 where
   pub live : EachRow t (λ line row. row.live ≡ live_count f.winners line)
   pub taker : EachRow t (λ line row. row.taker ≡ None)
 
--- The next start record: a row for each line with a sequence number. The records of one of the head's mount
--- count below the end, those of another below its bound.
+-- The next start record: a row for each line with a sequence number. The records of one of the
+-- head's mount count below the end, those of another below its bound.
 abbrev pub row_found : ℕ → ℕ → LineRow → Option Row
 row_found end line l = option_map (λ seq. record {
   line = line;

@@ -1,4 +1,5 @@
--- What the entries of a stripe change in the row of its line, once it is placed and once it has landed.
+-- What the entries of a stripe change in the row of its line, once it is placed and once it has
+-- landed.
 use Rattle.std.specs.Prelude.{ℕ, ◌+◌, ◌<◌, ◌==◌, ◌&&◌, nat_lt, List, Option, Some, None}
 use Rattle.std.specs.List.{AllByRecursion, find, fold}
 use Rattle.std.specs.Option.{option_map}

@@ -85,8 +85,8 @@ contains_unit units unit = list_any (λ u. u == unit) units
 abbrev pub without_unit : ℕ → List ℕ → List ℕ
 without_unit unit units = filter (λ u. not (u == unit)) units
 
--- A program that was stopped is offered again, until it is under way again. The engine notes only the answer to
--- that, so these units are named beside the logs.
+-- A program that was stopped is offered again, until it is under way again. The engine notes only
+-- the answer to that, so these units are named beside the logs.
 abbrev pub waits_again : List Logged → List ℕ → ℕ → Bool
 waits_again log again unit = was_stopped_on log unit && not (contains_unit again unit)
 
@@ -103,7 +103,8 @@ abbrev pub row_of : Image → Logs → List ℕ → ℕ → UnitRow
 row_of i logs again unit =
     option_map_or (λ p. row_in i logs (waits_again (logs 0) again unit) p.life p) (unanswered_on (logs 0) unit) Idle
 
--- The placer of these logs, for a pad target and the units whose stopped programs are under way again.
+-- The placer of these logs, for a pad target and the units whose stopped programs are under way
+-- again.
 abbrev pub placing_of : Image → Logs → ℕ → List ℕ → Placing
 placing_of i logs pad again = record {
   shape = i.shape;
@@ -112,8 +113,8 @@ placing_of i logs pad again = record {
   lines = open_lines i logs;
 }
 
--- The next program of an opened line, and a stripe at its place with its entries, on a unit whose stripes are
--- all answered.
+-- The next program of an opened line, and a stripe at its place with its entries, on a unit whose
+-- stripes are all answered.
 pub record IsStripeOf (i : Image) (logs : Logs) (pad : ℕ) (o : Opening) (stripe : Stripe) (of : Program) : Type 0 where
   pub opened : life_of (logs 0) stripe.line ≡ Opened o
   pub next : next_in i.shape (entries_of i.shape (logs 0) pad) (open_line i logs o) ≡ Some of

@@ -20,7 +20,8 @@ block_read s log o unit position = option_map (λ b. b.0)
     (find (λ b. bears_position s position b.1 && is_readable_in s log unit b.0 (Opened o))
     (enumerate_from 0 (chunk_blocks log o unit)))
 
--- the line address of a block of a unit's chunk: that of its stripe, and one more for each block before it
+-- the line address of a block of a unit's chunk: that of its stripe, and one more for each block
+-- before it
 abbrev pub address_of_block : Image → Logs → Opening → ℕ → ℕ → ℕ
 address_of_block i logs o unit block = unwrap_or (find
     (is_stripe_at i.shape (as_opened i logs o) unit (block / i.shape.ws_opt * i.shape.ws_opt))

@@ -19,7 +19,8 @@ use Rattle.line_table.specs.Rows.{Table}
 
 -- States.
 
--- of a line of which nothing is needed any more: it is Freed until all its chunks are Free or Offline
+-- of a line of which nothing is needed any more: it is Freed until all its chunks are Free or
+-- Offline
 abbrev pub state_given_up : Image → Logs → ℕ → LineState
 state_given_up i logs line = if are_empty (known_image i logs) line
     then (if line_data (known_image i logs) line == 0 then Dead else Free)
@@ -41,7 +42,8 @@ state_in i logs line (Freed past knows) = state_given_up i logs line
 abbrev pub state_of : Image → Logs → ℕ → LineState
 state_of i logs line = state_in i logs line (life_of (logs 0) line)
 
--- Widths and takers. Those of a Freed line are as they were when it was freed, until it is Free or Dead.
+-- Widths and takers. Those of a Freed line are as they were when it was freed, until it is Free or
+-- Dead.
 
 -- the logs when an event was made that named these prefixes
 abbrev pub logs_then : List ℕ → Logs → Logs

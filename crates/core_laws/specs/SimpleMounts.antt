@@ -14,15 +14,15 @@ is_stopping e = false
 abbrev pub NoneAgain : List Logged → Type 0
 NoneAgain log = HasNone is_stopping log
 
--- The engine freed no line, took no copy, and heard of no lost stripe: a core's steps append none of these events so
--- far. Stripes may be stopped and placed again.
+-- The engine freed no line, took no copy, and heard of no lost stripe: a core's steps append none
+-- of these events so far. Stripes may be stopped and placed again.
 pub record IsSimpleLog (log : List Logged) : Type 0 where
   pub freed : NoneFreed log
   pub copied : NoneCopied log
   pub lost : NoneLost log
 
--- A legal mount whose engine's log is such a one. What units did may be anything: of what isn't told the engine
--- knows nothing.
+-- A legal mount whose engine's log is such a one. What units did may be anything: of what isn't
+-- told the engine knows nothing.
 pub record IsSimpleMount (i : Image) (w : World) : Type 0 where
   pub mount : IsLegalMount i w
   pub engine : IsSimpleLog (log_of w 0)

@@ -15,8 +15,8 @@ use Rattle.l2p_map.specs.declared.slot.Slot.TheVariants.{Unwritten, Cached, Medi
 use Rattle.core_laws.specs.OpenedLines.{as_opened}
 use Rattle.core_laws.specs.PlacerOf.{number_of}
 
--- A block on the drive. The line address of a placed stripe's block is that of the stripe, and one more for
--- each block before it.
+-- A block on the drive. The line address of a placed stripe's block is that of the stripe, and one
+-- more for each block before it.
 
 abbrev pub address_in : Image → Logs → LineLife → Placed → ℕ → ℕ
 address_in i logs AsFound p block = 0
@@ -47,7 +47,7 @@ abbrev pub slot_by : Image → Logs → ℕ → Option Taken → Slot
 slot_by i logs lba None = slot_of_winner (winner (counted (found_image i logs)) lba)
 slot_by i logs lba (Some t) = slot_of_entry i logs t.entry.position
 
--- The latest content of a sector: its last entry that isn't Void, and else its winner in the image that the
--- mount found.
+-- The latest content of a sector: its last entry that isn't Void, and else its winner in the image
+-- that the mount found.
 abbrev pub slot_of : Image → Logs → ℕ → Slot
 slot_of i logs lba = slot_by i logs lba (last_take (logs 0) lba)

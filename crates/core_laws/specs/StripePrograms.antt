@@ -8,8 +8,8 @@ use Rattle.pblk_world.specs.World.{Logs, known, prefixes, unit_event_at}
 use Rattle.pblk_world.specs.EngineLog.{Placed}
 use Rattle.pblk_world.specs.Legal.{IsAllowed}
 
--- The event of this number in its author's log was allowed by the prefixes that it names, of the logs as they
--- are now.
+-- The event of this number in its author's log was allowed by the prefixes that it names, of the
+-- logs as they are now.
 pub record HasHappened (i : Image) (logs : Logs) (author k : ℕ) (l : Logged) : Type 0 where
   pub own : known l author ≡ k
   pub within : (other : ℕ) → known l other ≤ length (logs other)

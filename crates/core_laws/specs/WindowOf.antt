@@ -1,5 +1,5 @@
--- What the window holds, by the logs of a mount. A log doesn't say in which frame an entry's bytes are: windows
--- are compared by the bytes.
+-- What the window holds, by the logs of a mount. A log doesn't say in which frame an entry's bytes
+-- are: windows are compared by the bytes.
 use Rattle.std.specs.Prelude.{ℕ, ◌-◌, nat_lt, Bool, true, false, List, map, drop, length, Option, Some, None}
 use Rattle.std.specs.List.{filter, list_any}
 use Rattle.std.specs.Option.{option_map}
@@ -92,7 +92,8 @@ waiting_sector entry = record {
 abbrev pub users_below : List Logged → ℕ → ℕ
 users_below log position = length (filter (λ t. nat_lt t.entry.position position) (user_takes log))
 
--- The entries from a position to the last that was taken. A window may still hold some that can be given back.
+-- The entries from a position to the last that was taken. A window may still hold some that can be
+-- given back.
 abbrev pub window_from : Shape → List Logged → ℕ → HeldSectors
 window_from s log from = record {
   freed = from;

@@ -16,8 +16,8 @@ ghost use Rattle.pblk_world.specs.Space.{freed};
 ghost use Rattle.core_laws.specs.SimpleMounts.{IsSimpleMount};
 ghost use Rattle.core_laws.specs.Stepping.{after};
 
-/// In a simple mount a sector holds after the history what its last entry has. A sector without an entry holds
-/// what it held before. The history has as many lines as users' writes were taken.
+/// In a simple mount a sector holds after the history what its last entry has. A sector without an
+/// entry holds what it held before. The history has as many lines as users' writes were taken.
 pub fn the_history_is_the_latest()
     ensures written { (i : Image) (w : World) (before : List (List ℕ)) (lba : ℕ) (t : Taken)
         → IsSimpleMount i w → lba < length before → last_take (log_of w 0) lba ≡ Some t
@@ -30,8 +30,8 @@ pub fn the_history_is_the_latest()
         ≡ length (history (log_of w 0)) }
 {}
 
-/// No event takes back that a position has landed, and the front synced never falls. The front freed is never
-/// above it.
+/// No event takes back that a position has landed, and the front synced never falls. The front
+/// freed is never above it.
 pub fn the_front_synced_never_falls()
     ensures landed { (s : Shape) (log : List Logged) (l : Logged) (q : ℕ)
         → has_landed_at s log q ≡ true → has_landed_at s (log ++ l ∷ []) q ≡ true }

@@ -1,19 +1,21 @@
 //! Laws on what the tables of a target hold by the logs of its mount.
 //!
-//! The definitions in `specs/` say what each table holds by the logs. The lemmas in `proofs/` say what one more
-//! event changes there.
+//! The definitions in `specs/` say what each table holds by the logs. The lemmas in `proofs/` say
+//! what one more event changes there.
 //!
-//! - In the table of lines: its rows, the data addresses of the opened lines, and the front placed. The line of
-//!   the least Free row may be opened. Logs by which the engine knows as much say as much of the table.
-//! - In the placer: what it offers may be placed. Where it offers nothing and each placed stripe is answered,
-//!   no stripe is to be placed. An opened line keeps its units.
-//! - A mount without failures places positions in order, each once. A unit has at most one stripe under way. A
-//!   line has a stripe left until all its stripes have landed, and a mark for each of its data blocks.
-//! - In the window and the map: a landed stripe lands its positions, gives back those whose blocks can now be
-//!   read, and moves their sectors to these blocks. No front ever falls, and after the history a sector holds
-//!   what its last entry has.
-//! - When a mount has just begun, each line, each sector and the units of each line are as they were found.
-//!   Each front is at the end that was found, and nothing was taken, opened or placed.
+//! - In the table of lines: its rows, the data addresses of the opened lines, and the front placed.
+//!   The line of the least Free row may be opened. Logs by which the engine knows as much say as
+//!   much of the table.
+//! - In the placer: what it offers may be placed. Where it offers nothing and each placed stripe is
+//!   answered, no stripe is to be placed. An opened line keeps its units.
+//! - A mount without failures places positions in order, each once. A unit has at most one stripe
+//!   under way. A line has a stripe left until all its stripes have landed, and a mark for each of
+//!   its data blocks.
+//! - In the window and the map: a landed stripe lands its positions, gives back those whose blocks
+//!   can now be read, and moves their sectors to these blocks. No front ever falls, and after the
+//!   history a sector holds what its last entry has.
+//! - When a mount has just begun, each line, each sector and the units of each line are as they
+//!   were found. Each front is at the end that was found, and nothing was taken, opened or placed.
 #![tactic(auto)]
 
 mod laws;

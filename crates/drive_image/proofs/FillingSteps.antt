@@ -25,7 +25,8 @@ chunk_bytes k = flat_map block_bytes k.chunk.blocks
 abbrev pub IsDescribed : List ℕ → ℕ → StoredChunk → Type 0
 IsDescribed b n k = let g = geometry_at b in read_descriptor (descriptor_at b n) ≡ Ok (descriptor_of g (n / g.chunks) (n % g.chunks) k)
 
--- The first n chunks are those of the image, and their blocks end at this byte; in the others nothing is written.
+-- The first n chunks are those of the image, and their blocks end at this byte; in the others
+-- nothing is written.
 pub record AreFilled (b : List ℕ) (n at : ℕ) (us : List (List StoredChunk)) : Type 0 where
   pub ends : at ≡ descriptors_end b + ((shape_at b).sector + 16) * sum_by (pointer_at b) (range_with_len 0 n)
   pub count : length us ≡ units (shape_at b)

@@ -31,7 +31,8 @@ pub record HasNumbers (b : List ℕ) (d : DriveView) : Type 0 where
   pub geometry : numbers_of d.geometry ≡ geometry_at b
   pub shape : shape_of d ≡ shape_at b
 
--- The drive got the n-th chunk of the image, whose blocks begin at this byte, and is else as before.
+-- The drive got the n-th chunk of the image, whose blocks begin at this byte, and is else as
+-- before.
 pub record GotNth (b : List ℕ) (n at : ℕ) (old new : DriveView) : Type 0 where
   pub got : StoredChunk
   pub is : IsNth b n at got

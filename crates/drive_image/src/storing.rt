@@ -42,8 +42,8 @@ pub fn store(drive: &Drive, out: &mut Vec<u8>) -> Result<(), AllocError>
     Ok(())
 }
 
-/// The drive's image, by itself: what `store` adds. Each unit's chunks are let go once their blocks stand in
-/// the image, so that no more than one unit is held beside it.
+/// The drive's image, by itself: what `store` adds. Each unit's chunks are let go once their blocks
+/// stand in the image, so that no more than one unit is held beside it.
 ///
 /// Memory for all of it is taken once, before any unit is let go.
 pub fn into_image(alloc: Global, drive: Drive) -> Result<Vec<u8>, AllocError>

@@ -35,7 +35,8 @@ fits_words g a accepted inside =
       sum = whole;
     }
 
--- the parts of a number: what is left above the block (r), what is left above the chunk (s), and the fields
+-- the parts of a number: what is left above the block (r), what is left above the chunk (s), and
+-- the fields
 pub record IsParted (g : Geometry) (n r s : ℕ) (x : Address) : Type 0 where
   pub above_block : r ≡ n / 2 ^ g.block_bits
   pub block : x.block ≡ n % 2 ^ g.block_bits

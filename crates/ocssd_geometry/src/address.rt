@@ -9,11 +9,12 @@ use crate::geometry::Geometry;
 use pblk_model::Address;
 
 impl Geometry {
-    /// The number of a block's address: its group, parallel unit, chunk and block from the most significant
-    /// end, each in its length in bits (Open-Channel SSD Specification 2.0, Logical block address).
+    /// The number of a block's address: its group, parallel unit, chunk and block from the most
+    /// significant end, each in its length in bits (Open-Channel SSD Specification 2.0, Logical
+    /// block address).
     ///
-    /// Each field of the address is below its count. The number is below 2 to the sum of the lengths, and
-    /// no other address in range has it.
+    /// Each field of the address is below its count. The number is below 2 to the sum of the
+    /// lengths, and no other address in range has it.
     pub fn pack(&self, a: Address) -> u64
         requires accepted { IsGeometry self.now }
         requires address { IsAddress (numbers_of self.now) a }
@@ -28,9 +29,9 @@ impl Geometry {
         joined(chunks, block, a.block)
     }
 
-    /// The address whose number this is (Open-Channel SSD Specification 2.0, Logical block address). `None`
-    /// exactly where no address in range has it: where a group, parallel unit, chunk or block isn't below
-    /// its count, or a bit is set above the lengths.
+    /// The address whose number this is (Open-Channel SSD Specification 2.0, Logical block
+    /// address). `None` exactly where no address in range has it: where a group, parallel unit,
+    /// chunk or block isn't below its count, or a bit is set above the lengths.
     pub fn unpack(&self, lba: u64) -> Option<Address>
         requires { IsGeometry self.now }
         ensures found { IfSome result (λ a. Packs (numbers_of self.now) a lba) }

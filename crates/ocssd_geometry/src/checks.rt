@@ -12,16 +12,17 @@ use pblk_model::{GeometryErr, Shape};
 impl Geometry {
     /// Why this geometry isn't accepted, or None where it is.
     ///
-    /// `Field` with a field's first byte, for the first in this order: 0 where MJR isn't 2; 8, 9, 10 and 11
-    /// where the length of the group, the parallel unit, the chunk or the block is above 32, or 2 to the
-    /// length is below the count; 64, 66, 68, 72, 128 and 132 where NUM_GRP, NUM_PU, NUM_CHK, CLBA, WS_MIN
-    /// or WS_OPT is 0.
+    /// `Field` with a field's first byte, for the first in this order: 0 where MJR isn't 2; 8, 9,
+    /// 10 and 11 where the length of the group, the parallel unit, the chunk or the block is above
+    /// 32, or 2 to the length is below the count; 64, 66, 68, 72, 128 and 132 where NUM_GRP,
+    /// NUM_PU, NUM_CHK, CLBA, WS_MIN or WS_OPT is 0.
     ///
-    /// Else `Profile` with the first rule that doesn't hold: 1, at most 64 parallel units in all groups; 2,
-    /// 8 to 1024 chunks in a unit; 3, WS_OPT is a multiple of WS_MIN and at most 64; 4, CLBA is a multiple
-    /// of WS_OPT; 5, MW_CUNITS is a multiple of WS_OPT and below CLBA; 6, MAXOC is 0 or at least twice the
-    /// number of units; 7, MAXOCPU is 0 or at least 2; 8, the lengths sum to at most 64 (Open-Channel SSD
-    /// Specification 2.0, Geometry; the numbers of the rules are this project's).
+    /// Else `Profile` with the first rule that doesn't hold: 1, at most 64 parallel units in all
+    /// groups; 2, 8 to 1024 chunks in a unit; 3, WS_OPT is a multiple of WS_MIN and at most 64; 4,
+    /// CLBA is a multiple of WS_OPT; 5, MW_CUNITS is a multiple of WS_OPT and below CLBA; 6, MAXOC
+    /// is 0 or at least twice the number of units; 7, MAXOCPU is 0 or at least 2; 8, the lengths
+    /// sum to at most 64 (Open-Channel SSD Specification 2.0, Geometry; the numbers of the rules
+    /// are this project's).
     pub fn refusal(&self) -> Option<GeometryErr>
         ensures { result ≡ geometry_refusal (numbers_of self.now) }
     {

@@ -3,8 +3,8 @@
 use crate::bytes::{clear, put, put_u16, put_u32, u8_at, u16_at, u32_at};
 use pblk_model::{GeometryErr, Shape};
 
-/// The numbers of a drive (Open-Channel SSD Specification 2.0, Geometry). Any numbers may stand in it; it
-/// is accepted where `refusal` finds none.
+/// The numbers of a drive (Open-Channel SSD Specification 2.0, Geometry). Any numbers may stand in
+/// it; it is accepted where `refusal` finds none.
 #[derive(Clone, Copy, Debug, PartialEq, Eq)]
 pub struct Geometry {
     /// The major version of the specification: 2 where accepted.
@@ -47,9 +47,10 @@ impl Geometry {
 
     /// The geometry that bytes are.
     ///
-    /// Refused, in this order: `Length` where there aren't 4096 bytes; `Field` with the first byte of the
-    /// first field, from the front, whose number isn't accepted; `Profile` with the least rule that
-    /// doesn't hold. `refusal` names the fields and the rules. Bytes between the fields are ignored.
+    /// Refused, in this order: `Length` where there aren't 4096 bytes; `Field` with the first byte
+    /// of the first field, from the front, whose number isn't accepted; `Profile` with the least
+    /// rule that doesn't hold. `refusal` names the fields and the rules. Bytes between the fields
+    /// are ignored.
     pub fn read(bytes: &[u8]) -> Result<Geometry, GeometryErr>
         ensures read { result_map_both numbers_of (λ e. e) result ≡ read_geometry bytes.now }
         ensures accepted { IfOk result IsGeometry }
@@ -100,8 +101,8 @@ impl Geometry {
         }
     }
 
-    /// Writes the one spelling of an accepted geometry to 4096 bytes: its numbers at their places, and 0
-    /// between them. `read` gives the geometry back.
+    /// Writes the one spelling of an accepted geometry to 4096 bytes: its numbers at their places,
+    /// and 0 between them. `read` gives the geometry back.
     pub fn write(&self, out: &mut [u8])
         requires accepted { IsGeometry self.now }
         requires size { length out.old ≡ 4096 }
@@ -124,10 +125,10 @@ impl Geometry {
         put_u32(out, 144, self.maxocpu);
     }
 
-    /// The geometry of a small drive: one group of two parallel units, each of 8 chunks of 24 blocks, with
-    /// WS_MIN 2, WS_OPT 4 and MW_CUNITS 8, and addresses of 0, 1, 3 and 5 bits (Open-Channel SSD
-    /// Specification 2.0, Geometry). With sectors of 512 bytes and a target of 64 sectors and 64 entries of
-    /// its write buffer it is the model's small shape.
+    /// The geometry of a small drive: one group of two parallel units, each of 8 chunks of 24
+    /// blocks, with WS_MIN 2, WS_OPT 4 and MW_CUNITS 8, and addresses of 0, 1, 3 and 5 bits
+    /// (Open-Channel SSD Specification 2.0, Geometry). With sectors of 512 bytes and a target of 64
+    /// sectors and 64 entries of its write buffer it is the model's small shape.
     pub fn small() -> Geometry
         ensures numbers { numbers_of result ≡ small_numbers }
         ensures accepted { IsGeometry result }
@@ -153,8 +154,9 @@ impl Geometry {
         }
     }
 
-    /// The numbers of a drive of this geometry and of the target on it: `sector` is a block's size in bytes,
-    /// `capacity` the number of user sectors, `ring` the number of entries of the write buffer.
+    /// The numbers of a drive of this geometry and of the target on it: `sector` is a block's size
+    /// in bytes, `capacity` the number of user sectors, `ring` the number of entries of the write
+    /// buffer.
     pub fn shape(&self, sector: u32, capacity: u64, ring: u32) -> Shape
         ensures { result ≡ shape_with (numbers_of self.now) sector capacity ring }
     {

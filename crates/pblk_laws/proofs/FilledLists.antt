@@ -33,7 +33,8 @@ pub flat_map_first : {Y : Type 0} (f : ℕ → List Y) (n : ℕ) → 0 < n → (
 flat_map_first f zero some none = absurd (omega arith)
 flat_map_first f (suc n) some none = ap (λ ys. f 0 ++ ys) (flat_map_range_nil f 1 n (λ k low high. none k (omega arith) (omega arith))) ∙ append-nil (f 0)
 
--- The records of a line 0 with this sequence number whose data begins at an address: from the position k on.
+-- The records of a line 0 with this sequence number whose data begins at an address: from the
+-- position k on.
 
 abbrev pub record_of : ℕ → ℕ → ℕ → SectorWrite → Record
 record_of seq first k w = record { line = 0; seq = seq; at = first + k; position = k; lba = Some w.lba; sector = w.sector }

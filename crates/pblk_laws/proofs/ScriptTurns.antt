@@ -131,8 +131,8 @@ stands-await posted (Await name) e = elim (cases_Bool (list_any (bytes_eq name) 
   | inr absent ↦ (name, refl, absent)
 ]
 
--- A thread loses its first command. Where a command of the others was: at the k-th thread one later, else where
--- it is.
+-- A thread loses its first command. Where a command of the others was: at the k-th thread one
+-- later, else where it is.
 shift : ℕ → ℕ → ℕ → ℕ
 shift zero zero d = suc d
 shift zero (suc j) d = d
@@ -319,7 +319,8 @@ all_done [] h = refl
 all_done ([] ∷ ts) h = all_done ts (λ j. h (suc j))
 all_done ((x ∷ t) ∷ ts) h = absurd (h 0 x.1 refl)
 
--- where there is a time for each command, and each name that is awaited is posted, no thread is stuck
+-- where there is a time for each command, and each name that is awaited is posted, no thread is
+-- stuck
 pub flows_on : (heard : Heard) → NeverStuck (script_of heard) → ((j d : ℕ) (name : List ℕ) → command_at (script_of heard) j d ≡ Some (Await name) → (i : ℕ) × (c : ℕ) × (command_at (script_of heard) i c ≡ Some (Post name)))
     → stuck_at (threads_of heard) ≡ None
 flows_on heard never posted =

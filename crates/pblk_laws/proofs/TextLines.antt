@@ -6,7 +6,8 @@ use Rattle.std.proofs.lemmas.List.{append_cancel_left, append_cancel_right}
 use Rattle.pblk_model.specs.Text.{HistoryLine, Outcome, Silent, Words, Flushed, Drive, Worn, Closing, Closed, ClosedByDrive, ClosedWorn, Transcript, word_text, spaced, history_line, outcome_line, thread_text, opening_line, closing_line, kept_line, text_of}
 use Rattle.pblk_laws.proofs.TextCuts.{Lacks, cut_last, Ended, Ended-append, Ended-by, lacks_decimal, same_decimal, cut_decimal}
 
--- what holds of the empty text, of a text and one behind it, and of each piece, holds of the pieces together
+-- what holds of the empty text, of a text and one behind it, and of each piece, holds of the pieces
+-- together
 flat_map_holds : {X : Type 0} (P : List ℕ → Type 0) (f : X → List ℕ) → P [] → ((u v : List ℕ) → P u → P v → P (u ++ v)) → ((x : X) → P (f x)) → (xs : List X) → P (flat_map f xs)
 flat_map_holds P f none both each [] = none
 flat_map_holds P f none both each (x ∷ xs) = both (f x) (flat_map f xs) (each x) (flat_map_holds P f none both each xs)

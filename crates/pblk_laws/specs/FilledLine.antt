@@ -9,8 +9,8 @@ use Rattle.pblk_model.specs.StartRecord.{StartRecord, start_of}
 use Rattle.pblk_model.specs.EndRecord.{end_of}
 use Rattle.pblk_model.specs.History.{SectorWrite}
 
--- Line 0 has this start record and after it these sectors, at positions from 0 on; what is written after them
--- are pads. No other line has a start record.
+-- Line 0 has this start record and after it these sectors, at positions from 0 on; what is written
+-- after them are pads. No other line has a start record.
 pub record IsFilledLine (i : Image) (start : StartRecord) (writes : List SectorWrite) : Type 0 where
   pub some_line : 0 < i.shape.chunks
   pub start_is : start_of i 0 ≡ Some start

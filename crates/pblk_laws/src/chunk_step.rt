@@ -19,7 +19,8 @@ pub fn failure_appends()
         → ChunkFails s old command new → (more : List Block) × (new.blocks ≡ old.blocks ++ more) }
 {}
 
-/// A command other than a reset that the drive's stop cuts off only appends blocks to those of the chunk.
+/// A command other than a reset that the drive's stop cuts off only appends blocks to those of the
+/// chunk.
 pub fn stop_appends()
     ensures { (s : Shape) (old new : Chunk) (command : ChunkCommand) → command ≢ Reset
         → ChunkStops s old command new → (more : List Block) × (new.blocks ≡ old.blocks ++ more) }

@@ -1,5 +1,5 @@
-//! The functions by which recovery finds the end, the head and the winners, and the facts that say what these
-//! are.
+//! The functions by which recovery finds the end, the head and the winners, and the facts that say
+//! what these are.
 
 ghost use Rattle.std.specs.Prelude.{◌≡◌, ◌≢◌, ◌<◌, ◌↔◌, ℕ, List, Some, None};
 ghost use Rattle.std.specs.List.{Contains};
@@ -8,16 +8,17 @@ ghost use Rattle.pblk_model.specs.StartRecord.{StartRecord, start_of};
 ghost use Rattle.pblk_model.specs.Records.{Record, records};
 ghost use Rattle.pblk_model.specs.Contents.{IsHead, IsEnd, IsWinner, head, end, counted, winner};
 
-/// The end of an image with a head is the least position from the head's front on that no record bears in a
-/// line of the head's mount. No other number is.
+/// The end of an image with a head is the least position from the head's front on that no record
+/// bears in a line of the head's mount. No other number is.
 pub fn end_is_least()
     ensures is { (i : Image) (h : StartRecord) → head i ≡ Some h → IsEnd (records i) h (end i) }
     ensures only { (i : Image) (h : StartRecord) (p : ℕ) → head i ≡ Some h → IsEnd (records i) h p
         → p ≡ end i }
 {}
 
-/// The head is the start record of a line. No line has one of a greater sequence number, and no lesser line has
-/// one of the same. No other start record is so. Without a head no line has a start record.
+/// The head is the start record of a line. No line has one of a greater sequence number, and no
+/// lesser line has one of the same. No other start record is so. Without a head no line has a start
+/// record.
 pub fn head_is_greatest()
     ensures some { (i : Image) (h : StartRecord) → head i ≡ Some h → (line : ℕ) × IsHead i line h }
     ensures only { (i : Image) (line : ℕ) (h : StartRecord) → IsHead i line h → head i ≡ Some h }
@@ -25,8 +26,9 @@ pub fn head_is_greatest()
         → start_of i line ≡ None }
 {}
 
-/// Of the records of an image that count, the winner of a sector is the record of it that is newer than every
-/// other of it. Of any records no other one is so. There is no winner exactly where no record is of the sector.
+/// Of the records of an image that count, the winner of a sector is the record of it that is newer
+/// than every other of it. Of any records no other one is so. There is no winner exactly where no
+/// record is of the sector.
 pub fn winner_is_newest()
     ensures is { (i : Image) (lba : ℕ) (r : Record) → winner (counted i) lba ≡ Some r
         → IsWinner (counted i) lba r }

@@ -21,7 +21,8 @@ pub fn filled_contents()
         → IsFilledLine i start writes → end i ≡ length writes }
 {}
 
-/// Some image of an accepted shape is filled with a sector. So the laws on filled images speak of something.
+/// Some image of an accepted shape is filled with a sector. So the laws on filled images speak of
+/// something.
 pub fn a_line_is_filled()
     ensures { (i : Image) × (start : StartRecord) × (write : SectorWrite) × IsAccepted i.shape
         × IsFit i × IsFilledLine i start (write ∷ []) }

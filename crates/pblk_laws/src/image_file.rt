@@ -33,8 +33,8 @@ pub fn spelled_image_is_read()
         → IsImage (image_bytes d) d }
 {}
 
-/// Bytes are an image of one drive at most whose units are those of a drive of its shape, and so have sectors
-/// of bytes and marks of 64 bits.
+/// Bytes are an image of one drive at most whose units are those of a drive of its shape, and so
+/// have sectors of bytes and marks of 64 bits.
 pub fn image_is_of_one_drive()
     ensures { (bytes : List ℕ) (d e : Drive) → IsImage bytes d → IsImage bytes e
         → IsFit (image_of d) → IsFit (image_of e) → d ≡ e }

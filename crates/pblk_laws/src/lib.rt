@@ -1,20 +1,20 @@
-//! Laws over the definitions of `pblk_model`: each is the contract of a function without parameters that does
-//! nothing.
+//! Laws over the definitions of `pblk_model`: each is the contract of a function without parameters
+//! that does nothing.
 //!
-//! - Transcripts: for a script, contents before and a text, at most one contents after meets the transcript
-//!   relation. The text determines the history and how much of it is kept.
-//! - Chunks and logs: a step never loses or rewrites a block but by a reset, and a refusal and a read change
-//!   nothing. A command has one answer. Whatever a stop or a failure may leave, a stopped or failed event
-//!   leaves.
-//! - Formats: what is spelled is read back, and what is read is spelled so. This holds for geometries,
-//!   descriptors, images, start and end records, and scripts. Bytes are an image of at most one fit drive, and
-//!   at most one script.
-//! - Recovery: the functions `end`, `head` and `winner` are what their facts say. A block bears at most one
-//!   record. A blank image holds zeros, and one with a line filled from its front holds what the history leaves
-//!   of zeros.
+//! - Transcripts: for a script, contents before and a text, at most one contents after meets the
+//!   transcript relation. The text determines the history and how much of it is kept.
+//! - Chunks and logs: a step never loses or rewrites a block but by a reset, and a refusal and a
+//!   read change nothing. A command has one answer. Whatever a stop or a failure may leave, a
+//!   stopped or failed event leaves.
+//! - Formats: what is spelled is read back, and what is read is spelled so. This holds for
+//!   geometries, descriptors, images, start and end records, and scripts. Bytes are an image of at
+//!   most one fit drive, and at most one script.
+//! - Recovery: the functions `end`, `head` and `winner` are what their facts say. A block bears at
+//!   most one record. A blank image holds zeros, and one with a line filled from its front holds
+//!   what the history leaves of zeros.
 //! - Sealed images: a blank image is one, and so is an image with a filled line.
-//! - Premises that can be met: some shape is accepted, some line is filled, some drive is spelled, some script
-//!   is read.
+//! - Premises that can be met: some shape is accepted, some line is filled, some drive is spelled,
+//!   some script is read.
 #![tactic(auto)]
 
 mod accepted;

@@ -45,8 +45,8 @@ pub fn bytes_are_one_script()
         → IsScript capacity bytes a → IsScript capacity bytes b → a ≡ b }
 {}
 
-/// Bytes that are refused as stuck are the lines of a script that the target would take, if there were a time
-/// for each of its commands. There is none.
+/// Bytes that are refused as stuck are the lines of a script that the target would take, if there
+/// were a time for each of its commands. There is none.
 pub fn a_stuck_script_has_no_times()
     ensures { (capacity : ℕ) (bytes : List ℕ) (line : ℕ)
         → read_script capacity bytes ≡ Err (Stuck line) → (script : List (List Command))

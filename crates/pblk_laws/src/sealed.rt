@@ -17,8 +17,8 @@ pub fn blank_is_sealed()
     ensures { (s : Shape) → IsAccepted s → IsSealed (blank s) }
 {}
 
-/// No block of a start record's spelling begins a start record of a lesser width: neither the first nor one
-/// within its rows. So no block of a line's start record does.
+/// No block of a start record's spelling begins a start record of a lesser width: neither the first
+/// nor one within its rows. So no block of a line's start record does.
 pub fn start_records_begin_once()
     ensures spelled { (s : Shape) (line g h j : ℕ) (r : StartRecord) (b : Block) → IsAccepted s
         → g < 2 ^ 32 → h ≤ g → IsTrue (start_fits s line g r)
@@ -29,8 +29,8 @@ pub fn start_records_begin_once()
         → ¬ BeginsNarrower (width i line) b }
 {}
 
-/// An image whose line 0 is filled from its front is sealed, where no chunk of any other line begins with a
-/// start record of a lesser width.
+/// An image whose line 0 is filled from its front is sealed, where no chunk of any other line
+/// begins with a start record of a lesser width.
 pub fn filled_line_is_sealed()
     ensures { (i : Image) (start : StartRecord) (writes : List SectorWrite) → IsAccepted i.shape
         → IsFit i → IsFilledLine i start writes

@@ -1,4 +1,5 @@
--- When the engine may note an answer of a unit: of the stripe that is in flight there, or of a reset.
+-- When the engine may note an answer of a unit: of the stripe that is in flight there, or of a
+-- reset.
 use Rattle.std.specs.Prelude.{ℕ, suc, ◌<◌, ◌≡◌, true, ⊤, take, length, slice_get, Some}
 use Rattle.std.specs.List.{Contains}
 use Rattle.pblk_model.specs.ChunkStep.{Reset, Done}
@@ -15,7 +16,8 @@ pub record IsNew (logs : Logs) (unit number : ℕ) (e : UnitEvent) : Type 0 wher
   pub event : unit_event_of logged.event ≡ Some e
   pub once : ¬ Contains (named_events (logs 0) unit) number
 
--- It is a program of the stripe that is in flight on the unit: the first one placed there that isn't answered.
+-- It is a program of the stripe that is in flight on the unit: the first one placed there that
+-- isn't answered.
 pub record IsOfStripe (logs : Logs) (unit number : ℕ) (e : UnitEvent) : Type 0 where
   pub program : is_program e.command ≡ true
   pub logged : Logged

@@ -1,5 +1,5 @@
--- When a target is at rest: there is nothing more that it could do. And which refusals for want of room may be
--- given there.
+-- When a target is at rest: there is nothing more that it could do. And which refusals for want of
+-- room may be given there.
 use Rattle.std.specs.Prelude.{ℕ, zero, suc, ◌+◌, ◌-◌, ◌<◌, ◌≤◌, ◌≡◌, ◌==◌, ◌⊎◌, if◌then◌else◌, max, true, false, List, take, length, slice_get, Option, Some, None}
 use Rattle.std.specs.List.{Contains}
 use Rattle.pblk_model.specs.declared.shape.Shape.{Shape}
@@ -18,8 +18,8 @@ use Rattle.pblk_world.specs.Freeing.{MayFree}
 use Rattle.pblk_world.specs.Space.{addresses, open_addresses, is_due, position_limit, room}
 use Rattle.pblk_world.specs.Victims.{live, taken_up_to, victim}
 
--- The logs at a length of the engine's log: of the engine's log the prefix of that length, and of each unit's
--- log what the last event of that prefix knew.
+-- The logs at a length of the engine's log: of the engine's log the prefix of that length, and of
+-- each unit's log what the last event of that prefix knew.
 abbrev pub knows_last : Option Logged → ℕ → ℕ
 knows_last None author = 0
 knows_last (Some l) author = known l author
@@ -31,8 +31,8 @@ logs_at n logs (suc unit) = take (knows_last (slice_get (logs 0) (n - 1)) (suc u
 abbrev pub victim_now : Image → Logs → Option ℕ
 victim_now i logs = victim i logs (length (logs 0))
 
--- While collection is due, a victim at work that has no live sector asks for padding, up to one past the
--- greatest position that took a sector from its line.
+-- While collection is due, a victim at work that has no live sector asks for padding, up to one
+-- past the greatest position that took a sector from its line.
 abbrev pub asked_by : Image → Logs → Option ℕ → ℕ
 asked_by i logs None = 0
 asked_by i logs (Some line) = if live i logs line == 0 then taken_up_to i logs line else 0
@@ -93,7 +93,8 @@ pub record IsAtRest (i : Image) (logs : Logs) (asked n : ℕ) : Type 0 where
   pub within : n ≤ length (logs 0)
   pub resting : IsResting i (logs_at n logs) asked
 
--- A refusal of a flush or of the close at such a length: all that it wants is taken, and can't land.
+-- A refusal of a flush or of the close at such a length: all that it wants is taken, and can't
+-- land.
 pub record IsWornFlush (i : Image) (logs : Logs) (n wanted have : ℕ) : Type 0 where
   pub at_rest : IsAtRest i logs wanted n
   pub above : have < wanted

@@ -71,8 +71,8 @@ pub record IsStripe (logs : Logs) (unit chunk at : ℕ) (blocks : List Block) : 
 abbrev pub is_stopped_reset : ℕ → UnitEvent → Bool
 is_stopped_reset chunk e = (e.chunk == chunk) && is_reset e.command && was_stopped e.outcome
 
--- A chunk of a line that was freed, or is a stray, and that wasn't opened since. The chunk holds something,
--- unless its reset was stopped.
+-- A chunk of a line that was freed, or is a stray, and that wasn't opened since. The chunk holds
+-- something, unless its reset was stopped.
 pub record IsGivenUp (logs : Logs) (unit : ℕ) (c : Chunk) (chunk : ℕ) : Type 0 where
   pub line : is_given_up (logs 0) chunk ≡ true
   pub used : IsUsed c.state ⊎ (list_any (is_stopped_reset chunk) (unit_events logs unit) ≡ true)

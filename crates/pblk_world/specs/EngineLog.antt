@@ -1,5 +1,5 @@
--- What the engine's log says by itself: how the mount began, what was taken, and what became of each line and
--- each stripe.
+-- What the engine's log says by itself: how the mount began, what was taken, and what became of
+-- each line and each stripe.
 use Rattle.std.specs.Prelude.{ℕ, ◌==◌, ◌&&◌, if◌then◌else◌, nat_lt, Bool, true, false, List, [], ◌∷◌, take, length, slice_get, Option, Some, None}
 use Rattle.std.specs.List.{fold, filter, filter_map, list_any, enumerate_from}
 use Rattle.std.specs.Option.{is_some}
@@ -125,8 +125,8 @@ stripes_of log o = filter (λ p. is_life o.number p.life) (placements log)
 abbrev pub stripes_on : List Logged → Opening → ℕ → List Placed
 stripes_on log o unit = filter (λ p. p.stripe.unit == unit) (stripes_of log o)
 
--- Answers. A unit has at most one stripe at a time that has neither landed nor was lost, so the k-th of these
--- answers of a unit is that of the k-th stripe placed on it.
+-- Answers. A unit has at most one stripe at a time that has neither landed nor was lost, so the
+-- k-th of these answers of a unit is that of the k-th stripe placed on it.
 pub data Answer : Type 0 where
   -- with the number of the event in the unit's log
   DidLand : ℕ → Answer

@@ -1,5 +1,5 @@
--- When a line may be freed: each record that counts in it has a newer one elsewhere, and no position of it is
--- needed.
+-- When a line may be freed: each record that counts in it has a newer one elsewhere, and no
+-- position of it is needed.
 use Rattle.std.specs.Prelude.{ℕ, ◌+◌, ◌<◌, ◌≡◌, ◌≢◌, ◌⊎◌, true, ⊤, slice_get, Some}
 use Rattle.std.specs.List.{Contains}
 use Rattle.pblk_model.specs.Chunk.{Block}
@@ -31,8 +31,8 @@ pub record IsWrittenRecord (i : Image) (logs : Logs) (o : Opening) (r : Record) 
   pub written : block_at (media i logs) o.line r.at ≡ Some block
   pub bears : bears i.shape o.line o.start.seq r.at block block.mark ≡ Some r
 
--- The records that count of a line that wasn't freed. In a line of an older mount they are those that count in
--- the image that the mount found.
+-- The records that count of a line that wasn't freed. In a line of an older mount they are those
+-- that count in the image that the mount found.
 pub record IsFoundRecord (i : Image) (logs : Logs) (line : ℕ) (r : Record) : Type 0 where
   pub counts : Contains (counted (found_image i logs)) r
   pub in_line : r.line ≡ line
@@ -73,13 +73,14 @@ pub record MayFree (i : Image) (logs : Logs) (line : ℕ) : Type 0 where
   pub seq : ℕ
   pub has_seq : seq_of i logs line ≡ Some seq
   pub answered : IsAnswered logs (life_of (logs 0) line)
-  -- it is older than the newest start record that has landed, whose front is above every position that counts
-  -- in it
+  -- it is older than the newest start record that has landed, whose front is above every position
+  -- that counts in it
   pub newest : StartRecord
   pub is_newest : newest_start i logs ≡ Some newest
   pub older : seq < newest.seq
   pub below_front : (r : Record) → IsCountedRecord i logs line r → r.position < newest.front
   -- each record that counts in it has a newer one elsewhere
   pub replaced : (r : Record) (lba : ℕ) → IsCountedRecord i logs line r → r.lba ≡ Some lba → IsReplaced i logs line lba r
-  -- all its chunks are Closed or Offline; in a line of an older mount a Free chunk is taken as Closed
+  -- all its chunks are Closed or Offline; in a line of an older mount a Free chunk is taken as
+  -- Closed
   pub over : are_over i logs line ≡ true

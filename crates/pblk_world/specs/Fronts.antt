@@ -20,11 +20,13 @@ taken log = first_position log + length (takes log)
 abbrev pub has_landed_at : Shape → List Logged → ℕ → Bool
 has_landed_at s log position = list_any (λ p. has_landed log p && holds_position s position p) (placements log)
 
--- The front synced: the least position from the first on that hasn't landed. Only taken positions land.
+-- The front synced: the least position from the first on that hasn't landed. Only taken positions
+-- land.
 abbrev pub synced : Shape → List Logged → ℕ
 synced s log = least_missing (has_landed_at s log) (length (takes log)) (first_position log)
 
--- said as a fact: all positions from the first up to it are in stripes that have landed, and its own isn't
+-- said as a fact: all positions from the first up to it are in stripes that have landed, and its
+-- own isn't
 pub record IsSynced (s : Shape) (log : List Logged) (p : ℕ) : Type 0 where
   pub from_first : first_position log ≤ p
   pub landed : (q : ℕ) → first_position log ≤ q → q < p → has_landed_at s log q ≡ true
@@ -63,8 +65,8 @@ was_placed s log t = nat_lt 0 (times_placed s log t)
 abbrev pub waits : Shape → List Logged → Taken → Bool
 waits s log t = times_placed s log t == times_lost s log t
 
--- the waiting entries in the order in which they are placed: those that were lost before the others, and each
--- by position
+-- the waiting entries in the order in which they are placed: those that were lost before the
+-- others, and each by position
 abbrev pub waiting : Shape → List Logged → List Taken
 waiting s log = filter (λ t. waits s log t && was_placed s log t) (takes log)
     ++ filter (λ t. not (was_placed s log t)) (takes log)

@@ -37,8 +37,8 @@ IsAllowed i (suc unit) (Does e maker) logs = MayDo i logs unit e
 IsAllowed i zero (Does e maker) logs = ⊥
 IsAllowed i (suc unit) (Decides e) logs = ⊥
 
--- An event names a prefix of each log as it then is: of its author's own log the whole, and of no log a shorter
--- one than an earlier event of that author names.
+-- An event names a prefix of each log as it then is: of its author's own log the whole, and of no
+-- log a shorter one than an earlier event of that author names.
 pub record IsKnowledge (i : Image) (logs : Logs) (author : ℕ) (l : Logged) : Type 0 where
   pub authors : length l.knows ≡ units i.shape + 1
   pub own : known l author ≡ length (logs author)
@@ -54,8 +54,8 @@ unfoldable pub IsLegal : Image → World → Type 0
 IsLegal i [] = ⊤
 IsLegal i (step ∷ w) = IsLegalStep i (log_of w) step × IsLegal i w
 
--- A cut of a unit: what a stop leaves of it and of a command in flight. It is what a Stopped event leaves that
--- would be legal as the unit's next one.
+-- A cut of a unit: what a stop leaves of it and of a command in flight. It is what a Stopped event
+-- leaves that would be legal as the unit's next one.
 pub record IsUnitCut (i : Image) (w : World) (unit : ℕ) (step : Step) : Type 0 where
   pub author : step.author ≡ suc unit
   pub event : UnitEvent

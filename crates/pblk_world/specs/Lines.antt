@@ -1,4 +1,5 @@
--- Lines as the engine knows them: as they were when the mount began, after the unit events that its log names.
+-- Lines as the engine knows them: as they were when the mount began, after the unit events that its
+-- log names.
 use Rattle.std.specs.Prelude.{ℕ, ◌+◌, ◌==◌, ◌&&◌, not, if◌then◌else◌, nat_lt, Bool, true, false, List, [], map, slice_get, Option, Some, None}
 use Rattle.std.specs.List.{filter, filter_map, list_all, list_any, enumerate_from, range_with_len}
 use Rattle.std.specs.Option.{option_map, option_map_or, is_some}
@@ -21,7 +22,8 @@ found_by i logs (Some b) = media i (cut_logs b.knows logs)
 abbrev pub found_image : Image → Logs → Image
 found_image i logs = found_by i logs (begun (logs 0))
 
--- the events of a unit that the engine's log names as landed, lost, or reset, in the order of that log
+-- the events of a unit that the engine's log names as landed, lost, or reset, in the order of that
+-- log
 abbrev pub told_by : Logs → ℕ → Event → Option UnitEvent
 told_by logs unit (Decides (Landed other event)) = if other == unit then unit_event_at logs unit event else None
 told_by logs unit (Decides (Lost other event)) = if other == unit then unit_event_at logs unit event else None
@@ -49,8 +51,8 @@ is_empty_state states.Open = false
 is_empty_state states.Closed = false
 is_empty_state states.Offline = true
 
--- nothing more is written to the chunk before it is reset: it is Closed or Offline, or Free in a line as it was
--- found
+-- nothing more is written to the chunk before it is reset: it is Closed or Offline, or Free in a
+-- line as it was found
 abbrev pub is_over_state : Bool → ChunkState → Bool
 is_over_state as_found states.Free = as_found
 is_over_state as_found states.Open = false
@@ -86,8 +88,8 @@ abbrev pub next_seq : Option StartRecord → ℕ
 next_seq None = 1
 next_seq (Some h) = h.seq + 1
 
--- A line is Free where it has no sequence number, isn't Dead, and has Free and Offline chunks alone. It was
--- blank, or it is a stray or a freed line that was reset, and it wasn't opened since.
+-- A line is Free where it has no sequence number, isn't Dead, and has Free and Offline chunks
+-- alone. It was blank, or it is a stray or a freed line that was reset, and it wasn't opened since.
 
 abbrev pub has_number : Image → Logs → LineLife → ℕ → Bool
 has_number i logs AsFound line = is_some (start_of (found_image i logs) line)
@@ -98,7 +100,8 @@ abbrev pub is_free_line : Image → Logs → ℕ → Bool
 is_free_line i logs line = not (has_number i logs (life_of (logs 0) line) line) && are_empty (known_image i logs) line
     && nat_lt 0 (line_data (known_image i logs) line)
 
--- the line was freed, or is a stray of the beginning, and it wasn't opened since: its chunks may be reset
+-- the line was freed, or is a stray of the beginning, and it wasn't opened since: its chunks may be
+-- reset
 abbrev pub is_given_up_by : List ℕ → ℕ → LineLife → Bool
 is_given_up_by strays line AsFound = list_any (λ stray. stray == line) strays
 is_given_up_by strays line (Opened o) = false
@@ -110,7 +113,7 @@ strays_of log = option_map_or (λ b. b.beginning.strays) (begun log) []
 abbrev pub is_given_up : List Logged → ℕ → Bool
 is_given_up log line = is_given_up_by (strays_of log) line (life_of log line)
 
--- A line of this mount has a stripe left that is neither landed nor lost while a chunk of it is neither Closed
--- nor Offline.
+-- A line of this mount has a stripe left that is neither landed nor lost while a chunk of it is
+-- neither Closed nor Offline.
 abbrev pub has_stripe_left : Image → Logs → ℕ → Bool
 has_stripe_left i logs line = is_opened (life_of (logs 0) line) && not (are_over i logs line)

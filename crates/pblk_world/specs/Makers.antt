@@ -1,10 +1,12 @@
--- Makers of unit commands. A worker numbers its commands in the order in which it makes them, whatever their units.
+-- Makers of unit commands. A worker numbers its commands in the order in which it makes them,
+-- whatever their units.
 use Rattle.std.specs.Prelude.{ℕ, ◌^◌, ◌==◌, ◌≡◌, ⊤, Bool, false, [], ◌∷◌, length}
 use Rattle.std.specs.List.{filter}
 use Rattle.pblk_world.specs.Events.{Maker, Event, Decides, Does}
 use Rattle.pblk_world.specs.World.{World}
 
--- Workers have numbers of 64 bits. The opening is a worker of its own, with a number that none of them has.
+-- Workers have numbers of 64 bits. The opening is a worker of its own, with a number that none of
+-- them has.
 abbrev pub opening_worker : ℕ
 opening_worker = 2 ^ 64
 

@@ -12,8 +12,8 @@ use Rattle.pblk_world.specs.Fronts.{synced}
 use Rattle.pblk_world.specs.Lines.{known_image, stray_lines, next_seq, is_free_line, has_stripe_left}
 use Rattle.pblk_world.specs.Starts.{older_rows}
 
--- `Begin` comes once and first, with no Open chunk known. It names the end, the sequence number after the
--- head's, and the strays, of the media by the prefixes that it names.
+-- `Begin` comes once and first, with no Open chunk known. It names the end, the sequence number
+-- after the head's, and the strays, of the media by the prefixes that it names.
 pub record MayBegin (i : Image) (logs : Logs) (b : Beginning) : Type 0 where
   pub is_first : logs 0 ≡ []
   pub no_open_chunk : AllByRecursion (AllByRecursion (λ c. c.state ≢ states.Open)) (media i logs).units
@@ -23,8 +23,8 @@ pub record MayBegin (i : Image) (logs : Logs) (b : Beginning) : Type 0 where
 
 -- A line is opened with a start record.
 pub record MayOpen (i : Image) (logs : Logs) (begun : Begun) (line : ℕ) (start : StartRecord) : Type 0 where
-  -- the line is the first of the Free ones: all its chunks are Free or Offline, it wasn't opened since, and it
-  -- isn't Dead
+  -- the line is the first of the Free ones: all its chunks are Free or Offline, it wasn't opened
+  -- since, and it isn't Dead
   pub in_range : line < i.shape.chunks
   pub is_free : is_free_line i logs line ≡ true
   pub is_first : (other : ℕ) → other < line → is_free_line i logs other ≡ false

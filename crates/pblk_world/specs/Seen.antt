@@ -17,7 +17,7 @@ position_of (Wrote place) = place.first + place.count
 position_of (Answered front) = front.position
 position_of (Heard position) = position
 
--- The position up to which a session has seen: the greatest of the ends of its own writes, of the fronts that
--- it was answered, and of the positions that the notes which it heard tell of.
+-- The position up to which a session has seen: the greatest of the ends of its own writes, of the
+-- fronts that it was answered, and of the positions that the notes which it heard tell of.
 abbrev pub seen : List SessionEvent → ℕ
 seen events = fold max 0 (map position_of events)

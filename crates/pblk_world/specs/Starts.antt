@@ -13,8 +13,9 @@ use Rattle.pblk_world.specs.EngineLog.{Opening, LineLife, AsFound, Opened, Freed
 use Rattle.pblk_world.specs.Fronts.{first_position}
 use Rattle.pblk_world.specs.Lines.{found_image}
 
--- the position below which the records of an older line count: by the head, the mount's first position for a
--- line of the head's mount, the bound of its row for one with a row, and 0 for any other
+-- the position below which the records of an older line count: by the head, the mount's first
+-- position for a line of the head's mount, the bound of its row for one with a row, and 0 for any
+-- other
 abbrev pub row_bound : StartRecord → ℕ → ℕ → ℕ
 row_bound h line seq = option_map_or (λ row. row.bound) (find (λ row. (row.line == line) && (row.seq == seq)) h.rows) 0
 
@@ -29,7 +30,8 @@ abbrev pub found_row : Image → Logs → ℕ → Option StartRecord → Option 
 found_row i logs line None = None
 found_row i logs line (Some start) = Some (record { line = line; seq = start.seq; bound = older_bound i logs line start.seq })
 
--- the row of a line of an older mount: none for one that was freed, and for one without a sequence number
+-- the row of a line of an older mount: none for one that was freed, and for one without a sequence
+-- number
 abbrev pub older_row : Image → Logs → ℕ → Option Row
 older_row i logs line = if is_as_found (life_of (logs 0) line)
     then found_row i logs line (start_of (found_image i logs) line)
@@ -54,7 +56,8 @@ abbrev pub newest_start : Image → Logs → Option StartRecord
 newest_start i logs = last_or (head (found_image i logs))
     (map (λ o. o.start) (filter (has_landed_start i.shape (logs 0)) (openings (logs 0))))
 
--- the sequence number of a line that wasn't freed: the one that its opening named, or that the mount found
+-- the sequence number of a line that wasn't freed: the one that its opening named, or that the
+-- mount found
 abbrev pub seq_in : Image → Logs → LineLife → ℕ → Option ℕ
 seq_in i logs AsFound line = option_map (λ start. start.seq) (start_of (found_image i logs) line)
 seq_in i logs (Opened o) line = Some o.start.seq

@@ -1,4 +1,5 @@
--- When an entry may be taken, and with which mark: which source of a copy is still the latest of its sector.
+-- When an entry may be taken, and with which mark: which source of a copy is still the latest of
+-- its sector.
 use Rattle.std.specs.Prelude.{ℕ, ◌+◌, ◌^◌, ◌<◌, ◌≡◌, ◌⊎◌, true, slice_get, Option, Some, None}
 use Rattle.std.specs.List.{Contains}
 use Rattle.pblk_model.specs.declared.chunk.Mark.{Mark}
@@ -13,7 +14,8 @@ use Rattle.pblk_world.specs.EngineLog.{Taken, block_of_taken, AsFound, life_of, 
 use Rattle.pblk_world.specs.Fronts.{taken, last_take}
 use Rattle.pblk_world.specs.Lines.{found_image, known_image, place_of}
 
--- The source is a place of the entry: in a stripe that has landed, in a line that wasn't freed since.
+-- The source is a place of the entry: in a stripe that has landed, in a line that wasn't freed
+-- since.
 pub record IsPlaceOf (i : Image) (logs : Logs) (t : Taken) (source : Source) : Type 0 where
   pub position : source.position ≡ t.entry.position
   pub placed : Placed
@@ -26,8 +28,8 @@ pub record IsPlaceOf (i : Image) (logs : Logs) (t : Taken) (source : Source) : T
   pub entry : slice_get placed.stripe.blocks block ≡ Some (block_of_taken t)
   pub place : place_of (known_image i logs) source.line source.at ≡ Some (placed.stripe.unit, placed.stripe.at + block)
 
--- The source is the very block of the sector's winner in the image that the mount found, in a line that wasn't
--- freed.
+-- The source is the very block of the sector's winner in the image that the mount found, in a line
+-- that wasn't freed.
 pub record IsPlaceOfWinner (i : Image) (logs : Logs) (lba : ℕ) (source : Source) : Type 0 where
   pub winning : Record
   pub is_winner : winner (counted (found_image i logs)) lba ≡ Some winning
@@ -41,8 +43,8 @@ abbrev pub IsPlaceOfLatest : Image → Logs → ℕ → Source → Option Taken 
 IsPlaceOfLatest i logs lba source None = IsPlaceOfWinner i logs lba source
 IsPlaceOfLatest i logs lba source (Some t) = IsPlaceOf i logs t source
 
--- The source of a copy is the latest of its sector, and this is the block that stands there by the named
--- prefix.
+-- The source of a copy is the latest of its sector, and this is the block that stands there by the
+-- named prefix.
 pub record IsLatest (i : Image) (logs : Logs) (lba : ℕ) (source : Source) (block : Block) : Type 0 where
   pub place : IsPlaceOfLatest i logs lba source (last_take (logs 0) lba)
   pub there : block_at (media i logs) source.line source.at ≡ Some block

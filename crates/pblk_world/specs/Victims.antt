@@ -1,4 +1,5 @@
--- Which line is collected: what is live in each, which lines may be collected, and which one is at work.
+-- Which line is collected: what is live in each, which lines may be collected, and which one is at
+-- work.
 use Rattle.std.specs.Prelude.{ℕ, zero, suc, ◌+◌, ◌==◌, ◌&&◌, ◌||◌, if◌then◌else◌, not, nat_lt, nat_le, Bool, true, false, List, [], take, map, length, Option, Some, None}
 use Rattle.std.specs.List.{fold, filter, filter_map, find, flat_map, list_all, last_or, range_with_len}
 use Rattle.std.specs.Option.{option_map, option_map_or, option_and_then, is_none, is_some}
@@ -17,7 +18,8 @@ use Rattle.pblk_world.specs.Lines.{found_image, known_image, chunks_of, are_over
 use Rattle.pblk_world.specs.Starts.{newest_start, seq_of}
 use Rattle.pblk_world.specs.Space.{is_due}
 
--- Live sectors. A sector is live in the line in which its latest entry is placed, or its winner was found.
+-- Live sectors. A sector is live in the line in which its latest entry is placed, or its winner was
+-- found.
 
 -- the stripe was placed in its line as that line now is
 abbrev pub is_in_force : List Logged → LineLife → ℕ → Bool
@@ -45,9 +47,9 @@ is_live_in i logs line lba = is_of line (line_of i logs lba (last_take (logs 0) 
 abbrev pub live : Image → Logs → ℕ → ℕ
 live i logs line = length (filter (is_live_in i logs line) (range_with_len 0 i.shape.capacity))
 
--- Takers. A position took a sector from the line in which the sector's latest entry before it has landed, also
--- where it took the sector before that landing. Where the stripe of that entry was lost, it took nothing from
--- its line.
+-- Takers. A position took a sector from the line in which the sector's latest entry before it has
+-- landed, also where it took the sector before that landing. Where the stripe of that entry was
+-- lost, it took nothing from its line.
 
 abbrev pub take_before : List Logged → Taken → Option Taken
 take_before log t = last_or None
@@ -101,9 +103,9 @@ pub record Candidate : Type 0 where
   pub live : ℕ
   pub seq : ℕ
 
--- Nothing more is written to it before it is reset, it is older than the newest start record that has landed,
--- every position that counts in it is below that record's front, and its live sectors are at most its data
--- addresses less a stripe.
+-- Nothing more is written to it before it is reset, it is older than the newest start record that
+-- has landed, every position that counts in it is below that record's front, and its live sectors
+-- are at most its data addresses less a stripe.
 abbrev pub may_be_collected : Image → Logs → StartRecord → ℕ → ℕ → Bool
 may_be_collected i logs newest line seq = are_over i logs line && nat_lt seq newest.seq
     && list_all (λ position. nat_lt position newest.front) (positions_in i logs (life_of (logs 0) line) line)
@@ -118,7 +120,8 @@ abbrev pub candidate : Image → Logs → ℕ → Option Candidate
 candidate i logs line = option_and_then (λ newest. option_and_then (candidate_of i logs newest line) (seq_of i logs line))
     (newest_start i logs)
 
--- a failed line before another, then the one of fewest live sectors, then the one of least sequence number
+-- a failed line before another, then the one of fewest live sectors, then the one of least sequence
+-- number
 abbrev pub is_failed_before : Bool → Bool → Bool → Bool
 is_failed_before true false otherwise = true
 is_failed_before false true otherwise = false
@@ -135,8 +138,8 @@ better (Some best) c = if is_before c best then Some c else Some best
 abbrev pub next_victim : Image → Logs → Option ℕ
 next_victim i logs = option_map (λ c. c.line) (fold better None (filter_map (candidate i logs) (range_with_len 0 i.shape.chunks)))
 
--- The victim at work. A line comes to work at the first event of the engine after which collection is due, no
--- victim is at work and it is the next; it stays until it is freed.
+-- The victim at work. A line comes to work at the first event of the engine after which collection
+-- is due, no victim is at work and it is the next; it stays until it is freed.
 
 -- the logs when the engine's had this length
 abbrev pub engine_prefix : ℕ → Logs → Logs

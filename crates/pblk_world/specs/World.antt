@@ -1,4 +1,5 @@
--- A world: the steps of a mount in the order in which they were made, and what follows from them alone.
+-- A world: the steps of a mount in the order in which they were made, and what follows from them
+-- alone.
 use Rattle.std.specs.Prelude.{ℕ, suc, ◌==◌, if◌then◌else◌, List, [], ◌∷◌, ◌++◌, map, take, slice_get, slice_index, Option, Some, None}
 use Rattle.std.specs.List.{filter_map, enumerate_from}
 use Rattle.std.specs.Option.{option_and_then}

@@ -22,8 +22,8 @@ impl Model for EngineEvent {
     ghost view = { λ e. elim e.unmade as (λ _. EngineEvent) [ ] };
 }
 
-/// An event of the engine or of a unit, with the lengths of the prefixes of all logs that its author
-/// knew.
+/// An event of the engine or of a unit, with the lengths of the prefixes of all logs that its
+/// author knew.
 ///
 /// Logs exist in contracts alone, so no value of this type is ever made.
 pub struct Logged {

@@ -32,8 +32,8 @@ pub fn knowledge_never_falls()
         → slice_get (log_of w author) k ≡ Some late → known early other ≤ known late other }
 {}
 
-/// All positions below the front synced have landed. This front is at most the front taken. Where it is below
-/// that, its own position hasn't landed.
+/// All positions below the front synced have landed. This front is at most the front taken. Where
+/// it is below that, its own position hasn't landed.
 pub fn a_front_is_synced()
     ensures landed { (s : Shape) (log : List Logged) (q : ℕ) → first_position log ≤ q
         → q < synced s log → has_landed_at s log q ≡ true }
@@ -48,8 +48,8 @@ pub fn one_front_is_synced()
         → p ≡ q }
 {}
 
-/// What one more event adds to what the engine's log says of entries, answers and lines, and which stripe it
-/// places.
+/// What one more event adds to what the engine's log says of entries, answers and lines, and which
+/// stripe it places.
 pub fn an_event_is_added()
     ensures takes { (log : List Logged) (l : Logged)
         → takes (log ++ l ∷ []) ≡ takes log ++ option_to_list (taken_by l.event) }
@@ -84,8 +84,8 @@ pub fn what_landed_was_done()
         × (e.outcome ≡ Answered Done) }
 {}
 
-/// Where each command says how many its worker had made before it, the commands of one worker have rising
-/// numbers. A world has its newest step first.
+/// Where each command says how many its worker had made before it, the commands of one worker have
+/// rising numbers. A world has its newest step first.
 pub fn the_numbers_of_a_worker_rise()
     ensures { (w : World) (j k : ℕ) (late early : Step) (e f : UnitEvent) (m n : Maker)
         → HasMakers w → j < k → slice_get w j ≡ Some late → slice_get w k ≡ Some early

@@ -1,5 +1,5 @@
--- A line that was found with a start record is as it was found, or it was freed. Then it is older than the
--- newest start record, and what counted in it is below that one's front.
+-- A line that was found with a start record is as it was found, or it was freed. Then it is older
+-- than the newest start record, and what counted in it is below that one's front.
 use Rattle.std.proofs.Common.{◌≡◌, ◌⊎◌, inl, inr, ℕ, ◌<◌, ◌≤◌, zero, suc, Some, take, sym, subst, ap, ◌∙◌, arith}
 use Rattle.std.specs.Prelude.{slice_get}
 use Rattle.std.specs.List.{Contains}

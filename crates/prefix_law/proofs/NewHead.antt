@@ -1,4 +1,5 @@
--- An image whose head is of the mount that followed a found one is assembled from that mount's entries.
+-- An image whose head is of the mount that followed a found one is assembled from that mount's
+-- entries.
 use Rattle.std.proofs.Common.{◌≡◌, inl, inr, ℕ, ◌<◌, ◌≤◌, Bool, true, false, Some, None, Option, refl, sym, subst, ap, ◌∙◌, arith}
 use Rattle.std.specs.List.{Contains}
 use Rattle.std.specs.Option.{option_map_or}

@@ -1,4 +1,5 @@
--- Which records of a found image a start record of the next mount counts by its rows: those that count there.
+-- Which records of a found image a start record of the next mount counts by its rows: those that
+-- count there.
 use Rattle.std.proofs.Common.{◌≡◌, ℕ, ◌+◌, ◌<◌, ◌≤◌, ◌==◌, ◌&&◌, nat_lt, nat_le, zero, suc, Bool, true, false, cond, Some, None, Option, List, [], ◌∷◌, refl, sym, subst, ap, ap₂, ◌∙◌, arith, inl, inr, not, zero-add}
 use Rattle.std.specs.Prelude.{slice_get, if◌then◌else◌}
 use Rattle.std.specs.List.{Contains, find, filter, range_with_len}
@@ -25,7 +26,8 @@ use Rattle.lemmas.proofs.Tests.{and_both, both, le_true, lt_true, same_number}
 
 -- ---- the rows of a start record
 
--- what holds of each row: its line is at least so much, it is older than the mount, and its bound is at most the front
+-- what holds of each row: its line is at least so much, it is older than the mount, and its bound
+-- is at most the front
 pub record IsRowOf (r : StartRecord) (least : ℕ) (row : Row) : Type 0 where
   pub low : least ≤ row.line
   pub older : row.seq < r.first_seq

@@ -1,5 +1,5 @@
--- The start record with which a line was opened is one of the mount: its front, and the rows of the lines that
--- were still as they were found.
+-- The start record with which a line was opened is one of the mount: its front, and the rows of the
+-- lines that were still as they were found.
 use Rattle.std.proofs.Common.{◌≡◌, ℕ, ◌+◌, ◌-◌, ◌<◌, ◌≤◌, zero, suc, Bool, true, false, Some, None, Option, List, length, take, refl, sym, subst, ap, ◌∙◌, arith, if◌then◌else◌}
 use Rattle.std.specs.Prelude.{slice_get}
 use Rattle.std.specs.List.{Contains, range_with_len}

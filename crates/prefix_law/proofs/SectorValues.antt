@@ -1,4 +1,5 @@
--- The contents of an assembled image are the sectors that its entries and what lies under them give.
+-- The contents of an assembled image are the sectors that its entries and what lies under them
+-- give.
 use Rattle.std.proofs.Common.{◌≡◌, ◌⊎◌, inl, inr, ℕ, ◌+◌, ◌-◌, ◌<◌, ◌≤◌, zero, suc, Bool, true, false, Some, None, Option, List, length, refl, sym, ap, ◌∙◌, arith}
 use Rattle.std.specs.Prelude.{slice_get}
 use Rattle.std.proofs.lemmas.Bool.{cases_lt, cases_order}

@@ -22,8 +22,8 @@ pub record IsOldLine (found now : Image) (line : ℕ) (r : StartRecord) : Type 0
   pub start : start_of found line ≡ Some r
   pub bears : (x : Record) → Contains (line_records now line) x → Contains (line_records found line) x
 
--- A start record of the next mount, made when the positions up to its front had landed. It may lack rows: of
--- lines that the mount had freed.
+-- A start record of the next mount, made when the positions up to its front had landed. It may lack
+-- rows: of lines that the mount had freed.
 pub record IsNewStart (found : Image) (front : ℕ) (r : StartRecord) : Type 0 where
   pub first_seq : r.first_seq ≡ next_seq (head found)
   pub seq : next_seq (head found) ≤ r.seq
@@ -37,8 +37,8 @@ pub record IsNewLine (found now : Image) (es : Entries) (front line : ℕ) (r : 
   pub bears : (x : Record) → Contains (line_records now line) x
       → (g : Given) × IsEntry es x.position g × (x.lba ≡ g.lba) × (x.sector ≡ g.sector)
 
--- The second image is the found one after a mount that took these entries, of which those below the front have
--- landed. Each line with a start record is an old one or a new one.
+-- The second image is the found one after a mount that took these entries, of which those below the
+-- front have landed. Each line with a start record is an old one or a new one.
 pub record IsAfterMount (found now : Image) (es : Entries) (front : ℕ) : Type 0 where
   pub shape : now.shape ≡ found.shape
   -- the entries have the positions from the end on that was found
@@ -63,7 +63,8 @@ pub record StandsUnder (found now : Image) (h : StartRecord) (x : Record) : Type
 pub record HasNewHead (found now : Image) (es : Entries) (front : ℕ) (h : StartRecord) : Type 0 where
   pub head : head now ≡ Some h
   pub start : IsNewStart found front h
-  -- each position from its front up to the front is borne anew, and so is the last entry of each sector
+  -- each position from its front up to the front is borne anew, and so is the last entry of each
+  -- sector
   pub borne : (p : ℕ) → h.front ≤ p → p < front → (x : Record) × IsBorneAnew found now p x
   pub kept : (lba p : ℕ) → IsLastOf es lba front p → (x : Record) × IsBorneAnew found now p x
   -- where a sector has no entry below the front, its winner of before stands
@@ -76,7 +77,8 @@ pub record IsReduced (found now : Image) : Type 0 where
   pub lines : (line : ℕ) (r : StartRecord) → line < now.shape.chunks → start_of now line ≡ Some r → IsOldLine found now line r
   -- the head stands
   pub head_stands : (line : ℕ) (h : StartRecord) → IsHead found line h → start_of now line ≡ Some h
-  -- each position from its front up to the end is still borne, and the winner of each sector is there
+  -- each position from its front up to the end is still borne, and the winner of each sector is
+  -- there
   pub borne : (h : StartRecord) (p : ℕ) → head found ≡ Some h → h.front ≤ p → p < end found
       → (x : Record) × Contains (records now) x × Bears h p x
   pub kept : (lba : ℕ) (x : Record) → winner (counted found) lba ≡ Some x → Contains (records now) x

@@ -15,9 +15,10 @@ ghost use Rattle.pblk_world.specs.Fronts.{taken, synced, has_landed_at, history,
 ghost use Rattle.world_laws.specs.LegalMounts.{IsLegalMount, NoneLost};
 ghost use Rattle.prefix_law.specs.Cuts.{AreCuts};
 
-/// In a legal world over a sealed drive the contents of the media are those before, changed by the lines of the
-/// history below the end. The end is at the front synced or above it, and once the mount has begun at most the
-/// front taken. Units may have failed and stopped, and the engine may have copied sectors and freed lines.
+/// In a legal world over a sealed drive the contents of the media are those before, changed by the
+/// lines of the history below the end. The end is at the front synced or above it, and once the
+/// mount has begun at most the front taken. Units may have failed and stopped, and the engine may
+/// have copied sectors and freed lines.
 pub fn contents_are_after_a_prefix()
     ensures contents { (i : Image) (w : World) → IsLegalMount i w → IsSealed i
         → contents (media i (log_of w))
@@ -29,8 +30,8 @@ pub fn contents_are_after_a_prefix()
         → begun (log_of w 0) ≡ Some b → end (media i (log_of w)) ≤ taken (log_of w 0) }
 {}
 
-/// The same after a stop that cuts any of the units: what was in flight on such a unit may have been done in
-/// part. The history and the fronts are those of the world that was cut.
+/// The same after a stop that cuts any of the units: what was in flight on such a unit may have
+/// been done in part. The history and the fronts are those of the world that was cut.
 pub fn a_cut_of_each_unit_leaves_a_prefix()
     ensures contents { (i : Image) (w : World) (steps : List Step) → IsLegalMount i w
         → AreCuts i w steps → IsSealed i → contents (media i (log_of (steps ++ w)))
@@ -53,7 +54,8 @@ pub fn the_end_is_the_front_synced()
         → end (media i (log_of w)) ≡ synced i.shape (log_of w 0) }
 {}
 
-/// So it is where each position that was placed has landed: what was lost was placed again, and landed.
+/// So it is where each position that was placed has landed: what was lost was placed again, and
+/// landed.
 pub fn the_end_is_where_what_was_placed_has_landed()
     ensures { (i : Image) (w : World) (b : Begun) → IsLegalMount i w → IsSealed i
         → begun (log_of w 0) ≡ Some b

@@ -1,14 +1,16 @@
-//! The law that a drive's contents are those after a prefix of the history, in every legal world over a sealed
-//! drive: units may fail and stop, and the engine may copy sectors and free lines.
+//! The law that a drive's contents are those after a prefix of the history, in every legal world
+//! over a sealed drive: units may fail and stop, and the engine may copy sectors and free lines.
 //!
-//! - The contents that recovery defines are those before, changed by the lines of the history below the end.
-//!   The end is at the front synced or above it, and once the mount has begun at most the front taken.
+//! - The contents that recovery defines are those before, changed by the lines of the history below
+//!   the end. The end is at the front synced or above it, and once the mount has begun at most the
+//!   front taken.
 //! - The same holds after a stop that cuts any of the units.
 //! - Where each placed stripe is answered and none was lost, the end is the front synced.
 //! - A world in which no mount has begun leaves the contents as they were.
 //! - The drive stays sealed.
 //!
-//! `specs/` says, without logs, what an image is after a mount, and what its contents are assembled from.
+//! `specs/` says, without logs, what an image is after a mount, and what its contents are assembled
+//! from.
 #![tactic(auto)]
 
 mod laws;

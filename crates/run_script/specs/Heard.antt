@@ -58,12 +58,14 @@ HasRoom reader says.Flush = reader.commands < 200000
 HasRoom reader (says.Post name) = reader.commands < 200000
 HasRoom reader (says.Await name) = reader.commands < 200000
 
--- what a line says after those before it, or why it is refused, where it is line n, and early or not
+-- what a line says after those before it, or why it is refused, where it is line n, and early or
+-- not
 abbrev pub placed_at : ℕ → List Said → ℕ → Bool → Option Said → Result (ℕ × Said) ScriptErr
 placed_at capacity before n early None = Err (errors.Form n)
 placed_at capacity before n early (Some said) = option_map_or Err (refusal_of capacity before n early said) (Ok (n, said))
 
--- A line was heard after others, or refused. There was no memory for it only where it isn't refused.
+-- A line was heard after others, or refused. There was no memory for it only where it isn't
+-- refused.
 abbrev pub Places : Result Unit ScriptErr → Reader → Heard → Result (ℕ × Said) ScriptErr → Type 0
 Places (Ok done) reader before placed = (x : ℕ × Said) × (placed ≡ Ok x) × IsRead reader (before ++ x ∷ [])
 Places (Err e) reader before placed = Refuses e placed × (e ≡ errors.Memory → IsOk placed)

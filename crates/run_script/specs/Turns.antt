@@ -25,8 +25,8 @@ passed posted Flush = Some posted
 passed posted (Post name) = Some (name ∷ posted)
 passed posted (Await name) = if list_any (bytes_eq name) posted then Some posted else None
 
--- Whether a thread goes past a command, and which names are left then. The command awaits no name that nobody
--- posts.
+-- Whether a thread goes past a command, and which names are left then. The command awaits no name
+-- that nobody posts.
 abbrev pub Passes : Names → Names → Command → Bool → Type 0
 Passes old new c true = (all : List Said) (posted : List (List ℕ)) → AreLeft all old posted → awaits_unposted all (Commands c) ≡ false
     → (more : List (List ℕ)) × (passed posted c ≡ Some more) × AreLeft all new more

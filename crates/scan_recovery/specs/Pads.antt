@@ -1,5 +1,5 @@
--- How the Open chunks of a drive are closed: they are padded to their ends, by line and then by unit, in programs of Pad
--- blocks that end at multiples of WS_OPT.
+-- How the Open chunks of a drive are closed: they are padded to their ends, by line and then by
+-- unit, in programs of Pad blocks that end at multiples of WS_OPT.
 use Rattle.std.specs.Prelude.{ℕ, ◌+◌, ◌-◌, ◌*◌, ◌/◌, ◌<◌, ◌≡◌, ◌≢◌, ◌⊎◌, ⊤, true, false, List, [], ◌∷◌, ◌++◌, replicate, Some, Result, Ok, Err}
 use Rattle.std.specs.List.{AllByRecursion}
 use Rattle.std.specs.Option.{option_map_or}

@@ -13,7 +13,8 @@ use Rattle.scan_recovery.specs.Fetches.{IsFetch}
 use Rattle.scan_recovery.specs.Pads.{ArePads}
 use Rattle.scan_recovery.specs.Units.{image_of}
 
--- The units of a drive did programs of Pad blocks in its Open chunks, and then fetches of written blocks.
+-- The units of a drive did programs of Pad blocks in its Open chunks, and then fetches of written
+-- blocks.
 pub record WereReadied (s : Shape) (old new : List ModelUnit) : Type 0 where
   pub pads : List EventAt
   pub padded : ArePads s old pads

@@ -16,7 +16,8 @@ use Rattle.scan_recovery.specs.Reading.{line_blocks}
 use Rattle.scan_recovery.specs.Tally.{HasStartFits}
 use Rattle.scan_recovery.specs.Traces.{IsTable, bares, without_sector}
 
--- a line's sequence number, whether its end record is whole, and whether a chunk of it is neither Free nor Offline
+-- a line's sequence number, whether its end record is whole, and whether a chunk of it is neither
+-- Free nor Offline
 unfoldable pub seen_line : Image → ℕ → SeenLine
 seen_line i line = record { seq = option_map (λ r. r.seq) (start_of i line); full = is_full i line; used = not (are_empty i line) }
 

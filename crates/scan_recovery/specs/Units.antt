@@ -27,7 +27,8 @@ image_of s us = record { shape = s; units = map (λ u. u.media) us }
 abbrev pub IsStateOf : Image → ℕ → ℕ → ChunkState → Type 0
 IsStateOf i line unit state = (c : Chunk) × (chunk_in i line unit ≡ Some c) × (state ≡ c.state)
 
--- This is the last event of a unit, and this its number in the unit's log, from 1. From 2^64 - 1 on the number stands still.
+-- This is the last event of a unit, and this its number in the unit's log, from 1. From 2^64 - 1 on
+-- the number stands still.
 pub record IsLastEvent (us : List ModelUnit) (unit number : ℕ) (e : UnitEvent) : Type 0 where
   pub of : ModelUnit
   pub there : slice_get us unit ≡ Some of

@@ -54,9 +54,9 @@ fn row_of(rows: &[Row], line: u32) -> Option<Row>
     None
 }
 
-// Whether a record counts: its line is of the head's mount and its position below the end, or its line has
-// a row for its sequence number and its position is below that row's bound. `row` is the head's row of its
-// line.
+// Whether a record counts: its line is of the head's mount and its position below the end, or its
+// line has a row for its sequence number and its position is below that row's bound. `row` is the
+// head's row of its line.
 fn counts(head: &StartRecord, end: u64, row: &Option<Row>, t: &Trace) -> bool
     ensures counts { (s : Shape) (line g : ℕ) → start_fits s line g (start_numbers head.now) ≡ true
         → option_map row_numbers row.now ≡ row_of (Some (start_numbers head.now)) t.now.line
@@ -85,16 +85,16 @@ fn is_below(row: &Option<Row>, t: &Trace) -> bool
     }
 }
 
-/// The newest counted record of each sector, and for each line one past the greatest position of its
-/// counted records.
+/// The newest counted record of each sector, and for each line one past the greatest position of
+/// its counted records.
 #[derive(Debug, Drop)]
 pub(crate) struct Tally {
     pub winners: Vec<Option<Trace>>,
     pub tops: Vec<u64>,
 }
 
-/// The winner of each sector below the capacity, and the top of each line. `rows` has the head's row of
-/// each line.
+/// The winner of each sector below the capacity, and the top of each line. `rows` has the head's
+/// row of each line.
 pub(crate) fn tally_of(
     alloc: Global,
     traces: &[Trace],

@@ -11,8 +11,8 @@ use crate::trace::Trace;
 use pblk_meta::StartRecord;
 use std::alloc::{AllocError, Global};
 
-/// The least position from the head's front on that no record bears in a line of the head's mount, and 0
-/// without a head. It takes memory for a flag for each record.
+/// The least position from the head's front on that no record bears in a line of the head's mount,
+/// and 0 without a head. It takes memory for a flag for each record.
 pub(crate) fn end_after(
     alloc: Global,
     traces: &[Trace],
@@ -49,7 +49,8 @@ fn first_missing(borne: &[bool], front: u64) -> u64
     position
 }
 
-// A flag for each position from the head's front on, for as many as there are records: whether one bears it.
+// A flag for each position from the head's front on, for as many as there are records: whether one
+// bears it.
 fn borne_from(alloc: Global, traces: &[Trace], head: &StartRecord) -> Result<Vec<bool>, AllocError>
     ensures { IfOk result
         (λ v. IsTable (length traces.now) (borne_at (bares traces.now) (start_numbers head.now))

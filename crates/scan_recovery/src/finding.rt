@@ -21,8 +21,8 @@ use pblk_meta::{Row, StartRecord};
 use pblk_model::{ChunkState, Found, Items, LineRow, Shape, Winner};
 use std::alloc::{AllocError, Global};
 
-/// What is found of an image whose lines were surveyed and whose chunks have these states, by unit and then
-/// by chunk.
+/// What is found of an image whose lines were surveyed and whose chunks have these states, by unit
+/// and then by chunk.
 pub(crate) fn found_of(
     alloc: Global,
     shape: &Shape,

@@ -26,12 +26,13 @@ use pblk_layout::Layout;
 use pblk_meta::StartRecord;
 use std::alloc::{AllocError, Global};
 
-/// What the image of a drive holds: the user sectors, each the newest of its records that count, and where
-/// the mount of its newest start record ends (Bjørling, González, Bonnet, FAST 2017, recovery).
+/// What the image of a drive holds: the user sectors, each the newest of its records that count,
+/// and where the mount of its newest start record ends (Bjørling, González, Bonnet, FAST 2017,
+/// recovery).
 ///
-/// All written blocks are looked at where they lie, those of Open chunks too, which can't all be fetched.
-/// No unit is commanded, and the drive stays as it is. Fails only for want of memory: beside the sectors,
-/// each of which is copied once, it takes a few dozen bytes for a block.
+/// All written blocks are looked at where they lie, those of Open chunks too, which can't all be
+/// fetched. No unit is commanded, and the drive stays as it is. Fails only for want of memory:
+/// beside the sectors, each of which is copied once, it takes a few dozen bytes for a block.
 pub fn contents(alloc: Global, drive: &Drive) -> Result<Contents, AllocError>
     ensures { IfOk result (IsContentsOf (image_of (stored drive.now))) }
 {
@@ -46,7 +47,8 @@ pub fn contents(alloc: Global, drive: &Drive) -> Result<Contents, AllocError>
     })
 }
 
-/// What the image of a drive holds, but for the user sectors: `contents` without them. No sector is copied.
+/// What the image of a drive holds, but for the user sectors: `contents` without them. No sector is
+/// copied.
 ///
 /// Fails only for want of memory, of which it takes a few dozen bytes for a block.
 pub fn summary(alloc: Global, drive: &Drive) -> Result<Summary, AllocError>
@@ -154,8 +156,8 @@ fn live_in(winners: &[Option<Trace>]) -> u64
     live
 }
 
-// The bytes of the user sectors, one after another: each is copied from the block of its newest record that
-// counts.
+// The bytes of the user sectors, one after another: each is copied from the block of its newest
+// record that counts.
 fn sector_bytes(
     alloc: Global,
     media: &Media<'_>,

@@ -1,9 +1,9 @@
-//! Recovery by scanning: what a drive holds when a mount begins (Bjørling, González, Bonnet, FAST 2017,
-//! recovery).
+//! Recovery by scanning: what a drive holds when a mount begins (Bjørling, González, Bonnet, FAST
+//! 2017, recovery).
 //!
-//! `pad` closes the chunks that a mount left Open, and `scan` tells what a mount begins with on a drive
-//! without Open chunks. `make_ready` does both. `contents` tells what the image of any drive holds for its
-//! user, and `summary` all of that but the sectors.
+//! `pad` closes the chunks that a mount left Open, and `scan` tells what a mount begins with on a
+//! drive without Open chunks. `make_ready` does both. `contents` tells what the image of any drive
+//! holds for its user, and `summary` all of that but the sectors.
 #![tactic(auto)]
 
 mod counting;

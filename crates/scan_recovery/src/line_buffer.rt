@@ -17,9 +17,9 @@ use std::alloc::{AllocError, Global};
 use std::marker::Model;
 use unit_port::Unit;
 
-/// Blocks that were fetched, one after another, each where it is written. Their sectors lie in one buffer,
-/// which serves line after line. Contracts see how many bytes a sector has, and the list of the model's
-/// `Block`s.
+/// Blocks that were fetched, one after another, each where it is written. Their sectors lie in one
+/// buffer, which serves line after line. Contracts see how many bytes a sector has, and the list of
+/// the model's `Block`s.
 #[derive(Debug, Drop)]
 pub(crate) struct LineBuffer {
     // the sectors of the written ones stand at its front, one after another
@@ -43,7 +43,8 @@ impl Model for LineBuffer {
 }
 
 impl LineBuffer {
-    /// That of no blocks, for sectors of this size, which is at most 4096 bytes. It takes no memory.
+    /// That of no blocks, for sectors of this size, which is at most 4096 bytes. It takes no
+    /// memory.
     pub(crate) fn new(alloc: Global, size: u32) -> LineBuffer
         requires { size ≤ 4096 }
         ensures size { result.size ≡ size }

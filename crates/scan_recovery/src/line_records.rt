@@ -186,7 +186,8 @@ fn trace_at(
     })
 }
 
-/// Adds what the blocks of a line with this sequence number and this end record bear, in line order.
+/// Adds what the blocks of a line with this sequence number and this end record bear, in line
+/// order.
 pub(crate) fn trace_all(
     traces: &mut Vec<Trace>,
     shape: &Shape,

@@ -22,8 +22,8 @@ use pblk_model::Shape;
 use std::alloc::{AllocError, Global};
 use std::marker::Model;
 
-/// The chunks of a drive, whose written blocks are read where they lie, whether they can be fetched or not.
-/// Contracts see the image that they are.
+/// The chunks of a drive, whose written blocks are read where they lie, whether they can be fetched
+/// or not. Contracts see the image that they are.
 #[derive(Drop)]
 pub(crate) struct Media<'a> {
     units: &'a [MemoryUnit],

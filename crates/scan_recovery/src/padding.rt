@@ -15,14 +15,16 @@ use pblk_model::{ChunkState, Mark, Shape};
 use std::alloc::{AllocError, Global};
 use unit_port::{Unit, UnitErr};
 
-/// Closes every Open chunk of a drive (Open-Channel SSD Specification 2.0, Chunk states): by line, and then
-/// by unit, each is programmed with Pad blocks to its end, in programs that end at multiples of WS_OPT.
+/// Closes every Open chunk of a drive (Open-Channel SSD Specification 2.0, Chunk states): by line,
+/// and then by unit, each is programmed with Pad blocks to its end, in programs that end at
+/// multiples of WS_OPT.
 ///
-/// The shape is accepted, and the units are those of a drive of it. A program that fails leaves its chunk
-/// Closed, and is no error. A sealed drive stays sealed and holds what it held, also where it stops.
+/// The shape is accepted, and the units are those of a drive of it. A program that fails leaves its
+/// chunk Closed, and is no error. A sealed drive stays sealed and holds what it held, also where it
+/// stops.
 ///
-/// Refused: `Drive` where a unit answered Stopped, which ends the padding; it names that event. `Memory`
-/// where there isn't as much as a stripe takes; then nothing was programmed.
+/// Refused: `Drive` where a unit answered Stopped, which ends the padding; it names that event.
+/// `Memory` where there isn't as much as a stripe takes; then nothing was programmed.
 pub fn pad<U: Unit>(alloc: Global, units: &mut [U], shape: &Shape) -> Result<(), ScanErr>
     requires accepted { IsAccepted shape.now }
     requires fit { AreFit shape.now (map U.model units.old) }
@@ -147,8 +149,8 @@ fn open_at<U: Unit>(units: &[U], shape: &Shape, line: u32, unit: u32) -> Option<
     }
 }
 
-// Programs the first Open chunk from its write pointer to the next multiple of WS_OPT. Ok also where that
-// failed.
+// Programs the first Open chunk from its write pointer to the next multiple of WS_OPT. Ok also
+// where that failed.
 fn pad_stripe<U: Unit>(
     units: &mut [U],
     shape: &Shape,

@@ -1,4 +1,5 @@
-//! A drive is made ready for a mount: chunks that were left Open are padded, and then it is scanned.
+//! A drive is made ready for a mount: chunks that were left Open are padded, and then it is
+//! scanned.
 
 ghost use Rattle.std.specs.Prelude.{◌≡◌, map, IfOk, IfErr, OnErr};
 ghost use Rattle.pblk_model.specs.Accepted.{IsAccepted};
@@ -13,12 +14,12 @@ use pblk_model::{Found, Shape};
 use std::alloc::Global;
 use unit_port::Unit;
 
-/// What is found on a drive whose units are armed with nothing, once the chunks that a mount left Open
-/// were padded (Bjørling, González, Bonnet, FAST 2017, recovery).
+/// What is found on a drive whose units are armed with nothing, once the chunks that a mount left
+/// Open were padded (Bjørling, González, Bonnet, FAST 2017, recovery).
 ///
-/// The shape is accepted, and the units are those of a drive of it. The only error is `Memory`: then
-/// nothing was done, or no chunk is Open any more. Whatever is answered, a sealed drive holds what it held,
-/// and no wear index changes.
+/// The shape is accepted, and the units are those of a drive of it. The only error is `Memory`:
+/// then nothing was done, or no chunk is Open any more. Whatever is answered, a sealed drive holds
+/// what it held, and no wear index changes.
 pub fn make_ready<U: Unit>(alloc: Global, units: &mut [U], shape: &Shape) -> Result<Found, ScanErr>
     requires accepted { IsAccepted shape.now }
     requires fit { AreFit shape.now (map U.model units.old) }

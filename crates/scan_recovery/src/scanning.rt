@@ -19,14 +19,14 @@ use pblk_model::{Found, Shape};
 use std::alloc::Global;
 use unit_port::Unit;
 
-/// What recovery by scanning finds on a drive without Open chunks (Bjørling, González, Bonnet, FAST 2017,
-/// recovery): what a mount begins with.
+/// What recovery by scanning finds on a drive without Open chunks (Bjørling, González, Bonnet, FAST
+/// 2017, recovery): what a mount begins with.
 ///
-/// Written blocks are fetched, line by line; the chunks stay as they were. The shape is accepted, the units
-/// are those of a drive of it, and no chunk is Open, as after `pad`.
+/// Written blocks are fetched, line by line; the chunks stay as they were. The shape is accepted,
+/// the units are those of a drive of it, and no chunk is Open, as after `pad`.
 ///
-/// Refused: `Drive` where a fetch failed or was stopped, which ends the scan; it names that event. `Memory`
-/// where there isn't enough.
+/// Refused: `Drive` where a fetch failed or was stopped, which ends the scan; it names that event.
+/// `Memory` where there isn't enough.
 pub fn scan<U: Unit>(alloc: Global, units: &mut [U], shape: &Shape) -> Result<Found, ScanErr>
     requires accepted { IsAccepted shape.now }
     requires fit { AreFit shape.now (map U.model units.old) }

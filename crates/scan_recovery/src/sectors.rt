@@ -25,8 +25,8 @@ impl Model for Sectors {
 }
 
 impl Sectors {
-    /// The sectors of these bytes, which are `count` times `size`, one sector after another. `size` is 512
-    /// or 4096. It takes no memory.
+    /// The sectors of these bytes, which are `count` times `size`, one sector after another. `size`
+    /// is 512 or 4096. It takes no memory.
     pub fn new(bytes: Vec<u8>, size: u32, count: u64) -> Sectors
         requires size { IsSectorSize size }
         requires bytes { length bytes.items ≡ count * size }
@@ -62,8 +62,8 @@ impl Sectors {
     }
 }
 
-/// The head, the newest start record: of all whole ones that of the greatest sequence number, and of equal
-/// ones that of the least line.
+/// The head, the newest start record: of all whole ones that of the greatest sequence number, and
+/// of equal ones that of the least line.
 #[derive(Clone, Copy, Debug, PartialEq, Eq)]
 pub struct Head {
     /// Its line, by number from 0.
@@ -72,11 +72,12 @@ pub struct Head {
     pub seq: u64,
 }
 
-/// What an image holds, but for the user sectors themselves (Bjørling, González, Bonnet, FAST 2017, recovery).
+/// What an image holds, but for the user sectors themselves (Bjørling, González, Bonnet, FAST 2017,
+/// recovery).
 #[derive(Clone, Copy, Debug, PartialEq, Eq)]
 pub struct Summary {
-    /// The least position from the head's front on that no record of a line of the head's mount bears, and
-    /// 0 without a head.
+    /// The least position from the head's front on that no record of a line of the head's mount
+    /// bears, and 0 without a head.
     pub end: u64,
     /// How many of the records that count have a sector.
     pub counted: u64,
@@ -86,13 +87,13 @@ pub struct Summary {
     pub head: Option<Head>,
 }
 
-/// What an image holds: of each user sector the newest of its records that count, and zeros where it has
-/// none (Bjørling, González, Bonnet, FAST 2017, recovery).
+/// What an image holds: of each user sector the newest of its records that count, and zeros where
+/// it has none (Bjørling, González, Bonnet, FAST 2017, recovery).
 #[derive(Debug, Drop)]
 pub struct Contents {
     /// The user sectors, as many as the capacity.
     pub sectors: Sectors,
-    /// The least position from the head's front on that no record of a line of the head's mount bears, and 0
-    /// without a head.
+    /// The least position from the head's front on that no record of a line of the head's mount
+    /// bears, and 0 without a head.
     pub end: u64,
 }

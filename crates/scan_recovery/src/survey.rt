@@ -14,8 +14,8 @@ use pblk_layout::Layout;
 use pblk_meta::StartRecord;
 use std::alloc::{AllocError, Global};
 
-/// What is found of a line: its sequence number where its start record is whole, whether its end record is
-/// whole, and whether it has a chunk that is neither Free nor Offline.
+/// What is found of a line: its sequence number where its start record is whole, whether its end
+/// record is whole, and whether it has a chunk that is neither Free nor Offline.
 #[derive(Clone, Copy, Debug)]
 pub(crate) struct SeenLine {
     pub seq: Option<u64>,
@@ -23,8 +23,8 @@ pub(crate) struct SeenLine {
     pub used: bool,
 }
 
-/// What is found of the lines that were read so far: a row for each, what their blocks bear, and the head
-/// among them.
+/// What is found of the lines that were read so far: a row for each, what their blocks bear, and
+/// the head among them.
 #[derive(Debug, Drop)]
 pub(crate) struct Survey {
     pub lines: Vec<SeenLine>,
@@ -54,8 +54,8 @@ impl Survey {
         }
     }
 
-    /// Adds the next line, which has this width and these blocks. `used` says whether it has a chunk that
-    /// is neither Free nor Offline.
+    /// Adds the next line, which has this width and these blocks. `used` says whether it has a
+    /// chunk that is neither Free nor Offline.
     pub(crate) fn add(
         &mut self,
         alloc: Global,

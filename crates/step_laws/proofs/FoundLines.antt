@@ -1,5 +1,5 @@
--- Lines as the mount found them: one with a start record is no stray, and a line that is no stray keeps its chunks,
--- on the media and as the engine knows them.
+-- Lines as the mount found them: one with a start record is no stray, and a line that is no stray
+-- keeps its chunks, on the media and as the engine knows them.
 use Rattle.std.proofs.Common.{◌≡◌, ℕ, ◌+◌, ◌-◌, ◌<◌, ◌≤◌, ◌==◌, not, suc, Bool, true, false, Some, None, List, [], ◌∷◌, length, refl, sym, subst, ap, ◌∙◌, arith}
 use Rattle.std.specs.Prelude.{is_some, slice_get, slice_index}
 use Rattle.std.specs.List.{filter, last_or, list_any, range_with_len}

@@ -51,7 +51,8 @@ in_chunk states.Open clba wp b fits within = omega (arith, fits)
 in_chunk states.Closed clba wp b fits within = (let few : wp ≤ clba = fits in omega arith)
 in_chunk states.Offline clba wp b fits within = absurd (let none : wp ≡ 0 = fits in omega arith)
 
--- and can be read where what has landed below the pointer fills the chunk, or is far enough behind the block
+-- and can be read where what has landed below the pointer fills the chunk, or is far enough behind
+-- the block
 readable_by : (state : ChunkState) (clba mw wp landed b : ℕ) → PointerFits state clba wp → b < wp → landed ≤ wp → (landed ≡ clba) ⊎ (b + mw < landed)
     → ReadableIn state mw wp b
 readable_by states.Free clba mw wp landed b fits within below may = absurd (let none : wp ≡ 0 = fits in omega arith)

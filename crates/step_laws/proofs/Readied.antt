@@ -1,4 +1,5 @@
--- What padding and scanning make of units that are armed with nothing: each has events of its own, which make its drive ready.
+-- What padding and scanning make of units that are armed with nothing: each has events of its own,
+-- which make its drive ready.
 use Rattle.std.proofs.Common.{◌≡◌, ℕ, false, Some, None, Option, List, [], ◌∷◌, ◌++◌, length, refl, sym, subst, ap, ◌∙◌, arith, ◌+◌, ◌-◌, ◌*◌, ◌/◌, ◌%◌, ◌<◌, append-nil, append_assoc}
 use Rattle.std.specs.Prelude.{⊤, slice_get, slice_set}
 use Rattle.std.specs.Option.{option_map_or}

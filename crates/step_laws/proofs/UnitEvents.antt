@@ -1,5 +1,5 @@
--- What one unit does before a mount begins: programs of Pad blocks that were done, and fetches that were answered. They may
--- be made one after another.
+-- What one unit does before a mount begins: programs of Pad blocks that were done, and fetches that
+-- were answered. They may be made one after another.
 use Rattle.std.proofs.Common.{◌≡◌, ◌≢◌, ℕ, ◌<◌, Some, None, List, [], ◌∷◌, ◌∙◌, refl, sym, subst, ap}
 use Rattle.std.specs.Prelude.{⊤, slice_get}
 use Rattle.std.specs.Option.{option_map, option_and_then}

@@ -1,4 +1,5 @@
--- What the units of a drive did while it was made ready for a mount, and the world that these steps make.
+-- What the units of a drive did while it was made ready for a mount, and the world that these steps
+-- make.
 use Rattle.std.specs.Prelude.{ℕ, suc, List, [], ◌∷◌, drop, length}
 use Rattle.std.specs.List.{fold}
 use Rattle.pblk_model.specs.declared.shape.Shape.{Shape}
@@ -16,8 +17,8 @@ new_events [] new = []
 new_events (u ∷ old) [] = []
 new_events (u ∷ old) (v ∷ new) = grown_by u v ∷ new_events old new
 
--- The world: the steps of one unit, one after another, and those of all units from a number on. The command of each was made
--- by the opening.
+-- The world: the steps of one unit, one after another, and those of all units from a number on. The
+-- command of each was made by the opening.
 abbrev pub after_events : Shape → ℕ → World → List UnitEvent → World
 after_events s unit w events = fold (λ w e. unit_step s unit e (opening_maker w) w ∷ w) w events
 

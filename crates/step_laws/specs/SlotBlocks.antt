@@ -16,7 +16,8 @@ use Rattle.pblk_world.specs.Lines.{found_image}
 use Rattle.pblk_laws.specs.LineBlocks.{chunk_in}
 use Rattle.core_laws.specs.OpenedLines.{live_now}
 
--- The block is that of an entry that this mount took, at this position. Its line was opened by this mount.
+-- The block is that of an entry that this mount took, at this position. Its line was opened by this
+-- mount.
 pub record IsOfEntry (i : Image) (logs : Logs) (lba line position : ℕ) (block : Block) (t : Taken) : Type 0 where
   pub of_position : t.entry.position ≡ position
   pub from_first : first_position (logs 0) ≤ position
@@ -26,7 +27,8 @@ pub record IsOfEntry (i : Image) (logs : Logs) (lba line position : ℕ) (block 
   pub sector : block.sector ≡ t.entry.sector
   pub mark : block.mark ≡ sector_mark lba position
 
--- The block is that of the sector's winner in the image that the mount found. Its line is as it was found.
+-- The block is that of the sector's winner in the image that the mount found. Its line is as it was
+-- found.
 pub record IsOfWinner (i : Image) (logs : Logs) (lba line at position : ℕ) (block : Block) : Type 0 where
   pub winning : Record
   pub wins : winner (counted (found_image i logs)) lba ≡ Some winning
@@ -35,7 +37,8 @@ pub record IsOfWinner (i : Image) (logs : Logs) (lba line at position : ℕ) (bl
   pub of_position : winning.position ≡ position
   pub as_found : life_of (logs 0) line ≡ AsFound
   pub sector : block.sector ≡ winning.sector
-  -- in an image that isn't sealed a block may bear another mark than its pair in the line's end record
+  -- in an image that isn't sealed a block may bear another mark than its pair in the line's end
+  -- record
   pub mark : IsSealed (found_image i logs) → block.mark ≡ sector_mark lba position
 
 -- The block is that of the sector's last entry. Where none was taken, it is that of the winner.

@@ -1,5 +1,5 @@
-//! Laws on one more step of a world, whose author knows every log to its end. Each is the contract of a
-//! function that does nothing.
+//! Laws on one more step of a world, whose author knows every log to its end. Each is the contract
+//! of a function that does nothing.
 
 ghost use Rattle.std.specs.Prelude.{◌≡◌, ◌<◌, ◌+◌, ℕ, true, Some};
 ghost use Rattle.std.specs.Prelude.{slice_get};
@@ -13,8 +13,8 @@ ghost use Rattle.pblk_world.specs.Space.{is_readable_in};
 ghost use Rattle.pblk_laws.specs.LineBlocks.{chunk_in};
 ghost use Rattle.core_laws.specs.SimpleMounts.{IsSimpleMount};
 
-/// A fetch of a block of a stripe that has landed isn't refused where the engine's log says that the block
-/// can be read. It gives that block.
+/// A fetch of a block of a stripe that has landed isn't refused where the engine's log says that
+/// the block can be read. It gives that block.
 pub fn a_fetch_gives_what_landed()
     ensures { (i : Image) (w : World) (line unit k r : ℕ) (o : Opening) (p : Placed) (block : Block)
         → IsSimpleMount i w → life_of (log_of w 0) line ≡ Opened o

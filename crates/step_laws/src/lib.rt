@@ -1,10 +1,11 @@
-//! Laws on one more step of a world: what a mount for one session may do next, and what stays as it was.
+//! Laws on one more step of a world: what a mount for one session may do next, and what stays as it
+//! was.
 //!
-//! Each step is made by the engine or by a unit. Its author knows every log to its end, as it does where all
-//! work is done in one thread. The steps themselves are defined in `specs/Whole.antt`.
+//! Each step is made by the engine or by a unit. Its author knows every log to its end, as it does
+//! where all work is done in one thread. The steps themselves are defined in `specs/Whole.antt`.
 //!
-//! In such a mount the slot of a sector leads to its latest content: to its block on the drive, or to its entry
-//! in the window.
+//! In such a mount the slot of a sector leads to its latest content: to its block on the drive, or
+//! to its entry in the window.
 #![tactic(auto)]
 
 mod fetching;

@@ -16,9 +16,9 @@ ghost use Rattle.scan_recovery.specs.Units.{AreFit, image_of};
 ghost use Rattle.scan_recovery.specs.Readying.{WereReadied};
 ghost use Rattle.step_laws.specs.Opened.{new_events, after_units};
 
-/// What the units of a drive did while it was padded and scanned, armed with nothing, are the steps of
-/// a faultless mount over the image that they had. Its media are the image that they have now, and the
-/// engine did nothing in it.
+/// What the units of a drive did while it was padded and scanned, armed with nothing, are the steps
+/// of a faultless mount over the image that they had. Its media are the image that they have now,
+/// and the engine did nothing in it.
 pub fn an_opening_is_a_faultless_mount()
     ensures fit { (s : Shape) (us : List ModelUnit) → AreFit s us → IsFit (image_of s us) }
     ensures faultless { (s : Shape) (old new : List ModelUnit) → IsAccepted s → AreFit s old
@@ -32,8 +32,8 @@ pub fn an_opening_is_a_faultless_mount()
         → log_of (after_units s 0 [] events) 0 ≡ [] }
 {}
 
-/// Units that are armed with nothing lose no command, so neither a padding nor a scan of them ends by
-/// one.
+/// Units that are armed with nothing lose no command, so neither a padding nor a scan of them ends
+/// by one.
 pub fn an_unarmed_drive_loses_nothing()
     ensures pads { (s : Shape) (old new : List ModelUnit) (events : List EventAt) (unit event : ℕ)
         → AreUnarmed old → ¬ HasPadded s old new events (Err (errors.Drive unit event)) }

@@ -14,9 +14,10 @@ ghost use Rattle.core_laws.specs.SimpleMounts.{IsSimpleMount};
 ghost use Rattle.core_laws.specs.SlotOf.{slot_of};
 ghost use Rattle.step_laws.specs.SlotBlocks.{IsBlockOfSlot};
 
-/// These laws say what a sector holds after what the mount found and all that was taken since. It is zeros
-/// where the slot is unwritten. Where the slot names a position in the buffer, it is the sector of the last
-/// entry. Where the slot names a place on the drive, it is the sector of the block there.
+/// These laws say what a sector holds after what the mount found and all that was taken since. It
+/// is zeros where the slot is unwritten. Where the slot names a position in the buffer, it is the
+/// sector of the last entry. Where the slot names a place on the drive, it is the sector of the
+/// block there.
 pub fn a_slot_has_the_latest_sector()
     ensures unwritten { (i : Image) (w : World) (lba : ℕ) → IsSimpleMount i w
         → lba < i.shape.capacity → slot_of i (log_of w) lba ≡ Unwritten

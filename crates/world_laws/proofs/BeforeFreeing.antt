@@ -1,4 +1,5 @@
--- The world just before a line was freed. The line stood in its last life then, and each log has grown since.
+-- The world just before a line was freed. The line stood in its last life then, and each log has
+-- grown since.
 use Rattle.std.proofs.Common.{◌≡◌, ℕ, ◌<◌, ◌≤◌, suc, Some, Option, List, ◌++◌, length, take, refl, sym, ap, ◌∙◌, arith, length-append, if◌then◌else◌}
 use Rattle.std.specs.Prelude.{slice_get, slice_index}
 use Rattle.std.specs.List.{filter_map}

@@ -1,4 +1,5 @@
--- Where the pointer of a chunk of an opened line is, while its unit isn't stopped: behind the last stripe of the opening there that has ended.
+-- Where the pointer of a chunk of an opened line is, while its unit isn't stopped: behind the last
+-- stripe of the opening there that has ended.
 use Rattle.std.proofs.Common.{◌≡◌, ℕ, ◌+◌, ◌-◌, ◌<◌, ◌≤◌, ◌⊎◌, inl, inr, ◌==◌, nat_eq, zero, suc, Bool, true, false, Some, List, length, take, refl, sym, subst, ap, ap₂, ◌∙◌, arith, if◌then◌else◌, length-append}
 use Rattle.std.specs.Prelude.{slice_get, slice_index}
 use Rattle.std.specs.List.{Contains, filter_map}

@@ -1,5 +1,5 @@
--- A copy that gets the mark of its sector holds what the sector held: its source is the block of the sector's
--- latest entry, or that of its winner in the image that the mount found.
+-- A copy that gets the mark of its sector holds what the sector held: its source is the block of
+-- the sector's latest entry, or that of its winner in the image that the mount found.
 use Rattle.std.proofs.Common.{◌≡◌, inl, inr, ℕ, ◌+◌, ◌-◌, ◌^◌, ◌<◌, ◌≤◌, ◌==◌, not, suc, Bool, true, false, Some, None, Option, List, length, take, refl, sym, subst, ap, ◌∙◌, arith}
 use Rattle.std.specs.Prelude.{slice_get, slice_index}
 use Rattle.std.specs.List.{Contains, filter, list_any, range_with_len}

@@ -1,5 +1,5 @@
--- What each event of a unit was: a command that the unit might make by what it knew of the engine's log, with an
--- outcome that the chunk allowed, after a stop only a stop that leaves nothing.
+-- What each event of a unit was: a command that the unit might make by what it knew of the engine's
+-- log, with an outcome that the chunk allowed, after a stop only a stop that leaves nothing.
 use Rattle.std.proofs.Common.{◌≡◌, ◌≢◌, ℕ, suc, true, false, Bool, nat_eq, Some, List, take, refl, sym, subst, ap, ◌∙◌}
 use Rattle.std.specs.Prelude.{slice_get}
 use Rattle.std.specs.List.{filter_map}

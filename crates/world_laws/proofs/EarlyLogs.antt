@@ -98,7 +98,8 @@ step_more i s w unit cs fit step author there past left =
 
 -- ---- the whole world
 
--- while no event of a prefix of a unit's log names a part of the engine's, the unit only reads and pads
+-- while no event of a prefix of a unit's log names a part of the engine's, the unit only reads and
+-- pads
 abbrev AreLeft : Image → List Chunk → List Logged → Type 0
 AreLeft i cs log = (n : ℕ) → ArePast (take n log) → IsLeft i cs (take n log)
 

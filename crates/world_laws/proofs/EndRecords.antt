@@ -1,5 +1,5 @@
--- The end record of an opened line, where it is whole: all stripes of the line stand, so no chunk of it is Open, and
--- the pairs are the marks of its data blocks.
+-- The end record of an opened line, where it is whole: all stripes of the line stand, so no chunk
+-- of it is Open, and the pairs are the marks of its data blocks.
 use Rattle.std.proofs.Common.{◌≡◌, ◌≢◌, ℕ, ◌+◌, ◌-◌, ◌*◌, ◌/◌, ◌%◌, ◌<◌, ◌≤◌, ◌⊎◌, inl, inr, zero, suc, true, None, Some, Option, List, [], ◌∷◌, ◌++◌, length, take, drop, replicate, sym, subst, ap, ap₂, ◌∙◌, arith, length-append, length-drop, length-take}
 use Rattle.std.specs.Prelude.{map, slice_get, slice_range}
 use Rattle.std.specs.List.{AllByRecursion, Contains, flat_map}

@@ -1,5 +1,5 @@
--- The mount's beginning: the engine's first event, at which no chunk was open. From there on a unit that
--- doesn't know of it only fetches.
+-- The mount's beginning: the engine's first event, at which no chunk was open. From there on a unit
+-- that doesn't know of it only fetches.
 use Rattle.std.proofs.Common.{◌≡◌, ◌≢◌, ℕ, ◌+◌, ◌-◌, ◌<◌, ◌≤◌, suc, zero, Some, None, List, [], ◌∷◌, length, take, refl, sym, subst, ap, ◌∙◌, arith}
 use Rattle.std.specs.Prelude.{slice_get, slice_index}
 use Rattle.std.specs.List.{AllByRecursion}

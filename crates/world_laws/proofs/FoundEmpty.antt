@@ -1,5 +1,6 @@
--- When a line is opened, each of its chunks is empty by what the engine was told: it was empty when the mount began,
--- and no program of it was told; or the engine was told of a reset of it, and of no program since.
+-- When a line is opened, each of its chunks is empty by what the engine was told: it was empty when
+-- the mount began, and no program of it was told; or the engine was told of a reset of it, and of
+-- no program since.
 use Rattle.std.proofs.Common.{◌≡◌, ℕ, ◌+◌, ◌<◌, ◌≤◌, ◌⊎◌, ◌==◌, ◌&&◌, suc, zero, nat_lt, not, Bool, true, false, Some, None, Option, List, [], ◌∷◌, length, take, refl, sym, ap, ap₂, ◌∙◌, arith, if◌then◌else◌}
 use Rattle.std.specs.Prelude.{slice_get, slice_index}
 use Rattle.std.specs.List.{filter_map, list_all}

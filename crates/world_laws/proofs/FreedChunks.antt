@@ -1,5 +1,5 @@
--- A chunk of a line by its last opening, though the line was freed since: its blocks are of that life's stripes,
--- and what a program that was done wrote stands in it until the chunk is emptied.
+-- A chunk of a line by its last opening, though the line was freed since: its blocks are of that
+-- life's stripes, and what a program that was done wrote stands in it until the chunk is emptied.
 use Rattle.std.proofs.Common.{◌≡◌, ℕ, ◌+◌, ◌-◌, ◌<◌, ◌≤◌, ◌⊎◌, inl, inr, suc, true, Some, List, length, refl, sym, ap, ◌∙◌, arith}
 use Rattle.std.specs.Prelude.{slice_get, slice_index}
 use Rattle.std.proofs.lemmas.Bool.{cases_lt}

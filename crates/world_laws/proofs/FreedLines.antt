@@ -1,4 +1,5 @@
--- A line that was opened in this mount and freed since has what it had just before it was freed, or less.
+-- A line that was opened in this mount and freed since has what it had just before it was freed, or
+-- less.
 use Rattle.std.proofs.Common.{◌≡◌, ℕ, suc, Some, List, length, refl, sym, ◌∙◌, arith}
 use Rattle.std.specs.List.{Contains}
 use Rattle.pblk_model.specs.Image.{Image, IsFit}

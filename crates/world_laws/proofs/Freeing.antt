@@ -1,5 +1,5 @@
--- When a line was freed: what the engine had been told then allowed it, and each stripe of the line was
--- answered.
+-- When a line was freed: what the engine had been told then allowed it, and each stripe of the line
+-- was answered.
 use Rattle.std.proofs.Common.{◌≡◌, inl, ℕ, ◌<◌, true, Some, List, take, sym, subst, ap, ◌∙◌}
 use Rattle.std.specs.Prelude.{slice_get}
 use Rattle.std.specs.List.{Contains}

@@ -1,5 +1,5 @@
--- What a sector holds by a history: the last entry of it that was taken, or what it held before. It is enough
--- that each copy with the mark of a sector holds what the sector then held.
+-- What a sector holds by a history: the last entry of it that was taken, or what it held before. It
+-- is enough that each copy with the mark of a sector holds what the sector then held.
 use Rattle.std.proofs.Common.{◌≡◌, ℕ, ◌+◌, ◌-◌, ◌<◌, ◌≤◌, ◌==◌, zero, suc, nat_lt, Bool, true, false, cond, Some, None, Option, List, [], ◌∷◌, ◌++◌, map, length, take, drop, refl, sym, subst, ap, ◌∙◌, arith, append-nil}
 use Rattle.std.specs.Prelude.{slice_get, slice_set}
 use Rattle.std.specs.List.{AllByRecursion, filter, last_or}
@@ -68,7 +68,8 @@ held_by before (Some t) = Some t.entry.sector
 abbrev pub held : List (List ℕ) → List Taken → ℕ → Option (List ℕ)
 held base ts lba = held_by (slice_get base lba) (last_or None (filter (λ t. t.mark.lba == lba) ts))
 
--- A user's entry has its sector's mark. A copy with the mark of a sector holds what the sector held.
+-- A user's entry has its sector's mark. A copy with the mark of a sector holds what the sector
+-- held.
 abbrev pub FollowsBy : List (List ℕ) → List Taken → Taken → Option Source → Type 0
 FollowsBy base ts t None = t.mark.lba ≡ t.entry.lba
 FollowsBy base ts t (Some source) = t.mark.lba < length base → held base ts t.mark.lba ≡ Some t.entry.sector

@@ -128,7 +128,8 @@ both_ways None None f g = refl
 both_ways None (Some y) f g = g y refl
 both_ways (Some x) p f g = sym (f x refl)
 
--- A start record that stands in one image stands in another that has the line's width and the record's blocks.
+-- A start record that stands in one image stands in another that has the line's width and the
+-- record's blocks.
 
 pub there : (blocks : List Block) (k n : ℕ) → length blocks ≡ n → k < n → (b : Block) × (slice_get blocks k ≡ Some b)
 there [] k n e h = absurd (omega arith)

@@ -1,5 +1,6 @@
--- Chunks of lines that aren't opened: nothing is programmed in them. A chunk of a line as it was found that is no
--- stray stays as it was; one of a stray, or of a line that was freed, stays or is emptied.
+-- Chunks of lines that aren't opened: nothing is programmed in them. A chunk of a line as it was
+-- found that is no stray stays as it was; one of a stray, or of a line that was freed, stays or is
+-- emptied.
 use Rattle.std.proofs.Common.{◌≡◌, ℕ, ◌+◌, ◌-◌, ◌<◌, ◌≤◌, ◌⊎◌, inl, inr, ◌==◌, suc, zero, nat_eq, Bool, true, false, None, Some, Option, List, [], length, take, refl, sym, subst, ap, ap₂, ◌∙◌, arith, if◌then◌else◌}
 use Rattle.std.specs.Prelude.{slice_get, slice_index}
 use Rattle.std.specs.List.{list_any}

@@ -1,4 +1,5 @@
--- What has landed is kept until it isn't needed: where a freed line's positions are, and where the latest entry of a sector stands.
+-- What has landed is kept until it isn't needed: where a freed line's positions are, and where the
+-- latest entry of a sector stands.
 use Rattle.std.proofs.Common.{◌≡◌, ◌≢◌, ◌⊎◌, inl, inr, ℕ, ◌<◌, ◌≤◌, true, refl, Some}
 use Rattle.std.specs.List.{Contains}
 use Rattle.pblk_model.specs.Contents.{counted, winner}
@@ -20,7 +21,8 @@ use Rattle.world_laws.proofs.Newest.{IsOlder, older_when_freed}
 use Rattle.world_laws.proofs.WinnerLines.{winner_stands}
 use Rattle.world_laws.proofs.LifePlaces.{have_places}
 
--- where the line of a stripe that has landed was freed since, the newest start record's front is above each position that the stripe holds
+-- where the line of a stripe that has landed was freed since, the newest start record's front is
+-- above each position that the stripe holds
 pub freed_below : (i : Image) (w : World) (o : Opening) (p : Placed) (position : ℕ) → IsLegalMount i w → Contains (openings (log_of w 0)) o
     → life_of (log_of w 0) o.line ≢ Opened o → Contains (stripes_of (log_of w 0) o) p → has_landed (log_of w 0) p ≡ true
     → holds_position i.shape position p ≡ true → (start : StartRecord) × (newest_start i (log_of w) ≡ Some start) × (position < start.front)
@@ -36,7 +38,8 @@ freed_below i w o p position mount opened closed there landed holds = go (standi
           freed_below_front i w o p position mount.legal (have_places i w mount.accepted mount.legal) freed there landed holds,
         )
 
--- the latest entry of a sector below the front synced is in a stripe that has landed, whose line wasn't freed since
+-- the latest entry of a sector below the front synced is in a stripe that has landed, whose line
+-- wasn't freed since
 pub latest_kept : (i : Image) (w : World) (t : Taken) → IsLegalMount i w → Contains (takes (log_of w 0)) t → t.mark.lba < i.shape.capacity
     → t.entry.position < synced i.shape (log_of w 0)
     → ((u : Taken) → Contains (takes (log_of w 0)) u → u.mark.lba ≡ t.mark.lba → u.entry.position < synced i.shape (log_of w 0)

@@ -1,4 +1,5 @@
--- A chunk as the engine knows it is the unit's chunk just after the last of its commands that the engine was told of.
+-- A chunk as the engine knows it is the unit's chunk just after the last of its commands that the
+-- engine was told of.
 use Rattle.std.proofs.Common.{◌≡◌, ◌≢◌, ℕ, ◌+◌, ◌-◌, ◌<◌, ◌≤◌, ◌⊎◌, inl, inr, suc, zero, nat_eq, Bool, true, false, Some, None, Option, List, length, refl, sym, subst, ap, ◌∙◌, arith}
 use Rattle.std.specs.Prelude.{slice_get, slice_index}
 use Rattle.std.specs.Option.{option_and_then}
@@ -95,8 +96,8 @@ module _ (i : Image) (w : World) (legal : IsLegal i w) (b : Begun) (begins : beg
     abbrev cs : List Chunk
     cs = after_log i.shape start_chunks (first_events (log_of w) unit (slice_index b.knows (suc unit)))
 
-    -- After k events of the engine the chunk is known as it is after n events of the unit. Of the chunk's commands that weren't stopped the
-    -- first k events name exactly those before the n-th.
+    -- After k events of the engine the chunk is known as it is after n events of the unit. Of the
+    -- chunk's commands that weren't stopped the first k events name exactly those before the n-th.
     pub record IsKnownTo (k n : ℕ) : Type 0 where
       pub from : slice_index b.knows (suc unit) ≤ n
       pub inside : n ≤ length (log_of w (suc unit))

@@ -1,5 +1,5 @@
--- A chunk that the engine knows as empty was so when the mount began, and no program of it was told since; or the
--- engine was told of a reset of it, and of no program since.
+-- A chunk that the engine knows as empty was so when the mount began, and no program of it was told
+-- since; or the engine was told of a reset of it, and of no program since.
 use Rattle.std.proofs.Common.{◌≡◌, ◌≢◌, ℕ, ◌+◌, ◌<◌, ◌≤◌, ◌⊎◌, inl, inr, ◌==◌, suc, zero, nat_eq, nat_lt, Bool, true, false, Some, None, Option, List, [], ◌∷◌, ◌++◌, length, take, refl, sym, subst, ap, ap₂, ◌∙◌, arith, if◌then◌else◌, append-nil}
 use Rattle.std.specs.Prelude.{slice_get}
 use Rattle.std.specs.List.{filter_map, list_all, enumerate_from}
@@ -55,7 +55,8 @@ module _ (i : Image) (w : World) (legal : IsLegal i w) (unit : ℕ) where
   abbrev log : List Logged
   log = log_of w 0
 
-  -- the event of this number is told by the engine's event of number q: a program that ended, or a reset that was done or failed
+  -- the event of this number is told by the engine's event of number q: a program that ended, or a
+  -- reset that was done or failed
   pub record IsTelling (q n : ℕ) (e : UnitEvent) : Type 0 where
     pub named : IsNamedAt i w legal unit q n
     pub logged : Logged

@@ -1,4 +1,5 @@
--- A chunk as the engine knows it is that of a prefix of its unit's log: the one just behind the last change that the engine was told of.
+-- A chunk as the engine knows it is that of a prefix of its unit's log: the one just behind the
+-- last change that the engine was told of.
 use Rattle.std.proofs.Common.{◌≡◌, ◌↔◌, ◌⊎◌, inl, inr, ℕ, ◌+◌, ◌<◌, ◌≤◌, suc, true, Some, List, length, take, sym, subst, ap, ◌∙◌, arith}
 use Rattle.std.specs.Prelude.{slice_get, slice_index}
 use Rattle.std.specs.List.{Contains}
@@ -52,7 +53,8 @@ module _ (i : Image) (w : World) (legal : IsLegal i w) (b : Begun) (begins : beg
         going = h.going;
       })
 
-  -- of two changes of a chunk the engine was told of the earlier one when the unit made the later one
+  -- of two changes of a chunk the engine was told of the earlier one when the unit made the later
+  -- one
   pub told_in_order : (n m : ℕ) (l : Logged) → slice_index b.knows (suc unit) ≤ n → n < m → IsChange (log_of w) line unit n
       → IsChange (log_of w) line unit m → slice_get (log_of w (suc unit)) m ≡ Some l → Contains (named_events (take (knows_engine l) (log_of w 0)) unit) n
   told_in_order n m l from below first second there =
@@ -65,7 +67,8 @@ module _ (i : Image) (w : World) (legal : IsLegal i w) (b : Begun) (begins : beg
       (get_taken (knows_engine second.logged) log h.at h.known ∙ h.named.there) h.named.names in
       subst (λ (x : Logged). Contains (named_events (take (knows_engine x) log) unit) n) same named
 
-  -- what is known is the chunk after some first events of the unit, and these are the ones whose changes of the chunk the engine was told of
+  -- what is known is the chunk after some first events of the unit, and these are the ones whose
+  -- changes of the chunk the engine was told of
   pub known_prefix : (c : Chunk) → chunk_in (known_image i (log_of w)) line unit ≡ Some c
       → (n : ℕ) × (slice_index b.knows (suc unit) ≤ n) × (n ≤ length (log_of w (suc unit))) × (chunk_after i (log_of w) line unit n ≡ Some c)
       × ((m : ℕ) → slice_index b.knows (suc unit) ≤ m → IsChange (log_of w) line unit m → (m < n) ↔ Contains (named_events (log_of w 0) unit) m)

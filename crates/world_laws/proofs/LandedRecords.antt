@@ -1,4 +1,5 @@
--- The records of stripes that had landed when their line was freed stand below the newest start record's front.
+-- The records of stripes that had landed when their line was freed stand below the newest start
+-- record's front.
 use Rattle.std.proofs.Common.{◌≡◌, ℕ, ◌+◌, ◌<◌, ◌==◌, Bool, true, Some, Option, List, length, take, drop, refl, sym, subst, ap, ◌∙◌, arith, length-take}
 use Rattle.std.specs.Prelude.{slice_get}
 use Rattle.std.specs.List.{Contains, find}
@@ -25,8 +26,8 @@ use Rattle.world_laws.proofs.Lives.{IsFreedLife}
 use Rattle.world_laws.proofs.Newest.{IsOlder, older_when_freed}
 use Rattle.world_laws.proofs.Stripes.{opening_then, placed_before_freed, stripe_is, stripe_of_prefix}
 
--- Each block of a stripe has an address in its line, by the image that the engine knows while the stripe's life
--- stands.
+-- Each block of a stripe has an address in its line, by the image that the engine knows while the
+-- stripe's life stands.
 unfoldable pub HavePlaces : Image → World → Type 0
 HavePlaces i w = (o : Opening) (p : Placed) (k index : ℕ) → Contains (stripes_of (log_of w 0) o) p → life_of (take k (log_of w 0)) o.line ≡ Opened o
     → p.number < k → index < length p.stripe.blocks
@@ -110,7 +111,8 @@ record_when_freed i w o p position legal places f there landed b =
       names = refl;
     }
 
--- each position of a stripe that has landed in a life that was freed is below the newest start record's front
+-- each position of a stripe that has landed in a life that was freed is below the newest start
+-- record's front
 pub freed_below_front : (i : Image) (w : World) (o : Opening) (p : Placed) (position : ℕ) (legal : IsLegal i w) → HavePlaces i w
     → (f : IsFreedLife (log_of w 0) o) → Contains (stripes_of (log_of w 0) o) p → has_landed (log_of w 0) p ≡ true → holds_position i.shape position p ≡ true
     → position < (older_when_freed i w o legal f).newest.front

@@ -1,5 +1,5 @@
--- What made a chunk hold something: it held it when the mount began, or a program put it there; and since then the
--- chunk was reset by nothing that did anything.
+-- What made a chunk hold something: it held it when the mount began, or a program put it there; and
+-- since then the chunk was reset by nothing that did anything.
 use Rattle.std.proofs.Common.{◌≡◌, ◌≢◌, ℕ, ◌+◌, ◌<◌, ◌≤◌, ◌⊎◌, inl, inr, suc, zero, nat_eq, Bool, true, false, Some, length, refl, sym, subst, ap, ap₂, ◌∙◌, arith}
 use Rattle.std.specs.Prelude.{slice_get}
 use Rattle.std.proofs.lemmas.Bool.{cases_lt, eqb-true, eqb-false}

@@ -1,5 +1,5 @@
--- Where the latest entry of a sector below the front synced stands: in a stripe that has landed, in a line
--- whose life is that stripe's.
+-- Where the latest entry of a sector below the front synced stands: in a stripe that has landed, in
+-- a line whose life is that stripe's.
 use Rattle.std.proofs.Common.{◌≡◌, ◌≢◌, ◌⊎◌, inl, inr, ℕ, ◌+◌, ◌<◌, ◌≤◌, ◌==◌, zero, suc, Bool, true, Some, Option, List, length, take, drop, refl, sym, subst, ap, ◌∙◌, arith, if◌then◌else◌}
 use Rattle.std.specs.Prelude.{slice_get}
 use Rattle.std.specs.List.{Contains}
@@ -124,7 +124,7 @@ record IsCandidate (i : Image) (w : World) (base position : ℕ) : Type 0 where
   holds : holds_position i.shape position p ≡ true
   life : life_of (take base (log_of w 0)) o.line ≡ Opened o
 
--- ---- the entry of a record that landed in a line, at a length of the log at which the line had that life
+-- ---- the entry of a record that landed, at a length of the log at which its line had that life
 
 landed_names : (i : Image) (logs : Logs) (o : Opening) (r : Record) (lba : ℕ) (landed : IsLandedRecord i logs o r) → r.lba ≡ Some lba
     → (named i.shape landed.block.mark ≡ Some (Some lba)) × (landed.block.mark.position ≡ r.position)
@@ -155,7 +155,8 @@ landed_entry i w k other lba o r accepted legal life sector landed =
       position = entry.1.position ∙ names.1;
     }
 
--- where a stripe's line was freed, an entry of the sector stands elsewhere then, with the same position
+-- where a stripe's line was freed, an entry of the sector stands elsewhere then, with the same
+-- position
 by_landed : (i : Image) (w : World) (lba k : ℕ) (t : Taken) (line other : ℕ) (l : Logged) (o : Opening) (r : Record) → IsAccepted i.shape → IsLegal i w
     → lba < i.shape.capacity → IsLatestBelow (log_of w 0) lba (synced i.shape (log_of w 0)) t
     → slice_get (log_of w 0) k ≡ Some l → l.event ≡ Decides (Free line) → other ≢ line → life_of (take k (log_of w 0)) other ≡ Opened o

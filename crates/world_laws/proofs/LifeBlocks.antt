@@ -1,5 +1,5 @@
--- Each written block of a chunk of an opened line is a block of a stripe of this life; and the blocks of a program
--- that was done stand there.
+-- Each written block of a chunk of an opened line is a block of a stripe of this life; and the
+-- blocks of a program that was done stand there.
 use Rattle.std.proofs.Common.{◌≡◌, ℕ, ◌+◌, ◌-◌, ◌<◌, ◌≤◌, ◌⊎◌, inl, inr, suc, zero, true, Some, List, [], ◌∷◌, ◌++◌, length, sym, subst, ap, ap₂, ◌∙◌, arith}
 use Rattle.std.specs.Prelude.{slice_get, slice_index}
 use Rattle.std.proofs.lemmas.Option.{same_Some}

@@ -1,4 +1,5 @@
--- Each block of a stripe of a line that is opened has an address in the line, by what the engine was told and on the media alike.
+-- Each block of a stripe of a line that is opened has an address in the line, by what the engine
+-- was told and on the media alike.
 use Rattle.std.proofs.Common.{◌≡◌, ℕ, ◌+◌, ◌%◌, ◌<◌, ◌≤◌, ◌⊎◌, inl, inr, suc, zero, Some, List, length, take, refl, sym, subst, ap, ◌∙◌, arith}
 use Rattle.std.specs.List.{Contains}
 use Rattle.std.proofs.lemmas.Bool.{cases_lt}

@@ -1,4 +1,5 @@
--- From the opening of a line on its units stay: by what the engine was told and on the media, no chunk of it goes Offline.
+-- From the opening of a line on its units stay: by what the engine was told and on the media, no
+-- chunk of it goes Offline.
 use Rattle.std.proofs.Common.{◌≡◌, ℕ, ◌+◌, ◌-◌, ◌<◌, ◌≤◌, ◌⊎◌, inl, inr, suc, zero, nat_eq, Bool, true, false, Some, None, Option, List, length, take, refl, sym, subst, ap, ap₂, ◌∙◌, arith}
 use Rattle.std.specs.Prelude.{slice_get, slice_index}
 use Rattle.std.specs.Option.{option_and_then, option_map}
@@ -178,7 +179,8 @@ module _ (i : Image) (w : World) (legal : IsLegal i w) (b : Begun) (begins : beg
                   let was = still_there i (log_of w) line unit (suc (n + d)) (n + d) c there in
                   absurd (none-some was.0 (sym now ∙ was.1))
 
-    -- as it was known at the opening, so it is at each later length of the engine's log, and on the media
+    -- as it was known at the opening, so it is at each later length of the engine's log, and on the
+    -- media
     pub online_told : (k : ℕ) → o.number ≤ k → k ≤ length log
         → is_on (told_chunk i.shape (log_of w) (after_log i.shape start_chunks (first_events (log_of w) unit (slice_index b.knows (suc unit)))) line unit k)
         ≡ is_on (chunk_after i (log_of w) line unit (length (log_of w (suc unit))))

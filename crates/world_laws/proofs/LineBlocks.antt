@@ -1,4 +1,5 @@
--- What stands at the addresses of a line: blocks of the stripes of its last opening, and those of each stripe that has landed.
+-- What stands at the addresses of a line: blocks of the stripes of its last opening, and those of
+-- each stripe that has landed.
 use Rattle.std.proofs.Common.{◌≡◌, ℕ, ◌+◌, ◌*◌, ◌/◌, ◌%◌, ◌<◌, ◌≤◌, ◌==◌, suc, true, false, Bool, Some, None, Option, List, length, take, refl, sym, subst, ap, ap₂, ◌∙◌, arith, if◌then◌else◌}
 use Rattle.std.specs.Prelude.{slice_get, slice_index}
 use Rattle.std.specs.List.{Contains}
@@ -83,8 +84,9 @@ pub record IsStripeBlock (log : List Logged) (o : Opening) (unit k : ℕ) (block
   pub place : k ≡ placed.stripe.at + index
   pub is_block : slice_get placed.stripe.blocks index ≡ Some block
 
--- On the media the line has the units and the width that it was opened with. What is written in it are blocks of this opening's stripes.
--- A chunk in which a block is written has the blocks of each stripe that has landed there.
+-- On the media the line has the units and the width that it was opened with. What is written in it
+-- are blocks of this opening's stripes. A chunk in which a block is written has the blocks of each
+-- stripe that has landed there.
 pub record IsLineOf (i : Image) (w : World) (o : Opening) : Type 0 where
   pub opened : Contains (openings (log_of w 0)) o
   pub blocks : (unit k : ℕ) (block : Block) → written_at (media i (log_of w)) o.line (unit, k) ≡ Some block → IsStripeBlock (log_of w 0) o unit k block

@@ -1,5 +1,5 @@
--- The records of a line that is opened: each is of an entry that was taken and stands in a stripe of the opening, and each entry in a stripe
--- that has landed has one.
+-- The records of a line that is opened: each is of an entry that was taken and stands in a stripe
+-- of the opening, and each entry in a stripe that has landed has one.
 use Rattle.std.proofs.Common.{◌≡◌, ℕ, ◌+◌, ◌-◌, ◌*◌, ◌/◌, ◌%◌, ◌<◌, ◌≤◌, ◌⊎◌, inl, inr, ◌==◌, nat_lt, Bool, true, false, Some, None, Option, List, length, take, drop, refl, sym, subst, ap, ◌∙◌, arith, if◌then◌else◌}
 use Rattle.std.specs.Prelude.{slice_get}
 use Rattle.std.specs.List.{Contains, range_with_len}

@@ -1,5 +1,5 @@
--- The start record of a line, by the stripes of its last opening: none but the opening's own is whole in it, and that one is once its stripes
--- have landed.
+-- The start record of a line, by the stripes of its last opening: none but the opening's own is
+-- whole in it, and that one is once its stripes have landed.
 use Rattle.std.proofs.Common.{◌≡◌, ℕ, ◌+◌, ◌-◌, ◌*◌, ◌/◌, ◌%◌, ◌^◌, ◌<◌, ◌≤◌, ◌⊎◌, inl, inr, nat_le, zero, suc, true, Some, None, Option, List, [], ◌∷◌, ◌++◌, length, take, drop, replicate, refl, sym, subst, ap, ◌∙◌, arith, length-drop}
 use Rattle.std.specs.Prelude.{slice_get, slice_range}
 use Rattle.std.specs.List.{AllByRecursion, Contains, flat_map}

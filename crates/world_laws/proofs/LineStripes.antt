@@ -1,4 +1,5 @@
--- The stripes of an opening in their order: what each is, how many came before it, and how many blocks it has.
+-- The stripes of an opening in their order: what each is, how many came before it, and how many
+-- blocks it has.
 use Rattle.std.proofs.Common.{◌≡◌, ℕ, ◌+◌, ◌-◌, ◌*◌, ◌/◌, ◌%◌, ◌<◌, ◌≤◌, ◌⊎◌, inl, inr, ◌==◌, nat_le, nat_lt, Bool, true, false, Some, List, [], ◌∷◌, ◌++◌, cond, length, take, drop, replicate, refl, sym, subst, ap, ◌∙◌, arith, length-append, length-take}
 use Rattle.std.specs.Prelude.{map, slice_get}
 use Rattle.std.specs.List.{AllByRecursion, Contains, filter, find, list_all}
@@ -99,7 +100,8 @@ module _ (log : List Logged) (o : Opening) (test : Placed → Bool) (k : ℕ) (p
       (all_imply (λ (q : Placed). length (take n log) ≤ q.number) (λ (q : Placed). p.number ≤ q.number) (λ q above. omega arith) split.more split.later))
       (ap (λ ps. slice_get ps k) (sym parts) ∙ there)
 
--- a stripe's place among those of its opening, or among those on its unit, is how many of them came before it
+-- a stripe's place among those of its opening, or among those on its unit, is how many of them came
+-- before it
 pub turn_on_unit : (log : List Logged) (o : Opening) (unit k : ℕ) (p : Placed) → slice_get (stripes_on log o unit) k ≡ Some p
     → length (stripes_on (take p.number log) o unit) ≡ k
 turn_on_unit log o unit k p there = turn_passing log o (λ q. q.stripe.unit == unit) k p there

@@ -1,5 +1,5 @@
--- What became of a line: it is opened while it isn't, and freed while it stands. A life has the number of
--- its opening.
+-- What became of a line: it is opened while it isn't, and freed while it stands. A life has the
+-- number of its opening.
 use Rattle.std.proofs.Common.{◌≡◌, ◌⊎◌, inl, inr, ℕ, ◌+◌, ◌<◌, ◌≤◌, ◌==◌, Bool, true, false, Some, Option, List, [], ◌∷◌, ◌++◌, length, take, refl, sym, subst, ap, ◌∙◌, arith, append-nil, append_assoc, length-append, if◌then◌else◌}
 use Rattle.std.specs.Prelude.{slice_get}
 use Rattle.std.specs.List.{AllByRecursion, Contains}

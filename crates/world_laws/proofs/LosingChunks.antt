@@ -1,4 +1,5 @@
--- Where nothing is programmed in a chunk any more, it stays as it is, or is Free or Offline in the end.
+-- Where nothing is programmed in a chunk any more, it stays as it is, or is Free or Offline in the
+-- end.
 use Rattle.std.proofs.Common.{◌≡◌, ℕ, ◌+◌, ◌-◌, ◌≤◌, ◌⊎◌, inl, inr, suc, Bool, true, false, None, Some, Option, List, [], ◌∷◌, length, refl, sym, subst, ap, ap₂, ◌∙◌, arith}
 use Rattle.std.proofs.lemmas.Option.{none-some, same_Some}
 use Rattle.pblk_model.specs.declared.chunk.ChunkState.{ChunkState}

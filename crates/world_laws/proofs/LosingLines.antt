@@ -1,5 +1,5 @@
--- A line of which chunks are emptied or go Offline: it has the start record that it had, or none, and no record
--- that it hadn't.
+-- A line of which chunks are emptied or go Offline: it has the start record that it had, or none,
+-- and no record that it hadn't.
 use Rattle.std.proofs.Common.{◌≡◌, ◌≢◌, ℕ, ◌+◌, ◌-◌, ◌*◌, ◌/◌, ◌%◌, ◌^◌, ◌<◌, ◌≤◌, ◌⊎◌, suc, inl, inr, nat_lt, Bool, true, false, cond, if◌then◌else◌, Option, Some, None, List, [], ◌∷◌, ◌++◌, map, length, take, refl, sym, ap, ◌∙◌, subst, arith}
 use Rattle.std.specs.List.{AllByRecursion, Contains, slice_get, filter, flat_map, enumerate_from, range_with_len}
 use Rattle.std.specs.Option.{option_and_then}
@@ -146,7 +146,8 @@ first_sector (x ∷ blocks) b bytes there all =
     subst (λ (y : Block). y.sector ≡ take (length y.sector) bytes) same
     (sym (take-append_seam x.sector (flat_map (λ (y : Block). y.sector) blocks)) ∙ ap (take (length x.sector)) all)
 
--- the first block of a start record begins one of a lesser width than any that is greater than its own
+-- the first block of a start record begins one of a lesser width than any that is greater than its
+-- own
 begins_narrower : (s : Shape) (l g h : ℕ) (r : StartRecord) (blocks : List Block) (b : Block) → IsAccepted s → start_fits s l g r ≡ true
     → 1 ≤ g → g < h → g < 2 ^ 32 → slice_get blocks 0 ≡ Some b
     → flat_map (λ (x : Block). x.sector) blocks ≡ start_bytes s r → b.mark ≡ meta_mark r.seq → length b.sector ≡ s.sector → BeginsNarrower h b

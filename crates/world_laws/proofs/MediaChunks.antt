@@ -1,4 +1,5 @@
--- A unit's chunk on the media, and on the media that the mount found, is what the unit's events left.
+-- A unit's chunk on the media, and on the media that the mount found, is what the unit's events
+-- left.
 use Rattle.std.proofs.Common.{◌≡◌, ℕ, suc, None, Some, Option, List, length, refl, sym, ap, ◌∙◌}
 use Rattle.std.specs.Prelude.{slice_get, slice_index}
 use Rattle.std.specs.List.{filter_map}

@@ -1,5 +1,5 @@
--- Each event of a legal world was allowed by the prefixes that it names. What it knows of another log was made
--- before it, and so knew no more of the event's own log than stood there.
+-- Each event of a legal world was allowed by the prefixes that it names. What it knows of another
+-- log was made before it, and so knew no more of the event's own log than stood there.
 use Rattle.std.proofs.Common.{◌≡◌, ℕ, ◌<◌, ◌≤◌, ◌+◌, Some, List, length, take, sym, subst, ap, ◌∙◌, arith, length-append}
 use Rattle.std.specs.Prelude.{slice_get}
 use Rattle.std.proofs.lemmas.List.{take-append-le}

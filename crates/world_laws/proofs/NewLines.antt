@@ -1,5 +1,6 @@
--- What a line has by its last opening, whether it was freed since or not: no start record but the opening's, and no
--- record but of an entry in one of the opening's stripes. While it is opened, what has landed there has its record.
+-- What a line has by its last opening, whether it was freed since or not: no start record but the
+-- opening's, and no record but of an entry in one of the opening's stripes. While it is opened,
+-- what has landed there has its record.
 use Rattle.std.proofs.Common.{◌≡◌, ℕ, ◌<◌, ◌≤◌, true, Some, List, length, take, refl, sym, subst, ap, ◌∙◌}
 use Rattle.std.specs.Prelude.{slice_get}
 use Rattle.std.specs.List.{Contains}

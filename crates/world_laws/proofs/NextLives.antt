@@ -1,4 +1,5 @@
--- The life of a line: it is opened by an event that found it empty, and stays opened until it is freed.
+-- The life of a line: it is opened by an event that found it empty, and stays opened until it is
+-- freed.
 use Rattle.std.proofs.Common.{◌≡◌, ℕ, ◌+◌, ◌<◌, ◌≤◌, ◌⊎◌, inl, inr, suc, zero, nat_eq, Bool, true, false, Some, List, length, take, refl, sym, subst, ap, ◌∙◌, arith, if◌then◌else◌}
 use Rattle.std.specs.Prelude.{slice_get}
 use Rattle.std.proofs.lemmas.Bool.{cases_lt, eqb-true}

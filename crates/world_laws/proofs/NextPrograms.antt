@@ -1,4 +1,5 @@
--- The program that comes next on a unit is taken by its chunk, unless the unit was stopped: the stripe stands at the chunk's pointer.
+-- The program that comes next on a unit is taken by its chunk, unless the unit was stopped: the
+-- stripe stands at the chunk's pointer.
 use Rattle.std.proofs.Common.{◌≡◌, ℕ, ◌+◌, ◌*◌, ◌/◌, ◌%◌, ◌<◌, ◌≤◌, ◌⊎◌, inl, inr, ◌==◌, ◌||◌, not, nat_lt, zero, suc, Bool, true, false, Some, None, Option, List, length, take, drop, refl, sym, subst, ap, ap₂, ◌∙◌, arith, if◌then◌else◌}
 use Rattle.std.specs.Prelude.{slice_get}
 use Rattle.std.specs.List.{Contains, filter, filter_map, list_any}

@@ -1,4 +1,5 @@
--- The units of a line are those whose chunks of it aren't Offline. What a program leaves is Offline only where it was before.
+-- The units of a line are those whose chunks of it aren't Offline. What a program leaves is Offline
+-- only where it was before.
 use Rattle.std.proofs.Common.{◌≡◌, ℕ, ◌+◌, ◌<◌, zero, suc, nat_lt, Bool, true, false, cond, Some, None, Option, List, [], ◌∷◌, length, refl, sym, ap₂, ◌∙◌, arith, if◌then◌else◌}
 use Rattle.std.specs.Prelude.{slice_get, map}
 use Rattle.std.specs.List.{filter, enumerate_from}

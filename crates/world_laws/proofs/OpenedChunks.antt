@@ -1,5 +1,5 @@
--- A chunk of an opened line, from the prefix on that its opening names: what stands there are blocks of this life's
--- stripes, and only programs of these change it.
+-- A chunk of an opened line, from the prefix on that its opening names: what stands there are
+-- blocks of this life's stripes, and only programs of these change it.
 use Rattle.std.proofs.Common.{◌≡◌, ℕ, ◌+◌, ◌-◌, ◌<◌, ◌≤◌, ◌⊎◌, inl, inr, suc, zero, nat_eq, Bool, true, false, Some, List, [], ◌++◌, length, take, refl, sym, subst, ap, ◌∙◌, arith, append-nil, append_assoc}
 use Rattle.std.specs.Prelude.{slice_get, slice_index}
 use Rattle.std.proofs.lemmas.Bool.{cases_lt, cases_order, eqb-true, eqb-false}

@@ -1,4 +1,5 @@
--- When a line is opened, each of its chunks is empty at the prefix of its unit's log that the opening names.
+-- When a line is opened, each of its chunks is empty at the prefix of its unit's log that the
+-- opening names.
 use Rattle.std.proofs.Common.{◌≡◌, ℕ, ◌<◌, ◌≤◌, ◌⊎◌, inl, inr, suc, Bool, true, false, Some, List, length, take, refl, sym, ap, ◌∙◌, arith}
 use Rattle.std.specs.Prelude.{slice_get, slice_index}
 use Rattle.std.proofs.lemmas.Bool.{cases_order}

@@ -1,5 +1,5 @@
--- Each opening and each stripe of a legal world was allowed by what the engine had been told when it made
--- them.
+-- Each opening and each stripe of a legal world was allowed by what the engine had been told when
+-- it made them.
 use Rattle.std.proofs.Common.{◌≡◌, ℕ, ◌+◌, zero, suc, Some, None, Option, List, [], ◌∷◌, length, take, refl, sym, subst, ap, ◌∙◌, arith}
 use Rattle.std.specs.Prelude.{slice_get}
 use Rattle.std.specs.List.{filter_map, cons_option, enumerate_from}

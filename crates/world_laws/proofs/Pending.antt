@@ -1,4 +1,5 @@
--- The line of a stripe whose program hasn't ended is opened, and is so since before the stripe was placed.
+-- The line of a stripe whose program hasn't ended is opened, and is so since before the stripe was
+-- placed.
 use Rattle.std.proofs.Common.{◌≡◌, ℕ, ◌+◌, ◌<◌, ◌≤◌, ◌⊎◌, inl, inr, suc, Some, List, length, take, sym, ap, ◌∙◌, arith}
 use Rattle.std.specs.Prelude.{slice_get}
 use Rattle.std.proofs.Math.Seq.{take-length}

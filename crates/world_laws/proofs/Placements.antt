@@ -1,4 +1,5 @@
--- The stripes that the engine's log places: where each stands. A longer log has them at the same places.
+-- The stripes that the engine's log places: where each stands. A longer log has them at the same
+-- places.
 use Rattle.std.proofs.Common.{◌≡◌, ℕ, ◌+◌, ◌<◌, ◌==◌, suc, zero, Bool, Some, List, [], ◌∷◌, length, take, drop, refl, sym, subst, ap, ◌∙◌, arith}
 use Rattle.std.specs.Prelude.{slice_get}
 use Rattle.std.specs.List.{filter, enumerate_from}

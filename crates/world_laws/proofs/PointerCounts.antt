@@ -1,4 +1,5 @@
--- While a unit isn't stopped and no program of a chunk failed, the chunk's pointer counts the stripes of its line there that have ended.
+-- While a unit isn't stopped and no program of a chunk failed, the chunk's pointer counts the
+-- stripes of its line there that have ended.
 use Rattle.std.proofs.Common.{◌≡◌, ℕ, ◌+◌, ◌*◌, ◌<◌, ◌≤◌, ◌⊎◌, inl, inr, ◌==◌, not, nat_lt, zero, suc, Bool, true, false, cond, Some, None, Option, List, [], ◌∷◌, length, take, refl, sym, subst, ap, ◌∙◌, arith}
 use Rattle.std.specs.Prelude.{slice_get, slice_index}
 use Rattle.std.specs.List.{Contains, filter}

@@ -1,5 +1,5 @@
--- A unit's programs, once it knows of the mount's beginning, are of the stripes that were placed on it, in
--- their order.
+-- A unit's programs, once it knows of the mount's beginning, are of the stripes that were placed on
+-- it, in their order.
 use Rattle.std.proofs.Common.{◌≡◌, ℕ, ◌<◌, ◌≤◌, suc, true, Some, None, Option, List, length, take, refl, sym, subst, ap, ap₂, ◌∙◌, arith}
 use Rattle.std.specs.Prelude.{slice_get}
 use Rattle.std.proofs.lemmas.List.{length-take-le}

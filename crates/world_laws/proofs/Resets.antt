@@ -1,5 +1,6 @@
--- What a reset of a chunk was: of a line that was given up by what the unit knew, and of a chunk that wasn't
--- empty, but for one that leaves nothing after a stop. An empty chunk stays where nothing is programmed.
+-- What a reset of a chunk was: of a line that was given up by what the unit knew, and of a chunk
+-- that wasn't empty, but for one that leaves nothing after a stop. An empty chunk stays where
+-- nothing is programmed.
 use Rattle.std.proofs.Common.{◌≡◌, ℕ, ◌+◌, ◌<◌, ◌≤◌, ◌⊎◌, inl, inr, ◌==◌, ◌&&◌, ◌||◌, suc, zero, nat_eq, Bool, true, false, Some, None, Option, List, [], ◌∷◌, length, take, refl, sym, ap, ◌∙◌, arith}
 use Rattle.std.specs.Prelude.{slice_get}
 use Rattle.std.specs.List.{list_any}

@@ -1,4 +1,5 @@
--- The media of a mount over a sealed image are sealed, whatever was opened, freed, stopped or failed.
+-- The media of a mount over a sealed image are sealed, whatever was opened, freed, stopped or
+-- failed.
 use Rattle.std.proofs.Common.{◌≡◌, ℕ, ◌<◌, Some, None, Option, length, refl, sym, ap}
 use Rattle.std.proofs.Math.Seq.{take-length}
 use Rattle.pblk_model.specs.Image.{Image}

@@ -1,4 +1,5 @@
--- What a sector holds by the history of a mount below a position: its latest entry there, copies included.
+-- What a sector holds by the history of a mount below a position: its latest entry there, copies
+-- included.
 use Rattle.std.proofs.Common.{◌≡◌, ℕ, ◌<◌, ◌≤◌, Some, None, Option, length, take, refl, arith}
 use Rattle.std.specs.Prelude.{slice_get}
 use Rattle.pblk_model.specs.Contents.{contents}

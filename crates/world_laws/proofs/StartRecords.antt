@@ -1,5 +1,5 @@
--- The start records of a mount: sequence numbers from the mount's first on, and fronts that rise up to the
--- front synced.
+-- The start records of a mount: sequence numbers from the mount's first on, and fronts that rise up
+-- to the front synced.
 use Rattle.std.proofs.Common.{◌≡◌, ◌⊎◌, inl, inr, ℕ, ◌+◌, ◌<◌, ◌≤◌, Some, List, ◌++◌, length, take, drop, sym, subst, ap, ◌∙◌, arith, length-append}
 use Rattle.std.specs.Prelude.{slice_get}
 use Rattle.std.specs.Option.{option_map_or}

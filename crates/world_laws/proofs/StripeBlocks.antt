@@ -1,5 +1,5 @@
--- The blocks of a stripe: parts of a start record or of an end record, or entries and what fills up a stripe.
--- None of them begins a start record of a lesser width than its line's.
+-- The blocks of a stripe: parts of a start record or of an end record, or entries and what fills up
+-- a stripe. None of them begins a start record of a lesser width than its line's.
 use Rattle.std.proofs.Common.{◌≡◌, ◌⊎◌, inl, inr, ℕ, ◌+◌, ◌-◌, ◌*◌, ◌^◌, ◌<◌, ◌≤◌, not, ◌&&◌, zero, suc, Some, None, Option, List, [], ◌∷◌, map, take, drop, replicate, refl, sym, subst, ap, ◌∙◌, arith}
 use Rattle.std.specs.Prelude.{slice_range}
 use Rattle.std.specs.List.{AllByRecursion, Contains, filter, flat_map}

@@ -1,5 +1,5 @@
--- The line of a stripe stays as it was when the stripe was placed, until it is freed; by then the stripe was
--- answered.
+-- The line of a stripe stays as it was when the stripe was placed, until it is freed; by then the
+-- stripe was answered.
 use Rattle.std.proofs.Common.{◌≡◌, ℕ, ◌+◌, ◌-◌, ◌<◌, ◌≤◌, ◌⊎◌, inl, inr, ◌==◌, true, Some, List, length, take, sym, subst, ap, ◌∙◌, arith}
 use Rattle.std.specs.Prelude.{slice_get}
 use Rattle.std.specs.List.{Contains}

@@ -112,7 +112,8 @@ opening_of_prefix log n o there =
           ∙ get_more (openings (take n log)) joined.0 at.0 o at.1,
     )
 
--- the opening of a life is one of the whole log, at a number below the length at which the line had that life
+-- the opening of a life is one of the whole log, at a number below the length at which the line had
+-- that life
 pub opening_then : (log : List Logged) (n line : ℕ) (o : Opening) → life_of (take n log) line ≡ Opened o
     → Contains (openings log) o × (o.line ≡ line) × (o.number < n)
 opening_then log n line o is =

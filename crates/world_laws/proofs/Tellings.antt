@@ -1,5 +1,5 @@
--- What the engine has named of a unit's events: each once, and of programs the k-th that ended as the answer to
--- the k-th stripe placed there.
+-- What the engine has named of a unit's events: each once, and of programs the k-th that ended as
+-- the answer to the k-th stripe placed there.
 use Rattle.std.proofs.Common.{◌≡◌, ℕ, ◌+◌, ◌<◌, ◌≤◌, ◌⊎◌, inl, inr, ◌==◌, suc, zero, nat_lt, nat_eq, not, Bool, true, false, cond, Some, None, Option, List, [], ◌∷◌, length, take, refl, sym, subst, ap, ap₂, ◌∙◌, arith, if◌then◌else◌, length-append}
 use Rattle.std.specs.Prelude.{slice_get, is_some}
 use Rattle.std.specs.List.{Contains, filter, filter_map, cons_option}

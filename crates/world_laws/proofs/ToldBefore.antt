@@ -1,6 +1,7 @@
--- Of two commands of a chunk that weren't stopped, programs or resets, the engine had named the earlier one when the
--- unit made the later one: a stripe is placed only where the one before it is answered, a line is freed only
--- where its stripes are answered, and opened only where its resets are told.
+-- Of two commands of a chunk that weren't stopped, programs or resets, the engine had named the
+-- earlier one when the unit made the later one: a stripe is placed only where the one before it is
+-- answered, a line is freed only where its stripes are answered, and opened only where its resets
+-- are told.
 use Rattle.std.proofs.Common.{◌≡◌, ℕ, ◌+◌, ◌-◌, ◌<◌, ◌≤◌, ◌⊎◌, inl, inr, suc, zero, Bool, true, false, Some, List, length, take, refl, sym, subst, ap, ◌∙◌, arith}
 use Rattle.std.specs.Prelude.{slice_get, slice_index}
 use Rattle.std.specs.Option.{option_and_then}
@@ -179,7 +180,8 @@ module _ (i : Image) (w : World) (legal : IsLegal i w) (b : Begun) (begins : beg
 
   -- ---- a reset, and a later program
 
-  -- a reset that knew of the opening of a later program's line would have come after the line was freed
+  -- a reset that knew of the opening of a later program's line would have come after the line was
+  -- freed
   late_reset : (n m : ℕ) (l x : Logged) (e f : UnitEvent) → n < m → IsCommandOf is_reset n l e → (q : IsProgram m x f)
       → q.placed.opening.number < knows_engine l → ⊥
   late_reset n m l x e f below first q knew = go (cases_lt q.stripe.placed.number (knows_engine l))
@@ -297,8 +299,8 @@ module _ (i : Image) (w : World) (legal : IsLegal i w) (b : Begun) (begins : beg
   pub names_later : (q n : ℕ) (l : Logged) → slice_get own n ≡ Some l → (at : IsNamedAt i w legal unit q n) → knows_engine l ≤ q
   names_later q n l there at = (was_made i w 0 q at.logged legal at.there).knew (suc unit) n l (named_known i w legal unit q n at) there
 
-  -- A chunk that the engine knew as empty holds something, by programs that were all named. Then the engine was
-  -- told of a reset that is still to come.
+  -- A chunk that the engine knew as empty holds something, by programs that were all named. Then
+  -- the engine was told of a reset that is still to come.
   module _ (n k : ℕ) (c : Chunk) (low : slice_index b.knows (suc unit) ≤ n) (inside : n ≤ length (log_of w (suc unit)))
       (there : chunk_after i (log_of w) line unit n ≡ Some c)
       (used : is_empty_state c.state ≡ false) (found : IsFoundChunk)

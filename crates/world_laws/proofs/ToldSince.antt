@@ -1,4 +1,5 @@
--- What the engine was told depends on the prefixes that its events name, and on nothing that a unit did since.
+-- What the engine was told depends on the prefixes that its events name, and on nothing that a unit
+-- did since.
 use Rattle.std.proofs.Common.{◌≡◌, ℕ, ◌<◌, ◌==◌, suc, Bool, true, false, Some, None, Option, List, length, take, refl, sym, subst, ap, ◌∙◌, arith, length-take, if◌then◌else◌}
 use Rattle.std.specs.Prelude.{slice_get, slice_index}
 use Rattle.std.specs.List.{Contains}

@@ -1,4 +1,5 @@
--- The order of the stripes of a unit: their numbers rise, and the turn of each is its place among them.
+-- The order of the stripes of a unit: their numbers rise, and the turn of each is its place among
+-- them.
 use Rattle.std.proofs.Common.{◌≡◌, ℕ, ◌+◌, ◌<◌, ◌≤◌, ◌⊎◌, inl, inr, ◌==◌, suc, zero, nat_lt, Bool, true, false, cond, Some, None, Option, List, [], ◌∷◌, ◌++◌, length, take, drop, refl, sym, subst, ap, ◌∙◌, arith, length-take}
 use Rattle.std.specs.Prelude.{slice_get, ⊤}
 use Rattle.std.specs.List.{AllByRecursion, filter, filter_map, cons_option, enumerate_from}

@@ -1,6 +1,6 @@
--- A line that this mount never opened. Nothing is programmed in it, so each chunk of it stays or is emptied: the
--- line has the start record and the records that it had, or fewer. Of a line as it was found that is no stray all
--- chunks stay, and a stray had no start record.
+-- A line that this mount never opened. Nothing is programmed in it, so each chunk of it stays or is
+-- emptied: the line has the start record and the records that it had, or fewer. Of a line as it was
+-- found that is no stray all chunks stay, and a stray had no start record.
 use Rattle.std.proofs.Common.{◌≡◌, ℕ, ◌+◌, ◌-◌, ◌<◌, ◌≤◌, ◌⊎◌, inl, inr, ◌==◌, suc, Bool, true, false, not, Some, None, Option, List, length, refl, sym, subst, ap, ◌∙◌, arith}
 use Rattle.std.specs.Prelude.{slice_get, slice_index}
 use Rattle.std.specs.List.{Contains, find, list_any, range_with_len}

@@ -1,5 +1,5 @@
--- Where no entry of a sector was taken below the front synced, the line of its winner in the image that was
--- found is as it was found.
+-- Where no entry of a sector was taken below the front synced, the line of its winner in the image
+-- that was found is as it was found.
 use Rattle.std.proofs.Common.{◌≡◌, ◌≢◌, ◌⊎◌, inl, inr, ℕ, ◌*◌, ◌<◌, ◌≤◌, ◌&&◌, not, nat_lt, zero, suc, Bool, true, false, Some, None, Option, List, [], ◌∷◌, ◌++◌, length, take, refl, sym, subst, ap, ◌∙◌, arith}
 use Rattle.std.specs.Prelude.{slice_get, ⊤}
 use Rattle.std.specs.List.{AllByRecursion, Contains, range_with_len}

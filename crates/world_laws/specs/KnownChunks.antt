@@ -5,7 +5,8 @@ use Rattle.pblk_world.specs.Events.{Logged}
 use Rattle.pblk_world.specs.World.{Logs, unit_event_of}
 use Rattle.pblk_world.specs.Commanding.{is_program, is_reset, was_stopped}
 
--- The event of this number is a program or a reset of the unit's chunk of a line, and it wasn't stopped.
+-- The event of this number is a program or a reset of the unit's chunk of a line, and it wasn't
+-- stopped.
 pub record IsChange (logs : Logs) (line unit number : ℕ) : Type 0 where
   pub logged : Logged
   pub there : slice_get (logs (suc unit)) number ≡ Some logged

@@ -1,5 +1,5 @@
--- The mounts that the laws are about: every legal one. What a law needs beyond that is a fact of the engine's
--- log.
+-- The mounts that the laws are about: every legal one. What a law needs beyond that is a fact of
+-- the engine's log.
 use Rattle.std.specs.Prelude.{◌≡◌, not, Bool, true, false, List}
 use Rattle.std.specs.List.{AllByRecursion}
 use Rattle.pblk_model.specs.Accepted.{IsAccepted}
@@ -9,7 +9,8 @@ use Rattle.pblk_world.specs.Fronts.{is_users}
 use Rattle.pblk_world.specs.World.{World}
 use Rattle.pblk_world.specs.Legal.{IsLegal}
 
--- A legal world over an image of an accepted shape. Units may fail and stop, the engine may copy and free.
+-- A legal world over an image of an accepted shape. Units may fail and stop, the engine may copy
+-- and free.
 pub record IsLegalMount (i : Image) (w : World) : Type 0 where
   pub accepted : IsAccepted i.shape
   pub fit : IsFit i

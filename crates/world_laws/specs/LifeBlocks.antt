@@ -7,8 +7,8 @@ use Rattle.pblk_world.specs.World.{Logs, unit_event_of}
 use Rattle.pblk_world.specs.EngineLog.{Opened, Opening, Placed, placed_on}
 use Rattle.pblk_world.specs.Commanding.{ended_stripes, is_program}
 
--- A block of a chunk at this place: it is that block of a stripe which was placed in this life of the line, and
--- whose program is among the first so many events of the unit.
+-- A block of a chunk at this place: it is that block of a stripe which was placed in this life of
+-- the line, and whose program is among the first so many events of the unit.
 pub record IsBlockOfLife (logs : Logs) (o : Opening) (line unit events at : ℕ) (block : Block) : Type 0 where
   pub number : ℕ
   pub before : number < events

@@ -6,8 +6,9 @@ use Rattle.pblk_world.specs.Events.{Logged}
 use Rattle.pblk_world.specs.World.{Logs, prefixes}
 use Rattle.pblk_world.specs.Lines.{found_image, told_by}
 
--- The engine's log is the same, and so are the image that the mount found and each event of a unit that the
--- engine's log names as landed, lost or reset. What a unit did beside these events may be anything.
+-- The engine's log is the same, and so are the image that the mount found and each event of a unit
+-- that the engine's log names as landed, lost or reset. What a unit did beside these events may be
+-- anything.
 pub record AreSameTold (i : Image) (logs other : Logs) : Type 0 where
   pub own : other 0 ≡ logs 0
   pub found : found_image i other ≡ found_image i logs

@@ -7,8 +7,8 @@ use Rattle.pblk_world.specs.World.{Logs, knows_engine}
 use Rattle.pblk_world.specs.EngineLog.{Placed, placed_on}
 use Rattle.pblk_world.specs.Commanding.{ended_stripes}
 
--- The event of this number is a program of a stripe that was placed on the unit: where k programs were done or
--- failed before it, of the k-th one placed there. The unit knew of the placing.
+-- The event of this number is a program of a stripe that was placed on the unit: where k programs
+-- were done or failed before it, of the k-th one placed there. The unit knew of the placing.
 pub record IsProgramOfStripe (logs : Logs) (unit number : ℕ) (l : Logged) (e : UnitEvent) : Type 0 where
   pub placed : Placed
   pub in_order : slice_get (placed_on (logs 0) unit) (ended_stripes (take number (logs (suc unit))))

@@ -33,10 +33,11 @@ ghost use Rattle.world_laws.specs.LifeBlocks.{IsBlockOfLife};
 ghost use Rattle.world_laws.specs.UnitChunks.{NoProgram, chunk_after};
 ghost use Rattle.world_laws.specs.UnitPrograms.{IsProgramOfStripe};
 
-/// Once a unit knows that the mount has begun, each of its programs is of a stripe that was placed on it and of
-/// which it knew: where k programs were done or failed before, of the k-th one. From the prefix of its log that
-/// the mount began with until it knows of the beginning, the unit only fetches. While the program of a stripe
-/// hasn't ended, its line is opened as it was when the stripe was placed.
+/// Once a unit knows that the mount has begun, each of its programs is of a stripe that was placed
+/// on it and of which it knew: where k programs were done or failed before, of the k-th one. From
+/// the prefix of its log that the mount began with until it knows of the beginning, the unit only
+/// fetches. While the program of a stripe hasn't ended, its line is opened as it was when the
+/// stripe was placed.
 pub fn a_units_programs_are_of_its_stripes()
     ensures programs { (i : Image) (w : World) (unit number : ℕ) (l : Logged) (e : UnitEvent)
         → IsLegal i w → slice_get (log_of w (suc unit)) number ≡ Some l
@@ -52,11 +53,11 @@ pub fn a_units_programs_are_of_its_stripes()
         → ended_stripes (log_of w (suc unit)) ≤ k → life_of (log_of w 0) p.stripe.line ≡ p.life }
 {}
 
-/// After an event of a unit that was stopped, all chunks of the unit stay. A chunk that is Free or Offline
-/// stays as it is while nothing is programmed in it, whatever becomes of other commands. Nothing is
-/// programmed in a line as the mount found it, nor in a line that was freed, from the prefixes on that the
-/// beginning and the freeing name. A chunk in which nothing is programmed stays, or is emptied. One of a line
-/// as the mount found it stays, unless the line is a stray.
+/// After an event of a unit that was stopped, all chunks of the unit stay. A chunk that is Free or
+/// Offline stays as it is while nothing is programmed in it, whatever becomes of other commands.
+/// Nothing is programmed in a line as the mount found it, nor in a line that was freed, from the
+/// prefixes on that the beginning and the freeing name. A chunk in which nothing is programmed
+/// stays, or is emptied. One of a line as the mount found it stays, unless the line is a stray.
 pub fn a_chunk_stays()
     ensures stopped { (i : Image) (w : World) (legal : IsLegal i w) (unit line number later : ℕ)
         (l : Logged) (e : UnitEvent) → slice_get (log_of w (suc unit)) number ≡ Some l
@@ -92,9 +93,9 @@ pub fn a_chunk_stays()
         ≡ chunk_after i (log_of w) line unit (slice_index b.knows (suc unit)) }
 {}
 
-/// A chunk of an opened line is empty at the prefix of its unit's log that the opening names. At each later
-/// prefix each of its blocks is that block of a stripe of this life, whose program is in the prefix. The
-/// blocks of a program that was done stand in it ever after.
+/// A chunk of an opened line is empty at the prefix of its unit's log that the opening names. At
+/// each later prefix each of its blocks is that block of a stripe of this life, whose program is in
+/// the prefix. The blocks of a program that was done stand in it ever after.
 pub fn an_opened_chunk_has_its_stripes()
     ensures empty { (i : Image) (w : World) (legal : IsLegal i w) (b : Begun)
         (begins : begun (log_of w 0) ≡ Some b) (unit line : ℕ) (o : Opening)
@@ -120,9 +121,9 @@ pub fn an_opened_chunk_has_its_stripes()
         → slice_get blocks index ≡ Some block → slice_get c.blocks (at + index) ≡ Some block }
 {}
 
-/// Let a line have been opened, and maybe freed since. From the prefix of its unit's log on that the last opening
-/// names, each block of a chunk of it is that block of a stripe of this opening. The blocks of a program that was
-/// done stand in the chunk until it is emptied.
+/// Let a line have been opened, and maybe freed since. From the prefix of its unit's log on that
+/// the last opening names, each block of a chunk of it is that block of a stripe of this opening.
+/// The blocks of a program that was done stand in the chunk until it is emptied.
 pub fn a_chunk_has_stripes_of_its_last_opening()
     ensures blocks { (i : Image) (w : World) (accepted : IsAccepted i.shape) (fit : IsFit i)
         (legal : IsLegal i w) (b : Begun) (begins : begun (log_of w 0) ≡ Some b)
@@ -144,8 +145,8 @@ pub fn a_chunk_has_stripes_of_its_last_opening()
         → (slice_get c.blocks (at + index) ≡ Some block) ⊎ (is_empty_state c.state ≡ true) }
 {}
 
-/// A line as the mount found it has on the media the start record and the records that it had. A line of an
-/// older mount that was freed has what it had, or less.
+/// A line as the mount found it has on the media the start record and the records that it had. A
+/// line of an older mount that was freed has what it had, or less.
 pub fn an_unopened_line_has_what_it_had()
     ensures start { (i : Image) (w : World) (mount : IsLegalMount i w) (b : Begun)
         (begins : begun (log_of w 0) ≡ Some b) (line : ℕ) (sealed : IsSealed i)
@@ -164,10 +165,10 @@ pub fn an_unopened_line_has_what_it_had()
         → Contains (line_records (found_image i (log_of w)) line) r)) }
 {}
 
-/// Let a stripe have landed. Where its line was freed since, the front of the newest start record that has
-/// landed is above each position that the stripe holds. The latest entry of a sector below the front synced is
-/// in a stripe that has landed, and the stripe's line wasn't freed since. Until an entry of the sector is below
-/// it, the line of the sector's winner is as the mount found it.
+/// Let a stripe have landed. Where its line was freed since, the front of the newest start record
+/// that has landed is above each position that the stripe holds. The latest entry of a sector below
+/// the front synced is in a stripe that has landed, and the stripe's line wasn't freed since. Until
+/// an entry of the sector is below it, the line of the sector's winner is as the mount found it.
 pub fn what_has_landed_is_kept_while_it_counts()
     ensures freed { (i : Image) (w : World) (o : Opening) (p : Placed) (position : ℕ)
         → IsLegalMount i w → Contains (openings (log_of w 0)) o
@@ -196,9 +197,9 @@ pub fn the_media_stay_sealed()
         → IsSealed (media i (log_of w)) }
 {}
 
-/// The history below a position leaves in each sector its latest entry below that position: the one with the
-/// greatest position whose mark is the sector's, a user's or a copy. A sector without one has what the image
-/// that the mount found holds there.
+/// The history below a position leaves in each sector its latest entry below that position: the one
+/// with the greatest position whose mark is the sector's, a user's or a copy. A sector without one
+/// has what the image that the mount found holds there.
 pub fn a_sector_holds_its_latest_entry()
     ensures latest { (i : Image) (w : World) (lba position : ℕ) (t : Taken) → IsLegalMount i w
         → lba < i.shape.capacity → Contains (takes (log_of w 0)) t → t.mark.lba ≡ lba
@@ -217,9 +218,9 @@ pub fn a_sector_holds_its_latest_entry()
         ≡ slice_get (contents (found_image i (log_of w))) lba }
 {}
 
-/// A line has no start record but that of its last opening, and no record but of entries in stripes of that
-/// opening. While it is opened, the start record stands once it has landed, and so does a record for each
-/// position of a stripe that has landed.
+/// A line has no start record but that of its last opening, and no record but of entries in stripes
+/// of that opening. While it is opened, the start record stands once it has landed, and so does a
+/// record for each position of a stripe that has landed.
 pub fn a_line_has_what_was_placed_in_it()
     ensures start { (i : Image) (w : World) (line : ℕ) (o : Opening) (r : StartRecord)
         → IsLegalMount i w → last_opening (life_of (log_of w 0) line) ≡ Some o
@@ -245,9 +246,10 @@ pub fn a_line_has_what_was_placed_in_it()
         × (r.position ≡ position) }
 {}
 
-/// An opened line has on the media the units that the engine knows, as many as its start record says, and each
-/// block of a stripe of the opening has an address there. The k-th stripe of an opening on a unit is at k times
-/// WS_OPT in the unit's chunk, a stripe of pads too, also where the line was freed since.
+/// An opened line has on the media the units that the engine knows, as many as its start record
+/// says, and each block of a stripe of the opening has an address there. The k-th stripe of an
+/// opening on a unit is at k times WS_OPT in the unit's chunk, a stripe of pads too, also where the
+/// line was freed since.
 pub fn a_stripe_has_its_place()
     ensures units { (i : Image) (w : World) (mount : IsLegalMount i w) (o : Opening)
         (is_open : life_of (log_of w 0) o.line ≡ Opened o)
@@ -266,9 +268,9 @@ pub fn a_stripe_has_its_place()
         → p.stripe.at ≡ k * i.shape.ws_opt }
 {}
 
-/// Of two changes of a chunk, programs or resets that weren't stopped, the engine was told of the earlier one
-/// when the unit made the later one. So a chunk as the engine knows it is what some first events of its unit
-/// left, those whose changes of the chunk the engine was told of.
+/// Of two changes of a chunk, programs or resets that weren't stopped, the engine was told of the
+/// earlier one when the unit made the later one. So a chunk as the engine knows it is what some
+/// first events of its unit left, those whose changes of the chunk the engine was told of.
 pub fn a_known_chunk_is_an_earlier_one()
     ensures order { (i : Image) (w : World) (legal : IsLegal i w) (b : Begun)
         (begins : begun (log_of w 0) ≡ Some b) (unit line number later : ℕ) (l : Logged)
@@ -286,10 +288,10 @@ pub fn a_known_chunk_is_an_earlier_one()
         → (number < n) ↔ Contains (named_events (log_of w 0) unit) number) }
 {}
 
-/// While no command of a unit was stopped, the program of the stripe that comes next there is taken by its
-/// chunk: the stripe stands at the chunk's pointer, and the chunk is Free or Open. Where moreover each program
-/// of a chunk was done since its line was opened, the pointer is WS_OPT times the number of the line's stripes
-/// there whose programs have ended.
+/// While no command of a unit was stopped, the program of the stripe that comes next there is taken
+/// by its chunk: the stripe stands at the chunk's pointer, and the chunk is Free or Open. Where
+/// moreover each program of a chunk was done since its line was opened, the pointer is WS_OPT times
+/// the number of the line's stripes there whose programs have ended.
 pub fn the_next_program_is_taken()
     ensures taken { (i : Image) (w : World) (unit : ℕ) (p : Placed) (c : Chunk) → IsLegalMount i w
         → slice_get (placed_on (log_of w 0) unit) (ended_stripes (log_of w (suc unit))) ≡ Some p

@@ -19,8 +19,8 @@ pub fn what_is_found_fits()
         → IsFitFound i.shape f }
 {}
 
-/// A mount may begin with what is found of the media, where no chunk of these is Open. The mount of a legal
-/// world began with what is found of the image that it found.
+/// A mount may begin with what is found of the media, where no chunk of these is Open. The mount of
+/// a legal world began with what is found of the image that it found.
 pub fn a_mount_begins_with_what_is_found()
     ensures may { (i : Image) (logs : Logs) (f : Found) → logs 0 ≡ [] → NoneOpen (media i logs)
         → IsFoundOf (media i logs) f → MayBegin i logs (beginning_of f) }

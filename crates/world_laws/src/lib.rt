@@ -1,30 +1,33 @@
 //! Laws of every legal mount, whatever stops, fails, is copied or is freed.
 //!
-//! - What is known of the logs is a legal world by itself. What the engine's tables hold depends on its log and
-//!   on the unit events that it names, and on nothing that a unit did since.
-//! - A line is opened with a start record that fits it, and no block that is written in it begins a narrower
-//!   one.
-//! - What a unit writes are the stripes that were placed on it, in their order. The next program of a unit is
-//!   taken, unless the unit was stopped.
-//! - A chunk as the engine knows it is what some first events of its unit left. A chunk stays as it is after a
-//!   stop, and where it is empty and nothing is programmed in it.
-//! - A chunk of an opened line has blocks of the stripes of this life alone, and those of each program that was
-//!   done. The stripes of an opening stand one behind another in each chunk, at the line's addresses.
-//! - A line that wasn't opened has the start record and the records that it had; one that was freed has these
-//!   or less. A line that was opened has no start record but its opening's, and no record but of entries that
-//!   were placed in it.
-//! - What has landed stays where it counts: a line is freed once its positions are below the newest start
-//!   record's front, and the latest entry of each sector below the front synced stands in a line that wasn't
-//!   freed.
-//! - A sector holds its latest entry, whether a user wrote it or it was copied. The media stay sealed.
-//! - Before it writes, a mount pads the Open chunks of an image, and resets the chunks of lines without a start
-//!   record. What padding, and the loss of such chunks, leave of a sealed image is sealed, and holds what it
-//!   held. The image that a mount finds holds it too, and so do the media until a unit knows that the mount has
-//!   begun.
-//! - Where chunks of any line are emptied or go Offline, the line has the start record that it had, or none,
-//!   and no record that it hadn't.
-//! - What recovery finds of an image fits the shape of the drive. A mount may begin with it where no chunk is
-//!   Open, and then begins with the end, the sequence number and the strays that were found.
+//! - What is known of the logs is a legal world by itself. What the engine's tables hold depends on
+//!   its log and on the unit events that it names, and on nothing that a unit did since.
+//! - A line is opened with a start record that fits it, and no block that is written in it begins a
+//!   narrower one.
+//! - What a unit writes are the stripes that were placed on it, in their order. The next program of
+//!   a unit is taken, unless the unit was stopped.
+//! - A chunk as the engine knows it is what some first events of its unit left. A chunk stays as it
+//!   is after a stop, and where it is empty and nothing is programmed in it.
+//! - A chunk of an opened line has blocks of the stripes of this life alone, and those of each
+//!   program that was done. The stripes of an opening stand one behind another in each chunk, at
+//!   the line's addresses.
+//! - A line that wasn't opened has the start record and the records that it had; one that was freed
+//!   has these or less. A line that was opened has no start record but its opening's, and no record
+//!   but of entries that were placed in it.
+//! - What has landed stays where it counts: a line is freed once its positions are below the newest
+//!   start record's front, and the latest entry of each sector below the front synced stands in a
+//!   line that wasn't freed.
+//! - A sector holds its latest entry, whether a user wrote it or it was copied. The media stay
+//!   sealed.
+//! - Before it writes, a mount pads the Open chunks of an image, and resets the chunks of lines
+//!   without a start record. What padding, and the loss of such chunks, leave of a sealed image is
+//!   sealed, and holds what it held. The image that a mount finds holds it too, and so do the media
+//!   until a unit knows that the mount has begun.
+//! - Where chunks of any line are emptied or go Offline, the line has the start record that it had,
+//!   or none, and no record that it hadn't.
+//! - What recovery finds of an image fits the shape of the drive. A mount may begin with it where
+//!   no chunk is Open, and then begins with the end, the sequence number and the strays that were
+//!   found.
 #![tactic(auto)]
 
 mod chunks;

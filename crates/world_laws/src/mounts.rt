@@ -21,11 +21,12 @@ ghost use Rattle.world_laws.specs.KnownCut.{cut, IsClosed};
 ghost use Rattle.world_laws.specs.LegalMounts.{IsLegalMount};
 ghost use Rattle.world_laws.specs.SameTold.{AreSameNamed, AreSameTold};
 
-/// Let a prefix of each log of a legal world be known, and let no event of these prefixes name more than
-/// is known. Then what is known is a legal world by itself, and its logs are these prefixes.
+/// Let a prefix of each log of a legal world be known, and let no event of these prefixes name more
+/// than is known. Then what is known is a legal world by itself, and its logs are these prefixes.
 ///
-/// A step of an author whose own log is known whole, and that names no more than is known, is legal after
-/// what is known exactly where it is legal after the whole. Here the events of the prefixes may name more.
+/// A step of an author whose own log is known whole, and that names no more than is known, is legal
+/// after what is known exactly where it is legal after the whole. Here the events of the prefixes
+/// may name more.
 pub fn what_is_known_is_a_legal_world()
     ensures legal { (i : Image) (w : World) (lengths : ℕ → ℕ) → IsLegal i w → IsClosed lengths w
         → IsLegal i (cut lengths w) }
@@ -37,13 +38,15 @@ pub fn what_is_known_is_a_legal_world()
         → IsLegalStep i (log_of (cut lengths w)) step ↔ IsLegalStep i (log_of w) step }
 {}
 
-/// What a target's tables hold depends on the engine's log, on the image that the mount found and on the unit
-/// events that this log names as landed, lost or reset (`AreSameTold`): so the image that the engine knows, the
-/// Free lines, sequence numbers and the newest start record, what is live in a line and what took from it,
-/// the victim, the room, and which openings and stripes are allowed.
+/// What a target's tables hold depends on the engine's log, on the image that the mount found and
+/// on the unit events that this log names as landed, lost or reset (`AreSameTold`): so the image
+/// that the engine knows, the Free lines, sequence numbers and the newest start record, what is
+/// live in a line and what took from it, the victim, the room, and which openings and stripes are
+/// allowed.
 ///
-/// In a legal world nothing of it depends on what a unit did beyond the prefixes that the engine's events name
-/// (clause `since`). What became of lines and stripes, fronts and entries are by the engine's log alone.
+/// In a legal world nothing of it depends on what a unit did beyond the prefixes that the engine's
+/// events name (clause `since`). What became of lines and stripes, fronts and entries are by the
+/// engine's log alone.
 pub fn tables_are_by_what_was_told()
     ensures since { (i : Image) (w : World) (other : Logs) → IsLegal i w
         → AreSameNamed (log_of w) other → AreSameTold i (log_of w) other }
@@ -72,8 +75,8 @@ pub fn tables_are_by_what_was_told()
         → MayPlace i logs stripe ↔ MayPlace i other stripe }
 {}
 
-/// Each line is opened with a start record that fits it, so that its spelling reads back as this record. The
-/// line is at most as wide as there are units.
+/// Each line is opened with a start record that fits it, so that its spelling reads back as this
+/// record. The line is at most as wide as there are units.
 pub fn a_line_is_opened_with_a_record_of_it()
     ensures fits { (i : Image) (w : World) (o : Opening) → IsLegalMount i w
         → Contains (openings (log_of w 0)) o
@@ -82,8 +85,9 @@ pub fn a_line_is_opened_with_a_record_of_it()
         → Contains (openings (log_of w 0)) o → o.start.width ≤ units i.shape }
 {}
 
-/// No block of a stripe looks like the first block of a start record of a width below that of its line's
-/// opening. So what a mount writes never becomes a start record when chunks of its line go Offline.
+/// No block of a stripe looks like the first block of a start record of a width below that of its
+/// line's opening. So what a mount writes never becomes a start record when chunks of its line go
+/// Offline.
 pub fn no_stripe_begins_a_narrower_line()
     ensures { (i : Image) (w : World) (p : Placed) (o : Opening) (width : ℕ) (b : Block)
         → IsLegalMount i w → Contains (placements (log_of w 0)) p → p.life ≡ Opened o

@@ -18,8 +18,9 @@ ghost use Rattle.world_laws.specs.Padding.{ArePadded};
 ghost use Rattle.world_laws.specs.SealedLines.{IsSealedLine};
 ghost use Rattle.world_laws.specs.EarlyLogs.{ArePrefixes, AreEarly};
 
-/// Before its units know that the mount has begun, and whatever became of their commands, the image is the one
-/// before with Pad blocks in some Open chunks. If that was sealed, the image is sealed and holds what it held.
+/// Before its units know that the mount has begun, and whatever became of their commands, the image
+/// is the one before with Pad blocks in some Open chunks. If that was sealed, the image is sealed
+/// and holds what it held.
 pub fn padding_keeps_the_contents()
     ensures padded { (i : Image) (w : World) (logs : Logs) → IsFit i → IsLegal i w
         → ArePrefixes w logs → AreEarly logs → ArePadded i (media i logs) }
@@ -35,8 +36,8 @@ pub fn padding_keeps_the_contents()
         → AreEarly (log_of w) }
 {}
 
-/// The image that a mount finds, by any prefixes of the logs, is the one before with Pad blocks in some Open
-/// chunks. If that was sealed, the found one is sealed and holds what it held.
+/// The image that a mount finds, by any prefixes of the logs, is the one before with Pad blocks in
+/// some Open chunks. If that was sealed, the found one is sealed and holds what it held.
 pub fn the_found_image_holds_the_same()
     ensures padded { (i : Image) (w : World) (logs : Logs) → IsFit i → IsLegal i w
         → ArePrefixes w logs → ArePadded i (found_image i logs) }
@@ -48,8 +49,8 @@ pub fn the_found_image_holds_the_same()
         → IsSealed i → IsLegal i w → ArePrefixes w logs → HoldsTheSame i (found_image i logs) }
 {}
 
-/// Where chunks of a line are emptied or go Offline, the line has the start record that it had, or none, and
-/// no record that it hadn't. What a sealed image says of the line holds still.
+/// Where chunks of a line are emptied or go Offline, the line has the start record that it had, or
+/// none, and no record that it hadn't. What a sealed image says of the line holds still.
 pub fn lost_chunks_add_nothing()
     ensures sealed { (i j : Image) (line : ℕ) → IsAccepted i.shape → IsFit i → IsSealedLine i line
         → LosesChunks i j line → IsSealedLine j line }
