@@ -13,7 +13,8 @@ ghost use Rattle.pblk_laws.specs.EndBlocks.{IsEndRecord, IsEndOf, AreEnd};
 
 /// The spelling of an end record is read as that record.
 pub fn end_spelled_is_read()
-    ensures { (s : Shape) (r : EndRecord) → IsEndRecord s r → read_end s r.line r.width r.seq (end_bytes s r) ≡ Some r }
+    ensures { (s : Shape) (r : EndRecord) → IsEndRecord s r
+        → read_end s r.line r.width r.seq (end_bytes s r) ≡ Some r }
 {}
 
 /// Bytes that are read as an end record are its one spelling, and it is one of the line.
@@ -41,6 +42,7 @@ pub fn written_end_is_found()
 
 /// The blocks at a line's end spell the end record that the line has.
 pub fn found_end_is_written()
-    ensures { (i : Image) (line : ℕ) (start : StartRecord) (r : EndRecord) → end_of i line start ≡ Some r
+    ensures { (i : Image) (line : ℕ) (start : StartRecord) (r : EndRecord)
+        → end_of i line start ≡ Some r
         → IsEndOf i line start r × (blocks : List Block) × AreEnd i line r blocks }
 {}

@@ -10,9 +10,12 @@ ghost use Rattle.pblk_laws.specs.LineBlocks.{chunk_in, written_at};
 /// The block at a line address is the written block at the place that the order of the line's units
 /// has there. Past the end of that order there is none.
 pub fn block_at_is()
-    ensures named { (i : Image) (line a : ℕ) (place : ℕ × ℕ) → 0 < i.shape.ws_opt → i.shape.clba % i.shape.ws_opt ≡ 0
-        → slice_get (line_order i.shape (line_units i line)) a ≡ Some place → block_at i line a ≡ written_at i line place }
-    ensures past { (i : Image) (line a : ℕ) → IsFit i → 0 < i.shape.ws_opt → i.shape.clba % i.shape.ws_opt ≡ 0
+    ensures named { (i : Image) (line a : ℕ) (place : ℕ × ℕ) → 0 < i.shape.ws_opt
+        → i.shape.clba % i.shape.ws_opt ≡ 0
+        → slice_get (line_order i.shape (line_units i line)) a ≡ Some place
+        → block_at i line a ≡ written_at i line place }
+    ensures past { (i : Image) (line a : ℕ) → IsFit i → 0 < i.shape.ws_opt
+        → i.shape.clba % i.shape.ws_opt ≡ 0
         → slice_get (line_order i.shape (line_units i line)) a ≡ None → block_at i line a ≡ None }
 {}
 
@@ -22,5 +25,6 @@ pub fn line_units_are()
     ensures rising { (i : Image) (line : ℕ) → IsStrictlyIncreasing (line_units i line) }
     ensures count { (i : Image) (line : ℕ) → length (line_units i line) ≡ width i line }
     ensures chunks { (i : Image) (line k : ℕ)
-        → slice_get (line_chunks i line) k ≡ option_and_then (chunk_in i line) (slice_get (line_units i line) k) }
+        → slice_get (line_chunks i line) k
+        ≡ option_and_then (chunk_in i line) (slice_get (line_units i line) k) }
 {}

@@ -37,6 +37,7 @@ pub fn an_opening_is_a_faultless_mount()
 pub fn an_unarmed_drive_loses_nothing()
     ensures pads { (s : Shape) (old new : List ModelUnit) (events : List EventAt) (unit event : ℕ)
         → AreUnarmed old → ¬ HasPadded s old new events (Err (errors.Drive unit event)) }
-    ensures fetches { (s : Shape) (old new : List ModelUnit) (events : List EventAt) (unit event : ℕ)
-        → AreUnarmed old → ¬ HasFetched s old new events (Some (errors.Drive unit event)) }
+    ensures fetches { (s : Shape) (old new : List ModelUnit) (events : List EventAt)
+        (unit event : ℕ) → AreUnarmed old
+        → ¬ HasFetched s old new events (Some (errors.Drive unit event)) }
 {}

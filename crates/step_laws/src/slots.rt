@@ -32,8 +32,8 @@ pub fn a_slot_has_the_latest_sector()
         → (t : Taken) × (last_take (log_of w 0) lba ≡ Some t) × (t.entry.position ≡ q)
         × (first_position (log_of w 0) ≤ q)
         × (slice_get (takes (log_of w 0)) (q - first_position (log_of w 0)) ≡ Some t)
-        × (slice_get (after_history (contents (found_image i (log_of w))) (history (log_of w 0))) lba
-        ≡ Some t.entry.sector) }
+        × (slice_get (after_history (contents (found_image i (log_of w)))
+        (history (log_of w 0))) lba ≡ Some t.entry.sector) }
     ensures media { (i : Image) (w : World) (lba line at q : ℕ) → IsSimpleMount i w
         → lba < i.shape.capacity → (is : IsBlockOfSlot i (log_of w) lba line at q)
         → slice_get (after_history (contents (found_image i (log_of w))) (history (log_of w 0))) lba
