@@ -22,7 +22,7 @@ abbrev pub is_on : ℕ → ℕ × List Chunk → Bool
 is_on line unit = option_map_or (λ (c : Chunk). is_online_in c.state) (slice_get unit.1 line) false
 
 -- the units from the nth on that have a chunk of the line, and their chunks
-pub units_of : ℕ → ℕ → List (List Chunk) → List ℕ
+unfoldable pub units_of : ℕ → ℕ → List (List Chunk) → List ℕ
 units_of line n units = map (λ (unit : ℕ × List Chunk). unit.0) (filter (is_on line) (enumerate_from n units))
 
 chunks_of : ℕ → List (List Chunk) → List Chunk
