@@ -1,5 +1,5 @@
-//! Tests of the tables on their public calls: the map, the lines, the window, the pool, and the placer
-//! beside the plain one.
+//! Tests of the tables on their public calls: the map, the lines, the victims, the window, the pool, and the
+//! placer beside the plain one.
 #![tactic(auto)]
 
 #[cfg(test)]
@@ -10,5 +10,7 @@ mod map;
 mod placer;
 #[cfg(test)]
 mod pool;
+#[cfg(test)]
+mod victim;
 #[cfg(test)]
 mod window;
