@@ -26,6 +26,7 @@ pub mod NotedEntries
 pub mod HeldPositions
 pub mod TakenHolds
 pub mod StandsTaken
+pub mod UnitRows
 pub mod SmallCalls
 pub mod SmallPositions
 pub mod FreedWindow

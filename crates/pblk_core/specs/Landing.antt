@@ -1,8 +1,8 @@
 -- A stripe that is under way or was stopped, and its entries as they land.
-use Rattle.std.specs.Prelude.{ℕ, ◌≡◌, if◌then◌else◌, true, List, slice_get, Some}
+use Rattle.std.specs.Prelude.{ℕ, ◌≡◌, ◌≢◌, if◌then◌else◌, true, List, slice_get, Some}
 use Rattle.std.specs.List.{fold}
 use Rattle.stripe_placer.specs.Placing.{Program}
-use Rattle.stripe_placer.specs.Placing.UnitRow.{UnderWay, Stopped}
+use Rattle.stripe_placer.specs.Placing.UnitRow.{Idle, UnderWay, Stopped}
 use Rattle.pblk_world.specs.Events.{Stripe, Logged}
 use Rattle.pblk_world.specs.EngineLog.{Placed}
 use Rattle.core_laws.specs.PlacerOf.{unanswered_on, was_stopped_on}
@@ -17,6 +17,18 @@ IsUnderWayOn c unit = (of : Program) × (slice_get c.placer.units unit ≡ Some 
 -- the program of the unit's stripe was stopped, and is offered again
 abbrev pub IsOfferedOn : Core → ℕ → Type 0
 IsOfferedOn c unit = (of : Program) × (slice_get c.placer.units unit ≡ Some (Stopped of))
+
+-- it has no stripe
+abbrev pub IsIdleOn : Core → ℕ → Type 0
+IsIdleOn c unit = slice_get c.placer.units unit ≡ Some Idle
+
+-- no program is under way
+abbrev pub IsResting : Core → Type 0
+IsResting c = (unit : ℕ) (of : Program) → slice_get c.placer.units unit ≢ Some (UnderWay of)
+
+-- no unit has another row than it had, but for this one
+abbrev pub AreKeptBeside : ℕ → Core → Core → Type 0
+AreKeptBeside unit old new = (other : ℕ) → other ≢ unit → slice_get new.placer.units other ≡ slice_get old.placer.units other
 
 -- The stripe was placed before and isn't answered. Its program was stopped since.
 pub record WasStopped (log : List Logged) (stripe : Stripe) : Type 0 where

@@ -59,6 +59,7 @@ impl Core {
             in StandsAfter self.old (Open start.line start) self.new }
         ensures window { self.new.window ≡ self.old.window }
         ensures pad { pad_of self.new ≡ pad_of self.old }
+        ensures rows { self.new.placer.units ≡ self.old.placer.units }
     {
         let line = match self.lines.least_free() {
             Some(line) => line,
@@ -91,6 +92,7 @@ impl Core {
             → Stands i (after (log_of w) (ResetDone unit event) knows) self.new }
         ensures window { self.new.window ≡ self.old.window }
         ensures pad { pad_of self.new ≡ pad_of self.old }
+        ensures rows { self.new.placer.units ≡ self.old.placer.units }
     {
         self.resets.advance();
         keep_unit(&mut self.live, line, unit, state);

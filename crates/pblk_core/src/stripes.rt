@@ -12,7 +12,7 @@ ghost use Rattle.world_laws.specs.LegalMounts.{IsLegalMount};
 ghost use Rattle.core_laws.specs.Stepping.{after};
 ghost use Rattle.stripe_placer.specs.Placing.{program, next_stripe};
 ghost use Rattle.stripe_placer.specs.Placing.UnitRow.{Idle, Stopped};
-ghost use Rattle.pblk_core.specs.Landing.{IsOfferedOn, IsUnderWayOn, WasStopped, all_landed};
+ghost use Rattle.pblk_core.specs.Landing.{AreKeptBeside, IsIdleOn, IsOfferedOn, IsUnderWayOn, WasStopped, all_landed};
 ghost use Rattle.pblk_core.specs.Named.{named, pad_of};
 ghost use Rattle.pblk_core.specs.Mounts.{InItsMount, StandsAfter};
 ghost use Rattle.pblk_core.specs.Stands.{Stands, IsStanding};
@@ -47,6 +47,7 @@ impl Core {
         ensures window { self.new.window ≡ self.old.window }
         ensures pad { pad_of self.new ≡ pad_of self.old }
         ensures under_way { IsUnderWayOn self.new into.new.stripe.unit }
+        ensures rows { AreKeptBeside into.new.stripe.unit self.old self.new }
         ensures shape { into.new.shape ≡ into.old.shape }
     {
         let of = match self.placer.next_stripe(0) {
@@ -72,6 +73,7 @@ impl Core {
         ensures window { self.new.window ≡ self.old.window }
         ensures pad { pad_of self.new ≡ pad_of self.old }
         ensures under_way { IsUnderWayOn self.new into.new.stripe.unit }
+        ensures rows { AreKeptBeside into.new.stripe.unit self.old self.new }
         ensures shape { into.new.shape ≡ into.old.shape }
     {
         self.placer.placed(of);
@@ -110,6 +112,7 @@ impl Core {
         ensures window { self.new.window ≡ self.old.window }
         ensures pad { pad_of self.new ≡ pad_of self.old }
         ensures under_way { IsUnderWayOn self.new into.new.stripe.unit }
+        ensures rows { AreKeptBeside into.new.stripe.unit self.old self.new }
         ensures shape { into.new.shape ≡ into.old.shape }
     {
         into.begin(of.line, of.unit, of.block, true);
@@ -138,6 +141,8 @@ impl Core {
             → view.AreOf r self.new.window.entries }
         ensures count { length self.new.window.entries ≡ length self.old.window.entries }
         ensures pad { pad_of self.new ≡ pad_of self.old }
+        ensures idle { IsIdleOn self.new stripe.now.stripe.unit }
+        ensures rows { AreKeptBeside stripe.now.stripe.unit self.old self.new }
     {
         let unit = stripe.unit();
         let of = match self.placer.under_way(unit) {
@@ -180,6 +185,7 @@ impl Core {
         ensures offered { IsOfferedOn self.new stripe.now.stripe.unit }
         ensures window { self.new.window ≡ self.old.window }
         ensures pad { pad_of self.new ≡ pad_of self.old }
+        ensures rows { AreKeptBeside stripe.now.stripe.unit self.old self.new }
     {
         let of = match self.placer.under_way(stripe.unit()) {
             Some(of) => of,

@@ -95,6 +95,7 @@ impl Core {
               ++ record { entry = entry; progress = Waiting } ∷ [];
         } }
         ensures pad { pad_of self.new ≡ pad_of self.old }
+        ensures rows { self.new.placer.units ≡ self.old.placer.units }
     {
         let position = entry.position;
         let lba = entry.lba;

@@ -23,6 +23,7 @@ ghost use Rattle.pblk_model.specs.LineOrder.{line_order};
 ghost use Rattle.pblk_model.specs.Frames.{count_out};
 ghost use Rattle.core_laws.specs.WindowOf.{users_below};
 ghost use Rattle.pblk_core.specs.Made.{IsMadeOn};
+ghost use Rattle.pblk_core.specs.Landing.{IsResting};
 ghost use Rattle.pblk_core.specs.Mounts.{InItsMount};
 ghost use Rattle.pblk_core.specs.Stands.{Stands};
 
@@ -83,6 +84,7 @@ impl Core {
             → IsFoundOf (found_image i (after (log_of w) (Begin (beginning_of found)) knows)) found
             → Stands i (after (log_of w) (Begin (beginning_of found)) knows) core) }
         ensures pad { IfOk result (λ core. pad_of core ≡ 0) }
+        ensures resting { IfOk result IsResting }
     {
         Core::made(alloc, shape, &found)
     }
@@ -137,6 +139,7 @@ impl Core {
         ensures stands { (i : Image) (logs : Logs)
             → Stands i logs self.old → Stands i logs self.new }
         ensures pad { pad_of self.new ≡ max (pad_of self.old) to }
+        ensures rows { self.new.placer.units ≡ self.old.placer.units }
         ensures window { self.new.window ≡ self.old.window }
     {
         self.placer.pad_to(to);
@@ -210,6 +213,7 @@ impl Core {
         ensures freed { OnSome result (self.new.window.freed ≡ self.old.window.freed + 1) }
         ensures entries { OnSome result (self.new.window.entries ≡ drop 1 self.old.window.entries) }
         ensures pad { pad_of self.new ≡ pad_of self.old }
+        ensures rows { self.new.placer.units ≡ self.old.placer.units }
         ensures unchanged { IfNone result (self.new ≡ self.old) }
     {
         self.window.pop_free()

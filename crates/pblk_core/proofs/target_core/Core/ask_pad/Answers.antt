@@ -1,5 +1,10 @@
 use Rattle.pblk_core.proofs.SmallCalls.{padded_stands}
+use Rattle.std.proofs.Common.{ap}
+use Rattle.stripe_placer.specs.Placing.{Placing}
 use Rattle.pblk_core.proofs.target_core.Core.ask_pad.Goals as goal
 
 pub returns-clause-stands : goal.returns-clause-stands
 returns-clause-stands c = λ i logs st. padded_stands i logs c.args.self.now c.pad_to.new.self c.args.to st c.pad_to.ensures
+
+pub returns-clause-rows : goal.returns-clause-rows
+returns-clause-rows c = ap (λ (p : Placing). p.units) c.pad_to.ensures

@@ -7,8 +7,8 @@ use Rattle.pblk_model.specs.Image.{Image}
 use Rattle.pblk_world.specs.World.{World, log_of}
 use Rattle.core_laws.specs.SimpleMounts.{IsSimpleMount}
 use Rattle.std.proofs.lemmas.Option.{same_Some}
-use Rattle.stripe_placer.specs.Placing.{Program, Placing, program}
-use Rattle.stripe_placer.specs.Placing.UnitRow.{UnderWay}
+use Rattle.stripe_placer.specs.Placing.{Program, Placing, program, landed as stripe_landed}
+use Rattle.stripe_placer.specs.Placing.UnitRow.{Idle, UnderWay}
 use Rattle.std.specs.List.{Contains}
 use Rattle.write_window.specs.Window.{WindowView, IsHeld, has_landed_at}
 use Rattle.core_laws.proofs.HistorySectors.{set_length}
@@ -39,6 +39,9 @@ use Rattle.pblk_core.proofs.LandedWay.{IsOnWay, line_of_way, unit_is}
 use Rattle.pblk_core.proofs.KeptFrames.{both_frames}
 use Rattle.pblk_core.proofs.StandsLanded.{IsLandedInto, landed_stands}
 use Rattle.pblk_core.proofs.target_core.Core.landed.Goals as goal
+use Rattle.std.proofs.lemmas.Option.{slice_get_within}
+use Rattle.lemmas.proofs.Parts.{get_set_same}
+use Rattle.pblk_core.proofs.UnitRows.{row_beside}
 use Rattle.pblk_core.proofs.target_core.Core.landed.Goals.{In-Some, After-positions-positions, After-get, After-land, After-get-then-land-eq0}
 
 pub under_way-requires : goal.under_way-requires
@@ -72,6 +75,14 @@ on_its_unit c =
 its_core : (c : In-Some) (i : Image) (w : World) → IsSimpleMount i w → Stands i (log_of w) c.args.self.now
     → IsOfCore i w c.args.self.now (unit_in c) (program_in c)
 its_core c i w simple st = of_core i w c.args.self.now (unit_in c) (program_in c) simple st (on_its_unit c)
+
+its_unit : (c : In-Some) → Program.unit (program_in c) ≡ unit_in c
+its_unit c =
+    let sd = c.requires.standing in
+    unit_is sd.image sd.world (unit_in c) (program_in c) (its_core c sd.image sd.world (its_simple sd) sd.stands).is
+
+here : (c : In-Some) → slice_get c.args.self.now.placer.units (Program.unit (program_in c)) ≡ Some (UnderWay (program_in c))
+here c = ap (slice_get c.args.self.now.placer.units) (its_unit c) ∙ on_its_unit c
 
 -- the positions of its entries
 its_positions : (c : After-positions-positions)
@@ -444,3 +455,35 @@ returns-else-land-eq0-clause-count c =
     let reads = reads_of c.get.result.now of.unit c.readable_range-from.result.0 c.readable_range-from.result.1 in
     let window = c.land_entries.ensures ∙ ap (all_landed c.args.self.now.window) told in
     (both_frames c.args.self.now.window _ _ of.positions reads window c.make_readable.ensures.window).count
+
+pub returns-then-land-eq0-clause-idle : goal.returns-then-land-eq0-clause-idle
+returns-then-land-eq0-clause-idle c =
+    let at = goal.at.returns-then-land-eq0-clause-idle c in
+    let of : Program = program_in at.In-Some in
+    let old : Placing = c.args.self.now.placer in
+    let inside : of.unit < length old.units = slice_get_within old.units of.unit (UnderWay of) (here at.In-Some) in
+    ap (λ (p : Placing). slice_get p.units c.args.stripe.now.stripe.unit) c.landed.ensures
+    ∙ ap (slice_get (Placing.units (stripe_landed old of))) (sym (its_unit at.In-Some))
+    ∙ get_set_same old.units of.unit Idle inside
+
+pub returns-then-land-eq0-clause-rows : goal.returns-then-land-eq0-clause-rows
+returns-then-land-eq0-clause-rows c = λ other apart.
+    let at = goal.at.returns-then-land-eq0-clause-rows c in
+    ap (λ (p : Placing). slice_get p.units other) c.landed.ensures
+    ∙ row_beside c.args.self.now.placer (program_in at.In-Some) Idle c.args.stripe.now.stripe.unit other (its_unit at.In-Some) apart
+
+pub returns-else-land-eq0-clause-idle : goal.returns-else-land-eq0-clause-idle
+returns-else-land-eq0-clause-idle c =
+    let at = goal.at.returns-else-land-eq0-clause-idle c in
+    let of : Program = program_in at.In-Some in
+    let old : Placing = c.args.self.now.placer in
+    let inside : of.unit < length old.units = slice_get_within old.units of.unit (UnderWay of) (here at.In-Some) in
+    ap (λ (p : Placing). slice_get p.units c.args.stripe.now.stripe.unit) c.landed.ensures
+    ∙ ap (slice_get (Placing.units (stripe_landed old of))) (sym (its_unit at.In-Some))
+    ∙ get_set_same old.units of.unit Idle inside
+
+pub returns-else-land-eq0-clause-rows : goal.returns-else-land-eq0-clause-rows
+returns-else-land-eq0-clause-rows c = λ other apart.
+    let at = goal.at.returns-else-land-eq0-clause-rows c in
+    ap (λ (p : Placing). slice_get p.units other) c.landed.ensures
+    ∙ row_beside c.args.self.now.placer (program_in at.In-Some) Idle c.args.stripe.now.stripe.unit other (its_unit at.In-Some) apart

@@ -12,7 +12,7 @@ use Rattle.pblk_world.specs.Lines.{known_image}
 use Rattle.pblk_layout.specs.Live.{units_in}
 use Rattle.line_table.specs.declared.row.LineState.TheVariants as states
 use Rattle.line_table.specs.Rows.{Changes, turned}
-use Rattle.stripe_placer.specs.Placing.{begun as line_begun}
+use Rattle.stripe_placer.specs.Placing.{Placing, begun as line_begun}
 use Rattle.core_laws.specs.OpenedLines.{open_lines}
 use Rattle.pblk_core.specs.Slots.{opened_slot}
 use Rattle.pblk_core.specs.Named.{next_line, next_start}
@@ -219,3 +219,6 @@ returns-clause-stands c = λ i w knows mount st. let simple = simple_in i w moun
       under_way = refl;
       users = refl;
     })
+
+pub returns-clause-rows : goal.returns-clause-rows
+returns-clause-rows c = ap (λ (p : Placing). p.units) c.begin-2.ensures

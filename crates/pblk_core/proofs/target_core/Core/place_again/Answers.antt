@@ -26,6 +26,7 @@ use Rattle.pblk_core.proofs.StoppedConditions.{IsStopped, end_again_within, few_
 use Rattle.pblk_core.proofs.StoppedStripe.{data_again, end_again, part, start_again}
 use Rattle.pblk_core.proofs.WaitingEntries.{sectors_sized}
 use Rattle.pblk_core.proofs.target_core.Core.place_again.Goals as goal
+use Rattle.pblk_core.proofs.UnitRows.{placed_beside}
 use Rattle.pblk_core.proofs.target_core.Core.place_again.Goals.{After-find-index, Joined-of, in-Start, in-Data, in-Pad, in-End}
 
 pub find-index-requires-clause-there : goal.find-index-requires-clause-there
@@ -279,3 +280,13 @@ returns-clause-under_way c =
       ap₂ (λ (p : Placing) u. slice_get p.units u) (the_rest at c.placed.new.self c.placed.ensures.placed).placer (ap (λ s. s.unit) same ∙ its.is.its_unit)
           ∙ placed_has c.args.self.now.placer (program_in at) inside,
     )
+
+pub returns-clause-rows : goal.returns-clause-rows
+returns-clause-rows c = λ other apart.
+    let all = goal.at.returns-clause-rows c in
+    let at = all.Joined-of in
+    let sd = c.requires.standing in
+    let its = its_stopped sd.image sd.world (core_in at) (program_in at) (its_simple sd) sd.stands c.requires.stopped in
+    let same = the_stripe at sd.image sd.world (its_simple sd) sd.stands its (found_slot all.After-find-index sd.image sd.world (its_simple sd) sd.stands its) in
+    ap (λ (p : Placing). slice_get p.units other) (the_rest at c.placed.new.self c.placed.ensures.placed).placer
+    ∙ placed_beside c.args.self.now.placer (program_in at) c.match-of.into.stripe.unit other (sym (ap (λ s. s.unit) same ∙ its.is.its_unit)) apart

@@ -29,6 +29,7 @@ use Rattle.pblk_core.proofs.WaitingEntries.{sectors_sized}
 use Rattle.pblk_core.proofs.PlacingConditions.{offer, IsFound, found, found_there, slot_is, in_the_window, few_entries, line_inside, live_room, marks_room, marks_told, end_from, end_within, left_room, placed_short, under_way_short, told_entries, unit_inside, start_stripe_is, end_stripe_is, data_stripe_is, stripe_of, IsSettledInto, settled_same, left_back, slot_there, no_positions, padded_is, told_marks}
 use Rattle.stripe_placer.proofs.PlacingLemmas.{placed_has, placed_shape}
 use Rattle.pblk_core.proofs.target_core.Core.place_new.Goals as goal
+use Rattle.pblk_core.proofs.UnitRows.{placed_beside}
 use Rattle.pblk_core.proofs.target_core.Core.place_new.Goals.{After-find-index, Joined-of, in-Start, in-Data, in-Pad, in-End}
 
 pub placed-requires : goal.placed-requires
@@ -388,3 +389,15 @@ returns-clause-first c =
       | in-Pad w ↦ ap (λ f. f.again) (w.into-is ∙ w.pad-in-Pad.ensures) ∙ begun
       | in-End w ↦ ap (λ f. f.again) (w.into-is ∙ w.end_stripe.ensures.filled f.has.slot there) ∙ begun
     ]
+
+pub returns-clause-rows : goal.returns-clause-rows
+returns-clause-rows c = λ other apart.
+    let all = goal.at.returns-clause-rows c in
+    let at = all.Joined-of in
+    let sd = c.requires.standing in
+    let f = its_line all.After-find-index sd.image sd.world (its_simple sd) sd.stands in
+    let rest = the_rest at sd.image sd.world (its_simple sd) sd.stands f in
+    let for : IsStripeFor sd.image (log_of sd.world) f.o (program_in at) c.match-of.into.stripe =
+    the_stripe at sd.image sd.world (its_simple sd) sd.stands f in
+    ap (λ (p : Placing). slice_get p.units other) rest.placer
+    ∙ placed_beside c.args.self.now.placer (program_in at) c.match-of.into.stripe.unit other (sym for.unit) apart

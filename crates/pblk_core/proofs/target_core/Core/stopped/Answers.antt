@@ -10,6 +10,7 @@ use Rattle.pblk_core.proofs.LandedWay.{unit_is}
 use Rattle.pblk_core.proofs.SimpleLogs.{its_simple, simple_in}
 use Rattle.pblk_core.proofs.StandsAgain.{stopped_stands}
 use Rattle.pblk_core.proofs.target_core.Core.stopped.Goals as goal
+use Rattle.pblk_core.proofs.UnitRows.{row_beside}
 use Rattle.pblk_core.proofs.target_core.Core.stopped.Goals.{In-Some}
 
 pub under_way-requires : goal.under_way-requires
@@ -75,3 +76,9 @@ returns-clause-offered c =
 
 pub returns-clause-pad : goal.returns-clause-pad
 returns-clause-pad c = ap (λ (p : Placing). p.entries.pad) c.stopped.ensures
+
+pub returns-clause-rows : goal.returns-clause-rows
+returns-clause-rows c = λ other apart.
+    let at = (goal.at.returns-clause-rows c).In-Some in
+    ap (λ (p : Placing). slice_get p.units other) c.stopped.ensures
+    ∙ row_beside c.args.self.now.placer (program_in at) (Stopped (program_in at)) c.args.stripe.now.stripe.unit other (its_unit at) apart

@@ -35,6 +35,7 @@ returns c = record {
   }) c.requires.next c.requires.room c.requires.user.0 c.requires.user.1 (subst (λ s. c.args.entry.lba < s.capacity) st.layout c.requires.lba);
   pushed = c.push.ensures.pushed;
   pad = ap (λ p. p.entries.pad) c.wait.ensures;
+  rows = ap (λ p. p.units) c.wait.ensures;
   legal = λ i w mount st block. let simple =
       simple_in i w mount st in may_take i w c.args.self.now c.args.entry st c.requires.next c.requires.position c.requires.user.1
       (subst (λ s. c.args.entry.lba < s.capacity) st.layout c.requires.lba) block;
