@@ -1,5 +1,6 @@
 mod Arming
 mod Befalls
+mod ByArms
 mod Changing
 mod Counted
 mod Disarming

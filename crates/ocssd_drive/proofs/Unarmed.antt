@@ -1,5 +1,5 @@
--- A unit that is armed with no plan and no fuse does each command.
-use Rattle.std.proofs.Common.{◌≡◌, ℕ, ◌+◌, Bool, true, false, Option, Ok, Err, Result, List, refl, sym, subst, ap₂, ◌∙◌}
+-- A unit that is armed with no plan and no fuse does each command, and one with no plan fails none.
+use Rattle.std.proofs.Common.{ap, ◌≡◌, ◌≢◌, ℕ, ◌+◌, Bool, true, false, Option, None, Some, Ok, Err, Result, List, [], refl, sym, subst, ap₂, ◌∙◌}
 use Rattle.std.specs.Prelude.{IsOk}
 use Rattle.std.specs.Option.{IsSome}
 use Rattle.pblk_model.specs.declared.shape.Shape.{Shape}
@@ -45,3 +45,42 @@ got_by s command fault out (Err errors.Failed) none by =
     let h : (answer : ChunkAnswer) × (Failed 0 ≡ Answered answer) = subst (λ f. IsOutcomeBy s command f (Failed 0)) none by in absurd cc
 got_by s command fault out (Err errors.Stopped) none by =
     let h : (answer : ChunkAnswer) × (Stopped 0 ≡ Answered answer) = subst (λ f. IsOutcomeBy s command f (Stopped 0)) none by in absurd cc
+
+-- ---- with no plan
+
+stops_or_nothing : (cut : Option ℕ) (fails : ℕ) → first_fault cut faults.Nothing ≢ faults.Fails fails
+stops_or_nothing None fails e = absurd cc
+stops_or_nothing (Some cut) fails e = absurd cc
+
+none_fails : (a : Armed) (since : List UnitEvent) (found : Bool) (kind : CommandKind) (cut : ℕ) → a.plans ≡ []
+    → fault_of a since found kind ≢ faults.Fails cut
+none_fails a since true kind cut none e = absurd cc
+none_fails a since false kind cut none e =
+    stops_or_nothing (fuse_cut a.fuse a.unit kind (changes_of since)) cut
+    (sym (ap (λ (plans : List FaultPlan). first_fault (fuse_cut a.fuse a.unit kind (changes_of since))
+    (plan_fault (planned plans a.unit kind (count_of kind since + 1)))) none) ∙ e)
+
+pub befalls_no_failure : (old : JournalView) (kind : CommandKind) (fault : Fault) (new : JournalView) → Finds old kind fault new
+    → old.armed.plans ≡ [] → (cut : ℕ) → fault ≢ faults.Fails cut
+befalls_no_failure old kind fault new finds none cut e =
+    none_fails old.armed (events_since old.armed old.log) (found_by new.seat) kind cut none (sym finds.is ∙ e)
+
+no_failure : (s : Shape) (command : ChunkCommand) (fault : Fault) (k : ℕ) → ((cut : ℕ) → fault ≢ faults.Fails cut)
+    → IsOutcomeBy s command fault (Failed k) → ⊥
+no_failure s command faults.Nothing k never by = let h : Failed k ≡ Answered by.0 = by.1 in absurd cc
+no_failure s command (faults.Fails cut) k never by = never cut refl
+no_failure s command (faults.Stops cut) k never by = absurd cc
+no_failure s command faults.Stopped k never by = absurd cc
+
+pub unfailing_by : {T : Type 0} (s : Shape) (command : ChunkCommand) (fault : Fault) (outcome : UnitOutcome) (r : Result T UnitErr)
+    → ((cut : ℕ) → fault ≢ faults.Fails cut) → IsOutcomeBy s command fault outcome → TellsDone r outcome → r ≢ Err errors.Failed
+unfailing_by s command fault outcome (Ok x) never by tells e = absurd cc
+unfailing_by s command fault outcome (Err errors.Failed) never by tells e =
+    no_failure s command fault tells.0 never (subst (λ (o : UnitOutcome). IsOutcomeBy s command fault o) tells.1 by)
+unfailing_by s command fault outcome (Err errors.Stopped) never by tells e = absurd cc
+
+pub unfailing_fetch : (s : Shape) (command : ChunkCommand) (fault : Fault) (out : List ℕ) (r : Result Got UnitErr)
+    → ((cut : ℕ) → fault ≢ faults.Fails cut) → IsOutcomeBy s command fault (fetch_outcome out r) → r ≢ Err errors.Failed
+unfailing_fetch s command fault out (Ok x) never by e = absurd cc
+unfailing_fetch s command fault out (Err errors.Failed) never by e = no_failure s command fault 0 never by
+unfailing_fetch s command fault out (Err errors.Stopped) never by e = absurd cc

@@ -6,6 +6,7 @@ pub mod Arming
 pub mod Shown
 pub mod Units
 pub mod Planned
+pub mod Outcomes
 pub mod UnitFields
 pub mod Fields
 pub mod Drive

@@ -4,6 +4,7 @@ use Rattle.std.specs.List.{AllByRecursion}
 use Rattle.pblk_model.specs.Accepted.{IsAccepted}
 use Rattle.ocssd_chunks.specs.DriveChunk.{DriveChunk}
 use Rattle.ocssd_drive.specs.Units.{WornUnit, IsChunkIn}
+use Rattle.ocssd_drive.specs.Outcomes.{IsByArms}
 use Rattle.ocssd_drive.specs.declared.memory_unit.MemoryUnit.TheInside.{Inside}
 
 abbrev pub worn_unit : Inside → WornUnit
@@ -19,3 +20,5 @@ pub record IsSound (u : Inside) : Type 0 where
   pub chunks : AllByRecursion (IsChunkIn u.shape) u.chunks.items
   pub worn : length u.wear.items ≡ u.shape.chunks
   pub worn_fits : AllByRecursion (λ w. w < 256) u.wear.items
+  -- each outcome since the unit was armed is by its arms
+  pub by_arms : IsByArms u.shape u.journal.armed u.journal.log

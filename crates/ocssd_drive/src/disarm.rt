@@ -3,7 +3,8 @@ ghost use Rattle.std.specs.Prelude.{ℕ, ◌≡◌, ◌<◌, length, map, slice_
 ghost use Rattle.std.specs.Option.{IsSome};
 ghost use Rattle.unit_port.specs.Unit.{IsStopped};
 ghost use Rattle.ocssd_drive.specs.Drive.{AreArmedTogether, FuseFell, KnowsMore};
-ghost use Rattle.ocssd_drive.specs.Journal.{IsCalm, SeatTells};
+ghost use Rattle.ocssd_drive.specs.Journal.{SeatTells};
+ghost use Rattle.ocssd_drive.specs.Outcomes.{GoesByArms};
 ghost use Rattle.ocssd_drive.specs.Faults.{fuse_is_at};
 ghost use Rattle.ocssd_drive.specs.Units.{WornUnit, disarmed};
 
@@ -16,8 +17,7 @@ pub(crate) fn disarm_units(units: &mut [MemoryUnit])
     ensures units { units.new ≡ map disarmed units.old }
     ensures stopped { (i : ℕ) (u : WornUnit) → slice_get units.old i ≡ Some u → IsStopped u.unit
         → FuseFell units.old u.unit.armed }
-    ensures calm { (i : ℕ) (u : WornUnit) → slice_get units.old i ≡ Some u
-        → IsCalm u.unit.armed u.unit.log }
+    ensures by_arms { (i : ℕ) (u : WornUnit) → slice_get units.old i ≡ Some u → GoesByArms u }
 {
     match fuse_unit(units) {
         Some(at) => disarm_fused(units, at),
@@ -38,8 +38,7 @@ fn fuse_unit(units: &[MemoryUnit]) -> Option<usize>
 // Disarms units without a fuse.
 fn disarm_plain(units: &mut [MemoryUnit])
     ensures units { units.new ≡ map disarmed units.old }
-    ensures calm { (i : ℕ) (u : WornUnit) → slice_get units.old i ≡ Some u
-        → IsCalm u.unit.armed u.unit.log }
+    ensures by_arms { (i : ℕ) (u : WornUnit) → slice_get units.old i ≡ Some u → GoesByArms u }
 {
     for unit in units {
         unit.disarm();
@@ -54,8 +53,7 @@ fn disarm_fused(units: &mut [MemoryUnit], at: usize)
     ensures units { units.new ≡ map disarmed units.old }
     ensures stopped { (i : ℕ) (u : WornUnit) → slice_get units.old i ≡ Some u → IsStopped u.unit
         → FuseFell units.old u.unit.armed }
-    ensures calm { (i : ℕ) (u : WornUnit) → slice_get units.old i ≡ Some u
-        → IsCalm u.unit.armed u.unit.log }
+    ensures by_arms { (i : ℕ) (u : WornUnit) → slice_get units.old i ≡ Some u → GoesByArms u }
 {
     let unit = &mut units[at];
     let Some(mut keeper) = unit.disarm() else {
@@ -76,7 +74,7 @@ fn join_unit(unit: &mut MemoryUnit, keeper: &mut StopSeat)
     requires fused { IsSome unit.old.unit.armed.fuse }
     requires other { fuse_is_at unit.old.unit.armed ≡ false }
     ensures unit { unit.new ≡ disarmed unit.old }
-    ensures calm { IsCalm unit.old.unit.armed unit.old.unit.log }
+    ensures by_arms { GoesByArms unit.old }
     ensures keeper { KnowsMore keeper.old keeper.new }
     ensures stopped { IsStopped unit.old.unit → keeper.new.view.found ≡ true }
 {

@@ -8,10 +8,12 @@ ghost use Rattle.pblk_model.specs.ImageFile.{blank_drive};
 ghost use Rattle.pblk_model.specs.Shape.{units};
 ghost use Rattle.ocssd_geometry.specs.Numbers.{IsGeometry, numbers_of};
 ghost use Rattle.atomic_table.specs.Seated.{TableId};
+ghost use Rattle.unit_port.specs.Armed.{events_since};
 ghost use Rattle.unit_port.specs.Unit.{IsStopped};
 ghost use Rattle.ocssd_drive.specs.Drive.{AreArmedTogether, FuseFell, HasWord, IsWhole, armed_units, fitting_fuse, new_drive, shape_of, stored, with_chunk_at, with_restored, with_units};
 ghost use Rattle.ocssd_drive.specs.Spelled.{RestoresDrive};
 ghost use Rattle.ocssd_drive.specs.Journal.{IsCalm};
+ghost use Rattle.ocssd_drive.specs.Outcomes.{AreEventsBy};
 ghost use Rattle.ocssd_drive.specs.Units.{WornUnit, IsUnitOf, disarmed, new_unit, worn_chunk};
 
 use crate::arm::{fitting, install, make_armings};
@@ -207,7 +209,8 @@ impl Drive {
     /// that were taken out of the drive must come back to their places.
     ///
     /// A unit was stopped since they were armed only where the fuse's unit had its nth program or reset
-    /// since. Without plans no command had failed, and without a fuse none was stopped.
+    /// since. Each outcome since is by the plans and the fuse, and by whether the command found
+    /// the stop word set. Without plans no command had failed, and without a fuse none was stopped.
     pub fn disarm(&mut self)
         requires { AreArmedTogether self.old.units }
         ensures units { self.new ≡ with_units (map disarmed self.old.units) self.old }
@@ -215,6 +218,9 @@ impl Drive {
             → IsStopped u.unit → FuseFell self.old.units u.unit.armed }
         ensures calm { (i : ℕ) (u : WornUnit) → slice_get self.old.units i ≡ Some u
             → IsCalm u.unit.armed u.unit.log }
+        ensures outcomes { (i : ℕ) (u : WornUnit) → slice_get self.old.units i ≡ Some u
+            → let since = events_since u.unit.armed u.unit.log in
+            AreEventsBy u.unit.shape u.unit.armed since }
         ensures whole { IsWhole self.new }
     {
         disarm_units(&mut self.units);

@@ -1,11 +1,12 @@
 //! A parallel unit in memory.
-ghost use Rattle.std.specs.Prelude.{◌≡◌, ◌*◌, ◌%◌, ◌/◌, ◌-◌, ◌^◌, ◌<◌, ◌+◌, ◌≤◌, ◌↔◌, IsTrue, IsNone, IfSome, length, min, replicate, slice_get, slice_set, IfOk, IsOk, Some, None};
+ghost use Rattle.std.specs.Prelude.{◌≡◌, ◌*◌, ◌%◌, ◌/◌, ◌-◌, ◌^◌, ◌<◌, ◌+◌, ◌≤◌, ◌↔◌, IsTrue, IsNone, IfSome, length, min, replicate, slice_get, slice_set, IfOk, IsOk, Some, None, [], ◌≢◌, Err};
 ghost use Rattle.pblk_model.specs.Accepted.{IsAccepted};
 ghost use Rattle.pblk_model.specs.Blocks.{blocks_of};
 ghost use Rattle.pblk_model.specs.Chunk.{IsChunk, PointerFits, free_chunk, pointer};
 ghost use Rattle.pblk_model.specs.ChunkStep.{Write, Read, Reset};
 ghost use Rattle.unit_port.specs.Armed.{IsUnarmed};
 ghost use Rattle.unit_port.specs.Unit.{IsChunkOf, IsFitUnit, IsReady, Takes, TellsBlock, TellsDone, DidProgram, DidFetch, DidReset};
+ghost use Rattle.ocssd_drive.specs.Outcomes.{GoesByArms};
 ghost use Rattle.ocssd_drive.specs.Planned.{IsPlanned};
 ghost use Rattle.ocssd_drive.specs.Units.{WornUnit, new_unit, with_arms, with_stored, worn_chunk, disarmed, IsChunkIn, IsUnitOf, IsWrite, TakesUnder, MeetsFault};
 ghost use Rattle.ocssd_drive.specs.Shown.{outcome_of, fetch_outcome};
@@ -247,7 +248,7 @@ impl MemoryUnit {
     /// Takes plans and fuse away, and gives the seat at the stop word.
     pub(crate) fn disarm(&mut self) -> Option<StopSeat>
         ensures unit { self.new ≡ disarmed self.old }
-        ensures calm { IsCalm self.old.unit.armed self.old.unit.log }
+        ensures by_arms { GoesByArms self.old }
         ensures seat { SeatTells self.old.unit.armed self.old.unit.log result }
     {
         self.journal.disarm()
@@ -272,6 +273,7 @@ impl Unit for MemoryUnit {
         ensures fits { IsFitUnit self.new.unit }
         ensures wear { self.new.wear ≡ self.old.wear }
         ensures quiet { IsUnarmed self.old.unit.armed → IsOk result }
+        ensures unfailing { self.old.unit.armed.plans ≡ [] → result ≢ Err UnitErr.Failed }
     {
         are_blocks(&self.shape, bytes, marks);
         let fault = self.journal.fault(CommandKind::Program);
@@ -301,6 +303,7 @@ impl Unit for MemoryUnit {
         ensures fits { IsFitUnit self.new.unit }
         ensures wear { self.new.wear ≡ self.old.wear }
         ensures quiet { IsUnarmed self.old.unit.armed → IsOk result }
+        ensures unfailing { self.old.unit.armed.plans ≡ [] → result ≢ Err UnitErr.Failed }
     {
         let fault = self.journal.fault(CommandKind::Fetch);
         let found = &self.chunks[chunk as usize];
@@ -325,6 +328,7 @@ impl Unit for MemoryUnit {
         ensures fits { IsFitUnit self.new.unit }
         ensures wear { self.new.wear ≡ self.old.wear }
         ensures quiet { IsUnarmed self.old.unit.armed → IsOk result }
+        ensures unfailing { self.old.unit.armed.plans ≡ [] → result ≢ Err UnitErr.Failed }
     {
         let fault = self.journal.fault(CommandKind::Reset);
         let found = &mut self.chunks[chunk as usize];

@@ -1,5 +1,5 @@
 //! A parallel unit of a drive, as the layers above command it.
-ghost use Rattle.std.specs.Prelude.{ℕ, List, ◌≡◌, ◌*◌, ◌-◌, ◌^◌, ◌<◌, length, min, true, IsOk};
+ghost use Rattle.std.specs.Prelude.{ℕ, List, [], ◌≡◌, ◌≢◌, ◌*◌, ◌-◌, ◌^◌, ◌<◌, length, min, true, IsOk, Err};
 ghost use Rattle.pblk_model.specs.Blocks.{blocks_of};
 ghost use Rattle.pblk_model.specs.Chunk.{pointer};
 ghost use Rattle.pblk_model.specs.ChunkStep.{Write, Read, Reset};
@@ -26,8 +26,8 @@ pub enum UnitErr {
 /// Each program, fetch and reset adds one event to the unit's log, and leaves the chunks as that event
 /// says. A unit is stopped from its first `Stopped` answer until it is disarmed or armed anew. A stopped
 /// unit answers `Stopped` to every command, and changes nothing but its log. After `Failed` or `Stopped`
-/// the log's last event says what the command had landed. A unit that is armed with no plan and no fuse
-/// fails no command and stops at none.
+/// the log's last event says what the command had landed. A unit that is armed with no plan fails no
+/// command, and one that is armed with no fuse either stops at none.
 pub trait Unit {
     /// The shape of the unit's drive, its chunks, its log, and what it was armed with.
     ghost model: { Self → ModelUnit };
@@ -51,7 +51,8 @@ pub trait Unit {
             (model self.new) }
         ensures fits { IsFitUnit (model self.old) → IsFitUnit (model self.new) }
         ensures wear { wear self.new ≡ wear self.old }
-        ensures quiet { IsUnarmed (model self.old).armed → IsOk result };
+        ensures quiet { IsUnarmed (model self.old).armed → IsOk result }
+        ensures unfailing { (model self.old).armed.plans ≡ [] → result ≢ Err UnitErr.Failed };
 
     /// Copies the sector of a block to `out`, which has the length of a sector, and gives its mark, or
     /// `Empty` exactly where the block isn't readable. Where no sector is given `out` is as before.
@@ -64,7 +65,8 @@ pub trait Unit {
             (model self.new) }
         ensures fits { IsFitUnit (model self.old) → IsFitUnit (model self.new) }
         ensures wear { wear self.new ≡ wear self.old }
-        ensures quiet { IsUnarmed (model self.old).armed → IsOk result };
+        ensures quiet { IsUnarmed (model self.old).armed → IsOk result }
+        ensures unfailing { (model self.old).armed.plans ≡ [] → result ≢ Err UnitErr.Failed };
 
     /// Takes all blocks of a chunk away, and leaves it Free, or Offline where it was closed before its end.
     ///
@@ -75,7 +77,8 @@ pub trait Unit {
         ensures event { DidReset (model self.old) chunk result (model self.new) }
         ensures fits { IsFitUnit (model self.old) → IsFitUnit (model self.new) }
         ensures wear { wear self.new ≡ wear self.old }
-        ensures quiet { IsUnarmed (model self.old).armed → IsOk result };
+        ensures quiet { IsUnarmed (model self.old).armed → IsOk result }
+        ensures unfailing { (model self.old).armed.plans ≡ [] → result ≢ Err UnitErr.Failed };
 
     /// The state of a chunk of the unit, and its write pointer, from 0 to CLBA. It isn't logged.
     fn state(&self, chunk: u32) -> (ChunkState, u32)

@@ -1,6 +1,8 @@
-use Rattle.std.proofs.Common.{◌≡◌, refl, sym, ap, ◌∙◌, length, arith}
+use Rattle.std.proofs.Common.{◌≡◌, [], refl, sym, ap, ◌∙◌, length, arith}
 use Rattle.ocssd_chunks.specs.DriveChunk.{DriveChunk}
 use Rattle.std.proofs.lemmas.List.{length-map, length-replicate}
+use Rattle.unit_port.specs.Armed.{unarmed}
+use Rattle.ocssd_drive.proofs.ByArms.{armed_now}
 use Rattle.ocssd_drive.proofs.UnitChunks.{chunks_of, one_more_free, one_more_in, one_more_same, unit_of, zeros_all}
 use Rattle.ocssd_drive.proofs.memory_unit.MemoryUnit.new.Goals as goal
 
@@ -13,6 +15,7 @@ invariant_of-result c =
       chunks = c.loop-chunk.invariant.chunks;
       worn = ap length c.loop-chunk.invariant.worn ∙ length-replicate c.loop-chunk._chunk 0 ∙ n;
       worn_fits = rw c.loop-chunk.invariant.worn (zeros_all c.loop-chunk._chunk);
+      by_arms = rw c.in_ok-journal.ensures (armed_now c.args.shape.now (unarmed 0) [] refl);
     }
 
 pub returns-clause-new : goal.returns-clause-new

@@ -34,6 +34,7 @@ invariant_of-self c =
       chunks = all_set (IsChunkIn u.shape) u.chunks.items c.args.chunk c.restore_spelled.new.self c.self.invariant.chunks left;
       worn = length-set u.wear.items c.args.chunk c.args.wear ∙ c.self.invariant.worn;
       worn_fits = all_set (λ w. w < 256) u.wear.items c.args.chunk c.args.wear c.self.invariant.worn_fits (omega arith);
+      by_arms = c.self.invariant.by_arms;
     }
 
 pub returns-clause-restored : goal.returns-clause-restored

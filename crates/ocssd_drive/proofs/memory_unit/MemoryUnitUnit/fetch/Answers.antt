@@ -1,13 +1,14 @@
-use Rattle.std.proofs.Common.{refl, ap}
+use Rattle.std.proofs.Common.{◌≡◌, refl, ap, []}
 use Rattle.ocssd_drive.specs.Units.{WornUnit}
 use Rattle.pblk_model.specs.ChunkStep.{Read}
 use Rattle.unit_port.specs.declared.armed.CommandKind.TheVariants as kinds
 use Rattle.unit_port.specs.Armed.{IsUnarmed}
-use Rattle.ocssd_drive.proofs.Unarmed.{befalls_nothing, got_by}
+use Rattle.ocssd_drive.proofs.Unarmed.{befalls_nothing, got_by, befalls_no_failure, unfailing_fetch}
 use Rattle.unit_port.specs.Unit.{Takes}
 use Rattle.ocssd_drive.specs.Shown.{fetch_outcome}
 use Rattle.ocssd_drive.specs.Units.{MeetsFault}
 use Rattle.ocssd_drive.specs.UnitFields.{worn_unit}
+use Rattle.ocssd_drive.proofs.ByArms.{by_arms_noted}
 use Rattle.ocssd_drive.proofs.UnitChunks.{IsFound, found_of}
 use Rattle.ocssd_drive.proofs.UnitSteps.{command_within, fails_by, stops_by, sound_with, Finds, finds, met_in, takes_under, planned, steps_reading, fit_with}
 use Rattle.ocssd_drive.proofs.memory_unit.MemoryUnitUnit.fetch.Goals as goal
@@ -86,7 +87,18 @@ pub returns-clause-wear : goal.returns-clause-wear
 returns-clause-wear c = ap (λ (v : WornUnit). v.wear) c.self.view_is
 
 pub invariant_of-self : goal.invariant_of-self
-invariant_of-self c = sound_with c.self.inside c.note.new.self c.self.invariant
+invariant_of-self c =
+    let h = (goal.at.invariant_of-self c).After-index-found in
+    sound_with c.self.inside c.note.new.self c.self.invariant
+    (by_arms_noted c.self.inside c.args.chunk (Read c.args.block) c.fault-fault.result (fetch_outcome c.read_chunk-got.new.out c.read_chunk-got.result)
+    c.fault-fault.new.self c.note.new.self c.self.invariant.by_arms (befalls h) (met c).by c.note.ensures.log c.note.ensures.armed)
 
 pub returns-clause-media : goal.returns-clause-media
 returns-clause-media c = ap (λ (v : WornUnit). v.unit.media) c.self.view_is
+
+pub returns-clause-unfailing : goal.returns-clause-unfailing
+returns-clause-unfailing c = λ none.
+    let h = (goal.at.returns-clause-unfailing c).After-index-found in
+    let un : c.self.inside.journal.armed.plans ≡ [] = rw (← c.self.view_is) at none in
+    unfailing_fetch c.self.inside.shape (Read c.args.block) c.fault-fault.result c.read_chunk-got.new.out c.read_chunk-got.result
+    (befalls_no_failure c.self.inside.journal kinds.Fetch c.fault-fault.result c.fault-fault.new.self (befalls h) un) (met c).by

@@ -1,17 +1,19 @@
-use Rattle.std.proofs.Common.{◌≡◌, ◌*◌, length, refl, sym, ap, subst}
+use Rattle.std.proofs.Common.{◌≡◌, ◌*◌, length, refl, sym, ap, subst, []}
 use Rattle.ocssd_drive.specs.Units.{WornUnit}
 use Rattle.pblk_model.specs.Blocks.{blocks_of}
 use Rattle.pblk_model.specs.ChunkStep.{ChunkCommand, Write}
 use Rattle.unit_port.specs.declared.armed.CommandKind.TheVariants as kinds
 use Rattle.unit_port.specs.Armed.{IsUnarmed}
-use Rattle.ocssd_drive.proofs.Unarmed.{befalls_nothing, done_by}
+use Rattle.ocssd_drive.proofs.Unarmed.{befalls_nothing, done_by, befalls_no_failure, unfailing_by}
 use Rattle.unit_port.specs.Unit.{Takes}
 use Rattle.ocssd_drive.specs.Shown.{outcome_of}
 use Rattle.ocssd_drive.specs.UnitFields.{worn_unit}
+use Rattle.ocssd_drive.specs.Outcomes.{IsByArms}
+use Rattle.ocssd_drive.proofs.ByArms.{by_arms_noted}
 use Rattle.ocssd_drive.proofs.UnitChunks.{IsFound, found_of}
 use Rattle.ocssd_drive.proofs.UnitSteps.{command_within, fails_by, stops_by, sound_after, Finds, finds, takes_under, planned, steps, fit_after}
 use Rattle.ocssd_drive.proofs.memory_unit.MemoryUnitUnit.program.Goals as goal
-use Rattle.ocssd_drive.proofs.memory_unit.MemoryUnitUnit.program.Goals.{After-index_mut-found}
+use Rattle.ocssd_drive.proofs.memory_unit.MemoryUnitUnit.program.Goals.{After-index_mut-found, After-result_of}
 
 abbrev command : After-index_mut-found → ChunkCommand
 command c = Write c.args.at (blocks_of c.self.inside.shape.sector c.args.bytes.now c.args.marks.now)
@@ -34,6 +36,12 @@ write_chunk-landed-requires-clause-taken c =
     let h = (goal.at.write_chunk-landed-requires-clause-taken c).After-index_mut-found in
     takes_under c.self.inside c.args.chunk (command h) _ c.fault-fault.new.self _ (takes h) (found h) (befalls h)
 
+by_arms : (c : After-result_of) → IsByArms c.self.inside.shape c.note.new.self.armed c.note.new.self.log
+by_arms c =
+    let h = (goal.at.invariant_of-self c).After-index_mut-found in
+    by_arms_noted c.self.inside c.args.chunk (command h) c.fault-fault.result (outcome_of c.write_chunk-landed.result) c.fault-fault.new.self c.note.new.self
+    c.self.invariant.by_arms (befalls h) c.write_chunk-landed.ensures.by c.note.ensures.log c.note.ensures.armed
+
 pub returns-clause-planned : goal.returns-clause-planned
 returns-clause-planned c =
     let h = (goal.at.returns-clause-planned c).After-index_mut-found in
@@ -50,6 +58,7 @@ returns-clause-event c =
 
 pub returns-clause-fits : goal.returns-clause-fits
 returns-clause-fits c = fit_after c.self.inside c.args.chunk c.write_chunk-landed.new.chunk c.note.new.self c.self.invariant c.write_chunk-landed.ensures.fits
+    (by_arms (goal.at.returns-clause-fits c).After-result_of)
 
 pub returns-clause-quiet : goal.returns-clause-quiet
 returns-clause-quiet c = λ unarmed.
@@ -80,9 +89,17 @@ returns-clause-wear c = ap (λ (v : WornUnit). v.wear) c.self.view_is
 
 pub invariant_of-self : goal.invariant_of-self
 invariant_of-self c = sound_after c.self.inside c.args.chunk c.write_chunk-landed.new.chunk c.note.new.self c.self.invariant c.write_chunk-landed.ensures.fits
+    (by_arms c)
 
 pub are_blocks-requires : goal.are_blocks-requires
 are_blocks-requires c = subst (λ (v : WornUnit). length c.args.bytes.now ≡ length c.args.marks.now * v.unit.shape.sector) (sym c.self.view_is) c.requires.whole
 
 pub write_chunk-landed-requires-clause-whole : goal.write_chunk-landed-requires-clause-whole
 write_chunk-landed-requires-clause-whole c = subst (λ (v : WornUnit). length c.args.bytes.now ≡ length c.args.marks.now * v.unit.shape.sector) (sym c.self.view_is) c.requires.whole
+
+pub returns-clause-unfailing : goal.returns-clause-unfailing
+returns-clause-unfailing c = λ none.
+    let h = (goal.at.returns-clause-unfailing c).After-index_mut-found in
+    let un : c.self.inside.journal.armed.plans ≡ [] = rw (← c.self.view_is) at none in
+    unfailing_by c.self.inside.shape (command h) c.fault-fault.result (outcome_of c.write_chunk-landed.result) c.result_of.result
+    (befalls_no_failure c.self.inside.journal kinds.Program c.fault-fault.result c.fault-fault.new.self (befalls h) un) c.write_chunk-landed.ensures.by c.result_of.ensures

@@ -1,13 +1,15 @@
-use Rattle.std.proofs.Common.{refl, ap}
+use Rattle.std.proofs.Common.{◌≡◌, refl, ap, []}
 use Rattle.ocssd_drive.specs.Units.{WornUnit}
 use Rattle.pblk_model.specs.ChunkStep.{Reset}
 use Rattle.unit_port.specs.declared.armed.CommandKind.TheVariants as kinds
 use Rattle.unit_port.specs.Armed.{IsUnarmed}
-use Rattle.ocssd_drive.proofs.Unarmed.{befalls_nothing, done_by}
+use Rattle.ocssd_drive.proofs.Unarmed.{befalls_nothing, done_by, befalls_no_failure, unfailing_by}
 use Rattle.unit_port.specs.Unit.{Takes}
 use Rattle.ocssd_drive.specs.Shown.{outcome_of}
 use Rattle.ocssd_drive.specs.Units.{MeetsFault}
 use Rattle.ocssd_drive.specs.UnitFields.{worn_unit}
+use Rattle.ocssd_drive.specs.Outcomes.{IsByArms}
+use Rattle.ocssd_drive.proofs.ByArms.{by_arms_noted}
 use Rattle.ocssd_drive.proofs.UnitChunks.{IsFound, found_of}
 use Rattle.ocssd_drive.proofs.UnitSteps.{command_within, fails_by, stops_by, Finds, finds, takes_under, planned, steps, fit_after, sound_after, met_in}
 use Rattle.ocssd_drive.proofs.memory_unit.MemoryUnitUnit.reset.Goals as goal
@@ -32,8 +34,14 @@ reset_chunk-landed-requires-clause-taken c = rw (found c).fits.shape (takes_unde
 met : (c : After-result_of) → MeetsFault c.self.inside.shape c.index_mut-found.result.now Reset c.fault-fault.result (outcome_of c.reset_chunk-landed.result) c.reset_chunk-landed.new.chunk
 met c = met_in _ _ _ _ _ _ _ (found (goal.at.invariant_of-self c).After-index_mut-found).fits.shape c.reset_chunk-landed.ensures
 
+by_arms : (c : After-result_of) → IsByArms c.self.inside.shape c.note.new.self.armed c.note.new.self.log
+by_arms c =
+    let h = (goal.at.invariant_of-self c).After-index_mut-found in
+    by_arms_noted c.self.inside c.args.chunk Reset c.fault-fault.result (outcome_of c.reset_chunk-landed.result) c.fault-fault.new.self c.note.new.self
+    c.self.invariant.by_arms (befalls h) (met c).by c.note.ensures.log c.note.ensures.armed
+
 pub invariant_of-self : goal.invariant_of-self
-invariant_of-self c = sound_after c.self.inside c.args.chunk c.reset_chunk-landed.new.chunk c.note.new.self c.self.invariant (met c).fits
+invariant_of-self c = sound_after c.self.inside c.args.chunk c.reset_chunk-landed.new.chunk c.note.new.self c.self.invariant (met c).fits (by_arms c)
 
 pub returns-clause-planned : goal.returns-clause-planned
 returns-clause-planned c =
@@ -50,7 +58,7 @@ returns-clause-event c =
     )
 
 pub returns-clause-fits : goal.returns-clause-fits
-returns-clause-fits c = fit_after c.self.inside c.args.chunk c.reset_chunk-landed.new.chunk c.note.new.self c.self.invariant (met c).fits
+returns-clause-fits c = fit_after c.self.inside c.args.chunk c.reset_chunk-landed.new.chunk c.note.new.self c.self.invariant (met c).fits (by_arms c)
 
 pub returns-clause-quiet : goal.returns-clause-quiet
 returns-clause-quiet c = λ unarmed.
@@ -78,3 +86,10 @@ returns-clause-calm c = c.note.ensures.calm
 
 pub returns-clause-wear : goal.returns-clause-wear
 returns-clause-wear c = ap (λ (v : WornUnit). v.wear) c.self.view_is
+
+pub returns-clause-unfailing : goal.returns-clause-unfailing
+returns-clause-unfailing c = λ none.
+    let h = (goal.at.returns-clause-unfailing c).After-index_mut-found in
+    let un : c.self.inside.journal.armed.plans ≡ [] = rw (← c.self.view_is) at none in
+    unfailing_by c.self.inside.shape Reset c.fault-fault.result (outcome_of c.reset_chunk-landed.result) c.result_of.result
+    (befalls_no_failure c.self.inside.journal kinds.Reset c.fault-fault.result c.fault-fault.new.self (befalls h) un) (met c).by c.result_of.ensures
