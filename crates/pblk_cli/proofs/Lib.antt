@@ -11,5 +11,6 @@ pub mod WornCauses
 pub mod Servings
 pub mod LeftDrives
 pub mod WornLines
+pub mod EventLines
 pub mod Contents
 pub mod CreatedDrives

@@ -1,6 +1,6 @@
 -- What a session and a close come to.
 use Rattle.std.proofs.Common.{◌≡◌, ℕ, ◌^◌, ◌<◌, ◌≤◌, List, [], ◌∷◌, ◌++◌, Result, Ok, Err, length, map, take, Some, None, refl, sym, subst, ap, ◌∙◌, arith}
-use Rattle.std.specs.List.{AllByRecursion, flat_map}
+use Rattle.std.specs.List.{AllByRecursion, filter, flat_map}
 use Rattle.std.proofs.lemmas.List.{append-nil, length-map}
 use Rattle.std.proofs.Math.Nat.{le_refl}
 use Rattle.pblk_model.specs.declared.script.Command.{Command}
@@ -13,7 +13,7 @@ use Rattle.pblk_model.specs.Image.{Image}
 use Rattle.pblk_model.specs.Script.{ScriptFits}
 use Rattle.pblk_model.specs.Sealed.{IsSealed}
 use Rattle.pblk_model.specs.Text.{Transcript}
-use Rattle.pblk_model.specs.Transcript.{IsDistinct, IsRun, IsTranscript, closing_event, sector_writes}
+use Rattle.pblk_model.specs.Transcript.{IsDistinct, IsRun, IsTranscript, closing_event, is_of_one, sector_writes}
 use Rattle.pblk_world.specs.Fronts.{user_positions}
 use Rattle.pblk_world.specs.Lines.{found_image}
 use Rattle.unit_port.specs.Unit.{ModelUnit}
@@ -61,7 +61,7 @@ same_wear a b same = ap (λ (f : Footing). f.wear) (footing_is (record {
   wear = b.mount.wear;
 }) (record { image = a.mount.image; wear = a.mount.wear }) same.footing)
 
-no_events : (es : List (ℕ × ℕ)) → es ≡ [] → IsDistinct es
+no_events : (es : List (ℕ × ℕ)) → es ≡ [] → IsDistinct (filter is_of_one es)
 no_events es none = rw none tt
 
 all_below : (n m : ℕ) (lines : List PlacedSector) → n ≤ m → AllByRecursion (λ (x : PlacedSector). x.position < n) lines

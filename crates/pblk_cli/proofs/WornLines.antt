@@ -1,14 +1,12 @@
--- Whether a transcript has a `worn` line, by the records; and the status.
+-- Whether a transcript has a `worn` line, by the records.
 use Rattle.std.proofs.Common.{◌≡◌, ℕ, Bool, true, false, List, [], ◌∷◌, map, refl, sym, ap, ap₂, ◌∙◌}
 use Rattle.std.specs.Prelude.{◌||◌}
 use Rattle.std.specs.List.{list_any}
 use Rattle.pblk_model.specs.declared.script.Command.{Command}
-use Rattle.pblk_model.specs.Text.{Transcript}
-use Rattle.pblk_model.specs.Transcript.{events}
 use Rattle.run_threads.specs.declared.records.Answer.{Answer}
 use Rattle.run_threads.specs.declared.records.Records.{Records}
 use Rattle.run_report.specs.Report.{closing_of, outcome_of, transcript_of}
-use Rattle.pblk_cli.specs.Status.{closed_worn, has_worn, is_worn, status_of_run}
+use Rattle.pblk_cli.specs.Status.{closed_worn, has_worn, is_worn}
 
 one_thread : (answers : List Answer) → list_any is_worn (map outcome_of answers) ≡ list_any (λ a. is_worn (outcome_of a)) answers
 one_thread [] = refl
@@ -33,10 +31,3 @@ pub by_close : (script : List (List Command)) (records : Records) (end : ℕ) (t
 by_close script records end threads b closed same is calm at_close =
     at_close ∙ ap (λ x. x || closed_worn (closing_of records.closing)) (sym calm ∙ is
     ∙ ap (list_any (λ answers. list_any (λ a. is_worn (outcome_of a)) answers)) same ∙ sym (any_thread records.threads))
-
--- without a line that names an event the status is by the `worn` lines
-pub worn_is : (t : Transcript) → events t ≡ [] → has_worn t ≡ true → 6 ≡ status_of_run t
-worn_is t none worn = rw (none, worn) refl
-
-pub calm_is : (t : Transcript) → events t ≡ [] → has_worn t ≡ false → 0 ≡ status_of_run t
-calm_is t none calm = rw (none, calm) refl

@@ -1,5 +1,5 @@
 -- The status of a run, by the lines of its transcript.
-use Rattle.std.specs.Prelude.{ℕ, ◌||◌, nat_lt, if◌then◌else◌, Bool, true, false, length}
+use Rattle.std.specs.Prelude.{ℕ, ◌||◌, nat_lt, if◌then◌else◌, Bool, true, false, List, length}
 use Rattle.std.specs.List.{list_any}
 use Rattle.pblk_model.specs.Text.{Outcome, Silent, Words, Flushed, Drive, Worn, Closing, Closed, ClosedByDrive, ClosedWorn, Transcript}
 use Rattle.pblk_model.specs.Transcript.{events}
@@ -17,9 +17,13 @@ closed_worn Closed = false
 closed_worn (ClosedByDrive unit event) = false
 closed_worn (ClosedWorn wanted have) = true
 
+-- events are named
+abbrev pub names_any : List (ℕ × ℕ) → Bool
+names_any named = nat_lt 0 (length named)
+
 -- some line is an `e` line, which names an event of a unit; some line is a `worn` line
 abbrev pub has_event : Transcript → Bool
-has_event t = nat_lt 0 (length (events t))
+has_event t = names_any (events t)
 
 abbrev pub has_worn : Transcript → Bool
 has_worn t = list_any (list_any is_worn) t.outcomes || closed_worn t.closing

@@ -19,7 +19,7 @@ use crate::geometry::{drive_of, read_file};
 use crate::output::Output;
 use crate::refusal::Refusal;
 use crate::serve::serve;
-use crate::status::has_worn;
+use crate::status::status_of;
 use drive_image::into_image;
 use ocssd_drive::Drive;
 use pblk_model::{Script, ScriptErr};
@@ -30,9 +30,6 @@ use run_threads::Records;
 use scan_recovery::summary;
 use std::alloc::{AllocError, Global};
 use std::sync::Wait;
-
-/// The status of a run that had no room for all that was to be written.
-const WORN: u8 = 6;
 
 /// Reads an image and a script, runs the script on the image's drive, stores the drive under the image's
 /// name, and gives the transcript.
@@ -147,7 +144,7 @@ fn run_and_store<R: Wait>(
 {
     let ran = run_on(rt, alloc, drive, script)?;
     let text = transcript_text(alloc, script, &ran)?;
-    let status = if has_worn(&ran.records) { WORN } else { 0 };
+    let status = status_of(&ran.records);
     // The drive is let go unit by unit, so that it and its image aren't held whole beside each other.
     let Ran { drive, .. } = ran;
     let bytes = into_image(alloc, drive)?;

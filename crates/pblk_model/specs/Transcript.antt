@@ -1,5 +1,5 @@
 -- What a run's text says of its script, of the contents before and of the contents after.
-use Rattle.std.specs.Prelude.{ℕ, ◌+◌, ◌^◌, ◌<◌, ◌≤◌, ◌≡◌, ◌≢◌, ◌==◌, ⊤, List, [], ◌∷◌, ◌++◌, map, length, take, slice_range, slice_get, Option, Some, None}
+use Rattle.std.specs.Prelude.{ℕ, ◌+◌, ◌-◌, ◌^◌, ◌<◌, ◌≤◌, ◌≡◌, ◌≢◌, ◌==◌, ⊤, nat_lt, Bool, List, [], ◌∷◌, ◌++◌, map, length, take, slice_range, slice_get, Option, Some, None}
 use Rattle.std.specs.List.{AllByRecursion, filter, filter_map, flat_map, zip, sum_by, count_by, range_with_len}
 use Rattle.std.specs.Option.{unwrap_or}
 use Rattle.pblk_model.specs.declared.script.Command.{Command}
@@ -78,6 +78,11 @@ events t = opening_event t.opening ++ flat_map (flat_map outcome_event) t.outcom
 abbrev pub IsDistinct : List (ℕ × ℕ) → Type 0
 IsDistinct [] = ⊤
 IsDistinct (e ∷ es) = AllByRecursion (λ other. other ≢ e) es × IsDistinct es
+
+-- The number of an event stands still at the end of its type, so that any later event may have that one. One below it
+-- is of one event.
+abbrev pub is_of_one : ℕ × ℕ → Bool
+is_of_one e = nat_lt e.1 (2 ^ 64 - 1)
 
 -- more was wanted than there was
 abbrev pub IsWorn : ℕ → ℕ → Type 0
@@ -159,7 +164,7 @@ pub record IsTranscript (size : ℕ) (script : List (List Command)) (sectors_bef
       → Allowed (record { size = size; sectors = sectors_before; script = script; transcript = t; seen = seen; thread = i; command = c }) x.0 x.1
   -- Events are named by numbers of units and of their events, and none is named twice.
   pub numbers : AllByRecursion (λ e. (e.0 < 2 ^ 32) × (e.1 < 2 ^ 64)) (events t)
-  pub distinct : IsDistinct (events t)
+  pub distinct : IsDistinct (filter is_of_one (events t))
   pub closing : IsClosing t.closing
   pub kept_within : t.kept ≤ length t.history
 

@@ -1,5 +1,5 @@
 -- A run of one thread through one port is a run of its script.
-use Rattle.std.proofs.Common.{ℕ, zero, suc, ◌+◌, ◌^◌, ◌<◌, ◌≤◌, ◌≡◌, ◌==◌, List, [], ◌∷◌, ◌++◌, map, length, take, Option, Some, None, slice_get, sym, refl, ap, subst, ◌∙◌, add-one, if◌then◌else◌, arith}
+use Rattle.std.proofs.Common.{ℕ, zero, suc, ◌+◌, ◌^◌, ◌<◌, ◌≤◌, ◌≡◌, ◌==◌, Bool, true, false, cond, List, [], ◌∷◌, ◌++◌, map, length, take, Option, Some, None, slice_get, sym, refl, ap, subst, ◌∙◌, add-one, if◌then◌else◌, arith}
 use Rattle.std.specs.List.{AllByRecursion, cons_option, count_by, filter, flat_map, sum_by, zip}
 use Rattle.std.specs.Option.{unwrap_or}
 use Rattle.std.proofs.lemmas.Bool.{eq-eqb}
@@ -13,7 +13,7 @@ use Rattle.pblk_model.specs.History.{after, users}
 use Rattle.pblk_model.specs.Script.{command_at}
 use Rattle.pblk_model.specs.Text as text
 use Rattle.pblk_model.specs.Text.{Closing, HistoryLine, Outcome, Silent, Transcript}
-use Rattle.pblk_model.specs.Transcript.{Allowed, IsClosing, IsDistinct, IsRun, IsTranscript, Moment, PlacedWrite, answered, closing_event, contents_at, events, heard, lines_of, now, outcome_event, own, own_lines, placed_by, placed_write, rows_of, sector_writes, words_at}
+use Rattle.pblk_model.specs.Transcript.{Allowed, IsClosing, IsDistinct, IsRun, IsTranscript, Moment, PlacedWrite, answered, closing_event, contents_at, events, heard, is_of_one, lines_of, now, outcome_event, own, own_lines, placed_by, placed_write, rows_of, sector_writes, words_at}
 use Rattle.block_port.specs.declared.rows.DriveAnswer.{DriveAnswer}
 use Rattle.block_port.specs.Own as own_writes
 use Rattle.block_port.specs.Port.{Learns, ModelPort, contents_after, positions}
@@ -312,7 +312,8 @@ module _ (told : List ℕ → ℕ) (cs : List Command) (given : List Answer) (ol
   pub events_are : events t ≡ thread_events ++ closing_event (closing_of closing)
   events_are = ap (λ xs. xs ++ closing_event (closing_of closing)) (append-nil (flat_map outcome_event (map outcome_of given)) ∙ answer_events given)
 
-  pub thread_told : IsTrouble closing → IsDistinct (thread_events ++ closing_event (closing_of closing)) → IsTranscript old.sector (cs ∷ []) old.start t
+  pub thread_told : IsTrouble closing → IsDistinct (filter is_of_one (thread_events ++ closing_event (closing_of closing)))
+      → IsTranscript old.sector (cs ∷ []) old.start t
   thread_told trouble distinct = record {
     ran = ap (λ (n : ℕ). n ∷ []) (length-map given outcome_of ∙ as_many told cs given old new h);
     order = map write_of thread;
@@ -324,13 +325,13 @@ module _ (told : List ℕ → ℕ) (cs : List Command) (given : List Answer) (ol
     allowed = allowed_each;
     numbers = subst (AllByRecursion IsNumber) (sym events_are)
         (all_append IsNumber thread_events (closing_event (closing_of closing)) (answer_numbers told cs given old new h) (closing_number closing trouble));
-    distinct = subst IsDistinct (sym events_are) distinct;
+    distinct = subst (λ es. IsDistinct (filter is_of_one es)) (sym events_are) distinct;
     closing = closing_is closing trouble;
     kept_within = omega (arith, few_users (places cs given) end, as_long);
   }
 
   pub thread_run : new.flushed ≤ end → IsTrouble closing → (closing ≡ None → AllByRecursion (λ line. line.position < end) last.known)
-      → IsDistinct (thread_events ++ closing_event (closing_of closing))
+      → IsDistinct (filter is_of_one (thread_events ++ closing_event (closing_of closing)))
       → IsRun old.sector (cs ∷ []) old.start t (after old.start (sector_writes old.sector (take t.kept t.history)))
   thread_run flushed trouble kept distinct = record {
     told = thread_told trouble distinct;
@@ -358,9 +359,9 @@ faults_are : (commands : List Command) (records : Records) (old new : ModelPort)
 faults_are commands records old new end h = run_faults h.told commands h.answers old new h.ran ∙ ap (λ xs. xs ++ faults_in h.answers) h.faultless
 
 distinct_events : (commands : List Command) (records : Records) (old new : ModelPort) (end : ℕ) (h : IsRunOfOnePort commands records old new)
-    → IsDistinct (map event_of (faults_in h.answers) ++ closing_event (closing_of records.closing))
+    → IsDistinct (filter is_of_one (map event_of (faults_in h.answers) ++ closing_event (closing_of records.closing)))
 distinct_events commands records old new end h =
-    subst (λ (xs : List DriveAnswer). IsDistinct (map event_of xs ++ closing_event (closing_of records.closing)))
+    subst (λ (xs : List DriveAnswer). IsDistinct (filter is_of_one (map event_of xs ++ closing_event (closing_of records.closing))))
     (faults_are commands records old new end h) h.distinct
 
 pub one_told : (commands : List Command) (records : Records) (old new : ModelPort) (end : ℕ) → IsRunOfOnePort commands records old new
@@ -401,7 +402,8 @@ one_events commands records old new end h =
 abbrev empty : Option (ℕ × ℕ) → Closing → Transcript
 empty opening closing = record { history = []; outcomes = []; opening = opening; closing = closing; kept = 0 }
 
-empty_run : (size : ℕ) (start : List (List ℕ)) (closing : Option Trouble) → IsTrouble closing → IsDistinct (closing_event (closing_of closing))
+empty_run : (size : ℕ) (start : List (List ℕ)) (closing : Option Trouble) → IsTrouble closing
+    → IsDistinct (filter is_of_one (closing_event (closing_of closing)))
     → IsRun size [] start (empty None (closing_of closing)) start
 empty_run size start closing trouble distinct = record {
   told = record {
@@ -423,9 +425,14 @@ empty_run size start closing trouble distinct = record {
   kept = refl;
 }
 
-closing_distinct : (closing : Option Trouble) → IsDistinct (closing_event (closing_of closing))
+-- one event is none other
+one_distinct : (b : Bool) (e : ℕ × ℕ) → IsDistinct (cond b (e ∷ []) [])
+one_distinct true e = (tt, tt)
+one_distinct false e = tt
+
+closing_distinct : (closing : Option Trouble) → IsDistinct (filter is_of_one (closing_event (closing_of closing)))
 closing_distinct None = tt
-closing_distinct (Some (Drive unit event)) = (tt, tt)
+closing_distinct (Some (Drive unit event)) = one_distinct (is_of_one (unit, event)) (unit, event)
 closing_distinct (Some (Worn wanted have)) = tt
 
 pub no_port : (size : ℕ) (records : Records) (start : List (List ℕ)) (end : ℕ) → records.threads ≡ [] → records.opening ≡ None → IsTrouble records.closing
@@ -457,7 +464,7 @@ unopened_run size script start unit event number = record {
     within = λ i c. omega arith;
     allowed = λ i c x e. absurd (none-some x (ap (λ xs. slice_get xs c) (sym (none_answered (unwrap_or (slice_get script i) []))) ∙ e));
     numbers = (number, tt);
-    distinct = (tt, tt);
+    distinct = one_distinct (is_of_one (unit, event)) (unit, event);
     closing = tt;
     kept_within = omega arith;
   };

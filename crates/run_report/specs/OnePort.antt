@@ -1,8 +1,8 @@
 -- A script of one thread that is run through one port.
 use Rattle.std.specs.Prelude.{ℕ, ◌<◌, ◌≤◌, ◌≡◌, ⊤, List, [], ◌∷◌, ◌++◌, map, Option, Some, None}
-use Rattle.std.specs.List.{AllByRecursion, flat_map}
+use Rattle.std.specs.List.{AllByRecursion, filter, flat_map}
 use Rattle.pblk_model.specs.declared.script.Command.{Command}
-use Rattle.pblk_model.specs.Transcript.{IsDistinct, IsWorn, closing_event}
+use Rattle.pblk_model.specs.Transcript.{IsDistinct, IsWorn, closing_event, is_of_one}
 use Rattle.block_port.specs.declared.rows.DriveAnswer.{DriveAnswer}
 use Rattle.block_port.specs.Own.{PlacedSector, lines_of}
 use Rattle.block_port.specs.Port.{Learns, ModelPort}
@@ -40,8 +40,8 @@ pub record IsRunOfOnePort (commands : List Command) (records : Records) (old new
   pub learned : Learns new last
   pub alone : last.known ≡ flat_map lines_of new.own
   pub trouble : IsTrouble records.closing
-  -- no event was answered twice
-  pub distinct : IsDistinct (map event_of new.faults ++ closing_event (closing_of records.closing))
+  -- no event was answered twice, as far as numbers tell
+  pub distinct : IsDistinct (filter is_of_one (map event_of new.faults ++ closing_event (closing_of records.closing)))
 
 -- After the close all positions below `end` are kept: all that was flushed, and where closing met no trouble all that is known.
 pub record AreKept (records : Records) (port : ModelPort) (known : List PlacedSector) (end : ℕ) : Type 0 where
