@@ -136,3 +136,14 @@ pub mod FoundSectors
 pub mod FoundUnits
 pub mod FoundOlder
 pub mod NothingYet
+pub mod PlacedAnew
+pub mod LastTakes
+pub mod StandingLines
+pub mod LandedNow
+pub mod LaterLines
+pub mod OverChunks
+pub mod OverLines
+pub mod KnownFilling
+pub mod OverAnswered
+pub mod SpentLines
+pub mod FreeLines

@@ -29,3 +29,4 @@ pub mod ReadSlots
 pub mod JustBegun
 pub mod OnlineUnits
 pub mod OpeningTables
+pub mod Spent

@@ -1,5 +1,5 @@
-//! Laws on the window, the map and the history by the logs: each is the contract of a function
-//! that does nothing.
+//! Laws on the window, the map, the history and the lines by the logs: each is the contract of a
+//! function that does nothing.
 
 ghost use Rattle.std.specs.Prelude.{◌≡◌, ◌<◌, ◌≤◌};
 ghost use Rattle.std.specs.Prelude.{ℕ, ◌+◌, ◌/◌, List, [], ◌∷◌, ◌++◌, length};
@@ -9,12 +9,15 @@ ghost use Rattle.pblk_model.specs.History.{after as after_history, users};
 ghost use Rattle.pblk_model.specs.Image.{Image};
 ghost use Rattle.pblk_world.specs.Events.{Logged};
 ghost use Rattle.pblk_world.specs.World.{World, log_of};
-ghost use Rattle.pblk_world.specs.EngineLog.{Taken, takes};
+ghost use Rattle.pblk_world.specs.EngineLog.{Begun, begun, Taken, takes};
 ghost use Rattle.pblk_world.specs.Fronts.{taken, has_landed_at, synced};
 ghost use Rattle.pblk_world.specs.Fronts.{history, user_positions, last_take};
 ghost use Rattle.pblk_world.specs.Space.{freed};
+ghost use Rattle.pblk_world.specs.Freeing.{MayFree};
+ghost use Rattle.world_laws.specs.LegalMounts.{IsLegalMount};
 ghost use Rattle.core_laws.specs.SimpleMounts.{IsSimpleMount};
 ghost use Rattle.core_laws.specs.Stepping.{after};
+ghost use Rattle.core_laws.specs.Spent.{IsSpent, OpensWhenFull};
 
 /// In a simple mount a sector holds after the history what its last entry has. A sector without an
 /// entry holds what it held before. The history has as many lines as users' writes were taken.
@@ -38,4 +41,16 @@ pub fn the_front_synced_never_falls()
     ensures synced { (s : Shape) (log : List Logged) (l : Logged)
         → synced s log ≤ synced s (log ++ l ∷ []) }
     ensures freed { (s : Shape) (log : List Logged) → freed s log ≤ synced s log }
+{}
+
+/// A line may be freed exactly where it is spent, which a target tells by what it keeps of its lines and by its
+/// fronts. That a line which may be freed is spent holds in every legal mount. That a spent line may be freed holds
+/// once the mount has begun, where each line was opened while no open one had a data address left. By the latter
+/// an entry whose stripe was lost is placed again in a newer line.
+pub fn a_line_may_be_freed_where_it_is_spent()
+    ensures spent { (i : Image) (w : World) (line : ℕ) → IsLegalMount i w
+        → MayFree i (log_of w) line → IsSpent i (log_of w) line }
+    ensures free { (i : Image) (w : World) (line : ℕ) (b : Begun) → IsLegalMount i w
+        → begun (log_of w 0) ≡ Some b → OpensWhenFull i (log_of w)
+        → IsSpent i (log_of w) line → MayFree i (log_of w) line }
 {}

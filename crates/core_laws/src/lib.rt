@@ -14,10 +14,14 @@
 //! - In the window and the map: a landed stripe lands its positions, gives back those whose blocks
 //!   can now be read, and moves their sectors to these blocks. No front ever falls, and after the
 //!   history a sector holds what its last entry has.
+//! - A line may be freed exactly where it is spent: no sector is live in it, the newest start record
+//!   is beyond all that counts there, and what took its sectors is below the front synced.
 //! - When a mount has just begun, each line, each sector and the units of each line are as they
 //!   were found. Each front is at the end that was found, and nothing was taken, opened or placed.
 #![tactic(auto)]
 
 mod laws;
 
-pub use laws::{the_front_synced_never_falls, the_history_is_the_latest};
+pub use laws::{
+    a_line_may_be_freed_where_it_is_spent, the_front_synced_never_falls, the_history_is_the_latest,
+};

@@ -1,0 +1,365 @@
+-- Where nothing more is written to an opened line, by what the engine was told, each of its stripes
+-- was answered.
+use Rattle.std.proofs.Common.{◌≡◌, ◌⊎◌, inl, inr, ℕ, ◌+◌, ◌-◌, ◌*◌, ◌<◌, ◌≤◌, ◌==◌, zero, suc, nat_lt, Bool, true, false, cond, Some, None, Option, List, [], ◌∷◌, ◌++◌, length, take, drop, refl, sym, subst, ap, ◌∙◌, arith, length-append}
+use Rattle.std.specs.Prelude.{slice_get}
+use Rattle.std.specs.List.{AllByRecursion, Contains, filter, filter_map, find, list_any}
+use Rattle.std.specs.Option.{is_some, option_and_then}
+use Rattle.std.proofs.lemmas.Bool.{cases_lt, cases_order, eqb-true}
+use Rattle.std.proofs.lemmas.Option.{slice_get_within}
+use Rattle.std.proofs.Math.Nat.{mul-le-mul_right}
+use Rattle.std.proofs.Math.Seq.{take-length}
+use Rattle.pblk_model.specs.declared.chunk.ChunkState.{ChunkState}
+use Rattle.pblk_model.specs.declared.chunk.ChunkState.TheVariants as states
+use Rattle.pblk_model.specs.Chunk.{Chunk, pointer}
+use Rattle.pblk_model.specs.LineOrder.{block_of, column_of, data_len, end_len, start_len}
+use Rattle.pblk_model.specs.Image.{Image, is_online_in, line_chunks, line_units, width}
+use Rattle.pblk_model.proofs.ChunkLemmas.{pointer_within}
+use Rattle.pblk_model.proofs.LineOrder.{block_below}
+use Rattle.pblk_model.proofs.LineOrderLemmas.{whole_line}
+use Rattle.pblk_laws.specs.LineBlocks.{chunk_in}
+use Rattle.pblk_laws.proofs.LineUnits.{line_units_chunks, line_units_count}
+use Rattle.pblk_world.specs.Events.{Logged}
+use Rattle.pblk_world.specs.World.{World, Logs, log_of, media}
+use Rattle.pblk_world.specs.EngineLog.{Answer, DidLand, WasLost, answer_of, answers, Begun, begun, has_landed, is_answered, is_land, is_life, is_loss, life_of, Opened, Opening, Placed, placed_on, placements, stripes_of, stripes_on, turn, was_lost}
+use Rattle.pblk_world.specs.Lines.{are_over, is_over_state, known_image, place_of}
+use Rattle.pblk_world.specs.Placing.{IsNext, MayPlace, end_address, next_address, next_block}
+use Rattle.pblk_world.specs.Victims.{engine_prefix}
+use Rattle.pblk_world.proofs.EngineLogLemmas.{begun_knows}
+use Rattle.pblk_world.proofs.LinesLemmas.{length_known}
+use Rattle.pblk_world.proofs.VictimsLemmas.{whole_prefix}
+use Rattle.lemmas.proofs.Lists.{IsAmong, among_contained}
+use Rattle.lemmas.proofs.Maps.{all_filter, all_passed, any_found, any_member, filter_both, filters_swap, found_passes, from_filter, in_filter}
+use Rattle.lemmas.proofs.Numbers.{some_units}
+use Rattle.lemmas.proofs.Options.{mapped_some, some_value, split_then}
+use Rattle.lemmas.proofs.Parts.{all_at, all_by_get, contained_among, get_below, get_whole_within, got_within, none_past, take_and_drop}
+use Rattle.lemmas.proofs.Tests.{either_false, lt_true, not_both, same_number}
+use Rattle.world_laws.specs.LegalMounts.{IsLegalMount}
+use Rattle.world_laws.specs.UnitChunks.{chunk_after}
+use Rattle.world_laws.proofs.Later.{answer_later, placed_within}
+use Rattle.world_laws.proofs.LifePlaces.{HasPlace, began, has_place, units_now}
+use Rattle.world_laws.proofs.LifeUnits.{chunk_known}
+use Rattle.world_laws.proofs.LineBlocks.{IsLineOf, landed_written, opened_line}
+use Rattle.world_laws.proofs.LineStripes.{IsKind, some_data, stripe_count, stripe_kind}
+use Rattle.world_laws.proofs.MediaChunks.{chunk_of_media}
+use Rattle.world_laws.proofs.Openings.{placed_at}
+use Rattle.world_laws.proofs.StripePlaces.{kth_place}
+use Rattle.world_laws.proofs.Stripes.{IsPlaced, placed_is, stripe_is, stripe_of_prefix}
+use Rattle.world_laws.proofs.UnitLogs.{chunk_fits}
+use Rattle.world_laws.proofs.UnitTurns.{earlier_placed, lesser, rise_all, rise_between, some_rise, turn_is}
+use Rattle.core_laws.proofs.GoingLines.{landed_on}
+use Rattle.core_laws.proofs.KnownFilling.{HasLoss, IsFilled, filled_now}
+use Rattle.core_laws.proofs.OverChunks.{known_there}
+use Rattle.core_laws.proofs.OverLines.{over_chunk}
+use Rattle.core_laws.proofs.PlacedAnew.{one_number}
+
+-- ---- lists
+
+-- those that pass among the first ones pass among those that are less than another
+few_before : (ps : List Placed) (f : Placed → Bool) (n number : ℕ) → AllByRecursion (λ (q : Placed). q.number < number) (take n ps)
+    → length (filter f (take n ps)) ≤ length (filter (λ (q : Placed). nat_lt q.number number) (filter f ps))
+few_before ps f n number below =
+    let less : Placed → Bool = λ q. nat_lt q.number number in
+    let first : filter less (filter f (take n ps)) ≡ filter f (take n ps) =
+    kept (filter f (take n ps)) (all_filter (λ (q : Placed). q.number < number) f (take n ps) below) in
+    let parts : filter less (filter f ps) ≡ filter less (filter f (take n ps)) ++ filter less (filter f (drop n ps)) =
+    ap (λ qs. filter less (filter f qs)) (sym (take_and_drop n ps)) ∙ ap (filter less) (filter_both f (take n ps) (drop n ps))
+    ∙ filter_both less (filter f (take n ps)) (filter f (drop n ps)) in
+    let count : length (filter less (filter f ps)) ≡ length (filter less (filter f (take n ps))) + length (filter less (filter f (drop n ps))) =
+    ap length parts ∙ length-append (filter less (filter f (take n ps))) (filter less (filter f (drop n ps))) in
+    let same : length (filter less (filter f (take n ps))) ≡ length (filter f (take n ps)) = ap length first in
+    omega arith
+  where
+    kept : (qs : List Placed) → AllByRecursion (λ (q : Placed). q.number < number) qs → filter (λ (q : Placed). nat_lt q.number number) qs ≡ qs
+    kept [] h = refl
+    kept (q ∷ qs) h = ap (λ b. cond b (q ∷ filter (λ (r : Placed). nat_lt r.number number) qs) (filter (λ (r : Placed). nat_lt r.number number) qs))
+        (lt_true q.number number h.0) ∙ ap (λ rs. q ∷ rs) (kept qs h.1)
+
+module _ (i : Image) (w : World) (mount : IsLegalMount i w) (o : Opening) (is_open : life_of (log_of w 0) o.line ≡ Opened o) where
+  abbrev log : List Logged
+  log = log_of w 0
+
+  line_is : IsLineOf i w o
+  line_is = opened_line i w mount o is_open
+
+  -- ---- a stripe that isn't answered
+
+  module _ (p : Placed) (of_opening : Contains (stripes_of (log_of w 0) o) p) (waits : is_answered (log_of w 0) p ≡ false) where
+    abbrev unit : ℕ
+    unit = p.stripe.unit
+
+    its : Contains (placements (log_of w 0)) p
+    its = (stripe_is i w o p mount.legal line_is.opened of_opening).0
+
+    may_of : (q : Placed) → Contains (placements (log_of w 0)) q → MayPlace i (engine_prefix q.number (log_of w)) q.stripe
+    may_of q there = let placed : IsPlaced log q = placed_is log q there in
+        placed_at i w q.number q.stripe placed.logged mount.legal placed.there placed.event
+
+    -- a stripe of the opening on the unit
+    of_unit : (q : Placed) → IsAmong (stripes_on (log_of w 0) o p.stripe.unit) q → Contains (stripes_of (log_of w 0) o) q × (q.stripe.unit ≡ p.stripe.unit)
+    of_unit q at = (
+      contained_among (stripes_of log o) q (from_filter (λ (x : Placed). x.stripe.unit == unit) (stripes_of log o) q at),
+      eqb-true q.stripe.unit unit (all_at (λ (x : Placed). (x.stripe.unit == unit) ≡ true) (stripes_on log o unit) at.0 q at.1
+          (all_passed (λ (x : Placed). x.stripe.unit == unit) (stripes_of log o))),
+    )
+
+    -- one that was placed before another on its unit was answered when that was placed
+    answered_then : (q r : Placed) → Contains (stripes_of (log_of w 0) o) q → Contains (placements (log_of w 0)) r → q.stripe.unit ≡ r.stripe.unit
+        → q.number < r.number → is_answered (take r.number (log_of w 0)) q ≡ true
+    answered_then q r mine there same before =
+        let test : Placed → Bool = λ x. is_life o.number x.life in
+        let at : IsAmong (placements (take r.number log)) q = from_filter test (placements (take r.number log)) q
+        (among_contained (stripes_of (take r.number log) o) q (stripe_of_prefix log r.number o q mine before)) in
+        (may_of r there).idle q (contained_among (placed_on (take r.number log) r.stripe.unit) q
+        (in_filter (λ (x : Placed). x.stripe.unit == r.stripe.unit) (placements (take r.number log)) q at (ap (λ u. u == r.stripe.unit) same
+        ∙ same_number r.stripe.unit)))
+
+    within_then : (q : Placed) (n : ℕ) → Contains (stripes_of (log_of w 0) o) q → q.number < n → q.number < length (take n (log_of w 0))
+    within_then q n mine before = placed_within (take n log) q (contained_among (placements (take n log)) q
+        (from_filter (λ x. is_life o.number x.life) (placements (take n log)) q
+        (among_contained (stripes_of (take n log) o) q (stripe_of_prefix log n o q mine before))))
+
+    answer_kept : (q : Placed) (n : ℕ) (a : Answer) → Contains (stripes_of (log_of w 0) o) q → q.number < n → answer_of (take n (log_of w 0)) q ≡ Some a
+        → answer_of (log_of w 0) q ≡ Some a
+    answer_kept q n a mine before is = subst (λ (xs : List Logged). answer_of xs q ≡ Some a) (take_and_drop n log)
+        (answer_later (take n log) (drop n log) q a (within_then q n mine before) is)
+
+    -- no stripe is placed on the unit behind it
+    none_behind : (q : Placed) → IsAmong (stripes_on (log_of w 0) o p.stripe.unit) q → p.number < q.number → ⊥
+    none_behind q at after =
+        let mine = of_unit q at in
+        let there : Contains (placements log) q = (stripe_is i w o q mount.legal line_is.opened mine.0).0 in
+        let answered = some_value (answer_of (take q.number log) p) (answered_then p q of_opening there (sym mine.1) after) in
+        not_both (is_answered log p) (ap is_some (answer_kept p q.number answered.0 of_opening after answered.1)) waits
+
+    -- and none there was lost
+    none_lost : (q : Placed) → IsAmong (stripes_on (log_of w 0) o p.stripe.unit) q → was_lost (log_of w 0) q ≡ true → ⊥
+    none_lost q at lost = order (cases_order q.number p.number)
+      where
+        mine : Contains (stripes_of (log_of w 0) o) q × (q.stripe.unit ≡ p.stripe.unit)
+        mine = of_unit q at
+
+        order : (q.number ≡ p.number) ⊎ ((q.number < p.number) ⊎ (p.number < q.number)) → ⊥
+        order (inl same) =
+            let one : q ≡ p = one_number i w mount q p (stripe_is i w o q mount.legal line_is.opened mine.0).0 its same in
+            by_answer (answer_of log p) refl (ap (was_lost log) (sym one) ∙ lost) waits
+          where
+            by_answer : (a : Option Answer) → answer_of (log_of w 0) p ≡ a → is_loss a ≡ true → is_some a ≡ false → ⊥
+            by_answer None e h k = absurd cc
+            by_answer (Some a) e h k = absurd cc
+        order (inr (inr after)) = none_behind q at after
+        order (inr (inl before)) = by_kind (stripe_kind i w o p mount.legal line_is.opened of_opening)
+          where
+            answered : (a : Answer) × (answer_of (take p.number (log_of w 0)) q ≡ Some a)
+            answered = some_value (answer_of (take p.number log) q) (answered_then q p mine.0 its mine.1 before)
+
+            then_lost : was_lost (take p.number (log_of w 0)) q ≡ true
+            then_lost = ap is_loss answered.1 ∙ ap is_loss (sym (answer_kept q p.number answered.0 mine.0 before answered.1)) ∙ lost
+
+            in_then : IsAmong (stripes_of (take p.number (log_of w 0)) o) q
+            in_then = among_contained (stripes_of (take p.number log) o) q (stripe_of_prefix log p.number o q mine.0 before)
+
+            in_order : IsNext i (engine_prefix p.number (log_of w)) o p.stripe → ⊥
+            in_order x = not_both (list_any (was_lost (take p.number log)) (stripes_of (take p.number log) o))
+                (any_member (was_lost (take p.number log)) (stripes_of (take p.number log) o) in_then.0 q in_then.1 then_lost) x.not_failed
+
+            by_kind : IsKind i (engine_prefix p.number (log_of w)) o p.stripe → ⊥
+            by_kind (inl x) = in_order x.next
+            by_kind (inr (inl x)) = in_order x.next
+            by_kind (inr (inr (inl x))) = in_order x.next
+            by_kind (inr (inr (inr x))) =
+                let none = either_false (list_any (was_lost (take p.number log)) (stripes_on (take p.number log) o unit))
+                (next_block i.shape (take p.number log) o unit == i.shape.clba) x.chunk_left in
+                let there : IsAmong (stripes_on (take p.number log) o unit) q =
+                in_filter (λ (y : Placed). y.stripe.unit == unit) (stripes_of (take p.number log) o) q in_then
+                (ap (λ u. u == unit) mine.1 ∙ same_number unit) in
+                not_both (list_any (was_lost (take p.number log)) (stripes_on (take p.number log) o unit))
+                (any_member (was_lost (take p.number log)) (stripes_on (take p.number log) o unit) there.0 q there.1 then_lost) none.0
+
+    no_loss : HasLoss (log_of w 0) o p.stripe.unit → ⊥
+    no_loss h =
+        let found = some_value (find (was_lost log) (stripes_on log o unit)) (sym (any_found (was_lost log) (stripes_on log o unit)) ∙ h) in
+        let passes = found_passes (was_lost log) (stripes_on log o unit) found.0 found.1 in
+        none_lost found.0 passes.1 passes.0
+
+    -- those before it have landed
+    landed_before : (q : Placed) → IsAmong (stripes_on (log_of w 0) o p.stripe.unit) q → q.number < p.number → has_landed (log_of w 0) q ≡ true
+    landed_before q at before =
+        let mine = of_unit q at in
+        let answered = some_value (answer_of (take p.number log) q) (answered_then q p mine.0 its mine.1 before) in
+        by answered.0 (answer_kept q p.number answered.0 mine.0 before answered.1)
+      where
+        by : (a : Answer) → answer_of (log_of w 0) q ≡ Some a → has_landed (log_of w 0) q ≡ true
+        by (DidLand n) is = ap is_land is
+        by (WasLost n) is = absurd (none_lost q at (ap is_loss is))
+
+    -- ---- its place
+
+    its_turn : IsAmong (stripes_on (log_of w 0) o p.stripe.unit) p
+    its_turn = in_filter (λ (q : Placed). q.stripe.unit == unit) (stripes_of log o) p (among_contained (stripes_of log o) p of_opening) (same_number unit)
+
+    place : p.stripe.at ≡ its_turn.0 * i.shape.ws_opt
+    place = kth_place i w o unit its_turn.0 p mount line_is.opened its_turn.1
+
+    -- the answered ones there are before it
+    few_answered : length (landed_on (log_of w 0) o p.stripe.unit) ≤ its_turn.0
+    few_answered =
+        let f : Placed → Bool = λ q. is_life o.number q.life in
+        let here : IsAmong (placed_on log unit) p =
+        in_filter (λ (q : Placed). q.stripe.unit == unit) (placements log) p (among_contained (placements log) p its) (same_number unit) in
+        let turn_here : turn log p ≡ here.0 = turn_is log unit here.0 p here.1 in
+        let few : length (answers log unit) ≤ here.0 = none_past (answers log unit) here.0 (none_there (ap (slice_get (answers log unit)) (sym turn_here))) in
+        let below : AllByRecursion (λ (q : Placed). q.number < p.number) (take (length (answers log unit)) (placed_on log unit)) =
+        all_by_get (λ (q : Placed). q.number < p.number) (take (length (answers log unit)) (placed_on log unit)) (λ k q at.
+        let whole = get_whole_within (length (answers log unit)) (placed_on log unit) k q at in
+        earlier_placed log unit k here.0 q p (let inside : k < length (answers log unit) = whole.1 in omega arith) whole.0 here.1) in
+        let less = few_before (placed_on log unit) f (length (answers log unit)) p.number below in
+        let swapped : filter f (placed_on log unit) ≡ stripes_on log o unit = filters_swap f (λ (q : Placed). q.stripe.unit == unit) (placements log) in
+        let count : length (filter (λ (q : Placed). nat_lt q.number p.number) (filter f (placed_on log unit))) ≡ its_turn.0 =
+        ap (λ qs. length (filter (λ (q : Placed). nat_lt q.number p.number) qs)) swapped
+        ∙ lesser (stripes_on log o unit) its_turn.0 p (some_rise (λ (q : Placed). q.stripe.unit == unit) (stripes_of log o)
+        (some_rise f (placements log) (rise_all log))) its_turn.1 in
+        omega arith
+      where
+        none_there : {x : Option Answer} → x ≡ answer_of (log_of w 0) p → x ≡ None
+        none_there {x} same = same ∙ go (answer_of (log_of w 0) p) refl waits
+          where
+            go : (a : Option Answer) → answer_of (log_of w 0) p ≡ a → is_some a ≡ false → answer_of (log_of w 0) p ≡ None
+            go None e h = e
+            go (Some a) e h = absurd cc
+
+    -- it stands within its chunk
+    in_line : (a : ℕ) → IsNext i (engine_prefix p.number (log_of w)) o p.stripe → a ≡ next_address i.shape (take p.number (log_of w 0)) o
+        → a < o.start.width * i.shape.clba → p.stripe.at < i.shape.clba
+    in_line a x is below =
+        let known : Image = known_image i (engine_prefix p.number (log_of w)) in
+        let its_line : p.stripe.line ≡ o.line = (stripe_is i w o p mount.legal line_is.opened of_opening).3 in
+        let g : width known p.stripe.line ≡ o.start.width =
+        ap (width known) its_line ∙ sym (line_units_count known o.line) ∙ ap length (line_is.units p of_opening)
+        ∙ line_units_count (media i (log_of w)) o.line ∙ sym line_is.width_is in
+        let parts = mapped_some (slice_get (line_units known p.stripe.line) (column_of i.shape (width known p.stripe.line) a))
+        (block_of i.shape (width known p.stripe.line) a) unit p.stripe.at (ap (place_of known p.stripe.line) is ∙ x.in_order) in
+        let wide : width known p.stripe.line * i.shape.clba ≡ o.start.width * i.shape.clba = ap (λ n. n * i.shape.clba) g in
+        let low : block_of i.shape (width known p.stripe.line) a < i.shape.clba =
+        block_below i.shape.ws_opt (width known p.stripe.line) i.shape.clba a mount.accepted.drive.ws_opt mount.accepted.drive.whole_stripes
+        (some_units (width known p.stripe.line) i.shape.clba a (omega arith)) (omega arith) in
+        let here : p.stripe.at ≡ block_of i.shape (width known p.stripe.line) a = parts.1 in
+        omega arith
+
+    -- what has landed before it fits the chunk
+    rows_fit : (k : ℕ) → its_turn.0 ≡ k → k * i.shape.ws_opt ≤ i.shape.clba
+    rows_fit zero e = omega arith
+    rows_fit (suc j) e =
+        let inside : its_turn.0 < length (stripes_on log o unit) = get_below (stripes_on log o unit) its_turn.0 p its_turn.1 in
+        let last = got_within (stripes_on log o unit) j (omega arith) in
+        let mine = of_unit last.0 (j, last.1) in
+        let before : last.0.number < p.number = rise_between (stripes_on log o unit) j its_turn.0 last.0 p
+        (some_rise (λ (q : Placed). q.stripe.unit == unit) (stripes_of log o)
+        (some_rise (λ (q : Placed). is_life o.number q.life) (placements log) (rise_all log)))
+        (omega arith) last.1 its_turn.1 in
+        let landed : has_landed log last.0 ≡ true = landed_before last.0 (j, last.1) before in
+        let count : length last.0.stripe.blocks ≡ i.shape.ws_opt = stripe_count i w o last.0 mount.accepted mount.legal line_is.opened mine.0 in
+        let some : 0 < i.shape.ws_opt = mount.accepted.drive.ws_opt in
+        let block = got_within last.0.stripe.blocks (i.shape.ws_opt - 1) (omega arith) in
+        let at : last.0.stripe.at ≡ j * i.shape.ws_opt = kth_place i w o unit j last.0 mount line_is.opened last.1 in
+        let written = landed_written i w mount o is_open last.0 (i.shape.ws_opt - 1) block.0 mine.0 landed block.1 in
+        let c = split_then (λ (x : Chunk). slice_get x.blocks (last.0.stripe.at + (i.shape.ws_opt - 1)))
+        (chunk_in (media i (log_of w)) o.line last.0.stripe.unit)
+        block.0 written in
+        let far : last.0.stripe.at + (i.shape.ws_opt - 1) < length c.0.blocks =
+        slice_get_within c.0.blocks (last.0.stripe.at + (i.shape.ws_opt - 1)) block.0 c.2 in
+        let most : pointer c.0 ≤ i.shape.clba = chunk_room last.0.stripe.unit c.0 c.1 in
+        omega arith
+      where
+        chunk_room : (u : ℕ) (c : Chunk) → chunk_in (media i (log_of w)) o.line u ≡ Some c → pointer c ≤ i.shape.clba
+        chunk_room u c is_here =
+            let now : chunk_after i (log_of w) o.line u (length (log_of w (suc u))) ≡ Some c = sym (chunk_of_media i (log_of w) o.line u) ∙ is_here in
+            pointer_within c.state i.shape.clba (pointer c)
+            (chunk_fits i w mount.legal u o.line (length (log_of w (suc u))) c mount.fit mount.accepted.drive.ws_min (omega arith) now).place
+
+    below_end : p.stripe.at < i.shape.clba
+    below_end = go (stripe_kind i w o p mount.legal line_is.opened of_opening)
+      where
+        all : start_len i.shape + data_len i.shape o.start.width + end_len i.shape o.start.width ≡ o.start.width * i.shape.clba
+        all = whole_line i.shape o.start.width (some_data i w o mount.legal line_is.opened)
+
+        first : ℕ
+        first = next_address i.shape (take p.number (log_of w 0)) o
+
+        go : IsKind i (engine_prefix p.number (log_of w)) o p.stripe → p.stripe.at < i.shape.clba
+        go (inl x) = let low : first < start_len i.shape = x.within in in_line first x.next refl (omega (arith, all))
+        go (inr (inl x)) = let low : first < end_address i.shape o = x.within in in_line first x.next refl (omega (arith, all))
+        go (inr (inr (inl x))) = in_line first x.next refl x.within
+        go (inr (inr (inr x))) =
+            let left = either_false (list_any (was_lost (take p.number log)) (stripes_on (take p.number log) o unit))
+            (next_block i.shape (take p.number log) o unit == i.shape.clba) x.chunk_left in
+            by (cases_lt p.stripe.at i.shape.clba) (ap (λ a. a == i.shape.clba) x.at ∙ left.1) (rows_fit its_turn.0 refl)
+          where
+            by : (p.stripe.at < i.shape.clba) ⊎ (i.shape.clba ≤ p.stripe.at) → (p.stripe.at == i.shape.clba) ≡ false
+                → its_turn.0 * i.shape.ws_opt ≤ i.shape.clba → p.stripe.at < i.shape.clba
+            by (inl below) apart fits = below
+            by (inr past) apart fits =
+                let same : p.stripe.at ≡ i.shape.clba = omega (arith, place) in
+                absurd (not_both (p.stripe.at == i.shape.clba) (ap (λ a. a == i.shape.clba) same ∙ same_number i.shape.clba) apart)
+
+    -- ---- its chunk
+
+    abbrev b : (x : Begun) × (begun (log_of w 0) ≡ Some x)
+    b = began i w o.line o mount.legal is_open
+
+    not_closed : (c : Chunk) → chunk_in (known_image i (log_of w)) o.line p.stripe.unit ≡ Some c → c.state ≡ states.Closed → ⊥
+    not_closed c is_known closed =
+        let its_units = split_then (λ (cs : List Chunk). slice_get cs o.line) (slice_get (known_image i (log_of w)).units unit) c is_known in
+        let inside : unit < length (known_image i (log_of w)).units = get_below (known_image i (log_of w)).units unit its_units.0 its_units.1 in
+        let count : length (known_image i (log_of w)).units ≡ length i.units = length_known i (log_of w) in
+        let has = got_within i.units unit (omega arith) in
+        let some : 0 < length log = begun_knows (length log) log b.0 (ap begun (take-length log) ∙ b.1) in
+        let filled : IsFilled i.shape log o unit c = filled_now i w mount o is_open unit has.0 has.1 c
+        (sym (chunk_known i w mount.legal b.0 b.1 unit o.line has.0 has.1 (length log) some)
+        ∙ ap (λ (logs : Logs). chunk_in (known_image i logs) o.line unit) (whole_prefix (log_of w)) ∙ is_known) in
+        by (filled.closed closed) filled.blocks
+      where
+        by : (i.shape.clba ≤ length c.blocks) ⊎ HasLoss (log_of w 0) o p.stripe.unit
+            → length c.blocks ≤ length (landed_on (log_of w 0) o p.stripe.unit) * i.shape.ws_opt → ⊥
+        by (inr loss) few = no_loss loss
+        by (inl full) few =
+            let rows : length (landed_on log o unit) * i.shape.ws_opt ≤ its_turn.0 * i.shape.ws_opt = mul-le-mul_right i.shape.ws_opt few_answered in
+            let below : p.stripe.at < i.shape.clba = below_end in
+            let at : p.stripe.at ≡ its_turn.0 * i.shape.ws_opt = place in
+            absurd (omega arith)
+
+    -- it is one of the line's chunks
+    pub not_over : are_over i (log_of w) o.line ≡ true → ⊥
+    not_over over =
+        let now_image : Image = media i (log_of w) in
+        let known : Image = known_image i (log_of w) in
+        let at : HasPlace i w mount.accepted mount.legal o p is_open of_opening = has_place i w mount.accepted mount.legal o p is_open of_opening in
+        let column : ℕ = column_of i.shape (width now_image o.line) at.first in
+        let parts = mapped_some (slice_get (line_units now_image o.line) column)
+        (block_of i.shape (width now_image o.line) at.first) unit p.stripe.at at.place in
+        let inside : column < length (line_units now_image o.line) = get_below (line_units now_image o.line) column unit parts.0 in
+        let wide : length (line_units now_image o.line) ≡ length (line_chunks now_image o.line) = line_units_count now_image o.line in
+        let d = got_within (line_chunks now_image o.line) column (omega arith) in
+        let there : chunk_in now_image o.line unit ≡ Some d.0 =
+        ap (option_and_then (chunk_in now_image o.line)) (sym parts.0) ∙ sym (line_units_chunks now_image o.line column) ∙ d.1 in
+        let c = known_there i w mount o.line o is_open unit d.0 there in
+        let units : slice_get (line_units known o.line) column ≡ Some unit =
+        ap (λ us. slice_get us column) (units_now i w mount o is_open) ∙ parts.0 in
+        let chunk : slice_get (line_chunks known o.line) column ≡ Some c.0 =
+        line_units_chunks known o.line column ∙ ap (option_and_then (chunk_in known o.line)) units ∙ c.1 in
+        let online : is_online_in c.0.state ≡ true =
+        all_at (λ (x : Chunk). is_online_in x.state ≡ true) (line_chunks known o.line) column c.0 chunk
+        (all_passed (λ (x : Chunk). is_online_in x.state) (filter_map (λ u. slice_get u o.line) known.units)) in
+        not_closed c.0 c.1 (closed c.0.state (over_chunk i w mount o is_open over unit c.0 c.1) online)
+      where
+        closed : (state : ChunkState) → is_over_state false state ≡ true → is_online_in state ≡ true → state ≡ states.Closed
+        closed states.Free a b = absurd cc
+        closed states.Open a b = absurd cc
+        closed states.Closed a b = refl
+        closed states.Offline a b = absurd cc
+
+  pub over_answered : are_over i (log_of w) o.line ≡ true → (p : Placed) → Contains (stripes_of (log_of w 0) o) p → is_answered (log_of w 0) p ≡ true
+  over_answered over p there = go (is_answered log p) refl
+    where
+      go : (t : Bool) → is_answered (log_of w 0) p ≡ t → is_answered (log_of w 0) p ≡ true
+      go true e = e
+      go false e = absurd (not_over p there e over)
