@@ -1,122 +1,216 @@
-//! Rows on one thread.
-ghost use Rattle.std.specs.Prelude.{◌≡◌, ◌≢◌, []};
-ghost use Rattle.pblk_model.specs.Frames.{count_out};
-ghost use Rattle.write_ring.specs.Handles.{IsIntakeOf, IsPassOf, intake_view, pass_view, ring_key};
+//! Rows of calls on one thread.
+ghost use Rattle.std.specs.Prelude.{◌≡◌, ◌≢◌, ◌<◌, ◌≤◌, ◌^◌};
+ghost use Rattle.write_ring.specs.Handles.{pass_view, ring_key};
+ghost use Rattle.ring_crew.specs.Ready.{IsReady, IsTaker};
 
-use crate::steps::{SECTOR, Told, put_copy, put_user, take};
+use crate::steps::{SECTOR, Told, put_copy, put_user, took};
+use ring_crew::end;
 use sector_pool::Pool;
 use std::alloc::{AllocError, Global};
 use std::test::Fail;
 use write_ring::{Batch, Intake, Pass, Ring};
 
-// What the row's steps told: how many users' writes, copies and takes were the next ones, and each refusal.
+// No position is claimed from here on.
+const MOST: u64 = 1 << 62;
+
+// How many sectors the target of the rows has.
+const SECTORS: u64 = 64;
+
+// What is asked of a ring. A sector is told modulo 64.
 #[derive(Clone, Copy, Debug, PartialEq, Eq, Drop)]
-struct Row {
-    users: u64,
-    full: Told,
-    copies: u64,
-    all_full: Told,
-    took: u64,
-    empty: Told,
+enum Asked {
+    User(u8),
+    Copy(u8),
+    Take,
 }
 
-// Users fill what is granted and copies the reserve, and then all is taken in order.
-fn run(ring: &Ring, intake: &mut Intake, pass: &mut Pass, batch: &mut Batch) -> Row
-    requires intake_ring { IsIntakeOf ring.now intake.old }
-    requires all_freed { (intake_view intake.old).intake.taken
-        ≡ (intake_view intake.old).intake.freed }
-    requires ring { IsPassOf ring.now pass.old }
-    requires copies { (pass_view pass.old).pass.copier ≢ 0 }
-    requires empty { batch.old.drafts ≡ [] }
-    requires free { batch.old.free ≡ 1 }
-    requires own { batch.old.region ≡ (ring_key ring.now).origin.region }
+impl Asked {
+    // The same of a sector so many further on.
+    fn after(self, by: u8) -> Asked {
+        match self {
+            Asked::User(lba) => Asked::User(lba.wrapping_add(by)),
+            Asked::Copy(lba) => Asked::Copy(lba.wrapping_add(by)),
+            Asked::Take => Asked::Take,
+        }
+    }
+}
+
+// So many calls of one kind, and what the first of them tells. Each later one is of the next sector, and
+// tells the next position.
+#[derive(Clone, Copy, Debug, PartialEq, Eq, Drop)]
+struct Row(Asked, u8, Told);
+
+fn ask(
+    ring: &Ring,
+    intake: &mut Intake,
+    pass: &mut Pass,
+    batch: &mut Batch,
+    room: u32,
+    asked: Asked,
+) -> Told
+    requires sectors { 64 ≤ (ring_key ring.now).capacity }
+    requires taker { IsTaker ring.now intake.old room }
+    requires ready { IsReady ring.now pass.old batch.old }
     requires size { batch.old.region.size ≡ 16 }
-    requires capacity { (ring_key ring.now).capacity ≡ 64 }
-    ensures intake_ring { IsIntakeOf ring.now intake.new }
-    ensures all_freed { (intake_view intake.new).intake.taken
-        ≡ (intake_view intake.new).intake.freed }
-    ensures ring { IsPassOf ring.now pass.new }
+    requires copies { (pass_view pass.old).pass.copier ≢ 0 }
+    ensures taker { IsTaker ring.now intake.new room }
+    ensures ready { IsReady ring.now pass.new batch.new }
+    ensures region { batch.new.region ≡ batch.old.region }
     ensures shares { (pass_view pass.new).pass.shares ≡ (pass_view pass.old).pass.shares }
     ensures copier { (pass_view pass.new).pass.copier ≡ (pass_view pass.old).pass.copier }
-    ensures empty { batch.new.drafts ≡ [] }
-    ensures free { batch.new.free ≡ 1 }
+{
+    match asked {
+        Asked::User(lba) => put_user(ring, pass, batch, u64::from(lba) % SECTORS),
+        Asked::Copy(lba) => put_copy(ring, pass, batch, u64::from(lba) % SECTORS),
+        Asked::Take => took(ring, intake, room),
+    }
+}
+
+// Makes the calls of a row. It ends with the first whose answer is another than the one expected.
+fn repeat(
+    ring: &Ring,
+    intake: &mut Intake,
+    pass: &mut Pass,
+    batch: &mut Batch,
+    room: u32,
+    row: Row,
+) -> Option<Row>
+    requires sectors { 64 ≤ (ring_key ring.now).capacity }
+    requires taker { IsTaker ring.now intake.old room }
+    requires ready { IsReady ring.now pass.old batch.old }
+    requires size { batch.old.region.size ≡ 16 }
+    requires copies { (pass_view pass.old).pass.copier ≢ 0 }
+    ensures taker { IsTaker ring.now intake.new room }
+    ensures ready { IsReady ring.now pass.new batch.new }
     ensures region { batch.new.region ≡ batch.old.region }
+    ensures shares { (pass_view pass.new).pass.shares ≡ (pass_view pass.old).pass.shares }
+    ensures copier { (pass_view pass.new).pass.copier ≡ (pass_view pass.old).pass.copier }
 {
-    let mut users = 0;
-    for next in 0..56u64 {
-        if put_user(ring, pass, batch, next, next as u8) == Told::Put(next) {
-            users += 1;
+    let Row(asked, times, expected) = row;
+    for by in 0..times {
+        let told = ask(ring, intake, pass, batch, room, asked.after(by));
+        if told != expected.after(by) {
+            return Some(Row(asked.after(by), by, told));
         }
     }
-    let full = put_user(ring, pass, batch, 0, 0);
-    let mut copies = 0;
-    for next in 56..64u64 {
-        if put_copy(ring, pass, batch, next, next as u8) == Told::Put(next) {
-            copies += 1;
-        }
-    }
-    let all_full = put_copy(ring, pass, batch, 0, 0);
-    let mut took = 0;
-    for next in 0..64u64 {
-        if take(ring, intake) == Told::Took(next, next, next as u8) {
-            took += 1;
-        }
-    }
-    let empty = take(ring, intake);
-    Row {
-        users,
-        full,
-        copies,
-        all_full,
-        took,
-        empty,
-    }
+    None
 }
 
-/// Ends a pool that has all its frames.
-pub fn end(pool: Pool)
-    requires all_in { count_out pool.left ≡ 0 }
+// One row after the other, up to the first call whose answer is another than the one expected.
+fn walk(
+    ring: &Ring,
+    intake: &mut Intake,
+    pass: &mut Pass,
+    batch: &mut Batch,
+    room: u32,
+    rows: &[Row],
+) -> Option<Row>
+    requires sectors { 64 ≤ (ring_key ring.now).capacity }
+    requires taker { IsTaker ring.now intake.old room }
+    requires ready { IsReady ring.now pass.old batch.old }
+    requires size { batch.old.region.size ≡ 16 }
+    requires copies { (pass_view pass.old).pass.copier ≢ 0 }
+    ensures taker { IsTaker ring.now intake.new room }
+    ensures ready { IsReady ring.now pass.new batch.new }
+    ensures region { batch.new.region ≡ batch.old.region }
+    ensures shares { (pass_view pass.new).pass.shares ≡ (pass_view pass.old).pass.shares }
+    ensures copier { (pass_view pass.new).pass.copier ≡ (pass_view pass.old).pass.copier }
 {
-    match pool.close() {
-        Ok(()) => {}
-        Err(_pool) => unreachable!(),
+    for &row in rows {
+        if let Some(wrong) = repeat(ring, intake, pass, batch, room, row) {
+            return Some(wrong);
+        }
     }
+    None
 }
 
-// The row on a ring of 64 positions, 8 of them for copies. At the end all frames are back in their pool.
-fn small_ring(alloc: Global) -> Result<Row, AllocError> {
-    let mut pool = Pool::new(alloc, 65, SECTOR)?;
+// The rows on a new ring that has so much room for users and a reserve for copies. At the end all frames are
+// back in their pool, those of the entries that are left in the ring too.
+fn rows_on_a_ring(
+    alloc: Global,
+    room: u32,
+    reserve: u32,
+    first: u64,
+    rows: &[Row],
+) -> Result<Option<Row>, AllocError>
+    requires some { 0 < room }
+    requires few { room < 2 ^ 16 }
+    requires few_copies { reserve < 2 ^ 16 }
+    requires first { first ≤ 2 ^ 62 }
+{
+    let size = room + reserve;
+    let mut pool = Pool::new(alloc, size + 1, SECTOR)?;
     let Ok(mut batch) = Batch::new(alloc, 1, &mut pool) else {
         end(pool);
         return Err(AllocError);
     };
-    let Ok((ring, mut intake, mut pass)) = Ring::new(alloc, 64, 8, 0, 64, &mut pool) else {
+    let Ok((ring, mut intake, mut pass)) = Ring::new(
+        alloc, size, reserve, first, SECTORS, &mut pool,
+    ) else {
         batch.close(&mut pool);
         end(pool);
         return Err(AllocError);
     };
-    ring.grant(&mut intake, 56);
-    let row = run(&ring, &mut intake, &mut pass, &mut batch);
+    ring.grant(&mut intake, (first + u64::from(room)).min(MOST));
+    let wrong = walk(&ring, &mut intake, &mut pass, &mut batch, room, rows);
     ring.note(&mut pass, &mut intake);
     ring.close(intake, pass, &mut pool);
     batch.close(&mut pool);
     end(pool);
-    Ok(row)
+    Ok(wrong)
 }
 
 #[test]
 fn users_fill_what_is_granted_and_copies_the_reserve(rt: HostRuntime) -> Result<(), Fail> {
-    let row = small_ring(rt.alloc())?;
-    assert_eq!(rt;
-        row,
-        Row {
-            users: 56,
-            full: Told::Full(56, 56),
-            copies: 8,
-            all_full: Told::Full(64, 64),
-            took: 64,
-            empty: Told::Empty(64),
-        }
-    );
+    let rows = [
+        Row(Asked::User(0), 56, Told::Put(0)),
+        Row(Asked::User(56), 1, Told::Full(56, 56)),
+        Row(Asked::Copy(56), 8, Told::Put(56)),
+        Row(Asked::Copy(0), 1, Told::Full(64, 64)),
+        Row(Asked::Take, 64, Told::Took(0, 0)),
+        Row(Asked::Take, 1, Told::Empty(64)),
+    ];
+    assert_eq!(rt; rows_on_a_ring(rt.alloc(), 56, 8, 0, &rows)?, None);
+    Ok(())
+}
+
+#[test]
+fn a_small_ring_is_wrapped_and_closed_with_entries_in_it(rt: HostRuntime) -> Result<(), Fail> {
+    let rows = [
+        Row(Asked::User(10), 3, Told::Put(0)),
+        Row(Asked::User(13), 1, Told::Full(3, 3)),
+        Row(Asked::Copy(14), 1, Told::Put(3)),
+        Row(Asked::Copy(15), 1, Told::Full(4, 4)),
+        Row(Asked::Take, 1, Told::Took(0, 10)),
+        Row(Asked::User(13), 1, Told::Full(4, 4)),
+        Row(Asked::Copy(15), 1, Told::Put(4)),
+        Row(Asked::Take, 1, Told::Took(1, 11)),
+        Row(Asked::User(13), 1, Told::Full(5, 5)),
+        Row(Asked::Take, 1, Told::Took(2, 12)),
+        Row(Asked::User(13), 1, Told::Put(5)),
+        Row(Asked::Take, 2, Told::Took(3, 14)),
+        Row(Asked::Take, 1, Told::Took(5, 13)),
+        Row(Asked::Take, 1, Told::Empty(6)),
+        Row(Asked::Copy(16), 1, Told::Put(6)),
+        Row(Asked::User(17), 1, Told::Put(7)),
+    ];
+    assert_eq!(rt; rows_on_a_ring(rt.alloc(), 3, 1, 0, &rows)?, None);
+    Ok(())
+}
+
+#[test]
+fn no_position_is_claimed_from_the_last_on(rt: HostRuntime) -> Result<(), Fail> {
+    let rows = [
+        Row(Asked::User(10), 1, Told::Put(MOST - 2)),
+        Row(Asked::Take, 1, Told::Took(MOST - 2, 10)),
+        Row(Asked::Copy(11), 1, Told::Put(MOST - 1)),
+        Row(Asked::User(12), 1, Told::Full(MOST, MOST)),
+        Row(Asked::Copy(12), 1, Told::Full(MOST, MOST)),
+        Row(Asked::Take, 1, Told::Took(MOST - 1, 11)),
+        Row(Asked::User(12), 1, Told::Full(MOST, MOST)),
+        Row(Asked::Copy(12), 1, Told::Full(MOST, MOST)),
+        Row(Asked::Take, 1, Told::Empty(MOST)),
+    ];
+    assert_eq!(rt; rows_on_a_ring(rt.alloc(), 3, 1, MOST - 2, &rows)?, None);
     Ok(())
 }

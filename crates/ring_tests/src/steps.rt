@@ -1,9 +1,11 @@
 //! One sector goes in or comes out, and what the ring told.
-ghost use Rattle.std.specs.Prelude.{◌≡◌, ◌≢◌, ◌<◌, []};
-ghost use Rattle.write_ring.specs.Handles.{IsIntakeOf, IsPassOf, intake_view, pass_view, ring_key};
+ghost use Rattle.std.specs.Prelude.{◌≡◌, ◌≢◌, ◌<◌};
+ghost use Rattle.write_ring.specs.Handles.{pass_view, ring_key};
+ghost use Rattle.ring_crew.specs.Ready.{IsReady, IsTaker};
 
-use sector_pool::{Class, Entry, Source};
-use write_ring::{Batch, Intake, Pass, Ring, Taken, TryPut};
+use ring_crew::{Got, number, take};
+use sector_pool::{Class, Source};
+use write_ring::{Batch, Intake, Pass, Ring, TryPut};
 
 /// How many bytes each sector has.
 pub const SECTOR: u32 = 16;
@@ -17,12 +19,35 @@ pub enum Told {
     Full(u64, u64),
     /// What was expected, and what was found.
     Raced(u64, u64),
-    /// The position, the sector and its first byte.
-    Took(u64, u64, u8),
+    /// The position and the sector. The bytes have this sector's number.
+    Took(u64, u64),
+    /// The position, where the bytes have another number.
+    Wrong(u64),
     /// `claimed`.
     Empty(u64),
     /// The position.
     Unfilled(u64),
+}
+
+impl Told {
+    /// The same of a position so many further on, and of a sector so many further on.
+    pub fn after(self, by: u8) -> Told {
+        let by = u64::from(by);
+        match self {
+            Told::Put(position) => Told::Put(position.wrapping_add(by)),
+            Told::Took(position, lba) => {
+                Told::Took(position.wrapping_add(by), lba.wrapping_add(by))
+            }
+            other => other,
+        }
+    }
+}
+
+// The bytes that a sector is filled with.
+fn image(lba: u64) -> [u8; SECTOR as usize] {
+    let mut sector = [0; SECTOR as usize];
+    number(&mut sector, lba);
+    sector
 }
 
 fn refused(by: TryPut) -> Told {
@@ -32,22 +57,17 @@ fn refused(by: TryPut) -> Told {
     }
 }
 
-/// A user writes a sector of 16 times one byte.
-pub fn put_user(ring: &Ring, pass: &mut Pass, batch: &mut Batch, lba: u64, byte: u8) -> Told
-    requires ring { IsPassOf ring.now pass.old }
-    requires empty { batch.old.drafts ≡ [] }
-    requires free { batch.old.free ≡ 1 }
-    requires own { batch.old.region ≡ (ring_key ring.now).origin.region }
+/// A user writes a sector.
+pub fn put_user(ring: &Ring, pass: &mut Pass, batch: &mut Batch, lba: u64) -> Told
+    requires ready { IsReady ring.now pass.old batch.old }
     requires size { batch.old.region.size ≡ 16 }
     requires lba { lba < (ring_key ring.now).capacity }
-    ensures ring { IsPassOf ring.now pass.new }
-    ensures empty { batch.new.drafts ≡ [] }
-    ensures free { batch.new.free ≡ 1 }
+    ensures ready { IsReady ring.now pass.new batch.new }
     ensures region { batch.new.region ≡ batch.old.region }
     ensures shares { (pass_view pass.new).pass.shares ≡ (pass_view pass.old).pass.shares }
     ensures copier { (pass_view pass.new).pass.copier ≡ (pass_view pass.old).pass.copier }
 {
-    batch.fill(lba, None, &[byte; SECTOR as usize]);
+    batch.fill(lba, None, &image(lba));
     match ring.try_put(pass, Class::User, batch) {
         Ok(place) => Told::Put(place.first),
         Err(by) => {
@@ -57,18 +77,13 @@ pub fn put_user(ring: &Ring, pass: &mut Pass, batch: &mut Batch, lba: u64, byte:
     }
 }
 
-/// A copy of such a sector.
-pub fn put_copy(ring: &Ring, pass: &mut Pass, batch: &mut Batch, lba: u64, byte: u8) -> Told
-    requires ring { IsPassOf ring.now pass.old }
+/// A copy of a sector.
+pub fn put_copy(ring: &Ring, pass: &mut Pass, batch: &mut Batch, lba: u64) -> Told
+    requires ready { IsReady ring.now pass.old batch.old }
     requires copies { (pass_view pass.old).pass.copier ≢ 0 }
-    requires empty { batch.old.drafts ≡ [] }
-    requires free { batch.old.free ≡ 1 }
-    requires own { batch.old.region ≡ (ring_key ring.now).origin.region }
     requires size { batch.old.region.size ≡ 16 }
     requires lba { lba < (ring_key ring.now).capacity }
-    ensures ring { IsPassOf ring.now pass.new }
-    ensures empty { batch.new.drafts ≡ [] }
-    ensures free { batch.new.free ≡ 1 }
+    ensures ready { IsReady ring.now pass.new batch.new }
     ensures region { batch.new.region ≡ batch.old.region }
     ensures shares { (pass_view pass.new).pass.shares ≡ (pass_view pass.old).pass.shares }
     ensures copier { (pass_view pass.new).pass.copier ≡ (pass_view pass.old).pass.copier }
@@ -78,7 +93,7 @@ pub fn put_copy(ring: &Ring, pass: &mut Pass, batch: &mut Batch, lba: u64, byte:
         at: 4,
         position: 0,
     };
-    batch.fill(lba, Some(source), &[byte; SECTOR as usize]);
+    batch.fill(lba, Some(source), &image(lba));
     match ring.try_put(pass, Class::Copy, batch) {
         Ok(place) => Told::Put(place.first),
         Err(by) => {
@@ -88,29 +103,15 @@ pub fn put_copy(ring: &Ring, pass: &mut Pass, batch: &mut Batch, lba: u64, byte:
     }
 }
 
-/// The next entry is taken, and its slot is free again.
-pub fn take(ring: &Ring, intake: &mut Intake) -> Told
-    requires ring { IsIntakeOf ring.now intake.old }
-    requires all_freed { (intake_view intake.old).intake.taken
-        ≡ (intake_view intake.old).intake.freed }
-    ensures ring { IsIntakeOf ring.now intake.new }
-    ensures all_freed { (intake_view intake.new).intake.taken
-        ≡ (intake_view intake.new).intake.freed }
+/// The next entry is taken, its slot is free again, and users are granted one position more.
+pub fn took(ring: &Ring, intake: &mut Intake, room: u32) -> Told
+    requires taker { IsTaker ring.now intake.old room }
+    ensures taker { IsTaker ring.now intake.new room }
 {
-    match ring.take(intake) {
-        Taken::Entry(entry) => {
-            let Entry {
-                position,
-                class: _,
-                lba,
-                source: _,
-                frame,
-            } = entry;
-            let byte = frame.bytes().first().copied().unwrap_or(0);
-            ring.free(intake, frame);
-            Told::Took(position, lba, byte)
-        }
-        Taken::Empty { claimed } => Told::Empty(claimed),
-        Taken::Unfilled { at } => Told::Unfilled(at),
+    match take(ring, intake, room) {
+        Got::Entry(position, lba) => Told::Took(position, lba),
+        Got::Wrong(position) => Told::Wrong(position),
+        Got::Empty(claimed) => Told::Empty(claimed),
+        Got::Unfilled(at) => Told::Unfilled(at),
     }
 }

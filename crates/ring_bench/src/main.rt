@@ -1,0 +1,105 @@
+//! Measures how fast writers, each in a thread of its own, hand sectors over to one reader: by way of a write
+//! ring, and beside it by way of the ring for one writer of the crate `rtrb`, and of a channel.
+//!
+//! The words are the number of writers, how many sectors each of them writes, and perhaps `times`. A line for
+//! each way has its name, how many sectors came, and the nanoseconds. Without `times` there stands in place of
+//! the nanoseconds how many of the sectors were numbered rightly. `rtrb` has one writer whatever is asked for.
+#![tactic(auto)]
+
+mod channel;
+mod one_writer;
+
+use anyhow::{Context, Result, ensure};
+use pblk_outside::real_words;
+use ring_crew::{Job, Tally, make_and_take};
+use std::alloc::Global;
+use std::rt::Clock;
+use std::sync::Wait;
+use std::thread::Threads;
+
+/// How many bytes a sector has.
+pub(crate) const SECTOR: usize = 4096;
+
+/// For how many sectors each way has room.
+pub(crate) const ROOM: u32 = 2048;
+
+/// What the words ask for.
+#[derive(Clone, Copy, Debug)]
+struct Asked {
+    writers: u8,
+    turns: u32,
+    has_times: bool,
+}
+
+/// By which way sectors are handed over.
+#[derive(Clone, Copy, Debug)]
+enum Way {
+    Ring,
+    OneWriter,
+    Channel,
+}
+
+fn asked_by(words: &[String]) -> Result<Asked> {
+    ensure!(
+        words.len() == 2 || words.len() == 3,
+        "a number of writers, a number of sectors, and perhaps times"
+    );
+    let writers = words[0]
+        .as_str()
+        .parse::<u8>()
+        .context("a number of writers")?;
+    let turns = words[1]
+        .as_str()
+        .parse::<u32>()
+        .context("a number of sectors")?;
+    Ok(Asked {
+        writers,
+        turns,
+        has_times: words.len() == 3,
+    })
+}
+
+fn hand_over<R: Threads + Wait + Sync>(
+    rt: &R,
+    alloc: Global,
+    asked: Asked,
+    way: Way,
+) -> Result<Tally> {
+    let writers = asked.writers.min(127);
+    let turns = asked.turns;
+    match way {
+        Way::Ring => {
+            let job = Job {
+                size: ROOM,
+                sector: SECTOR as u32,
+                makers: writers,
+                turns,
+            };
+            Ok(make_and_take(rt, alloc, job)?)
+        }
+        Way::OneWriter => one_writer::hand_over(rt, alloc, turns),
+        Way::Channel => channel::hand_over(rt, alloc, writers, turns),
+    }
+}
+
+fn main(rt: HostRuntime) -> Result<()> {
+    let alloc = rt.alloc();
+    let words = real_words(alloc, &rt)?;
+    let asked = asked_by(&words)?;
+    for (name, way) in [
+        ("ring", Way::Ring),
+        ("rtrb", Way::OneWriter),
+        ("channel", Way::Channel),
+    ] {
+        let start = rt.monotonic()?;
+        let tally = hand_over(&rt, alloc, asked, way)?;
+        let time = rt.monotonic()?.saturating_sub(start);
+        let last = if asked.has_times {
+            time.as_nanos() as u64
+        } else {
+            tally.right
+        };
+        println!(&rt; "{name} {} {last}", tally.taken)?;
+    }
+    Ok(())
+}

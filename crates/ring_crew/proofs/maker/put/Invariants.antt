@@ -1,0 +1,7 @@
+use Rattle.std.proofs.Common.{◌≡◌}
+use Rattle.write_ring.specs.Handles.{pass_view}
+use Rattle.ring_crew.specs.Ready.{IsMaker}
+use Rattle.ring_crew.proofs.maker.put.Given as goal
+
+abbrev pub invariant-loop : goal.invariant-loop
+invariant-loop g l = IsMaker l.ring l.maker × ((pass_view l.maker.pass).pass.shares ≡ (pass_view l.fn.maker.pass).pass.shares)

@@ -1,0 +1,41 @@
+-- The seats of a ring with what goes with them.
+use Rattle.std.specs.Prelude.{◌≡◌, ℕ, ◌+◌, ◌*◌, ◌<◌, ◌≤◌, [], length}
+use Rattle.pblk_model.specs.Frames.{PoolView, count_left}
+use Rattle.write_ring.specs.declared.table.Ring.{Ring}
+use Rattle.write_ring.specs.declared.seats.Intake.{Intake}
+use Rattle.write_ring.specs.declared.seats.Pass.{Pass}
+use Rattle.write_ring.specs.Batches.{BatchView}
+use Rattle.write_ring.specs.Handles.{IsIntakeOf, IsPassOf, intake_view, pass_view, ring_key}
+use Rattle.ring_crew.specs.declared.maker.Maker.{Maker}
+
+-- the pass is the ring's, and the batch has one free frame of the ring's pool, for sectors of at least 16 bytes
+pub record IsReady (ring : Ring) (pass : Pass) (batch : BatchView) : Type 0 where
+  pub pass_of : IsPassOf ring pass
+  pub empty : batch.drafts ≡ []
+  pub free : batch.free ≡ 1
+  pub own : batch.region ≡ (ring_key ring).origin.region
+  pub size : 16 ≤ batch.region.size
+
+-- the maker is ready, and has the bytes of one sector
+pub record IsMaker (ring : Ring) (maker : Maker) : Type 0 where
+  pub ready : IsReady ring maker.pass maker.batch
+  pub long : length maker.sector.items ≡ maker.batch.region.size
+
+-- the intake is the ring's, has freed what it took, and has granted users no more than has room beside the reserve
+pub record IsTaker (ring : Ring) (intake : Intake) (room : ℕ) : Type 0 where
+  pub intake_of : IsIntakeOf ring intake
+  pub all_freed : (intake_view intake).intake.taken ≡ (intake_view intake).intake.freed
+  pub granted : (intake_view intake).intake.granted ≤ (intake_view intake).intake.freed + room
+  pub reserve : room + (ring_key ring).reserve ≤ (ring_key ring).size
+
+-- there are sectors for so many turns of 128 makers
+abbrev pub HasTurns : Ring → ℕ → Type 0
+HasTurns ring turns = 128 * turns ≤ (ring_key ring).capacity
+
+-- the pass is the ring's, and has a share for each maker and one more; the ring's pool has a frame for each
+pub record IsCrew (ring : Ring) (pass : Pass) (pool : PoolView) (makers : ℕ) : Type 0 where
+  pub pass_of : IsPassOf ring pass
+  pub shares : makers < (pass_view pass).pass.shares
+  pub left : makers ≤ count_left pool.left
+  pub own : pool.region ≡ (ring_key ring).origin.region
+  pub size : 16 ≤ pool.region.size
