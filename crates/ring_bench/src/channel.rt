@@ -10,7 +10,7 @@ use std::thread::{Threads, for_each_mut, join};
 
 type Sector = [u8; SECTOR];
 
-fn send_all<R: Wait>(rt: &R, sender: &Sender<Sector, Global>, writer: usize, turns: u32) {
+fn send_all<R: Wait>(rt: &R, sender: &Sender<Sector, Global>, turns: u32) {
     let mut sector = [0; SECTOR];
     for turn in 0..turns {
         number(&mut sector, u64::from(turn));
@@ -36,6 +36,17 @@ fn receive_all<R: Wait>(rt: &R, receiver: &Receiver<Sector, Global>, count: u64)
     right
 }
 
+// A writer for each place, each in a thread of its own.
+fn send_from<R: Threads + Wait + Sync>(
+    rt: &R,
+    sender: &Sender<Sector, Global>,
+    places: &mut [u8],
+    turns: u32,
+) {
+    let threads = places.len().max(1);
+    for_each_mut(rt, places, threads, &|_, _| send_all(rt, sender, turns));
+}
+
 /// So many writers write so many sectors each.
 pub(crate) fn hand_over<R: Threads + Wait + Sync>(
     rt: &R,
@@ -45,16 +56,11 @@ pub(crate) fn hand_over<R: Threads + Wait + Sync>(
 ) -> Result<Tally> {
     let (sender, receiver) = bounded::<Sector, _>(alloc, ROOM as usize)?;
     let count = u64::from(writers) * u64::from(turns);
-    let mut places = vec![in alloc; 0u8; writers as usize]?;
+    let mut places = vec![in alloc; 0u8; usize::from(writers)]?;
     let (right, ()) = join(
         rt,
         || receive_all(rt, &receiver, count),
-        || for_each_mut(
-            rt,
-            places.as_mut_slice(),
-            writers as usize,
-            &|writer, _| send_all(rt, &sender, writer, turns),
-        ),
+        || send_from(rt, &sender, places.as_mut_slice(), turns),
     );
     Ok(Tally {
         taken: count,

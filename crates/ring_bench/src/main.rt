@@ -16,6 +16,7 @@ use std::alloc::Global;
 use std::rt::Clock;
 use std::sync::Wait;
 use std::thread::Threads;
+use std::time::Duration;
 
 /// How many bytes a sector has.
 pub(crate) const SECTOR: usize = 4096;
@@ -74,6 +75,7 @@ fn hand_over<R: Threads + Wait + Sync>(
                 sector: SECTOR as u32,
                 makers: writers,
                 turns,
+                looks: false,
             };
             Ok(make_and_take(rt, alloc, job)?)
         }
@@ -82,24 +84,33 @@ fn hand_over<R: Threads + Wait + Sync>(
     }
 }
 
+fn nanos(time: Duration) -> u64 {
+    time.as_secs()
+        .saturating_mul(1_000_000_000)
+        .saturating_add(u64::from(time.subsec_nanos()))
+}
+
+// Measures one way, and prints its line.
+fn measure<R: Threads + Wait + Sync + Clock + Print>(
+    rt: &R,
+    alloc: Global,
+    asked: Asked,
+    way: Way,
+    name: &str,
+) -> Result<()> {
+    let start = rt.monotonic()?;
+    let tally = hand_over(rt, alloc, asked, way)?;
+    let time = nanos(rt.monotonic()?.saturating_sub(start));
+    let last = if asked.has_times { time } else { tally.right };
+    println!(rt; "{name} {} {last}", tally.taken)?;
+    Ok(())
+}
+
 fn main(rt: HostRuntime) -> Result<()> {
     let alloc = rt.alloc();
     let words = real_words(alloc, &rt)?;
     let asked = asked_by(&words)?;
-    for (name, way) in [
-        ("ring", Way::Ring),
-        ("rtrb", Way::OneWriter),
-        ("channel", Way::Channel),
-    ] {
-        let start = rt.monotonic()?;
-        let tally = hand_over(&rt, alloc, asked, way)?;
-        let time = rt.monotonic()?.saturating_sub(start);
-        let last = if asked.has_times {
-            time.as_nanos() as u64
-        } else {
-            tally.right
-        };
-        println!(&rt; "{name} {} {last}", tally.taken)?;
-    }
-    Ok(())
+    measure(&rt, alloc, asked, Way::Ring, "ring")?;
+    measure(&rt, alloc, asked, Way::OneWriter, "rtrb")?;
+    measure(&rt, alloc, asked, Way::Channel, "channel")
 }

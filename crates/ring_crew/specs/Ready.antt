@@ -7,6 +7,8 @@ use Rattle.write_ring.specs.declared.seats.Pass.{Pass}
 use Rattle.write_ring.specs.Batches.{BatchView}
 use Rattle.write_ring.specs.Handles.{IsIntakeOf, IsPassOf, intake_view, pass_view, ring_key}
 use Rattle.ring_crew.specs.declared.maker.Maker.{Maker}
+use Rattle.ring_crew.specs.declared.taker.Got.{Got}
+use Rattle.ring_crew.specs.declared.taker.Got.TheVariants as got
 
 -- the pass is the ring's, and the batch has one free frame of the ring's pool, for sectors of at least 16 bytes
 pub record IsReady (ring : Ring) (pass : Pass) (batch : BatchView) : Type 0 where
@@ -39,3 +41,10 @@ pub record IsCrew (ring : Ring) (pass : Pass) (pool : PoolView) (makers : ℕ) :
   pub left : makers ≤ count_left pool.left
   pub own : pool.region ≡ (ring_key ring).origin.region
   pub size : 16 ≤ pool.region.size
+
+-- the first position that isn't freed, once this was got
+abbrev pub freed_after : Got → ℕ
+freed_after (got.Entry position lba) = position + 1
+freed_after (got.Wrong position) = position + 1
+freed_after (got.Empty at) = at
+freed_after (got.Unfilled at) = at

@@ -25,6 +25,8 @@ pub struct Job {
     pub makers: u8,
     /// How many sectors each of them puts.
     pub turns: u32,
+    /// Whether the bytes of what is taken are looked at.
+    pub looks: bool,
 }
 
 // So many makers at once, each in a thread with a pass and a batch of its own.
@@ -115,9 +117,9 @@ pub fn make_and_take<R: Threads + Wait + Sync>(
     let (tally, made) = join_mut(
         rt,
         &mut || -> Tally
-            requires { IsTaker ring intake size }
-            ensures { IsTaker ring intake.exit size }
-        { take_all(rt, &ring, &mut intake, size, &ended) },
+            requires { IsTaker ring intake job.size }
+            ensures { IsTaker ring intake.exit job.size }
+        { take_all(rt, &ring, &mut intake, &job, &ended) },
         &mut || -> Result<(), AllocError>
             requires { IsSync R.row × IsCrew ring pass pool job.makers × (job.makers < 128)
                 × (pool.region.size ≡ job.sector) × HasTurns ring job.turns }

@@ -9,4 +9,4 @@ mod taker;
 
 pub use crew::{Job, make_and_take};
 pub use sectors::{has_number, number};
-pub use taker::{Got, Tally, end, take};
+pub use taker::{Got, Tally, end, grant, take};

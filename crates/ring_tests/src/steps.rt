@@ -3,7 +3,7 @@ ghost use Rattle.std.specs.Prelude.{◌≡◌, ◌≢◌, ◌<◌};
 ghost use Rattle.write_ring.specs.Handles.{pass_view, ring_key};
 ghost use Rattle.ring_crew.specs.Ready.{IsReady, IsTaker};
 
-use ring_crew::{Got, number, take};
+use ring_crew::{Got, grant, number, take};
 use sector_pool::{Class, Source};
 use write_ring::{Batch, Intake, Pass, Ring, TryPut};
 
@@ -108,7 +108,9 @@ pub fn took(ring: &Ring, intake: &mut Intake, room: u32) -> Told
     requires taker { IsTaker ring.now intake.old room }
     ensures taker { IsTaker ring.now intake.new room }
 {
-    match take(ring, intake, room) {
+    let got = take(ring, intake, room, true);
+    grant(ring, intake, got.freed(), room);
+    match got {
         Got::Entry(position, lba) => Told::Took(position, lba),
         Got::Wrong(position) => Told::Wrong(position),
         Got::Empty(claimed) => Told::Empty(claimed),

@@ -10,6 +10,7 @@ fn eight_makers_wrap_a_ring(rt: HostRuntime) -> Result<(), Fail> {
         sector: 16,
         makers: 8,
         turns: 25_000,
+        looks: true,
     };
     let tally = make_and_take(&rt, rt.alloc(), job)?;
     assert_eq!(rt;
@@ -29,6 +30,7 @@ fn a_pass_is_split_for_each_maker_and_joined_again(rt: HostRuntime) -> Result<()
         sector: 16,
         makers: 127,
         turns: 100,
+        looks: true,
     };
     let tally = make_and_take(&rt, rt.alloc(), job)?;
     assert_eq!(rt;
