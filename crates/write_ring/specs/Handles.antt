@@ -1,5 +1,5 @@
 -- What contracts see of a ring and of its seats.
-use Rattle.std.specs.Prelude.{◌≡◌, ◌≢◌, ℕ, ◌+◌, ◌<◌, ◌^◌, List, [], ◌∷◌, ◌++◌, length, min}
+use Rattle.std.specs.Prelude.{◌≡◌, ◌≢◌, ℕ, ◌+◌, ◌<◌, ◌≤◌, ◌^◌, List, [], ◌∷◌, ◌++◌, length, min}
 use mathlib.Core.Option.{some}
 use lib.ListN.{get_elem?}
 use Rattle.sector_pool.specs.declared.entry.Class.{Class}
@@ -58,6 +58,10 @@ abbrev pub HasPlace : Class → List Draft → Place → View → View → Type 
 HasPlace c drafts place v w = (place.count ≡ length drafts)
     × (w.pass ≡ puts_rows (add_claim v.pass (claim_of place.first (length drafts) (is_copy c))) (rows_from c place.first drafts))
     × LieBelow place.first v.pass.claims
+
+-- the claim ends by the limit, by numbers that this try read
+abbrev pub HadRoom : Class → Key → ℕ → ℕ → View → Type 0
+HadRoom c key count claimed w = (w.found.claimed ≡ claimed) × (claimed + count ≤ limit_of c key w)
 
 -- the claim would have ended above the limit, by numbers that this try read
 abbrev pub WasFull : Class → Key → ℕ → ℕ → ℕ → View → Type 0

@@ -9,7 +9,7 @@ ghost use Rattle.write_ring.specs.declared.cell.Cell.TheVariants as cell;
 ghost use Rattle.write_ring.specs.declared.seats.TryPut.TheVariants as Refused;
 ghost use Rattle.write_ring.specs.Batches.{CanPut, rows_from};
 ghost use Rattle.write_ring.specs.Frames.{Fits, IsFree, is_copy, row_of};
-ghost use Rattle.write_ring.specs.Handles.{HasPlace, IsPassOf, WasFull, WasRaced};
+ghost use Rattle.write_ring.specs.Handles.{HadRoom, HasPlace, IsPassOf, WasFull, WasRaced};
 ghost use Rattle.write_ring.specs.Handles.{pass_view, puts_rows, ring_key};
 ghost use Rattle.write_ring.specs.Steps.{put_next, with_pass};
 ghost use Rattle.write_ring.specs.Tells.{HasSlots};
@@ -121,6 +121,8 @@ impl Ring {
         ensures empty { OnOk result (batch.new.drafts ≡ []) }
         ensures free { OnOk result
             (batch.new.free ≡ batch.old.free + length batch.old.drafts) }
+        ensures place_room { IfOk result (λ p. HadRoom class (ring_key self.now)
+            (length batch.old.drafts) p.first (pass_view pass.new)) }
         ensures place_steps { IfOk result
             (λ _. (pass_view pass.new).found.steps ≡ (pass_view pass.old).found.steps + 3) }
 
@@ -137,6 +139,9 @@ impl Ring {
             → (pass_view pass.new).found.steps ≡ (pass_view pass.old).found.steps + 2 }
         ensures raced { (expected found : ℕ) → result ≡ Err (Refused.Raced expected found)
             → WasRaced expected found (pass_view pass.new) }
+        ensures raced_room { (expected found : ℕ) → result ≡ Err (Refused.Raced expected found)
+            → HadRoom class (ring_key self.now) (length batch.old.drafts) expected
+            (pass_view pass.new) }
         ensures raced_steps { (expected found : ℕ) → result ≡ Err (Refused.Raced expected found)
             → (pass_view pass.new).found.steps ≡ (pass_view pass.old).found.steps + 3 }
     {
@@ -178,6 +183,10 @@ impl Ring {
         ensures region { batch.new.region ≡ batch.old.region }
         ensures place { IfOk result (λ p. HasPlace class batch.old.drafts p (pass_view pass.old)
             (pass_view pass.new)) }
+        ensures place_room { IfOk result (λ p. HadRoom class (ring_key self.now)
+            (length batch.old.drafts) p.first (pass_view pass.new)) }
+        ensures place_steps { IfOk result
+            (λ _. (pass_view pass.old).found.steps + 3 ≤ (pass_view pass.new).found.steps) }
         ensures empty { OnOk result (batch.new.drafts ≡ []) }
         ensures free { OnOk result
             (batch.new.free ≡ batch.old.free + length batch.old.drafts) }
@@ -188,6 +197,8 @@ impl Ring {
         ensures same_copier { (pass_view pass.new).pass.copier ≡ (pass_view pass.old).pass.copier }
         ensures full { IfErr result (λ e. WasFull class (ring_key self.now)
             (length batch.old.drafts) e.claimed e.limit (pass_view pass.new)) }
+        ensures full_steps { IfErr result
+            (λ _. (pass_view pass.old).found.steps + 2 ≤ (pass_view pass.new).found.steps) }
     {
         let backoff = Backoff::new();
         for _ in rt.forever() {
