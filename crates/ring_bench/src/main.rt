@@ -1,10 +1,13 @@
 //! Measures how fast writers, each in a thread of its own, hand sectors over to one reader: by way of a write
 //! ring, and beside it by way of the ring for one writer of the crate `rtrb`, and of a channel.
 //!
-//! The words are the number of writers, how many sectors each of them writes, and perhaps `times`. A line for
-//! each way has its name, how many sectors came, and the nanoseconds. Without `times` there stands in place of
-//! the nanoseconds how many of the sectors were numbered rightly. `rtrb` has one writer whatever is asked for.
+//! The words are the number of writers, how many sectors each of them puts at once, 1 to 16, how often it does
+//! so, and perhaps `times`. A line for each way has its name, how many sectors came, and the nanoseconds.
+//! Without `times` there stands in place of the nanoseconds how many of them were the right ones. `rtrb` has one
+//! writer whatever is asked for, and it and the channel take one sector at a time.
 #![tactic(auto)]
+
+ghost use Rattle.std.specs.Prelude.{◌<◌, ◌≤◌};
 
 mod channel;
 mod one_writer;
@@ -28,8 +31,12 @@ pub(crate) const ROOM: u32 = 2048;
 #[derive(Clone, Copy, Debug)]
 struct Asked {
     writers: u8,
+    batch: u32,
     turns: u32,
     has_times: bool,
+    ghost few: { writers < 128 },
+    ghost some: { 0 < batch },
+    ghost most: { batch ≤ 16 },
 }
 
 /// By which way sectors are handed over.
@@ -40,23 +47,25 @@ enum Way {
     Channel,
 }
 
+fn number_in(word: &str) -> Result<u32> {
+    Ok(word.parse::<u32>().context("a number")?)
+}
+
 fn asked_by(words: &[String]) -> Result<Asked> {
     ensure!(
-        words.len() == 2 || words.len() == 3,
-        "a number of writers, a number of sectors, and perhaps times"
+        words.len() == 3 || words.len() == 4,
+        "how many writers, sectors at once and turns, and perhaps times"
     );
-    let writers = words[0]
-        .as_str()
-        .parse::<u8>()
-        .context("a number of writers")?;
-    let turns = words[1]
-        .as_str()
-        .parse::<u32>()
-        .context("a number of sectors")?;
+    let writers = number_in(words[0].as_str())?;
+    let batch = number_in(words[1].as_str())?;
+    let turns = number_in(words[2].as_str())?;
+    ensure!(writers <= 127, "at most 127 writers");
+    ensure!(1 <= batch && batch <= 16, "1 to 16 sectors at once");
     Ok(Asked {
-        writers,
+        writers: writers as u8,
+        batch,
         turns,
-        has_times: words.len() == 3,
+        has_times: words.len() == 4,
     })
 }
 
@@ -66,15 +75,16 @@ fn hand_over<R: Threads + Wait + Sync>(
     asked: Asked,
     way: Way,
 ) -> Result<Tally> {
-    let writers = asked.writers.min(127);
-    let turns = asked.turns;
+    let writers = asked.writers;
+    let turns = asked.turns.saturating_mul(asked.batch);
     match way {
         Way::Ring => {
             let job = Job {
                 size: ROOM,
                 sector: SECTOR as u32,
                 makers: writers,
-                turns,
+                batch: asked.batch,
+                turns: asked.turns,
                 looks: false,
             };
             Ok(make_and_take(rt, alloc, job)?)

@@ -2,18 +2,20 @@
 
 use crate::{ROOM, SECTOR};
 use anyhow::Result;
+use crossbeam_utils::Backoff;
 use ring_crew::{Tally, has_number, number};
 use rtrb::{Consumer, Producer, RingBuffer};
 use std::alloc::Global;
 use std::sync::Wait;
-use std::thread::{Threads, join_mut, yield_now};
+use std::thread::{Threads, join_mut};
 
 fn send<R: Wait>(rt: &R, producer: &mut Producer<u8, Global>, sector: &[u8]) {
+    let backoff = Backoff::new();
     for _ in rt.forever() {
         if producer.push_entire_slice(sector).is_ok() {
             return;
         }
-        yield_now();
+        backoff.snooze();
     }
 }
 
@@ -26,11 +28,12 @@ fn send_all<R: Wait>(rt: &R, producer: &mut Producer<u8, Global>, turns: u32) {
 }
 
 fn receive<R: Wait>(rt: &R, consumer: &mut Consumer<u8, Global>, sector: &mut [u8]) {
+    let backoff = Backoff::new();
     for _ in rt.forever() {
         if consumer.pop_entire_slice(sector).is_ok() {
             return;
         }
-        yield_now();
+        backoff.snooze();
     }
 }
 

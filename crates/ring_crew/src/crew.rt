@@ -14,6 +14,9 @@ use std::sync::atomic::{AtomicBool, Ordering};
 use std::thread::{Threads, join_mut};
 use write_ring::{Batch, Pass, Ring};
 
+// How many sectors a maker puts at once at most.
+const MOST_BATCH: u32 = 16;
+
 /// What makers are to do with a ring.
 #[derive(Clone, Copy, Debug, Drop)]
 pub struct Job {
@@ -23,7 +26,9 @@ pub struct Job {
     pub sector: u32,
     /// How many makers there are.
     pub makers: u8,
-    /// How many sectors each of them puts.
+    /// How many sectors each of them puts at once, which are 1 to 16.
+    pub batch: u32,
+    /// How often it puts so many.
     pub turns: u32,
     /// Whether the bytes of what is taken are looked at.
     pub looks: bool,
@@ -40,6 +45,8 @@ fn crew<R: Threads + Wait + Sync>(
 ) -> Result<(), AllocError>
     requires crew { IsCrew ring.now pass.old pool.old job.makers }
     requires makers { job.makers ≤ 128 }
+    requires some { 0 < job.batch }
+    requires few { job.batch ≤ 16 }
     requires sector { pool.old.region.size ≡ job.sector }
     requires turns { HasTurns ring.now job.turns }
     ensures ring { IsPassOf ring.now pass.new }
@@ -57,25 +64,27 @@ fn crew<R: Threads + Wait + Sync>(
         ..job
     };
     let sector = vec![in alloc; 0u8; job.sector as usize]?;
-    let batch = Batch::new(alloc, 1, pool)?;
+    let batch = Batch::new(alloc, job.batch, pool)?;
     let mut maker = Maker {
         pass: ring.split(pass),
         batch,
         sector,
+        which,
+        count: 0,
     };
     let (_, others) = join_mut(
         rt,
         &mut || -> ()
-            requires { IsSync R.row × IsMaker ring.now maker × (which < 128)
-                × HasTurns ring.now job.turns }
-            ensures { IsMaker ring.entry.now maker.exit
+            requires { IsSync R.row × IsMaker ring.now maker 0 job.batch × (maker.count ≡ 0)
+                × (0 < job.batch) × (job.batch ≤ 16) × HasTurns ring.now job.turns }
+            ensures { IsMaker ring.entry.now maker.exit 0 job.batch
                 × ((pass_view maker.exit.pass).pass.shares
                 ≡ (pass_view maker.entry.pass).pass.shares) }
-        { work(rt, ring, &mut maker, which, job.turns) },
+        { work(rt, ring, &mut maker, job.batch, job.turns) },
         &mut || -> Result<(), AllocError>
             requires { IsSync R.row × IsCrew ring.now pass.now pool.now rest.makers
-                × (rest.makers ≤ 128) × (pool.now.region.size ≡ rest.sector)
-                × HasTurns ring.now rest.turns }
+                × (rest.makers ≤ 128) × (0 < rest.batch) × (rest.batch ≤ 16)
+                × (pool.now.region.size ≡ rest.sector) × HasTurns ring.now rest.turns }
             ensures { IsPassOf ring.entry.now pass.exit.now
                 × ((pass_view pass.exit.now).pass.shares
                 ≡ (pass_view pass.entry.now).pass.shares)
@@ -88,6 +97,8 @@ fn crew<R: Threads + Wait + Sync>(
         pass: own,
         batch,
         sector: _,
+        which: _,
+        count: _,
     } = maker;
     ring.join(pass, own);
     batch.close(pool);
@@ -103,11 +114,13 @@ pub fn make_and_take<R: Threads + Wait + Sync>(
     requires some { 0 < job.size }
     requires few { job.size < 2 ^ 16 }
     requires makers { job.makers < 128 }
+    requires some_batch { 0 < job.batch }
+    requires few_batch { job.batch ≤ 16 }
     requires long { 16 ≤ job.sector }
 {
     let size = job.size;
-    let mut pool = Pool::new(alloc, size + u32::from(job.makers), job.sector)?;
-    let capacity = MAKERS * u64::from(job.turns);
+    let mut pool = Pool::new(alloc, size + MOST_BATCH * u32::from(job.makers), job.sector)?;
+    let capacity = MAKERS * u64::from(MOST_BATCH) * u64::from(job.turns);
     let Ok((ring, mut intake, mut pass)) = Ring::new(alloc, size, 0, 0, capacity, &mut pool) else {
         end(pool);
         return Err(AllocError);
@@ -122,7 +135,8 @@ pub fn make_and_take<R: Threads + Wait + Sync>(
         { take_all(rt, &ring, &mut intake, &job, &ended) },
         &mut || -> Result<(), AllocError>
             requires { IsSync R.row × IsCrew ring pass pool job.makers × (job.makers < 128)
-                × (pool.region.size ≡ job.sector) × HasTurns ring job.turns }
+                × (0 < job.batch) × (job.batch ≤ 16) × (pool.region.size ≡ job.sector)
+                × HasTurns ring job.turns }
             ensures { IsPassOf ring pass.exit
                 × ((pass_view pass.exit).pass.shares
                 ≡ (pass_view pass.entry).pass.shares)

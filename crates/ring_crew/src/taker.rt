@@ -7,10 +7,10 @@ ghost use Rattle.ring_crew.specs.Ready.{IsTaker, freed_after};
 use crate::crew::Job;
 use crate::maker::MAKERS;
 use crate::sectors::has_number;
+use crossbeam_utils::Backoff;
 use sector_pool::{Entry, Pool};
 use std::sync::Wait;
 use std::sync::atomic::{AtomicBool, Ordering};
-use std::thread::yield_now;
 use write_ring::{Intake, Ring, Taken};
 
 /// No position is claimed from here on.
@@ -124,6 +124,7 @@ pub(crate) fn take_all<R: Wait>(
     let mut taken = 0u64;
     let mut right = 0u64;
     let mut owed = 0u32;
+    let backoff = Backoff::new();
     for _ in rt.forever() {
         let last = ended.load(Ordering::SeqCst);
         let got = take(ring, intake, job.size, job.looks);
@@ -134,6 +135,7 @@ pub(crate) fn take_all<R: Wait>(
         if !is_idle {
             taken = taken.wrapping_add(1);
             owed = owed.wrapping_add(1);
+            backoff.reset();
         }
         if let Got::Entry(position, lba) = got {
             let is_next = is_next_turn(&mut turns, lba) && position.wrapping_add(1) == taken;
@@ -143,7 +145,7 @@ pub(crate) fn take_all<R: Wait>(
             grant(ring, intake, got.freed(), job.size);
             owed = 0;
         } else if is_idle {
-            yield_now();
+            backoff.snooze();
         }
     }
     Tally { taken, right }

@@ -9,7 +9,8 @@ fn eight_makers_wrap_a_ring(rt: HostRuntime) -> Result<(), Fail> {
         size: 4096,
         sector: 16,
         makers: 8,
-        turns: 25_000,
+        batch: 5,
+        turns: 5000,
         looks: true,
     };
     let tally = make_and_take(&rt, rt.alloc(), job)?;
@@ -29,6 +30,7 @@ fn a_pass_is_split_for_each_maker_and_joined_again(rt: HostRuntime) -> Result<()
         size: 3,
         sector: 16,
         makers: 127,
+        batch: 1,
         turns: 100,
         looks: true,
     };

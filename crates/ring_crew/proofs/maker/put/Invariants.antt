@@ -4,4 +4,5 @@ use Rattle.ring_crew.specs.Ready.{IsMaker}
 use Rattle.ring_crew.proofs.maker.put.Given as goal
 
 abbrev pub invariant-loop : goal.invariant-loop
-invariant-loop g l = IsMaker l.ring l.maker × ((pass_view l.maker.pass).pass.shares ≡ (pass_view l.fn.maker.pass).pass.shares)
+invariant-loop g l = IsMaker l.ring l.maker l.batch l.batch × (l.maker.count ≡ l.fn.maker.count)
+    × ((pass_view l.maker.pass).pass.shares ≡ (pass_view l.fn.maker.pass).pass.shares)

@@ -1,5 +1,5 @@
 use Rattle.std.proofs.Common.{refl}
-use Rattle.ring_crew.proofs.OneDraft.{some_filled, all_filled}
+use Rattle.ring_tests.proofs.OneDraft.{some_filled, all_filled}
 use Rattle.ring_tests.proofs.steps.put_user.Goals as goal
 
 pub try_put-requires-clause-some : goal.try_put-requires-clause-some
