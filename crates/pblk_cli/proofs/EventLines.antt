@@ -51,12 +51,12 @@ module _ (script : List (List Command)) (records : Records) (end : ℕ) where
       ∙ ap (λ b. opened || b) (any_threads records.threads))
 
   pub by_opening : (b : Bool) → b ≡ names_any (opening_event (opening_of records.opening)) → b ≡ true → b ≡ has_event (transcript_of script records end)
-  by_opening b is yes = yes ∙ ap (λ o. (o || any_in records.threads) || closed) (sym yes ∙ is) ∙ sym event_is
+  by_opening b is so = so ∙ ap (λ o. (o || any_in records.threads) || closed) (sym so ∙ is) ∙ sym event_is
 
   pub by_threads : (threads : List (List Answer)) (o b : Bool) → threads ≡ records.threads → o ≡ names_any (opening_event (opening_of records.opening))
       → o ≡ false → b ≡ any_in threads → b ≡ true → b ≡ has_event (transcript_of script records end)
-  by_threads threads o b same at_opening calm is yes =
-      yes ∙ ap₂ (λ x y. (x || y) || closed) (sym calm ∙ at_opening) (sym yes ∙ is ∙ ap any_in same) ∙ sym event_is
+  by_threads threads o b same at_opening calm is so =
+      so ∙ ap₂ (λ x y. (x || y) || closed) (sym calm ∙ at_opening) (sym so ∙ is ∙ ap any_in same) ∙ sym event_is
 
   pub by_close : (threads : List (List Answer)) (o b x : Bool) → threads ≡ records.threads → o ≡ names_any (opening_event (opening_of records.opening))
       → o ≡ false → b ≡ any_in threads → b ≡ false → x ≡ names_any (closing_event (closing_of records.closing))
@@ -67,7 +67,7 @@ module _ (script : List (List Command)) (records : Records) (end : ℕ) where
 -- The status.
 
 pub drive_is : (t : Transcript) → has_event t ≡ true → 5 ≡ status_of_run t
-drive_is t yes = rw yes refl
+drive_is t so = rw so refl
 
 pub worn_is : (t : Transcript) → has_event t ≡ false → has_worn t ≡ true → 6 ≡ status_of_run t
 worn_is t none worn = rw (none, worn) refl

@@ -1,5 +1,5 @@
 -- The status of a run, by the lines of its transcript.
-use Rattle.std.specs.Prelude.{ℕ, ◌||◌, nat_lt, if◌then◌else◌, Bool, true, false, List, length}
+use Rattle.std.specs.Prelude.{ℕ, ◌||◌, if◌then◌else◌, Bool, true, false, List, [], ◌∷◌}
 use Rattle.std.specs.List.{list_any}
 use Rattle.pblk_model.specs.Text.{Outcome, Silent, Words, Flushed, Drive, Worn, Closing, Closed, ClosedByDrive, ClosedWorn, Transcript}
 use Rattle.pblk_model.specs.Transcript.{events}
@@ -19,7 +19,8 @@ closed_worn (ClosedWorn wanted have) = true
 
 -- events are named
 abbrev pub names_any : List (ℕ × ℕ) → Bool
-names_any named = nat_lt 0 (length named)
+names_any [] = false
+names_any (event ∷ named) = true
 
 -- some line is an `e` line, which names an event of a unit; some line is a `worn` line
 abbrev pub has_event : Transcript → Bool
