@@ -27,19 +27,19 @@ fn eight_makers_wrap_a_ring(rt: HostRuntime) -> Result<(), Fail> {
 #[test]
 fn a_pass_is_split_for_each_maker_and_joined_again(rt: HostRuntime) -> Result<(), Fail> {
     let job = Job {
-        size: 3,
+        size: 16,
         sector: 16,
         makers: 127,
         batch: 1,
-        turns: 100,
+        turns: 20,
         looks: true,
     };
     let tally = make_and_take(&rt, rt.alloc(), job)?;
     assert_eq!(rt;
         tally,
         Tally {
-            taken: 12_700,
-            right: 12_700
+            taken: 2540,
+            right: 2540
         }
     );
     Ok(())
