@@ -34,7 +34,8 @@ use Rattle.core_laws.proofs.LaterLines.{placed_again_later}
 use Rattle.core_laws.proofs.OverAnswered.{over_answered}
 use Rattle.core_laws.proofs.OverLines.{IsOfStripe, landed_is_written, of_stripe, written_counts}
 use Rattle.core_laws.proofs.PlacedAnew.{landed_not_lost, one_kept}
-use Rattle.core_laws.proofs.SpentLines.{counted_small, found_capacity, lba_in}
+use Rattle.world_laws.proofs.SectorValues.{found_capacity}
+use Rattle.core_laws.proofs.SpentLines.{counted_small, lba_in}
 use Rattle.core_laws.proofs.StandingLines.{IsStanding, landed_stands, line_stands, none_is_live}
 
 module _ (i : Image) (w : World) (mount : IsLegalMount i w) (g : Begun) (begins : begun (log_of w 0) ≡ Some g) (full : OpensWhenFull i (log_of w)) (line : ℕ)

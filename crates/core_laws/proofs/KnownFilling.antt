@@ -49,16 +49,11 @@ use Rattle.world_laws.proofs.Stripes.{life_of_stripe, opening_then, placed_befor
 use Rattle.world_laws.proofs.UnitLogs.{chunk_fits}
 use Rattle.world_laws.proofs.UnitTurns.{turn_is, unit_is}
 use Rattle.core_laws.proofs.GoingLines.{landed_on, landed_grows}
+use Rattle.world_laws.proofs.ChunkPointers.{no_blocks_yet}
 use Rattle.core_laws.proofs.LandedNow.{opened_now}
 use Rattle.core_laws.proofs.PlacedAnew.{earlier_stripe}
 
 -- ---- chunks
-
-no_blocks_in : (state : ChunkState) (clba wp : ℕ) → is_empty_state state ≡ true → PointerFits state clba wp → wp ≡ 0
-no_blocks_in states.Free clba wp empty fits = fits
-no_blocks_in states.Open clba wp empty fits = absurd cc
-no_blocks_in states.Closed clba wp empty fits = absurd cc
-no_blocks_in states.Offline clba wp empty fits = fits
 
 empty_not_closed : (c : Chunk) → is_empty_state c.state ≡ true → c.state ≢ states.Closed
 empty_not_closed c empty closed = not_both (is_empty_state c.state) empty (ap is_empty_state closed)
@@ -340,7 +335,7 @@ module _ (i : Image) (w : World) (mount : IsLegalMount i w) (o : Opening) (is_op
             let empty : is_empty_state c.state ≡ true =
             known_is_empty i w mount.legal b.0 b.1 unit o.line o.number o.start h.logged
             (opening i w mount.legal b.0 b.1 unit o.line o is_open) start_chunks has c is in
-            let none : length c.blocks ≡ 0 = no_blocks_in c.state i.shape.clba (pointer c) empty
+            let none : length c.blocks ≡ 0 = no_blocks_yet c.state i.shape.clba (pointer c) empty
             (chunk_fits i w mount.legal unit o.line at.0 c mount.fit mount.accepted.drive.ws_min at.1.inside (sym at.1.same ∙ is)).place in
             filled_empty i.shape (take o.number log) o unit c none empty
 

@@ -15,6 +15,7 @@ use Rattle.pblk_world.specs.Victims.{take_before, taken_up_to, took_from}
 use Rattle.lemmas.proofs.Lists.{IsAmong}
 use Rattle.lemmas.proofs.Parts.{all_at}
 use Rattle.lemmas.proofs.Tests.{and_both, below_of, first_of, lt_true, not_both, same, same_number, second_of}
+use Rattle.world_laws.proofs.HeldSectors.{never_none}
 use Rattle.world_laws.proofs.Latest.{one_entry}
 use Rattle.world_laws.proofs.Positions.{position_of}
 
@@ -63,17 +64,13 @@ last_passing test xs x e = elim (last_by test None xs x e) as (λ _. IsLast test
   | inr h ↦ h
 ]
 
-still_some : {X : Type 0} (before : X) (xs : List X) → last_or (Some before) xs ≡ None → ⊥
-still_some before [] e = absurd cc
-still_some before (x ∷ xs) e = still_some x xs e
-
 pub none_passing : {X : Type 0} (test : X → Bool) (xs : List X) → last_or None (filter test xs) ≡ None → AllByRecursion (λ x. test x ≡ false) xs
 none_passing test [] e = tt
 none_passing {X} test (x ∷ xs) e = go (test x) refl e (λ h. none_passing test xs h)
   where
     go : (b : Bool) → test x ≡ b → last_or None (cond b (x ∷ filter test xs) (filter test xs)) ≡ None
         → (last_or None (filter test xs) ≡ None → AllByRecursion (λ y. test y ≡ false) xs) → (test x ≡ false) × AllByRecursion (λ y. test y ≡ false) xs
-    go true p e rest = absurd (still_some x (filter test xs) e)
+    go true p e rest = absurd (never_none x (filter test xs) e)
     go false p e rest = (p, rest e)
 
 -- ---- entries by their positions

@@ -27,14 +27,11 @@ use Rattle.world_laws.proofs.Latest.{entry_of_block}
 use Rattle.world_laws.proofs.LifePlaces.{place_of_block, units_now}
 use Rattle.world_laws.proofs.LineAddresses.{same_place}
 use Rattle.world_laws.proofs.LineBlocks.{IsLineOf, IsStripeBlock, block_placed, landed_written, opened_line}
+use Rattle.world_laws.proofs.StripeBlocks.{all_flat_of}
 use Rattle.world_laws.proofs.Stripes.{stripe_is}
 use Rattle.core_laws.proofs.OverChunks.{known_stands, known_there, over_stands}
 
 -- ---- lists
-
-all_flat : {X Y : Type 0} (P : Y → Type 0) (f : X → List Y) (xs : List X) → AllByRecursion (λ x. AllByRecursion P (f x)) xs → AllByRecursion P (flat_map f xs)
-all_flat P f [] h = tt
-all_flat P f (x ∷ xs) h = all_append P (f x) (flat_map f xs) h.0 (all_flat P f xs h.1)
 
 flat_at : {X Y : Type 0} (f : X → List Y) (xs : List X) (n m : ℕ) (x : X) (y : Y) → slice_get xs n ≡ Some x → slice_get (f x) m ≡ Some y
     → IsAmong (flat_map f xs) y
@@ -205,7 +202,7 @@ module _ (i : Image) (w : World) (mount : IsLegalMount i w) (o : Opening) (is_op
   unfolding HasWritten
   positions_written P each =
       all_filter_map P Known (position_in i.shape) (flat_map (λ (c : Chunk). c.blocks) (chunks_of (known_image i (log_of w)) o.line)) of_block
-      (all_flat Known (λ (c : Chunk). c.blocks) (chunks_of (known_image i (log_of w)) o.line)
+      (all_flat_of Known (λ (c : Chunk). c.blocks) (chunks_of (known_image i (log_of w)) o.line)
       (all_filter_map (λ (c : Chunk). AllByRecursion Known c.blocks) Unit_of (λ (cs : List Chunk). slice_get cs o.line) (known_image i (log_of w)).units of_unit
       (all_by_get Unit_of (known_image i (log_of w)).units (λ u cs at. (u, at)))))
     where

@@ -47,17 +47,12 @@ use Rattle.core_laws.specs.Spent.{IsSpent}
 use Rattle.core_laws.proofs.LandedNow.{HasRecord, IsFrom, found_below, has_record, is_from, opened_now}
 use Rattle.core_laws.proofs.LastTakes.{IsBefore, before_is, before_none, last_is, last_none, taken_within}
 use Rattle.core_laws.proofs.OverLines.{positions_written}
+use Rattle.world_laws.proofs.Latest.{not_older}
+use Rattle.world_laws.proofs.WinnerLines.{never_both}
 use Rattle.core_laws.proofs.PlacedAnew.{one_kept}
 use Rattle.core_laws.proofs.StandingLines.{IsStanding, landed_in_line, live_none, stands_in_line}
 
 -- ---- records
-
-never_both : (a b : Record) → IsNewer a b → IsNewer b a → ⊥
-never_both a b h k = grind (arith, h, k)
-
-not_older : (a b : Record) → IsNewer a b → a.position ≤ b.position
-not_older a b (inl above) = omega arith
-not_older a b (inr level) = let same : a.position ≡ b.position = level.0 in omega arith
 
 -- a record that counts is of a sector of the target
 abbrev IsSmall : Image → Record → Type 0
@@ -85,11 +80,6 @@ counted_small j r lba there = all_contains (IsSmall j) (counted j) r (go (head j
     go : (o : Option StartRecord) → AllByRecursion (IsSmall j) (counted_after (records j) o)
     go None = tt
     go (Some h) = all_filter (IsSmall j) (counts h (end_after (records j) (Some h))) (records j) (records_small j)
-
--- the image that was found has the drive's shape
-pub found_capacity : (i : Image) (logs : Logs) (o : Option Begun) → (found_by i logs o).shape.capacity ≡ i.shape.capacity
-found_capacity i logs None = refl
-found_capacity i logs (Some b) = refl
 
 module _ (i : Image) (w : World) (mount : IsLegalMount i w) (line : ℕ) where
   abbrev log : List Logged

@@ -14,7 +14,7 @@ use Rattle.lemmas.proofs.Lists.{among_contained}
 use Rattle.lemmas.proofs.Maps.{any_found, any_member, found_passes, in_filter, none_kept, range_get}
 use Rattle.lemmas.proofs.Options.{map_some, some_value}
 use Rattle.lemmas.proofs.Parts.{contained_among}
-use Rattle.lemmas.proofs.Tests.{not_true, same, same_number}
+use Rattle.lemmas.proofs.Tests.{both, not_true, same, same_number}
 use Rattle.world_laws.specs.LegalMounts.{IsLegalMount}
 use Rattle.world_laws.proofs.Stripes.{life_of_stripe, one_opening, opening_then}
 use Rattle.core_laws.proofs.PlacedAnew.{landed_not_lost, one_kept}
@@ -26,16 +26,6 @@ three true true true p q r = refl
 three true true false p q r = absurd cc
 three true false c p q r = absurd cc
 three false b c p q r = absurd cc
-
-of_three : (a b c : Bool) → (a && b && c) ≡ true → (a ≡ true) × (b ≡ true) × (c ≡ true)
-of_three true true true e = (refl, refl, refl)
-of_three true true false e = absurd cc
-of_three true false c e = absurd cc
-of_three false b c e = absurd cc
-
-not_false : (b : Bool) → b ≡ false → not b ≡ true
-not_false true e = absurd cc
-not_false false e = refl
 
 -- ---- live sectors
 
@@ -105,10 +95,11 @@ module _ (i : Image) (w : World) (mount : IsLegalMount i w) where
       let at = among_contained (placements log) p h.there in
       let found = some_value (find (placed_test position) (placements log)) (sym (any_found (placed_test position) (placements log))
       ∙ any_member (placed_test position) (placements log) at.0 p at.1
-      (three (holds_position i.shape position p) (not (was_lost log p)) (is_in_force log p.life p.stripe.line) h.holds (not_false (was_lost log p) h.kept)
+      (three (holds_position i.shape position p) (not (was_lost log p)) (is_in_force log p.life p.stripe.line) h.holds (ap not h.kept)
       (in_force p h.there h.stands))) in
       let passes = found_passes (placed_test position) (placements log) found.0 found.1 in
-      let parts = of_three (holds_position i.shape position found.0) (not (was_lost log found.0)) (is_in_force log found.0.life found.0.stripe.line) passes.0 in
+      let ends = both ((holds_position i.shape position found.0) && (not (was_lost log found.0))) (is_in_force log found.0.life found.0.stripe.line) passes.0 in
+      let parts = both (holds_position i.shape position found.0) (not (was_lost log found.0)) ends.0 in
       let one : found.0 ≡ p = one_kept i w mount found.0 p position (contained_among (placements log) found.0 passes.1) h.there parts.0 h.holds
       (not_true (was_lost log found.0) parts.1) h.kept in
       ap (option_map (λ (q : Placed). q.stripe.line)) found.1 ∙ ap (λ (q : Placed). Some q.stripe.line) one
@@ -119,10 +110,11 @@ module _ (i : Image) (w : World) (mount : IsLegalMount i w) where
   stands_in_line position line e =
       let found = map_some (λ (q : Placed). q.stripe.line) (find (placed_test position) (placements log)) line e in
       let passes = found_passes (placed_test position) (placements log) found.0 found.1 in
-      let parts = of_three (holds_position i.shape position found.0) (not (was_lost log found.0)) (is_in_force log found.0.life found.0.stripe.line) passes.0 in
+      let ends = both ((holds_position i.shape position found.0) && (not (was_lost log found.0))) (is_in_force log found.0.life found.0.stripe.line) passes.0 in
+      let parts = both (holds_position i.shape position found.0) (not (was_lost log found.0)) ends.0 in
       let there : Contains (placements log) found.0 = contained_among (placements log) found.0 passes.1 in (
         found.0,
-        record { there = there; holds = parts.0; kept = not_true (was_lost log found.0) parts.1; stands = of_force found.0 there parts.2 },
+        record { there = there; holds = parts.0; kept = not_true (was_lost log found.0) parts.1; stands = of_force found.0 there ends.1 },
         found.2,
       )
 
@@ -135,7 +127,8 @@ module _ (i : Image) (w : World) (mount : IsLegalMount i w) where
       ∙ any_member (landed_test position) (placements log) at.0 p at.1
       (three (holds_position i.shape position p) (has_landed log p) (is_in_force log p.life p.stripe.line) h.holds landed (in_force p h.there h.stands))) in
       let passes = found_passes (landed_test position) (placements log) found.0 found.1 in
-      let parts = of_three (holds_position i.shape position found.0) (has_landed log found.0) (is_in_force log found.0.life found.0.stripe.line) passes.0 in
+      let ends = both ((holds_position i.shape position found.0) && (has_landed log found.0)) (is_in_force log found.0.life found.0.stripe.line) passes.0 in
+      let parts = both (holds_position i.shape position found.0) (has_landed log found.0) ends.0 in
       let one : found.0 ≡ p = one_kept i w mount found.0 p position (contained_among (placements log) found.0 passes.1) h.there parts.0 h.holds
       (landed_not_lost log found.0 parts.1) h.kept in
       ap (option_map (λ (q : Placed). q.stripe.line)) found.1 ∙ ap (λ (q : Placed). Some q.stripe.line) one
@@ -146,10 +139,11 @@ module _ (i : Image) (w : World) (mount : IsLegalMount i w) where
   landed_in_line position line e =
       let found = map_some (λ (q : Placed). q.stripe.line) (find (landed_test position) (placements log)) line e in
       let passes = found_passes (landed_test position) (placements log) found.0 found.1 in
-      let parts = of_three (holds_position i.shape position found.0) (has_landed log found.0) (is_in_force log found.0.life found.0.stripe.line) passes.0 in
+      let ends = both ((holds_position i.shape position found.0) && (has_landed log found.0)) (is_in_force log found.0.life found.0.stripe.line) passes.0 in
+      let parts = both (holds_position i.shape position found.0) (has_landed log found.0) ends.0 in
       let there : Contains (placements log) found.0 = contained_among (placements log) found.0 passes.1 in (
         found.0,
-        record { there = there; holds = parts.0; kept = landed_not_lost log found.0 parts.1; stands = of_force found.0 there parts.2 },
+        record { there = there; holds = parts.0; kept = landed_not_lost log found.0 parts.1; stands = of_force found.0 there ends.1 },
         parts.1,
         found.2,
       )

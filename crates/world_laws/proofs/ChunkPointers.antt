@@ -41,7 +41,7 @@ use Rattle.world_laws.proofs.UnitTurns.{Rises, earlier_placed, rise_all, rise_be
 use Rattle.world_laws.proofs.UnitChunks.{still_there}
 use Rattle.world_laws.proofs.UnitLogs.{chunk_fits}
 
-no_blocks_yet : (state : ChunkState) (clba wp : ℕ) → is_empty_state state ≡ true → PointerFits state clba wp → wp ≡ 0
+pub no_blocks_yet : (state : ChunkState) (clba wp : ℕ) → is_empty_state state ≡ true → PointerFits state clba wp → wp ≡ 0
 no_blocks_yet states.Free clba wp empty fits = fits
 no_blocks_yet states.Open clba wp empty fits = absurd cc
 no_blocks_yet states.Closed clba wp empty fits = absurd cc

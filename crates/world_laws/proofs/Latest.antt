@@ -108,7 +108,7 @@ kept_life log k line other l there frees apart =
     ∙ life_stays (take k log) l other (λ life. ap (turned_by other life (length (take k log)) l.knows) frees
     ∙ ap (λ b. if b then Freed (last_opening life) l.knows else life) (other_number line other (λ e. apart (sym e))))
 
-not_older : (a b : Record) → IsNewer a b → a.position ≤ b.position
+pub not_older : (a b : Record) → IsNewer a b → a.position ≤ b.position
 not_older a b (inl above) = omega arith
 not_older a b (inr level) = let same : a.position ≡ b.position = level.0 in omega arith
 

@@ -16,7 +16,7 @@ use Rattle.world_laws.proofs.HeldSectors.{latest_holds, none_holds}
 use Rattle.world_laws.proofs.Latest.{IsLatestBelow}
 use Rattle.world_laws.proofs.Copies.{entries_follow}
 
-found_capacity : (i : Image) (logs : Logs) (o : Option Begun) → (found_by i logs o).shape.capacity ≡ i.shape.capacity
+pub found_capacity : (i : Image) (logs : Logs) (o : Option Begun) → (found_by i logs o).shape.capacity ≡ i.shape.capacity
 found_capacity i logs None = refl
 found_capacity i logs (Some b) = refl
 

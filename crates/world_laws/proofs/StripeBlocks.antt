@@ -181,7 +181,7 @@ marks_are s part o blocks (inl all) = all_imply _ HasPlacedMark (cut_marks s.sec
 marks_are s part o blocks (inr (inl all)) = all_imply _ HasPlacedMark (cut_marks s.sector (end_bytes s (end_record s part o)) o.start.seq) blocks all
 marks_are s part o blocks (inr (inr all)) = all_imply HasDataMark HasPlacedMark data_mark blocks all
 
-all_flat_of : {X Y : Type 0} (P : Y → Type 0) (f : X → List Y) (xs : List X) → AllByRecursion (λ x. AllByRecursion P (f x)) xs
+pub all_flat_of : {X Y : Type 0} (P : Y → Type 0) (f : X → List Y) (xs : List X) → AllByRecursion (λ x. AllByRecursion P (f x)) xs
     → AllByRecursion P (flat_map f xs)
 all_flat_of P f [] h = tt
 all_flat_of P f (x ∷ xs) h = all_append P (f x) (flat_map f xs) h.0 (all_flat_of P f xs h.1)

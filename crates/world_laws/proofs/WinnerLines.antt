@@ -99,7 +99,7 @@ first_turn line log = by_last (λ log. FirstTurn log line) (NoTurn refl) (one_tu
 
 -- ---- no two records are newer than each other
 
-never_both : (a b : Record) → IsNewer a b → IsNewer b a → ⊥
+pub never_both : (a b : Record) → IsNewer a b → IsNewer b a → ⊥
 never_both a b (inl x) (inl y) = omega arith
 never_both a b (inl x) (inr y) = let e : b.position ≡ a.position = y.0 in omega arith
 never_both a b (inr x) (inl y) = let e : a.position ≡ b.position = x.0 in omega arith
