@@ -3,6 +3,7 @@ pub mod Bytes
 pub mod Checks
 pub mod Shape
 pub mod Frames
+pub mod RingState
 pub mod LineOrder
 pub mod Accepted
 pub mod Chunk

@@ -3,10 +3,10 @@ use Rattle.std.proofs.Common.{◌≡◌, ℕ, ◌+◌, ◌<◌, ◌≤◌, List,
 use Rattle.std.proofs.lemmas.Bool.Decides.{nat_tests}
 use Rattle.std.specs.List.{AllByRecursion}
 use Rattle.lemmas.proofs.Lists.{all_weaker}
-use Rattle.write_ring.specs.declared.view.Claim.{Claim}
+use Rattle.pblk_model.specs.declared.ring.Claim.{Claim}
+use Rattle.pblk_model.specs.RingState.{between, covers, covers_copy, IsGranted}
 use Rattle.write_ring.specs.declared.view.Row.{Row}
 use Rattle.write_ring.specs.Stock.{rows_at, copies_at}
-use Rattle.write_ring.specs.Rule.{between, covers, covers_copy, IsGranted}
 
 pub covers_both : (x : ℕ) (cs ds : List Claim) → covers x (cs ++ ds) ≡ covers x cs + covers x ds
 covers_both x [] ds = omega arith

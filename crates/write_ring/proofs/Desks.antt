@@ -4,12 +4,13 @@ use Rattle.std.proofs.Common.{if◌then◌else◌, Bool, true, false}
 use mathlib.Core.Option.{Option, some}
 use lib.ListN.{get_elem?}
 use Rattle.atomic_table.proofs.Lists.{at_last, at_longer}
+use Rattle.pblk_model.specs.RingState.{between, covers, total}
 use Rattle.write_ring.specs.declared.view.Row.{Row}
 use Rattle.write_ring.specs.declared.view.Part.{Part}
 use Rattle.write_ring.specs.declared.view.Desk.{Desk}
 use Rattle.write_ring.specs.declared.view.View.{View}
 use Rattle.write_ring.specs.Cells.{slot, turn_at}
-use Rattle.write_ring.specs.Rule.{between, covers, total, AllViews}
+use Rattle.write_ring.specs.Rule.{AllViews}
 use Rattle.write_ring.specs.Stock.{HasOpen, HasPut, IsOpen, IsPut, Begins, Sides, Entered, IsEntry, Stock}
 use Rattle.write_ring.specs.Steps.{put_row}
 use Rattle.write_ring.proofs.Views.{sum_two, each_changed}

@@ -9,11 +9,12 @@ use native.Mathlib.Decide.{ℕ_discrete, dec_le}
 use lib.ListN.{get_elem?}
 use Rattle.atomic_table.specs.Table.{State, Final, Seen, opening}
 use Rattle.atomic_table.proofs.Lists.{at_snoc, at_map}
+use Rattle.pblk_model.specs.RingState.{between, covers, covers_copy}
 use Rattle.write_ring.specs.declared.view.Key.{Key}
 use Rattle.write_ring.specs.declared.view.Row.{Row}
 use Rattle.write_ring.specs.declared.view.View.{View}
 use Rattle.write_ring.specs.Cells.{slot, turn_at}
-use Rattle.write_ring.specs.Rule.{between, covers, covers_copy, Words, Each}
+use Rattle.write_ring.specs.Rule.{Words, Each}
 use Rattle.write_ring.specs.Stock.{rows_at, copies_at, HasOpen, HasPut, Entered}
 use Rattle.write_ring.specs.Kept.{HasKey}
 use Rattle.write_ring.specs.Steps.{first_view}
@@ -29,7 +30,7 @@ each_there P (x ∷ xs) zero all lt = (x, refl, all.0)
 each_there P (x ∷ xs) (suc i) all lt = each_there P xs i all.1 (omega arith)
 
 -- a row that was put is counted
-put_counted : (rs : List Row) (i : ℕ) (r : Row) → get_elem? rs i ≡ some r → 1 ≤ rows_at r.position rs
+pub put_counted : (rs : List Row) (i : ℕ) (r : Row) → get_elem? rs i ≡ some r → 1 ≤ rows_at r.position rs
 put_counted [] i r there = absurd (some-ne-none r (sym there))
 put_counted (s ∷ rs) zero r there =
     let here : between s.position (s.position + 1) r.position ≡ 1 =

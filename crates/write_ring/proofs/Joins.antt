@@ -7,12 +7,13 @@ use mathlib.Core.Option.{some, some-ne-none}
 use lib.ListN.{get_elem?}
 use Rattle.atomic_table.specs.Table.{State, Splits, Joins}
 use Rattle.atomic_table.proofs.Lists.{at_longer, set_else}
+use Rattle.pblk_model.specs.RingState.{between, covers, covers_copy, IsGranted}
 use Rattle.write_ring.specs.declared.view.Found.{Found}
 use Rattle.write_ring.specs.declared.view.Key.{Key}
 use Rattle.write_ring.specs.declared.view.Part.{Part}
 use Rattle.write_ring.specs.declared.view.Row.{Row}
 use Rattle.write_ring.specs.declared.view.View.{View}
-use Rattle.write_ring.specs.Rule.{between, covers, covers_copy, IsGranted, Each, Seats}
+use Rattle.write_ring.specs.Rule.{Each, Seats}
 use Rattle.write_ring.specs.Stock.{HasOpen, HasPut, Begins, Sides, Entered}
 use Rattle.write_ring.specs.Kept.{HasKey}
 use Rattle.write_ring.specs.Steps.{fresh_part, joined_pass, less_share, new_pass, no_desk, no_part, note_of, part_of, only_intake, spent, told, with_desk, without_intake}

@@ -19,3 +19,4 @@ pub mod Plays
 pub mod Puts
 pub mod Draws
 pub mod Leaving
+pub mod RingStates

@@ -6,10 +6,11 @@ use native.Mathlib.Decide.{ℕ_discrete}
 use lib.ListN.{get_elem?}
 use Rattle.atomic_table.specs.Table.{State, Allows}
 use Rattle.atomic_table.proofs.Lists.{at_longer}
+use Rattle.pblk_model.specs.RingState.{between}
 use Rattle.write_ring.specs.declared.view.Key.{Key}
 use Rattle.write_ring.specs.declared.view.Row.{Row}
 use Rattle.write_ring.specs.declared.view.View.{View}
-use Rattle.write_ring.specs.Rule.{between, claimed_at}
+use Rattle.write_ring.specs.Rule.{claimed_at}
 use Rattle.write_ring.specs.Stock.{copies_at, HasPut, CopiesArePut}
 use Rattle.write_ring.specs.Steps.{saw_claimed}
 use Rattle.write_ring.proofs.Views.{sum_two}

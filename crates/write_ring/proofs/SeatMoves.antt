@@ -3,10 +3,11 @@ use Rattle.std.proofs.Common.{◌≡◌, ◌≢◌, ℕ, ◌+◌, ◌-◌, ◌<�
 use mathlib.Core.Option.{some}
 use lib.ListN.{get_elem?}
 use Rattle.lemmas.proofs.Lists.{with_last}
+use Rattle.pblk_model.specs.RingState.{between, covers, covers_copy, Numbers, IsGranted}
 use Rattle.write_ring.specs.declared.view.Found.{Found}
 use Rattle.write_ring.specs.declared.view.Key.{Key}
 use Rattle.write_ring.specs.declared.view.View.{View}
-use Rattle.write_ring.specs.Rule.{between, covers, covers_copy, Numbers, IsGranted, Each, Seats}
+use Rattle.write_ring.specs.Rule.{Each, Seats}
 use Rattle.write_ring.specs.Steps.{LieBelow, claim_of, claimed_to, granted_to, new_pass, spent, with_found}
 use Rattle.write_ring.proofs.Views.{sum_changed, sum_same, sum_one, sum_two, each_changed}
 use Rattle.write_ring.proofs.ClaimLists.{covers_both, copies_both, grown, none_above, granted_more}
@@ -108,8 +109,8 @@ module _ (key : Key) where
       omega arith
 
   -- a seat claims
-  pub claimed_more : (copy : Bool) (old new taken f g : ℕ) (views : List View) (by : ℕ) (v : View) → Seats key old f g views → Numbers key old taken f g
-      → get_elem? views by ≡ some v → 0 < v.pass.shares → old < new
+  pub claimed_more : (copy : Bool) (old new taken f g : ℕ) (views : List View) (by : ℕ) (v : View) → Seats key old f g views
+      → Numbers key.first key.size key.reserve old taken f g → get_elem? views by ≡ some v → 0 < v.pass.shares → old < new
       → (copy ≡ false → new ≤ g) → (v.pass.copier ≡ 0 → copy ≡ false) → Seats key new f g (set views by (claimed_to v old new copy))
   claimed_more copy old new taken f g views by v h numbers there sharing rises user may =
       let w = claimed_to v old new copy in

@@ -12,13 +12,14 @@ use prog.Atomic.{either}
 use lib.ListN.{get_elem?}
 use Rattle.atomic_table.specs.Table.{State, Act, Valid, Allows, keeps, takes, gives, stepped, carried_after, homes_after}
 use Rattle.atomic_table.proofs.Lists.{exchanged}
-use Rattle.write_ring.specs.declared.view.Claim.{Claim}
+use Rattle.pblk_model.specs.declared.ring.Claim.{Claim}
+use Rattle.pblk_model.specs.RingState.{between, covers_copy, IsGranted, Numbers}
 use Rattle.write_ring.specs.declared.view.Key.{Key}
 use Rattle.write_ring.specs.declared.view.Part.{Part}
 use Rattle.write_ring.specs.declared.view.Row.{Row}
 use Rattle.write_ring.specs.declared.view.View.{View}
 use Rattle.write_ring.specs.Cells.{IsNamed, slot, slots_with, turn_at}
-use Rattle.write_ring.specs.Rule.{between, covers_copy, IsGranted, Numbers, Each, Seats, claimed_at}
+use Rattle.write_ring.specs.Rule.{Each, Seats, claimed_at}
 use Rattle.write_ring.specs.Stock.{Stock, IsOpen, IsEntry, Sides}
 use Rattle.write_ring.specs.Steps.{Claims, add_claim, claim_of, claimed_to, met_claimed, put_next, took_row, saw_turn}
 use Rattle.write_ring.specs.Tells.{Gains, Finds}
@@ -58,7 +59,8 @@ claim_sides p c h rest = record {
 module _ {S : Type 0} (key : Key) (FreeOf : Key → S → Type 0) (Blank : S → Type 0) (CarriesOf : Key → S → Row → Type 0) (FitsOf : Key → Row → Type 0) where
   claims : (copy : Bool) (by : ℕ) (v : View) (slots old new : ℕ) → slots ≡ key.size → 0 < v.pass.shares → v.pass.next ≡ v.pass.until
       → v.found.claimed ≡ old → old < new → new ≤ 2 ^ 62
-      → ((c t f g : ℕ) → Numbers key c t f g → Each c f g v → (new ≤ f + key.size) × (copy ≡ false → new ≤ g)) → (v.pass.copier ≡ 0 → copy ≡ false)
+      → ((c t f g : ℕ) → Numbers key.first key.size key.reserve c t f g → Each c f g v → (new ≤ f + key.size) × (copy ≡ false → new ≤ g))
+      → (v.pass.copier ≡ 0 → copy ≡ false)
       → Allows (Rule key FreeOf Blank CarriesOf FitsOf) slots by (v, []) claimed_at (λ n. either (eqb n old) new n)
       (λ n m. Claims copy v old new n m.0 × Gains FreeOf v slots old new n m.1)
   claims copy by v slots old new all_slots sharing rest saw rises most room may s h long there small =
@@ -72,7 +74,8 @@ module _ {S : Type 0} (key : Key) (FreeOf : Key → S → Type 0) (Blank : S →
       (λ hit.
       let at : h.claimed ≡ old = sym is ∙ hit in
       let seats : Seats key old h.freed h.granted s.views = subst (λ c. Seats key c h.freed h.granted s.views) at h.seats in
-      let numbers : Numbers key old h.taken h.freed h.granted = subst (λ c. Numbers key c h.taken h.freed h.granted) at h.numbers in
+      let numbers : Numbers key.first key.size key.reserve old h.taken h.freed h.granted =
+      subst (λ c. Numbers key.first key.size key.reserve c h.taken h.freed h.granted) at h.numbers in
       let stock : Goods key FreeOf Blank CarriesOf FitsOf s.words s s.views h.took old h.taken h.freed h.away =
       subst (λ c. Goods key FreeOf Blank CarriesOf FitsOf s.words s s.views h.took c h.taken h.freed h.away) at h.stock in
       let allowed = room h.claimed h.taken h.freed h.granted h.numbers mine in

@@ -6,10 +6,11 @@ use mathlib.Core.Option.{Option, some}
 use mathlib.Core.Logic.{dite}
 use native.Mathlib.Decide.{ℕ_discrete, dec_le}
 use lib.ListN.{get_elem?}
+use Rattle.pblk_model.specs.RingState.{between, covers, total}
 use Rattle.write_ring.specs.declared.view.Row.{Row}
 use Rattle.write_ring.specs.declared.view.View.{View}
 use Rattle.write_ring.specs.Cells.{slot, turn_at}
-use Rattle.write_ring.specs.Rule.{between, covers, total, AllViews}
+use Rattle.write_ring.specs.Rule.{AllViews}
 use Rattle.write_ring.specs.Stock.{HasOpen, HasPut, IsOpen, IsPut, Begins, Sides, Entered, IsEntry, IsStory, Stock}
 use Rattle.write_ring.proofs.Views.{sum_one, each_changed, each_more}
 use Rattle.write_ring.proofs.ClaimLists.{none_above, inside}

@@ -6,11 +6,12 @@ use mathlib.Core.Option.{some, some-ne-none, some-injective}
 use mathlib.Core.Logic.{dite}
 use native.Mathlib.Decide.{dec_le}
 use lib.ListN.{get_elem?}
-use Rattle.write_ring.specs.declared.view.Claim.{Claim}
+use Rattle.pblk_model.specs.declared.ring.Claim.{Claim}
+use Rattle.pblk_model.specs.RingState.{between, covers, covers_copy, IsGranted}
 use Rattle.write_ring.specs.declared.view.Key.{Key}
 use Rattle.write_ring.specs.declared.view.Row.{Row}
 use Rattle.write_ring.specs.declared.view.View.{View}
-use Rattle.write_ring.specs.Rule.{between, covers, covers_copy, AllViews, IsGranted, Seats}
+use Rattle.write_ring.specs.Rule.{AllViews, Seats}
 use Rattle.write_ring.specs.Stock.{rows_at, copies_at, IsPut, Entered}
 use Rattle.write_ring.proofs.ClaimLists.{inside, none_above}
 

@@ -2,6 +2,8 @@
 use Rattle.std.specs.Prelude.{◌≡◌, ◌≢◌, ℕ, ◌+◌, ◌<◌, ◌≤◌, ◌^◌, List, [], ◌∷◌, ◌++◌, length, min}
 use mathlib.Core.Option.{some}
 use lib.ListN.{get_elem?}
+use Rattle.pblk_model.specs.declared.ring.Claim.{Claim}
+use Rattle.pblk_model.specs.RingState.{between, covers, covers_copy}
 use Rattle.sector_pool.specs.declared.entry.Class.{Class}
 use Rattle.sector_pool.specs.declared.entry.Class.TheVariants as class
 use Rattle.sector_pool.specs.declared.entry.Entry.{Entry}
@@ -10,14 +12,12 @@ use Rattle.write_ring.specs.declared.table.Ring.{Ring}
 use Rattle.write_ring.specs.declared.seats.Pass.{Pass}
 use Rattle.write_ring.specs.declared.seats.Intake.{Intake}
 use Rattle.write_ring.specs.declared.seats.Place.{Place}
-use Rattle.write_ring.specs.declared.view.Claim.{Claim}
 use Rattle.write_ring.specs.declared.view.Key.{Key}
 use Rattle.write_ring.specs.declared.view.Part.{Part}
 use Rattle.write_ring.specs.declared.view.Row.{Row}
 use Rattle.write_ring.specs.declared.view.View.{View}
 use Rattle.write_ring.specs.Batches.{rows_from}
 use Rattle.write_ring.specs.Frames.{is_copy, row_of, Fits}
-use Rattle.write_ring.specs.Rule.{between, covers, covers_copy}
 use Rattle.write_ring.specs.Steps.{LieBelow, add_claim, claim_of, part_of, saw_freed, saw_granted}
 use Rattle.write_ring.specs.Stock.{HasPut, copies_at, rows_at}
 

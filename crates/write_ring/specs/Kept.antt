@@ -1,10 +1,11 @@
 -- What a ring keeps at every moment: its words, the claims of all passes, and the entries.
 use Rattle.std.specs.Prelude.{◌≡◌, ◌≢◌, ℕ, List}
 use Rattle.atomic_table.specs.Table.{State}
+use Rattle.pblk_model.specs.RingState.{Numbers}
 use Rattle.write_ring.specs.declared.view.Key.{Key}
 use Rattle.write_ring.specs.declared.view.Row.{Row}
 use Rattle.write_ring.specs.declared.view.View.{View}
-use Rattle.write_ring.specs.Rule.{Words, Numbers, Seats, AllViews}
+use Rattle.write_ring.specs.Rule.{Words, Seats, AllViews}
 use Rattle.write_ring.specs.Stock.{Stock}
 
 -- a pass and the intake know what the ring was made with
@@ -21,7 +22,7 @@ module _ {S : Type 0} (key : Key) (Free Blank : S → Type 0) (Carries : S → R
     pub away : ℕ
     pub took : List Row
     pub words : Words key.size s.words claimed freed granted
-    pub numbers : Numbers key claimed taken freed granted
+    pub numbers : Numbers key.first key.size key.reserve claimed taken freed granted
     pub seats : Seats key claimed freed granted s.views
     pub stock : Stock key.size key.first Free Blank Carries Fits s.words s.homes s.views took claimed taken freed away
     pub keys : AllViews (HasKey key) s.views

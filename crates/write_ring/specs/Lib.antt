@@ -10,3 +10,4 @@ pub mod Batches
 pub mod Inside
 pub mod Openings
 pub mod Endings
+pub mod State

@@ -1,14 +1,14 @@
 -- How a seat's view changes at each kind of step, and what the step tells.
 use Rattle.std.specs.Prelude.{◌≡◌, ◌≢◌, ℕ, ◌+◌, ◌-◌, ◌<◌, ◌≤◌, List, [], ◌∷◌, ◌++◌, Bool, false}
 use Rattle.pblk_model.specs.Frames.{Region}
-use Rattle.write_ring.specs.declared.view.Claim.{Claim}
+use Rattle.pblk_model.specs.declared.ring.Claim.{Claim}
+use Rattle.pblk_model.specs.RingState.{covers}
 use Rattle.write_ring.specs.declared.view.Row.{Row}
 use Rattle.write_ring.specs.declared.view.Found.{Found}
 use Rattle.write_ring.specs.declared.view.Part.{Part}
 use Rattle.write_ring.specs.declared.view.Desk.{Desk}
 use Rattle.write_ring.specs.declared.view.Key.{Key}
 use Rattle.write_ring.specs.declared.view.View.{View}
-use Rattle.write_ring.specs.Rule.{covers}
 
 abbrev pub claim_of : ℕ → ℕ → Bool → Claim
 claim_of first count copy = record { first = first; count = count; copy = copy }

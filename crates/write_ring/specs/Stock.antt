@@ -2,11 +2,12 @@
 use Rattle.std.specs.Prelude.{◌≡◌, ◌≢◌, ℕ, ◌+◌, ◌<◌, ◌≤◌, List, [], ◌∷◌, ◌++◌, true, length, if◌then◌else◌, slice_index}
 use mathlib.Core.Option.{Option, some}
 use lib.ListN.{get_elem?}
+use Rattle.pblk_model.specs.RingState.{between, covers, covers_copy}
 use Rattle.write_ring.specs.declared.view.Row.{Row}
 use Rattle.write_ring.specs.declared.view.Part.{Part}
 use Rattle.write_ring.specs.declared.view.View.{View}
 use Rattle.write_ring.specs.Cells.{Cells, turn_at}
-use Rattle.write_ring.specs.Rule.{between, covers, covers_copy, AllViews}
+use Rattle.write_ring.specs.Rule.{AllViews}
 
 -- how often these rows have the position x
 abbrev pub rows_at : ℕ → List Row → ℕ

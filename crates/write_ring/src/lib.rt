@@ -12,6 +12,7 @@ mod cell;
 mod claims;
 mod closing;
 mod draft;
+mod laws;
 mod opening;
 mod putting;
 mod ring;
@@ -22,5 +23,6 @@ mod taking;
 mod view;
 
 pub use batch::Batch;
+pub use laws::a_ring_is_in_a_ring_state;
 pub use seats::{Full, Intake, Pass, Place, Taken, TryPut};
 pub use table::Ring;

@@ -1,5 +1,6 @@
 //! What the ring is made with, and what each of its seats knows. No value of a view is ever made: it is
 //! there in contracts alone.
+use pblk_model::Claim;
 use sector_pool::{Origin, Source};
 use std::collections::LinkedList;
 
@@ -16,16 +17,6 @@ pub struct Key {
     pub capacity: u64,
     /// Which region the frames are of.
     pub origin: Origin,
-}
-
-/// Positions that one step claimed: `count` of them, from `first` on.
-pub struct Claim {
-    /// The first of them.
-    pub first: u64,
-    /// How many they are.
-    pub count: u64,
-    /// Whether they were claimed for copies.
-    pub copy: bool,
 }
 
 /// An entry that was put at a position.
